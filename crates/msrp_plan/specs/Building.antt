@@ -1,0 +1,139 @@
+-- What a builder is told, what each call adds, and when it is refused. Refusals stand in the order of judging.
+use Rattle.std.specs.Prelude.{ℕ, List, [], ◌∷◌, ◌++◌, Bool, true, false, ◌==◌, ◌&&◌, ◌||◌, not, nat_lt, nat_le, is_none, Option, Some, None, cond, length, map, replicate, slice_get, set, take, ◌+◌, ◌-◌, ◌≡◌, ◌⊎◌, IsOk, Err}
+use Rattle.std.specs.declared.result.Result.{Result}
+use Rattle.std.specs.List.{list_any, range_with_len}
+use Rattle.msrp_plan.specs.Names.{is_name, has_name}
+use Rattle.msrp_plan.specs.Plan.{PlanModel, TaskModel, task_at}
+use Rattle.msrp_plan.specs.Units.{held_after, held_with}
+use Rattle.msrp_plan.specs.Jobs.{jobs}
+use Rattle.msrp_plan.specs.Levels.{is_global}
+use Rattle.msrp_plan.specs.declared.faults.PlanFault.{PlanFault}
+use Rattle.msrp_plan.specs.declared.faults.PlanFault.TheVariants.{Name, Taken, Limit, Undeclared, Core, Nesting, NestedGlobal, NoUnit, Jobs, Memory}
+use Rattle.msrp_plan.specs.declared.units.Op.{Op}
+use Rattle.msrp_plan.specs.declared.units.Op.TheVariants.{Run as RunUnit, Lock as LockUnit, Unlock as UnlockUnit}
+use Rattle.msrp_plan.specs.declared.units.Step.{Step}
+use Rattle.msrp_plan.specs.declared.units.Step.TheVariants.{Run, Lock, Unlock}
+
+-- a plan with no resource and no task yet
+abbrev pub empty_plan : ℕ → ℕ → PlanModel
+empty_plan cores ticks = record { cores = cores; ticks = ticks; resources = []; tasks = [] }
+
+abbrev pub with_resource : PlanModel → List ℕ → PlanModel
+with_resource plan name = record plan { resources = plan.resources ++ name ∷ [] }
+
+abbrev pub with_task : PlanModel → TaskModel → PlanModel
+with_task plan task = record plan { tasks = plan.tasks ++ task ∷ [] }
+
+-- the units that a step stands for
+abbrev pub units_of : Step → List Op
+units_of (Run n) = replicate n RunUnit
+units_of (Lock g) = LockUnit g ∷ []
+units_of (Unlock g) = UnlockUnit g ∷ []
+
+-- the units of the newest task, and the plan with more of them
+abbrev pub newest_units : PlanModel → List Op
+newest_units plan = (task_at plan (length plan.tasks - 1)).units
+
+abbrev pub with_more_units : TaskModel → List Op → TaskModel
+with_more_units task us = record task { units = task.units ++ us }
+
+abbrev pub with_units : PlanModel → List Op → PlanModel
+with_units plan us = record plan { tasks = set plan.tasks (length plan.tasks - 1) (with_more_units (task_at plan (length plan.tasks - 1)) us) }
+
+abbrev pub fault_if : Bool → PlanFault → Option PlanFault → Option PlanFault
+fault_if test fault rest = cond test (Some fault) rest
+
+abbrev pub first_fault : Option PlanFault → Option PlanFault → Option PlanFault
+first_fault None rest = rest
+first_fault (Some fault) rest = Some fault
+
+abbrev pub is_within : ℕ → ℕ → ℕ → Bool
+is_within low high n = nat_le low n && nat_le n high
+
+abbrev pub new_fault : ℕ → ℕ → Option PlanFault
+new_fault cores ticks = fault_if (not (is_within 1 8 cores && is_within 1 20000 ticks)) Limit None
+
+abbrev pub resource_fault : PlanModel → List ℕ → Option PlanFault
+resource_fault plan name =
+    fault_if (not (is_name name)) Name (
+    fault_if (has_name plan.resources name) Taken (
+    fault_if (nat_le 32 (length plan.resources)) Limit None))
+
+abbrev pub is_none_held : Option (List ℕ) → Bool
+is_none_held None = false
+is_none_held (Some []) = true
+is_none_held (Some (g ∷ held)) = false
+
+-- a task may end where it has a unit and holds nothing
+abbrev pub units_end_fault : List Op → Option PlanFault
+units_end_fault us = fault_if (length us == 0) NoUnit (fault_if (not (is_none_held (held_after us))) Nesting None)
+
+-- the end of the newest task, if there is one
+abbrev pub end_fault : PlanModel → Option PlanFault
+end_fault plan = cond (length plan.tasks == 0) None (units_end_fault (newest_units plan))
+
+abbrev pub is_in_range : TaskModel → Bool
+is_in_range task = is_within 1 1000000 task.period && (is_within 1 1000000 task.deadline && nat_le task.offset 1000000)
+
+abbrev pub task_fault : PlanModel → TaskModel → Option PlanFault
+task_fault plan task =
+    first_fault (end_fault plan) (
+    fault_if (not (is_name task.name)) Name (
+    fault_if (has_name (map (λ u. u.name) plan.tasks) task.name) Taken (
+    fault_if (nat_le plan.cores task.core) Core (
+    fault_if (not (is_in_range task) || nat_le 64 (length plan.tasks)) Limit None))))
+
+-- the step names a resource that the plan lacks
+abbrev pub is_undeclared : PlanModel → Step → Bool
+is_undeclared plan (Run n) = false
+is_undeclared plan (Lock g) = nat_le (length plan.resources) g.0
+is_undeclared plan (Unlock g) = nat_le (length plan.resources) g.0
+
+-- the unit locks what is held, or unlocks what isn't the innermost held
+abbrev pub is_improper : Option (List ℕ) → Op → Bool
+is_improper None u = true
+is_improper (Some held) u = is_none (held_with held u)
+
+abbrev pub is_misnested : List Op → Step → Bool
+is_misnested us (Run n) = false
+is_misnested us (Lock g) = is_improper (held_after us) (LockUnit g)
+is_misnested us (Unlock g) = is_improper (held_after us) (UnlockUnit g)
+
+abbrev pub held_count : Option (List ℕ) → ℕ
+held_count None = 0
+held_count (Some held) = length held
+
+-- a run of no unit, more than 4,096 units, or a ninth resource held
+abbrev pub is_too_much : List Op → Step → Bool
+is_too_much us (Run n) = (n == 0) || nat_lt 4096 (length us + n)
+is_too_much us (Lock g) = nat_le 4096 (length us) || nat_le 8 (held_count (held_after us))
+is_too_much us (Unlock g) = nat_le 4096 (length us)
+
+abbrev pub op_fault : PlanModel → Step → Option PlanFault
+op_fault plan step =
+    fault_if (is_undeclared plan step) Undeclared (
+    fault_if (is_misnested (newest_units plan) step) Nesting (
+    fault_if (is_too_much (newest_units plan) step) Limit None))
+
+abbrev pub is_global_lock : PlanModel → Option Op → Bool
+is_global_lock plan (Some (LockUnit g)) = is_global plan g.0
+is_global_lock plan _ = false
+
+abbrev pub holds_global : PlanModel → Option (List ℕ) → Bool
+holds_global plan None = false
+holds_global plan (Some held) = list_any (is_global plan) held
+
+-- one of the units locks a global resource while a global one is held
+abbrev pub nests_global : PlanModel → List Op → Bool
+nests_global plan us = list_any (λ n. is_global_lock plan (slice_get us n) && holds_global plan (held_after (take n us))) (range_with_len 0 (length us))
+
+abbrev pub finish_fault : PlanModel → Option PlanFault
+finish_fault plan =
+    first_fault (end_fault plan) (
+    fault_if (list_any (λ task. nests_global plan task.units) plan.tasks) NestedGlobal (
+    fault_if (nat_lt 8192 (length (jobs plan))) Jobs None))
+
+-- a call is refused with its fault if it has one, and else only for want of memory
+abbrev pub IsJudged : {A : Type 0} → Option PlanFault → Result A PlanFault → Type 0
+IsJudged (Some fault) r = r ≡ Err fault
+IsJudged None r = IsOk r ⊎ (r ≡ Err Memory)

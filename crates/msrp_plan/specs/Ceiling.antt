@@ -1,0 +1,26 @@
+-- The current ceiling of a core (Baker 1991, section 4; Gai, Lipari and Di Natale 2001, section 4).
+use Rattle.std.specs.Prelude.{ℕ, List, Bool, ◌&&◌, ◌||◌, not, cond, filter, map, length, max}
+use Rattle.std.specs.List.{list_any, range_with_len}
+use Rattle.msrp_plan.specs.Plan.{PlanModel}
+use Rattle.msrp_plan.specs.Jobs.{jobs_on, holds, is_queued}
+use Rattle.msrp_plan.specs.Levels.{greatest, is_global, local_ceiling, top}
+use Rattle.msrp_plan.specs.declared.rows.Row.{Row}
+
+-- the numbers of the plan's resources
+abbrev pub resources : PlanModel → List ℕ
+resources plan = range_with_len 0 (length plan.resources)
+
+-- a job of the core holds the resource
+abbrev pub is_held_on : PlanModel → ℕ → List Row → ℕ → Bool
+is_held_on plan c pre g = list_any (holds plan pre g) (jobs_on plan c)
+
+-- a job of the core is queued for a global resource, or holds one
+abbrev pub is_raised : PlanModel → ℕ → List Row → Bool
+is_raised plan c pre = list_any (is_queued pre) (jobs_on plan c) || list_any (λ g. is_global plan g && is_held_on plan c pre g) (resources plan)
+
+-- the greatest of the ceilings of the local resources that jobs of the core hold, and of its highest level
+-- while it is raised; 0 where there is none
+abbrev pub ceiling : PlanModel → ℕ → List Row → ℕ
+ceiling plan c pre =
+    max (greatest (map (local_ceiling plan) (filter (λ g. not (is_global plan g) && is_held_on plan c pre g) (resources plan))))
+    (cond (is_raised plan c pre) (top plan c) 0)

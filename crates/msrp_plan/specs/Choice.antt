@@ -1,0 +1,43 @@
+-- Which job has the turn: earliest deadline first under the Stack Resource Policy (Baker 1991, section 4:
+-- a job starts only where its preemption level is above the current ceiling; once started it never blocks).
+use Rattle.std.specs.Prelude.{ℕ, List, [], ◌∷◌, Bool, ◌&&◌, not, nat_lt, Option, Some, None, cond, filter}
+use Rattle.std.specs.List.{best_of}
+use Rattle.std.specs.Ordering.{is_lt, ordering_then, nat_cmp}
+use Rattle.std.specs.declared.cmp.Ordering.{Ordering}
+use Rattle.msrp_plan.specs.Plan.{PlanModel, key}
+use Rattle.msrp_plan.specs.Jobs.{jobs_on, is_released, is_started, is_finished}
+use Rattle.msrp_plan.specs.Levels.{level}
+use Rattle.msrp_plan.specs.Ceiling.{ceiling}
+use Rattle.msrp_plan.specs.declared.ids.JobId.{JobId}
+use Rattle.msrp_plan.specs.declared.ids.JobKey.{JobKey}
+use Rattle.msrp_plan.specs.declared.rows.Row.{Row}
+
+-- keys compare part by part: absolute deadline, release, task number, job number
+abbrev pub key_cmp : JobKey → JobKey → Ordering
+key_cmp a b = ordering_then (nat_cmp a.deadline b.deadline) (ordering_then (nat_cmp a.release b.release) (ordering_then (nat_cmp a.task b.task) (nat_cmp a.k b.k)))
+
+abbrev pub is_before : PlanModel → JobId → JobId → Bool
+is_before plan i j = is_lt (key_cmp (key plan i) (key plan j))
+
+-- the least of a list, none where it is empty
+abbrev pub least : {X : Type 0} → (X → X → Bool) → List X → Option X
+least lt [] = None
+least lt (x ∷ xs) = Some (best_of lt x xs)
+
+-- the least job of the core that is released and not started
+abbrev pub head : PlanModel → ℕ → ℕ → List Row → Option JobId
+head plan c t pre = least (is_before plan) (filter (λ j. is_released plan t j && not (is_started pre j)) (jobs_on plan c))
+
+-- the least job of the core that is started and unfinished
+abbrev pub running : PlanModel → ℕ → List Row → Option JobId
+running plan c pre = least (is_before plan) (filter (λ j. is_started pre j && not (is_finished plan pre j)) (jobs_on plan c))
+
+-- the head where its level is above the ceiling and it comes before who runs; else who runs
+abbrev pub chosen : PlanModel → ℕ → Option JobId → Option JobId → Option JobId
+chosen plan above None s = s
+chosen plan above (Some h) None = cond (nat_lt above (level plan h.task.0)) (Some h) None
+chosen plan above (Some h) (Some s) = cond (nat_lt above (level plan h.task.0) && is_before plan h s) (Some h) (Some s)
+
+-- the job of the core that has the turn in tick t after these rows, or none
+abbrev pub choice : PlanModel → ℕ → ℕ → List Row → Option JobId
+choice plan c t pre = chosen plan (ceiling plan c pre) (head plan c t pre) (running plan c pre)

@@ -1,0 +1,15 @@
+pub mod Shape
+pub mod Plan
+pub mod Units
+pub mod Jobs
+pub mod Levels
+pub mod Ceiling
+pub mod Choice
+pub mod Actions
+pub mod Queues
+pub mod Runs
+pub mod Verdict
+pub mod FifoLock
+pub mod Names
+pub mod WellFormed
+pub mod Building

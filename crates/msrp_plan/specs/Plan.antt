@@ -1,0 +1,46 @@
+-- A plan: periodic tasks, partitioned over cores, with the resources that they lock.
+use Rattle.std.specs.Prelude.{ℕ, List, [], slice_index_or, ◌+◌, ◌*◌}
+use Rattle.msrp_plan.specs.declared.ids.JobId.{JobId}
+use Rattle.msrp_plan.specs.declared.ids.JobKey.{JobKey}
+use Rattle.msrp_plan.specs.declared.units.Op.{Op}
+
+-- a periodic task: it stays on its core, and each of its jobs does these units in order
+pub record TaskModel : Type 0 where
+  pub name : List ℕ
+  pub core : ℕ
+  pub period : ℕ
+  pub deadline : ℕ
+  pub offset : ℕ
+  pub units : List Op
+
+-- cores, ticks, the tasks and the names of the resources, each by number
+pub record PlanModel : Type 0 where
+  pub cores : ℕ
+  pub ticks : ℕ
+  pub resources : List (List ℕ)
+  pub tasks : List TaskModel
+
+-- what stands for a task that the plan lacks: it has no unit
+abbrev pub no_task : TaskModel
+no_task = record { name = []; core = 0; period = 1; deadline = 1; offset = 0; units = [] }
+
+abbrev pub task_at : PlanModel → ℕ → TaskModel
+task_at plan t = slice_index_or plan.tasks t no_task
+
+-- the task of a job, its core and its units
+abbrev pub task_of : PlanModel → JobId → TaskModel
+task_of plan j = task_at plan j.task.0
+
+abbrev pub core_of : PlanModel → JobId → ℕ
+core_of plan j = (task_of plan j).core
+
+abbrev pub units : PlanModel → JobId → List Op
+units plan j = (task_of plan j).units
+
+-- job k of a task is released at offset + k * period (Liu and Layland 1973, section 2)
+abbrev pub release : PlanModel → JobId → ℕ
+release plan j = (task_of plan j).offset + j.k * (task_of plan j).period
+
+-- the key that jobs are ordered by begins with the absolute deadline, release + relative deadline
+abbrev pub key : PlanModel → JobId → JobKey
+key plan j = record { deadline = release plan j + (task_of plan j).deadline; release = release plan j; task = j.task.0; k = j.k }

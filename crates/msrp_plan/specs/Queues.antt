@@ -1,0 +1,54 @@
+-- The queue of a global resource, and what it answers (Gai, Lipari and Di Natale 2001, section 4: global
+-- resources are granted in the order of their requests).
+use Rattle.std.specs.Prelude.{ℕ, List, [], ◌∷◌, Bool, true, false, ◌==◌, ◌&&◌, not, Option, Some, None, cond, filter_map, count_by, drop}
+use Rattle.std.specs.List.{list_any}
+use Rattle.msrp_plan.specs.Jobs.{is_job}
+use Rattle.msrp_plan.specs.declared.ids.JobId.{JobId}
+use Rattle.msrp_plan.specs.declared.ids.ResId.{ResId}
+use Rattle.msrp_plan.specs.declared.rows.Kind.{Kind}
+use Rattle.msrp_plan.specs.declared.rows.Kind.TheVariants.{Take, Queue, Spin, Grant, Release}
+use Rattle.msrp_plan.specs.declared.rows.Row.{Row}
+
+abbrev pub is_on : ℕ → Option ResId → Bool
+is_on g None = false
+is_on g (Some r) = r.0 == g
+
+abbrev pub is_request : Kind → Bool
+is_request Take = true
+is_request Queue = true
+is_request _ = false
+
+abbrev pub is_release : Kind → Bool
+is_release Release = true
+is_release _ = false
+
+-- the job of a row that requests the resource
+abbrev pub requester : ℕ → Row → Option JobId
+requester g r = cond (is_on g r.res && is_request r.kind) r.job None
+
+abbrev pub is_release_of : ℕ → Row → Bool
+is_release_of g r = is_on g r.res && is_release r.kind
+
+-- the jobs that requested the resource, in order, without as many at the front as released it
+abbrev pub fifo : ℕ → List Row → List JobId
+fifo g pre = drop (count_by (is_release_of g) pre) (filter_map (requester g) pre)
+
+abbrev pub is_free : List JobId → Bool
+is_free [] = true
+is_free (i ∷ is) = false
+
+abbrev pub is_first : List JobId → Option JobId → Bool
+is_first [] j = false
+is_first (i ∷ is) j = is_job j i
+
+-- it stands in the queue, and not first
+abbrev pub is_behind : List JobId → Option JobId → Bool
+is_behind queue j = list_any (is_job j) queue && not (is_first queue j)
+
+-- take where the queue is empty, queue where it isn't, grant to the first, spin to one further back
+abbrev pub replies : List JobId → Option JobId → Kind → Bool
+replies queue j Take = is_free queue
+replies queue j Queue = not (is_free queue)
+replies queue j Grant = is_first queue j
+replies queue j Spin = is_behind queue j
+replies queue j _ = true

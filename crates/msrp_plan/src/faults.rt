@@ -1,0 +1,73 @@
+//! Refusals and faults.
+
+/// Why a plan is refused. Each refusal has a code, which the program prints.
+#[derive(Clone, Copy, Debug, PartialEq, Eq)]
+pub enum PlanFault {
+    /// P1: the first record is not the version, or there is none.
+    Version,
+    /// P2: a record is unknown or out of place, or the end comes too early.
+    OutOfPlace,
+    /// P3: a record has too few or too many fields.
+    FieldCount,
+    /// P4: a field that has to be a number is none.
+    Number,
+    /// P5: a name that is declared is no name.
+    Name,
+    /// P6: a task, or a resource, of that name stands already.
+    Taken,
+    /// P7: a number is out of its range, or there is one resource, task, unit or held resource too many.
+    Limit,
+    /// P8: a resource that was not declared.
+    Undeclared,
+    /// P9: a core's number that is not below the number of cores.
+    Core,
+    /// P10: a lock of a resource that the task holds, an unlock of one that is not the innermost it holds,
+    /// or a resource that is still held at the task's end.
+    Nesting,
+    /// P11: a global resource is locked while a global one is held.
+    NestedGlobal,
+    /// P12: a task ends without a unit.
+    NoUnit,
+    /// P13: more jobs than the limit.
+    Jobs,
+    /// P14: a release list. Plans of version 1 have none.
+    Releases,
+    /// P15: a read failed.
+    Read,
+    /// P16: memory was refused.
+    Memory,
+}
+
+/// Memory was refused.
+#[derive(Clone, Copy, Debug, PartialEq, Eq)]
+pub struct Memory;
+
+/// A write failed.
+#[derive(Clone, Copy, Debug, PartialEq, Eq)]
+pub struct WriteFault;
+
+/// The rules of a legal run, in the order in which a row is judged.
+#[derive(Clone, Copy, Debug, PartialEq, Eq)]
+pub enum Rule {
+    /// The tick is not the one that is due, or the core had its turn or does not exist.
+    A1,
+    /// The row's job is no job of the core.
+    A2,
+    /// The row's job is not the one to run.
+    A3,
+    /// The action is not the next one of the row's job.
+    A4,
+    /// The reply is not that of a first-in-first-out lock.
+    A5,
+    /// The trace ends before each core had each of its turns.
+    A6,
+    /// The trace goes on after each core had each of its turns.
+    A7,
+}
+
+/// The first row that breaks a rule, counted from 1, with the lowest rule that it breaks.
+#[derive(Clone, Copy, Debug, PartialEq, Eq)]
+pub struct Fault {
+    pub row: u32,
+    pub rule: Rule,
+}
