@@ -2,6 +2,7 @@ pub mod Shape
 pub mod Plan
 pub mod Units
 pub mod Jobs
+pub mod States
 pub mod Levels
 pub mod Ceiling
 pub mod Choice
