@@ -13,3 +13,4 @@ pub mod FifoLock
 pub mod Names
 pub mod WellFormed
 pub mod Building
+pub mod Codes
