@@ -14,3 +14,4 @@ pub mod FifoLock
 pub mod Names
 pub mod WellFormed
 pub mod Building
+pub mod Codes
