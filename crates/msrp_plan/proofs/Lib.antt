@@ -2,3 +2,8 @@ pub mod Lists
 pub mod JobTests
 pub mod Prefixes
 pub mod States
+pub mod Filters
+pub mod Ranges
+pub mod Least
+pub mod Locality
+pub mod RoundRobin

@@ -1,0 +1,46 @@
+-- Filters, tests and counts of a list, where one test implies or equals another.
+use Rattle.std.proofs.Common.{◌≡◌, Bool, true, false, cond, ◌||◌, List, [], ◌∷◌, refl, ap, sym, ◌∙◌, length}
+use Rattle.std.specs.List.{filter, list_any, count_by, AllByRecursion}
+use Rattle.std.proofs.lemmas.List.Sums.{length-filter}
+
+-- what is never true is false
+is_false : (b : Bool) → (b ≡ true → false ≡ true) → b ≡ false
+is_false true h = sym (h refl)
+is_false false h = refl
+
+filter_within_cases : {X : Type 0} (p : X → Bool) (x : X) (b : Bool) (ys zs : List X) → (p x ≡ true → b ≡ true) → filter p ys ≡ zs → filter p (cond b (x ∷ ys) ys) ≡ cond (p x) (x ∷ zs) zs
+filter_within_cases p x true ys zs h e = ap (λ w. cond (p x) (x ∷ w) w) e
+filter_within_cases p x false ys zs h e = e ∙ ap (λ b. cond b (x ∷ zs) zs) (sym (is_false (p x) h))
+
+-- where p implies q, to filter by q first makes no difference to a filter by p
+pub filter_within : {X : Type 0} (p q : X → Bool) (xs : List X) → AllByRecursion (λ x. p x ≡ true → q x ≡ true) xs → filter p (filter q xs) ≡ filter p xs
+filter_within p q [] all = refl
+filter_within p q (x ∷ xs) all = filter_within_cases p x (q x) (filter q xs) (filter p xs) all.0 (filter_within p q xs all.1)
+
+any_within_cases : {X : Type 0} (p : X → Bool) (x : X) (b : Bool) (ys : List X) (c : Bool) → (p x ≡ true → b ≡ true) → list_any p ys ≡ c → list_any p (cond b (x ∷ ys) ys) ≡ p x || c
+any_within_cases p x true ys c h e = ap (λ w. p x || w) e
+any_within_cases p x false ys c h e = e ∙ ap (λ b. b || c) (sym (is_false (p x) h))
+
+-- nor to whether some element passes p
+pub any_within : {X : Type 0} (p q : X → Bool) (xs : List X) → AllByRecursion (λ x. p x ≡ true → q x ≡ true) xs → list_any p (filter q xs) ≡ list_any p xs
+any_within p q [] all = refl
+any_within p q (x ∷ xs) all = any_within_cases p x (q x) (filter q xs) (list_any p xs) all.0 (any_within p q xs all.1)
+
+-- nor to how many pass p
+pub count_within : {X : Type 0} (p q : X → Bool) (xs : List X) → AllByRecursion (λ x. p x ≡ true → q x ≡ true) xs → count_by p (filter q xs) ≡ count_by p xs
+count_within p q xs all = sym (length-filter p (filter q xs)) ∙ (ap length (filter_within p q xs all) ∙ length-filter p xs)
+
+-- tests that agree on a list filter it alike
+pub filter_same : {X : Type 0} (p q : X → Bool) (xs : List X) → AllByRecursion (λ x. p x ≡ q x) xs → filter p xs ≡ filter q xs
+filter_same p q [] all = refl
+filter_same p q (x ∷ xs) all = ap (λ b. cond b (x ∷ filter p xs) (filter p xs)) all.0 ∙ ap (λ ys. cond (q x) (x ∷ ys) ys) (filter_same p q xs all.1)
+
+-- and some element passes both or neither
+pub any_same : {X : Type 0} (p q : X → Bool) (xs : List X) → AllByRecursion (λ x. p x ≡ q x) xs → list_any p xs ≡ list_any q xs
+any_same p q [] all = refl
+any_same p q (x ∷ xs) all = ap (λ b. b || list_any p xs) all.0 ∙ ap (λ b. q x || b) (any_same p q xs all.1)
+
+-- a fact of everything
+pub all_of : {X : Type 0} (P : X → Type 0) → ((x : X) → P x) → (xs : List X) → AllByRecursion P xs
+all_of P f [] = tt
+all_of P f (x ∷ xs) = (f x, all_of P f xs)

@@ -1,0 +1,29 @@
+-- The rows of one core among those of all, and the orders in which the cores have their turns.
+use Rattle.std.specs.Prelude.{ℕ, List, Bool, ◌==◌, ◌≡◌, true, filter, map, length, ◌<◌, ◌/◌}
+use Rattle.std.specs.List.{flat_map, range_with_len}
+use Rattle.msrp_plan.specs.Plan.{PlanModel}
+use Rattle.msrp_plan.specs.Runs.{IsCoreTurn, is_fifo_reply}
+use Rattle.msrp_plan.specs.declared.rows.Row.{Row}
+
+-- the row is one of this core
+abbrev pub is_of : ℕ → Row → Bool
+is_of c r = r.core.0 == c
+
+-- the log of a core: its rows, in order
+abbrev pub log_of : ℕ → List Row → List Row
+log_of c rows = filter (is_of c) rows
+
+-- the cores in the order of their turns
+abbrev pub core_order : List Row → List ℕ
+core_order rows = map (λ r. r.core.0) rows
+
+-- the cores in rising order, once in each of so many ticks
+abbrev pub ascending : ℕ → ℕ → List ℕ
+ascending cores ticks = flat_map (λ t. range_with_len 0 cores) (range_with_len 0 ticks)
+
+-- the row is the next one of a core that is due: it has had one turn in each full tick
+pub record IsDueTurn (plan : PlanModel) (pre : List Row) (r : Row) : Type 0 where
+  pub core : r.core.0 < plan.cores
+  pub due : length (log_of r.core.0 pre) ≡ length pre / plan.cores
+  pub turn : IsCoreTurn plan r.core.0 (log_of r.core.0 pre) r
+  pub reply : is_fifo_reply pre r ≡ true
