@@ -9,6 +9,7 @@ pub mod Choice
 pub mod Actions
 pub mod Queues
 pub mod Runs
+pub mod Laws
 pub mod Verdict
 pub mod FifoLock
 pub mod Names

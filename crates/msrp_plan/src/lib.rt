@@ -3,6 +3,7 @@
 
 pub mod faults;
 pub mod ids;
+pub mod laws;
 pub mod rows;
 pub mod units;
 
