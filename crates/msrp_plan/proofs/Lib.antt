@@ -7,3 +7,7 @@ pub mod Ranges
 pub mod Least
 pub mod Locality
 pub mod RoundRobin
+pub mod CoreJobs
+pub mod LegalRows
+pub mod SameRow
+pub mod Determinacy

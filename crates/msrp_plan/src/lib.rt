@@ -4,6 +4,7 @@
 pub mod faults;
 pub mod ids;
 pub mod plans;
+pub mod laws;
 pub mod rows;
 pub mod units;
 

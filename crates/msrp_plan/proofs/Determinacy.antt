@@ -1,0 +1,124 @@
+-- Determinacy: after the same rows one row of a core is legal, so that the order of the cores fixes a run.
+use Rattle.std.proofs.Common.{◌≡◌, ℕ, ◌/◌, Bool, true, false, cond, not, List, [], ◌∷◌, ◌++◌, map, Option, Some, None, refl, ap, sym, ◌∙◌, subst, length, arith}
+use Rattle.std.specs.List.{list_any}
+use Rattle.std.proofs.lemmas.Bool.{and_parts, not-true}
+use Rattle.msrp_plan.specs.Plan.{PlanModel}
+use Rattle.msrp_plan.specs.Jobs.{is_queued, is_job}
+use Rattle.msrp_plan.specs.Choice.{choice}
+use Rattle.msrp_plan.specs.Shape.{has_shape}
+use Rattle.msrp_plan.specs.Actions.{allows, is_global_unit, res_of_unit}
+use Rattle.msrp_plan.specs.Queues.{replies, is_free, is_first, fifo}
+use Rattle.msrp_plan.specs.Runs.{IsLegal, IsRun, IsRunStart, EachAfter}
+use Rattle.msrp_plan.specs.Laws.{core_order}
+use Rattle.msrp_plan.specs.declared.ids.JobId.{JobId}
+use Rattle.msrp_plan.specs.declared.ids.ResId.{ResId}
+use Rattle.msrp_plan.specs.declared.ids.CoreId.{CoreId}
+use Rattle.msrp_plan.specs.declared.units.Op.{Op}
+use Rattle.msrp_plan.specs.declared.units.Op.TheVariants.{Run as RunUnit, Lock as LockUnit, Unlock as UnlockUnit}
+use Rattle.msrp_plan.specs.declared.rows.Kind.{Kind}
+use Rattle.msrp_plan.specs.declared.rows.Kind.TheVariants.{Idle, Run, Lock, Unlock, Take, Queue, Spin, Grant, Release}
+use Rattle.msrp_plan.specs.declared.rows.Row.{Row}
+use Rattle.msrp_plan.proofs.LegalRows.{IsTurn, DoesUnit, legal_turn, legal_due, legal_reply}
+use Rattle.msrp_plan.proofs.SameRow.{same_row}
+
+-- the one kind that a unit allows under these replies
+abbrev kind_of : Bool → Bool → Bool → Bool → Op → Kind
+kind_of global queued free first RunUnit = Run
+kind_of true true free first (LockUnit h) = cond first Grant Spin
+kind_of true false free first (LockUnit h) = cond free Take Queue
+kind_of false queued free first (LockUnit h) = Lock
+kind_of true queued free first (UnlockUnit h) = Release
+kind_of false queued free first (UnlockUnit h) = Unlock
+
+kind_is : (global queued : Bool) (op : Op) (kind : Kind) (q : List JobId) (j : Option JobId) → allows global queued op kind ≡ true → replies q j kind ≡ true → kind ≡ kind_of global queued (is_free q) (is_first q j) op
+kind_is global queued RunUnit Run q j e a = refl
+kind_is false queued (LockUnit h) Lock q j e a = refl
+kind_is false queued (UnlockUnit h) Unlock q j e a = refl
+kind_is true false (LockUnit h) Take q j e a = sym (ap (λ b. cond b Take Queue) a)
+kind_is true false (LockUnit h) Queue q j e a = sym (ap (λ b. cond b Take Queue) (not-true (is_free q) a))
+kind_is true true (LockUnit h) Grant q j e a = sym (ap (λ b. cond b Grant Spin) a)
+kind_is true true (LockUnit h) Spin q j e a = let k = and_parts (list_any (is_job j) q) (not (is_first q j)) a in sym (ap (λ b. cond b Grant Spin) (not-true (is_first q j) k.1))
+kind_is true queued (UnlockUnit h) Release q j e a = refl
+kind_is _ _ _ _ q j e a = absurd (cc)
+
+run_is : (global queued : Bool) (kind : Kind) → allows global queued RunUnit kind ≡ true → kind ≡ Run
+run_is global queued Run e = refl
+run_is _ _ _ e = absurd (cc)
+
+-- the queue that a unit asks
+abbrev queue_of : List Row → Op → List JobId
+queue_of pre RunUnit = []
+queue_of pre (LockUnit g) = fifo g.0 pre
+queue_of pre (UnlockUnit g) = fifo g.0 pre
+
+abbrev kind_at : PlanModel → List Row → JobId → Op → Option JobId → Kind
+kind_at plan pre x op j = kind_of (is_global_unit plan op) (is_queued pre x) (is_free (queue_of pre op)) (is_first (queue_of pre op) j) op
+
+row_kind : (plan : PlanModel) (pre : List Row) (x : JobId) (op : Op) (r : Row) → IsLegal plan pre r → r.res ≡ res_of_unit op → allows (is_global_unit plan op) (is_queued pre x) op r.kind ≡ true → r.kind ≡ kind_at plan pre x op r.job
+row_kind plan pre x RunUnit r h e a = run_is false (is_queued pre x) r.kind a
+row_kind plan pre x (LockUnit g) r h e a = kind_is (is_global_unit plan (LockUnit g)) (is_queued pre x) (LockUnit g) r.kind (fifo g.0 pre) r.job a (legal_reply plan pre r g h e)
+row_kind plan pre x (UnlockUnit g) r h e a = kind_is (is_global_unit plan (UnlockUnit g)) (is_queued pre x) (UnlockUnit g) r.kind (fifo g.0 pre) r.job a (legal_reply plan pre r g h e)
+
+-- an idle row has no resource
+pub idle_res : (r : Row) → r.kind ≡ Idle → r.res ≡ None
+idle_res r e = none r.job r.res (subst (λ k. has_shape k r.job r.res ≡ true) e r.shape)
+  where
+    none : (o : Option JobId) (res : Option ResId) → has_shape Idle o res ≡ true → res ≡ None
+    none None None h = refl
+    none None (Some g) h = absurd (cc)
+    none (Some j) res h = absurd (cc)
+
+same_unit : (a b : Op) → Some a ≡ Some b → a ≡ b
+same_unit a b h = cc
+
+-- what two legal rows of one job do is the same
+same_actions : (plan : PlanModel) (pre : List Row) (r s : Row) (o : Option JobId) → r.job ≡ o → s.job ≡ o → IsLegal plan pre r → IsLegal plan pre s → (r.kind ≡ s.kind) × (r.res ≡ s.res)
+same_actions plan pre r s None jr js h k =
+    let er = (legal_turn plan pre r h).idle jr in
+    let es = (legal_turn plan pre s k).idle js in
+    (er ∙ sym es, idle_res r er ∙ sym (idle_res s es))
+same_actions plan pre r s (Some x) jr js h k =
+    let a = (legal_turn plan pre r h).does x jr in
+    let b = (legal_turn plan pre s k).does x js in
+    let e : a.op ≡ b.op = same_unit a.op b.op (sym a.unit ∙ b.unit) in
+    let kr = row_kind plan pre x a.op r h a.res a.kind in
+    let ks = row_kind plan pre x b.op s k b.res b.kind in
+    (kr ∙ (ap (kind_at plan pre x a.op) (jr ∙ sym js) ∙ (ap (λ op. kind_at plan pre x op s.job) e ∙ sym ks)), a.res ∙ (ap res_of_unit e ∙ sym b.res))
+
+abbrev core_at : ℕ → CoreId
+core_at n = record { 0 = n }
+
+-- one row of a core is legal after these rows
+pub same_step : (plan : PlanModel) (pre : List Row) (r s : Row) → r.core.0 ≡ s.core.0 → IsLegal plan pre r → IsLegal plan pre s → r ≡ s
+same_step plan pre r s c h k =
+    let tick : r.tick ≡ s.tick = (legal_due plan pre r h).tick ∙ sym (legal_due plan pre s k).tick in
+    let job : r.job ≡ s.job = (legal_turn plan pre r h).job ∙ (ap (λ n. choice plan n r.tick pre) c ∙ (ap (λ t. choice plan s.core.0 t pre) tick ∙ sym (legal_turn plan pre s k).job)) in
+    let rest = same_actions plan pre r s r.job refl (sym job) h k in
+    let core : r.core ≡ s.core = ap core_at c in
+    let kind : r.kind ≡ s.kind = rest.0 in
+    let res : r.res ≡ s.res = rest.1 in
+    same_row r s (cc)
+
+heads : (a b : ℕ) (xs ys : List ℕ) → a ∷ xs ≡ b ∷ ys → (a ≡ b) × (xs ≡ ys)
+heads a b xs ys h = (cc, cc)
+
+no_cons : (a : ℕ) (xs : List ℕ) → [] ≡ a ∷ xs → ⊥
+no_cons a xs h = cc
+
+same_from : (plan : PlanModel) (pre xs ys : List Row) → EachAfter (IsLegal plan) pre xs → EachAfter (IsLegal plan) pre ys → core_order xs ≡ core_order ys → xs ≡ ys
+same_from plan pre [] [] h k e = refl
+same_from plan pre [] (y ∷ ys) h k e = absurd (no_cons y.core.0 (core_order ys) e)
+same_from plan pre (x ∷ xs) [] h k e = absurd (no_cons x.core.0 (core_order xs) (sym e))
+same_from plan pre (x ∷ xs) (y ∷ ys) h k e =
+    let both = heads x.core.0 y.core.0 (core_order xs) (core_order ys) e in
+    let s : x ≡ y = same_step plan pre x y both.0 h.0 k.0 in
+    let rest = same_from plan (pre ++ x ∷ []) xs ys h.1 (subst (λ z. EachAfter (IsLegal plan) (pre ++ z ∷ []) ys) (sym s) k.1) both.1 in
+    ap (λ z. z ∷ xs) s ∙ ap (λ zs. y ∷ zs) rest
+
+-- starts of legal runs with the same cores in the same order are equal
+pub same_starts : (plan : PlanModel) (xs ys : List Row) → IsRunStart plan xs → IsRunStart plan ys → core_order xs ≡ core_order ys → xs ≡ ys
+same_starts plan xs ys h k e = same_from plan [] xs ys h.each k.each e
+
+-- and so are legal runs
+pub same_runs : (plan : PlanModel) (xs ys : List Row) → IsRun plan xs → IsRun plan ys → core_order xs ≡ core_order ys → xs ≡ ys
+same_runs plan xs ys h k e = same_from plan [] xs ys h.each k.each e

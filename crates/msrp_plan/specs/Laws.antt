@@ -1,0 +1,68 @@
+-- What every start of a legal run keeps, over whatever plan and whatever order of the cores.
+use Rattle.std.specs.Prelude.{ℕ, List, [], ◌∷◌, ◌++◌, Bool, true, false, ◌&&◌, Some, map, count_by, ◌≡◌, ◌≢◌, ◌≤◌, ◌-◌}
+use Rattle.std.specs.List.{list_any}
+use Rattle.msrp_plan.specs.Plan.{PlanModel}
+use Rattle.msrp_plan.specs.Jobs.{is_row_of, holds}
+use Rattle.msrp_plan.specs.Levels.{is_global}
+use Rattle.msrp_plan.specs.Queues.{is_on}
+use Rattle.msrp_plan.specs.Runs.{EachAfter}
+use Rattle.msrp_plan.specs.declared.ids.JobId.{JobId}
+use Rattle.msrp_plan.specs.declared.ids.ResId.{ResId}
+use Rattle.msrp_plan.specs.declared.rows.Kind.{Kind}
+use Rattle.msrp_plan.specs.declared.rows.Kind.TheVariants.{Lock, Take, Queue, Grant}
+use Rattle.msrp_plan.specs.declared.rows.Row.{Row}
+
+-- ---- no local blocking
+-- the row, if it locks a local resource, locks one that no other job holds, of whatever core
+abbrev pub LocksFree : PlanModel → List Row → Row → Type 0
+LocksFree plan pre r = (g : ResId) (j : JobId) → r.kind ≡ Lock → r.res ≡ Some g → r.job ≢ Some j → holds plan pre g.0 j ≡ false
+
+-- no job that has its turn ever waits for a local resource (Baker 1991, section 4: a job that has started
+-- is not blocked)
+abbrev pub NoLocalBlocking : PlanModel → List Row → Type 0
+NoLocalBlocking plan rows = EachAfter (LocksFree plan) [] rows
+
+-- ---- mutual exclusion
+-- after these rows at most one job holds the resource
+abbrev pub IsHeldByOne : PlanModel → List Row → ℕ → Type 0
+IsHeldByOne plan pre g = (i j : JobId) → holds plan pre g i ≡ true → holds plan pre g j ≡ true → i ≡ j
+
+-- at each place of the run at most one job holds each global resource
+abbrev pub MutualExclusion : PlanModel → List Row → Type 0
+MutualExclusion plan rows = (pre post : List Row) (g : ℕ) → rows ≡ pre ++ post → is_global plan g ≡ true → IsHeldByOne plan pre g
+
+-- ---- bounded overtaking
+abbrev pub is_admitting : Kind → Bool
+is_admitting Take = true
+is_admitting Grant = true
+is_admitting _ = false
+
+-- a row in which a job comes to hold the resource, at once or after a wait
+abbrev pub is_admission : ℕ → Row → Bool
+is_admission g r = is_on g r.res && is_admitting r.kind
+
+abbrev pub is_grant : Kind → Bool
+is_grant Grant = true
+is_grant _ = false
+
+-- the row in which the job is granted the resource after a wait
+abbrev pub is_grant_of : JobId → ℕ → Row → Bool
+is_grant_of j g r = is_row_of j r && (is_on g r.res && is_grant r.kind)
+
+-- a wait: in row r job j joins the queue of the resource, and in none of the rows since is it granted it
+pub record IsWait (r : Row) (since : List Row) (j : JobId) (g : ℕ) : Type 0 where
+  pub job : r.job ≡ Some j
+  pub resource : is_on g r.res ≡ true
+  pub joins : r.kind ≡ Queue
+  pub waits : list_any (is_grant_of j g) since ≡ false
+
+-- while a job waits for a global resource, others come to hold it at most m - 1 times, on m cores (Gai,
+-- Lipari and Di Natale 2001, section 4: requests are granted in their order, and of each core one at most stands)
+abbrev pub BoundedOvertaking : PlanModel → List Row → Type 0
+BoundedOvertaking plan rows =
+    (pre : List Row) (r : Row) (since post : List Row) (j : JobId) (g : ℕ) → rows ≡ pre ++ r ∷ (since ++ post) → IsWait r since j g → count_by (is_admission g) since ≤ plan.cores - 1
+
+-- ---- determinacy
+-- the cores in the order of their turns
+abbrev pub core_order : List Row → List ℕ
+core_order rows = map (λ r. r.core.0) rows

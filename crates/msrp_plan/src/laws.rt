@@ -1,0 +1,14 @@
+//! What the definition of a legal run promises: laws over every plan and every start of a legal run,
+//! whatever the order of the cores. Each function does nothing; its contract is the law.
+ghost use Rattle.std.specs.Prelude.{◌≡◌, List};
+ghost use Rattle.msrp_plan.specs.Plan.{PlanModel};
+ghost use Rattle.msrp_plan.specs.Runs.{IsRunStart, IsRun};
+ghost use Rattle.msrp_plan.specs.Laws.{core_order};
+ghost use Rattle.msrp_plan.specs.declared.rows.Row.{Row};
+
+/// Determinacy: the order in which the cores take their turns fixes the run. Two runs of one plan, or two
+/// starts of runs, with the same cores in the same order are equal.
+pub fn determinacy()
+    ensures starts { (plan : PlanModel) (a b : List Row) → IsRunStart plan a → IsRunStart plan b → core_order a ≡ core_order b → a ≡ b }
+    ensures runs { (plan : PlanModel) (a b : List Row) → IsRun plan a → IsRun plan b → core_order a ≡ core_order b → a ≡ b }
+{}
