@@ -11,3 +11,4 @@ pub mod CoreJobs
 pub mod LegalRows
 pub mod SameRow
 pub mod Determinacy
+pub mod Writes

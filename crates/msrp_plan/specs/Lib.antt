@@ -18,3 +18,4 @@ pub mod WellFormed
 pub mod Building
 pub mod Codes
 pub mod Views
+pub mod Bytes
