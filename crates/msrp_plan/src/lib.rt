@@ -4,8 +4,8 @@
 pub mod bytes;
 pub mod faults;
 pub mod ids;
-pub mod plans;
 pub mod laws;
+pub mod plans;
 pub mod rows;
 pub mod units;
 
