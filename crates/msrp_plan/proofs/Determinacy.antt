@@ -1,24 +1,22 @@
 -- Determinacy: after the same rows one row of a core is legal, so that the order of the cores fixes a run.
-use Rattle.std.proofs.Common.{◌≡◌, ℕ, ◌/◌, Bool, true, false, cond, not, List, [], ◌∷◌, ◌++◌, map, Option, Some, None, refl, ap, sym, ◌∙◌, subst, length, arith}
+use Rattle.std.proofs.Common.{◌≡◌, ℕ, Bool, true, false, cond, not, List, [], ◌∷◌, ◌++◌, map, Option, Some, None, refl, ap, sym, ◌∙◌, subst}
 use Rattle.std.specs.List.{list_any}
 use Rattle.std.proofs.lemmas.Bool.{and_parts, not-true}
 use Rattle.msrp_plan.specs.Plan.{PlanModel}
 use Rattle.msrp_plan.specs.Jobs.{is_queued, is_job}
 use Rattle.msrp_plan.specs.Choice.{choice}
-use Rattle.msrp_plan.specs.Shape.{has_shape}
 use Rattle.msrp_plan.specs.Actions.{allows, is_global_unit, res_of_unit}
 use Rattle.msrp_plan.specs.Queues.{replies, is_free, is_first, fifo}
 use Rattle.msrp_plan.specs.Runs.{IsLegal, IsRun, IsRunStart, EachAfter}
-use Rattle.msrp_plan.specs.Laws.{core_order}
+use Rattle.msrp_plan.specs.Logs.{core_order}
 use Rattle.msrp_plan.specs.declared.ids.JobId.{JobId}
-use Rattle.msrp_plan.specs.declared.ids.ResId.{ResId}
 use Rattle.msrp_plan.specs.declared.ids.CoreId.{CoreId}
 use Rattle.msrp_plan.specs.declared.units.Op.{Op}
 use Rattle.msrp_plan.specs.declared.units.Op.TheVariants.{Run as RunUnit, Lock as LockUnit, Unlock as UnlockUnit}
 use Rattle.msrp_plan.specs.declared.rows.Kind.{Kind}
-use Rattle.msrp_plan.specs.declared.rows.Kind.TheVariants.{Idle, Run, Lock, Unlock, Take, Queue, Spin, Grant, Release}
+use Rattle.msrp_plan.specs.declared.rows.Kind.TheVariants.{Run, Lock, Unlock, Take, Queue, Spin, Grant, Release}
 use Rattle.msrp_plan.specs.declared.rows.Row.{Row}
-use Rattle.msrp_plan.proofs.LegalRows.{IsTurn, DoesUnit, legal_turn, legal_due, legal_reply}
+use Rattle.msrp_plan.proofs.LegalRows.{legal_turn, legal_due, legal_reply, idle_res}
 use Rattle.msrp_plan.proofs.SameRow.{same_row}
 
 -- the one kind that a unit allows under these replies
@@ -58,15 +56,6 @@ row_kind : (plan : PlanModel) (pre : List Row) (x : JobId) (op : Op) (r : Row) �
 row_kind plan pre x RunUnit r h e a = run_is false (is_queued pre x) r.kind a
 row_kind plan pre x (LockUnit g) r h e a = kind_is (is_global_unit plan (LockUnit g)) (is_queued pre x) (LockUnit g) r.kind (fifo g.0 pre) r.job a (legal_reply plan pre r g h e)
 row_kind plan pre x (UnlockUnit g) r h e a = kind_is (is_global_unit plan (UnlockUnit g)) (is_queued pre x) (UnlockUnit g) r.kind (fifo g.0 pre) r.job a (legal_reply plan pre r g h e)
-
--- an idle row has no resource
-pub idle_res : (r : Row) → r.kind ≡ Idle → r.res ≡ None
-idle_res r e = none r.job r.res (subst (λ k. has_shape k r.job r.res ≡ true) e r.shape)
-  where
-    none : (o : Option JobId) (res : Option ResId) → has_shape Idle o res ≡ true → res ≡ None
-    none None None h = refl
-    none None (Some g) h = absurd (cc)
-    none (Some j) res h = absurd (cc)
 
 same_unit : (a b : Op) → Some a ≡ Some b → a ≡ b
 same_unit a b h = cc

@@ -5,6 +5,7 @@ use Rattle.std.proofs.lemmas.Bool.{eqb-true, ltb-true, and_parts, not-true}
 use Rattle.msrp_plan.specs.Plan.{PlanModel, units, core_of}
 use Rattle.msrp_plan.specs.Jobs.{jobs_on, done, is_queued}
 use Rattle.msrp_plan.specs.Choice.{choice}
+use Rattle.msrp_plan.specs.Shape.{has_shape}
 use Rattle.msrp_plan.specs.Actions.{same_res, res_of_unit, is_global_unit, allows, is_idle, does_unit, does_next}
 use Rattle.msrp_plan.specs.Queues.{fifo, replies}
 use Rattle.msrp_plan.specs.Runs.{had_turn, is_in_turn, is_of_core, same_choice, is_chosen, is_next_action, replies_on, is_fifo_reply, IsLegal}
@@ -33,6 +34,16 @@ same_choice_is (Some i) None h = absurd (cc)
 idle_is : (k : Kind) → is_idle k ≡ true → k ≡ Idle
 idle_is Idle h = refl
 idle_is _ h = absurd (cc)
+
+-- ---- shape
+-- an idle row has no resource
+pub idle_res : (r : Row) → r.kind ≡ Idle → r.res ≡ None
+idle_res r e = none r.job r.res (subst (λ k. has_shape k r.job r.res ≡ true) e r.shape)
+  where
+    none : (o : Option JobId) (res : Option ResId) → has_shape Idle o res ≡ true → res ≡ None
+    none None None h = refl
+    none None (Some g) h = absurd (cc)
+    none (Some j) res h = absurd (cc)
 
 -- ---- A1: the tick that is due, on a core that has not had its turn
 pub record IsDue (plan : PlanModel) (pre : List Row) (r : Row) : Type 0 where

@@ -12,3 +12,13 @@ pub mod LegalRows
 pub mod SameRow
 pub mod Determinacy
 pub mod Writes
+pub mod UnitCounts
+pub mod PlanUnits
+pub mod Stands
+pub mod UnitKinds
+pub mod Fifos
+pub mod Effects
+pub mod Holders
+pub mod LeastKept
+pub mod Keys
+pub mod Ceilings

@@ -1,5 +1,5 @@
 -- What every start of a legal run keeps, over whatever plan and whatever order of the cores.
-use Rattle.std.specs.Prelude.{ℕ, List, [], ◌∷◌, ◌++◌, Bool, true, false, ◌&&◌, Some, map, count_by, ◌≡◌, ◌≢◌, ◌≤◌, ◌-◌}
+use Rattle.std.specs.Prelude.{ℕ, List, [], ◌∷◌, ◌++◌, Bool, true, false, ◌&&◌, Some, count_by, ◌≡◌, ◌≢◌, ◌≤◌, ◌-◌}
 use Rattle.std.specs.List.{list_any}
 use Rattle.msrp_plan.specs.Plan.{PlanModel}
 use Rattle.msrp_plan.specs.Jobs.{is_row_of, holds}
@@ -61,8 +61,3 @@ pub record IsWait (r : Row) (since : List Row) (j : JobId) (g : ℕ) : Type 0 wh
 abbrev pub BoundedOvertaking : PlanModel → List Row → Type 0
 BoundedOvertaking plan rows =
     (pre : List Row) (r : Row) (since post : List Row) (j : JobId) (g : ℕ) → rows ≡ pre ++ r ∷ (since ++ post) → IsWait r since j g → count_by (is_admission g) since ≤ plan.cores - 1
-
--- ---- determinacy
--- the cores in the order of their turns
-abbrev pub core_order : List Row → List ℕ
-core_order rows = map (λ r. r.core.0) rows

@@ -3,8 +3,15 @@
 ghost use Rattle.std.specs.Prelude.{◌≡◌, List};
 ghost use Rattle.msrp_plan.specs.Plan.{PlanModel};
 ghost use Rattle.msrp_plan.specs.Runs.{IsRunStart, IsRun};
-ghost use Rattle.msrp_plan.specs.Laws.{core_order};
+ghost use Rattle.msrp_plan.specs.WellFormed.{IsPlan};
+ghost use Rattle.msrp_plan.specs.Laws.{MutualExclusion};
+ghost use Rattle.msrp_plan.specs.Logs.{core_order};
 ghost use Rattle.msrp_plan.specs.declared.rows.Row.{Row};
+
+/// Mutual exclusion: at each place of a run at most one job holds a global resource.
+pub fn mutual_exclusion()
+    ensures { (plan : PlanModel) (rows : List Row) → IsPlan plan → IsRunStart plan rows → MutualExclusion plan rows }
+{}
 
 /// Determinacy: the order in which the cores take their turns fixes the run. Two runs of one plan, or two
 /// starts of runs, with the same cores in the same order are equal.
