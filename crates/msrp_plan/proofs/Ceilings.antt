@@ -2,19 +2,18 @@
 use Rattle.std.proofs.Common.{◌≡◌, ℕ, ◌<◌, ◌≤◌, Bool, true, false, cond, not, ◌&&◌, ◌||◌, ◌==◌, List, refl, ap, sym, ◌∙◌, subst, arith, length, eq-eqb}
 use Rattle.std.specs.List.{list_any, Contains}
 use Rattle.std.proofs.Math.Bool.{or-true}
-use Rattle.std.proofs.lemmas.List.FromFn.{length-range_with_len, get_or-range_with_len}
 use Rattle.msrp_plan.specs.Plan.{PlanModel, TaskModel, task_of, core_of}
 use Rattle.msrp_plan.specs.Jobs.{jobs_on, holds, is_queued}
 use Rattle.msrp_plan.specs.Levels.{is_global, local_ceiling, top, level, level_of, uses}
 use Rattle.msrp_plan.specs.Ceiling.{resources, is_held_on, is_raised, ceiling}
 use Rattle.msrp_plan.specs.declared.ids.JobId.{JobId}
 use Rattle.msrp_plan.specs.declared.rows.Row.{Row}
-use Rattle.msrp_plan.proofs.Lists.{any_in}
+use Rattle.msrp_plan.proofs.Lists.{any_in, in_range}
 use Rattle.msrp_plan.proofs.LeastKept.{greatest_above}
 
 -- the resources are numbered from 0
 pub in_resources : (plan : PlanModel) (g : ℕ) → g < length plan.resources → Contains (resources plan) g
-in_resources plan g l = (g, subst (λ n. g < n) (sym (length-range_with_len 0 (length plan.resources))) l, get_or-range_with_len 0 (length plan.resources) g g l ∙ omega arith)
+in_resources plan g l = in_range g (length plan.resources) l
 
 pub held_on : (plan : PlanModel) (c g : ℕ) (pre : List Row) (j : JobId) → Contains (jobs_on plan c) j → holds plan pre g j ≡ true → is_held_on plan c pre g ≡ true
 held_on plan c g pre j there held = any_in (holds plan pre g) (jobs_on plan c) j there held

@@ -22,3 +22,9 @@ pub mod Holders
 pub mod LeastKept
 pub mod Keys
 pub mod Ceilings
+pub mod Live
+pub mod Turns
+pub mod OwnTurns
+pub mod Apart
+pub mod QueueMembers
+pub mod Overtaking

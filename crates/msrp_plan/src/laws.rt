@@ -4,13 +4,19 @@ ghost use Rattle.std.specs.Prelude.{◌≡◌, List};
 ghost use Rattle.msrp_plan.specs.Plan.{PlanModel};
 ghost use Rattle.msrp_plan.specs.Runs.{IsRunStart, IsRun};
 ghost use Rattle.msrp_plan.specs.WellFormed.{IsPlan};
-ghost use Rattle.msrp_plan.specs.Laws.{MutualExclusion};
+ghost use Rattle.msrp_plan.specs.Laws.{MutualExclusion, BoundedOvertaking};
 ghost use Rattle.msrp_plan.specs.Logs.{core_order};
 ghost use Rattle.msrp_plan.specs.declared.rows.Row.{Row};
 
 /// Mutual exclusion: at each place of a run at most one job holds a global resource.
 pub fn mutual_exclusion()
     ensures { (plan : PlanModel) (rows : List Row) → IsPlan plan → IsRunStart plan rows → MutualExclusion plan rows }
+{}
+
+/// Bounded overtaking: while a job waits for a global resource, others come to hold it at most one time less
+/// than there are cores.
+pub fn bounded_overtaking()
+    ensures { (plan : PlanModel) (rows : List Row) → IsPlan plan → IsRunStart plan rows → BoundedOvertaking plan rows }
 {}
 
 /// Determinacy: the order in which the cores take their turns fixes the run. Two runs of one plan, or two

@@ -1,0 +1,5 @@
+use Rattle.msrp_plan.proofs.Overtaking.{bounded_overtaking}
+use Rattle.msrp_plan.proofs.laws.bounded_overtaking.Goals as goal
+
+pub returns : goal.returns
+returns c = bounded_overtaking
