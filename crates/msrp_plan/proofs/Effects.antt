@@ -187,6 +187,7 @@ effect plan g pre r ok glob fed legal = by_job r.job refl
   where
     turn : IsTurn plan pre r
     turn = legal_turn plan pre r legal
+
     by_job : (o : Option JobId) → r.job ≡ o → Effect plan g pre r
     by_job None e = idle_row plan g pre r e (turn.idle e)
     by_job (Some x) e = job_row plan g pre r x ok glob fed legal e (turn.does x e)

@@ -28,3 +28,5 @@ pub mod OwnTurns
 pub mod Apart
 pub mod QueueMembers
 pub mod Overtaking
+pub mod Users
+pub mod LocalLocks

@@ -4,9 +4,15 @@ ghost use Rattle.std.specs.Prelude.{◌≡◌, List};
 ghost use Rattle.msrp_plan.specs.Plan.{PlanModel};
 ghost use Rattle.msrp_plan.specs.Runs.{IsRunStart, IsRun};
 ghost use Rattle.msrp_plan.specs.WellFormed.{IsPlan};
-ghost use Rattle.msrp_plan.specs.Laws.{MutualExclusion, BoundedOvertaking};
+ghost use Rattle.msrp_plan.specs.Laws.{NoLocalBlocking, MutualExclusion, BoundedOvertaking};
 ghost use Rattle.msrp_plan.specs.Logs.{core_order};
 ghost use Rattle.msrp_plan.specs.declared.rows.Row.{Row};
+
+/// No local blocking: a job that has its turn never finds a local resource held by another job, of whatever
+/// core (Baker 1991, section 4). So a lock of a local resource takes one tick.
+pub fn no_local_blocking()
+    ensures { (plan : PlanModel) (rows : List Row) → IsPlan plan → IsRunStart plan rows → NoLocalBlocking plan rows }
+{}
 
 /// Mutual exclusion: at each place of a run at most one job holds a global resource.
 pub fn mutual_exclusion()

@@ -1,0 +1,5 @@
+use Rattle.msrp_plan.proofs.LocalLocks.{no_local_blocking}
+use Rattle.msrp_plan.proofs.laws.no_local_blocking.Goals as goal
+
+pub returns : goal.returns
+returns c = no_local_blocking
