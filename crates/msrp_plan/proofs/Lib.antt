@@ -12,3 +12,4 @@ pub mod LegalRows
 pub mod SameRow
 pub mod Determinacy
 pub mod Writes
+pub mod Verdicts

@@ -8,6 +8,7 @@ pub mod laws;
 pub mod plans;
 pub mod rows;
 pub mod units;
+pub mod worked;
 
 pub use faults::{Fault, Memory, PlanFault, Rule, WriteFault};
 pub use ids::{CoreId, JobId, JobKey, ResId, TaskId};
