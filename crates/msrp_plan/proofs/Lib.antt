@@ -13,3 +13,4 @@ pub mod SameRow
 pub mod Determinacy
 pub mod Writes
 pub mod Verdicts
+pub mod ReplyLocality

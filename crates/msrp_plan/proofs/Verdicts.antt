@@ -8,7 +8,7 @@ use Rattle.msrp_plan.specs.declared.faults.Fault.{Fault}
 use Rattle.msrp_plan.specs.declared.faults.Rule.{Rule}
 use Rattle.msrp_plan.specs.declared.faults.Rule.TheVariants.{A1, A2, A3, A4, A5, A6, A7}
 use Rattle.msrp_plan.specs.declared.rows.Row.{Row}
-use Rattle.msrp_plan.proofs.Prefixes.{each_push}
+use Rattle.msrp_plan.proofs.Prefixes.{each_push, each_before, each_at}
 
 -- a chain of tests in which none fails
 passes_all : {X : Type 0} (a b c d e : Bool) (v w x y z : X) → cond a (cond b (cond c (cond d (cond e None (Some v)) (Some w)) (Some x)) (Some y)) (Some z) ≡ None
@@ -151,3 +151,17 @@ pub fault_found : (plan : PlanModel) (rows : List Row) (f : Fault) → IsFault p
 fault_found plan rows f (inl h) = broken_found plan rows f h
 fault_found plan rows f (inr (inl h)) = cut_found plan rows f h
 fault_found plan rows f (inr (inr h)) = extra_found plan rows f h
+
+-- ---- starts of legal runs
+pub start_before : (plan : PlanModel) (pre post : List Row) → IsRunStart plan (pre ++ post) → IsRunStart plan pre
+start_before plan pre post h = record { size = omega (arith, h.size, length-append pre post); each = each_before (IsLegal plan) [] pre post h.each }
+
+pub run_before : (plan : PlanModel) (pre post : List Row) → IsRun plan (pre ++ post) → IsRunStart plan pre
+run_before plan pre post h = start_before plan pre post (record { size = omega (arith, h.size); each = h.each })
+
+-- one legal row more, if one is left, is a start again
+pub start_push : (plan : PlanModel) (pre : List Row) (r : Row) → IsRunStart plan pre → length pre < all_rows plan → IsLegal plan pre r → IsRunStart plan (pre ++ r ∷ [])
+start_push plan pre r h due legal = record { size = omega (arith, one_more pre r); each = each_push (IsLegal plan) [] pre r h.each legal }
+
+pub start_last : (plan : PlanModel) (pre : List Row) (r : Row) → IsRunStart plan (pre ++ r ∷ []) → IsLegal plan pre r
+start_last plan pre r h = each_at (IsLegal plan) [] pre r [] h.each
