@@ -13,3 +13,4 @@ pub mod ThreeInAQueue
 pub mod RaisedWhileHolding
 pub mod RaisedWhileQueued
 pub mod RequestedAgain
+pub mod LockHistory

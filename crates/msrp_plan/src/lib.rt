@@ -9,6 +9,7 @@ pub mod laws;
 pub mod plans;
 pub mod rows;
 pub mod units;
+pub mod worked;
 
 
 pub use faults::{Fault, Memory, PlanFault, Rule, WriteFault};
