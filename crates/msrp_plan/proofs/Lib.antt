@@ -30,3 +30,5 @@ pub mod QueueMembers
 pub mod Overtaking
 pub mod Users
 pub mod LocalLocks
+pub mod Verdicts
+pub mod ReplyLocality

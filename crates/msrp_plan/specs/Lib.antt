@@ -12,6 +12,7 @@ pub mod Runs
 pub mod Logs
 pub mod Laws
 pub mod Verdict
+pub mod Faults
 pub mod FifoLock
 pub mod Names
 pub mod WellFormed
@@ -19,3 +20,4 @@ pub mod Building
 pub mod Codes
 pub mod Views
 pub mod Bytes
+pub mod Examples

@@ -1,7 +1,8 @@
--- The rows of one core among those of all, and the orders in which the cores have their turns.
+-- The rows of one core, or on one resource, among all, and the orders in which the cores have their turns.
 use Rattle.std.specs.Prelude.{ℕ, List, Bool, ◌==◌, ◌≡◌, true, filter, map, length, ◌<◌, ◌/◌}
 use Rattle.std.specs.List.{flat_map, range_with_len}
 use Rattle.msrp_plan.specs.Plan.{PlanModel}
+use Rattle.msrp_plan.specs.Queues.{is_on}
 use Rattle.msrp_plan.specs.Runs.{IsCoreTurn, is_fifo_reply}
 use Rattle.msrp_plan.specs.declared.rows.Row.{Row}
 
@@ -12,6 +13,10 @@ is_of c r = r.core.0 == c
 -- the log of a core: its rows, in order
 abbrev pub log_of : ℕ → List Row → List Row
 log_of c rows = filter (is_of c) rows
+
+-- the rows on a resource, in order
+abbrev pub rows_on : ℕ → List Row → List Row
+rows_on g rows = filter (λ r. is_on g r.res) rows
 
 -- the cores in the order of their turns
 abbrev pub core_order : List Row → List ℕ

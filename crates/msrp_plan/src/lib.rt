@@ -2,12 +2,15 @@
 #![tactic(auto)]
 
 pub mod bytes;
+pub mod definitions;
 pub mod faults;
 pub mod ids;
 pub mod laws;
 pub mod plans;
 pub mod rows;
 pub mod units;
+pub mod worked;
+
 
 pub use faults::{Fault, Memory, PlanFault, Rule, WriteFault};
 pub use ids::{CoreId, JobId, JobKey, ResId, TaskId};

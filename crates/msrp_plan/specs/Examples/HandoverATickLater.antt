@@ -1,0 +1,44 @@
+-- The same plan with core 1 first in tick 2: it polls before core 0 releases, and is granted a tick later. Also legal.
+use Rattle.std.specs.Prelude.{List, [], ◌∷◌, codes}
+use Rattle.msrp_plan.specs.Plan.{PlanModel}
+use Rattle.msrp_plan.specs.Examples.Notation.{task, section, job, idle, run, take, queue, spin, grant, release, changed}
+use Rattle.msrp_plan.specs.declared.ids.JobId.{JobId}
+use Rattle.msrp_plan.specs.declared.rows.Row.{Row}
+
+abbrev pub plan : PlanModel
+plan = record {
+  cores = 2;
+  ticks = 6;
+  resources = codes "g" ∷ [];
+  tasks =
+    task (codes "a") 0 20 8 0 (section 0 1)
+    ∷ task (codes "b") 1 20 8 0 (section 0 1)
+    ∷ [];
+}
+
+abbrev a : JobId
+a = job 0 0
+
+abbrev b : JobId
+b = job 1 0
+
+-- the legal run
+abbrev pub rows : List Row
+rows =
+  take 0 0 a 0
+  ∷ queue 0 1 b 0
+  ∷ run 1 0 a
+  ∷ spin 1 1 b 0
+  ∷ spin 2 1 b 0
+  ∷ release 2 0 a 0
+  ∷ idle 3 0
+  ∷ grant 3 1 b 0
+  ∷ idle 4 0
+  ∷ run 4 1 b
+  ∷ idle 5 0
+  ∷ release 5 1 b 0
+  ∷ []
+
+-- b is granted the resource before a releases it
+abbrev pub before_the_release : List Row
+before_the_release = changed rows 5 (grant 2 1 b 0)

@@ -1,0 +1,79 @@
+-- How the examples write plans and rows: as their texts, field by field.
+use Rattle.std.specs.Prelude.{ℕ, ◌-◌, List, [], ◌∷◌, ◌++◌, Option, Some, None, refl, length, map, replicate, set}
+use Rattle.std.specs.Prelude as list
+use Rattle.std.specs.List.{range_with_len}
+use Rattle.msrp_plan.specs.Plan.{TaskModel}
+use Rattle.msrp_plan.specs.declared.faults.Fault.{Fault}
+use Rattle.msrp_plan.specs.declared.faults.Rule.{Rule}
+use Rattle.msrp_plan.specs.declared.ids.JobId.{JobId}
+use Rattle.msrp_plan.specs.declared.units.Op.{Op}
+use Rattle.msrp_plan.specs.declared.units.Op.TheVariants as unit
+use Rattle.msrp_plan.specs.declared.rows.Kind.TheVariants as kind
+use Rattle.msrp_plan.specs.declared.rows.Row.{Row}
+
+-- ---- plans
+-- a task: its name, core, period, relative deadline, offset and units
+abbrev pub task : List ℕ → ℕ → ℕ → ℕ → ℕ → List Op → TaskModel
+task name core period deadline offset units = record { name = name; core = core; period = period; deadline = deadline; offset = offset; units = units }
+
+-- so many units of work
+abbrev pub works : ℕ → List Op
+works n = replicate n unit.Run
+
+abbrev pub locks : ℕ → Op
+locks g = unit.Lock (record { 0 = g })
+
+abbrev pub unlocks : ℕ → Op
+unlocks g = unit.Unlock (record { 0 = g })
+
+-- so many units of work inside a lock
+abbrev pub section : ℕ → ℕ → List Op
+section g n = locks g ∷ works n ++ unlocks g ∷ []
+
+-- job k of task t
+abbrev pub job : ℕ → ℕ → JobId
+job t k = record { task = record { 0 = t }; k = k }
+
+-- ---- rows: a tick, a core, what the core does, and then job and resource
+abbrev pub idle : ℕ → ℕ → Row
+idle t c = record { tick = t; core = record { 0 = c }; kind = kind.Idle; job = None; res = None; shape = refl }
+
+abbrev pub run : ℕ → ℕ → JobId → Row
+run t c j = record { tick = t; core = record { 0 = c }; kind = kind.Run; job = Some j; res = None; shape = refl }
+
+-- the job works in n ticks, from tick t on
+abbrev pub runs : ℕ → ℕ → ℕ → JobId → List Row
+runs t n c j = map (λ at. run at c j) (range_with_len t n)
+
+abbrev pub lock : ℕ → ℕ → JobId → ℕ → Row
+lock t c j g = record { tick = t; core = record { 0 = c }; kind = kind.Lock; job = Some j; res = Some (record { 0 = g }); shape = refl }
+
+abbrev pub unlock : ℕ → ℕ → JobId → ℕ → Row
+unlock t c j g = record { tick = t; core = record { 0 = c }; kind = kind.Unlock; job = Some j; res = Some (record { 0 = g }); shape = refl }
+
+abbrev pub take : ℕ → ℕ → JobId → ℕ → Row
+take t c j g = record { tick = t; core = record { 0 = c }; kind = kind.Take; job = Some j; res = Some (record { 0 = g }); shape = refl }
+
+abbrev pub queue : ℕ → ℕ → JobId → ℕ → Row
+queue t c j g = record { tick = t; core = record { 0 = c }; kind = kind.Queue; job = Some j; res = Some (record { 0 = g }); shape = refl }
+
+abbrev pub spin : ℕ → ℕ → JobId → ℕ → Row
+spin t c j g = record { tick = t; core = record { 0 = c }; kind = kind.Spin; job = Some j; res = Some (record { 0 = g }); shape = refl }
+
+abbrev pub grant : ℕ → ℕ → JobId → ℕ → Row
+grant t c j g = record { tick = t; core = record { 0 = c }; kind = kind.Grant; job = Some j; res = Some (record { 0 = g }); shape = refl }
+
+abbrev pub release : ℕ → ℕ → JobId → ℕ → Row
+release t c j g = record { tick = t; core = record { 0 = c }; kind = kind.Release; job = Some j; res = Some (record { 0 = g }); shape = refl }
+
+-- ---- changed rows
+-- another row in place of the n-th, counted from 1
+abbrev pub changed : List Row → ℕ → Row → List Row
+changed rows n r = set rows (n - 1) r
+
+abbrev pub without_last : List Row → List Row
+without_last rows = list.take (length rows - 1) rows
+
+-- the verdict: row n, counted from 1, breaks the rule
+abbrev pub fault : ℕ → Rule → Option Fault
+fault n rule = Some (record { row = n; rule = rule })

@@ -1,0 +1,43 @@
+//! What the definitions say, shown by laws over them: the verdict tells legal runs from all other rows, a
+//! run is legal row by row, and each rule looks no further than it should. Each function does nothing; its
+//! contract is the law.
+ghost use Rattle.std.specs.Prelude.{◌≡◌, ◌↔◌, ◌++◌, ◌∷◌, [], ◌<◌, ◌*◌, ℕ, List, Some, None, length, true};
+ghost use Rattle.std.specs.List.{AllPass};
+ghost use Rattle.msrp_plan.specs.Plan.{PlanModel};
+ghost use Rattle.msrp_plan.specs.Choice.{choice};
+ghost use Rattle.msrp_plan.specs.Queues.{fifo};
+ghost use Rattle.msrp_plan.specs.Runs.{IsLegal, IsRun, IsRunStart, is_of_core, is_next_action, is_fifo_reply};
+ghost use Rattle.msrp_plan.specs.Logs.{log_of, rows_on};
+ghost use Rattle.msrp_plan.specs.Verdict.{verdict, broken};
+ghost use Rattle.msrp_plan.specs.Faults.{IsFault};
+ghost use Rattle.msrp_plan.specs.declared.faults.Fault.{Fault};
+ghost use Rattle.msrp_plan.specs.declared.ids.ResId.{ResId};
+ghost use Rattle.msrp_plan.specs.declared.rows.Row.{Row};
+
+/// The verdict on a list of rows is good exactly where it is a legal run of the plan, and else names the
+/// first row that breaks a rule, with the lowest rule that it breaks. A row breaks a rule exactly where it
+/// isn't legal after the rows before it.
+pub fn verdicts()
+    ensures good { (plan : PlanModel) (rows : List Row) → (verdict plan rows ≡ None) ↔ IsRun plan rows }
+    ensures fault { (plan : PlanModel) (rows : List Row) (f : Fault) → (verdict plan rows ≡ Some f) ↔ IsFault plan rows f }
+    ensures row { (plan : PlanModel) (pre : List Row) (r : Row) → (broken plan pre r ≡ None) ↔ IsLegal plan pre r }
+{}
+
+/// Each first part of a legal run is the start of one, and a start goes on by legal rows alone, as long as
+/// a core has a turn left.
+pub fn starts()
+    ensures run { (plan : PlanModel) (pre post : List Row) → IsRun plan (pre ++ post) → IsRunStart plan pre }
+    ensures start { (plan : PlanModel) (pre post : List Row) → IsRunStart plan (pre ++ post) → IsRunStart plan pre }
+    ensures goes_on { (plan : PlanModel) (pre : List Row) (r : Row) → IsRunStart plan pre → length pre < plan.cores * plan.ticks → IsLegal plan pre r → IsRunStart plan (pre ++ r ∷ []) }
+    ensures last { (plan : PlanModel) (pre : List Row) (r : Row) → IsRunStart plan (pre ++ r ∷ []) → IsLegal plan pre r }
+{}
+
+/// Which job has the turn on a core, and what it does next, is told by the core's own rows, where each job
+/// keeps to its core; what a global resource replies is told by the rows on it. So cores meet in nothing
+/// but the replies of global resources.
+pub fn locality()
+    ensures choice { (plan : PlanModel) (c t : ℕ) (pre : List Row) → AllPass (is_of_core plan) pre → choice plan c t (log_of c pre) ≡ choice plan c t pre }
+    ensures action { (plan : PlanModel) (pre : List Row) (r : Row) → AllPass (is_of_core plan) pre → is_of_core plan r ≡ true → is_next_action plan (log_of r.core.0 pre) r ≡ is_next_action plan pre r }
+    ensures queue { (g : ℕ) (pre : List Row) → fifo g (rows_on g pre) ≡ fifo g pre }
+    ensures reply { (g : ResId) (pre : List Row) (r : Row) → r.res ≡ Some g → is_fifo_reply (rows_on g.0 pre) r ≡ is_fifo_reply pre r }
+{}

@@ -1,0 +1,135 @@
+//! Worked examples, computed from the definitions alone: of each plan a legal run, and beside it rows that
+//! aren't legal, with the verdict on them. Each function does nothing; its contract is the example. The plans
+//! and rows stand in `specs/Examples`.
+ghost use Rattle.std.specs.Prelude.{◌≡◌, true, false};
+ghost use Rattle.msrp_plan.specs.Levels.{level, local_ceiling, top, is_global};
+ghost use Rattle.msrp_plan.specs.Runs.{IsRun};
+ghost use Rattle.msrp_plan.specs.Verdict.{verdict};
+ghost use Rattle.msrp_plan.specs.FifoLock.{Legal};
+ghost use Rattle.msrp_plan.specs.Examples.Notation.{fault};
+ghost use Rattle.msrp_plan.specs.Examples.WorkThenIdle as work_then_idle;
+ghost use Rattle.msrp_plan.specs.Examples.BlockedByTheCeiling as blocked_by_the_ceiling;
+ghost use Rattle.msrp_plan.specs.Examples.PreemptsASection as preempts_a_section;
+ghost use Rattle.msrp_plan.specs.Examples.EqualDeadlines as equal_deadlines;
+ghost use Rattle.msrp_plan.specs.Examples.EqualDeadlinesReversed as equal_deadlines_reversed;
+ghost use Rattle.msrp_plan.specs.Examples.BlockedHead as blocked_head;
+ghost use Rattle.msrp_plan.specs.Examples.HandoverWithinATick as handover_within_a_tick;
+ghost use Rattle.msrp_plan.specs.Examples.HandoverATickLater as handover_a_tick_later;
+ghost use Rattle.msrp_plan.specs.Examples.ThreeInAQueue as three_in_a_queue;
+ghost use Rattle.msrp_plan.specs.Examples.RaisedWhileHolding as raised_while_holding;
+ghost use Rattle.msrp_plan.specs.Examples.RaisedWhileQueued as raised_while_queued;
+ghost use Rattle.msrp_plan.specs.Examples.RequestedAgain as requested_again;
+ghost use Rattle.msrp_plan.specs.Examples.LockHistory as lock_history;
+ghost use Rattle.msrp_plan.specs.declared.faults.Rule.TheVariants.{A1, A2, A3, A4, A5, A6, A7};
+
+/// One task on one core: it works and then the core idles. Too much work, or idling while a job waits, isn't
+/// legal.
+pub fn work_then_idle()
+    ensures run { IsRun work_then_idle.plan work_then_idle.rows }
+    ensures too_long { verdict work_then_idle.plan work_then_idle.too_long ≡ fault 3 A3 }
+    ensures too_late { verdict work_then_idle.plan work_then_idle.too_late ≡ fault 1 A3 }
+{}
+
+/// A job whose level isn't above the current ceiling isn't started, although its deadline is earlier (Baker
+/// 1991).
+pub fn blocked_by_the_ceiling()
+    ensures run { IsRun blocked_by_the_ceiling.plan blocked_by_the_ceiling.rows }
+    ensures past_the_ceiling { verdict blocked_by_the_ceiling.plan blocked_by_the_ceiling.past_the_ceiling ≡ fault 2 A3 }
+    ensures level_lo { level blocked_by_the_ceiling.plan 0 ≡ 1 }
+    ensures level_hi { level blocked_by_the_ceiling.plan 1 ≡ 2 }
+    ensures ceiling_r { local_ceiling blocked_by_the_ceiling.plan 0 ≡ 2 }
+    ensures top { top blocked_by_the_ceiling.plan 0 ≡ 2 }
+    ensures local { is_global blocked_by_the_ceiling.plan 0 ≡ false }
+{}
+
+/// A job of a level above the ceiling preempts who holds a local resource that it doesn't use.
+pub fn preempts_a_section()
+    ensures run { IsRun preempts_a_section.plan preempts_a_section.rows }
+    ensures without_preemption { verdict preempts_a_section.plan preempts_a_section.without_preemption ≡ fault 2 A3 }
+    ensures ceiling_r { local_ceiling preempts_a_section.plan 0 ≡ 1 }
+{}
+
+/// Equal absolute deadlines never preempt: who was released first goes first.
+pub fn equal_deadlines()
+    ensures run { IsRun equal_deadlines.plan equal_deadlines.rows }
+    ensures preempted { verdict equal_deadlines.plan equal_deadlines.preempted ≡ fault 3 A3 }
+{}
+
+/// The same with the tasks in the other order: the release is compared before the task's number.
+pub fn equal_deadlines_reversed()
+    ensures run { IsRun equal_deadlines_reversed.plan equal_deadlines_reversed.rows }
+    ensures by_task_number { verdict equal_deadlines_reversed.plan equal_deadlines_reversed.by_task_number ≡ fault 3 A3 }
+{}
+
+/// A blocked head holds up the jobs behind it, also one of a level above the ceiling.
+pub fn blocked_head()
+    ensures run { IsRun blocked_head.plan blocked_head.rows }
+    ensures past_the_head { verdict blocked_head.plan blocked_head.past_the_head ≡ fault 13 A3 }
+    ensures past_the_ceiling { verdict blocked_head.plan blocked_head.past_the_ceiling ≡ fault 13 A3 }
+{}
+
+/// A global resource goes from core to core within a tick, if the cores' turns come so. Beside the run, rows
+/// that break each of the rules.
+pub fn handover_within_a_tick()
+    ensures run { IsRun handover_within_a_tick.plan handover_within_a_tick.rows }
+    ensures turn_of_no_core { verdict handover_within_a_tick.plan handover_within_a_tick.turn_of_no_core ≡ fault 1 A1 }
+    ensures second_turn { verdict handover_within_a_tick.plan handover_within_a_tick.second_turn ≡ fault 2 A1 }
+    ensures tick_too_early { verdict handover_within_a_tick.plan handover_within_a_tick.tick_too_early ≡ fault 2 A1 }
+    ensures job_of_another_core { verdict handover_within_a_tick.plan handover_within_a_tick.job_of_another_core ≡ fault 3 A2 }
+    ensures no_such_job { verdict handover_within_a_tick.plan handover_within_a_tick.no_such_job ≡ fault 3 A2 }
+    ensures idle_too_soon { verdict handover_within_a_tick.plan handover_within_a_tick.idle_too_soon ≡ fault 3 A3 }
+    ensures unit_skipped { verdict handover_within_a_tick.plan handover_within_a_tick.unit_skipped ≡ fault 3 A4 }
+    ensures queued_when_free { verdict handover_within_a_tick.plan handover_within_a_tick.queued_when_free ≡ fault 1 A5 }
+    ensures taken_when_held { verdict handover_within_a_tick.plan handover_within_a_tick.taken_when_held ≡ fault 2 A5 }
+    ensures granted_when_held { verdict handover_within_a_tick.plan handover_within_a_tick.granted_when_held ≡ fault 4 A5 }
+    ensures spin_when_first { verdict handover_within_a_tick.plan handover_within_a_tick.spin_when_first ≡ fault 6 A5 }
+    ensures cut { verdict handover_within_a_tick.plan handover_within_a_tick.cut ≡ fault 12 A6 }
+    ensures doubled { verdict handover_within_a_tick.plan handover_within_a_tick.doubled ≡ fault 13 A7 }
+{}
+
+/// The same plan in another order of the cores: a later handover, and a legal run too.
+pub fn handover_a_tick_later()
+    ensures run { IsRun handover_a_tick_later.plan handover_a_tick_later.rows }
+    ensures before_the_release { verdict handover_a_tick_later.plan handover_a_tick_later.before_the_release ≡ fault 5 A5 }
+{}
+
+/// A queue is served in the order of its requests (Gai, Lipari and Di Natale 2001).
+pub fn three_in_a_queue()
+    ensures run { IsRun three_in_a_queue.plan three_in_a_queue.rows }
+    ensures out_of_order { verdict three_in_a_queue.plan three_in_a_queue.out_of_order ≡ fault 9 A5 }
+{}
+
+/// A core stands at its highest level while one of its jobs holds a global resource. A resource is global by
+/// the tasks that use it, whether they have jobs or not.
+pub fn raised_while_holding()
+    ensures run { IsRun raised_while_holding.plan raised_while_holding.rows }
+    ensures holder_preempted { verdict raised_while_holding.plan raised_while_holding.holder_preempted ≡ fault 3 A3 }
+    ensures locked_as_local { verdict raised_while_holding.plan raised_while_holding.locked_as_local ≡ fault 1 A4 }
+    ensures level_lo { level raised_while_holding.plan 0 ≡ 1 }
+    ensures level_hi { level raised_while_holding.plan 1 ≡ 2 }
+    ensures level_other { level raised_while_holding.plan 2 ≡ 1 }
+    ensures global { is_global raised_while_holding.plan 0 ≡ true }
+    ensures top_0 { top raised_while_holding.plan 0 ≡ 2 }
+    ensures top_1 { top raised_while_holding.plan 1 ≡ 1 }
+{}
+
+/// A core stands at its highest level already while one of its jobs is queued.
+pub fn raised_while_queued()
+    ensures run { IsRun raised_while_queued.plan raised_while_queued.rows }
+    ensures waiter_preempted { verdict raised_while_queued.plan raised_while_queued.waiter_preempted ≡ fault 4 A3 }
+{}
+
+/// What was released and is requested again goes to who was queued before.
+pub fn requested_again()
+    ensures run { IsRun requested_again.plan requested_again.rows }
+    ensures overtakes { verdict requested_again.plan requested_again.overtakes ≡ fault 5 A5 }
+{}
+
+/// The history of a lock that two cores call, each answer as a first-in-first-out lock gives it, and
+/// histories of which one answer is wrong.
+pub fn lock_history()
+    ensures legal { Legal lock_history.history }
+    ensures granted_too_soon { ¬ Legal lock_history.granted_too_soon }
+    ensures ahead_miscounted { ¬ Legal lock_history.ahead_miscounted }
+    ensures left_by_another { ¬ Legal lock_history.left_by_another }
+{}
