@@ -83,10 +83,13 @@ fault_row : (plan : PlanModel) (pre : List Row) (r : Row) (rows : List Row) (f :
     → cond due (fault_or o (length pre + 1) (verdict_after plan (pre ++ r ∷ []) rows)) (Some (record { row = length pre + 1; rule = A7 })) ≡ Some f
     → IsFault plan (pre ++ r ∷ rows) f ⊎ (IsRunStart plan (pre ++ r ∷ []) × (verdict_after plan (pre ++ r ∷ []) rows ≡ Some f))
 fault_row plan pre r rows f true None d e start h =
-    inr (record {
-      size = omega (arith, one_more pre r, ltb-true (length pre) (all_rows plan) (sym d));
-      each = each_push (IsLegal plan) [] pre r start.each (unbroken_is_legal plan pre r (sym e));
-    }, h)
+    inr (
+      record {
+        size = omega (arith, one_more pre r, ltb-true (length pre) (all_rows plan) (sym d));
+        each = each_push (IsLegal plan) [] pre r start.each (unbroken_is_legal plan pre r (sym e));
+      },
+      h,
+    )
 fault_row plan pre r rows f true (Some rule) d e start h =
     let is : record { row = length pre + 1; rule = rule } ≡ f = cc in
     inl (inl (record {
@@ -115,8 +118,8 @@ pub fault_after : (plan : PlanModel) (pre rows : List Row) (f : Fault) → IsRun
 fault_after plan pre [] f start h = subst (λ l. IsFault plan l f) (sym (append-nil pre)) (fault_end plan pre f (nat_lt (length pre) (all_rows plan)) refl start h)
 fault_after plan pre (r ∷ rows) f start h =
     elim (fault_row plan pre r rows f (nat_lt (length pre) (all_rows plan)) (broken plan pre r) refl refl start h) [
-      inl found ↦ found
-    | inr later ↦ subst (λ l. IsFault plan l f) (append_assoc pre (r ∷ []) rows) (fault_after plan (pre ++ r ∷ []) rows f later.0 later.1)
+      | inl found ↦ found
+      | inr later ↦ subst (λ l. IsFault plan l f) (append_assoc pre (r ∷ []) rows) (fault_after plan (pre ++ r ∷ []) rows f later.0 later.1)
     ]
 
 -- a fault of the verdict is what its rule and number say

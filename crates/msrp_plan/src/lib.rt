@@ -11,7 +11,6 @@ pub mod rows;
 pub mod units;
 pub mod worked;
 
-
 pub use faults::{Fault, Memory, PlanFault, Rule, WriteFault};
 pub use ids::{CoreId, JobId, JobKey, ResId, TaskId};
 pub use plans::Plan;

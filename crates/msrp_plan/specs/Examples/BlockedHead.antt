@@ -12,10 +12,10 @@ plan = record {
   ticks = 19;
   resources = codes "r" ∷ [];
   tasks =
-    task (codes "k") 0 40 20 0 (section 0 12)
-    ∷ task (codes "j2") 0 40 15 1 (section 0 1)
-    ∷ task (codes "j") 0 40 5 12 (works 1)
-    ∷ [];
+      task (codes "k") 0 40 20 0 (section 0 12)
+      ∷ task (codes "j2") 0 40 15 1 (section 0 1)
+      ∷ task (codes "j") 0 40 5 12 (works 1)
+      ∷ [];
 }
 
 abbrev k : JobId

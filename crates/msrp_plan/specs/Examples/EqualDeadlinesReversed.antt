@@ -11,9 +11,9 @@ plan = record {
   ticks = 8;
   resources = [];
   tasks =
-    task (codes "y") 0 20 8 2 (works 2)
-    ∷ task (codes "x") 0 20 10 0 (works 5)
-    ∷ [];
+      task (codes "y") 0 20 8 2 (works 2)
+      ∷ task (codes "x") 0 20 10 0 (works 5)
+      ∷ [];
 }
 
 abbrev y : JobId

@@ -11,9 +11,9 @@ plan = record {
   ticks = 6;
   resources = codes "g" ∷ [];
   tasks =
-    task (codes "a") 0 20 8 0 (section 0 1)
-    ∷ task (codes "b") 1 20 8 0 (section 0 1)
-    ∷ [];
+      task (codes "a") 0 20 8 0 (section 0 1)
+      ∷ task (codes "b") 1 20 8 0 (section 0 1)
+      ∷ [];
 }
 
 abbrev a : JobId
@@ -25,19 +25,19 @@ b = job 1 0
 -- the legal run
 abbrev pub rows : List Row
 rows =
-  take 0 0 a 0
-  ∷ queue 0 1 b 0
-  ∷ run 1 0 a
-  ∷ spin 1 1 b 0
-  ∷ spin 2 1 b 0
-  ∷ release 2 0 a 0
-  ∷ idle 3 0
-  ∷ grant 3 1 b 0
-  ∷ idle 4 0
-  ∷ run 4 1 b
-  ∷ idle 5 0
-  ∷ release 5 1 b 0
-  ∷ []
+    take 0 0 a 0
+    ∷ queue 0 1 b 0
+    ∷ run 1 0 a
+    ∷ spin 1 1 b 0
+    ∷ spin 2 1 b 0
+    ∷ release 2 0 a 0
+    ∷ idle 3 0
+    ∷ grant 3 1 b 0
+    ∷ idle 4 0
+    ∷ run 4 1 b
+    ∷ idle 5 0
+    ∷ release 5 1 b 0
+    ∷ []
 
 -- b is granted the resource before a releases it
 abbrev pub before_the_release : List Row

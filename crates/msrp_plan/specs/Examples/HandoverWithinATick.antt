@@ -12,9 +12,9 @@ plan = record {
   ticks = 6;
   resources = codes "g" ∷ [];
   tasks =
-    task (codes "a") 0 20 8 0 (section 0 1)
-    ∷ task (codes "b") 1 20 8 0 (section 0 1)
-    ∷ [];
+      task (codes "a") 0 20 8 0 (section 0 1)
+      ∷ task (codes "b") 1 20 8 0 (section 0 1)
+      ∷ [];
 }
 
 abbrev a : JobId
@@ -26,19 +26,19 @@ b = job 1 0
 -- the legal run
 abbrev pub rows : List Row
 rows =
-  take 0 0 a 0
-  ∷ queue 0 1 b 0
-  ∷ run 1 0 a
-  ∷ spin 1 1 b 0
-  ∷ release 2 0 a 0
-  ∷ grant 2 1 b 0
-  ∷ idle 3 0
-  ∷ run 3 1 b
-  ∷ idle 4 0
-  ∷ release 4 1 b 0
-  ∷ idle 5 0
-  ∷ idle 5 1
-  ∷ []
+    take 0 0 a 0
+    ∷ queue 0 1 b 0
+    ∷ run 1 0 a
+    ∷ spin 1 1 b 0
+    ∷ release 2 0 a 0
+    ∷ grant 2 1 b 0
+    ∷ idle 3 0
+    ∷ run 3 1 b
+    ∷ idle 4 0
+    ∷ release 4 1 b 0
+    ∷ idle 5 0
+    ∷ idle 5 1
+    ∷ []
 
 -- a turn of core 2, which the plan lacks
 abbrev pub turn_of_no_core : List Row

@@ -11,9 +11,9 @@ plan = record {
   ticks = 9;
   resources = codes "r" ∷ [];
   tasks =
-    task (codes "lo") 0 20 10 0 (section 0 3)
-    ∷ task (codes "hi") 0 20 5 1 (works 2)
-    ∷ [];
+      task (codes "lo") 0 20 10 0 (section 0 3)
+      ∷ task (codes "hi") 0 20 5 1 (works 2)
+      ∷ [];
 }
 
 abbrev lo : JobId

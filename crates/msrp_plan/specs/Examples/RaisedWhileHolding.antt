@@ -12,10 +12,10 @@ plan = record {
   ticks = 7;
   resources = codes "g" ∷ [];
   tasks =
-    task (codes "lo") 0 20 10 0 (section 0 3)
-    ∷ task (codes "hi") 0 20 6 1 (works 1)
-    ∷ task (codes "other") 1 20 10 7 (section 0 0)
-    ∷ [];
+      task (codes "lo") 0 20 10 0 (section 0 3)
+      ∷ task (codes "hi") 0 20 6 1 (works 1)
+      ∷ task (codes "other") 1 20 10 7 (section 0 0)
+      ∷ [];
 }
 
 abbrev lo : JobId
@@ -27,21 +27,21 @@ hi = job 1 0
 -- hi, released in tick 1, waits for the release
 abbrev pub rows : List Row
 rows =
-  take 0 0 lo 0
-  ∷ idle 0 1
-  ∷ run 1 0 lo
-  ∷ idle 1 1
-  ∷ run 2 0 lo
-  ∷ idle 2 1
-  ∷ run 3 0 lo
-  ∷ idle 3 1
-  ∷ release 4 0 lo 0
-  ∷ idle 4 1
-  ∷ run 5 0 hi
-  ∷ idle 5 1
-  ∷ idle 6 0
-  ∷ idle 6 1
-  ∷ []
+    take 0 0 lo 0
+    ∷ idle 0 1
+    ∷ run 1 0 lo
+    ∷ idle 1 1
+    ∷ run 2 0 lo
+    ∷ idle 2 1
+    ∷ run 3 0 lo
+    ∷ idle 3 1
+    ∷ release 4 0 lo 0
+    ∷ idle 4 1
+    ∷ run 5 0 hi
+    ∷ idle 5 1
+    ∷ idle 6 0
+    ∷ idle 6 1
+    ∷ []
 
 -- hi preempts the holder
 abbrev pub holder_preempted : List Row

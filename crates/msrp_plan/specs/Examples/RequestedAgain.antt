@@ -12,9 +12,9 @@ plan = record {
   ticks = 5;
   resources = codes "g" ∷ [];
   tasks =
-    task (codes "a") 0 20 10 0 (section 0 0 ++ section 0 0)
-    ∷ task (codes "b") 1 20 10 0 (section 0 0)
-    ∷ [];
+      task (codes "a") 0 20 10 0 (section 0 0 ++ section 0 0)
+      ∷ task (codes "b") 1 20 10 0 (section 0 0)
+      ∷ [];
 }
 
 abbrev a : JobId
@@ -26,17 +26,17 @@ b = job 1 0
 -- the legal run
 abbrev pub rows : List Row
 rows =
-  take 0 0 a 0
-  ∷ queue 0 1 b 0
-  ∷ spin 1 1 b 0
-  ∷ release 1 0 a 0
-  ∷ queue 2 0 a 0
-  ∷ grant 2 1 b 0
-  ∷ release 3 1 b 0
-  ∷ grant 3 0 a 0
-  ∷ release 4 0 a 0
-  ∷ idle 4 1
-  ∷ []
+    take 0 0 a 0
+    ∷ queue 0 1 b 0
+    ∷ spin 1 1 b 0
+    ∷ release 1 0 a 0
+    ∷ queue 2 0 a 0
+    ∷ grant 2 1 b 0
+    ∷ release 3 1 b 0
+    ∷ grant 3 0 a 0
+    ∷ release 4 0 a 0
+    ∷ idle 4 1
+    ∷ []
 
 -- a takes g back, past b
 abbrev pub overtakes : List Row

@@ -11,8 +11,8 @@ plan = record {
   ticks = 3;
   resources = [];
   tasks =
-    task (codes "a") 0 3 3 0 (works 2)
-    ∷ [];
+      task (codes "a") 0 3 3 0 (works 2)
+      ∷ [];
 }
 
 abbrev a : JobId
