@@ -32,3 +32,7 @@ pub mod Users
 pub mod LocalLocks
 pub mod Verdicts
 pub mod ReplyLocality
+pub mod Nesting
+pub mod Faultless
+pub mod Drafts
+pub mod Stored

@@ -1,9 +1,9 @@
 -- What a builder is told, what each call adds, and when it is refused. Refusals stand in the order of judging.
-use Rattle.std.specs.Prelude.{ℕ, List, [], ◌∷◌, ◌++◌, Bool, true, false, ◌==◌, ◌&&◌, ◌||◌, not, nat_lt, nat_le, is_none, Option, Some, None, cond, length, map, replicate, slice_get, set, take, ◌+◌, ◌-◌, ◌≡◌, ◌⊎◌, IsOk, Err}
+use Rattle.std.specs.Prelude.{ℕ, List, [], ◌∷◌, ◌++◌, Bool, true, false, ◌==◌, ◌&&◌, ◌||◌, not, nat_lt, nat_le, is_none, Option, Some, None, cond, length, map, replicate, slice_get, slice_index_or, set, take, ◌+◌, ◌-◌, ◌≡◌, ◌⊎◌, IsOk, Ok, Err}
 use Rattle.std.specs.declared.result.Result.{Result}
 use Rattle.std.specs.List.{list_any, range_with_len}
 use Rattle.msrp_plan.specs.Names.{is_name, has_name}
-use Rattle.msrp_plan.specs.Plan.{PlanModel, TaskModel, task_at}
+use Rattle.msrp_plan.specs.Plan.{PlanModel, TaskModel, task_at, no_task}
 use Rattle.msrp_plan.specs.Units.{held_after, held_with}
 use Rattle.msrp_plan.specs.Jobs.{jobs}
 use Rattle.msrp_plan.specs.Levels.{is_global}
@@ -21,6 +21,10 @@ empty_plan cores ticks = record { cores = cores; ticks = ticks; resources = []; 
 abbrev pub with_resource : PlanModel → List ℕ → PlanModel
 with_resource plan name = record plan { resources = plan.resources ++ name ∷ [] }
 
+-- a task as it is declared: it has no unit yet
+abbrev pub new_task : List ℕ → ℕ → ℕ → ℕ → ℕ → TaskModel
+new_task name core period deadline offset = record { name = name; core = core; period = period; deadline = deadline; offset = offset; units = [] }
+
 abbrev pub with_task : PlanModel → TaskModel → PlanModel
 with_task plan task = record plan { tasks = plan.tasks ++ task ∷ [] }
 
@@ -37,8 +41,11 @@ newest_units plan = (task_at plan (length plan.tasks - 1)).units
 abbrev pub with_more_units : TaskModel → List Op → TaskModel
 with_more_units task us = record task { units = task.units ++ us }
 
+abbrev pub with_newest : List TaskModel → List Op → List TaskModel
+with_newest tasks us = set tasks (length tasks - 1) (with_more_units (slice_index_or tasks (length tasks - 1) no_task) us)
+
 abbrev pub with_units : PlanModel → List Op → PlanModel
-with_units plan us = record plan { tasks = set plan.tasks (length plan.tasks - 1) (with_more_units (task_at plan (length plan.tasks - 1)) us) }
+with_units plan us = record plan { tasks = with_newest plan.tasks us }
 
 abbrev pub fault_if : Bool → PlanFault → Option PlanFault → Option PlanFault
 fault_if test fault rest = cond test (Some fault) rest
@@ -137,3 +144,13 @@ finish_fault plan =
 abbrev pub IsJudged : {A : Type 0} → Option PlanFault → Result A PlanFault → Type 0
 IsJudged (Some fault) r = r ≡ Err fault
 IsJudged None r = IsOk r ⊎ (r ≡ Err Memory)
+
+-- the answer of a call that wants no memory: its fault if it has one, and else the value
+abbrev pub judged : {A : Type 0} → Option PlanFault → A → Result A PlanFault
+judged None x = Ok x
+judged (Some fault) x = Err fault
+
+-- the answer of the last call, which hands a refused draft back
+abbrev pub finished : Option PlanFault → PlanModel → Result PlanModel (PlanModel × PlanFault)
+finished None plan = Ok plan
+finished (Some fault) plan = Err (plan, fault)

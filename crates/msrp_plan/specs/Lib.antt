@@ -18,6 +18,7 @@ pub mod Names
 pub mod WellFormed
 pub mod Building
 pub mod Codes
+pub mod Tasks
 pub mod Views
 pub mod Bytes
 pub mod Examples

@@ -1,6 +1,9 @@
 //! Refusals and faults.
 ghost use Rattle.std.specs.Prelude.{◌≡◌};
 ghost use Rattle.msrp_plan.specs.Codes.{code_of};
+ghost use Rattle.msrp_plan.specs.declared.faults.PlanFault.TheVariants as codes;
+
+use std::alloc::{AllocError, AllocFailed};
 
 /// Why a plan is refused. Each refusal has a code, which the program prints.
 #[derive(Clone, Copy, Debug, PartialEq, Eq)]
@@ -38,6 +41,22 @@ pub enum PlanFault {
     Read,
     /// P16: memory was refused.
     Memory,
+}
+
+impl From<AllocError> for PlanFault {
+    ghost from_gives = { λ _ fault. fault ≡ codes.Memory };
+
+    fn from(_refused: AllocError) -> PlanFault {
+        PlanFault::Memory
+    }
+}
+
+impl<T: Drop> From<AllocFailed<T>> for PlanFault {
+    ghost from_gives = { λ _ fault. fault ≡ codes.Memory };
+
+    fn from(_refused: AllocFailed<T>) -> PlanFault {
+        PlanFault::Memory
+    }
 }
 
 impl PlanFault {

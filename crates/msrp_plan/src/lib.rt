@@ -6,11 +6,18 @@ pub mod definitions;
 pub mod faults;
 pub mod ids;
 pub mod laws;
+pub mod builder;
+pub mod faults;
+pub mod ids;
+pub mod limits;
+pub mod names;
 pub mod plans;
 pub mod rows;
+mod tasks;
 pub mod units;
 pub mod worked;
 
+pub use builder::PlanBuilder;
 pub use faults::{Fault, Memory, PlanFault, Rule, WriteFault};
 pub use ids::{CoreId, JobId, JobKey, ResId, TaskId};
 pub use plans::Plan;

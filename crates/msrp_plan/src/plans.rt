@@ -4,19 +4,10 @@ ghost use Rattle.msrp_plan.specs.Plan.{task_at, release, key};
 ghost use Rattle.msrp_plan.specs.WellFormed.{IsPlan, IsTask};
 
 use crate::ids::{CoreId, JobId, JobKey, ResId, TaskId};
+use crate::tasks::Task;
 use crate::units::Op;
 use indexmap::{IndexMap, IndexSet};
 use std::marker::Model;
-
-// A task as it is stored, under its name.
-#[derive(Debug, Drop)]
-pub(crate) struct Task {
-    pub(crate) core: CoreId,
-    pub(crate) period: u32,
-    pub(crate) deadline: u32,
-    pub(crate) offset: u32,
-    pub(crate) units: Vec<Op>,
-}
 
 /// An accepted plan: periodic tasks, partitioned over cores, with the resources that they lock.
 #[derive(Debug, Drop)]
@@ -40,7 +31,7 @@ impl Model for Plan {
 }
 
 impl Plan {
-    ghost use Rattle.msrp_plan.specs.Views.{task_view};
+    ghost use Rattle.msrp_plan.specs.Tasks.{task_view};
 
     /// The number of cores.
     pub fn cores(&self) -> u32

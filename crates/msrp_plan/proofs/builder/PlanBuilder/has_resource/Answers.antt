@@ -1,0 +1,7 @@
+use Rattle.std.proofs.Common.{◌≡◌, sym, ap, ◌∙◌, string_bytes}
+use Rattle.std.specs.Str.{bytes_eq}
+use Rattle.msrp_plan.proofs.Stored.{any_map}
+use Rattle.msrp_plan.proofs.builder.PlanBuilder.has_resource.Goals as goal
+
+pub returns : goal.returns
+returns c = rw (← c.self.view_is) (c.contains.ensures ∙ sym (any_map (bytes_eq c.args.name.now) string_bytes c.self.inside.resources.keys))

@@ -1,0 +1,6 @@
+use Rattle.std.proofs.Common.{◌≡◌, sym, ap, ◌∙◌}
+use Rattle.msrp_plan.proofs.Stored.{has_task}
+use Rattle.msrp_plan.proofs.builder.PlanBuilder.has_task.Goals as goal
+
+pub returns : goal.returns
+returns c = rw (← c.self.view_is) (c.contains_key.ensures ∙ has_task c.self.inside.tasks.entries c.args.name.now)

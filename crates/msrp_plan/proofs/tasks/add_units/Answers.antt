@@ -1,0 +1,17 @@
+use Rattle.std.proofs.Common.{◌≡◌, ◌-◌, sym, ap, ◌∙◌, length, map, replicate, set, slice_index_or, refl, arith}
+use Rattle.std.proofs.lemmas.List.{length-map}
+use Rattle.std.proofs.lemmas.Result.{on_ok_weaker, on_err_weaker}
+use Rattle.msrp_plan.specs.Tasks.{task_view}
+use Rattle.msrp_plan.proofs.Stored.{more_at, same_at}
+use Rattle.msrp_plan.proofs.tasks.add_units.Goals as goal
+
+pub returns-clause-added : goal.returns-clause-added
+returns-clause-added c =
+    let es = c.args.tasks.now.entries in
+    let place : c.len-last.result ≡ length es = c.len-last.ensures.len in
+    let size = length-map es task_view in
+    on_ok_weaker c.add_units.result (λ more. rw (size, ← place) ((more_at es (c.len-last.result - 1) c.index_mut-newest.result.now c.add_units.new.self (replicate c.args.count c.args.unit) c.index_mut-newest.ensures.value more))) c.add_units.ensures.added
+
+pub returns-clause-kept : goal.returns-clause-kept
+returns-clause-kept c =
+    on_err_weaker c.add_units.result (same_at c.args.tasks.now.entries (c.len-last.result - 1) c.index_mut-newest.result.now c.add_units.new.self c.index_mut-newest.ensures.value) c.add_units.ensures.kept

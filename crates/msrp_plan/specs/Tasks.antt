@@ -1,0 +1,13 @@
+-- What a clause sees of a task as it is stored.
+use Rattle.std.specs.Prelude.{ℕ, List, string_bytes}
+use Rattle.std.specs.declared.alloc.Global.{Global}
+use Rattle.std.specs.declared.string.String.{String}
+use Rattle.msrp_plan.specs.Plan.{TaskModel}
+use Rattle.msrp_plan.specs.declared.tasks.Task.{Task}
+
+-- a task of a name
+abbrev pub named_view : List ℕ → Task → TaskModel
+named_view name task = record { name = name; core = task.core.0; period = task.period; deadline = task.deadline; offset = task.offset; units = task.units.items }
+
+abbrev pub task_view : String Global × Task → TaskModel
+task_view e = named_view (string_bytes e.0) e.1

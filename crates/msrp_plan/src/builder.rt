@@ -1,0 +1,331 @@
+//! The builder of plans.
+ghost use Rattle.std.specs.Prelude.{◌≡◌, ◌<◌, ◌^◌, ℕ, [], length, map, replicate, IfOk, OnOk, OnErr};
+ghost use Rattle.std.specs.Option.{option_map};
+ghost use Rattle.msrp_plan.specs.Names.{has_name, name_position};
+ghost use Rattle.msrp_plan.specs.Building.{IsJudged, judged, finished, empty_plan, new_task, new_fault, resource_fault, task_fault, op_fault, end_fault, finish_fault, is_in_range, is_undeclared, is_misnested, is_too_much, newest_units, with_resource, with_task, with_units, with_newest, units_of};
+
+use crate::faults::PlanFault;
+use crate::ids::{CoreId, ResId, TaskId};
+use crate::limits::{
+    LONGEST_TIME, MOST_CORES, MOST_HELD, MOST_JOBS, MOST_RESOURCES, MOST_TASKS, MOST_TICKS,
+    MOST_UNITS,
+};
+use crate::names::is_name;
+use crate::plans::Plan;
+use crate::tasks::{Task, add_units};
+use crate::units::{Op, Step};
+use indexmap::{IndexMap, IndexSet};
+use std::alloc::{AllocError, Global};
+use std::collections::VecDeque;
+use std::marker::Model;
+
+/// A plan that grows by calls: resources and tasks are numbered in the order of their calls, and units go to the
+/// newest task. A refused call leaves it as it was.
+#[derive(Debug, Drop)]
+pub struct PlanBuilder {
+    alloc: Global,
+    cores: u32,
+    ticks: u32,
+    resources: IndexSet<String>,
+    tasks: IndexMap<String, Task>,
+    // what the newest task holds, the innermost first
+    held: VecDeque<ResId>,
+}
+
+impl Model for PlanBuilder {
+    ghost use Rattle.msrp_plan.specs.Plan.{PlanModel};
+
+    ghost Value = { PlanModel };
+
+    ghost use Rattle.msrp_plan.specs.Views.{draft_view, IsBuilding};
+
+    ghost view = { draft_view };
+
+    ghost invariant = { IsBuilding };
+}
+
+impl PlanBuilder {
+    ghost use Rattle.msrp_plan.specs.declared.units.Step.TheVariants.{Run, Lock, Unlock};
+
+    /// A plan with no resource and no task yet. It is refused as [`PlanFault::Limit`] unless it has 1 to 8 cores and
+    /// 1 to 20,000 ticks. Nothing is allocated.
+    pub fn new(alloc: Global, cores: u32, ticks: u32) -> Result<PlanBuilder, PlanFault>
+        ensures { result ≡ judged (new_fault cores ticks) (empty_plan cores ticks) }
+    {
+        if let Some(fault) = new_fault(cores, ticks) {
+            return Err(fault);
+        }
+        Ok(PlanBuilder {
+            alloc,
+            cores,
+            ticks,
+            resources: IndexSet::new(alloc),
+            tasks: IndexMap::new(alloc),
+            held: VecDeque::new(alloc),
+        })
+    }
+
+    /// Declares a resource. Its name is judged as P5 and then P6, and a 33rd resource is P7.
+    pub fn resource(&mut self, name: &str) -> Result<ResId, PlanFault>
+        ensures judged { IsJudged (resource_fault self.old name.now) result }
+        ensures number { IfOk result (λ res. res.0 ≡ length self.old.resources) }
+        ensures added { OnOk result (self.new ≡ with_resource self.old name.now) }
+        ensures kept { OnErr result (self.new ≡ self.old) }
+    {
+        if let Some(fault) = self.resource_fault(name) {
+            return Err(fault);
+        }
+        let number = self.resources.len() as u32;
+        let name = String::from_str(self.alloc, name)?;
+        self.resources.insert(name)?;
+        Ok(ResId(number))
+    }
+
+    /// Declares a task, to which the next units go. First the end of the task before it is judged (P12, P10), then
+    /// its name (P5, P6), its core (P9) and its numbers, which are in ticks (P7, also for a 65th task).
+    pub fn task(
+        &mut self,
+        name: &str,
+        core: CoreId,
+        period: u32,
+        deadline: u32,
+        offset: u32,
+    ) -> Result<TaskId, PlanFault>
+        ensures judged { IsJudged (task_fault self.old (new_task name.now core.0 period deadline offset)) result }
+        ensures number { IfOk result (λ task. task.0 ≡ length self.old.tasks) }
+        ensures added { OnOk result (self.new ≡ with_task self.old (new_task name.now core.0 period deadline offset)) }
+        ensures kept { OnErr result (self.new ≡ self.old) }
+    {
+        if let Some(fault) = self.task_fault(name, core, period, deadline, offset) {
+            return Err(fault);
+        }
+        let number = self.tasks.len() as u32;
+        let name = String::from_str(self.alloc, name)?;
+        let task = Task {
+            core,
+            period,
+            deadline,
+            offset,
+            units: Vec::new(self.alloc),
+        };
+        self.tasks.insert(name, task)?;
+        Ok(TaskId(number))
+    }
+
+    /// Adds units to the newest task: they are judged as P8, P10 and then P7.
+    pub fn op(&mut self, step: Step) -> Result<(), PlanFault>
+        requires { 0 < length self.old.tasks }
+        ensures judged { IsJudged (op_fault self.old step) result }
+        ensures added { OnOk result (self.new ≡ with_units self.old (units_of step)) }
+        ensures kept { OnErr result (self.new ≡ self.old) }
+    {
+        if let Some(fault) = self.op_fault(step) {
+            return Err(fault);
+        }
+        match step {
+            Step::Run(count) => self.run(count),
+            Step::Lock(res) => self.lock(res),
+            Step::Unlock(res) => self.unlock(res),
+        }
+    }
+
+    /// The number of a resource, by its name.
+    pub fn res_of(&self, name: &str) -> Option<ResId>
+        ensures { option_map (λ res. res.0) result ≡ name_position self.now.resources name.now }
+    {
+        match self.resources.get_index_of(name) {
+            Some(number) => Some(ResId(number as u32)),
+            None => None,
+        }
+    }
+
+    /// The number of tasks so far.
+    pub fn tasks(&self) -> u32
+        ensures { result ≡ length self.now.tasks }
+    {
+        self.tasks.len() as u32
+    }
+
+    // Whether a resource of that name stands.
+    fn has_resource(&self, name: &str) -> bool
+        ensures { result ≡ has_name self.now.resources name.now }
+    {
+        self.resources.contains(name)
+    }
+
+    // Whether a task of that name stands.
+    fn has_task(&self, name: &str) -> bool
+        ensures { result ≡ has_name (map (λ task. task.name) self.now.tasks) name.now }
+    {
+        self.tasks.contains_key(name)
+    }
+
+    // Why a resource is refused.
+    fn resource_fault(&self, name: &str) -> Option<PlanFault>
+        ensures { result ≡ resource_fault self.now name.now }
+    {
+        if !is_name(name) {
+            Some(PlanFault::Name)
+        } else if self.has_resource(name) {
+            Some(PlanFault::Taken)
+        } else if self.resources.len() >= MOST_RESOURCES {
+            Some(PlanFault::Limit)
+        } else {
+            None
+        }
+    }
+
+    // Why the newest task may not end as it is.
+    fn end_fault(&self) -> Option<PlanFault>
+        ensures { result ≡ end_fault self.now }
+    {
+        let (_, newest) = self.tasks.last()?;
+        if newest.units.is_empty() {
+            Some(PlanFault::NoUnit)
+        } else if !self.held.is_empty() {
+            Some(PlanFault::Nesting)
+        } else {
+            None
+        }
+    }
+
+    // Why a task is refused.
+    fn task_fault(
+        &self,
+        name: &str,
+        core: CoreId,
+        period: u32,
+        deadline: u32,
+        offset: u32,
+    ) -> Option<PlanFault>
+        ensures { result ≡ task_fault self.now (new_task name.now core.0 period deadline offset) }
+    {
+        if let Some(fault) = self.end_fault() {
+            Some(fault)
+        } else if !is_name(name) {
+            Some(PlanFault::Name)
+        } else if self.has_task(name) {
+            Some(PlanFault::Taken)
+        } else if core.0 >= self.cores {
+            Some(PlanFault::Core)
+        } else if !is_in_range(period, deadline, offset) || self.tasks.len() >= MOST_TASKS {
+            Some(PlanFault::Limit)
+        } else {
+            None
+        }
+    }
+
+    // How many units the newest task has.
+    fn newest_size(&self) -> usize
+        requires { 0 < length self.now.tasks }
+        ensures { result ≡ length (newest_units self.now) }
+    {
+        self.tasks[self.tasks.len() - 1].units.len()
+    }
+
+    // Whether the step names a resource that was not declared.
+    fn is_undeclared(&self, step: Step) -> bool
+        ensures { result ≡ is_undeclared self.now step }
+    {
+        match step {
+            Step::Run(_) => false,
+            Step::Lock(res) | Step::Unlock(res) => res.0 as usize >= self.resources.len(),
+        }
+    }
+
+    // Whether the step locks what is held, or unlocks what is not the innermost held.
+    fn is_misnested(&self, step: Step) -> bool
+        ensures { result ≡ is_misnested (newest_units self.now) step }
+    {
+        match step {
+            Step::Run(_) => false,
+            Step::Lock(res) => self.held.contains(&res),
+            Step::Unlock(res) => self.held.front() != Some(&res),
+        }
+    }
+
+    // Whether the step has no unit, one too many, or holds one resource too many.
+    fn is_too_much(&self, step: Step) -> bool
+        requires { 0 < length self.now.tasks }
+        ensures { result ≡ is_too_much (newest_units self.now) step }
+    {
+        let size = self.newest_size();
+        match step {
+            Step::Run(count) => count == 0 || size + count as usize > MOST_UNITS,
+            Step::Lock(_) => size >= MOST_UNITS || self.held.len() >= MOST_HELD,
+            Step::Unlock(_) => size >= MOST_UNITS,
+        }
+    }
+
+    // Why a step is refused.
+    fn op_fault(&self, step: Step) -> Option<PlanFault>
+        requires { 0 < length self.now.tasks }
+        ensures { result ≡ op_fault self.now step }
+    {
+        if self.is_undeclared(step) {
+            Some(PlanFault::Undeclared)
+        } else if self.is_misnested(step) {
+            Some(PlanFault::Nesting)
+        } else if self.is_too_much(step) {
+            Some(PlanFault::Limit)
+        } else {
+            None
+        }
+    }
+
+    // Units of work.
+    fn run(&mut self, count: u32) -> Result<(), PlanFault>
+        requires some { 0 < length self.old.tasks }
+        requires good { op_fault self.old (Run count) ≡ None }
+        ensures judged { IsJudged None result }
+        ensures added { OnOk result (self.new ≡ with_units self.old (units_of (Run count))) }
+        ensures kept { OnErr result (self.new ≡ self.old) }
+    {
+        add_units(&mut self.tasks, count as usize, Op::Run)?;
+        Ok(())
+    }
+
+    // A lock, after which the task holds the resource.
+    fn lock(&mut self, res: ResId) -> Result<(), PlanFault>
+        requires some { 0 < length self.old.tasks }
+        requires good { op_fault self.old (Lock res) ≡ None }
+        ensures judged { IsJudged None result }
+        ensures added { OnOk result (self.new ≡ with_units self.old (units_of (Lock res))) }
+        ensures kept { OnErr result (self.new ≡ self.old) }
+    {
+        self.held.reserve(1)?;
+        add_units(&mut self.tasks, 1, Op::Lock(res))?;
+        self.held.push_front(res)?;
+        Ok(())
+    }
+
+    // An unlock of the innermost that the task holds.
+    fn unlock(&mut self, res: ResId) -> Result<(), PlanFault>
+        requires some { 0 < length self.old.tasks }
+        requires good { op_fault self.old (Unlock res) ≡ None }
+        ensures judged { IsJudged None result }
+        ensures added { OnOk result (self.new ≡ with_units self.old (units_of (Unlock res))) }
+        ensures kept { OnErr result (self.new ≡ self.old) }
+    {
+        add_units(&mut self.tasks, 1, Op::Unlock(res))?;
+        self.held.pop_front();
+        Ok(())
+    }
+}
+
+// Why a plan of such cores and ticks is refused.
+fn new_fault(cores: u32, ticks: u32) -> Option<PlanFault>
+    ensures { result ≡ new_fault cores ticks }
+{
+    let fits = (1..=MOST_CORES).contains(&cores) && (1..=MOST_TICKS).contains(&ticks);
+    if fits { None } else { Some(PlanFault::Limit) }
+}
+
+// Whether the times of a task are in their ranges.
+fn is_in_range(period: u32, deadline: u32, offset: u32) -> bool
+    ensures { result ≡ is_in_range (new_task [] 0 period deadline offset) }
+{
+    (1..=LONGEST_TIME).contains(&period)
+        && (1..=LONGEST_TIME).contains(&deadline)
+        && offset <= LONGEST_TIME
+}

@@ -1,0 +1,25 @@
+//! The limits that every plan keeps.
+
+/// The most cores of a plan.
+pub const MOST_CORES: u32 = 8;
+
+/// The most ticks of a plan.
+pub const MOST_TICKS: u32 = 20_000;
+
+/// The most tasks of a plan.
+pub const MOST_TASKS: usize = 64;
+
+/// The most resources of a plan.
+pub const MOST_RESOURCES: usize = 32;
+
+/// The most units of a task.
+pub const MOST_UNITS: usize = 4_096;
+
+/// The most resources that a task holds at once.
+pub const MOST_HELD: usize = 8;
+
+/// The most jobs of a plan.
+pub const MOST_JOBS: u32 = 8_192;
+
+/// The greatest period, relative deadline and offset, in ticks.
+pub const LONGEST_TIME: u32 = 1_000_000;
