@@ -1,14 +1,12 @@
 //! Plans, traces, and the definitions that every promise of this repository is stated in.
 #![tactic(auto)]
 
+pub mod builder;
 pub mod bytes;
 pub mod definitions;
 pub mod faults;
 pub mod ids;
 pub mod laws;
-pub mod builder;
-pub mod faults;
-pub mod ids;
 pub mod limits;
 pub mod names;
 pub mod plans;
