@@ -32,3 +32,5 @@ pub mod Users
 pub mod LocalLocks
 pub mod Verdicts
 pub mod ReplyLocality
+pub mod WorkAlone
+pub mod JobLists
