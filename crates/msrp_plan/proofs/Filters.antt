@@ -1,5 +1,5 @@
 -- Filters, tests and counts of a list, where one test implies or equals another.
-use Rattle.std.proofs.Common.{◌≡◌, Bool, true, false, cond, ◌||◌, List, [], ◌∷◌, refl, ap, sym, ◌∙◌, length}
+use Rattle.std.proofs.Common.{◌≡◌, Bool, true, false, cond, ◌||◌, List, [], ◌∷◌, map, refl, ap, sym, ◌∙◌, length}
 use Rattle.std.specs.List.{filter, list_any, count_by, AllByRecursion}
 use Rattle.std.proofs.lemmas.List.Sums.{length-filter}
 
@@ -44,3 +44,19 @@ any_same p q (x ∷ xs) all = ap (λ b. b || list_any p xs) all.0 ∙ ap (λ b. 
 pub all_of : {X : Type 0} (P : X → Type 0) → ((x : X) → P x) → (xs : List X) → AllByRecursion P xs
 all_of P f [] = tt
 all_of P f (x ∷ xs) = (f x, all_of P f xs)
+
+map_kept : {X Y : Type 0} (f : X → Y) (b : Bool) (x : X) (xs : List X) → cond b (f x ∷ map f xs) (map f xs) ≡ map f (cond b (x ∷ xs) xs)
+map_kept f true x xs = refl
+map_kept f false x xs = refl
+
+-- where images pass a test as elements do, to filter the images is to map what the filter keeps
+pub filter_map_same : {X Y : Type 0} (f : X → Y) (p : X → Bool) (q : Y → Bool) (P : X → Type 0) → ((x : X) → P x → q (f x) ≡ p x) → (xs : List X) → AllByRecursion P xs → filter q (map f xs) ≡ map f (filter p xs)
+filter_map_same f p q P agree [] all = refl
+filter_map_same f p q P agree (x ∷ xs) all =
+    ap (λ b. cond b (f x ∷ filter q (map f xs)) (filter q (map f xs))) (agree x all.0)
+    ∙ (ap (λ ys. cond (p x) (f x ∷ ys) ys) (filter_map_same f p q P agree xs all.1) ∙ map_kept f (p x) x (filter p xs))
+
+-- some image passes where an element's image does
+pub any_map : {X Y : Type 0} (f : X → Y) (q : Y → Bool) (xs : List X) → list_any q (map f xs) ≡ list_any (λ x. q (f x)) xs
+any_map f q [] = refl
+any_map f q (x ∷ xs) = ap (λ b. q (f x) || b) (any_map f q xs)

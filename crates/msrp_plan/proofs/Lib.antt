@@ -36,3 +36,5 @@ pub mod Nesting
 pub mod Faultless
 pub mod Drafts
 pub mod Stored
+pub mod WorkAlone
+pub mod JobLists

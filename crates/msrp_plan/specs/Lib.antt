@@ -10,6 +10,7 @@ pub mod Actions
 pub mod Queues
 pub mod Runs
 pub mod Logs
+pub mod Phases
 pub mod Laws
 pub mod Verdict
 pub mod Faults

@@ -1,6 +1,7 @@
 //! Plans.
 ghost use Rattle.std.specs.Prelude.{◌≡◌, ◌<◌, ◌≤◌, ◌*◌, ◌^◌, length, Some, slice_get};
 ghost use Rattle.msrp_plan.specs.Plan.{task_at, release, key};
+ghost use Rattle.msrp_plan.specs.Jobs.{jobs_of};
 ghost use Rattle.msrp_plan.specs.WellFormed.{IsPlan, IsTask};
 
 use crate::ids::{CoreId, JobId, JobKey, ResId, TaskId};
@@ -147,6 +148,20 @@ impl Plan {
     {
         let task = self.named_task(job.task).1;
         u64::from(task.offset) + u64::from(job.k) * u64::from(task.period)
+    }
+
+    /// The number of jobs of a task.
+    pub fn jobs(&self, task: TaskId) -> u32
+        requires { task.0 < length self.now.tasks }
+        ensures { result ≡ length (jobs_of self.now task.0) }
+    {
+        let mut count = 0;
+        for k in 0..self.ticks() {
+            if self.release(JobId { task, k }) < u64::from(self.ticks()) {
+                count += 1;
+            }
+        }
+        count
     }
 
     /// What the jobs of a core are ordered by.
