@@ -5,15 +5,15 @@ use Rattle.msrp_plan.specs.Plan.{PlanModel}
 use Rattle.msrp_plan.specs.Jobs.{is_row_of}
 use Rattle.msrp_plan.specs.Levels.{is_global}
 use Rattle.msrp_plan.specs.Queues.{fifo, is_free, is_first, is_release_of, is_release}
-use Rattle.msrp_plan.specs.Runs.{IsLegal, IsRunStart, EachAfter}
-use Rattle.msrp_plan.specs.Laws.{MutualExclusion}
+use Rattle.msrp_plan.specs.Runs.{IsLegal, EachAfter}
+use Rattle.msrp_plan.specs.Laws.{IsHeldByOne}
 use Rattle.msrp_plan.specs.WellFormed.{IsPlan}
 use Rattle.msrp_plan.specs.declared.ids.JobId.{JobId}
 use Rattle.msrp_plan.specs.declared.rows.Kind.{Kind}
 use Rattle.msrp_plan.specs.declared.rows.Kind.TheVariants.{Take, Queue, Spin, Grant, Release}
 use Rattle.msrp_plan.specs.declared.rows.Row.{Row}
 use Rattle.msrp_plan.proofs.JobTests.{row_of_job}
-use Rattle.msrp_plan.proofs.Prefixes.{along, each_before}
+use Rattle.msrp_plan.proofs.Prefixes.{along}
 use Rattle.msrp_plan.proofs.Stands.{Stand, Out, Waits, Holds, stand, holder_stands}
 use Rattle.msrp_plan.proofs.Fifos.{IsFed, not_releasing, fed_push, first_same, first_push, first_none, first_some, first_alone}
 use Rattle.msrp_plan.proofs.Effects.{IsMove, Effect, Quiet, Took, Joined, Got, Spun, Left, mover_is, effect}
@@ -88,8 +88,8 @@ orderly_none plan g = record { fed = omega arith; first = λ j h. absurd (none_h
 pub orderly_at : (plan : PlanModel) (g : ℕ) (pre : List Row) → IsPlan plan → is_global plan g ≡ true → EachAfter (IsLegal plan) [] pre → IsOrderly plan g pre
 orderly_at plan g pre ok glob all = along (IsOrderly plan g) (IsLegal plan) (orderly_push plan g ok glob) [] pre (orderly_none plan g) all
 
--- two holders are one
-pub mutual_exclusion : (plan : PlanModel) (rows : List Row) → IsPlan plan → IsRunStart plan rows → MutualExclusion plan rows
-mutual_exclusion plan rows ok run = λ pre post g e glob i j hi hj.
-    let o = orderly_at plan g pre ok glob (each_before (IsLegal plan) [] pre post (subst (EachAfter (IsLegal plan) []) e run.each)) in
+-- so at most one job holds it
+pub global_holder : (plan : PlanModel) (g : ℕ) (pre : List Row) → IsPlan plan → is_global plan g ≡ true → EachAfter (IsLegal plan) [] pre → IsHeldByOne plan pre g
+global_holder plan g pre ok glob all = λ i j hi hj.
+    let o = orderly_at plan g pre ok glob all in
     first_same (fifo g pre) i j (o.first i (holder_stands plan g pre i hi)) (o.first j (holder_stands plan g pre j hj))

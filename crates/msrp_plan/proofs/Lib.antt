@@ -30,5 +30,6 @@ pub mod QueueMembers
 pub mod Overtaking
 pub mod Users
 pub mod LocalLocks
+pub mod Exclusion
 pub mod Verdicts
 pub mod ReplyLocality

@@ -25,9 +25,12 @@ is_live plan pre j = is_started pre j && not (is_finished plan pre j)
 pub live : (plan : PlanModel) (pre : List Row) (j : JobId) → is_started pre j ≡ true → is_finished plan pre j ≡ false → is_live plan pre j ≡ true
 live plan pre j s f = ap (λ b. b && not (is_finished plan pre j)) s ∙ ap not f
 
--- a row of another job, or of none, leaves it
+-- a row of another job, or of none, leaves it, and what the job holds
 pub live_kept : (plan : PlanModel) (pre : List Row) (r : Row) (j : JobId) → is_row_of j r ≡ false → is_live plan (pre ++ r ∷ []) j ≡ is_live plan pre j
 live_kept plan pre r j e = ap (λ (s : JobState). s.started && not (s.done == length (units plan j))) (state_kept pre r j e)
+
+pub holds_kept : (plan : PlanModel) (pre : List Row) (r : Row) (g : ℕ) (j : JobId) → is_row_of j r ≡ false → holds plan (pre ++ r ∷ []) g j ≡ holds plan pre g j
+holds_kept plan pre r g j e = ap (λ (s : JobState). holds_after (take s.done (units plan j)) g) (state_kept pre r j e)
 
 -- ---- a job with no row has done nothing, and doesn't wait
 nothing_done : (pre : List Row) (j : JobId) → is_started pre j ≡ false → done j pre ≡ 0

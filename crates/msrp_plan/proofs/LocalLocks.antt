@@ -1,10 +1,9 @@
 -- No local blocking: a started, unfinished job is above the ceiling of every local resource that a later job holds.
-use Rattle.std.proofs.Common.{◌≡◌, ◌≢◌, ℕ, ◌<◌, ◌≤◌, Bool, true, false, ◌==◌, List, [], ◌∷◌, ◌++◌, Option, Some, None, refl, ap, sym, ◌∙◌, subst, arith, length, take, slice_get, inl, inr}
+use Rattle.std.proofs.Common.{◌≡◌, ◌≢◌, ℕ, ◌<◌, ◌≤◌, Bool, true, false, ◌==◌, List, [], ◌∷◌, ◌++◌, Option, Some, None, refl, ap, sym, ◌∙◌, subst, arith, length, slice_get, inl, inr}
 use Rattle.std.specs.List.{Contains}
 use Rattle.std.proofs.Math.Bool.{true≢false}
 use Rattle.std.proofs.lemmas.Bool.{false_from_ne_true}
 use Rattle.msrp_plan.specs.Plan.{PlanModel, task_of, core_of, units}
-use Rattle.msrp_plan.specs.Units.{holds_after}
 use Rattle.msrp_plan.specs.Jobs.{jobs_on, is_row_of, is_started, is_finished, is_queued, holds, done}
 use Rattle.msrp_plan.specs.Levels.{is_global, local_ceiling, level}
 use Rattle.msrp_plan.specs.Ceiling.{resources}
@@ -26,7 +25,7 @@ use Rattle.msrp_plan.proofs.States.{state_kept}
 use Rattle.msrp_plan.proofs.PlanUnits.{units_lock}
 use Rattle.msrp_plan.proofs.UnitKinds.{Runs, Locks, Unlocks, Takes, Queues, Grants, Spins, Releases, step_of}
 use Rattle.msrp_plan.proofs.Users.{lock_uses, holder_uses, user_in, local_core}
-use Rattle.msrp_plan.proofs.Live.{is_live, live, live_kept, holder_started, holder_live}
+use Rattle.msrp_plan.proofs.Live.{is_live, live, live_kept, holds_kept, holder_started, holder_live}
 use Rattle.msrp_plan.proofs.Ceilings.{in_resources, ceiling_above, user_below}
 use Rattle.msrp_plan.proofs.Turns.{has_turn, runs_live, runs_least, later_waits}
 use Rattle.msrp_plan.proofs.CoreJobs.{on_its_core}
@@ -51,9 +50,6 @@ abbrev pub IsGuarded : PlanModel → ℕ → List Row → Type 0
 IsGuarded plan c pre =
     (i j : JobId) (g : ℕ) → Contains (jobs_on plan c) i → Contains (jobs_on plan c) j → Contains (resources plan) g → is_global plan g ≡ false → i ≢ j
     → is_live plan pre i ≡ true → is_before plan j i ≡ false → holds plan pre g j ≡ true → local_ceiling plan g < level plan i.task.0
-
-holds_kept : (plan : PlanModel) (pre : List Row) (r : Row) (g : ℕ) (j : JobId) → is_row_of j r ≡ false → holds plan (pre ++ r ∷ []) g j ≡ holds plan pre g j
-holds_kept plan pre r g j e = ap (λ (s : JobState). holds_after (take s.done (units plan j)) g) (state_kept pre r j e)
 
 -- the row of a job of the core is a turn of the core
 turn_on : (plan : PlanModel) (c : ℕ) (pre : List Row) (r : Row) (x : JobId) → IsTurn plan pre r → r.job ≡ Some x → Contains (jobs_on plan c) x → choice plan c r.tick pre ≡ Some x
