@@ -26,6 +26,7 @@ pub mod Live
 pub mod Turns
 pub mod OwnTurns
 pub mod Apart
+pub mod Ticks
 pub mod QueueMembers
 pub mod Overtaking
 pub mod Users
