@@ -52,6 +52,7 @@ after_unit : (plan : PlanModel) (us : List Op) (g n : ℕ) (op : Op) (w : Bool) 
 after_unit plan us g n op true ok u l h = let z : n ≡ n + 0 = omega arith in ap (held_in us g) z ∙ h
 after_unit plan us g n op false ok u l h = not_locked plan us g n op (is_unlock_of g op) ok u l refl h
 
+-- where the job waits nothing is done
 after_wait : (us : List Op) (g n : ℕ) (w : Bool) → w ≡ true → held_in us g (n + cond (not w) 1 0) ≡ true → held_in us g n ≡ true
 after_wait us g n true e h = let z : n ≡ n + 0 = omega arith in ap (held_in us g) z ∙ h
 after_wait us g n false e h = absurd (true≢false (sym e))
@@ -60,6 +61,7 @@ after_wait us g n false e h = absurd (true≢false (sym e))
 global_off : (plan : PlanModel) (h g : ℕ) → is_global plan h ≡ true → is_global plan g ≡ false → (h == g) ≡ false
 global_off plan h g e l = false_from_ne_true (h == g) (λ s. true≢false (sym e ∙ (ap (is_global plan) (eqb-true h g s) ∙ l)))
 
+-- a lock is of this resource, or of another
 lock_cases : (plan : PlanModel) (pre : List Row) (r : Row) (g : ℕ) (x : JobId) (h : ResId) (b : Bool) → (h.0 == g) ≡ b → r.res ≡ Some h → r.kind ≡ Lock → (is_lock_of g (LockUnit h) ≡ false → holds plan pre g x ≡ true) → (holds plan pre g x ≡ true) ⊎ LocksIt r g
 lock_cases plan pre r g x h true e er ek f = inr (record { res = h; at = er; same = eqb-true h.0 g e; kind = ek })
 lock_cases plan pre r g x h false e er ek f = inl (f e)
@@ -101,6 +103,7 @@ mover_and plan g pre r i j ok local one w mi mj hi hj =
           absurd (true≢false (sym held ∙ (ap (λ n. holds plan pre n j) (sym new.same) ∙ free)))
     ]
 
+-- by whose row it is
 one_cases : (plan : PlanModel) (g : ℕ) (pre : List Row) (r : Row) (i j : JobId) (mi mj : Bool) → is_row_of i r ≡ mi → is_row_of j r ≡ mj → IsPlan plan → is_global plan g ≡ false → IsHeldByOne plan pre g → LocksLegally plan pre r
     → holds plan (pre ++ r ∷ []) g i ≡ true → holds plan (pre ++ r ∷ []) g j ≡ true → i ≡ j
 one_cases plan g pre r i j true true ei ej ok local one w hi hj = some_is i j (sym (is_job_is r.job i ei) ∙ is_job_is r.job j ej)
@@ -108,9 +111,11 @@ one_cases plan g pre r i j true false ei ej ok local one w hi hj = mover_and pla
 one_cases plan g pre r i j false true ei ej ok local one w hi hj = sym (mover_and plan g pre r j i ok local one w ej ei hj hi)
 one_cases plan g pre r i j false false ei ej ok local one w hi hj = one i j (sym (holds_kept plan pre r g i ei) ∙ hi) (sym (holds_kept plan pre r g j ej) ∙ hj)
 
+-- so such a row keeps that one job at most holds it
 one_push : (plan : PlanModel) (g : ℕ) → IsPlan plan → is_global plan g ≡ false → (pre : List Row) (r : Row) → IsHeldByOne plan pre g → LocksLegally plan pre r → IsHeldByOne plan (pre ++ r ∷ []) g
 one_push plan g ok local pre r one w = λ i j. one_cases plan g pre r i j (is_row_of i r) (is_row_of j r) refl refl ok local one w
 
+-- nobody holds anything before the first row
 none_holds : (plan : PlanModel) (g : ℕ) → IsHeldByOne plan [] g
 none_holds plan g = λ i j h. absurd (true≢false (sym h))
 

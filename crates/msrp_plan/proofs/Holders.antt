@@ -39,6 +39,7 @@ front e j h = ap (λ z. is_first z (Some j)) e ∙ h
 fed_kept : (g : ℕ) (pre : List Row) (r : Row) → IsFed g pre → is_release_of g r ≡ false → IsFed g (pre ++ r ∷ [])
 fed_kept g pre r fed e = fed_push g pre r fed (λ h. absurd (true≢false (sym h ∙ e)))
 
+-- each effect keeps it
 pub orderly_by : (plan : PlanModel) (g : ℕ) (pre : List Row) (r : Row) → IsOrderly plan g pre → Effect plan g pre r → IsOrderly plan g (pre ++ r ∷ [])
 orderly_by plan g pre r old e =
     let First : JobId → Type 0 = λ i. is_first (fifo g (pre ++ r ∷ [])) (Some i) ≡ true in
@@ -76,15 +77,18 @@ orderly_by plan g pre r old e =
       }
     ]
 
+-- so each legal row keeps it
 pub orderly_push : (plan : PlanModel) (g : ℕ) → IsPlan plan → is_global plan g ≡ true → (pre : List Row) (r : Row) → IsOrderly plan g pre → IsLegal plan pre r → IsOrderly plan g (pre ++ r ∷ [])
 orderly_push plan g ok glob pre r old h = orderly_by plan g pre r old (effect plan g pre r ok glob old.fed h)
 
+-- it holds before the first row
 pub orderly_none : (plan : PlanModel) (g : ℕ) → IsOrderly plan g []
 orderly_none plan g = record { fed = omega arith; first = λ j h. absurd (none_holds j h) }
   where
     none_holds : (j : JobId) → stand plan g [] j ≡ Holds → ⊥
     none_holds j h = cc
 
+-- so it holds at each place
 pub orderly_at : (plan : PlanModel) (g : ℕ) (pre : List Row) → IsPlan plan → is_global plan g ≡ true → EachAfter (IsLegal plan) [] pre → IsOrderly plan g pre
 orderly_at plan g pre ok glob all = along (IsOrderly plan g) (IsLegal plan) (orderly_push plan g ok glob) [] pre (orderly_none plan g) all
 

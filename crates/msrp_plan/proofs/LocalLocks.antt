@@ -35,13 +35,16 @@ use Rattle.msrp_plan.proofs.LegalRows.{IsTurn, DoesUnit, legal_turn, turn_core, 
 abbrev pub AreKnown : PlanModel → List Row → Type 0
 AreKnown plan pre = (j : JobId) → is_started pre j ≡ true → Contains (jobs_on plan (core_of plan j)) j
 
+-- by whose row it is
 known_cases : (plan : PlanModel) (pre : List Row) (r : Row) (j : JobId) (b : Bool) → is_row_of j r ≡ b → AreKnown plan pre → IsTurn plan pre r → is_started (pre ++ r ∷ []) j ≡ true → Contains (jobs_on plan (core_of plan j)) j
 known_cases plan pre r j true e old turn h = let job = is_job_is r.job j e in subst (λ n. Contains (jobs_on plan n) j) (sym (turn_core plan pre r j turn job)) (turn.known j job)
 known_cases plan pre r j false e old turn h = old j (sym (ap (λ (s : JobState). s.started) (state_kept pre r j e)) ∙ h)
 
+-- each turn keeps it
 pub known_push : (plan : PlanModel) (pre : List Row) (r : Row) → AreKnown plan pre → IsTurn plan pre r → AreKnown plan (pre ++ r ∷ [])
 known_push plan pre r old turn = λ j. known_cases plan pre r j (is_row_of j r) refl old turn
 
+-- it holds before the first row
 pub known_none : (plan : PlanModel) → AreKnown plan []
 known_none plan = λ j h. absurd (true≢false (sym h))
 
@@ -55,6 +58,7 @@ IsGuarded plan c pre =
 turn_on : (plan : PlanModel) (c : ℕ) (pre : List Row) (r : Row) (x : JobId) → IsTurn plan pre r → r.job ≡ Some x → Contains (jobs_on plan c) x → choice plan c r.tick pre ≡ Some x
 turn_on plan c pre r x turn job there = subst (λ n. choice plan n r.tick pre ≡ Some x) (sym (turn_core plan pre r x turn job) ∙ on_its_core plan c x there) (turn_chosen plan pre r x turn job)
 
+-- by whose row it is: who starts is above the ceiling, and who runs was guarded
 guard_cases : (plan : PlanModel) (c : ℕ) (pre : List Row) (r : Row) → IsGuarded plan c pre → IsTurn plan pre r
     → (i j : JobId) (g : ℕ) (mi mj : Bool) → is_row_of i r ≡ mi → is_row_of j r ≡ mj → Contains (jobs_on plan c) i → Contains (jobs_on plan c) j → Contains (resources plan) g → is_global plan g ≡ false → i ≢ j
     → is_live plan (pre ++ r ∷ []) i ≡ true → is_before plan j i ≡ false → holds plan (pre ++ r ∷ []) g j ≡ true → local_ceiling plan g < level plan i.task.0
@@ -70,9 +74,11 @@ guard_cases plan c pre r old turn i j g true false ei ej ini inj ing local ne l 
 guard_cases plan c pre r old turn i j g false true ei ej ini inj ing local ne l b h =
     absurd (later_waits plan c r.tick pre i j ini (sym (live_kept plan pre r i ei) ∙ l) b ne (turn_on plan c pre r j turn (is_job_is r.job j ej) inj))
 
+-- each turn keeps it
 pub guard_push : (plan : PlanModel) (c : ℕ) (pre : List Row) (r : Row) → IsGuarded plan c pre → IsTurn plan pre r → IsGuarded plan c (pre ++ r ∷ [])
 guard_push plan c pre r old turn = λ i j g. guard_cases plan c pre r old turn i j g (is_row_of i r) (is_row_of j r) refl refl
 
+-- it holds before the first row
 pub guard_none : (plan : PlanModel) (c : ℕ) → IsGuarded plan c []
 guard_none plan c = λ i j g ini inj ing local ne l. absurd (true≢false (sym l))
 
@@ -121,6 +127,7 @@ row_free plan pre r i j g ok known old turn job kind res ne h =
     let inj : Contains (jobs_on plan r.core.0) j = subst (λ n. Contains (jobs_on plan n) j) at (known j (holder_started plan pre g.0 j h)) in
     turn_free plan r.core.0 r.tick pre i j g ok old (turn_chosen plan pre r i turn job) k.0 k.1 ne (turn.known i job) inj h
 
+-- so a lock row finds its resource free
 locks_free : (plan : PlanModel) (pre : List Row) (r : Row) → IsPlan plan → AreKnown plan pre → IsGuarded plan r.core.0 pre → IsTurn plan pre r → LocksFree plan pre r
 locks_free plan pre r ok known old turn = λ g j kind res other. false_from_ne_true (holds plan pre g.0 j) (by_job g j kind res other r.job refl)
   where
@@ -133,6 +140,7 @@ record IsSafe (plan : PlanModel) (pre : List Row) : Type 0 where
   known : AreKnown plan pre
   guarded : (c : ℕ) → IsGuarded plan c pre
 
+-- each legal row keeps them
 safe_push : (plan : PlanModel) (pre : List Row) (r : Row) → IsSafe plan pre → IsLegal plan pre r → IsSafe plan (pre ++ r ∷ [])
 safe_push plan pre r old h = let turn = legal_turn plan pre r h in record { known = known_push plan pre r old.known turn; guarded = λ c. guard_push plan c pre r (old.guarded c) turn }
 

@@ -25,6 +25,7 @@ turned t pre c = list_any (λ w. w.core.0 == c) (rows_in t pre)
 abbrev pub core_of_row : Row → ℕ
 core_of_row w = w.core.0
 
+-- by whether the first row passes the first test
 any_and : (p q : Row → Bool) (w : Row) (ws : List Row) (b : Bool) → p w ≡ b → (b && q w) || list_any q (filter p ws) ≡ list_any q (cond b (w ∷ filter p ws) (filter p ws))
 any_and p q w ws true e = refl
 any_and p q w ws false e = refl
@@ -42,6 +43,7 @@ pub record IsTick (plan : PlanModel) (t : ℕ) (pre : List Row) : Type 0 where
   pub apart : ApartBy core_of_row (rows_in t pre)
   pub cores : AllByRecursion (λ w. core_of_row w < plan.cores) (rows_in t pre)
 
+-- the tick is told by the number of rows
 pub tick_is : (plan : PlanModel) (t : ℕ) (pre : List Row) → IsTick plan t pre → length pre / plan.cores ≡ t
 tick_is plan t pre k = ap (λ n. n / plan.cores) k.count ∙ div-mul-add t plan.cores (length (rows_in t pre)) k.low
 
@@ -58,15 +60,19 @@ not_turned plan t pre r k h =
 rows_push : (t : ℕ) (pre : List Row) (r : Row) (b : Bool) → (r.tick == t) ≡ b → rows_in t (pre ++ r ∷ []) ≡ rows_in t pre ++ cond b (r ∷ []) []
 rows_push t pre r b e = filter-append (λ w. w.tick == t) pre (r ∷ []) ∙ ap (λ c. rows_in t pre ++ cond c (r ∷ []) []) e
 
+-- of the row's own tick
 pub rows_same : (t : ℕ) (pre : List Row) (r : Row) → r.tick ≡ t → rows_in t (pre ++ r ∷ []) ≡ rows_in t pre ++ r ∷ []
 rows_same t pre r e = rows_push t pre r true (eq-eqb r.tick t e)
 
+-- of a later tick
 rows_later : (t u : ℕ) (pre : List Row) (r : Row) → r.tick ≡ t → t < u → rows_in u pre ≡ [] → rows_in u (pre ++ r ∷ []) ≡ []
 rows_later t u pre r e l h = rows_push u pre r false (false_from_ne_true (r.tick == u) (λ s. let k = eqb-true r.tick u s in absurd (omega (arith, k, e, l)))) ∙ (append-nil (rows_in u pre) ∙ h)
 
+-- which cores have had their turn
 pub turned_push : (t : ℕ) (pre : List Row) (r : Row) (e : ℕ) → r.tick ≡ t → turned t (pre ++ r ∷ []) e ≡ turned t pre e || (r.core.0 == e)
 turned_push t pre r e h = ap (list_any (λ w. w.core.0 == e)) (rows_same t pre r h) ∙ any_push (λ w. w.core.0 == e) (rows_in t pre) r
 
+-- a core that has had no turn is none of the rows' cores
 none_is : (n : ℕ) (ws : List Row) → list_any (λ w. w.core.0 == n) ws ≡ false → AllByRecursion (λ w. core_of_row w ≢ n) ws
 none_is n [] h = tt
 none_is n (w ∷ ws) h =
@@ -78,6 +84,7 @@ others_in : (m n : ℕ) (ws : List Row) → AllByRecursion (λ w. core_of_row w 
 others_in m n [] a b = tt
 others_in m n (w ∷ ws) a b = (has_without n w.core.0 (range_with_len 0 m) (λ e. b.0 (sym e)) (has_range w.core.0 m a.0), others_in m n ws a.1 b.1)
 
+-- so no core is missing
 pub full : (m n : ℕ) (ws : List Row) → n < m → m ≤ length ws → ApartBy core_of_row ws → AllByRecursion (λ w. core_of_row w < m) ws → list_any (λ w. w.core.0 == n) ws ≡ true
 full m n ws l long apart cores =
     true_from_ne_false (list_any (λ w. w.core.0 == n) ws) (λ e.
@@ -96,6 +103,7 @@ next_tick t m = grind arith
 abbrev pub IsFull : PlanModel → ℕ → List Row → Type 0
 IsFull plan t pre = (n : ℕ) → n < plan.cores → turned t pre n ≡ true
 
+-- one row more stands in the tick, or ends it and the next one begins
 pub tick_push : (plan : PlanModel) (t : ℕ) (pre : List Row) (r : Row) → IsTick plan t pre → IsLegal plan pre r → IsTick plan t (pre ++ r ∷ []) ⊎ (IsTick plan (t + 1) (pre ++ r ∷ []) × IsFull plan t (pre ++ r ∷ []) × (rows_in (t + 1) (pre ++ r ∷ []) ≡ []))
 tick_push plan t pre r k h =
     let e = row_tick plan t pre r k h in
