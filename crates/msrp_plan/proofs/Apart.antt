@@ -25,6 +25,7 @@ abbrev pub without : ℕ → List ℕ → List ℕ
 without n [] = []
 without n (d ∷ ds) = cond (n == d) ds (d ∷ without n ds)
 
+-- by whether the first number is the one
 sum_cases : (w : ℕ → ℕ) (n d : ℕ) (ds : List ℕ) (b : Bool) → (n == d) ≡ b → (b || has n ds) ≡ true → (has n ds ≡ true → sum_by w ds ≡ w n + sum_by w (without n ds)) → w d + sum_by w ds ≡ w n + sum_by w (cond b ds (d ∷ without n ds))
 sum_cases w n d ds true e h ih = ap (λ k. w k + sum_by w ds) (sym (eqb-true n d e))
 sum_cases w n d ds false e h ih = let k = ih h in let c = sum_by-cons w d (without n ds) in omega (arith, k, c)
@@ -34,6 +35,7 @@ pub sum_without : (w : ℕ → ℕ) (n : ℕ) (ds : List ℕ) → has n ds ≡ t
 sum_without w n [] h = absurd (cc)
 sum_without w n (d ∷ ds) h = sum_by-cons w d ds ∙ sum_cases w n d ds (n == d) refl h (sum_without w n ds)
 
+-- by whether the first number is the one, or the other
 has_cases : (n k d : ℕ) (ds : List ℕ) (b c : Bool) → (n == d) ≡ b → (k == d) ≡ c → n ≢ k → (c || has k ds) ≡ true → (has k ds ≡ true → has k (without n ds) ≡ true) → has k (cond b ds (d ∷ without n ds)) ≡ true
 has_cases n k d ds true true e f ne h ih = absurd (ne (eqb-true n d e ∙ sym (eqb-true k d f)))
 has_cases n k d ds true false e f ne h ih = h
@@ -45,6 +47,7 @@ pub has_without : (n k : ℕ) (ds : List ℕ) → n ≢ k → has k ds ≡ true 
 has_without n k [] ne h = absurd (cc)
 has_without n k (d ∷ ds) ne h = has_cases n k d ds (n == d) (k == d) refl refl ne h (has_without n k ds ne)
 
+-- numbers of other elements are still there
 all_without : {X : Type 0} (f : X → ℕ) (n : ℕ) (xs : List X) (ds : List ℕ) → AllByRecursion (λ y. n ≢ f y) xs → AllByRecursion (λ y. has (f y) ds ≡ true) xs → AllByRecursion (λ y. has (f y) (without n ds) ≡ true) xs
 all_without f n [] ds a h = tt
 all_without f n (x ∷ xs) ds a h = (has_without n (f x) ds a.0 h.0, all_without f n xs ds a.1 h.1)
@@ -59,6 +62,7 @@ fits f w (x ∷ xs) ds a h =
     let k = sum_by-cons (λ z. w (f z)) x xs in
     omega (arith, ih, e, k)
 
+-- the sum of ones is the length
 pub sum_ones : {X : Type 0} (xs : List X) → sum_by (λ _. 1) xs ≡ length xs
 sum_ones [] = refl
 sum_ones (x ∷ xs) = let k = sum_by-cons (λ _. 1) x xs in let ih = sum_ones xs in omega (arith, k, ih)

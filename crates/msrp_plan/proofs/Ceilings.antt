@@ -15,6 +15,7 @@ use Rattle.msrp_plan.proofs.LeastKept.{greatest_above}
 pub in_resources : (plan : PlanModel) (g : ℕ) → g < length plan.resources → Contains (resources plan) g
 in_resources plan g l = in_range g (length plan.resources) l
 
+-- what a job of the core holds is held on the core
 pub held_on : (plan : PlanModel) (c g : ℕ) (pre : List Row) (j : JobId) → Contains (jobs_on plan c) j → holds plan pre g j ≡ true → is_held_on plan c pre g ≡ true
 held_on plan c g pre j there held = any_in (holds plan pre g) (jobs_on plan c) j there held
 
@@ -47,5 +48,6 @@ holder_raises plan c g pre j glob named there held =
     let some : list_any (λ h. is_global plan h && is_held_on plan c pre h) (resources plan) ≡ true = any_in (λ h. is_global plan h && is_held_on plan c pre h) (resources plan) g named (ap (λ b. b && is_held_on plan c pre g) glob ∙ held_on plan c g pre j there held) in
     ap (λ b. list_any (is_queued pre) (jobs_on plan c) || b) some ∙ or-true (list_any (is_queued pre) (jobs_on plan c))
 
+-- a job of the core that is queued raises it
 pub queued_raises : (plan : PlanModel) (c : ℕ) (pre : List Row) (j : JobId) → Contains (jobs_on plan c) j → is_queued pre j ≡ true → is_raised plan c pre ≡ true
 queued_raises plan c pre j there q = ap (λ b. b || list_any (λ h. is_global plan h && is_held_on plan c pre h) (resources plan)) (any_in (is_queued pre) (jobs_on plan c) j there q)

@@ -28,6 +28,7 @@ kind_of false queued free first (LockUnit h) = Lock
 kind_of true queued free first (UnlockUnit h) = Release
 kind_of false queued free first (UnlockUnit h) = Unlock
 
+-- by the unit and the kind
 kind_is : (global queued : Bool) (op : Op) (kind : Kind) (q : List JobId) (j : Option JobId) → allows global queued op kind ≡ true → replies q j kind ≡ true → kind ≡ kind_of global queued (is_free q) (is_first q j) op
 kind_is global queued RunUnit Run q j e a = refl
 kind_is false queued (LockUnit h) Lock q j e a = refl
@@ -39,6 +40,7 @@ kind_is true true (LockUnit h) Spin q j e a = let k = and_parts (list_any (is_jo
 kind_is true queued (UnlockUnit h) Release q j e a = refl
 kind_is _ _ _ _ q j e a = absurd (cc)
 
+-- a unit of work allows one kind whatever the queue
 run_is : (global queued : Bool) (kind : Kind) → allows global queued RunUnit kind ≡ true → kind ≡ Run
 run_is global queued Run e = refl
 run_is _ _ _ e = absurd (cc)
@@ -49,14 +51,17 @@ queue_of pre RunUnit = []
 queue_of pre (LockUnit g) = fifo g.0 pre
 queue_of pre (UnlockUnit g) = fifo g.0 pre
 
+-- the kind of the row in which the job does the unit
 abbrev kind_at : PlanModel → List Row → JobId → Op → Option JobId → Kind
 kind_at plan pre x op j = kind_of (is_global_unit plan op) (is_queued pre x) (is_free (queue_of pre op)) (is_first (queue_of pre op) j) op
 
+-- each legal row is of it
 row_kind : (plan : PlanModel) (pre : List Row) (x : JobId) (op : Op) (r : Row) → IsLegal plan pre r → r.res ≡ res_of_unit op → allows (is_global_unit plan op) (is_queued pre x) op r.kind ≡ true → r.kind ≡ kind_at plan pre x op r.job
 row_kind plan pre x RunUnit r h e a = run_is false (is_queued pre x) r.kind a
 row_kind plan pre x (LockUnit g) r h e a = kind_is (is_global_unit plan (LockUnit g)) (is_queued pre x) (LockUnit g) r.kind (fifo g.0 pre) r.job a (legal_reply plan pre r g h e)
 row_kind plan pre x (UnlockUnit g) r h e a = kind_is (is_global_unit plan (UnlockUnit g)) (is_queued pre x) (UnlockUnit g) r.kind (fifo g.0 pre) r.job a (legal_reply plan pre r g h e)
 
+-- a place has one unit
 same_unit : (a b : Op) → Some a ≡ Some b → a ≡ b
 same_unit a b h = cc
 
@@ -74,6 +79,7 @@ same_actions plan pre r s (Some x) jr js h k =
     let ks = row_kind plan pre x b.op s k b.res b.kind in
     (kr ∙ (ap (kind_at plan pre x a.op) (jr ∙ sym js) ∙ (ap (λ op. kind_at plan pre x op s.job) e ∙ sym ks)), a.res ∙ (ap res_of_unit e ∙ sym b.res))
 
+-- a core by its number
 abbrev core_at : ℕ → CoreId
 core_at n = record { 0 = n }
 
@@ -88,12 +94,15 @@ same_step plan pre r s c h k =
     let res : r.res ≡ s.res = rest.1 in
     same_row r s (cc)
 
+-- equal lists begin alike and go on alike
 heads : (a b : ℕ) (xs ys : List ℕ) → a ∷ xs ≡ b ∷ ys → (a ≡ b) × (xs ≡ ys)
 heads a b xs ys h = (cc, cc)
 
+-- an empty list equals no longer one
 no_cons : (a : ℕ) (xs : List ℕ) → [] ≡ a ∷ xs → ⊥
 no_cons a xs h = cc
 
+-- row by row
 same_from : (plan : PlanModel) (pre xs ys : List Row) → EachAfter (IsLegal plan) pre xs → EachAfter (IsLegal plan) pre ys → core_order xs ≡ core_order ys → xs ≡ ys
 same_from plan pre [] [] h k e = refl
 same_from plan pre [] (y ∷ ys) h k e = absurd (no_cons y.core.0 (core_order ys) e)

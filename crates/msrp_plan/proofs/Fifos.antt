@@ -14,6 +14,7 @@ use Rattle.msrp_plan.proofs.JobTests.{same_is, same_self}
 abbrev pub released : ℕ → List Row → ℕ
 released g pre = count_by (is_release_of g) pre
 
+-- the jobs that requested it, in order
 abbrev pub requested : ℕ → List Row → List JobId
 requested g pre = filter_map (requester g) pre
 
@@ -21,6 +22,7 @@ requested g pre = filter_map (requester g) pre
 abbrev pub IsFed : ℕ → List Row → Type 0
 IsFed g pre = released g pre ≤ length (requested g pre)
 
+-- the releases after one row more
 released_push : (g : ℕ) (pre : List Row) (r : Row) (b : Bool) → is_release_of g r ≡ b → released g (pre ++ r ∷ []) ≡ released g pre + cond b 1 0
 released_push g pre r b e = sum_by_push (λ w. cond (is_release_of g w) 1 0) pre r ∙ ap (λ c. released g pre + cond c 1 0) e
 
@@ -32,12 +34,15 @@ not_releasing g r k e n = any_place (is_on g r.res)
     any_place true = ap is_release e ∙ n
     any_place false = refl
 
+-- a release of it is one
 pub releasing : (g : ℕ) (r : Row) (k : Kind) → is_on g r.res ≡ true → r.kind ≡ k → is_release k ≡ true → is_release_of g r ≡ true
 releasing g r k on e n = ap (λ c. c && is_release r.kind) on ∙ (ap is_release e ∙ n)
 
+-- a row that requests it tells who
 pub requesting : (g : ℕ) (r : Row) (x : JobId) (k : Kind) → is_on g r.res ≡ true → r.kind ≡ k → is_request k ≡ true → r.job ≡ Some x → requester g r ≡ Some x
 requesting g r x k on e n j = ap (λ c. cond (c && is_request r.kind) r.job None) on ∙ (ap (λ c. cond c r.job None) (ap is_request e ∙ n) ∙ j)
 
+-- a row that is no request of it tells nobody
 pub not_requesting : (g : ℕ) (r : Row) (k : Kind) → is_on g r.res ≡ true → r.kind ≡ k → is_request k ≡ false → requester g r ≡ None
 not_requesting g r k on e n = ap (λ c. cond (c && is_request r.kind) r.job None) on ∙ ap (λ c. cond c r.job None) (ap is_request e ∙ n)
 
@@ -45,9 +50,11 @@ not_requesting g r k on e n = ap (λ c. cond (c && is_request r.kind) r.job None
 no_release : (g : ℕ) (pre : List Row) (r : Row) → is_release_of g r ≡ false → released g (pre ++ r ∷ []) ≡ released g pre
 no_release g pre r e = let k : released g (pre ++ r ∷ []) ≡ released g pre + 0 = released_push g pre r false e in omega (arith, k)
 
+-- no request more
 requested_same : (g : ℕ) (pre : List Row) (r : Row) → requester g r ≡ None → requested g (pre ++ r ∷ []) ≡ requested g pre
 requested_same g pre r e = filter_map-append (requester g) pre (r ∷ []) ∙ (ap (λ o. requested g pre ++ cons_option o []) e ∙ append-nil (requested g pre))
 
+-- one request more
 requested_more : (g : ℕ) (pre : List Row) (r : Row) (x : JobId) → requester g r ≡ Some x → requested g (pre ++ r ∷ []) ≡ requested g pre ++ x ∷ []
 requested_more g pre r x e = filter_map-append (requester g) pre (r ∷ []) ∙ ap (λ o. requested g pre ++ cons_option o []) e
 
@@ -59,10 +66,12 @@ fifo_same g pre r a b = ap (λ m. drop m (requested g (pre ++ r ∷ []))) (no_re
 pub fifo_off : (g : ℕ) (pre : List Row) (r : Row) → is_on g r.res ≡ false → fifo g (pre ++ r ∷ []) ≡ fifo g pre
 fifo_off g pre r e = fifo_same g pre r (ap (λ c. c && is_release r.kind) e) (ap (λ c. cond (c && is_request r.kind) r.job None) e)
 
+-- who requests it joins the end
 pub fifo_request : (g : ℕ) (pre : List Row) (r : Row) (x : JobId) → IsFed g pre → is_release_of g r ≡ false → requester g r ≡ Some x → fifo g (pre ++ r ∷ []) ≡ fifo g pre ++ x ∷ []
 fifo_request g pre r x fed a b =
     ap (λ m. drop m (requested g (pre ++ r ∷ []))) (no_release g pre r a) ∙ (ap (drop (released g pre)) (requested_more g pre r x b) ∙ drop-append-le (released g pre) (requested g pre) (x ∷ []) fed)
 
+-- a release takes the front away
 pub fifo_release : (g : ℕ) (pre : List Row) (r : Row) → is_release_of g r ≡ true → requester g r ≡ None → fifo g (pre ++ r ∷ []) ≡ drop 1 (fifo g pre)
 fifo_release g pre r a b =
     ap (λ m. drop m (requested g (pre ++ r ∷ []))) (released_push g pre r true a) ∙ (ap (drop (released g pre + 1)) (requested_same g pre r b) ∙ sym (drop-drop 1 (released g pre) (requested g pre)))
@@ -71,10 +80,12 @@ fifo_release g pre r a b =
 longer : (g : ℕ) (pre : List Row) (r : Row) → length (requested g pre) ≤ length (requested g (pre ++ r ∷ []))
 longer g pre r = let e = ap length (filter_map-append (requester g) pre (r ∷ [])) ∙ length-append (requested g pre) (filter_map (requester g) (r ∷ [])) in omega (arith, e)
 
+-- a queue that is not empty has somebody
 queue_left : (f : List JobId) → is_free f ≡ false → 0 < length f
 queue_left [] h = absurd (cc)
 queue_left (x ∷ f) h = omega arith
 
+-- by whether the row releases it
 fed_cases : (g : ℕ) (pre : List Row) (r : Row) (b : Bool) → released g (pre ++ r ∷ []) ≡ released g pre + cond b 1 0 → IsFed g pre → (b ≡ true → is_free (fifo g pre) ≡ false) → IsFed g (pre ++ r ∷ [])
 fed_cases g pre r false m fed h = let l = longer g pre r in let k : released g (pre ++ r ∷ []) ≡ released g pre + 0 = m in omega (arith, k, l, fed)
 fed_cases g pre r true m fed h =
@@ -84,6 +95,7 @@ fed_cases g pre r true m fed h =
     let d : length (fifo g pre) ≡ _ = length-drop (released g pre) (requested g pre) in
     omega (arith, k, l, fed, q, d)
 
+-- a release finds somebody in the queue, so releases stay within requests
 pub fed_push : (g : ℕ) (pre : List Row) (r : Row) → IsFed g pre → (is_release_of g r ≡ true → is_free (fifo g pre) ≡ false) → IsFed g (pre ++ r ∷ [])
 fed_push g pre r fed h = fed_cases g pre r (is_release_of g r) (released_push g pre r (is_release_of g r) refl) fed h
 
@@ -103,6 +115,7 @@ pub first_none : (f : List JobId) (j : Option JobId) → is_free f ≡ true → 
 first_none [] j e h = cc
 first_none (i ∷ f) j e h = cc
 
+-- where somebody stands there it is not free
 pub first_some : (f : List JobId) (j : Option JobId) → is_first f j ≡ true → is_free f ≡ false
 first_some [] j h = absurd (cc)
 first_some (i ∷ f) j h = refl

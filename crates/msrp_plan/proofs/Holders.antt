@@ -5,15 +5,15 @@ use Rattle.msrp_plan.specs.Plan.{PlanModel}
 use Rattle.msrp_plan.specs.Jobs.{is_row_of}
 use Rattle.msrp_plan.specs.Levels.{is_global}
 use Rattle.msrp_plan.specs.Queues.{fifo, is_free, is_first, is_release_of, is_release}
-use Rattle.msrp_plan.specs.Runs.{IsLegal, IsRunStart, EachAfter}
-use Rattle.msrp_plan.specs.Laws.{MutualExclusion}
+use Rattle.msrp_plan.specs.Runs.{IsLegal, EachAfter}
+use Rattle.msrp_plan.specs.Laws.{IsHeldByOne}
 use Rattle.msrp_plan.specs.WellFormed.{IsPlan}
 use Rattle.msrp_plan.specs.declared.ids.JobId.{JobId}
 use Rattle.msrp_plan.specs.declared.rows.Kind.{Kind}
 use Rattle.msrp_plan.specs.declared.rows.Kind.TheVariants.{Take, Queue, Spin, Grant, Release}
 use Rattle.msrp_plan.specs.declared.rows.Row.{Row}
 use Rattle.msrp_plan.proofs.JobTests.{row_of_job}
-use Rattle.msrp_plan.proofs.Prefixes.{along, each_before}
+use Rattle.msrp_plan.proofs.Prefixes.{along}
 use Rattle.msrp_plan.proofs.Stands.{Stand, Out, Waits, Holds, stand, holder_stands}
 use Rattle.msrp_plan.proofs.Fifos.{IsFed, not_releasing, fed_push, first_same, first_push, first_none, first_some, first_alone}
 use Rattle.msrp_plan.proofs.Effects.{IsMove, Effect, Quiet, Took, Joined, Got, Spun, Left, mover_is, effect}
@@ -39,6 +39,7 @@ front e j h = ap (λ z. is_first z (Some j)) e ∙ h
 fed_kept : (g : ℕ) (pre : List Row) (r : Row) → IsFed g pre → is_release_of g r ≡ false → IsFed g (pre ++ r ∷ [])
 fed_kept g pre r fed e = fed_push g pre r fed (λ h. absurd (true≢false (sym h ∙ e)))
 
+-- each effect keeps it
 pub orderly_by : (plan : PlanModel) (g : ℕ) (pre : List Row) (r : Row) → IsOrderly plan g pre → Effect plan g pre r → IsOrderly plan g (pre ++ r ∷ [])
 orderly_by plan g pre r old e =
     let First : JobId → Type 0 = λ i. is_first (fifo g (pre ++ r ∷ [])) (Some i) ≡ true in
@@ -76,20 +77,23 @@ orderly_by plan g pre r old e =
       }
     ]
 
+-- so each legal row keeps it
 pub orderly_push : (plan : PlanModel) (g : ℕ) → IsPlan plan → is_global plan g ≡ true → (pre : List Row) (r : Row) → IsOrderly plan g pre → IsLegal plan pre r → IsOrderly plan g (pre ++ r ∷ [])
 orderly_push plan g ok glob pre r old h = orderly_by plan g pre r old (effect plan g pre r ok glob old.fed h)
 
+-- it holds before the first row
 pub orderly_none : (plan : PlanModel) (g : ℕ) → IsOrderly plan g []
 orderly_none plan g = record { fed = omega arith; first = λ j h. absurd (none_holds j h) }
   where
     none_holds : (j : JobId) → stand plan g [] j ≡ Holds → ⊥
     none_holds j h = cc
 
+-- so it holds at each place
 pub orderly_at : (plan : PlanModel) (g : ℕ) (pre : List Row) → IsPlan plan → is_global plan g ≡ true → EachAfter (IsLegal plan) [] pre → IsOrderly plan g pre
 orderly_at plan g pre ok glob all = along (IsOrderly plan g) (IsLegal plan) (orderly_push plan g ok glob) [] pre (orderly_none plan g) all
 
--- two holders are one
-pub mutual_exclusion : (plan : PlanModel) (rows : List Row) → IsPlan plan → IsRunStart plan rows → MutualExclusion plan rows
-mutual_exclusion plan rows ok run = λ pre post g e glob i j hi hj.
-    let o = orderly_at plan g pre ok glob (each_before (IsLegal plan) [] pre post (subst (EachAfter (IsLegal plan) []) e run.each)) in
+-- so at most one job holds it
+pub global_holder : (plan : PlanModel) (g : ℕ) (pre : List Row) → IsPlan plan → is_global plan g ≡ true → EachAfter (IsLegal plan) [] pre → IsHeldByOne plan pre g
+global_holder plan g pre ok glob all = λ i j hi hj.
+    let o = orderly_at plan g pre ok glob all in
     first_same (fifo g pre) i j (o.first i (holder_stands plan g pre i hi)) (o.first j (holder_stands plan g pre j hj))

@@ -9,20 +9,25 @@ use Rattle.msrp_plan.specs.Plan.{PlanModel, key}
 use Rattle.msrp_plan.specs.Choice.{is_before, key_cmp}
 use Rattle.msrp_plan.specs.declared.ids.JobId.{JobId}
 
+-- the comparison of keys is total
 pub key_total : IsTotalOrder key_cmp
 key_total = then_total (on_total (λ k. k.deadline) nat_cmp_total) (then_total (on_total (λ k. k.release) nat_cmp_total) (then_total (on_total (λ k. k.task) nat_cmp_total) (on_total (λ k. k.k) nat_cmp_total)))
 
+-- so the order of jobs is a strict order
 pub before_order : (plan : PlanModel) → IsStrictWeakOrder (is_before plan)
 before_order plan = ranks_by key_total (key plan)
 
+-- two comparisons in turn are equal where both are
 then_equal : (a b : Ordering) → ordering_then a b ≡ Equal → (a ≡ Equal) × (b ≡ Equal)
 then_equal Less b h = absurd (cc)
 then_equal Equal b h = (refl, h)
 then_equal Greater b h = absurd (cc)
 
+-- numbers that compare equal are one
 nat_equal : (x y : ℕ) → nat_cmp x y ≡ Equal → x ≡ y
 nat_equal x y h = let k = ranked x y Equal (sym h) in k
 
+-- what is less in neither direction is equal
 neither : (a b : Ordering) → a ≡ ordering_reverse b → is_lt a ≡ false → is_lt b ≡ false → a ≡ Equal
 neither Less b r h k = absurd (cc)
 neither Equal b r h k = refl
@@ -30,6 +35,7 @@ neither Greater Less r h k = absurd (cc)
 neither Greater Equal r h k = absurd (cc)
 neither Greater Greater r h k = absurd (cc)
 
+-- a job is its task and its number
 same_parts : (i j : JobId) → i.task.0 ≡ j.task.0 → i.k ≡ j.k → i ≡ j
 same_parts i j t n = let mk : ℕ → ℕ → JobId = λ a b. record { task = record { 0 = a }; k = b } in ap (λ x. mk x i.k) t ∙ ap (λ m. mk j.task.0 m) n
 

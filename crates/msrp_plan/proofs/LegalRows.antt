@@ -25,12 +25,14 @@ same_res_is (Some a) (Some b) h = let mk : ℕ → ResId = λ n. record { 0 = n 
 same_res_is None (Some b) h = absurd (cc)
 same_res_is (Some a) None h = absurd (cc)
 
+-- choices that pass the test are equal
 pub same_choice_is : (a b : Option JobId) → same_choice a b ≡ true → a ≡ b
 same_choice_is None None h = refl
 same_choice_is (Some i) (Some j) h = ap (λ k. Some k) (same_is i j h)
 same_choice_is None (Some j) h = absurd (cc)
 same_choice_is (Some i) None h = absurd (cc)
 
+-- a kind that passes the test is idle
 idle_is : (k : Kind) → is_idle k ≡ true → k ≡ Idle
 idle_is Idle h = refl
 idle_is _ h = absurd (cc)
@@ -51,6 +53,7 @@ pub record IsDue (plan : PlanModel) (pre : List Row) (r : Row) : Type 0 where
   pub core : r.core.0 < plan.cores
   pub once : had_turn r.core.0 r.tick pre ≡ false
 
+-- the test says just that
 pub due : (plan : PlanModel) (pre : List Row) (r : Row) → is_in_turn plan pre r ≡ true → IsDue plan pre r
 due plan pre r h =
     let a = and_parts (r.tick == length pre / plan.cores) (nat_lt r.core.0 plan.cores && not (had_turn r.core.0 r.tick pre)) h in
@@ -64,6 +67,7 @@ pub record DoesUnit (plan : PlanModel) (pre : List Row) (j : JobId) (r : Row) : 
   pub res : r.res ≡ res_of_unit op
   pub kind : allows (is_global_unit plan op) (is_queued pre j) op r.kind ≡ true
 
+-- by the unit that stands at the place that the job has reached
 does_it : (plan : PlanModel) (pre : List Row) (j : JobId) (r : Row) (o : Option Op) → slice_get (units plan j) (done j pre) ≡ o → does_unit plan pre j r o ≡ true → DoesUnit plan pre j r
 does_it plan pre j r None e h = absurd (cc)
 does_it plan pre j r (Some u) e h =
@@ -80,6 +84,7 @@ pub record IsTurn (plan : PlanModel) (pre : List Row) (r : Row) : Type 0 where
   pub idle : r.job ≡ None → r.kind ≡ Idle
   pub does : (j : JobId) → r.job ≡ Some j → DoesUnit plan pre j r
 
+-- the three tests say just that
 pub turn_of : (plan : PlanModel) (pre : List Row) (r : Row) → is_of_core plan r ≡ true → is_chosen plan pre r ≡ true → is_next_action plan pre r ≡ true → IsTurn plan pre r
 turn_of plan pre r own chosen action = record {
   known = λ j e. job_on_core plan r.core.0 r.job j own e;
@@ -88,9 +93,11 @@ turn_of plan pre r own chosen action = record {
   does = λ j e. does_it plan pre j r (slice_get (units plan j) (done j pre)) refl (subst (λ o. does_next plan pre o r ≡ true) e action);
 }
 
+-- a legal row is a turn of its core
 pub legal_turn : (plan : PlanModel) (pre : List Row) (r : Row) → IsLegal plan pre r → IsTurn plan pre r
 legal_turn plan pre r h = turn_of plan pre r h.own h.chosen h.action
 
+-- and it is due
 pub legal_due : (plan : PlanModel) (pre : List Row) (r : Row) → IsLegal plan pre r → IsDue plan pre r
 legal_due plan pre r h = due plan pre r h.turn
 

@@ -26,10 +26,12 @@ pub mod Live
 pub mod Turns
 pub mod OwnTurns
 pub mod Apart
+pub mod Ticks
 pub mod QueueMembers
 pub mod Overtaking
 pub mod Users
 pub mod LocalLocks
+pub mod Exclusion
 pub mod Verdicts
 pub mod ReplyLocality
 pub mod Nesting

@@ -19,15 +19,21 @@ use Rattle.msrp_plan.proofs.States.{state_kept}
 use Rattle.msrp_plan.proofs.PlanUnits.{units_balance}
 use Rattle.msrp_plan.proofs.Stands.{locks_at, IsUp, up_cases}
 
+-- started and unfinished
 abbrev pub is_live : PlanModel → List Row → JobId → Bool
 is_live plan pre j = is_started pre j && not (is_finished plan pre j)
 
+-- by its two parts
 pub live : (plan : PlanModel) (pre : List Row) (j : JobId) → is_started pre j ≡ true → is_finished plan pre j ≡ false → is_live plan pre j ≡ true
 live plan pre j s f = ap (λ b. b && not (is_finished plan pre j)) s ∙ ap not f
 
--- a row of another job, or of none, leaves it
+-- a row of another job, or of none, leaves it, and what the job holds
 pub live_kept : (plan : PlanModel) (pre : List Row) (r : Row) (j : JobId) → is_row_of j r ≡ false → is_live plan (pre ++ r ∷ []) j ≡ is_live plan pre j
 live_kept plan pre r j e = ap (λ (s : JobState). s.started && not (s.done == length (units plan j))) (state_kept pre r j e)
+
+-- and so does what it holds stay
+pub holds_kept : (plan : PlanModel) (pre : List Row) (r : Row) (g : ℕ) (j : JobId) → is_row_of j r ≡ false → holds plan (pre ++ r ∷ []) g j ≡ holds plan pre g j
+holds_kept plan pre r g j e = ap (λ (s : JobState). holds_after (take s.done (units plan j)) g) (state_kept pre r j e)
 
 -- ---- a job with no row has done nothing, and doesn't wait
 nothing_done : (pre : List Row) (j : JobId) → is_started pre j ≡ false → done j pre ≡ 0
@@ -38,6 +44,7 @@ pub holder_started : (plan : PlanModel) (pre : List Row) (g : ℕ) (j : JobId) �
 holder_started plan pre g j h =
     true_from_ne_false (is_started pre j) (λ e. true≢false (sym h ∙ ap (λ n. holds_after (take n (units plan j)) g) (nothing_done pre j e)))
 
+-- whoever has done all units has unlocked what it locked
 pub holder_unfinished : (plan : PlanModel) (pre : List Row) (g : ℕ) (j : JobId) → IsPlan plan → holds plan pre g j ≡ true → is_finished plan pre j ≡ false
 holder_unfinished plan pre g j ok h = false_from_ne_true (is_finished plan pre j) (λ e. true≢false (sym h ∙ all_unlocked e))
   where
@@ -48,6 +55,7 @@ holder_unfinished plan pre g j ok h = false_from_ne_true (is_finished plan pre j
         let b = units_balance plan ok j.task.0 g in
         ap (λ us. holds_after us g) t ∙ le-ltb (unlocks g (units plan j)) (locks g (units plan j)) (omega (arith, b))
 
+-- both
 pub holder_live : (plan : PlanModel) (pre : List Row) (g : ℕ) (j : JobId) → IsPlan plan → holds plan pre g j ≡ true → is_live plan pre j ≡ true
 holder_live plan pre g j ok h = live plan pre j (holder_started plan pre g j h) (holder_unfinished plan pre g j ok h)
 
@@ -55,10 +63,12 @@ holder_live plan pre g j ok h = live plan pre j (holder_started plan pre g j h) 
 pub queued_started : (pre : List Row) (j : JobId) → is_queued pre j ≡ true → is_started pre j ≡ true
 queued_started pre j q = true_from_ne_false (is_started pre j) (λ e. true≢false (sym q ∙ ap (fold (λ _ r. is_waiting r.kind) false) (none_kept (is_row_of j) (is_row_of j) (λ r h. h) pre e)))
 
+-- a lock is a unit
 some_unit : (g : ℕ) (o : Option Op) → locks_at g o ≡ true → (op : Op) × (o ≡ Some op)
 some_unit g None h = absurd (cc)
 some_unit g (Some op) h = (op, refl)
 
+-- whoever holds a resource or waits for one is live
 pub up_live : (plan : PlanModel) (g : ℕ) (pre : List Row) (j : JobId) → IsPlan plan → IsUp plan g pre j → is_live plan pre j ≡ true
 up_live plan g pre j ok up =
     elim (up_cases plan g pre j up) [

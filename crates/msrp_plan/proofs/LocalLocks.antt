@@ -1,10 +1,9 @@
 -- No local blocking: a started, unfinished job is above the ceiling of every local resource that a later job holds.
-use Rattle.std.proofs.Common.{◌≡◌, ◌≢◌, ℕ, ◌<◌, ◌≤◌, Bool, true, false, ◌==◌, List, [], ◌∷◌, ◌++◌, Option, Some, None, refl, ap, sym, ◌∙◌, subst, arith, length, take, slice_get, inl, inr}
+use Rattle.std.proofs.Common.{◌≡◌, ◌≢◌, ℕ, ◌<◌, ◌≤◌, Bool, true, false, ◌==◌, List, [], ◌∷◌, ◌++◌, Option, Some, None, refl, ap, sym, ◌∙◌, subst, arith, length, slice_get, inl, inr}
 use Rattle.std.specs.List.{Contains}
 use Rattle.std.proofs.Math.Bool.{true≢false}
 use Rattle.std.proofs.lemmas.Bool.{false_from_ne_true}
 use Rattle.msrp_plan.specs.Plan.{PlanModel, task_of, core_of, units}
-use Rattle.msrp_plan.specs.Units.{holds_after}
 use Rattle.msrp_plan.specs.Jobs.{jobs_on, is_row_of, is_started, is_finished, is_queued, holds, done}
 use Rattle.msrp_plan.specs.Levels.{is_global, local_ceiling, level}
 use Rattle.msrp_plan.specs.Ceiling.{resources}
@@ -26,7 +25,7 @@ use Rattle.msrp_plan.proofs.States.{state_kept}
 use Rattle.msrp_plan.proofs.PlanUnits.{units_lock}
 use Rattle.msrp_plan.proofs.UnitKinds.{Runs, Locks, Unlocks, Takes, Queues, Grants, Spins, Releases, step_of}
 use Rattle.msrp_plan.proofs.Users.{lock_uses, holder_uses, user_in, local_core}
-use Rattle.msrp_plan.proofs.Live.{is_live, live, live_kept, holder_started, holder_live}
+use Rattle.msrp_plan.proofs.Live.{is_live, live, live_kept, holds_kept, holder_started, holder_live}
 use Rattle.msrp_plan.proofs.Ceilings.{in_resources, ceiling_above, user_below}
 use Rattle.msrp_plan.proofs.Turns.{has_turn, runs_live, runs_least, later_waits}
 use Rattle.msrp_plan.proofs.CoreJobs.{on_its_core}
@@ -36,13 +35,16 @@ use Rattle.msrp_plan.proofs.LegalRows.{IsTurn, DoesUnit, legal_turn, turn_core, 
 abbrev pub AreKnown : PlanModel → List Row → Type 0
 AreKnown plan pre = (j : JobId) → is_started pre j ≡ true → Contains (jobs_on plan (core_of plan j)) j
 
+-- by whose row it is
 known_cases : (plan : PlanModel) (pre : List Row) (r : Row) (j : JobId) (b : Bool) → is_row_of j r ≡ b → AreKnown plan pre → IsTurn plan pre r → is_started (pre ++ r ∷ []) j ≡ true → Contains (jobs_on plan (core_of plan j)) j
 known_cases plan pre r j true e old turn h = let job = is_job_is r.job j e in subst (λ n. Contains (jobs_on plan n) j) (sym (turn_core plan pre r j turn job)) (turn.known j job)
 known_cases plan pre r j false e old turn h = old j (sym (ap (λ (s : JobState). s.started) (state_kept pre r j e)) ∙ h)
 
+-- each turn keeps it
 pub known_push : (plan : PlanModel) (pre : List Row) (r : Row) → AreKnown plan pre → IsTurn plan pre r → AreKnown plan (pre ++ r ∷ [])
 known_push plan pre r old turn = λ j. known_cases plan pre r j (is_row_of j r) refl old turn
 
+-- it holds before the first row
 pub known_none : (plan : PlanModel) → AreKnown plan []
 known_none plan = λ j h. absurd (true≢false (sym h))
 
@@ -52,13 +54,11 @@ IsGuarded plan c pre =
     (i j : JobId) (g : ℕ) → Contains (jobs_on plan c) i → Contains (jobs_on plan c) j → Contains (resources plan) g → is_global plan g ≡ false → i ≢ j
     → is_live plan pre i ≡ true → is_before plan j i ≡ false → holds plan pre g j ≡ true → local_ceiling plan g < level plan i.task.0
 
-holds_kept : (plan : PlanModel) (pre : List Row) (r : Row) (g : ℕ) (j : JobId) → is_row_of j r ≡ false → holds plan (pre ++ r ∷ []) g j ≡ holds plan pre g j
-holds_kept plan pre r g j e = ap (λ (s : JobState). holds_after (take s.done (units plan j)) g) (state_kept pre r j e)
-
 -- the row of a job of the core is a turn of the core
 turn_on : (plan : PlanModel) (c : ℕ) (pre : List Row) (r : Row) (x : JobId) → IsTurn plan pre r → r.job ≡ Some x → Contains (jobs_on plan c) x → choice plan c r.tick pre ≡ Some x
 turn_on plan c pre r x turn job there = subst (λ n. choice plan n r.tick pre ≡ Some x) (sym (turn_core plan pre r x turn job) ∙ on_its_core plan c x there) (turn_chosen plan pre r x turn job)
 
+-- by whose row it is: who starts is above the ceiling, and who runs was guarded
 guard_cases : (plan : PlanModel) (c : ℕ) (pre : List Row) (r : Row) → IsGuarded plan c pre → IsTurn plan pre r
     → (i j : JobId) (g : ℕ) (mi mj : Bool) → is_row_of i r ≡ mi → is_row_of j r ≡ mj → Contains (jobs_on plan c) i → Contains (jobs_on plan c) j → Contains (resources plan) g → is_global plan g ≡ false → i ≢ j
     → is_live plan (pre ++ r ∷ []) i ≡ true → is_before plan j i ≡ false → holds plan (pre ++ r ∷ []) g j ≡ true → local_ceiling plan g < level plan i.task.0
@@ -74,9 +74,11 @@ guard_cases plan c pre r old turn i j g true false ei ej ini inj ing local ne l 
 guard_cases plan c pre r old turn i j g false true ei ej ini inj ing local ne l b h =
     absurd (later_waits plan c r.tick pre i j ini (sym (live_kept plan pre r i ei) ∙ l) b ne (turn_on plan c pre r j turn (is_job_is r.job j ej) inj))
 
+-- each turn keeps it
 pub guard_push : (plan : PlanModel) (c : ℕ) (pre : List Row) (r : Row) → IsGuarded plan c pre → IsTurn plan pre r → IsGuarded plan c (pre ++ r ∷ [])
 guard_push plan c pre r old turn = λ i j g. guard_cases plan c pre r old turn i j g (is_row_of i r) (is_row_of j r) refl refl
 
+-- it holds before the first row
 pub guard_none : (plan : PlanModel) (c : ℕ) → IsGuarded plan c []
 guard_none plan c = λ i j g ini inj ing local ne l. absurd (true≢false (sym l))
 
@@ -125,6 +127,7 @@ row_free plan pre r i j g ok known old turn job kind res ne h =
     let inj : Contains (jobs_on plan r.core.0) j = subst (λ n. Contains (jobs_on plan n) j) at (known j (holder_started plan pre g.0 j h)) in
     turn_free plan r.core.0 r.tick pre i j g ok old (turn_chosen plan pre r i turn job) k.0 k.1 ne (turn.known i job) inj h
 
+-- so a lock row finds its resource free
 locks_free : (plan : PlanModel) (pre : List Row) (r : Row) → IsPlan plan → AreKnown plan pre → IsGuarded plan r.core.0 pre → IsTurn plan pre r → LocksFree plan pre r
 locks_free plan pre r ok known old turn = λ g j kind res other. false_from_ne_true (holds plan pre g.0 j) (by_job g j kind res other r.job refl)
   where
@@ -137,6 +140,7 @@ record IsSafe (plan : PlanModel) (pre : List Row) : Type 0 where
   known : AreKnown plan pre
   guarded : (c : ℕ) → IsGuarded plan c pre
 
+-- each legal row keeps them
 safe_push : (plan : PlanModel) (pre : List Row) (r : Row) → IsSafe plan pre → IsLegal plan pre r → IsSafe plan (pre ++ r ∷ [])
 safe_push plan pre r old h = let turn = legal_turn plan pre r h in record { known = known_push plan pre r old.known turn; guarded = λ c. guard_push plan c pre r (old.guarded c) turn }
 

@@ -29,6 +29,7 @@ use Rattle.msrp_plan.proofs.Effects.{IsMove, Effect, Quiet, Took, Joined, Got, S
 use Rattle.msrp_plan.proofs.Holders.{IsOrderly, orderly_push}
 use Rattle.msrp_plan.proofs.QueueMembers.{IsQueueOf, queue_at, queue_push, queue_short}
 
+-- the stand is that of a holder
 abbrev pub is_holds : Stand → Bool
 is_holds Holds = true
 is_holds _ = false
@@ -46,10 +47,12 @@ pub record IsBehind (plan : PlanModel) (g : ℕ) (x : JobId) (pre : List Row) (n
   pub waits : stand plan g pre x ≡ Waits
   pub few : n + length ahead + 1 ≤ plan.cores + cond (is_busy plan g pre ahead) 1 0
 
+-- a row that changes no holder leaves whether the first holds it
 busy_same : (plan : PlanModel) (g : ℕ) (pre : List Row) (r : Row) (ys : List JobId) → ((j : JobId) → is_holds (stand plan g (pre ++ r ∷ []) j) ≡ is_holds (stand plan g pre j)) → is_busy plan g (pre ++ r ∷ []) ys ≡ is_busy plan g pre ys
 busy_same plan g pre r [] h = refl
 busy_same plan g pre r (y ∷ ys) h = h y
 
+-- a move between stands that hold alike changes no holder
 moved_same : (plan : PlanModel) (g : ℕ) (pre : List Row) (r : Row) (x : JobId) (k : Kind) (a b : Stand) → IsMove plan g pre r x k a b → is_holds b ≡ is_holds a → (j : JobId) (c : Bool) → is_row_of j r ≡ c → is_holds (stand plan g (pre ++ r ∷ []) j) ≡ is_holds (stand plan g pre j)
 moved_same plan g pre r x k a b m e j true mine =
     let s = mover_is plan g pre r x j k a b m mine in
@@ -63,6 +66,7 @@ still_waits plan g pre r x z k a b m non true e w =
     subst (λ v. stand plan g (pre ++ r ∷ []) v ≡ Waits) (sym s) (m.after ∙ non (sym m.before ∙ subst (λ v. stand plan g pre v ≡ Waits) s w))
 still_waits plan g pre r x z k a b m non false e w = m.others x e ∙ w
 
+-- a queue in which somebody stands is not empty
 not_free : (ys zs : List JobId) (x : JobId) (f : List JobId) → f ≡ ys ++ x ∷ zs → is_free f ≡ true → ⊥
 not_free [] zs x f e h = true≢false (sym h ∙ ap is_free e)
 not_free (y ∷ ys) zs x f e h = true≢false (sym h ∙ ap is_free e)
@@ -71,6 +75,7 @@ not_free (y ∷ ys) zs x f e h = true≢false (sym h ∙ ap is_free e)
 not_counted : (g : ℕ) (r : Row) → is_on g r.res ≡ false → is_admission g r ≡ false
 not_counted g r e = ap (λ b. b && is_admitting r.kind) e
 
+-- a row on it counts by its kind
 counted : (g : ℕ) (r : Row) (k : Kind) (b : Bool) → is_on g r.res ≡ true → r.kind ≡ k → is_admitting k ≡ b → is_admission g r ≡ b
 counted g r k b on ek e = ap (λ c. c && is_admitting r.kind) on ∙ (ap is_admitting ek ∙ e)
 
@@ -89,9 +94,11 @@ behind_same plan g x pre r n more old off fs w st =
       few = omega (arith, few, c);
     }
 
+-- a queue that stays has nobody more
 same_queue : (f h : List JobId) → h ≡ f → h ≡ f ++ []
 same_queue f h e = e ∙ sym (append-nil f)
 
+-- one counts at most one
 one_at_most : (b : Bool) → cond b 1 0 ≤ 1
 one_at_most true = omega arith
 one_at_most false = omega arith
@@ -140,6 +147,7 @@ left_at plan g x pre r n z (y ∷ ahead) behind q w few m first fs =
       few = omega (arith, few, c, b);
     }
 
+-- each effect but a grant to x keeps it
 behind_by : (plan : PlanModel) (g : ℕ) (x : JobId) (pre : List Row) (r : Row) (n : ℕ) → IsOrderly plan g pre → IsBehind plan g x pre n → is_grant_of x g r ≡ false → Effect plan g pre r → IsBehind plan g x (pre ++ r ∷ []) (n + cond (is_admission g r) 1 0)
 behind_by plan g x pre r n ord old non e =
     elim e [
@@ -156,6 +164,7 @@ few_now : (plan : PlanModel) (g : ℕ) (pre : List Row) (n : ℕ) (ahead : List 
 few_now plan g pre n [] few = omega (arith, few)
 few_now plan g pre n (y ∷ ahead) few = let b = one_at_most (is_busy plan g pre (y ∷ ahead)) in omega (arith, few, b)
 
+-- along the wait
 few_from : (plan : PlanModel) (g : ℕ) (x : JobId) (pre mid : List Row) (n : ℕ) → IsPlan plan → is_global plan g ≡ true → IsOrderly plan g pre → IsBehind plan g x pre n → EachAfter (IsLegal plan) pre mid → list_any (is_grant_of x g) mid ≡ false → n + count_by (is_admission g) mid < plan.cores
 few_from plan g x pre [] n ok glob ord old all non = let k = few_now plan g pre n old.ahead old.few in omega (arith, k)
 few_from plan g x pre (w ∷ mid) n ok glob ord old all non =

@@ -50,6 +50,7 @@ up_alone plan g pre r x y ok glob named firm turn job there up =
           tied plan x y (firm y x there known up (live plan pre x l.0 l.1)) (runs_least plan r.core.0 pre x y runs there (up_live plan g pre y ok up))
     ]
 
+-- a row of another job leaves its stand
 up_kept : (plan : PlanModel) (g : ℕ) (pre : List Row) (r : Row) (y : JobId) → is_row_of y r ≡ false → IsUp plan g (pre ++ r ∷ []) y → IsUp plan g pre y
 up_kept plan g pre r y e up = λ h. up (stand_kept plan g pre r y e ∙ h)
 
@@ -57,6 +58,7 @@ up_kept plan g pre r y e up = λ h. up (stand_kept plan g pre r y e ∙ h)
 on_core : (plan : PlanModel) (c : ℕ) (pre : List Row) (r : Row) (x : JobId) → IsTurn plan pre r → r.job ≡ Some x → Contains (jobs_on plan c) x → r.core.0 ≡ c
 on_core plan c pre r x turn job there = sym (turn_core plan pre r x turn job) ∙ on_its_core plan c x there
 
+-- by whose row it is
 firm_cases : (plan : PlanModel) (g c : ℕ) (pre : List Row) (r : Row) → IsPlan plan → is_global plan g ≡ true → Contains (resources plan) g → IsFirm plan g c pre → IsTurn plan pre r
     → (y z : JobId) (my mz : Bool) → is_row_of y r ≡ my → is_row_of z r ≡ mz → Contains (jobs_on plan c) y → Contains (jobs_on plan c) z → IsUp plan g (pre ++ r ∷ []) y → is_live plan (pre ++ r ∷ []) z ≡ true → is_before plan z y ≡ false
 firm_cases plan g c pre r ok glob named firm turn y z true true ey ez iny inz up l =
@@ -74,8 +76,10 @@ firm_cases plan g c pre r ok glob named firm turn y z false true ey ez iny inz u
     let s : z ≡ y = up_alone plan g pre r z y ok glob named (subst (λ n. IsFirm plan g n pre) (sym at) firm) turn job (subst (λ n. Contains (jobs_on plan n) y) (sym at) iny) (up_kept plan g pre r y ey up) in
     absurd (true≢false (sym ez ∙ subst (λ w. is_row_of w r ≡ false) (sym s) ey))
 
+-- each turn keeps it
 pub firm_push : (plan : PlanModel) (g c : ℕ) (pre : List Row) (r : Row) → IsPlan plan → is_global plan g ≡ true → Contains (resources plan) g → IsFirm plan g c pre → IsTurn plan pre r → IsFirm plan g c (pre ++ r ∷ [])
 firm_push plan g c pre r ok glob named firm turn = λ y z. firm_cases plan g c pre r ok glob named firm turn y z (is_row_of y r) (is_row_of z r) refl refl
 
+-- it holds before the first row
 pub firm_none : (plan : PlanModel) (g c : ℕ) → IsFirm plan g c []
 firm_none plan g c = λ y z iny inz up l. absurd (true≢false (sym l))

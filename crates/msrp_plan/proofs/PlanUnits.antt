@@ -14,6 +14,7 @@ use Rattle.msrp_plan.specs.declared.ids.ResId.{ResId}
 use Rattle.msrp_plan.specs.declared.units.Op.{Op}
 use Rattle.msrp_plan.specs.declared.units.Op.TheVariants.{Lock}
 
+-- no units have no unit
 no_unit : (n : ℕ) (op : Op) → slice_get [] n ≡ Some op → ⊥
 no_unit n op h = cc
 
@@ -41,6 +42,7 @@ every_task plan P none each t =
       | inr g ↦ subst (λ (a : TaskModel). P a.units) (sym (past plan t g)) none
     ]
 
+-- no units lock properly
 none_locks : (plan : PlanModel) → IsLocking plan []
 none_locks plan = record {
   declared = λ n g h. absurd (no_unit n (Lock g) h);
@@ -49,6 +51,7 @@ none_locks plan = record {
   nested = λ n. subst (λ us. (held : List ℕ) × (held_after us ≡ Some held) × (length held ≤ 8)) (sym (take-nil n)) ([], refl, omega arith);
 }
 
+-- and put no global resource in a global one
 none_flat : (plan : PlanModel) → IsFlat plan []
 none_flat plan = record { alone = λ n g h e. absurd (no_unit n (Lock h) e) }
 

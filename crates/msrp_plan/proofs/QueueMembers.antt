@@ -41,9 +41,11 @@ up_moved : (plan : PlanModel) (g : ℕ) (pre : List Row) (r : Row) (x : JobId) (
 up_moved plan g pre r x k a b m nb y true e up = λ h. nb (sym m.after ∙ subst (λ z. stand plan g (pre ++ r ∷ []) z ≡ Out) (mover_is plan g pre r x y k a b m e) h)
 up_moved plan g pre r x k a b m nb y false e up = λ h. up (sym (m.others y e) ∙ h)
 
+-- who is still up is still a member
 member_with : (plan : PlanModel) (g : ℕ) (pre : List Row) (r : Row) (y : JobId) → IsMember plan g pre y → IsUp plan g (pre ++ r ∷ []) y → IsMember plan g (pre ++ r ∷ []) y
 member_with plan g pre r y old up = record { up = up; known = old.known; core = old.core }
 
+-- and so is everybody
 each_moved : (plan : PlanModel) (g : ℕ) (pre : List Row) (r : Row) (x : JobId) (k : Kind) (a b : Stand) (f : List JobId) → IsMove plan g pre r x k a b → (b ≡ Out → ⊥) → AllByRecursion (IsMember plan g pre) f → AllByRecursion (IsMember plan g (pre ++ r ∷ [])) f
 each_moved plan g pre r x k a b f m nb all = all_weaker (IsMember plan g pre) (IsMember plan g (pre ++ r ∷ [])) (λ y old. member_with plan g pre r y old (up_moved plan g pre r x k a b m nb y (is_row_of y r) refl old.up)) f all
 
@@ -71,6 +73,7 @@ rest_member : (plan : PlanModel) (g : ℕ) (pre : List Row) (r : Row) (x y z : J
 rest_member plan g pre r x y z k a b m s old ne true e = absurd (ne (ap (core_of plan) (sym s ∙ sym (mover_is plan g pre r x z k a b m e))))
 rest_member plan g pre r x y z k a b m s old ne false e = member_with plan g pre r z old (λ h. old.up (sym (m.others z e) ∙ h))
 
+-- so the rest of the queue stays
 rest_each : (plan : PlanModel) (g : ℕ) (pre : List Row) (r : Row) (x : JobId) (k : Kind) (a b : Stand) (f : List JobId) → IsMove plan g pre r x k a b → is_first f (Some x) ≡ true → AllByRecursion (IsMember plan g pre) f → ApartBy (core_of plan) f → AllByRecursion (IsMember plan g (pre ++ r ∷ [])) (drop 1 f) × ApartBy (core_of plan) (drop 1 f)
 rest_each plan g pre r x k a b [] m first all apart = absurd (cc)
 rest_each plan g pre r x k a b (y ∷ f) m first all apart = (
@@ -93,6 +96,7 @@ queue_by plan g pre r ok glob named old h e =
       | Left x m fs ↦ subst Goal (sym fs) (rest_each plan g pre r x Release Holds Out (fifo g pre) m (old.orderly.first x m.before) old.each old.apart)
     ]
 
+-- each legal row keeps the invariant
 pub queue_push : (plan : PlanModel) (g : ℕ) → IsPlan plan → is_global plan g ≡ true → Contains (resources plan) g → (pre : List Row) (r : Row) → IsQueueOf plan g pre → IsLegal plan pre r → IsQueueOf plan g (pre ++ r ∷ [])
 queue_push plan g ok glob named pre r old h =
     let e = effect plan g pre r ok glob old.orderly.fed h in
@@ -104,9 +108,11 @@ queue_push plan g ok glob named pre r old h =
       apart = k.1;
     }
 
+-- it holds before the first row
 pub queue_none : (plan : PlanModel) (g : ℕ) → IsQueueOf plan g []
 queue_none plan g = record { orderly = orderly_none plan g; firm = firm_none plan g; each = tt; apart = tt }
 
+-- so it holds at each place
 pub queue_at : (plan : PlanModel) (g : ℕ) (pre : List Row) → IsPlan plan → is_global plan g ≡ true → Contains (resources plan) g → EachAfter (IsLegal plan) [] pre → IsQueueOf plan g pre
 queue_at plan g pre ok glob named all = along (IsQueueOf plan g) (IsLegal plan) (queue_push plan g ok glob named) [] pre (queue_none plan g) all
 

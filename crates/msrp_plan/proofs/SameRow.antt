@@ -8,9 +8,11 @@ use Rattle.msrp_plan.specs.declared.ids.ResId.{ResId}
 use Rattle.msrp_plan.specs.declared.rows.Kind.{Kind}
 use Rattle.msrp_plan.specs.declared.rows.Row.{Row}
 
+-- tick, core, kind, job and resource
 abbrev Parts : Type 0
 Parts = ℕ × CoreId × Kind × Option JobId × Option ResId
 
+-- the row that has them
 abbrev row_of : (p : Parts) → has_shape p.2 p.3 p.4 ≡ true → Row
 row_of p h = record { tick = p.0; core = p.1; kind = p.2; job = p.3; res = p.4; shape = h }
 

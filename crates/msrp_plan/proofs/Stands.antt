@@ -11,6 +11,7 @@ use Rattle.msrp_plan.specs.declared.rows.Row.{Row}
 use Rattle.msrp_plan.proofs.States.{state_kept}
 use Rattle.msrp_plan.proofs.UnitCounts.{held_in}
 
+-- the three stands
 pub data Stand : Type 0 where
   Out : Stand
   Waits : Stand
@@ -25,6 +26,7 @@ locks_at g (Some op) = is_lock_of g op
 abbrev pub stand_in : List Op → ℕ → Bool → ℕ → Stand
 stand_in us g queued n = cond (held_in us g n) Holds (cond (queued && locks_at g (slice_get us n)) Waits Out)
 
+-- after some rows
 abbrev pub stand : PlanModel → ℕ → List Row → JobId → Stand
 stand plan g pre j = stand_in (units plan j) g (is_queued pre j) (done j pre)
 
@@ -32,9 +34,11 @@ stand plan g pre j = stand_in (units plan j) g (is_queued pre j) (done j pre)
 pub stand_held : (us : List Op) (g : ℕ) (q : Bool) (n : ℕ) → held_in us g n ≡ true → stand_in us g q n ≡ Holds
 stand_held us g q n e = ap (λ b. cond b Holds (cond (q && locks_at g (slice_get us n)) Waits Out)) e
 
+-- who neither holds it nor is queued is out
 pub stand_free : (us : List Op) (g : ℕ) (n : ℕ) → held_in us g n ≡ false → stand_in us g false n ≡ Out
 stand_free us g n e = ap (λ b. cond b Holds Out) e
 
+-- who is queued at a lock of it waits
 pub stand_waits : (us : List Op) (g : ℕ) (n : ℕ) (op : Op) → held_in us g n ≡ false → slice_get us n ≡ Some op → is_lock_of g op ≡ true → stand_in us g true n ≡ Waits
 stand_waits us g n op e h l = ap (λ b. cond b Holds (cond (locks_at g (slice_get us n)) Waits Out)) e ∙ ap (λ b. cond b Waits Out) (ap (locks_at g) h ∙ l)
 
@@ -52,6 +56,7 @@ holder_stands plan g pre j h = stand_held (units plan j) g (is_queued pre j) (do
 abbrev pub IsUp : PlanModel → ℕ → List Row → JobId → Type 0
 IsUp plan g pre j = stand plan g pre j ≡ Out → ⊥
 
+-- by the two tests of a stand
 out_cases : (a b : Bool) → (cond a Holds (cond b Waits Out) ≡ Out → ⊥) → (a ≡ true) ⊎ (b ≡ true)
 out_cases true b h = inl refl
 out_cases false true h = inr refl
@@ -73,8 +78,10 @@ stand_kept plan g pre r j e = ap (λ (s : JobState). stand_in (units plan j) g s
 pub waits_out : Waits ≡ Out → ⊥
 waits_out h = cc
 
+-- holding is not being out
 pub holds_out : Holds ≡ Out → ⊥
 holds_out h = cc
 
+-- nor waiting
 pub holds_waits : Holds ≡ Waits → ⊥
 holds_waits h = cc

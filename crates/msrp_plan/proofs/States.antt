@@ -16,6 +16,7 @@ last_waits : (rows : List Row) (b : Bool) (r : Row) → fold (λ _ w. is_waiting
 last_waits rows true r = fold_push (λ _ w. is_waiting w.kind) false rows r
 last_waits rows false r = ap (fold (λ _ w. is_waiting w.kind) false) (append-nil rows)
 
+-- whether a job is queued, after one row more
 queued_push : (pre : List Row) (r : Row) (j : JobId) → is_queued (pre ++ r ∷ []) j ≡ cond (is_row_of j r) (is_waiting r.kind) (is_queued pre j)
 queued_push pre r j = ap (fold (λ _ w. is_waiting w.kind) false) (filter-append (is_row_of j) pre (r ∷ [])) ∙ last_waits (filter (is_row_of j) pre) (is_row_of j r) r
 

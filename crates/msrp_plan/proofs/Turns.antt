@@ -21,10 +21,12 @@ pub record IsNew (plan : PlanModel) (c t : ℕ) (pre : List Row) (x : JobId) : T
   pub above : ceiling plan c pre < level plan x.task.0
   pub before : (s : JobId) → running plan c pre ≡ Some s → is_before plan x s ≡ true
 
+-- the head, where nobody runs
 alone : (plan : PlanModel) (n : ℕ) (h x : JobId) (b : Bool) → nat_lt n (level plan h.task.0) ≡ b → cond b (Some h) None ≡ Some x → (n < level plan x.task.0) × (h ≡ x)
 alone plan n h x true e r = let s : h ≡ x = cc in (subst (λ j. n < level plan j.task.0) s (ltb-true n (level plan h.task.0) e), s)
 alone plan n h x false e r = absurd (cc)
 
+-- the head against whoever runs
 against : (plan : PlanModel) (n : ℕ) (h s x : JobId) (b : Bool) → (nat_lt n (level plan h.task.0) && is_before plan h s) ≡ b → cond b (Some h) (Some s) ≡ Some x → ((n < level plan x.task.0) × (h ≡ x) × (is_before plan x s ≡ true)) ⊎ (s ≡ x)
 against plan n h s x true e r =
     let k : h ≡ x = cc in
@@ -32,9 +34,11 @@ against plan n h s x true e r =
     inl (subst (λ j. n < level plan j.task.0) k (ltb-true n (level plan h.task.0) both.0), k, subst (λ j. is_before plan j s ≡ true) k both.1)
 against plan n h s x false e r = inr (cc)
 
+-- nobody is no job
 none_some : (s : JobId) → None ≡ Some s → ⊥
 none_some s h = cc
 
+-- by whether there is a head and somebody runs
 turn_cases : (plan : PlanModel) (c t : ℕ) (pre : List Row) (h s : Option JobId) (x : JobId) → head plan c t pre ≡ h → running plan c pre ≡ s → chosen plan (ceiling plan c pre) h s ≡ Some x → IsNew plan c t pre x ⊎ (running plan c pre ≡ Some x)
 turn_cases plan c t pre None s x hh ss e = inr (ss ∙ e)
 turn_cases plan c t pre (Some h) None x hh ss e =
@@ -46,6 +50,7 @@ turn_cases plan c t pre (Some h) (Some s) x hh ss e =
       | inr k ↦ inr (ss ∙ ap (λ j. Some j) k)
     ]
 
+-- who has the turn is new, or runs
 pub has_turn : (plan : PlanModel) (c t : ℕ) (pre : List Row) (x : JobId) → choice plan c t pre ≡ Some x → IsNew plan c t pre x ⊎ (running plan c pre ≡ Some x)
 has_turn plan c t pre x e = turn_cases plan c t pre (head plan c t pre) (running plan c pre) x refl refl e
 
@@ -65,6 +70,7 @@ new_clash : (plan : PlanModel) (c t : ℕ) (pre : List Row) (i j : JobId) (s : O
 new_clash plan c t pre i j None e there l b new = least_some (is_before plan) (is_live plan pre) (jobs_on plan c) i e there l
 new_clash plan c t pre i j (Some s) e there l b new = true≢false (sym (new.before s e) ∙ (before_order plan).chain j i s b (runs_least plan c pre s i e there l))
 
+-- nor does it run
 pub later_waits : (plan : PlanModel) (c t : ℕ) (pre : List Row) (i j : JobId) → Contains (jobs_on plan c) i → is_live plan pre i ≡ true → is_before plan j i ≡ false → i ≢ j → choice plan c t pre ≡ Some j → ⊥
 later_waits plan c t pre i j there l b ne e =
     elim (has_turn plan c t pre j e) [

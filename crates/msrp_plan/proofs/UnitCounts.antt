@@ -19,9 +19,11 @@ pub count_next : (p : Op → Bool) (us : List Op) (n : ℕ) (op : Op) → slice_
 count_next p us n op h =
     sum_by_more (λ x. cond (p x) 1 0) us n op (slice_get_within us n op h) ∙ ap (λ o. count_by p (take n us) + cond (p o) 1 0) (get_or_from_slice_get us n op op h)
 
+-- where the unit counts
 count_yes : (p : Op → Bool) (us : List Op) (n : ℕ) (op : Op) → slice_get us n ≡ Some op → p op ≡ true → count_by p (take (n + 1) us) ≡ count_by p (take n us) + 1
 count_yes p us n op h e = count_next p us n op h ∙ ap (λ b. count_by p (take n us) + cond b 1 0) e
 
+-- where it does not
 count_no : (p : Op → Bool) (us : List Op) (n : ℕ) (op : Op) → slice_get us n ≡ Some op → p op ≡ false → count_by p (take (n + 1) us) ≡ count_by p (take n us)
 count_no p us n op h e = let k : count_by p (take (n + 1) us) ≡ count_by p (take n us) + 0 = count_next p us n op h ∙ ap (λ b. count_by p (take n us) + cond b 1 0) e in omega (arith, k)
 
@@ -31,6 +33,7 @@ lock_alone g RunUnit h = refl
 lock_alone g (LockUnit r) h = refl
 lock_alone g (UnlockUnit r) h = absurd (cc)
 
+-- an unlock is no lock
 pub unlock_alone : (g : ℕ) (op : Op) → is_unlock_of g op ≡ true → is_lock_of g op ≡ false
 unlock_alone g RunUnit h = refl
 unlock_alone g (LockUnit r) h = absurd (cc)

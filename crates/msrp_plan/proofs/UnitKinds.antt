@@ -18,6 +18,7 @@ pub data StepOf (global queued : Bool) (op : Op) (kind : Kind) : Type 0 where
   Spins : (h : ResId) → op ≡ LockUnit h → kind ≡ Spin → global ≡ true → queued ≡ true → StepOf global queued op kind
   Releases : (h : ResId) → op ≡ UnlockUnit h → kind ≡ Release → global ≡ true → StepOf global queued op kind
 
+-- the table, by cases
 pub step_of : (global queued : Bool) (op : Op) (kind : Kind) → allows global queued op kind ≡ true → StepOf global queued op kind
 step_of global queued RunUnit Run e = Runs refl refl
 step_of false queued (LockUnit h) Lock e = Locks h refl refl refl

@@ -3,7 +3,6 @@ use Rattle.std.specs.Prelude.{ℕ, List, [], ◌∷◌, ◌++◌, Bool, true, fa
 use Rattle.std.specs.List.{list_any}
 use Rattle.msrp_plan.specs.Plan.{PlanModel}
 use Rattle.msrp_plan.specs.Jobs.{is_row_of, holds}
-use Rattle.msrp_plan.specs.Levels.{is_global}
 use Rattle.msrp_plan.specs.Queues.{is_on}
 use Rattle.msrp_plan.specs.Runs.{EachAfter}
 use Rattle.msrp_plan.specs.declared.ids.JobId.{JobId}
@@ -27,9 +26,9 @@ NoLocalBlocking plan rows = EachAfter (LocksFree plan) [] rows
 abbrev pub IsHeldByOne : PlanModel → List Row → ℕ → Type 0
 IsHeldByOne plan pre g = (i j : JobId) → holds plan pre g i ≡ true → holds plan pre g j ≡ true → i ≡ j
 
--- at each place of the run at most one job holds each global resource
+-- at each place of the run at most one job holds each resource, global or local
 abbrev pub MutualExclusion : PlanModel → List Row → Type 0
-MutualExclusion plan rows = (pre post : List Row) (g : ℕ) → rows ≡ pre ++ post → is_global plan g ≡ true → IsHeldByOne plan pre g
+MutualExclusion plan rows = (pre post : List Row) (g : ℕ) → rows ≡ pre ++ post → IsHeldByOne plan pre g
 
 -- ---- bounded overtaking
 abbrev pub is_admitting : Kind → Bool

@@ -14,7 +14,7 @@ pub fn no_local_blocking()
     ensures { (plan : PlanModel) (rows : List Row) → IsPlan plan → IsRunStart plan rows → NoLocalBlocking plan rows }
 {}
 
-/// Mutual exclusion: at each place of a run at most one job holds a global resource.
+/// Mutual exclusion: at each place of a run at most one job holds a resource, global or local.
 pub fn mutual_exclusion()
     ensures { (plan : PlanModel) (rows : List Row) → IsPlan plan → IsRunStart plan rows → MutualExclusion plan rows }
 {}
