@@ -1,8 +1,8 @@
 -- What a global resource replies is told by the rows on it alone.
-use Rattle.std.proofs.Common.{◌≡◌, ℕ, Bool, true, false, cond, List, [], ◌∷◌, Option, Some, None, refl, ap, sym, ◌∙◌, drop}
-use Rattle.std.specs.List.{filter, filter_map, cons_option}
+use Rattle.std.proofs.Common.{◌≡◌, ℕ, Bool, true, false, cond, List, [], ◌∷◌, Some, refl, ap, sym, ◌∙◌, drop}
+use Rattle.std.specs.List.{filter_map, cons_option}
 use Rattle.std.proofs.lemmas.Bool.{and_parts}
-use Rattle.msrp_plan.specs.Queues.{is_on, is_request, is_release, is_release_of, requester, fifo, replies}
+use Rattle.msrp_plan.specs.Queues.{is_on, is_release, is_release_of, requester, fifo, replies}
 use Rattle.msrp_plan.specs.Runs.{replies_on, is_fifo_reply}
 use Rattle.msrp_plan.specs.Logs.{rows_on}
 use Rattle.msrp_plan.specs.declared.ids.JobId.{JobId}

@@ -1,10 +1,10 @@
 -- What a clause reads of a source and of a sink, and what a text that was given to a sink left in its writer.
-use Rattle.std.specs.Prelude.{◌≡◌, ℕ, Bool, true, false, ◌||◌, not, nat_le, List, [], ◌++◌, Option, Some, None}
+use Rattle.std.specs.Prelude.{◌≡◌, ℕ, Bool, true, false, ◌||◌, not, nat_le, List, [], ◌++◌, Option, Some}
 use Rattle.std.specs.Io.KnownBytes.{Appends}
 use Rattle.msrp_plan.specs.declared.bytes.TheConstants.{BYTE_LIMIT, CALL_LIMIT}
 use Rattle.msrp_plan.specs.declared.bytes.Source.{Source}
 use Rattle.msrp_plan.specs.declared.bytes.Stage.{Stage}
-use Rattle.msrp_plan.specs.declared.bytes.Stage.TheVariants.{Open, Ended, Failed}
+use Rattle.msrp_plan.specs.declared.bytes.Stage.TheVariants.{Ended, Failed}
 use Rattle.msrp_plan.specs.declared.bytes.Sink.{Sink}
 
 abbrev pub is_failed : Stage → Bool

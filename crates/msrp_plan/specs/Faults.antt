@@ -1,10 +1,9 @@
 -- What a fault says of the rows: which of them are legal, and what is wrong with the next.
-use Rattle.std.specs.Prelude.{ℕ, List, ◌∷◌, ◌++◌, Some, length, ◌≡◌, ◌<◌, ◌+◌, ◌*◌, ◌⊎◌}
+use Rattle.std.specs.Prelude.{List, ◌∷◌, ◌++◌, Some, length, ◌≡◌, ◌<◌, ◌+◌, ◌*◌, ◌⊎◌}
 use Rattle.msrp_plan.specs.Plan.{PlanModel}
 use Rattle.msrp_plan.specs.Runs.{IsRun, IsRunStart}
 use Rattle.msrp_plan.specs.Verdict.{broken}
 use Rattle.msrp_plan.specs.declared.faults.Fault.{Fault}
-use Rattle.msrp_plan.specs.declared.faults.Rule.{Rule}
 use Rattle.msrp_plan.specs.declared.faults.Rule.TheVariants.{A6, A7}
 use Rattle.msrp_plan.specs.declared.rows.Row.{Row}
 

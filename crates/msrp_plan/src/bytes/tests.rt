@@ -143,7 +143,7 @@ fn bytes_are_limited(rt: HostRuntime) {
         read_all(&mut Source::new(&mut endless), &mut buf, 1000),
         None
     );
-    assert_eq!(rt; usize::MAX - endless.left, limit);
+    assert_eq!(rt; endless.left, usize::MAX - limit);
 }
 
 #[test]
