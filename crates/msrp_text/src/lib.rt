@@ -1,0 +1,4 @@
+//! Plan text, version 1: the plan of a text, or its first refusal.
+#![tactic(auto)]
+
+pub mod records;
