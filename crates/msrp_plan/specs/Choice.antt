@@ -1,4 +1,4 @@
--- Which job has the turn: earliest deadline first under the Stack Resource Policy (Baker 1991, section 4:
+-- Which job has the turn: earliest deadline first under the Stack Resource Policy (Baker 1991, SRP:
 -- a job starts only where its preemption level is above the current ceiling; once started it never blocks).
 use Rattle.std.specs.Prelude.{ℕ, List, [], ◌∷◌, Bool, ◌&&◌, not, nat_lt, Option, Some, None, cond, filter}
 use Rattle.std.specs.List.{best_of}

@@ -1,5 +1,5 @@
--- Preemption levels and ceilings of resources (Baker 1991, sections 3 and 4; for global resources Gai, Lipari
--- and Di Natale 2001, section 4).
+-- Preemption levels and ceilings of resources (Baker 1991, preemption levels and ceilings; for global resources Gai,
+-- Lipari and Di Natale 2001, the MSRP rules).
 use Rattle.std.specs.Prelude.{ℕ, List, [], ◌∷◌, Bool, ◌==◌, ◌&&◌, not, nat_lt, nat_eq, cond, fold, filter, map, length, max, ◌+◌}
 use Rattle.std.specs.List.{list_any}
 use Rattle.msrp_plan.specs.Plan.{PlanModel, TaskModel, task_at}

@@ -2,6 +2,7 @@ pub mod Shape
 pub mod Plan
 pub mod Units
 pub mod Jobs
+pub mod States
 pub mod Levels
 pub mod Ceiling
 pub mod Choice
@@ -13,3 +14,4 @@ pub mod FifoLock
 pub mod Names
 pub mod WellFormed
 pub mod Building
+pub mod Codes

@@ -37,7 +37,7 @@ core_of plan j = (task_of plan j).core
 abbrev pub units : PlanModel → JobId → List Op
 units plan j = (task_of plan j).units
 
--- job k of a task is released at offset + k * period (Liu and Layland 1973, section 2)
+-- job k of a task is released at offset + k * period (Liu and Layland 1973, the environment)
 abbrev pub release : PlanModel → JobId → ℕ
 release plan j = (task_of plan j).offset + j.k * (task_of plan j).period
 

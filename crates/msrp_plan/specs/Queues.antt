@@ -1,5 +1,5 @@
--- The queue of a global resource, and what it answers (Gai, Lipari and Di Natale 2001, section 4: global
--- resources are granted in the order of their requests).
+-- The queue of a global resource, and what it answers (Gai, Lipari and Di Natale 2001, the MSRP rules: requests are
+-- served in the order in which they came).
 use Rattle.std.specs.Prelude.{ℕ, List, [], ◌∷◌, Bool, true, false, ◌==◌, ◌&&◌, not, Option, Some, None, cond, filter_map, count_by, drop}
 use Rattle.std.specs.List.{list_any}
 use Rattle.msrp_plan.specs.Jobs.{is_job}

@@ -33,6 +33,6 @@ held_with [] (Unlock r) = None
 held_with (g ∷ held) (Unlock r) = cond (r.0 == g) (Some held) None
 
 -- the resources that are held after these units, the innermost first, if the units nest properly
--- (Baker 1991, section 2: requests and releases are properly nested)
+-- (Baker 1991 asks the same of requests and releases)
 abbrev pub held_after : List Op → Option (List ℕ)
 held_after us = fold (λ held u. option_and_then (λ hs. held_with hs u) held) (Some []) us

@@ -1,4 +1,6 @@
 //! Refusals and faults.
+ghost use Rattle.std.specs.Prelude.{◌≡◌};
+ghost use Rattle.msrp_plan.specs.Codes.{code_of};
 
 /// Why a plan is refused. Each refusal has a code, which the program prints.
 #[derive(Clone, Copy, Debug, PartialEq, Eq)]
@@ -36,6 +38,32 @@ pub enum PlanFault {
     Read,
     /// P16: memory was refused.
     Memory,
+}
+
+impl PlanFault {
+    /// The number after P of the code: 1 for [`PlanFault::Version`] to 16 for [`PlanFault::Memory`].
+    pub fn code(self) -> u32
+        ensures { result ≡ code_of self }
+    {
+        match self {
+            PlanFault::Version => 1,
+            PlanFault::OutOfPlace => 2,
+            PlanFault::FieldCount => 3,
+            PlanFault::Number => 4,
+            PlanFault::Name => 5,
+            PlanFault::Taken => 6,
+            PlanFault::Limit => 7,
+            PlanFault::Undeclared => 8,
+            PlanFault::Core => 9,
+            PlanFault::Nesting => 10,
+            PlanFault::NestedGlobal => 11,
+            PlanFault::NoUnit => 12,
+            PlanFault::Jobs => 13,
+            PlanFault::Releases => 14,
+            PlanFault::Read => 15,
+            PlanFault::Memory => 16,
+        }
+    }
 }
 
 /// Memory was refused.

@@ -1,4 +1,7 @@
 //! Numbers of tasks, resources and cores, and the names of jobs.
+ghost use Rattle.std.specs.Prelude.{◌≡◌};
+ghost use Rattle.std.specs.Ordering.{is_lt};
+ghost use Rattle.msrp_plan.specs.Choice.{key_cmp};
 
 /// A task, by its number: tasks are numbered from 0 in the order of their declaration.
 #[derive(Clone, Copy, Debug, PartialEq, Eq)]
@@ -28,4 +31,13 @@ pub struct JobKey {
     pub release: u64,
     pub task: u32,
     pub k: u32,
+}
+
+impl JobKey {
+    /// Whether a job of this key comes before one of the other.
+    pub fn is_before(&self, other: &JobKey) -> bool
+        ensures { result ≡ is_lt (key_cmp self.now other.now) }
+    {
+        self < other
+    }
 }

@@ -1,0 +1,4 @@
+pub mod Lists
+pub mod JobTests
+pub mod Prefixes
+pub mod States
