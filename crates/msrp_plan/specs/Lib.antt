@@ -15,3 +15,4 @@ pub mod Names
 pub mod WellFormed
 pub mod Building
 pub mod Codes
+pub mod Bytes

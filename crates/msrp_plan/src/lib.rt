@@ -1,6 +1,7 @@
 //! Plans, traces, and the definitions that every promise of this repository is stated in.
 #![tactic(auto)]
 
+pub mod bytes;
 pub mod faults;
 pub mod ids;
 pub mod rows;

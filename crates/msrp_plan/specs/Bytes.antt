@@ -1,0 +1,70 @@
+-- What a clause reads of a source and of a sink, and what a text that was given to a sink left in its writer.
+use Rattle.std.specs.Prelude.{◌≡◌, ℕ, Bool, true, false, ◌||◌, not, nat_le, List, [], ◌++◌, Option, Some, None}
+use Rattle.std.specs.Io.KnownBytes.{Appends}
+use Rattle.msrp_plan.specs.declared.bytes.TheConstants.{BYTE_LIMIT, CALL_LIMIT}
+use Rattle.msrp_plan.specs.declared.bytes.Source.{Source}
+use Rattle.msrp_plan.specs.declared.bytes.Stage.{Stage}
+use Rattle.msrp_plan.specs.declared.bytes.Stage.TheVariants.{Open, Ended, Failed}
+use Rattle.msrp_plan.specs.declared.bytes.Sink.{Sink}
+
+abbrev pub is_failed : Stage → Bool
+is_failed Failed = true
+is_failed _ = false
+
+abbrev pub is_ended : Stage → Bool
+is_ended Ended = true
+is_ended _ = false
+
+-- nothing is left once the end was met; before it what the reader has left, where that is known
+abbrev pub left_at : Stage → Option (List ℕ) → Option (List ℕ)
+left_at Ended known = Some []
+left_at _ known = known
+
+-- the reader under a source
+abbrev pub source_inner : {R : Type 0} → Source R → R
+source_inner s = s.inner
+
+-- a read of the source failed, as each further one does
+abbrev pub source_failed : {R : Type 0} → Source R → Bool
+source_failed s = is_failed s.stage
+
+-- a read of the source met the end, as each further one does
+abbrev pub source_ended : {R : Type 0} → Source R → Bool
+source_ended s = is_ended s.stage
+
+-- no read of the source failed or met the end
+abbrev pub is_open : {R : Type 0} → Source R → Bool
+is_open s = not (source_failed s || source_ended s)
+
+-- the bytes that the source has given, and how often it asked its reader
+abbrev pub source_given : {R : Type 0} → Source R → ℕ
+source_given s = s.given
+
+abbrev pub source_calls : {R : Type 0} → Source R → ℕ
+source_calls s = s.calls
+
+-- the source has given as many bytes as it may, or asked as often
+abbrev pub is_spent : {R : Type 0} → Source R → Bool
+is_spent s = nat_le BYTE_LIMIT s.given || nat_le CALL_LIMIT s.calls
+
+-- the bytes that a source has left, where what its reader has left is known
+abbrev pub source_remaining : {R : Type 0} → (R → Option (List ℕ)) → Source R → Option (List ℕ)
+source_remaining remaining s = left_at s.stage (remaining s.inner)
+
+-- the writer under a sink
+abbrev pub sink_inner : {W : Type 0} → Sink W → W
+sink_inner s = s.inner
+
+-- a write to the sink failed, as each further one does
+abbrev pub sink_failed : {W : Type 0} → Sink W → Bool
+sink_failed s = s.failed
+
+-- known bytes grow by the first part of a text
+abbrev pub AppendsPrefix : Option (List ℕ) → Option (List ℕ) → List ℕ → Type 0
+AppendsPrefix old new text = (part : List ℕ) × (rest : List ℕ) × (text ≡ part ++ rest) × Appends old new part
+
+-- a sink took a text whole, or failed and took its first part; one that had failed took nothing
+pub record Wrote {W : Type 0} (contents : W → Option (List ℕ)) (old new : Sink W) (text : List ℕ) : Type 0 where
+  pub stays : sink_failed old ≡ true → new ≡ old
+  pub whole : sink_failed new ≡ false → (sink_failed old ≡ false) × Appends (contents (sink_inner old)) (contents (sink_inner new)) text
+  pub part : sink_failed old ≡ false → sink_failed new ≡ true → AppendsPrefix (contents (sink_inner old)) (contents (sink_inner new)) text

@@ -1,0 +1,227 @@
+//! `Source`, a reader under limits, and `Sink`, a writer that takes whole texts.
+//!
+//! Both remember a failure: what failed once fails from then on. So a caller that lends one out, as to a
+//! reader of records, can ask afterwards whether it was a read that failed, and a caller that writes many
+//! texts can write them all and ask once at the end.
+
+ghost use Rattle.std.specs.Prelude.{◌≡◌, ◌++◌, ◌+◌, ◌≤◌, ◌<◌, ◌||◌, nat_lt, true, false, ◌↔◌, Some, None, IfOk, IfErr, OnOk, OnErr, IsErr, IsOk, Ok, length, take};
+ghost use Rattle.std.specs.Io.{ReadsAtMost};
+ghost use Rattle.std.specs.Io.KnownBytes.{Appends, ReadConsumes};
+ghost use Rattle.std.specs.IoError.{error_kind};
+ghost use Rattle.msrp_plan.specs.Bytes.{sink_failed, sink_inner, source_failed, source_ended, source_inner, source_given, source_calls, source_remaining, is_open, is_spent, AppendsPrefix, Wrote};
+
+#[cfg(test)]
+mod tests;
+
+use crate::faults::WriteFault;
+use std::io;
+use std::io::{ErrorKind, Read, Write};
+
+/// A source gives at most this many bytes.
+pub const BYTE_LIMIT: u32 = 16_777_216;
+
+/// A source asks its reader at most this many times.
+pub const CALL_LIMIT: u32 = 33_554_432;
+
+// How far a source is.
+#[derive(Clone, Copy, Debug, PartialEq, Eq)]
+enum Stage {
+    Open,
+    Ended,
+    Failed,
+}
+
+/// A reader over another that counts: bytes and calls are limited, so that a reader which never ends is
+/// answered.
+///
+/// A read fails where the reader fails (an interrupted read too), and where so many bytes were given, or so
+/// many calls made, that a limit is reached, also if the end would come next. Each read after one that failed
+/// fails. The end of the reader is met once: from then on the source answers it without asking again. The
+/// reader is never asked for more than what is left to the limit of bytes.
+#[derive(Drop)]
+pub struct Source<R> {
+    inner: R,
+    given: u32,
+    calls: u32,
+    stage: Stage,
+}
+
+impl<R: Read> Source<R> {
+    /// A source that has given no byte.
+    pub fn new(inner: R) -> Source<R>
+        ensures inner { source_inner result ≡ inner }
+        ensures remaining { source_remaining R.remaining result ≡ R.remaining inner }
+        ensures given { source_given result ≡ 0 }
+        ensures calls { source_calls result ≡ 0 }
+        ensures failed { source_failed result ≡ false }
+        ensures ended { source_ended result ≡ false }
+    {
+        Source {
+            inner,
+            given: 0,
+            calls: 0,
+            stage: Stage::Open,
+        }
+    }
+
+    /// Whether a read has failed.
+    pub fn failed(&self) -> bool
+        ensures { result ≡ source_failed self.now }
+    {
+        matches!(self.stage, Stage::Failed)
+    }
+
+    // A read that fails.
+    fn fail(&mut self) -> io::Error
+        ensures kind { error_kind result ≡ ErrorKind.Other }
+        ensures failed { self.new ≡ record self.old { stage = Stage.Failed } }
+    {
+        self.stage = Stage::Failed;
+        io::Error::from(ErrorKind::Other)
+    }
+
+    // A read of the reader, within the limits.
+    fn ask(&mut self, buf: &mut [u8]) -> io::Result<usize>
+        requires open { is_open self.old ≡ true }
+        requires within { is_spent self.old ≡ false }
+        ensures bound { ReadsAtMost result buf.new }
+        ensures bytes { ReadConsumes (source_remaining R.remaining self.old) (source_remaining R.remaining self.new) result buf.new }
+        ensures kind { IfErr result (λ e. error_kind e ≡ ErrorKind.Other) }
+        ensures fault { OnErr result (source_failed self.new ≡ true) }
+        ensures good { OnOk result (source_failed self.new ≡ false) }
+        ensures called { source_calls self.new ≡ source_calls self.old + 1 }
+        ensures counted { IfOk result (λ n. source_given self.new ≡ source_given self.old + n) }
+        ensures limit { source_given self.new ≤ BYTE_LIMIT }
+        ensures end { IfOk result (λ n. (source_ended self.new ≡ true) ↔ ((n ≡ 0) × (0 < length buf.new))) }
+    {
+        self.calls += 1;
+        let most = buf.len().min((BYTE_LIMIT - self.given) as usize);
+        match self.inner.read(&mut buf[..most]) {
+            Ok(0) if most > 0 => {
+                self.stage = Stage::Ended;
+                Ok(0)
+            }
+            Ok(count) => {
+                self.given += count as u32;
+                Ok(count)
+            }
+            Err(_) => Err(self.fail()),
+        }
+    }
+}
+
+impl<R: Read> Read for Source<R> {
+    ghost remaining = { source_remaining R.remaining };
+
+    fn read(&mut self, buf: &mut [u8]) -> io::Result<usize>
+        ensures bound { ReadsAtMost result buf.new }
+        ensures bytes { ReadConsumes (source_remaining R.remaining self.old) (source_remaining R.remaining self.new) result buf.new }
+        ensures kind { IfErr result (λ e. error_kind e ≡ ErrorKind.Other) }
+        ensures fault { OnErr result (source_failed self.new ≡ true) }
+        ensures good { OnOk result (source_failed self.new ≡ false) }
+
+        // What failed fails again, and the end that was met stands: the reader isn't asked.
+        ensures failed { source_failed self.old ≡ true → IsErr result × (self.new ≡ self.old) }
+        ensures ended { source_ended self.old ≡ true → (result ≡ Ok 0) × (self.new ≡ self.old) }
+
+        // At a limit a read fails, also where the end would come next: the reader isn't asked.
+        ensures spent { is_open self.old ≡ true → is_spent self.old ≡ true → IsErr result × (source_inner self.new ≡ source_inner self.old) }
+
+        // Else the reader is asked once, and what it gives is counted.
+        ensures called { is_open self.old ≡ true → is_spent self.old ≡ false → source_calls self.new ≡ source_calls self.old + 1 }
+        ensures counted { IfOk result (λ n. source_given self.new ≡ source_given self.old + n) }
+        ensures limit { source_given self.old ≤ BYTE_LIMIT → source_given self.new ≤ BYTE_LIMIT }
+        ensures met { is_open self.old ≡ true → IfOk result (λ n. (source_ended self.new ≡ true) ↔ ((n ≡ 0) × (0 < length buf.new))) }
+    {
+        match self.stage {
+            Stage::Failed => Err(io::Error::from(ErrorKind::Other)),
+            Stage::Ended => Ok(0),
+            Stage::Open => {
+                if self.given >= BYTE_LIMIT || self.calls >= CALL_LIMIT {
+                    return Err(self.fail());
+                }
+                self.ask(buf)
+            }
+        }
+    }
+}
+
+/// A writer over another, which takes a text whole or fails for good.
+///
+/// A write fails where the writer fails (an interrupted write too), and where it takes nothing of what is
+/// left. What the writer was given by then is a first part of the texts.
+#[derive(Drop)]
+pub struct Sink<W> {
+    inner: W,
+    failed: bool,
+}
+
+impl<W: Write> Sink<W> {
+    /// A sink that was given nothing.
+    pub fn new(inner: W) -> Sink<W>
+        ensures inner { sink_inner result ≡ inner }
+        ensures failed { sink_failed result ≡ false }
+    {
+        Sink {
+            inner,
+            failed: false,
+        }
+    }
+
+    /// Whether a write has failed.
+    pub fn failed(&self) -> bool
+        ensures { result ≡ sink_failed self.now }
+    {
+        self.failed
+    }
+
+    /// Writes a text, all of it where the answer is `Ok`.
+    pub fn put(&mut self, text: &[u8]) -> Result<(), WriteFault>
+        ensures whole { OnOk result (Appends (W.contents (sink_inner self.old)) (W.contents (sink_inner self.new)) text.now) }
+        ensures part { OnErr result (AppendsPrefix (W.contents (sink_inner self.old)) (W.contents (sink_inner self.new)) text.now) }
+        ensures good { OnOk result (sink_failed self.new ≡ false) }
+        ensures fault { OnErr result (sink_failed self.new ≡ true) }
+        ensures failed { sink_failed self.old ≡ true → IsErr result × (self.new ≡ self.old) }
+    {
+        if self.failed {
+            return Err(WriteFault);
+        }
+        let mut at = 0usize;
+        while at < text.len() {
+            let count = self.put_some(&text[at..]);
+            if count == 0 {
+                self.failed = true;
+                return Err(WriteFault);
+            }
+            at += count;
+        }
+        Ok(())
+    }
+
+    /// Writes a text, unless a write has failed or fails now: [`Sink::outcome`] tells.
+    pub fn add(&mut self, text: &[u8])
+        ensures { Wrote W.contents self.old self.new text.now }
+    {
+        let _ = self.put(text);
+    }
+
+    /// How the writes went.
+    pub fn outcome(&self) -> Result<(), WriteFault>
+        ensures good { OnOk result (sink_failed self.now ≡ false) }
+        ensures fault { OnErr result (sink_failed self.now ≡ true) }
+    {
+        if self.failed { Err(WriteFault) } else { Ok(()) }
+    }
+
+    // One call of the writer: how many bytes it took, 0 also where it failed.
+    fn put_some(&mut self, rest: &[u8]) -> usize
+        ensures bound { result ≤ length rest.now }
+        ensures bytes { Appends (W.contents (sink_inner self.old)) (W.contents (sink_inner self.new)) (take result rest.now) }
+        ensures same { sink_failed self.new ≡ sink_failed self.old }
+    {
+        match self.inner.write(rest) {
+            Ok(count) => count,
+            Err(_) => 0,
+        }
+    }
+}
