@@ -16,3 +16,4 @@ pub mod WellFormed
 pub mod Building
 pub mod Codes
 pub mod Bytes
+pub mod Views

@@ -1,0 +1,174 @@
+//! Plans.
+ghost use Rattle.std.specs.Prelude.{◌≡◌, ◌<◌, ◌≤◌, ◌*◌, ◌^◌, length, Some, slice_get};
+ghost use Rattle.msrp_plan.specs.Plan.{task_at, release, key};
+ghost use Rattle.msrp_plan.specs.WellFormed.{IsPlan, IsTask};
+
+use crate::ids::{CoreId, JobId, JobKey, ResId, TaskId};
+use crate::units::Op;
+use indexmap::{IndexMap, IndexSet};
+use std::marker::Model;
+
+// A task as it is stored, under its name.
+#[derive(Debug, Drop)]
+pub(crate) struct Task {
+    pub(crate) core: CoreId,
+    pub(crate) period: u32,
+    pub(crate) deadline: u32,
+    pub(crate) offset: u32,
+    pub(crate) units: Vec<Op>,
+}
+
+/// An accepted plan: periodic tasks, partitioned over cores, with the resources that they lock.
+#[derive(Debug, Drop)]
+pub struct Plan {
+    pub(crate) cores: u32,
+    pub(crate) ticks: u32,
+    pub(crate) resources: IndexSet<String>,
+    pub(crate) tasks: IndexMap<String, Task>,
+}
+
+impl Model for Plan {
+    ghost use Rattle.msrp_plan.specs.Plan.{PlanModel};
+
+    ghost Value = { PlanModel };
+
+    ghost use Rattle.msrp_plan.specs.Views.{plan_view, IsPlanView};
+
+    ghost view = { plan_view };
+
+    ghost invariant = { IsPlanView };
+}
+
+impl Plan {
+    ghost use Rattle.msrp_plan.specs.Views.{task_view};
+
+    /// The number of cores.
+    pub fn cores(&self) -> u32
+        ensures value { result ≡ self.now.cores }
+        ensures plan { IsPlan self.now }
+    {
+        self.cores
+    }
+
+    /// The number of ticks.
+    pub fn ticks(&self) -> u32
+        ensures value { result ≡ self.now.ticks }
+        ensures plan { IsPlan self.now }
+    {
+        self.ticks
+    }
+
+    /// The number of tasks.
+    pub fn tasks(&self) -> u32
+        ensures value { result ≡ length self.now.tasks }
+        ensures plan { IsPlan self.now }
+    {
+        self.tasks.len() as u32
+    }
+
+    /// The number of resources.
+    pub fn resources(&self) -> u32
+        ensures value { result ≡ length self.now.resources }
+        ensures plan { IsPlan self.now }
+    {
+        self.resources.len() as u32
+    }
+
+    // The task of a number, with its name.
+    fn named_task(&self, task: TaskId) -> (&String, &Task)
+        requires { task.0 < length self.now.tasks }
+        ensures stored { task_view (result.0.now, result.1.now) ≡ task_at self.now task.0 }
+        ensures numbers { IsTask self.now (task_at self.now task.0) }
+    {
+        self.tasks.get_index(task.0 as usize).unwrap()
+    }
+
+    /// The name of a task.
+    pub fn task_name(&self, task: TaskId) -> &str
+        requires { task.0 < length self.now.tasks }
+        ensures { result.now ≡ (task_at self.now task.0).name }
+    {
+        self.named_task(task).0.as_str()
+    }
+
+    /// The name of a resource.
+    pub fn res_name(&self, res: ResId) -> &str
+        requires { res.0 < length self.now.resources }
+        ensures { slice_get self.now.resources res.0 ≡ Some result.now }
+    {
+        self.resources[res.0 as usize].as_str()
+    }
+
+    /// The core that a task belongs to.
+    pub fn core_of(&self, task: TaskId) -> CoreId
+        requires { task.0 < length self.now.tasks }
+        ensures { result.0 ≡ (task_at self.now task.0).core }
+    {
+        self.named_task(task).1.core
+    }
+
+    /// The ticks from one release of a task to the next.
+    pub fn period(&self, task: TaskId) -> u32
+        requires { task.0 < length self.now.tasks }
+        ensures { result ≡ (task_at self.now task.0).period }
+    {
+        self.named_task(task).1.period
+    }
+
+    /// The relative deadline of a task, in ticks from the release of each of its jobs.
+    pub fn deadline(&self, task: TaskId) -> u32
+        requires { task.0 < length self.now.tasks }
+        ensures { result ≡ (task_at self.now task.0).deadline }
+    {
+        self.named_task(task).1.deadline
+    }
+
+    /// The tick of a task's first release.
+    pub fn offset(&self, task: TaskId) -> u32
+        requires { task.0 < length self.now.tasks }
+        ensures { result ≡ (task_at self.now task.0).offset }
+    {
+        self.named_task(task).1.offset
+    }
+
+    /// The number of units of a task.
+    pub fn units(&self, task: TaskId) -> u32
+        requires { task.0 < length self.now.tasks }
+        ensures { result ≡ length (task_at self.now task.0).units }
+    {
+        self.named_task(task).1.units.len() as u32
+    }
+
+    /// A unit of a task, by its place from 0.
+    pub fn unit(&self, task: TaskId, place: u32) -> Op
+        requires task { task.0 < length self.now.tasks }
+        requires place { place < length (task_at self.now task.0).units }
+        ensures { slice_get (task_at self.now task.0).units place ≡ Some result }
+    {
+        self.named_task(task).1.units[place as usize]
+    }
+
+    /// The tick in which a job is released: of each job of the task, also those past the last tick.
+    pub fn release(&self, job: JobId) -> u64
+        requires { job.task.0 < length self.now.tasks }
+        ensures value { result ≡ release self.now job }
+        ensures bound { result ≤ 1000000 * 2 ^ 32 }
+    {
+        let task = self.named_task(job.task).1;
+        u64::from(task.offset) + u64::from(job.k) * u64::from(task.period)
+    }
+
+    /// What the jobs of a core are ordered by.
+    pub fn job_key(&self, job: JobId) -> JobKey
+        requires { job.task.0 < length self.now.tasks }
+        ensures { result ≡ key self.now job }
+    {
+        let release = self.release(job);
+        JobKey {
+            deadline: release + u64::from(self.deadline(job.task)),
+            release,
+            task: job.task.0,
+            k: job.k,
+        }
+    }
+}
