@@ -1,1 +1,3 @@
 pub mod Remaining
+pub mod Digits
+pub mod Texts

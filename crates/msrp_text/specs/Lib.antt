@@ -1,2 +1,6 @@
 pub mod Settings
 pub mod Records
+pub mod Fields
+pub mod Reading
+pub mod Stages
+pub mod Provisional

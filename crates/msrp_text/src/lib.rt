@@ -1,4 +1,7 @@
 //! Plan text, version 1: the plan of a text, or its first refusal.
 #![tactic(auto)]
 
+pub mod fields;
+pub mod provisional;
+pub mod reading;
 pub mod records;
