@@ -1,3 +1,4 @@
 pub mod Remaining
 pub mod Digits
 pub mod Texts
+pub mod Judging

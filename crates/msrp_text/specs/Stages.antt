@@ -1,12 +1,15 @@
 -- Where a reader of a plan stands between two records: what is to be read next, and the plan so far.
-use Rattle.std.specs.Prelude.{ℕ, List, [], Option, Some, None, Result, Ok, Err, ◌≡◌, ◌⊎◌, ⊤}
+use Rattle.std.specs.Prelude.{ℕ, List, [], Option, Some, None, Result, Ok, Err, codes, cond, is_none, ◌≡◌, ◌⊎◌, ◌&&◌}
 use Rattle.msrp_plan.specs.Building.{empty_plan}
 use Rattle.msrp_plan.specs.Plan.{PlanModel}
 use Rattle.msrp_plan.specs.declared.faults.PlanFault.{PlanFault}
 use Rattle.msrp_plan.specs.declared.faults.PlanFault.TheVariants.{Memory}
-use Rattle.msrp_text.specs.Reading.{cores_fault, number_told, tasks_fault, ticks_fault, version_fault, with_record}
+use Rattle.msrp_text.specs.Reading.{cores_fault, lacks_number, number_told, step_told, tasks_fault, ticks_fault, version_fault, with_record}
 use Rattle.msrp_text.specs.declared.reading.Stage.{Stage}
 use Rattle.msrp_text.specs.declared.reading.Stage.TheVariants.{Version, Cores, Ticks, Tasks}
+use Rattle.msrp_plan.specs.declared.units.Step.{Step}
+use Rattle.msrp_text.specs.Fields.{has_word, number_at}
+use Rattle.msrp_text.specs.declared.reading.TaskNumbers.{TaskNumbers}
 use Rattle.msrp_text.specs.declared.reading.TextError.{TextError}
 use Rattle.msrp_text.specs.declared.reading.TextError.TheVariants.{At}
 
@@ -40,3 +43,12 @@ IsTaken None next r = (r ≡ Err Memory) ⊎ (r ≡ Ok next)
 abbrev pub numbered : {A : Type 0} → Option PlanFault → ℕ → A → Result A TextError
 numbered None number next = Ok next
 numbered (Some fault) number next = Err (At fault number)
+
+-- the four numbers of a `task` record, if all are there
+abbrev pub task_numbers : List (List ℕ) → Option TaskNumbers
+task_numbers fields =
+    cond (lacks_number fields) None (Some (record { core = number_told fields 2; period = number_told fields 3; deadline = number_told fields 4; offset = number_told fields 5 }))
+
+-- what an `op` record tells, unless it is a run whose number is none
+abbrev pub numbered_step : PlanModel → List (List ℕ) → Option Step
+numbered_step plan fields = cond (has_word fields 1 (codes "run") && is_none (number_at fields 2)) None (Some (step_told plan fields))
