@@ -2,3 +2,4 @@ pub mod Remaining
 pub mod Digits
 pub mod Texts
 pub mod Judging
+pub mod Folding

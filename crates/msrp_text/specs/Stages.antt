@@ -1,5 +1,5 @@
 -- Where a reader of a plan stands between two records: what is to be read next, and the plan so far.
-use Rattle.std.specs.Prelude.{ℕ, List, [], Option, Some, None, Result, Ok, Err, codes, cond, is_none, ◌≡◌, ◌⊎◌, ◌&&◌}
+use Rattle.std.specs.Prelude.{ℕ, List, [], Option, Some, None, Result, Ok, Err, codes, cond, is_none, ◌≡◌, ◌⊎◌, ◌&&◌, ⊤}
 use Rattle.msrp_plan.specs.Building.{empty_plan}
 use Rattle.msrp_plan.specs.Plan.{PlanModel}
 use Rattle.msrp_plan.specs.declared.faults.PlanFault.{PlanFault}
@@ -33,6 +33,13 @@ stage_plan Version = empty_plan 0 0
 stage_plan Cores = empty_plan 0 0
 stage_plan (Ticks cores) = empty_plan cores 0
 stage_plan (Tasks plan) = plan
+
+-- the plan so far has no resource
+unfoldable pub IsWorkAlone : Stage → Type 0
+IsWorkAlone Version = ⊤
+IsWorkAlone Cores = ⊤
+IsWorkAlone (Ticks cores) = ⊤
+IsWorkAlone (Tasks plan) = plan.resources ≡ []
 
 -- a stage is refused with its fault if it has one, else it goes on as it should but for want of memory
 abbrev pub IsTaken : {A : Type 0} → Option PlanFault → A → Result A PlanFault → Type 0

@@ -237,3 +237,34 @@ fn end(stage: Stage, number: u32) -> Result<Plan, TextError>
         Err(fault) => Err(refused(fault, number)),
     }
 }
+
+// The plan of a reader's text. An error of the reader is told as a failed read.
+fn read_records<R: Read>(alloc: Global, source: &mut Source<R>) -> Result<Plan, TextError>
+    ensures answer { (bytes : List ℕ) → source_remaining R.remaining source.old ≡ Some bytes → Answers result (plan_of (csv_records bytes)) }
+    ensures work { IfOk result (λ plan. plan.resources ≡ []) }
+{
+    let mut records = RecordReader::new(alloc, source);
+    let mut row = ByteRecord::new(alloc);
+    let mut stage = Stage::Version;
+    for number in 1..u32::MAX {
+        match records.read(&mut row) {
+            Ok(true) => stage = step(alloc, stage, &row, number)?,
+            Ok(false) => return end(stage, number),
+            Err(Stopped) => return Err(TextError::Read),
+        }
+    }
+    // A source gives far fewer bytes than so many records take.
+    Err(TextError::Memory)
+}
+
+/// The plan of a text, or its first refusal: of a text of the records that `csv` reads, version 1.
+pub fn read_plan<R: Read>(alloc: Global, source: &mut Source<R>) -> Result<Plan, TextError>
+    ensures answer { (bytes : List ℕ) → source_remaining R.remaining source.old ≡ Some bytes → Answers result (plan_of (csv_records bytes)) }
+    ensures faults { result ≡ Err TextError.Read → source_failed source.new ≡ true }
+    ensures work { IfOk result (λ plan. plan.resources ≡ []) }
+{
+    match read_records(alloc, source) {
+        Err(TextError::Read) if !source.failed() => Err(TextError::Memory),
+        answer => answer,
+    }
+}
