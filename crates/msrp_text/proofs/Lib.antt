@@ -3,3 +3,4 @@ pub mod Digits
 pub mod Texts
 pub mod Judging
 pub mod Folding
+pub mod WorkAlone

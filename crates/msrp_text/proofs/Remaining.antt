@@ -117,3 +117,13 @@ known-new (Some bytes) = refl
 pub left-new : (known : Option (List ℕ)) (state : State) (source : Option (List ℕ)) → state ≡ st.StartRecord → source ≡ option_map strip_bom known
     → option_map (records_at state) source ≡ option_map csv_records known
 left-new known state source e h = rw (e, h) (known-new known)
+
+-- a read that gave a record, and one that gave none
+pub gave-one : (left : List (List (List ℕ))) (found : Bool) (row : List (List ℕ)) (after : Option (List (List (List ℕ)))) → GivesNext left found row after → found ≡ true
+    → (rest : List (List (List ℕ))) × (left ≡ row ∷ rest) × (after ≡ Some rest)
+gave-one [] found row after h e = cc
+gave-one (r ∷ rest) found row after h e = (rest, ap (λ (x : List (List ℕ)). x ∷ rest) (sym h.1), h.2)
+
+pub gave-none : (left : List (List (List ℕ))) (found : Bool) (row : List (List ℕ)) (after : Option (List (List (List ℕ)))) → GivesNext left found row after → found ≡ false → left ≡ []
+gave-none [] found row after h e = refl
+gave-none (r ∷ rest) found row after h e = cc h.0
