@@ -4,3 +4,4 @@ pub mod Fields
 pub mod Reading
 pub mod Stages
 pub mod Provisional
+pub mod Judged

@@ -5,3 +5,5 @@ pub mod fields;
 pub mod provisional;
 pub mod reading;
 pub mod records;
+#[cfg(test)]
+mod tests;

@@ -1,6 +1,6 @@
 ghost use Rattle.std.specs.Prelude.{◌≡◌, ◌<◌, [], Some, None, length, option_map, IfOk, IfErr, OnOk, OnErr};
 ghost use Rattle.msrp_plan.specs.Building.{IsJudged, empty_plan, finish_fault, new_fault, op_fault, task_fault, units_of, with_task, with_units};
-ghost use Rattle.std.specs.Result.{result_map_both};
+ghost use Rattle.msrp_text.specs.Judged.{judged, finished, new_task};
 ghost use Rattle.msrp_plan.specs.Names.{name_position};
 
 use msrp_plan::{CoreId, Plan, PlanFault, ResId, Step, TaskId};
@@ -23,8 +23,7 @@ impl Model for PlanBuilder {
 
 impl PlanBuilder {
     pub fn new(alloc: Global, cores: u32, ticks: u32) -> Result<PlanBuilder, PlanFault>
-        ensures judged { IsJudged (new_fault cores ticks) result }
-        ensures made { IfOk result (λ b. b ≡ empty_plan cores ticks) }
+        ensures { result ≡ judged (new_fault cores ticks) (empty_plan cores ticks) }
     {
         Ok(PlanBuilder { alloc, cores, ticks })
     }
@@ -42,8 +41,8 @@ impl PlanBuilder {
     }
 
     pub fn task(&mut self, name: &str, core: CoreId, period: u32, deadline: u32, offset: u32) -> Result<TaskId, PlanFault>
-        ensures judged { IsJudged (task_fault self.old (record { name = name.now; core = core.0; period = period; deadline = deadline; offset = offset; units = [] })) result }
-        ensures added { OnOk result (self.new ≡ with_task self.old (record { name = name.now; core = core.0; period = period; deadline = deadline; offset = offset; units = [] })) }
+        ensures judged { IsJudged (task_fault self.old (new_task name.now core.0 period deadline offset)) result }
+        ensures added { OnOk result (self.new ≡ with_task self.old (new_task name.now core.0 period deadline offset)) }
         ensures kept { OnErr result (self.new ≡ self.old) }
     {
         Err(PlanFault::Memory)
@@ -59,9 +58,7 @@ impl PlanBuilder {
     }
 
     pub fn finish(self) -> Result<Plan, (PlanBuilder, PlanFault)>
-        ensures judged { IsJudged (finish_fault self) (result_map_both (λ p. p) (λ e. e.1) result) }
-        ensures made { IfOk result (λ plan. plan ≡ self) }
-        ensures kept { IfErr result (λ e. e.0 ≡ self) }
+        ensures { result ≡ finished (finish_fault self) self }
     {
         Err((self, PlanFault::Memory))
     }

@@ -1,4 +1,4 @@
 use Rattle.msrp_text.proofs.provisional.PlanBuilder.finish.Goals as goal
 
-pub returns-clause-judged : goal.returns-clause-judged
-returns-clause-judged c = ?
+pub returns : goal.returns
+returns c = ?
