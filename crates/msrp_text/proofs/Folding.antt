@@ -10,8 +10,8 @@ use Rattle.msrp_plan.specs.Plan.{PlanModel}
 use Rattle.msrp_plan.specs.declared.faults.PlanFault.{PlanFault}
 use Rattle.msrp_text.specs.Reading.{Answers, fault_after, first_or, number_told, plan_of, plan_told, refusal_at, with_record}
 use Rattle.msrp_text.specs.Stages.{numbered, stage_fault, stage_plan, stage_with}
-use Rattle.msrp_text.specs.declared.reading.Stage.{Stage}
-use Rattle.msrp_text.specs.declared.reading.Stage.TheVariants.{Version, Cores, Ticks, Tasks}
+use Rattle.msrp_text.specs.declared.stages.Stage.{Stage}
+use Rattle.msrp_text.specs.declared.stages.Stage.TheVariants.{Version, Cores, Ticks, Tasks}
 use Rattle.msrp_text.specs.declared.reading.TextError.{TextError}
 use Rattle.msrp_text.specs.declared.reading.TextError.TheVariants.{At, Memory}
 

@@ -8,7 +8,7 @@ use Rattle.msrp_plan.specs.declared.faults.PlanFault.TheVariants.{Memory}
 use Rattle.msrp_text.specs.Fields.{name_at}
 use Rattle.msrp_text.specs.Reading.{lacks_number, task_record_fault, task_told}
 use Rattle.msrp_text.specs.Stages.{IsTaken, task_numbers}
-use Rattle.msrp_text.specs.declared.reading.TaskNumbers.{TaskNumbers}
+use Rattle.msrp_text.specs.declared.stages.TaskNumbers.{TaskNumbers}
 
 -- a refusal of the builder, handed on
 judged-err : {A B : Type 0} (f : Option PlanFault) (next : B) (r : Result A PlanFault) (e : PlanFault) → IsJudged f r → r ≡ Err e → IsTaken f next (Err e)

@@ -7,8 +7,8 @@ use Rattle.msrp_plan.specs.declared.faults.PlanFault.{PlanFault}
 use Rattle.msrp_text.specs.Fields.{has_word}
 use Rattle.msrp_text.specs.Reading.{step_told, task_told, with_record}
 use Rattle.msrp_text.specs.Stages.{IsWorkAlone, numbered, stage_fault, stage_plan, stage_with}
-use Rattle.msrp_text.specs.declared.reading.Stage.{Stage}
-use Rattle.msrp_text.specs.declared.reading.Stage.TheVariants.{Version, Cores, Ticks, Tasks}
+use Rattle.msrp_text.specs.declared.stages.Stage.{Stage}
+use Rattle.msrp_text.specs.declared.stages.Stage.TheVariants.{Version, Cores, Ticks, Tasks}
 use Rattle.msrp_text.specs.declared.reading.TextError.{TextError}
 use Rattle.msrp_text.specs.declared.reading.TextError.TheVariants.{At, Memory}
 

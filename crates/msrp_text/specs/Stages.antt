@@ -5,11 +5,11 @@ use Rattle.msrp_plan.specs.Plan.{PlanModel}
 use Rattle.msrp_plan.specs.declared.faults.PlanFault.{PlanFault}
 use Rattle.msrp_plan.specs.declared.faults.PlanFault.TheVariants.{Memory}
 use Rattle.msrp_text.specs.Reading.{cores_fault, lacks_number, number_told, step_told, tasks_fault, ticks_fault, version_fault, with_record}
-use Rattle.msrp_text.specs.declared.reading.Stage.{Stage}
-use Rattle.msrp_text.specs.declared.reading.Stage.TheVariants.{Version, Cores, Ticks, Tasks}
+use Rattle.msrp_text.specs.declared.stages.Stage.{Stage}
+use Rattle.msrp_text.specs.declared.stages.Stage.TheVariants.{Version, Cores, Ticks, Tasks}
 use Rattle.msrp_plan.specs.declared.units.Step.{Step}
 use Rattle.msrp_text.specs.Fields.{has_word, number_at}
-use Rattle.msrp_text.specs.declared.reading.TaskNumbers.{TaskNumbers}
+use Rattle.msrp_text.specs.declared.stages.TaskNumbers.{TaskNumbers}
 use Rattle.msrp_text.specs.declared.reading.TextError.{TextError}
 use Rattle.msrp_text.specs.declared.reading.TextError.TheVariants.{At}
 

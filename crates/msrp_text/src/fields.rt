@@ -67,10 +67,7 @@ pub fn number_of(text: &[u8]) -> Option<u32>
 fn is_number(text: &[u8]) -> bool
     ensures { result ≡ is_number text.now }
 {
-    1 <= text.len()
-        && text.len() <= 9
-        && (text.len() == 1 || text[0] != b'0')
-        && are_digits(text)
+    1 <= text.len() && text.len() <= 9 && (text.len() == 1 || text[0] != b'0') && are_digits(text)
 }
 
 // Whether each byte is a decimal digit.

@@ -5,5 +5,8 @@ pub mod fields;
 pub mod provisional;
 pub mod reading;
 pub mod records;
+mod stages;
 #[cfg(test)]
 mod tests;
+
+pub use reading::{TextError, read_plan};

@@ -16,8 +16,11 @@ pub struct PlanBuilder {
 
 impl Model for PlanBuilder {
     ghost use Rattle.msrp_plan.specs.Plan.{PlanModel};
+
     ghost Value = { PlanModel };
+
     ghost use Rattle.msrp_text.specs.Provisional.{provisional_view};
+
     ghost view = { provisional_view };
 }
 
@@ -25,7 +28,11 @@ impl PlanBuilder {
     pub fn new(alloc: Global, cores: u32, ticks: u32) -> Result<PlanBuilder, PlanFault>
         ensures { result ≡ judged (new_fault cores ticks) (empty_plan cores ticks) }
     {
-        Ok(PlanBuilder { alloc, cores, ticks })
+        Ok(PlanBuilder {
+            alloc,
+            cores,
+            ticks,
+        })
     }
 
     pub fn tasks(&self) -> u32
@@ -40,7 +47,14 @@ impl PlanBuilder {
         None
     }
 
-    pub fn task(&mut self, name: &str, core: CoreId, period: u32, deadline: u32, offset: u32) -> Result<TaskId, PlanFault>
+    pub fn task(
+        &mut self,
+        name: &str,
+        core: CoreId,
+        period: u32,
+        deadline: u32,
+        offset: u32,
+    ) -> Result<TaskId, PlanFault>
         ensures judged { IsJudged (task_fault self.old (new_task name.now core.0 period deadline offset)) result }
         ensures added { OnOk result (self.new ≡ with_task self.old (new_task name.now core.0 period deadline offset)) }
         ensures kept { OnErr result (self.new ≡ self.old) }

@@ -6,5 +6,5 @@ use Rattle.msrp_text.proofs.fields.number_of.Given as goal
 abbrev pub invariant-loop-digit : goal.invariant-loop-digit
 invariant-loop-digit l = record {
   small : l.number < 10 ^ l.digit-index;
-  value : digits_from l.number (drop l.digit-index l.text) ≡ digits_value l.text
+  value : digits_from l.number (drop l.digit-index l.text) ≡ digits_value l.text;
 }

@@ -10,5 +10,5 @@ abbrev pub invariant-loop-number : goal.invariant-loop-number
 invariant-loop-number g l = record {
   work : IsWorkAlone l.stage;
   due : (bytes : List ℕ) → source_remaining g.R.Read.remaining l.fn.source ≡ Some bytes
-      → (left : List (List (List ℕ))) × (records_left (λ s. source_remaining g.R.Read.remaining s.now) l.records ≡ Some left) × (plan_from l.stage l.number left ≡ plan_of (csv_records bytes))
+      → (left : List (List (List ℕ))) × (records_left (λ s. source_remaining g.R.Read.remaining s.now) l.records ≡ Some left) × (plan_from l.stage l.number left ≡ plan_of (csv_records bytes));
 }

@@ -1,7 +1,7 @@
 use Rattle.std.proofs.Common.{rules, ◌≡◌, length, sym, ◌∙◌, Err}
 use Rattle.csv.specs.Records.{fields_of}
 use Rattle.msrp_text.proofs.Judging.{task-refused}
-use Rattle.msrp_text.proofs.reading.read_task.Goals as goal
+use Rattle.msrp_text.proofs.stages.read_task.Goals as goal
 
 pub returns-in_err-task-in-Some : goal.returns-in_err-task-in-Some
 returns-in_err-task-in-Some c =
