@@ -5,3 +5,4 @@ pub mod Reading
 pub mod Stages
 pub mod Provisional
 pub mod Judged
+pub mod Examples

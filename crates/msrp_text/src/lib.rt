@@ -8,5 +8,6 @@ pub mod records;
 mod stages;
 #[cfg(test)]
 mod tests;
+pub mod worked;
 
 pub use reading::{TextError, read_plan};
