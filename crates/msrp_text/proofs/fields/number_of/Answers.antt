@@ -1,0 +1,17 @@
+use Rattle.std.proofs.Common.{◌≡◌, true, arith, sym, ◌∙◌}
+use Rattle.msrp_text.specs.Fields.{is_number}
+use Rattle.msrp_text.proofs.Digits.{digit-at, digits-end, next-digit, number-digits, pow-more, pow-nine}
+use Rattle.msrp_text.proofs.fields.number_of.Goals as goal
+
+pub overflow_mul-number : goal.overflow_mul-number
+overflow_mul-number c =
+    let number = number-digits c.args.text.now (sym c.is_number.ensures ∙ c.if-not-is_number.false) in
+    let h = pow-nine c.loop-digit.digit-index (omega arith) in
+    omega (arith, c.loop-digit.invariant.small)
+
+pub overflow_add-number : goal.overflow_add-number
+overflow_add-number c =
+    let number = number-digits c.args.text.now (sym c.is_number.ensures ∙ c.if-not-is_number.false) in
+    let h = pow-nine c.loop-digit.digit-index (omega arith) in
+    let digit = digit-at c.args.text.now c.loop-digit.digit-index c.loop-digit-test.true number.1 in
+    omega (arith, c.loop-digit.invariant.small)

@@ -1,0 +1,4 @@
+use Rattle.msrp_text.proofs.provisional.PlanBuilder.op.Goals as goal
+
+pub returns-clause-judged : goal.returns-clause-judged
+returns-clause-judged c = ?

@@ -1,0 +1,8 @@
+pub mod Settings
+pub mod Records
+pub mod Fields
+pub mod Reading
+pub mod Stages
+pub mod Provisional
+pub mod Judged
+pub mod Examples

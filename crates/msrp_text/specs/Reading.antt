@@ -1,0 +1,133 @@
+-- The plan that a list of records tells, or the first refusal of one of them.
+use Rattle.std.specs.Prelude.{ℕ, Bool, true, false, not, List, [], ◌∷◌, length, Option, Some, None, Result, Ok, Err, codes, drop, fold, is_none, nat_le, option_map, slice_get, slice_index_or, take, unwrap_or, ◌≡◌, ◌⊎◌, ◌+◌, ◌==◌, ◌&&◌, ◌||◌, if◌then◌else◌}
+use Rattle.std.specs.List.{filter_map, range_with_len}
+use Rattle.msrp_plan.specs.Building.{empty_plan, fault_if, finish_fault, is_within, new_fault, op_fault, task_fault, units_of, with_task, with_units}
+use Rattle.msrp_plan.specs.Names.{name_position}
+use Rattle.msrp_plan.specs.Plan.{PlanModel, TaskModel}
+use Rattle.msrp_plan.specs.declared.faults.PlanFault.{PlanFault}
+use Rattle.msrp_plan.specs.declared.faults.PlanFault.TheVariants.{Version, OutOfPlace, FieldCount, Number, Limit}
+use Rattle.msrp_plan.specs.declared.ids.ResId.{ResId}
+use Rattle.msrp_plan.specs.declared.units.Step.{Step}
+use Rattle.msrp_plan.specs.declared.units.Step.TheVariants.{Run, Lock, Unlock}
+use Rattle.msrp_text.specs.Fields.{has_word, name_at, number_at}
+use Rattle.msrp_text.specs.declared.reading.TextError.{TextError}
+use Rattle.msrp_text.specs.declared.reading.TextError.TheVariants.{At, Read, Memory}
+pub use Rattle.msrp_text.specs.Records.{csv_records}
+
+-- the number that a record tells at a place
+abbrev pub number_told : List (List ℕ) → ℕ → ℕ
+number_told fields i = unwrap_or (number_at fields i) 0
+
+-- the task that a `task` record tells: name, core, period, relative deadline, offset, and no unit yet
+abbrev pub task_told : List (List ℕ) → TaskModel
+task_told fields = record { name = name_at fields 1; core = number_told fields 2; period = number_told fields 3; deadline = number_told fields 4; offset = number_told fields 5; units = [] }
+
+-- the resource of a name; what the plan hasn't declared is told as the greatest number
+abbrev pub resource_told : PlanModel → List ℕ → ResId
+resource_told plan name = record { 0 = unwrap_or (name_position plan.resources name) 4294967295 }
+
+-- the units that an `op` record tells: a run of work, a lock or an unlock
+abbrev pub step_told : PlanModel → List (List ℕ) → Step
+step_told plan fields =
+    if has_word fields 1 (codes "run") then Run (number_told fields 2)
+    else if has_word fields 1 (codes "lock") then Lock (resource_told plan (name_at fields 2))
+    else Unlock (resource_told plan (name_at fields 2))
+
+-- a plan with what one more record tells: a new task, or units for the newest one
+abbrev pub with_record : PlanModel → List (List ℕ) → PlanModel
+with_record plan fields =
+    if has_word fields 0 (codes "task") then with_task plan (task_told fields)
+    else if has_word fields 0 (codes "op") then with_units plan (units_of (step_told plan fields))
+    else plan
+
+abbrev pub record_at : List (List (List ℕ)) → ℕ → List (List ℕ)
+record_at records n = slice_index_or records n []
+
+-- the plan that records tell: the cores in the second, the ticks in the third, and then the tasks with their units
+unfoldable pub plan_told : List (List (List ℕ)) → PlanModel
+plan_told records = fold with_record (empty_plan (number_told (record_at records 1) 1) (number_told (record_at records 2) 1)) (drop 3 records)
+
+-- the first record is the version, `msrp,1`
+abbrev pub is_version : List (List ℕ) → Bool
+is_version fields = (length fields == 2) && has_word fields 0 (codes "msrp") && has_word fields 1 (codes "1")
+
+abbrev pub version_fault : Option (List (List ℕ)) → Option PlanFault
+version_fault None = Some Version
+version_fault (Some fields) = fault_if (not (is_version fields)) Version None
+
+-- the second record is `cores,M`, with 1 to 8 cores
+abbrev pub cores_fault : Option (List (List ℕ)) → Option PlanFault
+cores_fault None = Some OutOfPlace
+cores_fault (Some fields) =
+    fault_if (not (has_word fields 0 (codes "cores"))) OutOfPlace (
+    fault_if (not (length fields == 2)) FieldCount (
+    fault_if (is_none (number_at fields 1)) Number (
+    fault_if (not (is_within 1 8 (number_told fields 1))) Limit None)))
+
+-- the third record is `ticks,H`, which begins the plan
+abbrev pub ticks_fault : ℕ → Option (List (List ℕ)) → Option PlanFault
+ticks_fault cores None = Some OutOfPlace
+ticks_fault cores (Some fields) =
+    fault_if (not (has_word fields 0 (codes "ticks"))) OutOfPlace (
+    fault_if (not (length fields == 2)) FieldCount (
+    fault_if (is_none (number_at fields 1)) Number (
+    new_fault cores (number_told fields 1))))
+
+-- one of the four numbers of a `task` record is none
+abbrev pub lacks_number : List (List ℕ) → Bool
+lacks_number fields = is_none (number_at fields 2) || (is_none (number_at fields 3) || (is_none (number_at fields 4) || is_none (number_at fields 5)))
+
+-- `task,NAME,CORE,PERIOD,DEADLINE,OFFSET`
+abbrev pub task_record_fault : PlanModel → List (List ℕ) → Option PlanFault
+task_record_fault plan fields =
+    fault_if (not (length fields == 6)) FieldCount (
+    fault_if (lacks_number fields) Number (
+    task_fault plan (task_told fields)))
+
+-- `op,run,N`, `op,lock,NAME` or `op,unlock,NAME`
+abbrev pub is_op_word : List (List ℕ) → Bool
+is_op_word fields = has_word fields 1 (codes "run") || (has_word fields 1 (codes "lock") || has_word fields 1 (codes "unlock"))
+
+abbrev pub op_record_fault : PlanModel → List (List ℕ) → Option PlanFault
+op_record_fault plan fields =
+    fault_if (length plan.tasks == 0) OutOfPlace (
+    fault_if (nat_le (length fields) 1) FieldCount (
+    fault_if (not (is_op_word fields)) OutOfPlace (
+    fault_if (not (length fields == 3)) FieldCount (
+    fault_if (has_word fields 1 (codes "run") && is_none (number_at fields 2)) Number (
+    op_fault plan (step_told plan fields))))))
+
+-- every further record is a task or units of the newest task, and the end makes the plan whole
+abbrev pub tasks_fault : PlanModel → Option (List (List ℕ)) → Option PlanFault
+tasks_fault plan None = finish_fault plan
+tasks_fault plan (Some fields) =
+    if has_word fields 0 (codes "task") then task_record_fault plan fields
+    else if has_word fields 0 (codes "op") then op_record_fault plan fields
+    else Some OutOfPlace
+
+-- the first rule that the next record breaks, given the records before it; None stands for the end of the records
+unfoldable pub fault_after : List (List (List ℕ)) → Option (List (List ℕ)) → Option PlanFault
+fault_after [] next = version_fault next
+fault_after (version ∷ []) next = cores_fault next
+fault_after (version ∷ cores ∷ []) next = ticks_fault (number_told cores 1) next
+fault_after (version ∷ cores ∷ ticks ∷ rest) next = tasks_fault (plan_told (version ∷ cores ∷ ticks ∷ rest)) next
+
+-- a refusal by the number of its record: records are counted from 1, and the end counts as one more
+abbrev pub refusal_at : List (List (List ℕ)) → ℕ → Option TextError
+refusal_at records n = option_map (λ fault. At fault (n + 1)) (fault_after (take n records) (slice_get records n))
+
+-- each record of a text that breaks a rule given those before it
+abbrev pub refusals : List (List (List ℕ)) → List TextError
+refusals records = filter_map (refusal_at records) (range_with_len 0 (length records + 1))
+
+abbrev pub first_or : List TextError → PlanModel → Result PlanModel TextError
+first_or [] plan = Ok plan
+first_or (refusal ∷ rest) plan = Err refusal
+
+-- the plan that the records tell, or the first refusal
+unfoldable pub plan_of : List (List (List ℕ)) → Result PlanModel TextError
+plan_of records = first_or (refusals records) (plan_told records)
+
+-- an answer is the one that is due, but for a read that failed and for memory
+abbrev pub Answers : Result PlanModel TextError → Result PlanModel TextError → Type 0
+Answers answer due = (answer ≡ Err Read) ⊎ (answer ≡ Err Memory) ⊎ (answer ≡ due)

@@ -1,0 +1,27 @@
+-- The records of a text, and those that a reader of records has left.
+use Rattle.std.specs.Prelude.{◌≡◌, ◌+◌, ℕ, Bool, true, false, List, [], ◌∷◌, length, Option, Some, None, option_map, if◌then◌else◌}
+use Rattle.csv.specs.Reading.{default_config, records, records_from, source_of, strip_bom, reader_state}
+use Rattle.csv.specs.declared.parser.State.{State}
+use Rattle.csv.specs.declared.reader.Reader.{Reader}
+use Rattle.msrp_text.specs.declared.records.RecordReader.{RecordReader}
+
+-- the records of a text: a byte order mark at its start is no part of it
+abbrev pub csv_records : List ℕ → List (List (List ℕ))
+csv_records bytes = records default_config (strip_bom bytes)
+
+-- a read failed, as each further one does
+abbrev pub has_stopped : {R : Type 0} → RecordReader R → Bool
+has_stopped r = r.stopped
+
+-- the records of what is left of a text, from where a reader stands in it
+unfoldable pub records_at : State → List ℕ → List (List (List ℕ))
+records_at state bytes = records_from default_config (length bytes + 1) state bytes
+
+-- the records that are left, where the reader underneath tells its bytes
+abbrev pub records_left : {R : Type 0} → (R → Option (List ℕ)) → RecordReader R → Option (List (List (List ℕ)))
+records_left remaining r = option_map (records_at (reader_state r.rows)) (source_of remaining r.rows)
+
+-- a read gives the first of the records that were left, and leaves those after it; where none was left it tells so
+abbrev pub GivesNext : List (List (List ℕ)) → Bool → List (List ℕ) → Option (List (List (List ℕ))) → Type 0
+GivesNext [] found row after = found ≡ false
+GivesNext (r ∷ rest) found row after = (found ≡ true) × (row ≡ r) × (after ≡ Some rest)

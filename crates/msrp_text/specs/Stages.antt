@@ -1,0 +1,61 @@
+-- Where a reader of a plan stands between two records: what is to be read next, and the plan so far.
+use Rattle.std.specs.Prelude.{ℕ, List, [], Option, Some, None, Result, Ok, Err, codes, cond, is_none, ◌≡◌, ◌⊎◌, ◌&&◌, ⊤}
+use Rattle.msrp_plan.specs.Building.{empty_plan}
+use Rattle.msrp_plan.specs.Plan.{PlanModel}
+use Rattle.msrp_plan.specs.declared.faults.PlanFault.{PlanFault}
+use Rattle.msrp_plan.specs.declared.faults.PlanFault.TheVariants.{Memory}
+use Rattle.msrp_text.specs.Reading.{cores_fault, lacks_number, number_told, step_told, tasks_fault, ticks_fault, version_fault, with_record}
+use Rattle.msrp_text.specs.declared.stages.Stage.{Stage}
+use Rattle.msrp_text.specs.declared.stages.Stage.TheVariants.{Version, Cores, Ticks, Tasks}
+use Rattle.msrp_plan.specs.declared.units.Step.{Step}
+use Rattle.msrp_text.specs.Fields.{has_word, number_at}
+use Rattle.msrp_text.specs.declared.stages.TaskNumbers.{TaskNumbers}
+use Rattle.msrp_text.specs.declared.reading.TextError.{TextError}
+use Rattle.msrp_text.specs.declared.reading.TextError.TheVariants.{At}
+
+-- the first rule that the next record, or the end, breaks at a stage
+unfoldable pub stage_fault : Stage → Option (List (List ℕ)) → Option PlanFault
+stage_fault Version next = version_fault next
+stage_fault Cores next = cores_fault next
+stage_fault (Ticks cores) next = ticks_fault cores next
+stage_fault (Tasks plan) next = tasks_fault plan next
+
+-- the stage after one more record
+unfoldable pub stage_with : Stage → List (List ℕ) → Stage
+stage_with Version fields = Cores
+stage_with Cores fields = Ticks (number_told fields 1)
+stage_with (Ticks cores) fields = Tasks (empty_plan cores (number_told fields 1))
+stage_with (Tasks plan) fields = Tasks (with_record plan fields)
+
+-- the plan so far
+unfoldable pub stage_plan : Stage → PlanModel
+stage_plan Version = empty_plan 0 0
+stage_plan Cores = empty_plan 0 0
+stage_plan (Ticks cores) = empty_plan cores 0
+stage_plan (Tasks plan) = plan
+
+-- the plan so far has no resource
+unfoldable pub IsWorkAlone : Stage → Type 0
+IsWorkAlone Version = ⊤
+IsWorkAlone Cores = ⊤
+IsWorkAlone (Ticks cores) = ⊤
+IsWorkAlone (Tasks plan) = plan.resources ≡ []
+
+-- a stage is refused with its fault if it has one, else it goes on as it should but for want of memory
+abbrev pub IsTaken : {A : Type 0} → Option PlanFault → A → Result A PlanFault → Type 0
+IsTaken (Some fault) next r = r ≡ Err fault
+IsTaken None next r = (r ≡ Err Memory) ⊎ (r ≡ Ok next)
+
+-- what is due at a record of that number: its refusal, or what comes of it
+abbrev pub numbered : {A : Type 0} → Option PlanFault → ℕ → A → Result A TextError
+numbered None number next = Ok next
+numbered (Some fault) number next = Err (At fault number)
+
+-- the four numbers of a `task` record, if all are there
+abbrev pub task_numbers : List (List ℕ) → Option TaskNumbers
+task_numbers fields =
+    cond (lacks_number fields) None (Some (record { core = number_told fields 2; period = number_told fields 3; deadline = number_told fields 4; offset = number_told fields 5 }))
+
+-- what an `op` record tells, unless it is a run whose number is none
+abbrev pub numbered_step : PlanModel → List (List ℕ) → Option Step
+numbered_step plan fields = cond (has_word fields 1 (codes "run") && is_none (number_at fields 2)) None (Some (step_told plan fields))

@@ -1,0 +1,203 @@
+//! Plan text, record by record.
+ghost use Rattle.std.specs.Prelude.{◌≡◌, Some, None, true};
+ghost use Rattle.csv.specs.Records.{fields_of};
+ghost use Rattle.msrp_plan.specs.Building.{empty_plan, units_of, with_task, with_units};
+ghost use Rattle.msrp_text.specs.Reading.{cores_fault, is_op_word, number_told, op_record_fault, resource_told, step_told, task_record_fault, task_told, tasks_fault, ticks_fault, version_fault, with_record};
+ghost use Rattle.msrp_text.specs.Stages.{IsTaken, numbered_step, stage_fault, stage_plan, stage_with, task_numbers};
+
+use crate::fields::{has_word, name_at, number_at};
+use crate::provisional::PlanBuilder;
+use csv::ByteRecord;
+use msrp_plan::{CoreId, Plan, PlanFault, ResId, Step};
+use std::alloc::Global;
+
+/// Where a reader stands between two records.
+#[derive(Drop)]
+pub(crate) enum Stage {
+    /// The version has to come.
+    Version,
+    /// The number of cores has to come.
+    Cores,
+    /// The number of ticks has to come, for so many cores.
+    Ticks(u32),
+    /// Tasks and units may come, and the end.
+    Tasks(PlanBuilder),
+}
+
+// The first record.
+fn read_version(row: &ByteRecord) -> Result<Stage, PlanFault>
+    ensures { IsTaken (version_fault (Some (fields_of row.now))) Stage.Cores result }
+{
+    if row.len() == 2 && has_word(row, 0, b"msrp") && has_word(row, 1, b"1") {
+        Ok(Stage::Cores)
+    } else {
+        Err(PlanFault::Version)
+    }
+}
+
+// The second record. The number of cores is judged here, the number of ticks by the builder.
+fn read_cores(row: &ByteRecord) -> Result<Stage, PlanFault>
+    ensures { IsTaken (cores_fault (Some (fields_of row.now))) (Stage.Ticks (number_told (fields_of row.now) 1)) result }
+{
+    if !has_word(row, 0, b"cores") {
+        return Err(PlanFault::OutOfPlace);
+    }
+    if row.len() != 2 {
+        return Err(PlanFault::FieldCount);
+    }
+    match number_at(row, 1) {
+        None => Err(PlanFault::Number),
+        Some(cores) if 1 <= cores && cores <= 8 => Ok(Stage::Ticks(cores)),
+        Some(_) => Err(PlanFault::Limit),
+    }
+}
+
+// The third record.
+fn read_ticks(alloc: Global, cores: u32, row: &ByteRecord) -> Result<Stage, PlanFault>
+    ensures { IsTaken (ticks_fault cores (Some (fields_of row.now))) (Stage.Tasks (empty_plan cores (number_told (fields_of row.now) 1))) result }
+{
+    if !has_word(row, 0, b"ticks") {
+        return Err(PlanFault::OutOfPlace);
+    }
+    if row.len() != 2 {
+        return Err(PlanFault::FieldCount);
+    }
+    match number_at(row, 1) {
+        None => Err(PlanFault::Number),
+        Some(ticks) => Ok(Stage::Tasks(PlanBuilder::new(alloc, cores, ticks)?)),
+    }
+}
+
+// The numbers of a task's record.
+#[derive(Clone, Copy)]
+struct TaskNumbers {
+    core: u32,
+    period: u32,
+    deadline: u32,
+    offset: u32,
+}
+
+// The numbers of a task's record, if all four are there.
+fn task_numbers(row: &ByteRecord) -> Option<TaskNumbers>
+    ensures { result ≡ task_numbers (fields_of row.now) }
+{
+    Some(TaskNumbers {
+        core: number_at(row, 2)?,
+        period: number_at(row, 3)?,
+        deadline: number_at(row, 4)?,
+        offset: number_at(row, 5)?,
+    })
+}
+
+// A new task.
+fn read_task(mut builder: PlanBuilder, row: &ByteRecord) -> Result<PlanBuilder, PlanFault>
+    ensures { IsTaken (task_record_fault builder (fields_of row.now)) (with_task builder (task_told (fields_of row.now))) result }
+{
+    if row.len() != 6 {
+        return Err(PlanFault::FieldCount);
+    }
+    match task_numbers(row) {
+        None => Err(PlanFault::Number),
+        Some(numbers) => {
+            builder.task(
+                name_at(row, 1),
+                CoreId(numbers.core),
+                numbers.period,
+                numbers.deadline,
+                numbers.offset,
+            )?;
+            Ok(builder)
+        }
+    }
+}
+
+// The resource of a name. One that was not declared gets the greatest number, which the builder refuses.
+fn resource_told(builder: &PlanBuilder, name: &str) -> ResId
+    ensures { result ≡ resource_told builder.now name.now }
+{
+    builder.res_of(name).unwrap_or(ResId(u32::MAX))
+}
+
+// What an operation's record tells, where its second field is one of the three words.
+fn step_told(builder: &PlanBuilder, row: &ByteRecord) -> Option<Step>
+    requires { is_op_word (fields_of row.now) ≡ true }
+    ensures { result ≡ numbered_step builder.now (fields_of row.now) }
+{
+    if has_word(row, 1, b"run") {
+        Some(Step::Run(number_at(row, 2)?))
+    } else if has_word(row, 1, b"lock") {
+        Some(Step::Lock(resource_told(builder, name_at(row, 2))))
+    } else {
+        Some(Step::Unlock(resource_told(builder, name_at(row, 2))))
+    }
+}
+
+// Whether an operation's record has one of the three words.
+fn is_op_word(row: &ByteRecord) -> bool
+    ensures { result ≡ is_op_word (fields_of row.now) }
+{
+    has_word(row, 1, b"run") || has_word(row, 1, b"lock") || has_word(row, 1, b"unlock")
+}
+
+// Units of the newest task.
+fn read_op(mut builder: PlanBuilder, row: &ByteRecord) -> Result<PlanBuilder, PlanFault>
+    ensures { IsTaken (op_record_fault builder (fields_of row.now)) (with_units builder (units_of (step_told builder (fields_of row.now)))) result }
+{
+    if builder.tasks() == 0 {
+        return Err(PlanFault::OutOfPlace);
+    }
+    if row.len() < 2 {
+        return Err(PlanFault::FieldCount);
+    }
+    if !is_op_word(row) {
+        return Err(PlanFault::OutOfPlace);
+    }
+    if row.len() != 3 {
+        return Err(PlanFault::FieldCount);
+    }
+    match step_told(&builder, row) {
+        None => Err(PlanFault::Number),
+        Some(step) => {
+            builder.op(step)?;
+            Ok(builder)
+        }
+    }
+}
+
+// A record after the first three: a task, or units of the newest one.
+fn read_record(builder: PlanBuilder, row: &ByteRecord) -> Result<PlanBuilder, PlanFault>
+    ensures { IsTaken (tasks_fault builder (Some (fields_of row.now))) (with_record builder (fields_of row.now)) result }
+{
+    if has_word(row, 0, b"task") {
+        read_task(builder, row)
+    } else if has_word(row, 0, b"op") {
+        read_op(builder, row)
+    } else {
+        Err(PlanFault::OutOfPlace)
+    }
+}
+
+/// The stage after one more record.
+#[tactic(auto, unfolding(crate::specs::Stages::stage_fault, crate::specs::Stages::stage_with))]
+pub(crate) fn stage_after(alloc: Global, stage: Stage, row: &ByteRecord) -> Result<Stage, PlanFault>
+    ensures { IsTaken (stage_fault stage (Some (fields_of row.now))) (stage_with stage (fields_of row.now)) result }
+{
+    match stage {
+        Stage::Version => read_version(row),
+        Stage::Cores => read_cores(row),
+        Stage::Ticks(cores) => read_ticks(alloc, cores, row),
+        Stage::Tasks(builder) => Ok(Stage::Tasks(read_record(builder, row)?)),
+    }
+}
+
+/// The plan at the end of the records.
+#[tactic(auto, unfolding(crate::specs::Stages::stage_fault, crate::specs::Stages::stage_plan))]
+pub(crate) fn plan_at_end(stage: Stage) -> Result<Plan, PlanFault>
+    ensures { IsTaken (stage_fault stage None) (stage_plan stage) result }
+{
+    match stage {
+        Stage::Version => Err(PlanFault::Version),
+        Stage::Cores | Stage::Ticks(_) => Err(PlanFault::OutOfPlace),
+        Stage::Tasks(builder) => builder.finish().map_err(|(_, fault)| fault),
+    }
+}

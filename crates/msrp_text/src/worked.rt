@@ -1,0 +1,46 @@
+//! Worked examples, computed from the definitions alone: texts, byte by byte, with the plan that they tell or
+//! the refusal. Each function does nothing; its contract is the example.
+ghost use Rattle.std.specs.Prelude.{◌≡◌, ◌++◌, codes, Ok};
+ghost use Rattle.msrp_text.specs.Reading.{csv_records, plan_of};
+ghost use Rattle.msrp_text.specs.Examples.{head, one_task_plan, refused};
+ghost use Rattle.msrp_plan.specs.declared.faults.PlanFault.TheVariants.{Version, OutOfPlace, FieldCount, Number, Name, Taken, Limit, Undeclared, Core, NoUnit};
+
+/// One task, which works for two ticks of three; also with its work told in two records, and with fields in
+/// quotes and lines that end as they do on other systems.
+pub fn one_task()
+    ensures plain { plan_of (csv_records (codes "msrp,1\ncores,1\nticks,3\ntask,a,0,3,3,0\nop,run,2\n")) ≡ Ok one_task_plan }
+    ensures two_runs { plan_of (csv_records (codes "msrp,1\ncores,1\nticks,3\ntask,a,0,3,3,0\nop,run,1\nop,run,1\n")) ≡ Ok one_task_plan }
+    ensures quoted { plan_of (csv_records (codes "msrp,1\r\n\r\ncores,\"1\"\r\nticks,3\r\ntask,\"a\",0,3,3,0\r\nop,run,2")) ≡ Ok one_task_plan }
+{}
+
+/// The first three records, and a text that ends before them. The end counts as one more record.
+pub fn first_records()
+    ensures nothing { plan_of (csv_records (codes "")) ≡ refused Version 1 }
+    ensures another_version { plan_of (csv_records (codes "msrp,3\n")) ≡ refused Version 1 }
+    ensures version_alone { plan_of (csv_records (codes "msrp,1\n")) ≡ refused OutOfPlace 2 }
+    ensures two_numbers { plan_of (csv_records (codes "msrp,1\ncores,1,1\n")) ≡ refused FieldCount 2 }
+    ensures leading_zero { plan_of (csv_records (codes "msrp,1\ncores,01\n")) ≡ refused Number 2 }
+    ensures ten_digits { plan_of (csv_records (codes "msrp,1\ncores,1000000000\n")) ≡ refused Number 2 }
+    ensures nine_cores { plan_of (csv_records (codes "msrp,1\ncores,9\n")) ≡ refused Limit 2 }
+    ensures too_many_ticks { plan_of (csv_records (codes "msrp,1\ncores,1\nticks,20001\n")) ≡ refused Limit 3 }
+{}
+
+/// Records of tasks, after the first three with one core.
+pub fn tasks()
+    ensures resource { plan_of (csv_records (head ++ codes "resource,r\n")) ≡ refused OutOfPlace 4 }
+    ensures capital { plan_of (csv_records (head ++ codes "task,A,0,3,3,0\n")) ≡ refused Name 4 }
+    ensures no_such_core { plan_of (csv_records (head ++ codes "task,a,1,3,3,0\n")) ≡ refused Core 4 }
+    ensures no_period { plan_of (csv_records (head ++ codes "task,a,0,0,3,0\n")) ≡ refused Limit 4 }
+    ensures no_unit { plan_of (csv_records (head ++ codes "task,a,0,3,3,0\n")) ≡ refused NoUnit 5 }
+    ensures used_name { plan_of (csv_records (head ++ codes "task,a,0,3,3,0\nop,run,1\ntask,a,0,3,3,0\n")) ≡ refused Taken 6 }
+    ensures record_first { plan_of (csv_records (head ++ codes "task,a,0,3,3,0\ntask,b\n")) ≡ refused FieldCount 5 }
+{}
+
+/// Records of units, after a task.
+pub fn units()
+    ensures no_task { plan_of (csv_records (head ++ codes "op,run,1\n")) ≡ refused OutOfPlace 4 }
+    ensures word_missing { plan_of (csv_records (head ++ codes "task,a,0,3,3,0\nop\n")) ≡ refused FieldCount 5 }
+    ensures unknown_word { plan_of (csv_records (head ++ codes "task,a,0,3,3,0\nop,foo\n")) ≡ refused OutOfPlace 5 }
+    ensures run_of_none { plan_of (csv_records (head ++ codes "task,a,0,3,3,0\nop,run,0\n")) ≡ refused Limit 5 }
+    ensures no_such_resource { plan_of (csv_records (head ++ codes "task,a,0,3,3,0\nop,lock,r\n")) ≡ refused Undeclared 5 }
+{}
