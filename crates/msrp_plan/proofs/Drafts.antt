@@ -131,7 +131,7 @@ ended : (plan : PlanModel) (held : List ℕ) → IsGrowing plan held → end_fau
 ended plan held h e = ended_by plan held (length plan.tasks == 0) h.holds refl e
 
 -- every task is whole in a draft that may end
-all_whole : (plan : PlanModel) (held : List ℕ) → IsGrowing plan held → end_fault plan ≡ None → (t : ℕ) → t < length plan.tasks → IsWhole (task_at plan t).units
+pub all_whole : (plan : PlanModel) (held : List ℕ) → IsGrowing plan held → end_fault plan ≡ None → (t : ℕ) → t < length plan.tasks → IsWhole (task_at plan t).units
 all_whole plan held h e t past = elim (cases_eq (t + 1) (length plan.tasks)) [
   | inl last ↦ let same : t ≡ length plan.tasks - 1 = omega (arith, last) in subst (λ k. IsWhole (task_at plan k).units) (sym same) ((ended plan held h e).whole (omega (arith, past)))
   | inr other ↦ h.whole t (omega (arith, past, other))

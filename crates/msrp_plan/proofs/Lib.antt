@@ -37,6 +37,7 @@ pub mod ReplyLocality
 pub mod Nesting
 pub mod Faultless
 pub mod Drafts
+pub mod WholePlans
 pub mod Stored
 pub mod WorkAlone
 pub mod JobLists
