@@ -1,5 +1,5 @@
 -- What the current ceiling of a core is not below.
-use Rattle.std.proofs.Common.{◌≡◌, ℕ, ◌<◌, ◌≤◌, Bool, true, false, cond, not, ◌&&◌, ◌||◌, ◌==◌, List, refl, ap, sym, ◌∙◌, subst, arith, length, eq-eqb}
+use Rattle.std.proofs.Common.{◌≡◌, ℕ, ◌<◌, ◌≤◌, true, false, cond, not, ◌&&◌, ◌||◌, ◌==◌, List, ap, ◌∙◌, arith, length, eq-eqb}
 use Rattle.std.specs.List.{list_any, Contains}
 use Rattle.std.proofs.Math.Bool.{or-true}
 use Rattle.msrp_plan.specs.Plan.{PlanModel, TaskModel, task_of, core_of}

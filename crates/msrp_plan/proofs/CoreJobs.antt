@@ -1,11 +1,11 @@
 -- The jobs of a core, by the tests that name them.
-use Rattle.std.proofs.Common.{◌≡◌, ℕ, Bool, true, ◌==◌, List, Option, Some, subst}
+use Rattle.std.proofs.Common.{◌≡◌, ℕ, true, ◌==◌, Option, Some, subst}
 use Rattle.std.specs.List.{Contains}
 use Rattle.std.proofs.lemmas.Bool.{eqb-true}
 use Rattle.std.proofs.lemmas.List.Elements.{All-contains, filter_passes}
 use Rattle.std.proofs.lemmas.Map.Views.{Contains-from_any}
 use Rattle.msrp_plan.specs.Plan.{PlanModel, core_of}
-use Rattle.msrp_plan.specs.Jobs.{jobs, jobs_on, same_job}
+use Rattle.msrp_plan.specs.Jobs.{jobs, jobs_on}
 use Rattle.msrp_plan.specs.Runs.{is_on_core}
 use Rattle.msrp_plan.specs.declared.ids.JobId.{JobId}
 use Rattle.msrp_plan.proofs.JobTests.{same_is}

@@ -1,6 +1,6 @@
 -- What a legal row does to a global resource: six effects, each with the stands of its job before and after,
 -- everyone else's unchanged, and the queue after it.
-use Rattle.std.proofs.Common.{◌≡◌, ℕ, ◌+◌, Bool, true, false, cond, not, ◌&&◌, ◌==◌, List, [], ◌∷◌, ◌++◌, Option, Some, None, refl, ap, sym, ◌∙◌, subst, arith, slice_get, drop}
+use Rattle.std.proofs.Common.{◌≡◌, ℕ, ◌+◌, Bool, true, false, cond, not, ◌==◌, List, [], ◌∷◌, ◌++◌, Option, Some, None, refl, ap, sym, ◌∙◌, subst, arith, slice_get, drop}
 use Rattle.std.specs.List.{list_any}
 use Rattle.std.proofs.lemmas.Bool.{eqb-true, and_parts, not-true, false_from_ne_true}
 use Rattle.msrp_plan.specs.Plan.{PlanModel, units}
@@ -19,7 +19,7 @@ use Rattle.msrp_plan.specs.declared.units.Op.TheVariants.{Lock as LockUnit, Unlo
 use Rattle.msrp_plan.specs.declared.rows.Kind.{Kind}
 use Rattle.msrp_plan.specs.declared.rows.Kind.TheVariants.{Idle, Take, Queue, Spin, Grant, Release}
 use Rattle.msrp_plan.specs.declared.rows.Row.{Row}
-use Rattle.msrp_plan.proofs.JobTests.{is_job_is, one_job}
+use Rattle.msrp_plan.proofs.JobTests.{one_job}
 use Rattle.msrp_plan.proofs.States.{state_moved}
 use Rattle.msrp_plan.proofs.PlanUnits.{units_lock}
 use Rattle.msrp_plan.proofs.UnitCounts.{held_in, held_lock, held_unlock, held_other}

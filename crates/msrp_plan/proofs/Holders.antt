@@ -4,7 +4,7 @@ use Rattle.std.proofs.Math.Bool.{true≢false}
 use Rattle.msrp_plan.specs.Plan.{PlanModel}
 use Rattle.msrp_plan.specs.Jobs.{is_row_of}
 use Rattle.msrp_plan.specs.Levels.{is_global}
-use Rattle.msrp_plan.specs.Queues.{fifo, is_free, is_first, is_release_of, is_release}
+use Rattle.msrp_plan.specs.Queues.{fifo, is_first, is_release_of, is_release}
 use Rattle.msrp_plan.specs.Runs.{IsLegal, EachAfter}
 use Rattle.msrp_plan.specs.Laws.{IsHeldByOne}
 use Rattle.msrp_plan.specs.WellFormed.{IsPlan}

@@ -1,5 +1,5 @@
 -- What the tests of jobs and of their rows say of which job it is.
-use Rattle.std.proofs.Common.{◌≡◌, Bool, true, false, ◌&&◌, ◌==◌, Option, Some, None, refl, ap, sym, ◌∙◌, arith, eq-eqb}
+use Rattle.std.proofs.Common.{◌≡◌, true, ◌&&◌, ◌==◌, Option, Some, None, refl, ap, sym, ◌∙◌, arith, eq-eqb}
 use Rattle.msrp_plan.specs.Jobs.{same_job, is_job, is_row_of}
 use Rattle.msrp_plan.specs.declared.ids.JobId.{JobId}
 use Rattle.msrp_plan.specs.declared.rows.Row.{Row}

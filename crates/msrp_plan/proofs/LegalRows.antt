@@ -1,5 +1,5 @@
 -- What a legal row is, in relations: the tests of the rules, read as facts on its tick, core, job, unit and reply.
-use Rattle.std.proofs.Common.{◌≡◌, ℕ, ◌<◌, ◌/◌, Bool, true, false, not, ◌&&◌, ◌==◌, nat_lt, List, Option, Some, None, refl, ap, sym, ◌∙◌, subst, length, slice_get}
+use Rattle.std.proofs.Common.{◌≡◌, ℕ, ◌<◌, ◌/◌, true, false, not, ◌&&◌, ◌==◌, nat_lt, List, Option, Some, None, refl, ap, sym, ◌∙◌, subst, length, slice_get}
 use Rattle.std.specs.List.{Contains}
 use Rattle.std.proofs.lemmas.Bool.{eqb-true, ltb-true, and_parts, not-true}
 use Rattle.msrp_plan.specs.Plan.{PlanModel, units, core_of}
@@ -8,7 +8,7 @@ use Rattle.msrp_plan.specs.Choice.{choice}
 use Rattle.msrp_plan.specs.Shape.{has_shape}
 use Rattle.msrp_plan.specs.Actions.{same_res, res_of_unit, is_global_unit, allows, is_idle, does_unit, does_next}
 use Rattle.msrp_plan.specs.Queues.{fifo, replies}
-use Rattle.msrp_plan.specs.Runs.{had_turn, is_in_turn, is_of_core, same_choice, is_chosen, is_next_action, replies_on, is_fifo_reply, IsLegal}
+use Rattle.msrp_plan.specs.Runs.{had_turn, is_in_turn, is_of_core, same_choice, is_chosen, is_next_action, replies_on, IsLegal}
 use Rattle.msrp_plan.specs.declared.ids.JobId.{JobId}
 use Rattle.msrp_plan.specs.declared.ids.ResId.{ResId}
 use Rattle.msrp_plan.specs.declared.units.Op.{Op}

@@ -38,6 +38,8 @@ pub mod Nesting
 pub mod Faultless
 pub mod Drafts
 pub mod WholePlans
+pub mod AcceptedPlans
+pub mod KeptLaws
 pub mod Stored
 pub mod WorkAlone
 pub mod JobLists

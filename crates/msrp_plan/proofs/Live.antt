@@ -1,6 +1,6 @@
 -- Started and unfinished jobs: whoever holds a resource or waits for one is such a job.
-use Rattle.std.proofs.Common.{◌≡◌, ◌≢◌, ℕ, ◌<◌, Bool, true, false, cond, not, ◌&&◌, ◌==◌, List, [], ◌∷◌, ◌++◌, Option, Some, None, refl, ap, sym, ◌∙◌, subst, arith, length, nat_lt, take, slice_get, inl, inr}
-use Rattle.std.specs.List.{filter, fold, list_any, count_by}
+use Rattle.std.proofs.Common.{◌≡◌, ℕ, Bool, true, false, not, ◌&&◌, ◌==◌, List, [], ◌∷◌, ◌++◌, Option, Some, None, refl, ap, sym, ◌∙◌, arith, length, take, slice_get, inl, inr}
+use Rattle.std.specs.List.{fold}
 use Rattle.std.proofs.Math.Bool.{true≢false}
 use Rattle.std.proofs.lemmas.Bool.{eqb-true, le-ltb, true_from_ne_false, false_from_ne_true}
 use Rattle.std.proofs.lemmas.List.{take_all}

@@ -1,6 +1,6 @@
 -- Bounded overtaking: while a job waits for a global resource, those ahead of it in the queue come to hold it, each
 -- once, and nobody else does.
-use Rattle.std.proofs.Common.{◌≡◌, ◌≢◌, ℕ, ◌+◌, ◌-◌, ◌<◌, ◌≤◌, Bool, true, false, cond, ◌&&◌, List, [], ◌∷◌, ◌++◌, Some, refl, ap, sym, ◌∙◌, subst, arith, length, drop, append_assoc, append-nil, length-append}
+use Rattle.std.proofs.Common.{◌≡◌, ℕ, ◌+◌, ◌<◌, ◌≤◌, Bool, true, false, cond, ◌&&◌, List, [], ◌∷◌, ◌++◌, Some, refl, ap, sym, ◌∙◌, subst, arith, length, drop, append_assoc, append-nil, length-append}
 use Rattle.std.specs.List.{Contains, count_by, list_any}
 use Rattle.std.proofs.Math.Bool.{true≢false}
 use Rattle.std.proofs.lemmas.Bool.{eqb-true, or_parts, false_from_ne_true}
@@ -13,7 +13,7 @@ use Rattle.msrp_plan.specs.Actions.{is_global_unit, res_of_unit}
 use Rattle.msrp_plan.specs.Queues.{fifo, is_first, is_on, is_free}
 use Rattle.msrp_plan.specs.Runs.{IsLegal, IsRunStart, EachAfter}
 use Rattle.msrp_plan.specs.WellFormed.{IsPlan}
-use Rattle.msrp_plan.specs.Laws.{is_admission, is_admitting, is_grant_of, is_grant, IsWait, BoundedOvertaking}
+use Rattle.msrp_plan.specs.Laws.{is_admission, is_admitting, is_grant_of, is_grant, BoundedOvertaking}
 use Rattle.msrp_plan.specs.declared.ids.JobId.{JobId}
 use Rattle.msrp_plan.specs.declared.rows.Kind.{Kind}
 use Rattle.msrp_plan.specs.declared.rows.Kind.TheVariants.{Run, Lock, Unlock, Take, Queue, Spin, Grant, Release}

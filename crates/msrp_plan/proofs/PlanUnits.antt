@@ -1,5 +1,5 @@
 -- What a well-formed plan says of the units of any task number, also of one that it lacks: that has no unit.
-use Rattle.std.proofs.Common.{◌≡◌, ℕ, ◌+◌, ◌<◌, ◌≤◌, true, List, [], Some, None, refl, ap, sym, ◌∙◌, subst, arith, length, slice_get, take, inl, inr}
+use Rattle.std.proofs.Common.{◌≡◌, ℕ, ◌+◌, ◌<◌, ◌≤◌, List, [], Some, refl, ap, sym, ◌∙◌, subst, arith, length, slice_get, inl, inr}
 use Rattle.std.specs.List.{Contains}
 use Rattle.std.proofs.Math.Seq.{take-nil}
 use Rattle.std.proofs.lemmas.Bool.{cases_lt}
@@ -8,9 +8,7 @@ use Rattle.std.proofs.lemmas.List.Elements.{Contains-get_or}
 use Rattle.std.proofs.lemmas.Option.{get_or_from_slice_get, slice_get_within}
 use Rattle.msrp_plan.specs.Plan.{PlanModel, TaskModel, no_task, task_at}
 use Rattle.msrp_plan.specs.Units.{locks, unlocks, held_after}
-use Rattle.msrp_plan.specs.Levels.{is_global}
 use Rattle.msrp_plan.specs.WellFormed.{IsLocking, IsFlat, IsPlan}
-use Rattle.msrp_plan.specs.declared.ids.ResId.{ResId}
 use Rattle.msrp_plan.specs.declared.units.Op.{Op}
 use Rattle.msrp_plan.specs.declared.units.Op.TheVariants.{Lock}
 

@@ -17,7 +17,7 @@ use Rattle.msrp_plan.proofs.Lists.{all_weaker, all_both, all_push}
 use Rattle.msrp_plan.proofs.JobTests.{same_is}
 use Rattle.msrp_plan.proofs.Prefixes.{along}
 use Rattle.msrp_plan.proofs.Apart.{ApartBy, apart_push, fits_length, has, has_range}
-use Rattle.msrp_plan.proofs.LegalRows.{IsTurn, legal_turn, legal_due, turn_core}
+use Rattle.msrp_plan.proofs.LegalRows.{legal_turn, legal_due, turn_core}
 use Rattle.msrp_plan.proofs.Stands.{Stand, Out, Waits, Holds, stand, IsUp, waits_out, holds_out}
 use Rattle.msrp_plan.proofs.Effects.{IsMove, Effect, Quiet, Took, Joined, Got, Spun, Left, mover_is, effect}
 use Rattle.msrp_plan.proofs.Holders.{IsOrderly, orderly_by, orderly_none}

@@ -1,8 +1,8 @@
 -- Whoever holds a resource is of a task that uses it, and a resource that is used on two cores is global.
-use Rattle.std.proofs.Common.{◌≡◌, ◌≢◌, ℕ, ◌<◌, ◌≤◌, Bool, true, false, cond, not, ◌&&◌, ◌==◌, List, [], refl, ap, sym, ◌∙◌, subst, arith, length, take, slice_get, Some, inl, inr, eq-eqb}
-use Rattle.std.specs.List.{list_any, filter, count_by, Contains}
+use Rattle.std.proofs.Common.{◌≡◌, ℕ, ◌≤◌, true, false, cond, not, ◌&&◌, ◌==◌, List, refl, ap, sym, ◌∙◌, arith, length, take, slice_get, Some, inl, inr, eq-eqb}
+use Rattle.std.specs.List.{list_any, Contains}
 use Rattle.std.proofs.Math.Bool.{true≢false}
-use Rattle.std.proofs.lemmas.Bool.{cases_lt, ltb-true, eqb-true, true_from_ne_false, false_from_ne_true}
+use Rattle.std.proofs.lemmas.Bool.{cases_lt, ltb-true, eqb-true, true_from_ne_false}
 use Rattle.std.proofs.lemmas.List.{get_or_past}
 use Rattle.std.proofs.lemmas.List.Sums.{length-filter, sum_by-take-le}
 use Rattle.std.proofs.lemmas.List.Elements.{Contains-get_or}

@@ -4,7 +4,8 @@ use Rattle.std.specs.List.{list_any}
 use Rattle.msrp_plan.specs.Plan.{PlanModel}
 use Rattle.msrp_plan.specs.Jobs.{is_row_of, holds}
 use Rattle.msrp_plan.specs.Queues.{is_on}
-use Rattle.msrp_plan.specs.Runs.{EachAfter}
+use Rattle.msrp_plan.specs.Runs.{EachAfter, IsRun}
+use Rattle.msrp_plan.specs.WellFormed.{IsPlan}
 use Rattle.msrp_plan.specs.declared.ids.JobId.{JobId}
 use Rattle.msrp_plan.specs.declared.ids.ResId.{ResId}
 use Rattle.msrp_plan.specs.declared.rows.Kind.{Kind}
@@ -60,3 +61,12 @@ pub record IsWait (r : Row) (since : List Row) (j : JobId) (g : ℕ) : Type 0 wh
 abbrev pub BoundedOvertaking : PlanModel → List Row → Type 0
 BoundedOvertaking plan rows =
     (pre : List Row) (r : Row) (since post : List Row) (j : JobId) (g : ℕ) → rows ≡ pre ++ r ∷ (since ++ post) → IsWait r since j g → count_by (is_admission g) since ≤ plan.cores - 1
+
+-- ---- all of them
+-- a legal run of a well-formed plan, and what the laws say of it
+pub record KeepsLaws (plan : PlanModel) (rows : List Row) : Type 0 where
+  pub well_formed : IsPlan plan
+  pub run : IsRun plan rows
+  pub blocking : NoLocalBlocking plan rows
+  pub exclusion : MutualExclusion plan rows
+  pub overtaking : BoundedOvertaking plan rows

@@ -1,11 +1,18 @@
 //! What the definition of a legal run promises: laws over every plan and every start of a legal run,
 //! whatever the order of the cores. Each function does nothing; its contract is the law.
-ghost use Rattle.std.specs.Prelude.{◌≡◌, List};
+ghost use Rattle.std.specs.Prelude.{◌≡◌, ◌-◌, ◌∷◌, ◌++◌, List, length, take, drop, count_by, true, false};
 ghost use Rattle.msrp_plan.specs.Plan.{PlanModel};
 ghost use Rattle.msrp_plan.specs.Runs.{IsRunStart, IsRun};
 ghost use Rattle.msrp_plan.specs.WellFormed.{IsPlan};
-ghost use Rattle.msrp_plan.specs.Laws.{NoLocalBlocking, MutualExclusion, BoundedOvertaking};
+ghost use Rattle.msrp_plan.specs.Jobs.{holds};
+ghost use Rattle.msrp_plan.specs.Queues.{fifo};
+ghost use Rattle.msrp_plan.specs.Laws.{NoLocalBlocking, MutualExclusion, BoundedOvertaking, IsWait, is_admission, KeepsLaws};
 ghost use Rattle.msrp_plan.specs.Logs.{core_order};
+ghost use Rattle.msrp_plan.specs.Examples.Notation.{job, queue};
+ghost use Rattle.msrp_plan.specs.Examples.BlockedByTheCeiling as blocked_by_the_ceiling;
+ghost use Rattle.msrp_plan.specs.Examples.HandoverWithinATick as handover_within_a_tick;
+ghost use Rattle.msrp_plan.specs.Examples.ThreeInAQueue as three_in_a_queue;
+ghost use Rattle.msrp_plan.specs.Examples.RequestedAgain as requested_again;
 ghost use Rattle.msrp_plan.specs.declared.rows.Row.{Row};
 
 /// No local blocking: a job that has its turn never finds a local resource held by another job, of whatever
@@ -30,4 +37,40 @@ pub fn bounded_overtaking()
 pub fn determinacy()
     ensures starts { (plan : PlanModel) (a b : List Row) → IsRunStart plan a → IsRunStart plan b → core_order a ≡ core_order b → a ≡ b }
     ensures runs { (plan : PlanModel) (a b : List Row) → IsRun plan a → IsRun plan b → core_order a ≡ core_order b → a ≡ b }
+{}
+
+/// A worked run with a local resource: who is started later finds it free. Were it started past the ceiling,
+/// it would find it held.
+pub fn ceiling_keeps_a_lock_free()
+    ensures laws { KeepsLaws blocked_by_the_ceiling.plan blocked_by_the_ceiling.rows }
+    ensures held { holds blocked_by_the_ceiling.plan (take 4 blocked_by_the_ceiling.rows) 0 (job 0 0) ≡ true }
+    ensures free { holds blocked_by_the_ceiling.plan (take 5 blocked_by_the_ceiling.rows) 0 (job 0 0) ≡ false }
+    ensures past_the_ceiling { ¬ NoLocalBlocking blocked_by_the_ceiling.plan blocked_by_the_ceiling.past_the_ceiling }
+{}
+
+/// A worked run in which a global resource goes from one core to another. Were it taken while it is held, two
+/// would hold it.
+pub fn handover_has_one_holder()
+    ensures laws { KeepsLaws handover_within_a_tick.plan handover_within_a_tick.rows }
+    ensures first { holds handover_within_a_tick.plan (take 4 handover_within_a_tick.rows) 0 (job 0 0) ≡ true }
+    ensures second { holds handover_within_a_tick.plan (take 6 handover_within_a_tick.rows) 0 (job 1 0) ≡ true }
+    ensures taken_when_held { ¬ MutualExclusion handover_within_a_tick.plan handover_within_a_tick.taken_when_held }
+{}
+
+/// A worked run in which a job joins a queue with a job of each other core ahead of it: no queue is longer.
+pub fn every_other_core_ahead()
+    ensures laws { KeepsLaws three_in_a_queue.plan three_in_a_queue.rows }
+    ensures ahead { length (fifo 0 (take 2 three_in_a_queue.rows)) ≡ three_in_a_queue.plan.cores - 1 }
+    ensures wait { IsWait (queue 0 0 (job 0 0) 0) (take 11 (drop 3 three_in_a_queue.rows)) (job 0 0) 0 }
+    ensures place { three_in_a_queue.rows ≡ take 2 three_in_a_queue.rows ++ queue 0 0 (job 0 0) 0 ∷ (take 11 (drop 3 three_in_a_queue.rows) ++ drop 14 three_in_a_queue.rows) }
+    ensures others { count_by (is_admission 0) (take 11 (drop 3 three_in_a_queue.rows)) ≡ 1 }
+{}
+
+/// A worked run in which, during one wait, others come to hold the resource as often as the law allows: one
+/// time less than there are cores.
+pub fn overtaken_as_often_as_can_be()
+    ensures laws { KeepsLaws requested_again.plan requested_again.rows }
+    ensures wait { IsWait (queue 2 0 (job 0 0) 0) (take 2 (drop 5 requested_again.rows)) (job 0 0) 0 }
+    ensures place { requested_again.rows ≡ take 4 requested_again.rows ++ queue 2 0 (job 0 0) 0 ∷ (take 2 (drop 5 requested_again.rows) ++ drop 7 requested_again.rows) }
+    ensures others { count_by (is_admission 0) (take 2 (drop 5 requested_again.rows)) ≡ requested_again.plan.cores - 1 }
 {}

@@ -1,0 +1,23 @@
+-- A legal run of a well-formed plan keeps the laws.
+use Rattle.std.proofs.Common.{List, arith}
+use Rattle.msrp_plan.specs.Plan.{PlanModel}
+use Rattle.msrp_plan.specs.Runs.{IsRun, IsRunStart}
+use Rattle.msrp_plan.specs.WellFormed.{IsPlan}
+use Rattle.msrp_plan.specs.Laws.{KeepsLaws}
+use Rattle.msrp_plan.specs.declared.rows.Row.{Row}
+use Rattle.msrp_plan.proofs.LocalLocks.{no_local_blocking}
+use Rattle.msrp_plan.proofs.Exclusion.{mutual_exclusion}
+use Rattle.msrp_plan.proofs.Overtaking.{bounded_overtaking}
+
+-- all laws at once
+pub keeps_laws : (plan : PlanModel) (rows : List Row) → IsPlan plan → IsRun plan rows → KeepsLaws plan rows
+keeps_laws plan rows ok run =
+    let e = run.size in
+    let start : IsRunStart plan rows = record { size = omega (arith, e); each = run.each } in
+    record {
+      well_formed = ok;
+      run = run;
+      blocking = no_local_blocking plan rows ok start;
+      exclusion = mutual_exclusion plan rows ok start;
+      overtaking = bounded_overtaking plan rows ok start;
+    }

@@ -1,0 +1,9 @@
+use Rattle.std.proofs.Common.{refl}
+use Rattle.msrp_plan.specs.Examples.RequestedAgain.{plan, rows}
+use Rattle.msrp_plan.proofs.Verdicts.{good_is_run}
+use Rattle.msrp_plan.proofs.AcceptedPlans.{accepted_plan}
+use Rattle.msrp_plan.proofs.KeptLaws.{keeps_laws}
+use Rattle.msrp_plan.proofs.laws.overtaken_as_often_as_can_be.Goals as goal
+
+pub returns : goal.returns
+returns c = record { laws = keeps_laws plan rows (accepted_plan plan refl refl refl) (good_is_run _ _ refl); wait = record { job = refl; resource = refl; joins = refl; waits = refl }; place = refl; others = refl }
