@@ -111,7 +111,8 @@ log_due plan t c rows h l =
     let g = ascending_count plan.cores t c l in
     omega (arith, a, b, d, e, f, g)
 
-quiet_reply : (pre : List Row) (r : Row) (o : Option ResId) → o ≡ None → replies_on pre o r ≡ true
+-- a row on no resource needs no reply
+pub quiet_reply : (pre : List Row) (r : Row) (o : Option ResId) → o ≡ None → replies_on pre o r ≡ true
 quiet_reply pre r None h = refl
 quiet_reply pre r (Some g) h = absurd (cc)
 
