@@ -86,12 +86,8 @@ impl<'a> Machine<'a> {
         ensures plan { self.new.plan ≡ self.old.plan }
         ensures core { self.new.core ≡ self.old.core }
         ensures tick { self.new.tick ≡ self.old.tick + 1 }
-        ensures row {
-            (log : List Row) → StandsAfter self.old log → IsCoreTurn self.old.plan self.old.core log result
-        }
-        ensures stands {
-            (log : List Row) → StandsAfter self.old log → StandsAfter self.new (log ++ result ∷ [])
-        }
+        ensures row { (log : List Row) → StandsAfter self.old log → IsCoreTurn self.old.plan self.old.core log result }
+        ensures stands { (log : List Row) → StandsAfter self.old log → StandsAfter self.new (log ++ result ∷ []) }
 
         // Work is on no resource.
         ensures work { result.res ≡ None }

@@ -13,6 +13,7 @@ use Rattle.msrp_plan.proofs.RoundRobin.{due_rows_legal, quiet_reply}
 log_around : (c : ℕ) (pre : List Row) (r : Row) (post : List Row) → r.core.0 ≡ c → log_of c (pre ++ r ∷ post) ≡ log_of c pre ++ r ∷ log_of c post
 log_around c pre r post at = filter-append (is_of c) pre (r ∷ post) ∙ ap (λ b. log_of c pre ++ cond b (r ∷ log_of c post) (log_of c post)) (eq-eqb r.core.0 c at)
 
+-- what holds of all elements holds of the one in the middle
 all_at : {X : Type 0} (P : X → Type 0) (xs : List X) (x : X) (ys : List X) → AllByRecursion P (xs ++ x ∷ ys) → P x
 all_at P [] x ys all = all.0
 all_at P (z ∷ xs) x ys all = all_at P xs x ys all.1
@@ -24,6 +25,7 @@ pub record AreInterleaved (plan : PlanModel) (rows : List Row) : Type 0 where
   pub ticks : EachAfter (λ pre r. r.tick ≡ length pre / plan.cores) [] rows
   pub replies : EachAfter (λ pre r. is_fifo_reply pre r ≡ true) [] rows
 
+-- each of them is the next row of a due core
 due_at : (plan : PlanModel) (rows : List Row) → AreInterleaved plan rows → (pre : List Row) (r : Row) (post : List Row) → rows ≡ pre ++ r ∷ post → IsDueTurn plan pre r
 due_at plan rows h pre r post e =
     let low : r.core.0 < plan.cores = all_at (λ r. r.core.0 < plan.cores) pre r post (subst (AllByRecursion (λ r. r.core.0 < plan.cores)) e h.cores) in
