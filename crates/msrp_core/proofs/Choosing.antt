@@ -30,10 +30,12 @@ pub record Tells (plan : PlanModel) (log : List Row) (p : Progress) : Type 0 whe
   pub progress : IsProgress plan p
   pub state : state_of p ≡ state_after log p.job
 
+-- the jobs of the states are the jobs
 jobs_of_states : (log : List Row) (js : List JobId) → map (λ s. s.job) (map (state_after log) js) ≡ js
 jobs_of_states log [] = refl
 jobs_of_states log (j ∷ js) = ap (λ is. j ∷ is) (jobs_of_states log js)
 
+-- the jobs of the states that stand are the jobs that stand
 jobs_of_progress : (ps : List Progress) → map (λ s. s.job) (map state_of ps) ≡ map (λ p. p.job) ps
 jobs_of_progress [] = refl
 jobs_of_progress (p ∷ ps) = ap (λ is. p.job ∷ is) (jobs_of_progress ps)
@@ -42,6 +44,7 @@ jobs_of_progress (p ∷ ps) = ap (λ is. p.job ∷ is) (jobs_of_progress ps)
 pub jobs_are : (log : List Row) (ps : List Progress) (js : List JobId) → map state_of ps ≡ map (state_after log) js → js ≡ map (λ p. p.job) ps
 jobs_are log ps js h = sym (jobs_of_states log js) ∙ (ap (map (λ s. s.job)) (sym h) ∙ jobs_of_progress ps)
 
+-- each of them tells what the log says
 pub telling : (plan : PlanModel) (log : List Row) (ps : List Progress) (js : List JobId) → AllByRecursion (IsProgress plan) ps → map state_of ps ≡ map (state_after log) js → AllByRecursion (Tells plan log) ps
 telling plan log [] js all h = tt
 telling plan log (p ∷ ps) [] all h = absurd (cc)
@@ -58,6 +61,7 @@ ready_agrees plan t log p h =
     let r : p.key.release ≡ release plan p.job = ap (λ k. k.release) h.progress.keyed in
     ap (λ n. nat_le n t && not (is_started log p.job)) (sym r) ∙ ap (λ b. nat_le p.key.release t && not b) (sym s)
 
+-- started and unfinished
 unfinished_agrees : (plan : PlanModel) (log : List Row) (p : Progress) → Tells plan log p → (is_started log p.job && not (is_finished plan log p.job)) ≡ is_unfinished p
 unfinished_agrees plan log p h =
     let s : p.started ≡ is_started log p.job = ap (λ (s : JobState). s.started) h.state in
@@ -65,18 +69,21 @@ unfinished_agrees plan log p h =
     let u : p.units ≡ length (units plan p.job) = h.progress.sized in
     cc
 
+-- the order of the keys
 earlier_agrees : (plan : PlanModel) (log : List Row) (a b : Progress) → Tells plan log a → Tells plan log b → is_before plan a.job b.job ≡ is_earlier a b
 earlier_agrees plan log a b h k =
     let x : a.key ≡ key plan a.job = h.progress.keyed in
     let y : b.key ≡ key plan b.job = k.progress.keyed in
     ap (λ z. is_lt (key_cmp z (key plan b.job))) (sym x) ∙ ap (λ z. is_lt (key_cmp a.key z)) (sym y)
 
+-- the scan for the head finds the head
 head_is : (plan : PlanModel) (c t : ℕ) (log : List Row) (ps : List Progress) → AllByRecursion (Tells plan log) ps → jobs_on plan c ≡ map (λ p. p.job) ps → head plan c t log ≡ job_of (least is_earlier (filter (is_ready t) ps))
 head_is plan c t log ps all same =
     ap (λ js. least (is_before plan) (filter (λ j. is_released plan t j && not (is_started log j)) js)) same
     ∙ (ap (least (is_before plan)) (filter_map_same (λ p. p.job) (is_ready t) (λ j. is_released plan t j && not (is_started log j)) (Tells plan log) (ready_agrees plan t log) ps all)
     ∙ least_map (λ p. p.job) is_earlier (is_before plan) (Tells plan log) (earlier_agrees plan log) (filter (is_ready t) ps) (all_filtered (Tells plan log) (is_ready t) ps all))
 
+-- the scan for who runs finds who runs
 running_is : (plan : PlanModel) (c : ℕ) (log : List Row) (ps : List Progress) → AllByRecursion (Tells plan log) ps → jobs_on plan c ≡ map (λ p. p.job) ps → running plan c log ≡ job_of (least is_earlier (filter is_unfinished ps))
 running_is plan c log ps all same =
     ap (λ js. least (is_before plan) (filter (λ j. is_started log j && not (is_finished plan log j)) js)) same
@@ -87,10 +94,12 @@ running_is plan c log ps all same =
 level_above : (plan : PlanModel) (t : ℕ) → nat_lt 0 (level plan t) ≡ true
 level_above plan t = lt-ltb 0 (level plan t) (omega arith)
 
+-- the job of the preferred of two
 preferred_job : (b : Bool) (h s : Progress) → cond b (Some h.job) (Some s.job) ≡ job_of (cond b (Some h) (Some s))
 preferred_job true h s = refl
 preferred_job false h s = refl
 
+-- over a ceiling of 0 the preferred of head and runner is chosen
 chosen_is : (plan : PlanModel) (h s : Option Progress) → ((a b : Progress) → h ≡ Some a → s ≡ Some b → is_before plan a.job b.job ≡ is_earlier a b) → chosen plan 0 (job_of h) (job_of s) ≡ job_of (preferred h s)
 chosen_is plan None s agree = refl
 chosen_is plan (Some h) None agree = ap (λ b. cond b (Some h.job) None) (level_above plan h.job.task.0)
@@ -98,10 +107,12 @@ chosen_is plan (Some h) (Some s) agree =
     ap (λ b. cond (b && is_before plan h.job s.job) (Some h.job) (Some s.job)) (level_above plan h.job.task.0)
     ∙ (ap (λ b. cond b (Some h.job) (Some s.job)) (agree h s refl refl) ∙ preferred_job (is_earlier h s) h s)
 
+-- no job is queued
 not_queued : (plan : PlanModel) (log : List Row) (ps : List Progress) → AllByRecursion (Tells plan log) ps → AllByRecursion (λ j. is_queued log j ≡ false) (map (λ p. p.job) ps)
 not_queued plan log [] all = tt
 not_queued plan log (p ∷ ps) all = (sym (ap (λ (s : JobState). s.queued) all.0.state), not_queued plan log ps all.1)
 
+-- who has the turn in the machine is the definitions' choice
 choice_is : (plan : PlanModel) (c t : ℕ) (log : List Row) (ps : List Progress) → plan.resources ≡ [] → AllByRecursion (Tells plan log) ps → jobs_on plan c ≡ map (λ p. p.job) ps → choice plan c t log ≡ job_of (turn_of t ps)
 choice_is plan c t log ps work all same =
     ap (λ n. chosen plan n (head plan c t log) (running plan c log)) (ceiling_none plan c log work (subst (AllByRecursion (λ j. is_queued log j ≡ false)) (sym same) (not_queued plan log ps all)))
@@ -123,6 +134,7 @@ record Found (plan : PlanModel) (ps : List Progress) (test : Progress → Bool) 
   progress : IsProgress plan p
   passes : test p ≡ true
 
+-- the least of a filter is such a find
 found_by : (plan : PlanModel) (ps : List Progress) (test : Progress → Bool) (p : Progress) → AllByRecursion (IsProgress plan) ps → least is_earlier (filter test ps) ≡ Some p → Found plan ps test p
 found_by plan ps test p all h = record {
   listed = least_meets is_earlier (Contains ps) (filter test ps) p (all_filtered (Contains ps) test ps (recursion_from_All (Contains ps) ps (All-contains_itself ps))) h;
@@ -130,6 +142,7 @@ found_by plan ps test p all h = record {
   passes = least_meets is_earlier (λ q. test q ≡ true) (filter test ps) p (recursion_from_All (λ q. test q ≡ true) (filter test ps) (filter_passes test ps)) h;
 }
 
+-- a job that is not started has all its units left
 ready_works : (plan : PlanModel) (t : ℕ) (ps : List Progress) (p : Progress) → Found plan ps (is_ready t) p → Works plan ps p
 ready_works plan t ps p h =
     let b = and_parts (nat_le p.key.release t) (not p.started) h.passes in
@@ -137,6 +150,7 @@ ready_works plan t ps p h =
     let w : 0 < p.units = h.progress.work in
     record { listed = h.listed; progress = h.progress; left = omega arith }
 
+-- a job that is unfinished has a unit left
 unfinished_works : (plan : PlanModel) (ps : List Progress) (p : Progress) → Found plan ps is_unfinished p → Works plan ps p
 unfinished_works plan ps p h =
     let b = and_parts p.started (not (p.done == p.units)) h.passes in
@@ -144,15 +158,18 @@ unfinished_works plan ps p h =
     let w : p.done ≤ p.units = h.progress.within in
     record { listed = h.listed; progress = h.progress; left = omega arith }
 
+-- what holds of head and runner holds of either
 preferred_cases : (P : Progress → Type 0) (b : Bool) (h s p : Progress) → P h → P s → cond b (Some h) (Some s) ≡ Some p → P p
 preferred_cases P true h s p ph ps e = let same : h ≡ p = cc in subst P same ph
 preferred_cases P false h s p ph ps e = let same : s ≡ p = cc in subst P same ps
 
+-- what holds of head and runner holds of the preferred
 preferred_meets : (P : Progress → Type 0) (h s : Option Progress) (p : Progress) → ((a : Progress) → h ≡ Some a → P a) → ((a : Progress) → s ≡ Some a → P a) → preferred h s ≡ Some p → P p
 preferred_meets P None s p hs ss e = ss p e
 preferred_meets P (Some h) None p hs ss e = hs p e
 preferred_meets P (Some h) (Some s) p hs ss e = preferred_cases P (is_earlier h s) h s p (hs h refl) (ss s refl) e
 
+-- who has the turn is one of the jobs, with a unit left
 pub turn_works : (plan : PlanModel) (t : ℕ) (ps : List Progress) (p : Progress) → AllByRecursion (IsProgress plan) ps → turn_of t ps ≡ Some p → Works plan ps p
 turn_works plan t ps p all e =
     preferred_meets (Works plan ps) (least is_earlier (filter (is_ready t) ps)) (least is_earlier (filter is_unfinished ps)) p
@@ -165,12 +182,14 @@ same_choice_self : (o : Option JobId) → same_choice o o ≡ true
 same_choice_self None = refl
 same_choice_self (Some j) = same_self j
 
+-- its job is one of the core's
 turn_on_core : (plan : PlanModel) (c : ℕ) (ps : List Progress) (o : Option Progress) → jobs_on plan c ≡ map (λ p. p.job) ps → ((p : Progress) → o ≡ Some p → Works plan ps p) → is_on_core plan c (job_of o) ≡ true
 turn_on_core plan c ps None same works = refl
 turn_on_core plan c ps (Some p) same works =
     ap (list_any (same_job p.job)) same
     ∙ (any_map (λ q. q.job) (same_job p.job) ps ∙ any_in (λ q. same_job p.job q.job) ps p ((works p refl).listed) (same_self p.job))
 
+-- its next unit is work
 next_unit : (plan : PlanModel) (log : List Row) (ps : List Progress) (p : Progress) → Works plan ps p → Tells plan log p → slice_get (units plan p.job) (done p.job log) ≡ Some Run
 next_unit plan log ps p w h =
     let d : p.done ≡ done p.job log = ap (λ (s : JobState). s.done) h.state in
@@ -178,6 +197,7 @@ next_unit plan log ps p w h =
     let l : done p.job log < length (units plan p.job) = omega (arith, w.left) in
     slice_get-get_or (units plan p.job) (done p.job log) Run l ∙ ap (λ op. Some op) (h.progress.runs (done p.job log) Run l)
 
+-- so a row of work is its next action, and an idle row where nobody has the turn
 turn_does : (plan : PlanModel) (log : List Row) (ps : List Progress) (o : Option Progress) (r : Row) → AllByRecursion (Tells plan log) ps → ((p : Progress) → o ≡ Some p → Works plan ps p) → r.kind ≡ kind_of o → r.res ≡ None → does_next plan log (job_of o) r ≡ true
 turn_does plan log ps None r all works kind res = ap is_idle kind
 turn_does plan log ps (Some p) r all works kind res =

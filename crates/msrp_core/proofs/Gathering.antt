@@ -21,6 +21,7 @@ use Rattle.msrp_core.specs.declared.progress.Progress.{Progress}
 among_on : (plan : PlanModel) (c t : ℕ) → ((task_at plan t).core == c) ≡ true → jobs_among plan c (range_with_len 0 (t + 1)) ≡ jobs_among plan c (range_with_len 0 t) ++ jobs_of plan t
 among_on plan c t e = jobs_among_more plan c t ∙ ap (λ b. jobs_among plan c (range_with_len 0 t) ++ cond b (jobs_of plan t) []) e
 
+-- a task of another core adds no job
 among_off : (plan : PlanModel) (c t : ℕ) → ((task_at plan t).core == c) ≡ false → jobs_among plan c (range_with_len 0 (t + 1)) ≡ jobs_among plan c (range_with_len 0 t)
 among_off plan c t e = jobs_among_more plan c t ∙ (ap (λ b. jobs_among plan c (range_with_len 0 t) ++ cond b (jobs_of plan t) []) e ∙ append-nil (jobs_among plan c (range_with_len 0 t)))
 
@@ -32,11 +33,13 @@ count_on plan c t n m e before more = let a = ap length (among_on plan c t e) in
 pub count_off : (plan : PlanModel) (c t n : ℕ) → ((task_at plan t).core == c) ≡ false → n ≡ length (jobs_among plan c (range_with_len 0 t)) → n ≡ length (jobs_among plan c (range_with_len 0 (t + 1)))
 count_off plan c t n e before = before ∙ sym (ap length (among_off plan c t e))
 
+-- the jobs of a task of the core are gathered behind those before it
 pub gather_on : (plan : PlanModel) (c t : ℕ) (ps qs : List Progress) → ((task_at plan t).core == c) ≡ true → ps ≡ map (fresh plan) (jobs_among plan c (range_with_len 0 t)) → qs ≡ ps ++ map (fresh plan) (jobs_of plan t) → qs ≡ map (fresh plan) (jobs_among plan c (range_with_len 0 (t + 1)))
 gather_on plan c t ps qs e before more =
     more ∙ (ap (λ rs. rs ++ map (fresh plan) (jobs_of plan t)) before
     ∙ (sym (map-append (fresh plan) (jobs_among plan c (range_with_len 0 t)) (jobs_of plan t)) ∙ ap (map (fresh plan)) (sym (among_on plan c t e))))
 
+-- a task of another core leaves what is gathered
 pub gather_off : (plan : PlanModel) (c t : ℕ) (ps : List Progress) → ((task_at plan t).core == c) ≡ false → ps ≡ map (fresh plan) (jobs_among plan c (range_with_len 0 t)) → ps ≡ map (fresh plan) (jobs_among plan c (range_with_len 0 (t + 1)))
 gather_off plan c t ps e before = before ∙ ap (map (fresh plan)) (sym (among_off plan c t e))
 
@@ -56,6 +59,7 @@ push_more plan t k old ps qs p before here more =
     ∙ (append_assoc old (map (λ k. fresh plan (job_at t k)) (range_with_len 0 k)) (p ∷ [])
     ∙ ap (λ rs. old ++ rs) (ap (λ q. map (λ k. fresh plan (job_at t k)) (range_with_len 0 k) ++ q ∷ []) here ∙ sym (map-range_with_len_more (λ k. fresh plan (job_at t k)) 0 k k (omega arith)))))
 
+-- the jobs of a task by their numbers
 map_map : (plan : PlanModel) (t : ℕ) (ks : List ℕ) → map (λ k. fresh plan (job_at t k)) ks ≡ map (fresh plan) (map (job_at t) ks)
 map_map plan t [] = refl
 map_map plan t (k ∷ ks) = ap (λ ps. fresh plan (job_at t k) ∷ ps) (map_map plan t ks)
@@ -73,6 +77,7 @@ fresh_states plan (j ∷ js) = ap (λ ss. state_after [] j ∷ ss) (fresh_states
 pub fresh_stand : (plan : PlanModel) (c : ℕ) (ps : List Progress) → ps ≡ map (fresh plan) (jobs_on plan c) → map state_of ps ≡ map (state_after []) (jobs_on plan c)
 fresh_stand plan c ps e = ap (map state_of) e ∙ fresh_states plan (jobs_on plan c)
 
+-- a job before its first turn keeps the invariant
 fresh_is : (plan : PlanModel) → IsPlan plan → plan.resources ≡ [] → (j : JobId) → j.task.0 < length plan.tasks → IsProgress plan (fresh plan j)
 fresh_is plan accepted work j within = record {
   keyed = refl;
@@ -83,11 +88,13 @@ fresh_is plan accepted work j within = record {
   fresh = λ h. refl;
 }
 
+-- of no job are two different things told
 fresh_alike : (plan : PlanModel) (js : List JobId) (a b : Progress) → Contains (map (fresh plan) js) a → Contains (map (fresh plan) js) b → a.job ≡ b.job → a ≡ b
 fresh_alike plan js a b ha hb e =
     let told : All (λ p. p ≡ fresh plan p.job) (map (fresh plan) js) = All-map (λ p. p ≡ fresh plan p.job) (fresh plan) js (λ k d h. refl) in
     All-contains (λ p. p ≡ fresh plan p.job) (map (fresh plan) js) a told ha ∙ (ap (fresh plan) e ∙ sym (All-contains (λ p. p ≡ fresh plan p.job) (map (fresh plan) js) b told hb))
 
+-- so the new machine keeps its invariant
 pub fresh_progress : (plan : PlanModel) (c : ℕ) (ps : List Progress) → IsPlan plan → plan.resources ≡ [] → ps ≡ map (fresh plan) (jobs_on plan c) → AreProgress plan ps
 fresh_progress plan c ps accepted work e = subst (AreProgress plan) (sym e) (record {
   accepted = accepted;

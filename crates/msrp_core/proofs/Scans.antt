@@ -12,10 +12,12 @@ least_push : (xs : List Progress) (y : Progress) → least is_earlier (xs ++ y �
 least_push [] y = refl
 least_push (x ∷ xs) y = ap (λ b. Some b) (fold_push (λ b z. cond (is_earlier z b) z b) x xs y)
 
+-- one job more, if it passes
 least_kept : (xs : List Progress) (b : Bool) (y : Progress) → least is_earlier (xs ++ cond b (y ∷ []) []) ≡ cond b (earlier_of (least is_earlier xs) y) (least is_earlier xs)
 least_kept xs true y = least_push xs y
 least_kept xs false y = ap (least is_earlier) (append-nil xs)
 
+-- one step of the scan
 least_more : (p : Progress → Bool) (xs : List Progress) (i : ℕ) (d : Progress) → i < length xs → least is_earlier (filter p (take (i + 1) xs)) ≡ cond (p (get_or xs i d)) (earlier_of (least is_earlier (filter p (take i xs))) (get_or xs i d)) (least is_earlier (filter p (take i xs)))
 least_more p xs i d h = ap (least is_earlier) (filter_more p xs i d h) ∙ least_kept (filter p (take i xs)) (p (get_or xs i d)) (get_or xs i d)
 

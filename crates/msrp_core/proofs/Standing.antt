@@ -36,6 +36,7 @@ moved_cases : (r : Row) (p : Progress) (mine : Bool) → is_waiting r.kind ≡ f
 moved_cases r p true kind = ap (λ b. record { job = p.job; started = true; queued = b; done = p.done + cond (not b) 1 0 }) (sym kind)
 moved_cases r p false kind = refl
 
+-- for all jobs at once
 run_moves : (r : Row) (job : JobId) (ps : List Progress) → r.job ≡ Some job → is_waiting r.kind ≡ false → map state_of (map (advanced job) ps) ≡ map (state_with r) (map state_of ps)
 run_moves r job [] mine kind = refl
 run_moves r job (p ∷ ps) mine kind =
@@ -43,6 +44,7 @@ run_moves r job (p ∷ ps) mine kind =
     (moved_cases r p (same_job job p.job) kind ∙ ap (λ o. cond (is_job o p.job) (moved_by r (state_of p)) (state_of p)) (sym mine))
     ∙ ap (λ ss. state_with r (state_of p) ∷ ss) (run_moves r job ps mine kind)
 
+-- by who has the turn
 moves : (r : Row) (o : Option Progress) (ps : List Progress) → r.job ≡ job_of o → r.kind ≡ kind_of o → map state_of (advanced_by o ps) ≡ map (state_with r) (map state_of ps)
 moves r None ps job kind = idle_leaves r ps job
 moves r (Some p) ps job kind = run_moves r p.job ps job (ap is_waiting kind)
@@ -51,6 +53,7 @@ moves r (Some p) ps job kind = run_moves r p.job ps job (ap is_waiting kind)
 pub states_stand : (plan : PlanModel) (c : ℕ) (log : List Row) (ps : List Progress) (o : Option Progress) (r : Row) → map state_of ps ≡ map (state_after log) (jobs_on plan c) → r.job ≡ job_of o → r.kind ≡ kind_of o → map state_of (advanced_by o ps) ≡ map (state_after (log ++ r ∷ [])) (jobs_on plan c)
 states_stand plan c log ps o r stands job kind = moves r o ps job kind ∙ (ap (map (state_with r)) stands ∙ sym (states_push log r (jobs_on plan c)))
 
+-- an idle row or one of work leaves the phase
 phase_still : (phase : Phase) (o : Option Progress) → phase_with phase (kind_of o) None ≡ phase
 phase_still phase None = refl
 phase_still phase (Some p) = refl
@@ -70,15 +73,18 @@ turn_has_work plan ps p m w = λ k d h. λ e.
     let same : get_or ps k d ≡ p = m.agree (get_or ps k d) p (All-contains_itself ps k d h) w.listed e in
     subst (λ q. q.done < q.units) (sym same) w.left
 
+-- for who has the turn, if somebody has
 pub chosen_has_work : (plan : PlanModel) (t : ℕ) (ps : List Progress) (o : Option Progress) → AreProgress plan ps → o ≡ turn_of t ps → ForSome o (λ p. All (HasWork p.job) ps)
 chosen_has_work plan t ps o m is p e = turn_has_work plan ps p m (turn_works plan t ps p (recursion_from_All (IsProgress plan) ps m.each) (sym is ∙ e))
 
+-- one unit more, where one is left
 progress_cases : (plan : PlanModel) (job : JobId) (p : Progress) (mine : Bool) → same_job job p.job ≡ mine → IsProgress plan p → HasWork job p → IsProgress plan (cond mine (record p { started = true; done = p.done + 1 }) p)
 progress_cases plan job p true is h left =
     let l : p.done < p.units = left (sym (same_is job p.job is)) in
     record { keyed = h.keyed; sized = h.sized; runs = h.runs; work = h.work; within = omega (arith, l); fresh = λ f. absurd (cc) }
 progress_cases plan job p false is h left = h
 
+-- for all jobs at once
 progress_advanced : (plan : PlanModel) (job : JobId) (ps : List Progress) → AllByRecursion (IsProgress plan) ps → AllByRecursion (HasWork job) ps → AllByRecursion (IsProgress plan) (map (advanced job) ps)
 progress_advanced plan job [] all left = tt
 progress_advanced plan job (p ∷ ps) all left = (progress_cases plan job p (same_job job p.job) refl all.0 left.0, progress_advanced plan job ps all.1 left.1)
@@ -88,10 +94,12 @@ image_of : {X Y : Type 0} (f : X → Y) (xs : List X) (y : Y) → Contains (map 
 image_of f xs y there =
     All-contains (λ y. (x : _) × (Contains xs x) × (y ≡ f x)) (map f xs) y (All-map (λ y. (x : _) × (Contains xs x) × (y ≡ f x)) f xs (λ k d h. (get_or xs k d, All-contains_itself xs k d h, refl))) there
 
+-- it stays the same job
 job_kept_cases : (p : Progress) (mine : Bool) → (cond mine (record p { started = true; done = p.done + 1 }) p).job ≡ p.job
 job_kept_cases p true = refl
 job_kept_cases p false = refl
 
+-- of no job are two different things told after it
 advanced_agree : (plan : PlanModel) (job : JobId) (ps : List Progress) → AreProgress plan ps → (a b : Progress) → Contains (map (advanced job) ps) a → Contains (map (advanced job) ps) b → a.job ≡ b.job → a ≡ b
 advanced_agree plan job ps m a b ha hb e =
     let x = image_of (advanced job) ps a ha in

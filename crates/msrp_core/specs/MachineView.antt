@@ -9,7 +9,7 @@ use Rattle.msrp_plan.specs.declared.units.Op.TheVariants.{Run}
 use Rattle.msrp_core.specs.declared.progress.Progress.{Progress}
 use Rattle.msrp_core.specs.declared.machines.Machine.TheInside.{Inside}
 
--- a job of work with its key, no further than its units go
+-- a job's key and number of units are the plan's, its units are work, and it has done no more than they are
 pub record IsProgress (plan : PlanModel) (p : Progress) : Type 0 where
   pub keyed : p.key ≡ key plan p.job
   pub sized : p.units ≡ length (units plan p.job)
@@ -18,7 +18,7 @@ pub record IsProgress (plan : PlanModel) (p : Progress) : Type 0 where
   pub within : p.done ≤ p.units
   pub fresh : p.started ≡ false → p.done ≡ 0
 
--- jobs of an accepted plan of work alone, of each of which one thing is told
+-- the jobs of an accepted plan of work alone: of no job are two different things told
 pub record AreProgress (plan : PlanModel) (jobs : List Progress) : Type 0 where
   pub accepted : IsPlan plan
   pub work : plan.resources ≡ []

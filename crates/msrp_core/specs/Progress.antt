@@ -55,6 +55,7 @@ advanced_by (Some p) jobs = map (advanced p.job) jobs
 abbrev pub job_of : Option Progress → Option JobId
 job_of chosen = option_map (λ p. p.job) chosen
 
+-- work where somebody has the turn, else idle
 abbrev pub kind_of : Option Progress → Kind
 kind_of None = Idle
 kind_of (Some p) = Run

@@ -1,5 +1,5 @@
-//! The machine of one core.
-ghost use Rattle.std.specs.Prelude.{◌≡◌, ◌<◌, ◌++◌, ◌∷◌, [], List, None, IfOk};
+//! The machine of one core, which makes the rows of its turns.
+ghost use Rattle.std.specs.Prelude.{◌≡◌, ◌<◌, ◌+◌, ◌++◌, ◌∷◌, [], List, None, IfOk};
 ghost use Rattle.msrp_plan.specs.Runs.{IsCoreTurn};
 ghost use Rattle.msrp_plan.specs.declared.rows.Row.{Row};
 ghost use Rattle.msrp_core.specs.Machine.{StandsAfter};
@@ -85,9 +85,11 @@ impl<'a> Machine<'a> {
         requires { self.old.tick < self.old.plan.ticks }
         ensures plan { self.new.plan ≡ self.old.plan }
         ensures core { self.new.core ≡ self.old.core }
+        ensures tick { self.new.tick ≡ self.old.tick + 1 }
         ensures row { (log : List Row) → StandsAfter self.old log → IsCoreTurn self.old.plan self.old.core log result }
         ensures stands { (log : List Row) → StandsAfter self.old log → StandsAfter self.new (log ++ result ∷ []) }
-        // Work takes no resource.
+
+        // Work is on no resource.
         ensures work { result.res ≡ None }
     {
         let chosen = preferred(head(&self.jobs, self.tick), running(&self.jobs));

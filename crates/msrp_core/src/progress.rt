@@ -10,29 +10,29 @@ use msrp_plan::{JobId, JobKey};
 /// A job of the core, and how far it is.
 #[derive(Clone, Copy)]
 pub(crate) struct Progress {
-    pub job: JobId,
-    pub key: JobKey,
+    pub(crate) job: JobId,
+    pub(crate) key: JobKey,
     /// The number of its units.
-    pub units: u32,
-    pub started: bool,
+    pub(crate) units: u32,
+    pub(crate) started: bool,
     /// How many of its units it has done.
-    pub done: u32,
+    pub(crate) done: u32,
 }
 
 impl Progress {
-    pub fn is_ready(&self, tick: u32) -> bool
+    pub(crate) fn is_ready(&self, tick: u32) -> bool
         ensures { result ≡ is_ready tick self.now }
     {
         self.key.release <= u64::from(tick) && !self.started
     }
 
-    pub fn is_unfinished(&self) -> bool
+    pub(crate) fn is_unfinished(&self) -> bool
         ensures { result ≡ is_unfinished self.now }
     {
         self.started && self.done != self.units
     }
 
-    pub fn advance(&mut self, job: JobId)
+    pub(crate) fn advance(&mut self, job: JobId)
         requires { HasWork job self.old }
         ensures { self.new ≡ advanced job self.old }
     {

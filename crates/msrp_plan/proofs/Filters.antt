@@ -8,6 +8,7 @@ is_false : (b : Bool) → (b ≡ true → false ≡ true) → b ≡ false
 is_false true h = sym (h refl)
 is_false false h = refl
 
+-- by whether the first element passes q
 filter_within_cases : {X : Type 0} (p : X → Bool) (x : X) (b : Bool) (ys zs : List X) → (p x ≡ true → b ≡ true) → filter p ys ≡ zs → filter p (cond b (x ∷ ys) ys) ≡ cond (p x) (x ∷ zs) zs
 filter_within_cases p x true ys zs h e = ap (λ w. cond (p x) (x ∷ w) w) e
 filter_within_cases p x false ys zs h e = e ∙ ap (λ b. cond b (x ∷ zs) zs) (sym (is_false (p x) h))
@@ -17,6 +18,7 @@ pub filter_within : {X : Type 0} (p q : X → Bool) (xs : List X) → AllByRecur
 filter_within p q [] all = refl
 filter_within p q (x ∷ xs) all = filter_within_cases p x (q x) (filter q xs) (filter p xs) all.0 (filter_within p q xs all.1)
 
+-- by whether the first element passes q
 any_within_cases : {X : Type 0} (p : X → Bool) (x : X) (b : Bool) (ys : List X) (c : Bool) → (p x ≡ true → b ≡ true) → list_any p ys ≡ c → list_any p (cond b (x ∷ ys) ys) ≡ p x || c
 any_within_cases p x true ys c h e = ap (λ w. p x || w) e
 any_within_cases p x false ys c h e = e ∙ ap (λ b. b || c) (sym (is_false (p x) h))
@@ -45,6 +47,7 @@ pub all_of : {X : Type 0} (P : X → Type 0) → ((x : X) → P x) → (xs : Lis
 all_of P f [] = tt
 all_of P f (x ∷ xs) = (f x, all_of P f xs)
 
+-- the image of a list whose first element may be dropped
 map_kept : {X Y : Type 0} (f : X → Y) (b : Bool) (x : X) (xs : List X) → cond b (f x ∷ map f xs) (map f xs) ≡ map f (cond b (x ∷ xs) xs)
 map_kept f true x xs = refl
 map_kept f false x xs = refl

@@ -24,6 +24,7 @@ none_late plan t a (suc n) late =
     ap (λ b. cond b (job_at t a ∷ filter (λ j. nat_lt (release plan j) plan.ticks) (map (job_at t) (range_with_len (a + 1) n))) (filter (λ j. nat_lt (release plan j) plan.ticks) (map (job_at t) (range_with_len (a + 1) n)))) (le-ltb (release plan (job_at t a)) plan.ticks late)
     ∙ none_late plan t (a + 1) n (grind (arith, late))
 
+-- by whether the first is early enough
 first_cases : (plan : PlanModel) (t a n : ℕ) (b : Bool) → nat_lt (release plan (job_at t a)) plan.ticks ≡ b
     → (b ≡ false → filter (λ j. nat_lt (release plan j) plan.ticks) (map (job_at t) (range_with_len (a + 1) n)) ≡ [])
     → filter (λ j. nat_lt (release plan j) plan.ticks) (map (job_at t) (range_with_len (a + 1) n)) ≡ map (job_at t) (range_with_len (a + 1) (length (filter (λ j. nat_lt (release plan j) plan.ticks) (map (job_at t) (range_with_len (a + 1) n)))))
@@ -32,6 +33,7 @@ first_cases : (plan : PlanModel) (t a n : ℕ) (b : Bool) → nat_lt (release pl
 first_cases plan t a n true e late rest = ap (λ js. job_at t a ∷ js) rest
 first_cases plan t a n false e late rest = late refl ∙ sym (ap (λ js. map (job_at t) (range_with_len a (length js))) (late refl))
 
+-- jobs that pass a limit on releases are the first few
 first_jobs : (plan : PlanModel) (t a n : ℕ) → filter (λ j. nat_lt (release plan j) plan.ticks) (map (job_at t) (range_with_len a n)) ≡ map (job_at t) (range_with_len a (length (filter (λ j. nat_lt (release plan j) plan.ticks) (map (job_at t) (range_with_len a n)))))
 first_jobs plan t a zero = refl
 first_jobs plan t a (suc n) = first_cases plan t a n (nat_lt (release plan (job_at t a)) plan.ticks) refl
@@ -49,6 +51,7 @@ filter_all p false [] all = refl
 filter_all p true (x ∷ xs) all = ap (λ b. cond b (x ∷ filter p xs) (filter p xs)) all.0 ∙ ap (λ ys. x ∷ ys) (filter_all p true xs all.1)
 filter_all p false (x ∷ xs) all = ap (λ b. cond b (x ∷ filter p xs) (filter p xs)) all.0 ∙ filter_all p false xs all.1
 
+-- each job of a task is on the task's core
 of_task : (plan : PlanModel) (c t : ℕ) (ks : List ℕ) → AllByRecursion (λ j. (core_of plan j == c) ≡ ((task_at plan t).core == c)) (map (job_at t) ks)
 of_task plan c t [] = tt
 of_task plan c t (k ∷ ks) = (refl, of_task plan c t ks)
@@ -67,14 +70,17 @@ jobs_among_more plan c t =
     ∙ (filter-append (λ j. core_of plan j == c) (flat_map (jobs_of plan) (range_with_len 0 t)) (jobs_of plan t)
     ∙ ap (λ js. jobs_among plan c (range_with_len 0 t) ++ js) (task_jobs_on plan c t))
 
+-- what holds of two lists holds of both together
 all_joined : {X : Type 0} (P : X → Type 0) (xs ys : List X) → AllByRecursion P xs → AllByRecursion P ys → AllByRecursion P (xs ++ ys)
 all_joined P [] ys a b = b
 all_joined P (x ∷ xs) ys a b = (a.0, all_joined P xs ys a.1 b)
 
+-- a task's jobs are of a task below n
 jobs_below : (n t : ℕ) (ks : List ℕ) → t < n → AllByRecursion (λ j. j.task.0 < n) (map (job_at t) ks)
 jobs_below n t [] l = tt
 jobs_below n t (k ∷ ks) l = (l, jobs_below n t ks l)
 
+-- and so are those of all tasks below n
 among_below : (plan : PlanModel) (n a m : ℕ) → a + m ≤ n → AllByRecursion (λ j. j.task.0 < n) (flat_map (jobs_of plan) (range_with_len a m))
 among_below plan n a zero h = tt
 among_below plan n a (suc m) h =
@@ -86,6 +92,7 @@ among_below plan n a (suc m) h =
 pub core_jobs_below : (plan : PlanModel) (c : ℕ) → AllByRecursion (λ j. j.task.0 < length plan.tasks) (jobs_on plan c)
 core_jobs_below plan c = all_filtered (λ j. j.task.0 < length plan.tasks) (λ j. core_of plan j == c) (flat_map (jobs_of plan) (range_with_len 0 (length plan.tasks))) (among_below plan (length plan.tasks) 0 (length plan.tasks) (omega arith))
 
+-- more tasks have no fewer jobs
 among_grows : (plan : PlanModel) (c t n : ℕ) → length (jobs_among plan c (range_with_len 0 t)) ≤ length (jobs_among plan c (range_with_len 0 (t + n)))
 among_grows plan c t zero = let z : t ≡ t + 0 = omega arith in let a = ap (λ m. length (jobs_among plan c (range_with_len 0 m))) z in omega (arith, a)
 among_grows plan c t (suc n) =

@@ -9,10 +9,12 @@ use Rattle.msrp_plan.specs.Choice.{least}
 pub all_filtered : {X : Type 0} (P : X → Type 0) (p : X → Bool) (xs : List X) → AllByRecursion P xs → AllByRecursion P (filter p xs)
 all_filtered P p xs all = recursion_from_All P _ (All-filter p P xs (All-from_recursion P xs all))
 
+-- what holds of two holds of either
 either_meets : {X : Type 0} (P : X → Type 0) (b : Bool) (x y : X) → P x → P y → P (cond b x y)
 either_meets P true x y px py = px
 either_meets P false x y px py = py
 
+-- what holds of all elements holds of the best so far
 best_meets : {X : Type 0} (lt : X → X → Bool) (P : X → Type 0) (a : X) (xs : List X) → P a → AllByRecursion P xs → P (best_of lt a xs)
 best_meets lt P a [] pa all = pa
 best_meets lt P a (x ∷ xs) pa all = best_meets lt P (cond (lt x a) x a) xs (either_meets P (lt x a) x a all.0 pa) all.1
@@ -22,10 +24,12 @@ pub least_meets : {X : Type 0} (lt : X → X → Bool) (P : X → Type 0) (xs : 
 least_meets lt P [] y all e = absurd (cc)
 least_meets lt P (x ∷ xs) y all e = let h : best_of lt x xs ≡ y = cc in subst P h (best_meets lt P x xs all.0 all.1)
 
+-- the image of either of two
 map_either : {X Y : Type 0} (f : X → Y) (b : Bool) (x y : X) → cond b (f x) (f y) ≡ f (cond b x y)
 map_either f true x y = refl
 map_either f false x y = refl
 
+-- the best of the images is the image of the best
 best_map : {X Y : Type 0} (f : X → Y) (lt : X → X → Bool) (under : Y → Y → Bool) (P : X → Type 0) → ((x y : X) → P x → P y → under (f x) (f y) ≡ lt x y) → (a : X) (xs : List X) → P a → AllByRecursion P xs → best_of under (f a) (map f xs) ≡ f (best_of lt a xs)
 best_map f lt under P agree a [] pa all = refl
 best_map f lt under P agree a (x ∷ xs) pa all =

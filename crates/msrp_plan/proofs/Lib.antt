@@ -43,3 +43,4 @@ pub mod KeptLaws
 pub mod Stored
 pub mod WorkAlone
 pub mod JobLists
+pub mod Interleaving

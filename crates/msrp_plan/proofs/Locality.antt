@@ -53,31 +53,38 @@ state_local plan c pre j own at =
 abbrev pub SameStates : PlanModel → ℕ → List Row → List Row → Type 0
 SameStates plan c pre other = AllByRecursion (λ j. state_after pre j ≡ state_after other j) (jobs_on plan c)
 
+-- what a job holds is told by its state
 holds_same : (plan : PlanModel) (pre other : List Row) (g : ℕ) (j : JobId) → state_after pre j ≡ state_after other j → holds plan pre g j ≡ holds plan other g j
 holds_same plan pre other g j h =
     let d : done j pre ≡ done j other = ap (λ (s : JobState). s.done) h in
     ap (λ n. holds_after (take n (units plan j)) g) d
 
+-- what the jobs of a core hold
 held_same : (plan : PlanModel) (c : ℕ) (pre other : List Row) → SameStates plan c pre other → (g : ℕ) → is_held_on plan c pre g ≡ is_held_on plan c other g
 held_same plan c pre other same g = any_same (holds plan pre g) (holds plan other g) (jobs_on plan c) (all_weaker (λ j. state_after pre j ≡ state_after other j) (λ j. holds plan pre g j ≡ holds plan other g j) (holds_same plan pre other g) (jobs_on plan c) same)
 
+-- whether one of them is queued
 queued_same : (plan : PlanModel) (c : ℕ) (pre other : List Row) → SameStates plan c pre other → list_any (is_queued pre) (jobs_on plan c) ≡ list_any (is_queued other) (jobs_on plan c)
 queued_same plan c pre other same = any_same (is_queued pre) (is_queued other) (jobs_on plan c) (all_weaker (λ j. state_after pre j ≡ state_after other j) (λ j. is_queued pre j ≡ is_queued other j) (λ j h. ap (λ (s : JobState). s.queued) h) (jobs_on plan c) same)
 
+-- whether the core's ceiling is raised
 raised_same : (plan : PlanModel) (c : ℕ) (pre other : List Row) → SameStates plan c pre other → is_raised plan c pre ≡ is_raised plan c other
 raised_same plan c pre other same =
     ap (λ b. b || list_any (λ g. is_global plan g && is_held_on plan c pre g) (resources plan)) (queued_same plan c pre other same)
     ∙ ap (λ b. list_any (is_queued other) (jobs_on plan c) || b) (any_same (λ g. is_global plan g && is_held_on plan c pre g) (λ g. is_global plan g && is_held_on plan c other g) (resources plan) (all_of (λ g. (is_global plan g && is_held_on plan c pre g) ≡ (is_global plan g && is_held_on plan c other g)) (λ g. ap (λ b. is_global plan g && b) (held_same plan c pre other same g)) (resources plan)))
 
+-- the core's ceiling
 pub ceiling_same : (plan : PlanModel) (c : ℕ) (pre other : List Row) → SameStates plan c pre other → ceiling plan c pre ≡ ceiling plan c other
 ceiling_same plan c pre other same =
     ap (λ gs. max (greatest (map (local_ceiling plan) gs)) (cond (is_raised plan c pre) (top plan c) 0)) (filter_agree (λ g. not (is_global plan g) && is_held_on plan c pre g) (λ g. not (is_global plan g) && is_held_on plan c other g) (λ g. ap (λ b. not (is_global plan g) && b) (held_same plan c pre other same g)) (resources plan))
     ∙ ap (λ b. max (greatest (map (local_ceiling plan) (filter (λ g. not (is_global plan g) && is_held_on plan c other g) (resources plan)))) (cond b (top plan c) 0)) (raised_same plan c pre other same)
 
+-- the head
 head_same : (plan : PlanModel) (c t : ℕ) (pre other : List Row) → SameStates plan c pre other → head plan c t pre ≡ head plan c t other
 head_same plan c t pre other same = ap (least (is_before plan)) (filter_same (λ j. is_released plan t j && not (is_started pre j)) (λ j. is_released plan t j && not (is_started other j)) (jobs_on plan c)
     (all_weaker (λ j. state_after pre j ≡ state_after other j) (λ j. (is_released plan t j && not (is_started pre j)) ≡ (is_released plan t j && not (is_started other j))) (λ j h. ap (λ (s : JobState). is_released plan t j && not s.started) h) (jobs_on plan c) same))
 
+-- who runs
 running_same : (plan : PlanModel) (c : ℕ) (pre other : List Row) → SameStates plan c pre other → running plan c pre ≡ running plan c other
 running_same plan c pre other same = ap (least (is_before plan)) (filter_same (λ j. is_started pre j && not (is_finished plan pre j)) (λ j. is_started other j && not (is_finished plan other j)) (jobs_on plan c)
     (all_weaker (λ j. state_after pre j ≡ state_after other j) (λ j. (is_started pre j && not (is_finished plan pre j)) ≡ (is_started other j && not (is_finished plan other j))) (λ j h. ap (λ (s : JobState). s.started && not (s.done == length (units plan j))) h) (jobs_on plan c) same))
@@ -97,6 +104,7 @@ states_local plan c pre own = all_weaker (λ j. (core_of plan j == c) ≡ true) 
 pub choice_local : (plan : PlanModel) (c t : ℕ) (pre : List Row) → AreOwn plan pre → choice plan c t (log_of c pre) ≡ choice plan c t pre
 choice_local plan c t pre own = choice_same plan c t (log_of c pre) pre (states_local plan c pre own)
 
+-- whether a row does a unit is told by whether its job is queued
 unit_local : (plan : PlanModel) (pre other : List Row) (j : JobId) (r : Row) (o : Option Op) → is_queued pre j ≡ is_queued other j → does_unit plan pre j r o ≡ does_unit plan other j r o
 unit_local plan pre other j r None q = refl
 unit_local plan pre other j r (Some u) q = ap (λ b. same_res r.res (res_of_unit u) && allows (is_global_unit plan u) b u r.kind) q
@@ -110,13 +118,14 @@ does_next_local plan c pre (Some j) r own at =
     let q : is_queued (log_of c pre) j ≡ is_queued pre j = ap (λ (s : JobState). s.queued) s in
     ap (λ n. does_unit plan (log_of c pre) j r (slice_get (units plan j) n)) d ∙ unit_local plan (log_of c pre) pre j r (slice_get (units plan j) (done j pre)) q
 
--- so the next row of a core after its log names the job that has the turn after all rows, and does its next action
+-- so the next row of a core after its log names the job that has the turn after all rows: the choice
 pub chosen_local : (plan : PlanModel) (c : ℕ) (pre : List Row) (r : Row) → AreOwn plan pre → IsCoreTurn plan c (log_of c pre) r → is_chosen plan pre r ≡ true
 chosen_local plan c pre r own turn =
     ap (λ d. same_choice r.job (choice plan d r.tick pre)) turn.core
     ∙ (ap (same_choice r.job) (sym (choice_local plan c r.tick pre own))
     ∙ (ap (λ d. same_choice r.job (choice plan d r.tick (log_of c pre))) (sym turn.core) ∙ turn.chosen))
 
+-- the action
 pub action_local : (plan : PlanModel) (c : ℕ) (pre : List Row) (r : Row) → AreOwn plan pre → IsCoreTurn plan c (log_of c pre) r → is_next_action plan pre r ≡ true
 action_local plan c pre r own turn =
     sym (does_next_local plan c pre r.job r own (subst (λ d. is_on_core plan d r.job ≡ true) turn.core turn.own)) ∙ turn.action

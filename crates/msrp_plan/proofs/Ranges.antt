@@ -6,6 +6,7 @@ use Rattle.std.proofs.lemmas.List.FromFn.{map-range_with_len_more}
 use Rattle.std.proofs.lemmas.Grind.{flat_map-append}
 use Rattle.std.proofs.lemmas.Bool.Decides.{nat_tests}
 
+-- each number as its own image
 map_same : (ns : List ℕ) → map (λ n. n) ns ≡ ns
 map_same [] = refl
 map_same (n ∷ ns) = ap (λ ms. n ∷ ms) (map_same ns)
@@ -36,6 +37,7 @@ past_range d a (suc n) h =
     ap (λ b. cond b (a ∷ filter (λ k. k == d) (range_with_len (a + 1) n)) (filter (λ k. k == d) (range_with_len (a + 1) n))) (not_equal a d (λ e. absurd (omega arith)))
     ∙ past_range d (a + 1) n (omega arith)
 
+-- by whether the first number is it
 once_cases : (d a n : ℕ) (b : Bool) → (a == d) ≡ b → (a ≡ d → filter (λ k. k == d) (range_with_len (a + 1) n) ≡ []) → (a ≢ d → length (filter (λ k. k == d) (range_with_len (a + 1) n)) ≡ 1)
     → length (cond b (a ∷ filter (λ k. k == d) (range_with_len (a + 1) n)) (filter (λ k. k == d) (range_with_len (a + 1) n))) ≡ 1
 once_cases d a n true e here later = ap (λ ks. length (a ∷ ks)) (here (grind (arith, nat_tests)))
@@ -56,6 +58,7 @@ pub flat_filter : {X : Type 0} (p : X → Bool) (f : ℕ → List X) (ks : List 
 flat_filter p f [] = refl
 flat_filter p f (k ∷ ks) = filter-append p (f k) (flat_map f ks) ∙ ap (λ ys. filter p (f k) ++ ys) (flat_filter p f ks)
 
+-- by whether the first image passes
 filter_map_cases : {X Y : Type 0} (f : X → Y) (b : Bool) (x : X) (ys : List Y) (xs : List X) → length ys ≡ length xs → length (cond b (f x ∷ ys) ys) ≡ length (cond b (x ∷ xs) xs)
 filter_map_cases f true x ys xs e = omega (arith, e)
 filter_map_cases f false x ys xs e = e

@@ -27,9 +27,11 @@ log_own rows r c at = filter-append (is_of c) rows (r ∷ []) ∙ ap (λ b. log_
 pub log_other : (rows : List Row) (r : Row) (c : ℕ) → r.core.0 ≢ c → log_of c (rows ++ r ∷ []) ≡ log_of c rows
 log_other rows r c ne = filter-append (is_of c) rows (r ∷ []) ∙ (ap (λ b. log_of c rows ++ cond b (r ∷ []) []) (not_equal r.core.0 c ne) ∙ append-nil (log_of c rows))
 
+-- no row makes a log shorter
 log_longer : (rows : List Row) (r : Row) (c : ℕ) → length (log_of c rows) ≤ length (log_of c (rows ++ r ∷ []))
 log_longer rows r c = let a = ap length (filter-append (is_of c) rows (r ∷ [])) in omega (arith, a, length-append (log_of c rows) (log_of c (r ∷ [])))
 
+-- a row makes its own core's log longer by one
 log_one_longer : (rows : List Row) (r : Row) → length (log_of r.core.0 (rows ++ r ∷ [])) ≡ length (log_of r.core.0 rows) + 1
 log_one_longer rows r = ap length (log_own rows r r.core.0 refl) ∙ (let a = length-append (log_of r.core.0 rows) (r ∷ []) in a ∙ omega arith)
 
@@ -46,10 +48,12 @@ past_cases pre w t c true e now h =
     ap (λ b. b && (w.core.0 == c)) (not_equal w.tick t (λ k. absurd (omega (arith, h, z, now, k))))
 past_cases pre w t c false e now h = ap (λ b. (w.tick == t) && b) e ∙ and-false (w.tick == t)
 
+-- so core c has had no turn in that tick
 first_turn : (plan : PlanModel) (pre : List Row) (t c : ℕ) → IsFront plan pre → length (log_of c pre) ≡ t → had_turn c t pre ≡ false
 first_turn plan pre t c front now = list_any_none (λ w. (w.tick == t) && (w.core.0 == c)) pre (All-from_recursion (λ w. ((w.tick == t) && (w.core.0 == c)) ≡ false) pre
     (all_weaker (λ w. w.tick < length (log_of w.core.0 pre)) (λ w. ((w.tick == t) && (w.core.0 == c)) ≡ false) (λ w h. past_cases pre w t c (w.core.0 == c) refl now h) pre front.past))
 
+-- the three parts of a due turn
 in_turn_of : (tick due : ℕ) (low had : Bool) → tick ≡ due → low ≡ true → had ≡ false → ((tick == due) && (low && not had)) ≡ true
 in_turn_of tick due low had e l h = ap (λ b. b && (low && not had)) (eq-eqb tick due e) ∙ (ap (λ b. b && not had) l ∙ ap not h)
 
@@ -63,6 +67,7 @@ due_legal plan pre r front due = record {
   reply = due.reply;
 }
 
+-- one row more of a due core
 front_push : (plan : PlanModel) (pre : List Row) (r : Row) → IsFront plan pre → IsDueTurn plan pre r → IsFront plan (pre ++ r ∷ [])
 front_push plan pre r front due = record {
   own = all_push (λ w. is_of_core plan w ≡ true) pre r front.own due.turn.own;
@@ -81,6 +86,7 @@ pub record IsAscendingTo (plan : PlanModel) (t c : ℕ) (rows : List Row) : Type
   pub order : core_order rows ≡ ascending plan.cores t ++ range_with_len 0 c
   pub turns : EachAfter (IsDueTurn plan) [] rows
 
+-- the order of so many ticks has one place for each core and tick
 ascending_length : (m t : ℕ) → length (ascending m t) ≡ t * m
 ascending_length m t = flat_length (λ k. range_with_len 0 m) m (λ k. length-range_with_len 0 m) (range_with_len 0 t) ∙ ap (λ n. n * m) (length-range_with_len 0 t)
 
@@ -94,6 +100,7 @@ ascending_rows plan t c rows h =
     let f = length-range_with_len 0 c in
     omega (arith, a, b, d, e, f)
 
+-- each core stands in it once for each tick
 ascending_count : (m t c : ℕ) → c < m → length (filter (λ k. k == c) (ascending m t)) ≡ t
 ascending_count m t c l =
     ap length (flat_filter (λ k. k == c) (λ k. range_with_len 0 m) (range_with_len 0 t))
@@ -111,7 +118,8 @@ log_due plan t c rows h l =
     let g = ascending_count plan.cores t c l in
     omega (arith, a, b, d, e, f, g)
 
-quiet_reply : (pre : List Row) (r : Row) (o : Option ResId) → o ≡ None → replies_on pre o r ≡ true
+-- a row on no resource needs no reply
+pub quiet_reply : (pre : List Row) (r : Row) (o : Option ResId) → o ≡ None → replies_on pre o r ≡ true
 quiet_reply pre r None h = refl
 quiet_reply pre r (Some g) h = absurd (cc)
 
