@@ -40,3 +40,4 @@ pub mod Drafts
 pub mod Stored
 pub mod WorkAlone
 pub mod JobLists
+pub mod Commutation

@@ -7,7 +7,7 @@ ghost use Rattle.msrp_plan.specs.Plan.{PlanModel};
 ghost use Rattle.msrp_plan.specs.Choice.{choice};
 ghost use Rattle.msrp_plan.specs.Queues.{fifo};
 ghost use Rattle.msrp_plan.specs.Runs.{IsLegal, IsRun, IsRunStart, is_of_core, is_next_action, is_fifo_reply};
-ghost use Rattle.msrp_plan.specs.Logs.{log_of, rows_on};
+ghost use Rattle.msrp_plan.specs.Logs.{log_of, rows_on, AreApart};
 ghost use Rattle.msrp_plan.specs.Verdict.{verdict, broken};
 ghost use Rattle.msrp_plan.specs.Faults.{IsFault};
 ghost use Rattle.msrp_plan.specs.declared.faults.Fault.{Fault};
@@ -40,4 +40,10 @@ pub fn locality()
     ensures action { (plan : PlanModel) (pre : List Row) (r : Row) → AllPass (is_of_core plan) pre → is_of_core plan r ≡ true → is_next_action plan (log_of r.core.0 pre) r ≡ is_next_action plan pre r }
     ensures queue { (g : ℕ) (pre : List Row) → fifo g (rows_on g pre) ≡ fifo g pre }
     ensures reply { (g : ResId) (pre : List Row) (r : Row) → r.res ≡ Some g → is_fifo_reply (rows_on g.0 pre) r ≡ is_fifo_reply pre r }
+{}
+
+/// Turns commute where they share neither core nor resource: two of them that stand next to each other in
+/// one tick may change places, and the rest stays as it is.
+pub fn commutation()
+    ensures { (plan : PlanModel) (pre post : List Row) (r s : Row) → IsRunStart plan (pre ++ r ∷ s ∷ post) → r.tick ≡ s.tick → AreApart r s → IsRunStart plan (pre ++ s ∷ r ∷ post) }
 {}
