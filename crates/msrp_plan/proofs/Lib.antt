@@ -41,3 +41,4 @@ pub mod Stored
 pub mod WorkAlone
 pub mod JobLists
 pub mod Commutation
+pub mod CoreRuns
