@@ -1,14 +1,14 @@
 -- A row is legal by the rows of its core and those on its resource: so turns of different cores that aren't on one
 -- resource commute.
-use Rattle.std.proofs.Common.{◌≡◌, ℕ, ◌+◌, ◌/◌, Bool, true, false, cond, not, ◌&&◌, ◌||◌, ◌==◌, nat_lt, ◌≢◌, List, [], ◌∷◌, ◌++◌, length, Option, Some, None, refl, ap, sym, subst, ◌∙◌, arith, eq-eqb, eqb-true, lt-ltb, length-append, append-nil, append_assoc}
-use Rattle.std.specs.List.{filter, list_any, AllByRecursion}
+use Rattle.std.proofs.Common.{◌≡◌, ℕ, ◌/◌, Bool, true, false, cond, not, ◌&&◌, ◌||◌, ◌==◌, nat_lt, List, [], ◌∷◌, ◌++◌, length, Option, Some, None, refl, ap, sym, ◌∙◌, arith, eq-eqb, eqb-true, lt-ltb, length-append, append-nil, append_assoc}
+use Rattle.std.specs.List.{filter}
 use Rattle.std.proofs.lemmas.Bool.{and_parts, false_from_ne_true}
 use Rattle.std.proofs.lemmas.List.Elements.{filter-append}
 use Rattle.msrp_plan.specs.Plan.{PlanModel}
 use Rattle.msrp_plan.specs.Choice.{choice}
 use Rattle.msrp_plan.specs.Actions.{does_next}
 use Rattle.msrp_plan.specs.Queues.{is_on, fifo, replies}
-use Rattle.msrp_plan.specs.Runs.{EachAfter, IsLegal, IsRunStart, is_in_turn, is_of_core, is_chosen, is_next_action, is_fifo_reply, had_turn, same_choice, replies_on}
+use Rattle.msrp_plan.specs.Runs.{EachAfter, IsLegal, IsRunStart, is_in_turn, is_of_core, is_chosen, is_next_action, had_turn, same_choice, replies_on}
 use Rattle.msrp_plan.specs.Logs.{is_of, log_of, rows_on, AreApart}
 use Rattle.msrp_plan.specs.declared.ids.ResId.{ResId}
 use Rattle.msrp_plan.specs.declared.rows.Row.{Row}
@@ -155,7 +155,7 @@ second_turn plan pre r s h k tick =
     let a = legal_due plan pre r h in
     let b = legal_due plan (pre ++ r ∷ []) s k in
     in_turn_of s.tick (length pre / plan.cores) (nat_lt s.core.0 plan.cores) (had_turn s.core.0 s.tick pre) (sym tick ∙ a.tick) (lt-ltb s.core.0 plan.cores b.core)
-        (or_left (had_turn s.core.0 s.tick pre) _ (sym (any_push (λ w. (w.tick == s.tick) && (w.core.0 == s.core.0)) pre r) ∙ b.once))
+    (or_left (had_turn s.core.0 s.tick pre) _ (sym (any_push (λ w. (w.tick == s.tick) && (w.core.0 == s.core.0)) pre r) ∙ b.once))
 
 first_turn : (plan : PlanModel) (pre : List Row) (r s : Row) → IsLegal plan pre r → IsLegal plan (pre ++ r ∷ []) s → r.tick ≡ s.tick → AreApart r s → is_in_turn plan (pre ++ s ∷ []) r ≡ true
 first_turn plan pre r s h k tick apart =
@@ -163,8 +163,8 @@ first_turn plan pre r s h k tick apart =
     let b = legal_due plan (pre ++ r ∷ []) s k in
     let size : length (pre ++ r ∷ []) ≡ length (pre ++ s ∷ []) = length-append pre (r ∷ []) ∙ sym (length-append pre (s ∷ [])) in
     in_turn_of r.tick (length (pre ++ s ∷ []) / plan.cores) (nat_lt r.core.0 plan.cores) (had_turn r.core.0 r.tick (pre ++ s ∷ [])) (tick ∙ (b.tick ∙ ap (λ n. n / plan.cores) size)) (lt-ltb r.core.0 plan.cores a.core)
-        (any_push (λ w. (w.tick == r.tick) && (w.core.0 == r.core.0)) pre s
-        ∙ or_both (had_turn r.core.0 r.tick pre) _ a.once (and_right (s.tick == r.tick) _ (other_core r s apart r.core.0 (eq-eqb r.core.0 r.core.0 refl))))
+    (any_push (λ w. (w.tick == r.tick) && (w.core.0 == r.core.0)) pre s
+    ∙ or_both (had_turn r.core.0 r.tick pre) _ a.once (and_right (s.tick == r.tick) _ (other_core r s apart r.core.0 (eq-eqb r.core.0 r.core.0 refl))))
 
 own_rows : (plan : PlanModel) (rows : List Row) → EachAfter (IsLegal plan) [] rows → AreOwn plan rows
 own_rows plan rows each = along (AreOwn plan) (IsLegal plan) (λ pre x own h. all_push (λ w. is_of_core plan w ≡ true) pre x own h.own) [] rows tt each
@@ -181,7 +181,9 @@ commuted plan pre post r s h tick apart =
       size = omega (arith, h.size, length-append pre (r ∷ s ∷ post), length-append pre (s ∷ r ∷ post));
       each = each_append (IsLegal plan) [] pre (s ∷ r ∷ post) front (
         legal_alike plan s (pre ++ r ∷ []) pre (second_alike plan pre r s own first.own apart) (second_turn plan pre r s first second tick) second,
-        (legal_alike plan r pre (pre ++ s ∷ []) (first_alike plan pre r s own second.own apart) (first_turn plan pre r s first second tick apart) first,
-        each_alike plan ((pre ++ r ∷ []) ++ s ∷ []) ((pre ++ s ∷ []) ++ r ∷ []) post (swapped_alike plan pre r s own first.own second.own apart) rest.1.1),
+        (
+          legal_alike plan r pre (pre ++ s ∷ []) (first_alike plan pre r s own second.own apart) (first_turn plan pre r s first second tick apart) first,
+          each_alike plan ((pre ++ r ∷ []) ++ s ∷ []) ((pre ++ s ∷ []) ++ r ∷ []) post (swapped_alike plan pre r s own first.own second.own apart) rest.1.1,
+        ),
       );
     }

@@ -1,11 +1,11 @@
 -- A legal run seen from one core: its rows by themselves are a run of the core, a row for each tick.
-use Rattle.std.proofs.Common.{◌≡◌, ◌≢◌, ℕ, ◌+◌, ◌*◌, ◌/◌, ◌<◌, ◌≤◌, Bool, true, false, cond, ◌||◌, ◌==◌, List, [], ◌∷◌, ◌++◌, refl, ap, sym, ◌∙◌, subst, arith, length, append-nil, append_assoc, eq-eqb, eqb-true, length-append, mul_comm, inl, inr}
+use Rattle.std.proofs.Common.{◌≡◌, ◌≢◌, ℕ, ◌+◌, ◌*◌, ◌/◌, ◌<◌, Bool, true, false, cond, ◌||◌, ◌==◌, List, [], ◌∷◌, ◌++◌, refl, ap, sym, ◌∙◌, subst, arith, length, append-nil, append_assoc, eq-eqb, eqb-true, length-append, mul_comm, inl, inr}
 use Rattle.std.specs.List.{list_any}
 use Rattle.std.proofs.Math.Bool.{or-false, or-true, true≢false}
 use Rattle.std.proofs.lemmas.Nat.{div-mul-add}
 use Rattle.msrp_plan.specs.Plan.{PlanModel}
 use Rattle.msrp_plan.specs.Runs.{EachAfter, IsLegal, IsRun, IsRunStart, IsCoreTurn, CoreRun, is_of_core, same_choice}
-use Rattle.msrp_plan.specs.Logs.{is_of, log_of}
+use Rattle.msrp_plan.specs.Logs.{log_of}
 use Rattle.msrp_plan.specs.declared.rows.Row.{Row}
 use Rattle.msrp_plan.proofs.Lists.{all_push}
 use Rattle.msrp_plan.proofs.Locality.{AreOwn, choice_local, does_next_local}
@@ -60,14 +60,17 @@ stands_push plan c t pre r l s h =
     let more : HasTurns c t (pre ++ r ∷ []) = turns_push plan c t pre r s.tick s.turns h in
     elim (tick_push plan t pre r s.tick h) [
       | inl same ↦ (t, record { tick = same; turns = more; own = mine })
-      | inr next ↦ (t + 1, record {
+      | inr next ↦ (
+        t + 1,
+        record {
           tick = next.0;
           turns =
               let a = more ∙ ap (λ b. t + one_if b) (next.1 c l) in
               let b = ap one_if (ap (list_any (λ w. w.core.0 == c)) next.2) in
               omega (arith, a, b);
           own = mine;
-        })
+        },
+      )
     ]
 
 -- a row of the core is the next of its log, and a row of another isn't in it
@@ -84,8 +87,8 @@ core_turns plan c t pre [] l s each = tt
 core_turns plan c t pre (r ∷ rows) l s each =
     let next = stands_push plan c t pre r l s each.0 in
     log_cases plan c pre rows r (r.core.0 == c) refl
-        (λ e. subst (λ n. IsCoreTurn plan n (log_of n pre) r) e (next_of_log plan t pre r s.tick (subst (λ n. HasTurns n t pre) (sym e) s.turns) s.own each.0))
-        (core_turns plan c next.0 (pre ++ r ∷ []) rows l next.1 each.1)
+    (λ e. subst (λ n. IsCoreTurn plan n (log_of n pre) r) e (next_of_log plan t pre r s.tick (subst (λ n. HasTurns n t pre) (sym e) s.turns) s.own each.0))
+    (core_turns plan c next.0 (pre ++ r ∷ []) rows l next.1 each.1)
 
 -- and where it stands after them
 stands_after : (plan : PlanModel) (c t : ℕ) (pre rows : List Row) → c < plan.cores → Stands plan c t pre → EachAfter (IsLegal plan) pre rows → (u : ℕ) × Stands plan c u (pre ++ rows)

@@ -12,8 +12,8 @@ plan = record {
   ticks = 9;
   resources = [];
   tasks =
-    task (codes "a") 0 3 9 0 (works 4)
-    ∷ [];
+      task (codes "a") 0 3 9 0 (works 4)
+      ∷ [];
 }
 
 abbrev first : JobId

@@ -11,9 +11,9 @@ plan = record {
   ticks = 5;
   resources = codes "g" ∷ codes "h" ∷ [];
   tasks =
-    task (codes "a") 0 20 10 0 (locks 0 ∷ section 1 0 ++ unlocks 0 ∷ [])
-    ∷ task (codes "b") 1 20 10 0 (section 0 0)
-    ∷ [];
+      task (codes "a") 0 20 10 0 (locks 0 ∷ section 1 0 ++ unlocks 0 ∷ [])
+      ∷ task (codes "b") 1 20 10 0 (section 0 0)
+      ∷ [];
 }
 
 abbrev a : JobId
@@ -25,17 +25,17 @@ b = job 1 0
 -- a holds g and h in tick 1
 abbrev pub rows : List Row
 rows =
-  take 0 0 a 0
-  ∷ queue 0 1 b 0
-  ∷ lock 1 0 a 1
-  ∷ spin 1 1 b 0
-  ∷ unlock 2 0 a 1
-  ∷ spin 2 1 b 0
-  ∷ release 3 0 a 0
-  ∷ grant 3 1 b 0
-  ∷ idle 4 0
-  ∷ release 4 1 b 0
-  ∷ []
+    take 0 0 a 0
+    ∷ queue 0 1 b 0
+    ∷ lock 1 0 a 1
+    ∷ spin 1 1 b 0
+    ∷ unlock 2 0 a 1
+    ∷ spin 2 1 b 0
+    ∷ release 3 0 a 0
+    ∷ grant 3 1 b 0
+    ∷ idle 4 0
+    ∷ release 4 1 b 0
+    ∷ []
 
 -- a takes h as if it were global
 abbrev pub taken_as_global : List Row
