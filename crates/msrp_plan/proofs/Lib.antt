@@ -44,3 +44,5 @@ pub mod Stored
 pub mod WorkAlone
 pub mod JobLists
 pub mod Interleaving
+pub mod Commutation
+pub mod CoreRuns

@@ -1,7 +1,9 @@
 -- Worked examples: plans small enough to follow by hand, each with the run that the rules give it, and beside it
 -- rows that break a rule. `src/worked.rt` says of each what the definitions make of it.
 pub mod Notation
+pub mod NothingToDo
 pub mod WorkThenIdle
+pub mod DeadlineAbovePeriod
 pub mod BlockedByTheCeiling
 pub mod PreemptsASection
 pub mod EqualDeadlines
@@ -13,4 +15,6 @@ pub mod ThreeInAQueue
 pub mod RaisedWhileHolding
 pub mod RaisedWhileQueued
 pub mod RequestedAgain
+pub mod LocalInsideGlobal
 pub mod LockHistory
+pub mod Refusals

@@ -1,5 +1,5 @@
 -- The rows of one core, or on one resource, among all, and the orders in which the cores have their turns.
-use Rattle.std.specs.Prelude.{ℕ, List, Bool, ◌==◌, ◌≡◌, true, filter, map, length, ◌<◌, ◌/◌}
+use Rattle.std.specs.Prelude.{ℕ, List, Bool, ◌==◌, ◌≡◌, ◌≢◌, true, false, filter, map, length, ◌<◌, ◌/◌}
 use Rattle.std.specs.List.{flat_map, range_with_len}
 use Rattle.msrp_plan.specs.Plan.{PlanModel}
 use Rattle.msrp_plan.specs.Queues.{is_on}
@@ -17,6 +17,11 @@ log_of c rows = filter (is_of c) rows
 -- the rows on a resource, in order
 abbrev pub rows_on : ℕ → List Row → List Row
 rows_on g rows = filter (λ r. is_on g r.res) rows
+
+-- the rows are of different cores, and not on one resource
+pub record AreApart (r s : Row) : Type 0 where
+  pub cores : r.core.0 ≢ s.core.0
+  pub resources : (g : ℕ) → is_on g r.res ≡ true → is_on g s.res ≡ false
 
 -- the cores in the order of their turns
 abbrev pub core_order : List Row → List ℕ

@@ -6,8 +6,8 @@ ghost use Rattle.std.specs.List.{AllPass};
 ghost use Rattle.msrp_plan.specs.Plan.{PlanModel};
 ghost use Rattle.msrp_plan.specs.Choice.{choice};
 ghost use Rattle.msrp_plan.specs.Queues.{fifo};
-ghost use Rattle.msrp_plan.specs.Runs.{IsLegal, IsRun, IsRunStart, is_of_core, is_next_action, is_fifo_reply};
-ghost use Rattle.msrp_plan.specs.Logs.{log_of, rows_on};
+ghost use Rattle.msrp_plan.specs.Runs.{CoreRun, IsLegal, IsRun, IsRunStart, is_of_core, is_next_action, is_fifo_reply};
+ghost use Rattle.msrp_plan.specs.Logs.{log_of, rows_on, AreApart};
 ghost use Rattle.msrp_plan.specs.Verdict.{verdict, broken};
 ghost use Rattle.msrp_plan.specs.Faults.{IsFault};
 ghost use Rattle.msrp_plan.specs.declared.faults.Fault.{Fault};
@@ -40,4 +40,17 @@ pub fn locality()
     ensures action { (plan : PlanModel) (pre : List Row) (r : Row) → AllPass (is_of_core plan) pre → is_of_core plan r ≡ true → is_next_action plan (log_of r.core.0 pre) r ≡ is_next_action plan pre r }
     ensures queue { (g : ℕ) (pre : List Row) → fifo g (rows_on g pre) ≡ fifo g pre }
     ensures reply { (g : ResId) (pre : List Row) (r : Row) → r.res ≡ Some g → is_fifo_reply (rows_on g.0 pre) r ≡ is_fifo_reply pre r }
+{}
+
+/// A legal run seen from one core: its rows by themselves are a run of the core, whatever a global resource
+/// replies, and in a whole run there is one for each tick.
+pub fn core_runs()
+    ensures rows { (plan : PlanModel) (rows : List Row) (c : ℕ) → IsRunStart plan rows → c < plan.cores → CoreRun plan c (log_of c rows) }
+    ensures whole { (plan : PlanModel) (rows : List Row) (c : ℕ) → IsRun plan rows → c < plan.cores → length (log_of c rows) ≡ plan.ticks }
+{}
+
+/// Turns commute where they share neither core nor resource: two of them that stand next to each other in
+/// one tick may change places, and the rest stays as it is.
+pub fn commutation()
+    ensures { (plan : PlanModel) (pre post : List Row) (r s : Row) → IsRunStart plan (pre ++ r ∷ s ∷ post) → r.tick ≡ s.tick → AreApart r s → IsRunStart plan (pre ++ s ∷ r ∷ post) }
 {}

@@ -1,13 +1,16 @@
 //! Worked examples, computed from the definitions alone: of each plan a legal run, and beside it rows that
 //! aren't legal, with the verdict on them. Each function does nothing; its contract is the example. The plans
 //! and rows stand in `specs/Examples`.
-ghost use Rattle.std.specs.Prelude.{◌≡◌, true, false};
+ghost use Rattle.std.specs.Prelude.{◌≡◌, true, false, [], ◌∷◌, Some, None, codes};
 ghost use Rattle.msrp_plan.specs.Levels.{level, local_ceiling, top, is_global};
 ghost use Rattle.msrp_plan.specs.Runs.{IsRun};
 ghost use Rattle.msrp_plan.specs.Verdict.{verdict};
 ghost use Rattle.msrp_plan.specs.FifoLock.{Legal};
-ghost use Rattle.msrp_plan.specs.Examples.Notation.{fault};
+ghost use Rattle.msrp_plan.specs.Building.{new_fault, resource_fault, task_fault, op_fault, finish_fault};
+ghost use Rattle.msrp_plan.specs.Examples.Notation.{fault, works, locks, section};
+ghost use Rattle.msrp_plan.specs.Examples.NothingToDo as nothing_to_do;
 ghost use Rattle.msrp_plan.specs.Examples.WorkThenIdle as work_then_idle;
+ghost use Rattle.msrp_plan.specs.Examples.DeadlineAbovePeriod as deadline_above_period;
 ghost use Rattle.msrp_plan.specs.Examples.BlockedByTheCeiling as blocked_by_the_ceiling;
 ghost use Rattle.msrp_plan.specs.Examples.PreemptsASection as preempts_a_section;
 ghost use Rattle.msrp_plan.specs.Examples.EqualDeadlines as equal_deadlines;
@@ -18,9 +21,18 @@ ghost use Rattle.msrp_plan.specs.Examples.HandoverATickLater as handover_a_tick_
 ghost use Rattle.msrp_plan.specs.Examples.ThreeInAQueue as three_in_a_queue;
 ghost use Rattle.msrp_plan.specs.Examples.RaisedWhileHolding as raised_while_holding;
 ghost use Rattle.msrp_plan.specs.Examples.RaisedWhileQueued as raised_while_queued;
+ghost use Rattle.msrp_plan.specs.Examples.LocalInsideGlobal as local_inside_global;
 ghost use Rattle.msrp_plan.specs.Examples.RequestedAgain as requested_again;
 ghost use Rattle.msrp_plan.specs.Examples.LockHistory as lock_history;
+ghost use Rattle.msrp_plan.specs.Examples.Refusals.{with_tasks, fresh, after, full_of_resources, full_of_tasks, eight_held, nested, nested_local};
+ghost use Rattle.msrp_plan.specs.declared.faults.PlanFault.TheVariants.{Name, Taken, Limit, Undeclared, Core, Nesting, NestedGlobal, NoUnit};
+ghost use Rattle.msrp_plan.specs.declared.units.Step.TheVariants.{Run, Lock, Unlock};
 ghost use Rattle.msrp_plan.specs.declared.faults.Rule.TheVariants.{A1, A2, A3, A4, A5, A6, A7};
+
+/// A plan without a task: its core idles.
+pub fn nothing_to_do()
+    ensures run { IsRun nothing_to_do.plan nothing_to_do.rows }
+{}
 
 /// One task on one core: it works and then the core idles. Too much work, or idling while a job waits, isn't
 /// legal.
@@ -28,6 +40,12 @@ pub fn work_then_idle()
     ensures run { IsRun work_then_idle.plan work_then_idle.rows }
     ensures too_long { verdict work_then_idle.plan work_then_idle.too_long ≡ fault 3 A3 }
     ensures too_late { verdict work_then_idle.plan work_then_idle.too_late ≡ fault 1 A3 }
+{}
+
+/// A relative deadline may be above the period: jobs of one task go one after the other.
+pub fn deadline_above_period()
+    ensures run { IsRun deadline_above_period.plan deadline_above_period.rows }
+    ensures next_job_first { verdict deadline_above_period.plan deadline_above_period.next_job_first ≡ fault 4 A3 }
 {}
 
 /// A job whose level isn't above the current ceiling isn't started, although its deadline is earlier (Baker
@@ -119,6 +137,15 @@ pub fn raised_while_queued()
     ensures waiter_preempted { verdict raised_while_queued.plan raised_while_queued.waiter_preempted ≡ fault 4 A3 }
 {}
 
+/// A local section inside a global one: h is local, since one core alone uses it.
+pub fn local_inside_global()
+    ensures run { IsRun local_inside_global.plan local_inside_global.rows }
+    ensures taken_as_global { verdict local_inside_global.plan local_inside_global.taken_as_global ≡ fault 3 A4 }
+    ensures released_before { verdict local_inside_global.plan local_inside_global.released_before ≡ fault 5 A4 }
+    ensures global { is_global local_inside_global.plan 0 ≡ true }
+    ensures local { is_global local_inside_global.plan 1 ≡ false }
+{}
+
 /// What was released and is requested again goes to who was queued before.
 pub fn requested_again()
     ensures run { IsRun requested_again.plan requested_again.rows }
@@ -132,4 +159,62 @@ pub fn lock_history()
     ensures granted_too_soon { ¬ Legal lock_history.granted_too_soon }
     ensures ahead_miscounted { ¬ Legal lock_history.ahead_miscounted }
     ensures left_by_another { ¬ Legal lock_history.left_by_another }
+{}
+
+/// Which numbers of cores and ticks a plan may have.
+pub fn refused_numbers()
+    ensures one_core { new_fault 1 20000 ≡ None }
+    ensures nine_cores { new_fault 9 5 ≡ Some Limit }
+    ensures no_core { new_fault 0 5 ≡ Some Limit }
+    ensures too_long { new_fault 1 20001 ≡ Some Limit }
+{}
+
+/// Which resources a builder refuses: names are judged before the limit of 32.
+pub fn refused_resources()
+    ensures resource_named { resource_fault (with_tasks []) (codes "a_0") ≡ None }
+    ensures longest_name { resource_fault (with_tasks []) (codes "a123456789012345") ≡ None }
+    ensures name_too_long { resource_fault (with_tasks []) (codes "a1234567890123456") ≡ Some Name }
+    ensures no_name { resource_fault (with_tasks []) [] ≡ Some Name }
+    ensures digit_first { resource_fault (with_tasks []) (codes "0a") ≡ Some Name }
+    ensures capital { resource_fault (with_tasks []) (codes "aB") ≡ Some Name }
+    ensures resource_taken { resource_fault full_of_resources (codes "r") ≡ Some Taken }
+    ensures resource_33 { resource_fault full_of_resources (codes "s") ≡ Some Limit }
+{}
+
+/// Which tasks a builder refuses: the end of the task before is judged first, then the name, the core and the
+/// limits.
+pub fn refused_tasks()
+    ensures first_task { task_fault (with_tasks []) (fresh (codes "g") 1 1 1000000 0) ≡ None }
+    ensures unitless { task_fault (after []) (fresh (codes "B") 2 0 0 0) ≡ Some NoUnit }
+    ensures held_at_the_end { task_fault (after (locks 0 ∷ [])) (fresh (codes "B") 2 0 0 0) ≡ Some Nesting }
+    ensures task_misnamed { task_fault (after (works 1)) (fresh (codes "B") 2 0 0 0) ≡ Some Name }
+    ensures task_taken { task_fault full_of_tasks (fresh (codes "a") 2 0 0 0) ≡ Some Taken }
+    ensures no_such_core { task_fault full_of_tasks (fresh (codes "b") 2 0 0 0) ≡ Some Core }
+    ensures task_65 { task_fault full_of_tasks (fresh (codes "b") 1 20 10 0) ≡ Some Limit }
+    ensures no_period { task_fault (with_tasks []) (fresh (codes "a") 1 0 10 0) ≡ Some Limit }
+    ensures deadline_too_long { task_fault (with_tasks []) (fresh (codes "a") 1 20 1000001 0) ≡ Some Limit }
+    ensures offset_too_long { task_fault (with_tasks []) (fresh (codes "a") 1 20 10 1000001) ≡ Some Limit }
+{}
+
+/// Which steps a builder refuses: the resource is judged first, then how the task nests, then the limits.
+pub fn refused_steps()
+    ensures locked { op_fault (after (works 4095)) (Lock (record { 0 = 1 })) ≡ None }
+    ensures undeclared { op_fault (after (works 4096)) (Lock (record { 0 = 2 })) ≡ Some Undeclared }
+    ensures locked_twice { op_fault (after (locks 0 ∷ [])) (Lock (record { 0 = 0 })) ≡ Some Nesting }
+    ensures not_innermost { op_fault (after (locks 0 ∷ locks 1 ∷ [])) (Unlock (record { 0 = 0 })) ≡ Some Nesting }
+    ensures not_held { op_fault (after (section 0 1)) (Unlock (record { 0 = 0 })) ≡ Some Nesting }
+    ensures ninth_held { op_fault eight_held (Lock (record { 0 = 8 })) ≡ Some Limit }
+    ensures ninth_held_twice { op_fault eight_held (Lock (record { 0 = 7 })) ≡ Some Nesting }
+    ensures run_of_none { op_fault (after []) (Run 0) ≡ Some Limit }
+    ensures longest_run { op_fault (after []) (Run 4096) ≡ None }
+    ensures run_too_long { op_fault (after (works 1)) (Run 4096) ≡ Some Limit }
+{}
+
+/// Which plans a builder refuses in the end.
+pub fn refused_plans()
+    ensures finished { finish_fault nested_local ≡ None }
+    ensures nested_global { finish_fault nested ≡ Some NestedGlobal }
+    ensures last_unitless { finish_fault (after []) ≡ Some NoUnit }
+    ensures last_holds { finish_fault (after (locks 0 ∷ [])) ≡ Some Nesting }
+    ensures without_tasks { finish_fault (with_tasks []) ≡ None }
 {}

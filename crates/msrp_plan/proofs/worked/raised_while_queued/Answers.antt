@@ -3,4 +3,7 @@ use Rattle.msrp_plan.proofs.Verdicts.{good_is_run}
 use Rattle.msrp_plan.proofs.worked.raised_while_queued.Goals as goal
 
 pub returns : goal.returns
-returns c = record { run = good_is_run _ _ refl; waiter_preempted = refl }
+returns c = record {
+  run = good_is_run _ _ refl;
+  waiter_preempted = refl;
+}

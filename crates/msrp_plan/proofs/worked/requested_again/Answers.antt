@@ -3,4 +3,7 @@ use Rattle.msrp_plan.proofs.Verdicts.{good_is_run}
 use Rattle.msrp_plan.proofs.worked.requested_again.Goals as goal
 
 pub returns : goal.returns
-returns c = record { run = good_is_run _ _ refl; overtakes = refl }
+returns c = record {
+  run = good_is_run _ _ refl;
+  overtakes = refl;
+}

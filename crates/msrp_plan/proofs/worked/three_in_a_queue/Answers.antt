@@ -3,4 +3,7 @@ use Rattle.msrp_plan.proofs.Verdicts.{good_is_run}
 use Rattle.msrp_plan.proofs.worked.three_in_a_queue.Goals as goal
 
 pub returns : goal.returns
-returns c = record { run = good_is_run _ _ refl; out_of_order = refl }
+returns c = record {
+  run = good_is_run _ _ refl;
+  out_of_order = refl;
+}

@@ -1,0 +1,5 @@
+use Rattle.msrp_plan.proofs.Commutation.{commuted}
+use Rattle.msrp_plan.proofs.definitions.commutation.Goals as goal
+
+pub returns : goal.returns
+returns c = commuted

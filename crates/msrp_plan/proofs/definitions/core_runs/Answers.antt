@@ -1,0 +1,5 @@
+use Rattle.msrp_plan.proofs.CoreRuns.{core_run, core_run_whole}
+use Rattle.msrp_plan.proofs.definitions.core_runs.Goals as goal
+
+pub returns : goal.returns
+returns c = record { rows = core_run; whole = core_run_whole }
