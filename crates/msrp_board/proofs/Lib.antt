@@ -1,0 +1,12 @@
+pub mod Queue
+pub mod Counts
+pub mod Sharing
+pub mod Parting
+pub mod Sorted
+pub mod Calls
+pub mod Barrier
+pub mod Meeting
+pub mod Conducting
+pub mod Ties
+pub mod Ticks
+pub mod Start
