@@ -1,6 +1,7 @@
 -- Each step keeps the rule.
 use Rattle.std.proofs.Common.{◌==◌, ◌||◌, eqb, eq-eqb, ne_eqb, ◌≡◌, ◌≢◌, ◌⊎◌, inl, inr, ⊎_elim, ℕ, zero, suc, ◌+◌, ◌*◌, ◌/◌, ◌%◌, ◌^◌, ◌-◌, ◌<◌, ◌≤◌, List, [], ◌∷◌, ◌++◌, length, map, set, Some, None, Bool, true, false, true≢false, refl, sym, ap, ◌∙◌, subst, arith}
 use Rattle.std.specs.Prelude.{slice_index}
+use Rattle.std.specs.Option.{option_map}
 use Rattle.std.specs.declared.option.Option.{Option}
 use mathlib.Core.Option.{some, none, some-injective, some-ne-none}
 use mathlib.Core.Logic.{dite}
@@ -20,7 +21,7 @@ use Rattle.msrp_board.specs.declared.books.BoardSize.{BoardSize}
 use Rattle.msrp_board.specs.Books.{on, IsBefore, reach_of}
 use Rattle.msrp_board.specs.History.{Event, by}
 use Rattle.msrp_board.specs.Newest.{lock, asks, leaves, asks_after, leaves_after, queue, granted, LegalNewest, PlacedNewest, turn_of, claim_after, claim, InTurn, Orderly, BehindAll, Ticks, NoneLater, RisingNewest}
-use Rattle.msrp_board.specs.Rule.{acted, push, arrivals, reach, HasConductor, SharedConductor, aborted_1, opened_1, Gathered, Has, Owns, Shared, IsHist, IsWord, total, Served, Kept, Tied, Small, Ruled, Sole, Ready, next, serving, asked, each, change, polled, left, Behind, Tells, TellsAsk, TellsPoll, TellsLeave}
+use Rattle.msrp_board.specs.Rule.{acted, push, arrivals, reach, HasConductor, SharedConductor, aborted_1, opened_1, Gathered, Has, Owns, Shared, IsHist, IsWord, total, Served, Kept, Tied, Small, Ruled, Sole, Ready, next, serving, asked, change, polled, left, Behind, Tells, TellsAsk, TellsPoll, TellsLeave}
 use Rattle.msrp_board.specs.declared.held.Claim.{Claim}
 use Rattle.msrp_board.specs.declared.held.Claim.TheVariants.{Nothing, Waits, Holds}
 use Rattle.msrp_plan.specs.FifoLock.{Answers, IsAmong, IsFirst}
@@ -90,15 +91,15 @@ served_else g n c books b e has res s =
 stand : (g n c : ℕ) (books : List Page) (b : Page) → get_elem? books c ≡ some b → Orderly b.newest → (s : Served g n books) → claim (by c s.0) ≡ at g (claim b.newest)
 stand g n c books b has ok s = ap claim (s.1.0 c b has) ∙ claim_on g b.newest ok
 
-pub each_some : (f : Page → Page) (l : List (Option Page)) (c : ℕ) (b : Page) → get_elem? (map (each f) l) c ≡ some (Some b) → (d : Page) × (get_elem? l c ≡ some (Some d)) × (f d ≡ b)
+pub each_some : (f : Page → Page) (l : List (Option Page)) (c : ℕ) (b : Page) → get_elem? (map (option_map f) l) c ≡ some (Some b) → (d : Page) × (get_elem? l c ≡ some (Some d)) × (f d ≡ b)
 each_some f [] c b e = absurd (some-ne-none (Some b) (sym e))
 each_some f (None ∷ xs) zero b e = absurd (cc)
 each_some f (Some d ∷ xs) zero b e = (d, refl, cc)
 each_some f (x ∷ xs) (suc c) b e = each_some f xs c b e
 
-pub each_at : (f : Page → Page) (l : List (Option Page)) (c : ℕ) (b : Page) → get_elem? l c ≡ some (Some b) → get_elem? (map (each f) l) c ≡ some (Some (f b))
+pub each_at : (f : Page → Page) (l : List (Option Page)) (c : ℕ) (b : Page) → get_elem? l c ≡ some (Some b) → get_elem? (map (option_map f) l) c ≡ some (Some (f b))
 each_at f [] c b e = absurd (some-ne-none (Some b) (sym e))
-each_at f (x ∷ xs) zero b e = ap (λ o. some (each f o)) (some-injective x (Some b) e)
+each_at f (x ∷ xs) zero b e = ap (λ o. some (option_map f o)) (some-injective x (Some b) e)
 each_at f (x ∷ xs) (suc c) b e = each_at f xs c b e
 
 -- the seat's only book has changed

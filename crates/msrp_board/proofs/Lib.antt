@@ -9,4 +9,6 @@ pub mod Meeting
 pub mod Conducting
 pub mod Ties
 pub mod Ticks
+pub mod Told
+pub mod Seats
 pub mod Start

@@ -8,7 +8,8 @@ use Rattle.msrp_board.specs.declared.pages.Page.{Page}
 use Rattle.msrp_board.specs.declared.pages.View.{View}
 use Rattle.msrp_board.specs.declared.books.BoardSize.{BoardSize}
 use Rattle.msrp_board.specs.declared.books.Conductor.{Conductor}
-use Rattle.msrp_board.specs.Rule.{HasConductor, either_conductor, Has, Ruled, without, alone, first_of_two, together, view_without, view_alone, view_both, spent}
+use Rattle.msrp_board.specs.Boards.{only_at, none_at, either, together}
+use Rattle.msrp_board.specs.Rule.{HasConductor, Has, Ruled, view_without, view_alone, view_both, spent}
 use Rattle.msrp_board.proofs.Sharing.{split_shared, join_shared}
 
 abbrev Slots : Type 0
@@ -26,41 +27,41 @@ nothing = None
 clash : (b : Page) → some nothing ≡ some (Some b) → ⊥
 clash b e = absurd (cc)
 
-of_without : (c : ℕ) (l : Slots) (k : ℕ) (b : Page) → In (without c l) k b → In l k b × (k ≢ c)
+of_without : (c : ℕ) (l : Slots) (k : ℕ) (b : Page) → In (none_at c l) k b → In l k b × (k ≢ c)
 of_without c [] k b e = absurd (none_in k b e)
 of_without zero (x ∷ xs) zero b e = absurd (clash b e)
 of_without zero (x ∷ xs) (suc k) b e = (e, λ h. omega (arith, h))
 of_without (suc c) (x ∷ xs) zero b e = (e, λ h. omega (arith, h))
 of_without (suc c) (x ∷ xs) (suc k) b e = let r = of_without c xs k b e in (r.0, λ h. r.1 (omega (arith, h)))
 
-of_alone : (c : ℕ) (l : Slots) (k : ℕ) (b : Page) → In (alone c l) k b → In l k b × (k ≡ c)
+of_alone : (c : ℕ) (l : Slots) (k : ℕ) (b : Page) → In (only_at c l) k b → In l k b × (k ≡ c)
 of_alone c [] k b e = absurd (none_in k b e)
 of_alone zero (x ∷ xs) zero b e = (e, refl)
 of_alone zero (x ∷ xs) (suc k) b e = absurd (none_in k b e)
 of_alone (suc c) (x ∷ xs) zero b e = absurd (clash b e)
 of_alone (suc c) (x ∷ xs) (suc k) b e = let r = of_alone c xs k b e in (r.0, ap suc r.1)
 
-either_part : (c : ℕ) (l : Slots) (k : ℕ) (b : Page) → In l k b → In (alone c l) k b ⊎ In (without c l) k b
+either_part : (c : ℕ) (l : Slots) (k : ℕ) (b : Page) → In l k b → In (only_at c l) k b ⊎ In (none_at c l) k b
 either_part c [] k b e = absurd (none_in k b e)
 either_part zero (x ∷ xs) zero b e = inl e
 either_part zero (x ∷ xs) (suc k) b e = inr e
 either_part (suc c) (x ∷ xs) zero b e = inr e
 either_part (suc c) (x ∷ xs) (suc k) b e = either_part c xs k b e
 
-of_two : (x y : Option Page) (b : Page) → first_of_two x y ≡ Some b → (x ≡ Some b) ⊎ (y ≡ Some b)
+of_two : (x y : Option Page) (b : Page) → either x y ≡ Some b → (x ≡ Some b) ⊎ (y ≡ Some b)
 of_two None y b e = inr e
 of_two (Some d) y b e = inl e
 
 of_together : (l m : Slots) (k : ℕ) (b : Page) → In (together l m) k b → In l k b ⊎ In m k b
 of_together [] m k b e = inr e
 of_together (x ∷ xs) [] k b e = inl e
-of_together (x ∷ xs) (y ∷ ys) zero b e = ⊎_elim (λ h. inl (ap some h)) (λ h. inr (ap some h)) (of_two x y b (some-injective (first_of_two x y) (Some b) e))
+of_together (x ∷ xs) (y ∷ ys) zero b e = ⊎_elim (λ h. inl (ap some h)) (λ h. inr (ap some h)) (of_two x y b (some-injective (either x y) (Some b) e))
 of_together (x ∷ xs) (y ∷ ys) (suc k) b e = of_together xs ys k b e
 
 to_left : (l m : Slots) (k : ℕ) (b : Page) → In l k b → In (together l m) k b
 to_left [] m k b e = absurd (none_in k b e)
 to_left (x ∷ xs) [] k b e = e
-to_left (x ∷ xs) (y ∷ ys) zero b e = ap (λ z. some (first_of_two z y)) (some-injective x (Some b) e)
+to_left (x ∷ xs) (y ∷ ys) zero b e = ap (λ z. some (either z y)) (some-injective x (Some b) e)
 to_left (x ∷ xs) (y ∷ ys) (suc k) b e = to_left xs ys k b e
 
 or_not : (x : Option Page) → ((d : Page) × (x ≡ Some d)) ⊎ (x ≡ None)
@@ -70,18 +71,18 @@ or_not (Some d) = inl (d, refl)
 to_right : (l m : Slots) (k : ℕ) (b : Page) → In m k b → ((d : Page) → ¬ In l k d) → In (together l m) k b
 to_right [] m k b e n = e
 to_right (x ∷ xs) [] k b e n = absurd (none_in k b e)
-to_right (x ∷ xs) (y ∷ ys) zero b e n = ⊎_elim (λ h. absurd (n h.0 (ap some h.1))) (λ h. ap (λ z. some (first_of_two z y)) h ∙ e) (or_not x)
+to_right (x ∷ xs) (y ∷ ys) zero b e n = ⊎_elim (λ h. absurd (n h.0 (ap some h.1))) (λ h. ap (λ z. some (either z y)) h ∙ e) (or_not x)
 to_right (x ∷ xs) (y ∷ ys) (suc k) b e n = to_right xs ys k b e n
 
-desk_of : (x y : Option Conductor) (o : Conductor) → either_conductor x y ≡ Some o → (x ≡ Some o) ⊎ (y ≡ Some o)
+desk_of : (x y : Option Conductor) (o : Conductor) → either x y ≡ Some o → (x ≡ Some o) ⊎ (y ≡ Some o)
 desk_of None y o e = inr e
 desk_of (Some d) y o e = inl e
 
-desk_left : (x y : Option Conductor) (o : Conductor) → x ≡ Some o → either_conductor x y ≡ Some o
+desk_left : (x y : Option Conductor) (o : Conductor) → x ≡ Some o → either x y ≡ Some o
 desk_left None y o e = absurd (cc)
 desk_left (Some d) y o e = e
 
-desk_right : (x y : Option Conductor) (o : Conductor) → y ≡ Some o → ((d : Conductor) → ¬ (x ≡ Some d)) → either_conductor x y ≡ Some o
+desk_right : (x y : Option Conductor) (o : Conductor) → y ≡ Some o → ((d : Conductor) → ¬ (x ≡ Some d)) → either x y ≡ Some o
 desk_right None y o e n = e
 desk_right (Some d) y o e n = absurd (n d refl)
 

@@ -16,7 +16,7 @@ use Rattle.msrp_board.specs.declared.books.Conductor.{Conductor}
 use Rattle.msrp_plan.specs.declared.units.Call.TheVariants.{Poll}
 use Rattle.msrp_board.specs.Held.{res_of, state_of, page_at, state_at, Tie, Low, IsBelow, AllBelow, IsSeat}
 use Rattle.msrp_board.specs.Newest.{claim, turn_of}
-use Rattle.msrp_board.specs.Rule.{noted, polled, next, serving, Has, Sole, Ready, each, change}
+use Rattle.msrp_board.specs.Rule.{noted, polled, next, serving, Has, Sole, Ready, change}
 use Rattle.msrp_board.specs.declared.held.Claim.{Claim}
 use Rattle.msrp_board.specs.declared.held.Claim.TheVariants.{Waits}
 use Rattle.msrp_board.proofs.Sharing.{at_length}
@@ -44,11 +44,11 @@ pub page_or_none : (o : Option Page) → ((b : Page) × (o ≡ Some b)) ⊎ (o �
 page_or_none None = inr refl
 page_or_none (Some b) = inl (b, refl)
 
-none_each : (f : Page → Page) (o : Option Page) → o ≡ None → each f o ≡ None
+none_each : (f : Page → Page) (o : Option Page) → o ≡ None → option_map f o ≡ None
 none_each f None e = refl
 none_each f (Some b) e = absurd (cc)
 
-page_each : (f : Page → Page) (l : List (Option Page)) (c : ℕ) → page_at (map (each f) l) c ≡ each f (page_at l c)
+page_each : (f : Page → Page) (l : List (Option Page)) (c : ℕ) → page_at (map (option_map f) l) c ≡ option_map f (page_at l c)
 page_each f [] c = refl
 page_each f (x ∷ xs) zero = refl
 page_each f (x ∷ xs) (suc c) = page_each f xs c

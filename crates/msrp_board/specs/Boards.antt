@@ -1,6 +1,6 @@
 -- What a board, a seat and a settled board are to their callers, what each step does to a seat, and the rule that
 -- holds of a board's words and of the books of all its seats.
-use Rattle.std.specs.Prelude.{◌≡◌, ℕ, zero, suc, ◌+◌, ◌*◌, ◌/◌, ◌%◌, ◌<◌, ◌≤◌, List, [], ◌∷◌, ◌++◌, length, Bool, true, false, cond, ◌==◌, nat_lt, Some, None, IsSome, slice_get, slice_index_or, sum_by}
+use Rattle.std.specs.Prelude.{◌≡◌, ℕ, zero, suc, ◌+◌, ◌*◌, ◌/◌, ◌%◌, ◌<◌, ◌≤◌, List, [], ◌∷◌, ◌++◌, length, Bool, true, false, map, replicate, slice_index, ◌⊎◌, Some, None, IsSome, slice_get, slice_index_or, sum_by}
 use Rattle.std.specs.Option.{option_map}
 use Rattle.std.specs.declared.option.Option.{Option}
 use Rattle.atomic_table.specs.Seated.{TableId}
@@ -28,13 +28,18 @@ pub record BoardModel : Type 0 where
 -- a seat of a board holds the books of some cores, by their numbers, and the conductor's, or not
 pub record SeatModel : Type 0 where
   pub board : BoardModel
-  pub books : ℕ → Option Book
+  pub books : List (Option Book)
   pub conductor : Option Conductor
 
--- a board that nobody uses any more: its words and all its books, that of core 0 first
+-- the book of core c, where the seat holds it
+abbrev pub book_at : SeatModel → ℕ → Option Book
+book_at seat c = slice_index_or seat.books c None
+
+-- a board that nobody uses any more: its ticket words and all its books, those of resource
+-- 0 and of core 0 first, and its barrier word
 pub record SettledModel : Type 0 where
   pub size : BoardSize
-  pub tickets : ℕ → ℕ
+  pub tickets : List ℕ
   pub barrier : ℕ
   pub books : List Book
   pub conductor : Conductor
@@ -48,14 +53,14 @@ empty_book = record { entries = []; tick = 0; admitted = false; stopped = false 
 
 -- the first seat of a board: an empty book for each core, and the conductor's
 abbrev pub first_seat : BoardModel → SeatModel
-first_seat board = record { board = board; books = λ c. cond (nat_lt c board.size.cores) (Some empty_book) None; conductor = Some Unopened }
+first_seat board = record { board = board; books = replicate board.size.cores (Some empty_book); conductor = Some Unopened }
 
 -- ---- what a seat must be for a call
 
 -- a core's seat holds the book of that core and nothing else
 pub record IsCoreSeat (seat : SeatModel) (c : ℕ) (b : Book) : Type 0 where
-  pub book : seat.books c ≡ Some b
-  pub only : (d : ℕ) (e : Book) → seat.books d ≡ Some e → d ≡ c
+  pub book : book_at seat c ≡ Some b
+  pub only : (d : ℕ) (e : Book) → book_at seat d ≡ Some e → d ≡ c
   pub conductor : seat.conductor ≡ None
 
 -- it is the seat of some core
@@ -72,17 +77,17 @@ MayAct lock seat = (c : ℕ) × (b : Book) × IsCoreSeat seat c b × (phase_in s
 
 -- the seat holds another book than that of core c: another core's, or the conductor's
 abbrev pub HasAnother : ℕ → SeatModel → Type 0
-HasAnother c seat = ((d : ℕ) × (b : Book) × (seat.books d ≡ Some b) × ¬ (d ≡ c)) ⊎ IsSome seat.conductor
+HasAnother c seat = ((d : ℕ) × (b : Book) × (book_at seat d ≡ Some b) × ¬ (d ≡ c)) ⊎ IsSome seat.conductor
 
 -- the seat holds the book of each core, and the conductor's
 abbrev pub HasAll : SeatModel → Type 0
-HasAll seat = ((c : ℕ) → c < seat.board.size.cores → IsSome (seat.books c)) × IsSome seat.conductor
+HasAll seat = ((c : ℕ) → c < seat.board.size.cores → IsSome (book_at seat c)) × IsSome seat.conductor
 
 -- ---- what a step does to a seat
 
 -- the books of the seat, each changed by f
 abbrev pub with_books : (Book → Book) → SeatModel → SeatModel
-with_books f seat = record { board = seat.board; books = λ c. option_map f (seat.books c); conductor = seat.conductor }
+with_books f seat = record { board = seat.board; books = map (option_map f) seat.books; conductor = seat.conductor }
 
 abbrev pub entered : ResId → ℕ → Call → Book → Book
 entered g place call b = record { entries = b.entries ++ record { tick = b.tick; res = g; place = place; call = call } ∷ []; tick = b.tick; admitted = b.admitted; stopped = b.stopped }
@@ -93,7 +98,7 @@ with_entry g place call seat = with_books (entered g place call) seat
 
 -- the place stands behind all that the seat's books have of resource g
 abbrev pub IsBehind : ℕ → ℕ → SeatModel → Type 0
-IsBehind g place seat = (c : ℕ) (b : Book) → seat.books c ≡ Some b → AllByRecursion (λ e. IsBefore e.call e.place place) (on g b.entries)
+IsBehind g place seat = (c : ℕ) (b : Book) → book_at seat c ≡ Some b → AllByRecursion (λ e. IsBefore e.call e.place place) (on g b.entries)
 
 -- the core is let into its tick
 abbrev pub admitted : SeatModel → SeatModel
@@ -110,20 +115,37 @@ arrived seat = with_books (λ b. record { entries = b.entries; tick = suc b.tick
 abbrev pub conducted : Conductor → SeatModel → SeatModel
 conducted o seat = record { board = seat.board; books = seat.books; conductor = Some o }
 
--- the book of core c alone, and the seat's other books
-abbrev pub alone : ℕ → SeatModel → SeatModel
-alone c seat = record { board = seat.board; books = λ d. cond (d == c) (seat.books d) None; conductor = None }
+-- the element at place c alone, and the others
+abbrev pub only_at : {X : Type 0} → ℕ → List (Option X) → List (Option X)
+only_at c [] = []
+only_at zero (x ∷ xs) = x ∷ []
+only_at (suc c) (x ∷ xs) = None ∷ only_at c xs
 
-abbrev pub without : ℕ → SeatModel → SeatModel
-without c seat = record { board = seat.board; books = λ d. cond (d == c) None (seat.books d); conductor = seat.conductor }
+abbrev pub none_at : {X : Type 0} → ℕ → List (Option X) → List (Option X)
+none_at c [] = []
+none_at zero (x ∷ xs) = None ∷ xs
+none_at (suc c) (x ∷ xs) = x ∷ none_at c xs
 
+-- the first where there is one, else the second
 abbrev pub either : {X : Type 0} → Option X → Option X → Option X
 either None y = y
 either (Some x) y = Some x
 
+abbrev pub together : {X : Type 0} → List (Option X) → List (Option X) → List (Option X)
+together [] ys = ys
+together (x ∷ xs) [] = x ∷ xs
+together (x ∷ xs) (y ∷ ys) = either x y ∷ together xs ys
+
+-- the book of core c alone, and the seat's other books
+abbrev pub alone : ℕ → SeatModel → SeatModel
+alone c seat = record { board = seat.board; books = only_at c seat.books; conductor = None }
+
+abbrev pub without : ℕ → SeatModel → SeatModel
+without c seat = record { board = seat.board; books = none_at c seat.books; conductor = seat.conductor }
+
 -- the books of both seats
 abbrev pub both : SeatModel → SeatModel → SeatModel
-both seat other = record { board = seat.board; books = λ c. either (seat.books c) (other.books c); conductor = either seat.conductor other.conductor }
+both seat other = record { board = seat.board; books = together seat.books other.books; conductor = either seat.conductor other.conductor }
 
 -- ---- the rule
 
@@ -151,10 +173,11 @@ abort_1 Aborted = 1
 pub record IsTied (s : SettledModel) : Type 0 where
   -- one book for each core
   pub cores : length s.books ≡ s.size.cores
+  pub words : length s.tickets ≡ s.size.resources
   pub limits : IsSize s.size.cores s.size.resources s.size.ticks
   -- the ticket word of each resource counts its requests, high, and its releases, low, and its one history is that of
   -- a first-in-first-out lock
-  pub served : (g : ℕ) → g < s.size.resources → (h : List Event) × IsServed (high (s.tickets g)) (low (s.tickets g)) g (entries_at s.books) h
+  pub served : (g : ℕ) → g < s.size.resources → (h : List Event) × IsServed (high (slice_index s.tickets g)) (low (slice_index s.tickets g)) g (entries_at s.books) h
   pub kept : (c : ℕ) (b : Book) → slice_get s.books c ≡ Some b → IsKept s.size.ticks b
   -- the barrier word counts the arrivals and the opening, low, and the abort, high
   pub arrivals : low s.barrier ≡ sum_by (λ b. b.tick) s.books + opening_1 s.conductor

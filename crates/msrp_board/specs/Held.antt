@@ -1,5 +1,5 @@
 -- How what a seat keeps at run time stands to what it knows, and how what it knows is told to callers.
-use Rattle.std.specs.Prelude.{◌≡◌, ℕ, zero, suc, ◌<◌, List, [], ◌∷◌, Some, None, reverse, Bool, true, false, ltb, leb, ◌+◌, ◌*◌, slice_index_or, ⊤}
+use Rattle.std.specs.Prelude.{◌≡◌, ℕ, zero, suc, ◌<◌, List, [], ◌∷◌, map, Some, None, reverse, Bool, true, false, ltb, leb, ◌+◌, ◌*◌, slice_index_or, ⊤}
 use Rattle.std.specs.Option.{option_map}
 use Rattle.std.specs.declared.option.Option.{Option}
 use mathlib.Core.Option.{some}
@@ -7,6 +7,7 @@ use lib.ListN.{get_elem?}
 use Rattle.msrp_plan.specs.declared.units.Phase.{Phase}
 use Rattle.msrp_plan.specs.declared.units.Phase.TheVariants.{Free, Queued, Holding}
 use Rattle.atomic_table.specs.Table.{Me}
+use Rattle.atomic_table.specs.Seated.{TableId}
 use Rattle.msrp_board.specs.declared.answers.Look.{Look}
 use Rattle.msrp_board.specs.declared.answers.Look.TheVariants.{Wait, Go, Stopped}
 use Rattle.msrp_board.specs.declared.books.Book.{Book}
@@ -17,6 +18,8 @@ use Rattle.msrp_board.specs.declared.pages.View.{View}
 use Rattle.msrp_board.specs.declared.held.CoreState.{CoreState}
 use Rattle.msrp_board.specs.declared.held.Claim.{Claim}
 use Rattle.msrp_board.specs.declared.held.Claim.TheVariants.{Nothing, Waits, Holds}
+use Rattle.msrp_board.specs.Boards.{IsSize, BoardModel, SeatModel}
+use Rattle.msrp_board.specs.Books.{lock_of, has_acted}
 use Rattle.msrp_board.specs.Newest.{claim}
 use Rattle.msrp_board.specs.Rule.{Has, acted, next, serving}
 
@@ -61,8 +64,17 @@ phase_of (Holds g turn) = Holding record { 0 = g }
 abbrev pub told : Page → Book
 told b = record { entries = reverse b.newest; tick = b.tick; admitted = b.admitted; stopped = b.stopped }
 
-abbrev pub told_at : List (Option Page) → ℕ → Option Book
-told_at pages c = option_map told (page_at pages c)
+-- what a seat knows, as callers see it
+abbrev pub seen_as : BoardModel → View → SeatModel
+seen_as board v = record { board = board; books = map (option_map told) v.pages; conductor = v.conductor }
+
+-- the state is what the book says
+pub record Shows (state : CoreState) (b : Book) : Type 0 where
+  pub tick : state.tick ≡ b.tick
+  pub lock : phase_of state.claim ≡ lock_of b
+  pub admitted : state.admitted ≡ b.admitted
+  pub stopped : state.stopped ≡ b.stopped
+  pub acted : state.acted ≡ has_acted b
 
 abbrev pub look_if : Bool → Bool → Look
 look_if true enough = Stopped
@@ -81,3 +93,10 @@ pub record IsSeat (z : BoardSize) (held : List (Option CoreState)) (conductor : 
   pub conducts : conductor ≡ me.0.conductor
   pub low : Low me.0
   pub below : AllBelow z.resources me.0
+
+-- what holds of each board: its table keeps the rule at its size, and has a word for each resource and the barrier's
+pub record IsBoard (z key : BoardSize) (table : TableId) : Type 0 where
+  pub keyed : key ≡ z
+  pub words : table.words ≡ z.resources + 1
+  pub no_slot : table.slots ≡ 0
+  pub limits : IsSize z.cores z.resources z.ticks

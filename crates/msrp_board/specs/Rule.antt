@@ -1,6 +1,7 @@
 -- The rule of a board's words: what always holds of the words and of the books of all seats, and what each step tells.
 use Rattle.std.specs.Prelude.{◌≡◌, ℕ, zero, suc, ltb, leb, ◌==◌, ◌+◌, ◌*◌, ◌/◌, ◌%◌, ◌-◌, ◌<◌, ◌≤◌, List, [], ◌∷◌, length, map, Bool, true, false, Some, None, replicate, slice_index}
 use Rattle.std.specs.List.{list_any}
+use Rattle.std.specs.Option.{option_map}
 use Rattle.std.specs.declared.option.Option.{Option}
 use mathlib.Core.Option.{some}
 use lib.ListN.{get_elem?}
@@ -14,6 +15,7 @@ use Rattle.msrp_board.specs.declared.books.BoardSize.{BoardSize}
 use Rattle.msrp_board.specs.declared.held.Claim.{Claim}
 use Rattle.msrp_board.specs.declared.pages.Page.{Page}
 use Rattle.msrp_board.specs.declared.pages.View.{View}
+use Rattle.msrp_board.specs.Boards.{only_at, none_at, either, together}
 use Rattle.msrp_board.specs.Books.{on, reach_of}
 use Rattle.msrp_board.specs.History.{Event, by}
 use Rattle.msrp_board.specs.Newest.{asks, leaves, LegalNewest, PlacedNewest, Orderly, claim, turn_of, BehindAll, Ticks, RisingNewest, TidyNewest}
@@ -138,12 +140,8 @@ noted g p k b = push record { tick = b.tick; res = record { 0 = g }; place = p; 
 abbrev pub asked : ℕ → ℕ → Page → Page
 asked g n = noted g (next n + serving n) (Ask (next n - serving n))
 
-abbrev pub each : (Page → Page) → Option Page → Option Page
-each f None = None
-each f (Some b) = Some (f b)
-
 abbrev pub change : (Page → Page) → View → View
-change f v = record { pages = map (each f) v.pages; conductor = v.conductor }
+change f v = record { pages = map (option_map f) v.pages; conductor = v.conductor }
 
 -- an answer's place is behind all that the books have of the resource
 abbrev pub Behind : View → ℕ → ℕ → Type 0
@@ -167,38 +165,15 @@ TellsPoll = Tells polled
 abbrev pub TellsLeave : Step (Unit {0}) → Me (Unit {0}) View → ℕ → Me (Unit {0}) View → Type 0
 TellsLeave = Tells left
 
--- the seat's view without the book of c, and that book alone
-abbrev pub without : ℕ → List (Option Page) → List (Option Page)
-without c [] = []
-without zero (x ∷ xs) = None ∷ xs
-without (suc c) (x ∷ xs) = x ∷ without c xs
-
-abbrev pub alone : ℕ → List (Option Page) → List (Option Page)
-alone c [] = []
-alone zero (x ∷ xs) = x ∷ []
-alone (suc c) (x ∷ xs) = None ∷ alone c xs
-
-abbrev pub first_of_two : Option Page → Option Page → Option Page
-first_of_two None y = y
-first_of_two (Some b) y = Some b
-
-abbrev pub together : List (Option Page) → List (Option Page) → List (Option Page)
-together [] ys = ys
-together (x ∷ xs) [] = x ∷ xs
-together (x ∷ xs) (y ∷ ys) = first_of_two x y ∷ together xs ys
-
-abbrev pub either_conductor : Option Conductor → Option Conductor → Option Conductor
-either_conductor None y = y
-either_conductor (Some o) y = Some o
-
+-- the view without the page of core c, that page alone, and the pages of two views
 abbrev pub view_without : ℕ → View → View
-view_without c v = record { pages = without c v.pages; conductor = v.conductor }
+view_without c v = record { pages = none_at c v.pages; conductor = v.conductor }
 
 abbrev pub view_alone : ℕ → View → View
-view_alone c v = record { pages = alone c v.pages; conductor = None }
+view_alone c v = record { pages = only_at c v.pages; conductor = None }
 
 abbrev pub view_both : View → View → View
-view_both v w = record { pages = together v.pages w.pages; conductor = either_conductor v.conductor w.conductor }
+view_both v w = record { pages = together v.pages w.pages; conductor = either v.conductor w.conductor }
 
 abbrev pub spent : View
 spent = record { pages = []; conductor = None }

@@ -1,13 +1,14 @@
 //! What a seat keeps at run time of the cores whose books it holds: enough to answer its readers, without the entries.
-ghost use Rattle.std.specs.Prelude.{◌≡◌, ◌<◌, ◌≤◌, ◌+◌, ℕ, Some, replicate, suc};
+ghost use Rattle.std.specs.Prelude.{◌≡◌, ◌<◌, ◌≤◌, ◌+◌, ℕ, Some, replicate, suc, nat_lt};
 ghost use Rattle.msrp_board.specs.declared.pages.Page.{Page};
 ghost use Rattle.msrp_board.specs.declared.pages.View.{View};
+ghost use Rattle.msrp_board.specs.Books.{phase_by};
 ghost use Rattle.msrp_board.specs.Held.{Tie, state_of, phase_of, res_of, look_of};
 ghost use Rattle.msrp_board.specs.Newest.{Ticks, turn_of};
 ghost use Rattle.msrp_board.specs.Rule.{Sole, arrived, empty, noted, looked};
 ghost use Rattle.msrp_plan.specs.declared.units.Call.TheVariants.{Ask, Poll, Leave};
 
-use crate::answers::Look;
+use crate::answers::{Look, SeatPhase};
 use msrp_plan::{Phase, ResId};
 
 /// What a core claims.
@@ -72,6 +73,21 @@ impl CoreState {
         stopped: false,
         acted: false,
     };
+
+    /// Where the core stands, on a board of so many ticks.
+    pub fn phase(self, ticks: u32) -> SeatPhase
+        ensures { result ≡ phase_by self.stopped self.admitted (nat_lt self.tick ticks) }
+    {
+        if self.stopped {
+            SeatPhase::Stopped
+        } else if self.admitted {
+            SeatPhase::Admitted
+        } else if self.tick < ticks {
+            SeatPhase::Waiting
+        } else {
+            SeatPhase::Done
+        }
+    }
 
     /// After a request that found this place, and so many ahead.
     pub fn asked(self, res: u32, place: u32, ahead: u32) -> CoreState
@@ -160,8 +176,9 @@ pub fn fresh(cores: usize) -> [Option<CoreState>; 8]
 }
 
 /// The core whose book this is, where there is but one.
-pub fn core_of(held: &[Option<CoreState>; 8]) -> usize
-    ensures { (v : View) (c : ℕ) (b : Page) → Tie held.now v.pages → c < 8 → Sole v c b → result ≡ c }
+fn core_of(held: &[Option<CoreState>; 8]) -> usize
+    ensures small { result < 8 }
+    ensures core { (v : View) (c : ℕ) (b : Page) → Tie held.now v.pages → c < 8 → Sole v c b → result ≡ c }
 {
     for core in 0..8 {
         if held[core].is_some() {
@@ -174,7 +191,8 @@ pub fn core_of(held: &[Option<CoreState>; 8]) -> usize
 /// The core of a core's seat, and its state.
 pub fn own(held: &[Option<CoreState>; 8]) -> (usize, CoreState)
     requires { (v : View) × (c : ℕ) × (b : Page) × Tie held.now v.pages × (c < 8) × Sole v c b }
-    ensures { (v : View) (c : ℕ) (b : Page) → Tie held.now v.pages → c < 8 → Sole v c b → (result.0 ≡ c) × (result.1 ≡ state_of b) × (result.0 < 8) }
+    ensures small { result.0 < 8 }
+    ensures own { (v : View) (c : ℕ) (b : Page) → Tie held.now v.pages → c < 8 → Sole v c b → (result.0 ≡ c) × (result.1 ≡ state_of b) }
 {
     let core = core_of(held);
     match held[core] {

@@ -2,10 +2,14 @@
 #![tactic(auto)]
 
 mod answers;
+mod board;
 mod books;
 mod held;
 mod pages;
+mod seat;
 mod steps;
 
 pub use answers::{Asked, BoardError, Look, Polled, SeatPhase};
+pub use board::Board;
 pub use books::{BoardSize, Book, Conductor, Entry};
+pub use seat::BoardSeat;

@@ -1,0 +1,189 @@
+-- What a call makes of a seat, as callers see it.
+use Rattle.std.proofs.Common.{◌==◌, ◌≡◌, ◌≢◌, ◌⊎◌, ⊎_elim, inl, inr, ℕ, zero, suc, ◌+◌, ◌*◌, ◌-◌, ◌<◌, ◌≤◌, List, [], ◌∷◌, ◌++◌, map, reverse, Bool, true, false, cond, nat_lt, Some, None, refl, sym, ap, ◌∙◌, subst, arith, append-nil}
+use Rattle.std.specs.Prelude.{slice_index_or}
+use Rattle.std.specs.List.{filter, AllByRecursion}
+use Rattle.std.specs.Option.{option_map}
+use Rattle.std.specs.declared.option.Option.{Option}
+use Rattle.std.proofs.lemmas.List.Elements.{filter-append}
+use mathlib.Core.Option.{some, some-injective}
+use lib.ListN.{get_elem?}
+use Rattle.atomic_table.specs.Table.{Me}
+use Rattle.atomic_table.specs.Seated.{TableId}
+use Rattle.msrp_plan.specs.declared.ids.ResId.{ResId}
+use Rattle.msrp_plan.specs.declared.units.Call.{Call}
+use Rattle.msrp_plan.specs.declared.units.Call.TheVariants.{Ask, Poll, Leave}
+use Rattle.msrp_plan.specs.declared.units.Phase.{Phase}
+use Rattle.msrp_plan.specs.declared.units.Phase.TheVariants.{Free, Queued, Holding}
+use Rattle.msrp_board.specs.declared.answers.SeatPhase.{SeatPhase}
+use Rattle.msrp_board.specs.declared.answers.SeatPhase.TheVariants.{Waiting, Admitted, Done, Stopped}
+use Rattle.msrp_board.specs.declared.books.Book.{Book}
+use Rattle.msrp_board.specs.declared.books.BoardSize.{BoardSize}
+use Rattle.msrp_board.specs.declared.books.Conductor.{Conductor}
+use Rattle.msrp_board.specs.declared.books.Entry.{Entry}
+use Rattle.msrp_board.specs.declared.held.Claim.{Claim}
+use Rattle.msrp_board.specs.declared.held.Claim.TheVariants.{Nothing, Waits, Holds}
+use Rattle.msrp_board.specs.declared.held.CoreState.{CoreState}
+use Rattle.msrp_board.specs.declared.pages.Page.{Page}
+use Rattle.msrp_board.specs.declared.pages.View.{View}
+use Rattle.msrp_board.specs.Books.{on, phase_by, phase_in, has_acted, lock_of, IsBefore}
+use Rattle.msrp_board.specs.Boards.{BoardModel, SeatModel, book_at, IsCoreSeat, MayAct, IsIn, entered, with_entry, with_books, IsBehind}
+use Rattle.msrp_board.specs.Newest.{claim, claim_after, turn_of, BehindAll}
+use Rattle.msrp_board.specs.Rule.{Has, Sole, Ready, acted, noted, change, next, serving, asked, polled, left, Behind}
+use Rattle.msrp_board.specs.Held.{told, phase_of, res_of, seen_as, state_of, Tie, Low, IsBelow, IsSeat}
+use Rattle.msrp_board.proofs.Told.{reverse_cons, lock_told, acted_told, page_of, book_of, sole_of}
+
+-- ---- what a caller's condition says of the page
+
+admitted_of : (s a w : Bool) → phase_by s a w ≡ Admitted → (s ≡ false) × (a ≡ true)
+admitted_of true a w e = absurd (cc)
+admitted_of false true w e = (refl, refl)
+admitted_of false false true e = absurd (cc)
+admitted_of false false false e = absurd (cc)
+
+waiting_of : (s a w : Bool) → phase_by s a w ≡ Waiting → (s ≡ false) × (a ≡ false) × (w ≡ true)
+waiting_of true a w e = absurd (cc)
+waiting_of false true w e = absurd (cc)
+waiting_of false false true e = (refl, refl, refl)
+waiting_of false false false e = absurd (cc)
+
+pub free_claim : (l : Claim) → phase_of l ≡ Free → l ≡ Nothing
+free_claim Nothing e = refl
+free_claim (Waits g t) e = absurd (cc)
+free_claim (Holds g t) e = absurd (cc)
+
+number_of : (g h : ResId) → g ≡ h → g.0 ≡ h.0
+number_of g h e = ap (λ (r : ResId). r.0) e
+
+pub waits_claim : (l : Claim) (g : ResId) → phase_of l ≡ Queued g → (t : ℕ) × (l ≡ Waits g.0 t)
+waits_claim Nothing g e = absurd (cc)
+waits_claim (Waits h t) g e = let same : record { 0 = h } ≡ g = cc in (t, ap (λ n. Waits n t) (number_of (record { 0 = h }) g same))
+waits_claim (Holds h t) g e = absurd (cc)
+
+pub holds_claim : (l : Claim) (g : ResId) → phase_of l ≡ Holding g → (t : ℕ) × (l ≡ Holds g.0 t)
+holds_claim Nothing g e = absurd (cc)
+holds_claim (Waits h t) g e = absurd (cc)
+holds_claim (Holds h t) g e = let same : record { 0 = h } ≡ g = cc in (t, ap (λ n. Holds n t) (number_of (record { 0 = h }) g same))
+
+-- the page of a core's seat that may act
+pub record Acting (v : View) (lock : Phase) : Type 0 where
+  pub core : ℕ
+  pub page : Page
+  pub sole : Sole v core page
+  pub room : page.admitted ≡ true
+  pub quiet : acted page ≡ false
+  pub claims : phase_of (claim page.newest) ≡ lock
+
+pub acting : (board : BoardModel) (v : View) (seat : SeatModel) (lock : Phase) → seen_as board v ≡ seat → MayAct lock seat → Acting v lock
+acting board v seat lock is may =
+    let h : MayAct lock (seen_as board v) = subst (MayAct lock) (sym is) may in
+    let r = sole_of board v h.0 h.1 h.2 in
+    let in_tick = ap (phase_in board.size.ticks) r.2 ∙ h.3 in
+    record {
+      core = h.0;
+      page = r.0;
+      sole = r.1;
+      room = (admitted_of r.0.stopped r.0.admitted (nat_lt r.0.tick board.size.ticks) in_tick).1;
+      quiet = sym (acted_told r.0) ∙ ap has_acted r.2 ∙ h.4;
+      claims = sym (lock_told r.0) ∙ ap lock_of r.2 ∙ h.5;
+    }
+
+-- ---- one entry more
+
+-- what the core claims stays among the resources
+pub below_after : (n : ℕ) (l : Claim) (g p : ℕ) (k : Call) → g < n → IsBelow n l → IsBelow n (claim_after l g p k)
+below_after n l g p (Ask zero) h b = h
+below_after n l g p (Ask (suc a)) h b = h
+below_after n l g p (Poll true) h b = h
+below_after n l g p (Poll false) h b = b
+below_after n l g p Leave h b = tt
+
+noted_told : (g p : ℕ) (k : Call) (b : Page) → told (noted g p k b) ≡ entered (record { 0 = g }) p k (told b)
+noted_told g p k b = ap (λ (es : List Entry). book es) (reverse_cons (record { tick = b.tick; res = record { 0 = g }; place = p; call = k }) b.newest)
+  where
+    book : List Entry → Book
+    book es = record { entries = es; tick = b.tick; admitted = b.admitted; stopped = b.stopped }
+
+map_told : (f : Page → Page) (h : Book → Book) → ((b : Page) → told (f b) ≡ h (told b)) → (l : List (Option Page)) → map (option_map told) (map (option_map f) l) ≡ map (option_map h) (map (option_map told) l)
+map_told f h same [] = refl
+map_told f h same (None ∷ xs) = ap (λ l. None ∷ l) (map_told f h same xs)
+map_told f h same (Some b ∷ xs) = ap (λ x. Some x ∷ map (option_map told) (map (option_map f) xs)) (same b) ∙ ap (λ l. Some (h (told b)) ∷ l) (map_told f h same xs)
+
+-- what a change of each page is to callers
+pub change_seen : (board : BoardModel) (v : View) (f : Page → Page) (h : Book → Book) → ((b : Page) → told (f b) ≡ h (told b)) → seen_as board (change f v) ≡ with_books h (seen_as board v)
+change_seen board v f h same = ap (λ (l : List (Option Book)). seat l) (map_told f h same v.pages)
+  where
+    seat : List (Option Book) → SeatModel
+    seat l = record { board = board; books = l; conductor = v.conductor }
+
+pub entry_seen : (board : BoardModel) (v : View) (g p : ℕ) (k : Call) → seen_as board (change (noted g p k) v) ≡ with_entry (record { 0 = g }) p k (seen_as board v)
+entry_seen board v g p k = change_seen board v (noted g p k) (entered (record { 0 = g }) p k) (noted_told g p k)
+
+all_last : {X : Type 0} (P : X → Type 0) (xs : List X) (x : X) → AllByRecursion P xs → P x → AllByRecursion P (xs ++ x ∷ [])
+all_last P [] x h p = (p, tt)
+all_last P (y ∷ ys) x h p = (h.0, all_last P ys x h.1 p)
+
+pub all_reversed : {X : Type 0} (P : X → Type 0) (xs : List X) → AllByRecursion P xs → AllByRecursion P (reverse xs)
+all_reversed P [] h = tt
+all_reversed P (x ∷ xs) h = subst (AllByRecursion P) (sym (reverse_cons x xs)) (all_last P (reverse xs) x (all_reversed P xs h.1) h.0)
+
+last_kept : {X : Type 0} (x : X) (b : Bool) (l : List X) → reverse l ++ cond b (x ∷ []) [] ≡ reverse (cond b (x ∷ l) l)
+last_kept x true l = sym (reverse_cons x l)
+last_kept x false l = append-nil (reverse l)
+
+pub filter_reversed : {X : Type 0} (p : X → Bool) (xs : List X) → filter p (reverse xs) ≡ reverse (filter p xs)
+filter_reversed p [] = refl
+filter_reversed p (x ∷ xs) = ap (filter p) (reverse_cons x xs) ∙ filter-append p (reverse xs) (x ∷ []) ∙ ap (λ l. l ++ cond (p x) (x ∷ []) []) (filter_reversed p xs) ∙ last_kept x (p x) (filter p xs)
+
+-- a place that stands behind the pages' entries stands behind the books'
+pub behind_seen : (board : BoardModel) (v : View) (g p : ℕ) → Behind v g p → IsBehind g p (seen_as board v)
+behind_seen board v g p behind c a is =
+    let r = page_of v.pages c a is in
+    subst (λ (x : Book). AllByRecursion (λ e. IsBefore e.call e.place p) (on g x.entries)) r.2
+        (subst (AllByRecursion (λ e. IsBefore e.call e.place p)) (sym (filter_reversed (λ e. e.res.0 == g) r.0.newest)) (all_reversed (λ e. IsBefore e.call e.place p) (on g r.0.newest) (behind c r.0 r.1)))
+
+-- ---- a core's only page decides how a change goes
+
+change_same : (l : List (Option Page)) (f h : Page → Page) → ((k : ℕ) (x : Page) → get_elem? l k ≡ some (Some x) → f x ≡ h x) → map (option_map f) l ≡ map (option_map h) l
+change_same [] f h same = refl
+change_same (None ∷ xs) f h same = ap (λ l. None ∷ l) (change_same xs f h (λ k x e. same (suc k) x e))
+change_same (Some b ∷ xs) f h same = ap (λ y. Some y ∷ map (option_map f) xs) (same 0 b refl) ∙ ap (λ l. Some (h b) ∷ l) (change_same xs f h (λ k x e. same (suc k) x e))
+
+pub sole_change : (v : View) (c : ℕ) (b : Page) (f h : Page → Page) → Sole v c b → f b ≡ h b → change f v ≡ change h v
+sole_change v c b f h sole same = ap (λ (l : List (Option Page)). view l) (change_same v.pages f h (λ k x e. subst (λ y. f y ≡ h y) (page_is b x (sym sole.0 ∙ subst (λ j. get_elem? v.pages j ≡ some (Some x)) (sole.1 k x e) e)) same))
+  where
+    view : List (Option Page) → View
+    view l = record { pages = l; conductor = v.conductor }
+    page_is : (x y : Page) → some (Some x) ≡ some (Some y) → x ≡ y
+    page_is x y e = cc
+
+-- ---- what the three steps tell, by the halves that they found
+
+pub ask_tells : (g n a s : ℕ) (me now : Me (Unit {0}) View) → a ≡ next n → s ≡ serving n → now ≡ (change (asked g n) me.0, me.1) → now ≡ (change (noted g (a + s) (Ask (a - s))) me.0, me.1)
+ask_tells g n a s me now e f is = is ∙ ap (λ k. (change (noted g (k + serving n) (Ask (k - serving n))) me.0, me.1)) (sym e) ∙ ap (λ k. (change (noted g (a + k) (Ask (a - k))) me.0, me.1)) (sym f)
+
+pub leave_tells : (g n a s : ℕ) (me now : Me (Unit {0}) View) → a ≡ next n → s ≡ serving n → now ≡ (change (left g n) me.0, me.1) → now ≡ (change (noted g (a + s) Leave) me.0, me.1)
+leave_tells g n a s me now e f is = is ∙ ap (λ k. (change (noted g (k + serving n) Leave) me.0, me.1)) (sym e) ∙ ap (λ k. (change (noted g (a + k) Leave) me.0, me.1)) (sym f)
+
+pub poll_tells : (g n a s t c : ℕ) (b : Page) (me now : Me (Unit {0}) View) → Sole me.0 c b → turn_of (claim b.newest) ≡ t → a ≡ next n → s ≡ serving n → now ≡ (change (polled g n) me.0, me.1) → now ≡ (change (noted g (a + s) (Poll (2 * s == t))) me.0, me.1)
+poll_tells g n a s t c b me now sole turn e f is = is
+    ∙ ap (λ (w : View). (w, me.1)) (sole_change me.0 c b (polled g n) (noted g (next n + serving n) (Poll (2 * serving n == t))) sole (ap (λ k. noted g (next n + serving n) (Poll (2 * serving n == k)) b) turn))
+    ∙ ap (λ k. (change (noted g (k + serving n) (Poll (2 * serving n == t))) me.0, me.1)) (sym e) ∙ ap (λ k. (change (noted g (a + k) (Poll (2 * k == t))) me.0, me.1)) (sym f)
+
+pub behind_halves : (v : View) (g n a s : ℕ) → a ≡ next n → s ≡ serving n → Behind v g (next n + serving n) → Behind v g (a + s)
+behind_halves v g n a s e f b = subst (λ k. Behind v g (a + k)) (sym f) (subst (λ k. Behind v g (k + serving n)) (sym e) b)
+
+-- ---- a seat after a change of its pages
+
+abbrev named : TableId → BoardSize → BoardModel
+named t z = record { table = t; size = z }
+
+pub seat_changed : (z : BoardSize) (t u : TableId) (me now : Me (Unit {0}) View) (seat : SeatModel) (f : Page → Page) (h : Book → Book) → ((b : Page) → told (f b) ≡ h (told b)) → u ≡ t → now ≡ (change f me.0, me.1) → seen_as (named t z) me.0 ≡ seat
+    → seen_as (named u z) now.0 ≡ with_books h seat
+seat_changed z t u me now seat f h same at is seen = ap (λ x. seen_as (named x z) now.0) at ∙ ap (λ (m : Me (Unit {0}) View). seen_as (named t z) m.0) is ∙ change_seen (named t z) me.0 f h same ∙ ap (with_books h) seen
+
+pub seat_entered : (z : BoardSize) (t u : TableId) (me now : Me (Unit {0}) View) (seat : SeatModel) (g p : ℕ) (k : Call) → u ≡ t → now ≡ (change (noted g p k) me.0, me.1) → seen_as (named t z) me.0 ≡ seat
+    → seen_as (named u z) now.0 ≡ with_entry (record { 0 = g }) p k seat
+seat_entered z t u me now seat g p k at is seen = seat_changed z t u me now seat (noted g p k) (entered (record { 0 = g }) p k) (noted_told g p k) at is seen
+
+pub seat_behind : (board : BoardModel) (v : View) (seat : SeatModel) (g p : ℕ) → seen_as board v ≡ seat → Behind v g p → IsBehind g p seat
+seat_behind board v seat g p seen b = subst (IsBehind g p) seen (behind_seen board v g p b)
