@@ -1,11 +1,11 @@
 -- What a call makes of a seat, as callers see it.
-use Rattle.std.proofs.Common.{◌==◌, ◌≡◌, ◌≢◌, ◌⊎◌, ⊎_elim, inl, inr, ℕ, zero, suc, ◌+◌, ◌*◌, ◌-◌, ◌<◌, ◌≤◌, List, [], ◌∷◌, ◌++◌, map, reverse, Bool, true, false, cond, nat_lt, Some, None, refl, sym, ap, ◌∙◌, subst, arith, append-nil}
+use Rattle.std.proofs.Common.{◌==◌, ◌≡◌, ◌≢◌, ◌⊎◌, ⊎_elim, inl, inr, ℕ, zero, suc, ◌+◌, ◌*◌, ◌-◌, ◌<◌, ◌≤◌, List, [], ◌∷◌, ◌++◌, map, replicate, reverse, Bool, true, false, cond, nat_lt, Some, None, refl, sym, ap, ◌∙◌, subst, arith, append-nil}
 use Rattle.std.specs.Prelude.{slice_index_or}
 use Rattle.std.specs.List.{filter, AllByRecursion}
 use Rattle.std.specs.Option.{option_map}
 use Rattle.std.specs.declared.option.Option.{Option}
 use Rattle.std.proofs.lemmas.List.Elements.{filter-append}
-use mathlib.Core.Option.{some, some-injective}
+use mathlib.Core.Option.{some, some-injective, some-ne-none}
 use lib.ListN.{get_elem?}
 use Rattle.atomic_table.specs.Table.{Me}
 use Rattle.atomic_table.specs.Seated.{TableId}
@@ -19,6 +19,7 @@ use Rattle.msrp_board.specs.declared.answers.SeatPhase.TheVariants.{Waiting, Adm
 use Rattle.msrp_board.specs.declared.books.Book.{Book}
 use Rattle.msrp_board.specs.declared.books.BoardSize.{BoardSize}
 use Rattle.msrp_board.specs.declared.books.Conductor.{Conductor}
+use Rattle.msrp_board.specs.declared.books.Conductor.TheVariants.{Unopened}
 use Rattle.msrp_board.specs.declared.books.Entry.{Entry}
 use Rattle.msrp_board.specs.declared.held.Claim.{Claim}
 use Rattle.msrp_board.specs.declared.held.Claim.TheVariants.{Nothing, Waits, Holds}
@@ -26,10 +27,11 @@ use Rattle.msrp_board.specs.declared.held.CoreState.{CoreState}
 use Rattle.msrp_board.specs.declared.pages.Page.{Page}
 use Rattle.msrp_board.specs.declared.pages.View.{View}
 use Rattle.msrp_board.specs.Books.{on, phase_by, phase_in, has_acted, lock_of, IsBefore}
-use Rattle.msrp_board.specs.Boards.{BoardModel, SeatModel, book_at, IsCoreSeat, MayAct, IsIn, entered, with_entry, with_books, IsBehind}
+use Rattle.msrp_board.specs.Boards.{empty_book, first_seat, BoardModel, SeatModel, book_at, IsCoreSeat, MayAct, IsIn, entered, with_entry, with_books, IsBehind}
 use Rattle.msrp_board.specs.Newest.{claim, claim_after, turn_of, BehindAll}
-use Rattle.msrp_board.specs.Rule.{Has, Sole, Ready, acted, noted, change, next, serving, asked, polled, left, Behind}
+use Rattle.msrp_board.specs.Rule.{empty, first_view, Has, Sole, Ready, acted, noted, change, next, serving, asked, polled, left, Behind}
 use Rattle.msrp_board.specs.Held.{told, phase_of, res_of, seen_as, state_of, Tie, Low, IsBelow, IsSeat}
+use Rattle.msrp_board.proofs.Start.{low_first}
 use Rattle.msrp_board.proofs.Told.{reverse_cons, lock_told, acted_told, page_of, book_of, sole_of}
 
 -- ---- what a caller's condition says of the page
@@ -187,3 +189,41 @@ seat_entered z t u me now seat g p k at is seen = seat_changed z t u me now seat
 
 pub seat_behind : (board : BoardModel) (v : View) (seat : SeatModel) (g p : ℕ) → seen_as board v ≡ seat → Behind v g p → IsBehind g p seat
 seat_behind board v seat g p seen b = subst (IsBehind g p) seen (behind_seen board v g p b)
+
+-- the resource and the turn that a core claims
+pub res_waits : (l : Claim) (g t : ℕ) → l ≡ Waits g t → res_of l ≡ g
+res_waits l g t e = ap res_of e
+
+pub res_holds : (l : Claim) (g t : ℕ) → l ≡ Holds g t → res_of l ≡ g
+res_holds l g t e = ap res_of e
+
+pub below_waits : (n : ℕ) (l : Claim) (g t : ℕ) → l ≡ Waits g t → IsBelow n l → g < n
+below_waits n l g t e b = subst (IsBelow n) e b
+
+pub below_holds : (n : ℕ) (l : Claim) (g t : ℕ) → l ≡ Holds g t → IsBelow n l → g < n
+below_holds n l g t e b = subst (IsBelow n) e b
+
+-- the first seat
+replicate_told : (n : ℕ) → map (option_map told) (replicate n (Some empty)) ≡ replicate n (Some empty_book)
+replicate_told zero = refl
+replicate_told (suc n) = ap (λ l. Some empty_book ∷ l) (replicate_told n)
+
+pub first_seen : (board : BoardModel) → seen_as board (first_view board.size) ≡ first_seat board
+first_seen board = ap (λ (l : List (Option Book)). seat l) (replicate_told board.size.cores)
+  where
+    seat : List (Option Book) → SeatModel
+    seat l = record { board = board; books = l; conductor = Some Unopened }
+
+page_empty : (n c : ℕ) (b : Page) → get_elem? (replicate n (Some empty)) c ≡ some (Some b) → empty ≡ b
+page_empty zero c b e = absurd (some-ne-none (Some b) (sym e))
+page_empty (suc n) zero b e = let f : some (Some empty) ≡ some (Some b) = e in cc
+page_empty (suc n) (suc c) b e = page_empty n c b e
+
+pub first_is_seat : (z : BoardSize) (held : List (Option CoreState)) (me : Me (Unit {0}) View) → z.cores ≤ 8 → Tie held (replicate z.cores (Some empty)) → me ≡ (first_view z, []) → IsSeat z held (Some Unopened) me
+first_is_seat z held me small tie is = subst (IsSeat z held (Some Unopened)) (sym is) (record {
+    no_slot = refl;
+    tie = tie;
+    conducts = refl;
+    low = λ c b h. low_first z c b small h;
+    below = λ c b h. subst (λ (p : Page). IsBelow z.resources (claim p.newest)) (page_empty z.cores c b h) tt
+  })

@@ -9,11 +9,11 @@ ghost use Rattle.msrp_board.specs.declared.answers.SeatPhase.TheVariants.{Waitin
 ghost use Rattle.msrp_board.specs.declared.books.Book.{Book};
 ghost use Rattle.msrp_board.specs.declared.books.Conductor.TheVariants.{Unopened, Opened, Aborted};
 ghost use Rattle.msrp_board.specs.Rule.{next, serving};
-ghost use Rattle.msrp_board.specs.Boards.{IsSize, IsCoreSeat, IsIn, MayAct, IsBehind, HasAnother, HasAll, first_seat, with_entry, admitted, stopped, arrived, conducted, alone, without, both};
+ghost use Rattle.msrp_board.specs.Boards.{book_at, IsSize, IsCoreSeat, IsIn, MayAct, IsBehind, HasAnother, HasAll, first_seat, with_entry, admitted, stopped, arrived, conducted, alone, without, both};
 
 use crate::answers::{Asked, BoardError, Look, Polled};
 use crate::books::{BoardSize, Conductor};
-use crate::held::{fresh, own};
+use crate::held::{fresh, only, others, own, union};
 use crate::pages::{Tickets, View};
 use crate::seat::BoardSeat;
 use crate::steps;
@@ -126,6 +126,114 @@ impl Board {
         let (next, serving) = halves(found);
         seat.held[core] = Some(state.left());
         next + serving
+    }
+
+    /// Looks whether the core of the seat is let into its tick: one `load` of the barrier word. Go is answered only
+    /// where the conductor opened and every core has arrived from all ticks below, Stopped only where it aborted.
+    pub fn look(&self, seat: &mut BoardSeat) -> Look
+        requires board { seat.old.board ≡ self.now }
+        requires waiting { IsIn Waiting seat.old }
+        ensures wait { result ≡ Wait → seat.new ≡ seat.old }
+        ensures go { result ≡ Go → seat.new ≡ admitted seat.old }
+        ensures stopped { result ≡ Stopped → seat.new ≡ stopped seat.old }
+        ensures start { (c : ℕ) (b : Book) → result ≡ Stopped → IsCoreSeat seat.old c b → b.tick ≡ 0 }
+    {
+        let (core, state) = own(&seat.held);
+        let barrier = self.size.resources as usize;
+        let found = steps::look(&self.table.shared, &mut seat.place, barrier, self.size.cores);
+        let look = state.finds(self.size.cores, found);
+        seat.held[core] = Some(state.looked(look));
+        look
+    }
+
+    /// Arrives from the tick that the core of the seat is in: one `fetch_add` on the barrier word. The seat then
+    /// waits for the next tick, or is done.
+    pub fn arrive(&self, seat: &mut BoardSeat)
+        requires board { seat.old.board ≡ self.now }
+        requires admitted { IsIn Admitted seat.old }
+        ensures { seat.new ≡ arrived seat.old }
+    {
+        let (core, state) = own(&seat.held);
+        steps::arrive(&self.table.shared, &mut seat.place, self.size.resources as usize);
+        seat.held[core] = Some(state.arrived());
+    }
+
+    /// Lets the cores into tick 0: one `fetch_add` on the barrier word.
+    pub fn open(&self, seat: &mut BoardSeat)
+        requires board { seat.old.board ≡ self.now }
+        requires unopened { seat.old.conductor ≡ Some Unopened }
+        ensures { seat.new ≡ conducted Opened seat.old }
+    {
+        steps::open(&self.table.shared, &mut seat.place, self.size.resources as usize);
+        seat.conductor = Some(Conductor::Opened);
+    }
+
+    /// Calls the run off before it began: one `fetch_add` on the barrier word. No core is let into tick 0, and each
+    /// that looks is told so.
+    pub fn abort(&self, seat: &mut BoardSeat)
+        requires board { seat.old.board ≡ self.now }
+        requires unopened { seat.old.conductor ≡ Some Unopened }
+        ensures { seat.new ≡ conducted Aborted seat.old }
+    {
+        steps::abort(&self.table.shared, &mut seat.place, self.size.resources as usize);
+        seat.conductor = Some(Conductor::Aborted);
+    }
+
+    /// The core's seat, and one with the other books.
+    pub fn split(&self, seat: BoardSeat, core: CoreId) -> (BoardSeat, BoardSeat)
+        requires board { seat.board ≡ self.now }
+        requires book { IsSome (book_at seat core.0) }
+        requires another { HasAnother core.0 seat }
+        ensures core { result.0 ≡ alone core.0 seat }
+        ensures rest { result.1 ≡ without core.0 seat }
+    {
+        let BoardSeat {
+            mut place,
+            size,
+            held,
+            conductor,
+        } = seat;
+        let core = core.0 as usize;
+        let rest = steps::split(&self.table.shared, &mut place, core);
+        let own = BoardSeat {
+            place,
+            size,
+            held: only(&held, core),
+            conductor: None,
+        };
+        let others = BoardSeat {
+            place: rest,
+            size,
+            held: others(&held, core),
+            conductor,
+        };
+        (own, others)
+    }
+
+    /// One seat with the books of both.
+    pub fn join(&self, seat: BoardSeat, other: BoardSeat) -> BoardSeat
+        requires board { (seat.board ≡ self.now) × (other.board ≡ self.now) }
+        ensures { result ≡ both seat other }
+    {
+        let BoardSeat {
+            mut place,
+            size,
+            held,
+            conductor,
+        } = seat;
+        let BoardSeat {
+            place: other_place,
+            size: _,
+            held: other_held,
+            conductor: other_conductor,
+        } = other;
+        steps::join(&self.table.shared, &mut place, other_place);
+        BoardSeat {
+            place,
+            size,
+            held: union(&held, &other_held),
+            conductor: conductor.or(other_conductor),
+        }
     }
 }
 

@@ -1,8 +1,10 @@
 //! What a seat keeps at run time of the cores whose books it holds: enough to answer its readers, without the entries.
-ghost use Rattle.std.specs.Prelude.{◌≡◌, ◌<◌, ◌≤◌, ◌+◌, ℕ, Some, replicate, suc, nat_lt};
+ghost use Rattle.std.specs.Prelude.{◌≡◌, ◌<◌, ◌≤◌, ◌+◌, ℕ, List, Some, replicate, suc, nat_lt};
 ghost use Rattle.msrp_board.specs.declared.pages.Page.{Page};
 ghost use Rattle.msrp_board.specs.declared.pages.View.{View};
 ghost use Rattle.msrp_board.specs.Books.{phase_by};
+ghost use Rattle.std.specs.declared.option.Option.{Option};
+ghost use Rattle.msrp_board.specs.Boards.{only_at, none_at, together};
 ghost use Rattle.msrp_board.specs.Held.{Tie, state_of, phase_of, res_of, look_of};
 ghost use Rattle.msrp_board.specs.Newest.{Ticks, turn_of};
 ghost use Rattle.msrp_board.specs.Rule.{Sole, arrived, empty, noted, looked};
@@ -199,4 +201,35 @@ pub fn own(held: &[Option<CoreState>; 8]) -> (usize, CoreState)
         Some(state) => (core, state),
         None => unreachable!(),
     }
+}
+
+/// The state of the core alone.
+pub fn only(held: &[Option<CoreState>; 8], core: usize) -> [Option<CoreState>; 8]
+    requires { core < 8 }
+    ensures { (pages : List (Option Page)) → Tie held.now pages → Tie result (only_at core pages) }
+{
+    let mut own = [None; 8];
+    own[core] = held[core];
+    own
+}
+
+/// The states of the others.
+pub fn others(held: &[Option<CoreState>; 8], core: usize) -> [Option<CoreState>; 8]
+    requires { core < 8 }
+    ensures { (pages : List (Option Page)) → Tie held.now pages → Tie result (none_at core pages) }
+{
+    let mut others = *held;
+    others[core] = None;
+    others
+}
+
+/// The states of both, where no core is in both.
+pub fn union(held: &[Option<CoreState>; 8], other: &[Option<CoreState>; 8]) -> [Option<CoreState>; 8]
+    ensures { (pages more : List (Option Page)) → Tie held.now pages → Tie other.now more → Tie result (together pages more) }
+{
+    let mut both = *held;
+    for core in 0..8 {
+        both[core] = held[core].or(other[core]);
+    }
+    both
 }
