@@ -11,4 +11,5 @@ pub mod Ties
 pub mod Ticks
 pub mod Told
 pub mod Seats
+pub mod Parts
 pub mod Start

@@ -27,19 +27,19 @@ nothing = None
 clash : (b : Page) → some nothing ≡ some (Some b) → ⊥
 clash b e = absurd (cc)
 
-of_without : (c : ℕ) (l : Slots) (k : ℕ) (b : Page) → In (none_at c l) k b → In l k b × (k ≢ c)
-of_without c [] k b e = absurd (none_in k b e)
-of_without zero (x ∷ xs) zero b e = absurd (clash b e)
-of_without zero (x ∷ xs) (suc k) b e = (e, λ h. omega (arith, h))
-of_without (suc c) (x ∷ xs) zero b e = (e, λ h. omega (arith, h))
-of_without (suc c) (x ∷ xs) (suc k) b e = let r = of_without c xs k b e in (r.0, λ h. r.1 (omega (arith, h)))
+pub of_none : (c : ℕ) (l : Slots) (k : ℕ) (b : Page) → In (none_at c l) k b → In l k b × (k ≢ c)
+of_none c [] k b e = absurd (none_in k b e)
+of_none zero (x ∷ xs) zero b e = absurd (clash b e)
+of_none zero (x ∷ xs) (suc k) b e = (e, λ h. omega (arith, h))
+of_none (suc c) (x ∷ xs) zero b e = (e, λ h. omega (arith, h))
+of_none (suc c) (x ∷ xs) (suc k) b e = let r = of_none c xs k b e in (r.0, λ h. r.1 (omega (arith, h)))
 
-of_alone : (c : ℕ) (l : Slots) (k : ℕ) (b : Page) → In (only_at c l) k b → In l k b × (k ≡ c)
-of_alone c [] k b e = absurd (none_in k b e)
-of_alone zero (x ∷ xs) zero b e = (e, refl)
-of_alone zero (x ∷ xs) (suc k) b e = absurd (none_in k b e)
-of_alone (suc c) (x ∷ xs) zero b e = absurd (clash b e)
-of_alone (suc c) (x ∷ xs) (suc k) b e = let r = of_alone c xs k b e in (r.0, ap suc r.1)
+pub of_only : (c : ℕ) (l : Slots) (k : ℕ) (b : Page) → In (only_at c l) k b → In l k b × (k ≡ c)
+of_only c [] k b e = absurd (none_in k b e)
+of_only zero (x ∷ xs) zero b e = (e, refl)
+of_only zero (x ∷ xs) (suc k) b e = absurd (none_in k b e)
+of_only (suc c) (x ∷ xs) zero b e = absurd (clash b e)
+of_only (suc c) (x ∷ xs) (suc k) b e = let r = of_only c xs k b e in (r.0, ap suc r.1)
 
 either_part : (c : ℕ) (l : Slots) (k : ℕ) (b : Page) → In l k b → In (only_at c l) k b ⊎ In (none_at c l) k b
 either_part c [] k b e = absurd (none_in k b e)
@@ -94,8 +94,8 @@ splits z id c v s r at_id = (
       r.0,
       r.1,
       split_shared Has s.views (λ k b. get_elem? r.0 k ≡ some b) id v (view_alone c v) (view_without c v) at_id
-          (λ k b h. (of_alone c v.pages k b h).0) (λ k b h. (of_without c v.pages k b h).0)
-          (λ k b d h g. (of_without c v.pages k d g).1 (of_alone c v.pages k b h).1)
+          (λ k b h. (of_only c v.pages k b h).0) (λ k b h. (of_none c v.pages k b h).0)
+          (λ k b d h g. (of_none c v.pages k d g).1 (of_only c v.pages k b h).1)
           (λ k b h. either_part c v.pages k b h) r.2,
       split_shared HasConductor s.views (λ k x. (k ≡ 0) × (r.1 ≡ x)) id v (view_alone c v) (view_without c v) at_id
           (λ k b h. absurd (no_desk b h.1)) (λ k b h. h) (λ k b d h g. no_desk b h.1) (λ k b h. inr h) r.3,

@@ -1,5 +1,5 @@
 -- What a call makes of a seat, as callers see it.
-use Rattle.std.proofs.Common.{◌==◌, ◌≡◌, ◌≢◌, ◌⊎◌, ⊎_elim, inl, inr, ℕ, zero, suc, ◌+◌, ◌*◌, ◌-◌, ◌<◌, ◌≤◌, List, [], ◌∷◌, ◌++◌, map, replicate, reverse, Bool, true, false, cond, nat_lt, Some, None, refl, sym, ap, ◌∙◌, subst, arith, append-nil}
+use Rattle.std.proofs.Common.{◌==◌, ◌≡◌, ◌≢◌, ◌⊎◌, ⊎_elim, inl, inr, ℕ, zero, suc, ◌+◌, ◌*◌, ◌-◌, ◌<◌, ◌≤◌, List, [], ◌∷◌, ◌++◌, map, replicate, reverse, Bool, true, false, cond, nat_lt, ltb, leb, ltb-true, Some, None, refl, sym, ap, ◌∙◌, subst, arith, append-nil}
 use Rattle.std.specs.Prelude.{slice_index_or}
 use Rattle.std.specs.List.{filter, AllByRecursion}
 use Rattle.std.specs.Option.{option_map}
@@ -16,6 +16,7 @@ use Rattle.msrp_plan.specs.declared.units.Phase.{Phase}
 use Rattle.msrp_plan.specs.declared.units.Phase.TheVariants.{Free, Queued, Holding}
 use Rattle.msrp_board.specs.declared.answers.SeatPhase.{SeatPhase}
 use Rattle.msrp_board.specs.declared.answers.SeatPhase.TheVariants.{Waiting, Admitted, Done, Stopped}
+use Rattle.msrp_board.specs.declared.answers.Look.TheVariants.{Wait, Go, Stopped as Off}
 use Rattle.msrp_board.specs.declared.books.Book.{Book}
 use Rattle.msrp_board.specs.declared.books.BoardSize.{BoardSize}
 use Rattle.msrp_board.specs.declared.books.Conductor.{Conductor}
@@ -27,10 +28,10 @@ use Rattle.msrp_board.specs.declared.held.CoreState.{CoreState}
 use Rattle.msrp_board.specs.declared.pages.Page.{Page}
 use Rattle.msrp_board.specs.declared.pages.View.{View}
 use Rattle.msrp_board.specs.Books.{on, phase_by, phase_in, has_acted, lock_of, IsBefore}
-use Rattle.msrp_board.specs.Boards.{empty_book, first_seat, BoardModel, SeatModel, book_at, IsCoreSeat, MayAct, IsIn, entered, with_entry, with_books, IsBehind}
+use Rattle.msrp_board.specs.Boards.{admitted, stopped, empty_book, first_seat, BoardModel, SeatModel, book_at, IsCoreSeat, MayAct, IsIn, entered, with_entry, with_books, IsBehind}
 use Rattle.msrp_board.specs.Newest.{claim, claim_after, turn_of, BehindAll}
-use Rattle.msrp_board.specs.Rule.{empty, first_view, Has, Sole, Ready, acted, noted, change, next, serving, asked, polled, left, Behind}
-use Rattle.msrp_board.specs.Held.{told, phase_of, res_of, seen_as, state_of, Tie, Low, IsBelow, IsSeat}
+use Rattle.msrp_board.specs.Rule.{seen_if, looked, AtStart, empty, first_view, Has, Sole, Ready, acted, noted, change, next, serving, asked, polled, left, Behind}
+use Rattle.msrp_board.specs.Held.{look_if, look_of, told, phase_of, res_of, seen_as, state_of, Tie, Low, IsBelow, IsSeat}
 use Rattle.msrp_board.proofs.Start.{low_first}
 use Rattle.msrp_board.proofs.Told.{reverse_cons, lock_told, acted_told, page_of, book_of, sole_of}
 
@@ -227,3 +228,87 @@ first_is_seat z held me small tie is = subst (IsSeat z held (Some Unopened)) (sy
     low = λ c b h. low_first z c b small h;
     below = λ c b h. subst (λ (p : Page). IsBelow z.resources (claim p.newest)) (page_empty z.cores c b h) tt
   })
+
+pub first_made : (z : BoardSize) (t u : TableId) (me : Me (Unit {0}) View) → u ≡ t → me ≡ (first_view z, []) → seen_as (named u z) me.0 ≡ first_seat (named t z)
+first_made z t u me at is = ap (λ (m : Me (Unit {0}) View). seen_as (named u z) m.0) is ∙ ap (λ x. seen_as (named x z) (first_view z)) at ∙ first_seen (named t z)
+
+-- ---- the barrier
+
+-- the page of a core's seat in this phase
+pub record Standing (ticks : ℕ) (v : View) (phase : SeatPhase) : Type 0 where
+  pub core : ℕ
+  pub page : Page
+  pub sole : Sole v core page
+  pub stands : phase_by page.stopped page.admitted (nat_lt page.tick ticks) ≡ phase
+
+pub standing : (board : BoardModel) (v : View) (seat : SeatModel) (phase : SeatPhase) → seen_as board v ≡ seat → IsIn phase seat → Standing board.size.ticks v phase
+standing board v seat phase is at =
+    let h : IsIn phase (seen_as board v) = subst (IsIn phase) (sym is) at in
+    let r = sole_of board v h.0 h.1 h.2 in
+    record { core = h.0; page = r.0; sole = r.1; stands = ap (phase_in board.size.ticks) r.2 ∙ h.3 }
+
+pub admitted_page : (ticks : ℕ) (v : View) (s : Standing ticks v Admitted) → s.page.admitted ≡ true
+admitted_page ticks v s = (admitted_of s.page.stopped s.page.admitted (nat_lt s.page.tick ticks) s.stands).1
+
+pub waiting_page : (ticks : ℕ) (v : View) (s : Standing ticks v Waiting) → (s.page.admitted ≡ false) × (s.page.tick < ticks)
+waiting_page ticks v s = let w = waiting_of s.page.stopped s.page.admitted (nat_lt s.page.tick ticks) s.stands in (w.1, ltb-true s.page.tick ticks w.2)
+
+-- a look keeps the entries
+pub looked_claim : (h q : Bool) (b : Page) → claim (seen_if h q b).newest ≡ claim b.newest
+looked_claim true q b = refl
+looked_claim false true b = refl
+looked_claim false false b = refl
+
+let_in : Page → Page
+let_in b = record { newest = b.newest; tick = b.tick; admitted = true; stopped = b.stopped }
+
+called_off : Page → Page
+called_off b = record { newest = b.newest; tick = b.tick; admitted = b.admitted; stopped = true }
+
+look_waits : (h q : Bool) (b : Page) → look_if h q ≡ Wait → seen_if h q b ≡ b
+look_waits true q b e = absurd (cc)
+look_waits false true b e = absurd (cc)
+look_waits false false b e = refl
+
+look_goes : (h q : Bool) (b : Page) → look_if h q ≡ Go → seen_if h q b ≡ let_in b
+look_goes true q b e = absurd (cc)
+look_goes false true b e = refl
+look_goes false false b e = absurd (cc)
+
+look_stops : (h q : Bool) (b : Page) → look_if h q ≡ Off → (seen_if h q b ≡ called_off b) × (h ≡ true)
+look_stops true q b e = (refl, refl)
+look_stops false true b e = absurd (cc)
+look_stops false false b e = absurd (cc)
+
+same_map : {X : Type 0} (l : List (Option X)) → map (option_map (λ x. x)) l ≡ l
+same_map [] = refl
+same_map (None ∷ xs) = ap (λ l. None ∷ l) (same_map xs)
+same_map (Some x ∷ xs) = ap (λ l. Some x ∷ l) (same_map xs)
+
+same_books : (seat : SeatModel) → with_books (λ b. b) seat ≡ seat
+same_books seat = ap (λ (l : List (Option Book)). with l) (same_map seat.books)
+  where
+    with : List (Option Book) → SeatModel
+    with l = record { board = seat.board; books = l; conductor = seat.conductor }
+
+-- what a look finds, and what callers then see
+looked_as : (z : BoardSize) (t u : TableId) (me now : Me (Unit {0}) View) (seat : SeatModel) (m n c : ℕ) (b : Page) (f : Page → Page) (h : Book → Book) → ((p : Page) → told (f p) ≡ h (told p)) → Sole me.0 c b → looked m n b ≡ f b
+    → u ≡ t → now ≡ (change (looked m n) me.0, me.1) → seen_as (named t z) me.0 ≡ seat → seen_as (named u z) now.0 ≡ with_books h seat
+looked_as z t u me now seat m n c b f h same sole is at step seen = seat_changed z t u me now seat f h same at (step ∙ ap (λ (w : View). (w, me.1)) (sole_change me.0 c b (looked m n) f sole is)) seen
+
+pub look_wait : (z : BoardSize) (t u : TableId) (me now : Me (Unit {0}) View) (seat : SeatModel) (m n c : ℕ) (b : Page) → Sole me.0 c b → look_of m n b.tick ≡ Wait → u ≡ t → now ≡ (change (looked m n) me.0, me.1) → seen_as (named t z) me.0 ≡ seat
+    → seen_as (named u z) now.0 ≡ seat
+look_wait z t u me now seat m n c b sole is at step seen = looked_as z t u me now seat m n c b (λ p. p) (λ p. p) (λ p. refl) sole (look_waits (ltb 0 (next n)) (leb (1 + m * b.tick) (serving n)) b is) at step seen ∙ same_books seat
+
+pub look_go : (z : BoardSize) (t u : TableId) (me now : Me (Unit {0}) View) (seat : SeatModel) (m n c : ℕ) (b : Page) → Sole me.0 c b → look_of m n b.tick ≡ Go → u ≡ t → now ≡ (change (looked m n) me.0, me.1) → seen_as (named t z) me.0 ≡ seat
+    → seen_as (named u z) now.0 ≡ admitted seat
+look_go z t u me now seat m n c b sole is at step seen = looked_as z t u me now seat m n c b let_in _ (λ p. refl) sole (look_goes (ltb 0 (next n)) (leb (1 + m * b.tick) (serving n)) b is) at step seen
+
+pub look_stop : (z : BoardSize) (t u : TableId) (me now : Me (Unit {0}) View) (seat : SeatModel) (m n c : ℕ) (b : Page) → Sole me.0 c b → look_of m n b.tick ≡ Off → u ≡ t → now ≡ (change (looked m n) me.0, me.1) → seen_as (named t z) me.0 ≡ seat
+    → seen_as (named u z) now.0 ≡ stopped seat
+look_stop z t u me now seat m n c b sole is at step seen = looked_as z t u me now seat m n c b called_off _ (λ p. refl) sole (look_stops (ltb 0 (next n)) (leb (1 + m * b.tick) (serving n)) b is).0 at step seen
+
+pub stop_start : (m n c : ℕ) (board : BoardModel) (v : View) (seat : SeatModel) (k : ℕ) (a : Book) (b : Page) → Sole v c b → look_of m n b.tick ≡ Off → AtStart n v → seen_as board v ≡ seat → IsCoreSeat seat k a → a.tick ≡ 0
+stop_start m n c board v seat k a b sole is start seen at =
+    let r = sole_of board v k a (subst (λ s. IsCoreSeat s k a) (sym seen) at) in
+    sym (ap (λ (x : Book). x.tick) r.2) ∙ start k r.0 r.1.0 (look_stops (ltb 0 (next n)) (leb (1 + m * b.tick) (serving n)) b is).1

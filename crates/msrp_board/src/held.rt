@@ -227,7 +227,7 @@ pub fn others(held: &[Option<CoreState>; 8], core: usize) -> [Option<CoreState>;
 pub fn union(held: &[Option<CoreState>; 8], other: &[Option<CoreState>; 8]) -> [Option<CoreState>; 8]
     ensures { (pages more : List (Option Page)) → Tie held.now pages → Tie other.now more → Tie result (together pages more) }
 {
-    let mut both = *held;
+    let mut both = [None; 8];
     for core in 0..8 {
         both[core] = held[core].or(other[core]);
     }
