@@ -52,7 +52,7 @@ of_two : (x y : Option Page) (b : Page) → either x y ≡ Some b → (x ≡ Som
 of_two None y b e = inr e
 of_two (Some d) y b e = inl e
 
-of_together : (l m : Slots) (k : ℕ) (b : Page) → In (together l m) k b → In l k b ⊎ In m k b
+pub of_together : (l m : Slots) (k : ℕ) (b : Page) → In (together l m) k b → In l k b ⊎ In m k b
 of_together [] m k b e = inr e
 of_together (x ∷ xs) [] k b e = inl e
 of_together (x ∷ xs) (y ∷ ys) zero b e = ⊎_elim (λ h. inl (ap some h)) (λ h. inr (ap some h)) (of_two x y b (some-injective (either x y) (Some b) e))

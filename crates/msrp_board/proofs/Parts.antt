@@ -17,11 +17,11 @@ use Rattle.msrp_board.specs.declared.books.Conductor.{Conductor}
 use Rattle.msrp_board.specs.declared.held.CoreState.{CoreState}
 use Rattle.msrp_board.specs.declared.pages.Page.{Page}
 use Rattle.msrp_board.specs.declared.pages.View.{View}
-use Rattle.msrp_board.specs.Boards.{BoardModel, SeatModel, only_at, none_at, either, together, alone, without}
-use Rattle.msrp_board.specs.Rule.{Has, view_alone, view_without}
+use Rattle.msrp_board.specs.Boards.{BoardModel, SeatModel, only_at, none_at, either, together, alone, without, both}
+use Rattle.msrp_board.specs.Rule.{Has, view_alone, view_without, view_both}
 use Rattle.msrp_board.specs.Newest.{claim}
 use Rattle.msrp_board.specs.Held.{told, seen_as, page_at, state_of, state_at, Tie, Low, AllBelow, IsBelow, IsSeat}
-use Rattle.msrp_board.proofs.Parting.{of_only, of_none}
+use Rattle.msrp_board.proofs.Parting.{of_only, of_none, of_together}
 use Rattle.msrp_board.proofs.Sharing.{at_length}
 use Rattle.msrp_board.proofs.Ties.{get_or_at}
 use Rattle.msrp_board.proofs.Told.{none_past}
@@ -159,3 +159,35 @@ core_low board v seat c low seen has = ⊎_elim (λ h. h) (λ past. absurd (true
   where
     cases : (k : ℕ) → (k < 8) ⊎ (8 ≤ k)
     cases k = elim (cases_lt k 8) [ inl l ↦ inl l | inr g ↦ inr g ]
+
+-- ---- two seats joined
+
+or_either : {X : Type 0} (x y : Option X) → option_or x y ≡ either x y
+or_either None y = refl
+or_either (Some a) y = refl
+
+pub both_is_seat : (z y : BoardSize) (held more all : List (Option CoreState)) (o p q : Option Conductor) (me other now : Me (Unit {0}) View) → y ≡ z → IsSeat z held o me → IsSeat y more p other → q ≡ option_or o p → now ≡ (view_both me.0 other.0, me.1) → Tie all (together me.0.pages other.0.pages) → IsSeat z all q now
+both_is_seat z y held more all o p q me other now size s r or is tie = subst (IsSeat z all q) (sym is) (record {
+    no_slot = s.no_slot;
+    tie = tie;
+    conducts = or ∙ or_either o p ∙ ap (λ x. either x p) s.conducts ∙ ap (either me.0.conductor) r.conducts;
+    low = λ d b h. ⊎_elim (s.low d b) (r.low d b) (of_together me.0.pages other.0.pages d b h);
+    below = λ d b h. ⊎_elim (s.below d b) (λ k. subst (λ (x : BoardSize). IsBelow x.resources (claim b.newest)) size (r.below d b k)) (of_together me.0.pages other.0.pages d b h)
+  })
+
+either_told : (x y : Option Page) → option_map told (either x y) ≡ either (option_map told x) (option_map told y)
+either_told None y = refl
+either_told (Some b) y = refl
+
+together_told : (l m : List (Option Page)) → map (option_map told) (together l m) ≡ together (map (option_map told) l) (map (option_map told) m)
+together_told [] m = refl
+together_told (x ∷ xs) [] = refl
+together_told (x ∷ xs) (y ∷ ys) = ap (λ b. b ∷ map (option_map told) (together xs ys)) (either_told x y) ∙ ap (λ l. either (option_map told x) (option_map told y) ∷ l) (together_told xs ys)
+
+pub both_seen : (z : BoardSize) (t u : TableId) (board : BoardModel) (me more now : Me (Unit {0}) View) (seat other : SeatModel) → u ≡ t → now ≡ (view_both me.0 more.0, me.1) → seen_as (record { table = t; size = z }) me.0 ≡ seat → seen_as board more.0 ≡ other
+    → seen_as (record { table = u; size = z }) now.0 ≡ both seat other
+both_seen z t u board me more now seat other at is seen told_as = ap (λ (m : Me (Unit {0}) View). seen_as (record { table = u; size = z }) m.0) is ∙ ap (λ x. seen_as (record { table = x; size = z }) (view_both me.0 more.0)) at
+    ∙ ap (λ (l : List (Option Book)). part l) (together_told me.0.pages more.0.pages) ∙ ap (λ x. both x (seen_as board more.0)) seen ∙ ap (both seat) told_as
+  where
+    part : List (Option Book) → SeatModel
+    part l = record { board = record { table = t; size = z }; books = l; conductor = either me.0.conductor more.0.conductor }

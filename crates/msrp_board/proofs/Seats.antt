@@ -259,10 +259,10 @@ looked_claim true q b = refl
 looked_claim false true b = refl
 looked_claim false false b = refl
 
-let_in : Page → Page
+abbrev let_in : Page → Page
 let_in b = record { newest = b.newest; tick = b.tick; admitted = true; stopped = b.stopped }
 
-called_off : Page → Page
+abbrev called_off : Page → Page
 called_off b = record { newest = b.newest; tick = b.tick; admitted = b.admitted; stopped = true }
 
 look_waits : (h q : Bool) (b : Page) → look_if h q ≡ Wait → seen_if h q b ≡ b
