@@ -21,7 +21,8 @@ use Rattle.msrp_board.specs.declared.books.BoardSize.{BoardSize}
 use Rattle.msrp_board.specs.Books.{on, IsBefore, reach_of}
 use Rattle.msrp_board.specs.History.{Event, by}
 use Rattle.msrp_board.specs.Newest.{lock, asks, leaves, asks_after, leaves_after, queue, granted, LegalNewest, PlacedNewest, turn_of, claim_after, claim, InTurn, Orderly, BehindAll, Ticks, NoneLater, RisingNewest}
-use Rattle.msrp_board.specs.Rule.{acted, push, arrivals, reach, HasConductor, SharedConductor, aborted_1, opened_1, Gathered, Has, Owns, Shared, IsHist, IsWord, total, Served, Kept, Tied, Small, Ruled, Sole, Ready, next, serving, asked, change, polled, left, Behind, Tells, TellsAsk, TellsPoll, TellsLeave}
+use Rattle.msrp_board.specs.Boards.{opening_1, abort_1}
+use Rattle.msrp_board.specs.Rule.{acted, push, arrivals, reach, HasConductor, SharedConductor, Gathered, Has, Owns, Shared, IsHist, IsWord, total, Served, Kept, Tied, Small, Ruled, Sole, Ready, next, serving, asked, change, polled, left, Behind, Tells, TellsAsk, TellsPoll, TellsLeave}
 use Rattle.msrp_board.specs.declared.held.Claim.{Claim}
 use Rattle.msrp_board.specs.declared.held.Claim.TheVariants.{Nothing, Waits, Holds}
 use Rattle.msrp_plan.specs.FifoLock.{Answers, IsAmong, IsFirst}
@@ -41,7 +42,7 @@ steps_more (Ask a) h r q = omega (arith, q)
 steps_more (Poll p) h r q = omega (arith, q)
 steps_more Leave h r q = omega (arith, q)
 
-steps_length : (log : List Event) → asks log + leaves log ≤ length log
+pub steps_length : (log : List Event) → asks log + leaves log ≤ length log
 steps_length [] = omega arith
 steps_length (r ∷ h) = steps_more r.1.call h r (steps_length h)
 
@@ -144,7 +145,7 @@ shared_step views books id c v b d f at_id sole is has sh = (good, one, there)
         kept i u x y n at_i h = set_else views id i w (λ q. n (sole.1 x y (subst (λ (k : View). get_elem? k.pages x ≡ some (Some y)) (some-injective u v (sym at_i ∙ ap (get_elem? views) q ∙ at_id)) h))) ∙ at_i
 
 -- what a word of a history says
-split_word : (n : ℕ) (log : List Event) → IsWord n log → asks log + leaves log ≤ 160000 → (next n ≡ asks log) × (serving n ≡ leaves log)
+pub split_word : (n : ℕ) (log : List Event) → IsWord n log → asks log + leaves log ≤ 160000 → (next n ≡ asks log) × (serving n ≡ leaves log)
 split_word n log is small = (ap next is ∙ div-mul-add (asks log) 4294967296 (leaves log) (omega (arith, small)), ap serving is ∙ mod-mul-add (asks log) 4294967296 (leaves log) (omega (arith, small)))
 
 kept_step : (z : BoardSize) (books : List Page) (c : ℕ) (b : Page) (e : Entry) → InTurn (claim b.newest) e.res.0 e.call → b.admitted ≡ true → Ticks b.tick b.newest → e.tick ≡ b.tick → get_elem? books c ≡ some b → ((d : ℕ) (x : Page) → get_elem? books d ≡ some x → Kept z x)
@@ -157,7 +158,7 @@ kept_step z books c b e ok in_tick fresh now has all d x q = ⊎_elim
 -- the barrier's part, where a book keeps its tick and its reach
 gathered_same : (n c : ℕ) (books : List Page) (b d : Page) (o : Conductor) → get_elem? books c ≡ some b → d.tick ≡ b.tick → d.admitted ≡ b.admitted → d.stopped ≡ b.stopped → Gathered n books o → Gathered n (set books c d) o
 gathered_same n c books b d o has tick adm stop g = (
-      g.0 ∙ (let q = arrivals_set books c b d has in let same : arrivals books ≡ arrivals (set books c d) = omega (arith, q, tick) in ap (λ k. aborted_1 o * 4294967296 + (k + opened_1 o)) same),
+      g.0 ∙ (let q = arrivals_set books c b d has in let same : arrivals books ≡ arrivals (set books c d) = omega (arith, q, tick) in ap (λ k. abort_1 o * 4294967296 + (k + opening_1 o)) same),
       (λ x y h s. let u = was x y h in g.1 x u.0 u.1 (u.4 ∙ s)),
       (λ x y h p. let u = was x y h in let rs = u.3 in let up = g.2 x u.0 u.1 (omega (arith, p, rs)) in (up.0, λ w e j. let v = was w e j in let le = up.1 w v.0 v.1 in let t = v.2 in omega (arith, le, rs, t))),
     )
@@ -251,7 +252,8 @@ before_one h c t g p k is old d = by_cases c d new h (BehindAll now)
     up (Poll a) = (omega arith, omega (arith, is))
     up Leave = (omega arith, omega (arith, is))
 
-all_before : (h : List Event) → PlacedNewest h → (d : ℕ) → BehindAll (asks h + leaves h) (by d h)
+-- every entry stands before the place that is found next
+pub all_before : (h : List Event) → PlacedNewest h → (d : ℕ) → BehindAll (asks h + leaves h) (by d h)
 all_before [] p d = tt
 all_before (r ∷ h) p d = before_one h r.0 r.1.tick r.1.res.0 r.1.place r.1.call p.1 (all_before h p.0) d
 

@@ -9,6 +9,10 @@ pub mod Meeting
 pub mod Conducting
 pub mod Ties
 pub mod Ticks
+pub mod Lists
+pub mod Reversed
+pub mod Unique
+pub mod End
 pub mod Told
 pub mod Seats
 pub mod Parts

@@ -18,7 +18,8 @@ use Rattle.msrp_board.specs.declared.books.Conductor.TheVariants.{Unopened, Open
 use Rattle.msrp_board.specs.Books.{on, reach_of}
 use Rattle.msrp_board.specs.History.{by}
 use Rattle.msrp_board.specs.Newest.{Ticks}
-use Rattle.msrp_board.specs.Rule.{arrivals, reach, HasConductor, aborted_1, opened_1, Gathered, Has, Served, Kept, Tied, Ruled, Sole, change, arrived, TellsArrival, seen_if, looked, TellsLook}
+use Rattle.msrp_board.specs.Boards.{opening_1, abort_1}
+use Rattle.msrp_board.specs.Rule.{arrivals, reach, HasConductor, Gathered, Has, Served, Kept, Tied, Ruled, Sole, change, arrived, TellsArrival, seen_if, looked, TellsLook}
 use Rattle.msrp_board.proofs.Sharing.{at_length, same_shared}
 use Rattle.msrp_board.proofs.Counts.{arrivals_set, total_same}
 use Rattle.msrp_board.proofs.Calls.{shared_step}
@@ -43,7 +44,7 @@ served_same g n c books b d has same s =
       s.6,
     )
 
-reach_high : (b : Page) → b.tick ≤ reach b
+pub reach_high : (b : Page) → b.tick ≤ reach b
 reach_high b = of b.admitted
   where
     of : (a : Bool) → b.tick ≤ reach_of a b.tick
@@ -59,7 +60,7 @@ reach_low b = of b.admitted
 
 gathered_step : (n m c : ℕ) (books : List Page) (b d : Page) (o : Conductor) → get_elem? books c ≡ some b → b.tick ≤ d.tick → (d.stopped ≡ true → o ≡ Aborted)
     → (0 < reach d → (o ≡ Opened) × ((x : ℕ) (e : Page) → get_elem? books x ≡ some e → reach d ≤ suc e.tick))
-    → m ≡ aborted_1 o * 4294967296 + (arrivals (set books c d) + opened_1 o) → Gathered n books o → Gathered m (set books c d) o
+    → m ≡ abort_1 o * 4294967296 + (arrivals (set books c d) + opening_1 o) → Gathered n books o → Gathered m (set books c d) o
 gathered_step n m c books b d o has up stop may word g = (
       word,
       (λ x y h s. ⊎_elim
@@ -97,7 +98,7 @@ meets z s id m c v b d f r at_id sole is same kept gat =
       (r.5.0, r.5.1, length-set s.words z.resources m ∙ r.5.2),
     )
 
-arrivals_bound : (books : List Page) (m : ℕ) → ((c : ℕ) (b : Page) → get_elem? books c ≡ some b → b.tick ≤ m) → arrivals books ≤ length books * m
+pub arrivals_bound : (books : List Page) (m : ℕ) → ((c : ℕ) (b : Page) → get_elem? books c ≡ some b → b.tick ≤ m) → arrivals books ≤ length books * m
 arrivals_bound [] m h = omega arith
 arrivals_bound (x ∷ xs) m h = let a = h 0 x refl in let q = arrivals_bound xs m (λ c b e. h (suc c) b e) in omega (arith, a, q)
 
@@ -121,8 +122,8 @@ arrive_allowed z slots id me c b sole in_tick s r _ at_id fits =
     let k = r.4.2 c b has in
     let g = r.4.3 in
     let open_now = g.2 c b has (omega (arith, rs)) in
-    let one = ap opened_1 open_now.0 in
-    let none_aborted = ap aborted_1 open_now.0 in
+    let one = ap opening_1 open_now.0 in
+    let none_aborted = ap abort_1 open_now.0 in
     let few = few_arrivals z s r in
     let more = arrivals_set books c b d has in
     let full = k.2 in
@@ -161,30 +162,30 @@ at_list [] d b e = absurd (some-ne-none b (sym e))
 at_list (x ∷ xs) zero b e = ap (λ (y : Page). some y.tick) (some-injective x b e)
 at_list (x ∷ xs) (suc d) b e = at_list xs d b e
 
-bit : (o : Conductor) → opened_1 o ≤ 1
+bit : (o : Conductor) → opening_1 o ≤ 1
 bit Unopened = omega arith
 bit Opened = omega arith
 bit Aborted = omega arith
 
-is_open : (o : Conductor) → opened_1 o ≡ 1 → o ≡ Opened
+is_open : (o : Conductor) → opening_1 o ≡ 1 → o ≡ Opened
 is_open Unopened e = absurd (omega (arith, e))
 is_open Opened e = refl
 is_open Aborted e = absurd (omega (arith, e))
 
-is_aborted : (o : Conductor) → 0 < aborted_1 o → o ≡ Aborted
+is_aborted : (o : Conductor) → 0 < abort_1 o → o ≡ Aborted
 is_aborted Unopened e = absurd (omega (arith, e))
 is_aborted Opened e = absurd (omega (arith, e))
 is_aborted Aborted e = refl
 
 -- enough arrivals let a core into its tick
-let_in : (books : List Page) (n t : ℕ) (o : Conductor) → Gathered n books o → 1 + length books * t ≤ arrivals books + opened_1 o → (o ≡ Opened) × ((x : ℕ) (e : Page) → get_elem? books x ≡ some e → t ≤ e.tick)
+let_in : (books : List Page) (n t : ℕ) (o : Conductor) → Gathered n books o → 1 + length books * t ≤ arrivals books + opening_1 o → (o ≡ Opened) × ((x : ℕ) (e : Page) → get_elem? books x ≡ some e → t ≤ e.tick)
 let_in books n t o g enough =
     let len = list_length books in
     let sum = list_total books in
     let mul : length (ticks_list books) * t ≡ length books * t = ap (λ k. k * t) len in
-    let a = admits (ticks_list books) (opened_1 o) t (bit o)
+    let a = admits (ticks_list books) (opening_1 o) t (bit o)
         (λ d x at pos. let u = list_at books d x at in let eq = u.2 in let high = reach_high u.0 in let up = g.2 d u.0 u.1 (omega (arith, eq, high, pos)) in
-            (ap opened_1 up.0, λ f y j. let v = list_at books f y j in let vq = v.2 in step_le u.0 v.0 x y eq vq high (up.1 f v.0 v.1)))
+            (ap opening_1 up.0, λ f y j. let v = list_at books f y j in let vq = v.2 in step_le u.0 v.0 x y eq vq high (up.1 f v.0 v.1)))
         (omega (arith, enough, sum, mul)) in
     (is_open o a.0, λ x e at. a.1 x e.tick (at_list books x e at))
   where
@@ -198,7 +199,7 @@ looks z s id n c v b f r true q at_id sole out room is word stop let_go =
     let has : get_elem? r.0 c ≡ some b = r.2.0 id c b (v, at_id, sole.0) in
     let d : Page = record { newest = b.newest; tick = b.tick; admitted = b.admitted; stopped = true } in
     let same = arrivals_set r.0 c b d has in let eq : arrivals r.0 ≡ arrivals (set r.0 c d) = omega (arith, same) in
-    meets z s id n c v b d f r at_id sole is refl (r.4.2 c b has) (gathered_step n n c r.0 b d r.1 has (omega arith) (λ _. stop refl) (r.4.3.2 c b has) (word ∙ r.4.3.0 ∙ ap (λ k. aborted_1 r.1 * 4294967296 + (k + opened_1 r.1)) eq) (subst (λ k. Gathered k r.0 r.1) (sym word) r.4.3))
+    meets z s id n c v b d f r at_id sole is refl (r.4.2 c b has) (gathered_step n n c r.0 b d r.1 has (omega arith) (λ _. stop refl) (r.4.3.2 c b has) (word ∙ r.4.3.0 ∙ ap (λ k. abort_1 r.1 * 4294967296 + (k + opening_1 r.1)) eq) (subst (λ k. Gathered k r.0 r.1) (sym word) r.4.3))
 looks z s id n c v b f r false true at_id sole out room is word stop let_go =
     let has : get_elem? r.0 c ≡ some b = r.2.0 id c b (v, at_id, sole.0) in
     let d : Page = record { newest = b.newest; tick = b.tick; admitted = true; stopped = b.stopped } in
@@ -207,11 +208,11 @@ looks z s id n c v b f r false true at_id sole out room is word stop let_go =
     let l = reach_low b in
     let go = let_go refl in
     meets z s id n c v b d f r at_id sole is refl (k.0, ticks_more (reach b) (suc b.tick) b.newest k.1 l, omega (arith, room))
-        (gathered_step n n c r.0 b d r.1 has (omega arith) (r.4.3.1 c b has) (λ _. (go.0, λ x e h. let t = go.1 x e h in omega (arith, t))) (word ∙ r.4.3.0 ∙ ap (λ k. aborted_1 r.1 * 4294967296 + (k + opened_1 r.1)) eq) (subst (λ k. Gathered k r.0 r.1) (sym word) r.4.3))
+        (gathered_step n n c r.0 b d r.1 has (omega arith) (r.4.3.1 c b has) (λ _. (go.0, λ x e h. let t = go.1 x e h in omega (arith, t))) (word ∙ r.4.3.0 ∙ ap (λ k. abort_1 r.1 * 4294967296 + (k + opening_1 r.1)) eq) (subst (λ k. Gathered k r.0 r.1) (sym word) r.4.3))
 looks z s id n c v b f r false false at_id sole out room is word stop let_go =
     let has : get_elem? r.0 c ≡ some b = r.2.0 id c b (v, at_id, sole.0) in
     let same = arrivals_set r.0 c b b has in let eq : arrivals r.0 ≡ arrivals (set r.0 c b) = omega (arith, same) in
-    meets z s id n c v b b f r at_id sole is refl (r.4.2 c b has) (gathered_step n n c r.0 b b r.1 has (omega arith) (r.4.3.1 c b has) (r.4.3.2 c b has) (word ∙ r.4.3.0 ∙ ap (λ k. aborted_1 r.1 * 4294967296 + (k + opened_1 r.1)) eq) (subst (λ k. Gathered k r.0 r.1) (sym word) r.4.3))
+    meets z s id n c v b b f r at_id sole is refl (r.4.2 c b has) (gathered_step n n c r.0 b b r.1 has (omega arith) (r.4.3.1 c b has) (r.4.3.2 c b has) (word ∙ r.4.3.0 ∙ ap (λ k. abort_1 r.1 * 4294967296 + (k + opening_1 r.1)) eq) (subst (λ k. Gathered k r.0 r.1) (sym word) r.4.3))
 
 lt_says : (a b : ℕ) → ltb a b ≡ true → a < b
 lt_says a b e = ltb-true a b e
@@ -224,9 +225,9 @@ look_allowed z slots id me c b sole out room s r _ at_id fits =
     let n = slice_index s.words z.resources in
     let few = few_arrivals z s r in
     let o_bit = bit r.1 in
-    let low : arrivals r.0 + opened_1 r.1 < 4294967296 = omega (arith, few, o_bit) in
-    let high_is : n / 4294967296 ≡ aborted_1 r.1 = ap (λ k. k / 4294967296) r.4.3.0 ∙ div-mul-add (aborted_1 r.1) 4294967296 (arrivals r.0 + opened_1 r.1) low in
-    let low_is : n % 4294967296 ≡ arrivals r.0 + opened_1 r.1 = ap (λ k. k % 4294967296) r.4.3.0 ∙ mod-mul-add (aborted_1 r.1) 4294967296 (arrivals r.0 + opened_1 r.1) low in
+    let low : arrivals r.0 + opening_1 r.1 < 4294967296 = omega (arith, few, o_bit) in
+    let high_is : n / 4294967296 ≡ abort_1 r.1 = ap (λ k. k / 4294967296) r.4.3.0 ∙ div-mul-add (abort_1 r.1) 4294967296 (arrivals r.0 + opening_1 r.1) low in
+    let low_is : n % 4294967296 ≡ arrivals r.0 + opening_1 r.1 = ap (λ k. k % 4294967296) r.4.3.0 ∙ mod-mul-add (abort_1 r.1) 4294967296 (arrivals r.0 + opening_1 r.1) low in
     let len : length r.0 * b.tick ≡ z.cores * b.tick = ap (λ k. k * b.tick) r.4.0 in
     (change (looked z.cores n) me.0, keeps, tt,
         looks z s id n c me.0 b (looked z.cores n) r (ltb 0 (n / 4294967296)) (leb (1 + z.cores * b.tick) (n % 4294967296)) at_id sole out room refl refl

@@ -4,7 +4,6 @@ use Rattle.std.specs.Prelude.{slice_index_or}
 use Rattle.std.specs.List.{filter, AllByRecursion}
 use Rattle.std.specs.Option.{option_map}
 use Rattle.std.specs.declared.option.Option.{Option}
-use Rattle.std.proofs.lemmas.List.Elements.{filter-append}
 use mathlib.Core.Option.{some, some-injective, some-ne-none}
 use lib.ListN.{get_elem?}
 use Rattle.atomic_table.specs.Table.{Me}
@@ -33,7 +32,8 @@ use Rattle.msrp_board.specs.Newest.{claim, claim_after, turn_of, BehindAll}
 use Rattle.msrp_board.specs.Rule.{seen_if, looked, AtStart, empty, first_view, Has, Sole, Ready, acted, noted, change, next, serving, asked, polled, left, Behind}
 use Rattle.msrp_board.specs.Held.{look_if, look_of, told, phase_of, res_of, seen_as, state_of, Tie, Low, IsBelow, IsSeat}
 use Rattle.msrp_board.proofs.Start.{low_first}
-use Rattle.msrp_board.proofs.Told.{reverse_cons, lock_told, acted_told, page_of, book_of, sole_of}
+use Rattle.msrp_board.proofs.Lists.{reverse_cons, all_reversed, filter_reversed}
+use Rattle.msrp_board.proofs.Told.{lock_told, acted_told, page_of, book_of, sole_of}
 
 -- ---- what a caller's condition says of the page
 
@@ -120,22 +120,6 @@ change_seen board v f h same = ap (λ (l : List (Option Book)). seat l) (map_tol
 
 pub entry_seen : (board : BoardModel) (v : View) (g p : ℕ) (k : Call) → seen_as board (change (noted g p k) v) ≡ with_entry (record { 0 = g }) p k (seen_as board v)
 entry_seen board v g p k = change_seen board v (noted g p k) (entered (record { 0 = g }) p k) (noted_told g p k)
-
-all_last : {X : Type 0} (P : X → Type 0) (xs : List X) (x : X) → AllByRecursion P xs → P x → AllByRecursion P (xs ++ x ∷ [])
-all_last P [] x h p = (p, tt)
-all_last P (y ∷ ys) x h p = (h.0, all_last P ys x h.1 p)
-
-pub all_reversed : {X : Type 0} (P : X → Type 0) (xs : List X) → AllByRecursion P xs → AllByRecursion P (reverse xs)
-all_reversed P [] h = tt
-all_reversed P (x ∷ xs) h = subst (AllByRecursion P) (sym (reverse_cons x xs)) (all_last P (reverse xs) x (all_reversed P xs h.1) h.0)
-
-last_kept : {X : Type 0} (x : X) (b : Bool) (l : List X) → reverse l ++ cond b (x ∷ []) [] ≡ reverse (cond b (x ∷ l) l)
-last_kept x true l = sym (reverse_cons x l)
-last_kept x false l = append-nil (reverse l)
-
-pub filter_reversed : {X : Type 0} (p : X → Bool) (xs : List X) → filter p (reverse xs) ≡ reverse (filter p xs)
-filter_reversed p [] = refl
-filter_reversed p (x ∷ xs) = ap (filter p) (reverse_cons x xs) ∙ filter-append p (reverse xs) (x ∷ []) ∙ ap (λ l. l ++ cond (p x) (x ∷ []) []) (filter_reversed p xs) ∙ last_kept x (p x) (filter p xs)
 
 -- a place that stands behind the pages' entries stands behind the books'
 pub behind_seen : (board : BoardModel) (v : View) (g p : ℕ) → Behind v g p → IsBehind g p (seen_as board v)

@@ -4,7 +4,6 @@ use Rattle.std.specs.Prelude.{slice_index_or}
 use Rattle.std.specs.List.{list_any}
 use Rattle.std.specs.Option.{option_map, is_some}
 use Rattle.std.specs.declared.option.Option.{Option}
-use Rattle.std.proofs.lemmas.List.{reverse-append}
 use Rattle.std.proofs.lemmas.List.Folds.{list_any-append}
 use mathlib.Core.Option.{some, some-injective}
 use lib.ListN.{get_elem?}
@@ -23,14 +22,8 @@ use Rattle.msrp_board.specs.Boards.{BoardModel, SeatModel, book_at, IsCoreSeat}
 use Rattle.msrp_board.specs.Newest.{claim, claim_after}
 use Rattle.msrp_board.specs.Rule.{Has, Sole, acted}
 use Rattle.msrp_board.specs.Held.{told, phase_of, page_at, seen_as, state_of, state_at, Tie, Low, Shows}
+use Rattle.msrp_board.proofs.Lists.{reverse_cons, fold_last}
 use Rattle.msrp_board.proofs.Ties.{has_page, page_has, get_or_at, page_or_none}
-
-pub reverse_cons : {X : Type 0} (x : X) (xs : List X) → reverse (x ∷ xs) ≡ reverse xs ++ x ∷ []
-reverse_cons x xs = reverse-append (x ∷ []) xs
-
-fold_last : {A B : Type 0} (f : B → A → B) (a : B) (xs : List A) (x : A) → fold f a (xs ++ x ∷ []) ≡ f (fold f a xs) x
-fold_last f a [] x = refl
-fold_last f a (y ∷ ys) x = fold_last f (f a y) ys x
 
 -- one call more: what a core claims is what it holds or awaits
 after_call : (l : Claim) (g : ℕ) (p : ℕ) (k : Call) → phase_after (phase_of l) (record { 0 = g }) k ≡ phase_of (claim_after l g p k)
@@ -40,10 +33,11 @@ after_call l g p (Poll true) = refl
 after_call l g p (Poll false) = refl
 after_call l g p Leave = refl
 
-abbrev held_after : List Entry → Phase
+abbrev pub held_after : List Entry → Phase
 held_after es = fold (λ phase e. phase_after phase e.res e.call) Free es
 
-lock_newest : (es : List Entry) → held_after (reverse es) ≡ phase_of (claim es)
+-- what a core holds or awaits after the entries that it keeps the newest first
+pub lock_newest : (es : List Entry) → held_after (reverse es) ≡ phase_of (claim es)
 lock_newest [] = refl
 lock_newest (e ∷ es) = ap held_after (reverse_cons e es) ∙ fold_last (λ phase e. phase_after phase e.res e.call) Free (reverse es) e
     ∙ ap (λ phase. phase_after phase e.res e.call) (lock_newest es) ∙ after_call (claim es) e.res.0 e.place e.call
@@ -65,7 +59,7 @@ pub acted_told : (b : Page) → has_acted (told b) ≡ acted b
 acted_told b = any_newest (λ e. e.tick == b.tick) b.newest
 
 -- a book that a seat shows is that of one of its pages
-shown : (pages : List (Option Page)) (c : ℕ) → slice_index_or (map (option_map told) pages) c None ≡ option_map told (page_at pages c)
+pub shown : (pages : List (Option Page)) (c : ℕ) → slice_index_or (map (option_map told) pages) c None ≡ option_map told (page_at pages c)
 shown [] c = refl
 shown (x ∷ xs) zero = refl
 shown (x ∷ xs) (suc c) = shown xs c

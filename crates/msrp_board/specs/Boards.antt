@@ -178,7 +178,7 @@ pub record IsTied (s : SettledModel) : Type 0 where
   -- the ticket word of each resource counts its requests, high, and its releases, low, and its one history is that of
   -- a first-in-first-out lock
   pub served : (g : ℕ) → g < s.size.resources → (h : List Event) × IsServed (high (slice_index s.tickets g)) (low (slice_index s.tickets g)) g (entries_at s.books) h
-  pub kept : (c : ℕ) (b : Book) → slice_get s.books c ≡ Some b → IsKept s.size.ticks b
+  pub kept : (c : ℕ) (b : Book) → slice_get s.books c ≡ Some b → IsKept s.size b
   -- the barrier word counts the arrivals and the opening, low, and the abort, high
   pub arrivals : low s.barrier ≡ sum_by (λ b. b.tick) s.books + opening_1 s.conductor
   pub abort : high s.barrier ≡ abort_1 s.conductor

@@ -8,6 +8,7 @@ use Rattle.msrp_plan.specs.declared.units.Phase.{Phase}
 use Rattle.msrp_plan.specs.declared.units.Phase.TheVariants.{Free, Queued, Holding}
 use Rattle.msrp_board.specs.declared.books.Entry.{Entry}
 use Rattle.msrp_board.specs.declared.books.Book.{Book}
+use Rattle.msrp_board.specs.declared.books.BoardSize.{BoardSize}
 use Rattle.msrp_board.specs.declared.answers.SeatPhase.{SeatPhase}
 use Rattle.msrp_board.specs.declared.answers.SeatPhase.TheVariants.{Waiting, Admitted, Done, Stopped}
 
@@ -74,15 +75,15 @@ abbrev pub IsChain : {X : Type 0} → (X → X → Type 0) → List X → Type 0
 IsChain R [] = ⊤
 IsChain R (x ∷ xs) = ToNext R x xs × IsChain R xs
 
--- what every book keeps on a board of so many ticks
-pub record IsKept (ticks : ℕ) (b : Book) : Type 0 where
+-- what every book keeps on a board of this size
+pub record IsKept (size : BoardSize) (b : Book) : Type 0 where
   -- the core is in no tick past the last
-  pub within : reach b ≤ ticks
+  pub within : reach b ≤ size.ticks
   -- no entry is of a tick to which the core was not admitted
   pub past : AllByRecursion (λ e. e.tick < reach b) b.entries
   -- at most one entry a tick
   pub one_a_tick : IsChain (λ e f. e.tick < f.tick) b.entries
   -- places of one resource never fall, and rise after a request or a release
-  pub places : (g : ℕ) → IsChain (λ e f. IsBefore e.call e.place f.place) (on g b.entries)
+  pub places : (g : ℕ) → g < size.resources → IsChain (λ e f. IsBefore e.call e.place f.place) (on g b.entries)
   -- the core holds or awaits at most one resource
   pub orderly : IsOrderly Free b.entries

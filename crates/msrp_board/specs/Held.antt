@@ -1,6 +1,7 @@
 -- How what a seat keeps at run time stands to what it knows, and how what it knows is told to callers.
-use Rattle.std.specs.Prelude.{◌≡◌, ℕ, zero, suc, ◌<◌, List, [], ◌∷◌, map, Some, None, reverse, Bool, true, false, ltb, leb, ◌+◌, ◌*◌, slice_index_or, ⊤}
-use Rattle.std.specs.Option.{option_map}
+use Rattle.std.specs.Prelude.{◌≡◌, ℕ, zero, suc, ◌<◌, List, [], ◌∷◌, map, take, slice_index, Some, None, reverse, Bool, true, false, ltb, leb, ◌+◌, ◌*◌, slice_index_or, ⊤}
+use Rattle.std.specs.List.{filter_map}
+use Rattle.std.specs.Option.{option_map, unwrap_or}
 use Rattle.std.specs.declared.option.Option.{Option}
 use mathlib.Core.Option.{some}
 use lib.ListN.{get_elem?}
@@ -13,15 +14,16 @@ use Rattle.msrp_board.specs.declared.answers.Look.TheVariants.{Wait, Go, Stopped
 use Rattle.msrp_board.specs.declared.books.Book.{Book}
 use Rattle.msrp_board.specs.declared.books.BoardSize.{BoardSize}
 use Rattle.msrp_board.specs.declared.books.Conductor.{Conductor}
+use Rattle.msrp_board.specs.declared.books.Conductor.TheVariants.{Unopened}
 use Rattle.msrp_board.specs.declared.pages.Page.{Page}
 use Rattle.msrp_board.specs.declared.pages.View.{View}
 use Rattle.msrp_board.specs.declared.held.CoreState.{CoreState}
 use Rattle.msrp_board.specs.declared.held.Claim.{Claim}
 use Rattle.msrp_board.specs.declared.held.Claim.TheVariants.{Nothing, Waits, Holds}
-use Rattle.msrp_board.specs.Boards.{IsSize, BoardModel, SeatModel}
+use Rattle.msrp_board.specs.Boards.{IsSize, BoardModel, SeatModel, SettledModel}
 use Rattle.msrp_board.specs.Books.{lock_of, has_acted}
 use Rattle.msrp_board.specs.Newest.{claim}
-use Rattle.msrp_board.specs.Rule.{Has, acted, next, serving}
+use Rattle.msrp_board.specs.Rule.{Has, Tied, acted, next, serving}
 
 -- what a seat keeps of a core at run time
 abbrev pub state_of : Page → CoreState
@@ -100,3 +102,19 @@ pub record IsBoard (z key : BoardSize) (table : TableId) : Type 0 where
   pub words : table.words ≡ z.resources + 1
   pub no_slot : table.slots ≡ 0
   pub limits : IsSize z.cores z.resources z.ticks
+
+-- the size, the words and the last seat of a board that nobody uses any more, as callers see them
+abbrev pub settled_as : BoardSize → List ℕ → SeatModel → SettledModel
+settled_as z words seat = record {
+    size = z;
+    tickets = take z.resources words;
+    barrier = slice_index words z.resources;
+    books = filter_map (λ book. book) seat.books;
+    conductor = unwrap_or seat.conductor Unopened
+  }
+
+-- the seat knows all these pages, and the rule holds of them
+abbrev pub Whole : BoardSize → List ℕ → View → Type 0
+Whole z words v =
+    (books : List Page) × ((c : ℕ) (b : Page) → Has v c b → get_elem? books c ≡ some b)
+    × ((c : ℕ) (b : Page) → get_elem? books c ≡ some b → Has v c b) × ((o : Conductor) × (v.conductor ≡ Some o) × Tied z words books o)

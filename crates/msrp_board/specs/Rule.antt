@@ -15,7 +15,7 @@ use Rattle.msrp_board.specs.declared.books.BoardSize.{BoardSize}
 use Rattle.msrp_board.specs.declared.held.Claim.{Claim}
 use Rattle.msrp_board.specs.declared.pages.Page.{Page}
 use Rattle.msrp_board.specs.declared.pages.View.{View}
-use Rattle.msrp_board.specs.Boards.{only_at, none_at, either, together}
+use Rattle.msrp_board.specs.Boards.{opening_1, abort_1, only_at, none_at, either, together}
 use Rattle.msrp_board.specs.Books.{on, reach_of}
 use Rattle.msrp_board.specs.History.{Event, by}
 use Rattle.msrp_board.specs.Newest.{asks, leaves, LegalNewest, PlacedNewest, Orderly, claim, turn_of, BehindAll, Ticks, RisingNewest, TidyNewest}
@@ -63,19 +63,11 @@ abbrev pub arrivals : List Page → ℕ
 arrivals [] = 0
 arrivals (b ∷ bs) = b.tick + arrivals bs
 
-abbrev pub opened_1 : Conductor → ℕ
-opened_1 Unopened = 0
-opened_1 Opened = 1
-opened_1 Aborted = 0
-
-abbrev pub aborted_1 : Conductor → ℕ
-aborted_1 Unopened = 0
-aborted_1 Opened = 0
-aborted_1 Aborted = 1
-
+-- the barrier word counts the arrivals and the opening in its low half, and the abort in its high half; a core was told
+-- of an abort that was made; and whoever is or was admitted to a tick met all who left the ticks below
 abbrev pub Gathered : ℕ → List Page → Conductor → Type 0
 Gathered word books o =
-    (word ≡ aborted_1 o * 4294967296 + (arrivals books + opened_1 o))
+    (word ≡ abort_1 o * 4294967296 + (arrivals books + opening_1 o))
     × ((c : ℕ) (b : Page) → get_elem? books c ≡ some b → b.stopped ≡ true → o ≡ Aborted)
     × ((c : ℕ) (b : Page) → get_elem? books c ≡ some b → 0 < reach b → (o ≡ Opened) × ((d : ℕ) (e : Page) → get_elem? books d ≡ some e → reach b ≤ suc e.tick))
 
