@@ -1,5 +1,5 @@
 -- Each step keeps the rule.
-use Rattle.std.proofs.Common.{◌==◌, ◌||◌, eqb, eq-eqb, ne_eqb, ◌≡◌, ◌≢◌, ◌⊎◌, inl, inr, ⊎_elim, ℕ, zero, suc, ◌+◌, ◌*◌, ◌/◌, ◌%◌, ◌^◌, ◌-◌, ◌<◌, ◌≤◌, List, [], ◌∷◌, ◌++◌, length, map, set, Some, None, Bool, true, false, true≢false, refl, sym, ap, ◌∙◌, subst, arith}
+use Rattle.std.proofs.Common.{◌==◌, ◌||◌, eq-eqb, ne_eqb, ◌≡◌, ◌≢◌, ◌⊎◌, inl, inr, ⊎_elim, ℕ, zero, suc, ◌+◌, ◌*◌, ◌%◌, ◌^◌, ◌-◌, ◌<◌, ◌≤◌, List, [], ◌∷◌, length, map, set, Some, None, Bool, true, false, true≢false, refl, sym, ap, ◌∙◌, subst, arith}
 use Rattle.std.specs.Prelude.{slice_index}
 use Rattle.std.specs.Option.{option_map}
 use Rattle.std.specs.declared.option.Option.{Option}
@@ -10,7 +10,7 @@ use Rattle.std.specs.List.{list_any}
 use lib.ListN.{get_elem?}
 use Rattle.std.proofs.lemmas.Nat.{mul-le, mod-mul-add, div-mul-add}
 use Rattle.std.proofs.lemmas.List.{length-set, get_or-set_same, get_or-set_other}
-use Rattle.atomic_table.specs.Table.{State, Me, Step, step, Act, keeps, stepped, Allows}
+use Rattle.atomic_table.specs.Table.{State, Me, step, keeps, stepped, Allows}
 use Rattle.atomic_table.proofs.Lists.{at_set, set_here, set_else}
 use Rattle.msrp_plan.specs.declared.units.Call.{Call}
 use Rattle.msrp_plan.specs.declared.units.Call.TheVariants.{Ask, Poll, Leave}
@@ -20,14 +20,14 @@ use Rattle.msrp_board.specs.declared.pages.View.{View}
 use Rattle.msrp_board.specs.declared.books.BoardSize.{BoardSize}
 use Rattle.msrp_board.specs.Books.{on, IsBefore, reach_of}
 use Rattle.msrp_board.specs.History.{Event, by}
-use Rattle.msrp_board.specs.Newest.{lock, asks, leaves, asks_after, leaves_after, queue, granted, LegalNewest, PlacedNewest, turn_of, claim_after, claim, InTurn, Orderly, BehindAll, Ticks, NoneLater, RisingNewest}
+use Rattle.msrp_board.specs.Newest.{lock, asks, leaves, asks_after, leaves_after, queue, granted, PlacedNewest, turn_of, claim, InTurn, Orderly, BehindAll, Ticks, NoneLater}
 use Rattle.msrp_board.specs.Boards.{opening_1, abort_1}
-use Rattle.msrp_board.specs.Rule.{acted, push, arrivals, reach, HasConductor, SharedConductor, Gathered, Has, Owns, Shared, IsHist, IsWord, total, Served, Kept, Tied, Small, Ruled, Sole, Ready, next, serving, asked, change, polled, left, Behind, Tells, TellsAsk, TellsPoll, TellsLeave}
+use Rattle.msrp_board.specs.Rule.{acted, push, arrivals, reach, HasConductor, Gathered, Has, Owns, Shared, IsWord, Served, Kept, Ruled, Sole, next, serving, asked, change, polled, left, Behind, TellsAsk, TellsPoll, TellsLeave}
 use Rattle.msrp_board.specs.declared.held.Claim.{Claim}
 use Rattle.msrp_board.specs.declared.held.Claim.TheVariants.{Nothing, Waits, Holds}
 use Rattle.msrp_plan.specs.FifoLock.{Answers, IsAmong, IsFirst}
 use Rattle.msrp_board.proofs.Queue.{at_first, among, not_among, not_first, Coupled, coupled, turn, held, by_same, by_other, by_cases}
-use Rattle.msrp_board.proofs.Counts.{at, pick, claim_on, on_same, on_other, total_more, total_bound, total_same, ticks_length, arrivals_set}
+use Rattle.msrp_board.proofs.Counts.{at, pick, claim_on, on_same, on_other, total_more, total_bound, ticks_length, arrivals_set}
 use Rattle.msrp_board.proofs.Sharing.{same_shared}
 use Rattle.msrp_board.proofs.Sorted.{insert, inserted}
 use Rattle.msrp_board.specs.declared.books.Conductor.{Conductor}
@@ -109,32 +109,37 @@ shared_step views books id c v b d f at_id sole is has sh = (good, one, there)
   where
     w : View
     w = change f v
+
     mine : (i x : ℕ) (y : Page) → Owns (set views id w) i x y → ((i ≡ id) × (x ≡ c) × (y ≡ d)) ⊎ ((i ≢ id) × Owns views i x y)
     mine i x y o = ⊎_elim
         (λ (t : (i ≡ id) × (w ≡ o.0)).
-            let u = each_some f v.pages x y (subst (λ (k : View). get_elem? k.pages x ≡ some (Some y)) (sym t.1) o.2) in
-            let same : x ≡ c = sole.1 x u.0 u.1 in
-            let got : get_elem? v.pages c ≡ some (Some u.0) = subst (λ k. get_elem? v.pages k ≡ some (Some u.0)) same u.1 in
-            let eq : u.0 ≡ b = some_book u.0 b (sym got ∙ sole.0) in
-            inl (t.0, same, sym u.2 ∙ ap f eq ∙ is))
+        let u = each_some f v.pages x y (subst (λ (k : View). get_elem? k.pages x ≡ some (Some y)) (sym t.1) o.2) in
+        let same : x ≡ c = sole.1 x u.0 u.1 in
+        let got : get_elem? v.pages c ≡ some (Some u.0) = subst (λ k. get_elem? v.pages k ≡ some (Some u.0)) same u.1 in
+        let eq : u.0 ≡ b = some_book u.0 b (sym got ∙ sole.0) in
+        inl (t.0, same, sym u.2 ∙ ap f eq ∙ is))
         (λ (t : (i ≢ id) × (get_elem? views i ≡ some o.0)). inr (t.0, (o.0, t.1, o.2)))
         (at_set views id i w o.0 o.1)
       where
         some_book : (x y : Page) → some (Some x) ≡ some (Some y) → x ≡ y
         some_book x y e = cc
+
     -- no other seat has a book of c
     apart : (i : ℕ) (y : Page) → i ≢ id → Owns views i c y → ⊥
     apart i y n o = n (sh.1 i id c y b o (v, at_id, sole.0))
+
     good : (i x : ℕ) (y : Page) → Owns (set views id w) i x y → get_elem? (set books c d) x ≡ some y
     good i x y o = ⊎_elim
         (λ t. subst (λ k. get_elem? (set books c d) k ≡ some y) (sym t.1) (set_here books c d (at_length books c b has) ∙ ap some (sym t.2)))
         (λ t. set_else books c x d (λ k. apart i y t.0 (subst (λ j. Owns views i j y) k t.1)) ∙ sh.0 i x y t.1)
         (mine i x y o)
+
     one : (i j x : ℕ) (y z : Page) → Owns (set views id w) i x y → Owns (set views id w) j x z → i ≡ j
     one i j x y z o p = ⊎_elim
         (λ t. ⊎_elim (λ u. t.0 ∙ sym u.0) (λ u. absurd (apart j z u.0 (subst (λ k. Owns views j k z) t.1 u.1))) (mine j x z p))
         (λ t. ⊎_elim (λ u. absurd (apart i y t.0 (subst (λ k. Owns views i k y) u.1 t.1))) (λ u. sh.1 i j x y z t.1 u.1) (mine j x z p))
         (mine i x y o)
+
     there : (x : ℕ) (y : Page) → get_elem? (set books c d) x ≡ some y → (i : ℕ) × Owns (set views id w) i x y
     there x y e = ⊎_elim
         (λ (t : (x ≡ c) × (d ≡ y)). (id, (w, set_here views id w (at_length views id v at_id), subst (λ k. get_elem? w.pages k ≡ some (Some y)) (sym t.0) (each_at f v.pages c b sole.0 ∙ ap (λ k. some (Some k)) (is ∙ t.1)))))
@@ -158,10 +163,10 @@ kept_step z books c b e ok in_tick fresh now has all d x q = ⊎_elim
 -- the barrier's part, where a book keeps its tick and its reach
 gathered_same : (n c : ℕ) (books : List Page) (b d : Page) (o : Conductor) → get_elem? books c ≡ some b → d.tick ≡ b.tick → d.admitted ≡ b.admitted → d.stopped ≡ b.stopped → Gathered n books o → Gathered n (set books c d) o
 gathered_same n c books b d o has tick adm stop g = (
-      g.0 ∙ (let q = arrivals_set books c b d has in let same : arrivals books ≡ arrivals (set books c d) = omega (arith, q, tick) in ap (λ k. abort_1 o * 4294967296 + (k + opening_1 o)) same),
-      (λ x y h s. let u = was x y h in g.1 x u.0 u.1 (u.4 ∙ s)),
-      (λ x y h p. let u = was x y h in let rs = u.3 in let up = g.2 x u.0 u.1 (omega (arith, p, rs)) in (up.0, λ w e j. let v = was w e j in let le = up.1 w v.0 v.1 in let t = v.2 in omega (arith, le, rs, t))),
-    )
+  g.0 ∙ (let q = arrivals_set books c b d has in let same : arrivals books ≡ arrivals (set books c d) = omega (arith, q, tick) in ap (λ k. abort_1 o * 4294967296 + (k + opening_1 o)) same),
+  (λ x y h s. let u = was x y h in g.1 x u.0 u.1 (u.4 ∙ s)),
+  (λ x y h p. let u = was x y h in let rs = u.3 in let up = g.2 x u.0 u.1 (omega (arith, p, rs)) in (up.0, λ w e j. let v = was w e j in let le = up.1 w v.0 v.1 in let t = v.2 in omega (arith, le, rs, t))),
+)
   where
     -- the book as it was: its place, tick, admission and stop
     was : (x : ℕ) (y : Page) → get_elem? (set books c d) x ≡ some y → (u : Page) × (get_elem? books x ≡ some u) × (y.tick ≡ u.tick) × (reach y ≡ reach u) × (u.stopped ≡ y.stopped)
@@ -199,6 +204,7 @@ none_later z g n c books b o w has all gat s = from_by b.tick s.0 (λ d. each d 
         there [] i h = absurd (omega (arith, h))
         there (y ∷ ys) zero h = (y, refl)
         there (y ∷ ys) (suc i) h = there ys i (omega (arith, h))
+
         bounded : (x : Page) (d : ℕ) → get_elem? books d ≡ some x → (r : ℕ) → reach x ≡ r → EachUpTo b.tick (on g x.newest)
         bounded x d at zero is = ticks_on b.tick (reach x) g x.newest (all d x at).1 (omega (arith, is))
         bounded x d at (suc r) is = ticks_on b.tick (reach x) g x.newest (all d x at).1 ((gat.2 d x at (omega (arith, is))).1 c b has)
@@ -220,7 +226,7 @@ acts z s id g m c v b e f r at_id in_g sole in_tick fresh is res now ok fits =
         length-set books c (push e b) ∙ tied.0,
         (λ h in_h. dite (ℕ_discrete h g)
             (λ q. let sv = tied.1 g in_g in let x = fits sv in subst (λ k. Served k (slice_index (set s.words g m) k) (set books c (push e b))) (sym q)
-                (subst (λ k. Served g k (set books c (push e b))) (sym (get_or-set_same s.words g m 0 (let l = r.5.2 in omega (arith, l, in_g)))) (served_more g (slice_index s.words g) m c books b e has res sv x.0 x.1 x.2 (subst (λ t. NoneLater t sv.0) (sym now) (none_later z g (slice_index s.words g) c books b r.1 (slice_index s.words z.resources) has tied.2 tied.3 sv)))))
+            (subst (λ k. Served g k (set books c (push e b))) (sym (get_or-set_same s.words g m 0 (let l = r.5.2 in omega (arith, l, in_g)))) (served_more g (slice_index s.words g) m c books b e has res sv x.0 x.1 x.2 (subst (λ t. NoneLater t sv.0) (sym now) (none_later z g (slice_index s.words g) c books b r.1 (slice_index s.words z.resources) has tied.2 tied.3 sv)))))
             (λ n. subst (λ k. Served h k (set books c (push e b))) (sym (get_or-set_other s.words g h m 0 n)) (served_else h (slice_index s.words h) c books b e has (λ q. n (sym q ∙ res)) (tied.1 h in_h)))),
         kept_step z books c b e ok in_tick fresh now has tied.2,
         subst (λ k. Gathered k (set books c (push e b)) r.1) (sym (get_or-set_other s.words g z.resources m 0 (λ q. omega (arith, q, in_g)))) (gathered_same (slice_index s.words z.resources) c books b (push e b) r.1 has refl refl refl tied.3),
@@ -245,8 +251,10 @@ before_one h c t g p k is old d = by_cases c d new h (BehindAll now)
   where
     new : Entry
     new = record { tick = t; res = record { 0 = g }; place = p; call = k }
+
     now : ℕ
     now = asks_after (asks h) k + leaves_after (leaves h) k
+
     up : (j : Call) → (asks h + leaves h ≤ asks_after (asks h) j + leaves_after (leaves h) j) × IsBefore j p (asks_after (asks h) j + leaves_after (leaves h) j)
     up (Ask a) = (omega arith, omega (arith, is))
     up (Poll a) = (omega arith, omega (arith, is))
@@ -268,16 +276,17 @@ pub record Found (z : BoardSize) (s : State (Unit {0}) View) (id g c : ℕ) (b :
 
 found : (z : BoardSize) (s : State (Unit {0}) View) (id g c : ℕ) (v : View) (b : Page) (r : Ruled z s) (sv : Served g (slice_index s.words g) r.0) → get_elem? s.views id ≡ some v → Sole v c b → b.admitted ≡ true → Ticks b.tick b.newest → Found z s id g c b r sv
 found z s id g c v b r sv at_id sole in_tick fresh = record {
-    next_is = parts.0;
-    serving_is = parts.1;
-    queue_of = coupled sv.0 sv.2 sv.1.2;
-    small = less;
-    stands = stand g (slice_index s.words g) c r.0 b has (r.4.2 c b has).0 sv;
-    before = subst (BehindAll (asks sv.0 + leaves sv.0)) (sv.1.0 c b has) (all_before sv.0 sv.1.2 c)
-  }
+  next_is = parts.0;
+  serving_is = parts.1;
+  queue_of = coupled sv.0 sv.2 sv.1.2;
+  small = less;
+  stands = stand g (slice_index s.words g) c r.0 b has (r.4.2 c b has).0 sv;
+  before = subst (BehindAll (asks sv.0 + leaves sv.0)) (sv.1.0 c b has) (all_before sv.0 sv.1.2 c);
+}
   where
     has : get_elem? r.0 c ≡ some b
     has = r.2.0 id c b (v, at_id, sole.0)
+
     -- with one more entry the books are still small
     less : asks sv.0 + leaves sv.0 < 160000
     less = let new : Entry = record { tick = 0; res = record { 0 = 0 }; place = 0; call = Leave } in
@@ -289,6 +298,7 @@ found z s id g c v b r sv at_id sole in_tick fresh = record {
         let n = length-set r.0 c (push new b) in
         let y = mul-le (length (set r.0 c (push new b))) z.ticks 8 20000 (let x = r.5.0 in let w = r.4.0 in omega (arith, n, x, w)) r.5.1 in
         let l = steps_length sv.0 in let o = sv.4 in omega (arith, t, m, y, l, o)
+
     parts : (next (slice_index s.words g) ≡ asks sv.0) × (serving (slice_index s.words g) ≡ leaves sv.0)
     parts = split_word (slice_index s.words g) sv.0 sv.3 (omega (arith, less))
 
@@ -299,7 +309,7 @@ tells z s id g c v b r sv sole k =
       omega (arith, n, m, q),
       omega (arith, n, m, l),
       λ d x h. subst (λ p. BehindAll p (on g x.newest)) (let sum : asks sv.0 + leaves sv.0 ≡ next (slice_index s.words g) + serving (slice_index s.words g) = omega (arith, n, m) in sum)
-          (subst (λ (y : Page). BehindAll (asks sv.0 + leaves sv.0) (on g y.newest)) (same x d h) k.before)
+          (subst (λ (y : Page). BehindAll (asks sv.0 + leaves sv.0) (on g y.newest)) (same x d h) k.before),
     )
   where
     same : (x : Page) (d : ℕ) → Has v d x → b ≡ x
@@ -326,10 +336,10 @@ asks_allowed z slots id me g c b in_g sole room quiet free s r _ at_id fits =
         × (¬ IsAmong (queue sv.0) c × (next (slice_index s.words g) - serving (slice_index s.words g) ≡ length (queue sv.0)))
         × ((slice_index s.words g + 4294967296) % 2 ^ 64 ≡ suc (asks sv.0) * 4294967296 + leaves sv.0)
     step_ok sv k = let a = k.next_is in let d = k.serving_is in let q = k.queue_of.counted in let l = k.small in let w = sv.3 in (
-        omega (arith, a, d),
-        (not_among (queue sv.0) c out, omega (arith, a, d, q)),
-        omega (arith, w, l),
-      )
+      omega (arith, a, d),
+      (not_among (queue sv.0) c out, omega (arith, a, d, q)),
+      omega (arith, w, l),
+    )
       where
         out : (i : ℕ) → get_elem? (queue sv.0) i ≡ some c → ⊥
         out i e = some-ne-none (2 * (leaves sv.0 + i)) (sym (k.queue_of.turns c i e) ∙ ap turn (k.stands ∙ ap (at g) free))
@@ -360,15 +370,16 @@ polls_allowed z slots id me g c t b in_g sole room quiet waits s r _ at_id fits 
         × Answers (lock sv.0) c (Poll (2 * serving (slice_index s.words g) == turn_of (claim b.newest)))
         × (slice_index s.words g ≡ asks sv.0 * 4294967296 + leaves sv.0)
     step_ok sv k = let a = k.next_is in let d = k.serving_is in (
-        omega (arith, a, d),
-        poll_answers (queue sv.0) (granted sv.0) c (2 * serving (slice_index s.words g)) (turn_of (claim b.newest))
-            (λ e. let i = where_is.0 in let first = subst (λ j. get_elem? (queue sv.0) j ≡ some c) (let w = where_is.2 in let u = ap turn_of waits in let zero_is : i ≡ 0 = omega (arith, w, u, e, d) in zero_is) where_is.1 in (first, not_held sv.0 c g t k.queue_of mine first (granted sv.0) refl))
-            (λ ne. ((where_is.0, where_is.1), λ first. ne (ap turn_of waits ∙ some-injective t (2 * (leaves sv.0 + 0)) (sym (ap turn mine) ∙ k.queue_of.turns c 0 first) ∙ omega (arith, d)))),
-        sv.3,
-      )
+      omega (arith, a, d),
+      poll_answers (queue sv.0) (granted sv.0) c (2 * serving (slice_index s.words g)) (turn_of (claim b.newest))
+          (λ e. let i = where_is.0 in let first = subst (λ j. get_elem? (queue sv.0) j ≡ some c) (let w = where_is.2 in let u = ap turn_of waits in let zero_is : i ≡ 0 = omega (arith, w, u, e, d) in zero_is) where_is.1 in (first, not_held sv.0 c g t k.queue_of mine first (granted sv.0) refl))
+          (λ ne. ((where_is.0, where_is.1), λ first. ne (ap turn_of waits ∙ some-injective t (2 * (leaves sv.0 + 0)) (sym (ap turn mine) ∙ k.queue_of.turns c 0 first) ∙ omega (arith, d)))),
+      sv.3,
+    )
       where
         mine : claim (by c sv.0) ≡ Waits g t
         mine = at_own (claim (by c sv.0)) g (claim b.newest) k.stands (inl (t, waits)) ∙ waits
+
         where_is : (i : ℕ) × (get_elem? (queue sv.0) i ≡ some c) × (t ≡ 2 * (leaves sv.0 + i))
         where_is = k.queue_of.stands c t (ap turn mine)
 

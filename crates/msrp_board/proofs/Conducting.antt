@@ -1,19 +1,16 @@
 -- The conductor's steps keep the rule.
-use Rattle.std.proofs.Common.{◌≡◌, ◌≢◌, ◌⊎◌, inl, inr, ⊎_elim, ℕ, zero, suc, ◌+◌, ◌*◌, ◌%◌, ◌^◌, ◌<◌, ◌≤◌, List, [], ◌∷◌, length, set, Some, true, refl, sym, ap, ◌∙◌, subst, arith}
+use Rattle.std.proofs.Common.{◌≡◌, ◌≢◌, ⊎_elim, ℕ, ◌+◌, ◌%◌, ◌^◌, List, [], set, Some, refl, sym, ap, ◌∙◌, subst, arith}
 use Rattle.std.specs.Prelude.{slice_index}
-use mathlib.Core.Option.{some, none, some-injective, some-ne-none}
-use mathlib.Core.Logic.{dite}
-use native.Mathlib.Decide.{ℕ_discrete}
+use mathlib.Core.Option.{some, none}
 use lib.ListN.{get_elem?}
 use Rattle.std.proofs.lemmas.List.{length-set, get_or-set_same, get_or-set_other}
 use Rattle.atomic_table.specs.Table.{State, Me, step, keeps, stepped, Allows}
-use Rattle.atomic_table.proofs.Lists.{at_set, set_here, set_else}
-use Rattle.msrp_board.specs.declared.pages.Page.{Page}
+use Rattle.atomic_table.proofs.Lists.{at_set, set_here}
 use Rattle.msrp_board.specs.declared.pages.View.{View}
 use Rattle.msrp_board.specs.declared.books.BoardSize.{BoardSize}
 use Rattle.msrp_board.specs.declared.books.Conductor.{Conductor}
 use Rattle.msrp_board.specs.declared.books.Conductor.TheVariants.{Unopened, Opened, Aborted}
-use Rattle.msrp_board.specs.Rule.{OwnsBy, SharedConductor, HasConductor, Has, Gathered, Served, Ruled, conducted, reach, TellsOpening, TellsAbort}
+use Rattle.msrp_board.specs.Rule.{OwnsBy, SharedConductor, HasConductor, Has, Gathered, Served, Ruled, conducted, TellsOpening, TellsAbort}
 use Rattle.msrp_board.proofs.Sharing.{at_length, same_shared}
 use Rattle.msrp_board.proofs.Meeting.{few_arrivals}
 
@@ -22,13 +19,14 @@ some_of x y e = cc
 
 conductor_shared : (views : List View) (id : ℕ) (v : View) (o w : Conductor) → get_elem? views id ≡ some v → v.conductor ≡ Some o → SharedConductor views o → SharedConductor (set views id (conducted w v)) w
 conductor_shared views id v o w at_id mine sh = (
-      (λ i k x p. ⊎_elim (λ (t : (i ≡ id) × (conducted w v ≡ p.0)). (p.2.0, some_of w x (ap (λ (y : View). y.conductor) t.1 ∙ p.2.1))) (λ (t : (i ≢ id) × (get_elem? views i ≡ some p.0)). absurd (t.0 (whose i k x p t.1))) (at_set views id i (conducted w v) p.0 p.1)),
-      (λ i j k x y p q. at i k x p ∙ sym (at j k y q)),
-      (λ k x t. (id, (conducted w v, set_here views id (conducted w v) (at_length views id v at_id), (t.0, ap Some t.1)))),
-    )
+  (λ i k x p. ⊎_elim (λ (t : (i ≡ id) × (conducted w v ≡ p.0)). (p.2.0, some_of w x (ap (λ (y : View). y.conductor) t.1 ∙ p.2.1))) (λ (t : (i ≢ id) × (get_elem? views i ≡ some p.0)). absurd (t.0 (whose i k x p t.1))) (at_set views id i (conducted w v) p.0 p.1)),
+  (λ i j k x y p q. at i k x p ∙ sym (at j k y q)),
+  (λ k x t. (id, (conducted w v, set_here views id (conducted w v) (at_length views id v at_id), (t.0, ap Some t.1)))),
+)
   where
     whose : (i k : ℕ) (x : Conductor) → (p : OwnsBy HasConductor (set views id (conducted w v)) i k x) → get_elem? views i ≡ some p.0 → i ≡ id
     whose i k x p e = sh.1 i id k x o (p.0, e, p.2) (v, at_id, (p.2.0, mine))
+
     at : (i k : ℕ) (x : Conductor) → OwnsBy HasConductor (set views id (conducted w v)) i k x → i ≡ id
     at i k x p = ⊎_elim (λ (t : (i ≡ id) × (conducted w v ≡ p.0)). t.0) (λ (t : (i ≢ id) × (get_elem? views i ≡ some p.0)). whose i k x p t.1) (at_set views id i (conducted w v) p.0 p.1)
 
@@ -59,15 +57,25 @@ open_allowed z slots id me mine s r _ at_id fits =
     let n = slice_index s.words z.resources in
     let is : r.1 ≡ Unopened = (r.3.0 id 0 Unopened (me.0, at_id, (refl, mine))).1 in
     let g : Gathered n r.0 Unopened = subst (Gathered n r.0) is r.4.3 in
-    let few = few_arrivals z s r in let w = g.0 in
-    (conducted Opened me.0, keeps, tt, conducts z s id ((n + 1) % 2 ^ 64) me.0 Unopened Opened r at_id mine
-        (omega (arith, few, w), (λ c b e h. absurd (not_aborted (g.1 c b e h))), (λ c b e h. absurd (not_opened (g.2 c b e h).0))), refl)
+    let few = few_arrivals z s r in let w = g.0 in (
+      conducted Opened me.0,
+      keeps,
+      tt,
+      conducts z s id ((n + 1) % 2 ^ 64) me.0 Unopened Opened r at_id mine
+          (omega (arith, few, w), (λ c b e h. absurd (not_aborted (g.1 c b e h))), (λ c b e h. absurd (not_opened (g.2 c b e h).0))),
+      refl,
+    )
 
 pub abort_allowed : (z : BoardSize) (slots id : ℕ) (me : Me (Unit {0}) View) → me.0.conductor ≡ Some Unopened → Allows (Ruled z) slots id me z.resources (λ n. (n + 4294967296) % 2 ^ 64) (TellsAbort (step slots z.resources 4294967296 0 none) me)
 abort_allowed z slots id me mine s r _ at_id fits =
     let n = slice_index s.words z.resources in
     let is : r.1 ≡ Unopened = (r.3.0 id 0 Unopened (me.0, at_id, (refl, mine))).1 in
     let g : Gathered n r.0 Unopened = subst (Gathered n r.0) is r.4.3 in
-    let few = few_arrivals z s r in let w = g.0 in
-    (conducted Aborted me.0, keeps, tt, conducts z s id ((n + 4294967296) % 2 ^ 64) me.0 Unopened Aborted r at_id mine
-        (omega (arith, few, w), (λ c b e h. refl), (λ c b e h. absurd (not_opened (g.2 c b e h).0))), refl)
+    let few = few_arrivals z s r in let w = g.0 in (
+      conducted Aborted me.0,
+      keeps,
+      tt,
+      conducts z s id ((n + 4294967296) % 2 ^ 64) me.0 Unopened Aborted r at_id mine
+          (omega (arith, few, w), (λ c b e h. refl), (λ c b e h. absurd (not_opened (g.2 c b e h).0))),
+      refl,
+    )

@@ -1,9 +1,9 @@
 -- The rule at the end of a board, as callers see it.
-use Rattle.std.proofs.Common.{◌≡◌, ◌≢◌, ◌⊎◌, ⊎_elim, inl, inr, ℕ, zero, suc, ◌+◌, ◌*◌, ◌/◌, ◌%◌, ◌<◌, ◌≤◌, List, [], ◌∷◌, length, map, set, get_or, take, reverse, Some, None, Bool, true, false, true≢false, refl, sym, ap, ◌∙◌, subst, arith}
-use Rattle.std.specs.Prelude.{slice_index, slice_index_or, slice_get, sum_by, filter_map, IsSome}
+use Rattle.std.proofs.Common.{◌≡◌, ◌⊎◌, ⊎_elim, inl, inr, ℕ, zero, suc, ◌+◌, ◌<◌, ◌≤◌, List, [], ◌∷◌, length, map, set, take, reverse, Some, None, Bool, true, false, true≢false, refl, sym, ap, ◌∙◌, subst, arith}
+use Rattle.std.specs.Prelude.{slice_index, slice_index_or, slice_get, sum_by, filter_map}
 use Rattle.std.specs.Option.{option_map, unwrap_or, is_some}
 use Rattle.std.specs.declared.option.Option.{Option}
-use mathlib.Core.Option.{some, none, some-injective, some-ne-none}
+use mathlib.Core.Option.{some, some-injective, some-ne-none}
 use mathlib.Core.Logic.{dite}
 use native.Mathlib.Decide.{ℕ_discrete}
 use lib.ListN.{get_elem?}
@@ -20,9 +20,8 @@ use Rattle.msrp_board.specs.declared.books.Entry.{Entry}
 use Rattle.msrp_board.specs.declared.pages.Page.{Page}
 use Rattle.msrp_board.specs.declared.pages.View.{View}
 use Rattle.msrp_board.specs.Books.{on, IsKept, reach as book_reach}
-use Rattle.msrp_board.specs.History.{Event, by, IsHistory, IsServed}
-use Rattle.msrp_board.specs.Boards.{BoardModel, SeatModel, SettledModel, book_at, HasAll, IsSize, IsTied, high, low, entries_at, empty_book, opening_1, abort_1}
-use Rattle.msrp_board.specs.Newest.{asks, leaves}
+use Rattle.msrp_board.specs.History.{Event, by, IsServed}
+use Rattle.msrp_board.specs.Boards.{BoardModel, SeatModel, SettledModel, book_at, HasAll, IsSize, IsTied, high, low, entries_at, opening_1, abort_1}
 use Rattle.msrp_board.specs.Rule.{empty, Has, Ruled, Served, Kept, Tied, Gathered, reach, arrivals, total}
 use Rattle.msrp_board.specs.Held.{told, seen_as, page_at, settled_as, Whole}
 use Rattle.msrp_board.proofs.Sharing.{at_length}
@@ -196,6 +195,7 @@ tied_with z words board v pages o limits many books opened tied =
   where
     settled : List Book → Conductor → SettledModel
     settled l x = record { size = z; tickets = take z.resources words; barrier = slice_index words z.resources; books = l; conductor = x }
+
     all : IsTied (settled (map told pages) o)
     all =
         let few = few_steps z pages tied.0 limits.1 limits.4 tied.2 in
@@ -244,6 +244,7 @@ not_stopped s c b tied opened e = by_flag b.stopped refl
   where
     clash : Opened ≡ Aborted → ⊥
     clash q = cc
+
     by_flag : (x : Bool) → b.stopped ≡ x → x ≡ false
     by_flag false q = refl
     by_flag true q = absurd (clash (sym opened ∙ tied.told c b e q))

@@ -13,6 +13,7 @@ pub mod Lists
 pub mod Reversed
 pub mod Unique
 pub mod End
+pub mod CoreSeats
 pub mod Told
 pub mod Seats
 pub mod Parts

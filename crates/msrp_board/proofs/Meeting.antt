@@ -1,13 +1,11 @@
 -- Steps on the barrier word keep the rule.
-use Rattle.std.proofs.Common.{Some, eqb, ltb, leb, tests, ltb-false, ltb-true, leb-false, leb-true, ◌≡◌, ◌≢◌, ◌⊎◌, inl, inr, ⊎_elim, ℕ, zero, suc, ◌+◌, ◌*◌, ◌/◌, ◌%◌, ◌^◌, ◌<◌, ◌≤◌, List, [], ◌∷◌, length, map, set, Bool, true, false, true≢false, refl, sym, ap, ◌∙◌, subst, arith}
+use Rattle.std.proofs.Common.{Some, ltb, leb, ltb-true, leb-true, ◌≡◌, ◌≢◌, ⊎_elim, ℕ, zero, suc, ◌+◌, ◌*◌, ◌/◌, ◌%◌, ◌^◌, ◌<◌, ◌≤◌, List, [], ◌∷◌, length, set, Bool, true, false, refl, sym, ap, ◌∙◌, subst, arith}
 use Rattle.std.specs.Prelude.{slice_index}
 use mathlib.Core.Option.{some, none, some-injective, some-ne-none}
-use mathlib.Core.Logic.{dite}
-use native.Mathlib.Decide.{ℕ_discrete}
 use lib.ListN.{get_elem?}
 use Rattle.std.proofs.lemmas.Nat.{mul-le, mod-mul-add, div-mul-add}
 use Rattle.std.proofs.lemmas.List.{length-set, get_or-set_same, get_or-set_other}
-use Rattle.atomic_table.specs.Table.{State, Me, Step, step, Act, keeps, stepped, Allows}
+use Rattle.atomic_table.specs.Table.{State, Me, step, keeps, stepped, Allows}
 use Rattle.atomic_table.proofs.Lists.{at_set}
 use Rattle.msrp_board.specs.declared.books.Entry.{Entry}
 use Rattle.msrp_board.specs.declared.pages.Page.{Page}
@@ -19,11 +17,11 @@ use Rattle.msrp_board.specs.Books.{on, reach_of}
 use Rattle.msrp_board.specs.History.{by}
 use Rattle.msrp_board.specs.Newest.{Ticks}
 use Rattle.msrp_board.specs.Boards.{opening_1, abort_1}
-use Rattle.msrp_board.specs.Rule.{arrivals, reach, HasConductor, Gathered, Has, Served, Kept, Tied, Ruled, Sole, change, arrived, TellsArrival, seen_if, looked, TellsLook}
-use Rattle.msrp_board.proofs.Sharing.{at_length, same_shared}
+use Rattle.msrp_board.specs.Rule.{arrivals, reach, HasConductor, Gathered, Has, Served, Kept, Ruled, Sole, change, arrived, TellsArrival, seen_if, looked, TellsLook}
+use Rattle.msrp_board.proofs.Sharing.{same_shared}
 use Rattle.msrp_board.proofs.Counts.{arrivals_set, total_same}
 use Rattle.msrp_board.proofs.Calls.{shared_step}
-use Rattle.msrp_board.proofs.Barrier.{total_of, Met, admits}
+use Rattle.msrp_board.proofs.Barrier.{total_of, admits}
 
 served_same : (g n c : ℕ) (books : List Page) (b d : Page) → get_elem? books c ≡ some b → d.newest ≡ b.newest → Served g n books → Served g n (set books c d)
 served_same g n c books b d has same s =
@@ -62,16 +60,16 @@ gathered_step : (n m c : ℕ) (books : List Page) (b d : Page) (o : Conductor) �
     → (0 < reach d → (o ≡ Opened) × ((x : ℕ) (e : Page) → get_elem? books x ≡ some e → reach d ≤ suc e.tick))
     → m ≡ abort_1 o * 4294967296 + (arrivals (set books c d) + opening_1 o) → Gathered n books o → Gathered m (set books c d) o
 gathered_step n m c books b d o has up stop may word g = (
-      word,
-      (λ x y h s. ⊎_elim
-          (λ (t : (x ≡ c) × (d ≡ y)). stop (ap (λ (k : Page). k.stopped) t.1 ∙ s))
-          (λ (t : (x ≢ c) × (get_elem? books x ≡ some y)). g.1 x y t.1 s)
-          (at_set books c x d y h)),
-      (λ x y h p. ⊎_elim
-          (λ (t : (x ≡ c) × (d ≡ y)). let rs = ap reach t.1 in let k = may (omega (arith, p, rs)) in (k.0, λ w e j. all (reach y) (λ z f at. let l = k.1 z f at in omega (arith, l, rs)) (let l = reach_low d in omega (arith, l, rs)) w e j))
-          (λ (t : (x ≢ c) × (get_elem? books x ≡ some y)). let k = g.2 x y t.1 p in (k.0, all (reach y) k.1 (let l = k.1 c b has in omega (arith, l, up))))
-          (at_set books c x d y h)),
-    )
+  word,
+  (λ x y h s. ⊎_elim
+      (λ (t : (x ≡ c) × (d ≡ y)). stop (ap (λ (k : Page). k.stopped) t.1 ∙ s))
+      (λ (t : (x ≢ c) × (get_elem? books x ≡ some y)). g.1 x y t.1 s)
+      (at_set books c x d y h)),
+  (λ x y h p. ⊎_elim
+      (λ (t : (x ≡ c) × (d ≡ y)). let rs = ap reach t.1 in let k = may (omega (arith, p, rs)) in (k.0, λ w e j. all (reach y) (λ z f at. let l = k.1 z f at in omega (arith, l, rs)) (let l = reach_low d in omega (arith, l, rs)) w e j))
+      (λ (t : (x ≢ c) × (get_elem? books x ≡ some y)). let k = g.2 x y t.1 p in (k.0, all (reach y) k.1 (let l = k.1 c b has in omega (arith, l, up))))
+      (at_set books c x d y h)),
+)
   where
     all : (r : ℕ) → ((z : ℕ) (f : Page) → get_elem? books z ≡ some f → r ≤ suc f.tick) → r ≤ suc d.tick → (w : ℕ) (e : Page) → get_elem? (set books c d) w ≡ some e → r ≤ suc e.tick
     all r old mine w e j = ⊎_elim
@@ -126,12 +124,18 @@ arrive_allowed z slots id me c b sole in_tick s r _ at_id fits =
     let none_aborted = ap abort_1 open_now.0 in
     let few = few_arrivals z s r in
     let more = arrivals_set books c b d has in
-    let full = k.2 in
-    (change arrived me.0, keeps, tt,
-        meets z s id m c me.0 b d arrived r at_id sole refl refl (k.0, subst (λ x. Ticks x b.newest) rs k.1, omega (arith, full, rs))
-            (gathered_step n m c books b d r.1 has (omega arith) (g.1 c b has) (λ _. (open_now.0, λ x e h. let l = open_now.1 x e h in omega (arith, l, rs))) (let w = g.0 in omega (arith, w, one, none_aborted, few, more)) g),
-        (refl, λ x e h. let same = sole_page me.0 c b e x sole h in
-            (subst (λ (p : Page). Ticks (suc p.tick) p.newest) same (subst (λ j. Ticks j b.newest) rs k.1), let q = ap (λ (p : Page). p.tick) same in let limit = r.5.1 in omega (arith, q, full, rs, limit))))
+    let full = k.2 in (
+      change arrived me.0,
+      keeps,
+      tt,
+      meets z s id m c me.0 b d arrived r at_id sole refl refl (k.0, subst (λ x. Ticks x b.newest) rs k.1, omega (arith, full, rs))
+          (gathered_step n m c books b d r.1 has (omega arith) (g.1 c b has) (λ _. (open_now.0, λ x e h. let l = open_now.1 x e h in omega (arith, l, rs))) (let w = g.0 in omega (arith, w, one, none_aborted, few, more)) g),
+      (
+        refl,
+        λ x e h. let same = sole_page me.0 c b e x sole h in
+            (subst (λ (p : Page). Ticks (suc p.tick) p.newest) same (subst (λ j. Ticks j b.newest) rs k.1), let q = ap (λ (p : Page). p.tick) same in let limit = r.5.1 in omega (arith, q, full, rs, limit)),
+      ),
+    )
 
 ticks_more : (r q : ℕ) (es : List Entry) → Ticks r es → r ≤ q → Ticks q es
 ticks_more r q [] k le = tt
@@ -184,9 +188,9 @@ let_in books n t o g enough =
     let sum = list_total books in
     let mul : length (ticks_list books) * t ≡ length books * t = ap (λ k. k * t) len in
     let a = admits (ticks_list books) (opening_1 o) t (bit o)
-        (λ d x at pos. let u = list_at books d x at in let eq = u.2 in let high = reach_high u.0 in let up = g.2 d u.0 u.1 (omega (arith, eq, high, pos)) in
-            (ap opening_1 up.0, λ f y j. let v = list_at books f y j in let vq = v.2 in step_le u.0 v.0 x y eq vq high (up.1 f v.0 v.1)))
-        (omega (arith, enough, sum, mul)) in
+    (λ d x at pos. let u = list_at books d x at in let eq = u.2 in let high = reach_high u.0 in let up = g.2 d u.0 u.1 (omega (arith, eq, high, pos)) in
+    (ap opening_1 up.0, λ f y j. let v = list_at books f y j in let vq = v.2 in step_le u.0 v.0 x y eq vq high (up.1 f v.0 v.1)))
+    (omega (arith, enough, sum, mul)) in
     (is_open o a.0, λ x e at. a.1 x e.tick (at_list books x e at))
   where
     step_le : (p q : Page) (x y : ℕ) → p.tick ≡ x → q.tick ≡ y → p.tick ≤ reach p → reach p ≤ suc q.tick → x ≤ suc y
@@ -208,7 +212,7 @@ looks z s id n c v b f r false true at_id sole out room is word stop let_go =
     let l = reach_low b in
     let go = let_go refl in
     meets z s id n c v b d f r at_id sole is refl (k.0, ticks_more (reach b) (suc b.tick) b.newest k.1 l, omega (arith, room))
-        (gathered_step n n c r.0 b d r.1 has (omega arith) (r.4.3.1 c b has) (λ _. (go.0, λ x e h. let t = go.1 x e h in omega (arith, t))) (word ∙ r.4.3.0 ∙ ap (λ k. abort_1 r.1 * 4294967296 + (k + opening_1 r.1)) eq) (subst (λ k. Gathered k r.0 r.1) (sym word) r.4.3))
+    (gathered_step n n c r.0 b d r.1 has (omega arith) (r.4.3.1 c b has) (λ _. (go.0, λ x e h. let t = go.1 x e h in omega (arith, t))) (word ∙ r.4.3.0 ∙ ap (λ k. abort_1 r.1 * 4294967296 + (k + opening_1 r.1)) eq) (subst (λ k. Gathered k r.0 r.1) (sym word) r.4.3))
 looks z s id n c v b f r false false at_id sole out room is word stop let_go =
     let has : get_elem? r.0 c ≡ some b = r.2.0 id c b (v, at_id, sole.0) in
     let same = arrivals_set r.0 c b b has in let eq : arrivals r.0 ≡ arrivals (set r.0 c b) = omega (arith, same) in
@@ -228,12 +232,15 @@ look_allowed z slots id me c b sole out room s r _ at_id fits =
     let low : arrivals r.0 + opening_1 r.1 < 4294967296 = omega (arith, few, o_bit) in
     let high_is : n / 4294967296 ≡ abort_1 r.1 = ap (λ k. k / 4294967296) r.4.3.0 ∙ div-mul-add (abort_1 r.1) 4294967296 (arrivals r.0 + opening_1 r.1) low in
     let low_is : n % 4294967296 ≡ arrivals r.0 + opening_1 r.1 = ap (λ k. k % 4294967296) r.4.3.0 ∙ mod-mul-add (abort_1 r.1) 4294967296 (arrivals r.0 + opening_1 r.1) low in
-    let len : length r.0 * b.tick ≡ z.cores * b.tick = ap (λ k. k * b.tick) r.4.0 in
-    (change (looked z.cores n) me.0, keeps, tt,
-        looks z s id n c me.0 b (looked z.cores n) r (ltb 0 (n / 4294967296)) (leb (1 + z.cores * b.tick) (n % 4294967296)) at_id sole out room refl refl
-            (λ e. is_aborted r.1 (let h = lt_says 0 (n / 4294967296) e in omega (arith, h, high_is)))
-            (λ e. let_in r.0 n b.tick r.1 r.4.3 (let h = le_says (1 + z.cores * b.tick) (n % 4294967296) e in omega (arith, h, low_is, len))),
-        (refl, λ x e h high. at_start e x (r.2.0 id x e (me.0, at_id, h)) (is_aborted r.1 (let l = lt_says 0 (n / 4294967296) high in omega (arith, l, high_is)))))
+    let len : length r.0 * b.tick ≡ z.cores * b.tick = ap (λ k. k * b.tick) r.4.0 in (
+      change (looked z.cores n) me.0,
+      keeps,
+      tt,
+      looks z s id n c me.0 b (looked z.cores n) r (ltb 0 (n / 4294967296)) (leb (1 + z.cores * b.tick) (n % 4294967296)) at_id sole out room refl refl
+          (λ e. is_aborted r.1 (let h = lt_says 0 (n / 4294967296) e in omega (arith, h, high_is)))
+          (λ e. let_in r.0 n b.tick r.1 r.4.3 (let h = le_says (1 + z.cores * b.tick) (n % 4294967296) e in omega (arith, h, low_is, len))),
+      (refl, λ x e h high. at_start e x (r.2.0 id x e (me.0, at_id, h)) (is_aborted r.1 (let l = lt_says 0 (n / 4294967296) high in omega (arith, l, high_is)))),
+    )
   where
     -- after an abort nobody is or was admitted
     at_start : (e : Page) (x : ℕ) → get_elem? r.0 x ≡ some e → r.1 ≡ Aborted → e.tick ≡ 0

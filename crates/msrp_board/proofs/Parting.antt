@@ -1,9 +1,9 @@
 -- A view cut in two, and two views joined.
-use Rattle.std.proofs.Common.{◌≡◌, ◌≢◌, ◌⊎◌, inl, inr, ⊎_elim, ℕ, zero, suc, List, [], ◌∷◌, ◌++◌, length, set, Some, None, refl, sym, ap, ◌∙◌, subst, arith}
+use Rattle.std.proofs.Common.{◌≡◌, ◌≢◌, ◌⊎◌, inl, inr, ⊎_elim, ℕ, zero, suc, List, [], ◌∷◌, Some, None, refl, sym, ap, ◌∙◌, arith}
 use Rattle.std.specs.declared.option.Option.{Option}
-use mathlib.Core.Option.{some, none, some-injective, some-ne-none}
+use mathlib.Core.Option.{some, some-injective, some-ne-none}
 use lib.ListN.{get_elem?}
-use Rattle.atomic_table.specs.Table.{State, Splits, Joins}
+use Rattle.atomic_table.specs.Table.{Splits, Joins}
 use Rattle.msrp_board.specs.declared.pages.Page.{Page}
 use Rattle.msrp_board.specs.declared.pages.View.{View}
 use Rattle.msrp_board.specs.declared.books.BoardSize.{BoardSize}
@@ -91,28 +91,28 @@ no_desk o e = cc
 
 pub splits : (z : BoardSize) (id c : ℕ) (v : View) → Splits (Ruled z) id v (view_alone c v) (view_without c v)
 splits z id c v s r at_id = (
-      r.0,
-      r.1,
-      split_shared Has s.views (λ k b. get_elem? r.0 k ≡ some b) id v (view_alone c v) (view_without c v) at_id
-          (λ k b h. (of_only c v.pages k b h).0) (λ k b h. (of_none c v.pages k b h).0)
-          (λ k b d h g. (of_none c v.pages k d g).1 (of_only c v.pages k b h).1)
-          (λ k b h. either_part c v.pages k b h) r.2,
-      split_shared HasConductor s.views (λ k x. (k ≡ 0) × (r.1 ≡ x)) id v (view_alone c v) (view_without c v) at_id
-          (λ k b h. absurd (no_desk b h.1)) (λ k b h. h) (λ k b d h g. no_desk b h.1) (λ k b h. inr h) r.3,
-      r.4,
-      r.5,
-    )
+  r.0,
+  r.1,
+  split_shared Has s.views (λ k b. get_elem? r.0 k ≡ some b) id v (view_alone c v) (view_without c v) at_id
+      (λ k b h. (of_only c v.pages k b h).0) (λ k b h. (of_none c v.pages k b h).0)
+      (λ k b d h g. (of_none c v.pages k d g).1 (of_only c v.pages k b h).1)
+      (λ k b h. either_part c v.pages k b h) r.2,
+  split_shared HasConductor s.views (λ k x. (k ≡ 0) × (r.1 ≡ x)) id v (view_alone c v) (view_without c v) at_id
+      (λ k b h. absurd (no_desk b h.1)) (λ k b h. h) (λ k b d h g. no_desk b h.1) (λ k b h. inr h) r.3,
+  r.4,
+  r.5,
+)
 
 pub joins : (z : BoardSize) (id : ℕ) (v : View) (other : ℕ) (w : View) → Joins (Ruled z) id v other w (view_both v w) spent
 joins z id v other w s r at_id apart at_other = (
-      r.0,
-      r.1,
-      join_shared Has s.views (λ k b. get_elem? r.0 k ≡ some b) id other v w (view_both v w) spent at_id apart at_other
-          (λ k b h. of_together v.pages w.pages k b h) (λ k b h. to_left v.pages w.pages k b h)
-          (λ k b h n. to_right v.pages w.pages k b h n) (λ k b h. none_in k b h) r.2,
-      join_shared HasConductor s.views (λ k x. (k ≡ 0) × (r.1 ≡ x)) id other v w (view_both v w) spent at_id apart at_other
-          (λ k b h. ⊎_elim (λ x. inl (h.0, x)) (λ x. inr (h.0, x)) (desk_of v.conductor w.conductor b h.1)) (λ k b h. (h.0, desk_left v.conductor w.conductor b h.1))
-          (λ k b h n. (h.0, desk_right v.conductor w.conductor b h.1 (λ d x. n d (h.0, x)))) (λ k b h. no_desk b h.1) r.3,
-      r.4,
-      r.5,
-    )
+  r.0,
+  r.1,
+  join_shared Has s.views (λ k b. get_elem? r.0 k ≡ some b) id other v w (view_both v w) spent at_id apart at_other
+      (λ k b h. of_together v.pages w.pages k b h) (λ k b h. to_left v.pages w.pages k b h)
+      (λ k b h n. to_right v.pages w.pages k b h n) (λ k b h. none_in k b h) r.2,
+  join_shared HasConductor s.views (λ k x. (k ≡ 0) × (r.1 ≡ x)) id other v w (view_both v w) spent at_id apart at_other
+      (λ k b h. ⊎_elim (λ x. inl (h.0, x)) (λ x. inr (h.0, x)) (desk_of v.conductor w.conductor b h.1)) (λ k b h. (h.0, desk_left v.conductor w.conductor b h.1))
+      (λ k b h n. (h.0, desk_right v.conductor w.conductor b h.1 (λ d x. n d (h.0, x)))) (λ k b h. no_desk b h.1) r.3,
+  r.4,
+  r.5,
+)

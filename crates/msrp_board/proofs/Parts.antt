@@ -1,10 +1,10 @@
 -- What a seat keeps of its cores, and what callers see, where a seat is parted and where two are joined.
-use Rattle.std.proofs.Common.{◌==◌, ◌≡◌, ◌≢◌, ◌⊎◌, ⊎_elim, inl, inr, ℕ, zero, suc, ◌<◌, ◌≤◌, List, [], ◌∷◌, map, replicate, length, set, get_or, Bool, true, false, Some, None, refl, sym, ap, ◌∙◌, subst, arith, true≢false}
+use Rattle.std.proofs.Common.{◌≡◌, ◌≢◌, ◌⊎◌, ⊎_elim, inl, inr, ℕ, zero, suc, ◌<◌, ◌≤◌, List, [], ◌∷◌, map, replicate, length, set, get_or, true, Some, None, refl, sym, ap, ◌∙◌, subst, arith, true≢false}
 use Rattle.std.specs.Prelude.{slice_index_or}
 use Rattle.std.specs.Option.{option_map, option_or, is_some}
 use Rattle.std.proofs.lemmas.Bool.{cases_lt}
 use Rattle.std.specs.declared.option.Option.{Option}
-use mathlib.Core.Option.{some, some-injective, some-ne-none}
+use mathlib.Core.Option.{some}
 use mathlib.Core.Logic.{dite}
 use native.Mathlib.Decide.{ℕ_discrete}
 use lib.ListN.{get_elem?}
@@ -18,9 +18,9 @@ use Rattle.msrp_board.specs.declared.held.CoreState.{CoreState}
 use Rattle.msrp_board.specs.declared.pages.Page.{Page}
 use Rattle.msrp_board.specs.declared.pages.View.{View}
 use Rattle.msrp_board.specs.Boards.{BoardModel, SeatModel, only_at, none_at, either, together, alone, without, both}
-use Rattle.msrp_board.specs.Rule.{Has, view_alone, view_without, view_both}
+use Rattle.msrp_board.specs.Rule.{view_alone, view_without, view_both}
 use Rattle.msrp_board.specs.Newest.{claim}
-use Rattle.msrp_board.specs.Held.{told, seen_as, page_at, state_of, state_at, Tie, Low, AllBelow, IsBelow, IsSeat}
+use Rattle.msrp_board.specs.Held.{told, seen_as, page_at, state_of, state_at, Tie, Low, IsBelow, IsSeat}
 use Rattle.msrp_board.proofs.Parting.{of_only, of_none, of_together}
 use Rattle.msrp_board.proofs.Sharing.{at_length}
 use Rattle.msrp_board.proofs.Ties.{get_or_at}
@@ -81,13 +81,13 @@ at_nones (suc n) (suc d) h = at_nones n d (omega (arith, h))
 pub only_tie : (held : List (Option CoreState)) (pages : List (Option Page)) (c : ℕ) → c < 8 → Tie held pages → Tie (set nothing c (get_or held c None)) (only_at c pages)
 only_tie held pages c low tie d h = dite (ℕ_discrete d c)
     (λ q. subst (λ k. get_elem? (set nothing c (get_or held c None)) k ≡ some (state_at (only_at c pages) k)) (sym q)
-        (set_here nothing c (get_or held c None) (omega (arith, low)) ∙ ap some (get_or_at held c (state_at pages c) None (tie c low) ∙ ap (option_map state_of) (sym (only_here c pages)))))
+    (set_here nothing c (get_or held c None) (omega (arith, low)) ∙ ap some (get_or_at held c (state_at pages c) None (tie c low) ∙ ap (option_map state_of) (sym (only_here c pages)))))
     (λ n. set_else nothing c d (get_or held c None) n ∙ at_nones 8 d h ∙ ap some (ap (option_map state_of) (sym (only_else c d pages n))))
 
 pub none_tie : (held : List (Option CoreState)) (pages : List (Option Page)) (c : ℕ) → c < 8 → Tie held pages → Tie (set held c None) (none_at c pages)
 none_tie held pages c low tie d h = dite (ℕ_discrete d c)
     (λ q. subst (λ k. get_elem? (set held c None) k ≡ some (state_at (none_at c pages) k)) (sym q)
-        (set_here held c None (at_length held c (state_at pages c) (tie c low)) ∙ ap some (ap (option_map state_of) (sym (none_here c pages)))))
+    (set_here held c None (at_length held c (state_at pages c) (tie c low)) ∙ ap some (ap (option_map state_of) (sym (none_here c pages)))))
     (λ n. set_else held c d None n ∙ tie d h ∙ ap some (ap (option_map state_of) (sym (none_else c d pages n))))
 
 -- the first n cores of both
@@ -137,21 +137,21 @@ without_seen z t u c me now seat at is seen = ap (λ (m : Me (Unit {0}) View). s
 
 pub alone_is_seat : (z : BoardSize) (held own : List (Option CoreState)) (o : Option Conductor) (c : ℕ) (me now : Me (Unit {0}) View) → IsSeat z held o me → now ≡ (view_alone c me.0, me.1) → Tie own (only_at c me.0.pages) → IsSeat z own None now
 alone_is_seat z held own o c me now s is tie = subst (IsSeat z own None) (sym is) (record {
-    no_slot = s.no_slot;
-    tie = tie;
-    conducts = refl;
-    low = λ d b h. s.low d b (of_only c me.0.pages d b h).0;
-    below = λ d b h. s.below d b (of_only c me.0.pages d b h).0
-  })
+  no_slot = s.no_slot;
+  tie = tie;
+  conducts = refl;
+  low = λ d b h. s.low d b (of_only c me.0.pages d b h).0;
+  below = λ d b h. s.below d b (of_only c me.0.pages d b h).0;
+})
 
 pub without_is_seat : (z : BoardSize) (held others : List (Option CoreState)) (o : Option Conductor) (c : ℕ) (me now : Me (Unit {0}) View) → IsSeat z held o me → now ≡ (view_without c me.0, []) → Tie others (none_at c me.0.pages) → IsSeat z others o now
 without_is_seat z held others o c me now s is tie = subst (IsSeat z others o) (sym is) (record {
-    no_slot = refl;
-    tie = tie;
-    conducts = s.conducts;
-    low = λ d b h. s.low d b (of_none c me.0.pages d b h).0;
-    below = λ d b h. s.below d b (of_none c me.0.pages d b h).0
-  })
+  no_slot = refl;
+  tie = tie;
+  conducts = s.conducts;
+  low = λ d b h. s.low d b (of_none c me.0.pages d b h).0;
+  below = λ d b h. s.below d b (of_none c me.0.pages d b h).0;
+})
 
 -- a core whose book a seat has is one of the first eight
 pub core_low : (board : BoardModel) (v : View) (seat : SeatModel) (c : ℕ) → Low v → seen_as board v ≡ seat → is_some (slice_index_or seat.books c None) ≡ true → c < 8
@@ -168,12 +168,12 @@ or_either (Some a) y = refl
 
 pub both_is_seat : (z y : BoardSize) (held more all : List (Option CoreState)) (o p q : Option Conductor) (me other now : Me (Unit {0}) View) → y ≡ z → IsSeat z held o me → IsSeat y more p other → q ≡ option_or o p → now ≡ (view_both me.0 other.0, me.1) → Tie all (together me.0.pages other.0.pages) → IsSeat z all q now
 both_is_seat z y held more all o p q me other now size s r or is tie = subst (IsSeat z all q) (sym is) (record {
-    no_slot = s.no_slot;
-    tie = tie;
-    conducts = or ∙ or_either o p ∙ ap (λ x. either x p) s.conducts ∙ ap (either me.0.conductor) r.conducts;
-    low = λ d b h. ⊎_elim (s.low d b) (r.low d b) (of_together me.0.pages other.0.pages d b h);
-    below = λ d b h. ⊎_elim (s.below d b) (λ k. subst (λ (x : BoardSize). IsBelow x.resources (claim b.newest)) size (r.below d b k)) (of_together me.0.pages other.0.pages d b h)
-  })
+  no_slot = s.no_slot;
+  tie = tie;
+  conducts = or ∙ or_either o p ∙ ap (λ x. either x p) s.conducts ∙ ap (either me.0.conductor) r.conducts;
+  low = λ d b h. ⊎_elim (s.low d b) (r.low d b) (of_together me.0.pages other.0.pages d b h);
+  below = λ d b h. ⊎_elim (s.below d b) (λ k. subst (λ (x : BoardSize). IsBelow x.resources (claim b.newest)) size (r.below d b k)) (of_together me.0.pages other.0.pages d b h);
+})
 
 either_told : (x y : Option Page) → option_map told (either x y) ≡ either (option_map told x) (option_map told y)
 either_told None y = refl

@@ -1,19 +1,18 @@
 -- What a legal history says of each core.
-use Rattle.std.proofs.Common.{cond, ◌≡◌, ◌≢◌, ◌⊎◌, inl, inr, ⊎_elim, ℕ, zero, suc, ◌+◌, ◌*◌, ◌<◌, ◌≤◌, List, [], ◌∷◌, ◌++◌, length, Bool, true, false, true≢false, refl, sym, ap, ◌∙◌, subst, arith, eqb, eq-eqb, ne_eqb, length-append}
+use Rattle.std.proofs.Common.{cond, ◌≡◌, ◌≢◌, ◌⊎◌, inl, inr, ⊎_elim, ℕ, zero, suc, ◌+◌, ◌*◌, ◌<◌, List, [], ◌∷◌, ◌++◌, length, Bool, true, false, true≢false, refl, sym, ap, ◌∙◌, subst, arith, eq-eqb, ne_eqb, length-append}
 use mathlib.Core.Option.{Option, some, none, some-injective, some-ne-none}
 use mathlib.Core.Logic.{dite}
 use native.Mathlib.Decide.{ℕ_discrete}
 use lib.ListN.{get_elem?}
-use Rattle.atomic_table.proofs.Lists.{at_longer, at_last, at_snoc}
+use Rattle.atomic_table.proofs.Lists.{at_longer, at_last}
 use Rattle.msrp_plan.specs.declared.units.Call.{Call}
 use Rattle.msrp_plan.specs.declared.units.Call.TheVariants.{Ask, Poll, Leave}
 use Rattle.msrp_board.specs.declared.books.Entry.{Entry}
-use Rattle.msrp_board.specs.Books.{on}
 use Rattle.msrp_board.specs.History.{Event, by}
-use Rattle.msrp_board.specs.Newest.{lock, asks, leaves, queue, granted, LegalNewest, PlacedNewest, turn_of, claim_after, claim, InTurn, Orderly}
+use Rattle.msrp_board.specs.Newest.{lock, asks, leaves, queue, granted, LegalNewest, PlacedNewest, turn_of, claim}
 use Rattle.msrp_board.specs.declared.held.Claim.{Claim}
 use Rattle.msrp_board.specs.declared.held.Claim.TheVariants.{Nothing, Waits, Holds}
-use Rattle.msrp_plan.specs.FifoLock.{IsAmong, IsFirst, without_first, queue_after, granted_after, Answers}
+use Rattle.msrp_plan.specs.FifoLock.{IsAmong, IsFirst, without_first, granted_after, Answers}
 
 abbrev pub turn : Claim → Option ℕ
 turn Nothing = none
@@ -62,12 +61,12 @@ at_snoc_i (x ∷ xs) a b (suc j) e = ⊎_elim (λ t. inl t) (λ t. inr (ap suc t
 -- a poll that isn't granted changes nothing
 polled_no : (c0 t g p : ℕ) (h : List Event) → Coupled h → Coupled ((c0, entry t g p (Poll false)) ∷ h)
 polled_no c0 t g p h k = record {
-    counted = k.counted;
-    turns = λ c i e. subst (λ l. turn l ≡ some (2 * (leaves h + i))) (sym (same c)) (k.turns c i e);
-    stands = λ c u e. k.stands c u (subst (λ l. turn l ≡ some u) (same c) e);
-    holds = λ c e. k.holds c (subst (λ l. held l ≡ true) (same c) e);
-    holder = λ e. let x = k.holder e in (x.0, x.1, subst (λ l. held l ≡ true) (sym (same x.0)) x.2)
-  }
+  counted = k.counted;
+  turns = λ c i e. subst (λ l. turn l ≡ some (2 * (leaves h + i))) (sym (same c)) (k.turns c i e);
+  stands = λ c u e. k.stands c u (subst (λ l. turn l ≡ some u) (same c) e);
+  holds = λ c e. k.holds c (subst (λ l. held l ≡ true) (same c) e);
+  holder = λ e. let x = k.holder e in (x.0, x.1, subst (λ l. held l ≡ true) (sym (same x.0)) x.2);
+}
   where
     same : (c : ℕ) → claim (by c ((c0, entry t g p (Poll false)) ∷ h)) ≡ claim (by c h)
     same c = by_cases c0 c (entry t g p (Poll false)) h (λ l. claim l ≡ claim (by c h)) (λ _. refl) (λ _. refl)
@@ -80,22 +79,21 @@ turn_some (Holds g u) t e = some-injective u t e
 -- a poll that is granted
 polled_yes : (c0 t g p : ℕ) (h : List Event) → Coupled h → get_elem? (queue h) 0 ≡ some c0 → granted h ≡ false → Coupled ((c0, entry t g p (Poll true)) ∷ h)
 polled_yes c0 t g p h k first free = record {
-    counted = k.counted;
-    turns = λ c i e. by_cases c0 c new h (λ l. turn (claim l) ≡ some (2 * (leaves h + i)))
-        (λ q. ap some (turn_some (claim (by c h)) (2 * (leaves h + i)) (k.turns c i e)))
-        (λ _. k.turns c i e);
-    stands = λ c u. by_cases c0 c new h (λ l. turn (claim l) ≡ some u → (i : ℕ) × (get_elem? (queue h) i ≡ some c) × (u ≡ 2 * (leaves h + i)))
-        (λ q e. (0, first ∙ ap some q, sym (some-injective (turn_of (claim (by c h))) u e) ∙ turn_some (claim (by c h)) (2 * (leaves h + 0)) (k.turns c 0 (first ∙ ap some q))))
-        (λ _ e. k.stands c u e);
-    holds = λ c. by_cases c0 c new h (λ l. held (claim l) ≡ true → (true ≡ true) × (get_elem? (queue h) 0 ≡ some c))
-        (λ q e. (refl, first ∙ ap some q))
-        (λ _ e. (refl, (k.holds c e).1));
-    holder = λ e. (c0, first, subst (λ l. held (claim l) ≡ true) (sym (by_same c0 new h)) refl)
-  }
+  counted = k.counted;
+  turns = λ c i e. by_cases c0 c new h (λ l. turn (claim l) ≡ some (2 * (leaves h + i)))
+      (λ q. ap some (turn_some (claim (by c h)) (2 * (leaves h + i)) (k.turns c i e)))
+      (λ _. k.turns c i e);
+  stands = λ c u. by_cases c0 c new h (λ l. turn (claim l) ≡ some u → (i : ℕ) × (get_elem? (queue h) i ≡ some c) × (u ≡ 2 * (leaves h + i)))
+      (λ q e. (0, first ∙ ap some q, sym (some-injective (turn_of (claim (by c h))) u e) ∙ turn_some (claim (by c h)) (2 * (leaves h + 0)) (k.turns c 0 (first ∙ ap some q))))
+      (λ _ e. k.stands c u e);
+  holds = λ c. by_cases c0 c new h (λ l. held (claim l) ≡ true → (true ≡ true) × (get_elem? (queue h) 0 ≡ some c))
+      (λ q e. (refl, first ∙ ap some q))
+      (λ _ e. (refl, (k.holds c e).1));
+  holder = λ e. (c0, first, subst (λ l. held (claim l) ≡ true) (sym (by_same c0 new h)) refl);
+}
   where
     new : Entry
     new = entry t g p (Poll true)
-
 
 -- an ask, which answers how many stand there
 asked_one : (c0 t g p a : ℕ) (k : Call) (h : List Event) → Coupled h → ((i : ℕ) → ¬ (get_elem? (queue h) i ≡ some c0)) → p ≡ asks h + leaves h → k ≡ Ask a → a ≡ length (queue h) → turn (claim (by c0 ((c0, entry t g p (Ask a)) ∷ h))) ≡ some (2 * (leaves h + length (queue h)))
@@ -121,22 +119,23 @@ asked_holder c0 t g p (suc a) h k out n e = let x = k.holder e in (x.0, at_longe
 
 asked : (c0 t g p a : ℕ) (h : List Event) → Coupled h → ((i : ℕ) → ¬ (get_elem? (queue h) i ≡ some c0)) → a ≡ length (queue h) → p ≡ asks h + leaves h → Coupled ((c0, entry t g p (Ask a)) ∷ h)
 asked c0 t g p a h k out n is = record {
-    counted = let x = k.counted in let y = length-append (queue h) (c0 ∷ []) in omega (arith, x, y);
-    turns = λ c i e. ⊎_elim
-        (λ old. subst (λ l. turn (claim l) ≡ some (2 * (leaves h + i))) (sym (by_other c0 c new h (λ q. out i (old ∙ ap some (sym q))))) (k.turns c i old))
-        (λ last. subst (λ d. turn (claim (by d (((c0, new) ∷ h)))) ≡ some (2 * (leaves h + i))) last.1 (subst (λ j. turn (claim (by c0 ((c0, new) ∷ h))) ≡ some (2 * (leaves h + j))) (sym last.0) mine))
-        (at_snoc_i (queue h) c0 c i e);
-    stands = λ c u e. dite (ℕ_discrete c0 c)
-        (λ q. (length (queue h), at_last (queue h) c0 (length (queue h)) refl ∙ ap some q, some-injective u (2 * (leaves h + length (queue h))) (sym (subst (λ d. turn (claim (by d ((c0, new) ∷ h))) ≡ some u) (sym q) e) ∙ mine)))
-        (λ ne. let x = k.stands c u (subst (λ l. turn (claim l) ≡ some u) (by_other c0 c new h ne) e) in (x.0, at_longer (queue h) (c0 ∷ []) x.0 c x.1, x.2));
-    holds = λ c e. dite (ℕ_discrete c0 c)
-        (λ q. let x = asked_held c0 t g p a h k n (subst (λ d. held (claim (by d ((c0, new) ∷ h))) ≡ true) (sym q) e) in (x.0, x.1 ∙ ap some q))
-        (λ ne. asked_kept c0 c t g p a h k n (subst (λ l. held (claim l) ≡ true) (by_other c0 c new h ne) e));
-    holder = asked_holder c0 t g p a h k out n
-  }
+  counted = let x = k.counted in let y = length-append (queue h) (c0 ∷ []) in omega (arith, x, y);
+  turns = λ c i e. ⊎_elim
+      (λ old. subst (λ l. turn (claim l) ≡ some (2 * (leaves h + i))) (sym (by_other c0 c new h (λ q. out i (old ∙ ap some (sym q))))) (k.turns c i old))
+      (λ last. subst (λ d. turn (claim (by d (((c0, new) ∷ h)))) ≡ some (2 * (leaves h + i))) last.1 (subst (λ j. turn (claim (by c0 ((c0, new) ∷ h))) ≡ some (2 * (leaves h + j))) (sym last.0) mine))
+      (at_snoc_i (queue h) c0 c i e);
+  stands = λ c u e. dite (ℕ_discrete c0 c)
+      (λ q. (length (queue h), at_last (queue h) c0 (length (queue h)) refl ∙ ap some q, some-injective u (2 * (leaves h + length (queue h))) (sym (subst (λ d. turn (claim (by d ((c0, new) ∷ h))) ≡ some u) (sym q) e) ∙ mine)))
+      (λ ne. let x = k.stands c u (subst (λ l. turn (claim l) ≡ some u) (by_other c0 c new h ne) e) in (x.0, at_longer (queue h) (c0 ∷ []) x.0 c x.1, x.2));
+  holds = λ c e. dite (ℕ_discrete c0 c)
+      (λ q. let x = asked_held c0 t g p a h k n (subst (λ d. held (claim (by d ((c0, new) ∷ h))) ≡ true) (sym q) e) in (x.0, x.1 ∙ ap some q))
+      (λ ne. asked_kept c0 c t g p a h k n (subst (λ l. held (claim l) ≡ true) (by_other c0 c new h ne) e));
+  holder = asked_holder c0 t g p a h k out n;
+}
   where
     new : Entry
     new = entry t g p (Ask a)
+
     mine : turn (claim (by c0 ((c0, new) ∷ h))) ≡ some (2 * (leaves h + length (queue h)))
     mine = asked_one c0 t g p a (Ask a) h k out is refl n
 
@@ -150,24 +149,26 @@ tail_length (y ∷ ys) x e = omega arith
 
 left : (c0 t g p : ℕ) (h : List Event) → Coupled h → get_elem? (queue h) 0 ≡ some c0 → granted h ≡ true → Coupled ((c0, entry t g p Leave) ∷ h)
 left c0 t g p h k first given = record {
-    counted = let x = k.counted in let y = tail_length (queue h) c0 first in omega (arith, x, y);
-    turns = λ c i e. let old = sym (tail_at (queue h) i) ∙ e in
-        by_cases c0 c new h (λ l. turn (claim l) ≡ some (2 * (suc (leaves h) + i)))
-        (λ q. absurd (twice c i q old))
-        (λ ne. k.turns c (suc i) old ∙ ap some (omega arith));
-    stands = λ c u. by_cases c0 c new h (λ l. turn (claim l) ≡ some u → (i : ℕ) × (get_elem? (without_first (queue h)) i ≡ some c) × (u ≡ 2 * (suc (leaves h) + i)))
-        (λ q e. absurd (some-ne-none u (sym e)))
-        (λ ne e. let x = k.stands c u e in later c u ne x.0 x.1 x.2);
-    holds = λ c. by_cases c0 c new h (λ l. held (claim l) ≡ true → (false ≡ true) × (get_elem? (without_first (queue h)) 0 ≡ some c))
-        (λ q e. no e)
-        (λ ne e. absurd (ne (some-injective c0 c (sym first ∙ (k.holds c e).1))));
-    holder = λ e. no e
-  }
+  counted = let x = k.counted in let y = tail_length (queue h) c0 first in omega (arith, x, y);
+  turns = λ c i e. let old = sym (tail_at (queue h) i) ∙ e in
+      by_cases c0 c new h (λ l. turn (claim l) ≡ some (2 * (suc (leaves h) + i)))
+      (λ q. absurd (twice c i q old))
+      (λ ne. k.turns c (suc i) old ∙ ap some (omega arith));
+  stands = λ c u. by_cases c0 c new h (λ l. turn (claim l) ≡ some u → (i : ℕ) × (get_elem? (without_first (queue h)) i ≡ some c) × (u ≡ 2 * (suc (leaves h) + i)))
+      (λ q e. absurd (some-ne-none u (sym e)))
+      (λ ne e. let x = k.stands c u e in later c u ne x.0 x.1 x.2);
+  holds = λ c. by_cases c0 c new h (λ l. held (claim l) ≡ true → (false ≡ true) × (get_elem? (without_first (queue h)) 0 ≡ some c))
+      (λ q e. no e)
+      (λ ne e. absurd (ne (some-injective c0 c (sym first ∙ (k.holds c e).1))));
+  holder = λ e. no e;
+}
   where
     new : Entry
     new = entry t g p Leave
+
     twice : (c i : ℕ) → c0 ≡ c → get_elem? (queue h) (suc i) ≡ some c → ⊥
     twice c i q e = let x = some-injective (2 * (leaves h + 0)) (2 * (leaves h + suc i)) (sym (k.turns c 0 (first ∙ ap some q)) ∙ k.turns c (suc i) e) in omega (arith, x)
+
     later : (c u : ℕ) → c0 ≢ c → (i : ℕ) → get_elem? (queue h) i ≡ some c → u ≡ 2 * (leaves h + i) → (j : ℕ) × (get_elem? (without_first (queue h)) j ≡ some c) × (u ≡ 2 * (suc (leaves h) + j))
     later c u ne zero e is = absurd (ne (some-injective c0 c (sym first ∙ e)))
     later c u ne (suc i) e is = (i, tail_at (queue h) i ∙ e, omega (arith, is))
@@ -210,10 +211,10 @@ one c0 t g p Leave h k ok is = left c0 t g p h k (first_at (queue h) c0 ok.0) ok
 -- the state of each core is its stand in the queue
 pub coupled : (h : List Event) → LegalNewest h → PlacedNewest h → Coupled h
 coupled [] l p = record {
-    counted = refl;
-    turns = λ c i e. absurd (some-ne-none c (sym e));
-    stands = λ c t e. absurd (some-ne-none t (sym e));
-    holds = λ c e. no e;
-    holder = λ e. no e
-  }
+  counted = refl;
+  turns = λ c i e. absurd (some-ne-none c (sym e));
+  stands = λ c t e. absurd (some-ne-none t (sym e));
+  holds = λ c e. no e;
+  holder = λ e. no e;
+}
 coupled (r ∷ h) l p = one r.0 r.1.tick r.1.res.0 r.1.place r.1.call h (coupled h l.0 p.0) l.1 p.1

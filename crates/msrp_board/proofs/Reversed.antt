@@ -1,26 +1,23 @@
 -- What a board keeps newest first, read oldest first: its histories, and its books.
-use Rattle.std.proofs.Common.{◌==◌, ◌≡◌, ◌⊎◌, ⊎_elim, inl, inr, ℕ, zero, suc, ◌+◌, ◌<◌, ◌≤◌, List, [], ◌∷◌, ◌++◌, map, reverse, Bool, true, false, cond, fold, refl, sym, ap, ◌∙◌, subst, arith, append-nil, true≢false}
-use Rattle.std.specs.Prelude.{count_by, sum_by}
+use Rattle.std.proofs.Common.{◌==◌, ◌≡◌, ℕ, ◌+◌, ◌<◌, ◌≤◌, List, [], ◌∷◌, ◌++◌, reverse, Bool, true, false, cond, fold, refl, sym, ap, ◌∙◌, subst, arith, append-nil, true≢false}
+use Rattle.std.specs.Prelude.{count_by}
 use Rattle.std.specs.List.{AllByRecursion}
-use Rattle.std.proofs.lemmas.List.{map-append}
 use Rattle.std.proofs.lemmas.List.Sums.{sum_by-append, sum_by-cons}
 use Rattle.msrp_plan.specs.FifoLock.{FifoLock, free_lock, lock_after, Answers, LegalFrom, Legal}
-use Rattle.msrp_plan.specs.declared.ids.ResId.{ResId}
 use Rattle.msrp_plan.specs.declared.units.Call.{Call}
 use Rattle.msrp_plan.specs.declared.units.Call.TheVariants.{Ask, Poll, Leave}
 use Rattle.msrp_plan.specs.declared.units.Phase.{Phase}
-use Rattle.msrp_plan.specs.declared.units.Phase.TheVariants.{Free, Queued, Holding}
+use Rattle.msrp_plan.specs.declared.units.Phase.TheVariants.{Free}
 use Rattle.msrp_board.specs.declared.books.Entry.{Entry}
 use Rattle.msrp_board.specs.declared.held.Claim.{Claim}
-use Rattle.msrp_board.specs.declared.held.Claim.TheVariants.{Nothing, Waits, Holds}
 use Rattle.msrp_board.specs.Books.{on, phase_after, IsBefore, IsInTurn, IsOrderly, ToNext, IsChain}
-use Rattle.msrp_board.specs.History.{Event, by, calls, is_request, is_poll, is_release, place_after, Placed, PollsInOrder, IsNotLater, IsHistory, IsServed}
+use Rattle.msrp_board.specs.History.{Event, by, calls, is_request, is_poll, is_release, place_after, Placed, PollsInOrder, IsNotLater, IsHistory}
 use Rattle.msrp_board.specs.Newest.{asks_after, leaves_after, asks, leaves, lock, LegalNewest, PlacedNewest, RisingNewest, NoneLater, polls, tie, After, TidyNewest, claim, InTurn, Orderly, BehindAll, Ticks}
 use Rattle.msrp_board.specs.Held.{phase_of}
 use Rattle.msrp_board.proofs.Lists.{reverse_cons, fold_last, all_reversed, filter_reversed, chain_reversed}
 use Rattle.msrp_board.proofs.Queue.{by_cases}
 use Rattle.msrp_board.proofs.Calls.{all_before}
-use Rattle.msrp_board.proofs.Told.{held_after, lock_newest}
+use Rattle.msrp_board.proofs.Told.{lock_newest}
 
 -- ---- the lock
 
@@ -102,6 +99,7 @@ rising_reversed h r = chain_reversed IsNotLater h (newest h r)
     next_is : (t : ℕ) (s : Event) (k : List Event) → s.1.tick ≡ t → NoneLater t k → ToNext (λ x y. IsNotLater y x) s k
     next_is t s [] e n = tt
     next_is t s (x ∷ k) e n = let l = n.0 in omega (arith, l, e)
+
     newest : (k : List Event) → RisingNewest k → IsChain (λ x y. IsNotLater y x) k
     newest [] r = tt
     newest (s ∷ k) r = (next_is s.1.tick s k refl r.1, newest k r.0)
@@ -123,6 +121,7 @@ polls_reversed h t = chain_reversed PollsInOrder h (newest h t)
     next_is : (s : Event) (k : List Event) → After s k → ToNext (λ x y. PollsInOrder y x) s k
     next_is s [] a = tt
     next_is s (x ∷ k) a = λ e f. tie_true (polls s.1.call x.1.call) _ (both_polls s.1.call x.1.call e f) a
+
     newest : (k : List Event) → TidyNewest k → IsChain (λ x y. PollsInOrder y x) k
     newest [] t = tt
     newest (s ∷ k) t = (next_is s k t.1, newest k t.0)
@@ -148,10 +147,10 @@ by_reversed c (x ∷ h) = ap (by c) (reverse_cons x h) ∙ by_append c (reverse 
 -- the history that a board keeps, oldest first
 pub history_reversed : (g : ℕ) (books : ℕ → List Entry) (h : List Event) → ((c : ℕ) → by c h ≡ on g (books c)) → PlacedNewest h → TidyNewest h → IsHistory g (λ c. reverse (books c)) (reverse h)
 history_reversed g books h entries placed tidy = record {
-    entries = λ c. by_reversed c h ∙ ap reverse (entries c) ∙ sym (filter_reversed (λ e. e.res.0 == g) (books c));
-    placed = placed_reversed h placed;
-    polls = polls_reversed h tidy;
-  }
+  entries = λ c. by_reversed c h ∙ ap reverse (entries c) ∙ sym (filter_reversed (λ e. e.res.0 == g) (books c));
+  placed = placed_reversed h placed;
+  polls = polls_reversed h tidy;
+}
 
 -- ---- what a book keeps
 
@@ -185,6 +184,7 @@ ticks_reversed r es k = chain_reversed (λ (e f : Entry). e.tick < f.tick) es (n
     next_is : (e : Entry) (fs : List Entry) → Ticks e.tick fs → ToNext (λ x y. y.tick < x.tick) e fs
     next_is e [] k = tt
     next_is e (f ∷ fs) k = k.0
+
     newest : (q : ℕ) (fs : List Entry) → Ticks q fs → IsChain (λ x y. y.tick < x.tick) fs
     newest q [] k = tt
     newest q (f ∷ fs) k = (next_is f fs k.1, newest f.tick fs k.1)

@@ -1,10 +1,9 @@
 -- What a call makes of a seat, as callers see it.
-use Rattle.std.proofs.Common.{◌==◌, ◌≡◌, ◌≢◌, ◌⊎◌, ⊎_elim, inl, inr, ℕ, zero, suc, ◌+◌, ◌*◌, ◌-◌, ◌<◌, ◌≤◌, List, [], ◌∷◌, ◌++◌, map, replicate, reverse, Bool, true, false, cond, nat_lt, ltb, leb, ltb-true, Some, None, refl, sym, ap, ◌∙◌, subst, arith, append-nil}
-use Rattle.std.specs.Prelude.{slice_index_or}
-use Rattle.std.specs.List.{filter, AllByRecursion}
+use Rattle.std.proofs.Common.{◌==◌, ◌≡◌, ℕ, zero, suc, ◌+◌, ◌*◌, ◌-◌, ◌<◌, ◌≤◌, List, [], ◌∷◌, map, replicate, Bool, true, false, nat_lt, ltb, leb, ltb-true, Some, None, refl, sym, ap, ◌∙◌, subst}
+use Rattle.std.specs.List.{AllByRecursion}
 use Rattle.std.specs.Option.{option_map}
 use Rattle.std.specs.declared.option.Option.{Option}
-use mathlib.Core.Option.{some, some-injective, some-ne-none}
+use mathlib.Core.Option.{some, some-ne-none}
 use lib.ListN.{get_elem?}
 use Rattle.atomic_table.specs.Table.{Me}
 use Rattle.atomic_table.specs.Seated.{TableId}
@@ -14,11 +13,10 @@ use Rattle.msrp_plan.specs.declared.units.Call.TheVariants.{Ask, Poll, Leave}
 use Rattle.msrp_plan.specs.declared.units.Phase.{Phase}
 use Rattle.msrp_plan.specs.declared.units.Phase.TheVariants.{Free, Queued, Holding}
 use Rattle.msrp_board.specs.declared.answers.SeatPhase.{SeatPhase}
-use Rattle.msrp_board.specs.declared.answers.SeatPhase.TheVariants.{Waiting, Admitted, Done, Stopped}
+use Rattle.msrp_board.specs.declared.answers.SeatPhase.TheVariants.{Waiting, Admitted}
 use Rattle.msrp_board.specs.declared.answers.Look.TheVariants.{Wait, Go, Stopped as Off}
 use Rattle.msrp_board.specs.declared.books.Book.{Book}
 use Rattle.msrp_board.specs.declared.books.BoardSize.{BoardSize}
-use Rattle.msrp_board.specs.declared.books.Conductor.{Conductor}
 use Rattle.msrp_board.specs.declared.books.Conductor.TheVariants.{Unopened}
 use Rattle.msrp_board.specs.declared.books.Entry.{Entry}
 use Rattle.msrp_board.specs.declared.held.Claim.{Claim}
@@ -27,13 +25,13 @@ use Rattle.msrp_board.specs.declared.held.CoreState.{CoreState}
 use Rattle.msrp_board.specs.declared.pages.Page.{Page}
 use Rattle.msrp_board.specs.declared.pages.View.{View}
 use Rattle.msrp_board.specs.Books.{on, phase_by, phase_in, has_acted, lock_of, IsBefore}
-use Rattle.msrp_board.specs.Boards.{admitted, stopped, empty_book, first_seat, BoardModel, SeatModel, book_at, IsCoreSeat, MayAct, IsIn, entered, with_entry, with_books, IsBehind}
-use Rattle.msrp_board.specs.Newest.{claim, claim_after, turn_of, BehindAll}
-use Rattle.msrp_board.specs.Rule.{seen_if, looked, AtStart, empty, first_view, Has, Sole, Ready, acted, noted, change, next, serving, asked, polled, left, Behind}
-use Rattle.msrp_board.specs.Held.{look_if, look_of, told, phase_of, res_of, seen_as, state_of, Tie, Low, IsBelow, IsSeat}
+use Rattle.msrp_board.specs.Boards.{admitted, stopped, empty_book, first_seat, BoardModel, SeatModel, IsCoreSeat, MayAct, IsIn, entered, with_entry, with_books, IsBehind}
+use Rattle.msrp_board.specs.Newest.{claim, claim_after, turn_of}
+use Rattle.msrp_board.specs.Rule.{seen_if, looked, AtStart, empty, first_view, Sole, acted, noted, change, next, serving, asked, polled, left, Behind}
+use Rattle.msrp_board.specs.Held.{look_if, look_of, told, phase_of, res_of, seen_as, Tie, IsBelow, IsSeat}
 use Rattle.msrp_board.proofs.Start.{low_first}
 use Rattle.msrp_board.proofs.Lists.{reverse_cons, all_reversed, filter_reversed}
-use Rattle.msrp_board.proofs.Told.{lock_told, acted_told, page_of, book_of, sole_of}
+use Rattle.msrp_board.proofs.Told.{lock_told, acted_told, page_of, sole_of}
 
 -- ---- what a caller's condition says of the page
 
@@ -126,7 +124,7 @@ pub behind_seen : (board : BoardModel) (v : View) (g p : ℕ) → Behind v g p �
 behind_seen board v g p behind c a is =
     let r = page_of v.pages c a is in
     subst (λ (x : Book). AllByRecursion (λ e. IsBefore e.call e.place p) (on g x.entries)) r.2
-        (subst (AllByRecursion (λ e. IsBefore e.call e.place p)) (sym (filter_reversed (λ e. e.res.0 == g) r.0.newest)) (all_reversed (λ e. IsBefore e.call e.place p) (on g r.0.newest) (behind c r.0 r.1)))
+    (subst (AllByRecursion (λ e. IsBefore e.call e.place p)) (sym (filter_reversed (λ e. e.res.0 == g) r.0.newest)) (all_reversed (λ e. IsBefore e.call e.place p) (on g r.0.newest) (behind c r.0 r.1)))
 
 -- ---- a core's only page decides how a change goes
 
@@ -140,6 +138,7 @@ sole_change v c b f h sole same = ap (λ (l : List (Option Page)). view l) (chan
   where
     view : List (Option Page) → View
     view l = record { pages = l; conductor = v.conductor }
+
     page_is : (x y : Page) → some (Some x) ≡ some (Some y) → x ≡ y
     page_is x y e = cc
 
@@ -206,12 +205,12 @@ page_empty (suc n) (suc c) b e = page_empty n c b e
 
 pub first_is_seat : (z : BoardSize) (held : List (Option CoreState)) (me : Me (Unit {0}) View) → z.cores ≤ 8 → Tie held (replicate z.cores (Some empty)) → me ≡ (first_view z, []) → IsSeat z held (Some Unopened) me
 first_is_seat z held me small tie is = subst (IsSeat z held (Some Unopened)) (sym is) (record {
-    no_slot = refl;
-    tie = tie;
-    conducts = refl;
-    low = λ c b h. low_first z c b small h;
-    below = λ c b h. subst (λ (p : Page). IsBelow z.resources (claim p.newest)) (page_empty z.cores c b h) tt
-  })
+  no_slot = refl;
+  tie = tie;
+  conducts = refl;
+  low = λ c b h. low_first z c b small h;
+  below = λ c b h. subst (λ (p : Page). IsBelow z.resources (claim p.newest)) (page_empty z.cores c b h) tt;
+})
 
 pub first_made : (z : BoardSize) (t u : TableId) (me : Me (Unit {0}) View) → u ≡ t → me ≡ (first_view z, []) → seen_as (named u z) me.0 ≡ first_seat (named t z)
 first_made z t u me at is = ap (λ (m : Me (Unit {0}) View). seen_as (named u z) m.0) is ∙ ap (λ x. seen_as (named x z) (first_view z)) at ∙ first_seen (named t z)

@@ -1,16 +1,13 @@
 -- Polls of one place stand by tick, then core: a new poll is put in among the newest.
-use Rattle.std.proofs.Common.{eqb, cond, ltb, eq-eqb, ne_eqb, eqb-true, ltb-true, ltb-false, lt-ltb, ◌&&◌, ◌≡◌, ◌≢◌, ◌⊎◌, inl, inr, ⊎_elim, ℕ, zero, suc, ◌+◌, ◌<◌, ◌≤◌, List, [], ◌∷◌, length, Bool, true, false, true≢false, refl, sym, ap, ◌∙◌, subst, arith}
+use Rattle.std.proofs.Common.{eqb, cond, ltb, eq-eqb, ne_eqb, eqb-true, ltb-true, ltb-false, ◌&&◌, ◌≡◌, ◌≢◌, ◌⊎◌, inl, inr, ℕ, suc, ◌<◌, ◌≤◌, List, [], ◌∷◌, length, Bool, true, false, true≢false, refl, sym, ap, ◌∙◌, subst, arith}
 use mathlib.Core.Logic.{dite}
-use native.Mathlib.Decide.{ℕ_discrete, dec_lt}
-use mathlib.Core.Option.{some}
-use lib.ListN.{get_elem?}
+use native.Mathlib.Decide.{ℕ_discrete}
 use Rattle.msrp_plan.specs.declared.units.Call.{Call}
 use Rattle.msrp_plan.specs.declared.units.Call.TheVariants.{Ask, Poll, Leave}
-use Rattle.msrp_board.specs.declared.books.Entry.{Entry}
 use Rattle.msrp_board.specs.History.{Event, by}
-use Rattle.msrp_board.specs.Newest.{asks, leaves, asks_after, leaves_after, queue, granted, LegalNewest, PlacedNewest, NoneLater, RisingNewest, polls, tie, After, TidyNewest}
-use Rattle.msrp_plan.specs.FifoLock.{queue_after, granted_after, Answers}
-use Rattle.msrp_board.proofs.Queue.{by_same, by_other, by_cases}
+use Rattle.msrp_board.specs.Newest.{asks, leaves, queue, granted, LegalNewest, PlacedNewest, NoneLater, RisingNewest, polls, tie, After, TidyNewest}
+use Rattle.msrp_plan.specs.FifoLock.{granted_after, Answers}
+use Rattle.msrp_board.proofs.Queue.{by_other}
 
 abbrev pub jumps : Event → Event → Bool
 jumps r x = polls r.1.call x.1.call && (eqb r.1.tick x.1.tick && ltb r.0 x.0)
@@ -86,19 +83,19 @@ by_swap r x l h n same d = dite (ℕ_discrete x.0 d)
 past : (c t g p : ℕ) (b : Bool) (c' t' g' p' : ℕ) (b' : Bool) (h l : List Event) → t ≡ t' → c < c' → LegalNewest (row c t g p b ∷ row c' t' g' p' b' ∷ h) → PlacedNewest (row c t g p b ∷ row c' t' g' p' b' ∷ h) → RisingNewest (row c t g p b ∷ row c' t' g' p' b' ∷ h) → TidyNewest (row c' t' g' p' b' ∷ h)
     → Inserted (row c t g p b) h l → Inserted (row c t g p b) (row c' t' g' p' b' ∷ h) (row c' t' g' p' b' ∷ l)
 past c t g p b c' t' g' p' b' h l now low legal placed rising tidy i = record {
-    same = by_swap (row c t g p b) (row c' t' g' p' b') l h (λ e. omega (arith, e, low)) i.same;
-    ask_count = i.ask_count;
-    leave_count = i.leave_count;
-    in_queue = i.in_queue;
-    grant = ap (λ k. granted_after k (Poll b')) i.grant ∙ grant_swap (granted h) b b';
-    longer = ap suc i.longer;
-    legal = (i.legal, subst (λ q. Answers (record { queue = q; granted = granted l }) c' (Poll b')) (sym i.in_queue) (subst (λ k. Answers (record { queue = queue h; granted = k }) c' (Poll b')) (sym i.grant) (poll_later (queue h) (granted h) c c' b b' legal.1 legal.0.1)));
-    placed = (i.placed, placed.0.1 ∙ (let x = i.ask_count in let y = i.leave_count in omega (arith, x, y)));
-    rising = (i.rising, i.later t' (omega (arith, now), rising.0.1));
-    later = λ u k. (k.1.0, i.later u (k.0, k.1.1));
-    tidy = (i.tidy, i.under (row c' t' g' p' b') tidy.1 (inr (now, omega (arith, low))));
-    under = λ x a e. a
-  }
+  same = by_swap (row c t g p b) (row c' t' g' p' b') l h (λ e. omega (arith, e, low)) i.same;
+  ask_count = i.ask_count;
+  leave_count = i.leave_count;
+  in_queue = i.in_queue;
+  grant = ap (λ k. granted_after k (Poll b')) i.grant ∙ grant_swap (granted h) b b';
+  longer = ap suc i.longer;
+  legal = (i.legal, subst (λ q. Answers (record { queue = q; granted = granted l }) c' (Poll b')) (sym i.in_queue) (subst (λ k. Answers (record { queue = queue h; granted = k }) c' (Poll b')) (sym i.grant) (poll_later (queue h) (granted h) c c' b b' legal.1 legal.0.1)));
+  placed = (i.placed, placed.0.1 ∙ (let x = i.ask_count in let y = i.leave_count in omega (arith, x, y)));
+  rising = (i.rising, i.later t' (omega (arith, now), rising.0.1));
+  later = λ u k. (k.1.0, i.later u (k.0, k.1.1));
+  tidy = (i.tidy, i.under (row c' t' g' p' b') tidy.1 (inr (now, omega (arith, low))));
+  under = λ x a e. a;
+}
 
 moved : (c t g p : ℕ) (k : Call) (c' t' g' p' : ℕ) (j : Call) (h l : List Event) → polls k j ≡ true → t ≡ t' → c < c' → LegalNewest (any c t g p k ∷ any c' t' g' p' j ∷ h) → PlacedNewest (any c t g p k ∷ any c' t' g' p' j ∷ h) → RisingNewest (any c t g p k ∷ any c' t' g' p' j ∷ h) → TidyNewest (any c' t' g' p' j ∷ h)
     → (LegalNewest (any c t g p k ∷ h) → PlacedNewest (any c t g p k ∷ h) → RisingNewest (any c t g p k ∷ h) → TidyNewest h → Inserted (any c t g p k) h l) → Inserted (any c t g p k) (any c' t' g' p' j ∷ h) (any c' t' g' p' j ∷ l)
@@ -108,7 +105,7 @@ moved c t g p (Poll b) c' t' g' p' Leave h l e now low legal placed rising tidy 
 moved c t g p Leave c' t' g' p' j h l e now low legal placed rising tidy ih = absurd (true≢false (sym e))
 moved c t g p (Poll b) c' t' g' p' (Poll b') h l e now low legal placed rising tidy ih =
     past c t g p b c' t' g' p' b' h l now low legal placed rising tidy
-        (ih (legal.0.0, poll_earlier (queue h) (granted h) c b b' legal.1) (placed.0.0, placed.1) (rising.0.0, rising.1.1) tidy.0)
+    (ih (legal.0.0, poll_earlier (queue h) (granted h) c b b' legal.1) (placed.0.0, placed.1) (rising.0.0, rising.1.1) tidy.0)
 
 not_jump : (k j : Call) (t u c d : ℕ) → u ≤ t → (polls k j && (eqb t u && ltb c d)) ≡ false → tie (polls k j) ((u < t) ⊎ ((u ≡ t) × (d ≤ c)))
 not_jump (Ask a) j t u c d le e = tt

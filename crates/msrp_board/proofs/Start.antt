@@ -1,8 +1,8 @@
 -- The rule at the start.
-use Rattle.std.proofs.Common.{◌≡◌, ◌≢◌, ℕ, zero, suc, ◌+◌, ◌<◌, ◌≤◌, List, [], ◌∷◌, length, map, set, get_or, take, replicate, Some, None, true≢false, refl, sym, ap, ◌∙◌, subst, arith}
+use Rattle.std.proofs.Common.{◌≡◌, ◌≢◌, ℕ, zero, suc, ◌+◌, ◌<◌, ◌≤◌, List, [], ◌∷◌, length, set, take, replicate, Some, None, true≢false, refl, sym, ap, ◌∙◌, subst, arith}
 use Rattle.std.specs.Prelude.{slice_index}
 use Rattle.std.specs.declared.option.Option.{Option}
-use mathlib.Core.Option.{some, none, some-injective, some-ne-none}
+use mathlib.Core.Option.{some, some-injective, some-ne-none}
 use mathlib.Core.Logic.{dite}
 use native.Mathlib.Decide.{ℕ_discrete}
 use lib.ListN.{get_elem?}
@@ -14,9 +14,9 @@ use Rattle.msrp_board.specs.declared.books.BoardSize.{BoardSize}
 use Rattle.msrp_board.specs.declared.held.CoreState.{CoreState}
 use Rattle.msrp_board.specs.Books.{on}
 use Rattle.msrp_board.specs.Held.{Tie, state_of, state_at}
-use Rattle.msrp_board.specs.Rule.{Has, OwnsBy, Owns, Ruled, Served, Kept, empty, first_view, total, arrivals, reach}
+use Rattle.msrp_board.specs.Rule.{Has, Ruled, Kept, empty, first_view, arrivals, reach}
 use Rattle.msrp_board.specs.declared.books.Conductor.{Conductor}
-use Rattle.msrp_board.specs.declared.books.Conductor.TheVariants.{Unopened, Opened, Aborted}
+use Rattle.msrp_board.specs.declared.books.Conductor.TheVariants.{Unopened}
 use Rattle.msrp_board.proofs.Sharing.{at_length}
 use native.Mathlib.Decide.{dec_lt}
 
@@ -72,38 +72,38 @@ some_of x y e = cc
 
 pub begins : (z : BoardSize) (words : List ℕ) → ((g : ℕ) → slice_index words g ≡ 0) → length words ≡ z.resources + 1 → z.cores ≤ 8 → z.ticks ≤ 20000 → Ruled z (opening words [] (first_view z))
 begins z words zeros len small short = (
-      replicate z.cores empty,
-      Unopened,
-      (
-        (λ i c b o. same_there z.cores c b (subst (λ (v : View). Has v c b) (sym (zero_at (first_view z) i o.0 o.1).1) o.2)),
-        (λ i j c b d o p. sym (zero_at (first_view z) i o.0 o.1).0 ∙ (zero_at (first_view z) j p.0 p.1).0),
-        (λ c b e. (0, (first_view z, refl, (same_back z.cores c b e).0))),
-      ),
-      (
-        (λ i k x o. (o.2.0, some_of Unopened x (ap (λ (v : View). v.conductor) (zero_at (first_view z) i o.0 o.1).1 ∙ o.2.1))),
-        (λ i j k x y o p. sym (zero_at (first_view z) i o.0 o.1).0 ∙ (zero_at (first_view z) j p.0 p.1).0),
-        (λ k x e. (0, (first_view z, refl, (e.0, ap Some e.1)))),
-      ),
-      (
-        length_rep z.cores empty,
-        (λ g in_g. (
-          [],
-          ((λ c b e. subst (λ (x : Page). [] ≡ on g x.newest) (same_back z.cores c b e).1 refl), (λ c far. refl), tt),
-          tt,
-          zeros g,
-          omega arith,
-          tt,
-          tt,
-        )),
-        (λ c b e. subst (Kept z) (same_back z.cores c b e).1 (tt, tt, omega arith)),
-        (
-          (let w = zeros z.resources in let a = zero_arrivals z.cores in omega (arith, w, a)),
-          (λ c b e h. absurd (true≢false (sym h ∙ sym (ap (λ (x : Page). x.stopped) (same_back z.cores c b e).1)))),
-          (λ c b e h. absurd (let r = ap reach (same_back z.cores c b e).1 in omega (arith, h, r))),
-        ),
-      ),
-      (small, short, len),
-    )
+  replicate z.cores empty,
+  Unopened,
+  (
+    (λ i c b o. same_there z.cores c b (subst (λ (v : View). Has v c b) (sym (zero_at (first_view z) i o.0 o.1).1) o.2)),
+    (λ i j c b d o p. sym (zero_at (first_view z) i o.0 o.1).0 ∙ (zero_at (first_view z) j p.0 p.1).0),
+    (λ c b e. (0, (first_view z, refl, (same_back z.cores c b e).0))),
+  ),
+  (
+    (λ i k x o. (o.2.0, some_of Unopened x (ap (λ (v : View). v.conductor) (zero_at (first_view z) i o.0 o.1).1 ∙ o.2.1))),
+    (λ i j k x y o p. sym (zero_at (first_view z) i o.0 o.1).0 ∙ (zero_at (first_view z) j p.0 p.1).0),
+    (λ k x e. (0, (first_view z, refl, (e.0, ap Some e.1)))),
+  ),
+  (
+    length_rep z.cores empty,
+    (λ g in_g. (
+      [],
+      ((λ c b e. subst (λ (x : Page). [] ≡ on g x.newest) (same_back z.cores c b e).1 refl), (λ c far. refl), tt),
+      tt,
+      zeros g,
+      omega arith,
+      tt,
+      tt,
+    )),
+    (λ c b e. subst (Kept z) (same_back z.cores c b e).1 (tt, tt, omega arith)),
+    (
+      (let w = zeros z.resources in let a = zero_arrivals z.cores in omega (arith, w, a)),
+      (λ c b e h. absurd (true≢false (sym h ∙ sym (ap (λ (x : Page). x.stopped) (same_back z.cores c b e).1)))),
+      (λ c b e h. absurd (let r = ap reach (same_back z.cores c b e).1 in omega (arith, h, r))),
+    ),
+  ),
+  (small, short, len),
+)
 
 abbrev nils : ℕ → List ℕ
 nils n = replicate n 0

@@ -1,11 +1,11 @@
 -- The ticks of a core's entries.
-use Rattle.std.proofs.Common.{◌==◌, ◌||◌, ◌≡◌, ◌≢◌, ℕ, suc, ◌<◌, ◌≤◌, List, [], ◌∷◌, Bool, true, false, refl, sym, ap, ◌∙◌, arith, ne_eqb}
+use Rattle.std.proofs.Common.{◌==◌, ◌||◌, ◌≡◌, ℕ, suc, ◌≤◌, List, [], ◌∷◌, Bool, false, refl, sym, ap, ◌∙◌, arith, ne_eqb}
 use Rattle.std.specs.List.{list_any}
 use Rattle.msrp_board.specs.declared.books.Entry.{Entry}
 use Rattle.msrp_board.specs.declared.pages.Page.{Page}
 use Rattle.msrp_board.specs.declared.held.CoreState.{CoreState}
 use Rattle.msrp_board.specs.Newest.{Ticks}
-use Rattle.msrp_board.specs.Rule.{acted, arrived}
+use Rattle.msrp_board.specs.Rule.{arrived}
 use Rattle.msrp_board.specs.Held.{state_of}
 
 -- ticks that fall from below r on fall from below a later one

@@ -1,8 +1,8 @@
 -- A seat's numbers and its books.
-use Rattle.std.proofs.Common.{eqb, ◌+◌, ◌*◌, ◌≡◌, ◌≢◌, ◌⊎◌, inl, inr, ⊎_elim, ℕ, zero, suc, ◌<◌, ◌≤◌, List, [], ◌∷◌, length, map, set, get_or, Some, None, Bool, true, false, true≢false, refl, sym, ap, ◌∙◌, subst, arith}
+use Rattle.std.proofs.Common.{◌≡◌, ◌⊎◌, inl, inr, ⊎_elim, ℕ, zero, suc, ◌<◌, List, [], ◌∷◌, map, set, get_or, Some, None, true, true≢false, refl, sym, ap, ◌∙◌, subst}
 use Rattle.std.specs.declared.option.Option.{Option}
 use Rattle.std.specs.Option.{is_some, option_map}
-use mathlib.Core.Option.{some, none, some-injective, some-ne-none}
+use mathlib.Core.Option.{some, some-injective, some-ne-none}
 use mathlib.Core.Logic.{dite}
 use native.Mathlib.Decide.{ℕ_discrete}
 use lib.ListN.{get_elem?}
@@ -13,12 +13,9 @@ use Rattle.msrp_board.specs.declared.pages.View.{View}
 use Rattle.msrp_board.specs.declared.held.CoreState.{CoreState}
 use Rattle.msrp_board.specs.declared.books.BoardSize.{BoardSize}
 use Rattle.msrp_board.specs.declared.books.Conductor.{Conductor}
-use Rattle.msrp_plan.specs.declared.units.Call.TheVariants.{Poll}
-use Rattle.msrp_board.specs.Held.{res_of, state_of, page_at, state_at, Tie, Low, IsBelow, AllBelow, IsSeat}
-use Rattle.msrp_board.specs.Newest.{claim, turn_of}
-use Rattle.msrp_board.specs.Rule.{noted, polled, next, serving, Has, Sole, Ready, change}
-use Rattle.msrp_board.specs.declared.held.Claim.{Claim}
-use Rattle.msrp_board.specs.declared.held.Claim.TheVariants.{Waits}
+use Rattle.msrp_board.specs.Held.{state_of, page_at, state_at, Tie, IsBelow, IsSeat}
+use Rattle.msrp_board.specs.Newest.{claim}
+use Rattle.msrp_board.specs.Rule.{Sole, change}
 use Rattle.msrp_board.proofs.Sharing.{at_length}
 use Rattle.msrp_board.proofs.Calls.{each_some, each_at}
 
@@ -66,24 +63,24 @@ core_none held v c b tie low is sole = let e : some None ≡ some (Some (state_o
 tie_change : (held : List (Option CoreState)) (v : View) (c : ℕ) (b : Page) (f : Page → Page) (x : Option CoreState) → Tie held v.pages → Sole v c b → x ≡ Some (state_of (f b)) → Tie (set held c x) (change f v).pages
 tie_change held v c b f x tie sole is d low = dite (ℕ_discrete d c)
     (λ q. let t : get_elem? held c ≡ some (state_at v.pages c) = subst (λ k. get_elem? held k ≡ some (state_at v.pages k)) q (tie d low) in
-        subst (λ k. get_elem? (set held c x) k ≡ some (state_at (change f v).pages k)) (sym q) (set_here held c x (at_length held c (state_at v.pages c) t) ∙ ap some (is ∙ sym (state_has (change f v).pages c (f b) (each_at f v.pages c b sole.0)))))
+    subst (λ k. get_elem? (set held c x) k ≡ some (state_at (change f v).pages k)) (sym q) (set_here held c x (at_length held c (state_at v.pages c) t) ∙ ap some (is ∙ sym (state_has (change f v).pages c (f b) (each_at f v.pages c b sole.0)))))
     (λ n. set_else held c d x n ∙ tie d low ∙ ap some (⊎_elim
-        (λ h. absurd (n (sole.1 d h.0 (has_page v.pages d h.0 h.1))))
-        (λ e. ap (option_map state_of) (e ∙ sym (page_each f v.pages d ∙ none_each f (page_at v.pages d) e)))
-        (page_or_none (page_at v.pages d))))
+    (λ h. absurd (n (sole.1 d h.0 (has_page v.pages d h.0 h.1))))
+    (λ e. ap (option_map state_of) (e ∙ sym (page_each f v.pages d ∙ none_each f (page_at v.pages d) e)))
+    (page_or_none (page_at v.pages d))))
 
 -- the only page of a core's seat has changed
 pub seat_step : (z : BoardSize) (held : List (Option CoreState)) (o : Option Conductor) (me now : Me (Unit {0}) View) (c k : ℕ) (b : Page) (f : Page → Page) (x : CoreState)
     → IsSeat z held o me → Sole me.0 c b → k ≡ c → now ≡ (change f me.0, me.1) → x ≡ state_of (f b) → IsBelow z.resources (claim (f b).newest) → IsSeat z (set held k (Some x)) o now
 seat_step z held o me now c k b f x s sole at is step below = subst (IsSeat z (set held k (Some x)) o) (sym is) (record {
-    no_slot = s.no_slot;
-    tie = subst (λ j. Tie (set held j (Some x)) (change f me.0).pages) (sym at) (tie_change held me.0 c b f (Some x) s.tie sole (ap Some step));
-    conducts = s.conducts;
-    low = λ d e h. let u = each_some f me.0.pages d e h in s.low d u.0 u.1;
-    below = λ d e h. let u = each_some f me.0.pages d e h in
-        let same : some (Some b) ≡ some (Some u.0) = sym sole.0 ∙ subst (λ j. get_elem? me.0.pages j ≡ some (Some u.0)) (sole.1 d u.0 u.1) u.1 in
-        subst (λ (p : Page). IsBelow z.resources (claim p.newest)) (ap f (page_of b u.0 same) ∙ u.2) below
-  })
+  no_slot = s.no_slot;
+  tie = subst (λ j. Tie (set held j (Some x)) (change f me.0).pages) (sym at) (tie_change held me.0 c b f (Some x) s.tie sole (ap Some step));
+  conducts = s.conducts;
+  low = λ d e h. let u = each_some f me.0.pages d e h in s.low d u.0 u.1;
+  below = λ d e h. let u = each_some f me.0.pages d e h in
+      let same : some (Some b) ≡ some (Some u.0) = sym sole.0 ∙ subst (λ j. get_elem? me.0.pages j ≡ some (Some u.0)) (sole.1 d u.0 u.1) u.1 in
+      subst (λ (p : Page). IsBelow z.resources (claim p.newest)) (ap f (page_of b u.0 same) ∙ u.2) below;
+})
   where
     page_of : (p q : Page) → some (Some p) ≡ some (Some q) → p ≡ q
     page_of p q e = cc

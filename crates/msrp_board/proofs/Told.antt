@@ -1,16 +1,16 @@
 -- A page as callers see it: what it says of its core is what the book says.
-use Rattle.std.proofs.Common.{get_or, nat_lt, ◌<◌, ◌≤◌, ⊎_elim, arith, ◌==◌, ◌||◌, ◌≡◌, ℕ, zero, suc, List, [], ◌∷◌, ◌++◌, map, reverse, Bool, true, false, fold, Some, None, refl, sym, ap, ◌∙◌, subst}
+use Rattle.std.proofs.Common.{get_or, nat_lt, ◌<◌, ◌≤◌, ⊎_elim, arith, ◌==◌, ◌||◌, ◌≡◌, ℕ, zero, suc, List, [], ◌∷◌, map, reverse, Bool, true, false, fold, Some, None, refl, sym, ap, ◌∙◌}
 use Rattle.std.specs.Prelude.{slice_index_or}
 use Rattle.std.specs.List.{list_any}
 use Rattle.std.specs.Option.{option_map, is_some}
 use Rattle.std.specs.declared.option.Option.{Option}
 use Rattle.std.proofs.lemmas.List.Folds.{list_any-append}
-use mathlib.Core.Option.{some, some-injective}
+use mathlib.Core.Option.{some}
 use lib.ListN.{get_elem?}
 use Rattle.msrp_plan.specs.declared.units.Call.{Call}
 use Rattle.msrp_plan.specs.declared.units.Call.TheVariants.{Ask, Poll, Leave}
 use Rattle.msrp_plan.specs.declared.units.Phase.{Phase}
-use Rattle.msrp_plan.specs.declared.units.Phase.TheVariants.{Free, Queued, Holding}
+use Rattle.msrp_plan.specs.declared.units.Phase.TheVariants.{Free}
 use Rattle.msrp_board.specs.declared.books.Entry.{Entry}
 use Rattle.msrp_board.specs.declared.books.Book.{Book}
 use Rattle.msrp_board.specs.declared.pages.Page.{Page}
@@ -18,9 +18,9 @@ use Rattle.msrp_board.specs.declared.pages.View.{View}
 use Rattle.msrp_board.specs.declared.held.Claim.{Claim}
 use Rattle.msrp_board.specs.declared.held.CoreState.{CoreState}
 use Rattle.msrp_board.specs.Books.{phase_after, phase_by, phase_in, lock_of, has_acted}
-use Rattle.msrp_board.specs.Boards.{BoardModel, SeatModel, book_at, IsCoreSeat}
+use Rattle.msrp_board.specs.Boards.{BoardModel, IsCoreSeat}
 use Rattle.msrp_board.specs.Newest.{claim, claim_after}
-use Rattle.msrp_board.specs.Rule.{Has, Sole, acted}
+use Rattle.msrp_board.specs.Rule.{Sole, acted}
 use Rattle.msrp_board.specs.Held.{told, phase_of, page_at, seen_as, state_of, state_at, Tie, Low, Shows}
 use Rattle.msrp_board.proofs.Lists.{reverse_cons, fold_last}
 use Rattle.msrp_board.proofs.Ties.{has_page, page_has, get_or_at, page_or_none}
@@ -81,10 +81,10 @@ sole_of board v c a is = let r = page_of v.pages c a is.book in
 
 pub core_of_sole : (board : BoardModel) (v : View) (c : ℕ) (b : Page) → Sole v c b → IsCoreSeat (seen_as board v) c (told b)
 core_of_sole board v c b sole = record {
-    book = book_of v.pages c b sole.0;
-    only = λ d e h. let r = page_of v.pages d e h in sole.1 d r.0 r.1;
-    conductor = sole.2
-  }
+  book = book_of v.pages c b sole.0;
+  only = λ d e h. let r = page_of v.pages d e h in sole.1 d r.0 r.1;
+  conductor = sole.2;
+}
 
 some_told : (o : Option Page) → is_some (option_map state_of o) ≡ is_some (option_map told o)
 some_told None = refl

@@ -1,5 +1,5 @@
 -- How what a seat keeps at run time stands to what it knows, and how what it knows is told to callers.
-use Rattle.std.specs.Prelude.{◌≡◌, ℕ, zero, suc, ◌<◌, List, [], ◌∷◌, map, take, slice_index, Some, None, reverse, Bool, true, false, ltb, leb, ◌+◌, ◌*◌, slice_index_or, ⊤}
+use Rattle.std.specs.Prelude.{◌≡◌, ℕ, ◌<◌, List, [], map, take, slice_index, Some, None, reverse, Bool, true, false, ltb, leb, ◌+◌, ◌*◌, slice_index_or, ⊤}
 use Rattle.std.specs.List.{filter_map}
 use Rattle.std.specs.Option.{option_map, unwrap_or}
 use Rattle.std.specs.declared.option.Option.{Option}
@@ -106,12 +106,12 @@ pub record IsBoard (z key : BoardSize) (table : TableId) : Type 0 where
 -- the size, the words and the last seat of a board that nobody uses any more, as callers see them
 abbrev pub settled_as : BoardSize → List ℕ → SeatModel → SettledModel
 settled_as z words seat = record {
-    size = z;
-    tickets = take z.resources words;
-    barrier = slice_index words z.resources;
-    books = filter_map (λ book. book) seat.books;
-    conductor = unwrap_or seat.conductor Unopened
-  }
+  size = z;
+  tickets = take z.resources words;
+  barrier = slice_index words z.resources;
+  books = filter_map (λ book. book) seat.books;
+  conductor = unwrap_or seat.conductor Unopened;
+}
 
 -- the seat knows all these pages, and the rule holds of them
 abbrev pub Whole : BoardSize → List ℕ → View → Type 0

@@ -62,7 +62,8 @@ impl Board {
             ticks,
         };
         let zeros = [0u64; 33];
-        let Ok((table, place)) = Table::of_words(alloc, &zeros[..resources as usize + 1], &size) else {
+        let Ok((table, place)) = Table::of_words(alloc, &zeros[..resources as usize + 1], &size)
+        else {
             return Err(BoardError::B2);
         };
         let seat = BoardSeat {
@@ -103,7 +104,11 @@ impl Board {
         ensures behind { (g : ResId) → MayAct (Queued g) seat.old → IsBehind g.0 result.place seat.old }
     {
         let (core, state) = own(&seat.held);
-        let found = steps::poll(&self.table.shared, &mut seat.place, state.claim.res() as usize);
+        let found = steps::poll(
+            &self.table.shared,
+            &mut seat.place,
+            state.claim.res() as usize,
+        );
         let (next, serving) = halves(found);
         let polled = Polled {
             place: next + serving,
@@ -122,7 +127,11 @@ impl Board {
         ensures behind { (g : ResId) → MayAct (Holding g) seat.old → IsBehind g.0 result seat.old }
     {
         let (core, state) = own(&seat.held);
-        let found = steps::leave(&self.table.shared, &mut seat.place, state.claim.res() as usize);
+        let found = steps::leave(
+            &self.table.shared,
+            &mut seat.place,
+            state.claim.res() as usize,
+        );
         let (next, serving) = halves(found);
         seat.held[core] = Some(state.left());
         next + serving
@@ -140,7 +149,12 @@ impl Board {
     {
         let (core, state) = own(&seat.held);
         let barrier = self.size.resources as usize;
-        let found = steps::look(&self.table.shared, &mut seat.place, barrier, self.size.cores);
+        let found = steps::look(
+            &self.table.shared,
+            &mut seat.place,
+            barrier,
+            self.size.cores,
+        );
         let look = state.finds(self.size.cores, found);
         seat.held[core] = Some(state.looked(look));
         look
@@ -154,7 +168,11 @@ impl Board {
         ensures { seat.new ≡ arrived seat.old }
     {
         let (core, state) = own(&seat.held);
-        steps::arrive(&self.table.shared, &mut seat.place, self.size.resources as usize);
+        steps::arrive(
+            &self.table.shared,
+            &mut seat.place,
+            self.size.resources as usize,
+        );
         seat.held[core] = Some(state.arrived());
     }
 
@@ -164,7 +182,11 @@ impl Board {
         requires unopened { seat.old.conductor ≡ Some Unopened }
         ensures { seat.new ≡ conducted Opened seat.old }
     {
-        steps::open(&self.table.shared, &mut seat.place, self.size.resources as usize);
+        steps::open(
+            &self.table.shared,
+            &mut seat.place,
+            self.size.resources as usize,
+        );
         seat.conductor = Some(Conductor::Opened);
     }
 
@@ -175,7 +197,11 @@ impl Board {
         requires unopened { seat.old.conductor ≡ Some Unopened }
         ensures { seat.new ≡ conducted Aborted seat.old }
     {
-        steps::abort(&self.table.shared, &mut seat.place, self.size.resources as usize);
+        steps::abort(
+            &self.table.shared,
+            &mut seat.place,
+            self.size.resources as usize,
+        );
         seat.conductor = Some(Conductor::Aborted);
     }
 

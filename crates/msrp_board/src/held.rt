@@ -96,7 +96,11 @@ impl CoreState {
         requires { place + ahead < 4294967296 }
         ensures { (b : Page) → self ≡ state_of b → result ≡ state_of (noted res place (Ask ahead) b) }
     {
-        let claim = if ahead == 0 { Claim::Holds(res, place) } else { Claim::Waits(res, place + ahead) };
+        let claim = if ahead == 0 {
+            Claim::Holds(res, place)
+        } else {
+            Claim::Waits(res, place + ahead)
+        };
         CoreState {
             claim,
             acted: true,
@@ -108,7 +112,11 @@ impl CoreState {
     pub fn polled(self, granted: bool) -> CoreState
         ensures { (b : Page) (p : ℕ) → self ≡ state_of b → result ≡ state_of (noted (res_of self.claim) p (Poll granted) b) }
     {
-        let claim = if granted { Claim::Holds(self.claim.res(), self.claim.turn()) } else { self.claim };
+        let claim = if granted {
+            Claim::Holds(self.claim.res(), self.claim.turn())
+        } else {
+            self.claim
+        };
         CoreState {
             claim,
             acted: true,
@@ -159,8 +167,14 @@ impl CoreState {
     {
         match look {
             Look::Wait => self,
-            Look::Go => CoreState { admitted: true, ..self },
-            Look::Stopped => CoreState { stopped: true, ..self },
+            Look::Go => CoreState {
+                admitted: true,
+                ..self
+            },
+            Look::Stopped => CoreState {
+                stopped: true,
+                ..self
+            },
         }
     }
 }
@@ -224,7 +238,10 @@ pub fn others(held: &[Option<CoreState>; 8], core: usize) -> [Option<CoreState>;
 }
 
 /// The states of both, where no core is in both.
-pub fn union(held: &[Option<CoreState>; 8], other: &[Option<CoreState>; 8]) -> [Option<CoreState>; 8]
+pub fn union(
+    held: &[Option<CoreState>; 8],
+    other: &[Option<CoreState>; 8],
+) -> [Option<CoreState>; 8]
     ensures { (pages more : List (Option Page)) → Tie held.now pages → Tie other.now more → Tie result (together pages more) }
 {
     let mut both = [None; 8];

@@ -7,7 +7,7 @@ ghost use Rattle.msrp_board.specs.Boards.{IsCoreSeat, HasCore, book_at};
 
 use crate::answers::SeatPhase;
 use crate::books::{BoardSize, Conductor};
-use crate::held::{own, CoreState};
+use crate::held::{CoreState, own};
 use crate::pages::Place;
 use msrp_plan::{CoreId, Phase};
 use std::marker::Model;

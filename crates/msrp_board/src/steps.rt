@@ -8,7 +8,9 @@ ghost use Rattle.msrp_board.specs.declared.books.Conductor.TheVariants.{Unopened
 ghost use Rattle.msrp_board.specs.declared.held.Claim.TheVariants.{Nothing, Waits, Holds};
 ghost use Rattle.msrp_board.specs.Rule.{Ready, TellsAsk, TellsPoll, TellsLeave, TellsArrival, TellsLook, Waiting, AdmittedAt, TellsOpening, TellsAbort, view_alone, view_without, view_both};
 
-use crate::pages::{Aborts, Arrives, Asks, Both, Leaves, Looks, Named, Opens, Parts, Place, Polls, Words};
+use crate::pages::{
+    Aborts, Arrives, Asks, Both, Leaves, Looks, Named, Opens, Parts, Place, Polls, Words,
+};
 use std::marker::Brand;
 
 /// A request. Answers the ticket word that it found.

@@ -1,4 +1,4 @@
-use Rattle.std.proofs.Common.{◌≡◌, ◌<◌, ℕ, None, Some, replicate}
+use Rattle.std.proofs.Common.{Some, replicate}
 use Rattle.msrp_board.specs.Held.{Tie}
 use Rattle.msrp_board.specs.Rule.{empty}
 use Rattle.msrp_board.proofs.held.fresh.Given as goal

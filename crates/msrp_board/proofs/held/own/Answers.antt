@@ -1,4 +1,4 @@
-use Rattle.std.proofs.Common.{◌∙◌, sym, arith}
+use Rattle.std.proofs.Common.{◌∙◌, sym}
 use Rattle.msrp_board.proofs.Ties.{own_at, some_now, none_now}
 use Rattle.msrp_board.proofs.held.own.Goals as goal
 

@@ -1,5 +1,4 @@
 use Rattle.msrp_board.proofs.Unique.{history_unique}
-use Rattle.msrp_board.proofs.Reversed.{places_reversed, orderly_reversed, ticks_reversed, history_reversed}
 use Rattle.msrp_board.proofs.laws.history_is_unique.Goals as goal
 
 pub returns : goal.returns

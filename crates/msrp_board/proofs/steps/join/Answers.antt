@@ -1,4 +1,3 @@
-use Rattle.std.proofs.Common.{arith}
 use Rattle.msrp_board.proofs.Parting.{joins}
 use Rattle.msrp_board.proofs.steps.join.Goals as goal
 

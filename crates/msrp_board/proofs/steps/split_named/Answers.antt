@@ -1,4 +1,3 @@
-use Rattle.std.proofs.Common.{arith}
 use Rattle.msrp_board.proofs.Parting.{splits}
 use Rattle.msrp_board.proofs.steps.split_named.Goals as goal
 

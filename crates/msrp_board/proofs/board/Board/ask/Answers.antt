@@ -1,4 +1,4 @@
-use Rattle.std.proofs.Common.{◌<◌, ◌-◌, sym, ap, ◌∙◌, ◌≡◌, subst, refl}
+use Rattle.std.proofs.Common.{◌<◌, ◌-◌, sym, ap, ◌∙◌, subst}
 use Rattle.msrp_plan.specs.declared.units.Phase.TheVariants.{Free}
 use Rattle.msrp_plan.specs.declared.units.Call.TheVariants.{Ask}
 use Rattle.msrp_board.specs.Boards.{BoardModel, SeatModel}
@@ -24,7 +24,7 @@ invariant_of-seat c =
     let h = c.halves-next.ensures in
     let in_board : c.args.res.0 < c.seat.inside.size.resources = subst (λ k. c.args.res.0 < k) (sym (ap (λ (s : SeatModel). s.board.size.resources) c.seat.view_is ∙ ap (λ (b : BoardModel). b.size.resources) c.requires.board)) c.requires.res in
     seat_step _ _ _ _ _ a.core _ a.page _ _ i a.sole o.0 (ask_tells c.args.res.0 _ _ _ _ _ h.0 h.1 c.ask-found.ensures.asked.0) (c.asked.ensures a.page o.1)
-        (below_after _ _ _ _ (Ask (c.halves-next.result.0 - c.halves-next.result.1)) in_board (i.below a.core a.page a.sole.0))
+    (below_after _ _ _ _ (Ask (c.halves-next.result.0 - c.halves-next.result.1)) in_board (i.below a.core a.page a.sole.0))
 
 pub returns-clause-entry : goal.returns-clause-entry
 returns-clause-entry c =

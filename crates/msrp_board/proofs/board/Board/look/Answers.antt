@@ -1,7 +1,6 @@
-use Rattle.std.proofs.Common.{ltb, leb, ◌+◌, ◌*◌, refl, sym, ap, ◌∙◌, ◌≡◌, ◌<◌, subst}
+use Rattle.std.proofs.Common.{ltb, leb, ◌+◌, ◌*◌, sym, ap, ◌∙◌, ◌≡◌, ◌<◌, subst}
 use Rattle.msrp_board.specs.declared.answers.SeatPhase.TheVariants.{Waiting}
 use Rattle.msrp_board.specs.declared.books.BoardSize.{BoardSize}
-use Rattle.msrp_board.specs.declared.held.Claim.{Claim}
 use Rattle.msrp_board.specs.declared.held.CoreState.{CoreState}
 use Rattle.msrp_board.specs.Boards.{BoardModel, SeatModel}
 use Rattle.msrp_board.specs.Rule.{looked, next, serving}
@@ -31,7 +30,7 @@ invariant_of-seat c =
     let n = c.look-found.result in
     let is = c.finds-look.ensures ∙ ap (λ (x : CoreState). look_of m n x.tick) o.1 in
     seat_step _ _ _ _ _ a.core _ a.page (looked m n) _ i a.sole o.0 c.look-found.ensures.looked.0 (c.looked.ensures a.page m n o.1 is)
-        (subst (IsBelow c.seat.inside.size.resources) (sym (looked_claim (ltb 0 (next n)) (leb (1 + m * a.page.tick) (serving n)) a.page)) (i.below a.core a.page a.sole.0))
+    (subst (IsBelow c.seat.inside.size.resources) (sym (looked_claim (ltb 0 (next n)) (leb (1 + m * a.page.tick) (serving n)) a.page)) (i.below a.core a.page a.sole.0))
 
 pub returns-clause-wait : goal.returns-clause-wait
 returns-clause-wait c e =

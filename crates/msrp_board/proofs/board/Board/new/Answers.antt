@@ -1,5 +1,3 @@
-use Rattle.std.proofs.Common.{sym, ap, ◌∙◌, ◌≡◌, subst}
-use Rattle.msrp_board.specs.declared.books.BoardSize.{BoardSize}
 use Rattle.msrp_board.proofs.Start.{begins_at}
 use Rattle.msrp_board.proofs.Seats.{first_is_seat, first_made}
 use Rattle.msrp_board.proofs.board.Board.new.Goals as goal

@@ -1,4 +1,4 @@
-use Rattle.std.proofs.Common.{refl, arith, ℕ, ◌≡◌, ◌<◌, ◌+◌, ◌∙◌, sym, ap, subst}
+use Rattle.std.proofs.Common.{arith, ℕ, ◌≡◌, ◌<◌, ◌+◌, ◌∙◌, sym, ap, subst}
 use Rattle.std.specs.Prelude.{slice_index}
 use Rattle.std.specs.Mem.Slots.{slots_items}
 use Rattle.msrp_board.specs.declared.books.BoardSize.{BoardSize}

@@ -1,4 +1,3 @@
-use Rattle.std.proofs.Common.{sym, ap, ◌∙◌}
 use Rattle.msrp_board.proofs.Parts.{core_low, alone_is_seat, without_is_seat, alone_seen, without_seen}
 use Rattle.msrp_board.proofs.board.Board.split.Goals as goal
 

@@ -1,4 +1,4 @@
-use Rattle.std.proofs.Common.{Some, None, Bool, IsTrue, ap, sym, ◌∙◌, ◌≡◌, subst, true, false, nat_lt, ltb-true, true≢false, arith}
+use Rattle.std.proofs.Common.{ap, sym, ◌∙◌, ltb-true, true≢false, arith}
 use Rattle.std.specs.Option.{is_some}
 use Rattle.msrp_board.specs.Boards.{SeatModel, book_at}
 use Rattle.msrp_board.proofs.Told.{held_some, none_past}

@@ -1,6 +1,6 @@
-use Rattle.std.proofs.Common.{ap, ◌∙◌, nat_lt}
+use Rattle.std.proofs.Common.{ap, ◌∙◌}
 use Rattle.msrp_board.proofs.Told.{phase_shown}
-use Rattle.msrp_board.specs.Books.{phase_by, phase_in}
+use Rattle.msrp_board.specs.Books.{phase_in}
 use Rattle.msrp_board.specs.Boards.{SeatModel}
 use Rattle.msrp_board.proofs.seat.BoardSeat.phase.Goals as goal
 

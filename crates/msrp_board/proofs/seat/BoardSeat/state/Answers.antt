@@ -1,8 +1,7 @@
-use Rattle.std.proofs.Common.{refl, sym, ap, ◌∙◌, subst}
+use Rattle.std.proofs.Common.{refl, sym, subst}
 use Rattle.msrp_board.proofs.Told.{sole_of, lock_told, acted_told}
 use Rattle.msrp_board.specs.Boards.{IsCoreSeat, HasCore}
-use Rattle.msrp_board.specs.Held.{phase_of, Shows, state_of}
-use Rattle.msrp_board.specs.declared.held.CoreState.{CoreState}
+use Rattle.msrp_board.specs.Held.{Shows, state_of}
 use Rattle.msrp_board.proofs.seat.BoardSeat.state.Goals as goal
 
 pub own-requires : goal.own-requires
