@@ -1,0 +1,7 @@
+use Rattle.std.proofs.Common.{◌≡◌, ◌<◌, ℕ, length}
+use Rattle.std.specs.Prelude.{slice_index}
+use Rattle.std.specs.Mem.Slots.{slots_items}
+use Rattle.msrp_board.proofs.settled.words_of.Given as goal
+
+abbrev pub invariant-loop-g : goal.invariant-loop-g
+invariant-loop-g l = (length l.words ≡ 33) × ((d : ℕ) → d < l.g → slice_index l.words d ≡ slice_index (slots_items l.closed.words) d)

@@ -1,0 +1,71 @@
+-- The history of a resource: what all cores did with it, in the one order of its ticket word, oldest first.
+use Rattle.std.specs.Prelude.{◌≡◌, ℕ, suc, ◌<◌, ◌≤◌, List, [], ◌∷◌, map, Bool, true, false, cond, ◌==◌, count_by, ◌⊎◌, ⊤}
+use Rattle.msrp_plan.specs.FifoLock.{Legal}
+use Rattle.msrp_plan.specs.declared.units.Call.{Call}
+use Rattle.msrp_plan.specs.declared.units.Call.TheVariants.{Ask, Poll, Leave}
+use Rattle.msrp_board.specs.declared.books.Entry.{Entry}
+use Rattle.msrp_board.specs.Books.{on, IsChain}
+
+-- an entry with the number of its core
+abbrev pub Event : Type 0
+Event = ℕ × Entry
+
+-- what stands under the number c, in order
+abbrev pub by : {X : Type 0} → ℕ → List (ℕ × X) → List X
+by c [] = []
+by c (x ∷ xs) = cond (x.0 == c) (x.1 ∷ by c xs) (by c xs)
+
+abbrev pub calls : List Event → List (ℕ × Call)
+calls h = map (λ s. (s.0, s.1.call)) h
+
+abbrev pub is_request : Call → Bool
+is_request (Ask n) = true
+is_request (Poll granted) = false
+is_request Leave = false
+
+abbrev pub is_poll : Call → Bool
+is_poll (Ask n) = false
+is_poll (Poll granted) = true
+is_poll Leave = false
+
+abbrev pub is_release : Call → Bool
+is_release (Ask n) = false
+is_release (Poll granted) = false
+is_release Leave = true
+
+-- a request and a release take a place, a poll reads one and takes none
+abbrev pub place_after : ℕ → Call → ℕ
+place_after p (Ask n) = suc p
+place_after p (Poll granted) = p
+place_after p Leave = suc p
+
+-- the place of each event is p and the number of requests and releases before it
+abbrev pub Placed : ℕ → List Event → Type 0
+Placed p [] = ⊤
+Placed p (s ∷ h) = (s.1.place ≡ p) × Placed (place_after p s.1.call) h
+
+-- two polls that stand together, so that they read the same place, stand by tick, then by core
+abbrev pub PollsInOrder : Event → Event → Type 0
+PollsInOrder s x = is_poll s.1.call ≡ true → is_poll x.1.call ≡ true → (s.1.tick < x.1.tick) ⊎ ((s.1.tick ≡ x.1.tick) × (s.0 ≤ x.0))
+
+abbrev pub IsNotLater : Event → Event → Type 0
+IsNotLater s x = s.1.tick ≤ x.1.tick
+
+-- h is the history of resource g by these books: it has the entries of each core's book on g, in order; requests
+-- and releases stand by place, from 0 on, each place once, and a poll directly before the step of the place it read
+pub record IsHistory (g : ℕ) (books : ℕ → List Entry) (h : List Event) : Type 0 where
+  pub entries : (c : ℕ) → by c h ≡ on g (books c)
+  pub placed : Placed 0 h
+  pub polls : IsChain PollsInOrder h
+
+-- the history is what the ticket word counts, is answered as a first-in-first-out lock answers, and its ticks never fall
+pub record IsServed (next serving g : ℕ) (books : ℕ → List Entry) (h : List Event) : Type 0 where
+  pub history : IsHistory g books h
+  pub requests : count_by (λ s. is_request s.1.call) h ≡ next
+  pub releases : count_by (λ s. is_release s.1.call) h ≡ serving
+  pub legal : Legal (calls h)
+  pub rising : IsChain IsNotLater h
+
+-- books have but one history of a resource
+abbrev pub HistoryIsUnique : Type 0
+HistoryIsUnique = (g : ℕ) (books : ℕ → List Entry) (h k : List Event) → IsHistory g books h → IsHistory g books k → h ≡ k

@@ -1,0 +1,271 @@
+//! The board and its calls. None but [`Board::new`] takes memory, and none waits for another thread.
+ghost use Rattle.std.specs.Prelude.{◌≡◌, ◌<◌, ◌↔◌, ℕ, Some, IfOk, IfErr, IsSome};
+ghost use Rattle.msrp_plan.specs.declared.ids.ResId.{ResId};
+ghost use Rattle.msrp_plan.specs.declared.units.Call.TheVariants.{Ask, Poll, Leave};
+ghost use Rattle.msrp_plan.specs.declared.units.Phase.TheVariants.{Free, Queued, Holding};
+ghost use Rattle.msrp_board.specs.declared.answers.BoardError.TheVariants.{B1, B2};
+ghost use Rattle.msrp_board.specs.declared.answers.Look.TheVariants.{Wait, Go, Stopped};
+ghost use Rattle.msrp_board.specs.declared.answers.SeatPhase.TheVariants.{Waiting, Admitted};
+ghost use Rattle.msrp_board.specs.declared.books.Book.{Book};
+ghost use Rattle.msrp_board.specs.declared.books.Conductor.TheVariants.{Unopened, Opened, Aborted};
+ghost use Rattle.msrp_board.specs.Rule.{next, serving};
+ghost use Rattle.msrp_board.specs.Boards.{book_at, IsSize, IsCoreSeat, IsIn, MayAct, IsBehind, HasAnother, HasAll, first_seat, with_entry, admitted, stopped, arrived, conducted, alone, without, both};
+
+use crate::answers::{Asked, BoardError, Look, Polled};
+use crate::books::{BoardSize, Conductor};
+use crate::held::{fresh, only, others, own, union};
+use crate::pages::{Tickets, View};
+use crate::seat::BoardSeat;
+use crate::steps;
+use atomic_table::Table;
+use msrp_plan::{CoreId, ResId};
+use std::alloc::Global;
+use std::marker::Model;
+
+/// A ticket word for each resource and the barrier word, which the threads share by `&Board`.
+#[derive(Drop)]
+pub struct Board {
+    pub(crate) table: Table<(), View, BoardSize, Tickets, Global>,
+    pub(crate) size: BoardSize,
+}
+
+impl Model for Board {
+    ghost use Rattle.msrp_board.specs.Boards.{BoardModel};
+    ghost use Rattle.msrp_board.specs.Held.{IsBoard};
+
+    ghost Value = { BoardModel };
+
+    ghost view = { λ b. record { table = b.table.shared.table_id; size = b.size } };
+
+    ghost invariant = { λ b. IsBoard b.size b.table.shared.key b.table.shared.table_id };
+}
+
+impl Board {
+    /// A board of so many cores, global resources and ticks, and its first seat, which holds an empty book for each
+    /// core and the conductor's. `B1` is judged before memory is asked for.
+    pub fn new(
+        alloc: Global,
+        cores: u32,
+        resources: u32,
+        ticks: u32,
+    ) -> Result<(Board, BoardSeat), BoardError>
+        ensures limits { (result ≡ Err B1) ↔ ¬ IsSize cores resources ticks }
+        ensures size { IfOk result (λ r. r.0.size ≡ record { cores = cores; resources = resources; ticks = ticks }) }
+        ensures seat { IfOk result (λ r. r.1 ≡ first_seat r.0) }
+    {
+        if cores < 1 || cores > 8 || resources > 32 || ticks < 1 || ticks > 20000 {
+            return Err(BoardError::B1);
+        }
+        let size = BoardSize {
+            cores,
+            resources,
+            ticks,
+        };
+        let zeros = [0u64; 33];
+        let Ok((table, place)) = Table::of_words(alloc, &zeros[..resources as usize + 1], &size)
+        else {
+            return Err(BoardError::B2);
+        };
+        let seat = BoardSeat {
+            place,
+            size,
+            held: fresh(cores as usize),
+            conductor: Some(Conductor::Unopened),
+        };
+        Ok((Board { table, size }, seat))
+    }
+
+    /// Requests the resource for the core of the seat: one `fetch_add` on its ticket word. With none ahead it is
+    /// granted at once (MSRP's request; a first-in-first-out queue).
+    pub fn ask(&self, seat: &mut BoardSeat, res: ResId) -> Asked
+        requires board { seat.old.board ≡ self.now }
+        requires res { res.0 < self.now.size.resources }
+        requires free { MayAct Free seat.old }
+        ensures entry { seat.new ≡ with_entry res result.place (Ask result.ahead) seat.old }
+        ensures behind { IsBehind res.0 result.place seat.old }
+    {
+        let (core, state) = own(&seat.held);
+        let found = steps::ask(&self.table.shared, &mut seat.place, res.0 as usize);
+        let (next, serving) = halves(found);
+        let asked = Asked {
+            place: next + serving,
+            ahead: next - serving,
+        };
+        seat.held[core] = Some(state.asked(res.0, asked.place, asked.ahead));
+        asked
+    }
+
+    /// Asks whether the resource that the core of the seat awaits is granted: one `load` of its ticket word. It is
+    /// where the core's ticket is served.
+    pub fn poll(&self, seat: &mut BoardSeat) -> Polled
+        requires board { seat.old.board ≡ self.now }
+        requires queued { (g : ResId) × MayAct (Queued g) seat.old }
+        ensures entry { (g : ResId) → MayAct (Queued g) seat.old → seat.new ≡ with_entry g result.place (Poll result.granted) seat.old }
+        ensures behind { (g : ResId) → MayAct (Queued g) seat.old → IsBehind g.0 result.place seat.old }
+    {
+        let (core, state) = own(&seat.held);
+        let found = steps::poll(
+            &self.table.shared,
+            &mut seat.place,
+            state.claim.res() as usize,
+        );
+        let (next, serving) = halves(found);
+        let polled = Polled {
+            place: next + serving,
+            granted: 2 * serving == state.claim.turn(),
+        };
+        seat.held[core] = Some(state.polled(polled.granted));
+        polled
+    }
+
+    /// Releases the resource that the core of the seat holds, and answers the place of the release: one `fetch_add`
+    /// on its ticket word.
+    pub fn leave(&self, seat: &mut BoardSeat) -> u32
+        requires board { seat.old.board ≡ self.now }
+        requires holding { (g : ResId) × MayAct (Holding g) seat.old }
+        ensures entry { (g : ResId) → MayAct (Holding g) seat.old → seat.new ≡ with_entry g result Leave seat.old }
+        ensures behind { (g : ResId) → MayAct (Holding g) seat.old → IsBehind g.0 result seat.old }
+    {
+        let (core, state) = own(&seat.held);
+        let found = steps::leave(
+            &self.table.shared,
+            &mut seat.place,
+            state.claim.res() as usize,
+        );
+        let (next, serving) = halves(found);
+        seat.held[core] = Some(state.left());
+        next + serving
+    }
+
+    /// Looks whether the core of the seat is let into its tick: one `load` of the barrier word. Go is answered only
+    /// where the conductor opened and every core has arrived from all ticks below, Stopped only where it aborted.
+    pub fn look(&self, seat: &mut BoardSeat) -> Look
+        requires board { seat.old.board ≡ self.now }
+        requires waiting { IsIn Waiting seat.old }
+        ensures wait { result ≡ Wait → seat.new ≡ seat.old }
+        ensures go { result ≡ Go → seat.new ≡ admitted seat.old }
+        ensures stopped { result ≡ Stopped → seat.new ≡ stopped seat.old }
+        ensures start { (c : ℕ) (b : Book) → result ≡ Stopped → IsCoreSeat seat.old c b → b.tick ≡ 0 }
+    {
+        let (core, state) = own(&seat.held);
+        let barrier = self.size.resources as usize;
+        let found = steps::look(
+            &self.table.shared,
+            &mut seat.place,
+            barrier,
+            self.size.cores,
+        );
+        let look = state.finds(self.size.cores, found);
+        seat.held[core] = Some(state.looked(look));
+        look
+    }
+
+    /// Arrives from the tick that the core of the seat is in: one `fetch_add` on the barrier word. The seat then
+    /// waits for the next tick, or is done.
+    pub fn arrive(&self, seat: &mut BoardSeat)
+        requires board { seat.old.board ≡ self.now }
+        requires admitted { IsIn Admitted seat.old }
+        ensures { seat.new ≡ arrived seat.old }
+    {
+        let (core, state) = own(&seat.held);
+        steps::arrive(
+            &self.table.shared,
+            &mut seat.place,
+            self.size.resources as usize,
+        );
+        seat.held[core] = Some(state.arrived());
+    }
+
+    /// Lets the cores into tick 0: one `fetch_add` on the barrier word.
+    pub fn open(&self, seat: &mut BoardSeat)
+        requires board { seat.old.board ≡ self.now }
+        requires unopened { seat.old.conductor ≡ Some Unopened }
+        ensures { seat.new ≡ conducted Opened seat.old }
+    {
+        steps::open(
+            &self.table.shared,
+            &mut seat.place,
+            self.size.resources as usize,
+        );
+        seat.conductor = Some(Conductor::Opened);
+    }
+
+    /// Calls the run off before it began: one `fetch_add` on the barrier word. No core is let into tick 0, and each
+    /// that looks is told so.
+    pub fn abort(&self, seat: &mut BoardSeat)
+        requires board { seat.old.board ≡ self.now }
+        requires unopened { seat.old.conductor ≡ Some Unopened }
+        ensures { seat.new ≡ conducted Aborted seat.old }
+    {
+        steps::abort(
+            &self.table.shared,
+            &mut seat.place,
+            self.size.resources as usize,
+        );
+        seat.conductor = Some(Conductor::Aborted);
+    }
+
+    /// The core's seat, and one with the other books.
+    pub fn split(&self, seat: BoardSeat, core: CoreId) -> (BoardSeat, BoardSeat)
+        requires board { seat.board ≡ self.now }
+        requires book { IsSome (book_at seat core.0) }
+        requires another { HasAnother core.0 seat }
+        ensures core { result.0 ≡ alone core.0 seat }
+        ensures rest { result.1 ≡ without core.0 seat }
+    {
+        let BoardSeat {
+            mut place,
+            size,
+            held,
+            conductor,
+        } = seat;
+        let core = core.0 as usize;
+        let rest = steps::split(&self.table.shared, &mut place, core);
+        let own = BoardSeat {
+            place,
+            size,
+            held: only(&held, core),
+            conductor: None,
+        };
+        let others = BoardSeat {
+            place: rest,
+            size,
+            held: others(&held, core),
+            conductor,
+        };
+        (own, others)
+    }
+
+    /// One seat with the books of both.
+    pub fn join(&self, seat: BoardSeat, other: BoardSeat) -> BoardSeat
+        requires board { (seat.board ≡ self.now) × (other.board ≡ self.now) }
+        ensures { result ≡ both seat other }
+    {
+        let BoardSeat {
+            mut place,
+            size,
+            held,
+            conductor,
+        } = seat;
+        let BoardSeat {
+            place: other_place,
+            size: _,
+            held: other_held,
+            conductor: other_conductor,
+        } = other;
+        steps::join(&self.table.shared, &mut place, other_place);
+        BoardSeat {
+            place,
+            size,
+            held: union(&held, &other_held),
+            conductor: conductor.or(other_conductor),
+        }
+    }
+}
+
+// The halves of a word: the high one, and the low one.
+fn halves(word: u64) -> (u32, u32)
+    ensures { (result.0 ≡ next word) × (result.1 ≡ serving word) }
+{
+    ((word / 4294967296) as u32, (word % 4294967296) as u32)
+}

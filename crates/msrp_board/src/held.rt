@@ -1,0 +1,252 @@
+//! What a seat keeps at run time of the cores whose books it holds: enough to answer its readers, without the entries.
+ghost use Rattle.std.specs.Prelude.{◌≡◌, ◌<◌, ◌≤◌, ◌+◌, ℕ, List, Some, replicate, suc, nat_lt};
+ghost use Rattle.msrp_board.specs.declared.pages.Page.{Page};
+ghost use Rattle.msrp_board.specs.declared.pages.View.{View};
+ghost use Rattle.msrp_board.specs.Books.{phase_by};
+ghost use Rattle.std.specs.declared.option.Option.{Option};
+ghost use Rattle.msrp_board.specs.Boards.{only_at, none_at, together};
+ghost use Rattle.msrp_board.specs.Held.{Tie, state_of, phase_of, res_of, look_of};
+ghost use Rattle.msrp_board.specs.Newest.{Ticks, turn_of};
+ghost use Rattle.msrp_board.specs.Rule.{Sole, arrived, empty, noted, looked};
+ghost use Rattle.msrp_plan.specs.declared.units.Call.TheVariants.{Ask, Poll, Leave};
+
+use crate::answers::{Look, SeatPhase};
+use msrp_plan::{Phase, ResId};
+
+/// What a core claims.
+#[derive(Clone, Copy, Drop)]
+pub enum Claim {
+    Nothing,
+    /// It awaits the resource of this number. The second number is twice its ticket: the sum of the place of its
+    /// request and of how many were ahead of it.
+    Waits(u32, u32),
+    /// It was granted the resource, with the same numbers.
+    Holds(u32, u32),
+}
+
+impl Claim {
+    pub fn phase(self) -> Phase
+        ensures { result ≡ phase_of self }
+    {
+        match self {
+            Claim::Nothing => Phase::Free,
+            Claim::Waits(res, _) => Phase::Queued(ResId(res)),
+            Claim::Holds(res, _) => Phase::Holding(ResId(res)),
+        }
+    }
+
+    /// The number of the resource, 0 where there is none.
+    pub fn res(self) -> u32
+        ensures { result ≡ res_of self }
+    {
+        match self {
+            Claim::Nothing => 0,
+            Claim::Waits(res, _) | Claim::Holds(res, _) => res,
+        }
+    }
+
+    /// Twice the ticket, 0 where there is none.
+    pub fn turn(self) -> u32
+        ensures { result ≡ turn_of self }
+    {
+        match self {
+            Claim::Nothing => 0,
+            Claim::Waits(_, turn) | Claim::Holds(_, turn) => turn,
+        }
+    }
+}
+
+/// What a book says of its core.
+#[derive(Clone, Copy, Drop)]
+pub struct CoreState {
+    pub tick: u32,
+    pub claim: Claim,
+    pub admitted: bool,
+    pub stopped: bool,
+    /// Whether the book has an entry of this tick.
+    pub acted: bool,
+}
+
+impl CoreState {
+    const EMPTY: CoreState = CoreState {
+        tick: 0,
+        claim: Claim::Nothing,
+        admitted: false,
+        stopped: false,
+        acted: false,
+    };
+
+    /// Where the core stands, on a board of so many ticks.
+    pub fn phase(self, ticks: u32) -> SeatPhase
+        ensures { result ≡ phase_by self.stopped self.admitted (nat_lt self.tick ticks) }
+    {
+        if self.stopped {
+            SeatPhase::Stopped
+        } else if self.admitted {
+            SeatPhase::Admitted
+        } else if self.tick < ticks {
+            SeatPhase::Waiting
+        } else {
+            SeatPhase::Done
+        }
+    }
+
+    /// After a request that found this place, and so many ahead.
+    pub fn asked(self, res: u32, place: u32, ahead: u32) -> CoreState
+        requires { place + ahead < 4294967296 }
+        ensures { (b : Page) → self ≡ state_of b → result ≡ state_of (noted res place (Ask ahead) b) }
+    {
+        let claim = if ahead == 0 {
+            Claim::Holds(res, place)
+        } else {
+            Claim::Waits(res, place + ahead)
+        };
+        CoreState {
+            claim,
+            acted: true,
+            ..self
+        }
+    }
+
+    /// After a poll, granted or not.
+    pub fn polled(self, granted: bool) -> CoreState
+        ensures { (b : Page) (p : ℕ) → self ≡ state_of b → result ≡ state_of (noted (res_of self.claim) p (Poll granted) b) }
+    {
+        let claim = if granted {
+            Claim::Holds(self.claim.res(), self.claim.turn())
+        } else {
+            self.claim
+        };
+        CoreState {
+            claim,
+            acted: true,
+            ..self
+        }
+    }
+
+    /// After a release.
+    pub fn left(self) -> CoreState
+        ensures { (b : Page) (g p : ℕ) → self ≡ state_of b → result ≡ state_of (noted g p Leave b) }
+    {
+        CoreState {
+            claim: Claim::Nothing,
+            acted: true,
+            ..self
+        }
+    }
+
+    /// After an arrival.
+    pub fn arrived(self) -> CoreState
+        requires { self.tick < 20000 }
+        ensures { (b : Page) → self ≡ state_of b → Ticks (suc b.tick) b.newest → result ≡ state_of (arrived b) }
+    {
+        CoreState {
+            tick: self.tick + 1,
+            admitted: false,
+            acted: false,
+            ..self
+        }
+    }
+
+    /// What a look finds, on a board of so many cores, where the barrier word is `found`.
+    pub fn finds(self, cores: u32, found: u64) -> Look
+        ensures { result ≡ look_of cores found self.tick }
+    {
+        if found / 4294967296 > 0 {
+            Look::Stopped
+        } else if found % 4294967296 >= 1 + cores as u64 * self.tick as u64 {
+            Look::Go
+        } else {
+            Look::Wait
+        }
+    }
+
+    /// After a look that found this.
+    pub fn looked(self, look: Look) -> CoreState
+        ensures { (b : Page) (m n : ℕ) → self ≡ state_of b → look ≡ look_of m n b.tick → result ≡ state_of (looked m n b) }
+    {
+        match look {
+            Look::Wait => self,
+            Look::Go => CoreState {
+                admitted: true,
+                ..self
+            },
+            Look::Stopped => CoreState {
+                stopped: true,
+                ..self
+            },
+        }
+    }
+}
+
+/// Empty books of so many cores.
+pub fn fresh(cores: usize) -> [Option<CoreState>; 8]
+    requires { cores ≤ 8 }
+    ensures { Tie result (replicate cores (Some empty)) }
+{
+    let mut held = [None; 8];
+    for core in 0..cores {
+        held[core] = Some(CoreState::EMPTY);
+    }
+    held
+}
+
+/// The core whose book this is, where there is but one.
+fn core_of(held: &[Option<CoreState>; 8]) -> usize
+    ensures small { result < 8 }
+    ensures core { (v : View) (c : ℕ) (b : Page) → Tie held.now v.pages → c < 8 → Sole v c b → result ≡ c }
+{
+    for core in 0..8 {
+        if held[core].is_some() {
+            return core;
+        }
+    }
+    0
+}
+
+/// The core of a core's seat, and its state.
+pub fn own(held: &[Option<CoreState>; 8]) -> (usize, CoreState)
+    requires { (v : View) × (c : ℕ) × (b : Page) × Tie held.now v.pages × (c < 8) × Sole v c b }
+    ensures small { result.0 < 8 }
+    ensures own { (v : View) (c : ℕ) (b : Page) → Tie held.now v.pages → c < 8 → Sole v c b → (result.0 ≡ c) × (result.1 ≡ state_of b) }
+{
+    let core = core_of(held);
+    match held[core] {
+        Some(state) => (core, state),
+        None => unreachable!(),
+    }
+}
+
+/// The state of the core alone.
+pub fn only(held: &[Option<CoreState>; 8], core: usize) -> [Option<CoreState>; 8]
+    requires { core < 8 }
+    ensures { (pages : List (Option Page)) → Tie held.now pages → Tie result (only_at core pages) }
+{
+    let mut own = [None; 8];
+    own[core] = held[core];
+    own
+}
+
+/// The states of the others.
+pub fn others(held: &[Option<CoreState>; 8], core: usize) -> [Option<CoreState>; 8]
+    requires { core < 8 }
+    ensures { (pages : List (Option Page)) → Tie held.now pages → Tie result (none_at core pages) }
+{
+    let mut others = *held;
+    others[core] = None;
+    others
+}
+
+/// The states of both, where no core is in both.
+pub fn union(
+    held: &[Option<CoreState>; 8],
+    other: &[Option<CoreState>; 8],
+) -> [Option<CoreState>; 8]
+    ensures { (pages more : List (Option Page)) → Tie held.now pages → Tie other.now more → Tie result (together pages more) }
+{
+    let mut both = [None; 8];
+    for core in 0..8 {
+        both[core] = held[core].or(other[core]);
+    }
+    both
+}

@@ -1,0 +1,136 @@
+//! The rule of the board's words: what always holds of the words and of what all seats know, and what each step
+//! tells the seat that makes it. No value of a type here is ever made.
+
+use crate::books::{BoardSize, Conductor, Entry};
+use atomic_table::{Join, Play, Seat, Shared, Split, TableRule};
+use std::collections::LinkedList;
+use std::marker::{Brand, PhantomData};
+
+/// A core's book as the rule keeps it, which is the newest entry first.
+pub struct Page {
+    pub newest: LinkedList<Entry>,
+    pub tick: u32,
+    pub admitted: bool,
+    pub stopped: bool,
+}
+
+/// What a seat holds: the pages of some cores, by their numbers, and the conductor's, or not.
+pub struct View {
+    pub pages: LinkedList<Option<Page>>,
+    pub conductor: Option<Conductor>,
+}
+
+/// The rule of a board's words.
+pub struct Tickets;
+
+impl TableRule<(), View, BoardSize> for Tickets {
+    ghost use Rattle.msrp_board.specs.Rule.{Ruled, first_view};
+
+    ghost holds = { Ruled };
+
+    ghost first = { first_view };
+}
+
+/// The step of a request.
+pub struct Asks;
+
+impl Play<(), View> for Asks {
+    ghost use Rattle.msrp_board.specs.Rule.{TellsAsk};
+
+    ghost then = { TellsAsk };
+}
+
+/// The step of a poll.
+pub struct Polls;
+
+impl Play<(), View> for Polls {
+    ghost use Rattle.msrp_board.specs.Rule.{TellsPoll};
+
+    ghost then = { TellsPoll };
+}
+
+/// The step of a release.
+pub struct Leaves;
+
+impl Play<(), View> for Leaves {
+    ghost use Rattle.msrp_board.specs.Rule.{TellsLeave};
+
+    ghost then = { TellsLeave };
+}
+
+/// Names a number that a step's rule speaks of and its view does not tell: a core, or how many cores there are.
+pub trait Named {
+    ghost use Rattle.std.specs.Prelude.{ℕ};
+
+    ghost number: { ℕ };
+}
+
+impl Named for Brand {
+    ghost number = { 0 };
+}
+
+/// Parts the page of core `N` from the others.
+pub struct Parts<N: Named> {
+    core: PhantomData<N>,
+}
+
+impl<N: Named> Split<View> for Parts<N> {
+    ghost use Rattle.msrp_board.specs.Rule.{view_alone, view_without};
+
+    ghost left = { view_alone N.number };
+
+    ghost right = { view_without N.number };
+}
+
+/// Puts the pages of two seats together.
+pub struct Both;
+
+impl Join<View> for Both {
+    ghost use Rattle.msrp_board.specs.Rule.{view_both, spent};
+
+    ghost both = { view_both };
+
+    ghost spent = { spent };
+}
+
+/// The step of an arrival.
+pub struct Arrives;
+
+impl Play<(), View> for Arrives {
+    ghost use Rattle.msrp_board.specs.Rule.{TellsArrival};
+
+    ghost then = { TellsArrival };
+}
+
+/// The step of a look, on a board of `N` cores.
+pub struct Looks<N: Named> {
+    cores: PhantomData<N>,
+}
+
+impl<N: Named> Play<(), View> for Looks<N> {
+    ghost use Rattle.msrp_board.specs.Rule.{TellsLook};
+
+    ghost then = { TellsLook N.number };
+}
+
+/// The step of the opening.
+pub struct Opens;
+
+impl Play<(), View> for Opens {
+    ghost use Rattle.msrp_board.specs.Rule.{TellsOpening};
+
+    ghost then = { TellsOpening };
+}
+
+/// The step of an abort.
+pub struct Aborts;
+
+impl Play<(), View> for Aborts {
+    ghost use Rattle.msrp_board.specs.Rule.{TellsAbort};
+
+    ghost then = { TellsAbort };
+}
+
+pub type Words = Shared<(), View, BoardSize, Tickets>;
+
+pub type Place = Seat<(), View>;

@@ -1,0 +1,92 @@
+//! What a thread may do on a board: a seat holds the books of some cores, and its readers answer from them.
+ghost use Rattle.std.specs.Prelude.{◌≡◌, ◌↔◌, ◌<◌, ℕ, IsTrue, IsSome};
+ghost use Rattle.msrp_board.specs.declared.books.Book.{Book};
+ghost use Rattle.msrp_board.specs.Books.{phase_in, has_acted, lock_of};
+ghost use Rattle.msrp_board.specs.Held.{Shows};
+ghost use Rattle.msrp_board.specs.Boards.{IsCoreSeat, HasCore, book_at};
+
+use crate::answers::SeatPhase;
+use crate::books::{BoardSize, Conductor};
+use crate::held::{CoreState, own};
+use crate::pages::Place;
+use msrp_plan::{CoreId, Phase};
+use std::marker::Model;
+
+/// The right to step on a board as some cores, and as the conductor. Seats are parted and joined by the board
+/// ([`crate::Board::split`], [`crate::Board::join`]); a seat that holds one core's book and nothing else is that
+/// core's seat.
+#[derive(Drop)]
+pub struct BoardSeat {
+    pub(crate) place: Place,
+    pub(crate) size: BoardSize,
+    pub(crate) held: [Option<CoreState>; 8],
+    pub(crate) conductor: Option<Conductor>,
+}
+
+impl Model for BoardSeat {
+    ghost use Rattle.msrp_board.specs.Boards.{SeatModel};
+    ghost use Rattle.msrp_board.specs.Held.{IsSeat, seen_as};
+
+    ghost Value = { SeatModel };
+
+    ghost view = { λ s. seen_as record { table = s.place.table_id; size = s.size } s.place.me.0 };
+
+    ghost invariant = { λ s. IsSeat s.size s.held s.conductor s.place.me };
+}
+
+impl BoardSeat {
+    // What a core's seat keeps of its core.
+    fn state(&self) -> CoreState
+        requires { HasCore self.now }
+        ensures { (c : ℕ) (b : Book) → IsCoreSeat self.now c b → Shows result b }
+    {
+        let (_, state) = own(&self.held);
+        state
+    }
+
+    /// Where the core of a core's seat stands.
+    pub fn phase(&self) -> SeatPhase
+        requires { HasCore self.now }
+        ensures { (c : ℕ) (b : Book) → IsCoreSeat self.now c b → result ≡ phase_in self.now.board.size.ticks b }
+    {
+        self.state().phase(self.size.ticks)
+    }
+
+    /// The tick that the core of a core's seat is in, or waits for.
+    pub fn tick(&self) -> u32
+        requires { HasCore self.now }
+        ensures { (c : ℕ) (b : Book) → IsCoreSeat self.now c b → result ≡ b.tick }
+    {
+        self.state().tick
+    }
+
+    /// Whether the core of a core's seat has requested, polled or released in its tick.
+    pub fn acted(&self) -> bool
+        requires { HasCore self.now }
+        ensures { (c : ℕ) (b : Book) → IsCoreSeat self.now c b → result ≡ has_acted b }
+    {
+        self.state().acted
+    }
+
+    /// What the core of a core's seat holds or awaits.
+    pub fn lock(&self) -> Phase
+        requires { HasCore self.now }
+        ensures { (c : ℕ) (b : Book) → IsCoreSeat self.now c b → result ≡ lock_of b }
+    {
+        self.state().claim.phase()
+    }
+
+    /// Whether the seat holds the book of this core.
+    pub fn has_book(&self, core: CoreId) -> bool
+        ensures { IsTrue result ↔ IsSome (book_at self.now core.0) }
+    {
+        core.0 < 8 && self.held[core.0 as usize].is_some()
+    }
+
+    /// What the conductor did, where the seat holds its book.
+    pub fn conductor(&self) -> Option<Conductor>
+        ensures { result ≡ self.now.conductor }
+    {
+        self.conductor
+    }
+}

@@ -1,0 +1,87 @@
+//! A board that nobody uses any more.
+ghost use Rattle.std.specs.Prelude.{◌≡◌, ◌<◌, ◌≤◌, ◌+◌, ℕ, Some, false, length, slice_get, slice_index};
+ghost use Rattle.std.specs.Mem.Slots.{slots_items, slots_len, IsFull};
+ghost use Rattle.msrp_board.specs.declared.books.Book.{Book};
+ghost use Rattle.msrp_board.specs.declared.books.Conductor.TheVariants.{Opened};
+ghost use Rattle.msrp_board.specs.Boards.{book_at, high, low, HasAll, IsTied};
+
+use crate::board::Board;
+use crate::books::BoardSize;
+use crate::seat::BoardSeat;
+use atomic_table::Closed;
+use msrp_plan::ResId;
+use std::alloc::Global;
+use std::marker::Model;
+use std::snapshot::Snapshot;
+
+/// The words and the books of a board at its end.
+#[derive(Drop)]
+pub struct Settled {
+    words: [u64; 33],
+    size: BoardSize,
+    last: Snapshot<BoardSeat>,
+}
+
+impl Model for Settled {
+    ghost use Rattle.std.specs.Prelude.{◌≤◌};
+    ghost use Rattle.msrp_board.specs.Boards.{SettledModel};
+    ghost use Rattle.msrp_board.specs.Held.{settled_as};
+
+    ghost Value = { SettledModel };
+
+    ghost view = { λ s. settled_as s.size s.words s.last.value };
+
+    ghost invariant = { λ s. s.size.resources ≤ 32 };
+}
+
+impl Board {
+    /// Ends the board, where the seat holds all its books. The words and the books then stand under the whole rule,
+    /// and where the conductor opened no core was stopped.
+    pub fn settle(self, seat: BoardSeat) -> Settled
+        requires board { seat.board ≡ self }
+        requires all { HasAll seat }
+        ensures size { result.size ≡ self.size }
+        ensures books { (c : ℕ) → book_at seat c ≡ slice_get result.books c }
+        ensures conductor { seat.conductor ≡ Some result.conductor }
+        ensures tied { IsTied result }
+        ensures running { (c : ℕ) (b : Book) → result.conductor ≡ Opened → slice_get result.books c ≡ Some b → b.stopped ≡ false }
+    {
+        let Board { table, size } = self;
+        let last = Snapshot::of(&seat);
+        let BoardSeat {
+            place,
+            size: _,
+            held: _,
+            conductor: _,
+        } = seat;
+        let closed = table.close_with(place);
+        let words = words_of(&closed, size.resources);
+        closed.free();
+        Settled { words, size, last }
+    }
+}
+
+// The words of so many resources, and the barrier word.
+fn words_of(closed: &Closed<(), Global>, resources: u32) -> [u64; 33]
+    requires full { IsFull closed.now.words }
+    requires size { (slots_len closed.now.words ≡ resources + 1) × (resources ≤ 32) }
+    ensures length { length result ≡ 33 }
+    ensures words { (g : ℕ) → g < resources + 1 → slice_index result g ≡ slice_index (slots_items closed.now.words) g }
+{
+    let mut words = [0; 33];
+    for g in 0..resources as usize + 1 {
+        words[g] = closed.word(g);
+    }
+    words
+}
+
+impl Settled {
+    /// What the ticket word of a resource counted: requests, and releases.
+    pub fn word(&self, res: ResId) -> (u32, u32)
+        requires { res.0 < self.now.size.resources }
+        ensures { result ≡ (high (slice_index self.now.tickets res.0), low (slice_index self.now.tickets res.0)) }
+    {
+        let word = self.words[res.0 as usize];
+        ((word / 4294967296) as u32, (word % 4294967296) as u32)
+    }
+}

@@ -1,0 +1,135 @@
+//! The eight kinds of step, each one atomic instruction on one word. A ticket word counts requests in its high half
+//! and releases in its low half, and so `4294967296` is one more request. The barrier word counts the opening and the
+//! arrivals in its low half, and in its high half the abort.
+ghost use Rattle.std.specs.Prelude.{Some, ◌≡◌, [], ◌+◌, ◌<◌, ℕ};
+ghost use mathlib.Core.Option.{none};
+ghost use Rattle.atomic_table.specs.Table.{step};
+ghost use Rattle.msrp_board.specs.declared.books.Conductor.TheVariants.{Unopened};
+ghost use Rattle.msrp_board.specs.declared.held.Claim.TheVariants.{Nothing, Waits, Holds};
+ghost use Rattle.msrp_board.specs.Rule.{Ready, TellsAsk, TellsPoll, TellsLeave, TellsArrival, TellsLook, Waiting, AdmittedAt, TellsOpening, TellsAbort, view_alone, view_without, view_both};
+
+use crate::pages::{
+    Aborts, Arrives, Asks, Both, Leaves, Looks, Named, Opens, Parts, Place, Polls, Words,
+};
+use std::marker::Brand;
+
+/// A request. Answers the ticket word that it found.
+pub fn ask(words: &Words, seat: &mut Place, res: usize) -> u64
+    requires table { seat.old.table_id ≡ words.now.table_id }
+    requires res { (res < words.now.key.resources) × (words.now.table_id.words ≡ words.now.key.resources + 1) }
+    requires free { Ready words.now.key seat.old.me.0 Nothing }
+    ensures table { seat.new.table_id ≡ seat.old.table_id }
+    ensures asked { TellsAsk (step words.now.table_id.slots res 4294967296 0 none) seat.old.me result seat.new.me }
+{
+    words.fetch_add::<Asks>(seat, res, 4294967296)
+}
+
+/// A poll. Answers the ticket word that it found.
+pub fn poll(words: &Words, seat: &mut Place, res: usize) -> u64
+    requires table { seat.old.table_id ≡ words.now.table_id }
+    requires res { (res < words.now.key.resources) × (words.now.table_id.words ≡ words.now.key.resources + 1) }
+    requires queued { (t : ℕ) × Ready words.now.key seat.old.me.0 (Waits res t) }
+    ensures table { seat.new.table_id ≡ seat.old.table_id }
+    ensures polled { TellsPoll (step words.now.table_id.slots res 0 0 none) seat.old.me result seat.new.me }
+{
+    words.load::<Polls>(seat, res)
+}
+
+/// A release. Answers the ticket word that it found.
+pub fn leave(words: &Words, seat: &mut Place, res: usize) -> u64
+    requires table { seat.old.table_id ≡ words.now.table_id }
+    requires res { (res < words.now.key.resources) × (words.now.table_id.words ≡ words.now.key.resources + 1) }
+    requires holding { (t : ℕ) × Ready words.now.key seat.old.me.0 (Holds res t) }
+    ensures table { seat.new.table_id ≡ seat.old.table_id }
+    ensures left { TellsLeave (step words.now.table_id.slots res 1 0 none) seat.old.me result seat.new.me }
+{
+    words.fetch_add::<Leaves>(seat, res, 1)
+}
+
+/// An arrival.
+pub fn arrive(words: &Words, seat: &mut Place, barrier: usize) -> u64
+    requires table { seat.old.table_id ≡ words.now.table_id }
+    requires barrier { (barrier ≡ words.now.key.resources) × (words.now.table_id.words ≡ words.now.key.resources + 1) }
+    requires admitted { AdmittedAt seat.old.me.0 }
+    ensures table { seat.new.table_id ≡ seat.old.table_id }
+    ensures arrived { TellsArrival (step words.now.table_id.slots barrier 1 0 none) seat.old.me result seat.new.me }
+{
+    words.fetch_add::<Arrives>(seat, barrier, 1)
+}
+
+/// A look. Answers the barrier word that it found.
+pub fn look(words: &Words, seat: &mut Place, barrier: usize, cores: u32) -> u64
+    requires table { seat.old.table_id ≡ words.now.table_id }
+    requires barrier { (barrier ≡ words.now.key.resources) × (words.now.table_id.words ≡ words.now.key.resources + 1) }
+    requires cores { words.now.key.cores ≡ cores }
+    requires waiting { Waiting words.now.key seat.old.me.0 }
+    ensures table { seat.new.table_id ≡ seat.old.table_id }
+    ensures looked { TellsLook cores (step words.now.table_id.slots barrier 0 0 none) seat.old.me result seat.new.me }
+{
+    look_named::<Brand>(words, seat, barrier, cores)
+}
+
+fn look_named<N: Named>(words: &Words, seat: &mut Place, barrier: usize, cores: u32) -> u64
+    requires table { seat.old.table_id ≡ words.now.table_id }
+    requires barrier { (barrier ≡ words.now.key.resources) × (words.now.table_id.words ≡ words.now.key.resources + 1) }
+    requires cores { (N.number ≡ cores) × (words.now.key.cores ≡ cores) }
+    requires waiting { Waiting words.now.key seat.old.me.0 }
+    ensures table { seat.new.table_id ≡ seat.old.table_id }
+    ensures looked { TellsLook cores (step words.now.table_id.slots barrier 0 0 none) seat.old.me result seat.new.me }
+{
+    let _ = cores;
+    words.load::<Looks<N>>(seat, barrier)
+}
+
+/// The opening.
+pub fn open(words: &Words, seat: &mut Place, barrier: usize) -> u64
+    requires table { seat.old.table_id ≡ words.now.table_id }
+    requires barrier { (barrier ≡ words.now.key.resources) × (words.now.table_id.words ≡ words.now.key.resources + 1) }
+    requires unopened { seat.old.me.0.conductor ≡ Some Unopened }
+    ensures table { seat.new.table_id ≡ seat.old.table_id }
+    ensures conductor { TellsOpening (step words.now.table_id.slots barrier 1 0 none) seat.old.me result seat.new.me }
+{
+    words.fetch_add::<Opens>(seat, barrier, 1)
+}
+
+/// The abort.
+pub fn abort(words: &Words, seat: &mut Place, barrier: usize) -> u64
+    requires table { seat.old.table_id ≡ words.now.table_id }
+    requires barrier { (barrier ≡ words.now.key.resources) × (words.now.table_id.words ≡ words.now.key.resources + 1) }
+    requires unopened { seat.old.me.0.conductor ≡ Some Unopened }
+    ensures table { seat.new.table_id ≡ seat.old.table_id }
+    ensures conductor { TellsAbort (step words.now.table_id.slots barrier 4294967296 0 none) seat.old.me result seat.new.me }
+{
+    words.fetch_add::<Aborts>(seat, barrier, 4294967296)
+}
+
+/// The seat keeps the page of the core, and the new one has the others.
+pub fn split(words: &Words, seat: &mut Place, core: usize) -> Place
+    requires table { seat.old.table_id ≡ words.now.table_id }
+    requires words { 0 < words.now.table_id.words }
+    ensures tables { (seat.new.table_id ≡ seat.old.table_id) × (result.table_id ≡ seat.old.table_id) }
+    ensures parts { (seat.new.me ≡ (view_alone core seat.old.me.0, seat.old.me.1)) × (result.me ≡ (view_without core seat.old.me.0, [])) }
+{
+    split_named::<Brand>(words, seat, core)
+}
+
+fn split_named<N: Named>(words: &Words, seat: &mut Place, core: usize) -> Place
+    requires table { seat.old.table_id ≡ words.now.table_id }
+    requires words { 0 < words.now.table_id.words }
+    requires core { N.number ≡ core }
+    ensures tables { (seat.new.table_id ≡ seat.old.table_id) × (result.table_id ≡ seat.old.table_id) }
+    ensures parts { (seat.new.me ≡ (view_alone core seat.old.me.0, seat.old.me.1)) × (result.me ≡ (view_without core seat.old.me.0, [])) }
+{
+    let _ = core;
+    words.split_seat::<Parts<N>>(seat)
+}
+
+/// The seat takes the other's pages.
+pub fn join(words: &Words, seat: &mut Place, other: Place)
+    requires table { (seat.old.table_id ≡ words.now.table_id) × (other.table_id ≡ words.now.table_id) × (other.me.1 ≡ []) }
+    requires words { 0 < words.now.table_id.words }
+    ensures table { seat.new.table_id ≡ seat.old.table_id }
+    ensures both { seat.new.me ≡ (view_both seat.old.me.0 other.me.0, seat.old.me.1) }
+{
+    words.join_seat::<Both>(seat, other);
+}
