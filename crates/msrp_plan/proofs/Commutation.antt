@@ -27,12 +27,15 @@ record LookAlike (plan : PlanModel) (x : Row) (pre other : List Row) : Type 0 wh
   log : log_of x.core.0 pre ≡ log_of x.core.0 other
   on : (g : ℕ) → is_on g x.res ≡ true → rows_on g pre ≡ rows_on g other
 
+-- so its job has the turn after both or neither
 chosen_alike : (plan : PlanModel) (x : Row) (pre other : List Row) → LookAlike plan x pre other → is_chosen plan pre x ≡ is_chosen plan other x
 chosen_alike plan x pre other a = ap (same_choice x.job) (sym (choice_local plan x.core.0 x.tick pre a.own) ∙ (ap (choice plan x.core.0 x.tick) a.log ∙ choice_local plan x.core.0 x.tick other a.owned))
 
+-- and it does its job's next action after both or neither
 action_alike : (plan : PlanModel) (x : Row) (pre other : List Row) → LookAlike plan x pre other → is_of_core plan x ≡ true → is_next_action plan pre x ≡ is_next_action plan other x
 action_alike plan x pre other a mine = sym (does_next_local plan x.core.0 pre x.job x a.own mine) ∙ (ap (λ l. does_next plan l x.job x) a.log ∙ does_next_local plan x.core.0 other x.job x a.owned mine)
 
+-- and it has its queue's reply after both or neither
 reply_alike : (plan : PlanModel) (x : Row) (pre other : List Row) → LookAlike plan x pre other → (o : Option ResId) → o ≡ x.res → replies_on pre o x ≡ replies_on other o x
 reply_alike plan x pre other a None e = refl
 reply_alike plan x pre other a (Some g) e =
@@ -50,22 +53,27 @@ legal_alike plan x pre other a turn h = record {
 }
 
 -- ---- rows that look alike to every row
+-- the lists are of one length and look alike to each row
 record AllAlike (plan : PlanModel) (pre other : List Row) : Type 0 where
   size : length pre ≡ length other
   each : (x : Row) → LookAlike plan x pre other
 
+-- whether a core had its turn is told by its log
 had_turn_local : (c t : ℕ) (pre : List Row) → had_turn c t (log_of c pre) ≡ had_turn c t pre
 had_turn_local c t pre = any_within (λ r. (r.tick == t) && (r.core.0 == c)) (is_of c) pre (all_of _ (λ r h. (and_parts (r.tick == t) (r.core.0 == c) h).1) pre)
 
+-- so a row is in its turn after both or neither
 in_turn_alike : (plan : PlanModel) (x : Row) (pre other : List Row) → AllAlike plan pre other → is_in_turn plan pre x ≡ is_in_turn plan other x
 in_turn_alike plan x pre other a =
     let turns : had_turn x.core.0 x.tick pre ≡ had_turn x.core.0 x.tick other = sym (had_turn_local x.core.0 x.tick pre) ∙ (ap (had_turn x.core.0 x.tick) (a.each x).log ∙ had_turn_local x.core.0 x.tick other) in
     ap (λ n. (x.tick == n / plan.cores) && (nat_lt x.core.0 plan.cores && not (had_turn x.core.0 x.tick pre))) a.size
     ∙ ap (λ b. (x.tick == length other / plan.cores) && (nat_lt x.core.0 plan.cores && not b)) turns
 
+-- lists that filter alike do so with one row more
 filter_push : (p : Row → Bool) (pre other : List Row) (r : Row) → filter p pre ≡ filter p other → filter p (pre ++ r ∷ []) ≡ filter p (other ++ r ∷ [])
 filter_push p pre other r e = filter-append p pre (r ∷ []) ∙ (ap (λ l. l ++ filter p (r ∷ [])) e ∙ sym (filter-append p other (r ∷ [])))
 
+-- lists that look alike do so with one row more
 alike_push : (plan : PlanModel) (pre other : List Row) (r : Row) → AllAlike plan pre other → is_of_core plan r ≡ true → AllAlike plan (pre ++ r ∷ []) (other ++ r ∷ [])
 alike_push plan pre other r a mine = record {
   size = omega (arith, a.size, length-append pre (r ∷ []), length-append other (r ∷ []));
@@ -86,25 +94,31 @@ each_alike plan pre other (r ∷ rows) a each = (
 )
 
 -- ---- two rows that change places
+-- at most one of two rows passes: their order makes no difference
 pairs_swapped : (r s : Row) (a b : Bool) → (a ≡ true → b ≡ false) → cond a (r ∷ []) [] ++ cond b (s ∷ []) [] ≡ cond b (s ∷ []) [] ++ cond a (r ∷ []) []
 pairs_swapped r s true true h = absurd (let e = h refl in cc)
 pairs_swapped r s true false h = refl
 pairs_swapped r s false true h = refl
 pairs_swapped r s false false h = refl
 
+-- what a filter keeps of two rows more
 filter_two : (p : Row → Bool) (pre : List Row) (r s : Row) → filter p ((pre ++ r ∷ []) ++ s ∷ []) ≡ filter p pre ++ (cond (p r) (r ∷ []) [] ++ cond (p s) (s ∷ []) [])
 filter_two p pre r s = filter-append p (pre ++ r ∷ []) (s ∷ []) ∙ (ap (λ l. l ++ filter p (s ∷ [])) (filter-append p pre (r ∷ [])) ∙ append_assoc (filter p pre) (filter p (r ∷ [])) (filter p (s ∷ [])))
 
+-- so two last rows may change places before a filter that keeps at most one
 filter_swapped : (p : Row → Bool) (pre : List Row) (r s : Row) → (p r ≡ true → p s ≡ false) → filter p ((pre ++ r ∷ []) ++ s ∷ []) ≡ filter p ((pre ++ s ∷ []) ++ r ∷ [])
 filter_swapped p pre r s h = filter_two p pre r s ∙ (ap (λ l. filter p pre ++ l) (pairs_swapped r s (p r) (p s) h) ∙ sym (filter_two p pre s r))
 
+-- a row that doesn't pass changes nothing
 filter_unmoved : (p : Row → Bool) (pre : List Row) (r : Row) → p r ≡ false → filter p (pre ++ r ∷ []) ≡ filter p pre
 filter_unmoved p pre r e = filter-append p pre (r ∷ []) ∙ (ap (λ b. filter p pre ++ cond b (r ∷ []) []) e ∙ append-nil (filter p pre))
 
 -- ---- turns that commute
+-- of two tests that exclude each other the first fails where the second passes
 not_both : (a b : Bool) → (a ≡ true → b ≡ false) → b ≡ true → a ≡ false
 not_both a b h e = false_from_ne_true a (λ k. let no : false ≡ true = sym (h k) ∙ e in absurd (cc))
 
+-- of two rows that are apart at most one is of core c
 other_core : (r s : Row) → AreApart r s → (c : ℕ) → is_of c r ≡ true → is_of c s ≡ false
 other_core r s apart c e = false_from_ne_true (s.core.0 == c) (λ k. apart.cores (eqb-true r.core.0 c e ∙ sym (eqb-true s.core.0 c k)))
 
@@ -117,6 +131,7 @@ second_alike plan pre r s own mine apart = record {
   on = λ g e. filter_unmoved (λ w. is_on g w.res) pre r (not_both (is_on g r.res) (is_on g s.res) (apart.resources g) e);
 }
 
+-- the first row, if the second stands before it
 first_alike : (plan : PlanModel) (pre : List Row) (r s : Row) → AreOwn plan pre → is_of_core plan s ≡ true → AreApart r s → LookAlike plan r pre (pre ++ s ∷ [])
 first_alike plan pre r s own mine apart = record {
   own = own;
@@ -125,6 +140,7 @@ first_alike plan pre r s own mine apart = record {
   on = λ g e. sym (filter_unmoved (λ w. is_on g w.res) pre s (apart.resources g e));
 }
 
+-- both orders look alike to every row
 swapped_alike : (plan : PlanModel) (pre : List Row) (r s : Row) → AreOwn plan pre → is_of_core plan r ≡ true → is_of_core plan s ≡ true → AreApart r s → AllAlike plan ((pre ++ r ∷ []) ++ s ∷ []) ((pre ++ s ∷ []) ++ r ∷ [])
 swapped_alike plan pre r s own mine its apart = record {
   size = omega (arith, length-append (pre ++ r ∷ []) (s ∷ []), length-append pre (r ∷ []), length-append (pre ++ s ∷ []) (r ∷ []), length-append pre (s ∷ []));
@@ -136,20 +152,25 @@ swapped_alike plan pre r s own mine its apart = record {
   };
 }
 
+-- where neither is true the first isn't
 or_left : (a b : Bool) → (a || b) ≡ false → a ≡ false
 or_left true b h = h
 or_left false b h = refl
 
+-- nor is their disjunction where each is false
 or_both : (a b : Bool) → a ≡ false → b ≡ false → (a || b) ≡ false
 or_both a b e f = rw (e, f) refl
 
+-- a conjunction is false where its second part is
 and_right : (a b : Bool) → b ≡ false → (a && b) ≡ false
 and_right true b e = e
 and_right false b e = refl
 
+-- a row of the due tick, of a core of the plan that hasn't had its turn, is in turn
 in_turn_of : (t n : ℕ) (low had : Bool) → t ≡ n → low ≡ true → had ≡ false → ((t == n) && (low && not had)) ≡ true
 in_turn_of t n low had e l h = rw (l, h, eq-eqb t n e) refl
 
+-- the second row is in turn before the first
 second_turn : (plan : PlanModel) (pre : List Row) (r s : Row) → IsLegal plan pre r → IsLegal plan (pre ++ r ∷ []) s → r.tick ≡ s.tick → is_in_turn plan pre s ≡ true
 second_turn plan pre r s h k tick =
     let a = legal_due plan pre r h in
@@ -157,6 +178,7 @@ second_turn plan pre r s h k tick =
     in_turn_of s.tick (length pre / plan.cores) (nat_lt s.core.0 plan.cores) (had_turn s.core.0 s.tick pre) (sym tick ∙ a.tick) (lt-ltb s.core.0 plan.cores b.core)
     (or_left (had_turn s.core.0 s.tick pre) _ (sym (any_push (λ w. (w.tick == s.tick) && (w.core.0 == s.core.0)) pre r) ∙ b.once))
 
+-- and the first after the second
 first_turn : (plan : PlanModel) (pre : List Row) (r s : Row) → IsLegal plan pre r → IsLegal plan (pre ++ r ∷ []) s → r.tick ≡ s.tick → AreApart r s → is_in_turn plan (pre ++ s ∷ []) r ≡ true
 first_turn plan pre r s h k tick apart =
     let a = legal_due plan pre r h in
@@ -166,6 +188,7 @@ first_turn plan pre r s h k tick apart =
     (any_push (λ w. (w.tick == r.tick) && (w.core.0 == r.core.0)) pre s
     ∙ or_both (had_turn r.core.0 r.tick pre) _ a.once (and_right (s.tick == r.tick) _ (other_core r s apart r.core.0 (eq-eqb r.core.0 r.core.0 refl))))
 
+-- in a start of a legal run each job keeps to its core
 own_rows : (plan : PlanModel) (rows : List Row) → EachAfter (IsLegal plan) [] rows → AreOwn plan rows
 own_rows plan rows each = along (AreOwn plan) (IsLegal plan) (λ pre x own h. all_push (λ w. is_of_core plan w ≡ true) pre x own h.own) [] rows tt each
 

@@ -31,6 +31,7 @@ next_of_log plan t pre r k has own h = record {
 }
 
 -- ---- one row more
+-- by whether the row is of the core
 turns_cases : (c t : ℕ) (pre : List Row) (r : Row) (mine : Bool) → (r.core.0 == c) ≡ mine → (r.core.0 ≡ c → turned t pre c ≡ false) → r.tick ≡ t → HasTurns c t pre → HasTurns c t (pre ++ r ∷ [])
 turns_cases c t pre r true e first tick has =
     let at : r.core.0 ≡ c = eqb-true r.core.0 c e in
@@ -54,6 +55,7 @@ record Stands (plan : PlanModel) (c t : ℕ) (pre : List Row) : Type 0 where
   turns : HasTurns c t pre
   own : AreOwn plan pre
 
+-- where it stands after one legal row more
 stands_push : (plan : PlanModel) (c t : ℕ) (pre : List Row) (r : Row) → c < plan.cores → Stands plan c t pre → IsLegal plan pre r → (u : ℕ) × Stands plan c u (pre ++ r ∷ [])
 stands_push plan c t pre r l s h =
     let mine = all_push (λ w. is_of_core plan w ≡ true) pre r s.own h.own in
@@ -98,6 +100,7 @@ stands_after plan c t pre (r ∷ rows) l s each =
     let end = stands_after plan c next.0 (pre ++ r ∷ []) rows l next.1 each.1 in
     (end.0, subst (Stands plan c end.0) (append_assoc pre (r ∷ []) rows) end.1)
 
+-- where it stands before the first row
 stands_none : (plan : PlanModel) (c : ℕ) → c < plan.cores → Stands plan c 0 []
 stands_none plan c l = record { tick = tick_none plan (omega (arith, l)); turns = refl; own = tt }
 
@@ -105,6 +108,7 @@ stands_none plan c l = record { tick = tick_none plan (omega (arith, l)); turns 
 pub core_run : (plan : PlanModel) (rows : List Row) (c : ℕ) → IsRunStart plan rows → c < plan.cores → CoreRun plan c (log_of c rows)
 core_run plan rows c h l = core_turns plan c 0 [] rows l (stands_none plan c l) h.each
 
+-- a list of no length is empty
 none_of_length : (rows : List Row) → length rows ≡ 0 → rows ≡ []
 none_of_length [] h = refl
 none_of_length (r ∷ rows) h = absurd (omega (arith, h))

@@ -15,6 +15,7 @@ requests_go : (g : ℕ) (r : Row) (rows : List Row) (on : Bool) (ys : List JobId
 requests_go g r rows true ys e h = ap (cons_option (requester g r)) h
 requests_go g r rows false ys e h = h ∙ rw (← e) refl
 
+-- the requests of the resource stand in the rows on it
 requests_on : (g : ℕ) (pre : List Row) → filter_map (requester g) (rows_on g pre) ≡ filter_map (requester g) pre
 requests_on g [] = refl
 requests_on g (r ∷ pre) = requests_go g r (rows_on g pre) (is_on g r.res) (filter_map (requester g) pre) refl (requests_on g pre)

@@ -34,18 +34,22 @@ legal_is_unbroken plan pre r h = rw (h.turn, h.own, h.chosen, h.action, h.reply)
 abbrev all_rows : PlanModel → ℕ
 all_rows plan = plan.cores * plan.ticks
 
+-- an end without a fault comes after all rows that are due
 good_end : (plan : PlanModel) (n : ℕ) (f : Fault) (short : Bool) → short ≡ nat_lt n (all_rows plan) → n ≤ all_rows plan → cond short (Some f) None ≡ None → n ≡ all_rows plan
 good_end plan n f true e within h = absurd (cc)
 good_end plan n f false e within h = omega (arith, ltb-false n (all_rows plan) (sym e))
 
+-- a row without a fault is due, breaks no rule, and has none behind it
 good_row : (plan : PlanModel) (n : ℕ) (later : Option Fault) (f : Fault) (due : Bool) (o : Option Rule) → cond due (fault_or o (n + 1) later) (Some f) ≡ None → (due ≡ true) × (o ≡ None) × (later ≡ None)
 good_row plan n later f true None h = (refl, refl, h)
 good_row plan n later f true (Some rule) h = absurd (cc)
 good_row plan n later f false o h = absurd (cc)
 
+-- one row more is one longer
 one_more : (pre : List Row) (r : Row) → length (pre ++ r ∷ []) ≡ length pre + 1
 one_more pre r = length-append pre (r ∷ [])
 
+-- rows behind without a fault are legal, and all that are due
 pub good_after : (plan : PlanModel) (pre rows : List Row) → length pre ≤ all_rows plan → verdict_after plan pre rows ≡ None → EachAfter (IsLegal plan) pre rows × (length (pre ++ rows) ≡ all_rows plan)
 good_after plan pre [] within h = (tt, ap length (append-nil pre) ∙ good_end plan (length pre) _ (nat_lt (length pre) (all_rows plan)) refl within h)
 good_after plan pre (r ∷ rows) within h =
@@ -114,6 +118,7 @@ fault_row plan pre r rows f false o d e start h =
       rule = ap (λ (g : Fault). g.rule) (sym is);
     })))
 
+-- a fault of the rows behind is what its rule and number say, of all rows
 pub fault_after : (plan : PlanModel) (pre rows : List Row) (f : Fault) → IsRunStart plan pre → verdict_after plan pre rows ≡ Some f → IsFault plan (pre ++ rows) f
 fault_after plan pre [] f start h = subst (λ l. IsFault plan l f) (sym (append-nil pre)) (fault_end plan pre f (nat_lt (length pre) (all_rows plan)) refl start h)
 fault_after plan pre (r ∷ rows) f start h =
@@ -126,23 +131,27 @@ fault_after plan pre (r ∷ rows) f start h =
 pub fault_is : (plan : PlanModel) (rows : List Row) (f : Fault) → verdict plan rows ≡ Some f → IsFault plan rows f
 fault_is plan rows f h = fault_after plan [] rows f (record { size = omega arith; each = tt }) h
 
+-- faults of one row and one rule are one
 fault_of : (f g : Fault) → f.row ≡ g.row → f.rule ≡ g.rule → Some f ≡ Some g
 fault_of f g row rule =
     let at : ℕ → Rule → Option Fault = λ n u. Some (record { row = n; rule = u }) in
     ap (λ n. at n f.rule) row ∙ ap (at g.row) rule
 
+-- the first row that breaks a rule is found
 broken_found : (plan : PlanModel) (rows : List Row) (f : Fault) → IsBroken plan rows f → verdict plan rows ≡ Some f
 broken_found plan rows f h =
     let over : verdict_after plan [] (h.before ++ h.broke ∷ h.behind) ≡ verdict_after plan h.before (h.broke ∷ h.behind) = verdict_over plan [] h.before (h.broke ∷ h.behind) h.start.each h.start.size in
     let due : nat_lt (length h.before) (all_rows plan) ≡ true = lt-ltb (length h.before) (all_rows plan) h.due in
     ap (verdict plan) h.place ∙ (over ∙ rw (due, h.rule) (fault_of _ f (sym h.number) refl))
 
+-- a missing row is found
 cut_found : (plan : PlanModel) (rows : List Row) (f : Fault) → IsCutShort plan rows f → verdict plan rows ≡ Some f
 cut_found plan rows f h =
     let over : verdict_after plan [] (rows ++ []) ≡ verdict_after plan rows [] = verdict_over plan [] rows [] h.start.each h.start.size in
     let due : nat_lt (length rows) (all_rows plan) ≡ true = lt-ltb (length rows) (all_rows plan) h.due in
     ap (verdict plan) (sym (append-nil rows)) ∙ (over ∙ rw due (fault_of _ f (sym h.number) (sym h.rule)))
 
+-- a row too many is found
 extra_found : (plan : PlanModel) (rows : List Row) (f : Fault) → IsOneTooMany plan rows f → verdict plan rows ≡ Some f
 extra_found plan rows f h =
     let over : verdict_after plan [] (h.before ++ h.extra ∷ h.behind) ≡ verdict_after plan h.before (h.extra ∷ h.behind) = verdict_over plan [] h.before (h.extra ∷ h.behind) h.run.each (omega (arith, h.run.size)) in
@@ -159,6 +168,7 @@ fault_found plan rows f (inr (inr h)) = extra_found plan rows f h
 pub start_before : (plan : PlanModel) (pre post : List Row) → IsRunStart plan (pre ++ post) → IsRunStart plan pre
 start_before plan pre post h = record { size = omega (arith, h.size, length-append pre post); each = each_before (IsLegal plan) [] pre post h.each }
 
+-- a legal run's first part is the start of one
 pub run_before : (plan : PlanModel) (pre post : List Row) → IsRun plan (pre ++ post) → IsRunStart plan pre
 run_before plan pre post h = start_before plan pre post (record { size = omega (arith, h.size); each = h.each })
 
@@ -166,5 +176,6 @@ run_before plan pre post h = start_before plan pre post (record { size = omega (
 pub start_push : (plan : PlanModel) (pre : List Row) (r : Row) → IsRunStart plan pre → length pre < all_rows plan → IsLegal plan pre r → IsRunStart plan (pre ++ r ∷ [])
 start_push plan pre r h due legal = record { size = omega (arith, one_more pre r); each = each_push (IsLegal plan) [] pre r h.each legal }
 
+-- the last row of a start is legal
 pub start_last : (plan : PlanModel) (pre : List Row) (r : Row) → IsRunStart plan (pre ++ r ∷ []) → IsLegal plan pre r
 start_last plan pre r h = each_at (IsLegal plan) [] pre r [] h.each

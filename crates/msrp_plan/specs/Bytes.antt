@@ -7,10 +7,12 @@ use Rattle.msrp_plan.specs.declared.bytes.Stage.{Stage}
 use Rattle.msrp_plan.specs.declared.bytes.Stage.TheVariants.{Ended, Failed}
 use Rattle.msrp_plan.specs.declared.bytes.Sink.{Sink}
 
+-- the stage of a source that has failed
 abbrev pub is_failed : Stage → Bool
 is_failed Failed = true
 is_failed _ = false
 
+-- the stage of a source that has met the end
 abbrev pub is_ended : Stage → Bool
 is_ended Ended = true
 is_ended _ = false
@@ -36,10 +38,11 @@ source_ended s = is_ended s.stage
 abbrev pub is_open : {R : Type 0} → Source R → Bool
 is_open s = not (source_failed s || source_ended s)
 
--- the bytes that the source has given, and how often it asked its reader
+-- how many bytes the source has given
 abbrev pub source_given : {R : Type 0} → Source R → ℕ
 source_given s = s.given
 
+-- how often it asked its reader
 abbrev pub source_calls : {R : Type 0} → Source R → ℕ
 source_calls s = s.calls
 

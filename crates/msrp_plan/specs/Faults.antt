@@ -35,5 +35,6 @@ pub record IsOneTooMany (plan : PlanModel) (rows : List Row) (f : Fault) : Type 
   pub number : f.row ≡ length before + 1
   pub rule : f.rule ≡ A7
 
+-- one of the three: a row that breaks a rule, a missing row, a row too many
 abbrev pub IsFault : PlanModel → List Row → Fault → Type 0
 IsFault plan rows f = IsBroken plan rows f ⊎ (IsCutShort plan rows f ⊎ IsOneTooMany plan rows f)

@@ -71,6 +71,7 @@ release t c j g = record { tick = t; core = record { 0 = c }; kind = kind.Releas
 abbrev pub changed : List Row → ℕ → Row → List Row
 changed rows n r = set rows (n - 1) r
 
+-- all but the last row
 abbrev pub without_last : List Row → List Row
 without_last rows = list.take (length rows - 1) rows
 

@@ -5,6 +5,7 @@ use Rattle.msrp_plan.specs.Plan.{PlanModel, TaskModel}
 use Rattle.msrp_plan.specs.Examples.Notation.{task, works, locks, unlocks, section}
 use Rattle.msrp_plan.specs.declared.units.Op.{Op}
 
+-- two cores, five ticks, the resources g and h, and these tasks
 abbrev pub with_tasks : List TaskModel → PlanModel
 with_tasks tasks = record { cores = 2; ticks = 5; resources = codes "g" ∷ codes "h" ∷ []; tasks = tasks }
 
