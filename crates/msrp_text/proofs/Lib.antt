@@ -4,3 +4,4 @@ pub mod Texts
 pub mod Judging
 pub mod Folding
 pub mod WorkAlone
+pub mod Firsts

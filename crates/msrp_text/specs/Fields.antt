@@ -23,6 +23,7 @@ number_of text = cond (is_number text) (Some (digits_value text)) None
 abbrev pub text_of : List ℕ → List ℕ
 text_of bytes = cond (is_utf8 bytes) bytes []
 
+-- a field is there and is that word
 abbrev pub is_word : List ℕ → Option (List ℕ) → Bool
 is_word word None = false
 is_word word (Some field) = bytes_eq field word

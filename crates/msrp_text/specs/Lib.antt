@@ -3,6 +3,5 @@ pub mod Records
 pub mod Fields
 pub mod Reading
 pub mod Stages
-pub mod Provisional
-pub mod Judged
 pub mod Examples
+pub mod Laws

@@ -1,7 +1,7 @@
 -- The plan that a list of records tells, or the first refusal of one of them.
 use Rattle.std.specs.Prelude.{ℕ, Bool, true, false, not, List, [], ◌∷◌, length, Option, Some, None, Result, Ok, Err, codes, drop, fold, is_none, nat_le, option_map, slice_get, slice_index_or, take, unwrap_or, ◌≡◌, ◌⊎◌, ◌+◌, ◌==◌, ◌&&◌, ◌||◌, if◌then◌else◌}
 use Rattle.std.specs.List.{filter_map, range_with_len}
-use Rattle.msrp_plan.specs.Building.{empty_plan, fault_if, finish_fault, is_within, new_fault, op_fault, task_fault, units_of, with_task, with_units}
+use Rattle.msrp_plan.specs.Building.{empty_plan, fault_if, finish_fault, is_within, new_fault, new_task, op_fault, task_fault, units_of, with_task, with_units}
 use Rattle.msrp_plan.specs.Names.{name_position}
 use Rattle.msrp_plan.specs.Plan.{PlanModel, TaskModel}
 use Rattle.msrp_plan.specs.declared.faults.PlanFault.{PlanFault}
@@ -20,7 +20,7 @@ number_told fields i = unwrap_or (number_at fields i) 0
 
 -- the task that a `task` record tells: name, core, period, relative deadline, offset, and no unit yet
 abbrev pub task_told : List (List ℕ) → TaskModel
-task_told fields = record { name = name_at fields 1; core = number_told fields 2; period = number_told fields 3; deadline = number_told fields 4; offset = number_told fields 5; units = [] }
+task_told fields = new_task (name_at fields 1) (number_told fields 2) (number_told fields 3) (number_told fields 4) (number_told fields 5)
 
 -- the resource of a name; what the plan hasn't declared is told as the greatest number
 abbrev pub resource_told : PlanModel → List ℕ → ResId
@@ -40,6 +40,7 @@ with_record plan fields =
     else if has_word fields 0 (codes "op") then with_units plan (units_of (step_told plan fields))
     else plan
 
+-- the record at a place, counted from 0; one that isn't there has no field
 abbrev pub record_at : List (List (List ℕ)) → ℕ → List (List ℕ)
 record_at records n = slice_index_or records n []
 
@@ -51,6 +52,7 @@ plan_told records = fold with_record (empty_plan (number_told (record_at records
 abbrev pub is_version : List (List ℕ) → Bool
 is_version fields = (length fields == 2) && has_word fields 0 (codes "msrp") && has_word fields 1 (codes "1")
 
+-- nothing but the version may come first
 abbrev pub version_fault : Option (List (List ℕ)) → Option PlanFault
 version_fault None = Some Version
 version_fault (Some fields) = fault_if (not (is_version fields)) Version None
@@ -116,10 +118,11 @@ fault_after (version ∷ cores ∷ ticks ∷ rest) next = tasks_fault (plan_told
 abbrev pub refusal_at : List (List (List ℕ)) → ℕ → Option TextError
 refusal_at records n = option_map (λ fault. At fault (n + 1)) (fault_after (take n records) (slice_get records n))
 
--- each record of a text that breaks a rule given those before it
+-- the refusals of all records that break a rule given those before them
 abbrev pub refusals : List (List (List ℕ)) → List TextError
 refusals records = filter_map (refusal_at records) (range_with_len 0 (length records + 1))
 
+-- the first refusal, or else the plan
 abbrev pub first_or : List TextError → PlanModel → Result PlanModel TextError
 first_or [] plan = Ok plan
 first_or (refusal ∷ rest) plan = Err refusal

@@ -2,6 +2,7 @@
 #![tactic(auto)]
 
 pub mod fields;
+pub mod laws;
 pub mod provisional;
 pub mod reading;
 pub mod records;

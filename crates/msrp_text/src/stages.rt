@@ -6,9 +6,10 @@ ghost use Rattle.msrp_text.specs.Reading.{cores_fault, is_op_word, number_told, 
 ghost use Rattle.msrp_text.specs.Stages.{IsTaken, numbered_step, stage_fault, stage_plan, stage_with, task_numbers};
 
 use crate::fields::{has_word, name_at, number_at};
-use crate::provisional::PlanBuilder;
+use crate::provisional::finish;
 use csv::ByteRecord;
-use msrp_plan::{CoreId, Plan, PlanFault, ResId, Step};
+use msrp_plan::limits::MOST_CORES;
+use msrp_plan::{CoreId, Plan, PlanBuilder, PlanFault, ResId, Step};
 use std::alloc::Global;
 
 /// Where a reader stands between two records.
@@ -47,7 +48,7 @@ fn read_cores(row: &ByteRecord) -> Result<Stage, PlanFault>
     }
     match number_at(row, 1) {
         None => Err(PlanFault::Number),
-        Some(cores) if 1 <= cores && cores <= 8 => Ok(Stage::Ticks(cores)),
+        Some(cores) if (1..=MOST_CORES).contains(&cores) => Ok(Stage::Ticks(cores)),
         Some(_) => Err(PlanFault::Limit),
     }
 }
@@ -198,6 +199,6 @@ pub(crate) fn plan_at_end(stage: Stage) -> Result<Plan, PlanFault>
     match stage {
         Stage::Version => Err(PlanFault::Version),
         Stage::Cores | Stage::Ticks(_) => Err(PlanFault::OutOfPlace),
-        Stage::Tasks(builder) => builder.finish().map_err(|(_, fault)| fault),
+        Stage::Tasks(builder) => finish(builder).map_err(|(_, fault)| fault),
     }
 }

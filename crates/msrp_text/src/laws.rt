@@ -1,0 +1,18 @@
+//! Laws over the definitions: what an answer says of the records, one by one. Each function does nothing; its
+//! contract is the law.
+ghost use Rattle.std.specs.Prelude.{◌≡◌, ℕ, List, Ok, Err};
+ghost use Rattle.msrp_plan.specs.declared.faults.PlanFault.{PlanFault};
+ghost use Rattle.msrp_plan.specs.Plan.{PlanModel};
+ghost use Rattle.msrp_text.specs.Laws.{IsAccepted, IsFirstRefused};
+ghost use Rattle.msrp_text.specs.Reading.{plan_of};
+ghost use Rattle.msrp_text.specs.declared.reading.TextError.TheVariants.{At};
+
+/// A refusal names the first record that breaks a rule given those before it, and the rule.
+pub fn first_refusal()
+    ensures { (records : List (List (List ℕ))) (fault : PlanFault) (number : ℕ) → plan_of records ≡ Err (At fault number) → IsFirstRefused records fault number }
+{}
+
+/// Of an accepted text no record breaks a rule, nor does its end, and the plan is the one that the records tell.
+pub fn acceptance()
+    ensures { (records : List (List (List ℕ))) (plan : PlanModel) → plan_of records ≡ Ok plan → IsAccepted records plan }
+{}
