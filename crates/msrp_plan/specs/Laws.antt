@@ -17,7 +17,7 @@ use Rattle.msrp_plan.specs.declared.rows.Row.{Row}
 abbrev pub LocksFree : PlanModel → List Row → Row → Type 0
 LocksFree plan pre r = (g : ResId) (j : JobId) → r.kind ≡ Lock → r.res ≡ Some g → r.job ≢ Some j → holds plan pre g.0 j ≡ false
 
--- no job that has its turn ever waits for a local resource (Baker 1991, section 4: a job that has started
+-- no job that has its turn ever waits for a local resource (Baker 1991: a job that has started
 -- is not blocked)
 abbrev pub NoLocalBlocking : PlanModel → List Row → Type 0
 NoLocalBlocking plan rows = EachAfter (LocksFree plan) [] rows
@@ -57,7 +57,7 @@ pub record IsWait (r : Row) (since : List Row) (j : JobId) (g : ℕ) : Type 0 wh
   pub waits : list_any (is_grant_of j g) since ≡ false
 
 -- while a job waits for a global resource, others come to hold it at most m - 1 times, on m cores (Gai,
--- Lipari and Di Natale 2001, section 4: requests are granted in their order, and of each core one at most stands)
+-- Lipari and Di Natale 2001: requests are granted in their order, and of each core one at most stands)
 abbrev pub BoundedOvertaking : PlanModel → List Row → Type 0
 BoundedOvertaking plan rows =
     (pre : List Row) (r : Row) (since post : List Row) (j : JobId) (g : ℕ) → rows ≡ pre ++ r ∷ (since ++ post) → IsWait r since j g → count_by (is_admission g) since ≤ plan.cores - 1

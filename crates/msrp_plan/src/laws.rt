@@ -16,7 +16,7 @@ ghost use Rattle.msrp_plan.specs.Examples.RequestedAgain as requested_again;
 ghost use Rattle.msrp_plan.specs.declared.rows.Row.{Row};
 
 /// No local blocking: a job that has its turn never finds a local resource held by another job, of whatever
-/// core (Baker 1991, section 4). So a lock of a local resource takes one tick.
+/// core (Baker 1991). So a lock of a local resource takes one tick.
 pub fn no_local_blocking()
     ensures { (plan : PlanModel) (rows : List Row) → IsPlan plan → IsRunStart plan rows → NoLocalBlocking plan rows }
 {}
