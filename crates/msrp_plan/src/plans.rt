@@ -1,7 +1,9 @@
 //! Plans.
-ghost use Rattle.std.specs.Prelude.{◌≡◌, ◌<◌, ◌≤◌, ◌*◌, ◌^◌, length, Some, slice_get};
+ghost use Rattle.std.specs.Prelude.{◌≡◌, ◌<◌, ◌≤◌, ◌*◌, ◌^◌, length, map, Some, slice_get};
+ghost use Rattle.std.specs.Option.{option_map};
 ghost use Rattle.msrp_plan.specs.Plan.{task_at, release, key};
 ghost use Rattle.msrp_plan.specs.Jobs.{jobs_of};
+ghost use Rattle.msrp_plan.specs.Names.{name_position};
 ghost use Rattle.msrp_plan.specs.WellFormed.{IsPlan, IsTask};
 
 use crate::ids::{CoreId, JobId, JobKey, ResId, TaskId};
@@ -91,6 +93,26 @@ impl Plan {
         self.resources[res.0 as usize].as_str()
     }
 
+    /// The task of a name.
+    pub fn task_of(&self, name: &str) -> Option<TaskId>
+        ensures { option_map (λ task. task.0) result ≡ name_position (map (λ task. task.name) self.now.tasks) name.now }
+    {
+        match self.tasks.get_index_of(name) {
+            Some(number) => Some(TaskId(number as u32)),
+            None => None,
+        }
+    }
+
+    /// The resource of a name.
+    pub fn res_of(&self, name: &str) -> Option<ResId>
+        ensures { option_map (λ res. res.0) result ≡ name_position self.now.resources name.now }
+    {
+        match self.resources.get_index_of(name) {
+            Some(number) => Some(ResId(number as u32)),
+            None => None,
+        }
+    }
+
     /// The core that a task belongs to.
     pub fn core_of(&self, task: TaskId) -> CoreId
         requires { task.0 < length self.now.tasks }
@@ -138,6 +160,15 @@ impl Plan {
         ensures { slice_get (task_at self.now task.0).units place ≡ Some result }
     {
         self.named_task(task).1.units[place as usize]
+    }
+
+    /// The number of jobs of a task: of its releases before the plan's ticks are over.
+    pub fn jobs(&self, task: TaskId) -> u32
+        requires { task.0 < length self.now.tasks }
+        ensures value { result ≡ length (jobs_of self.now task.0) }
+        ensures bound { result ≤ self.now.ticks }
+    {
+        self.named_task(task).1.jobs(self.ticks)
     }
 
     /// The tick in which a job is released: of each job of the task, also those past the last tick.

@@ -20,3 +20,23 @@ loop-k-preserved c =
       | then-release-from w ↦ record { counted = more p f c.loop-k.k c.loop-k.count _ true (lt-ltb _ _ (omega arith)) inv (omega arith); bound = omega arith }
       | else-release-from w ↦ record { counted = more p f c.loop-k.k c.loop-k.count _ false (le-ltb _ _ (omega arith)) inv (omega arith); bound = omega arith }
     ]
+use Rattle.std.proofs.Common.{◌≡◌, ◌≤◌, ◌<◌, ◌+◌, ◌*◌, ℕ, length, nat_lt, ap, sym, ◌∙◌, arith}
+use Rattle.msrp_plan.specs.Plan.{PlanModel, TaskModel, task_at}
+use Rattle.msrp_plan.specs.Jobs.{jobs_of}
+use Rattle.msrp_plan.proofs.Releases.{job_count}
+use Rattle.msrp_plan.proofs.plans.Plan.jobs.Goals as goal
+
+-- the number of the task's jobs
+counted : (c : goal.After-jobs) → (length (jobs_of c.args.self.now c.args.task.0) ≡ c.jobs.result) × (c.jobs.result ≤ c.args.self.now.ticks)
+counted c =
+    let plan : PlanModel = c.args.self.now in
+    let ticks : c.self.inside.ticks ≡ plan.ticks = ap (λ (p : PlanModel). p.ticks) c.self.view_is in
+    let tests : (k : ℕ) → nat_lt ((task_at plan c.args.task.0).offset + k * (task_at plan c.args.task.0).period) plan.ticks ≡ nat_lt k c.jobs.result =
+        λ k. sym (ap (λ (t : TaskModel). nat_lt (t.offset + k * t.period) plan.ticks) c.named_task.ensures.stored) ∙ rw (← ticks) (c.jobs.ensures k) in
+    job_count plan c.args.task.0 c.jobs.result (omega (arith, c.named_task.ensures.numbers.period.0)) tests
+
+pub returns-clause-value : goal.returns-clause-value
+returns-clause-value c = sym (counted c).0
+
+pub returns-clause-bound : goal.returns-clause-bound
+returns-clause-bound c = (counted c).1
