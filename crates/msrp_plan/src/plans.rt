@@ -165,8 +165,7 @@ impl Plan {
     /// The number of jobs of a task: of its releases before the plan's ticks are over.
     pub fn jobs(&self, task: TaskId) -> u32
         requires { task.0 < length self.now.tasks }
-        ensures value { result ≡ length (jobs_of self.now task.0) }
-        ensures bound { result ≤ self.now.ticks }
+        ensures { result ≡ length (jobs_of self.now task.0) }
     {
         self.named_task(task).1.jobs(self.ticks)
     }
@@ -179,20 +178,6 @@ impl Plan {
     {
         let task = self.named_task(job.task).1;
         u64::from(task.offset) + u64::from(job.k) * u64::from(task.period)
-    }
-
-    /// The number of jobs of a task.
-    pub fn jobs(&self, task: TaskId) -> u32
-        requires { task.0 < length self.now.tasks }
-        ensures { result ≡ length (jobs_of self.now task.0) }
-    {
-        let mut count = 0;
-        for k in 0..self.ticks() {
-            if self.release(JobId { task, k }) < u64::from(self.ticks()) {
-                count += 1;
-            }
-        }
-        count
     }
 
     /// What the jobs of a core are ordered by.
