@@ -46,3 +46,7 @@ pub mod JobLists
 pub mod Interleaving
 pub mod Commutation
 pub mod CoreRuns
+pub mod Releases
+pub mod GlobalUse
+pub mod Scan
+pub mod Finished

@@ -14,7 +14,7 @@ use Rattle.indexmap.specs.IndexMap.{IndexMap, insert_entry}
 use Rattle.indexmap.specs.IndexSet.{insert_key}
 use Rattle.indexmap.proofs.CallerLemmas.{insert_entry-new}
 use Rattle.msrp_plan.specs.Plan.{TaskModel, no_task}
-use Rattle.msrp_plan.specs.Names.{has_name}
+use Rattle.msrp_plan.specs.Names.{has_name, name_position}
 use Rattle.msrp_plan.specs.Building.{with_more_units}
 use Rattle.msrp_plan.specs.Tasks.{task_view, named_view}
 use Rattle.msrp_plan.specs.Views.{numbers}
@@ -44,6 +44,10 @@ task_names (e ∷ es) = ap (λ names. string_bytes e.0 ∷ names) (task_names es
 pub has_task : (es : List (String Global × Task)) (name : List ℕ) → is_some (lookup (λ k. bytes_eq name (string_bytes k)) es) ≡ has_name (map (λ (u : TaskModel). u.name) (map task_view es)) name
 has_task es name =
     is_some-lookup (λ k. bytes_eq name (string_bytes k)) es ∙ sym (any_map (bytes_eq name) string_bytes (keys_of es)) ∙ sym (ap (list_any (bytes_eq name)) (task_names es))
+
+-- where a task of the name stands is where the key is found
+pub task_position : (es : List (String Global × Task)) (name : List ℕ) → position (λ k. bytes_eq name (string_bytes k)) (keys_of es) ≡ name_position (map (λ (u : TaskModel). u.name) (map task_view es)) name
+task_position es name = sym (position_map (bytes_eq name) string_bytes (keys_of es)) ∙ sym (ap (position (bytes_eq name)) (task_names es))
 
 -- a task that is put in a place, with more units than the one there
 pub more_at : (es : List (String Global × Task)) (i : ℕ) (old new : Task) (us : List Op) → slice_get (values_of es) i ≡ Some old → ((name : List ℕ) → named_view name new ≡ with_more_units (named_view name old) us)
@@ -77,11 +81,11 @@ name_push ks k new =
     let none : list_any (string_eq k) ks ≡ false = sym (any_map (bytes_eq (string_bytes k)) string_bytes ks) ∙ new in
     ap (λ b. map string_bytes (cond b ks (ks ++ k ∷ []))) none ∙ map_push string_bytes ks k
 
--- the units of the task at a place
-pub units_at : (es : List (String Global × Task)) (i : ℕ) (task : Task) → slice_get (values_of es) i ≡ Some task → (slice_index_or (map task_view es) i no_task).units ≡ task.units.items
-units_at [] i task at = absurd (none-some task at)
-units_at (e ∷ es) zero task at = ap (λ (t : Task). t.units.items) (same_Some e.1 task at)
-units_at (e ∷ es) (suc i) task at = units_at es i task at
+-- the task at a place
+pub view_at : (es : List (String Global × Task)) (i : ℕ) (task : Task) → slice_get (values_of es) i ≡ Some task → (name : List ℕ) × (slice_index_or (map task_view es) i no_task ≡ named_view name task)
+view_at [] i task at = absurd (none-some task at)
+view_at (e ∷ es) zero task at = (string_bytes e.0, ap (named_view (string_bytes e.0)) (same_Some e.1 task at))
+view_at (e ∷ es) (suc i) task at = view_at es i task at
 
 -- a number stands in a list, whichever way the test asks
 pub number_in : (rs : List ResId) (r : ResId) → list_any (λ y. y.0 == r.0) rs ≡ list_any (nat_eq r.0) (numbers rs)

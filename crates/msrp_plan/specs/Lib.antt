@@ -20,6 +20,7 @@ pub mod WellFormed
 pub mod Building
 pub mod Codes
 pub mod Tasks
+pub mod Marks
 pub mod Views
 pub mod Bytes
 pub mod Examples

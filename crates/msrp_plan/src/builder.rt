@@ -1,8 +1,13 @@
 //! The builder of plans.
-ghost use Rattle.std.specs.Prelude.{◌≡◌, ◌<◌, ◌^◌, ℕ, [], length, map, replicate, IfOk, OnOk, OnErr};
+ghost use Rattle.std.specs.Prelude.{◌≡◌, ◌<◌, ◌≤◌, ◌^◌, ◌&&◌, ℕ, [], length, map, replicate, IfOk, OnOk, OnErr};
 ghost use Rattle.std.specs.Option.{option_map};
+ghost use Rattle.std.specs.List.{list_any};
+ghost use Rattle.msrp_plan.specs.Plan.{task_at};
+ghost use Rattle.msrp_plan.specs.Jobs.{jobs, jobs_of};
+ghost use Rattle.msrp_plan.specs.Levels.{is_global};
+ghost use Rattle.msrp_plan.specs.Marks.{AreGlobals, holds_one_after, is_marked, locks_one};
 ghost use Rattle.msrp_plan.specs.Names.{has_name, name_position};
-ghost use Rattle.msrp_plan.specs.Building.{IsJudged, judged, finished, empty_plan, new_task, new_fault, resource_fault, task_fault, op_fault, end_fault, finish_fault, is_in_range, is_undeclared, is_misnested, is_too_much, newest_units, with_resource, with_task, with_units, with_newest, units_of};
+ghost use Rattle.msrp_plan.specs.Building.{IsJudged, judged, finished, empty_plan, new_task, new_fault, resource_fault, task_fault, op_fault, end_fault, finish_fault, is_in_range, is_undeclared, is_misnested, is_too_much, nests_global, newest_units, with_resource, with_task, with_units, with_newest, units_of};
 
 use crate::faults::PlanFault;
 use crate::ids::{CoreId, ResId, TaskId};
@@ -12,7 +17,7 @@ use crate::limits::{
 };
 use crate::names::is_name;
 use crate::plans::Plan;
-use crate::tasks::{Task, add_units};
+use crate::tasks::{Task, add_units, first_user, is_used_elsewhere};
 use crate::units::{Op, Step};
 use indexmap::{IndexMap, IndexSet};
 use std::alloc::{AllocError, Global};
@@ -127,6 +132,23 @@ impl PlanBuilder {
             Step::Lock(res) => self.lock(res),
             Step::Unlock(res) => self.unlock(res),
         }
+    }
+
+    /// The plan as it was told. First the end of the last task is judged (P12, P10), then that no global resource is
+    /// locked while a global one is held (P11), and the number of jobs (P13). A refused plan comes back, to be used on.
+    /// Nothing is allocated.
+    pub fn finish(self) -> Result<Plan, (PlanBuilder, PlanFault)>
+        ensures { result ≡ finished (finish_fault self) self }
+    {
+        if let Some(fault) = self.finish_fault() {
+            return Err((self, fault));
+        }
+        Ok(Plan {
+            cores: self.cores,
+            ticks: self.ticks,
+            resources: self.resources,
+            tasks: self.tasks,
+        })
     }
 
     /// The number of a resource, by its name.
@@ -273,6 +295,91 @@ impl PlanBuilder {
         }
     }
 
+    // Whether tasks of two cores use a resource.
+    fn is_global(&self, res: ResId) -> bool
+        ensures { result ≡ is_global self.now res.0 }
+    {
+        match first_user(&self.tasks, res) {
+            Some(first) => is_used_elsewhere(&self.tasks, res, first.core),
+            None => false,
+        }
+    }
+
+    // Which resources are global, by their numbers.
+    fn globals(&self) -> [bool; MOST_RESOURCES]
+        ensures { AreGlobals self.now result }
+    {
+        let mut globals = [false; MOST_RESOURCES];
+        for res in 0..self.resources.len() {
+            globals[res] = self.is_global(ResId(res as u32));
+        }
+        globals
+    }
+
+    // Whether a task locks a global resource while it holds a global one.
+    fn nests_global(&self, task: usize, globals: &[bool; MOST_RESOURCES]) -> bool
+        requires task { task < length self.now.tasks }
+        requires globals { AreGlobals self.now globals.now }
+        ensures { result ≡ nests_global self.now (task_at self.now task).units }
+    {
+        let mut holding = false;
+        for unit in self.tasks[task].units.as_slice() {
+            if is_nested_lock(holding, *unit, globals) {
+                return true;
+            }
+            holding = holds_global_after(holding, *unit, globals);
+        }
+        false
+    }
+
+    // Whether some task does.
+    fn nests_globals(&self) -> bool
+        ensures { result ≡ list_any (λ task. nests_global self.now task.units) self.now.tasks }
+    {
+        let globals = self.globals();
+        for task in 0..self.tasks.len() {
+            if self.nests_global(task, &globals) {
+                return true;
+            }
+        }
+        false
+    }
+
+    // The number of jobs of a task.
+    fn jobs(&self, task: usize) -> u32
+        requires { task < length self.now.tasks }
+        ensures value { result ≡ length (jobs_of self.now task) }
+        ensures bound { result ≤ 20000 }
+    {
+        self.tasks[task].jobs(self.ticks)
+    }
+
+    // The number of jobs of all tasks.
+    fn all_jobs(&self) -> u32
+        ensures { result ≡ length (jobs self.now) }
+    {
+        let mut count = 0;
+        for task in 0..self.tasks.len() {
+            count += self.jobs(task);
+        }
+        count
+    }
+
+    // Why the plan may not end as it is.
+    fn finish_fault(&self) -> Option<PlanFault>
+        ensures { result ≡ finish_fault self.now }
+    {
+        if let Some(fault) = self.end_fault() {
+            Some(fault)
+        } else if self.nests_globals() {
+            Some(PlanFault::NestedGlobal)
+        } else if self.all_jobs() > MOST_JOBS {
+            Some(PlanFault::Jobs)
+        } else {
+            None
+        }
+    }
+
     // Units of work.
     fn run(&mut self, count: u32) -> Result<(), PlanFault>
         requires some { 0 < length self.old.tasks }
@@ -328,4 +435,33 @@ fn is_in_range(period: u32, deadline: u32, offset: u32) -> bool
     (1..=LONGEST_TIME).contains(&period)
         && (1..=LONGEST_TIME).contains(&deadline)
         && offset <= LONGEST_TIME
+}
+
+// Whether a unit locks a global resource while one is held.
+fn is_nested_lock(holding: bool, unit: Op, globals: &[bool; MOST_RESOURCES]) -> bool
+    ensures { result ≡ (locks_one globals.now unit && holding) }
+{
+    match unit {
+        Op::Lock(res) => is_one(globals, res) && holding,
+        Op::Run | Op::Unlock(_) => false,
+    }
+}
+
+// Whether a global resource is held after a unit, where none is locked while one is held.
+fn holds_global_after(holding: bool, unit: Op, globals: &[bool; MOST_RESOURCES]) -> bool
+    ensures { result ≡ holds_one_after globals.now holding unit }
+{
+    match unit {
+        Op::Run => holding,
+        Op::Lock(res) => holding || is_one(globals, res),
+        Op::Unlock(res) => holding && !is_one(globals, res),
+    }
+}
+
+// Whether a resource is one of those that are marked.
+fn is_one(marked: &[bool; MOST_RESOURCES], res: ResId) -> bool
+    ensures { result ≡ is_marked marked.now res.0 }
+{
+    let place = res.0 as usize;
+    place < MOST_RESOURCES && marked[place]
 }

@@ -1,7 +1,9 @@
 //! Plans.
-ghost use Rattle.std.specs.Prelude.{◌≡◌, ◌<◌, ◌≤◌, ◌*◌, ◌^◌, length, Some, slice_get};
+ghost use Rattle.std.specs.Prelude.{◌≡◌, ◌<◌, ◌≤◌, ◌*◌, ◌^◌, length, map, Some, slice_get};
+ghost use Rattle.std.specs.Option.{option_map};
 ghost use Rattle.msrp_plan.specs.Plan.{task_at, release, key};
 ghost use Rattle.msrp_plan.specs.Jobs.{jobs_of};
+ghost use Rattle.msrp_plan.specs.Names.{name_position};
 ghost use Rattle.msrp_plan.specs.WellFormed.{IsPlan, IsTask};
 
 use crate::ids::{CoreId, JobId, JobKey, ResId, TaskId};
@@ -91,6 +93,26 @@ impl Plan {
         self.resources[res.0 as usize].as_str()
     }
 
+    /// The task of a name.
+    pub fn task_of(&self, name: &str) -> Option<TaskId>
+        ensures { option_map (λ task. task.0) result ≡ name_position (map (λ task. task.name) self.now.tasks) name.now }
+    {
+        match self.tasks.get_index_of(name) {
+            Some(number) => Some(TaskId(number as u32)),
+            None => None,
+        }
+    }
+
+    /// The resource of a name.
+    pub fn res_of(&self, name: &str) -> Option<ResId>
+        ensures { option_map (λ res. res.0) result ≡ name_position self.now.resources name.now }
+    {
+        match self.resources.get_index_of(name) {
+            Some(number) => Some(ResId(number as u32)),
+            None => None,
+        }
+    }
+
     /// The core that a task belongs to.
     pub fn core_of(&self, task: TaskId) -> CoreId
         requires { task.0 < length self.now.tasks }
@@ -140,6 +162,14 @@ impl Plan {
         self.named_task(task).1.units[place as usize]
     }
 
+    /// The number of jobs of a task: of its releases before the plan's ticks are over.
+    pub fn jobs(&self, task: TaskId) -> u32
+        requires { task.0 < length self.now.tasks }
+        ensures { result ≡ length (jobs_of self.now task.0) }
+    {
+        self.named_task(task).1.jobs(self.ticks)
+    }
+
     /// The tick in which a job is released: of each job of the task, also those past the last tick.
     pub fn release(&self, job: JobId) -> u64
         requires { job.task.0 < length self.now.tasks }
@@ -148,20 +178,6 @@ impl Plan {
     {
         let task = self.named_task(job.task).1;
         u64::from(task.offset) + u64::from(job.k) * u64::from(task.period)
-    }
-
-    /// The number of jobs of a task.
-    pub fn jobs(&self, task: TaskId) -> u32
-        requires { task.0 < length self.now.tasks }
-        ensures { result ≡ length (jobs_of self.now task.0) }
-    {
-        let mut count = 0;
-        for k in 0..self.ticks() {
-            if self.release(JobId { task, k }) < u64::from(self.ticks()) {
-                count += 1;
-            }
-        }
-        count
     }
 
     /// What the jobs of a core are ordered by.

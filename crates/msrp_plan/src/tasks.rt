@@ -1,6 +1,8 @@
 //! Tasks as a plan and its builder store them.
-ghost use Rattle.std.specs.Prelude.{◌≡◌, ◌<◌, ◌+◌, ◌^◌, ℕ, List, length, map, replicate, vec_len, OnOk, OnErr};
-ghost use Rattle.std.specs.List.{list_any};
+ghost use Rattle.std.specs.Prelude.{◌≡◌, ◌<◌, ◌+◌, ◌*◌, ◌^◌, ◌==◌, ◌&&◌, not, nat_lt, ℕ, List, length, map, replicate, vec_len, OnOk, OnErr};
+ghost use Rattle.std.specs.List.{find, list_any};
+ghost use Rattle.std.specs.Option.{option_copied};
+ghost use Rattle.indexmap.specs.IndexMap.{values};
 ghost use Rattle.msrp_plan.specs.Units.{is_lock_of};
 ghost use Rattle.msrp_plan.specs.Building.{with_more_units, with_newest};
 ghost use Rattle.msrp_plan.specs.Tasks.{named_view, task_view};
@@ -37,6 +39,30 @@ impl Task {
     {
         self.units.iter().any(|unit| unit.is_lock_of(res))
     }
+
+    // The number of its jobs that are released before a tick.
+    pub(crate) fn jobs(&self, tick: u32) -> u32
+        requires { 0 < self.now.period }
+        ensures { (k : ℕ) → nat_lt (self.now.offset + k * self.now.period) tick ≡ nat_lt k result }
+    {
+        tick.saturating_sub(self.offset).div_ceil(self.period)
+    }
+}
+
+// The first task that uses a resource.
+pub(crate) fn first_user(tasks: &IndexMap<String, Task>, res: ResId) -> Option<&Task>
+    ensures { option_copied result ≡ find (λ task. list_any (is_lock_of res.0) task.units.items) (values tasks.now) }
+{
+    tasks.values().find(|task| task.uses(res))
+}
+
+// Whether a task of another core uses a resource.
+pub(crate) fn is_used_elsewhere(tasks: &IndexMap<String, Task>, res: ResId, core: CoreId) -> bool
+    ensures { result ≡ list_any (λ task. list_any (is_lock_of res.0) task.units.items && not (core.0 == task.core.0)) (values tasks.now) }
+{
+    tasks
+        .values()
+        .any(|task| task.uses(res) && core != task.core)
 }
 
 // More units of one kind for the newest task.

@@ -1,0 +1,6 @@
+use Rattle.std.proofs.Common.{◌≡◌}
+use Rattle.msrp_plan.proofs.GlobalUse.{IsMarkedTo}
+use Rattle.msrp_plan.proofs.builder.PlanBuilder.globals.Given as goal
+
+abbrev pub invariant-loop-res : goal.invariant-loop-res
+invariant-loop-res l = IsMarkedTo l.self l.globals l.res

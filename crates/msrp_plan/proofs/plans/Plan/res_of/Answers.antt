@@ -1,0 +1,10 @@
+use Rattle.std.proofs.Common.{◌≡◌, sym, ap, ◌∙◌, string_bytes}
+use Rattle.std.specs.Str.{bytes_eq}
+use Rattle.msrp_plan.proofs.Stored.{position_map}
+use Rattle.msrp_plan.proofs.plans.Plan.res_of.Goals as goal
+
+pub returns-in-Some : goal.returns-in-Some
+returns-in-Some c = rw (← c.self.view_is) (sym c.in-Some.is ∙ c.get_index_of.ensures.index ∙ sym (position_map (bytes_eq c.args.name.now) string_bytes c.self.inside.resources.keys))
+
+pub returns-in-None : goal.returns-in-None
+returns-in-None c = rw (← c.self.view_is) (sym c.in-None.is ∙ c.get_index_of.ensures.index ∙ sym (position_map (bytes_eq c.args.name.now) string_bytes c.self.inside.resources.keys))
