@@ -1,0 +1,12 @@
+use Rattle.std.proofs.Common.{◌∙◌}
+use Rattle.msrp.proofs.Gathered.{gathers-as, gathers-more}
+use Rattle.msrp.proofs.Records.{dash-is}
+use Rattle.msrp.proofs.trace.TraceWriter.next_job.Goals as goal
+
+pub returns-in-Some : goal.returns-in-Some
+returns-in-Some g c = rw c.in-Some.is
+    (gathers-more _ _ _ _ _ _ _ _ _ (rw (c.as_bytes.ensures.value ∙ c.task_name.ensures) at c.next.ensures) c.next_number.ensures)
+
+pub returns-in-None : goal.returns-in-None
+returns-in-None g c = rw c.in-None.is
+    (gathers-more _ _ _ _ _ _ _ _ _ (gathers-as _ _ _ _ _ _ _ dash-is c.next-in-None.ensures) (gathers-as _ _ _ _ _ _ _ dash-is c.next-in-None-2.ensures))

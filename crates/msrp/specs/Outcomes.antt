@@ -1,0 +1,36 @@
+-- What the program answers, and its exit status.
+use Rattle.std.specs.Prelude.{ℕ, Bool, true, false, Ok, Err}
+use Rattle.std.specs.declared.result.Result.{Result}
+use Rattle.msrp_plan.specs.Building.{is_within}
+use Rattle.msrp_plan.specs.Codes.{code_of}
+use Rattle.msrp_text.specs.declared.reading.TextError.{TextError}
+use Rattle.msrp_text.specs.declared.reading.TextError.TheVariants as text
+use Rattle.msrp.specs.declared.faults.CliFault.{CliFault}
+use Rattle.msrp.specs.declared.faults.CliFault.TheVariants.{Plan, Trace, Usage, Memory, Threads, Read, Write}
+
+-- a plan's text that gave no plan, as a fault of the program
+abbrev pub fault_of : TextError → CliFault
+fault_of (text.At fault number) = Plan (code_of fault) number
+fault_of text.Read = Read
+fault_of text.Memory = Memory
+
+-- the exit status of an outcome
+abbrev pub status_of : Result ℕ CliFault → ℕ
+status_of (Ok status) = status
+status_of (Err (Plan code number)) = 2
+status_of (Err (Trace code number)) = 2
+status_of (Err Usage) = 3
+status_of (Err Memory) = 4
+status_of (Err Threads) = 4
+status_of (Err Read) = 5
+status_of (Err Write) = 5
+
+-- the faults that a simulation of a plan's text may end in: P1 to P16 among them
+abbrev pub is_sim_fault : CliFault → Bool
+is_sim_fault (Plan code number) = is_within 1 16 code
+is_sim_fault (Trace code number) = false
+is_sim_fault Usage = false
+is_sim_fault Memory = true
+is_sim_fault Threads = false
+is_sim_fault Read = true
+is_sim_fault Write = true

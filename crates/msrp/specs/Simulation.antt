@@ -1,0 +1,30 @@
+-- What a simulation of a plan writes and answers.
+use Rattle.std.specs.Prelude.{◌≡◌, ℕ, List, cond, Option, Ok, Err}
+use Rattle.std.specs.declared.result.Result.{Result}
+use Rattle.msrp_plan.specs.Plan.{PlanModel}
+use Rattle.msrp_plan.specs.Runs.{IsRun}
+use Rattle.msrp_plan.specs.Logs.{ascending, core_order}
+use Rattle.msrp_plan.specs.Bytes.{Wrote, sink_failed}
+use Rattle.msrp_plan.specs.declared.rows.Row.{Row}
+use Rattle.msrp_plan.specs.declared.bytes.Sink.{Sink}
+use Rattle.msrp_text.specs.declared.reading.TextError.{TextError}
+use Rattle.msrp.specs.TraceText.{trace_text}
+use Rattle.msrp.specs.Outcomes.{fault_of}
+use Rattle.msrp.specs.declared.faults.CliFault.{CliFault}
+use Rattle.msrp.specs.declared.faults.CliFault.TheVariants.{Write}
+
+-- the sink took the trace of a legal run of the plan in which the cores have their turns in rising order
+pub record WritesRun {W : Type 0} (contents : W → Option (List ℕ)) (plan : PlanModel) (old new : Sink W) : Type 0 where
+  pub rows : List Row
+  pub run : IsRun plan rows
+  pub order : core_order rows ≡ ascending plan.cores plan.ticks
+  pub text : Wrote contents old new (trace_text plan rows)
+
+-- 0 where the sink took it all, a write fault where it failed
+abbrev pub sim_status : {W : Type 0} → Sink W → Result ℕ CliFault
+sim_status new = cond (sink_failed new) (Err Write) (Ok 0)
+
+-- the answer to a text that stands for a plan, or to one that is refused: then nothing is written
+abbrev pub SimAnswers : {W : Type 0} → (W → Option (List ℕ)) → Result PlanModel TextError → Sink W → Sink W → Result ℕ CliFault → Type 0
+SimAnswers contents (Ok plan) old new result = WritesRun contents plan old new × (result ≡ sim_status new)
+SimAnswers contents (Err error) old new result = (result ≡ Err (fault_of error)) × (new ≡ old)

@@ -1,0 +1,95 @@
+//! What the program answers in place of an output.
+
+ghost use Rattle.std.specs.Prelude.{◌≡◌};
+ghost use Rattle.msrp.specs.Outcomes.{fault_of, status_of};
+
+use msrp_plan::{Memory, WriteFault};
+use msrp_text::TextError;
+use std::alloc::AllocFailed;
+use thiserror::Error;
+
+/// Why the program did not do what it was asked for. The text of each is the line on standard error, after
+/// `msrp: `.
+#[derive(Clone, Copy, Debug, Error, PartialEq, Eq)]
+pub enum CliFault {
+    /// The plan is refused: the number after P of the code, and the record, counted from 1.
+    #[error("plan: P{code} at record {number}")]
+    Plan { code: u32, number: u32 },
+    /// The trace is refused: the number after R of the code, and the record, counted from 1.
+    #[error("trace: R{code} at record {number}")]
+    Trace { code: u32, number: u32 },
+    /// The words of the command line are no command.
+    #[error("usage")]
+    Usage,
+    /// Memory was refused.
+    #[error("memory")]
+    Memory,
+    /// A thread was refused.
+    #[error("threads")]
+    Threads,
+    /// A read failed, or a file could not be opened.
+    #[error("read fault")]
+    Read,
+    /// A write failed.
+    #[error("write fault")]
+    Write,
+}
+
+impl From<TextError> for CliFault {
+    ghost from_gives = { λ error fault. fault ≡ fault_of error };
+
+    fn from(error: TextError) -> CliFault {
+        match error {
+            TextError::At { fault, number } => CliFault::Plan {
+                code: fault.code(),
+                number,
+            },
+            TextError::Read => CliFault::Read,
+            TextError::Memory => CliFault::Memory,
+        }
+    }
+}
+
+impl From<Memory> for CliFault {
+    ghost use Rattle.msrp.specs.declared.faults.CliFault.{CliFault};
+
+    ghost from_gives = { λ _ fault. fault ≡ CliFault.Memory };
+
+    fn from(_error: Memory) -> CliFault {
+        CliFault::Memory
+    }
+}
+
+impl<T: Drop> From<AllocFailed<T>> for CliFault {
+    ghost use Rattle.msrp.specs.declared.faults.CliFault.{CliFault};
+
+    ghost from_gives = { λ _ fault. fault ≡ CliFault.Memory };
+
+    fn from(_error: AllocFailed<T>) -> CliFault {
+        CliFault::Memory
+    }
+}
+
+impl From<WriteFault> for CliFault {
+    ghost use Rattle.msrp.specs.declared.faults.CliFault.{CliFault};
+
+    ghost from_gives = { λ _ fault. fault ≡ CliFault.Write };
+
+    fn from(_error: WriteFault) -> CliFault {
+        CliFault::Write
+    }
+}
+
+/// The exit status of an outcome: 2 for what is refused, 3 for usage, 4 for memory and threads, 5 for reads
+/// and writes.
+pub fn exit_of(outcome: &Result<u8, CliFault>) -> u8
+    ensures { result ≡ status_of outcome.now }
+{
+    match outcome {
+        Ok(status) => *status,
+        Err(CliFault::Plan { .. } | CliFault::Trace { .. }) => 2,
+        Err(CliFault::Usage) => 3,
+        Err(CliFault::Memory | CliFault::Threads) => 4,
+        Err(CliFault::Read | CliFault::Write) => 5,
+    }
+}

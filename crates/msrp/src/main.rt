@@ -1,0 +1,82 @@
+//! `msrp`: the run of a plan of periodic tasks on several cores, from a plan's text to a trace's text.
+//!
+//! `words` reads the command line, `engine` turns bytes into bytes, and `main` opens what the words name,
+//! prints the line of a fault and gives the exit status.
+#![tactic(auto)]
+
+mod cores;
+mod engine;
+mod faults;
+#[cfg(test)]
+mod tests;
+mod trace;
+mod words;
+
+use engine::sim_text;
+use faults::{CliFault, exit_of};
+use msrp_plan::bytes::{Sink, Source};
+use std::fs::File;
+use std::io;
+use std::io::{ErrorKind, Read};
+use std::process::ExitCode;
+use words::{Cmd, command_of, help_text};
+
+// What a plan is read from.
+#[derive(Drop)]
+enum Input {
+    Standard(io::Stdin),
+    Opened(File),
+}
+
+impl Read for Input {
+    fn read(&mut self, buf: &mut [u8]) -> io::Result<usize> {
+        match self {
+            Input::Standard(input) => input.read(buf),
+            Input::Opened(file) => file.read(buf),
+        }
+    }
+}
+
+// The input of a path: `-` is standard input.
+fn open(rt: &HostRuntime, path: &str) -> Result<Input, CliFault> {
+    if path == "-" {
+        return Ok(Input::Standard(rt.stdin()));
+    }
+    match File::open(rt, path) {
+        Ok(file) => Ok(Input::Opened(file)),
+        Err(_) => Err(CliFault::Read),
+    }
+}
+
+// The words of the command line, the program's name first.
+fn words_of(rt: &HostRuntime) -> Result<Vec<String>, CliFault> {
+    match std::env::args(rt) {
+        Ok(args) => args.collect(rt.alloc()).map_err(|_| CliFault::Memory),
+        Err(error) if error.kind() == ErrorKind::OutOfMemory => Err(CliFault::Memory),
+        Err(_) => Err(CliFault::Usage),
+    }
+}
+
+fn run(rt: &HostRuntime) -> Result<u8, CliFault> {
+    let alloc = rt.alloc();
+    let words = words_of(rt)?;
+    let mut out = Sink::new(io::writer(rt));
+    match command_of(alloc, words.as_slice())? {
+        Cmd::Help => {
+            out.put(help_text(alloc)?.as_bytes())?;
+            Ok(0)
+        }
+        Cmd::Sim { plan } => {
+            let mut source = Source::new(open(rt, plan)?);
+            sim_text(alloc, &mut source, &mut out)
+        }
+    }
+}
+
+fn main(rt: HostRuntime) -> ExitCode {
+    let outcome = run(&rt);
+    if let Err(fault) = &outcome {
+        let _ = eprintln!(rt; "msrp: {fault}");
+    }
+    ExitCode::from(exit_of(&outcome))
+}

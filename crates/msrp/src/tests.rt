@@ -1,0 +1,430 @@
+//! Bytes in, bytes out: worked plans, refusals, and readers and writers that fail.
+
+use crate::engine::sim_text;
+use crate::faults::{CliFault, exit_of};
+use crate::words::{Cmd, command_of};
+use msrp_plan::bytes::{Sink, Source};
+use std::alloc::{AllocError, Global};
+use std::io;
+use std::io::{ErrorKind, Read, Write};
+use std::process::Abort;
+use std::test::Fail;
+
+const PLAN: &[u8] = b"msrp,1\ncores,1\nticks,3\ntask,a,0,3,3,0\nop,run,2\n";
+
+const TRACE: &[u8] = b"msrp-trace,1,1,3\n0,0,run,a,0,-\n1,0,run,a,0,-\n2,0,idle,-,-,-\n";
+
+const IDLE: &[u8] = b"msrp-trace,1,1,3\n0,0,idle,-,-,-\n1,0,idle,-,-,-\n2,0,idle,-,-,-\n";
+
+// The answer to a plan, with what was written.
+fn answer_to(alloc: Global, plan: &[u8]) -> (Result<u8, CliFault>, Vec<u8>) {
+    let mut written = Vec::new(alloc);
+    let mut source = Source::new(plan);
+    let mut out = Sink::new(&mut written);
+    let answer = sim_text(alloc, &mut source, &mut out);
+    (answer, written)
+}
+
+fn refusal(code: u32, number: u32) -> Result<u8, CliFault> {
+    Err(CliFault::Plan { code, number })
+}
+
+#[test]
+fn worked_plans(rt: HostRuntime) {
+    let table: [(&[u8], &[u8]); 6] = [
+        (PLAN, TRACE),
+        (
+            b"msrp,1\ncores,1\nticks,1\n",
+            b"msrp-trace,1,1,1\n0,0,idle,-,-,-\n",
+        ),
+        // Equal absolute deadlines never preempt.
+        (
+            b"msrp,1\ncores,1\nticks,8\ntask,x,0,20,10,0\nop,run,5\ntask,y,0,20,8,2\nop,run,2\n",
+            b"msrp-trace,1,1,8\n0,0,run,x,0,-\n1,0,run,x,0,-\n2,0,run,x,0,-\n3,0,run,x,0,-\n4,0,run,x,0,-\n5,0,run,y,0,-\n6,0,run,y,0,-\n7,0,idle,-,-,-\n",
+        ),
+        // The same in the other order of declaration: release comes before the task's number.
+        (
+            b"msrp,1\ncores,1\nticks,8\ntask,y,0,20,8,2\nop,run,2\ntask,x,0,20,10,0\nop,run,5\n",
+            b"msrp-trace,1,1,8\n0,0,run,x,0,-\n1,0,run,x,0,-\n2,0,run,x,0,-\n3,0,run,x,0,-\n4,0,run,x,0,-\n5,0,run,y,0,-\n6,0,run,y,0,-\n7,0,idle,-,-,-\n",
+        ),
+        // A relative deadline that is longer than the period.
+        (
+            b"msrp,1\ncores,1\nticks,9\ntask,a,0,3,9,0\nop,run,4\n",
+            b"msrp-trace,1,1,9\n0,0,run,a,0,-\n1,0,run,a,0,-\n2,0,run,a,0,-\n3,0,run,a,0,-\n4,0,run,a,1,-\n5,0,run,a,1,-\n6,0,run,a,1,-\n7,0,run,a,1,-\n8,0,run,a,2,-\n",
+        ),
+        // Two cores, and a preemption in tick 1.
+        (
+            b"msrp,1\ncores,2\nticks,4\ntask,a,0,9,9,0\nop,run,2\ntask,b,1,2,2,0\nop,run,1\ntask,c,0,9,2,1\nop,run,1\n",
+            b"msrp-trace,1,2,4\n0,0,run,a,0,-\n0,1,run,b,0,-\n1,0,run,c,0,-\n1,1,idle,-,-,-\n2,0,run,a,0,-\n2,1,run,b,1,-\n3,0,idle,-,-,-\n3,1,idle,-,-,-\n",
+        ),
+    ];
+    for (plan, trace) in table {
+        let (answer, written) = answer_to(rt.alloc(), plan);
+        assert!(rt; answer == Ok(0));
+        assert!(rt; written.as_slice() == trace);
+    }
+}
+
+// What a text is read as is the same run: a byte order mark, quotes, other line ends, an empty line.
+#[test]
+fn the_same_plan(rt: HostRuntime) {
+    let table: [&[u8]; 5] = [
+        b"\xef\xbb\xbfmsrp,1\ncores,1\nticks,3\ntask,a,0,3,3,0\nop,run,2\n",
+        b"msrp,1\ncores,1\nticks,3\ntask,\"a\",0,3,3,0\nop,run,2\n",
+        b"msrp,1\r\ncores,1\r\nticks,3\r\ntask,a,0,3,3,0\r\nop,run,2\r\n",
+        b"msrp,1\n\n\ncores,1\nticks,3\n\ntask,a,0,3,3,0\nop,run,2",
+        b"msrp,1\ncores,1\nticks,3\ntask,a,0,3,3,0\nop,run,1\nop,run,1\n",
+    ];
+    for plan in table {
+        let (answer, written) = answer_to(rt.alloc(), plan);
+        assert!(rt; answer == Ok(0));
+        assert!(rt; written.as_slice() == TRACE);
+    }
+}
+
+#[test]
+fn refusals(rt: HostRuntime) {
+    let table: [(&[u8], u32, u32); 28] = [
+        (b"", 1, 1),
+        (b"msrp,2\n", 1, 1),
+        (b"msrp,1,\n", 1, 1),
+        (b"msrp,1\n", 2, 2),
+        (b"msrp,1\nticks,3\n", 2, 2),
+        (b"msrp,1\ncores,1,1\n", 3, 2),
+        (b"msrp,1\ncores,01\n", 4, 2),
+        (b"msrp,1\ncores,\n", 4, 2),
+        (b"msrp,1\ncores,1000000000\n", 4, 2),
+        (b"msrp,1\ncores,9\n", 7, 2),
+        (b"msrp,1\ncores,0\n", 7, 2),
+        (b"msrp,1\ncores,1\n", 2, 3),
+        (b"msrp,1\ncores,1\ncores,1\n", 2, 3),
+        (b"msrp,1\ncores,1\nticks,20001\n", 7, 3),
+        (b"msrp,1\ncores,1\nticks,0\n", 7, 3),
+        (b"msrp,1\ncores,1\nticks,3\nresource,r\n", 2, 4),
+        (b"msrp,1\ncores,1\nticks,3\nop,run,1\n", 2, 4),
+        (b"msrp,1\ncores,1\nticks,3\ntask,A,0,3,3,0\n", 5, 4),
+        (b"msrp,1\ncores,1\nticks,3\ntask,a,1,3,3,0\n", 9, 4),
+        (b"msrp,1\ncores,1\nticks,3\ntask,a,0,0,3,0\n", 7, 4),
+        (
+            b"msrp,1\ncores,1\nticks,3\ntask,a,0,3,3,0\nop,run,0\n",
+            7,
+            5,
+        ),
+        (
+            b"msrp,1\ncores,1\nticks,3\ntask,a,0,3,3,0\nop,run,4097\n",
+            7,
+            5,
+        ),
+        (
+            b"msrp,1\ncores,1\nticks,3\ntask,a,0,3,3,0\nop,lock,r\n",
+            8,
+            5,
+        ),
+        (b"msrp,1\ncores,1\nticks,3\ntask,a,0,3,3,0\nop\n", 3, 5),
+        (b"msrp,1\ncores,1\nticks,3\ntask,a,0,3,3,0\n", 12, 5),
+        (
+            b"msrp,1\ncores,1\nticks,3\ntask,a,0,3,3,0\ntask,a,0,3,3,0\nop,run,2\n",
+            12,
+            5,
+        ),
+        (
+            b"msrp,1\ncores,1\nticks,3\ntask,a,0,3,3,0\nop,run,2\ntask,a,0,3,3,0\nop,run,2\n",
+            6,
+            6,
+        ),
+        (
+            b"msrp,1\ncores,1\nticks,9000\ntask,a,0,1,1,0\nop,run,1\n",
+            13,
+            6,
+        ),
+    ];
+    for (plan, code, number) in table {
+        let (answer, written) = answer_to(rt.alloc(), plan);
+        assert!(rt; answer == refusal(code, number));
+        assert!(rt; written.is_empty());
+    }
+}
+
+// What is due for the first bytes of the plan: a refusal, or a trace.
+fn due_for(bytes: usize) -> Result<&'static [u8], (u32, u32)> {
+    match bytes {
+        0..=5 => Err((1, 1)),
+        6..=11 => Err((2, 2)),
+        12 => Err((3, 2)),
+        13 => Err((4, 2)),
+        14..=19 => Err((2, 3)),
+        20 => Err((3, 3)),
+        21 => Err((4, 3)),
+        22 | 23 => Ok(IDLE),
+        24..=26 => Err((2, 4)),
+        27..=35 => Err((3, 4)),
+        36 => Err((4, 4)),
+        37 | 38 => Err((12, 5)),
+        40 | 44 => Err((3, 5)),
+        39..=43 => Err((2, 5)),
+        45 => Err((4, 5)),
+        _ => Ok(TRACE),
+    }
+}
+
+#[test]
+fn every_first_part(rt: HostRuntime) {
+    for bytes in 0..=PLAN.len() {
+        let (answer, written) = answer_to(rt.alloc(), &PLAN[..bytes]);
+        match due_for(bytes) {
+            Ok(trace) => {
+                assert!(rt; answer == Ok(0), "{bytes} bytes");
+                assert!(rt; written.as_slice() == trace, "{bytes} bytes");
+            }
+            Err((code, number)) => {
+                assert!(rt; answer == refusal(code, number), "{bytes} bytes");
+                assert!(rt; written.is_empty(), "{bytes} bytes");
+            }
+        }
+    }
+}
+
+// A trace of many pages: nobody has work.
+#[test]
+fn a_long_trace(rt: HostRuntime) -> Result<(), Fail> {
+    let mut due = Vec::from_slice(rt.alloc(), b"msrp-trace,1,8,999\n")?;
+    for tick in 0..999 {
+        for core in 0..8 {
+            let row = format!(in rt.alloc(); "{tick},{core},idle,-,-,-\n")?;
+            due.extend_from_slice(row.as_bytes())?;
+        }
+    }
+    let (answer, written) = answer_to(rt.alloc(), b"msrp,1\ncores,8\nticks,999\n");
+    assert!(rt; answer == Ok(0));
+    assert!(rt; written.as_slice() == due.as_slice());
+    Ok(())
+}
+
+// Gives its text a byte a call, and fails at one call.
+#[derive(Drop)]
+struct Halting<'a> {
+    text: &'a [u8],
+    given: usize,
+    calls: u32,
+    fails_at: u32,
+}
+
+impl<'a> Read for Halting<'a> {
+    fn read(&mut self, buf: &mut [u8]) -> io::Result<usize> {
+        self.calls = self.calls.saturating_add(1);
+        if self.calls == self.fails_at {
+            return Err(io::Error::from(ErrorKind::Interrupted));
+        }
+        match (self.text.get(self.given), buf.first_mut()) {
+            (Some(byte), Some(place)) => {
+                *place = *byte;
+                self.given = self.given.saturating_add(1);
+                Ok(1)
+            }
+            _ => Ok(0),
+        }
+    }
+}
+
+fn reader_failing_at(fails_at: u32) -> Halting<'static> {
+    Halting {
+        text: PLAN,
+        given: 0,
+        calls: 0,
+        fails_at,
+    }
+}
+
+#[test]
+fn a_byte_a_call(rt: HostRuntime) {
+    let mut written = Vec::new(rt.alloc());
+    let mut source = Source::new(reader_failing_at(0));
+    let mut out = Sink::new(&mut written);
+    assert!(rt; sim_text(rt.alloc(), &mut source, &mut out) == Ok(0));
+    assert!(rt; !source.failed());
+    assert!(rt; written.as_slice() == TRACE);
+}
+
+// Each byte is one call, and the end is one more.
+#[test]
+fn each_read_fails_in_turn(rt: HostRuntime) {
+    for call in 1..=PLAN.len() as u32 + 1 {
+        let mut written = Vec::new(rt.alloc());
+        let mut source = Source::new(reader_failing_at(call));
+        let mut out = Sink::new(&mut written);
+        assert!(rt;
+            sim_text(rt.alloc(), &mut source, &mut out) == Err(CliFault::Read),
+            "call {call}"
+        );
+        assert!(rt; source.failed(), "call {call}");
+        assert!(rt; written.is_empty(), "call {call}");
+    }
+}
+
+// Takes so many bytes, at most `most` a call, and then none, or fails.
+#[derive(Drop)]
+struct Narrow {
+    taken: Vec<u8>,
+    room: usize,
+    most: usize,
+    fails: bool,
+}
+
+impl Write for Narrow {
+    fn write(&mut self, buf: &[u8]) -> io::Result<usize> {
+        let count = buf
+            .len()
+            .min(self.most)
+            .min(self.room.saturating_sub(self.taken.len()));
+        if count == 0 && self.fails {
+            return Err(io::Error::from(ErrorKind::Interrupted));
+        }
+        self.taken.extend_from_slice(&buf[..count])?;
+        Ok(count)
+    }
+
+    fn flush(&mut self) -> io::Result<()> {
+        Ok(())
+    }
+}
+
+fn writer_with_room(alloc: Global, room: usize, most: usize, fails: bool) -> Narrow {
+    Narrow {
+        taken: Vec::new(alloc),
+        room,
+        most,
+        fails,
+    }
+}
+
+// A writer with this much room gets the first part of the trace.
+fn check_room(rt: &impl Abort, plan: &[u8], trace: &[u8], mut narrow: Narrow) {
+    let room = narrow.room;
+    let alloc = *narrow.taken.allocator();
+    let mut source = Source::new(plan);
+    let mut out = Sink::new(&mut narrow);
+    let answer = sim_text(alloc, &mut source, &mut out);
+    let whole = room >= trace.len();
+    let due = if whole { Ok(0) } else { Err(CliFault::Write) };
+    assert!(rt; answer == due, "room {room}");
+    assert!(rt; out.failed() != whole, "room {room}");
+    assert!(rt; trace.starts_with(narrow.taken.as_slice()), "room {room}");
+    assert_eq!(rt; narrow.taken.len(), room.min(trace.len()));
+}
+
+#[test]
+fn each_write_fails_in_turn(rt: HostRuntime) {
+    for room in 0..=TRACE.len() + 1 {
+        for most in [1, 7, usize::MAX] {
+            check_room(
+                &rt,
+                PLAN,
+                TRACE,
+                writer_with_room(rt.alloc(), room, most, true),
+            );
+            check_room(
+                &rt,
+                PLAN,
+                TRACE,
+                writer_with_room(rt.alloc(), room, most, false),
+            );
+        }
+    }
+}
+
+#[test]
+fn a_long_trace_is_cut(rt: HostRuntime) {
+    let plan = b"msrp,1\ncores,8\nticks,999\n";
+    let (_, trace) = answer_to(rt.alloc(), plan);
+    for room in [0, 1, 8191, 8192, 8193, 20000, 100000] {
+        let fails = writer_with_room(rt.alloc(), room, usize::MAX, true);
+        check_room(&rt, plan, trace.as_slice(), fails);
+        let takes_none = writer_with_room(rt.alloc(), room, 1000, false);
+        check_room(&rt, plan, trace.as_slice(), takes_none);
+    }
+}
+
+#[test]
+fn lines_and_statuses(rt: HostRuntime) -> Result<(), Fail> {
+    let table = [
+        (
+            CliFault::Plan { code: 7, number: 3 },
+            "plan: P7 at record 3",
+            2,
+        ),
+        (
+            CliFault::Trace {
+                code: 2,
+                number: 13,
+            },
+            "trace: R2 at record 13",
+            2,
+        ),
+        (CliFault::Usage, "usage", 3),
+        (CliFault::Memory, "memory", 4),
+        (CliFault::Threads, "threads", 4),
+        (CliFault::Read, "read fault", 5),
+        (CliFault::Write, "write fault", 5),
+    ];
+    for (fault, line, status) in table {
+        let text = format!(in rt.alloc(); "{fault}")?;
+        assert!(rt; text.as_str() == line);
+        assert!(rt; exit_of(&Err(fault)) == status);
+    }
+    assert!(rt; exit_of(&Ok(0)) == 0);
+    assert!(rt; exit_of(&Ok(1)) == 1);
+    Ok(())
+}
+
+// The command of these words, after the program's name.
+fn words_of(alloc: Global, words: &[&str]) -> Result<Vec<String>, AllocError> {
+    let mut all = Vec::new(alloc);
+    all.push(String::from_str(alloc, "msrp")?)?;
+    for word in words {
+        all.push(String::from_str(alloc, word)?)?;
+    }
+    Ok(all)
+}
+
+#[test]
+fn commands(rt: HostRuntime) -> Result<(), Fail> {
+    let table: [(&[&str], Cmd<'_>); 11] = [
+        (&[], Cmd::Sim { plan: "-" }),
+        (&["sim"], Cmd::Sim { plan: "-" }),
+        (&["sim", "-"], Cmd::Sim { plan: "-" }),
+        (&["sim", "plan.csv"], Cmd::Sim { plan: "plan.csv" }),
+        (&["sim", ""], Cmd::Sim { plan: "" }),
+        (&["sim", "--", "-x"], Cmd::Sim { plan: "-x" }),
+        (&["sim", "--", "-"], Cmd::Sim { plan: "-" }),
+        (&["-h"], Cmd::Help),
+        (&["--help"], Cmd::Help),
+        (&["help"], Cmd::Help),
+        (&["sim", "--help"], Cmd::Help),
+    ];
+    for (words, due) in table {
+        let words = words_of(rt.alloc(), words)?;
+        assert!(rt; command_of(rt.alloc(), words.as_slice()) == Ok(due));
+    }
+    Ok(())
+}
+
+#[test]
+fn no_commands(rt: HostRuntime) -> Result<(), Fail> {
+    let table: [&[&str]; 10] = [
+        &["plan.csv"],
+        &["-"],
+        &["run"],
+        &["sim", "a", "b"],
+        &["sim", "--order", "asc"],
+        &["sim", "--order=asc", "a"],
+        &["--order", "asc", "sim"],
+        &["sim", "-x"],
+        &["--", "sim"],
+        &[""],
+    ];
+    for words in table {
+        let words = words_of(rt.alloc(), words)?;
+        assert!(rt; command_of(rt.alloc(), words.as_slice()) == Err(CliFault::Usage));
+    }
+    Ok(())
+}
