@@ -3,7 +3,6 @@
 
 pub mod fields;
 pub mod laws;
-pub mod provisional;
 pub mod reading;
 pub mod records;
 mod stages;

@@ -6,7 +6,6 @@ ghost use Rattle.msrp_text.specs.Reading.{cores_fault, is_op_word, number_told, 
 ghost use Rattle.msrp_text.specs.Stages.{IsTaken, numbered_step, stage_fault, stage_plan, stage_with, task_numbers};
 
 use crate::fields::{has_word, name_at, number_at};
-use crate::provisional::finish;
 use csv::ByteRecord;
 use msrp_plan::limits::MOST_CORES;
 use msrp_plan::{CoreId, Plan, PlanBuilder, PlanFault, ResId, Step};
@@ -199,6 +198,6 @@ pub(crate) fn plan_at_end(stage: Stage) -> Result<Plan, PlanFault>
     match stage {
         Stage::Version => Err(PlanFault::Version),
         Stage::Cores | Stage::Ticks(_) => Err(PlanFault::OutOfPlace),
-        Stage::Tasks(builder) => finish(builder).map_err(|(_, fault)| fault),
+        Stage::Tasks(builder) => builder.finish().map_err(|(_, fault)| fault),
     }
 }
