@@ -1,5 +1,5 @@
 -- Texts that were gathered, one after the other.
-use Rattle.std.proofs.Common.{◌≡◌, ℕ, List, [], ◌++◌, Bool, true, false, Option, Result, Ok, Err, OnOk, OnErr, is_ok, refl, ap, sym, ◌∙◌, append_assoc, append-nil}
+use Rattle.std.proofs.Common.{◌≡◌, ℕ, List, [], ◌++◌, true, false, Option, Result, Ok, Err, OnOk, OnErr, is_ok, ap, sym, ◌∙◌, append_assoc, append-nil}
 use Rattle.msrp_plan.specs.Bytes.{Wrote}
 use Rattle.msrp_plan.specs.declared.bytes.Sink.{Sink}
 use Rattle.msrp_plan.proofs.Writes.{wrote-more, wrote-nothing}
