@@ -1,5 +1,5 @@
 -- Records judged: what a builder refuses, a reader refuses.
-use Rattle.std.proofs.Common.{◌≡◌, ◌==◌, ◌<◌, ◌&&◌, ℕ, Bool, true, false, List, [], Option, Some, None, Result, Ok, Err, length, codes, cond, is_none, refl, inl, inr, arith}
+use Rattle.std.proofs.Common.{◌≡◌, ◌==◌, ◌<◌, ◌&&◌, ℕ, Bool, true, false, List, Option, Some, None, Result, Ok, Err, length, codes, cond, is_none, refl, inl, inr, arith}
 use Rattle.std.proofs.lemmas.Bool.{false≢true}
 use Rattle.std.proofs.lemmas.Bool.Decides.{nat_tests}
 use Rattle.msrp_plan.specs.Building.{IsJudged, new_task, op_fault, task_fault, units_of, with_task, with_units}

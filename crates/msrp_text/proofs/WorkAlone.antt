@@ -1,16 +1,16 @@
 -- Plans of work alone: no record declares a resource.
-use Rattle.std.proofs.Common.{◌≡◌, ◌⊎◌, ℕ, Bool, true, false, List, [], Option, Some, None, Result, Ok, Err, refl, sym, codes, inl, inr, if◌then◌else◌}
+use Rattle.std.proofs.Common.{◌≡◌, ◌⊎◌, ℕ, Bool, true, false, List, [], Option, Some, None, Result, Ok, Err, refl, codes, inl, inr, if◌then◌else◌}
 use Rattle.std.specs.Prelude.{IfOk}
 use Rattle.msrp_plan.specs.Building.{units_of, with_task, with_units}
 use Rattle.msrp_plan.specs.Plan.{PlanModel}
 use Rattle.msrp_plan.specs.declared.faults.PlanFault.{PlanFault}
 use Rattle.msrp_text.specs.Fields.{has_word}
-use Rattle.msrp_text.specs.Reading.{step_told, task_told, with_record}
+use Rattle.msrp_text.specs.Reading.{step_told, task_told}
 use Rattle.msrp_text.specs.Stages.{IsWorkAlone, numbered, stage_fault, stage_plan, stage_with}
 use Rattle.msrp_text.specs.declared.stages.Stage.{Stage}
 use Rattle.msrp_text.specs.declared.stages.Stage.TheVariants.{Version, Cores, Ticks, Tasks}
 use Rattle.msrp_text.specs.declared.reading.TextError.{TextError}
-use Rattle.msrp_text.specs.declared.reading.TextError.TheVariants.{At, Memory}
+use Rattle.msrp_text.specs.declared.reading.TextError.TheVariants.{Memory}
 
 -- a reader that has read nothing has declared nothing
 pub work-begins : IsWorkAlone Version

@@ -1,5 +1,5 @@
 -- What the fields of a record say: words, numbers and names.
-use Rattle.std.specs.Prelude.{ℕ, Bool, true, false, not, List, [], ◌∷◌, length, Option, Some, None, cond, fold, is_none, slice_index, unwrap_or, ◌+◌, ◌-◌, ◌*◌, ◌==◌, ◌&&◌, ◌||◌}
+use Rattle.std.specs.Prelude.{ℕ, Bool, false, not, List, [], length, Option, Some, None, cond, fold, slice_index, unwrap_or, ◌+◌, ◌-◌, ◌*◌, ◌==◌, ◌&&◌, ◌||◌}
 use Rattle.std.specs.Char.{is_ascii_digit}
 use Rattle.std.specs.List.{list_all}
 use Rattle.std.specs.Option.{option_and_then}

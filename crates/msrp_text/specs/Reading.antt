@@ -1,5 +1,5 @@
 -- The plan that a list of records tells, or the first refusal of one of them.
-use Rattle.std.specs.Prelude.{ℕ, Bool, true, false, not, List, [], ◌∷◌, length, Option, Some, None, Result, Ok, Err, codes, drop, fold, is_none, nat_le, option_map, slice_get, slice_index_or, take, unwrap_or, ◌≡◌, ◌⊎◌, ◌+◌, ◌==◌, ◌&&◌, ◌||◌, if◌then◌else◌}
+use Rattle.std.specs.Prelude.{ℕ, Bool, not, List, [], ◌∷◌, length, Option, Some, None, Result, Ok, Err, codes, drop, fold, is_none, nat_le, option_map, slice_get, slice_index_or, take, unwrap_or, ◌≡◌, ◌⊎◌, ◌+◌, ◌==◌, ◌&&◌, ◌||◌, if◌then◌else◌}
 use Rattle.std.specs.List.{filter_map, range_with_len}
 use Rattle.msrp_plan.specs.Building.{empty_plan, fault_if, finish_fault, is_within, new_fault, new_task, op_fault, task_fault, units_of, with_task, with_units}
 use Rattle.msrp_plan.specs.Names.{name_position}

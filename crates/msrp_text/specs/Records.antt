@@ -1,8 +1,7 @@
 -- The records of a text, and those that a reader of records has left.
-use Rattle.std.specs.Prelude.{◌≡◌, ◌+◌, ℕ, Bool, true, false, List, [], ◌∷◌, length, Option, Some, None, option_map, if◌then◌else◌}
+use Rattle.std.specs.Prelude.{◌≡◌, ◌+◌, ℕ, Bool, true, false, List, [], ◌∷◌, length, Option, Some, option_map}
 use Rattle.csv.specs.Reading.{default_config, records, records_from, source_of, strip_bom, reader_state}
 use Rattle.csv.specs.declared.parser.State.{State}
-use Rattle.csv.specs.declared.reader.Reader.{Reader}
 use Rattle.msrp_text.specs.declared.records.RecordReader.{RecordReader}
 
 -- the records of a text: a byte order mark at its start is no part of it

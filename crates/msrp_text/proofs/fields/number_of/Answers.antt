@@ -1,6 +1,5 @@
-use Rattle.std.proofs.Common.{◌≡◌, true, arith, sym, ◌∙◌}
-use Rattle.msrp_text.specs.Fields.{is_number}
-use Rattle.msrp_text.proofs.Digits.{digit-at, digits-end, next-digit, number-digits, pow-more, pow-nine}
+use Rattle.std.proofs.Common.{arith, sym, ◌∙◌}
+use Rattle.msrp_text.proofs.Digits.{digit-at, number-digits, pow-nine}
 use Rattle.msrp_text.proofs.fields.number_of.Goals as goal
 
 pub overflow_mul-number : goal.overflow_mul-number

@@ -1,4 +1,4 @@
-use Rattle.std.proofs.Common.{rules, ◌≡◌, ◌<◌, Err, Ok, arith, length, sym, ◌∙◌}
+use Rattle.std.proofs.Common.{rules, ◌≡◌, Err, arith, sym, ◌∙◌}
 use Rattle.csv.specs.Records.{fields_of}
 use Rattle.msrp_text.proofs.Judging.{IsCounted, op-numberless, op-refused, op-taken}
 use Rattle.msrp_text.proofs.stages.read_op.Goals as goal
