@@ -71,6 +71,10 @@ HasCore seat = (c : ℕ) × (b : Book) × IsCoreSeat seat c b
 abbrev pub IsIn : SeatPhase → SeatModel → Type 0
 IsIn phase seat = (c : ℕ) × (b : Book) × IsCoreSeat seat c b × (phase_in seat.board.size.ticks b ≡ phase)
 
+-- what the core of a core's seat holds or awaits
+abbrev pub LockIs : SeatModel → Phase → Type 0
+LockIs seat lock = (c : ℕ) (b : Book) → IsCoreSeat seat c b → lock ≡ lock_of b
+
 -- a core's seat that is admitted to its tick, has not acted in it, and holds or awaits this
 abbrev pub MayAct : Phase → SeatModel → Type 0
 MayAct lock seat = (c : ℕ) × (b : Book) × IsCoreSeat seat c b × (phase_in seat.board.size.ticks b ≡ Admitted) × (has_acted b ≡ false) × (lock_of b ≡ lock)

@@ -1,0 +1,5 @@
+use Rattle.msrp_board.proofs.CoreSeats.{step_has_core}
+use Rattle.msrp_board.proofs.tests.arrive.Goals as goal
+
+pub returns : goal.returns
+returns g c = step_has_core _ _ _ _ c.arrive.ensures c.requires.0 c.requires.1
