@@ -8,7 +8,7 @@ use Rattle.msrp_board.specs.declared.answers.SeatPhase.{SeatPhase}
 use Rattle.msrp_board.specs.declared.answers.SeatPhase.TheVariants.{Admitted}
 use Rattle.msrp_board.specs.declared.books.Book.{Book}
 use Rattle.msrp_board.specs.Books.{phase_in, has_acted, lock_of}
-use Rattle.msrp_board.specs.Boards.{BoardModel, SeatModel, book_at, IsCoreSeat, HasCore, IsIn, MayAct, with_books, only_at, alone, admitted, stopped}
+use Rattle.msrp_board.specs.Boards.{BoardModel, SeatModel, book_at, IsCoreSeat, IsCoreSeatOn, HasCore, IsIn, MayAct, with_books, only_at, alone, admitted, stopped}
 use Rattle.msrp_board.specs.declared.answers.Look.{Look}
 use Rattle.msrp_board.specs.declared.answers.Look.TheVariants.{Wait, Go, Stopped}
 
@@ -65,8 +65,8 @@ core_changed f seat c b s = record {
 pub changed_has_core : (f : Book → Book) (seat : SeatModel) → HasCore seat → HasCore (with_books f seat)
 changed_has_core f seat s = (s.0, f s.1, core_changed f seat s.0 s.1 s.2)
 
-pub step_has_core : (f : Book → Book) (old new : SeatModel) (board : BoardModel) → new ≡ with_books f old → HasCore old → old.board ≡ board → HasCore new × (new.board ≡ board)
-step_has_core f old new board is s on = (subst HasCore (sym is) (changed_has_core f old s), ap (λ (x : SeatModel). x.board) is ∙ on)
+pub step_on : (f : Book → Book) (old new : SeatModel) (board : BoardModel) → new ≡ with_books f old → IsCoreSeatOn board old → IsCoreSeatOn board new
+step_on f old new board is s = record { core = subst HasCore (sym is) (changed_has_core f old s.core); on = ap (λ (x : SeatModel). x.board) is ∙ s.on }
 
 -- ---- what its readers tell
 
@@ -78,7 +78,10 @@ pub may_act : (seat : SeatModel) (phase : SeatPhase) (quiet : Bool) (lock : Phas
 may_act seat phase quiet lock s at free phases acts locks = (s.0, s.1, s.2, sym (phases s.0 s.1 s.2) ∙ at, sym (acts s.0 s.1 s.2) ∙ free, sym (locks s.0 s.1 s.2))
 
 -- whatever a look finds
-pub looked_has_core : (look : Look) (old new : SeatModel) → HasCore old → (look ≡ Wait → new ≡ old) → (look ≡ Go → new ≡ admitted old) → (look ≡ Stopped → new ≡ stopped old) → HasCore new × (new.board ≡ old.board)
-looked_has_core Wait old new s wait go stop = (subst HasCore (sym (wait refl)) s, ap (λ (x : SeatModel). x.board) (wait refl))
-looked_has_core Go old new s wait go stop = (subst HasCore (sym (go refl)) (changed_has_core _ old s), ap (λ (x : SeatModel). x.board) (go refl))
-looked_has_core Stopped old new s wait go stop = (subst HasCore (sym (stop refl)) (changed_has_core _ old s), ap (λ (x : SeatModel). x.board) (stop refl))
+pub looked_on : (look : Look) (old new : SeatModel) (board : BoardModel) → IsCoreSeatOn board old → (look ≡ Wait → new ≡ old) → (look ≡ Go → new ≡ admitted old) → (look ≡ Stopped → new ≡ stopped old) → IsCoreSeatOn board new
+looked_on Wait old new board s wait go stop = subst (IsCoreSeatOn board) (sym (wait refl)) s
+looked_on Go old new board s wait go stop = step_on _ old new board (go refl) s
+looked_on Stopped old new board s wait go stop = step_on _ old new board (stop refl) s
+
+pub alone_on : (seat own : SeatModel) (board : BoardModel) (c : ℕ) → own ≡ alone c seat → seat.board ≡ board → IsSome (book_at seat c) → IsCoreSeatOn board own
+alone_on seat own board c is at has = record { core = subst HasCore (sym is) (alone_has_core seat c has); on = ap (λ (x : SeatModel). x.board) is ∙ at }

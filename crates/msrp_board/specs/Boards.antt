@@ -67,6 +67,11 @@ pub record IsCoreSeat (seat : SeatModel) (c : ℕ) (b : Book) : Type 0 where
 abbrev pub HasCore : SeatModel → Type 0
 HasCore seat = (c : ℕ) × (b : Book) × IsCoreSeat seat c b
 
+-- the seat of some core of this board
+pub record IsCoreSeatOn (board : BoardModel) (seat : SeatModel) : Type 0 where
+  pub core : HasCore seat
+  pub on : seat.board ≡ board
+
 -- a core's seat in this phase
 abbrev pub IsIn : SeatPhase → SeatModel → Type 0
 IsIn phase seat = (c : ℕ) × (b : Book) × IsCoreSeat seat c b × (phase_in seat.board.size.ticks b ≡ phase)

@@ -1,7 +1,7 @@
 //! Boards that run, on one thread and on several. The calls below make sure at run time of what each call wants, by
 //! the seat's readers.
 ghost use Rattle.std.specs.Prelude.{◌≡◌, ◌<◌, ◌≤◌, length, ℕ, IsTrue, IfOk, IfSome, IsSome};
-ghost use Rattle.msrp_board.specs.Boards.{book_at, HasCore, HasAll};
+ghost use Rattle.msrp_board.specs.Boards.{book_at, IsCoreSeatOn};
 
 use super::*;
 use msrp_plan::{CoreId, Phase, ResId};
@@ -10,8 +10,8 @@ use std::process::Abort;
 use std::test::*;
 
 fn ask(rt: &impl Abort, board: &Board, seat: &mut BoardSeat, res: ResId) -> Asked
-    requires { HasCore seat.old × (seat.old.board ≡ board.now) × (res.0 < board.now.size.resources) }
-    ensures { HasCore seat.new × (seat.new.board ≡ board.now) }
+    requires { IsCoreSeatOn board.now seat.old × (res.0 < board.now.size.resources) }
+    ensures { IsCoreSeatOn board.now seat.new }
 {
     let SeatPhase::Admitted = seat.phase() else {
         panic!(rt; "not admitted")
@@ -24,8 +24,8 @@ fn ask(rt: &impl Abort, board: &Board, seat: &mut BoardSeat, res: ResId) -> Aske
 }
 
 fn poll(rt: &impl Abort, board: &Board, seat: &mut BoardSeat) -> Polled
-    requires { HasCore seat.old × (seat.old.board ≡ board.now) }
-    ensures { HasCore seat.new × (seat.new.board ≡ board.now) }
+    requires { IsCoreSeatOn board.now seat.old }
+    ensures { IsCoreSeatOn board.now seat.new }
 {
     let SeatPhase::Admitted = seat.phase() else {
         panic!(rt; "not admitted")
@@ -38,8 +38,8 @@ fn poll(rt: &impl Abort, board: &Board, seat: &mut BoardSeat) -> Polled
 }
 
 fn leave(rt: &impl Abort, board: &Board, seat: &mut BoardSeat) -> u32
-    requires { HasCore seat.old × (seat.old.board ≡ board.now) }
-    ensures { HasCore seat.new × (seat.new.board ≡ board.now) }
+    requires { IsCoreSeatOn board.now seat.old }
+    ensures { IsCoreSeatOn board.now seat.new }
 {
     let SeatPhase::Admitted = seat.phase() else {
         panic!(rt; "not admitted")
@@ -52,8 +52,8 @@ fn leave(rt: &impl Abort, board: &Board, seat: &mut BoardSeat) -> u32
 }
 
 fn look(rt: &impl Abort, board: &Board, seat: &mut BoardSeat) -> Look
-    requires { HasCore seat.old × (seat.old.board ≡ board.now) }
-    ensures { HasCore seat.new × (seat.new.board ≡ board.now) }
+    requires { IsCoreSeatOn board.now seat.old }
+    ensures { IsCoreSeatOn board.now seat.new }
 {
     let SeatPhase::Waiting = seat.phase() else {
         panic!(rt; "not waiting")
@@ -62,8 +62,8 @@ fn look(rt: &impl Abort, board: &Board, seat: &mut BoardSeat) -> Look
 }
 
 fn arrive(rt: &impl Abort, board: &Board, seat: &mut BoardSeat)
-    requires { HasCore seat.old × (seat.old.board ≡ board.now) }
-    ensures { HasCore seat.new × (seat.new.board ≡ board.now) }
+    requires { IsCoreSeatOn board.now seat.old }
+    ensures { IsCoreSeatOn board.now seat.new }
 {
     let SeatPhase::Admitted = seat.phase() else {
         panic!(rt; "not admitted")
@@ -73,15 +73,15 @@ fn arrive(rt: &impl Abort, board: &Board, seat: &mut BoardSeat)
 
 /// Looks, and must be let in.
 fn enter(rt: &impl Abort, board: &Board, seat: &mut BoardSeat)
-    requires { HasCore seat.old × (seat.old.board ≡ board.now) }
-    ensures { HasCore seat.new × (seat.new.board ≡ board.now) }
+    requires { IsCoreSeatOn board.now seat.old }
+    ensures { IsCoreSeatOn board.now seat.new }
 {
     assert_eq!(rt; look(rt, board, seat), Look::Go);
 }
 
 fn part(rt: &impl Abort, board: &Board, seat: BoardSeat, core: u32) -> (BoardSeat, BoardSeat)
     requires { seat.board ≡ board.now }
-    ensures own { HasCore result.0 × (result.0.board ≡ board.now) }
+    ensures own { IsCoreSeatOn board.now result.0 }
     ensures rest { result.1.board ≡ board.now }
 {
     let has_book = seat.has_book(CoreId(core));
@@ -133,7 +133,7 @@ fn end(rt: &impl Abort, board: Board, cores: u32, seat: BoardSeat) -> Settled
 /// A board of two cores and one resource with its seats: the conductor's and those of the two cores.
 fn two(rt: &impl Abort, alloc: Global, ticks: u32) -> (Board, BoardSeat, BoardSeat, BoardSeat)
     ensures size { (result.0.size.cores ≡ 2) × (result.0.size.resources ≡ 1) }
-    ensures seats { (result.1.board ≡ result.0) × HasCore result.2 × (result.2.board ≡ result.0) × HasCore result.3 × (result.3.board ≡ result.0) }
+    ensures seats { (result.1.board ≡ result.0) × IsCoreSeatOn result.0 result.2 × IsCoreSeatOn result.0 result.3 }
 {
     let Ok((board, seat)) = Board::new(alloc, 2, 1, ticks) else {
         panic!(rt; "no board")
