@@ -1,7 +1,7 @@
 //! Boards that run, on one thread and on several. The calls below make sure at run time of what each call wants, by
 //! the seat's readers.
-ghost use Rattle.std.specs.Prelude.{◌≡◌, ◌<◌, ◌≤◌, length, ℕ, IsTrue, IfOk, IfSome, IsSome};
-ghost use Rattle.msrp_board.specs.Boards.{book_at, IsCoreSeatOn};
+ghost use Rattle.std.specs.Prelude.{◌≡◌, ◌<◌};
+ghost use Rattle.msrp_board.specs.Boards.{IsCoreSeatOn};
 
 use super::*;
 use msrp_plan::{CoreId, Phase, ResId};
@@ -153,56 +153,70 @@ fn word_bytes(settled: &Settled) -> [u8; 8]
 
 const RES: ResId = ResId(0);
 
+/// Lets both cores into their tick.
+fn enter_both(rt: &impl Abort, board: &Board, zero: &mut BoardSeat, one: &mut BoardSeat)
+    requires { IsCoreSeatOn board.now zero.old × IsCoreSeatOn board.now one.old }
+    ensures { IsCoreSeatOn board.now zero.new × IsCoreSeatOn board.now one.new }
+{
+    enter(rt, board, zero);
+    enter(rt, board, one);
+}
+
+/// Both cores arrive, and are let into the next tick.
+fn next_tick(rt: &impl Abort, board: &Board, zero: &mut BoardSeat, one: &mut BoardSeat)
+    requires { IsCoreSeatOn board.now zero.old × IsCoreSeatOn board.now one.old }
+    ensures { IsCoreSeatOn board.now zero.new × IsCoreSeatOn board.now one.new }
+{
+    arrive(rt, board, zero);
+    arrive(rt, board, one);
+    enter_both(rt, board, zero, one);
+}
+
 /// Each core's place and answer, and the word, in the order in which the core that polls comes before the core that
 /// releases in tick 2, and so is not granted before tick 3.
 #[test]
 fn handover_takes_the_next_poll(rt: HostRuntime) {
     let (board, mut rest, mut zero, mut one) = two(&rt, rt.alloc(), 6);
     open(&rt, &board, &mut rest);
-    for tick in 0u32..6 {
-        enter(&rt, &board, &mut zero);
-        enter(&rt, &board, &mut one);
-        match tick {
-            0 => {
-                assert_eq!(rt;
-                    ask(&rt, &board, &mut zero, RES),
-                    Asked { place: 0, ahead: 0 }
-                );
-                assert_eq!(rt;
-                    ask(&rt, &board, &mut one, RES),
-                    Asked { place: 1, ahead: 1 }
-                );
-            }
-            1 => assert_eq!(rt;
-                poll(&rt, &board, &mut one),
-                Polled {
-                    place: 2,
-                    granted: false
-                }
-            ),
-            2 => {
-                assert_eq!(rt;
-                    poll(&rt, &board, &mut one),
-                    Polled {
-                        place: 2,
-                        granted: false
-                    }
-                );
-                assert_eq!(rt; leave(&rt, &board, &mut zero), 2);
-            }
-            3 => assert_eq!(rt;
-                poll(&rt, &board, &mut one),
-                Polled {
-                    place: 3,
-                    granted: true
-                }
-            ),
-            5 => assert_eq!(rt; leave(&rt, &board, &mut one), 3),
-            _ => {}
+    enter_both(&rt, &board, &mut zero, &mut one);
+    assert_eq!(rt;
+        ask(&rt, &board, &mut zero, RES),
+        Asked { place: 0, ahead: 0 }
+    );
+    assert_eq!(rt;
+        ask(&rt, &board, &mut one, RES),
+        Asked { place: 1, ahead: 1 }
+    );
+    next_tick(&rt, &board, &mut zero, &mut one);
+    assert_eq!(rt;
+        poll(&rt, &board, &mut one),
+        Polled {
+            place: 2,
+            granted: false
         }
-        arrive(&rt, &board, &mut zero);
-        arrive(&rt, &board, &mut one);
-    }
+    );
+    next_tick(&rt, &board, &mut zero, &mut one);
+    assert_eq!(rt;
+        poll(&rt, &board, &mut one),
+        Polled {
+            place: 2,
+            granted: false
+        }
+    );
+    assert_eq!(rt; leave(&rt, &board, &mut zero), 2);
+    next_tick(&rt, &board, &mut zero, &mut one);
+    assert_eq!(rt;
+        poll(&rt, &board, &mut one),
+        Polled {
+            place: 3,
+            granted: true
+        }
+    );
+    next_tick(&rt, &board, &mut zero, &mut one);
+    next_tick(&rt, &board, &mut zero, &mut one);
+    assert_eq!(rt; leave(&rt, &board, &mut one), 3);
+    arrive(&rt, &board, &mut zero);
+    arrive(&rt, &board, &mut one);
     assert_eq!(rt; zero.phase(), SeatPhase::Done);
     assert_eq!(rt; one.tick(), 6);
     let rest = board.join(rest, zero);

@@ -1,15 +1,12 @@
-use Rattle.std.proofs.Common.{◌==◌, ◌*◌, ◌+◌, ◌<◌, sym, ap, ◌∙◌, ◌≡◌, subst}
-use Rattle.msrp_plan.specs.declared.ids.ResId.{ResId}
+use Rattle.std.proofs.Common.{◌+◌, ◌<◌, sym, ap, ◌∙◌, ◌≡◌, subst}
 use Rattle.msrp_plan.specs.declared.units.Phase.TheVariants.{Holding}
-use Rattle.msrp_plan.specs.declared.units.Call.TheVariants.{Poll, Leave}
+use Rattle.msrp_plan.specs.declared.units.Call.TheVariants.{Leave}
 use Rattle.msrp_board.specs.declared.books.BoardSize.{BoardSize}
 use Rattle.msrp_board.specs.declared.held.CoreState.{CoreState}
-use Rattle.msrp_board.specs.declared.held.Claim.TheVariants.{Waits, Holds}
-use Rattle.msrp_board.specs.Boards.{BoardModel, SeatModel, MayAct, with_entry, IsBehind}
-use Rattle.msrp_board.specs.Held.{res_of, state_of}
-use Rattle.msrp_board.specs.Newest.{turn_of}
-use Rattle.msrp_board.specs.Rule.{noted}
-use Rattle.msrp_board.proofs.Seats.{acting, may_lock, waits_claim, holds_claim, res_waits, res_holds, below_after, below_waits, below_holds, poll_tells, leave_tells, behind_halves, seat_entered, seat_behind}
+use Rattle.msrp_board.specs.declared.held.Claim.TheVariants.{Holds}
+use Rattle.msrp_board.specs.Boards.{BoardModel, SeatModel, with_entry, IsBehind}
+use Rattle.msrp_board.specs.Held.{res_of}
+use Rattle.msrp_board.proofs.Seats.{acting, may_lock, holds_claim, res_holds, below_holds, leave_tells, behind_halves, seat_entered, seat_behind}
 use Rattle.msrp_board.proofs.Ties.{seat_step}
 use Rattle.msrp_board.proofs.board.Board.leave.Goals as goal
 
