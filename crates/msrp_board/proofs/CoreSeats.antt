@@ -1,5 +1,5 @@
 -- A core's seat, for whoever makes its calls: how it comes about, what its readers tell, and that it stays one.
-use Rattle.std.proofs.Common.{◌≡◌, ℕ, zero, suc, List, [], ◌∷◌, map, Bool, true, false, Some, None, refl, sym, ap, ◌∙◌, true≢false}
+use Rattle.std.proofs.Common.{◌≡◌, ℕ, zero, suc, List, [], ◌∷◌, map, Bool, true, false, Some, None, refl, sym, subst, ap, ◌∙◌, true≢false}
 use Rattle.std.specs.Prelude.{slice_index_or, IsSome}
 use Rattle.std.specs.Option.{option_map, is_some}
 use Rattle.std.specs.declared.option.Option.{Option}
@@ -8,7 +8,9 @@ use Rattle.msrp_board.specs.declared.answers.SeatPhase.{SeatPhase}
 use Rattle.msrp_board.specs.declared.answers.SeatPhase.TheVariants.{Admitted}
 use Rattle.msrp_board.specs.declared.books.Book.{Book}
 use Rattle.msrp_board.specs.Books.{phase_in, has_acted, lock_of}
-use Rattle.msrp_board.specs.Boards.{SeatModel, book_at, IsCoreSeat, HasCore, IsIn, MayAct, with_books, only_at, alone}
+use Rattle.msrp_board.specs.Boards.{BoardModel, SeatModel, book_at, IsCoreSeat, IsCoreSeatOn, HasCore, IsIn, MayAct, with_books, only_at, alone, admitted, stopped}
+use Rattle.msrp_board.specs.declared.answers.Look.{Look}
+use Rattle.msrp_board.specs.declared.answers.Look.TheVariants.{Wait, Go, Stopped}
 
 -- a core's seat is of one core, and has one book
 pub core_is_one : (seat : SeatModel) (c d : ℕ) (b e : Book) → IsCoreSeat seat c b → IsCoreSeat seat d e → (c ≡ d) × (b ≡ e)
@@ -63,6 +65,9 @@ core_changed f seat c b s = record {
 pub changed_has_core : (f : Book → Book) (seat : SeatModel) → HasCore seat → HasCore (with_books f seat)
 changed_has_core f seat s = (s.0, f s.1, core_changed f seat s.0 s.1 s.2)
 
+pub step_on : (f : Book → Book) (old new : SeatModel) (board : BoardModel) → new ≡ with_books f old → IsCoreSeatOn board old → IsCoreSeatOn board new
+step_on f old new board is s = record { core = subst HasCore (sym is) (changed_has_core f old s.core); on = ap (λ (x : SeatModel). x.board) is ∙ s.on }
+
 -- ---- what its readers tell
 
 pub is_in : (seat : SeatModel) (phase : SeatPhase) → HasCore seat → ((c : ℕ) (b : Book) → IsCoreSeat seat c b → phase ≡ phase_in seat.board.size.ticks b) → IsIn phase seat
@@ -71,3 +76,12 @@ is_in seat phase s reads = (s.0, s.1, s.2, sym (reads s.0 s.1 s.2))
 pub may_act : (seat : SeatModel) (phase : SeatPhase) (quiet : Bool) (lock : Phase) → HasCore seat → phase ≡ Admitted → quiet ≡ false
     → ((c : ℕ) (b : Book) → IsCoreSeat seat c b → phase ≡ phase_in seat.board.size.ticks b) → ((c : ℕ) (b : Book) → IsCoreSeat seat c b → quiet ≡ has_acted b) → ((c : ℕ) (b : Book) → IsCoreSeat seat c b → lock ≡ lock_of b) → MayAct lock seat
 may_act seat phase quiet lock s at free phases acts locks = (s.0, s.1, s.2, sym (phases s.0 s.1 s.2) ∙ at, sym (acts s.0 s.1 s.2) ∙ free, sym (locks s.0 s.1 s.2))
+
+-- whatever a look finds
+pub looked_on : (look : Look) (old new : SeatModel) (board : BoardModel) → IsCoreSeatOn board old → (look ≡ Wait → new ≡ old) → (look ≡ Go → new ≡ admitted old) → (look ≡ Stopped → new ≡ stopped old) → IsCoreSeatOn board new
+looked_on Wait old new board s wait go stop = subst (IsCoreSeatOn board) (sym (wait refl)) s
+looked_on Go old new board s wait go stop = step_on _ old new board (go refl) s
+looked_on Stopped old new board s wait go stop = step_on _ old new board (stop refl) s
+
+pub alone_on : (seat own : SeatModel) (board : BoardModel) (c : ℕ) → own ≡ alone c seat → seat.board ≡ board → IsSome (book_at seat c) → IsCoreSeatOn board own
+alone_on seat own board c is at has = record { core = subst HasCore (sym is) (alone_has_core seat c has); on = ap (λ (x : SeatModel). x.board) is ∙ at }

@@ -25,7 +25,7 @@ use Rattle.msrp_board.specs.declared.held.CoreState.{CoreState}
 use Rattle.msrp_board.specs.declared.pages.Page.{Page}
 use Rattle.msrp_board.specs.declared.pages.View.{View}
 use Rattle.msrp_board.specs.Books.{on, phase_by, phase_in, has_acted, lock_of, IsBefore}
-use Rattle.msrp_board.specs.Boards.{admitted, stopped, empty_book, first_seat, BoardModel, SeatModel, IsCoreSeat, MayAct, IsIn, entered, with_entry, with_books, IsBehind}
+use Rattle.msrp_board.specs.Boards.{admitted, stopped, empty_book, first_seat, BoardModel, SeatModel, IsCoreSeat, MayAct, LockIs, IsIn, entered, with_entry, with_books, IsBehind}
 use Rattle.msrp_board.specs.Newest.{claim, claim_after, turn_of}
 use Rattle.msrp_board.specs.Rule.{seen_if, looked, AtStart, empty, first_view, Sole, acted, noted, change, next, serving, asked, polled, left, Behind}
 use Rattle.msrp_board.specs.Held.{look_if, look_of, told, phase_of, res_of, seen_as, Tie, IsBelow, IsSeat}
@@ -87,6 +87,10 @@ acting board v seat lock is may =
       quiet = sym (acted_told r.0) ∙ ap has_acted r.2 ∙ h.4;
       claims = sym (lock_told r.0) ∙ ap lock_of r.2 ∙ h.5;
     }
+
+-- what a reader tells of the lock is what the condition says
+pub may_lock : (seat : SeatModel) (one two : Phase) → MayAct one seat → LockIs seat two → MayAct two seat
+may_lock seat one two s is = (s.0, s.1, s.2, s.3, s.4, sym (is s.0 s.1 s.2))
 
 -- ---- one entry more
 

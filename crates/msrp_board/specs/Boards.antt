@@ -67,9 +67,18 @@ pub record IsCoreSeat (seat : SeatModel) (c : ℕ) (b : Book) : Type 0 where
 abbrev pub HasCore : SeatModel → Type 0
 HasCore seat = (c : ℕ) × (b : Book) × IsCoreSeat seat c b
 
+-- the seat of some core of this board
+pub record IsCoreSeatOn (board : BoardModel) (seat : SeatModel) : Type 0 where
+  pub core : HasCore seat
+  pub on : seat.board ≡ board
+
 -- a core's seat in this phase
 abbrev pub IsIn : SeatPhase → SeatModel → Type 0
 IsIn phase seat = (c : ℕ) × (b : Book) × IsCoreSeat seat c b × (phase_in seat.board.size.ticks b ≡ phase)
+
+-- what the core of a core's seat holds or awaits
+abbrev pub LockIs : SeatModel → Phase → Type 0
+LockIs seat lock = (c : ℕ) (b : Book) → IsCoreSeat seat c b → lock ≡ lock_of b
 
 -- a core's seat that is admitted to its tick, has not acted in it, and holds or awaits this
 abbrev pub MayAct : Phase → SeatModel → Type 0

@@ -9,7 +9,7 @@ ghost use Rattle.msrp_board.specs.declared.answers.SeatPhase.TheVariants.{Waitin
 ghost use Rattle.msrp_board.specs.declared.books.Book.{Book};
 ghost use Rattle.msrp_board.specs.declared.books.Conductor.TheVariants.{Unopened, Opened, Aborted};
 ghost use Rattle.msrp_board.specs.Rule.{next, serving};
-ghost use Rattle.msrp_board.specs.Boards.{book_at, IsSize, IsCoreSeat, IsIn, MayAct, IsBehind, HasAnother, HasAll, first_seat, with_entry, admitted, stopped, arrived, conducted, alone, without, both};
+ghost use Rattle.msrp_board.specs.Boards.{book_at, IsSize, IsCoreSeat, IsIn, MayAct, LockIs, IsBehind, HasAnother, HasAll, first_seat, with_entry, admitted, stopped, arrived, conducted, alone, without, both};
 
 use crate::answers::{Asked, BoardError, Look, Polled};
 use crate::books::{BoardSize, Conductor};
@@ -100,8 +100,8 @@ impl Board {
     pub fn poll(&self, seat: &mut BoardSeat) -> Polled
         requires board { seat.old.board ≡ self.now }
         requires queued { (g : ResId) × MayAct (Queued g) seat.old }
-        ensures entry { (g : ResId) → MayAct (Queued g) seat.old → seat.new ≡ with_entry g result.place (Poll result.granted) seat.old }
-        ensures behind { (g : ResId) → MayAct (Queued g) seat.old → IsBehind g.0 result.place seat.old }
+        ensures entry { (g : ResId) → LockIs seat.old (Queued g) → seat.new ≡ with_entry g result.place (Poll result.granted) seat.old }
+        ensures behind { (g : ResId) → LockIs seat.old (Queued g) → IsBehind g.0 result.place seat.old }
     {
         let (core, state) = own(&seat.held);
         let found = steps::poll(
@@ -123,8 +123,8 @@ impl Board {
     pub fn leave(&self, seat: &mut BoardSeat) -> u32
         requires board { seat.old.board ≡ self.now }
         requires holding { (g : ResId) × MayAct (Holding g) seat.old }
-        ensures entry { (g : ResId) → MayAct (Holding g) seat.old → seat.new ≡ with_entry g result Leave seat.old }
-        ensures behind { (g : ResId) → MayAct (Holding g) seat.old → IsBehind g.0 result seat.old }
+        ensures entry { (g : ResId) → LockIs seat.old (Holding g) → seat.new ≡ with_entry g result Leave seat.old }
+        ensures behind { (g : ResId) → LockIs seat.old (Holding g) → IsBehind g.0 result seat.old }
     {
         let (core, state) = own(&seat.held);
         let found = steps::leave(

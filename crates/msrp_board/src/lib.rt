@@ -1,4 +1,9 @@
-//! The board.
+//! The board of a run: one ticket word for each global resource and one barrier word, which the threads of the cores
+//! share without a lock. A request of a resource takes a ticket and tickets are served in their order, as in MSRP (Gai,
+//! Lipari and Di Natale 2001); between two ticks the cores meet at the barrier.
+//!
+//! A thread steps by a [`BoardSeat`], which holds the books of some cores: what they did. `docs/BOARD.md` explains the
+//! words, the rule that holds of them, and what each call tells.
 #![tactic(auto)]
 
 mod answers;
@@ -10,6 +15,8 @@ mod pages;
 mod seat;
 mod settled;
 mod steps;
+#[cfg(test)]
+mod tests;
 
 pub use answers::{Asked, BoardError, Look, Polled, SeatPhase};
 pub use board::Board;

@@ -1,9 +1,9 @@
 //! What a thread may do on a board: a seat holds the books of some cores, and its readers answer from them.
 ghost use Rattle.std.specs.Prelude.{◌≡◌, ◌↔◌, ◌<◌, ℕ, IsTrue, IsSome};
 ghost use Rattle.msrp_board.specs.declared.books.Book.{Book};
-ghost use Rattle.msrp_board.specs.Books.{phase_in, has_acted, lock_of};
+ghost use Rattle.msrp_board.specs.Books.{phase_in, has_acted};
 ghost use Rattle.msrp_board.specs.Held.{Shows};
-ghost use Rattle.msrp_board.specs.Boards.{IsCoreSeat, HasCore, book_at};
+ghost use Rattle.msrp_board.specs.Boards.{IsCoreSeat, HasCore, LockIs, book_at};
 
 use crate::answers::SeatPhase;
 use crate::books::{BoardSize, Conductor};
@@ -71,7 +71,7 @@ impl BoardSeat {
     /// What the core of a core's seat holds or awaits.
     pub fn lock(&self) -> Phase
         requires { HasCore self.now }
-        ensures { (c : ℕ) (b : Book) → IsCoreSeat self.now c b → result ≡ lock_of b }
+        ensures { LockIs self.now result }
     {
         self.state().claim.phase()
     }

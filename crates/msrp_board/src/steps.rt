@@ -4,9 +4,9 @@
 ghost use Rattle.std.specs.Prelude.{Some, ◌≡◌, [], ◌+◌, ◌<◌, ℕ};
 ghost use mathlib.Core.Option.{none};
 ghost use Rattle.atomic_table.specs.Table.{step};
-ghost use Rattle.msrp_board.specs.declared.books.Conductor.TheVariants.{Unopened};
+ghost use Rattle.msrp_board.specs.declared.books.Conductor.TheVariants.{Unopened, Opened, Aborted};
 ghost use Rattle.msrp_board.specs.declared.held.Claim.TheVariants.{Nothing, Waits, Holds};
-ghost use Rattle.msrp_board.specs.Rule.{Ready, TellsAsk, TellsPoll, TellsLeave, TellsArrival, TellsLook, Waiting, AdmittedAt, TellsOpening, TellsAbort, view_alone, view_without, view_both};
+ghost use Rattle.msrp_board.specs.Rule.{Ready, TellsAsk, TellsPoll, TellsLeave, TellsLook, Waiting, AdmittedAt, AllPast, change, arrived, conducted, view_alone, view_without, view_both};
 
 use crate::pages::{
     Aborts, Arrives, Asks, Both, Leaves, Looks, Named, Opens, Parts, Place, Polls, Words,
@@ -47,14 +47,14 @@ pub fn leave(words: &Words, seat: &mut Place, res: usize) -> u64
 }
 
 /// An arrival.
-pub fn arrive(words: &Words, seat: &mut Place, barrier: usize) -> u64
+pub fn arrive(words: &Words, seat: &mut Place, barrier: usize)
     requires table { seat.old.table_id ≡ words.now.table_id }
     requires barrier { (barrier ≡ words.now.key.resources) × (words.now.table_id.words ≡ words.now.key.resources + 1) }
     requires admitted { AdmittedAt seat.old.me.0 }
     ensures table { seat.new.table_id ≡ seat.old.table_id }
-    ensures arrived { TellsArrival (step words.now.table_id.slots barrier 1 0 none) seat.old.me result seat.new.me }
+    ensures arrived { (seat.new.me ≡ (change arrived seat.old.me.0, seat.old.me.1)) × AllPast seat.old.me.0 }
 {
-    words.fetch_add::<Arrives>(seat, barrier, 1)
+    words.fetch_add::<Arrives>(seat, barrier, 1);
 }
 
 /// A look. Answers the barrier word that it found.
@@ -82,25 +82,25 @@ fn look_named<N: Named>(words: &Words, seat: &mut Place, barrier: usize, cores: 
 }
 
 /// The opening.
-pub fn open(words: &Words, seat: &mut Place, barrier: usize) -> u64
+pub fn open(words: &Words, seat: &mut Place, barrier: usize)
     requires table { seat.old.table_id ≡ words.now.table_id }
     requires barrier { (barrier ≡ words.now.key.resources) × (words.now.table_id.words ≡ words.now.key.resources + 1) }
     requires unopened { seat.old.me.0.conductor ≡ Some Unopened }
     ensures table { seat.new.table_id ≡ seat.old.table_id }
-    ensures conductor { TellsOpening (step words.now.table_id.slots barrier 1 0 none) seat.old.me result seat.new.me }
+    ensures conductor { seat.new.me ≡ (conducted Opened seat.old.me.0, seat.old.me.1) }
 {
-    words.fetch_add::<Opens>(seat, barrier, 1)
+    words.fetch_add::<Opens>(seat, barrier, 1);
 }
 
 /// The abort.
-pub fn abort(words: &Words, seat: &mut Place, barrier: usize) -> u64
+pub fn abort(words: &Words, seat: &mut Place, barrier: usize)
     requires table { seat.old.table_id ≡ words.now.table_id }
     requires barrier { (barrier ≡ words.now.key.resources) × (words.now.table_id.words ≡ words.now.key.resources + 1) }
     requires unopened { seat.old.me.0.conductor ≡ Some Unopened }
     ensures table { seat.new.table_id ≡ seat.old.table_id }
-    ensures conductor { TellsAbort (step words.now.table_id.slots barrier 4294967296 0 none) seat.old.me result seat.new.me }
+    ensures conductor { seat.new.me ≡ (conducted Aborted seat.old.me.0, seat.old.me.1) }
 {
-    words.fetch_add::<Aborts>(seat, barrier, 4294967296)
+    words.fetch_add::<Aborts>(seat, barrier, 4294967296);
 }
 
 /// The seat keeps the page of the core, and the new one has the others.

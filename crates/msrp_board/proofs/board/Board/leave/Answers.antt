@@ -6,7 +6,7 @@ use Rattle.msrp_board.specs.declared.held.CoreState.{CoreState}
 use Rattle.msrp_board.specs.declared.held.Claim.TheVariants.{Holds}
 use Rattle.msrp_board.specs.Boards.{BoardModel, SeatModel, with_entry, IsBehind}
 use Rattle.msrp_board.specs.Held.{res_of}
-use Rattle.msrp_board.proofs.Seats.{acting, holds_claim, res_holds, below_holds, leave_tells, behind_halves, seat_entered, seat_behind}
+use Rattle.msrp_board.proofs.Seats.{acting, may_lock, holds_claim, res_holds, below_holds, leave_tells, behind_halves, seat_entered, seat_behind}
 use Rattle.msrp_board.proofs.Ties.{seat_step}
 use Rattle.msrp_board.proofs.board.Board.leave.Goals as goal
 
@@ -52,8 +52,8 @@ invariant_of-seat c =
     seat_step _ _ _ _ _ a.core _ a.page _ _ i a.sole o.0 (leave_tells _ _ _ _ _ _ h.0 h.1 c.leave-found.ensures.left.0) (c.left.ensures a.page c.res.result place o.1) tt
 
 pub returns-clause-entry : goal.returns-clause-entry
-returns-clause-entry c g may =
-    let a = acting _ c.seat.inside.place.me.0 _ (Holding g) c.seat.view_is may in
+returns-clause-entry c g is =
+    let a = acting _ c.seat.inside.place.me.0 _ (Holding g) c.seat.view_is (may_lock _ _ _ c.requires.holding.1 is) in
     let w = holds_claim _ g a.claims in
     let i = c.seat.invariant in
     let o = c.own-core.ensures.own c.seat.inside.place.me.0 a.core a.page i.tie (i.low a.core a.page a.sole.0) a.sole in
@@ -64,8 +64,8 @@ returns-clause-entry c g may =
     ∙ ap (λ k. with_entry (record { 0 = k }) place Leave c.args.seat.now) res
 
 pub returns-clause-behind : goal.returns-clause-behind
-returns-clause-behind c g may =
-    let a = acting _ c.seat.inside.place.me.0 _ (Holding g) c.seat.view_is may in
+returns-clause-behind c g is =
+    let a = acting _ c.seat.inside.place.me.0 _ (Holding g) c.seat.view_is (may_lock _ _ _ c.requires.holding.1 is) in
     let w = holds_claim _ g a.claims in
     let i = c.seat.invariant in
     let o = c.own-core.ensures.own c.seat.inside.place.me.0 a.core a.page i.tie (i.low a.core a.page a.sole.0) a.sole in

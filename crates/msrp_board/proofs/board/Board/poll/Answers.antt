@@ -8,7 +8,7 @@ use Rattle.msrp_board.specs.Boards.{BoardModel, SeatModel, with_entry, IsBehind}
 use Rattle.msrp_board.specs.Held.{res_of, state_of}
 use Rattle.msrp_board.specs.Newest.{turn_of}
 use Rattle.msrp_board.specs.Rule.{noted}
-use Rattle.msrp_board.proofs.Seats.{acting, waits_claim, res_waits, below_after, below_waits, poll_tells, behind_halves, seat_entered, seat_behind}
+use Rattle.msrp_board.proofs.Seats.{acting, may_lock, waits_claim, res_waits, below_after, below_waits, poll_tells, behind_halves, seat_entered, seat_behind}
 use Rattle.msrp_board.proofs.Ties.{seat_step}
 use Rattle.msrp_board.proofs.board.Board.poll.Goals as goal
 
@@ -56,8 +56,8 @@ invariant_of-seat c =
     (below_after _ _ c.res.result place (Poll (2 * c.halves-next.result.1 == c.turn.result)) (subst (λ k. k < c.seat.inside.size.resources) (sym res) (below_waits _ _ g.0 w.0 w.1 b)) b)
 
 pub returns-clause-entry : goal.returns-clause-entry
-returns-clause-entry c g may =
-    let a = acting _ c.seat.inside.place.me.0 _ (Queued g) c.seat.view_is may in
+returns-clause-entry c g is =
+    let a = acting _ c.seat.inside.place.me.0 _ (Queued g) c.seat.view_is (may_lock _ _ _ c.requires.queued.1 is) in
     let w = waits_claim _ g a.claims in
     let i = c.seat.invariant in
     let o = c.own-core.ensures.own c.seat.inside.place.me.0 a.core a.page i.tie (i.low a.core a.page a.sole.0) a.sole in
@@ -68,8 +68,8 @@ returns-clause-entry c g may =
     ∙ ap (λ k. with_entry (record { 0 = k }) place (Poll (2 * c.halves-next.result.1 == c.turn.result)) c.args.seat.now) res
 
 pub returns-clause-behind : goal.returns-clause-behind
-returns-clause-behind c g may =
-    let a = acting _ c.seat.inside.place.me.0 _ (Queued g) c.seat.view_is may in
+returns-clause-behind c g is =
+    let a = acting _ c.seat.inside.place.me.0 _ (Queued g) c.seat.view_is (may_lock _ _ _ c.requires.queued.1 is) in
     let w = waits_claim _ g a.claims in
     let i = c.seat.invariant in
     let o = c.own-core.ensures.own c.seat.inside.place.me.0 a.core a.page i.tie (i.low a.core a.page a.sole.0) a.sole in

@@ -1,0 +1,301 @@
+//! Boards that run, on one thread and on several. The calls below make sure at run time of what each call wants, by
+//! the seat's readers.
+ghost use Rattle.std.specs.Prelude.{◌≡◌, ◌<◌};
+ghost use Rattle.msrp_board.specs.Boards.{IsCoreSeatOn};
+
+use super::*;
+use msrp_plan::{CoreId, Phase, ResId};
+use std::alloc::Global;
+use std::process::Abort;
+use std::test::*;
+
+fn ask(rt: &impl Abort, board: &Board, seat: &mut BoardSeat, res: ResId) -> Asked
+    requires { IsCoreSeatOn board.now seat.old × (res.0 < board.now.size.resources) }
+    ensures { IsCoreSeatOn board.now seat.new }
+{
+    let SeatPhase::Admitted = seat.phase() else {
+        panic!(rt; "not admitted")
+    };
+    let Phase::Free = seat.lock() else {
+        panic!(rt; "not free")
+    };
+    assert!(rt; !seat.acted());
+    board.ask(seat, res)
+}
+
+fn poll(rt: &impl Abort, board: &Board, seat: &mut BoardSeat) -> Polled
+    requires { IsCoreSeatOn board.now seat.old }
+    ensures { IsCoreSeatOn board.now seat.new }
+{
+    let SeatPhase::Admitted = seat.phase() else {
+        panic!(rt; "not admitted")
+    };
+    let Phase::Queued(_) = seat.lock() else {
+        panic!(rt; "not queued")
+    };
+    assert!(rt; !seat.acted());
+    board.poll(seat)
+}
+
+fn leave(rt: &impl Abort, board: &Board, seat: &mut BoardSeat) -> u32
+    requires { IsCoreSeatOn board.now seat.old }
+    ensures { IsCoreSeatOn board.now seat.new }
+{
+    let SeatPhase::Admitted = seat.phase() else {
+        panic!(rt; "not admitted")
+    };
+    let Phase::Holding(_) = seat.lock() else {
+        panic!(rt; "not holding")
+    };
+    assert!(rt; !seat.acted());
+    board.leave(seat)
+}
+
+fn look(rt: &impl Abort, board: &Board, seat: &mut BoardSeat) -> Look
+    requires { IsCoreSeatOn board.now seat.old }
+    ensures { IsCoreSeatOn board.now seat.new }
+{
+    let SeatPhase::Waiting = seat.phase() else {
+        panic!(rt; "not waiting")
+    };
+    board.look(seat)
+}
+
+fn arrive(rt: &impl Abort, board: &Board, seat: &mut BoardSeat)
+    requires { IsCoreSeatOn board.now seat.old }
+    ensures { IsCoreSeatOn board.now seat.new }
+{
+    let SeatPhase::Admitted = seat.phase() else {
+        panic!(rt; "not admitted")
+    };
+    board.arrive(seat);
+}
+
+/// Looks, and must be let in.
+fn enter(rt: &impl Abort, board: &Board, seat: &mut BoardSeat)
+    requires { IsCoreSeatOn board.now seat.old }
+    ensures { IsCoreSeatOn board.now seat.new }
+{
+    assert_eq!(rt; look(rt, board, seat), Look::Go);
+}
+
+fn part(rt: &impl Abort, board: &Board, seat: BoardSeat, core: u32) -> (BoardSeat, BoardSeat)
+    requires { seat.board ≡ board.now }
+    ensures own { IsCoreSeatOn board.now result.0 }
+    ensures rest { result.1.board ≡ board.now }
+{
+    let has_book = seat.has_book(CoreId(core));
+    if !has_book {
+        panic!(rt; "no book of the core");
+    }
+    assert!(rt; seat.conductor().is_some());
+    board.split(seat, CoreId(core))
+}
+
+fn open(rt: &impl Abort, board: &Board, seat: &mut BoardSeat)
+    requires { seat.old.board ≡ board.now }
+    ensures { seat.new.board ≡ board.now }
+{
+    let Some(Conductor::Unopened) = seat.conductor() else {
+        panic!(rt; "opened already")
+    };
+    board.open(seat);
+}
+
+fn abort(rt: &impl Abort, board: &Board, seat: &mut BoardSeat)
+    requires { seat.old.board ≡ board.now }
+    ensures { seat.new.board ≡ board.now }
+{
+    let Some(Conductor::Unopened) = seat.conductor() else {
+        panic!(rt; "opened already")
+    };
+    board.abort(seat);
+}
+
+/// Makes sure that the seat holds all books, and ends the board.
+fn end(rt: &impl Abort, board: Board, cores: u32, seat: BoardSeat) -> Settled
+    requires { (seat.board ≡ board) × (board.size.cores ≡ cores) }
+    ensures { result.size ≡ board.size }
+{
+    for core in 0..cores {
+        let has_book = seat.has_book(CoreId(core));
+        if !has_book {
+            panic!(rt; "no book of a core");
+        }
+    }
+    let has_conductor = seat.conductor().is_some();
+    if !has_conductor {
+        panic!(rt; "no book of the conductor");
+    }
+    board.settle(seat)
+}
+
+/// A board of two cores and one resource with its seats: the conductor's and those of the two cores.
+fn two(rt: &impl Abort, alloc: Global, ticks: u32) -> (Board, BoardSeat, BoardSeat, BoardSeat)
+    ensures size { (result.0.size.cores ≡ 2) × (result.0.size.resources ≡ 1) }
+    ensures seats { (result.1.board ≡ result.0) × IsCoreSeatOn result.0 result.2 × IsCoreSeatOn result.0 result.3 }
+{
+    let Ok((board, seat)) = Board::new(alloc, 2, 1, ticks) else {
+        panic!(rt; "no board")
+    };
+    let (zero, rest) = part(rt, &board, seat, 0);
+    let (one, rest) = part(rt, &board, rest, 1);
+    (board, rest, zero, one)
+}
+
+/// A word of a resource, the most significant byte first.
+fn word_bytes(settled: &Settled) -> [u8; 8]
+    requires { settled.now.size.resources ≡ 1 }
+{
+    let (next, serving) = settled.word(ResId(0));
+    (u64::from(next) * 4294967296 + u64::from(serving)).to_be_bytes()
+}
+
+const RES: ResId = ResId(0);
+
+/// Lets both cores into their tick.
+fn enter_both(rt: &impl Abort, board: &Board, zero: &mut BoardSeat, one: &mut BoardSeat)
+    requires { IsCoreSeatOn board.now zero.old × IsCoreSeatOn board.now one.old }
+    ensures { IsCoreSeatOn board.now zero.new × IsCoreSeatOn board.now one.new }
+{
+    enter(rt, board, zero);
+    enter(rt, board, one);
+}
+
+/// Both cores arrive, and are let into the next tick.
+fn next_tick(rt: &impl Abort, board: &Board, zero: &mut BoardSeat, one: &mut BoardSeat)
+    requires { IsCoreSeatOn board.now zero.old × IsCoreSeatOn board.now one.old }
+    ensures { IsCoreSeatOn board.now zero.new × IsCoreSeatOn board.now one.new }
+{
+    arrive(rt, board, zero);
+    arrive(rt, board, one);
+    enter_both(rt, board, zero, one);
+}
+
+/// Each core's place and answer, and the word, in the order in which the core that polls comes before the core that
+/// releases in tick 2, and so is not granted before tick 3.
+#[test]
+fn handover_takes_the_next_poll(rt: HostRuntime) {
+    let (board, mut rest, mut zero, mut one) = two(&rt, rt.alloc(), 6);
+    open(&rt, &board, &mut rest);
+    enter_both(&rt, &board, &mut zero, &mut one);
+    assert_eq!(rt;
+        ask(&rt, &board, &mut zero, RES),
+        Asked { place: 0, ahead: 0 }
+    );
+    assert_eq!(rt;
+        ask(&rt, &board, &mut one, RES),
+        Asked { place: 1, ahead: 1 }
+    );
+    next_tick(&rt, &board, &mut zero, &mut one);
+    assert_eq!(rt;
+        poll(&rt, &board, &mut one),
+        Polled {
+            place: 2,
+            granted: false
+        }
+    );
+    next_tick(&rt, &board, &mut zero, &mut one);
+    assert_eq!(rt;
+        poll(&rt, &board, &mut one),
+        Polled {
+            place: 2,
+            granted: false
+        }
+    );
+    assert_eq!(rt; leave(&rt, &board, &mut zero), 2);
+    next_tick(&rt, &board, &mut zero, &mut one);
+    assert_eq!(rt;
+        poll(&rt, &board, &mut one),
+        Polled {
+            place: 3,
+            granted: true
+        }
+    );
+    next_tick(&rt, &board, &mut zero, &mut one);
+    next_tick(&rt, &board, &mut zero, &mut one);
+    assert_eq!(rt; leave(&rt, &board, &mut one), 3);
+    arrive(&rt, &board, &mut zero);
+    arrive(&rt, &board, &mut one);
+    assert_eq!(rt; zero.phase(), SeatPhase::Done);
+    assert_eq!(rt; one.tick(), 6);
+    let rest = board.join(rest, zero);
+    let all = board.join(rest, one);
+    let settled = end(&rt, board, 2, all);
+    assert_eq!(rt; settled.word(RES), (2, 2));
+    assert_eq!(rt; word_bytes(&settled), [0, 0, 0, 2, 0, 0, 0, 2]);
+}
+
+#[test]
+fn two_requests_are_counted(rt: HostRuntime) {
+    let (board, mut rest, mut zero, mut one) = two(&rt, rt.alloc(), 1);
+    open(&rt, &board, &mut rest);
+    enter(&rt, &board, &mut zero);
+    enter(&rt, &board, &mut one);
+    assert_eq!(rt;
+        ask(&rt, &board, &mut zero, RES),
+        Asked { place: 0, ahead: 0 }
+    );
+    assert_eq!(rt;
+        ask(&rt, &board, &mut one, RES),
+        Asked { place: 1, ahead: 1 }
+    );
+    assert_eq!(rt; zero.lock(), Phase::Holding(RES));
+    assert_eq!(rt; one.lock(), Phase::Queued(RES));
+    assert!(rt; one.acted());
+    let rest = board.join(rest, zero);
+    let all = board.join(rest, one);
+    let settled = end(&rt, board, 2, all);
+    assert_eq!(rt; word_bytes(&settled), [0, 0, 0, 2, 0, 0, 0, 0]);
+}
+
+#[test]
+fn cores_meet_between_ticks(rt: HostRuntime) {
+    let (board, mut rest, mut zero, mut one) = two(&rt, rt.alloc(), 2);
+    assert_eq!(rt; look(&rt, &board, &mut zero), Look::Wait);
+    assert_eq!(rt; look(&rt, &board, &mut one), Look::Wait);
+    open(&rt, &board, &mut rest);
+    assert_eq!(rt; look(&rt, &board, &mut zero), Look::Go);
+    assert_eq!(rt; look(&rt, &board, &mut one), Look::Go);
+    arrive(&rt, &board, &mut zero);
+    assert_eq!(rt; look(&rt, &board, &mut zero), Look::Wait);
+    arrive(&rt, &board, &mut one);
+    assert_eq!(rt; look(&rt, &board, &mut zero), Look::Go);
+    assert_eq!(rt; look(&rt, &board, &mut one), Look::Go);
+    assert_eq!(rt; (zero.tick(), one.tick()), (1, 1));
+}
+
+#[test]
+fn an_abort_is_told(rt: HostRuntime) {
+    let (board, mut rest, mut zero, mut one) = two(&rt, rt.alloc(), 2);
+    abort(&rt, &board, &mut rest);
+    assert_eq!(rt; rest.conductor(), Some(Conductor::Aborted));
+    assert_eq!(rt; look(&rt, &board, &mut zero), Look::Stopped);
+    assert_eq!(rt; look(&rt, &board, &mut one), Look::Stopped);
+    assert_eq!(rt; (zero.phase(), zero.tick()), (SeatPhase::Stopped, 0));
+}
+
+#[test]
+fn limits_are_judged(rt: HostRuntime) {
+    let cases = [
+        (8, 32, 20000, true),
+        (1, 0, 1, true),
+        (0, 1, 1, false),
+        (9, 1, 1, false),
+        (1, 33, 1, false),
+        (1, 1, 0, false),
+        (1, 1, 20001, false),
+    ];
+    for (cores, resources, ticks, is_good) in cases {
+        match Board::new(rt.alloc(), cores, resources, ticks) {
+            Ok((_board, seat)) => {
+                assert!(rt; is_good);
+                assert_eq!(rt; seat.conductor(), Some(Conductor::Unopened));
+            }
+            Err(error) => {
+                assert!(rt; !is_good);
+                assert_eq!(rt; error, BoardError::B1);
+            }
+        }
+    }
+}
