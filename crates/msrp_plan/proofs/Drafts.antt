@@ -1,17 +1,17 @@
 -- What each call of the builder keeps of its draft, and what the last call makes of it.
-use Rattle.std.proofs.Common.{◌≡◌, ℕ, suc, zero, ◌+◌, ◌-◌, ◌<◌, ◌≤◌, ◌==◌, nat_lt, nat_le, Bool, true, false, cond, not, ◌&&◌, ◌||◌, List, [], ◌∷◌, ◌++◌, length, map, set, take, drop, replicate, nat_eq, is_none, slice_index_or, Option, Some, None, refl, ap, sym, subst, ◌∙◌, ◌⊎◌, inl, inr, arith}
-use Rattle.std.specs.List.{list_any, AllPass, IsDistinct}
+use Rattle.std.proofs.Common.{◌≡◌, ℕ, ◌+◌, ◌-◌, ◌<◌, ◌≤◌, ◌==◌, nat_le, Bool, true, false, cond, not, List, [], ◌∷◌, ◌++◌, length, map, set, drop, replicate, nat_eq, is_none, slice_index_or, Some, None, refl, ap, sym, subst, ◌∙◌, inl, inr, arith}
+use Rattle.std.specs.List.{list_any}
 use Rattle.std.specs.Str.{bytes_eq}
 use Rattle.std.specs.Cmp.Lexicographic.{nat_list_eq_equiv}
-use Rattle.std.proofs.lemmas.Bool.{cases_eq, or_parts, not-true, not-false, and_parts, leb-false, leb-true, ltb-false, eqb-false, eqb-true}
+use Rattle.std.proofs.lemmas.Bool.{cases_eq, or_parts, not-false, and_parts, leb-false, leb-true, ltb-false, eqb-false, eqb-true}
 use Rattle.std.proofs.lemmas.Option.{same_Some}
-use Rattle.std.proofs.lemmas.List.{length-append, length-drop, length-replicate, length_push, length-set, length-map, map_push, map-set, set-get_or, get_or-map, get_or_append_left, get_or_push, get_or_past, get_or-set_same, get_or-set_other}
+use Rattle.std.proofs.lemmas.List.{length-append, length-drop, length-replicate, length_push, length-set, map_push, map-set, set-get_or, get_or-map, get_or_append_left, get_or_push, get_or_past, get_or-set_same, get_or-set_other}
 use Rattle.std.proofs.lemmas.List.Elements.{All-nil, All-push}
 use Rattle.std.proofs.lemmas.Map.Keys.{IsDistinct-push, IsDistinct-from_apart}
 use Rattle.msrp_plan.specs.Plan.{PlanModel, TaskModel, task_at, no_task}
 use Rattle.msrp_plan.specs.Names.{is_name, has_name}
-use Rattle.msrp_plan.specs.Units.{held_after, held_with, locks, unlocks}
-use Rattle.msrp_plan.specs.WellFormed.{AreNames, IsTask, IsLocking, IsDraft, IsWhole, IsPlan}
+use Rattle.msrp_plan.specs.Units.{held_after, held_with}
+use Rattle.msrp_plan.specs.WellFormed.{AreNames, IsTask, IsLocking, IsWhole}
 use Rattle.msrp_plan.specs.Building.{empty_plan, new_fault, resource_fault, task_fault, op_fault, end_fault, units_end_fault, with_resource, with_task, with_units, with_more_units, newest_units, units_of, is_within, is_in_range, is_none_held, is_undeclared, is_improper, is_misnested, is_too_much, held_count}
 use Rattle.msrp_plan.specs.Views.{IsGrowing}
 use Rattle.msrp_plan.specs.declared.ids.ResId.{ResId}

@@ -1,5 +1,5 @@
 -- Names and tasks as they are stored, and as a plan has them.
-use Rattle.std.proofs.Common.{◌≡◌, ℕ, suc, zero, ◌+◌, ◌-◌, ◌<◌, ◌==◌, nat_eq, Bool, true, false, cond, not, ◌||◌, List, [], ◌∷◌, ◌++◌, length, map, set, nat_lt, slice_index_or, string_bytes, string_eq, Option, Some, None, is_some, refl, ap, sym, subst, ◌∙◌, arith}
+use Rattle.std.proofs.Common.{◌≡◌, ℕ, suc, zero, ◌+◌, ◌==◌, nat_eq, Bool, false, cond, not, ◌||◌, List, [], ◌∷◌, ◌++◌, map, set, slice_index_or, string_bytes, string_eq, Option, Some, None, is_some, refl, ap, sym, ◌∙◌, arith}
 use Rattle.std.specs.declared.alloc.Global.{Global}
 use Rattle.std.specs.declared.string.String.{String}
 use Rattle.std.specs.List.{list_any, position, position_or_len, slice_get}

@@ -1,4 +1,4 @@
-use Rattle.std.proofs.Common.{◌≡◌, ◌-◌, sym, ap, ◌∙◌, length, map, replicate, set, slice_index_or, refl, arith}
+use Rattle.std.proofs.Common.{◌≡◌, ◌-◌, length, replicate}
 use Rattle.std.proofs.lemmas.List.{length-map}
 use Rattle.std.proofs.lemmas.Result.{on_ok_weaker, on_err_weaker}
 use Rattle.msrp_plan.specs.Tasks.{task_view}

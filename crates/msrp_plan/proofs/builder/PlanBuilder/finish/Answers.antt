@@ -1,4 +1,4 @@
-use Rattle.std.proofs.Common.{◌≡◌, sym, ◌∙◌}
+use Rattle.std.proofs.Common.{sym, ◌∙◌}
 use Rattle.msrp_plan.specs.Views.{draft_view, numbers}
 use Rattle.msrp_plan.proofs.Finished.{plan_from}
 use Rattle.msrp_plan.proofs.builder.PlanBuilder.finish.Goals as goal

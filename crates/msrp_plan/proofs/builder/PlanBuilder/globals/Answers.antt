@@ -1,4 +1,4 @@
-use Rattle.std.proofs.Common.{◌≡◌, ◌∙◌, length, string_bytes, refl, sym, arith}
+use Rattle.std.proofs.Common.{◌≡◌, length, string_bytes, arith}
 use Rattle.std.proofs.lemmas.List.{length-map}
 use Rattle.msrp_plan.specs.Views.{draft_view}
 use Rattle.msrp_plan.proofs.GlobalUse.{marked_all, marked_more, marked_none}

@@ -1,4 +1,3 @@
-use Rattle.std.proofs.Common.{◌≡◌}
 use Rattle.msrp_plan.proofs.GlobalUse.{IsMarkedTo}
 use Rattle.msrp_plan.proofs.builder.PlanBuilder.globals.Given as goal
 

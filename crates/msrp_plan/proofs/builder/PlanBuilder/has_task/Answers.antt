@@ -1,4 +1,4 @@
-use Rattle.std.proofs.Common.{◌≡◌, sym, ap, ◌∙◌}
+use Rattle.std.proofs.Common.{◌∙◌}
 use Rattle.msrp_plan.proofs.Stored.{has_task}
 use Rattle.msrp_plan.proofs.builder.PlanBuilder.has_task.Goals as goal
 

@@ -1,4 +1,4 @@
-use Rattle.std.proofs.Common.{◌≡◌, ◌∙◌, ap, sym, refl, Some}
+use Rattle.std.proofs.Common.{◌∙◌, ap, sym, refl}
 use Rattle.std.specs.Option.{option_copied}
 use Rattle.msrp_plan.specs.Views.{draft_view}
 use Rattle.msrp_plan.proofs.GlobalUse.{global_by_first, local_by_none}

@@ -1,5 +1,5 @@
-use Rattle.std.proofs.Common.{◌≡◌, sym, ap, ◌∙◌, Some}
-use Rattle.msrp_plan.specs.Building.{is_improper, is_misnested, newest_units}
+use Rattle.std.proofs.Common.{sym, ap, ◌∙◌}
+use Rattle.msrp_plan.specs.Building.{is_improper}
 use Rattle.msrp_plan.specs.Views.{numbers}
 use Rattle.msrp_plan.specs.declared.units.Op.TheVariants.{Lock}
 use Rattle.msrp_plan.proofs.Drafts.{improper_lock}

@@ -1,4 +1,4 @@
-use Rattle.std.proofs.Common.{◌≡◌, ◌<◌, ◌≤◌, ◌+◌, ◌*◌, ℕ, ◌∙◌, nat_lt, length, ap, sym, subst, refl, arith}
+use Rattle.std.proofs.Common.{◌≡◌, ◌≤◌, ◌+◌, ◌*◌, ℕ, ◌∙◌, nat_lt, length, ap, sym, arith}
 use Rattle.msrp_plan.specs.Plan.{TaskModel, task_at}
 use Rattle.msrp_plan.specs.Jobs.{jobs_of}
 use Rattle.msrp_plan.specs.Views.{draft_view}

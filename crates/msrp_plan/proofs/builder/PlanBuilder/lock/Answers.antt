@@ -1,7 +1,4 @@
-use Rattle.std.proofs.Common.{◌≡◌, sym, ap, ◌∙◌, List, drop}
-use Rattle.std.proofs.lemmas.List.{drop-map}
 use Rattle.msrp_plan.specs.Views.{draft_view, numbers}
-use Rattle.msrp_plan.specs.declared.ids.ResId.{ResId}
 use Rattle.msrp_plan.proofs.Drafts.{growing_lock}
 use Rattle.msrp_plan.proofs.builder.PlanBuilder.lock.Goals as goal
 

@@ -1,4 +1,3 @@
-use Rattle.std.proofs.Common.{◌≡◌}
 use Rattle.msrp_plan.specs.Plan.{task_at}
 use Rattle.msrp_plan.proofs.Scan.{IsScanned}
 use Rattle.msrp_plan.proofs.builder.PlanBuilder.nests_global.Given as goal

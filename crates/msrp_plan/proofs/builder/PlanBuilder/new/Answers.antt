@@ -1,4 +1,4 @@
-use Rattle.std.proofs.Common.{◌≡◌, sym, ap, ◌∙◌}
+use Rattle.std.proofs.Common.{sym, ◌∙◌}
 use Rattle.msrp_plan.proofs.Drafts.{growing_none}
 use Rattle.msrp_plan.proofs.builder.PlanBuilder.new.Goals as goal
 

@@ -1,4 +1,4 @@
-use Rattle.std.proofs.Common.{◌≡◌, ◌-◌, sym, ap, ◌∙◌, length, map, slice_index_or, refl}
+use Rattle.std.proofs.Common.{◌-◌, sym, ap, ◌∙◌, length}
 use Rattle.std.proofs.lemmas.List.{length-map}
 use Rattle.msrp_plan.specs.Plan.{TaskModel}
 use Rattle.msrp_plan.specs.Tasks.{task_view}

@@ -1,4 +1,4 @@
-use Rattle.std.proofs.Common.{◌≡◌, sym, ap, ◌∙◌, string_bytes}
+use Rattle.std.proofs.Common.{sym, ◌∙◌, string_bytes}
 use Rattle.std.specs.Str.{bytes_eq}
 use Rattle.msrp_plan.proofs.Stored.{position_map}
 use Rattle.msrp_plan.proofs.builder.PlanBuilder.res_of.Goals as goal

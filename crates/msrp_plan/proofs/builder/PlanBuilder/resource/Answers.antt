@@ -1,4 +1,4 @@
-use Rattle.std.proofs.Common.{◌≡◌, ◌++◌, ◌∷◌, [], ℕ, List, map, None, true, false, refl, sym, ap, subst, ◌∙◌, string_bytes}
+use Rattle.std.proofs.Common.{◌≡◌, ◌++◌, ◌∷◌, [], ℕ, List, map, None, false, refl, sym, ap, ◌∙◌, string_bytes}
 use Rattle.msrp_plan.specs.Names.{has_name}
 use Rattle.msrp_plan.specs.Building.{resource_fault}
 use Rattle.msrp_plan.specs.Views.{draft_view}

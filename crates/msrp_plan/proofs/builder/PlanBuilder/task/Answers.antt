@@ -1,4 +1,4 @@
-use Rattle.std.proofs.Common.{◌≡◌, ◌++◌, ◌∷◌, [], ℕ, List, map, None, true, false, sym, ap, subst, ◌∙◌, string_bytes, refl}
+use Rattle.std.proofs.Common.{◌≡◌, ◌++◌, ◌∷◌, [], map, None, false, sym, ap, ◌∙◌, string_bytes, refl}
 use Rattle.msrp_plan.specs.Plan.{TaskModel}
 use Rattle.msrp_plan.specs.Names.{has_name}
 use Rattle.msrp_plan.specs.Building.{task_fault, new_task}

@@ -1,4 +1,3 @@
-use Rattle.std.proofs.Common.{◌≡◌, sym, ap, ◌∙◌, List, drop}
 use Rattle.std.proofs.lemmas.List.{drop-map}
 use Rattle.msrp_plan.specs.Views.{draft_view, numbers}
 use Rattle.msrp_plan.specs.declared.ids.ResId.{ResId}

@@ -1,4 +1,4 @@
-use Rattle.std.proofs.Common.{◌≡◌, ◌<◌, ◌+◌, ◌*◌, ℕ, nat_lt, ap, sym, ◌∙◌, arith}
+use Rattle.std.proofs.Common.{◌≡◌, ◌+◌, ◌*◌, ℕ, nat_lt, ap, sym, ◌∙◌, arith}
 use Rattle.msrp_plan.specs.Plan.{PlanModel, TaskModel, task_at}
 use Rattle.msrp_plan.proofs.Releases.{job_count}
 use Rattle.msrp_plan.proofs.plans.Plan.jobs.Goals as goal

@@ -1,4 +1,4 @@
-use Rattle.std.proofs.Common.{◌≡◌, sym, ap, ◌∙◌}
+use Rattle.std.proofs.Common.{sym, ◌∙◌}
 use Rattle.msrp_plan.proofs.Stored.{task_position}
 use Rattle.msrp_plan.proofs.plans.Plan.task_of.Goals as goal
 

@@ -1,4 +1,4 @@
-use Rattle.std.proofs.Common.{◌≡◌, ◌-◌, ◌∙◌, sym, ap, nat_lt}
+use Rattle.std.proofs.Common.{◌-◌, ◌∙◌, sym, ap, nat_lt}
 use Rattle.std.specs.Int.{div_ceil}
 use Rattle.std.proofs.lemmas.Grind.{div_ceil_times}
 use Rattle.msrp_plan.proofs.Releases.{released_first}
