@@ -1,11 +1,12 @@
 //! Boards that run, on one thread and on several. The calls below make sure at run time of what each call wants, by
 //! the seat's readers.
-ghost use Rattle.std.specs.Prelude.{◌≡◌, ◌<◌};
+ghost use Rattle.std.specs.Prelude.{◌≡◌, ◌<◌, ◌≤◌, length, IfOk};
+ghost use Rattle.std.specs.List.{All};
 ghost use Rattle.msrp_board.specs.Boards.{IsCoreSeatOn};
 
 use super::*;
 use msrp_plan::{CoreId, Phase, ResId};
-use std::alloc::Global;
+use std::alloc::{AllocError, Global};
 use std::process::Abort;
 use std::test::*;
 
@@ -298,4 +299,120 @@ fn limits_are_judged(rt: HostRuntime) {
             }
         }
     }
+}
+
+/// A tick of a core that requests its resource in even ticks and releases it in odd ones.
+fn lap(rt: &impl Abort, board: &Board, seat: &mut BoardSeat, res: ResId, tick: u32)
+    requires { IsCoreSeatOn board.now seat.old × (res.0 < board.now.size.resources) }
+    ensures { IsCoreSeatOn board.now seat.new }
+{
+    enter(rt, board, seat);
+    if tick % 2 == 0 {
+        assert_eq!(rt; ask(rt, board, seat, res).ahead, 0);
+    } else {
+        leave(rt, board, seat);
+    }
+    arrive(rt, board, seat);
+}
+
+/// The seat of a core, and which core it is.
+#[derive(Drop)]
+struct Player {
+    seat: BoardSeat,
+    core: u32,
+}
+
+/// The cores' seats, and one with the other books.
+fn deal(
+    rt: &impl Abort,
+    alloc: Global,
+    board: &Board,
+    seat: BoardSeat,
+    cores: u32,
+) -> Result<(Vec<Player>, BoardSeat), AllocError>
+    requires { seat.board ≡ board.now }
+    ensures seats { IfOk result (λ r. All (λ p. IsCoreSeatOn board.now p.seat) r.0.items) }
+    ensures rest { IfOk result (λ r. r.1.board ≡ board.now) }
+{
+    let mut players = Vec::new(alloc);
+    let mut rest = seat;
+    for core in 0..cores {
+        let (own, others) = part(rt, board, rest, core);
+        rest = others;
+        players.push(Player { seat: own, core })?;
+    }
+    Ok((players, rest))
+}
+
+/// One seat with the books of all.
+fn gather(board: &Board, mut players: Vec<Player>, rest: BoardSeat) -> BoardSeat
+    requires { All (λ p. IsCoreSeatOn board.now p.seat) players.items × (rest.board ≡ board.now) }
+    ensures { result.board ≡ board.now }
+{
+    let mut all = rest;
+    while let Some(player) = players.pop() {
+        all = board.join(all, player.seat);
+    }
+    all
+}
+
+/// Each core in turn, in each tick.
+fn lap_all(rt: &impl Abort, board: &Board, players: &mut [Player], tick: u32)
+    requires { All (λ p. IsCoreSeatOn board.now p.seat) players.old × (length players.old ≤ 8) × (board.now.size.resources ≡ 32) }
+    ensures { All (λ p. IsCoreSeatOn board.now p.seat) players.new }
+{
+    let mut core = 0;
+    while core < players.len() {
+        let seat = &mut players[core].seat;
+        lap(rt, board, seat, ResId(core as u32), tick);
+        core += 1;
+    }
+}
+
+/// A board and its first seat.
+fn board_of(
+    rt: &impl Abort,
+    alloc: Global,
+    cores: u32,
+    resources: u32,
+    ticks: u32,
+) -> (Board, BoardSeat)
+    ensures size { result.0.size ≡ record { cores = cores; resources = resources; ticks = ticks } }
+    ensures seat { result.1.board ≡ result.0 }
+{
+    let Ok((board, seat)) = Board::new(alloc, cores, resources, ticks) else {
+        panic!(rt; "no board")
+    };
+    (board, seat)
+}
+
+/// Each core in turn, in each of so many ticks.
+fn run_laps(rt: &impl Abort, board: &Board, players: Vec<Player>, ticks: u32) -> Vec<Player>
+    requires { All (λ p. IsCoreSeatOn board.now p.seat) players.items × (board.now.size.resources ≡ 32) }
+    ensures { All (λ p. IsCoreSeatOn board.now p.seat) result.items }
+{
+    let mut players = players;
+    if players.len() > 8 {
+        panic!(rt; "more than eight cores");
+    }
+    for tick in 0..ticks {
+        lap_all(rt, board, players.as_mut_slice(), tick);
+    }
+    players
+}
+
+/// The longest run: each core has its own resource.
+#[test]
+fn longest_run_is_counted(rt: HostRuntime) -> Result<(), Fail> {
+    let (board, seat) = board_of(&rt, rt.alloc(), 8, 32, 20000);
+    let (players, mut rest) = deal(&rt, rt.alloc(), &board, seat, 8)?;
+    open(&rt, &board, &mut rest);
+    let players = run_laps(&rt, &board, players, 20000);
+    let all = gather(&board, players, rest);
+    let settled = end(&rt, board, 8, all);
+    for res in 0u32..32 {
+        let counts = if res < 8 { (10000, 10000) } else { (0, 0) };
+        assert_eq!(rt; settled.word(ResId(res)), counts);
+    }
+    Ok(())
 }
