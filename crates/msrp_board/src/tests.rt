@@ -1,13 +1,17 @@
 //! Boards that run, on one thread and on several. The calls below make sure at run time of what each call wants, by
 //! the seat's readers.
-ghost use Rattle.std.specs.Prelude.{◌≡◌, ◌<◌};
+ghost use Rattle.std.specs.Prelude.{◌≡◌, ◌<◌, ◌≤◌, length, IfOk, IfSome};
+ghost use Rattle.std.specs.List.{All};
+ghost use Rattle.std.specs.Thread.{IsSync};
 ghost use Rattle.msrp_board.specs.Boards.{IsCoreSeatOn};
 
 use super::*;
 use msrp_plan::{CoreId, Phase, ResId};
-use std::alloc::Global;
+use std::alloc::{AllocError, Global};
 use std::process::Abort;
 use std::test::*;
+use std::thread;
+use std::thread::Threads;
 
 fn ask(rt: &impl Abort, board: &Board, seat: &mut BoardSeat, res: ResId) -> Asked
     requires { IsCoreSeatOn board.now seat.old × (res.0 < board.now.size.resources) }
@@ -298,4 +302,352 @@ fn limits_are_judged(rt: HostRuntime) {
             }
         }
     }
+}
+
+/// A tick of a core that requests its resource in even ticks and releases it in odd ones.
+fn lap(rt: &impl Abort, board: &Board, seat: &mut BoardSeat, res: ResId, tick: u32)
+    requires { IsCoreSeatOn board.now seat.old × (res.0 < board.now.size.resources) }
+    ensures { IsCoreSeatOn board.now seat.new }
+{
+    enter(rt, board, seat);
+    if tick % 2 == 0 {
+        assert_eq!(rt; ask(rt, board, seat, res).ahead, 0);
+    } else {
+        leave(rt, board, seat);
+    }
+    arrive(rt, board, seat);
+}
+
+/// The seat of a core, and which core it is.
+#[derive(Drop)]
+struct Player {
+    seat: BoardSeat,
+    core: u32,
+    log: Vec<Answered>,
+}
+
+/// The cores' seats, and one with the other books.
+fn deal(
+    rt: &impl Abort,
+    alloc: Global,
+    board: &Board,
+    seat: BoardSeat,
+    cores: u32,
+) -> Result<(Vec<Player>, BoardSeat), AllocError>
+    requires { seat.board ≡ board.now }
+    ensures seats { IfOk result (λ r. All (λ p. IsCoreSeatOn board.now p.seat) r.0.items) }
+    ensures rest { IfOk result (λ r. r.1.board ≡ board.now) }
+{
+    let mut players = Vec::new(alloc);
+    let mut rest = seat;
+    for core in 0..cores {
+        let (own, others) = part(rt, board, rest, core);
+        rest = others;
+        players.push(Player {
+            seat: own,
+            core,
+            log: Vec::new(alloc),
+        })?;
+    }
+    Ok((players, rest))
+}
+
+/// One seat with the books of all.
+fn gather(board: &Board, mut players: Vec<Player>, rest: BoardSeat) -> BoardSeat
+    requires { All (λ p. IsCoreSeatOn board.now p.seat) players.items × (rest.board ≡ board.now) }
+    ensures { result.board ≡ board.now }
+{
+    let mut all = rest;
+    while let Some(player) = players.pop() {
+        all = board.join(all, player.seat);
+    }
+    all
+}
+
+/// Each core in turn, in each tick.
+fn lap_all(rt: &impl Abort, board: &Board, players: &mut [Player], tick: u32)
+    requires { All (λ p. IsCoreSeatOn board.now p.seat) players.old × (length players.old ≤ 8) × (board.now.size.resources ≡ 32) }
+    ensures { All (λ p. IsCoreSeatOn board.now p.seat) players.new }
+{
+    let mut core = 0;
+    while core < players.len() {
+        let seat = &mut players[core].seat;
+        lap(rt, board, seat, ResId(core as u32), tick);
+        core += 1;
+    }
+}
+
+/// A board and its first seat.
+fn board_of(
+    rt: &impl Abort,
+    alloc: Global,
+    cores: u32,
+    resources: u32,
+    ticks: u32,
+) -> (Board, BoardSeat)
+    ensures size { result.0.size ≡ record { cores = cores; resources = resources; ticks = ticks } }
+    ensures seat { result.1.board ≡ result.0 }
+{
+    let Ok((board, seat)) = Board::new(alloc, cores, resources, ticks) else {
+        panic!(rt; "no board")
+    };
+    (board, seat)
+}
+
+/// Each core in turn, in each of so many ticks.
+fn run_laps(rt: &impl Abort, board: &Board, players: Vec<Player>, ticks: u32) -> Vec<Player>
+    requires { All (λ p. IsCoreSeatOn board.now p.seat) players.items × (board.now.size.resources ≡ 32) }
+    ensures { All (λ p. IsCoreSeatOn board.now p.seat) result.items }
+{
+    let mut players = players;
+    if players.len() > 8 {
+        panic!(rt; "more than eight cores");
+    }
+    for tick in 0..ticks {
+        lap_all(rt, board, players.as_mut_slice(), tick);
+    }
+    players
+}
+
+/// The longest run: each core has its own resource.
+#[test]
+fn longest_run_is_counted(rt: HostRuntime) -> Result<(), Fail> {
+    let (board, seat) = board_of(&rt, rt.alloc(), 8, 32, 20000);
+    let (players, mut rest) = deal(&rt, rt.alloc(), &board, seat, 8)?;
+    open(&rt, &board, &mut rest);
+    let players = run_laps(&rt, &board, players, 20000);
+    let all = gather(&board, players, rest);
+    let settled = end(&rt, board, 8, all);
+    for res in 0u32..32 {
+        let counts = if res < 8 { (10000, 10000) } else { (0, 0) };
+        assert_eq!(rt; settled.word(ResId(res)), counts);
+    }
+    Ok(())
+}
+
+/// What a core was answered. The order is that of the history of its resource.
+#[derive(Clone, Copy, PartialEq, Eq, PartialOrd, Ord)]
+struct Answered {
+    res: u32,
+    place: u32,
+    is_step: bool,
+    tick: u32,
+    core: u32,
+    made: Made,
+}
+
+#[derive(Clone, Copy, PartialEq, Eq, PartialOrd, Ord)]
+enum Made {
+    Ask(u32),
+    Poll(bool),
+    Leave,
+}
+
+/// A source of numbers that look random (Knuth's multiplier).
+#[derive(Drop)]
+struct Numbers(u64);
+
+impl Numbers {
+    fn below(&mut self, bound: u32) -> u32
+        requires { 0 < bound }
+        ensures { result < bound }
+    {
+        self.0 = self
+            .0
+            .wrapping_mul(6364136223846793005)
+            .wrapping_add(1442695040888963407);
+        ((self.0 >> 33) % u64::from(bound)) as u32
+    }
+}
+
+/// What a core does in a tick to which it was let in, and what it was answered.
+fn act(
+    rt: &impl Abort,
+    board: &Board,
+    player: &mut Player,
+    numbers: &mut Numbers,
+) -> Option<Answered>
+    requires { IsCoreSeatOn board.now player.old.seat × (board.now.size.resources ≡ 3) }
+    ensures { IsCoreSeatOn board.now player.new.seat }
+{
+    let is_idle = numbers.below(4) == 0;
+    let tick = player.seat.tick();
+    let core = player.core;
+    let (res, place, made) = match player.seat.lock() {
+        _ if is_idle => return None,
+        Phase::Free => {
+            let res = ResId(numbers.below(3));
+            let asked = ask(rt, board, &mut player.seat, res);
+            (res, asked.place, Made::Ask(asked.ahead))
+        }
+        Phase::Queued(res) => {
+            let polled = poll(rt, board, &mut player.seat);
+            (res, polled.place, Made::Poll(polled.granted))
+        }
+        Phase::Holding(res) => (res, leave(rt, board, &mut player.seat), Made::Leave),
+    };
+    Some(Answered {
+        res: res.0,
+        place,
+        is_step: !matches!(made, Made::Poll(_)),
+        tick,
+        core,
+        made,
+    })
+}
+
+/// A core's run to its end, as long as the others come to the barrier within so many looks.
+fn play(rt: &impl Abort, board: &Board, player: Player) -> Option<Player>
+    requires { IsCoreSeatOn board.now player.seat × (board.now.size.resources ≡ 3) }
+    ensures { IfSome result (λ p. IsCoreSeatOn board.now p.seat) }
+{
+    let mut player = player;
+    let mut numbers = Numbers(u64::from(player.core));
+    for _ in 0u32..100_000_000 {
+        match player.seat.phase() {
+            SeatPhase::Waiting => {
+                if look(rt, board, &mut player.seat) == Look::Wait {
+                    thread::yield_now();
+                }
+            }
+            SeatPhase::Admitted => {
+                if let Some(answered) = act(rt, board, &mut player, &mut numbers) {
+                    player.log.push(answered).ok()?;
+                }
+                arrive(rt, board, &mut player.seat);
+            }
+            _ => break,
+        }
+    }
+    let phase = player.seat.phase();
+    assert_eq!(rt; phase, SeatPhase::Done);
+    Some(player)
+}
+
+/// Each core on a thread of its own.
+fn play_all<R: Threads + Abort + Sync>(
+    rt: &R,
+    board: &Board,
+    players: Vec<Player>,
+) -> Result<Vec<Option<Player>>, AllocError>
+    requires { All (λ p. IsCoreSeatOn board.now p.seat) players.items × (board.now.size.resources ≡ 3) }
+    ensures { IfOk result (λ v. All (λ o. IfSome o (λ p. IsCoreSeatOn board.now p.seat)) v.items) }
+{
+    thread::map_vec(
+        rt,
+        players,
+        &|player: Player| -> Option<Player>
+            requires { IsSync R.row × IsCoreSeatOn board.now player.seat × (board.now.size.resources ≡ 3) }
+            ensures { IfSome result (λ p. IsCoreSeatOn board.entry.now p.seat) }
+        { play(rt, board, player) },
+    )
+}
+
+/// A first-in-first-out lock, as one thread would keep it.
+#[derive(Drop)]
+struct Queue {
+    cores: Vec<u32>,
+    is_granted: bool,
+    tick: u32,
+    requests: u32,
+    releases: u32,
+}
+
+impl Queue {
+    /// Whether the lock answers so, which is then done.
+    fn answers(&mut self, answered: Answered) -> Result<bool, AllocError> {
+        let is_first = self.cores.first() == Some(&answered.core);
+        let place = self.requests.wrapping_add(self.releases);
+        let is_later = self.tick <= answered.tick;
+        self.tick = answered.tick;
+        let is_right = match answered.made {
+            Made::Ask(ahead) => {
+                let is_right = ahead as usize == self.cores.len()
+                    && !self.cores.contains(&answered.core);
+                self.cores.push(answered.core)?;
+                self.is_granted = self.is_granted || ahead == 0;
+                self.requests = self.requests.wrapping_add(1);
+                is_right
+            }
+            Made::Poll(true) => {
+                let is_right = is_first && !self.is_granted;
+                self.is_granted = true;
+                is_right
+            }
+            Made::Poll(false) => !is_first && self.cores.contains(&answered.core),
+            Made::Leave => {
+                let is_right = is_first && self.is_granted;
+                if !self.cores.is_empty() {
+                    self.cores.remove(0);
+                }
+                self.is_granted = false;
+                self.releases = self.releases.wrapping_add(1);
+                is_right
+            }
+        };
+        Ok(is_right && is_later && place == answered.place)
+    }
+}
+
+/// The answers on one resource are the lock's, and how many requests and releases there are.
+fn replay(alloc: Global, history: &[Answered], res: u32) -> Result<Option<(u32, u32)>, AllocError> {
+    let mut queue = Queue {
+        cores: Vec::new(alloc),
+        is_granted: false,
+        tick: 0,
+        requests: 0,
+        releases: 0,
+    };
+    for answered in history {
+        if answered.res == res && !queue.answers(*answered)? {
+            return Ok(None);
+        }
+    }
+    Ok(Some((queue.requests, queue.releases)))
+}
+
+/// One seat with the books of all that played.
+fn gather_played(
+    rt: &impl Abort,
+    board: &Board,
+    mut played: Vec<Option<Player>>,
+    rest: BoardSeat,
+) -> BoardSeat
+    requires { All (λ o. IfSome o (λ p. IsCoreSeatOn board.now p.seat)) played.items × (rest.board ≡ board.now) }
+    ensures { result.board ≡ board.now }
+{
+    let mut all = rest;
+    while let Some(one) = played.pop() {
+        let Some(player) = one else {
+            panic!(rt; "want of memory")
+        };
+        all = board.join(all, player.seat);
+    }
+    all
+}
+
+/// What eight threads were answered, in the order of the histories, is what one thread would have answered.
+#[test]
+fn answers_on_threads_are_a_queue(rt: HostRuntime) -> Result<(), Fail> {
+    let (board, seat) = board_of(&rt, rt.alloc(), 8, 3, 2000);
+    let (players, mut rest) = deal(&rt, rt.alloc(), &board, seat, 8)?;
+    open(&rt, &board, &mut rest);
+    let played = play_all(&rt, &board, players)?;
+    let mut history = Vec::new(rt.alloc());
+    for one in &played {
+        if let Some(player) = one {
+            for answered in &player.log {
+                history.push(*answered)?;
+            }
+        }
+    }
+    let all = gather_played(&rt, &board, played, rest);
+    let settled = end(&rt, board, 8, all);
+    history.sort()?;
+    assert!(rt; history.len() > 2000);
+    for res in 0u32..3 {
+        let counts = replay(rt.alloc(), &history, res)?;
+        assert_eq!(rt; counts, Some(settled.word(ResId(res))));
+    }
+    Ok(())
 }
