@@ -626,14 +626,21 @@ fn gather_played(
     all
 }
 
-/// What eight threads were answered, in the order of the histories, is what one thread would have answered.
-#[test]
-fn answers_on_threads_are_a_queue(rt: HostRuntime) -> Result<(), Fail> {
-    let (board, seat) = board_of(&rt, rt.alloc(), 8, 3, 2000);
-    let (players, mut rest) = deal(&rt, rt.alloc(), &board, seat, 8)?;
-    open(&rt, &board, &mut rest);
-    let played = play_all(&rt, &board, players)?;
-    let mut history = Vec::new(rt.alloc());
+/// What threads were answered, one for each core, in the order of the histories, is what one thread would have
+/// answered. Of each core there are so many answers at least.
+fn check_threads<R: Threads + Abort + Sync>(
+    rt: &R,
+    alloc: Global,
+    cores: u32,
+    ticks: u32,
+) -> Result<(), Fail>
+    requires { (1 ≤ cores) × (cores ≤ 8) × (1 ≤ ticks) × (ticks ≤ 20000) }
+{
+    let (board, seat) = board_of(rt, alloc, cores, 3, ticks);
+    let (players, mut rest) = deal(rt, alloc, &board, seat, cores)?;
+    open(rt, &board, &mut rest);
+    let played = play_all(rt, &board, players)?;
+    let mut history = Vec::new(alloc);
     for one in &played {
         if let Some(player) = one {
             for answered in &player.log {
@@ -641,13 +648,23 @@ fn answers_on_threads_are_a_queue(rt: HostRuntime) -> Result<(), Fail> {
             }
         }
     }
-    let all = gather_played(&rt, &board, played, rest);
-    let settled = end(&rt, board, 8, all);
+    let all = gather_played(rt, &board, played, rest);
+    let settled = end(rt, board, cores, all);
     history.sort()?;
-    assert!(rt; history.len() > 2000);
+    assert!(rt; history.len() > ticks as usize);
     for res in 0u32..3 {
-        let counts = replay(rt.alloc(), &history, res)?;
+        let counts = replay(alloc, &history, res)?;
         assert_eq!(rt; counts, Some(settled.word(ResId(res))));
     }
     Ok(())
+}
+
+#[test]
+fn two_threads_are_answered_as_by_a_queue(rt: HostRuntime) -> Result<(), Fail> {
+    check_threads(&rt, rt.alloc(), 2, 500)
+}
+
+#[test]
+fn eight_threads_are_answered_as_by_a_queue(rt: HostRuntime) -> Result<(), Fail> {
+    check_threads(&rt, rt.alloc(), 8, 2000)
 }
