@@ -1,9 +1,34 @@
 use super::PlanBuilder;
 use crate::faults::PlanFault;
 use crate::ids::{CoreId, JobId, JobKey, ResId, TaskId};
+use crate::plans::Plan;
 use crate::units::{Op, Step};
 use std::alloc::Global;
 use std::test::Fail;
+
+// The calls as they are, so that a test relies on what it sees and not on their contracts.
+
+fn new(alloc: Global, cores: u32, ticks: u32) -> Result<PlanBuilder, PlanFault> {
+    PlanBuilder::new(alloc, cores, ticks)
+}
+
+fn resource(builder: &mut PlanBuilder, name: &str) -> Result<ResId, PlanFault> {
+    builder.resource(name)
+}
+
+fn task(
+    builder: &mut PlanBuilder,
+    name: &str,
+    core: u32,
+    times: [u32; 3],
+) -> Result<TaskId, PlanFault> {
+    let [period, deadline, offset] = times;
+    builder.task(name, CoreId(core), period, deadline, offset)
+}
+
+fn finish(builder: PlanBuilder) -> Result<Plan, (PlanBuilder, PlanFault)> {
+    builder.finish()
+}
 
 // Tells the steps to a builder, up to the first that is refused.
 fn told(builder: &mut PlanBuilder, steps: &[Step]) -> Result<(), PlanFault> {
@@ -17,10 +42,10 @@ fn told(builder: &mut PlanBuilder, steps: &[Step]) -> Result<(), PlanFault> {
 
 // A builder of two cores and ten ticks, with the resources g and h and the task a, which has these units.
 fn started(alloc: Global, steps: &[Step]) -> Result<PlanBuilder, PlanFault> {
-    let mut builder = PlanBuilder::new(alloc, 2, 10)?;
-    builder.resource("g")?;
-    builder.resource("h")?;
-    builder.task("a", CoreId(0), 4, 5, 1)?;
+    let mut builder = new(alloc, 2, 10)?;
+    resource(&mut builder, "g")?;
+    resource(&mut builder, "h")?;
+    task(&mut builder, "a", 0, [4, 5, 1])?;
     told(&mut builder, steps)?;
     Ok(builder)
 }
@@ -42,12 +67,7 @@ fn task_fault(
     times: [u32; 3],
 ) -> Option<PlanFault> {
     match started(alloc, steps) {
-        Ok(mut builder) => {
-            let [period, deadline, offset] = times;
-            builder
-                .task(name, CoreId(core), period, deadline, offset)
-                .err()
-        }
+        Ok(mut builder) => task(&mut builder, name, core, times).err(),
         Err(fault) => Some(fault),
     }
 }
@@ -55,7 +75,7 @@ fn task_fault(
 // The fault of the end, after these steps.
 fn end_fault(alloc: Global, steps: &[Step]) -> Option<PlanFault> {
     match started(alloc, steps) {
-        Ok(builder) => match builder.finish() {
+        Ok(builder) => match finish(builder) {
             Ok(_) => None,
             Err((_, fault)) => Some(fault),
         },
@@ -65,18 +85,23 @@ fn end_fault(alloc: Global, steps: &[Step]) -> Option<PlanFault> {
 
 // A builder with so many resources, r0 and up.
 fn with_resources(alloc: Global, count: u32) -> Result<PlanBuilder, PlanFault> {
-    let mut builder = PlanBuilder::new(alloc, 1, 1)?;
+    let mut builder = new(alloc, 1, 1)?;
     for number in 0..count {
-        builder.resource(format!(in alloc; "r{number}")?.as_str())?;
+        resource(&mut builder, format!(in alloc; "r{number}")?.as_str())?;
     }
     Ok(builder)
 }
 
 // A builder with so many tasks of one unit, t0 and up.
 fn with_tasks(alloc: Global, count: u32) -> Result<PlanBuilder, PlanFault> {
-    let mut builder = PlanBuilder::new(alloc, 1, 1)?;
+    let mut builder = new(alloc, 1, 1)?;
     for number in 0..count {
-        builder.task(format!(in alloc; "t{number}")?.as_str(), CoreId(0), 1, 1, 0)?;
+        task(
+            &mut builder,
+            format!(in alloc; "t{number}")?.as_str(),
+            0,
+            [1, 1, 0],
+        )?;
         told(&mut builder, &[Step::Run(1)])?;
     }
     Ok(builder)
@@ -84,11 +109,11 @@ fn with_tasks(alloc: Global, count: u32) -> Result<PlanBuilder, PlanFault> {
 
 // The fault of a task of two cores' resource g, of which a locks h inside where it is asked to, at so many ticks.
 fn global_fault(alloc: Global, nested: Step, ticks: u32) -> Result<Option<PlanFault>, PlanFault> {
-    let mut builder = PlanBuilder::new(alloc, 2, ticks)?;
-    builder.resource("g")?;
-    builder.resource("h")?;
+    let mut builder = new(alloc, 2, ticks)?;
+    resource(&mut builder, "g")?;
+    resource(&mut builder, "h")?;
     for (name, core) in [("a", 0u32), ("b", 1)] {
-        builder.task(name, CoreId(core), 1, 1, 0)?;
+        task(&mut builder, name, core, [1, 1, 0])?;
         let steps = [
             Step::Lock(ResId(0)),
             nested,
@@ -98,7 +123,7 @@ fn global_fault(alloc: Global, nested: Step, ticks: u32) -> Result<Option<PlanFa
         ];
         told(&mut builder, &steps)?;
     }
-    match builder.finish() {
+    match finish(builder) {
         Ok(_) => Ok(None),
         Err((_, fault)) => Ok(Some(fault)),
     }
@@ -110,10 +135,10 @@ fn numbers_are_read_back(rt: HostRuntime) -> Result<(), Fail> {
     let mut builder = started(rt.alloc(), &steps)?;
     assert_eq!(rt; builder.res_of("h"), Some(ResId(1)));
     assert_eq!(rt; builder.res_of("a"), None);
-    assert_eq!(rt; builder.task("b", CoreId(1), 7, 3, 2)?, TaskId(1));
+    assert_eq!(rt; task(&mut builder, "b", 1, [7, 3, 2])?, TaskId(1));
     told(&mut builder, &[Step::Run(1)])?;
     assert_eq!(rt; builder.tasks(), 2);
-    let Ok(plan) = builder.finish() else {
+    let Ok(plan) = finish(builder) else {
         return Err(Fail::from("the plan is refused"));
     };
     assert_eq!(rt; plan.cores(), 2);
@@ -131,7 +156,7 @@ fn numbers_are_read_back(rt: HostRuntime) -> Result<(), Fail> {
 #[test]
 fn names_and_units_are_read_back(rt: HostRuntime) -> Result<(), Fail> {
     let steps = [Step::Lock(ResId(1)), Step::Run(2), Step::Unlock(ResId(1))];
-    let Ok(plan) = started(rt.alloc(), &steps)?.finish() else {
+    let Ok(plan) = finish(started(rt.alloc(), &steps)?) else {
         return Err(Fail::from("the plan is refused"));
     };
     assert!(rt; plan.tasks() == 1);
@@ -150,7 +175,7 @@ fn names_and_units_are_read_back(rt: HostRuntime) -> Result<(), Fail> {
 
 #[test]
 fn jobs_are_read_back(rt: HostRuntime) -> Result<(), Fail> {
-    let Ok(plan) = started(rt.alloc(), &[Step::Run(1)])?.finish() else {
+    let Ok(plan) = finish(started(rt.alloc(), &[Step::Run(1)])?) else {
         return Err(Fail::from("the plan is refused"));
     };
     assert!(rt; plan.tasks() == 1);
@@ -173,12 +198,9 @@ fn jobs_are_read_back(rt: HostRuntime) -> Result<(), Fail> {
 fn plans_and_resources_are_refused(rt: HostRuntime) -> Result<(), Fail> {
     let alloc = rt.alloc();
     for (cores, ticks) in [(0u32, 1u32), (9, 1), (1, 0), (1, 20_001)] {
-        assert_eq!(rt;
-            PlanBuilder::new(alloc, cores, ticks).err(),
-            Some(PlanFault::Limit)
-        );
+        assert_eq!(rt; new(alloc, cores, ticks).err(), Some(PlanFault::Limit));
     }
-    assert!(rt; PlanBuilder::new(alloc, 8, 20_000).is_ok());
+    assert!(rt; new(alloc, 8, 20_000).is_ok());
     let full = [
         ("", PlanFault::Name),
         ("R", PlanFault::Name),
@@ -187,16 +209,16 @@ fn plans_and_resources_are_refused(rt: HostRuntime) -> Result<(), Fail> {
     ];
     for (name, fault) in full {
         assert_eq!(rt;
-            with_resources(alloc, 32)?.resource(name).err(),
+            resource(&mut with_resources(alloc, 32)?, name).err(),
             Some(fault)
         );
     }
     for name in ["a_9", "sixteen_letters_"] {
-        assert_eq!(rt; with_resources(alloc, 31)?.resource(name)?, ResId(31));
+        assert_eq!(rt; resource(&mut with_resources(alloc, 31)?, name)?, ResId(31));
     }
     for name in ["1a", "_a", "a b", "seventeen_letters"] {
         assert_eq!(rt;
-            with_resources(alloc, 0)?.resource(name).err(),
+            resource(&mut with_resources(alloc, 0)?, name).err(),
             Some(PlanFault::Name)
         );
     }
@@ -235,7 +257,7 @@ fn tasks_are_refused(rt: HostRuntime) -> Result<(), Fail> {
         ("t64", 0, PlanFault::Limit),
     ] {
         let mut full = with_tasks(alloc, 64)?;
-        assert_eq!(rt; full.task(name, CoreId(core), 1, 1, 0).err(), Some(fault));
+        assert_eq!(rt; task(&mut full, name, core, [1, 1, 0]).err(), Some(fault));
     }
     Ok(())
 }
@@ -270,7 +292,7 @@ fn steps_are_refused(rt: HostRuntime) -> Result<(), Fail> {
         (Step::Lock(ResId(8)), PlanFault::Limit),
     ] {
         let mut builder = with_resources(alloc, 9)?;
-        builder.task("a", CoreId(0), 1, 1, 0)?;
+        task(&mut builder, "a", 0, [1, 1, 0])?;
         for number in 0..8u32 {
             told(&mut builder, &[Step::Lock(ResId(number))])?;
         }
@@ -294,10 +316,10 @@ fn ends_are_refused(rt: HostRuntime) -> Result<(), Fail> {
         Some(PlanFault::NestedGlobal)
     );
     for (ticks, fault) in [(8_192u32, None), (8_193, Some(PlanFault::Jobs))] {
-        let mut builder = PlanBuilder::new(alloc, 1, ticks)?;
-        builder.task("a", CoreId(0), 1, 1, 0)?;
+        let mut builder = new(alloc, 1, ticks)?;
+        task(&mut builder, "a", 0, [1, 1, 0])?;
         told(&mut builder, &[Step::Run(1)])?;
-        assert_eq!(rt; builder.finish().err().map(|refused| refused.1), fault);
+        assert_eq!(rt; finish(builder).err().map(|refused| refused.1), fault);
     }
     Ok(())
 }
@@ -305,18 +327,18 @@ fn ends_are_refused(rt: HostRuntime) -> Result<(), Fail> {
 #[test]
 fn a_refused_builder_goes_on(rt: HostRuntime) -> Result<(), Fail> {
     let mut builder = started(rt.alloc(), &[Step::Lock(ResId(0))])?;
-    assert_eq!(rt; builder.resource("g").err(), Some(PlanFault::Taken));
+    assert_eq!(rt; resource(&mut builder, "g").err(), Some(PlanFault::Taken));
     assert_eq!(rt;
         told(&mut builder, &[Step::Unlock(ResId(1))]).err(),
         Some(PlanFault::Nesting)
     );
-    let Err((mut builder, fault)) = builder.finish() else {
+    let Err((mut builder, fault)) = finish(builder) else {
         return Err(Fail::from("the plan is accepted"));
     };
     assert_eq!(rt; fault, PlanFault::Nesting);
-    assert_eq!(rt; builder.resource("i")?, ResId(2));
+    assert_eq!(rt; resource(&mut builder, "i")?, ResId(2));
     told(&mut builder, &[Step::Unlock(ResId(0))])?;
-    let Ok(plan) = builder.finish() else {
+    let Ok(plan) = finish(builder) else {
         return Err(Fail::from("the plan is refused"));
     };
     assert_eq!(rt; plan.resources(), 3);
