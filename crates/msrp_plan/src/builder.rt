@@ -9,6 +9,9 @@ ghost use Rattle.msrp_plan.specs.Marks.{AreGlobals, holds_one_after, is_marked, 
 ghost use Rattle.msrp_plan.specs.Names.{has_name, name_position};
 ghost use Rattle.msrp_plan.specs.Building.{IsJudged, judged, finished, empty_plan, new_task, new_fault, resource_fault, task_fault, op_fault, end_fault, finish_fault, is_in_range, is_undeclared, is_misnested, is_too_much, nests_global, newest_units, with_resource, with_task, with_units, with_newest, units_of};
 
+#[cfg(test)]
+mod tests;
+
 use crate::faults::PlanFault;
 use crate::ids::{CoreId, ResId, TaskId};
 use crate::limits::{

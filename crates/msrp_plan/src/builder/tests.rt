@@ -1,0 +1,348 @@
+use super::PlanBuilder;
+use crate::faults::PlanFault;
+use crate::ids::{CoreId, JobId, JobKey, ResId, TaskId};
+use crate::plans::Plan;
+use crate::units::{Op, Step};
+use std::alloc::Global;
+use std::test::Fail;
+
+// The calls as they are, so that a test relies on what it sees and not on their contracts.
+
+fn new(alloc: Global, cores: u32, ticks: u32) -> Result<PlanBuilder, PlanFault> {
+    PlanBuilder::new(alloc, cores, ticks)
+}
+
+fn resource(builder: &mut PlanBuilder, name: &str) -> Result<ResId, PlanFault> {
+    builder.resource(name)
+}
+
+fn task(
+    builder: &mut PlanBuilder,
+    name: &str,
+    core: u32,
+    times: [u32; 3],
+) -> Result<TaskId, PlanFault> {
+    let [period, deadline, offset] = times;
+    builder.task(name, CoreId(core), period, deadline, offset)
+}
+
+fn finish(builder: PlanBuilder) -> Result<Plan, (PlanBuilder, PlanFault)> {
+    builder.finish()
+}
+
+// Tells the steps to a builder, up to the first that is refused.
+fn told(builder: &mut PlanBuilder, steps: &[Step]) -> Result<(), PlanFault> {
+    for step in steps {
+        if builder.tasks() > 0 {
+            builder.op(*step)?;
+        }
+    }
+    Ok(())
+}
+
+// A builder of two cores and ten ticks, with the resources g and h and the task a, which has these units.
+fn started(alloc: Global, steps: &[Step]) -> Result<PlanBuilder, PlanFault> {
+    let mut builder = new(alloc, 2, 10)?;
+    resource(&mut builder, "g")?;
+    resource(&mut builder, "h")?;
+    task(&mut builder, "a", 0, [4, 5, 1])?;
+    told(&mut builder, steps)?;
+    Ok(builder)
+}
+
+// The fault of one more step, after these.
+fn step_fault(alloc: Global, steps: &[Step], step: Step) -> Option<PlanFault> {
+    match started(alloc, steps) {
+        Ok(mut builder) => told(&mut builder, &[step]).err(),
+        Err(fault) => Some(fault),
+    }
+}
+
+// The fault of one more task, after the task a with these units.
+fn task_fault(
+    alloc: Global,
+    steps: &[Step],
+    name: &str,
+    core: u32,
+    times: [u32; 3],
+) -> Option<PlanFault> {
+    match started(alloc, steps) {
+        Ok(mut builder) => task(&mut builder, name, core, times).err(),
+        Err(fault) => Some(fault),
+    }
+}
+
+// The fault of the end, after these steps.
+fn end_fault(alloc: Global, steps: &[Step]) -> Option<PlanFault> {
+    match started(alloc, steps) {
+        Ok(builder) => match finish(builder) {
+            Ok(_) => None,
+            Err((_, fault)) => Some(fault),
+        },
+        Err(fault) => Some(fault),
+    }
+}
+
+// A builder with so many resources, r0 and up.
+fn with_resources(alloc: Global, count: u32) -> Result<PlanBuilder, PlanFault> {
+    let mut builder = new(alloc, 1, 1)?;
+    for number in 0..count {
+        resource(&mut builder, format!(in alloc; "r{number}")?.as_str())?;
+    }
+    Ok(builder)
+}
+
+// A builder with so many tasks of one unit, t0 and up.
+fn with_tasks(alloc: Global, count: u32) -> Result<PlanBuilder, PlanFault> {
+    let mut builder = new(alloc, 1, 1)?;
+    for number in 0..count {
+        task(
+            &mut builder,
+            format!(in alloc; "t{number}")?.as_str(),
+            0,
+            [1, 1, 0],
+        )?;
+        told(&mut builder, &[Step::Run(1)])?;
+    }
+    Ok(builder)
+}
+
+// The fault of a task of two cores' resource g, of which a locks h inside where it is asked to, at so many ticks.
+fn global_fault(alloc: Global, nested: Step, ticks: u32) -> Result<Option<PlanFault>, PlanFault> {
+    let mut builder = new(alloc, 2, ticks)?;
+    resource(&mut builder, "g")?;
+    resource(&mut builder, "h")?;
+    for (name, core) in [("a", 0u32), ("b", 1)] {
+        task(&mut builder, name, core, [1, 1, 0])?;
+        let steps = [
+            Step::Lock(ResId(0)),
+            nested,
+            Step::Run(1),
+            Step::Unlock(ResId(1)),
+            Step::Unlock(ResId(0)),
+        ];
+        told(&mut builder, &steps)?;
+    }
+    match finish(builder) {
+        Ok(_) => Ok(None),
+        Err((_, fault)) => Ok(Some(fault)),
+    }
+}
+
+#[test]
+fn numbers_are_read_back(rt: HostRuntime) -> Result<(), Fail> {
+    let steps = [Step::Lock(ResId(1)), Step::Run(2), Step::Unlock(ResId(1))];
+    let mut builder = started(rt.alloc(), &steps)?;
+    assert_eq!(rt; builder.res_of("h"), Some(ResId(1)));
+    assert_eq!(rt; builder.res_of("a"), None);
+    assert_eq!(rt; task(&mut builder, "b", 1, [7, 3, 2])?, TaskId(1));
+    told(&mut builder, &[Step::Run(1)])?;
+    assert_eq!(rt; builder.tasks(), 2);
+    let Ok(plan) = finish(builder) else {
+        return Err(Fail::from("the plan is refused"));
+    };
+    assert_eq!(rt; plan.cores(), 2);
+    assert_eq!(rt; plan.ticks(), 10);
+    assert!(rt; plan.tasks() == 2);
+    assert_eq!(rt; plan.core_of(TaskId(1)), CoreId(1));
+    assert_eq!(rt; plan.period(TaskId(1)), 7);
+    assert_eq!(rt; plan.deadline(TaskId(1)), 3);
+    assert_eq!(rt; plan.offset(TaskId(1)), 2);
+    assert_eq!(rt; plan.jobs(TaskId(0)), 3);
+    assert_eq!(rt; plan.jobs(TaskId(1)), 2);
+    Ok(())
+}
+
+#[test]
+fn names_and_units_are_read_back(rt: HostRuntime) -> Result<(), Fail> {
+    let steps = [Step::Lock(ResId(1)), Step::Run(2), Step::Unlock(ResId(1))];
+    let Ok(plan) = finish(started(rt.alloc(), &steps)?) else {
+        return Err(Fail::from("the plan is refused"));
+    };
+    assert!(rt; plan.tasks() == 1);
+    assert!(rt; plan.resources() == 2);
+    assert_eq!(rt; plan.task_name(TaskId(0)), "a");
+    assert_eq!(rt; plan.res_name(ResId(1)), "h");
+    assert_eq!(rt; plan.task_of("a"), Some(TaskId(0)));
+    assert_eq!(rt; plan.task_of("g"), None);
+    assert_eq!(rt; plan.res_of("h"), Some(ResId(1)));
+    assert!(rt; plan.units(TaskId(0)) == 4);
+    assert_eq!(rt; plan.unit(TaskId(0), 0), Op::Lock(ResId(1)));
+    assert_eq!(rt; plan.unit(TaskId(0), 2), Op::Run);
+    assert_eq!(rt; plan.unit(TaskId(0), 3), Op::Unlock(ResId(1)));
+    Ok(())
+}
+
+#[test]
+fn jobs_are_read_back(rt: HostRuntime) -> Result<(), Fail> {
+    let Ok(plan) = finish(started(rt.alloc(), &[Step::Run(1)])?) else {
+        return Err(Fail::from("the plan is refused"));
+    };
+    assert!(rt; plan.tasks() == 1);
+    let job = JobId {
+        task: TaskId(0),
+        k: 2,
+    };
+    let key = JobKey {
+        deadline: 14,
+        release: 9,
+        task: 0,
+        k: 2,
+    };
+    assert_eq!(rt; plan.release(job), 9);
+    assert_eq!(rt; plan.job_key(job), key);
+    Ok(())
+}
+
+#[test]
+fn plans_and_resources_are_refused(rt: HostRuntime) -> Result<(), Fail> {
+    let alloc = rt.alloc();
+    for (cores, ticks) in [(0u32, 1u32), (9, 1), (1, 0), (1, 20_001)] {
+        assert_eq!(rt; new(alloc, cores, ticks).err(), Some(PlanFault::Limit));
+    }
+    assert!(rt; new(alloc, 8, 20_000).is_ok());
+    let full = [
+        ("", PlanFault::Name),
+        ("R", PlanFault::Name),
+        ("r1", PlanFault::Taken),
+        ("fresh", PlanFault::Limit),
+    ];
+    for (name, fault) in full {
+        assert_eq!(rt;
+            resource(&mut with_resources(alloc, 32)?, name).err(),
+            Some(fault)
+        );
+    }
+    for name in ["a_9", "sixteen_letters_"] {
+        assert_eq!(rt; resource(&mut with_resources(alloc, 31)?, name)?, ResId(31));
+    }
+    for name in ["1a", "_a", "a b", "seventeen_letters"] {
+        assert_eq!(rt;
+            resource(&mut with_resources(alloc, 0)?, name).err(),
+            Some(PlanFault::Name)
+        );
+    }
+    Ok(())
+}
+
+#[test]
+fn tasks_are_refused(rt: HostRuntime) -> Result<(), Fail> {
+    let alloc = rt.alloc();
+    let holding = [Step::Run(1), Step::Lock(ResId(0))];
+    let rows = [
+        (0usize, "B", 9u32, [0u32, 0, 0], PlanFault::NoUnit),
+        (2, "B", 9, [0, 0, 0], PlanFault::Nesting),
+        (1, "B", 9, [0, 0, 0], PlanFault::Name),
+        (1, "a", 9, [0, 0, 0], PlanFault::Taken),
+        (1, "b", 2, [0, 0, 0], PlanFault::Core),
+        (1, "b", 1, [0, 1, 0], PlanFault::Limit),
+        (1, "b", 1, [1, 0, 0], PlanFault::Limit),
+        (1, "b", 1, [1_000_001, 1, 0], PlanFault::Limit),
+        (1, "b", 1, [1, 1_000_001, 0], PlanFault::Limit),
+        (1, "b", 1, [1, 1, 1_000_001], PlanFault::Limit),
+    ];
+    for (count, name, core, times, fault) in rows {
+        let steps = &holding[..count.min(2)];
+        assert_eq!(rt;
+            task_fault(alloc, steps, name, core, times),
+            Some(fault),
+            "{name}"
+        );
+    }
+    let greatest = [1_000_000, 1_000_000, 1_000_000];
+    assert_eq!(rt; task_fault(alloc, &holding[..1], "g", 1, greatest), None);
+    for (name, core, fault) in [
+        ("t1", 9u32, PlanFault::Taken),
+        ("t64", 9, PlanFault::Core),
+        ("t64", 0, PlanFault::Limit),
+    ] {
+        let mut full = with_tasks(alloc, 64)?;
+        assert_eq!(rt; task(&mut full, name, core, [1, 1, 0]).err(), Some(fault));
+    }
+    Ok(())
+}
+
+#[test]
+fn steps_are_refused(rt: HostRuntime) -> Result<(), Fail> {
+    let alloc = rt.alloc();
+    let both = [Step::Lock(ResId(0)), Step::Lock(ResId(1)), Step::Run(4_094)];
+    let rows = [
+        (0usize, Step::Lock(ResId(2)), PlanFault::Undeclared),
+        (3, Step::Unlock(ResId(u32::MAX)), PlanFault::Undeclared),
+        (1, Step::Lock(ResId(0)), PlanFault::Nesting),
+        (0, Step::Unlock(ResId(0)), PlanFault::Nesting),
+        (2, Step::Unlock(ResId(0)), PlanFault::Nesting),
+        (3, Step::Lock(ResId(1)), PlanFault::Nesting),
+        (3, Step::Unlock(ResId(1)), PlanFault::Limit),
+        (3, Step::Run(1), PlanFault::Limit),
+        (0, Step::Run(0), PlanFault::Limit),
+        (0, Step::Run(4_097), PlanFault::Limit),
+        (0, Step::Run(u32::MAX), PlanFault::Limit),
+    ];
+    for (count, step, fault) in rows {
+        assert_eq!(rt;
+            step_fault(alloc, &both[..count.min(3)], step),
+            Some(fault),
+            "{step:?}"
+        );
+    }
+    assert_eq!(rt; step_fault(alloc, &[], Step::Run(4_096)), None);
+    for (step, fault) in [
+        (Step::Lock(ResId(7)), PlanFault::Nesting),
+        (Step::Lock(ResId(8)), PlanFault::Limit),
+    ] {
+        let mut builder = with_resources(alloc, 9)?;
+        task(&mut builder, "a", 0, [1, 1, 0])?;
+        for number in 0..8u32 {
+            told(&mut builder, &[Step::Lock(ResId(number))])?;
+        }
+        assert_eq!(rt; told(&mut builder, &[step]).err(), Some(fault));
+    }
+    Ok(())
+}
+
+#[test]
+fn ends_are_refused(rt: HostRuntime) -> Result<(), Fail> {
+    let alloc = rt.alloc();
+    let nested = Step::Lock(ResId(1));
+    assert_eq!(rt; end_fault(alloc, &[]), Some(PlanFault::NoUnit));
+    assert_eq!(rt; end_fault(alloc, &[nested]), Some(PlanFault::Nesting));
+    assert_eq!(rt;
+        global_fault(alloc, nested, 1)?,
+        Some(PlanFault::NestedGlobal)
+    );
+    assert_eq!(rt;
+        global_fault(alloc, nested, 20_000)?,
+        Some(PlanFault::NestedGlobal)
+    );
+    for (ticks, fault) in [(8_192u32, None), (8_193, Some(PlanFault::Jobs))] {
+        let mut builder = new(alloc, 1, ticks)?;
+        task(&mut builder, "a", 0, [1, 1, 0])?;
+        told(&mut builder, &[Step::Run(1)])?;
+        assert_eq!(rt; finish(builder).err().map(|refused| refused.1), fault);
+    }
+    Ok(())
+}
+
+#[test]
+fn a_refused_builder_goes_on(rt: HostRuntime) -> Result<(), Fail> {
+    let mut builder = started(rt.alloc(), &[Step::Lock(ResId(0))])?;
+    assert_eq!(rt; resource(&mut builder, "g").err(), Some(PlanFault::Taken));
+    assert_eq!(rt;
+        told(&mut builder, &[Step::Unlock(ResId(1))]).err(),
+        Some(PlanFault::Nesting)
+    );
+    let Err((mut builder, fault)) = finish(builder) else {
+        return Err(Fail::from("the plan is accepted"));
+    };
+    assert_eq!(rt; fault, PlanFault::Nesting);
+    assert_eq!(rt; resource(&mut builder, "i")?, ResId(2));
+    told(&mut builder, &[Step::Unlock(ResId(0))])?;
+    let Ok(plan) = finish(builder) else {
+        return Err(Fail::from("the plan is refused"));
+    };
+    assert_eq!(rt; plan.resources(), 3);
+    assert!(rt; plan.tasks() == 1);
+    assert_eq!(rt; plan.units(TaskId(0)), 2);
+    Ok(())
+}
