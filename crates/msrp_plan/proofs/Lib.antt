@@ -32,6 +32,10 @@ pub mod Overtaking
 pub mod Users
 pub mod LocalLocks
 pub mod Exclusion
+pub mod SectionWork
+pub mod QueueWork
+pub mod Spins
+pub mod SpinBound
 pub mod Verdicts
 pub mod ReplyLocality
 pub mod Nesting

@@ -104,7 +104,7 @@ one_at_most true = omega arith
 one_at_most false = omega arith
 
 -- a grant that is not x's is a row of another job
-not_mine : (x : JobId) (g : ℕ) (r : Row) → is_on g r.res ≡ true → is_grant r.kind ≡ true → is_grant_of x g r ≡ false → is_row_of x r ≡ false
+pub not_mine : (x : JobId) (g : ℕ) (r : Row) → is_on g r.res ≡ true → is_grant r.kind ≡ true → is_grant_of x g r ≡ false → is_row_of x r ≡ false
 not_mine x g r on k non =
     false_from_ne_true (is_row_of x r) (λ e.
     true≢false (sym (ap (λ c. c && (is_on g r.res && is_grant r.kind)) e ∙ (ap (λ c. c && is_grant r.kind) on ∙ k)) ∙ non))

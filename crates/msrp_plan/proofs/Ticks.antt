@@ -138,3 +138,14 @@ tick_push plan t pre r k h =
 -- before the first row
 pub tick_none : (plan : PlanModel) → 0 < plan.cores → IsTick plan 0 []
 tick_none plan l = record { count = omega arith; low = l; later = λ u h. refl; apart = tt; cores = tt }
+
+-- in a tick that has not begun no core has had its turn
+pub fresh : (t : ℕ) (pre : List Row) (n : ℕ) → rows_in t pre ≡ [] → turned t pre n ≡ false
+fresh t pre n e = ap (list_any (λ w. w.core.0 == n)) e
+
+-- ---- some tick stands at each place
+abbrev pub AnyTick : PlanModel → List Row → Type 0
+AnyTick plan pre = (t : ℕ) × IsTick plan t pre
+
+pub any_tick_push : (plan : PlanModel) (pre : List Row) (r : Row) → AnyTick plan pre → IsLegal plan pre r → AnyTick plan (pre ++ r ∷ [])
+any_tick_push plan pre r k h = elim (tick_push plan k.0 pre r k.1 h) [ inl s ↦ (k.0, s) | inr n ↦ (k.0 + 1, n.0) ]

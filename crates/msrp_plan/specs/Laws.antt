@@ -6,10 +6,11 @@ use Rattle.msrp_plan.specs.Jobs.{is_row_of, holds}
 use Rattle.msrp_plan.specs.Queues.{is_on}
 use Rattle.msrp_plan.specs.Runs.{EachAfter, IsRun}
 use Rattle.msrp_plan.specs.WellFormed.{IsPlan}
+use Rattle.msrp_plan.specs.Bounds.{spin_bound}
 use Rattle.msrp_plan.specs.declared.ids.JobId.{JobId}
 use Rattle.msrp_plan.specs.declared.ids.ResId.{ResId}
 use Rattle.msrp_plan.specs.declared.rows.Kind.{Kind}
-use Rattle.msrp_plan.specs.declared.rows.Kind.TheVariants.{Lock, Take, Queue, Grant}
+use Rattle.msrp_plan.specs.declared.rows.Kind.TheVariants.{Lock, Take, Queue, Grant, Spin}
 use Rattle.msrp_plan.specs.declared.rows.Row.{Row}
 
 -- ---- no local blocking
@@ -49,6 +50,14 @@ is_grant _ = false
 abbrev pub is_grant_of : JobId → ℕ → Row → Bool
 is_grant_of j g r = is_row_of j r && (is_on g r.res && is_grant r.kind)
 
+abbrev pub is_spin : Kind → Bool
+is_spin Spin = true
+is_spin _ = false
+
+-- a row in which the job polls in vain
+abbrev pub is_spin_of : JobId → ℕ → Row → Bool
+is_spin_of j g r = is_row_of j r && (is_on g r.res && is_spin r.kind)
+
 -- a wait: in row r job j joins the queue of the resource, and in none of the rows since is it granted it
 pub record IsWait (r : Row) (since : List Row) (j : JobId) (g : ℕ) : Type 0 where
   pub job : r.job ≡ Some j
@@ -62,6 +71,13 @@ abbrev pub BoundedOvertaking : PlanModel → List Row → Type 0
 BoundedOvertaking plan rows =
     (pre : List Row) (r : Row) (since post : List Row) (j : JobId) (g : ℕ) → rows ≡ pre ++ r ∷ (since ++ post) → IsWait r since j g → count_by (is_admission g) since ≤ plan.cores - 1
 
+-- ---- bounded spinning
+-- in one wait for a global resource a job spins no more often than the bound of its core (Gai, Lipari and Di
+-- Natale 2001, section 4)
+abbrev pub BoundedSpinning : PlanModel → List Row → Type 0
+BoundedSpinning plan rows =
+    (pre : List Row) (r : Row) (since post : List Row) (j : JobId) (g : ℕ) → rows ≡ pre ++ r ∷ (since ++ post) → IsWait r since j g → count_by (is_spin_of j g) since ≤ spin_bound plan g r.core.0
+
 -- ---- all of them
 -- a legal run of a well-formed plan, and what the laws say of it
 pub record KeepsLaws (plan : PlanModel) (rows : List Row) : Type 0 where
@@ -70,3 +86,4 @@ pub record KeepsLaws (plan : PlanModel) (rows : List Row) : Type 0 where
   pub blocking : NoLocalBlocking plan rows
   pub exclusion : MutualExclusion plan rows
   pub overtaking : BoundedOvertaking plan rows
+  pub spinning : BoundedSpinning plan rows

@@ -17,6 +17,7 @@ pub mod Faults
 pub mod FifoLock
 pub mod Names
 pub mod WellFormed
+pub mod Bounds
 pub mod Building
 pub mod Codes
 pub mod Tasks

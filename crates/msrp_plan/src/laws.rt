@@ -6,11 +6,13 @@ ghost use Rattle.msrp_plan.specs.Runs.{IsRunStart, IsRun};
 ghost use Rattle.msrp_plan.specs.WellFormed.{IsPlan};
 ghost use Rattle.msrp_plan.specs.Jobs.{holds};
 ghost use Rattle.msrp_plan.specs.Queues.{fifo};
-ghost use Rattle.msrp_plan.specs.Laws.{NoLocalBlocking, MutualExclusion, BoundedOvertaking, IsWait, is_admission, KeepsLaws};
+ghost use Rattle.msrp_plan.specs.Laws.{NoLocalBlocking, MutualExclusion, BoundedOvertaking, BoundedSpinning, IsWait, is_admission, is_spin_of, KeepsLaws};
+ghost use Rattle.msrp_plan.specs.Bounds.{spin_bound};
 ghost use Rattle.msrp_plan.specs.Logs.{core_order};
 ghost use Rattle.msrp_plan.specs.Examples.Notation.{job, queue};
 ghost use Rattle.msrp_plan.specs.Examples.BlockedByTheCeiling as blocked_by_the_ceiling;
 ghost use Rattle.msrp_plan.specs.Examples.HandoverWithinATick as handover_within_a_tick;
+ghost use Rattle.msrp_plan.specs.Examples.HandoverATickLater as handover_a_tick_later;
 ghost use Rattle.msrp_plan.specs.Examples.ThreeInAQueue as three_in_a_queue;
 ghost use Rattle.msrp_plan.specs.Examples.RequestedAgain as requested_again;
 ghost use Rattle.msrp_plan.specs.declared.rows.Row.{Row};
@@ -30,6 +32,12 @@ pub fn mutual_exclusion()
 /// than there are cores.
 pub fn bounded_overtaking()
     ensures { (plan : PlanModel) (rows : List Row) → IsPlan plan → IsRunStart plan rows → BoundedOvertaking plan rows }
+{}
+
+/// Bounded spinning: in one wait for a global resource a job spins no more often than the bound that the plan
+/// gives its core: for each other core that uses the resource, 1 and its longest section, in units.
+pub fn bounded_spinning()
+    ensures { (plan : PlanModel) (rows : List Row) → IsPlan plan → IsRunStart plan rows → BoundedSpinning plan rows }
 {}
 
 /// Determinacy: the order in which the cores take their turns fixes the run. Two runs of one plan, or two
@@ -73,4 +81,13 @@ pub fn overtaken_as_often_as_can_be()
     ensures wait { IsWait (queue 2 0 (job 0 0) 0) (take 2 (drop 5 requested_again.rows)) (job 0 0) 0 }
     ensures place { requested_again.rows ≡ take 4 requested_again.rows ++ queue 2 0 (job 0 0) 0 ∷ (take 2 (drop 5 requested_again.rows) ++ drop 7 requested_again.rows) }
     ensures others { count_by (is_admission 0) (take 2 (drop 5 requested_again.rows)) ≡ requested_again.plan.cores - 1 }
+{}
+
+/// A worked run in which a job spins twice, where the bound is 3: the other core's section, and a turn more.
+pub fn spins_within_the_bound()
+    ensures laws { KeepsLaws handover_a_tick_later.plan handover_a_tick_later.rows }
+    ensures wait { IsWait (queue 0 1 (job 1 0) 0) (take 5 (drop 2 handover_a_tick_later.rows)) (job 1 0) 0 }
+    ensures place { handover_a_tick_later.rows ≡ take 1 handover_a_tick_later.rows ++ queue 0 1 (job 1 0) 0 ∷ (take 5 (drop 2 handover_a_tick_later.rows) ++ drop 7 handover_a_tick_later.rows) }
+    ensures spins { count_by (is_spin_of (job 1 0) 0) (take 5 (drop 2 handover_a_tick_later.rows)) ≡ 2 }
+    ensures bound { spin_bound handover_a_tick_later.plan 0 1 ≡ 3 }
 {}
