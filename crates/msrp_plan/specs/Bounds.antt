@@ -25,6 +25,6 @@ abbrev pub is_used_on : PlanModel → ℕ → ℕ → Bool
 is_used_on plan g c = list_any (λ a. (a.core == c) && uses g a) plan.tasks
 
 -- how often a job of core c spins in one wait for the resource, at most: for each other core that uses it, one
--- grant and its longest section (Gai, Lipari and Di Natale 2001, section 4)
+-- handover and its longest section (this bound is the project's own)
 abbrev pub spin_bound : PlanModel → ℕ → ℕ → ℕ
 spin_bound plan g c = sum_by (λ d. 1 + section plan g d) (filter (λ d. not (d == c) && is_used_on plan g d) (range_with_len 0 plan.cores))

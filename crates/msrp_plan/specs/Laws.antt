@@ -72,8 +72,7 @@ BoundedOvertaking plan rows =
     (pre : List Row) (r : Row) (since post : List Row) (j : JobId) (g : ℕ) → rows ≡ pre ++ r ∷ (since ++ post) → IsWait r since j g → count_by (is_admission g) since ≤ plan.cores - 1
 
 -- ---- bounded spinning
--- in one wait for a global resource a job spins no more often than the bound of its core (Gai, Lipari and Di
--- Natale 2001, section 4)
+-- in one wait for a global resource a job spins no more often than the bound of its core
 abbrev pub BoundedSpinning : PlanModel → List Row → Type 0
 BoundedSpinning plan rows =
     (pre : List Row) (r : Row) (since post : List Row) (j : JobId) (g : ℕ) → rows ≡ pre ++ r ∷ (since ++ post) → IsWait r since j g → count_by (is_spin_of j g) since ≤ spin_bound plan g r.core.0
