@@ -1,5 +1,5 @@
 -- Plans of work alone: without resources nothing is locked, and the ceiling of a core is never above 0.
-use Rattle.std.proofs.Common.{◌≡◌, ℕ, suc, ◌+◌, ◌<◌, ◌≤◌, ◌||◌, Bool, true, false, cond, List, [], ◌∷◌, map, Some, refl, ap, ◌∙◌, not, ◌&&◌, arith, length, take, slice_get, max, eq-eqb}
+use Rattle.std.proofs.Common.{◌≡◌, ℕ, suc, ◌<◌, ◌≤◌, ◌||◌, false, cond, List, [], ◌∷◌, map, Some, refl, ap, ◌∙◌, not, ◌&&◌, arith, length, take, slice_get, max, eq-eqb}
 use Rattle.std.specs.List.{AllByRecursion, filter, list_any, range_with_len}
 use Rattle.std.proofs.lemmas.List.Elements.{All-from_recursion}
 use Rattle.std.proofs.lemmas.List.Folds.{list_any_none}

@@ -1,5 +1,5 @@
 -- What a job does next: one action, which is one tick.
-use Rattle.std.specs.Prelude.{ℕ, List, Bool, true, false, ◌==◌, ◌&&◌, Option, Some, None, slice_get}
+use Rattle.std.specs.Prelude.{List, Bool, true, false, ◌==◌, ◌&&◌, Option, Some, None, slice_get}
 use Rattle.msrp_plan.specs.Plan.{PlanModel, units}
 use Rattle.msrp_plan.specs.Jobs.{done, is_queued}
 use Rattle.msrp_plan.specs.Levels.{is_global}

@@ -1,5 +1,5 @@
 -- What a core has to do with the global resources: it holds or awaits at most one.
-use Rattle.std.specs.Prelude.{List, Option, Some, None, fold}
+use Rattle.std.specs.Prelude.{List, Option, Some, fold}
 use Rattle.msrp_plan.specs.declared.ids.ResId.{ResId}
 use Rattle.msrp_plan.specs.declared.rows.Kind.{Kind}
 use Rattle.msrp_plan.specs.declared.rows.Kind.TheVariants.{Take, Queue, Spin, Grant, Release}

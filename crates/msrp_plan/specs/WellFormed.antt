@@ -1,5 +1,5 @@
 -- What every accepted plan keeps: its limits, and how its tasks lock and unlock.
-use Rattle.std.specs.Prelude.{ℕ, List, Bool, true, Some, length, map, slice_get, take, ◌≡◌, ◌<◌, ◌≤◌, ◌+◌}
+use Rattle.std.specs.Prelude.{ℕ, List, true, Some, length, map, slice_get, take, ◌≡◌, ◌<◌, ◌≤◌, ◌+◌}
 use Rattle.std.specs.List.{AllPass, IsDistinct}
 use Rattle.std.specs.Str.{bytes_eq}
 use Rattle.msrp_plan.specs.Names.{is_name}
