@@ -37,6 +37,7 @@ pub mod QueueWork
 pub mod Spins
 pub mod SpinBound
 pub mod Verdicts
+pub mod Calls
 pub mod ReplyLocality
 pub mod Nesting
 pub mod Faultless
