@@ -1,2 +1,4 @@
 pub mod Pairs
 pub mod Turns
+pub mod Order
+pub mod Sorting

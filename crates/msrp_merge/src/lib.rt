@@ -5,6 +5,8 @@
 //! none is needed, since the places are the order of the steps on a resource, and turns on different resources commute.
 #![tactic(auto)]
 
+pub mod laws;
 mod logs;
+mod order;
 
 pub use logs::{CoreLog, Place, Turn};
