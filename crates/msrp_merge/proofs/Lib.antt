@@ -1,3 +1,5 @@
 pub mod Insertion
 pub mod Ranks
 pub mod Blocks
+pub mod Pairing
+pub mod Histories
