@@ -17,6 +17,10 @@ ghost use Rattle.msrp_plan.specs.Examples.ThreeInAQueue as three_in_a_queue;
 ghost use Rattle.msrp_plan.specs.Examples.RequestedAgain as requested_again;
 ghost use Rattle.msrp_plan.specs.declared.rows.Row.{Row};
 
+mod blocking;
+
+pub use blocking::bounds_on_blocking;
+
 /// No local blocking: a job that has its turn never finds a local resource held by another job, of whatever
 /// core (Baker 1991). So a lock of a local resource takes one tick.
 pub fn no_local_blocking()
