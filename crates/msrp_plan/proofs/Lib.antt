@@ -36,6 +36,7 @@ pub mod SectionWork
 pub mod QueueWork
 pub mod Spins
 pub mod SpinBound
+pub mod ShortQueues
 pub mod Verdicts
 pub mod ReplyLocality
 pub mod Nesting
