@@ -38,6 +38,7 @@ pub mod Spins
 pub mod SpinBound
 pub mod ShortQueues
 pub mod Verdicts
+pub mod Calls
 pub mod ReplyLocality
 pub mod Nesting
 pub mod Faultless

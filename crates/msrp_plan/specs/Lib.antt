@@ -11,6 +11,7 @@ pub mod Queues
 pub mod Runs
 pub mod Logs
 pub mod Phases
+pub mod Calls
 pub mod Laws
 pub mod Verdict
 pub mod Faults
