@@ -2,3 +2,6 @@
 pub mod Pressing
 pub mod Sound
 pub mod Heads
+pub mod Sections
+pub mod Begun
+pub mod OneSection

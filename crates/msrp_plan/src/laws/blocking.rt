@@ -1,9 +1,25 @@
 //! How long a job is blocked: by one outermost section of one later job, at most.
-ghost use Rattle.std.specs.Prelude.{◌≡◌};
-ghost use Rattle.msrp_plan.specs.Plan.{task_at};
+ghost use Rattle.std.specs.Prelude.{◌≡◌, List};
+ghost use Rattle.msrp_plan.specs.Plan.{PlanModel, task_at};
+ghost use Rattle.msrp_plan.specs.Runs.{IsRunStart};
+ghost use Rattle.msrp_plan.specs.WellFormed.{IsPlan};
 ghost use Rattle.msrp_plan.specs.Bounds.{spin_bound, out, blocked_bound};
+ghost use Rattle.msrp_plan.specs.Blocking.{BlockedByBegunSections, BlockedByOneSection};
 ghost use Rattle.msrp_plan.specs.Examples.BlockedHead as blocked_head;
 ghost use Rattle.msrp_plan.specs.Examples.RaisedWhileHolding as raised_while_holding;
+ghost use Rattle.msrp_plan.specs.declared.rows.Row.{Row};
+
+/// A row of a later job, while a job of its core is released and unfinished, is of the job that comes first
+/// among those that are started and unfinished. That job has a longer relative deadline, and it stands in an
+/// outermost section that it began before the release.
+pub fn blocked_by_begun_sections()
+    ensures { (plan : PlanModel) (rows : List Row) → IsPlan plan → IsRunStart plan rows → BlockedByBegunSections plan rows }
+{}
+
+/// One job, and one of its outermost sections, give all the rows that block a job.
+pub fn blocked_by_one_section()
+    ensures { (plan : PlanModel) (rows : List Row) → IsPlan plan → IsRunStart plan rows → BlockedByOneSection plan rows }
+{}
 
 /// The bounds of two worked plans. Of a local section `out` counts the units after the lock, up to and with
 /// the unlock; of a global one also what the request may wait. A task is blocked by tasks with a longer
