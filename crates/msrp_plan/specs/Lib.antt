@@ -17,6 +17,7 @@ pub mod Blocking
 pub mod Verdict
 pub mod Faults
 pub mod FifoLock
+pub mod LockStates
 pub mod Names
 pub mod WellFormed
 pub mod Bounds
