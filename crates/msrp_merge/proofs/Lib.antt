@@ -3,3 +3,4 @@ pub mod Ranks
 pub mod Blocks
 pub mod Pairing
 pub mod Histories
+pub mod Replies
