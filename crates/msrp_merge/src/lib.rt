@@ -7,6 +7,8 @@
 
 pub mod laws;
 mod logs;
+mod merging;
 mod order;
 
 pub use logs::{CoreLog, Place, Turn};
+pub use merging::merge;
