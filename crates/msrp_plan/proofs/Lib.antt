@@ -41,7 +41,6 @@ pub mod ReplyLocality
 pub mod Nesting
 pub mod Faultless
 pub mod Drafts
-pub mod WholePlans
 pub mod AcceptedPlans
 pub mod KeptLaws
 pub mod Stored

@@ -1,4 +1,5 @@
 pub mod Shape
+pub mod ReleaseTimes
 pub mod Plan
 pub mod Units
 pub mod Jobs
@@ -20,6 +21,7 @@ pub mod WellFormed
 pub mod Bounds
 pub mod Building
 pub mod Codes
+pub mod Times
 pub mod Tasks
 pub mod Marks
 pub mod Views

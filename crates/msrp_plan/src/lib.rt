@@ -12,6 +12,7 @@ pub mod names;
 pub mod plans;
 pub mod rows;
 mod tasks;
+mod times;
 pub mod units;
 pub mod worked;
 
@@ -20,4 +21,5 @@ pub use faults::{Fault, Memory, PlanFault, Rule, WriteFault};
 pub use ids::{CoreId, JobId, JobKey, ResId, TaskId};
 pub use plans::Plan;
 pub use rows::{Kind, Row, Trace};
+pub use times::Times;
 pub use units::{Call, Op, Phase, Step};
