@@ -105,7 +105,7 @@ pub choice_local : (plan : PlanModel) (c t : ℕ) (pre : List Row) → AreOwn pl
 choice_local plan c t pre own = choice_same plan c t (log_of c pre) pre (states_local plan c pre own)
 
 -- whether a row does a unit is told by whether its job is queued
-unit_local : (plan : PlanModel) (pre other : List Row) (j : JobId) (r : Row) (o : Option Op) → is_queued pre j ≡ is_queued other j → does_unit plan pre j r o ≡ does_unit plan other j r o
+pub unit_local : (plan : PlanModel) (pre other : List Row) (j : JobId) (r : Row) (o : Option Op) → is_queued pre j ≡ is_queued other j → does_unit plan pre j r o ≡ does_unit plan other j r o
 unit_local plan pre other j r None q = refl
 unit_local plan pre other j r (Some u) q = ap (λ b. same_res r.res (res_of_unit u) && allows (is_global_unit plan u) b u r.kind) q
 

@@ -1,4 +1,5 @@
 pub mod Shape
+pub mod Aheads
 pub mod Plan
 pub mod Units
 pub mod Jobs

@@ -1,8 +1,9 @@
 //! What the definitions say, shown by laws over them: the verdict tells legal runs from all other rows, a
 //! run is legal row by row, and each rule looks no further than it should. Each function does nothing; its
 //! contract is the law.
-ghost use Rattle.std.specs.Prelude.{◌≡◌, ◌↔◌, ◌++◌, ◌∷◌, [], ◌<◌, ◌*◌, ℕ, List, Some, None, length, true};
+ghost use Rattle.std.specs.Prelude.{◌≡◌, ◌↔◌, ◌++◌, ◌∷◌, [], ◌<◌, ◌*◌, ℕ, List, Some, None, map, length, true};
 ghost use Rattle.std.specs.List.{AllPass};
+ghost use Rattle.msrp_plan.specs.Aheads.{without_ahead};
 ghost use Rattle.msrp_plan.specs.Plan.{PlanModel};
 ghost use Rattle.msrp_plan.specs.Choice.{choice};
 ghost use Rattle.msrp_plan.specs.Queues.{fifo};
@@ -53,4 +54,11 @@ pub fn core_runs()
 /// one tick may change places, and the rest stays as it is.
 pub fn commutation()
     ensures { (plan : PlanModel) (pre post : List Row) (r s : Row) → IsRunStart plan (pre ++ r ∷ s ∷ post) → r.tick ≡ s.tick → AreApart r s → IsRunStart plan (pre ++ s ∷ r ∷ post) }
+{}
+
+/// An ahead says no more than the rows before it do: a legal run stays one where aheads are left out.
+pub fn aheads()
+    ensures start { (plan : PlanModel) (rows : List Row) → IsRunStart plan rows → IsRunStart plan (map without_ahead rows) }
+    ensures run { (plan : PlanModel) (rows : List Row) → IsRun plan rows → IsRun plan (map without_ahead rows) }
+    ensures ahead { (plan : PlanModel) (pre : List Row) (r : Row) (g : ResId) (n : ℕ) → IsLegal plan pre r → r.res ≡ Some g → r.ahead ≡ Some n → n ≡ length (fifo g.0 pre) }
 {}
