@@ -204,7 +204,7 @@ turn_does plan log ps (Some p) r all works kind res =
     let w = works p refl in
     let h : Tells plan log p = All-contains (Tells plan log) ps p (All-from_recursion (Tells plan log) ps all) w.listed in
     let q : false ≡ is_queued log p.job = ap (λ (s : JobState). s.queued) h.state in
-    ap (does_unit plan log p.job r) (next_unit plan log ps p w h)
+    ap (does_unit plan (is_queued log p.job) r) (next_unit plan log ps p w h)
     ∙ (ap (λ g. same_res g None && allows false (is_queued log p.job) Run r.kind) res
     ∙ (ap (λ k. allows false (is_queued log p.job) Run k) kind ∙ ap (λ b. allows false b Run RunRow) (sym q)))
 

@@ -9,7 +9,7 @@ use Rattle.msrp_plan.specs.Plan.{PlanModel, units}
 use Rattle.msrp_plan.specs.Jobs.{jobs_on, is_row_of, is_waiting, is_started, is_queued, done}
 use Rattle.msrp_plan.specs.States.{state_after}
 use Rattle.msrp_plan.specs.Aheads.{without_ahead}
-use Rattle.msrp_plan.specs.Actions.{does_next, does_unit}
+use Rattle.msrp_plan.specs.Actions.{does_next, does_unit, does_unit_after}
 use Rattle.msrp_plan.specs.Queues.{fifo, requester, is_release_of, replies, counts, is_reply_of}
 use Rattle.msrp_plan.specs.Runs.{EachAfter, IsLegal, IsRun, IsRunStart, is_in_turn, is_chosen, is_next_action, had_turn, same_choice, replies_on}
 use Rattle.msrp_plan.specs.declared.ids.JobId.{JobId}
@@ -18,7 +18,7 @@ use Rattle.msrp_plan.specs.declared.units.Op.{Op}
 use Rattle.msrp_plan.specs.declared.rows.Row.{Row}
 use Rattle.msrp_plan.proofs.Filters.{any_map, count_map, gathered_map, filter_map_same, all_of}
 use Rattle.msrp_plan.proofs.LegalRows.{legal_count}
-use Rattle.msrp_plan.proofs.Locality.{choice_same, unit_local}
+use Rattle.msrp_plan.proofs.Locality.{choice_same}
 
 -- the rows without their aheads
 abbrev pub bare : List Row → List Row
@@ -59,16 +59,16 @@ turn_bare plan pre r =
 chosen_bare : (plan : PlanModel) (pre : List Row) (r : Row) → is_chosen plan (bare pre) r ≡ is_chosen plan pre r
 chosen_bare plan pre r = ap (same_choice r.job) (choice_same plan r.core.0 r.tick (bare pre) pre (all_of _ (state_bare pre) (jobs_on plan r.core.0)))
 
-unit_bare : (plan : PlanModel) (pre : List Row) (j : JobId) (r : Row) (o : Option Op) → does_unit plan pre j (without_ahead r) o ≡ does_unit plan pre j r o
-unit_bare plan pre j r None = refl
-unit_bare plan pre j r (Some u) = refl
+unit_bare : (plan : PlanModel) (queued : Bool) (r : Row) (o : Option Op) → does_unit plan queued (without_ahead r) o ≡ does_unit plan queued r o
+unit_bare plan queued r None = refl
+unit_bare plan queued r (Some u) = refl
 
 action_bare : (plan : PlanModel) (pre : List Row) (o : Option JobId) (r : Row) → does_next plan (bare pre) o (without_ahead r) ≡ does_next plan pre o r
 action_bare plan pre None r = refl
 action_bare plan pre (Some j) r =
-    ap (λ n. does_unit plan (bare pre) j (without_ahead r) (slice_get (units plan j) n)) (done_bare pre j)
-    ∙ (unit_local plan (bare pre) pre j (without_ahead r) (slice_get (units plan j) (done j pre)) (queued_bare pre j)
-    ∙ unit_bare plan pre j r (slice_get (units plan j) (done j pre)))
+    ap (λ n. does_unit_after plan j (is_queued (bare pre) j) n (without_ahead r)) (done_bare pre j)
+    ∙ (ap (λ b. does_unit_after plan j b (done j pre) (without_ahead r)) (queued_bare pre j)
+    ∙ unit_bare plan (is_queued pre j) r (slice_get (units plan j) (done j pre)))
 
 -- a row whose own ahead is left out has its queue's reply all the same
 reply_bare : (pre : List Row) (o : Option ResId) (r : Row) → replies_on pre o r ≡ true → replies_on (bare pre) o (without_ahead r) ≡ true

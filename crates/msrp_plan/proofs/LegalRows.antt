@@ -68,7 +68,7 @@ pub record DoesUnit (plan : PlanModel) (pre : List Row) (j : JobId) (r : Row) : 
   pub kind : allows (is_global_unit plan op) (is_queued pre j) op r.kind ≡ true
 
 -- by the unit that stands at the place that the job has reached
-does_it : (plan : PlanModel) (pre : List Row) (j : JobId) (r : Row) (o : Option Op) → slice_get (units plan j) (done j pre) ≡ o → does_unit plan pre j r o ≡ true → DoesUnit plan pre j r
+does_it : (plan : PlanModel) (pre : List Row) (j : JobId) (r : Row) (o : Option Op) → slice_get (units plan j) (done j pre) ≡ o → does_unit plan (is_queued pre j) r o ≡ true → DoesUnit plan pre j r
 does_it plan pre j r None e h = absurd (cc)
 does_it plan pre j r (Some u) e h =
     let a = and_parts (same_res r.res (res_of_unit u)) (allows (is_global_unit plan u) (is_queued pre j) u r.kind) h in

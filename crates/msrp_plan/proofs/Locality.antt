@@ -10,7 +10,7 @@ use Rattle.msrp_plan.specs.Jobs.{jobs, jobs_on, is_row_of, is_waiting, same_job,
 use Rattle.msrp_plan.specs.Levels.{is_global, local_ceiling, greatest, top}
 use Rattle.msrp_plan.specs.Ceiling.{ceiling, is_held_on, is_raised, resources}
 use Rattle.msrp_plan.specs.Choice.{is_before, least, head, running, chosen, choice}
-use Rattle.msrp_plan.specs.Actions.{does_next, does_unit, same_res, res_of_unit, allows, is_global_unit}
+use Rattle.msrp_plan.specs.Actions.{does_next, does_unit_after}
 use Rattle.msrp_plan.specs.Runs.{is_on_core, is_of_core, is_chosen, is_next_action, same_choice, IsCoreTurn}
 use Rattle.msrp_plan.specs.Logs.{is_of, log_of}
 use Rattle.msrp_plan.specs.States.{JobState, state_after}
@@ -104,19 +104,14 @@ states_local plan c pre own = all_weaker (λ j. (core_of plan j == c) ≡ true) 
 pub choice_local : (plan : PlanModel) (c t : ℕ) (pre : List Row) → AreOwn plan pre → choice plan c t (log_of c pre) ≡ choice plan c t pre
 choice_local plan c t pre own = choice_same plan c t (log_of c pre) pre (states_local plan c pre own)
 
--- whether a row does a unit is told by whether its job is queued
-pub unit_local : (plan : PlanModel) (pre other : List Row) (j : JobId) (r : Row) (o : Option Op) → is_queued pre j ≡ is_queued other j → does_unit plan pre j r o ≡ does_unit plan other j r o
-unit_local plan pre other j r None q = refl
-unit_local plan pre other j r (Some u) q = ap (λ b. same_res r.res (res_of_unit u) && allows (is_global_unit plan u) b u r.kind) q
-
--- and what a job of the core does next
+-- what a job of the core does next
 pub does_next_local : (plan : PlanModel) (c : ℕ) (pre : List Row) (o : Option JobId) (r : Row) → AreOwn plan pre → is_on_core plan c o ≡ true → does_next plan (log_of c pre) o r ≡ does_next plan pre o r
 does_next_local plan c pre None r own at = refl
 does_next_local plan c pre (Some j) r own at =
     let s = state_local plan c pre j own (listed_on plan c j at) in
     let d : done j (log_of c pre) ≡ done j pre = ap (λ (s : JobState). s.done) s in
     let q : is_queued (log_of c pre) j ≡ is_queued pre j = ap (λ (s : JobState). s.queued) s in
-    ap (λ n. does_unit plan (log_of c pre) j r (slice_get (units plan j) n)) d ∙ unit_local plan (log_of c pre) pre j r (slice_get (units plan j) (done j pre)) q
+    ap (λ n. does_unit_after plan j (is_queued (log_of c pre) j) n r) d ∙ ap (λ b. does_unit_after plan j b (done j pre) r) q
 
 -- so the next row of a core after its log names the job that has the turn after all rows: the choice
 pub chosen_local : (plan : PlanModel) (c : ℕ) (pre : List Row) (r : Row) → AreOwn plan pre → IsCoreTurn plan c (log_of c pre) r → is_chosen plan pre r ≡ true

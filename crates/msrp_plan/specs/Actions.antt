@@ -1,5 +1,5 @@
 -- What a job does next: one action, which is one tick.
-use Rattle.std.specs.Prelude.{List, Bool, true, false, ◌==◌, ◌&&◌, Option, Some, None, slice_get}
+use Rattle.std.specs.Prelude.{ℕ, List, Bool, true, false, ◌==◌, ◌&&◌, Option, Some, None, slice_get}
 use Rattle.msrp_plan.specs.Plan.{PlanModel, units}
 use Rattle.msrp_plan.specs.Jobs.{done, is_queued}
 use Rattle.msrp_plan.specs.Levels.{is_global}
@@ -43,12 +43,16 @@ abbrev pub is_idle : Kind → Bool
 is_idle Idle = true
 is_idle _ = false
 
--- the row is of a kind that the unit allows its job, on the unit's resource
-abbrev pub does_unit : PlanModel → List Row → JobId → Row → Option Op → Bool
-does_unit plan pre j r None = false
-does_unit plan pre j r (Some u) = same_res r.res (res_of_unit u) && allows (is_global_unit plan u) (is_queued pre j) u r.kind
+-- the row is of a kind that the unit allows its job, queued or not, on the unit's resource
+abbrev pub does_unit : PlanModel → Bool → Row → Option Op → Bool
+does_unit plan queued r None = false
+does_unit plan queued r (Some u) = same_res r.res (res_of_unit u) && allows (is_global_unit plan u) queued u r.kind
+
+-- the row does the next unit of a job that is queued or not, and has done so many units
+abbrev pub does_unit_after : PlanModel → JobId → Bool → ℕ → Row → Bool
+does_unit_after plan j queued done r = does_unit plan queued r (slice_get (units plan j) done)
 
 -- the row does the next unit of the job; where nobody has the turn it is idle
 abbrev pub does_next : PlanModel → List Row → Option JobId → Row → Bool
 does_next plan pre None r = is_idle r.kind
-does_next plan pre (Some j) r = does_unit plan pre j r (slice_get (units plan j) (done j pre))
+does_next plan pre (Some j) r = does_unit_after plan j (is_queued pre j) (done j pre) r

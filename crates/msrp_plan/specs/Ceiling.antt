@@ -11,17 +11,29 @@ use Rattle.msrp_plan.specs.declared.rows.Row.{Row}
 abbrev pub resources : PlanModel → List ℕ
 resources plan = range_with_len 0 (length plan.resources)
 
--- a job of the core holds the resource
+-- the current ceiling of a core, by whether one of its jobs is queued for a global resource, and which resources its
+-- jobs hold: the greatest of the ceilings of the local ones, and of the core's highest level while it is raised, that
+-- is while a job is queued for a global resource or holds one; 0 where there is none
+abbrev pub raised_with : PlanModel → Bool → (ℕ → Bool) → Bool
+raised_with plan queued held = queued || list_any (λ g. is_global plan g && held g) (resources plan)
+
+abbrev pub ceiling_with : PlanModel → ℕ → Bool → (ℕ → Bool) → ℕ
+ceiling_with plan c queued held =
+    max (greatest (map (local_ceiling plan) (filter (λ g. not (is_global plan g) && held g) (resources plan))))
+    (cond (raised_with plan queued held) (top plan c) 0)
+
+-- after these rows a job of the core holds the resource
 abbrev pub is_held_on : PlanModel → ℕ → List Row → ℕ → Bool
 is_held_on plan c pre g = list_any (holds plan pre g) (jobs_on plan c)
 
+-- after these rows a job of the core is queued
+abbrev pub is_queued_on : PlanModel → ℕ → List Row → Bool
+is_queued_on plan c pre = list_any (is_queued pre) (jobs_on plan c)
+
 -- a job of the core is queued for a global resource, or holds one
 abbrev pub is_raised : PlanModel → ℕ → List Row → Bool
-is_raised plan c pre = list_any (is_queued pre) (jobs_on plan c) || list_any (λ g. is_global plan g && is_held_on plan c pre g) (resources plan)
+is_raised plan c pre = raised_with plan (is_queued_on plan c pre) (is_held_on plan c pre)
 
--- the greatest of the ceilings of the local resources that jobs of the core hold, and of its highest level
--- while it is raised; 0 where there is none
+-- the current ceiling of the core after these rows
 abbrev pub ceiling : PlanModel → ℕ → List Row → ℕ
-ceiling plan c pre =
-    max (greatest (map (local_ceiling plan) (filter (λ g. not (is_global plan g) && is_held_on plan c pre g) (resources plan))))
-    (cond (is_raised plan c pre) (top plan c) 0)
+ceiling plan c pre = ceiling_with plan c (is_queued_on plan c pre) (is_held_on plan c pre)

@@ -24,13 +24,21 @@ abbrev pub least : {X : Type 0} → (X → X → Bool) → List X → Option X
 least lt [] = None
 least lt (x ∷ xs) = Some (best_of lt x xs)
 
--- the least job of the core that is released and not started
-abbrev pub head : PlanModel → ℕ → ℕ → List Row → Option JobId
-head plan c t pre = least (is_before plan) (filter (λ j. is_released plan t j && not (is_started pre j)) (jobs_on plan c))
+-- the least job of the core that is released in tick t and not started, whatever tells which are started
+abbrev pub first_ready : PlanModel → ℕ → ℕ → (JobId → Bool) → Option JobId
+first_ready plan c t started = least (is_before plan) (filter (λ j. is_released plan t j && not (started j)) (jobs_on plan c))
 
--- the least job of the core that is started and unfinished
+-- the least job of the core that is started and unfinished, whatever tells which are
+abbrev pub first_unfinished : PlanModel → ℕ → (JobId → Bool) → (JobId → Bool) → Option JobId
+first_unfinished plan c started finished = least (is_before plan) (filter (λ j. started j && not (finished j)) (jobs_on plan c))
+
+-- the least job of the core that is released and, after these rows, not started
+abbrev pub head : PlanModel → ℕ → ℕ → List Row → Option JobId
+head plan c t pre = first_ready plan c t (is_started pre)
+
+-- the least job of the core that is, after these rows, started and unfinished
 abbrev pub running : PlanModel → ℕ → List Row → Option JobId
-running plan c pre = least (is_before plan) (filter (λ j. is_started pre j && not (is_finished plan pre j)) (jobs_on plan c))
+running plan c pre = first_unfinished plan c (is_started pre) (is_finished plan pre)
 
 -- the head where its level is above the ceiling and it comes before who runs; else who runs
 abbrev pub chosen : PlanModel → ℕ → Option JobId → Option JobId → Option JobId

@@ -1,5 +1,6 @@
 -- The verdict on any list of rows: the first row that breaks a rule, with the lowest rule that it breaks.
 use Rattle.std.specs.Prelude.{ℕ, List, [], ◌∷◌, ◌++◌, Option, Some, None, cond, nat_lt, length, ◌+◌, ◌*◌}
+use Rattle.std.specs.Option.{option_or}
 use Rattle.msrp_plan.specs.Plan.{PlanModel}
 use Rattle.msrp_plan.specs.Runs.{is_in_turn, is_of_core, is_chosen, is_next_action, is_fifo_reply}
 use Rattle.msrp_plan.specs.declared.faults.Fault.{Fault}
@@ -20,14 +21,23 @@ abbrev pub fault_or : Option Rule → ℕ → Option Fault → Option Fault
 fault_or None n later = later
 fault_or (Some rule) n later = Some (record { row = n; rule = rule })
 
--- the verdict on the rows that follow pre, none where all is good; rows are counted from 1
-abbrev pub verdict_after : PlanModel → List Row → List Row → Option Fault
-verdict_after plan pre [] = cond (nat_lt (length pre) (plan.cores * plan.ticks)) (Some (record { row = length pre + 1; rule = A6 })) None
-verdict_after plan pre (r ∷ rows) =
-    cond (nat_lt (length pre) (plan.cores * plan.ticks))
-    (fault_or (broken plan pre r) (length pre + 1) (verdict_after plan (pre ++ r ∷ []) rows))
-    (Some (record { row = length pre + 1; rule = A7 }))
+-- why a row is refused after these: the lowest rule that it breaks, or that it is one too many
+abbrev pub refused : PlanModel → List Row → Row → Option Rule
+refused plan pre r = cond (nat_lt (length pre) (plan.cores * plan.ticks)) (broken plan pre r) (Some A7)
 
--- none exactly for the legal runs
+-- the first of the rows that follow pre that is refused; rows are counted from 1
+abbrev pub fault_from : PlanModel → List Row → List Row → Option Fault
+fault_from plan pre [] = None
+fault_from plan pre (r ∷ rows) = fault_or (refused plan pre r) (length pre + 1) (fault_from plan (pre ++ r ∷ []) rows)
+
+-- the first row that is refused, with the rule: A1 to A5, or A7. Rows that are missing are no fault yet
+abbrev pub fault_in : PlanModel → List Row → Option Fault
+fault_in plan rows = fault_from plan [] rows
+
+-- the first row that is missing
+abbrev pub missing : PlanModel → List Row → Option Fault
+missing plan rows = cond (nat_lt (length rows) (plan.cores * plan.ticks)) (Some (record { row = length rows + 1; rule = A6 })) None
+
+-- the fault of the rows that stand, else the first missing row; none exactly for the legal runs
 abbrev pub verdict : PlanModel → List Row → Option Fault
-verdict plan rows = verdict_after plan [] rows
+verdict plan rows = option_or (fault_in plan rows) (missing plan rows)

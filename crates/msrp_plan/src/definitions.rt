@@ -1,26 +1,36 @@
 //! What the definitions say, shown by laws over them: the verdict tells legal runs from all other rows, a
 //! run is legal row by row, and each rule looks no further than it should. Each function does nothing; its
 //! contract is the law.
-ghost use Rattle.std.specs.Prelude.{◌≡◌, ◌↔◌, ◌++◌, ◌∷◌, [], ◌<◌, ◌*◌, ℕ, List, Some, None, map, length, true};
+ghost use Rattle.std.specs.Prelude.{◌≡◌, ◌↔◌, ◌⊎◌, ◌++◌, ◌∷◌, [], ◌<◌, ◌*◌, ℕ, List, Some, None, map, length, true, false};
 ghost use Rattle.std.specs.List.{AllPass};
 ghost use Rattle.msrp_plan.specs.Aheads.{without_ahead};
 ghost use Rattle.msrp_plan.specs.Plan.{PlanModel};
 ghost use Rattle.msrp_plan.specs.Choice.{choice};
-ghost use Rattle.msrp_plan.specs.Queues.{fifo};
-ghost use Rattle.msrp_plan.specs.Runs.{CoreRun, IsLegal, IsRun, IsRunStart, is_of_core, is_next_action, is_fifo_reply};
+ghost use Rattle.msrp_plan.specs.Levels.{is_global};
+ghost use Rattle.msrp_plan.specs.Queues.{fifo, is_on};
+ghost use Rattle.msrp_plan.specs.Runs.{CoreRun, IsCoreTurn, IsLegal, IsRun, IsRunStart, is_of_core, is_next_action, is_fifo_reply};
 ghost use Rattle.msrp_plan.specs.Logs.{log_of, rows_on, AreApart};
-ghost use Rattle.msrp_plan.specs.Verdict.{verdict, broken};
-ghost use Rattle.msrp_plan.specs.Faults.{IsFault};
+ghost use Rattle.msrp_plan.specs.Verdict.{verdict, fault_in, broken};
+ghost use Rattle.msrp_plan.specs.Faults.{IsBroken, IsFault, IsOneTooMany};
+ghost use Rattle.msrp_plan.specs.Calls.{IsInTurn, claim_with, kind_of_call};
+ghost use Rattle.msrp_plan.specs.FifoLock.{Answers, free_lock, lock_after};
+ghost use Rattle.msrp_plan.specs.LockStates.{IsRowOfCall, Tells, lock_at};
+ghost use Rattle.msrp_plan.specs.Phases.{phase_with};
+ghost use Rattle.msrp_plan.specs.WellFormed.{IsPlan};
 ghost use Rattle.msrp_plan.specs.declared.faults.Fault.{Fault};
 ghost use Rattle.msrp_plan.specs.declared.ids.ResId.{ResId};
 ghost use Rattle.msrp_plan.specs.declared.rows.Row.{Row};
+ghost use Rattle.msrp_plan.specs.declared.units.Call.{Call};
+ghost use Rattle.msrp_plan.specs.declared.units.Phase.{Phase};
 
 /// The verdict on a list of rows is good exactly where it is a legal run of the plan, and else names the
-/// first row that breaks a rule, with the lowest rule that it breaks. A row breaks a rule exactly where it
-/// isn't legal after the rows before it.
+/// first row that breaks a rule, with the lowest rule that it breaks. Before the end is known, a fault is a
+/// row that breaks a rule or is one too many. A row breaks a rule exactly where it isn't legal after the
+/// rows before it.
 pub fn verdicts()
     ensures good { (plan : PlanModel) (rows : List Row) → (verdict plan rows ≡ None) ↔ IsRun plan rows }
     ensures fault { (plan : PlanModel) (rows : List Row) (f : Fault) → (verdict plan rows ≡ Some f) ↔ IsFault plan rows f }
+    ensures early { (plan : PlanModel) (rows : List Row) (f : Fault) → (fault_in plan rows ≡ Some f) ↔ (IsBroken plan rows f ⊎ IsOneTooMany plan rows f) }
     ensures row { (plan : PlanModel) (pre : List Row) (r : Row) → (broken plan pre r ≡ None) ↔ IsLegal plan pre r }
 {}
 
@@ -50,10 +60,28 @@ pub fn core_runs()
     ensures whole { (plan : PlanModel) (rows : List Row) (c : ℕ) → IsRun plan rows → c < plan.cores → length (log_of c rows) ≡ plan.ticks }
 {}
 
+/// The calls that a core makes of global resources and the rows that they make agree on what it holds or
+/// awaits: a call in its turn leaves it as a row of the call's kind does.
+pub fn calls()
+    ensures { (claim : Phase) (g : ResId) (call : Call) → IsInTurn claim g call → phase_with claim (kind_of_call call) (Some g) ≡ claim_with claim g call }
+{}
+
 /// Turns commute where they share neither core nor resource: two of them that stand next to each other in
 /// one tick may change places, and the rest stays as it is.
 pub fn commutation()
     ensures { (plan : PlanModel) (pre post : List Row) (r s : Row) → IsRunStart plan (pre ++ r ∷ s ∷ post) → r.tick ≡ s.tick → AreApart r s → IsRunStart plan (pre ++ s ∷ r ∷ post) }
+{}
+
+/// The two statements of first-in-first-out agree: the queue of jobs that replies to the rows of a run, and the
+/// lock on one thread that answers the calls of cores. Whatever the lock answers to a turn's call, the queue
+/// replies, and the other way round; after a row the lock is as after the row's call. So a history that is
+/// legal for the lock makes legal replies.
+pub fn queues_are_locks()
+    ensures start { (plan : PlanModel) (g : ℕ) → lock_at plan g [] ≡ free_lock }
+    ensures replies { (plan : PlanModel) (pre : List Row) (r : Row) (g : ℕ) (call : Call) → IsPlan plan → IsRunStart plan pre → is_global plan g ≡ true → IsCoreTurn plan r.core.0 (log_of r.core.0 pre) r → IsRowOfCall g r.core.0 call r → Answers (lock_at plan g pre) r.core.0 call → is_fifo_reply pre r ≡ true }
+    ensures answers { (plan : PlanModel) (pre : List Row) (r : Row) (g : ℕ) (call : Call) → IsPlan plan → IsRunStart plan (pre ++ r ∷ []) → is_global plan g ≡ true → IsRowOfCall g r.core.0 call r → Tells (fifo g pre) call → Answers (lock_at plan g pre) r.core.0 call }
+    ensures next { (plan : PlanModel) (pre : List Row) (r : Row) (g : ℕ) (call : Call) → IsPlan plan → IsRunStart plan (pre ++ r ∷ []) → is_global plan g ≡ true → IsRowOfCall g r.core.0 call r → Answers (lock_at plan g pre) r.core.0 call → lock_at plan g (pre ++ r ∷ []) ≡ lock_after (lock_at plan g pre) r.core.0 call }
+    ensures others { (plan : PlanModel) (pre : List Row) (r : Row) (g : ℕ) → IsPlan plan → IsRunStart plan (pre ++ r ∷ []) → is_global plan g ≡ true → is_on g r.res ≡ false → lock_at plan g (pre ++ r ∷ []) ≡ lock_at plan g pre }
 {}
 
 /// An ahead says no more than the rows before it do: a legal run stays one where aheads are left out.

@@ -1,0 +1,5 @@
+use Rattle.msrp_plan.proofs.Calls.{call_as_row}
+use Rattle.msrp_plan.proofs.definitions.calls.Goals as goal
+
+pub returns : goal.returns
+returns c = call_as_row
