@@ -10,6 +10,7 @@ pub mod RoundRobin
 pub mod CoreJobs
 pub mod LegalRows
 pub mod SameRow
+pub mod Aheads
 pub mod Determinacy
 pub mod Writes
 pub mod UnitCounts

@@ -1,5 +1,6 @@
 pub mod Shape
 pub mod ReleaseTimes
+pub mod Aheads
 pub mod Plan
 pub mod Units
 pub mod Jobs
