@@ -10,6 +10,7 @@ use Rattle.msrp_plan.proofs.Exclusion.{mutual_exclusion}
 use Rattle.msrp_plan.proofs.Overtaking.{bounded_overtaking}
 use Rattle.msrp_plan.proofs.ShortQueues.{short_queues}
 use Rattle.msrp_plan.proofs.SpinBound.{bounded_spinning}
+use Rattle.msrp_plan.proofs.Blocking.Bound.{bounded_blocking}
 
 -- all laws at once
 pub keeps_laws : (plan : PlanModel) (rows : List Row) → IsPlan plan → IsRun plan rows → KeepsLaws plan rows
@@ -24,4 +25,5 @@ keeps_laws plan rows ok run =
       overtaking = bounded_overtaking plan rows ok start;
       queues = short_queues plan rows ok start;
       spinning = bounded_spinning plan rows ok start;
+      blocking_bound = bounded_blocking plan rows ok start;
     }

@@ -13,13 +13,13 @@ pub mod Logs
 pub mod Phases
 pub mod Calls
 pub mod Laws
-pub mod Blocking
 pub mod Verdict
 pub mod Faults
 pub mod FifoLock
 pub mod Names
 pub mod WellFormed
 pub mod Bounds
+pub mod Blocking
 pub mod Building
 pub mod Codes
 pub mod Tasks
