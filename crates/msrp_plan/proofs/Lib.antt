@@ -29,6 +29,7 @@ pub mod Apart
 pub mod Ticks
 pub mod QueueMembers
 pub mod Overtaking
+pub mod QueueLocks
 pub mod Users
 pub mod LocalLocks
 pub mod Exclusion

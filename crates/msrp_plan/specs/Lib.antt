@@ -16,6 +16,7 @@ pub mod Laws
 pub mod Verdict
 pub mod Faults
 pub mod FifoLock
+pub mod LockStates
 pub mod Names
 pub mod WellFormed
 pub mod Bounds
