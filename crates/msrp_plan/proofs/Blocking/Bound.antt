@@ -25,7 +25,7 @@ use Rattle.msrp_plan.proofs.Blocking.SectionRows.{spent, spent_more, section_row
 
 -- ---- a section is within the greatest of its task's
 -- no unit before a is of the section that a begins
-spent_none : (plan : PlanModel) (task : TaskModel) (a n : ℕ) → n ≤ a → spent plan task a n ≡ 0
+pub spent_none : (plan : PlanModel) (task : TaskModel) (a n : ℕ) → n ≤ a → spent plan task a n ≡ 0
 spent_none plan task a zero l = refl
 spent_none plan task a (suc n) l =
     let more = spent_more plan task a n in
@@ -36,7 +36,7 @@ spent_none plan task a (suc n) l =
     omega (arith, more, next, off, rest)
 
 -- by whether there is such a unit
-from_within : (plan : PlanModel) (task : TaskModel) (a : ℕ) → rows_from plan task a ≤ out plan task
+pub from_within : (plan : PlanModel) (task : TaskModel) (a : ℕ) → rows_from plan task a ≤ out plan task
 from_within plan task a =
     elim (cases_lt a (length task.units)) [
       | inl l ↦ greatest_over (rows_from plan task) (range_with_len 0 (length task.units)) a (in_range a (length task.units) l)

@@ -70,7 +70,7 @@ spent_grows plan task a n (suc d) m e =
     let same : spent plan task a (n + d + 1) ≡ spent plan task a m = ap (spent plan task a) (omega (arith, e)) in
     omega (arith, below, more, same)
 
-spent_within : (plan : PlanModel) (task : TaskModel) (a n m : ℕ) → n ≤ m → spent plan task a n ≤ spent plan task a m
+pub spent_within : (plan : PlanModel) (task : TaskModel) (a n m : ℕ) → n ≤ m → spent plan task a n ≤ spent plan task a m
 spent_within plan task a n m l = spent_grows plan task a n (m - n) m (omega (arith, l))
 
 -- ---- a wait that goes on: the job stands at a lock of a global resource, and has spun s times since it joined the queue
