@@ -21,6 +21,7 @@ pub mod Names
 pub mod WellFormed
 pub mod Bounds
 pub mod Blocking
+pub mod Scheduling
 pub mod Building
 pub mod Codes
 pub mod Tasks
