@@ -42,6 +42,7 @@ pub mod ShortQueues
 pub mod Members
 pub mod LevelOrder
 pub mod Blocking
+pub mod Scheduling
 pub mod Verdicts
 pub mod Calls
 pub mod ReplyLocality
