@@ -29,6 +29,7 @@ pub mod Apart
 pub mod Ticks
 pub mod QueueMembers
 pub mod Overtaking
+pub mod QueueLocks
 pub mod Users
 pub mod LocalLocks
 pub mod Exclusion
@@ -36,6 +37,10 @@ pub mod SectionWork
 pub mod QueueWork
 pub mod Spins
 pub mod SpinBound
+pub mod ShortQueues
+pub mod Members
+pub mod LevelOrder
+pub mod Blocking
 pub mod Verdicts
 pub mod Calls
 pub mod ReplyLocality

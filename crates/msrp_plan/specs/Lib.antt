@@ -13,9 +13,11 @@ pub mod Logs
 pub mod Phases
 pub mod Calls
 pub mod Laws
+pub mod Blocking
 pub mod Verdict
 pub mod Faults
 pub mod FifoLock
+pub mod LockStates
 pub mod Names
 pub mod WellFormed
 pub mod Bounds
