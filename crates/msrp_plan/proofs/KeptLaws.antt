@@ -8,6 +8,7 @@ use Rattle.msrp_plan.specs.declared.rows.Row.{Row}
 use Rattle.msrp_plan.proofs.LocalLocks.{no_local_blocking}
 use Rattle.msrp_plan.proofs.Exclusion.{mutual_exclusion}
 use Rattle.msrp_plan.proofs.Overtaking.{bounded_overtaking}
+use Rattle.msrp_plan.proofs.ShortQueues.{short_queues}
 use Rattle.msrp_plan.proofs.SpinBound.{bounded_spinning}
 
 -- all laws at once
@@ -21,5 +22,6 @@ keeps_laws plan rows ok run =
       blocking = no_local_blocking plan rows ok start;
       exclusion = mutual_exclusion plan rows ok start;
       overtaking = bounded_overtaking plan rows ok start;
+      queues = short_queues plan rows ok start;
       spinning = bounded_spinning plan rows ok start;
     }

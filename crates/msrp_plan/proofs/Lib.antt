@@ -37,6 +37,10 @@ pub mod SectionWork
 pub mod QueueWork
 pub mod Spins
 pub mod SpinBound
+pub mod ShortQueues
+pub mod Members
+pub mod LevelOrder
+pub mod Blocking
 pub mod Verdicts
 pub mod Calls
 pub mod ReplyLocality

@@ -109,7 +109,7 @@ begin plan g x t pre r tick h job on kind e =
     ]
 
 -- the queue then
-joined_queue : (plan : PlanModel) (g : ℕ) (x : JobId) (pre : List Row) (r : Row) → r.job ≡ Some x → is_on g r.res ≡ true → r.kind ≡ Queue → Effect plan g pre r → fifo g (pre ++ r ∷ []) ≡ fifo g pre ++ x ∷ []
+pub joined_queue : (plan : PlanModel) (g : ℕ) (x : JobId) (pre : List Row) (r : Row) → r.job ≡ Some x → is_on g r.res ≡ true → r.kind ≡ Queue → Effect plan g pre r → fifo g (pre ++ r ∷ []) ≡ fifo g pre ++ x ∷ []
 joined_queue plan g x pre r job on kind e =
     elim e [
       | Quiet off fs st ↦ absurd (true≢false (sym on ∙ off))
@@ -137,7 +137,7 @@ bounded_spinning plan rows ok run = λ pre r since post j g same w.
     let b = begin plan g j tick.0 pre r tick.1 h w.job w.resource w.joins e in
     let total = works plan g (pre ++ r ∷ []) (fifo g pre) in
     let all = each_before (IsLegal plan) (pre ++ r ∷ []) since post rest.1 in
-    let k : 0 + count_by (is_spin_of j g) since ≤ works plan g (pre ++ r ∷ []) (fifo g pre) =
+    let k : 0 + count_by (is_spin_of j) since ≤ works plan g (pre ++ r ∷ []) (fifo g pre) =
     elim (tick_push plan tick.0 pre r tick.1 h) [
       | inl s ↦ spins_from plan g j tick.0 (pre ++ r ∷ []) since total 0 ok q.0 q.1 next s b all w.waits
       | inr n ↦ spins_from plan g j (tick.0 + 1) (pre ++ r ∷ []) since total 0 ok q.0 q.1 next n.0 (next_tick plan g j tick.0 (pre ++ r ∷ []) total 0 n.1 n.2 next.queue b) all w.waits

@@ -13,6 +13,7 @@ pub mod Logs
 pub mod Phases
 pub mod Calls
 pub mod Laws
+pub mod Blocking
 pub mod Verdict
 pub mod Faults
 pub mod FifoLock
