@@ -2,9 +2,10 @@
 use Rattle.std.proofs.Common.{◌≡◌, ℕ, zero, suc, ◌+◌, ◌*◌, ◌/◌, ◌<◌, ◌≤◌, Bool, true, false, cond, ◌&&◌, List, [], ◌∷◌, ◌++◌, map, length, refl, ap, sym, ◌∙◌, subst, arith, inl, inr, eq-eqb, ne_eqb, length-append}
 use Rattle.std.specs.List.{AllByRecursion, filter}
 use Rattle.std.proofs.Math.Bool.{true≢false}
-use Rattle.std.proofs.lemmas.Bool.{cases_lt}
+use Rattle.std.proofs.lemmas.Bool.{cases_lt, and_parts, and_from}
 use Rattle.std.proofs.lemmas.List.{length-map, map-append, get_or_past}
 use Rattle.msrp_plan.specs.Plan.{PlanModel}
+use Rattle.msrp_plan.specs.Aheads.{carries_its_ahead, carries_ahead}
 use Rattle.msrp_plan.specs.Levels.{is_global}
 use Rattle.msrp_plan.specs.Queues.{is_on}
 use Rattle.msrp_plan.specs.Runs.{EachAfter, IsCoreTurn, CoreRun, IsRun}
@@ -87,11 +88,24 @@ rows_paired R [] (s ∷ h) all = absurd all
 rows_paired R (x ∷ turns) [] all = absurd all
 rows_paired R (x ∷ turns) (s ∷ h) all = (all.0, rows_paired R turns h all.1)
 
+-- ---- what rows carry
+carried_each : (turns : List Turn) → carries_ahead (rows_of turns) ≡ true → AllByRecursion (λ x. carries_its_ahead x.row ≡ true) turns
+carried_each [] h = tt
+carried_each (x ∷ turns) h = let k = and_parts (carries_its_ahead x.row) (carries_ahead (rows_of turns)) h in (k.0, carried_each turns k.1)
+
+carried_all : (turns : List Turn) → AllByRecursion (λ x. carries_its_ahead x.row ≡ true) turns → carries_ahead (rows_of turns) ≡ true
+carried_all [] all = refl
+carried_all (x ∷ turns) all = and_from (carries_its_ahead x.row) (carries_ahead (rows_of turns)) all.0 (carried_all turns all.1)
+
 -- ---- the merged list of logs that fit their books
 module _ (plan : PlanModel) (logs : List LogModel) (books : ℕ → List Entry) (turns : List Turn) (are : AreLogs plan logs books) (m : IsMerged plan.cores plan.ticks (turns_of logs) turns) (past : (c : ℕ) → plan.cores ≤ c → books c ≡ []) where
   -- the log of each core is as it was
   pub logs_kept : (c : ℕ) → c < plan.cores → log_of c (rows_of turns) ≡ rows_of (turns_of logs c)
   logs_kept c low = rows_by c turns ∙ ap rows_of (m.own c low)
+
+  -- where the logs carry all aheads the whole does
+  pub aheads_kept : ((c : ℕ) → c < plan.cores → carries_ahead (rows_of (turns_of logs c)) ≡ true) → carries_ahead (rows_of turns) ≡ true
+  aheads_kept each = carried_all turns (all_cores plan.cores (λ x. carries_its_ahead x.row ≡ true) turns m.known (λ c low. subst (AllByRecursion (λ x. carries_its_ahead x.row ≡ true)) (sym (m.own c low)) (carried_each (turns_of logs c) (each c low))))
 
   -- each core's steps are the entries of its book
   fits_merged : (c : ℕ) → Paired IsTurnOf (filter has_place (filter (is_by c) turns)) (books c)

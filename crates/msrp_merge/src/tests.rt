@@ -27,6 +27,7 @@ fn idle(tick: u32, core: u32) -> Turn {
         kind: Kind::Idle,
         job: None,
         res: None,
+        ahead: None,
     };
     Turn { row, place: None }
 }
@@ -38,6 +39,7 @@ fn work(tick: u32, core: u32) -> Turn {
         kind: Kind::Run,
         job: Some(job_of(core)),
         res: None,
+        ahead: None,
     };
     Turn { row, place: None }
 }
@@ -52,6 +54,7 @@ fn step(tick: u32, core: u32, kind: Kind, number: u32) -> Turn
         kind,
         job: Some(job_of(core)),
         res: Some(RES),
+        ahead: None,
     };
     let polled = matches!(kind, Kind::Spin | Kind::Grant);
     let place = Some(Place { number, polled });
