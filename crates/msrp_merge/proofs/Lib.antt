@@ -7,3 +7,4 @@ pub mod Replies
 pub mod Runs
 pub mod Loops
 pub mod Boards
+pub mod Handover
