@@ -1,6 +1,7 @@
 pub mod Insertion
 pub mod Ranks
 pub mod Blocks
+pub mod Fitting
 pub mod Pairing
 pub mod Histories
 pub mod Replies
