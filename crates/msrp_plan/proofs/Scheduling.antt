@@ -3,3 +3,4 @@
 pub mod Released
 pub mod Conservation
 pub mod DeadlineOrder
+pub mod Waiters
