@@ -10,6 +10,7 @@ pub mod RoundRobin
 pub mod CoreJobs
 pub mod LegalRows
 pub mod SameRow
+pub mod Aheads
 pub mod Determinacy
 pub mod Writes
 pub mod UnitCounts
@@ -48,7 +49,6 @@ pub mod ReplyLocality
 pub mod Nesting
 pub mod Faultless
 pub mod Drafts
-pub mod WholePlans
 pub mod AcceptedPlans
 pub mod KeptLaws
 pub mod Stored

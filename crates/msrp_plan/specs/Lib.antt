@@ -1,4 +1,6 @@
 pub mod Shape
+pub mod ReleaseTimes
+pub mod Aheads
 pub mod Plan
 pub mod Units
 pub mod Jobs
@@ -24,6 +26,7 @@ pub mod Blocking
 pub mod Scheduling
 pub mod Building
 pub mod Codes
+pub mod Times
 pub mod Tasks
 pub mod Marks
 pub mod Views

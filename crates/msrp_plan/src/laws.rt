@@ -1,6 +1,7 @@
 //! What the definition of a legal run promises: laws over every plan and every start of a legal run,
 //! whatever the order of the cores. Each function does nothing; its contract is the law.
-ghost use Rattle.std.specs.Prelude.{◌≡◌, ◌-◌, ◌∷◌, ◌++◌, List, length, take, drop, count_by, true, false};
+ghost use Rattle.std.specs.Prelude.{◌≡◌, ◌-◌, ◌∷◌, ◌++◌, List, map, length, take, drop, count_by, true, false};
+ghost use Rattle.msrp_plan.specs.Aheads.{carries_ahead, without_ahead};
 ghost use Rattle.msrp_plan.specs.Plan.{PlanModel};
 ghost use Rattle.msrp_plan.specs.Runs.{IsRunStart, IsRun};
 ghost use Rattle.msrp_plan.specs.WellFormed.{IsPlan};
@@ -56,10 +57,13 @@ pub fn bounded_spinning()
 {}
 
 /// Determinacy: the order in which the cores take their turns fixes the run. Two runs of one plan, or two
-/// starts of runs, with the same cores in the same order are equal.
+/// starts of runs, with the same cores in the same order are equal, but for aheads that one of them carries and
+/// the other doesn't.
 pub fn determinacy()
-    ensures starts { (plan : PlanModel) (a b : List Row) → IsRunStart plan a → IsRunStart plan b → core_order a ≡ core_order b → a ≡ b }
-    ensures runs { (plan : PlanModel) (a b : List Row) → IsRun plan a → IsRun plan b → core_order a ≡ core_order b → a ≡ b }
+    ensures starts { (plan : PlanModel) (a b : List Row) → IsRunStart plan a → IsRunStart plan b → core_order a ≡ core_order b → map without_ahead a ≡ map without_ahead b }
+    ensures carrying_starts { (plan : PlanModel) (a b : List Row) → IsRunStart plan a → IsRunStart plan b → core_order a ≡ core_order b → carries_ahead a ≡ true → carries_ahead b ≡ true → a ≡ b }
+    ensures runs { (plan : PlanModel) (a b : List Row) → IsRun plan a → IsRun plan b → core_order a ≡ core_order b → map without_ahead a ≡ map without_ahead b }
+    ensures carrying_runs { (plan : PlanModel) (a b : List Row) → IsRun plan a → IsRun plan b → core_order a ≡ core_order b → carries_ahead a ≡ true → carries_ahead b ≡ true → a ≡ b }
 {}
 
 /// A worked run with a local resource: who is started later finds it free. Were it started past the ceiling,
