@@ -4,3 +4,5 @@ pub mod Released
 pub mod Conservation
 pub mod DeadlineOrder
 pub mod Waiters
+pub mod NextRow
+pub mod Orders
