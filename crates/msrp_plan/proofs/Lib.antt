@@ -10,6 +10,7 @@ pub mod RoundRobin
 pub mod CoreJobs
 pub mod LegalRows
 pub mod SameRow
+pub mod Aheads
 pub mod Determinacy
 pub mod Writes
 pub mod UnitCounts
@@ -41,6 +42,7 @@ pub mod ShortQueues
 pub mod Members
 pub mod LevelOrder
 pub mod Blocking
+pub mod Scheduling
 pub mod Verdicts
 pub mod Calls
 pub mod ReplyLocality

@@ -1,6 +1,6 @@
 -- The queue of a global resource and the one-thread lock agree: at a turn of a core the queue replies what the lock
 -- answers, and after the turn they agree again.
-use Rattle.std.proofs.Common.{◌≡◌, ◌≢◌, ℕ, zero, suc, ◌<◌, Bool, true, false, cond, not, ◌&&◌, ◌||◌, List, [], ◌∷◌, ◌++◌, Option, Some, None, refl, ap, sym, ◌∙◌, subst, arith, length, map, drop, inl, inr, eq-eqb}
+use Rattle.std.proofs.Common.{◌≡◌, ◌≢◌, ℕ, zero, suc, ◌<◌, Bool, true, false, cond, not, ◌&&◌, ◌||◌, List, [], ◌∷◌, ◌++◌, Option, Some, None, IfSome, refl, ap, sym, ◌∙◌, subst, arith, length, map, drop, inl, inr, eq-eqb}
 use Rattle.std.specs.List.{list_any, Contains, AllByRecursion}
 use Rattle.std.proofs.Math.Bool.{true≢false, or-true}
 use Rattle.std.proofs.lemmas.Bool.{cases_Bool, cases_lt, and_from, and_parts, false_from_ne_true}
@@ -9,11 +9,11 @@ use Rattle.msrp_plan.specs.Plan.{PlanModel, core_of}
 use Rattle.msrp_plan.specs.Jobs.{jobs_on, is_job, same_job, holds, is_row_of}
 use Rattle.msrp_plan.specs.Levels.{is_global}
 use Rattle.msrp_plan.specs.Ceiling.{resources}
-use Rattle.msrp_plan.specs.Queues.{fifo, replies, is_free, is_first, is_behind, is_on}
+use Rattle.msrp_plan.specs.Queues.{fifo, replies, counts, is_free, is_first, is_behind, is_on}
 use Rattle.msrp_plan.specs.Runs.{IsLegal, IsCoreTurn, EachAfter, is_fifo_reply, replies_on}
 use Rattle.msrp_plan.specs.Logs.{log_of}
 use Rattle.msrp_plan.specs.FifoLock.{FifoLock, free_lock, IsAmong, IsFirst, Answers, lock_after, without_first}
-use Rattle.msrp_plan.specs.Calls.{kind_of_call}
+use Rattle.msrp_plan.specs.Calls.{kind_of_call, ahead_of_call}
 use Rattle.msrp_plan.specs.LockStates.{first_holds, lock_at, IsRowOfCall, Tells}
 use Rattle.msrp_plan.specs.WellFormed.{IsPlan}
 use Rattle.msrp_plan.specs.declared.ids.JobId.{JobId}
@@ -95,6 +95,21 @@ replies_from_answers plan x f granted (Poll false) sole h =
     and_from (list_any (is_job (Some x)) f) (not (is_first f (Some x))) (any_from_among plan x f sole h.0) (ap not (false_from_ne_true (is_first f (Some x)) (λ e. h.1 (core_first plan x f e))))
 replies_from_answers plan x f granted Leave sole h = refl
 
+-- what a lock's answer to a request tells is the length of the queue
+pub tells_from_answers : (plan : PlanModel) (f : List JobId) (granted : Bool) (c : ℕ) (call : Call) → Answers (record { queue = map (core_of plan) f; granted = granted }) c call → Tells f call
+tells_from_answers plan f granted c (Ask n) h = h.1 ∙ length-map f (core_of plan)
+tells_from_answers plan f granted c (Poll true) h = tt
+tells_from_answers plan f granted c (Poll false) h = tt
+tells_from_answers plan f granted c Leave h = tt
+
+-- and the queue counts the ahead that the call tells
+counts_told : (f : List JobId) (call : Call) (o : Option ℕ) → Tells f call → IfSome o (λ n. ahead_of_call call ≡ Some n) → counts f o ≡ true
+counts_told f call None t h = refl
+counts_told f (Ask zero) (Some n) t h = absurd (cc)
+counts_told f (Ask (suc k)) (Some n) t h = eq-eqb n (length f) (let e : suc k ≡ n = cc in sym e ∙ t)
+counts_told f (Poll granted) (Some n) t h = absurd (cc)
+counts_told f Leave (Some n) t h = absurd (cc)
+
 -- a global resource is one of the plan's
 pub global_named : (plan : PlanModel) (g : ℕ) → IsPlan plan → is_global plan g ≡ true → Contains (resources plan) g
 global_named plan g ok glob = elim (cases_lt g (length plan.resources)) [
@@ -116,8 +131,11 @@ pub reply_by_lock : (plan : PlanModel) (g : ℕ) (pre : List Row) (r : Row) (x :
 reply_by_lock plan g pre r x call ok glob all turn job row h =
     let queue = queue_at plan g pre ok glob (global_named plan g ok glob) all in
     let at = turn_core plan pre r x turn job in
-    let k = replies_from_answers plan x (fifo g pre) (first_holds plan pre g (fifo g pre)) call (sole_in plan g pre r x ok glob queue turn job) (subst (λ c. Answers (lock_at plan g pre) c call) (sym at) h) in
-    ap (λ o. replies_on pre o r) row.resource ∙ (ap (λ o. replies (fifo g pre) o r.kind) job ∙ (ap (replies (fifo g pre) (Some x)) row.kind ∙ k))
+    let answered : Answers (lock_at plan g pre) (core_of plan x) call = subst (λ c. Answers (lock_at plan g pre) c call) (sym at) h in
+    let k = replies_from_answers plan x (fifo g pre) (first_holds plan pre g (fifo g pre)) call (sole_in plan g pre r x ok glob queue turn job) answered in
+    let reply : replies (fifo g pre) r.job r.kind ≡ true = ap (λ o. replies (fifo g pre) o r.kind) job ∙ (ap (replies (fifo g pre) (Some x)) row.kind ∙ k) in
+    let tells = tells_from_answers plan (fifo g pre) (first_holds plan pre g (fifo g pre)) (core_of plan x) call answered in
+    ap (λ o. replies_on pre o r) row.resource ∙ and_from (replies (fifo g pre) r.job r.kind) (counts (fifo g pre) r.ahead) reply (counts_told (fifo g pre) call r.ahead tells row.ahead)
 
 -- ---- a legal row, and the lock after it
 -- who holds it is told by its stand
@@ -291,13 +309,6 @@ lock_off plan g pre r ok glob all legal off = elim (effect plan g pre r ok glob 
   | Spun z m back fs ↦ absurd (true≢false (sym m.on ∙ off))
   | Left z m fs ↦ absurd (true≢false (sym m.on ∙ off))
 ]
-
--- what a lock's answer to a request tells is the length of the queue
-pub tells_from_answers : (plan : PlanModel) (f : List JobId) (granted : Bool) (c : ℕ) (call : Call) → Answers (record { queue = map (core_of plan) f; granted = granted }) c call → Tells f call
-tells_from_answers plan f granted c (Ask n) h = h.1 ∙ length-map f (core_of plan)
-tells_from_answers plan f granted c (Poll true) h = tt
-tells_from_answers plan f granted c (Poll false) h = tt
-tells_from_answers plan f granted c Leave h = tt
 
 -- ---- the start of a legal run
 -- a turn of its core after all rows, from one after its log

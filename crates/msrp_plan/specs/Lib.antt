@@ -1,5 +1,6 @@
 pub mod Shape
 pub mod ReleaseTimes
+pub mod Aheads
 pub mod Plan
 pub mod Units
 pub mod Jobs
@@ -14,7 +15,6 @@ pub mod Logs
 pub mod Phases
 pub mod Calls
 pub mod Laws
-pub mod Blocking
 pub mod Verdict
 pub mod Faults
 pub mod FifoLock
@@ -22,6 +22,8 @@ pub mod LockStates
 pub mod Names
 pub mod WellFormed
 pub mod Bounds
+pub mod Blocking
+pub mod Scheduling
 pub mod Building
 pub mod Codes
 pub mod Times

@@ -1,6 +1,6 @@
 -- A global resource as rows leave it, in the words of the one-thread lock: so the two statements of first-in-first-out
 -- can be compared, the queue of jobs that replies to rows, and the lock that answers calls of cores.
-use Rattle.std.specs.Prelude.{ℕ, List, [], ◌∷◌, Bool, false, Some, map, length, fold, ◌≡◌, ⊤}
+use Rattle.std.specs.Prelude.{ℕ, List, [], ◌∷◌, Bool, false, Some, IfSome, map, length, fold, ◌≡◌, ⊤}
 use Rattle.msrp_plan.specs.Plan.{PlanModel, core_of}
 use Rattle.msrp_plan.specs.Jobs.{holds}
 use Rattle.msrp_plan.specs.Queues.{fifo}
@@ -25,11 +25,12 @@ lock_at plan g pre = record { queue = map (core_of plan) (fifo g pre); granted =
 abbrev pub lock_from : FifoLock → List (ℕ × Call) → FifoLock
 lock_from lock calls = fold (λ before s. lock_after before s.0 s.1) lock calls
 
--- the row is the one that a core's call of the resource makes
+-- the row is one that a core's call of the resource makes; the ahead that it carries, if it does, is the call's
 pub record IsRowOfCall (g : ℕ) (c : ℕ) (call : Call) (r : Row) : Type 0 where
   pub core : r.core.0 ≡ c
   pub resource : r.res ≡ Some (record { 0 = g })
   pub kind : r.kind ≡ kind_of_call call
+  pub ahead : IfSome r.ahead (λ n. ahead_of_call call ≡ Some n)
 
 -- the rows are those that the calls of the resource make, one by one
 abbrev pub AreRowsOfCalls : ℕ → List (ℕ × Call) → List Row → Type 0

@@ -1,8 +1,9 @@
 //! What the definitions say, shown by laws over them: the verdict tells legal runs from all other rows, a
 //! run is legal row by row, and each rule looks no further than it should. Each function does nothing; its
 //! contract is the law.
-ghost use Rattle.std.specs.Prelude.{◌≡◌, ◌↔◌, ◌⊎◌, ◌++◌, ◌∷◌, [], ◌<◌, ◌*◌, ℕ, List, Some, None, length, true, false};
+ghost use Rattle.std.specs.Prelude.{◌≡◌, ◌↔◌, ◌⊎◌, ◌++◌, ◌∷◌, [], ◌<◌, ◌*◌, ℕ, List, Some, None, map, length, true, false};
 ghost use Rattle.std.specs.List.{AllPass};
+ghost use Rattle.msrp_plan.specs.Aheads.{without_ahead};
 ghost use Rattle.msrp_plan.specs.Plan.{PlanModel};
 ghost use Rattle.msrp_plan.specs.Choice.{choice};
 ghost use Rattle.msrp_plan.specs.Levels.{is_global};
@@ -81,4 +82,11 @@ pub fn queues_are_locks()
     ensures answers { (plan : PlanModel) (pre : List Row) (r : Row) (g : ℕ) (call : Call) → IsPlan plan → IsRunStart plan (pre ++ r ∷ []) → is_global plan g ≡ true → IsRowOfCall g r.core.0 call r → Tells (fifo g pre) call → Answers (lock_at plan g pre) r.core.0 call }
     ensures next { (plan : PlanModel) (pre : List Row) (r : Row) (g : ℕ) (call : Call) → IsPlan plan → IsRunStart plan (pre ++ r ∷ []) → is_global plan g ≡ true → IsRowOfCall g r.core.0 call r → Answers (lock_at plan g pre) r.core.0 call → lock_at plan g (pre ++ r ∷ []) ≡ lock_after (lock_at plan g pre) r.core.0 call }
     ensures others { (plan : PlanModel) (pre : List Row) (r : Row) (g : ℕ) → IsPlan plan → IsRunStart plan (pre ++ r ∷ []) → is_global plan g ≡ true → is_on g r.res ≡ false → lock_at plan g (pre ++ r ∷ []) ≡ lock_at plan g pre }
+{}
+
+/// An ahead says no more than the rows before it do: a legal run stays one where aheads are left out.
+pub fn aheads()
+    ensures start { (plan : PlanModel) (rows : List Row) → IsRunStart plan rows → IsRunStart plan (map without_ahead rows) }
+    ensures run { (plan : PlanModel) (rows : List Row) → IsRun plan rows → IsRun plan (map without_ahead rows) }
+    ensures ahead { (plan : PlanModel) (pre : List Row) (r : Row) (g : ResId) (n : ℕ) → IsLegal plan pre r → r.res ≡ Some g → r.ahead ≡ Some n → n ≡ length (fifo g.0 pre) }
 {}

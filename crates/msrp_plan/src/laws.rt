@@ -1,6 +1,7 @@
 //! What the definition of a legal run promises: laws over every plan and every start of a legal run,
 //! whatever the order of the cores. Each function does nothing; its contract is the law.
-ghost use Rattle.std.specs.Prelude.{◌≡◌, ◌-◌, ◌∷◌, ◌++◌, List, length, take, drop, count_by, true, false};
+ghost use Rattle.std.specs.Prelude.{◌≡◌, ◌-◌, ◌∷◌, ◌++◌, List, map, length, take, drop, count_by, true, false};
+ghost use Rattle.msrp_plan.specs.Aheads.{carries_ahead, without_ahead};
 ghost use Rattle.msrp_plan.specs.Plan.{PlanModel};
 ghost use Rattle.msrp_plan.specs.Runs.{IsRunStart, IsRun};
 ghost use Rattle.msrp_plan.specs.WellFormed.{IsPlan};
@@ -18,8 +19,13 @@ ghost use Rattle.msrp_plan.specs.Examples.RequestedAgain as requested_again;
 ghost use Rattle.msrp_plan.specs.declared.rows.Row.{Row};
 
 mod blocking;
+mod scheduling;
 
-pub use blocking::{blocked_by_begun_sections, blocked_by_one_section, bounds_on_blocking};
+pub use blocking::{
+    blocked_as_long_as_can_be, blocked_by_a_global_section, blocked_by_begun_sections,
+    blocked_by_one_section, bounded_blocking, bounded_sections, bounds_on_blocking,
+};
+pub use scheduling::{earliest_deadline_first, runs_released, work_conservation};
 
 /// No local blocking: a job that has its turn never finds a local resource held by another job, of whatever
 /// core (Baker 1991). So a lock of a local resource takes one tick.
@@ -51,10 +57,13 @@ pub fn bounded_spinning()
 {}
 
 /// Determinacy: the order in which the cores take their turns fixes the run. Two runs of one plan, or two
-/// starts of runs, with the same cores in the same order are equal.
+/// starts of runs, with the same cores in the same order are equal, but for aheads that one of them carries and
+/// the other doesn't.
 pub fn determinacy()
-    ensures starts { (plan : PlanModel) (a b : List Row) → IsRunStart plan a → IsRunStart plan b → core_order a ≡ core_order b → a ≡ b }
-    ensures runs { (plan : PlanModel) (a b : List Row) → IsRun plan a → IsRun plan b → core_order a ≡ core_order b → a ≡ b }
+    ensures starts { (plan : PlanModel) (a b : List Row) → IsRunStart plan a → IsRunStart plan b → core_order a ≡ core_order b → map without_ahead a ≡ map without_ahead b }
+    ensures carrying_starts { (plan : PlanModel) (a b : List Row) → IsRunStart plan a → IsRunStart plan b → core_order a ≡ core_order b → carries_ahead a ≡ true → carries_ahead b ≡ true → a ≡ b }
+    ensures runs { (plan : PlanModel) (a b : List Row) → IsRun plan a → IsRun plan b → core_order a ≡ core_order b → map without_ahead a ≡ map without_ahead b }
+    ensures carrying_runs { (plan : PlanModel) (a b : List Row) → IsRun plan a → IsRun plan b → core_order a ≡ core_order b → carries_ahead a ≡ true → carries_ahead b ≡ true → a ≡ b }
 {}
 
 /// A worked run with a local resource: who is started later finds it free. Were it started past the ceiling,

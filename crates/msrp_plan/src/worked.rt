@@ -2,6 +2,7 @@
 //! aren't legal, with the verdict on them. Each function does nothing; its contract is the example. The plans
 //! and rows stand in `specs/Examples`.
 ghost use Rattle.std.specs.Prelude.{◌≡◌, true, false, [], ◌∷◌, Some, None, codes, replicate};
+ghost use Rattle.msrp_plan.specs.Aheads.{carries_ahead};
 ghost use Rattle.msrp_plan.specs.Levels.{level, local_ceiling, top, is_global};
 ghost use Rattle.msrp_plan.specs.Runs.{IsRun};
 ghost use Rattle.msrp_plan.specs.Verdict.{verdict};
@@ -100,6 +101,10 @@ pub fn blocked_head()
 /// that break each of the rules.
 pub fn handover_within_a_tick()
     ensures run { IsRun handover_within_a_tick.plan handover_within_a_tick.rows }
+    ensures without_ahead { carries_ahead handover_within_a_tick.rows ≡ false }
+    ensures ahead_run { IsRun handover_within_a_tick.plan handover_within_a_tick.with_ahead }
+    ensures with_ahead { carries_ahead handover_within_a_tick.with_ahead ≡ true }
+    ensures ahead_miscounted { verdict handover_within_a_tick.plan handover_within_a_tick.ahead_miscounted ≡ fault 2 A5 }
     ensures turn_of_no_core { verdict handover_within_a_tick.plan handover_within_a_tick.turn_of_no_core ≡ fault 1 A1 }
     ensures second_turn { verdict handover_within_a_tick.plan handover_within_a_tick.second_turn ≡ fault 2 A1 }
     ensures tick_too_early { verdict handover_within_a_tick.plan handover_within_a_tick.tick_too_early ≡ fault 2 A1 }
