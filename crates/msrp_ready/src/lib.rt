@@ -1,0 +1,5 @@
+//! The jobs of a core that are released and not started, of which the one with the least key comes first.
+#![tactic(auto)]
+
+mod heap;
+mod keyed;
