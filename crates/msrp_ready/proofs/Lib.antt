@@ -1,3 +1,4 @@
 pub mod Order
 pub mod Walks
 pub mod HeapSteps
+pub mod Gathering
