@@ -1,17 +1,18 @@
 //! `msrp`: the run of a plan of periodic tasks on several cores, from a plan's text to a trace's text.
 //!
-//! `words` reads the command line, `engine` turns bytes into bytes, and `main` opens what the words name,
+//! `cli` reads the command line, `engine` turns bytes into bytes, and `main` opens what the words name,
 //! prints the line of a fault and gives the exit status.
 #![tactic(auto)]
 
+mod cli;
 mod cores;
 mod engine;
 mod faults;
 #[cfg(test)]
 mod tests;
 mod trace;
-mod words;
 
+use cli::{Cmd, TurnOrder, command_of, help_text};
 use engine::sim_text;
 use faults::{CliFault, exit_of};
 use msrp_plan::bytes::{Sink, Source};
@@ -19,7 +20,6 @@ use std::fs::File;
 use std::io;
 use std::io::{ErrorKind, Read};
 use std::process::ExitCode;
-use words::{Cmd, command_of, help_text};
 
 // What a plan is read from.
 #[derive(Drop)]
@@ -66,10 +66,15 @@ fn run(rt: &HostRuntime) -> Result<u8, CliFault> {
             out.put(help_text(alloc)?.as_bytes())?;
             Ok(0)
         }
-        Cmd::Sim { plan } => {
+        Cmd::Sim {
+            order: TurnOrder::Asc,
+            ahead: false,
+            plan,
+        } => {
             let mut source = Source::new(open(rt, plan)?);
             sim_text(alloc, &mut source, &mut out)
         }
+        _ => Err(CliFault::Usage),
     }
 }
 

@@ -1,8 +1,8 @@
 //! Bytes in, bytes out: worked plans, refusals, and readers and writers that fail.
 
+use crate::cli::{Cmd, TurnOrder, command_of};
 use crate::engine::sim_text;
 use crate::faults::{CliFault, exit_of};
-use crate::words::{Cmd, command_of};
 use msrp_plan::bytes::{Sink, Source};
 use std::alloc::{AllocError, Global};
 use std::io;
@@ -386,16 +386,113 @@ fn words_of(alloc: Global, words: &[&str]) -> Result<Vec<String>, AllocError> {
     Ok(all)
 }
 
+// The plain simulation of a plan.
+fn sim(plan: &str) -> Cmd<'_> {
+    Cmd::Sim {
+        order: TurnOrder::Asc,
+        ahead: false,
+        plan,
+    }
+}
+
 #[test]
 fn commands(rt: HostRuntime) -> Result<(), Fail> {
-    let table: [(&[&str], Cmd<'_>); 11] = [
-        (&[], Cmd::Sim { plan: "-" }),
-        (&["sim"], Cmd::Sim { plan: "-" }),
-        (&["sim", "-"], Cmd::Sim { plan: "-" }),
-        (&["sim", "plan.csv"], Cmd::Sim { plan: "plan.csv" }),
-        (&["sim", ""], Cmd::Sim { plan: "" }),
-        (&["sim", "--", "-x"], Cmd::Sim { plan: "-x" }),
-        (&["sim", "--", "-"], Cmd::Sim { plan: "-" }),
+    let table: [(&[&str], Cmd<'_>); 27] = [
+        (&[], sim("-")),
+        (&["sim"], sim("-")),
+        (&["sim", "-"], sim("-")),
+        (&["sim", "plan.csv"], sim("plan.csv")),
+        (&["sim", ""], sim("")),
+        (&["sim", "--", "-x"], sim("-x")),
+        (&["sim", "--", "-"], sim("-")),
+        (&["sim", "--order", "asc"], sim("-")),
+        (
+            &["sim", "--order=desc", "p"],
+            Cmd::Sim {
+                order: TurnOrder::Desc,
+                ahead: false,
+                plan: "p",
+            },
+        ),
+        (
+            &["sim", "p", "--order", "rot", "--ahead"],
+            Cmd::Sim {
+                order: TurnOrder::Rot,
+                ahead: true,
+                plan: "p",
+            },
+        ),
+        (
+            &["run"],
+            Cmd::Run {
+                ahead: false,
+                plan: "-",
+            },
+        ),
+        (
+            &["run", "p"],
+            Cmd::Run {
+                ahead: false,
+                plan: "p",
+            },
+        ),
+        (
+            &["run", "--ahead", "p"],
+            Cmd::Run {
+                ahead: true,
+                plan: "p",
+            },
+        ),
+        (
+            &["audit", "p", "t"],
+            Cmd::Audit {
+                parallel: false,
+                plan: "p",
+                trace: "t",
+            },
+        ),
+        (
+            &["audit", "-", "t"],
+            Cmd::Audit {
+                parallel: false,
+                plan: "-",
+                trace: "t",
+            },
+        ),
+        (
+            &["audit", "p", "-"],
+            Cmd::Audit {
+                parallel: false,
+                plan: "p",
+                trace: "-",
+            },
+        ),
+        (
+            &["audit", "p", "t", "--parallel"],
+            Cmd::Audit {
+                parallel: true,
+                plan: "p",
+                trace: "t",
+            },
+        ),
+        (
+            &["report", "p", "t"],
+            Cmd::Report {
+                plan: "p",
+                trace: "t",
+            },
+        ),
+        (
+            &["report", "--", "p", "-"],
+            Cmd::Report {
+                plan: "p",
+                trace: "-",
+            },
+        ),
+        (&["check"], Cmd::Check { plan: "-" }),
+        (&["check", "p"], Cmd::Check { plan: "p" }),
+        (&["check", "--text", "p"], Cmd::CheckText { plan: "p" }),
+        (&["check", "--text"], Cmd::CheckText { plan: "-" }),
         (&["-h"], Cmd::Help),
         (&["--help"], Cmd::Help),
         (&["help"], Cmd::Help),
@@ -410,15 +507,29 @@ fn commands(rt: HostRuntime) -> Result<(), Fail> {
 
 #[test]
 fn no_commands(rt: HostRuntime) -> Result<(), Fail> {
-    let table: [&[&str]; 10] = [
+    let table: [&[&str]; 24] = [
         &["plan.csv"],
         &["-"],
-        &["run"],
         &["sim", "a", "b"],
-        &["sim", "--order", "asc"],
-        &["sim", "--order=asc", "a"],
+        &["sim", "--order", "up"],
+        &["sim", "--order"],
+        &["sim", "--order="],
+        &["sim", "--order", "asc", "--order", "asc"],
+        &["sim", "--ahead", "--ahead"],
+        &["sim", "--ahead=true"],
         &["--order", "asc", "sim"],
+        &["--ahead", "run"],
         &["sim", "-x"],
+        &["run", "--order", "asc"],
+        &["audit"],
+        &["audit", "p"],
+        &["audit", "p", "t", "x"],
+        &["audit", "-", "-"],
+        &["audit", "--", "-", "-"],
+        &["report", "-", "-"],
+        &["report", "--parallel", "p", "t"],
+        &["check", "--text", "--text"],
+        &["--version"],
         &["--", "sim"],
         &[""],
     ];

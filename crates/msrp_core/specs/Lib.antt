@@ -1,3 +1,4 @@
+pub mod Ports
 pub mod Progress
 pub mod Machine
 pub mod MachineView

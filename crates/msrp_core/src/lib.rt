@@ -6,7 +6,9 @@
 
 mod jobs;
 pub mod machines;
+mod port;
 mod progress;
 mod rows;
 
 pub use machines::Machine;
+pub use port::{Port, PortCall, Reply};

@@ -20,6 +20,7 @@ pub(crate) fn row_of(core: CoreId, tick: u32, chosen: Option<Progress>) -> Row
             kind: Kind::Idle,
             job: None,
             res: None,
+            ahead: None,
         },
         Some(progress) => Row {
             tick,
@@ -27,6 +28,7 @@ pub(crate) fn row_of(core: CoreId, tick: u32, chosen: Option<Progress>) -> Row
             kind: Kind::Run,
             job: Some(progress.job),
             res: None,
+            ahead: None,
         },
     }
 }

@@ -7,7 +7,7 @@ use Rattle.std.proofs.lemmas.List.Elements.{filter-append}
 use Rattle.msrp_plan.specs.Plan.{PlanModel}
 use Rattle.msrp_plan.specs.Choice.{choice}
 use Rattle.msrp_plan.specs.Actions.{does_next}
-use Rattle.msrp_plan.specs.Queues.{is_on, fifo, replies}
+use Rattle.msrp_plan.specs.Queues.{is_on, fifo, is_reply_of}
 use Rattle.msrp_plan.specs.Runs.{EachAfter, IsLegal, IsRunStart, is_in_turn, is_of_core, is_chosen, is_next_action, had_turn, same_choice, replies_on}
 use Rattle.msrp_plan.specs.Logs.{is_of, log_of, rows_on, AreApart}
 use Rattle.msrp_plan.specs.declared.ids.ResId.{ResId}
@@ -40,7 +40,7 @@ reply_alike : (plan : PlanModel) (x : Row) (pre other : List Row) → LookAlike 
 reply_alike plan x pre other a None e = refl
 reply_alike plan x pre other a (Some g) e =
     let here : is_on g.0 x.res ≡ true = ap (is_on g.0) (sym e) ∙ eq-eqb g.0 g.0 refl in
-    ap (λ q. replies q x.job x.kind) (sym (fifo_local g.0 pre) ∙ (ap (fifo g.0) (a.on g.0 here) ∙ fifo_local g.0 other))
+    ap (λ q. is_reply_of q x) (sym (fifo_local g.0 pre) ∙ (ap (fifo g.0) (a.on g.0 here) ∙ fifo_local g.0 other))
 
 -- a row that is legal after some rows is legal after others that look alike to it, if it is its turn there
 legal_alike : (plan : PlanModel) (x : Row) (pre other : List Row) → LookAlike plan x pre other → is_in_turn plan other x ≡ true → IsLegal plan pre x → IsLegal plan other x

@@ -153,7 +153,7 @@ left plan g pre r x op w l =
     (fifo_release g pre r (releasing g r Release w.on w.kind refl) (not_requesting g r Release w.on w.kind refl))
 
 -- ---- the row of a job, by its unit, and by whether what it names is g
-reply_on : (g : ℕ) (pre : List Row) (r : Row) (x : JobId) (h : ResId) (k : Kind) → h.0 ≡ g → r.job ≡ Some x → r.kind ≡ k → replies (fifo h.0 pre) r.job r.kind ≡ true → replies (fifo g pre) (Some x) k ≡ true
+pub reply_on : (g : ℕ) (pre : List Row) (r : Row) (x : JobId) (h : ResId) (k : Kind) → h.0 ≡ g → r.job ≡ Some x → r.kind ≡ k → replies (fifo h.0 pre) r.job r.kind ≡ true → replies (fifo g pre) (Some x) k ≡ true
 reply_on g pre r x h k eh ej ek p = subst (λ w. replies (fifo g pre) (Some x) w ≡ true) ek (subst (λ o. replies (fifo g pre) o r.kind ≡ true) ej (subst (λ n. replies (fifo n pre) r.job r.kind ≡ true) eh p))
 
 -- a row on it

@@ -1,7 +1,8 @@
 -- Filters, tests and counts of a list, where one test implies or equals another.
-use Rattle.std.proofs.Common.{◌≡◌, Bool, true, false, cond, ◌||◌, List, [], ◌∷◌, map, refl, ap, sym, ◌∙◌, length}
-use Rattle.std.specs.List.{filter, list_any, count_by, AllByRecursion}
+use Rattle.std.proofs.Common.{◌≡◌, ◌+◌, Option, Bool, true, false, cond, ◌||◌, List, [], ◌∷◌, map, refl, ap, sym, ◌∙◌, length}
+use Rattle.std.specs.List.{filter, filter_map, cons_option, list_any, count_by, AllByRecursion}
 use Rattle.std.proofs.lemmas.List.Sums.{length-filter}
+use Rattle.std.proofs.lemmas.List.Folds.{fold-map}
 
 -- what is never true is false
 is_false : (b : Bool) → (b ≡ true → false ≡ true) → b ≡ false
@@ -63,3 +64,12 @@ filter_map_same f p q P agree (x ∷ xs) all =
 pub any_map : {X Y : Type 0} (f : X → Y) (q : Y → Bool) (xs : List X) → list_any q (map f xs) ≡ list_any (λ x. q (f x)) xs
 any_map f q [] = refl
 any_map f q (x ∷ xs) = ap (λ b. q (f x) || b) (any_map f q xs)
+
+-- as many images pass as elements do whose image does
+pub count_map : {X Y : Type 0} (f : X → Y) (q : Y → Bool) (xs : List X) → count_by q (map f xs) ≡ count_by (λ x. q (f x)) xs
+count_map f q xs = fold-map (λ n y. n + cond (q y) 1 0) f 0 xs
+
+-- what is gathered from images is gathered from the elements
+pub gathered_map : {X Y Z : Type 0} (f : X → Y) (h : Y → Option Z) (xs : List X) → filter_map h (map f xs) ≡ filter_map (λ x. h (f x)) xs
+gathered_map f h [] = refl
+gathered_map f h (x ∷ xs) = ap (cons_option (h (f x))) (gathered_map f h xs)

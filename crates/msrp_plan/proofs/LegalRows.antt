@@ -7,7 +7,7 @@ use Rattle.msrp_plan.specs.Jobs.{jobs_on, done, is_queued}
 use Rattle.msrp_plan.specs.Choice.{choice}
 use Rattle.msrp_plan.specs.Shape.{has_shape}
 use Rattle.msrp_plan.specs.Actions.{same_res, res_of_unit, is_global_unit, allows, is_idle, does_unit, does_next}
-use Rattle.msrp_plan.specs.Queues.{fifo, replies}
+use Rattle.msrp_plan.specs.Queues.{fifo, replies, counts, is_reply_of}
 use Rattle.msrp_plan.specs.Runs.{had_turn, is_in_turn, is_of_core, same_choice, is_chosen, is_next_action, replies_on, IsLegal}
 use Rattle.msrp_plan.specs.declared.ids.JobId.{JobId}
 use Rattle.msrp_plan.specs.declared.ids.ResId.{ResId}
@@ -110,5 +110,15 @@ pub turn_chosen : (plan : PlanModel) (pre : List Row) (r : Row) (j : JobId) → 
 turn_chosen plan pre r j h e = sym h.job ∙ e
 
 -- ---- A5: what the queue of the row's resource replies
+both_replies : (plan : PlanModel) (pre : List Row) (r : Row) (g : ResId) → IsLegal plan pre r → r.res ≡ Some g → (replies (fifo g.0 pre) r.job r.kind ≡ true) × (counts (fifo g.0 pre) r.ahead ≡ true)
+both_replies plan pre r g h e =
+    let P : Option ResId → Type 0 = λ o. replies_on pre o r ≡ true in
+    and_parts (replies (fifo g.0 pre) r.job r.kind) (counts (fifo g.0 pre) r.ahead) (subst P e h.reply)
+
+-- the reply
 pub legal_reply : (plan : PlanModel) (pre : List Row) (r : Row) (g : ResId) → IsLegal plan pre r → r.res ≡ Some g → replies (fifo g.0 pre) r.job r.kind ≡ true
-legal_reply plan pre r g h e = let P : Option ResId → Type 0 = λ o. replies_on pre o r ≡ true in subst P e h.reply
+legal_reply plan pre r g h e = (both_replies plan pre r g h e).0
+
+-- the ahead that it carries, if it does, is the number of jobs in that queue
+pub legal_count : (plan : PlanModel) (pre : List Row) (r : Row) (g : ResId) → IsLegal plan pre r → r.res ≡ Some g → counts (fifo g.0 pre) r.ahead ≡ true
+legal_count plan pre r g h e = (both_replies plan pre r g h e).1

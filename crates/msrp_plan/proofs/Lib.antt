@@ -10,6 +10,7 @@ pub mod RoundRobin
 pub mod CoreJobs
 pub mod LegalRows
 pub mod SameRow
+pub mod Aheads
 pub mod Determinacy
 pub mod Writes
 pub mod UnitCounts
@@ -29,6 +30,7 @@ pub mod Apart
 pub mod Ticks
 pub mod QueueMembers
 pub mod Overtaking
+pub mod QueueLocks
 pub mod Users
 pub mod LocalLocks
 pub mod Exclusion
@@ -36,13 +38,17 @@ pub mod SectionWork
 pub mod QueueWork
 pub mod Spins
 pub mod SpinBound
+pub mod ShortQueues
+pub mod Members
+pub mod LevelOrder
+pub mod Blocking
+pub mod Scheduling
 pub mod Verdicts
 pub mod Calls
 pub mod ReplyLocality
 pub mod Nesting
 pub mod Faultless
 pub mod Drafts
-pub mod WholePlans
 pub mod AcceptedPlans
 pub mod KeptLaws
 pub mod Stored

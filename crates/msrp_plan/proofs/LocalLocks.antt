@@ -54,7 +54,7 @@ IsGuarded plan c pre =
     → is_live plan pre i ≡ true → is_before plan j i ≡ false → holds plan pre g j ≡ true → local_ceiling plan g < level plan i.task.0
 
 -- the row of a job of the core is a turn of the core
-turn_on : (plan : PlanModel) (c : ℕ) (pre : List Row) (r : Row) (x : JobId) → IsTurn plan pre r → r.job ≡ Some x → Contains (jobs_on plan c) x → choice plan c r.tick pre ≡ Some x
+pub turn_on : (plan : PlanModel) (c : ℕ) (pre : List Row) (r : Row) (x : JobId) → IsTurn plan pre r → r.job ≡ Some x → Contains (jobs_on plan c) x → choice plan c r.tick pre ≡ Some x
 turn_on plan c pre r x turn job there = subst (λ n. choice plan n r.tick pre ≡ Some x) (sym (turn_core plan pre r x turn job) ∙ on_its_core plan c x there) (turn_chosen plan pre r x turn job)
 
 -- by whose row it is: who starts is above the ceiling, and who runs was guarded

@@ -53,7 +53,7 @@ busy_same plan g pre r [] h = refl
 busy_same plan g pre r (y ∷ ys) h = h y
 
 -- a move between stands that hold alike changes no holder
-moved_same : (plan : PlanModel) (g : ℕ) (pre : List Row) (r : Row) (x : JobId) (k : Kind) (a b : Stand) → IsMove plan g pre r x k a b → is_holds b ≡ is_holds a → (j : JobId) (c : Bool) → is_row_of j r ≡ c → is_holds (stand plan g (pre ++ r ∷ []) j) ≡ is_holds (stand plan g pre j)
+pub moved_same : (plan : PlanModel) (g : ℕ) (pre : List Row) (r : Row) (x : JobId) (k : Kind) (a b : Stand) → IsMove plan g pre r x k a b → is_holds b ≡ is_holds a → (j : JobId) (c : Bool) → is_row_of j r ≡ c → is_holds (stand plan g (pre ++ r ∷ []) j) ≡ is_holds (stand plan g pre j)
 moved_same plan g pre r x k a b m e j true mine =
     let s = mover_is plan g pre r x j k a b m mine in
     subst (λ z. is_holds (stand plan g (pre ++ r ∷ []) z) ≡ is_holds (stand plan g pre z)) (sym s) (ap is_holds m.after ∙ (e ∙ sym (ap is_holds m.before)))

@@ -51,7 +51,7 @@ up_alone plan g pre r x y ok glob named firm turn job there up =
     ]
 
 -- a row of another job leaves its stand
-up_kept : (plan : PlanModel) (g : ℕ) (pre : List Row) (r : Row) (y : JobId) → is_row_of y r ≡ false → IsUp plan g (pre ++ r ∷ []) y → IsUp plan g pre y
+pub up_kept : (plan : PlanModel) (g : ℕ) (pre : List Row) (r : Row) (y : JobId) → is_row_of y r ≡ false → IsUp plan g (pre ++ r ∷ []) y → IsUp plan g pre y
 up_kept plan g pre r y e up = λ h. up (stand_kept plan g pre r y e ∙ h)
 
 -- the row of a job of the core is one of the core

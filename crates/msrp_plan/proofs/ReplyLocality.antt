@@ -2,7 +2,7 @@
 use Rattle.std.proofs.Common.{◌≡◌, ℕ, Bool, true, false, cond, List, [], ◌∷◌, Some, refl, ap, sym, ◌∙◌, drop}
 use Rattle.std.specs.List.{filter_map, cons_option}
 use Rattle.std.proofs.lemmas.Bool.{and_parts}
-use Rattle.msrp_plan.specs.Queues.{is_on, is_release, is_release_of, requester, fifo, replies}
+use Rattle.msrp_plan.specs.Queues.{is_on, is_release, is_release_of, requester, fifo, is_reply_of}
 use Rattle.msrp_plan.specs.Runs.{replies_on, is_fifo_reply}
 use Rattle.msrp_plan.specs.Logs.{rows_on}
 use Rattle.msrp_plan.specs.declared.ids.JobId.{JobId}
@@ -28,4 +28,4 @@ fifo_local g pre =
 
 -- and tell whether a row on it has its reply
 pub reply_local : (g : ResId) (pre : List Row) (r : Row) → r.res ≡ Some g → is_fifo_reply (rows_on g.0 pre) r ≡ is_fifo_reply pre r
-reply_local g pre r e = ap (λ o. replies_on (rows_on g.0 pre) o r) e ∙ (ap (λ q. replies q r.job r.kind) (fifo_local g.0 pre) ∙ ap (λ o. replies_on pre o r) (sym e))
+reply_local g pre r e = ap (λ o. replies_on (rows_on g.0 pre) o r) e ∙ (ap (λ q. is_reply_of q r) (fifo_local g.0 pre) ∙ ap (λ o. replies_on pre o r) (sym e))

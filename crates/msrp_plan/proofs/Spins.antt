@@ -1,14 +1,16 @@
 -- How often a waiting job spins: at the end of each tick the spins so far and the work ahead are within the work that was ahead at first.
-use Rattle.std.proofs.Common.{◌≡◌, ◌≢◌, ℕ, ◌+◌, ◌<◌, ◌≤◌, Bool, true, false, cond, ◌&&◌, ◌||◌, ◌==◌, List, [], ◌∷◌, ◌++◌, Some, refl, ap, sym, ◌∙◌, subst, arith, drop, append_assoc, append-nil, inl, inr, ◌⊎◌, eq-eqb}
+use Rattle.std.proofs.Common.{◌≡◌, ◌≢◌, ℕ, ◌+◌, ◌<◌, ◌≤◌, Bool, true, false, cond, ◌&&◌, ◌||◌, ◌==◌, List, [], ◌∷◌, ◌++◌, Some, refl, ap, sym, ◌∙◌, subst, arith, drop, append_assoc, append-nil, slice_get, inl, inr, ◌⊎◌, eq-eqb}
 use Rattle.std.specs.List.{AllByRecursion, Contains, count_by, list_any}
 use Rattle.std.proofs.Math.Bool.{true≢false}
 use Rattle.std.proofs.lemmas.Bool.{eqb-true, and_parts, or_parts}
 use Rattle.std.proofs.lemmas.List.Sums.{sum_by-cons}
 use Rattle.msrp_plan.specs.Ceiling.{resources}
-use Rattle.msrp_plan.specs.Jobs.{is_row_of}
+use Rattle.msrp_plan.specs.Jobs.{is_row_of, done}
 use Rattle.msrp_plan.specs.Laws.{is_grant, is_grant_of, is_spin, is_spin_of}
 use Rattle.msrp_plan.specs.Levels.{is_global}
-use Rattle.msrp_plan.specs.Plan.{PlanModel, core_of}
+use Rattle.msrp_plan.specs.Plan.{PlanModel, core_of, units}
+use Rattle.msrp_plan.specs.Units.{is_lock_of}
+use Rattle.msrp_plan.specs.Actions.{res_of_unit}
 use Rattle.msrp_plan.specs.Queues.{fifo, is_first, is_on}
 use Rattle.msrp_plan.specs.Runs.{EachAfter, IsLegal}
 use Rattle.msrp_plan.specs.WellFormed.{IsPlan}
@@ -16,15 +18,17 @@ use Rattle.msrp_plan.specs.declared.ids.JobId.{JobId}
 use Rattle.msrp_plan.specs.declared.rows.Kind.{Kind}
 use Rattle.msrp_plan.specs.declared.rows.Kind.TheVariants.{Grant, Queue, Release, Spin, Take}
 use Rattle.msrp_plan.specs.declared.rows.Row.{Row}
+use Rattle.msrp_plan.specs.declared.units.Op.{Op}
+use Rattle.msrp_plan.specs.declared.units.Op.TheVariants.{Run as RunUnit, Lock as LockUnit, Unlock as UnlockUnit}
 use Rattle.msrp_plan.proofs.Apart.{ApartBy}
 use Rattle.msrp_plan.proofs.Effects.{Effect, Got, IsMove, Joined, Left, Quiet, Spun, Took, effect, mover_is}
 use Rattle.msrp_plan.proofs.JobTests.{is_job_is, same_is, same_self}
-use Rattle.msrp_plan.proofs.LegalRows.{legal_turn, turn_core}
+use Rattle.msrp_plan.proofs.LegalRows.{DoesUnit, legal_turn, turn_core}
 use Rattle.msrp_plan.proofs.Overtaking.{not_mine, still_waits}
 use Rattle.msrp_plan.proofs.QueueMembers.{IsMember, IsQueueOf}
 use Rattle.msrp_plan.proofs.QueueWork.{IsFair, fair_push, work_first, works, works_le}
 use Rattle.msrp_plan.proofs.SectionWork.{work, work_some}
-use Rattle.msrp_plan.proofs.Stands.{Holds, Out, Waits, holds_waits, stand}
+use Rattle.msrp_plan.proofs.Stands.{Holds, Out, Waits, holds_waits, waits_out, holder_stands, locks_at, up_cases, stand}
 use Rattle.msrp_plan.proofs.Ticks.{IsFull, IsTick, fresh, full, not_turned, row_tick, rows_in, tick_push, turned, turned_push}
 
 -- ---- the pace: at the end of a tick the spins so far and the work ahead are within the total
@@ -89,10 +93,10 @@ spin_core_go true n m s h = let e : cond {A = ℕ} (n == m) 1 0 ≡ 1 = ap (λ c
 spin_core_go false n m s h = omega arith
 
 -- a spin row of x is its core's
-spin_core : (plan : PlanModel) (g : ℕ) (pre : List Row) (r : Row) (x : JobId) (s : ℕ) → IsLegal plan pre r → s + cond {A = ℕ} (is_spin_of x g r) 1 0 ≤ s + cond {A = ℕ} (r.core.0 == core_of plan x) 1 0
+spin_core : (plan : PlanModel) (g : ℕ) (pre : List Row) (r : Row) (x : JobId) (s : ℕ) → IsLegal plan pre r → s + cond {A = ℕ} (is_spin_of x r) 1 0 ≤ s + cond {A = ℕ} (r.core.0 == core_of plan x) 1 0
 spin_core plan g pre r x s h =
-    spin_core_go (is_spin_of x g r) r.core.0 (core_of plan x) s (λ e.
-    let both = and_parts (is_row_of x r) (is_on g r.res && is_spin r.kind) e in
+    spin_core_go (is_spin_of x r) r.core.0 (core_of plan x) s (λ e.
+    let both = and_parts (is_row_of x r) (is_spin r.kind) e in
     eq-eqb r.core.0 (core_of plan x) (sym (turn_core plan pre r x (legal_turn plan pre r h) (is_job_is r.job x both.0))))
 
 -- what is not true is false
@@ -104,19 +108,37 @@ no_spin_go false h = refl
 is_kind : (r : Row) (k : Kind) → r.kind ≡ k → is_spin k ≡ false → is_spin r.kind ≡ true → ⊥
 is_kind r k e f h = true≢false (sym h ∙ (ap is_spin e ∙ f))
 
--- who is first doesn't spin
-no_spin : (plan : PlanModel) (g : ℕ) (pre : List Row) (r : Row) (x : JobId) → is_first (fifo g pre) (Some x) ≡ true → Effect plan g pre r → is_spin_of x g r ≡ false
-no_spin plan g pre r x first e =
-    no_spin_go (is_spin_of x g r) (λ h.
-    let both = and_parts (is_row_of x r) (is_on g r.res && is_spin r.kind) h in
-    let more = and_parts (is_on g r.res) (is_spin r.kind) both.1 in
+-- who waits is at a lock of it
+waits_at : (plan : PlanModel) (g : ℕ) (pre : List Row) (x : JobId) → stand plan g pre x ≡ Waits → locks_at g (slice_get (units plan x) (done x pre)) ≡ true
+waits_at plan g pre x w =
+    elim (up_cases plan g pre x (λ h. waits_out (sym w ∙ h))) [
+      | inl h ↦ absurd (holds_waits (sym (holder_stands plan g pre x h) ∙ w))
+      | inr q ↦ q.1
+    ]
+
+-- a lock of it is on it
+lock_on : (g : ℕ) (op : Op) → is_lock_of g op ≡ true → is_on g (res_of_unit op) ≡ true
+lock_on g RunUnit l = absurd (cc)
+lock_on g (LockUnit h) l = l
+lock_on g (UnlockUnit h) l = absurd (cc)
+
+-- so each of its rows is on it
+pub waits_on : (plan : PlanModel) (g : ℕ) (pre : List Row) (r : Row) (x : JobId) → stand plan g pre x ≡ Waits → DoesUnit plan pre x r → is_on g r.res ≡ true
+waits_on plan g pre r x w d = ap (is_on g) d.res ∙ lock_on g d.op (sym (ap (locks_at g) d.unit) ∙ waits_at plan g pre x w)
+
+-- who waits and is first doesn't spin
+no_spin : (plan : PlanModel) (g : ℕ) (pre : List Row) (r : Row) (x : JobId) → stand plan g pre x ≡ Waits → is_first (fifo g pre) (Some x) ≡ true → IsLegal plan pre r → Effect plan g pre r → is_spin_of x r ≡ false
+no_spin plan g pre r x w first legal e =
+    no_spin_go (is_spin_of x r) (λ h.
+    let both = and_parts (is_row_of x r) (is_spin r.kind) h in
+    let on = waits_on plan g pre r x w ((legal_turn plan pre r legal).does x (is_job_is r.job x both.0)) in
     elim e [
-      | Quiet off fs st ↦ true≢false (sym more.0 ∙ off)
-      | Took z m empty fs ↦ is_kind r Take m.kind refl more.1
-      | Joined z m some fs ↦ is_kind r Queue m.kind refl more.1
-      | Got z m f fs ↦ is_kind r Grant m.kind refl more.1
+      | Quiet off fs st ↦ true≢false (sym on ∙ off)
+      | Took z m empty fs ↦ is_kind r Take m.kind refl both.1
+      | Joined z m some fs ↦ is_kind r Queue m.kind refl both.1
+      | Got z m f fs ↦ is_kind r Grant m.kind refl both.1
       | Spun z m back fs ↦ true≢false (sym first ∙ subst (λ v. is_first (fifo g pre) (Some v) ≡ false) (sym (mover_is plan g pre r z x Spin Waits Waits m both.0)) back)
-      | Left z m fs ↦ is_kind r Release m.kind refl more.1
+      | Left z m fs ↦ is_kind r Release m.kind refl both.1
     ])
 
 -- ---- a row that leaves those ahead
@@ -130,11 +152,11 @@ record Stays (plan : PlanModel) (g : ℕ) (x : JobId) (t : ℕ) (pre : List Row)
   tick : IsTick plan t pre
 
 -- keeps the pace
-pace_stays : (plan : PlanModel) (g : ℕ) (x : JobId) (t : ℕ) (pre : List Row) (r : Row) (total s : ℕ) (ahead behind : List JobId) → Stays plan g x t pre r → fifo g pre ≡ ahead ++ x ∷ behind → Pace plan g pre (turned t pre) (core_of plan x) total s ahead → Pace plan g (pre ++ r ∷ []) (turned t (pre ++ r ∷ [])) (core_of plan x) total (s + cond {A = ℕ} (is_spin_of x g r) 1 0) ahead
-pace_stays plan g x t pre r total s [] behind w q old =
-    let e : cond {A = ℕ} (is_spin_of x g r) 1 0 ≡ 0 = ap (λ b. cond {A = ℕ} b 1 0) (no_spin plan g pre r x (ap (λ f. is_first f (Some x)) q ∙ same_self x) w.eff) in
+pace_stays : (plan : PlanModel) (g : ℕ) (x : JobId) (t : ℕ) (pre : List Row) (r : Row) (total s : ℕ) (ahead behind : List JobId) → Stays plan g x t pre r → fifo g pre ≡ ahead ++ x ∷ behind → stand plan g pre x ≡ Waits → Pace plan g pre (turned t pre) (core_of plan x) total s ahead → Pace plan g (pre ++ r ∷ []) (turned t (pre ++ r ∷ [])) (core_of plan x) total (s + cond {A = ℕ} (is_spin_of x r) 1 0) ahead
+pace_stays plan g x t pre r total s [] behind w q st old =
+    let e : cond {A = ℕ} (is_spin_of x r) 1 0 ≡ 0 = ap (λ b. cond {A = ℕ} b 1 0) (no_spin plan g pre r x st (ap (λ f. is_first f (Some x)) q ∙ same_self x) w.legal w.eff) in
     omega (arith, old, e)
-pace_stays plan g x t pre r total s (y ∷ ys) behind w q old =
+pace_stays plan g x t pre r total s (y ∷ ys) behind w q st old =
     let tick = row_tick plan t pre r w.tick w.legal in
     let nt = not_turned plan t pre r w.tick w.legal in
     let members : AllByRecursion (IsMember plan g pre) (y ∷ (ys ++ x ∷ behind)) = subst (AllByRecursion (IsMember plan g pre)) q w.fair.queue.each in
@@ -147,22 +169,22 @@ pace_stays plan g x t pre r total s (y ∷ ys) behind w q old =
     let c2 = sum_by-cons (work plan g pre) y ys in
     let less : (r.core.0 == core_of plan y) ≡ true → works plan g (pre ++ r ∷ []) (y ∷ ys) + 1 ≤ works plan g pre (y ∷ ys) = λ e.
     let k = work_first plan g pre r y w.ok w.glob w.there w.fair.queue w.legal w.eff members.0 front (sym (eqb-true r.core.0 (core_of plan y) e)) in omega (arith, k, rest, c1, c2) in
-    let new = pace_go (turned t pre (core_of plan x)) (r.core.0 == core_of plan x) (r.core.0 == core_of plan y) (turned t pre (core_of plan y)) s (s + cond {A = ℕ} (is_spin_of x g r) 1 0) (works plan g pre (y ∷ ys)) (works plan g (pre ++ r ∷ []) (y ∷ ys)) total
+    let new = pace_go (turned t pre (core_of plan x)) (r.core.0 == core_of plan x) (r.core.0 == core_of plan y) (turned t pre (core_of plan y)) s (s + cond {A = ℕ} (is_spin_of x r) 1 0) (works plan g pre (y ∷ ys)) (works plan g (pre ++ r ∷ []) (y ∷ ys)) total
     (λ e. subst (λ n. turned t pre n ≡ false) (eqb-true r.core.0 (core_of plan x) e) nt)
     (λ a b. ne (sym (eqb-true r.core.0 (core_of plan y) b) ∙ eqb-true r.core.0 (core_of plan x) a))
     (spin_core plan g pre r x s w.legal) le less old in
-    subst (λ b. Behind (s + cond {A = ℕ} (is_spin_of x g r) 1 0) (works plan g (pre ++ r ∷ []) (y ∷ ys)) total b (turned t (pre ++ r ∷ []) (core_of plan y))) (sym (turned_push t pre r (core_of plan x) tick))
-    (subst (λ b. Behind (s + cond {A = ℕ} (is_spin_of x g r) 1 0) (works plan g (pre ++ r ∷ []) (y ∷ ys)) total (turned t pre (core_of plan x) || (r.core.0 == core_of plan x)) b) (sym (turned_push t pre r (core_of plan y) tick)) new)
+    subst (λ b. Behind (s + cond {A = ℕ} (is_spin_of x r) 1 0) (works plan g (pre ++ r ∷ []) (y ∷ ys)) total b (turned t (pre ++ r ∷ []) (core_of plan y))) (sym (turned_push t pre r (core_of plan x) tick))
+    (subst (λ b. Behind (s + cond {A = ℕ} (is_spin_of x r) 1 0) (works plan g (pre ++ r ∷ []) (y ∷ ys)) total (turned t pre (core_of plan x) || (r.core.0 == core_of plan x)) b) (sym (turned_push t pre r (core_of plan y) tick)) new)
 
 -- and the invariant
-spin_stays : (plan : PlanModel) (g : ℕ) (x : JobId) (t : ℕ) (pre : List Row) (r : Row) (total s : ℕ) (more : List JobId) → Stays plan g x t pre r → IsSpinning plan g x t pre total s → fifo g (pre ++ r ∷ []) ≡ fifo g pre ++ more → stand plan g (pre ++ r ∷ []) x ≡ Waits → IsSpinning plan g x t (pre ++ r ∷ []) total (s + cond {A = ℕ} (is_spin_of x g r) 1 0)
+spin_stays : (plan : PlanModel) (g : ℕ) (x : JobId) (t : ℕ) (pre : List Row) (r : Row) (total s : ℕ) (more : List JobId) → Stays plan g x t pre r → IsSpinning plan g x t pre total s → fifo g (pre ++ r ∷ []) ≡ fifo g pre ++ more → stand plan g (pre ++ r ∷ []) x ≡ Waits → IsSpinning plan g x t (pre ++ r ∷ []) total (s + cond {A = ℕ} (is_spin_of x r) 1 0)
 spin_stays plan g x t pre r total s more w old fs st =
     record {
       ahead = old.ahead;
       behind = old.behind ++ more;
       queue = fs ∙ (ap (λ f. f ++ more) old.queue ∙ append_assoc old.ahead (x ∷ old.behind) more);
       waits = st;
-      pace = pace_stays plan g x t pre r total s old.ahead old.behind w old.queue old.pace;
+      pace = pace_stays plan g x t pre r total s old.ahead old.behind w old.queue old.waits old.pace;
     }
 
 -- ---- the first leaves
@@ -190,7 +212,7 @@ or_off true b e = refl
 or_off false b e = e
 
 -- keeps the invariant
-spin_left : (plan : PlanModel) (g : ℕ) (x : JobId) (t : ℕ) (pre : List Row) (r : Row) (total s : ℕ) (z : JobId) (ahead behind : List JobId) → Stays plan g x t pre r → fifo g pre ≡ ahead ++ x ∷ behind → stand plan g pre x ≡ Waits → Pace plan g pre (turned t pre) (core_of plan x) total s ahead → IsMove plan g pre r z Release Holds Out → is_first (fifo g pre) (Some z) ≡ true → fifo g (pre ++ r ∷ []) ≡ drop 1 (fifo g pre) → IsSpinning plan g x t (pre ++ r ∷ []) total (s + cond {A = ℕ} (is_spin_of x g r) 1 0)
+spin_left : (plan : PlanModel) (g : ℕ) (x : JobId) (t : ℕ) (pre : List Row) (r : Row) (total s : ℕ) (z : JobId) (ahead behind : List JobId) → Stays plan g x t pre r → fifo g pre ≡ ahead ++ x ∷ behind → stand plan g pre x ≡ Waits → Pace plan g pre (turned t pre) (core_of plan x) total s ahead → IsMove plan g pre r z Release Holds Out → is_first (fifo g pre) (Some z) ≡ true → fifo g (pre ++ r ∷ []) ≡ drop 1 (fifo g pre) → IsSpinning plan g x t (pre ++ r ∷ []) total (s + cond {A = ℕ} (is_spin_of x r) 1 0)
 spin_left plan g x t pre r total s z [] behind w q st old m first fs =
     let e : z ≡ x = same_is z x (sym (ap (λ f. is_first f (Some z)) q) ∙ first) in
     absurd (holds_waits (sym (subst (λ v. stand plan g pre v ≡ Holds) e m.before) ∙ st))
@@ -202,16 +224,16 @@ spin_left plan g x t pre r total s z (y ∷ ys) behind w q st old m first fs =
     let ne : core_of plan y ≢ core_of plan x = all_mid (λ v. core_of plan y ≢ core_of plan v) ys x behind apart.0 in
     let at : core_of plan y ≡ r.core.0 = subst (λ v. core_of plan v ≡ r.core.0) e (turn_core plan pre r z (legal_turn plan pre r w.legal) m.job) in
     let other : (r.core.0 == core_of plan x) ≡ false = ne_eqb r.core.0 (core_of plan x) (r.core.0 == core_of plan x) refl (λ k. ne (at ∙ k)) in
-    let sc : s + cond {A = ℕ} (is_spin_of x g r) 1 0 ≤ s + 0 = subst (λ b. s + cond {A = ℕ} (is_spin_of x g r) 1 0 ≤ s + cond {A = ℕ} b 1 0) other (spin_core plan g pre r x s w.legal) in
+    let sc : s + cond {A = ℕ} (is_spin_of x r) 1 0 ≤ s + 0 = subst (λ b. s + cond {A = ℕ} (is_spin_of x r) 1 0 ≤ s + cond {A = ℕ} b 1 0) other (spin_core plan g pre r x s w.legal) in
     let rest = works_le plan g pre r w.ok w.glob w.legal w.eff ys (all_left (IsMember plan g pre) ys (x ∷ behind) members.1) in
     let k = drop_go (turned t pre (core_of plan x)) (turned t pre (core_of plan y)) s (work plan g pre y) (works plan g pre (y ∷ ys)) (works plan g pre ys) total (work_some plan g pre y w.ok members.0.up) (sum_by-cons (work plan g pre) y ys) old in
-    let k2 : (s + cond {A = ℕ} (is_spin_of x g r) 1 0) + works plan g (pre ++ r ∷ []) ys + 1 ≤ total + cond {A = ℕ} (turned t pre (core_of plan x)) 1 0 = omega (arith, sc, rest, k) in
+    let k2 : (s + cond {A = ℕ} (is_spin_of x r) 1 0) + works plan g (pre ++ r ∷ []) ys + 1 ≤ total + cond {A = ℕ} (turned t pre (core_of plan x)) 1 0 = omega (arith, sc, rest, k) in
     record {
       ahead = ys;
       behind = behind;
       queue = fs ∙ ap (drop 1) q;
       waits = still_waits plan g pre r x z Release Holds Out m (λ h. absurd (holds_waits h)) (is_row_of x r) refl st;
-      pace = rest_pace plan g (pre ++ r ∷ []) (turned t (pre ++ r ∷ [])) (core_of plan x) total (s + cond {A = ℕ} (is_spin_of x g r) 1 0) ys (turned t pre (core_of plan x)) (turned_push t pre r (core_of plan x) tick ∙ or_off (turned t pre (core_of plan x)) (r.core.0 == core_of plan x) other) k2;
+      pace = rest_pace plan g (pre ++ r ∷ []) (turned t (pre ++ r ∷ [])) (core_of plan x) total (s + cond {A = ℕ} (is_spin_of x r) 1 0) ys (turned t pre (core_of plan x)) (turned_push t pre r (core_of plan x) tick ∙ or_off (turned t pre (core_of plan x)) (r.core.0 == core_of plan x) other) k2;
     }
 
 -- being out is not waiting
@@ -223,7 +245,7 @@ no_more : (f f2 : List JobId) → f2 ≡ f → f2 ≡ f ++ []
 no_more f f2 e = e ∙ sym (append-nil f)
 
 -- each effect but a grant to x keeps it
-spin_by : (plan : PlanModel) (g : ℕ) (x : JobId) (t : ℕ) (pre : List Row) (r : Row) (total s : ℕ) → Stays plan g x t pre r → IsSpinning plan g x t pre total s → is_grant_of x g r ≡ false → IsSpinning plan g x t (pre ++ r ∷ []) total (s + cond {A = ℕ} (is_spin_of x g r) 1 0)
+spin_by : (plan : PlanModel) (g : ℕ) (x : JobId) (t : ℕ) (pre : List Row) (r : Row) (total s : ℕ) → Stays plan g x t pre r → IsSpinning plan g x t pre total s → is_grant_of x g r ≡ false → IsSpinning plan g x t (pre ++ r ∷ []) total (s + cond {A = ℕ} (is_spin_of x r) 1 0)
 spin_by plan g x t pre r total s w old non =
     elim w.eff [
       | Quiet off fs st ↦ spin_stays plan g x t pre r total s [] w old (no_more (fifo g pre) (fifo g (pre ++ r ∷ [])) fs) (st x ∙ old.waits)
@@ -273,7 +295,7 @@ few_now plan g x pre T c total s (y ∷ ys) ok members old =
     omega (arith, k, b)
 
 -- along the wait
-pub spins_from : (plan : PlanModel) (g : ℕ) (x : JobId) (t : ℕ) (pre mid : List Row) (total s : ℕ) → IsPlan plan → is_global plan g ≡ true → Contains (resources plan) g → IsFair plan g pre → IsTick plan t pre → IsSpinning plan g x t pre total s → EachAfter (IsLegal plan) pre mid → list_any (is_grant_of x g) mid ≡ false → s + count_by (is_spin_of x g) mid ≤ total
+pub spins_from : (plan : PlanModel) (g : ℕ) (x : JobId) (t : ℕ) (pre mid : List Row) (total s : ℕ) → IsPlan plan → is_global plan g ≡ true → Contains (resources plan) g → IsFair plan g pre → IsTick plan t pre → IsSpinning plan g x t pre total s → EachAfter (IsLegal plan) pre mid → list_any (is_grant_of x g) mid ≡ false → s + count_by (is_spin_of x) mid ≤ total
 spins_from plan g x t pre [] total s p glob there fair tick old all non =
     let members : AllByRecursion (IsMember plan g pre) (old.ahead ++ x ∷ old.behind) = subst (AllByRecursion (IsMember plan g pre)) old.queue fair.queue.each in
     let k = few_now plan g x pre (turned t pre) (core_of plan x) total s old.ahead p (all_left (IsMember plan g pre) old.ahead (x ∷ old.behind) members) old.pace in
@@ -283,8 +305,8 @@ spins_from plan g x t pre (r ∷ mid) total s p glob there fair tick old all non
     let w : Stays plan g x t pre r = record { ok = p; glob = glob; there = there; fair = fair; legal = all.0; eff = effect plan g pre r p glob fair.queue.orderly.fed all.0; tick = tick } in
     let next = fair_push plan g p glob there pre r fair all.0 in
     let now = spin_by plan g x t pre r total s w old both.0 in
-    let c = sum_by-cons (λ v. cond {A = ℕ} (is_spin_of x g v) 1 0) r mid in
+    let c = sum_by-cons (λ v. cond {A = ℕ} (is_spin_of x v) 1 0) r mid in
     elim (tick_push plan t pre r tick all.0) [
-      | inl k ↦ let ih = spins_from plan g x t (pre ++ r ∷ []) mid total (s + cond {A = ℕ} (is_spin_of x g r) 1 0) p glob there next k now all.1 both.1 in omega (arith, ih, c)
-      | inr k ↦ let ih = spins_from plan g x (t + 1) (pre ++ r ∷ []) mid total (s + cond {A = ℕ} (is_spin_of x g r) 1 0) p glob there next k.0 (next_tick plan g x t (pre ++ r ∷ []) total (s + cond {A = ℕ} (is_spin_of x g r) 1 0) k.1 k.2 next.queue now) all.1 both.1 in omega (arith, ih, c)
+      | inl k ↦ let ih = spins_from plan g x t (pre ++ r ∷ []) mid total (s + cond {A = ℕ} (is_spin_of x r) 1 0) p glob there next k now all.1 both.1 in omega (arith, ih, c)
+      | inr k ↦ let ih = spins_from plan g x (t + 1) (pre ++ r ∷ []) mid total (s + cond {A = ℕ} (is_spin_of x r) 1 0) p glob there next k.0 (next_tick plan g x t (pre ++ r ∷ []) total (s + cond {A = ℕ} (is_spin_of x r) 1 0) k.1 k.2 next.queue now) all.1 both.1 in omega (arith, ih, c)
     ]

@@ -1,10 +1,14 @@
--- Bounds that a plan gives: how long sections are, and how often a job spins.
-use Rattle.std.specs.Prelude.{ℕ, List, [], ◌∷◌, Bool, ◌==◌, ◌&&◌, not, cond, filter, map, max, ◌+◌}
+-- Bounds that a plan gives: how long sections are, how often a job spins, and how long it is blocked.
+use Rattle.std.specs.Prelude.{ℕ, List, [], ◌∷◌, Bool, ◌==◌, ◌&&◌, not, nat_lt, cond, filter, map, max, length, take, slice_get, Option, Some, ◌+◌}
 use Rattle.std.specs.List.{list_any, range_with_len, sum_by}
-use Rattle.msrp_plan.specs.Plan.{PlanModel}
-use Rattle.msrp_plan.specs.Units.{is_lock_of, is_unlock_of}
-use Rattle.msrp_plan.specs.Levels.{uses, greatest}
+use Rattle.msrp_plan.specs.Plan.{PlanModel, TaskModel}
+use Rattle.msrp_plan.specs.Units.{is_lock_of, is_unlock_of, holds_after}
+use Rattle.msrp_plan.specs.Levels.{uses, is_global, greatest}
+use Rattle.msrp_plan.specs.Ceiling.{resources}
 use Rattle.msrp_plan.specs.declared.units.Op.{Op}
+use Rattle.msrp_plan.specs.declared.units.Op.TheVariants.{Lock}
+
+-- ---- spinning
 
 -- the units up to and with the first unlock of the resource
 abbrev pub to_unlock : ℕ → List Op → ℕ
@@ -28,3 +32,35 @@ is_used_on plan g c = list_any (λ a. (a.core == c) && uses g a) plan.tasks
 -- handover and its longest section (this bound is the project's own)
 abbrev pub spin_bound : PlanModel → ℕ → ℕ → ℕ
 spin_bound plan g c = sum_by (λ d. 1 + section plan g d) (filter (λ d. not (d == c) && is_used_on plan g d) (range_with_len 0 plan.cores))
+
+-- ---- blocking
+-- a resource is held after the first n units: unit n stands in an outermost section, after the lock that begins it
+abbrev pub is_inside : PlanModel → List Op → ℕ → Bool
+is_inside plan us n = list_any (holds_after (take n us)) (resources plan)
+
+-- the unit that begins the outermost section of unit n: the last one up to n before which nothing is held
+abbrev pub opening : PlanModel → List Op → ℕ → ℕ
+opening plan us n = greatest (filter (λ i. not (is_inside plan us i)) (range_with_len 0 (n + 1)))
+
+-- how many rows a job waits at a unit, at most: at a request of a global resource one to join the queue, and as many
+-- as it may spin
+abbrev pub wait_bound : PlanModel → ℕ → Option Op → ℕ
+wait_bound plan c (Some (Lock g)) = cond (is_global plan g.0) (1 + spin_bound plan g.0 c) 0
+wait_bound plan c _ = 0
+
+-- how many rows unit n adds to its outermost section, at most: its waits, and one where it stands after the lock
+abbrev pub rows_at : PlanModel → TaskModel → ℕ → ℕ
+rows_at plan task n = cond (is_inside plan task.units n) 1 0 + wait_bound plan task.core (slice_get task.units n)
+
+-- how many rows the outermost section that unit a begins has after its first, at most; 0 where the unit begins none
+abbrev pub rows_from : PlanModel → TaskModel → ℕ → ℕ
+rows_from plan task a = sum_by (rows_at plan task) (filter (λ n. opening plan task.units n == a) (range_with_len 0 (length task.units)))
+
+-- the same of the longest outermost section of a task; 0 where it has none
+abbrev pub out : PlanModel → TaskModel → ℕ
+out plan task = greatest (map (rows_from plan task) (range_with_len 0 (length task.units)))
+
+-- how many rows block a job of the task, at most: one outermost section of a task of the same core with a longer
+-- relative deadline (this bound is the project's own)
+abbrev pub blocked_bound : PlanModel → TaskModel → ℕ
+blocked_bound plan task = greatest (map (out plan) (filter (λ u. (u.core == task.core) && nat_lt task.deadline u.deadline) plan.tasks))

@@ -4,6 +4,7 @@ pub mod Notation
 pub mod NothingToDo
 pub mod WorkThenIdle
 pub mod DeadlineAbovePeriod
+pub mod ListedReleases
 pub mod BlockedByTheCeiling
 pub mod PreemptsASection
 pub mod EqualDeadlines

@@ -1,12 +1,14 @@
 -- What every start of a legal run keeps, over whatever plan and whatever order of the cores.
-use Rattle.std.specs.Prelude.{ℕ, List, [], ◌∷◌, ◌++◌, Bool, true, false, ◌&&◌, Some, count_by, ◌≡◌, ◌≢◌, ◌≤◌, ◌-◌}
+use Rattle.std.specs.Prelude.{ℕ, List, [], ◌∷◌, ◌++◌, Bool, true, false, ◌&&◌, Some, count_by, length, ◌≡◌, ◌≢◌, ◌≤◌, ◌-◌}
 use Rattle.std.specs.List.{list_any}
 use Rattle.msrp_plan.specs.Plan.{PlanModel}
 use Rattle.msrp_plan.specs.Jobs.{is_row_of, holds}
-use Rattle.msrp_plan.specs.Queues.{is_on}
+use Rattle.msrp_plan.specs.Queues.{is_on, fifo}
 use Rattle.msrp_plan.specs.Runs.{EachAfter, IsRun}
 use Rattle.msrp_plan.specs.WellFormed.{IsPlan}
 use Rattle.msrp_plan.specs.Bounds.{spin_bound}
+use Rattle.msrp_plan.specs.Blocking.{BoundedBlocking}
+use Rattle.msrp_plan.specs.Scheduling.{RunsReleased, WorkConservation, EarliestDeadlineFirst}
 use Rattle.msrp_plan.specs.declared.ids.JobId.{JobId}
 use Rattle.msrp_plan.specs.declared.ids.ResId.{ResId}
 use Rattle.msrp_plan.specs.declared.rows.Kind.{Kind}
@@ -55,8 +57,8 @@ is_spin Spin = true
 is_spin _ = false
 
 -- a row in which the job polls in vain
-abbrev pub is_spin_of : JobId → ℕ → Row → Bool
-is_spin_of j g r = is_row_of j r && (is_on g r.res && is_spin r.kind)
+abbrev pub is_spin_of : JobId → Row → Bool
+is_spin_of j r = is_row_of j r && is_spin r.kind
 
 -- a wait: in row r job j joins the queue of the resource, and in none of the rows since is it granted it
 pub record IsWait (r : Row) (since : List Row) (j : JobId) (g : ℕ) : Type 0 where
@@ -71,11 +73,21 @@ abbrev pub BoundedOvertaking : PlanModel → List Row → Type 0
 BoundedOvertaking plan rows =
     (pre : List Row) (r : Row) (since post : List Row) (j : JobId) (g : ℕ) → rows ≡ pre ++ r ∷ (since ++ post) → IsWait r since j g → count_by (is_admission g) since ≤ plan.cores - 1
 
+-- ---- short queues
+-- the row, if it joins the queue of a resource, finds there at most one request for each other core
+abbrev pub FindsShort : PlanModel → List Row → Row → Type 0
+FindsShort plan pre r = (g : ℕ) → r.kind ≡ Queue → is_on g r.res ≡ true → length (fifo g pre) ≤ plan.cores - 1
+
+-- no job joins a queue longer than m - 1, on m cores (Gai, Lipari and Di Natale 2001: a core has one request at most)
+abbrev pub ShortQueues : PlanModel → List Row → Type 0
+ShortQueues plan rows = EachAfter (FindsShort plan) [] rows
+
 -- ---- bounded spinning
--- in one wait for a global resource a job spins no more often than the bound of its core
+-- in one wait for a global resource a job spins no more often than the bound of its core: all spins of the job
+-- count, since it spins on nothing else then
 abbrev pub BoundedSpinning : PlanModel → List Row → Type 0
 BoundedSpinning plan rows =
-    (pre : List Row) (r : Row) (since post : List Row) (j : JobId) (g : ℕ) → rows ≡ pre ++ r ∷ (since ++ post) → IsWait r since j g → count_by (is_spin_of j g) since ≤ spin_bound plan g r.core.0
+    (pre : List Row) (r : Row) (since post : List Row) (j : JobId) (g : ℕ) → rows ≡ pre ++ r ∷ (since ++ post) → IsWait r since j g → count_by (is_spin_of j) since ≤ spin_bound plan g r.core.0
 
 -- ---- all of them
 -- a legal run of a well-formed plan, and what the laws say of it
@@ -85,4 +97,9 @@ pub record KeepsLaws (plan : PlanModel) (rows : List Row) : Type 0 where
   pub blocking : NoLocalBlocking plan rows
   pub exclusion : MutualExclusion plan rows
   pub overtaking : BoundedOvertaking plan rows
+  pub queues : ShortQueues plan rows
   pub spinning : BoundedSpinning plan rows
+  pub blocking_bound : BoundedBlocking plan rows
+  pub released : RunsReleased plan rows
+  pub conservation : WorkConservation plan rows
+  pub deadlines : EarliestDeadlineFirst plan rows

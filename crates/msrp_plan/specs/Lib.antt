@@ -1,4 +1,6 @@
 pub mod Shape
+pub mod ReleaseTimes
+pub mod Aheads
 pub mod Plan
 pub mod Units
 pub mod Jobs
@@ -16,11 +18,15 @@ pub mod Laws
 pub mod Verdict
 pub mod Faults
 pub mod FifoLock
+pub mod LockStates
 pub mod Names
 pub mod WellFormed
 pub mod Bounds
+pub mod Blocking
+pub mod Scheduling
 pub mod Building
 pub mod Codes
+pub mod Times
 pub mod Tasks
 pub mod Marks
 pub mod Views

@@ -1,6 +1,6 @@
 -- The queue of a global resource, and what it answers (Gai, Lipari and Di Natale 2001, the MSRP rules: requests are
 -- served in the order in which they came).
-use Rattle.std.specs.Prelude.{ℕ, List, [], ◌∷◌, Bool, true, false, ◌==◌, ◌&&◌, not, Option, Some, None, cond, filter_map, count_by, drop}
+use Rattle.std.specs.Prelude.{ℕ, List, [], ◌∷◌, Bool, true, false, ◌==◌, ◌&&◌, not, Option, Some, None, cond, filter_map, count_by, drop, length}
 use Rattle.std.specs.List.{list_any}
 use Rattle.msrp_plan.specs.Jobs.{is_job}
 use Rattle.msrp_plan.specs.declared.ids.JobId.{JobId}
@@ -52,3 +52,12 @@ replies queue j Queue = not (is_free queue)
 replies queue j Grant = is_first queue j
 replies queue j Spin = is_behind queue j
 replies queue j _ = true
+
+-- an ahead, where there is one, is the number of jobs in the queue
+abbrev pub counts : List JobId → Option ℕ → Bool
+counts queue None = true
+counts queue (Some n) = n == length queue
+
+-- the row's reply is that of the queue, and so is the ahead that it carries
+abbrev pub is_reply_of : List JobId → Row → Bool
+is_reply_of queue r = replies queue r.job r.kind && counts queue r.ahead

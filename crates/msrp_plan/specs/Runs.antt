@@ -5,7 +5,7 @@ use Rattle.msrp_plan.specs.Plan.{PlanModel}
 use Rattle.msrp_plan.specs.Jobs.{jobs_on, same_job}
 use Rattle.msrp_plan.specs.Choice.{choice}
 use Rattle.msrp_plan.specs.Actions.{does_next}
-use Rattle.msrp_plan.specs.Queues.{fifo, replies}
+use Rattle.msrp_plan.specs.Queues.{fifo, is_reply_of}
 use Rattle.msrp_plan.specs.declared.ids.JobId.{JobId}
 use Rattle.msrp_plan.specs.declared.ids.ResId.{ResId}
 use Rattle.msrp_plan.specs.declared.rows.Row.{Row}
@@ -41,9 +41,9 @@ is_next_action plan pre r = does_next plan pre r.job r
 
 abbrev pub replies_on : List Row → Option ResId → Row → Bool
 replies_on pre None r = true
-replies_on pre (Some g) r = replies (fifo g.0 pre) r.job r.kind
+replies_on pre (Some g) r = is_reply_of (fifo g.0 pre) r
 
--- A5: the row's reply is that of the queue of its resource
+-- A5: the row's reply, and the ahead that it carries, are those of the queue of its resource
 abbrev pub is_fifo_reply : List Row → Row → Bool
 is_fifo_reply pre r = replies_on pre r.res r
 

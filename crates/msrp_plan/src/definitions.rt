@@ -1,17 +1,22 @@
 //! What the definitions say, shown by laws over them: the verdict tells legal runs from all other rows, a
 //! run is legal row by row, and each rule looks no further than it should. Each function does nothing; its
 //! contract is the law.
-ghost use Rattle.std.specs.Prelude.{◌≡◌, ◌↔◌, ◌⊎◌, ◌++◌, ◌∷◌, [], ◌<◌, ◌*◌, ℕ, List, Some, None, length, true};
+ghost use Rattle.std.specs.Prelude.{◌≡◌, ◌↔◌, ◌⊎◌, ◌++◌, ◌∷◌, [], ◌<◌, ◌*◌, ℕ, List, Some, None, map, length, true, false};
 ghost use Rattle.std.specs.List.{AllPass};
+ghost use Rattle.msrp_plan.specs.Aheads.{without_ahead};
 ghost use Rattle.msrp_plan.specs.Plan.{PlanModel};
 ghost use Rattle.msrp_plan.specs.Choice.{choice};
-ghost use Rattle.msrp_plan.specs.Queues.{fifo};
-ghost use Rattle.msrp_plan.specs.Runs.{CoreRun, IsLegal, IsRun, IsRunStart, is_of_core, is_next_action, is_fifo_reply};
+ghost use Rattle.msrp_plan.specs.Levels.{is_global};
+ghost use Rattle.msrp_plan.specs.Queues.{fifo, is_on};
+ghost use Rattle.msrp_plan.specs.Runs.{CoreRun, IsCoreTurn, IsLegal, IsRun, IsRunStart, is_of_core, is_next_action, is_fifo_reply};
 ghost use Rattle.msrp_plan.specs.Logs.{log_of, rows_on, AreApart};
 ghost use Rattle.msrp_plan.specs.Verdict.{verdict, fault_in, broken};
 ghost use Rattle.msrp_plan.specs.Faults.{IsBroken, IsFault, IsOneTooMany};
 ghost use Rattle.msrp_plan.specs.Calls.{IsInTurn, claim_with, kind_of_call};
+ghost use Rattle.msrp_plan.specs.FifoLock.{Answers, free_lock, lock_after};
+ghost use Rattle.msrp_plan.specs.LockStates.{IsRowOfCall, Tells, lock_at};
 ghost use Rattle.msrp_plan.specs.Phases.{phase_with};
+ghost use Rattle.msrp_plan.specs.WellFormed.{IsPlan};
 ghost use Rattle.msrp_plan.specs.declared.faults.Fault.{Fault};
 ghost use Rattle.msrp_plan.specs.declared.ids.ResId.{ResId};
 ghost use Rattle.msrp_plan.specs.declared.rows.Row.{Row};
@@ -65,4 +70,23 @@ pub fn calls()
 /// one tick may change places, and the rest stays as it is.
 pub fn commutation()
     ensures { (plan : PlanModel) (pre post : List Row) (r s : Row) → IsRunStart plan (pre ++ r ∷ s ∷ post) → r.tick ≡ s.tick → AreApart r s → IsRunStart plan (pre ++ s ∷ r ∷ post) }
+{}
+
+/// The two statements of first-in-first-out agree: the queue of jobs that replies to the rows of a run, and the
+/// lock on one thread that answers the calls of cores. Whatever the lock answers to a turn's call, the queue
+/// replies, and the other way round; after a row the lock is as after the row's call. So a history that is
+/// legal for the lock makes legal replies.
+pub fn queues_are_locks()
+    ensures start { (plan : PlanModel) (g : ℕ) → lock_at plan g [] ≡ free_lock }
+    ensures replies { (plan : PlanModel) (pre : List Row) (r : Row) (g : ℕ) (call : Call) → IsPlan plan → IsRunStart plan pre → is_global plan g ≡ true → IsCoreTurn plan r.core.0 (log_of r.core.0 pre) r → IsRowOfCall g r.core.0 call r → Answers (lock_at plan g pre) r.core.0 call → is_fifo_reply pre r ≡ true }
+    ensures answers { (plan : PlanModel) (pre : List Row) (r : Row) (g : ℕ) (call : Call) → IsPlan plan → IsRunStart plan (pre ++ r ∷ []) → is_global plan g ≡ true → IsRowOfCall g r.core.0 call r → Tells (fifo g pre) call → Answers (lock_at plan g pre) r.core.0 call }
+    ensures next { (plan : PlanModel) (pre : List Row) (r : Row) (g : ℕ) (call : Call) → IsPlan plan → IsRunStart plan (pre ++ r ∷ []) → is_global plan g ≡ true → IsRowOfCall g r.core.0 call r → Answers (lock_at plan g pre) r.core.0 call → lock_at plan g (pre ++ r ∷ []) ≡ lock_after (lock_at plan g pre) r.core.0 call }
+    ensures others { (plan : PlanModel) (pre : List Row) (r : Row) (g : ℕ) → IsPlan plan → IsRunStart plan (pre ++ r ∷ []) → is_global plan g ≡ true → is_on g r.res ≡ false → lock_at plan g (pre ++ r ∷ []) ≡ lock_at plan g pre }
+{}
+
+/// An ahead says no more than the rows before it do: a legal run stays one where aheads are left out.
+pub fn aheads()
+    ensures start { (plan : PlanModel) (rows : List Row) → IsRunStart plan rows → IsRunStart plan (map without_ahead rows) }
+    ensures run { (plan : PlanModel) (rows : List Row) → IsRun plan rows → IsRun plan (map without_ahead rows) }
+    ensures ahead { (plan : PlanModel) (pre : List Row) (r : Row) (g : ResId) (n : ℕ) → IsLegal plan pre r → r.res ≡ Some g → r.ahead ≡ Some n → n ≡ length (fifo g.0 pre) }
 {}

@@ -1,12 +1,13 @@
 //! What the definition of a legal run promises: laws over every plan and every start of a legal run,
 //! whatever the order of the cores. Each function does nothing; its contract is the law.
-ghost use Rattle.std.specs.Prelude.{◌≡◌, ◌-◌, ◌∷◌, ◌++◌, List, length, take, drop, count_by, true, false};
+ghost use Rattle.std.specs.Prelude.{◌≡◌, ◌-◌, ◌∷◌, ◌++◌, List, map, length, take, drop, count_by, true, false};
+ghost use Rattle.msrp_plan.specs.Aheads.{carries_ahead, without_ahead};
 ghost use Rattle.msrp_plan.specs.Plan.{PlanModel};
 ghost use Rattle.msrp_plan.specs.Runs.{IsRunStart, IsRun};
 ghost use Rattle.msrp_plan.specs.WellFormed.{IsPlan};
 ghost use Rattle.msrp_plan.specs.Jobs.{holds};
 ghost use Rattle.msrp_plan.specs.Queues.{fifo};
-ghost use Rattle.msrp_plan.specs.Laws.{NoLocalBlocking, MutualExclusion, BoundedOvertaking, BoundedSpinning, IsWait, is_admission, is_spin_of, KeepsLaws};
+ghost use Rattle.msrp_plan.specs.Laws.{NoLocalBlocking, MutualExclusion, BoundedOvertaking, ShortQueues, BoundedSpinning, IsWait, is_admission, is_spin_of, KeepsLaws};
 ghost use Rattle.msrp_plan.specs.Bounds.{spin_bound};
 ghost use Rattle.msrp_plan.specs.Logs.{core_order};
 ghost use Rattle.msrp_plan.specs.Examples.Notation.{job, queue};
@@ -16,6 +17,15 @@ ghost use Rattle.msrp_plan.specs.Examples.HandoverATickLater as handover_a_tick_
 ghost use Rattle.msrp_plan.specs.Examples.ThreeInAQueue as three_in_a_queue;
 ghost use Rattle.msrp_plan.specs.Examples.RequestedAgain as requested_again;
 ghost use Rattle.msrp_plan.specs.declared.rows.Row.{Row};
+
+mod blocking;
+mod scheduling;
+
+pub use blocking::{
+    blocked_as_long_as_can_be, blocked_by_a_global_section, blocked_by_begun_sections,
+    blocked_by_one_section, bounded_blocking, bounded_sections, bounds_on_blocking,
+};
+pub use scheduling::{earliest_deadline_first, runs_released, work_conservation};
 
 /// No local blocking: a job that has its turn never finds a local resource held by another job, of whatever
 /// core (Baker 1991). So a lock of a local resource takes one tick.
@@ -34,17 +44,26 @@ pub fn bounded_overtaking()
     ensures { (plan : PlanModel) (rows : List Row) → IsPlan plan → IsRunStart plan rows → BoundedOvertaking plan rows }
 {}
 
+/// Short queues: no job joins a queue of as many requests as there are cores.
+pub fn short_queues()
+    ensures { (plan : PlanModel) (rows : List Row) → IsPlan plan → IsRunStart plan rows → ShortQueues plan rows }
+{}
+
 /// Bounded spinning: in one wait for a global resource a job spins no more often than the bound that the plan
-/// gives its core: for each other core that uses the resource, 1 and its longest section, in units.
+/// gives its core: for each other core that uses the resource, 1 and its longest section, in units. All spins
+/// of the job count, on whatever resource.
 pub fn bounded_spinning()
     ensures { (plan : PlanModel) (rows : List Row) → IsPlan plan → IsRunStart plan rows → BoundedSpinning plan rows }
 {}
 
 /// Determinacy: the order in which the cores take their turns fixes the run. Two runs of one plan, or two
-/// starts of runs, with the same cores in the same order are equal.
+/// starts of runs, with the same cores in the same order are equal, but for aheads that one of them carries and
+/// the other doesn't.
 pub fn determinacy()
-    ensures starts { (plan : PlanModel) (a b : List Row) → IsRunStart plan a → IsRunStart plan b → core_order a ≡ core_order b → a ≡ b }
-    ensures runs { (plan : PlanModel) (a b : List Row) → IsRun plan a → IsRun plan b → core_order a ≡ core_order b → a ≡ b }
+    ensures starts { (plan : PlanModel) (a b : List Row) → IsRunStart plan a → IsRunStart plan b → core_order a ≡ core_order b → map without_ahead a ≡ map without_ahead b }
+    ensures carrying_starts { (plan : PlanModel) (a b : List Row) → IsRunStart plan a → IsRunStart plan b → core_order a ≡ core_order b → carries_ahead a ≡ true → carries_ahead b ≡ true → a ≡ b }
+    ensures runs { (plan : PlanModel) (a b : List Row) → IsRun plan a → IsRun plan b → core_order a ≡ core_order b → map without_ahead a ≡ map without_ahead b }
+    ensures carrying_runs { (plan : PlanModel) (a b : List Row) → IsRun plan a → IsRun plan b → core_order a ≡ core_order b → carries_ahead a ≡ true → carries_ahead b ≡ true → a ≡ b }
 {}
 
 /// A worked run with a local resource: who is started later finds it free. Were it started past the ceiling,
@@ -88,6 +107,6 @@ pub fn spins_within_the_bound()
     ensures laws { KeepsLaws handover_a_tick_later.plan handover_a_tick_later.rows }
     ensures wait { IsWait (queue 0 1 (job 1 0) 0) (take 5 (drop 2 handover_a_tick_later.rows)) (job 1 0) 0 }
     ensures place { handover_a_tick_later.rows ≡ take 1 handover_a_tick_later.rows ++ queue 0 1 (job 1 0) 0 ∷ (take 5 (drop 2 handover_a_tick_later.rows) ++ drop 7 handover_a_tick_later.rows) }
-    ensures spins { count_by (is_spin_of (job 1 0) 0) (take 5 (drop 2 handover_a_tick_later.rows)) ≡ 2 }
+    ensures spins { count_by (is_spin_of (job 1 0)) (take 5 (drop 2 handover_a_tick_later.rows)) ≡ 2 }
     ensures bound { spin_bound handover_a_tick_later.plan 0 1 ≡ 3 }
 {}

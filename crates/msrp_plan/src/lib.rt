@@ -12,6 +12,8 @@ pub mod names;
 pub mod plans;
 pub mod rows;
 mod tasks;
+mod times;
+pub mod traces;
 pub mod units;
 pub mod worked;
 
@@ -19,5 +21,7 @@ pub use builder::PlanBuilder;
 pub use faults::{Fault, Memory, PlanFault, Rule, WriteFault};
 pub use ids::{CoreId, JobId, JobKey, ResId, TaskId};
 pub use plans::Plan;
-pub use rows::{Kind, Row, Trace};
+pub use rows::{Kind, Row, TextVersion};
+pub use times::Times;
+pub use traces::Trace;
 pub use units::{Call, Op, Phase, Step};

@@ -1,6 +1,6 @@
 //! Rows of a trace.
 ghost use Rattle.std.specs.Prelude.{◌≡◌, true};
-ghost use Rattle.msrp_plan.specs.Shape.{has_shape};
+ghost use Rattle.msrp_plan.specs.Shape.{has_shape, may_carry};
 
 use crate::ids::{CoreId, JobId, ResId};
 
@@ -28,7 +28,7 @@ pub enum Kind {
 }
 
 /// One turn of one core in one tick. An idle row has neither job nor resource, a row of work has a job
-/// alone, and every other row has both.
+/// alone, and every other row has both. A row of the text of version 1 carries no ahead.
 #[derive(Clone, Copy, Debug, PartialEq, Eq)]
 pub struct Row {
     pub tick: u32,
@@ -36,12 +36,17 @@ pub struct Row {
     pub kind: Kind,
     pub job: Option<JobId>,
     pub res: Option<ResId>,
+    /// On a queue row how many stood in the queue before its job, if that is known; on any other row none.
+    pub ahead: Option<u32>,
     ghost shape: { has_shape kind job res ≡ true },
+    ghost carrier: { may_carry kind ahead ≡ true },
 }
 
-/// Rows in the order in which they were made: a row for each core and tick where the run is whole. The
-/// numbers of cores and ticks are those of the plan.
-#[derive(Debug, Drop)]
-pub struct Trace {
-    pub rows: Vec<Row>,
+/// The versions of plan text and trace text.
+#[derive(Clone, Copy, Debug, PartialEq, Eq)]
+pub enum TextVersion {
+    /// Tasks of a period alone; rows without aheads.
+    V1,
+    /// Tasks with a list of releases too; rows with the ahead of each queue row.
+    V2,
 }

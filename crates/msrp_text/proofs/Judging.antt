@@ -4,6 +4,7 @@ use Rattle.std.proofs.lemmas.Bool.{false≢true}
 use Rattle.std.proofs.lemmas.Bool.Decides.{nat_tests}
 use Rattle.msrp_plan.specs.Building.{IsJudged, new_task, op_fault, task_fault, units_of, with_task, with_units}
 use Rattle.msrp_plan.specs.Plan.{PlanModel}
+use Rattle.msrp_plan.specs.ReleaseTimes.{Every}
 use Rattle.msrp_plan.specs.declared.faults.PlanFault.{PlanFault}
 use Rattle.msrp_plan.specs.declared.faults.PlanFault.TheVariants.{Memory, Number}
 use Rattle.msrp_plan.specs.declared.units.Step.{Step}
@@ -36,7 +37,7 @@ not-zero n h = grind (arith, nat_tests)
 -- a task that the builder refuses, refused with its record
 pub task-refused : {A : Type 0} (plan : PlanModel) (fields : List (List ℕ)) (name : List ℕ) (n : TaskNumbers) (r : Result A PlanFault) (e : PlanFault)
     → length fields ≡ 6 → task_numbers fields ≡ Some n → name ≡ name_at fields 1
-    → IsJudged (task_fault plan (new_task name n.core n.period n.deadline n.offset)) r
+    → IsJudged (task_fault plan (new_task name n.core (Every n.period n.offset) n.deadline)) r
     → r ≡ Err e → IsTaken (task_record_fault plan fields) (with_task plan (task_told fields)) (Err e)
 task-refused plan fields name n r e six numbers named h k =
     let told = told-some (lacks_number fields) _ n numbers in
@@ -45,8 +46,8 @@ task-refused plan fields name n r e six numbers named h k =
 -- a task that the builder takes
 pub task-taken : {A : Type 0} (plan new : PlanModel) (fields : List (List ℕ)) (name : List ℕ) (n : TaskNumbers) (r : Result A PlanFault) (x : A)
     → length fields ≡ 6 → task_numbers fields ≡ Some n → name ≡ name_at fields 1
-    → IsJudged (task_fault plan (new_task name n.core n.period n.deadline n.offset)) r
-    → r ≡ Ok x → new ≡ with_task plan (new_task name n.core n.period n.deadline n.offset) → IsTaken (task_record_fault plan fields) (with_task plan (task_told fields)) (Ok new)
+    → IsJudged (task_fault plan (new_task name n.core (Every n.period n.offset) n.deadline)) r
+    → r ≡ Ok x → new ≡ with_task plan (new_task name n.core (Every n.period n.offset) n.deadline) → IsTaken (task_record_fault plan fields) (with_task plan (task_told fields)) (Ok new)
 task-taken plan new fields name n r x six numbers named h k e =
     let told = told-some (lacks_number fields) _ n numbers in
     let same : new ≡ with_task plan (task_told fields) = rw (told.1, named) at e in

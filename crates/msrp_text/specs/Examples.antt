@@ -1,6 +1,7 @@
 -- Texts and plans of the worked examples.
 use Rattle.std.specs.Prelude.{ℕ, List, [], ◌∷◌, codes, replicate, Result, Err}
 use Rattle.msrp_plan.specs.Plan.{PlanModel}
+use Rattle.msrp_plan.specs.ReleaseTimes.{Every}
 use Rattle.msrp_plan.specs.declared.faults.PlanFault.{PlanFault}
 use Rattle.msrp_plan.specs.declared.units.Op.TheVariants.{Run}
 use Rattle.msrp_text.specs.declared.reading.TextError.{TextError}
@@ -12,7 +13,7 @@ one_task_plan = record {
   cores = 1;
   ticks = 3;
   resources = [];
-  tasks = record { name = codes "a"; core = 0; period = 3; deadline = 3; offset = 0; units = replicate 2 Run } ∷ [];
+  tasks = record { name = codes "a"; core = 0; times = Every 3 0; deadline = 3; units = replicate 2 Run } ∷ [];
 }
 
 -- the first three records, for one core and nine ticks

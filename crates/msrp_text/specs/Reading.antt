@@ -4,6 +4,7 @@ use Rattle.std.specs.List.{filter_map, range_with_len}
 use Rattle.msrp_plan.specs.Building.{empty_plan, fault_if, finish_fault, is_within, new_fault, new_task, op_fault, task_fault, units_of, with_task, with_units}
 use Rattle.msrp_plan.specs.Names.{name_position}
 use Rattle.msrp_plan.specs.Plan.{PlanModel, TaskModel}
+use Rattle.msrp_plan.specs.ReleaseTimes.{Every}
 use Rattle.msrp_plan.specs.declared.faults.PlanFault.{PlanFault}
 use Rattle.msrp_plan.specs.declared.faults.PlanFault.TheVariants.{Version, OutOfPlace, FieldCount, Number, Limit}
 use Rattle.msrp_plan.specs.declared.ids.ResId.{ResId}
@@ -20,7 +21,7 @@ number_told fields i = unwrap_or (number_at fields i) 0
 
 -- the task that a `task` record tells: name, core, period, relative deadline, offset, and no unit yet
 abbrev pub task_told : List (List ℕ) → TaskModel
-task_told fields = new_task (name_at fields 1) (number_told fields 2) (number_told fields 3) (number_told fields 4) (number_told fields 5)
+task_told fields = new_task (name_at fields 1) (number_told fields 2) (Every (number_told fields 3) (number_told fields 5)) (number_told fields 4)
 
 -- the resource of a name; what the plan hasn't declared is told as the greatest number
 abbrev pub resource_told : PlanModel → List ℕ → ResId

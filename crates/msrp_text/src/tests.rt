@@ -2,7 +2,7 @@ use crate::reading::{TextError, read_plan};
 use crate::records::{RecordReader, Stopped};
 use csv::ByteRecord;
 use msrp_plan::bytes::Source;
-use msrp_plan::{CoreId, Op, Plan, PlanFault, TaskId};
+use msrp_plan::{CoreId, Op, Plan, PlanFault, TaskId, Times};
 use std::alloc::Global;
 use std::io;
 use std::io::{ErrorKind, Read};
@@ -35,6 +35,11 @@ fn is_the_plan(plan: &Plan) -> bool {
         && is_the_task(plan)
 }
 
+// The release times of a periodic task.
+fn every(period: u32, offset: u32) -> Times {
+    Times::Every { period, offset }
+}
+
 // Whether the first task is the one of PLAN.
 fn is_the_task(plan: &Plan) -> bool {
     let task = TaskId(0);
@@ -43,9 +48,8 @@ fn is_the_task(plan: &Plan) -> bool {
     }
     plan.task_name(task) == "a"
         && plan.core_of(task) == CoreId(0)
-        && plan.period(task) == 3
+        && plan.times(task) == every(3, 0)
         && plan.deadline(task) == 3
-        && plan.offset(task) == 0
         && plan.units(task) == 2
 }
 
@@ -338,9 +342,8 @@ fn tasks_on_two_cores(rt: HostRuntime) -> Result<(), Fail> {
     let b = TaskId(1);
     assert!(rt; is_named(&plan, b, "b"));
     assert_eq!(rt; plan.core_of(b), CoreId(1));
-    assert_eq!(rt; plan.period(b), 2);
+    assert_eq!(rt; plan.times(b), every(2, 3));
     assert_eq!(rt; plan.deadline(b), 1);
-    assert_eq!(rt; plan.offset(b), 3);
     assert_eq!(rt; plan.units(b), 2);
     assert_eq!(rt; plan.unit(b, 1), Op::Run);
     Ok(())

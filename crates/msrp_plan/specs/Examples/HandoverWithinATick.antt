@@ -2,7 +2,7 @@
 -- core 1 in the same tick.
 use Rattle.std.specs.Prelude.{List, [], ◌∷◌, ◌++◌, codes}
 use Rattle.msrp_plan.specs.Plan.{PlanModel}
-use Rattle.msrp_plan.specs.Examples.Notation.{task, section, job, idle, run, take, queue, spin, grant, release, changed, without_last}
+use Rattle.msrp_plan.specs.Examples.Notation.{task, section, job, idle, run, take, queue, queue_behind, spin, grant, release, changed, without_last}
 use Rattle.msrp_plan.specs.declared.ids.JobId.{JobId}
 use Rattle.msrp_plan.specs.declared.rows.Row.{Row}
 
@@ -39,6 +39,14 @@ rows =
     ∷ idle 5 0
     ∷ idle 5 1
     ∷ []
+
+-- the same, and b's request carries that a stands ahead
+abbrev pub with_ahead : List Row
+with_ahead = changed rows 2 (queue_behind 0 1 b 0 1)
+
+-- b's request carries that two stand ahead
+abbrev pub ahead_miscounted : List Row
+ahead_miscounted = changed rows 2 (queue_behind 0 1 b 0 2)
 
 -- a turn of core 2, which the plan lacks
 abbrev pub turn_of_no_core : List Row

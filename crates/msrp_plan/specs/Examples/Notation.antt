@@ -3,6 +3,7 @@ use Rattle.std.specs.Prelude.{ℕ, ◌-◌, List, [], ◌∷◌, ◌++◌, Optio
 use Rattle.std.specs.Prelude as list
 use Rattle.std.specs.List.{range_with_len}
 use Rattle.msrp_plan.specs.Plan.{TaskModel}
+use Rattle.msrp_plan.specs.ReleaseTimes.{Every, Listed}
 use Rattle.msrp_plan.specs.declared.faults.Fault.{Fault}
 use Rattle.msrp_plan.specs.declared.faults.Rule.{Rule}
 use Rattle.msrp_plan.specs.declared.ids.JobId.{JobId}
@@ -14,7 +15,11 @@ use Rattle.msrp_plan.specs.declared.rows.Row.{Row}
 -- ---- plans
 -- a task: its name, core, period, relative deadline, offset and units
 abbrev pub task : List ℕ → ℕ → ℕ → ℕ → ℕ → List Op → TaskModel
-task name core period deadline offset units = record { name = name; core = core; period = period; deadline = deadline; offset = offset; units = units }
+task name core period deadline offset units = record { name = name; core = core; times = Every period offset; deadline = deadline; units = units }
+
+-- a task that is released at the ticks of a list: its name, core, relative deadline, ticks and units
+abbrev pub listed : List ℕ → ℕ → ℕ → List ℕ → List Op → TaskModel
+listed name core deadline ticks units = record { name = name; core = core; times = Listed ticks; deadline = deadline; units = units }
 
 -- so many units of work
 abbrev pub works : ℕ → List Op
@@ -36,35 +41,39 @@ job t k = record { task = record { 0 = t }; k = k }
 
 -- ---- rows: a tick, a core, what the core does, and then job and resource
 abbrev pub idle : ℕ → ℕ → Row
-idle t c = record { tick = t; core = record { 0 = c }; kind = kind.Idle; job = None; res = None; shape = refl }
+idle t c = record { tick = t; core = record { 0 = c }; kind = kind.Idle; job = None; res = None; ahead = None; shape = refl; carrier = refl }
 
 abbrev pub run : ℕ → ℕ → JobId → Row
-run t c j = record { tick = t; core = record { 0 = c }; kind = kind.Run; job = Some j; res = None; shape = refl }
+run t c j = record { tick = t; core = record { 0 = c }; kind = kind.Run; job = Some j; res = None; ahead = None; shape = refl; carrier = refl }
 
 -- the job works in n ticks, from tick t on
 abbrev pub runs : ℕ → ℕ → ℕ → JobId → List Row
 runs t n c j = map (λ at. run at c j) (range_with_len t n)
 
 abbrev pub lock : ℕ → ℕ → JobId → ℕ → Row
-lock t c j g = record { tick = t; core = record { 0 = c }; kind = kind.Lock; job = Some j; res = Some (record { 0 = g }); shape = refl }
+lock t c j g = record { tick = t; core = record { 0 = c }; kind = kind.Lock; job = Some j; res = Some (record { 0 = g }); ahead = None; shape = refl; carrier = refl }
 
 abbrev pub unlock : ℕ → ℕ → JobId → ℕ → Row
-unlock t c j g = record { tick = t; core = record { 0 = c }; kind = kind.Unlock; job = Some j; res = Some (record { 0 = g }); shape = refl }
+unlock t c j g = record { tick = t; core = record { 0 = c }; kind = kind.Unlock; job = Some j; res = Some (record { 0 = g }); ahead = None; shape = refl; carrier = refl }
 
 abbrev pub take : ℕ → ℕ → JobId → ℕ → Row
-take t c j g = record { tick = t; core = record { 0 = c }; kind = kind.Take; job = Some j; res = Some (record { 0 = g }); shape = refl }
+take t c j g = record { tick = t; core = record { 0 = c }; kind = kind.Take; job = Some j; res = Some (record { 0 = g }); ahead = None; shape = refl; carrier = refl }
 
 abbrev pub queue : ℕ → ℕ → JobId → ℕ → Row
-queue t c j g = record { tick = t; core = record { 0 = c }; kind = kind.Queue; job = Some j; res = Some (record { 0 = g }); shape = refl }
+queue t c j g = record { tick = t; core = record { 0 = c }; kind = kind.Queue; job = Some j; res = Some (record { 0 = g }); ahead = None; shape = refl; carrier = refl }
+
+-- the same, and the row carries that n stand ahead
+abbrev pub queue_behind : ℕ → ℕ → JobId → ℕ → ℕ → Row
+queue_behind t c j g n = record { tick = t; core = record { 0 = c }; kind = kind.Queue; job = Some j; res = Some (record { 0 = g }); ahead = Some n; shape = refl; carrier = refl }
 
 abbrev pub spin : ℕ → ℕ → JobId → ℕ → Row
-spin t c j g = record { tick = t; core = record { 0 = c }; kind = kind.Spin; job = Some j; res = Some (record { 0 = g }); shape = refl }
+spin t c j g = record { tick = t; core = record { 0 = c }; kind = kind.Spin; job = Some j; res = Some (record { 0 = g }); ahead = None; shape = refl; carrier = refl }
 
 abbrev pub grant : ℕ → ℕ → JobId → ℕ → Row
-grant t c j g = record { tick = t; core = record { 0 = c }; kind = kind.Grant; job = Some j; res = Some (record { 0 = g }); shape = refl }
+grant t c j g = record { tick = t; core = record { 0 = c }; kind = kind.Grant; job = Some j; res = Some (record { 0 = g }); ahead = None; shape = refl; carrier = refl }
 
 abbrev pub release : ℕ → ℕ → JobId → ℕ → Row
-release t c j g = record { tick = t; core = record { 0 = c }; kind = kind.Release; job = Some j; res = Some (record { 0 = g }); shape = refl }
+release t c j g = record { tick = t; core = record { 0 = c }; kind = kind.Release; job = Some j; res = Some (record { 0 = g }); ahead = None; shape = refl; carrier = refl }
 
 -- ---- changed rows
 -- another row in place of the n-th, counted from 1

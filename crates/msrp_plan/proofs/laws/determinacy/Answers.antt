@@ -1,5 +1,5 @@
-use Rattle.msrp_plan.proofs.Determinacy.{same_starts, same_runs}
+use Rattle.msrp_plan.proofs.Determinacy.{same_starts, same_carrying_starts, same_runs, same_carrying_runs}
 use Rattle.msrp_plan.proofs.laws.determinacy.Goals as goal
 
 pub returns : goal.returns
-returns c = record { starts = same_starts; runs = same_runs }
+returns c = record { starts = same_starts; carrying_starts = same_carrying_starts; runs = same_runs; carrying_runs = same_carrying_runs }

@@ -5,6 +5,10 @@ use Rattle.msrp_plan.proofs.worked.handover_within_a_tick.Goals as goal
 pub returns : goal.returns
 returns c = record {
   run = good_is_run _ _ refl;
+  without_ahead = refl;
+  ahead_run = good_is_run _ _ refl;
+  with_ahead = refl;
+  ahead_miscounted = refl;
   turn_of_no_core = refl;
   second_turn = refl;
   tick_too_early = refl;

@@ -1,0 +1,277 @@
+//! The command line: the words of a command, and what they ask for.
+
+ghost use Rattle.std.specs.Prelude.{◌≡◌, ◌⊎◌, ◌↔◌, IfErr, IfOk};
+ghost use Rattle.clap.specs.Words.{first_value};
+ghost use Rattle.clap.specs.declared.error.ErrorKind.TheVariants.{OutOfMemory};
+
+use crate::faults::CliFault;
+use clap::error::ErrorKind;
+use clap::{Arg, ArgAction, ArgMatches, Command};
+use std::alloc::{AllocError, Global};
+
+/// The order of the cores in each tick of a simulation.
+#[derive(Clone, Copy, Debug, PartialEq, Eq)]
+pub enum TurnOrder {
+    /// Rising.
+    Asc,
+    /// Falling.
+    Desc,
+    /// In tick t from core t mod m on, and round.
+    Rot,
+}
+
+/// A command, with its words. A path `-` is standard input.
+#[derive(Clone, Copy, Debug, PartialEq, Eq)]
+pub enum Cmd<'a> {
+    /// Simulates the plan on one thread; with `ahead` its trace tells the lengths of queues.
+    Sim {
+        order: TurnOrder,
+        ahead: bool,
+        plan: &'a str,
+    },
+    /// Runs the plan on a thread for each core.
+    Run {
+        ahead: bool,
+        plan: &'a str,
+    },
+    /// Judges a trace of the plan.
+    Audit {
+        parallel: bool,
+        plan: &'a str,
+        trace: &'a str,
+    },
+    /// Counts what happened in a trace of the plan.
+    Report {
+        plan: &'a str,
+        trace: &'a str,
+    },
+    /// Prints the plan's levels and ceilings.
+    Check {
+        plan: &'a str,
+    },
+    /// Prints the plan's own text.
+    CheckText {
+        plan: &'a str,
+    },
+    /// Prints the help.
+    Help,
+}
+
+// The words of arguments, by which they are declared and found again.
+const PLAN: &str = "PLAN";
+
+const TRACE: &str = "TRACE";
+
+const ORDER: &str = "order";
+
+const AHEAD: &str = "ahead";
+
+const PARALLEL: &str = "parallel";
+
+const TEXT: &str = "text";
+
+/// The path that stands for standard input.
+pub const STANDARD: &str = "-";
+
+fn flag<'a>(alloc: Global, name: &'a str, help: &'a str) -> Arg<'a> {
+    Arg::new(alloc, name)
+        .long(name)
+        .action(ArgAction::SetTrue)
+        .help(help)
+}
+
+fn plan_path<'a>(alloc: Global) -> Arg<'a> {
+    Arg::new(alloc, PLAN).help("the plan's path; - is standard input, as where none is given")
+}
+
+// A command that judges a trace of a plan.
+fn judge<'a>(alloc: Global, name: &'a str, about: &'a str) -> Result<Command<'a>, AllocError> {
+    let plan = Arg::new(alloc, PLAN)
+        .required(true)
+        .help("the plan's path; - is standard input");
+    let trace = Arg::new(alloc, TRACE)
+        .required(true)
+        .help("the trace's path; - is standard input");
+    Command::new(alloc, name).about(about).arg(plan)?.arg(trace)
+}
+
+fn sim<'a>(alloc: Global) -> Result<Command<'a>, AllocError> {
+    let order = Arg::new(alloc, ORDER)
+        .long(ORDER)
+        .value_name("asc|desc|rot")
+        .help(
+            "the order of the cores in each tick: rising, falling, or from core t mod m on in tick t",
+        );
+    Command::new(alloc, "sim")
+        .about("writes the trace of the plan's run on one thread")
+        .arg(order)?
+        .arg(flag(
+            alloc,
+            AHEAD,
+            "tells with each queued request how many are ahead",
+        ))?
+        .arg(plan_path(alloc))
+}
+
+fn run<'a>(alloc: Global) -> Result<Command<'a>, AllocError> {
+    Command::new(alloc, "run")
+        .about("writes the trace of the plan's run on one thread for each core")
+        .arg(flag(
+            alloc,
+            AHEAD,
+            "tells with each queued request how many are ahead",
+        ))?
+        .arg(plan_path(alloc))
+}
+
+fn check<'a>(alloc: Global) -> Result<Command<'a>, AllocError> {
+    Command::new(alloc, "check")
+        .about("writes the plan's preemption levels and ceilings")
+        .arg(flag(alloc, TEXT, "writes the plan's own text"))?
+        .arg(plan_path(alloc))
+}
+
+fn audit<'a>(alloc: Global) -> Result<Command<'a>, AllocError> {
+    judge(alloc, "audit", "judges a trace: good, or its first fault")?.arg(flag(
+        alloc,
+        PARALLEL,
+        "judges the parts of the trace side by side",
+    ))
+}
+
+fn grammar<'a>(alloc: Global) -> Result<Command<'a>, AllocError> {
+    Command::new(alloc, "msrp")
+        .about(
+            "the Multiprocessor Stack Resource Policy: runs, audits and reports; without a command as sim -",
+        )
+        .subcommand(sim(alloc)?)?
+        .subcommand(run(alloc)?)?
+        .subcommand(audit(alloc)?)?
+        .subcommand(judge(
+            alloc,
+            "report",
+            "counts what each task met in a legal trace, beside what it can meet at most",
+        )?)?
+        .subcommand(check(alloc)?)
+}
+
+/// The text of the help.
+pub fn help_text(alloc: Global) -> Result<String, CliFault>
+    ensures { IfErr result (λ fault. fault ≡ CliFault.Memory) }
+{
+    let Ok(mut command) = grammar(alloc) else {
+        return Err(CliFault::Memory);
+    };
+    command.render_help().map_err(|_| CliFault::Memory)
+}
+
+fn plan_of<'a>(matches: &ArgMatches<'a>) -> &'a str {
+    matches.get_str(PLAN).unwrap_or(STANDARD)
+}
+
+// The order of a word; rising where there is none.
+fn order_of(word: Option<&str>) -> Result<TurnOrder, CliFault>
+    ensures { IfErr result (λ fault. fault ≡ CliFault.Usage) }
+{
+    match word {
+        None | Some("asc") => Ok(TurnOrder::Asc),
+        Some("desc") => Ok(TurnOrder::Desc),
+        Some("rot") => Ok(TurnOrder::Rot),
+        Some(_) => Err(CliFault::Usage),
+    }
+}
+
+// The paths of a plan and a trace, which are not both standard input.
+fn both_of<'a>(matches: &ArgMatches<'a>) -> Result<(&'a str, &'a str), CliFault>
+    ensures { IfErr result (λ fault. fault ≡ CliFault.Usage) }
+{
+    match (matches.get_str(PLAN), matches.get_str(TRACE)) {
+        (Some(plan), Some(trace)) if plan != STANDARD || trace != STANDARD => Ok((plan, trace)),
+        _ => Err(CliFault::Usage),
+    }
+}
+
+fn sim_of<'a>(matches: &ArgMatches<'a>) -> Result<Cmd<'a>, CliFault>
+    ensures { IfErr result (λ fault. fault ≡ CliFault.Usage) }
+{
+    Ok(Cmd::Sim {
+        order: order_of(matches.get_str(ORDER))?,
+        ahead: matches.get_flag(AHEAD),
+        plan: plan_of(matches),
+    })
+}
+
+fn check_of<'a>(matches: &ArgMatches<'a>) -> Cmd<'a> {
+    let plan = plan_of(matches);
+    if matches.get_flag(TEXT) {
+        Cmd::CheckText { plan }
+    } else {
+        Cmd::Check { plan }
+    }
+}
+
+fn audit_of<'a>(matches: &ArgMatches<'a>) -> Result<Cmd<'a>, CliFault>
+    ensures { IfErr result (λ fault. fault ≡ CliFault.Usage) }
+{
+    let (plan, trace) = both_of(matches)?;
+    Ok(Cmd::Audit {
+        parallel: matches.get_flag(PARALLEL),
+        plan,
+        trace,
+    })
+}
+
+fn report_of<'a>(matches: &ArgMatches<'a>) -> Result<Cmd<'a>, CliFault>
+    ensures { IfErr result (λ fault. fault ≡ CliFault.Usage) }
+{
+    let (plan, trace) = both_of(matches)?;
+    Ok(Cmd::Report { plan, trace })
+}
+
+fn chosen<'a>(matches: &ArgMatches<'a>) -> Result<Cmd<'a>, CliFault>
+    ensures { IfErr result (λ fault. fault ≡ CliFault.Usage) }
+{
+    match matches.subcommand() {
+        None => Ok(Cmd::Sim {
+            order: TurnOrder::Asc,
+            ahead: false,
+            plan: STANDARD,
+        }),
+        Some(("sim", words)) => sim_of(words),
+        Some(("run", words)) => Ok(Cmd::Run {
+            ahead: words.get_flag(AHEAD),
+            plan: plan_of(words),
+        }),
+        Some(("audit", words)) => audit_of(words),
+        Some(("report", words)) => report_of(words),
+        Some(("check", words)) => Ok(check_of(words)),
+        Some(_) => Err(CliFault::Usage),
+    }
+}
+
+// What words that are no command are answered: want of memory is told as such, and nothing else is.
+fn refused(kind: ErrorKind) -> CliFault
+    ensures memory { (result ≡ CliFault.Memory) ↔ (kind ≡ OutOfMemory) }
+    ensures usage { (result ≡ CliFault.Memory) ⊎ (result ≡ CliFault.Usage) }
+{
+    match kind {
+        ErrorKind::OutOfMemory => CliFault::Memory,
+        _ => CliFault::Usage,
+    }
+}
+
+/// The command that the words ask for; the first word is the program's name.
+pub fn command_of<'a>(alloc: Global, words: &'a [String]) -> Result<Cmd<'a>, CliFault>
+    ensures { IfErr result (λ fault. (fault ≡ CliFault.Usage) ⊎ (fault ≡ CliFault.Memory)) }
+{
+    let Ok(command) = grammar(alloc) else {
+        return Err(CliFault::Memory);
+    };
+    match command.try_get_matches_from(words) {
+        Ok(matches) => chosen(&matches),
+        Err(error) => match error.kind() {
+            ErrorKind::DisplayHelp => Ok(Cmd::Help),
+            kind => Err(refused(kind)),
+        },
+    }
+}

@@ -1,0 +1,53 @@
+-- Ports: the calls that were made of a port, and one call more.
+use Rattle.std.specs.Prelude.{ℕ, zero, List, [], ◌∷◌, ◌++◌, ◌==◌, ◌≡◌, ◌≢◌, ◌≤◌, ◌+◌, map, filter, ⊤}
+use Rattle.msrp_plan.specs.Calls.{ResCall, claim_after}
+use Rattle.msrp_plan.specs.declared.ids.CoreId.{CoreId}
+use Rattle.msrp_plan.specs.declared.ids.ResId.{ResId}
+use Rattle.msrp_plan.specs.declared.units.Call.{Call}
+use Rattle.msrp_plan.specs.declared.units.Call.TheVariants.{Ask}
+use Rattle.msrp_plan.specs.declared.units.Phase.{Phase}
+use Rattle.msrp_core.specs.declared.port.PortCall.{PortCall}
+use Rattle.msrp_core.specs.declared.port.Reply.{Reply}
+use Rattle.msrp_core.specs.declared.port.Reply.TheVariants.{Taken, Queued}
+
+-- a port: the calls that were made of it, oldest first, how many more each core may make, and the number of resources
+pub record PortModel : Type 0 where
+  pub calls : List PortCall
+  pub rooms : ℕ → ℕ
+  pub resources : ℕ
+
+-- a call with its resource, and with its core
+abbrev pub res_call : PortCall → ResCall
+res_call e = (e.res, e.call)
+
+abbrev pub core_call : PortCall → ℕ × Call
+core_call e = (e.core.0, e.call)
+
+-- the calls of a core, each with its resource
+abbrev pub calls_of : ℕ → List PortCall → List ResCall
+calls_of c calls = map res_call (filter (λ e. e.core.0 == c) calls)
+
+-- the calls of a resource, each with its core
+abbrev pub calls_on : ℕ → List PortCall → List (ℕ × Call)
+calls_on g calls = map core_call (filter (λ e. e.res.0 == g) calls)
+
+-- what a core holds or awaits, as its calls say
+abbrev pub claim_in : ℕ → List PortCall → Phase
+claim_in c calls = claim_after (calls_of c calls)
+
+-- the request that is answered so: none is ahead of one that is granted at once
+abbrev pub asked : Reply → Call
+asked Taken = Ask 0
+asked (Queued ahead) = Ask ahead
+
+-- somebody is ahead of a request that is queued
+abbrev pub HasAhead : Reply → Type 0
+HasAhead Taken = ⊤
+HasAhead (Queued ahead) = 1 ≤ ahead
+
+-- one call more of this core and resource: the core has one less to make
+pub record Adds (core : CoreId) (res : ResId) (call : Call) (old new : PortModel) : Type 0 where
+  pub calls : new.calls ≡ old.calls ++ record { core = core; res = res; call = call } ∷ []
+  pub room : new.rooms core.0 + 1 ≡ old.rooms core.0
+  pub others : (c : ℕ) → c ≢ core.0 → new.rooms c ≡ old.rooms c
+  pub resources : new.resources ≡ old.resources

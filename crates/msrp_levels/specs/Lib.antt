@@ -1,0 +1,4 @@
+pub mod Users
+pub mod Footprints
+pub mod Usage
+pub mod LevelsView

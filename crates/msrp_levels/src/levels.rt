@@ -1,0 +1,133 @@
+//! The levels and ceilings of a plan.
+ghost use Rattle.std.specs.Prelude.{◌≡◌, ◌<◌, length, map, IfOk};
+ghost use Rattle.msrp_plan.specs.Levels.{level, is_global, top};
+ghost use Rattle.msrp_plan.specs.Bounds.{section, spin_bound};
+ghost use Rattle.msrp_levels.specs.Footprints.{footprint_of};
+ghost use Rattle.msrp_levels.specs.Usage.{AreUsages};
+ghost use Rattle.msrp_levels.specs.Users.{users, ceiling_at};
+
+use crate::footprints::{Footprint, footprints_of};
+use crate::preemption::levels_of;
+use crate::usage::{Usage, tops_of};
+use msrp_plan::{CoreId, Memory, Plan, ResId, TaskId};
+use std::alloc::Global;
+use std::marker::Model;
+
+/// The preemption levels and ceilings of a plan, which of its resources are global, and the bounds that it gives.
+///
+/// All is computed once, by [`Levels::of`], in one pass over the units of each task. A reader looks up what is
+/// stored; it takes no memory. The numbers of tasks, resources and cores that a reader takes are the plan's.
+#[derive(Drop)]
+pub struct Levels<'a> {
+    plan: &'a Plan,
+    levels: Vec<u32>,
+    tops: Vec<u32>,
+    usages: Vec<Usage>,
+}
+
+impl<'a> Model for Levels<'a> {
+    ghost use Rattle.msrp_plan.specs.Plan.{PlanModel};
+
+    ghost Value = { PlanModel };
+
+    ghost use Rattle.msrp_levels.specs.LevelsView.{levels_view, AreLevels};
+
+    ghost view = { levels_view };
+
+    ghost invariant = { AreLevels };
+}
+
+// How a plan uses each of its resources.
+fn usages_of(alloc: Global, plan: &Plan, tasks: &[Footprint]) -> Result<Vec<Usage>, Memory>
+    requires { tasks.now ≡ map (footprint_of plan.now) plan.now.tasks }
+    ensures { IfOk result (λ usages. AreUsages plan.now (length plan.now.resources) usages.items) }
+{
+    let mut usages = Vec::with_capacity(alloc, plan.resources() as usize).map_err(|_| Memory)?;
+    for r in 0..plan.resources() {
+        usages.push_reserved(Usage::of(alloc, plan, tasks, ResId(r))?);
+    }
+    Ok(usages)
+}
+
+impl<'a> Levels<'a> {
+    /// The levels and ceilings of a plan. It is [`Memory`] only where memory was refused.
+    pub fn of(alloc: Global, plan: &'a Plan) -> Result<Levels<'a>, Memory>
+        ensures { IfOk result (λ levels. levels ≡ plan.now) }
+    {
+        let levels = levels_of(alloc, plan)?;
+        let tasks = footprints_of(alloc, plan, &levels)?;
+        Ok(Levels {
+            plan,
+            tops: tops_of(alloc, plan, &tasks)?,
+            usages: usages_of(alloc, plan, &tasks)?,
+            levels,
+        })
+    }
+
+    /// The preemption level of a task: 1 and the number of distinct longer relative deadlines in the plan (Baker
+    /// 1991).
+    pub fn level(&self, task: TaskId) -> u32
+        requires { task.0 < length self.now.tasks }
+        ensures { result ≡ level self.now task.0 }
+    {
+        self.levels[task.0 as usize]
+    }
+
+    /// The highest level of a core's tasks, 0 if it has none.
+    pub fn top(&self, core: CoreId) -> u32
+        requires { core.0 < self.now.cores }
+        ensures { result ≡ top self.now core.0 }
+    {
+        self.tops[core.0 as usize]
+    }
+
+    /// Whether tasks of two cores use a resource.
+    pub fn is_global(&self, res: ResId) -> bool
+        requires { res.0 < length self.now.resources }
+        ensures { result ≡ is_global self.now res.0 }
+    {
+        self.usages[res.0 as usize].global
+    }
+
+    /// The ceiling of a resource at a core: of a local one the highest level of its users, 0 if there is none
+    /// (Baker 1991); of a global one the highest level of the core's tasks (Gai, Lipari and Di Natale 2001).
+    pub fn ceiling(&self, res: ResId, core: CoreId) -> u32
+        requires res { res.0 < length self.now.resources }
+        requires core { core.0 < self.now.cores }
+        ensures { result ≡ ceiling_at self.now res.0 core.0 }
+    {
+        if self.is_global(res) {
+            self.top(core)
+        } else {
+            self.usages[res.0 as usize].ceiling
+        }
+    }
+
+    /// The tasks that use a resource, in rising order.
+    pub fn users(&self, res: ResId) -> &[TaskId]
+        requires { res.0 < length self.now.resources }
+        ensures { map (λ task. task.0) result.now ≡ users self.now res.0 }
+    {
+        &self.usages[res.0 as usize].users
+    }
+
+    /// The longest section on a resource of the tasks of a core, in units after the lock up to and with the unlock;
+    /// 0 where none of them uses it.
+    pub fn section(&self, res: ResId, core: CoreId) -> u32
+        requires res { res.0 < length self.now.resources }
+        requires core { core.0 < self.now.cores }
+        ensures { result ≡ section self.now res.0 core.0 }
+    {
+        self.usages[res.0 as usize].cores[core.0 as usize].section
+    }
+
+    /// How often a job of a core spins in one wait for a resource, at most: for each other core that uses it, one
+    /// handover and its longest section (this project's own bound).
+    pub fn spin_bound(&self, res: ResId, core: CoreId) -> u32
+        requires res { res.0 < length self.now.resources }
+        requires core { core.0 < self.now.cores }
+        ensures { result ≡ spin_bound self.now res.0 core.0 }
+    {
+        self.usages[res.0 as usize].spins[core.0 as usize]
+    }
+}

@@ -1,0 +1,5 @@
+pub mod Pairs
+pub mod Turns
+pub mod Order
+pub mod Sorting
+pub mod Steps

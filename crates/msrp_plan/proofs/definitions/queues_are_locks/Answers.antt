@@ -1,0 +1,15 @@
+use Rattle.std.proofs.Common.{[], refl}
+use Rattle.msrp_plan.proofs.Prefixes.{each_before}
+use Rattle.msrp_plan.proofs.Verdicts.{start_last}
+use Rattle.msrp_plan.specs.Runs.{IsLegal}
+use Rattle.msrp_plan.proofs.QueueLocks.{reply_at, turn_from_log, own_from_legal, agree_at, tells_from_answers, lock_off}
+use Rattle.msrp_plan.proofs.definitions.queues_are_locks.Goals as goal
+
+pub returns : goal.returns
+returns c = record {
+  start = λ plan g. refl;
+  replies = λ plan pre r g call ok start glob turn row h. reply_at plan g pre r call ok glob start.each (turn_from_log plan pre r (own_from_legal plan [] pre start.each) turn) row h;
+  answers = λ plan pre r g call ok start glob row tells. (agree_at plan g pre r call ok glob (each_before (IsLegal plan) [] pre _ start.each) (start_last plan pre r start) row tells).answers;
+  next = λ plan pre r g call ok start glob row h. (agree_at plan g pre r call ok glob (each_before (IsLegal plan) [] pre _ start.each) (start_last plan pre r start) row (tells_from_answers plan _ _ r.core.0 call h)).next;
+  others = λ plan pre r g ok start glob off. lock_off plan g pre r ok glob (each_before (IsLegal plan) [] pre _ start.each) (start_last plan pre r start) off;
+}

@@ -1,0 +1,86 @@
+-- Blocking of a job by later ones: which rows block it, and where in their outermost sections the later jobs stand.
+use Rattle.std.specs.Prelude.{ℕ, List, [], ◌∷◌, ◌++◌, Bool, true, false, ◌==◌, ◌&&◌, ◌||◌, not, Option, Some, None, cond, ◌≡◌, ◌<◌, ◌≤◌, ◌+◌}
+use Rattle.std.specs.List.{Contains}
+use Rattle.msrp_plan.specs.Plan.{PlanModel, task_of, core_of, units, release}
+use Rattle.msrp_plan.specs.Jobs.{jobs, is_row_of, is_released, is_finished, is_queued, done}
+use Rattle.msrp_plan.specs.Choice.{is_before, running}
+use Rattle.msrp_plan.specs.Bounds.{is_inside, opening, out, blocked_bound}
+use Rattle.msrp_plan.specs.Runs.{EachAfter}
+use Rattle.msrp_plan.specs.declared.ids.JobId.{JobId}
+use Rattle.msrp_plan.specs.declared.rows.Row.{Row}
+
+-- how many elements pass a test over the elements before them, of which pre are the first
+abbrev pub count_after : {X : Type 0} → (List X → X → Bool) → List X → List X → ℕ
+count_after p pre [] = 0
+count_after p pre (x ∷ xs) = cond (p pre x) 1 0 + count_after p (pre ++ x ∷ []) xs
+
+-- ---- rows that block a job
+-- a job with a greater key
+abbrev pub is_later : PlanModel → JobId → Option JobId → Bool
+is_later plan j None = false
+is_later plan j (Some k) = is_before plan j k
+
+-- the row is of a later job of j's core, in a tick at or after j's release, and j isn't finished before it
+abbrev pub blocks : PlanModel → JobId → List Row → Row → Bool
+blocks plan j pre r = (r.core.0 == core_of plan j) && (is_released plan r.tick j && (not (is_finished plan pre j) && is_later plan j r.job))
+
+-- how many rows block the job
+abbrev pub blocked : PlanModel → List Row → JobId → ℕ
+blocked plan rows j = count_after (blocks plan j) [] rows
+
+-- ---- sections
+-- the job stands in an outermost section, after the section's first row: it holds a resource, or is queued for one
+abbrev pub is_amid : PlanModel → List Row → JobId → Bool
+is_amid plan pre k = is_queued pre k || is_inside plan (units plan k) (done k pre)
+
+-- the unit that begins the section
+abbrev pub section_of : PlanModel → List Row → JobId → ℕ
+section_of plan pre k = opening plan (units plan k) (done k pre)
+
+-- the row is one of job k in its outermost section that unit a begins, after the section's first row
+abbrev pub continues : PlanModel → JobId → ℕ → List Row → Row → Bool
+continues plan k a pre r = is_row_of k r && (is_amid plan pre k && (section_of plan pre k == a))
+
+-- the first row of the outermost section in which job k stands was made before tick t
+pub record IsBegun (plan : PlanModel) (pre : List Row) (k : JobId) (t : ℕ) : Type 0 where
+  pub before : List Row
+  pub first : Row
+  pub after : List Row
+  pub rows : pre ≡ before ++ first ∷ after
+  pub job : first.job ≡ Some k
+  pub outside : is_amid plan before k ≡ false
+  pub unit : done k before ≡ section_of plan pre k
+  pub early : first.tick < t
+
+-- ---- the laws
+-- the row that blocks j is of job k: of the jobs of the core that are started and unfinished k comes first, its relative
+-- deadline is longer than j's, and it stands in an outermost section that it began before j's release
+pub record IsBlocker (plan : PlanModel) (pre : List Row) (r : Row) (j k : JobId) : Type 0 where
+  pub job : r.job ≡ Some k
+  pub runs : running plan r.core.0 pre ≡ Some k
+  pub longer : (task_of plan j).deadline < (task_of plan k).deadline
+  pub amid : is_amid plan pre k ≡ true
+  pub begun : IsBegun plan pre k (release plan j)
+
+-- each row that blocks a job of the plan has such a blocker
+abbrev pub HasBlockers : PlanModel → List Row → Row → Type 0
+HasBlockers plan pre r = (j : JobId) → Contains (jobs plan) j → blocks plan j pre r ≡ true → (k : JobId) × IsBlocker plan pre r j k
+
+abbrev pub BlockedByBegunSections : PlanModel → List Row → Type 0
+BlockedByBegunSections plan rows = EachAfter (HasBlockers plan) [] rows
+
+-- the row, if it blocks j, is one of job k in its outermost section that unit a begins, after the section's first row
+abbrev pub BlocksFrom : PlanModel → JobId → JobId → ℕ → List Row → Row → Type 0
+BlocksFrom plan j k a pre r = blocks plan j pre r ≡ true → continues plan k a pre r ≡ true
+
+-- one job, and one of its outermost sections, give all rows that block a job of the plan
+abbrev pub BlockedByOneSection : PlanModel → List Row → Type 0
+BlockedByOneSection plan rows = (j : JobId) → Contains (jobs plan) j → (k : JobId) × (a : ℕ) × EachAfter (BlocksFrom plan j k a) [] rows
+
+-- no outermost section of a job has more rows after its first than the plan's bound
+abbrev pub BoundedSections : PlanModel → List Row → Type 0
+BoundedSections plan rows = (k : JobId) (a : ℕ) → count_after (continues plan k a) [] rows ≤ out plan (task_of plan k)
+
+-- so no job of the plan is blocked for more rows than the plan's bound
+abbrev pub BoundedBlocking : PlanModel → List Row → Type 0
+BoundedBlocking plan rows = (j : JobId) → Contains (jobs plan) j → blocked plan rows j ≤ blocked_bound plan (task_of plan j)
