@@ -217,7 +217,7 @@ module _ (plan : PlanModel) (c : ℕ) (tick : Option ℕ) (calendar : List Keyed
         let last = IsPermutation-sym (later.jobs ++ k ∷ ok.taken) (k ∷ (later.jobs ++ ok.taken)) (IsPermutation-middle later.jobs k ok.taken) in
         record {
           accepted = ok.accepted;
-      jobs = ok.jobs;
+          jobs = ok.jobs;
           sorted = ok.sorted;
           few = ok.few;
           room = room ∙ ok.room;
