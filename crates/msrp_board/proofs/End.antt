@@ -17,7 +17,6 @@ use Rattle.msrp_board.specs.declared.books.Book.{Book}
 use Rattle.msrp_board.specs.declared.books.BoardSize.{BoardSize}
 use Rattle.msrp_board.specs.declared.books.Conductor.{Conductor}
 use Rattle.msrp_board.specs.declared.books.Conductor.TheVariants.{Unopened, Opened, Aborted}
-use Rattle.msrp_board.specs.declared.books.Entry.{Entry}
 use Rattle.msrp_board.specs.declared.pages.Page.{Page}
 use Rattle.msrp_board.specs.declared.pages.View.{View}
 use Rattle.msrp_board.specs.Books.{IsSize, on, IsKept, reach as book_reach}
@@ -27,10 +26,10 @@ use Rattle.msrp_board.specs.Boards.{WholeBoard, IsTied, high, low, entries_at, o
 use Rattle.msrp_board.specs.Inside.Rule.{empty_page, HasPage, Ruled, IsServedNewest, IsKeptNewest, IsTiedNewest, Gathered, page_reach, arrivals, entry_count}
 use Rattle.msrp_board.specs.Inside.Held.{told, seen_as, page_at, settled_as, IsWhole}
 use Rattle.msrp_board.proofs.Sharing.{at_length}
-use Rattle.msrp_board.proofs.Ties.{get_or_at, has_page, page_has, page_or_none}
+use Rattle.msrp_board.proofs.CoreStates.{get_or_at, has_page, page_has, page_or_none}
 use Rattle.msrp_board.proofs.Counts.{total_bound, ticks_length}
-use Rattle.msrp_board.proofs.Calls.{steps_length, split_word}
-use Rattle.msrp_board.proofs.Meeting.{arrivals_bound, reach_high}
+use Rattle.msrp_board.proofs.TicketSteps.{steps_length, split_word}
+use Rattle.msrp_board.proofs.BarrierSteps.{arrivals_bound, reach_high}
 use Rattle.msrp_board.proofs.Reversed.{history_reversed, legal_reversed, requests_reversed, releases_reversed, rising_reversed}
 use Rattle.msrp_board.proofs.Kept.{kept_told}
 use Rattle.msrp_board.proofs.Told.{shown}

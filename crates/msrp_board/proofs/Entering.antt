@@ -1,17 +1,15 @@
 -- What a step on a ticket word tells, by the halves that it found.
-use Rattle.std.proofs.Common.{◌==◌, ◌≡◌, ℕ, ◌+◌, ◌*◌, ◌-◌, refl, sym, ap, ◌∙◌, subst, arith}
+use Rattle.std.proofs.Common.{◌==◌, ◌≡◌, ℕ, ◌+◌, sym, ap, ◌∙◌, subst}
 use mathlib.Core.Option.{none}
 use Rattle.atomic_table.specs.Table.{Me, step}
 use Rattle.msrp_plan.specs.declared.units.Call.{Call}
-use Rattle.msrp_plan.specs.declared.units.Call.TheVariants.{Ask, Poll, Leave}
+use Rattle.msrp_plan.specs.declared.units.Call.TheVariants.{Poll}
 use Rattle.msrp_board.specs.declared.held.Claim.TheVariants.{Waits}
-use Rattle.msrp_board.specs.declared.books.BoardSize.{BoardSize}
-use Rattle.msrp_board.specs.declared.pages.Page.{Page}
 use Rattle.msrp_board.specs.declared.pages.View.{View}
 use Rattle.msrp_board.specs.declared.words.TicketWord.{TicketWord}
 use Rattle.msrp_board.specs.Boards.{high, low}
-use Rattle.msrp_board.specs.Inside.Newest.{claim_of, ticket_of}
-use Rattle.msrp_board.specs.Inside.Rule.{HasEntered, IsTicket, Tells, TellsAsk, TellsPoll, TellsLeave, ViewIsBehind, ViewMayAct, with_pages, page_with_entry, page_with_poll}
+use Rattle.msrp_board.specs.Inside.Newest.{ticket_of}
+use Rattle.msrp_board.specs.Inside.Rule.{HasEntered, TellsPoll, ViewIsBehind, ViewMayAct, with_pages, page_with_entry, page_with_poll}
 use Rattle.msrp_board.proofs.Seats.{sole_change}
 
 -- the word, by its halves

@@ -1,6 +1,6 @@
 -- A state under the rule, as callers see it.
-use Rattle.std.proofs.Common.{◌≡◌, ◌+◌, ◌≤◌, ℕ, zero, suc, List, [], ◌∷◌, length, map, take, Some, None, refl, sym, ap, ◌∙◌, subst, arith}
-use Rattle.std.specs.Prelude.{slice_index, slice_get}
+use Rattle.std.proofs.Common.{◌≡◌, ℕ, zero, suc, List, [], ◌∷◌, map, Some, refl, sym, ap, ◌∙◌, arith}
+use Rattle.std.specs.Prelude.{slice_get}
 use mathlib.Core.Option.{some, some-injective, some-ne-none}
 use lib.ListN.{get_elem?}
 use Rattle.atomic_table.specs.Table.{State}
@@ -9,7 +9,6 @@ use Rattle.msrp_board.specs.declared.books.Conductor.{Conductor}
 use Rattle.msrp_board.specs.declared.pages.Page.{Page}
 use Rattle.msrp_board.specs.declared.pages.View.{View}
 use Rattle.msrp_board.specs.Seats.{BoardModel, SeatModel, book_at}
-use Rattle.msrp_board.specs.Boards.{WholeBoard}
 use Rattle.msrp_board.specs.Moments.{HoldsBook, HoldsConductor, AreTied}
 use Rattle.msrp_board.specs.Inside.Rule.{OwnsBy, HasPage, HasConductor, Ruled}
 use Rattle.msrp_board.specs.Inside.Held.{told, seen_as}

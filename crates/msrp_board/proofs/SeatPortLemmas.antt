@@ -1,7 +1,6 @@
 -- A port over a core's seat: what a port asks for is what the board asks for, and a step adds one call.
-use Rattle.std.proofs.Common.{◌==◌, ◌||◌, ◌≡◌, ◌≢◌, ◌+◌, ◌<◌, ℕ, List, [], ◌∷◌, ◌++◌, Bool, true, false, Some, None, refl, sym, ap, ◌∙◌, subst, arith, eq-eqb, true≢false}
+use Rattle.std.proofs.Common.{◌==◌, ◌||◌, ◌≡◌, ◌≢◌, ◌<◌, ℕ, [], ◌∷◌, ◌++◌, Bool, true, false, refl, sym, ap, ◌∙◌, subst, arith, eq-eqb}
 use Rattle.std.specs.List.{list_any}
-use Rattle.std.specs.declared.option.Option.{Option}
 use Rattle.std.proofs.lemmas.List.Folds.{list_any-append}
 use mathlib.Core.Logic.{dite}
 use native.Mathlib.Decide.{ℕ_discrete}
@@ -13,8 +12,8 @@ use Rattle.msrp_board.specs.declared.answers.SeatPhase.{SeatPhase}
 use Rattle.msrp_board.specs.declared.answers.SeatPhase.TheVariants.{Waiting, Admitted, Done, Stopped}
 use Rattle.msrp_board.specs.declared.books.Entry.{Entry}
 use Rattle.msrp_board.specs.declared.books.Book.{Book}
-use Rattle.msrp_board.specs.Books.{phase_in, has_acted}
-use Rattle.msrp_board.specs.Seats.{BoardModel, SeatModel, book_at, IsCoreSeat, MayAct}
+use Rattle.msrp_board.specs.Books.{has_acted}
+use Rattle.msrp_board.specs.Seats.{BoardModel, SeatModel, MayAct}
 use Rattle.msrp_board.specs.Steps.{book_with_entry, with_entry}
 use Rattle.msrp_board.specs.SeatPorts.{calls_in, port_calls, room_by, room_in, port_room, IsPort, AddsCall}
 use Rattle.msrp_board.proofs.Told.{res_calls_last}

@@ -1,15 +1,13 @@
 -- What a call makes of a seat, as callers see it.
-use Rattle.std.proofs.Common.{set, arith, ◌==◌, ◌≡◌, ℕ, zero, suc, ◌+◌, ◌*◌, ◌-◌, ◌<◌, ◌≤◌, List, [], ◌∷◌, map, replicate, Bool, true, false, nat_lt, ltb, leb, ltb-true, Some, None, refl, sym, ap, ◌∙◌, subst}
-use Rattle.std.specs.List.{AllByRecursion}
+use Rattle.std.proofs.Common.{set, arith, ◌==◌, ◌≡◌, ℕ, zero, suc, ◌+◌, ◌*◌, ◌<◌, List, [], ◌∷◌, map, replicate, Bool, true, false, nat_lt, ltb, leb, ltb-true, Some, None, refl, sym, ap, ◌∙◌, subst}
 use Rattle.std.specs.Option.{option_map}
 use Rattle.std.specs.declared.option.Option.{Option}
-use mathlib.Core.Option.{some, some-ne-none}
+use mathlib.Core.Option.{some}
 use lib.ListN.{get_elem?}
 use Rattle.atomic_table.specs.Table.{Me}
 use Rattle.atomic_table.specs.Seated.{TableId}
 use Rattle.msrp_plan.specs.declared.ids.ResId.{ResId}
 use Rattle.msrp_plan.specs.declared.units.Call.{Call}
-use Rattle.msrp_plan.specs.declared.units.Call.TheVariants.{Ask, Poll, Leave}
 use Rattle.msrp_plan.specs.declared.units.Phase.{Phase}
 use Rattle.msrp_plan.specs.declared.units.Phase.TheVariants.{Free, Queued, Holding}
 use Rattle.msrp_board.specs.declared.answers.SeatPhase.{SeatPhase}
@@ -35,7 +33,7 @@ use Rattle.msrp_board.specs.Inside.Held.{look_if, look_of, told, phase_of, seen_
 use Rattle.msrp_board.proofs.Start.{first_page}
 use Rattle.msrp_board.proofs.Lists.{reverse_cons, all_reversed, filter_reversed}
 use Rattle.msrp_board.proofs.Told.{lock_told, acted_told, page_of, sole_of}
-use Rattle.msrp_board.proofs.Ties.{is_low, seat_step}
+use Rattle.msrp_board.proofs.CoreStates.{is_low, seat_step}
 use Rattle.msrp_board.proofs.Kept.{kept_more, fresh_page, kept_empty, kept_told, claim_below}
 
 -- ---- what a caller's condition says of the page

@@ -1,5 +1,5 @@
 -- A page as callers see it: what it says of its core is what the book says.
-use Rattle.std.proofs.Common.{get_or, ◌++◌, nat_lt, ◌<◌, ◌≤◌, ⊎_elim, arith, ◌==◌, ◌||◌, ◌≡◌, ℕ, zero, suc, List, [], ◌∷◌, map, reverse, Bool, true, false, fold, Some, None, refl, sym, ap, ◌∙◌}
+use Rattle.std.proofs.Common.{get_or, ◌++◌, nat_lt, ◌<◌, ◌≤◌, ⊎_elim, arith, ◌==◌, ◌||◌, ◌≡◌, ℕ, zero, suc, List, [], ◌∷◌, map, reverse, Bool, true, false, Some, None, refl, sym, ap, ◌∙◌}
 use Rattle.std.specs.Prelude.{slice_index_or}
 use Rattle.std.specs.List.{list_any}
 use Rattle.std.specs.Option.{option_map, is_some}
@@ -24,7 +24,7 @@ use Rattle.msrp_board.specs.Inside.Newest.{claim_of, claim_with_call}
 use Rattle.msrp_board.specs.Inside.Rule.{HasOnly, page_has_acted}
 use Rattle.msrp_board.specs.Inside.Held.{told, phase_of, page_at, seen_as, state_of, state_at, AreStates, IsLow, Shows}
 use Rattle.msrp_board.proofs.Lists.{reverse_cons, fold_last}
-use Rattle.msrp_board.proofs.Ties.{has_page, page_has, get_or_at, page_or_none}
+use Rattle.msrp_board.proofs.CoreStates.{has_page, page_has, get_or_at, page_or_none}
 
 -- one call more: what a core claims is what it holds or awaits
 after_call : (l : Claim) (g : ℕ) (p : ℕ) (k : Call) → claim_with (phase_of l) (record { 0 = g }) k ≡ phase_of (claim_with_call l g p k)

@@ -1,5 +1,5 @@
 -- The rule of a board's words: what always holds of the words and of the books of all seats, and what each step tells.
-use Rattle.std.specs.Prelude.{◌≡◌, ℕ, suc, ltb, leb, ◌==◌, ◌+◌, ◌*◌, ◌/◌, ◌%◌, ◌-◌, ◌^◌, ◌<◌, ◌≤◌, List, [], ◌∷◌, length, map, Bool, true, false, Some, None, replicate, slice_index}
+use Rattle.std.specs.Prelude.{◌≡◌, ℕ, suc, ltb, leb, ◌==◌, ◌+◌, ◌*◌, ◌-◌, ◌^◌, ◌<◌, ◌≤◌, List, [], ◌∷◌, length, map, Bool, true, false, Some, None, replicate, slice_index}
 use Rattle.std.specs.List.{list_any, AllByRecursion}
 use Rattle.std.specs.Option.{option_map}
 use mathlib.Core.Option.{some}

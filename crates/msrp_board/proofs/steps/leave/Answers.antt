@@ -1,5 +1,5 @@
 use Rattle.std.proofs.Common.{arith}
-use Rattle.msrp_board.proofs.Calls.{leaves_allowed}
+use Rattle.msrp_board.proofs.TicketSteps.{leaves_allowed}
 use Rattle.msrp_board.proofs.steps.leave.Goals as goal
 
 pub fetch_add-requires : goal.fetch_add-requires

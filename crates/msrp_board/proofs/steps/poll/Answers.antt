@@ -1,5 +1,5 @@
 use Rattle.std.proofs.Common.{arith}
-use Rattle.msrp_board.proofs.Calls.{polls_allowed}
+use Rattle.msrp_board.proofs.TicketSteps.{polls_allowed}
 use Rattle.msrp_board.proofs.Entering.{poll_entered}
 use Rattle.msrp_board.proofs.steps.poll.Goals as goal
 

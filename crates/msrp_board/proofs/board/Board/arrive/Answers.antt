@@ -3,7 +3,7 @@ use Rattle.msrp_board.specs.declared.answers.SeatPhase.TheVariants.{Admitted}
 use Rattle.msrp_board.specs.declared.held.CoreState.{CoreState}
 use Rattle.msrp_board.specs.Inside.Rule.{page_with_arrival}
 use Rattle.msrp_board.proofs.Seats.{standing, admitted_page, arriving, seat_changed}
-use Rattle.msrp_board.proofs.Ties.{seat_step}
+use Rattle.msrp_board.proofs.CoreStates.{seat_step}
 use Rattle.msrp_board.proofs.Kept.{kept_arrival}
 use Rattle.msrp_board.proofs.board.Board.arrive.Goals as goal
 

@@ -8,7 +8,7 @@ use Rattle.msrp_board.specs.Inside.Rule.{page_after_look}
 use Rattle.msrp_board.specs.Inside.Held.{look_of}
 use Rattle.msrp_board.proofs.Seats.{standing, waiting_page, look_wait, look_go, look_stop, stop_start}
 use Rattle.msrp_board.proofs.Kept.{kept_look}
-use Rattle.msrp_board.proofs.Ties.{seat_step}
+use Rattle.msrp_board.proofs.CoreStates.{seat_step}
 use Rattle.msrp_board.proofs.board.Board.look.Goals as goal
 
 pub own-core-requires : goal.own-core-requires

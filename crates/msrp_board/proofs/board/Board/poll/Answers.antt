@@ -1,6 +1,6 @@
-use Rattle.std.proofs.Common.{◌+◌, ◌<◌, ◌==◌, ◌*◌, refl, sym, ap, ◌∙◌, ◌≡◌, subst}
+use Rattle.std.proofs.Common.{◌+◌, ◌<◌, ◌==◌, refl, sym, ap, ◌∙◌, ◌≡◌, subst}
 use Rattle.msrp_plan.specs.declared.ids.ResId.{ResId}
-use Rattle.msrp_plan.specs.declared.units.Call.TheVariants.{Poll, Leave}
+use Rattle.msrp_plan.specs.declared.units.Call.TheVariants.{Poll}
 use Rattle.msrp_plan.specs.declared.units.Phase.TheVariants.{Queued}
 use Rattle.msrp_board.specs.declared.books.BoardSize.{BoardSize}
 use Rattle.msrp_board.specs.Seats.{BoardModel, SeatModel}

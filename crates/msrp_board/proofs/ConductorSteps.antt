@@ -15,7 +15,7 @@ use Rattle.msrp_board.specs.declared.books.Conductor.{Conductor}
 use Rattle.msrp_board.specs.declared.books.Conductor.TheVariants.{Unopened, Opened, Aborted}
 use Rattle.msrp_board.specs.Inside.Rule.{OwnsBy, SharedConductor, HasConductor, HasPage, Gathered, IsServedNewest, Ruled, view_with_conductor, TellsOpening, TellsAbort}
 use Rattle.msrp_board.proofs.Sharing.{at_length, same_shared}
-use Rattle.msrp_board.proofs.Meeting.{few_arrivals}
+use Rattle.msrp_board.proofs.BarrierSteps.{few_arrivals}
 
 some_of : (x y : Conductor) → Some x ≡ Some y → x ≡ y
 some_of x y e = cc

@@ -1,12 +1,9 @@
--- Each step keeps the rule.
-use Rattle.std.proofs.Common.{◌==◌, ◌||◌, eq-eqb, ne_eqb, ◌≡◌, ◌≢◌, ◌⊎◌, inl, inr, ⊎_elim, ℕ, zero, suc, ◌+◌, ◌*◌, ◌%◌, ◌^◌, ◌-◌, ◌<◌, ◌≤◌, List, [], ◌∷◌, length, map, set, Some, None, Bool, true, false, true≢false, refl, sym, ap, ◌∙◌, subst, arith}
+-- A request, a poll and a release keep the rule.
+use Rattle.std.proofs.Common.{◌==◌, eq-eqb, ne_eqb, ◌≡◌, ◌≢◌, ◌⊎◌, inl, inr, ⊎_elim, ℕ, zero, suc, ◌+◌, ◌*◌, ◌%◌, ◌^◌, ◌-◌, ◌<◌, ◌≤◌, List, [], ◌∷◌, length, set, Some, Bool, true, false, true≢false, refl, sym, ap, ◌∙◌, subst, arith}
 use Rattle.std.specs.Prelude.{slice_index}
-use Rattle.std.specs.Option.{option_map}
-use Rattle.std.specs.declared.option.Option.{Option}
 use mathlib.Core.Option.{some, none, some-injective, some-ne-none}
 use mathlib.Core.Logic.{dite}
 use native.Mathlib.Decide.{ℕ_discrete, dec_lt}
-use Rattle.std.specs.List.{list_any}
 use lib.ListN.{get_elem?}
 use Rattle.std.proofs.lemmas.Nat.{mul-le, mod-mul-add, div-mul-add}
 use Rattle.std.proofs.lemmas.List.{length-set, get_or-set_same, get_or-set_other}
@@ -29,7 +26,7 @@ use Rattle.msrp_plan.specs.FifoLock.{Answers, IsAmong, IsFirst}
 use Rattle.msrp_board.proofs.Queue.{at_first, among, not_among, not_first, Coupled, coupled, ticket, held, by_same, by_other, by_cases}
 use Rattle.msrp_board.proofs.Counts.{at, pick, claim_on, on_same, on_other, total_more, total_bound, ticks_length, arrivals_set}
 use Rattle.msrp_board.proofs.Sharing.{at_length, same_shared}
-use Rattle.msrp_board.proofs.Ties.{each_some, each_at}
+use Rattle.msrp_board.proofs.CoreStates.{each_some, each_at}
 use Rattle.msrp_board.proofs.Kept.{kept_more, fresh_page}
 use Rattle.msrp_board.proofs.Sorted.{insert, inserted}
 use Rattle.msrp_board.specs.declared.books.Conductor.{Conductor}

@@ -1,5 +1,5 @@
--- Steps on the barrier word keep the rule.
-use Rattle.std.proofs.Common.{Some, ltb, leb, ltb-true, leb-true, ◌≡◌, ◌≢◌, ⊎_elim, ℕ, zero, suc, ◌+◌, ◌*◌, ◌/◌, ◌%◌, ◌^◌, ◌<◌, ◌≤◌, List, [], ◌∷◌, length, set, Bool, true, false, refl, sym, ap, ◌∙◌, subst, arith}
+-- A look and an arrival keep the rule.
+use Rattle.std.proofs.Common.{ltb, leb, ltb-true, leb-true, ◌≡◌, ◌≢◌, ⊎_elim, ℕ, zero, suc, ◌+◌, ◌*◌, ◌/◌, ◌%◌, ◌^◌, ◌<◌, ◌≤◌, List, [], ◌∷◌, length, set, Bool, true, false, refl, sym, ap, ◌∙◌, subst, arith}
 use Rattle.std.specs.Prelude.{slice_index}
 use mathlib.Core.Option.{some, none, some-injective, some-ne-none}
 use lib.ListN.{get_elem?}
@@ -7,7 +7,6 @@ use Rattle.std.proofs.lemmas.Nat.{mul-le, mod-mul-add, div-mul-add}
 use Rattle.std.proofs.lemmas.List.{length-set, get_or-set_same, get_or-set_other}
 use Rattle.atomic_table.specs.Table.{State, Me, step, keeps, stepped, Allows}
 use Rattle.atomic_table.proofs.Lists.{at_set}
-use Rattle.msrp_board.specs.declared.books.Entry.{Entry}
 use Rattle.msrp_board.specs.declared.pages.Page.{Page}
 use Rattle.msrp_board.specs.declared.pages.View.{View}
 use Rattle.msrp_board.specs.declared.books.BoardSize.{BoardSize}
@@ -15,14 +14,13 @@ use Rattle.msrp_board.specs.declared.books.Conductor.{Conductor}
 use Rattle.msrp_board.specs.declared.books.Conductor.TheVariants.{Unopened, Opened, Aborted}
 use Rattle.msrp_board.specs.Books.{on, reach_of}
 use Rattle.msrp_board.specs.History.{by}
-use Rattle.msrp_board.specs.Inside.Newest.{TicksNewest}
 use Rattle.msrp_board.specs.Boards.{opening_count, abort_count}
-use Rattle.msrp_board.specs.Inside.Rule.{arrivals, page_reach, HasConductor, Gathered, HasPage, IsServedNewest, IsKeptNewest, Ruled, HasOnly, with_pages, page_with_arrival, TellsArrival, page_after_look_if, page_after_look, TellsLook}
+use Rattle.msrp_board.specs.Inside.Rule.{arrivals, page_reach, HasConductor, Gathered, IsServedNewest, IsKeptNewest, Ruled, HasOnly, with_pages, page_with_arrival, TellsArrival, page_after_look_if, page_after_look, TellsLook}
 use Rattle.msrp_board.proofs.Sharing.{same_shared}
 use Rattle.msrp_board.proofs.Counts.{arrivals_set, total_same}
-use Rattle.msrp_board.proofs.Calls.{shared_step}
+use Rattle.msrp_board.proofs.TicketSteps.{shared_step}
 use Rattle.msrp_board.proofs.Kept.{kept_arrival, kept_look}
-use Rattle.msrp_board.proofs.Barrier.{total_of, admits}
+use Rattle.msrp_board.proofs.Arrivals.{total_of, admits}
 
 served_same : (g n c : ℕ) (books : List Page) (b d : Page) → get_elem? books c ≡ some b → d.newest ≡ b.newest → IsServedNewest g n books → IsServedNewest g n (set books c d)
 served_same g n c books b d has same s =

@@ -1,4 +1,4 @@
--- A seat's numbers and its books.
+-- What a seat keeps of its cores is what its pages say, also after a step.
 use Rattle.std.proofs.Common.{arith, ◌≡◌, ◌⊎◌, inl, inr, ⊎_elim, ℕ, zero, suc, ◌<◌, List, [], ◌∷◌, map, set, get_or, Some, None, true, true≢false, refl, sym, ap, ◌∙◌, subst}
 use Rattle.std.specs.declared.option.Option.{Option}
 use Rattle.std.specs.Option.{is_some, option_map}
@@ -14,8 +14,7 @@ use Rattle.msrp_board.specs.declared.held.CoreState.{CoreState}
 use Rattle.msrp_board.specs.declared.books.BoardSize.{BoardSize}
 use Rattle.msrp_board.specs.declared.books.Conductor.{Conductor}
 use Rattle.msrp_board.specs.Inside.Held.{state_of, page_at, state_at, AreStates, IsLow, IsOwn, IsHeld}
-use Rattle.msrp_board.specs.Inside.Newest.{claim_of}
-use Rattle.msrp_board.specs.Inside.Rule.{HasPage, HasOnly, IsKeptNewest, with_pages}
+use Rattle.msrp_board.specs.Inside.Rule.{HasOnly, IsKeptNewest, with_pages}
 use Rattle.msrp_board.proofs.Sharing.{at_length}
 
 pub get_or_at : {A : Type 0} (l : List A) (i : ℕ) (a d : A) → get_elem? l i ≡ some a → get_or l i d ≡ a
