@@ -1,6 +1,6 @@
 -- Rows that aren't legal, each list short of what one law promises, and past its bound by one.
 use Rattle.std.specs.Prelude.{List, [], ◌∷◌, ◌++◌}
-use Rattle.msrp_plan.specs.Examples.Notation.{job, run, runs, lock, unlock, take, queue, spin}
+use Rattle.msrp_plan.specs.Examples.Notation.{job, runs, lock, unlock, take, queue, spin}
 use Rattle.msrp_plan.specs.declared.rows.Row.{Row}
 
 -- on two cores: while b waits, a takes the resource twice
