@@ -5,7 +5,7 @@ ghost use Rattle.msrp_plan.specs.Choice.{running};
 ghost use Rattle.msrp_plan.specs.Runs.{IsRunStart};
 ghost use Rattle.msrp_plan.specs.WellFormed.{IsPlan};
 ghost use Rattle.msrp_plan.specs.Bounds.{spin_bound, out, blocked_bound};
-ghost use Rattle.msrp_plan.specs.Blocking.{BlockedByBegunSections, BlockedByOneSection, BoundedSections, BoundedBlocking, IsBegun, blocked, blocks, count_after, continues, is_amid};
+ghost use Rattle.msrp_plan.specs.Blocking.{BlockedByBegunSections, BlockedByOneSection, BlockedSinceRelease, BoundedSections, BoundedBlocking, IsBegun, blocked, blocks, count_after, continues, first_later, is_amid};
 ghost use Rattle.msrp_plan.specs.Laws.{KeepsLaws};
 ghost use Rattle.msrp_plan.specs.Examples.Notation.{job, run};
 ghost use Rattle.msrp_plan.specs.Examples.BlockedHead as blocked_head;
@@ -38,12 +38,20 @@ pub fn bounded_blocking()
     ensures { (plan : PlanModel) (rows : List Row) → IsPlan plan → IsRunStart plan rows → BoundedBlocking plan rows }
 {}
 
+/// Who blocks a job is known at its release: the first of the later jobs of its core that are started and
+/// unfinished then. Each row that this job makes before the blocked job starts counts, and no other: so how
+/// long jobs are blocked can be counted in one pass.
+pub fn blocked_since_release()
+    ensures { (plan : PlanModel) (rows : List Row) → IsPlan plan → IsRunStart plan rows → BlockedSinceRelease plan rows }
+{}
+
 /// A worked run in which a job is blocked as long as can be: its release comes right after the first row of
 /// the longest section. A job that is released later is blocked by the rest of that section.
 pub fn blocked_as_long_as_can_be()
     ensures laws { KeepsLaws blocked_head.plan blocked_head.rows }
     ensures first { blocks blocked_head.plan (job 1 0) (take 1 blocked_head.rows) (run 1 0 (job 0 0)) ≡ true }
     ensures runs { running blocked_head.plan 0 (take 1 blocked_head.rows) ≡ Some (job 0 0) }
+    ensures known { first_later blocked_head.plan (take 1 blocked_head.rows) (job 1 0) ≡ Some (job 0 0) }
     ensures amid { is_amid blocked_head.plan (take 1 blocked_head.rows) (job 0 0) ≡ true }
     ensures begun { IsBegun blocked_head.plan (take 1 blocked_head.rows) (job 0 0) 1 }
     ensures section { count_after (continues blocked_head.plan (job 0 0) 0) [] blocked_head.rows ≡ out blocked_head.plan (task_at blocked_head.plan 0) }
