@@ -20,13 +20,13 @@ use Rattle.msrp_board.specs.declared.pages.View.{View}
 use Rattle.msrp_board.specs.declared.books.BoardSize.{BoardSize}
 use Rattle.msrp_board.specs.Books.{on, IsBefore, reach_of, AreBefore}
 use Rattle.msrp_board.specs.History.{Event, by}
-use Rattle.msrp_board.specs.Inside.Newest.{lock, asks, leaves, asks_after, leaves_after, queue, granted, PlacedNewest, turn_of, claim_of, IsClaimInTurn, IsRegularNewest, TicksNewest, NoneLater}
+use Rattle.msrp_board.specs.Inside.Newest.{lock, asks, leaves, asks_after, leaves_after, queue, granted, PlacedNewest, ticket_of, claim_of, IsClaimInTurn, IsRegularNewest, TicksNewest, NoneLater}
 use Rattle.msrp_board.specs.Boards.{opening_count, abort_count, high, low}
 use Rattle.msrp_board.specs.Inside.Rule.{page_has_acted, page_with, arrivals, page_reach, HasConductor, Gathered, HasPage, Owns, Shared, IsTicketWord, IsServedNewest, IsKeptNewest, Ruled, HasOnly, page_with_ask, with_pages, page_with_poll, page_with_leave, ViewIsBehind, TellsAsk, TellsPoll, TellsLeave}
 use Rattle.msrp_board.specs.declared.held.Claim.{Claim}
 use Rattle.msrp_board.specs.declared.held.Claim.TheVariants.{Nothing, Waits, Holds}
 use Rattle.msrp_plan.specs.FifoLock.{Answers, IsAmong, IsFirst}
-use Rattle.msrp_board.proofs.Queue.{at_first, among, not_among, not_first, Coupled, coupled, turn, held, by_same, by_other, by_cases}
+use Rattle.msrp_board.proofs.Queue.{at_first, among, not_among, not_first, Coupled, coupled, ticket, held, by_same, by_other, by_cases}
 use Rattle.msrp_board.proofs.Counts.{at, pick, claim_on, on_same, on_other, total_more, total_bound, ticks_length, arrivals_set}
 use Rattle.msrp_board.proofs.Sharing.{at_length, same_shared}
 use Rattle.msrp_board.proofs.Ties.{each_some, each_at}
@@ -311,7 +311,7 @@ asks_allowed z slots id me g c b in_g sole room quiet free s r _ at_id fits =
     let n = slice_index s.words g in
     let t : (sv : IsServedNewest g n r.0) → Found z s id g c b r sv = λ sv. found z s id g c me.0 b r sv at_id sole room fresh in
     let sv = r.4.1 g in_g in
-    (with_pages (page_with_ask g n) me.0, keeps, tt, acts z s id g ((n + 4294967296) % 2 ^ 64) c me.0 b (record { tick = b.tick; res = record { 0 = g }; place = high n + low n; call = Ask (high n - low n) }) (page_with_ask g n) r at_id in_g sole room fresh refl refl refl free ((tells z s id g c me.0 b r sv sole (t sv)).2 c b sole.0) (λ sv. step_ok sv (t sv)), let x = tells z s id g c me.0 b r sv sole (t sv) in record { changed = refl; order = x.0; small = x.1; behind = x.2 })
+    (with_pages (page_with_ask g n) me.0, keeps, tt, acts z s id g ((n + 4294967296) % 2 ^ 64) c me.0 b (record { tick = b.tick; res = record { 0 = g }; place = high n + low n; call = Ask (high n - low n) }) (page_with_ask g n) r at_id in_g sole room fresh refl refl refl free ((tells z s id g c me.0 b r sv sole (t sv)).2 c b sole.0) (λ sv. step_ok sv (t sv)), let x = tells z s id g c me.0 b r sv sole (t sv) in record { changed = refl; order = x.0; small = let few = x.1 in omega (arith, few); behind = x.2 })
   where
     step_ok : (sv : IsServedNewest g (slice_index s.words g) r.0) → Found z s id g c b r sv → (high (slice_index s.words g) + low (slice_index s.words g) ≡ asks sv.0 + leaves sv.0)
         × (¬ IsAmong (queue sv.0) c × (high (slice_index s.words g) - low (slice_index s.words g) ≡ length (queue sv.0)))
@@ -323,7 +323,7 @@ asks_allowed z slots id me g c b in_g sole room quiet free s r _ at_id fits =
     )
       where
         out : (i : ℕ) → get_elem? (queue sv.0) i ≡ some c → ⊥
-        out i e = some-ne-none (2 * (leaves sv.0 + i)) (sym (k.queue_of.turns c i e) ∙ ap turn (k.stands ∙ ap (at g) free))
+        out i e = some-ne-none ((leaves sv.0 + i)) (sym (k.queue_of.tickets c i e) ∙ ap ticket (k.stands ∙ ap (at g) free))
 
 at_own : (l : Claim) (g : ℕ) (m : Claim) → l ≡ at g m → ((t : ℕ) × (m ≡ Waits g t)) ⊎ ((t : ℕ) × (m ≡ Holds g t)) → l ≡ m
 at_own l g m e (inl q) = e ∙ ap (at g) q.1 ∙ ap (λ x. pick x (Waits g q.0)) (eq-eqb g g refl) ∙ sym q.1
@@ -345,24 +345,24 @@ polls_allowed z slots id me g c t b in_g sole room quiet waits s r _ at_id fits 
     let n = slice_index s.words g in
     let k : (sv : IsServedNewest g n r.0) → Found z s id g c b r sv = λ sv. found z s id g c me.0 b r sv at_id sole room fresh in
     let sv = r.4.1 g in_g in
-    (with_pages (page_with_poll g n) me.0, keeps, tt, acts z s id g n c me.0 b (record { tick = b.tick; res = record { 0 = g }; place = high n + low n; call = Poll (2 * low n == turn_of (claim_of b.newest)) }) (page_with_poll g n) r at_id in_g sole room fresh refl refl refl (t, waits) ((tells z s id g c me.0 b r sv sole (k sv)).2 c b sole.0) (λ sv. step_ok sv (k sv)), let x = tells z s id g c me.0 b r sv sole (k sv) in record { changed = refl; order = x.0; small = x.1; behind = x.2 })
+    (with_pages (page_with_poll g n) me.0, keeps, tt, acts z s id g n c me.0 b (record { tick = b.tick; res = record { 0 = g }; place = high n + low n; call = Poll (low n == ticket_of (claim_of b.newest)) }) (page_with_poll g n) r at_id in_g sole room fresh refl refl refl (t, waits) ((tells z s id g c me.0 b r sv sole (k sv)).2 c b sole.0) (λ sv. step_ok sv (k sv)), let x = tells z s id g c me.0 b r sv sole (k sv) in record { changed = refl; order = x.0; small = let few = x.1 in omega (arith, few); behind = x.2 })
   where
     step_ok : (sv : IsServedNewest g (slice_index s.words g) r.0) → Found z s id g c b r sv → (high (slice_index s.words g) + low (slice_index s.words g) ≡ asks sv.0 + leaves sv.0)
-        × Answers (lock sv.0) c (Poll (2 * low (slice_index s.words g) == turn_of (claim_of b.newest)))
+        × Answers (lock sv.0) c (Poll (low (slice_index s.words g) == ticket_of (claim_of b.newest)))
         × (slice_index s.words g ≡ asks sv.0 * 4294967296 + leaves sv.0)
     step_ok sv k = let a = k.next_is in let d = k.serving_is in (
       omega (arith, a, d),
-      poll_answers (queue sv.0) (granted sv.0) c (2 * low (slice_index s.words g)) (turn_of (claim_of b.newest))
-          (λ e. let i = where_is.0 in let first = subst (λ j. get_elem? (queue sv.0) j ≡ some c) (let w = where_is.2 in let u = ap turn_of waits in let zero_is : i ≡ 0 = omega (arith, w, u, e, d) in zero_is) where_is.1 in (first, not_held sv.0 c g t k.queue_of mine first (granted sv.0) refl))
-          (λ ne. ((where_is.0, where_is.1), λ first. ne (ap turn_of waits ∙ some-injective t (2 * (leaves sv.0 + 0)) (sym (ap turn mine) ∙ k.queue_of.turns c 0 first) ∙ omega (arith, d)))),
+      poll_answers (queue sv.0) (granted sv.0) c (low (slice_index s.words g)) (ticket_of (claim_of b.newest))
+          (λ e. let i = where_is.0 in let first = subst (λ j. get_elem? (queue sv.0) j ≡ some c) (let w = where_is.2 in let u = ap ticket_of waits in let zero_is : i ≡ 0 = omega (arith, w, u, e, d) in zero_is) where_is.1 in (first, not_held sv.0 c g t k.queue_of mine first (granted sv.0) refl))
+          (λ ne. ((where_is.0, where_is.1), λ first. ne (ap ticket_of waits ∙ some-injective t ((leaves sv.0 + 0)) (sym (ap ticket mine) ∙ k.queue_of.tickets c 0 first) ∙ omega (arith, d)))),
       sv.3,
     )
       where
         mine : claim_of (by c sv.0) ≡ Waits g t
         mine = at_own (claim_of (by c sv.0)) g (claim_of b.newest) k.stands (inl (t, waits)) ∙ waits
 
-        where_is : (i : ℕ) × (get_elem? (queue sv.0) i ≡ some c) × (t ≡ 2 * (leaves sv.0 + i))
-        where_is = k.queue_of.stands c t (ap turn mine)
+        where_is : (i : ℕ) × (get_elem? (queue sv.0) i ≡ some c) × (t ≡ (leaves sv.0 + i))
+        where_is = k.queue_of.stands c t (ap ticket mine)
 
 pub leaves_allowed : (z : BoardSize) (slots id : ℕ) (me : Me (Unit {0}) View) (g c t : ℕ) (b : Page) → g < z.resources → HasOnly me.0 c b → b.admitted ≡ true → page_has_acted b ≡ false → claim_of b.newest ≡ Holds g t
     → Allows (Ruled z) slots id me g (λ n. (n + 1) % 2 ^ 64) (TellsLeave (step slots g 1 0 none) me)
@@ -371,7 +371,7 @@ leaves_allowed z slots id me g c t b in_g sole room quiet holds s r _ at_id fits
     let n = slice_index s.words g in
     let k : (sv : IsServedNewest g n r.0) → Found z s id g c b r sv = λ sv. found z s id g c me.0 b r sv at_id sole room fresh in
     let sv = r.4.1 g in_g in
-    (with_pages (page_with_leave g n) me.0, keeps, tt, acts z s id g ((n + 1) % 2 ^ 64) c me.0 b (record { tick = b.tick; res = record { 0 = g }; place = high n + low n; call = Leave }) (page_with_leave g n) r at_id in_g sole room fresh refl refl refl (t, holds) ((tells z s id g c me.0 b r sv sole (k sv)).2 c b sole.0) (λ sv. step_ok sv (k sv)), let x = tells z s id g c me.0 b r sv sole (k sv) in record { changed = refl; order = x.0; small = x.1; behind = x.2 })
+    (with_pages (page_with_leave g n) me.0, keeps, tt, acts z s id g ((n + 1) % 2 ^ 64) c me.0 b (record { tick = b.tick; res = record { 0 = g }; place = high n + low n; call = Leave }) (page_with_leave g n) r at_id in_g sole room fresh refl refl refl (t, holds) ((tells z s id g c me.0 b r sv sole (k sv)).2 c b sole.0) (λ sv. step_ok sv (k sv)), let x = tells z s id g c me.0 b r sv sole (k sv) in record { changed = refl; order = x.0; small = let few = x.1 in omega (arith, few); behind = x.2 })
   where
     step_ok : (sv : IsServedNewest g (slice_index s.words g) r.0) → Found z s id g c b r sv → (high (slice_index s.words g) + low (slice_index s.words g) ≡ asks sv.0 + leaves sv.0)
         × (IsFirst (queue sv.0) c × (granted sv.0 ≡ true))

@@ -101,12 +101,12 @@ collected (Some b ∷ xs) [] to back = absurd (none_here 0 b (to 0 b refl))
 collected (Some b ∷ xs) (p ∷ ps) to back = ap (λ (x : Page). told x ∷ filter_map (λ book. book) (map (option_map told) xs)) (sym (some-injective p b (to 0 b refl)))
     ∙ ap (λ l. told p ∷ l) (collected xs ps (λ c a h. to (suc c) a h) (λ c a h. back (suc c) a h))
 
-book_of_page : (pages : List Page) (c : ℕ) (b : Page) → get_elem? pages c ≡ some b → slice_get (map told pages) c ≡ Some (told b)
+pub book_of_page : (pages : List Page) (c : ℕ) (b : Page) → get_elem? pages c ≡ some b → slice_get (map told pages) c ≡ Some (told b)
 book_of_page [] c b e = absurd (none_here c b e)
 book_of_page (x ∷ xs) zero b e = ap (λ (p : Page). Some (told p)) (some-injective x b e)
 book_of_page (x ∷ xs) (suc c) b e = book_of_page xs c b e
 
-page_of_book : (pages : List Page) (c : ℕ) (a : Book) → slice_get (map told pages) c ≡ Some a → (b : Page) × (get_elem? pages c ≡ some b) × (told b ≡ a)
+pub page_of_book : (pages : List Page) (c : ℕ) (a : Book) → slice_get (map told pages) c ≡ Some a → (b : Page) × (get_elem? pages c ≡ some b) × (told b ≡ a)
 page_of_book [] c a e = absurd (cc)
 page_of_book (x ∷ xs) zero a e = (x, refl, cc)
 page_of_book (x ∷ xs) (suc c) a e = page_of_book xs c a e
@@ -180,36 +180,37 @@ bit Unopened = omega arith
 bit Opened = omega arith
 bit Aborted = omega arith
 
--- with these pages
+-- a whole board of these words, books and conductor
+abbrev pub whole_of : BoardSize → List ℕ → List Book → Conductor → WholeBoard
+whole_of z words books o = record { size = z; tickets = take z.resources words; barrier = slice_index words z.resources; books = books; conductor = o }
+
+-- pages under the rule, told as books, are tied to the words
+pub tied_told : (z : BoardSize) (words : List ℕ) (pages : List Page) (o : Conductor) → IsSize z → z.resources ≤ length words → IsTiedNewest z words pages o → IsTied (whole_of z words (map told pages) o)
+tied_told z words pages o limits many tied =
+    let few = few_steps z pages tied.0 limits.cores.1 limits.ticks.1 tied.2 in
+    let gathered = tied.3 in
+    let o_bit = bit o in
+    let some_arrivals = few.1 in
+    let small : arrivals pages + opening_count o < 4294967296 = omega (arith, o_bit, some_arrivals) in
+    record {
+      cores = length-map pages told ∙ tied.0;
+      words = length-take-le z.resources words many;
+      limits = limits;
+      served = λ g in_g. subst (λ k. (h : List Event) × IsServed (high k) (low k) g (entries_at (map told pages)) h) (sym (get_or-take z.resources words g 0 in_g)) (served_seen g (slice_index words g) pages few.0 (tied.1 g in_g));
+      kept = λ c b e. let r = page_of_book pages c b e in subst (IsKept z) r.2 (kept_told z r.0 (tied.2 c r.0 r.1));
+      arrivals = ap low gathered.0 ∙ mod-mul-add (abort_count o) 4294967296 (arrivals pages + opening_count o) small ∙ ap (λ n. n + opening_count o) (arrivals_told pages);
+      abort = ap high gathered.0 ∙ div-mul-add (abort_count o) 4294967296 (arrivals pages + opening_count o) small;
+      told = λ c b e off. let r = page_of_book pages c b e in gathered.1 c r.0 r.1 (ap (λ (x : Book). x.stopped) r.2 ∙ off);
+      met = λ c t b e in_t. let r = page_of_book pages c b e in
+          let same : page_reach r.0 ≡ book_reach b = ap (λ (x : Book). book_reach x) r.2 in
+          let m = gathered.2 c r.0 r.1 (omega (arith, in_t, same)) in
+          (m.0, λ d x f. let q = page_of_book pages d x f in let l = m.1 d q.0 q.1 in let tick = ap (λ (y : Book). y.tick) q.2 in omega (arith, l, in_t, same, tick));
+    }
+
 tied_with : (z : BoardSize) (words : List ℕ) (board : BoardModel) (v : View) (pages : List Page) (o : Conductor) → IsSize z → z.resources ≤ length words
     → filter_map (λ book. book) (map (option_map told) v.pages) ≡ map told pages → v.conductor ≡ Some o → IsTiedNewest z words pages o → IsTied (settled_as z words (seen_as board v))
 tied_with z words board v pages o limits many books opened tied =
-    subst (λ (l : List Book). IsTied (settled l (unwrap_or v.conductor Unopened))) (sym books) (subst (λ (x : Option Conductor). IsTied (settled (map told pages) (unwrap_or x Unopened))) (sym opened) all)
-  where
-    settled : List Book → Conductor → WholeBoard
-    settled l x = record { size = z; tickets = take z.resources words; barrier = slice_index words z.resources; books = l; conductor = x }
-
-    all : IsTied (settled (map told pages) o)
-    all =
-        let few = few_steps z pages tied.0 limits.cores.1 limits.ticks.1 tied.2 in
-        let gathered = tied.3 in
-        let o_bit = bit o in
-        let some_arrivals = few.1 in
-        let small : arrivals pages + opening_count o < 4294967296 = omega (arith, o_bit, some_arrivals) in
-        record {
-          cores = length-map pages told ∙ tied.0;
-          words = length-take-le z.resources words many;
-          limits = limits;
-          served = λ g in_g. subst (λ k. (h : List Event) × IsServed (high k) (low k) g (entries_at (map told pages)) h) (sym (get_or-take z.resources words g 0 in_g)) (served_seen g (slice_index words g) pages few.0 (tied.1 g in_g));
-          kept = λ c b e. let r = page_of_book pages c b e in subst (IsKept z) r.2 (kept_told z r.0 (tied.2 c r.0 r.1));
-          arrivals = ap low gathered.0 ∙ mod-mul-add (abort_count o) 4294967296 (arrivals pages + opening_count o) small ∙ ap (λ n. n + opening_count o) (arrivals_told pages);
-          abort = ap high gathered.0 ∙ div-mul-add (abort_count o) 4294967296 (arrivals pages + opening_count o) small;
-          told = λ c b e off. let r = page_of_book pages c b e in gathered.1 c r.0 r.1 (ap (λ (x : Book). x.stopped) r.2 ∙ off);
-          met = λ c t b e in_t. let r = page_of_book pages c b e in
-              let same : page_reach r.0 ≡ book_reach b = ap (λ (x : Book). book_reach x) r.2 in
-              let m = gathered.2 c r.0 r.1 (omega (arith, in_t, same)) in
-              (m.0, λ d x f. let q = page_of_book pages d x f in let l = m.1 d q.0 q.1 in let tick = ap (λ (y : Book). y.tick) q.2 in omega (arith, l, in_t, same, tick));
-        }
+    subst (λ (l : List Book). IsTied (whole_of z words l (unwrap_or v.conductor Unopened))) (sym books) (subst (λ (x : Option Conductor). IsTied (whole_of z words (map told pages) (unwrap_or x Unopened))) (sym opened) (tied_told z words pages o limits many tied))
 
 -- what a board that nobody uses any more is to its callers
 pub record Ends (z : BoardSize) (words : List ℕ) (seat : SeatModel) : Type 0 where

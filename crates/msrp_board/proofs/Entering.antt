@@ -10,7 +10,7 @@ use Rattle.msrp_board.specs.declared.pages.Page.{Page}
 use Rattle.msrp_board.specs.declared.pages.View.{View}
 use Rattle.msrp_board.specs.declared.words.TicketWord.{TicketWord}
 use Rattle.msrp_board.specs.Boards.{high, low}
-use Rattle.msrp_board.specs.Inside.Newest.{claim_of, turn_of}
+use Rattle.msrp_board.specs.Inside.Newest.{claim_of, ticket_of}
 use Rattle.msrp_board.specs.Inside.Rule.{HasEntered, IsTicket, Tells, TellsAsk, TellsPoll, TellsLeave, ViewIsBehind, ViewMayAct, with_pages, page_with_entry, page_with_poll}
 use Rattle.msrp_board.proofs.Seats.{sole_change}
 
@@ -35,10 +35,10 @@ ask_entered slots g a me now word n is t = entered_by (λ h l. Ask (h - l)) g me
 pub leave_entered : (slots g a : ℕ) (me now : Me (Unit {0}) View) (word : TicketWord) (n : ℕ) → IsHalves word n → TellsLeave (step slots g a 0 none) me n now → HasEntered g (word.next + word.serving) Leave me now
 leave_entered slots g a me now word n is t = entered_by (λ h l. Leave) g me now word n is t.changed t.behind
 
--- of a core that waits with this turn
-pub poll_entered : (z : BoardSize) (slots g a turn : ℕ) (me now : Me (Unit {0}) View) (word : TicketWord) (n : ℕ) → IsHalves word n → ViewMayAct z me.0 (Waits g turn) → TellsPoll (step slots g a 0 none) me n now
-    → HasEntered g (word.next + word.serving) (Poll (2 * word.serving == turn)) me now
-poll_entered z slots g a turn me now word n is may t = entered_by (λ h l. Poll (2 * l == turn)) g me now word n is
-    (t.changed ∙ ap (λ (w : View). (w, me.1)) (sole_change me.0 may.0 may.1 (page_with_poll g n) (page_with_entry g (high n + low n) (Poll (2 * low n == turn))) may.2
-    (ap (λ k. page_with_entry g (high n + low n) (Poll (2 * low n == k)) may.1) (ap turn_of may.3))))
+-- of a core that waits with this ticket
+pub poll_entered : (z : BoardSize) (slots g a ticket : ℕ) (me now : Me (Unit {0}) View) (word : TicketWord) (n : ℕ) → IsHalves word n → ViewMayAct z me.0 (Waits g ticket) → TellsPoll (step slots g a 0 none) me n now
+    → HasEntered g (word.next + word.serving) (Poll (word.serving == ticket)) me now
+poll_entered z slots g a ticket me now word n is may t = entered_by (λ h l. Poll (l == ticket)) g me now word n is
+    (t.changed ∙ ap (λ (w : View). (w, me.1)) (sole_change me.0 may.0 may.1 (page_with_poll g n) (page_with_entry g (high n + low n) (Poll (low n == ticket))) may.2
+    (ap (λ k. page_with_entry g (high n + low n) (Poll (low n == k)) may.1) (ap ticket_of may.3))))
     t.behind

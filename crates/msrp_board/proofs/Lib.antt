@@ -15,8 +15,10 @@ pub mod Lists
 pub mod Reversed
 pub mod Unique
 pub mod End
+pub mod Moments
 pub mod CoreSeats
 pub mod SeatBooks
+pub mod SeatPortLemmas
 pub mod Told
 pub mod Seats
 pub mod Parts

@@ -34,7 +34,7 @@ after_call l g p (Poll true) = refl
 after_call l g p (Poll false) = refl
 after_call l g p Leave = refl
 
-res_calls_last : (es : List Entry) (e : Entry) → res_calls (es ++ e ∷ []) ≡ res_calls es ++ (e.res, e.call) ∷ []
+pub res_calls_last : (es : List Entry) (e : Entry) → res_calls (es ++ e ∷ []) ≡ res_calls es ++ (e.res, e.call) ∷ []
 res_calls_last [] e = refl
 res_calls_last (f ∷ es) e = ap (λ l. (f.res, f.call) ∷ l) (res_calls_last es e)
 

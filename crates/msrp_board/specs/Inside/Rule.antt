@@ -1,5 +1,5 @@
 -- The rule of a board's words: what always holds of the words and of the books of all seats, and what each step tells.
-use Rattle.std.specs.Prelude.{◌≡◌, ℕ, suc, ltb, leb, ◌==◌, ◌+◌, ◌*◌, ◌/◌, ◌%◌, ◌-◌, ◌<◌, ◌≤◌, List, [], ◌∷◌, length, map, Bool, true, false, Some, None, replicate, slice_index}
+use Rattle.std.specs.Prelude.{◌≡◌, ℕ, suc, ltb, leb, ◌==◌, ◌+◌, ◌*◌, ◌/◌, ◌%◌, ◌-◌, ◌^◌, ◌<◌, ◌≤◌, List, [], ◌∷◌, length, map, Bool, true, false, Some, None, replicate, slice_index}
 use Rattle.std.specs.List.{list_any, AllByRecursion}
 use Rattle.std.specs.Option.{option_map}
 use mathlib.Core.Option.{some}
@@ -19,7 +19,7 @@ use Rattle.msrp_board.specs.Boards.{high, low, opening_count, abort_count}
 use Rattle.msrp_board.specs.Steps.{only_at, none_at, either, together}
 use Rattle.msrp_board.specs.Books.{IsSize, on, reach_of, AreBefore, IsBefore, IsChain}
 use Rattle.msrp_board.specs.History.{Event, by}
-use Rattle.msrp_board.specs.Inside.Newest.{asks, leaves, LegalNewest, PlacedNewest, IsRegularNewest, claim_of, turn_of, TicksNewest, RisingNewest, PollsNewest}
+use Rattle.msrp_board.specs.Inside.Newest.{asks, leaves, LegalNewest, PlacedNewest, IsRegularNewest, claim_of, ticket_of, TicksNewest, RisingNewest, PollsNewest}
 
 abbrev pub empty_page : Page
 empty_page = record { newest = []; tick = 0; admitted = false; stopped = false }
@@ -138,7 +138,7 @@ abbrev pub ViewIsBehind : View → ℕ → ℕ → Type 0
 ViewIsBehind v g p = (c : ℕ) (b : Page) → HasPage v c b → AreBefore p (on g b.newest)
 
 abbrev pub page_with_poll : ℕ → ℕ → Page → Page
-page_with_poll g n b = page_with_entry g (high n + low n) (Poll (2 * low n == turn_of (claim_of b.newest))) b
+page_with_poll g n b = page_with_entry g (high n + low n) (Poll (low n == ticket_of (claim_of b.newest))) b
 
 abbrev pub page_with_leave : ℕ → ℕ → Page → Page
 page_with_leave g n = page_with_entry g (high n + low n) Leave
@@ -148,7 +148,7 @@ page_with_leave g n = page_with_entry g (high n + low n) Leave
 pub record Tells (f : ℕ → ℕ → Page → Page) (st : Step (Unit {0})) (me : Me (Unit {0}) View) (n : ℕ) (now : Me (Unit {0}) View) : Type 0 where
   pub changed : now ≡ (with_pages (f st.word n) me.0, me.1)
   pub order : low n ≤ high n
-  pub small : high n + low n < 160000
+  pub small : high n + low n < 2 ^ 32
   pub behind : ViewIsBehind me.0 st.word (high n + low n)
 
 abbrev pub TellsAsk : Step (Unit {0}) → Me (Unit {0}) View → ℕ → Me (Unit {0}) View → Type 0
@@ -163,7 +163,7 @@ TellsLeave = Tells page_with_leave
 -- what holds of each ticket word
 pub record IsTicket (word : TicketWord) : Type 0 where
   pub order : word.serving ≤ word.next
-  pub small : word.next + word.serving < 160000
+  pub small : word.next + word.serving < 2 ^ 32
 
 -- one entry more, whose place stands behind all that the pages have of the resource
 pub record HasEntered (g p : ℕ) (k : Call) (me now : Me (Unit {0}) View) : Type 0 where
