@@ -1,7 +1,6 @@
 -- A log that fits its book, and one turn more.
-use Rattle.std.proofs.Common.{◌≡◌, true, false, cond, is_some, List, [], ◌∷◌, ◌++◌, Some, None, refl, ap, sym, ◌∙◌, subst, zero, suc, append-nil}
-use Rattle.std.specs.List.{AllByRecursion, filter}
-use Rattle.std.proofs.lemmas.List.{map-append}
+use Rattle.std.proofs.Common.{◌≡◌, true, false, cond, is_some, List, [], ◌∷◌, ◌++◌, None, refl, ap, sym, ◌∙◌, subst, zero, suc, append-nil}
+use Rattle.std.specs.List.{filter}
 use Rattle.std.proofs.lemmas.List.Elements.{filter-append}
 use Rattle.msrp_plan.specs.Calls.{kind_of_call}
 use Rattle.msrp_plan.specs.declared.units.Call.{Call}
@@ -10,7 +9,7 @@ use Rattle.msrp_plan.proofs.Lists.{all_push}
 use Rattle.msrp_board.specs.declared.books.Entry.{Entry}
 use Rattle.msrp_merge.specs.declared.logs.Turn.{Turn}
 use Rattle.msrp_merge.specs.Pairs.{Paired}
-use Rattle.msrp_merge.specs.Turns.{rows_of, has_place, is_step, IsTurnOf, Fits}
+use Rattle.msrp_merge.specs.Turns.{has_place, is_step, IsTurnOf, Fits}
 
 -- each call makes a step
 call_is_step : (call : Call) → is_step (kind_of_call call) ≡ true

@@ -1,15 +1,14 @@
 -- The worked handover: its logs fit its books, and its history was served.
-use Rattle.std.proofs.Common.{◌≡◌, ℕ, zero, suc, ◌<◌, ◌≤◌, List, [], ◌∷◌, cond, true, false, length, refl, ap, ◌∙◌, subst, arith, inl, inr, ⊎_elim, ne_eqb}
+use Rattle.std.proofs.Common.{◌≡◌, ℕ, zero, suc, ◌<◌, ◌≤◌, List, [], ◌∷◌, cond, true, false, length, refl, ap, ◌∙◌, arith, inl, inr, ⊎_elim, ne_eqb}
 use Rattle.std.specs.List.{AllByRecursion}
 use Rattle.msrp_plan.specs.Examples.HandoverATickLater as handover
-use Rattle.msrp_plan.specs.FifoLock.{IsAmong, Legal}
-use Rattle.msrp_plan.specs.Logs.{log_of}
+use Rattle.msrp_plan.specs.FifoLock.{Legal}
 use Rattle.msrp_plan.specs.Runs.{CoreRun, IsRun, IsRunStart}
 use Rattle.msrp_plan.proofs.CoreRuns.{core_run}
 use Rattle.msrp_plan.proofs.Verdicts.{good_is_run}
 use Rattle.msrp_board.specs.Boards.{entries_at}
 use Rattle.msrp_board.specs.Books.{on, IsChain}
-use Rattle.msrp_board.specs.History.{Event, by, calls, Placed, PollsInOrder, IsNotLater, IsHistory, IsServed}
+use Rattle.msrp_board.specs.History.{Event, by, calls, PollsInOrder, IsNotLater, IsServed}
 use Rattle.msrp_merge.specs.Handover.{logs, books, history}
 use Rattle.msrp_merge.specs.Merging.{log_at, turns_of, AreLogs}
 use Rattle.msrp_merge.specs.Turns.{rows_of, Fits}

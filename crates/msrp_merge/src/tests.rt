@@ -99,7 +99,7 @@ fn a_handover_is_merged(rt: HostRuntime) {
         log_of(&rt, rt.alloc(), 0, &zero),
         log_of(&rt, rt.alloc(), 1, &one),
     ];
-    let Ok(rows) = merged_rows(rt.alloc(), &logs, 6) else {
+    let Ok(rows) = merged_rows(rt.alloc(), &logs, 2, 6) else {
         panic!(rt; "no memory")
     };
     let told = [
