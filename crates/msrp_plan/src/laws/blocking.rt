@@ -9,6 +9,7 @@ ghost use Rattle.msrp_plan.specs.Blocking.{BlockedByBegunSections, BlockedByOneS
 ghost use Rattle.msrp_plan.specs.Laws.{KeepsLaws};
 ghost use Rattle.msrp_plan.specs.Examples.Notation.{job, run};
 ghost use Rattle.msrp_plan.specs.Examples.BlockedHead as blocked_head;
+ghost use Rattle.msrp_plan.specs.Examples.LevelsOverThePlan as levels_over_the_plan;
 ghost use Rattle.msrp_plan.specs.Examples.RaisedWhileHolding as raised_while_holding;
 ghost use Rattle.msrp_plan.specs.declared.rows.Row.{Row};
 
@@ -67,9 +68,9 @@ pub fn blocked_by_a_global_section()
     ensures bound { blocked_bound raised_while_holding.plan (task_at raised_while_holding.plan 1) ≡ 7 }
 {}
 
-/// The bounds of two worked plans. Of a local section `out` counts the units after the lock, up to and with
-/// the unlock; of a global one also what the request may wait. A task is blocked by tasks with a longer
-/// relative deadline alone.
+/// The bounds of worked plans. Of a local section `out` counts the units after the lock, up to and with the
+/// unlock; of a global one also what the request may wait. A task is blocked by tasks of its own core with a
+/// longer relative deadline alone.
 pub fn bounds_on_blocking()
     ensures local { out blocked_head.plan (task_at blocked_head.plan 0) ≡ 13 }
     ensures shorter { out blocked_head.plan (task_at blocked_head.plan 1) ≡ 2 }
@@ -80,5 +81,5 @@ pub fn bounds_on_blocking()
     ensures spins { spin_bound raised_while_holding.plan 0 0 ≡ 2 }
     ensures global { out raised_while_holding.plan (task_at raised_while_holding.plan 0) ≡ 7 }
     ensures global_section { blocked_bound raised_while_holding.plan (task_at raised_while_holding.plan 1) ≡ 7 }
-    ensures other_core { blocked_bound raised_while_holding.plan (task_at raised_while_holding.plan 2) ≡ 0 }
+    ensures other_core { blocked_bound levels_over_the_plan.plan (task_at levels_over_the_plan.plan 2) ≡ 0 }
 {}
