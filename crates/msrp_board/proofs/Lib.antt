@@ -9,11 +9,16 @@ pub mod Meeting
 pub mod Conducting
 pub mod Ties
 pub mod Ticks
+pub mod Kept
+pub mod Entering
 pub mod Lists
 pub mod Reversed
 pub mod Unique
 pub mod End
+pub mod Moments
 pub mod CoreSeats
+pub mod SeatBooks
+pub mod SeatPortLemmas
 pub mod Told
 pub mod Seats
 pub mod Parts
