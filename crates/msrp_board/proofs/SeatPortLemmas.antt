@@ -36,13 +36,6 @@ room_none board c k seat p n = ap (room_in seat.board.size.ticks) (no_other_book
 room_own : (board : BoardModel) (c : ℕ) (seat : SeatModel) (p : IsPort board c seat) → port_room seat c ≡ room_by Admitted (has_acted p.book)
 room_own board c seat p = ap (room_in seat.board.size.ticks) p.of_core.book ∙ ap (λ x. room_by x (has_acted p.book)) p.stands
 
--- the room of a core is that of the seat's core, which is one where it has not acted
-pub room_is : (board : BoardModel) (c k : ℕ) (seat : SeatModel) (acted : Bool) → IsPort board c seat → k ≡ c → ((d : ℕ) (b : Book) → IsCoreSeat seat d b → acted ≡ has_acted b) → port_room seat k ≡ room_by Admitted acted
-room_is board c k seat acted p same reads = ap (port_room seat) same ∙ room_own board c seat p ∙ ap (room_by Admitted) (sym (reads c p.book p.of_core))
-
-pub room_else : (board : BoardModel) (c k : ℕ) (seat : SeatModel) → IsPort board c seat → k ≢ c → port_room seat k ≡ 0
-room_else board c k seat p n = room_none board c k seat p n
-
 -- whoever has room in a port is the core of its seat, and may act
 pub port_core : (board : BoardModel) (c k : ℕ) (seat : SeatModel) → IsPort board c seat → 0 < port_room seat k → k ≡ c
 port_core board c k seat p room = dite (ℕ_discrete k c) (λ q. q) (λ n. let e = room_none board c k seat p n in absurd (omega (arith, room, e)))

@@ -82,14 +82,7 @@ book_of pages c b h = shown pages c ∙ ap (option_map told) (page_has pages c b
 -- a core's seat knows one page
 pub sole_of : (board : BoardModel) (v : View) (c : ℕ) (a : Book) → IsCoreSeat (seen_as board v) c a → (b : Page) × HasOnly v c b × (told b ≡ a)
 sole_of board v c a is = let r = page_of v.pages c a is.book in
-    (r.0, (r.1, (λ d e h. is.only d (told e) (book_of v.pages d e h)), is.conductor), r.2)
-
-pub core_of_sole : (board : BoardModel) (v : View) (c : ℕ) (b : Page) → HasOnly v c b → IsCoreSeat (seen_as board v) c (told b)
-core_of_sole board v c b sole = record {
-  book = book_of v.pages c b sole.0;
-  only = λ d e h. let r = page_of v.pages d e h in sole.1 d r.0 r.1;
-  conductor = sole.2;
-}
+    (r.0, record { page = r.1; only = λ d e h. is.only d (told e) (book_of v.pages d e h); conductor = is.conductor }, r.2)
 
 some_told : (o : Option Page) → is_some (option_map state_of o) ≡ is_some (option_map told o)
 some_told None = refl
