@@ -70,6 +70,13 @@ impl<'a> Ready<'a> {
         self.tick = Some(tick);
     }
 
+    /// The tick up to which jobs are released, none before the first.
+    pub fn tick(&self) -> Option<u32>
+        ensures { result ≡ self.now.tick }
+    {
+        self.tick
+    }
+
     /// The ready job with the least key. It compares no keys.
     pub fn head(&self) -> Option<JobId>
         ensures { result ≡ head self.now }
