@@ -3,3 +3,5 @@ pub mod Turns
 pub mod Order
 pub mod Sorting
 pub mod Steps
+pub mod Merging
+pub mod Handover
