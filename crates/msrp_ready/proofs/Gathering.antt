@@ -6,7 +6,7 @@ use Rattle.std.proofs.lemmas.List.FromFn.{map-range_with_len_more}
 use Rattle.msrp_plan.specs.Plan.{PlanModel, task_at}
 use Rattle.msrp_plan.specs.Jobs.{jobs_of}
 use Rattle.msrp_plan.specs.declared.ids.JobId.{JobId}
-use Rattle.msrp_plan.proofs.JobLists.{job_at, jobs_among, jobs_among_more, jobs_of_are}
+use Rattle.msrp_plan.proofs.JobLists.{job_at, jobs_among, jobs_among_more}
 
 module _ {X : Type 0} (f : JobId → X) (plan : PlanModel) where
   -- the jobs of a task of the core stand behind those before it
@@ -32,5 +32,5 @@ module _ {X : Type 0} (f : JobId → X) (plan : PlanModel) where
   by_number t (k ∷ ks) = ap (λ xs. f (job_at t k) ∷ xs) (by_number t ks)
 
   -- all jobs of the task
-  pub gather_all : (t n : ℕ) → n ≡ length (jobs_of plan t) → map (λ k. f (job_at t k)) (range_with_len 0 n) ≡ map f (jobs_of plan t)
-  gather_all t n e = ap (λ m. map (λ k. f (job_at t k)) (range_with_len 0 m)) e ∙ by_number t (range_with_len 0 (length (jobs_of plan t))) ∙ ap (map f) (sym (jobs_of_are plan t))
+  pub gather_all : (t n : ℕ) → jobs_of plan t ≡ map (job_at t) (range_with_len 0 n) → map (λ k. f (job_at t k)) (range_with_len 0 n) ≡ map f (jobs_of plan t)
+  gather_all t n numbered = by_number t (range_with_len 0 n) ∙ ap (map f) (sym numbered)

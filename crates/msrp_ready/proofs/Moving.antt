@@ -111,7 +111,7 @@ module _ (plan : PlanModel) (c : ℕ) (tick : Option ℕ) (calendar : List Keyed
   once j =
       let same = sum_by-IsPermutation (λ k. cond (same_job j k.job) 1 0) (map (keyed plan) (jobs_on plan c)) calendar ok.jobs in
       let images = count-map (keyed plan) (λ k. same_job j k.job) (jobs_on plan c) in
-      omega (arith, same, images, once_on plan c j)
+      omega (arith, same, images, once_on plan ok.accepted c j)
 
   once_up_to : (j : JobId) (n : ℕ) → times j (take n calendar) ≤ 1
   unfolding times
@@ -169,6 +169,7 @@ module _ (plan : PlanModel) (c : ℕ) (tick : Option ℕ) (calendar : List Keyed
     pub released_on : All (λ k. k.key.release ≤ t) (drop next (take after calendar)) → ((d : KeyedJob) → after < length calendar → t < (get_or calendar after d).key.release) → later.room ≡ heap.room → later.compared ≤ heap.compared + 13 * (after - next)
         → AreReady plan c (Some t) calendar after later
     released_on released next_later room compared = record {
+      accepted = ok.accepted;
       jobs = ok.jobs;
       sorted = ok.sorted;
       few = ok.few;
@@ -215,6 +216,7 @@ module _ (plan : PlanModel) (c : ℕ) (tick : Option ℕ) (calendar : List Keyed
         let first = IsPermutation-append_left ok.taken heap.jobs (k ∷ later.jobs) jobs in
         let last = IsPermutation-sym (later.jobs ++ k ∷ ok.taken) (k ∷ (later.jobs ++ ok.taken)) (IsPermutation-middle later.jobs k ok.taken) in
         record {
+          accepted = ok.accepted;
           jobs = ok.jobs;
           sorted = ok.sorted;
           few = ok.few;
@@ -290,6 +292,7 @@ nothing_released plan c calendar heap accepted jobs sorted empty room compared =
     let moved = length_permutation (map (keyed plan) (jobs_on plan c)) calendar jobs in
     let few = few_on_core plan c accepted in
     record {
+      accepted = accepted;
       jobs = jobs;
       sorted = sorted;
       few = omega (arith, images, moved, few);

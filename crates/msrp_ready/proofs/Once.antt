@@ -4,6 +4,7 @@ use Rattle.std.specs.List.{count_by, sum_by, filter, flat_map, range_with_len}
 use Rattle.std.proofs.lemmas.Bool.{cases_Bool, eqb-true}
 use Rattle.std.proofs.lemmas.List.Sums.{sum_by-cons, sum_by-append, sum_by-le-sum_by}
 use Rattle.msrp_plan.specs.Plan.{PlanModel, core_of}
+use Rattle.msrp_plan.specs.WellFormed.{IsPlan}
 use Rattle.msrp_plan.specs.Jobs.{jobs_of, jobs, jobs_on, same_job}
 use Rattle.msrp_plan.specs.declared.ids.JobId.{JobId}
 use Rattle.msrp_plan.proofs.JobLists.{job_at, jobs_of_are}
@@ -70,19 +71,19 @@ among_task : (d : ℕ) (ks : List ℕ) (b : Bool) → count_by (nat_eq d) ks ≤
 among_task d ks true once = once
 among_task d ks false once = omega (arith, none_pass ks)
 
-once_of_task : (plan : PlanModel) (j : JobId) (t : ℕ) → count_by (same_job j) (jobs_of plan t) ≤ cond (nat_eq j.task.0 t) 1 0
-once_of_task plan j t =
+once_of_task : (plan : PlanModel) → IsPlan plan → (j : JobId) (t : ℕ) → count_by (same_job j) (jobs_of plan t) ≤ cond (nat_eq j.task.0 t) 1 0
+once_of_task plan accepted j t =
     let ks = range_with_len 0 (length (jobs_of plan t)) in
-    let e : count_by (same_job j) (jobs_of plan t) ≡ count_by (λ k. same_job j (job_at t k)) ks = ap (count_by (same_job j)) (jobs_of_are plan t) ∙ count-map (job_at t) (same_job j) ks in
+    let e : count_by (same_job j) (jobs_of plan t) ≡ count_by (λ k. same_job j (job_at t k)) ks = ap (count_by (same_job j)) (jobs_of_are plan accepted t) ∙ count-map (job_at t) (same_job j) ks in
     let few = among_task j.k ks (nat_eq j.task.0 t) (once_in j.k 0 (length (jobs_of plan t))) in
     omega (arith, e, few)
 
 -- so each stands once among the jobs of a core
-pub once_on : (plan : PlanModel) (c : ℕ) (j : JobId) → count_by (same_job j) (jobs_on plan c) ≤ 1
-once_on plan c j =
+pub once_on : (plan : PlanModel) → IsPlan plan → (c : ℕ) (j : JobId) → count_by (same_job j) (jobs_on plan c) ≤ 1
+once_on plan accepted c j =
     let ts = range_with_len 0 (length plan.tasks) in
     let all = count-flat_map (jobs_of plan) (same_job j) ts in
-    let fewer = sum_by-le-sum_by (λ t. count_by (same_job j) (jobs_of plan t)) (λ t. cond (nat_eq j.task.0 t) 1 0) ts (once_of_task plan j) in
+    let fewer = sum_by-le-sum_by (λ t. count_by (same_job j) (jobs_of plan t)) (λ t. cond (nat_eq j.task.0 t) 1 0) ts (once_of_task plan accepted j) in
     let one = once_in j.task.0 0 (length plan.tasks) in
     let kept = count-filter (same_job j) (λ i. core_of plan i == c) (jobs plan) in
     omega (arith, all, fewer, one, kept)

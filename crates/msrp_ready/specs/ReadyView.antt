@@ -4,6 +4,7 @@ use Rattle.std.specs.List.{All, list_any}
 use Rattle.std.specs.List.Sorted.{IsPermutation, IsNonDecreasingBy}
 use Rattle.msrp_plan.specs.Plan.{PlanModel}
 use Rattle.msrp_plan.specs.Jobs.{jobs_on, same_job}
+use Rattle.msrp_plan.specs.WellFormed.{IsPlan}
 use Rattle.msrp_plan.specs.declared.ids.JobId.{JobId}
 use Rattle.msrp_ready.specs.Keyed.{keyed}
 use Rattle.msrp_ready.specs.Heap.{HeapModel}
@@ -22,6 +23,7 @@ without ready jobs = filter (λ j. not (has ready j)) (map (λ k. k.job) jobs)
 -- the calendar has the jobs of the core by their releases; the first `next` of them are released, and each of these stands in
 -- the heap or is taken
 pub record AreReady (plan : PlanModel) (core : ℕ) (tick : Option ℕ) (calendar : List KeyedJob) (next : ℕ) (heap : HeapModel) : Type 0 where
+  pub accepted : IsPlan plan
   pub jobs : IsPermutation (map (keyed plan) (jobs_on plan core)) calendar
   pub sorted : IsNonDecreasingBy (λ job. job.key.release) calendar
   pub few : length calendar ≤ 8192

@@ -65,6 +65,7 @@ pub(crate) fn release(calendar: &[KeyedJob], from: usize, tick: u32, heap: &mut 
     ensures jobs { IsPermutation (heap.old.jobs ++ drop from (take result calendar.now)) heap.new.jobs }
     ensures room { heap.new.room ≡ heap.old.room }
     ensures compared { heap.new.compared ≤ heap.old.compared + 13 * (result - from) }
+    ensures kept { heap.old.compared ≤ heap.new.compared }
     ensures counted { result ≤ from + 1 + (heap.new.compared - heap.old.compared) }
 {
     let mut next = from;

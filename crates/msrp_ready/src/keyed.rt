@@ -1,5 +1,6 @@
 //! Jobs beside their keys.
-ghost use Rattle.std.specs.Prelude.{◌≡◌, ◌<◌, length};
+ghost use Rattle.std.specs.Prelude.{◌≡◌, ◌<◌, length, IsSome};
+ghost use Rattle.msrp_plan.specs.Plan.{release_tick};
 
 use msrp_plan::{JobId, JobKey, Plan};
 
@@ -15,7 +16,8 @@ impl KeyedJob {
 
     /// A job of a plan beside its key.
     pub(crate) fn of(plan: &Plan, job: JobId) -> KeyedJob
-        requires { job.task.0 < length plan.now.tasks }
+        requires task { job.task.0 < length plan.now.tasks }
+        requires released { IsSome (release_tick plan.now job) }
         ensures { result ≡ keyed plan.now job }
     {
         KeyedJob {

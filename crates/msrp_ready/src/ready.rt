@@ -60,8 +60,10 @@ impl<'a> Ready<'a> {
     pub fn release_to(&mut self, tick: u32)
         requires { ForSome self.old.tick (λ before. before ≤ tick) }
         ensures tick { self.new ≡ record self.old { tick = Some tick; compared = self.new.compared } }
-        ensures compared { self.new.compared ≤ self.old.compared + 13 * (released self.new - released self.old) }
-        // Of the jobs that are released, each that finds another ready is compared.
+        ensures at_most { self.new.compared ≤ self.old.compared + 13 * (released self.new - released self.old) }
+        ensures at_least { self.old.compared ≤ self.new.compared }
+
+        // Each job that finds another ready is compared.
         ensures counted { released self.new ≤ released self.old + 1 + (self.new.compared - self.old.compared) }
     {
         self.next = release(&self.calendar, self.next, tick, &mut self.heap);
@@ -79,9 +81,10 @@ impl<'a> Ready<'a> {
     /// Takes the head, which is ready no more. It takes no memory.
     pub fn take_head(&mut self) -> Option<JobId>
         ensures head { result ≡ head self.old }
-        ensures kept { self.new ≡ record self.old { taken = self.new.taken; compared = self.new.compared } }
+        ensures rest { self.new ≡ record self.old { taken = self.new.taken; compared = self.new.compared } }
         ensures taken { (job : Job) → is_among self.new.taken job ≡ is_among self.old.taken job || is_job result job }
-        ensures compared { self.new.compared ≤ self.old.compared + 26 }
+        ensures at_most { self.new.compared ≤ self.old.compared + 26 }
+        ensures at_least { self.old.compared ≤ self.new.compared }
     {
         let first = self.heap.pop()?;
         Some(first.job)

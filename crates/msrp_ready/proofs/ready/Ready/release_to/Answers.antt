@@ -32,8 +32,8 @@ returns-clause-tick c =
     let seen : List JobId → ReadyModel = λ taken. record { plan = r.plan.now; core = r.core.0; tick = Some c.args.tick; taken = taken; compared = c.release-self-inside.new.heap.compared } in
     ap seen left.taken ∙ ap (λ (v : ReadyModel). let w : ReadyModel = record { plan = v.plan; core = v.core; tick = Some c.args.tick; taken = v.taken; compared = c.release-self-inside.new.heap.compared } in w) c.self.view_is
 
-pub returns-clause-compared : goal.returns-clause-compared
-returns-clause-compared c =
+pub returns-clause-at_most : goal.returns-clause-at_most
+returns-clause-at_most c =
     let r = c.self.inside in
     let told = c.release-self-inside.ensures in
     let left = releases r.plan.now r.core.0 r.tick r.calendar.items c.deref.result.now r.next r.heap c.args.tick c.release-self-inside.result c.release-self-inside.new.heap c.deref.ensures.value c.self.invariant (λ before e. c.requires before (sym (ap (λ (v : ReadyModel). v.tick) c.self.view_is) ∙ e)) told.from told.within told.jobs told.released told.later told.room told.compared in

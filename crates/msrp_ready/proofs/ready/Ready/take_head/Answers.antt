@@ -42,8 +42,8 @@ returns-clause-taken c job =
     taken_by_one r.plan.now r.core.0 r.tick r.calendar.items r.next r.heap c.self.invariant c.in_ok-first.first c.pop.new.self c.in_ok-first.ensures.jobs job
     ∙ ap (λ (ready : ReadyModel). is_among ready.taken job || same_job c.in_ok-first.first.job job) c.self.view_is
 
-pub returns-clause-compared : goal.returns-clause-compared
-returns-clause-compared c =
+pub returns-clause-at_most : goal.returns-clause-at_most
+returns-clause-at_most c =
     let r = c.self.inside in
     let ok = c.self.invariant in
     let told = c.in_ok-first.ensures in
