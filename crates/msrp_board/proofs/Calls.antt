@@ -18,24 +18,21 @@ use Rattle.msrp_board.specs.declared.books.Entry.{Entry}
 use Rattle.msrp_board.specs.declared.pages.Page.{Page}
 use Rattle.msrp_board.specs.declared.pages.View.{View}
 use Rattle.msrp_board.specs.declared.books.BoardSize.{BoardSize}
-use Rattle.msrp_board.specs.Books.{on, IsBefore, reach_of}
+use Rattle.msrp_board.specs.Books.{on, IsBefore, reach_of, AreBefore}
 use Rattle.msrp_board.specs.History.{Event, by}
-use Rattle.msrp_board.specs.Newest.{lock, asks, leaves, asks_after, leaves_after, queue, granted, PlacedNewest, turn_of, claim, InTurn, Orderly, BehindAll, Ticks, NoneLater}
-use Rattle.msrp_board.specs.Boards.{opening_1, abort_1}
-use Rattle.msrp_board.specs.Rule.{acted, push, arrivals, reach, HasConductor, Gathered, Has, Owns, Shared, IsWord, Served, Kept, Ruled, Sole, next, serving, asked, change, polled, left, Behind, TellsAsk, TellsPoll, TellsLeave}
+use Rattle.msrp_board.specs.Inside.Newest.{lock, asks, leaves, asks_after, leaves_after, queue, granted, PlacedNewest, turn_of, claim_of, IsClaimInTurn, IsRegularNewest, TicksNewest, NoneLater}
+use Rattle.msrp_board.specs.Boards.{opening_count, abort_count, high, low}
+use Rattle.msrp_board.specs.Inside.Rule.{page_has_acted, page_with, arrivals, page_reach, HasConductor, Gathered, HasPage, Owns, Shared, IsTicketWord, IsServedNewest, IsKeptNewest, Ruled, HasOnly, page_with_ask, with_pages, page_with_poll, page_with_leave, ViewIsBehind, TellsAsk, TellsPoll, TellsLeave}
 use Rattle.msrp_board.specs.declared.held.Claim.{Claim}
 use Rattle.msrp_board.specs.declared.held.Claim.TheVariants.{Nothing, Waits, Holds}
 use Rattle.msrp_plan.specs.FifoLock.{Answers, IsAmong, IsFirst}
 use Rattle.msrp_board.proofs.Queue.{at_first, among, not_among, not_first, Coupled, coupled, turn, held, by_same, by_other, by_cases}
 use Rattle.msrp_board.proofs.Counts.{at, pick, claim_on, on_same, on_other, total_more, total_bound, ticks_length, arrivals_set}
-use Rattle.msrp_board.proofs.Sharing.{same_shared}
+use Rattle.msrp_board.proofs.Sharing.{at_length, same_shared}
+use Rattle.msrp_board.proofs.Ties.{each_some, each_at}
+use Rattle.msrp_board.proofs.Kept.{kept_more, fresh_page}
 use Rattle.msrp_board.proofs.Sorted.{insert, inserted}
 use Rattle.msrp_board.specs.declared.books.Conductor.{Conductor}
-
-at_length : {A : Type 0} (l : List A) (i : ℕ) (a : A) → get_elem? l i ≡ some a → i < length l
-at_length [] i a e = absurd (some-ne-none a (sym e))
-at_length (x ∷ xs) zero a e = omega arith
-at_length (x ∷ xs) (suc i) a e = let h = at_length xs i a e in omega (arith, h)
 
 steps_more : (k : Call) (h : List Event) (r : Event) → asks h + leaves h ≤ length h → asks_after (asks h) k + leaves_after (leaves h) k ≤ length (r ∷ h)
 steps_more (Ask a) h r q = omega (arith, q)
@@ -47,8 +44,8 @@ steps_length [] = omega arith
 steps_length (r ∷ h) = steps_more r.1.call h r (steps_length h)
 
 -- one more entry of the core c in the history of its resource
-served_more : (g n m c : ℕ) (books : List Page) (b : Page) (e : Entry) → get_elem? books c ≡ some b → e.res.0 ≡ g → (s : Served g n books)
-    → (e.place ≡ asks s.0 + leaves s.0) → Answers (lock s.0) c e.call → IsWord m ((c, e) ∷ s.0) → NoneLater e.tick s.0 → Served g m (set books c (push e b))
+served_more : (g n m c : ℕ) (books : List Page) (b : Page) (e : Entry) → get_elem? books c ≡ some b → e.res.0 ≡ g → (s : IsServedNewest g n books)
+    → (e.place ≡ asks s.0 + leaves s.0) → Answers (lock s.0) c e.call → IsTicketWord m ((c, e) ∷ s.0) → NoneLater e.tick s.0 → IsServedNewest g m (set books c (page_with e b))
 served_more g n m c books b e has res s place ok word later =
     let log = s.0 in
     let hist = s.1 in
@@ -56,10 +53,10 @@ served_more g n m c books b e has res s place ok word later =
       insert (c, e) log,
       (
         (λ d x q. ⊎_elim
-            (λ (t : (d ≡ c) × (push e b ≡ x)). subst (λ y. by y (insert (c, e) log) ≡ on g x.newest) (sym t.0) (i.same c ∙ by_same c e log ∙ ap (λ es. e ∷ es) (hist.0 c b has) ∙ sym (on_same g e b.newest res) ∙ ap (λ (y : Page). on g y.newest) t.1))
+            (λ (t : (d ≡ c) × (page_with e b ≡ x)). subst (λ y. by y (insert (c, e) log) ≡ on g x.newest) (sym t.0) (i.same c ∙ by_same c e log ∙ ap (λ es. e ∷ es) (hist.0 c b has) ∙ sym (on_same g e b.newest res) ∙ ap (λ (y : Page). on g y.newest) t.1))
             (λ (t : (d ≢ c) × (get_elem? books d ≡ some x)). i.same d ∙ by_other c d e log (λ k. t.0 (sym k)) ∙ hist.0 d x t.1)
-            (at_set books c d (push e b) x q)),
-        (λ d far. let l = at_length books c b has in let w = length-set books c (push e b) in i.same d ∙ by_other c d e log (λ k. omega (arith, k, l, w, far)) ∙ hist.1 d (omega (arith, w, far))),
+            (at_set books c d (page_with e b) x q)),
+        (λ d far. let l = at_length books c b has in let w = length-set books c (page_with e b) in i.same d ∙ by_other c d e log (λ k. omega (arith, k, l, w, far)) ∙ hist.1 d (omega (arith, w, far))),
         i.placed,
       ),
       i.legal,
@@ -69,16 +66,16 @@ served_more g n m c books b e has res s place ok word later =
       i.tidy,
     )
 
-served_else : (g n c : ℕ) (books : List Page) (b : Page) (e : Entry) → get_elem? books c ≡ some b → e.res.0 ≢ g → Served g n books → Served g n (set books c (push e b))
+served_else : (g n c : ℕ) (books : List Page) (b : Page) (e : Entry) → get_elem? books c ≡ some b → e.res.0 ≢ g → IsServedNewest g n books → IsServedNewest g n (set books c (page_with e b))
 served_else g n c books b e has res s =
     let hist = s.1 in (
       s.0,
       (
         (λ d x q. ⊎_elim
-            (λ (t : (d ≡ c) × (push e b ≡ x)). subst (λ y. by y s.0 ≡ on g x.newest) (sym t.0) (hist.0 c b has ∙ sym (on_other g e b.newest res) ∙ ap (λ (y : Page). on g y.newest) t.1))
+            (λ (t : (d ≡ c) × (page_with e b ≡ x)). subst (λ y. by y s.0 ≡ on g x.newest) (sym t.0) (hist.0 c b has ∙ sym (on_other g e b.newest res) ∙ ap (λ (y : Page). on g y.newest) t.1))
             (λ (t : (d ≢ c) × (get_elem? books d ≡ some x)). hist.0 d x t.1)
-            (at_set books c d (push e b) x q)),
-        (λ d far. let w = length-set books c (push e b) in hist.1 d (omega (arith, w, far))),
+            (at_set books c d (page_with e b) x q)),
+        (λ d far. let w = length-set books c (page_with e b) in hist.1 d (omega (arith, w, far))),
         hist.2,
       ),
       s.2,
@@ -89,26 +86,15 @@ served_else g n c books b e has res s =
     )
 
 -- the core's claim state, read from the history of g
-stand : (g n c : ℕ) (books : List Page) (b : Page) → get_elem? books c ≡ some b → Orderly b.newest → (s : Served g n books) → claim (by c s.0) ≡ at g (claim b.newest)
-stand g n c books b has ok s = ap claim (s.1.0 c b has) ∙ claim_on g b.newest ok
-
-pub each_some : (f : Page → Page) (l : List (Option Page)) (c : ℕ) (b : Page) → get_elem? (map (option_map f) l) c ≡ some (Some b) → (d : Page) × (get_elem? l c ≡ some (Some d)) × (f d ≡ b)
-each_some f [] c b e = absurd (some-ne-none (Some b) (sym e))
-each_some f (None ∷ xs) zero b e = absurd (cc)
-each_some f (Some d ∷ xs) zero b e = (d, refl, cc)
-each_some f (x ∷ xs) (suc c) b e = each_some f xs c b e
-
-pub each_at : (f : Page → Page) (l : List (Option Page)) (c : ℕ) (b : Page) → get_elem? l c ≡ some (Some b) → get_elem? (map (option_map f) l) c ≡ some (Some (f b))
-each_at f [] c b e = absurd (some-ne-none (Some b) (sym e))
-each_at f (x ∷ xs) zero b e = ap (λ o. some (option_map f o)) (some-injective x (Some b) e)
-each_at f (x ∷ xs) (suc c) b e = each_at f xs c b e
+stand : (g n c : ℕ) (books : List Page) (b : Page) → get_elem? books c ≡ some b → IsRegularNewest b.newest → (s : IsServedNewest g n books) → claim_of (by c s.0) ≡ at g (claim_of b.newest)
+stand g n c books b has ok s = ap claim_of (s.1.0 c b has) ∙ claim_on g b.newest ok
 
 -- the seat's only book has changed
-pub shared_step : (views : List View) (books : List Page) (id c : ℕ) (v : View) (b d : Page) (f : Page → Page) → get_elem? views id ≡ some v → Sole v c b → f b ≡ d → get_elem? books c ≡ some b → Shared views books → Shared (set views id (change f v)) (set books c d)
+pub shared_step : (views : List View) (books : List Page) (id c : ℕ) (v : View) (b d : Page) (f : Page → Page) → get_elem? views id ≡ some v → HasOnly v c b → f b ≡ d → get_elem? books c ≡ some b → Shared views books → Shared (set views id (with_pages f v)) (set books c d)
 shared_step views books id c v b d f at_id sole is has sh = (good, one, there)
   where
     w : View
-    w = change f v
+    w = with_pages f v
 
     mine : (i x : ℕ) (y : Page) → Owns (set views id w) i x y → ((i ≡ id) × (x ≡ c) × (y ≡ d)) ⊎ ((i ≢ id) × Owns views i x y)
     mine i x y o = ⊎_elim
@@ -150,28 +136,28 @@ shared_step views books id c v b d f at_id sole is has sh = (good, one, there)
         kept i u x y n at_i h = set_else views id i w (λ q. n (sole.1 x y (subst (λ (k : View). get_elem? k.pages x ≡ some (Some y)) (some-injective u v (sym at_i ∙ ap (get_elem? views) q ∙ at_id)) h))) ∙ at_i
 
 -- what a word of a history says
-pub split_word : (n : ℕ) (log : List Event) → IsWord n log → asks log + leaves log ≤ 160000 → (next n ≡ asks log) × (serving n ≡ leaves log)
-split_word n log is small = (ap next is ∙ div-mul-add (asks log) 4294967296 (leaves log) (omega (arith, small)), ap serving is ∙ mod-mul-add (asks log) 4294967296 (leaves log) (omega (arith, small)))
+pub split_word : (n : ℕ) (log : List Event) → IsTicketWord n log → asks log + leaves log ≤ 160000 → (high n ≡ asks log) × (low n ≡ leaves log)
+split_word n log is small = (ap high is ∙ div-mul-add (asks log) 4294967296 (leaves log) (omega (arith, small)), ap low is ∙ mod-mul-add (asks log) 4294967296 (leaves log) (omega (arith, small)))
 
-kept_step : (z : BoardSize) (books : List Page) (c : ℕ) (b : Page) (e : Entry) → InTurn (claim b.newest) e.res.0 e.call → b.admitted ≡ true → Ticks b.tick b.newest → e.tick ≡ b.tick → get_elem? books c ≡ some b → ((d : ℕ) (x : Page) → get_elem? books d ≡ some x → Kept z x)
-    → (d : ℕ) (x : Page) → get_elem? (set books c (push e b)) d ≡ some x → Kept z x
-kept_step z books c b e ok in_tick fresh now has all d x q = ⊎_elim
-    (λ (t : (d ≡ c) × (push e b ≡ x)). subst (Kept z) t.1 (((all c b has).0, ok), (subst (λ k. e.tick < reach_of k b.tick) (sym in_tick) (omega (arith, now)), subst (λ k. Ticks k b.newest) (sym now) fresh), (all c b has).2))
+kept_step : (z : BoardSize) (books : List Page) (c : ℕ) (b : Page) (e : Entry) → IsKeptNewest z (page_with e b) → ((d : ℕ) (x : Page) → get_elem? books d ≡ some x → IsKeptNewest z x)
+    → (d : ℕ) (x : Page) → get_elem? (set books c (page_with e b)) d ≡ some x → IsKeptNewest z x
+kept_step z books c b e kept all d x q = ⊎_elim
+    (λ (t : (d ≡ c) × (page_with e b ≡ x)). subst (IsKeptNewest z) t.1 kept)
     (λ (t : (d ≢ c) × (get_elem? books d ≡ some x)). all d x t.1)
-    (at_set books c d (push e b) x q)
+    (at_set books c d (page_with e b) x q)
 
 -- the barrier's part, where a book keeps its tick and its reach
 gathered_same : (n c : ℕ) (books : List Page) (b d : Page) (o : Conductor) → get_elem? books c ≡ some b → d.tick ≡ b.tick → d.admitted ≡ b.admitted → d.stopped ≡ b.stopped → Gathered n books o → Gathered n (set books c d) o
 gathered_same n c books b d o has tick adm stop g = (
-  g.0 ∙ (let q = arrivals_set books c b d has in let same : arrivals books ≡ arrivals (set books c d) = omega (arith, q, tick) in ap (λ k. abort_1 o * 4294967296 + (k + opening_1 o)) same),
+  g.0 ∙ (let q = arrivals_set books c b d has in let same : arrivals books ≡ arrivals (set books c d) = omega (arith, q, tick) in ap (λ k. abort_count o * 4294967296 + (k + opening_count o)) same),
   (λ x y h s. let u = was x y h in g.1 x u.0 u.1 (u.4 ∙ s)),
   (λ x y h p. let u = was x y h in let rs = u.3 in let up = g.2 x u.0 u.1 (omega (arith, p, rs)) in (up.0, λ w e j. let v = was w e j in let le = up.1 w v.0 v.1 in let t = v.2 in omega (arith, le, rs, t))),
 )
   where
     -- the book as it was: its place, tick, admission and stop
-    was : (x : ℕ) (y : Page) → get_elem? (set books c d) x ≡ some y → (u : Page) × (get_elem? books x ≡ some u) × (y.tick ≡ u.tick) × (reach y ≡ reach u) × (u.stopped ≡ y.stopped)
+    was : (x : ℕ) (y : Page) → get_elem? (set books c d) x ≡ some y → (u : Page) × (get_elem? books x ≡ some u) × (y.tick ≡ u.tick) × (page_reach y ≡ page_reach u) × (u.stopped ≡ y.stopped)
     was x y h = ⊎_elim
-        (λ (t : (x ≡ c) × (d ≡ y)). (b, ap (get_elem? books) t.0 ∙ has, subst (λ (k : Page). k.tick ≡ b.tick) t.1 tick, subst (λ (k : Page). reach k ≡ reach b) t.1 (ap (λ a. reach_of a d.tick) adm ∙ ap (reach_of b.admitted) tick), subst (λ (k : Page). b.stopped ≡ k.stopped) t.1 (sym stop)))
+        (λ (t : (x ≡ c) × (d ≡ y)). (b, ap (get_elem? books) t.0 ∙ has, subst (λ (k : Page). k.tick ≡ b.tick) t.1 tick, subst (λ (k : Page). page_reach k ≡ page_reach b) t.1 (ap (λ a. reach_of a d.tick) adm ∙ ap (reach_of b.admitted) tick), subst (λ (k : Page). b.stopped ≡ k.stopped) t.1 (sym stop)))
         (λ (t : (x ≢ c) × (get_elem? books x ≡ some y)). (y, t.1, refl, refl, refl))
         (at_set books c x d y h)
 
@@ -180,7 +166,7 @@ EachUpTo t [] = Unit {0}
 EachUpTo t (e ∷ es) = (e.tick ≤ t) × EachUpTo t es
 
 -- no entry of g is later than the tick to which a core is admitted
-ticks_on : (t r g : ℕ) (es : List Entry) → Ticks r es → r ≤ suc t → EachUpTo t (on g es)
+ticks_on : (t r g : ℕ) (es : List Entry) → TicksNewest r es → r ≤ suc t → EachUpTo t (on g es)
 ticks_on t r g [] k le = tt
 ticks_on t r g (e ∷ es) k le = let h = k.0 in dite (ℕ_discrete e.res.0 g)
     (λ q. subst (EachUpTo t) (sym (on_same g e es q)) (omega (arith, h, le), ticks_on t e.tick g es k.1 (omega (arith, h, le))))
@@ -193,48 +179,48 @@ from_by : (t : ℕ) (h : List Event) → ((d : ℕ) → EachUpTo t (by d h)) →
 from_by t [] k = tt
 from_by t (r ∷ h) k = ((subst (EachUpTo t) (by_same r.0 r.1 h) (k r.0)).0, from_by t h (λ d. by_cases r.0 d r.1 h (λ l. EachUpTo t l → EachUpTo t (by d h)) (λ _ x. x.1) (λ _ x. x) (k d)))
 
-none_later : (z : BoardSize) (g n c : ℕ) (books : List Page) (b : Page) (o : Conductor) (w : ℕ) → get_elem? books c ≡ some b → ((d : ℕ) (x : Page) → get_elem? books d ≡ some x → Kept z x) → Gathered w books o → (s : Served g n books) → NoneLater b.tick s.0
+none_later : (z : BoardSize) (g n c : ℕ) (books : List Page) (b : Page) (o : Conductor) (w : ℕ) → get_elem? books c ≡ some b → ((d : ℕ) (x : Page) → get_elem? books d ≡ some x → IsKeptNewest z x) → Gathered w books o → (s : IsServedNewest g n books) → NoneLater b.tick s.0
 none_later z g n c books b o w has all gat s = from_by b.tick s.0 (λ d. each d (dec_lt d (length books)))
   where
     each : (d : ℕ) → Dec (d < length books) → EachUpTo b.tick (by d s.0)
     each d (no far) = subst (EachUpTo b.tick) (sym (s.1.1 d (omega (arith, far)))) tt
-    each d (yes h) = let x = there books d h in subst (EachUpTo b.tick) (sym (s.1.0 d x.0 x.1)) (bounded x.0 d x.1 (reach x.0) refl)
+    each d (yes h) = let x = there books d h in subst (EachUpTo b.tick) (sym (s.1.0 d x.0 x.1)) (bounded x.0 d x.1 (page_reach x.0) refl)
       where
         there : (l : List Page) (i : ℕ) → i < length l → (y : Page) × (get_elem? l i ≡ some y)
         there [] i h = absurd (omega (arith, h))
         there (y ∷ ys) zero h = (y, refl)
         there (y ∷ ys) (suc i) h = there ys i (omega (arith, h))
 
-        bounded : (x : Page) (d : ℕ) → get_elem? books d ≡ some x → (r : ℕ) → reach x ≡ r → EachUpTo b.tick (on g x.newest)
-        bounded x d at zero is = ticks_on b.tick (reach x) g x.newest (all d x at).1 (omega (arith, is))
-        bounded x d at (suc r) is = ticks_on b.tick (reach x) g x.newest (all d x at).1 ((gat.2 d x at (omega (arith, is))).1 c b has)
+        bounded : (x : Page) (d : ℕ) → get_elem? books d ≡ some x → (r : ℕ) → page_reach x ≡ r → EachUpTo b.tick (on g x.newest)
+        bounded x d at zero is = ticks_on b.tick (page_reach x) g x.newest (all d x at).ticks (omega (arith, is))
+        bounded x d at (suc r) is = ticks_on b.tick (page_reach x) g x.newest (all d x at).ticks ((gat.2 d x at (omega (arith, is))).1 c b has)
 
 -- the rule after one more entry of the core of a seat
-acts : (z : BoardSize) (s : State (Unit {0}) View) (id g m c : ℕ) (v : View) (b : Page) (e : Entry) (f : Page → Page) (r : Ruled z s) → get_elem? s.views id ≡ some v → g < z.resources → Sole v c b → b.admitted ≡ true → Ticks b.tick b.newest
-    → f b ≡ push e b → e.res.0 ≡ g → e.tick ≡ b.tick → InTurn (claim b.newest) e.res.0 e.call
-    → ((sv : Served g (slice_index s.words g) r.0) → (e.place ≡ asks sv.0 + leaves sv.0) × Answers (lock sv.0) c e.call × IsWord m ((c, e) ∷ sv.0))
-    → Ruled z (stepped s g m id [] (change f v) keeps)
-acts z s id g m c v b e f r at_id in_g sole in_tick fresh is res now ok fits =
+acts : (z : BoardSize) (s : State (Unit {0}) View) (id g m c : ℕ) (v : View) (b : Page) (e : Entry) (f : Page → Page) (r : Ruled z s) → get_elem? s.views id ≡ some v → g < z.resources → HasOnly v c b → b.admitted ≡ true → TicksNewest b.tick b.newest
+    → f b ≡ page_with e b → e.res.0 ≡ g → e.tick ≡ b.tick → IsClaimInTurn (claim_of b.newest) e.res.0 e.call → AreBefore e.place (on g b.newest)
+    → ((sv : IsServedNewest g (slice_index s.words g) r.0) → (e.place ≡ asks sv.0 + leaves sv.0) × Answers (lock sv.0) c e.call × IsTicketWord m ((c, e) ∷ sv.0))
+    → Ruled z (stepped s g m id [] (with_pages f v) keeps)
+acts z s id g m c v b e f r at_id in_g sole in_tick fresh is res now ok before fits =
     let books = r.0 in
     let tied = r.4 in
     let has : get_elem? books c ≡ some b = r.2.0 id c b (v, at_id, sole.0) in (
-      set books c (push e b),
+      set books c (page_with e b),
       r.1,
-      shared_step s.views books id c v b (push e b) f at_id sole is has r.2,
-      same_shared HasConductor s.views (λ k x. (k ≡ 0) × (r.1 ≡ x)) id v (change f v) at_id (λ k o h. h) (λ k o h. h) r.3,
+      shared_step s.views books id c v b (page_with e b) f at_id sole is has r.2,
+      same_shared HasConductor s.views (λ k x. (k ≡ 0) × (r.1 ≡ x)) id v (with_pages f v) at_id (λ k o h. h) (λ k o h. h) r.3,
       (
-        length-set books c (push e b) ∙ tied.0,
+        length-set books c (page_with e b) ∙ tied.0,
         (λ h in_h. dite (ℕ_discrete h g)
-            (λ q. let sv = tied.1 g in_g in let x = fits sv in subst (λ k. Served k (slice_index (set s.words g m) k) (set books c (push e b))) (sym q)
-            (subst (λ k. Served g k (set books c (push e b))) (sym (get_or-set_same s.words g m 0 (let l = r.5.2 in omega (arith, l, in_g)))) (served_more g (slice_index s.words g) m c books b e has res sv x.0 x.1 x.2 (subst (λ t. NoneLater t sv.0) (sym now) (none_later z g (slice_index s.words g) c books b r.1 (slice_index s.words z.resources) has tied.2 tied.3 sv)))))
-            (λ n. subst (λ k. Served h k (set books c (push e b))) (sym (get_or-set_other s.words g h m 0 n)) (served_else h (slice_index s.words h) c books b e has (λ q. n (sym q ∙ res)) (tied.1 h in_h)))),
-        kept_step z books c b e ok in_tick fresh now has tied.2,
-        subst (λ k. Gathered k (set books c (push e b)) r.1) (sym (get_or-set_other s.words g z.resources m 0 (λ q. omega (arith, q, in_g)))) (gathered_same (slice_index s.words z.resources) c books b (push e b) r.1 has refl refl refl tied.3),
+            (λ q. let sv = tied.1 g in_g in let x = fits sv in subst (λ k. IsServedNewest k (slice_index (set s.words g m) k) (set books c (page_with e b))) (sym q)
+            (subst (λ k. IsServedNewest g k (set books c (page_with e b))) (sym (get_or-set_same s.words g m 0 (let l = r.5.1 in omega (arith, l, in_g)))) (served_more g (slice_index s.words g) m c books b e has res sv x.0 x.1 x.2 (subst (λ t. NoneLater t sv.0) (sym now) (none_later z g (slice_index s.words g) c books b r.1 (slice_index s.words z.resources) has tied.2 tied.3 sv)))))
+            (λ n. subst (λ k. IsServedNewest h k (set books c (page_with e b))) (sym (get_or-set_other s.words g h m 0 n)) (served_else h (slice_index s.words h) c books b e has (λ q. n (sym q ∙ res)) (tied.1 h in_h)))),
+        kept_step z books c b e (kept_more z b e (tied.2 c b has) (subst (λ k. k < z.resources) (sym res) in_g) (subst (λ k. AreBefore e.place (on k b.newest)) (sym res) before) ok in_tick fresh now) tied.2,
+        subst (λ k. Gathered k (set books c (page_with e b)) r.1) (sym (get_or-set_other s.words g z.resources m 0 (λ q. omega (arith, q, in_g)))) (gathered_same (slice_index s.words z.resources) c books b (page_with e b) r.1 has refl refl refl tied.3),
       ),
-      (r.5.0, r.5.1, length-set s.words g m ∙ r.5.2),
+      (r.5.0, length-set s.words g m ∙ r.5.1),
     )
 
-before_more : (p q : ℕ) (es : List Entry) → p ≤ q → BehindAll p es → BehindAll q es
+before_more : (p q : ℕ) (es : List Entry) → p ≤ q → AreBefore p es → AreBefore q es
 before_more p q [] h a = tt
 before_more p q (e ∷ es) h a = (one e.place e.call a.0, before_more p q es h a.1)
   where
@@ -243,9 +229,9 @@ before_more p q (e ∷ es) h a = (one e.place e.call a.0, before_more p q es h a
     one x (Poll n) b = omega (arith, b, h)
     one x Leave b = omega (arith, b, h)
 
-before_one : (h : List Event) (c t g p : ℕ) (k : Call) → p ≡ asks h + leaves h → ((d : ℕ) → BehindAll (asks h + leaves h) (by d h))
-    → (d : ℕ) → BehindAll (asks_after (asks h) k + leaves_after (leaves h) k) (by d ((c, record { tick = t; res = record { 0 = g }; place = p; call = k }) ∷ h))
-before_one h c t g p k is old d = by_cases c d new h (BehindAll now)
+before_one : (h : List Event) (c t g p : ℕ) (k : Call) → p ≡ asks h + leaves h → ((d : ℕ) → AreBefore (asks h + leaves h) (by d h))
+    → (d : ℕ) → AreBefore (asks_after (asks h) k + leaves_after (leaves h) k) (by d ((c, record { tick = t; res = record { 0 = g }; place = p; call = k }) ∷ h))
+before_one h c t g p k is old d = by_cases c d new h (AreBefore now)
     (λ _. ((up k).1, before_more (asks h + leaves h) now (by d h) (up k).0 (old d)))
     (λ _. before_more (asks h + leaves h) now (by d h) (up k).0 (old d))
   where
@@ -261,27 +247,27 @@ before_one h c t g p k is old d = by_cases c d new h (BehindAll now)
     up Leave = (omega arith, omega (arith, is))
 
 -- every entry stands before the place that is found next
-pub all_before : (h : List Event) → PlacedNewest h → (d : ℕ) → BehindAll (asks h + leaves h) (by d h)
+pub all_before : (h : List Event) → PlacedNewest h → (d : ℕ) → AreBefore (asks h + leaves h) (by d h)
 all_before [] p d = tt
 all_before (r ∷ h) p d = before_one h r.0 r.1.tick r.1.res.0 r.1.place r.1.call p.1 (all_before h p.0) d
 
 -- what each of the three steps finds at the word of g
-pub record Found (z : BoardSize) (s : State (Unit {0}) View) (id g c : ℕ) (b : Page) (r : Ruled z s) (sv : Served g (slice_index s.words g) r.0) : Type 0 where
-  pub next_is : next (slice_index s.words g) ≡ asks sv.0
-  pub serving_is : serving (slice_index s.words g) ≡ leaves sv.0
+pub record Found (z : BoardSize) (s : State (Unit {0}) View) (id g c : ℕ) (b : Page) (r : Ruled z s) (sv : IsServedNewest g (slice_index s.words g) r.0) : Type 0 where
+  pub next_is : high (slice_index s.words g) ≡ asks sv.0
+  pub serving_is : low (slice_index s.words g) ≡ leaves sv.0
   pub queue_of : Coupled sv.0
   pub small : asks sv.0 + leaves sv.0 < 160000
-  pub stands : claim (by c sv.0) ≡ at g (claim b.newest)
-  pub before : BehindAll (asks sv.0 + leaves sv.0) (on g b.newest)
+  pub stands : claim_of (by c sv.0) ≡ at g (claim_of b.newest)
+  pub before : AreBefore (asks sv.0 + leaves sv.0) (on g b.newest)
 
-found : (z : BoardSize) (s : State (Unit {0}) View) (id g c : ℕ) (v : View) (b : Page) (r : Ruled z s) (sv : Served g (slice_index s.words g) r.0) → get_elem? s.views id ≡ some v → Sole v c b → b.admitted ≡ true → Ticks b.tick b.newest → Found z s id g c b r sv
+found : (z : BoardSize) (s : State (Unit {0}) View) (id g c : ℕ) (v : View) (b : Page) (r : Ruled z s) (sv : IsServedNewest g (slice_index s.words g) r.0) → get_elem? s.views id ≡ some v → HasOnly v c b → b.admitted ≡ true → TicksNewest b.tick b.newest → Found z s id g c b r sv
 found z s id g c v b r sv at_id sole in_tick fresh = record {
   next_is = parts.0;
   serving_is = parts.1;
   queue_of = coupled sv.0 sv.2 sv.1.2;
   small = less;
-  stands = stand g (slice_index s.words g) c r.0 b has (r.4.2 c b has).0 sv;
-  before = subst (BehindAll (asks sv.0 + leaves sv.0)) (sv.1.0 c b has) (all_before sv.0 sv.1.2 c);
+  stands = stand g (slice_index s.words g) c r.0 b has (r.4.2 c b has).regular sv;
+  before = subst (AreBefore (asks sv.0 + leaves sv.0)) (sv.1.0 c b has) (all_before sv.0 sv.1.2 c);
 }
   where
     has : get_elem? r.0 c ≡ some b
@@ -291,49 +277,44 @@ found z s id g c v b r sv at_id sole in_tick fresh = record {
     less : asks sv.0 + leaves sv.0 < 160000
     less = let new : Entry = record { tick = 0; res = record { 0 = 0 }; place = 0; call = Leave } in
         let t = total_more r.0 c b new has in
-        let full = (r.4.2 c b has).2 in
+        let full = (r.4.2 c b has).within in
         let fl = ticks_length b.tick b.newest fresh in
-        let rs : reach b ≡ suc b.tick = ap (λ k. reach_of k b.tick) in_tick in
-        let m = total_bound (set r.0 c (push new b)) z.ticks (λ d x q. ⊎_elim (λ (t : (d ≡ c) × (push new b ≡ x)). subst (λ (y : Page). length y.newest ≤ z.ticks) t.1 (omega (arith, full, fl, rs))) (λ (t : (d ≢ c) × (get_elem? r.0 d ≡ some x)). let u = (r.4.2 d x t.1) in let l = ticks_length (reach x) x.newest u.1 in let le = u.2 in omega (arith, l, le)) (at_set r.0 c d (push new b) x q)) in
-        let n = length-set r.0 c (push new b) in
-        let y = mul-le (length (set r.0 c (push new b))) z.ticks 8 20000 (let x = r.5.0 in let w = r.4.0 in omega (arith, n, x, w)) r.5.1 in
+        let rs : page_reach b ≡ suc b.tick = ap (λ k. reach_of k b.tick) in_tick in
+        let m = total_bound (set r.0 c (page_with new b)) z.ticks (λ d x q. ⊎_elim (λ (t : (d ≡ c) × (page_with new b ≡ x)). subst (λ (y : Page). length y.newest ≤ z.ticks) t.1 (omega (arith, full, fl, rs))) (λ (t : (d ≢ c) × (get_elem? r.0 d ≡ some x)). let u = (r.4.2 d x t.1) in let l = ticks_length (page_reach x) x.newest u.ticks in let le = u.within in omega (arith, l, le)) (at_set r.0 c d (page_with new b) x q)) in
+        let n = length-set r.0 c (page_with new b) in
+        let y = mul-le (length (set r.0 c (page_with new b))) z.ticks 8 20000 (let x = r.5.0.cores.1 in let w = r.4.0 in omega (arith, n, x, w)) r.5.0.ticks.1 in
         let l = steps_length sv.0 in let o = sv.4 in omega (arith, t, m, y, l, o)
 
-    parts : (next (slice_index s.words g) ≡ asks sv.0) × (serving (slice_index s.words g) ≡ leaves sv.0)
+    parts : (high (slice_index s.words g) ≡ asks sv.0) × (low (slice_index s.words g) ≡ leaves sv.0)
     parts = split_word (slice_index s.words g) sv.0 sv.3 (omega (arith, less))
 
-tells : (z : BoardSize) (s : State (Unit {0}) View) (id g c : ℕ) (v : View) (b : Page) (r : Ruled z s) (sv : Served g (slice_index s.words g) r.0) → Sole v c b → Found z s id g c b r sv
-    → (serving (slice_index s.words g) ≤ next (slice_index s.words g)) × (next (slice_index s.words g) + serving (slice_index s.words g) < 160000) × Behind v g (next (slice_index s.words g) + serving (slice_index s.words g))
+tells : (z : BoardSize) (s : State (Unit {0}) View) (id g c : ℕ) (v : View) (b : Page) (r : Ruled z s) (sv : IsServedNewest g (slice_index s.words g) r.0) → HasOnly v c b → Found z s id g c b r sv
+    → (low (slice_index s.words g) ≤ high (slice_index s.words g)) × (high (slice_index s.words g) + low (slice_index s.words g) < 160000) × ViewIsBehind v g (high (slice_index s.words g) + low (slice_index s.words g))
 tells z s id g c v b r sv sole k =
     let n = k.next_is in let m = k.serving_is in let q = k.queue_of.counted in let l = k.small in (
       omega (arith, n, m, q),
       omega (arith, n, m, l),
-      λ d x h. subst (λ p. BehindAll p (on g x.newest)) (let sum : asks sv.0 + leaves sv.0 ≡ next (slice_index s.words g) + serving (slice_index s.words g) = omega (arith, n, m) in sum)
-          (subst (λ (y : Page). BehindAll (asks sv.0 + leaves sv.0) (on g y.newest)) (same x d h) k.before),
+      λ d x h. subst (λ p. AreBefore p (on g x.newest)) (let sum : asks sv.0 + leaves sv.0 ≡ high (slice_index s.words g) + low (slice_index s.words g) = omega (arith, n, m) in sum)
+          (subst (λ (y : Page). AreBefore (asks sv.0 + leaves sv.0) (on g y.newest)) (same x d h) k.before),
     )
   where
-    same : (x : Page) (d : ℕ) → Has v d x → b ≡ x
+    same : (x : Page) (d : ℕ) → HasPage v d x → b ≡ x
     same x d h = let e : get_elem? v.pages c ≡ some (Some x) = subst (λ j. get_elem? v.pages j ≡ some (Some x)) (sole.1 d x h) h in let f : some (Some b) ≡ some (Some x) = sym sole.0 ∙ e in cc
 
--- where a core has not acted in its tick, its entries are of earlier ticks
-none_now : (t r : ℕ) (es : List Entry) → r ≡ suc t → Ticks r es → list_any (λ e. e.tick == t) es ≡ false → Ticks t es
-none_now t r [] is k n = tt
-none_now t r (e ∷ es) is k n = let h = k.0 in let d : e.tick ≢ t = λ q. true≢false (sym (ap (λ b. b || list_any (λ e. e.tick == t) es) (eq-eqb e.tick t q)) ∙ n) in (omega (arith, h, is, d), k.1)
+unacted : (z : BoardSize) (id c : ℕ) (v : View) (b : Page) (s : State (Unit {0}) View) (r : Ruled z s) → get_elem? s.views id ≡ some v → HasOnly v c b → b.admitted ≡ true → page_has_acted b ≡ false → TicksNewest b.tick b.newest
+unacted z id c v b s r at_id sole room quiet = fresh_page z b (r.4.2 c b (r.2.0 id c b (v, at_id, sole.0))) room quiet
 
-unacted : (z : BoardSize) (id c : ℕ) (v : View) (b : Page) (s : State (Unit {0}) View) (r : Ruled z s) → get_elem? s.views id ≡ some v → Sole v c b → b.admitted ≡ true → acted b ≡ false → Ticks b.tick b.newest
-unacted z id c v b s r at_id sole room quiet = none_now b.tick (reach b) b.newest (ap (λ k. reach_of k b.tick) room) (r.4.2 c b (r.2.0 id c b (v, at_id, sole.0))).1 quiet
-
-pub asks_allowed : (z : BoardSize) (slots id : ℕ) (me : Me (Unit {0}) View) (g c : ℕ) (b : Page) → g < z.resources → Sole me.0 c b → b.admitted ≡ true → acted b ≡ false → claim b.newest ≡ Nothing
+pub asks_allowed : (z : BoardSize) (slots id : ℕ) (me : Me (Unit {0}) View) (g c : ℕ) (b : Page) → g < z.resources → HasOnly me.0 c b → b.admitted ≡ true → page_has_acted b ≡ false → claim_of b.newest ≡ Nothing
     → Allows (Ruled z) slots id me g (λ n. (n + 4294967296) % 2 ^ 64) (TellsAsk (step slots g 4294967296 0 none) me)
 asks_allowed z slots id me g c b in_g sole room quiet free s r _ at_id fits =
     let fresh = unacted z id c me.0 b s r at_id sole room quiet in
     let n = slice_index s.words g in
-    let t : (sv : Served g n r.0) → Found z s id g c b r sv = λ sv. found z s id g c me.0 b r sv at_id sole room fresh in
+    let t : (sv : IsServedNewest g n r.0) → Found z s id g c b r sv = λ sv. found z s id g c me.0 b r sv at_id sole room fresh in
     let sv = r.4.1 g in_g in
-    (change (asked g n) me.0, keeps, tt, acts z s id g ((n + 4294967296) % 2 ^ 64) c me.0 b (record { tick = b.tick; res = record { 0 = g }; place = next n + serving n; call = Ask (next n - serving n) }) (asked g n) r at_id in_g sole room fresh refl refl refl free (λ sv. step_ok sv (t sv)), let x = tells z s id g c me.0 b r sv sole (t sv) in (refl, x.0, x.1, x.2))
+    (with_pages (page_with_ask g n) me.0, keeps, tt, acts z s id g ((n + 4294967296) % 2 ^ 64) c me.0 b (record { tick = b.tick; res = record { 0 = g }; place = high n + low n; call = Ask (high n - low n) }) (page_with_ask g n) r at_id in_g sole room fresh refl refl refl free ((tells z s id g c me.0 b r sv sole (t sv)).2 c b sole.0) (λ sv. step_ok sv (t sv)), let x = tells z s id g c me.0 b r sv sole (t sv) in record { changed = refl; order = x.0; small = x.1; behind = x.2 })
   where
-    step_ok : (sv : Served g (slice_index s.words g) r.0) → Found z s id g c b r sv → (next (slice_index s.words g) + serving (slice_index s.words g) ≡ asks sv.0 + leaves sv.0)
-        × (¬ IsAmong (queue sv.0) c × (next (slice_index s.words g) - serving (slice_index s.words g) ≡ length (queue sv.0)))
+    step_ok : (sv : IsServedNewest g (slice_index s.words g) r.0) → Found z s id g c b r sv → (high (slice_index s.words g) + low (slice_index s.words g) ≡ asks sv.0 + leaves sv.0)
+        × (¬ IsAmong (queue sv.0) c × (high (slice_index s.words g) - low (slice_index s.words g) ≡ length (queue sv.0)))
         × ((slice_index s.words g + 4294967296) % 2 ^ 64 ≡ suc (asks sv.0) * 4294967296 + leaves sv.0)
     step_ok sv k = let a = k.next_is in let d = k.serving_is in let q = k.queue_of.counted in let l = k.small in let w = sv.3 in (
       omega (arith, a, d),
@@ -353,47 +334,47 @@ poll_answers q b c x t same other = dite (ℕ_discrete x t)
     (λ e. subst (λ k. Answers (record { queue = q; granted = b }) c (Poll k)) (sym (eq-eqb x t e)) (let r = same (sym e) in (at_first q c r.0, r.1)))
     (λ n. subst (λ k. Answers (record { queue = q; granted = b }) c (Poll k)) (sym (ne_eqb x t n)) (let r = other (λ e. n (sym e)) in (among q c r.0, not_first q c r.1)))
 
-not_held : (h : List Event) (c g t : ℕ) → Coupled h → claim (by c h) ≡ Waits g t → get_elem? (queue h) 0 ≡ some c → (x : Bool) → granted h ≡ x → x ≡ false
+not_held : (h : List Event) (c g t : ℕ) → Coupled h → claim_of (by c h) ≡ Waits g t → get_elem? (queue h) 0 ≡ some c → (x : Bool) → granted h ≡ x → x ≡ false
 not_held h c g t k is first false e = refl
-not_held h c g t k is first true e = let y = k.holder e in absurd (true≢false (sym y.2 ∙ ap (λ d. held (claim (by d h))) (some-injective y.0 c (sym y.1 ∙ first)) ∙ ap held is))
+not_held h c g t k is first true e = let y = k.holder e in absurd (true≢false (sym y.2 ∙ ap (λ d. held (claim_of (by d h))) (some-injective y.0 c (sym y.1 ∙ first)) ∙ ap held is))
 
-pub polls_allowed : (z : BoardSize) (slots id : ℕ) (me : Me (Unit {0}) View) (g c t : ℕ) (b : Page) → g < z.resources → Sole me.0 c b → b.admitted ≡ true → acted b ≡ false → claim b.newest ≡ Waits g t
+pub polls_allowed : (z : BoardSize) (slots id : ℕ) (me : Me (Unit {0}) View) (g c t : ℕ) (b : Page) → g < z.resources → HasOnly me.0 c b → b.admitted ≡ true → page_has_acted b ≡ false → claim_of b.newest ≡ Waits g t
     → Allows (Ruled z) slots id me g (λ n. n) (TellsPoll (step slots g 0 0 none) me)
 polls_allowed z slots id me g c t b in_g sole room quiet waits s r _ at_id fits =
     let fresh = unacted z id c me.0 b s r at_id sole room quiet in
     let n = slice_index s.words g in
-    let k : (sv : Served g n r.0) → Found z s id g c b r sv = λ sv. found z s id g c me.0 b r sv at_id sole room fresh in
+    let k : (sv : IsServedNewest g n r.0) → Found z s id g c b r sv = λ sv. found z s id g c me.0 b r sv at_id sole room fresh in
     let sv = r.4.1 g in_g in
-    (change (polled g n) me.0, keeps, tt, acts z s id g n c me.0 b (record { tick = b.tick; res = record { 0 = g }; place = next n + serving n; call = Poll (2 * serving n == turn_of (claim b.newest)) }) (polled g n) r at_id in_g sole room fresh refl refl refl (t, waits) (λ sv. step_ok sv (k sv)), let x = tells z s id g c me.0 b r sv sole (k sv) in (refl, x.0, x.1, x.2))
+    (with_pages (page_with_poll g n) me.0, keeps, tt, acts z s id g n c me.0 b (record { tick = b.tick; res = record { 0 = g }; place = high n + low n; call = Poll (2 * low n == turn_of (claim_of b.newest)) }) (page_with_poll g n) r at_id in_g sole room fresh refl refl refl (t, waits) ((tells z s id g c me.0 b r sv sole (k sv)).2 c b sole.0) (λ sv. step_ok sv (k sv)), let x = tells z s id g c me.0 b r sv sole (k sv) in record { changed = refl; order = x.0; small = x.1; behind = x.2 })
   where
-    step_ok : (sv : Served g (slice_index s.words g) r.0) → Found z s id g c b r sv → (next (slice_index s.words g) + serving (slice_index s.words g) ≡ asks sv.0 + leaves sv.0)
-        × Answers (lock sv.0) c (Poll (2 * serving (slice_index s.words g) == turn_of (claim b.newest)))
+    step_ok : (sv : IsServedNewest g (slice_index s.words g) r.0) → Found z s id g c b r sv → (high (slice_index s.words g) + low (slice_index s.words g) ≡ asks sv.0 + leaves sv.0)
+        × Answers (lock sv.0) c (Poll (2 * low (slice_index s.words g) == turn_of (claim_of b.newest)))
         × (slice_index s.words g ≡ asks sv.0 * 4294967296 + leaves sv.0)
     step_ok sv k = let a = k.next_is in let d = k.serving_is in (
       omega (arith, a, d),
-      poll_answers (queue sv.0) (granted sv.0) c (2 * serving (slice_index s.words g)) (turn_of (claim b.newest))
+      poll_answers (queue sv.0) (granted sv.0) c (2 * low (slice_index s.words g)) (turn_of (claim_of b.newest))
           (λ e. let i = where_is.0 in let first = subst (λ j. get_elem? (queue sv.0) j ≡ some c) (let w = where_is.2 in let u = ap turn_of waits in let zero_is : i ≡ 0 = omega (arith, w, u, e, d) in zero_is) where_is.1 in (first, not_held sv.0 c g t k.queue_of mine first (granted sv.0) refl))
           (λ ne. ((where_is.0, where_is.1), λ first. ne (ap turn_of waits ∙ some-injective t (2 * (leaves sv.0 + 0)) (sym (ap turn mine) ∙ k.queue_of.turns c 0 first) ∙ omega (arith, d)))),
       sv.3,
     )
       where
-        mine : claim (by c sv.0) ≡ Waits g t
-        mine = at_own (claim (by c sv.0)) g (claim b.newest) k.stands (inl (t, waits)) ∙ waits
+        mine : claim_of (by c sv.0) ≡ Waits g t
+        mine = at_own (claim_of (by c sv.0)) g (claim_of b.newest) k.stands (inl (t, waits)) ∙ waits
 
         where_is : (i : ℕ) × (get_elem? (queue sv.0) i ≡ some c) × (t ≡ 2 * (leaves sv.0 + i))
         where_is = k.queue_of.stands c t (ap turn mine)
 
-pub leaves_allowed : (z : BoardSize) (slots id : ℕ) (me : Me (Unit {0}) View) (g c t : ℕ) (b : Page) → g < z.resources → Sole me.0 c b → b.admitted ≡ true → acted b ≡ false → claim b.newest ≡ Holds g t
+pub leaves_allowed : (z : BoardSize) (slots id : ℕ) (me : Me (Unit {0}) View) (g c t : ℕ) (b : Page) → g < z.resources → HasOnly me.0 c b → b.admitted ≡ true → page_has_acted b ≡ false → claim_of b.newest ≡ Holds g t
     → Allows (Ruled z) slots id me g (λ n. (n + 1) % 2 ^ 64) (TellsLeave (step slots g 1 0 none) me)
 leaves_allowed z slots id me g c t b in_g sole room quiet holds s r _ at_id fits =
     let fresh = unacted z id c me.0 b s r at_id sole room quiet in
     let n = slice_index s.words g in
-    let k : (sv : Served g n r.0) → Found z s id g c b r sv = λ sv. found z s id g c me.0 b r sv at_id sole room fresh in
+    let k : (sv : IsServedNewest g n r.0) → Found z s id g c b r sv = λ sv. found z s id g c me.0 b r sv at_id sole room fresh in
     let sv = r.4.1 g in_g in
-    (change (left g n) me.0, keeps, tt, acts z s id g ((n + 1) % 2 ^ 64) c me.0 b (record { tick = b.tick; res = record { 0 = g }; place = next n + serving n; call = Leave }) (left g n) r at_id in_g sole room fresh refl refl refl (t, holds) (λ sv. step_ok sv (k sv)), let x = tells z s id g c me.0 b r sv sole (k sv) in (refl, x.0, x.1, x.2))
+    (with_pages (page_with_leave g n) me.0, keeps, tt, acts z s id g ((n + 1) % 2 ^ 64) c me.0 b (record { tick = b.tick; res = record { 0 = g }; place = high n + low n; call = Leave }) (page_with_leave g n) r at_id in_g sole room fresh refl refl refl (t, holds) ((tells z s id g c me.0 b r sv sole (k sv)).2 c b sole.0) (λ sv. step_ok sv (k sv)), let x = tells z s id g c me.0 b r sv sole (k sv) in record { changed = refl; order = x.0; small = x.1; behind = x.2 })
   where
-    step_ok : (sv : Served g (slice_index s.words g) r.0) → Found z s id g c b r sv → (next (slice_index s.words g) + serving (slice_index s.words g) ≡ asks sv.0 + leaves sv.0)
+    step_ok : (sv : IsServedNewest g (slice_index s.words g) r.0) → Found z s id g c b r sv → (high (slice_index s.words g) + low (slice_index s.words g) ≡ asks sv.0 + leaves sv.0)
         × (IsFirst (queue sv.0) c × (granted sv.0 ≡ true))
         × ((slice_index s.words g + 1) % 2 ^ 64 ≡ asks sv.0 * 4294967296 + suc (leaves sv.0))
-    step_ok sv k = let a = k.next_is in let d = k.serving_is in let l = k.small in let w = sv.3 in let h = k.queue_of.holds c (ap held (at_own (claim (by c sv.0)) g (claim b.newest) k.stands (inr (t, holds)) ∙ holds)) in
+    step_ok sv k = let a = k.next_is in let d = k.serving_is in let l = k.small in let w = sv.3 in let h = k.queue_of.holds c (ap held (at_own (claim_of (by c sv.0)) g (claim_of b.newest) k.stands (inr (t, holds)) ∙ holds)) in
         (omega (arith, a, d), (at_first (queue sv.0) c h.1, h.0), omega (arith, w, l))

@@ -9,11 +9,14 @@ pub mod Meeting
 pub mod Conducting
 pub mod Ties
 pub mod Ticks
+pub mod Kept
+pub mod Entering
 pub mod Lists
 pub mod Reversed
 pub mod Unique
 pub mod End
 pub mod CoreSeats
+pub mod SeatBooks
 pub mod Told
 pub mod Seats
 pub mod Parts

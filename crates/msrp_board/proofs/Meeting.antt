@@ -15,15 +15,16 @@ use Rattle.msrp_board.specs.declared.books.Conductor.{Conductor}
 use Rattle.msrp_board.specs.declared.books.Conductor.TheVariants.{Unopened, Opened, Aborted}
 use Rattle.msrp_board.specs.Books.{on, reach_of}
 use Rattle.msrp_board.specs.History.{by}
-use Rattle.msrp_board.specs.Newest.{Ticks}
-use Rattle.msrp_board.specs.Boards.{opening_1, abort_1}
-use Rattle.msrp_board.specs.Rule.{arrivals, reach, HasConductor, Gathered, Has, Served, Kept, Ruled, Sole, change, arrived, TellsArrival, seen_if, looked, TellsLook}
+use Rattle.msrp_board.specs.Inside.Newest.{TicksNewest}
+use Rattle.msrp_board.specs.Boards.{opening_count, abort_count}
+use Rattle.msrp_board.specs.Inside.Rule.{arrivals, page_reach, HasConductor, Gathered, HasPage, IsServedNewest, IsKeptNewest, Ruled, HasOnly, with_pages, page_with_arrival, TellsArrival, page_after_look_if, page_after_look, TellsLook}
 use Rattle.msrp_board.proofs.Sharing.{same_shared}
 use Rattle.msrp_board.proofs.Counts.{arrivals_set, total_same}
 use Rattle.msrp_board.proofs.Calls.{shared_step}
+use Rattle.msrp_board.proofs.Kept.{kept_arrival, kept_look}
 use Rattle.msrp_board.proofs.Barrier.{total_of, admits}
 
-served_same : (g n c : ℕ) (books : List Page) (b d : Page) → get_elem? books c ≡ some b → d.newest ≡ b.newest → Served g n books → Served g n (set books c d)
+served_same : (g n c : ℕ) (books : List Page) (b d : Page) → get_elem? books c ≡ some b → d.newest ≡ b.newest → IsServedNewest g n books → IsServedNewest g n (set books c d)
 served_same g n c books b d has same s =
     let hist = s.1 in (
       s.0,
@@ -42,14 +43,14 @@ served_same g n c books b d has same s =
       s.6,
     )
 
-pub reach_high : (b : Page) → b.tick ≤ reach b
+pub reach_high : (b : Page) → b.tick ≤ page_reach b
 reach_high b = of b.admitted
   where
     of : (a : Bool) → b.tick ≤ reach_of a b.tick
     of true = omega arith
     of false = omega arith
 
-reach_low : (b : Page) → reach b ≤ suc b.tick
+reach_low : (b : Page) → page_reach b ≤ suc b.tick
 reach_low b = of b.admitted
   where
     of : (a : Bool) → reach_of a b.tick ≤ suc b.tick
@@ -57,8 +58,8 @@ reach_low b = of b.admitted
     of false = omega arith
 
 gathered_step : (n m c : ℕ) (books : List Page) (b d : Page) (o : Conductor) → get_elem? books c ≡ some b → b.tick ≤ d.tick → (d.stopped ≡ true → o ≡ Aborted)
-    → (0 < reach d → (o ≡ Opened) × ((x : ℕ) (e : Page) → get_elem? books x ≡ some e → reach d ≤ suc e.tick))
-    → m ≡ abort_1 o * 4294967296 + (arrivals (set books c d) + opening_1 o) → Gathered n books o → Gathered m (set books c d) o
+    → (0 < page_reach d → (o ≡ Opened) × ((x : ℕ) (e : Page) → get_elem? books x ≡ some e → page_reach d ≤ suc e.tick))
+    → m ≡ abort_count o * 4294967296 + (arrivals (set books c d) + opening_count o) → Gathered n books o → Gathered m (set books c d) o
 gathered_step n m c books b d o has up stop may word g = (
   word,
   (λ x y h s. ⊎_elim
@@ -66,8 +67,8 @@ gathered_step n m c books b d o has up stop may word g = (
       (λ (t : (x ≢ c) × (get_elem? books x ≡ some y)). g.1 x y t.1 s)
       (at_set books c x d y h)),
   (λ x y h p. ⊎_elim
-      (λ (t : (x ≡ c) × (d ≡ y)). let rs = ap reach t.1 in let k = may (omega (arith, p, rs)) in (k.0, λ w e j. all (reach y) (λ z f at. let l = k.1 z f at in omega (arith, l, rs)) (let l = reach_low d in omega (arith, l, rs)) w e j))
-      (λ (t : (x ≢ c) × (get_elem? books x ≡ some y)). let k = g.2 x y t.1 p in (k.0, all (reach y) k.1 (let l = k.1 c b has in omega (arith, l, up))))
+      (λ (t : (x ≡ c) × (d ≡ y)). let rs = ap page_reach t.1 in let k = may (omega (arith, p, rs)) in (k.0, λ w e j. all (page_reach y) (λ z f at. let l = k.1 z f at in omega (arith, l, rs)) (let l = reach_low d in omega (arith, l, rs)) w e j))
+      (λ (t : (x ≢ c) × (get_elem? books x ≡ some y)). let k = g.2 x y t.1 p in (k.0, all (page_reach y) k.1 (let l = k.1 c b has in omega (arith, l, up))))
       (at_set books c x d y h)),
 )
   where
@@ -77,8 +78,8 @@ gathered_step n m c books b d o has up stop may word g = (
         (λ (t : (w ≢ c) × (get_elem? books w ≡ some e)). old w e t.1)
         (at_set books c w d e j)
 
-meets : (z : BoardSize) (s : State (Unit {0}) View) (id m c : ℕ) (v : View) (b d : Page) (f : Page → Page) (r : Ruled z s) → get_elem? s.views id ≡ some v → Sole v c b → f b ≡ d → d.newest ≡ b.newest → Kept z d
-    → Gathered m (set r.0 c d) r.1 → Ruled z (stepped s z.resources m id [] (change f v) keeps)
+meets : (z : BoardSize) (s : State (Unit {0}) View) (id m c : ℕ) (v : View) (b d : Page) (f : Page → Page) (r : Ruled z s) → get_elem? s.views id ≡ some v → HasOnly v c b → f b ≡ d → d.newest ≡ b.newest → IsKeptNewest z d
+    → Gathered m (set r.0 c d) r.1 → Ruled z (stepped s z.resources m id [] (with_pages f v) keeps)
 meets z s id m c v b d f r at_id sole is same kept gat =
     let books = r.0 in
     let tied = r.4 in
@@ -86,14 +87,14 @@ meets z s id m c v b d f r at_id sole is same kept gat =
       set books c d,
       r.1,
       shared_step s.views books id c v b d f at_id sole is has r.2,
-      same_shared HasConductor s.views (λ k x. (k ≡ 0) × (r.1 ≡ x)) id v (change f v) at_id (λ k o h. h) (λ k o h. h) r.3,
+      same_shared HasConductor s.views (λ k x. (k ≡ 0) × (r.1 ≡ x)) id v (with_pages f v) at_id (λ k o h. h) (λ k o h. h) r.3,
       (
         length-set books c d ∙ tied.0,
-        (λ h in_h. subst (λ k. Served h k (set books c d)) (sym (get_or-set_other s.words z.resources h m 0 (λ q. omega (arith, q, in_h)))) (served_same h (slice_index s.words h) c books b d has same (tied.1 h in_h))),
-        (λ x y q. ⊎_elim (λ (t : (x ≡ c) × (d ≡ y)). subst (Kept z) t.1 kept) (λ (t : (x ≢ c) × (get_elem? books x ≡ some y)). tied.2 x y t.1) (at_set books c x d y q)),
-        subst (λ k. Gathered k (set books c d) r.1) (sym (get_or-set_same s.words z.resources m 0 (let l = r.5.2 in omega (arith, l)))) gat,
+        (λ h in_h. subst (λ k. IsServedNewest h k (set books c d)) (sym (get_or-set_other s.words z.resources h m 0 (λ q. omega (arith, q, in_h)))) (served_same h (slice_index s.words h) c books b d has same (tied.1 h in_h))),
+        (λ x y q. ⊎_elim (λ (t : (x ≡ c) × (d ≡ y)). subst (IsKeptNewest z) t.1 kept) (λ (t : (x ≢ c) × (get_elem? books x ≡ some y)). tied.2 x y t.1) (at_set books c x d y q)),
+        subst (λ k. Gathered k (set books c d) r.1) (sym (get_or-set_same s.words z.resources m 0 (let l = r.5.1 in omega (arith, l)))) gat,
       ),
-      (r.5.0, r.5.1, length-set s.words z.resources m ∙ r.5.2),
+      (r.5.0, length-set s.words z.resources m ∙ r.5.1),
     )
 
 pub arrivals_bound : (books : List Page) (m : ℕ) → ((c : ℕ) (b : Page) → get_elem? books c ≡ some b → b.tick ≤ m) → arrivals books ≤ length books * m
@@ -102,44 +103,31 @@ arrivals_bound (x ∷ xs) m h = let a = h 0 x refl in let q = arrivals_bound xs 
 
 pub few_arrivals : (z : BoardSize) (s : State (Unit {0}) View) (r : Ruled z s) → arrivals r.0 ≤ 160000
 few_arrivals z s r =
-    let t = arrivals_bound r.0 z.ticks (λ c b e. let k = (r.4.2 c b e).2 in let l = reach_high b in omega (arith, k, l)) in
-    let m = mul-le (length r.0) z.ticks 8 20000 (let x = r.5.0 in let n = r.4.0 in omega (arith, n, x)) r.5.1 in omega (arith, t, m)
+    let t = arrivals_bound r.0 z.ticks (λ c b e. let k = (r.4.2 c b e).within in let l = reach_high b in omega (arith, k, l)) in
+    let m = mul-le (length r.0) z.ticks 8 20000 (let x = r.5.0.cores.1 in let n = r.4.0 in omega (arith, n, x)) r.5.0.ticks.1 in omega (arith, t, m)
 
--- a core's seat has one page
-sole_page : (v : View) (c : ℕ) (b e : Page) (x : ℕ) → Sole v c b → Has v x e → b ≡ e
-sole_page v c b e x sole h = let f : some (Some b) ≡ some (Some e) = sym sole.0 ∙ subst (λ j. Has v j e) (sole.1 x e h) h in cc
-
-pub arrive_allowed : (z : BoardSize) (slots id : ℕ) (me : Me (Unit {0}) View) (c : ℕ) (b : Page) → Sole me.0 c b → b.admitted ≡ true → Allows (Ruled z) slots id me z.resources (λ n. (n + 1) % 2 ^ 64) (TellsArrival (step slots z.resources 1 0 none) me)
+pub arrive_allowed : (z : BoardSize) (slots id : ℕ) (me : Me (Unit {0}) View) (c : ℕ) (b : Page) → HasOnly me.0 c b → b.admitted ≡ true → Allows (Ruled z) slots id me z.resources (λ n. (n + 1) % 2 ^ 64) (TellsArrival (step slots z.resources 1 0 none) me)
 arrive_allowed z slots id me c b sole in_tick s r _ at_id fits =
     let n = slice_index s.words z.resources in
     let m = (n + 1) % 2 ^ 64 in
     let books = r.0 in
     let has : get_elem? books c ≡ some b = r.2.0 id c b (me.0, at_id, sole.0) in
-    let rs : reach b ≡ suc b.tick = ap (λ k. reach_of k b.tick) in_tick in
-    let d = arrived b in
+    let rs : page_reach b ≡ suc b.tick = ap (λ k. reach_of k b.tick) in_tick in
+    let d = page_with_arrival b in
     let k = r.4.2 c b has in
     let g = r.4.3 in
     let open_now = g.2 c b has (omega (arith, rs)) in
-    let one = ap opening_1 open_now.0 in
-    let none_aborted = ap abort_1 open_now.0 in
+    let one = ap opening_count open_now.0 in
+    let none_aborted = ap abort_count open_now.0 in
     let few = few_arrivals z s r in
-    let more = arrivals_set books c b d has in
-    let full = k.2 in (
-      change arrived me.0,
+    let more = arrivals_set books c b d has in (
+      with_pages page_with_arrival me.0,
       keeps,
       tt,
-      meets z s id m c me.0 b d arrived r at_id sole refl refl (k.0, subst (λ x. Ticks x b.newest) rs k.1, omega (arith, full, rs))
+      meets z s id m c me.0 b d page_with_arrival r at_id sole refl refl (kept_arrival z b k in_tick)
           (gathered_step n m c books b d r.1 has (omega arith) (g.1 c b has) (λ _. (open_now.0, λ x e h. let l = open_now.1 x e h in omega (arith, l, rs))) (let w = g.0 in omega (arith, w, one, none_aborted, few, more)) g),
-      (
-        refl,
-        λ x e h. let same = sole_page me.0 c b e x sole h in
-            (subst (λ (p : Page). Ticks (suc p.tick) p.newest) same (subst (λ j. Ticks j b.newest) rs k.1), let q = ap (λ (p : Page). p.tick) same in let limit = r.5.1 in omega (arith, q, full, rs, limit)),
-      ),
+      refl,
     )
-
-ticks_more : (r q : ℕ) (es : List Entry) → Ticks r es → r ≤ q → Ticks q es
-ticks_more r q [] k le = tt
-ticks_more r q (e ∷ es) k le = let h = k.0 in (omega (arith, h, le), k.1)
 
 tick_of : Page → ℕ
 tick_of b = b.tick
@@ -166,57 +154,55 @@ at_list [] d b e = absurd (some-ne-none b (sym e))
 at_list (x ∷ xs) zero b e = ap (λ (y : Page). some y.tick) (some-injective x b e)
 at_list (x ∷ xs) (suc d) b e = at_list xs d b e
 
-bit : (o : Conductor) → opening_1 o ≤ 1
+bit : (o : Conductor) → opening_count o ≤ 1
 bit Unopened = omega arith
 bit Opened = omega arith
 bit Aborted = omega arith
 
-is_open : (o : Conductor) → opening_1 o ≡ 1 → o ≡ Opened
+is_open : (o : Conductor) → opening_count o ≡ 1 → o ≡ Opened
 is_open Unopened e = absurd (omega (arith, e))
 is_open Opened e = refl
 is_open Aborted e = absurd (omega (arith, e))
 
-is_aborted : (o : Conductor) → 0 < abort_1 o → o ≡ Aborted
+is_aborted : (o : Conductor) → 0 < abort_count o → o ≡ Aborted
 is_aborted Unopened e = absurd (omega (arith, e))
 is_aborted Opened e = absurd (omega (arith, e))
 is_aborted Aborted e = refl
 
 -- enough arrivals let a core into its tick
-let_in : (books : List Page) (n t : ℕ) (o : Conductor) → Gathered n books o → 1 + length books * t ≤ arrivals books + opening_1 o → (o ≡ Opened) × ((x : ℕ) (e : Page) → get_elem? books x ≡ some e → t ≤ e.tick)
+let_in : (books : List Page) (n t : ℕ) (o : Conductor) → Gathered n books o → 1 + length books * t ≤ arrivals books + opening_count o → (o ≡ Opened) × ((x : ℕ) (e : Page) → get_elem? books x ≡ some e → t ≤ e.tick)
 let_in books n t o g enough =
     let len = list_length books in
     let sum = list_total books in
     let mul : length (ticks_list books) * t ≡ length books * t = ap (λ k. k * t) len in
-    let a = admits (ticks_list books) (opening_1 o) t (bit o)
+    let a = admits (ticks_list books) (opening_count o) t (bit o)
     (λ d x at pos. let u = list_at books d x at in let eq = u.2 in let high = reach_high u.0 in let up = g.2 d u.0 u.1 (omega (arith, eq, high, pos)) in
-    (ap opening_1 up.0, λ f y j. let v = list_at books f y j in let vq = v.2 in step_le u.0 v.0 x y eq vq high (up.1 f v.0 v.1)))
+    (ap opening_count up.0, λ f y j. let v = list_at books f y j in let vq = v.2 in step_le u.0 v.0 x y eq vq high (up.1 f v.0 v.1)))
     (omega (arith, enough, sum, mul)) in
     (is_open o a.0, λ x e at. a.1 x e.tick (at_list books x e at))
   where
-    step_le : (p q : Page) (x y : ℕ) → p.tick ≡ x → q.tick ≡ y → p.tick ≤ reach p → reach p ≤ suc q.tick → x ≤ suc y
+    step_le : (p q : Page) (x y : ℕ) → p.tick ≡ x → q.tick ≡ y → p.tick ≤ page_reach p → page_reach p ≤ suc q.tick → x ≤ suc y
     step_le p q x y a b h l = omega (arith, a, b, h, l)
 
-looks : (z : BoardSize) (s : State (Unit {0}) View) (id n c : ℕ) (v : View) (b : Page) (f : Page → Page) (r : Ruled z s) (h q : Bool) → get_elem? s.views id ≡ some v → Sole v c b → b.admitted ≡ false → b.tick < z.ticks → f b ≡ seen_if h q b → n ≡ slice_index s.words z.resources
+looks : (z : BoardSize) (s : State (Unit {0}) View) (id n c : ℕ) (v : View) (b : Page) (f : Page → Page) (r : Ruled z s) (h q : Bool) → get_elem? s.views id ≡ some v → HasOnly v c b → b.admitted ≡ false → b.tick < z.ticks → f b ≡ page_after_look_if h q b → n ≡ slice_index s.words z.resources
     → (h ≡ true → r.1 ≡ Aborted) → (q ≡ true → (r.1 ≡ Opened) × ((x : ℕ) (e : Page) → get_elem? r.0 x ≡ some e → b.tick ≤ e.tick))
-    → Ruled z (stepped s z.resources n id [] (change f v) keeps)
+    → Ruled z (stepped s z.resources n id [] (with_pages f v) keeps)
 looks z s id n c v b f r true q at_id sole out room is word stop let_go =
     let has : get_elem? r.0 c ≡ some b = r.2.0 id c b (v, at_id, sole.0) in
     let d : Page = record { newest = b.newest; tick = b.tick; admitted = b.admitted; stopped = true } in
     let same = arrivals_set r.0 c b d has in let eq : arrivals r.0 ≡ arrivals (set r.0 c d) = omega (arith, same) in
-    meets z s id n c v b d f r at_id sole is refl (r.4.2 c b has) (gathered_step n n c r.0 b d r.1 has (omega arith) (λ _. stop refl) (r.4.3.2 c b has) (word ∙ r.4.3.0 ∙ ap (λ k. abort_1 r.1 * 4294967296 + (k + opening_1 r.1)) eq) (subst (λ k. Gathered k r.0 r.1) (sym word) r.4.3))
+    meets z s id n c v b d f r at_id sole is refl (kept_look z true q b (r.4.2 c b has) out room) (gathered_step n n c r.0 b d r.1 has (omega arith) (λ _. stop refl) (r.4.3.2 c b has) (word ∙ r.4.3.0 ∙ ap (λ k. abort_count r.1 * 4294967296 + (k + opening_count r.1)) eq) (subst (λ k. Gathered k r.0 r.1) (sym word) r.4.3))
 looks z s id n c v b f r false true at_id sole out room is word stop let_go =
     let has : get_elem? r.0 c ≡ some b = r.2.0 id c b (v, at_id, sole.0) in
     let d : Page = record { newest = b.newest; tick = b.tick; admitted = true; stopped = b.stopped } in
     let same = arrivals_set r.0 c b d has in let eq : arrivals r.0 ≡ arrivals (set r.0 c d) = omega (arith, same) in
-    let k = r.4.2 c b has in
-    let l = reach_low b in
     let go = let_go refl in
-    meets z s id n c v b d f r at_id sole is refl (k.0, ticks_more (reach b) (suc b.tick) b.newest k.1 l, omega (arith, room))
-    (gathered_step n n c r.0 b d r.1 has (omega arith) (r.4.3.1 c b has) (λ _. (go.0, λ x e h. let t = go.1 x e h in omega (arith, t))) (word ∙ r.4.3.0 ∙ ap (λ k. abort_1 r.1 * 4294967296 + (k + opening_1 r.1)) eq) (subst (λ k. Gathered k r.0 r.1) (sym word) r.4.3))
+    meets z s id n c v b d f r at_id sole is refl (kept_look z false true b (r.4.2 c b has) out room)
+    (gathered_step n n c r.0 b d r.1 has (omega arith) (r.4.3.1 c b has) (λ _. (go.0, λ x e h. let t = go.1 x e h in omega (arith, t))) (word ∙ r.4.3.0 ∙ ap (λ k. abort_count r.1 * 4294967296 + (k + opening_count r.1)) eq) (subst (λ k. Gathered k r.0 r.1) (sym word) r.4.3))
 looks z s id n c v b f r false false at_id sole out room is word stop let_go =
     let has : get_elem? r.0 c ≡ some b = r.2.0 id c b (v, at_id, sole.0) in
     let same = arrivals_set r.0 c b b has in let eq : arrivals r.0 ≡ arrivals (set r.0 c b) = omega (arith, same) in
-    meets z s id n c v b b f r at_id sole is refl (r.4.2 c b has) (gathered_step n n c r.0 b b r.1 has (omega arith) (r.4.3.1 c b has) (r.4.3.2 c b has) (word ∙ r.4.3.0 ∙ ap (λ k. abort_1 r.1 * 4294967296 + (k + opening_1 r.1)) eq) (subst (λ k. Gathered k r.0 r.1) (sym word) r.4.3))
+    meets z s id n c v b b f r at_id sole is refl (r.4.2 c b has) (gathered_step n n c r.0 b b r.1 has (omega arith) (r.4.3.1 c b has) (r.4.3.2 c b has) (word ∙ r.4.3.0 ∙ ap (λ k. abort_count r.1 * 4294967296 + (k + opening_count r.1)) eq) (subst (λ k. Gathered k r.0 r.1) (sym word) r.4.3))
 
 lt_says : (a b : ℕ) → ltb a b ≡ true → a < b
 lt_says a b e = ltb-true a b e
@@ -224,19 +210,19 @@ lt_says a b e = ltb-true a b e
 le_says : (a b : ℕ) → leb a b ≡ true → a ≤ b
 le_says a b e = leb-true a b e
 
-pub look_allowed : (z : BoardSize) (slots id : ℕ) (me : Me (Unit {0}) View) (c : ℕ) (b : Page) → Sole me.0 c b → b.admitted ≡ false → b.tick < z.ticks → Allows (Ruled z) slots id me z.resources (λ n. n) (TellsLook z.cores (step slots z.resources 0 0 none) me)
+pub look_allowed : (z : BoardSize) (slots id : ℕ) (me : Me (Unit {0}) View) (c : ℕ) (b : Page) → HasOnly me.0 c b → b.admitted ≡ false → b.tick < z.ticks → Allows (Ruled z) slots id me z.resources (λ n. n) (TellsLook z.cores (step slots z.resources 0 0 none) me)
 look_allowed z slots id me c b sole out room s r _ at_id fits =
     let n = slice_index s.words z.resources in
     let few = few_arrivals z s r in
     let o_bit = bit r.1 in
-    let low : arrivals r.0 + opening_1 r.1 < 4294967296 = omega (arith, few, o_bit) in
-    let high_is : n / 4294967296 ≡ abort_1 r.1 = ap (λ k. k / 4294967296) r.4.3.0 ∙ div-mul-add (abort_1 r.1) 4294967296 (arrivals r.0 + opening_1 r.1) low in
-    let low_is : n % 4294967296 ≡ arrivals r.0 + opening_1 r.1 = ap (λ k. k % 4294967296) r.4.3.0 ∙ mod-mul-add (abort_1 r.1) 4294967296 (arrivals r.0 + opening_1 r.1) low in
+    let low : arrivals r.0 + opening_count r.1 < 4294967296 = omega (arith, few, o_bit) in
+    let high_is : n / 4294967296 ≡ abort_count r.1 = ap (λ k. k / 4294967296) r.4.3.0 ∙ div-mul-add (abort_count r.1) 4294967296 (arrivals r.0 + opening_count r.1) low in
+    let low_is : n % 4294967296 ≡ arrivals r.0 + opening_count r.1 = ap (λ k. k % 4294967296) r.4.3.0 ∙ mod-mul-add (abort_count r.1) 4294967296 (arrivals r.0 + opening_count r.1) low in
     let len : length r.0 * b.tick ≡ z.cores * b.tick = ap (λ k. k * b.tick) r.4.0 in (
-      change (looked z.cores n) me.0,
+      with_pages (page_after_look z.cores n) me.0,
       keeps,
       tt,
-      looks z s id n c me.0 b (looked z.cores n) r (ltb 0 (n / 4294967296)) (leb (1 + z.cores * b.tick) (n % 4294967296)) at_id sole out room refl refl
+      looks z s id n c me.0 b (page_after_look z.cores n) r (ltb 0 (n / 4294967296)) (leb (1 + z.cores * b.tick) (n % 4294967296)) at_id sole out room refl refl
           (λ e. is_aborted r.1 (let h = lt_says 0 (n / 4294967296) e in omega (arith, h, high_is)))
           (λ e. let_in r.0 n b.tick r.1 r.4.3 (let h = le_says (1 + z.cores * b.tick) (n % 4294967296) e in omega (arith, h, low_is, len))),
       (refl, λ x e h high. at_start e x (r.2.0 id x e (me.0, at_id, h)) (is_aborted r.1 (let l = lt_says 0 (n / 4294967296) high in omega (arith, l, high_is)))),
@@ -244,9 +230,9 @@ look_allowed z slots id me c b sole out room s r _ at_id fits =
   where
     -- after an abort nobody is or was admitted
     at_start : (e : Page) (x : ℕ) → get_elem? r.0 x ≡ some e → r.1 ≡ Aborted → e.tick ≡ 0
-    at_start e x at off = by_reach (reach e) refl
+    at_start e x at off = by_reach (page_reach e) refl
       where
-        by_reach : (k : ℕ) → reach e ≡ k → e.tick ≡ 0
+        by_reach : (k : ℕ) → page_reach e ≡ k → e.tick ≡ 0
         by_reach zero is = let l = reach_high e in omega (arith, l, is)
         by_reach (suc k) is = absurd (clash (sym (r.4.3.2 x e at (omega (arith, is))).0 ∙ off))
           where

@@ -8,8 +8,8 @@ use Rattle.msrp_board.specs.declared.pages.Page.{Page}
 use Rattle.msrp_board.specs.declared.pages.View.{View}
 use Rattle.msrp_board.specs.declared.books.BoardSize.{BoardSize}
 use Rattle.msrp_board.specs.declared.books.Conductor.{Conductor}
-use Rattle.msrp_board.specs.Boards.{only_at, none_at, either, together}
-use Rattle.msrp_board.specs.Rule.{HasConductor, Has, Ruled, view_without, view_alone, view_both, spent}
+use Rattle.msrp_board.specs.Steps.{only_at, none_at, either, together}
+use Rattle.msrp_board.specs.Inside.Rule.{HasConductor, HasPage, Ruled, view_without, view_alone, view_both, spent}
 use Rattle.msrp_board.proofs.Sharing.{split_shared, join_shared}
 
 abbrev Slots : Type 0
@@ -93,7 +93,7 @@ pub splits : (z : BoardSize) (id c : ℕ) (v : View) → Splits (Ruled z) id v (
 splits z id c v s r at_id = (
   r.0,
   r.1,
-  split_shared Has s.views (λ k b. get_elem? r.0 k ≡ some b) id v (view_alone c v) (view_without c v) at_id
+  split_shared HasPage s.views (λ k b. get_elem? r.0 k ≡ some b) id v (view_alone c v) (view_without c v) at_id
       (λ k b h. (of_only c v.pages k b h).0) (λ k b h. (of_none c v.pages k b h).0)
       (λ k b d h g. (of_none c v.pages k d g).1 (of_only c v.pages k b h).1)
       (λ k b h. either_part c v.pages k b h) r.2,
@@ -107,7 +107,7 @@ pub joins : (z : BoardSize) (id : ℕ) (v : View) (other : ℕ) (w : View) → J
 joins z id v other w s r at_id apart at_other = (
   r.0,
   r.1,
-  join_shared Has s.views (λ k b. get_elem? r.0 k ≡ some b) id other v w (view_both v w) spent at_id apart at_other
+  join_shared HasPage s.views (λ k b. get_elem? r.0 k ≡ some b) id other v w (view_both v w) spent at_id apart at_other
       (λ k b h. of_together v.pages w.pages k b h) (λ k b h. to_left v.pages w.pages k b h)
       (λ k b h n. to_right v.pages w.pages k b h n) (λ k b h. none_in k b h) r.2,
   join_shared HasConductor s.views (λ k x. (k ≡ 0) × (r.1 ≡ x)) id other v w (view_both v w) spent at_id apart at_other

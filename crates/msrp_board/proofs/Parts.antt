@@ -17,50 +17,17 @@ use Rattle.msrp_board.specs.declared.books.Conductor.{Conductor}
 use Rattle.msrp_board.specs.declared.held.CoreState.{CoreState}
 use Rattle.msrp_board.specs.declared.pages.Page.{Page}
 use Rattle.msrp_board.specs.declared.pages.View.{View}
-use Rattle.msrp_board.specs.Boards.{BoardModel, SeatModel, only_at, none_at, either, together, alone, without, both}
-use Rattle.msrp_board.specs.Rule.{view_alone, view_without, view_both}
-use Rattle.msrp_board.specs.Newest.{claim}
-use Rattle.msrp_board.specs.Held.{told, seen_as, page_at, state_of, state_at, Tie, Low, IsBelow, IsSeat}
+use Rattle.msrp_board.specs.Seats.{BoardModel, SeatModel}
+use Rattle.msrp_board.specs.Steps.{only_at, none_at, either, together, alone, without, both}
+use Rattle.msrp_board.specs.Inside.Rule.{IsKeptNewest, view_alone, view_without, view_both}
+use Rattle.msrp_board.specs.Inside.Held.{told, seen_as, page_at, state_of, state_at, AreStates, IsLow, IsHeld}
+use Rattle.msrp_board.proofs.SeatBooks.{at-only_same, at-only_other, at-none_same, at-none_other, at-together}
 use Rattle.msrp_board.proofs.Parting.{of_only, of_none, of_together}
 use Rattle.msrp_board.proofs.Sharing.{at_length}
 use Rattle.msrp_board.proofs.Ties.{get_or_at}
 use Rattle.msrp_board.proofs.Told.{none_past}
 
 -- ---- what is kept
-
-only_here : (c : ℕ) (l : List (Option Page)) → page_at (only_at c l) c ≡ page_at l c
-only_here c [] = refl
-only_here zero (x ∷ xs) = refl
-only_here (suc c) (x ∷ xs) = only_here c xs
-
-only_else : (c d : ℕ) (l : List (Option Page)) → d ≢ c → page_at (only_at c l) d ≡ None
-only_else c d [] n = refl
-only_else zero zero (x ∷ xs) n = absurd (n refl)
-only_else zero (suc d) (x ∷ xs) n = refl
-only_else (suc c) zero (x ∷ xs) n = refl
-only_else (suc c) (suc d) (x ∷ xs) n = only_else c d xs (λ e. n (ap suc e))
-
-none_here : (c : ℕ) (l : List (Option Page)) → page_at (none_at c l) c ≡ None
-none_here c [] = refl
-none_here zero (x ∷ xs) = refl
-none_here (suc c) (x ∷ xs) = none_here c xs
-
-none_else : (c d : ℕ) (l : List (Option Page)) → d ≢ c → page_at (none_at c l) d ≡ page_at l d
-none_else c d [] n = refl
-none_else zero zero (x ∷ xs) n = absurd (n refl)
-none_else zero (suc d) (x ∷ xs) n = refl
-none_else (suc c) zero (x ∷ xs) n = refl
-none_else (suc c) (suc d) (x ∷ xs) n = none_else c d xs (λ e. n (ap suc e))
-
-page_either : (l m : List (Option Page)) (c : ℕ) → page_at (together l m) c ≡ either (page_at l c) (page_at m c)
-page_either [] m c = refl
-page_either (x ∷ xs) [] c = sym (either_none (page_at (x ∷ xs) c))
-  where
-    either_none : (o : Option Page) → either o None ≡ o
-    either_none None = refl
-    either_none (Some b) = refl
-page_either (x ∷ xs) (y ∷ ys) zero = refl
-page_either (x ∷ xs) (y ∷ ys) (suc c) = page_either xs ys c
 
 or_state : (x y : Option Page) → option_or (option_map state_of x) (option_map state_of y) ≡ option_map state_of (either x y)
 or_state None y = refl
@@ -78,17 +45,17 @@ at_nones zero d h = absurd (omega (arith, h))
 at_nones (suc n) zero h = refl
 at_nones (suc n) (suc d) h = at_nones n d (omega (arith, h))
 
-pub only_tie : (held : List (Option CoreState)) (pages : List (Option Page)) (c : ℕ) → c < 8 → Tie held pages → Tie (set nothing c (get_or held c None)) (only_at c pages)
+pub only_tie : (held : List (Option CoreState)) (pages : List (Option Page)) (c : ℕ) → c < 8 → AreStates held pages → AreStates (set nothing c (get_or held c None)) (only_at c pages)
 only_tie held pages c low tie d h = dite (ℕ_discrete d c)
     (λ q. subst (λ k. get_elem? (set nothing c (get_or held c None)) k ≡ some (state_at (only_at c pages) k)) (sym q)
-    (set_here nothing c (get_or held c None) (omega (arith, low)) ∙ ap some (get_or_at held c (state_at pages c) None (tie c low) ∙ ap (option_map state_of) (sym (only_here c pages)))))
-    (λ n. set_else nothing c d (get_or held c None) n ∙ at_nones 8 d h ∙ ap some (ap (option_map state_of) (sym (only_else c d pages n))))
+    (set_here nothing c (get_or held c None) (omega (arith, low)) ∙ ap some (get_or_at held c (state_at pages c) None (tie c low) ∙ ap (option_map state_of) (sym (at-only_same c pages)))))
+    (λ n. set_else nothing c d (get_or held c None) n ∙ at_nones 8 d h ∙ ap some (ap (option_map state_of) (sym (at-only_other c d pages n))))
 
-pub none_tie : (held : List (Option CoreState)) (pages : List (Option Page)) (c : ℕ) → c < 8 → Tie held pages → Tie (set held c None) (none_at c pages)
+pub none_tie : (held : List (Option CoreState)) (pages : List (Option Page)) (c : ℕ) → c < 8 → AreStates held pages → AreStates (set held c None) (none_at c pages)
 none_tie held pages c low tie d h = dite (ℕ_discrete d c)
     (λ q. subst (λ k. get_elem? (set held c None) k ≡ some (state_at (none_at c pages) k)) (sym q)
-    (set_here held c None (at_length held c (state_at pages c) (tie c low)) ∙ ap some (ap (option_map state_of) (sym (none_here c pages)))))
-    (λ n. set_else held c d None n ∙ tie d h ∙ ap some (ap (option_map state_of) (sym (none_else c d pages n))))
+    (set_here held c None (at_length held c (state_at pages c) (tie c low)) ∙ ap some (ap (option_map state_of) (sym (at-none_same c pages)))))
+    (λ n. set_else held c d None n ∙ tie d h ∙ ap some (ap (option_map state_of) (sym (at-none_other c d pages n))))
 
 -- the first n cores of both
 abbrev pub JoinedBelow : ℕ → List (Option CoreState) → List (Option CoreState) → List (Option CoreState) → Type 0
@@ -99,11 +66,11 @@ joined_step held other both n m is low old d h = dite (ℕ_discrete d n)
     (λ q. subst (λ k. get_elem? (set both n (option_or (get_or held n None) (get_or other n None))) k ≡ some (option_or (get_or held k None) (get_or other k None))) (sym q) (set_here both n _ low))
     (λ ne. set_else both n d _ ne ∙ old d (omega (arith, is, h, ne)))
 
-pub joined_tie : (held other both : List (Option CoreState)) (pages more : List (Option Page)) → JoinedBelow 8 held other both → Tie held pages → Tie other more → Tie both (together pages more)
+pub joined_tie : (held other both : List (Option CoreState)) (pages more : List (Option Page)) → JoinedBelow 8 held other both → AreStates held pages → AreStates other more → AreStates both (together pages more)
 joined_tie held other both pages more joined one two d h = joined d h ∙ ap some (
     ap (λ x. option_or x (get_or other d None)) (get_or_at held d (state_at pages d) None (one d h))
     ∙ ap (λ x. option_or (state_at pages d) x) (get_or_at other d (state_at more d) None (two d h))
-    ∙ or_state (page_at pages d) (page_at more d) ∙ ap (option_map state_of) (sym (page_either pages more d)))
+    ∙ or_state (page_at pages d) (page_at more d) ∙ ap (option_map state_of) (sym (at-together pages more d)))
 
 -- ---- what is seen
 
@@ -135,26 +102,28 @@ without_seen z t u c me now seat at is seen = ap (λ (m : Me (Unit {0}) View). s
 
 -- ---- the parts are seats
 
-pub alone_is_seat : (z : BoardSize) (held own : List (Option CoreState)) (o : Option Conductor) (c : ℕ) (me now : Me (Unit {0}) View) → IsSeat z held o me → now ≡ (view_alone c me.0, me.1) → Tie own (only_at c me.0.pages) → IsSeat z own None now
-alone_is_seat z held own o c me now s is tie = subst (IsSeat z own None) (sym is) (record {
+pub alone_is_seat : (z : BoardSize) (held own : List (Option CoreState)) (o : Option Conductor) (c : ℕ) (me now : Me (Unit {0}) View) → IsHeld z held o me → now ≡ (view_alone c me.0, me.1) → AreStates own (only_at c me.0.pages) → IsHeld z own None now
+alone_is_seat z held own o c me now s is tie = subst (IsHeld z own None) (sym is) (record {
   no_slot = s.no_slot;
-  tie = tie;
+  limits = s.limits;
+  states = tie;
   conducts = refl;
-  low = λ d b h. s.low d b (of_only c me.0.pages d b h).0;
-  below = λ d b h. s.below d b (of_only c me.0.pages d b h).0;
+  cores = λ d b h. s.cores d b (of_only c me.0.pages d b h).0;
+  kept = λ d b h. s.kept d b (of_only c me.0.pages d b h).0;
 })
 
-pub without_is_seat : (z : BoardSize) (held others : List (Option CoreState)) (o : Option Conductor) (c : ℕ) (me now : Me (Unit {0}) View) → IsSeat z held o me → now ≡ (view_without c me.0, []) → Tie others (none_at c me.0.pages) → IsSeat z others o now
-without_is_seat z held others o c me now s is tie = subst (IsSeat z others o) (sym is) (record {
+pub without_is_seat : (z : BoardSize) (held others : List (Option CoreState)) (o : Option Conductor) (c : ℕ) (me now : Me (Unit {0}) View) → IsHeld z held o me → now ≡ (view_without c me.0, []) → AreStates others (none_at c me.0.pages) → IsHeld z others o now
+without_is_seat z held others o c me now s is tie = subst (IsHeld z others o) (sym is) (record {
   no_slot = refl;
-  tie = tie;
+  limits = s.limits;
+  states = tie;
   conducts = s.conducts;
-  low = λ d b h. s.low d b (of_none c me.0.pages d b h).0;
-  below = λ d b h. s.below d b (of_none c me.0.pages d b h).0;
+  cores = λ d b h. s.cores d b (of_none c me.0.pages d b h).0;
+  kept = λ d b h. s.kept d b (of_none c me.0.pages d b h).0;
 })
 
 -- a core whose book a seat has is one of the first eight
-pub core_low : (board : BoardModel) (v : View) (seat : SeatModel) (c : ℕ) → Low v → seen_as board v ≡ seat → is_some (slice_index_or seat.books c None) ≡ true → c < 8
+pub core_low : (board : BoardModel) (v : View) (seat : SeatModel) (c : ℕ) → IsLow v → seen_as board v ≡ seat → is_some (slice_index_or seat.books c None) ≡ true → c < 8
 core_low board v seat c low seen has = ⊎_elim (λ h. h) (λ past. absurd (true≢false (sym has ∙ ap (λ (s : SeatModel). is_some (slice_index_or s.books c None)) (sym seen) ∙ none_past v c low past))) (cases c)
   where
     cases : (k : ℕ) → (k < 8) ⊎ (8 ≤ k)
@@ -166,13 +135,14 @@ or_either : {X : Type 0} (x y : Option X) → option_or x y ≡ either x y
 or_either None y = refl
 or_either (Some a) y = refl
 
-pub both_is_seat : (z y : BoardSize) (held more all : List (Option CoreState)) (o p q : Option Conductor) (me other now : Me (Unit {0}) View) → y ≡ z → IsSeat z held o me → IsSeat y more p other → q ≡ option_or o p → now ≡ (view_both me.0 other.0, me.1) → Tie all (together me.0.pages other.0.pages) → IsSeat z all q now
-both_is_seat z y held more all o p q me other now size s r or is tie = subst (IsSeat z all q) (sym is) (record {
+pub both_is_seat : (z y : BoardSize) (held more all : List (Option CoreState)) (o p q : Option Conductor) (me other now : Me (Unit {0}) View) → y ≡ z → IsHeld z held o me → IsHeld y more p other → q ≡ option_or o p → now ≡ (view_both me.0 other.0, me.1) → AreStates all (together me.0.pages other.0.pages) → IsHeld z all q now
+both_is_seat z y held more all o p q me other now size s r or is tie = subst (IsHeld z all q) (sym is) (record {
   no_slot = s.no_slot;
-  tie = tie;
+  limits = s.limits;
+  states = tie;
   conducts = or ∙ or_either o p ∙ ap (λ x. either x p) s.conducts ∙ ap (either me.0.conductor) r.conducts;
-  low = λ d b h. ⊎_elim (s.low d b) (r.low d b) (of_together me.0.pages other.0.pages d b h);
-  below = λ d b h. ⊎_elim (s.below d b) (λ k. subst (λ (x : BoardSize). IsBelow x.resources (claim b.newest)) size (r.below d b k)) (of_together me.0.pages other.0.pages d b h);
+  cores = λ d b h. ⊎_elim (s.cores d b) (λ k. subst (λ (x : BoardSize). d < x.cores) size (r.cores d b k)) (of_together me.0.pages other.0.pages d b h);
+  kept = λ d b h. ⊎_elim (s.kept d b) (λ k. subst (λ (x : BoardSize). IsKeptNewest x b) size (r.kept d b k)) (of_together me.0.pages other.0.pages d b h);
 })
 
 either_told : (x y : Option Page) → option_map told (either x y) ≡ either (option_map told x) (option_map told y)

@@ -6,7 +6,7 @@ use native.Mathlib.Decide.{ℕ_discrete}
 use lib.ListN.{get_elem?}
 use Rattle.std.proofs.lemmas.List.{length-set}
 use Rattle.atomic_table.proofs.Lists.{at_set, at_longer, at_last, set_here, set_else}
-use Rattle.msrp_board.specs.Rule.{OwnsBy, SharedBy}
+use Rattle.msrp_board.specs.Inside.Rule.{OwnsBy, SharedBy}
 
 pub at_length : {A : Type 0} (l : List A) (i : ℕ) (a : A) → get_elem? l i ≡ some a → i < length l
 at_length [] i a e = absurd (some-ne-none a (sym e))

@@ -8,12 +8,13 @@ ghost use Rattle.msrp_board.specs.declared.answers.Look.TheVariants.{Wait, Go, S
 ghost use Rattle.msrp_board.specs.declared.answers.SeatPhase.TheVariants.{Waiting, Admitted};
 ghost use Rattle.msrp_board.specs.declared.books.Book.{Book};
 ghost use Rattle.msrp_board.specs.declared.books.Conductor.TheVariants.{Unopened, Opened, Aborted};
-ghost use Rattle.msrp_board.specs.Rule.{next, serving};
-ghost use Rattle.msrp_board.specs.Boards.{book_at, IsSize, IsCoreSeat, IsIn, MayAct, LockIs, IsBehind, HasAnother, HasAll, first_seat, with_entry, admitted, stopped, arrived, conducted, alone, without, both};
+ghost use Rattle.msrp_board.specs.Books.{IsSize};
+ghost use Rattle.msrp_board.specs.Seats.{book_at, IsCoreSeat, IsIn, MayAct, HasAnother, HasAll, first_seat};
+ghost use Rattle.msrp_board.specs.Steps.{IsBehind, with_entry, with_admission, with_stop, with_arrival, with_conductor, alone, without, both};
 
 use crate::answers::{Asked, BoardError, Look, Polled};
 use crate::books::{BoardSize, Conductor};
-use crate::held::{fresh, only, others, own, union};
+use crate::held::{Claim, fresh, only, others, own, union};
 use crate::pages::{Tickets, View};
 use crate::seat::BoardSeat;
 use crate::steps;
@@ -30,8 +31,8 @@ pub struct Board {
 }
 
 impl Model for Board {
-    ghost use Rattle.msrp_board.specs.Boards.{BoardModel};
-    ghost use Rattle.msrp_board.specs.Held.{IsBoard};
+    ghost use Rattle.msrp_board.specs.Seats.{BoardModel};
+    ghost use Rattle.msrp_board.specs.Inside.Held.{IsBoard};
 
     ghost Value = { BoardModel };
 
@@ -49,7 +50,7 @@ impl Board {
         resources: u32,
         ticks: u32,
     ) -> Result<(Board, BoardSeat), BoardError>
-        ensures limits { (result ≡ Err B1) ↔ ¬ IsSize cores resources ticks }
+        ensures limits { (result ≡ Err B1) ↔ ¬ IsSize record { cores = cores; resources = resources; ticks = ticks } }
         ensures size { IfOk result (λ r. r.0.size ≡ record { cores = cores; resources = resources; ticks = ticks }) }
         ensures seat { IfOk result (λ r. r.1 ≡ first_seat r.0) }
     {
@@ -75,6 +76,13 @@ impl Board {
         Ok((Board { table, size }, seat))
     }
 
+    /// How large the board is.
+    pub fn size(&self) -> BoardSize
+        ensures { result ≡ self.now.size }
+    {
+        self.size
+    }
+
     /// Requests the resource for the core of the seat: one `fetch_add` on its ticket word. With none ahead it is
     /// granted at once (MSRP's request; a first-in-first-out queue).
     pub fn ask(&self, seat: &mut BoardSeat, res: ResId) -> Asked
@@ -85,13 +93,12 @@ impl Board {
         ensures behind { IsBehind res.0 result.place seat.old }
     {
         let (core, state) = own(&seat.held);
-        let found = steps::ask(&self.table.shared, &mut seat.place, res.0 as usize);
-        let (next, serving) = halves(found);
+        let word = steps::ask(&self.table.shared, &mut seat.place, res.0 as usize);
         let asked = Asked {
-            place: next + serving,
-            ahead: next - serving,
+            place: word.next + word.serving,
+            ahead: word.next - word.serving,
         };
-        seat.held[core] = Some(state.asked(res.0, asked.place, asked.ahead));
+        seat.held[core] = Some(state.with_ask(res.0, asked.place, asked.ahead));
         asked
     }
 
@@ -100,21 +107,19 @@ impl Board {
     pub fn poll(&self, seat: &mut BoardSeat) -> Polled
         requires board { seat.old.board ≡ self.now }
         requires queued { (g : ResId) × MayAct (Queued g) seat.old }
-        ensures entry { (g : ResId) → LockIs seat.old (Queued g) → seat.new ≡ with_entry g result.place (Poll result.granted) seat.old }
-        ensures behind { (g : ResId) → LockIs seat.old (Queued g) → IsBehind g.0 result.place seat.old }
+        ensures entry { (g : ResId) → MayAct (Queued g) seat.old → seat.new ≡ with_entry g result.place (Poll result.granted) seat.old }
+        ensures behind { (g : ResId) → MayAct (Queued g) seat.old → IsBehind g.0 result.place seat.old }
     {
         let (core, state) = own(&seat.held);
-        let found = steps::poll(
-            &self.table.shared,
-            &mut seat.place,
-            state.claim.res() as usize,
-        );
-        let (next, serving) = halves(found);
-        let polled = Polled {
-            place: next + serving,
-            granted: 2 * serving == state.claim.turn(),
+        let Claim::Waits { res, turn } = state.claim else {
+            unreachable!()
         };
-        seat.held[core] = Some(state.polled(polled.granted));
+        let word = steps::poll(&self.table.shared, &mut seat.place, res as usize, turn);
+        let polled = Polled {
+            place: word.next + word.serving,
+            granted: 2 * word.serving == turn,
+        };
+        seat.held[core] = Some(state.with_poll(res, turn, polled.granted));
         polled
     }
 
@@ -123,18 +128,16 @@ impl Board {
     pub fn leave(&self, seat: &mut BoardSeat) -> u32
         requires board { seat.old.board ≡ self.now }
         requires holding { (g : ResId) × MayAct (Holding g) seat.old }
-        ensures entry { (g : ResId) → LockIs seat.old (Holding g) → seat.new ≡ with_entry g result Leave seat.old }
-        ensures behind { (g : ResId) → LockIs seat.old (Holding g) → IsBehind g.0 result seat.old }
+        ensures entry { (g : ResId) → MayAct (Holding g) seat.old → seat.new ≡ with_entry g result Leave seat.old }
+        ensures behind { (g : ResId) → MayAct (Holding g) seat.old → IsBehind g.0 result seat.old }
     {
         let (core, state) = own(&seat.held);
-        let found = steps::leave(
-            &self.table.shared,
-            &mut seat.place,
-            state.claim.res() as usize,
-        );
-        let (next, serving) = halves(found);
-        seat.held[core] = Some(state.left());
-        next + serving
+        let Claim::Holds { res, .. } = state.claim else {
+            unreachable!()
+        };
+        let word = steps::leave(&self.table.shared, &mut seat.place, res as usize);
+        seat.held[core] = Some(state.with_leave());
+        word.next + word.serving
     }
 
     /// Looks whether the core of the seat is let into its tick: one `load` of the barrier word. Go is answered only
@@ -143,20 +146,24 @@ impl Board {
         requires board { seat.old.board ≡ self.now }
         requires waiting { IsIn Waiting seat.old }
         ensures wait { result ≡ Wait → seat.new ≡ seat.old }
-        ensures go { result ≡ Go → seat.new ≡ admitted seat.old }
-        ensures stopped { result ≡ Stopped → seat.new ≡ stopped seat.old }
+        ensures go { result ≡ Go → seat.new ≡ with_admission seat.old }
+        ensures stopped { result ≡ Stopped → seat.new ≡ with_stop seat.old }
         ensures start { (c : ℕ) (b : Book) → result ≡ Stopped → IsCoreSeat seat.old c b → b.tick ≡ 0 }
     {
+        let BoardSize {
+            cores,
+            resources,
+            ..
+        } = self.size;
         let (core, state) = own(&seat.held);
-        let barrier = self.size.resources as usize;
         let found = steps::look(
             &self.table.shared,
             &mut seat.place,
-            barrier,
-            self.size.cores,
+            resources as usize,
+            cores,
         );
-        let look = state.finds(self.size.cores, found);
-        seat.held[core] = Some(state.looked(look));
+        let look = state.finds(cores, found);
+        seat.held[core] = Some(state.after_look(look));
         look
     }
 
@@ -165,28 +172,22 @@ impl Board {
     pub fn arrive(&self, seat: &mut BoardSeat)
         requires board { seat.old.board ≡ self.now }
         requires admitted { IsIn Admitted seat.old }
-        ensures { seat.new ≡ arrived seat.old }
+        ensures { seat.new ≡ with_arrival seat.old }
     {
         let (core, state) = own(&seat.held);
-        steps::arrive(
-            &self.table.shared,
-            &mut seat.place,
-            self.size.resources as usize,
-        );
-        seat.held[core] = Some(state.arrived());
+        let BoardSize { resources, .. } = self.size;
+        steps::arrive(&self.table.shared, &mut seat.place, resources as usize);
+        seat.held[core] = Some(state.with_arrival());
     }
 
     /// Lets the cores into tick 0: one `fetch_add` on the barrier word.
     pub fn open(&self, seat: &mut BoardSeat)
         requires board { seat.old.board ≡ self.now }
         requires unopened { seat.old.conductor ≡ Some Unopened }
-        ensures { seat.new ≡ conducted Opened seat.old }
+        ensures { seat.new ≡ with_conductor Opened seat.old }
     {
-        steps::open(
-            &self.table.shared,
-            &mut seat.place,
-            self.size.resources as usize,
-        );
+        let BoardSize { resources, .. } = self.size;
+        steps::open(&self.table.shared, &mut seat.place, resources as usize);
         seat.conductor = Some(Conductor::Opened);
     }
 
@@ -195,13 +196,10 @@ impl Board {
     pub fn abort(&self, seat: &mut BoardSeat)
         requires board { seat.old.board ≡ self.now }
         requires unopened { seat.old.conductor ≡ Some Unopened }
-        ensures { seat.new ≡ conducted Aborted seat.old }
+        ensures { seat.new ≡ with_conductor Aborted seat.old }
     {
-        steps::abort(
-            &self.table.shared,
-            &mut seat.place,
-            self.size.resources as usize,
-        );
+        let BoardSize { resources, .. } = self.size;
+        steps::abort(&self.table.shared, &mut seat.place, resources as usize);
         seat.conductor = Some(Conductor::Aborted);
     }
 
@@ -261,11 +259,4 @@ impl Board {
             conductor: conductor.or(other_conductor),
         }
     }
-}
-
-// The halves of a word: the high one, and the low one.
-fn halves(word: u64) -> (u32, u32)
-    ensures { (result.0 ≡ next word) × (result.1 ≡ serving word) }
-{
-    ((word / 4294967296) as u32, (word % 4294967296) as u32)
 }

@@ -3,11 +3,13 @@ ghost use Rattle.std.specs.Prelude.{◌≡◌, ◌<◌, ◌≤◌, ◌+◌, ℕ,
 ghost use Rattle.std.specs.Mem.Slots.{slots_items, slots_len, IsFull};
 ghost use Rattle.msrp_board.specs.declared.books.Book.{Book};
 ghost use Rattle.msrp_board.specs.declared.books.Conductor.TheVariants.{Opened};
-ghost use Rattle.msrp_board.specs.Boards.{book_at, high, low, HasAll, IsTied};
+ghost use Rattle.msrp_board.specs.Seats.{book_at, HasAll};
+ghost use Rattle.msrp_board.specs.Boards.{high, low, IsTied};
 
 use crate::board::Board;
 use crate::books::BoardSize;
 use crate::seat::BoardSeat;
+use crate::words::{high_half, low_half};
 use atomic_table::Closed;
 use msrp_plan::ResId;
 use std::alloc::Global;
@@ -23,15 +25,14 @@ pub struct Settled {
 }
 
 impl Model for Settled {
-    ghost use Rattle.std.specs.Prelude.{◌≤◌};
-    ghost use Rattle.msrp_board.specs.Boards.{SettledModel};
-    ghost use Rattle.msrp_board.specs.Held.{settled_as};
+    ghost use Rattle.msrp_board.specs.Boards.{WholeBoard};
+    ghost use Rattle.msrp_board.specs.Inside.Held.{IsSettled, settled_as};
 
-    ghost Value = { SettledModel };
+    ghost Value = { WholeBoard };
 
     ghost view = { λ s. settled_as s.size s.words s.last.value };
 
-    ghost invariant = { λ s. s.size.resources ≤ 32 };
+    ghost invariant = { λ s. IsSettled s.size s.words s.last.value };
 }
 
 impl Board {
@@ -76,12 +77,21 @@ fn words_of(closed: &Closed<(), Global>, resources: u32) -> [u64; 33]
 }
 
 impl Settled {
+    /// How large the board was.
+    pub fn size(&self) -> BoardSize
+        ensures value { result ≡ self.now.size }
+        ensures tied { IsTied self.now }
+    {
+        self.size
+    }
+
     /// What the ticket word of a resource counted: requests, and releases.
     pub fn word(&self, res: ResId) -> (u32, u32)
         requires { res.0 < self.now.size.resources }
-        ensures { result ≡ (high (slice_index self.now.tickets res.0), low (slice_index self.now.tickets res.0)) }
+        ensures value { result ≡ (high (slice_index self.now.tickets res.0), low (slice_index self.now.tickets res.0)) }
+        ensures tied { IsTied self.now }
     {
         let word = self.words[res.0 as usize];
-        ((word / 4294967296) as u32, (word % 4294967296) as u32)
+        (high_half(word), low_half(word))
     }
 }

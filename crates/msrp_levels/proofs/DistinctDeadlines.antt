@@ -3,7 +3,7 @@ use Rattle.std.proofs.Common.{◌≡◌, ℕ, ◌+◌, ◌<◌, Bool, true, fals
 use Rattle.std.specs.List.{filter, list_any}
 use Rattle.std.proofs.lemmas.Bool.{cases_Bool}
 use Rattle.std.proofs.lemmas.Bool.Decides.{nat_tests}
-use Rattle.std.proofs.lemmas.List.{drop_more, length-map, get_or-map, drop_all}
+use Rattle.std.proofs.lemmas.List.{drop_more, length-map, get_or-map}
 use Rattle.std.proofs.lemmas.List.Sums.{length-filter, sum_by-append}
 use Rattle.msrp_plan.specs.Plan.{PlanModel, TaskModel, no_task, task_at}
 use Rattle.msrp_plan.specs.Levels.{distinct, level_of}
@@ -33,12 +33,6 @@ deadlines plan = map (λ u. u.deadline) plan.tasks
 pub record AreDistinctFrom (plan : PlanModel) (n : ℕ) (found : List ℕ) : Type 0 where
   pub counts : (p : ℕ → Bool) → count_by p found ≡ count_by p (distinct (drop n (deadlines plan)))
   pub members : (x : ℕ) → list_any (λ y. nat_eq y x) found ≡ list_any (nat_eq x) (drop n (deadlines plan))
-
--- none of no task
-pub distinct_none : (plan : PlanModel) (n : ℕ) → n ≡ length plan.tasks → AreDistinctFrom plan n []
-distinct_none plan n e =
-    let none : drop n (deadlines plan) ≡ [] = drop_all n (deadlines plan) (omega (arith, length-map plan.tasks (λ u. u.deadline))) in
-    record { counts = λ p. sym (ap (λ ds. count_by p (distinct ds)) none); members = λ x. sym (ap (list_any (nat_eq x)) none) }
 
 -- the tasks from the n-th on begin with the n-th
 first_deadline : (plan : PlanModel) (n : ℕ) → n < length plan.tasks → drop n (deadlines plan) ≡ (task_at plan n).deadline ∷ drop (n + 1) (deadlines plan)

@@ -3,5 +3,8 @@ pub mod PassedUnits
 pub mod Gathered
 pub mod Longest
 pub mod Spins
-pub mod Usages
+pub mod TaskUses
 pub mod Stored
+pub mod Ranges
+pub mod HeldUnits
+pub mod OutermostRows

@@ -23,7 +23,7 @@ use Rattle.msrp_levels.specs.Footprints.{use_from, uses_from, with_lock, with_un
 
 -- ---- the resource of a unit is declared
 -- what is locked is declared
-lock_below : (plan : PlanModel) (us : List Op) (g : ℕ) → IsLocking plan us → list_any (is_lock_of g) us ≡ true → g < length plan.resources
+pub lock_below : (plan : PlanModel) (us : List Op) (g : ℕ) → IsLocking plan us → list_any (is_lock_of g) us ≡ true → g < length plan.resources
 lock_below plan us g locking e = let at = passing_place (is_lock_of g) us e in by_unit at.0 at.1 at.2 at.3
   where
     by_unit : (n : ℕ) (u : Op) → slice_get us n ≡ Some u → is_lock_of g u ≡ true → g < length plan.resources

@@ -10,10 +10,6 @@ use Rattle.msrp_levels.specs.declared.usage.CoreUse.{CoreUse}
 use Rattle.msrp_levels.specs.Usage.{IsUsage, AreUsages}
 use Rattle.msrp_levels.specs.declared.usage.Usage.{Usage}
 
--- what is stored of no resource
-pub usages_none : (plan : PlanModel) (usages : List Usage) → usages ≡ [] → AreUsages plan 0 usages
-usages_none plan usages e = record { size = ap length e; each = λ g d l. absurd (omega (arith, l)) }
-
 -- and of one more
 pub usages_more : (plan : PlanModel) (n : ℕ) (old new : List Usage) (u : Usage) → AreUsages plan n old → IsUsage plan n u → new ≡ old ++ u ∷ [] → AreUsages plan (n + 1) new
 usages_more plan n old new u h here more = record {

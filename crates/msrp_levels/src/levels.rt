@@ -1,14 +1,15 @@
 //! The levels and ceilings of a plan.
 ghost use Rattle.std.specs.Prelude.{◌≡◌, ◌<◌, length, map, IfOk};
+ghost use Rattle.msrp_plan.specs.Plan.{task_at};
 ghost use Rattle.msrp_plan.specs.Levels.{level, is_global, top};
-ghost use Rattle.msrp_plan.specs.Bounds.{section, spin_bound};
-ghost use Rattle.msrp_levels.specs.Footprints.{footprint_of};
-ghost use Rattle.msrp_levels.specs.Usage.{AreUsages};
+ghost use Rattle.msrp_plan.specs.Bounds.{section, spin_bound, out};
 ghost use Rattle.msrp_levels.specs.Users.{users, ceiling_at};
 
-use crate::footprints::{Footprint, footprints_of};
+use crate::footprints::footprints_of;
+use crate::outermost::outs_of;
 use crate::preemption::levels_of;
-use crate::usage::{Usage, tops_of};
+use crate::usage::tops_of;
+use crate::usages::Usages;
 use msrp_plan::{CoreId, Memory, Plan, ResId, TaskId};
 use std::alloc::Global;
 use std::marker::Model;
@@ -19,10 +20,13 @@ use std::marker::Model;
 /// stored; it takes no memory. The numbers of tasks, resources and cores that a reader takes are the plan's.
 #[derive(Drop)]
 pub struct Levels<'a> {
-    plan: &'a Plan,
+    usages: Usages<'a>,
+    // By task.
     levels: Vec<u32>,
+    // By core.
     tops: Vec<u32>,
-    usages: Vec<Usage>,
+    // By task.
+    outs: Vec<u32>,
 }
 
 impl<'a> Model for Levels<'a> {
@@ -37,18 +41,6 @@ impl<'a> Model for Levels<'a> {
     ghost invariant = { AreLevels };
 }
 
-// How a plan uses each of its resources.
-fn usages_of(alloc: Global, plan: &Plan, tasks: &[Footprint]) -> Result<Vec<Usage>, Memory>
-    requires { tasks.now ≡ map (footprint_of plan.now) plan.now.tasks }
-    ensures { IfOk result (λ usages. AreUsages plan.now (length plan.now.resources) usages.items) }
-{
-    let mut usages = Vec::with_capacity(alloc, plan.resources() as usize).map_err(|_| Memory)?;
-    for r in 0..plan.resources() {
-        usages.push_reserved(Usage::of(alloc, plan, tasks, ResId(r))?);
-    }
-    Ok(usages)
-}
-
 impl<'a> Levels<'a> {
     /// The levels and ceilings of a plan. It is [`Memory`] only where memory was refused.
     pub fn of(alloc: Global, plan: &'a Plan) -> Result<Levels<'a>, Memory>
@@ -56,11 +48,14 @@ impl<'a> Levels<'a> {
     {
         let levels = levels_of(alloc, plan)?;
         let tasks = footprints_of(alloc, plan, &levels)?;
+        let tops = tops_of(alloc, plan, &tasks)?;
+        let usages = Usages::of(alloc, plan, &tasks)?;
+        let outs = outs_of(alloc, plan, &usages)?;
         Ok(Levels {
-            plan,
-            tops: tops_of(alloc, plan, &tasks)?,
-            usages: usages_of(alloc, plan, &tasks)?,
+            usages,
             levels,
+            tops,
+            outs,
         })
     }
 
@@ -86,7 +81,7 @@ impl<'a> Levels<'a> {
         requires { res.0 < length self.now.resources }
         ensures { result ≡ is_global self.now res.0 }
     {
-        self.usages[res.0 as usize].global
+        self.usages.is_global(res)
     }
 
     /// The ceiling of a resource at a core: of a local one the highest level of its users, 0 if there is none
@@ -99,7 +94,7 @@ impl<'a> Levels<'a> {
         if self.is_global(res) {
             self.top(core)
         } else {
-            self.usages[res.0 as usize].ceiling
+            self.usages.local_ceiling(res)
         }
     }
 
@@ -108,7 +103,7 @@ impl<'a> Levels<'a> {
         requires { res.0 < length self.now.resources }
         ensures { map (λ task. task.0) result.now ≡ users self.now res.0 }
     {
-        &self.usages[res.0 as usize].users
+        self.usages.users(res)
     }
 
     /// The longest section on a resource of the tasks of a core, in units after the lock up to and with the unlock;
@@ -118,7 +113,7 @@ impl<'a> Levels<'a> {
         requires core { core.0 < self.now.cores }
         ensures { result ≡ section self.now res.0 core.0 }
     {
-        self.usages[res.0 as usize].cores[core.0 as usize].section
+        self.usages.section(res, core)
     }
 
     /// How often a job of a core spins in one wait for a resource, at most: for each other core that uses it, one
@@ -128,6 +123,16 @@ impl<'a> Levels<'a> {
         requires core { core.0 < self.now.cores }
         ensures { result ≡ spin_bound self.now res.0 core.0 }
     {
-        self.usages[res.0 as usize].spins[core.0 as usize]
+        self.usages.spin_bound(res, core)
+    }
+
+    /// How many rows a job of a task has in one outermost section after the first, at most: its units after the lock
+    /// up to and with the unlock, and for each request of a global resource one row to join the queue and as many as
+    /// it may spin; 0 where the task locks nothing (this project's own bound).
+    pub fn out(&self, task: TaskId) -> u32
+        requires { task.0 < length self.now.tasks }
+        ensures { result ≡ out self.now (task_at self.now task.0) }
+    {
+        self.outs[task.0 as usize]
     }
 }

@@ -7,7 +7,11 @@
 
 mod footprints;
 mod levels;
+mod outermost;
 mod preemption;
+#[cfg(test)]
+mod tests;
 mod usage;
+mod usages;
 
 pub use levels::Levels;

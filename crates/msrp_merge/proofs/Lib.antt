@@ -4,3 +4,6 @@ pub mod Blocks
 pub mod Pairing
 pub mod Histories
 pub mod Replies
+pub mod Runs
+pub mod Loops
+pub mod Boards

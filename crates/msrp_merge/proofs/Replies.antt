@@ -1,15 +1,16 @@
 -- Where the steps on a resource are, in order, those of a legal history, each replies as the queue of the resource.
-use Rattle.std.proofs.Common.{◌≡◌, ℕ, Bool, true, false, cond, ◌&&◌, List, [], ◌∷◌, ◌++◌, Option, Some, None, map, refl, ap, sym, ◌∙◌, subst, append-nil, append_assoc, eq-eqb}
+use Rattle.std.proofs.Common.{◌≡◌, ℕ, Bool, true, false, cond, ◌&&◌, List, [], ◌∷◌, ◌++◌, Option, Some, None, map, refl, ap, sym, ◌∙◌, subst, append-nil, append_assoc, eq-eqb, ◌⊎◌, inl, inr}
 use Rattle.std.specs.List.{filter}
 use Rattle.std.proofs.Math.Bool.{true≢false}
-use Rattle.std.proofs.lemmas.Bool.{eqb-true, false_from_ne_true}
+use Rattle.std.proofs.lemmas.Bool.{eqb-true, and_from}
 use Rattle.std.proofs.lemmas.List.{map-append}
 use Rattle.std.proofs.lemmas.List.Elements.{filter-append}
 use Rattle.msrp_plan.specs.Plan.{PlanModel}
 use Rattle.msrp_plan.specs.Jobs.{is_queued}
 use Rattle.msrp_plan.specs.Levels.{is_global}
 use Rattle.msrp_plan.specs.Actions.{is_global_unit, res_of_unit}
-use Rattle.msrp_plan.specs.Queues.{is_on, fifo, replies}
+use Rattle.msrp_plan.specs.Queues.{is_on, fifo, replies, counts, is_reply_of}
+use Rattle.msrp_plan.specs.Shape.{may_carry, is_queue}
 use Rattle.msrp_plan.specs.Runs.{EachAfter, IsLegal, IsCoreTurn, is_fifo_reply, replies_on}
 use Rattle.msrp_plan.specs.Logs.{log_of, AreInterleaved}
 use Rattle.msrp_plan.specs.FifoLock.{FifoLock, free_lock, Answers, lock_after, LegalFrom, Legal}
@@ -67,30 +68,36 @@ turn_is_step plan g pre r glob turn on = by_job r.job refl
     by_job (Some x) e = step_by plan g pre r x glob on (turn.does x e)
 
 -- ---- a turn on a local resource has no reply
-local_by : (plan : PlanModel) (g : ℕ) (pre : List Row) (r : Row) (x : JobId) (queue : List JobId) → is_global plan g ≡ false → is_on g r.res ≡ true → DoesUnit plan pre x r → replies queue r.job r.kind ≡ true
-local_by plan g pre r x queue local on d = elim (step_of (is_global_unit plan d.op) (is_queued pre x) d.op r.kind d.kind) [
+-- it locks or unlocks
+local_by : (plan : PlanModel) (g : ℕ) (pre : List Row) (r : Row) (x : JobId) → is_global plan g ≡ false → is_on g r.res ≡ true → DoesUnit plan pre x r → (r.kind ≡ Lock) ⊎ (r.kind ≡ Unlock)
+local_by plan g pre r x local on d = elim (step_of (is_global_unit plan d.op) (is_queued pre x) d.op r.kind d.kind) [
   | Runs eo ek ↦ absurd (unit_none plan pre r x d g on (ap res_of_unit eo))
-  | Locks h eo ek eg ↦ ap (replies queue r.job) ek
-  | Unlocks h eo ek eg ↦ ap (replies queue r.job) ek
-  | Takes h eo ek eg eq ↦ absurd (global h eo eg)
-  | Queues h eo ek eg eq ↦ absurd (global h eo eg)
-  | Grants h eo ek eg eq ↦ absurd (global h eo eg)
-  | Spins h eo ek eg eq ↦ absurd (global h eo eg)
-  | Releases h eo ek eg ↦ absurd (released h eo eg)
+  | Locks h eo ek eg ↦ inl ek
+  | Unlocks h eo ek eg ↦ inr ek
+  | Takes h eo ek eg eq ↦ absurd (locked h eo eg)
+  | Queues h eo ek eg eq ↦ absurd (locked h eo eg)
+  | Grants h eo ek eg eq ↦ absurd (locked h eo eg)
+  | Spins h eo ek eg eq ↦ absurd (locked h eo eg)
+  | Releases h eo ek eg ↦ absurd (not_local plan h.0 g (sym (ap (is_global_unit plan) eo) ∙ eg) (sym (unit_on plan pre r x d g h on (ap res_of_unit eo))) local)
 ]
   where
-    global : (h : ResId) → d.op ≡ LockUnit h → is_global_unit plan d.op ≡ true → ⊥
-    global h eo eg = not_local plan h.0 g (sym (ap (is_global_unit plan) eo) ∙ eg) (sym (unit_on plan pre r x d g h on (ap res_of_unit eo))) local
+    locked : (h : ResId) → d.op ≡ LockUnit h → is_global_unit plan d.op ≡ true → ⊥
+    locked h eo eg = not_local plan h.0 g (sym (ap (is_global_unit plan) eo) ∙ eg) (sym (unit_on plan pre r x d g h on (ap res_of_unit eo))) local
 
-    released : (h : ResId) → d.op ≡ UnlockUnit h → is_global_unit plan d.op ≡ true → ⊥
-    released h eo eg = not_local plan h.0 g (sym (ap (is_global_unit plan) eo) ∙ eg) (sym (unit_on plan pre r x d g h on (ap res_of_unit eo))) local
+-- such a row carries no ahead
+bare_by : (queue : List JobId) (k : Kind) (o : Option ℕ) → may_carry k o ≡ true → is_queue k ≡ false → counts queue o ≡ true
+bare_by queue k None h n = refl
+bare_by queue k (Some a) h n = absurd (true≢false (sym h ∙ n))
 
-local_reply : (plan : PlanModel) (g : ℕ) (pre : List Row) (r : Row) (queue : List JobId) → is_global plan g ≡ false → IsTurn plan pre r → is_on g r.res ≡ true → replies queue r.job r.kind ≡ true
+local_is : (queue : List JobId) (r : Row) (k : Kind) → r.kind ≡ k → replies queue r.job k ≡ true → is_queue k ≡ false → is_reply_of queue r ≡ true
+local_is queue r k e h n = and_from (replies queue r.job r.kind) (counts queue r.ahead) (ap (replies queue r.job) e ∙ h) (bare_by queue k r.ahead (subst (λ z. may_carry z r.ahead ≡ true) e r.carrier) n)
+
+local_reply : (plan : PlanModel) (g : ℕ) (pre : List Row) (r : Row) (queue : List JobId) → is_global plan g ≡ false → IsTurn plan pre r → is_on g r.res ≡ true → is_reply_of queue r ≡ true
 local_reply plan g pre r queue local turn on = by_job r.job refl
   where
-    by_job : (o : Option JobId) → r.job ≡ o → replies queue r.job r.kind ≡ true
+    by_job : (o : Option JobId) → r.job ≡ o → is_reply_of queue r ≡ true
     by_job None e = absurd (true≢false (sym on ∙ ap (is_on g) (idle_res r (turn.idle e))))
-    by_job (Some x) e = local_by plan g pre r x queue local on (turn.does x e)
+    by_job (Some x) e = elim (local_by plan g pre r x local on (turn.does x e)) [ inl k ↦ local_is queue r Lock k refl refl | inr k ↦ local_is queue r Unlock k refl refl ]
 
 -- ---- pairs
 paired_split : {X Y : Type 0} (R : X → Y → Type 0) (xs : List X) (x : X) (ys : List X) (h : List Y) → Paired R (xs ++ x ∷ ys) h → (k : List Y) × (y : Y) × (l : List Y) × (h ≡ k ++ y ∷ l) × Paired R xs k × R x y
@@ -109,6 +116,7 @@ row_of_call g r s on p = record {
   core = refl;
   resource = p.step.resource ∙ ap (λ n. Some (let id : ResId = record { 0 = n } in id)) (eqb-true s.1.res.0 g (sym (ap (is_on g) p.step.resource) ∙ on));
   kind = p.step.kind;
+  ahead = p.step.ahead;
 }
 
 -- by whether the row is a step on g

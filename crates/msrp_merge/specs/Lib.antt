@@ -3,3 +3,4 @@ pub mod Turns
 pub mod Order
 pub mod Sorting
 pub mod Steps
+pub mod Merging

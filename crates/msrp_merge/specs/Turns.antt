@@ -1,7 +1,7 @@
 -- The turns of a core as its log has them, and how a log fits the core's book on the board.
-use Rattle.std.specs.Prelude.{◌≡◌, ℕ, List, Bool, true, false, Option, Some, None, map, is_some, ◌⊎◌}
+use Rattle.std.specs.Prelude.{◌≡◌, ℕ, List, Bool, true, false, Some, IfSome, map, is_some}
 use Rattle.std.specs.List.{filter, AllByRecursion}
-use Rattle.msrp_plan.specs.Calls.{kind_of_call}
+use Rattle.msrp_plan.specs.Calls.{kind_of_call, ahead_of_call}
 use Rattle.msrp_plan.specs.declared.rows.Kind.{Kind}
 use Rattle.msrp_plan.specs.declared.rows.Kind.TheVariants.{Take, Queue, Grant, Spin, Release}
 use Rattle.msrp_plan.specs.declared.rows.Row.{Row}
@@ -32,11 +32,13 @@ is_step _ = false
 abbrev pub has_place : Turn → Bool
 has_place x = is_some x.place
 
--- the row tells of the same step as an entry of its core's book: in its tick, on its resource, with its answer
+-- the row tells of the same step as an entry of its core's book: in its tick, on its resource, with its answer; an ahead that
+-- it carries is the entry's
 pub record IsRowOf (e : Entry) (r : Row) : Type 0 where
   pub tick : r.tick ≡ e.tick
   pub resource : r.res ≡ Some e.res
   pub kind : r.kind ≡ kind_of_call e.call
+  pub ahead : IfSome r.ahead (λ n. ahead_of_call e.call ≡ Some n)
 
 -- the turn is that of an entry: its row tells of the step, and its place is the entry's, polled where the call was a poll
 pub record IsTurnOf (x : Turn) (e : Entry) : Type 0 where

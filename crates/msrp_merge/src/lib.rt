@@ -7,6 +7,10 @@
 
 pub mod laws;
 mod logs;
+mod merging;
 mod order;
+#[cfg(test)]
+mod tests;
 
 pub use logs::{CoreLog, Place, Turn};
+pub use merging::merge;

@@ -3,3 +3,6 @@
 pub mod Released
 pub mod Conservation
 pub mod DeadlineOrder
+pub mod Waiters
+pub mod NextRow
+pub mod Orders

@@ -19,3 +19,12 @@ pub mod RequestedAgain
 pub mod LocalInsideGlobal
 pub mod LockHistory
 pub mod Refusals
+pub mod JobsOfOneTask
+pub mod TwoHeads
+pub mod LevelsOverThePlan
+pub mod TwoResources
+pub mod UnevenSections
+pub mod FiveInAQueue
+pub mod LockCalls
+pub mod WrongActions
+pub mod PastLimits

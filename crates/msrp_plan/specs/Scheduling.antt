@@ -1,5 +1,5 @@
 -- What the rules of a turn come to, in the words of scheduling, and that a run goes on in every order of turns.
-use Rattle.std.specs.Prelude.{ℕ, List, [], ◌∷◌, ◌++◌, Bool, true, false, Some, count_by, length, nat_eq, ◌≡◌, ◌≢◌, ◌↔◌, ◌<◌, ◌≤◌, ◌*◌, ◌/◌}
+use Rattle.std.specs.Prelude.{ℕ, List, [], ◌∷◌, ◌++◌, Bool, true, false, Some, count_by, length, ◌==◌, ◌≡◌, ◌≢◌, ◌↔◌, ◌<◌, ◌≤◌, ◌*◌, ◌/◌}
 use Rattle.std.specs.List.{Contains}
 use Rattle.msrp_plan.specs.Plan.{PlanModel, release}
 use Rattle.msrp_plan.specs.Jobs.{jobs_on, is_started, is_finished}
@@ -8,6 +8,7 @@ use Rattle.msrp_plan.specs.Ceiling.{ceiling}
 use Rattle.msrp_plan.specs.Choice.{is_before}
 use Rattle.msrp_plan.specs.Runs.{EachAfter, IsLegal, IsRun, had_turn}
 use Rattle.msrp_plan.specs.Logs.{core_order}
+use Rattle.msrp_plan.specs.Aheads.{carries_its_ahead, carries_ahead}
 use Rattle.msrp_plan.specs.declared.ids.JobId.{JobId}
 use Rattle.msrp_plan.specs.declared.rows.Kind.TheVariants.{Idle}
 use Rattle.msrp_plan.specs.declared.rows.Row.{Row}
@@ -74,24 +75,27 @@ pub record IsDueCore (plan : PlanModel) (pre : List Row) (c : ℕ) : Type 0 wher
   pub core : c < plan.cores
   pub once : had_turn c (length pre / plan.cores) pre ≡ false
 
--- a core's turn that keeps the order of the rows
+-- the core has a legal row next; if it is a queue row it carries how many stand ahead
 pub record HasNext (plan : PlanModel) (pre : List Row) (c : ℕ) : Type 0 where
   pub row : Row
   pub core : row.core.0 ≡ c
   pub legal : IsLegal plan pre row
+  pub carries : carries_its_ahead row ≡ true
 
 -- after these turns core c may have the next one: it has had one in each full round of the cores
 pub record IsNextCore (plan : PlanModel) (pre : List ℕ) (c : ℕ) : Type 0 where
   pub core : c < plan.cores
-  pub due : count_by (nat_eq c) pre ≡ length pre / plan.cores
+  pub due : count_by (λ d. d == c) pre ≡ length pre / plan.cores
 
 -- an order of turns: each core has one turn in each tick
 pub record IsOrder (plan : PlanModel) (order : List ℕ) : Type 0 where
   pub size : length order ≡ plan.cores * plan.ticks
   pub each : EachAfter (IsNextCore plan) [] order
 
--- a legal run in that order
-pub record HasRun (plan : PlanModel) (order : List ℕ) : Type 0 where
+-- a legal run in that order whose queue rows carry how many stand ahead, and no other such run
+pub record HasOneRun (plan : PlanModel) (order : List ℕ) : Type 0 where
   pub rows : List Row
   pub turns : core_order rows ≡ order
   pub run : IsRun plan rows
+  pub carries : carries_ahead rows ≡ true
+  pub only : (other : List Row) → core_order other ≡ order → IsRun plan other → carries_ahead other ≡ true → other ≡ rows

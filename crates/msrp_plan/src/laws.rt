@@ -25,7 +25,7 @@ pub use blocking::{
     blocked_as_long_as_can_be, blocked_by_a_global_section, blocked_by_begun_sections,
     blocked_by_one_section, bounded_blocking, bounded_sections, bounds_on_blocking,
 };
-pub use scheduling::{earliest_deadline_first, runs_released, work_conservation};
+pub use scheduling::{earliest_deadline_first, existence, runs_released, work_conservation};
 
 /// No local blocking: a job that has its turn never finds a local resource held by another job, of whatever
 /// core (Baker 1991). So a lock of a local resource takes one tick.

@@ -31,6 +31,13 @@ ghost use Rattle.msrp_plan.specs.declared.faults.PlanFault.TheVariants.{Name, Ta
 ghost use Rattle.msrp_plan.specs.declared.units.Step.TheVariants.{Run, Lock, Unlock};
 ghost use Rattle.msrp_plan.specs.declared.faults.Rule.TheVariants.{A1, A2, A3, A4, A5, A6, A7};
 
+mod corners;
+
+pub use corners::{
+    five_in_a_queue, jobs_of_one_task, levels_over_the_plan, lock_calls, orders_and_phases,
+    past_limits, two_heads, two_resources, uneven_sections, wrong_actions,
+};
+
 /// A plan without a task: its core idles.
 pub fn nothing_to_do()
     ensures run { IsRun nothing_to_do.plan nothing_to_do.rows }

@@ -1,15 +1,16 @@
 -- One started job more or less, and one resource more or less that the newest holds.
-use Rattle.std.proofs.Common.{◌≡◌, ℕ, ◌<◌, ◌≤◌, ◌+◌, ◌-◌, Bool, true, false, ◌||◌, max, List, [], ◌∷◌, ◌++◌, map, reverse, length, set, slice_index_or, Option, Some, None, refl, ap, sym, ◌∙◌, subst, arith, length-append, append-nil, inl, inr}
-use Rattle.std.specs.List.{flat_map, AllByRecursion, Contains, IsDistinct, list_any}
+use Rattle.std.proofs.Common.{◌≡◌, ℕ, ◌<◌, ◌≤◌, ◌+◌, ◌-◌, Bool, true, false, cond, ◌||◌, ◌==◌, max, List, [], ◌∷◌, ◌++◌, map, reverse, length, set, slice_index_or, Option, Some, None, refl, ap, sym, ◌∙◌, subst, arith, length-append, append-nil, inl, inr}
+use Rattle.std.specs.List.{flat_map, filter, AllByRecursion, Contains, IsDistinct, list_any}
 use Rattle.std.specs.Option.{option_to_list}
 use Rattle.std.specs.Cmp.{IsEquivalence}
 use Rattle.std.proofs.Math.Bool.{true≢false}
-use Rattle.std.proofs.lemmas.Bool.{cases_Bool, false_from_ne_true}
+use Rattle.std.proofs.lemmas.Bool.{cases_Bool, cases_eq, cases_lt, false_from_ne_true}
+use Rattle.std.proofs.lemmas.List.Sums.{length-filter, count_by-le-length}
 use Rattle.std.proofs.lemmas.Map.Made.{length-le_from_is_member}
 use Rattle.std.proofs.Math.Seq.{set-append_seam, get_or-append_seam}
-use Rattle.std.proofs.lemmas.List.{reverse-append, length-map, length-reverse}
-use Rattle.msrp_plan.specs.Plan.{PlanModel}
-use Rattle.msrp_plan.specs.Jobs.{jobs_on, same_job}
+use Rattle.std.proofs.lemmas.List.{reverse-append, length-map, length-reverse, get_or-set_same, get_or-set_other}
+use Rattle.msrp_plan.specs.Plan.{PlanModel, core_of}
+use Rattle.msrp_plan.specs.Jobs.{jobs, jobs_on, same_job}
 use Rattle.msrp_plan.specs.Choice.{is_before}
 use Rattle.msrp_plan.specs.WellFormed.{IsPlan}
 use Rattle.msrp_plan.specs.declared.ids.JobId.{JobId}
@@ -19,7 +20,8 @@ use Rattle.msrp_plan.proofs.LeastKept.{irrefl}
 use Rattle.msrp_plan.proofs.Lists.{any_in}
 use Rattle.msrp_stack.proofs.Tops.{before_all}
 use Rattle.msrp_stack.specs.Stack.{StartedJob, CanStart, ComesFirst, IsDone, is_among, with_held, without_held}
-use Rattle.msrp_stack.specs.Layers.{ceiling_at, Layers, layers_of}
+use Rattle.msrp_levels.specs.Users.{ceiling_at}
+use Rattle.msrp_stack.specs.Layers.{Layers, layers_of}
 use Rattle.msrp_stack.specs.StackView.{started_view, started_of, IsFalling, IsStack}
 use Rattle.msrp_stack.specs.declared.stack.Held.{Held}
 use Rattle.msrp_stack.specs.declared.stack.Started.{Started}
@@ -135,8 +137,7 @@ same_below : (plan : PlanModel) (core : ℕ) (xs : List Started) (x y : Started)
     → AllByRecursion (λ s. Contains (jobs_on plan core) s.job) (started_of (xs ++ y ∷ [])) × IsFalling plan (started_of (xs ++ y ∷ []))
 same_below plan core xs x y job h =
     let known = subst (AllByRecursion (λ s. Contains (jobs_on plan core) s.job)) (started_push xs x) h.0 in
-    let falling = subst (IsFalling plan) (started_push xs x) h.1 in
-    (
+    let falling = subst (IsFalling plan) (started_push xs x) h.1 in (
       subst (AllByRecursion (λ s. Contains (jobs_on plan core) s.job)) (sym (started_push xs y)) (subst (Contains (jobs_on plan core)) (sym job) known.0, known.1),
       subst (IsFalling plan) (sym (started_push xs y)) (subst (ComesFirst plan (started_of xs)) (sym job) falling.0, falling.1),
     )
@@ -176,7 +177,7 @@ in_place items xs x y e = ap (λ l. set l (length l - 1) y) e ∙ set_last xs x 
 
 -- the newest takes a resource
 take_last : (plan : PlanModel) (core : ℕ) (ceilings : List ℕ) (items : List Started) (x y : Started) (h : Held) (room current next : ℕ) → IsStack plan core ceilings items room current → 0 < length items → slice_index_or items (length items - 1) x ≡ x → HasMore x y h
-    → h.res.0 < length plan.resources → next ≡ max (ceiling_at plan core h.res.0) h.before → h.before ≡ current
+    → h.res.0 < length plan.resources → next ≡ max (ceiling_at plan h.res.0 core) h.before → h.before ≡ current
     → IsStack plan core ceilings (set items (length items - 1) y) room next × (started_of (set items (length items - 1) y) ≡ with_held (started_of items) h.res.0)
 take_last plan core ceilings items x y h room current next s some last m declared up before =
     let at = at_last items x some last in
@@ -185,15 +186,15 @@ take_last plan core ceilings items x y h room current next s some last m declare
     let old = subst (λ l. IsStack plan core ceilings l room current) at.1 s in
     let jobs = same_below plan core xs x y m.job (old.known, old.falling) in
     let new : IsStack plan core ceilings (xs ++ y ∷ []) room next =
-      record {
-        accepted = old.accepted;
-        size = old.size;
-        told = old.told;
-        layers = subst (Layers plan core next) (sym (more_layers xs x y h m)) (declared, up, subst (λ n. Layers plan core n (layers_of (xs ++ x ∷ []))) (sym before) old.layers);
-        known = jobs.0;
-        falling = jobs.1;
-        fits = old.fits;
-      } in
+    record {
+      accepted = old.accepted;
+      size = old.size;
+      told = old.told;
+      layers = subst (Layers plan core next) (sym (more_layers xs x y h m)) (declared, up, subst (λ n. Layers plan core n (layers_of (xs ++ x ∷ []))) (sym before) old.layers);
+      known = jobs.0;
+      falling = jobs.1;
+      fits = old.fits;
+    } in
     (subst (λ l. IsStack plan core ceilings l room next) (sym put) new, ap started_of put ∙ (more_started xs x y h m ∙ ap (λ l. with_held (started_of l) h.res.0) (sym at.1)))
 
 -- the newest gives its innermost back
@@ -207,7 +208,7 @@ give_back_last plan core ceilings items y x h room current s some last m =
     let jobs = same_below plan core xs y x (sym m.job) (old.known, old.falling) in
     let layers = subst (Layers plan core current) (more_layers xs x y h m) old.layers in
     let new : IsStack plan core ceilings (xs ++ x ∷ []) room h.before =
-      record { accepted = old.accepted; size = old.size; told = old.told; layers = layers.2; known = jobs.0; falling = jobs.1; fits = old.fits } in
+    record { accepted = old.accepted; size = old.size; told = old.told; layers = layers.2; known = jobs.0; falling = jobs.1; fits = old.fits } in
     (subst (λ l. IsStack plan core ceilings l room h.before) (sym put) new, ap started_of put ∙ (less_started xs x y h m ∙ ap (λ l. without_held (started_of l)) (sym at.1)))
 
 -- a view that has a newest job is of some
@@ -217,14 +218,37 @@ some_items (x ∷ items) P none h = omega arith
 
 -- the same, where the number of the jobs is called k
 pub take_keeps : (plan : PlanModel) (core : ℕ) (ceilings : List ℕ) (items : List Started) (k : ℕ) (x y : Started) (h : Held) (room current next : ℕ) → k ≡ length items → IsStack plan core ceilings items room current → 0 < length items → x ≡ slice_index_or items (k - 1) x → HasMore x y h
-    → h.res.0 < length plan.resources → next ≡ max (ceiling_at plan core h.res.0) h.before → h.before ≡ current
+    → h.res.0 < length plan.resources → next ≡ max (ceiling_at plan h.res.0 core) h.before → h.before ≡ current
     → IsStack plan core ceilings (set items (k - 1) y) room next × (started_of (set items (k - 1) y) ≡ with_held (started_of items) h.res.0)
 take_keeps plan core ceilings items k x y h room current next n s some last m declared up before =
     subst (λ k. IsStack plan core ceilings (set items (k - 1) y) room next × (started_of (set items (k - 1) y) ≡ with_held (started_of items) h.res.0)) (sym n)
-      (take_last plan core ceilings items x y h room current next s some (subst (λ k. slice_index_or items (k - 1) x ≡ x) n (sym last)) m declared up before)
+    (take_last plan core ceilings items x y h room current next s some (subst (λ k. slice_index_or items (k - 1) x ≡ x) n (sym last)) m declared up before)
 
 pub give_back_keeps : (plan : PlanModel) (core : ℕ) (ceilings : List ℕ) (items : List Started) (k : ℕ) (y x : Started) (h : Held) (room current : ℕ) → k ≡ length items → IsStack plan core ceilings items room current → 0 < length items → y ≡ slice_index_or items (k - 1) y → HasMore x y h
     → IsStack plan core ceilings (set items (k - 1) x) room h.before × (started_of (set items (k - 1) x) ≡ without_held (started_of items))
 give_back_keeps plan core ceilings items k y x h room current n s some last m =
     subst (λ k. IsStack plan core ceilings (set items (k - 1) x) room h.before × (started_of (set items (k - 1) x) ≡ without_held (started_of items))) (sym n)
-      (give_back_last plan core ceilings items y x h room current s some (subst (λ k. slice_index_or items (k - 1) y ≡ y) n (sym last)) m)
+    (give_back_last plan core ceilings items y x h room current s some (subst (λ k. slice_index_or items (k - 1) y ≡ y) n (sym last)) m)
+
+-- ---- before the first start
+below : (g k : ℕ) → g < k + 1 → (g ≡ k → ⊥) → g < k
+below g k m other = elim (cases_lt g k) [
+  | inl l ↦ l
+  | inr h ↦ absurd (other (omega (arith, m, h)))
+]
+
+-- numbers up to one, and that one too
+pub told_more : (f : ℕ → ℕ) (ns : List ℕ) (k n : ℕ) → k < length ns → n ≡ f k → ((g : ℕ) → g < k → slice_index_or ns g 0 ≡ f g) → (g : ℕ) → g < k + 1 → slice_index_or (set ns k n) g 0 ≡ f g
+told_more f ns k n l e told g m =
+    elim (cases_eq g k) [
+      | inl same ↦ subst (λ i. slice_index_or (set ns k n) i 0 ≡ f i) (sym same) (get_or-set_same ns k n 0 l ∙ e)
+      | inr other ↦ get_or-set_other ns k g n 0 other ∙ told g (below g k m other)
+    ]
+
+-- nothing is held, and there is room for every job of the core
+pub nothing_started : (plan : PlanModel) (core : ℕ) (ceilings : List ℕ) (items : List Started) (room : ℕ) → IsPlan plan → length ceilings ≡ 32 → ((g : ℕ) → g < length plan.resources → slice_index_or ceilings g 0 ≡ ceiling_at plan g core) → items ≡ [] → 8192 ≤ room → IsStack plan core ceilings items room 0
+nothing_started plan core ceilings items room ok size told none fits =
+    let n = length-filter (λ j. core_of plan j == core) (jobs plan) in
+    let few = count_by-le-length (λ j. core_of plan j == core) (jobs plan) in
+    subst (λ l. IsStack plan core ceilings l room 0) (sym none) (
+    record { accepted = ok; size = size; told = told; layers = refl; known = tt; falling = tt; fits = omega (arith, n, few, ok.jobs, fits) })

@@ -56,8 +56,8 @@ pub newest_first : (plan : PlanModel) (c : ℕ) (started : List StartedJob) → 
 newest_first plan c [] known falling = ap (least (is_before plan)) (sym (none_kept (jobs_on plan c)))
 newest_first plan c (s ∷ below) known falling =
     least_cases plan (λ j. is_among (s ∷ below) j && not false) (jobs_on plan c) s.job (first_unfinished plan c (is_among (s ∷ below)) (λ j. false)) refl known.0
-      (ap (λ b. (b || is_among below s.job) && true) (same_self s.job))
-      (λ x h. newest_least plan s.job x s below refl (before_all plan s.job below falling.0 falling.1) (among x (is_among (s ∷ below) x) refl h))
+    (ap (λ b. (b || is_among below s.job) && true) (same_self s.job))
+    (λ x h. newest_least plan s.job x s below refl (before_all plan s.job below falling.0 falling.1) (among x (is_among (s ∷ below) x) refl h))
   where
     among : (x : JobId) (b : Bool) → b ≡ is_among (s ∷ below) x → (b && true) ≡ true → is_among (s ∷ below) x ≡ true
     among x true e h = sym e

@@ -1,20 +1,16 @@
 -- The ceiling as it rises from one held resource to the next.
-use Rattle.std.specs.Prelude.{ℕ, List, [], ◌∷◌, max, cond, reverse, length, ◌≡◌, ◌<◌}
+use Rattle.std.specs.Prelude.{ℕ, List, [], ◌∷◌, max, reverse, length, ◌≡◌, ◌<◌}
 use Rattle.std.specs.List.{flat_map}
 use Rattle.msrp_plan.specs.Plan.{PlanModel}
-use Rattle.msrp_plan.specs.Levels.{is_global, local_ceiling, top}
+use Rattle.msrp_levels.specs.Users.{ceiling_at}
 use Rattle.msrp_stack.specs.declared.stack.Held.{Held}
 use Rattle.msrp_stack.specs.declared.stack.Started.{Started}
-
--- the ceiling of a resource at a core
-abbrev pub ceiling_at : PlanModel → ℕ → ℕ → ℕ
-ceiling_at plan c g = cond (is_global plan g) (top plan c) (local_ceiling plan g)
 
 -- held resources, the newest first: the current ceiling is the resource's or the one from before, whichever is greater; it is 0
 -- where nothing is held
 abbrev pub Layers : PlanModel → ℕ → ℕ → List Held → Type 0
 Layers plan c current [] = current ≡ 0
-Layers plan c current (h ∷ hs) = (h.res.0 < length plan.resources) × (current ≡ max (ceiling_at plan c h.res.0) h.before) × Layers plan c h.before hs
+Layers plan c current (h ∷ hs) = (h.res.0 < length plan.resources) × (current ≡ max (ceiling_at plan h.res.0 c) h.before) × Layers plan c h.before hs
 
 -- all that the started jobs hold, the newest first
 abbrev pub layers_of : List Started → List Held

@@ -5,7 +5,8 @@ use Rattle.msrp_plan.specs.Plan.{PlanModel}
 use Rattle.msrp_plan.specs.Jobs.{jobs_on}
 use Rattle.msrp_plan.specs.WellFormed.{IsPlan}
 use Rattle.msrp_stack.specs.Stack.{StartedJob, StackModel, ComesFirst}
-use Rattle.msrp_stack.specs.Layers.{Layers, ceiling_at, layers_of}
+use Rattle.msrp_levels.specs.Users.{ceiling_at}
+use Rattle.msrp_stack.specs.Layers.{Layers, layers_of}
 use Rattle.msrp_stack.specs.declared.stack.Started.{Started}
 use Rattle.msrp_stack.specs.declared.stack.CeilingStack.TheInside.{Inside}
 
@@ -25,7 +26,7 @@ IsFalling plan (s ∷ below) = ComesFirst plan below s.job × IsFalling plan bel
 pub record IsStack (plan : PlanModel) (core : ℕ) (ceilings : List ℕ) (items : List Started) (room current : ℕ) : Type 0 where
   pub accepted : IsPlan plan
   pub size : length ceilings ≡ 32
-  pub told : (g : ℕ) → g < length plan.resources → slice_index_or ceilings g 0 ≡ ceiling_at plan core g
+  pub told : (g : ℕ) → g < length plan.resources → slice_index_or ceilings g 0 ≡ ceiling_at plan g core
   pub layers : Layers plan core current (layers_of items)
   pub known : AllByRecursion (λ s. Contains (jobs_on plan core) s.job) (started_of items)
   pub falling : IsFalling plan (started_of items)

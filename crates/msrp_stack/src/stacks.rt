@@ -1,15 +1,63 @@
 //! The calls of a stack.
-ghost use Rattle.std.specs.Prelude.{◌≡◌, ◌<◌, ◌∷◌, [], length, true, false, ℕ};
+ghost use Rattle.std.specs.Prelude.{◌≡◌, ◌<◌, ◌∷◌, [], length, slice_index_or, true, false, ℕ, IfOk, ◌≤◌, vec_capacity};
 ghost use Rattle.msrp_plan.specs.Levels.{is_global};
+ghost use Rattle.msrp_plan.specs.WellFormed.{IsPlan};
+ghost use Rattle.msrp_levels.specs.Users.{ceiling_at};
 ghost use Rattle.msrp_stack.specs.Stack.{top, newest, current_ceiling, CanStart, HasRoom, IsInnermost, SomeHeld, IsDone, with_held, without_held, without_newest};
 
+pub use crate::stack::CeilingStack;
 use crate::stack::{Held, Started};
 use arrayvec::ArrayVec;
-use msrp_plan::{JobId, ResId};
+use msrp_levels::Levels;
+use msrp_plan::limits::{MOST_JOBS, MOST_RESOURCES};
+use msrp_plan::{CoreId, JobId, Memory, Plan, ResId};
+use std::alloc::Global;
 
-pub use crate::stack::CeilingStack;
+// The ceilings of a plan's resources at a core, by their numbers.
+fn ceilings_at(plan: &Plan, levels: &Levels<'_>, core: CoreId) -> [u32; MOST_RESOURCES]
+    requires levels { levels.now ≡ plan.now }
+    requires core { core.0 < plan.now.cores }
+    ensures plan { IsPlan plan.now }
+    ensures size { length result ≡ 32 }
+    ensures ceilings { (g : ℕ) → g < length plan.now.resources → slice_index_or result g 0 ≡ ceiling_at plan.now g core.0 }
+{
+    let mut ceilings = [0; MOST_RESOURCES];
+    for res in 0..plan.resources() {
+        ceilings[res as usize] = levels.ceiling(ResId(res), core);
+    }
+    ceilings
+}
+
+// Room for all jobs of a plan: what no job comes to is never touched.
+fn room(alloc: Global) -> Result<Vec<Started>, Memory>
+    ensures empty { IfOk result (λ started. started.items ≡ []) }
+    ensures room { IfOk result (λ started. 8192 ≤ vec_capacity started) }
+{
+    Vec::with_capacity(alloc, MOST_JOBS as usize).map_err(|_| Memory)
+}
 
 impl<'a> CeilingStack<'a> {
+    /// A stack on which no job is started. All memory that it ever needs is taken here: it is [`Memory`] only where
+    /// that was refused.
+    pub fn with_room(
+        alloc: Global,
+        plan: &'a Plan,
+        levels: &Levels<'_>,
+        core: CoreId,
+    ) -> Result<CeilingStack<'a>, Memory>
+        requires levels { levels.now ≡ plan.now }
+        requires core { core.0 < plan.now.cores }
+        ensures { IfOk result (λ stack. stack ≡ record { plan = plan.now; core = core.0; started = [] }) }
+    {
+        Ok(CeilingStack {
+            plan,
+            core,
+            ceilings: ceilings_at(plan, levels, core),
+            started: room(alloc)?,
+            ceiling: 0,
+        })
+    }
+
     /// Starts a job of the core, which then stands on top: it comes before the job that was on top.
     pub fn start(&mut self, job: JobId)
         requires { CanStart self.old job }

@@ -276,6 +276,9 @@ few_push plan k pre r true e now old =
     at_most_one true = omega arith
     at_most_one false = omega arith
 
+pub few_at : (plan : PlanModel) (k : JobId) (pre : List Row) → EachAfter (IsLegal plan) [] pre → done k pre ≤ length (units plan k)
+few_at plan k pre all = along (λ rows. done k rows ≤ length (units plan k)) (IsLegal plan) (λ rows r old now. few_push plan k rows r (is_row_of k r) refl now old) [] pre (omega arith) all
+
 -- ---- along the run
 record IsTallied (plan : PlanModel) (k : JobId) (a : ℕ) (pre : List Row) : Type 0 where
   legal : EachAfter (IsLegal plan) [] pre

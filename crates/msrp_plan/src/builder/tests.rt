@@ -130,28 +130,49 @@ fn global_fault(alloc: Global, nested: Step, ticks: u32) -> Result<Option<PlanFa
     }
 }
 
-#[test]
-fn numbers_are_read_back(rt: HostRuntime) -> Result<(), Fail> {
+// A builder of two tasks.
+fn two_tasks(alloc: Global) -> Result<PlanBuilder, PlanFault> {
     let steps = [Step::Lock(ResId(1)), Step::Run(2), Step::Unlock(ResId(1))];
-    let mut builder = started(rt.alloc(), &steps)?;
+    let mut builder = started(alloc, &steps)?;
+    task(&mut builder, "b", 1, [7, 3, 2])?;
+    told(&mut builder, &[Step::Run(1)])?;
+    Ok(builder)
+}
+
+#[test]
+fn a_builder_is_read(rt: HostRuntime) -> Result<(), Fail> {
+    let mut builder = two_tasks(rt.alloc())?;
     assert_eq!(rt; builder.res_of("h"), Some(ResId(1)));
     assert_eq!(rt; builder.res_of("a"), None);
-    assert_eq!(rt; task(&mut builder, "b", 1, [7, 3, 2])?, TaskId(1));
-    told(&mut builder, &[Step::Run(1)])?;
     assert_eq!(rt; builder.tasks(), 2);
-    let Ok(plan) = finish(builder) else {
+    assert_eq!(rt; task(&mut builder, "c", 1, [7, 3, 2])?, TaskId(2));
+    Ok(())
+}
+
+#[test]
+fn numbers_are_read_back(rt: HostRuntime) -> Result<(), Fail> {
+    let Ok(plan) = finish(two_tasks(rt.alloc())?) else {
         return Err(Fail::from("the plan is refused"));
     };
     assert_eq!(rt; plan.cores(), 2);
     assert_eq!(rt; plan.ticks(), 10);
     assert!(rt; plan.tasks() == 2);
     assert_eq!(rt; plan.core_of(TaskId(1)), CoreId(1));
+    assert_eq!(rt; plan.deadline(TaskId(1)), 3);
+    Ok(())
+}
+
+#[test]
+fn times_are_read_back(rt: HostRuntime) -> Result<(), Fail> {
+    let Ok(plan) = finish(two_tasks(rt.alloc())?) else {
+        return Err(Fail::from("the plan is refused"));
+    };
+    assert!(rt; plan.tasks() == 2);
     let times = Times::Every {
         period: 7,
         offset: 2,
     };
     assert_eq!(rt; plan.times(TaskId(1)), times);
-    assert_eq!(rt; plan.deadline(TaskId(1)), 3);
     assert_eq!(rt; plan.jobs(TaskId(0)), 3);
     assert_eq!(rt; plan.jobs(TaskId(1)), 2);
     Ok(())

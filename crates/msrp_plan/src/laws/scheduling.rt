@@ -1,9 +1,10 @@
 //! What the rules of a turn come to, in the words of scheduling.
-ghost use Rattle.std.specs.Prelude.{List};
+ghost use Rattle.std.specs.Prelude.{List, ℕ};
 ghost use Rattle.msrp_plan.specs.Plan.{PlanModel};
-ghost use Rattle.msrp_plan.specs.Runs.{IsRunStart};
+ghost use Rattle.msrp_plan.specs.Runs.{IsRun, IsRunStart};
+ghost use Rattle.msrp_plan.specs.Logs.{ascending, core_order};
 ghost use Rattle.msrp_plan.specs.WellFormed.{IsPlan};
-ghost use Rattle.msrp_plan.specs.Scheduling.{RunsReleased, WorkConservation, EarliestDeadlineFirst};
+ghost use Rattle.msrp_plan.specs.Scheduling.{RunsReleased, WorkConservation, EarliestDeadlineFirst, IsDueCore, HasNext, IsOrder, HasOneRun};
 ghost use Rattle.msrp_plan.specs.declared.rows.Row.{Row};
 
 /// No job runs before its release.
@@ -22,4 +23,15 @@ pub fn work_conservation()
 /// the first goes on; where the first of the others would come before it, that one isn't above the ceiling.
 pub fn earliest_deadline_first()
     ensures { (plan : PlanModel) (rows : List Row) → IsRunStart plan rows → EarliestDeadlineFirst plan rows }
+{}
+
+/// Existence: after each legal start a core that is due has a legal next row, whatever the others did. So each
+/// order in which every core has one turn in each tick is that of exactly one legal run, if the queue rows
+/// carry how many stand ahead; and the turns of each legal run are such an order. The cores in rising
+/// order are one, so each well-formed plan has a legal run.
+pub fn existence()
+    ensures next { (plan : PlanModel) (pre : List Row) (c : ℕ) → IsPlan plan → IsRunStart plan pre → IsDueCore plan pre c → HasNext plan pre c }
+    ensures run { (plan : PlanModel) (order : List ℕ) → IsPlan plan → IsOrder plan order → HasOneRun plan order }
+    ensures rising { (plan : PlanModel) → IsOrder plan (ascending plan.cores plan.ticks) }
+    ensures order { (plan : PlanModel) (rows : List Row) → IsRun plan rows → IsOrder plan (core_order rows) }
 {}

@@ -1,5 +1,6 @@
 use Rattle.std.proofs.Common.{arith}
 use Rattle.msrp_board.proofs.Calls.{asks_allowed}
+use Rattle.msrp_board.proofs.Entering.{is_ticket, ask_entered}
 use Rattle.msrp_board.proofs.steps.ask.Goals as goal
 
 pub fetch_add-requires : goal.fetch_add-requires

@@ -1,6 +1,6 @@
 use Rattle.std.proofs.Common.{ap, sym, ◌∙◌}
 use Rattle.std.specs.Option.{option_copied}
-use Rattle.msrp_levels.proofs.Usages.{global_first, global_none}
+use Rattle.msrp_levels.proofs.TaskUses.{global_first, global_none}
 use Rattle.msrp_levels.proofs.usage.is_global.Goals as goal
 
 pub returns-in-Some : goal.returns-in-Some

@@ -3,7 +3,7 @@ use Rattle.std.specs.List.{filter, range_with_len}
 use Rattle.std.proofs.lemmas.List.FromFn.{length-map-range_with_len, map-range_with_len_more}
 use Rattle.msrp_plan.specs.Levels.{greatest, top}
 use Rattle.msrp_levels.specs.declared.footprints.Footprint.{Footprint}
-use Rattle.msrp_levels.proofs.Usages.{top_same}
+use Rattle.msrp_levels.proofs.TaskUses.{top_same}
 use Rattle.msrp_levels.proofs.usage.tops_of.Goals as goal
 
 pub push_reserved-requires : goal.push_reserved-requires

@@ -9,7 +9,7 @@ use Rattle.msrp_levels.specs.Usage.{core_use, spin_among, is_global_among, IsSho
 use Rattle.msrp_levels.specs.Footprints.{footprint_of, footprint_at, locks_in}
 use Rattle.msrp_levels.specs.declared.footprints.Footprint.{Footprint}
 use Rattle.msrp_levels.specs.declared.usage.CoreUse.{CoreUse}
-use Rattle.msrp_levels.proofs.Usages.{footprints, core_uses, sections_short, ceiling_same, global_same, users_same, sections_same, spins_same}
+use Rattle.msrp_levels.proofs.TaskUses.{footprints, core_uses, sections_short, ceiling_same, global_same, users_same, sections_same, spins_same}
 use Rattle.msrp_levels.proofs.usage.Usage.of.Goals as goal
 
 -- the resource is one of 32

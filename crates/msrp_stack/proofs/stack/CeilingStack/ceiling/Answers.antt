@@ -10,4 +10,4 @@ pub returns : goal.returns
 returns c =
     let items = c.self.inside.started.items in
     subst (λ s. c.self.inside.ceiling ≡ current_ceiling s) c.self.view_is
-      (layers_ceiling c.self.inside.plan.now c.self.inside.core.0 (layers_of items) c.self.inside.ceiling (is_held (started_of items)) c.self.invariant.layers (held_in_layers (reverse items)))
+    (layers_ceiling c.self.inside.plan.now c.self.inside.core.0 (layers_of items) c.self.inside.ceiling (is_held (started_of items)) c.self.invariant.layers (held_in_layers (reverse items)))

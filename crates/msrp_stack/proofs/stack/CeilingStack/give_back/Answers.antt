@@ -16,7 +16,7 @@ kept c =
     let items = c.self.inside.started.items in
     let held = subst (λ (s : StackModel). SomeHeld s.started) (sym c.self.view_is) c.requires in
     give_back_keeps c.self.inside.plan.now c.self.inside.core.0 c.self.inside.ceilings items c.len-last.result c.index_mut.result.now (left c) c.in-Some.held c.self.inside.started.cap c.self.inside.ceiling
-      (c.len-last.ensures ∙ c.self.inside.started.ok.0) c.self.invariant (some_items items SomeHeld (λ h. h.1) held) c.index_mut.ensures.value (record { job = refl; held = c.pop.ensures.items ∙ ap (λ o. c.pop.new.self.items ++ option_to_list o) c.in-Some.is })
+    (c.len-last.ensures ∙ c.self.inside.started.ok.0) c.self.invariant (some_items items SomeHeld (λ h. h.1) held) c.index_mut.ensures.value (record { job = refl; held = c.pop.ensures.items ∙ ap (λ o. c.pop.new.self.items ++ option_to_list o) c.in-Some.is })
 
 pub invariant_of-self : goal.invariant_of-self
 invariant_of-self c = (kept c).0
@@ -27,4 +27,4 @@ returns-in-Some c =
     let plan = c.self.inside.plan.now in
     let core = c.self.inside.core.0 in
     subst (λ (s : StackModel). record { plan = plan; core = core; started = started_of new } ≡ record { plan = s.plan; core = s.core; started = without_held s.started }) c.self.view_is
-      (ap (λ l. record { plan = plan; core = core; started = l }) (kept c).1)
+    (ap (λ l. record { plan = plan; core = core; started = l }) (kept c).1)
