@@ -1,6 +1,6 @@
 -- A state under the rule, as callers see it.
-use Rattle.std.proofs.Common.{◌≡◌, ◌+◌, ◌≤◌, ℕ, zero, suc, List, [], ◌∷◌, length, map, take, Some, None, refl, sym, ap, ◌∙◌, subst, arith}
-use Rattle.std.specs.Prelude.{slice_index, slice_get}
+use Rattle.std.proofs.Common.{◌≡◌, ℕ, zero, suc, List, [], ◌∷◌, map, Some, refl, sym, ap, ◌∙◌, arith}
+use Rattle.std.specs.Prelude.{slice_get}
 use mathlib.Core.Option.{some, some-injective, some-ne-none}
 use lib.ListN.{get_elem?}
 use Rattle.atomic_table.specs.Table.{State}
@@ -9,7 +9,6 @@ use Rattle.msrp_board.specs.declared.books.Conductor.{Conductor}
 use Rattle.msrp_board.specs.declared.pages.Page.{Page}
 use Rattle.msrp_board.specs.declared.pages.View.{View}
 use Rattle.msrp_board.specs.Seats.{BoardModel, SeatModel, book_at}
-use Rattle.msrp_board.specs.Boards.{WholeBoard}
 use Rattle.msrp_board.specs.Moments.{HoldsBook, HoldsConductor, AreTied}
 use Rattle.msrp_board.specs.Inside.Rule.{OwnsBy, HasPage, HasConductor, Ruled}
 use Rattle.msrp_board.specs.Inside.Held.{told, seen_as}
@@ -49,17 +48,17 @@ pub tied_always : (board : BoardModel) (s : State (Unit {0}) View) → Ruled boa
 tied_always board s r =
     let z = board.size in
     record {
-      whole = whole_of z s.words (map told r.0) r.1;
+      whole = whole_of z s.words (map told r.pages) r.conductor;
       sized = refl;
       tickets = refl;
       barrier = refl;
       shared = record {
-        books = λ i c b h. let k = held board s.views i c b h in book_of_page r.0 c k.page (r.2.0 i c k.page k.owns) ∙ ap (λ (x : Book). Some x) k.tells;
-        with_one = λ c b e. let p = page_of_book r.0 c b e in let o = r.2.2 c p.0 p.1 in (o.0, of_page board s.views o.0 c p.0 b p.2 o.1);
-        with_no_other = λ i j c b e h k. let x = held board s.views i c b h in let y = held board s.views j c e k in r.2.1 i j c x.page y.page x.owns y.owns;
-        conductor = λ i o h. sym (r.3.0 i 0 o (held_conductor board s.views i o h)).1;
-        conductor_with_one = let o = r.3.2 0 r.1 (refl, refl) in (o.0, (seen_as board o.1.0, seat_of board s.views o.0 o.1.0 o.1.1, o.1.2.1));
-        conductor_with_no_other = λ i j o e h k. r.3.1 i j 0 o e (held_conductor board s.views i o h) (held_conductor board s.views j e k);
+        books = λ i c b h. let k = held board s.views i c b h in book_of_page r.pages c k.page (r.shared.true_of i c k.page k.owns) ∙ ap (λ (x : Book). Some x) k.tells;
+        with_one = λ c b e. let p = page_of_book r.pages c b e in let o = r.shared.with_one c p.0 p.1 in (o.0, of_page board s.views o.0 c p.0 b p.2 o.1);
+        with_no_other = λ i j c b e h k. let x = held board s.views i c b h in let y = held board s.views j c e k in r.shared.with_no_other i j c x.page y.page x.owns y.owns;
+        conductor = λ i o h. sym (r.shared_conductor.true_of i 0 o (held_conductor board s.views i o h)).1;
+        conductor_with_one = let o = r.shared_conductor.with_one 0 r.conductor (refl, refl) in (o.0, (seen_as board o.1.0, seat_of board s.views o.0 o.1.0 o.1.1, o.1.2.1));
+        conductor_with_no_other = λ i j o e h k. r.shared_conductor.with_no_other i j 0 o e (held_conductor board s.views i o h) (held_conductor board s.views j e k);
       };
-      tied = tied_told z s.words r.0 r.1 r.5.0 (let l = r.5.1 in omega (arith, l)) r.4;
+      tied = tied_told z s.words r.pages r.conductor r.limits (let l = r.words in omega (arith, l)) r.tied;
     }

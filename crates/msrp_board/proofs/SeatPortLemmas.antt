@@ -1,7 +1,6 @@
 -- A port over a core's seat: what a port asks for is what the board asks for, and a step adds one call.
-use Rattle.std.proofs.Common.{◌==◌, ◌||◌, ◌≡◌, ◌≢◌, ◌+◌, ◌<◌, ℕ, List, [], ◌∷◌, ◌++◌, Bool, true, false, Some, None, refl, sym, ap, ◌∙◌, subst, arith, eq-eqb, true≢false}
+use Rattle.std.proofs.Common.{◌==◌, ◌||◌, ◌≡◌, ◌≢◌, ◌<◌, ℕ, [], ◌∷◌, ◌++◌, Bool, true, false, refl, sym, ap, ◌∙◌, subst, arith, eq-eqb}
 use Rattle.std.specs.List.{list_any}
-use Rattle.std.specs.declared.option.Option.{Option}
 use Rattle.std.proofs.lemmas.List.Folds.{list_any-append}
 use mathlib.Core.Logic.{dite}
 use native.Mathlib.Decide.{ℕ_discrete}
@@ -13,8 +12,8 @@ use Rattle.msrp_board.specs.declared.answers.SeatPhase.{SeatPhase}
 use Rattle.msrp_board.specs.declared.answers.SeatPhase.TheVariants.{Waiting, Admitted, Done, Stopped}
 use Rattle.msrp_board.specs.declared.books.Entry.{Entry}
 use Rattle.msrp_board.specs.declared.books.Book.{Book}
-use Rattle.msrp_board.specs.Books.{phase_in, has_acted}
-use Rattle.msrp_board.specs.Seats.{BoardModel, SeatModel, book_at, IsCoreSeat, MayAct}
+use Rattle.msrp_board.specs.Books.{has_acted}
+use Rattle.msrp_board.specs.Seats.{BoardModel, SeatModel, MayAct}
 use Rattle.msrp_board.specs.Steps.{book_with_entry, with_entry}
 use Rattle.msrp_board.specs.SeatPorts.{calls_in, port_calls, room_by, room_in, port_room, IsPort, AddsCall}
 use Rattle.msrp_board.proofs.Told.{res_calls_last}
@@ -35,13 +34,6 @@ room_none board c k seat p n = ap (room_in seat.board.size.ticks) (no_other_book
 
 room_own : (board : BoardModel) (c : ℕ) (seat : SeatModel) (p : IsPort board c seat) → port_room seat c ≡ room_by Admitted (has_acted p.book)
 room_own board c seat p = ap (room_in seat.board.size.ticks) p.of_core.book ∙ ap (λ x. room_by x (has_acted p.book)) p.stands
-
--- the room of a core is that of the seat's core, which is one where it has not acted
-pub room_is : (board : BoardModel) (c k : ℕ) (seat : SeatModel) (acted : Bool) → IsPort board c seat → k ≡ c → ((d : ℕ) (b : Book) → IsCoreSeat seat d b → acted ≡ has_acted b) → port_room seat k ≡ room_by Admitted acted
-room_is board c k seat acted p same reads = ap (port_room seat) same ∙ room_own board c seat p ∙ ap (room_by Admitted) (sym (reads c p.book p.of_core))
-
-pub room_else : (board : BoardModel) (c k : ℕ) (seat : SeatModel) → IsPort board c seat → k ≢ c → port_room seat k ≡ 0
-room_else board c k seat p n = room_none board c k seat p n
 
 -- whoever has room in a port is the core of its seat, and may act
 pub port_core : (board : BoardModel) (c k : ℕ) (seat : SeatModel) → IsPort board c seat → 0 < port_room seat k → k ≡ c

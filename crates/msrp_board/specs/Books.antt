@@ -1,5 +1,5 @@
 -- What a core's book says of the core, and what every book keeps: the rule's part on one book. Entries stand oldest first.
-use Rattle.std.specs.Prelude.{◌≡◌, ℕ, suc, ◌<◌, ◌≤◌, List, [], ◌∷◌, Bool, true, false, cond, nat_lt, ◌==◌, map, ⊤}
+use Rattle.std.specs.Prelude.{ℕ, suc, ◌<◌, ◌≤◌, List, [], ◌∷◌, Bool, true, false, cond, nat_lt, ◌==◌, map, ⊤}
 use Rattle.std.specs.List.{list_any, filter, AllByRecursion}
 use Rattle.msrp_plan.specs.declared.limits.TheConstants.{MOST_CORES, MOST_RESOURCES, MOST_TICKS}
 use Rattle.msrp_plan.specs.Calls.{ResCall, claim_after, IsRegular}

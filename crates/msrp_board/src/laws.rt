@@ -1,7 +1,11 @@
 //! Laws over the definitions alone.
-ghost use Rattle.std.specs.Prelude.{List, map};
+ghost use Rattle.std.specs.Prelude.{◌≡◌, List, [], map, false};
 ghost use Rattle.atomic_table.specs.Table.{State};
 ghost use Rattle.msrp_board.specs.declared.pages.View.{View};
+ghost use Rattle.msrp_board.specs.declared.answers.SeatPhase.TheVariants.{Waiting};
+ghost use Rattle.msrp_board.specs.declared.books.Book.{Book};
+ghost use Rattle.msrp_board.specs.declared.books.BoardSize.{BoardSize};
+ghost use Rattle.msrp_board.specs.Books.{IsKept, phase_in, has_acted};
 ghost use Rattle.msrp_board.specs.History.{HistoryIsUnique};
 ghost use Rattle.msrp_board.specs.Seats.{BoardModel};
 ghost use Rattle.msrp_board.specs.Moments.{AreTied};
@@ -19,4 +23,11 @@ pub fn history_is_unique()
 /// see them, are shared out among the seats and tied to the words.
 pub fn tied_at_every_moment()
     ensures { (board : BoardModel) (state : State (Unit {0}) View) → Ruled board.size state → AreTied board.size state.words (map (seen_as board) state.views) }
+{}
+
+/// A core that waits for its tick has not acted in it, and one that waits for tick 0 has done nothing. So a seat that
+/// was just let in may act.
+pub fn waiting_cores()
+    ensures acted { (size : BoardSize) (b : Book) → IsKept size b → phase_in size.ticks b ≡ Waiting → has_acted b ≡ false }
+    ensures entries { (size : BoardSize) (b : Book) → IsKept size b → phase_in size.ticks b ≡ Waiting → b.tick ≡ 0 → b.entries ≡ [] }
 {}

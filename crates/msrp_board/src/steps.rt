@@ -17,7 +17,7 @@ use std::marker::Brand;
 pub fn ask(words: &Words, seat: &mut TableSeat, res: usize) -> TicketWord
     requires table { seat.old.table_id ≡ words.now.table_id }
     requires res { (res < words.now.key.resources) × (words.now.table_id.words ≡ words.now.key.resources + 1) }
-    requires free { ViewMayAct words.now.key seat.old.me.0 Nothing }
+    requires free { ViewMayAct seat.old.me.0 Nothing }
     ensures table { seat.new.table_id ≡ seat.old.table_id }
     ensures found { IsTicket result }
     ensures asked { HasEntered res (result.next + result.serving) (Ask (result.next - result.serving)) seat.old.me seat.new.me }
@@ -29,7 +29,7 @@ pub fn ask(words: &Words, seat: &mut TableSeat, res: usize) -> TicketWord
 pub fn poll(words: &Words, seat: &mut TableSeat, res: usize, ticket: u32) -> TicketWord
     requires table { seat.old.table_id ≡ words.now.table_id }
     requires res { (res < words.now.key.resources) × (words.now.table_id.words ≡ words.now.key.resources + 1) }
-    requires queued { ViewMayAct words.now.key seat.old.me.0 (Waits res ticket) }
+    requires queued { ViewMayAct seat.old.me.0 (Waits res ticket) }
     ensures table { seat.new.table_id ≡ seat.old.table_id }
     ensures found { IsTicket result }
     ensures polled { HasEntered res (result.next + result.serving) (Poll (result.serving == ticket)) seat.old.me seat.new.me }
@@ -42,7 +42,7 @@ pub fn poll(words: &Words, seat: &mut TableSeat, res: usize, ticket: u32) -> Tic
 pub fn leave(words: &Words, seat: &mut TableSeat, res: usize) -> TicketWord
     requires table { seat.old.table_id ≡ words.now.table_id }
     requires res { (res < words.now.key.resources) × (words.now.table_id.words ≡ words.now.key.resources + 1) }
-    requires holding { (t : ℕ) × ViewMayAct words.now.key seat.old.me.0 (Holds res t) }
+    requires holding { (t : ℕ) × ViewMayAct seat.old.me.0 (Holds res t) }
     ensures table { seat.new.table_id ≡ seat.old.table_id }
     ensures found { IsTicket result }
     ensures left { HasEntered res (result.next + result.serving) Leave seat.old.me seat.new.me }

@@ -123,8 +123,11 @@ pub record IsSettled (z : BoardSize) (words : List ℕ) (seat : SeatModel) : Typ
   pub room : z.resources ≤ MOST_RESOURCES
   pub tied : IsTied (settled_as z words seat)
 
--- the seat knows all these pages, and the rule holds of them
-abbrev pub IsWhole : BoardSize → List ℕ → View → Type 0
-IsWhole z words v =
-    (books : List Page) × ((c : ℕ) (b : Page) → HasPage v c b → get_elem? books c ≡ some b)
-    × ((c : ℕ) (b : Page) → get_elem? books c ≡ some b → HasPage v c b) × ((o : Conductor) × (v.conductor ≡ Some o) × IsTiedNewest z words books o)
+-- the seat knows all pages and the conductor's book, and the rule holds of them
+pub record IsWhole (z : BoardSize) (words : List ℕ) (v : View) : Type 0 where
+  pub pages : List Page
+  pub conductor : Conductor
+  pub known : (c : ℕ) (b : Page) → HasPage v c b → get_elem? pages c ≡ some b
+  pub all : (c : ℕ) (b : Page) → get_elem? pages c ≡ some b → HasPage v c b
+  pub conducts : v.conductor ≡ Some conductor
+  pub tied : IsTiedNewest z words pages conductor

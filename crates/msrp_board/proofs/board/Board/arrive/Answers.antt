@@ -3,7 +3,7 @@ use Rattle.msrp_board.specs.declared.answers.SeatPhase.TheVariants.{Admitted}
 use Rattle.msrp_board.specs.declared.held.CoreState.{CoreState}
 use Rattle.msrp_board.specs.Inside.Rule.{page_with_arrival}
 use Rattle.msrp_board.proofs.Seats.{standing, admitted_page, arriving, seat_changed}
-use Rattle.msrp_board.proofs.Ties.{seat_step}
+use Rattle.msrp_board.proofs.CoreStates.{seat_step}
 use Rattle.msrp_board.proofs.Kept.{kept_arrival}
 use Rattle.msrp_board.proofs.board.Board.arrive.Goals as goal
 
@@ -11,7 +11,7 @@ pub own-core-requires : goal.own-core-requires
 own-core-requires c = let a = standing _ _ _ _ c.seat.inside.table_seat.me _ Admitted c.seat.invariant c.seat.view_is c.requires.admitted in (c.seat.inside.table_seat.me.0, a.core, a.page, a.own)
 
 pub arrive-requires-clause-admitted : goal.arrive-requires-clause-admitted
-arrive-requires-clause-admitted c = let a = standing _ _ _ _ c.seat.inside.table_seat.me _ Admitted c.seat.invariant c.seat.view_is c.requires.admitted in (a.core, a.page, a.own.only, admitted_page _ _ _ a)
+arrive-requires-clause-admitted c = let a = standing _ _ _ _ c.seat.inside.table_seat.me _ Admitted c.seat.invariant c.seat.view_is c.requires.admitted in record { core = a.core; page = a.page; has = a.own.only; admitted = admitted_page _ _ _ a }
 
 pub with_arrival-requires : goal.with_arrival-requires
 with_arrival-requires c =

@@ -1,6 +1,6 @@
 use Rattle.std.proofs.Common.{sym, ap, ◌∙◌, ◌≡◌}
 use Rattle.msrp_board.specs.Seats.{BoardModel, SeatModel}
-use Rattle.msrp_board.proofs.Parts.{both_is_seat, both_seen}
+use Rattle.msrp_board.proofs.SeatParts.{both_is_seat, both_seen}
 use Rattle.msrp_board.proofs.board.Board.join.Goals as goal
 
 pub invariant_of-result : goal.invariant_of-result

@@ -1,6 +1,6 @@
-use Rattle.std.proofs.Common.{◌+◌, ◌<◌, ◌==◌, ◌*◌, refl, sym, ap, ◌∙◌, ◌≡◌, subst}
+use Rattle.std.proofs.Common.{◌+◌, ◌<◌, refl, sym, ap, ◌∙◌, ◌≡◌, subst}
 use Rattle.msrp_plan.specs.declared.ids.ResId.{ResId}
-use Rattle.msrp_plan.specs.declared.units.Call.TheVariants.{Poll, Leave}
+use Rattle.msrp_plan.specs.declared.units.Call.TheVariants.{Leave}
 use Rattle.msrp_plan.specs.declared.units.Phase.TheVariants.{Holding}
 use Rattle.msrp_board.specs.declared.books.BoardSize.{BoardSize}
 use Rattle.msrp_board.specs.Seats.{BoardModel, SeatModel}
@@ -23,7 +23,7 @@ leave-word-requires-clause-res c =
     (subst (λ (z : BoardSize). c.in-Holds.res < z.resources) size k.below, c.self.invariant.words ∙ ap (λ (z : BoardSize). z.resources + 1) (sym c.self.invariant.keyed))
 
 pub leave-word-requires-clause-holding : goal.leave-word-requires-clause-holding
-leave-word-requires-clause-holding c = let k = claiming _ _ _ _ c.seat.inside.table_seat.me _ (Holding c.requires.holding.0) c.own-core.result.0 c.own-core.result.1 _ c.seat.invariant c.seat.view_is c.requires.holding.1 (c.own-core.ensures.own c.seat.inside.table_seat.me.0) c.in-Holds.is in (_, (k.act.core, k.act.page, k.act.own.only, k.claim, k.act.room, k.act.quiet))
+leave-word-requires-clause-holding c = let k = claiming _ _ _ _ c.seat.inside.table_seat.me _ (Holding c.requires.holding.0) c.own-core.result.0 c.own-core.result.1 _ c.seat.invariant c.seat.view_is c.requires.holding.1 (c.own-core.ensures.own c.seat.inside.table_seat.me.0) c.in-Holds.is in (_, record { core = k.act.core; page = k.act.page; has = k.act.own.only; claims = k.claim; admitted = k.act.room; quiet = k.act.quiet })
 
 pub invariant_of-seat : goal.invariant_of-seat
 invariant_of-seat c =

@@ -8,7 +8,7 @@ use Rattle.msrp_board.specs.Inside.Rule.{page_after_look}
 use Rattle.msrp_board.specs.Inside.Held.{look_of}
 use Rattle.msrp_board.proofs.Seats.{standing, waiting_page, look_wait, look_go, look_stop, stop_start}
 use Rattle.msrp_board.proofs.Kept.{kept_look}
-use Rattle.msrp_board.proofs.Ties.{seat_step}
+use Rattle.msrp_board.proofs.CoreStates.{seat_step}
 use Rattle.msrp_board.proofs.board.Board.look.Goals as goal
 
 pub own-core-requires : goal.own-core-requires
@@ -19,7 +19,7 @@ look-found-requires-clause-waiting c =
     let a = standing _ _ _ _ c.seat.inside.table_seat.me _ Waiting c.seat.invariant c.seat.view_is c.requires.waiting in
     let w = waiting_page _ _ _ a in
     let size : c.seat.inside.size ≡ c.self.inside.table.shared.key = ap (λ (s : SeatModel). s.board.size) c.seat.view_is ∙ ap (λ (b : BoardModel). b.size) (c.requires.board ∙ sym c.self.view_is) ∙ sym c.self.invariant.keyed in
-    (a.core, a.page, a.own.only, w.0, subst (λ (z : BoardSize). a.page.tick < z.ticks) size w.1)
+    record { core = a.core; page = a.page; has = a.own.only; out = w.0; left = subst (λ (z : BoardSize). a.page.tick < z.ticks) size w.1 }
 
 pub invariant_of-seat : goal.invariant_of-seat
 invariant_of-seat c =

@@ -1,4 +1,3 @@
-use Rattle.msrp_board.specs.Books.{IsSize}
 use Rattle.msrp_board.proofs.Start.{begins_at}
 use Rattle.msrp_board.proofs.Seats.{first_is_seat, first_made}
 use Rattle.msrp_board.proofs.board.Board.new.Goals as goal

@@ -1,5 +1,5 @@
-use Rattle.msrp_board.proofs.Ties.{is_low}
-use Rattle.msrp_board.proofs.Parts.{core_low, alone_is_seat, without_is_seat, alone_seen, without_seen}
+use Rattle.msrp_board.proofs.CoreStates.{is_low}
+use Rattle.msrp_board.proofs.SeatParts.{core_low, alone_is_seat, without_is_seat, alone_seen, without_seen}
 use Rattle.msrp_board.proofs.board.Board.split.Goals as goal
 
 pub only-requires : goal.only-requires

@@ -1,7 +1,7 @@
 use Rattle.std.proofs.Common.{ap, sym, ◌∙◌, ltb-true, true≢false, arith}
 use Rattle.std.specs.Option.{is_some}
 use Rattle.msrp_board.specs.Seats.{SeatModel, book_at}
-use Rattle.msrp_board.proofs.Ties.{is_low}
+use Rattle.msrp_board.proofs.CoreStates.{is_low}
 use Rattle.msrp_board.proofs.Seats.{is_seat}
 use Rattle.msrp_board.proofs.Told.{held_some, none_past}
 use Rattle.msrp_board.proofs.seat.BoardSeat.has_book.Goals as goal
