@@ -7,7 +7,7 @@ use Rattle.msrp_board.specs.declared.books.Conductor.{Conductor}
 use Rattle.msrp_board.specs.declared.books.Conductor.TheVariants.{Unopened, Opened, Aborted}
 use Rattle.msrp_board.specs.Books.{IsSize, reach, IsKept}
 use Rattle.msrp_board.specs.History.{Event, IsServed}
-pub use Rattle.msrp_board.specs.Seats.{empty_book}
+use Rattle.msrp_board.specs.Seats.{empty_book}
 
 -- a whole board: its ticket words, that of resource 0 first, its barrier word, all its books, that of core 0 first,
 -- and the conductor's
