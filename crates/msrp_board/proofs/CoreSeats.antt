@@ -1,16 +1,23 @@
 -- A core's seat, for whoever makes its calls: how it comes about, what its readers tell, and that it stays one.
-use Rattle.std.proofs.Common.{◌≡◌, ℕ, zero, suc, List, [], ◌∷◌, map, Bool, true, false, Some, None, refl, sym, subst, ap, ◌∙◌, true≢false}
+use Rattle.std.proofs.Common.{◌==◌, ◌||◌, ◌≡◌, ◌<◌, ℕ, zero, suc, List, [], ◌∷◌, map, Bool, true, false, nat_lt, Some, None, refl, sym, subst, ap, ◌∙◌, true≢false, arith, ne_eqb}
 use Rattle.std.specs.Prelude.{slice_index_or, IsSome}
+use Rattle.std.specs.List.{list_any, AllByRecursion}
 use Rattle.std.specs.Option.{option_map, is_some}
 use Rattle.std.specs.declared.option.Option.{Option}
+use mathlib.Core.Logic.{dite}
+use native.Mathlib.Decide.{ℕ_discrete}
 use Rattle.msrp_plan.specs.declared.units.Phase.{Phase}
-use Rattle.msrp_board.specs.declared.answers.SeatPhase.{SeatPhase}
-use Rattle.msrp_board.specs.declared.answers.SeatPhase.TheVariants.{Admitted}
-use Rattle.msrp_board.specs.declared.books.Book.{Book}
-use Rattle.msrp_board.specs.Books.{phase_in, has_acted, lock_of}
-use Rattle.msrp_board.specs.Boards.{BoardModel, SeatModel, book_at, IsCoreSeat, IsCoreSeatOn, HasCore, IsIn, MayAct, with_books, only_at, alone, admitted, stopped}
 use Rattle.msrp_board.specs.declared.answers.Look.{Look}
 use Rattle.msrp_board.specs.declared.answers.Look.TheVariants.{Wait, Go, Stopped}
+use Rattle.msrp_board.specs.declared.answers.SeatPhase.{SeatPhase}
+use Rattle.msrp_board.specs.declared.answers.SeatPhase.TheVariants.{Waiting, Admitted}
+use Rattle.msrp_board.specs.declared.books.Entry.{Entry}
+use Rattle.msrp_board.specs.declared.books.Book.{Book}
+use Rattle.msrp_board.specs.declared.books.BoardSize.{BoardSize}
+use Rattle.msrp_board.specs.Books.{phase_by, phase_in, has_acted, lock_of, reach_of, IsKept}
+use Rattle.msrp_board.specs.Seats.{BoardModel, SeatModel, book_at, IsSeat, IsCoreSeat, IsCoreSeatOn, HasCore, IsIn, IsFresh, MayAct}
+use Rattle.msrp_board.specs.Steps.{with_books, book_with_admission, with_admission, with_stop, only_at, alone}
+use Rattle.msrp_board.proofs.SeatBooks.{at-only_other, book_at-alone}
 
 -- a core's seat is of one core, and has one book
 pub core_is_one : (seat : SeatModel) (c d : ℕ) (b e : Book) → IsCoreSeat seat c b → IsCoreSeat seat d e → (c ≡ d) × (b ≡ e)
@@ -21,20 +28,14 @@ core_is_one seat c d b e one two =
 -- ---- how it comes about
 
 only_book : (c d : ℕ) (l : List (Option Book)) (e : Book) → slice_index_or (only_at c l) d None ≡ Some e → d ≡ c
-only_book c d [] e h = absurd (cc)
-only_book zero zero (x ∷ xs) e h = refl
-only_book zero (suc d) (x ∷ xs) e h = absurd (cc)
-only_book (suc c) zero (x ∷ xs) e h = absurd (cc)
-only_book (suc c) (suc d) (x ∷ xs) e h = ap suc (only_book c d xs e h)
-
-book_alone : (c : ℕ) (l : List (Option Book)) → slice_index_or (only_at c l) c None ≡ slice_index_or l c None
-book_alone c [] = refl
-book_alone zero (x ∷ xs) = refl
-book_alone (suc c) (x ∷ xs) = book_alone c xs
+only_book c d l e h = dite (ℕ_discrete d c) (λ q. q) (λ n. absurd (clash (sym (at-only_other c d l n) ∙ h)))
+  where
+    clash : None ≡ Some e → ⊥
+    clash q = cc
 
 -- the book of a core, parted from the others, makes the core's seat
 pub alone_is_core : (seat : SeatModel) (c : ℕ) (b : Book) → book_at seat c ≡ Some b → IsCoreSeat (alone c seat) c b
-alone_is_core seat c b h = record { book = book_alone c seat.books ∙ h; only = λ d e k. only_book c d seat.books e k; conductor = refl }
+alone_is_core seat c b h = record { book = book_at-alone seat c ∙ h; only = λ d e k. only_book c d seat.books e k; conductor = refl }
 
 some_book : (o : Option Book) → is_some o ≡ true → (b : Book) × (o ≡ Some b)
 some_book None e = absurd (true≢false (sym e))
@@ -71,14 +72,64 @@ step_on f old new board is s = record { core = subst HasCore (sym is) (changed_h
 -- ---- what its readers tell
 
 pub is_in : (seat : SeatModel) (phase : SeatPhase) → HasCore seat → ((c : ℕ) (b : Book) → IsCoreSeat seat c b → phase ≡ phase_in seat.board.size.ticks b) → IsIn phase seat
-is_in seat phase s reads = (s.0, s.1, s.2, sym (reads s.0 s.1 s.2))
+is_in seat phase s reads = record { core = s.0; book = s.1; of_core = s.2; stands = sym (reads s.0 s.1 s.2) }
 
-pub may_act : (seat : SeatModel) (phase : SeatPhase) (quiet : Bool) (lock : Phase) → HasCore seat → phase ≡ Admitted → quiet ≡ false
-    → ((c : ℕ) (b : Book) → IsCoreSeat seat c b → phase ≡ phase_in seat.board.size.ticks b) → ((c : ℕ) (b : Book) → IsCoreSeat seat c b → quiet ≡ has_acted b) → ((c : ℕ) (b : Book) → IsCoreSeat seat c b → lock ≡ lock_of b) → MayAct lock seat
-may_act seat phase quiet lock s at free phases acts locks = (s.0, s.1, s.2, sym (phases s.0 s.1 s.2) ∙ at, sym (acts s.0 s.1 s.2) ∙ free, sym (locks s.0 s.1 s.2))
+pub may_act : (seat : SeatModel) (lock : Phase) → IsFresh seat → ((c : ℕ) (b : Book) → IsCoreSeat seat c b → lock ≡ lock_of b) → MayAct lock seat
+may_act seat lock fresh reads = let m = fresh.1 in record { core = m.core; book = m.book; of_core = m.of_core; stands = m.stands; quiet = m.quiet; claims = sym (reads m.core m.book m.of_core) }
+
+pub is_admitted : (seat : SeatModel) → IsFresh seat → IsIn Admitted seat
+is_admitted seat fresh = let m = fresh.1 in record { core = m.core; book = m.book; of_core = m.of_core; stands = m.stands }
+
+-- ---- what follows from what every book keeps
+
+none_at : (t : ℕ) (es : List Entry) → AllByRecursion (λ e. e.tick < t) es → list_any (λ e. e.tick == t) es ≡ false
+none_at t [] past = refl
+none_at t (e ∷ es) past = let h = past.0 in ap (λ x. x || list_any (λ e. e.tick == t) es) (ne_eqb e.tick t (λ q. omega (arith, h, q))) ∙ none_at t es past.1
+
+none_before : (t : ℕ) (es : List Entry) → t ≡ 0 → AllByRecursion (λ e. e.tick < t) es → es ≡ []
+none_before t [] zero_is past = refl
+none_before t (e ∷ es) zero_is past = absurd (let h = past.0 in omega (arith, h, zero_is))
+
+entries_past : (size : BoardSize) (b : Book) → IsKept size b → b.admitted ≡ false → AllByRecursion (λ e. e.tick < b.tick) b.entries
+entries_past size b kept out = subst (λ r. AllByRecursion (λ e. e.tick < r) b.entries) (ap (λ a. reach_of a b.tick) out) kept.past
+
+-- a core that is in no tick has not acted in the one that it waits for
+pub not_acted : (size : BoardSize) (b : Book) → IsKept size b → b.admitted ≡ false → has_acted b ≡ false
+not_acted size b kept out = none_at b.tick b.entries (entries_past size b kept out)
+
+-- a core that waits for tick 0 has done nothing
+pub empty_at_start : (size : BoardSize) (b : Book) → IsKept size b → b.admitted ≡ false → b.tick ≡ 0 → b.entries ≡ []
+empty_at_start size b kept out zero_is = none_before b.tick b.entries zero_is (entries_past size b kept out)
+
+waits : (stopped admitted left : Bool) → phase_by stopped admitted left ≡ Waiting → (stopped ≡ false) × (admitted ≡ false)
+waits true a left e = absurd (cc)
+waits false true left e = absurd (cc)
+waits false false left e = (refl, refl)
+
+-- where a book waits, it is neither told to stop nor admitted
+pub waiting_book : (ticks : ℕ) (b : Book) → phase_in ticks b ≡ Waiting → (b.stopped ≡ false) × (b.admitted ≡ false)
+waiting_book ticks b stands = waits b.stopped b.admitted (nat_lt b.tick ticks) stands
+
+-- a core that was just let in has not acted
+pub fresh_after_go : (old new : SeatModel) → IsSeat old → IsIn Waiting old → new ≡ with_admission old → IsFresh new
+fresh_after_go old new kept at is =
+    let out = waiting_book old.board.size.ticks at.book at.stands in
+    subst IsFresh (sym is) (
+      lock_of at.book,
+      record {
+        core = at.core;
+        book = book_with_admission at.book;
+        of_core = core_changed book_with_admission old at.core at.book at.of_core;
+        stands = ap (λ x. phase_by x true (nat_lt at.book.tick old.board.size.ticks)) out.0;
+        quiet = not_acted old.board.size at.book (kept.kept at.core at.book at.of_core.book) out.1;
+        claims = refl;
+      },
+    )
+
+-- ---- a look
 
 -- whatever a look finds
-pub looked_on : (look : Look) (old new : SeatModel) (board : BoardModel) → IsCoreSeatOn board old → (look ≡ Wait → new ≡ old) → (look ≡ Go → new ≡ admitted old) → (look ≡ Stopped → new ≡ stopped old) → IsCoreSeatOn board new
+pub looked_on : (look : Look) (old new : SeatModel) (board : BoardModel) → IsCoreSeatOn board old → (look ≡ Wait → new ≡ old) → (look ≡ Go → new ≡ with_admission old) → (look ≡ Stopped → new ≡ with_stop old) → IsCoreSeatOn board new
 looked_on Wait old new board s wait go stop = subst (IsCoreSeatOn board) (sym (wait refl)) s
 looked_on Go old new board s wait go stop = step_on _ old new board (go refl) s
 looked_on Stopped old new board s wait go stop = step_on _ old new board (stop refl) s

@@ -2,6 +2,7 @@
 use Rattle.std.proofs.Common.{◌==◌, ◌≡◌, ℕ, ◌+◌, ◌<◌, ◌≤◌, List, [], ◌∷◌, ◌++◌, reverse, Bool, true, false, cond, fold, refl, sym, ap, ◌∙◌, subst, arith, append-nil, true≢false}
 use Rattle.std.specs.Prelude.{count_by}
 use Rattle.std.specs.List.{AllByRecursion}
+use Rattle.std.specs.Bool.{OnTrue}
 use Rattle.std.proofs.lemmas.List.Sums.{sum_by-append, sum_by-cons}
 use Rattle.msrp_plan.specs.FifoLock.{FifoLock, free_lock, lock_after, Answers, LegalFrom, Legal}
 use Rattle.msrp_plan.specs.declared.units.Call.{Call}
@@ -10,14 +11,13 @@ use Rattle.msrp_plan.specs.declared.units.Phase.{Phase}
 use Rattle.msrp_plan.specs.declared.units.Phase.TheVariants.{Free}
 use Rattle.msrp_board.specs.declared.books.Entry.{Entry}
 use Rattle.msrp_board.specs.declared.held.Claim.{Claim}
-use Rattle.msrp_board.specs.Books.{on, phase_after, IsBefore, IsInTurn, IsOrderly, ToNext, IsChain}
+use Rattle.msrp_board.specs.Books.{on, res_calls, ToNext, IsChain}
+use Rattle.msrp_plan.specs.Calls.{ResCall, claim_with, IsInTurn, IsRegularFrom, IsRegular}
 use Rattle.msrp_board.specs.History.{Event, by, calls, is_request, is_poll, is_release, place_after, Placed, PollsInOrder, IsNotLater, IsHistory}
-use Rattle.msrp_board.specs.Newest.{asks_after, leaves_after, asks, leaves, lock, LegalNewest, PlacedNewest, RisingNewest, NoneLater, polls, tie, After, TidyNewest, claim, InTurn, Orderly, BehindAll, Ticks}
-use Rattle.msrp_board.specs.Held.{phase_of}
+use Rattle.msrp_board.specs.Inside.Newest.{asks_after, leaves_after, asks, leaves, lock, LegalNewest, PlacedNewest, RisingNewest, NoneLater, are_polls, IsPollAfter, PollsNewest, claim_of, IsClaimInTurn, IsRegularNewest, TicksNewest}
+use Rattle.msrp_board.specs.Inside.Held.{phase_of}
 use Rattle.msrp_board.proofs.Lists.{reverse_cons, fold_last, all_reversed, filter_reversed, chain_reversed}
-use Rattle.msrp_board.proofs.Queue.{by_cases}
-use Rattle.msrp_board.proofs.Calls.{all_before}
-use Rattle.msrp_board.proofs.Told.{lock_newest}
+use Rattle.msrp_board.proofs.Told.{lock_newest, res_calls_newest}
 
 -- ---- the lock
 
@@ -104,25 +104,25 @@ rising_reversed h r = chain_reversed IsNotLater h (newest h r)
     newest [] r = tt
     newest (s ∷ k) r = (next_is s.1.tick s k refl r.1, newest k r.0)
 
-both_polls : (k j : Call) → is_poll j ≡ true → is_poll k ≡ true → polls k j ≡ true
+both_polls : (k j : Call) → is_poll j ≡ true → is_poll k ≡ true → are_polls k j ≡ true
 both_polls (Poll b) (Poll d) e f = refl
 both_polls (Ask n) j e f = absurd (true≢false (sym f))
 both_polls Leave j e f = absurd (true≢false (sym f))
 both_polls (Poll b) (Ask n) e f = absurd (true≢false (sym e))
 both_polls (Poll b) Leave e f = absurd (true≢false (sym e))
 
-tie_true : (b : Bool) (X : Type 0) → b ≡ true → tie b X → X
-tie_true true X e t = t
-tie_true false X e t = absurd (true≢false (sym e))
+on_true : (b : Bool) (X : Type 0) → b ≡ true → OnTrue b X → X
+on_true true X e t = t
+on_true false X e t = absurd (true≢false (sym e))
 
-pub polls_reversed : (h : List Event) → TidyNewest h → IsChain PollsInOrder (reverse h)
+pub polls_reversed : (h : List Event) → PollsNewest h → IsChain PollsInOrder (reverse h)
 polls_reversed h t = chain_reversed PollsInOrder h (newest h t)
   where
-    next_is : (s : Event) (k : List Event) → After s k → ToNext (λ x y. PollsInOrder y x) s k
+    next_is : (s : Event) (k : List Event) → IsPollAfter s k → ToNext (λ x y. PollsInOrder y x) s k
     next_is s [] a = tt
-    next_is s (x ∷ k) a = λ e f. tie_true (polls s.1.call x.1.call) _ (both_polls s.1.call x.1.call e f) a
+    next_is s (x ∷ k) a = λ e f. on_true (are_polls s.1.call x.1.call) _ (both_polls s.1.call x.1.call e f) a
 
-    newest : (k : List Event) → TidyNewest k → IsChain (λ x y. PollsInOrder y x) k
+    newest : (k : List Event) → PollsNewest k → IsChain (λ x y. PollsInOrder y x) k
     newest [] t = tt
     newest (s ∷ k) t = (next_is s k t.1, newest k t.0)
 
@@ -145,7 +145,7 @@ by_reversed c [] = refl
 by_reversed c (x ∷ h) = ap (by c) (reverse_cons x h) ∙ by_append c (reverse h) (x ∷ []) ∙ ap (λ l. l ++ cond (x.0 == c) (x.1 ∷ []) []) (by_reversed c h) ∙ by_last x (x.0 == c) (by c h)
 
 -- the history that a board keeps, oldest first
-pub history_reversed : (g : ℕ) (books : ℕ → List Entry) (h : List Event) → ((c : ℕ) → by c h ≡ on g (books c)) → PlacedNewest h → TidyNewest h → IsHistory g (λ c. reverse (books c)) (reverse h)
+pub history_reversed : (g : ℕ) (books : ℕ → List Entry) (h : List Event) → ((c : ℕ) → by c h ≡ on g (books c)) → PlacedNewest h → PollsNewest h → IsHistory g (λ c. reverse (books c)) (reverse h)
 history_reversed g books h entries placed tidy = record {
   entries = λ c. by_reversed c h ∙ ap reverse (entries c) ∙ sym (filter_reversed (λ e. e.res.0 == g) (books c));
   placed = placed_reversed h placed;
@@ -154,50 +154,33 @@ history_reversed g books h entries placed tidy = record {
 
 -- ---- what a book keeps
 
-abbrev PlacesRise : Entry → Entry → Type 0
-PlacesRise e f = IsBefore e.call e.place f.place
-
-places_by : (h : List Event) → PlacedNewest h → (c : ℕ) → IsChain (λ e f. PlacesRise f e) (by c h)
-places_by [] p c = tt
-places_by (r ∷ h) p c = by_cases r.0 c r.1 h (IsChain (λ e f. PlacesRise f e))
-    (λ _. (next_is (by c h) (all_before h p.0 c), places_by h p.0 c))
-    (λ _. places_by h p.0 c)
-  where
-    next_is : (es : List Entry) → BehindAll (asks h + leaves h) es → ToNext (λ e f. PlacesRise f e) r.1 es
-    next_is [] b = tt
-    next_is (f ∷ es) b = subst (IsBefore f.call f.place) (sym p.1) b.0
-
--- places of one resource rise in each book
-pub places_reversed : (g c : ℕ) (h : List Event) (es : List Entry) → PlacedNewest h → by c h ≡ on g es → IsChain PlacesRise (on g (reverse es))
-places_reversed g c h es placed is = subst (IsChain PlacesRise) (sym (filter_reversed (λ e. e.res.0 == g) es)) (chain_reversed PlacesRise (on g es) (subst (IsChain (λ e f. PlacesRise f e)) is (places_by h placed c)))
-
-ticks_below : (r q : ℕ) (es : List Entry) → q ≤ r → Ticks q es → AllByRecursion (λ e. e.tick < r) es
+ticks_below : (r q : ℕ) (es : List Entry) → q ≤ r → TicksNewest q es → AllByRecursion (λ e. e.tick < r) es
 ticks_below r q [] le k = tt
 ticks_below r q (e ∷ es) le k = let l = k.0 in (omega (arith, l, le), ticks_below r e.tick es (omega (arith, l, le)) k.1)
 
-pub past_reversed : (r : ℕ) (es : List Entry) → Ticks r es → AllByRecursion (λ e. e.tick < r) (reverse es)
+pub past_reversed : (r : ℕ) (es : List Entry) → TicksNewest r es → AllByRecursion (λ e. e.tick < r) (reverse es)
 past_reversed r es k = all_reversed (λ e. e.tick < r) es (ticks_below r r es (omega arith) k)
 
-pub ticks_reversed : (r : ℕ) (es : List Entry) → Ticks r es → IsChain (λ e f. e.tick < f.tick) (reverse es)
+pub ticks_reversed : (r : ℕ) (es : List Entry) → TicksNewest r es → IsChain (λ e f. e.tick < f.tick) (reverse es)
 ticks_reversed r es k = chain_reversed (λ (e f : Entry). e.tick < f.tick) es (newest r es k)
   where
-    next_is : (e : Entry) (fs : List Entry) → Ticks e.tick fs → ToNext (λ x y. y.tick < x.tick) e fs
+    next_is : (e : Entry) (fs : List Entry) → TicksNewest e.tick fs → ToNext (λ x y. y.tick < x.tick) e fs
     next_is e [] k = tt
     next_is e (f ∷ fs) k = k.0
 
-    newest : (q : ℕ) (fs : List Entry) → Ticks q fs → IsChain (λ x y. y.tick < x.tick) fs
+    newest : (q : ℕ) (fs : List Entry) → TicksNewest q fs → IsChain (λ x y. y.tick < x.tick) fs
     newest q [] k = tt
     newest q (f ∷ fs) k = (next_is f fs k.1, newest f.tick fs k.1)
 
-turn_is : (l : Claim) (g : ℕ) (k : Call) → InTurn l g k → IsInTurn (phase_of l) (record { 0 = g }) k
+turn_is : (l : Claim) (g : ℕ) (k : Call) → IsClaimInTurn l g k → IsInTurn (phase_of l) (record { 0 = g }) k
 turn_is l g (Ask n) t = ap phase_of t
 turn_is l g (Poll b) t = ap phase_of t.1
 turn_is l g Leave t = ap phase_of t.1
 
-orderly_last : (phase : Phase) (es : List Entry) (e : Entry) → IsOrderly phase es → IsInTurn (fold (λ p x. phase_after p x.res x.call) phase es) e.res e.call → IsOrderly phase (es ++ e ∷ [])
-orderly_last phase [] e o t = (t, tt)
-orderly_last phase (x ∷ es) e o t = (o.0, orderly_last (phase_after phase x.res x.call) es e o.1 t)
+regular_last : (phase : Phase) (calls : List ResCall) (s : ResCall) → IsRegularFrom phase calls → IsInTurn (fold (λ (p : Phase) (x : ResCall). claim_with p x.0 x.1) phase calls) s.0 s.1 → IsRegularFrom phase (calls ++ s ∷ [])
+regular_last phase [] s regular in_turn = (in_turn, tt)
+regular_last phase (x ∷ calls) s regular in_turn = (regular.0, regular_last (claim_with phase x.0 x.1) calls s regular.1 in_turn)
 
-pub orderly_reversed : (es : List Entry) → Orderly es → IsOrderly Free (reverse es)
-orderly_reversed [] o = tt
-orderly_reversed (e ∷ es) o = subst (IsOrderly Free) (sym (reverse_cons e es)) (orderly_last Free (reverse es) e (orderly_reversed es o.0) (subst (λ p. IsInTurn p e.res e.call) (sym (lock_newest es)) (turn_is (claim es) e.res.0 e.call o.1)))
+pub regular_reversed : (es : List Entry) → IsRegularNewest es → IsRegular (res_calls (reverse es))
+regular_reversed [] r = tt
+regular_reversed (e ∷ es) r = subst IsRegular (sym (res_calls_newest e es)) (regular_last Free (res_calls (reverse es)) (e.res, e.call) (regular_reversed es r.0) (subst (λ p. IsInTurn p e.res e.call) (sym (lock_newest es)) (turn_is (claim_of es) e.res.0 e.call r.1)))

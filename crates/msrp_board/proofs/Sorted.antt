@@ -4,13 +4,14 @@ use mathlib.Core.Logic.{dite}
 use native.Mathlib.Decide.{ℕ_discrete}
 use Rattle.msrp_plan.specs.declared.units.Call.{Call}
 use Rattle.msrp_plan.specs.declared.units.Call.TheVariants.{Ask, Poll, Leave}
+use Rattle.std.specs.Bool.{OnTrue}
 use Rattle.msrp_board.specs.History.{Event, by}
-use Rattle.msrp_board.specs.Newest.{asks, leaves, queue, granted, LegalNewest, PlacedNewest, NoneLater, RisingNewest, polls, tie, After, TidyNewest}
+use Rattle.msrp_board.specs.Inside.Newest.{asks, leaves, queue, granted, LegalNewest, PlacedNewest, NoneLater, RisingNewest, are_polls, IsPollAfter, PollsNewest}
 use Rattle.msrp_plan.specs.FifoLock.{granted_after, Answers}
 use Rattle.msrp_board.proofs.Queue.{by_other}
 
 abbrev pub jumps : Event → Event → Bool
-jumps r x = polls r.1.call x.1.call && (eqb r.1.tick x.1.tick && ltb r.0 x.0)
+jumps r x = are_polls r.1.call x.1.call && (eqb r.1.tick x.1.tick && ltb r.0 x.0)
 
 abbrev choose : Bool → Event → Event → List Event → List Event → List Event
 choose true r x h l = x ∷ l
@@ -31,10 +32,10 @@ pub record Inserted (r : Event) (h l : List Event) : Type 0 where
   pub placed : PlacedNewest l
   pub rising : RisingNewest l
   pub later : (t : ℕ) → NoneLater t (r ∷ h) → NoneLater t l
-  pub tidy : TidyNewest l
-  pub under : (x : Event) → After x h → After x (r ∷ []) → After x l
+  pub tidy : PollsNewest l
+  pub under : (x : Event) → IsPollAfter x h → IsPollAfter x (r ∷ []) → IsPollAfter x l
 
-here : (r : Event) (h : List Event) → LegalNewest (r ∷ h) → PlacedNewest (r ∷ h) → RisingNewest (r ∷ h) → TidyNewest (r ∷ h) → Inserted r h (r ∷ h)
+here : (r : Event) (h : List Event) → LegalNewest (r ∷ h) → PlacedNewest (r ∷ h) → RisingNewest (r ∷ h) → PollsNewest (r ∷ h) → Inserted r h (r ∷ h)
 here r h a b c d = record { same = λ _. refl; ask_count = refl; leave_count = refl; in_queue = refl; grant = refl; longer = refl; legal = a; placed = b; rising = c; later = λ _ k. k; tidy = d; under = λ _ _ k. k }
 
 and_left : (a b : Bool) → (a && b) ≡ true → a ≡ true
@@ -44,13 +45,6 @@ and_left false b e = absurd (true≢false (sym e))
 and_right : (a b : Bool) → (a && b) ≡ true → b ≡ true
 and_right true b e = e
 and_right false b e = absurd (true≢false (sym e))
-
-both_polls : (k j : Call) → polls k j ≡ true → (p : Bool) × (q : Bool) × (k ≡ Poll p) × (j ≡ Poll q)
-both_polls (Ask a) j e = absurd (true≢false (sym e))
-both_polls (Poll p) (Ask a) e = absurd (true≢false (sym e))
-both_polls (Poll p) (Poll q) e = (p, q, refl, refl)
-both_polls (Poll p) Leave e = absurd (true≢false (sym e))
-both_polls Leave j e = absurd (true≢false (sym e))
 
 abbrev row : ℕ → ℕ → ℕ → ℕ → Bool → Event
 row c t g p b = (c, record { tick = t; res = record { 0 = g }; place = p; call = Poll b })
@@ -80,7 +74,7 @@ by_swap r x l h n same d = dite (ℕ_discrete x.0 d)
     (λ m. ap (λ b. cond b (x.1 ∷ by d l) (by d l)) (ne_eqb x.0 d m) ∙ same d ∙ ap (λ k. cond (eqb r.0 d) (r.1 ∷ k) k) (sym (ap (λ b. cond b (x.1 ∷ by d h) (by d h)) (ne_eqb x.0 d m))))
 
 -- one poll moved behind another
-past : (c t g p : ℕ) (b : Bool) (c' t' g' p' : ℕ) (b' : Bool) (h l : List Event) → t ≡ t' → c < c' → LegalNewest (row c t g p b ∷ row c' t' g' p' b' ∷ h) → PlacedNewest (row c t g p b ∷ row c' t' g' p' b' ∷ h) → RisingNewest (row c t g p b ∷ row c' t' g' p' b' ∷ h) → TidyNewest (row c' t' g' p' b' ∷ h)
+past : (c t g p : ℕ) (b : Bool) (c' t' g' p' : ℕ) (b' : Bool) (h l : List Event) → t ≡ t' → c < c' → LegalNewest (row c t g p b ∷ row c' t' g' p' b' ∷ h) → PlacedNewest (row c t g p b ∷ row c' t' g' p' b' ∷ h) → RisingNewest (row c t g p b ∷ row c' t' g' p' b' ∷ h) → PollsNewest (row c' t' g' p' b' ∷ h)
     → Inserted (row c t g p b) h l → Inserted (row c t g p b) (row c' t' g' p' b' ∷ h) (row c' t' g' p' b' ∷ l)
 past c t g p b c' t' g' p' b' h l now low legal placed rising tidy i = record {
   same = by_swap (row c t g p b) (row c' t' g' p' b') l h (λ e. omega (arith, e, low)) i.same;
@@ -97,8 +91,8 @@ past c t g p b c' t' g' p' b' h l now low legal placed rising tidy i = record {
   under = λ x a e. a;
 }
 
-moved : (c t g p : ℕ) (k : Call) (c' t' g' p' : ℕ) (j : Call) (h l : List Event) → polls k j ≡ true → t ≡ t' → c < c' → LegalNewest (any c t g p k ∷ any c' t' g' p' j ∷ h) → PlacedNewest (any c t g p k ∷ any c' t' g' p' j ∷ h) → RisingNewest (any c t g p k ∷ any c' t' g' p' j ∷ h) → TidyNewest (any c' t' g' p' j ∷ h)
-    → (LegalNewest (any c t g p k ∷ h) → PlacedNewest (any c t g p k ∷ h) → RisingNewest (any c t g p k ∷ h) → TidyNewest h → Inserted (any c t g p k) h l) → Inserted (any c t g p k) (any c' t' g' p' j ∷ h) (any c' t' g' p' j ∷ l)
+moved : (c t g p : ℕ) (k : Call) (c' t' g' p' : ℕ) (j : Call) (h l : List Event) → are_polls k j ≡ true → t ≡ t' → c < c' → LegalNewest (any c t g p k ∷ any c' t' g' p' j ∷ h) → PlacedNewest (any c t g p k ∷ any c' t' g' p' j ∷ h) → RisingNewest (any c t g p k ∷ any c' t' g' p' j ∷ h) → PollsNewest (any c' t' g' p' j ∷ h)
+    → (LegalNewest (any c t g p k ∷ h) → PlacedNewest (any c t g p k ∷ h) → RisingNewest (any c t g p k ∷ h) → PollsNewest h → Inserted (any c t g p k) h l) → Inserted (any c t g p k) (any c' t' g' p' j ∷ h) (any c' t' g' p' j ∷ l)
 moved c t g p (Ask a) c' t' g' p' j h l e now low legal placed rising tidy ih = absurd (true≢false (sym e))
 moved c t g p (Poll b) c' t' g' p' (Ask a) h l e now low legal placed rising tidy ih = absurd (true≢false (sym e))
 moved c t g p (Poll b) c' t' g' p' Leave h l e now low legal placed rising tidy ih = absurd (true≢false (sym e))
@@ -107,7 +101,7 @@ moved c t g p (Poll b) c' t' g' p' (Poll b') h l e now low legal placed rising t
     past c t g p b c' t' g' p' b' h l now low legal placed rising tidy
     (ih (legal.0.0, poll_earlier (queue h) (granted h) c b b' legal.1) (placed.0.0, placed.1) (rising.0.0, rising.1.1) tidy.0)
 
-not_jump : (k j : Call) (t u c d : ℕ) → u ≤ t → (polls k j && (eqb t u && ltb c d)) ≡ false → tie (polls k j) ((u < t) ⊎ ((u ≡ t) × (d ≤ c)))
+not_jump : (k j : Call) (t u c d : ℕ) → u ≤ t → (are_polls k j && (eqb t u && ltb c d)) ≡ false → OnTrue (are_polls k j) ((u < t) ⊎ ((u ≡ t) × (d ≤ c)))
 not_jump (Ask a) j t u c d le e = tt
 not_jump (Poll p) (Ask a) t u c d le e = tt
 not_jump (Poll p) Leave t u c d le e = tt
@@ -116,15 +110,15 @@ not_jump (Poll p) (Poll q) t u c d le e = dite (ℕ_discrete t u)
     (λ s. inr (sym s, ltb-false c d (sym (ap (λ b. b && ltb c d) (eq-eqb t u s)) ∙ e)))
     (λ n. inl (omega (arith, n, le)))
 
-pub inserted : (r : Event) (h : List Event) → LegalNewest (r ∷ h) → PlacedNewest (r ∷ h) → RisingNewest (r ∷ h) → TidyNewest h → Inserted r h (insert r h)
+pub inserted : (r : Event) (h : List Event) → LegalNewest (r ∷ h) → PlacedNewest (r ∷ h) → RisingNewest (r ∷ h) → PollsNewest h → Inserted r h (insert r h)
 inserted r [] legal placed rising tidy = here r [] legal placed rising (tt, tt)
 inserted r (x ∷ h) legal placed rising tidy = by_test (jumps r x) refl (inserted r h)
   where
-    by_test : (b : Bool) → jumps r x ≡ b → (LegalNewest (r ∷ h) → PlacedNewest (r ∷ h) → RisingNewest (r ∷ h) → TidyNewest h → Inserted r h (insert r h)) → Inserted r (x ∷ h) (choose b r x h (insert r h))
+    by_test : (b : Bool) → jumps r x ≡ b → (LegalNewest (r ∷ h) → PlacedNewest (r ∷ h) → RisingNewest (r ∷ h) → PollsNewest h → Inserted r h (insert r h)) → Inserted r (x ∷ h) (choose b r x h (insert r h))
     by_test false e ih = here r (x ∷ h) legal placed rising (tidy, not_jump r.1.call x.1.call r.1.tick x.1.tick r.0 x.0 rising.1.0 e)
     by_test true e ih =
-        let k = and_left (polls r.1.call x.1.call) (eqb r.1.tick x.1.tick && ltb r.0 x.0) e in
-        let m = and_right (polls r.1.call x.1.call) (eqb r.1.tick x.1.tick && ltb r.0 x.0) e in
+        let k = and_left (are_polls r.1.call x.1.call) (eqb r.1.tick x.1.tick && ltb r.0 x.0) e in
+        let m = and_right (are_polls r.1.call x.1.call) (eqb r.1.tick x.1.tick && ltb r.0 x.0) e in
         let now = eqb-true r.1.tick x.1.tick (and_left (eqb r.1.tick x.1.tick) (ltb r.0 x.0) m) in
         let low = ltb-true r.0 x.0 (and_right (eqb r.1.tick x.1.tick) (ltb r.0 x.0) m) in
         moved r.0 r.1.tick r.1.res.0 r.1.place r.1.call x.0 x.1.tick x.1.res.0 x.1.place x.1.call h (insert r h) k now low legal placed rising tidy ih

@@ -12,44 +12,45 @@ use Rattle.msrp_board.specs.declared.pages.Page.{Page}
 use Rattle.msrp_board.specs.declared.pages.View.{View}
 use Rattle.msrp_board.specs.declared.books.BoardSize.{BoardSize}
 use Rattle.msrp_board.specs.declared.held.CoreState.{CoreState}
-use Rattle.msrp_board.specs.Books.{on}
-use Rattle.msrp_board.specs.Held.{Tie, state_of, state_at}
-use Rattle.msrp_board.specs.Rule.{Has, Ruled, Kept, empty, first_view, arrivals, reach}
+use Rattle.msrp_board.specs.Books.{IsSize, on}
+use Rattle.msrp_board.specs.Inside.Held.{AreStates, state_of, state_at}
+use Rattle.msrp_board.specs.Inside.Rule.{HasPage, Ruled, IsKeptNewest, empty_page, first_view, arrivals, page_reach}
 use Rattle.msrp_board.specs.declared.books.Conductor.{Conductor}
 use Rattle.msrp_board.specs.declared.books.Conductor.TheVariants.{Unopened}
 use Rattle.msrp_board.proofs.Sharing.{at_length}
+use Rattle.msrp_board.proofs.Kept.{kept_empty}
 use native.Mathlib.Decide.{dec_lt}
 
-now_in : (n c : ℕ) → c < n → state_at (replicate n (Some empty)) c ≡ Some (state_of empty)
+now_in : (n c : ℕ) → c < n → state_at (replicate n (Some empty_page)) c ≡ Some (state_of empty_page)
 now_in zero c h = absurd (omega (arith, h))
 now_in (suc n) zero h = refl
 now_in (suc n) (suc c) h = now_in n c (omega (arith, h))
 
-now_out : (n c : ℕ) → n ≤ c → state_at (replicate n (Some empty)) c ≡ None
+now_out : (n c : ℕ) → n ≤ c → state_at (replicate n (Some empty_page)) c ≡ None
 now_out zero c h = refl
 now_out (suc n) zero h = absurd (omega (arith, h))
 now_out (suc n) (suc c) h = now_out n c (omega (arith, h))
 
-now_more : (n c : ℕ) → Dec (c < n) → c ≢ n → state_at (replicate n (Some empty)) c ≡ state_at (replicate (suc n) (Some empty)) c
+now_more : (n c : ℕ) → Dec (c < n) → c ≢ n → state_at (replicate n (Some empty_page)) c ≡ state_at (replicate (suc n) (Some empty_page)) c
 now_more n c (yes h) d = now_in n c h ∙ sym (now_in (suc n) c (omega (arith, h)))
 now_more n c (no h) d = now_out n c (omega (arith, h)) ∙ sym (now_out (suc n) c (omega (arith, h, d)))
 
-pub fresh_step : (held : List (Option CoreState)) (n m : ℕ) → m ≡ suc n → n < 8 → Tie held (replicate n (Some empty)) → Tie (set held n (Some (state_of empty))) (replicate m (Some empty))
-fresh_step held n m is low tie c in_8 = subst (λ k. get_elem? (set held n (Some (state_of empty))) c ≡ some (state_at (replicate k (Some empty)) c)) (sym is) (dite (ℕ_discrete c n)
-    (λ q. subst (λ k. get_elem? (set held n (Some (state_of empty))) k ≡ some (state_at (replicate (suc n) (Some empty)) k)) (sym q) (set_here held n (Some (state_of empty)) (at_length held n _ (tie n low)) ∙ ap some (sym (now_in (suc n) n (omega arith)))))
-    (λ d. set_else held n c (Some (state_of empty)) d ∙ tie c in_8 ∙ ap some (now_more n c (dec_lt c n) d)))
+pub fresh_step : (held : List (Option CoreState)) (n m : ℕ) → m ≡ suc n → n < 8 → AreStates held (replicate n (Some empty_page)) → AreStates (set held n (Some (state_of empty_page))) (replicate m (Some empty_page))
+fresh_step held n m is low tie c in_8 = subst (λ k. get_elem? (set held n (Some (state_of empty_page))) c ≡ some (state_at (replicate k (Some empty_page)) c)) (sym is) (dite (ℕ_discrete c n)
+    (λ q. subst (λ k. get_elem? (set held n (Some (state_of empty_page))) k ≡ some (state_at (replicate (suc n) (Some empty_page)) k)) (sym q) (set_here held n (Some (state_of empty_page)) (at_length held n _ (tie n low)) ∙ ap some (sym (now_in (suc n) n (omega arith)))))
+    (λ d. set_else held n c (Some (state_of empty_page)) d ∙ tie c in_8 ∙ ap some (now_more n c (dec_lt c n) d)))
 
-same_there : (n c : ℕ) (b : Page) → get_elem? (replicate n (Some empty)) c ≡ some (Some b) → get_elem? (replicate n empty) c ≡ some b
+same_there : (n c : ℕ) (b : Page) → get_elem? (replicate n (Some empty_page)) c ≡ some (Some b) → get_elem? (replicate n empty_page) c ≡ some b
 same_there zero c b e = absurd (some-ne-none (Some b) (sym e))
-same_there (suc n) zero b e = let f : some (Some empty) ≡ some (Some b) = e in ap some (some_of empty b (some-injective (Some empty) (Some b) f))
+same_there (suc n) zero b e = let f : some (Some empty_page) ≡ some (Some b) = e in ap some (some_of empty_page b (some-injective (Some empty_page) (Some b) f))
   where
     some_of : (x y : Page) → Some x ≡ Some y → x ≡ y
     some_of x y h = cc
 same_there (suc n) (suc c) b e = same_there n c b e
 
-same_back : (n c : ℕ) (b : Page) → get_elem? (replicate n empty) c ≡ some b → (get_elem? (replicate n (Some empty)) c ≡ some (Some b)) × (empty ≡ b) × (c < n)
+same_back : (n c : ℕ) (b : Page) → get_elem? (replicate n empty_page) c ≡ some b → (get_elem? (replicate n (Some empty_page)) c ≡ some (Some b)) × (empty_page ≡ b) × (c < n)
 same_back zero c b e = absurd (some-ne-none b (sym e))
-same_back (suc n) zero b e = let f : empty ≡ b = some-injective empty b e in (ap (λ x. some (Some x)) f, f, omega arith)
+same_back (suc n) zero b e = let f : empty_page ≡ b = some-injective empty_page b e in (ap (λ x. some (Some x)) f, f, omega arith)
 same_back (suc n) (suc c) b e = let r = same_back n c b e in let h = r.2 in (r.0, r.1, omega (arith, h))
 
 zero_at : {A : Type 0} (a : A) (i : ℕ) (v : A) → get_elem? (a ∷ []) i ≡ some v → (0 ≡ i) × (a ≡ v)
@@ -60,50 +61,52 @@ length_rep : {A : Type 0} (n : ℕ) (a : A) → length (replicate n a) ≡ n
 length_rep zero a = refl
 length_rep (suc n) a = let r = length_rep n a in omega (arith, r)
 
-pub low_first : (z : BoardSize) (c : ℕ) (b : Page) → z.cores ≤ 8 → Has (first_view z) c b → c < 8
-low_first z c b small h = let r = (same_back z.cores c b (same_there z.cores c b h)).2 in omega (arith, r, small)
+-- a page of the first view is empty, and of a core of the board
+pub first_page : (z : BoardSize) (c : ℕ) (b : Page) → HasPage (first_view z) c b → (empty_page ≡ b) × (c < z.cores)
+first_page z c b h = let r = same_back z.cores c b (same_there z.cores c b h) in (r.1, r.2)
 
-zero_arrivals : (n : ℕ) → arrivals (replicate n empty) ≡ 0
+zero_arrivals : (n : ℕ) → arrivals (replicate n empty_page) ≡ 0
 zero_arrivals zero = refl
 zero_arrivals (suc n) = let h = zero_arrivals n in omega (arith, h)
 
 some_of : (x y : Conductor) → Some x ≡ Some y → x ≡ y
 some_of x y e = cc
 
-pub begins : (z : BoardSize) (words : List ℕ) → ((g : ℕ) → slice_index words g ≡ 0) → length words ≡ z.resources + 1 → z.cores ≤ 8 → z.ticks ≤ 20000 → Ruled z (opening words [] (first_view z))
-begins z words zeros len small short = (
-  replicate z.cores empty,
-  Unopened,
-  (
-    (λ i c b o. same_there z.cores c b (subst (λ (v : View). Has v c b) (sym (zero_at (first_view z) i o.0 o.1).1) o.2)),
-    (λ i j c b d o p. sym (zero_at (first_view z) i o.0 o.1).0 ∙ (zero_at (first_view z) j p.0 p.1).0),
-    (λ c b e. (0, (first_view z, refl, (same_back z.cores c b e).0))),
-  ),
-  (
-    (λ i k x o. (o.2.0, some_of Unopened x (ap (λ (v : View). v.conductor) (zero_at (first_view z) i o.0 o.1).1 ∙ o.2.1))),
-    (λ i j k x y o p. sym (zero_at (first_view z) i o.0 o.1).0 ∙ (zero_at (first_view z) j p.0 p.1).0),
-    (λ k x e. (0, (first_view z, refl, (e.0, ap Some e.1)))),
-  ),
-  (
-    length_rep z.cores empty,
-    (λ g in_g. (
-      [],
-      ((λ c b e. subst (λ (x : Page). [] ≡ on g x.newest) (same_back z.cores c b e).1 refl), (λ c far. refl), tt),
-      tt,
-      zeros g,
-      omega arith,
-      tt,
-      tt,
-    )),
-    (λ c b e. subst (Kept z) (same_back z.cores c b e).1 (tt, tt, omega arith)),
-    (
-      (let w = zeros z.resources in let a = zero_arrivals z.cores in omega (arith, w, a)),
-      (λ c b e h. absurd (true≢false (sym h ∙ sym (ap (λ (x : Page). x.stopped) (same_back z.cores c b e).1)))),
-      (λ c b e h. absurd (let r = ap reach (same_back z.cores c b e).1 in omega (arith, h, r))),
-    ),
-  ),
-  (small, short, len),
-)
+pub begins : (z : BoardSize) (words : List ℕ) → ((g : ℕ) → slice_index words g ≡ 0) → length words ≡ z.resources + 1 → IsSize z → Ruled z (opening words [] (first_view z))
+begins z words zeros len limits = record {
+  pages = replicate z.cores empty_page;
+  conductor = Unopened;
+  shared = record {
+    true_of = λ i c b o. same_there z.cores c b (subst (λ (v : View). HasPage v c b) (sym (zero_at (first_view z) i o.0 o.1).1) o.2);
+    with_no_other = λ i j c b d o p. sym (zero_at (first_view z) i o.0 o.1).0 ∙ (zero_at (first_view z) j p.0 p.1).0;
+    with_one = λ c b e. (0, (first_view z, refl, (same_back z.cores c b e).0));
+  };
+  shared_conductor = record {
+    true_of = λ i k x o. (o.2.0, some_of Unopened x (ap (λ (v : View). v.conductor) (zero_at (first_view z) i o.0 o.1).1 ∙ o.2.1));
+    with_no_other = λ i j k x y o p. sym (zero_at (first_view z) i o.0 o.1).0 ∙ (zero_at (first_view z) j p.0 p.1).0;
+    with_one = λ k x e. (0, (first_view z, refl, (e.0, ap Some e.1)));
+  };
+  tied = record {
+    cores = length_rep z.cores empty_page;
+    served = λ g in_g. record {
+      log = [];
+      history = record { entries = λ c b e. subst (λ (x : Page). [] ≡ on g x.newest) (same_back z.cores c b e).1 refl; none_past = λ c far. refl; placed = tt };
+      legal = tt;
+      counts = zeros g;
+      short = omega arith;
+      rising = tt;
+      polls = tt;
+    };
+    kept = λ c b e. subst (IsKeptNewest z) (same_back z.cores c b e).1 (kept_empty z);
+    gathered = record {
+      counts = let w = zeros z.resources in let a = zero_arrivals z.cores in omega (arith, w, a);
+      told = λ c b e h. absurd (true≢false (sym h ∙ sym (ap (λ (x : Page). x.stopped) (same_back z.cores c b e).1)));
+      met = λ c b e h. absurd (let r = ap page_reach (same_back z.cores c b e).1 in omega (arith, h, r));
+    };
+  };
+  limits = limits;
+  words = len;
+}
 
 abbrev nils : ℕ → List ℕ
 nils n = replicate n 0
@@ -119,5 +122,5 @@ take_length zero n h = refl
 take_length (suc k) zero h = absurd (omega (arith, h))
 take_length (suc k) (suc n) h = let r = take_length k n (omega (arith, h)) in omega (arith, r)
 
-pub begins_at : (z : BoardSize) → z.cores ≤ 8 → z.ticks ≤ 20000 → z.resources ≤ 32 → Ruled z (opening (take (z.resources + 1) (nils 33)) [] (first_view z))
-begins_at z small short few = begins z (take (z.resources + 1) (nils 33)) (take_zeros (z.resources + 1) 33) (take_length (z.resources + 1) 33 (omega (arith, few))) small short
+pub begins_at : (z : BoardSize) → IsSize z → Ruled z (opening (take (z.resources + 1) (nils 33)) [] (first_view z))
+begins_at z limits = begins z (take (z.resources + 1) (nils 33)) (take_zeros (z.resources + 1) 33) (take_length (z.resources + 1) 33 (let few = limits.resources in omega (arith, few))) limits

@@ -1,5 +1,5 @@
 -- A page as callers see it: what it says of its core is what the book says.
-use Rattle.std.proofs.Common.{get_or, nat_lt, ◌<◌, ◌≤◌, ⊎_elim, arith, ◌==◌, ◌||◌, ◌≡◌, ℕ, zero, suc, List, [], ◌∷◌, map, reverse, Bool, true, false, fold, Some, None, refl, sym, ap, ◌∙◌}
+use Rattle.std.proofs.Common.{get_or, ◌++◌, nat_lt, ◌<◌, ◌≤◌, ⊎_elim, arith, ◌==◌, ◌||◌, ◌≡◌, ℕ, zero, suc, List, [], ◌∷◌, map, reverse, Bool, true, false, Some, None, refl, sym, ap, ◌∙◌}
 use Rattle.std.specs.Prelude.{slice_index_or}
 use Rattle.std.specs.List.{list_any}
 use Rattle.std.specs.Option.{option_map, is_some}
@@ -17,32 +17,37 @@ use Rattle.msrp_board.specs.declared.pages.Page.{Page}
 use Rattle.msrp_board.specs.declared.pages.View.{View}
 use Rattle.msrp_board.specs.declared.held.Claim.{Claim}
 use Rattle.msrp_board.specs.declared.held.CoreState.{CoreState}
-use Rattle.msrp_board.specs.Books.{phase_after, phase_by, phase_in, lock_of, has_acted}
-use Rattle.msrp_board.specs.Boards.{BoardModel, IsCoreSeat}
-use Rattle.msrp_board.specs.Newest.{claim, claim_after}
-use Rattle.msrp_board.specs.Rule.{Sole, acted}
-use Rattle.msrp_board.specs.Held.{told, phase_of, page_at, seen_as, state_of, state_at, Tie, Low, Shows}
+use Rattle.msrp_plan.specs.Calls.{ResCall, claim_with, claim_after}
+use Rattle.msrp_board.specs.Books.{res_calls, phase_by, phase_in, lock_of, has_acted}
+use Rattle.msrp_board.specs.Seats.{BoardModel, IsCoreSeat}
+use Rattle.msrp_board.specs.Inside.Newest.{claim_of, claim_with_call}
+use Rattle.msrp_board.specs.Inside.Rule.{HasOnly, page_has_acted}
+use Rattle.msrp_board.specs.Inside.Held.{told, phase_of, page_at, seen_as, state_of, state_at, AreStates, IsLow, Shows}
 use Rattle.msrp_board.proofs.Lists.{reverse_cons, fold_last}
-use Rattle.msrp_board.proofs.Ties.{has_page, page_has, get_or_at, page_or_none}
+use Rattle.msrp_board.proofs.CoreStates.{has_page, page_has, get_or_at, page_or_none}
 
 -- one call more: what a core claims is what it holds or awaits
-after_call : (l : Claim) (g : ℕ) (p : ℕ) (k : Call) → phase_after (phase_of l) (record { 0 = g }) k ≡ phase_of (claim_after l g p k)
+after_call : (l : Claim) (g : ℕ) (p : ℕ) (k : Call) → claim_with (phase_of l) (record { 0 = g }) k ≡ phase_of (claim_with_call l g p k)
 after_call l g p (Ask zero) = refl
 after_call l g p (Ask (suc n)) = refl
 after_call l g p (Poll true) = refl
 after_call l g p (Poll false) = refl
 after_call l g p Leave = refl
 
-abbrev pub held_after : List Entry → Phase
-held_after es = fold (λ phase e. phase_after phase e.res e.call) Free es
+pub res_calls_last : (es : List Entry) (e : Entry) → res_calls (es ++ e ∷ []) ≡ res_calls es ++ (e.res, e.call) ∷ []
+res_calls_last [] e = refl
+res_calls_last (f ∷ es) e = ap (λ l. (f.res, f.call) ∷ l) (res_calls_last es e)
+
+pub res_calls_newest : (e : Entry) (es : List Entry) → res_calls (reverse (e ∷ es)) ≡ res_calls (reverse es) ++ (e.res, e.call) ∷ []
+res_calls_newest e es = ap res_calls (reverse_cons e es) ∙ res_calls_last (reverse es) e
 
 -- what a core holds or awaits after the entries that it keeps the newest first
-pub lock_newest : (es : List Entry) → held_after (reverse es) ≡ phase_of (claim es)
+pub lock_newest : (es : List Entry) → claim_after (res_calls (reverse es)) ≡ phase_of (claim_of es)
 lock_newest [] = refl
-lock_newest (e ∷ es) = ap held_after (reverse_cons e es) ∙ fold_last (λ phase e. phase_after phase e.res e.call) Free (reverse es) e
-    ∙ ap (λ phase. phase_after phase e.res e.call) (lock_newest es) ∙ after_call (claim es) e.res.0 e.place e.call
+lock_newest (e ∷ es) = ap claim_after (res_calls_newest e es) ∙ fold_last (λ (phase : Phase) (s : ResCall). claim_with phase s.0 s.1) Free (res_calls (reverse es)) (e.res, e.call)
+    ∙ ap (λ phase. claim_with phase e.res e.call) (lock_newest es) ∙ after_call (claim_of es) e.res.0 e.place e.call
 
-pub lock_told : (b : Page) → lock_of (told b) ≡ phase_of (claim b.newest)
+pub lock_told : (b : Page) → lock_of (told b) ≡ phase_of (claim_of b.newest)
 lock_told b = lock_newest b.newest
 
 or_last : (a b : Bool) → (a || (b || false)) ≡ (b || a)
@@ -55,7 +60,7 @@ any_newest : (p : Entry → Bool) (es : List Entry) → list_any p (reverse es) 
 any_newest p [] = refl
 any_newest p (e ∷ es) = ap (list_any p) (reverse_cons e es) ∙ list_any-append p (reverse es) (e ∷ []) ∙ or_last (list_any p (reverse es)) (p e) ∙ ap (λ b. p e || b) (any_newest p es)
 
-pub acted_told : (b : Page) → has_acted (told b) ≡ acted b
+pub acted_told : (b : Page) → has_acted (told b) ≡ page_has_acted b
 acted_told b = any_newest (λ e. e.tick == b.tick) b.newest
 
 -- a book that a seat shows is that of one of its pages
@@ -75,27 +80,20 @@ pub book_of : (pages : List (Option Page)) (c : ℕ) (b : Page) → get_elem? pa
 book_of pages c b h = shown pages c ∙ ap (option_map told) (page_has pages c b h)
 
 -- a core's seat knows one page
-pub sole_of : (board : BoardModel) (v : View) (c : ℕ) (a : Book) → IsCoreSeat (seen_as board v) c a → (b : Page) × Sole v c b × (told b ≡ a)
+pub sole_of : (board : BoardModel) (v : View) (c : ℕ) (a : Book) → IsCoreSeat (seen_as board v) c a → (b : Page) × HasOnly v c b × (told b ≡ a)
 sole_of board v c a is = let r = page_of v.pages c a is.book in
-    (r.0, (r.1, (λ d e h. is.only d (told e) (book_of v.pages d e h)), is.conductor), r.2)
-
-pub core_of_sole : (board : BoardModel) (v : View) (c : ℕ) (b : Page) → Sole v c b → IsCoreSeat (seen_as board v) c (told b)
-core_of_sole board v c b sole = record {
-  book = book_of v.pages c b sole.0;
-  only = λ d e h. let r = page_of v.pages d e h in sole.1 d r.0 r.1;
-  conductor = sole.2;
-}
+    (r.0, record { page = r.1; only = λ d e h. is.only d (told e) (book_of v.pages d e h); conductor = is.conductor }, r.2)
 
 some_told : (o : Option Page) → is_some (option_map state_of o) ≡ is_some (option_map told o)
 some_told None = refl
 some_told (Some b) = refl
 
 -- a seat keeps a state of the core just where it has its book
-pub held_some : (held : List (Option CoreState)) (pages : List (Option Page)) (c : ℕ) → Tie held pages → c < 8 → is_some (get_or held c None) ≡ is_some (slice_index_or (map (option_map told) pages) c None)
+pub held_some : (held : List (Option CoreState)) (pages : List (Option Page)) (c : ℕ) → AreStates held pages → c < 8 → is_some (get_or held c None) ≡ is_some (slice_index_or (map (option_map told) pages) c None)
 held_some held pages c tie low = ap is_some (get_or_at held c (state_at pages c) None (tie c low)) ∙ some_told (page_at pages c) ∙ sym (ap is_some (shown pages c))
 
 -- no seat has a book of a core past the eighth
-pub none_past : (v : View) (c : ℕ) → Low v → 8 ≤ c → is_some (slice_index_or (map (option_map told) v.pages) c None) ≡ false
+pub none_past : (v : View) (c : ℕ) → IsLow v → 8 ≤ c → is_some (slice_index_or (map (option_map told) v.pages) c None) ≡ false
 none_past v c low past = ap is_some (shown v.pages c) ∙ ⊎_elim
     (λ h. absurd (let l = low c h.0 (has_page v.pages c h.0 h.1) in omega (arith, l, past)))
     (λ n. ap (λ o. is_some (option_map told o)) n)

@@ -20,17 +20,17 @@ lex_trans a b c X Y Z f (inl h) (inr k) = inl (let e = k.0 in omega (arith, h, e
 lex_trans a b c X Y Z f (inr h) (inl k) = inl (let e = h.0 in omega (arith, k, e))
 lex_trans a b c X Y Z f (inr h) (inr k) = inr (h.0 ∙ k.0, f h.1 k.1)
 
-lex_both : (a b : ℕ) (X Y : Type 0) → Lex a b X → Lex b a Y → X × Y
+pub lex_both : (a b : ℕ) (X Y : Type 0) → Lex a b X → Lex b a Y → X × Y
 lex_both a b X Y (inl h) (inl k) = absurd (omega (arith, h, k))
 lex_both a b X Y (inl h) (inr k) = absurd (let e = k.0 in omega (arith, h, e))
 lex_both a b X Y (inr h) (inl k) = absurd (let e = h.0 in omega (arith, k, e))
 lex_both a b X Y (inr h) (inr k) = (h.1, k.1)
 
-abbrev step_of : Call → ℕ
+abbrev pub step_of : Call → ℕ
 step_of k = cond (is_poll k) 0 1
 
 -- by place, poll before step, tick, core
-abbrev Before : Event → Event → Type 0
+abbrev pub Before : Event → Event → Type 0
 Before x y = Lex x.1.place y.1.place (Lex (step_of x.1.call) (step_of y.1.call) (Lex x.1.tick y.1.tick (x.0 ≤ y.0)))
 
 before_trans : (x y z : Event) → Before x y → Before y z → Before x z
@@ -56,7 +56,7 @@ adjacent c t p (Poll b) d u q Leave n e f h = inr (e ∙ sym f, inl (omega arith
 adjacent c t p (Poll b) d u q (Poll v) n e f h = inr (e ∙ sym f, inr (refl, h refl refl))
 
 -- each element stands in R to all behind it
-abbrev Sorted : (Event → Event → Type 0) → List Event → Type 0
+abbrev pub Sorted : (Event → Event → Type 0) → List Event → Type 0
 Sorted R [] = Unit {0}
 Sorted R (x ∷ xs) = AllByRecursion (R x) xs × Sorted R xs
 
@@ -64,7 +64,7 @@ all_weaker : (P Q : Event → Type 0) → ((x : Event) → P x → Q x) → (xs 
 all_weaker P Q f [] h = tt
 all_weaker P Q f (x ∷ xs) h = (f x h.0, all_weaker P Q f xs h.1)
 
-sorted_history : (n : ℕ) (h : List Event) → Placed n h → IsChain PollsInOrder h → Sorted Before h
+pub sorted_history : (n : ℕ) (h : List Event) → Placed n h → IsChain PollsInOrder h → Sorted Before h
 sorted_history n [] p o = tt
 sorted_history n (s ∷ []) p o = (tt, tt)
 sorted_history n (s ∷ x ∷ h) p o =

@@ -1,6 +1,8 @@
 pub mod Books
 pub mod History
+pub mod Seats
+pub mod Steps
+pub mod SeatPorts
 pub mod Boards
-pub mod Newest
-pub mod Rule
-pub mod Held
+pub mod Moments
+pub mod Inside

@@ -8,16 +8,18 @@ ghost use Rattle.msrp_board.specs.declared.answers.Look.TheVariants.{Wait, Go, S
 ghost use Rattle.msrp_board.specs.declared.answers.SeatPhase.TheVariants.{Waiting, Admitted};
 ghost use Rattle.msrp_board.specs.declared.books.Book.{Book};
 ghost use Rattle.msrp_board.specs.declared.books.Conductor.TheVariants.{Unopened, Opened, Aborted};
-ghost use Rattle.msrp_board.specs.Rule.{next, serving};
-ghost use Rattle.msrp_board.specs.Boards.{book_at, IsSize, IsCoreSeat, IsIn, MayAct, LockIs, IsBehind, HasAnother, HasAll, first_seat, with_entry, admitted, stopped, arrived, conducted, alone, without, both};
+ghost use Rattle.msrp_board.specs.Books.{IsSize};
+ghost use Rattle.msrp_board.specs.Seats.{book_at, IsCoreSeat, IsIn, MayAct, HasAnother, HasAll, first_seat};
+ghost use Rattle.msrp_board.specs.Steps.{IsBehind, with_entry, with_admission, with_stop, with_arrival, with_conductor, alone, without, both};
 
 use crate::answers::{Asked, BoardError, Look, Polled};
 use crate::books::{BoardSize, Conductor};
-use crate::held::{fresh, only, others, own, union};
+use crate::held::{Claim, fresh, only, others, own, union};
 use crate::pages::{Tickets, View};
 use crate::seat::BoardSeat;
 use crate::steps;
 use atomic_table::Table;
+use msrp_plan::limits::{MOST_CORES, MOST_RESOURCES, MOST_TICKS};
 use msrp_plan::{CoreId, ResId};
 use std::alloc::Global;
 use std::marker::Model;
@@ -30,8 +32,8 @@ pub struct Board {
 }
 
 impl Model for Board {
-    ghost use Rattle.msrp_board.specs.Boards.{BoardModel};
-    ghost use Rattle.msrp_board.specs.Held.{IsBoard};
+    ghost use Rattle.msrp_board.specs.Seats.{BoardModel};
+    ghost use Rattle.msrp_board.specs.Inside.Held.{IsBoard};
 
     ghost Value = { BoardModel };
 
@@ -49,11 +51,16 @@ impl Board {
         resources: u32,
         ticks: u32,
     ) -> Result<(Board, BoardSeat), BoardError>
-        ensures limits { (result ≡ Err B1) ↔ ¬ IsSize cores resources ticks }
+        ensures limits { (result ≡ Err B1) ↔ ¬ IsSize record { cores = cores; resources = resources; ticks = ticks } }
         ensures size { IfOk result (λ r. r.0.size ≡ record { cores = cores; resources = resources; ticks = ticks }) }
         ensures seat { IfOk result (λ r. r.1 ≡ first_seat r.0) }
     {
-        if cores < 1 || cores > 8 || resources > 32 || ticks < 1 || ticks > 20000 {
+        if cores < 1
+            || cores > MOST_CORES
+            || resources as usize > MOST_RESOURCES
+            || ticks < 1
+            || ticks > MOST_TICKS
+        {
             return Err(BoardError::B1);
         }
         let size = BoardSize {
@@ -61,18 +68,28 @@ impl Board {
             resources,
             ticks,
         };
-        let zeros = [0u64; 33];
-        let Ok((table, place)) = Table::of_words(alloc, &zeros[..resources as usize + 1], &size)
-        else {
+        let zeros = [0u64; MOST_RESOURCES + 1];
+        let Ok((table, table_seat)) = Table::of_words(
+            alloc,
+            &zeros[..resources as usize + 1],
+            &size,
+        ) else {
             return Err(BoardError::B2);
         };
         let seat = BoardSeat {
-            place,
+            table_seat,
             size,
             held: fresh(cores as usize),
             conductor: Some(Conductor::Unopened),
         };
         Ok((Board { table, size }, seat))
+    }
+
+    /// How large the board is.
+    pub fn size(&self) -> BoardSize
+        ensures { result ≡ self.now.size }
+    {
+        self.size
     }
 
     /// Requests the resource for the core of the seat: one `fetch_add` on its ticket word. With none ahead it is
@@ -85,13 +102,12 @@ impl Board {
         ensures behind { IsBehind res.0 result.place seat.old }
     {
         let (core, state) = own(&seat.held);
-        let found = steps::ask(&self.table.shared, &mut seat.place, res.0 as usize);
-        let (next, serving) = halves(found);
+        let word = steps::ask(&self.table.shared, &mut seat.table_seat, res.0 as usize);
         let asked = Asked {
-            place: next + serving,
-            ahead: next - serving,
+            place: word.next + word.serving,
+            ahead: word.next - word.serving,
         };
-        seat.held[core] = Some(state.asked(res.0, asked.place, asked.ahead));
+        seat.held[core] = Some(state.with_ask(res.0, word));
         asked
     }
 
@@ -100,21 +116,24 @@ impl Board {
     pub fn poll(&self, seat: &mut BoardSeat) -> Polled
         requires board { seat.old.board ≡ self.now }
         requires queued { (g : ResId) × MayAct (Queued g) seat.old }
-        ensures entry { (g : ResId) → LockIs seat.old (Queued g) → seat.new ≡ with_entry g result.place (Poll result.granted) seat.old }
-        ensures behind { (g : ResId) → LockIs seat.old (Queued g) → IsBehind g.0 result.place seat.old }
+        ensures entry { (g : ResId) → MayAct (Queued g) seat.old → seat.new ≡ with_entry g result.place (Poll result.granted) seat.old }
+        ensures behind { (g : ResId) → MayAct (Queued g) seat.old → IsBehind g.0 result.place seat.old }
     {
         let (core, state) = own(&seat.held);
-        let found = steps::poll(
-            &self.table.shared,
-            &mut seat.place,
-            state.claim.res() as usize,
-        );
-        let (next, serving) = halves(found);
-        let polled = Polled {
-            place: next + serving,
-            granted: 2 * serving == state.claim.turn(),
+        let Claim::Waits { res, ticket } = state.claim else {
+            unreachable!()
         };
-        seat.held[core] = Some(state.polled(polled.granted));
+        let word = steps::poll(
+            &self.table.shared,
+            &mut seat.table_seat,
+            res as usize,
+            ticket,
+        );
+        let polled = Polled {
+            place: word.next + word.serving,
+            granted: word.serving == ticket,
+        };
+        seat.held[core] = Some(state.with_poll(res, ticket, polled.granted));
         polled
     }
 
@@ -123,18 +142,16 @@ impl Board {
     pub fn leave(&self, seat: &mut BoardSeat) -> u32
         requires board { seat.old.board ≡ self.now }
         requires holding { (g : ResId) × MayAct (Holding g) seat.old }
-        ensures entry { (g : ResId) → LockIs seat.old (Holding g) → seat.new ≡ with_entry g result Leave seat.old }
-        ensures behind { (g : ResId) → LockIs seat.old (Holding g) → IsBehind g.0 result seat.old }
+        ensures entry { (g : ResId) → MayAct (Holding g) seat.old → seat.new ≡ with_entry g result Leave seat.old }
+        ensures behind { (g : ResId) → MayAct (Holding g) seat.old → IsBehind g.0 result seat.old }
     {
         let (core, state) = own(&seat.held);
-        let found = steps::leave(
-            &self.table.shared,
-            &mut seat.place,
-            state.claim.res() as usize,
-        );
-        let (next, serving) = halves(found);
-        seat.held[core] = Some(state.left());
-        next + serving
+        let Claim::Holds { res, .. } = state.claim else {
+            unreachable!()
+        };
+        let word = steps::leave(&self.table.shared, &mut seat.table_seat, res as usize);
+        seat.held[core] = Some(state.with_leave());
+        word.next + word.serving
     }
 
     /// Looks whether the core of the seat is let into its tick: one `load` of the barrier word. Go is answered only
@@ -143,20 +160,24 @@ impl Board {
         requires board { seat.old.board ≡ self.now }
         requires waiting { IsIn Waiting seat.old }
         ensures wait { result ≡ Wait → seat.new ≡ seat.old }
-        ensures go { result ≡ Go → seat.new ≡ admitted seat.old }
-        ensures stopped { result ≡ Stopped → seat.new ≡ stopped seat.old }
+        ensures go { result ≡ Go → seat.new ≡ with_admission seat.old }
+        ensures stopped { result ≡ Stopped → seat.new ≡ with_stop seat.old }
         ensures start { (c : ℕ) (b : Book) → result ≡ Stopped → IsCoreSeat seat.old c b → b.tick ≡ 0 }
     {
+        let BoardSize {
+            cores,
+            resources,
+            ..
+        } = self.size;
         let (core, state) = own(&seat.held);
-        let barrier = self.size.resources as usize;
         let found = steps::look(
             &self.table.shared,
-            &mut seat.place,
-            barrier,
-            self.size.cores,
+            &mut seat.table_seat,
+            resources as usize,
+            cores,
         );
-        let look = state.finds(self.size.cores, found);
-        seat.held[core] = Some(state.looked(look));
+        let look = state.finds(cores, found);
+        seat.held[core] = Some(state.after_look(look));
         look
     }
 
@@ -165,28 +186,22 @@ impl Board {
     pub fn arrive(&self, seat: &mut BoardSeat)
         requires board { seat.old.board ≡ self.now }
         requires admitted { IsIn Admitted seat.old }
-        ensures { seat.new ≡ arrived seat.old }
+        ensures { seat.new ≡ with_arrival seat.old }
     {
         let (core, state) = own(&seat.held);
-        steps::arrive(
-            &self.table.shared,
-            &mut seat.place,
-            self.size.resources as usize,
-        );
-        seat.held[core] = Some(state.arrived());
+        let BoardSize { resources, .. } = self.size;
+        steps::arrive(&self.table.shared, &mut seat.table_seat, resources as usize);
+        seat.held[core] = Some(state.with_arrival());
     }
 
     /// Lets the cores into tick 0: one `fetch_add` on the barrier word.
     pub fn open(&self, seat: &mut BoardSeat)
         requires board { seat.old.board ≡ self.now }
         requires unopened { seat.old.conductor ≡ Some Unopened }
-        ensures { seat.new ≡ conducted Opened seat.old }
+        ensures { seat.new ≡ with_conductor Opened seat.old }
     {
-        steps::open(
-            &self.table.shared,
-            &mut seat.place,
-            self.size.resources as usize,
-        );
+        let BoardSize { resources, .. } = self.size;
+        steps::open(&self.table.shared, &mut seat.table_seat, resources as usize);
         seat.conductor = Some(Conductor::Opened);
     }
 
@@ -195,13 +210,10 @@ impl Board {
     pub fn abort(&self, seat: &mut BoardSeat)
         requires board { seat.old.board ≡ self.now }
         requires unopened { seat.old.conductor ≡ Some Unopened }
-        ensures { seat.new ≡ conducted Aborted seat.old }
+        ensures { seat.new ≡ with_conductor Aborted seat.old }
     {
-        steps::abort(
-            &self.table.shared,
-            &mut seat.place,
-            self.size.resources as usize,
-        );
+        let BoardSize { resources, .. } = self.size;
+        steps::abort(&self.table.shared, &mut seat.table_seat, resources as usize);
         seat.conductor = Some(Conductor::Aborted);
     }
 
@@ -214,21 +226,21 @@ impl Board {
         ensures rest { result.1 ≡ without core.0 seat }
     {
         let BoardSeat {
-            mut place,
+            mut table_seat,
             size,
             held,
             conductor,
         } = seat;
         let core = core.0 as usize;
-        let rest = steps::split(&self.table.shared, &mut place, core);
+        let rest = steps::split(&self.table.shared, &mut table_seat, core);
         let own = BoardSeat {
-            place,
+            table_seat,
             size,
             held: only(&held, core),
             conductor: None,
         };
         let others = BoardSeat {
-            place: rest,
+            table_seat: rest,
             size,
             held: others(&held, core),
             conductor,
@@ -242,30 +254,23 @@ impl Board {
         ensures { result ≡ both seat other }
     {
         let BoardSeat {
-            mut place,
+            mut table_seat,
             size,
             held,
             conductor,
         } = seat;
         let BoardSeat {
-            place: other_place,
+            table_seat: other_seat,
             size: _,
             held: other_held,
             conductor: other_conductor,
         } = other;
-        steps::join(&self.table.shared, &mut place, other_place);
+        steps::join(&self.table.shared, &mut table_seat, other_seat);
         BoardSeat {
-            place,
+            table_seat,
             size,
             held: union(&held, &other_held),
             conductor: conductor.or(other_conductor),
         }
     }
-}
-
-// The halves of a word: the high one, and the low one.
-fn halves(word: u64) -> (u32, u32)
-    ensures { (result.0 ≡ next word) × (result.1 ≡ serving word) }
-{
-    ((word / 4294967296) as u32, (word % 4294967296) as u32)
 }

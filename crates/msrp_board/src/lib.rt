@@ -17,6 +17,7 @@ mod settled;
 mod steps;
 #[cfg(test)]
 mod tests;
+mod words;
 
 pub use answers::{Asked, BoardError, Look, Polled, SeatPhase};
 pub use board::Board;

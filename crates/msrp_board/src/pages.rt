@@ -24,7 +24,7 @@ pub struct View {
 pub struct Tickets;
 
 impl TableRule<(), View, BoardSize> for Tickets {
-    ghost use Rattle.msrp_board.specs.Rule.{Ruled, first_view};
+    ghost use Rattle.msrp_board.specs.Inside.Rule.{Ruled, first_view};
 
     ghost holds = { Ruled };
 
@@ -35,7 +35,7 @@ impl TableRule<(), View, BoardSize> for Tickets {
 pub struct Asks;
 
 impl Play<(), View> for Asks {
-    ghost use Rattle.msrp_board.specs.Rule.{TellsAsk};
+    ghost use Rattle.msrp_board.specs.Inside.Rule.{TellsAsk};
 
     ghost then = { TellsAsk };
 }
@@ -44,7 +44,7 @@ impl Play<(), View> for Asks {
 pub struct Polls;
 
 impl Play<(), View> for Polls {
-    ghost use Rattle.msrp_board.specs.Rule.{TellsPoll};
+    ghost use Rattle.msrp_board.specs.Inside.Rule.{TellsPoll};
 
     ghost then = { TellsPoll };
 }
@@ -53,7 +53,7 @@ impl Play<(), View> for Polls {
 pub struct Leaves;
 
 impl Play<(), View> for Leaves {
-    ghost use Rattle.msrp_board.specs.Rule.{TellsLeave};
+    ghost use Rattle.msrp_board.specs.Inside.Rule.{TellsLeave};
 
     ghost then = { TellsLeave };
 }
@@ -75,7 +75,7 @@ pub struct Parts<N: Named> {
 }
 
 impl<N: Named> Split<View> for Parts<N> {
-    ghost use Rattle.msrp_board.specs.Rule.{view_alone, view_without};
+    ghost use Rattle.msrp_board.specs.Inside.Rule.{view_alone, view_without};
 
     ghost left = { view_alone N.number };
 
@@ -86,7 +86,7 @@ impl<N: Named> Split<View> for Parts<N> {
 pub struct Both;
 
 impl Join<View> for Both {
-    ghost use Rattle.msrp_board.specs.Rule.{view_both, spent};
+    ghost use Rattle.msrp_board.specs.Inside.Rule.{view_both, spent};
 
     ghost both = { view_both };
 
@@ -97,7 +97,7 @@ impl Join<View> for Both {
 pub struct Arrives;
 
 impl Play<(), View> for Arrives {
-    ghost use Rattle.msrp_board.specs.Rule.{TellsArrival};
+    ghost use Rattle.msrp_board.specs.Inside.Rule.{TellsArrival};
 
     ghost then = { TellsArrival };
 }
@@ -108,7 +108,7 @@ pub struct Looks<N: Named> {
 }
 
 impl<N: Named> Play<(), View> for Looks<N> {
-    ghost use Rattle.msrp_board.specs.Rule.{TellsLook};
+    ghost use Rattle.msrp_board.specs.Inside.Rule.{TellsLook};
 
     ghost then = { TellsLook N.number };
 }
@@ -117,7 +117,7 @@ impl<N: Named> Play<(), View> for Looks<N> {
 pub struct Opens;
 
 impl Play<(), View> for Opens {
-    ghost use Rattle.msrp_board.specs.Rule.{TellsOpening};
+    ghost use Rattle.msrp_board.specs.Inside.Rule.{TellsOpening};
 
     ghost then = { TellsOpening };
 }
@@ -126,11 +126,11 @@ impl Play<(), View> for Opens {
 pub struct Aborts;
 
 impl Play<(), View> for Aborts {
-    ghost use Rattle.msrp_board.specs.Rule.{TellsAbort};
+    ghost use Rattle.msrp_board.specs.Inside.Rule.{TellsAbort};
 
     ghost then = { TellsAbort };
 }
 
 pub type Words = Shared<(), View, BoardSize, Tickets>;
 
-pub type Place = Seat<(), View>;
+pub type TableSeat = Seat<(), View>;

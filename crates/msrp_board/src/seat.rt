@@ -1,14 +1,15 @@
 //! What a thread may do on a board: a seat holds the books of some cores, and its readers answer from them.
 ghost use Rattle.std.specs.Prelude.{◌≡◌, ◌↔◌, ◌<◌, ℕ, IsTrue, IsSome};
 ghost use Rattle.msrp_board.specs.declared.books.Book.{Book};
-ghost use Rattle.msrp_board.specs.Books.{phase_in, has_acted};
-ghost use Rattle.msrp_board.specs.Held.{Shows};
-ghost use Rattle.msrp_board.specs.Boards.{IsCoreSeat, HasCore, LockIs, book_at};
+ghost use Rattle.msrp_board.specs.Books.{phase_in, has_acted, lock_of};
+ghost use Rattle.msrp_board.specs.Seats.{IsSeat, IsCoreSeat, HasCore, book_at};
+ghost use Rattle.msrp_board.specs.Inside.Held.{Shows};
 
 use crate::answers::SeatPhase;
 use crate::books::{BoardSize, Conductor};
 use crate::held::{CoreState, own};
-use crate::pages::Place;
+use crate::pages::TableSeat;
+use msrp_plan::limits::MOST_CORES;
 use msrp_plan::{CoreId, Phase};
 use std::marker::Model;
 
@@ -17,28 +18,29 @@ use std::marker::Model;
 /// core's seat.
 #[derive(Drop)]
 pub struct BoardSeat {
-    pub(crate) place: Place,
+    pub(crate) table_seat: TableSeat,
     pub(crate) size: BoardSize,
-    pub(crate) held: [Option<CoreState>; 8],
+    pub(crate) held: [Option<CoreState>; MOST_CORES as usize],
     pub(crate) conductor: Option<Conductor>,
 }
 
 impl Model for BoardSeat {
-    ghost use Rattle.msrp_board.specs.Boards.{SeatModel};
-    ghost use Rattle.msrp_board.specs.Held.{IsSeat, seen_as};
+    ghost use Rattle.msrp_board.specs.Seats.{SeatModel};
+    ghost use Rattle.msrp_board.specs.Inside.Held.{IsHeld, seen_as};
 
     ghost Value = { SeatModel };
 
-    ghost view = { λ s. seen_as record { table = s.place.table_id; size = s.size } s.place.me.0 };
+    ghost view = { λ s. seen_as record { table = s.table_seat.table_id; size = s.size } s.table_seat.me.0 };
 
-    ghost invariant = { λ s. IsSeat s.size s.held s.conductor s.place.me };
+    ghost invariant = { λ s. IsHeld s.size s.held s.conductor s.table_seat.me };
 }
 
 impl BoardSeat {
     // What a core's seat keeps of its core.
     fn state(&self) -> CoreState
         requires { HasCore self.now }
-        ensures { (c : ℕ) (b : Book) → IsCoreSeat self.now c b → Shows result b }
+        ensures shows { (c : ℕ) (b : Book) → IsCoreSeat self.now c b → Shows result b }
+        ensures seat { IsSeat self.now }
     {
         let (_, state) = own(&self.held);
         state
@@ -47,7 +49,8 @@ impl BoardSeat {
     /// Where the core of a core's seat stands.
     pub fn phase(&self) -> SeatPhase
         requires { HasCore self.now }
-        ensures { (c : ℕ) (b : Book) → IsCoreSeat self.now c b → result ≡ phase_in self.now.board.size.ticks b }
+        ensures value { (c : ℕ) (b : Book) → IsCoreSeat self.now c b → result ≡ phase_in self.now.board.size.ticks b }
+        ensures seat { IsSeat self.now }
     {
         self.state().phase(self.size.ticks)
     }
@@ -55,7 +58,8 @@ impl BoardSeat {
     /// The tick that the core of a core's seat is in, or waits for.
     pub fn tick(&self) -> u32
         requires { HasCore self.now }
-        ensures { (c : ℕ) (b : Book) → IsCoreSeat self.now c b → result ≡ b.tick }
+        ensures value { (c : ℕ) (b : Book) → IsCoreSeat self.now c b → result ≡ b.tick }
+        ensures seat { IsSeat self.now }
     {
         self.state().tick
     }
@@ -63,7 +67,8 @@ impl BoardSeat {
     /// Whether the core of a core's seat has requested, polled or released in its tick.
     pub fn acted(&self) -> bool
         requires { HasCore self.now }
-        ensures { (c : ℕ) (b : Book) → IsCoreSeat self.now c b → result ≡ has_acted b }
+        ensures value { (c : ℕ) (b : Book) → IsCoreSeat self.now c b → result ≡ has_acted b }
+        ensures seat { IsSeat self.now }
     {
         self.state().acted
     }
@@ -71,21 +76,24 @@ impl BoardSeat {
     /// What the core of a core's seat holds or awaits.
     pub fn lock(&self) -> Phase
         requires { HasCore self.now }
-        ensures { LockIs self.now result }
+        ensures value { (c : ℕ) (b : Book) → IsCoreSeat self.now c b → result ≡ lock_of b }
+        ensures seat { IsSeat self.now }
     {
         self.state().claim.phase()
     }
 
     /// Whether the seat holds the book of this core.
     pub fn has_book(&self, core: CoreId) -> bool
-        ensures { IsTrue result ↔ IsSome (book_at self.now core.0) }
+        ensures value { IsTrue result ↔ IsSome (book_at self.now core.0) }
+        ensures seat { IsSeat self.now }
     {
-        core.0 < 8 && self.held[core.0 as usize].is_some()
+        core.0 < MOST_CORES && self.held[core.0 as usize].is_some()
     }
 
     /// What the conductor did, where the seat holds its book.
     pub fn conductor(&self) -> Option<Conductor>
-        ensures { result ≡ self.now.conductor }
+        ensures value { result ≡ self.now.conductor }
+        ensures seat { IsSeat self.now }
     {
         self.conductor
     }

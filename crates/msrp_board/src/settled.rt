@@ -3,13 +3,16 @@ ghost use Rattle.std.specs.Prelude.{◌≡◌, ◌<◌, ◌≤◌, ◌+◌, ℕ,
 ghost use Rattle.std.specs.Mem.Slots.{slots_items, slots_len, IsFull};
 ghost use Rattle.msrp_board.specs.declared.books.Book.{Book};
 ghost use Rattle.msrp_board.specs.declared.books.Conductor.TheVariants.{Opened};
-ghost use Rattle.msrp_board.specs.Boards.{book_at, high, low, HasAll, IsTied};
+ghost use Rattle.msrp_board.specs.Seats.{book_at, HasAll};
+ghost use Rattle.msrp_board.specs.Boards.{high, low, IsTied};
 
 use crate::board::Board;
 use crate::books::BoardSize;
 use crate::seat::BoardSeat;
+use crate::words::{high_half, low_half};
 use atomic_table::Closed;
 use msrp_plan::ResId;
+use msrp_plan::limits::MOST_RESOURCES;
 use std::alloc::Global;
 use std::marker::Model;
 use std::snapshot::Snapshot;
@@ -17,21 +20,20 @@ use std::snapshot::Snapshot;
 /// The words and the books of a board at its end.
 #[derive(Drop)]
 pub struct Settled {
-    words: [u64; 33],
+    words: [u64; MOST_RESOURCES + 1],
     size: BoardSize,
     last: Snapshot<BoardSeat>,
 }
 
 impl Model for Settled {
-    ghost use Rattle.std.specs.Prelude.{◌≤◌};
-    ghost use Rattle.msrp_board.specs.Boards.{SettledModel};
-    ghost use Rattle.msrp_board.specs.Held.{settled_as};
+    ghost use Rattle.msrp_board.specs.Boards.{WholeBoard};
+    ghost use Rattle.msrp_board.specs.Inside.Held.{IsSettled, settled_as};
 
-    ghost Value = { SettledModel };
+    ghost Value = { WholeBoard };
 
     ghost view = { λ s. settled_as s.size s.words s.last.value };
 
-    ghost invariant = { λ s. s.size.resources ≤ 32 };
+    ghost invariant = { λ s. IsSettled s.size s.words s.last.value };
 }
 
 impl Board {
@@ -49,12 +51,12 @@ impl Board {
         let Board { table, size } = self;
         let last = Snapshot::of(&seat);
         let BoardSeat {
-            place,
+            table_seat,
             size: _,
             held: _,
             conductor: _,
         } = seat;
-        let closed = table.close_with(place);
+        let closed = table.close_with(table_seat);
         let words = words_of(&closed, size.resources);
         closed.free();
         Settled { words, size, last }
@@ -62,13 +64,13 @@ impl Board {
 }
 
 // The words of so many resources, and the barrier word.
-fn words_of(closed: &Closed<(), Global>, resources: u32) -> [u64; 33]
+fn words_of(closed: &Closed<(), Global>, resources: u32) -> [u64; MOST_RESOURCES + 1]
     requires full { IsFull closed.now.words }
-    requires size { (slots_len closed.now.words ≡ resources + 1) × (resources ≤ 32) }
-    ensures length { length result ≡ 33 }
+    requires size { (slots_len closed.now.words ≡ resources + 1) × (resources ≤ MOST_RESOURCES) }
+    ensures length { length result ≡ MOST_RESOURCES + 1 }
     ensures words { (g : ℕ) → g < resources + 1 → slice_index result g ≡ slice_index (slots_items closed.now.words) g }
 {
-    let mut words = [0; 33];
+    let mut words = [0; MOST_RESOURCES + 1];
     for g in 0..resources as usize + 1 {
         words[g] = closed.word(g);
     }
@@ -76,12 +78,21 @@ fn words_of(closed: &Closed<(), Global>, resources: u32) -> [u64; 33]
 }
 
 impl Settled {
+    /// How large the board was.
+    pub fn size(&self) -> BoardSize
+        ensures value { result ≡ self.now.size }
+        ensures tied { IsTied self.now }
+    {
+        self.size
+    }
+
     /// What the ticket word of a resource counted: requests, and releases.
     pub fn word(&self, res: ResId) -> (u32, u32)
         requires { res.0 < self.now.size.resources }
-        ensures { result ≡ (high (slice_index self.now.tickets res.0), low (slice_index self.now.tickets res.0)) }
+        ensures value { result ≡ (high (slice_index self.now.tickets res.0), low (slice_index self.now.tickets res.0)) }
+        ensures tied { IsTied self.now }
     {
         let word = self.words[res.0 as usize];
-        ((word / 4294967296) as u32, (word % 4294967296) as u32)
+        (high_half(word), low_half(word))
     }
 }

@@ -1,79 +1,83 @@
-//! The eight kinds of step, each one atomic instruction on one word. A ticket word counts requests in its high half
-//! and releases in its low half, and so `4294967296` is one more request. The barrier word counts the opening and the
-//! arrivals in its low half, and in its high half the abort.
-ghost use Rattle.std.specs.Prelude.{Some, ◌≡◌, [], ◌+◌, ◌<◌, ℕ};
+//! The eight kinds of step, each one atomic instruction on one word.
+ghost use Rattle.std.specs.Prelude.{Some, ◌≡◌, [], ◌+◌, ◌-◌, ◌<◌, ◌==◌, ◌*◌, ℕ};
 ghost use mathlib.Core.Option.{none};
 ghost use Rattle.atomic_table.specs.Table.{step};
+ghost use Rattle.msrp_plan.specs.declared.units.Call.TheVariants.{Ask, Poll, Leave};
 ghost use Rattle.msrp_board.specs.declared.books.Conductor.TheVariants.{Unopened, Opened, Aborted};
 ghost use Rattle.msrp_board.specs.declared.held.Claim.TheVariants.{Nothing, Waits, Holds};
-ghost use Rattle.msrp_board.specs.Rule.{Ready, TellsAsk, TellsPoll, TellsLeave, TellsLook, Waiting, AdmittedAt, AllPast, change, arrived, conducted, view_alone, view_without, view_both};
+ghost use Rattle.msrp_board.specs.Inside.Rule.{ViewMayAct, HasEntered, IsTicket, TellsLook, ViewWaits, ViewIsAdmitted, with_pages, page_with_arrival, view_with_conductor, view_alone, view_without, view_both};
 
 use crate::pages::{
-    Aborts, Arrives, Asks, Both, Leaves, Looks, Named, Opens, Parts, Place, Polls, Words,
+    Aborts, Arrives, Asks, Both, Leaves, Looks, Named, Opens, Parts, Polls, TableSeat, Words,
 };
+use crate::words::{HIGH_ONE, TicketWord};
 use std::marker::Brand;
 
 /// A request. Answers the ticket word that it found.
-pub fn ask(words: &Words, seat: &mut Place, res: usize) -> u64
+pub fn ask(words: &Words, seat: &mut TableSeat, res: usize) -> TicketWord
     requires table { seat.old.table_id ≡ words.now.table_id }
     requires res { (res < words.now.key.resources) × (words.now.table_id.words ≡ words.now.key.resources + 1) }
-    requires free { Ready words.now.key seat.old.me.0 Nothing }
+    requires free { ViewMayAct seat.old.me.0 Nothing }
     ensures table { seat.new.table_id ≡ seat.old.table_id }
-    ensures asked { TellsAsk (step words.now.table_id.slots res 4294967296 0 none) seat.old.me result seat.new.me }
+    ensures found { IsTicket result }
+    ensures asked { HasEntered res (result.next + result.serving) (Ask (result.next - result.serving)) seat.old.me seat.new.me }
 {
-    words.fetch_add::<Asks>(seat, res, 4294967296)
+    TicketWord::of(words.fetch_add::<Asks>(seat, res, HIGH_ONE))
 }
 
-/// A poll. Answers the ticket word that it found.
-pub fn poll(words: &Words, seat: &mut Place, res: usize) -> u64
+/// A poll of a core that waits with this ticket. Answers the ticket word that it found.
+pub fn poll(words: &Words, seat: &mut TableSeat, res: usize, ticket: u32) -> TicketWord
     requires table { seat.old.table_id ≡ words.now.table_id }
     requires res { (res < words.now.key.resources) × (words.now.table_id.words ≡ words.now.key.resources + 1) }
-    requires queued { (t : ℕ) × Ready words.now.key seat.old.me.0 (Waits res t) }
+    requires queued { ViewMayAct seat.old.me.0 (Waits res ticket) }
     ensures table { seat.new.table_id ≡ seat.old.table_id }
-    ensures polled { TellsPoll (step words.now.table_id.slots res 0 0 none) seat.old.me result seat.new.me }
+    ensures found { IsTicket result }
+    ensures polled { HasEntered res (result.next + result.serving) (Poll (result.serving == ticket)) seat.old.me seat.new.me }
 {
-    words.load::<Polls>(seat, res)
+    let _ = ticket;
+    TicketWord::of(words.load::<Polls>(seat, res))
 }
 
 /// A release. Answers the ticket word that it found.
-pub fn leave(words: &Words, seat: &mut Place, res: usize) -> u64
+pub fn leave(words: &Words, seat: &mut TableSeat, res: usize) -> TicketWord
     requires table { seat.old.table_id ≡ words.now.table_id }
     requires res { (res < words.now.key.resources) × (words.now.table_id.words ≡ words.now.key.resources + 1) }
-    requires holding { (t : ℕ) × Ready words.now.key seat.old.me.0 (Holds res t) }
+    requires holding { (t : ℕ) × ViewMayAct seat.old.me.0 (Holds res t) }
     ensures table { seat.new.table_id ≡ seat.old.table_id }
-    ensures left { TellsLeave (step words.now.table_id.slots res 1 0 none) seat.old.me result seat.new.me }
+    ensures found { IsTicket result }
+    ensures left { HasEntered res (result.next + result.serving) Leave seat.old.me seat.new.me }
 {
-    words.fetch_add::<Leaves>(seat, res, 1)
+    TicketWord::of(words.fetch_add::<Leaves>(seat, res, 1))
 }
 
 /// An arrival.
-pub fn arrive(words: &Words, seat: &mut Place, barrier: usize)
+pub fn arrive(words: &Words, seat: &mut TableSeat, barrier: usize)
     requires table { seat.old.table_id ≡ words.now.table_id }
     requires barrier { (barrier ≡ words.now.key.resources) × (words.now.table_id.words ≡ words.now.key.resources + 1) }
-    requires admitted { AdmittedAt seat.old.me.0 }
+    requires admitted { ViewIsAdmitted seat.old.me.0 }
     ensures table { seat.new.table_id ≡ seat.old.table_id }
-    ensures arrived { (seat.new.me ≡ (change arrived seat.old.me.0, seat.old.me.1)) × AllPast seat.old.me.0 }
+    ensures arrived { seat.new.me ≡ (with_pages page_with_arrival seat.old.me.0, seat.old.me.1) }
 {
     words.fetch_add::<Arrives>(seat, barrier, 1);
 }
 
 /// A look. Answers the barrier word that it found.
-pub fn look(words: &Words, seat: &mut Place, barrier: usize, cores: u32) -> u64
+pub fn look(words: &Words, seat: &mut TableSeat, barrier: usize, cores: u32) -> u64
     requires table { seat.old.table_id ≡ words.now.table_id }
     requires barrier { (barrier ≡ words.now.key.resources) × (words.now.table_id.words ≡ words.now.key.resources + 1) }
     requires cores { words.now.key.cores ≡ cores }
-    requires waiting { Waiting words.now.key seat.old.me.0 }
+    requires waiting { ViewWaits words.now.key seat.old.me.0 }
     ensures table { seat.new.table_id ≡ seat.old.table_id }
     ensures looked { TellsLook cores (step words.now.table_id.slots barrier 0 0 none) seat.old.me result seat.new.me }
 {
     look_named::<Brand>(words, seat, barrier, cores)
 }
 
-fn look_named<N: Named>(words: &Words, seat: &mut Place, barrier: usize, cores: u32) -> u64
+fn look_named<N: Named>(words: &Words, seat: &mut TableSeat, barrier: usize, cores: u32) -> u64
     requires table { seat.old.table_id ≡ words.now.table_id }
     requires barrier { (barrier ≡ words.now.key.resources) × (words.now.table_id.words ≡ words.now.key.resources + 1) }
     requires cores { (N.number ≡ cores) × (words.now.key.cores ≡ cores) }
-    requires waiting { Waiting words.now.key seat.old.me.0 }
+    requires waiting { ViewWaits words.now.key seat.old.me.0 }
     ensures table { seat.new.table_id ≡ seat.old.table_id }
     ensures looked { TellsLook cores (step words.now.table_id.slots barrier 0 0 none) seat.old.me result seat.new.me }
 {
@@ -82,29 +86,29 @@ fn look_named<N: Named>(words: &Words, seat: &mut Place, barrier: usize, cores: 
 }
 
 /// The opening.
-pub fn open(words: &Words, seat: &mut Place, barrier: usize)
+pub fn open(words: &Words, seat: &mut TableSeat, barrier: usize)
     requires table { seat.old.table_id ≡ words.now.table_id }
     requires barrier { (barrier ≡ words.now.key.resources) × (words.now.table_id.words ≡ words.now.key.resources + 1) }
     requires unopened { seat.old.me.0.conductor ≡ Some Unopened }
     ensures table { seat.new.table_id ≡ seat.old.table_id }
-    ensures conductor { seat.new.me ≡ (conducted Opened seat.old.me.0, seat.old.me.1) }
+    ensures conductor { seat.new.me ≡ (view_with_conductor Opened seat.old.me.0, seat.old.me.1) }
 {
     words.fetch_add::<Opens>(seat, barrier, 1);
 }
 
 /// The abort.
-pub fn abort(words: &Words, seat: &mut Place, barrier: usize)
+pub fn abort(words: &Words, seat: &mut TableSeat, barrier: usize)
     requires table { seat.old.table_id ≡ words.now.table_id }
     requires barrier { (barrier ≡ words.now.key.resources) × (words.now.table_id.words ≡ words.now.key.resources + 1) }
     requires unopened { seat.old.me.0.conductor ≡ Some Unopened }
     ensures table { seat.new.table_id ≡ seat.old.table_id }
-    ensures conductor { seat.new.me ≡ (conducted Aborted seat.old.me.0, seat.old.me.1) }
+    ensures conductor { seat.new.me ≡ (view_with_conductor Aborted seat.old.me.0, seat.old.me.1) }
 {
-    words.fetch_add::<Aborts>(seat, barrier, 4294967296);
+    words.fetch_add::<Aborts>(seat, barrier, HIGH_ONE);
 }
 
 /// The seat keeps the page of the core, and the new one has the others.
-pub fn split(words: &Words, seat: &mut Place, core: usize) -> Place
+pub fn split(words: &Words, seat: &mut TableSeat, core: usize) -> TableSeat
     requires table { seat.old.table_id ≡ words.now.table_id }
     requires words { 0 < words.now.table_id.words }
     ensures tables { (seat.new.table_id ≡ seat.old.table_id) × (result.table_id ≡ seat.old.table_id) }
@@ -113,7 +117,7 @@ pub fn split(words: &Words, seat: &mut Place, core: usize) -> Place
     split_named::<Brand>(words, seat, core)
 }
 
-fn split_named<N: Named>(words: &Words, seat: &mut Place, core: usize) -> Place
+fn split_named<N: Named>(words: &Words, seat: &mut TableSeat, core: usize) -> TableSeat
     requires table { seat.old.table_id ≡ words.now.table_id }
     requires words { 0 < words.now.table_id.words }
     requires core { N.number ≡ core }
@@ -125,7 +129,7 @@ fn split_named<N: Named>(words: &Words, seat: &mut Place, core: usize) -> Place
 }
 
 /// The seat takes the other's pages.
-pub fn join(words: &Words, seat: &mut Place, other: Place)
+pub fn join(words: &Words, seat: &mut TableSeat, other: TableSeat)
     requires table { (seat.old.table_id ≡ words.now.table_id) × (other.table_id ≡ words.now.table_id) × (other.me.1 ≡ []) }
     requires words { 0 < words.now.table_id.words }
     ensures table { seat.new.table_id ≡ seat.old.table_id }

@@ -3,7 +3,10 @@
 ghost use Rattle.std.specs.Prelude.{◌≡◌, ◌<◌, ◌≤◌, length, IfOk, IfSome};
 ghost use Rattle.std.specs.List.{All};
 ghost use Rattle.std.specs.Thread.{IsSync};
-ghost use Rattle.msrp_board.specs.Boards.{IsCoreSeatOn};
+ghost use Rattle.msrp_board.specs.declared.answers.Look.TheVariants.{Go};
+ghost use Rattle.msrp_board.specs.Seats.{IsCoreSeatOn, IsFresh};
+
+mod port;
 
 use super::*;
 use msrp_plan::{CoreId, Phase, ResId};
@@ -14,50 +17,40 @@ use std::thread;
 use std::thread::Threads;
 
 fn ask(rt: &impl Abort, board: &Board, seat: &mut BoardSeat, res: ResId) -> Asked
-    requires { IsCoreSeatOn board.now seat.old × (res.0 < board.now.size.resources) }
+    requires seat { IsCoreSeatOn board.now seat.old × IsFresh seat.old }
+    requires res { res.0 < board.now.size.resources }
     ensures { IsCoreSeatOn board.now seat.new }
 {
-    let SeatPhase::Admitted = seat.phase() else {
-        panic!(rt; "not admitted")
-    };
     let Phase::Free = seat.lock() else {
         panic!(rt; "not free")
     };
-    assert!(rt; !seat.acted());
     board.ask(seat, res)
 }
 
 fn poll(rt: &impl Abort, board: &Board, seat: &mut BoardSeat) -> Polled
-    requires { IsCoreSeatOn board.now seat.old }
+    requires { IsCoreSeatOn board.now seat.old × IsFresh seat.old }
     ensures { IsCoreSeatOn board.now seat.new }
 {
-    let SeatPhase::Admitted = seat.phase() else {
-        panic!(rt; "not admitted")
-    };
     let Phase::Queued(_) = seat.lock() else {
         panic!(rt; "not queued")
     };
-    assert!(rt; !seat.acted());
     board.poll(seat)
 }
 
 fn leave(rt: &impl Abort, board: &Board, seat: &mut BoardSeat) -> u32
-    requires { IsCoreSeatOn board.now seat.old }
+    requires { IsCoreSeatOn board.now seat.old × IsFresh seat.old }
     ensures { IsCoreSeatOn board.now seat.new }
 {
-    let SeatPhase::Admitted = seat.phase() else {
-        panic!(rt; "not admitted")
-    };
     let Phase::Holding(_) = seat.lock() else {
         panic!(rt; "not holding")
     };
-    assert!(rt; !seat.acted());
     board.leave(seat)
 }
 
 fn look(rt: &impl Abort, board: &Board, seat: &mut BoardSeat) -> Look
     requires { IsCoreSeatOn board.now seat.old }
-    ensures { IsCoreSeatOn board.now seat.new }
+    ensures seat { IsCoreSeatOn board.now seat.new }
+    ensures fresh { result ≡ Go → IsFresh seat.new }
 {
     let SeatPhase::Waiting = seat.phase() else {
         panic!(rt; "not waiting")
@@ -78,9 +71,11 @@ fn arrive(rt: &impl Abort, board: &Board, seat: &mut BoardSeat)
 /// Looks, and must be let in.
 fn enter(rt: &impl Abort, board: &Board, seat: &mut BoardSeat)
     requires { IsCoreSeatOn board.now seat.old }
-    ensures { IsCoreSeatOn board.now seat.new }
+    ensures { IsCoreSeatOn board.now seat.new × IsFresh seat.new }
 {
-    assert_eq!(rt; look(rt, board, seat), Look::Go);
+    let Look::Go = look(rt, board, seat) else {
+        panic!(rt; "not let in")
+    };
 }
 
 fn part(rt: &impl Abort, board: &Board, seat: BoardSeat, core: u32) -> (BoardSeat, BoardSeat)
@@ -160,7 +155,8 @@ const RES: ResId = ResId(0);
 /// Lets both cores into their tick.
 fn enter_both(rt: &impl Abort, board: &Board, zero: &mut BoardSeat, one: &mut BoardSeat)
     requires { IsCoreSeatOn board.now zero.old × IsCoreSeatOn board.now one.old }
-    ensures { IsCoreSeatOn board.now zero.new × IsCoreSeatOn board.now one.new }
+    ensures zero { IsCoreSeatOn board.now zero.new × IsFresh zero.new }
+    ensures one { IsCoreSeatOn board.now one.new × IsFresh one.new }
 {
     enter(rt, board, zero);
     enter(rt, board, one);
@@ -169,7 +165,8 @@ fn enter_both(rt: &impl Abort, board: &Board, zero: &mut BoardSeat, one: &mut Bo
 /// Both cores arrive, and are let into the next tick.
 fn next_tick(rt: &impl Abort, board: &Board, zero: &mut BoardSeat, one: &mut BoardSeat)
     requires { IsCoreSeatOn board.now zero.old × IsCoreSeatOn board.now one.old }
-    ensures { IsCoreSeatOn board.now zero.new × IsCoreSeatOn board.now one.new }
+    ensures zero { IsCoreSeatOn board.now zero.new × IsFresh zero.new }
+    ensures one { IsCoreSeatOn board.now one.new × IsFresh one.new }
 {
     arrive(rt, board, zero);
     arrive(rt, board, one);
@@ -377,6 +374,16 @@ fn lap_all(rt: &impl Abort, board: &Board, players: &mut [Player], tick: u32)
     }
 }
 
+/// Each core has arrived from the last tick.
+fn are_done(rt: &impl Abort, board: &Board, players: &[Player])
+    requires { All (λ p. IsCoreSeatOn board.now p.seat) players.now }
+{
+    let _ = board;
+    for player in players {
+        assert_eq!(rt; player.seat.phase(), SeatPhase::Done);
+    }
+}
+
 /// A board and its first seat.
 fn board_of(
     rt: &impl Abort,
@@ -416,6 +423,7 @@ fn longest_run_is_counted(rt: HostRuntime) -> Result<(), Fail> {
     let (players, mut rest) = deal(&rt, rt.alloc(), &board, seat, 8)?;
     open(&rt, &board, &mut rest);
     let players = run_laps(&rt, &board, players, 20000);
+    are_done(&rt, &board, players.as_slice());
     let all = gather(&board, players, rest);
     let settled = end(&rt, board, 8, all);
     for res in 0u32..32 {
@@ -467,7 +475,8 @@ fn act(
     player: &mut Player,
     numbers: &mut Numbers,
 ) -> Option<Answered>
-    requires { IsCoreSeatOn board.now player.old.seat × (board.now.size.resources ≡ 3) }
+    requires seat { IsCoreSeatOn board.now player.old.seat × IsFresh player.old.seat }
+    requires resources { board.now.size.resources ≡ 3 }
     ensures { IsCoreSeatOn board.now player.new.seat }
 {
     let is_idle = numbers.below(4) == 0;
@@ -504,19 +513,16 @@ fn play(rt: &impl Abort, board: &Board, player: Player) -> Option<Player>
     let mut player = player;
     let mut numbers = Numbers(u64::from(player.core));
     for _ in 0u32..100_000_000 {
-        match player.seat.phase() {
-            SeatPhase::Waiting => {
-                if look(rt, board, &mut player.seat) == Look::Wait {
-                    thread::yield_now();
-                }
+        let SeatPhase::Waiting = player.seat.phase() else {
+            break;
+        };
+        if look(rt, board, &mut player.seat) == Look::Go {
+            if let Some(answered) = act(rt, board, &mut player, &mut numbers) {
+                player.log.push(answered).ok()?;
             }
-            SeatPhase::Admitted => {
-                if let Some(answered) = act(rt, board, &mut player, &mut numbers) {
-                    player.log.push(answered).ok()?;
-                }
-                arrive(rt, board, &mut player.seat);
-            }
-            _ => break,
+            arrive(rt, board, &mut player.seat);
+        } else {
+            thread::yield_now();
         }
     }
     let phase = player.seat.phase();
@@ -627,7 +633,7 @@ fn gather_played(
 }
 
 /// What threads were answered, one for each core, in the order of the histories, is what one thread would have
-/// answered. Of each core there are so many answers at least.
+/// answered. The cores together were answered more often than there are ticks, so the threads did something.
 fn check_threads<R: Threads + Abort + Sync>(
     rt: &R,
     alloc: Global,

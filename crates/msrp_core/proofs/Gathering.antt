@@ -11,7 +11,7 @@ use Rattle.msrp_plan.specs.States.{state_after}
 use Rattle.msrp_plan.specs.declared.ids.JobId.{JobId}
 use Rattle.msrp_plan.specs.declared.units.Op.TheVariants.{Run}
 use Rattle.msrp_plan.proofs.Lists.{all_weaker}
-use Rattle.msrp_plan.proofs.JobLists.{job_at, jobs_among, jobs_among_more, jobs_of_are, core_jobs_below, among_fewer}
+use Rattle.msrp_plan.proofs.JobLists.{job_at, jobs_among, jobs_among_more, core_jobs_below, among_fewer}
 use Rattle.msrp_plan.proofs.WorkAlone.{units_run}
 use Rattle.msrp_core.specs.Progress.{fresh, state_of}
 use Rattle.msrp_core.specs.MachineView.{IsProgress, AreProgress}
@@ -65,8 +65,8 @@ map_map plan t [] = refl
 map_map plan t (k ∷ ks) = ap (λ ps. fresh plan (job_at t k) ∷ ps) (map_map plan t ks)
 
 -- the jobs of the task are all there
-pub push_all : (plan : PlanModel) (t n : ℕ) → n ≡ length (jobs_of plan t) → map (λ k. fresh plan (job_at t k)) (range_with_len 0 n) ≡ map (fresh plan) (jobs_of plan t)
-push_all plan t n e = ap (λ m. map (λ k. fresh plan (job_at t k)) (range_with_len 0 m)) e ∙ (map_map plan t (range_with_len 0 (length (jobs_of plan t))) ∙ ap (map (fresh plan)) (sym (jobs_of_are plan t)))
+pub push_all : (plan : PlanModel) (t n : ℕ) → jobs_of plan t ≡ map (job_at t) (range_with_len 0 n) → map (λ k. fresh plan (job_at t k)) (range_with_len 0 n) ≡ map (fresh plan) (jobs_of plan t)
+push_all plan t n e = map_map plan t (range_with_len 0 n) ∙ ap (map (fresh plan)) (sym e)
 
 -- ---- a new machine
 fresh_states : (plan : PlanModel) (js : List JobId) → map state_of (map (fresh plan) js) ≡ map (state_after []) js

@@ -16,9 +16,20 @@ pub record PortModel : Type 0 where
   pub rooms : ℕ → ℕ
   pub resources : ℕ
 
+-- a call with its resource, and with its core
+abbrev pub res_call : PortCall → ResCall
+res_call e = (e.res, e.call)
+
+abbrev pub core_call : PortCall → ℕ × Call
+core_call e = (e.core.0, e.call)
+
 -- the calls of a core, each with its resource
 abbrev pub calls_of : ℕ → List PortCall → List ResCall
-calls_of c calls = map (λ e. (e.res, e.call)) (filter (λ e. e.core.0 == c) calls)
+calls_of c calls = map res_call (filter (λ e. e.core.0 == c) calls)
+
+-- the calls of a resource, each with its core
+abbrev pub calls_on : ℕ → List PortCall → List (ℕ × Call)
+calls_on g calls = map core_call (filter (λ e. e.res.0 == g) calls)
 
 -- what a core holds or awaits, as its calls say
 abbrev pub claim_in : ℕ → List PortCall → Phase

@@ -1,5 +1,6 @@
 //! The jobs of a core, gathered before its first turn.
-ghost use Rattle.std.specs.Prelude.{◌≡◌, ◌<◌, ◌≤◌, ◌+◌, ◌++◌, length, map, IfOk, vec_len, vec_capacity};
+ghost use Rattle.std.specs.Prelude.{◌≡◌, ◌<◌, ◌≤◌, ◌+◌, ◌++◌, length, map, IfOk, IsSome, vec_len, vec_capacity};
+ghost use Rattle.msrp_plan.specs.Plan.{release_tick};
 ghost use Rattle.msrp_plan.specs.Jobs.{jobs_of, jobs_on};
 ghost use Rattle.msrp_plan.specs.WellFormed.{IsPlan};
 ghost use Rattle.msrp_core.specs.Progress.{fresh};
@@ -10,7 +11,8 @@ use std::alloc::Global;
 
 // A job before its first turn.
 fn fresh(plan: &Plan, job: JobId) -> Progress
-    requires { job.task.0 < length plan.now.tasks }
+    requires task { job.task.0 < length plan.now.tasks }
+    requires released { IsSome (release_tick plan.now job) }
     ensures { result ≡ fresh plan.now job }
 {
     Progress {

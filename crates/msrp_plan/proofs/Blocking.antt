@@ -5,3 +5,7 @@ pub mod Heads
 pub mod Sections
 pub mod Begun
 pub mod OneSection
+pub mod SectionRows
+pub mod Bound
+pub mod UnitByUnit
+pub mod FromRelease

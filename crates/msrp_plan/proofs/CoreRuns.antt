@@ -4,13 +4,14 @@ use Rattle.std.specs.List.{list_any}
 use Rattle.std.proofs.Math.Bool.{or-false, or-true, true≢false}
 use Rattle.std.proofs.lemmas.Nat.{div-mul-add}
 use Rattle.msrp_plan.specs.Plan.{PlanModel}
-use Rattle.msrp_plan.specs.Runs.{EachAfter, IsLegal, IsRun, IsRunStart, IsCoreTurn, CoreRun, is_of_core, same_choice}
+use Rattle.msrp_plan.specs.Runs.{EachAfter, IsLegal, IsRun, IsRunStart, IsCoreTurn, CoreRun, had_turn, is_of_core, same_choice}
 use Rattle.msrp_plan.specs.Logs.{log_of}
 use Rattle.msrp_plan.specs.declared.rows.Row.{Row}
 use Rattle.msrp_plan.proofs.Lists.{all_push}
 use Rattle.msrp_plan.proofs.Locality.{AreOwn, choice_local, does_next_local}
+use Rattle.msrp_plan.proofs.LegalRows.{legal_due}
 use Rattle.msrp_plan.proofs.RoundRobin.{log_own, log_other}
-use Rattle.msrp_plan.proofs.Ticks.{IsTick, rows_in, tick_push, tick_none, tick_is, row_tick, not_turned, turned, turned_push}
+use Rattle.msrp_plan.proofs.Ticks.{IsTick, any_both, rows_in, tick_push, tick_none, tick_is, row_tick, not_turned, turned, turned_push}
 
 -- a test as a number
 abbrev one_if : Bool → ℕ
@@ -107,6 +108,25 @@ stands_none plan c l = record { tick = tick_none plan (omega (arith, l)); turns 
 -- in the start of a legal run the rows of a core are a run of the core
 pub core_run : (plan : PlanModel) (rows : List Row) (c : ℕ) → IsRunStart plan rows → c < plan.cores → CoreRun plan c (log_of c rows)
 core_run plan rows c h l = core_turns plan c 0 [] rows l (stands_none plan c l) h.each
+
+-- a legal row stands in the tick that the log of its core has reached
+pub reached_tick : (plan : PlanModel) (pre : List Row) (r : Row) → EachAfter (IsLegal plan) [] pre → IsLegal plan pre r → r.tick ≡ length (log_of r.core.0 pre)
+reached_tick plan pre r all h =
+    let l = (legal_due plan pre r h).core in
+    let s = stands_after plan r.core.0 0 [] pre l (stands_none plan r.core.0 l) all in
+    (next_of_log plan s.0 pre r s.1.tick s.1.turns s.1.own h).tick
+
+-- by whether the core has had its turn
+due_cases : (c t : ℕ) (pre : List Row) (b : Bool) → turned t pre c ≡ b → HasTurns c t pre → length (log_of c pre) ≡ t → had_turn c t pre ≡ false
+due_cases c t pre true e has h = let n = has ∙ ap (λ v. t + one_if v) e in absurd (omega (arith, n, h))
+due_cases c t pre false e has h = any_both (λ w. w.tick == t) (λ w. w.core.0 == c) pre ∙ e
+
+-- a core whose log is as long as the ticks that are full is due
+pub due_by_log : (plan : PlanModel) (pre : List Row) (c : ℕ) → EachAfter (IsLegal plan) [] pre → c < plan.cores → length (log_of c pre) ≡ length pre / plan.cores → had_turn c (length pre / plan.cores) pre ≡ false
+due_by_log plan pre c all l h =
+    let s = stands_after plan c 0 [] pre l (stands_none plan c l) all in
+    let t = tick_is plan s.0 pre s.1.tick in
+    subst (λ n. had_turn c n pre ≡ false) (sym t) (due_cases c s.0 pre (turned s.0 pre c) refl s.1.turns (h ∙ t))
 
 -- a list of no length is empty
 none_of_length : (rows : List Row) → length rows ≡ 0 → rows ≡ []

@@ -1,10 +1,11 @@
 -- What each call of the builder keeps of its draft, and what the last call makes of it.
-use Rattle.std.proofs.Common.{◌≡◌, ℕ, ◌+◌, ◌-◌, ◌<◌, ◌≤◌, ◌==◌, nat_le, Bool, true, false, cond, not, List, [], ◌∷◌, ◌++◌, length, map, set, drop, replicate, nat_eq, is_none, slice_index_or, Some, None, refl, ap, sym, subst, ◌∙◌, inl, inr, arith}
-use Rattle.std.specs.List.{list_any}
+use Rattle.std.proofs.Common.{◌≡◌, ℕ, ◌+◌, ◌-◌, ◌<◌, ◌≤◌, ◌==◌, ◌&&◌, ◌||◌, nat_lt, nat_le, Bool, true, false, cond, not, List, [], ◌∷◌, ◌++◌, length, map, set, drop, replicate, nat_eq, is_none, slice_index_or, Some, None, refl, ap, sym, subst, ◌∙◌, inl, inr, arith}
+use Rattle.std.specs.List.{list_any, slice_get}
+use Rattle.std.specs.List.Sorted.{IsStrictlyIncreasing}
 use Rattle.std.specs.Str.{bytes_eq}
 use Rattle.std.specs.Cmp.Lexicographic.{nat_list_eq_equiv}
-use Rattle.std.proofs.lemmas.Bool.{cases_eq, or_parts, not-false, and_parts, leb-false, leb-true, ltb-false, eqb-false, eqb-true}
-use Rattle.std.proofs.lemmas.Option.{same_Some}
+use Rattle.std.proofs.lemmas.Bool.{cases_eq, or_parts, true≢false, ltb-true, not-false, and_parts, leb-false, leb-true, ltb-false, eqb-false, eqb-true}
+use Rattle.std.proofs.lemmas.Option.{same_Some, slice_get-get_or}
 use Rattle.std.proofs.lemmas.List.{length-append, length-drop, length-replicate, length_push, length-set, map_push, map-set, set-get_or, get_or-map, get_or_append_left, get_or_push, get_or_past, get_or-set_same, get_or-set_other}
 use Rattle.std.proofs.lemmas.List.Elements.{All-nil, All-push}
 use Rattle.std.proofs.lemmas.Map.Keys.{IsDistinct-push, IsDistinct-from_apart}
@@ -12,14 +13,15 @@ use Rattle.msrp_plan.specs.Plan.{PlanModel, TaskModel, task_at, no_task}
 use Rattle.msrp_plan.specs.Names.{is_name, has_name}
 use Rattle.msrp_plan.specs.Units.{held_after, held_with}
 use Rattle.msrp_plan.specs.WellFormed.{AreNames, IsTask, IsLocking, IsWhole}
-use Rattle.msrp_plan.specs.Building.{empty_plan, new_fault, resource_fault, task_fault, op_fault, end_fault, units_end_fault, with_resource, with_task, with_units, with_more_units, newest_units, units_of, is_within, is_in_range, is_none_held, is_undeclared, is_improper, is_misnested, is_too_much, held_count}
+use Rattle.msrp_plan.specs.ReleaseTimes.{ReleaseTimes, Every, Listed, AreListed, AreTimes, is_listed, lacks_release, listed_ticks, with_tick}
+use Rattle.msrp_plan.specs.Building.{AreNew, empty_plan, new_fault, resource_fault, task_fault, release_fault, tick_fault, op_fault, end_fault, task_end_fault, with_resource, with_task, with_newest, with_release, with_units, with_more_ticks, with_more_units, newest_task, newest_units, takes_releases, units_of, is_above, is_within, are_in_range, is_in_range, is_none_held, is_undeclared, is_improper, is_misnested, is_too_much, held_count}
 use Rattle.msrp_plan.specs.Views.{IsGrowing}
 use Rattle.msrp_plan.specs.declared.ids.ResId.{ResId}
 use Rattle.msrp_plan.specs.declared.units.Op.{Op}
 use Rattle.msrp_plan.specs.declared.units.Op.TheVariants.{Run as RunUnit, Lock as LockUnit, Unlock as UnlockUnit}
 use Rattle.msrp_plan.specs.declared.units.Step.{Step}
 use Rattle.msrp_plan.specs.declared.units.Step.TheVariants.{Run, Lock, Unlock}
-use Rattle.msrp_plan.specs.declared.faults.PlanFault.TheVariants.{Name, Taken, Limit, Core, NoUnit, Nesting, Undeclared}
+use Rattle.msrp_plan.specs.declared.faults.PlanFault.TheVariants.{Name, Taken, Limit, Core, NoUnit, Nesting, Releases, Undeclared}
 use Rattle.msrp_plan.proofs.Faultless.{fails, neither, within, none_held}
 use Rattle.msrp_plan.proofs.Nesting.{IsHeld, even_after, held_few, held_times, locks_none, locks_push, locks_wider, runs_push}
 
@@ -52,7 +54,7 @@ growing_none cores ticks e =
 
 -- the numbers of a task, where more resources are declared
 task_wider : (plan more : PlanModel) (task : TaskModel) → plan.cores ≡ more.cores → IsTask plan task → IsTask more task
-task_wider plan more task same h = record { core = omega (arith, h.core, same); period = h.period; deadline = h.deadline; offset = h.offset; size = h.size }
+task_wider plan more task same h = record { core = omega (arith, h.core, same); times = h.times; deadline = h.deadline; size = h.size }
 
 -- one resource more
 pub growing_resource : (plan : PlanModel) (held name : List ℕ) → IsGrowing plan held → resource_fault plan name ≡ None → IsGrowing (with_resource plan name) held
@@ -103,51 +105,63 @@ at_set P tasks place task each one t past =
       | inr other ↦ subst P (sym (get_or-set_other tasks place t task no_task other)) (each t before)
     ]
 
--- units that end where they may are a whole task
-units_whole : (us : List Op) → units_end_fault us ≡ None → (held_after us ≡ Some []) × IsWhole us
-units_whole us e =
-    let a = fails (length us == 0) NoUnit _ e in
+-- a task that ends where it may is whole
+task_whole : (task : TaskModel) → task_end_fault task ≡ None → (held_after task.units ≡ Some []) × IsWhole task
+task_whole task e =
+    let us : List Op = task.units in
+    let r = fails (lacks_release task.times) Releases _ e in
+    let a = fails (length us == 0) NoUnit _ r.1 in
     let b = fails (not (is_none_held (held_after us))) Nesting None a.1 in
     let none : held_after us ≡ Some [] = none_held (held_after us) (not-false _ b.0) in
     let some : length us ≡ 0 → ⊥ = eqb-false (length us) 0 a.0 in
-    (none, record { work = omega (arith, some); balanced = λ g. let k = even_after g us [] none in let z : held_times g [] ≡ 0 = refl in omega (arith, k.even, z) })
+    (none, record { released = r.0; work = omega (arith, some); balanced = λ g. let k = even_after g us [] none in let z : held_times g [] ≡ 0 = refl in omega (arith, k.even, z) })
 
 -- what a draft that may end holds, and that its newest task is whole
 record IsEnded (plan : PlanModel) (held : List ℕ) : Type 0 where
   empty : held ≡ []
-  whole : 0 < length plan.tasks → IsWhole (newest_units plan)
+  whole : 0 < length plan.tasks → IsWhole (newest_task plan)
 
-ended_by : (plan : PlanModel) (held : List ℕ) (b : Bool) → held_after (newest_units plan) ≡ Some held → (length plan.tasks == 0) ≡ b → cond b None (units_end_fault (newest_units plan)) ≡ None → IsEnded plan held
+ended_by : (plan : PlanModel) (held : List ℕ) (b : Bool) → held_after (newest_units plan) ≡ Some held → (length plan.tasks == 0) ≡ b → cond b None (task_end_fault (newest_task plan)) ≡ None → IsEnded plan held
 ended_by plan held true holds is e =
     let none : length plan.tasks ≡ 0 = eqb-true (length plan.tasks) 0 is in
     let past : task_at plan (length plan.tasks - 1) ≡ no_task = get_or_past plan.tasks (length plan.tasks - 1) no_task (omega (arith, none)) in
     let us : newest_units plan ≡ [] = ap (λ (task : TaskModel). task.units) past in
     record { empty = same_Some held [] (sym holds ∙ ap held_after us); whole = λ some. absurd (omega (arith, none, some)) }
 ended_by plan held false holds is e =
-    let k = units_whole (newest_units plan) e in
+    let k = task_whole (newest_task plan) e in
     record { empty = same_Some held [] (sym holds ∙ k.0); whole = λ some. k.1 }
 
 ended : (plan : PlanModel) (held : List ℕ) → IsGrowing plan held → end_fault plan ≡ None → IsEnded plan held
 ended plan held h e = ended_by plan held (length plan.tasks == 0) h.holds refl e
 
 -- every task is whole in a draft that may end
-pub all_whole : (plan : PlanModel) (held : List ℕ) → IsGrowing plan held → end_fault plan ≡ None → (t : ℕ) → t < length plan.tasks → IsWhole (task_at plan t).units
+pub all_whole : (plan : PlanModel) (held : List ℕ) → IsGrowing plan held → end_fault plan ≡ None → (t : ℕ) → t < length plan.tasks → IsWhole (task_at plan t)
 all_whole plan held h e t past = elim (cases_eq (t + 1) (length plan.tasks)) [
-  | inl last ↦ let same : t ≡ length plan.tasks - 1 = omega (arith, last) in subst (λ k. IsWhole (task_at plan k).units) (sym same) ((ended plan held h e).whole (omega (arith, past)))
+  | inl last ↦ let same : t ≡ length plan.tasks - 1 = omega (arith, last) in subst (λ k. IsWhole (task_at plan k)) (sym same) ((ended plan held h e).whole (omega (arith, past)))
   | inr other ↦ h.whole t (omega (arith, past, other))
 ]
 
+-- no tick
+listed_none : AreListed []
+listed_none = record { few = omega arith; soon = All-nil (λ tick. tick ≤ 1000000); rising = λ k past. absurd (omega (arith, past)) }
+
+-- release times in their ranges, as a task is declared with them
+times_are : (times : ReleaseTimes) → AreNew times → are_in_range times ≡ true → AreTimes times
+times_are (Every period offset) new range =
+    let a = and_parts (is_within 1 1000000 period) (nat_le offset 1000000) range in
+    let b = within 1 1000000 period a.0 in
+    record { positive = b.0; short = b.1; soon = leb-true offset 1000000 a.1 }
+times_are (Listed ticks) new range = subst AreListed (sym new) listed_none
+
 -- the numbers of a task that is accepted
-task_is : (plan : PlanModel) (task : TaskModel) → task.units ≡ [] → nat_le plan.cores task.core ≡ false → is_in_range task ≡ true → IsTask plan task
-task_is plan task none core range =
-    let a = and_parts (is_within 1 1000000 task.period) _ range in
-    let b = and_parts (is_within 1 1000000 task.deadline) (nat_le task.offset 1000000) a.1 in
+task_is : (plan : PlanModel) (task : TaskModel) → AreNew task.times → task.units ≡ [] → nat_le plan.cores task.core ≡ false → is_in_range task ≡ true → IsTask plan task
+task_is plan task new none core range =
+    let a = and_parts (are_in_range task.times) (is_within 1 1000000 task.deadline) range in
     let size : length task.units ≡ 0 = ap length none in
     record {
       core = leb-false plan.cores task.core core;
-      period = within 1 1000000 task.period a.0;
-      deadline = within 1 1000000 task.deadline b.0;
-      offset = leb-true task.offset 1000000 b.1;
+      times = times_are task.times new a.0;
+      deadline = within 1 1000000 task.deadline a.1;
       size = omega (arith, size);
     }
 
@@ -175,8 +189,8 @@ pub task_new : (plan : PlanModel) (task : TaskModel) → task_fault plan task �
 task_new plan task e = (accepted plan task e).new
 
 -- one task more
-pub growing_task : (plan : PlanModel) (held : List ℕ) (task : TaskModel) → IsGrowing plan held → task.units ≡ [] → task_fault plan task ≡ None → IsGrowing (with_task plan task) held
-growing_task plan held task h none e =
+pub growing_task : (plan : PlanModel) (held : List ℕ) (task : TaskModel) → IsGrowing plan held → AreNew task.times → task.units ≡ [] → task_fault plan task ≡ None → IsGrowing (with_task plan task) held
+growing_task plan held task h fresh none e =
     let k = accepted plan task e in
     let more : length (plan.tasks ++ task ∷ []) ≡ length plan.tasks + 1 = length_push plan.tasks task in
     let names : map (λ (u : TaskModel). u.name) (plan.tasks ++ task ∷ []) ≡ map (λ (u : TaskModel). u.name) plan.tasks ++ task.name ∷ [] = map_push (λ (u : TaskModel). u.name) plan.tasks task in
@@ -191,13 +205,13 @@ growing_task plan held task h none e =
         resource_names = h.draft.resource_names;
         task_names = subst AreNames (sym names) (names_push _ task.name k.name k.new h.draft.task_names);
         each = at_push (IsTask (with_task plan task)) plan.tasks task (λ t past. task_wider plan (with_task plan task) (task_at plan t) refl (h.draft.each t past))
-            (task_wider plan (with_task plan task) task refl (task_is plan task none k.core k.range));
+            (task_wider plan (with_task plan task) task refl (task_is plan task fresh none k.core k.range));
         locking = at_push (λ u. IsLocking (with_task plan task) u.units) plan.tasks task (λ t past. locks_wider plan (with_task plan task) (task_at plan t).units (omega arith) (h.draft.locking t past))
             (subst (IsLocking (with_task plan task)) (sym none) (locks_none (with_task plan task)));
       };
       whole = λ t past.
           let before : t < length plan.tasks = omega (arith, more, past) in
-          subst (λ (u : TaskModel). IsWhole u.units) (sym (get_or_append_left plan.tasks (task ∷ []) no_task t before)) (all_whole plan held h k.end t before);
+          subst IsWhole (sym (get_or_append_left plan.tasks (task ∷ []) no_task t before)) (all_whole plan held h k.end t before);
       holds = ap held_after us ∙ ap Some (sym (ended plan held h k.end).empty);
     }
 
@@ -208,16 +222,16 @@ names_set tasks place task within same =
     let name = λ (u : TaskModel). u.name in
     map-set name tasks place task ∙ ap (set (map name tasks) place) (same ∙ sym (get_or-map name tasks place no_task [] within)) ∙ set-get_or (map name tasks) place []
 
--- the newest task with more units
-pub growing_units : (plan : PlanModel) (held next : List ℕ) (us : List Op) → IsGrowing plan held → 0 < length plan.tasks → length (newest_units plan ++ us) ≤ 4096
-    → IsHeld plan (newest_units plan ++ us) next → IsGrowing (with_units plan us) next
-growing_units plan held next us h some size k =
+-- another task in place of the newest, under its name
+growing_newest : (plan : PlanModel) (held next : List ℕ) (changed : TaskModel → TaskModel) → IsGrowing plan held → 0 < length plan.tasks → (changed (newest_task plan)).name ≡ (newest_task plan).name
+    → IsTask plan (changed (newest_task plan)) → IsHeld plan (changed (newest_task plan)).units next → IsGrowing (record plan { tasks = with_newest changed plan.tasks }) next
+growing_newest plan held next changed h some named is k =
     let last : ℕ = length plan.tasks - 1 in
     let within : last < length plan.tasks = omega arith in
-    let task : TaskModel = with_more_units (task_at plan last) us in
+    let task : TaskModel = changed (task_at plan last) in
+    let more : PlanModel = record plan { tasks = set plan.tasks last task } in
     let same : length (set plan.tasks last task) ≡ length plan.tasks = length-set plan.tasks last task in
-    let old = h.draft.each last within in
-    let newest : task_at (with_units plan us) (length (set plan.tasks last task) - 1) ≡ task =
+    let newest : task_at more (length (set plan.tasks last task) - 1) ≡ task =
     ap (λ n. slice_index_or (set plan.tasks last task) (n - 1) no_task) same ∙ get_or-set_same plan.tasks last task no_task within in
     record {
       draft = record {
@@ -226,22 +240,73 @@ growing_units plan held next us h some size k =
         resources = h.draft.resources;
         tasks = omega (arith, same, h.draft.tasks);
         resource_names = h.draft.resource_names;
-        task_names = subst AreNames (sym (names_set plan.tasks last task within refl)) h.draft.task_names;
-        each = at_set (IsTask (with_units plan us)) plan.tasks last task (λ t past. task_wider plan (with_units plan us) (task_at plan t) refl (h.draft.each t past))
-            (record { core = old.core; period = old.period; deadline = old.deadline; offset = old.offset; size = size });
-        locking = at_set (λ u. IsLocking (with_units plan us) u.units) plan.tasks last task (λ t past. locks_wider plan (with_units plan us) (task_at plan t).units (omega arith) (h.draft.locking t past))
-            (locks_wider plan (with_units plan us) task.units (omega arith) k.locking);
+        task_names = subst AreNames (sym (names_set plan.tasks last task within named)) h.draft.task_names;
+        each = at_set (IsTask more) plan.tasks last task (λ t past. task_wider plan more (task_at plan t) refl (h.draft.each t past)) (task_wider plan more task refl is);
+        locking = at_set (λ u. IsLocking more u.units) plan.tasks last task (λ t past. locks_wider plan more (task_at plan t).units (omega arith) (h.draft.locking t past))
+            (locks_wider plan more task.units (omega arith) k.locking);
       };
       whole = λ t past.
           let before : t + 1 < length plan.tasks = omega (arith, same, past) in
           let other : t ≡ last → ⊥ = λ e. omega (arith, before, e) in
-          subst (λ (u : TaskModel). IsWhole u.units) (sym (get_or-set_other plan.tasks last t task no_task other)) (h.whole t before);
+          subst IsWhole (sym (get_or-set_other plan.tasks last t task no_task other)) (h.whole t before);
       holds = ap (λ (u : TaskModel). held_after u.units) newest ∙ k.after;
     }
+
+-- the newest task with more units
+growing_units : (plan : PlanModel) (held next : List ℕ) (us : List Op) → IsGrowing plan held → 0 < length plan.tasks → length (newest_units plan ++ us) ≤ 4096
+    → IsHeld plan (newest_units plan ++ us) next → IsGrowing (with_units plan us) next
+growing_units plan held next us h some size k =
+    let old = h.draft.each (length plan.tasks - 1) (omega arith) in
+    growing_newest plan held next (with_more_units us) h some refl (record { core = old.core; times = old.times; deadline = old.deadline; size = size }) k
 
 -- how the newest task locks as far as it goes
 newest_held : (plan : PlanModel) (held : List ℕ) → IsGrowing plan held → 0 < length plan.tasks → IsHeld plan (newest_units plan) held
 newest_held plan held h some = record { locking = h.draft.locking (length plan.tasks - 1) (omega arith); after = h.holds }
+
+-- a tick above the last of a list
+rising_push : (ticks : List ℕ) (tick : ℕ) → IsStrictlyIncreasing ticks → is_above (slice_get ticks (length ticks - 1)) tick ≡ true → IsStrictlyIncreasing (ticks ++ tick ∷ [])
+rising_push ticks tick rising above k within =
+    let size = length_push ticks tick in
+    elim (cases_eq (k + 1) (length ticks)) [
+      | inl last ↦
+          let before : slice_get ticks (length ticks - 1) ≡ Some (slice_index_or ticks k 0) = ap (slice_get ticks) (omega (arith, last)) ∙ slice_get-get_or ticks k 0 (omega (arith, last)) in
+          let less = ltb-true (slice_index_or ticks k 0) tick (sym (ap (λ o. is_above o tick) before) ∙ above) in
+          omega (arith, less, get_or_append_left ticks (tick ∷ []) 0 k (omega (arith, last)), get_or_push ticks tick 0 (k + 1) (sym last))
+      | inr other ↦
+          let more : k + 1 < length ticks = omega (arith, within, size, other) in
+          omega (arith, rising k more, get_or_append_left ticks (tick ∷ []) 0 k (omega (arith, more)), get_or_append_left ticks (tick ∷ []) 0 (k + 1) more)
+    ]
+
+listed_push : (ticks : List ℕ) (tick : ℕ) → AreListed ticks → tick_fault ticks tick ≡ None → AreListed (ticks ++ tick ∷ [])
+listed_push ticks tick h e =
+    let a = fails (nat_lt 1000000 tick || nat_le 8192 (length ticks)) Limit _ e in
+    let b = fails (not (is_above (slice_get ticks (length ticks - 1)) tick)) Releases None a.1 in
+    let c = or_parts (nat_lt 1000000 tick) (nat_le 8192 (length ticks)) a.0 in
+    record {
+      few = omega (arith, length_push ticks tick, leb-false 8192 (length ticks) c.1);
+      soon = All-push (λ t. t ≤ 1000000) ticks tick h.soon (ltb-false 1000000 tick c.0);
+      rising = rising_push ticks tick h.rising (not-false _ b.0);
+    }
+
+times_push : (times : ReleaseTimes) (tick : ℕ) → AreTimes times → tick_fault (listed_ticks times) tick ≡ None → AreTimes (with_tick times tick)
+times_push (Every period offset) tick h e = h
+times_push (Listed ticks) tick h e = listed_push ticks tick h e
+
+-- the newest task with one release more
+pub growing_release : (plan : PlanModel) (held : List ℕ) (tick : ℕ) → IsGrowing plan held → 0 < length plan.tasks → release_fault plan tick ≡ None → IsGrowing (with_release plan tick) held
+growing_release plan held tick h some e =
+    let old = h.draft.each (length plan.tasks - 1) (omega arith) in
+    growing_newest plan held held (with_more_ticks tick) h some refl
+    (record { core = old.core; times = times_push (newest_task plan).times tick old.times e; deadline = old.deadline; size = old.size }) (newest_held plan held h some)
+
+-- a task takes releases only where there is one
+pub takes_some : (plan : PlanModel) → takes_releases plan ≡ true → 0 < length plan.tasks
+takes_some plan e = elim (cases_eq (length plan.tasks) 0) [
+  | inl none ↦
+      let past : newest_task plan ≡ no_task = get_or_past plan.tasks (length plan.tasks - 1) no_task (omega (arith, none)) in
+      absurd (true≢false (sym e ∙ ap (λ (task : TaskModel). is_listed task.times && (length task.units == 0)) past))
+  | inr some ↦ omega (arith, some)
+]
 
 -- what a step that is accepted passes
 record IsTaken (plan : PlanModel) (step : Step) : Type 0 where
@@ -251,7 +316,8 @@ record IsTaken (plan : PlanModel) (step : Step) : Type 0 where
 
 taken : (plan : PlanModel) (step : Step) → op_fault plan step ≡ None → IsTaken plan step
 taken plan step e =
-    let a = fails (is_undeclared plan step) Undeclared _ e in
+    let r = fails (lacks_release (newest_task plan).times) Releases _ e in
+    let a = fails (is_undeclared plan step) Undeclared _ r.1 in
     let b = fails (is_misnested (newest_units plan) step) Nesting _ a.1 in
     let c = fails (is_too_much (newest_units plan) step) Limit None b.1 in
     record { known = a.0; nested = b.0; room = c.0 }

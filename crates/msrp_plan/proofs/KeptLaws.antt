@@ -10,6 +10,10 @@ use Rattle.msrp_plan.proofs.Exclusion.{mutual_exclusion}
 use Rattle.msrp_plan.proofs.Overtaking.{bounded_overtaking}
 use Rattle.msrp_plan.proofs.ShortQueues.{short_queues}
 use Rattle.msrp_plan.proofs.SpinBound.{bounded_spinning}
+use Rattle.msrp_plan.proofs.Blocking.Bound.{bounded_blocking}
+use Rattle.msrp_plan.proofs.Scheduling.Released.{runs_released}
+use Rattle.msrp_plan.proofs.Scheduling.Conservation.{work_conservation}
+use Rattle.msrp_plan.proofs.Scheduling.DeadlineOrder.{earliest_deadline_first}
 
 -- all laws at once
 pub keeps_laws : (plan : PlanModel) (rows : List Row) → IsPlan plan → IsRun plan rows → KeepsLaws plan rows
@@ -24,4 +28,8 @@ keeps_laws plan rows ok run =
       overtaking = bounded_overtaking plan rows ok start;
       queues = short_queues plan rows ok start;
       spinning = bounded_spinning plan rows ok start;
+      blocking_bound = bounded_blocking plan rows ok start;
+      released = runs_released plan rows start;
+      conservation = work_conservation plan rows ok start;
+      deadlines = earliest_deadline_first plan rows start;
     }

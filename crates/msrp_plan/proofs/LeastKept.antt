@@ -86,3 +86,9 @@ pub greatest_above : {X : Type 0} (f : X → ℕ) (p : X → Bool) (xs : List X)
 greatest_above f p xs x there passes =
     let top = greatest (map f (filter p xs)) in
     kept_in (λ z. f z ≤ top) p xs x (all_mapped f (λ n. n ≤ top) (filter p xs) ((max_above 0 (map f (filter p xs))).1)) there passes
+
+-- nor is the value of any element above the greatest of all
+pub greatest_over : {X : Type 0} (f : X → ℕ) (xs : List X) (x : X) → Contains xs x → f x ≤ greatest (map f xs)
+greatest_over f xs x there =
+    let top = greatest (map f xs) in
+    All-contains (λ z. f z ≤ top) xs x (All-from_recursion (λ z. f z ≤ top) xs (all_mapped f (λ n. n ≤ top) xs ((max_above 0 (map f xs)).1))) there

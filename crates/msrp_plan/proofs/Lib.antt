@@ -42,13 +42,13 @@ pub mod ShortQueues
 pub mod Members
 pub mod LevelOrder
 pub mod Blocking
+pub mod Scheduling
 pub mod Verdicts
 pub mod Calls
 pub mod ReplyLocality
 pub mod Nesting
 pub mod Faultless
 pub mod Drafts
-pub mod WholePlans
 pub mod AcceptedPlans
 pub mod KeptLaws
 pub mod Stored

@@ -36,7 +36,7 @@ pub holds_kept : (plan : PlanModel) (pre : List Row) (r : Row) (g : ℕ) (j : Jo
 holds_kept plan pre r g j e = ap (λ (s : JobState). holds_after (take s.done (units plan j)) g) (state_kept pre r j e)
 
 -- ---- a job with no row has done nothing, and doesn't wait
-nothing_done : (pre : List Row) (j : JobId) → is_started pre j ≡ false → done j pre ≡ 0
+pub nothing_done : (pre : List Row) (j : JobId) → is_started pre j ≡ false → done j pre ≡ 0
 nothing_done pre j e = sym (length-filter (λ r. is_row_of j r && not (is_waiting r.kind)) pre) ∙ ap length (none_kept (is_row_of j) (λ r. is_row_of j r && not (is_waiting r.kind)) (λ r h. ap (λ b. b && not (is_waiting r.kind)) h) pre e)
 
 -- ---- so whoever holds a resource is started, and unfinished, since whoever is finished has unlocked it

@@ -54,7 +54,7 @@ first_turn plan pre t c front now = list_any_none (λ w. (w.tick == t) && (w.cor
     (all_weaker (λ w. w.tick < length (log_of w.core.0 pre)) (λ w. ((w.tick == t) && (w.core.0 == c)) ≡ false) (λ w h. past_cases pre w t c (w.core.0 == c) refl now h) pre front.past))
 
 -- the three parts of a due turn
-in_turn_of : (tick due : ℕ) (low had : Bool) → tick ≡ due → low ≡ true → had ≡ false → ((tick == due) && (low && not had)) ≡ true
+pub in_turn_of : (tick due : ℕ) (low had : Bool) → tick ≡ due → low ≡ true → had ≡ false → ((tick == due) && (low && not had)) ≡ true
 in_turn_of tick due low had e l h = ap (λ b. b && (low && not had)) (eq-eqb tick due e) ∙ (ap (λ b. b && not had) l ∙ ap not h)
 
 -- the next row of a due core is legal after all rows
@@ -87,7 +87,7 @@ pub record IsAscendingTo (plan : PlanModel) (t c : ℕ) (rows : List Row) : Type
   pub turns : EachAfter (IsDueTurn plan) [] rows
 
 -- the order of so many ticks has one place for each core and tick
-ascending_length : (m t : ℕ) → length (ascending m t) ≡ t * m
+pub ascending_length : (m t : ℕ) → length (ascending m t) ≡ t * m
 ascending_length m t = flat_length (λ k. range_with_len 0 m) m (λ k. length-range_with_len 0 m) (range_with_len 0 t) ∙ ap (λ n. n * m) (length-range_with_len 0 t)
 
 -- there are so many rows
@@ -101,7 +101,7 @@ ascending_rows plan t c rows h =
     omega (arith, a, b, d, e, f)
 
 -- each core stands in it once for each tick
-ascending_count : (m t c : ℕ) → c < m → length (filter (λ k. k == c) (ascending m t)) ≡ t
+pub ascending_count : (m t c : ℕ) → c < m → length (filter (λ k. k == c) (ascending m t)) ≡ t
 ascending_count m t c l =
     ap length (flat_filter (λ k. k == c) (λ k. range_with_len 0 m) (range_with_len 0 t))
     ∙ (flat_length (λ k. filter (λ k. k == c) (range_with_len 0 m)) 1 (λ k. once_in_range c 0 m (omega arith) (omega arith)) (range_with_len 0 t)

@@ -1,11 +1,11 @@
 -- The bound on spinning: in one wait a job spins no more often than the plan tells.
-use Rattle.std.proofs.Common.{◌≡◌, ◌≢◌, ℕ, ◌+◌, ◌<◌, ◌≤◌, Bool, true, false, cond, not, ◌&&◌, ◌||◌, ◌==◌, List, [], ◌∷◌, ◌++◌, Some, refl, ap, sym, ◌∙◌, subst, arith, inl, inr, eq-eqb}
+use Rattle.std.proofs.Common.{◌≡◌, ◌≢◌, ℕ, ◌+◌, ◌<◌, ◌≤◌, Bool, true, false, cond, not, ◌&&◌, ◌||◌, ◌==◌, List, [], ◌∷◌, ◌++◌, Some, refl, ap, sym, ◌∙◌, subst, arith, append_assoc, inl, inr, eq-eqb}
 use Rattle.std.specs.List.{AllByRecursion, count_by, sum_by, filter, range_with_len}
 use Rattle.std.proofs.Math.Bool.{true≢false}
 use Rattle.std.proofs.lemmas.Bool.{eqb-true}
 use Rattle.std.proofs.lemmas.List.Sums.{sum_by-cons}
 use Rattle.msrp_plan.specs.Bounds.{is_used_on, section, spin_bound}
-use Rattle.msrp_plan.specs.Laws.{BoundedSpinning, is_spin_of}
+use Rattle.msrp_plan.specs.Laws.{BoundedSpinning, IsWait, is_spin_of}
 use Rattle.msrp_plan.specs.Plan.{PlanModel, core_of}
 use Rattle.msrp_plan.specs.Queues.{fifo, is_on}
 use Rattle.msrp_plan.specs.Runs.{EachAfter, IsLegal, IsRunStart}
@@ -17,7 +17,7 @@ use Rattle.msrp_plan.proofs.Apart.{ApartBy, fits, has, has_range}
 use Rattle.msrp_plan.proofs.Effects.{Effect, Got, Joined, Left, Quiet, Spun, Took, effect}
 use Rattle.msrp_plan.proofs.LegalRows.{legal_due, legal_turn, turn_core}
 use Rattle.msrp_plan.proofs.Overtaking.{queued_for}
-use Rattle.msrp_plan.proofs.Prefixes.{along, each_before, each_rest}
+use Rattle.msrp_plan.proofs.Prefixes.{along, each_at, each_before, each_rest}
 use Rattle.msrp_plan.proofs.QueueMembers.{IsMember}
 use Rattle.msrp_plan.proofs.QueueWork.{IsFair, IsLight, fair_at, fair_push, works}
 use Rattle.msrp_plan.proofs.SectionWork.{work}
@@ -121,11 +121,10 @@ joined_queue plan g x pre r job on kind e =
     ]
 
 -- while a job waits for a resource, it spins no more often than the bound of its core
-pub bounded_spinning : (plan : PlanModel) (rows : List Row) → IsPlan plan → IsRunStart plan rows → BoundedSpinning plan rows
-bounded_spinning plan rows ok run = λ pre r since post j g same w.
-    let legal : EachAfter (IsLegal plan) [] (pre ++ r ∷ (since ++ post)) = subst (EachAfter (IsLegal plan) []) same run.each in
-    let before = each_before (IsLegal plan) [] pre (r ∷ (since ++ post)) legal in
-    let rest : EachAfter (IsLegal plan) pre (r ∷ (since ++ post)) = each_rest (IsLegal plan) [] pre (r ∷ (since ++ post)) legal in
+pub spins_within : (plan : PlanModel) (pre : List Row) (r : Row) (since : List Row) (j : JobId) (g : ℕ) → IsPlan plan → EachAfter (IsLegal plan) [] (pre ++ r ∷ since) → IsWait r since j g → count_by (is_spin_of j) since ≤ spin_bound plan g (core_of plan j)
+spins_within plan pre r since j g ok legal w =
+    let before = each_before (IsLegal plan) [] pre (r ∷ since) legal in
+    let rest : EachAfter (IsLegal plan) pre (r ∷ since) = each_rest (IsLegal plan) [] pre (r ∷ since) legal in
     let h = rest.0 in
     let due = legal_due plan pre r h in
     let low : 0 < plan.cores = let l = due.core in omega (arith, l) in
@@ -136,12 +135,19 @@ bounded_spinning plan rows ok run = λ pre r since post j g same w.
     let e = effect plan g pre r ok q.0 fair.queue.orderly.fed h in
     let b = begin plan g j tick.0 pre r tick.1 h w.job w.resource w.joins e in
     let total = works plan g (pre ++ r ∷ []) (fifo g pre) in
-    let all = each_before (IsLegal plan) (pre ++ r ∷ []) since post rest.1 in
     let k : 0 + count_by (is_spin_of j) since ≤ works plan g (pre ++ r ∷ []) (fifo g pre) =
     elim (tick_push plan tick.0 pre r tick.1 h) [
-      | inl s ↦ spins_from plan g j tick.0 (pre ++ r ∷ []) since total 0 ok q.0 q.1 next s b all w.waits
-      | inr n ↦ spins_from plan g j (tick.0 + 1) (pre ++ r ∷ []) since total 0 ok q.0 q.1 next n.0 (next_tick plan g j tick.0 (pre ++ r ∷ []) total 0 n.1 n.2 next.queue b) all w.waits
+      | inl s ↦ spins_from plan g j tick.0 (pre ++ r ∷ []) since total 0 ok q.0 q.1 next s b rest.1 w.waits
+      | inr n ↦ spins_from plan g j (tick.0 + 1) (pre ++ r ∷ []) since total 0 ok q.0 q.1 next n.0 (next_tick plan g j tick.0 (pre ++ r ∷ []) total 0 n.1 n.2 next.queue b) rest.1 w.waits
     ] in
     let l = works_bound plan g (pre ++ r ∷ []) j (fifo g pre) [] next (joined_queue plan g j pre r w.job w.resource w.joins e) in
-    let m : spin_bound plan g (core_of plan j) ≡ spin_bound plan g r.core.0 = ap (spin_bound plan g) (turn_core plan pre r j (legal_turn plan pre r h) w.job) in
-    omega (arith, k, l, m)
+    omega (arith, k, l)
+
+-- in each wait of a run
+pub bounded_spinning : (plan : PlanModel) (rows : List Row) → IsPlan plan → IsRunStart plan rows → BoundedSpinning plan rows
+bounded_spinning plan rows ok run = λ pre r since post j g same w.
+    let whole : rows ≡ (pre ++ r ∷ since) ++ post = same ∙ sym (append_assoc pre (r ∷ since) post) in
+    let legal = each_before (IsLegal plan) [] (pre ++ r ∷ since) post (subst (EachAfter (IsLegal plan) []) whole run.each) in
+    let k = spins_within plan pre r since j g ok legal w in
+    let at : core_of plan j ≡ r.core.0 = turn_core plan pre r j (legal_turn plan pre r (each_at (IsLegal plan) [] pre r since legal)) w.job in
+    subst (λ c. count_by (is_spin_of j) since ≤ spin_bound plan g c) at k

@@ -15,12 +15,10 @@ use Rattle.indexmap.specs.IndexSet.{insert_key}
 use Rattle.indexmap.proofs.CallerLemmas.{insert_entry-new}
 use Rattle.msrp_plan.specs.Plan.{TaskModel, no_task}
 use Rattle.msrp_plan.specs.Names.{has_name, name_position}
-use Rattle.msrp_plan.specs.Building.{with_more_units}
 use Rattle.msrp_plan.specs.Tasks.{task_view, named_view}
 use Rattle.msrp_plan.specs.Views.{numbers}
 use Rattle.msrp_plan.specs.declared.ids.ResId.{ResId}
 use Rattle.msrp_plan.specs.declared.tasks.Task.{Task}
-use Rattle.msrp_plan.specs.declared.units.Op.{Op}
 
 -- a test of some element of a list that is made of another
 pub any_map : {X Y : Type 0} (p : Y → Bool) (f : X → Y) (xs : List X) → list_any p (map f xs) ≡ list_any (λ x. p (f x)) xs
@@ -49,14 +47,14 @@ has_task es name =
 pub task_position : (es : List (String Global × Task)) (name : List ℕ) → position (λ k. bytes_eq name (string_bytes k)) (keys_of es) ≡ name_position (map (λ (u : TaskModel). u.name) (map task_view es)) name
 task_position es name = sym (position_map (bytes_eq name) string_bytes (keys_of es)) ∙ sym (ap (position (bytes_eq name)) (task_names es))
 
--- a task that is put in a place, with more units than the one there
-pub more_at : (es : List (String Global × Task)) (i : ℕ) (old new : Task) (us : List Op) → slice_get (values_of es) i ≡ Some old → ((name : List ℕ) → named_view name new ≡ with_more_units (named_view name old) us)
-    → map task_view (set_value_at es i new) ≡ set (map task_view es) i (with_more_units (slice_index_or (map task_view es) i no_task) us)
-more_at [] i old new us at more = absurd (none-some old at)
-more_at (e ∷ es) zero old new us at more = ap (λ t. t ∷ map task_view es) (more (string_bytes e.0) ∙ ap (λ o. with_more_units (named_view (string_bytes e.0) o) us) (sym (same_Some e.1 old at)))
-more_at (e ∷ es) (suc i) old new us at more = ap (λ ts. task_view e ∷ ts) (more_at es i old new us at more)
+-- a task that is put in a place, where it is the one there changed
+pub changed_at : (es : List (String Global × Task)) (i : ℕ) (old new : Task) (changed : TaskModel → TaskModel) → slice_get (values_of es) i ≡ Some old → ((name : List ℕ) → named_view name new ≡ changed (named_view name old))
+    → map task_view (set_value_at es i new) ≡ set (map task_view es) i (changed (slice_index_or (map task_view es) i no_task))
+changed_at [] i old new changed at same = absurd (none-some old at)
+changed_at (e ∷ es) zero old new changed at same = ap (λ t. t ∷ map task_view es) (same (string_bytes e.0) ∙ ap (λ o. changed (named_view (string_bytes e.0) o)) (sym (same_Some e.1 old at)))
+changed_at (e ∷ es) (suc i) old new changed at same = ap (λ ts. task_view e ∷ ts) (changed_at es i old new changed at same)
 
--- a task that is put in a place, with the units of the one there
+-- a task that is put in a place, where it is as the one there
 pub same_at : (es : List (String Global × Task)) (i : ℕ) (old new : Task) → slice_get (values_of es) i ≡ Some old → ((name : List ℕ) → named_view name new ≡ named_view name old)
     → map task_view (set_value_at es i new) ≡ map task_view es
 same_at [] i old new at same = refl

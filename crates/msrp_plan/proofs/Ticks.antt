@@ -31,7 +31,7 @@ any_and p q w ws true e = refl
 any_and p q w ws false e = refl
 
 -- some row passes both tests where some row that passes the first passes the second
-any_both : (p q : Row → Bool) (ws : List Row) → list_any (λ w. p w && q w) ws ≡ list_any q (filter p ws)
+pub any_both : (p q : Row → Bool) (ws : List Row) → list_any (λ w. p w && q w) ws ≡ list_any q (filter p ws)
 any_both p q [] = refl
 any_both p q (w ∷ ws) = ap (λ b. (p w && q w) || b) (any_both p q ws) ∙ any_and p q w ws (p w) refl
 

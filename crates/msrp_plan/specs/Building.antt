@@ -1,14 +1,15 @@
 -- What a builder is told, what each call adds, and when it is refused. Refusals stand in the order of judging.
-use Rattle.std.specs.Prelude.{ℕ, List, [], ◌∷◌, ◌++◌, Bool, true, false, ◌==◌, ◌&&◌, ◌||◌, not, nat_lt, nat_le, is_none, Option, Some, None, cond, length, map, replicate, slice_get, slice_index_or, set, take, ◌+◌, ◌-◌, ◌≡◌, ◌⊎◌, IsOk, Ok, Err}
+use Rattle.std.specs.Prelude.{ℕ, List, [], ◌∷◌, ◌++◌, Bool, true, false, ◌==◌, ◌&&◌, ◌||◌, not, nat_lt, nat_le, is_none, Option, Some, None, cond, length, map, replicate, slice_get, slice_index_or, set, take, ◌+◌, ◌-◌, ◌≡◌, ◌⊎◌, IsOk, Ok, Err, ⊤}
 use Rattle.std.specs.declared.result.Result.{Result}
 use Rattle.std.specs.List.{list_any, range_with_len}
 use Rattle.msrp_plan.specs.Names.{is_name, has_name}
+use Rattle.msrp_plan.specs.ReleaseTimes.{ReleaseTimes, Every, Listed, is_listed, lacks_release, listed_ticks, with_tick}
 use Rattle.msrp_plan.specs.Plan.{PlanModel, TaskModel, task_at, no_task}
 use Rattle.msrp_plan.specs.Units.{held_after, held_with}
 use Rattle.msrp_plan.specs.Jobs.{jobs}
 use Rattle.msrp_plan.specs.Levels.{is_global}
 use Rattle.msrp_plan.specs.declared.faults.PlanFault.{PlanFault}
-use Rattle.msrp_plan.specs.declared.faults.PlanFault.TheVariants.{Name, Taken, Limit, Undeclared, Core, Nesting, NestedGlobal, NoUnit, Jobs, Memory}
+use Rattle.msrp_plan.specs.declared.faults.PlanFault.TheVariants.{Name, Taken, Limit, Undeclared, Core, Nesting, NestedGlobal, NoUnit, Jobs, Releases, Memory}
 use Rattle.msrp_plan.specs.declared.units.Op.{Op}
 use Rattle.msrp_plan.specs.declared.units.Op.TheVariants.{Run as RunUnit, Lock as LockUnit, Unlock as UnlockUnit}
 use Rattle.msrp_plan.specs.declared.units.Step.{Step}
@@ -21,9 +22,14 @@ empty_plan cores ticks = record { cores = cores; ticks = ticks; resources = []; 
 abbrev pub with_resource : PlanModel → List ℕ → PlanModel
 with_resource plan name = record plan { resources = plan.resources ++ name ∷ [] }
 
--- a task as it is declared: it has no unit yet
-abbrev pub new_task : List ℕ → ℕ → ℕ → ℕ → ℕ → TaskModel
-new_task name core period deadline offset = record { name = name; core = core; period = period; deadline = deadline; offset = offset; units = [] }
+-- a task as it is declared, by its name, core, release times and relative deadline: it has no unit yet
+abbrev pub new_task : List ℕ → ℕ → ReleaseTimes → ℕ → TaskModel
+new_task name core times deadline = record { name = name; core = core; times = times; deadline = deadline; units = [] }
+
+-- the release times of a task as it is declared: a list has no tick yet
+abbrev pub AreNew : ReleaseTimes → Type 0
+AreNew (Every period offset) = ⊤
+AreNew (Listed ticks) = ticks ≡ []
 
 abbrev pub with_task : PlanModel → TaskModel → PlanModel
 with_task plan task = record plan { tasks = plan.tasks ++ task ∷ [] }
@@ -34,18 +40,30 @@ units_of (Run n) = replicate n RunUnit
 units_of (Lock g) = LockUnit g ∷ []
 units_of (Unlock g) = UnlockUnit g ∷ []
 
--- the units of the newest task, and the plan with more of them
+-- the task that was declared last, and its units
+abbrev pub newest_task : PlanModel → TaskModel
+newest_task plan = task_at plan (length plan.tasks - 1)
+
 abbrev pub newest_units : PlanModel → List Op
-newest_units plan = (task_at plan (length plan.tasks - 1)).units
+newest_units plan = (newest_task plan).units
 
-abbrev pub with_more_units : TaskModel → List Op → TaskModel
-with_more_units task us = record task { units = task.units ++ us }
+-- the tasks with the last of them changed
+abbrev pub with_newest : (TaskModel → TaskModel) → List TaskModel → List TaskModel
+with_newest changed tasks = set tasks (length tasks - 1) (changed (slice_index_or tasks (length tasks - 1) no_task))
 
-abbrev pub with_newest : List TaskModel → List Op → List TaskModel
-with_newest tasks us = set tasks (length tasks - 1) (with_more_units (slice_index_or tasks (length tasks - 1) no_task) us)
+-- a task, and a plan's newest one, with more units
+abbrev pub with_more_units : List Op → TaskModel → TaskModel
+with_more_units us task = record task { units = task.units ++ us }
 
 abbrev pub with_units : PlanModel → List Op → PlanModel
-with_units plan us = record plan { tasks = with_newest plan.tasks us }
+with_units plan us = record plan { tasks = with_newest (with_more_units us) plan.tasks }
+
+-- a task, and a plan's newest one, with one release more
+abbrev pub with_more_ticks : ℕ → TaskModel → TaskModel
+with_more_ticks tick task = record task { times = with_tick task.times tick }
+
+abbrev pub with_release : PlanModel → ℕ → PlanModel
+with_release plan tick = record plan { tasks = with_newest (with_more_ticks tick) plan.tasks }
 
 abbrev pub fault_if : Bool → PlanFault → Option PlanFault → Option PlanFault
 fault_if test fault rest = cond test (Some fault) rest
@@ -71,16 +89,24 @@ is_none_held None = false
 is_none_held (Some []) = true
 is_none_held (Some (g ∷ held)) = false
 
--- a task may end where it has a unit and holds nothing
-abbrev pub units_end_fault : List Op → Option PlanFault
-units_end_fault us = fault_if (length us == 0) NoUnit (fault_if (not (is_none_held (held_after us))) Nesting None)
+-- a task may end where it has a release and a unit and holds nothing
+abbrev pub task_end_fault : TaskModel → Option PlanFault
+task_end_fault task =
+    fault_if (lacks_release task.times) Releases (
+    fault_if (length task.units == 0) NoUnit (
+    fault_if (not (is_none_held (held_after task.units))) Nesting None))
 
 -- the end of the newest task, if there is one
 abbrev pub end_fault : PlanModel → Option PlanFault
-end_fault plan = cond (length plan.tasks == 0) None (units_end_fault (newest_units plan))
+end_fault plan = cond (length plan.tasks == 0) None (task_end_fault (newest_task plan))
+
+-- a period and an offset in their ranges; a list has no tick yet when its task is declared
+abbrev pub are_in_range : ReleaseTimes → Bool
+are_in_range (Every period offset) = is_within 1 1000000 period && nat_le offset 1000000
+are_in_range (Listed ticks) = true
 
 abbrev pub is_in_range : TaskModel → Bool
-is_in_range task = is_within 1 1000000 task.period && (is_within 1 1000000 task.deadline && nat_le task.offset 1000000)
+is_in_range task = are_in_range task.times && is_within 1 1000000 task.deadline
 
 abbrev pub task_fault : PlanModel → TaskModel → Option PlanFault
 task_fault plan task =
@@ -89,6 +115,24 @@ task_fault plan task =
     fault_if (has_name (map (λ u. u.name) plan.tasks) task.name) Taken (
     fault_if (nat_le plan.cores task.core) Core (
     fault_if (not (is_in_range task) || nat_le 64 (length plan.tasks)) Limit None))))
+
+-- the newest task takes releases: it is a listed one and has no unit yet
+abbrev pub takes_releases : PlanModel → Bool
+takes_releases plan = is_listed (newest_task plan).times && (length (newest_task plan).units == 0)
+
+-- the tick is above the one before it, if there is one
+abbrev pub is_above : Option ℕ → ℕ → Bool
+is_above None tick = true
+is_above (Some before) tick = nat_lt before tick
+
+abbrev pub tick_fault : List ℕ → ℕ → Option PlanFault
+tick_fault ticks tick =
+    fault_if (nat_lt 1000000 tick || nat_le 8192 (length ticks)) Limit (
+    fault_if (not (is_above (slice_get ticks (length ticks - 1)) tick)) Releases None)
+
+-- one release more of the newest task
+abbrev pub release_fault : PlanModel → ℕ → Option PlanFault
+release_fault plan tick = tick_fault (listed_ticks (newest_task plan).times) tick
 
 -- the step names a resource that the plan lacks
 abbrev pub is_undeclared : PlanModel → Step → Bool
@@ -118,9 +162,10 @@ is_too_much us (Unlock g) = nat_le 4096 (length us)
 
 abbrev pub op_fault : PlanModel → Step → Option PlanFault
 op_fault plan step =
+    fault_if (lacks_release (newest_task plan).times) Releases (
     fault_if (is_undeclared plan step) Undeclared (
     fault_if (is_misnested (newest_units plan) step) Nesting (
-    fault_if (is_too_much (newest_units plan) step) Limit None))
+    fault_if (is_too_much (newest_units plan) step) Limit None)))
 
 abbrev pub is_global_lock : PlanModel → Option Op → Bool
 is_global_lock plan (Some (LockUnit g)) = is_global plan g.0

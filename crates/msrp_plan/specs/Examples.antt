@@ -4,6 +4,7 @@ pub mod Notation
 pub mod NothingToDo
 pub mod WorkThenIdle
 pub mod DeadlineAbovePeriod
+pub mod ListedReleases
 pub mod BlockedByTheCeiling
 pub mod PreemptsASection
 pub mod EqualDeadlines
@@ -18,3 +19,13 @@ pub mod RequestedAgain
 pub mod LocalInsideGlobal
 pub mod LockHistory
 pub mod Refusals
+pub mod JobsOfOneTask
+pub mod TwoHeads
+pub mod LevelsOverThePlan
+pub mod TwoResources
+pub mod UnevenSections
+pub mod FiveInAQueue
+pub mod LockCalls
+pub mod WrongActions
+pub mod PastLimits
+pub mod BrokenLaws

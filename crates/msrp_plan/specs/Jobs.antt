@@ -8,9 +8,13 @@ use Rattle.msrp_plan.specs.declared.rows.Kind.{Kind}
 use Rattle.msrp_plan.specs.declared.rows.Kind.TheVariants.{Queue, Spin}
 use Rattle.msrp_plan.specs.declared.rows.Row.{Row}
 
+-- the k-th job of a task
+abbrev pub job_at : ℕ → ℕ → JobId
+job_at t k = record { task = record { 0 = t }; k = k }
+
 -- the jobs of a task: those of its releases that come before the plan's last tick has passed
 abbrev pub jobs_of : PlanModel → ℕ → List JobId
-jobs_of plan t = filter (λ j. nat_lt (release plan j) plan.ticks) (map (λ k. record { task = record { 0 = t }; k = k }) (range_with_len 0 plan.ticks))
+jobs_of plan t = filter (λ j. nat_lt (release plan j) plan.ticks) (map (job_at t) (range_with_len 0 plan.ticks))
 
 -- the jobs of the plan, task by task
 abbrev pub jobs : PlanModel → List JobId

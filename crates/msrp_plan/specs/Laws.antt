@@ -7,6 +7,8 @@ use Rattle.msrp_plan.specs.Queues.{is_on, fifo}
 use Rattle.msrp_plan.specs.Runs.{EachAfter, IsRun}
 use Rattle.msrp_plan.specs.WellFormed.{IsPlan}
 use Rattle.msrp_plan.specs.Bounds.{spin_bound}
+use Rattle.msrp_plan.specs.Blocking.{BoundedBlocking}
+use Rattle.msrp_plan.specs.Scheduling.{RunsReleased, WorkConservation, EarliestDeadlineFirst}
 use Rattle.msrp_plan.specs.declared.ids.JobId.{JobId}
 use Rattle.msrp_plan.specs.declared.ids.ResId.{ResId}
 use Rattle.msrp_plan.specs.declared.rows.Kind.{Kind}
@@ -97,3 +99,7 @@ pub record KeepsLaws (plan : PlanModel) (rows : List Row) : Type 0 where
   pub overtaking : BoundedOvertaking plan rows
   pub queues : ShortQueues plan rows
   pub spinning : BoundedSpinning plan rows
+  pub blocking_bound : BoundedBlocking plan rows
+  pub released : RunsReleased plan rows
+  pub conservation : WorkConservation plan rows
+  pub deadlines : EarliestDeadlineFirst plan rows

@@ -1,4 +1,5 @@
 pub mod Shape
+pub mod ReleaseTimes
 pub mod Aheads
 pub mod Plan
 pub mod Units
@@ -14,7 +15,6 @@ pub mod Logs
 pub mod Phases
 pub mod Calls
 pub mod Laws
-pub mod Blocking
 pub mod Verdict
 pub mod Faults
 pub mod FifoLock
@@ -22,8 +22,11 @@ pub mod LockStates
 pub mod Names
 pub mod WellFormed
 pub mod Bounds
+pub mod Blocking
+pub mod Scheduling
 pub mod Building
 pub mod Codes
+pub mod Times
 pub mod Tasks
 pub mod Marks
 pub mod Views

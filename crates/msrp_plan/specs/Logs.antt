@@ -1,9 +1,9 @@
 -- The rows of one core, or on one resource, among all, and the orders in which the cores have their turns.
-use Rattle.std.specs.Prelude.{ℕ, List, Bool, ◌==◌, ◌≡◌, ◌≢◌, true, false, filter, map, length, ◌<◌, ◌/◌}
-use Rattle.std.specs.List.{flat_map, range_with_len}
+use Rattle.std.specs.Prelude.{ℕ, List, Bool, ◌==◌, ◌≡◌, ◌≢◌, true, false, filter, map, length, ◌<◌, ◌/◌, []}
+use Rattle.std.specs.List.{flat_map, range_with_len, AllByRecursion}
 use Rattle.msrp_plan.specs.Plan.{PlanModel}
 use Rattle.msrp_plan.specs.Queues.{is_on}
-use Rattle.msrp_plan.specs.Runs.{IsCoreTurn, is_fifo_reply}
+use Rattle.msrp_plan.specs.Runs.{EachAfter, IsCoreTurn, CoreRun, is_fifo_reply}
 use Rattle.msrp_plan.specs.declared.rows.Row.{Row}
 
 -- the row is one of this core
@@ -37,3 +37,10 @@ pub record IsDueTurn (plan : PlanModel) (pre : List Row) (r : Row) : Type 0 wher
   pub due : length (log_of r.core.0 pre) ≡ length pre / plan.cores
   pub turn : IsCoreTurn plan r.core.0 (log_of r.core.0 pre) r
   pub reply : is_fifo_reply pre r ≡ true
+
+-- the runs of the cores, put together: each core's log is a run of it, and each row stands in the tick that is due,
+-- whatever the order of the cores in a tick and whatever the global resources reply
+pub record AreInterleaved (plan : PlanModel) (rows : List Row) : Type 0 where
+  pub runs : (c : ℕ) → c < plan.cores → CoreRun plan c (log_of c rows)
+  pub cores : AllByRecursion (λ r. r.core.0 < plan.cores) rows
+  pub ticks : EachAfter (λ pre r. r.tick ≡ length pre / plan.cores) [] rows

@@ -1,16 +1,16 @@
--- A plan: periodic tasks, partitioned over cores, with the resources that they lock.
-use Rattle.std.specs.Prelude.{ℕ, List, [], slice_index_or, ◌+◌, ◌*◌}
+-- A plan: tasks that recur, partitioned over cores, with the resources that they lock.
+use Rattle.std.specs.Prelude.{ℕ, List, [], Option, slice_index_or, unwrap_or, ◌+◌}
+use Rattle.msrp_plan.specs.ReleaseTimes.{ReleaseTimes, Every, tick_of}
 use Rattle.msrp_plan.specs.declared.ids.JobId.{JobId}
 use Rattle.msrp_plan.specs.declared.ids.JobKey.{JobKey}
 use Rattle.msrp_plan.specs.declared.units.Op.{Op}
 
--- a periodic task: it stays on its core, and each of its jobs does these units in order
+-- a task: it stays on its core, and each of its jobs does these units in order
 pub record TaskModel : Type 0 where
   pub name : List ℕ
   pub core : ℕ
-  pub period : ℕ
+  pub times : ReleaseTimes
   pub deadline : ℕ
-  pub offset : ℕ
   pub units : List Op
 
 -- cores, ticks, the tasks and the names of the resources, each by number
@@ -22,7 +22,7 @@ pub record PlanModel : Type 0 where
 
 -- what stands for a task that the plan lacks: it has no unit
 abbrev pub no_task : TaskModel
-no_task = record { name = []; core = 0; period = 1; deadline = 1; offset = 0; units = [] }
+no_task = record { name = []; core = 0; times = Every 1 0; deadline = 1; units = [] }
 
 abbrev pub task_at : PlanModel → ℕ → TaskModel
 task_at plan t = slice_index_or plan.tasks t no_task
@@ -37,9 +37,13 @@ core_of plan j = (task_of plan j).core
 abbrev pub units : PlanModel → JobId → List Op
 units plan j = (task_of plan j).units
 
--- job k of a task is released at offset + k * period (Liu and Layland 1973, the environment)
+-- the tick in which a job is released, if its task has so many releases
+abbrev pub release_tick : PlanModel → JobId → Option ℕ
+release_tick plan j = tick_of (task_of plan j).times j.k
+
+-- the same; what isn't released at all counts as released when the ticks are over, too late to be a job of the plan
 abbrev pub release : PlanModel → JobId → ℕ
-release plan j = (task_of plan j).offset + j.k * (task_of plan j).period
+release plan j = unwrap_or (release_tick plan j) plan.ticks
 
 -- the key that jobs are ordered by begins with the absolute deadline, release + relative deadline
 abbrev pub key : PlanModel → JobId → JobKey

@@ -25,7 +25,7 @@ numbers rs = map (λ r. r.0) rs
 -- a draft, of which each task but the newest is whole, with the resources that the newest holds, the innermost first
 pub record IsGrowing (plan : PlanModel) (held : List ℕ) : Type 0 where
   pub draft : IsDraft plan
-  pub whole : (t : ℕ) → t + 1 < length plan.tasks → IsWhole (task_at plan t).units
+  pub whole : (t : ℕ) → t + 1 < length plan.tasks → IsWhole (task_at plan t)
   pub holds : held_after (newest_units plan) ≡ Some held
 
 abbrev pub IsBuilding : draft.Inside → Type 0

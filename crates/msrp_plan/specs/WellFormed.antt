@@ -1,8 +1,9 @@
 -- What every accepted plan keeps: its limits, and how its tasks lock and unlock.
-use Rattle.std.specs.Prelude.{ℕ, List, true, Some, length, map, slice_get, take, ◌≡◌, ◌<◌, ◌≤◌, ◌+◌}
+use Rattle.std.specs.Prelude.{ℕ, List, true, false, Some, length, map, slice_get, take, ◌≡◌, ◌<◌, ◌≤◌, ◌+◌}
 use Rattle.std.specs.List.{AllPass, IsDistinct}
 use Rattle.std.specs.Str.{bytes_eq}
 use Rattle.msrp_plan.specs.Names.{is_name}
+use Rattle.msrp_plan.specs.ReleaseTimes.{AreTimes, lacks_release}
 use Rattle.msrp_plan.specs.Plan.{PlanModel, TaskModel, task_at}
 use Rattle.msrp_plan.specs.Units.{locks, unlocks, held_after}
 use Rattle.msrp_plan.specs.Jobs.{jobs}
@@ -19,9 +20,8 @@ pub record AreNames (names : List (List ℕ)) : Type 0 where
 -- the numbers of a task: its core is one of the plan's, times are in ticks
 pub record IsTask (plan : PlanModel) (task : TaskModel) : Type 0 where
   pub core : task.core < plan.cores
-  pub period : (1 ≤ task.period) × (task.period ≤ 1000000)
+  pub times : AreTimes task.times
   pub deadline : (1 ≤ task.deadline) × (task.deadline ≤ 1000000)
-  pub offset : task.offset ≤ 1000000
   pub size : length task.units ≤ 4096
 
 -- after the first n units the locks are properly nested, and at most 8 resources are held
@@ -49,10 +49,11 @@ pub record IsDraft (plan : PlanModel) : Type 0 where
   pub each : (t : ℕ) → t < length plan.tasks → IsTask plan (task_at plan t)
   pub locking : (t : ℕ) → t < length plan.tasks → IsLocking plan (task_at plan t).units
 
--- a task that is whole: it has a unit, and in the end it holds nothing
-pub record IsWhole (us : List Op) : Type 0 where
-  pub work : 0 < length us
-  pub balanced : (g : ℕ) → unlocks g us ≡ locks g us
+-- a task that is whole: it has a release and a unit, and in the end it holds nothing
+pub record IsWhole (task : TaskModel) : Type 0 where
+  pub released : lacks_release task.times ≡ false
+  pub work : 0 < length task.units
+  pub balanced : (g : ℕ) → unlocks g task.units ≡ locks g task.units
 
 -- no global resource is locked while a global one is held
 pub record IsFlat (plan : PlanModel) (us : List Op) : Type 0 where
@@ -62,6 +63,6 @@ pub record IsFlat (plan : PlanModel) (us : List Op) : Type 0 where
 -- an accepted plan
 pub record IsPlan (plan : PlanModel) : Type 0 where
   pub draft : IsDraft plan
-  pub whole : (t : ℕ) → t < length plan.tasks → IsWhole (task_at plan t).units
+  pub whole : (t : ℕ) → t < length plan.tasks → IsWhole (task_at plan t)
   pub flat : (t : ℕ) → t < length plan.tasks → IsFlat plan (task_at plan t).units
   pub jobs : length (jobs plan) ≤ 8192

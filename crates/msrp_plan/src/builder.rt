@@ -1,5 +1,5 @@
 //! The builder of plans.
-ghost use Rattle.std.specs.Prelude.{◌≡◌, ◌<◌, ◌≤◌, ◌^◌, ◌&&◌, ℕ, [], length, map, replicate, IfOk, OnOk, OnErr};
+ghost use Rattle.std.specs.Prelude.{◌≡◌, ◌<◌, ◌≤◌, ◌^◌, ◌&&◌, true, ℕ, [], length, map, replicate, IfOk, OnOk, OnErr};
 ghost use Rattle.std.specs.Option.{option_map};
 ghost use Rattle.std.specs.List.{list_any};
 ghost use Rattle.msrp_plan.specs.Plan.{task_at};
@@ -7,7 +7,9 @@ ghost use Rattle.msrp_plan.specs.Jobs.{jobs, jobs_of};
 ghost use Rattle.msrp_plan.specs.Levels.{is_global};
 ghost use Rattle.msrp_plan.specs.Marks.{AreGlobals, holds_one_after, is_marked, locks_one};
 ghost use Rattle.msrp_plan.specs.Names.{has_name, name_position};
-ghost use Rattle.msrp_plan.specs.Building.{IsJudged, judged, finished, empty_plan, new_task, new_fault, resource_fault, task_fault, op_fault, end_fault, finish_fault, is_in_range, is_undeclared, is_misnested, is_too_much, nests_global, newest_units, with_resource, with_task, with_units, with_newest, units_of};
+ghost use Rattle.msrp_plan.specs.Building.{AreNew, IsJudged, judged, finished, empty_plan, new_task, new_fault, resource_fault, task_fault, tick_fault, release_fault, op_fault, end_fault, finish_fault, are_in_range, is_above, is_undeclared, is_misnested, is_too_much, nests_global, newest_task, newest_units, takes_releases, with_release, with_resource, with_task, with_units, units_of};
+ghost use Rattle.msrp_plan.specs.ReleaseTimes.{Every, Listed, lacks_release, listed_ticks};
+ghost use Rattle.msrp_plan.specs.Tasks.{named_view, times_view};
 
 #[cfg(test)]
 mod tests;
@@ -15,20 +17,21 @@ mod tests;
 use crate::faults::PlanFault;
 use crate::ids::{CoreId, ResId, TaskId};
 use crate::limits::{
-    LONGEST_TIME, MOST_CORES, MOST_HELD, MOST_JOBS, MOST_RESOURCES, MOST_TASKS, MOST_TICKS,
-    MOST_UNITS,
+    LONGEST_TIME, MOST_CORES, MOST_HELD, MOST_JOBS, MOST_RELEASES, MOST_RESOURCES, MOST_TASKS,
+    MOST_TICKS, MOST_UNITS,
 };
 use crate::names::is_name;
 use crate::plans::Plan;
-use crate::tasks::{Task, add_units, first_user, is_used_elsewhere};
+use crate::tasks::{Task, add_release, add_units, first_user, is_used_elsewhere};
+use crate::times::Releases;
 use crate::units::{Op, Step};
 use indexmap::{IndexMap, IndexSet};
 use std::alloc::{AllocError, Global};
 use std::collections::VecDeque;
 use std::marker::Model;
 
-/// A plan that grows by calls: resources and tasks are numbered in the order of their calls, and units go to the
-/// newest task. A refused call leaves it as it was.
+/// A plan that grows by calls: resources and tasks are numbered in the order of their calls, and releases and units go
+/// to the newest task. A refused call leaves it as it was.
 #[derive(Debug, Drop)]
 pub struct PlanBuilder {
     alloc: Global,
@@ -89,8 +92,8 @@ impl PlanBuilder {
         Ok(ResId(number))
     }
 
-    /// Declares a task, to which the next units go. First the end of the task before it is judged (P12, P10), then
-    /// its name (P5, P6), its core (P9) and its numbers, which are in ticks (P7, also for a 65th task).
+    /// Declares a periodic task, to which the next units go. First the end of the task before it is judged (P14, P12,
+    /// P10), then its name (P5, P6), its core (P9) and its numbers, which are in ticks (P7, also for a 65th task).
     pub fn task(
         &mut self,
         name: &str,
@@ -99,28 +102,82 @@ impl PlanBuilder {
         deadline: u32,
         offset: u32,
     ) -> Result<TaskId, PlanFault>
-        ensures judged { IsJudged (task_fault self.old (new_task name.now core.0 period deadline offset)) result }
+        ensures judged { IsJudged (task_fault self.old (new_task name.now core.0 (Every period offset) deadline)) result }
         ensures number { IfOk result (λ task. task.0 ≡ length self.old.tasks) }
-        ensures added { OnOk result (self.new ≡ with_task self.old (new_task name.now core.0 period deadline offset)) }
+        ensures added { OnOk result (self.new ≡ with_task self.old (new_task name.now core.0 (Every period offset) deadline)) }
         ensures kept { OnErr result (self.new ≡ self.old) }
     {
-        if let Some(fault) = self.task_fault(name, core, period, deadline, offset) {
+        self.declare(name, core, Releases::Every { period, offset }, deadline)
+    }
+
+    /// Declares a task whose jobs are released at the ticks of a list, to which the next releases and then units go. It
+    /// is judged as [`PlanBuilder::task`].
+    pub fn listed(&mut self, name: &str, core: CoreId, deadline: u32) -> Result<TaskId, PlanFault>
+        ensures judged { IsJudged (task_fault self.old (new_task name.now core.0 (Listed []) deadline)) result }
+        ensures number { IfOk result (λ task. task.0 ≡ length self.old.tasks) }
+        ensures added { OnOk result (self.new ≡ with_task self.old (new_task name.now core.0 (Listed []) deadline)) }
+        ensures kept { OnErr result (self.new ≡ self.old) }
+    {
+        self.declare(name, core, Releases::Listed(Vec::new(self.alloc)), deadline)
+    }
+
+    // A new task.
+    fn declare(
+        &mut self,
+        name: &str,
+        core: CoreId,
+        releases: Releases,
+        deadline: u32,
+    ) -> Result<TaskId, PlanFault>
+        requires { AreNew (times_view releases) }
+        ensures judged { IsJudged (task_fault self.old (new_task name.now core.0 (times_view releases) deadline)) result }
+        ensures number { IfOk result (λ task. task.0 ≡ length self.old.tasks) }
+        ensures added { OnOk result (self.new ≡ with_task self.old (new_task name.now core.0 (times_view releases) deadline)) }
+        ensures kept { OnErr result (self.new ≡ self.old) }
+    {
+        if let Some(fault) = self.task_fault(name, core, &releases, deadline) {
             return Err(fault);
         }
         let number = self.tasks.len() as u32;
         let name = String::from_str(self.alloc, name)?;
         let task = Task {
             core,
-            period,
+            releases,
             deadline,
-            offset,
             units: Vec::new(self.alloc),
         };
         self.tasks.insert(name, task)?;
         Ok(TaskId(number))
     }
 
-    /// Adds units to the newest task: they are judged as P8, P10 and then P7.
+    /// Whether the newest task takes releases: it is a listed one and has no unit yet.
+    pub fn takes_releases(&self) -> bool
+        ensures { result ≡ takes_releases self.now }
+    {
+        match self.tasks.last() {
+            Some((_, newest)) => newest.releases.is_listed() && newest.units.is_empty(),
+            None => false,
+        }
+    }
+
+    /// Adds a release to the newest task: a tick past the limit and an 8,193rd release are P7, and then a tick that
+    /// isn't above the one before it is P14. Ticks at which the plan is over are taken too, although no job of the plan
+    /// is released then.
+    pub fn release(&mut self, tick: u32) -> Result<(), PlanFault>
+        requires { takes_releases self.old ≡ true }
+        ensures judged { IsJudged (release_fault self.old tick) result }
+        ensures added { OnOk result (self.new ≡ with_release self.old tick) }
+        ensures kept { OnErr result (self.new ≡ self.old) }
+    {
+        if let Some(fault) = tick_fault(self.newest().releases.listed(), tick) {
+            return Err(fault);
+        }
+        add_release(&mut self.tasks, tick)?;
+        Ok(())
+    }
+
+    /// Adds units to the newest task: they are judged as P14 where it is a listed one without a release, then as P8,
+    /// P10 and P7.
     pub fn op(&mut self, step: Step) -> Result<(), PlanFault>
         requires { 0 < length self.old.tasks }
         ensures judged { IsJudged (op_fault self.old step) result }
@@ -137,8 +194,8 @@ impl PlanBuilder {
         }
     }
 
-    /// The plan as it was told. First the end of the last task is judged (P12, P10), then that no global resource is
-    /// locked while a global one is held (P11), and the number of jobs (P13). A refused plan comes back, to be used on.
+    /// The plan as it was told. First the end of the last task is judged (P14, P12, P10), then that no global resource
+    /// is locked while a global one is held (P11), and the number of jobs (P13). A refused plan comes back, to be used on.
     /// Nothing is allocated.
     pub fn finish(self) -> Result<Plan, (PlanBuilder, PlanFault)>
         ensures { result ≡ finished (finish_fault self) self }
@@ -205,7 +262,9 @@ impl PlanBuilder {
         ensures { result ≡ end_fault self.now }
     {
         let (_, newest) = self.tasks.last()?;
-        if newest.units.is_empty() {
+        if newest.releases.is_empty() {
+            Some(PlanFault::Releases)
+        } else if newest.units.is_empty() {
             Some(PlanFault::NoUnit)
         } else if !self.held.is_empty() {
             Some(PlanFault::Nesting)
@@ -219,11 +278,10 @@ impl PlanBuilder {
         &self,
         name: &str,
         core: CoreId,
-        period: u32,
+        releases: &Releases,
         deadline: u32,
-        offset: u32,
     ) -> Option<PlanFault>
-        ensures { result ≡ task_fault self.now (new_task name.now core.0 period deadline offset) }
+        ensures { result ≡ task_fault self.now (new_task name.now core.0 (times_view releases.now) deadline) }
     {
         if let Some(fault) = self.end_fault() {
             Some(fault)
@@ -233,19 +291,22 @@ impl PlanBuilder {
             Some(PlanFault::Taken)
         } else if core.0 >= self.cores {
             Some(PlanFault::Core)
-        } else if !is_in_range(period, deadline, offset) || self.tasks.len() >= MOST_TASKS {
+        } else if !are_in_range(releases)
+            || !(1..=LONGEST_TIME).contains(&deadline)
+            || self.tasks.len() >= MOST_TASKS
+        {
             Some(PlanFault::Limit)
         } else {
             None
         }
     }
 
-    // How many units the newest task has.
-    fn newest_size(&self) -> usize
+    // The newest task.
+    fn newest(&self) -> &Task
         requires { 0 < length self.now.tasks }
-        ensures { result ≡ length (newest_units self.now) }
+        ensures { named_view (newest_task self.now).name result.now ≡ newest_task self.now }
     {
-        self.tasks[self.tasks.len() - 1].units.len()
+        &self.tasks[self.tasks.len() - 1]
     }
 
     // Whether the step names a resource that was not declared.
@@ -274,7 +335,7 @@ impl PlanBuilder {
         requires { 0 < length self.now.tasks }
         ensures { result ≡ is_too_much (newest_units self.now) step }
     {
-        let size = self.newest_size();
+        let size = self.newest().units.len();
         match step {
             Step::Run(count) => count == 0 || size + count as usize > MOST_UNITS,
             Step::Lock(_) => size >= MOST_UNITS || self.held.len() >= MOST_HELD,
@@ -287,7 +348,9 @@ impl PlanBuilder {
         requires { 0 < length self.now.tasks }
         ensures { result ≡ op_fault self.now step }
     {
-        if self.is_undeclared(step) {
+        if self.newest().releases.is_empty() {
+            Some(PlanFault::Releases)
+        } else if self.is_undeclared(step) {
             Some(PlanFault::Undeclared)
         } else if self.is_misnested(step) {
             Some(PlanFault::Nesting)
@@ -354,7 +417,7 @@ impl PlanBuilder {
         ensures value { result ≡ length (jobs_of self.now task) }
         ensures bound { result ≤ 20000 }
     {
-        self.tasks[task].jobs(self.ticks)
+        self.tasks[task].releases.count_before(self.ticks)
     }
 
     // The number of jobs of all tasks.
@@ -431,13 +494,39 @@ fn new_fault(cores: u32, ticks: u32) -> Option<PlanFault>
     if fits { None } else { Some(PlanFault::Limit) }
 }
 
-// Whether the times of a task are in their ranges.
-fn is_in_range(period: u32, deadline: u32, offset: u32) -> bool
-    ensures { result ≡ is_in_range (new_task [] 0 period deadline offset) }
+// Whether a period and an offset are in their ranges.
+fn are_in_range(releases: &Releases) -> bool
+    ensures { result ≡ are_in_range (times_view releases.now) }
 {
-    (1..=LONGEST_TIME).contains(&period)
-        && (1..=LONGEST_TIME).contains(&deadline)
-        && offset <= LONGEST_TIME
+    match releases {
+        Releases::Every { period, offset } => {
+            (1..=LONGEST_TIME).contains(period) && *offset <= LONGEST_TIME
+        }
+        Releases::Listed(_) => true,
+    }
+}
+
+// Why one tick more of a list is refused.
+fn tick_fault(ticks: &[u32], tick: u32) -> Option<PlanFault>
+    ensures { result ≡ tick_fault ticks.now tick }
+{
+    if tick > LONGEST_TIME || ticks.len() >= MOST_RELEASES {
+        Some(PlanFault::Limit)
+    } else if is_above(ticks.last().copied(), tick) {
+        None
+    } else {
+        Some(PlanFault::Releases)
+    }
+}
+
+// Whether a tick is above the one before it, if there is one.
+fn is_above(before: Option<u32>, tick: u32) -> bool
+    ensures { result ≡ is_above before tick }
+{
+    match before {
+        Some(before) => before < tick,
+        None => true,
+    }
 }
 
 // Whether a unit locks a global resource while one is held.

@@ -35,7 +35,7 @@ pub enum PlanFault {
     NoUnit,
     /// P13: more jobs than the limit.
     Jobs,
-    /// P14: a release list. Plans of version 1 have none.
+    /// P14: the ticks of a release list do not rise, or there is none.
     Releases,
     /// P15: a read failed.
     Read,

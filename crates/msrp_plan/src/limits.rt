@@ -21,5 +21,8 @@ pub const MOST_HELD: usize = 8;
 /// The most jobs of a plan.
 pub const MOST_JOBS: u32 = 8_192;
 
-/// The greatest period, relative deadline and offset, in ticks.
+/// The most releases of a listed task, those after the plan's ticks among them.
+pub const MOST_RELEASES: usize = 8_192;
+
+/// The greatest period, relative deadline, offset and tick of a listed release, in ticks.
 pub const LONGEST_TIME: u32 = 1_000_000;

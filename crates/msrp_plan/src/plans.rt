@@ -1,18 +1,21 @@
 //! Plans.
-ghost use Rattle.std.specs.Prelude.{◌≡◌, ◌<◌, ◌≤◌, ◌*◌, ◌^◌, length, map, Some, slice_get};
+ghost use Rattle.std.specs.Prelude.{◌≡◌, ◌<◌, ◌≤◌, ◌*◌, ◌^◌, ℕ, length, map, IsSome, IsSomeAnd, Some, slice_get};
+ghost use Rattle.std.specs.List.{range_with_len};
 ghost use Rattle.std.specs.Option.{option_map};
-ghost use Rattle.msrp_plan.specs.Plan.{task_at, release, key};
-ghost use Rattle.msrp_plan.specs.Jobs.{jobs_of};
+ghost use Rattle.msrp_plan.specs.Plan.{task_at, release, release_tick, key};
+ghost use Rattle.msrp_plan.specs.Jobs.{job_at, jobs_of};
 ghost use Rattle.msrp_plan.specs.Names.{name_position};
+ghost use Rattle.msrp_plan.specs.Times.{HasRelease, times_told};
 ghost use Rattle.msrp_plan.specs.WellFormed.{IsPlan, IsTask};
 
 use crate::ids::{CoreId, JobId, JobKey, ResId, TaskId};
 use crate::tasks::Task;
+use crate::times::Times;
 use crate::units::Op;
 use indexmap::{IndexMap, IndexSet};
 use std::marker::Model;
 
-/// An accepted plan: periodic tasks, partitioned over cores, with the resources that they lock.
+/// An accepted plan: tasks that recur, partitioned over cores, with the resources that they lock.
 #[derive(Debug, Drop)]
 pub struct Plan {
     pub(crate) cores: u32,
@@ -121,12 +124,13 @@ impl Plan {
         self.named_task(task).1.core
     }
 
-    /// The ticks from one release of a task to the next.
-    pub fn period(&self, task: TaskId) -> u32
+    /// When the jobs of a task are released.
+    pub fn times(&self, task: TaskId) -> Times
         requires { task.0 < length self.now.tasks }
-        ensures { result ≡ (task_at self.now task.0).period }
+        ensures times { result ≡ times_told (task_at self.now task.0).times }
+        ensures released { (k : ℕ) → HasRelease result k → IsSome (release_tick self.now (job_at task.0 k)) }
     {
-        self.named_task(task).1.period
+        self.named_task(task).1.releases.times()
     }
 
     /// The relative deadline of a task, in ticks from the release of each of its jobs.
@@ -135,14 +139,6 @@ impl Plan {
         ensures { result ≡ (task_at self.now task.0).deadline }
     {
         self.named_task(task).1.deadline
-    }
-
-    /// The tick of a task's first release.
-    pub fn offset(&self, task: TaskId) -> u32
-        requires { task.0 < length self.now.tasks }
-        ensures { result ≡ (task_at self.now task.0).offset }
-    {
-        self.named_task(task).1.offset
     }
 
     /// The number of units of a task.
@@ -162,27 +158,33 @@ impl Plan {
         self.named_task(task).1.units[place as usize]
     }
 
-    /// The number of jobs of a task: of its releases before the plan's ticks are over.
+    /// The number of jobs of a task: of its releases before the plan's ticks are over. The task's jobs are those
+    /// numbered below it.
     pub fn jobs(&self, task: TaskId) -> u32
         requires { task.0 < length self.now.tasks }
-        ensures { result ≡ length (jobs_of self.now task.0) }
+        ensures count { result ≡ length (jobs_of self.now task.0) }
+        ensures numbered { jobs_of self.now task.0 ≡ map (job_at task.0) (range_with_len 0 result) }
+        ensures released { (k : ℕ) → k < result → IsSomeAnd (release_tick self.now (job_at task.0 k)) (λ tick. tick < self.now.ticks) }
     {
-        self.named_task(task).1.jobs(self.ticks)
+        self.named_task(task).1.releases.count_before(self.ticks)
     }
 
-    /// The tick in which a job is released: of each job of the task, also those past the last tick.
+    /// The tick in which a job is released. A periodic task has a release for each `k`, and a listed one for each below
+    /// the number of ticks in its list; those that come when the plan's ticks are over are told too, although no job of
+    /// the plan is released then.
     pub fn release(&self, job: JobId) -> u64
-        requires { job.task.0 < length self.now.tasks }
+        requires task { job.task.0 < length self.now.tasks }
+        requires released { IsSome (release_tick self.now job) }
         ensures value { result ≡ release self.now job }
         ensures bound { result ≤ 1000000 * 2 ^ 32 }
     {
-        let task = self.named_task(job.task).1;
-        u64::from(task.offset) + u64::from(job.k) * u64::from(task.period)
+        self.named_task(job.task).1.releases.tick(job.k)
     }
 
-    /// What the jobs of a core are ordered by.
+    /// What the jobs of a core are ordered by. Told wherever [`Plan::release`] is.
     pub fn job_key(&self, job: JobId) -> JobKey
-        requires { job.task.0 < length self.now.tasks }
+        requires task { job.task.0 < length self.now.tasks }
+        requires released { IsSome (release_tick self.now job) }
         ensures { result ≡ key self.now job }
     {
         let release = self.release(job);

@@ -1,13 +1,14 @@
 //! Tasks as a plan and its builder store them.
-ghost use Rattle.std.specs.Prelude.{◌≡◌, ◌<◌, ◌+◌, ◌*◌, ◌^◌, ◌==◌, ◌&&◌, not, nat_lt, ℕ, List, length, map, replicate, vec_len, OnOk, OnErr};
+ghost use Rattle.std.specs.Prelude.{◌≡◌, ◌<◌, ◌+◌, ◌^◌, ◌==◌, ◌&&◌, not, ℕ, List, length, map, replicate, vec_len, OnOk, OnErr};
 ghost use Rattle.std.specs.List.{find, list_any};
 ghost use Rattle.std.specs.Option.{option_copied};
 ghost use Rattle.indexmap.specs.IndexMap.{values};
 ghost use Rattle.msrp_plan.specs.Units.{is_lock_of};
-ghost use Rattle.msrp_plan.specs.Building.{with_more_units, with_newest};
+ghost use Rattle.msrp_plan.specs.Building.{with_more_ticks, with_more_units, with_newest};
 ghost use Rattle.msrp_plan.specs.Tasks.{named_view, task_view};
 
 use crate::ids::{CoreId, ResId};
+use crate::times::Releases;
 use crate::units::Op;
 use indexmap::IndexMap;
 use std::alloc::AllocError;
@@ -16,9 +17,8 @@ use std::alloc::AllocError;
 #[derive(Debug, Drop)]
 pub(crate) struct Task {
     pub(crate) core: CoreId,
-    pub(crate) period: u32,
+    pub(crate) releases: Releases,
     pub(crate) deadline: u32,
-    pub(crate) offset: u32,
     pub(crate) units: Vec<Op>,
 }
 
@@ -26,11 +26,19 @@ impl Task {
     // More units of one kind.
     pub(crate) fn add_units(&mut self, count: usize, unit: Op) -> Result<(), AllocError>
         requires { vec_len self.old.units + count < 2 ^ 64 }
-        ensures added { OnOk result ((name : List ℕ) → named_view name self.new ≡ with_more_units (named_view name self.old) (replicate count unit)) }
+        ensures added { OnOk result ((name : List ℕ) → named_view name self.new ≡ with_more_units (replicate count unit) (named_view name self.old)) }
         ensures kept { OnErr result ((name : List ℕ) → named_view name self.new ≡ named_view name self.old) }
     {
         let size = self.units.len() + count;
         self.units.resize(size, unit)
+    }
+
+    // One release more.
+    pub(crate) fn add_release(&mut self, tick: u32) -> Result<(), AllocError>
+        ensures added { OnOk result ((name : List ℕ) → named_view name self.new ≡ with_more_ticks tick (named_view name self.old)) }
+        ensures kept { OnErr result ((name : List ℕ) → named_view name self.new ≡ named_view name self.old) }
+    {
+        self.releases.push(tick)
     }
 
     // Whether the task locks a resource.
@@ -38,14 +46,6 @@ impl Task {
         ensures { result ≡ list_any (is_lock_of res.0) self.now.units.items }
     {
         self.units.iter().any(|unit| unit.is_lock_of(res))
-    }
-
-    // The number of its jobs that are released before a tick.
-    pub(crate) fn jobs(&self, tick: u32) -> u32
-        requires { 0 < self.now.period }
-        ensures { (k : ℕ) → nat_lt (self.now.offset + k * self.now.period) tick ≡ nat_lt k result }
-    {
-        tick.saturating_sub(self.offset).div_ceil(self.period)
     }
 }
 
@@ -73,10 +73,21 @@ pub(crate) fn add_units(
 ) -> Result<(), AllocError>
     requires some { 0 < length tasks.old.entries }
     requires room { count < 2 ^ 63 }
-    ensures added { OnOk result (map task_view tasks.new.entries ≡ with_newest (map task_view tasks.old.entries) (replicate count unit)) }
+    ensures added { OnOk result (map task_view tasks.new.entries ≡ with_newest (with_more_units (replicate count unit)) (map task_view tasks.old.entries)) }
     ensures kept { OnErr result (map task_view tasks.new.entries ≡ map task_view tasks.old.entries) }
 {
     let last = tasks.len() - 1;
     let newest = &mut tasks[last];
     newest.add_units(count, unit)
+}
+
+// One release more of the newest task.
+pub(crate) fn add_release(tasks: &mut IndexMap<String, Task>, tick: u32) -> Result<(), AllocError>
+    requires { 0 < length tasks.old.entries }
+    ensures added { OnOk result (map task_view tasks.new.entries ≡ with_newest (with_more_ticks tick) (map task_view tasks.old.entries)) }
+    ensures kept { OnErr result (map task_view tasks.new.entries ≡ map task_view tasks.old.entries) }
+{
+    let last = tasks.len() - 1;
+    let newest = &mut tasks[last];
+    newest.add_release(tick)
 }

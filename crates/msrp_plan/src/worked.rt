@@ -1,17 +1,18 @@
 //! Worked examples, computed from the definitions alone: of each plan a legal run, and beside it rows that
 //! aren't legal, with the verdict on them. Each function does nothing; its contract is the example. The plans
 //! and rows stand in `specs/Examples`.
-ghost use Rattle.std.specs.Prelude.{◌≡◌, true, false, [], ◌∷◌, Some, None, codes};
+ghost use Rattle.std.specs.Prelude.{◌≡◌, true, false, [], ◌∷◌, Some, None, codes, replicate};
 ghost use Rattle.msrp_plan.specs.Aheads.{carries_ahead};
 ghost use Rattle.msrp_plan.specs.Levels.{level, local_ceiling, top, is_global};
 ghost use Rattle.msrp_plan.specs.Runs.{IsRun};
 ghost use Rattle.msrp_plan.specs.Verdict.{verdict};
 ghost use Rattle.msrp_plan.specs.FifoLock.{Legal};
-ghost use Rattle.msrp_plan.specs.Building.{new_fault, resource_fault, task_fault, op_fault, finish_fault};
+ghost use Rattle.msrp_plan.specs.Building.{new_fault, resource_fault, task_fault, release_fault, op_fault, finish_fault, takes_releases};
 ghost use Rattle.msrp_plan.specs.Examples.Notation.{fault, works, locks, section};
 ghost use Rattle.msrp_plan.specs.Examples.NothingToDo as nothing_to_do;
 ghost use Rattle.msrp_plan.specs.Examples.WorkThenIdle as work_then_idle;
 ghost use Rattle.msrp_plan.specs.Examples.DeadlineAbovePeriod as deadline_above_period;
+ghost use Rattle.msrp_plan.specs.Examples.ListedReleases as listed_releases;
 ghost use Rattle.msrp_plan.specs.Examples.BlockedByTheCeiling as blocked_by_the_ceiling;
 ghost use Rattle.msrp_plan.specs.Examples.PreemptsASection as preempts_a_section;
 ghost use Rattle.msrp_plan.specs.Examples.EqualDeadlines as equal_deadlines;
@@ -25,10 +26,17 @@ ghost use Rattle.msrp_plan.specs.Examples.RaisedWhileQueued as raised_while_queu
 ghost use Rattle.msrp_plan.specs.Examples.LocalInsideGlobal as local_inside_global;
 ghost use Rattle.msrp_plan.specs.Examples.RequestedAgain as requested_again;
 ghost use Rattle.msrp_plan.specs.Examples.LockHistory as lock_history;
-ghost use Rattle.msrp_plan.specs.Examples.Refusals.{with_tasks, fresh, after, full_of_resources, full_of_tasks, eight_held, nested, nested_local};
-ghost use Rattle.msrp_plan.specs.declared.faults.PlanFault.TheVariants.{Name, Taken, Limit, Undeclared, Core, Nesting, NestedGlobal, NoUnit};
+ghost use Rattle.msrp_plan.specs.Examples.Refusals.{with_tasks, fresh, after, after_ticks, full_of_resources, full_of_tasks, eight_held, nested, nested_local};
+ghost use Rattle.msrp_plan.specs.declared.faults.PlanFault.TheVariants.{Name, Taken, Limit, Undeclared, Core, Nesting, NestedGlobal, NoUnit, Releases};
 ghost use Rattle.msrp_plan.specs.declared.units.Step.TheVariants.{Run, Lock, Unlock};
 ghost use Rattle.msrp_plan.specs.declared.faults.Rule.TheVariants.{A1, A2, A3, A4, A5, A6, A7};
+
+mod corners;
+
+pub use corners::{
+    five_in_a_queue, jobs_of_one_task, levels_over_the_plan, lock_calls, orders_and_phases,
+    past_limits, two_heads, two_resources, uneven_sections, wrong_actions,
+};
 
 /// A plan without a task: its core idles.
 pub fn nothing_to_do()
@@ -47,6 +55,15 @@ pub fn work_then_idle()
 pub fn deadline_above_period()
     ensures run { IsRun deadline_above_period.plan deadline_above_period.rows }
     ensures next_job_first { verdict deadline_above_period.plan deadline_above_period.next_job_first ≡ fault 4 A3 }
+{}
+
+/// A task is released at the ticks of its list, and at no others.
+pub fn listed_releases()
+    ensures run { IsRun listed_releases.plan listed_releases.rows }
+    ensures late_release { IsRun listed_releases.with_a_late_release listed_releases.rows }
+    ensures too_early { verdict listed_releases.plan listed_releases.too_early ≡ fault 1 A3 }
+    ensures third_job { verdict listed_releases.plan listed_releases.third_job ≡ fault 5 A2 }
+    ensures late_job { verdict listed_releases.with_a_late_release listed_releases.third_job ≡ fault 5 A2 }
 {}
 
 /// A job whose level isn't above the current ceiling isn't started, although its deadline is earlier (Baker
@@ -199,6 +216,25 @@ pub fn refused_tasks()
     ensures no_period { task_fault (with_tasks []) (fresh (codes "a") 1 0 10 0) ≡ Some Limit }
     ensures deadline_too_long { task_fault (with_tasks []) (fresh (codes "a") 1 20 1000001 0) ≡ Some Limit }
     ensures offset_too_long { task_fault (with_tasks []) (fresh (codes "a") 1 20 10 1000001) ≡ Some Limit }
+{}
+
+/// Which releases a builder refuses, and what it refuses where a list has none.
+pub fn refused_releases()
+    ensures first_release { release_fault (after_ticks []) 0 ≡ None }
+    ensures last_tick { release_fault (after_ticks (3 ∷ [])) 1000000 ≡ None }
+    ensures twice { release_fault (after_ticks (1 ∷ [])) 1 ≡ Some Releases }
+    ensures falling { release_fault (after_ticks (1 ∷ 3 ∷ [])) 2 ≡ Some Releases }
+    ensures tick_too_late { release_fault (after_ticks []) 1000001 ≡ Some Limit }
+    ensures release_8193 { release_fault (after_ticks (replicate 8192 9)) 0 ≡ Some Limit }
+    ensures takes_first { takes_releases (after_ticks []) ≡ true }
+    ensures takes_more { takes_releases (after_ticks (1 ∷ [])) ≡ true }
+    ensures periodic { takes_releases (after []) ≡ false }
+    ensures no_list { takes_releases (with_tasks []) ≡ false }
+    ensures step_before_release { op_fault (after_ticks []) (Run 0) ≡ Some Releases }
+    ensures step_of_none { op_fault (after_ticks (1 ∷ [])) (Run 0) ≡ Some Limit }
+    ensures end_before_release { finish_fault (after_ticks []) ≡ Some Releases }
+    ensures end_before_unit { finish_fault (after_ticks (1 ∷ [])) ≡ Some NoUnit }
+    ensures next_before_release { task_fault (after_ticks []) (fresh (codes "B") 2 0 0 0) ≡ Some Releases }
 {}
 
 /// Which steps a builder refuses: the resource is judged first, then how the task nests, then the limits.

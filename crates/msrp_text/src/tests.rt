@@ -2,7 +2,7 @@ use crate::reading::{TextError, read_plan};
 use crate::records::{RecordReader, Stopped};
 use csv::ByteRecord;
 use msrp_plan::bytes::Source;
-use msrp_plan::{CoreId, Op, Plan, PlanFault, TaskId};
+use msrp_plan::{CoreId, Op, Plan, PlanFault, TaskId, Times};
 use std::alloc::Global;
 use std::io;
 use std::io::{ErrorKind, Read};
@@ -35,6 +35,11 @@ fn is_the_plan(plan: &Plan) -> bool {
         && is_the_task(plan)
 }
 
+// The release times of a periodic task.
+fn every(period: u32, offset: u32) -> Times {
+    Times::Every { period, offset }
+}
+
 // Whether the first task is the one of PLAN.
 fn is_the_task(plan: &Plan) -> bool {
     let task = TaskId(0);
@@ -43,9 +48,8 @@ fn is_the_task(plan: &Plan) -> bool {
     }
     plan.task_name(task) == "a"
         && plan.core_of(task) == CoreId(0)
-        && plan.period(task) == 3
+        && plan.times(task) == every(3, 0)
         && plan.deadline(task) == 3
-        && plan.offset(task) == 0
         && plan.units(task) == 2
 }
 
@@ -57,11 +61,12 @@ fn all_refused(rt: &impl Abort, alloc: Global, table: &[(&[u8], PlanFault, u32)]
 
 #[test]
 fn the_first_three_records(rt: HostRuntime) {
-    let table: [(&[u8], PlanFault, u32); 26] = [
+    let table: [(&[u8], PlanFault, u32); 27] = [
         (b"", PlanFault::Version, 1),
         (b"\n\r\n\r", PlanFault::Version, 1),
         (b"msrp\n", PlanFault::Version, 1),
-        (b"msrp,2\n", PlanFault::Version, 1),
+        (b"msrp,3\n", PlanFault::Version, 1),
+        (b"msrp,2\n", PlanFault::OutOfPlace, 2),
         (b"msrp,01\n", PlanFault::Version, 1),
         (b"msrp,1,\n", PlanFault::Version, 1),
         (b" msrp,1\n", PlanFault::Version, 1),
@@ -124,7 +129,7 @@ fn all_refused_after_head(
 #[test]
 fn records_of_tasks(rt: HostRuntime) -> Result<(), Fail> {
     let table: [(&[u8], PlanFault, u32); 24] = [
-        (b"resource,r\n", PlanFault::OutOfPlace, 4),
+        (b"resource,\xff\n", PlanFault::Name, 4),
         (b"tasks,a,0,3,3,0\n", PlanFault::OutOfPlace, 4),
         (b"task\n", PlanFault::FieldCount, 4),
         (b"task,a,0,3,3\n", PlanFault::FieldCount, 4),
@@ -338,11 +343,25 @@ fn tasks_on_two_cores(rt: HostRuntime) -> Result<(), Fail> {
     let b = TaskId(1);
     assert!(rt; is_named(&plan, b, "b"));
     assert_eq!(rt; plan.core_of(b), CoreId(1));
-    assert_eq!(rt; plan.period(b), 2);
+    assert_eq!(rt; plan.times(b), every(2, 3));
     assert_eq!(rt; plan.deadline(b), 1);
-    assert_eq!(rt; plan.offset(b), 3);
     assert_eq!(rt; plan.units(b), 2);
     assert_eq!(rt; plan.unit(b, 1), Op::Run);
+    Ok(())
+}
+
+#[test]
+fn a_listed_task(rt: HostRuntime) -> Result<(), Fail> {
+    let text =
+        b"msrp,2\ncores,1\nticks,5\nresource,r\nlisted,a,0,4\nrelease,1\nrelease,7\nop,lock,r\nop,unlock,r\n";
+    let plan = answer(rt.alloc(), text)?;
+    assert_eq!(rt; plan.resources(), 1);
+    assert!(rt; plan.tasks() == 1);
+    let a = TaskId(0);
+    assert_eq!(rt; plan.times(a), Times::Listed { count: 2 });
+    assert_eq!(rt; plan.deadline(a), 4);
+    assert_eq!(rt; plan.jobs(a), 1);
+    assert_eq!(rt; plan.units(a), 2);
     Ok(())
 }
 

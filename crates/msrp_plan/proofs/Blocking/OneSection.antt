@@ -93,7 +93,7 @@ settled_push plan c pre r j k a ok sound turn inj l old s =
 
 -- ---- over the rows
 -- the tick that is due never falls
-tick_grows : (plan : PlanModel) (pre : List Row) (r : Row) → IsLegal plan pre r → length pre / plan.cores ≤ length (pre ++ r ∷ []) / plan.cores
+pub tick_grows : (plan : PlanModel) (pre : List Row) (r : Row) → IsLegal plan pre r → length pre / plan.cores ≤ length (pre ++ r ∷ []) / plan.cores
 tick_grows plan pre r legal =
     let low : 0 < plan.cores = let k = (legal_due plan pre r legal).core in omega (arith, k) in
     let more : length (pre ++ r ∷ []) ≡ length pre + 1 = length-append pre (r ∷ []) in

@@ -3,6 +3,7 @@ use Rattle.std.specs.Prelude.{ℕ, ◌-◌, List, [], ◌∷◌, ◌++◌, Optio
 use Rattle.std.specs.Prelude as list
 use Rattle.std.specs.List.{range_with_len}
 use Rattle.msrp_plan.specs.Plan.{TaskModel}
+use Rattle.msrp_plan.specs.ReleaseTimes.{Every, Listed}
 use Rattle.msrp_plan.specs.declared.faults.Fault.{Fault}
 use Rattle.msrp_plan.specs.declared.faults.Rule.{Rule}
 use Rattle.msrp_plan.specs.declared.ids.JobId.{JobId}
@@ -14,7 +15,11 @@ use Rattle.msrp_plan.specs.declared.rows.Row.{Row}
 -- ---- plans
 -- a task: its name, core, period, relative deadline, offset and units
 abbrev pub task : List ℕ → ℕ → ℕ → ℕ → ℕ → List Op → TaskModel
-task name core period deadline offset units = record { name = name; core = core; period = period; deadline = deadline; offset = offset; units = units }
+task name core period deadline offset units = record { name = name; core = core; times = Every period offset; deadline = deadline; units = units }
+
+-- a task that is released at the ticks of a list: its name, core, relative deadline, ticks and units
+abbrev pub listed : List ℕ → ℕ → ℕ → List ℕ → List Op → TaskModel
+listed name core deadline ticks units = record { name = name; core = core; times = Listed ticks; deadline = deadline; units = units }
 
 -- so many units of work
 abbrev pub works : ℕ → List Op

@@ -2,7 +2,7 @@
 use Rattle.std.specs.Prelude.{ℕ, List, [], ◌∷◌, ◌++◌, map, replicate, codes}
 use Rattle.std.specs.List.{range_with_len}
 use Rattle.msrp_plan.specs.Plan.{PlanModel, TaskModel}
-use Rattle.msrp_plan.specs.Examples.Notation.{task, works, locks, unlocks, section}
+use Rattle.msrp_plan.specs.Examples.Notation.{listed, task, works, locks, unlocks, section}
 use Rattle.msrp_plan.specs.declared.units.Op.{Op}
 
 -- two cores, five ticks, the resources g and h, and these tasks
@@ -16,6 +16,10 @@ fresh name core period deadline offset = task name core period deadline offset [
 -- the plan's newest task, named a, has these units
 abbrev pub after : List Op → PlanModel
 after us = with_tasks (task (codes "a") 0 20 10 0 us ∷ [])
+
+-- the plan's newest task, named a, is released at these ticks
+abbrev pub after_ticks : List ℕ → PlanModel
+after_ticks ticks = with_tasks (listed (codes "a") 0 10 ticks [] ∷ [])
 
 -- 32 resources, and 64 tasks
 abbrev pub full_of_resources : PlanModel

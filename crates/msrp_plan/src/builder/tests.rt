@@ -2,6 +2,7 @@ use super::PlanBuilder;
 use crate::faults::PlanFault;
 use crate::ids::{CoreId, JobId, JobKey, ResId, TaskId};
 use crate::plans::Plan;
+use crate::times::Times;
 use crate::units::{Op, Step};
 use std::alloc::Global;
 use std::test::Fail;
@@ -129,25 +130,49 @@ fn global_fault(alloc: Global, nested: Step, ticks: u32) -> Result<Option<PlanFa
     }
 }
 
-#[test]
-fn numbers_are_read_back(rt: HostRuntime) -> Result<(), Fail> {
+// A builder of two tasks.
+fn two_tasks(alloc: Global) -> Result<PlanBuilder, PlanFault> {
     let steps = [Step::Lock(ResId(1)), Step::Run(2), Step::Unlock(ResId(1))];
-    let mut builder = started(rt.alloc(), &steps)?;
+    let mut builder = started(alloc, &steps)?;
+    task(&mut builder, "b", 1, [7, 3, 2])?;
+    told(&mut builder, &[Step::Run(1)])?;
+    Ok(builder)
+}
+
+#[test]
+fn a_builder_is_read(rt: HostRuntime) -> Result<(), Fail> {
+    let mut builder = two_tasks(rt.alloc())?;
     assert_eq!(rt; builder.res_of("h"), Some(ResId(1)));
     assert_eq!(rt; builder.res_of("a"), None);
-    assert_eq!(rt; task(&mut builder, "b", 1, [7, 3, 2])?, TaskId(1));
-    told(&mut builder, &[Step::Run(1)])?;
     assert_eq!(rt; builder.tasks(), 2);
-    let Ok(plan) = finish(builder) else {
+    assert_eq!(rt; task(&mut builder, "c", 1, [7, 3, 2])?, TaskId(2));
+    Ok(())
+}
+
+#[test]
+fn numbers_are_read_back(rt: HostRuntime) -> Result<(), Fail> {
+    let Ok(plan) = finish(two_tasks(rt.alloc())?) else {
         return Err(Fail::from("the plan is refused"));
     };
     assert_eq!(rt; plan.cores(), 2);
     assert_eq!(rt; plan.ticks(), 10);
     assert!(rt; plan.tasks() == 2);
     assert_eq!(rt; plan.core_of(TaskId(1)), CoreId(1));
-    assert_eq!(rt; plan.period(TaskId(1)), 7);
     assert_eq!(rt; plan.deadline(TaskId(1)), 3);
-    assert_eq!(rt; plan.offset(TaskId(1)), 2);
+    Ok(())
+}
+
+#[test]
+fn times_are_read_back(rt: HostRuntime) -> Result<(), Fail> {
+    let Ok(plan) = finish(two_tasks(rt.alloc())?) else {
+        return Err(Fail::from("the plan is refused"));
+    };
+    assert!(rt; plan.tasks() == 2);
+    let times = Times::Every {
+        period: 7,
+        offset: 2,
+    };
+    assert_eq!(rt; plan.times(TaskId(1)), times);
     assert_eq!(rt; plan.jobs(TaskId(0)), 3);
     assert_eq!(rt; plan.jobs(TaskId(1)), 2);
     Ok(())
@@ -179,6 +204,7 @@ fn jobs_are_read_back(rt: HostRuntime) -> Result<(), Fail> {
         return Err(Fail::from("the plan is refused"));
     };
     assert!(rt; plan.tasks() == 1);
+    assert!(rt; plan.jobs(TaskId(0)) == 3);
     let job = JobId {
         task: TaskId(0),
         k: 2,
@@ -191,6 +217,81 @@ fn jobs_are_read_back(rt: HostRuntime) -> Result<(), Fail> {
     };
     assert_eq!(rt; plan.release(job), 9);
     assert_eq!(rt; plan.job_key(job), key);
+    Ok(())
+}
+
+// A builder of five ticks with a listed task of these ticks.
+fn listed(alloc: Global, ticks: &[u32]) -> Result<PlanBuilder, PlanFault> {
+    let mut builder = new(alloc, 1, 5)?;
+    builder.listed("a", CoreId(0), 4)?;
+    for tick in ticks {
+        if builder.takes_releases() {
+            builder.release(*tick)?;
+        }
+    }
+    Ok(builder)
+}
+
+// The tick of each release of the only task.
+fn releases(plan: &Plan, tick: &mut [u64; 3]) {
+    if plan.tasks() != 1 {
+        return;
+    }
+    let task = TaskId(0);
+    if let Times::Listed { count } = plan.times(task) {
+        for k in 0..count.min(3) {
+            tick[k as usize] = plan.release(JobId { task, k });
+        }
+    }
+}
+
+#[test]
+fn listed_releases_are_read_back(rt: HostRuntime) -> Result<(), Fail> {
+    let mut builder = listed(rt.alloc(), &[1, 4, 1_000_000])?;
+    told(&mut builder, &[Step::Run(1)])?;
+    assert!(rt; !builder.takes_releases());
+    let Ok(plan) = finish(builder) else {
+        return Err(Fail::from("the plan is refused"));
+    };
+    assert!(rt; plan.tasks() == 1);
+    assert_eq!(rt; plan.times(TaskId(0)), Times::Listed { count: 3 });
+    assert_eq!(rt; plan.jobs(TaskId(0)), 2);
+    let mut ticks = [0u64; 3];
+    releases(&plan, &mut ticks);
+    assert_eq!(rt; ticks, [1, 4, 1_000_000]);
+    Ok(())
+}
+
+#[test]
+fn releases_are_refused(rt: HostRuntime) -> Result<(), Fail> {
+    let alloc = rt.alloc();
+    for (ticks, fault) in [
+        ([5u32, 5], PlanFault::Releases),
+        ([5, 4], PlanFault::Releases),
+        ([1_000_001, 0], PlanFault::Limit),
+        ([5, 1_000_001], PlanFault::Limit),
+    ] {
+        assert_eq!(rt; listed(alloc, &ticks).err(), Some(fault));
+    }
+    let mut bare = listed(alloc, &[])?;
+    let nothing = told(&mut bare, &[Step::Run(0)]);
+    assert_eq!(rt; nothing.err(), Some(PlanFault::Releases));
+    assert_eq!(rt;
+        task(&mut bare, "B", 9, [0, 0, 0]).err(),
+        Some(PlanFault::Releases)
+    );
+    assert_eq!(rt;
+        finish(bare).err().map(|refused| refused.1),
+        Some(PlanFault::Releases)
+    );
+    let mut full = listed(alloc, &[])?;
+    for tick in 0..8_192u32 {
+        if full.takes_releases() {
+            full.release(tick)?;
+        }
+    }
+    assert!(rt; full.takes_releases());
+    assert_eq!(rt; full.release(0).err(), Some(PlanFault::Limit));
     Ok(())
 }
 

@@ -1,6 +1,6 @@
 use Rattle.std.proofs.Common.{◌≡◌}
 use Rattle.std.specs.List.{All}
-use Rattle.msrp_board.specs.Boards.{IsCoreSeatOn}
+use Rattle.msrp_board.specs.Seats.{IsCoreSeatOn}
 use Rattle.msrp_board.proofs.tests.deal.Given as goal
 
 abbrev pub invariant-loop-core : goal.invariant-loop-core

@@ -1,6 +1,6 @@
 use Rattle.std.proofs.Common.{◌<◌, ℕ}
 use Rattle.std.specs.Prelude.{IsSome}
-use Rattle.msrp_board.specs.Boards.{book_at}
+use Rattle.msrp_board.specs.Seats.{book_at}
 use Rattle.msrp_board.proofs.tests.end.Given as goal
 
 abbrev pub invariant-loop-core : goal.invariant-loop-core

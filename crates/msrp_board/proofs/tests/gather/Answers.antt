@@ -1,7 +1,7 @@
 use Rattle.std.proofs.Common.{arith, List, ◌∷◌, [], get_or, ◌≡◌, length, ◌∙◌, sym, ap, subst, length-append}
 use Rattle.std.proofs.lemmas.List.{get_or_append_left}
 use Rattle.msrp_board.specs.declared.tests.Player.{Player}
-use Rattle.msrp_board.specs.Boards.{SeatModel, IsCoreSeatOn}
+use Rattle.msrp_board.specs.Seats.{SeatModel, IsCoreSeatOn}
 use Rattle.msrp_board.proofs.tests.gather.Goals as goal
 
 pub loop-player-preserved : goal.loop-player-preserved

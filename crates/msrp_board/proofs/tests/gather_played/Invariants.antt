@@ -1,7 +1,7 @@
 use Rattle.std.proofs.Common.{◌≡◌}
 use Rattle.std.specs.Prelude.{IfSome}
 use Rattle.std.specs.List.{All}
-use Rattle.msrp_board.specs.Boards.{IsCoreSeatOn}
+use Rattle.msrp_board.specs.Seats.{IsCoreSeatOn}
 use Rattle.msrp_board.proofs.tests.gather_played.Given as goal
 
 abbrev pub invariant-loop-one : goal.invariant-loop-one

@@ -1,6 +1,6 @@
 use Rattle.std.proofs.Common.{◌≤◌, ◌-◌, length}
 use Rattle.std.specs.List.{All}
-use Rattle.msrp_board.specs.Boards.{IsCoreSeatOn}
+use Rattle.msrp_board.specs.Seats.{IsCoreSeatOn}
 use Rattle.msrp_board.proofs.tests.lap_all.Given as goal
 
 abbrev pub invariant-loop-core : goal.invariant-loop-core

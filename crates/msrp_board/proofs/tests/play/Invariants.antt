@@ -1,4 +1,4 @@
-use Rattle.msrp_board.specs.Boards.{IsCoreSeatOn}
+use Rattle.msrp_board.specs.Seats.{IsCoreSeatOn}
 use Rattle.msrp_board.proofs.tests.play.Given as goal
 
 abbrev pub invariant-loop : goal.invariant-loop

@@ -3,7 +3,7 @@ use Rattle.std.specs.List.{All}
 use Rattle.std.proofs.lemmas.List.{take-append-le}
 use Rattle.std.proofs.Math.Seq.{take-length}
 use Rattle.msrp_board.specs.declared.tests.Player.{Player}
-use Rattle.msrp_board.specs.Boards.{IsCoreSeatOn}
+use Rattle.msrp_board.specs.Seats.{IsCoreSeatOn}
 use Rattle.msrp_board.proofs.tests.run_laps.Goals as goal
 
 pub loop-tick-preserved : goal.loop-tick-preserved

@@ -20,4 +20,4 @@ loop-k-preserved c = record {
 }
 
 pub returns-clause-items : goal.returns-clause-items
-returns-clause-items c = c.loop-k.invariant.pushed ∙ ap (λ ps. c.args.jobs.now.items ++ ps) (push_all c.args.plan.now c.args.task.0 c.loop-k.k (omega arith))
+returns-clause-items c = c.loop-k.invariant.pushed ∙ ap (λ ps. c.args.jobs.now.items ++ ps) (push_all c.args.plan.now c.args.task.0 c.loop-k.k (c.jobs-k-end.ensures.numbered ∙ ap (λ n. map (job_at c.args.task.0) (range_with_len 0 n)) (omega arith)))

@@ -1,8 +1,9 @@
 use Rattle.std.proofs.Common.{◌≡◌, ◌-◌, length, replicate}
 use Rattle.std.proofs.lemmas.List.{length-map}
 use Rattle.std.proofs.lemmas.Result.{on_ok_weaker, on_err_weaker}
+use Rattle.msrp_plan.specs.Building.{with_more_units}
 use Rattle.msrp_plan.specs.Tasks.{task_view}
-use Rattle.msrp_plan.proofs.Stored.{more_at, same_at}
+use Rattle.msrp_plan.proofs.Stored.{changed_at, same_at}
 use Rattle.msrp_plan.proofs.tasks.add_units.Goals as goal
 
 pub returns-clause-added : goal.returns-clause-added
@@ -10,7 +11,7 @@ returns-clause-added c =
     let es = c.args.tasks.now.entries in
     let place : c.len-last.result ≡ length es = c.len-last.ensures.len in
     let size = length-map es task_view in
-    on_ok_weaker c.add_units.result (λ more. rw (size, ← place) ((more_at es (c.len-last.result - 1) c.index_mut-newest.result.now c.add_units.new.self (replicate c.args.count c.args.unit) c.index_mut-newest.ensures.value more))) c.add_units.ensures.added
+    on_ok_weaker c.add_units.result (λ more. rw (size, ← place) (changed_at es (c.len-last.result - 1) c.index_mut-newest.result.now c.add_units.new.self (with_more_units (replicate c.args.count c.args.unit)) c.index_mut-newest.ensures.value more)) c.add_units.ensures.added
 
 pub returns-clause-kept : goal.returns-clause-kept
 returns-clause-kept c =

@@ -1,34 +1,28 @@
 use Rattle.std.proofs.Common.{refl, sym, ◌<◌, subst}
 use Rattle.msrp_board.specs.declared.answers.SeatPhase.TheVariants.{Admitted}
 use Rattle.msrp_board.specs.declared.held.CoreState.{CoreState}
-use Rattle.msrp_board.specs.Rule.{arrived}
-use Rattle.msrp_board.proofs.Seats.{standing, admitted_page, seat_changed}
-use Rattle.msrp_board.proofs.Ties.{seat_step}
+use Rattle.msrp_board.specs.Inside.Rule.{page_with_arrival}
+use Rattle.msrp_board.proofs.Seats.{standing, admitted_page, arriving, seat_changed}
+use Rattle.msrp_board.proofs.CoreStates.{seat_step}
+use Rattle.msrp_board.proofs.Kept.{kept_arrival}
 use Rattle.msrp_board.proofs.board.Board.arrive.Goals as goal
 
 pub own-core-requires : goal.own-core-requires
-own-core-requires c =
-    let a = standing _ c.seat.inside.place.me.0 _ Admitted c.seat.view_is c.requires.admitted in
-    (c.seat.inside.place.me.0, a.core, a.page, c.seat.invariant.tie, c.seat.invariant.low a.core a.page a.sole.0, a.sole)
+own-core-requires c = let a = standing _ _ _ _ c.seat.inside.table_seat.me _ Admitted c.seat.invariant c.seat.view_is c.requires.admitted in (c.seat.inside.table_seat.me.0, a.core, a.page, a.own)
 
 pub arrive-requires-clause-admitted : goal.arrive-requires-clause-admitted
-arrive-requires-clause-admitted c =
-    let a = standing _ c.seat.inside.place.me.0 _ Admitted c.seat.view_is c.requires.admitted in
-    (a.core, a.page, a.sole, admitted_page _ _ a)
+arrive-requires-clause-admitted c = let a = standing _ _ _ _ c.seat.inside.table_seat.me _ Admitted c.seat.invariant c.seat.view_is c.requires.admitted in record { core = a.core; page = a.page; has = a.own.only; admitted = admitted_page _ _ _ a }
 
-pub arrived-requires : goal.arrived-requires
-arrived-requires c =
-    let a = standing _ c.seat.inside.place.me.0 _ Admitted c.seat.view_is c.requires.admitted in
-    let i = c.seat.invariant in
-    let o = c.own-core.ensures.own c.seat.inside.place.me.0 a.core a.page i.tie (i.low a.core a.page a.sole.0) a.sole in
-    subst (λ (x : CoreState). x.tick < 20000) (sym o.1) (c.arrive.ensures.arrived.1 a.core a.page a.sole.0).1
+pub with_arrival-requires : goal.with_arrival-requires
+with_arrival-requires c =
+    let a = standing _ _ _ _ c.seat.inside.table_seat.me _ Admitted c.seat.invariant c.seat.view_is c.requires.admitted in
+    subst (λ (x : CoreState). x.tick < 20000) (sym (c.own-core.ensures.own c.seat.inside.table_seat.me.0 a.core a.page a.own).1) (arriving _ _ _ c.seat.invariant.limits a).tick
 
 pub invariant_of-seat : goal.invariant_of-seat
 invariant_of-seat c =
-    let a = standing _ c.seat.inside.place.me.0 _ Admitted c.seat.view_is c.requires.admitted in
-    let i = c.seat.invariant in
-    let o = c.own-core.ensures.own c.seat.inside.place.me.0 a.core a.page i.tie (i.low a.core a.page a.sole.0) a.sole in
-    seat_step _ _ _ _ _ a.core _ a.page arrived _ i a.sole o.0 c.arrive.ensures.arrived.0 (c.arrived.ensures a.page o.1 (c.arrive.ensures.arrived.1 a.core a.page a.sole.0).0) (i.below a.core a.page a.sole.0)
+    let a = standing _ _ _ _ c.seat.inside.table_seat.me _ Admitted c.seat.invariant c.seat.view_is c.requires.admitted in
+    let o = c.own-core.ensures.own c.seat.inside.table_seat.me.0 a.core a.page a.own in
+    seat_step _ _ _ _ _ a.core _ a.page page_with_arrival _ c.seat.invariant a.own.only o.0 c.arrive.ensures.arrived (c.with_arrival.ensures a.page o.1 (arriving _ _ _ c.seat.invariant.limits a).ticks) (kept_arrival _ a.page a.kept (admitted_page _ _ _ a))
 
 pub returns : goal.returns
-returns c = seat_changed _ _ _ _ _ _ arrived _ (λ b. refl) c.arrive.ensures.table c.arrive.ensures.arrived.0 c.seat.view_is
+returns c = seat_changed _ _ _ _ _ _ page_with_arrival _ (λ b. refl) c.arrive.ensures.table c.arrive.ensures.arrived c.seat.view_is

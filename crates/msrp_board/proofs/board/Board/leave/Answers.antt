@@ -1,75 +1,41 @@
-use Rattle.std.proofs.Common.{◌+◌, ◌<◌, sym, ap, ◌∙◌, ◌≡◌, subst}
-use Rattle.msrp_plan.specs.declared.units.Phase.TheVariants.{Holding}
+use Rattle.std.proofs.Common.{◌+◌, ◌<◌, refl, sym, ap, ◌∙◌, ◌≡◌, subst}
+use Rattle.msrp_plan.specs.declared.ids.ResId.{ResId}
 use Rattle.msrp_plan.specs.declared.units.Call.TheVariants.{Leave}
+use Rattle.msrp_plan.specs.declared.units.Phase.TheVariants.{Holding}
 use Rattle.msrp_board.specs.declared.books.BoardSize.{BoardSize}
-use Rattle.msrp_board.specs.declared.held.CoreState.{CoreState}
-use Rattle.msrp_board.specs.declared.held.Claim.TheVariants.{Holds}
-use Rattle.msrp_board.specs.Boards.{BoardModel, SeatModel, with_entry, IsBehind}
-use Rattle.msrp_board.specs.Held.{res_of}
-use Rattle.msrp_board.proofs.Seats.{acting, may_lock, holds_claim, res_holds, below_holds, leave_tells, behind_halves, seat_entered, seat_behind}
-use Rattle.msrp_board.proofs.Ties.{seat_step}
+use Rattle.msrp_board.specs.Seats.{BoardModel, SeatModel}
+use Rattle.msrp_board.specs.Steps.{with_entry, IsBehind}
+use Rattle.msrp_board.proofs.Seats.{acting, claiming, holds_state, holds_res, entered_held, entered_seen, entered_behind}
 use Rattle.msrp_board.proofs.board.Board.leave.Goals as goal
 
 pub own-core-requires : goal.own-core-requires
-own-core-requires c =
-    let a = acting _ c.seat.inside.place.me.0 _ (Holding c.requires.holding.0) c.seat.view_is c.requires.holding.1 in
-    (c.seat.inside.place.me.0, a.core, a.page, c.seat.invariant.tie, c.seat.invariant.low a.core a.page a.sole.0, a.sole)
+own-core-requires c = let a = acting _ _ _ _ c.seat.inside.table_seat.me _ (Holding c.requires.holding.0) c.seat.invariant c.seat.view_is c.requires.holding.1 in (c.seat.inside.table_seat.me.0, a.core, a.page, a.own)
 
-pub leave-found-requires-clause-res : goal.leave-found-requires-clause-res
-leave-found-requires-clause-res c =
-    let g = c.requires.holding.0 in
-    let a = acting _ c.seat.inside.place.me.0 _ (Holding g) c.seat.view_is c.requires.holding.1 in
-    let w = holds_claim _ g a.claims in
-    let i = c.seat.invariant in
-    let o = c.own-core.ensures.own c.seat.inside.place.me.0 a.core a.page i.tie (i.low a.core a.page a.sole.0) a.sole in
-    let res : c.res.result ≡ g.0 = c.res.ensures ∙ ap (λ (x : CoreState). res_of x.claim) o.1 ∙ res_holds _ g.0 w.0 w.1 in
-    let size : c.seat.inside.size ≡ c.self.inside.table.shared.key = ap (λ (s : SeatModel). s.board.size) c.seat.view_is ∙ ap (λ (b : BoardModel). b.size) (c.requires.board ∙ sym c.self.view_is) ∙ sym c.self.invariant.keyed in (
-      subst (λ k. k < c.self.inside.table.shared.key.resources) (sym res) (subst (λ (z : BoardSize). g.0 < z.resources) size (below_holds _ _ g.0 w.0 w.1 (i.below a.core a.page a.sole.0))),
-      c.self.invariant.words ∙ ap (λ (z : BoardSize). z.resources + 1) (sym c.self.invariant.keyed),
-    )
+pub unreachable-requires : goal.unreachable-requires
+unreachable-requires c =
+    let k = claiming _ _ _ _ c.seat.inside.table_seat.me _ (Holding c.requires.holding.0) c.own-core.result.0 c.own-core.result.1 c.own-core.result.1.claim c.seat.invariant c.seat.view_is c.requires.holding.1 (c.own-core.ensures.own c.seat.inside.table_seat.me.0) refl in
+    let w = holds_state _ _ _ _ _ _ _ k in c.in_default.not-Holds _ w.0 w.1
 
-pub leave-found-requires-clause-holding : goal.leave-found-requires-clause-holding
-leave-found-requires-clause-holding c =
-    let g = c.requires.holding.0 in
-    let a = acting _ c.seat.inside.place.me.0 _ (Holding g) c.seat.view_is c.requires.holding.1 in
-    let w = holds_claim _ g a.claims in
-    let i = c.seat.invariant in
-    let o = c.own-core.ensures.own c.seat.inside.place.me.0 a.core a.page i.tie (i.low a.core a.page a.sole.0) a.sole in
-    let res : c.res.result ≡ g.0 = c.res.ensures ∙ ap (λ (x : CoreState). res_of x.claim) o.1 ∙ res_holds _ g.0 w.0 w.1 in
-    (w.0, (a.core, a.page, a.sole, w.1 ∙ ap (λ k. Holds k w.0) (sym res), a.room, a.quiet))
+pub leave-word-requires-clause-res : goal.leave-word-requires-clause-res
+leave-word-requires-clause-res c =
+    let k = claiming _ _ _ _ c.seat.inside.table_seat.me _ (Holding c.requires.holding.0) c.own-core.result.0 c.own-core.result.1 _ c.seat.invariant c.seat.view_is c.requires.holding.1 (c.own-core.ensures.own c.seat.inside.table_seat.me.0) c.in-Holds.is in
+    let size : c.seat.inside.size ≡ c.self.inside.table.shared.key = ap (λ (s : SeatModel). s.board.size) c.seat.view_is ∙ ap (λ (b : BoardModel). b.size) (c.requires.board ∙ sym c.self.view_is) ∙ sym c.self.invariant.keyed in
+    (subst (λ (z : BoardSize). c.in-Holds.res < z.resources) size k.below, c.self.invariant.words ∙ ap (λ (z : BoardSize). z.resources + 1) (sym c.self.invariant.keyed))
+
+pub leave-word-requires-clause-holding : goal.leave-word-requires-clause-holding
+leave-word-requires-clause-holding c = let k = claiming _ _ _ _ c.seat.inside.table_seat.me _ (Holding c.requires.holding.0) c.own-core.result.0 c.own-core.result.1 _ c.seat.invariant c.seat.view_is c.requires.holding.1 (c.own-core.ensures.own c.seat.inside.table_seat.me.0) c.in-Holds.is in (_, record { core = k.act.core; page = k.act.page; has = k.act.own.only; claims = k.claim; admitted = k.act.room; quiet = k.act.quiet })
 
 pub invariant_of-seat : goal.invariant_of-seat
 invariant_of-seat c =
-    let g = c.requires.holding.0 in
-    let a = acting _ c.seat.inside.place.me.0 _ (Holding g) c.seat.view_is c.requires.holding.1 in
-    let w = holds_claim _ g a.claims in
-    let i = c.seat.invariant in
-    let o = c.own-core.ensures.own c.seat.inside.place.me.0 a.core a.page i.tie (i.low a.core a.page a.sole.0) a.sole in
-    let res : c.res.result ≡ g.0 = c.res.ensures ∙ ap (λ (x : CoreState). res_of x.claim) o.1 ∙ res_holds _ g.0 w.0 w.1 in
-    let h = c.halves-next.ensures in
-    let b = i.below a.core a.page a.sole.0 in
-    let place = c.halves-next.result.0 + c.halves-next.result.1 in
-    seat_step _ _ _ _ _ a.core _ a.page _ _ i a.sole o.0 (leave_tells _ _ _ _ _ _ h.0 h.1 c.leave-found.ensures.left.0) (c.left.ensures a.page c.res.result place o.1) tt
+    let k = claiming _ _ _ _ c.seat.inside.table_seat.me _ (Holding c.requires.holding.0) c.own-core.result.0 c.own-core.result.1 _ c.seat.invariant c.seat.view_is c.requires.holding.1 (c.own-core.ensures.own c.seat.inside.table_seat.me.0) c.in-Holds.is in
+    entered_held _ _ _ _ _ _ _ _ _ _ _ c.seat.invariant k.act k.at c.leave-word.ensures.left (c.with_leave.ensures k.act.page c.in-Holds.res (c.leave-word.result.next + c.leave-word.result.serving) k.is) k.below (_, k.claim)
 
 pub returns-clause-entry : goal.returns-clause-entry
-returns-clause-entry c g is =
-    let a = acting _ c.seat.inside.place.me.0 _ (Holding g) c.seat.view_is (may_lock _ _ _ c.requires.holding.1 is) in
-    let w = holds_claim _ g a.claims in
-    let i = c.seat.invariant in
-    let o = c.own-core.ensures.own c.seat.inside.place.me.0 a.core a.page i.tie (i.low a.core a.page a.sole.0) a.sole in
-    let res : c.res.result ≡ g.0 = c.res.ensures ∙ ap (λ (x : CoreState). res_of x.claim) o.1 ∙ res_holds _ g.0 w.0 w.1 in
-    let h = c.halves-next.ensures in
-    let place = c.halves-next.result.0 + c.halves-next.result.1 in
-    seat_entered _ _ _ _ _ _ _ _ _ c.leave-found.ensures.table (leave_tells _ _ _ _ _ _ h.0 h.1 c.leave-found.ensures.left.0) c.seat.view_is
-    ∙ ap (λ k. with_entry (record { 0 = k }) place Leave c.args.seat.now) res
+returns-clause-entry c g may =
+    let k = claiming _ _ _ _ c.seat.inside.table_seat.me _ (Holding g) c.own-core.result.0 c.own-core.result.1 _ c.seat.invariant c.seat.view_is may (c.own-core.ensures.own c.seat.inside.table_seat.me.0) c.in-Holds.is in
+    entered_seen _ _ _ _ _ _ _ _ _ c.leave-word.ensures.table c.leave-word.ensures.left c.seat.view_is ∙ ap (λ (r : ResId). with_entry r (c.leave-word.result.next + c.leave-word.result.serving) Leave c.args.seat.now) (holds_res c.in-Holds.res c.in-Holds.ticket g k.locks)
 
 pub returns-clause-behind : goal.returns-clause-behind
-returns-clause-behind c g is =
-    let a = acting _ c.seat.inside.place.me.0 _ (Holding g) c.seat.view_is (may_lock _ _ _ c.requires.holding.1 is) in
-    let w = holds_claim _ g a.claims in
-    let i = c.seat.invariant in
-    let o = c.own-core.ensures.own c.seat.inside.place.me.0 a.core a.page i.tie (i.low a.core a.page a.sole.0) a.sole in
-    let res : c.res.result ≡ g.0 = c.res.ensures ∙ ap (λ (x : CoreState). res_of x.claim) o.1 ∙ res_holds _ g.0 w.0 w.1 in
-    let h = c.halves-next.ensures in
-    let place = c.halves-next.result.0 + c.halves-next.result.1 in
-    subst (λ k. IsBehind k place c.args.seat.now) res (seat_behind _ c.seat.inside.place.me.0 _ _ _ c.seat.view_is (behind_halves c.seat.inside.place.me.0 _ _ _ _ h.0 h.1 c.leave-found.ensures.left.3))
+returns-clause-behind c g may =
+    let k = claiming _ _ _ _ c.seat.inside.table_seat.me _ (Holding g) c.own-core.result.0 c.own-core.result.1 _ c.seat.invariant c.seat.view_is may (c.own-core.ensures.own c.seat.inside.table_seat.me.0) c.in-Holds.is in
+    subst (λ (r : ResId). IsBehind r.0 (c.leave-word.result.next + c.leave-word.result.serving) c.args.seat.now) (holds_res c.in-Holds.res c.in-Holds.ticket g k.locks) (entered_behind _ _ _ _ _ _ _ c.seat.view_is c.leave-word.ensures.left)

@@ -1,79 +1,41 @@
-use Rattle.std.proofs.Common.{◌==◌, ◌*◌, ◌+◌, ◌<◌, sym, ap, ◌∙◌, ◌≡◌, subst}
-use Rattle.msrp_plan.specs.declared.units.Phase.TheVariants.{Queued}
+use Rattle.std.proofs.Common.{◌+◌, ◌<◌, ◌==◌, refl, sym, ap, ◌∙◌, ◌≡◌, subst}
+use Rattle.msrp_plan.specs.declared.ids.ResId.{ResId}
 use Rattle.msrp_plan.specs.declared.units.Call.TheVariants.{Poll}
+use Rattle.msrp_plan.specs.declared.units.Phase.TheVariants.{Queued}
 use Rattle.msrp_board.specs.declared.books.BoardSize.{BoardSize}
-use Rattle.msrp_board.specs.declared.held.CoreState.{CoreState}
-use Rattle.msrp_board.specs.declared.held.Claim.TheVariants.{Waits}
-use Rattle.msrp_board.specs.Boards.{BoardModel, SeatModel, with_entry, IsBehind}
-use Rattle.msrp_board.specs.Held.{res_of, state_of}
-use Rattle.msrp_board.specs.Newest.{turn_of}
-use Rattle.msrp_board.specs.Rule.{noted}
-use Rattle.msrp_board.proofs.Seats.{acting, may_lock, waits_claim, res_waits, below_after, below_waits, poll_tells, behind_halves, seat_entered, seat_behind}
-use Rattle.msrp_board.proofs.Ties.{seat_step}
+use Rattle.msrp_board.specs.Seats.{BoardModel, SeatModel}
+use Rattle.msrp_board.specs.Steps.{with_entry, IsBehind}
+use Rattle.msrp_board.proofs.Seats.{acting, claiming, waits_state, waits_res, entered_held, entered_seen, entered_behind}
 use Rattle.msrp_board.proofs.board.Board.poll.Goals as goal
 
 pub own-core-requires : goal.own-core-requires
-own-core-requires c =
-    let a = acting _ c.seat.inside.place.me.0 _ (Queued c.requires.queued.0) c.seat.view_is c.requires.queued.1 in
-    (c.seat.inside.place.me.0, a.core, a.page, c.seat.invariant.tie, c.seat.invariant.low a.core a.page a.sole.0, a.sole)
+own-core-requires c = let a = acting _ _ _ _ c.seat.inside.table_seat.me _ (Queued c.requires.queued.0) c.seat.invariant c.seat.view_is c.requires.queued.1 in (c.seat.inside.table_seat.me.0, a.core, a.page, a.own)
 
-pub poll-found-requires-clause-res : goal.poll-found-requires-clause-res
-poll-found-requires-clause-res c =
-    let g = c.requires.queued.0 in
-    let a = acting _ c.seat.inside.place.me.0 _ (Queued g) c.seat.view_is c.requires.queued.1 in
-    let w = waits_claim _ g a.claims in
-    let i = c.seat.invariant in
-    let o = c.own-core.ensures.own c.seat.inside.place.me.0 a.core a.page i.tie (i.low a.core a.page a.sole.0) a.sole in
-    let res : c.res.result ≡ g.0 = c.res.ensures ∙ ap (λ (x : CoreState). res_of x.claim) o.1 ∙ res_waits _ g.0 w.0 w.1 in
-    let size : c.seat.inside.size ≡ c.self.inside.table.shared.key = ap (λ (s : SeatModel). s.board.size) c.seat.view_is ∙ ap (λ (b : BoardModel). b.size) (c.requires.board ∙ sym c.self.view_is) ∙ sym c.self.invariant.keyed in (
-      subst (λ k. k < c.self.inside.table.shared.key.resources) (sym res) (subst (λ (z : BoardSize). g.0 < z.resources) size (below_waits _ _ g.0 w.0 w.1 (i.below a.core a.page a.sole.0))),
-      c.self.invariant.words ∙ ap (λ (z : BoardSize). z.resources + 1) (sym c.self.invariant.keyed),
-    )
+pub unreachable-requires : goal.unreachable-requires
+unreachable-requires c =
+    let k = claiming _ _ _ _ c.seat.inside.table_seat.me _ (Queued c.requires.queued.0) c.own-core.result.0 c.own-core.result.1 c.own-core.result.1.claim c.seat.invariant c.seat.view_is c.requires.queued.1 (c.own-core.ensures.own c.seat.inside.table_seat.me.0) refl in
+    let w = waits_state _ _ _ _ _ _ _ k in c.in_default.not-Waits _ w.0 w.1
 
-pub poll-found-requires-clause-queued : goal.poll-found-requires-clause-queued
-poll-found-requires-clause-queued c =
-    let g = c.requires.queued.0 in
-    let a = acting _ c.seat.inside.place.me.0 _ (Queued g) c.seat.view_is c.requires.queued.1 in
-    let w = waits_claim _ g a.claims in
-    let i = c.seat.invariant in
-    let o = c.own-core.ensures.own c.seat.inside.place.me.0 a.core a.page i.tie (i.low a.core a.page a.sole.0) a.sole in
-    let res : c.res.result ≡ g.0 = c.res.ensures ∙ ap (λ (x : CoreState). res_of x.claim) o.1 ∙ res_waits _ g.0 w.0 w.1 in
-    (w.0, (a.core, a.page, a.sole, w.1 ∙ ap (λ k. Waits k w.0) (sym res), a.room, a.quiet))
+pub poll-word-requires-clause-res : goal.poll-word-requires-clause-res
+poll-word-requires-clause-res c =
+    let k = claiming _ _ _ _ c.seat.inside.table_seat.me _ (Queued c.requires.queued.0) c.own-core.result.0 c.own-core.result.1 _ c.seat.invariant c.seat.view_is c.requires.queued.1 (c.own-core.ensures.own c.seat.inside.table_seat.me.0) c.in-Waits.is in
+    let size : c.seat.inside.size ≡ c.self.inside.table.shared.key = ap (λ (s : SeatModel). s.board.size) c.seat.view_is ∙ ap (λ (b : BoardModel). b.size) (c.requires.board ∙ sym c.self.view_is) ∙ sym c.self.invariant.keyed in
+    (subst (λ (z : BoardSize). c.in-Waits.res < z.resources) size k.below, c.self.invariant.words ∙ ap (λ (z : BoardSize). z.resources + 1) (sym c.self.invariant.keyed))
+
+pub poll-word-requires-clause-queued : goal.poll-word-requires-clause-queued
+poll-word-requires-clause-queued c = let k = claiming _ _ _ _ c.seat.inside.table_seat.me _ (Queued c.requires.queued.0) c.own-core.result.0 c.own-core.result.1 _ c.seat.invariant c.seat.view_is c.requires.queued.1 (c.own-core.ensures.own c.seat.inside.table_seat.me.0) c.in-Waits.is in record { core = k.act.core; page = k.act.page; has = k.act.own.only; claims = k.claim; admitted = k.act.room; quiet = k.act.quiet }
 
 pub invariant_of-seat : goal.invariant_of-seat
 invariant_of-seat c =
-    let g = c.requires.queued.0 in
-    let a = acting _ c.seat.inside.place.me.0 _ (Queued g) c.seat.view_is c.requires.queued.1 in
-    let w = waits_claim _ g a.claims in
-    let i = c.seat.invariant in
-    let o = c.own-core.ensures.own c.seat.inside.place.me.0 a.core a.page i.tie (i.low a.core a.page a.sole.0) a.sole in
-    let res : c.res.result ≡ g.0 = c.res.ensures ∙ ap (λ (x : CoreState). res_of x.claim) o.1 ∙ res_waits _ g.0 w.0 w.1 in
-    let h = c.halves-next.ensures in
-    let b = i.below a.core a.page a.sole.0 in
-    let place = c.halves-next.result.0 + c.halves-next.result.1 in
-    seat_step _ _ _ _ _ a.core _ a.page _ _ i a.sole o.0 (poll_tells _ _ _ _ _ a.core a.page _ _ a.sole (sym (c.turn.ensures ∙ ap (λ (x : CoreState). turn_of x.claim) o.1)) h.0 h.1 c.poll-found.ensures.polled.0)
-    (c.polled.ensures a.page place o.1 ∙ ap (λ k. state_of (noted k place (Poll (2 * c.halves-next.result.1 == c.turn.result)) a.page)) (sym c.res.ensures))
-    (below_after _ _ c.res.result place (Poll (2 * c.halves-next.result.1 == c.turn.result)) (subst (λ k. k < c.seat.inside.size.resources) (sym res) (below_waits _ _ g.0 w.0 w.1 b)) b)
+    let k = claiming _ _ _ _ c.seat.inside.table_seat.me _ (Queued c.requires.queued.0) c.own-core.result.0 c.own-core.result.1 _ c.seat.invariant c.seat.view_is c.requires.queued.1 (c.own-core.ensures.own c.seat.inside.table_seat.me.0) c.in-Waits.is in
+    entered_held _ _ _ _ _ _ _ _ _ _ _ c.seat.invariant k.act k.at c.poll-word.ensures.polled (c.with_poll.ensures k.act.page (c.poll-word.result.next + c.poll-word.result.serving) k.is) k.below (_, k.claim)
 
 pub returns-clause-entry : goal.returns-clause-entry
-returns-clause-entry c g is =
-    let a = acting _ c.seat.inside.place.me.0 _ (Queued g) c.seat.view_is (may_lock _ _ _ c.requires.queued.1 is) in
-    let w = waits_claim _ g a.claims in
-    let i = c.seat.invariant in
-    let o = c.own-core.ensures.own c.seat.inside.place.me.0 a.core a.page i.tie (i.low a.core a.page a.sole.0) a.sole in
-    let res : c.res.result ≡ g.0 = c.res.ensures ∙ ap (λ (x : CoreState). res_of x.claim) o.1 ∙ res_waits _ g.0 w.0 w.1 in
-    let h = c.halves-next.ensures in
-    let place = c.halves-next.result.0 + c.halves-next.result.1 in
-    seat_entered _ _ _ _ _ _ _ _ _ c.poll-found.ensures.table (poll_tells _ _ _ _ _ a.core a.page _ _ a.sole (sym (c.turn.ensures ∙ ap (λ (x : CoreState). turn_of x.claim) o.1)) h.0 h.1 c.poll-found.ensures.polled.0) c.seat.view_is
-    ∙ ap (λ k. with_entry (record { 0 = k }) place (Poll (2 * c.halves-next.result.1 == c.turn.result)) c.args.seat.now) res
+returns-clause-entry c g may =
+    let k = claiming _ _ _ _ c.seat.inside.table_seat.me _ (Queued g) c.own-core.result.0 c.own-core.result.1 _ c.seat.invariant c.seat.view_is may (c.own-core.ensures.own c.seat.inside.table_seat.me.0) c.in-Waits.is in
+    entered_seen _ _ _ _ _ _ _ _ _ c.poll-word.ensures.table c.poll-word.ensures.polled c.seat.view_is ∙ ap (λ (r : ResId). with_entry r (c.poll-word.result.next + c.poll-word.result.serving) (Poll (c.poll-word.result.serving == c.in-Waits.ticket)) c.args.seat.now) (waits_res c.in-Waits.res c.in-Waits.ticket g k.locks)
 
 pub returns-clause-behind : goal.returns-clause-behind
-returns-clause-behind c g is =
-    let a = acting _ c.seat.inside.place.me.0 _ (Queued g) c.seat.view_is (may_lock _ _ _ c.requires.queued.1 is) in
-    let w = waits_claim _ g a.claims in
-    let i = c.seat.invariant in
-    let o = c.own-core.ensures.own c.seat.inside.place.me.0 a.core a.page i.tie (i.low a.core a.page a.sole.0) a.sole in
-    let res : c.res.result ≡ g.0 = c.res.ensures ∙ ap (λ (x : CoreState). res_of x.claim) o.1 ∙ res_waits _ g.0 w.0 w.1 in
-    let h = c.halves-next.ensures in
-    let place = c.halves-next.result.0 + c.halves-next.result.1 in
-    subst (λ k. IsBehind k place c.args.seat.now) res (seat_behind _ c.seat.inside.place.me.0 _ _ _ c.seat.view_is (behind_halves c.seat.inside.place.me.0 _ _ _ _ h.0 h.1 c.poll-found.ensures.polled.3))
+returns-clause-behind c g may =
+    let k = claiming _ _ _ _ c.seat.inside.table_seat.me _ (Queued g) c.own-core.result.0 c.own-core.result.1 _ c.seat.invariant c.seat.view_is may (c.own-core.ensures.own c.seat.inside.table_seat.me.0) c.in-Waits.is in
+    subst (λ (r : ResId). IsBehind r.0 (c.poll-word.result.next + c.poll-word.result.serving) c.args.seat.now) (waits_res c.in-Waits.res c.in-Waits.ticket g k.locks) (entered_behind _ _ _ _ _ _ _ c.seat.view_is c.poll-word.ensures.polled)

@@ -1,8 +1,8 @@
 use Rattle.std.proofs.Common.{ap, ◌∙◌}
 use Rattle.msrp_board.proofs.Told.{phase_shown}
 use Rattle.msrp_board.specs.Books.{phase_in}
-use Rattle.msrp_board.specs.Boards.{SeatModel}
+use Rattle.msrp_board.specs.Seats.{SeatModel}
 use Rattle.msrp_board.proofs.seat.BoardSeat.phase.Goals as goal
 
-pub returns : goal.returns
-returns c k b is = c.phase.ensures ∙ phase_shown _ b _ (c.state.ensures k b is) ∙ ap (λ (s : SeatModel). phase_in s.board.size.ticks b) c.self.view_is
+pub returns-clause-value : goal.returns-clause-value
+returns-clause-value c k b is = c.phase.ensures ∙ phase_shown _ b _ (c.state.ensures.shows k b is) ∙ ap (λ (s : SeatModel). phase_in s.board.size.ticks b) c.self.view_is

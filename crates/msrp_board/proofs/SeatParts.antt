@@ -1,0 +1,163 @@
+-- What a seat keeps of its cores, and what callers see, where a seat is parted and where two are joined.
+use Rattle.std.proofs.Common.{◌≡◌, ◌⊎◌, ⊎_elim, inl, inr, ℕ, zero, suc, ◌<◌, ◌≤◌, List, [], ◌∷◌, map, replicate, length, set, get_or, true, Some, None, refl, sym, ap, ◌∙◌, subst, arith, true≢false}
+use Rattle.std.specs.Prelude.{slice_index_or}
+use Rattle.std.specs.Option.{option_map, option_or, is_some}
+use Rattle.std.proofs.lemmas.Bool.{cases_lt}
+use Rattle.std.specs.declared.option.Option.{Option}
+use mathlib.Core.Option.{some}
+use mathlib.Core.Logic.{dite}
+use native.Mathlib.Decide.{ℕ_discrete}
+use lib.ListN.{get_elem?}
+use Rattle.atomic_table.specs.Table.{Me}
+use Rattle.atomic_table.specs.Seated.{TableId}
+use Rattle.atomic_table.proofs.Lists.{set_here, set_else}
+use Rattle.msrp_board.specs.declared.books.Book.{Book}
+use Rattle.msrp_board.specs.declared.books.BoardSize.{BoardSize}
+use Rattle.msrp_board.specs.declared.books.Conductor.{Conductor}
+use Rattle.msrp_board.specs.declared.held.CoreState.{CoreState}
+use Rattle.msrp_board.specs.declared.pages.Page.{Page}
+use Rattle.msrp_board.specs.declared.pages.View.{View}
+use Rattle.msrp_board.specs.Seats.{BoardModel, SeatModel}
+use Rattle.msrp_board.specs.Steps.{only_at, none_at, either, together, alone, without, both}
+use Rattle.msrp_board.specs.Inside.Rule.{IsKeptNewest, view_alone, view_without, view_both}
+use Rattle.msrp_board.specs.Inside.Held.{told, seen_as, page_at, state_of, state_at, AreStates, IsLow, IsHeld}
+use Rattle.msrp_board.proofs.SeatBooks.{at-only_same, at-only_other, at-none_same, at-none_other, at-together}
+use Rattle.msrp_board.proofs.ViewParts.{of_only, of_none, of_together}
+use Rattle.msrp_board.proofs.Sharing.{at_length}
+use Rattle.msrp_board.proofs.CoreStates.{get_or_at}
+use Rattle.msrp_board.proofs.Told.{none_past}
+
+-- ---- what is kept
+
+or_state : (x y : Option Page) → option_or (option_map state_of x) (option_map state_of y) ≡ option_map state_of (either x y)
+or_state None y = refl
+or_state (Some b) y = refl
+
+abbrev nones : ℕ → List (Option CoreState)
+nones n = replicate n None
+
+-- eight cores of which nothing is kept
+abbrev pub nothing : List (Option CoreState)
+nothing = replicate 8 None
+
+at_nones : (n d : ℕ) → d < n → get_elem? (nones n) d ≡ some None
+at_nones zero d h = absurd (omega (arith, h))
+at_nones (suc n) zero h = refl
+at_nones (suc n) (suc d) h = at_nones n d (omega (arith, h))
+
+pub only_tie : (held : List (Option CoreState)) (pages : List (Option Page)) (c : ℕ) → c < 8 → AreStates held pages → AreStates (set nothing c (get_or held c None)) (only_at c pages)
+only_tie held pages c low tie d h = dite (ℕ_discrete d c)
+    (λ q. subst (λ k. get_elem? (set nothing c (get_or held c None)) k ≡ some (state_at (only_at c pages) k)) (sym q)
+    (set_here nothing c (get_or held c None) (omega (arith, low)) ∙ ap some (get_or_at held c (state_at pages c) None (tie c low) ∙ ap (option_map state_of) (sym (at-only_same c pages)))))
+    (λ n. set_else nothing c d (get_or held c None) n ∙ at_nones 8 d h ∙ ap some (ap (option_map state_of) (sym (at-only_other c d pages n))))
+
+pub none_tie : (held : List (Option CoreState)) (pages : List (Option Page)) (c : ℕ) → c < 8 → AreStates held pages → AreStates (set held c None) (none_at c pages)
+none_tie held pages c low tie d h = dite (ℕ_discrete d c)
+    (λ q. subst (λ k. get_elem? (set held c None) k ≡ some (state_at (none_at c pages) k)) (sym q)
+    (set_here held c None (at_length held c (state_at pages c) (tie c low)) ∙ ap some (ap (option_map state_of) (sym (at-none_same c pages)))))
+    (λ n. set_else held c d None n ∙ tie d h ∙ ap some (ap (option_map state_of) (sym (at-none_other c d pages n))))
+
+-- the first n cores of both
+abbrev pub JoinedBelow : ℕ → List (Option CoreState) → List (Option CoreState) → List (Option CoreState) → Type 0
+JoinedBelow n held other both = (d : ℕ) → d < n → get_elem? both d ≡ some (option_or (get_or held d None) (get_or other d None))
+
+pub joined_step : (held other both : List (Option CoreState)) (n m : ℕ) → m ≡ suc n → n < length both → JoinedBelow n held other both → JoinedBelow m held other (set both n (option_or (get_or held n None) (get_or other n None)))
+joined_step held other both n m is low old d h = dite (ℕ_discrete d n)
+    (λ q. subst (λ k. get_elem? (set both n (option_or (get_or held n None) (get_or other n None))) k ≡ some (option_or (get_or held k None) (get_or other k None))) (sym q) (set_here both n _ low))
+    (λ ne. set_else both n d _ ne ∙ old d (omega (arith, is, h, ne)))
+
+pub joined_tie : (held other both : List (Option CoreState)) (pages more : List (Option Page)) → JoinedBelow 8 held other both → AreStates held pages → AreStates other more → AreStates both (together pages more)
+joined_tie held other both pages more joined one two d h = joined d h ∙ ap some (
+    ap (λ x. option_or x (get_or other d None)) (get_or_at held d (state_at pages d) None (one d h))
+    ∙ ap (λ x. option_or (state_at pages d) x) (get_or_at other d (state_at more d) None (two d h))
+    ∙ or_state (page_at pages d) (page_at more d) ∙ ap (option_map state_of) (sym (at-together pages more d)))
+
+-- ---- what is seen
+
+only_told : (c : ℕ) (l : List (Option Page)) → map (option_map told) (only_at c l) ≡ only_at c (map (option_map told) l)
+only_told c [] = refl
+only_told zero (x ∷ xs) = refl
+only_told (suc c) (x ∷ xs) = ap (λ l. None ∷ l) (only_told c xs)
+
+none_told : (c : ℕ) (l : List (Option Page)) → map (option_map told) (none_at c l) ≡ none_at c (map (option_map told) l)
+none_told c [] = refl
+none_told zero (x ∷ xs) = refl
+none_told (suc c) (x ∷ xs) = ap (λ l. option_map told x ∷ l) (none_told c xs)
+
+pub alone_seen : (z : BoardSize) (t u : TableId) (c : ℕ) (me now : Me (Unit {0}) View) (seat : SeatModel) → u ≡ t → now ≡ (view_alone c me.0, me.1) → seen_as (record { table = t; size = z }) me.0 ≡ seat
+    → seen_as (record { table = u; size = z }) now.0 ≡ alone c seat
+alone_seen z t u c me now seat at is seen = ap (λ (m : Me (Unit {0}) View). seen_as (record { table = u; size = z }) m.0) is ∙ ap (λ x. seen_as (record { table = x; size = z }) (view_alone c me.0)) at
+    ∙ ap (λ (l : List (Option Book)). part l) (only_told c me.0.pages) ∙ ap (alone c) seen
+  where
+    part : List (Option Book) → SeatModel
+    part l = record { board = record { table = t; size = z }; books = l; conductor = None }
+
+pub without_seen : (z : BoardSize) (t u : TableId) (c : ℕ) (me now : Me (Unit {0}) View) (seat : SeatModel) → u ≡ t → now ≡ (view_without c me.0, []) → seen_as (record { table = t; size = z }) me.0 ≡ seat
+    → seen_as (record { table = u; size = z }) now.0 ≡ without c seat
+without_seen z t u c me now seat at is seen = ap (λ (m : Me (Unit {0}) View). seen_as (record { table = u; size = z }) m.0) is ∙ ap (λ x. seen_as (record { table = x; size = z }) (view_without c me.0)) at
+    ∙ ap (λ (l : List (Option Book)). part l) (none_told c me.0.pages) ∙ ap (without c) seen
+  where
+    part : List (Option Book) → SeatModel
+    part l = record { board = record { table = t; size = z }; books = l; conductor = me.0.conductor }
+
+-- ---- the parts are seats
+
+pub alone_is_seat : (z : BoardSize) (held own : List (Option CoreState)) (o : Option Conductor) (c : ℕ) (me now : Me (Unit {0}) View) → IsHeld z held o me → now ≡ (view_alone c me.0, me.1) → AreStates own (only_at c me.0.pages) → IsHeld z own None now
+alone_is_seat z held own o c me now s is tie = subst (IsHeld z own None) (sym is) (record {
+  no_slot = s.no_slot;
+  limits = s.limits;
+  states = tie;
+  conducts = refl;
+  cores = λ d b h. s.cores d b (of_only c me.0.pages d b h).0;
+  kept = λ d b h. s.kept d b (of_only c me.0.pages d b h).0;
+})
+
+pub without_is_seat : (z : BoardSize) (held others : List (Option CoreState)) (o : Option Conductor) (c : ℕ) (me now : Me (Unit {0}) View) → IsHeld z held o me → now ≡ (view_without c me.0, []) → AreStates others (none_at c me.0.pages) → IsHeld z others o now
+without_is_seat z held others o c me now s is tie = subst (IsHeld z others o) (sym is) (record {
+  no_slot = refl;
+  limits = s.limits;
+  states = tie;
+  conducts = s.conducts;
+  cores = λ d b h. s.cores d b (of_none c me.0.pages d b h).0;
+  kept = λ d b h. s.kept d b (of_none c me.0.pages d b h).0;
+})
+
+-- a core whose book a seat has is one of the first eight
+pub core_low : (board : BoardModel) (v : View) (seat : SeatModel) (c : ℕ) → IsLow v → seen_as board v ≡ seat → is_some (slice_index_or seat.books c None) ≡ true → c < 8
+core_low board v seat c low seen has = ⊎_elim (λ h. h) (λ past. absurd (true≢false (sym has ∙ ap (λ (s : SeatModel). is_some (slice_index_or s.books c None)) (sym seen) ∙ none_past v c low past))) (cases c)
+  where
+    cases : (k : ℕ) → (k < 8) ⊎ (8 ≤ k)
+    cases k = elim (cases_lt k 8) [ inl l ↦ inl l | inr g ↦ inr g ]
+
+-- ---- two seats joined
+
+or_either : {X : Type 0} (x y : Option X) → option_or x y ≡ either x y
+or_either None y = refl
+or_either (Some a) y = refl
+
+pub both_is_seat : (z y : BoardSize) (held more all : List (Option CoreState)) (o p q : Option Conductor) (me other now : Me (Unit {0}) View) → y ≡ z → IsHeld z held o me → IsHeld y more p other → q ≡ option_or o p → now ≡ (view_both me.0 other.0, me.1) → AreStates all (together me.0.pages other.0.pages) → IsHeld z all q now
+both_is_seat z y held more all o p q me other now size s r or is tie = subst (IsHeld z all q) (sym is) (record {
+  no_slot = s.no_slot;
+  limits = s.limits;
+  states = tie;
+  conducts = or ∙ or_either o p ∙ ap (λ x. either x p) s.conducts ∙ ap (either me.0.conductor) r.conducts;
+  cores = λ d b h. ⊎_elim (s.cores d b) (λ k. subst (λ (x : BoardSize). d < x.cores) size (r.cores d b k)) (of_together me.0.pages other.0.pages d b h);
+  kept = λ d b h. ⊎_elim (s.kept d b) (λ k. subst (λ (x : BoardSize). IsKeptNewest x b) size (r.kept d b k)) (of_together me.0.pages other.0.pages d b h);
+})
+
+either_told : (x y : Option Page) → option_map told (either x y) ≡ either (option_map told x) (option_map told y)
+either_told None y = refl
+either_told (Some b) y = refl
+
+together_told : (l m : List (Option Page)) → map (option_map told) (together l m) ≡ together (map (option_map told) l) (map (option_map told) m)
+together_told [] m = refl
+together_told (x ∷ xs) [] = refl
+together_told (x ∷ xs) (y ∷ ys) = ap (λ b. b ∷ map (option_map told) (together xs ys)) (either_told x y) ∙ ap (λ l. either (option_map told x) (option_map told y) ∷ l) (together_told xs ys)
+
+pub both_seen : (z : BoardSize) (t u : TableId) (board : BoardModel) (me more now : Me (Unit {0}) View) (seat other : SeatModel) → u ≡ t → now ≡ (view_both me.0 more.0, me.1) → seen_as (record { table = t; size = z }) me.0 ≡ seat → seen_as board more.0 ≡ other
+    → seen_as (record { table = u; size = z }) now.0 ≡ both seat other
+both_seen z t u board me more now seat other at is seen told_as = ap (λ (m : Me (Unit {0}) View). seen_as (record { table = u; size = z }) m.0) is ∙ ap (λ x. seen_as (record { table = x; size = z }) (view_both me.0 more.0)) at
+    ∙ ap (λ (l : List (Option Book)). part l) (together_told me.0.pages more.0.pages) ∙ ap (λ x. both x (seen_as board more.0)) seen ∙ ap (both seat) told_as
+  where
+    part : List (Option Book) → SeatModel
+    part l = record { board = record { table = t; size = z }; books = l; conductor = either me.0.conductor more.0.conductor }

@@ -1,6 +1,0 @@
-use Rattle.std.proofs.Common.{arith}
-use Rattle.msrp_board.proofs.Ticks.{arrived_state}
-use Rattle.msrp_board.proofs.held.CoreState.arrived.Goals as goal
-
-pub returns : goal.returns
-returns c b e k = arrived_state _ b _ (omega arith) e k

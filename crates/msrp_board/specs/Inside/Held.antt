@@ -1,0 +1,133 @@
+-- How what a seat keeps at run time stands to what it knows, and how what it knows is told to callers.
+use Rattle.std.specs.Prelude.{◌≡◌, ℕ, ◌<◌, ◌≤◌, List, [], map, take, slice_index, Some, None, reverse, Bool, true, false, ltb, leb, ◌+◌, ◌*◌, slice_index_or, ⊤}
+use Rattle.std.specs.List.{filter_map}
+use Rattle.std.specs.Option.{option_map, unwrap_or}
+use Rattle.std.specs.declared.option.Option.{Option}
+use mathlib.Core.Option.{some}
+use lib.ListN.{get_elem?}
+use Rattle.msrp_plan.specs.declared.limits.TheConstants.{MOST_CORES, MOST_RESOURCES}
+use Rattle.msrp_plan.specs.declared.units.Phase.{Phase}
+use Rattle.msrp_plan.specs.declared.units.Phase.TheVariants.{Free, Queued, Holding}
+use Rattle.atomic_table.specs.Table.{Me}
+use Rattle.atomic_table.specs.Seated.{TableId}
+use Rattle.msrp_board.specs.declared.answers.Look.{Look}
+use Rattle.msrp_board.specs.declared.answers.Look.TheVariants.{Wait, Go, Stopped}
+use Rattle.msrp_board.specs.declared.books.Book.{Book}
+use Rattle.msrp_board.specs.declared.books.BoardSize.{BoardSize}
+use Rattle.msrp_board.specs.declared.books.Conductor.{Conductor}
+use Rattle.msrp_board.specs.declared.books.Conductor.TheVariants.{Unopened}
+use Rattle.msrp_board.specs.declared.pages.Page.{Page}
+use Rattle.msrp_board.specs.declared.pages.View.{View}
+use Rattle.msrp_board.specs.declared.held.CoreState.{CoreState}
+use Rattle.msrp_board.specs.declared.held.Claim.{Claim}
+use Rattle.msrp_board.specs.declared.held.Claim.TheVariants.{Nothing, Waits, Holds}
+use Rattle.msrp_board.specs.Books.{IsSize, lock_of, has_acted}
+use Rattle.msrp_board.specs.Seats.{BoardModel, SeatModel}
+use Rattle.msrp_board.specs.Boards.{WholeBoard, IsTied, high, low}
+use Rattle.msrp_board.specs.Inside.Newest.{claim_of}
+use Rattle.msrp_board.specs.Inside.Rule.{HasPage, HasOnly, IsKeptNewest, IsTiedNewest, page_has_acted}
+
+-- what a seat keeps of a core at run time
+abbrev pub state_of : Page → CoreState
+state_of b = record { tick = b.tick; claim = claim_of b.newest; admitted = b.admitted; stopped = b.stopped; acted = page_has_acted b }
+
+-- the page of core c, where there is one
+abbrev pub page_at : List (Option Page) → ℕ → Option Page
+page_at pages c = slice_index_or pages c None
+
+-- what is kept of core c
+abbrev pub state_at : List (Option Page) → ℕ → Option CoreState
+state_at pages c = option_map state_of (page_at pages c)
+
+-- what a seat keeps of each core is what its page says
+abbrev pub AreStates : List (Option CoreState) → List (Option Page) → Type 0
+AreStates held pages = (c : ℕ) → c < MOST_CORES → get_elem? held c ≡ some (state_at pages c)
+
+-- no page is of a core past the last that a board may have
+abbrev pub IsLow : View → Type 0
+IsLow v = (c : ℕ) (b : Page) → HasPage v c b → c < MOST_CORES
+
+-- the seat has the page of core c and no other, and keeps its state
+pub record IsOwn (held : List (Option CoreState)) (v : View) (c : ℕ) (b : Page) : Type 0 where
+  pub states : AreStates held v.pages
+  pub low : c < MOST_CORES
+  pub only : HasOnly v c b
+
+-- what is claimed is one of the first n resources
+abbrev pub IsBelow : ℕ → Claim → Type 0
+IsBelow n Nothing = ⊤
+IsBelow n (Waits g ticket) = g < n
+IsBelow n (Holds g ticket) = g < n
+
+-- what a core with this claim holds or awaits
+abbrev pub phase_of : Claim → Phase
+phase_of Nothing = Free
+phase_of (Waits g ticket) = Queued record { 0 = g }
+phase_of (Holds g ticket) = Holding record { 0 = g }
+
+-- a page as callers see it: the oldest entry first
+abbrev pub told : Page → Book
+told b = record { entries = reverse b.newest; tick = b.tick; admitted = b.admitted; stopped = b.stopped }
+
+-- what a seat knows, as callers see it
+abbrev pub seen_as : BoardModel → View → SeatModel
+seen_as board v = record { board = board; books = map (option_map told) v.pages; conductor = v.conductor }
+
+-- the state is what the book says
+pub record Shows (state : CoreState) (b : Book) : Type 0 where
+  pub tick : state.tick ≡ b.tick
+  pub lock : phase_of state.claim ≡ lock_of b
+  pub admitted : state.admitted ≡ b.admitted
+  pub stopped : state.stopped ≡ b.stopped
+  pub acted : state.acted ≡ has_acted b
+
+-- the answer of a look, where the high half isn't 0, and where the low half is high enough
+abbrev pub look_if : Bool → Bool → Look
+look_if true enough = Stopped
+look_if false true = Go
+look_if false false = Wait
+
+-- what a look makes of the barrier word n, for a core that waits for tick t on a board of m cores
+abbrev pub look_of : ℕ → ℕ → ℕ → Look
+look_of m n t = look_if (ltb 0 (high n)) (leb (1 + m * t) (low n))
+
+-- what holds of each seat: what it keeps of its cores and of the conductor is what its view says, its cores are the
+-- board's, and each page keeps the rule's part on one page
+pub record IsHeld (z : BoardSize) (held : List (Option CoreState)) (conductor : Option Conductor) (me : Me (Unit {0}) View) : Type 0 where
+  pub no_slot : me.1 ≡ []
+  pub limits : IsSize z
+  pub states : AreStates held me.0.pages
+  pub conducts : conductor ≡ me.0.conductor
+  pub cores : (c : ℕ) (b : Page) → HasPage me.0 c b → c < z.cores
+  pub kept : (c : ℕ) (b : Page) → HasPage me.0 c b → IsKeptNewest z b
+
+-- what holds of each board: its table keeps the rule at its size, and has a word for each resource and the barrier's
+pub record IsBoard (z key : BoardSize) (table : TableId) : Type 0 where
+  pub keyed : key ≡ z
+  pub words : table.words ≡ z.resources + 1
+  pub no_slot : table.slots ≡ 0
+  pub limits : IsSize z
+
+-- the size, the words and the last seat of a board that nobody uses any more, as callers see them
+abbrev pub settled_as : BoardSize → List ℕ → SeatModel → WholeBoard
+settled_as z words seat = record {
+  size = z;
+  tickets = take z.resources words;
+  barrier = slice_index words z.resources;
+  books = filter_map (λ book. book) seat.books;
+  conductor = unwrap_or seat.conductor Unopened;
+}
+
+-- what holds of each settled board: the rule, and there is room for each word
+pub record IsSettled (z : BoardSize) (words : List ℕ) (seat : SeatModel) : Type 0 where
+  pub room : z.resources ≤ MOST_RESOURCES
+  pub tied : IsTied (settled_as z words seat)
+
+-- the seat knows all pages and the conductor's book, and the rule holds of them
+pub record IsWhole (z : BoardSize) (words : List ℕ) (v : View) : Type 0 where
+  pub pages : List Page
+  pub conductor : Conductor
+  pub known : (c : ℕ) (b : Page) → HasPage v c b → get_elem? pages c ≡ some b
+  pub all : (c : ℕ) (b : Page) → get_elem? pages c ≡ some b → HasPage v c b
+  pub conducts : v.conductor ≡ Some conductor
+  pub tied : IsTiedNewest z words pages conductor

@@ -1,0 +1,10 @@
+pub mod DistinctDeadlines
+pub mod PassedUnits
+pub mod Gathered
+pub mod Longest
+pub mod Spins
+pub mod TaskUses
+pub mod Stored
+pub mod Ranges
+pub mod HeldUnits
+pub mod OutermostRows

@@ -1,0 +1,10 @@
+use Rattle.std.proofs.Common.{◌≡◌, length, map, take}
+use Rattle.std.specs.Prelude.{vec_capacity}
+use Rattle.msrp_levels.specs.Footprints.{footprint_of}
+use Rattle.msrp_levels.proofs.footprints.footprints_of.Given as goal
+
+abbrev pub invariant-loop-t : goal.invariant-loop-t
+invariant-loop-t l = record {
+  footprints : l.footprints.items ≡ map (footprint_of l.plan) (take l.t l.plan.tasks);
+  room : vec_capacity l.footprints ≡ length l.plan.tasks;
+}

@@ -1,0 +1,17 @@
+use Rattle.std.proofs.Common.{ap, arith, length}
+use Rattle.std.proofs.lemmas.List.FromFn.{length-map-range_with_len}
+use Rattle.msrp_plan.specs.Levels.{top}
+use Rattle.msrp_levels.proofs.Stored.{read_number}
+use Rattle.msrp_levels.proofs.levels.Levels.top.Goals as goal
+
+pub index-requires : goal.index-requires
+index-requires c =
+    let plan = c.self.inside.usages in
+    let within = rw (← c.self.view_is) at c.requires in
+    let size = length-map-range_with_len (top plan) 0 plan.cores in
+    omega (arith, within, size, ap length c.self.invariant.tops)
+
+pub returns : goal.returns
+returns c =
+    let plan = c.self.inside.usages in
+    rw (← c.self.view_is) (read_number (top plan) plan.cores c.self.inside.tops.items c.args.core.0 c.index.result.now (rw (← c.self.view_is) at c.requires) c.self.invariant.tops c.index.ensures)

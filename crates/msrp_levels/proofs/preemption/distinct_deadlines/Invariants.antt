@@ -1,0 +1,11 @@
+use Rattle.std.proofs.Common.{◌≡◌, ◌≤◌, ◌+◌, length, vec_len}
+use Rattle.std.specs.Prelude.{vec_capacity}
+use Rattle.msrp_levels.proofs.DistinctDeadlines.{AreDistinctFrom}
+use Rattle.msrp_levels.proofs.preemption.distinct_deadlines.Given as goal
+
+abbrev pub invariant-loop-t : goal.invariant-loop-t
+invariant-loop-t l = record {
+  found : AreDistinctFrom l.plan l.t l.deadlines.items;
+  few : vec_len l.deadlines + l.t ≤ length l.plan.tasks;
+  room : vec_capacity l.deadlines ≡ length l.plan.tasks;
+}

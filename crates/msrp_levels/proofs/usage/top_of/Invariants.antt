@@ -1,0 +1,7 @@
+use Rattle.std.proofs.Common.{◌≡◌, ◌==◌, map, take}
+use Rattle.std.specs.List.{filter}
+use Rattle.msrp_plan.specs.Levels.{greatest}
+use Rattle.msrp_levels.proofs.usage.top_of.Given as goal
+
+abbrev pub invariant-loop-task : goal.invariant-loop-task
+invariant-loop-task l = l.highest ≡ greatest (map (λ f. f.level) (filter (λ f. f.core.0 == l.core.0) (take l.task-index l.tasks)))

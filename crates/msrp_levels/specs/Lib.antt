@@ -1,0 +1,6 @@
+pub mod Users
+pub mod Footprints
+pub mod Usage
+pub mod UsagesView
+pub mod Outermost
+pub mod LevelsView

@@ -1,0 +1,55 @@
+-- How a plan uses one resource, as it is told by its tasks.
+use Rattle.std.specs.Prelude.{ℕ, List, Bool, map, filter, not, length, slice_index_or, ◌==◌, ◌&&◌, ◌+◌, ◌<◌, ◌≤◌, ◌≡◌, false}
+use Rattle.std.specs.List.{list_any, range_with_len, sum_by}
+use Rattle.msrp_plan.specs.Plan.{PlanModel}
+use Rattle.msrp_plan.specs.Levels.{greatest, is_global, local_ceiling}
+use Rattle.msrp_plan.specs.Bounds.{section, spin_bound}
+use Rattle.msrp_levels.specs.Users.{users}
+use Rattle.msrp_levels.specs.Footprints.{locks_in, longest_in}
+use Rattle.msrp_levels.specs.declared.footprints.Footprint.{Footprint}
+use Rattle.msrp_levels.specs.declared.usage.CoreUse.{CoreUse}
+use Rattle.msrp_levels.specs.declared.usage.Usage.{Usage}
+
+-- a task of the core uses the resource
+abbrev pub is_used_among : List Footprint → ℕ → ℕ → Bool
+is_used_among tasks g c = list_any (λ f. (f.core.0 == c) && locks_in g f) tasks
+
+-- tasks of two cores use the resource
+abbrev pub is_global_among : List Footprint → ℕ → Bool
+is_global_among tasks g = list_any (λ a. list_any (λ b. locks_in g a && (locks_in g b && not (a.core.0 == b.core.0))) tasks) tasks
+
+-- the longest section on the resource of the tasks of a core
+abbrev pub section_among : List Footprint → ℕ → ℕ → ℕ
+section_among tasks g c = greatest (map (longest_in g) (filter (λ f. f.core.0 == c) tasks))
+
+-- how the tasks of a core use the resource
+abbrev pub core_use : List Footprint → ℕ → ℕ → CoreUse
+core_use tasks g c = record { used = is_used_among tasks g c; section = section_among tasks g c }
+
+abbrev pub core_use_at : List CoreUse → ℕ → CoreUse
+core_use_at cores d = slice_index_or cores d (record { used = false; section = 0 })
+
+-- another core, that uses the resource
+abbrev pub is_other_user : List CoreUse → ℕ → ℕ → Bool
+is_other_user cores c d = not (d == c) && (core_use_at cores d).used
+
+-- for each other core that uses the resource, one handover and its longest section
+abbrev pub spin_among : List CoreUse → ℕ → ℕ
+spin_among cores c = sum_by (λ d. 1 + (core_use_at cores d).section) (filter (is_other_user cores c) (range_with_len 0 (length cores)))
+
+-- no section is longer than the units of a task may be
+abbrev pub IsShort : CoreUse → Type 0
+IsShort u = u.section ≤ 4096
+
+-- what is stored of a resource is what the plan says
+pub record IsUsage (plan : PlanModel) (g : ℕ) (u : Usage) : Type 0 where
+  pub users : map (λ t. t.0) u.users.items ≡ users plan g
+  pub global : u.global ≡ is_global plan g
+  pub ceiling : u.ceiling ≡ local_ceiling plan g
+  pub cores : map (λ x. x.section) u.cores.items ≡ map (section plan g) (range_with_len 0 plan.cores)
+  pub spins : u.spins.items ≡ map (spin_bound plan g) (range_with_len 0 plan.cores)
+
+-- what is stored of the first resources is what the plan says
+pub record AreUsages (plan : PlanModel) (n : ℕ) (usages : List Usage) : Type 0 where
+  pub size : length usages ≡ n
+  pub each : (g : ℕ) (d : Usage) → g < n → IsUsage plan g (slice_index_or usages g d)

@@ -1,0 +1,138 @@
+//! The levels and ceilings of a plan.
+ghost use Rattle.std.specs.Prelude.{◌≡◌, ◌<◌, length, map, IfOk};
+ghost use Rattle.msrp_plan.specs.Plan.{task_at};
+ghost use Rattle.msrp_plan.specs.Levels.{level, is_global, top};
+ghost use Rattle.msrp_plan.specs.Bounds.{section, spin_bound, out};
+ghost use Rattle.msrp_levels.specs.Users.{users, ceiling_at};
+
+use crate::footprints::footprints_of;
+use crate::outermost::outs_of;
+use crate::preemption::levels_of;
+use crate::usage::tops_of;
+use crate::usages::Usages;
+use msrp_plan::{CoreId, Memory, Plan, ResId, TaskId};
+use std::alloc::Global;
+use std::marker::Model;
+
+/// The preemption levels and ceilings of a plan, which of its resources are global, and the bounds that it gives.
+///
+/// All is computed once, by [`Levels::of`], in one pass over the units of each task. A reader looks up what is
+/// stored; it takes no memory. The numbers of tasks, resources and cores that a reader takes are the plan's.
+#[derive(Drop)]
+pub struct Levels<'a> {
+    usages: Usages<'a>,
+    // By task.
+    levels: Vec<u32>,
+    // By core.
+    tops: Vec<u32>,
+    // By task.
+    outs: Vec<u32>,
+}
+
+impl<'a> Model for Levels<'a> {
+    ghost use Rattle.msrp_plan.specs.Plan.{PlanModel};
+
+    ghost Value = { PlanModel };
+
+    ghost use Rattle.msrp_levels.specs.LevelsView.{levels_view, AreLevels};
+
+    ghost view = { levels_view };
+
+    ghost invariant = { AreLevels };
+}
+
+impl<'a> Levels<'a> {
+    /// The levels and ceilings of a plan. It is [`Memory`] only where memory was refused.
+    pub fn of(alloc: Global, plan: &'a Plan) -> Result<Levels<'a>, Memory>
+        ensures { IfOk result (λ levels. levels ≡ plan.now) }
+    {
+        let levels = levels_of(alloc, plan)?;
+        let tasks = footprints_of(alloc, plan, &levels)?;
+        let tops = tops_of(alloc, plan, &tasks)?;
+        let usages = Usages::of(alloc, plan, &tasks)?;
+        let outs = outs_of(alloc, plan, &usages)?;
+        Ok(Levels {
+            usages,
+            levels,
+            tops,
+            outs,
+        })
+    }
+
+    /// The preemption level of a task: 1 and the number of distinct longer relative deadlines in the plan (Baker
+    /// 1991).
+    pub fn level(&self, task: TaskId) -> u32
+        requires { task.0 < length self.now.tasks }
+        ensures { result ≡ level self.now task.0 }
+    {
+        self.levels[task.0 as usize]
+    }
+
+    /// The highest level of a core's tasks, 0 if it has none.
+    pub fn top(&self, core: CoreId) -> u32
+        requires { core.0 < self.now.cores }
+        ensures { result ≡ top self.now core.0 }
+    {
+        self.tops[core.0 as usize]
+    }
+
+    /// Whether tasks of two cores use a resource.
+    pub fn is_global(&self, res: ResId) -> bool
+        requires { res.0 < length self.now.resources }
+        ensures { result ≡ is_global self.now res.0 }
+    {
+        self.usages.is_global(res)
+    }
+
+    /// The ceiling of a resource at a core: of a local one the highest level of its users, 0 if there is none
+    /// (Baker 1991); of a global one the highest level of the core's tasks (Gai, Lipari and Di Natale 2001).
+    pub fn ceiling(&self, res: ResId, core: CoreId) -> u32
+        requires res { res.0 < length self.now.resources }
+        requires core { core.0 < self.now.cores }
+        ensures { result ≡ ceiling_at self.now res.0 core.0 }
+    {
+        if self.is_global(res) {
+            self.top(core)
+        } else {
+            self.usages.local_ceiling(res)
+        }
+    }
+
+    /// The tasks that use a resource, in rising order.
+    pub fn users(&self, res: ResId) -> &[TaskId]
+        requires { res.0 < length self.now.resources }
+        ensures { map (λ task. task.0) result.now ≡ users self.now res.0 }
+    {
+        self.usages.users(res)
+    }
+
+    /// The longest section on a resource of the tasks of a core, in units after the lock up to and with the unlock;
+    /// 0 where none of them uses it.
+    pub fn section(&self, res: ResId, core: CoreId) -> u32
+        requires res { res.0 < length self.now.resources }
+        requires core { core.0 < self.now.cores }
+        ensures { result ≡ section self.now res.0 core.0 }
+    {
+        self.usages.section(res, core)
+    }
+
+    /// How often a job of a core spins in one wait for a resource, at most: for each other core that uses it, one
+    /// handover and its longest section (this project's own bound).
+    pub fn spin_bound(&self, res: ResId, core: CoreId) -> u32
+        requires res { res.0 < length self.now.resources }
+        requires core { core.0 < self.now.cores }
+        ensures { result ≡ spin_bound self.now res.0 core.0 }
+    {
+        self.usages.spin_bound(res, core)
+    }
+
+    /// How many rows a job of a task has in one outermost section after the first, at most: its units after the lock
+    /// up to and with the unlock, and for each request of a global resource one row to join the queue and as many as
+    /// it may spin; 0 where the task locks nothing (this project's own bound).
+    pub fn out(&self, task: TaskId) -> u32
+        requires { task.0 < length self.now.tasks }
+        ensures { result ≡ out self.now (task_at self.now task.0) }
+    {
+        self.outs[task.0 as usize]
+    }
+}

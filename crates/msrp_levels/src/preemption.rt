@@ -1,0 +1,42 @@
+//! Preemption levels: 1 and the number of distinct longer relative deadlines (Baker 1991).
+ghost use Rattle.std.specs.Prelude.{◌≡◌, ◌≤◌, ◌+◌, nat_lt, count_by, length, map, vec_len, IfOk};
+ghost use Rattle.msrp_plan.specs.Plan.{TaskModel};
+ghost use Rattle.msrp_plan.specs.Levels.{level_of};
+
+use msrp_plan::{Memory, Plan, TaskId};
+use std::alloc::Global;
+
+// The relative deadlines of the plan, each once.
+fn distinct_deadlines(alloc: Global, plan: &Plan) -> Result<Vec<u32>, Memory>
+    ensures levels { IfOk result (λ deadlines. (task : TaskModel) → count_by (nat_lt task.deadline) deadlines.items + 1 ≡ level_of plan.now task) }
+    ensures few { IfOk result (λ deadlines. vec_len deadlines ≤ 64) }
+{
+    let mut deadlines = Vec::with_capacity(alloc, plan.tasks() as usize).map_err(|_| Memory)?;
+    for t in (0..plan.tasks()).rev() {
+        let deadline = plan.deadline(TaskId(t));
+        if !deadlines.contains(&deadline) {
+            deadlines.push_reserved(deadline);
+        }
+    }
+    Ok(deadlines)
+}
+
+// One more than how many of the deadlines are longer than this one.
+fn level_among(deadlines: &[u32], deadline: u32) -> u32
+    requires { length deadlines.now ≤ 64 }
+    ensures { result ≡ count_by (nat_lt deadline) deadlines.now + 1 }
+{
+    deadlines.iter().filter(|other| deadline < **other).count() as u32 + 1
+}
+
+/// The levels of the tasks, in their order.
+pub(crate) fn levels_of(alloc: Global, plan: &Plan) -> Result<Vec<u32>, Memory>
+    ensures { IfOk result (λ levels. levels.items ≡ map (level_of plan.now) plan.now.tasks) }
+{
+    let deadlines = distinct_deadlines(alloc, plan)?;
+    let mut levels = Vec::with_capacity(alloc, plan.tasks() as usize).map_err(|_| Memory)?;
+    for t in 0..plan.tasks() {
+        levels.push_reserved(level_among(&deadlines, plan.deadline(TaskId(t))));
+    }
+    Ok(levels)
+}

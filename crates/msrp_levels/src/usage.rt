@@ -1,0 +1,221 @@
+//! How a plan uses one resource.
+ghost use Rattle.std.specs.Prelude.{◌≡◌, ◌==◌, ◌<◌, ◌≤◌, ◌^◌, ◌&&◌, filter, length, map, not, IfOk};
+ghost use Rattle.std.specs.List.{All, find, list_any, range_with_len};
+ghost use Rattle.std.specs.Option.{option_copied};
+ghost use Rattle.msrp_plan.specs.Levels.{greatest, top};
+ghost use Rattle.msrp_levels.specs.Footprints.{footprint_of, locks_in, footprint_at};
+ghost use Rattle.msrp_levels.specs.Usage.{is_used_among, is_global_among, section_among, spin_among, core_use, IsUsage, IsShort};
+
+use crate::footprints::Footprint;
+use msrp_plan::{CoreId, Memory, Plan, ResId, TaskId};
+use std::alloc::Global;
+
+/// How the tasks of one core use the resource.
+#[derive(Clone, Copy)]
+pub(crate) struct CoreUse {
+    /// Whether one of them uses it.
+    pub(crate) used: bool,
+    /// Their longest section on it, 0 where none uses it.
+    pub(crate) section: u32,
+}
+
+/// How a plan uses one resource.
+#[derive(Drop)]
+pub(crate) struct Usage {
+    pub(crate) users: Vec<TaskId>,
+    pub(crate) global: bool,
+    /// The highest level of a user, 0 where there is none.
+    pub(crate) ceiling: u32,
+    /// By core.
+    pub(crate) cores: Vec<CoreUse>,
+    /// By core: how often a job of it spins in one wait for the resource, at most.
+    pub(crate) spins: Vec<u32>,
+}
+
+// The users of a resource, in rising order.
+fn users_of(alloc: Global, tasks: &[Footprint], res: ResId) -> Result<Vec<TaskId>, Memory>
+    requires res { res.0 < 32 }
+    requires few { length tasks.now < 2 ^ 32 }
+    ensures { IfOk result (λ users. map (λ t. t.0) users.items ≡ filter (λ t. locks_in res.0 (footprint_at tasks.now t)) (range_with_len 0 (length tasks.now))) }
+{
+    let mut users = Vec::new(alloc);
+    for (t, task) in tasks.iter().enumerate() {
+        if task.locks(res) {
+            users.push(TaskId(t as u32)).map_err(|_| Memory)?;
+        }
+    }
+    Ok(users)
+}
+
+// The first user of a resource.
+fn first_user(tasks: &[Footprint], res: ResId) -> Option<&Footprint>
+    requires { res.0 < 32 }
+    ensures { option_copied result ≡ find (locks_in res.0) tasks.now }
+{
+    tasks.iter().find(|task| task.locks(res))
+}
+
+// Whether a task of another core uses a resource.
+fn is_used_elsewhere(tasks: &[Footprint], res: ResId, core: CoreId) -> bool
+    requires { res.0 < 32 }
+    ensures { result ≡ list_any (λ f. locks_in res.0 f && not (core.0 == f.core.0)) tasks.now }
+{
+    tasks
+        .iter()
+        .any(|task| task.locks(res) && core != task.core)
+}
+
+// Whether tasks of two cores use a resource.
+fn is_global(tasks: &[Footprint], res: ResId) -> bool
+    requires { res.0 < 32 }
+    ensures { result ≡ is_global_among tasks.now res.0 }
+{
+    match first_user(tasks, res) {
+        Some(first) => is_used_elsewhere(tasks, res, first.core),
+        None => false,
+    }
+}
+
+// The highest level of the tasks that use a resource.
+fn ceiling_of(tasks: &[Footprint], res: ResId) -> u32
+    requires { res.0 < 32 }
+    ensures { result ≡ greatest (map (λ f. f.level) (filter (locks_in res.0) tasks.now)) }
+{
+    let mut highest = 0;
+    for task in tasks {
+        if task.locks(res) {
+            highest = highest.max(task.level);
+        }
+    }
+    highest
+}
+
+// The highest level of the tasks of a core.
+fn top_of(tasks: &[Footprint], core: CoreId) -> u32
+    ensures { result ≡ greatest (map (λ f. f.level) (filter (λ f. f.core.0 == core.0) tasks.now)) }
+{
+    let mut highest = 0;
+    for task in tasks {
+        if task.core == core {
+            highest = highest.max(task.level);
+        }
+    }
+    highest
+}
+
+/// The highest level of the tasks of each core.
+pub(crate) fn tops_of(alloc: Global, plan: &Plan, tasks: &[Footprint]) -> Result<Vec<u32>, Memory>
+    requires { tasks.now ≡ map (footprint_of plan.now) plan.now.tasks }
+    ensures { IfOk result (λ tops. tops.items ≡ map (top plan.now) (range_with_len 0 plan.now.cores)) }
+{
+    let mut tops = Vec::with_capacity(alloc, plan.cores() as usize).map_err(|_| Memory)?;
+    for c in 0..plan.cores() {
+        tops.push_reserved(top_of(tasks, CoreId(c)));
+    }
+    Ok(tops)
+}
+
+// The longest section on a resource of the tasks of a core.
+fn section_of(tasks: &[Footprint], res: ResId, core: CoreId) -> u32
+    requires { res.0 < 32 }
+    ensures { result ≡ section_among tasks.now res.0 core.0 }
+{
+    let mut longest = 0;
+    for task in tasks {
+        if task.core == core {
+            longest = longest.max(task.longest(res));
+        }
+    }
+    longest
+}
+
+// Whether a task of a core uses a resource.
+fn is_used_on(tasks: &[Footprint], res: ResId, core: CoreId) -> bool
+    requires { res.0 < 32 }
+    ensures { result ≡ is_used_among tasks.now res.0 core.0 }
+{
+    tasks
+        .iter()
+        .any(|task| task.core == core && task.locks(res))
+}
+
+// How the tasks of a core use a resource.
+fn core_use(tasks: &[Footprint], res: ResId, core: CoreId) -> CoreUse
+    requires { res.0 < 32 }
+    ensures { result ≡ core_use tasks.now res.0 core.0 }
+{
+    CoreUse {
+        used: is_used_on(tasks, res, core),
+        section: section_of(tasks, res, core),
+    }
+}
+
+// How the tasks of each core use a resource.
+fn core_uses(
+    alloc: Global,
+    cores: u32,
+    tasks: &[Footprint],
+    res: ResId,
+) -> Result<Vec<CoreUse>, Memory>
+    requires { res.0 < 32 }
+    ensures { IfOk result (λ uses. uses.items ≡ map (core_use tasks.now res.0) (range_with_len 0 cores)) }
+{
+    let mut uses = Vec::with_capacity(alloc, cores as usize).map_err(|_| Memory)?;
+    for c in 0..cores {
+        uses.push_reserved(core_use(tasks, res, CoreId(c)));
+    }
+    Ok(uses)
+}
+
+// How often a job of a core spins in one wait, at most: for each other core that uses the resource, one
+// handover and its longest section.
+fn spin_among(cores: &[CoreUse], core: CoreId) -> u32
+    requires few { length cores.now ≤ 8 }
+    requires short { All IsShort cores.now }
+    ensures { result ≡ spin_among cores.now core.0 }
+{
+    let mut spin = 0;
+    for (d, other) in cores.iter().enumerate() {
+        if d != core.0 as usize && other.used {
+            spin += 1 + other.section;
+        }
+    }
+    spin
+}
+
+// The same for each core.
+fn spins_among(alloc: Global, cores: &[CoreUse]) -> Result<Vec<u32>, Memory>
+    requires few { length cores.now ≤ 8 }
+    requires short { All IsShort cores.now }
+    ensures { IfOk result (λ spins. spins.items ≡ map (spin_among cores.now) (range_with_len 0 (length cores.now))) }
+{
+    let mut spins = Vec::with_capacity(alloc, cores.len()).map_err(|_| Memory)?;
+    for c in 0..cores.len() {
+        spins.push_reserved(spin_among(cores, CoreId(c as u32)));
+    }
+    Ok(spins)
+}
+
+impl Usage {
+    /// How a plan uses a resource, told by its tasks.
+    pub(crate) fn of(
+        alloc: Global,
+        plan: &Plan,
+        tasks: &[Footprint],
+        res: ResId,
+    ) -> Result<Usage, Memory>
+        requires tasks { tasks.now ≡ map (footprint_of plan.now) plan.now.tasks }
+        requires res { res.0 < length plan.now.resources }
+        ensures { IfOk result (IsUsage plan.now res.0) }
+    {
+        let cores = core_uses(alloc, plan.cores(), tasks, res)?;
+        let spins = spins_among(alloc, &cores)?;
+        Ok(Usage {
+            users: users_of(alloc, tasks, res)?,
+            global: is_global(tasks, res),
+            ceiling: ceiling_of(tasks, res),
+            cores,
+            spins,
+        })
+    }
+}

@@ -1,0 +1,34 @@
+-- The steps on a resource, among the turns of all cores, and its history on the board.
+use Rattle.std.specs.Prelude.{◌≡◌, ℕ, List, Bool, true, ◌&&◌}
+use Rattle.std.specs.List.{filter}
+use Rattle.msrp_plan.specs.Plan.{PlanModel}
+use Rattle.msrp_plan.specs.Levels.{is_global}
+use Rattle.msrp_plan.specs.FifoLock.{Legal}
+use Rattle.msrp_plan.specs.Queues.{is_on}
+use Rattle.msrp_plan.specs.declared.rows.Row.{Row}
+use Rattle.msrp_board.specs.History.{Event, calls}
+use Rattle.msrp_merge.specs.declared.logs.Turn.{Turn}
+use Rattle.msrp_merge.specs.Pairs.{Paired}
+use Rattle.msrp_merge.specs.Turns.{has_place, is_step, IsRowOf, IsTurnOf}
+
+-- the turn is a step on resource g
+abbrev pub is_step_on : ℕ → Turn → Bool
+is_step_on g x = has_place x && is_on g x.row.res
+
+-- the turn is that of an event: of its core, and of its entry
+pub record IsTurnOfEvent (x : Turn) (s : Event) : Type 0 where
+  pub core : x.row.core.0 ≡ s.0
+  pub step : IsTurnOf x s.1
+
+-- the row is a step on resource g
+abbrev pub is_row_on : ℕ → Row → Bool
+is_row_on g r = is_step r.kind && is_on g r.res
+
+-- the row is that of an event: of its core, and of its entry
+pub record IsRowOfEvent (r : Row) (s : Event) : Type 0 where
+  pub core : r.core.0 ≡ s.0
+  pub step : IsRowOf s.1 r
+
+-- the steps on each global resource are, in their order, a history that a first-in-first-out lock answers so
+abbrev pub AreServed : PlanModel → List Row → Type 0
+AreServed plan rows = (g : ℕ) → is_global plan g ≡ true → (h : List Event) × Paired IsRowOfEvent (filter (is_row_on g) rows) h × Legal (calls h)

@@ -1,0 +1,50 @@
+-- The turns of a core as its log has them, and how a log fits the core's book on the board.
+use Rattle.std.specs.Prelude.{◌≡◌, ℕ, List, Bool, true, false, Some, IfSome, map, is_some}
+use Rattle.std.specs.List.{filter, AllByRecursion}
+use Rattle.msrp_plan.specs.Calls.{kind_of_call, ahead_of_call}
+use Rattle.msrp_plan.specs.declared.rows.Kind.{Kind}
+use Rattle.msrp_plan.specs.declared.rows.Kind.TheVariants.{Take, Queue, Grant, Spin, Release}
+use Rattle.msrp_plan.specs.declared.rows.Row.{Row}
+use Rattle.msrp_board.specs.declared.books.Entry.{Entry}
+use Rattle.msrp_board.specs.History.{is_poll}
+use Rattle.msrp_merge.specs.declared.logs.Turn.{Turn}
+use Rattle.msrp_merge.specs.Pairs.{Paired}
+
+-- a core's log: its turns, oldest first, of at most so many ticks
+pub record LogModel : Type 0 where
+  pub core : ℕ
+  pub ticks : ℕ
+  pub turns : List Turn
+
+abbrev pub rows_of : List Turn → List Row
+rows_of turns = map (λ x. x.row) turns
+
+-- the kinds of row that are a step on a global resource
+abbrev pub is_step : Kind → Bool
+is_step Take = true
+is_step Queue = true
+is_step Grant = true
+is_step Spin = true
+is_step Release = true
+is_step _ = false
+
+abbrev pub has_place : Turn → Bool
+has_place x = is_some x.place
+
+-- the row tells of the same step as an entry of its core's book: in its tick, on its resource, with its answer; an ahead that
+-- it carries is the entry's
+pub record IsRowOf (e : Entry) (r : Row) : Type 0 where
+  pub tick : r.tick ≡ e.tick
+  pub resource : r.res ≡ Some e.res
+  pub kind : r.kind ≡ kind_of_call e.call
+  pub ahead : IfSome r.ahead (λ n. ahead_of_call e.call ≡ Some n)
+
+-- the turn is that of an entry: its row tells of the step, and its place is the entry's, polled where the call was a poll
+pub record IsTurnOf (x : Turn) (e : Entry) : Type 0 where
+  pub row : IsRowOf e x.row
+  pub place : x.place ≡ Some (record { number = e.place; polled = is_poll e.call })
+
+-- a log fits the entries of its core's book: its steps, and no other rows, carry a place, and those are in order the entries
+pub record Fits (turns : List Turn) (entries : List Entry) : Type 0 where
+  pub places : AllByRecursion (λ x. has_place x ≡ is_step x.row.kind) turns
+  pub steps : Paired IsTurnOf (filter has_place turns) entries

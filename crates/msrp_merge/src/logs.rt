@@ -1,0 +1,90 @@
+//! What a core did, turn by turn.
+ghost use Rattle.std.specs.Prelude.{◌≡◌, ◌<◌, ◌++◌, ◌∷◌, [], length, IfOk};
+
+use msrp_plan::{CoreId, Memory, Row};
+use std::alloc::Global;
+use std::marker::Model;
+
+/// Where a turn found the global resource that it touched, as the board told it.
+#[derive(Clone, Copy, Debug, PartialEq, Eq)]
+pub struct Place {
+    /// How many requests and releases of the resource stood before the step.
+    pub number: u32,
+    /// Whether the step was a poll, which reads a place; a request or a release takes one.
+    pub polled: bool,
+}
+
+/// A turn as its core logs it: the row, and a place where the turn touched a global resource.
+#[derive(Clone, Copy, Debug, PartialEq, Eq)]
+pub struct Turn {
+    pub row: Row,
+    pub place: Option<Place>,
+}
+
+/// The turns of one core, from tick 0 on.
+#[derive(Debug, Drop)]
+pub struct CoreLog {
+    core: CoreId,
+    ticks: u32,
+    turns: Vec<Turn>,
+}
+
+impl Model for CoreLog {
+    ghost use Rattle.std.specs.Prelude.{◌≤◌, vec_len, vec_capacity};
+    ghost use Rattle.msrp_merge.specs.Turns.{LogModel};
+
+    ghost Value = { LogModel };
+
+    ghost view = { λ log. record { core = log.core.0; ticks = log.ticks; turns = log.turns.items } };
+
+    ghost invariant = { λ log. (vec_len log.turns ≤ log.ticks) × (log.ticks ≤ vec_capacity log.turns) };
+}
+
+impl CoreLog {
+    /// An empty log of a core, for so many ticks. All memory that the log ever needs is taken here: it is [`Memory`]
+    /// only where that was refused.
+    pub fn with_room(alloc: Global, core: CoreId, ticks: u32) -> Result<CoreLog, Memory>
+        ensures { IfOk result (λ log. log ≡ record { core = core.0; ticks = ticks; turns = [] }) }
+    {
+        let turns = Vec::with_capacity(alloc, ticks as usize).map_err(|_| Memory)?;
+        Ok(CoreLog { core, ticks, turns })
+    }
+
+    /// Adds the core's turn of the next tick. It takes no memory.
+    pub fn push(&mut self, row: Row, place: Option<Place>)
+        requires core { row.core.0 ≡ self.old.core }
+        requires tick { row.tick ≡ length self.old.turns }
+        requires room { row.tick < self.old.ticks }
+        ensures { self.new ≡ record self.old { turns = self.old.turns ++ record { row = row; place = place } ∷ [] } }
+    {
+        self.turns.push_reserved(Turn { row, place });
+    }
+
+    /// The core whose log it is.
+    pub fn core(&self) -> CoreId
+        ensures { result.0 ≡ self.now.core }
+    {
+        self.core
+    }
+
+    /// The number of ticks that the log is for.
+    pub fn ticks(&self) -> u32
+        ensures { result ≡ self.now.ticks }
+    {
+        self.ticks
+    }
+
+    /// The number of turns that it has, which is the tick of the next.
+    pub fn len(&self) -> usize
+        ensures { result ≡ length self.now.turns }
+    {
+        self.turns.len()
+    }
+
+    /// The turns, tick by tick.
+    pub fn turns(&self) -> &[Turn]
+        ensures { result.now ≡ self.now.turns }
+    {
+        &self.turns
+    }
+}

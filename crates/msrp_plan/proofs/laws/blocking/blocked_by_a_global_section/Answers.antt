@@ -1,0 +1,9 @@
+use Rattle.std.proofs.Common.{refl}
+use Rattle.msrp_plan.specs.Examples.RaisedWhileHolding.{plan, rows}
+use Rattle.msrp_plan.proofs.Verdicts.{good_is_run}
+use Rattle.msrp_plan.proofs.AcceptedPlans.{accepted_plan}
+use Rattle.msrp_plan.proofs.KeptLaws.{keeps_laws}
+use Rattle.msrp_plan.proofs.laws.blocking.blocked_by_a_global_section.Goals as goal
+
+pub returns : goal.returns
+returns c = record { laws = keeps_laws plan rows (accepted_plan plan refl refl refl) (good_is_run _ _ refl); section = refl; rows = refl; bound = refl }

@@ -1,0 +1,6 @@
+use Rattle.std.proofs.Common.{refl}
+use Rattle.msrp_plan.proofs.Verdicts.{good_is_run}
+use Rattle.msrp_plan.proofs.worked.corners.jobs_of_one_task.Goals as goal
+
+pub returns : goal.returns
+returns c = record { run = good_is_run _ _ refl; too_early = refl; never_started = refl }

@@ -1,0 +1,17 @@
+-- Three cores, of which core 2 doesn't use g: its bound counts for nothing, and of the sections of core 0 the longest.
+use Rattle.std.specs.Prelude.{[], ◌∷◌, ◌++◌, codes}
+use Rattle.msrp_plan.specs.Plan.{PlanModel}
+use Rattle.msrp_plan.specs.Examples.Notation.{task, works, section}
+
+abbrev pub plan : PlanModel
+plan = record {
+  cores = 3;
+  ticks = 9;
+  resources = codes "g" ∷ [];
+  tasks =
+      task (codes "a") 0 20 10 0 (section 0 1 ++ section 0 2)
+      ∷ task (codes "b") 0 20 10 0 (section 0 0)
+      ∷ task (codes "c") 1 20 10 0 (section 0 1)
+      ∷ task (codes "d") 2 20 10 0 (works 1)
+      ∷ [];
+}

@@ -1,0 +1,52 @@
+-- When the jobs of a task are released.
+use Rattle.std.specs.Prelude.{ℕ, List, [], ◌∷◌, ◌++◌, All, Bool, true, false, ◌==◌, nat_lt, Option, Some, None, length, slice_get, unwrap_or, ◌+◌, ◌*◌, ◌≤◌}
+use Rattle.std.specs.List.Sorted.{IsStrictlyIncreasing}
+
+-- once in each period from an offset on (Liu and Layland 1973, the environment), or at the ticks of a list
+pub data ReleaseTimes : Type 0 where
+  Every : ℕ → ℕ → ReleaseTimes
+  Listed : List ℕ → ReleaseTimes
+
+-- the tick of the k-th release, if there are so many: offset + k * period, or the k-th of the list
+abbrev pub tick_of : ReleaseTimes → ℕ → Option ℕ
+tick_of (Every period offset) k = Some (offset + k * period)
+tick_of (Listed ticks) k = slice_get ticks k
+
+-- there is a k-th release, and it comes before the tick
+abbrev pub comes_before : ReleaseTimes → ℕ → ℕ → Bool
+comes_before times tick k = nat_lt (unwrap_or (tick_of times k) tick) tick
+
+abbrev pub is_listed : ReleaseTimes → Bool
+is_listed (Every period offset) = false
+is_listed (Listed ticks) = true
+
+-- the ticks of a list; a periodic task has none
+abbrev pub listed_ticks : ReleaseTimes → List ℕ
+listed_ticks (Every period offset) = []
+listed_ticks (Listed ticks) = ticks
+
+-- a list that has no tick yet
+abbrev pub lacks_release : ReleaseTimes → Bool
+lacks_release (Every period offset) = false
+lacks_release (Listed ticks) = length ticks == 0
+
+-- a list with one tick more
+abbrev pub with_tick : ReleaseTimes → ℕ → ReleaseTimes
+with_tick (Every period offset) tick = Every period offset
+with_tick (Listed ticks) tick = Listed (ticks ++ tick ∷ [])
+
+-- a period and an offset that a task may have
+pub record ArePeriodic (period offset : ℕ) : Type 0 where
+  pub positive : 1 ≤ period
+  pub short : period ≤ 1000000
+  pub soon : offset ≤ 1000000
+
+-- ticks that a list may have: they rise
+pub record AreListed (ticks : List ℕ) : Type 0 where
+  pub few : length ticks ≤ 8192
+  pub soon : All (λ tick. tick ≤ 1000000) ticks
+  pub rising : IsStrictlyIncreasing ticks
+
+abbrev pub AreTimes : ReleaseTimes → Type 0
+AreTimes (Every period offset) = ArePeriodic period offset
+AreTimes (Listed ticks) = AreListed ticks

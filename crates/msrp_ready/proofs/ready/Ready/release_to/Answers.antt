@@ -1,0 +1,51 @@
+use Rattle.std.proofs.Common.{Some, List, sym, ap, ◌∙◌, arith}
+use Rattle.msrp_ready.specs.Ready.{ReadyModel, released}
+use Rattle.msrp_plan.specs.declared.ids.JobId.{JobId}
+use Rattle.msrp_ready.proofs.Moving.{sizes, releases}
+use Rattle.msrp_ready.proofs.ready.Ready.release_to.Goals as goal
+
+pub release-self-inside-requires-clause-jobs : goal.release-self-inside-requires-clause-jobs
+release-self-inside-requires-clause-jobs c =
+    let r = c.self.inside in
+    let size = sizes r.plan.now r.core.0 r.tick r.calendar.items r.next r.heap c.self.invariant in
+    omega (arith, size)
+
+pub release-self-inside-requires-clause-count : goal.release-self-inside-requires-clause-count
+release-self-inside-requires-clause-count c =
+    let r = c.self.inside in
+    let ok = c.self.invariant in
+    let size = sizes r.plan.now r.core.0 r.tick r.calendar.items r.next r.heap ok in
+    omega (arith, ok.compared, ok.few, ok.within, size)
+
+pub invariant_of-self : goal.invariant_of-self
+invariant_of-self c =
+    let r = c.self.inside in
+    let told = c.release-self-inside.ensures in
+    let left = releases r.plan.now r.core.0 r.tick r.calendar.items c.deref.result.now r.next r.heap c.args.tick c.release-self-inside.result c.release-self-inside.new.heap c.deref.ensures.value c.self.invariant (λ before e. c.requires before (sym (ap (λ (v : ReadyModel). v.tick) c.self.view_is) ∙ e)) told.from told.within told.jobs told.released told.later told.room told.compared in
+    left.ready
+
+pub returns-clause-tick : goal.returns-clause-tick
+returns-clause-tick c =
+    let r = c.self.inside in
+    let told = c.release-self-inside.ensures in
+    let left = releases r.plan.now r.core.0 r.tick r.calendar.items c.deref.result.now r.next r.heap c.args.tick c.release-self-inside.result c.release-self-inside.new.heap c.deref.ensures.value c.self.invariant (λ before e. c.requires before (sym (ap (λ (v : ReadyModel). v.tick) c.self.view_is) ∙ e)) told.from told.within told.jobs told.released told.later told.room told.compared in
+    let seen : List JobId → ReadyModel = λ taken. record { plan = r.plan.now; core = r.core.0; tick = Some c.args.tick; taken = taken; compared = c.release-self-inside.new.heap.compared } in
+    ap seen left.taken ∙ ap (λ (v : ReadyModel). let w : ReadyModel = record { plan = v.plan; core = v.core; tick = Some c.args.tick; taken = v.taken; compared = c.release-self-inside.new.heap.compared } in w) c.self.view_is
+
+pub returns-clause-at_most : goal.returns-clause-at_most
+returns-clause-at_most c =
+    let r = c.self.inside in
+    let told = c.release-self-inside.ensures in
+    let left = releases r.plan.now r.core.0 r.tick r.calendar.items c.deref.result.now r.next r.heap c.args.tick c.release-self-inside.result c.release-self-inside.new.heap c.deref.ensures.value c.self.invariant (λ before e. c.requires before (sym (ap (λ (v : ReadyModel). v.tick) c.self.view_is) ∙ e)) told.from told.within told.jobs told.released told.later told.room told.compared in
+    let before = sym (ap released c.self.view_is) ∙ left.before in
+    let compared = ap (λ (v : ReadyModel). v.compared) c.self.view_is in
+    omega (arith, told.compared, left.count, before, compared)
+
+pub returns-clause-counted : goal.returns-clause-counted
+returns-clause-counted c =
+    let r = c.self.inside in
+    let told = c.release-self-inside.ensures in
+    let left = releases r.plan.now r.core.0 r.tick r.calendar.items c.deref.result.now r.next r.heap c.args.tick c.release-self-inside.result c.release-self-inside.new.heap c.deref.ensures.value c.self.invariant (λ before e. c.requires before (sym (ap (λ (v : ReadyModel). v.tick) c.self.view_is) ∙ e)) told.from told.within told.jobs told.released told.later told.room told.compared in
+    let before = sym (ap released c.self.view_is) ∙ left.before in
+    let compared = ap (λ (v : ReadyModel). v.compared) c.self.view_is in
+    omega (arith, told.counted, left.count, before, compared)

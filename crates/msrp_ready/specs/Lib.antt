@@ -1,0 +1,5 @@
+pub mod Keyed
+pub mod Heap
+pub mod HeapView
+pub mod Ready
+pub mod ReadyView

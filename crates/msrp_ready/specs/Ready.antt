@@ -1,0 +1,34 @@
+-- The ready jobs of a core: released and not yet taken.
+use Rattle.std.specs.Prelude.{ℕ, List, Bool, false, nat_le, Option, Some, None, count_by}
+use Rattle.std.specs.List.{list_any}
+use Rattle.std.specs.Option.{option_and_then}
+use Rattle.msrp_plan.specs.Plan.{PlanModel, release}
+use Rattle.msrp_plan.specs.Jobs.{jobs_on, same_job}
+use Rattle.msrp_plan.specs.Choice.{first_ready}
+use Rattle.msrp_plan.specs.declared.ids.JobId.{JobId}
+
+-- the ready jobs of a core of a plan: the tick up to which jobs are released (none before the first), the jobs that were
+-- taken, and how often two keys were compared
+pub record ReadyModel : Type 0 where
+  pub plan : PlanModel
+  pub core : ℕ
+  pub tick : Option ℕ
+  pub taken : List JobId
+  pub compared : ℕ
+
+-- the job is one of these
+abbrev pub is_among : List JobId → JobId → Bool
+is_among js j = list_any (same_job j) js
+
+-- a release has come by a tick that is not earlier; before the first tick none has
+abbrev pub has_come : Option ℕ → ℕ → Bool
+has_come None release = false
+has_come (Some t) release = nat_le release t
+
+-- how many jobs of the core are released
+abbrev pub released : ReadyModel → ℕ
+released ready = count_by (λ j. has_come ready.tick (release ready.plan j)) (jobs_on ready.plan ready.core)
+
+-- the least job of the core that is released and not taken; none before the first tick
+abbrev pub head : ReadyModel → Option JobId
+head ready = option_and_then (λ t. first_ready ready.plan ready.core t (is_among ready.taken)) ready.tick

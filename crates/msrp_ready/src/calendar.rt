@@ -1,0 +1,77 @@
+//! The calendar of a core: its jobs in the order of their releases, each beside its key.
+ghost use Rattle.std.specs.Prelude.{◌≡◌, ◌<◌, ◌≤◌, ◌+◌, ◌-◌, ◌*◌, ◌^◌, ◌++◌, length, map, take, drop, slice_index_or, IfOk, OnOk};
+ghost use Rattle.std.specs.List.{All};
+ghost use Rattle.std.specs.List.Sorted.{IsPermutation, IsNonDecreasingBy};
+ghost use Rattle.msrp_plan.specs.Jobs.{jobs_of, jobs_on};
+ghost use Rattle.msrp_plan.specs.WellFormed.{IsPlan};
+ghost use Rattle.msrp_ready.specs.Keyed.{keyed};
+ghost use Rattle.msrp_ready.specs.declared.keyed.KeyedJob.{KeyedJob};
+
+use crate::heap::Heap;
+use crate::keyed::KeyedJob;
+use msrp_plan::{CoreId, JobId, Memory, Plan, TaskId};
+use std::alloc::{AllocError, Global};
+
+// Adds the jobs of a task.
+fn push_jobs(jobs: &mut Vec<KeyedJob>, plan: &Plan, task: TaskId) -> Result<(), AllocError>
+    requires { task.0 < length plan.now.tasks }
+    ensures { OnOk result (jobs.new.items ≡ jobs.old.items ++ map (keyed plan.now) (jobs_of plan.now task.0)) }
+{
+    for k in 0..plan.jobs(task) {
+        jobs.push(KeyedJob::of(plan, JobId { task, k }))?;
+    }
+    Ok(())
+}
+
+// The jobs of a core, task by task.
+fn jobs_on(alloc: Global, plan: &Plan, core: CoreId) -> Result<Vec<KeyedJob>, AllocError>
+    ensures plan { IsPlan plan.now }
+    ensures jobs { IfOk result (λ jobs. jobs.items ≡ map (keyed plan.now) (jobs_on plan.now core.0)) }
+{
+    let mut jobs = Vec::new(alloc);
+    for t in 0..plan.tasks() {
+        if plan.core_of(TaskId(t)) == core {
+            push_jobs(&mut jobs, plan, TaskId(t))?;
+        }
+    }
+    Ok(jobs)
+}
+
+/// The jobs of a core by their releases. It fails only where memory was refused.
+pub(crate) fn calendar_of(alloc: Global, plan: &Plan, core: CoreId) -> Result<Vec<KeyedJob>, Memory>
+    ensures plan { IsPlan plan.now }
+    ensures jobs { IfOk result (λ jobs. IsPermutation (map (keyed plan.now) (jobs_on plan.now core.0)) jobs.items) }
+    ensures sorted { IfOk result (λ jobs. IsNonDecreasingBy (λ job. job.key.release) jobs.items) }
+{
+    let Ok(mut jobs) = jobs_on(alloc, plan, core) else {
+        return Err(Memory);
+    };
+    jobs.sort_unstable_by_key(|job| job.key.release);
+    Ok(jobs)
+}
+
+/// Moves the jobs of a calendar from a place on that are released by a tick into the heap, and answers the place of the
+/// first that isn't.
+pub(crate) fn release(calendar: &[KeyedJob], from: usize, tick: u32, heap: &mut Heap) -> usize
+    requires from { from ≤ length calendar.now }
+    requires few { length calendar.now ≤ 8192 }
+    requires room { heap.old.room ≡ length calendar.now }
+    requires jobs { length heap.old.jobs ≤ from }
+    requires count { heap.old.compared < 2 ^ 63 }
+    ensures from { from ≤ result }
+    ensures within { result ≤ length calendar.now }
+    ensures released { All (λ job. job.key.release ≤ tick) (drop from (take result calendar.now)) }
+    ensures later { (d : KeyedJob) → result < length calendar.now → tick < (slice_index_or calendar.now result d).key.release }
+    ensures jobs { IsPermutation (heap.old.jobs ++ drop from (take result calendar.now)) heap.new.jobs }
+    ensures room { heap.new.room ≡ heap.old.room }
+    ensures compared { heap.new.compared ≤ heap.old.compared + 13 * (result - from) }
+    ensures kept { heap.old.compared ≤ heap.new.compared }
+    ensures counted { result ≤ from + 1 + (heap.new.compared - heap.old.compared) }
+{
+    let mut next = from;
+    while next < calendar.len() && calendar[next].key.release <= u64::from(tick) {
+        heap.push(calendar[next]);
+        next += 1;
+    }
+    next
+}

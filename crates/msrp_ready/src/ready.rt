@@ -1,0 +1,110 @@
+//! The ready jobs of a core.
+ghost use Rattle.std.specs.Prelude.{◌≡◌, ◌<◌, ◌≤◌, ◌+◌, ◌-◌, ◌*◌, ◌||◌, [], None, Some, IfOk};
+ghost use Rattle.std.specs.Option.{ForSome};
+ghost use Rattle.msrp_plan.specs.Jobs.{is_job};
+ghost use Rattle.msrp_plan.specs.declared.ids.JobId.{JobId as Job};
+ghost use Rattle.msrp_ready.specs.Ready.{head, is_among, released};
+
+use crate::calendar::{calendar_of, release};
+use crate::heap::Heap;
+use crate::keyed::KeyedJob;
+use msrp_plan::{CoreId, JobId, Memory, Plan};
+use std::alloc::Global;
+use std::marker::Model;
+
+/// The jobs of a core that are released and not taken, of which the one with the least key is the head.
+///
+/// A new one has released nothing. [`release_to`](Ready::release_to) releases the jobs up to a tick, and
+/// [`take_head`](Ready::take_head) takes the head, which its first turn starts. A head whose preemption level doesn't pass the
+/// ceiling holds up the jobs behind it (Baker 1991, the Stack Resource Policy), so nobody asks for another than the head.
+///
+/// Jobs wait for their release in a list by releases, and for their start in a binary heap by keys.
+#[derive(Drop)]
+pub struct Ready<'a> {
+    plan: &'a Plan,
+    core: CoreId,
+    tick: Option<u32>,
+    calendar: Vec<KeyedJob>,
+    next: usize,
+    heap: Heap,
+}
+
+impl<'a> Model for Ready<'a> {
+    ghost use Rattle.msrp_ready.specs.Ready.{ReadyModel};
+
+    ghost Value = { ReadyModel };
+
+    ghost use Rattle.msrp_ready.specs.ReadyView.{ready_view, IsReadyView};
+
+    ghost view = { ready_view };
+
+    ghost invariant = { IsReadyView };
+}
+
+impl<'a> Ready<'a> {
+    /// The ready jobs of a core before anything is released. All memory that they ever need is taken here: it is [`Memory`] only
+    /// where that was refused.
+    pub fn with_room(alloc: Global, plan: &'a Plan, core: CoreId) -> Result<Ready<'a>, Memory>
+        ensures { IfOk result (λ ready. ready ≡ record { plan = plan.now; core = core.0; tick = None; taken = []; compared = 0 }) }
+    {
+        let calendar = calendar_of(alloc, plan, core)?;
+        let heap = Heap::with_room(alloc, calendar.len())?;
+        Ok(Ready {
+            plan,
+            core,
+            tick: None,
+            calendar,
+            next: 0,
+            heap,
+        })
+    }
+
+    /// Releases the jobs of the core whose release is at or before a tick, which is no earlier than the one before. It takes no
+    /// memory.
+    pub fn release_to(&mut self, tick: u32)
+        requires { ForSome self.old.tick (λ before. before ≤ tick) }
+        ensures tick { self.new ≡ record self.old { tick = Some tick; compared = self.new.compared } }
+        ensures at_most { self.new.compared ≤ self.old.compared + 13 * (released self.new - released self.old) }
+        ensures at_least { self.old.compared ≤ self.new.compared }
+
+        // Each job that finds another ready is compared.
+        ensures counted { released self.new ≤ released self.old + 1 + (self.new.compared - self.old.compared) }
+    {
+        self.next = release(&self.calendar, self.next, tick, &mut self.heap);
+        self.tick = Some(tick);
+    }
+
+    /// The tick up to which jobs are released, none before the first.
+    pub fn tick(&self) -> Option<u32>
+        ensures { result ≡ self.now.tick }
+    {
+        self.tick
+    }
+
+    /// The ready job with the least key. It compares no keys.
+    pub fn head(&self) -> Option<JobId>
+        ensures { result ≡ head self.now }
+    {
+        let first = self.heap.first()?;
+        Some(first.job)
+    }
+
+    /// Takes the head, which is ready no more. It takes no memory.
+    pub fn take_head(&mut self) -> Option<JobId>
+        ensures head { result ≡ head self.old }
+        ensures rest { self.new ≡ record self.old { taken = self.new.taken; compared = self.new.compared } }
+        ensures taken { (job : Job) → is_among self.new.taken job ≡ is_among self.old.taken job || is_job result job }
+        ensures at_most { self.new.compared ≤ self.old.compared + 26 }
+        ensures at_least { self.old.compared ≤ self.new.compared }
+    {
+        let first = self.heap.pop()?;
+        Some(first.job)
+    }
+
+    /// How often two keys were compared since this was made.
+    pub fn compared(&self) -> u64
+        ensures { result ≡ self.now.compared }
+    {
+        self.heap.compared()
+    }
+}

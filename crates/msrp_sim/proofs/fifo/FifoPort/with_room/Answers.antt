@@ -1,0 +1,33 @@
+use Rattle.std.proofs.Common.{◌≡◌, ◌≤◌, ◌*◌, ◌+◌, ℕ, [], length, replicate, ap, sym, ◌∙◌, arith, rules, vec_capacity}
+use Rattle.std.proofs.Math.Nat.{mul-le-mul_left, mul-le-mul_right}
+use Rattle.msrp_sim.specs.declared.fifo.Tickets.{Tickets}
+use Rattle.msrp_sim.proofs.Serving.{same_everywhere, served_none, drawn_none}
+use Rattle.msrp_sim.proofs.fifo.FifoPort.with_room.Goals as goal
+
+-- the greatest number of calls
+most : (cores ticks : ℕ) → cores ≤ 8 → ticks ≤ 20000 → cores * ticks ≤ 160000
+most cores ticks a b = let x = mul-le-mul_right ticks a in let y = mul-le-mul_left 8 b in omega (arith, x, y)
+
+pub invariant_of-result : goal.invariant_of-result
+invariant_of-result c =
+    let none : Tickets = record { next = 0; serving = 0 } in
+    let empty : c.in_ok-map_err.field-0.items ≡ [] = search rules in
+    let exact : vec_capacity c.in_ok-map_err.field-0 ≡ c.cores.result * c.ticks.result = search rules in
+    let plan = c.cores.ensures.plan in
+    let cores = c.cores.ensures.value in
+    let ticks = c.ticks.ensures.value in
+    let few = most c.cores.result c.ticks.result (let n = plan.draft.cores in omega (arith, n, cores)) (let n = plan.draft.ticks in omega (arith, n, ticks)) in
+    record {
+      served = rw empty (served_none (replicate 32 none) (replicate 8 0) (same_everywhere none 32));
+      drawn = rw empty (drawn_none (replicate 32 none) (same_everywhere none 32));
+      resources = let n = plan.draft.resources in let r = c.resources.ensures.value in omega (arith, n, r);
+      known = rw empty (search rules);
+      room =
+          let l = ap length empty in
+          let all = c.rooms_of.ensures.all in
+          let again = c.cores-2.ensures.value in
+          let ends = c.ticks-2.ensures.value in
+          let same : c.cores-2.result * c.ticks-2.result ≡ c.cores.result * c.ticks.result = ap (λ n. n * c.ticks-2.result) (again ∙ sym cores) ∙ ap (λ n. c.cores.result * n) (ends ∙ sym ticks) in
+          omega (arith, l, all, same, exact);
+      size = omega (arith, exact, few);
+    }

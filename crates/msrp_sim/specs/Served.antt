@@ -1,0 +1,69 @@
+-- Calls that are served first-in-first-out, and the tickets by which that is done.
+use Rattle.std.specs.Prelude.{ℕ, List, [], true, false, cond, nat_lt, Some, ◌==◌, ◌≡◌, ◌+◌, length, slice_get, slice_index_or}
+use Rattle.msrp_plan.specs.Plan.{PlanModel}
+use Rattle.msrp_plan.specs.FifoLock.{FifoLock, free_lock, IsAmong, IsFirst, Legal}
+use Rattle.msrp_plan.specs.LockStates.{lock_from}
+use Rattle.msrp_plan.specs.declared.units.Phase.{Phase}
+use Rattle.msrp_plan.specs.declared.units.Phase.TheVariants.{Free, Queued, Holding}
+use Rattle.msrp_core.specs.Ports.{PortModel, calls_on, claim_in}
+use Rattle.msrp_core.specs.declared.port.PortCall.{PortCall}
+
+-- the calls of each resource are answered as the one-thread lock answers them
+abbrev pub AreFifo : List PortCall → Type 0
+AreFifo calls = (g : ℕ) → Legal (calls_on g calls)
+
+-- the lock of a resource after these calls
+abbrev pub lock_after_calls : List PortCall → ℕ → FifoLock
+lock_after_calls calls g = lock_from free_lock (calls_on g calls)
+
+-- a port that serves requests in their order: the calls so far, how many more each core may make, by number, and the
+-- number of resources
+pub record FifoModel : Type 0 where
+  pub calls : List PortCall
+  pub rooms : List ℕ
+  pub resources : ℕ
+
+-- such a port as any port
+abbrev pub as_port : FifoModel → PortModel
+as_port p = record { calls = p.calls; rooms = λ c. slice_index_or p.rooms c 0; resources = p.resources }
+
+-- nothing was asked of it yet, and each core of the plan may make a call in each tick
+pub record IsFresh (plan : PlanModel) (port : FifoModel) : Type 0 where
+  pub calls : port.calls ≡ []
+  pub rooms : (c : ℕ) → (as_port port).rooms c ≡ cond (nat_lt c plan.cores) plan.ticks 0
+  pub resources : port.resources ≡ length plan.resources
+
+-- how a core stands to one resource
+pub data Stance : Type 0 where
+  Out : Stance
+  Waits : Stance
+  Holds : Stance
+
+-- what a lock says of such a core: it stands in no queue; it stands in the queue, and is not yet granted where it is
+-- first; it is first and granted
+abbrev pub IsStance : FifoLock → ℕ → Stance → Type 0
+IsStance lock c Out = ¬ IsAmong lock.queue c
+IsStance lock c Waits = IsAmong lock.queue c × (IsFirst lock.queue c → lock.granted ≡ false)
+IsStance lock c Holds = IsFirst lock.queue c × (lock.granted ≡ true)
+
+-- how a core of this claim stands to a resource
+abbrev pub stance_of : ℕ → Phase → Stance
+stance_of g Free = Out
+stance_of g (Queued h) = cond (h.0 == g) Waits Out
+stance_of g (Holding h) = cond (h.0 == g) Holds Out
+
+-- what a core holds or awaits is what the locks say of it
+abbrev pub IsClaim : (ℕ → FifoLock) → ℕ → Phase → Type 0
+IsClaim locks c claim = (g : ℕ) → IsStance (locks g) c (stance_of g claim)
+
+-- a resource's tickets go out in the order of requests: the next one is as far ahead of the one that is served as the
+-- queue is long, and whoever stands at a place of the queue has the ticket of that place
+pub record IsTicketed (queue : List ℕ) (next serving : ℕ) (ticket : ℕ → ℕ) : Type 0 where
+  pub size : next ≡ serving + length queue
+  pub place : (i c : ℕ) → slice_get queue i ≡ Some c → ticket c ≡ serving + i
+
+-- the calls so far, and how the tickets stand
+pub record IsServed (calls : List PortCall) (next serving ticket : ℕ → ℕ) : Type 0 where
+  pub fifo : AreFifo calls
+  pub claims : (c : ℕ) → IsClaim (lock_after_calls calls) c (claim_in c calls)
+  pub tickets : (g : ℕ) → IsTicketed (lock_after_calls calls g).queue (next g) (serving g) ticket

@@ -1,0 +1,151 @@
+//! A port that serves requests in their order.
+ghost use Rattle.std.specs.Prelude.{ℕ, ◌*◌, ◌≤◌, cond, nat_lt, sum_by, ◌≡◌, ◌<◌, ◌+◌, ◌++◌, ◌∷◌, [], length, slice_index_or, slice_set, vec_len, vec_capacity, ◌-◌};
+
+use msrp_core::{Port, PortCall, Reply};
+use msrp_plan::limits::{MOST_CORES, MOST_RESOURCES};
+use msrp_plan::{Call, CoreId, Memory, Plan, ResId};
+use std::alloc::Global;
+use std::marker::Model;
+
+// The tickets of a resource: a request draws the next one, and the core with the one that is served holds the
+// resource, or does so at its next poll. A release serves the one after.
+#[derive(Clone, Copy)]
+struct Tickets {
+    next: u32,
+    serving: u32,
+}
+
+/// A port that answers the calls of each resource as a first-in-first-out lock.
+#[derive(Drop)]
+pub struct FifoPort {
+    resources: u32,
+    queues: [Tickets; MOST_RESOURCES],
+    // The newest ticket of each core.
+    tickets: [u32; MOST_CORES as usize],
+    rooms: [u32; MOST_CORES as usize],
+    calls: Vec<PortCall>,
+}
+
+impl Model for FifoPort {
+    ghost use Rattle.msrp_sim.specs.Served.{FifoModel};
+
+    ghost Value = { FifoModel };
+
+    ghost use Rattle.msrp_sim.specs.FifoView.{fifo_view, IsFifoView};
+
+    ghost view = { fifo_view };
+
+    ghost invariant = { IsFifoView };
+}
+
+// Writes a call down, which takes one of its core's room.
+fn write(calls: &mut Vec<PortCall>, rooms: &mut [u32], call: PortCall)
+    requires core { call.core.0 < length rooms.old }
+    requires left { 0 < slice_index_or rooms.old call.core.0 0 }
+    requires room { vec_len calls.old < vec_capacity calls.old }
+    ensures calls { calls.new.items ≡ calls.old.items ++ call ∷ [] }
+    ensures room { vec_capacity calls.new ≡ vec_capacity calls.old }
+    ensures rooms { rooms.new ≡ slice_set rooms.old call.core.0 (slice_index_or rooms.old call.core.0 0 - 1) }
+{
+    rooms[call.core.0 as usize] -= 1;
+    calls.push_reserved(call);
+}
+
+// So many calls for each of the first cores, and none for any other.
+fn rooms_of(cores: u32, ticks: u32) -> [u32; MOST_CORES as usize]
+    requires { cores ≤ 8 }
+    ensures rooms { (c : ℕ) → slice_index_or result c 0 ≡ cond (nat_lt c cores) ticks 0 }
+    ensures all { sum_by (λ n. n) result ≡ cores * ticks }
+{
+    let mut rooms = [0; MOST_CORES as usize];
+    for core in 0..cores as usize {
+        rooms[core] = ticks;
+    }
+    rooms
+}
+
+impl FifoPort {
+    ghost use Rattle.std.specs.Prelude.{IfOk};
+    ghost use Rattle.msrp_sim.specs.Served.{AreFifo, IsFresh};
+
+    /// A port of which nothing was asked yet, where each core of the plan may make a call in each tick. All memory
+    /// that it ever needs is taken here: it is [`Memory`] only where that was refused.
+    pub fn with_room(alloc: Global, plan: &Plan) -> Result<FifoPort, Memory>
+        ensures { IfOk result (IsFresh plan.now) }
+    {
+        let none = Tickets {
+            next: 0,
+            serving: 0,
+        };
+        let room = plan.cores() as usize * plan.ticks() as usize;
+        Ok(FifoPort {
+            resources: plan.resources(),
+            queues: [none; MOST_RESOURCES],
+            tickets: [0; MOST_CORES as usize],
+            rooms: rooms_of(plan.cores(), plan.ticks()),
+            calls: Vec::with_capacity(alloc, room).map_err(|_| Memory)?,
+        })
+    }
+
+    /// The calls so far: those of each resource are answered as the one-thread lock answers them.
+    pub fn calls(&self) -> &[PortCall]
+        ensures value { result.now ≡ self.now.calls }
+        ensures fifo { AreFifo result.now }
+    {
+        self.calls.as_slice()
+    }
+}
+
+impl Port for FifoPort {
+    ghost use Rattle.msrp_sim.specs.Served.{as_port};
+
+    ghost port = { as_port };
+
+    fn ask(&mut self, core: CoreId, res: ResId) -> Reply {
+        let queue = &mut self.queues[res.0 as usize];
+        let ticket = queue.next;
+        let ahead = ticket - queue.serving;
+        queue.next += 1;
+        self.tickets[core.0 as usize] = ticket;
+        let call = Call::Ask(ahead);
+        write(
+            &mut self.calls,
+            &mut self.rooms,
+            PortCall { core, res, call },
+        );
+        if ahead == 0 {
+            Reply::Taken
+        } else {
+            Reply::Queued(ahead)
+        }
+    }
+
+    fn poll(&mut self, core: CoreId, res: ResId) -> bool {
+        let granted = self.tickets[core.0 as usize] == self.queues[res.0 as usize].serving;
+        let call = Call::Poll(granted);
+        write(
+            &mut self.calls,
+            &mut self.rooms,
+            PortCall { core, res, call },
+        );
+        granted
+    }
+
+    fn leave(&mut self, core: CoreId, res: ResId) {
+        self.queues[res.0 as usize].serving += 1;
+        let call = Call::Leave;
+        write(
+            &mut self.calls,
+            &mut self.rooms,
+            PortCall { core, res, call },
+        );
+    }
+
+    fn room(&self, core: CoreId) -> u32 {
+        self.rooms.get(core.0 as usize).copied().unwrap_or(0)
+    }
+
+    fn resources(&self) -> u32 {
+        self.resources
+    }
+}

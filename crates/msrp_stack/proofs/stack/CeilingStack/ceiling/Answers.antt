@@ -1,0 +1,13 @@
+use Rattle.std.proofs.Common.{◌≡◌, reverse, subst, sym}
+use Rattle.msrp_stack.specs.Stack.{current_ceiling, is_held}
+use Rattle.msrp_stack.specs.Layers.{layers_of}
+use Rattle.msrp_stack.specs.StackView.{started_of}
+use Rattle.msrp_stack.proofs.Layers.{layers_ceiling, held_in_layers}
+use Rattle.msrp_stack.proofs.stack.CeilingStack.ceiling.Goals as goal
+
+-- src/stacks.rt:80:5
+pub returns : goal.returns
+returns c =
+    let items = c.self.inside.started.items in
+    subst (λ s. c.self.inside.ceiling ≡ current_ceiling s) c.self.view_is
+    (layers_ceiling c.self.inside.plan.now c.self.inside.core.0 (layers_of items) c.self.inside.ceiling (is_held (started_of items)) c.self.invariant.layers (held_in_layers (reverse items)))

@@ -1,0 +1,9 @@
+use Rattle.std.proofs.Common.{◌≡◌, subst}
+use Rattle.msrp_stack.specs.Stack.{top, newest}
+use Rattle.msrp_stack.specs.StackView.{started_of}
+use Rattle.msrp_stack.proofs.Tops.{newest_first}
+use Rattle.msrp_stack.proofs.stack.CeilingStack.newest.Goals as goal
+
+pub returns-clause-first : goal.returns-clause-first
+returns-clause-first c =
+    subst (λ s. newest s.started ≡ top s) c.self.view_is (newest_first c.self.inside.plan.now c.self.inside.core.0 (started_of c.self.inside.started.items) c.self.invariant.known c.self.invariant.falling)

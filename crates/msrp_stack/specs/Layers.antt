@@ -1,0 +1,17 @@
+-- The ceiling as it rises from one held resource to the next.
+use Rattle.std.specs.Prelude.{ℕ, List, [], ◌∷◌, max, reverse, length, ◌≡◌, ◌<◌}
+use Rattle.std.specs.List.{flat_map}
+use Rattle.msrp_plan.specs.Plan.{PlanModel}
+use Rattle.msrp_levels.specs.Users.{ceiling_at}
+use Rattle.msrp_stack.specs.declared.stack.Held.{Held}
+use Rattle.msrp_stack.specs.declared.stack.Started.{Started}
+
+-- held resources, the newest first: the current ceiling is the resource's or the one from before, whichever is greater; it is 0
+-- where nothing is held
+abbrev pub Layers : PlanModel → ℕ → ℕ → List Held → Type 0
+Layers plan c current [] = current ≡ 0
+Layers plan c current (h ∷ hs) = (h.res.0 < length plan.resources) × (current ≡ max (ceiling_at plan h.res.0 c) h.before) × Layers plan c h.before hs
+
+-- all that the started jobs hold, the newest first
+abbrev pub layers_of : List Started → List Held
+layers_of items = flat_map (λ s. reverse s.held.items) (reverse items)

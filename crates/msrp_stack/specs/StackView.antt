@@ -1,0 +1,39 @@
+-- What a clause sees of a stack, and what its fields keep.
+use Rattle.std.specs.Prelude.{ℕ, List, [], ◌∷◌, map, reverse, length, slice_index_or, vec_capacity, ◌≡◌, ◌<◌, ◌≤◌, ⊤}
+use Rattle.std.specs.List.{AllByRecursion, Contains}
+use Rattle.msrp_plan.specs.Plan.{PlanModel}
+use Rattle.msrp_plan.specs.Jobs.{jobs_on}
+use Rattle.msrp_plan.specs.WellFormed.{IsPlan}
+use Rattle.msrp_stack.specs.Stack.{StartedJob, StackModel, ComesFirst}
+use Rattle.msrp_levels.specs.Users.{ceiling_at}
+use Rattle.msrp_stack.specs.Layers.{Layers, layers_of}
+use Rattle.msrp_stack.specs.declared.stack.Started.{Started}
+use Rattle.msrp_stack.specs.declared.stack.CeilingStack.TheInside.{Inside}
+
+abbrev pub started_view : Started → StartedJob
+started_view s = record { job = s.job; held = map (λ h. h.res.0) (reverse s.held.items) }
+
+abbrev pub started_of : List Started → List StartedJob
+started_of items = map started_view (reverse items)
+
+-- each started job comes before those that were started earlier
+abbrev pub IsFalling : PlanModel → List StartedJob → Type 0
+IsFalling plan [] = ⊤
+IsFalling plan (s ∷ below) = ComesFirst plan below s.job × IsFalling plan below
+
+-- the ceilings are those of the plan's resources at the core, the current one is that of what is held, and the started jobs are
+-- jobs of the core in falling order of key, for each of which there is room
+pub record IsStack (plan : PlanModel) (core : ℕ) (ceilings : List ℕ) (items : List Started) (room current : ℕ) : Type 0 where
+  pub accepted : IsPlan plan
+  pub size : length ceilings ≡ 32
+  pub told : (g : ℕ) → g < length plan.resources → slice_index_or ceilings g 0 ≡ ceiling_at plan g core
+  pub layers : Layers plan core current (layers_of items)
+  pub known : AllByRecursion (λ s. Contains (jobs_on plan core) s.job) (started_of items)
+  pub falling : IsFalling plan (started_of items)
+  pub fits : length (jobs_on plan core) ≤ room
+
+abbrev pub stack_view : Inside → StackModel
+stack_view stack = record { plan = stack.plan.now; core = stack.core.0; started = started_of stack.started.items }
+
+abbrev pub IsStackView : Inside → Type 0
+IsStackView stack = IsStack stack.plan.now stack.core.0 stack.ceilings stack.started.items (vec_capacity stack.started) stack.ceiling
