@@ -12,7 +12,7 @@ mod faults;
 mod tests;
 
 use cli::{Cmd, TurnOrder, command_of, help_text};
-use engine::sim_text;
+use engine::{plan_text, sim_text};
 use faults::{CliFault, exit_of};
 use msrp_plan::bytes::{Sink, Source};
 use std::fs::File;
@@ -72,6 +72,10 @@ fn run(rt: &HostRuntime) -> Result<u8, CliFault> {
         } => {
             let mut source = Source::new(open(rt, plan)?);
             sim_text(alloc, &mut source, &mut out)
+        }
+        Cmd::CheckText { plan } => {
+            let mut source = Source::new(open(rt, plan)?);
+            plan_text(alloc, &mut source, &mut out)
         }
         _ => Err(CliFault::Usage),
     }

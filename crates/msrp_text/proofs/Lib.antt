@@ -4,3 +4,4 @@ pub mod Texts
 pub mod Judging
 pub mod Folding
 pub mod Firsts
+pub mod Written
