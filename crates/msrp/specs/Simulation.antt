@@ -11,7 +11,8 @@ use Rattle.msrp_plan.specs.declared.faults.PlanFault.TheVariants.{OutOfPlace}
 use Rattle.msrp_text.specs.PlanText.{plan_text}
 use Rattle.msrp_text.specs.declared.reading.TextError.{TextError}
 use Rattle.msrp_text.specs.declared.reading.TextError.TheVariants.{At}
-use Rattle.msrp.specs.TraceText.{trace_text}
+use Rattle.msrp_plan.specs.declared.rows.TextVersion.TheVariants.{V1}
+use Rattle.msrp_trace.specs.TraceText.{trace_text}
 use Rattle.msrp.specs.Outcomes.{fault_of}
 use Rattle.msrp.specs.declared.faults.CliFault.{CliFault}
 use Rattle.msrp.specs.declared.faults.CliFault.TheVariants.{Write}
@@ -21,7 +22,7 @@ pub record WritesRun {W : Type 0} (contents : W → Option (List ℕ)) (plan : P
   pub rows : List Row
   pub run : IsRun plan rows
   pub order : core_order rows ≡ ascending plan.cores plan.ticks
-  pub text : Wrote contents old new (trace_text plan rows)
+  pub text : Wrote contents old new (trace_text V1 plan rows)
 
 -- 0 where the sink took it all, a write fault where it failed
 abbrev pub sim_status : {W : Type 0} → Sink W → Result ℕ CliFault

@@ -9,11 +9,11 @@ ghost use Rattle.msrp.specs.Turns.{HaveRun};
 
 use crate::cores::{machines_of, write_tick};
 use crate::faults::CliFault;
-use crate::trace::TraceWriter;
 use msrp_core::Machine;
 use msrp_plan::bytes::{Sink, Source};
-use msrp_plan::{Plan, PlanFault, WriteFault};
+use msrp_plan::{Plan, PlanFault, TextVersion, WriteFault};
 use msrp_text::{TextError, read_plan, write_plan};
+use msrp_trace::TraceWriter;
 use std::alloc::Global;
 use std::io::{Read, Write};
 
@@ -30,7 +30,7 @@ fn write_run<W: Write>(
     ensures fault { OnErr result (sink_failed out.new ≡ true) }
 {
     let mut text = TraceWriter::new();
-    text.head(out, plan);
+    text.head(out, plan, TextVersion::V1);
     for _tick in 0..plan.ticks() {
         write_tick(plan, machines, &mut text, out);
     }

@@ -10,7 +10,6 @@ mod engine;
 mod faults;
 #[cfg(test)]
 mod tests;
-mod trace;
 
 use cli::{Cmd, TurnOrder, command_of, help_text};
 use engine::{plan_text, sim_text};

@@ -1,4 +1,5 @@
 pub mod Ports
+pub mod Going
 pub mod Progress
 pub mod Machine
 pub mod MachineView
