@@ -1,5 +1,5 @@
 -- What a simulation of a plan writes and answers.
-use Rattle.std.specs.Prelude.{◌≡◌, ℕ, List, cond, Option, Ok, Err}
+use Rattle.std.specs.Prelude.{◌≡◌, ◌==◌, ℕ, List, length, cond, Option, Ok, Err}
 use Rattle.std.specs.declared.result.Result.{Result}
 use Rattle.msrp_plan.specs.Plan.{PlanModel}
 use Rattle.msrp_plan.specs.Runs.{IsRun}
@@ -7,7 +7,9 @@ use Rattle.msrp_plan.specs.Logs.{ascending, core_order}
 use Rattle.msrp_plan.specs.Bytes.{Wrote, sink_failed}
 use Rattle.msrp_plan.specs.declared.rows.Row.{Row}
 use Rattle.msrp_plan.specs.declared.bytes.Sink.{Sink}
+use Rattle.msrp_plan.specs.declared.faults.PlanFault.TheVariants.{OutOfPlace}
 use Rattle.msrp_text.specs.declared.reading.TextError.{TextError}
+use Rattle.msrp_text.specs.declared.reading.TextError.TheVariants.{At}
 use Rattle.msrp.specs.TraceText.{trace_text}
 use Rattle.msrp.specs.Outcomes.{fault_of}
 use Rattle.msrp.specs.declared.faults.CliFault.{CliFault}
@@ -23,6 +25,11 @@ pub record WritesRun {W : Type 0} (contents : W → Option (List ℕ)) (plan : P
 -- 0 where the sink took it all, a write fault where it failed
 abbrev pub sim_status : {W : Type 0} → Sink W → Result ℕ CliFault
 sim_status new = cond (sink_failed new) (Err Write) (Ok 0)
+
+-- for now a plan with resources is refused, at the record that declares the first
+abbrev pub work_alone : Result PlanModel TextError → Result PlanModel TextError
+work_alone (Err error) = Err error
+work_alone (Ok plan) = cond (length plan.resources == 0) (Ok plan) (Err (At OutOfPlace 4))
 
 -- the answer to a text that stands for a plan, or to one that is refused: then nothing is written
 abbrev pub SimAnswers : {W : Type 0} → (W → Option (List ℕ)) → Result PlanModel TextError → Sink W → Sink W → Result ℕ CliFault → Type 0

@@ -2,9 +2,9 @@
 
 ghost use Rattle.std.specs.Prelude.{◌≡◌, ◌⊎◌, ℕ, List, [], true, false, Some, Err, IfOk, IfErr, OnOk, OnErr};
 ghost use Rattle.msrp_plan.specs.Bytes.{sink_failed, source_failed, source_remaining};
-ghost use Rattle.msrp_text.specs.Reading.{csv_records, plan_of};
+ghost use Rattle.msrp_text.specs.Reading.{Answers, csv_records, plan_of};
 ghost use Rattle.msrp.specs.Outcomes.{is_sim_fault};
-ghost use Rattle.msrp.specs.Simulation.{SimAnswers, WritesRun};
+ghost use Rattle.msrp.specs.Simulation.{SimAnswers, WritesRun, work_alone};
 ghost use Rattle.msrp.specs.Turns.{HaveRun};
 
 use crate::cores::{machines_of, write_tick};
@@ -12,8 +12,8 @@ use crate::faults::CliFault;
 use crate::trace::TraceWriter;
 use msrp_core::Machine;
 use msrp_plan::bytes::{Sink, Source};
-use msrp_plan::{Plan, WriteFault};
-use msrp_text::read_plan;
+use msrp_plan::{Plan, PlanFault, WriteFault};
+use msrp_text::{TextError, read_plan};
 use std::alloc::Global;
 use std::io::{Read, Write};
 
@@ -37,6 +37,22 @@ fn write_run<W: Write>(
     text.finish(out)
 }
 
+// The plan of a text. For now a plan with resources is refused: the machines have no locks yet.
+fn read_work<P: Read>(alloc: Global, source: &mut Source<P>) -> Result<Plan, TextError>
+    ensures answer { (bytes : List ℕ) → source_remaining P.remaining source.old ≡ Some bytes → Answers result (work_alone (plan_of (csv_records bytes))) }
+    ensures faults { result ≡ Err TextError.Read → source_failed source.new ≡ true }
+    ensures work { IfOk result (λ plan. plan.resources ≡ []) }
+{
+    let plan = read_plan(alloc, source)?;
+    if plan.resources() != 0 {
+        return Err(TextError::At {
+            fault: PlanFault::OutOfPlace,
+            number: 4,
+        });
+    }
+    Ok(plan)
+}
+
 /// Reads a plan, and writes the trace of its run in which the cores have their turns in rising order.
 ///
 /// The whole plan is read before anything is written, and all memory is taken before: so whatever the fault, but a write
@@ -49,7 +65,7 @@ pub fn sim_text<P: Read, W: Write>(
     // Where the reader tells its bytes, and no read failed and no memory was refused, the answer is that to
     // the plan that they stand for.
     ensures answer { (bytes : List ℕ) → source_remaining P.remaining plan.old ≡ Some bytes
-        → (result ≡ Err CliFault.Read) ⊎ (result ≡ Err CliFault.Memory) ⊎ SimAnswers W.contents (plan_of (csv_records bytes)) out.old out.new result }
+        → (result ≡ Err CliFault.Read) ⊎ (result ≡ Err CliFault.Memory) ⊎ SimAnswers W.contents (work_alone (plan_of (csv_records bytes))) out.old out.new result }
 
     // Whatever the reader tells.
     ensures good { IfOk result (λ status. (status ≡ 0) × (sink_failed out.new ≡ false)) }
@@ -58,7 +74,7 @@ pub fn sim_text<P: Read, W: Write>(
     ensures write { result ≡ Err CliFault.Write → sink_failed out.new ≡ true }
     ensures silent { IfErr result (λ fault. (fault ≡ CliFault.Write) ⊎ (out.new ≡ out.old)) }
 {
-    let plan = read_plan(alloc, plan)?;
+    let plan = read_work(alloc, plan)?;
     let mut machines = machines_of(alloc, &plan)?;
     write_run(&plan, machines.as_mut_slice(), out)?;
     Ok(0)

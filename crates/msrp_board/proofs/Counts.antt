@@ -9,7 +9,7 @@ use Rattle.msrp_plan.specs.declared.units.Call.TheVariants.{Ask, Poll, Leave}
 use Rattle.msrp_board.specs.declared.books.Entry.{Entry}
 use Rattle.msrp_board.specs.declared.pages.Page.{Page}
 use Rattle.msrp_board.specs.Books.{on}
-use Rattle.msrp_board.specs.Inside.Newest.{turn_of, claim_with_call, claim_of, IsClaimInTurn, IsRegularNewest, TicksNewest}
+use Rattle.msrp_board.specs.Inside.Newest.{ticket_at, ticket_of, claim_with_call, claim_of, IsClaimInTurn, IsRegularNewest, TicksNewest}
 use Rattle.msrp_board.specs.Inside.Rule.{entry_count, page_with, arrivals}
 use Rattle.msrp_board.specs.declared.held.Claim.{Claim}
 use Rattle.msrp_board.specs.declared.held.Claim.TheVariants.{Nothing, Waits, Holds}
@@ -30,20 +30,20 @@ pick_same r g l e = ap (λ b. pick b l) (eq-eqb r g e)
 pick_other : (r g : ℕ) (l : Claim) → r ≢ g → pick (eqb r g) l ≡ Nothing
 pick_other r g l e = ap (λ b. pick b l) (ne_eqb r g e)
 
-turn_at : (l : Claim) (r g t : ℕ) → r ≡ g → l ≡ Waits r t → turn_of (at g l) ≡ turn_of l
-turn_at l r g t e q = ap (λ x. turn_of (at g x)) q ∙ ap turn_of (pick_same r g (Waits r t) e) ∙ ap turn_of (sym q)
+ticket_at_same : (l : Claim) (r g t : ℕ) → r ≡ g → l ≡ Waits r t → ticket_of (at g l) ≡ ticket_of l
+ticket_at_same l r g t e q = ap (λ x. ticket_of (at g x)) q ∙ ap ticket_of (pick_same r g (Waits r t) e) ∙ ap ticket_of (sym q)
 
 same_after : (l m : Claim) (g r p : ℕ) (k : Call) → r ≡ g → m ≡ at g l → IsClaimInTurn l r k → claim_with_call m r p k ≡ at g (claim_with_call l r p k)
-same_after l m g r p (Ask zero) e is ok = sym (pick_same r g (Holds r p) e)
-same_after l m g r p (Ask (suc a)) e is ok = sym (pick_same r g (Waits r (p + suc a)) e)
-same_after l m g r p (Poll true) e is ok = ap (Holds r) (ap turn_of is ∙ turn_at l r g ok.0 e ok.1) ∙ sym (pick_same r g (Holds r (turn_of l)) e)
+same_after l m g r p (Ask zero) e is ok = sym (pick_same r g (Holds r (ticket_at p 0)) e)
+same_after l m g r p (Ask (suc a)) e is ok = sym (pick_same r g (Waits r (ticket_at p (suc a))) e)
+same_after l m g r p (Poll true) e is ok = ap (Holds r) (ap ticket_of is ∙ ticket_at_same l r g ok.0 e ok.1) ∙ sym (pick_same r g (Holds r (ticket_of l)) e)
 same_after l m g r p (Poll false) e is ok = is
 same_after l m g r p Leave e is ok = refl
 
 other_after : (l m : Claim) (g r p : ℕ) (k : Call) → r ≢ g → m ≡ at g l → IsClaimInTurn l r k → m ≡ at g (claim_with_call l r p k)
-other_after l m g r p (Ask zero) e is ok = is ∙ ap (at g) ok ∙ sym (pick_other r g (Holds r p) e)
-other_after l m g r p (Ask (suc a)) e is ok = is ∙ ap (at g) ok ∙ sym (pick_other r g (Waits r (p + suc a)) e)
-other_after l m g r p (Poll true) e is ok = is ∙ ap (at g) ok.1 ∙ pick_other r g (Waits r ok.0) e ∙ sym (pick_other r g (Holds r (turn_of l)) e)
+other_after l m g r p (Ask zero) e is ok = is ∙ ap (at g) ok ∙ sym (pick_other r g (Holds r (ticket_at p 0)) e)
+other_after l m g r p (Ask (suc a)) e is ok = is ∙ ap (at g) ok ∙ sym (pick_other r g (Waits r (ticket_at p (suc a))) e)
+other_after l m g r p (Poll true) e is ok = is ∙ ap (at g) ok.1 ∙ pick_other r g (Waits r ok.0) e ∙ sym (pick_other r g (Holds r (ticket_of l)) e)
 other_after l m g r p (Poll false) e is ok = is
 other_after l m g r p Leave e is ok = is ∙ ap (at g) ok.1 ∙ pick_other r g (Holds r ok.0) e
 

@@ -17,7 +17,6 @@ use Rattle.msrp_board.specs.declared.books.Book.{Book}
 use Rattle.msrp_board.specs.declared.books.BoardSize.{BoardSize}
 use Rattle.msrp_board.specs.declared.books.Conductor.{Conductor}
 use Rattle.msrp_board.specs.declared.books.Conductor.TheVariants.{Unopened, Opened, Aborted}
-use Rattle.msrp_board.specs.declared.books.Entry.{Entry}
 use Rattle.msrp_board.specs.declared.pages.Page.{Page}
 use Rattle.msrp_board.specs.declared.pages.View.{View}
 use Rattle.msrp_board.specs.Books.{IsSize, on, IsKept, reach as book_reach}
@@ -27,20 +26,16 @@ use Rattle.msrp_board.specs.Boards.{WholeBoard, IsTied, high, low, entries_at, o
 use Rattle.msrp_board.specs.Inside.Rule.{empty_page, HasPage, Ruled, IsServedNewest, IsKeptNewest, IsTiedNewest, Gathered, page_reach, arrivals, entry_count}
 use Rattle.msrp_board.specs.Inside.Held.{told, seen_as, page_at, settled_as, IsWhole}
 use Rattle.msrp_board.proofs.Sharing.{at_length}
-use Rattle.msrp_board.proofs.Ties.{get_or_at, has_page, page_has, page_or_none}
+use Rattle.msrp_board.proofs.CoreStates.{get_or_at, has_page, page_has, page_or_none}
 use Rattle.msrp_board.proofs.Counts.{total_bound, ticks_length}
-use Rattle.msrp_board.proofs.Calls.{steps_length, split_word}
-use Rattle.msrp_board.proofs.Meeting.{arrivals_bound, reach_high}
+use Rattle.msrp_board.proofs.TicketSteps.{steps_length, split_word}
+use Rattle.msrp_board.proofs.BarrierSteps.{arrivals_bound, reach_high}
 use Rattle.msrp_board.proofs.Reversed.{history_reversed, legal_reversed, requests_reversed, releases_reversed, rising_reversed}
 use Rattle.msrp_board.proofs.Kept.{kept_told}
 use Rattle.msrp_board.proofs.Told.{shown}
 use Rattle.msrp_board.proofs.Seats.{named}
 
 -- ---- the rule of the last state
-
-has_some : (o : Option Book) → is_some o ≡ true → (b : Book) × (o ≡ Some b)
-has_some None e = absurd (true≢false (sym e))
-has_some (Some b) e = (b, refl)
 
 page_of_some : (o : Option Page) → is_some (option_map told o) ≡ true → (b : Page) × (o ≡ Some b)
 page_of_some None e = absurd (true≢false (sym e))
@@ -65,15 +60,23 @@ whole key board seat id v ws xs out is seen has_all same end =
     let all = all_pages board v seat seen has_all in
     let s = end.0 in
     let r : Ruled z s = subst (λ k. Ruled k s) is end.1.0 in
-    let has : (c : ℕ) (b : Page) → HasPage v c b → get_elem? r.0 c ≡ some b = λ c b h. r.2.0 id c b (v, end.1.1, h) in
+    let has : (c : ℕ) (b : Page) → HasPage v c b → get_elem? r.pages c ≡ some b = λ c b h. r.shared.true_of id c b (v, end.1.1, h) in
     let o = all.1.0 in
-    let is : r.1 ≡ o = (r.3.0 id 0 o (v, end.1.1, (refl, all.1.1))).1 in (
-      r.0,
-      has,
-      (λ c b e. let l = at_length r.0 c b e in let n = r.4.0 in let h = all.0 c (omega (arith, l, n)) in
-          subst (HasPage v c) (some-injective h.0 b (sym (has c h.0 h.1) ∙ e)) h.1),
-      (o, all.1.1, (r.4.0, (λ g in_g. subst (λ k. IsServedNewest g k r.0) (ap (λ l. slice_index l g) end.2 ∙ sym (same g (omega (arith, in_g)))) (r.4.1 g in_g)), r.4.2, subst (λ k. Gathered k r.0 o) (ap (λ l. slice_index l z.resources) end.2 ∙ sym (same z.resources (omega arith))) (subst (Gathered (slice_index s.words z.resources) r.0) is r.4.3))),
-    )
+    let is : r.conductor ≡ o = (r.shared_conductor.true_of id 0 o (v, end.1.1, (refl, all.1.1))).1 in
+    record {
+      pages = r.pages;
+      conductor = o;
+      known = has;
+      all = λ c b e. let l = at_length r.pages c b e in let n = r.tied.cores in let h = all.0 c (omega (arith, l, n)) in
+          subst (HasPage v c) (some-injective h.0 b (sym (has c h.0 h.1) ∙ e)) h.1;
+      conducts = all.1.1;
+      tied = record {
+        cores = r.tied.cores;
+        served = λ g in_g. subst (λ k. IsServedNewest g k r.pages) (ap (λ l. slice_index l g) end.2 ∙ sym (same g (omega (arith, in_g)))) (r.tied.served g in_g);
+        kept = r.tied.kept;
+        gathered = subst (λ k. Gathered k r.pages o) (ap (λ l. slice_index l z.resources) end.2 ∙ sym (same z.resources (omega arith))) (subst (Gathered (slice_index s.words z.resources) r.pages) is r.tied.gathered);
+      };
+    }
 
 pub copied : (out ws : List ℕ) (g m x : ℕ) → m ≡ suc g → g < length out → get_elem? ws g ≡ some x → ((d : ℕ) → d < g → slice_index out d ≡ slice_index ws d) → (d : ℕ) → d < m → slice_index (set out g x) d ≡ slice_index ws d
 copied out ws g m x is low at old d h = dite (ℕ_discrete d g)
@@ -88,9 +91,6 @@ none_here c b e = some-ne-none b (sym e)
 no_page : (b : Page) → some None ≡ some (Some b) → ⊥
 no_page b e = absurd (cc)
 
-same_page : (a b : Page) → some (Some a) ≡ some (Some b) → some a ≡ some b
-same_page a b e = cc
-
 collected : (l : List (Option Page)) (pages : List Page) → ((c : ℕ) (b : Page) → get_elem? l c ≡ some (Some b) → get_elem? pages c ≡ some b) → ((c : ℕ) (b : Page) → get_elem? pages c ≡ some b → get_elem? l c ≡ some (Some b))
     → filter_map (λ book. book) (map (option_map told) l) ≡ map told pages
 collected [] [] to back = refl
@@ -101,12 +101,12 @@ collected (Some b ∷ xs) [] to back = absurd (none_here 0 b (to 0 b refl))
 collected (Some b ∷ xs) (p ∷ ps) to back = ap (λ (x : Page). told x ∷ filter_map (λ book. book) (map (option_map told) xs)) (sym (some-injective p b (to 0 b refl)))
     ∙ ap (λ l. told p ∷ l) (collected xs ps (λ c a h. to (suc c) a h) (λ c a h. back (suc c) a h))
 
-book_of_page : (pages : List Page) (c : ℕ) (b : Page) → get_elem? pages c ≡ some b → slice_get (map told pages) c ≡ Some (told b)
+pub book_of_page : (pages : List Page) (c : ℕ) (b : Page) → get_elem? pages c ≡ some b → slice_get (map told pages) c ≡ Some (told b)
 book_of_page [] c b e = absurd (none_here c b e)
 book_of_page (x ∷ xs) zero b e = ap (λ (p : Page). Some (told p)) (some-injective x b e)
 book_of_page (x ∷ xs) (suc c) b e = book_of_page xs c b e
 
-page_of_book : (pages : List Page) (c : ℕ) (a : Book) → slice_get (map told pages) c ≡ Some a → (b : Page) × (get_elem? pages c ≡ some b) × (told b ≡ a)
+pub page_of_book : (pages : List Page) (c : ℕ) (a : Book) → slice_get (map told pages) c ≡ Some a → (b : Page) × (get_elem? pages c ≡ some b) × (told b ≡ a)
 page_of_book [] c a e = absurd (cc)
 page_of_book (x ∷ xs) zero a e = (x, refl, cc)
 page_of_book (x ∷ xs) (suc c) a e = page_of_book xs c a e
@@ -128,9 +128,6 @@ same_books l pages to back c = ⊎_elim
 
 -- ---- the rule, oldest first
 
-newest_at : List Page → ℕ → List Entry
-newest_at pages c = (slice_index_or pages c empty_page).newest
-
 page_within : (pages : List Page) (c : ℕ) → c < length pages → get_elem? pages c ≡ some (slice_index_or pages c empty_page)
 page_within [] c l = absurd (omega (arith, l))
 page_within (b ∷ bs) zero l = refl
@@ -148,20 +145,20 @@ entries_told (b ∷ bs) (suc c) = entries_told bs c
 
 served_seen : (g word : ℕ) (pages : List Page) → entry_count pages ≤ 160000 → IsServedNewest g word pages → (h : List Event) × IsServed (high word) (low word) g (entries_at (map told pages)) h
 served_seen g word pages small s =
-    let log = s.0 in
+    let log = s.log in
     let own : (c : ℕ) → by c log ≡ on g (slice_index_or pages c empty_page).newest = λ c. elim (cases_lt c (length pages)) [
-      | inl l ↦ s.1.0 c (slice_index_or pages c empty_page) (page_within pages c l)
-      | inr k ↦ s.1.1 c k ∙ ap (λ (b : Page). on g b.newest) (sym (page_past pages c k))
+      | inl l ↦ s.history.entries c (slice_index_or pages c empty_page) (page_within pages c l)
+      | inr k ↦ s.history.none_past c k ∙ ap (λ (b : Page). on g b.newest) (sym (page_past pages c k))
     ] in
-    let h = history_reversed g (λ c. (slice_index_or pages c empty_page).newest) log own s.1.2 s.6 in
-    let parts = split_word word log s.3 (let a = steps_length log in let b = s.4 in omega (arith, a, b, small)) in (
+    let h = history_reversed g (λ c. (slice_index_or pages c empty_page).newest) log own s.history.placed s.polls in
+    let parts = split_word word log s.counts (let a = steps_length log in let b = s.short in omega (arith, a, b, small)) in (
       reverse log,
       record {
         history = record { entries = λ c. h.entries c ∙ ap (on g) (entries_told pages c); placed = h.placed; polls = h.polls };
         requests = requests_reversed log ∙ sym parts.0;
         releases = releases_reversed log ∙ sym parts.1;
-        legal = legal_reversed log s.2;
-        rising = rising_reversed log s.5;
+        legal = legal_reversed log s.legal;
+        rising = rising_reversed log s.rising;
       },
     )
 
@@ -180,36 +177,37 @@ bit Unopened = omega arith
 bit Opened = omega arith
 bit Aborted = omega arith
 
--- with these pages
+-- a whole board of these words, books and conductor
+abbrev pub whole_of : BoardSize → List ℕ → List Book → Conductor → WholeBoard
+whole_of z words books o = record { size = z; tickets = take z.resources words; barrier = slice_index words z.resources; books = books; conductor = o }
+
+-- pages under the rule, told as books, are tied to the words
+pub tied_told : (z : BoardSize) (words : List ℕ) (pages : List Page) (o : Conductor) → IsSize z → z.resources ≤ length words → IsTiedNewest z words pages o → IsTied (whole_of z words (map told pages) o)
+tied_told z words pages o limits many tied =
+    let few = few_steps z pages tied.cores limits.cores.1 limits.ticks.1 tied.kept in
+    let gathered = tied.gathered in
+    let o_bit = bit o in
+    let some_arrivals = few.1 in
+    let small : arrivals pages + opening_count o < 4294967296 = omega (arith, o_bit, some_arrivals) in
+    record {
+      cores = length-map pages told ∙ tied.cores;
+      words = length-take-le z.resources words many;
+      limits = limits;
+      served = λ g in_g. subst (λ k. (h : List Event) × IsServed (high k) (low k) g (entries_at (map told pages)) h) (sym (get_or-take z.resources words g 0 in_g)) (served_seen g (slice_index words g) pages few.0 (tied.served g in_g));
+      kept = λ c b e. let r = page_of_book pages c b e in subst (IsKept z) r.2 (kept_told z r.0 (tied.kept c r.0 r.1));
+      arrivals = ap low gathered.counts ∙ mod-mul-add (abort_count o) 4294967296 (arrivals pages + opening_count o) small ∙ ap (λ n. n + opening_count o) (arrivals_told pages);
+      abort = ap high gathered.counts ∙ div-mul-add (abort_count o) 4294967296 (arrivals pages + opening_count o) small;
+      told = λ c b e off. let r = page_of_book pages c b e in gathered.told c r.0 r.1 (ap (λ (x : Book). x.stopped) r.2 ∙ off);
+      met = λ c t b e in_t. let r = page_of_book pages c b e in
+          let same : page_reach r.0 ≡ book_reach b = ap (λ (x : Book). book_reach x) r.2 in
+          let m = gathered.met c r.0 r.1 (omega (arith, in_t, same)) in
+          (m.0, λ d x f. let q = page_of_book pages d x f in let l = m.1 d q.0 q.1 in let tick = ap (λ (y : Book). y.tick) q.2 in omega (arith, l, in_t, same, tick));
+    }
+
 tied_with : (z : BoardSize) (words : List ℕ) (board : BoardModel) (v : View) (pages : List Page) (o : Conductor) → IsSize z → z.resources ≤ length words
     → filter_map (λ book. book) (map (option_map told) v.pages) ≡ map told pages → v.conductor ≡ Some o → IsTiedNewest z words pages o → IsTied (settled_as z words (seen_as board v))
 tied_with z words board v pages o limits many books opened tied =
-    subst (λ (l : List Book). IsTied (settled l (unwrap_or v.conductor Unopened))) (sym books) (subst (λ (x : Option Conductor). IsTied (settled (map told pages) (unwrap_or x Unopened))) (sym opened) all)
-  where
-    settled : List Book → Conductor → WholeBoard
-    settled l x = record { size = z; tickets = take z.resources words; barrier = slice_index words z.resources; books = l; conductor = x }
-
-    all : IsTied (settled (map told pages) o)
-    all =
-        let few = few_steps z pages tied.0 limits.cores.1 limits.ticks.1 tied.2 in
-        let gathered = tied.3 in
-        let o_bit = bit o in
-        let some_arrivals = few.1 in
-        let small : arrivals pages + opening_count o < 4294967296 = omega (arith, o_bit, some_arrivals) in
-        record {
-          cores = length-map pages told ∙ tied.0;
-          words = length-take-le z.resources words many;
-          limits = limits;
-          served = λ g in_g. subst (λ k. (h : List Event) × IsServed (high k) (low k) g (entries_at (map told pages)) h) (sym (get_or-take z.resources words g 0 in_g)) (served_seen g (slice_index words g) pages few.0 (tied.1 g in_g));
-          kept = λ c b e. let r = page_of_book pages c b e in subst (IsKept z) r.2 (kept_told z r.0 (tied.2 c r.0 r.1));
-          arrivals = ap low gathered.0 ∙ mod-mul-add (abort_count o) 4294967296 (arrivals pages + opening_count o) small ∙ ap (λ n. n + opening_count o) (arrivals_told pages);
-          abort = ap high gathered.0 ∙ div-mul-add (abort_count o) 4294967296 (arrivals pages + opening_count o) small;
-          told = λ c b e off. let r = page_of_book pages c b e in gathered.1 c r.0 r.1 (ap (λ (x : Book). x.stopped) r.2 ∙ off);
-          met = λ c t b e in_t. let r = page_of_book pages c b e in
-              let same : page_reach r.0 ≡ book_reach b = ap (λ (x : Book). book_reach x) r.2 in
-              let m = gathered.2 c r.0 r.1 (omega (arith, in_t, same)) in
-              (m.0, λ d x f. let q = page_of_book pages d x f in let l = m.1 d q.0 q.1 in let tick = ap (λ (y : Book). y.tick) q.2 in omega (arith, l, in_t, same, tick));
-        }
+    subst (λ (l : List Book). IsTied (whole_of z words l (unwrap_or v.conductor Unopened))) (sym books) (subst (λ (x : Option Conductor). IsTied (whole_of z words (map told pages) (unwrap_or x Unopened))) (sym opened) (tied_told z words pages o limits many tied))
 
 -- what a board that nobody uses any more is to its callers
 pub record Ends (z : BoardSize) (words : List ℕ) (seat : SeatModel) : Type 0 where
@@ -223,12 +221,11 @@ unwrapped (Some a) o e = refl
 
 pub ends : (z : BoardSize) (words : List ℕ) (board : BoardModel) (v : View) → IsSize z → z.resources ≤ length words → IsWhole z words v → Ends z words (seen_as board v)
 ends z words board v limits many w =
-    let pages = w.0 in
-    let books = collected v.pages pages w.1 w.2 in
+    let books = collected v.pages w.pages w.known w.all in
     record {
-      tied = tied_with z words board v pages w.3.0 limits many books w.3.1 w.3.2;
-      books = λ c. same_books v.pages pages w.1 w.2 c ∙ ap (λ (l : List Book). slice_get l c) (sym books);
-      conductor = unwrapped v.conductor w.3.0 w.3.1;
+      tied = tied_with z words board v w.pages w.conductor limits many books w.conducts w.tied;
+      books = λ c. same_books v.pages w.pages w.known w.all c ∙ ap (λ (l : List Book). slice_get l c) (sym books);
+      conductor = unwrapped v.conductor w.conductor w.conducts;
     }
 
 -- a board that is closed by a seat with all its books

@@ -1,23 +1,31 @@
+-- lists, read in the other direction, and what seats hold between them
+pub mod Lists
+pub mod Sharing
+-- the history of a resource
 pub mod Queue
 pub mod Counts
-pub mod Sharing
-pub mod Parting
 pub mod Sorted
-pub mod Calls
-pub mod Barrier
-pub mod Meeting
-pub mod Conducting
-pub mod Ties
-pub mod Ticks
-pub mod Kept
-pub mod Entering
-pub mod Lists
 pub mod Reversed
 pub mod Unique
-pub mod End
-pub mod CoreSeats
-pub mod SeatBooks
+-- what a seat keeps of its cores, and what it tells
+pub mod CoreStates
+pub mod ArrivedState
+pub mod Kept
 pub mod Told
 pub mod Seats
-pub mod Parts
+pub mod SeatParts
+pub mod Entering
+-- each step keeps the rule
 pub mod Start
+pub mod TicketSteps
+pub mod Arrivals
+pub mod BarrierSteps
+pub mod ConductorSteps
+pub mod ViewParts
+-- the rule, as callers see it
+pub mod End
+pub mod Moments
+-- for callers: a core's seat, the books of parted and joined seats, a port over a seat
+pub mod CoreSeats
+pub mod SeatBooks
+pub mod SeatPortLemmas

@@ -1,5 +1,6 @@
 -- What a legal history says of each core.
-use Rattle.std.proofs.Common.{cond, ◌≡◌, ◌≢◌, ◌⊎◌, inl, inr, ⊎_elim, ℕ, zero, suc, ◌+◌, ◌*◌, ◌<◌, List, [], ◌∷◌, ◌++◌, length, Bool, true, false, true≢false, refl, sym, ap, ◌∙◌, subst, arith, eq-eqb, ne_eqb, length-append}
+use Rattle.std.proofs.lemmas.Nat.{div-mul-add}
+use Rattle.std.proofs.Common.{◌/◌, cond, ◌≡◌, ◌≢◌, ◌⊎◌, inl, inr, ⊎_elim, ℕ, zero, suc, ◌+◌, ◌*◌, ◌<◌, List, [], ◌∷◌, ◌++◌, length, Bool, true, false, true≢false, refl, sym, ap, ◌∙◌, subst, arith, eq-eqb, ne_eqb, length-append}
 use mathlib.Core.Option.{Option, some, none, some-injective, some-ne-none}
 use mathlib.Core.Logic.{dite}
 use native.Mathlib.Decide.{ℕ_discrete}
@@ -9,15 +10,15 @@ use Rattle.msrp_plan.specs.declared.units.Call.{Call}
 use Rattle.msrp_plan.specs.declared.units.Call.TheVariants.{Ask, Poll, Leave}
 use Rattle.msrp_board.specs.declared.books.Entry.{Entry}
 use Rattle.msrp_board.specs.History.{Event, by}
-use Rattle.msrp_board.specs.Inside.Newest.{lock, asks, leaves, queue, granted, LegalNewest, PlacedNewest, turn_of, claim_of}
+use Rattle.msrp_board.specs.Inside.Newest.{ticket_at, lock, asks, leaves, queue, granted, LegalNewest, PlacedNewest, ticket_of, claim_of}
 use Rattle.msrp_board.specs.declared.held.Claim.{Claim}
 use Rattle.msrp_board.specs.declared.held.Claim.TheVariants.{Nothing, Waits, Holds}
 use Rattle.msrp_plan.specs.FifoLock.{IsAmong, IsFirst, without_first, granted_after, Answers}
 
-abbrev pub turn : Claim → Option ℕ
-turn Nothing = none
-turn (Waits g t) = some t
-turn (Holds g t) = some t
+abbrev pub ticket : Claim → Option ℕ
+ticket Nothing = none
+ticket (Waits g t) = some t
+ticket (Holds g t) = some t
 
 abbrev pub held : Claim → Bool
 held Nothing = false
@@ -26,8 +27,8 @@ held (Holds g t) = true
 
 pub record Coupled (h : List Event) : Type 0 where
   pub counted : asks h ≡ leaves h + length (queue h)
-  pub turns : (c i : ℕ) → get_elem? (queue h) i ≡ some c → turn (claim_of (by c h)) ≡ some (2 * (leaves h + i))
-  pub stands : (c t : ℕ) → turn (claim_of (by c h)) ≡ some t → (i : ℕ) × (get_elem? (queue h) i ≡ some c) × (t ≡ 2 * (leaves h + i))
+  pub tickets : (c i : ℕ) → get_elem? (queue h) i ≡ some c → ticket (claim_of (by c h)) ≡ some ((leaves h + i))
+  pub stands : (c t : ℕ) → ticket (claim_of (by c h)) ≡ some t → (i : ℕ) × (get_elem? (queue h) i ≡ some c) × (t ≡ (leaves h + i))
   pub holds : (c : ℕ) → held (claim_of (by c h)) ≡ true → (granted h ≡ true) × (get_elem? (queue h) 0 ≡ some c)
   pub holder : granted h ≡ true → (c : ℕ) × (get_elem? (queue h) 0 ≡ some c) × (held (claim_of (by c h)) ≡ true)
 
@@ -62,8 +63,8 @@ at_snoc_i (x ∷ xs) a b (suc j) e = ⊎_elim (λ t. inl t) (λ t. inr (ap suc t
 polled_no : (c0 t g p : ℕ) (h : List Event) → Coupled h → Coupled ((c0, entry t g p (Poll false)) ∷ h)
 polled_no c0 t g p h k = record {
   counted = k.counted;
-  turns = λ c i e. subst (λ l. turn l ≡ some (2 * (leaves h + i))) (sym (same c)) (k.turns c i e);
-  stands = λ c u e. k.stands c u (subst (λ l. turn l ≡ some u) (same c) e);
+  tickets = λ c i e. subst (λ l. ticket l ≡ some ((leaves h + i))) (sym (same c)) (k.tickets c i e);
+  stands = λ c u e. k.stands c u (subst (λ l. ticket l ≡ some u) (same c) e);
   holds = λ c e. k.holds c (subst (λ l. held l ≡ true) (same c) e);
   holder = λ e. let x = k.holder e in (x.0, x.1, subst (λ l. held l ≡ true) (sym (same x.0)) x.2);
 }
@@ -71,20 +72,20 @@ polled_no c0 t g p h k = record {
     same : (c : ℕ) → claim_of (by c ((c0, entry t g p (Poll false)) ∷ h)) ≡ claim_of (by c h)
     same c = by_cases c0 c (entry t g p (Poll false)) h (λ l. claim_of l ≡ claim_of (by c h)) (λ _. refl) (λ _. refl)
 
-turn_some : (l : Claim) (t : ℕ) → turn l ≡ some t → turn_of l ≡ t
-turn_some Nothing t e = absurd (some-ne-none t (sym e))
-turn_some (Waits g u) t e = some-injective u t e
-turn_some (Holds g u) t e = some-injective u t e
+ticket_some : (l : Claim) (t : ℕ) → ticket l ≡ some t → ticket_of l ≡ t
+ticket_some Nothing t e = absurd (some-ne-none t (sym e))
+ticket_some (Waits g u) t e = some-injective u t e
+ticket_some (Holds g u) t e = some-injective u t e
 
 -- a poll that is granted
 polled_yes : (c0 t g p : ℕ) (h : List Event) → Coupled h → get_elem? (queue h) 0 ≡ some c0 → granted h ≡ false → Coupled ((c0, entry t g p (Poll true)) ∷ h)
 polled_yes c0 t g p h k first free = record {
   counted = k.counted;
-  turns = λ c i e. by_cases c0 c new h (λ l. turn (claim_of l) ≡ some (2 * (leaves h + i)))
-      (λ q. ap some (turn_some (claim_of (by c h)) (2 * (leaves h + i)) (k.turns c i e)))
-      (λ _. k.turns c i e);
-  stands = λ c u. by_cases c0 c new h (λ l. turn (claim_of l) ≡ some u → (i : ℕ) × (get_elem? (queue h) i ≡ some c) × (u ≡ 2 * (leaves h + i)))
-      (λ q e. (0, first ∙ ap some q, sym (some-injective (turn_of (claim_of (by c h))) u e) ∙ turn_some (claim_of (by c h)) (2 * (leaves h + 0)) (k.turns c 0 (first ∙ ap some q))))
+  tickets = λ c i e. by_cases c0 c new h (λ l. ticket (claim_of l) ≡ some ((leaves h + i)))
+      (λ q. ap some (ticket_some (claim_of (by c h)) ((leaves h + i)) (k.tickets c i e)))
+      (λ _. k.tickets c i e);
+  stands = λ c u. by_cases c0 c new h (λ l. ticket (claim_of l) ≡ some u → (i : ℕ) × (get_elem? (queue h) i ≡ some c) × (u ≡ (leaves h + i)))
+      (λ q e. (0, first ∙ ap some q, sym (some-injective (ticket_of (claim_of (by c h))) u e) ∙ ticket_some (claim_of (by c h)) ((leaves h + 0)) (k.tickets c 0 (first ∙ ap some q))))
       (λ _ e. k.stands c u e);
   holds = λ c. by_cases c0 c new h (λ l. held (claim_of l) ≡ true → (true ≡ true) × (get_elem? (queue h) 0 ≡ some c))
       (λ q e. (refl, first ∙ ap some q))
@@ -95,10 +96,17 @@ polled_yes c0 t g p h k first free = record {
     new : Entry
     new = entry t g p (Poll true)
 
+-- the ticket of a request is the number of requests before it
+pub ticket_found : (place ahead n : ℕ) → place + ahead ≡ 2 * n → ticket_at place ahead ≡ n
+ticket_found place ahead n e = ap (λ k. k / 2) (e ∙ twice n) ∙ div-mul-add n 2 0 (omega arith)
+  where
+    twice : (k : ℕ) → 2 * k ≡ k * 2 + 0
+    twice k = omega arith
+
 -- an ask, which answers how many stand there
-asked_one : (c0 t g p a : ℕ) (k : Call) (h : List Event) → Coupled h → ((i : ℕ) → ¬ (get_elem? (queue h) i ≡ some c0)) → p ≡ asks h + leaves h → k ≡ Ask a → a ≡ length (queue h) → turn (claim_of (by c0 ((c0, entry t g p (Ask a)) ∷ h))) ≡ some (2 * (leaves h + length (queue h)))
-asked_one c0 t g p zero k h c out is _ n = subst (λ l. turn (claim_of l) ≡ some (2 * (leaves h + length (queue h)))) (sym (by_same c0 (entry t g p (Ask zero)) h)) (ap some (let x = c.counted in omega (arith, x, is, n)))
-asked_one c0 t g p (suc a) k h c out is _ n = subst (λ l. turn (claim_of l) ≡ some (2 * (leaves h + length (queue h)))) (sym (by_same c0 (entry t g p (Ask (suc a))) h)) (ap some (let x = c.counted in omega (arith, x, is, n)))
+asked_one : (c0 t g p a : ℕ) (k : Call) (h : List Event) → Coupled h → ((i : ℕ) → ¬ (get_elem? (queue h) i ≡ some c0)) → p ≡ asks h + leaves h → k ≡ Ask a → a ≡ length (queue h) → ticket (claim_of (by c0 ((c0, entry t g p (Ask a)) ∷ h))) ≡ some ((leaves h + length (queue h)))
+asked_one c0 t g p zero k h c out is _ n = subst (λ l. ticket (claim_of l) ≡ some ((leaves h + length (queue h)))) (sym (by_same c0 (entry t g p (Ask zero)) h)) (ap some (ticket_found p 0 (leaves h + length (queue h)) (let x = c.counted in omega (arith, x, is, n))))
+asked_one c0 t g p (suc a) k h c out is _ n = subst (λ l. ticket (claim_of l) ≡ some ((leaves h + length (queue h)))) (sym (by_same c0 (entry t g p (Ask (suc a))) h)) (ap some (ticket_found p (suc a) (leaves h + length (queue h)) (let x = c.counted in omega (arith, x, is, n))))
 
 empty_queue : {A : Type 0} (l : List A) → 0 ≡ length l → l ≡ []
 empty_queue [] e = refl
@@ -120,13 +128,13 @@ asked_holder c0 t g p (suc a) h k out n e = let x = k.holder e in (x.0, at_longe
 asked : (c0 t g p a : ℕ) (h : List Event) → Coupled h → ((i : ℕ) → ¬ (get_elem? (queue h) i ≡ some c0)) → a ≡ length (queue h) → p ≡ asks h + leaves h → Coupled ((c0, entry t g p (Ask a)) ∷ h)
 asked c0 t g p a h k out n is = record {
   counted = let x = k.counted in let y = length-append (queue h) (c0 ∷ []) in omega (arith, x, y);
-  turns = λ c i e. ⊎_elim
-      (λ old. subst (λ l. turn (claim_of l) ≡ some (2 * (leaves h + i))) (sym (by_other c0 c new h (λ q. out i (old ∙ ap some (sym q))))) (k.turns c i old))
-      (λ last. subst (λ d. turn (claim_of (by d (((c0, new) ∷ h)))) ≡ some (2 * (leaves h + i))) last.1 (subst (λ j. turn (claim_of (by c0 ((c0, new) ∷ h))) ≡ some (2 * (leaves h + j))) (sym last.0) mine))
+  tickets = λ c i e. ⊎_elim
+      (λ old. subst (λ l. ticket (claim_of l) ≡ some ((leaves h + i))) (sym (by_other c0 c new h (λ q. out i (old ∙ ap some (sym q))))) (k.tickets c i old))
+      (λ last. subst (λ d. ticket (claim_of (by d (((c0, new) ∷ h)))) ≡ some ((leaves h + i))) last.1 (subst (λ j. ticket (claim_of (by c0 ((c0, new) ∷ h))) ≡ some ((leaves h + j))) (sym last.0) mine))
       (at_snoc_i (queue h) c0 c i e);
   stands = λ c u e. dite (ℕ_discrete c0 c)
-      (λ q. (length (queue h), at_last (queue h) c0 (length (queue h)) refl ∙ ap some q, some-injective u (2 * (leaves h + length (queue h))) (sym (subst (λ d. turn (claim_of (by d ((c0, new) ∷ h))) ≡ some u) (sym q) e) ∙ mine)))
-      (λ ne. let x = k.stands c u (subst (λ l. turn (claim_of l) ≡ some u) (by_other c0 c new h ne) e) in (x.0, at_longer (queue h) (c0 ∷ []) x.0 c x.1, x.2));
+      (λ q. (length (queue h), at_last (queue h) c0 (length (queue h)) refl ∙ ap some q, some-injective u ((leaves h + length (queue h))) (sym (subst (λ d. ticket (claim_of (by d ((c0, new) ∷ h))) ≡ some u) (sym q) e) ∙ mine)))
+      (λ ne. let x = k.stands c u (subst (λ l. ticket (claim_of l) ≡ some u) (by_other c0 c new h ne) e) in (x.0, at_longer (queue h) (c0 ∷ []) x.0 c x.1, x.2));
   holds = λ c e. dite (ℕ_discrete c0 c)
       (λ q. let x = asked_held c0 t g p a h k n (subst (λ d. held (claim_of (by d ((c0, new) ∷ h))) ≡ true) (sym q) e) in (x.0, x.1 ∙ ap some q))
       (λ ne. asked_kept c0 c t g p a h k n (subst (λ l. held (claim_of l) ≡ true) (by_other c0 c new h ne) e));
@@ -136,7 +144,7 @@ asked c0 t g p a h k out n is = record {
     new : Entry
     new = entry t g p (Ask a)
 
-    mine : turn (claim_of (by c0 ((c0, new) ∷ h))) ≡ some (2 * (leaves h + length (queue h)))
+    mine : ticket (claim_of (by c0 ((c0, new) ∷ h))) ≡ some ((leaves h + length (queue h)))
     mine = asked_one c0 t g p a (Ask a) h k out is refl n
 
 tail_at : (l : List ℕ) (i : ℕ) → get_elem? (without_first l) i ≡ get_elem? l (suc i)
@@ -150,11 +158,11 @@ tail_length (y ∷ ys) x e = omega arith
 left : (c0 t g p : ℕ) (h : List Event) → Coupled h → get_elem? (queue h) 0 ≡ some c0 → granted h ≡ true → Coupled ((c0, entry t g p Leave) ∷ h)
 left c0 t g p h k first given = record {
   counted = let x = k.counted in let y = tail_length (queue h) c0 first in omega (arith, x, y);
-  turns = λ c i e. let old = sym (tail_at (queue h) i) ∙ e in
-      by_cases c0 c new h (λ l. turn (claim_of l) ≡ some (2 * (suc (leaves h) + i)))
+  tickets = λ c i e. let old = sym (tail_at (queue h) i) ∙ e in
+      by_cases c0 c new h (λ l. ticket (claim_of l) ≡ some ((suc (leaves h) + i)))
       (λ q. absurd (twice c i q old))
-      (λ ne. k.turns c (suc i) old ∙ ap some (omega arith));
-  stands = λ c u. by_cases c0 c new h (λ l. turn (claim_of l) ≡ some u → (i : ℕ) × (get_elem? (without_first (queue h)) i ≡ some c) × (u ≡ 2 * (suc (leaves h) + i)))
+      (λ ne. k.tickets c (suc i) old ∙ ap some (omega arith));
+  stands = λ c u. by_cases c0 c new h (λ l. ticket (claim_of l) ≡ some u → (i : ℕ) × (get_elem? (without_first (queue h)) i ≡ some c) × (u ≡ (suc (leaves h) + i)))
       (λ q e. absurd (some-ne-none u (sym e)))
       (λ ne e. let x = k.stands c u e in later c u ne x.0 x.1 x.2);
   holds = λ c. by_cases c0 c new h (λ l. held (claim_of l) ≡ true → (false ≡ true) × (get_elem? (without_first (queue h)) 0 ≡ some c))
@@ -167,9 +175,9 @@ left c0 t g p h k first given = record {
     new = entry t g p Leave
 
     twice : (c i : ℕ) → c0 ≡ c → get_elem? (queue h) (suc i) ≡ some c → ⊥
-    twice c i q e = let x = some-injective (2 * (leaves h + 0)) (2 * (leaves h + suc i)) (sym (k.turns c 0 (first ∙ ap some q)) ∙ k.turns c (suc i) e) in omega (arith, x)
+    twice c i q e = let x = some-injective ((leaves h + 0)) ((leaves h + suc i)) (sym (k.tickets c 0 (first ∙ ap some q)) ∙ k.tickets c (suc i) e) in omega (arith, x)
 
-    later : (c u : ℕ) → c0 ≢ c → (i : ℕ) → get_elem? (queue h) i ≡ some c → u ≡ 2 * (leaves h + i) → (j : ℕ) × (get_elem? (without_first (queue h)) j ≡ some c) × (u ≡ 2 * (suc (leaves h) + j))
+    later : (c u : ℕ) → c0 ≢ c → (i : ℕ) → get_elem? (queue h) i ≡ some c → u ≡ (leaves h + i) → (j : ℕ) × (get_elem? (without_first (queue h)) j ≡ some c) × (u ≡ (suc (leaves h) + j))
     later c u ne zero e is = absurd (ne (some-injective c0 c (sym first ∙ e)))
     later c u ne (suc i) e is = (i, tail_at (queue h) i ∙ e, omega (arith, is))
 
@@ -212,7 +220,7 @@ one c0 t g p Leave h k ok is = left c0 t g p h k (first_at (queue h) c0 ok.0) ok
 pub coupled : (h : List Event) → LegalNewest h → PlacedNewest h → Coupled h
 coupled [] l p = record {
   counted = refl;
-  turns = λ c i e. absurd (some-ne-none c (sym e));
+  tickets = λ c i e. absurd (some-ne-none c (sym e));
   stands = λ c t e. absurd (some-ne-none t (sym e));
   holds = λ c e. no e;
   holder = λ e. no e;

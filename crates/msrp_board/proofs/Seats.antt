@@ -1,15 +1,13 @@
 -- What a call makes of a seat, as callers see it.
-use Rattle.std.proofs.Common.{set, arith, ◌==◌, ◌≡◌, ℕ, zero, suc, ◌+◌, ◌*◌, ◌-◌, ◌<◌, ◌≤◌, List, [], ◌∷◌, map, replicate, Bool, true, false, nat_lt, ltb, leb, ltb-true, Some, None, refl, sym, ap, ◌∙◌, subst}
-use Rattle.std.specs.List.{AllByRecursion}
+use Rattle.std.proofs.Common.{set, arith, ◌==◌, ◌≡◌, ℕ, zero, suc, ◌+◌, ◌*◌, ◌<◌, List, [], ◌∷◌, map, replicate, Bool, true, false, nat_lt, ltb, leb, ltb-true, Some, None, refl, sym, ap, ◌∙◌, subst}
 use Rattle.std.specs.Option.{option_map}
 use Rattle.std.specs.declared.option.Option.{Option}
-use mathlib.Core.Option.{some, some-ne-none}
+use mathlib.Core.Option.{some}
 use lib.ListN.{get_elem?}
 use Rattle.atomic_table.specs.Table.{Me}
 use Rattle.atomic_table.specs.Seated.{TableId}
 use Rattle.msrp_plan.specs.declared.ids.ResId.{ResId}
 use Rattle.msrp_plan.specs.declared.units.Call.{Call}
-use Rattle.msrp_plan.specs.declared.units.Call.TheVariants.{Ask, Poll, Leave}
 use Rattle.msrp_plan.specs.declared.units.Phase.{Phase}
 use Rattle.msrp_plan.specs.declared.units.Phase.TheVariants.{Free, Queued, Holding}
 use Rattle.msrp_board.specs.declared.answers.SeatPhase.{SeatPhase}
@@ -35,7 +33,7 @@ use Rattle.msrp_board.specs.Inside.Held.{look_if, look_of, told, phase_of, seen_
 use Rattle.msrp_board.proofs.Start.{first_page}
 use Rattle.msrp_board.proofs.Lists.{reverse_cons, all_reversed, filter_reversed}
 use Rattle.msrp_board.proofs.Told.{lock_told, acted_told, page_of, sole_of}
-use Rattle.msrp_board.proofs.Ties.{is_low, seat_step}
+use Rattle.msrp_board.proofs.CoreStates.{is_low, seat_step}
 use Rattle.msrp_board.proofs.Kept.{kept_more, fresh_page, kept_empty, kept_told, claim_below}
 
 -- ---- what a caller's condition says of the page
@@ -77,7 +75,7 @@ named t z = record { table = t; size = z }
 pub core_own : (z : BoardSize) (t : TableId) (held : List (Option CoreState)) (o : Option Conductor) (me : Me (Unit {0}) View) (seat : SeatModel) → IsHeld z held o me → seen_as (named t z) me.0 ≡ seat → (c : ℕ) (b : Book) → IsCoreSeat seat c b → (p : Page) × IsOwn held me.0 c p × (told p ≡ b)
 core_own z t held o me seat s seen c b is =
     let r = sole_of (named t z) me.0 c b (subst (λ x. IsCoreSeat x c b) (sym seen) is) in
-    (r.0, record { states = s.states; low = is_low z held o me s c r.0 r.1.0; only = r.1 }, r.2)
+    (r.0, record { states = s.states; low = is_low z held o me s c r.0 r.1.page; only = r.1 }, r.2)
 
 -- the page of a core's seat that may act
 pub record Acting (z : BoardSize) (held : List (Option CoreState)) (v : View) (lock : Phase) : Type 0 where
@@ -100,7 +98,7 @@ acting z t held o me seat lock s is may =
       room = (admitted_of r.0.stopped r.0.admitted (nat_lt r.0.tick z.ticks) (ap (phase_in z.ticks) r.2 ∙ h.stands)).1;
       quiet = sym (acted_told r.0) ∙ ap has_acted r.2 ∙ h.quiet;
       claims = sym (lock_told r.0) ∙ ap lock_of r.2 ∙ h.claims;
-      kept = s.kept h.core r.0 r.1.only.0;
+      kept = s.kept h.core r.0 r.1.only.page;
     }
 
 -- the page of a core's seat that may act, where the state kept of the core n is x, with the claim l
@@ -161,9 +159,6 @@ change_seen board v f h same = ap (λ (l : List (Option Book)). seat l) (map_tol
     seat : List (Option Book) → SeatModel
     seat l = record { board = board; books = l; conductor = v.conductor }
 
-pub entry_seen : (board : BoardModel) (v : View) (g p : ℕ) (k : Call) → seen_as board (with_pages (page_with_entry g p k) v) ≡ with_entry (record { 0 = g }) p k (seen_as board v)
-entry_seen board v g p k = change_seen board v (page_with_entry g p k) (book_with_entry (record { 0 = g }) p k) (noted_told g p k)
-
 -- a place that stands behind the pages' entries stands behind the books'
 pub behind_seen : (board : BoardModel) (v : View) (g p : ℕ) → ViewIsBehind v g p → IsBehind g p (seen_as board v)
 behind_seen board v g p behind c a is =
@@ -179,7 +174,7 @@ change_same (None ∷ xs) f h same = ap (λ l. None ∷ l) (change_same xs f h (
 change_same (Some b ∷ xs) f h same = ap (λ y. Some y ∷ map (option_map f) xs) (same 0 b refl) ∙ ap (λ l. Some (h b) ∷ l) (change_same xs f h (λ k x e. same (suc k) x e))
 
 pub sole_change : (v : View) (c : ℕ) (b : Page) (f h : Page → Page) → HasOnly v c b → f b ≡ h b → with_pages f v ≡ with_pages h v
-sole_change v c b f h sole same = ap (λ (l : List (Option Page)). view l) (change_same v.pages f h (λ k x e. subst (λ y. f y ≡ h y) (page_is b x (sym sole.0 ∙ subst (λ j. get_elem? v.pages j ≡ some (Some x)) (sole.1 k x e) e)) same))
+sole_change v c b f h sole same = ap (λ (l : List (Option Page)). view l) (change_same v.pages f h (λ k x e. subst (λ y. f y ≡ h y) (page_is b x (sym sole.page ∙ subst (λ j. get_elem? v.pages j ≡ some (Some x)) (sole.only k x e) e)) same))
   where
     view : List (Option Page) → View
     view l = record { pages = l; conductor = v.conductor }
@@ -198,7 +193,7 @@ pub entered_held : (z : BoardSize) (held : List (Option CoreState)) (o : Option 
     → x ≡ state_of (page_with_entry g p k a.page) → g < z.resources → IsClaimInTurn (claim_of a.page.newest) g k → IsHeld z (set held n (Some x)) o now
 entered_held z held o me now lock n g p k x s a at step is in_board in_turn =
     seat_step z held o me now a.core n a.page (page_with_entry g p k) x s a.own.only at step.changed is
-    (kept_more z a.page (record { tick = a.page.tick; res = record { 0 = g }; place = p; call = k }) a.kept in_board (step.behind a.core a.page a.own.only.0) in_turn a.room (fresh_page z a.page a.kept a.room a.quiet) refl)
+    (kept_more z a.page (record { tick = a.page.tick; res = record { 0 = g }; place = p; call = k }) a.kept in_board (step.behind a.core a.page a.own.only.page) in_turn a.room (fresh_page z a.page a.kept a.room a.quiet) refl)
 
 pub entered_seen : (z : BoardSize) (t u : TableId) (me now : Me (Unit {0}) View) (seat : SeatModel) (g p : ℕ) (k : Call) → u ≡ t → HasEntered g p k me now → seen_as (named t z) me.0 ≡ seat
     → seen_as (named u z) now.0 ≡ with_entry (record { 0 = g }) p k seat
@@ -245,7 +240,7 @@ pub standing : (z : BoardSize) (t : TableId) (held : List (Option CoreState)) (o
 standing z t held o me seat phase s is at =
     let h : IsIn phase (seen_as (named t z) me.0) = subst (IsIn phase) (sym is) at in
     let r = core_own z t held o me (seen_as (named t z) me.0) s refl h.core h.book h.of_core in
-    record { core = h.core; page = r.0; own = r.1; stands = ap (phase_in z.ticks) r.2 ∙ h.stands; kept = s.kept h.core r.0 r.1.only.0 }
+    record { core = h.core; page = r.0; own = r.1; stands = ap (phase_in z.ticks) r.2 ∙ h.stands; kept = s.kept h.core r.0 r.1.only.page }
 
 pub admitted_page : (z : BoardSize) (held : List (Option CoreState)) (v : View) (s : Standing z held v Admitted) → s.page.admitted ≡ true
 admitted_page z held v s = (admitted_of s.page.stopped s.page.admitted (nat_lt s.page.tick z.ticks) s.stands).1
@@ -317,4 +312,4 @@ look_stop z t u me now seat m n c b sole is at step seen = looked_as z t u me no
 pub stop_start : (m n c : ℕ) (board : BoardModel) (v : View) (seat : SeatModel) (k : ℕ) (a : Book) (b : Page) → HasOnly v c b → look_of m n b.tick ≡ Off → AtStart n v → seen_as board v ≡ seat → IsCoreSeat seat k a → a.tick ≡ 0
 stop_start m n c board v seat k a b sole is start seen at =
     let r = sole_of board v k a (subst (λ s. IsCoreSeat s k a) (sym seen) at) in
-    sym (ap (λ (x : Book). x.tick) r.2) ∙ start k r.0 r.1.0 (look_stops (ltb 0 (high n)) (leb (1 + m * b.tick) (low n)) b is).1
+    sym (ap (λ (x : Book). x.tick) r.2) ∙ start k r.0 r.1.page (look_stops (ltb 0 (high n)) (leb (1 + m * b.tick) (low n)) b is).1

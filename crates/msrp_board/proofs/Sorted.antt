@@ -46,13 +46,6 @@ and_right : (a b : Bool) → (a && b) ≡ true → b ≡ true
 and_right true b e = e
 and_right false b e = absurd (true≢false (sym e))
 
-both_polls : (k j : Call) → are_polls k j ≡ true → (p : Bool) × (q : Bool) × (k ≡ Poll p) × (j ≡ Poll q)
-both_polls (Ask a) j e = absurd (true≢false (sym e))
-both_polls (Poll p) (Ask a) e = absurd (true≢false (sym e))
-both_polls (Poll p) (Poll q) e = (p, q, refl, refl)
-both_polls (Poll p) Leave e = absurd (true≢false (sym e))
-both_polls Leave j e = absurd (true≢false (sym e))
-
 abbrev row : ℕ → ℕ → ℕ → ℕ → Bool → Event
 row c t g p b = (c, record { tick = t; res = record { 0 = g }; place = p; call = Poll b })
 

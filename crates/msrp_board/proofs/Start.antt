@@ -73,39 +73,40 @@ some_of : (x y : Conductor) → Some x ≡ Some y → x ≡ y
 some_of x y e = cc
 
 pub begins : (z : BoardSize) (words : List ℕ) → ((g : ℕ) → slice_index words g ≡ 0) → length words ≡ z.resources + 1 → IsSize z → Ruled z (opening words [] (first_view z))
-begins z words zeros len limits = (
-  replicate z.cores empty_page,
-  Unopened,
-  (
-    (λ i c b o. same_there z.cores c b (subst (λ (v : View). HasPage v c b) (sym (zero_at (first_view z) i o.0 o.1).1) o.2)),
-    (λ i j c b d o p. sym (zero_at (first_view z) i o.0 o.1).0 ∙ (zero_at (first_view z) j p.0 p.1).0),
-    (λ c b e. (0, (first_view z, refl, (same_back z.cores c b e).0))),
-  ),
-  (
-    (λ i k x o. (o.2.0, some_of Unopened x (ap (λ (v : View). v.conductor) (zero_at (first_view z) i o.0 o.1).1 ∙ o.2.1))),
-    (λ i j k x y o p. sym (zero_at (first_view z) i o.0 o.1).0 ∙ (zero_at (first_view z) j p.0 p.1).0),
-    (λ k x e. (0, (first_view z, refl, (e.0, ap Some e.1)))),
-  ),
-  (
-    length_rep z.cores empty_page,
-    (λ g in_g. (
-      [],
-      ((λ c b e. subst (λ (x : Page). [] ≡ on g x.newest) (same_back z.cores c b e).1 refl), (λ c far. refl), tt),
-      tt,
-      zeros g,
-      omega arith,
-      tt,
-      tt,
-    )),
-    (λ c b e. subst (IsKeptNewest z) (same_back z.cores c b e).1 (kept_empty z)),
-    (
-      (let w = zeros z.resources in let a = zero_arrivals z.cores in omega (arith, w, a)),
-      (λ c b e h. absurd (true≢false (sym h ∙ sym (ap (λ (x : Page). x.stopped) (same_back z.cores c b e).1)))),
-      (λ c b e h. absurd (let r = ap page_reach (same_back z.cores c b e).1 in omega (arith, h, r))),
-    ),
-  ),
-  (limits, len),
-)
+begins z words zeros len limits = record {
+  pages = replicate z.cores empty_page;
+  conductor = Unopened;
+  shared = record {
+    true_of = λ i c b o. same_there z.cores c b (subst (λ (v : View). HasPage v c b) (sym (zero_at (first_view z) i o.0 o.1).1) o.2);
+    with_no_other = λ i j c b d o p. sym (zero_at (first_view z) i o.0 o.1).0 ∙ (zero_at (first_view z) j p.0 p.1).0;
+    with_one = λ c b e. (0, (first_view z, refl, (same_back z.cores c b e).0));
+  };
+  shared_conductor = record {
+    true_of = λ i k x o. (o.2.0, some_of Unopened x (ap (λ (v : View). v.conductor) (zero_at (first_view z) i o.0 o.1).1 ∙ o.2.1));
+    with_no_other = λ i j k x y o p. sym (zero_at (first_view z) i o.0 o.1).0 ∙ (zero_at (first_view z) j p.0 p.1).0;
+    with_one = λ k x e. (0, (first_view z, refl, (e.0, ap Some e.1)));
+  };
+  tied = record {
+    cores = length_rep z.cores empty_page;
+    served = λ g in_g. record {
+      log = [];
+      history = record { entries = λ c b e. subst (λ (x : Page). [] ≡ on g x.newest) (same_back z.cores c b e).1 refl; none_past = λ c far. refl; placed = tt };
+      legal = tt;
+      counts = zeros g;
+      short = omega arith;
+      rising = tt;
+      polls = tt;
+    };
+    kept = λ c b e. subst (IsKeptNewest z) (same_back z.cores c b e).1 (kept_empty z);
+    gathered = record {
+      counts = let w = zeros z.resources in let a = zero_arrivals z.cores in omega (arith, w, a);
+      told = λ c b e h. absurd (true≢false (sym h ∙ sym (ap (λ (x : Page). x.stopped) (same_back z.cores c b e).1)));
+      met = λ c b e h. absurd (let r = ap page_reach (same_back z.cores c b e).1 in omega (arith, h, r));
+    };
+  };
+  limits = limits;
+  words = len;
+}
 
 abbrev nils : ℕ → List ℕ
 nils n = replicate n 0

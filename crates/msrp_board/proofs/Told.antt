@@ -1,5 +1,5 @@
 -- A page as callers see it: what it says of its core is what the book says.
-use Rattle.std.proofs.Common.{get_or, ◌++◌, nat_lt, ◌<◌, ◌≤◌, ⊎_elim, arith, ◌==◌, ◌||◌, ◌≡◌, ℕ, zero, suc, List, [], ◌∷◌, map, reverse, Bool, true, false, fold, Some, None, refl, sym, ap, ◌∙◌}
+use Rattle.std.proofs.Common.{get_or, ◌++◌, nat_lt, ◌<◌, ◌≤◌, ⊎_elim, arith, ◌==◌, ◌||◌, ◌≡◌, ℕ, zero, suc, List, [], ◌∷◌, map, reverse, Bool, true, false, Some, None, refl, sym, ap, ◌∙◌}
 use Rattle.std.specs.Prelude.{slice_index_or}
 use Rattle.std.specs.List.{list_any}
 use Rattle.std.specs.Option.{option_map, is_some}
@@ -24,7 +24,7 @@ use Rattle.msrp_board.specs.Inside.Newest.{claim_of, claim_with_call}
 use Rattle.msrp_board.specs.Inside.Rule.{HasOnly, page_has_acted}
 use Rattle.msrp_board.specs.Inside.Held.{told, phase_of, page_at, seen_as, state_of, state_at, AreStates, IsLow, Shows}
 use Rattle.msrp_board.proofs.Lists.{reverse_cons, fold_last}
-use Rattle.msrp_board.proofs.Ties.{has_page, page_has, get_or_at, page_or_none}
+use Rattle.msrp_board.proofs.CoreStates.{has_page, page_has, get_or_at, page_or_none}
 
 -- one call more: what a core claims is what it holds or awaits
 after_call : (l : Claim) (g : ℕ) (p : ℕ) (k : Call) → claim_with (phase_of l) (record { 0 = g }) k ≡ phase_of (claim_with_call l g p k)
@@ -34,7 +34,7 @@ after_call l g p (Poll true) = refl
 after_call l g p (Poll false) = refl
 after_call l g p Leave = refl
 
-res_calls_last : (es : List Entry) (e : Entry) → res_calls (es ++ e ∷ []) ≡ res_calls es ++ (e.res, e.call) ∷ []
+pub res_calls_last : (es : List Entry) (e : Entry) → res_calls (es ++ e ∷ []) ≡ res_calls es ++ (e.res, e.call) ∷ []
 res_calls_last [] e = refl
 res_calls_last (f ∷ es) e = ap (λ l. (f.res, f.call) ∷ l) (res_calls_last es e)
 
@@ -82,14 +82,7 @@ book_of pages c b h = shown pages c ∙ ap (option_map told) (page_has pages c b
 -- a core's seat knows one page
 pub sole_of : (board : BoardModel) (v : View) (c : ℕ) (a : Book) → IsCoreSeat (seen_as board v) c a → (b : Page) × HasOnly v c b × (told b ≡ a)
 sole_of board v c a is = let r = page_of v.pages c a is.book in
-    (r.0, (r.1, (λ d e h. is.only d (told e) (book_of v.pages d e h)), is.conductor), r.2)
-
-pub core_of_sole : (board : BoardModel) (v : View) (c : ℕ) (b : Page) → HasOnly v c b → IsCoreSeat (seen_as board v) c (told b)
-core_of_sole board v c b sole = record {
-  book = book_of v.pages c b sole.0;
-  only = λ d e h. let r = page_of v.pages d e h in sole.1 d r.0 r.1;
-  conductor = sole.2;
-}
+    (r.0, record { page = r.1; only = λ d e h. is.only d (told e) (book_of v.pages d e h); conductor = is.conductor }, r.2)
 
 some_told : (o : Option Page) → is_some (option_map state_of o) ≡ is_some (option_map told o)
 some_told None = refl

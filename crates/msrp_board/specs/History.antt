@@ -15,19 +15,23 @@ abbrev pub by : {X : Type 0} → ℕ → List (ℕ × X) → List X
 by c [] = []
 by c (x ∷ xs) = cond (x.0 == c) (x.1 ∷ by c xs) (by c xs)
 
+-- the calls of these events, each with its core
 abbrev pub calls : List Event → List (ℕ × Call)
 calls h = map (λ s. (s.0, s.1.call)) h
 
+-- the call is a request
 abbrev pub is_request : Call → Bool
 is_request (Ask n) = true
 is_request (Poll granted) = false
 is_request Leave = false
 
+-- the call is a poll
 abbrev pub is_poll : Call → Bool
 is_poll (Ask n) = false
 is_poll (Poll granted) = true
 is_poll Leave = false
 
+-- the call is a release
 abbrev pub is_release : Call → Bool
 is_release (Ask n) = false
 is_release (Poll granted) = false
@@ -48,6 +52,7 @@ Placed p (s ∷ h) = (s.1.place ≡ p) × Placed (place_after p s.1.call) h
 abbrev pub PollsInOrder : Event → Event → Type 0
 PollsInOrder s x = is_poll s.1.call ≡ true → is_poll x.1.call ≡ true → (s.1.tick < x.1.tick) ⊎ ((s.1.tick ≡ x.1.tick) × (s.0 ≤ x.0))
 
+-- the first is of no later tick than the second
 abbrev pub IsNotLater : Event → Event → Type 0
 IsNotLater s x = s.1.tick ≤ x.1.tick
 

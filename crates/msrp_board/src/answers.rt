@@ -45,7 +45,9 @@ pub enum SeatPhase {
 /// Why a board is refused.
 #[derive(Clone, Copy, Debug, PartialEq, Eq)]
 pub enum BoardError {
-    /// Cores not 1 to 8, resources not 0 to 32, or ticks not 1 to 20,000. This is judged before memory.
+    /// Cores not 1 to [`MOST_CORES`](msrp_plan::limits::MOST_CORES), more resources than
+    /// [`MOST_RESOURCES`](msrp_plan::limits::MOST_RESOURCES), or ticks not 1 to
+    /// [`MOST_TICKS`](msrp_plan::limits::MOST_TICKS). This is judged before memory.
     B1,
     /// Memory was refused.
     B2,

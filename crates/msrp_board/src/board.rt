@@ -19,6 +19,7 @@ use crate::pages::{Tickets, View};
 use crate::seat::BoardSeat;
 use crate::steps;
 use atomic_table::Table;
+use msrp_plan::limits::{MOST_CORES, MOST_RESOURCES, MOST_TICKS};
 use msrp_plan::{CoreId, ResId};
 use std::alloc::Global;
 use std::marker::Model;
@@ -54,7 +55,12 @@ impl Board {
         ensures size { IfOk result (λ r. r.0.size ≡ record { cores = cores; resources = resources; ticks = ticks }) }
         ensures seat { IfOk result (λ r. r.1 ≡ first_seat r.0) }
     {
-        if cores < 1 || cores > 8 || resources > 32 || ticks < 1 || ticks > 20000 {
+        if cores < 1
+            || cores > MOST_CORES
+            || resources as usize > MOST_RESOURCES
+            || ticks < 1
+            || ticks > MOST_TICKS
+        {
             return Err(BoardError::B1);
         }
         let size = BoardSize {
@@ -62,13 +68,16 @@ impl Board {
             resources,
             ticks,
         };
-        let zeros = [0u64; 33];
-        let Ok((table, place)) = Table::of_words(alloc, &zeros[..resources as usize + 1], &size)
-        else {
+        let zeros = [0u64; MOST_RESOURCES + 1];
+        let Ok((table, table_seat)) = Table::of_words(
+            alloc,
+            &zeros[..resources as usize + 1],
+            &size,
+        ) else {
             return Err(BoardError::B2);
         };
         let seat = BoardSeat {
-            place,
+            table_seat,
             size,
             held: fresh(cores as usize),
             conductor: Some(Conductor::Unopened),
@@ -93,12 +102,12 @@ impl Board {
         ensures behind { IsBehind res.0 result.place seat.old }
     {
         let (core, state) = own(&seat.held);
-        let word = steps::ask(&self.table.shared, &mut seat.place, res.0 as usize);
+        let word = steps::ask(&self.table.shared, &mut seat.table_seat, res.0 as usize);
         let asked = Asked {
             place: word.next + word.serving,
             ahead: word.next - word.serving,
         };
-        seat.held[core] = Some(state.with_ask(res.0, asked.place, asked.ahead));
+        seat.held[core] = Some(state.with_ask(res.0, word));
         asked
     }
 
@@ -111,15 +120,20 @@ impl Board {
         ensures behind { (g : ResId) → MayAct (Queued g) seat.old → IsBehind g.0 result.place seat.old }
     {
         let (core, state) = own(&seat.held);
-        let Claim::Waits { res, turn } = state.claim else {
+        let Claim::Waits { res, ticket } = state.claim else {
             unreachable!()
         };
-        let word = steps::poll(&self.table.shared, &mut seat.place, res as usize, turn);
+        let word = steps::poll(
+            &self.table.shared,
+            &mut seat.table_seat,
+            res as usize,
+            ticket,
+        );
         let polled = Polled {
             place: word.next + word.serving,
-            granted: 2 * word.serving == turn,
+            granted: word.serving == ticket,
         };
-        seat.held[core] = Some(state.with_poll(res, turn, polled.granted));
+        seat.held[core] = Some(state.with_poll(res, ticket, polled.granted));
         polled
     }
 
@@ -135,7 +149,7 @@ impl Board {
         let Claim::Holds { res, .. } = state.claim else {
             unreachable!()
         };
-        let word = steps::leave(&self.table.shared, &mut seat.place, res as usize);
+        let word = steps::leave(&self.table.shared, &mut seat.table_seat, res as usize);
         seat.held[core] = Some(state.with_leave());
         word.next + word.serving
     }
@@ -158,7 +172,7 @@ impl Board {
         let (core, state) = own(&seat.held);
         let found = steps::look(
             &self.table.shared,
-            &mut seat.place,
+            &mut seat.table_seat,
             resources as usize,
             cores,
         );
@@ -176,7 +190,7 @@ impl Board {
     {
         let (core, state) = own(&seat.held);
         let BoardSize { resources, .. } = self.size;
-        steps::arrive(&self.table.shared, &mut seat.place, resources as usize);
+        steps::arrive(&self.table.shared, &mut seat.table_seat, resources as usize);
         seat.held[core] = Some(state.with_arrival());
     }
 
@@ -187,7 +201,7 @@ impl Board {
         ensures { seat.new ≡ with_conductor Opened seat.old }
     {
         let BoardSize { resources, .. } = self.size;
-        steps::open(&self.table.shared, &mut seat.place, resources as usize);
+        steps::open(&self.table.shared, &mut seat.table_seat, resources as usize);
         seat.conductor = Some(Conductor::Opened);
     }
 
@@ -199,7 +213,7 @@ impl Board {
         ensures { seat.new ≡ with_conductor Aborted seat.old }
     {
         let BoardSize { resources, .. } = self.size;
-        steps::abort(&self.table.shared, &mut seat.place, resources as usize);
+        steps::abort(&self.table.shared, &mut seat.table_seat, resources as usize);
         seat.conductor = Some(Conductor::Aborted);
     }
 
@@ -212,21 +226,21 @@ impl Board {
         ensures rest { result.1 ≡ without core.0 seat }
     {
         let BoardSeat {
-            mut place,
+            mut table_seat,
             size,
             held,
             conductor,
         } = seat;
         let core = core.0 as usize;
-        let rest = steps::split(&self.table.shared, &mut place, core);
+        let rest = steps::split(&self.table.shared, &mut table_seat, core);
         let own = BoardSeat {
-            place,
+            table_seat,
             size,
             held: only(&held, core),
             conductor: None,
         };
         let others = BoardSeat {
-            place: rest,
+            table_seat: rest,
             size,
             held: others(&held, core),
             conductor,
@@ -240,20 +254,20 @@ impl Board {
         ensures { result ≡ both seat other }
     {
         let BoardSeat {
-            mut place,
+            mut table_seat,
             size,
             held,
             conductor,
         } = seat;
         let BoardSeat {
-            place: other_place,
+            table_seat: other_seat,
             size: _,
             held: other_held,
             conductor: other_conductor,
         } = other;
-        steps::join(&self.table.shared, &mut place, other_place);
+        steps::join(&self.table.shared, &mut table_seat, other_seat);
         BoardSeat {
-            place,
+            table_seat,
             size,
             held: union(&held, &other_held),
             conductor: conductor.or(other_conductor),

@@ -37,10 +37,10 @@ pub enum Conductor {
 /// How large a board is.
 #[derive(Clone, Copy, Debug, PartialEq, Eq)]
 pub struct BoardSize {
-    /// 1 to 8.
+    /// 1 to [`MOST_CORES`](msrp_plan::limits::MOST_CORES).
     pub cores: u32,
-    /// At most 32.
+    /// At most [`MOST_RESOURCES`](msrp_plan::limits::MOST_RESOURCES).
     pub resources: u32,
-    /// 1 to 20,000.
+    /// 1 to [`MOST_TICKS`](msrp_plan::limits::MOST_TICKS).
     pub ticks: u32,
 }

@@ -1,5 +1,5 @@
 //! What a seat keeps at run time of the cores whose books it holds: enough to answer its readers, without the entries.
-ghost use Rattle.std.specs.Prelude.{◌≡◌, ◌<◌, ◌≤◌, ◌+◌, ℕ, List, Some, replicate, suc, nat_lt, false};
+ghost use Rattle.std.specs.Prelude.{◌≡◌, ◌<◌, ◌≤◌, ◌+◌, ◌-◌, ℕ, List, Some, replicate, suc, nat_lt, false};
 ghost use Rattle.std.specs.declared.option.Option.{Option};
 ghost use Rattle.msrp_plan.specs.declared.units.Call.TheVariants.{Ask, Poll, Leave};
 ghost use Rattle.msrp_board.specs.declared.pages.Page.{Page};
@@ -8,21 +8,21 @@ ghost use Rattle.msrp_board.specs.Books.{phase_by};
 ghost use Rattle.msrp_board.specs.Steps.{only_at, none_at, together};
 ghost use Rattle.msrp_board.specs.Inside.Held.{AreStates, IsOwn, state_of, phase_of, look_of};
 ghost use Rattle.msrp_board.specs.Inside.Newest.{TicksNewest, claim_of};
-ghost use Rattle.msrp_board.specs.Inside.Rule.{HasOnly, page_with_arrival, empty_page, page_with_entry, page_after_look};
+ghost use Rattle.msrp_board.specs.Inside.Rule.{IsTicket, HasOnly, page_with_arrival, empty_page, page_with_entry, page_after_look};
 
 use crate::answers::{Look, SeatPhase};
-use crate::words::{high_half, low_half};
+use crate::words::{TicketWord, high_half, low_half};
+use msrp_plan::limits::{MOST_CORES, MOST_TICKS};
 use msrp_plan::{Phase, ResId};
 
 /// What a core claims.
 #[derive(Clone, Copy, Drop)]
 pub enum Claim {
     Nothing,
-    /// It awaits the resource. The turn is twice its ticket: the sum of the place of its request and of how many were
-    /// ahead of it.
-    Waits { res: u32, turn: u32 },
+    /// It awaits the resource: its ticket isn't served yet.
+    Waits { res: u32, ticket: u32 },
     /// It was granted the resource.
-    Holds { res: u32, turn: u32 },
+    Holds { res: u32, ticket: u32 },
 }
 
 impl Claim {
@@ -72,18 +72,16 @@ impl CoreState {
         }
     }
 
-    /// After a request that found this place, and so many ahead.
-    pub fn with_ask(self, res: u32, place: u32, ahead: u32) -> CoreState
-        requires { place + ahead < 4294967296 }
-        ensures { (b : Page) → self ≡ state_of b → result ≡ state_of (page_with_entry res place (Ask ahead) b) }
+    /// After a request that found this ticket word.
+    pub fn with_ask(self, res: u32, word: TicketWord) -> CoreState
+        requires { IsTicket word }
+        ensures { (b : Page) → self ≡ state_of b → result ≡ state_of (page_with_entry res (word.next + word.serving) (Ask (word.next - word.serving)) b) }
     {
-        let claim = if ahead == 0 {
-            Claim::Holds { res, turn: place }
+        let ticket = word.next;
+        let claim = if word.next == word.serving {
+            Claim::Holds { res, ticket }
         } else {
-            Claim::Waits {
-                res,
-                turn: place + ahead,
-            }
+            Claim::Waits { res, ticket }
         };
         CoreState {
             claim,
@@ -93,12 +91,12 @@ impl CoreState {
     }
 
     /// After a poll of what it awaits, granted or not.
-    pub fn with_poll(self, res: u32, turn: u32, granted: bool) -> CoreState
-        requires { self.claim ≡ Claim.Waits res turn }
+    pub fn with_poll(self, res: u32, ticket: u32, granted: bool) -> CoreState
+        requires { self.claim ≡ Claim.Waits res ticket }
         ensures { (b : Page) (p : ℕ) → self ≡ state_of b → result ≡ state_of (page_with_entry res p (Poll granted) b) }
     {
         let claim = if granted {
-            Claim::Holds { res, turn }
+            Claim::Holds { res, ticket }
         } else {
             self.claim
         };
@@ -122,7 +120,7 @@ impl CoreState {
 
     /// After an arrival.
     pub fn with_arrival(self) -> CoreState
-        requires { self.tick < 20000 }
+        requires { self.tick < MOST_TICKS }
         ensures { (b : Page) → self ≡ state_of b → TicksNewest (suc b.tick) b.newest → result ≡ state_of (page_with_arrival b) }
     {
         CoreState {
@@ -165,11 +163,11 @@ impl CoreState {
 }
 
 /// Empty books of so many cores.
-pub fn fresh(cores: usize) -> [Option<CoreState>; 8]
-    requires { cores ≤ 8 }
+pub fn fresh(cores: usize) -> [Option<CoreState>; MOST_CORES as usize]
+    requires { cores ≤ MOST_CORES }
     ensures { AreStates result (replicate cores (Some empty_page)) }
 {
-    let mut held = [None; 8];
+    let mut held = [None; MOST_CORES as usize];
     for core in 0..cores {
         held[core] = Some(CoreState::EMPTY);
     }
@@ -177,11 +175,11 @@ pub fn fresh(cores: usize) -> [Option<CoreState>; 8]
 }
 
 /// The core whose book this is, where there is but one.
-fn core_of(held: &[Option<CoreState>; 8]) -> usize
-    ensures small { result < 8 }
+fn core_of(held: &[Option<CoreState>; MOST_CORES as usize]) -> usize
+    ensures small { result < MOST_CORES }
     ensures core { (v : View) (c : ℕ) (b : Page) → IsOwn held.now v c b → result ≡ c }
 {
-    for core in 0..8 {
+    for core in 0..MOST_CORES as usize {
         if held[core].is_some() {
             return core;
         }
@@ -190,9 +188,9 @@ fn core_of(held: &[Option<CoreState>; 8]) -> usize
 }
 
 /// The core of a core's seat, and its state.
-pub fn own(held: &[Option<CoreState>; 8]) -> (usize, CoreState)
+pub fn own(held: &[Option<CoreState>; MOST_CORES as usize]) -> (usize, CoreState)
     requires { (v : View) × (c : ℕ) × (b : Page) × IsOwn held.now v c b }
-    ensures small { result.0 < 8 }
+    ensures small { result.0 < MOST_CORES }
     ensures own { (v : View) (c : ℕ) (b : Page) → IsOwn held.now v c b → (result.0 ≡ c) × (result.1 ≡ state_of b) }
 {
     let core = core_of(held);
@@ -203,18 +201,24 @@ pub fn own(held: &[Option<CoreState>; 8]) -> (usize, CoreState)
 }
 
 /// The state of the core alone.
-pub fn only(held: &[Option<CoreState>; 8], core: usize) -> [Option<CoreState>; 8]
-    requires { core < 8 }
+pub fn only(
+    held: &[Option<CoreState>; MOST_CORES as usize],
+    core: usize,
+) -> [Option<CoreState>; MOST_CORES as usize]
+    requires { core < MOST_CORES }
     ensures { (pages : List (Option Page)) → AreStates held.now pages → AreStates result (only_at core pages) }
 {
-    let mut own = [None; 8];
+    let mut own = [None; MOST_CORES as usize];
     own[core] = held[core];
     own
 }
 
 /// The states of the others.
-pub fn others(held: &[Option<CoreState>; 8], core: usize) -> [Option<CoreState>; 8]
-    requires { core < 8 }
+pub fn others(
+    held: &[Option<CoreState>; MOST_CORES as usize],
+    core: usize,
+) -> [Option<CoreState>; MOST_CORES as usize]
+    requires { core < MOST_CORES }
     ensures { (pages : List (Option Page)) → AreStates held.now pages → AreStates result (none_at core pages) }
 {
     let mut others = *held;
@@ -224,13 +228,13 @@ pub fn others(held: &[Option<CoreState>; 8], core: usize) -> [Option<CoreState>;
 
 /// The states of both, where no core is in both.
 pub fn union(
-    held: &[Option<CoreState>; 8],
-    other: &[Option<CoreState>; 8],
-) -> [Option<CoreState>; 8]
+    held: &[Option<CoreState>; MOST_CORES as usize],
+    other: &[Option<CoreState>; MOST_CORES as usize],
+) -> [Option<CoreState>; MOST_CORES as usize]
     ensures { (pages more : List (Option Page)) → AreStates held.now pages → AreStates other.now more → AreStates result (together pages more) }
 {
-    let mut both = [None; 8];
-    for core in 0..8 {
+    let mut both = [None; MOST_CORES as usize];
+    for core in 0..MOST_CORES as usize {
         both[core] = held[core].or(other[core]);
     }
     both

@@ -133,4 +133,4 @@ impl Play<(), View> for Aborts {
 
 pub type Words = Shared<(), View, BoardSize, Tickets>;
 
-pub type Place = Seat<(), View>;
+pub type TableSeat = Seat<(), View>;

@@ -8,7 +8,8 @@ ghost use Rattle.msrp_board.specs.Inside.Held.{Shows};
 use crate::answers::SeatPhase;
 use crate::books::{BoardSize, Conductor};
 use crate::held::{CoreState, own};
-use crate::pages::Place;
+use crate::pages::TableSeat;
+use msrp_plan::limits::MOST_CORES;
 use msrp_plan::{CoreId, Phase};
 use std::marker::Model;
 
@@ -17,9 +18,9 @@ use std::marker::Model;
 /// core's seat.
 #[derive(Drop)]
 pub struct BoardSeat {
-    pub(crate) place: Place,
+    pub(crate) table_seat: TableSeat,
     pub(crate) size: BoardSize,
-    pub(crate) held: [Option<CoreState>; 8],
+    pub(crate) held: [Option<CoreState>; MOST_CORES as usize],
     pub(crate) conductor: Option<Conductor>,
 }
 
@@ -29,9 +30,9 @@ impl Model for BoardSeat {
 
     ghost Value = { SeatModel };
 
-    ghost view = { λ s. seen_as record { table = s.place.table_id; size = s.size } s.place.me.0 };
+    ghost view = { λ s. seen_as record { table = s.table_seat.table_id; size = s.size } s.table_seat.me.0 };
 
-    ghost invariant = { λ s. IsHeld s.size s.held s.conductor s.place.me };
+    ghost invariant = { λ s. IsHeld s.size s.held s.conductor s.table_seat.me };
 }
 
 impl BoardSeat {
@@ -86,7 +87,7 @@ impl BoardSeat {
         ensures value { IsTrue result ↔ IsSome (book_at self.now core.0) }
         ensures seat { IsSeat self.now }
     {
-        core.0 < 8 && self.held[core.0 as usize].is_some()
+        core.0 < MOST_CORES && self.held[core.0 as usize].is_some()
     }
 
     /// What the conductor did, where the seat holds its book.

@@ -12,6 +12,7 @@ use crate::seat::BoardSeat;
 use crate::words::{high_half, low_half};
 use atomic_table::Closed;
 use msrp_plan::ResId;
+use msrp_plan::limits::MOST_RESOURCES;
 use std::alloc::Global;
 use std::marker::Model;
 use std::snapshot::Snapshot;
@@ -19,7 +20,7 @@ use std::snapshot::Snapshot;
 /// The words and the books of a board at its end.
 #[derive(Drop)]
 pub struct Settled {
-    words: [u64; 33],
+    words: [u64; MOST_RESOURCES + 1],
     size: BoardSize,
     last: Snapshot<BoardSeat>,
 }
@@ -50,12 +51,12 @@ impl Board {
         let Board { table, size } = self;
         let last = Snapshot::of(&seat);
         let BoardSeat {
-            place,
+            table_seat,
             size: _,
             held: _,
             conductor: _,
         } = seat;
-        let closed = table.close_with(place);
+        let closed = table.close_with(table_seat);
         let words = words_of(&closed, size.resources);
         closed.free();
         Settled { words, size, last }
@@ -63,13 +64,13 @@ impl Board {
 }
 
 // The words of so many resources, and the barrier word.
-fn words_of(closed: &Closed<(), Global>, resources: u32) -> [u64; 33]
+fn words_of(closed: &Closed<(), Global>, resources: u32) -> [u64; MOST_RESOURCES + 1]
     requires full { IsFull closed.now.words }
-    requires size { (slots_len closed.now.words ≡ resources + 1) × (resources ≤ 32) }
-    ensures length { length result ≡ 33 }
+    requires size { (slots_len closed.now.words ≡ resources + 1) × (resources ≤ MOST_RESOURCES) }
+    ensures length { length result ≡ MOST_RESOURCES + 1 }
     ensures words { (g : ℕ) → g < resources + 1 → slice_index result g ≡ slice_index (slots_items closed.now.words) g }
 {
-    let mut words = [0; 33];
+    let mut words = [0; MOST_RESOURCES + 1];
     for g in 0..resources as usize + 1 {
         words[g] = closed.word(g);
     }

@@ -8,16 +8,16 @@ ghost use Rattle.msrp_board.specs.declared.held.Claim.TheVariants.{Nothing, Wait
 ghost use Rattle.msrp_board.specs.Inside.Rule.{ViewMayAct, HasEntered, IsTicket, TellsLook, ViewWaits, ViewIsAdmitted, with_pages, page_with_arrival, view_with_conductor, view_alone, view_without, view_both};
 
 use crate::pages::{
-    Aborts, Arrives, Asks, Both, Leaves, Looks, Named, Opens, Parts, Place, Polls, Words,
+    Aborts, Arrives, Asks, Both, Leaves, Looks, Named, Opens, Parts, Polls, TableSeat, Words,
 };
 use crate::words::{HIGH_ONE, TicketWord};
 use std::marker::Brand;
 
 /// A request. Answers the ticket word that it found.
-pub fn ask(words: &Words, seat: &mut Place, res: usize) -> TicketWord
+pub fn ask(words: &Words, seat: &mut TableSeat, res: usize) -> TicketWord
     requires table { seat.old.table_id ≡ words.now.table_id }
     requires res { (res < words.now.key.resources) × (words.now.table_id.words ≡ words.now.key.resources + 1) }
-    requires free { ViewMayAct words.now.key seat.old.me.0 Nothing }
+    requires free { ViewMayAct seat.old.me.0 Nothing }
     ensures table { seat.new.table_id ≡ seat.old.table_id }
     ensures found { IsTicket result }
     ensures asked { HasEntered res (result.next + result.serving) (Ask (result.next - result.serving)) seat.old.me seat.new.me }
@@ -25,24 +25,24 @@ pub fn ask(words: &Words, seat: &mut Place, res: usize) -> TicketWord
     TicketWord::of(words.fetch_add::<Asks>(seat, res, HIGH_ONE))
 }
 
-/// A poll of a core that waits with this turn. Answers the ticket word that it found.
-pub fn poll(words: &Words, seat: &mut Place, res: usize, turn: u32) -> TicketWord
+/// A poll of a core that waits with this ticket. Answers the ticket word that it found.
+pub fn poll(words: &Words, seat: &mut TableSeat, res: usize, ticket: u32) -> TicketWord
     requires table { seat.old.table_id ≡ words.now.table_id }
     requires res { (res < words.now.key.resources) × (words.now.table_id.words ≡ words.now.key.resources + 1) }
-    requires queued { ViewMayAct words.now.key seat.old.me.0 (Waits res turn) }
+    requires queued { ViewMayAct seat.old.me.0 (Waits res ticket) }
     ensures table { seat.new.table_id ≡ seat.old.table_id }
     ensures found { IsTicket result }
-    ensures polled { HasEntered res (result.next + result.serving) (Poll (2 * result.serving == turn)) seat.old.me seat.new.me }
+    ensures polled { HasEntered res (result.next + result.serving) (Poll (result.serving == ticket)) seat.old.me seat.new.me }
 {
-    let _ = turn;
+    let _ = ticket;
     TicketWord::of(words.load::<Polls>(seat, res))
 }
 
 /// A release. Answers the ticket word that it found.
-pub fn leave(words: &Words, seat: &mut Place, res: usize) -> TicketWord
+pub fn leave(words: &Words, seat: &mut TableSeat, res: usize) -> TicketWord
     requires table { seat.old.table_id ≡ words.now.table_id }
     requires res { (res < words.now.key.resources) × (words.now.table_id.words ≡ words.now.key.resources + 1) }
-    requires holding { (t : ℕ) × ViewMayAct words.now.key seat.old.me.0 (Holds res t) }
+    requires holding { (t : ℕ) × ViewMayAct seat.old.me.0 (Holds res t) }
     ensures table { seat.new.table_id ≡ seat.old.table_id }
     ensures found { IsTicket result }
     ensures left { HasEntered res (result.next + result.serving) Leave seat.old.me seat.new.me }
@@ -51,7 +51,7 @@ pub fn leave(words: &Words, seat: &mut Place, res: usize) -> TicketWord
 }
 
 /// An arrival.
-pub fn arrive(words: &Words, seat: &mut Place, barrier: usize)
+pub fn arrive(words: &Words, seat: &mut TableSeat, barrier: usize)
     requires table { seat.old.table_id ≡ words.now.table_id }
     requires barrier { (barrier ≡ words.now.key.resources) × (words.now.table_id.words ≡ words.now.key.resources + 1) }
     requires admitted { ViewIsAdmitted seat.old.me.0 }
@@ -62,7 +62,7 @@ pub fn arrive(words: &Words, seat: &mut Place, barrier: usize)
 }
 
 /// A look. Answers the barrier word that it found.
-pub fn look(words: &Words, seat: &mut Place, barrier: usize, cores: u32) -> u64
+pub fn look(words: &Words, seat: &mut TableSeat, barrier: usize, cores: u32) -> u64
     requires table { seat.old.table_id ≡ words.now.table_id }
     requires barrier { (barrier ≡ words.now.key.resources) × (words.now.table_id.words ≡ words.now.key.resources + 1) }
     requires cores { words.now.key.cores ≡ cores }
@@ -73,7 +73,7 @@ pub fn look(words: &Words, seat: &mut Place, barrier: usize, cores: u32) -> u64
     look_named::<Brand>(words, seat, barrier, cores)
 }
 
-fn look_named<N: Named>(words: &Words, seat: &mut Place, barrier: usize, cores: u32) -> u64
+fn look_named<N: Named>(words: &Words, seat: &mut TableSeat, barrier: usize, cores: u32) -> u64
     requires table { seat.old.table_id ≡ words.now.table_id }
     requires barrier { (barrier ≡ words.now.key.resources) × (words.now.table_id.words ≡ words.now.key.resources + 1) }
     requires cores { (N.number ≡ cores) × (words.now.key.cores ≡ cores) }
@@ -86,7 +86,7 @@ fn look_named<N: Named>(words: &Words, seat: &mut Place, barrier: usize, cores: 
 }
 
 /// The opening.
-pub fn open(words: &Words, seat: &mut Place, barrier: usize)
+pub fn open(words: &Words, seat: &mut TableSeat, barrier: usize)
     requires table { seat.old.table_id ≡ words.now.table_id }
     requires barrier { (barrier ≡ words.now.key.resources) × (words.now.table_id.words ≡ words.now.key.resources + 1) }
     requires unopened { seat.old.me.0.conductor ≡ Some Unopened }
@@ -97,7 +97,7 @@ pub fn open(words: &Words, seat: &mut Place, barrier: usize)
 }
 
 /// The abort.
-pub fn abort(words: &Words, seat: &mut Place, barrier: usize)
+pub fn abort(words: &Words, seat: &mut TableSeat, barrier: usize)
     requires table { seat.old.table_id ≡ words.now.table_id }
     requires barrier { (barrier ≡ words.now.key.resources) × (words.now.table_id.words ≡ words.now.key.resources + 1) }
     requires unopened { seat.old.me.0.conductor ≡ Some Unopened }
@@ -108,7 +108,7 @@ pub fn abort(words: &Words, seat: &mut Place, barrier: usize)
 }
 
 /// The seat keeps the page of the core, and the new one has the others.
-pub fn split(words: &Words, seat: &mut Place, core: usize) -> Place
+pub fn split(words: &Words, seat: &mut TableSeat, core: usize) -> TableSeat
     requires table { seat.old.table_id ≡ words.now.table_id }
     requires words { 0 < words.now.table_id.words }
     ensures tables { (seat.new.table_id ≡ seat.old.table_id) × (result.table_id ≡ seat.old.table_id) }
@@ -117,7 +117,7 @@ pub fn split(words: &Words, seat: &mut Place, core: usize) -> Place
     split_named::<Brand>(words, seat, core)
 }
 
-fn split_named<N: Named>(words: &Words, seat: &mut Place, core: usize) -> Place
+fn split_named<N: Named>(words: &Words, seat: &mut TableSeat, core: usize) -> TableSeat
     requires table { seat.old.table_id ≡ words.now.table_id }
     requires words { 0 < words.now.table_id.words }
     requires core { N.number ≡ core }
@@ -129,7 +129,7 @@ fn split_named<N: Named>(words: &Words, seat: &mut Place, core: usize) -> Place
 }
 
 /// The seat takes the other's pages.
-pub fn join(words: &Words, seat: &mut Place, other: Place)
+pub fn join(words: &Words, seat: &mut TableSeat, other: TableSeat)
     requires table { (seat.old.table_id ≡ words.now.table_id) × (other.table_id ≡ words.now.table_id) × (other.me.1 ≡ []) }
     requires words { 0 < words.now.table_id.words }
     ensures table { seat.new.table_id ≡ seat.old.table_id }

@@ -6,6 +6,8 @@ ghost use Rattle.std.specs.Thread.{IsSync};
 ghost use Rattle.msrp_board.specs.declared.answers.Look.TheVariants.{Go};
 ghost use Rattle.msrp_board.specs.Seats.{IsCoreSeatOn, IsFresh};
 
+mod port;
+
 use super::*;
 use msrp_plan::{CoreId, Phase, ResId};
 use std::alloc::{AllocError, Global};
@@ -372,6 +374,16 @@ fn lap_all(rt: &impl Abort, board: &Board, players: &mut [Player], tick: u32)
     }
 }
 
+/// Each core has arrived from the last tick.
+fn are_done(rt: &impl Abort, board: &Board, players: &[Player])
+    requires { All (λ p. IsCoreSeatOn board.now p.seat) players.now }
+{
+    let _ = board;
+    for player in players {
+        assert_eq!(rt; player.seat.phase(), SeatPhase::Done);
+    }
+}
+
 /// A board and its first seat.
 fn board_of(
     rt: &impl Abort,
@@ -411,6 +423,7 @@ fn longest_run_is_counted(rt: HostRuntime) -> Result<(), Fail> {
     let (players, mut rest) = deal(&rt, rt.alloc(), &board, seat, 8)?;
     open(&rt, &board, &mut rest);
     let players = run_laps(&rt, &board, players, 20000);
+    are_done(&rt, &board, players.as_slice());
     let all = gather(&board, players, rest);
     let settled = end(&rt, board, 8, all);
     for res in 0u32..32 {
@@ -620,7 +633,7 @@ fn gather_played(
 }
 
 /// What threads were answered, one for each core, in the order of the histories, is what one thread would have
-/// answered. Of each core there are so many answers at least.
+/// answered. The cores together were answered more often than there are ticks, so the threads did something.
 fn check_threads<R: Threads + Abort + Sync>(
     rt: &R,
     alloc: Global,

@@ -1,5 +1,5 @@
 //! What each task does with each resource, from one pass over its units.
-ghost use Rattle.std.specs.Prelude.{◌≡◌, ◌<◌, ◌≤◌, ◌+◌, ◌^◌, length, map, IfOk};
+ghost use Rattle.std.specs.Prelude.{◌≡◌, ◌<◌, ◌+◌, ◌^◌, length, map, IfOk};
 ghost use Rattle.msrp_plan.specs.Plan.{task_at};
 ghost use Rattle.msrp_plan.specs.Levels.{level_of};
 ghost use Rattle.msrp_plan.specs.WellFormed.{IsPlan};

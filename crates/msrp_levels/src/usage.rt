@@ -1,10 +1,9 @@
 //! How a plan uses one resource.
-ghost use Rattle.std.specs.Prelude.{◌≡◌, ◌==◌, ◌<◌, ◌≤◌, ◌*◌, ◌^◌, ◌&&◌, filter, length, map, not, IfOk};
+ghost use Rattle.std.specs.Prelude.{◌≡◌, ◌==◌, ◌<◌, ◌≤◌, ◌^◌, ◌&&◌, filter, length, map, not, IfOk};
 ghost use Rattle.std.specs.List.{All, find, list_any, range_with_len};
 ghost use Rattle.std.specs.Option.{option_copied};
 ghost use Rattle.msrp_plan.specs.Levels.{greatest, top};
-ghost use Rattle.msrp_plan.specs.WellFormed.{IsPlan};
-ghost use Rattle.msrp_levels.specs.Footprints.{footprint_of, locks_in, longest_in, footprint_at};
+ghost use Rattle.msrp_levels.specs.Footprints.{footprint_of, locks_in, footprint_at};
 ghost use Rattle.msrp_levels.specs.Usage.{is_used_among, is_global_among, section_among, spin_among, core_use, IsUsage, IsShort};
 
 use crate::footprints::Footprint;

@@ -1,5 +1,5 @@
 -- The turns on a resource, in the order of the merged list, are the history of the resource.
-use Rattle.std.proofs.Common.{◌≡◌, ℕ, ◌==◌, ◌<◌, ◌≤◌, Bool, true, false, cond, not, ◌&&◌, List, [], ◌∷◌, Option, Some, refl, ap, sym, ◌∙◌, subst, arith, ◌⊎◌, inl, inr}
+use Rattle.std.proofs.Common.{◌≡◌, ℕ, ◌==◌, ◌<◌, ◌≤◌, Bool, true, false, cond, not, List, [], ◌∷◌, Option, Some, refl, ap, sym, ◌∙◌, subst, arith, ◌⊎◌, inl, inr}
 use Rattle.std.specs.List.{AllByRecursion, filter}
 use Rattle.std.specs.Option.{option_map}
 use Rattle.std.specs.Ordering.{is_lt, nat_cmp, bool_cmp, ordering_then}
@@ -13,7 +13,7 @@ use Rattle.msrp_plan.specs.declared.ids.ResId.{ResId}
 use Rattle.msrp_plan.proofs.Lists.{all_weaker, all_both}
 use Rattle.msrp_board.specs.declared.books.Entry.{Entry}
 use Rattle.msrp_board.specs.Books.{on, IsChain}
-use Rattle.msrp_board.specs.History.{Event, by, is_poll, place_after, Placed, PollsInOrder, IsNotLater, IsHistory}
+use Rattle.msrp_board.specs.History.{Event, is_poll, IsNotLater, IsHistory}
 use Rattle.msrp_board.proofs.Unique.{Lex, step_of, Before, Sorted as SortedEvents, sorted_history}
 use Rattle.msrp_merge.specs.declared.logs.Place.{Place}
 use Rattle.msrp_merge.specs.declared.logs.Turn.{Turn}

@@ -1,9 +1,11 @@
 pub mod Insertion
 pub mod Ranks
 pub mod Blocks
+pub mod Fitting
 pub mod Pairing
 pub mod Histories
 pub mod Replies
 pub mod Runs
 pub mod Loops
 pub mod Boards
+pub mod Handover

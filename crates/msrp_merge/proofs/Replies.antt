@@ -1,5 +1,5 @@
 -- Where the steps on a resource are, in order, those of a legal history, each replies as the queue of the resource.
-use Rattle.std.proofs.Common.{◌≡◌, ℕ, Bool, true, false, cond, ◌&&◌, List, [], ◌∷◌, ◌++◌, Option, Some, None, map, refl, ap, sym, ◌∙◌, subst, append-nil, append_assoc, eq-eqb, ◌⊎◌, inl, inr}
+use Rattle.std.proofs.Common.{◌≡◌, ℕ, Bool, true, false, cond, ◌&&◌, List, [], ◌∷◌, ◌++◌, Option, Some, None, refl, ap, sym, ◌∙◌, subst, append-nil, append_assoc, eq-eqb, ◌⊎◌, inl, inr}
 use Rattle.std.specs.List.{filter}
 use Rattle.std.proofs.Math.Bool.{true≢false}
 use Rattle.std.proofs.lemmas.Bool.{eqb-true, and_from}
@@ -11,9 +11,9 @@ use Rattle.msrp_plan.specs.Levels.{is_global}
 use Rattle.msrp_plan.specs.Actions.{is_global_unit, res_of_unit}
 use Rattle.msrp_plan.specs.Queues.{is_on, fifo, replies, counts, is_reply_of}
 use Rattle.msrp_plan.specs.Shape.{may_carry, is_queue}
-use Rattle.msrp_plan.specs.Runs.{EachAfter, IsLegal, IsCoreTurn, is_fifo_reply, replies_on}
-use Rattle.msrp_plan.specs.Logs.{log_of, AreInterleaved}
-use Rattle.msrp_plan.specs.FifoLock.{FifoLock, free_lock, Answers, lock_after, LegalFrom, Legal}
+use Rattle.msrp_plan.specs.Runs.{EachAfter, IsLegal, is_fifo_reply, replies_on}
+use Rattle.msrp_plan.specs.Logs.{AreInterleaved}
+use Rattle.msrp_plan.specs.FifoLock.{FifoLock, free_lock, Answers, lock_after, LegalFrom}
 use Rattle.msrp_plan.specs.LockStates.{lock_at, lock_from, IsRowOfCall}
 use Rattle.msrp_plan.specs.WellFormed.{IsPlan}
 use Rattle.msrp_plan.specs.declared.ids.JobId.{JobId}
@@ -22,7 +22,7 @@ use Rattle.msrp_plan.specs.declared.rows.Kind.{Kind}
 use Rattle.msrp_plan.specs.declared.rows.Kind.TheVariants.{Lock, Unlock}
 use Rattle.msrp_plan.specs.declared.rows.Row.{Row}
 use Rattle.msrp_plan.specs.declared.units.Call.{Call}
-use Rattle.msrp_plan.specs.declared.units.Op.TheVariants.{Lock as LockUnit, Unlock as UnlockUnit}
+use Rattle.msrp_plan.specs.declared.units.Op.TheVariants.{Lock as LockUnit}
 use Rattle.msrp_plan.proofs.Interleaving.{AreAnswered, interleaved_legal}
 use Rattle.msrp_plan.proofs.LegalRows.{IsTurn, DoesUnit, legal_turn, idle_res}
 use Rattle.msrp_plan.proofs.Prefixes.{each_push, each_weaker}

@@ -1,12 +1,11 @@
 -- The merged list is a legal run, and its steps on each resource are the resource's history.
-use Rattle.std.proofs.Common.{◌≡◌, ℕ, zero, suc, ◌+◌, ◌*◌, ◌/◌, ◌<◌, ◌≤◌, Bool, true, false, cond, ◌&&◌, List, [], ◌∷◌, ◌++◌, map, length, refl, ap, sym, ◌∙◌, subst, arith, inl, inr, eq-eqb, ne_eqb, length-append}
+use Rattle.std.proofs.Common.{◌≡◌, ℕ, zero, suc, ◌+◌, ◌/◌, ◌<◌, ◌≤◌, Bool, true, false, cond, ◌&&◌, List, [], ◌∷◌, ◌++◌, length, refl, ap, sym, ◌∙◌, subst, arith, inl, inr, eq-eqb, ne_eqb, length-append}
 use Rattle.std.specs.List.{AllByRecursion, filter}
 use Rattle.std.proofs.Math.Bool.{true≢false}
 use Rattle.std.proofs.lemmas.Bool.{cases_lt, and_parts, and_from}
-use Rattle.std.proofs.lemmas.List.{length-map, map-append, get_or_past}
+use Rattle.std.proofs.lemmas.List.{length-map, map-append}
 use Rattle.msrp_plan.specs.Plan.{PlanModel}
 use Rattle.msrp_plan.specs.Aheads.{carries_its_ahead, carries_ahead}
-use Rattle.msrp_plan.specs.Levels.{is_global}
 use Rattle.msrp_plan.specs.Queues.{is_on}
 use Rattle.msrp_plan.specs.Runs.{EachAfter, IsCoreTurn, CoreRun, IsRun}
 use Rattle.msrp_plan.specs.Logs.{is_of, log_of, AreInterleaved}

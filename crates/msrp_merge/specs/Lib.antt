@@ -4,3 +4,4 @@ pub mod Order
 pub mod Sorting
 pub mod Steps
 pub mod Merging
+pub mod Handover

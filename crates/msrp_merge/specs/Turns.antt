@@ -7,7 +7,6 @@ use Rattle.msrp_plan.specs.declared.rows.Kind.TheVariants.{Take, Queue, Grant, S
 use Rattle.msrp_plan.specs.declared.rows.Row.{Row}
 use Rattle.msrp_board.specs.declared.books.Entry.{Entry}
 use Rattle.msrp_board.specs.History.{is_poll}
-use Rattle.msrp_merge.specs.declared.logs.Place.{Place}
 use Rattle.msrp_merge.specs.declared.logs.Turn.{Turn}
 use Rattle.msrp_merge.specs.Pairs.{Paired}
 

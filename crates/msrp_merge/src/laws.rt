@@ -1,18 +1,22 @@
 //! Laws that the merge rests on. Each function does nothing; its contract is the law.
-ghost use Rattle.std.specs.Prelude.{◌≡◌, ℕ, List, [], filter, true};
+ghost use Rattle.std.specs.Prelude.{◌≡◌, ℕ, List, [], ◌∷◌, ◌++◌, None, filter, true, false};
+ghost use Rattle.msrp_plan.specs.Examples.HandoverATickLater as handover_a_tick_later;
 ghost use Rattle.msrp_plan.specs.Logs.{AreInterleaved};
 ghost use Rattle.msrp_plan.specs.Plan.{PlanModel};
 ghost use Rattle.msrp_plan.specs.Runs.{EachAfter, is_fifo_reply};
 ghost use Rattle.msrp_plan.specs.WellFormed.{IsPlan};
 ghost use Rattle.msrp_plan.specs.declared.rows.Row.{Row};
+ghost use Rattle.msrp_board.specs.Boards.{entries_at};
 ghost use Rattle.msrp_board.specs.Books.{IsChain};
-ghost use Rattle.msrp_board.specs.History.{Event, IsHistory, IsNotLater};
+ghost use Rattle.msrp_board.specs.History.{Event, IsHistory, IsNotLater, IsServed};
 ghost use Rattle.msrp_board.specs.declared.books.Entry.{Entry};
+ghost use Rattle.msrp_merge.specs.Handover.{books, history, logs};
+ghost use Rattle.msrp_merge.specs.Merging.{AreLogs, turns_of};
 ghost use Rattle.msrp_merge.specs.Order.{InOrder, Sorted};
 ghost use Rattle.msrp_merge.specs.Pairs.{Paired};
 ghost use Rattle.msrp_merge.specs.Sorting.{AreTurns, IsMerged, is_by, merged};
 ghost use Rattle.msrp_merge.specs.Steps.{AreServed, IsTurnOfEvent, is_step_on};
-ghost use Rattle.msrp_merge.specs.Turns.{Fits};
+ghost use Rattle.msrp_merge.specs.Turns.{Fits, IsTurnOf, is_step, rows_of};
 ghost use Rattle.msrp_merge.specs.declared.logs.Turn.{Turn};
 
 /// The sort keeps each core's turns in their order, one in each tick, and puts those of a tick in order by rank.
@@ -30,4 +34,26 @@ pub fn sorted_turns_are_the_history()
 /// the core, and the steps on each resource are a legal history, every row replies so.
 pub fn legal_steps_reply()
     ensures { (plan : PlanModel) (rows : List Row) → IsPlan plan → AreInterleaved plan rows → AreServed plan rows → EachAfter (λ pre r. is_fifo_reply pre r ≡ true) [] rows }
+{}
+
+/// A step that is logged without a place fits no book.
+pub fn steps_have_places()
+    ensures { (turns more : List Turn) (x : Turn) (entries : List Entry) → is_step x.row.kind ≡ true → x.place ≡ None → ¬ Fits (turns ++ x ∷ more) entries }
+{}
+
+/// An empty log fits a book without entries. A log that fits its book still does after a turn that is no step and has no
+/// place, and after a step where the book gains the step's entry.
+pub fn logs_fit_turn_by_turn()
+    ensures start { Fits [] [] }
+    ensures quiet { (turns : List Turn) (entries : List Entry) (x : Turn) → Fits turns entries → x.place ≡ None → is_step x.row.kind ≡ false → Fits (turns ++ x ∷ []) entries }
+    ensures step { (turns : List Turn) (entries : List Entry) (x : Turn) (e : Entry) → Fits turns entries → IsTurnOf x e → Fits (turns ++ x ∷ []) (entries ++ e ∷ []) }
+{}
+
+/// A worked merge: two logs that fit the books of a board, the history of the resource that one core hands over to the
+/// other, and the rows, in which a poll stands before the release of the same place, though its core has the higher
+/// number.
+pub fn handover()
+    ensures logs { AreLogs handover_a_tick_later.plan logs (entries_at books) }
+    ensures history { IsServed 2 2 0 (entries_at books) history }
+    ensures rows { rows_of (merged (turns_of logs) 2 6) ≡ handover_a_tick_later.rows }
 {}

@@ -11,6 +11,8 @@ use std::test::*;
 
 const RES: ResId = ResId(0);
 
+const TICKS: u32 = 6;
+
 fn job_of(core: u32) -> JobId
     ensures { result ≡ record { task = record { 0 = core }; k = 0 } }
 {
@@ -65,7 +67,7 @@ fn step(tick: u32, core: u32, kind: Kind, number: u32) -> Turn
 fn log_of(rt: &impl Abort, alloc: Global, core: u32, turns: &[Turn]) -> CoreLog
     ensures { length result.turns ≡ length turns.now }
 {
-    let Ok(mut log) = CoreLog::with_room(alloc, CoreId(core), 6) else {
+    let Ok(mut log) = CoreLog::with_room(alloc, CoreId(core), TICKS) else {
         panic!(rt; "no memory")
     };
     for turn in turns {
@@ -99,7 +101,7 @@ fn a_handover_is_merged(rt: HostRuntime) {
         log_of(&rt, rt.alloc(), 0, &zero),
         log_of(&rt, rt.alloc(), 1, &one),
     ];
-    let Ok(rows) = merged_rows(rt.alloc(), &logs, 6) else {
+    let Ok(rows) = merged_rows(rt.alloc(), &logs, 2, TICKS as usize) else {
         panic!(rt; "no memory")
     };
     let told = [

@@ -8,3 +8,4 @@ pub mod OneSection
 pub mod SectionRows
 pub mod Bound
 pub mod UnitByUnit
+pub mod FromRelease

@@ -1,8 +1,8 @@
 -- The jobs of a task, and of a core, as lists.
 use Rattle.std.proofs.Common.{◌≡◌, ℕ, zero, suc, ◌+◌, ◌-◌, ◌<◌, ◌≤◌, ◌==◌, Bool, true, false, cond, List, [], ◌∷◌, ◌++◌, map, refl, ap, sym, ◌∙◌, subst, arith, nat_lt, length, length-append}
-use Rattle.std.specs.List.{AllByRecursion, filter, flat_map, range_with_len}
-use Rattle.std.proofs.lemmas.List.Elements.{filter-append}
-use Rattle.msrp_plan.specs.Plan.{PlanModel, task_at, core_of, release}
+use Rattle.std.specs.List.{AllByRecursion, Contains, filter, flat_map, range_with_len}
+use Rattle.std.proofs.lemmas.List.Elements.{All-contains, All-from_recursion, filter-append}
+use Rattle.msrp_plan.specs.Plan.{PlanModel, task_at, core_of, release, units}
 use Rattle.msrp_plan.specs.Jobs.{jobs_of, jobs_on}
 pub use Rattle.msrp_plan.specs.Jobs.{job_at}
 use Rattle.msrp_plan.specs.WellFormed.{IsPlan}
@@ -79,3 +79,7 @@ among_grows plan c t (suc n) =
 -- fewer tasks have no more jobs on the core
 pub among_fewer : (plan : PlanModel) (c t n : ℕ) → t ≤ n → length (jobs_among plan c (range_with_len 0 t)) ≤ length (jobs_among plan c (range_with_len 0 n))
 among_fewer plan c t n h = let z : t + (n - t) ≡ n = omega arith in let a = ap (λ m. length (jobs_among plan c (range_with_len 0 m))) z in let e = among_grows plan c t (n - t) in omega (arith, a, e)
+
+-- the task of a job is one of the plan's, so it has a unit
+pub has_unit : (plan : PlanModel) (c : ℕ) (x : JobId) → IsPlan plan → Contains (jobs_on plan c) x → 0 < length (units plan x)
+has_unit plan c x ok on = (ok.whole x.task.0 (All-contains (λ (j : JobId). j.task.0 < length plan.tasks) (jobs_on plan c) x (All-from_recursion (λ (j : JobId). j.task.0 < length plan.tasks) (jobs_on plan c) (core_jobs_below plan c)) on)).work

@@ -107,20 +107,6 @@ asks_at plan g pre r x k a on kind ask =
       | Releases h eo ek eg ↦ absurd (true≢false (sym ask ∙ ap is_ask (sym kind ∙ ek)))
     ]
 
--- a release stands at an unlock of g
-pub leaves_at : (plan : PlanModel) (g : ℕ) (pre : List Row) (r : Row) (x : JobId) → (a : DoesUnit plan pre x r) → is_on g r.res ≡ true → r.kind ≡ Release → is_unlock_of g a.op ≡ true
-leaves_at plan g pre r x a on kind =
-    elim (step_of (is_global_unit plan a.op) (is_queued pre x) a.op r.kind a.kind) [
-      | Runs eo ek ↦ absurd (let k : Run ≡ Release = sym ek ∙ kind in cc)
-      | Locks h eo ek eg ↦ absurd (let k : Lock ≡ Release = sym ek ∙ kind in cc)
-      | Unlocks h eo ek eg ↦ absurd (let k : Unlock ≡ Release = sym ek ∙ kind in cc)
-      | Takes h eo ek eg eq ↦ absurd (let k : Take ≡ Release = sym ek ∙ kind in cc)
-      | Queues h eo ek eg eq ↦ absurd (let k : Queue ≡ Release = sym ek ∙ kind in cc)
-      | Grants h eo ek eg eq ↦ absurd (let k : Grant ≡ Release = sym ek ∙ kind in cc)
-      | Spins h eo ek eg eq ↦ absurd (let k : Spin ≡ Release = sym ek ∙ kind in cc)
-      | Releases h eo ek eg ↦ ap (is_unlock_of g) eo ∙ (sym (ap (is_on g) (a.res ∙ ap res_of_unit eo)) ∙ on)
-    ]
-
 -- who has got it has at most the longest section to do
 pub got_work : (plan : PlanModel) (g : ℕ) (pre : List Row) (r : Row) (x : JobId) (k : Kind) → DoesUnit plan pre x r → is_on g r.res ≡ true → r.job ≡ Some x → r.kind ≡ k → is_ask k ≡ true → is_waiting k ≡ false → stand plan g (pre ++ r ∷ []) x ≡ Holds → work plan g (pre ++ r ∷ []) x ≤ section plan g (core_of plan x)
 got_work plan g pre r x k a on job kind ask w after =

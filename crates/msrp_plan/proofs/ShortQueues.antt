@@ -1,7 +1,6 @@
 -- Short queues: whoever joins one finds there at most one request for each other core.
 use Rattle.std.proofs.Common.{◌≡◌, ℕ, ◌+◌, ◌≤◌, true, List, [], ◌∷◌, ◌++◌, Option, Some, None, refl, ap, sym, ◌∙◌, arith, subst, length, length-append}
 use Rattle.msrp_plan.specs.Plan.{PlanModel}
-use Rattle.msrp_plan.specs.Jobs.{is_row_of}
 use Rattle.msrp_plan.specs.Queues.{fifo, is_on}
 use Rattle.msrp_plan.specs.Runs.{IsLegal, IsRunStart, EachAfter}
 use Rattle.msrp_plan.specs.WellFormed.{IsPlan}

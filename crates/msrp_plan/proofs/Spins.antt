@@ -1,5 +1,5 @@
 -- How often a waiting job spins: at the end of each tick the spins so far and the work ahead are within the work that was ahead at first.
-use Rattle.std.proofs.Common.{◌≡◌, ◌≢◌, ℕ, ◌+◌, ◌<◌, ◌≤◌, Bool, true, false, cond, ◌&&◌, ◌||◌, ◌==◌, List, [], ◌∷◌, ◌++◌, Some, refl, ap, sym, ◌∙◌, subst, arith, drop, append_assoc, append-nil, slice_get, inl, inr, ◌⊎◌, eq-eqb}
+use Rattle.std.proofs.Common.{◌≡◌, ◌≢◌, ℕ, ◌+◌, ◌<◌, ◌≤◌, Bool, true, false, cond, ◌||◌, ◌==◌, List, [], ◌∷◌, ◌++◌, Some, refl, ap, sym, ◌∙◌, subst, arith, drop, append_assoc, append-nil, slice_get, inl, inr, ◌⊎◌, eq-eqb}
 use Rattle.std.specs.List.{AllByRecursion, Contains, count_by, list_any}
 use Rattle.std.proofs.Math.Bool.{true≢false}
 use Rattle.std.proofs.lemmas.Bool.{eqb-true, and_parts, or_parts}

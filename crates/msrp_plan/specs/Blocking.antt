@@ -1,9 +1,9 @@
 -- Blocking of a job by later ones: which rows block it, and where in their outermost sections the later jobs stand.
-use Rattle.std.specs.Prelude.{ℕ, List, [], ◌∷◌, ◌++◌, Bool, true, false, ◌==◌, ◌&&◌, ◌||◌, not, Option, Some, None, cond, ◌≡◌, ◌<◌, ◌≤◌, ◌+◌}
-use Rattle.std.specs.List.{Contains}
+use Rattle.std.specs.Prelude.{ℕ, List, [], ◌∷◌, ◌++◌, Bool, true, false, ◌==◌, ◌&&◌, ◌||◌, not, Option, Some, None, cond, filter, ◌≡◌, ◌<◌, ◌≤◌, ◌+◌}
+use Rattle.std.specs.List.{AllByRecursion, Contains}
 use Rattle.msrp_plan.specs.Plan.{PlanModel, task_of, core_of, units, release}
-use Rattle.msrp_plan.specs.Jobs.{jobs, is_row_of, is_released, is_finished, is_queued, done}
-use Rattle.msrp_plan.specs.Choice.{is_before, running}
+use Rattle.msrp_plan.specs.Jobs.{jobs, jobs_on, is_row_of, is_released, is_started, is_finished, is_queued, done}
+use Rattle.msrp_plan.specs.Choice.{is_before, least, running}
 use Rattle.msrp_plan.specs.Bounds.{is_inside, opening, out, blocked_bound}
 use Rattle.msrp_plan.specs.Runs.{EachAfter}
 use Rattle.msrp_plan.specs.declared.ids.JobId.{JobId}
@@ -27,6 +27,15 @@ blocks plan j pre r = (r.core.0 == core_of plan j) && (is_released plan r.tick j
 -- how many rows block the job
 abbrev pub blocked : PlanModel → List Row → JobId → ℕ
 blocked plan rows j = count_after (blocks plan j) [] rows
+
+-- the first of the later jobs of its core that are started and unfinished
+abbrev pub first_later : PlanModel → List Row → JobId → Option JobId
+first_later plan pre j = least (is_before plan) (filter (λ k. (is_started pre k && not (is_finished plan pre k)) && is_before plan j k) (jobs_on plan (core_of plan j)))
+
+-- the row is of the job, if there is one
+abbrev pub is_by : Option JobId → Row → Bool
+is_by None r = false
+is_by (Some k) r = is_row_of k r
 
 -- ---- sections
 -- the job stands in an outermost section, after the section's first row: it holds a resource, or is queued for one
@@ -84,3 +93,17 @@ BoundedSections plan rows = (k : JobId) (a : ℕ) → count_after (continues pla
 -- so no job of the plan is blocked for more rows than the plan's bound
 abbrev pub BoundedBlocking : PlanModel → List Row → Type 0
 BoundedBlocking plan rows = (j : JobId) → Contains (jobs plan) j → blocked plan rows j ≤ blocked_bound plan (task_of plan j)
+
+-- the rows of the job's core stand before the job's release, or from it on
+abbrev pub ComesBefore : PlanModel → JobId → Row → Type 0
+ComesBefore plan j r = r.core.0 ≡ core_of plan j → r.tick < release plan j
+
+abbrev pub ComesAfter : PlanModel → JobId → Row → Type 0
+ComesAfter plan j r = r.core.0 ≡ core_of plan j → release plan j ≤ r.tick
+
+-- who blocks a job is known at its release: the first of the later jobs that are started and unfinished then, and each
+-- row that this job makes before the blocked job starts counts
+abbrev pub BlockedSinceRelease : PlanModel → List Row → Type 0
+BlockedSinceRelease plan rows =
+    (j : JobId) (pre rest : List Row) → rows ≡ pre ++ rest → Contains (jobs plan) j → AllByRecursion (ComesBefore plan j) pre → AllByRecursion (ComesAfter plan j) rest
+    → blocked plan rows j ≡ count_after (λ before r. not (is_started before j) && is_by (first_later plan pre j) r) pre rest

@@ -28,3 +28,4 @@ pub mod FiveInAQueue
 pub mod LockCalls
 pub mod WrongActions
 pub mod PastLimits
+pub mod BrokenLaws

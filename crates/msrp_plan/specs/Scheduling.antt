@@ -1,5 +1,5 @@
 -- What the rules of a turn come to, in the words of scheduling, and that a run goes on in every order of turns.
-use Rattle.std.specs.Prelude.{ℕ, List, [], ◌∷◌, ◌++◌, Bool, true, false, Some, count_by, length, ◌==◌, ◌≡◌, ◌≢◌, ◌↔◌, ◌<◌, ◌≤◌, ◌*◌, ◌/◌}
+use Rattle.std.specs.Prelude.{ℕ, List, [], true, false, Some, count_by, length, ◌==◌, ◌≡◌, ◌≢◌, ◌↔◌, ◌<◌, ◌≤◌, ◌*◌, ◌/◌}
 use Rattle.std.specs.List.{Contains}
 use Rattle.msrp_plan.specs.Plan.{PlanModel, release}
 use Rattle.msrp_plan.specs.Jobs.{jobs_on, is_started, is_finished}

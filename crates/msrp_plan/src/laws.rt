@@ -19,12 +19,15 @@ ghost use Rattle.msrp_plan.specs.Examples.RequestedAgain as requested_again;
 ghost use Rattle.msrp_plan.specs.declared.rows.Row.{Row};
 
 mod blocking;
+mod broken;
 mod scheduling;
 
 pub use blocking::{
     blocked_as_long_as_can_be, blocked_by_a_global_section, blocked_by_begun_sections,
-    blocked_by_one_section, bounded_blocking, bounded_sections, bounds_on_blocking,
+    blocked_by_one_section, blocked_since_release, bounded_blocking, bounded_sections,
+    bounds_on_blocking,
 };
+pub use broken::{broken_bounds, broken_schedules};
 pub use scheduling::{earliest_deadline_first, existence, runs_released, work_conservation};
 
 /// No local blocking: a job that has its turn never finds a local resource held by another job, of whatever

@@ -6,3 +6,4 @@ pub mod Between
 pub mod Once
 pub mod Standing
 pub mod Moving
+pub mod Heads

@@ -10,3 +10,6 @@ mod keyed;
 mod ready;
 
 pub use ready::Ready;
+
+#[cfg(test)]
+mod tests;

@@ -15,7 +15,10 @@ use std::marker::Model;
 /// The jobs of a core that are released and not taken, of which the one with the least key is the head.
 ///
 /// A new one has released nothing. [`release_to`](Ready::release_to) releases the jobs up to a tick, and
-/// [`take_head`](Ready::take_head) takes the head, as who is started is ready no more.
+/// [`take_head`](Ready::take_head) takes the head, which its first turn starts. A head whose preemption level doesn't pass the
+/// ceiling holds up the jobs behind it (Baker 1991, the Stack Resource Policy), so nobody asks for another than the head.
+///
+/// Jobs wait for their release in a list by releases, and for their start in a binary heap by keys.
 #[derive(Drop)]
 pub struct Ready<'a> {
     plan: &'a Plan,
@@ -56,7 +59,8 @@ impl<'a> Ready<'a> {
         })
     }
 
-    /// Releases the jobs of the core that are released at or before a tick, which is no earlier one than before. It takes no memory.
+    /// Releases the jobs of the core whose release is at or before a tick, which is no earlier than the one before. It takes no
+    /// memory.
     pub fn release_to(&mut self, tick: u32)
         requires { ForSome self.old.tick (λ before. before ≤ tick) }
         ensures tick { self.new ≡ record self.old { tick = Some tick; compared = self.new.compared } }
@@ -68,6 +72,13 @@ impl<'a> Ready<'a> {
     {
         self.next = release(&self.calendar, self.next, tick, &mut self.heap);
         self.tick = Some(tick);
+    }
+
+    /// The tick up to which jobs are released, none before the first.
+    pub fn tick(&self) -> Option<u32>
+        ensures { result ≡ self.now.tick }
+    {
+        self.tick
     }
 
     /// The ready job with the least key. It compares no keys.
@@ -90,7 +101,7 @@ impl<'a> Ready<'a> {
         Some(first.job)
     }
 
-    /// How often two keys were compared.
+    /// How often two keys were compared since this was made.
     pub fn compared(&self) -> u64
         ensures { result ≡ self.now.compared }
     {

@@ -8,10 +8,10 @@ use Rattle.std.proofs.lemmas.Option.{slice_get_past}
 use Rattle.msrp_plan.specs.Building.{empty_plan}
 use Rattle.msrp_plan.specs.Plan.{PlanModel}
 use Rattle.msrp_plan.specs.declared.faults.PlanFault.{PlanFault}
-use Rattle.msrp_text.specs.Reading.{Answers, fault_after, first_or, number_told, plan_of, plan_told, refusal_at, with_record}
+use Rattle.msrp_text.specs.Reading.{Answers, fault_after, first_or, number_told, plan_of, plan_told, refusal_at, version_told, with_record}
 use Rattle.msrp_text.specs.Stages.{numbered, stage_fault, stage_plan, stage_with}
 use Rattle.msrp_text.specs.declared.stages.Stage.{Stage}
-use Rattle.msrp_text.specs.declared.stages.Stage.TheVariants.{Version, Cores, Ticks, Tasks}
+use Rattle.msrp_text.specs.declared.stages.Stage.TheVariants.{Version, Cores, Ticks, Body}
 use Rattle.msrp_text.specs.declared.reading.TextError.{TextError}
 use Rattle.msrp_text.specs.declared.reading.TextError.TheVariants.{At, Memory}
 
@@ -27,9 +27,9 @@ plan_from stage number (row ∷ rest) = going (numbered (stage_fault stage (Some
 -- the stage after these records, if none is refused
 unfoldable stage_of : List (List (List ℕ)) → Stage
 stage_of [] = Version
-stage_of (version ∷ []) = Cores
-stage_of (version ∷ cores ∷ []) = Ticks (number_told cores 1)
-stage_of (version ∷ cores ∷ ticks ∷ rest) = Tasks (plan_told (version ∷ cores ∷ ticks ∷ rest))
+stage_of (version ∷ []) = Cores (version_told version)
+stage_of (version ∷ cores ∷ []) = Ticks (version_told version) (number_told cores 1)
+stage_of (version ∷ cores ∷ ticks ∷ rest) = Body (version_told version) (plan_told (version ∷ cores ∷ ticks ∷ rest))
 
 -- the rule that is broken after these records is the one broken at their stage
 fault-at : (before : List (List (List ℕ))) (next : Option (List (List ℕ))) → fault_after before next ≡ stage_fault (stage_of before) next
@@ -45,7 +45,7 @@ unfolding stage_of stage_with plan_told
 stage-more [] row = refl
 stage-more (version ∷ []) row = refl
 stage-more (version ∷ cores ∷ []) row = refl
-stage-more (version ∷ cores ∷ ticks ∷ rest) row = ap (λ (plan : PlanModel). Tasks plan) (fold-append with_record (empty_plan (number_told cores 1) (number_told ticks 1)) rest (row ∷ []))
+stage-more (version ∷ cores ∷ ticks ∷ rest) row = ap (λ (plan : PlanModel). Body (version_told version) plan) (fold-append with_record (empty_plan (number_told cores 1) (number_told ticks 1)) rest (row ∷ []))
 
 slice_get-seam : {X : Type 0} (xs ys : List X) (y : X) → slice_get (xs ++ (y ∷ ys)) (length xs) ≡ Some y
 slice_get-seam [] ys y = refl

@@ -3,5 +3,4 @@ pub mod Digits
 pub mod Texts
 pub mod Judging
 pub mod Folding
-pub mod WorkAlone
 pub mod Firsts

@@ -1,13 +1,15 @@
 -- The plan that a list of records tells, or the first refusal of one of them.
 use Rattle.std.specs.Prelude.{ℕ, Bool, not, List, [], ◌∷◌, length, Option, Some, None, Result, Ok, Err, codes, drop, fold, is_none, nat_le, option_map, slice_get, slice_index_or, take, unwrap_or, ◌≡◌, ◌⊎◌, ◌+◌, ◌==◌, ◌&&◌, ◌||◌, if◌then◌else◌}
 use Rattle.std.specs.List.{filter_map, range_with_len}
-use Rattle.msrp_plan.specs.Building.{empty_plan, fault_if, finish_fault, is_within, new_fault, new_task, op_fault, task_fault, units_of, with_task, with_units}
+use Rattle.msrp_plan.specs.Building.{empty_plan, fault_if, finish_fault, is_within, new_fault, new_task, op_fault, release_fault, resource_fault, takes_releases, task_fault, units_of, with_release, with_resource, with_task, with_units}
 use Rattle.msrp_plan.specs.Names.{name_position}
 use Rattle.msrp_plan.specs.Plan.{PlanModel, TaskModel}
-use Rattle.msrp_plan.specs.ReleaseTimes.{Every}
+use Rattle.msrp_plan.specs.ReleaseTimes.{Every, Listed}
 use Rattle.msrp_plan.specs.declared.faults.PlanFault.{PlanFault}
 use Rattle.msrp_plan.specs.declared.faults.PlanFault.TheVariants.{Version, OutOfPlace, FieldCount, Number, Limit}
 use Rattle.msrp_plan.specs.declared.ids.ResId.{ResId}
+use Rattle.msrp_plan.specs.declared.rows.TextVersion.{TextVersion}
+use Rattle.msrp_plan.specs.declared.rows.TextVersion.TheVariants.{V1, V2}
 use Rattle.msrp_plan.specs.declared.units.Step.{Step}
 use Rattle.msrp_plan.specs.declared.units.Step.TheVariants.{Run, Lock, Unlock}
 use Rattle.msrp_text.specs.Fields.{has_word, name_at, number_at}
@@ -23,6 +25,10 @@ number_told fields i = unwrap_or (number_at fields i) 0
 abbrev pub task_told : List (List ℕ) → TaskModel
 task_told fields = new_task (name_at fields 1) (number_told fields 2) (Every (number_told fields 3) (number_told fields 5)) (number_told fields 4)
 
+-- the task that a `listed` record tells: name, core and relative deadline, and no release or unit yet
+abbrev pub listed_told : List (List ℕ) → TaskModel
+listed_told fields = new_task (name_at fields 1) (number_told fields 2) (Listed []) (number_told fields 3)
+
 -- the resource of a name; what the plan hasn't declared is told as the greatest number
 abbrev pub resource_told : PlanModel → List ℕ → ResId
 resource_told plan name = record { 0 = unwrap_or (name_position plan.resources name) 4294967295 }
@@ -34,24 +40,36 @@ step_told plan fields =
     else if has_word fields 1 (codes "lock") then Lock (resource_told plan (name_at fields 2))
     else Unlock (resource_told plan (name_at fields 2))
 
--- a plan with what one more record tells: a new task, or units for the newest one
+-- a plan with what a record of release lists tells: a new task, or a release of the newest one
+abbrev pub with_list_record : PlanModel → List (List ℕ) → PlanModel
+with_list_record plan fields =
+    if has_word fields 0 (codes "listed") then with_task plan (listed_told fields)
+    else if has_word fields 0 (codes "release") then with_release plan (number_told fields 1)
+    else plan
+
+-- a plan with what one more record tells: a resource, a new task, or units or a release of the newest one
 abbrev pub with_record : PlanModel → List (List ℕ) → PlanModel
 with_record plan fields =
-    if has_word fields 0 (codes "task") then with_task plan (task_told fields)
+    if has_word fields 0 (codes "resource") then with_resource plan (name_at fields 1)
+    else if has_word fields 0 (codes "task") then with_task plan (task_told fields)
     else if has_word fields 0 (codes "op") then with_units plan (units_of (step_told plan fields))
-    else plan
+    else with_list_record plan fields
 
 -- the record at a place, counted from 0; one that isn't there has no field
 abbrev pub record_at : List (List (List ℕ)) → ℕ → List (List ℕ)
 record_at records n = slice_index_or records n []
 
--- the plan that records tell: the cores in the second, the ticks in the third, and then the tasks with their units
+-- the plan that records tell: the cores in the second, the ticks in the third, and then the resources, and the tasks
+-- with their releases and units
 unfoldable pub plan_told : List (List (List ℕ)) → PlanModel
 plan_told records = fold with_record (empty_plan (number_told (record_at records 1) 1) (number_told (record_at records 2) 1)) (drop 3 records)
 
--- the first record is the version, `msrp,1`
+-- the first record is the version, `msrp,1` or `msrp,2`
 abbrev pub is_version : List (List ℕ) → Bool
-is_version fields = (length fields == 2) && has_word fields 0 (codes "msrp") && has_word fields 1 (codes "1")
+is_version fields = (length fields == 2) && has_word fields 0 (codes "msrp") && (has_word fields 1 (codes "1") || has_word fields 1 (codes "2"))
+
+abbrev pub version_told : List (List ℕ) → TextVersion
+version_told fields = if has_word fields 1 (codes "2") then V2 else V1
 
 -- nothing but the version may come first
 abbrev pub version_fault : Option (List (List ℕ)) → Option PlanFault
@@ -75,6 +93,13 @@ ticks_fault cores (Some fields) =
     fault_if (not (length fields == 2)) FieldCount (
     fault_if (is_none (number_at fields 1)) Number (
     new_fault cores (number_told fields 1))))
+
+-- `resource,NAME`, before the first task
+abbrev pub resource_record_fault : PlanModel → List (List ℕ) → Option PlanFault
+resource_record_fault plan fields =
+    fault_if (not (length plan.tasks == 0)) OutOfPlace (
+    fault_if (not (length fields == 2)) FieldCount (
+    resource_fault plan (name_at fields 1)))
 
 -- one of the four numbers of a `task` record is none
 abbrev pub lacks_number : List (List ℕ) → Bool
@@ -100,20 +125,44 @@ op_record_fault plan fields =
     fault_if (has_word fields 1 (codes "run") && is_none (number_at fields 2)) Number (
     op_fault plan (step_told plan fields))))))
 
--- every further record is a task or units of the newest task, and the end makes the plan whole
-abbrev pub tasks_fault : PlanModel → Option (List (List ℕ)) → Option PlanFault
-tasks_fault plan None = finish_fault plan
-tasks_fault plan (Some fields) =
-    if has_word fields 0 (codes "task") then task_record_fault plan fields
-    else if has_word fields 0 (codes "op") then op_record_fault plan fields
+-- `listed,NAME,CORE,DEADLINE`
+abbrev pub listed_record_fault : PlanModel → List (List ℕ) → Option PlanFault
+listed_record_fault plan fields =
+    fault_if (not (length fields == 4)) FieldCount (
+    fault_if (is_none (number_at fields 2) || is_none (number_at fields 3)) Number (
+    task_fault plan (listed_told fields)))
+
+-- `release,TICK`, directly after `listed` or another `release`
+abbrev pub release_record_fault : PlanModel → List (List ℕ) → Option PlanFault
+release_record_fault plan fields =
+    fault_if (not (takes_releases plan)) OutOfPlace (
+    fault_if (not (length fields == 2)) FieldCount (
+    fault_if (is_none (number_at fields 1)) Number (
+    release_fault plan (number_told fields 1))))
+
+-- records of release lists are of version 2
+abbrev pub list_fault : TextVersion → PlanModel → List (List ℕ) → Option PlanFault
+list_fault V1 plan fields = Some OutOfPlace
+list_fault V2 plan fields =
+    if has_word fields 0 (codes "listed") then listed_record_fault plan fields
+    else if has_word fields 0 (codes "release") then release_record_fault plan fields
     else Some OutOfPlace
+
+-- every further record is a resource, a task, or units or a release of the newest task, and the end makes the plan whole
+abbrev pub body_fault : TextVersion → PlanModel → Option (List (List ℕ)) → Option PlanFault
+body_fault version plan None = finish_fault plan
+body_fault version plan (Some fields) =
+    if has_word fields 0 (codes "resource") then resource_record_fault plan fields
+    else if has_word fields 0 (codes "task") then task_record_fault plan fields
+    else if has_word fields 0 (codes "op") then op_record_fault plan fields
+    else list_fault version plan fields
 
 -- the first rule that the next record breaks, given the records before it; None stands for the end of the records
 unfoldable pub fault_after : List (List (List ℕ)) → Option (List (List ℕ)) → Option PlanFault
 fault_after [] next = version_fault next
 fault_after (version ∷ []) next = cores_fault next
 fault_after (version ∷ cores ∷ []) next = ticks_fault (number_told cores 1) next
-fault_after (version ∷ cores ∷ ticks ∷ rest) next = tasks_fault (plan_told (version ∷ cores ∷ ticks ∷ rest)) next
+fault_after (version ∷ cores ∷ ticks ∷ rest) next = body_fault (version_told version) (plan_told (version ∷ cores ∷ ticks ∷ rest)) next
 
 -- a refusal by the number of its record: records are counted from 1, and the end counts as one more
 abbrev pub refusal_at : List (List (List ℕ)) → ℕ → Option TextError

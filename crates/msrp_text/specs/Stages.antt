@@ -1,12 +1,12 @@
 -- Where a reader of a plan stands between two records: what is to be read next, and the plan so far.
-use Rattle.std.specs.Prelude.{ℕ, List, [], Option, Some, None, Result, Ok, Err, codes, cond, is_none, ◌≡◌, ◌⊎◌, ◌&&◌, ⊤}
+use Rattle.std.specs.Prelude.{ℕ, List, [], Option, Some, None, Result, Ok, Err, codes, cond, is_none, ◌≡◌, ◌⊎◌, ◌&&◌}
 use Rattle.msrp_plan.specs.Building.{empty_plan}
 use Rattle.msrp_plan.specs.Plan.{PlanModel}
 use Rattle.msrp_plan.specs.declared.faults.PlanFault.{PlanFault}
 use Rattle.msrp_plan.specs.declared.faults.PlanFault.TheVariants.{Memory}
-use Rattle.msrp_text.specs.Reading.{cores_fault, lacks_number, number_told, step_told, tasks_fault, ticks_fault, version_fault, with_record}
+use Rattle.msrp_text.specs.Reading.{body_fault, cores_fault, lacks_number, number_told, step_told, ticks_fault, version_fault, version_told, with_record}
 use Rattle.msrp_text.specs.declared.stages.Stage.{Stage}
-use Rattle.msrp_text.specs.declared.stages.Stage.TheVariants.{Version, Cores, Ticks, Tasks}
+use Rattle.msrp_text.specs.declared.stages.Stage.TheVariants.{Version, Cores, Ticks, Body}
 use Rattle.msrp_plan.specs.declared.units.Step.{Step}
 use Rattle.msrp_text.specs.Fields.{has_word, number_at}
 use Rattle.msrp_text.specs.declared.stages.TaskNumbers.{TaskNumbers}
@@ -16,30 +16,23 @@ use Rattle.msrp_text.specs.declared.reading.TextError.TheVariants.{At}
 -- the first rule that the next record, or the end, breaks at a stage
 unfoldable pub stage_fault : Stage → Option (List (List ℕ)) → Option PlanFault
 stage_fault Version next = version_fault next
-stage_fault Cores next = cores_fault next
-stage_fault (Ticks cores) next = ticks_fault cores next
-stage_fault (Tasks plan) next = tasks_fault plan next
+stage_fault (Cores version) next = cores_fault next
+stage_fault (Ticks version cores) next = ticks_fault cores next
+stage_fault (Body version plan) next = body_fault version plan next
 
 -- the stage after one more record
 unfoldable pub stage_with : Stage → List (List ℕ) → Stage
-stage_with Version fields = Cores
-stage_with Cores fields = Ticks (number_told fields 1)
-stage_with (Ticks cores) fields = Tasks (empty_plan cores (number_told fields 1))
-stage_with (Tasks plan) fields = Tasks (with_record plan fields)
+stage_with Version fields = Cores (version_told fields)
+stage_with (Cores version) fields = Ticks version (number_told fields 1)
+stage_with (Ticks version cores) fields = Body version (empty_plan cores (number_told fields 1))
+stage_with (Body version plan) fields = Body version (with_record plan fields)
 
 -- the plan so far
 unfoldable pub stage_plan : Stage → PlanModel
 stage_plan Version = empty_plan 0 0
-stage_plan Cores = empty_plan 0 0
-stage_plan (Ticks cores) = empty_plan cores 0
-stage_plan (Tasks plan) = plan
-
--- the plan so far has no resource
-unfoldable pub IsWorkAlone : Stage → Type 0
-IsWorkAlone Version = ⊤
-IsWorkAlone Cores = ⊤
-IsWorkAlone (Ticks cores) = ⊤
-IsWorkAlone (Tasks plan) = plan.resources ≡ []
+stage_plan (Cores version) = empty_plan 0 0
+stage_plan (Ticks version cores) = empty_plan cores 0
+stage_plan (Body version plan) = plan
 
 -- a stage is refused with its fault if it has one, else it goes on as it should but for want of memory
 abbrev pub IsTaken : {A : Type 0} → Option PlanFault → A → Result A PlanFault → Type 0

@@ -57,8 +57,7 @@ fn end(stage: Stage, number: u32) -> Result<Plan, TextError>
 
 // The plan of a text. Whatever ends the reading early is told as a failed read.
 fn read_records<R: Read>(alloc: Global, source: &mut Source<R>) -> Result<Plan, TextError>
-    ensures answer { (bytes : List ℕ) → source_remaining R.remaining source.old ≡ Some bytes → Answers result (plan_of (csv_records bytes)) }
-    ensures work { IfOk result (λ plan. plan.resources ≡ []) }
+    ensures { (bytes : List ℕ) → source_remaining R.remaining source.old ≡ Some bytes → Answers result (plan_of (csv_records bytes)) }
 {
     let mut records = RecordReader::new(alloc, source);
     let mut row = ByteRecord::new(alloc);
@@ -76,17 +75,16 @@ fn read_records<R: Read>(alloc: Global, source: &mut Source<R>) -> Result<Plan, 
 
 /// The plan of a text, or its first refusal.
 ///
-/// A text is records of comma-separated fields: `msrp,1`, then `cores,M`, then `ticks,H`, then for each task
-/// `task,NAME,CORE,PERIOD,DEADLINE,OFFSET` with its units after it, `op,run,N` for N units of work. A record
-/// that declares a resource is out of place for now, so a lock or an unlock names no declared resource, and
-/// every plan is of work alone.
+/// A text is records of comma-separated fields: `msrp,1`, then `cores,M`, then `ticks,H`, then for each resource
+/// `resource,NAME`, and then for each task `task,NAME,CORE,PERIOD,DEADLINE,OFFSET` with its units after it: `op,run,N`
+/// for N units of work, `op,lock,NAME` and `op,unlock,NAME`. A text that begins with `msrp,2` may also have tasks that are
+/// released at the ticks of a list: `listed,NAME,CORE,DEADLINE`, then `release,TICK` for each release, then its units.
 ///
 /// A record is judged by itself first: whether it is known and in its place (P2), its number of fields (P3) and
 /// its numbers (P4), and then by the builder of plans. The records before a read that fails are judged first.
 pub fn read_plan<R: Read>(alloc: Global, source: &mut Source<R>) -> Result<Plan, TextError>
     ensures answer { (bytes : List ℕ) → source_remaining R.remaining source.old ≡ Some bytes → Answers result (plan_of (csv_records bytes)) }
     ensures faults { result ≡ Err TextError.Read → source_failed source.new ≡ true }
-    ensures work { IfOk result (λ plan. plan.resources ≡ []) }
 {
     match read_records(alloc, source) {
         Err(TextError::Read) if !source.failed() => Err(TextError::Memory),

@@ -1,14 +1,15 @@
 //! Plan text, record by record.
 ghost use Rattle.std.specs.Prelude.{◌≡◌, Some, None, true};
 ghost use Rattle.csv.specs.Records.{fields_of};
-ghost use Rattle.msrp_plan.specs.Building.{empty_plan, units_of, with_task, with_units};
-ghost use Rattle.msrp_text.specs.Reading.{cores_fault, is_op_word, number_told, op_record_fault, resource_told, step_told, task_record_fault, task_told, tasks_fault, ticks_fault, version_fault, with_record};
+ghost use Rattle.msrp_plan.specs.Building.{empty_plan, units_of, with_release, with_resource, with_task, with_units};
+ghost use Rattle.msrp_text.specs.Fields.{name_at};
+ghost use Rattle.msrp_text.specs.Reading.{body_fault, cores_fault, is_op_word, list_fault, listed_record_fault, listed_told, number_told, op_record_fault, release_record_fault, resource_record_fault, resource_told, step_told, task_record_fault, task_told, ticks_fault, version_fault, version_told, with_list_record, with_record};
 ghost use Rattle.msrp_text.specs.Stages.{IsTaken, numbered_step, stage_fault, stage_plan, stage_with, task_numbers};
 
 use crate::fields::{has_word, name_at, number_at};
 use csv::ByteRecord;
 use msrp_plan::limits::MOST_CORES;
-use msrp_plan::{CoreId, Plan, PlanBuilder, PlanFault, ResId, Step};
+use msrp_plan::{CoreId, Plan, PlanBuilder, PlanFault, ResId, Step, TextVersion};
 use std::alloc::Global;
 
 /// Where a reader stands between two records.
@@ -16,28 +17,32 @@ use std::alloc::Global;
 pub(crate) enum Stage {
     /// The version has to come.
     Version,
-    /// The number of cores has to come.
-    Cores,
+    /// The number of cores has to come, in a text of that version.
+    Cores(TextVersion),
     /// The number of ticks has to come, for so many cores.
-    Ticks(u32),
-    /// Tasks and units may come, and the end.
-    Tasks(PlanBuilder),
+    Ticks(TextVersion, u32),
+    /// Resources, tasks, releases and units may come, and the end.
+    Body(TextVersion, PlanBuilder),
 }
 
 // The first record.
 fn read_version(row: &ByteRecord) -> Result<Stage, PlanFault>
-    ensures { IsTaken (version_fault (Some (fields_of row.now))) Stage.Cores result }
+    ensures { IsTaken (version_fault (Some (fields_of row.now))) (Stage.Cores (version_told (fields_of row.now))) result }
 {
-    if row.len() == 2 && has_word(row, 0, b"msrp") && has_word(row, 1, b"1") {
-        Ok(Stage::Cores)
+    if row.len() != 2 || !has_word(row, 0, b"msrp") {
+        Err(PlanFault::Version)
+    } else if has_word(row, 1, b"2") {
+        Ok(Stage::Cores(TextVersion::V2))
+    } else if has_word(row, 1, b"1") {
+        Ok(Stage::Cores(TextVersion::V1))
     } else {
         Err(PlanFault::Version)
     }
 }
 
 // The second record. The number of cores is judged here, the number of ticks by the builder.
-fn read_cores(row: &ByteRecord) -> Result<Stage, PlanFault>
-    ensures { IsTaken (cores_fault (Some (fields_of row.now))) (Stage.Ticks (number_told (fields_of row.now) 1)) result }
+fn read_cores(version: TextVersion, row: &ByteRecord) -> Result<Stage, PlanFault>
+    ensures { IsTaken (cores_fault (Some (fields_of row.now))) (Stage.Ticks version (number_told (fields_of row.now) 1)) result }
 {
     if !has_word(row, 0, b"cores") {
         return Err(PlanFault::OutOfPlace);
@@ -47,14 +52,19 @@ fn read_cores(row: &ByteRecord) -> Result<Stage, PlanFault>
     }
     match number_at(row, 1) {
         None => Err(PlanFault::Number),
-        Some(cores) if (1..=MOST_CORES).contains(&cores) => Ok(Stage::Ticks(cores)),
+        Some(cores) if (1..=MOST_CORES).contains(&cores) => Ok(Stage::Ticks(version, cores)),
         Some(_) => Err(PlanFault::Limit),
     }
 }
 
 // The third record.
-fn read_ticks(alloc: Global, cores: u32, row: &ByteRecord) -> Result<Stage, PlanFault>
-    ensures { IsTaken (ticks_fault cores (Some (fields_of row.now))) (Stage.Tasks (empty_plan cores (number_told (fields_of row.now) 1))) result }
+fn read_ticks(
+    alloc: Global,
+    version: TextVersion,
+    cores: u32,
+    row: &ByteRecord,
+) -> Result<Stage, PlanFault>
+    ensures { IsTaken (ticks_fault cores (Some (fields_of row.now))) (Stage.Body version (empty_plan cores (number_told (fields_of row.now) 1))) result }
 {
     if !has_word(row, 0, b"ticks") {
         return Err(PlanFault::OutOfPlace);
@@ -64,8 +74,22 @@ fn read_ticks(alloc: Global, cores: u32, row: &ByteRecord) -> Result<Stage, Plan
     }
     match number_at(row, 1) {
         None => Err(PlanFault::Number),
-        Some(ticks) => Ok(Stage::Tasks(PlanBuilder::new(alloc, cores, ticks)?)),
+        Some(ticks) => Ok(Stage::Body(version, PlanBuilder::new(alloc, cores, ticks)?)),
     }
+}
+
+// A new resource.
+fn read_resource(mut builder: PlanBuilder, row: &ByteRecord) -> Result<PlanBuilder, PlanFault>
+    ensures { IsTaken (resource_record_fault builder (fields_of row.now)) (with_resource builder (name_at (fields_of row.now) 1)) result }
+{
+    if builder.tasks() != 0 {
+        return Err(PlanFault::OutOfPlace);
+    }
+    if row.len() != 2 {
+        return Err(PlanFault::FieldCount);
+    }
+    builder.resource(name_at(row, 1))?;
+    Ok(builder)
 }
 
 // The numbers of a task's record.
@@ -164,16 +188,77 @@ fn read_op(mut builder: PlanBuilder, row: &ByteRecord) -> Result<PlanBuilder, Pl
     }
 }
 
-// A record after the first three: a task, or units of the newest one.
-fn read_record(builder: PlanBuilder, row: &ByteRecord) -> Result<PlanBuilder, PlanFault>
-    ensures { IsTaken (tasks_fault builder (Some (fields_of row.now))) (with_record builder (fields_of row.now)) result }
+// A new task with a list of releases.
+fn read_listed(mut builder: PlanBuilder, row: &ByteRecord) -> Result<PlanBuilder, PlanFault>
+    ensures { IsTaken (listed_record_fault builder (fields_of row.now)) (with_task builder (listed_told (fields_of row.now))) result }
 {
-    if has_word(row, 0, b"task") {
+    if row.len() != 4 {
+        return Err(PlanFault::FieldCount);
+    }
+    match (number_at(row, 2), number_at(row, 3)) {
+        (Some(core), Some(deadline)) => {
+            builder.listed(name_at(row, 1), CoreId(core), deadline)?;
+            Ok(builder)
+        }
+        _ => Err(PlanFault::Number),
+    }
+}
+
+// A release of the newest task.
+fn read_release(mut builder: PlanBuilder, row: &ByteRecord) -> Result<PlanBuilder, PlanFault>
+    ensures { IsTaken (release_record_fault builder (fields_of row.now)) (with_release builder (number_told (fields_of row.now) 1)) result }
+{
+    if !builder.takes_releases() {
+        return Err(PlanFault::OutOfPlace);
+    }
+    if row.len() != 2 {
+        return Err(PlanFault::FieldCount);
+    }
+    match number_at(row, 1) {
+        None => Err(PlanFault::Number),
+        Some(tick) => {
+            builder.release(tick)?;
+            Ok(builder)
+        }
+    }
+}
+
+// A record of a release list, which is of version 2.
+fn read_list_record(
+    version: TextVersion,
+    builder: PlanBuilder,
+    row: &ByteRecord,
+) -> Result<PlanBuilder, PlanFault>
+    ensures { IsTaken (list_fault version builder (fields_of row.now)) (with_list_record builder (fields_of row.now)) result }
+{
+    match version {
+        TextVersion::V1 => Err(PlanFault::OutOfPlace),
+        TextVersion::V2 => if has_word(row, 0, b"listed") {
+            read_listed(builder, row)
+        } else if has_word(row, 0, b"release") {
+            read_release(builder, row)
+        } else {
+            Err(PlanFault::OutOfPlace)
+        },
+    }
+}
+
+// A record after the first three: a resource, a task, or units or a release of the newest one.
+fn read_record(
+    version: TextVersion,
+    builder: PlanBuilder,
+    row: &ByteRecord,
+) -> Result<PlanBuilder, PlanFault>
+    ensures { IsTaken (body_fault version builder (Some (fields_of row.now))) (with_record builder (fields_of row.now)) result }
+{
+    if has_word(row, 0, b"resource") {
+        read_resource(builder, row)
+    } else if has_word(row, 0, b"task") {
         read_task(builder, row)
     } else if has_word(row, 0, b"op") {
         read_op(builder, row)
     } else {
-        Err(PlanFault::OutOfPlace)
+        read_list_record(version, builder, row)
     }
 }
 
@@ -184,9 +269,11 @@ pub(crate) fn stage_after(alloc: Global, stage: Stage, row: &ByteRecord) -> Resu
 {
     match stage {
         Stage::Version => read_version(row),
-        Stage::Cores => read_cores(row),
-        Stage::Ticks(cores) => read_ticks(alloc, cores, row),
-        Stage::Tasks(builder) => Ok(Stage::Tasks(read_record(builder, row)?)),
+        Stage::Cores(version) => read_cores(version, row),
+        Stage::Ticks(version, cores) => read_ticks(alloc, version, cores, row),
+        Stage::Body(version, builder) => {
+            Ok(Stage::Body(version, read_record(version, builder, row)?))
+        }
     }
 }
 
@@ -197,7 +284,7 @@ pub(crate) fn plan_at_end(stage: Stage) -> Result<Plan, PlanFault>
 {
     match stage {
         Stage::Version => Err(PlanFault::Version),
-        Stage::Cores | Stage::Ticks(_) => Err(PlanFault::OutOfPlace),
-        Stage::Tasks(builder) => builder.finish().map_err(|(_, fault)| fault),
+        Stage::Cores(_) | Stage::Ticks(..) => Err(PlanFault::OutOfPlace),
+        Stage::Body(_, builder) => builder.finish().map_err(|(_, fault)| fault),
     }
 }

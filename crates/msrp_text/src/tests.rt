@@ -61,11 +61,12 @@ fn all_refused(rt: &impl Abort, alloc: Global, table: &[(&[u8], PlanFault, u32)]
 
 #[test]
 fn the_first_three_records(rt: HostRuntime) {
-    let table: [(&[u8], PlanFault, u32); 26] = [
+    let table: [(&[u8], PlanFault, u32); 27] = [
         (b"", PlanFault::Version, 1),
         (b"\n\r\n\r", PlanFault::Version, 1),
         (b"msrp\n", PlanFault::Version, 1),
-        (b"msrp,2\n", PlanFault::Version, 1),
+        (b"msrp,3\n", PlanFault::Version, 1),
+        (b"msrp,2\n", PlanFault::OutOfPlace, 2),
         (b"msrp,01\n", PlanFault::Version, 1),
         (b"msrp,1,\n", PlanFault::Version, 1),
         (b" msrp,1\n", PlanFault::Version, 1),
@@ -128,7 +129,7 @@ fn all_refused_after_head(
 #[test]
 fn records_of_tasks(rt: HostRuntime) -> Result<(), Fail> {
     let table: [(&[u8], PlanFault, u32); 24] = [
-        (b"resource,r\n", PlanFault::OutOfPlace, 4),
+        (b"resource,\xff\n", PlanFault::Name, 4),
         (b"tasks,a,0,3,3,0\n", PlanFault::OutOfPlace, 4),
         (b"task\n", PlanFault::FieldCount, 4),
         (b"task,a,0,3,3\n", PlanFault::FieldCount, 4),
@@ -346,6 +347,21 @@ fn tasks_on_two_cores(rt: HostRuntime) -> Result<(), Fail> {
     assert_eq!(rt; plan.deadline(b), 1);
     assert_eq!(rt; plan.units(b), 2);
     assert_eq!(rt; plan.unit(b, 1), Op::Run);
+    Ok(())
+}
+
+#[test]
+fn a_listed_task(rt: HostRuntime) -> Result<(), Fail> {
+    let text =
+        b"msrp,2\ncores,1\nticks,5\nresource,r\nlisted,a,0,4\nrelease,1\nrelease,7\nop,lock,r\nop,unlock,r\n";
+    let plan = answer(rt.alloc(), text)?;
+    assert_eq!(rt; plan.resources(), 1);
+    assert!(rt; plan.tasks() == 1);
+    let a = TaskId(0);
+    assert_eq!(rt; plan.times(a), Times::Listed { count: 2 });
+    assert_eq!(rt; plan.deadline(a), 4);
+    assert_eq!(rt; plan.jobs(a), 1);
+    assert_eq!(rt; plan.units(a), 2);
     Ok(())
 }
 

@@ -2,8 +2,8 @@
 //! the refusal. Each function does nothing; its contract is the example.
 ghost use Rattle.std.specs.Prelude.{◌≡◌, ◌++◌, codes, Ok};
 ghost use Rattle.msrp_text.specs.Reading.{csv_records, plan_of};
-ghost use Rattle.msrp_text.specs.Examples.{head, one_task_plan, refused};
-ghost use Rattle.msrp_plan.specs.declared.faults.PlanFault.TheVariants.{Version, OutOfPlace, FieldCount, Number, Name, Taken, Limit, Undeclared, Core, NoUnit};
+ghost use Rattle.msrp_text.specs.Examples.{bare_list, head, listed_head, listed_plan, locking_plan, one_task_plan, refused};
+ghost use Rattle.msrp_plan.specs.declared.faults.PlanFault.TheVariants.{Version, OutOfPlace, FieldCount, Number, Name, Taken, Limit, Undeclared, Core, NoUnit, Releases};
 
 /// One task, which works for two ticks of three; also with its work told in two records, and with fields in
 /// quotes and lines that end as they do on other systems.
@@ -17,6 +17,8 @@ pub fn one_task()
 pub fn first_records()
     ensures nothing { plan_of (csv_records (codes "")) ≡ refused Version 1 }
     ensures another_version { plan_of (csv_records (codes "msrp,3\n")) ≡ refused Version 1 }
+    ensures both_versions { plan_of (csv_records (codes "msrp,1,2\n")) ≡ refused Version 1 }
+    ensures second_version { plan_of (csv_records (codes "msrp,2\n")) ≡ refused OutOfPlace 2 }
     ensures version_alone { plan_of (csv_records (codes "msrp,1\n")) ≡ refused OutOfPlace 2 }
     ensures two_numbers { plan_of (csv_records (codes "msrp,1\ncores,1,1\n")) ≡ refused FieldCount 2 }
     ensures leading_zero { plan_of (csv_records (codes "msrp,1\ncores,01\n")) ≡ refused Number 2 }
@@ -27,13 +29,43 @@ pub fn first_records()
 
 /// Records of tasks, after the first three with one core.
 pub fn tasks()
-    ensures resource { plan_of (csv_records (head ++ codes "resource,r\n")) ≡ refused OutOfPlace 4 }
     ensures capital { plan_of (csv_records (head ++ codes "task,A,0,3,3,0\n")) ≡ refused Name 4 }
     ensures no_such_core { plan_of (csv_records (head ++ codes "task,a,1,3,3,0\n")) ≡ refused Core 4 }
     ensures no_period { plan_of (csv_records (head ++ codes "task,a,0,0,3,0\n")) ≡ refused Limit 4 }
     ensures no_unit { plan_of (csv_records (head ++ codes "task,a,0,3,3,0\n")) ≡ refused NoUnit 5 }
     ensures used_name { plan_of (csv_records (head ++ codes "task,a,0,3,3,0\nop,run,1\ntask,a,0,3,3,0\n")) ≡ refused Taken 6 }
     ensures record_first { plan_of (csv_records (head ++ codes "task,a,0,3,3,0\ntask,b\n")) ≡ refused FieldCount 5 }
+{}
+
+/// Records of resources, before the first task.
+pub fn resources()
+    ensures locked { plan_of (csv_records (head ++ codes "resource,r\ntask,a,0,9,9,0\nop,lock,r\nop,run,1\nop,unlock,r\n")) ≡ Ok locking_plan }
+    ensures misnamed { plan_of (csv_records (head ++ codes "resource,R\n")) ≡ refused Name 4 }
+    ensures nameless { plan_of (csv_records (head ++ codes "resource\n")) ≡ refused FieldCount 4 }
+    ensures twice { plan_of (csv_records (head ++ codes "resource,r\nresource,r\n")) ≡ refused Taken 5 }
+    ensures after_a_task { plan_of (csv_records (head ++ codes "task,a,0,3,3,0\nresource\n")) ≡ refused OutOfPlace 5 }
+{}
+
+/// Records of release lists, which are of version 2.
+pub fn release_lists()
+    ensures listed { plan_of (csv_records (bare_list ++ codes "release,1\nrelease,3\nop,run,1\n")) ≡ Ok listed_plan }
+    ensures of_version_one { plan_of (csv_records (head ++ codes "listed,a,0,4\n")) ≡ refused OutOfPlace 4 }
+    ensures release_of_version_one { plan_of (csv_records (head ++ codes "task,a,0,3,3,0\nrelease,1\n")) ≡ refused OutOfPlace 5 }
+    ensures falling { plan_of (csv_records (bare_list ++ codes "release,3\nrelease,1\nop,run,1\n")) ≡ refused Releases 6 }
+    ensures twice { plan_of (csv_records (bare_list ++ codes "release,1\nrelease,1\n")) ≡ refused Releases 6 }
+    ensures too_late { plan_of (csv_records (bare_list ++ codes "release,1000001\n")) ≡ refused Limit 5 }
+    ensures no_tick { plan_of (csv_records (bare_list ++ codes "release,x\n")) ≡ refused Number 5 }
+    ensures two_ticks { plan_of (csv_records (bare_list ++ codes "release,1,3\n")) ≡ refused FieldCount 5 }
+    ensures bare { plan_of (csv_records bare_list) ≡ refused Releases 5 }
+    ensures bare_run_of_none { plan_of (csv_records (bare_list ++ codes "op,run,0\n")) ≡ refused Releases 5 }
+    ensures bare_lock { plan_of (csv_records (bare_list ++ codes "op,lock,nosuch\n")) ≡ refused Releases 5 }
+    ensures bare_number { plan_of (csv_records (bare_list ++ codes "op,run,x\n")) ≡ refused Number 5 }
+    ensures bare_word { plan_of (csv_records (bare_list ++ codes "op,foo\n")) ≡ refused OutOfPlace 5 }
+    ensures bare_then_misnamed { plan_of (csv_records (bare_list ++ codes "listed,B,0,4\n")) ≡ refused Releases 5 }
+    ensures after_units { plan_of (csv_records (bare_list ++ codes "release,1\nop,run,1\nrelease,2\n")) ≡ refused OutOfPlace 7 }
+    ensures first { plan_of (csv_records (listed_head ++ codes "release\n")) ≡ refused OutOfPlace 4 }
+    ensures no_deadline { plan_of (csv_records (listed_head ++ codes "listed,a,0\n")) ≡ refused FieldCount 4 }
+    ensures no_number { plan_of (csv_records (listed_head ++ codes "listed,A,0,04\n")) ≡ refused Number 4 }
 {}
 
 /// Records of units, after a task.

@@ -5,6 +5,7 @@ use Rattle.std.specs.Option.{option_map, unwrap_or}
 use Rattle.std.specs.declared.option.Option.{Option}
 use mathlib.Core.Option.{some}
 use lib.ListN.{get_elem?}
+use Rattle.msrp_plan.specs.declared.limits.TheConstants.{MOST_CORES, MOST_RESOURCES}
 use Rattle.msrp_plan.specs.declared.units.Phase.{Phase}
 use Rattle.msrp_plan.specs.declared.units.Phase.TheVariants.{Free, Queued, Holding}
 use Rattle.atomic_table.specs.Table.{Me}
@@ -40,29 +41,29 @@ state_at pages c = option_map state_of (page_at pages c)
 
 -- what a seat keeps of each core is what its page says
 abbrev pub AreStates : List (Option CoreState) → List (Option Page) → Type 0
-AreStates held pages = (c : ℕ) → c < 8 → get_elem? held c ≡ some (state_at pages c)
+AreStates held pages = (c : ℕ) → c < MOST_CORES → get_elem? held c ≡ some (state_at pages c)
 
--- no page is of a core past the eighth
+-- no page is of a core past the last that a board may have
 abbrev pub IsLow : View → Type 0
-IsLow v = (c : ℕ) (b : Page) → HasPage v c b → c < 8
+IsLow v = (c : ℕ) (b : Page) → HasPage v c b → c < MOST_CORES
 
 -- the seat has the page of core c and no other, and keeps its state
 pub record IsOwn (held : List (Option CoreState)) (v : View) (c : ℕ) (b : Page) : Type 0 where
   pub states : AreStates held v.pages
-  pub low : c < 8
+  pub low : c < MOST_CORES
   pub only : HasOnly v c b
 
 -- what is claimed is one of the first n resources
 abbrev pub IsBelow : ℕ → Claim → Type 0
 IsBelow n Nothing = ⊤
-IsBelow n (Waits g turn) = g < n
-IsBelow n (Holds g turn) = g < n
+IsBelow n (Waits g ticket) = g < n
+IsBelow n (Holds g ticket) = g < n
 
 -- what a core with this claim holds or awaits
 abbrev pub phase_of : Claim → Phase
 phase_of Nothing = Free
-phase_of (Waits g turn) = Queued record { 0 = g }
-phase_of (Holds g turn) = Holding record { 0 = g }
+phase_of (Waits g ticket) = Queued record { 0 = g }
+phase_of (Holds g ticket) = Holding record { 0 = g }
 
 -- a page as callers see it: the oldest entry first
 abbrev pub told : Page → Book
@@ -119,11 +120,14 @@ settled_as z words seat = record {
 
 -- what holds of each settled board: the rule, and there is room for each word
 pub record IsSettled (z : BoardSize) (words : List ℕ) (seat : SeatModel) : Type 0 where
-  pub room : z.resources ≤ 32
+  pub room : z.resources ≤ MOST_RESOURCES
   pub tied : IsTied (settled_as z words seat)
 
--- the seat knows all these pages, and the rule holds of them
-abbrev pub IsWhole : BoardSize → List ℕ → View → Type 0
-IsWhole z words v =
-    (books : List Page) × ((c : ℕ) (b : Page) → HasPage v c b → get_elem? books c ≡ some b)
-    × ((c : ℕ) (b : Page) → get_elem? books c ≡ some b → HasPage v c b) × ((o : Conductor) × (v.conductor ≡ Some o) × IsTiedNewest z words books o)
+-- the seat knows all pages and the conductor's book, and the rule holds of them
+pub record IsWhole (z : BoardSize) (words : List ℕ) (v : View) : Type 0 where
+  pub pages : List Page
+  pub conductor : Conductor
+  pub known : (c : ℕ) (b : Page) → HasPage v c b → get_elem? pages c ≡ some b
+  pub all : (c : ℕ) (b : Page) → get_elem? pages c ≡ some b → HasPage v c b
+  pub conducts : v.conductor ≡ Some conductor
+  pub tied : IsTiedNewest z words pages conductor

@@ -1,6 +1,6 @@
 -- What a board keeps of its entries, the newest first, which is how one entry is added; callers see them oldest first.
 -- A word that ends in `Newest` is the word of that name in `Books` or `History`, of the reversed list.
-use Rattle.std.specs.Prelude.{◌≡◌, ℕ, zero, suc, ◌+◌, ◌<◌, ◌≤◌, List, [], ◌∷◌, Bool, true, false, ◌⊎◌, ⊤}
+use Rattle.std.specs.Prelude.{◌≡◌, ℕ, zero, suc, ◌+◌, ◌/◌, ◌<◌, ◌≤◌, List, [], ◌∷◌, Bool, true, false, ◌⊎◌, ⊤}
 use Rattle.std.specs.Bool.{OnTrue}
 use Rattle.msrp_plan.specs.FifoLock.{FifoLock, queue_after, granted_after, Answers}
 use Rattle.msrp_plan.specs.declared.units.Call.{Call}
@@ -88,17 +88,22 @@ PollsNewest (r ∷ h) = PollsNewest h × IsPollAfter r h
 
 -- ---- the book of a core
 
--- twice the ticket of a core: the sum of the place of its request and of how many were ahead
-abbrev pub turn_of : Claim → ℕ
-turn_of Nothing = 0
-turn_of (Waits g t) = t
-turn_of (Holds g t) = t
+-- the ticket of a request at this place with so many ahead of it: with n requests and r releases before it the place is
+-- n + r and n - r are ahead, and its ticket is n
+abbrev pub ticket_at : ℕ → ℕ → ℕ
+ticket_at place ahead = (place + ahead) / 2
+
+-- the ticket that is claimed, 0 where there is none
+abbrev pub ticket_of : Claim → ℕ
+ticket_of Nothing = 0
+ticket_of (Waits g ticket) = ticket
+ticket_of (Holds g ticket) = ticket
 
 -- what a core claims after one more call, at place p
 abbrev pub claim_with_call : Claim → ℕ → ℕ → Call → Claim
-claim_with_call l g p (Ask zero) = Holds g p
-claim_with_call l g p (Ask (suc a)) = Waits g (p + suc a)
-claim_with_call l g p (Poll true) = Holds g (turn_of l)
+claim_with_call l g p (Ask zero) = Holds g (ticket_at p 0)
+claim_with_call l g p (Ask (suc a)) = Waits g (ticket_at p (suc a))
+claim_with_call l g p (Poll true) = Holds g (ticket_of l)
 claim_with_call l g p (Poll false) = l
 claim_with_call l g p Leave = Nothing
 

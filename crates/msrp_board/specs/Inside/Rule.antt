@@ -1,5 +1,5 @@
 -- The rule of a board's words: what always holds of the words and of the books of all seats, and what each step tells.
-use Rattle.std.specs.Prelude.{◌≡◌, ℕ, suc, ltb, leb, ◌==◌, ◌+◌, ◌*◌, ◌/◌, ◌%◌, ◌-◌, ◌<◌, ◌≤◌, List, [], ◌∷◌, length, map, Bool, true, false, Some, None, replicate, slice_index}
+use Rattle.std.specs.Prelude.{◌≡◌, ℕ, suc, ltb, leb, ◌==◌, ◌+◌, ◌*◌, ◌-◌, ◌^◌, ◌<◌, ◌≤◌, List, [], ◌∷◌, length, map, Bool, true, false, Some, None, replicate, slice_index}
 use Rattle.std.specs.List.{list_any, AllByRecursion}
 use Rattle.std.specs.Option.{option_map}
 use mathlib.Core.Option.{some}
@@ -19,11 +19,13 @@ use Rattle.msrp_board.specs.Boards.{high, low, opening_count, abort_count}
 use Rattle.msrp_board.specs.Steps.{only_at, none_at, either, together}
 use Rattle.msrp_board.specs.Books.{IsSize, on, reach_of, AreBefore, IsBefore, IsChain}
 use Rattle.msrp_board.specs.History.{Event, by}
-use Rattle.msrp_board.specs.Inside.Newest.{asks, leaves, LegalNewest, PlacedNewest, IsRegularNewest, claim_of, turn_of, TicksNewest, RisingNewest, PollsNewest}
+use Rattle.msrp_board.specs.Inside.Newest.{asks, leaves, LegalNewest, PlacedNewest, IsRegularNewest, claim_of, ticket_of, TicksNewest, RisingNewest, PollsNewest}
 
+-- the page of a core that did nothing yet
 abbrev pub empty_page : Page
 empty_page = record { newest = []; tick = 0; admitted = false; stopped = false }
 
+-- what the first seat holds
 abbrev pub first_view : BoardSize → View
 first_view z = record { pages = replicate z.cores (Some empty_page); conductor = Some Unopened }
 
@@ -36,12 +38,12 @@ abbrev pub OwnsBy : {V A : Type 0} → (V → ℕ → A → Type 0) → List V �
 OwnsBy {V} has views i k a = (v : V) × (get_elem? views i ≡ some v) × has v k a
 
 -- what holds of each number is held by one seat, and nothing else is held
-abbrev pub SharedBy : {V A : Type 0} → (V → ℕ → A → Type 0) → List V → (ℕ → A → Type 0) → Type 0
-SharedBy {V} {A} has views truth =
-    ((i k : ℕ) (a : A) → OwnsBy has views i k a → truth k a)
-    × ((i j k : ℕ) (a d : A) → OwnsBy has views i k a → OwnsBy has views j k d → i ≡ j)
-    × ((k : ℕ) (a : A) → truth k a → (i : ℕ) × OwnsBy has views i k a)
+pub record SharedBy {V A : Type 0} (has : V → ℕ → A → Type 0) (views : List V) (truth : ℕ → A → Type 0) : Type 0 where
+  pub true_of : (i k : ℕ) (a : A) → OwnsBy has views i k a → truth k a
+  pub with_no_other : (i j k : ℕ) (a d : A) → OwnsBy has views i k a → OwnsBy has views j k d → i ≡ j
+  pub with_one : (k : ℕ) (a : A) → truth k a → (i : ℕ) × OwnsBy has views i k a
 
+-- the seat i has this page of core c
 abbrev pub Owns : List View → ℕ → ℕ → Page → Type 0
 Owns = OwnsBy HasPage
 
@@ -49,6 +51,7 @@ Owns = OwnsBy HasPage
 abbrev pub Shared : List View → List Page → Type 0
 Shared views books = SharedBy HasPage views (λ c b. get_elem? books c ≡ some b)
 
+-- the view has the conductor's book, under the number 0
 abbrev pub HasConductor : View → ℕ → Conductor → Type 0
 HasConductor v k o = (k ≡ 0) × (v.conductor ≡ Some o)
 
@@ -60,34 +63,44 @@ SharedConductor views o = SharedBy HasConductor views (λ k x. (k ≡ 0) × (o �
 abbrev pub page_reach : Page → ℕ
 page_reach b = reach_of b.admitted b.tick
 
+-- how many arrivals there are
 abbrev pub arrivals : List Page → ℕ
 arrivals [] = 0
 arrivals (b ∷ bs) = b.tick + arrivals bs
 
--- the barrier word counts the arrivals and the opening in its low half, and the abort in its high half; a core was told
--- of an abort that was made; and whoever is or was admitted to a tick met all who left the ticks below
-abbrev pub Gathered : ℕ → List Page → Conductor → Type 0
-Gathered word books o =
-    (word ≡ abort_count o * 4294967296 + (arrivals books + opening_count o))
-    × ((c : ℕ) (b : Page) → get_elem? books c ≡ some b → b.stopped ≡ true → o ≡ Aborted)
-    × ((c : ℕ) (b : Page) → get_elem? books c ≡ some b → 0 < page_reach b → (o ≡ Opened) × ((d : ℕ) (e : Page) → get_elem? books d ≡ some e → page_reach b ≤ suc e.tick))
+-- what holds of the barrier word
+pub record Gathered (word : ℕ) (books : List Page) (o : Conductor) : Type 0 where
+  -- it counts the arrivals and the opening in its low half, and the abort in its high half
+  pub counts : word ≡ abort_count o * 4294967296 + (arrivals books + opening_count o)
+  -- a core was told of an abort that was made
+  pub told : (c : ℕ) (b : Page) → get_elem? books c ≡ some b → b.stopped ≡ true → o ≡ Aborted
+  -- whoever is or was admitted to a tick met all who left the ticks below
+  pub met : (c : ℕ) (b : Page) → get_elem? books c ≡ some b → 0 < page_reach b → (o ≡ Opened) × ((d : ℕ) (e : Page) → get_elem? books d ≡ some e → page_reach b ≤ suc e.tick)
 
--- the history of g: each core's entries are those of its book
-abbrev pub IsHistoryNewest : ℕ → List Page → List Event → Type 0
-IsHistoryNewest g books log =
-    ((c : ℕ) (b : Page) → get_elem? books c ≡ some b → by c log ≡ on g b.newest)
-    × ((c : ℕ) → length books ≤ c → by c log ≡ [])
-    × PlacedNewest log
+-- the history of g by these pages
+pub record IsHistoryNewest (g : ℕ) (books : List Page) (log : List Event) : Type 0 where
+  pub entries : (c : ℕ) (b : Page) → get_elem? books c ≡ some b → by c log ≡ on g b.newest
+  pub none_past : (c : ℕ) → length books ≤ c → by c log ≡ []
+  pub placed : PlacedNewest log
 
+-- the word counts the requests of the history, high, and its releases, low
 abbrev pub IsTicketWord : ℕ → List Event → Type 0
 IsTicketWord word log = word ≡ asks log * 4294967296 + leaves log
 
+-- how many entries there are
 abbrev pub entry_count : List Page → ℕ
 entry_count [] = 0
 entry_count (b ∷ bs) = length b.newest + entry_count bs
 
-abbrev pub IsServedNewest : ℕ → ℕ → List Page → Type 0
-IsServedNewest g word books = (log : List Event) × IsHistoryNewest g books log × LegalNewest log × IsTicketWord word log × (length log ≤ entry_count books) × RisingNewest log × PollsNewest log
+-- g has a history, which its word counts and a first-in-first-out lock answers
+pub record IsServedNewest (g word : ℕ) (books : List Page) : Type 0 where
+  pub log : List Event
+  pub history : IsHistoryNewest g books log
+  pub legal : LegalNewest log
+  pub counts : IsTicketWord word log
+  pub short : length log ≤ entry_count books
+  pub rising : RisingNewest log
+  pub polls : PollsNewest log
 
 -- what every page keeps on a board of this size
 pub record IsKeptNewest (z : BoardSize) (b : Page) : Type 0 where
@@ -97,39 +110,72 @@ pub record IsKeptNewest (z : BoardSize) (b : Page) : Type 0 where
   pub places : (g : ℕ) → IsChain (λ e f. IsBefore f.call f.place e.place) (on g b.newest)
   pub regular : IsRegularNewest b.newest
 
-abbrev pub IsTiedNewest : BoardSize → List ℕ → List Page → Conductor → Type 0
-IsTiedNewest z words books o =
-    (length books ≡ z.cores)
-    × ((g : ℕ) → g < z.resources → IsServedNewest g (slice_index words g) books)
-    × ((c : ℕ) (b : Page) → get_elem? books c ≡ some b → IsKeptNewest z b)
-    × Gathered (slice_index words z.resources) books o
+-- the rule of the words and of the pages of all seats
+pub record IsTiedNewest (z : BoardSize) (words : List ℕ) (books : List Page) (o : Conductor) : Type 0 where
+  pub cores : length books ≡ z.cores
+  pub served : (g : ℕ) → g < z.resources → IsServedNewest g (slice_index words g) books
+  pub kept : (c : ℕ) (b : Page) → get_elem? books c ≡ some b → IsKeptNewest z b
+  pub gathered : Gathered (slice_index words z.resources) books o
 
--- the rule: some pages and a conductor's book, each with one seat, are tied to the words
-abbrev pub Ruled : BoardSize → State (Unit {0}) View → Type 0
-Ruled z s = (books : List Page) × (o : Conductor) × Shared s.views books × SharedConductor s.views o × IsTiedNewest z s.words books o × (IsSize z × (length s.words ≡ z.resources + 1))
+-- the rule of a table: some pages and a conductor's book, each with one seat, are tied to the words
+pub record Ruled (z : BoardSize) (s : State (Unit {0}) View) : Type 0 where
+  pub pages : List Page
+  pub conductor : Conductor
+  pub shared : Shared s.views pages
+  pub shared_conductor : SharedConductor s.views conductor
+  pub tied : IsTiedNewest z s.words pages conductor
+  pub limits : IsSize z
+  pub words : length s.words ≡ z.resources + 1
 
--- the view has the book of this core and no other
-abbrev pub HasOnly : View → ℕ → Page → Type 0
-HasOnly v c b = HasPage v c b × ((d : ℕ) (e : Page) → HasPage v d e → d ≡ c) × (v.conductor ≡ None)
+-- the view has the page of this core and nothing else
+pub record HasOnly (v : View) (c : ℕ) (b : Page) : Type 0 where
+  pub page : HasPage v c b
+  pub only : (d : ℕ) (e : Page) → HasPage v d e → d ≡ c
+  pub conductor : v.conductor ≡ None
 
 -- the page has an entry of its present tick
 abbrev pub page_has_acted : Page → Bool
 page_has_acted b = list_any (λ e. e.tick == b.tick) b.newest
 
 -- a core's seat that may act, with this claim
-abbrev pub ViewMayAct : BoardSize → View → Claim → Type 0
-ViewMayAct z v l = (c : ℕ) × (b : Page) × HasOnly v c b × (claim_of b.newest ≡ l) × (b.admitted ≡ true) × (page_has_acted b ≡ false)
+pub record ViewMayAct (v : View) (l : Claim) : Type 0 where
+  pub core : ℕ
+  pub page : Page
+  pub has : HasOnly v core page
+  pub claims : claim_of page.newest ≡ l
+  pub admitted : page.admitted ≡ true
+  pub quiet : page_has_acted page ≡ false
+
+-- a core's seat that waits for its tick
+pub record ViewWaits (z : BoardSize) (v : View) : Type 0 where
+  pub core : ℕ
+  pub page : Page
+  pub has : HasOnly v core page
+  pub out : page.admitted ≡ false
+  pub left : page.tick < z.ticks
+
+-- a core's seat that is let into its tick
+pub record ViewIsAdmitted (v : View) : Type 0 where
+  pub core : ℕ
+  pub page : Page
+  pub has : HasOnly v core page
+  pub admitted : page.admitted ≡ true
+
+-- ---- what each step makes of a page and of a view, and tells
 
 -- one entry more
 abbrev pub page_with : Entry → Page → Page
 page_with e b = record { newest = e ∷ b.newest; tick = b.tick; admitted = b.admitted; stopped = b.stopped }
 
+-- one entry more, of the present tick
 abbrev pub page_with_entry : ℕ → ℕ → Call → Page → Page
 page_with_entry g p k b = page_with record { tick = b.tick; res = record { 0 = g }; place = p; call = k } b
 
+-- a request of g that found the word n
 abbrev pub page_with_ask : ℕ → ℕ → Page → Page
 page_with_ask g n = page_with_entry g (high n + low n) (Ask (high n - low n))
 
+-- each page of the view changed by f
 abbrev pub with_pages : (Page → Page) → View → View
 with_pages f v = record { pages = map (option_map f) v.pages; conductor = v.conductor }
 
@@ -137,9 +183,11 @@ with_pages f v = record { pages = map (option_map f) v.pages; conductor = v.cond
 abbrev pub ViewIsBehind : View → ℕ → ℕ → Type 0
 ViewIsBehind v g p = (c : ℕ) (b : Page) → HasPage v c b → AreBefore p (on g b.newest)
 
+-- a poll of g that found the word n: granted where the ticket is served
 abbrev pub page_with_poll : ℕ → ℕ → Page → Page
-page_with_poll g n b = page_with_entry g (high n + low n) (Poll (2 * low n == turn_of (claim_of b.newest))) b
+page_with_poll g n b = page_with_entry g (high n + low n) (Poll (low n == ticket_of (claim_of b.newest))) b
 
+-- a release of g that found the word n
 abbrev pub page_with_leave : ℕ → ℕ → Page → Page
 page_with_leave g n = page_with_entry g (high n + low n) Leave
 
@@ -148,44 +196,52 @@ page_with_leave g n = page_with_entry g (high n + low n) Leave
 pub record Tells (f : ℕ → ℕ → Page → Page) (st : Step (Unit {0})) (me : Me (Unit {0}) View) (n : ℕ) (now : Me (Unit {0}) View) : Type 0 where
   pub changed : now ≡ (with_pages (f st.word n) me.0, me.1)
   pub order : low n ≤ high n
-  pub small : high n + low n < 160000
+  pub small : high n + low n < 2 ^ 32
   pub behind : ViewIsBehind me.0 st.word (high n + low n)
 
+-- what a request tells
 abbrev pub TellsAsk : Step (Unit {0}) → Me (Unit {0}) View → ℕ → Me (Unit {0}) View → Type 0
 TellsAsk = Tells page_with_ask
 
+-- what a poll tells
 abbrev pub TellsPoll : Step (Unit {0}) → Me (Unit {0}) View → ℕ → Me (Unit {0}) View → Type 0
 TellsPoll = Tells page_with_poll
 
+-- what a release tells
 abbrev pub TellsLeave : Step (Unit {0}) → Me (Unit {0}) View → ℕ → Me (Unit {0}) View → Type 0
 TellsLeave = Tells page_with_leave
 
 -- what holds of each ticket word
 pub record IsTicket (word : TicketWord) : Type 0 where
   pub order : word.serving ≤ word.next
-  pub small : word.next + word.serving < 160000
+  pub small : word.next + word.serving < 2 ^ 32
 
 -- one entry more, whose place stands behind all that the pages have of the resource
 pub record HasEntered (g p : ℕ) (k : Call) (me now : Me (Unit {0}) View) : Type 0 where
   pub changed : now ≡ (with_pages (page_with_entry g p k) me.0, me.1)
   pub behind : ViewIsBehind me.0 g p
 
--- the view without the page of core c, that page alone, and the pages of two views
+-- the view's pages but that of core c
 abbrev pub view_without : ℕ → View → View
 view_without c v = record { pages = none_at c v.pages; conductor = v.conductor }
 
+-- the page of core c alone
 abbrev pub view_alone : ℕ → View → View
 view_alone c v = record { pages = only_at c v.pages; conductor = None }
 
+-- the pages of both views
 abbrev pub view_both : View → View → View
 view_both v w = record { pages = together v.pages w.pages; conductor = either v.conductor w.conductor }
 
+-- what a seat holds that was joined to another
 abbrev pub spent : View
 spent = record { pages = []; conductor = None }
 
+-- the core has arrived from its tick
 abbrev pub page_with_arrival : Page → Page
 page_with_arrival b = record { newest = b.newest; tick = suc b.tick; admitted = false; stopped = b.stopped }
 
+-- what an arrival tells
 abbrev pub TellsArrival : Step (Unit {0}) → Me (Unit {0}) View → ℕ → Me (Unit {0}) View → Type 0
 TellsArrival st me n now = now ≡ (with_pages page_with_arrival me.0, me.1)
 
@@ -195,6 +251,7 @@ page_after_look_if true q b = record { newest = b.newest; tick = b.tick; admitte
 page_after_look_if false true b = record { newest = b.newest; tick = b.tick; admitted = true; stopped = b.stopped }
 page_after_look_if false false b = b
 
+-- what a look at the barrier word n makes of a page, on a board of m cores
 abbrev pub page_after_look : ℕ → ℕ → Page → Page
 page_after_look m n b = page_after_look_if (ltb 0 (high n)) (leb (1 + m * b.tick) (low n)) b
 
@@ -202,21 +259,18 @@ page_after_look m n b = page_after_look_if (ltb 0 (high n)) (leb (1 + m * b.tick
 abbrev pub AtStart : ℕ → View → Type 0
 AtStart n v = (c : ℕ) (b : Page) → HasPage v c b → ltb 0 (high n) ≡ true → b.tick ≡ 0
 
+-- what a look tells, on a board of m cores
 abbrev pub TellsLook : ℕ → Step (Unit {0}) → Me (Unit {0}) View → ℕ → Me (Unit {0}) View → Type 0
 TellsLook m st me n now = (now ≡ (with_pages (page_after_look m n) me.0, me.1)) × AtStart n me.0
 
+-- the conductor did this
 abbrev pub view_with_conductor : Conductor → View → View
 view_with_conductor o v = record { pages = v.pages; conductor = Some o }
 
+-- what the opening tells
 abbrev pub TellsOpening : Step (Unit {0}) → Me (Unit {0}) View → ℕ → Me (Unit {0}) View → Type 0
 TellsOpening st me n now = now ≡ (view_with_conductor Opened me.0, me.1)
 
+-- what an abort tells
 abbrev pub TellsAbort : Step (Unit {0}) → Me (Unit {0}) View → ℕ → Me (Unit {0}) View → Type 0
 TellsAbort st me n now = now ≡ (view_with_conductor Aborted me.0, me.1)
-
--- a core's seat that waits for its tick, and one that is admitted
-abbrev pub ViewWaits : BoardSize → View → Type 0
-ViewWaits z v = (c : ℕ) × (b : Page) × HasOnly v c b × (b.admitted ≡ false) × (b.tick < z.ticks)
-
-abbrev pub ViewIsAdmitted : View → Type 0
-ViewIsAdmitted v = (c : ℕ) × (b : Page) × HasOnly v c b × (b.admitted ≡ true)

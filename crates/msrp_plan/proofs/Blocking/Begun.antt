@@ -1,6 +1,6 @@
 -- A row that blocks a job is of whoever runs, in an outermost section that began before the job's release: had it begun
 -- later, the job would have held it up.
-use Rattle.std.proofs.Common.{◌≡◌, ℕ, ◌<◌, ◌≤◌, Bool, true, false, List, [], ◌∷◌, ◌++◌, Some, refl, ap, sym, ◌∙◌, arith, append_assoc, inl, inr}
+use Rattle.std.proofs.Common.{◌≡◌, ℕ, ◌<◌, Bool, true, false, List, [], ◌∷◌, ◌++◌, refl, ap, sym, ◌∙◌, append_assoc, inl, inr}
 use Rattle.std.specs.List.{Contains}
 use Rattle.std.proofs.Math.Bool.{true≢false}
 use Rattle.std.proofs.lemmas.Bool.{cases_lt, or_parts}

@@ -1,5 +1,5 @@
 -- The bound on blocking: one outermost section of one later job, and that is within the greatest of the plan's.
-use Rattle.std.proofs.Common.{◌≡◌, ℕ, zero, suc, ◌+◌, ◌<◌, ◌≤◌, Bool, true, false, cond, ◌&&◌, ◌==◌, List, [], ◌∷◌, ◌++◌, Some, refl, ap, sym, ◌∙◌, subst, arith, length, nat_lt, add-one, eq-eqb, ◌⊎◌, inl, inr}
+use Rattle.std.proofs.Common.{◌≡◌, ℕ, zero, suc, ◌+◌, ◌<◌, ◌≤◌, Bool, true, false, cond, ◌&&◌, ◌==◌, List, [], ◌∷◌, ◌++◌, refl, ap, sym, ◌∙◌, subst, arith, length, nat_lt, add-one, eq-eqb, ◌⊎◌, inl, inr}
 use Rattle.std.specs.List.{Contains, range_with_len}
 use Rattle.std.proofs.lemmas.Bool.{and_from, and_parts, cases_lt, lt-ltb}
 use Rattle.msrp_plan.specs.Plan.{PlanModel, TaskModel, task_of, core_of, units}
@@ -12,7 +12,7 @@ use Rattle.msrp_plan.specs.declared.ids.JobId.{JobId}
 use Rattle.msrp_plan.specs.declared.rows.Row.{Row}
 use Rattle.msrp_plan.proofs.Lists.{in_range}
 use Rattle.msrp_plan.proofs.Ranges.{not_equal}
-use Rattle.msrp_plan.proofs.JobTests.{one_job, some_is, is_job_is}
+use Rattle.msrp_plan.proofs.JobTests.{one_job}
 use Rattle.msrp_plan.proofs.Prefixes.{each_both}
 use Rattle.msrp_plan.proofs.PlanUnits.{task_in}
 use Rattle.msrp_plan.proofs.LeastKept.{greatest_above, greatest_over}

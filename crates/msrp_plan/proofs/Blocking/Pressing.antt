@@ -1,13 +1,13 @@
 -- Who keeps a head from starting: a job presses on a level where it holds a local resource whose ceiling isn't below the
 -- level, or holds a global resource or waits for one.
-use Rattle.std.proofs.Common.{◌≡◌, ℕ, ◌<◌, ◌≤◌, Bool, true, false, cond, not, ◌&&◌, ◌||◌, List, [], ◌∷◌, ◌++◌, map, refl, sym, ◌∙◌, arith, take, max, inl, inr}
+use Rattle.std.proofs.Common.{◌≡◌, ℕ, ◌<◌, ◌≤◌, Bool, true, false, cond, not, ◌&&◌, ◌||◌, List, [], ◌∷◌, ◌++◌, map, refl, sym, ◌∙◌, arith, take, inl, inr}
 use Rattle.std.specs.List.{Contains, list_any, filter}
 use Rattle.std.proofs.lemmas.Bool.{and_parts, cases_lt, or_left, or_right, not-true}
 use Rattle.msrp_plan.specs.Plan.{PlanModel, units}
 use Rattle.msrp_plan.specs.Units.{holds_after}
 use Rattle.msrp_plan.specs.Jobs.{jobs_on, is_row_of, is_queued, holds, done}
 use Rattle.msrp_plan.specs.Levels.{is_global, local_ceiling, greatest, top}
-use Rattle.msrp_plan.specs.Ceiling.{resources, is_held_on, is_queued_on, is_raised, ceiling}
+use Rattle.msrp_plan.specs.Ceiling.{resources, is_held_on, is_queued_on, ceiling}
 use Rattle.msrp_plan.specs.Bounds.{is_inside}
 use Rattle.msrp_plan.specs.Blocking.{is_amid}
 use Rattle.msrp_plan.specs.WellFormed.{IsPlan}

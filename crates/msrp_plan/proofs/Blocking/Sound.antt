@@ -1,10 +1,10 @@
 -- What holds at each place of a run, of all cores: who waits is at a lock of a global resource, no later job presses on a
 -- live one, and who is started was released before every earlier job that isn't.
-use Rattle.std.proofs.Common.{◌≡◌, ◌≢◌, ℕ, ◌+◌, ◌<◌, ◌≤◌, Bool, true, false, cond, not, ◌&&◌, List, [], ◌∷◌, ◌++◌, Option, Some, refl, ap, sym, ◌∙◌, subst, arith, slice_get, inl, inr, Ordering, eq-eqb}
+use Rattle.std.proofs.Common.{◌≡◌, ◌≢◌, ℕ, ◌+◌, ◌<◌, ◌≤◌, Bool, true, false, cond, not, ◌&&◌, List, [], ◌∷◌, ◌++◌, Some, refl, ap, sym, ◌∙◌, arith, slice_get, inl, inr, Ordering, eq-eqb}
 use Rattle.std.specs.List.{Contains}
 use Rattle.std.specs.Ordering.{is_lt, nat_cmp, ordering_then}
 use Rattle.std.specs.declared.cmp.Ordering.TheVariants.{Less, Equal, Greater}
-use Rattle.std.proofs.Math.Bool.{true≢false, or-true}
+use Rattle.std.proofs.Math.Bool.{true≢false}
 use Rattle.std.proofs.lemmas.Bool.{and_parts, cases_lt, leb-true, le-leb, not-true, or_parts}
 use Rattle.std.proofs.lemmas.Cmp.{ranked}
 use Rattle.msrp_plan.specs.Plan.{PlanModel, task_of, units, release, key}
@@ -12,14 +12,13 @@ use Rattle.msrp_plan.specs.Units.{is_lock_of}
 use Rattle.msrp_plan.specs.Jobs.{jobs_on, is_row_of, is_waiting, is_released, is_started, is_queued, done}
 use Rattle.msrp_plan.specs.Levels.{is_global, level}
 use Rattle.msrp_plan.specs.Ceiling.{resources}
-use Rattle.msrp_plan.specs.Choice.{is_before, head, choice}
+use Rattle.msrp_plan.specs.Choice.{is_before, head}
 use Rattle.msrp_plan.specs.Actions.{is_global_unit}
 use Rattle.msrp_plan.specs.Runs.{IsLegal, EachAfter}
 use Rattle.msrp_plan.specs.States.{JobState}
 use Rattle.msrp_plan.specs.WellFormed.{IsPlan}
 use Rattle.msrp_plan.specs.declared.ids.JobId.{JobId}
 use Rattle.msrp_plan.specs.declared.ids.ResId.{ResId}
-use Rattle.msrp_plan.specs.declared.units.Op.{Op}
 use Rattle.msrp_plan.specs.declared.units.Op.TheVariants.{Lock as LockUnit}
 use Rattle.msrp_plan.specs.declared.rows.Kind.{Kind}
 use Rattle.msrp_plan.specs.declared.rows.Row.{Row}
@@ -30,7 +29,7 @@ use Rattle.msrp_plan.proofs.States.{state_kept, state_moved}
 use Rattle.msrp_plan.proofs.PlanUnits.{units_lock}
 use Rattle.msrp_plan.proofs.UnitCounts.{held_lock}
 use Rattle.msrp_plan.proofs.UnitKinds.{Runs, Locks, Unlocks, Takes, Queues, Grants, Spins, Releases, step_of}
-use Rattle.msrp_plan.proofs.Stands.{IsUp, stand, stand_in, stand_waits, waits_out}
+use Rattle.msrp_plan.proofs.Stands.{IsUp, stand_in, stand_waits, waits_out}
 use Rattle.msrp_plan.proofs.Keys.{before_order, tied}
 use Rattle.msrp_plan.proofs.LeastKept.{least_passes, least_of_those}
 use Rattle.msrp_plan.proofs.Live.{is_live}

@@ -1,16 +1,14 @@
 -- The longest outermost section, found unit by unit: each unit adds its rows to the section so far where something is
 -- held, and begins anew where nothing is.
-use Rattle.std.proofs.Common.{◌≡◌, ℕ, zero, suc, ◌+◌, ◌<◌, ◌≤◌, Bool, true, false, cond, ◌==◌, List, [], ◌∷◌, ◌++◌, map, refl, ap, sym, ◌∙◌, subst, arith, length, max, add-one, eq-eqb}
+use Rattle.std.proofs.Common.{◌≡◌, ℕ, zero, suc, ◌+◌, ◌≤◌, Bool, true, false, cond, ◌==◌, List, [], ◌∷◌, ◌++◌, map, refl, ap, ◌∙◌, subst, arith, length, max, add-one, eq-eqb}
 use Rattle.std.specs.List.{range_with_len, AllByRecursion}
 use Rattle.std.proofs.lemmas.Bool.{eqb-true}
 use Rattle.std.proofs.lemmas.List.{map-append}
 use Rattle.msrp_plan.specs.Plan.{PlanModel, TaskModel}
 use Rattle.msrp_plan.specs.Levels.{greatest}
 use Rattle.msrp_plan.specs.Bounds.{is_inside, opening, rows_at, rows_from, out}
-use Rattle.msrp_plan.proofs.Lists.{in_range}
-use Rattle.msrp_plan.proofs.Ranges.{range_more, not_equal}
-use Rattle.msrp_plan.proofs.LeastKept.{greatest_over}
-use Rattle.msrp_plan.proofs.Blocking.Sections.{greatest_push, greatest_within, opening_within, opening_outside, opening_inside}
+use Rattle.msrp_plan.proofs.Ranges.{range_more}
+use Rattle.msrp_plan.proofs.Blocking.Sections.{greatest_push, greatest_within, opening_outside, opening_inside}
 use Rattle.msrp_plan.proofs.Blocking.SectionRows.{spent, spent_more, spent_within}
 use Rattle.msrp_plan.proofs.Blocking.Bound.{spent_none, from_within}
 

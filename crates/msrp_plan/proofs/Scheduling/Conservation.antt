@@ -1,8 +1,7 @@
 -- Work conservation: a core idles exactly where its released jobs are finished. Where nobody runs nobody presses on the
 -- head, so it starts.
-use Rattle.std.proofs.Common.{◌≡◌, ℕ, ◌<◌, ◌≤◌, Bool, true, false, cond, not, ◌&&◌, List, [], ◌∷◌, ◌++◌, Option, Some, None, refl, ap, sym, ◌∙◌, subst, arith, nat_lt, length}
+use Rattle.std.proofs.Common.{◌≡◌, ℕ, ◌≤◌, Bool, true, false, cond, ◌&&◌, List, [], Option, Some, None, refl, ap, sym, ◌∙◌, subst, arith, nat_lt, length}
 use Rattle.std.specs.List.{Contains}
-use Rattle.std.proofs.Math.Bool.{true≢false}
 use Rattle.std.proofs.lemmas.Bool.{eqb-true, ltb-false, true_from_ne_false}
 use Rattle.std.proofs.lemmas.Option.{slice_get_within}
 use Rattle.msrp_plan.specs.Plan.{PlanModel, release, units}

@@ -1,11 +1,10 @@
 -- Earliest deadline first: whoever starts is the head, above the ceiling and before whoever runs; whoever goes on runs, and
 -- a head before it isn't above the ceiling.
-use Rattle.std.proofs.Common.{◌≡◌, ◌≢◌, ℕ, ◌<◌, ◌≤◌, Bool, true, false, cond, not, ◌&&◌, List, [], ◌∷◌, ◌++◌, Option, Some, None, refl, ap, sym, ◌∙◌, subst, arith, nat_lt, inl, inr}
-use Rattle.std.specs.List.{Contains}
+use Rattle.std.proofs.Common.{◌≡◌, ◌≢◌, ℕ, ◌≤◌, Bool, true, false, cond, ◌&&◌, List, [], Option, Some, None, refl, ap, sym, ◌∙◌, subst, nat_lt, inl, inr}
 use Rattle.std.proofs.Math.Bool.{true≢false}
-use Rattle.std.proofs.lemmas.Bool.{ltb-false, true_from_ne_false, false_from_ne_true}
-use Rattle.msrp_plan.specs.Plan.{PlanModel, release}
-use Rattle.msrp_plan.specs.Jobs.{jobs_on, is_started, is_finished}
+use Rattle.std.proofs.lemmas.Bool.{ltb-false, true_from_ne_false}
+use Rattle.msrp_plan.specs.Plan.{PlanModel}
+use Rattle.msrp_plan.specs.Jobs.{jobs_on, is_started}
 use Rattle.msrp_plan.specs.Levels.{level}
 use Rattle.msrp_plan.specs.Ceiling.{ceiling}
 use Rattle.msrp_plan.specs.Choice.{is_before, head, running, chosen, choice}
@@ -15,10 +14,10 @@ use Rattle.msrp_plan.specs.declared.ids.JobId.{JobId}
 use Rattle.msrp_plan.specs.declared.rows.Row.{Row}
 use Rattle.msrp_plan.proofs.JobTests.{some_is}
 use Rattle.msrp_plan.proofs.Prefixes.{each_weaker}
-use Rattle.msrp_plan.proofs.Keys.{before_order, tied}
+use Rattle.msrp_plan.proofs.Keys.{tied}
 use Rattle.msrp_plan.proofs.LeastKept.{least_some, least_in}
 use Rattle.msrp_plan.proofs.Live.{is_live, live}
-use Rattle.msrp_plan.proofs.Turns.{IsNew, has_turn, runs_live, runs_least, turn_least}
+use Rattle.msrp_plan.proofs.Turns.{has_turn, runs_live, runs_least, turn_least}
 use Rattle.msrp_plan.proofs.LegalRows.{legal_turn, turn_chosen}
 use Rattle.msrp_plan.proofs.Blocking.Sound.{is_ready, ready, head_ready, head_least}
 

@@ -1,22 +1,18 @@
 -- A core that is due has a legal next row: its job has a unit left, and the queue answers what that unit asks.
-use Rattle.std.proofs.Common.{◌≡◌, ℕ, ◌+◌, ◌<◌, ◌≤◌, ◌/◌, Bool, true, false, cond, not, ◌&&◌, ◌||◌, ◌==◌, List, [], ◌∷◌, ◌++◌, map, Option, Some, None, refl, ap, sym, ◌∙◌, subst, arith, length, nat_lt, slice_get, get_or, eq-eqb, inl, inr}
+use Rattle.std.proofs.Common.{◌≡◌, ℕ, ◌<◌, ◌/◌, Bool, true, false, not, ◌&&◌, ◌||◌, ◌==◌, List, [], Option, Some, None, refl, ap, sym, ◌∙◌, subst, arith, length, nat_lt, slice_get, get_or, eq-eqb, inl, inr}
 use Rattle.std.specs.Prelude.{is_some}
-use Rattle.std.specs.List.{AllByRecursion, Contains, flat_map, list_any, range_with_len}
-use Rattle.std.proofs.Math.Bool.{true≢false}
+use Rattle.std.specs.List.{Contains}
 use Rattle.std.proofs.lemmas.Bool.{and_from, lt-ltb, eqb-false}
-use Rattle.std.proofs.lemmas.List.Elements.{All-from_recursion, All-contains}
 use Rattle.std.proofs.lemmas.Option.{slice_get-get_or}
-use Rattle.msrp_plan.specs.Plan.{PlanModel, task_of, core_of, units}
+use Rattle.msrp_plan.specs.Plan.{PlanModel, units}
 use Rattle.msrp_plan.specs.Units.{is_lock_of}
 use Rattle.msrp_plan.specs.Shape.{has_shape, is_queue, may_carry}
-use Rattle.msrp_plan.specs.Aheads.{carries_its_ahead}
-use Rattle.msrp_plan.specs.Jobs.{jobs, jobs_of, jobs_on, job_at, same_job, is_started, is_finished, is_queued, done}
-use Rattle.msrp_plan.specs.Levels.{is_global}
+use Rattle.msrp_plan.specs.Jobs.{jobs_on, same_job, is_queued, done}
 use Rattle.msrp_plan.specs.Choice.{is_before, choice}
 use Rattle.msrp_plan.specs.Actions.{allows, same_res, res_of_unit, is_global_unit, does_unit}
 use Rattle.msrp_plan.specs.Examples.Notation.{idle}
 use Rattle.msrp_plan.specs.Queues.{fifo, replies, counts, is_free, is_first}
-use Rattle.msrp_plan.specs.Runs.{IsLegal, EachAfter, had_turn, is_in_turn, same_choice, replies_on}
+use Rattle.msrp_plan.specs.Runs.{IsLegal, EachAfter, had_turn, same_choice, replies_on}
 use Rattle.msrp_plan.specs.Scheduling.{IsDueCore, HasNext}
 use Rattle.msrp_plan.specs.WellFormed.{IsPlan}
 use Rattle.msrp_plan.specs.declared.ids.JobId.{JobId}
@@ -24,10 +20,10 @@ use Rattle.msrp_plan.specs.declared.ids.ResId.{ResId}
 use Rattle.msrp_plan.specs.declared.units.Op.{Op}
 use Rattle.msrp_plan.specs.declared.units.Op.TheVariants.{Run as RunUnit, Lock as LockUnit, Unlock as UnlockUnit}
 use Rattle.msrp_plan.specs.declared.rows.Kind.{Kind}
-use Rattle.msrp_plan.specs.declared.rows.Kind.TheVariants.{Idle, Run, Lock, Unlock, Take, Queue, Spin, Grant, Release}
+use Rattle.msrp_plan.specs.declared.rows.Kind.TheVariants.{Run, Lock, Unlock, Take, Queue, Spin, Grant, Release}
 use Rattle.msrp_plan.specs.declared.rows.Row.{Row}
-use Rattle.msrp_plan.proofs.Lists.{any_in, all_weaker}
-use Rattle.msrp_plan.proofs.JobLists.{core_jobs_below}
+use Rattle.msrp_plan.proofs.Lists.{any_in}
+use Rattle.msrp_plan.proofs.JobLists.{has_unit}
 use Rattle.msrp_plan.proofs.JobTests.{same_self}
 use Rattle.msrp_plan.proofs.PlanUnits.{units_lock}
 use Rattle.msrp_plan.proofs.UnitCounts.{held_lock}
@@ -92,10 +88,6 @@ answer_of false queued (UnlockUnit h) queue x s = record { kind = Unlock; ahead 
 answer_of true queued (UnlockUnit h) queue x s = record { kind = Release; ahead = None; shape = refl; carrier = refl; allowed = allows_release queued h; reply = refl; carries = refl }
 
 -- ---- whoever has the turn has a unit left
--- the task of a job is one of the plan's, so it has a unit
-has_unit : (plan : PlanModel) (c : ℕ) (x : JobId) → IsPlan plan → Contains (jobs_on plan c) x → 0 < length (units plan x)
-has_unit plan c x ok on = (ok.whole x.task.0 (All-contains (λ (j : JobId). j.task.0 < length plan.tasks) (jobs_on plan c) x (All-from_recursion (λ (j : JobId). j.task.0 < length plan.tasks) (jobs_on plan c) (core_jobs_below plan c)) on)).work
-
 -- it is unfinished
 turn_within : (plan : PlanModel) (c t : ℕ) (pre : List Row) (x : JobId) → IsPlan plan → EachAfter (IsLegal plan) [] pre → Contains (jobs_on plan c) x → choice plan c t pre ≡ Some x → done x pre < length (units plan x)
 turn_within plan c t pre x ok all on turn =

@@ -1,6 +1,6 @@
 -- Each order of turns is that of one legal run, and the turns of each legal run are such an order.
-use Rattle.std.proofs.Common.{◌≡◌, ℕ, zero, suc, ◌+◌, ◌*◌, ◌<◌, ◌≤◌, ◌/◌, Bool, true, ◌&&◌, ◌==◌, List, [], ◌∷◌, ◌++◌, map, refl, ap, sym, ◌∙◌, subst, arith, length, length-append, append_assoc, append-nil, add-one, mul_comm}
-use Rattle.std.specs.List.{count_by, filter, list_all, range_with_len}
+use Rattle.std.proofs.Common.{◌≡◌, ℕ, zero, suc, ◌+◌, ◌*◌, ◌<◌, ◌≤◌, ◌/◌, true, ◌&&◌, ◌==◌, List, [], ◌∷◌, ◌++◌, map, refl, ap, sym, ◌∙◌, subst, arith, length, length-append, append_assoc, append-nil, add-one, mul_comm}
+use Rattle.std.specs.List.{count_by, filter, range_with_len}
 use Rattle.std.proofs.lemmas.Bool.{and_from}
 use Rattle.std.proofs.lemmas.List.{map-append, length-map}
 use Rattle.std.proofs.lemmas.List.Folds.{list_all-append}
@@ -12,7 +12,7 @@ use Rattle.msrp_plan.specs.Plan.{PlanModel}
 use Rattle.msrp_plan.specs.Aheads.{carries_its_ahead, carries_ahead}
 use Rattle.msrp_plan.specs.Logs.{log_of, core_order, ascending}
 use Rattle.msrp_plan.specs.Runs.{IsLegal, IsRun, EachAfter}
-use Rattle.msrp_plan.specs.Scheduling.{IsDueCore, HasNext, IsNextCore, IsOrder, HasOneRun}
+use Rattle.msrp_plan.specs.Scheduling.{IsDueCore, IsNextCore, IsOrder, HasOneRun}
 use Rattle.msrp_plan.specs.WellFormed.{IsPlan}
 use Rattle.msrp_plan.specs.declared.rows.Row.{Row}
 use Rattle.msrp_plan.proofs.Prefixes.{along, each_along, each_push}

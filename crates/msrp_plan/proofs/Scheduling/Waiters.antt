@@ -1,9 +1,9 @@
 -- Who waits for a global resource stands in its queue.
-use Rattle.std.proofs.Common.{◌≡◌, ℕ, Bool, true, false, ◌||◌, List, [], ◌∷◌, ◌++◌, Option, Some, refl, ap, sym, ◌∙◌, subst, drop}
-use Rattle.std.specs.List.{list_any, Contains}
+use Rattle.std.proofs.Common.{◌≡◌, ℕ, Bool, true, false, ◌||◌, List, [], ◌∷◌, ◌++◌, Some, refl, ap, sym, ◌∙◌, subst, drop}
+use Rattle.std.specs.List.{list_any}
 use Rattle.std.proofs.Math.Bool.{true≢false, or-true}
 use Rattle.msrp_plan.specs.Plan.{PlanModel}
-use Rattle.msrp_plan.specs.Jobs.{is_row_of, is_job, same_job}
+use Rattle.msrp_plan.specs.Jobs.{is_row_of, is_job}
 use Rattle.msrp_plan.specs.Levels.{is_global}
 use Rattle.msrp_plan.specs.Queues.{fifo, is_first}
 use Rattle.msrp_plan.specs.Runs.{IsLegal, EachAfter}

@@ -1,5 +1,5 @@
 -- Which calls a lock takes, and how it answers: four cores in its queue, and histories of which one call is wrong.
-use Rattle.std.specs.Prelude.{ℕ, List, [], ◌∷◌, Bool, true, false}
+use Rattle.std.specs.Prelude.{ℕ, List, [], ◌∷◌, true, false}
 use Rattle.msrp_plan.specs.declared.units.Call.{Call}
 use Rattle.msrp_plan.specs.declared.units.Call.TheVariants.{Ask, Poll, Leave}
 

@@ -1,7 +1,7 @@
 -- Two global resources in one run: each has a queue of its own, and a job asks for what its unit names.
 use Rattle.std.specs.Prelude.{List, [], ◌∷◌, ◌++◌, codes}
 use Rattle.msrp_plan.specs.Plan.{PlanModel}
-use Rattle.msrp_plan.specs.Examples.Notation.{task, section, job, idle, run, take, queue, grant, release, changed}
+use Rattle.msrp_plan.specs.Examples.Notation.{task, section, job, idle, run, take, queue, release, changed}
 use Rattle.msrp_plan.specs.declared.ids.JobId.{JobId}
 use Rattle.msrp_plan.specs.declared.rows.Row.{Row}
 

@@ -5,10 +5,11 @@ ghost use Rattle.msrp_plan.specs.Choice.{running};
 ghost use Rattle.msrp_plan.specs.Runs.{IsRunStart};
 ghost use Rattle.msrp_plan.specs.WellFormed.{IsPlan};
 ghost use Rattle.msrp_plan.specs.Bounds.{spin_bound, out, blocked_bound};
-ghost use Rattle.msrp_plan.specs.Blocking.{BlockedByBegunSections, BlockedByOneSection, BoundedSections, BoundedBlocking, IsBegun, blocked, blocks, count_after, continues, is_amid};
+ghost use Rattle.msrp_plan.specs.Blocking.{BlockedByBegunSections, BlockedByOneSection, BlockedSinceRelease, BoundedSections, BoundedBlocking, IsBegun, blocked, blocks, count_after, continues, first_later, is_amid};
 ghost use Rattle.msrp_plan.specs.Laws.{KeepsLaws};
 ghost use Rattle.msrp_plan.specs.Examples.Notation.{job, run};
 ghost use Rattle.msrp_plan.specs.Examples.BlockedHead as blocked_head;
+ghost use Rattle.msrp_plan.specs.Examples.LevelsOverThePlan as levels_over_the_plan;
 ghost use Rattle.msrp_plan.specs.Examples.RaisedWhileHolding as raised_while_holding;
 ghost use Rattle.msrp_plan.specs.declared.rows.Row.{Row};
 
@@ -38,12 +39,20 @@ pub fn bounded_blocking()
     ensures { (plan : PlanModel) (rows : List Row) → IsPlan plan → IsRunStart plan rows → BoundedBlocking plan rows }
 {}
 
+/// Who blocks a job is known at its release: the first of the later jobs of its core that are started and
+/// unfinished then. Each row that this job makes before the blocked job starts counts, and no other: so how
+/// long jobs are blocked can be counted in one pass.
+pub fn blocked_since_release()
+    ensures { (plan : PlanModel) (rows : List Row) → IsPlan plan → IsRunStart plan rows → BlockedSinceRelease plan rows }
+{}
+
 /// A worked run in which a job is blocked as long as can be: its release comes right after the first row of
 /// the longest section. A job that is released later is blocked by the rest of that section.
 pub fn blocked_as_long_as_can_be()
     ensures laws { KeepsLaws blocked_head.plan blocked_head.rows }
     ensures first { blocks blocked_head.plan (job 1 0) (take 1 blocked_head.rows) (run 1 0 (job 0 0)) ≡ true }
     ensures runs { running blocked_head.plan 0 (take 1 blocked_head.rows) ≡ Some (job 0 0) }
+    ensures known { first_later blocked_head.plan (take 1 blocked_head.rows) (job 1 0) ≡ Some (job 0 0) }
     ensures amid { is_amid blocked_head.plan (take 1 blocked_head.rows) (job 0 0) ≡ true }
     ensures begun { IsBegun blocked_head.plan (take 1 blocked_head.rows) (job 0 0) 1 }
     ensures section { count_after (continues blocked_head.plan (job 0 0) 0) [] blocked_head.rows ≡ out blocked_head.plan (task_at blocked_head.plan 0) }
@@ -59,9 +68,9 @@ pub fn blocked_by_a_global_section()
     ensures bound { blocked_bound raised_while_holding.plan (task_at raised_while_holding.plan 1) ≡ 7 }
 {}
 
-/// The bounds of two worked plans. Of a local section `out` counts the units after the lock, up to and with
-/// the unlock; of a global one also what the request may wait. A task is blocked by tasks with a longer
-/// relative deadline alone.
+/// The bounds of worked plans. Of a local section `out` counts the units after the lock, up to and with the
+/// unlock; of a global one also what the request may wait. A task is blocked by tasks of its own core with a
+/// longer relative deadline alone.
 pub fn bounds_on_blocking()
     ensures local { out blocked_head.plan (task_at blocked_head.plan 0) ≡ 13 }
     ensures shorter { out blocked_head.plan (task_at blocked_head.plan 1) ≡ 2 }
@@ -72,5 +81,5 @@ pub fn bounds_on_blocking()
     ensures spins { spin_bound raised_while_holding.plan 0 0 ≡ 2 }
     ensures global { out raised_while_holding.plan (task_at raised_while_holding.plan 0) ≡ 7 }
     ensures global_section { blocked_bound raised_while_holding.plan (task_at raised_while_holding.plan 1) ≡ 7 }
-    ensures other_core { blocked_bound raised_while_holding.plan (task_at raised_while_holding.plan 2) ≡ 0 }
+    ensures other_core { blocked_bound levels_over_the_plan.plan (task_at levels_over_the_plan.plan 2) ≡ 0 }
 {}

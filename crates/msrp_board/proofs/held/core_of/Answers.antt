@@ -1,5 +1,5 @@
 use Rattle.std.proofs.Common.{◌∙◌, sym, arith}
-use Rattle.msrp_board.proofs.Ties.{core_here, core_none}
+use Rattle.msrp_board.proofs.CoreStates.{core_here, core_none}
 use Rattle.msrp_board.proofs.held.core_of.Goals as goal
 
 pub returns-then-is_some-clause-core : goal.returns-then-is_some-clause-core

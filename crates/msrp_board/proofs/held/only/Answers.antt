@@ -1,4 +1,4 @@
-use Rattle.msrp_board.proofs.Parts.{only_tie}
+use Rattle.msrp_board.proofs.SeatParts.{only_tie}
 use Rattle.msrp_board.proofs.held.only.Goals as goal
 
 pub returns : goal.returns

@@ -1,4 +1,4 @@
-use Rattle.msrp_board.proofs.Parts.{none_tie}
+use Rattle.msrp_board.proofs.SeatParts.{none_tie}
 use Rattle.msrp_board.proofs.held.others.Goals as goal
 
 pub returns : goal.returns

@@ -1,5 +1,5 @@
 use Rattle.std.proofs.Common.{◌∙◌, sym}
-use Rattle.msrp_board.proofs.Ties.{own_at, some_now, none_now}
+use Rattle.msrp_board.proofs.CoreStates.{own_at, some_now, none_now}
 use Rattle.msrp_board.proofs.held.own.Goals as goal
 
 pub unreachable-requires : goal.unreachable-requires

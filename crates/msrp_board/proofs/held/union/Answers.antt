@@ -1,6 +1,6 @@
 use Rattle.std.proofs.Common.{arith, ◌+◌, ◌∙◌, sym, subst, set}
 use Rattle.std.proofs.lemmas.List.{length-set}
-use Rattle.msrp_board.proofs.Parts.{JoinedBelow, joined_step, joined_tie}
+use Rattle.msrp_board.proofs.SeatParts.{JoinedBelow, joined_step, joined_tie}
 use Rattle.msrp_board.proofs.held.union.Goals as goal
 
 pub loop-core-preserved : goal.loop-core-preserved

@@ -1,4 +1,4 @@
-use Rattle.msrp_board.proofs.Parts.{JoinedBelow}
+use Rattle.msrp_board.proofs.SeatParts.{JoinedBelow}
 use Rattle.std.proofs.Common.{◌≡◌, length}
 use Rattle.msrp_board.proofs.held.union.Given as goal
 

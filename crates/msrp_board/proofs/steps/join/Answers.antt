@@ -1,4 +1,4 @@
-use Rattle.msrp_board.proofs.Parting.{joins}
+use Rattle.msrp_board.proofs.ViewParts.{joins}
 use Rattle.msrp_board.proofs.steps.join.Goals as goal
 
 pub join_seat-requires : goal.join_seat-requires

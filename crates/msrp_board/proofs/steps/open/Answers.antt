@@ -2,7 +2,7 @@ use Rattle.std.proofs.Common.{arith, sym, subst, ◌%◌, ◌+◌, ◌^◌}
 use Rattle.atomic_table.specs.Table.{Allows, step}
 use mathlib.Core.Option.{none}
 use Rattle.msrp_board.specs.Inside.Rule.{Ruled, TellsOpening}
-use Rattle.msrp_board.proofs.Conducting.{open_allowed}
+use Rattle.msrp_board.proofs.ConductorSteps.{open_allowed}
 use Rattle.msrp_board.proofs.steps.open.Goals as goal
 
 pub fetch_add-requires : goal.fetch_add-requires

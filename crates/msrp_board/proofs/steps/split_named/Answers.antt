@@ -1,4 +1,4 @@
-use Rattle.msrp_board.proofs.Parting.{splits}
+use Rattle.msrp_board.proofs.ViewParts.{splits}
 use Rattle.msrp_board.proofs.steps.split_named.Goals as goal
 
 pub split_seat-requires : goal.split_seat-requires

@@ -1,4 +1,4 @@
-use Rattle.msrp_board.proofs.Conducting.{conducted_held}
+use Rattle.msrp_board.proofs.ConductorSteps.{conducted_held}
 use Rattle.msrp_board.proofs.board.Board.abort.Goals as goal
 
 pub invariant_of-seat : goal.invariant_of-seat

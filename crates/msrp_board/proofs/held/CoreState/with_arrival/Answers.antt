@@ -1,5 +1,5 @@
 use Rattle.std.proofs.Common.{arith}
-use Rattle.msrp_board.proofs.Ticks.{arrived_state}
+use Rattle.msrp_board.proofs.ArrivedState.{arrived_state}
 use Rattle.msrp_board.proofs.held.CoreState.with_arrival.Goals as goal
 
 pub returns : goal.returns

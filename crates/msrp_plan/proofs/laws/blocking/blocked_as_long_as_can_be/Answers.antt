@@ -12,4 +12,4 @@ begun : IsBegun plan (take 1 rows) (job 0 0) 1
 begun = record { before = []; first = lock 0 0 (job 0 0) 0; after = []; rows = refl; job = refl; outside = refl; unit = refl; early = omega arith }
 
 pub returns : goal.returns
-returns c = record { laws = keeps_laws plan rows (accepted_plan plan refl refl refl) (good_is_run _ _ refl); first = refl; runs = refl; amid = refl; begun = begun; section = refl; longest = refl; rest = refl }
+returns c = record { laws = keeps_laws plan rows (accepted_plan plan refl refl refl) (good_is_run _ _ refl); first = refl; runs = refl; known = refl; amid = refl; begun = begun; section = refl; longest = refl; rest = refl }

@@ -90,29 +90,31 @@ no_desk : (o : Conductor) → None ≡ Some o → ⊥
 no_desk o e = cc
 
 pub splits : (z : BoardSize) (id c : ℕ) (v : View) → Splits (Ruled z) id v (view_alone c v) (view_without c v)
-splits z id c v s r at_id = (
-  r.0,
-  r.1,
-  split_shared HasPage s.views (λ k b. get_elem? r.0 k ≡ some b) id v (view_alone c v) (view_without c v) at_id
+splits z id c v s r at_id = record {
+  pages = r.pages;
+  conductor = r.conductor;
+  shared = split_shared HasPage s.views (λ k b. get_elem? r.pages k ≡ some b) id v (view_alone c v) (view_without c v) at_id
       (λ k b h. (of_only c v.pages k b h).0) (λ k b h. (of_none c v.pages k b h).0)
       (λ k b d h g. (of_none c v.pages k d g).1 (of_only c v.pages k b h).1)
-      (λ k b h. either_part c v.pages k b h) r.2,
-  split_shared HasConductor s.views (λ k x. (k ≡ 0) × (r.1 ≡ x)) id v (view_alone c v) (view_without c v) at_id
-      (λ k b h. absurd (no_desk b h.1)) (λ k b h. h) (λ k b d h g. no_desk b h.1) (λ k b h. inr h) r.3,
-  r.4,
-  r.5,
-)
+      (λ k b h. either_part c v.pages k b h) r.shared;
+  shared_conductor = split_shared HasConductor s.views (λ k x. (k ≡ 0) × (r.conductor ≡ x)) id v (view_alone c v) (view_without c v) at_id
+      (λ k b h. absurd (no_desk b h.1)) (λ k b h. h) (λ k b d h g. no_desk b h.1) (λ k b h. inr h) r.shared_conductor;
+  tied = r.tied;
+  limits = r.limits;
+  words = r.words;
+}
 
 pub joins : (z : BoardSize) (id : ℕ) (v : View) (other : ℕ) (w : View) → Joins (Ruled z) id v other w (view_both v w) spent
-joins z id v other w s r at_id apart at_other = (
-  r.0,
-  r.1,
-  join_shared HasPage s.views (λ k b. get_elem? r.0 k ≡ some b) id other v w (view_both v w) spent at_id apart at_other
+joins z id v other w s r at_id apart at_other = record {
+  pages = r.pages;
+  conductor = r.conductor;
+  shared = join_shared HasPage s.views (λ k b. get_elem? r.pages k ≡ some b) id other v w (view_both v w) spent at_id apart at_other
       (λ k b h. of_together v.pages w.pages k b h) (λ k b h. to_left v.pages w.pages k b h)
-      (λ k b h n. to_right v.pages w.pages k b h n) (λ k b h. none_in k b h) r.2,
-  join_shared HasConductor s.views (λ k x. (k ≡ 0) × (r.1 ≡ x)) id other v w (view_both v w) spent at_id apart at_other
+      (λ k b h n. to_right v.pages w.pages k b h n) (λ k b h. none_in k b h) r.shared;
+  shared_conductor = join_shared HasConductor s.views (λ k x. (k ≡ 0) × (r.conductor ≡ x)) id other v w (view_both v w) spent at_id apart at_other
       (λ k b h. ⊎_elim (λ x. inl (h.0, x)) (λ x. inr (h.0, x)) (desk_of v.conductor w.conductor b h.1)) (λ k b h. (h.0, desk_left v.conductor w.conductor b h.1))
-      (λ k b h n. (h.0, desk_right v.conductor w.conductor b h.1 (λ d x. n d (h.0, x)))) (λ k b h. no_desk b h.1) r.3,
-  r.4,
-  r.5,
-)
+      (λ k b h n. (h.0, desk_right v.conductor w.conductor b h.1 (λ d x. n d (h.0, x)))) (λ k b h. no_desk b h.1) r.shared_conductor;
+  tied = r.tied;
+  limits = r.limits;
+  words = r.words;
+}

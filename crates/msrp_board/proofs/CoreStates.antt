@@ -1,4 +1,4 @@
--- A seat's numbers and its books.
+-- What a seat keeps of its cores is what its pages say, also after a step.
 use Rattle.std.proofs.Common.{arith, ◌≡◌, ◌⊎◌, inl, inr, ⊎_elim, ℕ, zero, suc, ◌<◌, List, [], ◌∷◌, map, set, get_or, Some, None, true, true≢false, refl, sym, ap, ◌∙◌, subst}
 use Rattle.std.specs.declared.option.Option.{Option}
 use Rattle.std.specs.Option.{is_some, option_map}
@@ -14,8 +14,7 @@ use Rattle.msrp_board.specs.declared.held.CoreState.{CoreState}
 use Rattle.msrp_board.specs.declared.books.BoardSize.{BoardSize}
 use Rattle.msrp_board.specs.declared.books.Conductor.{Conductor}
 use Rattle.msrp_board.specs.Inside.Held.{state_of, page_at, state_at, AreStates, IsLow, IsOwn, IsHeld}
-use Rattle.msrp_board.specs.Inside.Newest.{claim_of}
-use Rattle.msrp_board.specs.Inside.Rule.{HasPage, HasOnly, IsKeptNewest, with_pages}
+use Rattle.msrp_board.specs.Inside.Rule.{HasOnly, IsKeptNewest, with_pages}
 use Rattle.msrp_board.proofs.Sharing.{at_length}
 
 pub get_or_at : {A : Type 0} (l : List A) (i : ℕ) (a d : A) → get_elem? l i ≡ some a → get_or l i d ≡ a
@@ -62,20 +61,20 @@ each_at f (x ∷ xs) (suc c) b e = each_at f xs c b e
 
 pub core_here : (held : List (Option CoreState)) (v : View) (k c : ℕ) (b : Page) → IsOwn held v c b → k < 8 → true ≡ is_some (get_or held k None) → k ≡ c
 core_here held v k c b own low is = ⊎_elim
-    (λ h. own.only.1 k h.0 (has_page v.pages k h.0 h.1))
+    (λ h. own.only.only k h.0 (has_page v.pages k h.0 h.1))
     (λ n. absurd (true≢false (is ∙ ap is_some (get_or_at held k (state_at v.pages k) None (own.states k low) ∙ ap (option_map state_of) n))))
     (page_or_none (page_at v.pages k))
 
 pub core_none : (held : List (Option CoreState)) (v : View) (c : ℕ) (b : Page) → IsOwn held v c b → get_elem? held c ≡ some None → ⊥
-core_none held v c b own is = let e : some None ≡ some (Some (state_of b)) = sym is ∙ own.states c own.low ∙ ap some (state_has v.pages c b own.only.0) in absurd (cc)
+core_none held v c b own is = let e : some None ≡ some (Some (state_of b)) = sym is ∙ own.states c own.low ∙ ap some (state_has v.pages c b own.only.page) in absurd (cc)
 
 -- what is kept of the changed core
 tie_change : (held : List (Option CoreState)) (v : View) (c : ℕ) (b : Page) (f : Page → Page) (x : Option CoreState) → AreStates held v.pages → HasOnly v c b → x ≡ Some (state_of (f b)) → AreStates (set held c x) (with_pages f v).pages
 tie_change held v c b f x tie sole is d low = dite (ℕ_discrete d c)
     (λ q. let t : get_elem? held c ≡ some (state_at v.pages c) = subst (λ k. get_elem? held k ≡ some (state_at v.pages k)) q (tie d low) in
-    subst (λ k. get_elem? (set held c x) k ≡ some (state_at (with_pages f v).pages k)) (sym q) (set_here held c x (at_length held c (state_at v.pages c) t) ∙ ap some (is ∙ sym (state_has (with_pages f v).pages c (f b) (each_at f v.pages c b sole.0)))))
+    subst (λ k. get_elem? (set held c x) k ≡ some (state_at (with_pages f v).pages k)) (sym q) (set_here held c x (at_length held c (state_at v.pages c) t) ∙ ap some (is ∙ sym (state_has (with_pages f v).pages c (f b) (each_at f v.pages c b sole.page)))))
     (λ n. set_else held c d x n ∙ tie d low ∙ ap some (⊎_elim
-    (λ h. absurd (n (sole.1 d h.0 (has_page v.pages d h.0 h.1))))
+    (λ h. absurd (n (sole.only d h.0 (has_page v.pages d h.0 h.1))))
     (λ e. ap (option_map state_of) (e ∙ sym (page_each f v.pages d ∙ none_each f (page_at v.pages d) e)))
     (page_or_none (page_at v.pages d))))
 
@@ -89,7 +88,7 @@ seat_step z held o me now c k b f x s sole at is step kept = subst (IsHeld z (se
   conducts = s.conducts;
   cores = λ d e h. let u = each_some f me.0.pages d e h in s.cores d u.0 u.1;
   kept = λ d e h. let u = each_some f me.0.pages d e h in
-      let same : some (Some b) ≡ some (Some u.0) = sym sole.0 ∙ subst (λ j. get_elem? me.0.pages j ≡ some (Some u.0)) (sole.1 d u.0 u.1) u.1 in
+      let same : some (Some b) ≡ some (Some u.0) = sym sole.page ∙ subst (λ j. get_elem? me.0.pages j ≡ some (Some u.0)) (sole.only d u.0 u.1) u.1 in
       subst (IsKeptNewest z) (ap f (page_of b u.0 same) ∙ u.2) kept;
 })
   where
@@ -101,7 +100,7 @@ pub is_low : (z : BoardSize) (held : List (Option CoreState)) (o : Option Conduc
 is_low z held o me s c b h = let l = s.cores c b h in let eight = s.limits.cores.1 in omega (arith, l, eight)
 
 pub own_at : (held : List (Option CoreState)) (v : View) (k c : ℕ) (b : Page) → IsOwn held v c b → k ≡ c → get_or held k None ≡ Some (state_of b)
-own_at held v k c b own same = subst (λ j. get_or held j None ≡ Some (state_of b)) (sym same) (get_or_at held c (Some (state_of b)) None (own.states c own.low ∙ ap some (state_has v.pages c b own.only.0)))
+own_at held v k c b own same = subst (λ j. get_or held j None ≡ Some (state_of b)) (sym same) (get_or_at held c (Some (state_of b)) None (own.states c own.low ∙ ap some (state_has v.pages c b own.only.page)))
 
 pub some_now : (x y : CoreState) → Some x ≡ Some y → x ≡ y
 some_now x y h = cc

@@ -1,5 +1,5 @@
 -- What a seat keeps of its cores, and what callers see, where a seat is parted and where two are joined.
-use Rattle.std.proofs.Common.{◌≡◌, ◌≢◌, ◌⊎◌, ⊎_elim, inl, inr, ℕ, zero, suc, ◌<◌, ◌≤◌, List, [], ◌∷◌, map, replicate, length, set, get_or, true, Some, None, refl, sym, ap, ◌∙◌, subst, arith, true≢false}
+use Rattle.std.proofs.Common.{◌≡◌, ◌⊎◌, ⊎_elim, inl, inr, ℕ, zero, suc, ◌<◌, ◌≤◌, List, [], ◌∷◌, map, replicate, length, set, get_or, true, Some, None, refl, sym, ap, ◌∙◌, subst, arith, true≢false}
 use Rattle.std.specs.Prelude.{slice_index_or}
 use Rattle.std.specs.Option.{option_map, option_or, is_some}
 use Rattle.std.proofs.lemmas.Bool.{cases_lt}
@@ -22,9 +22,9 @@ use Rattle.msrp_board.specs.Steps.{only_at, none_at, either, together, alone, wi
 use Rattle.msrp_board.specs.Inside.Rule.{IsKeptNewest, view_alone, view_without, view_both}
 use Rattle.msrp_board.specs.Inside.Held.{told, seen_as, page_at, state_of, state_at, AreStates, IsLow, IsHeld}
 use Rattle.msrp_board.proofs.SeatBooks.{at-only_same, at-only_other, at-none_same, at-none_other, at-together}
-use Rattle.msrp_board.proofs.Parting.{of_only, of_none, of_together}
+use Rattle.msrp_board.proofs.ViewParts.{of_only, of_none, of_together}
 use Rattle.msrp_board.proofs.Sharing.{at_length}
-use Rattle.msrp_board.proofs.Ties.{get_or_at}
+use Rattle.msrp_board.proofs.CoreStates.{get_or_at}
 use Rattle.msrp_board.proofs.Told.{none_past}
 
 -- ---- what is kept

@@ -1,0 +1,64 @@
+-- A state under the rule, as callers see it.
+use Rattle.std.proofs.Common.{◌≡◌, ℕ, zero, suc, List, [], ◌∷◌, map, Some, refl, sym, ap, ◌∙◌, arith}
+use Rattle.std.specs.Prelude.{slice_get}
+use mathlib.Core.Option.{some, some-injective, some-ne-none}
+use lib.ListN.{get_elem?}
+use Rattle.atomic_table.specs.Table.{State}
+use Rattle.msrp_board.specs.declared.books.Book.{Book}
+use Rattle.msrp_board.specs.declared.books.Conductor.{Conductor}
+use Rattle.msrp_board.specs.declared.pages.Page.{Page}
+use Rattle.msrp_board.specs.declared.pages.View.{View}
+use Rattle.msrp_board.specs.Seats.{BoardModel, SeatModel, book_at}
+use Rattle.msrp_board.specs.Moments.{HoldsBook, HoldsConductor, AreTied}
+use Rattle.msrp_board.specs.Inside.Rule.{OwnsBy, HasPage, HasConductor, Ruled}
+use Rattle.msrp_board.specs.Inside.Held.{told, seen_as}
+use Rattle.msrp_board.proofs.Told.{page_of, book_of}
+use Rattle.msrp_board.proofs.End.{whole_of, tied_told, book_of_page, page_of_book}
+
+-- a seat of a state is what one of its views tells
+view_of : (board : BoardModel) (views : List View) (i : ℕ) (seat : SeatModel) → slice_get (map (seen_as board) views) i ≡ Some seat → (v : View) × (get_elem? views i ≡ some v) × (seen_as board v ≡ seat)
+view_of board [] i seat e = absurd (cc)
+view_of board (v ∷ vs) zero seat e = (v, refl, cc)
+view_of board (v ∷ vs) (suc i) seat e = view_of board vs i seat e
+
+seat_of : (board : BoardModel) (views : List View) (i : ℕ) (v : View) → get_elem? views i ≡ some v → slice_get (map (seen_as board) views) i ≡ Some (seen_as board v)
+seat_of board [] i v e = absurd (some-ne-none v (sym e))
+seat_of board (w ∷ vs) zero v e = ap (λ x. Some (seen_as board x)) (some-injective w v e)
+seat_of board (w ∷ vs) (suc i) v e = seat_of board vs i v e
+
+-- the page of a book that a seat holds
+pub record Held (views : List View) (i c : ℕ) (b : Book) : Type 0 where
+  pub page : Page
+  pub tells : told page ≡ b
+  pub owns : (v : View) × (get_elem? views i ≡ some v) × HasPage v c page
+
+held : (board : BoardModel) (views : List View) (i c : ℕ) (b : Book) → HoldsBook (map (seen_as board) views) i c b → Held views i c b
+held board views i c b h =
+    let v = view_of board views i h.0 h.1 in
+    let p = page_of v.0.pages c b (ap (λ s. book_at s c) v.2 ∙ h.2) in
+    record { page = p.0; tells = p.2; owns = (v.0, v.1, p.1) }
+
+of_page : (board : BoardModel) (views : List View) (i c : ℕ) (p : Page) (b : Book) → told p ≡ b → (v : View) × (get_elem? views i ≡ some v) × HasPage v c p → HoldsBook (map (seen_as board) views) i c b
+of_page board views i c p b tells o = (seen_as board o.0, seat_of board views i o.0 o.1, book_of o.0.pages c p o.2 ∙ ap (λ (x : Book). Some x) tells)
+
+held_conductor : (board : BoardModel) (views : List View) (i : ℕ) (o : Conductor) → HoldsConductor (map (seen_as board) views) i o → OwnsBy HasConductor views i 0 o
+held_conductor board views i o h = let v = view_of board views i h.0 h.1 in (v.0, v.1, (refl, ap (λ (s : SeatModel). s.conductor) v.2 ∙ h.2))
+
+pub tied_always : (board : BoardModel) (s : State (Unit {0}) View) → Ruled board.size s → AreTied board.size s.words (map (seen_as board) s.views)
+tied_always board s r =
+    let z = board.size in
+    record {
+      whole = whole_of z s.words (map told r.pages) r.conductor;
+      sized = refl;
+      tickets = refl;
+      barrier = refl;
+      shared = record {
+        books = λ i c b h. let k = held board s.views i c b h in book_of_page r.pages c k.page (r.shared.true_of i c k.page k.owns) ∙ ap (λ (x : Book). Some x) k.tells;
+        with_one = λ c b e. let p = page_of_book r.pages c b e in let o = r.shared.with_one c p.0 p.1 in (o.0, of_page board s.views o.0 c p.0 b p.2 o.1);
+        with_no_other = λ i j c b e h k. let x = held board s.views i c b h in let y = held board s.views j c e k in r.shared.with_no_other i j c x.page y.page x.owns y.owns;
+        conductor = λ i o h. sym (r.shared_conductor.true_of i 0 o (held_conductor board s.views i o h)).1;
+        conductor_with_one = let o = r.shared_conductor.with_one 0 r.conductor (refl, refl) in (o.0, (seen_as board o.1.0, seat_of board s.views o.0 o.1.0 o.1.1, o.1.2.1));
+        conductor_with_no_other = λ i j o e h k. r.shared_conductor.with_no_other i j 0 o e (held_conductor board s.views i o h) (held_conductor board s.views j e k);
+      };
+      tied = tied_told z s.words r.pages r.conductor r.limits (let l = r.words in omega (arith, l)) r.tied;
+    }

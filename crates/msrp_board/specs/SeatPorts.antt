@@ -1,0 +1,52 @@
+-- A port over a core's seat: what was asked through the seat, and how often its core may still call in its tick. For
+-- whoever makes a core's calls on a board behind the five calls of a port: ask, poll, leave, room, resources.
+use Rattle.std.specs.Prelude.{◌≡◌, ◌≢◌, ◌+◌, ℕ, List, [], ◌∷◌, ◌++◌, Bool, true, false, Some, None}
+use Rattle.std.specs.declared.option.Option.{Option}
+use Rattle.msrp_plan.specs.Calls.{ResCall}
+use Rattle.msrp_plan.specs.declared.ids.ResId.{ResId}
+use Rattle.msrp_plan.specs.declared.units.Call.{Call}
+use Rattle.msrp_board.specs.declared.answers.SeatPhase.{SeatPhase}
+use Rattle.msrp_board.specs.declared.answers.SeatPhase.TheVariants.{Waiting, Admitted, Done, Stopped}
+use Rattle.msrp_board.specs.declared.books.Book.{Book}
+use Rattle.msrp_board.specs.Books.{res_calls, phase_in, has_acted}
+use Rattle.msrp_board.specs.Seats.{BoardModel, SeatModel, book_at, IsCoreSeat}
+
+-- the calls of a book, none where there is no book
+abbrev pub calls_in : Option Book → List ResCall
+calls_in None = []
+calls_in (Some b) = res_calls b.entries
+
+-- the calls that core c made through the seat
+abbrev pub port_calls : SeatModel → ℕ → List ResCall
+port_calls seat c = calls_in (book_at seat c)
+
+-- one call more, for a core that is let into its tick and has not acted in it
+abbrev pub room_by : SeatPhase → Bool → ℕ
+room_by Waiting acted = 0
+room_by Admitted true = 0
+room_by Admitted false = 1
+room_by Done acted = 0
+room_by Stopped acted = 0
+
+-- how many calls the core of a book may still make in its tick
+abbrev pub room_in : ℕ → Option Book → ℕ
+room_in ticks None = 0
+room_in ticks (Some b) = room_by (phase_in ticks b) (has_acted b)
+
+-- how many calls core c may still make through the seat in its tick
+abbrev pub port_room : SeatModel → ℕ → ℕ
+port_room seat c = room_in seat.board.size.ticks (book_at seat c)
+
+-- the seat of core c on this board, which is let into its tick
+pub record IsPort (board : BoardModel) (c : ℕ) (seat : SeatModel) : Type 0 where
+  pub on : seat.board ≡ board
+  pub book : Book
+  pub of_core : IsCoreSeat seat c book
+  pub stands : phase_in seat.board.size.ticks book ≡ Admitted
+
+-- one call more of core c, which has one less to make
+pub record AddsCall (c : ℕ) (res : ResId) (call : Call) (old new : SeatModel) : Type 0 where
+  pub calls : port_calls new c ≡ port_calls old c ++ (res, call) ∷ []
+  pub room : port_room new c + 1 ≡ port_room old c
+  pub others : (d : ℕ) → d ≢ c → port_room new d ≡ port_room old d
+  pub board : new.board ≡ old.board

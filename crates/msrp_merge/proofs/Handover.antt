@@ -1,0 +1,85 @@
+-- The worked handover: its logs fit its books, and its history was served.
+use Rattle.std.proofs.Common.{◌≡◌, ℕ, zero, suc, ◌<◌, ◌≤◌, List, [], ◌∷◌, cond, true, false, length, refl, ap, ◌∙◌, arith, inl, inr, ⊎_elim, ne_eqb}
+use Rattle.std.specs.List.{AllByRecursion}
+use Rattle.msrp_plan.specs.Examples.HandoverATickLater as handover
+use Rattle.msrp_plan.specs.FifoLock.{Legal}
+use Rattle.msrp_plan.specs.Runs.{CoreRun, IsRun, IsRunStart}
+use Rattle.msrp_plan.proofs.CoreRuns.{core_run}
+use Rattle.msrp_plan.proofs.Verdicts.{good_is_run}
+use Rattle.msrp_board.specs.Boards.{entries_at}
+use Rattle.msrp_board.specs.Books.{on, IsChain}
+use Rattle.msrp_board.specs.History.{Event, by, calls, PollsInOrder, IsNotLater, IsServed}
+use Rattle.msrp_merge.specs.Handover.{logs, books, history}
+use Rattle.msrp_merge.specs.Merging.{log_at, turns_of, AreLogs}
+use Rattle.msrp_merge.specs.Turns.{rows_of, Fits}
+
+-- ---- the logs
+run : IsRun handover.plan handover.rows
+run = good_is_run handover.plan handover.rows refl
+
+start : IsRunStart handover.plan handover.rows
+start = record { size = omega arith; each = run.each }
+
+-- by the number of the core, of which there are two
+of_core : (P : ℕ → Type 0) → P 0 → P 1 → (c : ℕ) → c < 2 → P c
+of_core P p q zero low = p
+of_core P p q (suc zero) low = q
+of_core P p q (suc (suc c)) low = absurd (omega (arith, low))
+
+fits_zero : Fits (turns_of logs 0) (entries_at books 0)
+fits_zero = record {
+  places = (refl, (refl, (refl, (refl, (refl, (refl, tt))))));
+  steps = (record { row = record { tick = refl; resource = refl; kind = refl; ahead = tt }; place = refl }, (record { row = record { tick = refl; resource = refl; kind = refl; ahead = tt }; place = refl }, tt));
+}
+
+fits_one : Fits (turns_of logs 1) (entries_at books 1)
+fits_one = record {
+  places = (refl, (refl, (refl, (refl, (refl, (refl, tt))))));
+  steps = (record { row = record { tick = refl; resource = refl; kind = refl; ahead = tt }; place = refl }, (record { row = record { tick = refl; resource = refl; kind = refl; ahead = tt }; place = refl }, (record { row = record { tick = refl; resource = refl; kind = refl; ahead = tt }; place = refl }, (record { row = record { tick = refl; resource = refl; kind = refl; ahead = tt }; place = refl }, (record { row = record { tick = refl; resource = refl; kind = refl; ahead = tt }; place = refl }, tt)))));
+}
+
+pub logs_fit : AreLogs handover.plan logs (entries_at books)
+logs_fit = record {
+  many = refl;
+  core = of_core (λ c. (log_at logs c).core ≡ c) refl refl;
+  runs = of_core (λ c. CoreRun handover.plan c (rows_of (turns_of logs c))) (core_run handover.plan handover.rows 0 start (omega arith)) (core_run handover.plan handover.rows 1 start (omega arith));
+  whole = of_core (λ c. length (turns_of logs c) ≡ 6) refl refl;
+  fits = of_core (λ c. Fits (turns_of logs c) (entries_at books c)) fits_zero fits_one;
+}
+
+-- ---- the history
+no_others : (h : List Event) (c : ℕ) → AllByRecursion (λ s. s.0 < 2) h → 2 ≤ c → by c h ≡ []
+no_others [] c all past = refl
+no_others (s ∷ h) c all past = let low = all.0 in ap (λ k. cond k (s.1 ∷ by c h) (by c h)) (ne_eqb s.0 c (λ e. absurd (omega (arith, e, low, past)))) ∙ no_others h c all.1 past
+
+two_cores : AllByRecursion (λ (s : Event). s.0 < 2) history
+two_cores = (omega arith, (omega arith, (omega arith, (omega arith, (omega arith, (omega arith, (omega arith, tt)))))))
+
+entries_are : (c : ℕ) → by c history ≡ on 0 (entries_at books c)
+entries_are zero = refl
+entries_are (suc zero) = refl
+entries_are (suc (suc c)) = no_others history (suc (suc c)) two_cores (omega arith)
+
+no_poll : {A : Type 0} → false ≡ true → A
+no_poll e = absurd (cc)
+
+polls_stand : IsChain PollsInOrder history
+polls_stand = (λ p q. no_poll p, (λ p q. no_poll p, (λ p q. inl (omega arith), (λ p q. no_poll q, (λ p q. no_poll p, (λ p q. no_poll q, (tt, tt)))))))
+
+apart : ◌≡◌ {A = ℕ} 0 1 → ⊥
+apart e = cc
+
+legal : Legal (calls history)
+legal = ((λ h. h, refl), ((λ h. ⊎_elim apart (λ n. n) h, refl), ((inr (inl refl), apart), ((inr (inl refl), apart), ((refl, refl), ((refl, refl), ((refl, refl), tt)))))))
+
+rises : IsChain IsNotLater history
+rises = (omega arith, (omega arith, (omega arith, (omega arith, (omega arith, (omega arith, (tt, tt)))))))
+
+pub served : IsServed 2 2 0 (entries_at books) history
+served = record {
+  history = record { entries = entries_are; placed = (refl, (refl, (refl, (refl, (refl, (refl, (refl, tt))))))); polls = polls_stand };
+  requests = refl;
+  releases = refl;
+  legal = legal;
+  rising = rises;
+}

@@ -1,0 +1,11 @@
+use Rattle.std.proofs.Common.{refl}
+use Rattle.csv.proofs.OnLiterals.{csv_on_literals}
+use Rattle.csv.specs.Records.{field_at}
+use Rattle.std.specs.Str.{chars, is_utf8}
+use lib.Utf8.{encode}
+use Rattle.msrp_text.specs.Reading.{fault_after, plan_of, plan_told}
+use Rattle.msrp_text.proofs.worked.resources.Goals as goal
+
+pub returns : goal.returns
+unfolding csv_on_literals field_at is_utf8 chars encode fault_after plan_of plan_told
+returns c = record { locked = refl; misnamed = refl; nameless = refl; twice = refl; after_a_task = refl }
