@@ -1,5 +1,5 @@
 pub mod Ports
 pub mod Going
-pub mod Progress
+pub mod CoreJobs
 pub mod Machine
 pub mod MachineView
