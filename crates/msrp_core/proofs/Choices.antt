@@ -93,6 +93,10 @@ done_each plan (x ∷ going) apart = (
       (λ s off is. ap (λ b. cond b x.done (done_in plan going s.job)) (same_sym s.job x.job ∙ off) ∙ is) going (each_fails (λ s. same_job x.job s.job) going apart.0) (done_each plan going apart.1),
 )
 
+-- a global resource that is kept raises the ceiling
+pub kept_raised : (plan : PlanModel) (going : List Going) (g : ℕ) → IsPlan plan → is_global plan g ≡ true → is_kept going g ≡ true → raised_with plan false (is_kept going) ≡ true
+kept_raised plan going g ok glob kept = any_in (λ g. is_global plan g && is_kept going g) (resources plan) g (global_named plan g ok glob) (and_from (is_global plan g) (is_kept going g) glob kept)
+
 -- ---- the rows of a log that leave the jobs so
 abbrev pub AreTold : PlanModel → ℕ → List Row → List JobId → Phase → List Going → Type 0
 AreTold plan c log taken phase going = AllByRecursion (λ j. state_after log j ≡ state_in plan taken phase going j) (jobs_on plan c)
@@ -262,17 +266,13 @@ module _ (plan : PlanModel) (c : ℕ) (log : List Row) (taken : List JobId) (pha
       (all_of (λ g. (is_global plan g && is_held_on plan c log g) ≡ (is_global plan g && is_kept going g))
       (λ g. ap (λ b. is_global plan g && b) (held_by_going g ∙ any_same (holds_by g) (λ s. list_any (nat_eq g) s.held) going (all_weaker IsKeptSo (λ s. holds_by g s ≡ list_any (nat_eq g) s.held) (λ s k. k g) going kept))) (resources plan))
 
-  -- a global resource that is kept raises it
-  pub kept_raises : (g : ℕ) (q : Bool) → is_global plan g ≡ true → is_kept going g ≡ true → raised_with plan q (is_kept going) ≡ true
-  kept_raises g q glob kept = ap (λ b. q || b) (any_in (λ g. is_global plan g && is_kept going g) (resources plan) g (global_named plan g ok glob) (and_from (is_global plan g) (is_kept going g) glob kept)) ∙ or-true q
-
   -- by what the core holds or awaits
   raised_by : (p : Phase) (rest : List Going) → phase ≡ p → going ≡ rest → HoldSo plan p rest → raised_with plan (is_queued_on plan c log) (is_held_on plan c log) ≡ raised_with plan false (is_kept going)
   raised_by Free rest e r h = raised_same (subst (AllByRecursion IsKeptSo) (sym r) (all_weaker (HoldsLocal plan) IsKeptSo local_kept rest h)) (ap is_waiting_phase e)
   raised_by (Queued g) [] e r h = absurd h
   raised_by (Queued g) (s ∷ below) e r h =
       let kept : is_kept going g.0 ≡ true = ap (λ l. is_kept l g.0) r ∙ ap (λ b. b || is_kept below g.0) (ap (list_any (nat_eq g.0)) h.0.held ∙ ap (λ b. b || list_any (nat_eq g.0) h.0.rest) (eq-eqb g.0 g.0 refl)) in
-      ap (λ b. b || list_any (λ g. is_global plan g && is_held_on plan c log g) (resources plan)) (queued_is ∙ ap is_waiting_phase e) ∙ sym (kept_raises g.0 false h.0.global kept)
+      ap (λ b. b || list_any (λ g. is_global plan g && is_held_on plan c log g) (resources plan)) (queued_is ∙ ap is_waiting_phase e) ∙ sym (kept_raised plan going g.0 ok h.0.global kept)
   raised_by (Holding g) [] e r h = absurd h
   raised_by (Holding g) (s ∷ below) e r h =
       raised_same (subst (AllByRecursion IsKeptSo) (sym r) (λ k. held_test k (take s.done (units plan s.job)) s.held h.0.now, all_weaker (HoldsLocal plan) IsKeptSo local_kept below h.1)) (ap is_waiting_phase e)

@@ -1,7 +1,6 @@
-pub mod Scans
-pub mod Choosing
-pub mod Standing
-pub mod Gathering
 pub mod HeldUnits
 pub mod Choices
 pub mod Steps
+pub mod Running
+pub mod Acting
+pub mod Turning

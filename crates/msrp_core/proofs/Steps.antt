@@ -59,7 +59,7 @@ no_lock_of_run : (a : ResId) (o : Option Op) → o ≡ Some (Lock a) → o ≡ S
 no_lock_of_run a o e h = let k : Some (Lock a) ≡ Some Run = sym e ∙ h in cc
 
 -- a resource that is global isn't local
-clash : {P : Type 0} (b : Bool) → b ≡ true → b ≡ false → P
+pub clash : {P : Type 0} (b : Bool) → b ≡ true → b ≡ false → P
 clash b t f = absurd (true≢false (sym t ∙ f))
 
 module _ (plan : PlanModel) (ok : IsPlan plan) (s : Going) (below : List Going) where

@@ -47,6 +47,11 @@ is_waiting_phase Free = false
 is_waiting_phase (Queued g) = true
 is_waiting_phase (Holding g) = false
 
+abbrev pub is_holding_phase : ResId → Phase → Bool
+is_holding_phase g Free = false
+is_holding_phase g (Queued h) = false
+is_holding_phase g (Holding h) = h.0 == g.0
+
 abbrev pub is_newest : List Going → JobId → Bool
 is_newest [] j = false
 is_newest (s ∷ below) j = same_job j s.job

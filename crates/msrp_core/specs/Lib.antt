@@ -1,5 +1,6 @@
 pub mod Ports
 pub mod Going
-pub mod Progress
+pub mod CoreJobs
 pub mod Machine
 pub mod MachineView
+pub mod Deaf

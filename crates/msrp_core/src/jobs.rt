@@ -1,65 +1,167 @@
-//! The jobs of a core, gathered before its first turn.
-ghost use Rattle.std.specs.Prelude.{◌≡◌, ◌<◌, ◌≤◌, ◌+◌, ◌++◌, length, map, IfOk, IsSome, vec_len, vec_capacity};
-ghost use Rattle.msrp_plan.specs.Plan.{release_tick};
-ghost use Rattle.msrp_plan.specs.Jobs.{jobs_of, jobs_on};
-ghost use Rattle.msrp_plan.specs.WellFormed.{IsPlan};
-ghost use Rattle.msrp_core.specs.Progress.{fresh};
+//! The jobs of a core between two of its turns: which are ready, which are started, and how far these are.
+ghost use Rattle.std.specs.Prelude.{◌≡◌, ◌<◌, ◌≤◌, ◌+◌, ◌||◌, [], ◌∷◌, List, Some, None, true, false, length, reverse, IfOk, slice_get, vec_capacity};
+ghost use Rattle.std.specs.Option.{ForSome, IfSome};
+ghost use Rattle.std.specs.List.{Contains};
+ghost use Rattle.msrp_plan.specs.Plan.{units};
+ghost use Rattle.msrp_plan.specs.Jobs.{jobs_on, is_job};
+ghost use Rattle.msrp_plan.specs.Choice.{choice};
+ghost use Rattle.msrp_plan.specs.Levels.{is_global};
+ghost use Rattle.msrp_plan.specs.declared.ids.JobId.{JobId as Job};
+ghost use Rattle.msrp_plan.specs.declared.rows.Row.{Row as TraceRow};
+ghost use Rattle.msrp_ready.specs.Ready.{head, is_among};
+ghost use Rattle.msrp_stack.specs.Stack.{current_ceiling, newest};
+ghost use Rattle.msrp_core.specs.Going.{Going, advanced, state_in};
+ghost use Rattle.msrp_core.specs.CoreJobs.{AreJobs, AreToldBy, CanAct, IsRunning, IsSamePlace, IsSameStack, going_in, is_first, is_preferred, started_with, state_of};
 
-use crate::progress::Progress;
-use msrp_plan::{CoreId, JobId, Memory, Plan, TaskId};
+use msrp_levels::Levels;
+use msrp_plan::limits::MOST_JOBS;
+use msrp_plan::{CoreId, JobId, Memory, Op, Phase, Plan};
+use msrp_ready::Ready;
+use msrp_stack::CeilingStack;
 use std::alloc::Global;
 
-// A job before its first turn.
-fn fresh(plan: &Plan, job: JobId) -> Progress
-    requires task { job.task.0 < length plan.now.tasks }
-    requires released { IsSome (release_tick plan.now job) }
-    ensures { result ≡ fresh plan.now job }
-{
-    Progress {
-        job,
-        key: plan.job_key(job),
-        units: plan.units(job.task),
-        started: false,
-        done: 0,
-    }
+/// The jobs of a core. Progress is kept for started jobs alone, beside the stack of them.
+#[derive(Drop)]
+pub(crate) struct Jobs<'a> {
+    pub(crate) plan: &'a Plan,
+    pub(crate) levels: &'a Levels<'a>,
+    pub(crate) core: CoreId,
+    /// What the core holds or awaits.
+    pub(crate) phase: Phase,
+    pub(crate) ready: Ready<'a>,
+    pub(crate) stack: CeilingStack<'a>,
+    /// How many units each started job has done, the newest last.
+    pub(crate) done: Vec<u32>,
 }
 
-// The number of jobs of a core.
-fn count_jobs(plan: &Plan, core: CoreId) -> usize
-    ensures plan { IsPlan plan.now }
-    ensures count { result ≡ length (jobs_on plan.now core.0) }
-{
-    let mut count = 0;
-    for t in 0..plan.tasks() {
-        if plan.core_of(TaskId(t)) == core {
-            count += plan.jobs(TaskId(t)) as usize;
+impl<'a> Jobs<'a> {
+    /// The jobs of a core before its first turn. All memory that they ever need is taken here.
+    pub(crate) fn with_room(
+        alloc: Global,
+        plan: &'a Plan,
+        levels: &'a Levels<'a>,
+        core: CoreId,
+    ) -> Result<Jobs<'a>, Memory>
+        requires levels { levels.now ≡ plan.now }
+        requires core { core.0 < plan.now.cores }
+        ensures jobs { IfOk result AreJobs }
+        ensures plan { IfOk result (λ jobs. jobs.plan.now ≡ plan.now) }
+        ensures core { IfOk result (λ jobs. jobs.core ≡ core) }
+        ensures phase { IfOk result (λ jobs. jobs.phase ≡ Phase.Free) }
+        ensures ready { IfOk result (λ jobs. jobs.ready ≡ record { plan = plan.now; core = core.0; tick = None; taken = []; compared = 0 }) }
+        ensures stack { IfOk result (λ jobs. jobs.stack.started ≡ []) }
+    {
+        let ready = Ready::with_room(alloc, plan, core)?;
+        let stack = CeilingStack::with_room(alloc, plan, levels, core)?;
+        let done = Vec::with_capacity(alloc, MOST_JOBS as usize).map_err(|_| Memory)?;
+        Ok(Jobs {
+            plan,
+            levels,
+            core,
+            phase: Phase::Free,
+            ready,
+            stack,
+            done,
+        })
+    }
+
+    // Whether a job comes before who runs, if somebody does.
+    fn comes_first(&self, job: JobId, running: Option<JobId>) -> bool
+        requires known { Contains (jobs_on self.now.plan.now self.now.core.0) job }
+        requires running { ForSome running (Contains (jobs_on self.now.plan.now self.now.core.0)) }
+        ensures { result ≡ is_first self.now.plan.now job running }
+    {
+        match running {
+            None => true,
+            Some(other) => self.plan.job_key(job).is_before(&self.plan.job_key(other)),
         }
     }
-    count
-}
 
-// Adds the jobs of a task, for which there is room.
-fn push_jobs(jobs: &mut Vec<Progress>, plan: &Plan, task: TaskId)
-    requires task { task.0 < length plan.now.tasks }
-    requires room { vec_len jobs.old + length (jobs_of plan.now task.0) ≤ vec_capacity jobs.old }
-    ensures items { jobs.new.items ≡ jobs.old.items ++ map (fresh plan.now) (jobs_of plan.now task.0) }
-    ensures room { vec_capacity jobs.new ≡ vec_capacity jobs.old }
-{
-    for k in 0..plan.jobs(task) {
-        jobs.push_reserved(fresh(plan, JobId { task, k }));
+    // Whether the head is preferred to who runs: its level is above the ceiling, and it comes before who runs.
+    fn is_next(&self, job: JobId, running: Option<JobId>) -> bool
+        requires jobs { AreJobs self.now }
+        requires known { Contains (jobs_on self.now.plan.now self.now.core.0) job }
+        requires running { ForSome running (Contains (jobs_on self.now.plan.now self.now.core.0)) }
+        ensures { result ≡ is_preferred self.now.plan.now (current_ceiling self.now.stack) job running }
+    {
+        self.levels.level(job.task) > self.stack.ceiling() && self.comes_first(job, running)
     }
-}
 
-/// The jobs of a core before its first turn, task by task. Memory is taken once, for all of them.
-pub(crate) fn jobs_on(alloc: Global, plan: &Plan, core: CoreId) -> Result<Vec<Progress>, Memory>
-    ensures plan { IsPlan plan.now }
-    ensures jobs { IfOk result (λ jobs. jobs.items ≡ map (fresh plan.now) (jobs_on plan.now core.0)) }
-{
-    let mut jobs = Vec::with_capacity(alloc, count_jobs(plan, core)).map_err(|_| Memory)?;
-    for t in 0..plan.tasks() {
-        if plan.core_of(TaskId(t)) == core {
-            push_jobs(&mut jobs, plan, TaskId(t));
+    // Starts the head.
+    fn start(&mut self, job: JobId)
+        requires jobs { AreJobs self.old }
+        requires head { head self.old.ready ≡ Some job }
+        requires next { is_preferred self.old.plan.now (current_ceiling self.old.stack) job (newest self.old.stack.started) ≡ true }
+        ensures jobs { AreJobs self.new }
+        ensures same { IsSamePlace self.old self.new }
+        ensures tick { self.new.ready.tick ≡ self.old.ready.tick }
+        ensures running { IsRunning self.new job }
+        ensures states { (j : Job) → state_of self.new j ≡ started_with (Some job) (state_of self.old j) }
+    {
+        self.ready.take_head();
+        self.stack.start(job);
+        self.done.push_reserved(0);
+    }
+
+    /// The job that has the turn in this tick, or none: the head where it is preferred, which is then started, or else who runs.
+    pub(crate) fn choose(&mut self, tick: u32) -> Option<JobId>
+        requires jobs { AreJobs self.old }
+        requires tick { ForSome self.old.ready.tick (λ before. before ≤ tick) }
+        ensures jobs { AreJobs self.new }
+        ensures same { IsSamePlace self.old self.new }
+        ensures tick { self.new.ready.tick ≡ Some tick }
+        ensures choice { (log : List TraceRow) → AreToldBy self.old log → result ≡ choice self.old.plan.now self.old.core.0 tick log }
+        ensures running { ForSome result (IsRunning self.new) }
+        ensures states { (j : Job) → state_of self.new j ≡ started_with result (state_of self.old j) }
+    {
+        self.ready.release_to(tick);
+        let running = self.stack.top();
+        match self.ready.head() {
+            Some(job) if self.is_next(job, running) => {
+                self.start(job);
+                Some(job)
+            }
+            _ => running,
         }
     }
-    Ok(jobs)
+
+    // How many units the newest job has done.
+    fn progress(&self) -> u32
+        requires { 0 < length self.now.done.items }
+        ensures { (s : Going) (below : List Going) → going_in self.now ≡ s ∷ below → result ≡ s.done }
+    {
+        self.done[self.done.len() - 1]
+    }
+
+    /// The next unit of the running job.
+    pub(crate) fn unit(&self, job: JobId) -> Op
+        requires jobs { AreJobs self.now }
+        requires running { IsRunning self.now job }
+        ensures { CanAct self.now job result }
+    {
+        self.plan.unit(job.task, self.progress())
+    }
+
+    /// One unit more for the running job, which is finished with its last.
+    pub(crate) fn advance(&mut self, job: JobId)
+        requires running { IsRunning self.old job }
+        requires size { length self.old.stack.started ≡ length self.old.done.items }
+        requires known { job.task.0 < length self.old.plan.now.tasks }
+        requires done { (s : Going) (below : List Going) → going_in self.old ≡ s ∷ below → s.done < length (units self.old.plan.now job) }
+        requires last { (s : Going) (below : List Going) → going_in self.old ≡ s ∷ below → s.done + 1 ≡ length (units self.old.plan.now job) → s.held ≡ [] }
+        ensures going { going_in self.new ≡ advanced self.old.plan.now (going_in self.old) }
+        ensures size { length self.new.stack.started ≡ length self.new.done.items }
+        ensures room { vec_capacity self.new.done ≡ vec_capacity self.old.done }
+        ensures stack { IsSameStack self.old self.new }
+        ensures others { self.new ≡ record self.old { stack = self.new.stack; done = self.new.done } }
+    {
+        let units = self.plan.units(job.task);
+        if let Some(done) = self.done.pop() {
+            if done + 1 == units {
+                self.stack.finish();
+            } else {
+                self.done.push_reserved(done + 1);
+            }
+        }
+    }
 }

@@ -1,14 +1,16 @@
 //! One core of a plan: which job has its turn, and what it does in that tick.
 //!
-//! A [`Machine`] makes the rows of one core, tick by tick: earliest deadline first (Liu and Layland 1973),
-//! on one thread and by a scan of the core's jobs. It knows plans of work alone for now.
+//! A [`Machine`] makes the rows of one core, tick by tick: earliest deadline first under the Stack Resource Policy
+//! (Baker 1991), with global resources under MSRP (Gai, Lipari and Di Natale 2001), which it asks of a [`Port`].
 #![tactic(auto)]
 
+mod actions;
 mod jobs;
-pub mod machines;
+mod machines;
 mod port;
-mod progress;
-mod rows;
 
 pub use machines::Machine;
 pub use port::{Port, PortCall, Reply};
+
+#[cfg(test)]
+mod tests;

@@ -1,29 +1,30 @@
 //! The machine of one core, which makes the rows of its turns.
-ghost use Rattle.std.specs.Prelude.{◌≡◌, ◌<◌, ◌+◌, ◌++◌, ◌∷◌, [], List, None, IfOk};
+ghost use Rattle.std.specs.Prelude.{◌≡◌, ◌<◌, ◌+◌, ◌++◌, ◌∷◌, [], List, Some, None, IfOk, length, true};
+ghost use Rattle.msrp_plan.specs.Levels.{is_global};
 ghost use Rattle.msrp_plan.specs.Runs.{IsCoreTurn};
-ghost use Rattle.msrp_plan.specs.declared.rows.Row.{Row};
+ghost use Rattle.msrp_plan.specs.declared.ids.ResId.{ResId as Resource};
+ghost use Rattle.msrp_plan.specs.declared.rows.Row.{Row as TraceRow};
+ghost use Rattle.msrp_core.specs.Ports.{claim_in};
+ghost use Rattle.msrp_core.specs.CoreJobs.{IsQuiet, MakesCall};
 ghost use Rattle.msrp_core.specs.Machine.{StandsAfter};
 
-use crate::jobs::jobs_on;
-use crate::progress::{Progress, advance_chosen, head, preferred, running};
-use crate::rows::row_of;
+use crate::jobs::Jobs;
+use crate::port::Port;
+use msrp_levels::Levels;
 use msrp_plan::{CoreId, Memory, Phase, Plan, Row};
 use std::alloc::Global;
 use std::marker::Model;
 
-/// One core of a plan between two of its turns: the tick of the next turn, and how far each of the core's
-/// jobs is.
+/// One core of a plan between two of its turns: the tick of the next turn, what the core holds or awaits, and how far
+/// each of its jobs is.
 ///
 /// A machine keeps no log. It *stands after* a log where the log's rows leave the core as the machine is:
 /// what a turn promises, it promises for every log that the machine stands after. So the rows of a machine
-/// from its first turn on are the run of its core.
+/// from its first turn on are the run of its core, whatever its port answers.
 #[derive(Drop)]
 pub struct Machine<'a> {
-    plan: &'a Plan,
-    core: CoreId,
     tick: u32,
-    phase: Phase,
-    jobs: Vec<Progress>,
+    jobs: Jobs<'a>,
 }
 
 impl<'a> Model for Machine<'a> {
@@ -40,22 +41,22 @@ impl<'a> Model for Machine<'a> {
 
 impl<'a> Machine<'a> {
     /// A machine before its first turn. All memory that it ever needs is taken here: it is [`Memory`] only
-    /// where that was refused. The plan has to be one of work alone.
-    pub fn with_room(alloc: Global, plan: &'a Plan, core: CoreId) -> Result<Machine<'a>, Memory>
+    /// where that was refused. The levels are those of the plan.
+    pub fn with_room(
+        alloc: Global,
+        plan: &'a Plan,
+        levels: &'a Levels<'a>,
+        core: CoreId,
+    ) -> Result<Machine<'a>, Memory>
+        requires levels { levels.now ≡ plan.now }
         requires core { core.0 < plan.now.cores }
-        requires work { plan.now.resources ≡ [] }
         ensures plan { IfOk result (λ machine. machine.plan ≡ plan.now) }
         ensures core { IfOk result (λ machine. machine.core ≡ core.0) }
+        ensures phase { IfOk result (λ machine. machine.phase ≡ Phase.Free) }
         ensures stands { IfOk result (λ machine. StandsAfter machine []) }
     {
-        let jobs = jobs_on(alloc, plan, core)?;
-        Ok(Machine {
-            plan,
-            core,
-            tick: 0,
-            phase: Phase::Free,
-            jobs,
-        })
+        let jobs = Jobs::with_room(alloc, plan, levels, core)?;
+        Ok(Machine { tick: 0, jobs })
     }
 
     /// The tick of the next turn, which is how many turns the core has had.
@@ -69,32 +70,37 @@ impl<'a> Machine<'a> {
     pub fn core(&self) -> CoreId
         ensures { result.0 ≡ self.now.core }
     {
-        self.core
+        self.jobs.core
     }
 
-    /// What the core has to do with the global resources between two turns.
+    /// What the core holds or awaits between two turns.
     pub fn phase(&self) -> Phase
         ensures { result ≡ self.now.phase }
     {
-        self.phase
+        self.jobs.phase
     }
 
-    /// The core's next turn: one unit of work of the job with the earliest deadline, or nothing. It takes no
-    /// memory. Whatever log the machine stands after, the row is the next one of that log.
-    pub fn turn(&mut self) -> Row
-        requires { self.old.tick < self.old.plan.ticks }
+    /// The core's next turn: the job that has it does its next action, or the core idles. A turn on a global resource
+    /// makes one call of the port, and any other makes none. It never fails, and takes no memory. Whatever log the
+    /// machine stands after, the row is the next one of that log.
+    pub fn turn<P: Port>(&mut self, port: &mut P) -> Row
+        requires tick { self.old.tick < self.old.plan.ticks }
+        requires claim { claim_in self.old.core (P.port port.old).calls ≡ self.old.phase }
+        requires room { 0 < (P.port port.old).rooms self.old.core }
+        requires resources { (P.port port.old).resources ≡ length self.old.plan.resources }
         ensures plan { self.new.plan ≡ self.old.plan }
         ensures core { self.new.core ≡ self.old.core }
         ensures tick { self.new.tick ≡ self.old.tick + 1 }
-        ensures row { (log : List Row) → StandsAfter self.old log → IsCoreTurn self.old.plan self.old.core log result }
-        ensures stands { (log : List Row) → StandsAfter self.old log → StandsAfter self.new (log ++ result ∷ []) }
+        ensures row { (log : List TraceRow) → StandsAfter self.old log → IsCoreTurn self.old.plan self.old.core log result }
+        ensures stands { (log : List TraceRow) → StandsAfter self.old log → StandsAfter self.new (log ++ result ∷ []) }
 
-        // Work is on no resource.
-        ensures work { result.res ≡ None }
+        // What is asked of the port is the row's own call, and the row has the port's answer.
+        ensures call { (res : Resource) → result.res ≡ Some res → is_global self.old.plan res.0 ≡ true → MakesCall self.old.plan result (P.port port.old) (P.port port.new) }
+        ensures quiet { IsQuiet self.old.plan result → port.new ≡ port.old }
+        ensures claim { claim_in self.new.core (P.port port.new).calls ≡ self.new.phase }
     {
-        let chosen = preferred(head(&self.jobs, self.tick), running(&self.jobs));
-        advance_chosen(&mut self.jobs, chosen);
-        let row = row_of(self.core, self.tick, chosen);
+        let chosen = self.jobs.choose(self.tick);
+        let row = self.jobs.act_chosen(port, self.tick, chosen);
         self.tick += 1;
         row
     }

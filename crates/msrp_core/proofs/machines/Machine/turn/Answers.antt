@@ -1,37 +1,38 @@
-use Rattle.std.proofs.Common.{◌≡◌, ◌+◌, ◌∙◌, ◌++◌, ◌∷◌, [], sym, ap, subst, arith, map, length-append}
+use Rattle.std.proofs.Common.{◌≡◌, ℕ, ◌+◌, ◌≤◌, ◌∙◌, ◌++◌, ◌∷◌, [], sym, ap, subst, arith, map, length-append, Some}
+use Rattle.std.proofs.lemmas.Option.{same_Some}
+use Rattle.msrp_plan.specs.Jobs.{jobs_on}
 use Rattle.msrp_plan.specs.Runs.{IsCoreTurn}
+use Rattle.msrp_plan.specs.States.{state_after}
+use Rattle.msrp_ready.specs.Ready.{ReadyModel}
 use Rattle.msrp_core.specs.Machine.{StandsAfter, MachineModel}
-use Rattle.msrp_core.specs.MachineView.{AreProgress}
-use Rattle.msrp_core.specs.Progress.{turn_of, job_of, kind_of, state_of}
-use Rattle.msrp_core.proofs.Choosing.{turn_is}
-use Rattle.msrp_core.proofs.Standing.{states_stand, phase_stands, chosen_has_work, progress_later}
+use Rattle.msrp_core.specs.MachineView.{machine_view}
+use Rattle.msrp_core.specs.CoreJobs.{state_of}
+use Rattle.msrp_core.proofs.Turning.{fits_after, ready_after, told_from, turn_row, turn_told, turn_phase}
 use Rattle.msrp_core.proofs.machines.Machine.turn.Goals as goal
 
-pub advance_chosen-requires : goal.advance_chosen-requires
-advance_chosen-requires c =
-    let e : c.preferred-chosen.result ≡ turn_of c.self.inside.tick c.self.inside.jobs.items = cc (c.deref.ensures.value, c.deref-2.ensures.value) in
-    chosen_has_work c.self.inside.plan.now c.self.inside.tick c.self.inside.jobs.items c.preferred-chosen.result c.self.invariant e
-
 pub invariant_of-self : goal.invariant_of-self
-invariant_of-self c =
-    let e : c.preferred-chosen.result ≡ turn_of c.self.inside.tick c.self.inside.jobs.items = cc (c.deref.ensures.value, c.deref-2.ensures.value) in
-    subst (AreProgress c.self.inside.plan.now) (sym c.advance_chosen.ensures)
-    (progress_later c.self.inside.plan.now c.preferred-chosen.result c.self.inside.jobs.items c.self.invariant
-    (chosen_has_work c.self.inside.plan.now c.self.inside.tick c.self.inside.jobs.items c.preferred-chosen.result c.self.invariant e))
+invariant_of-self g c = record {
+  jobs_fit = fits_after c.choose-chosen.new.self c.act_chosen-row.new.self c.choose-chosen.result c.self.inside.tick c.act_chosen-row.result c.choose-chosen.ensures.jobs c.act_chosen-row.ensures.acts;
+  released = λ x e.
+      let r = ready_after c.choose-chosen.new.self c.act_chosen-row.new.self c.choose-chosen.result c.self.inside.tick c.act_chosen-row.result c.act_chosen-row.ensures.acts in
+      let t : c.self.inside.tick ≡ x = same_Some c.self.inside.tick x (sym (ap (λ (m : ReadyModel). m.tick) r ∙ c.choose-chosen.ensures.tick) ∙ e) in
+      omega (arith, t);
+}
 
 pub returns-clause-row : goal.returns-clause-row
-returns-clause-row c = λ log.
-    let e : c.preferred-chosen.result ≡ turn_of c.self.inside.tick c.self.inside.jobs.items = cc (c.deref.ensures.value, c.deref-2.ensures.value) in
-    subst (λ (m : MachineModel). StandsAfter m log → IsCoreTurn m.plan m.core log c.row_of-row.result) c.self.view_is (λ stands.
-    turn_is c.self.inside.plan.now c.self.inside.core.0 c.self.inside.tick log c.self.inside.jobs.items c.row_of-row.result c.self.invariant stands.states stands.tick
-    c.row_of-row.ensures.tick (ap (λ k. k.0) c.row_of-row.ensures.core) (c.row_of-row.ensures.job ∙ ap job_of e) (c.row_of-row.ensures.kind ∙ ap kind_of e) c.row_of-row.ensures.res)
+returns-clause-row g c = λ log.
+    subst (λ (m : MachineModel). StandsAfter m log → IsCoreTurn m.plan m.core log c.act_chosen-row.result) c.self.view_is (λ stands.
+    let told = told_from (state_of c.self.inside.jobs) (state_after log) (jobs_on c.self.inside.jobs.plan.now c.self.inside.jobs.core.0) stands.states in
+    turn_row c.self.inside.jobs c.choose-chosen.new.self c.act_chosen-row.new.self c.choose-chosen.result c.self.inside.tick c.act_chosen-row.result log c.choose-chosen.ensures.jobs c.choose-chosen.ensures.same c.choose-chosen.ensures.states c.choose-chosen.ensures.running c.act_chosen-row.ensures.acts told stands.tick
+    (c.choose-chosen.ensures.choice log told))
 
 pub returns-clause-stands : goal.returns-clause-stands
-returns-clause-stands c = λ log.
-    let P : MachineModel → Type 0 = λ m. StandsAfter m log → StandsAfter (record { plan = c.self.inside.plan.now; core = c.self.inside.core.0; tick = c.self.inside.tick + 1; phase = c.self.inside.phase; states = map state_of c.advance_chosen.new.jobs.items }) (log ++ c.row_of-row.result ∷ []) in
-    subst P c.self.view_is (λ stands. record {
-      tick = let n = stands.tick in omega (arith, length-append log (c.row_of-row.result ∷ []));
-      phase = phase_stands c.self.inside.phase log c.preferred-chosen.result c.row_of-row.result stands.phase c.row_of-row.ensures.kind c.row_of-row.ensures.res;
-      states = ap (map state_of) c.advance_chosen.ensures
-          ∙ states_stand c.self.inside.plan.now c.self.inside.core.0 log c.self.inside.jobs.items c.preferred-chosen.result c.row_of-row.result stands.states c.row_of-row.ensures.job c.row_of-row.ensures.kind;
+returns-clause-stands g c = λ log.
+    let P : MachineModel → Type 0 = λ m. StandsAfter m log → StandsAfter (machine_view (record { tick = c.self.inside.tick + 1; jobs = c.act_chosen-row.new.self })) (log ++ c.act_chosen-row.result ∷ []) in
+    subst P c.self.view_is (λ stands.
+    let told = told_from (state_of c.self.inside.jobs) (state_after log) (jobs_on c.self.inside.jobs.plan.now c.self.inside.jobs.core.0) stands.states in
+    record {
+      tick = let n = stands.tick in omega (arith, n, length-append log (c.act_chosen-row.result ∷ []));
+      phase = turn_phase c.self.inside.jobs c.choose-chosen.new.self c.act_chosen-row.new.self c.choose-chosen.result c.self.inside.tick c.act_chosen-row.result log c.choose-chosen.ensures.jobs c.choose-chosen.ensures.same c.choose-chosen.ensures.states c.act_chosen-row.ensures.acts told stands.tick stands.phase;
+      states = turn_told c.self.inside.jobs c.choose-chosen.new.self c.act_chosen-row.new.self c.choose-chosen.result c.self.inside.tick c.act_chosen-row.result log c.choose-chosen.ensures.jobs c.choose-chosen.ensures.same c.choose-chosen.ensures.states c.act_chosen-row.ensures.acts told stands.tick;
     })

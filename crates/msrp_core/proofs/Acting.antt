@@ -1,0 +1,213 @@
+-- An action of the running job, over what is stored of the jobs of a core.
+use Rattle.std.proofs.Common.{◌≡◌, ◌≢◌, ℕ, ◌+◌, ◌<◌, ◌≤◌, ◌==◌, Bool, true, false, cond, not, nat_eq, ◌&&◌, ◌||◌, List, [], ◌∷◌, ◌++◌, Option, Some, None, refl, ap, sym, ◌∙◌, subst, arith, length, map, reverse, slice_get, vec_capacity, inl, inr}
+use Rattle.std.specs.List.{list_any, AllByRecursion, Contains}
+use Rattle.std.proofs.Math.Bool.{true≢false}
+use Rattle.std.proofs.lemmas.Bool.{eqb-true, eq-eqb, and_from}
+use Rattle.msrp_plan.specs.Plan.{PlanModel, units}
+use Rattle.msrp_plan.specs.Jobs.{jobs_on, is_waiting}
+use Rattle.msrp_plan.specs.WellFormed.{IsPlan}
+use Rattle.msrp_plan.specs.declared.ids.CoreId.{CoreId}
+use Rattle.msrp_ready.specs.Ready.{ReadyModel}
+use Rattle.msrp_plan.specs.Levels.{is_global}
+use Rattle.msrp_plan.specs.Actions.{same_res, res_of_unit, is_global_unit, allows, does_unit, does_unit_after}
+use Rattle.msrp_plan.specs.Phases.{phase_with}
+use Rattle.msrp_plan.specs.States.{state_with}
+use Rattle.msrp_plan.specs.declared.ids.JobId.{JobId}
+use Rattle.msrp_plan.specs.declared.ids.ResId.{ResId}
+use Rattle.msrp_plan.specs.declared.rows.Kind.{Kind}
+use Rattle.msrp_plan.specs.declared.rows.Row.{Row}
+use Rattle.msrp_plan.specs.declared.units.Op.{Op}
+use Rattle.msrp_plan.specs.declared.units.Op.TheVariants.{Run as RunUnit, Lock as LockUnit, Unlock as UnlockUnit}
+use Rattle.msrp_plan.specs.declared.units.Phase.{Phase}
+use Rattle.msrp_plan.specs.declared.units.Phase.TheVariants.{Free, Queued, Holding}
+use Rattle.msrp_stack.specs.Stack.{StackModel, StartedJob, HasRoom, IsInnermost, with_held, without_held, without_first}
+use Rattle.msrp_core.specs.Going.{Going, going_of, advanced, is_waiting_phase, is_holding_phase, state_in, HoldSo, AreGoing}
+use Rattle.msrp_core.specs.CoreJobs.{going_in, state_of, AreJobs, IsRunning, IsSameStack, CanAct, Acts}
+use Rattle.msrp_core.specs.declared.jobs.Jobs.{Jobs}
+use Rattle.msrp_core.proofs.Steps.{IsStep, release_phase, advance_going, advance_states, last_free, wait_going, wait_states}
+
+-- ---- the newest with one resource more, and without the innermost
+abbrev pub kept_with : ℕ → List Going → List Going
+kept_with g [] = []
+kept_with g (s ∷ below) = record s { held = g ∷ s.held } ∷ below
+
+abbrev pub kept_less : List Going → List Going
+kept_less [] = []
+kept_less (s ∷ below) = record s { held = without_first s.held } ∷ below
+
+pub going_with : (started : List StartedJob) (done : List ℕ) (g : ℕ) → going_of (with_held started g) done ≡ kept_with g (going_of started done)
+going_with [] done g = refl
+going_with (s ∷ started) [] g = refl
+going_with (s ∷ started) (n ∷ done) g = refl
+
+pub going_less : (started : List StartedJob) (done : List ℕ) → going_of (without_held started) done ≡ kept_less (going_of started done)
+going_less [] done = refl
+going_less (s ∷ started) [] = refl
+going_less (s ∷ started) (n ∷ done) = refl
+
+-- what the stack wants of its top
+pub room_of : (started : List StartedJob) (done : List ℕ) (s : Going) (below : List Going) (g : ℕ) → going_of started done ≡ s ∷ below → length s.held < 8 → list_any (nat_eq g) s.held ≡ false → HasRoom started 8 g
+room_of [] done s below g e few fresh = absurd (cc)
+room_of (x ∷ started) [] s below g e few fresh = absurd (cc)
+room_of (x ∷ started) (n ∷ done) s below g e few fresh = let h : x.held ≡ s.held = cc in (let l = ap length h in omega (arith, l, few), ap (list_any (nat_eq g)) h ∙ fresh)
+
+pub innermost_of : (started : List StartedJob) (done : List ℕ) (s : Going) (below : List Going) (g : ℕ) (rest : List ℕ) → going_of started done ≡ s ∷ below → s.held ≡ g ∷ rest → IsInnermost started g
+innermost_of [] done s below g rest e held = absurd (cc)
+innermost_of (x ∷ started) [] s below g rest e held = absurd (cc)
+innermost_of (x ∷ started) (n ∷ done) s below g rest e held = let h : x.held ≡ s.held = cc in (rest, h ∙ held)
+
+-- ---- the running job before its action
+module _ (jobs : Jobs) (job : JobId) (op : Op) (can : CanAct jobs job op) where
+  pub unit_at : slice_get (units jobs.plan.now can.newest.job) can.newest.done ≡ Some op
+  unit_at = ap (λ j. slice_get (units jobs.plan.now j) can.newest.done) can.same ∙ can.unit
+
+  pub holds_at : HoldSo jobs.plan.now jobs.phase (can.newest ∷ can.below)
+  holds_at = subst (HoldSo jobs.plan.now jobs.phase) can.going can.jobs_fit.are.holds
+
+  pub going_at : AreGoing jobs.plan.now jobs.core.0 jobs.ready.taken jobs.phase (can.newest ∷ can.below)
+  going_at = subst (AreGoing jobs.plan.now jobs.core.0 jobs.ready.taken jobs.phase) can.going can.jobs_fit.are
+
+  -- the newest, with what it holds now, is still the running job
+  pub still_running : (mid : Jobs) (held : List ℕ) → going_in mid ≡ record can.newest { held = held } ∷ can.below → IsRunning mid job
+  still_running mid held e = record { newest = record can.newest { held = held }; below = can.below; going = e; same = can.same }
+
+  -- its last unit leaves it with nothing
+  pub last_by : (l : List Going) (q : Phase) (held : List ℕ) → IsStep jobs.plan.now can.newest can.below q held → l ≡ record can.newest { held = held } ∷ can.below
+      → (s : Going) (below : List Going) → l ≡ s ∷ below → s.done + 1 ≡ length (units jobs.plan.now job) → s.held ≡ []
+  last_by l q held step e s below k last =
+      let both : record can.newest { held = held } ∷ can.below ≡ s ∷ below = sym e ∙ k in
+      let h : s.held ≡ held = cc in
+      let d : can.newest.done ≡ s.done = cc in
+      h ∙ last_free jobs.plan.now can.jobs_fit.accepted jobs.core.0 jobs.ready.taken can.newest can.below jobs.phase going_at q held step (ap (λ n. n + 1) d ∙ (last ∙ sym (ap (λ j. length (units jobs.plan.now j)) can.same)))
+
+-- the row does the unit
+pub does_by : (plan : PlanModel) (queued : Bool) (r : Row) (op : Op) (k : Kind) (res : Option ResId) → r.res ≡ res → r.kind ≡ k → same_res res (res_of_unit op) ≡ true → allows (is_global_unit plan op) queued op k ≡ true → does_unit plan queued r (Some op) ≡ true
+does_by plan queued r op k res er ek same may =
+    and_from (same_res r.res (res_of_unit op)) (allows (is_global_unit plan op) queued op r.kind) (ap (λ o. same_res o (res_of_unit op)) er ∙ same) (ap (allows (is_global_unit plan op) queued op) ek ∙ may)
+
+pub same_here : (g : ResId) → same_res (Some g) (Some g) ≡ true
+same_here g = eq-eqb g.0 g.0 refl
+
+-- ---- what the action leaves
+-- the row of the action
+pub record IsRow (r : Row) (tick : ℕ) (jobs : Jobs) (job : JobId) (k : Kind) (res : Option ResId) : Type 0 where
+  pub tick_is : r.tick ≡ tick
+  pub core_is : r.core ≡ jobs.core
+  pub job_is : r.job ≡ Some job
+  pub kind_is : r.kind ≡ k
+  pub res_is : r.res ≡ res
+
+-- the jobs after the action, with these going
+pub record IsLeft (old new : Jobs) (q : Phase) (going : List Going) : Type 0 where
+  pub plan_is : new.plan ≡ old.plan
+  pub levels_is : new.levels ≡ old.levels
+  pub core_is : new.core ≡ old.core
+  pub phase_is : new.phase ≡ q
+  pub ready_is : new.ready ≡ old.ready
+  pub stack_plan : new.stack.plan ≡ old.stack.plan
+  pub stack_core : new.stack.core ≡ old.stack.core
+  pub size : length new.stack.started ≡ length new.done.items
+  pub room : vec_capacity new.done ≡ vec_capacity old.done
+  pub going_is : going_in new ≡ going
+
+-- as `advance` leaves them
+pub left_by : (old new : Jobs) (q : Phase) (m : StackModel) (going : List Going) → m.plan ≡ old.stack.plan → m.core ≡ old.stack.core → new ≡ record old { phase = q; stack = new.stack; done = new.done }
+    → new.stack.plan ≡ m.plan → new.stack.core ≡ m.core → length new.stack.started ≡ length new.done.items → vec_capacity new.done ≡ vec_capacity old.done → going_in new ≡ going → IsLeft old new q going
+left_by old new q m going mp mc others np nc size room e = record {
+  plan_is = ap (λ (j : Jobs). j.plan) others;
+  levels_is = ap (λ (j : Jobs). j.levels) others;
+  core_is = ap (λ (j : Jobs). j.core) others;
+  phase_is = ap (λ (j : Jobs). j.phase) others;
+  ready_is = ap (λ (j : Jobs). j.ready) others;
+  stack_plan = np ∙ mp;
+  stack_core = nc ∙ mc;
+  size = size;
+  room = room;
+  going_is = e;
+}
+
+-- such jobs fit together
+left_fits : (old new : Jobs) (q : Phase) (going : List Going) → AreJobs old → AreGoing old.plan.now old.core.0 old.ready.taken q going → IsLeft old new q going → AreJobs new
+left_fits old new q going fit are l =
+    let plan = ap (λ p. p.now) l.plan_is in
+    record {
+      accepted = subst IsPlan (sym plan) fit.accepted;
+      levels = ap (λ p. p.now) l.levels_is ∙ (fit.levels ∙ sym plan);
+      ready_plan = ap (λ m. m.plan) l.ready_is ∙ (fit.ready_plan ∙ sym plan);
+      ready_core = ap (λ m. m.core) l.ready_is ∙ (fit.ready_core ∙ sym (ap (λ c. c.0) l.core_is));
+      stack_plan = l.stack_plan ∙ (fit.stack_plan ∙ sym plan);
+      stack_core = l.stack_core ∙ (fit.stack_core ∙ sym (ap (λ c. c.0) l.core_is));
+      size = l.size;
+      room = subst (λ p. length (jobs_on p new.core.0) ≤ vec_capacity new.done) (sym plan) (subst (λ (c : CoreId). length (jobs_on old.plan.now c.0) ≤ vec_capacity new.done) (sym l.core_is) (let r = fit.room in let e = l.room in omega (arith, r, e)));
+      are =
+          subst (λ p. AreGoing p new.core.0 new.ready.taken new.phase (going_in new)) (sym plan)
+          (subst (λ (c : CoreId). AreGoing old.plan.now c.0 new.ready.taken new.phase (going_in new)) (sym l.core_is)
+          (subst (λ (m : ReadyModel). AreGoing old.plan.now old.core.0 m.taken new.phase (going_in new)) (sym l.ready_is)
+          (subst (λ p. AreGoing old.plan.now old.core.0 old.ready.taken p (going_in new)) (sym l.phase_is) (subst (AreGoing old.plan.now old.core.0 old.ready.taken q) (sym l.going_is) are))));
+    }
+
+-- and their states are told by what is left
+left_states : (old new : Jobs) (q : Phase) (going : List Going) (j : JobId) → IsLeft old new q going → state_of new j ≡ state_in old.plan.now old.ready.taken q going j
+left_states old new q going j l =
+    ap (λ p. state_in p new.ready.taken new.phase (going_in new) j) (ap (λ p. p.now) l.plan_is)
+    ∙ (ap (λ (m : ReadyModel). state_in old.plan.now m.taken new.phase (going_in new) j) l.ready_is
+    ∙ (ap (λ p. state_in old.plan.now old.ready.taken p (going_in new) j) l.phase_is
+    ∙ ap (λ g. state_in old.plan.now old.ready.taken q g j) l.going_is))
+
+-- what a unit or a wait needs to be an action
+module _ (old new : Jobs) (job : JobId) (op : Op) (tick : ℕ) (r : Row) (q : Phase) (k : Kind) (res : Option ResId) (can : CanAct old job op) (row : IsRow r tick old job k res)
+    (does : does_unit old.plan.now (is_waiting_phase old.phase) r (Some op) ≡ true) (phase : q ≡ phase_with old.phase k res) where
+  row_job_is : r.job ≡ Some can.newest.job
+  row_job_is = row.job_is ∙ ap (λ j. Some j) (sym can.same)
+
+  action_at : (s : Going) (below : List Going) → going_in old ≡ s ∷ below → does_unit_after old.plan.now job (is_waiting_phase old.phase) s.done r ≡ true
+  action_at s below e =
+      let both : can.newest ∷ can.below ≡ s ∷ below = sym can.going ∙ e in
+      let d : s.done ≡ can.newest.done = cc in
+      ap (λ n. does_unit old.plan.now (is_waiting_phase old.phase) r (slice_get (units old.plan.now job) n)) d ∙ (ap (does_unit old.plan.now (is_waiting_phase old.phase) r) can.unit ∙ does)
+
+  phase_at : new.phase ≡ q → new.phase ≡ phase_with old.phase r.kind r.res
+  phase_at e = e ∙ (phase ∙ (ap (λ x. phase_with old.phase x res) (sym row.kind_is) ∙ ap (phase_with old.phase r.kind) (sym row.res_is)))
+
+  acts_by : (going : List Going) → AreGoing old.plan.now old.core.0 old.ready.taken q going → IsLeft old new q going → ((j : JobId) → state_in old.plan.now old.ready.taken q going j ≡ state_with r (state_in old.plan.now old.ready.taken old.phase (can.newest ∷ can.below) j)) → Acts old new job tick r
+  acts_by going are left states = record {
+    jobs_fit = left_fits old new q going can.jobs_fit are left;
+    plan = ap (λ p. p.now) left.plan_is;
+    core = left.core_is;
+    ready = left.ready_is;
+    row_tick = row.tick_is;
+    row_core = row.core_is;
+    row_job = row.job_is;
+    action = action_at;
+    states = λ j. left_states old new q going j left ∙ (states j ∙ ap (λ g. state_with r (state_in old.plan.now old.ready.taken old.phase g j)) (sym can.going));
+    phase = phase_at left.phase_is;
+  }
+
+  -- a unit
+  pub acts_unit : (held : List ℕ) → IsStep old.plan.now can.newest can.below q held → is_waiting k ≡ false → IsLeft old new q (advanced old.plan.now (record can.newest { held = held } ∷ can.below)) → Acts old new job tick r
+  acts_unit held step acts left =
+      acts_by (advanced old.plan.now (record can.newest { held = held } ∷ can.below))
+      (advance_going old.plan.now can.jobs_fit.accepted old.core.0 old.ready.taken can.newest can.below old.phase (going_at old job op can) q held step) left
+      (advance_states old.plan.now can.jobs_fit.accepted old.core.0 old.ready.taken can.newest can.below old.phase (going_at old job op can) q held r row_job_is (ap is_waiting row.kind_is ∙ acts) step.calm)
+
+  -- a wait
+  pub acts_wait : (g : ResId) (held : List ℕ) → q ≡ Queued g → HoldSo old.plan.now (Queued g) (record can.newest { held = held } ∷ can.below) → is_waiting k ≡ true → IsLeft old new q (record can.newest { held = held } ∷ can.below) → Acts old new job tick r
+  acts_wait g held is holds waits left =
+      acts_by (record can.newest { held = held } ∷ can.below)
+      (subst (λ p. AreGoing old.plan.now old.core.0 old.ready.taken p (record can.newest { held = held } ∷ can.below)) (sym is) (wait_going old.plan.now can.jobs_fit.accepted old.core.0 old.ready.taken can.newest can.below old.phase (going_at old job op can) g held holds)) left
+      (λ j. ap (λ p. state_in old.plan.now old.ready.taken p (record can.newest { held = held } ∷ can.below) j) is ∙ wait_states old.plan.now can.jobs_fit.accepted old.core.0 old.ready.taken can.newest can.below old.phase (going_at old job op can) g held r row_job_is (ap is_waiting row.kind_is ∙ waits) j)
+
+-- what the core holds is a global resource, and no other unlock is of one
+pub holding_is : (r : ResId) (p : Phase) → is_holding_phase r p ≡ true → p ≡ Holding r
+holding_is r Free e = absurd (true≢false (sym e))
+holding_is r (Queued g) e = absurd (true≢false (sym e))
+holding_is r (Holding g) e = let mk : ℕ → ResId = λ n. record { 0 = n } in ap (λ n. Holding (mk n)) (eqb-true g.0 r.0 e)
+
+pub holding_self : (r : ResId) → is_holding_phase r (Holding r) ≡ true
+holding_self r = eq-eqb r.0 r.0 refl
+
+pub holding_global : (plan : PlanModel) (p : Phase) (s : Going) (below : List Going) (r : ResId) → p ≡ Holding r → HoldSo plan p (s ∷ below) → is_global plan r.0 ≡ true
+holding_global plan p s below r e h = (subst (λ p. HoldSo plan p (s ∷ below)) e h).0.global
+
+pub waiting_global : (plan : PlanModel) (p : Phase) (s : Going) (below : List Going) (r : ResId) → p ≡ Queued r → HoldSo plan p (s ∷ below) → is_global plan r.0 ≡ true
+waiting_global plan p s below r e h = (subst (λ p. HoldSo plan p (s ∷ below)) e h).0.global

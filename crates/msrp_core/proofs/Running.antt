@@ -1,0 +1,408 @@
+-- What is stored of the jobs of a core: who runs, who is chosen, and a job that starts.
+use Rattle.std.proofs.Common.{◌≡◌, ◌≢◌, ℕ, zero, suc, ◌+◌, ◌<◌, ◌≤◌, ◌==◌, Bool, true, false, cond, not, nat_eq, nat_lt, max, ◌⊎◌, ◌&&◌, ◌||◌, List, [], ◌∷◌, ◌++◌, Option, Some, None, refl, ap, sym, ◌∙◌, subst, arith, length, length-append, map, reverse, take, slice_get, inl, inr, get_or, ◌-◌, Vec, Global, vec_capacity, IsSome, unwrap_or}
+use Rattle.std.specs.List.{list_any, filter, flat_map, AllByRecursion, Contains, IsDistinct, range_with_len}
+use Rattle.std.specs.Cmp.{IsEquivalence}
+use Rattle.std.proofs.Math.Bool.{true≢false, or-true, or-false}
+use Rattle.std.proofs.Math.Seq.{get_or-append_seam}
+use Rattle.std.proofs.lemmas.Bool.{cases_Bool, eqb-true, ltb-true, and_parts, false_from_ne_true, not-true, or_parts, eq-eqb}
+use Rattle.std.proofs.lemmas.Map.Made.{length-le_from_is_member}
+use Rattle.std.proofs.lemmas.List.{reverse-append, length-reverse, length-map}
+use Rattle.std.proofs.lemmas.List.Elements.{filter_passes, recursion_from_All, Contains-get_or}
+use Rattle.std.proofs.lemmas.Option.{none-some, same_Some}
+use Rattle.msrp_plan.specs.Plan.{PlanModel, units, release, release_tick, no_task, task_of, core_of}
+use Rattle.msrp_plan.specs.Jobs.{jobs as jobs_all, jobs_of, jobs_on, job_at, same_job, is_job, is_released}
+use Rattle.msrp_plan.specs.Levels.{level, is_global, local_ceiling, greatest}
+use Rattle.msrp_plan.specs.Levels as levels
+use Rattle.msrp_plan.specs.Ceiling.{resources, raised_with, ceiling_with}
+use Rattle.msrp_plan.specs.Choice.{is_before, least, first_ready, first_unfinished, chosen, choice}
+use Rattle.msrp_plan.specs.States.{JobState}
+use Rattle.msrp_plan.specs.WellFormed.{IsPlan}
+use Rattle.msrp_plan.specs.declared.ids.JobId.{JobId}
+use Rattle.msrp_plan.specs.declared.ids.ResId.{ResId}
+use Rattle.msrp_plan.specs.declared.rows.Row.{Row}
+use Rattle.msrp_plan.specs.declared.units.Phase.{Phase}
+use Rattle.msrp_plan.specs.declared.units.Phase.TheVariants.{Free, Queued, Holding}
+use Rattle.msrp_plan.proofs.Lists.{all_weaker, any_in}
+use Rattle.msrp_plan.proofs.Least.{all_filtered}
+use Rattle.msrp_plan.proofs.LeastKept.{least_in, least_passes}
+use Rattle.msrp_plan.proofs.JobTests.{same_is, same_self}
+use Rattle.msrp_plan.proofs.JobLists.{core_jobs_below}
+use Rattle.msrp_plan.proofs.CoreJobs.{on_its_core}
+use Rattle.msrp_plan.proofs.PlanUnits.{task_in}
+use Rattle.msrp_plan.proofs.Ceilings.{top_above}
+use Rattle.msrp_ready.specs.Ready.{ReadyModel, is_among}
+use Rattle.msrp_ready.specs.Ready as ready
+use Rattle.msrp_stack.specs.Stack.{StackModel, StartedJob, CanStart, ComesFirst, newest, current_ceiling}
+use Rattle.msrp_stack.specs.Stack as stack
+use Rattle.msrp_core.specs.Going.{Going, going_of, advanced, started_job, is_going, is_kept, done_in, is_waiting_phase, is_newest, state_in, IsGoing, AreApart, HoldsLocal, HoldSo, AreGoing}
+use Rattle.msrp_core.specs.CoreJobs.{going_in, state_of, AreJobs, AreToldBy, IsRunning, is_first, is_preferred, started_with}
+use Rattle.msrp_core.specs.declared.jobs.Jobs.{Jobs}
+use Rattle.msrp_core.proofs.Choices.{at_in, all_in, any_has, going_left, started_jobs, choice_is, top_is, current_is, kept_raised}
+use Rattle.msrp_stack.proofs.Changes.{ends_in, reverse_push}
+use Rattle.msrp_core.proofs.Steps.{clash}
+
+-- ---- the jobs of a core
+all_both_ends : {X : Type 0} (P : X → Type 0) (xs ys : List X) → AllByRecursion P xs → AllByRecursion P ys → AllByRecursion P (xs ++ ys)
+all_both_ends P [] ys a b = b
+all_both_ends P (x ∷ xs) ys a b = (a.0, all_both_ends P xs ys a.1 b)
+
+all_flat : {X Y : Type 0} (P : Y → Type 0) (f : X → List Y) → ((x : X) → AllByRecursion P (f x)) → (xs : List X) → AllByRecursion P (flat_map f xs)
+all_flat P f each [] = tt
+all_flat P f each (x ∷ xs) = all_both_ends P (f x) (flat_map f xs) (each x) (all_flat P f each xs)
+
+-- each is released before the ticks are over
+before_end : (plan : PlanModel) (c : ℕ) → AllByRecursion (λ j. nat_lt (release plan j) plan.ticks ≡ true) (jobs_on plan c)
+before_end plan c = all_filtered (λ j. nat_lt (release plan j) plan.ticks ≡ true) (λ j. core_of plan j == c) (jobs_all plan)
+    (all_flat (λ j. nat_lt (release plan j) plan.ticks ≡ true) (jobs_of plan) (λ t. recursion_from_All (λ j. nat_lt (release plan j) plan.ticks ≡ true) (jobs_of plan t) (filter_passes (λ j. nat_lt (release plan j) plan.ticks) (map (job_at t) (range_with_len 0 plan.ticks)))) (range_with_len 0 (length plan.tasks)))
+
+-- so it is released
+pub known_released : (plan : PlanModel) (c : ℕ) (j : JobId) → Contains (jobs_on plan c) j → IsSome (release_tick plan j)
+known_released plan c j there = by_tick (release_tick plan j) refl
+  where
+    early : release plan j < plan.ticks
+    early = ltb-true (release plan j) plan.ticks (at_in (λ j. nat_lt (release plan j) plan.ticks ≡ true) (jobs_on plan c) j (before_end plan c) there)
+
+    by_tick : (o : Option ℕ) → release_tick plan j ≡ o → IsSome (release_tick plan j)
+    by_tick None e = absurd (let k = ap (λ o. unwrap_or o plan.ticks) e in let l = early in omega (arith, k, l))
+    by_tick (Some t) e = subst IsSome (sym e) refl
+
+pub known_task : (plan : PlanModel) (c : ℕ) (j : JobId) → Contains (jobs_on plan c) j → j.task.0 < length plan.tasks
+known_task plan c j there = at_in (λ j. j.task.0 < length plan.tasks) (jobs_on plan c) j (core_jobs_below plan c) there
+
+-- ---- who runs
+pub same_size : (jobs : Jobs) → length jobs.stack.started ≡ length jobs.done.items → length jobs.stack.started ≡ length (reverse jobs.done.items)
+same_size jobs e = e ∙ sym (length-reverse jobs.done.items)
+
+newest_of : (going : List Going) (j : JobId) → newest (map started_job going) ≡ Some j → (s : Going) × (below : List Going) × (going ≡ s ∷ below) × (s.job ≡ j)
+newest_of [] j e = absurd (none-some j e)
+newest_of (s ∷ below) j e = (s, below, refl, same_Some s.job j e)
+
+pub running_of : (jobs : Jobs) (j : JobId) → length jobs.stack.started ≡ length jobs.done.items → newest jobs.stack.started ≡ Some j → IsRunning jobs j
+running_of jobs j size e =
+    let x = newest_of (going_in jobs) j (ap newest (started_jobs jobs.stack.started (reverse jobs.done.items) (same_size jobs size)) ∙ e) in
+    record { newest = x.0; below = x.1; going = x.2; same = x.3 }
+
+pub running_known : (jobs : Jobs) (j : JobId) → AreJobs jobs → IsRunning jobs j → Contains (jobs_on jobs.plan.now jobs.core.0) j × (is_among jobs.ready.taken j ≡ true)
+running_known jobs j fit run =
+    let all = subst (AllByRecursion (IsGoing jobs.plan.now jobs.core.0 jobs.ready.taken)) run.going fit.are.each in
+    (subst (Contains (jobs_on jobs.plan.now jobs.core.0)) run.same all.0.known, ap (is_among jobs.ready.taken) (sym run.same) ∙ all.0.started)
+
+pub newest_known : (jobs : Jobs) (j : JobId) → AreJobs jobs → newest jobs.stack.started ≡ Some j → Contains (jobs_on jobs.plan.now jobs.core.0) j
+newest_known jobs j fit e = (running_known jobs j fit (running_of jobs j fit.size e)).0
+
+-- ---- the choice
+pub chosen_by : (plan : PlanModel) (above : ℕ) (h : JobId) (s : Option JobId) (b : Bool) → is_preferred plan above h s ≡ b → chosen plan above (Some h) s ≡ cond b (Some h) s
+chosen_by plan above h None b e = ap (λ c. cond c (Some h) None) (sym (test (nat_lt above (level plan h.task.0))) ∙ e)
+  where
+    test : (c : Bool) → (c && true) ≡ c
+    test true = refl
+    test false = refl
+chosen_by plan above h (Some s) b e = ap (λ c. cond c (Some h) (Some s)) e
+
+pub head_known : (plan : PlanModel) (c t : ℕ) (taken : List JobId) (j : JobId) → first_ready plan c t (is_among taken) ≡ Some j → Contains (jobs_on plan c) j × (is_among taken j ≡ false)
+head_known plan c t taken j e = (
+  least_in (is_before plan) (λ j. is_released plan t j && not (is_among taken j)) (jobs_on plan c) j e,
+  not-true (is_among taken j) ((and_parts (is_released plan t j) (not (is_among taken j)) (least_passes (is_before plan) (λ j. is_released plan t j && not (is_among taken j)) (jobs_on plan c) j e)).1),
+)
+
+pub first_known : (jobs : Jobs) (n : ℕ) (j : JobId) → AreJobs jobs → first_ready jobs.ready.plan jobs.ready.core n (is_among jobs.ready.taken) ≡ Some j → Contains (jobs_on jobs.plan.now jobs.core.0) j × (is_among jobs.ready.taken j ≡ false)
+first_known jobs n j fit h =
+    head_known jobs.plan.now jobs.core.0 n jobs.ready.taken j (ap (λ p. first_ready p jobs.core.0 n (is_among jobs.ready.taken)) (sym fit.ready_plan) ∙ (ap (λ k. first_ready jobs.ready.plan k n (is_among jobs.ready.taken)) (sym fit.ready_core) ∙ h))
+
+-- the head of the ready jobs, of whatever tick
+pub ready_known : (jobs : Jobs) (j : JobId) → AreJobs jobs → ready.head jobs.ready ≡ Some j → Contains (jobs_on jobs.plan.now jobs.core.0) j × (is_among jobs.ready.taken j ≡ false)
+ready_known jobs j fit e = by_tick jobs.ready.tick refl
+  where
+    by_tick : (o : Option ℕ) → jobs.ready.tick ≡ o → Contains (jobs_on jobs.plan.now jobs.core.0) j × (is_among jobs.ready.taken j ≡ false)
+    by_tick None t = absurd (none-some j (sym (ap (λ o. ready.head (record jobs.ready { tick = o })) t) ∙ e))
+    by_tick (Some n) t = first_known jobs n j fit (sym (ap (λ o. ready.head (record jobs.ready { tick = o })) t) ∙ e)
+
+-- what is said of the ready jobs after a release to a tick
+pub ready_head : (jobs : Jobs) (tick : ℕ) (m : ReadyModel) → m ≡ record jobs.ready { tick = Some tick; compared = m.compared } → ready.head m ≡ first_ready jobs.ready.plan jobs.ready.core tick (is_among jobs.ready.taken)
+ready_head jobs tick m e = ap ready.head e
+
+-- the ceiling and who runs, as the stack says them
+ceiling_of : (jobs : Jobs) → AreJobs jobs → ceiling_with jobs.plan.now jobs.core.0 false (is_kept (going_in jobs)) ≡ current_ceiling jobs.stack
+ceiling_of jobs fit =
+    ap (λ p. ceiling_with p jobs.core.0 false (is_kept (going_in jobs))) (sym fit.stack_plan)
+    ∙ (ap (λ k. ceiling_with jobs.stack.plan k false (is_kept (going_in jobs))) (sym fit.stack_core) ∙ current_is jobs.stack (reverse jobs.done.items) (same_size jobs fit.size))
+
+top_of : (jobs : Jobs) → AreJobs jobs → first_unfinished jobs.plan.now jobs.core.0 (is_going (going_in jobs)) (λ j. false) ≡ stack.top jobs.stack
+top_of jobs fit =
+    ap (λ p. first_unfinished p jobs.core.0 (is_going (going_in jobs)) (λ j. false)) (sym fit.stack_plan)
+    ∙ (ap (λ k. first_unfinished jobs.stack.plan k (is_going (going_in jobs)) (λ j. false)) (sym fit.stack_core) ∙ top_is jobs.stack (reverse jobs.done.items) (same_size jobs fit.size))
+
+-- so the choice, after whatever log leaves the jobs so, is told by ready jobs and stack
+pub choice_of : (jobs : Jobs) (log : List Row) (t : ℕ) → AreJobs jobs → AreToldBy jobs log → choice jobs.plan.now jobs.core.0 t log ≡ chosen jobs.plan.now (current_ceiling jobs.stack) (first_ready jobs.ready.plan jobs.ready.core t (is_among jobs.ready.taken)) (stack.top jobs.stack)
+choice_of jobs log t fit told =
+    choice_is jobs.plan.now jobs.core.0 log jobs.ready.taken jobs.phase (going_in jobs) fit.accepted fit.are told t
+    ∙ (ap (λ n. chosen jobs.plan.now n (first_ready jobs.plan.now jobs.core.0 t (is_among jobs.ready.taken)) (first_unfinished jobs.plan.now jobs.core.0 (is_going (going_in jobs)) (λ j. false))) (ceiling_of jobs fit)
+    ∙ (ap (λ s. chosen jobs.plan.now (current_ceiling jobs.stack) (first_ready jobs.plan.now jobs.core.0 t (is_among jobs.ready.taken)) s) (top_of jobs fit)
+    ∙ (ap (λ p. chosen jobs.plan.now (current_ceiling jobs.stack) (first_ready p jobs.core.0 t (is_among jobs.ready.taken)) (stack.top jobs.stack)) (sym fit.ready_plan)
+    ∙ ap (λ k. chosen jobs.plan.now (current_ceiling jobs.stack) (first_ready jobs.ready.plan k t (is_among jobs.ready.taken)) (stack.top jobs.stack)) (sym fit.ready_core))))
+
+-- ---- who is preferred starts where the core holds and awaits nothing
+-- a global resource that is kept raises the ceiling to the core's highest level
+raised_top : (plan : PlanModel) (c : ℕ) (held : ℕ → Bool) → raised_with plan false held ≡ true → levels.top plan c ≤ ceiling_with plan c false held
+raised_top plan c held e =
+    let m : ceiling_with plan c false held ≡ max (greatest (map (local_ceiling plan) (filter (λ g. not (is_global plan g) && held g) (resources plan)))) (levels.top plan c) =
+    ap (λ b. max (greatest (map (local_ceiling plan) (filter (λ g. not (is_global plan g) && held g) (resources plan)))) (cond b (levels.top plan c) 0)) e in
+    omega (arith, m)
+
+-- no job of the core is above that
+level_below : (plan : PlanModel) (c : ℕ) (j : JobId) → IsPlan plan → Contains (jobs_on plan c) j → level plan j.task.0 ≤ levels.top plan c
+level_below plan c j ok there = top_above plan c j (Contains-get_or plan.tasks j.task.0 no_task (known_task plan c j there)) (on_its_core plan c j there)
+
+kept_by : (plan : PlanModel) (p : Phase) (going : List Going) → HoldSo plan p going → (p ≡ Free) ⊎ ((g : ℕ) × (is_global plan g ≡ true) × (is_kept going g ≡ true))
+kept_by plan Free going h = inl refl
+kept_by plan (Queued g) [] h = absurd h
+kept_by plan (Queued g) (s ∷ below) h = inr (g.0, h.0.global, ap (λ b. b || is_kept below g.0) (ap (list_any (nat_eq g.0)) h.0.held ∙ ap (λ b. b || list_any (nat_eq g.0) h.0.rest) (eq-eqb g.0 g.0 refl)))
+kept_by plan (Holding g) [] h = absurd h
+kept_by plan (Holding g) (s ∷ below) h = inr (g.0, h.0.global, ap (λ b. b || is_kept below g.0) h.0.has)
+
+pub free_for : (jobs : Jobs) (j : JobId) → AreJobs jobs → Contains (jobs_on jobs.plan.now jobs.core.0) j → nat_lt (current_ceiling jobs.stack) (level jobs.plan.now j.task.0) ≡ true → jobs.phase ≡ Free
+free_for jobs j fit there above = elim (kept_by jobs.plan.now jobs.phase (going_in jobs) fit.are.holds) [
+  | inl free ↦ free
+  | inr x ↦
+      let raised = raised_top jobs.plan.now jobs.core.0 (is_kept (going_in jobs)) (kept_raised jobs.plan.now (going_in jobs) x.0 fit.accepted x.1 x.2) in
+      let c = ceiling_of jobs fit in
+      let l = level_below jobs.plan.now jobs.core.0 j fit.accepted there in
+      let a = ltb-true _ _ above in
+      absurd (omega (arith, raised, c, l, a))
+]
+
+-- ---- a job that starts
+-- going jobs are no more than the jobs of the core
+apart_from : (j : JobId) (going : List Going) → is_going going j ≡ false → AllByRecursion (λ k. same_job j k ≡ false) (map (λ (s : Going). s.job) going)
+apart_from j [] e = tt
+apart_from j (s ∷ going) e = let parts = or_parts (same_job j s.job) (is_going going j) e in (parts.0, apart_from j going parts.1)
+
+all_apart : (going : List Going) → AreApart going → IsDistinct same_job (map (λ (s : Going). s.job) going)
+unfolding IsDistinct
+all_apart [] apart = tt
+all_apart (s ∷ going) apart = (apart_from s.job going apart.0, all_apart going apart.1)
+
+same_symm : (i j : JobId) → same_job i j ≡ same_job j i
+same_symm i j = grind arith
+
+same_congr : (i j k : JobId) → same_job i j ≡ true → same_job i k ≡ same_job j k
+same_congr i j k h = ap (λ x. same_job x k) (same_is i j h)
+
+same_equivalence : IsEquivalence same_job
+same_equivalence = record { refl = same_self; symm = same_symm; congr = same_congr }
+
+found_in : (jobs : List JobId) (going : List Going) (q : JobId) → AllByRecursion (λ (s : Going). Contains jobs s.job) going → list_any (same_job q) (map (λ (s : Going). s.job) going) ≡ true → list_any (same_job q) jobs ≡ true
+found_in jobs [] q known h = absurd (cc)
+found_in jobs (s ∷ going) q known h = elim (cases_Bool (same_job q s.job)) [
+  | inl t ↦ any_in (same_job q) jobs s.job known.0 t
+  | inr f ↦ found_in jobs going q known.1 (sym (ap (λ b. b || list_any (same_job q) (map (λ (s : Going). s.job) going)) f) ∙ h)
+]
+
+pub few_going : (jobs : List JobId) (going : List Going) → AllByRecursion (λ (s : Going). Contains jobs s.job) going → AreApart going → length going ≤ length jobs
+few_going jobs going known apart =
+    let k = length-le_from_is_member same_equivalence (map (λ (s : Going). s.job) going) jobs (all_apart going apart) (λ q h. found_in jobs going q known h) in
+    let n = length-map going (λ (s : Going). s.job) in
+    omega (arith, k, n)
+
+-- what a stack wants of a job that starts
+pub can_start : (jobs : Jobs) (j : JobId) → AreJobs jobs → Contains (jobs_on jobs.plan.now jobs.core.0) j → is_first jobs.plan.now j (newest jobs.stack.started) ≡ true → CanStart jobs.stack j
+can_start jobs j fit there first = record {
+  known = subst (λ (p : PlanModel). Contains (jobs_on p jobs.stack.core) j) (sym fit.stack_plan) (subst (λ k. Contains (jobs_on jobs.plan.now k) j) (sym fit.stack_core) there);
+  first = subst (λ (p : PlanModel). ComesFirst p jobs.stack.started j) (sym fit.stack_plan) (comes jobs.stack.started first);
+}
+  where
+    comes : (started : List StartedJob) → is_first jobs.plan.now j (newest started) ≡ true → ComesFirst jobs.plan.now started j
+    comes [] e = tt
+    comes (s ∷ below) e = e
+
+-- a job that is new among those that are going
+abbrev begun : JobId → Going
+begun j = record { job = j; held = []; done = 0 }
+
+module _ (jobs : Jobs) (j : JobId) (taken : List JobId) (fit : AreJobs jobs) (there : Contains (jobs_on jobs.plan.now jobs.core.0) j) (fresh : is_among jobs.ready.taken j ≡ false) (free : jobs.phase ≡ Free)
+    (more : (k : JobId) → is_among taken k ≡ is_among jobs.ready.taken k || is_job (Some j) k) where
+  not_going : is_going (going_in jobs) j ≡ false
+  not_going = false_from_ne_true (is_going (going_in jobs) j) (λ e. clash (is_among jobs.ready.taken j) ((going_left jobs.plan.now jobs.core.0 jobs.ready.taken (going_in jobs) j fit.are.each e).0) fresh)
+
+  new_taken : is_among taken j ≡ true
+  new_taken = more j ∙ (ap (λ b. is_among jobs.ready.taken j || b) (same_self j) ∙ or-true (is_among jobs.ready.taken j))
+
+  pub begun_going : AreGoing jobs.plan.now jobs.core.0 taken jobs.phase (begun j ∷ going_in jobs)
+  begun_going = record {
+    each = (
+      record { known = there; started = new_taken; left = (fit.accepted.whole j.task.0 (known_task jobs.plan.now jobs.core.0 j there)).work },
+      all_weaker (IsGoing jobs.plan.now jobs.core.0 jobs.ready.taken) (IsGoing jobs.plan.now jobs.core.0 taken) (λ s g. record { known = g.known; started = more s.job ∙ ap (λ b. b || is_job (Some j) s.job) g.started; left = g.left }) (going_in jobs) fit.are.each,
+    );
+    apart = (not_going, fit.are.apart);
+    holds = subst (λ p. HoldSo jobs.plan.now p (begun j ∷ going_in jobs)) (sym free) (record { now = refl; locals = λ g h. absurd (true≢false (sym h)) }, subst (λ p. HoldSo jobs.plan.now p (going_in jobs)) free fit.are.holds);
+  }
+
+  pub begun_states : (k : JobId) → state_in jobs.plan.now taken jobs.phase (begun j ∷ going_in jobs) k ≡ started_with (Some j) (state_of jobs k)
+  begun_states k =
+      let q : (is_waiting_phase jobs.phase && same_job k j) ≡ (is_waiting_phase jobs.phase && is_newest (going_in jobs) k) = ap (λ p. is_waiting_phase p && same_job k j) free ∙ sym (ap (λ p. is_waiting_phase p && is_newest (going_in jobs) k) free) in
+      let t = more k in
+      let d : cond (is_among taken k) (done_in jobs.plan.now (begun j ∷ going_in jobs) k) 0 ≡ cond (is_among jobs.ready.taken k) (done_in jobs.plan.now (going_in jobs) k) 0 = elim (cases_Bool (same_job k j)) [
+        | inl hit ↦
+            ap (λ n. cond (is_among taken k) n 0) (ap (λ b. cond b 0 (done_in jobs.plan.now (going_in jobs) k)) hit) ∙ (zero_both (is_among taken k) ∙ sym (ap (λ b. cond b (done_in jobs.plan.now (going_in jobs) k) 0) (ap (is_among jobs.ready.taken) (same_is k j hit) ∙ fresh)))
+        | inr miss ↦
+            ap (λ n. cond (is_among taken k) n 0) (ap (λ b. cond b 0 (done_in jobs.plan.now (going_in jobs) k)) miss)
+            ∙ ap (λ b. cond b (done_in jobs.plan.now (going_in jobs) k) 0) (more k ∙ (ap (λ b. is_among jobs.ready.taken k || b) (same_symm j k ∙ miss) ∙ or-false (is_among jobs.ready.taken k)))
+      ] in
+      cc
+    where
+      zero_both : (b : Bool) → cond {A = ℕ} b 0 0 ≡ 0
+      zero_both true = refl
+      zero_both false = refl
+
+-- the going jobs with it
+pub begun_in : (jobs : Jobs) (j : JobId) (m : StackModel) (done : List ℕ) → m ≡ record jobs.stack { started = record { job = j; held = [] } ∷ jobs.stack.started } → done ≡ jobs.done.items ++ 0 ∷ [] → going_of m.started (reverse done) ≡ begun j ∷ going_in jobs
+begun_in jobs j m done e d = ap (λ (s : StackModel). going_of s.started (reverse done)) e ∙ ap (going_of (record { job = j; held = [] } ∷ jobs.stack.started)) (ap reverse d ∙ reverse_push jobs.done.items 0)
+
+-- all that is stored with it
+pub begun_fits : (jobs : Jobs) (j : JobId) (r : ReadyModel) (m : StackModel) (done : Vec ℕ Global) → AreJobs jobs → Contains (jobs_on jobs.plan.now jobs.core.0) j → is_among jobs.ready.taken j ≡ false → jobs.phase ≡ Free
+    → r ≡ record jobs.ready { taken = r.taken; compared = r.compared } → ((k : JobId) → is_among r.taken k ≡ is_among jobs.ready.taken k || is_job (Some j) k)
+    → m ≡ record jobs.stack { started = record { job = j; held = [] } ∷ jobs.stack.started } → done.items ≡ jobs.done.items ++ 0 ∷ [] → vec_capacity done ≡ vec_capacity jobs.done → AreJobs (record jobs { ready = r; stack = m; done = done })
+begun_fits jobs j r m done fit there fresh free rest more pushed items room = record {
+  accepted = fit.accepted;
+  levels = fit.levels;
+  ready_plan = ap (λ (x : ReadyModel). x.plan) rest ∙ fit.ready_plan;
+  ready_core = ap (λ (x : ReadyModel). x.core) rest ∙ fit.ready_core;
+  stack_plan = ap (λ (x : StackModel). x.plan) pushed ∙ fit.stack_plan;
+  stack_core = ap (λ (x : StackModel). x.core) pushed ∙ fit.stack_core;
+  size = let a = ap (λ (x : StackModel). length x.started) pushed in let b = ap length items in let l = length-append jobs.done.items (0 ∷ []) in let s = fit.size in omega (arith, a, b, l, s);
+  room = let q = fit.room in omega (arith, room, q);
+  are = subst (AreGoing jobs.plan.now jobs.core.0 r.taken jobs.phase) (sym (begun_in jobs j m done.items pushed items)) (begun_going jobs j r.taken fit there fresh free more);
+}
+
+-- there is room for it
+pub begun_room : (jobs : Jobs) (j : JobId) → AreJobs jobs → Contains (jobs_on jobs.plan.now jobs.core.0) j → is_among jobs.ready.taken j ≡ false → length jobs.done.items < vec_capacity jobs.done
+begun_room jobs j fit there fresh =
+    let known = all_weaker (IsGoing jobs.plan.now jobs.core.0 jobs.ready.taken) (λ (s : Going). Contains (jobs_on jobs.plan.now jobs.core.0) s.job) (λ s g. g.known) (going_in jobs) fit.are.each in
+    let apart = false_from_ne_true (is_going (going_in jobs) j) (λ e. clash (is_among jobs.ready.taken j) ((going_left jobs.plan.now jobs.core.0 jobs.ready.taken (going_in jobs) j fit.are.each e).0) fresh) in
+    let few = few_going (jobs_on jobs.plan.now jobs.core.0) (begun j ∷ going_in jobs) (there, known) (apart, fit.are.apart) in
+    let all = ap length (started_jobs jobs.stack.started (reverse jobs.done.items) (same_size jobs fit.size)) in
+    let n = length-map (going_in jobs) started_job in
+    let s = fit.size in
+    let q = fit.room in
+    omega (arith, few, all, n, s, q)
+
+-- ---- the newest
+-- the units that it has done are the last number
+pub last_done : (started : List StartedJob) (items : List ℕ) (s : Going) (below : List Going) (d : ℕ) → 0 < length items → going_of started (reverse items) ≡ s ∷ below → get_or items (length items - 1) d ≡ s.done
+last_done started items s below d some e =
+    let x = ends_in items some in
+    let r : reverse items ≡ x.last ∷ reverse x.front = ap reverse x.is ∙ reverse_push x.front x.last in
+    let n : length items - 1 ≡ length x.front = let l = ap length x.is in let m = length-append x.front (x.last ∷ []) in omega (arith, l, m) in
+    let at : get_or items (length items - 1) d ≡ x.last = ap (λ l. get_or l (length items - 1) d) x.is ∙ (ap (λ k. get_or (x.front ++ x.last ∷ []) k d) n ∙ get_or-append_seam x.front x.last [] d) in
+    at ∙ first_done started (reverse x.front) x.last (sym (ap (going_of started) r) ∙ e)
+  where
+    first_done : (started : List StartedJob) (rest : List ℕ) (n : ℕ) → going_of started (n ∷ rest) ≡ s ∷ below → n ≡ s.done
+    first_done [] rest n e = absurd (cc)
+    first_done (x ∷ started) rest n e = cc
+
+-- without the last number the others are those of the jobs below
+pub popped : (jobs : Jobs) (front : List ℕ) (n : ℕ) (s : Going) (below : List Going) → jobs.done.items ≡ front ++ n ∷ [] → going_in jobs ≡ s ∷ below → (s.done ≡ n) × ((x : StartedJob) × (rest : List StartedJob) × (jobs.stack.started ≡ x ∷ rest) × (s.job ≡ x.job) × (s.held ≡ x.held) × (going_of rest (reverse front) ≡ below))
+popped jobs front n s below items e = by_started jobs.stack.started refl
+  where
+    rev : reverse jobs.done.items ≡ n ∷ reverse front
+    rev = ap reverse items ∙ reverse_push front n
+
+    by_started : (l : List StartedJob) → jobs.stack.started ≡ l → (s.done ≡ n) × ((x : StartedJob) × (rest : List StartedJob) × (jobs.stack.started ≡ x ∷ rest) × (s.job ≡ x.job) × (s.held ≡ x.held) × (going_of rest (reverse front) ≡ below))
+    by_started [] is = absurd (let k : [] ≡ s ∷ below = sym (ap (λ l. going_of l (reverse jobs.done.items)) is) ∙ e in cc)
+    by_started (x ∷ rest) is =
+        let k : going_of (x ∷ rest) (n ∷ reverse front) ≡ s ∷ below = sym (ap (λ l. going_of l (reverse jobs.done.items)) is ∙ ap (going_of (x ∷ rest)) rev) ∙ e in
+        let d : s.done ≡ n = cc in
+        let j : s.job ≡ x.job = cc in
+        let h : s.held ≡ x.held = cc in
+        let b : going_of rest (reverse front) ≡ below = cc in
+        (d, (x, rest, is, j, h, b))
+
+-- ---- what a choice answers
+pub choose_head : (jobs : Jobs) (tick : ℕ) (m : ReadyModel) (running : Option JobId) (j : JobId) (b : Bool) (log : List Row) → AreJobs jobs → m ≡ record jobs.ready { tick = Some tick; compared = m.compared } → running ≡ stack.top jobs.stack → Some j ≡ ready.head m
+    → is_preferred jobs.plan.now (current_ceiling jobs.stack) j running ≡ b → AreToldBy jobs log → cond b (Some j) running ≡ choice jobs.plan.now jobs.core.0 tick log
+choose_head jobs tick m running j b log fit rest top head next told =
+    sym (choice_of jobs log tick fit told
+    ∙ (ap (λ h. chosen jobs.plan.now (current_ceiling jobs.stack) h (stack.top jobs.stack)) (sym (head ∙ ready_head jobs tick m rest))
+    ∙ (ap (chosen jobs.plan.now (current_ceiling jobs.stack) (Some j)) (sym top) ∙ chosen_by jobs.plan.now (current_ceiling jobs.stack) j running b next)))
+
+pub choose_none : (jobs : Jobs) (tick : ℕ) (m : ReadyModel) (running : Option JobId) (log : List Row) → AreJobs jobs → m ≡ record jobs.ready { tick = Some tick; compared = m.compared } → running ≡ stack.top jobs.stack → None ≡ ready.head m → AreToldBy jobs log → running ≡ choice jobs.plan.now jobs.core.0 tick log
+choose_none jobs tick m running log fit rest top head told =
+    sym (choice_of jobs log tick fit told ∙ (ap (λ h. chosen jobs.plan.now (current_ceiling jobs.stack) h (stack.top jobs.stack)) (sym (head ∙ ready_head jobs tick m rest)) ∙ sym top))
+
+-- who runs is started already
+runs_started : (plan : PlanModel) (taken : List JobId) (running : Option JobId) (j : JobId) → ((x : JobId) → running ≡ Some x → is_among taken x ≡ true) → is_among taken j ≡ is_among taken j || is_job running j
+runs_started plan taken None j h = sym (or-false (is_among taken j))
+runs_started plan taken (Some x) j h = elim (cases_Bool (same_job x j)) [
+  | inl hit ↦ let t : is_among taken j ≡ true = ap (is_among taken) (sym (same_is x j hit)) ∙ h x refl in t ∙ sym (ap (λ b. b || same_job x j) t)
+  | inr miss ↦ sym (ap (λ b. is_among taken j || b) miss ∙ or-false (is_among taken j))
+]
+
+pub running_states : (jobs : Jobs) (m : ReadyModel) (running : Option JobId) → m.taken ≡ jobs.ready.taken → ((x : JobId) → running ≡ Some x → is_among jobs.ready.taken x ≡ true) → (j : JobId) → state_of (record jobs { ready = m }) j ≡ started_with running (state_of jobs j)
+running_states jobs m running same h j =
+    ap (λ l. state_in jobs.plan.now l jobs.phase (going_in jobs) j) same
+    ∙ (let t = runs_started jobs.plan.now jobs.ready.taken running j h in let mk : Bool → JobState = λ b. record (state_of jobs j) { started = b } in ap mk t)
+
+-- the jobs after a release
+pub released_fits : (jobs : Jobs) (tick : ℕ) (m : ReadyModel) → AreJobs jobs → m ≡ record jobs.ready { tick = Some tick; compared = m.compared } → AreJobs (record jobs { ready = m })
+released_fits jobs tick m fit e = record {
+  accepted = fit.accepted;
+  levels = fit.levels;
+  ready_plan = ap (λ (x : ReadyModel). x.plan) e ∙ fit.ready_plan;
+  ready_core = ap (λ (x : ReadyModel). x.core) e ∙ fit.ready_core;
+  stack_plan = fit.stack_plan;
+  stack_core = fit.stack_core;
+  size = fit.size;
+  room = fit.room;
+  are = subst (λ l. AreGoing jobs.plan.now jobs.core.0 l jobs.phase (going_in jobs)) (sym (ap (λ (x : ReadyModel). x.taken) e)) fit.are;
+}
+
+-- a filter keeps no more than there are
+kept_short : {X : Type 0} (x : X) (xs kept : List X) (b : Bool) → length kept ≤ length xs → length (cond b (x ∷ kept) kept) ≤ length (x ∷ xs)
+kept_short x xs kept true h = omega (arith, h)
+kept_short x xs kept false h = omega (arith, h)
+
+filter_short : {X : Type 0} (p : X → Bool) (xs : List X) → length (filter p xs) ≤ length xs
+filter_short p [] = omega arith
+filter_short p (x ∷ xs) = kept_short x xs (filter p xs) (p x) (filter_short p xs)
+
+-- before the first turn
+pub none_fits : (jobs : Jobs) → IsPlan jobs.plan.now → jobs.levels.now ≡ jobs.plan.now → jobs.ready ≡ record { plan = jobs.plan.now; core = jobs.core.0; tick = None; taken = []; compared = 0 } → jobs.stack ≡ record { plan = jobs.plan.now; core = jobs.core.0; started = [] } → jobs.done.items ≡ []
+    → vec_capacity jobs.done ≡ 8192 → jobs.phase ≡ Free → AreJobs jobs
+none_fits jobs ok levels r m none room free = record {
+  accepted = ok;
+  levels = levels;
+  ready_plan = ap (λ (x : ReadyModel). x.plan) r;
+  ready_core = ap (λ (x : ReadyModel). x.core) r;
+  stack_plan = ap (λ (x : StackModel). x.plan) m;
+  stack_core = ap (λ (x : StackModel). x.core) m;
+  size = ap (λ (x : StackModel). length x.started) m ∙ sym (ap length none);
+  room = let a = filter_short (λ j. core_of jobs.plan.now j == jobs.core.0) (jobs_all jobs.plan.now) in let b = ok.jobs in omega (arith, a, b, room);
+  are = subst (AreGoing jobs.plan.now jobs.core.0 jobs.ready.taken jobs.phase) (sym (ap (λ (x : StackModel). going_of x.started (reverse jobs.done.items)) m)) (record { each = tt; apart = tt; holds = subst (λ p. HoldSo jobs.plan.now p []) (sym free) tt });
+}
+
+-- ---- the running job
+pub some_done : (jobs : Jobs) (s : Going) (below : List Going) → length jobs.stack.started ≡ length jobs.done.items → going_in jobs ≡ s ∷ below → 0 < length jobs.done.items
+some_done jobs s below size e =
+    let all = ap length (started_jobs jobs.stack.started (reverse jobs.done.items) (same_size jobs size)) in
+    let n = length-map (going_in jobs) started_job in
+    let g = ap length e in
+    omega (arith, all, n, g, size)
+
+pub running_left : (jobs : Jobs) (s : Going) (below : List Going) → AreJobs jobs → going_in jobs ≡ s ∷ below → s.done < length (units jobs.plan.now s.job)
+running_left jobs s below fit e = (subst (AllByRecursion (IsGoing jobs.plan.now jobs.core.0 jobs.ready.taken)) e fit.are.each).0.left
+
+-- one unit more of the newest that isn't its last
+pub advanced_push : (jobs : Jobs) (front : List ℕ) (n : ℕ) (s : Going) (below : List Going) (done : List ℕ) → jobs.done.items ≡ front ++ n ∷ [] → going_in jobs ≡ s ∷ below → n + 1 ≢ length (units jobs.plan.now s.job) → done ≡ front ++ (n + 1) ∷ []
+    → going_of jobs.stack.started (reverse done) ≡ advanced jobs.plan.now (going_in jobs)
+advanced_push jobs front n s below done items e more pushed =
+    let p = popped jobs front n s below items e in
+    let x = p.1 in
+    let off : (s.done + 1 == length (units jobs.plan.now s.job)) ≡ false = false_from_ne_true _ (λ t. more (ap (λ k. k + 1) (sym p.0) ∙ eqb-true _ _ t)) in
+    let mk : JobId → List ℕ → ℕ → List Going → List Going = λ j h d l. record { job = j; held = h; done = d } ∷ l in
+    ap (λ l. going_of l (reverse done)) x.2
+    ∙ (ap (going_of (x.0 ∷ x.1)) (ap reverse pushed ∙ reverse_push front (n + 1))
+    ∙ (ap (λ j. mk j x.0.held (n + 1) (going_of x.1 (reverse front))) (sym x.3)
+    ∙ (ap (λ h. mk s.job h (n + 1) (going_of x.1 (reverse front))) (sym x.4)
+    ∙ (ap (λ k. mk s.job s.held (k + 1) (going_of x.1 (reverse front))) (sym p.0)
+    ∙ (ap (mk s.job s.held (s.done + 1)) x.5
+    ∙ sym (ap (advanced jobs.plan.now) e ∙ ap (λ b. cond b below (record s { done = s.done + 1 } ∷ below)) off))))))

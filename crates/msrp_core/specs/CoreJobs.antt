@@ -1,0 +1,132 @@
+-- The jobs of a core as they are stored, and what a turn does to them.
+use Rattle.std.specs.Prelude.{ℕ, List, [], ◌∷◌, true, false, Option, Some, None, cond, nat_lt, ◌&&◌, ◌||◌, Bool, length, reverse, slice_get, vec_capacity, ◌≡◌, ◌<◌, ◌≤◌, ⊤}
+use Rattle.std.specs.List.{AllByRecursion}
+use Rattle.msrp_plan.specs.Plan.{PlanModel, units}
+use Rattle.msrp_plan.specs.Jobs.{jobs_on, is_job}
+use Rattle.msrp_plan.specs.Levels.{level, is_global}
+use Rattle.msrp_plan.specs.Choice.{is_before}
+use Rattle.msrp_plan.specs.Actions.{does_unit_after}
+use Rattle.msrp_plan.specs.Phases.{phase_with}
+use Rattle.msrp_plan.specs.States.{JobState, state_after, state_with}
+use Rattle.msrp_plan.specs.WellFormed.{IsPlan}
+use Rattle.msrp_plan.specs.Calls.{kind_of_call, ahead_of_call}
+use Rattle.msrp_plan.specs.declared.ids.JobId.{JobId}
+use Rattle.msrp_plan.specs.declared.ids.ResId.{ResId}
+use Rattle.msrp_plan.specs.declared.rows.Kind.TheVariants.{Idle}
+use Rattle.msrp_plan.specs.declared.rows.Row.{Row}
+use Rattle.msrp_plan.specs.declared.units.Op.{Op}
+use Rattle.msrp_plan.specs.declared.units.Call.{Call}
+use Rattle.msrp_core.specs.Ports.{PortModel, Adds, claim_in}
+use Rattle.msrp_core.specs.Going.{Going, going_of, state_in, is_waiting_phase, AreGoing}
+use Rattle.msrp_core.specs.declared.jobs.Jobs.{Jobs}
+
+-- the going jobs, the newest first
+abbrev pub going_in : Jobs → List Going
+going_in jobs = going_of jobs.stack.started (reverse jobs.done.items)
+
+abbrev pub state_of : Jobs → JobId → JobState
+state_of jobs j = state_in jobs.plan.now jobs.ready.taken jobs.phase (going_in jobs) j
+
+-- what is stored of the jobs of a core fits together, with room for all of them
+pub record AreJobs (jobs : Jobs) : Type 0 where
+  pub accepted : IsPlan jobs.plan.now
+  pub levels : jobs.levels.now ≡ jobs.plan.now
+  pub ready_plan : jobs.ready.plan ≡ jobs.plan.now
+  pub ready_core : jobs.ready.core ≡ jobs.core.0
+  pub stack_plan : jobs.stack.plan ≡ jobs.plan.now
+  pub stack_core : jobs.stack.core ≡ jobs.core.0
+  pub size : length jobs.stack.started ≡ length jobs.done.items
+  pub room : length (jobs_on jobs.plan.now jobs.core.0) ≤ vec_capacity jobs.done
+  pub are : AreGoing jobs.plan.now jobs.core.0 jobs.ready.taken jobs.phase (going_in jobs)
+
+-- the job comes before who runs, if somebody does
+abbrev pub is_first : PlanModel → JobId → Option JobId → Bool
+is_first plan h None = true
+is_first plan h (Some s) = is_before plan h s
+
+-- it is preferred to who runs: its level is above the ceiling, and it comes first
+abbrev pub is_preferred : PlanModel → ℕ → JobId → Option JobId → Bool
+is_preferred plan above h s = nat_lt above (level plan h.task.0) && is_first plan h s
+
+-- the rows of a log leave the jobs of the core so
+abbrev pub AreToldBy : Jobs → List Row → Type 0
+AreToldBy jobs log = AllByRecursion (λ j. state_after log j ≡ state_of jobs j) (jobs_on jobs.plan.now jobs.core.0)
+
+-- the state of a job where this one, if there is one, is started
+abbrev pub started_with : Option JobId → JobState → JobState
+started_with o s = record s { started = s.started || is_job o s.job }
+
+-- the same core of the same plan, which holds or awaits the same, with as much room
+pub record IsSamePlace (old new : Jobs) : Type 0 where
+  pub plan : new.plan ≡ old.plan
+  pub levels : new.levels ≡ old.levels
+  pub core : new.core ≡ old.core
+  pub phase : new.phase ≡ old.phase
+
+-- the stack is of the same core of the same plan
+pub record IsSameStack (old new : Jobs) : Type 0 where
+  pub plan : new.stack.plan ≡ old.stack.plan
+  pub core : new.stack.core ≡ old.stack.core
+
+-- the job is the newest of those that are going
+pub record IsRunning (jobs : Jobs) (job : JobId) : Type 0 where
+  pub newest : Going
+  pub below : List Going
+  pub going : going_in jobs ≡ newest ∷ below
+  pub same : newest.job ≡ job
+
+-- and this is its next unit
+pub record CanAct (jobs : Jobs) (job : JobId) (op : Op) : Type 0 where
+  pub jobs_fit : AreJobs jobs
+  pub newest : Going
+  pub below : List Going
+  pub going : going_in jobs ≡ newest ∷ below
+  pub same : newest.job ≡ job
+  pub unit : slice_get (units jobs.plan.now job) newest.done ≡ Some op
+
+-- the core's claim in the port is what the core holds or awaits, it may make a call more, and the port has the resources of
+-- the plan
+pub record CanCall (jobs : Jobs) (port : PortModel) : Type 0 where
+  pub claim : claim_in jobs.core.0 port.calls ≡ jobs.phase
+  pub room : 0 < port.rooms jobs.core.0
+  pub resources : port.resources ≡ length jobs.plan.now.resources
+
+-- the newest job did its next unit, or waits for it, as the row says
+pub record Acts (old new : Jobs) (job : JobId) (tick : ℕ) (r : Row) : Type 0 where
+  pub jobs_fit : AreJobs new
+  pub plan : new.plan.now ≡ old.plan.now
+  pub core : new.core ≡ old.core
+  pub ready : new.ready ≡ old.ready
+  pub row_tick : r.tick ≡ tick
+  pub row_core : r.core ≡ old.core
+  pub row_job : r.job ≡ Some job
+  pub action : (s : Going) (below : List Going) → going_in old ≡ s ∷ below → does_unit_after old.plan.now job (is_waiting_phase old.phase) s.done r ≡ true
+  pub states : (j : JobId) → state_of new j ≡ state_with r (state_of old j)
+  pub phase : new.phase ≡ phase_with old.phase r.kind r.res
+
+-- nobody has the turn: the row is idle, and all stays
+pub record Idles (old new : Jobs) (tick : ℕ) (r : Row) : Type 0 where
+  pub same : new ≡ old
+  pub row_tick : r.tick ≡ tick
+  pub row_core : r.core ≡ old.core
+  pub row_job : r.job ≡ None
+  pub row_res : r.res ≡ None
+  pub kind : r.kind ≡ Idle
+
+abbrev pub ActsFor : Jobs → Jobs → Option JobId → ℕ → Row → Type 0
+ActsFor old new None tick r = Idles old new tick r
+ActsFor old new (Some job) tick r = Acts old new job tick r
+
+-- the row is the one that a call of its core on its resource makes, which the port has now
+pub record MakesCall (plan : PlanModel) (r : Row) (before after : PortModel) : Type 0 where
+  pub res : ResId
+  pub resource : r.res ≡ Some res
+  pub global : is_global plan res.0 ≡ true
+  pub call : Call
+  pub adds : Adds r.core res call before after
+  pub kind : r.kind ≡ kind_of_call call
+  pub ahead : r.ahead ≡ ahead_of_call call
+
+-- the row is on no global resource
+abbrev pub IsQuiet : PlanModel → Row → Type 0
+IsQuiet plan r = (res : ResId) → r.res ≡ Some res → is_global plan res.0 ≡ false

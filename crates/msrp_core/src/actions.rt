@@ -1,0 +1,285 @@
+//! What the running job does in its turn: its next unit, or the wait for it.
+ghost use Rattle.std.specs.Prelude.{◌≡◌, Some, None, true, false};
+ghost use Rattle.std.specs.Option.{ForSome};
+ghost use Rattle.msrp_plan.specs.Levels.{is_global};
+ghost use Rattle.msrp_plan.specs.Shape.{has_shape};
+ghost use Rattle.msrp_plan.specs.declared.ids.ResId.{ResId as Resource};
+ghost use Rattle.msrp_core.specs.Going.{is_holding_phase, is_waiting_phase};
+ghost use Rattle.msrp_core.specs.Ports.{claim_in};
+ghost use Rattle.msrp_core.specs.CoreJobs.{Acts, ActsFor, AreJobs, CanAct, CanCall, IsQuiet, IsRunning, MakesCall};
+
+use crate::jobs::Jobs;
+use crate::port::{Port, Reply};
+use msrp_plan::{CoreId, JobId, Kind, Op, Phase, ResId, Row};
+
+// A row of a job.
+fn row_on(core: CoreId, tick: u32, kind: Kind, job: JobId, res: Option<ResId>) -> Row
+    requires { has_shape kind (Some job) res ≡ true }
+    ensures tick { result.tick ≡ tick }
+    ensures core { result.core ≡ core }
+    ensures kind { result.kind ≡ kind }
+    ensures job { result.job ≡ Some job }
+    ensures res { result.res ≡ res }
+    ensures ahead { result.ahead ≡ None }
+{
+    Row {
+        tick,
+        core,
+        kind,
+        job: Some(job),
+        res,
+        ahead: None,
+    }
+}
+
+// The row of a turn that nobody has.
+fn idle_row(core: CoreId, tick: u32) -> Row
+    ensures tick { result.tick ≡ tick }
+    ensures core { result.core ≡ core }
+    ensures kind { result.kind ≡ Kind.Idle }
+    ensures job { result.job ≡ None }
+    ensures res { result.res ≡ None }
+{
+    Row {
+        tick,
+        core,
+        kind: Kind::Idle,
+        job: None,
+        res: None,
+        ahead: None,
+    }
+}
+
+impl<'a> Jobs<'a> {
+    // Whether the core awaits a global resource.
+    fn is_waiting(&self) -> bool
+        ensures { result ≡ is_waiting_phase self.now.phase }
+    {
+        matches!(self.phase, Phase::Queued(_))
+    }
+
+    // Whether the core holds this global resource.
+    fn is_holding(&self, res: ResId) -> bool
+        ensures { result ≡ is_holding_phase res self.now.phase }
+    {
+        match self.phase {
+            Phase::Holding(held) => held == res,
+            _ => false,
+        }
+    }
+
+    // A unit of work.
+    fn work(&mut self, tick: u32, job: JobId) -> Row
+        requires { CanAct self.old job Op.Run }
+        ensures acts { Acts self.old self.new job tick result }
+        ensures none { result.res ≡ None }
+        ensures phase { self.new.phase ≡ self.old.phase }
+    {
+        self.advance(job);
+        row_on(self.core, tick, Kind::Run, job, None)
+    }
+
+    // A lock of a local resource.
+    fn lock(&mut self, tick: u32, job: JobId, res: ResId) -> Row
+        requires can { CanAct self.old job (Op.Lock res) }
+        requires local { is_global self.old.plan.now res.0 ≡ false }
+        ensures acts { Acts self.old self.new job tick result }
+        ensures res { result.res ≡ Some res }
+        ensures phase { self.new.phase ≡ self.old.phase }
+    {
+        self.stack.lock(res);
+        self.advance(job);
+        row_on(self.core, tick, Kind::Lock, job, Some(res))
+    }
+
+    // An unlock of a local resource.
+    fn unlock(&mut self, tick: u32, job: JobId, res: ResId) -> Row
+        requires can { CanAct self.old job (Op.Unlock res) }
+        requires local { is_global self.old.plan.now res.0 ≡ false }
+        ensures acts { Acts self.old self.new job tick result }
+        ensures res { result.res ≡ Some res }
+        ensures phase { self.new.phase ≡ self.old.phase }
+    {
+        self.stack.unlock(res);
+        self.advance(job);
+        row_on(self.core, tick, Kind::Unlock, job, Some(res))
+    }
+
+    // A request that is granted at once.
+    fn take(&mut self, tick: u32, job: JobId, res: ResId) -> Row
+        requires can { CanAct self.old job (Op.Lock res) }
+        requires global { is_global self.old.plan.now res.0 ≡ true }
+        requires free { self.old.phase ≡ Phase.Free }
+        ensures acts { Acts self.old self.new job tick result }
+        ensures phase { self.new.phase ≡ Phase.Holding res }
+        ensures res { result.res ≡ Some res }
+        ensures kind { result.kind ≡ Kind.Take }
+        ensures ahead { result.ahead ≡ None }
+    {
+        self.stack.raise_global(res);
+        self.phase = Phase::Holding(res);
+        self.advance(job);
+        row_on(self.core, tick, Kind::Take, job, Some(res))
+    }
+
+    // A request that joins the queue: the job waits.
+    fn wait(&mut self, tick: u32, job: JobId, res: ResId, ahead: u32) -> Row
+        requires can { CanAct self.old job (Op.Lock res) }
+        requires global { is_global self.old.plan.now res.0 ≡ true }
+        requires free { self.old.phase ≡ Phase.Free }
+        ensures acts { Acts self.old self.new job tick result }
+        ensures phase { self.new.phase ≡ Phase.Queued res }
+        ensures res { result.res ≡ Some res }
+        ensures kind { result.kind ≡ Kind.Queue }
+        ensures ahead { result.ahead ≡ Some ahead }
+    {
+        self.stack.raise_global(res);
+        self.phase = Phase::Queued(res);
+        Row {
+            tick,
+            core: self.core,
+            kind: Kind::Queue,
+            job: Some(job),
+            res: Some(res),
+            ahead: Some(ahead),
+        }
+    }
+
+    // A request of a global resource.
+    fn request<P: Port>(&mut self, port: &mut P, tick: u32, job: JobId, res: ResId) -> Row
+        requires can { CanAct self.old job (Op.Lock res) }
+        requires global { is_global self.old.plan.now res.0 ≡ true }
+        requires free { self.old.phase ≡ Phase.Free }
+        requires call { CanCall self.old (P.port port.old) }
+        ensures acts { Acts self.old self.new job tick result }
+        ensures call { MakesCall self.old.plan.now result (P.port port.old) (P.port port.new) }
+        ensures claim { claim_in self.old.core.0 (P.port port.new).calls ≡ self.new.phase }
+    {
+        match port.ask(self.core, res) {
+            Reply::Taken => self.take(tick, job, res),
+            Reply::Queued(ahead) => self.wait(tick, job, res, ahead),
+        }
+    }
+
+    // A poll that is answered yes: the job holds the resource.
+    fn granted(&mut self, tick: u32, job: JobId, res: ResId) -> Row
+        requires can { CanAct self.old job (Op.Lock res) }
+        requires awaits { self.old.phase ≡ Phase.Queued res }
+        ensures acts { Acts self.old self.new job tick result }
+        ensures phase { self.new.phase ≡ Phase.Holding res }
+        ensures res { result.res ≡ Some res }
+        ensures kind { result.kind ≡ Kind.Grant }
+        ensures ahead { result.ahead ≡ None }
+    {
+        self.phase = Phase::Holding(res);
+        self.advance(job);
+        row_on(self.core, tick, Kind::Grant, job, Some(res))
+    }
+
+    // A poll that is answered no: the job waits on.
+    fn spin(&self, tick: u32, job: JobId, res: ResId) -> Row
+        requires can { CanAct self.now job (Op.Lock res) }
+        requires awaits { self.now.phase ≡ Phase.Queued res }
+        ensures acts { Acts self.now self.now job tick result }
+        ensures res { result.res ≡ Some res }
+        ensures kind { result.kind ≡ Kind.Spin }
+        ensures ahead { result.ahead ≡ None }
+    {
+        row_on(self.core, tick, Kind::Spin, job, Some(res))
+    }
+
+    // A poll of the global resource that the job awaits.
+    fn poll<P: Port>(&mut self, port: &mut P, tick: u32, job: JobId, res: ResId) -> Row
+        requires can { CanAct self.old job (Op.Lock res) }
+        requires global { is_global self.old.plan.now res.0 ≡ true }
+        requires awaits { self.old.phase ≡ Phase.Queued res }
+        requires call { CanCall self.old (P.port port.old) }
+        ensures acts { Acts self.old self.new job tick result }
+        ensures call { MakesCall self.old.plan.now result (P.port port.old) (P.port port.new) }
+        ensures claim { claim_in self.old.core.0 (P.port port.new).calls ≡ self.new.phase }
+    {
+        if port.poll(self.core, res) {
+            self.granted(tick, job, res)
+        } else {
+            self.spin(tick, job, res)
+        }
+    }
+
+    // The release of the global resource that the job holds.
+    fn drop_held(&mut self, tick: u32, job: JobId, res: ResId) -> Row
+        requires can { CanAct self.old job (Op.Unlock res) }
+        requires global { is_global self.old.plan.now res.0 ≡ true }
+        ensures acts { Acts self.old self.new job tick result }
+        ensures phase { self.new.phase ≡ Phase.Free }
+        ensures res { result.res ≡ Some res }
+        ensures kind { result.kind ≡ Kind.Release }
+        ensures ahead { result.ahead ≡ None }
+    {
+        self.stack.drop_global(res);
+        self.phase = Phase::Free;
+        self.advance(job);
+        row_on(self.core, tick, Kind::Release, job, Some(res))
+    }
+
+    // A release of a global resource, which the port is told.
+    fn release<P: Port>(&mut self, port: &mut P, tick: u32, job: JobId, res: ResId) -> Row
+        requires can { CanAct self.old job (Op.Unlock res) }
+        requires global { is_global self.old.plan.now res.0 ≡ true }
+        requires holding { self.old.phase ≡ Phase.Holding res }
+        requires call { CanCall self.old (P.port port.old) }
+        ensures acts { Acts self.old self.new job tick result }
+        ensures call { MakesCall self.old.plan.now result (P.port port.old) (P.port port.new) }
+        ensures claim { claim_in self.old.core.0 (P.port port.new).calls ≡ self.new.phase }
+    {
+        port.leave(self.core, res);
+        self.drop_held(tick, job, res)
+    }
+
+    /// The next action of the running job: its next unit, or one more tick of the wait for it.
+    pub(crate) fn act<P: Port>(&mut self, port: &mut P, tick: u32, job: JobId) -> Row
+        requires jobs { AreJobs self.old }
+        requires running { IsRunning self.old job }
+        requires call { CanCall self.old (P.port port.old) }
+        ensures acts { Acts self.old self.new job tick result }
+        ensures call { (res : Resource) → result.res ≡ Some res → is_global self.old.plan.now res.0 ≡ true → MakesCall self.old.plan.now result (P.port port.old) (P.port port.new) }
+        ensures quiet { IsQuiet self.old.plan.now result → port.new ≡ port.old }
+        ensures claim { claim_in self.old.core.0 (P.port port.new).calls ≡ self.new.phase }
+    {
+        match self.unit(job) {
+            Op::Run => self.work(tick, job),
+            Op::Lock(res) => if self.is_waiting() {
+                self.poll(port, tick, job, res)
+            } else if self.levels.is_global(res) {
+                self.request(port, tick, job, res)
+            } else {
+                self.lock(tick, job, res)
+            },
+            Op::Unlock(res) => if self.is_holding(res) {
+                self.release(port, tick, job, res)
+            } else {
+                self.unlock(tick, job, res)
+            },
+        }
+    }
+
+    /// The turn of who was chosen, or of nobody: then the core idles.
+    pub(crate) fn act_chosen<P: Port>(
+        &mut self,
+        port: &mut P,
+        tick: u32,
+        chosen: Option<JobId>,
+    ) -> Row
+        requires jobs { AreJobs self.old }
+        requires running { ForSome chosen (IsRunning self.old) }
+        requires call { CanCall self.old (P.port port.old) }
+        ensures acts { ActsFor self.old self.new chosen tick result }
+        ensures call { (res : Resource) → result.res ≡ Some res → is_global self.old.plan.now res.0 ≡ true → MakesCall self.old.plan.now result (P.port port.old) (P.port port.new) }
+        ensures quiet { IsQuiet self.old.plan.now result → port.new ≡ port.old }
+        ensures claim { claim_in self.old.core.0 (P.port port.new).calls ≡ self.new.phase }
+    {
+        match chosen {
+            None => idle_row(self.core, tick),
+            Some(job) => self.act(port, tick, job),
+        }
+    }
+}
