@@ -13,7 +13,7 @@ use Rattle.msrp_plan.specs.declared.rows.Row.{Row}
 use Rattle.msrp_plan.proofs.CoreJobs.{job_on_core}
 use Rattle.msrp_plan.proofs.JobLists.{core_jobs_below}
 use Rattle.msrp_plan.proofs.RoundRobin.{IsAscendingTo, ascending_order, ascending_run, ascending_start, ascending_tick, ascending_turn, log_due, log_other, log_own}
-use Rattle.msrp_core.specs.Machine.{MachineModel, StandsAfter}
+use Rattle.msrp_work.specs.Machine.{MachineModel, StandsAfter}
 use Rattle.msrp_trace.specs.TraceText.{is_named}
 use Rattle.msrp_trace.proofs.Records.{named-from}
 use Rattle.msrp.specs.Turns.{AreMachines, HaveRun, IsMachineAfter}

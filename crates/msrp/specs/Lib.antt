@@ -1,3 +1,4 @@
 pub mod Turns
 pub mod Outcomes
 pub mod Simulation
+pub mod CheckText

@@ -9,7 +9,7 @@ ghost use Rattle.msrp.specs.Turns.{HaveRun};
 
 use crate::cores::{machines_of, write_tick};
 use crate::faults::CliFault;
-use msrp_core::Machine;
+use msrp_work::Machine;
 use msrp_plan::bytes::{Sink, Source};
 use msrp_plan::{Plan, PlanFault, TextVersion, WriteFault};
 use msrp_text::{TextError, read_plan, write_plan};

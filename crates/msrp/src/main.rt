@@ -4,6 +4,7 @@
 //! prints the line of a fault and gives the exit status.
 #![tactic(auto)]
 
+mod check;
 mod cli;
 mod cores;
 mod engine;
@@ -11,6 +12,7 @@ mod faults;
 #[cfg(test)]
 mod tests;
 
+use check::check_text;
 use cli::{Cmd, TurnOrder, command_of, help_text};
 use engine::{plan_text, sim_text};
 use faults::{CliFault, exit_of};
@@ -76,6 +78,10 @@ fn run(rt: &HostRuntime) -> Result<u8, CliFault> {
         Cmd::CheckText { plan } => {
             let mut source = Source::new(open(rt, plan)?);
             plan_text(alloc, &mut source, &mut out)
+        }
+        Cmd::Check { plan } => {
+            let mut source = Source::new(open(rt, plan)?);
+            check_text(alloc, &mut source, &mut out)
         }
         _ => Err(CliFault::Usage),
     }

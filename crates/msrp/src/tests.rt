@@ -120,7 +120,7 @@ fn the_same_plan(rt: HostRuntime) {
 fn refusals(rt: HostRuntime) {
     let table: [(&[u8], u32, u32); 28] = [
         (b"", 1, 1),
-        (b"msrp,2\n", 1, 1),
+        (b"msrp,3\n", 1, 1),
         (b"msrp,1,\n", 1, 1),
         (b"msrp,1\n", 2, 2),
         (b"msrp,1\nticks,3\n", 2, 2),

@@ -4,7 +4,7 @@ use Rattle.std.proofs.lemmas.Grind.{flat_map-append}
 use Rattle.msrp_plan.specs.Plan.{PlanModel}
 use Rattle.msrp_plan.specs.declared.rows.Row.{Row}
 use Rattle.msrp_plan.specs.declared.rows.TextVersion.TheVariants.{V1}
-use Rattle.msrp_core.specs.Machine.{MachineModel}
+use Rattle.msrp_work.specs.Machine.{MachineModel}
 use Rattle.msrp_trace.specs.TraceText.{row_text}
 use Rattle.msrp.specs.Turns.{HaveRun}
 use Rattle.msrp_trace.proofs.Gathered.{gathers-as, gathers-more, gathers-nothing}
