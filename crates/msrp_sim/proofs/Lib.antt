@@ -4,3 +4,4 @@ pub mod Serving
 pub mod Rounds
 pub mod Given
 pub mod Turns
+pub mod NextTurn

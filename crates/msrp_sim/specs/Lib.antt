@@ -3,3 +3,4 @@ pub mod FifoView
 pub mod Orders
 pub mod TurnCounts
 pub mod Simulated
+pub mod SimView

@@ -6,8 +6,8 @@ use Rattle.msrp_plan.specs.Levels.{is_global}
 use Rattle.msrp_plan.specs.Logs.{IsDueTurn, core_order, log_of}
 use Rattle.msrp_plan.specs.LockStates.{lock_at}
 use Rattle.msrp_plan.specs.Runs.{EachAfter, IsRun}
-use Rattle.msrp_plan.specs.WellFormed.{IsPlan}
 use Rattle.msrp_plan.specs.declared.rows.Row.{Row}
+use Rattle.msrp_plan.specs.declared.units.Phase.TheVariants.{Free}
 use Rattle.msrp_core.specs.Machine.{MachineModel, StandsAfter}
 use Rattle.msrp_core.specs.Ports.{claim_in}
 use Rattle.msrp_sim.specs.Served.{FifoModel, as_port, lock_after_calls}
@@ -33,6 +33,18 @@ pub record AreMachines (plan : PlanModel) (rows : List Row) (port : FifoModel) (
   pub size : length machines ≡ n
   pub each : (c : ℕ) (d : MachineModel) → c < n → IsMachineAfter plan rows port c (slice_index_or machines c d)
 
+-- a machine before its first turn
+pub record IsNew (plan : PlanModel) (c : ℕ) (m : MachineModel) : Type 0 where
+  pub same_plan : m.plan ≡ plan
+  pub same_core : m.core ≡ c
+  pub free : m.phase ≡ Free
+  pub stands : StandsAfter m []
+
+-- the machines of the first n cores, in order, before their first turns
+pub record AreNew (plan : PlanModel) (n : ℕ) (machines : List MachineModel) : Type 0 where
+  pub size : length machines ≡ n
+  pub each : (c : ℕ) (d : MachineModel) → c < n → IsNew plan c (slice_index_or machines c d)
+
 -- what these rows leave in the machines and in the port
 pub record IsLeftBy (plan : PlanModel) (rows : List Row) (machines : List MachineModel) (port : FifoModel) : Type 0 where
   pub turns : EachAfter (IsDueTurn plan) [] rows
@@ -43,7 +55,6 @@ pub record IsLeftBy (plan : PlanModel) (rows : List Row) (machines : List Machin
 
 -- the simulation made these rows, in its order
 pub record HasMade (sim : SimModel) (rows : List Row) : Type 0 where
-  pub plan : IsPlan sim.plan
   pub order : core_order rows ≡ take sim.turn sim.order
   pub left : IsLeftBy sim.plan rows sim.machines sim.port
 
