@@ -9,10 +9,10 @@ ghost use Rattle.msrp_trace.specs.TraceText.{row_text};
 ghost use Rattle.msrp.specs.Turns.{AreMachines, CanTick, HaveTicked};
 
 use crate::faults::CliFault;
-use msrp_work::Machine;
 use msrp_plan::bytes::Sink;
 use msrp_plan::{CoreId, Plan, TextVersion};
 use msrp_trace::TraceWriter;
+use msrp_work::Machine;
 use std::alloc::Global;
 use std::io::Write;
 

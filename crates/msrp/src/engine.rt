@@ -9,11 +9,11 @@ ghost use Rattle.msrp.specs.Turns.{HaveRun};
 
 use crate::cores::{machines_of, write_tick};
 use crate::faults::CliFault;
-use msrp_work::Machine;
 use msrp_plan::bytes::{Sink, Source};
 use msrp_plan::{Plan, PlanFault, TextVersion, WriteFault};
 use msrp_text::{TextError, read_plan, write_plan};
 use msrp_trace::TraceWriter;
+use msrp_work::Machine;
 use std::alloc::Global;
 use std::io::{Read, Write};
 
