@@ -1,3 +1,2 @@
-pub mod Gathered
-pub mod Records
 pub mod Machines
+pub mod CheckRecords

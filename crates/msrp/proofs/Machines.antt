@@ -13,8 +13,9 @@ use Rattle.msrp_plan.specs.declared.rows.Row.{Row}
 use Rattle.msrp_plan.proofs.CoreJobs.{job_on_core}
 use Rattle.msrp_plan.proofs.JobLists.{core_jobs_below}
 use Rattle.msrp_plan.proofs.RoundRobin.{IsAscendingTo, ascending_order, ascending_run, ascending_start, ascending_tick, ascending_turn, log_due, log_other, log_own}
-use Rattle.msrp_core.specs.Machine.{MachineModel, StandsAfter}
-use Rattle.msrp.specs.TraceText.{IsNamed}
+use Rattle.msrp_work.specs.Machine.{MachineModel, StandsAfter}
+use Rattle.msrp_trace.specs.TraceText.{is_named}
+use Rattle.msrp_trace.proofs.Records.{named-from}
 use Rattle.msrp.specs.Turns.{AreMachines, HaveRun, IsMachineAfter}
 
 rows_are : (plan : PlanModel) (t c : ℕ) (rows : List Row) (machines : List MachineModel) → HaveRun plan t c rows machines → IsAscendingTo plan t c rows
@@ -77,8 +78,8 @@ quiet_res plan None e = tt
 quiet_res plan (Some g) e = absurd (cc)
 
 -- the row of a turn on no resource names what the plan has
-pub turn_named : (plan : PlanModel) (c : ℕ) (log : List Row) (r : Row) → IsCoreTurn plan c log r → r.res ≡ None → IsNamed plan r
-turn_named plan c log r turn quiet = record { job = named_job plan c log r r.job turn refl; res = quiet_res plan r.res quiet }
+pub turn_named : (plan : PlanModel) (c : ℕ) (log : List Row) (r : Row) → IsCoreTurn plan c log r → r.res ≡ None → is_named plan r ≡ true
+turn_named plan c log r turn quiet = named-from plan r (named_job plan c log r r.job turn refl) (quiet_res plan r.res quiet)
 
 -- ---- the turn of the next core, by what its machine promises
 next_core : (plan : PlanModel) (t c : ℕ) (rows : List Row) (machines : List MachineModel) → HaveRun plan t c rows machines → c < length machines → c < plan.cores
@@ -105,7 +106,7 @@ next_turn plan t c rows machines d r h l turn =
 
 -- its row names what the plan has
 pub next_named : (plan : PlanModel) (t c : ℕ) (rows : List Row) (machines : List MachineModel) (d : MachineModel) (r : Row) → HaveRun plan t c rows machines → c < length machines
-    → ((log : List Row) → StandsAfter (get_or machines c d) log → IsCoreTurn (get_or machines c d).plan (get_or machines c d).core log r) → r.res ≡ None → IsNamed plan r
+    → ((log : List Row) → StandsAfter (get_or machines c d) log → IsCoreTurn (get_or machines c d).plan (get_or machines c d).core log r) → r.res ≡ None → is_named plan r ≡ true
 next_named plan t c rows machines d r h l turn quiet = turn_named plan c (log_of c rows) r (next_turn plan t c rows machines d r h l turn) quiet
 
 -- and goes on the run

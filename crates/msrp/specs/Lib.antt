@@ -1,5 +1,4 @@
-pub mod TraceText
-pub mod Gathering
 pub mod Turns
 pub mod Outcomes
 pub mod Simulation
+pub mod CheckText

@@ -5,7 +5,7 @@ use Rattle.msrp_plan.specs.Plan.{PlanModel}
 use Rattle.msrp_plan.specs.Runs.{EachAfter}
 use Rattle.msrp_plan.specs.Logs.{IsDueTurn, ascending, core_order, log_of}
 use Rattle.msrp_plan.specs.declared.rows.Row.{Row}
-use Rattle.msrp_core.specs.Machine.{MachineModel, StandsAfter}
+use Rattle.msrp_work.specs.Machine.{MachineModel, StandsAfter}
 
 -- the machine of a core stands after that core's rows
 pub record IsMachineAfter (plan : PlanModel) (rows : List Row) (c : ℕ) (m : MachineModel) : Type 0 where

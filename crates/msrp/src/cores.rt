@@ -3,15 +3,16 @@
 ghost use Rattle.std.specs.Prelude.{◌≡◌, List, [], IfOk, IfErr};
 ghost use Rattle.std.specs.List.{flat_map};
 ghost use Rattle.msrp_plan.specs.declared.rows.Row.{Row};
-ghost use Rattle.msrp.specs.Gathering.{Gathers};
-ghost use Rattle.msrp.specs.TraceText.{row_text};
+ghost use Rattle.msrp_plan.specs.declared.rows.TextVersion.TheVariants.{V1};
+ghost use Rattle.msrp_trace.specs.Gathering.{Gathers};
+ghost use Rattle.msrp_trace.specs.TraceText.{row_text};
 ghost use Rattle.msrp.specs.Turns.{AreMachines, CanTick, HaveTicked};
 
 use crate::faults::CliFault;
-use crate::trace::TraceWriter;
-use msrp_core::Machine;
+use msrp_work::Machine;
 use msrp_plan::bytes::Sink;
-use msrp_plan::{CoreId, Plan};
+use msrp_plan::{CoreId, Plan, TextVersion};
+use msrp_trace::TraceWriter;
 use std::alloc::Global;
 use std::io::Write;
 
@@ -37,11 +38,11 @@ pub fn write_tick<W: Write>(
 )
     requires { CanTick plan.now machines.old }
     ensures { (block : List Row)
-        × Gathers W.contents text.old out.old text.new out.new (flat_map (row_text plan.now) block)
+        × Gathers W.contents text.old out.old text.new out.new (flat_map (row_text V1 plan.now) block)
         × HaveTicked plan.now machines.old machines.new block }
 {
     for machine in machines.iter_mut() {
         let row = machine.turn();
-        text.row(out, plan, &row);
+        text.row(out, plan, TextVersion::V1, &row);
     }
 }

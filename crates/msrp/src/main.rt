@@ -4,16 +4,17 @@
 //! prints the line of a fault and gives the exit status.
 #![tactic(auto)]
 
+mod check;
 mod cli;
 mod cores;
 mod engine;
 mod faults;
 #[cfg(test)]
 mod tests;
-mod trace;
 
+use check::check_text;
 use cli::{Cmd, TurnOrder, command_of, help_text};
-use engine::sim_text;
+use engine::{plan_text, sim_text};
 use faults::{CliFault, exit_of};
 use msrp_plan::bytes::{Sink, Source};
 use std::fs::File;
@@ -73,6 +74,14 @@ fn run(rt: &HostRuntime) -> Result<u8, CliFault> {
         } => {
             let mut source = Source::new(open(rt, plan)?);
             sim_text(alloc, &mut source, &mut out)
+        }
+        Cmd::CheckText { plan } => {
+            let mut source = Source::new(open(rt, plan)?);
+            plan_text(alloc, &mut source, &mut out)
+        }
+        Cmd::Check { plan } => {
+            let mut source = Source::new(open(rt, plan)?);
+            check_text(alloc, &mut source, &mut out)
         }
         _ => Err(CliFault::Usage),
     }

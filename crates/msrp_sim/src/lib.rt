@@ -2,5 +2,7 @@
 #![tactic(auto)]
 
 mod fifo;
+mod orders;
 
 pub use fifo::FifoPort;
+pub use orders::{Order, orders_of_turns};

@@ -3,16 +3,17 @@ use Rattle.std.specs.List.{flat_map}
 use Rattle.std.proofs.lemmas.Grind.{flat_map-append}
 use Rattle.msrp_plan.specs.Plan.{PlanModel}
 use Rattle.msrp_plan.specs.declared.rows.Row.{Row}
-use Rattle.msrp_core.specs.Machine.{MachineModel}
-use Rattle.msrp.specs.TraceText.{row_text}
+use Rattle.msrp_plan.specs.declared.rows.TextVersion.TheVariants.{V1}
+use Rattle.msrp_work.specs.Machine.{MachineModel}
+use Rattle.msrp_trace.specs.TraceText.{row_text}
 use Rattle.msrp.specs.Turns.{HaveRun}
-use Rattle.msrp.proofs.Gathered.{gathers-as, gathers-more, gathers-nothing}
+use Rattle.msrp_trace.proofs.Gathered.{gathers-as, gathers-more, gathers-nothing}
 use Rattle.msrp.proofs.Machines.{next_named, next_run, next_tick, run_tick}
 use Rattle.msrp.proofs.cores.write_tick.Goals as goal
 
 -- the text of one row more
-rows_more : (plan : PlanModel) (rows : List Row) (r : Row) → flat_map (row_text plan) rows ++ row_text plan r ≡ flat_map (row_text plan) (rows ++ r ∷ [])
-rows_more plan rows r = sym (flat_map-append (row_text plan) rows (r ∷ []) ∙ ap (λ t. flat_map (row_text plan) rows ++ t) (append-nil (row_text plan r)))
+rows_more : (plan : PlanModel) (rows : List Row) (r : Row) → flat_map (row_text V1 plan) rows ++ row_text V1 plan r ≡ flat_map (row_text V1 plan) (rows ++ r ∷ [])
+rows_more plan rows r = sym (flat_map-append (row_text V1 plan) rows (r ∷ []) ∙ ap (λ t. flat_map (row_text V1 plan) rows ++ t) (append-nil (row_text V1 plan r)))
 
 pub turn-row-requires : goal.turn-row-requires
 turn-row-requires g c =

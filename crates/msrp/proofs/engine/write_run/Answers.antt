@@ -3,20 +3,21 @@ use Rattle.std.specs.List.{flat_map}
 use Rattle.std.proofs.lemmas.Grind.{flat_map-append}
 use Rattle.msrp_plan.specs.Plan.{PlanModel}
 use Rattle.msrp_plan.specs.declared.rows.Row.{Row}
-use Rattle.msrp_core.specs.Machine.{MachineModel}
-use Rattle.msrp.specs.TraceText.{head_text, row_text, trace_text}
+use Rattle.msrp_plan.specs.declared.rows.TextVersion.TheVariants.{V1}
+use Rattle.msrp_work.specs.Machine.{MachineModel}
+use Rattle.msrp_trace.specs.TraceText.{head_text, row_text, trace_text}
 use Rattle.msrp.specs.Turns.{HaveRun}
-use Rattle.msrp.proofs.Gathered.{gathers-all, gathers-as, gathers-more}
+use Rattle.msrp_trace.proofs.Gathered.{gathers-all, gathers-as, gathers-more}
 use Rattle.msrp.proofs.Machines.{run_order, run_whole}
 use Rattle.msrp.proofs.engine.write_run.Goals as goal
 
 -- the text of one block of rows more
-trace_more : (plan : PlanModel) (rows block : List Row) → trace_text plan rows ++ flat_map (row_text plan) block ≡ trace_text plan (rows ++ block)
-trace_more plan rows block = append_assoc (head_text plan) (flat_map (row_text plan) rows) (flat_map (row_text plan) block)
-    ∙ ap (λ t. head_text plan ++ t) (sym (flat_map-append (row_text plan) rows block))
+trace_more : (plan : PlanModel) (rows block : List Row) → trace_text V1 plan rows ++ flat_map (row_text V1 plan) block ≡ trace_text V1 plan (rows ++ block)
+trace_more plan rows block = append_assoc (head_text V1 plan) (flat_map (row_text V1 plan) rows) (flat_map (row_text V1 plan) block)
+    ∙ ap (λ t. head_text V1 plan ++ t) (sym (flat_map-append (row_text V1 plan) rows block))
 
 pub loop-tick-init : goal.loop-tick-init
-loop-tick-init g c = ([], gathers-as _ _ _ _ _ _ _ (sym (append-nil (head_text c.args.plan.now))) (rw c.new-text.ensures at c.head.ensures), c.requires)
+loop-tick-init g c = ([], gathers-as _ _ _ _ _ _ _ (sym (append-nil (head_text V1 c.args.plan.now))) (rw c.new-text.ensures at c.head.ensures), c.requires)
 
 pub loop-tick-preserved : goal.loop-tick-preserved
 loop-tick-preserved g c =

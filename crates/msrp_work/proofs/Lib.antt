@@ -1,0 +1,4 @@
+pub mod Scans
+pub mod Choosing
+pub mod Standing
+pub mod Gathering
