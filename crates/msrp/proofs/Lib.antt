@@ -1,2 +1,3 @@
-pub mod Machines
 pub mod CheckRecords
+pub mod NamedRows
+pub mod SimAnswers

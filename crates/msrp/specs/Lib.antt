@@ -1,4 +1,3 @@
-pub mod Turns
 pub mod Outcomes
 pub mod Simulation
 pub mod CheckText

@@ -1,4 +1,0 @@
-pub mod Scans
-pub mod Choosing
-pub mod Standing
-pub mod Gathering
