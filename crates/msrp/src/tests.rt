@@ -3,7 +3,9 @@
 use crate::cli::{Cmd, TurnOrder, command_of};
 use crate::engine::{plan_text, sim_text};
 use crate::faults::{CliFault, exit_of};
+use msrp_plan::TextVersion;
 use msrp_plan::bytes::{Sink, Source};
+use msrp_sim::Order;
 use std::alloc::{AllocError, Global};
 use std::io;
 use std::io::{ErrorKind, Read, Write};
@@ -21,7 +23,7 @@ fn answer_to(alloc: Global, plan: &[u8]) -> (Result<u8, CliFault>, Vec<u8>) {
     let mut written = Vec::new(alloc);
     let mut source = Source::new(plan);
     let mut out = Sink::new(&mut written);
-    let answer = sim_text(alloc, &mut source, &mut out);
+    let answer = sim_text(alloc, &mut source, &mut out, &Order::Asc, TextVersion::V1);
     (answer, written)
 }
 
@@ -56,6 +58,103 @@ fn plans_are_checked_as_text(rt: HostRuntime) {
     }
     let (answer, written) = text_of(rt.alloc(), b"msrp,1\ncores,1\nticks,3\nlisted,a,0,4\n");
     assert!(rt; answer == refusal(2, 4));
+    assert!(rt; written.is_empty());
+}
+
+// The answer in an order, with what was written.
+fn answer_in(
+    alloc: Global,
+    plan: &[u8],
+    order: &Order,
+    version: TextVersion,
+) -> (Result<u8, CliFault>, Vec<u8>) {
+    let mut written = Vec::new(alloc);
+    let mut source = Source::new(plan);
+    let mut out = Sink::new(&mut written);
+    let answer = sim_text(alloc, &mut source, &mut out, order, version);
+    (answer, written)
+}
+
+// Two tasks on two cores meet at a resource.
+const MEET: &[u8] =
+    b"msrp,1\ncores,2\nticks,6\nresource,g\ntask,a,0,20,8,0\nop,lock,g\nop,run,1\nop,unlock,g\ntask,b,1,20,8,0\nop,lock,g\nop,run,1\nop,unlock,g\n";
+
+const HANDED_OVER: &[u8] =
+    b"msrp-trace,1,2,6\n0,0,take,a,0,g\n0,1,queue,b,0,g\n1,0,run,a,0,-\n1,1,spin,b,0,g\n2,0,release,a,0,g\n2,1,grant,b,0,g\n3,0,idle,-,-,-\n3,1,run,b,0,-\n4,0,idle,-,-,-\n4,1,release,b,0,g\n5,0,idle,-,-,-\n5,1,idle,-,-,-\n";
+
+#[test]
+fn handover_within_a_tick_and_a_tick_later(rt: HostRuntime) -> Result<(), Fail> {
+    let (answer, written) = answer_to(rt.alloc(), MEET);
+    assert!(rt; answer == Ok(0));
+    assert!(rt; written.as_slice() == HANDED_OVER);
+    let given = Order::Given(vec![in rt.alloc(); 0, 1, 0, 1, 1, 0, 0, 1, 0, 1, 0, 1]?);
+    let (answer, written) = answer_in(rt.alloc(), MEET, &given, TextVersion::V1);
+    assert!(rt; answer == Ok(0));
+    assert!(rt;
+        written.as_slice()
+            == b"msrp-trace,1,2,6\n0,0,take,a,0,g\n0,1,queue,b,0,g\n1,0,run,a,0,-\n1,1,spin,b,0,g\n2,1,spin,b,0,g\n2,0,release,a,0,g\n3,0,idle,-,-,-\n3,1,grant,b,0,g\n4,0,idle,-,-,-\n4,1,run,b,0,-\n5,0,idle,-,-,-\n5,1,release,b,0,g\n".as_slice()
+    );
+    let (answer, written) = answer_in(rt.alloc(), MEET, &Order::Asc, TextVersion::V2);
+    assert!(rt; answer == Ok(0));
+    assert!(rt;
+        written.as_slice().starts_with(
+            b"msrp-trace,2,2,6\n0,0,take,a,0,g,-\n0,1,queue,b,0,g,1\n1,0,run,a,0,-,-\n"
+        )
+    );
+    let short = Order::Given(vec![in rt.alloc(); 0, 1, 0, 1]?);
+    let (answer, written) = answer_in(rt.alloc(), MEET, &short, TextVersion::V1);
+    assert!(rt; answer == Err(CliFault::Usage));
+    assert!(rt; written.is_empty());
+    Ok(())
+}
+
+#[test]
+fn three_cores_falling(rt: HostRuntime) {
+    let plan: &[u8] =
+        b"msrp,1\ncores,3\nticks,7\nresource,g\ntask,a,0,20,10,0\nop,lock,g\nop,run,1\nop,unlock,g\ntask,b,1,20,10,0\nop,lock,g\nop,run,1\nop,unlock,g\ntask,c,2,20,10,0\nop,lock,g\nop,run,1\nop,unlock,g\n";
+    let (answer, written) = answer_in(rt.alloc(), plan, &Order::Desc, TextVersion::V2);
+    assert!(rt; answer == Ok(0));
+    assert!(rt;
+        written.as_slice()
+            == b"msrp-trace,2,3,7\n0,2,take,c,0,g,-\n0,1,queue,b,0,g,1\n0,0,queue,a,0,g,2\n1,2,run,c,0,-,-\n1,1,spin,b,0,g,-\n1,0,spin,a,0,g,-\n2,2,release,c,0,g,-\n2,1,grant,b,0,g,-\n2,0,spin,a,0,g,-\n3,2,idle,-,-,-,-\n3,1,run,b,0,-,-\n3,0,spin,a,0,g,-\n4,2,idle,-,-,-,-\n4,1,release,b,0,g,-\n4,0,grant,a,0,g,-\n5,2,idle,-,-,-,-\n5,1,idle,-,-,-,-\n5,0,run,a,0,-,-\n6,2,idle,-,-,-,-\n6,1,idle,-,-,-,-\n6,0,release,a,0,g,-\n".as_slice()
+    );
+}
+
+#[test]
+fn a_second_request_after_one_other(rt: HostRuntime) {
+    let plan: &[u8] =
+        b"msrp,1\ncores,2\nticks,5\nresource,g\ntask,a,0,20,10,0\nop,lock,g\nop,unlock,g\nop,lock,g\nop,unlock,g\ntask,b,1,20,10,0\nop,lock,g\nop,unlock,g\n";
+    let (answer, written) = answer_in(rt.alloc(), plan, &Order::Rot, TextVersion::V1);
+    assert!(rt; answer == Ok(0));
+    assert!(rt;
+        written.as_slice()
+            == b"msrp-trace,1,2,5\n0,0,take,a,0,g\n0,1,queue,b,0,g\n1,1,spin,b,0,g\n1,0,release,a,0,g\n2,0,queue,a,0,g\n2,1,grant,b,0,g\n3,1,release,b,0,g\n3,0,grant,a,0,g\n4,0,release,a,0,g\n4,1,idle,-,-,-\n".as_slice()
+    );
+}
+
+#[test]
+fn global_and_local_sections(rt: HostRuntime) {
+    let table: [(&[u8], &[u8]); 2] = [
+        // A job within a global section is not preempted.
+        (
+            b"msrp,1\ncores,2\nticks,7\nresource,g\ntask,lo,0,20,10,0\nop,lock,g\nop,run,3\nop,unlock,g\ntask,hi,0,20,6,1\nop,run,1\ntask,other,1,20,10,7\nop,lock,g\nop,unlock,g\n",
+            b"msrp-trace,1,2,7\n0,0,take,lo,0,g\n0,1,idle,-,-,-\n1,0,run,lo,0,-\n1,1,idle,-,-,-\n2,0,run,lo,0,-\n2,1,idle,-,-,-\n3,0,run,lo,0,-\n3,1,idle,-,-,-\n4,0,release,lo,0,g\n4,1,idle,-,-,-\n5,0,run,hi,0,-\n5,1,idle,-,-,-\n6,0,idle,-,-,-\n6,1,idle,-,-,-\n",
+        ),
+        // A local section within a global one.
+        (
+            b"msrp,1\ncores,2\nticks,5\nresource,g\nresource,h\ntask,a,0,20,10,0\nop,lock,g\nop,lock,h\nop,unlock,h\nop,unlock,g\ntask,b,1,20,10,0\nop,lock,g\nop,unlock,g\n",
+            b"msrp-trace,1,2,5\n0,0,take,a,0,g\n0,1,queue,b,0,g\n1,0,lock,a,0,h\n1,1,spin,b,0,g\n2,0,unlock,a,0,h\n2,1,spin,b,0,g\n3,0,release,a,0,g\n3,1,grant,b,0,g\n4,0,idle,-,-,-\n4,1,release,b,0,g\n",
+        ),
+    ];
+    for (plan, trace) in table {
+        let (answer, written) = answer_to(rt.alloc(), plan);
+        assert!(rt; answer == Ok(0));
+        assert!(rt; written.as_slice() == trace);
+    }
+    let within: &[u8] =
+        b"msrp,1\ncores,2\nticks,5\nresource,g\nresource,h\ntask,a,0,20,10,0\nop,lock,g\nop,lock,h\nop,unlock,h\nop,unlock,g\ntask,b,1,20,10,0\nop,lock,g\nop,unlock,g\nop,lock,h\nop,unlock,h\n";
+    let (answer, written) = answer_to(rt.alloc(), within);
+    assert!(rt; answer == refusal(11, 16));
     assert!(rt; written.is_empty());
 }
 
@@ -118,7 +217,7 @@ fn the_same_plan(rt: HostRuntime) {
 
 #[test]
 fn refusals(rt: HostRuntime) {
-    let table: [(&[u8], u32, u32); 28] = [
+    let table: [(&[u8], u32, u32); 27] = [
         (b"", 1, 1),
         (b"msrp,3\n", 1, 1),
         (b"msrp,1,\n", 1, 1),
@@ -134,7 +233,6 @@ fn refusals(rt: HostRuntime) {
         (b"msrp,1\ncores,1\ncores,1\n", 2, 3),
         (b"msrp,1\ncores,1\nticks,20001\n", 7, 3),
         (b"msrp,1\ncores,1\nticks,0\n", 7, 3),
-        (b"msrp,1\ncores,1\nticks,3\nresource,r\n", 2, 4),
         (b"msrp,1\ncores,1\nticks,3\nop,run,1\n", 2, 4),
         (b"msrp,1\ncores,1\nticks,3\ntask,A,0,3,3,0\n", 5, 4),
         (b"msrp,1\ncores,1\nticks,3\ntask,a,1,3,3,0\n", 9, 4),
@@ -274,7 +372,15 @@ fn a_byte_a_call(rt: HostRuntime) {
     let mut written = Vec::new(rt.alloc());
     let mut source = Source::new(reader_failing_at(0));
     let mut out = Sink::new(&mut written);
-    assert!(rt; sim_text(rt.alloc(), &mut source, &mut out) == Ok(0));
+    assert!(rt;
+        sim_text(
+            rt.alloc(),
+            &mut source,
+            &mut out,
+            &Order::Asc,
+            TextVersion::V1
+        ) == Ok(0)
+    );
     assert!(rt; !source.failed());
     assert!(rt; written.as_slice() == TRACE);
 }
@@ -287,7 +393,13 @@ fn each_read_fails_in_turn(rt: HostRuntime) {
         let mut source = Source::new(reader_failing_at(call));
         let mut out = Sink::new(&mut written);
         assert!(rt;
-            sim_text(rt.alloc(), &mut source, &mut out) == Err(CliFault::Read),
+            sim_text(
+                rt.alloc(),
+                &mut source,
+                &mut out,
+                &Order::Asc,
+                TextVersion::V1
+            ) == Err(CliFault::Read),
             "call {call}"
         );
         assert!(rt; source.failed(), "call {call}");
@@ -337,7 +449,7 @@ fn check_room(rt: &impl Abort, plan: &[u8], trace: &[u8], mut narrow: Narrow) {
     let alloc = *narrow.taken.allocator();
     let mut source = Source::new(plan);
     let mut out = Sink::new(&mut narrow);
-    let answer = sim_text(alloc, &mut source, &mut out);
+    let answer = sim_text(alloc, &mut source, &mut out, &Order::Asc, TextVersion::V1);
     let whole = room >= trace.len();
     let due = if whole { Ok(0) } else { Err(CliFault::Write) };
     assert!(rt; answer == due, "room {room}");
