@@ -4,6 +4,8 @@
 mod auditor;
 mod comparing;
 mod cores;
+#[cfg(test)]
+mod tests;
 mod verdicts;
 
 pub use auditor::Auditor;
