@@ -1,0 +1,9 @@
+//! A plan on threads: one worker for each core, on one board, and the trace of what they did.
+//!
+//! [`turn_on`] is one core's turn on a board. A [`Stage`] makes the turns of all cores, each on the thread of its core.
+#![tactic(auto)]
+
+mod port;
+mod turns;
+
+pub use turns::{Plain, Stage, turn_on};
