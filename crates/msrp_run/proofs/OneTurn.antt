@@ -222,7 +222,7 @@ run_longer : (plan : PlanModel) (c : ℕ) (turns : List Turn) (row : Row) (place
 run_longer plan c turns row place is run =
     subst (CoreRun plan c) (sym (map-append (λ (x : Turn). x.row) turns (record { row = row; place = place } ∷ []))) (each_push (IsCoreTurn plan c) [] (rows_of turns) row run is)
 
-rows_longer : (turns : List Turn) (row : Row) (place : Option Place) → rows_of turns ++ row ∷ [] ≡ rows_of (turns ++ record { row = row; place = place } ∷ [])
+pub rows_longer : (turns : List Turn) (row : Row) (place : Option Place) → rows_of turns ++ row ∷ [] ≡ rows_of (turns ++ record { row = row; place = place } ∷ [])
 rows_longer turns row place = sym (map-append (λ (x : Turn). x.row) turns (record { row = row; place = place } ∷ []))
 
 -- what is said of the machine and the row after the turn

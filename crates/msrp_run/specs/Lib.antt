@@ -1,3 +1,4 @@
 pub mod Ports
 pub mod Turns
 pub mod Work
+pub mod Threads

@@ -3,7 +3,14 @@
 //! [`turn_on`] is one core's turn on a board. A [`Stage`] makes the turns of all cores, each on the thread of its core.
 #![tactic(auto)]
 
+mod crew;
+mod hire;
 mod port;
+mod threads;
 mod turns;
+mod work;
 
+pub use hire::{Hire, RunError};
+pub use threads::{run_threads, run_threads_if};
 pub use turns::{Plain, Stage, turn_on};
+pub use work::worker;

@@ -58,7 +58,7 @@ pub fn turn_on(
 
 /// Makes the turns of the cores, each on the thread of its core: a way to put work of one's own beside them, between the
 /// admission to a tick and the arrival from it. Whatever else it does, each turn is one of [`turn_on`].
-pub trait Stage: Sync {
+pub trait Stage {
     /// The core's turn.
     fn turn(
         &self,
