@@ -1,3 +1,3 @@
-pub mod Gathered
-pub mod Records
-pub mod Machines
+pub mod CheckRecords
+pub mod NamedRows
+pub mod SimAnswers

@@ -1,5 +1,3 @@
-pub mod TraceText
-pub mod Gathering
-pub mod Turns
 pub mod Outcomes
 pub mod Simulation
+pub mod CheckText

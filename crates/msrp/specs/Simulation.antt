@@ -1,37 +1,43 @@
--- What a simulation of a plan writes and answers.
-use Rattle.std.specs.Prelude.{◌≡◌, ◌==◌, ℕ, List, length, cond, Option, Ok, Err}
+-- What a simulation of a plan, and a check of its text, write and answer.
+use Rattle.std.specs.Prelude.{◌≡◌, ℕ, List, cond, Option, Ok, Err}
 use Rattle.std.specs.declared.result.Result.{Result}
 use Rattle.msrp_plan.specs.Plan.{PlanModel}
-use Rattle.msrp_plan.specs.Runs.{IsRun}
-use Rattle.msrp_plan.specs.Logs.{ascending, core_order}
+use Rattle.msrp_plan.specs.Scheduling.{IsOrder}
 use Rattle.msrp_plan.specs.Bytes.{Wrote, sink_failed}
 use Rattle.msrp_plan.specs.declared.rows.Row.{Row}
 use Rattle.msrp_plan.specs.declared.bytes.Sink.{Sink}
-use Rattle.msrp_plan.specs.declared.faults.PlanFault.TheVariants.{OutOfPlace}
+use Rattle.msrp_text.specs.PlanText.{plan_text}
 use Rattle.msrp_text.specs.declared.reading.TextError.{TextError}
-use Rattle.msrp_text.specs.declared.reading.TextError.TheVariants.{At}
-use Rattle.msrp.specs.TraceText.{trace_text}
+use Rattle.msrp_plan.specs.declared.rows.TextVersion.{TextVersion}
+use Rattle.msrp_sim.specs.Orders.{cores_of}
+use Rattle.msrp_sim.specs.Simulated.{IsRunIn}
+use Rattle.msrp_sim.specs.declared.orders.Order.{Order}
+use Rattle.msrp_trace.specs.TraceText.{trace_text}
 use Rattle.msrp.specs.Outcomes.{fault_of}
 use Rattle.msrp.specs.declared.faults.CliFault.{CliFault}
-use Rattle.msrp.specs.declared.faults.CliFault.TheVariants.{Write}
+use Rattle.msrp.specs.declared.faults.CliFault.TheVariants.{Usage, Write}
 
--- the sink took the trace of a legal run of the plan in which the cores have their turns in rising order
-pub record WritesRun {W : Type 0} (contents : W → Option (List ℕ)) (plan : PlanModel) (old new : Sink W) : Type 0 where
+-- the sink took the text, in this version, of the trace of a whole run of the plan in this order
+pub record WritesRun {W : Type 0} (contents : W → Option (List ℕ)) (version : TextVersion) (plan : PlanModel) (order : List ℕ) (old new : Sink W) : Type 0 where
   pub rows : List Row
-  pub run : IsRun plan rows
-  pub order : core_order rows ≡ ascending plan.cores plan.ticks
-  pub text : Wrote contents old new (trace_text plan rows)
+  pub run : IsRunIn plan order rows
+  pub text : Wrote contents old new (trace_text version plan rows)
 
 -- 0 where the sink took it all, a write fault where it failed
 abbrev pub sim_status : {W : Type 0} → Sink W → Result ℕ CliFault
 sim_status new = cond (sink_failed new) (Err Write) (Ok 0)
 
--- for now a plan with resources is refused, at the record that declares the first
-abbrev pub work_alone : Result PlanModel TextError → Result PlanModel TextError
-work_alone (Err error) = Err error
-work_alone (Ok plan) = cond (length plan.resources == 0) (Ok plan) (Err (At OutOfPlace 4))
+-- what a plan is answered in an order of it, and in a list that is no order of it: then nothing is written
+pub data SimAnswersPlan {W : Type 0} (contents : W → Option (List ℕ)) (version : TextVersion) (plan : PlanModel) (order : List ℕ) (old new : Sink W) (result : Result ℕ CliFault) : Type 0 where
+  Simulated : (is : IsOrder plan order) (writes : WritesRun contents version plan order old new) (status : result ≡ sim_status new) → SimAnswersPlan contents version plan order old new result
+  NoOrder : (isnt : ¬ IsOrder plan order) (usage : result ≡ Err Usage) (silent : new ≡ old) → SimAnswersPlan contents version plan order old new result
 
 -- the answer to a text that stands for a plan, or to one that is refused: then nothing is written
-abbrev pub SimAnswers : {W : Type 0} → (W → Option (List ℕ)) → Result PlanModel TextError → Sink W → Sink W → Result ℕ CliFault → Type 0
-SimAnswers contents (Ok plan) old new result = WritesRun contents plan old new × (result ≡ sim_status new)
-SimAnswers contents (Err error) old new result = (result ≡ Err (fault_of error)) × (new ≡ old)
+abbrev pub SimAnswers : {W : Type 0} → (W → Option (List ℕ)) → TextVersion → Order → Result PlanModel TextError → Sink W → Sink W → Result ℕ CliFault → Type 0
+SimAnswers contents version order (Ok plan) old new result = SimAnswersPlan contents version plan (cores_of order plan) old new result
+SimAnswers contents version order (Err error) old new result = (result ≡ Err (fault_of error)) × (new ≡ old)
+
+-- the same where the plan's own text is asked for
+abbrev pub PlanAnswers : {W : Type 0} → (W → Option (List ℕ)) → Result PlanModel TextError → Sink W → Sink W → Result ℕ CliFault → Type 0
+PlanAnswers contents (Ok plan) old new result = Wrote contents old new (plan_text plan) × (result ≡ sim_status new)
+PlanAnswers contents (Err error) old new result = (result ≡ Err (fault_of error)) × (new ≡ old)

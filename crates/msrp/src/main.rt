@@ -4,18 +4,23 @@
 //! prints the line of a fault and gives the exit status.
 #![tactic(auto)]
 
+mod check;
+
+ghost use Rattle.std.specs.Prelude.{◌≡◌, cond};
+
 mod cli;
-mod cores;
 mod engine;
 mod faults;
 #[cfg(test)]
 mod tests;
-mod trace;
 
+use check::check_text;
 use cli::{Cmd, TurnOrder, command_of, help_text};
-use engine::sim_text;
+use engine::{plan_text, sim_text};
 use faults::{CliFault, exit_of};
+use msrp_plan::TextVersion;
 use msrp_plan::bytes::{Sink, Source};
+use msrp_sim::Order;
 use std::fs::File;
 use std::io;
 use std::io::{ErrorKind, Read};
@@ -57,6 +62,30 @@ fn words_of(rt: &HostRuntime) -> Result<Vec<String>, CliFault> {
     }
 }
 
+// The order of turns that a word asks for.
+fn order_of(order: TurnOrder) -> Order
+    ensures asc { order ≡ TurnOrder.Asc → result ≡ Order.Asc }
+    ensures desc { order ≡ TurnOrder.Desc → result ≡ Order.Desc }
+    ensures rot { order ≡ TurnOrder.Rot → result ≡ Order.Rot }
+{
+    match order {
+        TurnOrder::Asc => Order::Asc,
+        TurnOrder::Desc => Order::Desc,
+        TurnOrder::Rot => Order::Rot,
+    }
+}
+
+// The version of a trace: the second tells aheads.
+fn version_of(ahead: bool) -> TextVersion
+    ensures { result ≡ cond ahead TextVersion.V2 TextVersion.V1 }
+{
+    if ahead {
+        TextVersion::V2
+    } else {
+        TextVersion::V1
+    }
+}
+
 fn run(rt: &HostRuntime) -> Result<u8, CliFault> {
     let alloc = rt.alloc();
     let words = words_of(rt)?;
@@ -66,13 +95,18 @@ fn run(rt: &HostRuntime) -> Result<u8, CliFault> {
             out.put(help_text(alloc)?.as_bytes())?;
             Ok(0)
         }
-        Cmd::Sim {
-            order: TurnOrder::Asc,
-            ahead: false,
-            plan,
-        } => {
+        Cmd::Sim { order, ahead, plan } => {
             let mut source = Source::new(open(rt, plan)?);
-            sim_text(alloc, &mut source, &mut out)
+            let order = order_of(order);
+            sim_text(alloc, &mut source, &mut out, &order, version_of(ahead))
+        }
+        Cmd::CheckText { plan } => {
+            let mut source = Source::new(open(rt, plan)?);
+            plan_text(alloc, &mut source, &mut out)
+        }
+        Cmd::Check { plan } => {
+            let mut source = Source::new(open(rt, plan)?);
+            check_text(alloc, &mut source, &mut out)
         }
         _ => Err(CliFault::Usage),
     }

@@ -1,7 +1,7 @@
 //! Bytes in, bytes out: worked plans, refusals, and readers and writers that fail.
 
 use crate::cli::{Cmd, TurnOrder, command_of};
-use crate::engine::sim_text;
+use crate::engine::{plan_text, sim_text};
 use crate::faults::{CliFault, exit_of};
 use msrp_plan::bytes::{Sink, Source};
 use std::alloc::{AllocError, Global};
@@ -23,6 +23,40 @@ fn answer_to(alloc: Global, plan: &[u8]) -> (Result<u8, CliFault>, Vec<u8>) {
     let mut out = Sink::new(&mut written);
     let answer = sim_text(alloc, &mut source, &mut out);
     (answer, written)
+}
+
+// The plan's own text.
+fn text_of(alloc: Global, plan: &[u8]) -> (Result<u8, CliFault>, Vec<u8>) {
+    let mut written = Vec::new(alloc);
+    let mut source = Source::new(plan);
+    let mut out = Sink::new(&mut written);
+    let answer = plan_text(alloc, &mut source, &mut out);
+    (answer, written)
+}
+
+#[test]
+fn plans_are_checked_as_text(rt: HostRuntime) {
+    const LISTED: &[u8] =
+        b"msrp,2\ncores,1\nticks,5\nlisted,a,0,4\nrelease,1\nrelease,3\nop,run,1\n";
+    let table: [(&[u8], &[u8]); 3] = [
+        (
+            b"msrp,1\ncores,1\nticks,3\ntask,a,0,3,3,0\nop,run,1\nop,run,1\n",
+            PLAN,
+        ),
+        (
+            b"msrp,2\ncores,1\nticks,3\ntask,a,0,3,3,0\nop,run,2\n",
+            PLAN,
+        ),
+        (LISTED, LISTED),
+    ];
+    for (plan, text) in table {
+        let (answer, written) = text_of(rt.alloc(), plan);
+        assert!(rt; answer == Ok(0));
+        assert!(rt; written.as_slice() == text);
+    }
+    let (answer, written) = text_of(rt.alloc(), b"msrp,1\ncores,1\nticks,3\nlisted,a,0,4\n");
+    assert!(rt; answer == refusal(2, 4));
+    assert!(rt; written.is_empty());
 }
 
 fn refusal(code: u32, number: u32) -> Result<u8, CliFault> {
@@ -86,7 +120,7 @@ fn the_same_plan(rt: HostRuntime) {
 fn refusals(rt: HostRuntime) {
     let table: [(&[u8], u32, u32); 28] = [
         (b"", 1, 1),
-        (b"msrp,2\n", 1, 1),
+        (b"msrp,3\n", 1, 1),
         (b"msrp,1,\n", 1, 1),
         (b"msrp,1\n", 2, 2),
         (b"msrp,1\nticks,3\n", 2, 2),

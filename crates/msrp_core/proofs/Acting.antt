@@ -1,8 +1,7 @@
 -- An action of the running job, over what is stored of the jobs of a core.
-use Rattle.std.proofs.Common.{◌≡◌, ◌≢◌, ℕ, ◌+◌, ◌<◌, ◌≤◌, ◌==◌, Bool, true, false, cond, not, nat_eq, ◌&&◌, ◌||◌, List, [], ◌∷◌, ◌++◌, Option, Some, None, refl, ap, sym, ◌∙◌, subst, arith, length, map, reverse, slice_get, vec_capacity, inl, inr}
-use Rattle.std.specs.List.{list_any, AllByRecursion, Contains}
-use Rattle.std.proofs.Math.Bool.{true≢false}
-use Rattle.std.proofs.lemmas.Bool.{eqb-true, eq-eqb, and_from}
+use Rattle.std.proofs.Common.{◌≡◌, ℕ, ◌+◌, ◌<◌, ◌≤◌, Bool, true, false, nat_eq, List, [], ◌∷◌, Option, Some, refl, ap, sym, ◌∙◌, subst, arith, length, slice_get, vec_capacity}
+use Rattle.std.specs.List.{list_any}
+use Rattle.std.proofs.lemmas.Bool.{eq-eqb, and_from}
 use Rattle.msrp_plan.specs.Plan.{PlanModel, units}
 use Rattle.msrp_plan.specs.Jobs.{jobs_on, is_waiting}
 use Rattle.msrp_plan.specs.WellFormed.{IsPlan}
@@ -17,14 +16,13 @@ use Rattle.msrp_plan.specs.declared.ids.ResId.{ResId}
 use Rattle.msrp_plan.specs.declared.rows.Kind.{Kind}
 use Rattle.msrp_plan.specs.declared.rows.Row.{Row}
 use Rattle.msrp_plan.specs.declared.units.Op.{Op}
-use Rattle.msrp_plan.specs.declared.units.Op.TheVariants.{Run as RunUnit, Lock as LockUnit, Unlock as UnlockUnit}
 use Rattle.msrp_plan.specs.declared.units.Phase.{Phase}
-use Rattle.msrp_plan.specs.declared.units.Phase.TheVariants.{Free, Queued, Holding}
+use Rattle.msrp_plan.specs.declared.units.Phase.TheVariants.{Queued, Holding}
 use Rattle.msrp_stack.specs.Stack.{StackModel, StartedJob, HasRoom, IsInnermost, with_held, without_held, without_first}
 use Rattle.msrp_core.specs.Going.{Going, going_of, advanced, is_waiting_phase, is_holding_phase, state_in, HoldSo, AreGoing}
-use Rattle.msrp_core.specs.CoreJobs.{going_in, state_of, AreJobs, IsRunning, IsSameStack, CanAct, Acts}
+use Rattle.msrp_core.specs.CoreJobs.{going_in, state_of, AreJobs, IsRunning, CanAct, Acts}
 use Rattle.msrp_core.specs.declared.jobs.Jobs.{Jobs}
-use Rattle.msrp_core.proofs.Steps.{IsStep, release_phase, advance_going, advance_states, last_free, wait_going, wait_states}
+use Rattle.msrp_core.proofs.Steps.{IsStep, advance_going, advance_states, last_free, wait_going, wait_states}
 
 -- ---- the newest with one resource more, and without the innermost
 abbrev pub kept_with : ℕ → List Going → List Going
@@ -197,17 +195,10 @@ module _ (old new : Jobs) (job : JobId) (op : Op) (tick : ℕ) (r : Row) (q : Ph
       (subst (λ p. AreGoing old.plan.now old.core.0 old.ready.taken p (record can.newest { held = held } ∷ can.below)) (sym is) (wait_going old.plan.now can.jobs_fit.accepted old.core.0 old.ready.taken can.newest can.below old.phase (going_at old job op can) g held holds)) left
       (λ j. ap (λ p. state_in old.plan.now old.ready.taken p (record can.newest { held = held } ∷ can.below) j) is ∙ wait_states old.plan.now can.jobs_fit.accepted old.core.0 old.ready.taken can.newest can.below old.phase (going_at old job op can) g held r row_job_is (ap is_waiting row.kind_is ∙ waits) j)
 
--- what the core holds is a global resource, and no other unlock is of one
-pub holding_is : (r : ResId) (p : Phase) → is_holding_phase r p ≡ true → p ≡ Holding r
-holding_is r Free e = absurd (true≢false (sym e))
-holding_is r (Queued g) e = absurd (true≢false (sym e))
-holding_is r (Holding g) e = let mk : ℕ → ResId = λ n. record { 0 = n } in ap (λ n. Holding (mk n)) (eqb-true g.0 r.0 e)
-
+-- the phase of a core that holds a resource passes the test for it
 pub holding_self : (r : ResId) → is_holding_phase r (Holding r) ≡ true
 holding_self r = eq-eqb r.0 r.0 refl
 
-pub holding_global : (plan : PlanModel) (p : Phase) (s : Going) (below : List Going) (r : ResId) → p ≡ Holding r → HoldSo plan p (s ∷ below) → is_global plan r.0 ≡ true
-holding_global plan p s below r e h = (subst (λ p. HoldSo plan p (s ∷ below)) e h).0.global
-
+-- what the core awaits is a global resource
 pub waiting_global : (plan : PlanModel) (p : Phase) (s : Going) (below : List Going) (r : ResId) → p ≡ Queued r → HoldSo plan p (s ∷ below) → is_global plan r.0 ≡ true
 waiting_global plan p s below r e h = (subst (λ p. HoldSo plan p (s ∷ below)) e h).0.global

@@ -1,12 +1,12 @@
 -- The choice of a core's next job, from the jobs that are ready and those that are going.
-use Rattle.std.proofs.Common.{◌≡◌, ℕ, zero, ◌+◌, ◌<◌, ◌≤◌, ◌==◌, Bool, true, false, cond, not, nat_eq, nat_lt, ◌&&◌, ◌||◌, max, List, [], ◌∷◌, ◌++◌, Option, Some, None, refl, ap, sym, ◌∙◌, subst, arith, length, map, take, take_all, slice_get, inl, inr}
+use Rattle.std.proofs.Common.{◌≡◌, ℕ, ◌<◌, ◌==◌, Bool, true, false, cond, not, nat_eq, ◌&&◌, ◌||◌, max, List, [], ◌∷◌, Some, refl, ap, sym, ◌∙◌, subst, arith, length, map, take, take_all, slice_get, inl, inr}
 use Rattle.std.specs.List.{list_any, filter, AllByRecursion, Contains}
-use Rattle.std.proofs.Math.Bool.{true≢false, or-true, or-false, and-false}
-use Rattle.std.proofs.lemmas.Bool.{cases_Bool, eqb-true, eq-eqb, lt-ltb, le-ltb, and_parts, and_from, false_from_ne_true, or_parts}
-use Rattle.std.proofs.lemmas.List.Elements.{All-contains, All-contains_itself, All-from_recursion, recursion_from_All, filter_agree}
-use Rattle.std.proofs.lemmas.Option.{none-some, slice_get_within, get_or_from_slice_get}
+use Rattle.std.proofs.Math.Bool.{true≢false, or-true}
+use Rattle.std.proofs.lemmas.Bool.{cases_Bool, eqb-true, eq-eqb, le-ltb, and_parts, and_from, false_from_ne_true, or_parts}
+use Rattle.std.proofs.lemmas.List.Elements.{All-contains, All-from_recursion, filter_agree}
+use Rattle.std.proofs.lemmas.Option.{slice_get_within, get_or_from_slice_get}
 use Rattle.msrp_plan.specs.Plan.{PlanModel, units}
-use Rattle.msrp_plan.specs.Units.{held_after, holds_after}
+use Rattle.msrp_plan.specs.Units.{holds_after}
 use Rattle.msrp_plan.specs.Jobs.{jobs_on, same_job, is_released, is_started, is_queued, is_finished, done, holds}
 use Rattle.msrp_plan.specs.Levels.{greatest, is_global, local_ceiling}
 use Rattle.msrp_plan.specs.Levels as levels
@@ -23,13 +23,13 @@ use Rattle.msrp_plan.specs.declared.units.Phase.TheVariants.{Free, Queued, Holdi
 use Rattle.msrp_plan.proofs.JobTests.{same_is, same_self}
 use Rattle.msrp_plan.proofs.Lists.{any_in, all_weaker, all_both}
 use Rattle.msrp_plan.proofs.Filters.{filter_same, any_same, all_of, any_map}
-use Rattle.msrp_plan.proofs.GlobalUse.{passing_place, passes_there}
-use Rattle.msrp_plan.proofs.PlanUnits.{units_balance, unit_in}
+use Rattle.msrp_plan.proofs.GlobalUse.{passing_place}
+use Rattle.msrp_plan.proofs.PlanUnits.{units_balance}
 use Rattle.msrp_plan.proofs.QueueLocks.{global_named}
 use Rattle.msrp_ready.specs.Ready.{is_among}
 use Rattle.msrp_stack.specs.Stack as stack
 use Rattle.msrp_stack.specs.Stack.{StartedJob}
-use Rattle.msrp_core.specs.Going.{Going, going_of, started_job, is_going, is_kept, done_in, is_waiting_phase, is_newest, state_in, IsGoing, AreApart, AreLocal, HoldsLocal, HoldsGlobal, AwaitsGlobal, HoldSo, AreGoing}
+use Rattle.msrp_core.specs.Going.{Going, going_of, started_job, is_going, is_kept, done_in, is_waiting_phase, is_newest, state_in, IsGoing, AreApart, HoldsLocal, AwaitsGlobal, HoldSo, AreGoing}
 use Rattle.msrp_core.proofs.HeldUnits.{held_test}
 
 -- two tests that imply one another
@@ -38,10 +38,7 @@ same_test true b f g = sym (f refl)
 same_test false true f g = g refl
 same_test false false f g = refl
 
--- what holds of each element of a list holds of all
-pub all_in : {X : Type 0} (P : X → Type 0) (xs : List X) → ((x : X) → Contains xs x → P x) → AllByRecursion P xs
-all_in P xs f = all_weaker (Contains xs) P f xs (recursion_from_All (Contains xs) xs (All-contains_itself xs))
-
+-- what holds of all elements of a list holds of each
 pub at_in : {X : Type 0} (P : X → Type 0) (xs : List X) (x : X) → AllByRecursion P xs → Contains xs x → P x
 at_in P xs x all there = All-contains P xs x (All-from_recursion P xs all) there
 

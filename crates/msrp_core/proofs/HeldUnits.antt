@@ -1,6 +1,6 @@
 -- What a job holds after its units so far, and after one unit more.
-use Rattle.std.proofs.Common.{◌≡◌, ℕ, zero, suc, ◌+◌, ◌<◌, ◌≤◌, ◌==◌, Bool, true, false, cond, nat_eq, nat_lt, ◌||◌, List, [], ◌∷◌, ◌++◌, Option, Some, None, refl, ap, sym, ◌∙◌, subst, arith, add-one, length, take, take_all, slice_get, inl, inr}
-use Rattle.std.specs.List.{list_any, count_by}
+use Rattle.std.proofs.Common.{◌≡◌, ℕ, zero, suc, ◌+◌, ◌≤◌, ◌==◌, Bool, true, false, cond, nat_eq, nat_lt, ◌||◌, List, [], ◌∷◌, ◌++◌, Some, None, refl, ap, sym, ◌∙◌, arith, add-one, length, take, take_all, slice_get, inl, inr}
+use Rattle.std.specs.List.{list_any}
 use Rattle.std.proofs.Math.Bool.{true≢false}
 use Rattle.std.proofs.Math.Seq.{take-suc}
 use Rattle.std.proofs.lemmas.Bool.{cases_Bool, eqb-true, eq-eqb, lt-ltb, le-ltb, false_from_ne_true}
@@ -11,7 +11,7 @@ use Rattle.msrp_plan.specs.Units.{held_with, held_after, holds_after, locks, unl
 use Rattle.msrp_plan.specs.WellFormed.{IsLocking, IsWhole}
 use Rattle.msrp_plan.specs.declared.ids.ResId.{ResId}
 use Rattle.msrp_plan.specs.declared.units.Op.{Op}
-use Rattle.msrp_plan.specs.declared.units.Op.TheVariants.{Run, Lock, Unlock}
+use Rattle.msrp_plan.specs.declared.units.Op.TheVariants.{Lock, Unlock}
 use Rattle.msrp_plan.proofs.Nesting.{held_times, held_push, even_after}
 
 -- ---- the test of what is held

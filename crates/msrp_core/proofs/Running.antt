@@ -1,24 +1,23 @@
 -- What is stored of the jobs of a core: who runs, who is chosen, and a job that starts.
-use Rattle.std.proofs.Common.{◌≡◌, ◌≢◌, ℕ, zero, suc, ◌+◌, ◌<◌, ◌≤◌, ◌==◌, Bool, true, false, cond, not, nat_eq, nat_lt, max, ◌⊎◌, ◌&&◌, ◌||◌, List, [], ◌∷◌, ◌++◌, Option, Some, None, refl, ap, sym, ◌∙◌, subst, arith, length, length-append, map, reverse, take, slice_get, inl, inr, get_or, ◌-◌, Vec, Global, vec_capacity, IsSome, unwrap_or}
+use Rattle.std.proofs.Common.{◌≡◌, ◌≢◌, ℕ, ◌+◌, ◌<◌, ◌≤◌, ◌==◌, Bool, true, false, cond, not, nat_eq, nat_lt, max, ◌⊎◌, ◌&&◌, ◌||◌, List, [], ◌∷◌, ◌++◌, Option, Some, None, refl, ap, sym, ◌∙◌, subst, arith, length, length-append, map, reverse, inl, inr, get_or, ◌-◌, Vec, Global, vec_capacity, IsSome, unwrap_or}
 use Rattle.std.specs.List.{list_any, filter, flat_map, AllByRecursion, Contains, IsDistinct, range_with_len}
 use Rattle.std.specs.Cmp.{IsEquivalence}
 use Rattle.std.proofs.Math.Bool.{true≢false, or-true, or-false}
 use Rattle.std.proofs.Math.Seq.{get_or-append_seam}
 use Rattle.std.proofs.lemmas.Bool.{cases_Bool, eqb-true, ltb-true, and_parts, false_from_ne_true, not-true, or_parts, eq-eqb}
 use Rattle.std.proofs.lemmas.Map.Made.{length-le_from_is_member}
-use Rattle.std.proofs.lemmas.List.{reverse-append, length-reverse, length-map}
+use Rattle.std.proofs.lemmas.List.{length-reverse, length-map}
 use Rattle.std.proofs.lemmas.List.Elements.{filter_passes, recursion_from_All, Contains-get_or}
 use Rattle.std.proofs.lemmas.Option.{none-some, same_Some}
-use Rattle.msrp_plan.specs.Plan.{PlanModel, units, release, release_tick, no_task, task_of, core_of}
+use Rattle.msrp_plan.specs.Plan.{PlanModel, units, release, release_tick, no_task, core_of}
 use Rattle.msrp_plan.specs.Jobs.{jobs as jobs_all, jobs_of, jobs_on, job_at, same_job, is_job, is_released}
 use Rattle.msrp_plan.specs.Levels.{level, is_global, local_ceiling, greatest}
 use Rattle.msrp_plan.specs.Levels as levels
 use Rattle.msrp_plan.specs.Ceiling.{resources, raised_with, ceiling_with}
-use Rattle.msrp_plan.specs.Choice.{is_before, least, first_ready, first_unfinished, chosen, choice}
+use Rattle.msrp_plan.specs.Choice.{is_before, first_ready, first_unfinished, chosen, choice}
 use Rattle.msrp_plan.specs.States.{JobState}
 use Rattle.msrp_plan.specs.WellFormed.{IsPlan}
 use Rattle.msrp_plan.specs.declared.ids.JobId.{JobId}
-use Rattle.msrp_plan.specs.declared.ids.ResId.{ResId}
 use Rattle.msrp_plan.specs.declared.rows.Row.{Row}
 use Rattle.msrp_plan.specs.declared.units.Phase.{Phase}
 use Rattle.msrp_plan.specs.declared.units.Phase.TheVariants.{Free, Queued, Holding}
@@ -28,16 +27,15 @@ use Rattle.msrp_plan.proofs.LeastKept.{least_in, least_passes}
 use Rattle.msrp_plan.proofs.JobTests.{same_is, same_self}
 use Rattle.msrp_plan.proofs.JobLists.{core_jobs_below}
 use Rattle.msrp_plan.proofs.CoreJobs.{on_its_core}
-use Rattle.msrp_plan.proofs.PlanUnits.{task_in}
 use Rattle.msrp_plan.proofs.Ceilings.{top_above}
 use Rattle.msrp_ready.specs.Ready.{ReadyModel, is_among}
 use Rattle.msrp_ready.specs.Ready as ready
 use Rattle.msrp_stack.specs.Stack.{StackModel, StartedJob, CanStart, ComesFirst, newest, current_ceiling}
 use Rattle.msrp_stack.specs.Stack as stack
-use Rattle.msrp_core.specs.Going.{Going, going_of, advanced, started_job, is_going, is_kept, done_in, is_waiting_phase, is_newest, state_in, IsGoing, AreApart, HoldsLocal, HoldSo, AreGoing}
+use Rattle.msrp_core.specs.Going.{Going, going_of, advanced, started_job, is_going, is_kept, done_in, is_waiting_phase, is_newest, state_in, IsGoing, AreApart, HoldSo, AreGoing}
 use Rattle.msrp_core.specs.CoreJobs.{going_in, state_of, AreJobs, AreToldBy, IsRunning, is_first, is_preferred, started_with}
 use Rattle.msrp_core.specs.declared.jobs.Jobs.{Jobs}
-use Rattle.msrp_core.proofs.Choices.{at_in, all_in, any_has, going_left, started_jobs, choice_is, top_is, current_is, kept_raised}
+use Rattle.msrp_core.proofs.Choices.{at_in, going_left, started_jobs, choice_is, top_is, current_is, kept_raised}
 use Rattle.msrp_stack.proofs.Changes.{ends_in, reverse_push}
 use Rattle.msrp_core.proofs.Steps.{clash}
 
@@ -341,20 +339,6 @@ pub running_states : (jobs : Jobs) (m : ReadyModel) (running : Option JobId) →
 running_states jobs m running same h j =
     ap (λ l. state_in jobs.plan.now l jobs.phase (going_in jobs) j) same
     ∙ (let t = runs_started jobs.plan.now jobs.ready.taken running j h in let mk : Bool → JobState = λ b. record (state_of jobs j) { started = b } in ap mk t)
-
--- the jobs after a release
-pub released_fits : (jobs : Jobs) (tick : ℕ) (m : ReadyModel) → AreJobs jobs → m ≡ record jobs.ready { tick = Some tick; compared = m.compared } → AreJobs (record jobs { ready = m })
-released_fits jobs tick m fit e = record {
-  accepted = fit.accepted;
-  levels = fit.levels;
-  ready_plan = ap (λ (x : ReadyModel). x.plan) e ∙ fit.ready_plan;
-  ready_core = ap (λ (x : ReadyModel). x.core) e ∙ fit.ready_core;
-  stack_plan = fit.stack_plan;
-  stack_core = fit.stack_core;
-  size = fit.size;
-  room = fit.room;
-  are = subst (λ l. AreGoing jobs.plan.now jobs.core.0 l jobs.phase (going_in jobs)) (sym (ap (λ (x : ReadyModel). x.taken) e)) fit.are;
-}
 
 -- a filter keeps no more than there are
 kept_short : {X : Type 0} (x : X) (xs kept : List X) (b : Bool) → length kept ≤ length xs → length (cond b (x ∷ kept) kept) ≤ length (x ∷ xs)

@@ -1,14 +1,13 @@
 -- The going jobs of a core after one action of the newest.
-use Rattle.std.proofs.Common.{◌≡◌, ◌≢◌, ℕ, ◌+◌, ◌<◌, ◌≤◌, ◌==◌, ◌⊎◌, Bool, true, false, cond, not, nat_eq, ◌&&◌, ◌||◌, List, [], ◌∷◌, Option, Some, None, refl, ap, sym, ◌∙◌, subst, arith, length, take, slice_get, inl, inr}
-use Rattle.std.specs.List.{list_any, AllByRecursion, Contains}
+use Rattle.std.proofs.Common.{◌≡◌, ℕ, ◌+◌, ◌<◌, ◌==◌, ◌⊎◌, Bool, true, false, cond, not, nat_eq, ◌&&◌, ◌||◌, List, [], ◌∷◌, Option, Some, refl, ap, sym, ◌∙◌, subst, arith, length, take, slice_get, inl, inr}
+use Rattle.std.specs.List.{list_any}
 use Rattle.std.proofs.Math.Bool.{true≢false, or-true, and-false}
-use Rattle.std.proofs.lemmas.Bool.{cases_Bool, cases_lt, eqb-true, eqb-false, eq-eqb, lt-ltb, le-ltb, false_from_ne_true}
-use Rattle.std.proofs.lemmas.Option.{none-some, same_Some}
+use Rattle.std.proofs.lemmas.Bool.{cases_Bool, eqb-true, eqb-false, eq-eqb, le-ltb, false_from_ne_true}
 use Rattle.msrp_plan.specs.Plan.{PlanModel, units, task_of}
-use Rattle.msrp_plan.specs.Units.{held_with, held_after, holds_after, is_unlock_of}
+use Rattle.msrp_plan.specs.Units.{held_after, holds_after}
 use Rattle.msrp_plan.specs.Jobs.{jobs_on, same_job, is_job, is_waiting}
 use Rattle.msrp_plan.specs.Levels.{is_global}
-use Rattle.msrp_plan.specs.States.{JobState, moved_by, state_with}
+use Rattle.msrp_plan.specs.States.{moved_by, state_with}
 use Rattle.msrp_plan.specs.WellFormed.{IsPlan}
 use Rattle.msrp_plan.specs.declared.ids.JobId.{JobId}
 use Rattle.msrp_plan.specs.declared.ids.ResId.{ResId}
@@ -22,7 +21,7 @@ use Rattle.msrp_plan.proofs.JobLists.{core_jobs_below}
 use Rattle.msrp_plan.proofs.PlanUnits.{units_lock, units_flat}
 use Rattle.msrp_plan.proofs.UnitCounts.{held_unlock}
 use Rattle.msrp_ready.specs.Ready.{is_among}
-use Rattle.msrp_core.specs.Going.{Going, is_going, done_in, is_waiting_phase, is_newest, state_in, advanced, IsGoing, AreApart, AreLocal, HoldsSo, HoldsLocal, HoldsGlobal, AwaitsGlobal, HoldSo, AreGoing}
+use Rattle.msrp_core.specs.Going.{Going, done_in, is_waiting_phase, is_newest, state_in, advanced, AreLocal, HoldsSo, HoldSo, AreGoing}
 use Rattle.msrp_core.proofs.HeldUnits.{held_test, next_held, locked, unlocked, whole_free}
 use Rattle.msrp_core.proofs.Choices.{at_in, others_done}
 

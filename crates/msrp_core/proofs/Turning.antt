@@ -1,13 +1,11 @@
 -- A turn of a machine: its row is the next one of whatever log the machine stands after.
-use Rattle.std.proofs.Common.{◌≡◌, ℕ, ◌+◌, ◌≤◌, Bool, true, false, cond, ◌&&◌, ◌||◌, List, [], ◌∷◌, ◌++◌, Option, Some, None, refl, ap, sym, ◌∙◌, subst, arith, length, length-append, map, slice_get, inl, inr}
+use Rattle.std.proofs.Common.{◌≡◌, ℕ, Bool, true, false, cond, ◌&&◌, ◌||◌, List, [], ◌∷◌, ◌++◌, Option, Some, None, refl, ap, sym, ◌∙◌, subst, length, map, inl, inr}
 use Rattle.std.specs.List.{list_any, AllByRecursion, Contains}
 use Rattle.std.specs.Option.{ForSome}
-use Rattle.std.proofs.Math.Bool.{or-false, or-true}
+use Rattle.std.proofs.Math.Bool.{or-false}
 use Rattle.std.proofs.lemmas.Bool.{cases_Bool}
 use Rattle.std.proofs.lemmas.List.Sums.{fold_push}
-use Rattle.std.proofs.lemmas.Option.{none-some}
-use Rattle.msrp_plan.specs.Plan.{PlanModel, units}
-use Rattle.msrp_plan.specs.Jobs.{jobs_on, same_job, is_job, is_row_of, is_queued, done}
+use Rattle.msrp_plan.specs.Jobs.{jobs_on, same_job, is_job, is_queued, done}
 use Rattle.msrp_plan.specs.Choice.{choice}
 use Rattle.msrp_plan.specs.Actions.{does_next, does_unit_after, is_idle}
 use Rattle.msrp_plan.specs.Phases.{phase_with, phase_after}
@@ -21,11 +19,10 @@ use Rattle.msrp_plan.specs.declared.rows.Row.{Row}
 use Rattle.msrp_plan.specs.declared.units.Phase.{Phase}
 use Rattle.msrp_plan.specs.declared.units.Phase.TheVariants.{Free}
 use Rattle.msrp_plan.proofs.States.{state_push}
-use Rattle.msrp_plan.proofs.JobTests.{same_is, same_self}
+use Rattle.msrp_plan.proofs.JobTests.{same_self}
 use Rattle.msrp_plan.proofs.Lists.{any_in}
-use Rattle.msrp_ready.specs.Ready.{is_among}
-use Rattle.msrp_core.specs.Going.{Going, done_in, is_waiting_phase, is_newest}
-use Rattle.msrp_core.specs.CoreJobs.{going_in, state_of, AreJobs, AreToldBy, IsRunning, IsSamePlace, Acts, Idles, ActsFor, started_with}
+use Rattle.msrp_core.specs.Going.{done_in, is_waiting_phase, is_newest}
+use Rattle.msrp_core.specs.CoreJobs.{going_in, state_of, AreJobs, AreToldBy, IsRunning, IsSamePlace, Acts, ActsFor, started_with}
 use Rattle.msrp_core.specs.declared.jobs.Jobs.{Jobs}
 use Rattle.msrp_core.proofs.Choices.{at_in}
 use Rattle.msrp_core.proofs.Running.{running_known}

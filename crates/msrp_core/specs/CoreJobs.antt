@@ -1,5 +1,5 @@
 -- The jobs of a core as they are stored, and what a turn does to them.
-use Rattle.std.specs.Prelude.{ℕ, List, [], ◌∷◌, true, false, Option, Some, None, cond, nat_lt, ◌&&◌, ◌||◌, Bool, length, reverse, slice_get, vec_capacity, ◌≡◌, ◌<◌, ◌≤◌, ⊤}
+use Rattle.std.specs.Prelude.{ℕ, List, ◌∷◌, true, false, Option, Some, None, nat_lt, ◌&&◌, ◌||◌, Bool, length, reverse, slice_get, vec_capacity, ◌≡◌, ◌<◌, ◌≤◌}
 use Rattle.std.specs.List.{AllByRecursion}
 use Rattle.msrp_plan.specs.Plan.{PlanModel, units}
 use Rattle.msrp_plan.specs.Jobs.{jobs_on, is_job}

@@ -1,6 +1,6 @@
 -- The jobs of a core between two of its turns: which are going, that is started and not finished, what each of these
 -- holds, and how many of its units it has done.
-use Rattle.std.specs.Prelude.{ℕ, List, [], ◌∷◌, Bool, true, false, nat_eq, ◌==◌, ◌&&◌, cond, Option, Some, None, length, map, take, slice_get, ◌≡◌, ◌<◌, ◌+◌, ⊤}
+use Rattle.std.specs.Prelude.{ℕ, List, [], ◌∷◌, Bool, true, false, nat_eq, ◌==◌, ◌&&◌, cond, Some, length, take, slice_get, ◌≡◌, ◌<◌, ◌+◌, ⊤}
 use Rattle.std.specs.List.{list_any, AllByRecursion, Contains}
 use Rattle.msrp_plan.specs.Plan.{PlanModel, units}
 use Rattle.msrp_plan.specs.Units.{held_after}

@@ -1,5 +1,5 @@
 -- Ports: the calls that were made of a port, and one call more.
-use Rattle.std.specs.Prelude.{ℕ, zero, List, [], ◌∷◌, ◌++◌, ◌==◌, ◌≡◌, ◌≢◌, ◌≤◌, ◌+◌, map, filter, ⊤}
+use Rattle.std.specs.Prelude.{ℕ, List, [], ◌∷◌, ◌++◌, ◌==◌, ◌≡◌, ◌≢◌, ◌≤◌, ◌+◌, map, filter, ⊤}
 use Rattle.msrp_plan.specs.Calls.{ResCall, claim_after}
 use Rattle.msrp_plan.specs.declared.ids.CoreId.{CoreId}
 use Rattle.msrp_plan.specs.declared.ids.ResId.{ResId}

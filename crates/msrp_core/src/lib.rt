@@ -11,3 +11,6 @@ mod port;
 
 pub use machines::Machine;
 pub use port::{Port, PortCall, Reply};
+
+#[cfg(test)]
+mod tests;

@@ -29,7 +29,7 @@ lock_push : (h : List (ℕ × Call)) (s : ℕ × Call) → lock_from free_lock (
 lock_push h s = fold_push (λ before s. lock_after before s.0 s.1) free_lock h s
 
 -- ---- the calls of a resource and of a core, and one call more
-on_push : (g : ℕ) (calls : List PortCall) (e : PortCall) (b : Bool) → (e.res.0 == g) ≡ b → calls_on g (calls ++ e ∷ []) ≡ calls_on g calls ++ cond b ((e.core.0, e.call) ∷ []) []
+pub on_push : (g : ℕ) (calls : List PortCall) (e : PortCall) (b : Bool) → (e.res.0 == g) ≡ b → calls_on g (calls ++ e ∷ []) ≡ calls_on g calls ++ cond b ((e.core.0, e.call) ∷ []) []
 on_push g calls e b h = ap (map core_call) (filter-append (λ x. x.res.0 == g) calls (e ∷ [])) ∙ (map-append core_call (filter (λ x. x.res.0 == g) calls) (cond (e.res.0 == g) (e ∷ []) []) ∙ ap (λ l. calls_on g calls ++ l) (one b h))
   where
     one : (b : Bool) → (e.res.0 == g) ≡ b → map core_call (cond (e.res.0 == g) (e ∷ []) []) ≡ cond b ((e.core.0, e.call) ∷ []) []

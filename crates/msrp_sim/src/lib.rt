@@ -2,5 +2,9 @@
 #![tactic(auto)]
 
 mod fifo;
+mod orders;
+mod stepping;
 
 pub use fifo::FifoPort;
+pub use orders::{Order, orders_of_turns};
+pub use stepping::{SimError, Simulation, simulate};

@@ -47,7 +47,7 @@ stage-more (version ∷ []) row = refl
 stage-more (version ∷ cores ∷ []) row = refl
 stage-more (version ∷ cores ∷ ticks ∷ rest) row = ap (λ (plan : PlanModel). Body (version_told version) plan) (fold-append with_record (empty_plan (number_told cores 1) (number_told ticks 1)) rest (row ∷ []))
 
-slice_get-seam : {X : Type 0} (xs ys : List X) (y : X) → slice_get (xs ++ (y ∷ ys)) (length xs) ≡ Some y
+pub slice_get-seam : {X : Type 0} (xs ys : List X) (y : X) → slice_get (xs ++ (y ∷ ys)) (length xs) ≡ Some y
 slice_get-seam [] ys y = refl
 slice_get-seam (x ∷ xs) ys y = slice_get-seam xs ys y
 

@@ -4,3 +4,10 @@ pub mod Texts
 pub mod Judging
 pub mod Folding
 pub mod Firsts
+pub mod Written
+pub mod Numerals
+pub mod Plain
+pub mod Accepting
+pub mod AcceptedUnits
+pub mod AcceptedTasks
+pub mod ReadBack

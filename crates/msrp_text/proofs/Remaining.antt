@@ -64,7 +64,7 @@ records-enough cfg (suc n) (suc m) s (c ∷ rest) h k =
     (λ q e. let fewer = next-takes cfg s c rest q e in records-enough cfg n m q.1 q.2 (omega arith) (omega arith))
 
 -- the records from a place in a text are the next one, and then those from the place after it
-records-unfold : (s : State) (xs : List ℕ) (o : Option Read) → next_record default_config s [] [] xs ≡ o → records_at s xs ≡ records_next records_at o
+pub records-unfold : (s : State) (xs : List ℕ) (o : Option Read) → next_record default_config s [] [] xs ≡ o → records_at s xs ≡ records_next records_at o
 unfolding records_at records_from
 records-unfold s xs None e = no-records default_config s xs (length xs + 1) e
 records-unfold s [] (Some q) e =

@@ -5,3 +5,5 @@ pub mod Reading
 pub mod Stages
 pub mod Examples
 pub mod Laws
+pub mod PlanText
+pub mod Writing

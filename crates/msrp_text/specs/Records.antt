@@ -1,12 +1,16 @@
 -- The records of a text, and those that a reader of records has left.
 use Rattle.std.specs.Prelude.{◌≡◌, ◌+◌, ℕ, Bool, true, false, List, [], ◌∷◌, length, Option, Some, option_map}
-use Rattle.csv.specs.Reading.{default_config, records, records_from, source_of, strip_bom, reader_state}
+use Rattle.csv.specs.Reading.{default_config, records, reader_source, records_from, source_of, strip_bom, reader_state}
 use Rattle.csv.specs.declared.parser.State.{State}
 use Rattle.msrp_text.specs.declared.records.RecordReader.{RecordReader}
 
 -- the records of a text: a byte order mark at its start is no part of it
 abbrev pub csv_records : List ℕ → List (List (List ℕ))
 csv_records bytes = records default_config (strip_bom bytes)
+
+-- the reader underneath
+abbrev pub reader_under : {R : Type 0} → RecordReader R → R
+reader_under r = reader_source r.rows
 
 -- a read failed, as each further one does
 abbrev pub has_stopped : {R : Type 0} → RecordReader R → Bool

@@ -1,5 +1,5 @@
 -- Where a reader of a plan stands between two records: what is to be read next, and the plan so far.
-use Rattle.std.specs.Prelude.{ℕ, List, [], Option, Some, None, Result, Ok, Err, codes, cond, is_none, ◌≡◌, ◌⊎◌, ◌&&◌}
+use Rattle.std.specs.Prelude.{ℕ, List, Option, Some, None, Result, Ok, Err, codes, cond, is_none, ◌≡◌, ◌⊎◌, ◌&&◌}
 use Rattle.msrp_plan.specs.Building.{empty_plan}
 use Rattle.msrp_plan.specs.Plan.{PlanModel}
 use Rattle.msrp_plan.specs.declared.faults.PlanFault.{PlanFault}

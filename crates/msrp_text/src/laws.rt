@@ -4,7 +4,9 @@ ghost use Rattle.std.specs.Prelude.{◌≡◌, ℕ, List, Ok, Err};
 ghost use Rattle.msrp_plan.specs.declared.faults.PlanFault.{PlanFault};
 ghost use Rattle.msrp_plan.specs.Plan.{PlanModel};
 ghost use Rattle.msrp_text.specs.Laws.{IsAccepted, IsFirstRefused};
-ghost use Rattle.msrp_text.specs.Reading.{plan_of};
+ghost use Rattle.msrp_plan.specs.WellFormed.{IsPlan};
+ghost use Rattle.msrp_text.specs.PlanText.{plan_text};
+ghost use Rattle.msrp_text.specs.Reading.{csv_records, plan_of};
 ghost use Rattle.msrp_text.specs.declared.reading.TextError.TheVariants.{At};
 
 /// A refusal names the first record that breaks a rule given those before it, and the rule.
@@ -15,4 +17,9 @@ pub fn first_refusal()
 /// Of an accepted text no record breaks a rule, nor does its end, and the plan is the one that the records tell.
 pub fn acceptance()
     ensures { (records : List (List (List ℕ))) (plan : PlanModel) → plan_of records ≡ Ok plan → IsAccepted records plan }
+{}
+
+/// What is written of a well-formed plan reads back as that plan.
+pub fn read_back()
+    ensures { (plan : PlanModel) → IsPlan plan → plan_of (csv_records (plan_text plan)) ≡ Ok plan }
 {}

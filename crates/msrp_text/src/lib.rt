@@ -1,13 +1,17 @@
-//! Plan text, version 1: the plan of a text, or its first refusal.
+//! Plan text: the plan of a text, or its first refusal, and the text of a plan.
 #![tactic(auto)]
 
 pub mod fields;
 pub mod laws;
 pub mod reading;
 pub mod records;
+#[cfg(test)]
+mod round_trips;
 mod stages;
 #[cfg(test)]
 mod tests;
 pub mod worked;
+mod writing;
 
 pub use reading::{TextError, read_plan};
+pub use writing::write_plan;

@@ -25,7 +25,7 @@ pub struct RecordReader<R> {
 }
 
 impl<R: Read> RecordReader<R> {
-    ghost use Rattle.msrp_text.specs.Records.{GivesNext, csv_records, has_stopped, records_left};
+    ghost use Rattle.msrp_text.specs.Records.{GivesNext, csv_records, has_stopped, records_left, reader_under};
 
     /// The records of all that a reader has left.
     pub fn new(alloc: Global, text: R) -> RecordReader<R>
@@ -40,6 +40,13 @@ impl<R: Read> RecordReader<R> {
             rows,
             stopped: false,
         }
+    }
+
+    /// The reader underneath.
+    pub fn reader(&self) -> &R
+        ensures { result.now ≡ reader_under self.now }
+    {
+        self.rows.get_ref()
     }
 
     /// The next record into `row`, and whether there was one.

@@ -1,45 +1,43 @@
-use Rattle.std.proofs.Common.{◌≡◌, ◌∙◌, ℕ, List, [], ◌++◌, ap, sym, subst, arith, append_assoc, append-nil}
-use Rattle.std.specs.List.{flat_map}
-use Rattle.std.proofs.lemmas.Grind.{flat_map-append}
+use Rattle.std.proofs.Common.{◌≡◌, ◌∙◌, ◌+◌, ◌*◌, ◌<◌, true, List, [], ◌∷◌, ◌++◌, ap, refl, sym, subst, arith, append-nil}
 use Rattle.msrp_plan.specs.Plan.{PlanModel}
+use Rattle.msrp_plan.specs.WellFormed.{IsPlan}
 use Rattle.msrp_plan.specs.declared.rows.Row.{Row}
-use Rattle.msrp_core.specs.Machine.{MachineModel}
-use Rattle.msrp.specs.TraceText.{head_text, row_text, trace_text}
-use Rattle.msrp.specs.Turns.{HaveRun}
-use Rattle.msrp.proofs.Gathered.{gathers-all, gathers-as, gathers-more}
-use Rattle.msrp.proofs.Machines.{run_order, run_whole}
+use Rattle.msrp_trace.specs.TraceText.{head_text, is_named}
+use Rattle.msrp_trace.proofs.Gathered.{gathers-all, gathers-as, gathers-more}
+use Rattle.msrp_sim.proofs.NextTurn.{run_in}
+use Rattle.msrp.proofs.NamedRows.{made_named, row_more}
 use Rattle.msrp.proofs.engine.write_run.Goals as goal
 
--- the text of one block of rows more
-trace_more : (plan : PlanModel) (rows block : List Row) → trace_text plan rows ++ flat_map (row_text plan) block ≡ trace_text plan (rows ++ block)
-trace_more plan rows block = append_assoc (head_text plan) (flat_map (row_text plan) rows) (flat_map (row_text plan) block)
-    ∙ ap (λ t. head_text plan ++ t) (sym (flat_map-append (row_text plan) rows block))
+pub loop-turn-init : goal.loop-turn-init
+loop-turn-init g c = ([], gathers-as _ _ _ _ _ _ _ (sym (append-nil (head_text c.args.version c.args.plan.now))) (rw c.new-text.ensures at c.head.ensures), c.requires.made, c.requires.plan, refl, c.requires.turn)
 
-pub loop-tick-init : goal.loop-tick-init
-loop-tick-init g c = ([], gathers-as _ _ _ _ _ _ _ (sym (append-nil (head_text c.args.plan.now))) (rw c.new-text.ensures at c.head.ensures), c.requires)
+pub row-requires : goal.row-requires
+row-requires g c =
+    let run = c.loop-turn.invariant in
+    let e = c.turn-row.ensures in
+    let plan : c.turn-row.new.self.plan ≡ c.args.plan.now = e.plan ∙ run.3 in
+    subst (λ p. is_named p c.turn-row.result ≡ true) plan (made_named c.turn-row.new.self run.0 c.turn-row.result (subst IsPlan (sym plan) c.cores.ensures.plan) (e.row run.0 run.2))
 
-pub loop-tick-preserved : goal.loop-tick-preserved
-loop-tick-preserved g c =
-    let run = c.loop-tick.invariant in
-    let tick = c.write_tick.ensures in
-    (run.0 ++ tick.0, gathers-as _ _ _ _ _ _ _ (trace_more c.args.plan.now run.0 tick.0) (gathers-more _ _ _ _ _ _ _ _ _ run.1 tick.1), tick.2 _ run.0 run.2)
-
-pub write_tick-requires : goal.write_tick-requires
-write_tick-requires g c =
-    let run = c.loop-tick.invariant in
-    (_, run.0, omega arith, run.2)
-
--- every tick has passed
-all_ticks : (plan : PlanModel) (t : ℕ) (rows : List Row) (machines : List MachineModel) → HaveRun plan t 0 rows machines → t ≡ plan.ticks → HaveRun plan plan.ticks 0 rows machines
-all_ticks plan t rows machines h e = subst (λ k. HaveRun plan k 0 rows machines) e h
+pub loop-turn-preserved : goal.loop-turn-preserved
+loop-turn-preserved g c =
+    let run = c.loop-turn.invariant in
+    let e = c.turn-row.ensures in (
+      run.0 ++ c.turn-row.result ∷ [],
+      gathers-as _ _ _ _ _ _ _ (row_more c.args.version c.args.plan.now run.0 c.turn-row.result) (gathers-more _ _ _ _ _ _ _ _ _ run.1 c.row.ensures),
+      e.row run.0 run.2,
+      e.plan ∙ run.3,
+      e.order ∙ run.4,
+      e.turn ∙ ap (λ n. n + 1) run.5,
+    )
 
 pub returns-clause-run : goal.returns-clause-run
 returns-clause-run g c =
-    let run = c.loop-tick.invariant in
-    let whole = all_ticks c.args.plan.now _ run.0 _ run.2 (omega arith) in
+    let run = c.loop-turn.invariant in
+    let a = ap (λ m. m * c.ticks.result) c.cores.ensures.value in
+    let b = ap (λ t. c.args.plan.now.cores * t) c.ticks.ensures.value in
+    let e : c.loop-turn._turn ≡ c.cores.result * c.ticks.result = omega arith in
     record {
       rows = run.0;
-      run = run_whole c.args.plan.now run.0 _ whole;
-      order = run_order c.args.plan.now run.0 _ whole;
+      run = run_in c.args.plan.now c.args.simulation.now.order c.loop-turn.simulation run.0 c.requires.order run.3 run.4 (run.5 ∙ (e ∙ (a ∙ b))) run.2;
       text = gathers-all _ _ _ _ _ _ run.1 c.finish.ensures.wrote;
     }

@@ -1,12 +1,15 @@
-use Rattle.std.proofs.Common.{List, []}
+use Rattle.std.proofs.Common.{◌≡◌, List, []}
 use Rattle.msrp_plan.specs.declared.rows.Row.{Row}
-use Rattle.msrp.specs.Gathering.{Gathers}
-use Rattle.msrp.specs.TraceText.{trace_text}
-use Rattle.msrp.specs.Turns.{HaveRun}
+use Rattle.msrp_sim.specs.Simulated.{HasMade}
+use Rattle.msrp_trace.specs.Gathering.{Gathers}
+use Rattle.msrp_trace.specs.TraceText.{trace_text}
 use Rattle.msrp.proofs.engine.write_run.Given as goal
 
-abbrev pub invariant-loop-tick : goal.invariant-loop-tick
-invariant-loop-tick g l =
+abbrev pub invariant-loop-turn : goal.invariant-loop-turn
+invariant-loop-turn g l =
     (rows : List Row)
-    × Gathers g.W.Write.contents [] l.fn.out l.text l.out (trace_text l.plan rows)
-    × HaveRun l.plan l._tick 0 rows l.machines
+    × Gathers g.W.Write.contents [] l.fn.out l.text l.out (trace_text l.version l.plan rows)
+    × HasMade l.simulation rows
+    × (l.simulation.plan ≡ l.fn.plan)
+    × (l.simulation.order ≡ l.fn.simulation.order)
+    × (l.simulation.turn ≡ l._turn)

@@ -1,4 +1,4 @@
-use Rattle.std.proofs.Common.{◌≡◌, ◌<◌, ◌+◌, ap, sym, ◌∙◌, subst, arith, length}
+use Rattle.std.proofs.Common.{ap, sym, ◌∙◌, arith, length}
 use Rattle.msrp_plan.specs.Plan.{units}
 use Rattle.msrp_core.proofs.Running.{popped, advanced_push}
 use Rattle.msrp_core.proofs.jobs.Jobs.advance.Goals as goal

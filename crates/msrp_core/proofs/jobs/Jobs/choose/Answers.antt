@@ -1,4 +1,4 @@
-use Rattle.std.proofs.Common.{true, false, Some, sym, ◌∙◌, ap}
+use Rattle.std.proofs.Common.{true, false, sym, ◌∙◌, ap}
 use Rattle.msrp_ready.specs.Ready.{ReadyModel}
 use Rattle.msrp_core.proofs.Running.{ready_head, first_known, newest_known, choose_head, choose_none, running_of, running_known, running_states}
 use Rattle.msrp_core.proofs.jobs.Jobs.choose.Goals as goal

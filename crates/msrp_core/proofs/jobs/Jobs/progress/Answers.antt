@@ -1,4 +1,4 @@
-use Rattle.std.proofs.Common.{◌≡◌, ◌-◌, ◌∙◌, ap, sym, get_or, length}
+use Rattle.std.proofs.Common.{◌≡◌, ◌-◌, ◌∙◌, ap, get_or, length}
 use Rattle.msrp_core.proofs.Running.{last_done}
 use Rattle.msrp_core.proofs.jobs.Jobs.progress.Goals as goal
 

@@ -1,4 +1,4 @@
-use Rattle.std.proofs.Common.{◌≡◌, ◌<◌, ap, sym, ◌∙◌, subst, arith, length, Some, slice_get}
+use Rattle.std.proofs.Common.{ap, sym, ◌∙◌, arith, length, slice_get}
 use Rattle.msrp_plan.specs.Plan.{units}
 use Rattle.msrp_core.proofs.Running.{known_task, running_known, running_left, some_done}
 use Rattle.msrp_core.proofs.jobs.Jobs.unit.Goals as goal

@@ -1,11 +1,9 @@
-use Rattle.std.proofs.Common.{◌≡◌, ◌∷◌, [], ◌∙◌, ap, sym, subst, refl, reverse, Some, None, true, false}
+use Rattle.std.proofs.Common.{◌≡◌, ◌∷◌, ◌∙◌, ap, refl, reverse, Some}
 use Rattle.msrp_plan.specs.Actions.{allows}
 use Rattle.msrp_plan.specs.declared.rows.Kind.TheVariants.{Unlock}
-use Rattle.msrp_plan.specs.declared.units.Op.TheVariants.{Run as RunUnit, Lock as LockUnit, Unlock as UnlockUnit}
-use Rattle.msrp_plan.specs.declared.units.Phase.TheVariants.{Free, Queued, Holding}
+use Rattle.msrp_plan.specs.declared.units.Op.TheVariants.{Unlock as UnlockUnit}
 use Rattle.msrp_stack.specs.Stack.{StackModel, without_first}
-use Rattle.msrp_core.specs.Going.{Going, going_of, advanced, is_waiting_phase, HoldSo}
-use Rattle.msrp_core.specs.CoreJobs.{going_in}
+use Rattle.msrp_core.specs.Going.{going_of, advanced, is_waiting_phase}
 use Rattle.msrp_core.specs.declared.jobs.Jobs.{Jobs}
 use Rattle.msrp_core.proofs.Steps.{unlock_room, unlock_step}
 use Rattle.msrp_core.proofs.Acting.{unit_at, holds_at, still_running, last_by, does_by, same_here, left_by, acts_unit, kept_less, going_less, innermost_of}

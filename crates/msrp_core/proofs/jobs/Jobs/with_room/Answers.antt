@@ -1,4 +1,4 @@
-use Rattle.std.proofs.Common.{◌≡◌, ap, sym, ◌∙◌, subst, refl, rules, vec_capacity, []}
+use Rattle.std.proofs.Common.{◌≡◌, ap, ◌∙◌, subst, refl, rules, vec_capacity, []}
 use Rattle.msrp_plan.specs.WellFormed.{IsPlan}
 use Rattle.msrp_ready.specs.Ready.{ReadyModel}
 use Rattle.msrp_core.proofs.Running.{none_fits}

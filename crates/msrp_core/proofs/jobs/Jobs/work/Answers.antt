@@ -1,14 +1,11 @@
-use Rattle.std.proofs.Common.{◌≡◌, ◌∷◌, [], ◌∙◌, ap, sym, subst, refl, reverse, Some, None, true, false}
-use Rattle.msrp_plan.specs.Actions.{allows}
+use Rattle.std.proofs.Common.{◌∷◌, ◌∙◌, ap, refl, None}
 use Rattle.msrp_plan.specs.declared.rows.Kind.TheVariants.{Run}
-use Rattle.msrp_plan.specs.declared.units.Op.TheVariants.{Run as RunUnit, Lock as LockUnit, Unlock as UnlockUnit}
-use Rattle.msrp_plan.specs.declared.units.Phase.TheVariants.{Free, Queued, Holding}
-use Rattle.msrp_stack.specs.Stack.{StackModel, without_first}
-use Rattle.msrp_core.specs.Going.{Going, going_of, advanced, is_waiting_phase, HoldSo}
+use Rattle.msrp_plan.specs.declared.units.Op.TheVariants.{Run as RunUnit}
+use Rattle.msrp_core.specs.Going.{advanced, is_waiting_phase}
 use Rattle.msrp_core.specs.CoreJobs.{going_in}
 use Rattle.msrp_core.specs.declared.jobs.Jobs.{Jobs}
 use Rattle.msrp_core.proofs.Steps.{work_step}
-use Rattle.msrp_core.proofs.Acting.{unit_at, holds_at, still_running, last_by, does_by, same_here, left_by, acts_unit}
+use Rattle.msrp_core.proofs.Acting.{unit_at, holds_at, last_by, does_by, left_by, acts_unit}
 use Rattle.msrp_core.proofs.jobs.Jobs.work.Goals as goal
 
 pub advance-requires-clause-last : goal.advance-requires-clause-last

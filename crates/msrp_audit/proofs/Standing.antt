@@ -1,0 +1,147 @@
+-- The cores after a turn stand after the rows so far and one more, which may leave out the ahead of the row that was made.
+use Rattle.std.proofs.Common.{◌≡◌, ◌≢◌, ℕ, zero, suc, ◌+◌, ◌==◌, Bool, true, false, cond, not, List, [], ◌∷◌, ◌++◌, Option, Some, None, IfSome, refl, ap, sym, ◌∙◌, subst, length-append, map, inl, inr, eqb-true, slice_get, slice_set}
+use Rattle.std.proofs.Math.Bool.{true≢false}
+use Rattle.std.proofs.lemmas.Bool.{cases_Bool, eqb-false}
+use Rattle.std.proofs.lemmas.Option.{same_Some}
+use Rattle.std.proofs.lemmas.List.Sums.{fold_push}
+use Rattle.msrp_plan.specs.Jobs.{jobs_on, is_job, is_waiting}
+use Rattle.msrp_plan.specs.Levels.{is_global}
+use Rattle.msrp_plan.specs.Queues.{is_on, fifo}
+use Rattle.msrp_plan.specs.Runs.{IsLegal}
+use Rattle.msrp_plan.specs.Logs.{log_of}
+use Rattle.msrp_plan.specs.Phases.{phase_with, phase_after}
+use Rattle.msrp_plan.specs.States.{JobState, state_after}
+use Rattle.msrp_plan.specs.FifoLock.{Answers, lock_after}
+use Rattle.msrp_plan.specs.LockStates.{lock_at, first_holds, IsRowOfCall}
+use Rattle.msrp_plan.specs.Calls.{ahead_of_call}
+use Rattle.msrp_plan.specs.declared.ids.JobId.{JobId}
+use Rattle.msrp_plan.specs.declared.ids.ResId.{ResId}
+use Rattle.msrp_plan.specs.declared.rows.Kind.{Kind}
+use Rattle.msrp_plan.specs.declared.rows.Row.{Row}
+use Rattle.msrp_plan.specs.declared.units.Phase.{Phase}
+use Rattle.msrp_plan.specs.declared.units.Phase.TheVariants.{Free}
+use Rattle.msrp_plan.proofs.States.{state_push}
+use Rattle.msrp_plan.proofs.RoundRobin.{log_own, log_other}
+use Rattle.msrp_plan.proofs.QueueLocks.{agree_at, lock_off, tells_from_answers}
+use Rattle.msrp_plan.proofs.Verdicts.{start_push}
+use Rattle.msrp_core.specs.CoreJobs.{MakesCall, IsQuiet}
+use Rattle.msrp_core.specs.Machine.{MachineModel, StandsAfter}
+use Rattle.msrp_core.specs.declared.port.PortCall.{PortCall}
+use Rattle.msrp_sim.specs.Served.{FifoModel, as_port, lock_after_calls}
+use Rattle.msrp_sim.proofs.Histories.{lock_own, lock_other}
+use Rattle.msrp_audit.specs.Cores.{CoresModel, AreCores, StandFor, IsDueAfter, IsAs, TakesTurn}
+use Rattle.msrp_audit.proofs.Turns.{call_of, answers_at, turn_row}
+
+-- ---- a list with one element changed
+pub get_set_same : {X : Type 0} (xs : List X) (i : ℕ) (x y : X) → slice_get xs i ≡ Some x → slice_get (slice_set xs i y) i ≡ Some y
+get_set_same [] i x y h = absurd (cc)
+get_set_same (z ∷ xs) zero x y h = refl
+get_set_same (z ∷ xs) (suc i) x y h = get_set_same xs i x y h
+
+pub get_set_other : {X : Type 0} (xs : List X) (i j : ℕ) (y : X) → j ≢ i → slice_get (slice_set xs i y) j ≡ slice_get xs j
+get_set_other [] i j y ne = refl
+get_set_other (z ∷ xs) zero zero y ne = absurd (ne refl)
+get_set_other (z ∷ xs) zero (suc j) y ne = refl
+get_set_other (z ∷ xs) (suc i) zero y ne = refl
+get_set_other (z ∷ xs) (suc i) (suc j) y ne = get_set_other xs i j y (λ e. ne (ap suc e))
+
+-- ---- a machine doesn't see aheads
+-- the state of a job after a row of this job and kind
+abbrev state_by : Option JobId → Kind → JobState → JobState
+state_by job kind s = cond (is_job job s.job) (record { job = s.job; started = true; queued = is_waiting kind; done = s.done + cond (not (is_waiting kind)) 1 0 }) s
+
+state_as : (due r : Row) → IsAs due r → (log : List Row) (j : JobId) → state_after (log ++ due ∷ []) j ≡ state_after (log ++ r ∷ []) j
+state_as due r like log j =
+    state_push log due j
+    ∙ (ap (λ k. state_by due.job k (state_after log j)) (sym like.kind)
+    ∙ (ap (λ o. state_by o r.kind (state_after log j)) (sym like.job) ∙ sym (state_push log r j)))
+
+map_as : {X Y : Type 0} (f g : X → Y) → ((x : X) → f x ≡ g x) → (xs : List X) → map f xs ≡ map g xs
+map_as f g h [] = refl
+map_as f g h (x ∷ xs) = ap (λ y. y ∷ map f xs) (h x) ∙ ap (λ ys. g x ∷ ys) (map_as f g h xs)
+
+phase_push : (log : List Row) (r : Row) → phase_after (log ++ r ∷ []) ≡ phase_with (phase_after log) r.kind r.res
+phase_push log r = fold_push (λ (phase : Phase) (s : Row). phase_with phase s.kind s.res) Free log r
+
+stands_as : (x : MachineModel) (due r : Row) (log : List Row) → IsAs due r → StandsAfter x (log ++ due ∷ []) → StandsAfter x (log ++ r ∷ [])
+stands_as x due r log like h = record {
+  tick = h.tick ∙ (length-append log (due ∷ []) ∙ sym (length-append log (r ∷ [])));
+  phase = h.phase ∙ (phase_push log due ∙ (ap (λ k. phase_with (phase_after log) k due.res) (sym like.kind) ∙ (ap (λ o. phase_with (phase_after log) r.kind o) (sym like.res) ∙ sym (phase_push log r))));
+  states = h.states ∙ map_as (state_after (log ++ due ∷ [])) (state_after (log ++ r ∷ [])) (state_as due r like log) (jobs_on x.plan x.core);
+}
+
+-- ---- one turn more
+-- the row is on another resource
+off_by : (o : Option ResId) (res : ResId) (g : ℕ) → o ≡ Some res → (res.0 == g) ≡ false → is_on g o ≡ false
+off_by o res g e h = ap (is_on g) e ∙ h
+
+module _ (old new : CoresModel) (c : ℕ) (made r : Row) (rows : List Row) (cores : AreCores old) (stands : StandFor old rows) (due : IsDueAfter old.plan rows c) (t : TakesTurn old new c made) (like : IsAs made r) (legal : IsLegal old.plan rows r) where
+  at_core : r.core.0 ≡ c
+  at_core = like.core ∙ (turn_row old new c made rows cores stands due t).core
+
+  -- each machine
+  own_log : (y : MachineModel) → y ≡ t.after → StandsAfter y (log_of c (rows ++ r ∷ []))
+  own_log y e = subst (λ z. StandsAfter z (log_of c (rows ++ r ∷ []))) (sym e)
+      (subst (StandsAfter t.after) (sym (log_own rows r c at_core)) (stands_as t.after made r (log_of c rows) like (t.stands (log_of c rows) (stands.logs c t.before t.has))))
+
+  some_log : (d : ℕ) (y : MachineModel) → slice_get new.machines d ≡ Some y → (b : Bool) → (d == c) ≡ b → StandsAfter y (log_of d (rows ++ r ∷ []))
+  some_log d y has true e =
+      let at : d ≡ c = eqb-true d c e in
+      let own : slice_get new.machines c ≡ Some t.after = ap (λ ms. slice_get ms c) t.machines ∙ get_set_same old.machines c t.before t.after t.has in
+      subst (λ n. StandsAfter y (log_of n (rows ++ r ∷ []))) (sym at) (own_log y (same_Some y t.after (sym has ∙ (ap (slice_get new.machines) at ∙ own))))
+  some_log d y has false e =
+      let ne : d ≢ c = eqb-false d c e in
+      let other : slice_get new.machines d ≡ slice_get old.machines d = ap (λ ms. slice_get ms d) t.machines ∙ get_set_other old.machines c d t.after ne in
+      subst (StandsAfter y) (sym (log_other rows r d (λ k. ne (sym (sym at_core ∙ k))))) (stands.logs d y (sym other ∙ has))
+
+  -- each lock, where the turn makes a call
+  call_lock : MakesCall old.plan made (as_port old.port) (as_port new.port) → (g : ℕ) → is_global old.plan g ≡ true → lock_after_calls new.port.calls g ≡ lock_at old.plan g (rows ++ r ∷ [])
+  call_lock mc g glob = ap (λ l. lock_after_calls l g) mc.adds.calls ∙ by_res (mc.res.0 == g) refl
+    where
+      e : PortCall
+      e = call_of made mc.res mc.call
+
+      told : (o : Option ℕ) → IfSome o (λ n. made.ahead ≡ Some n) → IfSome o (λ n. ahead_of_call mc.call ≡ Some n)
+      told None h = tt
+      told (Some n) h = sym mc.ahead ∙ h
+
+      by_res : (b : Bool) → (mc.res.0 == g) ≡ b → lock_after_calls (old.port.calls ++ call_of made mc.res mc.call ∷ []) g ≡ lock_at old.plan g (rows ++ r ∷ [])
+      by_res true at =
+          let on : mc.res.0 ≡ g = eqb-true mc.res.0 g at in
+          let answers : Answers (lock_at old.plan mc.res.0 rows) made.core.0 mc.call = answers_at old new c made rows cores stands due t mc in
+          let row : IsRowOfCall mc.res.0 r.core.0 mc.call r = record { core = refl; resource = like.res ∙ mc.resource; kind = like.kind ∙ mc.kind; ahead = told r.ahead like.ahead } in
+          let agrees = agree_at old.plan mc.res.0 rows r mc.call cores.accepted mc.global stands.start.each legal row (tells_from_answers old.plan (fifo mc.res.0 rows) (first_holds old.plan rows mc.res.0 (fifo mc.res.0 rows)) made.core.0 mc.call answers) in
+          lock_own old.port.calls (call_of made mc.res mc.call) g on
+          ∙ (ap (λ l. lock_after l made.core.0 mc.call) (stands.locks g glob)
+          ∙ (ap (λ n. lock_after (lock_at old.plan g rows) n mc.call) (sym like.core)
+          ∙ subst (λ n. lock_after (lock_at old.plan n rows) r.core.0 mc.call ≡ lock_at old.plan n (rows ++ r ∷ [])) on (sym agrees.next)))
+      by_res false off =
+          lock_other old.port.calls (call_of made mc.res mc.call) g off
+          ∙ (stands.locks g glob ∙ sym (lock_off old.plan g rows r cores.accepted glob stands.start.each legal (off_by r.res mc.res g (like.res ∙ mc.resource) off)))
+
+  -- and where it makes none
+  quiet_lock : IsQuiet old.plan made → (g : ℕ) → is_global old.plan g ≡ true → is_on g r.res ≡ false → lock_after_calls new.port.calls g ≡ lock_at old.plan g (rows ++ r ∷ [])
+  quiet_lock quiet g glob off =
+      ap (λ (p : FifoModel). lock_after_calls p.calls g) (t.quiet quiet)
+      ∙ (stands.locks g glob ∙ sym (lock_off old.plan g rows r cores.accepted glob stands.start.each legal off))
+
+  lock_by : (o : Option ResId) → made.res ≡ o → (g : ℕ) → is_global old.plan g ≡ true → lock_after_calls new.port.calls g ≡ lock_at old.plan g (rows ++ r ∷ [])
+  lock_by None e g glob = quiet_lock (λ res h. let no : None ≡ Some res = sym e ∙ h in absurd (cc)) g glob (ap (is_on g) (like.res ∙ e))
+  lock_by (Some res) e g glob = elim (cases_Bool (is_global old.plan res.0)) [
+    | inl own ↦ call_lock (t.call res e own) g glob
+    | inr loc ↦ quiet_lock (λ res' h. subst (λ (k : ResId). is_global old.plan k.0 ≡ false) (same_Some res res' (sym e ∙ h)) loc) g glob
+        (off_by r.res res g (like.res ∙ e) (not_this loc (res.0 == g) refl))
+  ]
+    where
+      not_this : is_global old.plan res.0 ≡ false → (b : Bool) → (res.0 == g) ≡ b → (res.0 == g) ≡ false
+      not_this loc true h = absurd (true≢false (sym glob ∙ (ap (is_global old.plan) (sym (eqb-true res.0 g h)) ∙ loc)))
+      not_this loc false h = h
+
+  -- the cores stand after that row
+  pub stand_push : StandFor new (rows ++ r ∷ [])
+  stand_push = subst (λ p. StandFor (record { plan = p; machines = new.machines; port = new.port }) (rows ++ r ∷ [])) (sym t.plan)
+      (record {
+        start = start_push old.plan rows r stands.start due.left legal;
+        logs = λ d y has. some_log d y has (d == c) refl;
+        locks = lock_by made.res refl;
+      })

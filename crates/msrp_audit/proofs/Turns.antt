@@ -1,0 +1,168 @@
+-- A turn of a core makes the next legal row, and leaves the cores as that row does.
+use Rattle.std.proofs.Common.{◌≡◌, ℕ, zero, suc, ◌/◌, ◌==◌, ◌&&◌, ◌||◌, Bool, true, false, cond, not, List, [], ◌∷◌, ◌++◌, Option, Some, None, IfSome, is_some, refl, ap, sym, ◌∙◌, subst, length, map, nat_lt, eq-eqb, inl, inr}
+use Rattle.std.specs.List.{filter}
+use Rattle.std.proofs.Math.Bool.{true≢false, and-false}
+use Rattle.std.proofs.lemmas.Bool.{cases_Bool, lt-ltb}
+use Rattle.std.proofs.lemmas.Option.{same_Some}
+use Rattle.std.proofs.lemmas.List.{map-append}
+use Rattle.std.proofs.lemmas.List.Elements.{filter-append}
+use Rattle.msrp_plan.specs.Plan.{PlanModel}
+use Rattle.msrp_plan.specs.Shape.{has_shape, is_queue, may_carry}
+use Rattle.msrp_plan.specs.Aheads.{carries_its_ahead}
+use Rattle.msrp_plan.specs.Jobs.{is_queued}
+use Rattle.msrp_plan.specs.Levels.{is_global}
+use Rattle.msrp_plan.specs.Actions.{allows, res_of_unit, is_global_unit}
+use Rattle.msrp_plan.specs.Queues.{fifo, replies, counts}
+use Rattle.msrp_plan.specs.Runs.{IsCoreTurn, had_turn, is_in_turn, is_fifo_reply, replies_on}
+use Rattle.msrp_plan.specs.Logs.{log_of}
+use Rattle.msrp_plan.specs.FifoLock.{FifoLock, free_lock, Answers, lock_after, LegalFrom, Legal}
+use Rattle.msrp_plan.specs.LockStates.{lock_at, lock_from}
+use Rattle.msrp_plan.specs.Calls.{kind_of_call, ahead_of_call}
+use Rattle.msrp_plan.specs.declared.ids.JobId.{JobId}
+use Rattle.msrp_plan.specs.declared.ids.ResId.{ResId}
+use Rattle.msrp_plan.specs.declared.rows.Kind.{Kind}
+use Rattle.msrp_plan.specs.declared.rows.Kind.TheVariants.{Idle, Run, Lock, Unlock, Queue}
+use Rattle.msrp_plan.specs.declared.rows.Row.{Row}
+use Rattle.msrp_plan.specs.declared.units.Call.{Call}
+use Rattle.msrp_plan.specs.declared.units.Call.TheVariants.{Ask, Poll, Leave}
+use Rattle.msrp_plan.specs.declared.units.Op.{Op}
+use Rattle.msrp_plan.specs.declared.units.Op.TheVariants.{Run as RunUnit, Lock as LockUnit, Unlock as UnlockUnit}
+use Rattle.msrp_plan.proofs.Locality.{AreOwn, chosen_local, action_local}
+use Rattle.msrp_plan.proofs.RoundRobin.{in_turn_of, quiet_reply}
+use Rattle.msrp_plan.proofs.CoreRuns.{due_by_log}
+use Rattle.msrp_plan.proofs.LegalRows.{IsTurn, turn_of, idle_res}
+use Rattle.msrp_plan.proofs.QueueLocks.{reply_at, own_from_legal}
+use Rattle.msrp_core.specs.Ports.{calls_on, core_call}
+use Rattle.msrp_core.specs.CoreJobs.{MakesCall}
+use Rattle.msrp_core.specs.declared.port.PortCall.{PortCall}
+use Rattle.msrp_sim.specs.Served.{AreFifo, as_port, lock_after_calls}
+use Rattle.msrp_audit.specs.Cores.{CoresModel, AreCores, StandFor, IsDueAfter, IsNextRow, TakesTurn}
+
+-- ---- the call of a turn
+-- the last call of a legal history is answered by the lock before it
+last_answers : (lock : FifoLock) (h : List (ℕ × Call)) (s : ℕ × Call) → LegalFrom lock (h ++ s ∷ []) → Answers (lock_from lock h) s.0 s.1
+last_answers lock [] s legal = legal.0
+last_answers lock (x ∷ h) s legal = last_answers (lock_after lock x.0 x.1) h s legal.1
+
+-- the calls on a resource, and one call of it more
+on_own : (g : ℕ) (calls : List PortCall) (e : PortCall) → (e.res.0 == g) ≡ true → calls_on g (calls ++ e ∷ []) ≡ calls_on g calls ++ (e.core.0, e.call) ∷ []
+on_own g calls e h =
+    ap (map core_call) (filter-append (λ x. x.res.0 == g) calls (e ∷ []))
+    ∙ (map-append core_call (filter (λ x. x.res.0 == g) calls) (cond (e.res.0 == g) (e ∷ []) [])
+    ∙ ap (λ b. calls_on g calls ++ map core_call (cond b (e ∷ []) [])) h)
+
+-- the call that a row makes
+abbrev pub call_of : (r : Row) (res : ResId) (call : Call) → PortCall
+call_of r res call = record { core = r.core; res = res; call = call }
+
+-- it is answered as the lock of its resource answers it
+call_answers : (calls more : List PortCall) (e : PortCall) → more ≡ calls ++ e ∷ [] → AreFifo more → Answers (lock_after_calls calls e.res.0) e.core.0 e.call
+call_answers calls more e is fifo =
+    last_answers free_lock (calls_on e.res.0 calls) (e.core.0, e.call)
+    (subst Legal (ap (calls_on e.res.0) is ∙ on_own e.res.0 calls e (eq-eqb e.res.0 e.res.0 refl)) (fifo e.res.0))
+
+-- ---- the row is legal
+-- a row of a call carries its ahead
+carries_call : (call : Call) → (not (is_queue (kind_of_call call)) || is_some (ahead_of_call call)) ≡ true
+carries_call (Ask zero) = refl
+carries_call (Ask (suc n)) = refl
+carries_call (Poll true) = refl
+carries_call (Poll false) = refl
+carries_call Leave = refl
+
+-- a row on no resource is no queue row
+none_joins : (k : Kind) (job : Option JobId) → has_shape k job None ≡ true → is_queue k ≡ false
+none_joins Queue job h = absurd (true≢false (sym h ∙ and-false (is_some job)))
+none_joins Idle job h = refl
+none_joins _ job h = refl
+
+carries_plain : (r : Row) → is_queue r.kind ≡ false → carries_its_ahead r ≡ true
+carries_plain r e = ap (λ b. not b || is_some r.ahead) e
+
+-- nor is one on a local resource, and every queue lets it pass
+local_passes : (q : List JobId) (j : Option JobId) (queued : Bool) (op : Op) (k : Kind) → allows false queued op k ≡ true → (replies q j k ≡ true) × (is_queue k ≡ false)
+local_passes q j queued RunUnit Run h = (refl, refl)
+local_passes q j queued (LockUnit g) Lock h = (refl, refl)
+local_passes q j queued (UnlockUnit g) Unlock h = (refl, refl)
+local_passes q j _ _ _ h = absurd (cc)
+
+counts_plain : (q : List JobId) (r : Row) → is_queue r.kind ≡ false → counts q r.ahead ≡ true
+counts_plain q r e = by_ahead r.ahead r.carrier
+  where
+    by_ahead : (o : Option ℕ) → may_carry r.kind o ≡ true → counts q o ≡ true
+    by_ahead None h = refl
+    by_ahead (Some n) h = absurd (true≢false (sym h ∙ e))
+
+-- the unit of such a row is on a local resource
+local_unit : (plan : PlanModel) (op : Op) (res : ResId) → Some res ≡ res_of_unit op → is_global plan res.0 ≡ false → is_global_unit plan op ≡ false
+local_unit plan RunUnit res e l = refl
+local_unit plan (LockUnit h) res e l = subst (λ (g : ResId). is_global plan g.0 ≡ false) (same_Some res h e) l
+local_unit plan (UnlockUnit h) res e l = subst (λ (g : ResId). is_global plan g.0 ≡ false) (same_Some res h e) l
+
+local_turn : (plan : PlanModel) (pre : List Row) (r : Row) (res : ResId) (o : Option JobId) → r.job ≡ o → IsTurn plan pre r → r.res ≡ Some res → is_global plan res.0 ≡ false → (q : List JobId) → (replies q r.job r.kind ≡ true) × (is_queue r.kind ≡ false)
+local_turn plan pre r res None job turn e l q = let idle = idle_res r (turn.idle job) in absurd (cc)
+local_turn plan pre r res (Some x) job turn e l q =
+    let does = turn.does x job in
+    local_passes q r.job (is_queued pre x) does.op r.kind (subst (λ b. allows b (is_queued pre x) does.op r.kind ≡ true) (local_unit plan does.op res (sym e ∙ does.res) l) does.kind)
+
+-- ---- the row of a turn, by its resource
+record Passes (pre : List Row) (r : Row) : Type 0 where
+  reply : is_fifo_reply pre r ≡ true
+  carries : carries_its_ahead r ≡ true
+
+both_pass : (a b : Bool) → a ≡ true → b ≡ true → (a && b) ≡ true
+both_pass a b h k = ap (λ c. c && b) h ∙ k
+
+module _ (old new : CoresModel) (c : ℕ) (r : Row) (rows : List Row) (cores : AreCores old) (stands : StandFor old rows) (due : IsDueAfter old.plan rows c) (t : TakesTurn old new c r) where
+  pub turn_row : IsCoreTurn old.plan c (log_of c rows) r
+  turn_row = t.row (log_of c rows) (stands.logs c t.before t.has)
+
+  are_own : AreOwn old.plan rows
+  are_own = own_from_legal old.plan [] rows stands.start.each
+
+  is_turn : IsTurn old.plan rows r
+  is_turn = turn_of old.plan rows r turn_row.own (chosen_local old.plan c rows r are_own turn_row) (action_local old.plan c rows r are_own turn_row)
+
+  -- the call of the turn, if it makes one, is the lock's
+  pub answers_at : (mc : MakesCall old.plan r (as_port old.port) (as_port new.port)) → Answers (lock_at old.plan mc.res.0 rows) r.core.0 mc.call
+  answers_at mc = subst (λ l. Answers l r.core.0 mc.call) (stands.locks mc.res.0 mc.global) (call_answers old.port.calls new.port.calls (call_of r mc.res mc.call) mc.adds.calls t.fifo)
+
+  call_passes : MakesCall old.plan r (as_port old.port) (as_port new.port) → Passes rows r
+  call_passes mc = record {
+    reply = reply_at old.plan mc.res.0 rows r mc.call cores.accepted mc.global stands.start.each is_turn (record { core = refl; resource = mc.resource; kind = mc.kind; ahead = told r.ahead mc.ahead }) (answers_at mc);
+    carries = ap (λ k. not (is_queue k) || is_some r.ahead) mc.kind ∙ (ap (λ o. not (is_queue (kind_of_call mc.call)) || is_some o) mc.ahead ∙ carries_call mc.call);
+  }
+    where
+      told : (o : Option ℕ) → o ≡ ahead_of_call mc.call → IfSome o (λ n. ahead_of_call mc.call ≡ Some n)
+      told None e = tt
+      told (Some n) e = sym e
+
+  passes_by : (o : Option ResId) → r.res ≡ o → Passes rows r
+  passes_by None e = record { reply = quiet_reply rows r r.res e; carries = carries_plain r (none_joins r.kind r.job (subst (λ g. has_shape r.kind r.job g ≡ true) e r.shape)) }
+  passes_by (Some res) e = elim (cases_Bool (is_global old.plan res.0)) [
+    | inl glob ↦ call_passes (t.call res e glob)
+    | inr loc ↦
+        let local = local_turn old.plan rows r res r.job refl is_turn e loc (fifo res.0 rows) in
+        record {
+          reply = ap (λ o. replies_on rows o r) e ∙ both_pass (replies (fifo res.0 rows) r.job r.kind) (counts (fifo res.0 rows) r.ahead) local.0 (counts_plain (fifo res.0 rows) r local.1);
+          carries = carries_plain r local.1;
+        }
+  ]
+
+  in_turn : is_in_turn old.plan rows r ≡ true
+  in_turn =
+      let tick : r.tick ≡ length rows / old.plan.cores = turn_row.tick ∙ due.due in
+      let had : had_turn c (length rows / old.plan.cores) rows ≡ false = due_by_log old.plan rows c stands.start.each due.core due.due in
+      in_turn_of r.tick (length rows / old.plan.cores) (nat_lt r.core.0 old.plan.cores) (had_turn r.core.0 r.tick rows) tick
+      (ap (λ n. nat_lt n old.plan.cores) turn_row.core ∙ lt-ltb c old.plan.cores due.core)
+      (ap (λ n. had_turn n r.tick rows) turn_row.core ∙ (ap (λ n. had_turn c n rows) tick ∙ had))
+
+  -- the row of a due core is the next legal one
+  pub next_legal : IsNextRow old.plan rows c r
+  next_legal =
+      let passes = passes_by r.res refl in
+      record {
+        core = turn_row.core;
+        legal = record { turn = in_turn; own = turn_row.own; chosen = chosen_local old.plan c rows r are_own turn_row; action = action_local old.plan c rows r are_own turn_row; reply = passes.reply };
+        carries = passes.carries;
+      }

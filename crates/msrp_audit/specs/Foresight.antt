@@ -1,0 +1,47 @@
+-- A row against the one that its core was due to make: what the first rule is that it breaks.
+use Rattle.std.specs.Prelude.{ℕ, Bool, true, false, ◌==◌, ◌&&◌, cond, Option, Some, None}
+use Rattle.msrp_plan.specs.Actions.{same_res}
+use Rattle.msrp_plan.specs.Runs.{same_choice}
+use Rattle.msrp_plan.specs.declared.faults.Rule.{Rule}
+use Rattle.msrp_plan.specs.declared.faults.Rule.TheVariants.{A3, A4, A5}
+use Rattle.msrp_plan.specs.declared.rows.Kind.{Kind}
+use Rattle.msrp_plan.specs.declared.rows.Kind.TheVariants.{Idle, Run, Lock, Unlock, Take, Queue, Spin, Grant, Release}
+use Rattle.msrp_plan.specs.declared.rows.Row.{Row}
+
+abbrev pub same_kind : Kind → Kind → Bool
+same_kind Idle Idle = true
+same_kind Run Run = true
+same_kind Lock Lock = true
+same_kind Unlock Unlock = true
+same_kind Take Take = true
+same_kind Queue Queue = true
+same_kind Spin Spin = true
+same_kind Grant Grant = true
+same_kind Release Release = true
+same_kind _ _ = false
+
+-- the kinds are the same but for the answer: a request is taken or queued, a poll granted or left spinning
+abbrev pub same_action : Kind → Kind → Bool
+same_action Take Queue = true
+same_action Queue Take = true
+same_action Grant Spin = true
+same_action Spin Grant = true
+same_action a b = same_kind a b
+
+-- an ahead, where there is one, is this one
+abbrev pub same_ahead : Option ℕ → Option ℕ → Bool
+same_ahead None o = true
+same_ahead (Some n) None = false
+same_ahead (Some n) (Some m) = n == m
+
+-- the row does what the other does, on the same resource, whatever the answers
+abbrev pub does_alike : Row → Row → Bool
+does_alike r due = same_res r.res due.res && same_action r.kind due.kind
+
+-- it has the other's answer, and if it carries an ahead the other's
+abbrev pub replied_alike : Row → Row → Bool
+replied_alike r due = same_kind r.kind due.kind && same_ahead r.ahead due.ahead
+
+-- the lowest of the rules on job, action and reply that the row breaks, where this one is the row that is due
+abbrev pub unlike : Row → Row → Option Rule
+unlike r due = cond (same_choice r.job due.job) (cond (does_alike r due) (cond (replied_alike r due) None (Some A5)) (Some A4)) (Some A3)

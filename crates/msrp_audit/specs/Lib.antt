@@ -1,0 +1,4 @@
+pub mod Foresight
+pub mod Cores
+pub mod CoresView
+pub mod Audits

@@ -1,0 +1,161 @@
+//! The auditor, row by row.
+ghost use Rattle.std.specs.Prelude.{◌≡◌, ◌<◌, ◌*◌, ◌++◌, ◌∷◌, [], List, IfOk, Some, None, Err, length, true, slice_get};
+ghost use Rattle.msrp_core.specs.Machine.{MachineModel};
+ghost use Rattle.msrp_plan.specs.Runs.{is_of_core, is_in_turn};
+ghost use Rattle.msrp_plan.specs.Verdict.{fault_in, verdict, refused};
+ghost use Rattle.msrp_plan.specs.declared.faults.Fault.{Fault as TraceFault};
+ghost use Rattle.msrp_plan.specs.declared.rows.Row.{Row as TraceRow};
+ghost use Rattle.msrp_audit.specs.Cores.{StandFor};
+ghost use Rattle.msrp_audit.specs.Audits.{HasFed, answer_of};
+
+use crate::comparing::unlike_due;
+use crate::cores::Cores;
+use msrp_levels::Levels;
+use msrp_plan::{Fault, Memory, Plan, Row, Rule};
+use std::alloc::Global;
+use std::marker::Model;
+
+/// Judges the rows of a trace as they come, whoever made them.
+///
+/// Each core of the plan is followed by a machine, over first-in-first-out queues: it tells the one row that the core
+/// may make next, and the row that comes is compared with it (Baker 1991; Gai, Lipari and Di Natale 2001).
+#[derive(Drop)]
+pub struct Auditor<'a> {
+    plan: &'a Plan,
+    cores: Cores<'a>,
+    // How many rows came before the first fault.
+    fed: u32,
+    fault: Option<Fault>,
+}
+
+impl<'a> Model for Auditor<'a> {
+    ghost use Rattle.msrp_audit.specs.Audits.{AuditorModel};
+
+    ghost Value = { AuditorModel };
+
+    ghost use Rattle.msrp_audit.specs.Audits.{auditor_view, IsAuditorView};
+
+    ghost view = { auditor_view };
+
+    ghost invariant = { IsAuditorView };
+}
+
+// Whether the row stands in the tick that is due, of a core that has not had its turn in it.
+fn is_due(plan: &Plan, cores: &Cores, fed: u32, row: Row) -> bool
+    requires plan { cores.now.plan ≡ plan.now }
+    requires left { fed < plan.now.cores * plan.now.ticks }
+    ensures turn { (rows : List TraceRow) → StandFor cores.now rows → fed ≡ length rows → result ≡ is_in_turn plan.now rows row }
+    ensures core { result ≡ true → row.core.0 < plan.now.cores }
+    ensures tick { result ≡ true → (x : MachineModel) → slice_get cores.now.machines row.core.0 ≡ Some x → x.tick < plan.now.ticks }
+{
+    if row.tick != fed / plan.cores() {
+        return false;
+    }
+    if row.core.0 >= plan.cores() {
+        return false;
+    }
+    cores.tick(row.core) == row.tick
+}
+
+// Whether the row's job, if it has one, is a job of the row's core.
+fn is_own(plan: &Plan, row: Row) -> bool
+    ensures { result ≡ is_of_core plan.now row }
+{
+    let Some(job) = row.job else {
+        return true;
+    };
+    if job.task.0 >= plan.tasks() {
+        return false;
+    }
+    if plan.core_of(job.task) != row.core {
+        return false;
+    }
+    job.k < plan.jobs(job.task)
+}
+
+impl<'a> Auditor<'a> {
+    /// An auditor before the first row. All memory that it ever needs is taken here: it is [`Memory`] only where that
+    /// was refused. The levels are those of the plan.
+    pub fn with_room(
+        alloc: Global,
+        plan: &'a Plan,
+        levels: &'a Levels<'a>,
+    ) -> Result<Auditor<'a>, Memory>
+        requires levels { levels.now ≡ plan.now }
+        ensures plan { IfOk result (λ auditor. auditor.plan ≡ plan.now) }
+        ensures fed { IfOk result (λ auditor. HasFed auditor []) }
+    {
+        Ok(Auditor {
+            plan,
+            cores: Cores::with_room(alloc, plan, levels)?,
+            fed: 0,
+            fault: None,
+        })
+    }
+
+    // The rule that the next row breaks, if it breaks one; else the cores stand for it too.
+    fn judge(&mut self, row: Row) -> Option<Rule>
+        ensures plan { self.new.plan ≡ self.old.plan }
+        ensures fed { self.new.fed ≡ self.old.fed }
+        ensures fault { self.new.fault ≡ self.old.fault }
+        ensures left { result ≡ None → self.old.fed < self.old.plan.cores * self.old.plan.ticks }
+        ensures rule { (rows : List TraceRow) → StandFor self.old.cores rows → self.old.fed ≡ length rows → result ≡ refused self.old.plan rows row }
+        ensures stand { (rows : List TraceRow) → StandFor self.old.cores rows → self.old.fed ≡ length rows → result ≡ None → StandFor self.new.cores (rows ++ row ∷ []) }
+    {
+        if self.fed == self.plan.cores() * self.plan.ticks() {
+            return Some(Rule::A7);
+        }
+        if !is_due(self.plan, &self.cores, self.fed, row) {
+            return Some(Rule::A1);
+        }
+        if !is_own(self.plan, row) {
+            return Some(Rule::A2);
+        }
+        let due = self.cores.turn(row.core);
+        unlike_due(row, due)
+    }
+
+    /// The next row: the fault of the rows so far, if they have one, whatever is still missing. After a fault it
+    /// answers that same fault. It takes no memory.
+    pub fn feed(&mut self, row: Row) -> Result<(), Fault>
+        ensures plan { self.new.plan ≡ self.old.plan }
+        ensures fed { (rows : List TraceRow) → HasFed self.old rows → HasFed self.new (rows ++ row ∷ []) }
+        ensures answer { (rows : List TraceRow) → HasFed self.old rows → result ≡ answer_of (fault_in self.old.plan (rows ++ row ∷ [])) }
+        ensures same { (fault : TraceFault) → self.old.fault ≡ Some fault → result ≡ Err fault }
+    {
+        if let Some(fault) = self.fault {
+            return Err(fault);
+        }
+        match self.judge(row) {
+            None => {
+                self.fed += 1;
+                Ok(())
+            }
+            Some(rule) => {
+                let fault = Fault {
+                    row: self.fed + 1,
+                    rule,
+                };
+                self.fault = Some(fault);
+                Err(fault)
+            }
+        }
+    }
+
+    /// The verdict on the rows so far as a whole trace: their fault, else the first missing row. It changes nothing,
+    /// so that rows may be fed after it.
+    pub fn end(&self) -> Result<(), Fault>
+        ensures { (rows : List TraceRow) → HasFed self.now rows → result ≡ answer_of (verdict self.now.plan rows) }
+    {
+        if let Some(fault) = self.fault {
+            return Err(fault);
+        }
+        if self.fed < self.plan.cores() * self.plan.ticks() {
+            return Err(Fault {
+                row: self.fed + 1,
+                rule: Rule::A6,
+            });
+        }
+        Ok(())
+    }
+}

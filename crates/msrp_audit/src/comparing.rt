@@ -1,0 +1,45 @@
+//! A row against the one that was due.
+ghost use Rattle.std.specs.Prelude.{◌≡◌};
+ghost use Rattle.msrp_plan.specs.Runs.{same_choice};
+ghost use Rattle.msrp_plan.specs.Actions.{same_res};
+ghost use Rattle.msrp_audit.specs.Foresight.{same_action, same_kind, same_ahead, does_alike, replied_alike, unlike};
+
+use msrp_plan::{Kind, Row, Rule};
+
+// The kinds are the same but for the answer.
+fn is_same_action(kind: Kind, due: Kind) -> bool
+    ensures { result ≡ same_action kind due }
+{
+    match (kind, due) {
+        (Kind::Take | Kind::Queue, Kind::Take | Kind::Queue) => true,
+        (Kind::Grant | Kind::Spin, Kind::Grant | Kind::Spin) => true,
+        _ => kind == due,
+    }
+}
+
+fn does_as(row: Row, due: Row) -> bool
+    ensures { result ≡ does_alike row due }
+{
+    row.res == due.res && is_same_action(row.kind, due.kind)
+}
+
+fn replied_as(row: Row, due: Row) -> bool
+    ensures { result ≡ replied_alike row due }
+{
+    row.kind == due.kind && (row.ahead.is_none() || row.ahead == due.ahead)
+}
+
+// The lowest of the rules on job, action and reply that the row breaks, where the other is the row that is due.
+pub fn unlike_due(row: Row, due: Row) -> Option<Rule>
+    ensures { result ≡ unlike row due }
+{
+    if row.job != due.job {
+        Some(Rule::A3)
+    } else if !does_as(row, due) {
+        Some(Rule::A4)
+    } else if !replied_as(row, due) {
+        Some(Rule::A5)
+    } else {
+        None
+    }
+}

@@ -1,0 +1,78 @@
+//! The orders in which the cores of a plan have their turns.
+ghost use Rattle.std.specs.Prelude.{ℕ, ◌≡◌, ◌↔◌, ◌<◌, ◌*◌, true, slice_index_or, length};
+ghost use Rattle.msrp_plan.specs.Plan.{PlanModel};
+ghost use Rattle.msrp_plan.specs.Scheduling.{IsOrder};
+ghost use Rattle.msrp_plan.specs.Logs.{ascending};
+ghost use Rattle.msrp_sim.specs.Orders.{cores_of, falling, rotating};
+
+use msrp_plan::limits::MOST_CORES;
+use msrp_plan::{CoreId, Plan};
+
+/// An order of turns: in each tick each core has one.
+#[derive(Debug, Drop)]
+pub enum Order {
+    /// In each tick the cores rising.
+    Asc,
+    /// In each tick the cores falling.
+    Desc,
+    /// In tick t the cores from t mod m on, of m cores, going round upwards.
+    Rot,
+    /// The number of each turn's core, tick after tick.
+    Given(Vec<u32>),
+}
+
+/// Rising, falling and going round, each core has one turn in each tick.
+pub fn orders_of_turns()
+    ensures asc { (plan : PlanModel) → IsOrder plan (ascending plan.cores plan.ticks) }
+    ensures desc { (plan : PlanModel) → IsOrder plan (falling plan) }
+    ensures rot { (plan : PlanModel) → IsOrder plan (rotating plan) }
+{}
+
+// Whether each of these cores, one by one, has one turn in each tick.
+fn are_turns(plan: &Plan, cores: &[u32]) -> bool
+    ensures { (result ≡ true) ↔ IsOrder plan.now cores.now }
+{
+    let size = plan.cores() * plan.ticks();
+    if cores.len() != size as usize {
+        return false;
+    }
+    let mut turns = [0; MOST_CORES as usize];
+    for turn in 0..size {
+        let core = cores[turn as usize];
+        if core >= plan.cores() || turns[core as usize] != turn / plan.cores() {
+            return false;
+        }
+        turns[core as usize] += 1;
+    }
+    true
+}
+
+impl Order {
+    /// Whether the order gives each core of the plan one turn in each tick, as all do that aren't given by a list.
+    pub fn is_of(&self, plan: &Plan) -> bool
+        ensures { (result ≡ true) ↔ IsOrder plan.now (cores_of self.now plan.now) }
+    {
+        match self {
+            Order::Asc => true,
+            Order::Desc => true,
+            Order::Rot => true,
+            Order::Given(cores) => are_turns(plan, cores.as_slice()),
+        }
+    }
+
+    /// The core that has this turn, counted from 0.
+    pub fn core(&self, plan: &Plan, turn: u32) -> CoreId
+        requires turn { turn < plan.now.cores * plan.now.ticks }
+        requires order { IsOrder plan.now (cores_of self.now plan.now) }
+        ensures { result.0 ≡ slice_index_or (cores_of self.now plan.now) turn 0 }
+    {
+        let tick = turn / plan.cores();
+        let place = turn % plan.cores();
+        CoreId(match self {
+            Order::Asc => place,
+            Order::Desc => plan.cores() - (place + 1),
+            Order::Rot => (tick + place) % plan.cores(),
+            Order::Given(cores) => cores[turn as usize],
+        })
+    }
+}

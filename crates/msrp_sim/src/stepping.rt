@@ -1,0 +1,135 @@
+//! A run on one thread, turn by turn.
+ghost use Rattle.std.specs.Prelude.{◌≡◌, ◌<◌, ◌+◌, ◌*◌, ◌++◌, ◌∷◌, [], List, Err, IfOk, ◌↔◌};
+ghost use Rattle.msrp_plan.specs.Scheduling.{IsOrder};
+ghost use Rattle.msrp_plan.specs.declared.rows.Row.{Row as TraceRow};
+ghost use Rattle.msrp_sim.specs.Orders.{cores_of};
+ghost use Rattle.msrp_sim.specs.Simulated.{AreNew, HasMade, IsRunIn};
+
+use crate::fifo::FifoPort;
+use crate::orders::Order;
+use msrp_core::Machine;
+use msrp_levels::Levels;
+use msrp_plan::{CoreId, Memory, Plan, Row, Trace};
+use std::alloc::Global;
+use std::marker::Model;
+
+/// A run of a plan on one thread: a machine for each core, over one port, which have their turns in an order.
+#[derive(Drop)]
+pub struct Simulation<'a> {
+    plan: &'a Plan,
+    order: &'a Order,
+    turn: u32,
+    machines: Vec<Machine<'a>>,
+    port: FifoPort,
+}
+
+impl<'a> Model for Simulation<'a> {
+    ghost use Rattle.msrp_sim.specs.Simulated.{SimModel};
+
+    ghost Value = { SimModel };
+
+    ghost use Rattle.msrp_sim.specs.SimView.{sim_view, IsSimView};
+
+    ghost view = { sim_view };
+
+    ghost invariant = { IsSimView };
+}
+
+// A machine for each core, before its first turn.
+fn machines_of<'a>(
+    alloc: Global,
+    plan: &'a Plan,
+    levels: &'a Levels<'a>,
+) -> Result<Vec<Machine<'a>>, Memory>
+    requires { levels.now ≡ plan.now }
+    ensures { IfOk result (λ machines. AreNew plan.now plan.now.cores machines.items) }
+{
+    let cores = plan.cores();
+    let mut machines = Vec::with_capacity(alloc, cores as usize).map_err(|_| Memory)?;
+    for core in 0..cores {
+        machines.push_reserved(Machine::with_room(alloc, plan, levels, CoreId(core))?);
+    }
+    Ok(machines)
+}
+
+impl<'a> Simulation<'a> {
+    /// A simulation before its first turn. All memory that it ever needs is taken here: it is [`Memory`] only where
+    /// that was refused. The levels are those of the plan, and the order is one of it, as [`Order::is_of`] tells.
+    pub fn with_room(
+        alloc: Global,
+        plan: &'a Plan,
+        levels: &'a Levels<'a>,
+        order: &'a Order,
+    ) -> Result<Simulation<'a>, Memory>
+        requires levels { levels.now ≡ plan.now }
+        requires order { IsOrder plan.now (cores_of order.now plan.now) }
+        ensures plan { IfOk result (λ sim. sim.plan ≡ plan.now) }
+        ensures order { IfOk result (λ sim. sim.order ≡ cores_of order.now plan.now) }
+        ensures turn { IfOk result (λ sim. sim.turn ≡ 0) }
+        ensures made { IfOk result (λ sim. HasMade sim []) }
+    {
+        let _accepted = plan.cores();
+        let machines = machines_of(alloc, plan, levels)?;
+        let port = FifoPort::with_room(alloc, plan)?;
+        Ok(Simulation {
+            plan,
+            order,
+            turn: 0,
+            machines,
+            port,
+        })
+    }
+
+    /// The next turn: its core's machine makes a row, and the port answers at once. It never fails, and takes no
+    /// memory. Whatever rows the simulation has made, this is the next of them.
+    pub fn turn(&mut self) -> Row
+        requires { self.old.turn < self.old.plan.cores * self.old.plan.ticks }
+        ensures plan { self.new.plan ≡ self.old.plan }
+        ensures order { self.new.order ≡ self.old.order }
+        ensures turn { self.new.turn ≡ self.old.turn + 1 }
+        ensures row { (rows : List TraceRow) → HasMade self.old rows → HasMade self.new (rows ++ result ∷ []) }
+    {
+        let core = self.order.core(self.plan, self.turn);
+        let row = self.machines[core.0 as usize].turn(&mut self.port);
+        let _calls = self.port.calls();
+        self.turn += 1;
+        row
+    }
+}
+
+/// Why a plan was not simulated.
+#[derive(Clone, Copy, Debug, PartialEq, Eq)]
+pub enum SimError {
+    /// The list that gives the order doesn't name each core of the plan once in each tick. This is judged before memory.
+    S1,
+    /// Memory was refused.
+    S2,
+}
+
+impl From<Memory> for SimError {
+    ghost use Rattle.msrp_sim.specs.declared.stepping.SimError.{SimError};
+
+    ghost from_gives = { λ _ error. error ≡ SimError.S2 };
+
+    fn from(_error: Memory) -> SimError {
+        SimError::S2
+    }
+}
+
+/// The run of a plan in which the cores have their turns in this order, whole. There is one such run.
+pub fn simulate(alloc: Global, plan: &Plan, order: &Order) -> Result<Trace, SimError>
+    ensures given { (result ≡ Err SimError.S1) ↔ ¬ IsOrder plan.now (cores_of order.now plan.now) }
+    ensures run { IfOk result (λ trace. IsRunIn plan.now (cores_of order.now plan.now) trace.rows.items) }
+{
+    if !order.is_of(plan) {
+        return Err(SimError::S1);
+    }
+    let levels = Levels::of(alloc, plan)?;
+    let mut simulation = Simulation::with_room(alloc, plan, &levels, order)?;
+    let size = plan.cores() * plan.ticks();
+    let mut rows = Vec::with_capacity(alloc, size as usize).map_err(|_| SimError::S2)?;
+    for _turn in 0..size {
+        rows.push_reserved(simulation.turn());
+    }
+    Ok(Trace { rows })
+}

@@ -1,0 +1,7 @@
+use Rattle.std.proofs.Common.{◌≡◌, false, take}
+use Rattle.std.specs.List.{list_any}
+use Rattle.msrp_plan.specs.ReleaseTimes.{is_listed}
+use Rattle.msrp_text.proofs.writing.version_of.Given as goal
+
+abbrev pub invariant-loop-task : goal.invariant-loop-task
+invariant-loop-task l = list_any (λ task. is_listed task.times) (take l.task l.plan.tasks) ≡ false

@@ -1,0 +1,211 @@
+//! Plan text, written.
+ghost use Rattle.std.specs.Prelude.{◌≡◌, ◌<◌, ◌+◌, ◌^◌, ◌++◌, [], ◌∷◌, length, map, codes, decimal, OnOk, OnErr, true, false};
+ghost use Rattle.std.specs.List.{flat_map};
+ghost use Rattle.msrp_plan.specs.Bytes.{Wrote, sink_failed};
+ghost use Rattle.msrp_plan.specs.Plan.{task_at};
+ghost use Rattle.msrp_plan.specs.ReleaseTimes.{Every, Listed, listed_ticks};
+ghost use Rattle.msrp_plan.specs.WellFormed.{IsPlan};
+ghost use Rattle.msrp_text.specs.PlanText.{declaration, head_records, plan_text, record_text, records_text, release_record, resource_record, steps_of, task_records, times_records, version_of, version_record};
+ghost use Rattle.msrp_text.specs.Writing.{IsNamedUnit, run_after, run_steps, steps_before, steps_text};
+
+use itoa::Buffer;
+use msrp_plan::bytes::Sink;
+use msrp_plan::{JobId, Op, Plan, ResId, TaskId, TextVersion, Times, WriteFault};
+use std::io::Write;
+
+// A field that is not the first of its record.
+fn next_field<W: Write>(out: &mut Sink<W>, text: &[u8])
+    ensures { Wrote W.contents out.old out.new (codes "," ++ text.now) }
+{
+    out.add(b",");
+    out.add(text);
+}
+
+fn next_number<W: Write>(out: &mut Sink<W>, number: u64)
+    ensures { Wrote W.contents out.old out.new (codes "," ++ decimal number) }
+{
+    let mut digits = Buffer::new();
+    next_field(out, digits.format(number).as_bytes());
+}
+
+// The version that the plan's text wants: listed tasks are of version 2.
+fn version_of(plan: &Plan) -> TextVersion
+    ensures { result ≡ version_of plan.now }
+{
+    for task in 0..plan.tasks() {
+        if let Times::Listed { .. } = plan.times(TaskId(task)) {
+            return TextVersion::V2;
+        }
+    }
+    TextVersion::V1
+}
+
+// A record of a word and a number.
+fn write_number<W: Write>(out: &mut Sink<W>, word: &[u8], number: u64)
+    ensures { Wrote W.contents out.old out.new (record_text (word.now ∷ decimal number ∷ [])) }
+{
+    out.add(word);
+    next_number(out, number);
+    out.add(b"\n");
+}
+
+// A record of a word and a name.
+fn write_name<W: Write>(out: &mut Sink<W>, word: &[u8], name: &str)
+    ensures { Wrote W.contents out.old out.new (record_text (word.now ∷ name.now ∷ [])) }
+{
+    out.add(word);
+    next_field(out, name.as_bytes());
+    out.add(b"\n");
+}
+
+// The first record.
+fn version_record(version: TextVersion) -> &'static [u8]
+    ensures { result.now ≡ record_text (version_record version) }
+{
+    match version {
+        TextVersion::V1 => b"msrp,1\n",
+        TextVersion::V2 => b"msrp,2\n",
+    }
+}
+
+// The first three records.
+fn write_head<W: Write>(out: &mut Sink<W>, plan: &Plan)
+    ensures { Wrote W.contents out.old out.new (records_text (head_records plan.now)) }
+{
+    out.add(version_record(version_of(plan)));
+    write_number(out, b"cores", u64::from(plan.cores()));
+    write_number(out, b"ticks", u64::from(plan.ticks()));
+}
+
+fn write_resources<W: Write>(out: &mut Sink<W>, plan: &Plan)
+    ensures { Wrote W.contents out.old out.new (records_text (map resource_record plan.now.resources)) }
+{
+    for res in 0..plan.resources() {
+        write_name(out, b"resource", plan.res_name(ResId(res)));
+    }
+}
+
+// The record of a periodic task.
+fn write_periodic<W: Write>(out: &mut Sink<W>, plan: &Plan, task: TaskId, period: u32, offset: u32)
+    requires { task.0 < length plan.now.tasks }
+    ensures { Wrote W.contents out.old out.new (record_text (declaration (task_at plan.now task.0) (Every period offset))) }
+{
+    out.add(b"task");
+    next_field(out, plan.task_name(task).as_bytes());
+    next_number(out, u64::from(plan.core_of(task).0));
+    next_number(out, u64::from(period));
+    next_number(out, u64::from(plan.deadline(task)));
+    next_number(out, u64::from(offset));
+    out.add(b"\n");
+}
+
+// The record of a listed task.
+fn write_listed<W: Write>(out: &mut Sink<W>, plan: &Plan, task: TaskId)
+    requires { task.0 < length plan.now.tasks }
+    ensures { Wrote W.contents out.old out.new (record_text (declaration (task_at plan.now task.0) (Listed []))) }
+{
+    out.add(b"listed");
+    next_field(out, plan.task_name(task).as_bytes());
+    next_number(out, u64::from(plan.core_of(task).0));
+    next_number(out, u64::from(plan.deadline(task)));
+    out.add(b"\n");
+}
+
+// The releases of a listed task.
+fn write_releases<W: Write>(out: &mut Sink<W>, plan: &Plan, task: TaskId, count: u32)
+    requires task { task.0 < length plan.now.tasks }
+    requires count { count ≡ length (listed_ticks (task_at plan.now task.0).times) }
+    ensures { Wrote W.contents out.old out.new (records_text (map release_record (listed_ticks (task_at plan.now task.0).times))) }
+{
+    for k in 0..count {
+        write_number(out, b"release", plan.release(JobId { task, k }));
+    }
+}
+
+// When a task is released: its declaration, and the ticks of its list.
+fn write_times<W: Write>(out: &mut Sink<W>, plan: &Plan, task: TaskId)
+    requires { task.0 < length plan.now.tasks }
+    ensures { Wrote W.contents out.old out.new (records_text (times_records (task_at plan.now task.0))) }
+{
+    match plan.times(task) {
+        Times::Every { period, offset } => write_periodic(out, plan, task, period, offset),
+        Times::Listed { count } => {
+            write_listed(out, plan, task);
+            write_releases(out, plan, task, count);
+        }
+    }
+}
+
+// So many units of work, if there are any.
+fn write_run<W: Write>(out: &mut Sink<W>, plan: &Plan, count: u32)
+    ensures { Wrote W.contents out.old out.new (steps_text plan.now (run_steps count)) }
+{
+    if count > 0 {
+        write_number(out, b"op,run", u64::from(count));
+    }
+}
+
+// One unit more, after so many units of work that are not written yet: how many are not after it.
+fn write_unit<W: Write>(out: &mut Sink<W>, plan: &Plan, run: u32, unit: Op) -> u32
+    requires named { IsNamedUnit plan.now unit }
+    requires room { run + 1 < 2 ^ 32 }
+    ensures text { Wrote W.contents out.old out.new (steps_text plan.now (steps_before run unit)) }
+    ensures run { result ≡ run_after run unit }
+{
+    match unit {
+        Op::Run => run + 1,
+        Op::Lock(res) => {
+            write_run(out, plan, run);
+            write_name(out, b"op,lock", plan.res_name(res));
+            0
+        }
+        Op::Unlock(res) => {
+            write_run(out, plan, run);
+            write_name(out, b"op,unlock", plan.res_name(res));
+            0
+        }
+    }
+}
+
+// The units of a task, adjacent units of work in one record.
+fn write_units<W: Write>(out: &mut Sink<W>, plan: &Plan, task: TaskId)
+    requires plan { IsPlan plan.now }
+    requires task { task.0 < length plan.now.tasks }
+    ensures { Wrote W.contents out.old out.new (steps_text plan.now (steps_of (task_at plan.now task.0).units)) }
+{
+    let mut run = 0;
+    for place in 0..plan.units(task) {
+        run = write_unit(out, plan, run, plan.unit(task, place));
+    }
+    write_run(out, plan, run);
+}
+
+fn write_task<W: Write>(out: &mut Sink<W>, plan: &Plan, task: TaskId)
+    requires plan { IsPlan plan.now }
+    requires task { task.0 < length plan.now.tasks }
+    ensures { Wrote W.contents out.old out.new (records_text (task_records plan.now (task_at plan.now task.0))) }
+{
+    write_times(out, plan, task);
+    write_units(out, plan, task);
+}
+
+fn write_tasks<W: Write>(out: &mut Sink<W>, plan: &Plan)
+    ensures { Wrote W.contents out.old out.new (records_text (flat_map (task_records plan.now) plan.now.tasks)) }
+{
+    for task in 0..plan.tasks() {
+        write_task(out, plan, TaskId(task));
+    }
+}
+
+/// Writes a plan as text, in version 1 unless a task is released by a list. Read again it gives an equal plan. Adjacent
+/// units of work are one record. After a write fault what was written is a first part of the text.
+pub fn write_plan<W: Write>(out: &mut Sink<W>, plan: &Plan) -> Result<(), WriteFault>
+    ensures wrote { Wrote W.contents out.old out.new (plan_text plan.now) }
+    ensures good { OnOk result (sink_failed out.new ≡ false) }
+    ensures fault { OnErr result (sink_failed out.new ≡ true) }
+{
+    write_head(out, plan);
+    write_resources(out, plan);
+    write_tasks(out, plan);
+    out.outcome()
+}

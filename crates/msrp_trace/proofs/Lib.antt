@@ -1,0 +1,5 @@
+pub mod Names
+pub mod Fields
+pub mod Telling
+pub mod Gathered
+pub mod Records

@@ -1,0 +1,79 @@
+-- The records of a trace, field after field.
+use Rattle.std.proofs.Common.{◌≡◌, ℕ, List, [], ◌∷◌, ◌++◌, refl, sym, ap, ◌∙◌, append_assoc, append-nil, codes, decimal, Some, slice_get, slice_index_or, get_or, length, take, ◌<◌, ◌≤◌, ◌+◌, ◌&&◌, true, Option, None, IfSome, lt-ltb}
+use Rattle.std.proofs.lemmas.Option.{get_or_from_slice_get}
+use Rattle.std.proofs.lemmas.Grind.{flat_map-append}
+use Rattle.std.proofs.lemmas.List.{take_all, take_more}
+use Rattle.std.specs.List.{flat_map, join_by}
+use Rattle.msrp_plan.specs.Plan.{PlanModel}
+use Rattle.msrp_plan.specs.declared.ids.JobId.{JobId}
+use Rattle.msrp_plan.specs.declared.ids.ResId.{ResId}
+use Rattle.msrp_plan.specs.declared.rows.Row.{Row}
+use Rattle.msrp_plan.specs.declared.rows.TextVersion.{TextVersion}
+use Rattle.msrp_plan.specs.declared.rows.TextVersion.TheVariants.{V1, V2}
+use Rattle.msrp_trace.specs.Gathering.{next_field}
+use Rattle.msrp_trace.specs.TraceText.{ahead_fields, ahead_text, head_text, is_named, is_res_of, is_task_of, job_text, kind_text, record_text, res_text, row_text, task_text, trace_text, trace_word, version_text}
+
+-- a field with its comma
+pub next-is : (text : List ℕ) → codes "," ++ text ≡ next_field text
+unfolding next_field
+next-is text = refl
+
+-- the word that a text begins with
+pub trace-word-is : codes "msrp-trace" ≡ trace_word
+unfolding trace_word
+trace-word-is = refl
+
+-- four, six and seven fields, s between them, and n at the end
+four_joined : (s n a b c d : List ℕ) → (((a ++ (s ++ b)) ++ (s ++ c)) ++ (s ++ d)) ++ n ≡ join_by (λ x. x) s (a ∷ b ∷ c ∷ d ∷ []) ++ n
+four_joined s n a b c d = simp (append_assoc, append-nil)
+
+six_joined : (s n a b c d e f : List ℕ) → (((((a ++ (s ++ b)) ++ (s ++ c)) ++ ((s ++ d) ++ (s ++ e))) ++ (s ++ f)) ++ []) ++ n ≡ join_by (λ x. x) s (a ∷ b ∷ c ∷ d ∷ e ∷ f ∷ []) ++ n
+six_joined s n a b c d e f = simp (append_assoc, append-nil)
+
+seven_joined : (s n a b c d e f g : List ℕ) → (((((a ++ (s ++ b)) ++ (s ++ c)) ++ ((s ++ d) ++ (s ++ e))) ++ (s ++ f)) ++ ((s ++ g) ++ [])) ++ n ≡ join_by (λ x. x) s (a ∷ b ∷ c ∷ d ∷ e ∷ f ∷ g ∷ []) ++ n
+seven_joined s n a b c d e f g = simp (append_assoc, append-nil)
+
+-- the first record
+pub head-is : (version : TextVersion) (plan : PlanModel) → (((trace_word ++ next_field (version_text version)) ++ next_field (decimal plan.cores)) ++ next_field (decimal plan.ticks)) ++ codes "\n" ≡ head_text version plan
+unfolding record_text next_field
+head-is version plan = four_joined (codes ",") (codes "\n") trace_word (version_text version) (decimal plan.cores) (decimal plan.ticks)
+
+-- the record of a row
+pub row-is : (version : TextVersion) (plan : PlanModel) (r : Row)
+    → (((((decimal r.tick ++ next_field (decimal r.core.0)) ++ next_field (kind_text r.kind)) ++ (next_field (task_text plan r.job) ++ next_field (job_text r.job))) ++ next_field (res_text plan r.res)) ++ flat_map next_field (ahead_fields version r.ahead)) ++ codes "\n" ≡ row_text version plan r
+unfolding record_text next_field
+row-is V1 plan r = six_joined (codes ",") (codes "\n") (decimal r.tick) (decimal r.core.0) (kind_text r.kind) (task_text plan r.job) (job_text r.job) (res_text plan r.res)
+row-is V2 plan r = seven_joined (codes ",") (codes "\n") (decimal r.tick) (decimal r.core.0) (kind_text r.kind) (task_text plan r.job) (job_text r.job) (res_text plan r.res) (ahead_text r.ahead)
+
+-- a row that names what the plan has
+job_from : (plan : PlanModel) (job : Option JobId) → IfSome job (λ j. j.task.0 < length plan.tasks) → is_task_of plan job ≡ true
+job_from plan None h = refl
+job_from plan (Some j) h = lt-ltb j.task.0 (length plan.tasks) h
+
+res_from : (plan : PlanModel) (res : Option ResId) → IfSome res (λ g. g.0 < length plan.resources) → is_res_of plan res ≡ true
+res_from plan None h = refl
+res_from plan (Some g) h = lt-ltb g.0 (length plan.resources) h
+
+pub named-from : (plan : PlanModel) (r : Row) → IfSome r.job (λ j. j.task.0 < length plan.tasks) → IfSome r.res (λ g. g.0 < length plan.resources) → is_named plan r ≡ true
+named-from plan r h k = ap (λ b. b && is_res_of plan r.res) (job_from plan r.job h) ∙ res_from plan r.res k
+
+-- the name of a resource
+pub named-is : (names : List (List ℕ)) (i : ℕ) (name : List ℕ) → slice_get names i ≡ Some name → name ≡ slice_index_or names i []
+named-is names i name h = sym (get_or_from_slice_get names i name [] h)
+
+-- the text of a block of rows more
+pub trace-more : (version : TextVersion) (plan : PlanModel) (rows block : List Row) → trace_text version plan rows ++ flat_map (row_text version plan) block ≡ trace_text version plan (rows ++ block)
+trace-more version plan rows block =
+    append_assoc (head_text version plan) (flat_map (row_text version plan) rows) (flat_map (row_text version plan) block)
+    ∙ ap (λ t. head_text version plan ++ t) (sym (flat_map-append (row_text version plan) rows block))
+
+-- one row more
+pub row-more : (version : TextVersion) (plan : PlanModel) (rows : List Row) (i : ℕ) (r : Row) → i < length rows → r ≡ get_or rows i r → trace_text version plan (take i rows) ++ row_text version plan r ≡ trace_text version plan (take (i + 1) rows)
+row-more version plan rows i r h e =
+    ap (λ t. trace_text version plan (take i rows) ++ t) (sym (append-nil (row_text version plan r)))
+    ∙ (trace-more version plan (take i rows) (r ∷ [])
+    ∙ ap (trace_text version plan) (ap (λ x. take i rows ++ x ∷ []) e ∙ sym (take_more rows i r h)))
+
+-- all of them
+pub rows-end : (version : TextVersion) (plan : PlanModel) (rows : List Row) (i : ℕ) → length rows ≤ i → trace_text version plan (take i rows) ≡ trace_text version plan rows
+rows-end version plan rows i h = ap (trace_text version plan) (take_all i rows h)

@@ -1,0 +1,74 @@
+-- What a reader of rows has left, and what each call gives.
+use Rattle.std.specs.Prelude.{◌≡◌, ◌⊎◌, ℕ, Bool, true, false, List, [], ◌∷◌, Option, Some, None, Result, Ok, Err, option_map, IsOkAnd}
+use Rattle.msrp_plan.specs.Bytes.{source_remaining}
+use Rattle.msrp_plan.specs.declared.bytes.Source.{Source}
+use Rattle.msrp_plan.specs.Plan.{PlanModel}
+use Rattle.msrp_plan.specs.declared.rows.Row.{Row}
+use Rattle.msrp_plan.specs.declared.rows.TextVersion.{TextVersion}
+use Rattle.msrp_text.specs.Records.{reader_under, records_left}
+use Rattle.msrp_trace.specs.Reading.{Told, rows_of, told_after, version_of}
+use Rattle.msrp_trace.specs.declared.faults.TraceError.{TraceError}
+use Rattle.msrp_trace.specs.declared.faults.TraceError.TheVariants.{At, Read, Memory}
+use Rattle.msrp_trace.specs.declared.faults.TraceFault.TheVariants.{Head}
+use Rattle.msrp_trace.specs.declared.reading.Stage.{Stage}
+use Rattle.msrp_trace.specs.declared.reading.Stage.TheVariants.{Rows, Ended, Failed}
+use Rattle.msrp_trace.specs.declared.reading.TraceReader.{TraceReader}
+
+-- neither a row nor a refusal
+abbrev pub nothing_left : Told
+nothing_left = record { rows = []; refusal = None }
+
+-- what is left at a stage, where the records tell that
+abbrev pub left_at : Stage → Option Told → Option Told
+left_at Rows told = told
+left_at Ended told = Some nothing_left
+left_at Failed told = None
+
+-- the stage after an answer
+abbrev pub stage_after : Result (Option Row) TraceError → Stage
+stage_after (Ok (Some r)) = Rows
+stage_after (Ok None) = Ended
+stage_after (Err e) = Failed
+
+-- the rows that a reader has left, and the refusal after them, where the reader underneath tells its bytes
+abbrev pub told_left : {R : Type 0} → (R → Option (List ℕ)) → TraceReader R → Option Told
+told_left remaining t = left_at t.stage (option_map (told_after t.version t.plan.now t.number) (records_left (λ s. source_remaining remaining s.now) t.records))
+
+abbrev pub is_failed : Stage → Bool
+is_failed Failed = true
+is_failed _ = false
+
+-- the reader has refused, and refuses from then on
+abbrev pub has_failed : {R : Type 0} → TraceReader R → Bool
+has_failed t = is_failed t.stage
+
+-- the source that a reader reads
+abbrev pub source_of : {R : Type 0} → TraceReader R → Source R
+source_of t = (reader_under t.records).now
+
+-- the answer is as due, but for a read that failed and for memory
+abbrev pub IsDue : {A : Type 0} → Result A TraceError → Type 0 → Type 0
+IsDue result due = (result ≡ Err Read) ⊎ (result ≡ Err Memory) ⊎ due
+
+-- a reader opens where the first record tells a version, and then has left what the records tell
+abbrev pub OpensBy : {R : Type 0} → (R → Option (List ℕ)) → Option TextVersion → Told → Result (TraceReader R) TraceError → Type 0
+OpensBy remaining None told result = result ≡ Err (At Head 1)
+OpensBy remaining (Some version) told result = IsOkAnd result (λ reader. told_left remaining reader ≡ Some told)
+
+abbrev pub Opens : {R : Type 0} → (R → Option (List ℕ)) → PlanModel → List (List (List ℕ)) → Result (TraceReader R) TraceError → Type 0
+Opens remaining plan records result = IsDue result (OpensBy remaining (version_of plan records) (rows_of plan records) result)
+
+-- the next row, and the rest is left; or at the end none, and then none again; or the refusal
+abbrev pub GivesFirst : List Row → Option TraceError → Result (Option Row) TraceError → Option Told → Type 0
+GivesFirst (r ∷ rows) refusal result after = (result ≡ Ok (Some r)) × (after ≡ Some (record { rows = rows; refusal = refusal }))
+GivesFirst [] None result after = (result ≡ Ok None) × (after ≡ Some nothing_left)
+GivesFirst [] (Some refusal) result after = result ≡ Err refusal
+
+-- the same, but what is left after the end
+abbrev pub GivesFirstOr : List Row → Option TraceError → Result (Option Row) TraceError → Option Told → Type 0
+GivesFirstOr (r ∷ rows) refusal result after = GivesFirst (r ∷ rows) refusal result after
+GivesFirstOr [] None result after = result ≡ Ok None
+GivesFirstOr [] (Some refusal) result after = result ≡ Err refusal
+
+abbrev pub GivesNext : Told → Result (Option Row) TraceError → Option Told → Type 0
+GivesNext told result after = IsDue result (GivesFirst told.rows told.refusal result after)

@@ -1,0 +1,31 @@
+-- What a record tells as a row, part by part, in the order of judging.
+use Rattle.std.specs.Prelude.{◌≡◌, ℕ, List, Option, Some, None, Result, Err, IsOkAnd, cond, unwrap_or}
+use Rattle.msrp_plan.specs.Plan.{PlanModel}
+use Rattle.msrp_plan.specs.declared.rows.Row.{Row}
+use Rattle.msrp_plan.specs.declared.rows.TextVersion.{TextVersion}
+use Rattle.msrp_text.specs.Fields.{number_at}
+use Rattle.msrp_trace.specs.Rows.{ahead_told, job_told, lacks_name, lacks_number, res_told, task_told}
+use Rattle.msrp_trace.specs.declared.faults.TraceError.{TraceError}
+use Rattle.msrp_trace.specs.declared.faults.TraceError.TheVariants.{At}
+use Rattle.msrp_trace.specs.declared.faults.TraceFault.{TraceFault}
+use Rattle.msrp_trace.specs.declared.rows.Names.{Names}
+use Rattle.msrp_trace.specs.declared.rows.Numbers.{Numbers}
+
+-- the numbers of a row, if all are there that have to be
+abbrev pub numbers_told : TextVersion → List (List ℕ) → Option Numbers
+numbers_told version fields =
+    cond (lacks_number version fields) None (Some (record { tick = unwrap_or (number_at fields 0) 0; core = unwrap_or (number_at fields 1) 0; job = unwrap_or (job_told fields) None; ahead = unwrap_or (ahead_told version fields) None }))
+
+-- the task and the resource of a row, if they are the plan's
+abbrev pub names_told : PlanModel → List (List ℕ) → Option Names
+names_told plan fields = cond (lacks_name plan fields) None (Some (record { task = unwrap_or (task_told plan fields) None; res = unwrap_or (res_told plan fields) None }))
+
+-- a record that breaks a rule is refused with it, and any other gives its row
+abbrev pub Reads : Option TraceFault → Option Row → Result Row TraceFault → Type 0
+Reads (Some fault) told result = result ≡ Err fault
+Reads None told result = IsOkAnd result (λ r. told ≡ Some r)
+
+-- the same, and the refusal carries the record's number
+abbrev pub ReadsAt : ℕ → Option TraceFault → Option Row → Result Row TraceError → Type 0
+ReadsAt number (Some fault) told result = result ≡ Err (At fault number)
+ReadsAt number None told result = IsOkAnd result (λ r. told ≡ Some r)

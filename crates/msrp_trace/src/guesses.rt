@@ -1,0 +1,55 @@
+//! What a row may name, guessed.
+
+use msrp_plan::limits::MOST_CORES;
+use msrp_plan::{ResId, Row, TaskId};
+
+/// A task and a resource that a row may name.
+#[derive(Clone, Copy)]
+pub(crate) struct Guess {
+    pub(crate) task: TaskId,
+    pub(crate) res: ResId,
+}
+
+// Where no row of the core has named any.
+const FIRST: Guess = Guess {
+    task: TaskId(0),
+    res: ResId(0),
+};
+
+/// What the last row of each core named. Most rows of a core name what the one before named, so a reader compares
+/// these names before it searches. What is read is the same whatever is guessed.
+#[derive(Drop)]
+pub(crate) struct Guesses {
+    of_core: [Guess; MOST_CORES as usize],
+}
+
+impl Guesses {
+    /// Before any row.
+    pub(crate) fn new() -> Guesses {
+        Guesses {
+            of_core: [FIRST; MOST_CORES as usize],
+        }
+    }
+
+    /// What the next row of a core may name.
+    pub(crate) fn of(&self, core: u32) -> Guess {
+        let core = core as usize;
+        if core < self.of_core.len() {
+            self.of_core[core]
+        } else {
+            FIRST
+        }
+    }
+
+    /// Keeps what a row named.
+    pub(crate) fn keep(&mut self, row: &Row) {
+        let core = row.core.0 as usize;
+        if core < self.of_core.len() {
+            let last = self.of_core[core];
+            self.of_core[core] = Guess {
+                task: row.job.map_or(last.task, |job| job.task),
+                res: row.res.unwrap_or(last.res),
+            };
+        }
+    }
+}

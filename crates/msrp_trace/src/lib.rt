@@ -1,0 +1,16 @@
+//! Trace text, read and written: the rows of a text, or its first refusal, and the text of rows.
+#![tactic(auto)]
+
+mod faults;
+mod guesses;
+mod page;
+mod reading;
+mod rows;
+#[cfg(test)]
+mod tests;
+mod words;
+mod writing;
+
+pub use faults::{TraceError, TraceFault};
+pub use reading::TraceReader;
+pub use writing::{TraceWriter, are_named, is_named, write_trace};

@@ -1,0 +1,175 @@
+//! Trace text, read.
+ghost use Rattle.std.specs.Prelude.{◌≡◌, ◌⊎◌, ℕ, List, Some, None, Ok, Err, IfOk, OnOk, OnErr, true, false};
+ghost use Rattle.msrp_plan.specs.Bytes.{source_failed, source_remaining};
+ghost use Rattle.csv.specs.Records.{fields_of};
+ghost use Rattle.msrp_text.specs.Records.{csv_records, reader_under};
+ghost use Rattle.msrp_trace.specs.Reading.{Told};
+ghost use Rattle.msrp_trace.specs.Readers.{GivesFirstOr, GivesNext, IsDue, Opens, has_failed, source_of, stage_after, told_left};
+ghost use Rattle.msrp_trace.specs.RowParts.{ReadsAt};
+ghost use Rattle.msrp_trace.specs.Rows.{row_fault, row_told};
+
+use crate::faults::{TraceError, TraceFault};
+use crate::guesses::Guesses;
+use crate::rows::{read_row, version_told};
+use csv::ByteRecord;
+use msrp_plan::bytes::Source;
+use msrp_plan::{Plan, Row, TextVersion};
+use msrp_text::records::{RecordReader, Stopped};
+use std::alloc::Global;
+use std::io::Read;
+
+// Where a reader stands.
+#[derive(Clone, Copy, Debug, PartialEq, Eq)]
+enum Stage {
+    // Further rows may come.
+    Rows,
+    // The text is at its end.
+    Ended,
+    // A record was refused, a read failed, or memory was refused.
+    Failed,
+}
+
+/// The rows of a trace's text, one by one. One record is kept and used again for each row.
+///
+/// A text is records of comma-separated fields: `msrp-trace,1,M,H` or `msrp-trace,2,M,H`, with the plan's numbers of
+/// cores and ticks, and then for each row `tick,core,kind,task,job,resource`, in version 2 with a seventh field
+/// `ahead`; `-` stands where there is none.
+///
+/// Row i is record i + 1. A record is judged by its number of fields (R2), its numbers (R3), its kind (R4), its shape
+/// (R6) and its names (R5), in this order. Whether the row is legal is not judged, nor how many come.
+#[derive(Drop)]
+pub struct TraceReader<'a, R> {
+    plan: &'a Plan,
+    records: RecordReader<&'a mut Source<R>>,
+    fields: ByteRecord,
+    guesses: Guesses,
+    version: TextVersion,
+    number: u32,
+    stage: Stage,
+}
+
+// The refusal of the first record.
+const NO_HEAD: TraceError = TraceError::At {
+    fault: TraceFault::Head,
+    number: 1,
+};
+
+// Why no further record can be had: a read failed, or else memory was refused.
+fn stopped<R: Read>(records: &RecordReader<&mut Source<R>>) -> TraceError
+    ensures stopped { (result ≡ TraceError.Read) ⊎ (result ≡ TraceError.Memory) }
+    ensures read { result ≡ TraceError.Read → source_failed (reader_under records.now).now ≡ true }
+{
+    if records.reader().failed() {
+        TraceError::Read
+    } else {
+        TraceError::Memory
+    }
+}
+
+// The stage after an answer.
+fn stage_after(answer: &Result<Option<Row>, TraceError>) -> Stage
+    ensures { result ≡ stage_after answer.now }
+{
+    match answer {
+        Ok(Some(_)) => Stage::Rows,
+        Ok(None) => Stage::Ended,
+        Err(_) => Stage::Failed,
+    }
+}
+
+// The row that a record of that number tells, or its refusal.
+fn numbered_row(
+    plan: &Plan,
+    version: TextVersion,
+    guesses: &mut Guesses,
+    fields: &ByteRecord,
+    number: u32,
+) -> Result<Row, TraceError>
+    ensures { ReadsAt number (row_fault version plan.now (fields_of fields.now)) (row_told version plan.now (fields_of fields.now)) result }
+{
+    match read_row(plan, version, guesses, fields) {
+        Ok(row) => {
+            guesses.keep(&row);
+            Ok(row)
+        }
+        Err(fault) => Err(TraceError::At { fault, number }),
+    }
+}
+
+impl<'a, R: Read> TraceReader<'a, R> {
+    /// The rows of all that a source has left, for a trace of the plan. R1 is refused here.
+    pub fn new(
+        alloc: Global,
+        source: &'a mut Source<R>,
+        plan: &'a Plan,
+    ) -> Result<TraceReader<'a, R>, TraceError>
+        ensures opens { (bytes : List ℕ) → source_remaining R.remaining source.old ≡ Some bytes → Opens R.remaining plan.now (csv_records bytes) result }
+        ensures goes { IfOk result (λ reader. has_failed reader ≡ false) }
+    {
+        let mut records = RecordReader::new(alloc, source);
+        let mut fields = ByteRecord::new(alloc);
+        match records.read(&mut fields) {
+            Ok(true) => {}
+            Ok(false) => return Err(NO_HEAD),
+            Err(Stopped) => return Err(stopped(&records)),
+        }
+        match version_told(plan, &fields) {
+            Some(version) => Ok(TraceReader {
+                plan,
+                records,
+                fields,
+                guesses: Guesses::new(),
+                version,
+                number: 1,
+                stage: Stage::Rows,
+            }),
+            None => Err(NO_HEAD),
+        }
+    }
+
+    /// The next row, and none at the end of the text. After a refusal the reader answers [`TraceError::Failed`].
+    pub fn next_row(&mut self) -> Result<Option<Row>, TraceError>
+        ensures next { (told : Told) → told_left R.remaining self.old ≡ Some told → GivesNext told result (told_left R.remaining self.new) }
+        ensures goes { OnOk result (has_failed self.new ≡ false) }
+        ensures fails { OnErr result (has_failed self.new ≡ true) }
+        ensures failed { has_failed self.old ≡ true → result ≡ Err TraceError.Failed }
+        ensures going { has_failed self.old ≡ false → ¬ (result ≡ Err TraceError.Failed) }
+        ensures read { result ≡ Err TraceError.Read → source_failed (source_of self.new) ≡ true }
+    {
+        let answer = match self.stage {
+            Stage::Rows => self.read_next(),
+            Stage::Ended => Ok(None),
+            Stage::Failed => Err(TraceError::Failed),
+        };
+        self.stage = stage_after(&answer);
+        answer
+    }
+
+    // The next row where further rows may come.
+    fn read_next(&mut self) -> Result<Option<Row>, TraceError>
+        requires { self.old.stage ≡ Stage.Rows }
+        ensures next { (told : Told) → told_left R.remaining self.old ≡ Some told → IsDue result (GivesFirstOr told.rows told.refusal result (told_left R.remaining self.new)) }
+        ensures stage { self.new.stage ≡ Stage.Rows }
+        ensures going { ¬ (result ≡ Err TraceError.Failed) }
+        ensures read { result ≡ Err TraceError.Read → source_failed (source_of self.new) ≡ true }
+    {
+        let Some(number) = self.number.checked_add(1) else {
+            // A source gives far fewer bytes than so many records take.
+            return Err(TraceError::Memory);
+        };
+        match self.records.read(&mut self.fields) {
+            Ok(true) => {}
+            Ok(false) => return Ok(None),
+            Err(Stopped) => return Err(stopped(&self.records)),
+        }
+        let row = numbered_row(
+            self.plan,
+            self.version,
+            &mut self.guesses,
+            &self.fields,
+            number,
+        )?;
+        self.number = number;
+        Ok(Some(row))
+    }
+}
