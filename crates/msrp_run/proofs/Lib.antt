@@ -1,0 +1,5 @@
+pub mod Ports
+pub mod OneTurn
+pub mod Working
+pub mod Threading
+pub mod Headline

@@ -1,0 +1,26 @@
+use Rattle.std.proofs.Common.{rules, ◌≡◌, ℕ, ◌+◌, ◌<◌, ◌≤◌, arith, subst, sym, ap, List, [], ◌∷◌, ◌++◌, ◌∙◌, Some, length, vec_len, vec_items}
+use Rattle.msrp_merge.specs.Turns.{LogModel}
+use Rattle.msrp_board.specs.Seats.{SeatModel}
+use Rattle.msrp_board.specs.Steps.{both}
+use Rattle.msrp_run.specs.Threads.{AllWorked, IsPromise}
+use Rattle.msrp_run.proofs.Threading.{joined_more}
+use Rattle.msrp_run.proofs.threads.join_all.Goals as goal
+
+pub loop-handle-preserved : goal.loop-handle-preserved
+loop-handle-preserved g c =
+    let was = c.loop-handle.invariant in
+    let step = c.in-Some.ensures.steps in
+    let logs = vec_items c.loop-handle.logs in
+    let log = c.join-log.result.0 in
+    let seat = c.join-log.result.1 in
+    let bench = c.loop-handle.bench in
+    let first = was.1 0 c.in-Some.handle in
+    let is : IsPromise c.args.board.now c.args._plan.now (length logs) c.in-Some.handle.promise = grind rules in
+    let more = joined_more c.args.board.now c.args._plan.now logs log seat bench c.in-Some.handle.promise was.2 is c.join-log.ensures in (
+      search rules,
+      (λ k d low. let h = was.1 (k + 1) d in grind rules),
+      subst (λ s. AllWorked c.args._plan.now (vec_items c.push_reserved.new.self) s) (sym c.join-bench.ensures) (subst (λ l. AllWorked c.args._plan.now l (both seat bench)) (sym c.push_reserved.ensures.items) more.0),
+      ap (λ (s : SeatModel). s.board) c.join-bench.ensures ∙ more.1,
+      search rules,
+      ap (λ (s : SeatModel). s.conductor) c.join-bench.ensures ∙ (more.2 ∙ was.5),
+    )

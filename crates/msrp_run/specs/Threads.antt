@@ -1,0 +1,61 @@
+-- The workers of all cores: what they are given, what their threads promise, and what they leave.
+use Rattle.std.specs.Prelude.{◌≡◌, ℕ, ◌<◌, ◌≤◌, List, [], Some, length, slice_index, slice_index_or, filter}
+use Rattle.std.specs.declared.thread.PromisedHandle.{PromisedHandle}
+use Rattle.msrp_plan.specs.Plan.{PlanModel}
+use Rattle.msrp_plan.specs.declared.rows.Row.{Row}
+use Rattle.msrp_board.specs.declared.books.Book.{Book}
+use Rattle.msrp_board.specs.declared.books.Conductor.TheVariants.{Unopened, Opened}
+use Rattle.msrp_board.specs.Boards.{WholeBoard, high, low, entries_at}
+use Rattle.msrp_board.specs.History.{Event, IsServed}
+use Rattle.msrp_board.specs.Seats.{BoardModel, SeatModel, book_at, empty_book}
+use Rattle.msrp_core.specs.Machine.{StandsAfter}
+use Rattle.msrp_merge.specs.Merging.{log_at}
+use Rattle.msrp_merge.specs.Pairs.{Paired}
+use Rattle.msrp_merge.specs.Steps.{is_row_on, IsRowOfEvent}
+use Rattle.msrp_merge.specs.Turns.{LogModel}
+use Rattle.msrp_run.specs.declared.crew.Kit.{Kit}
+use Rattle.msrp_run.specs.declared.crew.WorkOf.{WorkOf}
+use Rattle.msrp_run.specs.Work.{IsWorked}
+
+-- a machine of core c before its first turn, and an empty log
+pub record IsKit (plan : PlanModel) (c : ℕ) (kit : Kit) : Type 0 where
+  pub plan_is : kit.machine.plan ≡ plan
+  pub core : kit.machine.core ≡ c
+  pub new : StandsAfter kit.machine []
+  pub log : kit.log ≡ record { core = c; ticks = plan.ticks; turns = [] }
+
+-- one for each core, cores rising
+abbrev pub AreKits : PlanModel → List Kit → Type 0
+AreKits plan kits = (k : ℕ) (d : Kit) → k < length kits → IsKit plan k (slice_index_or kits k d)
+
+-- the conductor's seat while the seats of the first n cores are out: it holds the empty books of the others
+pub record IsBench (board : BoardModel) (n : ℕ) (seat : SeatModel) : Type 0 where
+  pub on : seat.board ≡ board
+  pub books : (c : ℕ) → n ≤ c → c < board.size.cores → book_at seat c ≡ Some empty_book
+  pub conductor : seat.conductor ≡ Some Unopened
+
+-- the promise of the thread of core c
+pub record IsPromise (board : BoardModel) (plan : PlanModel) (c : ℕ) (p : WorkOf) : Type 0 where
+  pub core : p.core.0 ≡ c
+  pub on : p.seat.value.board ≡ board
+  pub plan_is : p.plan.value ≡ plan
+
+-- those of the cores, rising
+abbrev pub ArePromised : {T : Type 0} → BoardModel → PlanModel → List (PromisedHandle T WorkOf) → Type 0
+ArePromised board plan handles = (k : ℕ) (d : _) → k < length handles → IsPromise board plan k (slice_index_or handles k d).promise
+
+-- the logs of the first cores are what their workers give back, with their books in the seat
+abbrev pub AllWorked : PlanModel → List LogModel → SeatModel → Type 0
+AllWorked plan logs seat = (k : ℕ) → k < length logs → (b : Book) × (book_at seat k ≡ Some b) × IsWorked plan k (log_at logs k) b
+
+-- the rows' steps on resource g are, in their order, its one history on the board: what its ticket word counts, answered as
+-- a first-in-first-out lock answers
+abbrev pub IsServedAs : WholeBoard → ℕ → List Row → Type 0
+IsServedAs board g rows = (h : List Event) × IsServed (high (slice_index board.tickets g)) (low (slice_index board.tickets g)) g (entries_at board.books) h × Paired IsRowOfEvent (filter (is_row_on g) rows) h
+
+-- the workers of all cores were let in and have ended: each has left its log, and the seat holds all books and the conductor's
+pub record HasRun (board : BoardModel) (plan : PlanModel) (logs : List LogModel) (seat : SeatModel) : Type 0 where
+  pub many : length logs ≡ plan.cores
+  pub on : seat.board ≡ board
+  pub each : AllWorked plan logs seat
+  pub opened : seat.conductor ≡ Some Opened

@@ -1,0 +1,67 @@
+-- What a worker is given, and what it gives back.
+use Rattle.std.specs.Prelude.{◌≡◌, ℕ, ◌⊎◌, [], length, true, false}
+use Rattle.msrp_plan.specs.Aheads.{carries_ahead}
+use Rattle.msrp_plan.specs.Plan.{PlanModel}
+use Rattle.msrp_plan.specs.Runs.{CoreRun}
+use Rattle.msrp_board.specs.declared.answers.SeatPhase.TheVariants.{Waiting, Done, Stopped}
+use Rattle.msrp_board.specs.declared.books.Book.{Book}
+use Rattle.msrp_board.specs.Books.{phase_in, lock_of}
+use Rattle.msrp_board.specs.Seats.{BoardModel, SeatModel, IsCoreSeat, empty_book}
+use Rattle.msrp_core.specs.Machine.{MachineModel, StandsAfter}
+use Rattle.msrp_merge.specs.Merging.{size_of}
+use Rattle.msrp_merge.specs.Turns.{LogModel, rows_of, Fits}
+
+-- a core before its first turn: a new machine, an empty log for the plan's ticks, and the core's seat on a board of the
+-- plan, which waits for tick 0
+pub record IsNew (board : BoardModel) (m : MachineModel) (log : LogModel) (seat : SeatModel) : Type 0 where
+  pub stands : StandsAfter m []
+  pub empty : log ≡ record { core = m.core; ticks = m.plan.ticks; turns = [] }
+  pub size : board.size ≡ size_of m.plan
+  pub on : seat.board ≡ board
+  pub of_core : IsCoreSeat seat m.core empty_book
+
+-- a core between two of its turns, while it waits for its tick: its log is a run of the core that fits its book, and its
+-- machine stands after the log
+pub record IsAtWork (board : BoardModel) (plan : PlanModel) (c : ℕ) (m : MachineModel) (log : LogModel) (seat : SeatModel) : Type 0 where
+  pub plan_is : m.plan ≡ plan
+  pub core : m.core ≡ c
+  pub stands : StandsAfter m (rows_of log.turns)
+  pub log_core : log.core ≡ c
+  pub log_ticks : log.ticks ≡ plan.ticks
+  pub size : board.size ≡ size_of plan
+  pub on : seat.board ≡ board
+  pub book : Book
+  pub of_core : IsCoreSeat seat c book
+  pub waits : phase_in seat.board.size.ticks book ≡ Waiting
+  pub tick : book.tick ≡ m.tick
+  pub claims : lock_of book ≡ m.phase
+  pub run : CoreRun plan c (rows_of log.turns)
+  pub fits : Fits log.turns book.entries
+  pub aheads : carries_ahead (rows_of log.turns) ≡ true
+
+-- the whole log of a core: a run of the core to the plan's last tick, whose queue rows carry their aheads, and which fits
+-- the book of the core, which has arrived from its last tick
+pub record IsWhole (plan : PlanModel) (c : ℕ) (log : LogModel) (b : Book) : Type 0 where
+  pub core : log.core ≡ c
+  pub run : CoreRun plan c (rows_of log.turns)
+  pub size : length log.turns ≡ plan.ticks
+  pub aheads : carries_ahead (rows_of log.turns) ≡ true
+  pub fits : Fits log.turns b.entries
+  pub done : phase_in plan.ticks b ≡ Done
+
+-- the log of a core that was told to stop: it is empty
+pub record IsStopped (plan : PlanModel) (c : ℕ) (log : LogModel) (b : Book) : Type 0 where
+  pub core : log.core ≡ c
+  pub empty : log.turns ≡ []
+  pub stopped : phase_in plan.ticks b ≡ Stopped
+
+-- what the worker of a core leaves in its log and its book: a whole log, or none
+abbrev pub IsWorked : PlanModel → ℕ → LogModel → Book → Type 0
+IsWorked plan c log b = IsWhole plan c log b ⊎ IsStopped plan c log b
+
+-- what the worker of a core gives back: its log, and the same core's seat on the same board
+pub record HasWorked (board : BoardModel) (plan : PlanModel) (c : ℕ) (log : LogModel) (seat : SeatModel) : Type 0 where
+  pub on : seat.board ≡ board
+  pub book : Book
+  pub of_core : IsCoreSeat seat c book
+  pub worked : IsWorked plan c log book

@@ -1,0 +1,34 @@
+//! What the threads of a run are given, and what they promise.
+
+use msrp_board::BoardSeat;
+use msrp_core::Machine;
+use msrp_merge::CoreLog;
+use msrp_plan::{CoreId, Plan};
+use std::snapshot::Snapshot;
+use std::thread::PromisedHandle;
+
+/// What the thread of a core is given beside its seat.
+#[derive(Drop)]
+pub(crate) struct Kit<'a> {
+    pub(crate) machine: Machine<'a>,
+    pub(crate) log: CoreLog,
+}
+
+/// That the thread of a core gives back what its worker does: the core, its seat at the start, and the plan.
+#[derive(Drop)]
+pub(crate) struct WorkOf {
+    pub(crate) core: CoreId,
+    pub(crate) seat: Snapshot<BoardSeat>,
+    pub(crate) plan: Snapshot<Plan>,
+}
+
+/// The thread of a core.
+pub(crate) type Handle = PromisedHandle<(CoreLog, BoardSeat), WorkOf>;
+
+/// The threads that were started, the seat with the other books, and whether these are all.
+#[derive(Drop)]
+pub(crate) struct Started {
+    pub(crate) handles: Vec<Handle>,
+    pub(crate) bench: BoardSeat,
+    pub(crate) all: bool,
+}

@@ -1,0 +1,29 @@
+//! Which threads may be started, and why a run is refused.
+
+use msrp_plan::CoreId;
+
+/// Says whether the thread of a core may be started. It is asked once for each core, cores rising, before the thread is
+/// started; a no counts as a thread that was refused.
+pub trait Hire {
+    /// Whether the core's thread may be started.
+    fn may_start(&self, core: CoreId) -> bool;
+}
+
+/// Lets every thread be started.
+#[derive(Clone, Copy, Debug)]
+pub(crate) struct All;
+
+impl Hire for All {
+    fn may_start(&self, _core: CoreId) -> bool {
+        true
+    }
+}
+
+/// Why a plan was not run.
+#[derive(Clone, Copy, Debug, PartialEq, Eq)]
+pub enum RunError {
+    /// Memory was refused, before the first tick or after the last.
+    U1,
+    /// A thread was refused, so that no core had a turn. Want of memory in a thread's start isn't told apart.
+    U2,
+}

@@ -1,0 +1,16 @@
+//! A plan on threads: one worker for each core, on one board, and the trace of what they did.
+//!
+//! [`turn_on`] is one core's turn on a board. A [`Stage`] makes the turns of all cores, each on the thread of its core.
+#![tactic(auto)]
+
+mod crew;
+mod hire;
+mod port;
+mod threads;
+mod turns;
+mod work;
+
+pub use hire::{Hire, RunError};
+pub use threads::{run_threads, run_threads_if};
+pub use turns::{Plain, Stage, turn_on};
+pub use work::worker;

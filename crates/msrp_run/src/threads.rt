@@ -1,0 +1,349 @@
+//! A thread for each core: they are started, let in, and joined.
+ghost use Rattle.std.specs.Prelude.{◌≡◌, ◌<◌, ◌≤◌, ℕ, [], Some, IfOk, IfSome, IsTrue, length, true, vec_capacity, vec_len};
+ghost use Rattle.msrp_plan.specs.Aheads.{carries_ahead};
+ghost use Rattle.msrp_plan.specs.Runs.{IsRun};
+ghost use Rattle.msrp_board.specs.declared.books.Conductor.TheVariants.{Unopened, Opened};
+ghost use Rattle.msrp_board.specs.Boards.{IsTied};
+ghost use Rattle.msrp_merge.specs.Merging.{size_of};
+ghost use Rattle.msrp_run.specs.Threads.{AllWorked, AreKits, ArePromised, HasRun, IsBench, IsKit, IsPromise, IsServedAs};
+ghost use Rattle.msrp_run.specs.Work.{HasWorked, IsNew};
+
+use crate::crew::{Handle, Kit, Started, WorkOf};
+use crate::hire::{All, Hire, RunError};
+use crate::turns::Stage;
+use crate::work::worker;
+use msrp_board::{Board, BoardSeat, Settled};
+use msrp_core::Machine;
+use msrp_levels::Levels;
+use msrp_merge::{CoreLog, merge};
+use msrp_plan::{CoreId, Memory, Plan, Trace};
+use std::alloc::Global;
+use std::snapshot::Snapshot;
+use std::sync::Wait;
+use std::thread;
+use std::thread::{Promise, Scope, Threads};
+
+impl Promise<(CoreLog, BoardSeat)> for WorkOf {
+    ghost kept_by = { λ p r. HasWorked p.seat.value.board p.plan.value p.core.0 r.0 r.1 };
+}
+
+// A machine and an empty log for each core, cores rising.
+fn kits_of<'a>(
+    alloc: Global,
+    plan: &'a Plan,
+    levels: &'a Levels<'a>,
+) -> Result<Vec<Kit<'a>>, Memory>
+    requires { levels.now ≡ plan.now }
+    ensures count { IfOk result (λ kits. vec_len kits ≡ plan.now.cores) }
+    ensures each { IfOk result (λ kits. AreKits plan.now kits.items) }
+{
+    let mut kits = Vec::with_capacity(alloc, plan.cores() as usize).map_err(|_| Memory)?;
+    for c in 0..plan.cores() {
+        let machine = Machine::with_room(alloc, plan, levels, CoreId(c))?;
+        let log = CoreLog::with_room(alloc, CoreId(c), plan.ticks())?;
+        kits.push_reserved(Kit { machine, log });
+    }
+    Ok(kits)
+}
+
+impl WorkOf {
+    fn of(core: CoreId, seat: &BoardSeat, plan: &Plan) -> WorkOf
+        ensures { (result.core ≡ core) × (result.seat.value ≡ seat.now) × (result.plan.value ≡ plan.now) }
+    {
+        WorkOf {
+            core,
+            seat: Snapshot::of(seat),
+            plan: Snapshot::of(plan),
+        }
+    }
+}
+
+// What a thread owns of its core: the machine, whatever it borrows. A closure that owns a value of a type parameter is known
+// to return what its contract says; of one that owns what names a lifetime nothing is known.
+trait CoreWork: Send + Drop {
+    ghost use Rattle.msrp_core.specs.Machine.{MachineModel};
+
+    ghost machine: { Self → MachineModel };
+
+    // The work of the core, with its log and seat.
+    fn work<R: Wait, S: Stage>(
+        self,
+        rt: &R,
+        log: CoreLog,
+        seat: BoardSeat,
+        board: &Board,
+        stage: &S,
+    ) -> (CoreLog, BoardSeat)
+        requires { IsNew board.now (machine self) log seat }
+        ensures { HasWorked board.now (machine self).plan (machine self).core result.0 result.1 };
+}
+
+impl CoreWork for Machine<'_> {
+    ghost machine = { λ m. m };
+
+    fn work<R: Wait, S: Stage>(
+        self,
+        rt: &R,
+        log: CoreLog,
+        seat: BoardSeat,
+        board: &Board,
+        stage: &S,
+    ) -> (CoreLog, BoardSeat) {
+        worker(rt, self, log, seat, board, stage)
+    }
+}
+
+// The work of a core, as its thread promises it.
+fn work_as<R: Wait, S: Stage, W: CoreWork>(
+    rt: &R,
+    given: WorkOf,
+    machine: W,
+    log: CoreLog,
+    seat: BoardSeat,
+    board: &Board,
+    stage: &S,
+) -> (CoreLog, BoardSeat)
+    requires new { IsNew board.now (W.machine machine) log seat }
+    requires given { IsPromise board.now (W.machine machine).plan (W.machine machine).core given }
+    ensures { HasWorked given.seat.value.board given.plan.value given.core.0 result.0 result.1 }
+{
+    machine.work(rt, log, seat, board, stage)
+}
+
+// Starts the thread that does the work of a core. The promise and what the closure is given are the same.
+fn start<'s, E, R: Wait + Sync, S: Stage + Sync, W: CoreWork + 's>(
+    scope: &'s Scope<'s, E>,
+    rt: &'s R,
+    plan: &Plan,
+    core: CoreId,
+    machine: W,
+    log: CoreLog,
+    seat: BoardSeat,
+    board: &'s Board,
+    stage: &'s S,
+) -> Option<Handle>
+    requires plan { (W.machine machine).plan ≡ plan.now }
+    requires core { (W.machine machine).core ≡ core.0 }
+    requires new { IsNew board.now (W.machine machine) log seat }
+    ensures { IfSome result (λ h. IsPromise board.now plan.now core.0 h.promise) }
+{
+    let promise = WorkOf::of(core, &seat, plan);
+    let given = WorkOf::of(core, &seat, plan);
+    let work = move || -> (CoreLog, BoardSeat)
+        requires { IsNew board.now (W.machine machine) log seat × IsPromise board.now (W.machine machine).plan (W.machine machine).core given }
+        ensures { HasWorked given.seat.value.board given.plan.value given.core.0 result.0 result.1 }
+    { work_as(rt, given, machine, log, seat, board, stage) };
+    scope.spawn_with(promise, work).ok()
+}
+
+// Starts the workers, cores rising, until a thread is refused.
+fn start_all<'s, E, R: Wait + Sync, S: Stage + Sync, H: Hire>(
+    scope: &'s Scope<'s, E>,
+    rt: &'s R,
+    plan: &'s Plan,
+    kits: Vec<Kit<'s>>,
+    board: &'s Board,
+    mut bench: BoardSeat,
+    stage: &'s S,
+    hire: &H,
+    mut handles: Vec<Handle>,
+) -> Started
+    requires kits { AreKits plan.now kits.items }
+    requires size { board.now.size ≡ size_of plan.now }
+    requires count { vec_len kits ≤ plan.now.cores }
+    requires bench { IsBench board.now 0 bench }
+    requires none { handles.items ≡ [] }
+    requires room { vec_len kits ≤ vec_capacity handles }
+    ensures promised { ArePromised board.now plan.now result.handles.items }
+    ensures count { vec_len result.handles ≤ vec_len kits.entry }
+    ensures all { IsTrue result.all → vec_len result.handles ≡ vec_len kits.entry }
+    ensures on { result.bench.board ≡ board.now }
+    ensures conductor { result.bench.conductor ≡ Some Unopened }
+{
+    for kit in kits {
+        let core = kit.machine.core();
+        if !hire.may_start(core) {
+            return Started {
+                handles,
+                bench,
+                all: false,
+            };
+        }
+        let (seat, rest) = board.split(bench, core);
+        bench = rest;
+        let Kit { machine, log } = kit;
+        let Some(handle) = start(scope, rt, plan, core, machine, log, seat, board, stage) else {
+            return Started {
+                handles,
+                bench,
+                all: false,
+            };
+        };
+        handles.push_reserved(handle);
+    }
+    Started {
+        handles,
+        bench,
+        all: true,
+    }
+}
+
+// Joins the workers, cores rising, and their seats into one.
+fn join_all<R: Threads>(
+    rt: &R,
+    _plan: &Plan,
+    board: &Board,
+    handles: Vec<Handle>,
+    mut bench: BoardSeat,
+    mut logs: Vec<CoreLog>,
+) -> (Vec<CoreLog>, BoardSeat)
+    requires promised { ArePromised board.now _plan.now handles.items }
+    requires on { bench.board ≡ board.now }
+    requires none { logs.items ≡ [] }
+    requires room { vec_len handles ≤ vec_capacity logs }
+    ensures count { vec_len result.0 ≡ vec_len handles }
+    ensures on { result.1.board ≡ board.now }
+    ensures each { AllWorked _plan.now result.0.items result.1 }
+    ensures conductor { result.1.conductor ≡ bench.conductor }
+{
+    for handle in handles {
+        let (log, seat) = handle.join(rt);
+        bench = board.join(seat, bench);
+        logs.push_reserved(log);
+    }
+    (logs, bench)
+}
+
+// Makes what the cores need, starts the workers, lets them in once all are started or else calls the run off, and joins those
+// that were started.
+fn conduct<'s, E, R: Threads + Wait + Sync, S: Stage + Sync, H: Hire, L: PlanLevels>(
+    scope: &'s Scope<'s, E>,
+    rt: &'s R,
+    alloc: Global,
+    plan: &'s Plan,
+    levels: &'s L,
+    board: &'s Board,
+    bench: BoardSeat,
+    stage: &'s S,
+    hire: &H,
+) -> Result<(Vec<CoreLog>, BoardSeat), RunError>
+    requires levels { L.plan levels.now ≡ plan.now }
+    requires size { board.now.size ≡ size_of plan.now }
+    requires bench { IsBench board.now 0 bench }
+    ensures { IfOk result (λ r. HasRun board.now plan.now r.0.items r.1) }
+{
+    let Ok(kits) = kits_of(alloc, plan, levels.levels()) else {
+        return Err(RunError::U1);
+    };
+    let Ok(handles) = Vec::with_capacity(alloc, kits.len()) else {
+        return Err(RunError::U1);
+    };
+    let Ok(logs) = Vec::with_capacity(alloc, kits.len()) else {
+        return Err(RunError::U1);
+    };
+    let Started {
+        handles,
+        mut bench,
+        all,
+    } = start_all(scope, rt, plan, kits, board, bench, stage, hire, handles);
+    if !all {
+        board.abort(&mut bench);
+        join_all(rt, plan, board, handles, bench, logs);
+        return Err(RunError::U2);
+    }
+    board.open(&mut bench);
+    Ok(join_all(rt, plan, board, handles, bench, logs))
+}
+
+// The levels of a plan, by a type that does not tell what they borrow, for the same reason as `CoreWork`.
+trait PlanLevels {
+    ghost use Rattle.msrp_plan.specs.Plan.{PlanModel};
+
+    ghost plan: { Self → PlanModel };
+
+    fn levels(&self) -> &Levels<'_>
+        ensures { result.now ≡ plan self.now };
+}
+
+impl PlanLevels for Levels<'_> {
+    ghost plan = { λ l. l };
+
+    fn levels(&self) -> &Levels<'_> {
+        self
+    }
+}
+
+// The same in a scope of its own, which ends with its threads.
+fn on_threads<R: Threads + Wait + Sync, S: Stage + Sync, H: Hire, L: PlanLevels>(
+    rt: &R,
+    alloc: Global,
+    plan: &Plan,
+    levels: &L,
+    board: &Board,
+    bench: BoardSeat,
+    stage: &S,
+    hire: &H,
+) -> Result<(Vec<CoreLog>, BoardSeat), RunError>
+    requires levels { L.plan levels.now ≡ plan.now }
+    requires size { board.now.size ≡ size_of plan.now }
+    requires bench { IsBench board.now 0 bench }
+    ensures { IfOk result (λ r. HasRun board.now plan.now r.0.items r.1) }
+{
+    thread::scope(
+        thread::scope_env(),
+        rt,
+        move |scope| -> Result<(Vec<CoreLog>, BoardSeat), RunError>
+            requires { (L.plan levels.now ≡ plan.now) × (board.now.size ≡ size_of plan.now) × IsBench board.now 0 bench }
+            ensures { IfOk result (λ r. HasRun board.entry.now plan.entry.now r.0.items r.1) }
+        { conduct(scope, rt, alloc, plan, levels, board, bench, stage, hire) },
+    )
+}
+
+/// Runs the plan with a thread for each core that `hire` allows.
+///
+/// All memory that a core needs is taken before the first thread starts, and the cores are let in once all threads are
+/// started: on [`RunError::U2`] no core had a turn. It waits for its threads, so what it promises holds where it returns. The trace is a
+/// legal run of MSRP (Gai, Lipari and Di Natale 2001), whatever way the threads' steps interleaved: in it each global
+/// resource has one holder, requests are granted in their order, and no started job is blocked on a local resource.
+pub fn run_threads_if<R: Threads + Wait + Sync, S: Stage + Sync, H: Hire>(
+    rt: &R,
+    alloc: Global,
+    plan: &Plan,
+    stage: &S,
+    hire: &H,
+) -> Result<(Trace, Settled), RunError>
+    ensures run { IfOk result (λ r. IsRun plan.now r.0.rows.items) }
+
+    // The steps on each resource are its one history on the board, in order.
+    ensures history { IfOk result (λ r. (g : ℕ) → g < length plan.now.resources → IsServedAs r.1 g r.0.rows.items) }
+    ensures aheads { IfOk result (λ r. carries_ahead r.0.rows.items ≡ true) }
+    ensures board { IfOk result (λ r. (r.1.size ≡ size_of plan.now) × IsTied r.1) }
+{
+    let Ok(levels) = Levels::of(alloc, plan) else {
+        return Err(RunError::U1);
+    };
+    let Ok((board, bench)) = Board::new(alloc, plan.cores(), plan.resources(), plan.ticks()) else {
+        return Err(RunError::U1);
+    };
+    let (logs, seat) = on_threads(rt, alloc, plan, &levels, &board, bench, stage, hire)?;
+    let settled = board.settle(seat);
+    match merge(alloc, plan, &logs, &settled) {
+        Ok(trace) => Ok((trace, settled)),
+        Err(Memory) => Err(RunError::U1),
+    }
+}
+
+/// Runs the plan with a thread for each core, as [`run_threads_if`] does where every thread may be started.
+pub fn run_threads<R: Threads + Wait + Sync, S: Stage + Sync>(
+    rt: &R,
+    alloc: Global,
+    plan: &Plan,
+    stage: &S,
+) -> Result<(Trace, Settled), RunError>
+    ensures run { IfOk result (λ r. IsRun plan.now r.0.rows.items) }
+    ensures history { IfOk result (λ r. (g : ℕ) → g < length plan.now.resources → IsServedAs r.1 g r.0.rows.items) }
+    ensures aheads { IfOk result (λ r. carries_ahead r.0.rows.items ≡ true) }
+    ensures board { IfOk result (λ r. (r.1.size ≡ size_of plan.now) × IsTied r.1) }
+{
+    run_threads_if(rt, alloc, plan, stage, &All)
+}

@@ -1,0 +1,88 @@
+//! One core's turn on a board, and who makes the turns.
+ghost use Rattle.std.specs.Prelude.{◌≡◌, ◌<◌, ◌++◌, ◌∷◌, [], List};
+ghost use Rattle.msrp_plan.specs.Runs.{IsCoreTurn};
+ghost use Rattle.msrp_plan.specs.declared.rows.Row.{Row as TraceRow};
+ghost use Rattle.msrp_core.specs.Machine.{StandsAfter};
+ghost use Rattle.msrp_run.specs.Ports.{HasAsked, IsSeatPort, port_of};
+ghost use Rattle.msrp_run.specs.Turns.{HasTurned, MayTurn};
+ghost use Rattle.msrp_board.specs.Seats.{BoardModel};
+
+use crate::port::{FirstSeat, SeatPort};
+use msrp_board::{Board, BoardSeat};
+use msrp_core::Machine;
+use msrp_merge::{CoreLog, Place};
+use msrp_plan::Row;
+use std::marker::Brand;
+
+// The machine's turn through the seat: the row, the place of its step, and the seat.
+fn step_on<B: FirstSeat>(
+    machine: &mut Machine<'_>,
+    log: &CoreLog,
+    board: &Board,
+    seat: BoardSeat,
+) -> (Row, Option<Place>, BoardSeat)
+    requires may { MayTurn board.now machine.old log.now seat }
+    requires core { B.core ≡ machine.old.core }
+    requires first { B.first ≡ seat }
+    ensures tick { result.0.tick < log.now.ticks }
+    ensures plan { machine.new.plan ≡ machine.old.plan }
+    ensures core { machine.new.core ≡ machine.old.core }
+    ensures row { (rows : List TraceRow) → StandsAfter machine.old rows → IsCoreTurn machine.old.plan machine.old.core rows result.0 }
+    ensures stands { (rows : List TraceRow) → StandsAfter machine.old rows → StandsAfter machine.new (rows ++ result.0 ∷ []) }
+    ensures seat { (at : BoardModel) × IsSeatPort machine.old.core seat at result.0.core result.1 result.2 }
+    ensures port { HasAsked machine.old.plan result.0 (port_of result.0.core seat) (port_of result.0.core result.2) }
+{
+    let left = seat.tick() < log.ticks();
+    prove!(left);
+    let mut port = SeatPort::<B>::new(board, machine.core(), seat);
+    let row = machine.turn(&mut port);
+    let (place, back) = port.into_parts();
+    (row, place, back)
+}
+
+/// One core's turn on a board: the machine makes the row, and the board answers where it is on a global resource. The log
+/// has the row then, with the place that the board told. It waits for nobody, takes no memory and never fails.
+pub fn turn_on(
+    machine: &mut Machine<'_>,
+    log: &mut CoreLog,
+    board: &Board,
+    seat: BoardSeat,
+) -> (Row, BoardSeat)
+    requires { MayTurn board.now machine.old log.old seat }
+    ensures { HasTurned board.now machine.old log.old seat machine.new log.new result.0 result.1 }
+{
+    let (row, place, back) = step_on::<Brand>(machine, log, board, seat);
+    log.push(row, place);
+    (row, back)
+}
+
+/// Makes the turns of the cores, each on the thread of its core: a way to put work of one's own beside them, between the
+/// admission to a tick and the arrival from it. Whatever else it does, each turn is one of [`turn_on`].
+pub trait Stage {
+    /// The core's turn.
+    fn turn(
+        &self,
+        machine: &mut Machine<'_>,
+        log: &mut CoreLog,
+        board: &Board,
+        seat: BoardSeat,
+    ) -> (Row, BoardSeat)
+        requires { MayTurn board.now machine.old log.old seat }
+        ensures { HasTurned board.now machine.old log.old seat machine.new log.new result.0 result.1 };
+}
+
+/// The stage that makes the turns and does nothing else.
+#[derive(Clone, Copy, Debug)]
+pub struct Plain;
+
+impl Stage for Plain {
+    fn turn(
+        &self,
+        machine: &mut Machine<'_>,
+        log: &mut CoreLog,
+        board: &Board,
+        seat: BoardSeat,
+    ) -> (Row, BoardSeat) {
+        turn_on(machine, log, board, seat)
+    }
+}
