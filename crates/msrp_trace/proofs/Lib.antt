@@ -3,3 +3,4 @@ pub mod Fields
 pub mod Telling
 pub mod Gathered
 pub mod Records
+pub mod ReadBack

@@ -5,3 +5,4 @@ pub mod Rows
 pub mod RowParts
 pub mod Reading
 pub mod Readers
+pub mod Laws

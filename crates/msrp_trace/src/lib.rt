@@ -3,6 +3,7 @@
 
 mod faults;
 mod guesses;
+pub mod laws;
 mod page;
 mod reading;
 mod rows;

@@ -1,0 +1,28 @@
+-- Rows that were written, as they are read.
+use Rattle.std.specs.Prelude.{ℕ, Bool, true, ◌&&◌, nat_lt, Option, Some, None}
+use Rattle.msrp_plan.specs.Aheads.{without_ahead}
+use Rattle.msrp_plan.specs.declared.ids.JobId.{JobId}
+use Rattle.msrp_plan.specs.declared.rows.Row.{Row}
+use Rattle.msrp_plan.specs.declared.rows.TextVersion.{TextVersion}
+use Rattle.msrp_plan.specs.declared.rows.TextVersion.TheVariants.{V1, V2}
+
+-- a number of at most nine digits
+abbrev pub is_short : ℕ → Bool
+is_short n = nat_lt n 1000000000
+
+abbrev pub has_short_job : Option JobId → Bool
+has_short_job None = true
+has_short_job (Some j) = is_short j.k
+
+abbrev pub has_short_ahead : Option ℕ → Bool
+has_short_ahead None = true
+has_short_ahead (Some n) = is_short n
+
+-- each number of the row is one
+abbrev pub has_short_numbers : Row → Bool
+has_short_numbers r = is_short r.tick && (is_short r.core.0 && (has_short_job r.job && has_short_ahead r.ahead))
+
+-- the row that is read where this one was written: version 1 leaves out its ahead
+abbrev pub as_read : TextVersion → Row → Row
+as_read V1 r = without_ahead r
+as_read V2 r = r
