@@ -159,15 +159,15 @@ records_tell plan ok =
     plan-begins (head_records plan ++ body) ∙ (head_read plan body ok ∙ plan_of_told v (empty_plan plan.cores plan.ticks) plan body 4 told (finish_none plan ok tasks.1))
 
 -- ---- each record is plain
-all_join : {X : Type 0} (P : X → Type 0) (xs ys : List X) → AllByRecursion P xs → AllByRecursion P ys → AllByRecursion P (xs ++ ys)
+pub all_join : {X : Type 0} (P : X → Type 0) (xs ys : List X) → AllByRecursion P xs → AllByRecursion P ys → AllByRecursion P (xs ++ ys)
 all_join P [] ys a b = b
 all_join P (x ∷ xs) ys a b = (a.0, all_join P xs ys a.1 b)
 
-all_made : {X Y : Type 0} (P : X → Type 0) (Q : Y → Type 0) (f : X → Y) → ((x : X) → P x → Q (f x)) → (xs : List X) → AllByRecursion P xs → AllByRecursion Q (map f xs)
+pub all_made : {X Y : Type 0} (P : X → Type 0) (Q : Y → Type 0) (f : X → Y) → ((x : X) → P x → Q (f x)) → (xs : List X) → AllByRecursion P xs → AllByRecursion Q (map f xs)
 all_made P Q f h [] all = tt
 all_made P Q f h (x ∷ xs) all = (h x all.0, all_made P Q f h xs all.1)
 
-all_gathered : {X Y : Type 0} (P : X → Type 0) (Q : Y → Type 0) (f : X → List Y) → ((x : X) → P x → AllByRecursion Q (f x)) → (xs : List X) → AllByRecursion P xs → AllByRecursion Q (flat_map f xs)
+pub all_gathered : {X Y : Type 0} (P : X → Type 0) (Q : Y → Type 0) (f : X → List Y) → ((x : X) → P x → AllByRecursion Q (f x)) → (xs : List X) → AllByRecursion P xs → AllByRecursion Q (flat_map f xs)
 all_gathered P Q f h [] all = tt
 all_gathered P Q f h (x ∷ xs) all = all_join Q (f x) (flat_map f xs) (h x all.0) (all_gathered P Q f h xs all.1)
 

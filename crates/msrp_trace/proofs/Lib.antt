@@ -3,4 +3,5 @@ pub mod Fields
 pub mod Telling
 pub mod Gathered
 pub mod Records
+pub mod NamedRows
 pub mod ReadBack

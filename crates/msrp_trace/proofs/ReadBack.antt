@@ -15,6 +15,7 @@ use Rattle.msrp_plan.specs.Aheads.{carries_ahead, carries_its_ahead, without_ahe
 use Rattle.msrp_plan.specs.Names.{is_name}
 use Rattle.msrp_plan.specs.Plan.{PlanModel, TaskModel, no_task, task_at, task_of}
 use Rattle.msrp_plan.specs.Shape.{has_shape, is_queue, may_carry}
+use Rattle.msrp_plan.specs.Runs.{IsRunStart}
 use Rattle.msrp_plan.specs.WellFormed.{IsPlan}
 use Rattle.msrp_plan.specs.declared.ids.JobId.{JobId}
 use Rattle.msrp_plan.specs.declared.ids.ResId.{ResId}
@@ -29,11 +30,13 @@ use Rattle.msrp_text.specs.PlanText.{next_fields, record_text as text_of_record,
 use Rattle.msrp_text.specs.Records.{csv_records, records_at}
 use Rattle.msrp_text.proofs.Numerals.{number_again, plain_decimal}
 use Rattle.msrp_text.proofs.Plain.{IsPlain, IsPlainRecord, plain_back, plain_name}
+use Rattle.msrp_text.proofs.ReadBack.{all_made}
 use Rattle.msrp_trace.specs.Laws.{as_read, has_short_ahead, has_short_job, has_short_numbers, is_short}
 use Rattle.msrp_trace.specs.Reading.{Told, rows_of, told_after}
 use Rattle.msrp_trace.specs.Rows.{ahead_told, fault_if, field_count, has_its_ahead, has_parts, is_dash, is_shaped, job_told, job_with, kind_named, kind_told, lacks_name, lacks_number, res_named, res_told, row_fault, row_told, task_named, task_told, told_at, version_told}
 use Rattle.msrp_trace.specs.TraceText.{ahead_fields, ahead_text, dash, head_fields, is_named, is_res_of, is_task_of, job_text, kind_text, record_text, res_text, row_fields, row_text, task_text, trace_text, trace_word, version_text}
 use Rattle.msrp_trace.proofs.Fields.{Counted, Shows, counted_fault, shape_known, told_row}
+use Rattle.msrp_trace.proofs.NamedRows.{run_named, run_short}
 use Rattle.msrp_trace.proofs.Names.{same_bytes, task_found, res_found}
 use Rattle.msrp_trace.proofs.Telling.{rows_first, told_end, told_more}
 
@@ -353,10 +356,6 @@ plain_row version plan r ok h =
     let c = and_parts (has_short_job r.job) (has_short_ahead r.ahead) b.1 in
     (omega arith, (plain_short r.tick a.0, (plain_short r.core.0 b.0, (plain_kind r.kind, (plain_task plan r.job ok both.0, (plain_job r.job c.0, (plain_res plan r.res ok both.1, plain_ahead version r.ahead c.1)))))))
 
-plain_rows : (version : TextVersion) (plan : PlanModel) (rows : List Row) → IsPlan plan → AllByRecursion (IsWritten version plan) rows → AllByRecursion IsPlainRecord (map (row_fields version plan) rows)
-plain_rows version plan [] ok all = tt
-plain_rows version plan (r ∷ rows) ok all = (plain_row version plan r ok all.0, plain_rows version plan rows ok all.1)
-
 plain_head : (version : TextVersion) (plan : PlanModel) → IsPlan plan → IsPlainRecord (head_fields version plan)
 unfolding trace_word version_text
 plain_head version plan ok =
@@ -379,7 +378,7 @@ unfolding records_at
 text_records version plan rows ok all =
     ap csv_records (same_trace version plan rows)
     ∙ (ap (records_at st.StartRecord) (no_mark version plan rows)
-    ∙ plain_back (trace_records version plan rows) (plain_head version plan ok, plain_rows version plan rows ok all))
+    ∙ plain_back (trace_records version plan rows) (plain_head version plan ok, all_made (IsWritten version plan) IsPlainRecord (row_fields version plan) (λ r h. plain_row version plan r ok h) rows all))
 
 written_back : (version : TextVersion) (plan : PlanModel) (rows : List Row) → IsPlan plan → AllByRecursion (IsWritten version plan) rows
     → rows_of plan (csv_records (trace_text version plan rows)) ≡ record { rows = map (as_read version) rows; refusal = None }
@@ -390,10 +389,15 @@ each_written : (version : TextVersion) (plan : PlanModel) (rows : List Row) → 
 each_written version plan [] named short carries = tt
 each_written version plan (r ∷ rows) named short carries =
     let a = and_parts (is_named plan r) (list_all (is_named plan) rows) named in
-    let b = and_parts (has_short_numbers r) (list_all has_short_numbers rows) short in
-    (record { named = a.0; short = b.0; carries = λ e. (and_parts (carries_its_ahead r) (carries_ahead rows) (carries e)).0 },
-    each_written version plan rows a.1 b.1 (λ e. (and_parts (carries_its_ahead r) (carries_ahead rows) (carries e)).1))
+    let b = and_parts (has_short_numbers r) (list_all has_short_numbers rows) short in (
+      record { named = a.0; short = b.0; carries = λ e. (and_parts (carries_its_ahead r) (carries_ahead rows) (carries e)).0 },
+      each_written version plan rows a.1 b.1 (λ e. (and_parts (carries_its_ahead r) (carries_ahead rows) (carries e)).1),
+    )
 
 pub reads_back : (version : TextVersion) (plan : PlanModel) (rows : List Row) → IsPlan plan → list_all (is_named plan) rows ≡ true → list_all has_short_numbers rows ≡ true → (version ≡ V2 → carries_ahead rows ≡ true)
     → rows_of plan (csv_records (trace_text version plan rows)) ≡ record { rows = map (as_read version) rows; refusal = None }
 reads_back version plan rows ok named short carries = written_back version plan rows ok (each_written version plan rows named short carries)
+
+pub run_reads_back : (version : TextVersion) (plan : PlanModel) (rows : List Row) → IsPlan plan → IsRunStart plan rows → (version ≡ V2 → carries_ahead rows ≡ true)
+    → rows_of plan (csv_records (trace_text version plan rows)) ≡ record { rows = map (as_read version) rows; refusal = None }
+run_reads_back version plan rows ok run carries = reads_back version plan rows ok (run_named plan rows ok run) (run_short plan rows ok run) carries
