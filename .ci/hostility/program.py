@@ -12,7 +12,7 @@ SECONDS = 20  # a command that takes longer hangs
 COMMANDS = ("sim", "sim --order desc", "sim --order rot --ahead", "check", "check --text")
 
 GOOD, FAULT, REFUSED, USAGE, WANT, BROKEN = range(6)  # the statuses
-MEMORY, THREADS, READ_FAULT, WRITE_FAULT = (b"msrp: %s\n" % what for what in (b"memory", b"threads", b"read fault", b"write fault"))
+USAGE_FAULT, MEMORY, THREADS, READ_FAULT, WRITE_FAULT = (b"msrp: %s\n" % what for what in (b"usage", b"memory", b"threads", b"read fault", b"write fault"))
 REFUSAL = re.compile(rb"msrp: (plan: P([1-9]|1[0-4])|trace: R[1-6]) at record [1-9][0-9]*\n")
 VERDICT = re.compile(rb"fault,[1-9][0-9]*,A[1-7]\n")
 HEAD = re.compile(rb"msrp-trace,[12],([1-8]),([1-9][0-9]*)")
