@@ -5,7 +5,7 @@ use Rattle.msrp_plan.specs.Bytes.{Wrote}
 use Rattle.msrp_plan.specs.Levels.{is_global, local_ceiling, top}
 use Rattle.msrp_plan.specs.Plan.{PlanModel}
 use Rattle.msrp_plan.specs.declared.bytes.Sink.{Sink}
-use Rattle.msrp_plan.proofs.Ranges.{flat_more}
+use Rattle.msrp_plan.proofs.Lists.Ranges.{flat_more}
 use Rattle.msrp_plan.proofs.Writes.{wrote-more}
 use Rattle.msrp_levels.specs.Users.{ceiling_at}
 use Rattle.msrp_text.specs.PlanText.{record_text}

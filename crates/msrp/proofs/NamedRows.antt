@@ -13,9 +13,9 @@ use Rattle.msrp_plan.specs.declared.rows.Row.{Row}
 use Rattle.msrp_plan.specs.declared.rows.TextVersion.{TextVersion}
 use Rattle.msrp_plan.specs.declared.units.Op.{Op}
 use Rattle.msrp_plan.specs.declared.units.Op.TheVariants.{Run, Lock, Unlock}
-use Rattle.msrp_plan.proofs.JobLists.{core_jobs_below}
-use Rattle.msrp_plan.proofs.LegalRows.{IsTurn, DoesUnit, turn_of, idle_res}
-use Rattle.msrp_plan.proofs.Prefixes.{each_at}
+use Rattle.msrp_plan.proofs.Jobs.JobLists.{core_jobs_below}
+use Rattle.msrp_plan.proofs.Legality.LegalRows.{IsTurn, DoesUnit, turn_of, idle_res}
+use Rattle.msrp_plan.proofs.Lists.Prefixes.{each_at}
 use Rattle.msrp_sim.specs.Simulated.{SimModel, HasMade}
 use Rattle.msrp_text.proofs.Written.{named_unit}
 use Rattle.msrp_trace.specs.TraceText.{is_named, row_text, trace_text}

@@ -21,7 +21,7 @@ use Rattle.msrp_plan.specs.declared.units.Op.TheVariants.{Run as RunUnit, Lock a
 use Rattle.msrp_plan.specs.declared.rows.Kind.{Kind}
 use Rattle.msrp_plan.specs.declared.rows.Kind.TheVariants.{Idle, Run, Lock, Unlock, Take, Queue, Spin, Grant, Release}
 use Rattle.msrp_plan.specs.declared.rows.Row.{Row}
-use Rattle.msrp_plan.proofs.LegalRows.{same_res_is, same_choice_is, due, legal_turn, legal_due, idle_res}
+use Rattle.msrp_plan.proofs.Legality.LegalRows.{same_res_is, same_choice_is, due, legal_turn, legal_due, idle_res}
 use Rattle.msrp_audit.specs.Foresight.{same_kind, same_action, same_ahead, does_alike, replied_alike, unlike}
 
 -- ---- A3

@@ -19,16 +19,16 @@ use Rattle.msrp_plan.specs.declared.faults.Fault.{Fault}
 use Rattle.msrp_plan.specs.declared.faults.Rule.{Rule}
 use Rattle.msrp_plan.specs.declared.faults.Rule.TheVariants.{A7}
 use Rattle.msrp_plan.specs.declared.rows.Row.{Row}
-use Rattle.msrp_plan.proofs.Lists.{any_in}
-use Rattle.msrp_plan.proofs.Ranges.{not_equal}
-use Rattle.msrp_plan.proofs.JobTests.{same_is, same_self}
-use Rattle.msrp_plan.proofs.JobLists.{jobs_of_are, core_jobs_below}
-use Rattle.msrp_plan.proofs.Members.{kept_by, in_filter}
-use Rattle.msrp_plan.proofs.CoreJobs.{on_its_core, job_on_core}
-use Rattle.msrp_plan.proofs.CoreRuns.{due_by_log, reached_tick}
-use Rattle.msrp_plan.proofs.LegalRows.{due, legal_due, same_res_is, same_choice_is}
+use Rattle.msrp_plan.proofs.Lists.AnyAll.{any_in}
+use Rattle.msrp_plan.proofs.Lists.Ranges.{not_equal}
+use Rattle.msrp_plan.proofs.Jobs.JobTests.{same_is, same_self}
+use Rattle.msrp_plan.proofs.Jobs.JobLists.{jobs_of_are, core_jobs_below}
+use Rattle.msrp_plan.proofs.Lists.Members.{kept_by, in_filter}
+use Rattle.msrp_plan.proofs.Jobs.CoreJobs.{on_its_core, job_on_core}
+use Rattle.msrp_plan.proofs.Runs.CoreRuns.{due_by_log, reached_tick}
+use Rattle.msrp_plan.proofs.Legality.LegalRows.{due, legal_due, same_res_is, same_choice_is}
 use Rattle.msrp_plan.proofs.Scheduling.NextRow.{next_row}
-use Rattle.msrp_plan.proofs.Verdicts.{fault_push, fault_stays, unbroken_is_legal}
+use Rattle.msrp_plan.proofs.Runs.Verdicts.{fault_push, fault_stays, unbroken_is_legal}
 use Rattle.msrp_core.specs.Machine.{MachineModel}
 use Rattle.msrp_audit.specs.Cores.{CoresModel, StandFor, IsDueAfter, IsNextRow}
 use Rattle.msrp_audit.specs.Audits.{AuditorModel, HasFed}

@@ -8,7 +8,7 @@ use Rattle.msrp_plan.specs.Levels.{is_global}
 use Rattle.msrp_plan.specs.declared.ids.ResId.{ResId}
 use Rattle.msrp_plan.specs.declared.rows.Row.{Row}
 use Rattle.msrp_plan.specs.WellFormed.{IsPlan}
-use Rattle.msrp_plan.proofs.Ranges.{not_equal}
+use Rattle.msrp_plan.proofs.Lists.Ranges.{not_equal}
 use Rattle.msrp_core.specs.Ports.{claim_in}
 use Rattle.msrp_core.specs.CoreJobs.{MakesCall}
 use Rattle.msrp_core.specs.Machine.{MachineModel}

@@ -20,10 +20,10 @@ use Rattle.msrp_plan.specs.declared.rows.Kind.{Kind}
 use Rattle.msrp_plan.specs.declared.rows.Row.{Row}
 use Rattle.msrp_plan.specs.declared.units.Phase.{Phase}
 use Rattle.msrp_plan.specs.declared.units.Phase.TheVariants.{Free}
-use Rattle.msrp_plan.proofs.States.{state_push}
-use Rattle.msrp_plan.proofs.RoundRobin.{log_own, log_other}
-use Rattle.msrp_plan.proofs.QueueLocks.{agree_at, lock_off, tells_from_answers}
-use Rattle.msrp_plan.proofs.Verdicts.{start_push}
+use Rattle.msrp_plan.proofs.Jobs.States.{state_push}
+use Rattle.msrp_plan.proofs.Runs.RoundRobin.{log_own, log_other}
+use Rattle.msrp_plan.proofs.Queues.QueueLocks.{agree_at, lock_off, tells_from_answers}
+use Rattle.msrp_plan.proofs.Runs.Verdicts.{start_push}
 use Rattle.msrp_core.specs.CoreJobs.{MakesCall, IsQuiet}
 use Rattle.msrp_core.specs.Machine.{MachineModel, StandsAfter}
 use Rattle.msrp_core.specs.declared.port.PortCall.{PortCall}

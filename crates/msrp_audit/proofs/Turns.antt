@@ -27,11 +27,11 @@ use Rattle.msrp_plan.specs.declared.units.Call.{Call}
 use Rattle.msrp_plan.specs.declared.units.Call.TheVariants.{Ask, Poll, Leave}
 use Rattle.msrp_plan.specs.declared.units.Op.{Op}
 use Rattle.msrp_plan.specs.declared.units.Op.TheVariants.{Run as RunUnit, Lock as LockUnit, Unlock as UnlockUnit}
-use Rattle.msrp_plan.proofs.Locality.{AreOwn, chosen_local, action_local}
-use Rattle.msrp_plan.proofs.RoundRobin.{in_turn_of, quiet_reply}
-use Rattle.msrp_plan.proofs.CoreRuns.{due_by_log}
-use Rattle.msrp_plan.proofs.LegalRows.{IsTurn, turn_of, idle_res}
-use Rattle.msrp_plan.proofs.QueueLocks.{reply_at, own_from_legal}
+use Rattle.msrp_plan.proofs.Legality.Locality.{AreOwn, chosen_local, action_local}
+use Rattle.msrp_plan.proofs.Runs.RoundRobin.{in_turn_of, quiet_reply}
+use Rattle.msrp_plan.proofs.Runs.CoreRuns.{due_by_log}
+use Rattle.msrp_plan.proofs.Legality.LegalRows.{IsTurn, turn_of, idle_res}
+use Rattle.msrp_plan.proofs.Queues.QueueLocks.{reply_at, own_from_legal}
 use Rattle.msrp_core.specs.Ports.{calls_on, core_call}
 use Rattle.msrp_core.specs.CoreJobs.{MakesCall}
 use Rattle.msrp_core.specs.declared.port.PortCall.{PortCall}

@@ -20,12 +20,12 @@ use Rattle.msrp_plan.specs.declared.units.Op.{Op}
 use Rattle.msrp_plan.specs.declared.rows.Row.{Row}
 use Rattle.msrp_plan.specs.declared.units.Phase.{Phase}
 use Rattle.msrp_plan.specs.declared.units.Phase.TheVariants.{Free, Queued, Holding}
-use Rattle.msrp_plan.proofs.JobTests.{same_is, same_self}
-use Rattle.msrp_plan.proofs.Lists.{any_in, all_weaker, all_both}
-use Rattle.msrp_plan.proofs.Filters.{filter_same, any_same, all_of, any_map}
-use Rattle.msrp_plan.proofs.GlobalUse.{passing_place}
-use Rattle.msrp_plan.proofs.PlanUnits.{units_balance}
-use Rattle.msrp_plan.proofs.QueueLocks.{global_named}
+use Rattle.msrp_plan.proofs.Jobs.JobTests.{same_is, same_self}
+use Rattle.msrp_plan.proofs.Lists.AnyAll.{any_in, all_weaker, all_both}
+use Rattle.msrp_plan.proofs.Lists.Filters.{filter_same, any_same, all_of, any_map}
+use Rattle.msrp_plan.proofs.Levels.GlobalUse.{passing_place}
+use Rattle.msrp_plan.proofs.TaskUnits.PlanUnits.{units_balance}
+use Rattle.msrp_plan.proofs.Queues.QueueLocks.{global_named}
 use Rattle.msrp_ready.specs.Ready.{is_among}
 use Rattle.msrp_stack.specs.Stack as stack
 use Rattle.msrp_stack.specs.Stack.{StartedJob}

@@ -12,7 +12,7 @@ use Rattle.msrp_plan.specs.WellFormed.{IsLocking, IsWhole}
 use Rattle.msrp_plan.specs.declared.ids.ResId.{ResId}
 use Rattle.msrp_plan.specs.declared.units.Op.{Op}
 use Rattle.msrp_plan.specs.declared.units.Op.TheVariants.{Lock, Unlock}
-use Rattle.msrp_plan.proofs.Nesting.{held_times, held_push, even_after}
+use Rattle.msrp_plan.proofs.TaskUnits.Nesting.{held_times, held_push, even_after}
 
 -- ---- the test of what is held
 -- what stands in a list is held at least once, and what doesn't is not

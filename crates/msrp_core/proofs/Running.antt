@@ -21,13 +21,13 @@ use Rattle.msrp_plan.specs.declared.ids.JobId.{JobId}
 use Rattle.msrp_plan.specs.declared.rows.Row.{Row}
 use Rattle.msrp_plan.specs.declared.units.Phase.{Phase}
 use Rattle.msrp_plan.specs.declared.units.Phase.TheVariants.{Free, Queued, Holding}
-use Rattle.msrp_plan.proofs.Lists.{all_weaker, any_in}
-use Rattle.msrp_plan.proofs.Least.{all_filtered}
-use Rattle.msrp_plan.proofs.LeastKept.{least_in, least_passes}
-use Rattle.msrp_plan.proofs.JobTests.{same_is, same_self}
-use Rattle.msrp_plan.proofs.JobLists.{core_jobs_below}
-use Rattle.msrp_plan.proofs.CoreJobs.{on_its_core}
-use Rattle.msrp_plan.proofs.Ceilings.{top_above}
+use Rattle.msrp_plan.proofs.Lists.AnyAll.{all_weaker, any_in}
+use Rattle.msrp_plan.proofs.Lists.Least.{all_filtered}
+use Rattle.msrp_plan.proofs.Lists.LeastKept.{least_in, least_passes}
+use Rattle.msrp_plan.proofs.Jobs.JobTests.{same_is, same_self}
+use Rattle.msrp_plan.proofs.Jobs.JobLists.{core_jobs_below}
+use Rattle.msrp_plan.proofs.Jobs.CoreJobs.{on_its_core}
+use Rattle.msrp_plan.proofs.Levels.Ceilings.{top_above}
 use Rattle.msrp_ready.specs.Ready.{ReadyModel, is_among}
 use Rattle.msrp_ready.specs.Ready as ready
 use Rattle.msrp_stack.specs.Stack.{StackModel, StartedJob, CanStart, ComesFirst, newest, current_ceiling}

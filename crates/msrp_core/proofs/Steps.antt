@@ -16,10 +16,10 @@ use Rattle.msrp_plan.specs.declared.units.Op.{Op}
 use Rattle.msrp_plan.specs.declared.units.Op.TheVariants.{Run, Lock, Unlock}
 use Rattle.msrp_plan.specs.declared.units.Phase.{Phase}
 use Rattle.msrp_plan.specs.declared.units.Phase.TheVariants.{Free, Queued, Holding}
-use Rattle.msrp_plan.proofs.JobTests.{same_is, same_self}
-use Rattle.msrp_plan.proofs.JobLists.{core_jobs_below}
-use Rattle.msrp_plan.proofs.PlanUnits.{units_lock, units_flat}
-use Rattle.msrp_plan.proofs.UnitCounts.{held_unlock}
+use Rattle.msrp_plan.proofs.Jobs.JobTests.{same_is, same_self}
+use Rattle.msrp_plan.proofs.Jobs.JobLists.{core_jobs_below}
+use Rattle.msrp_plan.proofs.TaskUnits.PlanUnits.{units_lock, units_flat}
+use Rattle.msrp_plan.proofs.TaskUnits.UnitCounts.{held_unlock}
 use Rattle.msrp_ready.specs.Ready.{is_among}
 use Rattle.msrp_core.specs.Going.{Going, done_in, is_waiting_phase, is_newest, state_in, advanced, AreLocal, HoldsSo, HoldSo, AreGoing}
 use Rattle.msrp_core.proofs.HeldUnits.{held_test, next_held, locked, unlocked, whole_free}

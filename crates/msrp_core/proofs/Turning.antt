@@ -18,9 +18,9 @@ use Rattle.msrp_plan.specs.declared.rows.Kind.TheVariants.{Idle}
 use Rattle.msrp_plan.specs.declared.rows.Row.{Row}
 use Rattle.msrp_plan.specs.declared.units.Phase.{Phase}
 use Rattle.msrp_plan.specs.declared.units.Phase.TheVariants.{Free}
-use Rattle.msrp_plan.proofs.States.{state_push}
-use Rattle.msrp_plan.proofs.JobTests.{same_self}
-use Rattle.msrp_plan.proofs.Lists.{any_in}
+use Rattle.msrp_plan.proofs.Jobs.States.{state_push}
+use Rattle.msrp_plan.proofs.Jobs.JobTests.{same_self}
+use Rattle.msrp_plan.proofs.Lists.AnyAll.{any_in}
 use Rattle.msrp_core.specs.Going.{done_in, is_waiting_phase, is_newest}
 use Rattle.msrp_core.specs.CoreJobs.{going_in, state_of, AreJobs, AreToldBy, IsRunning, IsSamePlace, Acts, ActsFor, started_with}
 use Rattle.msrp_core.specs.declared.jobs.Jobs.{Jobs}

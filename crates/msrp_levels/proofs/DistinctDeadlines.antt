@@ -7,8 +7,8 @@ use Rattle.std.proofs.lemmas.List.{drop_more, length-map, get_or-map}
 use Rattle.std.proofs.lemmas.List.Sums.{length-filter, sum_by-append}
 use Rattle.msrp_plan.specs.Plan.{PlanModel, TaskModel, no_task, task_at}
 use Rattle.msrp_plan.specs.Levels.{distinct, level_of}
-use Rattle.msrp_plan.proofs.Lists.{any_push}
-use Rattle.msrp_plan.proofs.Filters.{any_within, all_of}
+use Rattle.msrp_plan.proofs.Lists.AnyAll.{any_push}
+use Rattle.msrp_plan.proofs.Lists.Filters.{any_within, all_of}
 
 -- by whether the first number passes, and whether it comes again
 filter_cases : (p : ℕ → Bool) (x : ℕ) (xs ys : List ℕ) (passes again : Bool) → p x ≡ passes → list_any (nat_eq x) xs ≡ again → (p x ≡ true → list_any (nat_eq x) (filter p xs) ≡ again) → filter p ys ≡ distinct (filter p xs)

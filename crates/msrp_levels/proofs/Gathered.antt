@@ -5,8 +5,8 @@ use Rattle.std.proofs.lemmas.List.Elements.{filter-append}
 use Rattle.std.proofs.lemmas.List.Sums.{sum_by-append, sum_by-cons}
 use Rattle.std.proofs.lemmas.Simd.{map-map}
 use Rattle.msrp_plan.specs.Levels.{greatest}
-use Rattle.msrp_plan.proofs.Filters.{all_of, any_map, any_same, filter_map_same}
-use Rattle.msrp_plan.proofs.Ranges.{range_more}
+use Rattle.msrp_plan.proofs.Lists.Filters.{all_of, any_map, any_same, filter_map_same}
+use Rattle.msrp_plan.proofs.Lists.Ranges.{range_more}
 
 -- the numbers of a range are below its end
 pub range_below : (a n m : ℕ) → a + n ≡ m → AllByRecursion (λ k. k < m) (range_with_len a n)

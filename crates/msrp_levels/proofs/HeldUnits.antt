@@ -13,9 +13,9 @@ use Rattle.msrp_plan.specs.Ceiling.{resources}
 use Rattle.msrp_plan.specs.Bounds.{is_inside}
 use Rattle.msrp_plan.specs.declared.units.Op.{Op}
 use Rattle.msrp_plan.specs.declared.units.Op.TheVariants.{Run, Lock, Unlock}
-use Rattle.msrp_plan.proofs.Ceilings.{in_resources}
-use Rattle.msrp_plan.proofs.Lists.{any_in, none_kept}
-use Rattle.msrp_plan.proofs.Nesting.{even_after, held_push, held_times}
+use Rattle.msrp_plan.proofs.Levels.Ceilings.{in_resources}
+use Rattle.msrp_plan.proofs.Lists.AnyAll.{any_in, none_kept}
+use Rattle.msrp_plan.proofs.TaskUnits.Nesting.{even_after, held_push, held_times}
 use Rattle.msrp_levels.specs.Outermost.{held_with_unit, CanFollow}
 use Rattle.msrp_levels.proofs.PassedUnits.{lock_below}
 

@@ -7,9 +7,9 @@ use Rattle.msrp_plan.specs.Levels.{greatest}
 use Rattle.msrp_plan.specs.Bounds.{is_inside, opening, wait_bound, rows_at, out}
 use Rattle.msrp_plan.specs.WellFormed.{IsLocking}
 use Rattle.msrp_plan.specs.declared.units.Op.{Op}
-use Rattle.msrp_plan.proofs.Lists.{all_weaker}
-use Rattle.msrp_plan.proofs.Least.{all_filtered}
-use Rattle.msrp_plan.proofs.Ranges.{not_equal}
+use Rattle.msrp_plan.proofs.Lists.AnyAll.{all_weaker}
+use Rattle.msrp_plan.proofs.Lists.Least.{all_filtered}
+use Rattle.msrp_plan.proofs.Lists.Ranges.{not_equal}
 use Rattle.msrp_levels.specs.Outermost.{held_with_unit}
 use Rattle.msrp_levels.proofs.Gathered.{filter_more_range, sum_more_range, range_below, filter_none}
 use Rattle.msrp_levels.proofs.HeldUnits.{IsHeldAt, held_first, held_step, inside, outside}

@@ -13,11 +13,11 @@ use Rattle.msrp_plan.specs.WellFormed.{IsLocking}
 use Rattle.msrp_plan.specs.Bounds.{to_unlock, longest_section}
 use Rattle.msrp_plan.specs.declared.units.Op.{Op}
 use Rattle.msrp_plan.specs.declared.units.Op.TheVariants.{Run, Lock, Unlock}
-use Rattle.msrp_plan.proofs.Lists.{none_kept}
-use Rattle.msrp_plan.proofs.UnitCounts.{count_next}
-use Rattle.msrp_plan.proofs.Ranges.{not_equal}
+use Rattle.msrp_plan.proofs.Lists.AnyAll.{none_kept}
+use Rattle.msrp_plan.proofs.TaskUnits.UnitCounts.{count_next}
+use Rattle.msrp_plan.proofs.Lists.Ranges.{not_equal}
 use Rattle.msrp_plan.specs.declared.ids.ResId.{ResId}
-use Rattle.msrp_plan.proofs.GlobalUse.{passing_place}
+use Rattle.msrp_plan.proofs.Levels.GlobalUse.{passing_place}
 use Rattle.msrp_levels.specs.declared.footprints.Use.{Use}
 use Rattle.msrp_levels.specs.Footprints.{use_from, uses_from, with_lock, with_unlock, unused, use_at, passed, CanPass}
 

@@ -5,8 +5,8 @@ use Rattle.std.proofs.lemmas.Bool.{cases_eq}
 use Rattle.std.proofs.lemmas.List.Sums.{fold_push}
 use Rattle.std.proofs.lemmas.List.FromFn.{map-range_with_len_more}
 use Rattle.msrp_plan.specs.Levels.{greatest}
-use Rattle.msrp_plan.proofs.Lists.{all_weaker, in_range}
-use Rattle.msrp_plan.proofs.LeastKept.{greatest_above}
+use Rattle.msrp_plan.proofs.Lists.AnyAll.{all_weaker, in_range}
+use Rattle.msrp_plan.proofs.Lists.LeastKept.{greatest_above}
 use Rattle.msrp_levels.proofs.Gathered.{range_below}
 use Rattle.msrp_levels.proofs.Longest.{fold_max-le}
 

@@ -9,10 +9,10 @@ use Rattle.msrp_plan.specs.Plan.{PlanModel, TaskModel, no_task, task_at}
 use Rattle.msrp_plan.specs.Levels.{greatest, level_of, uses, is_global, local_ceiling, top}
 use Rattle.msrp_plan.specs.Bounds.{longest_section, section, is_used_on, spin_bound}
 use Rattle.msrp_plan.specs.WellFormed.{IsPlan}
-use Rattle.msrp_plan.proofs.Filters.{all_of, filter_same}
-use Rattle.msrp_plan.proofs.Lists.{all_weaker}
-use Rattle.msrp_plan.proofs.Least.{all_filtered}
-use Rattle.msrp_plan.proofs.GlobalUse.{by_first, by_none}
+use Rattle.msrp_plan.proofs.Lists.Filters.{all_of, filter_same}
+use Rattle.msrp_plan.proofs.Lists.AnyAll.{all_weaker}
+use Rattle.msrp_plan.proofs.Lists.Least.{all_filtered}
+use Rattle.msrp_plan.proofs.Levels.GlobalUse.{by_first, by_none}
 use Rattle.msrp_levels.specs.declared.footprints.Footprint.{Footprint}
 use Rattle.msrp_levels.specs.declared.footprints.Use.{Use}
 use Rattle.msrp_levels.specs.declared.usage.CoreUse.{CoreUse}

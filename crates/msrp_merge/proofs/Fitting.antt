@@ -5,7 +5,7 @@ use Rattle.std.proofs.lemmas.List.Elements.{filter-append}
 use Rattle.msrp_plan.specs.Calls.{kind_of_call}
 use Rattle.msrp_plan.specs.declared.units.Call.{Call}
 use Rattle.msrp_plan.specs.declared.units.Call.TheVariants.{Ask, Poll, Leave}
-use Rattle.msrp_plan.proofs.Lists.{all_push}
+use Rattle.msrp_plan.proofs.Lists.AnyAll.{all_push}
 use Rattle.msrp_board.specs.declared.books.Entry.{Entry}
 use Rattle.msrp_merge.specs.declared.logs.Turn.{Turn}
 use Rattle.msrp_merge.specs.Pairs.{Paired}

@@ -4,8 +4,8 @@ use Rattle.std.specs.List.{AllByRecursion}
 use Rattle.msrp_plan.specs.Examples.HandoverATickLater as handover
 use Rattle.msrp_plan.specs.FifoLock.{Legal}
 use Rattle.msrp_plan.specs.Runs.{CoreRun, IsRun, IsRunStart}
-use Rattle.msrp_plan.proofs.CoreRuns.{core_run}
-use Rattle.msrp_plan.proofs.Verdicts.{good_is_run}
+use Rattle.msrp_plan.proofs.Runs.CoreRuns.{core_run}
+use Rattle.msrp_plan.proofs.Runs.Verdicts.{good_is_run}
 use Rattle.msrp_board.specs.Boards.{entries_at}
 use Rattle.msrp_board.specs.Books.{on, IsChain}
 use Rattle.msrp_board.specs.History.{Event, by, calls, PollsInOrder, IsNotLater, IsServed}

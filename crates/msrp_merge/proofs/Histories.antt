@@ -10,7 +10,7 @@ use Rattle.std.proofs.lemmas.Cmp.{ranked, nat_cmp_total, tied_itself}
 use Rattle.std.proofs.lemmas.Map.Keys.{ge_from_not_lt}
 use Rattle.msrp_plan.specs.Queues.{is_on}
 use Rattle.msrp_plan.specs.declared.ids.ResId.{ResId}
-use Rattle.msrp_plan.proofs.Lists.{all_weaker, all_both}
+use Rattle.msrp_plan.proofs.Lists.AnyAll.{all_weaker, all_both}
 use Rattle.msrp_board.specs.declared.books.Entry.{Entry}
 use Rattle.msrp_board.specs.Books.{on, IsChain}
 use Rattle.msrp_board.specs.History.{Event, is_poll, IsNotLater, IsHistory}

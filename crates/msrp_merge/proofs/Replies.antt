@@ -23,12 +23,12 @@ use Rattle.msrp_plan.specs.declared.rows.Kind.TheVariants.{Lock, Unlock}
 use Rattle.msrp_plan.specs.declared.rows.Row.{Row}
 use Rattle.msrp_plan.specs.declared.units.Call.{Call}
 use Rattle.msrp_plan.specs.declared.units.Op.TheVariants.{Lock as LockUnit}
-use Rattle.msrp_plan.proofs.Interleaving.{AreAnswered, interleaved_legal}
-use Rattle.msrp_plan.proofs.LegalRows.{IsTurn, DoesUnit, legal_turn, idle_res}
-use Rattle.msrp_plan.proofs.Prefixes.{each_push, each_weaker}
-use Rattle.msrp_plan.proofs.QueueLocks.{reply_at, agree_at, lock_off, tells_from_answers, turn_from_log, own_from_legal}
-use Rattle.msrp_plan.proofs.RoundRobin.{quiet_reply}
-use Rattle.msrp_plan.proofs.UnitKinds.{Runs, Locks, Unlocks, Takes, Queues, Grants, Spins, Releases, step_of}
+use Rattle.msrp_plan.proofs.Runs.Interleaving.{AreAnswered, interleaved_legal}
+use Rattle.msrp_plan.proofs.Legality.LegalRows.{IsTurn, DoesUnit, legal_turn, idle_res}
+use Rattle.msrp_plan.proofs.Lists.Prefixes.{each_push, each_weaker}
+use Rattle.msrp_plan.proofs.Queues.QueueLocks.{reply_at, agree_at, lock_off, tells_from_answers, turn_from_log, own_from_legal}
+use Rattle.msrp_plan.proofs.Runs.RoundRobin.{quiet_reply}
+use Rattle.msrp_plan.proofs.TaskUnits.UnitKinds.{Runs, Locks, Unlocks, Takes, Queues, Grants, Spins, Releases, step_of}
 use Rattle.msrp_board.specs.History.{Event, calls}
 use Rattle.msrp_merge.specs.Pairs.{Paired}
 use Rattle.msrp_merge.specs.Steps.{is_row_on, IsRowOfEvent, AreServed}

@@ -12,9 +12,9 @@ use Rattle.msrp_plan.specs.Logs.{is_of, log_of, AreInterleaved}
 use Rattle.msrp_plan.specs.FifoLock.{Legal}
 use Rattle.msrp_plan.specs.WellFormed.{IsPlan}
 use Rattle.msrp_plan.specs.declared.rows.Row.{Row}
-use Rattle.msrp_plan.proofs.Filters.{filter_map_same, all_of}
-use Rattle.msrp_plan.proofs.GlobalUse.{undeclared_local}
-use Rattle.msrp_plan.proofs.Interleaving.{interleaved_run}
+use Rattle.msrp_plan.proofs.Lists.Filters.{filter_map_same, all_of}
+use Rattle.msrp_plan.proofs.Levels.GlobalUse.{undeclared_local}
+use Rattle.msrp_plan.proofs.Runs.Interleaving.{interleaved_run}
 use Rattle.msrp_board.specs.declared.books.Entry.{Entry}
 use Rattle.msrp_board.specs.Books.{IsChain}
 use Rattle.msrp_board.specs.History.{Event, calls, IsNotLater, IsHistory}

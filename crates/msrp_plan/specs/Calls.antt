@@ -1,6 +1,6 @@
 -- The calls that a core makes of global resources: what it holds or awaits after them, in which order it may make
 -- them, and the rows that they make. Calls stand oldest first.
-use Rattle.std.specs.Prelude.{ℕ, zero, suc, List, [], ◌∷◌, Bool, true, false, Option, Some, None, fold, ◌≡◌, ⊤}
+use Rattle.std.specs.Prelude.{ℕ, zero, suc, List, [], ◌∷◌, true, false, Option, Some, None, fold, ◌≡◌, ⊤}
 use Rattle.msrp_plan.specs.declared.ids.ResId.{ResId}
 use Rattle.msrp_plan.specs.declared.units.Call.{Call}
 use Rattle.msrp_plan.specs.declared.units.Call.TheVariants.{Ask, Poll, Leave}

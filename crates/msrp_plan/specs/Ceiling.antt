@@ -30,10 +30,6 @@ is_held_on plan c pre g = list_any (holds plan pre g) (jobs_on plan c)
 abbrev pub is_queued_on : PlanModel → ℕ → List Row → Bool
 is_queued_on plan c pre = list_any (is_queued pre) (jobs_on plan c)
 
--- a job of the core is queued for a global resource, or holds one
-abbrev pub is_raised : PlanModel → ℕ → List Row → Bool
-is_raised plan c pre = raised_with plan (is_queued_on plan c pre) (is_held_on plan c pre)
-
 -- the current ceiling of the core after these rows
 abbrev pub ceiling : PlanModel → ℕ → List Row → ℕ
 ceiling plan c pre = ceiling_with plan c (is_queued_on plan c pre) (is_held_on plan c pre)

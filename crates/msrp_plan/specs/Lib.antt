@@ -27,8 +27,6 @@ pub mod Scheduling
 pub mod Building
 pub mod Codes
 pub mod Times
-pub mod Tasks
-pub mod Marks
-pub mod Views
 pub mod Bytes
+pub mod Inside
 pub mod Examples

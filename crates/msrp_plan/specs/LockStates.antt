@@ -7,7 +7,6 @@ use Rattle.msrp_plan.specs.Queues.{fifo}
 use Rattle.msrp_plan.specs.FifoLock.{FifoLock, lock_after}
 use Rattle.msrp_plan.specs.Calls.{kind_of_call, ahead_of_call}
 use Rattle.msrp_plan.specs.declared.ids.JobId.{JobId}
-use Rattle.msrp_plan.specs.declared.ids.ResId.{ResId}
 use Rattle.msrp_plan.specs.declared.units.Call.{Call}
 use Rattle.msrp_plan.specs.declared.units.Call.TheVariants.{Ask, Poll, Leave}
 use Rattle.msrp_plan.specs.declared.rows.Row.{Row}
@@ -31,12 +30,6 @@ pub record IsRowOfCall (g : ℕ) (c : ℕ) (call : Call) (r : Row) : Type 0 wher
   pub resource : r.res ≡ Some (record { 0 = g })
   pub kind : r.kind ≡ kind_of_call call
   pub ahead : IfSome r.ahead (λ n. ahead_of_call call ≡ Some n)
-
--- the rows are those that the calls of the resource make, one by one
-abbrev pub AreRowsOfCalls : ℕ → List (ℕ × Call) → List Row → Type 0
-AreRowsOfCalls g [] [] = ⊤
-AreRowsOfCalls g (s ∷ calls) (r ∷ rows) = IsRowOfCall g s.0 s.1 r × AreRowsOfCalls g calls rows
-AreRowsOfCalls g _ _ = ⊥
 
 -- a request tells the number of jobs in the queue
 abbrev pub Tells : List JobId → Call → Type 0

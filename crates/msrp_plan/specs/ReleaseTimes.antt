@@ -1,5 +1,5 @@
 -- When the jobs of a task are released.
-use Rattle.std.specs.Prelude.{ℕ, List, [], ◌∷◌, ◌++◌, All, Bool, true, false, ◌==◌, nat_lt, Option, Some, None, length, slice_get, unwrap_or, ◌+◌, ◌*◌, ◌≤◌}
+use Rattle.std.specs.Prelude.{ℕ, List, [], ◌∷◌, ◌++◌, All, Bool, true, false, ◌==◌, Option, Some, length, slice_get, ◌+◌, ◌*◌, ◌≤◌}
 use Rattle.std.specs.List.Sorted.{IsStrictlyIncreasing}
 
 -- once in each period from an offset on (Liu and Layland 1973, the environment), or at the ticks of a list
@@ -11,10 +11,6 @@ pub data ReleaseTimes : Type 0 where
 abbrev pub tick_of : ReleaseTimes → ℕ → Option ℕ
 tick_of (Every period offset) k = Some (offset + k * period)
 tick_of (Listed ticks) k = slice_get ticks k
-
--- there is a k-th release, and it comes before the tick
-abbrev pub comes_before : ReleaseTimes → ℕ → ℕ → Bool
-comes_before times tick k = nat_lt (unwrap_or (tick_of times k) tick) tick
 
 abbrev pub is_listed : ReleaseTimes → Bool
 is_listed (Every period offset) = false

@@ -1,15 +1,16 @@
-//! The builder of plans.
+//! A plan, told call by call. The builder refuses what breaks a rule, with the first code that applies, and is then as it
+//! was; what it finishes is well formed.
 ghost use Rattle.std.specs.Prelude.{◌≡◌, ◌<◌, ◌≤◌, ◌^◌, ◌&&◌, true, ℕ, [], length, map, replicate, IfOk, OnOk, OnErr};
 ghost use Rattle.std.specs.Option.{option_map};
 ghost use Rattle.std.specs.List.{list_any};
 ghost use Rattle.msrp_plan.specs.Plan.{task_at};
 ghost use Rattle.msrp_plan.specs.Jobs.{jobs, jobs_of};
 ghost use Rattle.msrp_plan.specs.Levels.{is_global};
-ghost use Rattle.msrp_plan.specs.Marks.{AreGlobals, holds_one_after, is_marked, locks_one};
+ghost use Rattle.msrp_plan.specs.Inside.Marks.{AreGlobals, holds_one_after, is_marked, locks_one};
 ghost use Rattle.msrp_plan.specs.Names.{has_name, name_position};
 ghost use Rattle.msrp_plan.specs.Building.{AreNew, IsJudged, judged, finished, empty_plan, new_task, new_fault, resource_fault, task_fault, tick_fault, release_fault, op_fault, end_fault, finish_fault, are_in_range, is_above, is_undeclared, is_misnested, is_too_much, nests_global, newest_task, newest_units, takes_releases, with_release, with_resource, with_task, with_units, units_of};
 ghost use Rattle.msrp_plan.specs.ReleaseTimes.{Every, Listed, lacks_release, listed_ticks};
-ghost use Rattle.msrp_plan.specs.Tasks.{named_view, times_view};
+ghost use Rattle.msrp_plan.specs.Inside.Tasks.{named_view, times_view};
 
 #[cfg(test)]
 mod tests;
@@ -48,7 +49,7 @@ impl Model for PlanBuilder {
 
     ghost Value = { PlanModel };
 
-    ghost use Rattle.msrp_plan.specs.Views.{draft_view, IsBuilding};
+    ghost use Rattle.msrp_plan.specs.Inside.Views.{draft_view, IsBuilding};
 
     ghost view = { draft_view };
 

@@ -1,4 +1,4 @@
-//! Refusals and faults.
+//! Why a plan is refused, which rule of a legal run a row breaks, and the answers of calls that want memory or write.
 ghost use Rattle.std.specs.Prelude.{◌≡◌};
 ghost use Rattle.msrp_plan.specs.Codes.{code_of};
 ghost use Rattle.msrp_plan.specs.declared.faults.PlanFault.TheVariants as codes;

@@ -1,25 +1,30 @@
-//! Plans, traces, and the definitions that every promise of this repository is stated in.
+//! Plans, rows and traces, and the definitions that every promise of this repository is stated in.
+//!
+//! A [`PlanBuilder`] judges a plan call by call, and makes a [`Plan`] of it, which is well formed. What a legal run of a
+//! plan is stands in `specs/`, to which `docs/DEFINITIONS.md` leads; [`definitions`] and [`laws`] are theorems about it,
+//! and [`worked`] are examples of it.
 #![tactic(auto)]
 
-pub mod builder;
+mod builder;
 pub mod bytes;
 pub mod definitions;
-pub mod faults;
-pub mod ids;
+mod faults;
+mod ids;
 pub mod laws;
 pub mod limits;
-pub mod names;
-pub mod plans;
-pub mod rows;
+mod names;
+mod plans;
+mod rows;
 mod tasks;
 mod times;
-pub mod traces;
-pub mod units;
+mod traces;
+mod units;
 pub mod worked;
 
 pub use builder::PlanBuilder;
 pub use faults::{Fault, Memory, PlanFault, Rule, WriteFault};
 pub use ids::{CoreId, JobId, JobKey, ResId, TaskId};
+pub use names::is_name;
 pub use plans::Plan;
 pub use rows::{Kind, Row, TextVersion};
 pub use times::Times;

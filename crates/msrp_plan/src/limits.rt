@@ -1,4 +1,4 @@
-//! The limits that every plan keeps.
+//! The limits that every plan keeps. The builder refuses what is past one of them: too many jobs as P13, all else as P7.
 
 /// The most cores of a plan.
 pub const MOST_CORES: u32 = 8;

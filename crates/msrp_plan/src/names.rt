@@ -1,4 +1,4 @@
-//! Names of tasks and resources.
+//! Which texts are names of tasks and resources.
 ghost use Rattle.std.specs.Prelude.{◌≡◌};
 ghost use Rattle.std.specs.List.{list_all};
 ghost use Rattle.msrp_plan.specs.Names.{is_name, is_name_byte};

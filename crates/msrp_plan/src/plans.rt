@@ -1,4 +1,5 @@
-//! Plans.
+//! Accepted plans. Only a builder makes them, so each is well formed (`IsPlan`), and its readers say so. Tasks and
+//! resources go by their numbers, from 0, in the order of their declaration.
 ghost use Rattle.std.specs.Prelude.{◌≡◌, ◌<◌, ◌≤◌, ◌*◌, ◌^◌, ℕ, length, map, IsSome, IsSomeAnd, Some, slice_get};
 ghost use Rattle.std.specs.List.{range_with_len};
 ghost use Rattle.std.specs.Option.{option_map};
@@ -29,7 +30,7 @@ impl Model for Plan {
 
     ghost Value = { PlanModel };
 
-    ghost use Rattle.msrp_plan.specs.Views.{plan_view, IsPlanView};
+    ghost use Rattle.msrp_plan.specs.Inside.Views.{plan_view, IsPlanView};
 
     ghost view = { plan_view };
 
@@ -37,7 +38,7 @@ impl Model for Plan {
 }
 
 impl Plan {
-    ghost use Rattle.msrp_plan.specs.Tasks.{task_view};
+    ghost use Rattle.msrp_plan.specs.Inside.Tasks.{task_view};
 
     /// The number of cores.
     pub fn cores(&self) -> u32

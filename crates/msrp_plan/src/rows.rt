@@ -1,4 +1,4 @@
-//! Rows of a trace.
+//! Rows of a trace: each is one turn of one core in one tick.
 ghost use Rattle.std.specs.Prelude.{◌≡◌, true};
 ghost use Rattle.msrp_plan.specs.Shape.{has_shape, may_carry};
 

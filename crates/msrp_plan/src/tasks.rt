@@ -5,7 +5,7 @@ ghost use Rattle.std.specs.Option.{option_copied};
 ghost use Rattle.indexmap.specs.IndexMap.{values};
 ghost use Rattle.msrp_plan.specs.Units.{is_lock_of};
 ghost use Rattle.msrp_plan.specs.Building.{with_more_ticks, with_more_units, with_newest};
-ghost use Rattle.msrp_plan.specs.Tasks.{named_view, task_view};
+ghost use Rattle.msrp_plan.specs.Inside.Tasks.{named_view, task_view};
 
 use crate::ids::{CoreId, ResId};
 use crate::times::Releases;

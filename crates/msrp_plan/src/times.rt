@@ -1,7 +1,7 @@
-//! When the jobs of a task are released.
+//! When the jobs of a task are released: once in each period from an offset on, or at the ticks of a list.
 ghost use Rattle.std.specs.Prelude.{◌≡◌, ◌<◌, ◌≤◌, ◌*◌, ◌^◌, ◌==◌, ℕ, length, nat_lt, IsSome, Some, OnOk, OnErr, vec_len};
-ghost use Rattle.msrp_plan.specs.ReleaseTimes.{AreTimes, comes_before, is_listed, lacks_release, listed_ticks, tick_of, with_tick};
-ghost use Rattle.msrp_plan.specs.Tasks.{times_view};
+ghost use Rattle.msrp_plan.specs.ReleaseTimes.{AreTimes, is_listed, lacks_release, listed_ticks, tick_of, with_tick};
+ghost use Rattle.msrp_plan.specs.Inside.Tasks.{comes_before, times_view};
 ghost use Rattle.msrp_plan.specs.Times.{times_told};
 
 use std::alloc::AllocError;

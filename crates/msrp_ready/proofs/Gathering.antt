@@ -6,7 +6,7 @@ use Rattle.std.proofs.lemmas.List.FromFn.{map-range_with_len_more}
 use Rattle.msrp_plan.specs.Plan.{PlanModel, task_at}
 use Rattle.msrp_plan.specs.Jobs.{jobs_of}
 use Rattle.msrp_plan.specs.declared.ids.JobId.{JobId}
-use Rattle.msrp_plan.proofs.JobLists.{job_at, jobs_among, jobs_among_more}
+use Rattle.msrp_plan.proofs.Jobs.JobLists.{job_at, jobs_among, jobs_among_more}
 
 module _ {X : Type 0} (f : JobId → X) (plan : PlanModel) where
   -- the jobs of a task of the core stand behind those before it

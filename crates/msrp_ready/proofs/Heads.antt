@@ -10,8 +10,8 @@ use Rattle.msrp_plan.specs.Choice.{is_before, least, first_ready}
 use Rattle.msrp_plan.specs.Choice as definitions
 use Rattle.msrp_plan.specs.declared.ids.JobId.{JobId}
 use Rattle.msrp_plan.specs.declared.rows.Row.{Row}
-use Rattle.msrp_plan.proofs.Filters.{filter_same}
-use Rattle.msrp_plan.proofs.Lists.{any_push}
+use Rattle.msrp_plan.proofs.Lists.Filters.{filter_same}
+use Rattle.msrp_plan.proofs.Lists.AnyAll.{any_push}
 use Rattle.msrp_ready.specs.Ready.{ReadyModel, is_among, head}
 
 -- who is first depends on the jobs of the core alone

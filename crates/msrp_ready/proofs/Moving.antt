@@ -14,7 +14,7 @@ use Rattle.msrp_plan.specs.Plan.{PlanModel, core_of, release}
 use Rattle.msrp_plan.specs.Jobs.{jobs, jobs_on, same_job}
 use Rattle.msrp_plan.specs.WellFormed.{IsPlan}
 use Rattle.msrp_plan.specs.declared.ids.JobId.{JobId}
-use Rattle.msrp_plan.proofs.JobTests.{same_is, same_self}
+use Rattle.msrp_plan.proofs.Jobs.JobTests.{same_is, same_self}
 use Rattle.msrp_ready.specs.Keyed.{keyed}
 use Rattle.msrp_ready.specs.Heap.{HeapModel}
 use Rattle.msrp_ready.specs.Ready.{is_among, has_come}

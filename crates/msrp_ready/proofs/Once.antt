@@ -7,7 +7,7 @@ use Rattle.msrp_plan.specs.Plan.{PlanModel, core_of}
 use Rattle.msrp_plan.specs.WellFormed.{IsPlan}
 use Rattle.msrp_plan.specs.Jobs.{jobs_of, jobs, jobs_on, same_job}
 use Rattle.msrp_plan.specs.declared.ids.JobId.{JobId}
-use Rattle.msrp_plan.proofs.JobLists.{job_at, jobs_of_are}
+use Rattle.msrp_plan.proofs.Jobs.JobLists.{job_at, jobs_of_are}
 
 -- ---- counts
 count-cons : {X : Type 0} (p : X → Bool) (x : X) (xs : List X) → count_by p (x ∷ xs) ≡ cond (p x) 1 0 + count_by p xs

@@ -12,10 +12,10 @@ use Rattle.msrp_plan.specs.Plan.{PlanModel, release, key}
 use Rattle.msrp_plan.specs.Jobs.{jobs_on, same_job}
 use Rattle.msrp_plan.specs.Choice.{key_cmp, is_before, least}
 use Rattle.msrp_plan.specs.declared.ids.JobId.{JobId}
-use Rattle.msrp_plan.proofs.Keys.{before_order, tied}
-use Rattle.msrp_plan.proofs.JobTests.{same_is, same_self}
-use Rattle.msrp_plan.proofs.LeastKept.{least_passes, least_in, least_some, least_of_those}
-use Rattle.msrp_plan.proofs.Lists.{any_in}
+use Rattle.msrp_plan.proofs.Jobs.Keys.{before_order, tied}
+use Rattle.msrp_plan.proofs.Jobs.JobTests.{same_is, same_self}
+use Rattle.msrp_plan.proofs.Lists.LeastKept.{least_passes, least_in, least_some, least_of_those}
+use Rattle.msrp_plan.proofs.Lists.AnyAll.{any_in}
 use Rattle.msrp_ready.specs.Keyed.{keyed}
 use Rattle.msrp_ready.specs.Heap.{HeapModel, least_on_top}
 use Rattle.msrp_ready.specs.Ready.{ReadyModel, is_among, has_come, head}

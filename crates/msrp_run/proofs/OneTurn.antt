@@ -22,9 +22,9 @@ use Rattle.msrp_plan.specs.declared.units.Call.{Call}
 use Rattle.msrp_plan.specs.declared.units.Call.TheVariants.{Ask, Poll, Leave}
 use Rattle.msrp_plan.specs.declared.units.Phase.{Phase}
 use Rattle.msrp_plan.specs.declared.units.Phase.TheVariants.{Free}
-use Rattle.msrp_plan.proofs.LegalRows.{IsTurn, DoesUnit, turn_of}
-use Rattle.msrp_plan.proofs.Prefixes.{each_push}
-use Rattle.msrp_plan.proofs.UnitKinds.{Runs, Locks, Unlocks, Takes, Queues, Grants, Spins, Releases, step_of}
+use Rattle.msrp_plan.proofs.Legality.LegalRows.{IsTurn, DoesUnit, turn_of}
+use Rattle.msrp_plan.proofs.Lists.Prefixes.{each_push}
+use Rattle.msrp_plan.proofs.TaskUnits.UnitKinds.{Runs, Locks, Unlocks, Takes, Queues, Grants, Spins, Releases, step_of}
 use Rattle.msrp_board.specs.declared.answers.SeatPhase.TheVariants.{Admitted}
 use Rattle.msrp_board.specs.declared.books.Book.{Book}
 use Rattle.msrp_board.specs.declared.books.BoardSize.{BoardSize}

@@ -10,8 +10,8 @@ use Rattle.std.proofs.lemmas.List.Sums.{sum_by_push}
 use Rattle.msrp_plan.specs.Plan.{PlanModel}
 use Rattle.msrp_plan.specs.Runs.{EachAfter}
 use Rattle.msrp_plan.specs.Scheduling.{IsNextCore, IsOrder}
-use Rattle.msrp_plan.proofs.Prefixes.{each_push, each_at}
-use Rattle.msrp_plan.proofs.Ranges.{not_equal}
+use Rattle.msrp_plan.proofs.Lists.Prefixes.{each_push, each_at}
+use Rattle.msrp_plan.proofs.Lists.Ranges.{not_equal}
 use Rattle.msrp_sim.specs.TurnCounts.{AreCounted}
 
 -- each turn of an order is of a core that is due

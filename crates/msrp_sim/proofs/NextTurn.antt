@@ -11,7 +11,7 @@ use Rattle.msrp_plan.specs.Scheduling.{IsNextCore, IsOrder}
 use Rattle.msrp_plan.specs.WellFormed.{IsPlan}
 use Rattle.msrp_plan.specs.declared.ids.ResId.{ResId}
 use Rattle.msrp_plan.specs.declared.rows.Row.{Row}
-use Rattle.msrp_plan.proofs.RoundRobin.{due_rows_legal}
+use Rattle.msrp_plan.proofs.Runs.RoundRobin.{due_rows_legal}
 use Rattle.msrp_plan.proofs.Scheduling.Orders.{turns_of}
 use Rattle.msrp_core.specs.Machine.{MachineModel, StandsAfter}
 use Rattle.msrp_core.specs.Ports.{claim_in}

@@ -12,8 +12,8 @@ use Rattle.msrp_plan.specs.Plan.{PlanModel}
 use Rattle.msrp_plan.specs.Runs.{EachAfter}
 use Rattle.msrp_plan.specs.Logs.{ascending}
 use Rattle.msrp_plan.specs.Scheduling.{IsNextCore, IsOrder}
-use Rattle.msrp_plan.proofs.Prefixes.{each_push}
-use Rattle.msrp_plan.proofs.Ranges.{flat_more, flat_length, not_equal}
+use Rattle.msrp_plan.proofs.Lists.Prefixes.{each_push}
+use Rattle.msrp_plan.proofs.Lists.Ranges.{flat_more, flat_length, not_equal}
 use Rattle.msrp_sim.specs.Orders.{turns_by, falling, rotating}
 
 -- in each tick each of m cores has a place of its own

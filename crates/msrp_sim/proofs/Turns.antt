@@ -29,11 +29,11 @@ use Rattle.msrp_plan.specs.declared.units.Op.{Op}
 use Rattle.msrp_plan.specs.declared.units.Op.TheVariants.{Run as RunUnit, Lock as LockUnit, Unlock as UnlockUnit}
 use Rattle.msrp_plan.specs.declared.units.Call.{Call}
 use Rattle.msrp_plan.specs.declared.units.Call.TheVariants.{Ask, Poll, Leave}
-use Rattle.msrp_plan.proofs.Prefixes.{each_push, each_at}
-use Rattle.msrp_plan.proofs.QueueLocks.{reply_at, turn_from_log, own_from_legal, agree_at, tells_from_answers, lock_off}
-use Rattle.msrp_plan.proofs.Ranges.{not_equal}
-use Rattle.msrp_plan.proofs.LegalRows.{IsTurn, turn_of, DoesUnit, idle_res}
-use Rattle.msrp_plan.proofs.RoundRobin.{due_rows_legal, log_own, log_other, quiet_reply}
+use Rattle.msrp_plan.proofs.Lists.Prefixes.{each_push, each_at}
+use Rattle.msrp_plan.proofs.Queues.QueueLocks.{reply_at, turn_from_log, own_from_legal, agree_at, tells_from_answers, lock_off}
+use Rattle.msrp_plan.proofs.Lists.Ranges.{not_equal}
+use Rattle.msrp_plan.proofs.Legality.LegalRows.{IsTurn, turn_of, DoesUnit, idle_res}
+use Rattle.msrp_plan.proofs.Runs.RoundRobin.{due_rows_legal, log_own, log_other, quiet_reply}
 use Rattle.msrp_plan.proofs.Scheduling.Orders.{turns_of}
 use Rattle.msrp_core.specs.Machine.{MachineModel, StandsAfter}
 use Rattle.msrp_core.specs.Ports.{PortModel, Adds, calls_on, claim_in}

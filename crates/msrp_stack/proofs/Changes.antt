@@ -14,10 +14,10 @@ use Rattle.msrp_plan.specs.Jobs.{jobs, jobs_on, same_job}
 use Rattle.msrp_plan.specs.Choice.{is_before}
 use Rattle.msrp_plan.specs.WellFormed.{IsPlan}
 use Rattle.msrp_plan.specs.declared.ids.JobId.{JobId}
-use Rattle.msrp_plan.proofs.JobTests.{same_is, same_self}
-use Rattle.msrp_plan.proofs.Keys.{before_order}
-use Rattle.msrp_plan.proofs.LeastKept.{irrefl}
-use Rattle.msrp_plan.proofs.Lists.{any_in}
+use Rattle.msrp_plan.proofs.Jobs.JobTests.{same_is, same_self}
+use Rattle.msrp_plan.proofs.Jobs.Keys.{before_order}
+use Rattle.msrp_plan.proofs.Lists.LeastKept.{irrefl}
+use Rattle.msrp_plan.proofs.Lists.AnyAll.{any_in}
 use Rattle.msrp_stack.proofs.Tops.{before_all}
 use Rattle.msrp_stack.specs.Stack.{StartedJob, CanStart, ComesFirst, IsDone, is_among, with_held, without_held}
 use Rattle.msrp_levels.specs.Users.{ceiling_at}

@@ -8,10 +8,10 @@ use Rattle.std.proofs.lemmas.List.Elements.{All-contains_itself, recursion_from_
 use Rattle.msrp_plan.specs.Plan.{PlanModel}
 use Rattle.msrp_plan.specs.Levels.{is_global, local_ceiling, top, greatest}
 use Rattle.msrp_plan.specs.Ceiling.{resources, raised_with, ceiling_with}
-use Rattle.msrp_plan.proofs.Lists.{any_in, in_range}
-use Rattle.msrp_plan.proofs.Filters.{any_map}
-use Rattle.msrp_plan.proofs.LeastKept.{greatest_above}
-use Rattle.msrp_plan.proofs.Ceilings.{in_resources}
+use Rattle.msrp_plan.proofs.Lists.AnyAll.{any_in, in_range}
+use Rattle.msrp_plan.proofs.Lists.Filters.{any_map}
+use Rattle.msrp_plan.proofs.Lists.LeastKept.{greatest_above}
+use Rattle.msrp_plan.proofs.Levels.Ceilings.{in_resources}
 use Rattle.msrp_stack.specs.Stack.{holds, is_held}
 use Rattle.msrp_levels.specs.Users.{ceiling_at}
 use Rattle.msrp_stack.specs.Layers.{Layers, layers_of}

@@ -7,9 +7,9 @@ use Rattle.msrp_plan.specs.Plan.{PlanModel}
 use Rattle.msrp_plan.specs.Jobs.{jobs_on, same_job}
 use Rattle.msrp_plan.specs.Choice.{is_before, least, first_unfinished}
 use Rattle.msrp_plan.specs.declared.ids.JobId.{JobId}
-use Rattle.msrp_plan.proofs.Keys.{before_order, tied}
-use Rattle.msrp_plan.proofs.JobTests.{same_is, same_self}
-use Rattle.msrp_plan.proofs.LeastKept.{least_passes, least_some, least_of_those, irrefl}
+use Rattle.msrp_plan.proofs.Jobs.Keys.{before_order, tied}
+use Rattle.msrp_plan.proofs.Jobs.JobTests.{same_is, same_self}
+use Rattle.msrp_plan.proofs.Lists.LeastKept.{least_passes, least_some, least_of_those, irrefl}
 use Rattle.msrp_stack.specs.Stack.{StartedJob, is_among, newest, ComesFirst}
 use Rattle.msrp_stack.specs.StackView.{IsFalling}
 

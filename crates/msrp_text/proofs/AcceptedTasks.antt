@@ -18,7 +18,7 @@ use Rattle.msrp_plan.specs.WellFormed.{AreNames, IsLocking, IsTask, IsWhole}
 use Rattle.msrp_plan.specs.declared.rows.TextVersion.{TextVersion}
 use Rattle.msrp_plan.specs.declared.rows.TextVersion.TheVariants.{V2}
 use Rattle.msrp_plan.specs.declared.units.Op.{Op}
-use Rattle.msrp_plan.proofs.Nesting.{even_after, held_times}
+use Rattle.msrp_plan.proofs.TaskUnits.Nesting.{even_after, held_times}
 use Rattle.msrp_text.specs.PlanText.{declaration, release_record, step_record, steps_of, task_records, times_records}
 use Rattle.msrp_text.specs.Reading.{body_fault, with_record}
 use Rattle.msrp_text.proofs.Accepting.{Tells, name_is_new, name_told, names_pass, tells_first, tells_none, tells_then}

@@ -20,7 +20,7 @@ use Rattle.msrp_plan.specs.declared.units.Op.{Op}
 use Rattle.msrp_plan.specs.declared.units.Op.TheVariants as unit
 use Rattle.msrp_plan.specs.declared.units.Step.{Step}
 use Rattle.msrp_plan.specs.declared.units.Step.TheVariants.{Run, Lock, Unlock}
-use Rattle.msrp_plan.proofs.Nesting.{held_push}
+use Rattle.msrp_plan.proofs.TaskUnits.Nesting.{held_push}
 use Rattle.msrp_text.specs.PlanText.{joined, step_record, steps_of}
 use Rattle.msrp_text.specs.Fields.{text_of}
 use Rattle.msrp_text.specs.Reading.{body_fault, step_told, with_record}

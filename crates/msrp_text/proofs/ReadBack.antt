@@ -24,7 +24,7 @@ use Rattle.msrp_plan.specs.declared.units.Op.{Op}
 use Rattle.msrp_plan.specs.declared.units.Op.TheVariants as unit
 use Rattle.msrp_plan.specs.declared.units.Step.{Step}
 use Rattle.msrp_plan.specs.declared.units.Step.TheVariants.{Run, Lock, Unlock}
-use Rattle.msrp_plan.proofs.Nesting.{even_after, held_times}
+use Rattle.msrp_plan.proofs.TaskUnits.Nesting.{even_after, held_times}
 use Rattle.msrp_text.specs.PlanText.{declaration, head_records, plan_records, plan_text, release_record, resource_record, step_record, steps_of, task_records, version_of, version_record, version_text}
 use Rattle.msrp_text.specs.Reading.{cores_fault, number_told, plan_of, ticks_fault, version_fault, version_told}
 use Rattle.msrp_text.specs.Records.{csv_records, records_at}

@@ -14,11 +14,11 @@ use Rattle.msrp_plan.specs.Runs.{IsLegal, IsRunStart}
 use Rattle.msrp_plan.specs.WellFormed.{IsPlan}
 use Rattle.msrp_plan.specs.declared.ids.JobId.{JobId}
 use Rattle.msrp_plan.specs.declared.rows.Row.{Row}
-use Rattle.msrp_plan.proofs.JobTests.{is_job_is}
-use Rattle.msrp_plan.proofs.Prefixes.{each_along}
-use Rattle.msrp_plan.proofs.Turns.{runs_live}
-use Rattle.msrp_plan.proofs.LegalRows.{IsTurn, legal_turn}
-use Rattle.msrp_plan.proofs.LocalLocks.{turn_on}
+use Rattle.msrp_plan.proofs.Jobs.JobTests.{is_job_is}
+use Rattle.msrp_plan.proofs.Lists.Prefixes.{each_along}
+use Rattle.msrp_plan.proofs.Choosing.Turns.{runs_live}
+use Rattle.msrp_plan.proofs.Legality.LegalRows.{IsTurn, legal_turn}
+use Rattle.msrp_plan.proofs.Holding.LocalLocks.{turn_on}
 use Rattle.msrp_plan.proofs.Blocking.Pressing.{press_amid}
 use Rattle.msrp_plan.proofs.Blocking.Sound.{IsSound, sound_push, sound_none, shorter, unstarted}
 use Rattle.msrp_plan.proofs.Blocking.Heads.{held_up, behind_row}

@@ -2,7 +2,7 @@
 use Rattle.std.proofs.Common.{◌≡◌, ℕ, zero, suc, ◌+◌, ◌<◌, ◌≤◌, Bool, true, false, cond, ◌&&◌, ◌==◌, List, [], ◌∷◌, ◌++◌, refl, ap, sym, ◌∙◌, subst, arith, length, nat_lt, add-one, eq-eqb, ◌⊎◌, inl, inr}
 use Rattle.std.specs.List.{Contains, range_with_len}
 use Rattle.std.proofs.lemmas.Bool.{and_from, and_parts, cases_lt, lt-ltb}
-use Rattle.msrp_plan.specs.Plan.{PlanModel, TaskModel, task_of, core_of, units}
+use Rattle.msrp_plan.specs.Plan.{PlanModel, TaskModel, task_of, core_of}
 use Rattle.msrp_plan.specs.Jobs.{jobs, done}
 use Rattle.msrp_plan.specs.Bounds.{opening, rows_at, rows_from, out, blocked_bound}
 use Rattle.msrp_plan.specs.Blocking.{count_after, blocks, continues, IsBlocker, HasBlockers, BlocksFrom, BoundedSections, BoundedBlocking}
@@ -10,13 +10,13 @@ use Rattle.msrp_plan.specs.Runs.{IsLegal, IsRunStart, EachAfter}
 use Rattle.msrp_plan.specs.WellFormed.{IsPlan}
 use Rattle.msrp_plan.specs.declared.ids.JobId.{JobId}
 use Rattle.msrp_plan.specs.declared.rows.Row.{Row}
-use Rattle.msrp_plan.proofs.Lists.{in_range}
-use Rattle.msrp_plan.proofs.Ranges.{not_equal}
-use Rattle.msrp_plan.proofs.JobTests.{one_job}
-use Rattle.msrp_plan.proofs.Prefixes.{each_both}
-use Rattle.msrp_plan.proofs.PlanUnits.{task_in}
-use Rattle.msrp_plan.proofs.LeastKept.{greatest_above, greatest_over}
-use Rattle.msrp_plan.proofs.LegalRows.{legal_turn, turn_core}
+use Rattle.msrp_plan.proofs.Lists.AnyAll.{in_range}
+use Rattle.msrp_plan.proofs.Lists.Ranges.{not_equal}
+use Rattle.msrp_plan.proofs.Jobs.JobTests.{one_job}
+use Rattle.msrp_plan.proofs.Lists.Prefixes.{each_both}
+use Rattle.msrp_plan.proofs.TaskUnits.PlanUnits.{task_in}
+use Rattle.msrp_plan.proofs.Lists.LeastKept.{greatest_above, greatest_over}
+use Rattle.msrp_plan.proofs.Legality.LegalRows.{legal_turn, turn_core}
 use Rattle.msrp_plan.proofs.Blocking.Heads.{blocking_row}
 use Rattle.msrp_plan.proofs.Blocking.Sections.{opening_within}
 use Rattle.msrp_plan.proofs.Blocking.Begun.{blocked_by_begun_sections}

@@ -13,17 +13,17 @@ use Rattle.msrp_plan.specs.Runs.{IsLegal, IsRunStart, EachAfter}
 use Rattle.msrp_plan.specs.WellFormed.{IsPlan}
 use Rattle.msrp_plan.specs.declared.ids.JobId.{JobId}
 use Rattle.msrp_plan.specs.declared.rows.Row.{Row}
-use Rattle.msrp_plan.proofs.LevelOrder.{level_falls}
-use Rattle.msrp_plan.proofs.Lists.{any_push}
-use Rattle.msrp_plan.proofs.Prefixes.{each_before, each_push, each_rest}
-use Rattle.msrp_plan.proofs.JobTests.{is_job_is, row_of_job, same_is, same_self}
-use Rattle.msrp_plan.proofs.Keys.{before_order}
-use Rattle.msrp_plan.proofs.LeastKept.{least_in, least_passes, least_of_those, least_some}
-use Rattle.msrp_plan.proofs.JobLists.{has_unit}
-use Rattle.msrp_plan.proofs.Live.{is_live, nothing_done}
-use Rattle.msrp_plan.proofs.LegalRows.{legal_turn, turn_core}
-use Rattle.msrp_plan.proofs.CoreJobs.{on_its_core}
-use Rattle.msrp_plan.proofs.LocalLocks.{turn_on}
+use Rattle.msrp_plan.proofs.Levels.LevelOrder.{level_falls}
+use Rattle.msrp_plan.proofs.Lists.AnyAll.{any_push}
+use Rattle.msrp_plan.proofs.Lists.Prefixes.{each_before, each_push, each_rest}
+use Rattle.msrp_plan.proofs.Jobs.JobTests.{is_job_is, row_of_job, same_is, same_self}
+use Rattle.msrp_plan.proofs.Jobs.Keys.{before_order}
+use Rattle.msrp_plan.proofs.Lists.LeastKept.{least_in, least_passes, least_of_those, least_some}
+use Rattle.msrp_plan.proofs.Jobs.JobLists.{has_unit}
+use Rattle.msrp_plan.proofs.Choosing.Live.{is_live, nothing_done}
+use Rattle.msrp_plan.proofs.Legality.LegalRows.{legal_turn, turn_core}
+use Rattle.msrp_plan.proofs.Jobs.CoreJobs.{on_its_core}
+use Rattle.msrp_plan.proofs.Holding.LocalLocks.{turn_on}
 use Rattle.msrp_plan.proofs.Blocking.Pressing.{Presses, press_kept, press_live, press_lower}
 use Rattle.msrp_plan.proofs.Blocking.Sound.{IsSound, sound_at, shielded, shorter, unstarted}
 use Rattle.msrp_plan.proofs.Blocking.Heads.{IsBehind, held_up, behind_row, blocking_row, no_later, job_on}

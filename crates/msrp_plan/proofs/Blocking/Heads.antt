@@ -13,14 +13,14 @@ use Rattle.msrp_plan.specs.Blocking.{is_later, blocks}
 use Rattle.msrp_plan.specs.WellFormed.{IsPlan}
 use Rattle.msrp_plan.specs.declared.ids.JobId.{JobId}
 use Rattle.msrp_plan.specs.declared.rows.Row.{Row}
-use Rattle.msrp_plan.proofs.Members.{in_filter}
-use Rattle.msrp_plan.proofs.LevelOrder.{level_falls}
-use Rattle.msrp_plan.proofs.JobTests.{same_is, same_self, some_is}
-use Rattle.msrp_plan.proofs.Keys.{before_order}
-use Rattle.msrp_plan.proofs.LeastKept.{least_in, least_some}
-use Rattle.msrp_plan.proofs.Live.{is_live, live}
-use Rattle.msrp_plan.proofs.Turns.{has_turn, runs_live, runs_least, turn_least}
-use Rattle.msrp_plan.proofs.LegalRows.{IsTurn, turn_chosen}
+use Rattle.msrp_plan.proofs.Lists.Members.{in_filter}
+use Rattle.msrp_plan.proofs.Levels.LevelOrder.{level_falls}
+use Rattle.msrp_plan.proofs.Jobs.JobTests.{same_is, same_self, some_is}
+use Rattle.msrp_plan.proofs.Jobs.Keys.{before_order}
+use Rattle.msrp_plan.proofs.Lists.LeastKept.{least_in, least_some}
+use Rattle.msrp_plan.proofs.Choosing.Live.{is_live, live}
+use Rattle.msrp_plan.proofs.Choosing.Turns.{has_turn, runs_live, runs_least, turn_least}
+use Rattle.msrp_plan.proofs.Legality.LegalRows.{IsTurn, turn_chosen}
 use Rattle.msrp_plan.proofs.Blocking.Pressing.{Presses, press_live, press_lower, pressed}
 use Rattle.msrp_plan.proofs.Blocking.Sound.{IsSound, is_ready, ready, head_ready, head_least, shielded, shorter, sound_asking}
 

@@ -15,13 +15,13 @@ use Rattle.msrp_plan.specs.Runs.{IsLegal, IsRunStart, EachAfter}
 use Rattle.msrp_plan.specs.WellFormed.{IsPlan}
 use Rattle.msrp_plan.specs.declared.ids.JobId.{JobId}
 use Rattle.msrp_plan.specs.declared.rows.Row.{Row}
-use Rattle.msrp_plan.proofs.LevelOrder.{level_falls}
-use Rattle.msrp_plan.proofs.JobTests.{is_job_is, row_of_job, same_is, same_self}
-use Rattle.msrp_plan.proofs.Prefixes.{each_along}
-use Rattle.msrp_plan.proofs.Live.{live}
-use Rattle.msrp_plan.proofs.Turns.{runs_live, runs_least}
-use Rattle.msrp_plan.proofs.LegalRows.{IsTurn, legal_turn, legal_due}
-use Rattle.msrp_plan.proofs.LocalLocks.{turn_on}
+use Rattle.msrp_plan.proofs.Levels.LevelOrder.{level_falls}
+use Rattle.msrp_plan.proofs.Jobs.JobTests.{is_job_is, row_of_job, same_is, same_self}
+use Rattle.msrp_plan.proofs.Lists.Prefixes.{each_along}
+use Rattle.msrp_plan.proofs.Choosing.Live.{live}
+use Rattle.msrp_plan.proofs.Choosing.Turns.{runs_live, runs_least}
+use Rattle.msrp_plan.proofs.Legality.LegalRows.{IsTurn, legal_turn, legal_due}
+use Rattle.msrp_plan.proofs.Holding.LocalLocks.{turn_on}
 use Rattle.msrp_plan.proofs.Blocking.Pressing.{Presses, press_amid, press_kept, press_live, press_lower}
 use Rattle.msrp_plan.proofs.Blocking.Sound.{IsSound, sound_push, sound_none, shielded, shorter, unstarted}
 use Rattle.msrp_plan.proofs.Blocking.Heads.{IsBehind, held_up, behind_row, blocking_row, no_later}

@@ -13,11 +13,11 @@ use Rattle.msrp_plan.specs.Blocking.{is_amid}
 use Rattle.msrp_plan.specs.WellFormed.{IsPlan}
 use Rattle.msrp_plan.specs.declared.ids.JobId.{JobId}
 use Rattle.msrp_plan.specs.declared.rows.Row.{Row}
-use Rattle.msrp_plan.proofs.Lists.{any_in}
-use Rattle.msrp_plan.proofs.Members.{any_from, kept_by, reached}
-use Rattle.msrp_plan.proofs.Stands.{IsUp, up_cases, holder_stands, holds_out}
-use Rattle.msrp_plan.proofs.Live.{is_live, holder_live, up_live, holds_kept}
-use Rattle.msrp_plan.proofs.OwnTurns.{up_kept}
+use Rattle.msrp_plan.proofs.Lists.AnyAll.{any_in}
+use Rattle.msrp_plan.proofs.Lists.Members.{any_from, kept_by, reached}
+use Rattle.msrp_plan.proofs.TaskUnits.Stands.{IsUp, up_cases, holder_stands, holds_out}
+use Rattle.msrp_plan.proofs.Choosing.Live.{is_live, holder_live, up_live, holds_kept}
+use Rattle.msrp_plan.proofs.Choosing.OwnTurns.{up_kept}
 
 -- ---- what presses
 pub data Presses (plan : PlanModel) (pre : List Row) (i : JobId) (l : ℕ) : Type 0 where

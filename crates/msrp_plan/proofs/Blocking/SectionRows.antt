@@ -22,14 +22,14 @@ use Rattle.msrp_plan.specs.declared.units.Op.TheVariants.{Lock as LockUnit}
 use Rattle.msrp_plan.specs.declared.rows.Kind.{Kind}
 use Rattle.msrp_plan.specs.declared.rows.Kind.TheVariants.{Queue, Spin}
 use Rattle.msrp_plan.specs.declared.rows.Row.{Row}
-use Rattle.msrp_plan.proofs.Lists.{any_push}
-use Rattle.msrp_plan.proofs.Ranges.{range_more}
-use Rattle.msrp_plan.proofs.JobTests.{is_job_is}
-use Rattle.msrp_plan.proofs.Prefixes.{along, each_push}
-use Rattle.msrp_plan.proofs.States.{state_kept, state_moved}
-use Rattle.msrp_plan.proofs.UnitKinds.{Runs, Locks, Unlocks, Takes, Queues, Grants, Spins, Releases, step_of}
-use Rattle.msrp_plan.proofs.LegalRows.{DoesUnit, legal_turn}
-use Rattle.msrp_plan.proofs.SpinBound.{spins_within}
+use Rattle.msrp_plan.proofs.Lists.AnyAll.{any_push}
+use Rattle.msrp_plan.proofs.Lists.Ranges.{range_more}
+use Rattle.msrp_plan.proofs.Jobs.JobTests.{is_job_is}
+use Rattle.msrp_plan.proofs.Lists.Prefixes.{along, each_push}
+use Rattle.msrp_plan.proofs.Jobs.States.{state_kept, state_moved}
+use Rattle.msrp_plan.proofs.TaskUnits.UnitKinds.{Runs, Locks, Unlocks, Takes, Queues, Grants, Spins, Releases, step_of}
+use Rattle.msrp_plan.proofs.Legality.LegalRows.{DoesUnit, legal_turn}
+use Rattle.msrp_plan.proofs.Spinning.SpinBound.{spins_within}
 
 -- ---- one row more
 -- how many pass, with one element more at the end

@@ -14,10 +14,10 @@ use Rattle.msrp_plan.specs.States.{JobState}
 use Rattle.msrp_plan.specs.declared.ids.JobId.{JobId}
 use Rattle.msrp_plan.specs.declared.units.Op.{Op}
 use Rattle.msrp_plan.specs.declared.rows.Row.{Row}
-use Rattle.msrp_plan.proofs.Ranges.{range_more}
-use Rattle.msrp_plan.proofs.Least.{all_filtered}
-use Rattle.msrp_plan.proofs.JobTests.{is_job_is}
-use Rattle.msrp_plan.proofs.States.{state_kept, state_moved}
+use Rattle.msrp_plan.proofs.Lists.Ranges.{range_more}
+use Rattle.msrp_plan.proofs.Lists.Least.{all_filtered}
+use Rattle.msrp_plan.proofs.Jobs.JobTests.{is_job_is}
+use Rattle.msrp_plan.proofs.Jobs.States.{state_kept, state_moved}
 
 -- ---- the greatest of a list, and of one number more
 max_within : (a m : ℕ) (ns : List ℕ) → a ≤ m → AllByRecursion (λ n. n ≤ m) ns → fold max a ns ≤ m

@@ -22,22 +22,22 @@ use Rattle.msrp_plan.specs.declared.ids.ResId.{ResId}
 use Rattle.msrp_plan.specs.declared.units.Op.TheVariants.{Lock as LockUnit}
 use Rattle.msrp_plan.specs.declared.rows.Kind.{Kind}
 use Rattle.msrp_plan.specs.declared.rows.Row.{Row}
-use Rattle.msrp_plan.proofs.Lists.{any_push}
-use Rattle.msrp_plan.proofs.JobTests.{is_job_is}
-use Rattle.msrp_plan.proofs.Prefixes.{along}
-use Rattle.msrp_plan.proofs.States.{state_kept, state_moved}
-use Rattle.msrp_plan.proofs.PlanUnits.{units_lock}
-use Rattle.msrp_plan.proofs.UnitCounts.{held_lock}
-use Rattle.msrp_plan.proofs.UnitKinds.{Runs, Locks, Unlocks, Takes, Queues, Grants, Spins, Releases, step_of}
-use Rattle.msrp_plan.proofs.Stands.{IsUp, stand_in, stand_waits, waits_out}
-use Rattle.msrp_plan.proofs.Keys.{before_order, tied}
-use Rattle.msrp_plan.proofs.LeastKept.{least_passes, least_of_those}
-use Rattle.msrp_plan.proofs.Live.{is_live}
-use Rattle.msrp_plan.proofs.Ceilings.{in_resources}
-use Rattle.msrp_plan.proofs.Turns.{has_turn, runs_live}
-use Rattle.msrp_plan.proofs.LegalRows.{IsTurn, DoesUnit, legal_turn}
-use Rattle.msrp_plan.proofs.LocalLocks.{AreKnown, IsGuarded, known_push, known_none, guard_push, guard_none, turn_on}
-use Rattle.msrp_plan.proofs.OwnTurns.{IsFirm, firm_push, firm_none}
+use Rattle.msrp_plan.proofs.Lists.AnyAll.{any_push}
+use Rattle.msrp_plan.proofs.Jobs.JobTests.{is_job_is}
+use Rattle.msrp_plan.proofs.Lists.Prefixes.{along}
+use Rattle.msrp_plan.proofs.Jobs.States.{state_kept, state_moved}
+use Rattle.msrp_plan.proofs.TaskUnits.PlanUnits.{units_lock}
+use Rattle.msrp_plan.proofs.TaskUnits.UnitCounts.{held_lock}
+use Rattle.msrp_plan.proofs.TaskUnits.UnitKinds.{Runs, Locks, Unlocks, Takes, Queues, Grants, Spins, Releases, step_of}
+use Rattle.msrp_plan.proofs.TaskUnits.Stands.{IsUp, stand_in, stand_waits, waits_out}
+use Rattle.msrp_plan.proofs.Jobs.Keys.{before_order, tied}
+use Rattle.msrp_plan.proofs.Lists.LeastKept.{least_passes, least_of_those}
+use Rattle.msrp_plan.proofs.Choosing.Live.{is_live}
+use Rattle.msrp_plan.proofs.Levels.Ceilings.{in_resources}
+use Rattle.msrp_plan.proofs.Choosing.Turns.{has_turn, runs_live}
+use Rattle.msrp_plan.proofs.Legality.LegalRows.{IsTurn, DoesUnit, legal_turn}
+use Rattle.msrp_plan.proofs.Holding.LocalLocks.{AreKnown, IsGuarded, known_push, known_none, guard_push, guard_none, turn_on}
+use Rattle.msrp_plan.proofs.Choosing.OwnTurns.{IsFirm, firm_push, firm_none}
 use Rattle.msrp_plan.proofs.Blocking.Pressing.{Presses, Local, Global, AreAsking}
 
 -- ---- who waits is at a lock of a global resource

@@ -7,7 +7,7 @@ use Rattle.std.proofs.lemmas.List.{map-append}
 use Rattle.msrp_plan.specs.Plan.{PlanModel, TaskModel}
 use Rattle.msrp_plan.specs.Levels.{greatest}
 use Rattle.msrp_plan.specs.Bounds.{is_inside, opening, rows_at, rows_from, out}
-use Rattle.msrp_plan.proofs.Ranges.{range_more}
+use Rattle.msrp_plan.proofs.Lists.Ranges.{range_more}
 use Rattle.msrp_plan.proofs.Blocking.Sections.{greatest_push, greatest_within, opening_outside, opening_inside}
 use Rattle.msrp_plan.proofs.Blocking.SectionRows.{spent, spent_more, spent_within}
 use Rattle.msrp_plan.proofs.Blocking.Bound.{spent_none, from_within}

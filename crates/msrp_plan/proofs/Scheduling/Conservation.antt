@@ -17,10 +17,10 @@ use Rattle.msrp_plan.specs.declared.ids.JobId.{JobId}
 use Rattle.msrp_plan.specs.declared.ids.ResId.{ResId}
 use Rattle.msrp_plan.specs.declared.rows.Kind.TheVariants.{Idle}
 use Rattle.msrp_plan.specs.declared.rows.Row.{Row}
-use Rattle.msrp_plan.proofs.Prefixes.{each_along}
-use Rattle.msrp_plan.proofs.Live.{is_live, live}
-use Rattle.msrp_plan.proofs.LeastKept.{least_some}
-use Rattle.msrp_plan.proofs.LegalRows.{IsTurn, legal_turn}
+use Rattle.msrp_plan.proofs.Lists.Prefixes.{each_along}
+use Rattle.msrp_plan.proofs.Choosing.Live.{is_live, live}
+use Rattle.msrp_plan.proofs.Lists.LeastKept.{least_some}
+use Rattle.msrp_plan.proofs.Legality.LegalRows.{IsTurn, legal_turn}
 use Rattle.msrp_plan.proofs.Blocking.Pressing.{press_live, pressed}
 use Rattle.msrp_plan.proofs.Blocking.Sound.{IsSound, sound_push, sound_none, sound_asking, is_ready, ready}
 use Rattle.msrp_plan.proofs.Scheduling.Released.{AreReleased, released_push, released_none, turn_released}

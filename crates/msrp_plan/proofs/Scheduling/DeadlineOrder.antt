@@ -12,13 +12,13 @@ use Rattle.msrp_plan.specs.Runs.{IsLegal, IsRunStart}
 use Rattle.msrp_plan.specs.Scheduling.{IsReady, IsOpen, MayStart, MayGoOn, IsOfFirst, EarliestDeadlineFirst}
 use Rattle.msrp_plan.specs.declared.ids.JobId.{JobId}
 use Rattle.msrp_plan.specs.declared.rows.Row.{Row}
-use Rattle.msrp_plan.proofs.JobTests.{some_is}
-use Rattle.msrp_plan.proofs.Prefixes.{each_weaker}
-use Rattle.msrp_plan.proofs.Keys.{tied}
-use Rattle.msrp_plan.proofs.LeastKept.{least_some, least_in}
-use Rattle.msrp_plan.proofs.Live.{is_live, live}
-use Rattle.msrp_plan.proofs.Turns.{has_turn, runs_live, runs_least, turn_least}
-use Rattle.msrp_plan.proofs.LegalRows.{legal_turn, turn_chosen}
+use Rattle.msrp_plan.proofs.Jobs.JobTests.{some_is}
+use Rattle.msrp_plan.proofs.Lists.Prefixes.{each_weaker}
+use Rattle.msrp_plan.proofs.Jobs.Keys.{tied}
+use Rattle.msrp_plan.proofs.Lists.LeastKept.{least_some, least_in}
+use Rattle.msrp_plan.proofs.Choosing.Live.{is_live, live}
+use Rattle.msrp_plan.proofs.Choosing.Turns.{has_turn, runs_live, runs_least, turn_least}
+use Rattle.msrp_plan.proofs.Legality.LegalRows.{legal_turn, turn_chosen}
 use Rattle.msrp_plan.proofs.Blocking.Sound.{is_ready, ready, head_ready, head_least}
 
 -- of two jobs that differ one comes first

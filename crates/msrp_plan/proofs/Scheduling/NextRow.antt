@@ -22,16 +22,16 @@ use Rattle.msrp_plan.specs.declared.units.Op.TheVariants.{Run as RunUnit, Lock a
 use Rattle.msrp_plan.specs.declared.rows.Kind.{Kind}
 use Rattle.msrp_plan.specs.declared.rows.Kind.TheVariants.{Run, Lock, Unlock, Take, Queue, Spin, Grant, Release}
 use Rattle.msrp_plan.specs.declared.rows.Row.{Row}
-use Rattle.msrp_plan.proofs.Lists.{any_in}
-use Rattle.msrp_plan.proofs.JobLists.{has_unit}
-use Rattle.msrp_plan.proofs.JobTests.{same_self}
-use Rattle.msrp_plan.proofs.PlanUnits.{units_lock}
-use Rattle.msrp_plan.proofs.UnitCounts.{held_lock}
-use Rattle.msrp_plan.proofs.Stands.{Waits, stand, stand_in, stand_waits}
-use Rattle.msrp_plan.proofs.Live.{is_live, nothing_done}
-use Rattle.msrp_plan.proofs.LeastKept.{least_in}
-use Rattle.msrp_plan.proofs.Turns.{has_turn, runs_live}
-use Rattle.msrp_plan.proofs.RoundRobin.{in_turn_of}
+use Rattle.msrp_plan.proofs.Lists.AnyAll.{any_in}
+use Rattle.msrp_plan.proofs.Jobs.JobLists.{has_unit}
+use Rattle.msrp_plan.proofs.Jobs.JobTests.{same_self}
+use Rattle.msrp_plan.proofs.TaskUnits.PlanUnits.{units_lock}
+use Rattle.msrp_plan.proofs.TaskUnits.UnitCounts.{held_lock}
+use Rattle.msrp_plan.proofs.TaskUnits.Stands.{Waits, stand, stand_in, stand_waits}
+use Rattle.msrp_plan.proofs.Choosing.Live.{is_live, nothing_done}
+use Rattle.msrp_plan.proofs.Lists.LeastKept.{least_in}
+use Rattle.msrp_plan.proofs.Choosing.Turns.{has_turn, runs_live}
+use Rattle.msrp_plan.proofs.Runs.RoundRobin.{in_turn_of}
 use Rattle.msrp_plan.proofs.Blocking.Sound.{head_ready, is_ready}
 use Rattle.msrp_plan.proofs.Blocking.SectionRows.{few_at}
 use Rattle.msrp_plan.proofs.Scheduling.Waiters.{stands_in, queued_at}

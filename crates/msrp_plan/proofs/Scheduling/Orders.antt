@@ -15,12 +15,12 @@ use Rattle.msrp_plan.specs.Runs.{IsLegal, IsRun, EachAfter}
 use Rattle.msrp_plan.specs.Scheduling.{IsDueCore, IsNextCore, IsOrder, HasOneRun}
 use Rattle.msrp_plan.specs.WellFormed.{IsPlan}
 use Rattle.msrp_plan.specs.declared.rows.Row.{Row}
-use Rattle.msrp_plan.proofs.Prefixes.{along, each_along, each_push}
-use Rattle.msrp_plan.proofs.Ranges.{length_filter_map, range_more, flat_more, past_range}
-use Rattle.msrp_plan.proofs.RoundRobin.{ascending_length, ascending_count}
-use Rattle.msrp_plan.proofs.LegalRows.{legal_due}
-use Rattle.msrp_plan.proofs.CoreRuns.{reached_tick, due_by_log}
-use Rattle.msrp_plan.proofs.Determinacy.{same_carrying_runs}
+use Rattle.msrp_plan.proofs.Lists.Prefixes.{along, each_along, each_push}
+use Rattle.msrp_plan.proofs.Lists.Ranges.{length_filter_map, range_more, flat_more, past_range}
+use Rattle.msrp_plan.proofs.Runs.RoundRobin.{ascending_length, ascending_count}
+use Rattle.msrp_plan.proofs.Legality.LegalRows.{legal_due}
+use Rattle.msrp_plan.proofs.Runs.CoreRuns.{reached_tick, due_by_log}
+use Rattle.msrp_plan.proofs.Runs.Determinacy.{same_carrying_runs}
 use Rattle.msrp_plan.proofs.Scheduling.NextRow.{next_row}
 
 -- how often a core stands in the order of the turns is how long its log is

@@ -8,11 +8,11 @@ use Rattle.msrp_plan.specs.Scheduling.{IsOfReleased, RunsReleased}
 use Rattle.msrp_plan.specs.States.{JobState}
 use Rattle.msrp_plan.specs.declared.ids.JobId.{JobId}
 use Rattle.msrp_plan.specs.declared.rows.Row.{Row}
-use Rattle.msrp_plan.proofs.JobTests.{is_job_is}
-use Rattle.msrp_plan.proofs.Prefixes.{each_along}
-use Rattle.msrp_plan.proofs.States.{state_kept}
-use Rattle.msrp_plan.proofs.Turns.{has_turn, runs_live}
-use Rattle.msrp_plan.proofs.LegalRows.{legal_turn, legal_due, turn_chosen}
+use Rattle.msrp_plan.proofs.Jobs.JobTests.{is_job_is}
+use Rattle.msrp_plan.proofs.Lists.Prefixes.{each_along}
+use Rattle.msrp_plan.proofs.Jobs.States.{state_kept}
+use Rattle.msrp_plan.proofs.Choosing.Turns.{has_turn, runs_live}
+use Rattle.msrp_plan.proofs.Legality.LegalRows.{legal_turn, legal_due, turn_chosen}
 use Rattle.msrp_plan.proofs.Blocking.Sound.{head_ready}
 use Rattle.msrp_plan.proofs.Blocking.OneSection.{tick_grows}
 

@@ -12,12 +12,12 @@ use Rattle.msrp_plan.specs.declared.ids.JobId.{JobId}
 use Rattle.msrp_plan.specs.declared.rows.Kind.{Kind}
 use Rattle.msrp_plan.specs.declared.rows.Kind.TheVariants.{Take, Queue, Spin, Grant, Release}
 use Rattle.msrp_plan.specs.declared.rows.Row.{Row}
-use Rattle.msrp_plan.proofs.Lists.{any_push}
-use Rattle.msrp_plan.proofs.JobTests.{same_is, same_self, row_of_job}
-use Rattle.msrp_plan.proofs.Prefixes.{along}
-use Rattle.msrp_plan.proofs.Stands.{Stand, Out, Waits, Holds, stand, holds_waits}
-use Rattle.msrp_plan.proofs.Effects.{IsMove, Effect, Quiet, Took, Joined, Got, Spun, Left, mover_is, effect}
-use Rattle.msrp_plan.proofs.Holders.{IsOrderly, orderly_by, orderly_none}
+use Rattle.msrp_plan.proofs.Lists.AnyAll.{any_push}
+use Rattle.msrp_plan.proofs.Jobs.JobTests.{same_is, same_self, row_of_job}
+use Rattle.msrp_plan.proofs.Lists.Prefixes.{along}
+use Rattle.msrp_plan.proofs.TaskUnits.Stands.{Stand, Out, Waits, Holds, stand, holds_waits}
+use Rattle.msrp_plan.proofs.Queues.Effects.{IsMove, Effect, Quiet, Took, Joined, Got, Spun, Left, mover_is, effect}
+use Rattle.msrp_plan.proofs.Holding.Holders.{IsOrderly, orderly_by, orderly_none}
 
 -- the job stands in the queue
 abbrev pub stands_in : List JobId → JobId → Bool

@@ -4,7 +4,7 @@ use Rattle.msrp_plan.specs.Plan.{PlanModel}
 use Rattle.msrp_plan.specs.Verdict.{fault_in, verdict}
 use Rattle.msrp_plan.specs.declared.faults.Fault.{Fault}
 use Rattle.msrp_plan.specs.declared.rows.Row.{Row as TraceRow}
-use Rattle.msrp_plan.proofs.Verdicts.{fault_stays, early_is}
+use Rattle.msrp_plan.proofs.Runs.Verdicts.{fault_stays, early_is}
 use Rattle.msrp_audit.specs.Audits.{HasFed, answer_of}
 use Rattle.msrp_audit.proofs.verdicts.audit.Goals as goal
 

@@ -1,8 +1,8 @@
 use Rattle.std.proofs.Common.{◌≡◌, ◌+◌, ◌==◌, ℕ, cond, max, Some, ap, sym, subst, ◌∙◌, eq-eqb}
 use Rattle.msrp_plan.specs.Plan.{PlanModel, task_at}
 use Rattle.msrp_plan.specs.Bounds.{wait_bound}
-use Rattle.msrp_plan.proofs.PlanUnits.{units_lock}
-use Rattle.msrp_plan.proofs.Ranges.{not_equal}
+use Rattle.msrp_plan.proofs.TaskUnits.PlanUnits.{units_lock}
+use Rattle.msrp_plan.proofs.Lists.Ranges.{not_equal}
 use Rattle.msrp_levels.proofs.HeldUnits.{held_step}
 use Rattle.msrp_levels.proofs.OutermostRows.{IsCounted, counted_first, counted_step}
 use Rattle.msrp_levels.proofs.outermost.out_of.Goals as goal

@@ -1,4 +1,4 @@
-use Rattle.msrp_plan.proofs.Aheads.{start_bare, run_bare, ahead_is}
+use Rattle.msrp_plan.proofs.Legality.Aheads.{start_bare, run_bare, ahead_is}
 use Rattle.msrp_plan.proofs.definitions.aheads.Goals as goal
 
 pub returns : goal.returns

@@ -1,4 +1,4 @@
-use Rattle.msrp_plan.proofs.Calls.{call_as_row}
+use Rattle.msrp_plan.proofs.Queues.Calls.{call_as_row}
 use Rattle.msrp_plan.proofs.definitions.calls.Goals as goal
 
 pub returns : goal.returns

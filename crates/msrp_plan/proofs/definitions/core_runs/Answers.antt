@@ -1,4 +1,4 @@
-use Rattle.msrp_plan.proofs.CoreRuns.{core_run, core_run_whole}
+use Rattle.msrp_plan.proofs.Runs.CoreRuns.{core_run, core_run_whole}
 use Rattle.msrp_plan.proofs.definitions.core_runs.Goals as goal
 
 pub returns : goal.returns

@@ -1,4 +1,4 @@
-use Rattle.msrp_plan.proofs.Verdicts.{run_before, start_before, start_push, start_last}
+use Rattle.msrp_plan.proofs.Runs.Verdicts.{run_before, start_before, start_push, start_last}
 use Rattle.msrp_plan.proofs.definitions.starts.Goals as goal
 
 pub returns : goal.returns

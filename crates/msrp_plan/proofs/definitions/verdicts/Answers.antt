@@ -1,4 +1,4 @@
-use Rattle.msrp_plan.proofs.Verdicts.{good_is_run, run_is_good, fault_is, fault_found, unbroken_is_legal, legal_is_unbroken, early_fault, early_found}
+use Rattle.msrp_plan.proofs.Runs.Verdicts.{good_is_run, run_is_good, fault_is, fault_found, unbroken_is_legal, legal_is_unbroken, early_fault, early_found}
 use Rattle.msrp_plan.proofs.definitions.verdicts.Goals as goal
 
 pub returns : goal.returns

@@ -1,4 +1,4 @@
-use Rattle.msrp_plan.proofs.SpinBound.{bounded_spinning}
+use Rattle.msrp_plan.proofs.Spinning.SpinBound.{bounded_spinning}
 use Rattle.msrp_plan.proofs.laws.bounded_spinning.Goals as goal
 
 pub returns : goal.returns

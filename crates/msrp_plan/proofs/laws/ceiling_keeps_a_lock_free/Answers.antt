@@ -4,10 +4,10 @@ use Rattle.msrp_plan.specs.Examples.BlockedByTheCeiling.{plan, rows, past_the_ce
 use Rattle.msrp_plan.specs.Examples.Notation.{job}
 use Rattle.msrp_plan.specs.Laws.{NoLocalBlocking}
 use Rattle.msrp_plan.specs.declared.ids.JobId.{JobId}
-use Rattle.msrp_plan.proofs.JobTests.{some_is}
-use Rattle.msrp_plan.proofs.Verdicts.{good_is_run}
-use Rattle.msrp_plan.proofs.AcceptedPlans.{accepted_plan}
-use Rattle.msrp_plan.proofs.KeptLaws.{keeps_laws}
+use Rattle.msrp_plan.proofs.Jobs.JobTests.{some_is}
+use Rattle.msrp_plan.proofs.Runs.Verdicts.{good_is_run}
+use Rattle.msrp_plan.proofs.Building.AcceptedPlans.{accepted_plan}
+use Rattle.msrp_plan.proofs.Runs.KeptLaws.{keeps_laws}
 use Rattle.msrp_plan.proofs.laws.ceiling_keeps_a_lock_free.Goals as goal
 
 -- hi would lock in the second row what lo holds

@@ -1,4 +1,4 @@
-use Rattle.msrp_plan.proofs.Determinacy.{same_starts, same_carrying_starts, same_runs, same_carrying_runs}
+use Rattle.msrp_plan.proofs.Runs.Determinacy.{same_starts, same_carrying_starts, same_runs, same_carrying_runs}
 use Rattle.msrp_plan.proofs.laws.determinacy.Goals as goal
 
 pub returns : goal.returns

@@ -1,8 +1,8 @@
 use Rattle.std.proofs.Common.{refl}
 use Rattle.msrp_plan.specs.Examples.ThreeInAQueue.{plan, rows}
-use Rattle.msrp_plan.proofs.Verdicts.{good_is_run}
-use Rattle.msrp_plan.proofs.AcceptedPlans.{accepted_plan}
-use Rattle.msrp_plan.proofs.KeptLaws.{keeps_laws}
+use Rattle.msrp_plan.proofs.Runs.Verdicts.{good_is_run}
+use Rattle.msrp_plan.proofs.Building.AcceptedPlans.{accepted_plan}
+use Rattle.msrp_plan.proofs.Runs.KeptLaws.{keeps_laws}
 use Rattle.msrp_plan.proofs.laws.every_other_core_ahead.Goals as goal
 
 pub returns : goal.returns

@@ -3,9 +3,9 @@ use Rattle.msrp_plan.specs.Examples.HandoverWithinATick.{plan, rows, taken_when_
 use Rattle.msrp_plan.specs.Examples.Notation.{job}
 use Rattle.msrp_plan.specs.Laws.{MutualExclusion}
 use Rattle.msrp_plan.specs.declared.ids.JobId.{JobId}
-use Rattle.msrp_plan.proofs.Verdicts.{good_is_run}
-use Rattle.msrp_plan.proofs.AcceptedPlans.{accepted_plan}
-use Rattle.msrp_plan.proofs.KeptLaws.{keeps_laws}
+use Rattle.msrp_plan.proofs.Runs.Verdicts.{good_is_run}
+use Rattle.msrp_plan.proofs.Building.AcceptedPlans.{accepted_plan}
+use Rattle.msrp_plan.proofs.Runs.KeptLaws.{keeps_laws}
 use Rattle.msrp_plan.proofs.laws.handover_has_one_holder.Goals as goal
 
 two : job 0 0 ≢ job 1 0

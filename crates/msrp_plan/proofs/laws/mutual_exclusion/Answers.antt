@@ -1,4 +1,4 @@
-use Rattle.msrp_plan.proofs.Exclusion.{mutual_exclusion}
+use Rattle.msrp_plan.proofs.Holding.Exclusion.{mutual_exclusion}
 use Rattle.msrp_plan.proofs.laws.mutual_exclusion.Goals as goal
 
 pub returns : goal.returns

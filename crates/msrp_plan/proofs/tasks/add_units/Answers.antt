@@ -2,8 +2,8 @@ use Rattle.std.proofs.Common.{◌≡◌, ◌-◌, length, replicate}
 use Rattle.std.proofs.lemmas.List.{length-map}
 use Rattle.std.proofs.lemmas.Result.{on_ok_weaker, on_err_weaker}
 use Rattle.msrp_plan.specs.Building.{with_more_units}
-use Rattle.msrp_plan.specs.Tasks.{task_view}
-use Rattle.msrp_plan.proofs.Stored.{changed_at, same_at}
+use Rattle.msrp_plan.specs.Inside.Tasks.{task_view}
+use Rattle.msrp_plan.proofs.Building.Stored.{changed_at, same_at}
 use Rattle.msrp_plan.proofs.tasks.add_units.Goals as goal
 
 pub returns-clause-added : goal.returns-clause-added

@@ -1,5 +1,5 @@
 use Rattle.std.proofs.Common.{refl}
-use Rattle.msrp_plan.proofs.Verdicts.{good_is_run}
+use Rattle.msrp_plan.proofs.Runs.Verdicts.{good_is_run}
 use Rattle.msrp_plan.proofs.worked.blocked_by_the_ceiling.Goals as goal
 
 pub returns : goal.returns

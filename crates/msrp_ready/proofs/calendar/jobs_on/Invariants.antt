@@ -1,6 +1,6 @@
 use Rattle.std.proofs.Common.{◌≡◌, map}
 use Rattle.std.specs.List.{range_with_len}
-use Rattle.msrp_plan.proofs.JobLists.{jobs_among}
+use Rattle.msrp_plan.proofs.Jobs.JobLists.{jobs_among}
 use Rattle.msrp_ready.specs.Keyed.{keyed}
 use Rattle.msrp_ready.proofs.calendar.jobs_on.Given as goal
 

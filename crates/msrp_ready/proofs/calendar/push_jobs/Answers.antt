@@ -1,6 +1,6 @@
 use Rattle.std.proofs.Common.{◌++◌, ◌∙◌, ap, arith, map}
 use Rattle.std.specs.List.{range_with_len}
-use Rattle.msrp_plan.proofs.JobLists.{job_at}
+use Rattle.msrp_plan.proofs.Jobs.JobLists.{job_at}
 use Rattle.msrp_ready.specs.Keyed.{keyed}
 use Rattle.msrp_ready.proofs.Gathering.{gather_more, gather_all}
 use Rattle.msrp_ready.proofs.calendar.push_jobs.Goals as goal

@@ -2,9 +2,9 @@ use Rattle.std.proofs.Common.{◌≡◌, ◌∙◌, length, refl, ap, arith}
 use Rattle.std.specs.List.{flat_map, range_with_len}
 use Rattle.std.proofs.lemmas.List.{length-append, length-map}
 use Rattle.msrp_plan.specs.Jobs.{jobs_of}
-use Rattle.msrp_plan.specs.Tasks.{task_view}
-use Rattle.msrp_plan.specs.Views.{draft_view}
-use Rattle.msrp_plan.proofs.Ranges.{flat_more}
+use Rattle.msrp_plan.specs.Inside.Tasks.{task_view}
+use Rattle.msrp_plan.specs.Inside.Views.{draft_view}
+use Rattle.msrp_plan.proofs.Lists.Ranges.{flat_more}
 use Rattle.msrp_plan.proofs.builder.PlanBuilder.all_jobs.Goals as goal
 
 pub loop-task-init : goal.loop-task-init

@@ -2,10 +2,10 @@ use Rattle.std.proofs.Common.{◌≡◌, ◌++◌, ◌∷◌, [], map, None, fal
 use Rattle.msrp_plan.specs.Plan.{TaskModel}
 use Rattle.msrp_plan.specs.Names.{has_name}
 use Rattle.msrp_plan.specs.Building.{task_fault, new_task}
-use Rattle.msrp_plan.specs.Tasks.{task_view, times_view}
-use Rattle.msrp_plan.specs.Views.{draft_view}
-use Rattle.msrp_plan.proofs.Stored.{task_push}
-use Rattle.msrp_plan.proofs.Drafts.{growing_task, task_new}
+use Rattle.msrp_plan.specs.Inside.Tasks.{task_view, times_view}
+use Rattle.msrp_plan.specs.Inside.Views.{draft_view}
+use Rattle.msrp_plan.proofs.Building.Stored.{task_push}
+use Rattle.msrp_plan.proofs.Building.Drafts.{growing_task, task_new}
 use Rattle.msrp_plan.proofs.builder.PlanBuilder.declare.Goals as goal
 
 -- the task that was asked for

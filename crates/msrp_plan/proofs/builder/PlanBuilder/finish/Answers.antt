@@ -1,6 +1,6 @@
 use Rattle.std.proofs.Common.{sym, ◌∙◌}
-use Rattle.msrp_plan.specs.Views.{draft_view, numbers}
-use Rattle.msrp_plan.proofs.Finished.{plan_from}
+use Rattle.msrp_plan.specs.Inside.Views.{draft_view, numbers}
+use Rattle.msrp_plan.proofs.Building.Finished.{plan_from}
 use Rattle.msrp_plan.proofs.builder.PlanBuilder.finish.Goals as goal
 
 pub invariant_of-result : goal.invariant_of-result

@@ -1,7 +1,7 @@
 use Rattle.std.proofs.Common.{◌≡◌, length, string_bytes, arith}
 use Rattle.std.proofs.lemmas.List.{length-map}
-use Rattle.msrp_plan.specs.Views.{draft_view}
-use Rattle.msrp_plan.proofs.GlobalUse.{marked_all, marked_more, marked_none}
+use Rattle.msrp_plan.specs.Inside.Views.{draft_view}
+use Rattle.msrp_plan.proofs.Levels.GlobalUse.{marked_all, marked_more, marked_none}
 use Rattle.msrp_plan.proofs.builder.PlanBuilder.globals.Goals as goal
 
 pub loop-res-init : goal.loop-res-init

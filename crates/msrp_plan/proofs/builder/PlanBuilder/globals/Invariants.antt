@@ -1,4 +1,4 @@
-use Rattle.msrp_plan.proofs.GlobalUse.{IsMarkedTo}
+use Rattle.msrp_plan.proofs.Levels.GlobalUse.{IsMarkedTo}
 use Rattle.msrp_plan.proofs.builder.PlanBuilder.globals.Given as goal
 
 abbrev pub invariant-loop-res : goal.invariant-loop-res

@@ -1,6 +1,6 @@
 use Rattle.std.proofs.Common.{sym, ◌∙◌, string_bytes}
 use Rattle.std.specs.Str.{bytes_eq}
-use Rattle.msrp_plan.proofs.Stored.{any_map}
+use Rattle.msrp_plan.proofs.Building.Stored.{any_map}
 use Rattle.msrp_plan.proofs.builder.PlanBuilder.has_resource.Goals as goal
 
 pub returns : goal.returns

@@ -1,5 +1,5 @@
 use Rattle.std.proofs.Common.{◌∙◌}
-use Rattle.msrp_plan.proofs.Stored.{has_task}
+use Rattle.msrp_plan.proofs.Building.Stored.{has_task}
 use Rattle.msrp_plan.proofs.builder.PlanBuilder.has_task.Goals as goal
 
 pub returns : goal.returns

@@ -1,7 +1,7 @@
 use Rattle.std.proofs.Common.{◌∙◌, ap, sym, refl}
 use Rattle.std.specs.Option.{option_copied}
-use Rattle.msrp_plan.specs.Views.{draft_view}
-use Rattle.msrp_plan.proofs.GlobalUse.{global_by_first, local_by_none}
+use Rattle.msrp_plan.specs.Inside.Views.{draft_view}
+use Rattle.msrp_plan.proofs.Levels.GlobalUse.{global_by_first, local_by_none}
 use Rattle.msrp_plan.proofs.builder.PlanBuilder.is_global.Goals as goal
 
 pub returns-in-Some : goal.returns-in-Some

@@ -1,9 +1,9 @@
 use Rattle.std.proofs.Common.{sym, ap, ◌∙◌}
 use Rattle.msrp_plan.specs.Building.{is_improper}
-use Rattle.msrp_plan.specs.Views.{numbers}
+use Rattle.msrp_plan.specs.Inside.Views.{numbers}
 use Rattle.msrp_plan.specs.declared.units.Op.TheVariants.{Lock}
-use Rattle.msrp_plan.proofs.Drafts.{improper_lock}
-use Rattle.msrp_plan.proofs.Stored.{number_in}
+use Rattle.msrp_plan.proofs.Building.Drafts.{improper_lock}
+use Rattle.msrp_plan.proofs.Building.Stored.{number_in}
 use Rattle.msrp_plan.proofs.builder.PlanBuilder.is_misnested.Goals as goal
 
 pub returns-in-Lock : goal.returns-in-Lock

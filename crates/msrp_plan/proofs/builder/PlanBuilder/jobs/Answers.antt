@@ -1,10 +1,11 @@
 use Rattle.std.proofs.Common.{◌≡◌, ◌≤◌, ℕ, ◌∙◌, nat_lt, length, ap, sym, subst, arith}
 use Rattle.msrp_plan.specs.Plan.{TaskModel, task_at}
 use Rattle.msrp_plan.specs.Jobs.{jobs_of}
-use Rattle.msrp_plan.specs.ReleaseTimes.{AreTimes, comes_before}
-use Rattle.msrp_plan.specs.Views.{draft_view}
-use Rattle.msrp_plan.proofs.Stored.{view_at}
-use Rattle.msrp_plan.proofs.Releases.{job_count}
+use Rattle.msrp_plan.specs.Inside.Tasks.{comes_before}
+use Rattle.msrp_plan.specs.ReleaseTimes.{AreTimes}
+use Rattle.msrp_plan.specs.Inside.Views.{draft_view}
+use Rattle.msrp_plan.proofs.Building.Stored.{view_at}
+use Rattle.msrp_plan.proofs.Jobs.Releases.{job_count}
 use Rattle.msrp_plan.proofs.builder.PlanBuilder.jobs.Goals as goal
 
 pub count_before-requires : goal.count_before-requires

@@ -1,8 +1,8 @@
 use Rattle.std.proofs.Common.{◌≡◌, refl, ap, sym, ◌∙◌}
 use Rattle.msrp_plan.specs.Plan.{TaskModel, task_at}
-use Rattle.msrp_plan.specs.Views.{draft_view}
-use Rattle.msrp_plan.proofs.Stored.{view_at}
-use Rattle.msrp_plan.proofs.Scan.{scan_ends, scan_finds, scan_on}
+use Rattle.msrp_plan.specs.Inside.Views.{draft_view}
+use Rattle.msrp_plan.proofs.Building.Stored.{view_at}
+use Rattle.msrp_plan.proofs.Building.Scan.{scan_ends, scan_finds, scan_on}
 use Rattle.msrp_plan.proofs.builder.PlanBuilder.nests_global.Goals as goal
 
 pub loop-unit-init : goal.loop-unit-init

@@ -1,5 +1,5 @@
 use Rattle.msrp_plan.specs.Plan.{task_at}
-use Rattle.msrp_plan.proofs.Scan.{IsScanned}
+use Rattle.msrp_plan.proofs.Building.Scan.{IsScanned}
 use Rattle.msrp_plan.proofs.builder.PlanBuilder.nests_global.Given as goal
 
 abbrev pub invariant-loop-unit : goal.invariant-loop-unit

@@ -4,8 +4,8 @@ use Rattle.std.proofs.lemmas.List.{length-map, take_all}
 use Rattle.std.proofs.lemmas.List.Folds.{list_any_at, list_any_more}
 use Rattle.msrp_plan.specs.Plan.{TaskModel, no_task}
 use Rattle.msrp_plan.specs.Building.{nests_global}
-use Rattle.msrp_plan.specs.Tasks.{task_view}
-use Rattle.msrp_plan.specs.Views.{draft_view}
+use Rattle.msrp_plan.specs.Inside.Tasks.{task_view}
+use Rattle.msrp_plan.specs.Inside.Views.{draft_view}
 use Rattle.msrp_plan.proofs.builder.PlanBuilder.nests_globals.Goals as goal
 
 pub loop-task-init : goal.loop-task-init

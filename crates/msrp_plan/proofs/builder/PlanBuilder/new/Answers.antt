@@ -1,5 +1,5 @@
 use Rattle.std.proofs.Common.{sym, ◌∙◌}
-use Rattle.msrp_plan.proofs.Drafts.{growing_none}
+use Rattle.msrp_plan.proofs.Building.Drafts.{growing_none}
 use Rattle.msrp_plan.proofs.builder.PlanBuilder.new.Goals as goal
 
 pub invariant_of-result : goal.invariant_of-result

@@ -1,7 +1,7 @@
 use Rattle.std.proofs.Common.{◌-◌, refl, length}
 use Rattle.std.proofs.lemmas.List.{length-map}
-use Rattle.msrp_plan.specs.Tasks.{task_view}
-use Rattle.msrp_plan.proofs.Stored.{view_at}
+use Rattle.msrp_plan.specs.Inside.Tasks.{task_view}
+use Rattle.msrp_plan.proofs.Building.Stored.{view_at}
 use Rattle.msrp_plan.proofs.builder.PlanBuilder.newest.Goals as goal
 
 pub returns : goal.returns

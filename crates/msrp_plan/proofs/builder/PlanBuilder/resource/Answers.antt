@@ -1,9 +1,9 @@
 use Rattle.std.proofs.Common.{◌≡◌, ◌++◌, ◌∷◌, [], ℕ, List, map, None, false, refl, sym, ap, ◌∙◌, string_bytes}
 use Rattle.msrp_plan.specs.Names.{has_name}
 use Rattle.msrp_plan.specs.Building.{resource_fault}
-use Rattle.msrp_plan.specs.Views.{draft_view}
-use Rattle.msrp_plan.proofs.Stored.{name_push}
-use Rattle.msrp_plan.proofs.Drafts.{growing_resource, resource_new}
+use Rattle.msrp_plan.specs.Inside.Views.{draft_view}
+use Rattle.msrp_plan.proofs.Building.Stored.{name_push}
+use Rattle.msrp_plan.proofs.Building.Drafts.{growing_resource, resource_new}
 use Rattle.msrp_plan.proofs.builder.PlanBuilder.resource.Goals as goal
 
 -- the resource is accepted

@@ -1,5 +1,5 @@
-use Rattle.msrp_plan.specs.Views.{draft_view, numbers}
-use Rattle.msrp_plan.proofs.Drafts.{growing_run}
+use Rattle.msrp_plan.specs.Inside.Views.{draft_view, numbers}
+use Rattle.msrp_plan.proofs.Building.Drafts.{growing_run}
 use Rattle.msrp_plan.proofs.builder.PlanBuilder.run.Goals as goal
 
 pub invariant_of-self-2 : goal.invariant_of-self-2

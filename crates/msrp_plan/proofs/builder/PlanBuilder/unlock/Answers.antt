@@ -1,7 +1,7 @@
 use Rattle.std.proofs.lemmas.List.{drop-map}
-use Rattle.msrp_plan.specs.Views.{draft_view, numbers}
+use Rattle.msrp_plan.specs.Inside.Views.{draft_view, numbers}
 use Rattle.msrp_plan.specs.declared.ids.ResId.{ResId}
-use Rattle.msrp_plan.proofs.Drafts.{growing_unlock}
+use Rattle.msrp_plan.proofs.Building.Drafts.{growing_unlock}
 use Rattle.msrp_plan.proofs.builder.PlanBuilder.unlock.Goals as goal
 
 pub invariant_of-self-2 : goal.invariant_of-self-2

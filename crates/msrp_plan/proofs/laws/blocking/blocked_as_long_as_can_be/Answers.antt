@@ -2,9 +2,9 @@ use Rattle.std.proofs.Common.{[], take, refl, arith}
 use Rattle.msrp_plan.specs.Examples.BlockedHead.{plan, rows}
 use Rattle.msrp_plan.specs.Examples.Notation.{job, lock}
 use Rattle.msrp_plan.specs.Blocking.{IsBegun}
-use Rattle.msrp_plan.proofs.Verdicts.{good_is_run}
-use Rattle.msrp_plan.proofs.AcceptedPlans.{accepted_plan}
-use Rattle.msrp_plan.proofs.KeptLaws.{keeps_laws}
+use Rattle.msrp_plan.proofs.Runs.Verdicts.{good_is_run}
+use Rattle.msrp_plan.proofs.Building.AcceptedPlans.{accepted_plan}
+use Rattle.msrp_plan.proofs.Runs.KeptLaws.{keeps_laws}
 use Rattle.msrp_plan.proofs.laws.blocking.blocked_as_long_as_can_be.Goals as goal
 
 -- k begins its section in the first row

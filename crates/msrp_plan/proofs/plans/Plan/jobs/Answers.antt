@@ -4,8 +4,8 @@ use Rattle.std.specs.Option.{IsSomeAnd}
 use Rattle.std.proofs.lemmas.Bool.{lt-ltb}
 use Rattle.msrp_plan.specs.Plan.{PlanModel, TaskModel, task_at, release_tick}
 use Rattle.msrp_plan.specs.Jobs.{job_at, jobs_of}
-use Rattle.msrp_plan.specs.ReleaseTimes.{comes_before}
-use Rattle.msrp_plan.proofs.Releases.{before_is, first_jobs, job_count}
+use Rattle.msrp_plan.specs.Inside.Tasks.{comes_before}
+use Rattle.msrp_plan.proofs.Jobs.Releases.{before_is, first_jobs, job_count}
 use Rattle.msrp_plan.proofs.plans.Plan.jobs.Goals as goal
 
 -- a release comes before the last tick has passed where its number is below the result

@@ -1,6 +1,6 @@
 use Rattle.std.proofs.Common.{sym, ◌∙◌, string_bytes}
 use Rattle.std.specs.Str.{bytes_eq}
-use Rattle.msrp_plan.proofs.Stored.{position_map}
+use Rattle.msrp_plan.proofs.Building.Stored.{position_map}
 use Rattle.msrp_plan.proofs.plans.Plan.res_of.Goals as goal
 
 pub returns-in-Some : goal.returns-in-Some

@@ -1,5 +1,5 @@
 use Rattle.std.proofs.Common.{sym, ◌∙◌}
-use Rattle.msrp_plan.proofs.Stored.{task_position}
+use Rattle.msrp_plan.proofs.Building.Stored.{task_position}
 use Rattle.msrp_plan.proofs.plans.Plan.task_of.Goals as goal
 
 pub returns-in-Some : goal.returns-in-Some

@@ -1,8 +1,8 @@
 use Rattle.std.proofs.Common.{nat_lt, ap, sym, subst, ◌∙◌, rules}
 use Rattle.std.proofs.lemmas.List.Sorted.{IsPartitionPoint-from_clause}
-use Rattle.msrp_plan.specs.ReleaseTimes.{AreTimes, AreListed, Listed, comes_before}
-use Rattle.msrp_plan.specs.Tasks.{times_view}
-use Rattle.msrp_plan.proofs.Releases.{listed_first, listed_parts}
+use Rattle.msrp_plan.specs.ReleaseTimes.{AreTimes, AreListed, Listed}
+use Rattle.msrp_plan.specs.Inside.Tasks.{comes_before, times_view}
+use Rattle.msrp_plan.proofs.Jobs.Releases.{listed_first, listed_parts}
 use Rattle.msrp_plan.proofs.times.Releases.count_before.Goals as goal
 
 pub returns-in-Listed : goal.returns-in-Listed

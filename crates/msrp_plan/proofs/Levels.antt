@@ -1,0 +1,4 @@
+-- Preemption levels, current ceilings, and which resources are global.
+pub mod LevelOrder
+pub mod Ceilings
+pub mod GlobalUse
