@@ -20,10 +20,10 @@ use Rattle.msrp_plan.specs.declared.rows.Kind.TheVariants.{Queue}
 use Rattle.msrp_plan.specs.declared.rows.Row.{Row}
 use Rattle.msrp_plan.specs.declared.units.Op.{Op}
 use Rattle.msrp_plan.specs.declared.units.Op.TheVariants.{Run, Lock, Unlock}
-use Rattle.msrp_plan.proofs.Aheads.{ahead_is}
-use Rattle.msrp_plan.proofs.JobLists.{core_jobs_below}
-use Rattle.msrp_plan.proofs.Least.{all_filtered}
-use Rattle.msrp_plan.proofs.LegalRows.{IsTurn, idle_res, legal_due, legal_turn}
+use Rattle.msrp_plan.proofs.Legality.Aheads.{ahead_is}
+use Rattle.msrp_plan.proofs.Jobs.JobLists.{core_jobs_below}
+use Rattle.msrp_plan.proofs.Lists.Least.{all_filtered}
+use Rattle.msrp_plan.proofs.Legality.LegalRows.{IsTurn, idle_res, legal_due, legal_turn}
 use Rattle.msrp_text.proofs.ReadBack.{all_gathered}
 use Rattle.msrp_text.proofs.Written.{named_unit}
 use Rattle.msrp_trace.specs.Laws.{has_short_ahead, has_short_job, has_short_numbers, is_short}
