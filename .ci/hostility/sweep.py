@@ -53,7 +53,7 @@ def made(piece):
 def side_by_side(pieces, place, jobs):
     """Does the pieces of a sweep over the processors, and gathers what they found."""
     whole = Found()
-    with multiprocessing.Pool(jobs, begin, (str(place),)) as pool:
+    with multiprocessing.get_context("fork").Pool(jobs, begin, (str(place),)) as pool:
         for done, found in enumerate(pool.imap_unordered(made, pieces), 1):
             whole.add(found)
             if sys.stderr.isatty():
