@@ -1,3 +1,4 @@
 pub mod Outcomes
 pub mod Simulation
 pub mod CheckText
+pub mod Running

@@ -3,6 +3,8 @@ use Rattle.std.specs.Prelude.{ℕ, Bool, true, false, Ok, Err}
 use Rattle.std.specs.declared.result.Result.{Result}
 use Rattle.msrp_plan.specs.Building.{is_within}
 use Rattle.msrp_plan.specs.Codes.{code_of}
+use Rattle.msrp_run.specs.declared.hire.RunError.{RunError}
+use Rattle.msrp_run.specs.declared.hire.RunError.TheVariants.{U1, U2}
 use Rattle.msrp_text.specs.declared.reading.TextError.{TextError}
 use Rattle.msrp_text.specs.declared.reading.TextError.TheVariants as text
 use Rattle.msrp.specs.declared.faults.CliFault.{CliFault}
@@ -13,6 +15,11 @@ abbrev pub fault_of : TextError → CliFault
 fault_of (text.At fault number) = Plan (code_of fault) number
 fault_of text.Read = Read
 fault_of text.Memory = Memory
+
+-- why a plan was not run, as a fault of the program
+abbrev pub run_fault : RunError → CliFault
+run_fault U1 = Memory
+run_fault U2 = Threads
 
 -- the exit status of an outcome
 abbrev pub status_of : Result ℕ CliFault → ℕ

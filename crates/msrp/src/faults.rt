@@ -1,9 +1,10 @@
 //! What the program answers in place of an output.
 
 ghost use Rattle.std.specs.Prelude.{◌≡◌};
-ghost use Rattle.msrp.specs.Outcomes.{fault_of, status_of};
+ghost use Rattle.msrp.specs.Outcomes.{fault_of, run_fault, status_of};
 
 use msrp_plan::{Memory, WriteFault};
+use msrp_run::RunError;
 use msrp_text::TextError;
 use std::alloc::AllocFailed;
 use thiserror::Error;
@@ -77,6 +78,17 @@ impl From<WriteFault> for CliFault {
 
     fn from(_error: WriteFault) -> CliFault {
         CliFault::Write
+    }
+}
+
+impl From<RunError> for CliFault {
+    ghost from_gives = { λ error fault. fault ≡ run_fault error };
+
+    fn from(error: RunError) -> CliFault {
+        match error {
+            RunError::U1 => CliFault::Memory,
+            RunError::U2 => CliFault::Threads,
+        }
     }
 }
 

@@ -11,6 +11,7 @@ ghost use Rattle.std.specs.Prelude.{◌≡◌, cond};
 mod cli;
 mod engine;
 mod faults;
+mod running;
 #[cfg(test)]
 mod tests;
 
@@ -21,10 +22,13 @@ use faults::{CliFault, exit_of};
 use msrp_plan::TextVersion;
 use msrp_plan::bytes::{Sink, Source};
 use msrp_sim::Order;
+use running::run_text;
 use std::fs::File;
 use std::io;
 use std::io::{ErrorKind, Read};
 use std::process::ExitCode;
+use std::sync::Wait;
+use std::thread::Threads;
 
 // What a plan is read from.
 #[derive(Drop)]
@@ -86,7 +90,8 @@ fn version_of(ahead: bool) -> TextVersion
     }
 }
 
-fn run(rt: &HostRuntime) -> Result<u8, CliFault> {
+// `threads` starts the threads of a run.
+fn run<T: Threads + Wait + Sync>(rt: &HostRuntime, threads: &T) -> Result<u8, CliFault> {
     let alloc = rt.alloc();
     let words = words_of(rt)?;
     let mut out = Sink::new(io::writer(rt));
@@ -99,6 +104,10 @@ fn run(rt: &HostRuntime) -> Result<u8, CliFault> {
             let mut source = Source::new(open(rt, plan)?);
             let order = order_of(order);
             sim_text(alloc, &mut source, &mut out, &order, version_of(ahead))
+        }
+        Cmd::Run { ahead, plan } => {
+            let mut source = Source::new(open(rt, plan)?);
+            run_text(threads, alloc, &mut source, &mut out, version_of(ahead))
         }
         Cmd::CheckText { plan } => {
             let mut source = Source::new(open(rt, plan)?);
@@ -113,7 +122,7 @@ fn run(rt: &HostRuntime) -> Result<u8, CliFault> {
 }
 
 fn main(rt: HostRuntime) -> ExitCode {
-    let outcome = run(&rt);
+    let outcome = run(&rt, &rt);
     if let Err(fault) = &outcome {
         let _ = eprintln!(rt; "msrp: {fault}");
     }

@@ -11,9 +11,9 @@ pub trait Hire {
 
 /// Lets every thread be started.
 #[derive(Clone, Copy, Debug)]
-pub(crate) struct All;
+pub struct HireAll;
 
-impl Hire for All {
+impl Hire for HireAll {
     fn may_start(&self, _core: CoreId) -> bool {
         true
     }

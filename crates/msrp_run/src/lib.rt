@@ -10,7 +10,7 @@ mod threads;
 mod turns;
 mod work;
 
-pub use hire::{Hire, RunError};
+pub use hire::{Hire, HireAll, RunError};
 pub use threads::{run_threads, run_threads_if};
 pub use turns::{Plain, Stage, turn_on};
 pub use work::worker;

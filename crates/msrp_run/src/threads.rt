@@ -1,6 +1,7 @@
 //! A thread for each core: they are started, let in, and joined.
 ghost use Rattle.std.specs.Prelude.{◌≡◌, ◌<◌, ◌≤◌, ℕ, [], Some, IfOk, IfSome, IsTrue, length, true, vec_capacity, vec_len};
 ghost use Rattle.msrp_plan.specs.Aheads.{carries_ahead};
+ghost use Rattle.msrp_plan.specs.Laws.{KeepsLaws};
 ghost use Rattle.msrp_plan.specs.Runs.{IsRun};
 ghost use Rattle.msrp_board.specs.declared.books.Conductor.TheVariants.{Unopened, Opened};
 ghost use Rattle.msrp_board.specs.Boards.{IsTied};
@@ -9,7 +10,7 @@ ghost use Rattle.msrp_run.specs.Threads.{AllWorked, AreKits, ArePromised, HasRun
 ghost use Rattle.msrp_run.specs.Work.{HasWorked, IsNew};
 
 use crate::crew::{Handle, Kit, Started, WorkOf};
-use crate::hire::{All, Hire, RunError};
+use crate::hire::{Hire, HireAll, RunError};
 use crate::turns::Stage;
 use crate::work::worker;
 use msrp_board::{Board, BoardSeat, Settled};
@@ -302,9 +303,8 @@ fn on_threads<R: Threads + Wait + Sync, S: Stage + Sync, H: Hire, L: PlanLevels>
 /// Runs the plan with a thread for each core that `hire` allows.
 ///
 /// All memory that a core needs is taken before the first thread starts, and the cores are let in once all threads are
-/// started: on [`RunError::U2`] no core had a turn. It waits for its threads, so what it promises holds where it returns. The trace is a
-/// legal run of MSRP (Gai, Lipari and Di Natale 2001), whatever way the threads' steps interleaved: in it each global
-/// resource has one holder, requests are granted in their order, and no started job is blocked on a local resource.
+/// started: on [`RunError::U2`] no core had a turn. It waits for its threads, so what it promises holds where it returns. The
+/// trace is a legal run of MSRP (Gai, Lipari and Di Natale 2001), whatever way the threads' steps interleaved.
 pub fn run_threads_if<R: Threads + Wait + Sync, S: Stage + Sync, H: Hire>(
     rt: &R,
     alloc: Global,
@@ -313,6 +313,10 @@ pub fn run_threads_if<R: Threads + Wait + Sync, S: Stage + Sync, H: Hire>(
     hire: &H,
 ) -> Result<(Trace, Settled), RunError>
     ensures run { IfOk result (λ r. IsRun plan.now r.0.rows.items) }
+
+    // So it keeps the laws of legal runs: each resource has one holder at most, others come to hold it at most m - 1 times
+    // while a job waits for it, on m cores, no started job waits for a local resource, and spinning and blocking are bounded.
+    ensures laws { IfOk result (λ r. KeepsLaws plan.now r.0.rows.items) }
 
     // The steps on each resource are its one history on the board, in order.
     ensures history { IfOk result (λ r. (g : ℕ) → g < length plan.now.resources → IsServedAs r.1 g r.0.rows.items) }
@@ -341,9 +345,10 @@ pub fn run_threads<R: Threads + Wait + Sync, S: Stage + Sync>(
     stage: &S,
 ) -> Result<(Trace, Settled), RunError>
     ensures run { IfOk result (λ r. IsRun plan.now r.0.rows.items) }
+    ensures laws { IfOk result (λ r. KeepsLaws plan.now r.0.rows.items) }
     ensures history { IfOk result (λ r. (g : ℕ) → g < length plan.now.resources → IsServedAs r.1 g r.0.rows.items) }
     ensures aheads { IfOk result (λ r. carries_ahead r.0.rows.items ≡ true) }
     ensures board { IfOk result (λ r. (r.1.size ≡ size_of plan.now) × IsTied r.1) }
 {
-    run_threads_if(rt, alloc, plan, stage, &All)
+    run_threads_if(rt, alloc, plan, stage, &HireAll)
 }

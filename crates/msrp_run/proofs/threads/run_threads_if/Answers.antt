@@ -6,6 +6,7 @@ use Rattle.msrp_board.specs.Boards.{entries_at}
 use Rattle.msrp_merge.specs.Merging.{AreLogs, size_of, turns_of}
 use Rattle.msrp_merge.specs.Turns.{LogModel, rows_of}
 use Rattle.msrp_plan.specs.Aheads.{carries_ahead}
+use Rattle.msrp_plan.proofs.Runs.KeptLaws.{keeps_laws}
 use Rattle.msrp_run.proofs.Headline.{are_logs, logs_carry, has_all, served_as}
 use Rattle.msrp_run.proofs.threads.run_threads_if.Goals as goal
 
@@ -24,6 +25,9 @@ merge-requires-clause-logs g c =
     let opened : c.settle-settled.result.conductor ≡ Opened = cc in
     subst (λ (l : List LogModel). AreLogs c.args.plan.now l (entries_at c.settle-settled.result.books)) (sym c.deref.ensures.value)
     (are_logs c.in-Ok-new.board c.args.plan.now c.in_ok-logs.logs.items c.in_ok-logs.seat c.settle-settled.result.books c.in_ok-logs.ensures e.books (λ k b at. e.running k b opened at))
+
+pub returns-in-Ok-merge-clause-laws : goal.returns-in-Ok-merge-clause-laws
+returns-in-Ok-merge-clause-laws g c = keeps_laws c.args.plan.now c.in-Ok-merge.trace.rows.items c.cores.ensures.plan c.in-Ok-merge.ensures.run
 
 pub returns-in-Ok-merge-clause-history : goal.returns-in-Ok-merge-clause-history
 returns-in-Ok-merge-clause-history g c =
