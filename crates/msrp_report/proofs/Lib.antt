@@ -1,0 +1,4 @@
+pub mod JobCounts
+pub mod Waits
+pub mod Scanning
+pub mod LineJobs

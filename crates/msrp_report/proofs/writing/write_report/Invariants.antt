@@ -1,0 +1,7 @@
+use Rattle.std.proofs.Common.{◌++◌, codes}
+use Rattle.msrp_plan.specs.Bytes.{Wrote}
+use Rattle.msrp_report.specs.ReportText.{lines_text}
+use Rattle.msrp_report.proofs.writing.write_report.Given as goal
+
+abbrev pub invariant-loop-task : goal.invariant-loop-task
+invariant-loop-task g l = Wrote g.W.Write.contents l.fn.out l.out (codes "msrp-report,2\n" ++ lines_text l.plan l.report.lines.items l.task)

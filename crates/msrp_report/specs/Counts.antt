@@ -1,0 +1,40 @@
+-- What the rows tell of one job, row by row.
+use Rattle.std.specs.Prelude.{ℕ, List, Option, Some, None, cond, not, filter, fold, max, unwrap_or, ◌+◌, ◌^◌, ◌<◌, ⊤}
+use Rattle.msrp_plan.specs.Jobs.{is_row_of, is_waiting}
+use Rattle.msrp_plan.specs.Laws.{is_spin}
+use Rattle.msrp_plan.specs.declared.ids.JobId.{JobId}
+use Rattle.msrp_plan.specs.declared.rows.Kind.{Kind}
+use Rattle.msrp_plan.specs.declared.rows.Kind.TheVariants.{Queue, Spin, Grant}
+use Rattle.msrp_plan.specs.declared.rows.Row.{Row}
+use Rattle.msrp_report.specs.declared.counts.JobCount.{JobCount}
+
+-- the spins of the open wait, after a row of this kind
+abbrev pub wait_with : Kind → Option ℕ → Option ℕ
+wait_with Queue None = Some 0
+wait_with Spin (Some n) = Some (n + 1)
+wait_with Grant wait = None
+wait_with _ wait = wait
+
+-- one spin more can be counted
+abbrev pub HasRoom : Option ℕ → Type 0
+HasRoom None = ⊤
+HasRoom (Some n) = n + 1 < 2 ^ 32
+
+-- a job without a row
+abbrev pub uncounted : JobCount
+uncounted = record { rows = 0; done = 0; last_tick = 0; spins = 0; wait = None; longest_wait = 0 }
+
+-- one row of the job more
+abbrev pub counted : Row → JobCount → JobCount
+counted r c = record {
+  rows = c.rows + 1;
+  done = c.done + cond (not (is_waiting r.kind)) 1 0;
+  last_tick = r.tick;
+  spins = c.spins + cond (is_spin r.kind) 1 0;
+  wait = wait_with r.kind c.wait;
+  longest_wait = max c.longest_wait (unwrap_or (wait_with r.kind c.wait) 0);
+}
+
+-- what the rows tell of the job
+unfoldable pub count_of : List Row → JobId → JobCount
+count_of rows j = fold (λ c r. counted r c) uncounted (filter (is_row_of j) rows)

@@ -1,0 +1,85 @@
+-- What a report says of each task: counts over the rows of a trace, and beside them the bounds that the plan gives. (The
+-- survey of Davis and Burns 2011 has the words: response time, spin delay, blocking.)
+use Rattle.std.specs.Prelude.{ℕ, List, [], ◌∷◌, Bool, ◌&&◌, cond, nat_lt, nat_le, filter, fold, map, max, count_by, length, ◌+◌, ◌-◌}
+use Rattle.std.specs.List.{sum_by, range_with_len}
+use Rattle.msrp_plan.specs.Plan.{PlanModel, TaskModel, task_at, key, release}
+use Rattle.msrp_plan.specs.Shape.{is_queue}
+use Rattle.msrp_plan.specs.Jobs.{jobs_of, is_row_of, is_finished}
+use Rattle.msrp_plan.specs.Levels.{uses, is_global, greatest}
+use Rattle.msrp_plan.specs.Ceiling.{resources}
+use Rattle.msrp_plan.specs.Laws.{is_grant, is_spin_of}
+use Rattle.msrp_plan.specs.Bounds.{spin_bound, blocked_bound}
+use Rattle.msrp_plan.specs.Blocking.{blocked}
+use Rattle.msrp_plan.specs.declared.ids.JobId.{JobId}
+use Rattle.msrp_plan.specs.declared.rows.Row.{Row}
+use Rattle.msrp_report.specs.declared.lines.Line.{Line}
+
+-- ---- response
+-- the tick of the job's last row, 0 where it has none
+abbrev pub last_tick : JobId → List Row → ℕ
+last_tick j rows = fold (λ _ r. r.tick) 0 (filter (is_row_of j) rows)
+
+-- the tick in which the job would have to be finished: its absolute deadline
+abbrev pub due_tick : PlanModel → JobId → ℕ
+due_tick plan j = (key plan j).deadline
+
+-- from the job's release to the end of its last action; 0 where it isn't finished
+abbrev pub response : PlanModel → List Row → JobId → ℕ
+response plan rows j = cond (is_finished plan rows j) ((last_tick j rows + 1) - release plan j) 0
+
+-- the job finished after its absolute deadline; or it isn't finished, and its absolute deadline isn't after the last tick
+abbrev pub is_late : PlanModel → List Row → JobId → Bool
+is_late plan rows j = cond (is_finished plan rows j) (nat_lt (due_tick plan j) (last_tick j rows + 1)) (nat_le (due_tick plan j) plan.ticks)
+
+-- ---- spinning
+-- the row in which the job joins a queue, and the one in which it is granted what it waits for
+abbrev pub is_queue_of : JobId → Row → Bool
+is_queue_of j r = is_row_of j r && is_queue r.kind
+
+abbrev pub is_granted : JobId → Row → Bool
+is_granted j r = is_row_of j r && is_grant r.kind
+
+-- how often the job spins
+abbrev pub spins : List Row → JobId → ℕ
+spins rows j = count_by (is_spin_of j) rows
+
+-- how often it spins up to its next grant, or to the end
+abbrev pub spins_to_grant : JobId → List Row → ℕ
+spins_to_grant j [] = 0
+spins_to_grant j (r ∷ rows) = cond (is_granted j r) 0 (cond (is_spin_of j r) 1 0 + spins_to_grant j rows)
+
+-- how often it spins in one wait, from the row in which it joins the queue to its grant or to the end, at most; 0 where
+-- it never waits
+abbrev pub longest_wait : JobId → List Row → ℕ
+longest_wait j [] = 0
+longest_wait j (r ∷ rows) = max (cond (is_queue_of j r) (spins_to_grant j rows) 0) (longest_wait j rows)
+
+-- ---- bounds
+-- how often a job of the task spins in one wait, at most: the greatest bound of the global resources that it locks; 0
+-- where it locks none
+abbrev pub task_spin_bound : PlanModel → TaskModel → ℕ
+task_spin_bound plan task = greatest (map (λ g. spin_bound plan g task.core) (filter (λ g. uses g task && is_global plan g) (resources plan)))
+
+-- ---- the line of a task, by its number
+-- over some of its jobs
+abbrev pub line_over : PlanModel → List Row → ℕ → List JobId → Line
+line_over plan rows t js = record {
+  jobs = length (jobs_of plan t);
+  finished = count_by (is_finished plan rows) js;
+  late = count_by (is_late plan rows) js;
+  worst_response = greatest (map (response plan rows) js);
+  spin = sum_by (spins rows) js;
+  worst_spin = greatest (map (λ j. longest_wait j rows) js);
+  blocked = sum_by (blocked plan rows) js;
+  worst_blocked = greatest (map (blocked plan rows) js);
+  spin_bound = task_spin_bound plan (task_at plan t);
+  blocked_bound = blocked_bound plan (task_at plan t);
+}
+
+-- over all of them
+abbrev pub line_of : PlanModel → List Row → ℕ → Line
+line_of plan rows t = line_over plan rows t (jobs_of plan t)
+
+-- a line for each task, in their order
+abbrev pub lines_of : PlanModel → List Row → List Line
+lines_of plan rows = map (line_of plan rows) (range_with_len 0 (length plan.tasks))

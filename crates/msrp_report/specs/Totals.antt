@@ -1,0 +1,23 @@
+-- The line of a task, job by job.
+use Rattle.std.specs.Prelude.{cond, max, ◌+◌, ◌^◌, ◌<◌}
+use Rattle.msrp_report.specs.declared.lines.Line.{Line}
+use Rattle.msrp_report.specs.declared.numbers.JobNumbers.{JobNumbers}
+
+-- one job more
+abbrev pub line_with : JobNumbers → Line → Line
+line_with n l = record l {
+  finished = l.finished + cond n.finished 1 0;
+  late = l.late + cond n.late 1 0;
+  worst_response = max l.worst_response n.response;
+  spin = l.spin + n.spins;
+  worst_spin = max l.worst_spin n.longest_wait;
+  blocked = l.blocked + n.blocked;
+  worst_blocked = max l.worst_blocked n.blocked;
+}
+
+-- one job more can be counted
+pub record HasSpace (n : JobNumbers) (l : Line) : Type 0 where
+  pub finished : l.finished + 1 < 2 ^ 32
+  pub late : l.late + 1 < 2 ^ 32
+  pub spin : l.spin + n.spins < 2 ^ 32
+  pub blocked : l.blocked + n.blocked < 2 ^ 32

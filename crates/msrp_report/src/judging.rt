@@ -1,0 +1,78 @@
+//! The report of a trace.
+ghost use Rattle.std.specs.Prelude.{◌≡◌, ◌≤◌, Some, Err, IfOk, OnOk};
+ghost use Rattle.std.specs.List.{All};
+ghost use Rattle.msrp_plan.specs.Runs.{IsRun};
+ghost use Rattle.msrp_plan.specs.Verdict.{verdict};
+ghost use Rattle.msrp_plan.specs.declared.faults.Fault.{Fault as TraceFault};
+ghost use Rattle.msrp_report.specs.Lines.{lines_of};
+
+use crate::lines::Report;
+use crate::totals::task_line;
+use msrp_audit::audit;
+use msrp_levels::Levels;
+use msrp_plan::{Fault, Memory, Plan, TaskId, Trace};
+use std::alloc::Global;
+
+/// Why there is no report.
+#[derive(Clone, Copy, Debug, PartialEq, Eq)]
+pub enum ReportError {
+    /// The trace isn't a legal run of the plan; the first row that breaks a rule.
+    G1(Fault),
+    /// Memory was refused.
+    G2,
+}
+
+impl From<Memory> for ReportError {
+    ghost use Rattle.msrp_report.specs.declared.judging.ReportError.{ReportError};
+
+    ghost from_gives = { λ _ error. error ≡ ReportError.G2 };
+
+    fn from(_error: Memory) -> ReportError {
+        ReportError::G2
+    }
+}
+
+// Whether the trace is a legal run.
+fn judge(alloc: Global, plan: &Plan, trace: &Trace) -> Result<(), ReportError>
+    ensures run { OnOk result (IsRun plan.now trace.now.rows.items) }
+    ensures fault { (fault : TraceFault) → result ≡ Err (ReportError.G1 fault) → verdict plan.now trace.now.rows.items ≡ Some fault }
+{
+    match audit(alloc, plan, trace)? {
+        Ok(()) => Ok(()),
+        Err(fault) => Err(ReportError::G1(fault)),
+    }
+}
+
+/// The report of a legal run of the plan: a line for each task, in their order. It is [`Memory`] only where memory was
+/// refused.
+pub fn run_report(alloc: Global, plan: &Plan, run: &Trace) -> Result<Report, Memory>
+    requires { IsRun plan.now run.now.rows.items }
+    // Each number is its count over the rows, or the bound that the plan gives.
+    ensures lines { IfOk result (λ report. report.lines.items ≡ lines_of plan.now run.now.rows.items) }
+    // What was counted keeps the bounds.
+    ensures spinning { IfOk result (λ report. All (λ line. line.worst_spin ≤ line.spin_bound) report.lines.items) }
+    ensures blocking { IfOk result (λ report. All (λ line. line.worst_blocked ≤ line.blocked_bound) report.lines.items) }
+{
+    let levels = Levels::of(alloc, plan)?;
+    let mut lines = Vec::with_capacity(alloc, plan.tasks() as usize).map_err(|_| Memory)?;
+    for task in 0..plan.tasks() {
+        lines.push_reserved(task_line(plan, &levels, &run.rows, TaskId(task)));
+    }
+    Ok(Report { lines })
+}
+
+/// The report of a trace, whoever made it. The trace is audited first: one that isn't a legal run of the plan is
+/// [`ReportError::G1`] with its verdict. It is [`ReportError::G2`] only where memory was refused.
+pub fn report(alloc: Global, plan: &Plan, trace: &Trace) -> Result<Report, ReportError>
+    // Each number is its count over the rows, or the bound that the plan gives.
+    ensures lines { IfOk result (λ report. report.lines.items ≡ lines_of plan.now trace.now.rows.items) }
+    // No report of a trace that isn't legal, and no fault but that of the verdict.
+    ensures run { OnOk result (IsRun plan.now trace.now.rows.items) }
+    ensures fault { (fault : TraceFault) → result ≡ Err (ReportError.G1 fault) → verdict plan.now trace.now.rows.items ≡ Some fault }
+    // What was counted keeps the bounds.
+    ensures spinning { IfOk result (λ report. All (λ line. line.worst_spin ≤ line.spin_bound) report.lines.items) }
+    ensures blocking { IfOk result (λ report. All (λ line. line.worst_blocked ≤ line.blocked_bound) report.lines.items) }
+{
+    judge(alloc, plan, trace)?;
+    Ok(run_report(alloc, plan, trace)?)
+}

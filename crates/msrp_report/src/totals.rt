@@ -1,0 +1,58 @@
+//! The line of one task.
+ghost use Rattle.std.specs.Prelude.{◌≡◌, ◌<◌, length};
+ghost use Rattle.msrp_plan.specs.Runs.{IsRunStart};
+ghost use Rattle.msrp_plan.specs.WellFormed.{IsPlan};
+ghost use Rattle.msrp_report.specs.Lines.{line_of};
+ghost use Rattle.msrp_report.specs.Totals.{HasSpace, line_with};
+
+use crate::bounds::{blocked_bound_of, spin_bound_of};
+use crate::lines::Line;
+use crate::numbers::{JobNumbers, job_numbers};
+use msrp_levels::Levels;
+use msrp_plan::{JobId, Plan, Row, TaskId};
+
+impl Line {
+    // With one job of the task more.
+    fn with_job(self, numbers: JobNumbers) -> Line
+        requires { HasSpace numbers self }
+        ensures { result ≡ line_with numbers self }
+    {
+        Line {
+            finished: self.finished + u32::from(numbers.finished),
+            late: self.late + u32::from(numbers.late),
+            worst_response: self.worst_response.max(numbers.response),
+            spin: self.spin + numbers.spins,
+            worst_spin: self.worst_spin.max(numbers.longest_wait),
+            blocked: self.blocked + numbers.blocked,
+            worst_blocked: self.worst_blocked.max(numbers.blocked),
+            ..self
+        }
+    }
+}
+
+/// The line of a task, from the rows of a run. The levels are the plan's.
+pub(crate) fn task_line(plan: &Plan, levels: &Levels<'_>, rows: &[Row], task: TaskId) -> Line
+    requires plan { IsPlan plan.now }
+    requires levels { levels.now ≡ plan.now }
+    requires task { task.0 < length plan.now.tasks }
+    requires run { IsRunStart plan.now rows.now }
+    ensures { result ≡ line_of plan.now rows.now task.0 }
+{
+    let jobs = plan.jobs(task);
+    let mut line = Line {
+        jobs,
+        finished: 0,
+        late: 0,
+        worst_response: 0,
+        spin: 0,
+        worst_spin: 0,
+        blocked: 0,
+        worst_blocked: 0,
+        spin_bound: spin_bound_of(plan, levels, task),
+        blocked_bound: blocked_bound_of(plan, levels, task),
+    };
+    for k in 0..jobs {
+        line = line.with_job(job_numbers(plan, rows, JobId { task, k }));
+    }
+    line
+}
