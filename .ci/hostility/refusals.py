@@ -12,7 +12,8 @@ from .sweep import kept
 HERE = Path(__file__).resolve().parent
 MOST_CALLS = 100_000
 EVER_AFTER = 1 << 40
-ALLOWED_LINES = {"run": (MEMORY, THREADS), "audit --parallel": (MEMORY, THREADS)}  # of want; all others answer memory alone
+STARTS_THREADS = ("run", "run --ahead")
+MAY_START_THREADS = ("audit --parallel",)
 BIT_OF_MEMORY = 256 * 1024
 MOST_MEMORY = 1 << 30
 NOBODY = 54_321  # a user that owns no process
@@ -67,7 +68,8 @@ def is_ample(command, words, ample, answer):
 def is_want(command, ample, answer):
     """Whether this tells of want, and no more than a first part was written; nothing of a run."""
     part = not answer.out if varies(command) else ample.out.startswith(answer.out)
-    return answer.status == WANT and part and answer.line in ALLOWED_LINES.get(command.replace(" --ahead", ""), (MEMORY,))
+    lines = (MEMORY, THREADS) if command in STARTS_THREADS + MAY_START_THREADS else (MEMORY,)
+    return answer.status == WANT and part and answer.line in lines
 
 
 def paths_of(given):
@@ -97,8 +99,8 @@ def growths(found, preloaded, command, given, lasting):
 
 def threads(found, preloaded, command, given, lasting):
     refused = refused_in_turn(found, preloaded, command, given, "thread", lasting)
-    if command.startswith("run"):
-        found.judge(refused > 0, f"{given.name}, {command}: no thread was refused")
+    starts = command in STARTS_THREADS
+    found.judge(command in MAY_START_THREADS or (refused > 0) == starts, f"{given.name}, {command}: {refused} threads were refused")
 
 
 def reads(found, preloaded, command, given, how):
