@@ -31,9 +31,9 @@ def ended(ran):
     return ran.returncode, line
 
 
-def closed_while_writing(found, command):
-    """A reader takes a first part and closes the pipe: a write fault, and no signal ends the program."""
-    ran = started(words_of(command, kept("plan", LONG_PLAN), ""))
+def closed_while_writing(found, command, ignored):
+    """A reader takes a first part and closes the pipe: a write fault, and no signal ends the program, whether it is ignored or not."""
+    ran = started(words_of(command, kept("plan", LONG_PLAN), ""), restore_signals=not ignored)
     ran.stdout.read(1000)
     ran.stdout.close()
     ran.stdout = None
@@ -139,7 +139,7 @@ def signals(found, command):
     words = words_of(command, "-", kept("trace", WORK_THEN_IDLE.trace))
     usual = ask(words_of(command, kept("plan", WORK_THEN_IDLE.plan), kept("trace", WORK_THEN_IDLE.trace)))
     for number in (signal.SIGTERM, signal.SIGINT, signal.SIGHUP):
-        ran = started(words, stdin=subprocess.PIPE)
+        ran = started(words, stdin=subprocess.PIPE, preexec_fn=lambda: signal.signal(number, signal.SIG_DFL))
         time.sleep(REST / 10)
         ran.send_signal(number)
         out, line = ran.communicate(timeout=SECONDS)
@@ -173,7 +173,7 @@ def pieces():
     checks = (closed_streams, full_file, gone_files, file_gone_while_read, writer_gone, signals)
     return {
         "pipes, streams, files, signals": [(check, command) for command in COMMANDS for check in checks]
-        + [(closed_while_writing, command) for command in LONG_COMMANDS]
+        + [(closed_while_writing, command, ignored) for command in LONG_COMMANDS for ignored in (False, True)]
         + [(stopped_reader, command, goes_on) for command in LONG_COMMANDS for goes_on in (True, False)]
         + [(ended_while_it_runs, command) for command in COMMANDS if command == "run"],
     }
