@@ -1,3 +1,4 @@
 pub mod CheckRecords
+pub mod Judging
 pub mod NamedRows
 pub mod SimAnswers

@@ -2,3 +2,5 @@ pub mod Outcomes
 pub mod Simulation
 pub mod CheckText
 pub mod Running
+pub mod Findings
+pub mod AuditText

@@ -1,5 +1,5 @@
 -- What the program answers, and its exit status.
-use Rattle.std.specs.Prelude.{ℕ, Bool, true, false, Ok, Err}
+use Rattle.std.specs.Prelude.{ℕ, Bool, true, false, ◌||◌, Ok, Err}
 use Rattle.std.specs.declared.result.Result.{Result}
 use Rattle.msrp_plan.specs.Building.{is_within}
 use Rattle.msrp_plan.specs.Codes.{code_of}
@@ -7,6 +7,9 @@ use Rattle.msrp_run.specs.declared.hire.RunError.{RunError}
 use Rattle.msrp_run.specs.declared.hire.RunError.TheVariants.{U1, U2}
 use Rattle.msrp_text.specs.declared.reading.TextError.{TextError}
 use Rattle.msrp_text.specs.declared.reading.TextError.TheVariants as text
+use Rattle.msrp_trace.specs.Codes.{code_of as trace_code_of}
+use Rattle.msrp_trace.specs.declared.faults.TraceError.{TraceError}
+use Rattle.msrp_trace.specs.declared.faults.TraceError.TheVariants as trace
 use Rattle.msrp.specs.declared.faults.CliFault.{CliFault}
 use Rattle.msrp.specs.declared.faults.CliFault.TheVariants.{Plan, Trace, Usage, Memory, Threads, Read, Write}
 
@@ -20,6 +23,13 @@ fault_of text.Memory = Memory
 abbrev pub run_fault : RunError → CliFault
 run_fault U1 = Memory
 run_fault U2 = Threads
+
+-- a trace's text that gave no row, as a fault of the program; a reader that has refused is asked no more
+abbrev pub trace_fault_of : TraceError → CliFault
+trace_fault_of (trace.At fault number) = Trace (trace_code_of fault) number
+trace_fault_of trace.Read = Read
+trace_fault_of trace.Memory = Memory
+trace_fault_of trace.Failed = Read
 
 -- the exit status of an outcome
 abbrev pub status_of : Result ℕ CliFault → ℕ
@@ -41,3 +51,14 @@ is_sim_fault Memory = true
 is_sim_fault Threads = false
 is_sim_fault Read = true
 is_sim_fault Write = true
+
+-- the faults that the reading of a trace's text may end in: R1 to R8 among them
+abbrev pub is_trace_fault : CliFault → Bool
+is_trace_fault (Trace code number) = is_within 1 8 code
+is_trace_fault Memory = true
+is_trace_fault Read = true
+is_trace_fault _ = false
+
+-- the faults that an audit of texts may end in
+abbrev pub is_audit_fault : CliFault → Bool
+is_audit_fault fault = is_sim_fault fault || is_trace_fault fault

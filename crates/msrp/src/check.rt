@@ -12,28 +12,13 @@ ghost use Rattle.msrp.specs.Outcomes.{is_sim_fault};
 mod tests;
 
 use crate::faults::CliFault;
-use itoa::Buffer;
+use crate::fields::{next_field, next_number};
 use msrp_levels::Levels;
 use msrp_plan::bytes::{Sink, Source};
 use msrp_plan::{CoreId, Plan, ResId, TaskId, WriteFault};
 use msrp_text::read_plan;
 use std::alloc::Global;
 use std::io::{Read, Write};
-
-// A field that is not the first of its record.
-fn next_field<W: Write>(out: &mut Sink<W>, text: &[u8])
-    ensures { Wrote W.contents out.old out.new (codes "," ++ text.now) }
-{
-    out.add(b",");
-    out.add(text);
-}
-
-fn next_number<W: Write>(out: &mut Sink<W>, number: u32)
-    ensures { Wrote W.contents out.old out.new (codes "," ++ decimal number) }
-{
-    let mut digits = Buffer::new();
-    next_field(out, digits.format(number).as_bytes());
-}
 
 fn write_level<W: Write>(out: &mut Sink<W>, plan: &Plan, levels: &Levels<'_>, task: TaskId)
     requires levels { levels.now ≡ plan.now }

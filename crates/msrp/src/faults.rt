@@ -1,11 +1,12 @@
 //! What the program answers in place of an output.
 
 ghost use Rattle.std.specs.Prelude.{◌≡◌};
-ghost use Rattle.msrp.specs.Outcomes.{fault_of, run_fault, status_of};
+ghost use Rattle.msrp.specs.Outcomes.{fault_of, run_fault, status_of, trace_fault_of};
 
 use msrp_plan::{Memory, WriteFault};
 use msrp_run::RunError;
 use msrp_text::TextError;
+use msrp_trace::TraceError;
 use std::alloc::AllocFailed;
 use thiserror::Error;
 
@@ -47,6 +48,25 @@ impl From<TextError> for CliFault {
             },
             TextError::Read => CliFault::Read,
             TextError::Memory => CliFault::Memory,
+        }
+    }
+}
+
+impl From<TraceError> for CliFault {
+    ghost from_gives = { λ error fault. fault ≡ trace_fault_of error };
+
+    fn from(error: TraceError) -> CliFault {
+        match error {
+            TraceError::At {
+                fault: refusal,
+                number: record,
+            } => CliFault::Trace {
+                code: refusal.code(),
+                number: record,
+            },
+            TraceError::Memory => CliFault::Memory,
+            // A reader that has refused is asked no more.
+            TraceError::Read | TraceError::Failed => CliFault::Read,
         }
     }
 }

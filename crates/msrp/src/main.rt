@@ -4,6 +4,7 @@
 //! prints the line of a fault and gives the exit status.
 #![tactic(auto)]
 
+mod audit;
 mod check;
 
 ghost use Rattle.std.specs.Prelude.{◌≡◌, cond};
@@ -11,10 +12,12 @@ ghost use Rattle.std.specs.Prelude.{◌≡◌, cond};
 mod cli;
 mod engine;
 mod faults;
+mod fields;
 mod running;
 #[cfg(test)]
 mod tests;
 
+use audit::audit_text;
 use check::check_text;
 use cli::{Cmd, TurnOrder, command_of, help_text};
 use engine::{plan_text, sim_text};
@@ -116,6 +119,15 @@ fn run<T: Threads + Wait + Sync>(rt: &HostRuntime, threads: &T) -> Result<u8, Cl
         Cmd::Check { plan } => {
             let mut source = Source::new(open(rt, plan)?);
             check_text(alloc, &mut source, &mut out)
+        }
+        Cmd::Audit {
+            parallel: false,
+            plan,
+            trace,
+        } => {
+            let mut plan = Source::new(open(rt, plan)?);
+            let mut trace = Source::new(open(rt, trace)?);
+            audit_text(alloc, &mut plan, &mut trace, &mut out)
         }
         _ => Err(CliFault::Usage),
     }
