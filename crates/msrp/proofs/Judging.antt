@@ -11,7 +11,7 @@ use Rattle.msrp_plan.specs.declared.faults.Fault.{Fault}
 use Rattle.msrp_plan.specs.declared.faults.Rule.TheVariants.{A7}
 use Rattle.msrp_plan.specs.declared.rows.Row.{Row}
 use Rattle.msrp_plan.specs.declared.rows.TextVersion.{TextVersion}
-use Rattle.msrp_plan.proofs.Verdicts.{fault_push, fault_stays}
+use Rattle.msrp_plan.proofs.Runs.Verdicts.{fault_push, fault_stays}
 use Rattle.msrp_trace.specs.Reading.{Told, rows_of, told_by, version_of}
 use Rattle.msrp_trace.specs.Readers.{GivesFirst, GivesNext, Opens, OpensBy, told_left}
 use Rattle.msrp_trace.specs.declared.faults.TraceError.{TraceError}
