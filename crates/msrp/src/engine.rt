@@ -34,11 +34,11 @@ fn write_run<W: Write>(
     ensures good { OnOk result (sink_failed out.new ≡ false) }
     ensures fault { OnErr result (sink_failed out.new ≡ true) }
 {
-    let mut text = TraceWriter::new();
-    text.head(out, plan, version);
+    let mut text = TraceWriter::new(plan, version);
+    text.head(out);
     for _turn in 0..plan.cores() * plan.ticks() {
         let row = simulation.turn();
-        text.row(out, plan, version, &row);
+        text.row(out, &row);
     }
     text.finish(out)
 }

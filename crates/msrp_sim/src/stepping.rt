@@ -68,6 +68,7 @@ impl<'a> Simulation<'a> {
         ensures turn { IfOk result (λ sim. sim.turn ≡ 0) }
         ensures made { IfOk result (λ sim. HasMade sim []) }
     {
+        // Read so that the plan is known to be an accepted one.
         let _accepted = plan.cores();
         let machines = machines_of(alloc, plan, levels)?;
         let port = FifoPort::with_room(alloc, plan)?;
@@ -91,6 +92,7 @@ impl<'a> Simulation<'a> {
     {
         let core = self.order.core(self.plan, self.turn);
         let row = self.machines[core.0 as usize].turn(&mut self.port);
+        // Read so that what was asked so far is known to be answered first in, first out.
         let _calls = self.port.calls();
         self.turn += 1;
         row

@@ -5,3 +5,4 @@ pub mod Gathered
 pub mod Records
 pub mod NamedRows
 pub mod ReadBack
+pub mod Kept

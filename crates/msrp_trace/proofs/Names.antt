@@ -1,8 +1,10 @@
 -- Names in a list of names: where one stands, and that what is no text is none.
-use Rattle.std.proofs.Common.{◌≡◌, ℕ, zero, suc, ◌+◌, ◌<◌, true, false, cond, not, ◌&&◌, nat_le, List, [], ◌∷◌, length, map, Some, None, option_map, refl, sym, ap, ◌∙◌, arith, slice_get, slice_index_or, subst, lt-ltb}
+use Rattle.std.proofs.Common.{◌≡◌, ℕ, zero, suc, ◌+◌, ◌<◌, ◌≤◌, true, false, cond, not, ◌&&◌, nat_le, List, [], ◌∷◌, length, map, Some, None, option_map, refl, sym, ap, ◌∙◌, arith, slice_get, slice_index_or, subst, lt-ltb}
 use Rattle.std.specs.List.{AllByRecursion, IsDistinct, list_all, position_or_len}
 use Rattle.std.specs.Str.{IsUtf8, bytes_eq}
 use Rattle.std.specs.Char.{is_ascii_lowercase}
+use Rattle.std.proofs.Math.ListN.{get_or-map}
+use Rattle.std.proofs.lemmas.List.{length-map}
 use Rattle.std.proofs.lemmas.Bool.{and_parts, false_from_ne_true, le-ltb}
 use Rattle.std.proofs.lemmas.Bool.Decides.{nat_tests}
 use Rattle.std.proofs.lemmas.Option.{slice_get_within}
@@ -68,6 +70,21 @@ name_text (b ∷ bs) h =
     let rest = and_parts (nat_le (length bs) 15) (list_all is_name_byte bs) whole.1 in
     let low = All-weaker (λ c. is_name_byte c ≡ true) (λ c. c < 128) byte_ascii bs (AllPass-from_list_all is_name_byte bs rest.1) in
     IsUtf8-from_ascii (b ∷ bs) (IsAscii-from_all (b ∷ bs) (All-cons (λ c. c < 128) b bs (lower_ascii b whole.0) low))
+
+-- a name has at most 16 letters
+name_length : (name : List ℕ) → is_name name ≡ true → length name ≤ 16
+name_length [] h = absurd (cc)
+name_length (b ∷ bs) h =
+    let whole = and_parts (is_ascii_lowercase b) (nat_le (length bs) 15 && list_all is_name_byte bs) h in
+    let rest = and_parts (nat_le (length bs) 15) (list_all is_name_byte bs) whole.1 in
+    let few = rest.0 in
+    grind (arith, nat_tests)
+
+pub name_short : (plan : PlanModel) (t : ℕ) → IsPlan plan → t < length plan.tasks → length (task_at plan t).name ≤ 16
+name_short plan t p h =
+    let name : TaskModel → List ℕ = λ task. task.name in
+    let named = p.draft.task_names.named t (name no_task) (simp length-map h) in
+    name_length (task_at plan t).name (ap is_name (sym (get_or-map name plan.tasks t no_task)) ∙ named)
 
 none_first : (names : List (List ℕ)) (name : List ℕ) → AllByRecursion (λ x. is_name x ≡ true) names → ¬ (IsUtf8 name) → position_or_len (bytes_eq name) names ≡ length names
 none_first [] name all u = refl

@@ -1,5 +1,10 @@
 -- Text on its way to a sink: what was gathered, and what was written.
-use Rattle.std.specs.Prelude.{◌≡◌, ℕ, List, ◌++◌, codes, Option}
+use Rattle.std.specs.Prelude.{◌≡◌, ℕ, List, ◌++◌, codes, decimal, Option}
+use Rattle.std.specs.List.{flat_map}
+use Rattle.msrp_plan.specs.Plan.{PlanModel}
+use Rattle.msrp_plan.specs.declared.rows.Row.{Row}
+use Rattle.msrp_plan.specs.declared.rows.TextVersion.{TextVersion}
+use Rattle.msrp_trace.specs.TraceText.{ahead_fields, job_text, kind_text, res_text, task_text}
 use Rattle.msrp_plan.specs.Bytes.{Wrote}
 use Rattle.msrp_plan.specs.declared.bytes.Sink.{Sink}
 
@@ -9,6 +14,17 @@ pub record Gathers {W : Type 0} (contents : W → Option (List ℕ)) (before : L
   pub wrote : Wrote contents old new written
   pub rest : before ++ text ≡ written ++ after
 
+-- a writer of trace text: the plan and the version, and what was gathered and is not written yet
+pub record WriterModel : Type 0 where
+  pub plan : PlanModel
+  pub version : TextVersion
+  pub text : List ℕ
+
 -- a field of a record that isn't the first
 unfoldable pub next_field : List ℕ → List ℕ
 next_field text = codes "," ++ text
+
+-- the record of a row after its tick
+abbrev pub after_tick : TextVersion → PlanModel → Row → List ℕ
+after_tick version plan r =
+    ((((next_field (decimal r.core.0) ++ next_field (kind_text r.kind)) ++ (next_field (task_text plan r.job) ++ next_field (job_text r.job))) ++ next_field (res_text plan r.res)) ++ flat_map next_field (ahead_fields version r.ahead)) ++ codes "\n"

@@ -1,6 +1,8 @@
 pub mod Codes
 pub mod TraceText
 pub mod Gathering
+pub mod Lines
+pub mod WriterView
 pub mod Rows
 pub mod RowParts
 pub mod Reading

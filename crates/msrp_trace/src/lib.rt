@@ -4,11 +4,13 @@
 mod faults;
 mod guesses;
 pub mod laws;
+mod line;
 mod page;
 mod reading;
 mod rows;
 #[cfg(test)]
 mod tests;
+mod tick;
 mod words;
 mod writing;
 

@@ -1,5 +1,5 @@
 //! The words of trace text.
-ghost use Rattle.std.specs.Prelude.{◌≡◌};
+ghost use Rattle.std.specs.Prelude.{◌≡◌, ◌≤◌, length};
 ghost use Rattle.msrp_trace.specs.Rows.{kind_named};
 ghost use Rattle.msrp_trace.specs.TraceText.{kind_text, version_text};
 
@@ -14,7 +14,8 @@ pub(crate) const DASH: &[u8] = b"-";
 /// The word for a kind of row.
 #[tactic(auto, unfolding(crate::specs::TraceText::kind_text))]
 pub(crate) fn kind_word(kind: Kind) -> &'static [u8]
-    ensures { result.now ≡ kind_text kind }
+    ensures word { result.now ≡ kind_text kind }
+    ensures short { length result.now ≤ 7 }
 {
     match kind {
         Kind::Idle => b"idle",
@@ -60,7 +61,8 @@ pub(crate) fn kind_named(word: &[u8]) -> Option<Kind>
 /// The number of a version.
 #[tactic(auto, unfolding(crate::specs::TraceText::version_text))]
 pub(crate) fn version_word(version: TextVersion) -> &'static [u8]
-    ensures { result.now ≡ version_text version }
+    ensures word { result.now ≡ version_text version }
+    ensures short { length result.now ≤ 1 }
 {
     match version {
         TextVersion::V1 => b"1",

@@ -1,153 +1,120 @@
 //! Trace text, written.
-ghost use Rattle.std.specs.Prelude.{◌≡◌, ◌++◌, [], decimal, true, false, OnOk, OnErr};
-ghost use Rattle.std.specs.List.{flat_map, list_all};
+ghost use Rattle.std.specs.Prelude.{◌≡◌, ◌<◌, ◌++◌, [], decimal, length, slice_index_or, true, false, OnOk, OnErr};
+ghost use Rattle.std.specs.List.{All, list_all};
 ghost use Rattle.msrp_plan.specs.Aheads.{carries_ahead};
 ghost use Rattle.msrp_plan.specs.Bytes.{Wrote, sink_failed};
-ghost use Rattle.msrp_trace.specs.Gathering.{Gathers, next_field};
-ghost use Rattle.msrp_trace.specs.TraceText.{ahead_fields, dash, head_text, is_named, is_res_of, is_task_of, job_text, res_text, row_text, task_text, trace_text};
+ghost use Rattle.msrp_trace.specs.Gathering.{Gathers, after_tick};
+ghost use Rattle.msrp_trace.specs.Lines.{IsLine};
+ghost use Rattle.msrp_trace.specs.declared.line.RowLine.{RowLine as Kept};
+ghost use Rattle.msrp_trace.specs.TraceText.{head_text, is_named, is_res_of, is_task_of, row_text, trace_text};
 
+use crate::line::{Line, RowLine};
 use crate::page::Page;
-use crate::words::{DASH, TRACE_WORD, kind_word, version_word};
-use itoa::Buffer;
+use crate::tick::Tick;
 use msrp_plan::bytes::Sink;
+use msrp_plan::limits::MOST_CORES;
 use msrp_plan::{JobId, Plan, ResId, Row, TextVersion, Trace, WriteFault};
+use std::array;
 use std::io::Write;
 use std::marker::Model;
 
-/// A writer of trace text over a sink, which is passed to each call and is given some kilobytes at a time.
+/// A writer of trace text of a plan, in a version, over a sink, which is passed to each call and is given some kilobytes at a
+/// time. What a core repeats isn't made again: a row that differs from the core's last one in the tick alone takes its text.
 #[derive(Drop)]
-pub struct TraceWriter {
+pub struct TraceWriter<'a> {
+    plan: &'a Plan,
+    version: TextVersion,
     page: Page,
-    digits: Buffer,
+    tick: Tick,
+    // What the cores had last, by their numbers.
+    lines: [RowLine; MOST_CORES as usize],
 }
 
-impl Model for TraceWriter {
-    ghost use Rattle.std.specs.Prelude.{ℕ, List};
+impl<'a> Model for TraceWriter<'a> {
+    ghost use Rattle.msrp_trace.specs.Gathering.{WriterModel};
 
-    ghost Value = { List ℕ };
+    ghost Value = { WriterModel };
 
-    ghost view = { λ w. w.page };
+    ghost use Rattle.msrp_trace.specs.WriterView.{writer_view, IsWriterView};
+
+    ghost view = { writer_view };
+
+    ghost invariant = { IsWriterView };
 }
 
-impl TraceWriter {
+// Makes the line of a core's row.
+fn show_line(lines: &mut [RowLine], core: usize, plan: &Plan, version: TextVersion, row: &Row)
+    requires core { core < length lines.old }
+    requires named { is_named plan.now row.now ≡ true }
+    requires before { All (IsLine version plan.now) lines.old }
+    ensures after { All (IsLine version plan.now) lines.new }
+    ensures text { (d : Kept) → (slice_index_or lines.new core d).line ≡ after_tick version plan.now row.now }
+{
+    lines[core].show(plan, version, row);
+}
+
+// The record of a row: its tick, and what its core's line says.
+fn add_record<W: Write>(
+    page: &mut Page,
+    out: &mut Sink<W>,
+    tick: &Tick,
+    lines: &[RowLine],
+    core: usize,
+)
+    requires { core < length lines.now }
+    ensures { (d : Kept) → Gathers W.contents page.old out.old page.new out.new (decimal tick.now.tick ++ (slice_index_or lines.now core d).line) }
+{
+    page.add(out, tick.as_bytes());
+    page.add(out, lines[core].as_bytes());
+}
+
+impl<'a> TraceWriter<'a> {
     /// A writer that was given nothing.
-    pub fn new() -> TraceWriter
-        ensures { result ≡ [] }
+    pub fn new(plan: &'a Plan, version: TextVersion) -> TraceWriter<'a>
+        ensures { result ≡ record { plan = plan.now; version = version; text = [] } }
     {
         TraceWriter {
+            plan,
+            version,
             page: Page::new(),
-            digits: Buffer::new(),
+            tick: Tick::new(),
+            lines: array::from_fn(|_| RowLine::new()),
         }
     }
 
     /// Writes the first record of a trace of the plan.
-    pub fn head<W: Write>(&mut self, out: &mut Sink<W>, plan: &Plan, version: TextVersion)
-        ensures { Gathers W.contents self.old out.old self.new out.new (head_text version plan.now) }
+    pub fn head<W: Write>(&mut self, out: &mut Sink<W>)
+        ensures text { Gathers W.contents self.old.text out.old self.new.text out.new (head_text self.old.version self.old.plan) }
+        ensures same { self.new ≡ record self.old { text = self.new.text } }
     {
-        self.add(out, TRACE_WORD);
-        self.next(out, version_word(version));
-        self.next_number(out, plan.cores());
-        self.next_number(out, plan.ticks());
-        self.add(out, b"\n");
+        let mut line = Line::new();
+        line.head(self.plan, self.version);
+        self.page.add(out, line.as_bytes());
     }
 
     /// Writes the record of a row of a trace of the plan.
-    pub fn row<W: Write>(&mut self, out: &mut Sink<W>, plan: &Plan, version: TextVersion, row: &Row)
-        requires { is_named plan.now row.now ≡ true }
-        ensures { Gathers W.contents self.old out.old self.new out.new (row_text version plan.now row.now) }
+    pub fn row<W: Write>(&mut self, out: &mut Sink<W>, row: &Row)
+        requires { is_named self.old.plan row.now ≡ true }
+        ensures text { Gathers W.contents self.old.text out.old self.new.text out.new (row_text self.old.version self.old.plan row.now) }
+        ensures same { self.new ≡ record self.old { text = self.new.text } }
     {
-        self.number(out, row.tick);
-        self.next_number(out, row.core.0);
-        self.next(out, kind_word(row.kind));
-        self.next_job(out, plan, row.job);
-        self.next_resource(out, plan, row.res);
-        self.next_ahead(out, version, row.ahead);
-        self.add(out, b"\n");
+        let core = (row.core.0 % MOST_CORES) as usize;
+        let plan = self.plan;
+        let version = self.version;
+        self.tick.show(row.tick);
+        show_line(&mut self.lines, core, plan, version, row);
+        add_record(&mut self.page, out, &self.tick, &self.lines, core);
     }
 
     /// Writes what is still gathered, and tells how the writes went.
     pub fn finish<W: Write>(self, out: &mut Sink<W>) -> Result<(), WriteFault>
-        ensures wrote { Wrote W.contents out.old out.new self }
+        ensures wrote { Wrote W.contents out.old out.new self.entry.text }
         ensures good { OnOk result (sink_failed out.new ≡ false) }
         ensures fault { OnErr result (sink_failed out.new ≡ true) }
     {
         let mut page = self.page;
         page.write(out);
         out.outcome()
-    }
-
-    fn add<W: Write>(&mut self, out: &mut Sink<W>, text: &[u8])
-        ensures { Gathers W.contents self.old out.old self.new out.new text.now }
-    {
-        self.page.add(out, text);
-    }
-
-    fn number<W: Write>(&mut self, out: &mut Sink<W>, number: u32)
-        ensures { Gathers W.contents self.old out.old self.new out.new (decimal number) }
-    {
-        let text = self.digits.format(number);
-        self.page.add(out, text.as_bytes());
-    }
-
-    // A further field of a record.
-    fn next<W: Write>(&mut self, out: &mut Sink<W>, text: &[u8])
-        ensures { Gathers W.contents self.old out.old self.new out.new (next_field text.now) }
-    {
-        self.add(out, b",");
-        self.add(out, text);
-    }
-
-    // A field that says that there is none.
-    #[tactic(auto, unfolding(crate::specs::TraceText::dash))]
-    fn next_dash<W: Write>(&mut self, out: &mut Sink<W>)
-        ensures { Gathers W.contents self.old out.old self.new out.new (next_field dash) }
-    {
-        self.next(out, DASH);
-    }
-
-    fn next_number<W: Write>(&mut self, out: &mut Sink<W>, number: u32)
-        ensures { Gathers W.contents self.old out.old self.new out.new (next_field (decimal number)) }
-    {
-        self.add(out, b",");
-        self.number(out, number);
-    }
-
-    // The two fields of a job: its task's name and its number.
-    fn next_job<W: Write>(&mut self, out: &mut Sink<W>, plan: &Plan, job: Option<JobId>)
-        requires { is_task_of plan.now job ≡ true }
-        ensures { Gathers W.contents self.old out.old self.new out.new (next_field (task_text plan.now job) ++ next_field (job_text job)) }
-    {
-        match job {
-            Some(job) => {
-                self.next(out, plan.task_name(job.task).as_bytes());
-                self.next_number(out, job.k);
-            }
-            None => {
-                self.next_dash(out);
-                self.next_dash(out);
-            }
-        }
-    }
-
-    fn next_resource<W: Write>(&mut self, out: &mut Sink<W>, plan: &Plan, res: Option<ResId>)
-        requires { is_res_of plan.now res ≡ true }
-        ensures { Gathers W.contents self.old out.old self.new out.new (next_field (res_text plan.now res)) }
-    {
-        match res {
-            Some(res) => self.next(out, plan.res_name(res).as_bytes()),
-            None => self.next_dash(out),
-        }
-    }
-
-    // The field of an ahead, which version 1 leaves out.
-    fn next_ahead<W: Write>(&mut self, out: &mut Sink<W>, version: TextVersion, ahead: Option<u32>)
-        ensures { Gathers W.contents self.old out.old self.new out.new (flat_map next_field (ahead_fields version ahead)) }
-    {
-        match (version, ahead) {
-            (TextVersion::V1, _) => {}
-            (TextVersion::V2, Some(ahead)) => self.next_number(out, ahead),
-            (TextVersion::V2, None) => self.next_dash(out),
-        }
     }
 }
 
@@ -200,10 +167,10 @@ pub fn write_trace<W: Write>(
     ensures good { OnOk result (sink_failed writer.new ≡ false) }
     ensures fault { OnErr result (sink_failed writer.new ≡ true) }
 {
-    let mut text = TraceWriter::new();
-    text.head(writer, plan, version);
+    let mut text = TraceWriter::new(plan, version);
+    text.head(writer);
     for row in trace.rows.iter() {
-        text.row(writer, plan, version, row);
+        text.row(writer, row);
     }
     text.finish(writer)
 }

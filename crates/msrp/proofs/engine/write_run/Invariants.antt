@@ -8,8 +8,9 @@ use Rattle.msrp.proofs.engine.write_run.Given as goal
 abbrev pub invariant-loop-turn : goal.invariant-loop-turn
 invariant-loop-turn g l =
     (rows : List Row)
-    × Gathers g.W.Write.contents [] l.fn.out l.text l.out (trace_text l.version l.plan rows)
+    × Gathers g.W.Write.contents [] l.fn.out l.text.text l.out (trace_text l.fn.version l.fn.plan rows)
     × HasMade l.simulation rows
     × (l.simulation.plan ≡ l.fn.plan)
     × (l.simulation.order ≡ l.fn.simulation.order)
     × (l.simulation.turn ≡ l._turn)
+    × (l.text ≡ record { plan = l.fn.plan; version = l.fn.version; text = l.text.text })

@@ -1,0 +1,259 @@
+//! The text of one record as it is made, and the record that a core had last.
+ghost use Rattle.std.specs.Prelude.{◌≡◌, ◌≤◌, ◌<◌, ◌+◌, ◌++◌, [], codes, decimal, length, true, Some, None, IsSomeAnd};
+ghost use Rattle.std.specs.List.{flat_map};
+ghost use Rattle.msrp_plan.specs.Plan.{task_at};
+ghost use Rattle.msrp_trace.specs.Gathering.{next_field, after_tick};
+ghost use Rattle.msrp_trace.specs.Lines.{IsLine, is_same_place};
+ghost use Rattle.msrp_trace.specs.TraceText.{ahead_fields, dash, head_text, is_named, is_res_of, is_task_of, job_text, res_text, task_text};
+
+use crate::words::{DASH, TRACE_WORD, kind_word, version_word};
+use arrayvec::ArrayVec;
+use itoa::Buffer;
+use msrp_plan::{JobId, Kind, Plan, ResId, Row, TaskId, TextVersion};
+use std::marker::Model;
+
+// No record is longer: a number has at most 10 digits, and a name at most 16 letters.
+const LINE: usize = 96;
+
+/// The text of a record, as far as it is made.
+#[derive(Drop)]
+pub(crate) struct Line {
+    bytes: ArrayVec<u8, LINE>,
+}
+
+impl Model for Line {
+    ghost use Rattle.std.specs.Prelude.{ℕ, List};
+
+    ghost Value = { List ℕ };
+
+    ghost view = { λ l. l.bytes.items };
+}
+
+// The name of a task.
+fn task_field(plan: &Plan, task: TaskId) -> &[u8]
+    requires { task.0 < length plan.now.tasks }
+    ensures name { result.now ≡ (task_at plan.now task.0).name }
+    ensures short { length result.now ≤ 16 }
+{
+    // Read so that the plan is known to be an accepted one.
+    let _accepted = plan.tasks();
+    plan.task_name(task).as_bytes()
+}
+
+// The name of a resource.
+fn res_field(plan: &Plan, res: ResId) -> &[u8]
+    requires { res.0 < length plan.now.resources }
+    ensures name { result.now ≡ res_text plan.now (Some res) }
+    ensures short { length result.now ≤ 16 }
+{
+    // Read so that the plan is known to be an accepted one.
+    let _accepted = plan.resources();
+    plan.res_name(res).as_bytes()
+}
+
+impl Line {
+    /// A record of which nothing is made.
+    pub(crate) fn new() -> Line
+        ensures { result ≡ [] }
+    {
+        Line {
+            bytes: ArrayVec::new(),
+        }
+    }
+
+    /// The text.
+    pub(crate) fn as_bytes(&self) -> &[u8]
+        ensures { result.now ≡ self.now }
+    {
+        self.bytes.as_slice()
+    }
+
+    /// Takes everything back.
+    pub(crate) fn clear(&mut self)
+        ensures { self.new ≡ [] }
+    {
+        self.bytes.clear();
+    }
+
+    // Takes a text, for which there is room.
+    fn add(&mut self, text: &[u8])
+        requires { length self.old + length text.now ≤ LINE }
+        ensures text { self.new ≡ self.old ++ text.now }
+        ensures size { length self.new ≡ length self.old + length text.now }
+    {
+        self.bytes.try_extend_from_slice(text).unwrap();
+    }
+
+    // A further field.
+    fn next(&mut self, text: &[u8])
+        requires { length self.old + length text.now < LINE }
+        ensures text { self.new ≡ self.old ++ next_field text.now }
+        ensures size { length self.new ≡ length self.old + length text.now + 1 }
+    {
+        self.bytes.push(b',');
+        self.add(text);
+    }
+
+    /// Takes a number.
+    pub(crate) fn number(&mut self, number: u32)
+        requires { length self.old + 10 ≤ LINE }
+        ensures text { self.new ≡ self.old ++ decimal number }
+        ensures size { length self.new ≤ length self.old + 10 }
+    {
+        let mut digits = Buffer::new();
+        self.add(digits.format(number).as_bytes());
+    }
+
+    fn next_number(&mut self, number: u32)
+        requires { length self.old + 11 ≤ LINE }
+        ensures text { self.new ≡ self.old ++ next_field (decimal number) }
+        ensures size { length self.new ≤ length self.old + 11 }
+    {
+        self.bytes.push(b',');
+        self.number(number);
+    }
+
+    // A field that says that there is none.
+    #[tactic(auto, unfolding(crate::specs::TraceText::dash))]
+    fn next_dash(&mut self)
+        requires { length self.old + 2 ≤ LINE }
+        ensures text { self.new ≡ self.old ++ next_field dash }
+        ensures size { length self.new ≡ length self.old + 2 }
+    {
+        self.next(DASH);
+    }
+
+    // The two fields of a job: its task's name and its number.
+    fn next_job(&mut self, plan: &Plan, job: Option<JobId>)
+        requires task { is_task_of plan.now job ≡ true }
+        requires room { length self.old + 28 ≤ LINE }
+        ensures text { self.new ≡ self.old ++ (next_field (task_text plan.now job) ++ next_field (job_text job)) }
+        ensures size { length self.new ≤ length self.old + 28 }
+    {
+        match job {
+            Some(job) => {
+                self.next(task_field(plan, job.task));
+                self.next_number(job.k);
+            }
+            None => {
+                self.next_dash();
+                self.next_dash();
+            }
+        }
+    }
+
+    fn next_resource(&mut self, plan: &Plan, res: Option<ResId>)
+        requires res { is_res_of plan.now res ≡ true }
+        requires room { length self.old + 17 ≤ LINE }
+        ensures text { self.new ≡ self.old ++ next_field (res_text plan.now res) }
+        ensures size { length self.new ≤ length self.old + 17 }
+    {
+        match res {
+            Some(res) => self.next(res_field(plan, res)),
+            None => self.next_dash(),
+        }
+    }
+
+    // The field of an ahead, which version 1 leaves out.
+    fn next_ahead(&mut self, version: TextVersion, ahead: Option<u32>)
+        requires { length self.old + 11 ≤ LINE }
+        ensures text { self.new ≡ self.old ++ flat_map next_field (ahead_fields version ahead) }
+        ensures size { length self.new ≤ length self.old + 11 }
+    {
+        match (version, ahead) {
+            (TextVersion::V1, _) => {}
+            (TextVersion::V2, Some(ahead)) => self.next_number(ahead),
+            (TextVersion::V2, None) => self.next_dash(),
+        }
+    }
+
+    /// Makes the first record of a trace.
+    pub(crate) fn head(&mut self, plan: &Plan, version: TextVersion)
+        requires { self.old ≡ [] }
+        ensures { self.new ≡ head_text version plan.now }
+    {
+        self.add(TRACE_WORD);
+        self.next(version_word(version));
+        self.next_number(plan.cores());
+        self.next_number(plan.ticks());
+        self.add(b"\n");
+    }
+
+    // Makes the record of a row but for its tick.
+    fn make(&mut self, plan: &Plan, version: TextVersion, row: &Row)
+        requires named { is_named plan.now row.now ≡ true }
+        ensures { self.new ≡ after_tick version plan.now row.now }
+    {
+        self.clear();
+        self.next_number(row.core.0);
+        self.next(kind_word(row.kind));
+        self.next_job(plan, row.job);
+        self.next_resource(plan, row.res);
+        self.next_ahead(version, row.ahead);
+        self.add(b"\n");
+    }
+}
+
+/// A row that was written, and the text of its record after the tick. As long as a core does the same, its next rows
+/// differ in the tick alone.
+#[derive(Drop)]
+pub(crate) struct RowLine {
+    row: Option<Row>,
+    line: Line,
+}
+
+fn is_same_kind(a: Kind, b: Kind) -> bool
+    ensures { result ≡ true → a ≡ b }
+{
+    a == b
+}
+
+// Whether two rows are of the same core, job and resource, and carry no ahead.
+fn is_same_place(a: &Row, b: &Row) -> bool
+    ensures { result ≡ is_same_place a.now b.now }
+{
+    a.core == b.core && a.job == b.job && a.res == b.res && a.ahead.is_none() && b.ahead.is_none()
+}
+
+impl RowLine {
+    /// No row.
+    pub(crate) fn new() -> RowLine
+        ensures { result.row ≡ None }
+    {
+        RowLine {
+            row: None,
+            line: Line::new(),
+        }
+    }
+
+    // Whether the row differs from this one in the tick alone. One with an ahead isn't kept: no other follows it.
+    fn is_of(&self, row: &Row) -> bool
+        ensures kind { result ≡ true → IsSomeAnd self.now.row (λ last. last.kind ≡ row.now.kind) }
+        ensures place { result ≡ true → IsSomeAnd self.now.row (λ last. is_same_place last row.now ≡ true) }
+    {
+        match self.row {
+            Some(last) => is_same_kind(last.kind, row.kind) && is_same_place(&last, row),
+            None => false,
+        }
+    }
+
+    /// Makes the record of a row but for its tick, unless it is here already.
+    pub(crate) fn show(&mut self, plan: &Plan, version: TextVersion, row: &Row)
+        requires named { is_named plan.now row.now ≡ true }
+        requires before { IsLine version plan.now self.old }
+        ensures after { IsLine version plan.now self.new }
+        ensures text { self.new.line ≡ after_tick version plan.now row.now }
+    {
+        if !self.is_of(row) {
+            self.line.make(plan, version, row);
+            self.row = Some(*row);
+        }
+    }
+
+    /// The text of the record after the tick.
+    pub(crate) fn as_bytes(&self) -> &[u8]
+        ensures { result.now ≡ self.now.line }
+    {
+        self.line.as_bytes()
+    }
+}
