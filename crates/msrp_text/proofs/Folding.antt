@@ -8,8 +8,9 @@ use Rattle.std.proofs.lemmas.Option.{slice_get_past}
 use Rattle.msrp_plan.specs.Building.{empty_plan}
 use Rattle.msrp_plan.specs.Plan.{PlanModel}
 use Rattle.msrp_plan.specs.declared.faults.PlanFault.{PlanFault}
+use Rattle.msrp_plan.specs.declared.faults.PlanFault.TheVariants as want
 use Rattle.msrp_text.specs.Reading.{Answers, fault_after, first_or, number_told, plan_of, plan_told, refusal_at, version_told, with_record}
-use Rattle.msrp_text.specs.Stages.{numbered, stage_fault, stage_plan, stage_with}
+use Rattle.msrp_text.specs.Stages.{IsTaken, IsTakenAt, numbered, refusal, stage_fault, stage_plan, stage_with}
 use Rattle.msrp_text.specs.declared.stages.Stage.{Stage}
 use Rattle.msrp_text.specs.declared.stages.Stage.TheVariants.{Version, Cores, Ticks, Body}
 use Rattle.msrp_text.specs.declared.reading.TextError.{TextError}
@@ -112,6 +113,29 @@ plan-law before (row ∷ rest) = next-law before row rest _ refl (plan-law (befo
 pub plan-begins : (records : List (List (List ℕ))) → plan_of records ≡ plan_from Version 1 records
 unfolding plan_of first_from stage_of
 plan-begins records = plan-law [] records
+
+-- what is told of a record is what is due, but for want of memory
+refusal-is : (fault : PlanFault) (number : ℕ) → (refusal fault number ≡ Memory) ⊎ (refusal fault number ≡ At fault number)
+refusal-is want.Memory number = inl refl
+refusal-is _ number = inr refl
+
+pub taken-due : {A : Type 0} (o : Option PlanFault) (number : ℕ) (next : A) (r : Result A TextError) → IsTakenAt o number next r → (r ≡ Err Memory) ⊎ (r ≡ numbered o number next)
+taken-due None number next r h = h
+taken-due (Some fault) number next r h = elim (refusal-is fault number) [
+  | inl e ↦ inl (h ∙ ap (λ x. Err x) e)
+  | inr e ↦ inr (h ∙ ap (λ x. Err x) e)
+]
+
+-- a stage that is taken, and one that is refused
+pub taken-ok : {A : Type 0} (o : Option PlanFault) (number : ℕ) (next x : A) → IsTaken o next (Ok x) → IsTakenAt o number next (Ok x)
+taken-ok None number next x (inl h) = absurd (cc)
+taken-ok None number next x (inr h) = inr (ap (λ n. Ok n) (let e : x ≡ next = cc in e))
+taken-ok (Some fault) number next x h = absurd (cc)
+
+pub taken-refused : {A : Type 0} (o : Option PlanFault) (number : ℕ) (next : A) (fault : PlanFault) → IsTaken o next (Err fault) → IsTakenAt o number next (Err (refusal fault number))
+taken-refused None number next fault (inl h) = let e : fault ≡ want.Memory = cc in inl (ap (λ f. Err (refusal f number)) e)
+taken-refused None number next fault (inr h) = absurd (cc)
+taken-refused (Some due) number next fault h = let e : fault ≡ due = cc in ap (λ f. Err (refusal f number)) e
 
 -- an answer that is no want of memory is the one that is due
 pub due-ok : {A : Type 0} (r due : Result A TextError) (x : A) → (r ≡ Err Memory) ⊎ (r ≡ due) → r ≡ Ok x → due ≡ Ok x

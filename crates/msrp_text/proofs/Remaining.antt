@@ -2,7 +2,10 @@
 use Rattle.std.proofs.Common.{◌≡◌, ◌⊎◌, ℕ, ◌+◌, ◌<◌, ◌≤◌, Bool, true, false, List, [], ◌∷◌, ◌++◌, length, Option, Some, None, refl, sym, ◌∙◌, ap, inl, inr, arith, if◌then◌else◌, suc, zero}
 use Rattle.std.specs.Prelude.{IsSome, option_map, ◌||◌, ◌&&◌, not, is_none}
 use Rattle.csv.specs.Machine.{Read, next_record, step, is_end, fields_after, field_after, ends_at_end}
-use Rattle.csv.specs.Reading.{NextIs, ReadRecord, ReadsNext, Ready, default_config, pending_of, reader_config, reader_state, reader_trim, records_from, records_next, source_of, strip_bom}
+use mathlib.Core.Bool.{true≢false}
+use Rattle.csv.specs.Reading.{ExplainsRead, NextIs, ReadRecord, ReadsNext, Ready, default_config, is_flexible, pending_of, reader_config, reader_state, reader_trim, records_from, records_next, source_of, stops_reader, strip_bom}
+use Rattle.csv.specs.declared.error.ErrorKind.{ErrorKind}
+use Rattle.csv.specs.declared.error.ErrorKind.TheVariants as kind
 use Rattle.csv.specs.declared.parser.Config.{Config}
 use Rattle.csv.specs.declared.parser.State.{State}
 use Rattle.csv.specs.declared.parser.State.TheVariants as st
@@ -95,6 +98,18 @@ ready-of true named headers e = inl refl
 ready-of false false None e = inr (inr (refl, refl))
 ready-of false false (Some h) e = cc
 ready-of false true headers e = cc
+
+-- a reader of records of any length fails for the reader underneath or for memory
+pub stops-only : {R : Type 0} (known : R → Option (List ℕ)) (old new : Reader R) (why : ErrorKind) → is_flexible old ≡ true → is_ready old ≡ true → (Ready old → ExplainsRead known old new false why) → stops_reader why ≡ true
+stops-only known old new why flexible ready explains = by why (explains (ready-of old.first old.has_headers old.headers ready))
+  where
+    by : (why : ErrorKind) → ExplainsRead known old new false why → stops_reader why ≡ true
+    by (kind.Io e) h = refl
+    by kind.OutOfMemory h = refl
+    by (kind.UnequalLengths pos expected len) h = absurd (true≢false (sym flexible ∙ h.0))
+    by (kind.Utf8 pos err) h = absurd (true≢false (sym h.0))
+    by (kind.Serialize text) h = absurd h
+    by (kind.Deserialize pos err) h = absurd h
 
 -- what a read of a record shows of the records that were left
 pub read-gives : {R : Type 0} (known : R → Option (List ℕ)) (old new : Reader R) (found : Bool) (row : List (List ℕ)) (left : List (List (List ℕ)))

@@ -3,6 +3,7 @@ use Rattle.std.specs.Prelude.{◌≡◌, ◌+◌, ℕ, Bool, true, false, List, 
 use Rattle.csv.specs.Reading.{default_config, records, reader_source, records_from, source_of, strip_bom, reader_state}
 use Rattle.csv.specs.declared.parser.State.{State}
 use Rattle.msrp_text.specs.declared.records.RecordReader.{RecordReader}
+use Rattle.msrp_text.specs.declared.records.Stopped.{Stopped}
 
 -- the records of a text: a byte order mark at its start is no part of it
 abbrev pub csv_records : List ℕ → List (List (List ℕ))
@@ -12,9 +13,9 @@ csv_records bytes = records default_config (strip_bom bytes)
 abbrev pub reader_under : {R : Type 0} → RecordReader R → R
 reader_under r = reader_source r.rows
 
--- a read failed, as each further one does
-abbrev pub has_stopped : {R : Type 0} → RecordReader R → Bool
-has_stopped r = r.stopped
+-- why a read failed, if one did, as each further one does
+abbrev pub stop_of : {R : Type 0} → RecordReader R → Option Stopped
+stop_of r = r.stopped
 
 -- the records of what is left of a text, from where a reader stands in it
 unfoldable pub records_at : State → List ℕ → List (List (List ℕ))

@@ -1,10 +1,10 @@
 -- Where a reader of a plan stands between two records: what is to be read next, and the plan so far.
-use Rattle.std.specs.Prelude.{ℕ, List, Option, Some, None, Result, Ok, Err, codes, cond, is_none, ◌≡◌, ◌⊎◌, ◌&&◌}
+use Rattle.std.specs.Prelude.{ℕ, List, Option, Some, None, Result, Ok, Err, codes, cond, is_none, length, ◌≡◌, ◌⊎◌, ◌&&◌, ◌≤◌}
 use Rattle.msrp_plan.specs.Building.{empty_plan}
 use Rattle.msrp_plan.specs.Plan.{PlanModel}
 use Rattle.msrp_plan.specs.declared.faults.PlanFault.{PlanFault}
 use Rattle.msrp_plan.specs.declared.faults.PlanFault.TheVariants.{Memory}
-use Rattle.msrp_text.specs.Reading.{body_fault, cores_fault, lacks_number, number_told, step_told, ticks_fault, version_fault, version_told, with_record}
+use Rattle.msrp_text.specs.Reading.{Answers, body_fault, cores_fault, lacks_number, number_told, plan_of, step_told, ticks_fault, version_fault, version_told, with_record}
 use Rattle.msrp_text.specs.declared.stages.Stage.{Stage}
 use Rattle.msrp_text.specs.declared.stages.Stage.TheVariants.{Version, Cores, Ticks, Body}
 use Rattle.msrp_plan.specs.declared.units.Step.{Step}
@@ -12,6 +12,9 @@ use Rattle.msrp_text.specs.Fields.{has_word, number_at}
 use Rattle.msrp_text.specs.declared.stages.TaskNumbers.{TaskNumbers}
 use Rattle.msrp_text.specs.declared.reading.TextError.{TextError}
 use Rattle.msrp_text.specs.declared.reading.TextError.TheVariants.{At}
+use Rattle.msrp_text.specs.declared.reading.TextError.TheVariants as text
+use Rattle.msrp_text.specs.declared.reading.Unread.{Unread}
+use Rattle.msrp_text.specs.declared.reading.Unread.TheVariants.{Told, TooMany}
 
 -- the first rule that the next record, or the end, breaks at a stage
 unfoldable pub stage_fault : Stage → Option (List (List ℕ)) → Option PlanFault
@@ -52,3 +55,24 @@ task_numbers fields =
 -- what an `op` record tells, unless it is a run whose number is none
 abbrev pub numbered_step : PlanModel → List (List ℕ) → Option Step
 numbered_step plan fields = cond (has_word fields 1 (codes "run") && is_none (number_at fields 2)) None (Some (step_told plan fields))
+
+-- the refusal of a record by its number; want of memory refuses no record
+abbrev pub refusal : PlanFault → ℕ → TextError
+refusal Memory number = text.Memory
+refusal fault number = At fault number
+
+-- a record of that number is refused with its stage's fault if that has one, else its stage goes on as it should but for
+-- want of memory
+abbrev pub IsTakenAt : {A : Type 0} → Option PlanFault → ℕ → A → Result A TextError → Type 0
+IsTakenAt (Some fault) number next r = r ≡ Err (refusal fault number)
+IsTakenAt None number next r = (r ≡ Err text.Memory) ⊎ (r ≡ Ok next)
+
+-- the number of records that can be numbered
+abbrev pub most_records : ℕ
+most_records = 4294967294
+
+-- the records give their plan or what is told in its place, but where there are more than can be numbered
+abbrev pub ReadsAs : List (List (List ℕ)) → Result PlanModel Unread → Type 0
+ReadsAs records (Ok plan) = Answers (Ok plan) (plan_of records)
+ReadsAs records (Err (Told error)) = Answers (Err error) (plan_of records)
+ReadsAs records (Err TooMany) = most_records ≤ length records

@@ -1,9 +1,9 @@
 //! Plan text, read.
-ghost use Rattle.std.specs.Prelude.{◌≡◌, ◌⊎◌, ℕ, List, [], Some, None, Ok, Err, IfOk, true};
+ghost use Rattle.std.specs.Prelude.{◌≡◌, ◌↔◌, ℕ, List, Some, None, Err, true};
 ghost use Rattle.csv.specs.Records.{fields_of};
 ghost use Rattle.msrp_plan.specs.Bytes.{source_failed, source_remaining};
 ghost use Rattle.msrp_text.specs.Reading.{Answers, csv_records, plan_of};
-ghost use Rattle.msrp_text.specs.Stages.{numbered, stage_fault, stage_plan, stage_with};
+ghost use Rattle.msrp_text.specs.Stages.{IsTakenAt, ReadsAs, refusal, stage_fault, stage_plan, stage_with};
 
 use crate::records::{RecordReader, Stopped};
 use crate::stages::{Stage, plan_at_end, stage_after};
@@ -24,10 +24,31 @@ pub enum TextError {
     Memory,
 }
 
+// The most records that can be numbered, the end among them.
+const MOST_RECORDS: u32 = 4_294_967_294;
+
+// Why the records of a text gave no plan.
+#[derive(Clone, Copy)]
+enum Unread {
+    // A record is refused, a read failed, or memory was refused.
+    Told(TextError),
+    // More records than can be numbered. A source gives far fewer bytes than so many take.
+    TooMany,
+}
+
+impl From<TextError> for Unread {
+    ghost use Rattle.msrp_text.specs.declared.reading.Unread.{Unread};
+
+    ghost from_gives = { λ error unread. unread ≡ Unread.Told error };
+
+    fn from(error: TextError) -> Unread {
+        Unread::Told(error)
+    }
+}
+
 // The refusal of a record by its number. Want of memory is no refusal.
 fn refused(fault: PlanFault, number: u32) -> TextError
-    ensures memory { fault ≡ PlanFault.Memory → result ≡ TextError.Memory }
-    ensures other { (result ≡ TextError.Memory) ⊎ (result ≡ TextError.At fault number) }
+    ensures { result ≡ refusal fault number }
 {
     match fault {
         PlanFault::Memory => TextError::Memory,
@@ -37,7 +58,7 @@ fn refused(fault: PlanFault, number: u32) -> TextError
 
 // One more record, by its number.
 fn step(alloc: Global, stage: Stage, row: &ByteRecord, number: u32) -> Result<Stage, TextError>
-    ensures { (result ≡ Err TextError.Memory) ⊎ (result ≡ numbered (stage_fault stage (Some (fields_of row.now))) number (stage_with stage (fields_of row.now))) }
+    ensures { IsTakenAt (stage_fault stage (Some (fields_of row.now))) number (stage_with stage (fields_of row.now)) result }
 {
     match stage_after(alloc, stage, row) {
         Ok(next) => Ok(next),
@@ -47,7 +68,7 @@ fn step(alloc: Global, stage: Stage, row: &ByteRecord, number: u32) -> Result<St
 
 // The end of the records, which counts as one more.
 fn end(stage: Stage, number: u32) -> Result<Plan, TextError>
-    ensures { (result ≡ Err TextError.Memory) ⊎ (result ≡ numbered (stage_fault stage None) number (stage_plan stage)) }
+    ensures { IsTakenAt (stage_fault stage None) number (stage_plan stage) result }
 {
     match plan_at_end(stage) {
         Ok(plan) => Ok(plan),
@@ -55,22 +76,22 @@ fn end(stage: Stage, number: u32) -> Result<Plan, TextError>
     }
 }
 
-// The plan of a text. Whatever ends the reading early is told as a failed read.
-fn read_records<R: Read>(alloc: Global, source: &mut Source<R>) -> Result<Plan, TextError>
-    ensures { (bytes : List ℕ) → source_remaining R.remaining source.old ≡ Some bytes → Answers result (plan_of (csv_records bytes)) }
+// The plan of a text. Whatever a read fails of is told as it was.
+fn read_records<R: Read>(alloc: Global, source: &mut Source<R>) -> Result<Plan, Unread>
+    ensures { (bytes : List ℕ) → source_remaining R.remaining source.old ≡ Some bytes → ReadsAs (csv_records bytes) result }
 {
     let mut records = RecordReader::new(alloc, source);
     let mut row = ByteRecord::new(alloc);
     let mut stage = Stage::Version;
-    for number in 1..u32::MAX {
+    for number in 1..=MOST_RECORDS {
         match records.read(&mut row) {
             Ok(true) => stage = step(alloc, stage, &row, number)?,
-            Ok(false) => return end(stage, number),
-            Err(Stopped) => return Err(TextError::Read),
+            Ok(false) => return Ok(end(stage, number)?),
+            Err(Stopped::Read) => return Err(Unread::Told(TextError::Read)),
+            Err(Stopped::Memory) => return Err(Unread::Told(TextError::Memory)),
         }
     }
-    // A source gives far fewer bytes than so many records take.
-    Err(TextError::Memory)
+    Err(Unread::TooMany)
 }
 
 /// The plan of a text, or its first refusal.
@@ -82,12 +103,19 @@ fn read_records<R: Read>(alloc: Global, source: &mut Source<R>) -> Result<Plan, 
 ///
 /// A record is judged by itself first: whether it is known and in its place (P2), its number of fields (P3) and
 /// its numbers (P4), and then by the builder of plans. The records before a read that fails are judged first.
+///
+/// Once a read of the source has failed, the answer is [`TextError::Read`] and no other.
 pub fn read_plan<R: Read>(alloc: Global, source: &mut Source<R>) -> Result<Plan, TextError>
     ensures answer { (bytes : List ℕ) → source_remaining R.remaining source.old ≡ Some bytes → Answers result (plan_of (csv_records bytes)) }
-    ensures faults { result ≡ Err TextError.Read → source_failed source.new ≡ true }
+    ensures read { (result ≡ Err TextError.Read) ↔ (source_failed source.new ≡ true) }
 {
-    match read_records(alloc, source) {
-        Err(TextError::Read) if !source.failed() => Err(TextError::Memory),
-        answer => answer,
+    let answer = read_records(alloc, source);
+    if source.failed() {
+        return Err(TextError::Read);
+    }
+    match answer {
+        Ok(plan) => Ok(plan),
+        Err(Unread::Told(TextError::At { fault, number })) => Err(TextError::At { fault, number }),
+        Err(_) => Err(TextError::Memory),
     }
 }

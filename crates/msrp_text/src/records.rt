@@ -1,36 +1,54 @@
 //! The records of a text, read in turn.
-ghost use Rattle.std.specs.Prelude.{◌≡◌, ℕ, List, Some, IfOk, OnOk, OnErr, IsErr, option_map, true, false};
+ghost use Rattle.std.specs.Prelude.{◌≡◌, ◌↔◌, ℕ, List, Some, None, Err, IfOk, IfErr, OnOk, option_map, true, false};
 ghost use Rattle.csv.specs.Records.{fields_of};
 ghost use Rattle.csv.specs.declared.reader.Trim.TheVariants as trim;
-ghost use Rattle.csv.specs.Reading.{default_config, reader_config, reader_trim};
+ghost use Rattle.csv.specs.Reading.{default_config, is_flexible, is_io, reader_config, reader_trim, stops_reader};
 ghost use Rattle.msrp_text.specs.Settings.{is_ready};
 
-use csv::{ByteRecord, Reader, ReaderBuilder};
+use csv::{ByteRecord, ErrorKind, Reader, ReaderBuilder};
 use std::alloc::Global;
 use std::io::Read;
 
-/// A read failed, or memory was refused: no further record can be had.
+/// Why no further record can be had.
 #[derive(Clone, Copy, Debug, PartialEq, Eq)]
-pub struct Stopped;
+pub enum Stopped {
+    /// A read failed.
+    Read,
+    /// Memory was refused.
+    Memory,
+}
+
+// Why a read of a record failed, where no rule on records can have refused it.
+fn stopped_by(kind: &ErrorKind) -> Stopped
+    requires { stops_reader kind.now ≡ true }
+    ensures { (result ≡ Stopped.Read) ↔ (is_io kind.now ≡ true) }
+{
+    match kind {
+        ErrorKind::Io(_) => Stopped::Read,
+        ErrorKind::OutOfMemory => Stopped::Memory,
+        _ => unreachable!(),
+    }
+}
 
 /// The records of a text: fields between commas, no header row, records of any length, an empty line is no
 /// record.
 #[derive(Drop)]
 pub struct RecordReader<R> {
     rows: Reader<R>,
-    stopped: bool,
-    ghost trim: { stopped ≡ false → reader_trim rows ≡ trim.None },
-    ghost config: { stopped ≡ false → reader_config rows ≡ default_config },
-    ghost ready: { stopped ≡ false → is_ready rows ≡ true },
+    stopped: Option<Stopped>,
+    ghost trim: { stopped ≡ None → reader_trim rows ≡ trim.None },
+    ghost config: { stopped ≡ None → reader_config rows ≡ default_config },
+    ghost ready: { stopped ≡ None → is_ready rows ≡ true },
+    ghost flexible: { stopped ≡ None → is_flexible rows ≡ true },
 }
 
 impl<R: Read> RecordReader<R> {
-    ghost use Rattle.msrp_text.specs.Records.{GivesNext, csv_records, has_stopped, records_left, reader_under};
+    ghost use Rattle.msrp_text.specs.Records.{GivesNext, csv_records, reader_under, records_left, stop_of};
 
     /// The records of all that a reader has left.
     pub fn new(alloc: Global, text: R) -> RecordReader<R>
         ensures left { records_left R.remaining result ≡ option_map csv_records (R.remaining text) }
-        ensures goes { has_stopped result ≡ false }
+        ensures goes { stop_of result ≡ None }
     {
         let rows = ReaderBuilder::new()
             .has_headers(false)
@@ -38,7 +56,7 @@ impl<R: Read> RecordReader<R> {
             .from_reader(alloc, text);
         RecordReader {
             rows,
-            stopped: false,
+            stopped: None,
         }
     }
 
@@ -52,18 +70,19 @@ impl<R: Read> RecordReader<R> {
     /// The next record into `row`, and whether there was one.
     pub fn read(&mut self, row: &mut ByteRecord) -> Result<bool, Stopped>
         ensures next { IfOk result (λ found. (left : List (List (List ℕ))) → records_left R.remaining self.old ≡ Some left → GivesNext left found (fields_of row.new) (records_left R.remaining self.new)) }
-        ensures goes { OnOk result (has_stopped self.new ≡ false) }
-        ensures stops { OnErr result (has_stopped self.new ≡ true) }
-        ensures stopped { has_stopped self.old ≡ true → IsErr result }
+        ensures goes { OnOk result (stop_of self.new ≡ None) }
+        ensures stops { IfErr result (λ why. stop_of self.new ≡ Some why) }
+        ensures stopped { (why : Stopped) → stop_of self.old ≡ Some why → result ≡ Err why }
     {
-        if self.stopped {
-            return Err(Stopped);
+        if let Some(why) = self.stopped {
+            return Err(why);
         }
         match self.rows.read_byte_record(row) {
             Ok(found) => Ok(found),
-            Err(_) => {
-                self.stopped = true;
-                Err(Stopped)
+            Err(error) => {
+                let why = stopped_by(error.kind());
+                self.stopped = Some(why);
+                Err(why)
             }
         }
     }

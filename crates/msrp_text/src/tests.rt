@@ -471,8 +471,8 @@ fn a_reader_that_stopped_stays_stopped(rt: HostRuntime) {
     let mut row = ByteRecord::new(rt.alloc());
     assert!(rt; matches!(records.read(&mut row), Ok(true)));
     assert_eq!(rt; row.len(), 2);
-    assert!(rt; matches!(records.read(&mut row), Err(Stopped)));
-    assert!(rt; matches!(records.read(&mut row), Err(Stopped)));
+    assert!(rt; matches!(records.read(&mut row), Err(Stopped::Read)));
+    assert!(rt; matches!(records.read(&mut row), Err(Stopped::Read)));
 }
 
 #[test]

@@ -70,7 +70,8 @@ fn version_record(version: TextVersion) -> &'static [u8]
 
 // The first three records.
 fn write_head<W: Write>(out: &mut Sink<W>, plan: &Plan)
-    ensures { Wrote W.contents out.old out.new (records_text (head_records plan.now)) }
+    ensures plan { IsPlan plan.now }
+    ensures wrote { Wrote W.contents out.old out.new (records_text (head_records plan.now)) }
 {
     out.add(version_record(version_of(plan)));
     write_number(out, b"cores", u64::from(plan.cores()));
@@ -200,6 +201,7 @@ fn write_tasks<W: Write>(out: &mut Sink<W>, plan: &Plan)
 /// Writes a plan as text, in version 1 unless a task is released by a list. Read again it gives an equal plan. Adjacent
 /// units of work are one record. After a write fault what was written is a first part of the text.
 pub fn write_plan<W: Write>(out: &mut Sink<W>, plan: &Plan) -> Result<(), WriteFault>
+    ensures plan { IsPlan plan.now }
     ensures wrote { Wrote W.contents out.old out.new (plan_text plan.now) }
     ensures good { OnOk result (sink_failed out.new ≡ false) }
     ensures fault { OnErr result (sink_failed out.new ≡ true) }

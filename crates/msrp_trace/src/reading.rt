@@ -1,5 +1,5 @@
 //! Trace text, read.
-ghost use Rattle.std.specs.Prelude.{◌≡◌, ◌⊎◌, ℕ, List, Some, None, Ok, Err, IfOk, OnOk, OnErr, true, false};
+ghost use Rattle.std.specs.Prelude.{◌≡◌, ◌⊎◌, ◌↔◌, ℕ, List, Some, None, Ok, Err, IfOk, OnOk, OnErr, true, false};
 ghost use Rattle.msrp_plan.specs.Bytes.{source_failed, source_remaining};
 ghost use Rattle.csv.specs.Records.{fields_of};
 ghost use Rattle.msrp_text.specs.Records.{csv_records, reader_under};
@@ -14,7 +14,7 @@ use crate::rows::{read_row, version_told};
 use csv::ByteRecord;
 use msrp_plan::bytes::Source;
 use msrp_plan::{Plan, Row, TextVersion};
-use msrp_text::records::{RecordReader, Stopped};
+use msrp_text::records::RecordReader;
 use std::alloc::Global;
 use std::io::Read;
 
@@ -57,7 +57,7 @@ const NO_HEAD: TraceError = TraceError::At {
 // Why no further record can be had: a read failed, or else memory was refused.
 fn stopped<R: Read>(records: &RecordReader<&mut Source<R>>) -> TraceError
     ensures stopped { (result ≡ TraceError.Read) ⊎ (result ≡ TraceError.Memory) }
-    ensures read { result ≡ TraceError.Read → source_failed (reader_under records.now).now ≡ true }
+    ensures read { (result ≡ TraceError.Read) ↔ (source_failed (reader_under records.now).now ≡ true) }
 {
     if records.reader().failed() {
         TraceError::Read
@@ -111,7 +111,7 @@ impl<'a, R: Read> TraceReader<'a, R> {
         match records.read(&mut fields) {
             Ok(true) => {}
             Ok(false) => return Err(NO_HEAD),
-            Err(Stopped) => return Err(stopped(&records)),
+            Err(_) => return Err(stopped(&records)),
         }
         match version_told(plan, &fields) {
             Some(version) => Ok(TraceReader {
@@ -135,6 +135,7 @@ impl<'a, R: Read> TraceReader<'a, R> {
         ensures failed { has_failed self.old ≡ true → result ≡ Err TraceError.Failed }
         ensures going { has_failed self.old ≡ false → ¬ (result ≡ Err TraceError.Failed) }
         ensures read { result ≡ Err TraceError.Read → source_failed (source_of self.new) ≡ true }
+        ensures memory { result ≡ Err TraceError.Memory → source_failed (source_of self.new) ≡ false }
     {
         let answer = match self.stage {
             Stage::Rows => self.read_next(),
@@ -152,15 +153,16 @@ impl<'a, R: Read> TraceReader<'a, R> {
         ensures stage { self.new.stage ≡ Stage.Rows }
         ensures going { ¬ (result ≡ Err TraceError.Failed) }
         ensures read { result ≡ Err TraceError.Read → source_failed (source_of self.new) ≡ true }
+        ensures memory { result ≡ Err TraceError.Memory → source_failed (source_of self.new) ≡ false }
     {
         let Some(number) = self.number.checked_add(1) else {
             // A source gives far fewer bytes than so many records take.
-            return Err(TraceError::Memory);
+            return Err(stopped(&self.records));
         };
         match self.records.read(&mut self.fields) {
             Ok(true) => {}
             Ok(false) => return Ok(None),
-            Err(Stopped) => return Err(stopped(&self.records)),
+            Err(_) => return Err(stopped(&self.records)),
         }
         let row = numbered_row(
             self.plan,

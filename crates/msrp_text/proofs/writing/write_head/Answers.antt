@@ -3,8 +3,8 @@ use Rattle.msrp_plan.proofs.Writes.{wrote-more}
 use Rattle.msrp_text.proofs.Written.{wrote-as}
 use Rattle.msrp_text.proofs.writing.write_head.Goals as goal
 
-pub returns : goal.returns
-returns g c =
+pub returns-clause-wrote : goal.returns-clause-wrote
+returns-clause-wrote g c =
     let first = rw (c.version_record.ensures, c.version_of.ensures) at c.add.ensures in
     let second = rw (c.from.ensures ∙ c.cores.ensures.value) at c.write_number.ensures in
     let third = rw (c.from-2.ensures ∙ c.ticks.ensures.value) at c.write_number-2.ensures in

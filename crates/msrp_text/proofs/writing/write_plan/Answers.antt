@@ -13,4 +13,4 @@ returns-clause-wrote g c =
     let resources = map resource_record plan.resources in
     let tasks = flat_map (task_records plan) plan.tasks in
     let whole = flat_map-append record_text (head_records plan) (resources ++ tasks) ∙ ap (λ text. records_text (head_records plan) ++ text) (flat_map-append record_text resources tasks) in
-    wrote-as _ _ _ _ _ (sym whole) (wrote-more _ _ _ _ _ _ c.write_head.ensures (wrote-more _ _ _ _ _ _ c.write_resources.ensures c.write_tasks.ensures))
+    wrote-as _ _ _ _ _ (sym whole) (wrote-more _ _ _ _ _ _ c.write_head.ensures.wrote (wrote-more _ _ _ _ _ _ c.write_resources.ensures c.write_tasks.ensures))

@@ -1,13 +1,15 @@
-use Rattle.std.proofs.Common.{◌≡◌, false}
-use Rattle.msrp_text.proofs.Remaining.{read-gives}
-use Rattle.msrp_text.proofs.records.RecordReader.read.Goals.{in-Ok, in-Err}
+use Rattle.std.proofs.Common.{rules, ◌≡◌, None}
+use Rattle.msrp_text.proofs.Remaining.{read-gives, stops-only}
 use Rattle.msrp_text.proofs.records.RecordReader.read.Goals as goal
 
-pub returns-clause-next : goal.returns-clause-next
-returns-clause-next g c = elim c.match-read_byte_record.branch [
-  | in-Ok w ↦
-      let old = c.args.self.now in
-      let goes : old.stopped ≡ false = c.if-self.false in
-      rw (w.result-is, w.self-is) (λ left e. read-gives g.R.Read.remaining old.rows c.read_byte_record.new.self _ _ left (old.trim goes) (old.config goes) (old.ready goes) (rw w.in-Ok.is at c.read_byte_record.ensures.reads) e)
-  | in-Err w ↦ rw w.result-is tt
-]
+pub stopped_by-why-requires : goal.stopped_by-why-requires
+stopped_by-why-requires g c =
+    let old = c.args.self.now in
+    let goes : old.stopped ≡ None = search rules in
+    rw c.kind.ensures (stops-only g.R.Read.remaining old.rows c.read_byte_record.new.self _ (old.flexible goes) (old.ready goes) c.in-Err.ensures.why)
+
+pub returns-in-Ok-clause-next : goal.returns-in-Ok-clause-next
+returns-in-Ok-clause-next g c =
+    let old = c.args.self.now in
+    let goes : old.stopped ≡ None = search rules in
+    λ left e. read-gives g.R.Read.remaining old.rows c.read_byte_record.new.self _ _ left (old.trim goes) (old.config goes) (old.ready goes) c.in-Ok.ensures.reads e
