@@ -6,6 +6,7 @@ use Rattle.std.specs.declared.result.Result.{Result}
 use Rattle.msrp_plan.specs.Plan.{PlanModel, task_at}
 use Rattle.msrp_plan.specs.Levels.{is_global, level, local_ceiling, top}
 use Rattle.msrp_plan.specs.Bytes.{Wrote}
+use Rattle.msrp_plan.specs.WellFormed.{IsPlan}
 use Rattle.msrp_plan.specs.declared.bytes.Sink.{Sink}
 use Rattle.msrp_text.specs.PlanText.{record_text}
 use Rattle.msrp_text.specs.declared.reading.TextError.{TextError}
@@ -36,6 +37,12 @@ told_each told n = flat_map (λ i. record_text (told i)) (range_with_len 0 n)
 -- each task, then each resource, then each core
 unfoldable pub check_text : PlanModel → List ℕ
 check_text plan = told_each (level_record plan) (length plan.tasks) ++ (told_each (ceiling_record plan) (length plan.resources) ++ told_each (top_record plan) plan.cores)
+
+-- the sink took what is told of some well-formed plan
+pub record WritesSomeCheck {W : Type 0} (contents : W → Option (List ℕ)) (old new : Sink W) : Type 0 where
+  pub plan : PlanModel
+  pub well_formed : IsPlan plan
+  pub text : Wrote contents old new (check_text plan)
 
 -- the answer to a text that stands for a plan, or to one that is refused: then nothing is written
 abbrev pub CheckAnswers : {W : Type 0} → (W → Option (List ℕ)) → Result PlanModel TextError → Sink W → Sink W → Result ℕ CliFault → Type 0

@@ -4,3 +4,5 @@ pub mod CheckText
 pub mod Running
 pub mod Findings
 pub mod AuditText
+pub mod Words
+pub mod Inputs

@@ -4,6 +4,7 @@ use Rattle.std.specs.declared.result.Result.{Result}
 use Rattle.msrp_plan.specs.Plan.{PlanModel}
 use Rattle.msrp_plan.specs.Scheduling.{IsOrder}
 use Rattle.msrp_plan.specs.Bytes.{Wrote, sink_failed}
+use Rattle.msrp_plan.specs.WellFormed.{IsPlan}
 use Rattle.msrp_plan.specs.declared.rows.Row.{Row}
 use Rattle.msrp_plan.specs.declared.bytes.Sink.{Sink}
 use Rattle.msrp_text.specs.PlanText.{plan_text}
@@ -22,6 +23,19 @@ pub record WritesRun {W : Type 0} (contents : W → Option (List ℕ)) (version 
   pub rows : List Row
   pub run : IsRunIn plan order rows
   pub text : Wrote contents old new (trace_text version plan rows)
+
+-- the sink took the text of the run of some well-formed plan in this order of it
+pub record WritesSomeRun {W : Type 0} (contents : W → Option (List ℕ)) (version : TextVersion) (order : Order) (old new : Sink W) : Type 0 where
+  pub plan : PlanModel
+  pub well_formed : IsPlan plan
+  pub is_order : IsOrder plan (cores_of order plan)
+  pub writes : WritesRun contents version plan (cores_of order plan) old new
+
+-- the sink took the text of some well-formed plan
+pub record WritesSomePlan {W : Type 0} (contents : W → Option (List ℕ)) (old new : Sink W) : Type 0 where
+  pub plan : PlanModel
+  pub well_formed : IsPlan plan
+  pub text : Wrote contents old new (plan_text plan)
 
 -- 0 where the sink took it all, a write fault where it failed
 abbrev pub sim_status : {W : Type 0} → Sink W → Result ℕ CliFault

@@ -1,11 +1,11 @@
 //! What a plan says before it runs: levels, ceilings and tops, from a plan's text to a text.
 
-ghost use Rattle.std.specs.Prelude.{◌≡◌, ◌<◌, ◌⊎◌, ◌++◌, ℕ, List, length, codes, decimal, true, false, Some, Err, IfOk, IfErr, OnOk, OnErr};
+ghost use Rattle.std.specs.Prelude.{◌≡◌, ◌<◌, ◌⊎◌, ◌↔◌, ◌++◌, ℕ, List, length, codes, decimal, true, false, Some, Err, IfOk, IfErr, OnOk, OnErr};
 ghost use Rattle.msrp_plan.specs.Bytes.{Wrote, sink_failed, source_failed, source_remaining};
 ghost use Rattle.msrp_plan.specs.WellFormed.{IsPlan};
 ghost use Rattle.msrp_text.specs.PlanText.{record_text};
 ghost use Rattle.msrp_text.specs.Reading.{csv_records, plan_of};
-ghost use Rattle.msrp.specs.CheckText.{CheckAnswers, ceiling_record, check_text, level_record, told_each, top_record};
+ghost use Rattle.msrp.specs.CheckText.{CheckAnswers, WritesSomeCheck, ceiling_record, check_text, level_record, told_each, top_record};
 ghost use Rattle.msrp.specs.Outcomes.{is_sim_fault};
 
 #[cfg(test)]
@@ -61,7 +61,8 @@ fn write_top<W: Write>(out: &mut Sink<W>, levels: &Levels<'_>, core: CoreId)
 
 fn write_levels<W: Write>(out: &mut Sink<W>, plan: &Plan, levels: &Levels<'_>)
     requires { levels.now ≡ plan.now }
-    ensures { Wrote W.contents out.old out.new (told_each (level_record plan.now) (length plan.now.tasks)) }
+    ensures plan { IsPlan plan.now }
+    ensures wrote { Wrote W.contents out.old out.new (told_each (level_record plan.now) (length plan.now.tasks)) }
 {
     for task in 0..plan.tasks() {
         write_level(out, plan, levels, TaskId(task));
@@ -93,6 +94,7 @@ fn write_check<W: Write>(
     levels: &Levels<'_>,
 ) -> Result<(), WriteFault>
     requires { levels.now ≡ plan.now }
+    ensures plan { IsPlan plan.now }
     ensures wrote { Wrote W.contents out.old out.new (check_text plan.now) }
     ensures good { OnOk result (sink_failed out.new ≡ false) }
     ensures fault { OnErr result (sink_failed out.new ≡ true) }
@@ -121,8 +123,9 @@ pub fn check_text<P: Read, W: Write>(
 
     // Whatever the reader tells.
     ensures good { IfOk result (λ status. (status ≡ 0) × (sink_failed out.new ≡ false)) }
+    ensures written { OnOk result (WritesSomeCheck W.contents out.old out.new) }
     ensures faults { IfErr result (λ fault. is_sim_fault fault ≡ true) }
-    ensures read { result ≡ Err CliFault.Read → source_failed plan.new ≡ true }
+    ensures read { (result ≡ Err CliFault.Read) ↔ (source_failed plan.new ≡ true) }
     ensures write { result ≡ Err CliFault.Write → sink_failed out.new ≡ true }
     ensures silent { IfErr result (λ fault. (fault ≡ CliFault.Write) ⊎ (out.new ≡ out.old)) }
 {

@@ -1,8 +1,9 @@
 //! The command line: the words of a command, and what they ask for.
 
-ghost use Rattle.std.specs.Prelude.{◌≡◌, ◌⊎◌, ◌↔◌, IfErr, IfOk};
-ghost use Rattle.clap.specs.Words.{first_value};
+ghost use Rattle.std.specs.Prelude.{◌≡◌, ◌⊎◌, ◌↔◌, ℕ, List, Some, codes, false, IfErr, IfOk};
 ghost use Rattle.clap.specs.declared.error.ErrorKind.TheVariants.{OutOfMemory};
+ghost use Rattle.clap.specs.Words.{has_subcommand, subcommand_name_of};
+ghost use Rattle.msrp.specs.Words.{IsCommand, plan_path, word_of};
 
 use crate::faults::CliFault;
 use clap::error::ErrorKind;
@@ -165,8 +166,14 @@ pub fn help_text(alloc: Global) -> Result<String, CliFault>
     command.render_help().map_err(|_| CliFault::Memory)
 }
 
-fn plan_of<'a>(matches: &ArgMatches<'a>) -> &'a str {
-    matches.get_str(PLAN).unwrap_or(STANDARD)
+// The path of the plan: standard input where none is given.
+fn plan_of<'a>(matches: &ArgMatches<'a>) -> &'a str
+    ensures { result.now ≡ plan_path matches.now }
+{
+    match matches.get_str(PLAN) {
+        Some(path) => path,
+        None => STANDARD,
+    }
 }
 
 // The order of a word; rising where there is none.
@@ -183,7 +190,8 @@ fn order_of(word: Option<&str>) -> Result<TurnOrder, CliFault>
 
 // The paths of a plan and a trace, which are not both standard input.
 fn both_of<'a>(matches: &ArgMatches<'a>) -> Result<(&'a str, &'a str), CliFault>
-    ensures { IfErr result (λ fault. fault ≡ CliFault.Usage) }
+    ensures fault { IfErr result (λ fault. fault ≡ CliFault.Usage) }
+    ensures plan { IfOk result (λ paths. paths.0.now ≡ plan_path matches.now) }
 {
     match (matches.get_str(PLAN), matches.get_str(TRACE)) {
         (Some(plan), Some(trace)) if plan != STANDARD || trace != STANDARD => Ok((plan, trace)),
@@ -192,7 +200,8 @@ fn both_of<'a>(matches: &ArgMatches<'a>) -> Result<(&'a str, &'a str), CliFault>
 }
 
 fn sim_of<'a>(matches: &ArgMatches<'a>) -> Result<Cmd<'a>, CliFault>
-    ensures { IfErr result (λ fault. fault ≡ CliFault.Usage) }
+    ensures fault { IfErr result (λ fault. fault ≡ CliFault.Usage) }
+    ensures command { IfOk result (λ command. IsCommand (codes "sim") (plan_path matches.now) command) }
 {
     Ok(Cmd::Sim {
         order: order_of(matches.get_str(ORDER))?,
@@ -201,7 +210,9 @@ fn sim_of<'a>(matches: &ArgMatches<'a>) -> Result<Cmd<'a>, CliFault>
     })
 }
 
-fn check_of<'a>(matches: &ArgMatches<'a>) -> Cmd<'a> {
+fn check_of<'a>(matches: &ArgMatches<'a>) -> Cmd<'a>
+    ensures { IsCommand (codes "check") (plan_path matches.now) result }
+{
     let plan = plan_of(matches);
     if matches.get_flag(TEXT) {
         Cmd::CheckText { plan }
@@ -211,7 +222,8 @@ fn check_of<'a>(matches: &ArgMatches<'a>) -> Cmd<'a> {
 }
 
 fn audit_of<'a>(matches: &ArgMatches<'a>) -> Result<Cmd<'a>, CliFault>
-    ensures { IfErr result (λ fault. fault ≡ CliFault.Usage) }
+    ensures fault { IfErr result (λ fault. fault ≡ CliFault.Usage) }
+    ensures command { IfOk result (λ command. IsCommand (codes "audit") (plan_path matches.now) command) }
 {
     let (plan, trace) = both_of(matches)?;
     Ok(Cmd::Audit {
@@ -222,30 +234,44 @@ fn audit_of<'a>(matches: &ArgMatches<'a>) -> Result<Cmd<'a>, CliFault>
 }
 
 fn report_of<'a>(matches: &ArgMatches<'a>) -> Result<Cmd<'a>, CliFault>
-    ensures { IfErr result (λ fault. fault ≡ CliFault.Usage) }
+    ensures fault { IfErr result (λ fault. fault ≡ CliFault.Usage) }
+    ensures command { IfOk result (λ command. IsCommand (codes "report") (plan_path matches.now) command) }
 {
     let (plan, trace) = both_of(matches)?;
     Ok(Cmd::Report { plan, trace })
 }
 
+// The command of a word, and what the words after it ask for.
+fn command_named<'a>(word: &str, words: &ArgMatches<'a>) -> Result<Cmd<'a>, CliFault>
+    ensures fault { IfErr result (λ fault. fault ≡ CliFault.Usage) }
+    ensures command { IfOk result (λ command. IsCommand word.now (plan_path words.now) command) }
+{
+    match word {
+        "sim" => sim_of(words),
+        "run" => Ok(Cmd::Run {
+            ahead: words.get_flag(AHEAD),
+            plan: plan_of(words),
+        }),
+        "audit" => audit_of(words),
+        "report" => report_of(words),
+        "check" => Ok(check_of(words)),
+        _ => Err(CliFault::Usage),
+    }
+}
+
+// The command that is asked for: the simulation of standard input where none is.
 fn chosen<'a>(matches: &ArgMatches<'a>) -> Result<Cmd<'a>, CliFault>
-    ensures { IfErr result (λ fault. fault ≡ CliFault.Usage) }
+    ensures fault { IfErr result (λ fault. fault ≡ CliFault.Usage) }
+    ensures bare { has_subcommand matches.now ≡ false → IfOk result (λ command. IsCommand (codes "sim") (codes "-") command) }
+    ensures word { IfOk result (λ command. (word : List ℕ) → subcommand_name_of matches.now ≡ Some word → word_of command ≡ word) }
 {
     match matches.subcommand() {
+        Some((word, words)) => command_named(word, words),
         None => Ok(Cmd::Sim {
             order: TurnOrder::Asc,
             ahead: false,
             plan: STANDARD,
         }),
-        Some(("sim", words)) => sim_of(words),
-        Some(("run", words)) => Ok(Cmd::Run {
-            ahead: words.get_flag(AHEAD),
-            plan: plan_of(words),
-        }),
-        Some(("audit", words)) => audit_of(words),
-        Some(("report", words)) => report_of(words),
-        Some(("check", words)) => Ok(check_of(words)),
-        Some(_) => Err(CliFault::Usage),
     }
 }
 

@@ -1,12 +1,13 @@
 //! Engines: from bytes to bytes, over any reader and writer.
 
-ghost use Rattle.std.specs.Prelude.{◌≡◌, ◌⊎◌, ℕ, List, [], true, false, Some, Err, IfOk, IfErr, OnOk, OnErr};
-ghost use Rattle.msrp_plan.specs.Bytes.{sink_failed, source_failed, source_remaining};
+ghost use Rattle.std.specs.Prelude.{◌≡◌, ◌⊎◌, ◌↔◌, ℕ, List, [], true, false, Some, Err, IfOk, IfErr, OnOk, OnErr};
+ghost use Rattle.msrp_plan.specs.Bytes.{Wrote, sink_failed, source_failed, source_remaining};
 ghost use Rattle.msrp_plan.specs.Scheduling.{IsOrder};
+ghost use Rattle.msrp_plan.specs.WellFormed.{IsPlan};
 ghost use Rattle.msrp_sim.specs.Simulated.{HasMade};
 ghost use Rattle.msrp_text.specs.Reading.{csv_records, plan_of};
 ghost use Rattle.msrp.specs.Outcomes.{is_sim_fault};
-ghost use Rattle.msrp.specs.Simulation.{PlanAnswers, SimAnswers, WritesRun};
+ghost use Rattle.msrp.specs.Simulation.{PlanAnswers, SimAnswers, WritesRun, WritesSomePlan, WritesSomeRun, sim_status};
 
 use crate::faults::CliFault;
 use msrp_levels::Levels;
@@ -30,6 +31,7 @@ fn write_run<W: Write>(
     requires order { IsOrder plan.now simulation.old.order }
     requires turn { simulation.old.turn ≡ 0 }
     requires made { HasMade simulation.old [] }
+    ensures plan { IsPlan plan.now }
     ensures run { WritesRun W.contents version plan.now simulation.old.order out.old out.new }
     ensures good { OnOk result (sink_failed out.new ≡ false) }
     ensures fault { OnErr result (sink_failed out.new ≡ true) }
@@ -63,8 +65,9 @@ pub fn sim_text<P: Read, W: Write>(
 
     // Whatever the reader tells.
     ensures good { IfOk result (λ status. (status ≡ 0) × (sink_failed out.new ≡ false)) }
+    ensures written { OnOk result (WritesSomeRun W.contents version order.now out.old out.new) }
     ensures faults { IfErr result (λ fault. (fault ≡ CliFault.Usage) ⊎ (is_sim_fault fault ≡ true)) }
-    ensures read { result ≡ Err CliFault.Read → source_failed plan.new ≡ true }
+    ensures read { (result ≡ Err CliFault.Read) ↔ (source_failed plan.new ≡ true) }
     ensures write { result ≡ Err CliFault.Write → sink_failed out.new ≡ true }
     ensures silent { IfErr result (λ fault. (fault ≡ CliFault.Write) ⊎ (out.new ≡ out.old)) }
 {
@@ -92,12 +95,23 @@ pub fn plan_text<P: Read, W: Write>(
 
     // Whatever the reader tells.
     ensures good { IfOk result (λ status. (status ≡ 0) × (sink_failed out.new ≡ false)) }
+    ensures written { OnOk result (WritesSomePlan W.contents out.old out.new) }
     ensures faults { IfErr result (λ fault. is_sim_fault fault ≡ true) }
-    ensures read { result ≡ Err CliFault.Read → source_failed plan.new ≡ true }
+    ensures read { (result ≡ Err CliFault.Read) ↔ (source_failed plan.new ≡ true) }
     ensures write { result ≡ Err CliFault.Write → sink_failed out.new ≡ true }
     ensures silent { IfErr result (λ fault. (fault ≡ CliFault.Write) ⊎ (out.new ≡ out.old)) }
 {
     let plan = read_plan(alloc, plan)?;
     write_plan(out, &plan)?;
+    Ok(0)
+}
+
+/// Writes the help.
+pub fn write_help<W: Write>(out: &mut Sink<W>, help: &str) -> Result<u8, CliFault>
+    ensures wrote { Wrote W.contents out.old out.new help.now }
+    ensures status { result ≡ sim_status out.new }
+{
+    out.add(help.as_bytes());
+    out.outcome()?;
     Ok(0)
 }

@@ -7,12 +7,13 @@
 mod audit;
 mod check;
 
-ghost use Rattle.std.specs.Prelude.{◌≡◌, cond};
+ghost use Rattle.std.specs.Prelude.{◌≡◌, ◌⊎◌, ◌↔◌, cond, IfErr};
 
 mod cli;
 mod engine;
 mod faults;
 mod fields;
+mod input;
 mod running;
 #[cfg(test)]
 mod tests;
@@ -20,52 +21,37 @@ mod tests;
 use audit::audit_text;
 use check::check_text;
 use cli::{Cmd, TurnOrder, command_of, help_text};
-use engine::{plan_text, sim_text};
+use engine::{plan_text, sim_text, write_help};
 use faults::{CliFault, exit_of};
+use input::open;
 use msrp_plan::TextVersion;
 use msrp_plan::bytes::{Sink, Source};
 use msrp_sim::Order;
 use running::run_text;
-use std::fs::File;
 use std::io;
-use std::io::{ErrorKind, Read};
+use std::io::ErrorKind;
 use std::process::ExitCode;
 use std::sync::Wait;
 use std::thread::Threads;
 
-// What a plan is read from.
-#[derive(Drop)]
-enum Input {
-    Standard(io::Stdin),
-    Opened(File),
-}
-
-impl Read for Input {
-    fn read(&mut self, buf: &mut [u8]) -> io::Result<usize> {
-        match self {
-            Input::Standard(input) => input.read(buf),
-            Input::Opened(file) => file.read(buf),
-        }
-    }
-}
-
-// The input of a path: `-` is standard input.
-fn open(rt: &HostRuntime, path: &str) -> Result<Input, CliFault> {
-    if path == "-" {
-        return Ok(Input::Standard(rt.stdin()));
-    }
-    match File::open(rt, path) {
-        Ok(file) => Ok(Input::Opened(file)),
-        Err(_) => Err(CliFault::Read),
+// What is answered where the words can't be had: want of memory is told as such, and a word that isn't UTF-8 as usage.
+fn unread_words(kind: ErrorKind) -> CliFault
+    ensures memory { (result ≡ CliFault.Memory) ↔ (kind ≡ ErrorKind.OutOfMemory) }
+    ensures usage { (result ≡ CliFault.Memory) ⊎ (result ≡ CliFault.Usage) }
+{
+    match kind {
+        ErrorKind::OutOfMemory => CliFault::Memory,
+        _ => CliFault::Usage,
     }
 }
 
 // The words of the command line, the program's name first.
-fn words_of(rt: &HostRuntime) -> Result<Vec<String>, CliFault> {
+fn words_of(rt: &HostRuntime) -> Result<Vec<String>, CliFault>
+    ensures { IfErr result (λ fault. (fault ≡ CliFault.Memory) ⊎ (fault ≡ CliFault.Usage)) }
+{
     match std::env::args(rt) {
         Ok(args) => args.collect(rt.alloc()).map_err(|_| CliFault::Memory),
-        Err(error) if error.kind() == ErrorKind::OutOfMemory => Err(CliFault::Memory),
-        Err(_) => Err(CliFault::Usage),
+        Err(error) => Err(unread_words(error.kind())),
     }
 }
 
@@ -99,10 +85,7 @@ fn run<T: Threads + Wait + Sync>(rt: &HostRuntime, threads: &T) -> Result<u8, Cl
     let words = words_of(rt)?;
     let mut out = Sink::new(io::writer(rt));
     match command_of(alloc, words.as_slice())? {
-        Cmd::Help => {
-            out.put(help_text(alloc)?.as_bytes())?;
-            Ok(0)
-        }
+        Cmd::Help => write_help(&mut out, help_text(alloc)?.as_str()),
         Cmd::Sim { order, ahead, plan } => {
             let mut source = Source::new(open(rt, plan)?);
             let order = order_of(order);

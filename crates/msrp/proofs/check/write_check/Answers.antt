@@ -4,4 +4,4 @@ use Rattle.msrp.proofs.check.write_check.Goals as goal
 
 pub returns-clause-wrote : goal.returns-clause-wrote
 unfolding check_text
-returns-clause-wrote g c = wrote-more _ _ _ _ _ _ c.write_levels.ensures (wrote-more _ _ _ _ _ _ c.write_ceilings.ensures c.write_tops.ensures)
+returns-clause-wrote g c = wrote-more _ _ _ _ _ _ c.write_levels.ensures.wrote (wrote-more _ _ _ _ _ _ c.write_ceilings.ensures c.write_tops.ensures)

@@ -17,3 +17,13 @@ returns-clause-answer g c = λ bytes told.
     let order : IsOrder c.in_ok-plan.plan (cores_of c.args.order.now c.in_ok-plan.plan) = c.is_of.ensures.0 (grind arith) in
     let writes = subst (λ o. WritesRun g.W.Write.contents c.args.version c.in_ok-plan.plan o c.args.out.now c.write_run.new.out) c.in_ok-simulation.ensures.order c.write_run.ensures.run in
     inr (inr (sim_from_plan g.W.Write.contents c.args.version c.args.order.now c.in_ok-plan.plan _ c.args.out.now c.write_run.new.out _ (c.in_ok-plan.ensures.answer bytes told) (Simulated order writes (search rules))))
+
+pub returns-clause-written : goal.returns-clause-written
+returns-clause-written g c =
+    let order : IsOrder c.in_ok-plan.plan (cores_of c.args.order.now c.in_ok-plan.plan) = c.is_of.ensures.0 (grind arith) in
+    record {
+      plan = c.in_ok-plan.plan;
+      well_formed = c.write_run.ensures.plan;
+      is_order = order;
+      writes = subst (λ o. WritesRun g.W.Write.contents c.args.version c.in_ok-plan.plan o c.args.out.now c.write_run.new.out) c.in_ok-simulation.ensures.order c.write_run.ensures.run;
+    }
