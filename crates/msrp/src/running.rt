@@ -6,6 +6,9 @@ ghost use Rattle.msrp_text.specs.Reading.{csv_records, plan_of};
 ghost use Rattle.msrp.specs.Outcomes.{is_sim_fault};
 ghost use Rattle.msrp.specs.Running.{RunAnswers};
 
+#[cfg(test)]
+mod tests;
+
 use crate::faults::CliFault;
 use msrp_plan::TextVersion;
 use msrp_plan::bytes::{Sink, Source};
