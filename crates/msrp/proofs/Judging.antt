@@ -60,7 +60,8 @@ fault-found plan told rows left f is h =
     let whole : fault_in plan told.rows ≡ Some f = subst (λ xs. fault_in plan xs ≡ Some f) (sym is.whole) (fault_stays plan rows is.rest f h) in
     ap (λ o. found_first o told.refusal (verdict plan told.rows)) whole
 
-last-row : (rows : List Row) (refusal : Option TraceError) (result : Result (Option Row) TraceError) (after : Option Told)
+-- at the end nothing is left
+pub last-row : (rows : List Row) (refusal : Option TraceError) (result : Result (Option Row) TraceError) (after : Option Told)
     → GivesFirst rows refusal result after → result ≡ Ok None → (rows ≡ []) × (refusal ≡ None)
 last-row (x ∷ xs) refusal result after h e = absurd (cc)
 last-row [] None result after h e = (refl, refl)

@@ -2,3 +2,4 @@ pub mod CheckRecords
 pub mod Judging
 pub mod NamedRows
 pub mod SimAnswers
+pub mod Reporting

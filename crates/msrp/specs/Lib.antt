@@ -6,3 +6,4 @@ pub mod Findings
 pub mod AuditText
 pub mod Words
 pub mod Inputs
+pub mod Reports

@@ -107,8 +107,8 @@ fn add_verdict<W: Write>(out: &mut Sink<W>, found: Result<(), Fault>)
     }
 }
 
-// Writes a verdict, and answers its status.
-fn write_verdict<W: Write>(out: &mut Sink<W>, found: Result<(), Fault>) -> Result<u8, CliFault>
+/// Writes a verdict, and answers its status.
+pub fn write_verdict<W: Write>(out: &mut Sink<W>, found: Result<(), Fault>) -> Result<u8, CliFault>
     ensures { TellsVerdict W.contents found out.old out.new result }
 {
     add_verdict(out, found);

@@ -14,6 +14,7 @@ mod engine;
 mod faults;
 mod fields;
 mod input;
+mod report;
 mod running;
 #[cfg(test)]
 mod tests;
@@ -27,6 +28,7 @@ use input::open;
 use msrp_plan::TextVersion;
 use msrp_plan::bytes::{Sink, Source};
 use msrp_sim::Order;
+use report::report_text;
 use running::run_text;
 use std::io;
 use std::io::ErrorKind;
@@ -111,6 +113,11 @@ fn run<T: Threads + Wait + Sync>(rt: &HostRuntime, threads: &T) -> Result<u8, Cl
             let mut plan = Source::new(open(rt, plan)?);
             let mut trace = Source::new(open(rt, trace)?);
             audit_text(alloc, &mut plan, &mut trace, &mut out)
+        }
+        Cmd::Report { plan, trace } => {
+            let mut plan = Source::new(open(rt, plan)?);
+            let mut trace = Source::new(open(rt, trace)?);
+            report_text(alloc, &mut plan, &mut trace, &mut out)
         }
         _ => Err(CliFault::Usage),
     }
