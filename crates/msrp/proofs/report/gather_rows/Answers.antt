@@ -23,15 +23,15 @@ loop-row-init g c = record {
 pub returns-in_err-row-clause-found : goal.returns-in_err-row-clause-found
 returns-in_err-row-clause-found g c = λ told known.
     let i = c.loop-row.invariant in
-    let gives : c.from_residual-in_err-row.result ≡ Err (trace_fault_of c.in_err-row.field-0.0) = search rules in
-    subst (λ (p : PlanModel). (c.from_residual-in_err-row.result ≡ Err Read) ⊎ (c.from_residual-in_err-row.result ≡ Err Memory) ⊎ (c.from_residual-in_err-row.result ≡ finding p told)) i.plan
-    (refusal-found c.loop-row.auditor.plan told c.loop-row.kept.items _ _ c.next_row.result c.in_err-row.field-0.0 c.from_residual-in_err-row.result (i.read told known) c.next_row.ensures.next (cc) i.good gives)
+    let gives : c.from_residual.result ≡ Err (trace_fault_of c.in_err-row.field-0.0) = search rules in
+    subst (λ (p : PlanModel). (c.from_residual.result ≡ Err Read) ⊎ (c.from_residual.result ≡ Err Memory) ⊎ (c.from_residual.result ≡ finding p told)) i.plan
+    (refusal-found c.loop-row.auditor.plan told c.loop-row.kept.items _ _ c.next_row.result c.in_err-row.field-0.0 c.from_residual.result (i.read told known) c.next_row.ensures.next (cc) i.good gives)
 
 pub returns-in-Err-clause-found : goal.returns-in-Err-clause-found
 returns-in-Err-clause-found g c = λ told known.
     let i = c.loop-row.invariant in
     let rows = c.loop-row.kept.items in
-    let more = read-row told rows _ _ c.next_row.result c.in-Some.row (i.read told known) c.next_row.ensures.next (cc) in
+    let more = read-row told rows _ _ c.next_row.result c.in-Some.row (i.read told known) c.next_row.ensures.next (c.in_ok-row.was ∙ ap (λ x. Ok x) c.in-Some.is) in
     let fault = fault-answer _ c.in-Err.fault (c.in-Err.ensures.answer rows i.fed) in
     inr (inr (subst (λ (p : PlanModel). Ok (Err c.in-Err.fault) ≡ finding p told) i.plan (sym (fault-found c.loop-row.auditor.plan told (rows ++ c.in-Some.row ∷ []) _ c.in-Err.fault more fault))))
 
@@ -56,7 +56,7 @@ loop-row-preserved g c =
       plan = c.feed.ensures.plan ∙ i.plan;
       fed = subst (HasFed c.feed.new.self) (sym kept) (c.feed.ensures.fed rows i.fed);
       good = ap (fault_in c.feed.new.self.plan) kept ∙ (ap (λ p. fault_in p (rows ++ c.in-Some.row ∷ [])) c.feed.ensures.plan ∙ good);
-      read = λ told known. subst (λ (l : List Row). IsReadTo told l (told_left g.T.Read.remaining c.next_row.new.self)) (sym kept) (read-row told rows _ _ c.next_row.result c.in-Some.row (i.read told known) c.next_row.ensures.next (cc));
+      read = λ told known. subst (λ (l : List Row). IsReadTo told l (told_left g.T.Read.remaining c.next_row.new.self)) (sym kept) (read-row told rows _ _ c.next_row.result c.in-Some.row (i.read told known) c.next_row.ensures.next (c.in_ok-row.was ∙ ap (λ x. Ok x) c.in-Some.is));
     }
 
 pub returns-clause-found : goal.returns-clause-found
