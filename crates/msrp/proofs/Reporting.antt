@@ -64,13 +64,13 @@ IsGathered plan told answer = (answer ≡ Err ReadFault) ⊎ (answer ≡ Err NoM
 pub gathered-good : (plan : PlanModel) (told : Told) (found : Result (Result ⊤ Fault) CliFault) (good : ⊤) (trace : Trace) → IsFound plan told found → found ≡ Ok (Ok good) → trace.rows.items ≡ told.rows → IsGathered plan told (Ok (Ok trace))
 gathered-good plan told found good trace h e rows = elim h [
   | inl a ↦ absurd (cc)
-  | inr k ↦ elim k [ | inl b ↦ absurd (cc) | inr f ↦ inr (inr (record { found = sym e ∙ f; rows = rows })) ]
+  | inr k ↦ elim k [ inl b ↦ absurd (cc) | inr f ↦ inr (inr (record { found = sym e ∙ f; rows = rows })) ]
 ]
 
 pub gathered-fault : (plan : PlanModel) (told : Told) (found : Result (Result ⊤ Fault) CliFault) (fault : Fault) → IsFound plan told found → found ≡ Ok (Err fault) → IsGathered plan told (Ok (Err fault))
 gathered-fault plan told found fault h e = elim h [
   | inl a ↦ absurd (cc)
-  | inr k ↦ elim k [ | inl b ↦ absurd (cc) | inr f ↦ inr (inr (record { found = sym e ∙ f; rows = tt })) ]
+  | inr k ↦ elim k [ inl b ↦ absurd (cc) | inr f ↦ inr (inr (record { found = sym e ∙ f; rows = tt })) ]
 ]
 
 pub gathered-error : (plan : PlanModel) (told : Told) (found : Result (Result ⊤ Fault) CliFault) (fault : CliFault) → IsFound plan told found → found ≡ Err fault → IsGathered plan told (Err fault)
@@ -114,7 +114,7 @@ told-error contents plan told fault old result h e = elim h [
 pub good-gathers : (plan : PlanModel) (told : Told) (found : Result Trace Fault) → IsGathered plan told (Ok found) → Gathers plan told (Ok found)
 good-gathers plan told found h = elim h [
   | inl a ↦ absurd (cc)
-  | inr k ↦ elim k [ | inl b ↦ absurd (cc) | inr g ↦ g ]
+  | inr k ↦ elim k [ inl b ↦ absurd (cc) | inr g ↦ g ]
 ]
 
 -- what a plan is answered is what its text is answered

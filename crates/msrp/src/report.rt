@@ -65,8 +65,9 @@ fn gather_all<T: Read>(
     let levels = Levels::of(alloc, plan)?;
     let mut auditor = Auditor::with_room(alloc, plan, &levels)?;
     let mut rows = TraceReader::new(alloc, trace, plan)?;
-    let mut kept = Vec::with_capacity(alloc, plan.cores() as usize * plan.ticks() as usize)
-        .map_err(|_| Memory)?;
+    let mut kept = Vec::with_capacity(alloc, plan.cores() as usize * plan.ticks() as usize).map_err(
+        |_| Memory,
+    )?;
     match gather_rows(&mut auditor, &mut rows, &mut kept)? {
         Ok(()) => Ok(Ok(Trace { rows: kept })),
         Err(fault) => Ok(Err(fault)),

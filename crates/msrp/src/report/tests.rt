@@ -32,11 +32,7 @@ fn texts_are_reported(rt: HostRuntime) {
         ),
         ("msrp-trace,1,2,6\n0,0,queue,a,0,g\n", Ok(1), "fault,1,A5\n"),
         ("msrp-trace,1,2,6\n", Ok(1), "fault,1,A6\n"),
-        (
-            "msrp-trace,2,2,6\n",
-            Ok(1),
-            "fault,1,A6\n",
-        ),
+        ("msrp-trace,2,2,6\n", Ok(1), "fault,1,A6\n"),
         (
             "msrp-trace,1,2,5\n",
             Err(CliFault::Trace { code: 1, number: 1 }),
