@@ -60,8 +60,8 @@ def closed_streams(found, command):
     """Standard streams that are closed from the start."""
     plan, trace = kept("plan", HANDOVER_WITHIN_A_TICK.plan), kept("trace", HANDOVER_WITHIN_A_TICK.trace)
     usual = ask(words_of(command, plan, trace))
-    if not judges(command):  # of two texts, the other is opened as a file and gets the closed stream's number
-        answer = ask(words_of(command, "-", ""), stdin=None, preexec_fn=lambda: os.close(0))
+    for plan_word, trace_word in (("-", trace), (plan, "-"))[:1 + judges(command)]:
+        answer = ask(words_of(command, plan_word, trace_word), stdin=None, preexec_fn=lambda: os.close(0))
         found.judge(answer == Answer(BROKEN, b"", READ_FAULT), f"{command}, standard input closed", answer)
     answer = ask(words_of(command, plan, trace), preexec_fn=lambda: os.close(1))
     found.judge(answer == Answer(BROKEN, b"", WRITE_FAULT), f"{command}, standard output closed", answer)

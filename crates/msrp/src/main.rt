@@ -24,7 +24,7 @@ use check::check_text;
 use cli::{Cmd, TurnOrder, command_of, help_text};
 use engine::{plan_text, sim_text, write_help};
 use faults::{CliFault, exit_of};
-use input::open;
+use input::{open, open_both};
 use msrp_plan::TextVersion;
 use msrp_plan::bytes::{Sink, Source};
 use msrp_sim::Order;
@@ -110,14 +110,22 @@ fn run<T: Threads + Wait + Sync>(rt: &HostRuntime, threads: &T) -> Result<u8, Cl
             plan,
             trace,
         } => {
-            let mut plan = Source::new(open(rt, plan)?);
-            let mut trace = Source::new(open(rt, trace)?);
-            audit_text(alloc, &mut plan, &mut trace, &mut out)
+            let (plan, trace) = open_both(rt, plan, trace)?;
+            audit_text(
+                alloc,
+                &mut Source::new(plan),
+                &mut Source::new(trace),
+                &mut out,
+            )
         }
         Cmd::Report { plan, trace } => {
-            let mut plan = Source::new(open(rt, plan)?);
-            let mut trace = Source::new(open(rt, trace)?);
-            report_text(alloc, &mut plan, &mut trace, &mut out)
+            let (plan, trace) = open_both(rt, plan, trace)?;
+            report_text(
+                alloc,
+                &mut Source::new(plan),
+                &mut Source::new(trace),
+                &mut out,
+            )
         }
         _ => Err(CliFault::Usage),
     }
