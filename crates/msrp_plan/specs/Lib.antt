@@ -1,4 +1,5 @@
 pub mod Shape
+pub mod Limits
 pub mod ReleaseTimes
 pub mod Aheads
 pub mod Plan
