@@ -7,5 +7,4 @@ pub mod Begun
 pub mod OneSection
 pub mod SectionRows
 pub mod Bound
-pub mod UnitByUnit
 pub mod FromRelease

@@ -5,6 +5,5 @@ pub mod Determinacy
 pub mod Commutation
 pub mod Interleaving
 pub mod RoundRobin
-pub mod WorkAlone
 pub mod Verdicts
 pub mod KeptLaws

@@ -1,5 +1,5 @@
 -- Blocking of a job by later ones: which rows block it, and where in their outermost sections the later jobs stand.
-use Rattle.std.specs.Prelude.{ℕ, List, [], ◌∷◌, ◌++◌, Bool, true, false, ◌==◌, ◌&&◌, ◌||◌, not, Option, Some, None, cond, filter, ◌≡◌, ◌<◌, ◌≤◌, ◌+◌}
+use Rattle.std.specs.Prelude.{ℕ, List, [], ◌∷◌, ◌++◌, Bool, true, false, ◌==◌, ◌&&◌, ◌||◌, not, Option, Some, None, if◌then◌else◌, filter, ◌≡◌, ◌<◌, ◌≤◌, ◌+◌}
 use Rattle.std.specs.List.{AllByRecursion, Contains}
 use Rattle.msrp_plan.specs.Plan.{PlanModel, task_of, core_of, units, release}
 use Rattle.msrp_plan.specs.Jobs.{jobs, jobs_on, is_row_of, is_released, is_started, is_finished, is_queued, done}
@@ -12,7 +12,7 @@ use Rattle.msrp_plan.specs.declared.rows.Row.{Row}
 -- how many elements pass a test over the elements before them, of which pre are the first
 abbrev pub count_after : {X : Type 0} → (List X → X → Bool) → List X → List X → ℕ
 count_after p pre [] = 0
-count_after p pre (x ∷ xs) = cond (p pre x) 1 0 + count_after p (pre ++ x ∷ []) xs
+count_after p pre (x ∷ xs) = (if p pre x then 1 else 0) + count_after p (pre ++ x ∷ []) xs
 
 -- ---- rows that block a job
 -- a job with a greater key

@@ -1,5 +1,5 @@
 -- Bounds that a plan gives: how long sections are, how often a job spins, and how long it is blocked.
-use Rattle.std.specs.Prelude.{ℕ, List, [], ◌∷◌, Bool, ◌==◌, ◌&&◌, not, nat_lt, cond, filter, map, max, length, take, slice_get, Option, Some, ◌+◌}
+use Rattle.std.specs.Prelude.{ℕ, List, [], ◌∷◌, Bool, ◌==◌, ◌&&◌, not, nat_lt, if◌then◌else◌, filter, map, max, length, take, slice_get, Option, Some, ◌+◌}
 use Rattle.std.specs.List.{list_any, range_with_len, sum_by}
 use Rattle.msrp_plan.specs.Plan.{PlanModel, TaskModel}
 use Rattle.msrp_plan.specs.Units.{is_lock_of, is_unlock_of, holds_after}
@@ -13,12 +13,12 @@ use Rattle.msrp_plan.specs.declared.units.Op.TheVariants.{Lock}
 -- the units up to and with the first unlock of the resource
 abbrev pub to_unlock : ℕ → List Op → ℕ
 to_unlock g [] = 0
-to_unlock g (u ∷ us) = cond (is_unlock_of g u) 1 (1 + to_unlock g us)
+to_unlock g (u ∷ us) = if is_unlock_of g u then 1 else 1 + to_unlock g us
 
 -- the longest section on the resource, in units after the lock up to and with the unlock
 abbrev pub longest_section : ℕ → List Op → ℕ
 longest_section g [] = 0
-longest_section g (u ∷ us) = max (cond (is_lock_of g u) (to_unlock g us) 0) (longest_section g us)
+longest_section g (u ∷ us) = max (if is_lock_of g u then to_unlock g us else 0) (longest_section g us)
 
 -- the longest section on the resource of the tasks of a core
 abbrev pub section : PlanModel → ℕ → ℕ → ℕ
@@ -45,12 +45,12 @@ opening plan us n = greatest (filter (λ i. not (is_inside plan us i)) (range_wi
 -- how many rows a job waits at a unit, at most: at a request of a global resource one to join the queue, and as many
 -- as it may spin
 abbrev pub wait_bound : PlanModel → ℕ → Option Op → ℕ
-wait_bound plan c (Some (Lock g)) = cond (is_global plan g.0) (1 + spin_bound plan g.0 c) 0
+wait_bound plan c (Some (Lock g)) = if is_global plan g.0 then 1 + spin_bound plan g.0 c else 0
 wait_bound plan c _ = 0
 
 -- how many rows unit n adds to its outermost section, at most: its waits, and one where it stands after the lock
 abbrev pub rows_at : PlanModel → TaskModel → ℕ → ℕ
-rows_at plan task n = cond (is_inside plan task.units n) 1 0 + wait_bound plan task.core (slice_get task.units n)
+rows_at plan task n = (if is_inside plan task.units n then 1 else 0) + wait_bound plan task.core (slice_get task.units n)
 
 -- how many rows the outermost section that unit a begins has after its first, at most; 0 where the unit begins none
 abbrev pub rows_from : PlanModel → TaskModel → ℕ → ℕ

@@ -1,7 +1,8 @@
 -- What a builder is told, what each call adds, and when it is refused. Refusals stand in the order of judging.
-use Rattle.std.specs.Prelude.{ℕ, List, [], ◌∷◌, ◌++◌, Bool, true, false, ◌==◌, ◌&&◌, ◌||◌, not, nat_lt, nat_le, is_none, Option, Some, None, cond, length, map, replicate, slice_get, slice_index_or, set, take, ◌+◌, ◌-◌, ◌≡◌, ◌⊎◌, IsOk, Ok, Err, ⊤}
+use Rattle.std.specs.Prelude.{ℕ, List, [], ◌∷◌, ◌++◌, Bool, true, false, ◌==◌, ◌&&◌, ◌||◌, not, nat_lt, nat_le, is_none, Option, Some, None, if◌then◌else◌, length, map, replicate, slice_get, slice_index_or, set, take, ◌+◌, ◌-◌, ◌≡◌, ◌⊎◌, IsOk, Ok, Err, ⊤}
 use Rattle.std.specs.declared.result.Result.{Result}
 use Rattle.std.specs.List.{list_any, range_with_len}
+use Rattle.msrp_plan.specs.Limits.{most_cores, most_ticks, most_resources, most_tasks, most_units, most_held, most_jobs, most_releases, longest_time}
 use Rattle.msrp_plan.specs.Names.{is_name, has_name}
 use Rattle.msrp_plan.specs.ReleaseTimes.{ReleaseTimes, Every, Listed, is_listed, lacks_release, listed_ticks, with_tick}
 use Rattle.msrp_plan.specs.Plan.{PlanModel, TaskModel, task_at, no_task}
@@ -66,7 +67,7 @@ abbrev pub with_release : PlanModel → ℕ → PlanModel
 with_release plan tick = record plan { tasks = with_newest (with_more_ticks tick) plan.tasks }
 
 abbrev pub fault_if : Bool → PlanFault → Option PlanFault → Option PlanFault
-fault_if test fault rest = cond test (Some fault) rest
+fault_if test fault rest = if test then Some fault else rest
 
 abbrev pub first_fault : Option PlanFault → Option PlanFault → Option PlanFault
 first_fault None rest = rest
@@ -76,13 +77,13 @@ abbrev pub is_within : ℕ → ℕ → ℕ → Bool
 is_within low high n = nat_le low n && nat_le n high
 
 abbrev pub new_fault : ℕ → ℕ → Option PlanFault
-new_fault cores ticks = fault_if (not (is_within 1 8 cores && is_within 1 20000 ticks)) Limit None
+new_fault cores ticks = fault_if (not (is_within 1 most_cores cores && is_within 1 most_ticks ticks)) Limit None
 
 abbrev pub resource_fault : PlanModel → List ℕ → Option PlanFault
 resource_fault plan name =
     fault_if (not (is_name name)) Name (
     fault_if (has_name plan.resources name) Taken (
-    fault_if (nat_le 32 (length plan.resources)) Limit None))
+    fault_if (nat_le most_resources (length plan.resources)) Limit None))
 
 abbrev pub is_none_held : Option (List ℕ) → Bool
 is_none_held None = false
@@ -98,15 +99,15 @@ task_end_fault task =
 
 -- the end of the newest task, if there is one
 abbrev pub end_fault : PlanModel → Option PlanFault
-end_fault plan = cond (length plan.tasks == 0) None (task_end_fault (newest_task plan))
+end_fault plan = if length plan.tasks == 0 then None else task_end_fault (newest_task plan)
 
 -- a period and an offset in their ranges; a list has no tick yet when its task is declared
 abbrev pub are_in_range : ReleaseTimes → Bool
-are_in_range (Every period offset) = is_within 1 1000000 period && nat_le offset 1000000
+are_in_range (Every period offset) = is_within 1 longest_time period && nat_le offset longest_time
 are_in_range (Listed ticks) = true
 
 abbrev pub is_in_range : TaskModel → Bool
-is_in_range task = are_in_range task.times && is_within 1 1000000 task.deadline
+is_in_range task = are_in_range task.times && is_within 1 longest_time task.deadline
 
 abbrev pub task_fault : PlanModel → TaskModel → Option PlanFault
 task_fault plan task =
@@ -114,7 +115,7 @@ task_fault plan task =
     fault_if (not (is_name task.name)) Name (
     fault_if (has_name (map (λ u. u.name) plan.tasks) task.name) Taken (
     fault_if (nat_le plan.cores task.core) Core (
-    fault_if (not (is_in_range task) || nat_le 64 (length plan.tasks)) Limit None))))
+    fault_if (not (is_in_range task) || nat_le most_tasks (length plan.tasks)) Limit None))))
 
 -- the newest task takes releases: it is a listed one and has no unit yet
 abbrev pub takes_releases : PlanModel → Bool
@@ -127,7 +128,7 @@ is_above (Some before) tick = nat_lt before tick
 
 abbrev pub tick_fault : List ℕ → ℕ → Option PlanFault
 tick_fault ticks tick =
-    fault_if (nat_lt 1000000 tick || nat_le 8192 (length ticks)) Limit (
+    fault_if (nat_lt longest_time tick || nat_le most_releases (length ticks)) Limit (
     fault_if (not (is_above (slice_get ticks (length ticks - 1)) tick)) Releases None)
 
 -- one release more of the newest task
@@ -154,11 +155,11 @@ abbrev pub held_count : Option (List ℕ) → ℕ
 held_count None = 0
 held_count (Some held) = length held
 
--- a run of no unit, more than 4,096 units, or a ninth resource held
+-- a run of no unit, or more units or more held resources than a task may have
 abbrev pub is_too_much : List Op → Step → Bool
-is_too_much us (Run n) = (n == 0) || nat_lt 4096 (length us + n)
-is_too_much us (Lock g) = nat_le 4096 (length us) || nat_le 8 (held_count (held_after us))
-is_too_much us (Unlock g) = nat_le 4096 (length us)
+is_too_much us (Run n) = (n == 0) || nat_lt most_units (length us + n)
+is_too_much us (Lock g) = nat_le most_units (length us) || nat_le most_held (held_count (held_after us))
+is_too_much us (Unlock g) = nat_le most_units (length us)
 
 abbrev pub op_fault : PlanModel → Step → Option PlanFault
 op_fault plan step =
@@ -183,7 +184,7 @@ abbrev pub finish_fault : PlanModel → Option PlanFault
 finish_fault plan =
     first_fault (end_fault plan) (
     fault_if (list_any (λ task. nests_global plan task.units) plan.tasks) NestedGlobal (
-    fault_if (nat_lt 8192 (length (jobs plan))) Jobs None))
+    fault_if (nat_lt most_jobs (length (jobs plan))) Jobs None))
 
 -- a call is refused with its fault if it has one, and else only for want of memory
 abbrev pub IsJudged : {A : Type 0} → Option PlanFault → Result A PlanFault → Type 0

@@ -1,7 +1,7 @@
 -- What a clause reads of a source and of a sink, and what a text that was given to a sink left in its writer.
 use Rattle.std.specs.Prelude.{◌≡◌, ℕ, Bool, true, false, ◌||◌, not, nat_le, List, [], ◌++◌, Option, Some}
 use Rattle.std.specs.Io.KnownBytes.{Appends}
-use Rattle.msrp_plan.specs.declared.bytes.TheConstants.{BYTE_LIMIT, CALL_LIMIT}
+use Rattle.msrp_plan.specs.Limits.{most_bytes, most_calls}
 use Rattle.msrp_plan.specs.declared.bytes.Source.{Source}
 use Rattle.msrp_plan.specs.declared.bytes.Stage.{Stage}
 use Rattle.msrp_plan.specs.declared.bytes.Stage.TheVariants.{Ended, Failed}
@@ -48,7 +48,7 @@ source_calls s = s.calls
 
 -- the source has given as many bytes as it may, or asked as often
 abbrev pub is_spent : {R : Type 0} → Source R → Bool
-is_spent s = nat_le BYTE_LIMIT s.given || nat_le CALL_LIMIT s.calls
+is_spent s = nat_le most_bytes s.given || nat_le most_calls s.calls
 
 -- the bytes that a source has left, where what its reader has left is known
 abbrev pub source_remaining : {R : Type 0} → (R → Option (List ℕ)) → Source R → Option (List ℕ)

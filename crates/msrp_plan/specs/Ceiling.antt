@@ -1,6 +1,6 @@
 -- The current ceiling of a core (Baker 1991, current ceiling; Gai, Lipari and Di Natale 2001, the MSRP rules: a core is
 -- at its highest level from the request of a global resource to its release).
-use Rattle.std.specs.Prelude.{ℕ, List, Bool, ◌&&◌, ◌||◌, not, cond, filter, map, length, max}
+use Rattle.std.specs.Prelude.{ℕ, List, Bool, ◌&&◌, ◌||◌, not, if◌then◌else◌, filter, map, length, max}
 use Rattle.std.specs.List.{list_any, range_with_len}
 use Rattle.msrp_plan.specs.Plan.{PlanModel}
 use Rattle.msrp_plan.specs.Jobs.{jobs_on, holds, is_queued}
@@ -20,7 +20,7 @@ raised_with plan queued held = queued || list_any (λ g. is_global plan g && hel
 abbrev pub ceiling_with : PlanModel → ℕ → Bool → (ℕ → Bool) → ℕ
 ceiling_with plan c queued held =
     max (greatest (map (local_ceiling plan) (filter (λ g. not (is_global plan g) && held g) (resources plan))))
-    (cond (raised_with plan queued held) (top plan c) 0)
+    (if raised_with plan queued held then top plan c else 0)
 
 -- after these rows a job of the core holds the resource
 abbrev pub is_held_on : PlanModel → ℕ → List Row → ℕ → Bool

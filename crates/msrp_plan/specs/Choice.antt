@@ -1,6 +1,6 @@
 -- Which job has the turn: earliest deadline first under the Stack Resource Policy (Baker 1991, SRP:
 -- a job starts only where its preemption level is above the current ceiling; once started it never blocks).
-use Rattle.std.specs.Prelude.{ℕ, List, [], ◌∷◌, Bool, ◌&&◌, not, nat_lt, Option, Some, None, cond, filter}
+use Rattle.std.specs.Prelude.{ℕ, List, [], ◌∷◌, Bool, ◌&&◌, not, nat_lt, Option, Some, None, if◌then◌else◌, filter}
 use Rattle.std.specs.List.{best_of}
 use Rattle.std.specs.Ordering.{is_lt, ordering_then, nat_cmp}
 use Rattle.std.specs.declared.cmp.Ordering.{Ordering}
@@ -43,8 +43,8 @@ running plan c pre = first_unfinished plan c (is_started pre) (is_finished plan 
 -- the head where its level is above the ceiling and it comes before who runs; else who runs
 abbrev pub chosen : PlanModel → ℕ → Option JobId → Option JobId → Option JobId
 chosen plan above None s = s
-chosen plan above (Some h) None = cond (nat_lt above (level plan h.task.0)) (Some h) None
-chosen plan above (Some h) (Some s) = cond (nat_lt above (level plan h.task.0) && is_before plan h s) (Some h) (Some s)
+chosen plan above (Some h) None = if nat_lt above (level plan h.task.0) then Some h else None
+chosen plan above (Some h) (Some s) = if nat_lt above (level plan h.task.0) && is_before plan h s then Some h else Some s
 
 -- the job of the core that has the turn in tick t after these rows, or none
 abbrev pub choice : PlanModel → ℕ → ℕ → List Row → Option JobId

@@ -1,6 +1,6 @@
 -- Preemption levels and ceilings of resources (Baker 1991, preemption levels and ceilings; for global resources Gai,
 -- Lipari and Di Natale 2001, the MSRP rules).
-use Rattle.std.specs.Prelude.{ℕ, List, [], ◌∷◌, Bool, ◌==◌, ◌&&◌, not, nat_lt, nat_eq, cond, fold, filter, map, length, max, ◌+◌}
+use Rattle.std.specs.Prelude.{ℕ, List, [], ◌∷◌, Bool, ◌==◌, ◌&&◌, not, nat_lt, nat_eq, if◌then◌else◌, fold, filter, map, length, max, ◌+◌}
 use Rattle.std.specs.List.{list_any}
 use Rattle.msrp_plan.specs.Plan.{PlanModel, TaskModel, task_at}
 use Rattle.msrp_plan.specs.Units.{is_lock_of}
@@ -8,7 +8,7 @@ use Rattle.msrp_plan.specs.Units.{is_lock_of}
 -- each number once
 abbrev pub distinct : List ℕ → List ℕ
 distinct [] = []
-distinct (x ∷ xs) = cond (list_any (nat_eq x) xs) (distinct xs) (x ∷ distinct xs)
+distinct (x ∷ xs) = if list_any (nat_eq x) xs then distinct xs else x ∷ distinct xs
 
 -- the greatest of the numbers, 0 if there is none
 abbrev pub greatest : List ℕ → ℕ

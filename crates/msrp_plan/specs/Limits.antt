@@ -1,4 +1,4 @@
--- The limits that every plan keeps.
+-- The limits that every plan keeps, and those of a source of bytes.
 use Rattle.std.specs.Prelude.{ℕ, ◌*◌}
 
 -- the most cores of a plan
@@ -40,3 +40,11 @@ longest_time = 1000000
 -- the most rows of a run: one for each core in each tick
 abbrev pub most_rows : ℕ
 most_rows = most_cores * most_ticks
+
+-- the most bytes that a source gives
+abbrev pub most_bytes : ℕ
+most_bytes = 16777216
+
+-- how often a source asks its reader at most
+abbrev pub most_calls : ℕ
+most_calls = 33554432

@@ -1,6 +1,6 @@
 -- The queue of a global resource, and what it answers (Gai, Lipari and Di Natale 2001, the MSRP rules: requests are
 -- served in the order in which they came).
-use Rattle.std.specs.Prelude.{ℕ, List, [], ◌∷◌, Bool, true, false, ◌==◌, ◌&&◌, not, Option, Some, None, cond, filter_map, count_by, drop, length}
+use Rattle.std.specs.Prelude.{ℕ, List, [], ◌∷◌, Bool, true, false, ◌==◌, ◌&&◌, not, Option, Some, None, if◌then◌else◌, filter_map, count_by, drop, length}
 use Rattle.std.specs.List.{list_any}
 use Rattle.msrp_plan.specs.Jobs.{is_job}
 use Rattle.msrp_plan.specs.declared.ids.JobId.{JobId}
@@ -24,7 +24,7 @@ is_release _ = false
 
 -- the job of a row that requests the resource
 abbrev pub requester : ℕ → Row → Option JobId
-requester g r = cond (is_on g r.res && is_request r.kind) r.job None
+requester g r = if is_on g r.res && is_request r.kind then r.job else None
 
 abbrev pub is_release_of : ℕ → Row → Bool
 is_release_of g r = is_on g r.res && is_release r.kind

@@ -1,6 +1,7 @@
 -- When the jobs of a task are released.
 use Rattle.std.specs.Prelude.{ℕ, List, [], ◌∷◌, ◌++◌, All, Bool, true, false, ◌==◌, Option, Some, length, slice_get, ◌+◌, ◌*◌, ◌≤◌}
 use Rattle.std.specs.List.Sorted.{IsStrictlyIncreasing}
+use Rattle.msrp_plan.specs.Limits.{most_releases, longest_time}
 
 -- once in each period from an offset on (Liu and Layland 1973, the environment), or at the ticks of a list
 pub data ReleaseTimes : Type 0 where
@@ -34,13 +35,13 @@ with_tick (Listed ticks) tick = Listed (ticks ++ tick ∷ [])
 -- a period and an offset that a task may have
 pub record ArePeriodic (period offset : ℕ) : Type 0 where
   pub positive : 1 ≤ period
-  pub short : period ≤ 1000000
-  pub soon : offset ≤ 1000000
+  pub short : period ≤ longest_time
+  pub soon : offset ≤ longest_time
 
 -- ticks that a list may have: they rise
 pub record AreListed (ticks : List ℕ) : Type 0 where
-  pub few : length ticks ≤ 8192
-  pub soon : All (λ tick. tick ≤ 1000000) ticks
+  pub few : length ticks ≤ most_releases
+  pub soon : All (λ tick. tick ≤ longest_time) ticks
   pub rising : IsStrictlyIncreasing ticks
 
 abbrev pub AreTimes : ReleaseTimes → Type 0

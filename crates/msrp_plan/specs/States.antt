@@ -1,5 +1,5 @@
 -- How far a job is, in one record: what the choice and the next action look at.
-use Rattle.std.specs.Prelude.{ℕ, List, Bool, true, cond, not, ◌+◌}
+use Rattle.std.specs.Prelude.{ℕ, List, Bool, true, if◌then◌else◌, not, ◌+◌}
 use Rattle.msrp_plan.specs.Jobs.{is_row_of, is_waiting, is_started, is_queued, done}
 use Rattle.msrp_plan.specs.declared.ids.JobId.{JobId}
 use Rattle.msrp_plan.specs.declared.rows.Row.{Row}
@@ -16,8 +16,8 @@ state_after pre j = record { job = j; started = is_started pre j; queued = is_qu
 
 -- the state of the row's own job after the row: it is started, and either waits or has done one unit more
 abbrev pub moved_by : Row → JobState → JobState
-moved_by r s = record { job = s.job; started = true; queued = is_waiting r.kind; done = s.done + cond (not (is_waiting r.kind)) 1 0 }
+moved_by r s = record { job = s.job; started = true; queued = is_waiting r.kind; done = s.done + (if not (is_waiting r.kind) then 1 else 0) }
 
 -- the state of any job after one row more
 abbrev pub state_with : Row → JobState → JobState
-state_with r s = cond (is_row_of s.job r) (moved_by r s) s
+state_with r s = if is_row_of s.job r then moved_by r s else s

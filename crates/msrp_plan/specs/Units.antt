@@ -1,5 +1,5 @@
 -- The units of a task: what is locked, and how locks nest.
-use Rattle.std.specs.Prelude.{ℕ, List, [], ◌∷◌, ◌==◌, Bool, false, nat_lt, nat_eq, Option, Some, None, cond, count_by, fold}
+use Rattle.std.specs.Prelude.{ℕ, List, [], ◌∷◌, ◌==◌, Bool, false, nat_lt, nat_eq, Option, Some, None, if◌then◌else◌, count_by, fold}
 use Rattle.std.specs.List.{list_any}
 use Rattle.std.specs.Option.{option_and_then}
 use Rattle.msrp_plan.specs.declared.units.Op.{Op}
@@ -28,9 +28,9 @@ holds_after behind g = nat_lt (unlocks g behind) (locks g behind)
 -- held, or unlocks one that isn't the innermost
 abbrev pub held_with : List ℕ → Op → Option (List ℕ)
 held_with held Run = Some held
-held_with held (Lock r) = cond (list_any (nat_eq r.0) held) None (Some (r.0 ∷ held))
+held_with held (Lock r) = if list_any (nat_eq r.0) held then None else Some (r.0 ∷ held)
 held_with [] (Unlock r) = None
-held_with (g ∷ held) (Unlock r) = cond (r.0 == g) (Some held) None
+held_with (g ∷ held) (Unlock r) = if r.0 == g then Some held else None
 
 -- the resources that are held after these units, the innermost first, if the units nest properly
 -- (Baker 1991 asks the same of requests and releases)

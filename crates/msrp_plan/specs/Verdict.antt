@@ -1,5 +1,5 @@
 -- The verdict on any list of rows: the first row that breaks a rule, with the lowest rule that it breaks.
-use Rattle.std.specs.Prelude.{ℕ, List, [], ◌∷◌, ◌++◌, Option, Some, None, cond, nat_lt, length, ◌+◌, ◌*◌}
+use Rattle.std.specs.Prelude.{ℕ, List, [], ◌∷◌, ◌++◌, Option, Some, None, if◌then◌else◌, nat_lt, length, ◌+◌, ◌*◌}
 use Rattle.std.specs.Option.{option_or}
 use Rattle.msrp_plan.specs.Plan.{PlanModel}
 use Rattle.msrp_plan.specs.Runs.{is_in_turn, is_of_core, is_chosen, is_next_action, is_fifo_reply}
@@ -11,11 +11,11 @@ use Rattle.msrp_plan.specs.declared.rows.Row.{Row}
 -- the lowest rule that the row breaks after these rows
 abbrev pub broken : PlanModel → List Row → Row → Option Rule
 broken plan pre r =
-    cond (is_in_turn plan pre r) (
-    cond (is_of_core plan r) (
-    cond (is_chosen plan pre r) (
-    cond (is_next_action plan pre r) (
-    cond (is_fifo_reply pre r) None (Some A5)) (Some A4)) (Some A3)) (Some A2)) (Some A1)
+    if is_in_turn plan pre r then (
+    if is_of_core plan r then (
+    if is_chosen plan pre r then (
+    if is_next_action plan pre r then (
+    if is_fifo_reply pre r then None else Some A5) else Some A4) else Some A3) else Some A2) else Some A1
 
 abbrev pub fault_or : Option Rule → ℕ → Option Fault → Option Fault
 fault_or None n later = later
@@ -23,7 +23,7 @@ fault_or (Some rule) n later = Some (record { row = n; rule = rule })
 
 -- why a row is refused after these: the lowest rule that it breaks, or that it is one too many
 abbrev pub refused : PlanModel → List Row → Row → Option Rule
-refused plan pre r = cond (nat_lt (length pre) (plan.cores * plan.ticks)) (broken plan pre r) (Some A7)
+refused plan pre r = if nat_lt (length pre) (plan.cores * plan.ticks) then broken plan pre r else Some A7
 
 -- the first of the rows that follow pre that is refused; rows are counted from 1
 abbrev pub fault_from : PlanModel → List Row → List Row → Option Fault
@@ -36,7 +36,7 @@ fault_in plan rows = fault_from plan [] rows
 
 -- the first row that is missing
 abbrev pub missing : PlanModel → List Row → Option Fault
-missing plan rows = cond (nat_lt (length rows) (plan.cores * plan.ticks)) (Some (record { row = length rows + 1; rule = A6 })) None
+missing plan rows = if nat_lt (length rows) (plan.cores * plan.ticks) then Some (record { row = length rows + 1; rule = A6 }) else None
 
 -- the fault of the rows that stand, else the first missing row; none exactly for the legal runs
 abbrev pub verdict : PlanModel → List Row → Option Fault

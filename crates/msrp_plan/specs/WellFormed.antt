@@ -2,6 +2,7 @@
 use Rattle.std.specs.Prelude.{ℕ, List, true, false, Some, length, map, slice_get, take, ◌≡◌, ◌<◌, ◌≤◌, ◌+◌}
 use Rattle.std.specs.List.{AllPass, IsDistinct}
 use Rattle.std.specs.Str.{bytes_eq}
+use Rattle.msrp_plan.specs.Limits.{most_cores, most_ticks, most_resources, most_tasks, most_units, most_held, most_jobs, longest_time}
 use Rattle.msrp_plan.specs.Names.{is_name}
 use Rattle.msrp_plan.specs.ReleaseTimes.{AreTimes, lacks_release}
 use Rattle.msrp_plan.specs.Plan.{PlanModel, TaskModel, task_at}
@@ -21,12 +22,12 @@ pub record AreNames (names : List (List ℕ)) : Type 0 where
 pub record IsTask (plan : PlanModel) (task : TaskModel) : Type 0 where
   pub core : task.core < plan.cores
   pub times : AreTimes task.times
-  pub deadline : (1 ≤ task.deadline) × (task.deadline ≤ 1000000)
-  pub size : length task.units ≤ 4096
+  pub deadline : (1 ≤ task.deadline) × (task.deadline ≤ longest_time)
+  pub size : length task.units ≤ most_units
 
--- after the first n units the locks are properly nested, and at most 8 resources are held
+-- after the first n units the locks are properly nested, and no more resources are held than may be
 abbrev pub IsNestedAt : List Op → ℕ → Type 0
-IsNestedAt us n = (held : List ℕ) × (held_after (take n us) ≡ Some held) × (length held ≤ 8)
+IsNestedAt us n = (held : List ℕ) × (held_after (take n us) ≡ Some held) × (length held ≤ most_held)
 
 -- how units lock, as far as they go
 pub record IsLocking (plan : PlanModel) (us : List Op) : Type 0 where
@@ -40,10 +41,10 @@ pub record IsLocking (plan : PlanModel) (us : List Op) : Type 0 where
 
 -- the numbers and names of a plan and of its tasks, and how the tasks lock as far as they go
 pub record IsDraft (plan : PlanModel) : Type 0 where
-  pub cores : (1 ≤ plan.cores) × (plan.cores ≤ 8)
-  pub ticks : (1 ≤ plan.ticks) × (plan.ticks ≤ 20000)
-  pub resources : length plan.resources ≤ 32
-  pub tasks : length plan.tasks ≤ 64
+  pub cores : (1 ≤ plan.cores) × (plan.cores ≤ most_cores)
+  pub ticks : (1 ≤ plan.ticks) × (plan.ticks ≤ most_ticks)
+  pub resources : length plan.resources ≤ most_resources
+  pub tasks : length plan.tasks ≤ most_tasks
   pub resource_names : AreNames plan.resources
   pub task_names : AreNames (map (λ task. task.name) plan.tasks)
   pub each : (t : ℕ) → t < length plan.tasks → IsTask plan (task_at plan t)
@@ -65,4 +66,4 @@ pub record IsPlan (plan : PlanModel) : Type 0 where
   pub draft : IsDraft plan
   pub whole : (t : ℕ) → t < length plan.tasks → IsWhole (task_at plan t)
   pub flat : (t : ℕ) → t < length plan.tasks → IsFlat plan (task_at plan t).units
-  pub jobs : length (jobs plan) ≤ 8192
+  pub jobs : length (jobs plan) ≤ most_jobs

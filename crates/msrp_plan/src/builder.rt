@@ -7,6 +7,7 @@ ghost use Rattle.msrp_plan.specs.Plan.{task_at};
 ghost use Rattle.msrp_plan.specs.Jobs.{jobs, jobs_of};
 ghost use Rattle.msrp_plan.specs.Levels.{is_global};
 ghost use Rattle.msrp_plan.specs.Inside.Marks.{AreGlobals, holds_one_after, is_marked, locks_one};
+ghost use Rattle.msrp_plan.specs.Limits.{most_ticks};
 ghost use Rattle.msrp_plan.specs.Names.{has_name, name_position};
 ghost use Rattle.msrp_plan.specs.Building.{AreNew, IsJudged, judged, finished, empty_plan, new_task, new_fault, resource_fault, task_fault, tick_fault, release_fault, op_fault, end_fault, finish_fault, are_in_range, is_above, is_undeclared, is_misnested, is_too_much, nests_global, newest_task, newest_units, takes_releases, with_release, with_resource, with_task, with_units, units_of};
 ghost use Rattle.msrp_plan.specs.ReleaseTimes.{Every, Listed, lacks_release, listed_ticks};
@@ -416,7 +417,7 @@ impl PlanBuilder {
     fn jobs(&self, task: usize) -> u32
         requires { task < length self.now.tasks }
         ensures value { result ≡ length (jobs_of self.now task) }
-        ensures bound { result ≤ 20000 }
+        ensures bound { result ≤ most_ticks }
     {
         self.tasks[task].releases.count_before(self.ticks)
     }

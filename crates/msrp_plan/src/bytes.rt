@@ -8,6 +8,7 @@ ghost use Rattle.std.specs.Prelude.{◌≡◌, ◌++◌, ◌+◌, ◌≤◌, ◌
 ghost use Rattle.std.specs.Io.{ReadsAtMost};
 ghost use Rattle.std.specs.Io.KnownBytes.{Appends, ReadConsumes};
 ghost use Rattle.std.specs.IoError.{error_kind};
+ghost use Rattle.msrp_plan.specs.Limits.{most_bytes};
 ghost use Rattle.msrp_plan.specs.Bytes.{sink_failed, sink_inner, source_failed, source_ended, source_inner, source_given, source_calls, source_remaining, is_open, is_spent, AppendsPrefix, Wrote};
 
 #[cfg(test)]
@@ -91,7 +92,7 @@ impl<R: Read> Source<R> {
         ensures good { OnOk result (source_failed self.new ≡ false) }
         ensures called { source_calls self.new ≡ source_calls self.old + 1 }
         ensures counted { IfOk result (λ n. source_given self.new ≡ source_given self.old + n) }
-        ensures limit { source_given self.new ≤ BYTE_LIMIT }
+        ensures limit { source_given self.new ≤ most_bytes }
         ensures end { IfOk result (λ n. (source_ended self.new ≡ true) ↔ ((n ≡ 0) × (0 < length buf.new))) }
     {
         self.calls += 1;
@@ -130,7 +131,7 @@ impl<R: Read> Read for Source<R> {
         // Else the reader is asked once, and what it gives is counted.
         ensures called { is_open self.old ≡ true → is_spent self.old ≡ false → source_calls self.new ≡ source_calls self.old + 1 }
         ensures counted { IfOk result (λ n. source_given self.new ≡ source_given self.old + n) }
-        ensures limit { source_given self.old ≤ BYTE_LIMIT → source_given self.new ≤ BYTE_LIMIT }
+        ensures limit { source_given self.old ≤ most_bytes → source_given self.new ≤ most_bytes }
         ensures met { is_open self.old ≡ true → IfOk result (λ n. (source_ended self.new ≡ true) ↔ ((n ≡ 0) × (0 < length buf.new))) }
     {
         match self.stage {

@@ -5,6 +5,7 @@ ghost use Rattle.std.specs.List.{range_with_len};
 ghost use Rattle.std.specs.Option.{option_map};
 ghost use Rattle.msrp_plan.specs.Plan.{task_at, release, release_tick, key};
 ghost use Rattle.msrp_plan.specs.Jobs.{job_at, jobs_of};
+ghost use Rattle.msrp_plan.specs.Limits.{longest_time};
 ghost use Rattle.msrp_plan.specs.Names.{name_position};
 ghost use Rattle.msrp_plan.specs.Times.{HasRelease, times_told};
 ghost use Rattle.msrp_plan.specs.WellFormed.{IsPlan, IsTask};
@@ -177,7 +178,7 @@ impl Plan {
         requires task { job.task.0 < length self.now.tasks }
         requires released { IsSome (release_tick self.now job) }
         ensures value { result ≡ release self.now job }
-        ensures bound { result ≤ 1000000 * 2 ^ 32 }
+        ensures bound { result ≤ longest_time * 2 ^ 32 }
     {
         self.named_task(job.task).1.releases.tick(job.k)
     }

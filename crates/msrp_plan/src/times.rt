@@ -1,6 +1,7 @@
 //! When the jobs of a task are released: once in each period from an offset on, or at the ticks of a list.
 ghost use Rattle.std.specs.Prelude.{◌≡◌, ◌<◌, ◌≤◌, ◌*◌, ◌^◌, ◌==◌, ℕ, length, nat_lt, IsSome, Some, OnOk, OnErr, vec_len};
 ghost use Rattle.msrp_plan.specs.ReleaseTimes.{AreTimes, is_listed, lacks_release, listed_ticks, tick_of, with_tick};
+ghost use Rattle.msrp_plan.specs.Limits.{longest_time};
 ghost use Rattle.msrp_plan.specs.Inside.Tasks.{comes_before, times_view};
 ghost use Rattle.msrp_plan.specs.Times.{times_told};
 
@@ -44,7 +45,7 @@ impl Releases {
         requires times { AreTimes (times_view self.now) }
         requires released { IsSome (tick_of (times_view self.now) k) }
         ensures value { tick_of (times_view self.now) k ≡ Some result }
-        ensures bound { result ≤ 1000000 * 2 ^ 32 }
+        ensures bound { result ≤ longest_time * 2 ^ 32 }
     {
         match self {
             Releases::Every { period, offset } => {

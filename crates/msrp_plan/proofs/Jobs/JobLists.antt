@@ -1,5 +1,5 @@
 -- The jobs of a task, and of a core, as lists.
-use Rattle.std.proofs.Common.{◌≡◌, ℕ, zero, suc, ◌+◌, ◌-◌, ◌<◌, ◌≤◌, ◌==◌, Bool, true, false, cond, List, [], ◌∷◌, ◌++◌, map, refl, ap, ◌∙◌, arith, nat_lt, length, length-append}
+use Rattle.std.proofs.Common.{◌≡◌, ℕ, zero, suc, ◌+◌, ◌<◌, ◌≤◌, ◌==◌, Bool, true, false, cond, List, [], ◌∷◌, ◌++◌, map, refl, ap, ◌∙◌, arith, nat_lt, length}
 use Rattle.std.specs.List.{AllByRecursion, Contains, filter, flat_map, range_with_len}
 use Rattle.std.proofs.lemmas.List.Elements.{All-contains, All-from_recursion, filter-append}
 use Rattle.msrp_plan.specs.Plan.{PlanModel, task_at, core_of, release, units}
@@ -64,21 +64,6 @@ among_below plan n a (suc m) h =
 -- the jobs of a core are of tasks of the plan
 pub core_jobs_below : (plan : PlanModel) (c : ℕ) → AllByRecursion (λ j. j.task.0 < length plan.tasks) (jobs_on plan c)
 core_jobs_below plan c = all_filtered (λ j. j.task.0 < length plan.tasks) (λ j. core_of plan j == c) (flat_map (jobs_of plan) (range_with_len 0 (length plan.tasks))) (among_below plan (length plan.tasks) 0 (length plan.tasks) (omega arith))
-
--- more tasks have no fewer jobs
-among_grows : (plan : PlanModel) (c t n : ℕ) → length (jobs_among plan c (range_with_len 0 t)) ≤ length (jobs_among plan c (range_with_len 0 (t + n)))
-among_grows plan c t zero = let z : t ≡ t + 0 = omega arith in let a = ap (λ m. length (jobs_among plan c (range_with_len 0 m))) z in omega (arith, a)
-among_grows plan c t (suc n) =
-    let z : t + suc n ≡ (t + n) + 1 = omega arith in
-    let a = ap (λ m. length (jobs_among plan c (range_with_len 0 m))) z in
-    let b = ap length (jobs_among_more plan c (t + n)) in
-    let d = length-append (jobs_among plan c (range_with_len 0 (t + n))) (cond ((task_at plan (t + n)).core == c) (jobs_of plan (t + n)) []) in
-    let e = among_grows plan c t n in
-    omega (arith, a, b, d, e)
-
--- fewer tasks have no more jobs on the core
-pub among_fewer : (plan : PlanModel) (c t n : ℕ) → t ≤ n → length (jobs_among plan c (range_with_len 0 t)) ≤ length (jobs_among plan c (range_with_len 0 n))
-among_fewer plan c t n h = let z : t + (n - t) ≡ n = omega arith in let a = ap (λ m. length (jobs_among plan c (range_with_len 0 m))) z in let e = among_grows plan c t (n - t) in omega (arith, a, e)
 
 -- the task of a job is one of the plan's, so it has a unit
 pub has_unit : (plan : PlanModel) (c : ℕ) (x : JobId) → IsPlan plan → Contains (jobs_on plan c) x → 0 < length (units plan x)

@@ -127,19 +127,6 @@ job_count plan t q h tests =
     let kept = filter (comes_before times plan.ticks) (range_with_len 0 plan.ticks) in
     (ap length (numbered plan t) ∙ (length-map kept (job_at t) ∙ (below_bound (comes_before times plan.ticks) q tests 0 plan.ticks (omega arith) (omega (arith, few)) ∙ omega arith)), few)
 
--- ---- by a division
--- periodic releases before a tick are the first q, where q periods are the least that reach from the offset to the tick
-pub released_first : (offset period tick q k : ℕ) → 0 < period → tick - offset ≤ q * period → q * period < (tick - offset) + period → nat_lt (offset + k * period) tick ≡ nat_lt k q
-released_first offset period tick q k some enough least = elim (cases_lt k q) [
-  | inl before ↦
-      let more : (k + 1) * period ≤ q * period = mul-le-mul_right period (omega (arith, before)) in
-      let split : (k + 1) * period ≡ k * period + period = omega arith in
-      lt-ltb _ _ (omega (arith, more, split, least)) ∙ sym (lt-ltb k q before)
-  | inr past ↦
-      let more : q * period ≤ k * period = mul-le-mul_right period past in
-      le-ltb _ _ (omega (arith, more, enough)) ∙ sym (le-ltb k q past)
-]
-
 -- ---- by a search
 -- releases of a list before a tick are those that the search finds
 pub listed_first : (ticks : List ℕ) (tick q k : ℕ) → q ≤ length ticks → IsPartitionPoint (λ y. nat_lt y tick ≡ true) (λ y. nat_lt y tick ≡ false) ticks q → comes_before (Listed ticks) tick k ≡ nat_lt k q
@@ -169,14 +156,3 @@ task_times plan h t = elim (cases_lt t (length plan.tasks)) [
       let none : AreTimes no_task.times = record { positive = omega arith; short = omega arith; soon = omega arith } in
       subst (λ (task : TaskModel). AreTimes task.times) (sym (get_or_past plan.tasks t no_task past)) none
 ]
-
--- the jobs of a task are released one after the other
-pub jobs_rise : (plan : PlanModel) → IsDraft plan → (t a b : ℕ) → a < b → release plan (job_at t b) < plan.ticks → release plan (job_at t a) < release plan (job_at t b)
-jobs_rise plan h t a b less exists =
-    let times = (task_at plan t).times in
-    let next = before_is (tick_of times b) plan.ticks (lt-ltb _ _ exists) in
-    let this = has_earlier times a b next.0 (omega (arith, less)) next.1.0 in
-    let rise = releases_rise times (task_times plan h t) a b this.0 next.0 less this.1 next.1.0 in
-    let early : release plan (job_at t a) ≡ this.0 = ap (λ o. unwrap_or o plan.ticks) this.1 in
-    let late : release plan (job_at t b) ≡ next.0 = ap (λ o. unwrap_or o plan.ticks) next.1.0 in
-    omega (arith, rise, early, late)

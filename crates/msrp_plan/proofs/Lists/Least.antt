@@ -1,6 +1,5 @@
--- The least of a list: where it comes from, and the least of a list's images.
-use Rattle.std.proofs.Common.{◌≡◌, Bool, true, false, cond, List, [], ◌∷◌, map, Some, refl, ap, ◌∙◌, subst}
-use Rattle.std.specs.Option.{option_map}
+-- The least of a list, and where it comes from.
+use Rattle.std.proofs.Common.{◌≡◌, Bool, true, false, cond, List, [], ◌∷◌, Some, subst}
 use Rattle.std.specs.List.{best_of, filter, AllByRecursion}
 use Rattle.std.proofs.lemmas.List.Elements.{recursion_from_All, All-from_recursion, All-filter}
 use Rattle.msrp_plan.specs.Choice.{least}
@@ -23,20 +22,3 @@ best_meets lt P a (x ∷ xs) pa all = best_meets lt P (cond (lt x a) x a) xs (ei
 pub least_meets : {X : Type 0} (lt : X → X → Bool) (P : X → Type 0) (xs : List X) (y : X) → AllByRecursion P xs → least lt xs ≡ Some y → P y
 least_meets lt P [] y all e = absurd (cc)
 least_meets lt P (x ∷ xs) y all e = let h : best_of lt x xs ≡ y = cc in subst P h (best_meets lt P x xs all.0 all.1)
-
--- the image of either of two
-map_either : {X Y : Type 0} (f : X → Y) (b : Bool) (x y : X) → cond b (f x) (f y) ≡ f (cond b x y)
-map_either f true x y = refl
-map_either f false x y = refl
-
--- the best of the images is the image of the best
-best_map : {X Y : Type 0} (f : X → Y) (lt : X → X → Bool) (under : Y → Y → Bool) (P : X → Type 0) → ((x y : X) → P x → P y → under (f x) (f y) ≡ lt x y) → (a : X) (xs : List X) → P a → AllByRecursion P xs → best_of under (f a) (map f xs) ≡ f (best_of lt a xs)
-best_map f lt under P agree a [] pa all = refl
-best_map f lt under P agree a (x ∷ xs) pa all =
-    ap (λ v. best_of under v (map f xs)) (ap (λ b. cond b (f x) (f a)) (agree x a all.0 pa) ∙ map_either f (lt x a) x a)
-    ∙ best_map f lt under P agree (cond (lt x a) x a) xs (either_meets P (lt x a) x a all.0 pa) all.1
-
--- where images compare as elements do, the least of the images is the image of the least
-pub least_map : {X Y : Type 0} (f : X → Y) (lt : X → X → Bool) (under : Y → Y → Bool) (P : X → Type 0) → ((x y : X) → P x → P y → under (f x) (f y) ≡ lt x y) → (xs : List X) → AllByRecursion P xs → least under (map f xs) ≡ option_map f (least lt xs)
-least_map f lt under P agree [] all = refl
-least_map f lt under P agree (x ∷ xs) all = ap (λ b. Some b) (best_map f lt under P agree x xs all.0 all.1)

@@ -1,21 +1,19 @@
 -- Turns of the cores, put together tick by tick, are a legal run.
-use Rattle.std.proofs.Common.{◌≡◌, ◌≢◌, ℕ, ◌+◌, ◌*◌, ◌/◌, ◌<◌, ◌≤◌, ◌==◌, Bool, true, false, cond, not, ◌&&◌, List, [], ◌∷◌, ◌++◌, Option, Some, None, refl, ap, sym, ◌∙◌, subst, arith, nat_lt, length, length-append, append_assoc, append-nil, eq-eqb}
+use Rattle.std.proofs.Common.{◌≡◌, ◌≢◌, ℕ, ◌+◌, ◌*◌, ◌/◌, ◌<◌, ◌≤◌, ◌==◌, Bool, true, false, cond, not, ◌&&◌, List, [], ◌∷◌, ◌++◌, Option, Some, None, refl, ap, sym, ◌∙◌, arith, nat_lt, length, length-append, append-nil, eq-eqb}
 use Rattle.std.specs.List.{filter, range_with_len, AllByRecursion}
-use Rattle.std.proofs.lemmas.List.{map-append, length-map}
 use Rattle.std.proofs.lemmas.List.Elements.{filter-append, All-from_recursion}
 use Rattle.std.proofs.lemmas.List.Folds.{list_any_none}
 use Rattle.std.proofs.Math.Bool.{and-false}
 use Rattle.std.proofs.lemmas.List.FromFn.{length-range_with_len}
 use Rattle.std.proofs.lemmas.Bool.{lt-ltb, eqb-true}
-use Rattle.std.proofs.lemmas.Nat.{div-mul-add}
 use Rattle.msrp_plan.specs.Plan.{PlanModel}
-use Rattle.msrp_plan.specs.Runs.{EachAfter, IsLegal, IsRun, IsCoreTurn, is_of_core, had_turn, replies_on}
-use Rattle.msrp_plan.specs.Logs.{is_of, log_of, core_order, ascending, IsDueTurn}
+use Rattle.msrp_plan.specs.Runs.{EachAfter, IsLegal, is_of_core, had_turn, replies_on}
+use Rattle.msrp_plan.specs.Logs.{is_of, log_of, ascending, IsDueTurn}
 use Rattle.msrp_plan.specs.declared.ids.ResId.{ResId}
 use Rattle.msrp_plan.specs.declared.rows.Row.{Row}
 use Rattle.msrp_plan.proofs.Lists.AnyAll.{all_weaker, all_push}
-use Rattle.msrp_plan.proofs.Lists.Prefixes.{each_push, each_along}
-use Rattle.msrp_plan.proofs.Lists.Ranges.{range_more, flat_more, not_equal, past_range, once_in_range, flat_length, flat_filter, length_filter_map}
+use Rattle.msrp_plan.proofs.Lists.Prefixes.{each_along}
+use Rattle.msrp_plan.proofs.Lists.Ranges.{not_equal, once_in_range, flat_length, flat_filter}
 use Rattle.msrp_plan.proofs.Legality.Locality.{AreOwn, chosen_local, action_local}
 
 -- ---- the log of a core after one row more
@@ -81,24 +79,9 @@ pub due_rows_legal : (plan : PlanModel) (rows : List Row) → EachAfter (IsDueTu
 due_rows_legal plan rows all = each_along (IsFront plan) (IsDueTurn plan) (IsLegal plan) (front_push plan) (due_legal plan) [] rows (record { own = tt; past = tt }) all
 
 -- ---- the cores in rising order, tick by tick
--- the rows of the first t ticks, and of the first c cores in tick t, each of a due core
-pub record IsAscendingTo (plan : PlanModel) (t c : ℕ) (rows : List Row) : Type 0 where
-  pub order : core_order rows ≡ ascending plan.cores t ++ range_with_len 0 c
-  pub turns : EachAfter (IsDueTurn plan) [] rows
-
 -- the order of so many ticks has one place for each core and tick
 pub ascending_length : (m t : ℕ) → length (ascending m t) ≡ t * m
 ascending_length m t = flat_length (λ k. range_with_len 0 m) m (λ k. length-range_with_len 0 m) (range_with_len 0 t) ∙ ap (λ n. n * m) (length-range_with_len 0 t)
-
--- there are so many rows
-pub ascending_rows : (plan : PlanModel) (t c : ℕ) (rows : List Row) → IsAscendingTo plan t c rows → length rows ≡ t * plan.cores + c
-ascending_rows plan t c rows h =
-    let a : length (core_order rows) ≡ length rows = length-map rows (λ r. r.core.0) in
-    let b = ap length h.order in
-    let d = length-append (ascending plan.cores t) (range_with_len 0 c) in
-    let e = ascending_length plan.cores t in
-    let f = length-range_with_len 0 c in
-    omega (arith, a, b, d, e, f)
 
 -- each core stands in it once for each tick
 pub ascending_count : (m t c : ℕ) → c < m → length (filter (λ k. k == c) (ascending m t)) ≡ t
@@ -107,56 +90,7 @@ ascending_count m t c l =
     ∙ (flat_length (λ k. filter (λ k. k == c) (range_with_len 0 m)) 1 (λ k. once_in_range c 0 m (omega arith) (omega arith)) (range_with_len 0 t)
     ∙ (let n = length-range_with_len 0 t in omega (arith, n)))
 
--- the core whose turn it is has had one turn in each full tick
-pub log_due : (plan : PlanModel) (t c : ℕ) (rows : List Row) → IsAscendingTo plan t c rows → c < plan.cores → length (log_of c rows) ≡ t
-log_due plan t c rows h l =
-    let a : length (filter (λ k. k == c) (core_order rows)) ≡ length (log_of c rows) = length_filter_map (λ (r : Row). r.core.0) (λ k. k == c) rows in
-    let b = ap (λ ks. length (filter (λ k. k == c) ks)) h.order in
-    let d = ap length (filter-append (λ k. k == c) (ascending plan.cores t) (range_with_len 0 c)) in
-    let e = length-append (filter (λ k. k == c) (ascending plan.cores t)) (filter (λ k. k == c) (range_with_len 0 c)) in
-    let f = ap length (past_range c 0 c (omega arith)) in
-    let g = ascending_count plan.cores t c l in
-    omega (arith, a, b, d, e, f, g)
-
 -- a row on no resource needs no reply
 pub quiet_reply : (pre : List Row) (r : Row) (o : Option ResId) → o ≡ None → replies_on pre o r ≡ true
 quiet_reply pre r None h = refl
 quiet_reply pre r (Some g) h = absurd (cc)
-
--- before the first turn
-pub ascending_start : (plan : PlanModel) → IsAscendingTo plan 0 0 []
-ascending_start plan = record { order = refl; turns = tt }
-
--- the turn of the next core, on no resource
-pub ascending_turn : (plan : PlanModel) (t c : ℕ) (rows : List Row) (r : Row) → IsAscendingTo plan t c rows → c < plan.cores → IsCoreTurn plan c (log_of c rows) r → r.res ≡ None → IsAscendingTo plan t (c + 1) (rows ++ r ∷ [])
-ascending_turn plan t c rows r h l turn quiet =
-    let at : c ≡ r.core.0 = sym turn.core in
-    let full : length rows / plan.cores ≡ t = ap (λ n. n / plan.cores) (ascending_rows plan t c rows h) ∙ div-mul-add t plan.cores c l in
-    let due : IsDueTurn plan rows r = record {
-      core = subst (λ d. d < plan.cores) at l;
-      due = ap (λ d. length (log_of d rows)) (sym at) ∙ (log_due plan t c rows h l ∙ sym full);
-      turn = subst (λ d. IsCoreTurn plan d (log_of d rows) r) at turn;
-      reply = quiet_reply rows r r.res quiet;
-    } in
-    record {
-      order = map-append (λ r. r.core.0) rows (r ∷ [])
-          ∙ (ap (λ ks. ks ++ r.core.0 ∷ []) h.order
-          ∙ (append_assoc (ascending plan.cores t) (range_with_len 0 c) (r.core.0 ∷ [])
-          ∙ ap (λ ks. ascending plan.cores t ++ ks) (ap (λ d. range_with_len 0 c ++ d ∷ []) (sym at ∙ omega arith) ∙ sym (range_more 0 c))));
-      turns = each_push (IsDueTurn plan) [] rows r h.turns due;
-    }
-
--- the end of a tick
-pub ascending_tick : (plan : PlanModel) (t : ℕ) (rows : List Row) → IsAscendingTo plan t plan.cores rows → IsAscendingTo plan (t + 1) 0 rows
-ascending_tick plan t rows h = record {
-  order = h.order ∙ (sym (flat_more (λ k. range_with_len 0 plan.cores) t) ∙ sym (append-nil (ascending plan.cores (t + 1))));
-  turns = h.turns;
-}
-
--- after the last tick the rows are a legal run
-pub ascending_run : (plan : PlanModel) (rows : List Row) → IsAscendingTo plan plan.ticks 0 rows → IsRun plan rows
-ascending_run plan rows h = record { size = ascending_rows plan plan.ticks 0 rows h ∙ grind arith; each = due_rows_legal plan rows h.turns }
-
--- and in each tick the cores have their turns in rising order
-pub ascending_order : (plan : PlanModel) (rows : List Row) → IsAscendingTo plan plan.ticks 0 rows → core_order rows ≡ ascending plan.cores plan.ticks
-ascending_order plan rows h = h.order ∙ append-nil (ascending plan.cores plan.ticks)
