@@ -14,7 +14,6 @@ use Rattle.msrp_plan.specs.Runs.{IsLegal, is_in_turn, is_of_core, is_chosen, is_
 use Rattle.msrp_plan.specs.Verdict.{broken}
 use Rattle.msrp_plan.specs.declared.ids.JobId.{JobId}
 use Rattle.msrp_plan.specs.declared.ids.ResId.{ResId}
-use Rattle.msrp_plan.specs.declared.faults.Rule.{Rule}
 use Rattle.msrp_plan.specs.declared.faults.Rule.TheVariants.{A1, A2, A3, A4, A5}
 use Rattle.msrp_plan.specs.declared.units.Op.{Op}
 use Rattle.msrp_plan.specs.declared.units.Op.TheVariants.{Run as RunUnit, Lock as LockUnit, Unlock as UnlockUnit}
@@ -200,8 +199,6 @@ reply_alike plan pre r s legal c job alike =
     reply_by pre r s r.res refl (sym res) job both.1 (subst (λ o. replies_on pre o s ≡ true) (sym res) legal.reply) c
 
 -- ---- the lowest of them
-by_reply : (fifo alike : Bool) → fifo ≡ alike → (rule : Option Rule) → cond fifo None rule ≡ cond alike None rule
-by_reply fifo alike h rule = ap (λ b. cond b None rule) h
 
 by_action : (plan : PlanModel) (pre : List Row) (r s : Row) → IsLegal plan pre s → carries_its_ahead s ≡ true → r.job ≡ s.job → (b : Bool) → does_alike r s ≡ b
     → cond (is_next_action plan pre r) (cond (is_fifo_reply pre r) None (Some A5)) (Some A4) ≡ cond b (cond (replied_alike r s) None (Some A5)) (Some A4)

@@ -10,7 +10,7 @@ use Rattle.msrp_plan.specs.declared.units.Phase.{Phase}
 use Rattle.msrp_board.specs.declared.answers.Look.{Look}
 use Rattle.msrp_board.specs.declared.answers.Look.TheVariants.{Wait, Go, Stopped}
 use Rattle.msrp_board.specs.declared.answers.SeatPhase.{SeatPhase}
-use Rattle.msrp_board.specs.declared.answers.SeatPhase.TheVariants.{Waiting, Admitted}
+use Rattle.msrp_board.specs.declared.answers.SeatPhase.TheVariants.{Waiting}
 use Rattle.msrp_board.specs.declared.books.Entry.{Entry}
 use Rattle.msrp_board.specs.declared.books.Book.{Book}
 use Rattle.msrp_board.specs.declared.books.BoardSize.{BoardSize}
@@ -76,9 +76,6 @@ is_in seat phase s reads = record { core = s.0; book = s.1; of_core = s.2; stand
 
 pub may_act : (seat : SeatModel) (lock : Phase) → IsFresh seat → ((c : ℕ) (b : Book) → IsCoreSeat seat c b → lock ≡ lock_of b) → MayAct lock seat
 may_act seat lock fresh reads = let m = fresh.1 in record { core = m.core; book = m.book; of_core = m.of_core; stands = m.stands; quiet = m.quiet; claims = sym (reads m.core m.book m.of_core) }
-
-pub is_admitted : (seat : SeatModel) → IsFresh seat → IsIn Admitted seat
-is_admitted seat fresh = let m = fresh.1 in record { core = m.core; book = m.book; of_core = m.of_core; stands = m.stands }
 
 -- ---- what follows from what every book keeps
 

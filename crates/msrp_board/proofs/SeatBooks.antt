@@ -1,5 +1,5 @@
 -- Which books a seat has after a split and a join, for whoever parts all seats or joins them in a loop.
-use Rattle.std.proofs.Common.{◌≡◌, ◌≢◌, ℕ, zero, suc, ◌+◌, ◌<◌, List, [], ◌∷◌, Some, None, refl, sym, ap, ◌∙◌, subst, arith}
+use Rattle.std.proofs.Common.{◌≡◌, ◌≢◌, ℕ, zero, suc, List, [], ◌∷◌, Some, None, refl, sym, ap, ◌∙◌}
 use Rattle.std.specs.Prelude.{slice_index_or}
 use Rattle.std.specs.declared.option.Option.{Option}
 use mathlib.Core.Logic.{dite}
@@ -49,9 +49,6 @@ at-together (x ∷ xs) (y ∷ ys) (suc c) = at-together xs ys c
 pub book_at-alone : (seat : SeatModel) (c : ℕ) → book_at (alone c seat) c ≡ book_at seat c
 book_at-alone seat c = at-only_same c seat.books
 
-pub book_at-without_same : (seat : SeatModel) (c : ℕ) → book_at (without c seat) c ≡ None
-book_at-without_same seat c = at-none_same c seat.books
-
 pub book_at-without_other : (seat : SeatModel) (c d : ℕ) → d ≢ c → book_at (without c seat) d ≡ book_at seat d
 book_at-without_other seat c d n = at-none_other c d seat.books n
 
@@ -74,11 +71,3 @@ no_other_book seat c d b s n = by_book (book_at seat d) refl
     by_book : (o : Option Book) → book_at seat d ≡ o → o ≡ None
     by_book None e = refl
     by_book (Some a) e = absurd (n (s.only d a e))
-
--- where the books of the first n cores are in the seat, and the next core's seat is joined to it, those of the first n + 1
--- are: the step of a loop that joins the seats of all cores, each with a book that P holds of
-pub joined_more : (P : ℕ → Book → Type 0) (seat other : SeatModel) (n : ℕ) (b : Book) → IsCoreSeat other n b → P n b → book_at seat n ≡ None
-    → ((c : ℕ) → c < n → (a : Book) × (book_at seat c ≡ Some a) × P c a) → (c : ℕ) → c < n + 1 → (a : Book) × (book_at (both seat other) c ≡ Some a) × P c a
-joined_more P seat other n b s p none old c low = dite (ℕ_discrete c n)
-    (λ q. subst (λ k. (a : Book) × (book_at (both seat other) k ≡ Some a) × P k a) (sym q) (b, book_of_second seat other n none ∙ s.book, p))
-    (λ ne. let r = old c (omega (arith, low, ne)) in (r.0, book_of_first seat other c r.0 r.1, r.2))

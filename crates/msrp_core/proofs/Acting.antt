@@ -22,7 +22,7 @@ use Rattle.msrp_stack.specs.Stack.{StackModel, StartedJob, HasRoom, IsInnermost,
 use Rattle.msrp_core.specs.Going.{Going, going_of, advanced, is_waiting_phase, is_holding_phase, state_in, HoldSo, AreGoing}
 use Rattle.msrp_core.specs.CoreJobs.{going_in, state_of, AreJobs, IsRunning, CanAct, Acts}
 use Rattle.msrp_core.specs.declared.jobs.Jobs.{Jobs}
-use Rattle.msrp_core.proofs.Steps.{IsStep, advance_going, advance_states, last_free, wait_going, wait_states}
+use Rattle.msrp_core.proofs.Steps.{IsStep, advance_going, advance_states, last_free}
 
 -- ---- the newest with one resource more, and without the innermost
 abbrev pub kept_with : ℕ → List Going → List Going
@@ -187,13 +187,6 @@ module _ (old new : Jobs) (job : JobId) (op : Op) (tick : ℕ) (r : Row) (q : Ph
       acts_by (advanced old.plan.now (record can.newest { held = held } ∷ can.below))
       (advance_going old.plan.now can.jobs_fit.accepted old.core.0 old.ready.taken can.newest can.below old.phase (going_at old job op can) q held step) left
       (advance_states old.plan.now can.jobs_fit.accepted old.core.0 old.ready.taken can.newest can.below old.phase (going_at old job op can) q held r row_job_is (ap is_waiting row.kind_is ∙ acts) step.calm)
-
-  -- a wait
-  pub acts_wait : (g : ResId) (held : List ℕ) → q ≡ Queued g → HoldSo old.plan.now (Queued g) (record can.newest { held = held } ∷ can.below) → is_waiting k ≡ true → IsLeft old new q (record can.newest { held = held } ∷ can.below) → Acts old new job tick r
-  acts_wait g held is holds waits left =
-      acts_by (record can.newest { held = held } ∷ can.below)
-      (subst (λ p. AreGoing old.plan.now old.core.0 old.ready.taken p (record can.newest { held = held } ∷ can.below)) (sym is) (wait_going old.plan.now can.jobs_fit.accepted old.core.0 old.ready.taken can.newest can.below old.phase (going_at old job op can) g held holds)) left
-      (λ j. ap (λ p. state_in old.plan.now old.ready.taken p (record can.newest { held = held } ∷ can.below) j) is ∙ wait_states old.plan.now can.jobs_fit.accepted old.core.0 old.ready.taken can.newest can.below old.phase (going_at old job op can) g held r row_job_is (ap is_waiting row.kind_is ∙ waits) j)
 
 -- the phase of a core that holds a resource passes the test for it
 pub holding_self : (r : ResId) → is_holding_phase r (Holding r) ≡ true

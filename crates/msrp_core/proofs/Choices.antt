@@ -16,7 +16,6 @@ use Rattle.msrp_plan.specs.States.{JobState, state_after}
 use Rattle.msrp_plan.specs.WellFormed.{IsPlan}
 use Rattle.msrp_plan.specs.declared.ids.JobId.{JobId}
 use Rattle.msrp_plan.specs.declared.ids.ResId.{ResId}
-use Rattle.msrp_plan.specs.declared.units.Op.{Op}
 use Rattle.msrp_plan.specs.declared.rows.Row.{Row}
 use Rattle.msrp_plan.specs.declared.units.Phase.{Phase}
 use Rattle.msrp_plan.specs.declared.units.Phase.TheVariants.{Free, Queued, Holding}
@@ -133,10 +132,6 @@ module _ (plan : PlanModel) (c : ℕ) (log : List Row) (taken : List JobId) (pha
   -- by its units so far
   abbrev holds_by : ℕ → Going → Bool
   holds_by g s = holds_after (take s.done (units plan s.job)) g
-
-  -- no units hold nothing
-  none_held : (g : ℕ) (us : List Op) → holds_after (take 0 us) g ≡ false
-  none_held g us = refl
 
   -- nor do all units of a task
   all_free : (g : ℕ) (j : JobId) → holds_after (take (length (units plan j)) (units plan j)) g ≡ false

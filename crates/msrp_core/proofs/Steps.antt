@@ -211,15 +211,7 @@ module _ (plan : PlanModel) (ok : IsPlan plan) (s : Going) (below : List Going) 
         );
       }
 
-  -- queued
-  pub queue_holds : (r : ResId) → HoldSo plan Free (s ∷ below) → slice_get (units plan s.job) s.done ≡ Some (Lock r) → is_global plan r.0 ≡ true → HoldSo plan (Queued r) (record s { held = r.0 ∷ s.held } ∷ below)
-  queue_holds r h at glob = (record { unit = at; global = glob; rest = s.held; held = refl; now = h.0.now; locals = h.0.locals }, h.1)
-
   -- ---- a poll: it is of the resource that the core awaits
-  pub poll_phase : (p : Phase) (r : ResId) → HoldSo plan p (s ∷ below) → slice_get (units plan s.job) s.done ≡ Some (Lock r) → is_waiting_phase p ≡ true → p ≡ Queued r
-  poll_phase Free r h at w = absurd (true≢false (sym w))
-  poll_phase (Queued g) r h at w = ap (λ q. Queued q) (lock_is g r (slice_get (units plan s.job) s.done) h.0.unit at)
-  poll_phase (Holding g) r h at w = absurd (true≢false (sym w))
 
   pub grant_step : (r : ResId) → HoldSo plan (Queued r) (s ∷ below) → IsStep plan s below (Holding r) s.held
   grant_step r h =
@@ -302,29 +294,5 @@ module _ (plan : PlanModel) (ok : IsPlan plan) (c : ℕ) (taken : List JobId) (s
         let d : done_in plan (advanced plan (record s { held = held } ∷ below)) j ≡ done_in plan (s ∷ below) j = done_other held (s.done + 1) (s.done + 1 == length (units plan s.job)) j miss ∙ sym (ap (λ b. cond b s.done (done_in plan below j)) miss) in
         let w : (is_waiting_phase q && is_newest (advanced plan (record s { held = held } ∷ below)) j) ≡ (is_waiting_phase p && is_newest (s ∷ below) j) = ap (λ b. b && is_newest (advanced plan (record s { held = held } ∷ below)) j) calm ∙ sym (ap (λ b. is_waiting_phase p && b) miss ∙ and-false (is_waiting_phase p)) in
         let m : state_in plan taken q (advanced plan (record s { held = held } ∷ below)) j ≡ state_in plan taken p (s ∷ below) j = cc in
-        m ∙ sym (ap (λ b. cond b (moved_by r (state_in plan taken p (s ∷ below) j)) (state_in plan taken p (s ∷ below) j)) test)
-  ]
-
-  -- ---- where the newest waits
-  pub wait_going : (g : ResId) (held : List ℕ) → HoldSo plan (Queued g) (record s { held = held } ∷ below) → AreGoing plan c taken (Queued g) (record s { held = held } ∷ below)
-  wait_going g held h = record {
-    each = (record { known = are.each.0.known; started = are.each.0.started; left = are.each.0.left }, are.each.1);
-    apart = are.apart;
-    holds = h;
-  }
-
-  pub wait_states : (g : ResId) (held : List ℕ) (r : Row) → r.job ≡ Some s.job → is_waiting r.kind ≡ true → (j : JobId) → state_in plan taken (Queued g) (record s { held = held } ∷ below) j ≡ state_with r (state_in plan taken p (s ∷ below) j)
-  wait_states g held r job waits j = elim (cases_Bool (same_job j s.job)) [
-    | inl hit ↦
-        let test : is_job r.job j ≡ true = row_test r j job ∙ hit in
-        let t : is_among taken j ≡ true = ap (is_among taken) (same_is j s.job hit) ∙ taken_newest in
-        let e : cond (is_among taken j) (done_in plan (s ∷ below) j) 0 + cond {A = ℕ} (not (is_waiting r.kind)) 1 0 ≡ cond (is_among taken j) (done_in plan (s ∷ below) j) 0 = ap (λ b. cond (is_among taken j) (done_in plan (s ∷ below) j) 0 + cond {A = ℕ} (not b) 1 0) waits ∙ omega arith in
-        let w : same_job j s.job ≡ is_waiting r.kind = hit ∙ sym waits in
-        let m : moved_by r (state_in plan taken p (s ∷ below) j) ≡ state_in plan taken (Queued g) (record s { held = held } ∷ below) j = cc in
-        sym m ∙ sym (ap (λ b. cond b (moved_by r (state_in plan taken p (s ∷ below) j)) (state_in plan taken p (s ∷ below) j)) test)
-    | inr miss ↦
-        let test : is_job r.job j ≡ false = row_test r j job ∙ miss in
-        let w : same_job j s.job ≡ (is_waiting_phase p && same_job j s.job) = miss ∙ sym (ap (λ b. is_waiting_phase p && b) miss ∙ and-false (is_waiting_phase p)) in
-        let m : state_in plan taken (Queued g) (record s { held = held } ∷ below) j ≡ state_in plan taken p (s ∷ below) j = cc in
         m ∙ sym (ap (λ b. cond b (moved_by r (state_in plan taken p (s ∷ below) j)) (state_in plan taken p (s ∷ below) j)) test)
   ]

@@ -99,9 +99,6 @@ module _ (old mid new : Jobs) (chosen : Option JobId) (tick : ℕ) (r : Row) (lo
   plan_is : mid.plan.now ≡ old.plan.now
   plan_is = ap (λ p. p.now) same.plan
 
-  core_is : r.core.0 ≡ old.core.0
-  core_is = ap (λ (c : CoreId). c.0) (row_core mid new chosen tick r acts ∙ same.core)
-
   later_state : (j : JobId) → state_after log j ≡ state_of old j → state_of new j ≡ state_after (log ++ r ∷ []) j
   later_state j e =
       turn_states mid new chosen tick r j acts

@@ -4,7 +4,7 @@ use Rattle.std.specs.List.{filter, range_with_len, sum_by}
 use Rattle.std.proofs.lemmas.Option.{same_Some}
 use Rattle.msrp_plan.specs.Plan.{PlanModel, TaskModel}
 use Rattle.msrp_plan.specs.Levels.{greatest}
-use Rattle.msrp_plan.specs.Bounds.{is_inside, opening, wait_bound, rows_at, out}
+use Rattle.msrp_plan.specs.Bounds.{is_inside, opening, wait_bound, rows_at}
 use Rattle.msrp_plan.specs.WellFormed.{IsLocking}
 use Rattle.msrp_plan.specs.declared.units.Op.{Op}
 use Rattle.msrp_plan.proofs.Lists.AnyAll.{all_weaker}
@@ -127,7 +127,3 @@ module _ (plan : PlanModel) (task : TaskModel) where
       few : (b : Bool) → cond b 0 (rows + 1) ≤ rows + 1
       few true = omega arith
       few false = omega arith
-
-  -- after all units
-  pub counted_all : (n held rows longest : ℕ) → n ≡ length task.units → IsCounted n held rows longest → longest ≡ out plan task
-  counted_all n held rows longest e h = h.most ∙ ap (λ k. greatest (map (rows_below k) (range_with_len 0 k))) e

@@ -4,7 +4,7 @@ use Rattle.std.specs.List.{range_with_len}
 use Rattle.std.proofs.lemmas.Bool.{cases_lt}
 use Rattle.std.proofs.lemmas.List.{get_or-map, get_or_push, get_or_append_left, length_push, length-map}
 use Rattle.std.proofs.lemmas.List.FromFn.{get_or-map-range_with_len, length-map-range_with_len}
-use Rattle.msrp_plan.specs.Plan.{PlanModel, TaskModel, no_task, task_at}
+use Rattle.msrp_plan.specs.Plan.{PlanModel}
 use Rattle.msrp_plan.specs.Bounds.{section, spin_bound}
 use Rattle.msrp_levels.specs.declared.usage.CoreUse.{CoreUse}
 use Rattle.msrp_levels.specs.Usage.{IsUsage, AreUsages}
@@ -19,10 +19,6 @@ usages_more plan n old new u h here more = record {
     | inr past ↦ let e : g ≡ n = omega (arith, l, past) in subst (λ k. IsUsage plan k (get_or (old ++ u ∷ []) k d)) (sym e) (subst (IsUsage plan n) (sym (get_or_push old u d n h.size)) here)
   ]);
 }
-
--- what is read of a task
-pub read_task : {X : Type 0} (f : TaskModel → X) (plan : PlanModel) (xs : List X) (t : ℕ) (x : X) → t < length plan.tasks → xs ≡ map f plan.tasks → x ≡ get_or xs t x → x ≡ f (task_at plan t)
-read_task f plan xs t x l e is = is ∙ (ap (λ ys. get_or ys t x) e ∙ get_or-map f plan.tasks t no_task x l)
 
 -- what is read of a number below an end
 pub read_number : {X : Type 0} (f : ℕ → X) (n : ℕ) (xs : List X) (k : ℕ) (x : X) → k < n → xs ≡ map f (range_with_len 0 n) → x ≡ get_or xs k x → x ≡ f k

@@ -6,4 +6,3 @@ pub mod Between
 pub mod Once
 pub mod Standing
 pub mod Moving
-pub mod Heads

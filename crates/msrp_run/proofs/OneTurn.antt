@@ -1,13 +1,11 @@
 -- A turn through a seat port: what the machine says of its row, and what the port tells of the step, make the log's turn.
 use Rattle.std.proofs.Common.{◌≡◌, ◌+◌, ◌<◌, ◌≤◌, ℕ, zero, suc, List, [], ◌∷◌, ◌++◌, Bool, true, false, nat_lt, Option, Some, None, refl, sym, ap, ◌∙◌, subst, arith, inl, inr, true≢false, not, is_some, ◌||◌, ◌≢◌}
-use Rattle.std.specs.Prelude.{◌⊎◌, IfSome, map, length}
+use Rattle.std.specs.Prelude.{IfSome, map}
 use Rattle.std.proofs.lemmas.List.{map-append}
 use Rattle.std.proofs.lemmas.List.Sums.{fold_push}
-use Rattle.std.proofs.lemmas.Bool.{ltb-true}
 use Rattle.msrp_plan.specs.Plan.{PlanModel}
 use Rattle.msrp_plan.specs.Levels.{is_global}
 use Rattle.msrp_plan.specs.Actions.{is_global_unit, res_of_unit}
-use Rattle.msrp_plan.specs.Aheads.{carries_its_ahead}
 use Rattle.msrp_plan.specs.Calls.{ResCall, claim_with, claim_after, IsInTurn, kind_of_call, ahead_of_call}
 use Rattle.msrp_plan.specs.Phases.{phase_with, phase_after}
 use Rattle.msrp_plan.specs.Runs.{IsCoreTurn, CoreRun}
@@ -32,21 +30,20 @@ use Rattle.msrp_board.specs.declared.books.Entry.{Entry}
 use Rattle.msrp_board.specs.Books.{phase_by, phase_in, reach_of, has_acted, lock_of, res_calls, IsKept}
 use Rattle.msrp_board.specs.History.{is_poll}
 use Rattle.msrp_board.specs.Seats.{BoardModel, SeatModel, IsSeat, IsCoreSeat}
-use Rattle.msrp_board.specs.SeatPorts.{calls_in, port_calls, port_room, room_in, room_by, IsPort, AddsCall}
+use Rattle.msrp_board.specs.SeatPorts.{calls_in, port_calls, port_room, room_in, room_by, AddsCall}
 use Rattle.msrp_board.specs.Steps.{with_entry, book_with_entry}
 use Rattle.msrp_board.proofs.CoreSeats.{core_is_one, core_changed}
 use Rattle.msrp_board.proofs.SeatPortLemmas.{port_adds}
 use Rattle.msrp_board.proofs.Told.{res_calls_last}
 use Rattle.msrp_core.specs.Machine.{MachineModel, StandsAfter}
-use Rattle.msrp_core.specs.Ports.{PortModel, Adds, claim_in}
+use Rattle.msrp_core.specs.Ports.{PortModel, claim_in}
 use Rattle.msrp_core.specs.CoreJobs.{MakesCall, IsQuiet}
 use Rattle.msrp_core.specs.declared.port.PortCall.{PortCall}
 use Rattle.msrp_merge.specs.declared.logs.Place.{Place}
 use Rattle.msrp_merge.specs.declared.logs.Turn.{Turn}
-use Rattle.msrp_merge.specs.Merging.{size_of}
-use Rattle.msrp_merge.specs.Turns.{LogModel, rows_of, is_step, IsRowOf, IsTurnOf, Fits}
+use Rattle.msrp_merge.specs.Turns.{LogModel, rows_of, is_step, IsTurnOf, Fits}
 use Rattle.msrp_merge.proofs.Fitting.{fits_quiet, fits_step}
-use Rattle.msrp_run.specs.Ports.{calls_by, port_of, IsStepSince, IsSeatPort, HasAsked}
+use Rattle.msrp_run.specs.Ports.{calls_by, port_of, IsStepSince, HasAsked}
 use Rattle.msrp_run.specs.Turns.{MayTurn, HasTurned}
 use Rattle.msrp_run.proofs.Ports.{own_calls, core_is}
 
@@ -78,12 +75,6 @@ port_claims board m log seat core may same =
 
 pub port_has_room : (board : BoardModel) (m : MachineModel) (log : LogModel) (seat : SeatModel) → MayTurn board m log seat → port_room seat m.core ≡ 1
 port_has_room board m log seat may = ap (room_in seat.board.size.ticks) may.of_core.book ∙ (ap (λ x. room_by x (has_acted may.book)) may.admitted ∙ ap (room_by Admitted) may.quiet)
-
-pub port_resources : (board : BoardModel) (m : MachineModel) (log : LogModel) (seat : SeatModel) → MayTurn board m log seat → seat.board.size.resources ≡ length m.plan.resources
-port_resources board m log seat may = ap (λ (b : BoardModel). b.size.resources) may.on ∙ ap (λ (z : BoardSize). z.resources) may.size
-
-pub seat_is_port : (board : BoardModel) (m : MachineModel) (log : LogModel) (seat : SeatModel) (core : CoreId) → MayTurn board m log seat → core.0 ≡ m.core → IsSeatPort m.core seat board core None seat
-seat_is_port board m log seat core may same = record { of_core = same; port = record { on = may.on; book = may.book; of_core = may.of_core; stands = may.admitted }; since = refl }
 
 -- ---- a row on no global resource is no step
 not_global : (plan : PlanModel) (r : Row) (h : ResId) → IsQuiet plan r → r.res ≡ Some h → is_global plan h.0 ≡ true → ⊥

@@ -1,8 +1,7 @@
 -- Turns that are given as a list, one by one.
-use Rattle.std.proofs.Common.{◌≡◌, ◌≢◌, ℕ, suc, ◌+◌, ◌*◌, ◌/◌, ◌<◌, ◌≤◌, ◌==◌, Bool, true, false, cond, List, [], ◌∷◌, ◌++◌, refl, ap, sym, ◌∙◌, subst, arith, length, add-one, eq-eqb, get_or, set, take, drop, inl, inr}
+use Rattle.std.proofs.Common.{◌≡◌, ◌≢◌, ℕ, suc, ◌+◌, ◌/◌, ◌<◌, ◌≤◌, ◌==◌, Bool, true, false, cond, List, [], ◌∷◌, ◌++◌, refl, ap, sym, ◌∙◌, subst, arith, length, add-one, get_or, set, take, drop, inl, inr}
 use Rattle.std.specs.List.{count_by}
-use Rattle.std.proofs.Math.Nat.{div-le_self}
-use Rattle.std.proofs.Math.Seq.{take-suc, take-length, drop-cons}
+use Rattle.std.proofs.Math.Seq.{take-suc, drop-cons}
 use Rattle.std.proofs.Math.Bool.{true≢false}
 use Rattle.std.proofs.lemmas.Bool.{cases_Bool, eqb-true, eqb-false}
 use Rattle.std.proofs.lemmas.List.{get_or-set_same, get_or-set_other, length-set, length-take-le, take-append-drop}
@@ -11,7 +10,6 @@ use Rattle.msrp_plan.specs.Plan.{PlanModel}
 use Rattle.msrp_plan.specs.Runs.{EachAfter}
 use Rattle.msrp_plan.specs.Scheduling.{IsNextCore, IsOrder}
 use Rattle.msrp_plan.proofs.Lists.Prefixes.{each_push, each_at}
-use Rattle.msrp_plan.proofs.Lists.Ranges.{not_equal}
 use Rattle.msrp_sim.specs.TurnCounts.{AreCounted}
 
 -- each turn of an order is of a core that is due
@@ -23,10 +21,6 @@ next_in plan order n o l =
 -- the first n turns, and one more
 pub take_more : (order : List ℕ) (n : ℕ) → n < length order → take (n + 1) order ≡ take n order ++ get_or order n 0 ∷ []
 take_more order n l = ap (λ k. take k order) (add-one n) ∙ take-suc order n 0 l
-
--- before the first turn
-pub none_counted : (plan : PlanModel) (cores turns : List ℕ) → length turns ≡ 8 → ((c : ℕ) → c < 8 → get_or turns c 0 ≡ 0) → AreCounted plan cores 0 turns
-none_counted plan cores turns size zeros = record { size = size; counts = zeros; each = tt }
 
 abbrev counted : Bool → ℕ
 counted b = cond b 1 0
@@ -70,16 +64,8 @@ counted_more plan cores turns n c h l at most low due = record {
       }));
 }
 
--- a count stays small
-pub count_small : (n m count : ℕ) → count ≡ n / m → count ≤ n
-count_small n m count e = let d = div-le_self n m in omega (arith, e, d)
-
 -- a turn of a core that isn't due is in no order
 pub due_in : (plan : PlanModel) (cores turns : List ℕ) (n c : ℕ) → AreCounted plan cores n turns → plan.cores ≤ 8 → n < length cores → get_or cores n 0 ≡ c → IsOrder plan cores → (c < plan.cores) × (get_or turns c 0 ≡ n / plan.cores)
 due_in plan cores turns n c h most l at o =
     let next : IsNextCore plan (take n cores) c = subst (IsNextCore plan (take n cores)) at (next_in plan cores n o l) in
     (next.core, h.counts c (let k = next.core in omega (arith, k, most)) ∙ (next.due ∙ ap (λ k. k / plan.cores) (length-take-le n cores (omega (arith, l)))))
-
--- after the last turn they are an order
-pub all_counted : (plan : PlanModel) (cores turns : List ℕ) (n : ℕ) → AreCounted plan cores n turns → n ≡ length cores → length cores ≡ plan.cores * plan.ticks → IsOrder plan cores
-all_counted plan cores turns n h last size = record { size = size; each = subst (EachAfter (IsNextCore plan) []) (ap (λ k. take k cores) last ∙ take-length cores) h.each }

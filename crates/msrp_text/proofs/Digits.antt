@@ -1,7 +1,6 @@
 -- The number that digits stand for, digit by digit.
-use Rattle.std.proofs.Common.{◌≡◌, ◌+◌, ◌-◌, ◌*◌, ◌^◌, ◌<◌, ◌≤◌, ℕ, List, Bool, true, false, length, drop, get_or, arith, refl, sym, ◌∙◌, add-one, fold, ◌&&◌}
-use Rattle.std.proofs.Math.Nat.{pow-le-pow_right, pow-suc}
-use Rattle.std.proofs.lemmas.List.{at_drop_more, at_drop_all}
+use Rattle.std.proofs.Common.{◌≡◌, ◌+◌, ◌-◌, ◌*◌, ◌^◌, ◌<◌, ◌≤◌, ℕ, List, Bool, true, false, length, get_or, arith, refl, sym, fold, ◌&&◌}
+use Rattle.std.proofs.Math.Nat.{pow-le-pow_right}
 use Rattle.std.proofs.lemmas.List.Folds.{list_all_at}
 use Rattle.std.proofs.lemmas.Bool.Decides.{nat_tests}
 use Rattle.std.specs.Char.{is_ascii_digit}
@@ -15,17 +14,6 @@ digits_from n digits = fold (λ n digit. n * 10 + (digit - 48)) n digits
 
 pub pow-nine : (i : ℕ) → i < 9 → 10 ^ i ≤ 100000000
 pow-nine i h = pow-le-pow_right {n = 10} (omega arith) {i = i} {j = 8} (omega arith)
-
-pub pow-more : (n d i : ℕ) → n < 10 ^ i → d ≤ 9 → n * 10 + d < 10 ^ (i + 1)
-pow-more n d i h k = let e : 10 ^ (i + 1) ≡ 10 ^ i * 10 = rw (add-one i) (pow-suc 10 i) in omega (arith, e)
-
--- one digit more
-pub next-digit : (n i d : ℕ) (xs : List ℕ) → i < length xs → d ≡ get_or xs i 0 - 48 → digits_from (n * 10 + d) (drop (i + 1) xs) ≡ digits_from n (drop i xs)
-next-digit n i d xs h e = sym (at_drop_more (digits_from n) xs i 0 h ∙ rw e refl)
-
--- with no digit left the number is that of those before
-pub digits-end : (n i : ℕ) (xs : List ℕ) → length xs ≤ i → digits_from n (drop i xs) ≡ n
-digits-end n i xs h = at_drop_all (digits_from n) xs i h
 
 is-digit : (xs : List ℕ) (i : ℕ) (b : Bool) → i < length xs → list_all is_ascii_digit xs ≡ true → b ≡ is_ascii_digit (get_or xs i 0) → b ≡ true
 is-digit xs i true h all e = refl

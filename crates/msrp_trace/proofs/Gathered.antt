@@ -2,16 +2,8 @@
 use Rattle.std.proofs.Common.{◌≡◌, ℕ, List, [], ◌++◌, true, false, Option, Result, Ok, Err, OnOk, OnErr, is_ok, ap, sym, ◌∙◌, append_assoc, append-nil}
 use Rattle.msrp_plan.specs.Bytes.{Wrote}
 use Rattle.msrp_plan.specs.declared.bytes.Sink.{Sink}
-use Rattle.msrp_plan.proofs.Writes.{wrote-more, wrote-nothing}
+use Rattle.msrp_plan.proofs.Writes.{wrote-more}
 use Rattle.msrp_trace.specs.Gathering.{Gathers}
-
--- no text
-pub gathers-nothing : {W : Type 0} (contents : W → Option (List ℕ)) (page : List ℕ) (sink : Sink W) → Gathers contents page sink page sink []
-gathers-nothing contents page sink = record { written = []; wrote = wrote-nothing contents sink; rest = append-nil page }
-
--- a text that fits on the page
-pub gathers-kept : {W : Type 0} (contents : W → Option (List ℕ)) (page after : List ℕ) (sink : Sink W) (text : List ℕ) → after ≡ page ++ text → Gathers contents page sink after sink text
-gathers-kept contents page after sink text e = record { written = []; wrote = wrote-nothing contents sink; rest = sym e }
 
 -- a text after which the page begins again with it
 pub gathers-turned : {W : Type 0} (contents : W → Option (List ℕ)) (page after : List ℕ) (old new : Sink W) (text : List ℕ) → Wrote contents old new page → after ≡ text → Gathers contents page old after new text

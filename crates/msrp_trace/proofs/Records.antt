@@ -1,6 +1,5 @@
 -- The records of a trace, field after field.
-use Rattle.std.proofs.Common.{◌≡◌, ℕ, List, [], ◌∷◌, ◌++◌, refl, sym, ap, ◌∙◌, append_assoc, append-nil, codes, decimal, Some, slice_get, slice_index_or, get_or, length, take, ◌<◌, ◌≤◌, ◌+◌, ◌&&◌, true, Option, None, IfSome, lt-ltb}
-use Rattle.std.proofs.lemmas.Option.{get_or_from_slice_get}
+use Rattle.std.proofs.Common.{◌≡◌, ℕ, List, [], ◌∷◌, ◌++◌, refl, sym, ap, ◌∙◌, append_assoc, append-nil, codes, decimal, Some, get_or, length, take, ◌<◌, ◌≤◌, ◌+◌, ◌&&◌, true, Option, None, IfSome, lt-ltb}
 use Rattle.std.proofs.lemmas.Grind.{flat_map-append}
 use Rattle.std.proofs.lemmas.List.{take_all, take_more}
 use Rattle.std.specs.List.{flat_map, join_by}
@@ -11,12 +10,7 @@ use Rattle.msrp_plan.specs.declared.rows.Row.{Row}
 use Rattle.msrp_plan.specs.declared.rows.TextVersion.{TextVersion}
 use Rattle.msrp_plan.specs.declared.rows.TextVersion.TheVariants.{V1, V2}
 use Rattle.msrp_trace.specs.Gathering.{after_tick, next_field}
-use Rattle.msrp_trace.specs.TraceText.{ahead_fields, ahead_text, head_text, is_named, is_res_of, is_task_of, job_text, kind_text, record_text, res_text, row_text, task_text, trace_text, trace_word, version_text}
-
--- a field with its comma
-pub next-is : (text : List ℕ) → codes "," ++ text ≡ next_field text
-unfolding next_field
-next-is text = refl
+use Rattle.msrp_trace.specs.TraceText.{ahead_text, head_text, is_named, is_res_of, is_task_of, job_text, kind_text, record_text, res_text, row_text, task_text, trace_text, trace_word, version_text}
 
 pub comma_next : (s text : List ℕ) → (s ++ codes ",") ++ text ≡ s ++ next_field text
 unfolding next_field
@@ -58,10 +52,6 @@ res_from plan (Some g) h = lt-ltb g.0 (length plan.resources) h
 
 pub named-from : (plan : PlanModel) (r : Row) → IfSome r.job (λ j. j.task.0 < length plan.tasks) → IfSome r.res (λ g. g.0 < length plan.resources) → is_named plan r ≡ true
 named-from plan r h k = ap (λ b. b && is_res_of plan r.res) (job_from plan r.job h) ∙ res_from plan r.res k
-
--- the name of a resource
-pub named-is : (names : List (List ℕ)) (i : ℕ) (name : List ℕ) → slice_get names i ≡ Some name → name ≡ slice_index_or names i []
-named-is names i name h = sym (get_or_from_slice_get names i name [] h)
 
 -- the text of a block of rows more
 pub trace-more : (version : TextVersion) (plan : PlanModel) (rows block : List Row) → trace_text version plan rows ++ flat_map (row_text version plan) block ≡ trace_text version plan (rows ++ block)
