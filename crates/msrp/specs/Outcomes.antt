@@ -42,9 +42,16 @@ status_of (Err Threads) = 4
 status_of (Err Read) = 5
 status_of (Err Write) = 5
 
--- the faults that a simulation of a plan's text may end in: P1 to P16 among them
+-- the numbers in the codes of a plan's faults, P1 to P16, and of a trace's, R1 to R8
+abbrev pub is_plan_code : ℕ → Bool
+is_plan_code code = is_within 1 16 code
+
+abbrev pub is_trace_code : ℕ → Bool
+is_trace_code code = is_within 1 8 code
+
+-- the faults that a simulation of a plan's text may end in
 abbrev pub is_sim_fault : CliFault → Bool
-is_sim_fault (Plan code number) = is_within 1 16 code
+is_sim_fault (Plan code number) = is_plan_code code
 is_sim_fault (Trace code number) = false
 is_sim_fault Usage = false
 is_sim_fault Memory = true
@@ -52,9 +59,9 @@ is_sim_fault Threads = false
 is_sim_fault Read = true
 is_sim_fault Write = true
 
--- the faults that the reading of a trace's text may end in: R1 to R8 among them
+-- the faults that the reading of a trace's text may end in
 abbrev pub is_trace_fault : CliFault → Bool
-is_trace_fault (Trace code number) = is_within 1 8 code
+is_trace_fault (Trace code number) = is_trace_code code
 is_trace_fault Memory = true
 is_trace_fault Read = true
 is_trace_fault _ = false

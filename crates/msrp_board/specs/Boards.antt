@@ -18,13 +18,17 @@ pub record WholeBoard : Type 0 where
   pub books : List Book
   pub conductor : Conductor
 
+-- how many numbers half a word has, of 32 bits: one more in the high half adds so much to a word
+abbrev pub half_word : ℕ
+half_word = 4294967296
+
 -- the high half of a word
 abbrev pub high : ℕ → ℕ
-high word = word / 4294967296
+high word = word / half_word
 
 -- the low half of a word
 abbrev pub low : ℕ → ℕ
-low word = word % 4294967296
+low word = word % half_word
 
 -- the entries of core c
 abbrev pub entries_at : List Book → ℕ → List Entry

@@ -1,8 +1,8 @@
 -- What a core's book says of the core, and what every book keeps: the rule's part on one book. Entries stand oldest first.
 use Rattle.std.specs.Prelude.{ℕ, suc, ◌<◌, ◌≤◌, List, [], ◌∷◌, Bool, true, false, cond, nat_lt, ◌==◌, map, ⊤}
 use Rattle.std.specs.List.{list_any, filter, AllByRecursion}
-use Rattle.msrp_plan.specs.declared.limits.TheConstants.{MOST_CORES, MOST_RESOURCES, MOST_TICKS}
 use Rattle.msrp_plan.specs.Calls.{ResCall, claim_after, IsRegular}
+use Rattle.msrp_plan.specs.Limits.{most_cores, most_resources, most_ticks}
 use Rattle.msrp_plan.specs.declared.units.Call.{Call}
 use Rattle.msrp_plan.specs.declared.units.Call.TheVariants.{Ask, Poll, Leave}
 use Rattle.msrp_plan.specs.declared.units.Phase.{Phase}
@@ -14,9 +14,9 @@ use Rattle.msrp_board.specs.declared.answers.SeatPhase.TheVariants.{Waiting, Adm
 
 -- the numbers that a board is made for
 pub record IsSize (size : BoardSize) : Type 0 where
-  pub cores : (1 ≤ size.cores) × (size.cores ≤ MOST_CORES)
-  pub resources : size.resources ≤ MOST_RESOURCES
-  pub ticks : (1 ≤ size.ticks) × (size.ticks ≤ MOST_TICKS)
+  pub cores : (1 ≤ size.cores) × (size.cores ≤ most_cores)
+  pub resources : size.resources ≤ most_resources
+  pub ticks : (1 ≤ size.ticks) × (size.ticks ≤ most_ticks)
 
 -- ---- what a book says of its core
 

@@ -5,6 +5,7 @@ use Rattle.msrp_plan.specs.Plan.{PlanModel, TaskModel}
 use Rattle.msrp_plan.specs.Units.{is_lock_of}
 use Rattle.msrp_plan.specs.Levels.{level_of}
 use Rattle.msrp_plan.specs.Bounds.{to_unlock, longest_section}
+use Rattle.msrp_plan.specs.Limits.{most_resources}
 use Rattle.msrp_plan.specs.declared.units.Op.{Op}
 use Rattle.msrp_plan.specs.declared.units.Op.TheVariants.{Run, Lock, Unlock}
 use Rattle.msrp_levels.specs.declared.footprints.Use.{Use}
@@ -16,7 +17,7 @@ use_from us n g = record { locked = list_any (is_lock_of g) (drop n us); longest
 
 -- what the units from the n-th on do with each resource
 unfoldable pub uses_from : List Op → ℕ → List Use
-uses_from us n = map (use_from us n) (range_with_len 0 32)
+uses_from us n = map (use_from us n) (range_with_len 0 most_resources)
 
 abbrev pub uses_of : List Op → List Use
 uses_of us = uses_from us 0

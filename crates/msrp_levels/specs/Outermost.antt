@@ -1,5 +1,6 @@
 -- How the units of a task hold resources, as a pass over them counts.
 use Rattle.std.specs.Prelude.{ℕ, ◌+◌, ◌-◌, ◌<◌, ⊤}
+use Rattle.msrp_plan.specs.Limits.{most_units}
 use Rattle.msrp_plan.specs.declared.units.Op.{Op}
 use Rattle.msrp_plan.specs.declared.units.Op.TheVariants.{Run, Lock, Unlock}
 
@@ -12,7 +13,7 @@ held_with_unit held (Unlock r) = held - 1
 -- an unlock has something to unlock
 abbrev pub CanFollow : ℕ → Op → Type 0
 CanFollow held (Unlock r) = 0 < held
-CanFollow held _ = held < 4096
+CanFollow held _ = held < most_units
 
 -- a resource that is locked is one of the first
 abbrev pub IsLockBelow : ℕ → Op → Type 0

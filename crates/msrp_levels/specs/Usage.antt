@@ -4,6 +4,7 @@ use Rattle.std.specs.List.{list_any, range_with_len, sum_by}
 use Rattle.msrp_plan.specs.Plan.{PlanModel}
 use Rattle.msrp_plan.specs.Levels.{greatest, is_global, local_ceiling}
 use Rattle.msrp_plan.specs.Bounds.{section, spin_bound}
+use Rattle.msrp_plan.specs.Limits.{most_units}
 use Rattle.msrp_levels.specs.Users.{users}
 use Rattle.msrp_levels.specs.Footprints.{locks_in, longest_in}
 use Rattle.msrp_levels.specs.declared.footprints.Footprint.{Footprint}
@@ -39,7 +40,7 @@ spin_among cores c = sum_by (λ d. 1 + (core_use_at cores d).section) (filter (i
 
 -- no section is longer than the units of a task may be
 abbrev pub IsShort : CoreUse → Type 0
-IsShort u = u.section ≤ 4096
+IsShort u = u.section ≤ most_units
 
 -- what is stored of a resource is what the plan says
 pub record IsUsage (plan : PlanModel) (g : ℕ) (u : Usage) : Type 0 where

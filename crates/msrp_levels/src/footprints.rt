@@ -3,6 +3,7 @@ ghost use Rattle.std.specs.Prelude.{◌≡◌, ◌<◌, ◌+◌, ◌^◌, length
 ghost use Rattle.msrp_plan.specs.Plan.{task_at};
 ghost use Rattle.msrp_plan.specs.Levels.{level_of};
 ghost use Rattle.msrp_plan.specs.WellFormed.{IsPlan};
+ghost use Rattle.msrp_plan.specs.Limits.{most_resources};
 ghost use Rattle.msrp_levels.specs.Footprints.{with_lock, with_unlock, CanPass, passed, uses_of, footprint_of, locks_in, longest_in};
 
 use msrp_plan::limits::MOST_RESOURCES;
@@ -56,7 +57,7 @@ pub(crate) struct Footprint {
 impl Footprint {
     /// Whether the task uses a resource.
     pub(crate) fn locks(&self, res: ResId) -> bool
-        requires { res.0 < 32 }
+        requires { res.0 < most_resources }
         ensures { result ≡ locks_in res.0 self.now }
     {
         self.uses[res.0 as usize].locked
@@ -64,7 +65,7 @@ impl Footprint {
 
     /// The task's longest section on a resource.
     pub(crate) fn longest(&self, res: ResId) -> u32
-        requires { res.0 < 32 }
+        requires { res.0 < most_resources }
         ensures { result ≡ longest_in res.0 self.now }
     {
         self.uses[res.0 as usize].longest

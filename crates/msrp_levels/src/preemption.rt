@@ -2,6 +2,7 @@
 ghost use Rattle.std.specs.Prelude.{◌≡◌, ◌≤◌, ◌+◌, nat_lt, count_by, length, map, vec_len, IfOk};
 ghost use Rattle.msrp_plan.specs.Plan.{TaskModel};
 ghost use Rattle.msrp_plan.specs.Levels.{level_of};
+ghost use Rattle.msrp_plan.specs.Limits.{most_tasks};
 
 use msrp_plan::{Memory, Plan, TaskId};
 use std::alloc::Global;
@@ -9,7 +10,7 @@ use std::alloc::Global;
 // The relative deadlines of the plan, each once.
 fn distinct_deadlines(alloc: Global, plan: &Plan) -> Result<Vec<u32>, Memory>
     ensures levels { IfOk result (λ deadlines. (task : TaskModel) → count_by (nat_lt task.deadline) deadlines.items + 1 ≡ level_of plan.now task) }
-    ensures few { IfOk result (λ deadlines. vec_len deadlines ≤ 64) }
+    ensures few { IfOk result (λ deadlines. vec_len deadlines ≤ most_tasks) }
 {
     let mut deadlines = Vec::with_capacity(alloc, plan.tasks() as usize).map_err(|_| Memory)?;
     for t in (0..plan.tasks()).rev() {
@@ -23,7 +24,7 @@ fn distinct_deadlines(alloc: Global, plan: &Plan) -> Result<Vec<u32>, Memory>
 
 // One more than how many of the deadlines are longer than this one.
 fn level_among(deadlines: &[u32], deadline: u32) -> u32
-    requires { length deadlines.now ≤ 64 }
+    requires { length deadlines.now ≤ most_tasks }
     ensures { result ≡ count_by (nat_lt deadline) deadlines.now + 1 }
 {
     deadlines.iter().filter(|other| deadline < **other).count() as u32 + 1

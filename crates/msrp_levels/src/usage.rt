@@ -3,6 +3,7 @@ ghost use Rattle.std.specs.Prelude.{◌≡◌, ◌==◌, ◌<◌, ◌≤◌, ◌
 ghost use Rattle.std.specs.List.{All, find, list_any, range_with_len};
 ghost use Rattle.std.specs.Option.{option_copied};
 ghost use Rattle.msrp_plan.specs.Levels.{greatest, top};
+ghost use Rattle.msrp_plan.specs.Limits.{most_cores, most_resources};
 ghost use Rattle.msrp_levels.specs.Footprints.{footprint_of, locks_in, footprint_at};
 ghost use Rattle.msrp_levels.specs.Usage.{is_used_among, is_global_among, section_among, spin_among, core_use, IsUsage, IsShort};
 
@@ -34,7 +35,7 @@ pub(crate) struct Usage {
 
 // The users of a resource, in rising order.
 fn users_of(alloc: Global, tasks: &[Footprint], res: ResId) -> Result<Vec<TaskId>, Memory>
-    requires res { res.0 < 32 }
+    requires res { res.0 < most_resources }
     requires few { length tasks.now < 2 ^ 32 }
     ensures { IfOk result (λ users. map (λ t. t.0) users.items ≡ filter (λ t. locks_in res.0 (footprint_at tasks.now t)) (range_with_len 0 (length tasks.now))) }
 {
@@ -49,7 +50,7 @@ fn users_of(alloc: Global, tasks: &[Footprint], res: ResId) -> Result<Vec<TaskId
 
 // The first user of a resource.
 fn first_user(tasks: &[Footprint], res: ResId) -> Option<&Footprint>
-    requires { res.0 < 32 }
+    requires { res.0 < most_resources }
     ensures { option_copied result ≡ find (locks_in res.0) tasks.now }
 {
     tasks.iter().find(|task| task.locks(res))
@@ -57,7 +58,7 @@ fn first_user(tasks: &[Footprint], res: ResId) -> Option<&Footprint>
 
 // Whether a task of another core uses a resource.
 fn is_used_elsewhere(tasks: &[Footprint], res: ResId, core: CoreId) -> bool
-    requires { res.0 < 32 }
+    requires { res.0 < most_resources }
     ensures { result ≡ list_any (λ f. locks_in res.0 f && not (core.0 == f.core.0)) tasks.now }
 {
     tasks
@@ -67,7 +68,7 @@ fn is_used_elsewhere(tasks: &[Footprint], res: ResId, core: CoreId) -> bool
 
 // Whether tasks of two cores use a resource.
 fn is_global(tasks: &[Footprint], res: ResId) -> bool
-    requires { res.0 < 32 }
+    requires { res.0 < most_resources }
     ensures { result ≡ is_global_among tasks.now res.0 }
 {
     match first_user(tasks, res) {
@@ -78,7 +79,7 @@ fn is_global(tasks: &[Footprint], res: ResId) -> bool
 
 // The highest level of the tasks that use a resource.
 fn ceiling_of(tasks: &[Footprint], res: ResId) -> u32
-    requires { res.0 < 32 }
+    requires { res.0 < most_resources }
     ensures { result ≡ greatest (map (λ f. f.level) (filter (locks_in res.0) tasks.now)) }
 {
     let mut highest = 0;
@@ -117,7 +118,7 @@ pub(crate) fn tops_of(alloc: Global, plan: &Plan, tasks: &[Footprint]) -> Result
 
 // The longest section on a resource of the tasks of a core.
 fn section_of(tasks: &[Footprint], res: ResId, core: CoreId) -> u32
-    requires { res.0 < 32 }
+    requires { res.0 < most_resources }
     ensures { result ≡ section_among tasks.now res.0 core.0 }
 {
     let mut longest = 0;
@@ -131,7 +132,7 @@ fn section_of(tasks: &[Footprint], res: ResId, core: CoreId) -> u32
 
 // Whether a task of a core uses a resource.
 fn is_used_on(tasks: &[Footprint], res: ResId, core: CoreId) -> bool
-    requires { res.0 < 32 }
+    requires { res.0 < most_resources }
     ensures { result ≡ is_used_among tasks.now res.0 core.0 }
 {
     tasks
@@ -141,7 +142,7 @@ fn is_used_on(tasks: &[Footprint], res: ResId, core: CoreId) -> bool
 
 // How the tasks of a core use a resource.
 fn core_use(tasks: &[Footprint], res: ResId, core: CoreId) -> CoreUse
-    requires { res.0 < 32 }
+    requires { res.0 < most_resources }
     ensures { result ≡ core_use tasks.now res.0 core.0 }
 {
     CoreUse {
@@ -157,7 +158,7 @@ fn core_uses(
     tasks: &[Footprint],
     res: ResId,
 ) -> Result<Vec<CoreUse>, Memory>
-    requires { res.0 < 32 }
+    requires { res.0 < most_resources }
     ensures { IfOk result (λ uses. uses.items ≡ map (core_use tasks.now res.0) (range_with_len 0 cores)) }
 {
     let mut uses = Vec::with_capacity(alloc, cores as usize).map_err(|_| Memory)?;
@@ -170,7 +171,7 @@ fn core_uses(
 // How often a job of a core spins in one wait, at most: for each other core that uses the resource, one
 // handover and its longest section.
 fn spin_among(cores: &[CoreUse], core: CoreId) -> u32
-    requires few { length cores.now ≤ 8 }
+    requires few { length cores.now ≤ most_cores }
     requires short { All IsShort cores.now }
     ensures { result ≡ spin_among cores.now core.0 }
 {
@@ -185,7 +186,7 @@ fn spin_among(cores: &[CoreUse], core: CoreId) -> u32
 
 // The same for each core.
 fn spins_among(alloc: Global, cores: &[CoreUse]) -> Result<Vec<u32>, Memory>
-    requires few { length cores.now ≤ 8 }
+    requires few { length cores.now ≤ most_cores }
     requires short { All IsShort cores.now }
     ensures { IfOk result (λ spins. spins.items ≡ map (spin_among cores.now) (range_with_len 0 (length cores.now))) }
 {

@@ -5,6 +5,7 @@ use Rattle.std.specs.List.Sorted.{IsPermutation, IsNonDecreasingBy}
 use Rattle.msrp_plan.specs.Plan.{PlanModel}
 use Rattle.msrp_plan.specs.Jobs.{jobs_on, same_job}
 use Rattle.msrp_plan.specs.WellFormed.{IsPlan}
+use Rattle.msrp_plan.specs.Limits.{most_jobs}
 use Rattle.msrp_plan.specs.declared.ids.JobId.{JobId}
 use Rattle.msrp_ready.specs.Keyed.{keyed}
 use Rattle.msrp_ready.specs.Heap.{HeapModel}
@@ -26,7 +27,7 @@ pub record AreReady (plan : PlanModel) (core : ℕ) (tick : Option ℕ) (calenda
   pub accepted : IsPlan plan
   pub jobs : IsPermutation (map (keyed plan) (jobs_on plan core)) calendar
   pub sorted : IsNonDecreasingBy (λ job. job.key.release) calendar
-  pub few : length calendar ≤ 8192
+  pub few : length calendar ≤ most_jobs
   pub room : heap.room ≡ length calendar
   pub within : next ≤ length calendar
   pub come : All (λ job. has_come tick job.key.release ≡ true) (take next calendar)

@@ -4,6 +4,7 @@ ghost use Rattle.std.specs.List.{All};
 ghost use Rattle.std.specs.List.Sorted.{IsPermutation, IsNonDecreasingBy};
 ghost use Rattle.msrp_plan.specs.Jobs.{jobs_of, jobs_on};
 ghost use Rattle.msrp_plan.specs.WellFormed.{IsPlan};
+ghost use Rattle.msrp_plan.specs.Limits.{most_jobs};
 ghost use Rattle.msrp_ready.specs.Keyed.{keyed};
 ghost use Rattle.msrp_ready.specs.declared.keyed.KeyedJob.{KeyedJob};
 
@@ -54,7 +55,7 @@ pub(crate) fn calendar_of(alloc: Global, plan: &Plan, core: CoreId) -> Result<Ve
 /// first that isn't.
 pub(crate) fn release(calendar: &[KeyedJob], from: usize, tick: u32, heap: &mut Heap) -> usize
     requires from { from ≤ length calendar.now }
-    requires few { length calendar.now ≤ 8192 }
+    requires few { length calendar.now ≤ most_jobs }
     requires room { heap.old.room ≡ length calendar.now }
     requires jobs { length heap.old.jobs ≤ from }
     requires count { heap.old.compared < 2 ^ 63 }

@@ -1,6 +1,7 @@
 -- What a clause sees of a port that serves requests in their order, and what its fields keep.
 use Rattle.std.specs.Prelude.{ℕ, List, ◌≡◌, ◌<◌, ◌≤◌, ◌+◌, length, slice_index_or, sum_by, vec_capacity}
 use Rattle.std.specs.List.{All}
+use Rattle.msrp_plan.specs.Limits.{most_resources, most_rows}
 use Rattle.msrp_core.specs.declared.port.PortCall.{PortCall}
 use Rattle.msrp_sim.specs.Served.{FifoModel, IsServed}
 use Rattle.msrp_sim.specs.declared.fifo.Tickets.{Tickets}
@@ -23,7 +24,7 @@ IsServedBy queues tickets calls = IsServed calls (λ g. (tickets_of queues g).ne
 pub record IsFifoView (p : Inside) : Type 0 where
   pub served : IsServedBy p.queues p.tickets p.calls.items
   pub drawn : AreDrawn p.queues p.calls.items
-  pub resources : p.resources ≤ 32
+  pub resources : p.resources ≤ most_resources
   pub known : All (λ e. e.res.0 < p.resources) p.calls.items
   pub room : length p.calls.items + sum_by (λ n. n) p.rooms ≤ vec_capacity p.calls
-  pub size : vec_capacity p.calls ≤ 160000
+  pub size : vec_capacity p.calls ≤ most_rows

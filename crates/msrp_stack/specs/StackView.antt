@@ -4,6 +4,7 @@ use Rattle.std.specs.List.{AllByRecursion, Contains}
 use Rattle.msrp_plan.specs.Plan.{PlanModel}
 use Rattle.msrp_plan.specs.Jobs.{jobs_on}
 use Rattle.msrp_plan.specs.WellFormed.{IsPlan}
+use Rattle.msrp_plan.specs.Limits.{most_resources}
 use Rattle.msrp_stack.specs.Stack.{StartedJob, StackModel, ComesFirst}
 use Rattle.msrp_levels.specs.Users.{ceiling_at}
 use Rattle.msrp_stack.specs.Layers.{Layers, layers_of}
@@ -25,7 +26,7 @@ IsFalling plan (s ∷ below) = ComesFirst plan below s.job × IsFalling plan bel
 -- jobs of the core in falling order of key, for each of which there is room
 pub record IsStack (plan : PlanModel) (core : ℕ) (ceilings : List ℕ) (items : List Started) (room current : ℕ) : Type 0 where
   pub accepted : IsPlan plan
-  pub size : length ceilings ≡ 32
+  pub size : length ceilings ≡ most_resources
   pub told : (g : ℕ) → g < length plan.resources → slice_index_or ceilings g 0 ≡ ceiling_at plan g core
   pub layers : Layers plan core current (layers_of items)
   pub known : AllByRecursion (λ s. Contains (jobs_on plan core) s.job) (started_of items)

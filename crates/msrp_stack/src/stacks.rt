@@ -2,6 +2,7 @@
 ghost use Rattle.std.specs.Prelude.{◌≡◌, ◌<◌, ◌∷◌, [], length, slice_index_or, true, false, ℕ, IfOk, ◌≤◌, vec_capacity};
 ghost use Rattle.msrp_plan.specs.Levels.{is_global};
 ghost use Rattle.msrp_plan.specs.WellFormed.{IsPlan};
+ghost use Rattle.msrp_plan.specs.Limits.{most_held, most_jobs, most_resources};
 ghost use Rattle.msrp_levels.specs.Users.{ceiling_at};
 ghost use Rattle.msrp_stack.specs.Stack.{top, newest, current_ceiling, CanStart, HasRoom, IsInnermost, SomeHeld, IsDone, with_held, without_held, without_newest};
 
@@ -18,7 +19,7 @@ fn ceilings_at(plan: &Plan, levels: &Levels<'_>, core: CoreId) -> [u32; MOST_RES
     requires levels { levels.now ≡ plan.now }
     requires core { core.0 < plan.now.cores }
     ensures plan { IsPlan plan.now }
-    ensures size { length result ≡ 32 }
+    ensures size { length result ≡ most_resources }
     ensures ceilings { (g : ℕ) → g < length plan.now.resources → slice_index_or result g 0 ≡ ceiling_at plan.now g core.0 }
 {
     let mut ceilings = [0; MOST_RESOURCES];
@@ -31,7 +32,7 @@ fn ceilings_at(plan: &Plan, levels: &Levels<'_>, core: CoreId) -> [u32; MOST_RES
 // Room for all jobs of a plan: what no job comes to is never touched.
 fn room(alloc: Global) -> Result<Vec<Started>, Memory>
     ensures empty { IfOk result (λ started. started.items ≡ []) }
-    ensures room { IfOk result (λ started. 8192 ≤ vec_capacity started) }
+    ensures room { IfOk result (λ started. most_jobs ≤ vec_capacity started) }
 {
     Vec::with_capacity(alloc, MOST_JOBS as usize).map_err(|_| Memory)
 }
@@ -73,7 +74,7 @@ impl<'a> CeilingStack<'a> {
     pub fn lock(&mut self, res: ResId)
         requires local { is_global self.old.plan res.0 ≡ false }
         requires declared { res.0 < length self.old.plan.resources }
-        requires room { HasRoom self.old.started 8 res.0 }
+        requires room { HasRoom self.old.started most_held res.0 }
         ensures { self.new ≡ record self.old { started = with_held self.old.started res.0 } }
     {
         self.take(res);
@@ -84,7 +85,7 @@ impl<'a> CeilingStack<'a> {
     pub fn raise_global(&mut self, res: ResId)
         requires global { is_global self.old.plan res.0 ≡ true }
         requires declared { res.0 < length self.old.plan.resources }
-        requires room { HasRoom self.old.started 8 res.0 }
+        requires room { HasRoom self.old.started most_held res.0 }
         ensures { self.new ≡ record self.old { started = with_held self.old.started res.0 } }
     {
         self.take(res);
@@ -142,7 +143,7 @@ impl<'a> CeilingStack<'a> {
     // One resource more for the job on top: the ceiling from before is kept with it.
     fn take(&mut self, res: ResId)
         requires declared { res.0 < length self.old.plan.resources }
-        requires room { HasRoom self.old.started 8 res.0 }
+        requires room { HasRoom self.old.started most_held res.0 }
         ensures { self.new ≡ record self.old { started = with_held self.old.started res.0 } }
     {
         let before = self.ceiling;

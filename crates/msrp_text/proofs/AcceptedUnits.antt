@@ -23,7 +23,7 @@ use Rattle.msrp_plan.specs.declared.units.Step.TheVariants.{Run, Lock, Unlock}
 use Rattle.msrp_plan.proofs.TaskUnits.Nesting.{held_push}
 use Rattle.msrp_text.specs.PlanText.{joined, step_record, steps_of}
 use Rattle.msrp_text.specs.Fields.{text_of}
-use Rattle.msrp_text.specs.Reading.{body_fault, step_told, with_record}
+use Rattle.msrp_text.specs.Reading.{body_fault, step_told, undeclared, with_record}
 use Rattle.msrp_text.proofs.Accepting.{Tells, name_place, name_told, names_pass, tells_first, tells_none}
 use Rattle.msrp_text.proofs.Folding.{slice_get-seam}
 use Rattle.msrp_text.proofs.Numerals.{number_again}
@@ -154,7 +154,7 @@ passed plan us rest (Unlock g) some h small =
 
 -- ---- its record
 -- the resource of a name is the one that has it
-resource_again : (names : List (List ℕ)) (g : ℕ) → AreNames names → g < length names → unwrap_or (name_position names (text_of (slice_index_or names g []))) 4294967295 ≡ g
+resource_again : (names : List (List ℕ)) (g : ℕ) → AreNames names → g < length names → unwrap_or (name_position names (text_of (slice_index_or names g []))) undeclared ≡ g
 resource_again names g h within =
     let x : List ℕ = slice_index_or names g [] in
     let split : names ≡ take g names ++ x ∷ drop (suc g) names = sym (take-append-drop g names) ∙ ap (λ ns. take g names ++ ns) (drop-cons names g [] within) in
@@ -162,7 +162,7 @@ resource_again names g h within =
     let is = names_pass (take g names) x (drop (suc g) names) named.named in
     let place : name_position names x ≡ Some (length (take g names)) = ap (λ ns. name_position ns x) split ∙ name_place (take g names) x (drop (suc g) names) named.distinct in
     let size : length (take g names) ≡ g = length-take-le g names (omega (arith, within)) in
-    ap (λ n. unwrap_or (name_position names n) 4294967295) (name_told x is) ∙ (ap (λ o. unwrap_or o 4294967295) place ∙ size)
+    ap (λ n. unwrap_or (name_position names n) undeclared) (name_told x is) ∙ (ap (λ o. unwrap_or o undeclared) place ∙ size)
 
 -- the resource of a step is the plan's, and a run is no longer than a task
 abbrev IsKnown : PlanModel → Step → Type 0

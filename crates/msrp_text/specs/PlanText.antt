@@ -60,6 +60,7 @@ abbrev pub task_records : PlanModel → TaskModel → List (List (List ℕ))
 task_records plan task = times_records task ++ map (step_record plan) (steps_of task.units)
 
 -- ---- plans
+-- the number of a version
 abbrev pub version_text : TextVersion → List ℕ
 version_text V1 = codes "1"
 version_text V2 = codes "2"

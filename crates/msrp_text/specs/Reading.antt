@@ -5,6 +5,7 @@ use Rattle.msrp_plan.specs.Building.{empty_plan, fault_if, finish_fault, is_with
 use Rattle.msrp_plan.specs.Names.{name_position}
 use Rattle.msrp_plan.specs.Plan.{PlanModel, TaskModel}
 use Rattle.msrp_plan.specs.ReleaseTimes.{Every, Listed}
+use Rattle.msrp_plan.specs.Limits.{most_cores}
 use Rattle.msrp_plan.specs.declared.faults.PlanFault.{PlanFault}
 use Rattle.msrp_plan.specs.declared.faults.PlanFault.TheVariants.{Version, OutOfPlace, FieldCount, Number, Limit}
 use Rattle.msrp_plan.specs.declared.ids.ResId.{ResId}
@@ -29,9 +30,13 @@ task_told fields = new_task (name_at fields 1) (number_told fields 2) (Every (nu
 abbrev pub listed_told : List (List ℕ) → TaskModel
 listed_told fields = new_task (name_at fields 1) (number_told fields 2) (Listed []) (number_told fields 3)
 
--- the resource of a name; what the plan hasn't declared is told as the greatest number
+-- the number that stands for a resource which the plan hasn't declared: the greatest of 32 bits
+abbrev pub undeclared : ℕ
+undeclared = 4294967295
+
+-- the resource of a name
 abbrev pub resource_told : PlanModel → List ℕ → ResId
-resource_told plan name = record { 0 = unwrap_or (name_position plan.resources name) 4294967295 }
+resource_told plan name = record { 0 = unwrap_or (name_position plan.resources name) undeclared }
 
 -- the units that an `op` record tells: a run of work, a lock or an unlock
 abbrev pub step_told : PlanModel → List (List ℕ) → Step
@@ -83,7 +88,7 @@ cores_fault (Some fields) =
     fault_if (not (has_word fields 0 (codes "cores"))) OutOfPlace (
     fault_if (not (length fields == 2)) FieldCount (
     fault_if (is_none (number_at fields 1)) Number (
-    fault_if (not (is_within 1 8 (number_told fields 1))) Limit None)))
+    fault_if (not (is_within 1 most_cores (number_told fields 1))) Limit None)))
 
 -- the third record is `ticks,H`, which begins the plan
 abbrev pub ticks_fault : ℕ → Option (List (List ℕ)) → Option PlanFault

@@ -1,12 +1,11 @@
 -- The rows of a legal run name what the plan has, and their numbers are short.
-use Rattle.std.proofs.Common.{◌≡◌, ℕ, zero, suc, ◌+◌, ◌*◌, ◌<◌, ◌≤◌, ◌&&◌, Bool, true, cond, List, [], ◌∷◌, ◌++◌, map, Option, Some, None, IfSome, length, refl, ap, sym, subst, ◌∙◌, arith, slice_get, length-append, lt-ltb, nat_lt, count_by}
+use Rattle.std.proofs.Common.{◌≡◌, ℕ, zero, suc, ◌+◌, ◌*◌, ◌<◌, ◌≤◌, true, List, [], ◌∷◌, ◌++◌, map, Option, Some, None, IfSome, length, refl, sym, subst, arith, slice_get, length-append, lt-ltb, nat_lt, count_by}
 use Rattle.std.proofs.Math.Nat.{div-le_self, mul-le-mul_left, mul-le-mul_right}
 use Rattle.std.specs.List.{AllByRecursion, cons_option, filter_map, list_all, range_with_len}
 use Rattle.std.proofs.lemmas.Bool.{and_from}
 use Rattle.std.proofs.lemmas.List.{length-drop}
 use Rattle.std.proofs.lemmas.List.Elements.{All-contains, All-from_recursion}
-use Rattle.msrp_plan.specs.Aheads.{carries_ahead, carries_its_ahead}
-use Rattle.msrp_plan.specs.Plan.{PlanModel, core_of, release, task_at, units}
+use Rattle.msrp_plan.specs.Plan.{PlanModel, release, task_at, units}
 use Rattle.msrp_plan.specs.Jobs.{job_at, jobs, jobs_of, jobs_on}
 use Rattle.msrp_plan.specs.Actions.{res_of_unit}
 use Rattle.msrp_plan.specs.Queues.{fifo, is_release_of, requester}
@@ -126,9 +125,9 @@ legal_short plan pre r ok h few =
     and_from _ _ (short_below r.tick (length pre) tick few) (and_from _ _ (short_below r.core.0 8 core (omega arith)) (and_from _ _ (job_short plan pre r r.job ok (legal_turn plan pre r h) refl) (ahead_short plan pre r r.ahead h few refl)))
 
 -- ---- the rows of a run
-rows_named : (plan : PlanModel) (pre rows : List Row) → IsPlan plan → EachAfter (IsLegal plan) pre rows → list_all (is_named plan) rows ≡ true
-rows_named plan pre [] ok all = refl
-rows_named plan pre (r ∷ rows) ok all = and_from _ _ (turn_named plan pre r ok (legal_turn plan pre r all.0)) (rows_named plan (pre ++ r ∷ []) rows ok all.1)
+pub legal_named : (plan : PlanModel) (pre rows : List Row) → IsPlan plan → EachAfter (IsLegal plan) pre rows → list_all (is_named plan) rows ≡ true
+legal_named plan pre [] ok all = refl
+legal_named plan pre (r ∷ rows) ok all = and_from _ _ (turn_named plan pre r ok (legal_turn plan pre r all.0)) (legal_named plan (pre ++ r ∷ []) rows ok all.1)
 
 rows_short : (plan : PlanModel) (pre rows : List Row) → IsPlan plan → length pre + length rows ≤ 160000 → EachAfter (IsLegal plan) pre rows → list_all has_short_numbers rows ≡ true
 rows_short plan pre [] ok few all = refl
@@ -137,7 +136,7 @@ rows_short plan pre (r ∷ rows) ok few all =
     and_from _ _ (legal_short plan pre r ok all.0 (omega (arith, few))) (rows_short plan (pre ++ r ∷ []) rows ok (omega (arith, few, more)) all.1)
 
 pub run_named : (plan : PlanModel) (rows : List Row) → IsPlan plan → IsRunStart plan rows → list_all (is_named plan) rows ≡ true
-run_named plan rows ok run = rows_named plan [] rows ok run.each
+run_named plan rows ok run = legal_named plan [] rows ok run.each
 
 pub run_short : (plan : PlanModel) (rows : List Row) → IsPlan plan → IsRunStart plan rows → list_all has_short_numbers rows ≡ true
 run_short plan rows ok run =

@@ -1,7 +1,7 @@
 -- What is written of rows reads back as those rows.
-use Rattle.std.proofs.Common.{◌≡◌, ℕ, ◌+◌, ◌<◌, ◌≤◌, ◌==◌, ◌&&◌, ◌||◌, not, Bool, true, false, cond, List, [], ◌∷◌, ◌++◌, map, length, codes, decimal, Option, Some, None, is_none, is_some, option_map, unwrap_or, refl, ap, sym, ◌∙◌, subst, arith, append_assoc, nat_lt}
-use Rattle.std.specs.Prelude.{slice_get, slice_index_or}
-use Rattle.std.specs.List.{AllByRecursion, flat_map, list_all, list_any}
+use Rattle.std.proofs.Common.{◌≡◌, ℕ, ◌+◌, ◌<◌, ◌==◌, ◌&&◌, ◌||◌, not, true, false, cond, List, [], ◌∷◌, ◌++◌, map, length, decimal, Option, Some, None, is_some, option_map, unwrap_or, refl, ap, sym, ◌∙◌, subst, arith, nat_lt}
+use Rattle.std.specs.Prelude.{slice_index_or}
+use Rattle.std.specs.List.{AllByRecursion, flat_map, list_all}
 use Rattle.std.specs.Str.{bytes_eq}
 use Rattle.std.proofs.lemmas.Bool.{and_parts, and_from, false_from_ne_true}
 use mathlib.Core.Bool.{true≢false}
@@ -19,52 +19,37 @@ use Rattle.msrp_plan.specs.Runs.{IsRunStart}
 use Rattle.msrp_plan.specs.WellFormed.{IsPlan}
 use Rattle.msrp_plan.specs.declared.ids.JobId.{JobId}
 use Rattle.msrp_plan.specs.declared.ids.ResId.{ResId}
-use Rattle.msrp_plan.specs.declared.ids.TaskId.{TaskId}
 use Rattle.msrp_plan.specs.declared.rows.Kind.{Kind}
 use Rattle.msrp_plan.specs.declared.rows.Kind.TheVariants.{Idle, Run, Lock, Unlock, Take, Queue, Spin, Grant, Release}
 use Rattle.msrp_plan.specs.declared.rows.Row.{Row}
 use Rattle.msrp_plan.specs.declared.rows.TextVersion.{TextVersion}
 use Rattle.msrp_plan.specs.declared.rows.TextVersion.TheVariants.{V1, V2}
 use Rattle.msrp_text.specs.Fields.{number_at, number_of}
-use Rattle.msrp_text.specs.PlanText.{next_fields, record_text as text_of_record, records_text}
+use Rattle.msrp_text.specs.PlanText.{records_text, version_text}
 use Rattle.msrp_text.specs.Records.{csv_records, records_at}
 use Rattle.msrp_text.proofs.Numerals.{number_again, plain_decimal}
 use Rattle.msrp_text.proofs.Plain.{IsPlain, IsPlainRecord, plain_back, plain_name}
 use Rattle.msrp_text.proofs.ReadBack.{all_made}
 use Rattle.msrp_trace.specs.Laws.{as_read, has_short_ahead, has_short_job, has_short_numbers, is_short}
 use Rattle.msrp_trace.specs.Reading.{Told, rows_of, told_after}
-use Rattle.msrp_trace.specs.Rows.{ahead_told, fault_if, field_count, has_its_ahead, has_parts, is_dash, is_shaped, job_told, job_with, kind_named, kind_told, lacks_name, lacks_number, res_named, res_told, row_fault, row_told, task_named, task_told, told_at, version_told}
-use Rattle.msrp_trace.specs.TraceText.{ahead_fields, ahead_text, dash, head_fields, is_named, is_res_of, is_task_of, job_text, kind_text, record_text, res_text, row_fields, row_text, task_text, trace_text, trace_word, version_text}
-use Rattle.msrp_trace.proofs.Fields.{Counted, Shows, counted_fault, shape_known, told_row}
+use Rattle.msrp_trace.specs.Rows.{ahead_told, field_count, has_its_ahead, has_parts, is_dash, is_shaped, job_told, job_with, kind_named, kind_told, lacks_name, lacks_number, res_named, res_told, row_fault, row_told, task_named, task_told, version_told}
+use Rattle.msrp_trace.specs.TraceText.{ahead_fields, ahead_text, dash, head_fields, head_text, is_named, is_res_of, is_task_of, job_text, kind_text, res_text, row_fields, row_text, task_text, trace_text, trace_word}
+use Rattle.msrp_trace.proofs.Fields.{shape_known, told_row}
 use Rattle.msrp_trace.proofs.NamedRows.{run_named, run_short}
 use Rattle.msrp_trace.proofs.Names.{same_bytes, task_found, res_found}
 use Rattle.msrp_trace.proofs.Telling.{rows_first, told_end, told_more}
 
 -- ---- records as text
-same_rest : (fields : List (List ℕ)) → flat_map (λ field. codes "," ++ field) fields ++ codes "\n" ≡ next_fields fields
-same_rest [] = refl
-same_rest (field ∷ fields) = ap (λ text. 44 ∷ text) (append_assoc field (flat_map (λ f. codes "," ++ f) fields) (codes "\n") ∙ ap (λ text. field ++ text) (same_rest fields))
-
--- a record is written as plan text writes it
-same_record : (fields : List (List ℕ)) → record_text fields ≡ text_of_record fields
-unfolding record_text
-same_record [] = refl
-same_record (field ∷ fields) = append_assoc field (flat_map (λ f. codes "," ++ f) fields) (codes "\n") ∙ ap (λ text. field ++ text) (same_rest fields)
-
 same_rows : (version : TextVersion) (plan : PlanModel) (rows : List Row) → flat_map (row_text version plan) rows ≡ records_text (map (row_fields version plan) rows)
 same_rows version plan [] = refl
-same_rows version plan (r ∷ rows) =
-    ap (λ text. text ++ flat_map (row_text version plan) rows) (same_record (row_fields version plan r))
-    ∙ ap (λ text. text_of_record (row_fields version plan r) ++ text) (same_rows version plan rows)
+same_rows version plan (r ∷ rows) = ap (λ text. row_text version plan r ++ text) (same_rows version plan rows)
 
 -- the records of a trace
 abbrev trace_records : TextVersion → PlanModel → List Row → List (List (List ℕ))
 trace_records version plan rows = head_fields version plan ∷ map (row_fields version plan) rows
 
 same_trace : (version : TextVersion) (plan : PlanModel) (rows : List Row) → trace_text version plan rows ≡ records_text (trace_records version plan rows)
-same_trace version plan rows =
-    ap (λ text. text ++ flat_map (row_text version plan) rows) (same_record (head_fields version plan))
-    ∙ ap (λ text. text_of_record (head_fields version plan) ++ text) (same_rows version plan rows)
+same_trace version plan rows = ap (λ text. head_text version plan ++ text) (same_rows version plan rows)
 
 -- ---- fields
 self_eq : (n : ℕ) → (n == n) ≡ true
@@ -295,7 +280,7 @@ rows_again version plan n (r ∷ rows) ok all =
 
 -- ---- the first record
 head_again : (version : TextVersion) (plan : PlanModel) → IsPlan plan → version_told plan (head_fields version plan) ≡ Some version
-unfolding field_at trace_word version_text
+unfolding field_at trace_word
 head_again version plan ok =
     let few = ok.draft.cores.1 in
     let soon = ok.draft.ticks.1 in
@@ -357,7 +342,7 @@ plain_row version plan r ok h =
     (omega arith, (plain_short r.tick a.0, (plain_short r.core.0 b.0, (plain_kind r.kind, (plain_task plan r.job ok both.0, (plain_job r.job c.0, (plain_res plan r.res ok both.1, plain_ahead version r.ahead c.1)))))))
 
 plain_head : (version : TextVersion) (plan : PlanModel) → IsPlan plan → IsPlainRecord (head_fields version plan)
-unfolding trace_word version_text
+unfolding trace_word
 plain_head version plan ok =
     let few = ok.draft.cores.1 in
     let soon = ok.draft.ticks.1 in

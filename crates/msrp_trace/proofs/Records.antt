@@ -2,15 +2,16 @@
 use Rattle.std.proofs.Common.{◌≡◌, ℕ, List, [], ◌∷◌, ◌++◌, refl, sym, ap, ◌∙◌, append_assoc, append-nil, codes, decimal, Some, get_or, length, take, ◌<◌, ◌≤◌, ◌+◌, ◌&&◌, true, Option, None, IfSome, lt-ltb}
 use Rattle.std.proofs.lemmas.Grind.{flat_map-append}
 use Rattle.std.proofs.lemmas.List.{take_all, take_more}
-use Rattle.std.specs.List.{flat_map, join_by}
+use Rattle.std.specs.List.{flat_map}
 use Rattle.msrp_plan.specs.Plan.{PlanModel}
 use Rattle.msrp_plan.specs.declared.ids.JobId.{JobId}
 use Rattle.msrp_plan.specs.declared.ids.ResId.{ResId}
 use Rattle.msrp_plan.specs.declared.rows.Row.{Row}
 use Rattle.msrp_plan.specs.declared.rows.TextVersion.{TextVersion}
 use Rattle.msrp_plan.specs.declared.rows.TextVersion.TheVariants.{V1, V2}
+use Rattle.msrp_text.specs.PlanText.{version_text}
 use Rattle.msrp_trace.specs.Gathering.{after_tick, next_field}
-use Rattle.msrp_trace.specs.TraceText.{ahead_text, head_text, is_named, is_res_of, is_task_of, job_text, kind_text, record_text, res_text, row_text, task_text, trace_text, trace_word, version_text}
+use Rattle.msrp_trace.specs.TraceText.{ahead_text, head_text, is_named, is_res_of, is_task_of, job_text, kind_text, res_text, row_text, task_text, trace_text, trace_word}
 
 pub comma_next : (s text : List ℕ) → (s ++ codes ",") ++ text ≡ s ++ next_field text
 unfolding next_field
@@ -21,23 +22,23 @@ pub five_made : (a b c d e s t u v w x : List ℕ) → s ≡ [] → t ≡ s ++ a
 five_made a b c d e s t u v w x p q r k l m = rw (m, l, k, r, q, p) refl
 
 -- four, six and seven fields, s between them, and n at the end
-four_joined : (s n a b c d : List ℕ) → (((a ++ (s ++ b)) ++ (s ++ c)) ++ (s ++ d)) ++ n ≡ join_by (λ x. x) s (a ∷ b ∷ c ∷ d ∷ []) ++ n
+four_joined : (s n a b c d : List ℕ) → (((a ++ (s ++ b)) ++ (s ++ c)) ++ (s ++ d)) ++ n ≡ a ++ (s ++ (b ++ (s ++ (c ++ (s ++ (d ++ n))))))
 four_joined s n a b c d = simp (append_assoc, append-nil)
 
-six_joined : (s n a b c d e f : List ℕ) → a ++ ((((((s ++ b) ++ (s ++ c)) ++ ((s ++ d) ++ (s ++ e))) ++ (s ++ f)) ++ []) ++ n) ≡ join_by (λ x. x) s (a ∷ b ∷ c ∷ d ∷ e ∷ f ∷ []) ++ n
+six_joined : (s n a b c d e f : List ℕ) → a ++ ((((((s ++ b) ++ (s ++ c)) ++ ((s ++ d) ++ (s ++ e))) ++ (s ++ f)) ++ []) ++ n) ≡ a ++ (s ++ (b ++ (s ++ (c ++ (s ++ (d ++ (s ++ (e ++ (s ++ (f ++ n))))))))))
 six_joined s n a b c d e f = simp (append_assoc, append-nil)
 
-seven_joined : (s n a b c d e f g : List ℕ) → a ++ ((((((s ++ b) ++ (s ++ c)) ++ ((s ++ d) ++ (s ++ e))) ++ (s ++ f)) ++ ((s ++ g) ++ [])) ++ n) ≡ join_by (λ x. x) s (a ∷ b ∷ c ∷ d ∷ e ∷ f ∷ g ∷ []) ++ n
+seven_joined : (s n a b c d e f g : List ℕ) → a ++ ((((((s ++ b) ++ (s ++ c)) ++ ((s ++ d) ++ (s ++ e))) ++ (s ++ f)) ++ ((s ++ g) ++ [])) ++ n) ≡ a ++ (s ++ (b ++ (s ++ (c ++ (s ++ (d ++ (s ++ (e ++ (s ++ (f ++ (s ++ (g ++ n))))))))))))
 seven_joined s n a b c d e f g = simp (append_assoc, append-nil)
 
 -- the first record
 pub head-is : (version : TextVersion) (plan : PlanModel) → (((codes "msrp-trace" ++ next_field (version_text version)) ++ next_field (decimal plan.cores)) ++ next_field (decimal plan.ticks)) ++ codes "\n" ≡ head_text version plan
-unfolding record_text next_field trace_word
+unfolding next_field trace_word
 head-is version plan = four_joined (codes ",") (codes "\n") (codes "msrp-trace") (version_text version) (decimal plan.cores) (decimal plan.ticks)
 
 -- the record of a row
 pub row-is : (version : TextVersion) (plan : PlanModel) (r : Row) → decimal r.tick ++ after_tick version plan r ≡ row_text version plan r
-unfolding record_text next_field
+unfolding next_field
 row-is V1 plan r = six_joined (codes ",") (codes "\n") (decimal r.tick) (decimal r.core.0) (kind_text r.kind) (task_text plan r.job) (job_text r.job) (res_text plan r.res)
 row-is V2 plan r = seven_joined (codes ",") (codes "\n") (decimal r.tick) (decimal r.core.0) (kind_text r.kind) (task_text plan r.job) (job_text r.job) (res_text plan r.res) (ahead_text r.ahead)
 

@@ -16,7 +16,8 @@ use Rattle.msrp_plan.specs.declared.rows.Row.{Row}
 use Rattle.msrp_plan.specs.declared.rows.TextVersion.{TextVersion}
 use Rattle.msrp_plan.specs.declared.rows.TextVersion.TheVariants.{V1, V2}
 use Rattle.msrp_text.specs.Fields.{has_word, number_at, number_of}
-use Rattle.msrp_trace.specs.TraceText.{dash, kind_text, trace_word, version_text}
+use Rattle.msrp_text.specs.PlanText.{version_text}
+use Rattle.msrp_trace.specs.TraceText.{dash, kind_text, trace_word}
 use Rattle.msrp_trace.specs.declared.faults.TraceFault.{TraceFault}
 use Rattle.msrp_trace.specs.declared.faults.TraceFault.TheVariants.{FieldCount, Number, Kind as UnknownKind, Name, Shape}
 

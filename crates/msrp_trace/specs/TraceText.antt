@@ -1,6 +1,6 @@
 -- A trace as text: a record of the version and the plan's numbers, and then one for each row.
 use Rattle.std.specs.Prelude.{ℕ, Bool, true, ◌&&◌, nat_lt, List, [], ◌∷◌, ◌++◌, length, slice_index_or, codes, decimal, Option, Some, None}
-use Rattle.std.specs.List.{flat_map, join_by}
+use Rattle.std.specs.List.{flat_map}
 use Rattle.msrp_plan.specs.Plan.{PlanModel, task_of}
 use Rattle.msrp_plan.specs.declared.ids.JobId.{JobId}
 use Rattle.msrp_plan.specs.declared.ids.ResId.{ResId}
@@ -9,10 +9,7 @@ use Rattle.msrp_plan.specs.declared.rows.Kind.TheVariants.{Idle, Run, Lock, Unlo
 use Rattle.msrp_plan.specs.declared.rows.Row.{Row}
 use Rattle.msrp_plan.specs.declared.rows.TextVersion.{TextVersion}
 use Rattle.msrp_plan.specs.declared.rows.TextVersion.TheVariants.{V1, V2}
-
--- a record: its fields with commas between them, and a line feed
-unfoldable pub record_text : List (List ℕ) → List ℕ
-record_text fields = join_by (λ field. field) (codes ",") fields ++ codes "\n"
+use Rattle.msrp_text.specs.PlanText.{record_text, version_text}
 
 -- the word for a kind of row
 unfoldable pub kind_text : Kind → List ℕ
@@ -29,11 +26,6 @@ kind_text Release = codes "release"
 -- the word that a trace's text begins with
 unfoldable pub trace_word : List ℕ
 trace_word = codes "msrp-trace"
-
--- the number of a version
-unfoldable pub version_text : TextVersion → List ℕ
-version_text V1 = codes "1"
-version_text V2 = codes "2"
 
 -- what stands where a row has no job, no resource or no ahead
 unfoldable pub dash : List ℕ

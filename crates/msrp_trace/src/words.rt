@@ -1,7 +1,8 @@
 //! The words of trace text.
 ghost use Rattle.std.specs.Prelude.{◌≡◌, ◌≤◌, length};
 ghost use Rattle.msrp_trace.specs.Rows.{kind_named};
-ghost use Rattle.msrp_trace.specs.TraceText.{kind_text, version_text};
+ghost use Rattle.msrp_text.specs.PlanText.{version_text};
+ghost use Rattle.msrp_trace.specs.TraceText.{kind_text};
 
 use msrp_plan::{Kind, TextVersion};
 
@@ -59,7 +60,6 @@ pub(crate) fn kind_named(word: &[u8]) -> Option<Kind>
 }
 
 /// The number of a version.
-#[tactic(auto, unfolding(crate::specs::TraceText::version_text))]
 pub(crate) fn version_word(version: TextVersion) -> &'static [u8]
     ensures word { result.now ≡ version_text version }
     ensures short { length result.now ≤ 1 }

@@ -3,9 +3,9 @@ use Rattle.std.specs.Prelude.{◌≡◌, ℕ, ◌<◌, ◌≤◌, List, [], map,
 use Rattle.std.specs.List.{filter_map}
 use Rattle.std.specs.Option.{option_map, unwrap_or}
 use Rattle.std.specs.declared.option.Option.{Option}
+use Rattle.msrp_plan.specs.Limits.{most_cores, most_resources}
 use mathlib.Core.Option.{some}
 use lib.ListN.{get_elem?}
-use Rattle.msrp_plan.specs.declared.limits.TheConstants.{MOST_CORES, MOST_RESOURCES}
 use Rattle.msrp_plan.specs.declared.units.Phase.{Phase}
 use Rattle.msrp_plan.specs.declared.units.Phase.TheVariants.{Free, Queued, Holding}
 use Rattle.atomic_table.specs.Table.{Me}
@@ -41,16 +41,16 @@ state_at pages c = option_map state_of (page_at pages c)
 
 -- what a seat keeps of each core is what its page says
 abbrev pub AreStates : List (Option CoreState) → List (Option Page) → Type 0
-AreStates held pages = (c : ℕ) → c < MOST_CORES → get_elem? held c ≡ some (state_at pages c)
+AreStates held pages = (c : ℕ) → c < most_cores → get_elem? held c ≡ some (state_at pages c)
 
 -- no page is of a core past the last that a board may have
 abbrev pub IsLow : View → Type 0
-IsLow v = (c : ℕ) (b : Page) → HasPage v c b → c < MOST_CORES
+IsLow v = (c : ℕ) (b : Page) → HasPage v c b → c < most_cores
 
 -- the seat has the page of core c and no other, and keeps its state
 pub record IsOwn (held : List (Option CoreState)) (v : View) (c : ℕ) (b : Page) : Type 0 where
   pub states : AreStates held v.pages
-  pub low : c < MOST_CORES
+  pub low : c < most_cores
   pub only : HasOnly v c b
 
 -- what is claimed is one of the first n resources
@@ -120,7 +120,7 @@ settled_as z words seat = record {
 
 -- what holds of each settled board: the rule, and there is room for each word
 pub record IsSettled (z : BoardSize) (words : List ℕ) (seat : SeatModel) : Type 0 where
-  pub room : z.resources ≤ MOST_RESOURCES
+  pub room : z.resources ≤ most_resources
   pub tied : IsTied (settled_as z words seat)
 
 -- the seat knows all pages and the conductor's book, and the rule holds of them

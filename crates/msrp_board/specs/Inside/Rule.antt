@@ -15,7 +15,7 @@ use Rattle.msrp_board.specs.declared.held.Claim.{Claim}
 use Rattle.msrp_board.specs.declared.pages.Page.{Page}
 use Rattle.msrp_board.specs.declared.pages.View.{View}
 use Rattle.msrp_board.specs.declared.words.TicketWord.{TicketWord}
-use Rattle.msrp_board.specs.Boards.{high, low, opening_count, abort_count}
+use Rattle.msrp_board.specs.Boards.{high, low, opening_count, abort_count, half_word}
 use Rattle.msrp_board.specs.Steps.{only_at, none_at, either, together}
 use Rattle.msrp_board.specs.Books.{IsSize, on, reach_of, AreBefore, IsBefore, IsChain}
 use Rattle.msrp_board.specs.History.{Event, by}
@@ -71,7 +71,7 @@ arrivals (b ∷ bs) = b.tick + arrivals bs
 -- what holds of the barrier word
 pub record Gathered (word : ℕ) (books : List Page) (o : Conductor) : Type 0 where
   -- it counts the arrivals and the opening in its low half, and the abort in its high half
-  pub counts : word ≡ abort_count o * 4294967296 + (arrivals books + opening_count o)
+  pub counts : word ≡ abort_count o * half_word + (arrivals books + opening_count o)
   -- a core was told of an abort that was made
   pub told : (c : ℕ) (b : Page) → get_elem? books c ≡ some b → b.stopped ≡ true → o ≡ Aborted
   -- whoever is or was admitted to a tick met all who left the ticks below
@@ -85,7 +85,7 @@ pub record IsHistoryNewest (g : ℕ) (books : List Page) (log : List Event) : Ty
 
 -- the word counts the requests of the history, high, and its releases, low
 abbrev pub IsTicketWord : ℕ → List Event → Type 0
-IsTicketWord word log = word ≡ asks log * 4294967296 + leaves log
+IsTicketWord word log = word ≡ asks log * half_word + leaves log
 
 -- how many entries there are
 abbrev pub entry_count : List Page → ℕ

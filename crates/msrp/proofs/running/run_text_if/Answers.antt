@@ -1,5 +1,5 @@
 use Rattle.std.proofs.Common.{[]}
-use Rattle.msrp.proofs.NamedRows.{legal_named}
+use Rattle.msrp_trace.proofs.NamedRows.{legal_named}
 use Rattle.msrp.proofs.running.run_text_if.Goals as goal
 
 pub write_trace-requires-clause-named : goal.write_trace-requires-clause-named

@@ -1,7 +1,7 @@
-use Rattle.std.proofs.Common.{◌≡◌, ◌∙◌, ◌++◌, ap, decimal, get_or}
+use Rattle.std.proofs.Common.{◌∙◌, ap}
 use Rattle.std.proofs.lemmas.List.{get_or_read}
 use Rattle.msrp_trace.specs.declared.line.RowLine.{RowLine}
-use Rattle.msrp_trace.proofs.Gathered.{gathers-as, gathers-more}
+use Rattle.msrp_trace.proofs.Gathered.{gathers-more}
 use Rattle.msrp_trace.proofs.writing.add_record.Goals as goal
 
 pub returns : goal.returns
