@@ -1,25 +1,13 @@
 -- The newest row of a simulation names what the plan has; the text of one row more.
-use Rattle.std.proofs.Common.{◌≡◌, ◌≢◌, ℕ, ◌+◌, ◌<◌, ◌&&◌, true, List, [], ◌∷◌, ◌++◌, Option, Some, None, IfSome, length, refl, ap, sym, subst, ◌∙◌, arith, append-nil, slice_get}
-use Rattle.std.proofs.lemmas.Bool.{cases_lt}
-use Rattle.std.proofs.lemmas.List.Elements.{All-contains, All-from_recursion}
-use Rattle.msrp_plan.specs.Plan.{PlanModel, task_at, units}
-use Rattle.msrp_plan.specs.Jobs.{jobs_on}
-use Rattle.msrp_plan.specs.Actions.{res_of_unit}
+use Rattle.std.proofs.Common.{◌≡◌, ◌+◌, true, List, [], ◌∷◌, ◌++◌, ap, sym, ◌∙◌, append-nil}
+use Rattle.msrp_plan.specs.Plan.{PlanModel}
 use Rattle.msrp_plan.specs.Logs.{IsDueTurn, log_of}
-use Rattle.msrp_plan.specs.Runs.{EachAfter, IsLegal}
-use Rattle.std.specs.List.{list_all}
 use Rattle.msrp_plan.specs.WellFormed.{IsPlan}
-use Rattle.msrp_plan.specs.declared.ids.JobId.{JobId}
-use Rattle.msrp_plan.specs.declared.ids.ResId.{ResId}
 use Rattle.msrp_plan.specs.declared.rows.Row.{Row}
 use Rattle.msrp_plan.specs.declared.rows.TextVersion.{TextVersion}
-use Rattle.msrp_plan.specs.declared.units.Op.{Op}
-use Rattle.msrp_plan.specs.declared.units.Op.TheVariants.{Run, Lock, Unlock}
-use Rattle.msrp_plan.proofs.Jobs.JobLists.{core_jobs_below}
-use Rattle.msrp_plan.proofs.Legality.LegalRows.{IsTurn, DoesUnit, turn_of, legal_turn, idle_res}
+use Rattle.msrp_plan.proofs.Legality.LegalRows.{IsTurn, turn_of}
 use Rattle.msrp_plan.proofs.Lists.Prefixes.{each_at}
 use Rattle.msrp_sim.specs.Simulated.{SimModel, HasMade}
-use Rattle.msrp_text.proofs.Written.{named_unit}
 use Rattle.msrp_trace.specs.TraceText.{is_named, row_text, trace_text}
 use Rattle.msrp_trace.proofs.NamedRows.{turn_named}
 use Rattle.msrp_trace.proofs.Records.{trace-more}

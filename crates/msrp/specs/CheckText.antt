@@ -1,18 +1,10 @@
 -- What is told of a plan before it runs, as text: its levels, its ceilings and its tops (Baker 1991; for global resources
 -- Gai, Lipari and Di Natale 2001).
-use Rattle.std.specs.Prelude.{◌≡◌, ℕ, List, [], ◌∷◌, ◌++◌, codes, decimal, length, slice_index_or, if◌then◌else◌, Option, Ok, Err}
+use Rattle.std.specs.Prelude.{ℕ, List, [], ◌∷◌, ◌++◌, codes, decimal, length, slice_index_or, if◌then◌else◌}
 use Rattle.std.specs.List.{flat_map, range_with_len}
-use Rattle.std.specs.declared.result.Result.{Result}
 use Rattle.msrp_plan.specs.Plan.{PlanModel, task_at}
 use Rattle.msrp_plan.specs.Levels.{is_global, level, local_ceiling, top}
-use Rattle.msrp_plan.specs.Bytes.{Wrote}
-use Rattle.msrp_plan.specs.WellFormed.{IsPlan}
-use Rattle.msrp_plan.specs.declared.bytes.Sink.{Sink}
 use Rattle.msrp_text.specs.PlanText.{record_text}
-use Rattle.msrp_text.specs.declared.reading.TextError.{TextError}
-use Rattle.msrp.specs.Outcomes.{fault_of}
-use Rattle.msrp.specs.Simulation.{sim_status}
-use Rattle.msrp.specs.declared.faults.CliFault.{CliFault}
 
 -- a task by its number: its name and its preemption level
 abbrev pub level_record : PlanModel → ℕ → List (List ℕ)
@@ -37,14 +29,3 @@ told_each told n = flat_map (λ i. record_text (told i)) (range_with_len 0 n)
 -- each task, then each resource, then each core
 unfoldable pub check_text : PlanModel → List ℕ
 check_text plan = told_each (level_record plan) (length plan.tasks) ++ (told_each (ceiling_record plan) (length plan.resources) ++ told_each (top_record plan) plan.cores)
-
--- the sink took what is told of some well-formed plan
-pub record WritesSomeCheck {W : Type 0} (contents : W → Option (List ℕ)) (old new : Sink W) : Type 0 where
-  pub plan : PlanModel
-  pub well_formed : IsPlan plan
-  pub text : Wrote contents old new (check_text plan)
-
--- the answer to a text that stands for a plan, or to one that is refused: then nothing is written
-abbrev pub CheckAnswers : {W : Type 0} → (W → Option (List ℕ)) → Result PlanModel TextError → Sink W → Sink W → Result ℕ CliFault → Type 0
-CheckAnswers contents (Ok plan) old new result = Wrote contents old new (check_text plan) × (result ≡ sim_status new)
-CheckAnswers contents (Err error) old new result = (result ≡ Err (fault_of error)) × (new ≡ old)

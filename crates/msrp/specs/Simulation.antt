@@ -1,4 +1,4 @@
--- What a simulation of a plan, and a check of its text, write and answer.
+-- What a simulation of a plan, and a text of it, write and answer.
 use Rattle.std.specs.Prelude.{◌≡◌, ℕ, List, cond, Option, Ok, Err}
 use Rattle.std.specs.declared.result.Result.{Result}
 use Rattle.msrp_plan.specs.Plan.{PlanModel}
@@ -7,7 +7,6 @@ use Rattle.msrp_plan.specs.Bytes.{Wrote, sink_failed}
 use Rattle.msrp_plan.specs.WellFormed.{IsPlan}
 use Rattle.msrp_plan.specs.declared.rows.Row.{Row}
 use Rattle.msrp_plan.specs.declared.bytes.Sink.{Sink}
-use Rattle.msrp_text.specs.PlanText.{plan_text}
 use Rattle.msrp_text.specs.declared.reading.TextError.{TextError}
 use Rattle.msrp_plan.specs.declared.rows.TextVersion.{TextVersion}
 use Rattle.msrp_sim.specs.Orders.{cores_of}
@@ -31,11 +30,11 @@ pub record WritesSomeRun {W : Type 0} (contents : W → Option (List ℕ)) (vers
   pub is_order : IsOrder plan (cores_of order plan)
   pub writes : WritesRun contents version plan (cores_of order plan) old new
 
--- the sink took the text of some well-formed plan
-pub record WritesSomePlan {W : Type 0} (contents : W → Option (List ℕ)) (old new : Sink W) : Type 0 where
+-- the sink took such a text of some well-formed plan
+pub record WritesSomeText {W : Type 0} (contents : W → Option (List ℕ)) (text_of : PlanModel → List ℕ) (old new : Sink W) : Type 0 where
   pub plan : PlanModel
   pub well_formed : IsPlan plan
-  pub text : Wrote contents old new (plan_text plan)
+  pub text : Wrote contents old new (text_of plan)
 
 -- 0 where the sink took it all, a write fault where it failed
 abbrev pub sim_status : {W : Type 0} → Sink W → Result ℕ CliFault
@@ -51,7 +50,7 @@ abbrev pub SimAnswers : {W : Type 0} → (W → Option (List ℕ)) → TextVersi
 SimAnswers contents version order (Ok plan) old new result = SimAnswersPlan contents version plan (cores_of order plan) old new result
 SimAnswers contents version order (Err error) old new result = (result ≡ Err (fault_of error)) × (new ≡ old)
 
--- the same where the plan's own text is asked for
-abbrev pub PlanAnswers : {W : Type 0} → (W → Option (List ℕ)) → Result PlanModel TextError → Sink W → Sink W → Result ℕ CliFault → Type 0
-PlanAnswers contents (Ok plan) old new result = Wrote contents old new (plan_text plan) × (result ≡ sim_status new)
-PlanAnswers contents (Err error) old new result = (result ≡ Err (fault_of error)) × (new ≡ old)
+-- the same where such a text of the plan is asked for
+abbrev pub TextAnswers : {W : Type 0} → (W → Option (List ℕ)) → (PlanModel → List ℕ) → Result PlanModel TextError → Sink W → Sink W → Result ℕ CliFault → Type 0
+TextAnswers contents text_of (Ok plan) old new result = Wrote contents old new (text_of plan) × (result ≡ sim_status new)
+TextAnswers contents text_of (Err error) old new result = (result ≡ Err (fault_of error)) × (new ≡ old)

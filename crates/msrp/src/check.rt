@@ -5,8 +5,9 @@ ghost use Rattle.msrp_plan.specs.Bytes.{Wrote, sink_failed, source_failed, sourc
 ghost use Rattle.msrp_plan.specs.WellFormed.{IsPlan};
 ghost use Rattle.msrp_text.specs.PlanText.{record_text};
 ghost use Rattle.msrp_text.specs.Reading.{csv_records, plan_of};
-ghost use Rattle.msrp.specs.CheckText.{CheckAnswers, WritesSomeCheck, ceiling_record, check_text, level_record, told_each, top_record};
+ghost use Rattle.msrp.specs.CheckText.{ceiling_record, check_text, level_record, told_each, top_record};
 ghost use Rattle.msrp.specs.Outcomes.{is_sim_fault};
+ghost use Rattle.msrp.specs.Simulation.{TextAnswers, WritesSomeText};
 
 #[cfg(test)]
 mod tests;
@@ -119,11 +120,11 @@ pub fn check_text<P: Read, W: Write>(
     // Where the reader tells its bytes, and no read failed and no memory was refused, the answer is that to
     // the plan that they stand for.
     ensures answer { (bytes : List ℕ) → source_remaining P.remaining plan.old ≡ Some bytes
-        → (result ≡ Err CliFault.Read) ⊎ (result ≡ Err CliFault.Memory) ⊎ CheckAnswers W.contents (plan_of (csv_records bytes)) out.old out.new result }
+        → (result ≡ Err CliFault.Read) ⊎ (result ≡ Err CliFault.Memory) ⊎ TextAnswers W.contents check_text (plan_of (csv_records bytes)) out.old out.new result }
 
     // Whatever the reader tells.
     ensures good { IfOk result (λ status. (status ≡ 0) × (sink_failed out.new ≡ false)) }
-    ensures written { OnOk result (WritesSomeCheck W.contents out.old out.new) }
+    ensures written { OnOk result (WritesSomeText W.contents check_text out.old out.new) }
     ensures faults { IfErr result (λ fault. is_sim_fault fault ≡ true) }
     ensures read { (result ≡ Err CliFault.Read) ↔ (source_failed plan.new ≡ true) }
     ensures write { result ≡ Err CliFault.Write → sink_failed out.new ≡ true }

@@ -3,7 +3,7 @@ ghost use Rattle.std.specs.Prelude.{◌≡◌, ◌<◌, length, map, IfOk};
 ghost use Rattle.msrp_plan.specs.Levels.{is_global, local_ceiling};
 ghost use Rattle.msrp_plan.specs.Bounds.{section, spin_bound};
 ghost use Rattle.msrp_levels.specs.Footprints.{footprint_of};
-ghost use Rattle.msrp_levels.specs.Usage.{AreUsages};
+ghost use Rattle.msrp_levels.specs.Usage.{AreUsages, IsUsage};
 ghost use Rattle.msrp_levels.specs.Users.{users};
 
 use crate::footprints::Footprint;
@@ -57,11 +57,19 @@ impl<'a> Usages<'a> {
         Ok(Usages { plan, usages })
     }
 
+    // How the plan uses a resource.
+    fn usage(&self, res: ResId) -> &Usage
+        requires { res.0 < length self.now.resources }
+        ensures { IsUsage self.now res.0 result.now }
+    {
+        &self.usages[res.0 as usize]
+    }
+
     pub(crate) fn is_global(&self, res: ResId) -> bool
         requires { res.0 < length self.now.resources }
         ensures { result ≡ is_global self.now res.0 }
     {
-        self.usages[res.0 as usize].global
+        self.usage(res).global
     }
 
     /// The highest level of a user, 0 if there is none.
@@ -69,14 +77,14 @@ impl<'a> Usages<'a> {
         requires { res.0 < length self.now.resources }
         ensures { result ≡ local_ceiling self.now res.0 }
     {
-        self.usages[res.0 as usize].ceiling
+        self.usage(res).ceiling
     }
 
     pub(crate) fn users(&self, res: ResId) -> &[TaskId]
         requires { res.0 < length self.now.resources }
         ensures { map (λ task. task.0) result.now ≡ users self.now res.0 }
     {
-        &self.usages[res.0 as usize].users
+        &self.usage(res).users
     }
 
     pub(crate) fn section(&self, res: ResId, core: CoreId) -> u32
@@ -84,7 +92,7 @@ impl<'a> Usages<'a> {
         requires core { core.0 < self.now.cores }
         ensures { result ≡ section self.now res.0 core.0 }
     {
-        self.usages[res.0 as usize].cores[core.0 as usize].section
+        self.usage(res).cores[core.0 as usize].section
     }
 
     pub(crate) fn spin_bound(&self, res: ResId, core: CoreId) -> u32
@@ -92,6 +100,6 @@ impl<'a> Usages<'a> {
         requires core { core.0 < self.now.cores }
         ensures { result ≡ spin_bound self.now res.0 core.0 }
     {
-        self.usages[res.0 as usize].spins[core.0 as usize]
+        self.usage(res).spins[core.0 as usize]
     }
 }
