@@ -236,6 +236,7 @@ impl<'a> Jobs<'a> {
     }
 
     /// The next action of the running job: its next unit, or one more tick of the wait for it.
+    #[inline(always)]
     pub(crate) fn act<P: Port>(&mut self, port: &mut P, tick: u32, job: JobId) -> Row
         requires jobs { AreJobs self.old }
         requires running { IsRunning self.old job }
@@ -263,6 +264,7 @@ impl<'a> Jobs<'a> {
     }
 
     /// The turn of who was chosen, or of nobody: then the core idles.
+    #[inline(always)]
     pub(crate) fn act_chosen<P: Port>(
         &mut self,
         port: &mut P,

@@ -88,6 +88,7 @@ impl<'a> Jobs<'a> {
     }
 
     // Starts the head.
+    #[inline(never)]
     fn start(&mut self, job: JobId)
         requires jobs { AreJobs self.old }
         requires head { head self.old.ready ≡ Some job }
@@ -104,6 +105,7 @@ impl<'a> Jobs<'a> {
     }
 
     /// The job that has the turn in this tick, or none: the head where it is preferred, which is then started, or else who runs.
+    #[inline(always)]
     pub(crate) fn choose(&mut self, tick: u32) -> Option<JobId>
         requires jobs { AreJobs self.old }
         requires tick { ForSome self.old.ready.tick (λ before. before ≤ tick) }

@@ -83,6 +83,7 @@ impl<'a> Machine<'a> {
     /// The core's next turn: the job that has it does its next action, or the core idles. A turn on a global resource
     /// makes one call of the port, and any other makes none. It never fails, and takes no memory. Whatever log the
     /// machine stands after, the row is the next one of that log.
+    #[inline(always)]
     pub fn turn<P: Port>(&mut self, port: &mut P) -> Row
         requires tick { self.old.tick < self.old.plan.ticks }
         requires claim { claim_in self.old.core (P.port port.old).calls ≡ self.old.phase }

@@ -83,6 +83,7 @@ impl<'a> Simulation<'a> {
 
     /// The next turn: its core's machine makes a row, and the port answers at once. It never fails, and takes no
     /// memory. Whatever rows the simulation has made, this is the next of them.
+    #[inline(always)]
     pub fn turn(&mut self) -> Row
         requires { self.old.turn < self.old.plan.cores * self.old.plan.ticks }
         ensures plan { self.new.plan ≡ self.old.plan }

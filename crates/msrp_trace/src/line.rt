@@ -180,6 +180,7 @@ impl Line {
     }
 
     // Makes the record of a row but for its tick.
+    #[inline(never)]
     fn make(&mut self, plan: &Plan, version: TextVersion, row: &Row)
         requires named { is_named plan.now row.now ≡ true }
         ensures { self.new ≡ after_tick version plan.now row.now }
@@ -238,6 +239,7 @@ impl RowLine {
     }
 
     /// Makes the record of a row but for its tick, unless it is here already.
+    #[inline(always)]
     pub(crate) fn show(&mut self, plan: &Plan, version: TextVersion, row: &Row)
         requires named { is_named plan.now row.now ≡ true }
         requires before { IsLine version plan.now self.old }

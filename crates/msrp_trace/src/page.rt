@@ -45,6 +45,7 @@ impl Page {
     }
 
     /// Takes a text.
+    #[inline(always)]
     pub(crate) fn add<W: Write>(&mut self, out: &mut Sink<W>, text: &[u8])
         ensures { Gathers W.contents self.old out.old self.new out.new text.now }
     {
@@ -56,6 +57,7 @@ impl Page {
 
     // Takes a text that does not fit: what was gathered is written, and the text begins the next page, unless
     // it is longer than a page.
+    #[inline(never)]
     fn turn<W: Write>(&mut self, out: &mut Sink<W>, text: &[u8])
         ensures { Gathers W.contents self.old out.old self.new out.new text.now }
     {

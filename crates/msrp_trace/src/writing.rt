@@ -93,6 +93,7 @@ impl<'a> TraceWriter<'a> {
     }
 
     /// Writes the record of a row of a trace of the plan.
+    #[inline(always)]
     pub fn row<W: Write>(&mut self, out: &mut Sink<W>, row: &Row)
         requires { is_named self.old.plan row.now ≡ true }
         ensures text { Gathers W.contents self.old.text out.old self.new.text out.new (row_text self.old.version self.old.plan row.now) }
