@@ -1,5 +1,5 @@
 -- Orders that are made tick by tick give each core one turn in each tick.
-use Rattle.std.proofs.Common.{◌≡◌, ◌≢◌, ℕ, zero, suc, ◌+◌, ◌-◌, ◌*◌, ◌/◌, ◌%◌, ◌<◌, ◌≤◌, ◌==◌, Bool, true, false, cond, nat_lt, List, [], ◌∷◌, ◌++◌, map, refl, ap, sym, ◌∙◌, subst, arith, length, length-append, append_assoc, append-nil, add-one, mul_comm, eq-eqb, get_or, take, drop, inl, inr}
+use Rattle.std.proofs.Common.{◌≡◌, ◌≢◌, ℕ, zero, suc, ◌+◌, ◌-◌, ◌*◌, ◌/◌, ◌%◌, ◌<◌, ◌≤◌, ◌==◌, false, cond, nat_lt, List, [], ◌∷◌, ◌++◌, map, refl, ap, sym, ◌∙◌, subst, arith, length, length-append, append_assoc, append-nil, add-one, mul_comm, get_or, inl, inr}
 use Rattle.std.specs.List.{count_by, flat_map, range_with_len}
 use Rattle.std.proofs.lemmas.Bool.{cases_lt, cases_Bool, lt-ltb, eqb-true, eqb-false}
 use Rattle.std.proofs.lemmas.Bool.Decides.{nat_tests}
@@ -7,13 +7,13 @@ use Rattle.std.proofs.lemmas.List.{get_or_append_left, get_or-append-add, map-id
 use Rattle.std.proofs.lemmas.List.Sums.{sum_by_push}
 use Rattle.std.proofs.lemmas.List.FromFn.{length-range_with_len, length-map-range_with_len, map-range_with_len_more, get_or-map-range_with_len}
 use Rattle.std.proofs.Math.Nat.{mod-lt, mod-eq_of_lt, div-add-mod, add-mul-mod_self_left, mul-le-mul_right, suc-mul, div-mul-le_self}
-use Rattle.std.proofs.lemmas.Nat.{div-mul-add, mod-mul-add, div-add-mod'}
+use Rattle.std.proofs.lemmas.Nat.{div-mul-add, mod-mul-add}
 use Rattle.msrp_plan.specs.Plan.{PlanModel}
 use Rattle.msrp_plan.specs.Runs.{EachAfter}
 use Rattle.msrp_plan.specs.Logs.{ascending}
 use Rattle.msrp_plan.specs.Scheduling.{IsNextCore, IsOrder}
 use Rattle.msrp_plan.proofs.Lists.Prefixes.{each_push}
-use Rattle.msrp_plan.proofs.Lists.Ranges.{flat_more, flat_length, not_equal}
+use Rattle.msrp_plan.proofs.Lists.Ranges.{flat_more, flat_length}
 use Rattle.msrp_sim.specs.Orders.{turns_by, falling, rotating}
 
 -- in each tick each of m cores has a place of its own
@@ -244,8 +244,12 @@ some_of m n turn l = elim (cases_lt 0 m) [
   | inr none ↦ absurd (let z : m ≡ 0 = omega (arith, none) in let e : m * n ≡ 0 = ap (λ k. k * n) z ∙ omega arith in omega (arith, e, l))
 ]
 
--- which core has it
-pub turn_by : (core : ℕ → ℕ → ℕ) (plan : PlanModel) (turn : ℕ) → turn < plan.cores * plan.ticks → core (turn / plan.cores) (turn % plan.cores) ≡ get_or (turns_by core plan) turn 0
-turn_by core plan turn l =
-    sym (turn_at core plan.cores (turn / plan.cores) (turn % plan.cores) plan.ticks (before_last plan.cores plan.ticks turn l) (mod-lt turn (some_of plan.cores plan.ticks turn l)))
-    ∙ ap (λ n. get_or (turns_by core plan) n 0) (div-add-mod' turn plan.cores)
+-- which core has the turn of place i in tick t
+pub turn_in : (core : ℕ → ℕ → ℕ) (plan : PlanModel) (turn t i : ℕ) → turn ≡ t * plan.cores + i → i < plan.cores → t < plan.ticks → core t i ≡ get_or (turns_by core plan) turn 0
+turn_in core plan turn t i at place tick =
+    sym (turn_at core plan.cores t i plan.ticks tick place)
+    ∙ ap (λ n. get_or (turns_by core plan) n 0) (sym at)
+
+-- its tick is one of the n
+pub tick_within : (m n turn t i : ℕ) → turn ≡ t * m + i → i < m → turn < m * n → t < n
+tick_within m n turn t i at place l = subst (λ k. k < n) (ap (λ k. k / m) at ∙ div-mul-add t m i place) (before_last m n turn l)

@@ -1,5 +1,5 @@
 -- What a clause sees of a port that serves requests in their order, and what its fields keep.
-use Rattle.std.specs.Prelude.{ℕ, List, ◌≡◌, ◌<◌, ◌≤◌, ◌+◌, length, slice_index_or, sum_by, vec_capacity}
+use Rattle.std.specs.Prelude.{ℕ, List, ◌<◌, ◌≤◌, ◌+◌, length, slice_index_or, sum_by, vec_capacity}
 use Rattle.std.specs.List.{All}
 use Rattle.msrp_plan.specs.Limits.{most_resources, most_rows}
 use Rattle.msrp_core.specs.declared.port.PortCall.{PortCall}

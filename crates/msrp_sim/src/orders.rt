@@ -1,5 +1,5 @@
 //! The orders in which the cores of a plan have their turns.
-ghost use Rattle.std.specs.Prelude.{ℕ, ◌≡◌, ◌↔◌, ◌<◌, ◌*◌, true, slice_index_or, length};
+ghost use Rattle.std.specs.Prelude.{ℕ, ◌≡◌, ◌↔◌, ◌<◌, ◌+◌, ◌*◌, ◌^◌, true, slice_index_or, length};
 ghost use Rattle.msrp_plan.specs.Plan.{PlanModel};
 ghost use Rattle.msrp_plan.specs.Scheduling.{IsOrder};
 ghost use Rattle.msrp_plan.specs.Logs.{ascending};
@@ -7,6 +7,35 @@ ghost use Rattle.msrp_sim.specs.Orders.{cores_of, falling, rotating};
 
 use msrp_plan::limits::MOST_CORES;
 use msrp_plan::{CoreId, Plan};
+
+/// Where a turn stands: its tick, and its place among the turns of that tick, both counted from 0.
+#[derive(Clone, Copy, Debug)]
+pub(crate) struct TickPlace {
+    pub(crate) tick: u32,
+    pub(crate) place: u32,
+}
+
+impl TickPlace {
+    /// Where the next turn stands, if each tick has so many.
+    pub(crate) fn next(self, cores: u32) -> TickPlace
+        requires place { self.place < cores }
+        requires tick { self.tick + 1 < 2 ^ 32 }
+        ensures place { result.place < cores }
+        ensures next { result.tick * cores + result.place ≡ self.tick * cores + self.place + 1 }
+    {
+        if self.place + 1 == cores {
+            TickPlace {
+                tick: self.tick + 1,
+                place: 0,
+            }
+        } else {
+            TickPlace {
+                tick: self.tick,
+                place: self.place + 1,
+            }
+        }
+    }
+}
 
 /// An order of turns: in each tick each core has one.
 #[derive(Debug, Drop)]
@@ -66,12 +95,27 @@ impl Order {
         requires order { IsOrder plan.now (cores_of self.now plan.now) }
         ensures { result.0 ≡ slice_index_or (cores_of self.now plan.now) turn 0 }
     {
-        let tick = turn / plan.cores();
-        let place = turn % plan.cores();
+        let cores = plan.cores();
+        let at = TickPlace {
+            tick: turn / cores,
+            place: turn % cores,
+        };
+        self.core_at(plan, turn, at)
+    }
+
+    /// The core that has this turn, of which it is known where it stands: nothing is divided where the cores rise or fall.
+    #[inline(always)]
+    pub(crate) fn core_at(&self, plan: &Plan, turn: u32, at: TickPlace) -> CoreId
+        requires at { turn ≡ at.tick * plan.now.cores + at.place }
+        requires place { at.place < plan.now.cores }
+        requires tick { at.tick < plan.now.ticks }
+        requires order { IsOrder plan.now (cores_of self.now plan.now) }
+        ensures { result.0 ≡ slice_index_or (cores_of self.now plan.now) turn 0 }
+    {
         CoreId(match self {
-            Order::Asc => place,
-            Order::Desc => plan.cores() - (place + 1),
-            Order::Rot => (tick + place) % plan.cores(),
+            Order::Asc => at.place,
+            Order::Desc => plan.cores() - (at.place + 1),
+            Order::Rot => (at.tick + at.place) % plan.cores(),
             Order::Given(cores) => cores[turn as usize],
         })
     }

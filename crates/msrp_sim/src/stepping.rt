@@ -6,7 +6,7 @@ ghost use Rattle.msrp_sim.specs.Orders.{cores_of};
 ghost use Rattle.msrp_sim.specs.Simulated.{AreNew, HasMade, IsRunIn};
 
 use crate::fifo::FifoPort;
-use crate::orders::Order;
+use crate::orders::{Order, TickPlace};
 use msrp_core::Machine;
 use msrp_levels::Levels;
 use msrp_plan::{CoreId, Memory, Plan, Row, Trace};
@@ -19,6 +19,7 @@ pub struct Simulation<'a> {
     plan: &'a Plan,
     order: &'a Order,
     turn: u32,
+    at: TickPlace,
     machines: Vec<Machine<'a>>,
     port: FifoPort,
 }
@@ -76,6 +77,7 @@ impl<'a> Simulation<'a> {
             plan,
             order,
             turn: 0,
+            at: TickPlace { tick: 0, place: 0 },
             machines,
             port,
         })
@@ -91,11 +93,12 @@ impl<'a> Simulation<'a> {
         ensures turn { self.new.turn ≡ self.old.turn + 1 }
         ensures row { (rows : List TraceRow) → HasMade self.old rows → HasMade self.new (rows ++ result ∷ []) }
     {
-        let core = self.order.core(self.plan, self.turn);
+        let core = self.order.core_at(self.plan, self.turn, self.at);
         let row = self.machines[core.0 as usize].turn(&mut self.port);
         // Read so that what was asked so far is known to be answered first in, first out.
         let _calls = self.port.calls();
         self.turn += 1;
+        self.at = self.at.next(self.plan.cores());
         row
     }
 }
