@@ -9,6 +9,14 @@ use msrp_core::Machine;
 use msrp_merge::CoreLog;
 use std::sync::Wait;
 
+// Ends a wait. The next one begins by spinning, unless a wait was so long that the threads seem to be more than the processors:
+// from then on each wait yields at once.
+fn end_wait(backoff: &Backoff) {
+    if !backoff.is_completed() {
+        backoff.reset();
+    }
+}
+
 /// Makes the turns of a core, tick by tick: it waits until the board lets the core into its tick, has the stage make the turn
 /// and arrives from the tick, until all ticks are done or the run is called off. A log that comes back is whole, or it is
 /// empty and the core was told to stop.
@@ -35,7 +43,7 @@ pub fn worker<R: Wait, S: Stage>(
                 board.arrive(&mut seat);
                 match seat.phase() {
                     SeatPhase::Done => return (log, seat),
-                    _ => backoff.reset(),
+                    _ => end_wait(&backoff),
                 }
             }
         }
