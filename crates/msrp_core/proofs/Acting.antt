@@ -1,5 +1,5 @@
 -- An action of the running job, over what is stored of the jobs of a core.
-use Rattle.std.proofs.Common.{◌≡◌, ℕ, ◌+◌, ◌<◌, ◌≤◌, Bool, true, false, nat_eq, List, [], ◌∷◌, Option, Some, refl, ap, sym, ◌∙◌, subst, arith, length, slice_get, vec_capacity}
+use Rattle.std.proofs.Common.{◌≡◌, ℕ, ◌+◌, ◌<◌, ◌≤◌, Bool, true, false, nat_eq, List, [], ◌∷◌, Option, Some, refl, ap, sym, ◌∙◌, subst, arith, length, reverse, slice_get, vec_capacity}
 use Rattle.std.specs.List.{list_any}
 use Rattle.std.proofs.lemmas.Bool.{eq-eqb, and_from}
 use Rattle.msrp_plan.specs.Plan.{PlanModel, units}
@@ -64,6 +64,13 @@ module _ (jobs : Jobs) (job : JobId) (op : Op) (can : CanAct jobs job op) where
 
   pub going_at : AreGoing jobs.plan.now jobs.core.0 jobs.ready.taken jobs.phase (can.newest ∷ can.below)
   going_at = subst (AreGoing jobs.plan.now jobs.core.0 jobs.ready.taken jobs.phase) can.going can.jobs_fit.are
+
+  -- where the stack's newest holds one resource more, and where it holds all but the innermost
+  pub going_locked : (m : StackModel) (g : ℕ) → m ≡ record jobs.stack { started = with_held jobs.stack.started g } → going_of m.started (reverse jobs.done.items) ≡ record can.newest { held = g ∷ can.newest.held } ∷ can.below
+  going_locked m g e = ap (λ (n : StackModel). going_of n.started (reverse jobs.done.items)) e ∙ (going_with jobs.stack.started (reverse jobs.done.items) g ∙ ap (kept_with g) can.going)
+
+  pub going_unlocked : (m : StackModel) (g : ℕ) (rest : List ℕ) → m ≡ record jobs.stack { started = without_held jobs.stack.started } → can.newest.held ≡ g ∷ rest → going_of m.started (reverse jobs.done.items) ≡ record can.newest { held = rest } ∷ can.below
+  going_unlocked m g rest e held = ap (λ (n : StackModel). going_of n.started (reverse jobs.done.items)) e ∙ (going_less jobs.stack.started (reverse jobs.done.items) ∙ (ap kept_less can.going ∙ ap (λ hs. record can.newest { held = without_first hs } ∷ can.below) held))
 
   -- the newest, with what it holds now, is still the running job
   pub still_running : (mid : Jobs) (held : List ℕ) → going_in mid ≡ record can.newest { held = held } ∷ can.below → IsRunning mid job
@@ -187,6 +194,25 @@ module _ (old new : Jobs) (job : JobId) (op : Op) (tick : ℕ) (r : Row) (q : Ph
       acts_by (advanced old.plan.now (record can.newest { held = held } ∷ can.below))
       (advance_going old.plan.now can.jobs_fit.accepted old.core.0 old.ready.taken can.newest can.below old.phase (going_at old job op can) q held step) left
       (advance_states old.plan.now can.jobs_fit.accepted old.core.0 old.ready.taken can.newest can.below old.phase (going_at old job op can) q held r row_job_is (ap is_waiting row.kind_is ∙ acts) step.calm)
+
+-- the jobs as `advance` leaves them, from these
+pub record IsAdvanced (mid new : Jobs) : Type 0 where
+  pub going : going_in new ≡ advanced mid.plan.now (going_in mid)
+  pub size : length new.stack.started ≡ length new.done.items
+  pub room : vec_capacity new.done ≡ vec_capacity mid.done
+  pub stack_plan : new.stack.plan ≡ mid.stack.plan
+  pub stack_core : new.stack.core ≡ mid.stack.core
+  pub others : new ≡ record mid { stack = new.stack; done = new.done }
+
+-- each unit acts so: the stack changes to m and the phase to q, with which the newest holds so much, then the job advances
+pub unit_acts : (old new : Jobs) (job : JobId) (op : Op) (tick : ℕ) (r : Row) (q : Phase) (k : Kind) (res : Option ResId) (m : StackModel) (held : List ℕ) (can : CanAct old job op)
+    → IsStep old.plan.now can.newest can.below q held → going_of m.started (reverse old.done.items) ≡ record can.newest { held = held } ∷ can.below → m.plan ≡ old.stack.plan → m.core ≡ old.stack.core
+    → IsAdvanced (record old { phase = q; stack = m }) new → IsRow r tick new job k res
+    → same_res res (res_of_unit op) ≡ true → allows (is_global_unit old.plan.now op) (is_waiting_phase old.phase) op k ≡ true → q ≡ phase_with old.phase k res → is_waiting k ≡ false → Acts old new job tick r
+unit_acts old new job op tick r q k res m held can step mid plan core done row same may phase acts =
+    let left = left_by old new q m (advanced old.plan.now (record can.newest { held = held } ∷ can.below)) plan core done.others done.stack_plan done.stack_core done.size done.room (done.going ∙ ap (advanced old.plan.now) mid) in
+    acts_unit old new job op tick r q k res can (record { tick_is = row.tick_is; core_is = row.core_is ∙ ap (λ (j : Jobs). j.core) done.others; job_is = row.job_is; kind_is = row.kind_is; res_is = row.res_is })
+    (does_by old.plan.now (is_waiting_phase old.phase) r op k res row.res_is row.kind_is same may) phase held step acts left
 
 -- the phase of a core that holds a resource passes the test for it
 pub holding_self : (r : ResId) → is_holding_phase r (Holding r) ≡ true
