@@ -1,6 +1,6 @@
 //! A plan on threads: from a plan's text to the text of what its cores did.
 
-ghost use Rattle.std.specs.Prelude.{◌≡◌, ◌⊎◌, ℕ, List, true, false, Some, Err, IfOk, IfErr};
+ghost use Rattle.std.specs.Prelude.{◌≡◌, ◌⊎◌, ◌↔◌, ℕ, List, true, false, Some, Err, IfOk, IfErr};
 ghost use Rattle.msrp_plan.specs.Bytes.{sink_failed, source_failed, source_remaining};
 ghost use Rattle.msrp_text.specs.Reading.{csv_records, plan_of};
 ghost use Rattle.msrp.specs.Outcomes.{is_sim_fault};
@@ -41,7 +41,7 @@ pub fn run_text_if<T: Threads + Wait + Sync, P: Read, W: Write, H: Hire>(
     // Whatever the reader tells.
     ensures good { IfOk result (λ status. (status ≡ 0) × (sink_failed out.new ≡ false)) }
     ensures faults { IfErr result (λ fault. (fault ≡ CliFault.Threads) ⊎ (is_sim_fault fault ≡ true)) }
-    ensures read { result ≡ Err CliFault.Read → source_failed plan.new ≡ true }
+    ensures read { (result ≡ Err CliFault.Read) ↔ (source_failed plan.new ≡ true) }
     ensures write { result ≡ Err CliFault.Write → sink_failed out.new ≡ true }
     ensures silent { IfErr result (λ fault. (fault ≡ CliFault.Write) ⊎ (out.new ≡ out.old)) }
 {
@@ -64,7 +64,7 @@ pub fn run_text<T: Threads + Wait + Sync, P: Read, W: Write>(
         → (result ≡ Err CliFault.Read) ⊎ (result ≡ Err CliFault.Memory) ⊎ (result ≡ Err CliFault.Threads) ⊎ RunAnswers W.contents version (plan_of (csv_records bytes)) out.old out.new result }
     ensures good { IfOk result (λ status. (status ≡ 0) × (sink_failed out.new ≡ false)) }
     ensures faults { IfErr result (λ fault. (fault ≡ CliFault.Threads) ⊎ (is_sim_fault fault ≡ true)) }
-    ensures read { result ≡ Err CliFault.Read → source_failed plan.new ≡ true }
+    ensures read { (result ≡ Err CliFault.Read) ↔ (source_failed plan.new ≡ true) }
     ensures write { result ≡ Err CliFault.Write → sink_failed out.new ≡ true }
     ensures silent { IfErr result (λ fault. (fault ≡ CliFault.Write) ⊎ (out.new ≡ out.old)) }
 {
