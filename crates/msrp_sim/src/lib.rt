@@ -4,6 +4,8 @@
 mod fifo;
 mod orders;
 mod stepping;
+#[cfg(test)]
+mod tests;
 
 pub use fifo::FifoPort;
 pub use orders::{Order, orders_of_turns};
