@@ -1,0 +1,23 @@
+//! Programs that use the crates of this repository, one in each module. `docs/LIBRARY.md` leads through them.
+#![tactic(auto)]
+
+mod judge;
+mod simulate;
+mod stage;
+
+use std::io;
+use std::process::ExitCode;
+
+fn main(rt: HostRuntime) -> ExitCode {
+    let mut out = io::writer(&rt);
+    let done = simulate::simulated(rt.alloc(), &mut out)
+        .and_then(|()| judge::judged(&rt, rt.alloc()))
+        .and_then(|()| stage::counted(&rt, &rt, rt.alloc()));
+    match done {
+        Ok(()) => ExitCode::SUCCESS,
+        Err(what) => {
+            let _ = eprintln!(rt; "{what}");
+            ExitCode::FAILURE
+        }
+    }
+}
