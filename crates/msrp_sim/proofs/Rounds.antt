@@ -238,12 +238,6 @@ before_last m n turn l = elim (cases_lt (turn / m) n) [
   | inr high ↦ absurd (let a : n * m ≤ turn / m * m = mul-le-mul_right m high in let b = div-mul-le_self turn m in let c = mul_comm m n in omega (arith, a, b, c, l))
 ]
 
-some_of : (m n turn : ℕ) → turn < m * n → 0 < m
-some_of m n turn l = elim (cases_lt 0 m) [
-  | inl some ↦ some
-  | inr none ↦ absurd (let z : m ≡ 0 = omega (arith, none) in let e : m * n ≡ 0 = ap (λ k. k * n) z ∙ omega arith in omega (arith, e, l))
-]
-
 -- which core has the turn of place i in tick t
 pub turn_in : (core : ℕ → ℕ → ℕ) (plan : PlanModel) (turn t i : ℕ) → turn ≡ t * plan.cores + i → i < plan.cores → t < plan.ticks → core t i ≡ get_or (turns_by core plan) turn 0
 turn_in core plan turn t i at place tick =
