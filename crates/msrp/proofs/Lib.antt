@@ -3,3 +3,4 @@ pub mod Judging
 pub mod NamedRows
 pub mod SimAnswers
 pub mod Reporting
+pub mod Grammar

@@ -5,5 +5,6 @@ pub mod Running
 pub mod Findings
 pub mod AuditText
 pub mod Words
+pub mod CommandLine
 pub mod Inputs
 pub mod Reports

@@ -1,9 +1,10 @@
 //! The command line: the words of a command, and what they ask for.
 
-ghost use Rattle.std.specs.Prelude.{◌≡◌, ◌⊎◌, ◌↔◌, ℕ, List, Some, codes, false, IfErr, IfOk};
-ghost use Rattle.clap.specs.declared.error.ErrorKind.TheVariants.{OutOfMemory};
-ghost use Rattle.clap.specs.Words.{has_subcommand, subcommand_name_of};
-ghost use Rattle.msrp.specs.Words.{IsCommand, plan_path, word_of};
+ghost use Rattle.std.specs.Prelude.{◌≡◌, ◌⊎◌, codes, false, map, string_bytes, Err, IfErr, IfOk};
+ghost use Rattle.clap.specs.Words.{fault_of, rule_of, subcommand_of, subcommand_rows_of};
+ghost use Rattle.msrp.specs.CommandLine as line;
+ghost use Rattle.msrp.specs.CommandLine.{IsAnswered, IsChosen, Takes};
+ghost use Rattle.msrp.specs.Words.{IsCommand, plan_path};
 
 use crate::faults::CliFault;
 use clap::error::ErrorKind;
@@ -74,19 +75,27 @@ const TEXT: &str = "text";
 /// The path that stands for standard input.
 pub const STANDARD: &str = "-";
 
-fn flag<'a>(alloc: Global, name: &'a str, help: &'a str) -> Arg<'a> {
+fn flag<'a>(alloc: Global, name: &'a str, help: &'a str) -> Arg<'a>
+    ensures rule { rule_of result ≡ line.flag name.now }
+    ensures own { result.global ≡ false }
+{
     Arg::new(alloc, name)
         .long(name)
         .action(ArgAction::SetTrue)
         .help(help)
 }
 
-fn plan_path<'a>(alloc: Global) -> Arg<'a> {
+fn plan_path<'a>(alloc: Global) -> Arg<'a>
+    ensures rule { rule_of result ≡ line.plan }
+    ensures own { result.global ≡ false }
+{
     Arg::new(alloc, PLAN).help("the plan's path; - is standard input, as where none is given")
 }
 
 // A command that judges a trace of a plan.
-fn judge<'a>(alloc: Global, name: &'a str, about: &'a str) -> Result<Command<'a>, AllocError> {
+fn judge<'a>(alloc: Global, name: &'a str, about: &'a str) -> Result<Command<'a>, AllocError>
+    ensures { IfOk result (Takes (line.judge name.now)) }
+{
     let plan = Arg::new(alloc, PLAN)
         .required(true)
         .help("the plan's path; - is standard input");
@@ -96,7 +105,9 @@ fn judge<'a>(alloc: Global, name: &'a str, about: &'a str) -> Result<Command<'a>
     Command::new(alloc, name).about(about).arg(plan)?.arg(trace)
 }
 
-fn sim<'a>(alloc: Global) -> Result<Command<'a>, AllocError> {
+fn sim<'a>(alloc: Global) -> Result<Command<'a>, AllocError>
+    ensures { IfOk result (Takes line.sim) }
+{
     let order = Arg::new(alloc, ORDER)
         .long(ORDER)
         .value_name("asc|desc|rot")
@@ -114,7 +125,9 @@ fn sim<'a>(alloc: Global) -> Result<Command<'a>, AllocError> {
         .arg(plan_path(alloc))
 }
 
-fn run<'a>(alloc: Global) -> Result<Command<'a>, AllocError> {
+fn run<'a>(alloc: Global) -> Result<Command<'a>, AllocError>
+    ensures { IfOk result (Takes line.run) }
+{
     Command::new(alloc, "run")
         .about("writes the trace of the plan's run on one thread for each core")
         .arg(flag(
@@ -125,14 +138,18 @@ fn run<'a>(alloc: Global) -> Result<Command<'a>, AllocError> {
         .arg(plan_path(alloc))
 }
 
-fn check<'a>(alloc: Global) -> Result<Command<'a>, AllocError> {
+fn check<'a>(alloc: Global) -> Result<Command<'a>, AllocError>
+    ensures { IfOk result (Takes line.check) }
+{
     Command::new(alloc, "check")
         .about("writes the plan's preemption levels and ceilings")
         .arg(flag(alloc, TEXT, "writes the plan's own text"))?
         .arg(plan_path(alloc))
 }
 
-fn audit<'a>(alloc: Global) -> Result<Command<'a>, AllocError> {
+fn audit<'a>(alloc: Global) -> Result<Command<'a>, AllocError>
+    ensures { IfOk result (Takes line.audit) }
+{
     judge(alloc, "audit", "judges a trace: good, or its first fault")?.arg(flag(
         alloc,
         PARALLEL,
@@ -140,7 +157,9 @@ fn audit<'a>(alloc: Global) -> Result<Command<'a>, AllocError> {
     ))
 }
 
-fn grammar<'a>(alloc: Global) -> Result<Command<'a>, AllocError> {
+fn grammar<'a>(alloc: Global) -> Result<Command<'a>, AllocError>
+    ensures { IfOk result (Takes line.grammar) }
+{
     Command::new(alloc, "msrp")
         .about(
             "the Multiprocessor Stack Resource Policy: runs, audits and reports; without a command as sim -",
@@ -160,10 +179,8 @@ fn grammar<'a>(alloc: Global) -> Result<Command<'a>, AllocError> {
 pub fn help_text(alloc: Global) -> Result<String, CliFault>
     ensures { IfErr result (λ fault. fault ≡ CliFault.Memory) }
 {
-    let Ok(mut command) = grammar(alloc) else {
-        return Err(CliFault::Memory);
-    };
-    command.render_help().map_err(|_| CliFault::Memory)
+    let mut command = grammar(alloc)?;
+    Ok(command.render_help()?)
 }
 
 // The path of the plan: standard input where none is given.
@@ -261,9 +278,7 @@ fn command_named<'a>(word: &str, words: &ArgMatches<'a>) -> Result<Cmd<'a>, CliF
 
 // The command that is asked for: the simulation of standard input where none is.
 fn chosen<'a>(matches: &ArgMatches<'a>) -> Result<Cmd<'a>, CliFault>
-    ensures fault { IfErr result (λ fault. fault ≡ CliFault.Usage) }
-    ensures bare { has_subcommand matches.now ≡ false → IfOk result (λ command. IsCommand (codes "sim") (codes "-") command) }
-    ensures word { IfOk result (λ command. (word : List ℕ) → subcommand_name_of matches.now ≡ Some word → word_of command ≡ word) }
+    ensures { IsChosen (subcommand_rows_of matches.now) result }
 {
     match matches.subcommand() {
         Some((word, words)) => command_named(word, words),
@@ -275,29 +290,23 @@ fn chosen<'a>(matches: &ArgMatches<'a>) -> Result<Cmd<'a>, CliFault>
     }
 }
 
-// What words that are no command are answered: want of memory is told as such, and nothing else is.
-fn refused(kind: ErrorKind) -> CliFault
-    ensures memory { (result ≡ CliFault.Memory) ↔ (kind ≡ OutOfMemory) }
-    ensures usage { (result ≡ CliFault.Memory) ⊎ (result ≡ CliFault.Usage) }
+// What a fault of the words is answered: the help where it is asked for, want of memory as such, and usage for all else.
+fn answer_to<'a>(kind: ErrorKind) -> Result<Cmd<'a>, CliFault>
+    ensures { result ≡ line.answer_to kind }
 {
     match kind {
-        ErrorKind::OutOfMemory => CliFault::Memory,
-        _ => CliFault::Usage,
+        ErrorKind::DisplayHelp => Ok(Cmd::Help),
+        ErrorKind::OutOfMemory => Err(CliFault::Memory),
+        _ => Err(CliFault::Usage),
     }
 }
 
 /// The command that the words ask for; the first word is the program's name.
 pub fn command_of<'a>(alloc: Global, words: &'a [String]) -> Result<Cmd<'a>, CliFault>
-    ensures { IfErr result (λ fault. (fault ≡ CliFault.Usage) ⊎ (fault ≡ CliFault.Memory)) }
+    ensures { (result ≡ Err CliFault.Memory) ⊎ IsAnswered (fault_of line.grammar (map string_bytes words.now)) (subcommand_of line.grammar (map string_bytes words.now)) result }
 {
-    let Ok(command) = grammar(alloc) else {
-        return Err(CliFault::Memory);
-    };
-    match command.try_get_matches_from(words) {
+    match grammar(alloc)?.try_get_matches_from(words) {
         Ok(matches) => chosen(&matches),
-        Err(error) => match error.kind() {
-            ErrorKind::DisplayHelp => Ok(Cmd::Help),
-            kind => Err(refused(kind)),
-        },
+        Err(error) => answer_to(error.kind()),
     }
 }

@@ -7,7 +7,7 @@ use msrp_plan::{Memory, WriteFault};
 use msrp_run::RunError;
 use msrp_text::TextError;
 use msrp_trace::TraceError;
-use std::alloc::AllocFailed;
+use std::alloc::{AllocError, AllocFailed};
 use thiserror::Error;
 
 /// Why the program did not do what it was asked for. The text of each is the line on standard error, after
@@ -77,6 +77,16 @@ impl From<Memory> for CliFault {
     ghost from_gives = { λ _ fault. fault ≡ CliFault.Memory };
 
     fn from(_error: Memory) -> CliFault {
+        CliFault::Memory
+    }
+}
+
+impl From<AllocError> for CliFault {
+    ghost use Rattle.msrp.specs.declared.faults.CliFault.{CliFault};
+
+    ghost from_gives = { λ _ fault. fault ≡ CliFault.Memory };
+
+    fn from(_error: AllocError) -> CliFault {
         CliFault::Memory
     }
 }

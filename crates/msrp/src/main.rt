@@ -7,7 +7,8 @@
 mod audit;
 mod check;
 
-ghost use Rattle.std.specs.Prelude.{◌≡◌, ◌⊎◌, ◌↔◌, cond, IfErr};
+ghost use Rattle.std.specs.IoError.{error_kind};
+ghost use Rattle.std.specs.Prelude.{◌≡◌, ◌⊎◌, ◌↔◌, if◌then◌else◌, IfErr, IfOk, IsErrAnd};
 
 mod cli;
 mod engine;
@@ -30,6 +31,8 @@ use msrp_plan::bytes::{Sink, Source};
 use msrp_sim::Order;
 use report::report_text;
 use running::run_text;
+use std::alloc::Global;
+use std::env::Args;
 use std::io;
 use std::io::ErrorKind;
 use std::process::ExitCode;
@@ -47,14 +50,23 @@ fn unread_words(kind: ErrorKind) -> CliFault
     }
 }
 
+// The words that were had of the command line, or why none were.
+fn words_had(alloc: Global, args: io::Result<Args>) -> Result<Vec<String>, CliFault>
+    ensures had { IfOk args (λ _. IfErr result (λ fault. fault ≡ CliFault.Memory)) }
+    ensures unread { IfErr args (λ error. IsErrAnd result (λ fault. (fault ≡ CliFault.Memory) ↔ (error_kind error ≡ ErrorKind.OutOfMemory))) }
+    ensures usage { IfErr result (λ fault. (fault ≡ CliFault.Memory) ⊎ (fault ≡ CliFault.Usage)) }
+{
+    match args {
+        Ok(args) => args.collect(alloc).map_err(|_| CliFault::Memory),
+        Err(error) => Err(unread_words(error.kind())),
+    }
+}
+
 // The words of the command line, the program's name first.
 fn words_of(rt: &HostRuntime) -> Result<Vec<String>, CliFault>
     ensures { IfErr result (λ fault. (fault ≡ CliFault.Memory) ⊎ (fault ≡ CliFault.Usage)) }
 {
-    match std::env::args(rt) {
-        Ok(args) => args.collect(rt.alloc()).map_err(|_| CliFault::Memory),
-        Err(error) => Err(unread_words(error.kind())),
-    }
+    words_had(rt.alloc(), std::env::args(rt))
 }
 
 // The order of turns that a word asks for.
@@ -72,7 +84,7 @@ fn order_of(order: TurnOrder) -> Order
 
 // The version of a trace: the second tells aheads.
 fn version_of(ahead: bool) -> TextVersion
-    ensures { result ≡ cond ahead TextVersion.V2 TextVersion.V1 }
+    ensures { result ≡ (if ahead then TextVersion.V2 else TextVersion.V1) }
 {
     if ahead {
         TextVersion::V2
