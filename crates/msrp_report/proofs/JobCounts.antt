@@ -13,7 +13,7 @@ use Rattle.msrp_plan.specs.declared.rows.Kind.TheVariants.{Queue, Spin, Grant}
 use Rattle.msrp_plan.specs.declared.rows.Row.{Row}
 use Rattle.msrp_report.specs.declared.counts.JobCount.{JobCount}
 use Rattle.msrp_report.specs.Lines.{last_tick, spins, spins_to_grant, longest_wait}
-use Rattle.msrp_report.specs.Counts.{wait_with, uncounted, counted, count_of}
+use Rattle.msrp_report.specs.Inside.Counts.{wait_with, uncounted, counted, count_of}
 
 -- ---- row by row
 -- what the rows leave of a count
@@ -140,22 +140,3 @@ counts_few rows j =
       spins = omega (arith, s, l);
       wait = omega (arith, s, l, w);
     }
-
--- ---- no rows of the job
-skipped : (b : Bool) (r : Row) (l : List Row) → b ≡ false → cond b (r ∷ l) l ≡ l
-skipped true r l e = absurd (cc)
-skipped false r l e = refl
-
-none_of : (j : JobId) (rows : List Row) → AllByRecursion (λ r. is_row_of j r ≡ false) rows → filter (is_row_of j) rows ≡ []
-none_of j [] all = refl
-none_of j (r ∷ rows) all = skipped (is_row_of j r) r (filter (is_row_of j) rows) all.0 ∙ none_of j rows all.1
-
--- rows that are none of the job's leave it without a row
-pub count_none : (j : JobId) (rows : List Row) → AllByRecursion (λ r. is_row_of j r ≡ false) rows → count_of rows j ≡ uncounted
-unfolding count_of
-count_none j rows all = ap (fold (λ c r. counted r c) uncounted) (none_of j rows all)
-
--- and rows behind, as many as there are, add nothing
-pub count_kept : (j : JobId) (pre rows : List Row) → AllByRecursion (λ r. is_row_of j r ≡ false) rows → count_of (pre ++ rows) j ≡ count_of pre j
-unfolding count_of
-count_kept j pre rows all = ap (fold (λ c r. counted r c) uncounted) (filter-append (is_row_of j) pre rows ∙ (ap (λ l. filter (is_row_of j) pre ++ l) (none_of j rows all) ∙ append-nil (filter (is_row_of j) pre)))

@@ -1,4 +1,10 @@
 pub mod JobCounts
 pub mod Waits
-pub mod Scanning
+pub mod Waiting
+pub mod JobTallies
 pub mod LineJobs
+pub mod Going
+pub mod TallySteps
+pub mod RowSteps
+pub mod Starting
+pub mod Reporting

@@ -29,8 +29,8 @@ use Rattle.msrp_plan.proofs.Lists.Ranges.{range_more}
 use Rattle.msrp_levels.specs.Users.{users}
 use Rattle.msrp_audit.specs.Audits.{answer_of}
 use Rattle.msrp_report.specs.Lines.{is_late, response, spins, longest_wait, task_spin_bound, line_over, line_of}
-use Rattle.msrp_report.specs.Numbers.{numbers_of}
-use Rattle.msrp_report.specs.Totals.{line_with}
+use Rattle.msrp_report.specs.Inside.Numbers.{numbers_of}
+use Rattle.msrp_report.specs.Inside.Totals.{line_with}
 use Rattle.msrp_report.specs.declared.lines.Line.{Line}
 use Rattle.msrp_report.proofs.Waits.{longest_within}
 
@@ -144,8 +144,3 @@ map_next f n = ap (map f) (range_next n) ∙ map-append f (range_with_len 0 n) (
 
 pub run_starts : (plan : PlanModel) (rows : List Row) → IsRun plan rows → IsRunStart plan rows
 run_starts plan rows run = let size = run.size in record { size = omega (arith, size); each = run.each }
-
--- an answer that is good
-pub good_answer : (o : Option Fault) (good : ⊤) → Ok good ≡ answer_of o → o ≡ None
-good_answer None good h = refl
-good_answer (Some f) good h = absurd (cc)

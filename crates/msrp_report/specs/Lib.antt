@@ -1,5 +1,4 @@
 pub mod Lines
-pub mod Counts
-pub mod Numbers
-pub mod Totals
 pub mod ReportText
+pub mod Inside
+pub mod Reports

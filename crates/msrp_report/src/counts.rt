@@ -1,6 +1,6 @@
 //! What the rows tell of one job, row by row.
 ghost use Rattle.std.specs.Prelude.{◌≡◌, ◌<◌, ◌+◌, ◌^◌};
-ghost use Rattle.msrp_report.specs.Counts.{counted, wait_with, HasRoom};
+ghost use Rattle.msrp_report.specs.Inside.Counts.{counted, wait_with, HasRoom};
 
 use msrp_plan::{Kind, Row};
 

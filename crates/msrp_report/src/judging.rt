@@ -7,10 +7,9 @@ ghost use Rattle.msrp_plan.specs.declared.faults.Fault.{Fault as TraceFault};
 ghost use Rattle.msrp_report.specs.Lines.{lines_of};
 
 use crate::lines::Report;
-use crate::totals::task_line;
-use msrp_audit::audit;
+use crate::reporter::Reporter;
 use msrp_levels::Levels;
-use msrp_plan::{Fault, Memory, Plan, TaskId, Trace};
+use msrp_plan::{Fault, Memory, Plan, Trace};
 use std::alloc::Global;
 
 /// Why there is no report.
@@ -32,35 +31,6 @@ impl From<Memory> for ReportError {
     }
 }
 
-// Whether the trace is a legal run.
-fn judge(alloc: Global, plan: &Plan, trace: &Trace) -> Result<(), ReportError>
-    ensures run { OnOk result (IsRun plan.now trace.now.rows.items) }
-    ensures fault { (fault : TraceFault) → result ≡ Err (ReportError.G1 fault) → verdict plan.now trace.now.rows.items ≡ Some fault }
-{
-    match audit(alloc, plan, trace)? {
-        Ok(()) => Ok(()),
-        Err(fault) => Err(ReportError::G1(fault)),
-    }
-}
-
-/// The report of a legal run of the plan: a line for each task, in their order. It is [`Memory`] only where memory was
-/// refused.
-pub fn run_report(alloc: Global, plan: &Plan, run: &Trace) -> Result<Report, Memory>
-    requires { IsRun plan.now run.now.rows.items }
-    // Each number is its count over the rows, or the bound that the plan gives.
-    ensures lines { IfOk result (λ report. report.lines.items ≡ lines_of plan.now run.now.rows.items) }
-    // What was counted keeps the bounds.
-    ensures spinning { IfOk result (λ report. All (λ line. line.worst_spin ≤ line.spin_bound) report.lines.items) }
-    ensures blocking { IfOk result (λ report. All (λ line. line.worst_blocked ≤ line.blocked_bound) report.lines.items) }
-{
-    let levels = Levels::of(alloc, plan)?;
-    let mut lines = Vec::with_capacity(alloc, plan.tasks() as usize).map_err(|_| Memory)?;
-    for task in 0..plan.tasks() {
-        lines.push_reserved(task_line(plan, &levels, &run.rows, TaskId(task)));
-    }
-    Ok(Report { lines })
-}
-
 /// The report of a trace, whoever made it. The trace is audited first: one that isn't a legal run of the plan is
 /// [`ReportError::G1`] with its verdict. It is [`ReportError::G2`] only where memory was refused.
 pub fn report(alloc: Global, plan: &Plan, trace: &Trace) -> Result<Report, ReportError>
@@ -73,6 +43,31 @@ pub fn report(alloc: Global, plan: &Plan, trace: &Trace) -> Result<Report, Repor
     ensures spinning { IfOk result (λ report. All (λ line. line.worst_spin ≤ line.spin_bound) report.lines.items) }
     ensures blocking { IfOk result (λ report. All (λ line. line.worst_blocked ≤ line.blocked_bound) report.lines.items) }
 {
-    judge(alloc, plan, trace)?;
-    Ok(run_report(alloc, plan, trace)?)
+    let levels = Levels::of(alloc, plan)?;
+    let mut reporter = Reporter::with_room(alloc, plan, &levels)?;
+    for row in &trace.rows {
+        if let Err(fault) = reporter.feed(*row) {
+            return Err(ReportError::G1(fault));
+        }
+    }
+    match reporter.end() {
+        Ok(report) => Ok(report),
+        Err(fault) => Err(ReportError::G1(fault)),
+    }
+}
+
+/// The report of a legal run of the plan: a line for each task, in their order. It is [`Memory`] only where memory was
+/// refused, since a legal run has no fault.
+pub fn run_report(alloc: Global, plan: &Plan, run: &Trace) -> Result<Report, Memory>
+    requires { IsRun plan.now run.now.rows.items }
+    // Each number is its count over the rows, or the bound that the plan gives.
+    ensures lines { IfOk result (λ report. report.lines.items ≡ lines_of plan.now run.now.rows.items) }
+    // What was counted keeps the bounds.
+    ensures spinning { IfOk result (λ report. All (λ line. line.worst_spin ≤ line.spin_bound) report.lines.items) }
+    ensures blocking { IfOk result (λ report. All (λ line. line.worst_blocked ≤ line.blocked_bound) report.lines.items) }
+{
+    match report(alloc, plan, run) {
+        Ok(report) => Ok(report),
+        Err(_) => Err(Memory),
+    }
 }

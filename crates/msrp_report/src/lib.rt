@@ -6,6 +6,8 @@ mod counts;
 mod judging;
 mod lines;
 mod numbers;
+mod reporter;
+mod tallies;
 #[cfg(test)]
 mod tests;
 mod totals;
@@ -13,4 +15,5 @@ mod writing;
 
 pub use judging::{ReportError, report, run_report};
 pub use lines::{Line, Report};
+pub use reporter::Reporter;
 pub use writing::write_report;

@@ -1,10 +1,15 @@
-//! The numbers of one job, from the rows of a run.
+//! The numbers of one job, from what the rows of a run tell of it.
+ghost use Rattle.std.specs.Prelude.{◌≡◌, ◌≤◌, ◌+◌, ◌-◌, List, cond, nat_le, nat_lt};
+ghost use Rattle.std.specs.List.{Contains};
+ghost use Rattle.msrp_plan.specs.Jobs.{jobs};
+ghost use Rattle.msrp_plan.specs.Limits.{most_rows, most_ticks};
+ghost use Rattle.msrp_plan.specs.WellFormed.{IsPlan};
+ghost use Rattle.msrp_plan.specs.declared.rows.Row.{Row as TraceRow};
+ghost use Rattle.msrp_report.specs.Inside.Numbers.{numbers_of};
+ghost use Rattle.msrp_report.specs.Inside.Tallies.{HasTallied, ToldAll};
 
-use crate::counts::JobCount;
-
-mod scan;
-
-pub(crate) use scan::job_numbers;
+use crate::tallies::Tallies;
+use msrp_plan::{JobId, JobKey, Plan};
 
 /// What a run says of one job.
 #[derive(Clone, Copy)]
@@ -18,9 +23,48 @@ pub(crate) struct JobNumbers {
     pub(crate) blocked: u32,
 }
 
-/// What the rows so far tell of a job, and how many of them block it.
-#[derive(Clone, Copy)]
-pub(crate) struct Seen {
-    pub(crate) count: JobCount,
-    pub(crate) blocked: u32,
+// Whether a job is late that is finished or not: it ended after its absolute deadline, or the run did.
+fn is_late(finished: bool, key: JobKey, end: u64, ticks: u32) -> bool
+    ensures { result ≡ cond finished (nat_lt key.deadline end) (nat_le key.deadline ticks) }
+{
+    if finished {
+        key.deadline < end
+    } else {
+        key.deadline <= u64::from(ticks)
+    }
+}
+
+// How long a job took from its release to its end; 0 where it isn't finished.
+fn response_of(finished: bool, key: JobKey, end: u64) -> u32
+    requires { end ≤ most_ticks + 1 }
+    ensures { result ≡ cond finished (end - key.release) 0 }
+{
+    if finished {
+        end.saturating_sub(key.release) as u32
+    } else {
+        0
+    }
+}
+
+/// The numbers of a job of the plan, from what all rows of a run tell of it.
+pub(crate) fn job_numbers(plan: &Plan, tallies: &Tallies, job: JobId) -> JobNumbers
+    requires plan { IsPlan plan.now }
+    requires job { Contains (jobs plan.now) job }
+    requires told { ToldAll plan.now tallies.now }
+    ensures numbers { (rows : List TraceRow) → HasTallied plan.now rows tallies.now → result ≡ numbers_of plan.now rows job }
+    ensures spins { result.spins ≤ most_rows }
+    ensures blocked { result.blocked ≤ most_rows }
+{
+    let count = tallies.count_of(job);
+    let finished = count.done == plan.units(job.task);
+    let end = u64::from(count.last_tick) + 1;
+    let key = plan.job_key(job);
+    JobNumbers {
+        finished,
+        late: is_late(finished, key, end, plan.ticks()),
+        response: response_of(finished, key, end),
+        spins: count.spins,
+        longest_wait: count.longest_wait,
+        blocked: tallies.blocked(job),
+    }
 }

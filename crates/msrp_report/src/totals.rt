@@ -1,15 +1,17 @@
 //! The line of one task.
-ghost use Rattle.std.specs.Prelude.{◌≡◌, ◌<◌, length};
-ghost use Rattle.msrp_plan.specs.Runs.{IsRunStart};
+ghost use Rattle.std.specs.Prelude.{◌≡◌, ◌<◌, List, length};
 ghost use Rattle.msrp_plan.specs.WellFormed.{IsPlan};
+ghost use Rattle.msrp_plan.specs.declared.rows.Row.{Row as TraceRow};
 ghost use Rattle.msrp_report.specs.Lines.{line_of};
-ghost use Rattle.msrp_report.specs.Totals.{HasSpace, line_with};
+ghost use Rattle.msrp_report.specs.Inside.Tallies.{HasTallied, ToldAll};
+ghost use Rattle.msrp_report.specs.Inside.Totals.{HasSpace, line_with};
 
 use crate::bounds::{blocked_bound_of, spin_bound_of};
 use crate::lines::Line;
 use crate::numbers::{JobNumbers, job_numbers};
+use crate::tallies::Tallies;
 use msrp_levels::Levels;
-use msrp_plan::{JobId, Plan, Row, TaskId};
+use msrp_plan::{JobId, Plan, TaskId};
 
 impl Line {
     // With one job of the task more.
@@ -30,13 +32,13 @@ impl Line {
     }
 }
 
-/// The line of a task, from the rows of a run. The levels are the plan's.
-pub(crate) fn task_line(plan: &Plan, levels: &Levels<'_>, rows: &[Row], task: TaskId) -> Line
+/// The line of a task, from what the rows of a run tell of its jobs. The levels are the plan's.
+pub(crate) fn task_line(plan: &Plan, levels: &Levels<'_>, tallies: &Tallies, task: TaskId) -> Line
     requires plan { IsPlan plan.now }
     requires levels { levels.now ≡ plan.now }
     requires task { task.0 < length plan.now.tasks }
-    requires run { IsRunStart plan.now rows.now }
-    ensures { result ≡ line_of plan.now rows.now task.0 }
+    requires told { ToldAll plan.now tallies.now }
+    ensures { (rows : List TraceRow) → HasTallied plan.now rows tallies.now → result ≡ line_of plan.now rows task.0 }
 {
     let jobs = plan.jobs(task);
     let mut line = Line {
@@ -52,7 +54,7 @@ pub(crate) fn task_line(plan: &Plan, levels: &Levels<'_>, rows: &[Row], task: Ta
         blocked_bound: blocked_bound_of(plan, levels, task),
     };
     for k in 0..jobs {
-        line = line.with_job(job_numbers(plan, rows, JobId { task, k }));
+        line = line.with_job(job_numbers(plan, tallies, JobId { task, k }));
     }
     line
 }

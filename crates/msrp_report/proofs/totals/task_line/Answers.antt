@@ -1,7 +1,7 @@
 use Rattle.std.proofs.Common.{◌<◌, sym, ap, ◌∙◌, arith}
 use Rattle.msrp_plan.specs.Jobs.{job_at}
-use Rattle.msrp_report.specs.Numbers.{numbers_of}
-use Rattle.msrp_report.specs.Totals.{line_with}
+use Rattle.msrp_report.specs.Inside.Numbers.{numbers_of}
+use Rattle.msrp_report.specs.Inside.Totals.{line_with}
 use Rattle.msrp_report.specs.declared.lines.Line.{Line}
 use Rattle.msrp_report.proofs.LineJobs.{bit_few, job_in, jobs_few, over_more}
 use Rattle.msrp_report.proofs.totals.task_line.Goals as goal
@@ -27,13 +27,12 @@ with_job-line-requires c =
 pub loop-k-preserved : goal.loop-k-preserved
 loop-k-preserved c =
     let plan = c.args.plan.now in
-    let rows = c.args.rows.now in
     let t = c.args.task.0 in
     let k = c.loop-k.k in
     let i = c.loop-k.invariant in
     let with_job = c.with_job-line.ensures in
     record {
-      line = with_job ∙ (ap (λ n. line_with n c.loop-k.line) c.job_numbers.ensures.numbers ∙ (ap (line_with (numbers_of plan rows (job_at t k))) i.line ∙ sym (over_more plan rows t k)));
+      line = λ rows told. with_job ∙ (ap (λ n. line_with n c.loop-k.line) (c.job_numbers.ensures.numbers rows told) ∙ (ap (line_with (numbers_of plan rows (job_at t k))) (i.line rows told) ∙ sym (over_more plan rows t k)));
       finished = let e = ap (λ (l : Line). l.finished) with_job in let b = bit_few c.job_numbers.result.finished in let a = i.finished in omega (arith, e, a, b);
       late = let e = ap (λ (l : Line). l.late) with_job in let b = bit_few c.job_numbers.result.late in let a = i.late in omega (arith, e, a, b);
       spin = let e = ap (λ (l : Line). l.spin) with_job in let b = c.job_numbers.ensures.spins in let a = i.spin in omega (arith, e, a, b);

@@ -1,0 +1,108 @@
+-- A report while the rows come, and at their end.
+use Rattle.std.proofs.Common.{◌≡◌, ℕ, ◌<◌, ◌≤◌, ◌+◌, ◌*◌, Bool, true, false, cond, List, [], ◌∷◌, ◌++◌, Option, Some, None, refl, ap, sym, ◌∙◌, subst, length, map, nat_lt, vec_capacity, take, drop, get_or}
+use Rattle.std.specs.Prelude.{⊤}
+use Rattle.std.specs.List.{All, range_with_len}
+use Rattle.std.specs.declared.result.Result.{Result}
+use Rattle.std.specs.declared.result.Result.TheVariants.{Ok, Err}
+use Rattle.std.proofs.Math.Bool.{true≢false}
+use Rattle.std.proofs.lemmas.Bool.{ltb-true}
+use Rattle.std.proofs.lemmas.List.{take-append-drop, take_all, take_more}
+use Rattle.std.proofs.lemmas.List.Elements.{All-from_recursion}
+use Rattle.msrp_audit.specs.Audits.{AuditorModel, HasFed, answer_of}
+use Rattle.msrp_plan.specs.Plan.{PlanModel}
+use Rattle.msrp_plan.specs.Runs.{IsRun, IsRunStart}
+use Rattle.msrp_plan.specs.Verdict.{broken, fault_in, fault_or, verdict}
+use Rattle.msrp_plan.specs.WellFormed.{IsPlan}
+use Rattle.msrp_plan.specs.declared.faults.Fault.{Fault}
+use Rattle.msrp_plan.specs.declared.faults.Rule.{Rule}
+use Rattle.msrp_plan.specs.declared.faults.Rule.TheVariants.{A7}
+use Rattle.msrp_plan.specs.declared.rows.Row.{Row}
+use Rattle.msrp_plan.proofs.Runs.Verdicts.{early_is, fault_push, fault_stays, good_is_run, start_is_good, start_push, unbroken_is_legal}
+use Rattle.msrp_report.specs.Inside.Tallies.{HasTallied}
+use Rattle.msrp_report.specs.Lines.{line_of, lines_of}
+use Rattle.msrp_report.specs.Reports.{HasReported}
+use Rattle.msrp_report.specs.declared.lines.Line.{Line}
+use Rattle.msrp_report.specs.declared.reporter.Reporter.{Reporter}
+use Rattle.msrp_report.specs.declared.tallies.Tallies.{Tallies}
+use Rattle.msrp_report.proofs.LineJobs.{all_blocked_kept, run_starts, spins_kept}
+
+-- ---- a row without a fault goes on with the rows
+unfaulty : (b : Bool) (o : Option Rule) (n : ℕ) → fault_or (cond b o (Some A7)) n None ≡ None → (b ≡ true) × (o ≡ None)
+unfaulty true None n h = (refl, refl)
+unfaulty true (Some rule) n h = absurd (cc)
+unfaulty false o n h = absurd (cc)
+
+pub goes_on : (plan : PlanModel) (rows : List Row) (r : Row) → IsRunStart plan rows → fault_in plan (rows ++ r ∷ []) ≡ None → IsRunStart plan (rows ++ r ∷ [])
+goes_on plan rows r start good =
+    let both = unfaulty (nat_lt (length rows) (plan.cores * plan.ticks)) (broken plan rows r) (length rows + 1) (sym (fault_push plan rows r (start_is_good plan rows start)) ∙ good) in
+    start_push plan rows r start (ltb-true (length rows) (plan.cores * plan.ticks) both.0) (unbroken_is_legal plan rows r both.1)
+
+-- answers
+pub good_told : (o : Option Fault) (good : ⊤) → Ok good ≡ answer_of o → o ≡ None
+good_told None good h = refl
+good_told (Some f) good h = absurd (cc)
+
+pub fault_told : (o : Option Fault) (f : Fault) → Err f ≡ answer_of o → o ≡ Some f
+fault_told None f h = absurd (cc)
+fault_told (Some g) f h = cc
+
+-- rows before rows without a fault have none
+none_before : (plan : PlanModel) (rows : List Row) (r : Row) (o : Option Fault) → fault_in plan rows ≡ o → fault_in plan (rows ++ r ∷ []) ≡ None → o ≡ None
+none_before plan rows r None e good = refl
+none_before plan rows r (Some f) e good = absurd (cc_none (sym (fault_stays plan rows (r ∷ []) f e) ∙ good))
+  where
+    cc_none : Some f ≡ None → ⊥
+    cc_none h = cc
+
+-- so they are tallied
+pub told_before : (r : Reporter) (rows : List Row) (row : Row) → HasReported r rows → fault_in r.plan.now (rows ++ row ∷ []) ≡ None → HasTallied r.plan.now rows r.tallies
+told_before r rows row is good = is.told (is.fed.fault ∙ none_before r.auditor.plan rows row (fault_in r.auditor.plan rows) refl (ap (λ p. fault_in p (rows ++ row ∷ [])) is.plan ∙ good))
+
+pub good_row : (r : Reporter) (rows : List Row) (row : Row) (good : ⊤) → HasReported r rows → Ok good ≡ answer_of (fault_in r.auditor.plan (rows ++ row ∷ [])) → fault_in r.plan.now (rows ++ row ∷ []) ≡ None
+good_row r rows row good is e = ap (λ p. fault_in p (rows ++ row ∷ [])) (sym is.plan) ∙ good_told _ good e
+
+-- the reporter with the row
+pub fed_good : (old new : Reporter) (rows : List Row) (row : Row) → HasReported old rows → new.plan ≡ old.plan → new.levels ≡ old.levels → new.lines ≡ old.lines → new.auditor.plan ≡ old.auditor.plan → HasFed new.auditor (rows ++ row ∷ []) → HasTallied old.plan.now (rows ++ row ∷ []) new.tallies → HasReported new (rows ++ row ∷ [])
+fed_good old new rows row is plan levels lines same fed told = record {
+  accepted = subst (λ p. IsPlan p.now) (sym plan) is.accepted;
+  levels = ap (λ l. l.now) levels ∙ (is.levels ∙ ap (λ p. p.now) (sym plan));
+  plan = same ∙ (is.plan ∙ ap (λ p. p.now) (sym plan));
+  fed = fed;
+  told = λ _. subst (λ p. HasTallied p.now (rows ++ row ∷ []) new.tallies) (sym plan) told;
+  lines = ap (λ l. l.items) lines ∙ is.lines;
+  room = subst (λ p. length p.now.tasks ≤ vec_capacity new.lines) (sym plan) (subst (λ l. length old.plan.now.tasks ≤ vec_capacity l) (sym lines) is.room);
+}
+
+-- ---- at the end
+pub ends_good : (r : Reporter) (rows : List Row) (good : ⊤) → HasReported r rows → Ok good ≡ answer_of (verdict r.auditor.plan rows) → IsRun r.plan.now rows
+ends_good r rows good is e = good_is_run r.plan.now rows (ap (λ p. verdict p rows) (sym is.plan) ∙ good_told _ good e)
+
+-- a legal run has no fault, so it is tallied
+pub run_told : (r : Reporter) (rows : List Row) → HasReported r rows → IsRun r.plan.now rows → HasTallied r.plan.now rows r.tallies
+run_told r rows is run = is.told (is.fed.fault ∙ (ap (λ p. fault_in p rows) is.plan ∙ start_is_good r.plan.now rows (run_starts r.plan.now rows run)))
+
+-- the lines of a run keep the bounds
+pub spins_bounded : (plan : PlanModel) (rows : List Row) (lines : List Line) (n : ℕ) → IsPlan plan → IsRun plan rows → n ≡ length plan.tasks → lines ≡ map (line_of plan rows) (range_with_len 0 n) → All (λ (l : Line). l.worst_spin ≤ l.spin_bound) lines
+spins_bounded plan rows lines n ok run all e =
+    subst (All (λ (l : Line). l.worst_spin ≤ l.spin_bound)) (sym (e ∙ ap (λ k. map (line_of plan rows) (range_with_len 0 k)) all)) (All-from_recursion (λ (l : Line). l.worst_spin ≤ l.spin_bound) _ (spins_kept plan rows ok (run_starts plan rows run)))
+
+pub blocked_bounded : (plan : PlanModel) (rows : List Row) (lines : List Line) (n : ℕ) → IsPlan plan → IsRun plan rows → n ≡ length plan.tasks → lines ≡ map (line_of plan rows) (range_with_len 0 n) → All (λ (l : Line). l.worst_blocked ≤ l.blocked_bound) lines
+blocked_bounded plan rows lines n ok run all e =
+    subst (All (λ (l : Line). l.worst_blocked ≤ l.blocked_bound)) (sym (e ∙ ap (λ k. map (line_of plan rows) (range_with_len 0 k)) all)) (All-from_recursion (λ (l : Line). l.worst_blocked ≤ l.blocked_bound) _ (all_blocked_kept plan rows ok (run_starts plan rows run)))
+
+-- ---- the rows of a trace, in turn
+-- one more
+pub one_more : (rows items : List Row) (i : ℕ) (r : Row) → items ≡ rows → i < length items → r ≡ get_or items i r → take (i + 1) rows ≡ take i rows ++ r ∷ []
+one_more rows items i r same l is =
+    let P : List Row → Type 0 = λ xs. take (i + 1) xs ≡ take i xs ++ r ∷ [] in
+    subst P same (take_more items i r l ∙ ap (λ x. take i items ++ x ∷ []) (sym is))
+
+-- all of them
+pub all_rows : (rows items : List Row) (i : ℕ) → items ≡ rows → length items ≤ i → take i rows ≡ rows
+all_rows rows items i same past = take_all i rows (subst (λ l. length l ≤ i) same past)
+
+-- a fault of the first rows is the verdict
+pub found_early : (plan own : PlanModel) (rows part : List Row) (n : ℕ) (f : Fault) → own ≡ plan → take n rows ≡ part → Err f ≡ answer_of (fault_in own part) → verdict plan rows ≡ Some f
+found_early plan own rows part n f same is h =
+    let now : fault_in plan (take n rows) ≡ Some f = fault_told (fault_in plan (take n rows)) f (h ∙ ap answer_of (ap (λ p. fault_in p part) same ∙ ap (fault_in plan) (sym is))) in
+    early_is plan rows f (subst (λ l. fault_in plan l ≡ Some f) (take-append-drop n rows) (fault_stays plan (take n rows) (drop n rows) f now))

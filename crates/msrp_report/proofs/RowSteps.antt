@@ -1,0 +1,234 @@
+-- What is kept of the rows stays told by them, with one row more.
+use Rattle.std.proofs.Common.{◌≡◌, ◌≢◌, ℕ, ◌<◌, ◌≤◌, ◌+◌, ◌*◌, ◌/◌, ◌==◌, Bool, true, false, not, ◌&&◌, cond, List, [], ◌∷◌, ◌++◌, Option, Some, None, IfSome, refl, ap, sym, ◌∙◌, subst, arith, inl, inr, ◌⊎◌, length, length-append, slice_get, slice_set, nat_lt, eqb-true, mul_comm}
+use Rattle.std.specs.List.{AllByRecursion, Contains}
+use Rattle.std.proofs.Math.Bool.{true≢false}
+use Rattle.std.proofs.lemmas.Bool.{cases_Bool, cases_lt, eqb-false, false_from_ne_true, lt-ltb, le-ltb, ltb-true, ltb-false, true_from_ne_false}
+use Rattle.std.proofs.lemmas.List.{length-set}
+use Rattle.std.proofs.lemmas.Nat.{div_below, le-div}
+use Rattle.std.proofs.lemmas.Option.{slice_get_within, same_Some}
+use Rattle.msrp_plan.specs.Plan.{PlanModel, task_at, core_of, release, units}
+use Rattle.msrp_plan.specs.Jobs.{jobs, jobs_of, jobs_on, job_at, is_job, is_row_of, same_job, is_started, is_finished, done}
+use Rattle.msrp_plan.specs.Blocking.{blocked}
+use Rattle.msrp_plan.specs.Runs.{EachAfter, IsLegal, IsRunStart}
+use Rattle.msrp_plan.specs.Scheduling.{IsOfReleased}
+use Rattle.msrp_plan.specs.WellFormed.{IsPlan}
+use Rattle.msrp_plan.specs.declared.ids.JobId.{JobId}
+use Rattle.msrp_plan.specs.declared.rows.Row.{Row}
+use Rattle.msrp_plan.proofs.Blocking.Heads.{job_on}
+use Rattle.msrp_plan.proofs.Blocking.OneSection.{tick_grows}
+use Rattle.msrp_plan.proofs.Choosing.Live.{live_kept}
+use Rattle.msrp_plan.proofs.Jobs.JobTests.{row_of_job, same_is, same_self}
+use Rattle.msrp_plan.proofs.Legality.LegalRows.{legal_due, legal_turn, turn_core}
+use Rattle.msrp_plan.proofs.Lists.AnyAll.{all_push, all_weaker}
+use Rattle.msrp_plan.proofs.Lists.Members.{kept_by}
+use Rattle.msrp_plan.proofs.Lists.Prefixes.{each_at, each_before}
+use Rattle.msrp_plan.proofs.Scheduling.Released.{runs_released}
+use Rattle.msrp_audit.proofs.Standing.{get_set_same, get_set_other}
+use Rattle.msrp_report.specs.Inside.Counts.{counted, count_of}
+use Rattle.msrp_report.specs.Inside.Tallies.{AreTallies, HaveBegun, IsJobTally, IsNextOf, IsTaskTally, ToldOf, due_tick, is_going}
+use Rattle.msrp_report.specs.declared.counts.JobCount.{JobCount}
+use Rattle.msrp_report.specs.declared.tallies.Blocking.TheVariants.{Over}
+use Rattle.msrp_report.specs.declared.tallies.JobTally.{JobTally}
+use Rattle.msrp_report.specs.declared.tallies.TaskTally.{TaskTally}
+use Rattle.msrp_report.proofs.Going.{sole}
+use Rattle.msrp_report.proofs.JobCounts.{count_push, done_is}
+use Rattle.msrp_report.proofs.JobTallies.{in_task, of_task}
+use Rattle.msrp_report.proofs.LineJobs.{job_in}
+use Rattle.msrp_report.proofs.TallySteps.{due_before}
+use Rattle.msrp_report.proofs.Waiting.{IsTimely, blocking_more, own_over, started_push}
+
+-- ---- ticks
+next_legal : (plan : PlanModel) (rows : List Row) (r : Row) → IsRunStart plan (rows ++ r ∷ []) → IsLegal plan rows r
+next_legal plan rows r start = each_at (IsLegal plan) [] rows r [] start.each
+
+-- its job is one of the plan
+pub row_in : (plan : PlanModel) (rows : List Row) (r : Row) (j : JobId) → IsRunStart plan (rows ++ r ∷ []) → r.job ≡ Some j → Contains (jobs plan) j
+row_in plan rows r j start job = (kept_by (λ i. core_of plan i == r.core.0) (jobs plan) j ((legal_turn plan rows r (next_legal plan rows r start)).known j job)).0
+
+pub row_told : (plan : PlanModel) (rows : List Row) (r : Row) (j : JobId) (begun : ℕ) (tasks : List TaskTally) → IsPlan plan → AreTallies plan rows (λ _. begun) tasks → IsRunStart plan (rows ++ r ∷ []) → r.job ≡ Some j → ToldOf tasks j
+row_told plan rows r j begun tasks ok are start job = record { plan = plan; rows = rows; begun = λ _. begun; accepted = ok; tallies = are; known = row_in plan rows r j start job }
+
+-- the next row stands in a tick of the plan
+pub tick_left : (plan : PlanModel) (rows : List Row) (r : Row) → IsPlan plan → IsRunStart plan (rows ++ r ∷ []) → r.tick < plan.ticks
+tick_left plan rows r ok start =
+    let tick = (legal_due plan rows r (next_legal plan rows r start)).tick in
+    let more = length-append rows (r ∷ []) in
+    let size = start.size in
+    let comm : plan.cores * plan.ticks ≡ plan.ticks * plan.cores = mul_comm plan.cores plan.ticks in
+    let low = ok.draft.cores in
+    let few = div_below (length rows) plan.cores plan.ticks (omega (arith, low)) (omega (arith, more, size, comm)) in
+    omega (arith, tick, few)
+
+-- in one that has begun, or in the next
+pub tick_begun : (plan : PlanModel) (rows : List Row) (r : Row) (begun : ℕ) → HaveBegun plan rows begun → IsRunStart plan (rows ++ r ∷ []) → r.tick ≢ begun → begun ≡ r.tick + 1
+tick_begun plan rows r begun have start ne =
+    let tick = (legal_due plan rows r (next_legal plan rows r start)).tick in
+    let least = have.least in
+    let most = have.most in
+    omega (arith, tick, least, most, ne)
+
+-- with it so many ticks have begun
+pub begun_push : (plan : PlanModel) (rows : List Row) (r : Row) (before begun : ℕ) → IsPlan plan → AllByRecursion (λ x. x.tick < before) rows → before ≤ begun → IsNextOf plan rows r begun → HaveBegun plan (rows ++ r ∷ []) begun
+begun_push plan rows r before begun ok early low next =
+    let legal = next_legal plan rows r next.start in
+    let due = (legal_due plan rows r legal).tick in
+    let tick = next.tick in
+    let cores = ok.draft.cores in
+    let q = length rows / plan.cores in
+    let under : length rows < (q + 1) * plan.cores = elim (cases_lt (length rows) ((q + 1) * plan.cores)) [
+      | inl l ↦ l
+      | inr past ↦ let k = le-div (q + 1) (length rows) plan.cores (omega (arith, cores)) past in absurd (omega (arith, k))
+    ] in
+    let step : (q + 2) * plan.cores ≡ (q + 1) * plan.cores + plan.cores = omega arith in
+    let more = length-append rows (r ∷ []) in
+    let few = div_below (length (rows ++ r ∷ [])) plan.cores (q + 2) (omega (arith, cores)) (omega (arith, under, step, more, cores)) in
+    let grows = tick_grows plan rows r legal in
+    record {
+      early = all_push (λ x. x.tick < begun) rows r (all_weaker (λ (x : Row). x.tick < before) (λ x. x.tick < begun) (λ x h. omega (arith, h, low)) rows early) (omega (arith, tick));
+      least = omega (arith, few, due, tick);
+      most = omega (arith, grows, due, tick);
+    }
+
+-- ---- a row of another job, or of none
+timely : (plan : PlanModel) (rows : List Row) (r : Row) (begun t k : ℕ) (x : TaskTally) → IsPlan plan → t < length plan.tasks → IsTaskTally plan rows begun t x → IsNextOf plan rows r begun → k < length (jobs_of plan t) → IsTimely plan rows r (nat_lt k x.released) (job_at t k)
+timely plan rows r begun t k x ok task is next l = record {
+  ok = ok;
+  start = next.start;
+  there = job_in plan t k ok task l;
+  come = λ e. let p = is.past k (ltb-true k x.released e) in let tick = next.tick in omega (arith, p, tick);
+  ahead = λ e. let p = due_before plan rows begun t k x ok task is (ltb-false k x.released e) l in let tick = next.tick in omega (arith, p, tick);
+}
+
+job_other : (plan : PlanModel) (rows : List Row) (r : Row) (released : Bool) (j : JobId) (s : JobTally) → IsTimely plan rows r released j → is_row_of j r ≡ false → IsJobTally plan rows released j s → IsJobTally plan (rows ++ r ∷ []) released j s
+job_other plan rows r released j s time other is = record {
+  count = is.count ∙ sym (count_push j rows r ∙ ap (λ b. cond b (counted r (count_of rows j)) (count_of rows j)) other);
+  blocking = blocking_more plan rows r released j s.blocking time other is.blocking;
+}
+
+task_other : (plan : PlanModel) (rows : List Row) (r : Row) (begun t : ℕ) (x : TaskTally) → IsPlan plan → t < length plan.tasks → IsNextOf plan rows r begun → ((j : JobId) → j.task.0 ≡ t → is_row_of j r ≡ false) → IsTaskTally plan rows begun t x → IsTaskTally plan (rows ++ r ∷ []) begun t x
+task_other plan rows r begun t x ok task next none is = record {
+  size = is.size;
+  fits = is.fits;
+  past = is.past;
+  due = is.due;
+  later = is.later;
+  each = λ k s has.
+      let l : k < length (jobs_of plan t) = (let w = slice_get_within x.jobs.items k s has in let size = is.size in omega (arith, w, size)) in
+      job_other plan rows r (nat_lt k x.released) (job_at t k) s (timely plan rows r begun t k x ok task is next l) (none (job_at t k) refl) (is.each k s has);
+  known = is.known;
+  going = λ j there. is.going j there ∙ sym (live_kept plan rows r j (none j (of_task plan t j ok there).0));
+}
+
+-- ---- a row of a job of the task
+pub record IsCounted (plan : PlanModel) (old new : TaskTally) (r : Row) (i : JobId) (s : JobTally) (n : ℕ) : Type 0 where
+  pub was : slice_get old.jobs.items i.k ≡ Some s
+  pub jobs_set : new.jobs.items ≡ slice_set old.jobs.items i.k (record { count = counted r s.count; blocking = Over n })
+  pub released : new.released ≡ old.released
+  pub due : new.due ≡ old.due
+  pub going : new.going ≡ cond ((counted r s.count).done == length (units plan i)) None (Some i)
+
+task_counted : (plan : PlanModel) (rows : List Row) (r : Row) (begun : ℕ) (i : JobId) (old new : TaskTally) (s : JobTally) (n : ℕ) → IsPlan plan → i.task.0 < length plan.tasks → IsNextOf plan rows r begun → r.job ≡ Some i → IsTaskTally plan rows begun i.task.0 old → IsCounted plan old new r i s n → n ≡ blocked plan rows i
+    → IsTaskTally plan (rows ++ r ∷ []) begun i.task.0 new
+task_counted plan rows r begun i old new s n ok task next job is set told = record {
+  size = ap length set.jobs_set ∙ (length-set old.jobs.items i.k (record { count = counted r s.count; blocking = Over n }) ∙ is.size);
+  fits = subst (λ m. m ≤ length (jobs_of plan i.task.0)) (sym set.released) is.fits;
+  past = λ k h. is.past k (subst (λ m. k < m) set.released h);
+  due = set.due ∙ (is.due ∙ ap (due_tick plan i.task.0) (sym set.released));
+  later = subst (λ m. begun ≤ m) (sym set.due) is.later;
+  each = λ k y has. by_place k y has (cases_Bool (k == i.k));
+  known = subst (λ g. IfSome g (Contains (jobs_of plan i.task.0))) (sym set.going) (known ((counted r s.count).done == length (units plan i)));
+  going = λ j there. ap (λ g. is_job g j) set.going ∙ (ap (λ b. is_job (cond b None (Some i)) j) finished ∙ by_job j there (cases_Bool (same_job i j)));
+}
+  where
+    here : i.k < length (jobs_of plan i.task.0)
+    here = let w = slice_get_within old.jobs.items i.k s set.was in let size = is.size in omega (arith, w, size)
+
+    mine : is_row_of i r ≡ true
+    mine = row_of_job r i job
+
+    legal : IsLegal plan rows r
+    legal = next_legal plan rows r next.start
+
+    released : nat_lt i.k old.released ≡ true
+    released = true_from_ne_false (nat_lt i.k old.released) (λ e.
+        let before = (timely plan rows r begun i.task.0 i.k old ok task is next here).ahead e in
+        let come = each_at (IsOfReleased plan) [] rows r [] (runs_released plan (rows ++ r ∷ []) next.start) i job in
+        omega (arith, before, come))
+
+    now : count_of (rows ++ r ∷ []) i ≡ counted r (count_of rows i)
+    now = count_push i rows r ∙ ap (λ b. cond b (counted r (count_of rows i)) (count_of rows i)) mine
+
+    was : s.count ≡ count_of rows i
+    was = (is.each i.k s set.was).count
+
+    finished : ((counted r s.count).done == length (units plan i)) ≡ is_finished plan (rows ++ r ∷ []) i
+    finished = ap (λ (c : JobCount). (counted r c).done == length (units plan i)) was ∙ (ap (λ (c : JobCount). c.done == length (units plan i)) (sym now) ∙ ap (λ d. d == length (units plan i)) (done_is (rows ++ r ∷ []) i))
+
+    known : (b : Bool) → IfSome (cond b None (Some i)) (Contains (jobs_of plan i.task.0))
+    known true = tt
+    known false = in_task plan i.task.0 i.k ok here
+
+    by_place : (k : ℕ) (y : JobTally) → slice_get new.jobs.items k ≡ Some y → ((k == i.k) ≡ true) ⊎ ((k == i.k) ≡ false) → IsJobTally plan (rows ++ r ∷ []) (nat_lt k new.released) (job_at i.task.0 k) y
+    by_place k y has (inl e) =
+        let same : i.k ≡ k = sym (eqb-true k i.k e) in
+        let set_now : record { count = counted r s.count; blocking = Over n } ≡ y = same_Some _ y (sym (get_set_same old.jobs.items i.k s (record { count = counted r s.count; blocking = Over n }) set.was) ∙ (ap (λ l. slice_get l i.k) (sym set.jobs_set) ∙ (ap (slice_get new.jobs.items) same ∙ has))) in
+        let told_now : IsJobTally plan (rows ++ r ∷ []) (nat_lt i.k old.released) i (record { count = counted r s.count; blocking = Over n }) = record { count = ap (counted r) was ∙ sym now; blocking = own_over plan rows r (nat_lt i.k old.released) i n job mine released (sym told) } in
+        subst (λ m. IsJobTally plan (rows ++ r ∷ []) (nat_lt m new.released) (job_at i.task.0 m) y) same
+        (subst (λ m. IsJobTally plan (rows ++ r ∷ []) (nat_lt i.k m) i y) (sym set.released) (subst (IsJobTally plan (rows ++ r ∷ []) (nat_lt i.k old.released) i) set_now told_now))
+    by_place k y has (inr e) =
+        let ne = eqb-false k i.k e in
+        let old_has : slice_get old.jobs.items k ≡ Some y = sym (get_set_other old.jobs.items i.k k (record { count = counted r s.count; blocking = Over n }) ne) ∙ (ap (λ l. slice_get l k) (sym set.jobs_set) ∙ has) in
+        let l : k < length (jobs_of plan i.task.0) = (let w = slice_get_within old.jobs.items k y old_has in let size = is.size in omega (arith, w, size)) in
+        let other : is_row_of (job_at i.task.0 k) r ≡ false = ap (λ o. is_job o (job_at i.task.0 k)) job ∙ false_from_ne_true (same_job i (job_at i.task.0 k)) (λ h. ne (ap (λ (x : JobId). x.k) (sym (same_is i (job_at i.task.0 k) h)))) in
+        subst (λ m. IsJobTally plan (rows ++ r ∷ []) (nat_lt k m) (job_at i.task.0 k) y) (sym set.released)
+        (job_other plan rows r (nat_lt k old.released) (job_at i.task.0 k) y (timely plan rows r begun i.task.0 k old ok task is next l) other (is.each k y old_has))
+
+    own : (b : Bool) → is_finished plan (rows ++ r ∷ []) i ≡ b → is_job (cond b None (Some i)) i ≡ (true && not b)
+    own true e = refl
+    own false e = same_self i
+
+    others : (j : JobId) (b : Bool) → same_job i j ≡ false → is_job (cond b None (Some i)) j ≡ false
+    others j true e = refl
+    others j false e = e
+
+    by_job : (j : JobId) → Contains (jobs_of plan i.task.0) j → ((same_job i j) ≡ true) ⊎ ((same_job i j) ≡ false) → is_job (cond (is_finished plan (rows ++ r ∷ []) i) None (Some i)) j ≡ is_going plan (rows ++ r ∷ []) j
+    by_job j there (inl e) =
+        subst (λ x. is_job (cond (is_finished plan (rows ++ r ∷ []) i) None (Some i)) x ≡ is_going plan (rows ++ r ∷ []) x) (same_is i j e)
+        (own (is_finished plan (rows ++ r ∷ []) i) refl ∙ ap (λ b. b && not (is_finished plan (rows ++ r ∷ []) i)) (sym (started_push rows r i mine)))
+    by_job j there (inr e) =
+        let other : is_row_of j r ≡ false = ap (λ o. is_job o j) job ∙ e in
+        let of = of_task plan i.task.0 j ok there in
+        let in_plan : Contains (jobs plan) j = subst (Contains (jobs plan)) (ap (λ n. job_at n j.k) (sym of.0)) (job_in plan i.task.0 j.k ok task of.1) in
+        let core : r.core.0 ≡ core_of plan j = sym (turn_core plan rows r i (legal_turn plan rows r legal) job) ∙ ap (λ n. (task_at plan n).core) (sym of.0) in
+        let ne : i ≢ j = λ s. true≢false (sym (same_self i) ∙ (ap (same_job i) s ∙ e)) in
+        let idle : is_going plan rows j ≡ false = false_from_ne_true (is_going plan rows j) (λ g.
+        sole plan rows r i j old.going ok (each_before (IsLegal plan) [] rows (r ∷ []) next.start.each) legal job (job_on plan r.core.0 j in_plan core) (sym of.0) (is.going i (in_task plan i.task.0 i.k ok here)) (is.going j there) g ne) in
+        others j (is_finished plan (rows ++ r ∷ []) i) e ∙ sym (live_kept plan rows r j other ∙ idle)
+
+-- ---- all tasks
+pub tallies_idle : (plan : PlanModel) (rows : List Row) (r : Row) (begun : ℕ) (tasks : List TaskTally) → IsPlan plan → r.job ≡ None → IsNextOf plan rows r begun → AreTallies plan rows (λ _. begun) tasks → AreTallies plan (rows ++ r ∷ []) (λ _. begun) tasks
+tallies_idle plan rows r begun tasks ok job next are = record {
+  start = next.start;
+  size = are.size;
+  each = λ t x has. task_other plan rows r begun t x ok (let l = slice_get_within tasks t x has in let size = are.size in omega (arith, l, size)) next (λ j _. ap (λ o. is_job o j) job) (are.each t x has);
+}
+
+pub tallies_counted : (plan : PlanModel) (rows : List Row) (r : Row) (begun : ℕ) (tasks after : List TaskTally) (i : JobId) (old new : TaskTally) (s : JobTally) (n : ℕ) → IsPlan plan → r.job ≡ Some i → IsNextOf plan rows r begun → AreTallies plan rows (λ _. begun) tasks
+    → slice_get tasks i.task.0 ≡ Some old → after ≡ slice_set tasks i.task.0 new → IsCounted plan old new r i s n → n ≡ blocked plan rows i → AreTallies plan (rows ++ r ∷ []) (λ _. begun) after
+tallies_counted plan rows r begun tasks after i old new s n ok job next are was set counts told = record {
+  start = next.start;
+  size = ap length set ∙ (length-set tasks i.task.0 new ∙ are.size);
+  each = λ t x has. by_place t x has (cases_Bool (t == i.task.0));
+}
+  where
+    by_place : (t : ℕ) (x : TaskTally) → slice_get after t ≡ Some x → ((t == i.task.0) ≡ true) ⊎ ((t == i.task.0) ≡ false) → IsTaskTally plan (rows ++ r ∷ []) begun t x
+    by_place t x has (inl e) =
+        let same : i.task.0 ≡ t = sym (eqb-true t i.task.0 e) in
+        let here : new ≡ x = same_Some new x (sym (get_set_same tasks i.task.0 old new was) ∙ (ap (λ l. slice_get l i.task.0) (sym set) ∙ (ap (slice_get after) same ∙ has))) in
+        let task : i.task.0 < length plan.tasks = (let l = slice_get_within tasks i.task.0 old was in let size = are.size in omega (arith, l, size)) in
+        subst (λ m. IsTaskTally plan (rows ++ r ∷ []) begun m x) same (subst (IsTaskTally plan (rows ++ r ∷ []) begun i.task.0) here (task_counted plan rows r begun i old new s n ok task next job (are.each i.task.0 old was) counts told))
+    by_place t x has (inr e) =
+        let ne = eqb-false t i.task.0 e in
+        let old_has : slice_get tasks t ≡ Some x = sym (get_set_other tasks i.task.0 t new ne) ∙ (ap (λ l. slice_get l t) (sym set) ∙ has) in
+        let none : (j : JobId) → j.task.0 ≡ t → is_row_of j r ≡ false = λ j at. ap (λ o. is_job o j) job ∙ false_from_ne_true (same_job i j) (λ h. ne (sym at ∙ ap (λ (y : JobId). y.task.0) (sym (same_is i j h)))) in
+        task_other plan rows r begun t x ok (let l = slice_get_within tasks t x old_has in let size = are.size in omega (arith, l, size)) next none (are.each t x old_has)

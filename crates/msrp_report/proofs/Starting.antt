@@ -1,0 +1,50 @@
+-- Before the first row.
+use Rattle.std.proofs.Common.{◌≡◌, ℕ, zero, suc, ◌<◌, ◌≤◌, ◌+◌, Bool, true, false, not, ◌&&◌, List, [], ◌∷◌, ◌++◌, Option, None, Some, refl, ap, sym, ◌∙◌, subst, arith, length, length-append, nat_lt, slice_get, IfSome}
+use Rattle.std.specs.List.{Contains}
+use Rattle.std.proofs.Math.Bool.{true≢false}
+use Rattle.std.proofs.lemmas.Bool.{le-ltb}
+use Rattle.std.proofs.lemmas.Option.{slice_get_within}
+use Rattle.msrp_plan.specs.Plan.{PlanModel}
+use Rattle.msrp_plan.specs.Jobs.{jobs_of, job_at, is_job}
+use Rattle.msrp_plan.specs.WellFormed.{IsPlan}
+use Rattle.std.proofs.lemmas.Nat.{div_below}
+use Rattle.msrp_plan.specs.declared.ids.JobId.{JobId}
+use Rattle.msrp_report.specs.Inside.Counts.{uncounted, count_of}
+use Rattle.msrp_report.specs.Inside.Tallies.{AreTallies, HasTallied, IsJobTally, IsTaskTally, due_tick}
+use Rattle.msrp_report.specs.declared.tallies.Blocking.TheVariants.{Over}
+use Rattle.msrp_report.specs.declared.tallies.JobTally.{JobTally}
+use Rattle.msrp_report.specs.declared.tallies.TaskTally.{TaskTally}
+use Rattle.msrp_report.specs.declared.tallies.Tallies.{Tallies}
+
+-- a job that isn't released
+abbrev pub untold : JobTally
+untold = record { count = uncounted; blocking = Over 0 }
+
+-- an element more
+pub each_push : {X : Type 0} (P : ℕ → X → Type 0) (xs : List X) (y : X) → ((k : ℕ) (x : X) → slice_get xs k ≡ Some x → P k x) → P (length xs) y → (k : ℕ) (x : X) → slice_get (xs ++ y ∷ []) k ≡ Some x → P k x
+each_push P [] y old new zero x h = let s : y ≡ x = cc in subst (P 0) s new
+each_push P [] y old new (suc k) x h = absurd (cc)
+each_push P (z ∷ xs) y old new zero x h = old 0 x h
+each_push P (z ∷ xs) y old new (suc k) x h = each_push (λ n. P (suc n)) xs y (λ n. old (suc n)) (subst (λ n. P n y) (omega arith) new) k x h
+
+pub job_untold : (plan : PlanModel) (j : JobId) → IsJobTally plan [] false j untold
+unfolding count_of
+job_untold plan j = record { count = refl; blocking = record { count = refl; ahead = λ _. (refl, refl); nobody = λ e. absurd (true≢false (sym e)) } }
+
+pub task_untold : (plan : PlanModel) (t : ℕ) (x : TaskTally) → length x.jobs.items ≡ length (jobs_of plan t) → x.released ≡ 0 → x.due ≡ due_tick plan t 0 → x.going ≡ None → ((k : ℕ) (s : JobTally) → slice_get x.jobs.items k ≡ Some s → s ≡ untold) → IsTaskTally plan [] 0 t x
+task_untold plan t x size released due going each = record {
+  size = size;
+  fits = omega (arith, released);
+  past = λ k h. absurd (omega (arith, h, released));
+  due = due ∙ ap (due_tick plan t) (sym released);
+  later = omega arith;
+  each = λ k s has. subst (IsJobTally plan [] (nat_lt k x.released) (job_at t k)) (sym (each k s has)) (subst (λ b. IsJobTally plan [] b (job_at t k) untold) (sym (le-ltb k x.released (omega (arith, released)))) (job_untold plan (job_at t k)));
+  known = subst (λ g. IfSome g (Contains (jobs_of plan t))) (sym going) tt;
+  going = λ j there. ap (λ g. is_job g j) going;
+}
+
+pub tallies_untold : (plan : PlanModel) (t : Tallies) → IsPlan plan → t.begun ≡ 0 → length t.tasks.items ≡ length plan.tasks → ((k : ℕ) (x : TaskTally) → slice_get t.tasks.items k ≡ Some x → IsTaskTally plan [] 0 k x) → HasTallied plan [] t
+tallies_untold plan t ok begun size each = record {
+  begun = record { early = tt; least = let cores = ok.draft.cores in let z = div_below 0 plan.cores 1 (omega (arith, cores)) (omega (arith, cores)) in omega (arith, begun, z); most = omega (arith, begun) };
+  tallies = record { start = record { size = omega arith; each = tt }; size = size; each = λ k x has. subst (λ b. IsTaskTally plan [] b k x) (sym begun) (each k x has) };
+}

@@ -1,0 +1,13 @@
+use Rattle.std.proofs.Common.{◌≡◌, ◌≤◌, List, map, length, vec_capacity}
+use Rattle.std.specs.List.{range_with_len}
+use Rattle.msrp_plan.specs.declared.rows.Row.{Row as TraceRow}
+use Rattle.msrp_report.specs.Inside.Tallies.{HasTallied}
+use Rattle.msrp_report.specs.Lines.{line_of}
+use Rattle.msrp_report.proofs.reporter.Reporter.end.Given as goal
+
+abbrev pub invariant-loop-task : goal.invariant-loop-task
+invariant-loop-task l = record {
+  lines : (rows : List TraceRow) → HasTallied l.plan rows l.tallies → l.lines.items ≡ map (line_of l.plan rows) (range_with_len 0 l.task);
+  size : length l.lines.items ≡ l.task;
+  room : length l.plan.tasks ≤ vec_capacity l.lines;
+}

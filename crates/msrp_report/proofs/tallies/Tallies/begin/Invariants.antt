@@ -1,0 +1,10 @@
+use Rattle.std.proofs.Common.{◌≡◌, ◌<◌, List}
+use Rattle.msrp_plan.specs.declared.rows.Row.{Row as TraceRow}
+use Rattle.msrp_report.specs.Inside.Tallies.{HasReleased}
+use Rattle.msrp_report.proofs.tallies.Tallies.begin.Given as goal
+
+abbrev pub invariant-loop-task : goal.invariant-loop-task
+invariant-loop-task l = record {
+  begun : l.self.begun ≡ l.fn.self.begun;
+  told : (rows : List TraceRow) → HasReleased l.plan rows 0 l.fn.self → HasReleased l.plan rows l.task l.self;
+}

@@ -1,0 +1,49 @@
+use Rattle.std.proofs.Common.{◌≡◌, Bool, true, false, not, length, refl, ap, sym, ◌∙◌, arith, eq-eqb, eqb-true}
+use Rattle.std.proofs.lemmas.Option.{slice_get_read}
+use Rattle.msrp_report.proofs.Going.{going_known, step_core, step_early, step_later, step_new, step_none}
+use Rattle.msrp_report.proofs.JobTallies.{job_known}
+use Rattle.msrp_report.proofs.tallies.Tallies.first_with.Goals as goal
+
+is_true : (b : Bool) → false ≡ not b → b ≡ true
+is_true true h = refl
+is_true false h = absurd (cc)
+
+is_false : (b : Bool) → true ≡ not b → b ≡ true → ⊥
+is_false true h e = cc
+is_false false h e = cc
+
+pub returns-in_default-clause-first : goal.returns-in_default-clause-first
+returns-in_default-clause-first c = λ rows begun are old.
+    step_none c.args.plan.now rows begun c.args.self.now.tasks.items c.index.result.now c.args.job c.args.task.0 c.args.first c.requires.plan are (slice_get_read c.args.self.now.tasks.items (length c.args.self.now.tasks.items) c.args.task.0 c.index.result.now refl (let size = are.size in let l = c.requires.task in omega (arith, size, l)) c.index.ensures) c.in_default.is old
+
+pub core_of-requires-2 : goal.core_of-requires-2
+core_of-requires-2 c = (job_known c.args.plan.now c.args.job c.requires.job).task
+
+pub returns-then-ne-clause-first : goal.returns-then-ne-clause-first
+returns-then-ne-clause-first c = λ rows begun are old.
+    step_core c.args.plan.now rows c.args.job c.args.task.0 c.args.first (λ e. is_false _ c.if-ne.ensures (eq-eqb c.core_of.result.0 c.core_of-2.result.0 (c.core_of.ensures ∙ (e ∙ sym c.core_of-2.ensures)))) old
+
+pub is_first-requires-clause-job : goal.is_first-requires-clause-job
+is_first-requires-clause-job c = job_known c.args.plan.now c.args.job c.requires.job
+
+pub is_first-requires-clause-other : goal.is_first-requires-clause-other
+is_first-requires-clause-other c = let t = c.requires.told in going_known c.args.plan.now t.rows t.begun c.args.self.now.tasks.items c.index.result.now c.in-Some.other c.args.task.0 c.requires.plan t.tallies (slice_get_read c.args.self.now.tasks.items (length c.args.self.now.tasks.items) c.args.task.0 c.index.result.now refl (let size = t.tallies.size in let l = c.requires.task in omega (arith, size, l)) c.index.ensures) c.requires.task c.in-Some.is
+
+pub returns-then-not-is_first-clause-first : goal.returns-then-not-is_first-clause-first
+returns-then-not-is_first-clause-first c = λ rows begun are old.
+    step_early c.args.plan.now rows begun c.args.self.now.tasks.items c.index.result.now c.args.job c.in-Some.other c.args.task.0 c.args.first c.requires.plan are (slice_get_read c.args.self.now.tasks.items (length c.args.self.now.tasks.items) c.args.task.0 c.index.result.now refl (let size = are.size in let l = c.requires.task in omega (arith, size, l)) c.index.ensures) c.in-Some.is (sym c.is_first.ensures ∙ c.if-not-is_first.true) old
+
+pub is_first-requires-2-clause-job : goal.is_first-requires-2-clause-job
+is_first-requires-2-clause-job c = let t = c.requires.told in going_known c.args.plan.now t.rows t.begun c.args.self.now.tasks.items c.index.result.now c.in-Some.other c.args.task.0 c.requires.plan t.tallies (slice_get_read c.args.self.now.tasks.items (length c.args.self.now.tasks.items) c.args.task.0 c.index.result.now refl (let size = t.tallies.size in let l = c.requires.task in omega (arith, size, l)) c.index.ensures) c.requires.task c.in-Some.is
+
+pub returns-then-not-is_first-2-clause-first : goal.returns-then-not-is_first-2-clause-first
+returns-then-not-is_first-2-clause-first c = λ rows begun are old.
+    step_later c.args.plan.now rows begun c.args.self.now.tasks.items c.index.result.now c.args.job c.in-Some.other c.args.task.0 c.args.first c.requires.plan are (slice_get_read c.args.self.now.tasks.items (length c.args.self.now.tasks.items) c.args.task.0 c.index.result.now refl (let size = are.size in let l = c.requires.task in omega (arith, size, l)) c.index.ensures) c.in-Some.is (sym c.is_first-2.ensures ∙ c.if-not-is_first-2.true) old
+
+pub returns-clause-known : goal.returns-clause-known
+returns-clause-known c = let t = c.requires.told in going_known c.args.plan.now t.rows t.begun c.args.self.now.tasks.items c.index.result.now c.in-Some.other c.args.task.0 c.requires.plan t.tallies (slice_get_read c.args.self.now.tasks.items (length c.args.self.now.tasks.items) c.args.task.0 c.index.result.now refl (let size = t.tallies.size in let l = c.requires.task in omega (arith, size, l)) c.index.ensures) c.requires.task c.in-Some.is
+
+pub returns-clause-first : goal.returns-clause-first
+returns-clause-first c = λ rows begun are old.
+    step_new c.args.plan.now rows begun c.args.self.now.tasks.items c.index.result.now c.args.job c.in-Some.other c.args.task.0 c.args.first c.requires.plan are (slice_get_read c.args.self.now.tasks.items (length c.args.self.now.tasks.items) c.args.task.0 c.index.result.now refl (let size = are.size in let l = c.requires.task in omega (arith, size, l)) c.index.ensures) c.requires.task c.in-Some.is
+    (sym c.core_of.ensures ∙ (eqb-true c.core_of.result.0 c.core_of-2.result.0 (is_true _ c.if-ne.ensures) ∙ c.core_of-2.ensures)) (sym c.is_first.ensures ∙ c.if-not-is_first.false) (sym c.is_first-2.ensures ∙ c.if-not-is_first-2.false) old

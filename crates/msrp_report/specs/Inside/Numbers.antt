@@ -1,0 +1,20 @@
+-- The numbers of one job.
+use Rattle.std.specs.Prelude.{List}
+use Rattle.msrp_plan.specs.Plan.{PlanModel}
+use Rattle.msrp_plan.specs.Jobs.{is_finished}
+use Rattle.msrp_plan.specs.Blocking.{blocked}
+use Rattle.msrp_plan.specs.declared.ids.JobId.{JobId}
+use Rattle.msrp_plan.specs.declared.rows.Row.{Row}
+use Rattle.msrp_report.specs.Lines.{is_late, response, spins, longest_wait}
+use Rattle.msrp_report.specs.declared.numbers.JobNumbers.{JobNumbers}
+
+-- the numbers of a job
+abbrev pub numbers_of : PlanModel → List Row → JobId → JobNumbers
+numbers_of plan rows j = record {
+  finished = is_finished plan rows j;
+  late = is_late plan rows j;
+  response = response plan rows j;
+  spins = spins rows j;
+  longest_wait = longest_wait j rows;
+  blocked = blocked plan rows j;
+}

@@ -1,0 +1,169 @@
+-- What is kept of each job while the rows come, and what it says of the rows so far.
+use Rattle.std.specs.Prelude.{ℕ, List, ◌∷◌, [], ◌++◌, Bool, true, false, not, ◌&&◌, nat_lt, cond, Option, Some, None, IfSome, IsSome, length, slice_get, ◌≡◌, ◌<◌, ◌≤◌, ◌+◌, ◌/◌}
+use Rattle.std.specs.List.{AllByRecursion, Contains}
+use Rattle.msrp_plan.specs.Plan.{PlanModel, core_of, release, release_tick}
+use Rattle.msrp_plan.specs.Choice.{is_before}
+use Rattle.msrp_plan.specs.Jobs.{jobs, job_at, jobs_of, jobs_on, is_job, is_started, is_finished}
+use Rattle.msrp_plan.specs.Blocking.{blocked, first_later, ComesBefore, ComesAfter}
+use Rattle.msrp_plan.specs.Runs.{IsRunStart}
+use Rattle.msrp_plan.specs.WellFormed.{IsPlan}
+use Rattle.msrp_plan.specs.declared.ids.JobId.{JobId}
+use Rattle.msrp_plan.specs.declared.ids.TaskId.{TaskId}
+use Rattle.msrp_plan.specs.declared.rows.Row.{Row}
+use Rattle.msrp_report.specs.Inside.Counts.{count_of}
+use Rattle.msrp_report.specs.declared.tallies.Blocking.{Blocking}
+use Rattle.msrp_report.specs.declared.tallies.Blocking.TheVariants.{Over, By}
+use Rattle.msrp_report.specs.declared.tallies.JobTally.{JobTally}
+use Rattle.msrp_report.specs.declared.tallies.TaskTally.{TaskTally}
+use Rattle.msrp_report.specs.declared.tallies.Tallies.{Tallies}
+
+-- ---- blocking
+-- the rows of the job's core before its release, and those since; of the later jobs of its core that are started and unfinished
+-- at the release this one, if there is one, comes first
+pub record IsSinceRelease (plan : PlanModel) (rows : List Row) (j : JobId) (o : Option JobId) : Type 0 where
+  pub before : List Row
+  pub since : List Row
+  pub whole : rows ≡ before ++ since
+  pub early : AllByRecursion (ComesBefore plan j) before
+  pub late : AllByRecursion (ComesAfter plan j) since
+  pub first : first_later plan before j ≡ o
+
+-- so many rows have blocked the job, and no later one does: it is started, or nobody blocks it, or it isn't released
+pub record IsOver (plan : PlanModel) (rows : List Row) (released : Bool) (j : JobId) (n : ℕ) : Type 0 where
+  pub count : blocked plan rows j ≡ n
+  pub ahead : released ≡ false → (n ≡ 0) × (is_started rows j ≡ false)
+  pub nobody : released ≡ true → is_started rows j ≡ false → IsSinceRelease plan rows j None
+
+-- the job is released and not started, and rows of job k block it, which had so many rows at the release
+pub record WaitsFor (plan : PlanModel) (rows : List Row) (released : Bool) (j k : JobId) (n : ℕ) : Type 0 where
+  pub come : released ≡ true
+  pub unstarted : is_started rows j ≡ false
+  pub since : IsSinceRelease plan rows j (Some k)
+  pub rows_then : (count_of since.before k).rows ≡ n
+
+abbrev pub IsBlocking : PlanModel → List Row → Bool → JobId → Blocking → Type 0
+IsBlocking plan rows released j (Over n) = IsOver plan rows released j n
+IsBlocking plan rows released j (By k n) = WaitsFor plan rows released j k n
+
+-- ---- jobs, task by task
+pub record IsJobTally (plan : PlanModel) (rows : List Row) (released : Bool) (j : JobId) (s : JobTally) : Type 0 where
+  pub count : s.count ≡ count_of rows j
+  pub blocking : IsBlocking plan rows released j s.blocking
+
+-- the job is started and unfinished
+abbrev pub is_going : PlanModel → List Row → JobId → Bool
+is_going plan rows j = is_started rows j && not (is_finished plan rows j)
+
+-- the tick of the k-th release of a task, or the plan's end where it has no such job
+abbrev pub due_tick : PlanModel → ℕ → ℕ → ℕ
+due_tick plan t k = cond (nat_lt k (length (jobs_of plan t))) (release plan (job_at t k)) plan.ticks
+
+-- what is kept of task t, where so many ticks have begun for it: its first jobs are released, and of the others the first is due
+pub record IsTaskTally (plan : PlanModel) (rows : List Row) (begun t : ℕ) (x : TaskTally) : Type 0 where
+  pub size : length x.jobs.items ≡ length (jobs_of plan t)
+  pub fits : x.released ≤ length (jobs_of plan t)
+  pub past : (k : ℕ) → k < x.released → release plan (job_at t k) < begun
+  pub due : x.due ≡ due_tick plan t x.released
+  pub later : begun ≤ x.due
+  pub each : (k : ℕ) (s : JobTally) → slice_get x.jobs.items k ≡ Some s → IsJobTally plan rows (nat_lt k x.released) (job_at t k) s
+  pub known : IfSome x.going (Contains (jobs_of plan t))
+  pub going : (j : JobId) → Contains (jobs_of plan t) j → is_job x.going j ≡ is_going plan rows j
+
+-- what is kept of all tasks, where ticks have begun for each task on its own
+pub record AreTallies (plan : PlanModel) (rows : List Row) (begun : ℕ → ℕ) (tasks : List TaskTally) : Type 0 where
+  pub start : IsRunStart plan rows
+  pub size : length tasks ≡ length plan.tasks
+  pub each : (t : ℕ) (x : TaskTally) → slice_get tasks t ≡ Some x → IsTaskTally plan rows (begun t) t x
+
+-- so many ticks have begun with these rows: the last of them perhaps not for all cores
+pub record HaveBegun (plan : PlanModel) (rows : List Row) (begun : ℕ) : Type 0 where
+  pub early : AllByRecursion (λ r. r.tick < begun) rows
+  pub least : length rows / plan.cores ≤ begun
+  pub most : begun ≤ length rows / plan.cores + 1
+
+-- what is kept is what these rows tell
+pub record HasTallied (plan : PlanModel) (rows : List Row) (t : Tallies) : Type 0 where
+  pub begun : HaveBegun plan rows t.begun
+  pub tallies : AreTallies plan rows (λ _. t.begun) t.tasks.items
+
+-- ---- one job
+-- the job is of a task of the plan, and has a release
+pub record IsKnown (plan : PlanModel) (j : JobId) : Type 0 where
+  pub task : j.task.0 < length plan.tasks
+  pub released : IsSome (release_tick plan j)
+
+-- the job's tally stands there
+pub record IsTallyOf (tasks : List TaskTally) (j : JobId) (s : JobTally) : Type 0 where
+  pub task : TaskTally
+  pub of_task : slice_get tasks j.task.0 ≡ Some task
+  pub of_job : slice_get task.jobs.items j.k ≡ Some s
+
+-- they are the tallies of some rows of a plan that has the job
+pub record ToldOf (tasks : List TaskTally) (j : JobId) : Type 0 where
+  pub plan : PlanModel
+  pub rows : List Row
+  pub begun : ℕ → ℕ
+  pub accepted : IsPlan plan
+  pub tallies : AreTallies plan rows begun tasks
+  pub known : Contains (jobs plan) j
+
+-- they are the tallies of some rows of the plan
+pub record ToldBy (plan : PlanModel) (tasks : List TaskTally) : Type 0 where
+  pub rows : List Row
+  pub begun : ℕ → ℕ
+  pub tallies : AreTallies plan rows begun tasks
+
+-- how a job is blocked at its release by this job, if there is one
+abbrev pub blocking_by : List Row → Option JobId → Blocking
+blocking_by rows None = Over 0
+blocking_by rows (Some k) = By k (count_of rows k).rows
+
+-- ---- the first of the later jobs that are going
+abbrev pub is_later_going : PlanModel → List Row → JobId → JobId → Bool
+is_later_going plan rows j k = is_going plan rows k && is_before plan j k
+
+-- the job isn't before this one, of which there is one
+abbrev pub NotBefore : PlanModel → JobId → Option JobId → Type 0
+NotBefore plan i None = ⊥
+NotBefore plan i (Some f) = is_before plan i f ≡ false
+
+-- of the jobs of the first n tasks
+pub record IsFirstOf (plan : PlanModel) (rows : List Row) (j : JobId) (n : ℕ) (o : Option JobId) : Type 0 where
+  pub known : (f : JobId) → o ≡ Some f → Contains (jobs_on plan (core_of plan j)) f × (is_later_going plan rows j f ≡ true)
+  pub least : (i : JobId) → i.task.0 < n → Contains (jobs_on plan (core_of plan j)) i → is_later_going plan rows j i ≡ true → NotBefore plan i o
+
+-- ---- the releases of a tick
+-- the next tick has begun for the tasks below the n-th
+abbrev pub begun_below : ℕ → ℕ → ℕ → ℕ
+begun_below begun n t = cond (nat_lt t n) (begun + 1) begun
+
+-- all rows stand in ticks that have begun
+pub record HasReleased (plan : PlanModel) (rows : List Row) (n : ℕ) (t : Tallies) : Type 0 where
+  pub early : AllByRecursion (λ r. r.tick < t.begun) rows
+  pub tallies : AreTallies plan rows (begun_below t.begun n) t.tasks.items
+
+-- some rows are told so
+abbrev pub ReleasesNext : PlanModel → ℕ → Tallies → Type 0
+ReleasesNext plan n t = (rows : List Row) × HasReleased plan rows n t
+
+-- ---- one row more
+-- it goes on with the rows, in the tick that has begun last
+pub record IsNextOf (plan : PlanModel) (rows : List Row) (r : Row) (begun : ℕ) : Type 0 where
+  pub start : IsRunStart plan (rows ++ r ∷ [])
+  pub tick : begun ≡ r.tick + 1
+
+abbrev pub Counts : PlanModel → Row → Tallies → Type 0
+Counts plan r t = (rows : List Row) × AreTallies plan rows (λ _. t.begun) t.tasks.items × IsNextOf plan rows r t.begun
+
+-- they are told with the row's tick begun
+pub record StandsAt (plan : PlanModel) (rows : List Row) (r : Row) (t : Tallies) : Type 0 where
+  pub early : AllByRecursion (λ x. x.tick < t.begun) rows
+  pub tallies : AreTallies plan rows (λ _. t.begun) t.tasks.items
+  pub next : IsNextOf plan rows r t.begun
+
+abbrev pub GoesOn : PlanModel → Row → Tallies → Type 0
+GoesOn plan r t = (rows : List Row) × HasTallied plan rows t × IsRunStart plan (rows ++ r ∷ [])
+
+-- all rows are told
+abbrev pub ToldAll : PlanModel → Tallies → Type 0
+ToldAll plan t = (rows : List Row) × HasTallied plan rows t

@@ -1,0 +1,83 @@
+//! What the rows so far tell of each job, without the rows.
+
+ghost use Rattle.std.specs.Prelude.{◌≡◌, ℕ, List};
+ghost use Rattle.std.specs.List.{Contains};
+ghost use Rattle.msrp_plan.specs.Plan.{PlanModel};
+ghost use Rattle.msrp_plan.specs.Jobs.{jobs};
+ghost use Rattle.msrp_plan.specs.Blocking.{blocked};
+ghost use Rattle.msrp_plan.specs.WellFormed.{IsPlan};
+ghost use Rattle.msrp_plan.specs.declared.rows.Row.{Row as TraceRow};
+ghost use Rattle.msrp_report.specs.Inside.Counts.{count_of};
+ghost use Rattle.msrp_report.specs.Inside.Tallies.{AreTallies, IsTallyOf, ToldOf};
+
+use crate::counts::JobCount;
+use msrp_plan::JobId;
+
+mod feeding;
+mod releasing;
+mod starting;
+
+/// How long a job is blocked, as far as the rows tell. Who blocks it is known at its release, and it is blocked until it starts.
+#[derive(Clone, Copy)]
+pub(crate) enum Blocking {
+    /// By so many rows, and by no later one: it is started, or nobody blocks it, or it isn't released yet.
+    Over(u32),
+    /// It waits, and each row of this job blocks it. So many rows of that job came before the release.
+    By { job: JobId, before: u32 },
+}
+
+/// What the rows so far tell of one job.
+#[derive(Clone, Copy)]
+pub(crate) struct JobTally {
+    pub(crate) count: JobCount,
+    pub(crate) blocking: Blocking,
+}
+
+/// What they tell of the jobs of one task.
+#[derive(Drop)]
+pub(crate) struct TaskTally {
+    pub(crate) jobs: Vec<JobTally>,
+    /// How many of them are released.
+    pub(crate) released: u32,
+    /// No further one is released before this tick.
+    pub(crate) due: u64,
+    /// The one that is started and unfinished.
+    pub(crate) going: Option<JobId>,
+}
+
+/// What they tell of all jobs of a plan, task by task.
+#[derive(Drop)]
+pub(crate) struct Tallies {
+    pub(crate) tasks: Vec<TaskTally>,
+    /// How many ticks have begun.
+    pub(crate) begun: u32,
+}
+
+impl Tallies {
+    // What the rows tell of a job.
+    fn tally_of(&self, job: JobId) -> JobTally
+        requires { ToldOf self.now.tasks.items job }
+        ensures { IsTallyOf self.now.tasks.items job result }
+    {
+        self.tasks[job.task.0 as usize].jobs[job.k as usize]
+    }
+
+    /// What the job's own rows tell of it.
+    pub(crate) fn count_of(&self, job: JobId) -> JobCount
+        requires { ToldOf self.now.tasks.items job }
+        ensures { (plan : PlanModel) (rows : List TraceRow) (begun : ℕ → ℕ) → AreTallies plan rows begun self.now.tasks.items → result ≡ count_of rows job }
+    {
+        self.tally_of(job).count
+    }
+
+    /// How many rows have blocked a job.
+    pub(crate) fn blocked(&self, job: JobId) -> u32
+        requires { ToldOf self.now.tasks.items job }
+        ensures { (plan : PlanModel) (rows : List TraceRow) (begun : ℕ → ℕ) → IsPlan plan → AreTallies plan rows begun self.now.tasks.items → Contains (jobs plan) job → result ≡ blocked plan rows job }
+    {
+        match self.tally_of(job).blocking {
+            Blocking::Over(rows) => rows,
+            Blocking::By { job: other, before } => self.count_of(other).rows - before,
+        }
+    }
+}

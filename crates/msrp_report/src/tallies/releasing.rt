@@ -1,0 +1,134 @@
+//! The releases of a tick, before its first row.
+
+ghost use Rattle.std.specs.Prelude.{◌≡◌, ◌<◌, ◌+◌, ℕ, List, IfSome, length};
+ghost use Rattle.std.specs.List.{AllByRecursion, Contains};
+ghost use Rattle.msrp_core.specs.CoreJobs.{is_first};
+ghost use Rattle.msrp_plan.specs.Blocking.{first_later};
+ghost use Rattle.msrp_plan.specs.Jobs.{jobs};
+ghost use Rattle.msrp_plan.specs.WellFormed.{IsPlan};
+ghost use Rattle.msrp_plan.specs.declared.rows.Row.{Row as TraceRow};
+ghost use Rattle.msrp_report.specs.Inside.Tallies.{AreTallies, HasReleased, IsFirstOf, IsKnown, ReleasesNext, ToldBy, begun_below, blocking_by, due_tick};
+
+use super::{Blocking, Tallies};
+use msrp_plan::{JobId, Plan, TaskId};
+
+// Whether a job comes before another, or there is no other.
+fn is_first(plan: &Plan, job: JobId, other: Option<JobId>) -> bool
+    requires job { IsKnown plan.now job }
+    requires other { IfSome other (IsKnown plan.now) }
+    ensures { result ≡ is_first plan.now job other }
+{
+    match other {
+        None => true,
+        Some(other) => plan.job_key(job).is_before(&plan.job_key(other)),
+    }
+}
+
+/// The tick of a task's k-th release, or the plan's end where it has no such job.
+pub(super) fn due_tick(plan: &Plan, task: TaskId, k: u32) -> u64
+    requires { task.0 < length plan.now.tasks }
+    ensures { result ≡ due_tick plan.now task.0 k }
+{
+    if k < plan.jobs(task) {
+        plan.release(JobId { task, k })
+    } else {
+        u64::from(plan.ticks())
+    }
+}
+
+impl Tallies {
+    // The first of two: a job that comes first so far, if there is one, and the task's going job, if that is a later one of the
+    // job's core.
+    fn first_with(
+        &self,
+        plan: &Plan,
+        job: JobId,
+        task: TaskId,
+        first: Option<JobId>,
+    ) -> Option<JobId>
+        requires told { ToldBy plan.now self.now.tasks.items }
+        requires plan { IsPlan plan.now }
+        requires job { Contains (jobs plan.now) job }
+        requires task { task.0 < length plan.now.tasks }
+        requires first { IfSome first (IsKnown plan.now) }
+        ensures known { IfSome result (IsKnown plan.now) }
+        ensures first { (rows : List TraceRow) (begun : ℕ → ℕ) → AreTallies plan.now rows begun self.now.tasks.items → IsFirstOf plan.now rows job task.0 first → IsFirstOf plan.now rows job (task.0 + 1) result }
+    {
+        let Some(other) = self.tasks[task.0 as usize].going else {
+            return first;
+        };
+        if plan.core_of(task) != plan.core_of(job.task) {
+            return first;
+        }
+        if !is_first(plan, job, Some(other)) {
+            return first;
+        }
+        if !is_first(plan, other, first) {
+            return first;
+        }
+        Some(other)
+    }
+
+    // The first of the later jobs of a job's core that are started and unfinished.
+    fn first_later(&self, plan: &Plan, job: JobId) -> Option<JobId>
+        requires told { ToldBy plan.now self.now.tasks.items }
+        requires job { Contains (jobs plan.now) job }
+        ensures { (rows : List TraceRow) (begun : ℕ → ℕ) → AreTallies plan.now rows begun self.now.tasks.items → result ≡ first_later plan.now rows job }
+    {
+        let mut first = None;
+        for task in 0..plan.tasks() {
+            first = self.first_with(plan, job, TaskId(task), first);
+        }
+        first
+    }
+
+    // How a job is blocked that is released now.
+    fn blocking_of(&self, plan: &Plan, job: JobId) -> Blocking
+        requires plan { IsPlan plan.now }
+        requires told { ToldBy plan.now self.now.tasks.items }
+        requires job { Contains (jobs plan.now) job }
+        ensures { (rows : List TraceRow) (begun : ℕ → ℕ) → AreTallies plan.now rows begun self.now.tasks.items → result ≡ blocking_by rows (first_later plan.now rows job) }
+    {
+        match self.first_later(plan, job) {
+            None => Blocking::Over(0),
+            Some(other) => Blocking::By {
+                job: other,
+                before: self.count_of(other).rows,
+            },
+        }
+    }
+
+    // Releases the next job of a task, if it is released in the tick that begins.
+    fn release(&mut self, plan: &Plan, task: TaskId)
+        requires plan { IsPlan plan.now }
+        requires told { ReleasesNext plan.now task.0 self.old }
+        requires task { task.0 < length plan.now.tasks }
+        requires left { self.old.begun < plan.now.ticks }
+        ensures begun { self.new.begun ≡ self.old.begun }
+        ensures told { (rows : List TraceRow) → HasReleased plan.now rows task.0 self.old → HasReleased plan.now rows (task.0 + 1) self.new }
+    {
+        let at = task.0 as usize;
+        if u64::from(self.begun) < self.tasks[at].due {
+            return;
+        }
+        let k = self.tasks[at].released;
+        let blocking = self.blocking_of(plan, JobId { task, k });
+        let tally = &mut self.tasks[at];
+        tally.jobs[k as usize].blocking = blocking;
+        tally.released = k + 1;
+        tally.due = due_tick(plan, task, k + 1);
+    }
+
+    /// Begins the next tick.
+    pub(super) fn begin(&mut self, plan: &Plan)
+        requires told { ReleasesNext plan.now 0 self.old }
+        requires left { self.old.begun < plan.now.ticks }
+        ensures begun { self.new.begun ≡ self.old.begun + 1 }
+        ensures told { (rows : List TraceRow) → HasReleased plan.now rows 0 self.old → AreTallies plan.now rows (λ _. self.new.begun) self.new.tasks.items }
+    {
+        for task in 0..plan.tasks() {
+            self.release(plan, TaskId(task));
+        }
+        self.begun += 1;
+    }
+}

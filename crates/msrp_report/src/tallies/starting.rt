@@ -1,0 +1,47 @@
+//! Before the first row.
+
+ghost use Rattle.std.specs.Prelude.{◌≡◌, ◌<◌, [], IfOk, length};
+ghost use Rattle.msrp_report.specs.Inside.Tallies.{HasTallied, IsTaskTally};
+
+use super::releasing::due_tick;
+use super::{Blocking, JobTally, Tallies, TaskTally};
+use crate::counts::JobCount;
+use msrp_plan::{Memory, Plan, TaskId};
+use std::alloc::Global;
+
+// A job that isn't released.
+const UNTOLD: JobTally = JobTally {
+    count: JobCount::NONE,
+    blocking: Blocking::Over(0),
+};
+
+// The jobs of a task, none of them released.
+fn untold(alloc: Global, plan: &Plan, task: TaskId) -> Result<TaskTally, Memory>
+    requires { task.0 < length plan.now.tasks }
+    ensures { IfOk result (λ tally. IsTaskTally plan.now [] 0 task.0 tally) }
+{
+    let count = plan.jobs(task);
+    let mut jobs = Vec::with_capacity(alloc, count as usize).map_err(|_| Memory)?;
+    for _ in 0..count {
+        jobs.push_reserved(UNTOLD);
+    }
+    Ok(TaskTally {
+        jobs,
+        released: 0,
+        due: due_tick(plan, task, 0),
+        going: None,
+    })
+}
+
+impl Tallies {
+    /// No row yet. All memory that is ever needed is taken here.
+    pub(crate) fn with_room(alloc: Global, plan: &Plan) -> Result<Tallies, Memory>
+        ensures { IfOk result (HasTallied plan.now []) }
+    {
+        let mut tasks = Vec::with_capacity(alloc, plan.tasks() as usize).map_err(|_| Memory)?;
+        for task in 0..plan.tasks() {
+            tasks.push_reserved(untold(alloc, plan, TaskId(task))?);
+        }
+        Ok(Tallies { tasks, begun: 0 })
+    }
+}
