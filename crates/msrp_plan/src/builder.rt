@@ -23,6 +23,7 @@ use crate::limits::{
     MOST_TICKS, MOST_UNITS,
 };
 use crate::names::is_name;
+use crate::parts::Parts;
 use crate::plans::Plan;
 use crate::tasks::{Task, add_release, add_units, first_user, is_used_elsewhere};
 use crate::times::Releases;
@@ -37,10 +38,7 @@ use std::marker::Model;
 #[derive(Debug, Drop)]
 pub struct PlanBuilder {
     alloc: Global,
-    cores: u32,
-    ticks: u32,
-    resources: IndexSet<String>,
-    tasks: IndexMap<String, Task>,
+    parts: Parts,
     // what the newest task holds, the innermost first
     held: VecDeque<ResId>,
 }
@@ -68,12 +66,15 @@ impl PlanBuilder {
         if let Some(fault) = new_fault(cores, ticks) {
             return Err(fault);
         }
-        Ok(PlanBuilder {
-            alloc,
+        let parts = Parts {
             cores,
             ticks,
             resources: IndexSet::new(alloc),
             tasks: IndexMap::new(alloc),
+        };
+        Ok(PlanBuilder {
+            alloc,
+            parts,
             held: VecDeque::new(alloc),
         })
     }
@@ -88,9 +89,9 @@ impl PlanBuilder {
         if let Some(fault) = self.resource_fault(name) {
             return Err(fault);
         }
-        let number = self.resources.len() as u32;
+        let number = self.parts.resources.len() as u32;
         let name = String::from_str(self.alloc, name)?;
-        self.resources.insert(name)?;
+        self.parts.resources.insert(name)?;
         Ok(ResId(number))
     }
 
@@ -140,7 +141,7 @@ impl PlanBuilder {
         if let Some(fault) = self.task_fault(name, core, &releases, deadline) {
             return Err(fault);
         }
-        let number = self.tasks.len() as u32;
+        let number = self.parts.tasks.len() as u32;
         let name = String::from_str(self.alloc, name)?;
         let task = Task {
             core,
@@ -148,7 +149,7 @@ impl PlanBuilder {
             deadline,
             units: Vec::new(self.alloc),
         };
-        self.tasks.insert(name, task)?;
+        self.parts.tasks.insert(name, task)?;
         Ok(TaskId(number))
     }
 
@@ -156,7 +157,7 @@ impl PlanBuilder {
     pub fn takes_releases(&self) -> bool
         ensures { result ≡ takes_releases self.now }
     {
-        match self.tasks.last() {
+        match self.parts.tasks.last() {
             Some((_, newest)) => newest.releases.is_listed() && newest.units.is_empty(),
             None => false,
         }
@@ -174,7 +175,7 @@ impl PlanBuilder {
         if let Some(fault) = tick_fault(self.newest().releases.listed(), tick) {
             return Err(fault);
         }
-        add_release(&mut self.tasks, tick)?;
+        add_release(&mut self.parts.tasks, tick)?;
         Ok(())
     }
 
@@ -205,43 +206,35 @@ impl PlanBuilder {
         if let Some(fault) = self.finish_fault() {
             return Err((self, fault));
         }
-        Ok(Plan {
-            cores: self.cores,
-            ticks: self.ticks,
-            resources: self.resources,
-            tasks: self.tasks,
-        })
+        Ok(Plan { parts: self.parts })
     }
 
     /// The number of a resource, by its name.
     pub fn res_of(&self, name: &str) -> Option<ResId>
         ensures { option_map (λ res. res.0) result ≡ name_position self.now.resources name.now }
     {
-        match self.resources.get_index_of(name) {
-            Some(number) => Some(ResId(number as u32)),
-            None => None,
-        }
+        self.parts.res_of(name)
     }
 
     /// The number of tasks so far.
     pub fn tasks(&self) -> u32
         ensures { result ≡ length self.now.tasks }
     {
-        self.tasks.len() as u32
+        self.parts.tasks.len() as u32
     }
 
     // Whether a resource of that name stands.
     fn has_resource(&self, name: &str) -> bool
         ensures { result ≡ has_name self.now.resources name.now }
     {
-        self.resources.contains(name)
+        self.parts.resources.contains(name)
     }
 
     // Whether a task of that name stands.
     fn has_task(&self, name: &str) -> bool
         ensures { result ≡ has_name (map (λ task. task.name) self.now.tasks) name.now }
     {
-        self.tasks.contains_key(name)
+        self.parts.tasks.contains_key(name)
     }
 
     // Why a resource is refused.
@@ -252,7 +245,7 @@ impl PlanBuilder {
             Some(PlanFault::Name)
         } else if self.has_resource(name) {
             Some(PlanFault::Taken)
-        } else if self.resources.len() >= MOST_RESOURCES {
+        } else if self.parts.resources.len() >= MOST_RESOURCES {
             Some(PlanFault::Limit)
         } else {
             None
@@ -263,7 +256,7 @@ impl PlanBuilder {
     fn end_fault(&self) -> Option<PlanFault>
         ensures { result ≡ end_fault self.now }
     {
-        let (_, newest) = self.tasks.last()?;
+        let (_, newest) = self.parts.tasks.last()?;
         if newest.releases.is_empty() {
             Some(PlanFault::Releases)
         } else if newest.units.is_empty() {
@@ -291,11 +284,11 @@ impl PlanBuilder {
             Some(PlanFault::Name)
         } else if self.has_task(name) {
             Some(PlanFault::Taken)
-        } else if core.0 >= self.cores {
+        } else if core.0 >= self.parts.cores {
             Some(PlanFault::Core)
         } else if !are_in_range(releases)
             || !(1..=LONGEST_TIME).contains(&deadline)
-            || self.tasks.len() >= MOST_TASKS
+            || self.parts.tasks.len() >= MOST_TASKS
         {
             Some(PlanFault::Limit)
         } else {
@@ -308,7 +301,7 @@ impl PlanBuilder {
         requires { 0 < length self.now.tasks }
         ensures { named_view (newest_task self.now).name result.now ≡ newest_task self.now }
     {
-        &self.tasks[self.tasks.len() - 1]
+        &self.parts.tasks[self.parts.tasks.len() - 1]
     }
 
     // Whether the step names a resource that was not declared.
@@ -317,7 +310,7 @@ impl PlanBuilder {
     {
         match step {
             Step::Run(_) => false,
-            Step::Lock(res) | Step::Unlock(res) => res.0 as usize >= self.resources.len(),
+            Step::Lock(res) | Step::Unlock(res) => res.0 as usize >= self.parts.resources.len(),
         }
     }
 
@@ -367,8 +360,8 @@ impl PlanBuilder {
     fn is_global(&self, res: ResId) -> bool
         ensures { result ≡ is_global self.now res.0 }
     {
-        match first_user(&self.tasks, res) {
-            Some(first) => is_used_elsewhere(&self.tasks, res, first.core),
+        match first_user(&self.parts.tasks, res) {
+            Some(first) => is_used_elsewhere(&self.parts.tasks, res, first.core),
             None => false,
         }
     }
@@ -378,7 +371,7 @@ impl PlanBuilder {
         ensures { AreGlobals self.now result }
     {
         let mut globals = [false; MOST_RESOURCES];
-        for res in 0..self.resources.len() {
+        for res in 0..self.parts.resources.len() {
             globals[res] = self.is_global(ResId(res as u32));
         }
         globals
@@ -391,7 +384,7 @@ impl PlanBuilder {
         ensures { result ≡ nests_global self.now (task_at self.now task).units }
     {
         let mut holding = false;
-        for unit in self.tasks[task].units.as_slice() {
+        for unit in self.parts.tasks[task].units.as_slice() {
             if is_nested_lock(holding, *unit, globals) {
                 return true;
             }
@@ -405,7 +398,7 @@ impl PlanBuilder {
         ensures { result ≡ list_any (λ task. nests_global self.now task.units) self.now.tasks }
     {
         let globals = self.globals();
-        for task in 0..self.tasks.len() {
+        for task in 0..self.parts.tasks.len() {
             if self.nests_global(task, &globals) {
                 return true;
             }
@@ -419,7 +412,9 @@ impl PlanBuilder {
         ensures value { result ≡ length (jobs_of self.now task) }
         ensures bound { result ≤ most_ticks }
     {
-        self.tasks[task].releases.count_before(self.ticks)
+        self.parts.tasks[task]
+            .releases
+            .count_before(self.parts.ticks)
     }
 
     // The number of jobs of all tasks.
@@ -427,7 +422,7 @@ impl PlanBuilder {
         ensures { result ≡ length (jobs self.now) }
     {
         let mut count = 0;
-        for task in 0..self.tasks.len() {
+        for task in 0..self.parts.tasks.len() {
             count += self.jobs(task);
         }
         count
@@ -456,7 +451,7 @@ impl PlanBuilder {
         ensures added { OnOk result (self.new ≡ with_units self.old (units_of (Run count))) }
         ensures kept { OnErr result (self.new ≡ self.old) }
     {
-        add_units(&mut self.tasks, count as usize, Op::Run)?;
+        add_units(&mut self.parts.tasks, count as usize, Op::Run)?;
         Ok(())
     }
 
@@ -469,7 +464,7 @@ impl PlanBuilder {
         ensures kept { OnErr result (self.new ≡ self.old) }
     {
         self.held.reserve(1)?;
-        add_units(&mut self.tasks, 1, Op::Lock(res))?;
+        add_units(&mut self.parts.tasks, 1, Op::Lock(res))?;
         self.held.push_front(res)?;
         Ok(())
     }
@@ -482,7 +477,7 @@ impl PlanBuilder {
         ensures added { OnOk result (self.new ≡ with_units self.old (units_of (Unlock res))) }
         ensures kept { OnErr result (self.new ≡ self.old) }
     {
-        add_units(&mut self.tasks, 1, Op::Unlock(res))?;
+        add_units(&mut self.parts.tasks, 1, Op::Unlock(res))?;
         self.held.pop_front();
         Ok(())
     }

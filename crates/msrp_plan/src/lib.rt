@@ -13,6 +13,7 @@ mod ids;
 pub mod laws;
 pub mod limits;
 mod names;
+mod parts;
 mod plans;
 mod rows;
 mod tasks;

@@ -11,19 +11,16 @@ ghost use Rattle.msrp_plan.specs.Times.{HasRelease, times_told};
 ghost use Rattle.msrp_plan.specs.WellFormed.{IsPlan, IsTask};
 
 use crate::ids::{CoreId, JobId, JobKey, ResId, TaskId};
+use crate::parts::Parts;
 use crate::tasks::Task;
 use crate::times::Times;
 use crate::units::Op;
-use indexmap::{IndexMap, IndexSet};
 use std::marker::Model;
 
 /// An accepted plan: tasks that recur, partitioned over cores, with the resources that they lock.
 #[derive(Debug, Drop)]
 pub struct Plan {
-    pub(crate) cores: u32,
-    pub(crate) ticks: u32,
-    pub(crate) resources: IndexSet<String>,
-    pub(crate) tasks: IndexMap<String, Task>,
+    pub(crate) parts: Parts,
 }
 
 impl Model for Plan {
@@ -46,7 +43,7 @@ impl Plan {
         ensures value { result ≡ self.now.cores }
         ensures plan { IsPlan self.now }
     {
-        self.cores
+        self.parts.cores
     }
 
     /// The number of ticks.
@@ -54,7 +51,7 @@ impl Plan {
         ensures value { result ≡ self.now.ticks }
         ensures plan { IsPlan self.now }
     {
-        self.ticks
+        self.parts.ticks
     }
 
     /// The number of tasks.
@@ -62,7 +59,7 @@ impl Plan {
         ensures value { result ≡ length self.now.tasks }
         ensures plan { IsPlan self.now }
     {
-        self.tasks.len() as u32
+        self.parts.tasks.len() as u32
     }
 
     /// The number of resources.
@@ -70,7 +67,7 @@ impl Plan {
         ensures value { result ≡ length self.now.resources }
         ensures plan { IsPlan self.now }
     {
-        self.resources.len() as u32
+        self.parts.resources.len() as u32
     }
 
     // The task of a number, with its name.
@@ -79,7 +76,7 @@ impl Plan {
         ensures stored { task_view (result.0.now, result.1.now) ≡ task_at self.now task.0 }
         ensures numbers { IsTask self.now (task_at self.now task.0) }
     {
-        self.tasks.get_index(task.0 as usize).unwrap()
+        self.parts.tasks.get_index(task.0 as usize).unwrap()
     }
 
     /// The name of a task.
@@ -95,14 +92,14 @@ impl Plan {
         requires { res.0 < length self.now.resources }
         ensures { slice_get self.now.resources res.0 ≡ Some result.now }
     {
-        self.resources[res.0 as usize].as_str()
+        self.parts.resources[res.0 as usize].as_str()
     }
 
     /// The task of a name.
     pub fn task_of(&self, name: &str) -> Option<TaskId>
         ensures { option_map (λ task. task.0) result ≡ name_position (map (λ task. task.name) self.now.tasks) name.now }
     {
-        match self.tasks.get_index_of(name) {
+        match self.parts.tasks.get_index_of(name) {
             Some(number) => Some(TaskId(number as u32)),
             None => None,
         }
@@ -112,10 +109,7 @@ impl Plan {
     pub fn res_of(&self, name: &str) -> Option<ResId>
         ensures { option_map (λ res. res.0) result ≡ name_position self.now.resources name.now }
     {
-        match self.resources.get_index_of(name) {
-            Some(number) => Some(ResId(number as u32)),
-            None => None,
-        }
+        self.parts.res_of(name)
     }
 
     /// The core that a task belongs to.
@@ -168,7 +162,10 @@ impl Plan {
         ensures numbered { jobs_of self.now task.0 ≡ map (job_at task.0) (range_with_len 0 result) }
         ensures released { (k : ℕ) → k < result → IsSomeAnd (release_tick self.now (job_at task.0 k)) (λ tick. tick < self.now.ticks) }
     {
-        self.named_task(task).1.releases.count_before(self.ticks)
+        self.named_task(task)
+            .1
+            .releases
+            .count_before(self.parts.ticks)
     }
 
     /// The tick in which a job is released. A periodic task has a release for each `k`, and a listed one for each below

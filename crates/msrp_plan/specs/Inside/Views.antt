@@ -6,17 +6,22 @@ use Rattle.msrp_plan.specs.WellFormed.{IsDraft, IsPlan, IsWhole}
 use Rattle.msrp_plan.specs.Building.{newest_units}
 use Rattle.msrp_plan.specs.Inside.Tasks.{task_view}
 use Rattle.msrp_plan.specs.declared.ids.ResId.{ResId}
+use Rattle.msrp_plan.specs.declared.parts.Parts.{Parts}
 use Rattle.msrp_plan.specs.declared.plans.Plan.TheInside as plan
 use Rattle.msrp_plan.specs.declared.builder.PlanBuilder.TheInside as draft
 
+-- the parts of either
+abbrev pub parts_view : Parts → PlanModel
+parts_view p = record { cores = p.cores; ticks = p.ticks; resources = map string_bytes p.resources.keys; tasks = map task_view p.tasks.entries }
+
 abbrev pub plan_view : plan.Inside → PlanModel
-plan_view p = record { cores = p.cores; ticks = p.ticks; resources = map string_bytes p.resources.keys; tasks = map task_view p.tasks.entries }
+plan_view p = parts_view p.parts
 
 abbrev pub IsPlanView : plan.Inside → Type 0
 IsPlanView p = IsPlan (plan_view p)
 
 abbrev pub draft_view : draft.Inside → PlanModel
-draft_view b = record { cores = b.cores; ticks = b.ticks; resources = map string_bytes b.resources.keys; tasks = map task_view b.tasks.entries }
+draft_view b = parts_view b.parts
 
 -- the numbers of resources
 abbrev pub numbers : List ResId → List ℕ

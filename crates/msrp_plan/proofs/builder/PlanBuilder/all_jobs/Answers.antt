@@ -12,7 +12,7 @@ loop-task-init c = record { sum = refl; bound = omega arith }
 
 pub overflow_add-count : goal.overflow_add-count
 overflow_add-count c =
-    let size = length-map c.self.inside.tasks.entries task_view in
+    let size = length-map c.self.inside.parts.tasks.entries task_view in
     omega (arith, size, c.self.invariant.draft.tasks, c.len-task-end.ensures.len, c.loop-task-test.true, c.loop-task.invariant.bound, c.jobs-count.ensures.bound)
 
 pub loop-task-preserved : goal.loop-task-preserved
@@ -27,7 +27,7 @@ loop-task-preserved c = record {
 pub returns : goal.returns
 returns c =
     let plan = draft_view c.self.inside in
-    let size = length-map c.self.inside.tasks.entries task_view in
+    let size = length-map c.self.inside.parts.tasks.entries task_view in
     let sum = rw (← c.self.view_is) at c.loop-task.invariant.sum in
     let all : c.loop-task.task ≡ length plan.tasks = omega (arith, size, c.len-task-end.ensures.len, c.loop-task-test.false, c.loop-task.auto.task-end) in
     rw (← c.self.view_is) (sum ∙ ap (λ n. length (flat_map (jobs_of plan) (range_with_len 0 n))) all)

@@ -17,13 +17,13 @@ good : (c : goal.Joined-branch-3) → task_fault (draft_view c.self.inside) (ask
 good c = rw (← c.self.view_is) at (sym c.task_fault.ensures ∙ c.in_default.is)
 
 -- the tasks after it
-tasks : (c : goal.Joined-branch-3) → map task_view c.insert.new.self.entries ≡ map task_view c.self.inside.tasks.entries ++ asked c ∷ []
+tasks : (c : goal.Joined-branch-3) → map task_view c.insert.new.self.entries ≡ map task_view c.self.inside.parts.tasks.entries ++ asked c ∷ []
 tasks c =
-    let old = map task_view c.self.inside.tasks.entries in
+    let old = map task_view c.self.inside.parts.tasks.entries in
     let same = c.in_ok-name.ensures.ok in
     let new : has_name (map (λ (u : TaskModel). u.name) old) (string_bytes c.in_ok-name.name) ≡ false = rw same (task_new (draft_view c.self.inside) (asked c) (good c)) in
     let none = c.new.ensures.items in
-    ap (map task_view) c.in_ok-insert.ensures.entries ∙ task_push c.self.inside.tasks c.in_ok-name.name _ new ∙ rw (same, none) refl
+    ap (map task_view) c.in_ok-insert.ensures.entries ∙ task_push c.self.inside.parts.tasks c.in_ok-name.name _ new ∙ rw (same, none) refl
 
 pub invariant_of-self-2 : goal.invariant_of-self-2
 invariant_of-self-2 c = rw (tasks c) (growing_task (draft_view c.self.inside) _ (asked c) c.self.invariant c.requires refl (good c))

@@ -6,7 +6,7 @@ use Rattle.msrp_plan.proofs.builder.PlanBuilder.newest.Goals as goal
 
 pub returns : goal.returns
 returns c =
-    let es = c.self.inside.tasks.entries in
+    let es = c.self.inside.parts.tasks.entries in
     let last = length-map es task_view in
     let at = view_at es (length es - 1) c.index.result.now (rw c.len.ensures.len at c.index.ensures) in
     rw (← c.self.view_is, last, at.1) refl

@@ -11,7 +11,7 @@ use Rattle.msrp_plan.proofs.plans.Plan.jobs.Goals as goal
 -- a release comes before the last tick has passed where its number is below the result
 early : (c : goal.After-count_before) → (k : ℕ) → comes_before (task_at c.args.self.now c.args.task.0).times c.args.self.now.ticks k ≡ nat_lt k c.count_before.result
 early c = λ k.
-    let ticks : c.self.inside.ticks ≡ c.args.self.now.ticks = ap (λ (p : PlanModel). p.ticks) c.self.view_is in
+    let ticks : c.self.inside.parts.ticks ≡ c.args.self.now.ticks = ap (λ (p : PlanModel). p.ticks) c.self.view_is in
     sym (ap (λ (t : TaskModel). comes_before t.times c.args.self.now.ticks k) c.named_task.ensures.stored) ∙ rw (← ticks) (c.count_before.ensures k)
 
 count : (c : goal.After-count_before) → length (jobs_of c.args.self.now c.args.task.0) ≡ c.count_before.result
