@@ -23,13 +23,13 @@ pub record IsOrderly (plan : PlanModel) (g : ℕ) (pre : List Row) : Type 0 wher
   pub fed : IsFed g pre
   pub first : (j : JobId) → stand plan g pre j ≡ Holds → is_first (fifo g pre) (Some j) ≡ true
 
--- who holds it after a row is the row's job, or held it before
-holder_was : (plan : PlanModel) (g : ℕ) (pre : List Row) (r : Row) (x : JobId) (k : Kind) (a b : Stand) (P : JobId → Type 0) → IsMove plan g pre r x k a b → (b ≡ Holds → P x) → ((j : JobId) → is_row_of j r ≡ false → stand plan g pre j ≡ Holds → P j)
-    → (j : JobId) (c : Bool) → is_row_of j r ≡ c → stand plan g (pre ++ r ∷ []) j ≡ Holds → P j
-holder_was plan g pre r x k a b P m mine rest j true e h =
-    let s = mover_is plan g pre r x j k a b m e in
-    subst P (sym s) (mine (sym m.after ∙ subst (λ z. stand plan g (pre ++ r ∷ []) z ≡ Holds) s h))
-holder_was plan g pre r x k a b P m mine rest j false e h = rest j e (sym (m.others j e) ∙ h)
+-- how a job stands after a row is how the row's job stands then, or how the job stood before it
+pub stood : (plan : PlanModel) (g : ℕ) (pre : List Row) (r : Row) (x : JobId) (k : Kind) (a b s : Stand) (P : JobId → Type 0) → IsMove plan g pre r x k a b → (b ≡ s → P x) → ((j : JobId) → is_row_of j r ≡ false → stand plan g pre j ≡ s → P j)
+    → (j : JobId) (c : Bool) → is_row_of j r ≡ c → stand plan g (pre ++ r ∷ []) j ≡ s → P j
+stood plan g pre r x k a b s P m mine rest j true e h =
+    let z = mover_is plan g pre r x j k a b m e in
+    subst P (sym z) (mine (sym m.after ∙ subst (λ i. stand plan g (pre ++ r ∷ []) i ≡ s) z h))
+stood plan g pre r x k a b s P m mine rest j false e h = rest j e (sym (m.others j e) ∙ h)
 
 -- the front of an equal queue
 front : {f h : List JobId} → h ≡ f → (j : JobId) → is_first f (Some j) ≡ true → is_first h (Some j) ≡ true
@@ -47,31 +47,31 @@ orderly_by plan g pre r old e =
       | Quiet off fs st ↦ record { fed = fed_kept g pre r old.fed (ap (λ c. c && is_release r.kind) off); first = λ j h. front fs j (old.first j (sym (st j) ∙ h)) }
       | Took x m empty fs ↦ record {
         fed = fed_kept g pre r old.fed (not_releasing g r Take m.kind refl);
-        first = λ j. holder_was plan g pre r x Take Out Holds First m
+        first = λ j. stood plan g pre r x Take Out Holds Holds First m
             (λ h. front fs x (first_alone (fifo g pre) x empty))
             (λ i d h. absurd (first_none (fifo g pre) (Some i) empty (old.first i h))) j (is_row_of j r) refl;
       }
       | Joined x m some fs ↦ record {
         fed = fed_kept g pre r old.fed (not_releasing g r Queue m.kind refl);
-        first = λ j. holder_was plan g pre r x Queue Out Waits First m
+        first = λ j. stood plan g pre r x Queue Out Waits Holds First m
             (λ h. absurd (cc))
             (λ i d h. front fs i (first_push (fifo g pre) x (Some i) (old.first i h))) j (is_row_of j r) refl;
       }
       | Got x m first fs ↦ record {
         fed = fed_kept g pre r old.fed (not_releasing g r Grant m.kind refl);
-        first = λ j. holder_was plan g pre r x Grant Waits Holds First m
+        first = λ j. stood plan g pre r x Grant Waits Holds Holds First m
             (λ h. front fs x first)
             (λ i d h. front fs i (old.first i h)) j (is_row_of j r) refl;
       }
       | Spun x m back fs ↦ record {
         fed = fed_kept g pre r old.fed (not_releasing g r Spin m.kind refl);
-        first = λ j. holder_was plan g pre r x Spin Waits Waits First m
+        first = λ j. stood plan g pre r x Spin Waits Waits Holds First m
             (λ h. absurd (cc))
             (λ i d h. front fs i (old.first i h)) j (is_row_of j r) refl;
       }
       | Left x m fs ↦ record {
         fed = fed_push g pre r old.fed (λ h. first_some (fifo g pre) (Some x) (old.first x m.before));
-        first = λ j. holder_was plan g pre r x Release Holds Out First m
+        first = λ j. stood plan g pre r x Release Holds Out Holds First m
             (λ h. absurd (cc))
             (λ i d h. absurd (true≢false (sym (row_of_job r x m.job) ∙ subst (λ z. is_row_of z r ≡ false) (first_same (fifo g pre) i x (old.first i h) (old.first x m.before)) d))) j (is_row_of j r) refl;
       }

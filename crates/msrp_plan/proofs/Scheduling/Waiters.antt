@@ -9,15 +9,14 @@ use Rattle.msrp_plan.specs.Queues.{fifo, is_first}
 use Rattle.msrp_plan.specs.Runs.{IsLegal, EachAfter}
 use Rattle.msrp_plan.specs.WellFormed.{IsPlan}
 use Rattle.msrp_plan.specs.declared.ids.JobId.{JobId}
-use Rattle.msrp_plan.specs.declared.rows.Kind.{Kind}
 use Rattle.msrp_plan.specs.declared.rows.Kind.TheVariants.{Take, Queue, Spin, Grant, Release}
 use Rattle.msrp_plan.specs.declared.rows.Row.{Row}
 use Rattle.msrp_plan.proofs.Lists.AnyAll.{any_push}
 use Rattle.msrp_plan.proofs.Jobs.JobTests.{same_is, same_self, row_of_job}
 use Rattle.msrp_plan.proofs.Lists.Prefixes.{along}
-use Rattle.msrp_plan.proofs.TaskUnits.Stands.{Stand, Out, Waits, Holds, stand, holds_waits}
-use Rattle.msrp_plan.proofs.Queues.Effects.{IsMove, Effect, Quiet, Took, Joined, Got, Spun, Left, mover_is, effect}
-use Rattle.msrp_plan.proofs.Holding.Holders.{IsOrderly, orderly_by, orderly_none}
+use Rattle.msrp_plan.proofs.TaskUnits.Stands.{Out, Waits, Holds, stand, holds_waits}
+use Rattle.msrp_plan.proofs.Queues.Effects.{Effect, Quiet, Took, Joined, Got, Spun, Left, effect}
+use Rattle.msrp_plan.proofs.Holding.Holders.{IsOrderly, orderly_by, orderly_none, stood}
 
 -- the job stands in the queue
 abbrev pub stands_in : List JobId → JobId → Bool
@@ -25,14 +24,6 @@ stands_in queue j = list_any (is_job (Some j)) queue
 
 abbrev pub AreQueued : PlanModel → ℕ → List Row → Type 0
 AreQueued plan g pre = (j : JobId) → stand plan g pre j ≡ Waits → stands_in (fifo g pre) j ≡ true
-
--- who waits after a row is the row's job, or waited before it
-waiter_was : (plan : PlanModel) (g : ℕ) (pre : List Row) (r : Row) (x : JobId) (k : Kind) (a b : Stand) (P : JobId → Type 0) → IsMove plan g pre r x k a b → (b ≡ Waits → P x) → ((j : JobId) → is_row_of j r ≡ false → stand plan g pre j ≡ Waits → P j)
-    → (j : JobId) (mine : Bool) → is_row_of j r ≡ mine → stand plan g (pre ++ r ∷ []) j ≡ Waits → P j
-waiter_was plan g pre r x k a b P m mine rest j true e h =
-    let s = mover_is plan g pre r x j k a b m e in
-    subst P (sym s) (mine (sym m.after ∙ subst (λ z. stand plan g (pre ++ r ∷ []) z ≡ Waits) s h))
-waiter_was plan g pre r x k a b P m mine rest j false e h = rest j e (sym (m.others j e) ∙ h)
 
 -- in a queue that is the same, or longer at the end
 still_in : (queue now : List JobId) (j : JobId) → now ≡ queue → stands_in queue j ≡ true → stands_in now j ≡ true
@@ -69,11 +60,11 @@ queued_by plan g pre r orderly old e =
     let In : JobId → Type 0 = λ i. stands_in (fifo g (pre ++ r ∷ [])) i ≡ true in
     elim e [
       | Quiet off fs st ↦ λ j h. still_in (fifo g pre) (fifo g (pre ++ r ∷ [])) j fs (old j (sym (st j) ∙ h))
-      | Took x m empty fs ↦ λ j. waiter_was plan g pre r x Take Out Holds In m (λ h. absurd (holds_waits h)) (λ i d h. pushed_in (fifo g pre) (fifo g (pre ++ r ∷ [])) x i fs (old i h)) j (is_row_of j r) refl
-      | Joined x m some fs ↦ λ j. waiter_was plan g pre r x Queue Out Waits In m (λ h. newest_in (fifo g pre) (fifo g (pre ++ r ∷ [])) x fs) (λ i d h. pushed_in (fifo g pre) (fifo g (pre ++ r ∷ [])) x i fs (old i h)) j (is_row_of j r) refl
-      | Got x m first fs ↦ λ j. waiter_was plan g pre r x Grant Waits Holds In m (λ h. absurd (holds_waits h)) (λ i d h. still_in (fifo g pre) (fifo g (pre ++ r ∷ [])) i fs (old i h)) j (is_row_of j r) refl
-      | Spun x m back fs ↦ λ j. waiter_was plan g pre r x Spin Waits Waits In m (λ h. still_in (fifo g pre) (fifo g (pre ++ r ∷ [])) x fs (old x m.before)) (λ i d h. still_in (fifo g pre) (fifo g (pre ++ r ∷ [])) i fs (old i h)) j (is_row_of j r) refl
-      | Left x m fs ↦ λ j. waiter_was plan g pre r x Release Holds Out In m (λ h. absurd (let k : Out ≡ Waits = h in cc))
+      | Took x m empty fs ↦ λ j. stood plan g pre r x Take Out Holds Waits In m (λ h. absurd (holds_waits h)) (λ i d h. pushed_in (fifo g pre) (fifo g (pre ++ r ∷ [])) x i fs (old i h)) j (is_row_of j r) refl
+      | Joined x m some fs ↦ λ j. stood plan g pre r x Queue Out Waits Waits In m (λ h. newest_in (fifo g pre) (fifo g (pre ++ r ∷ [])) x fs) (λ i d h. pushed_in (fifo g pre) (fifo g (pre ++ r ∷ [])) x i fs (old i h)) j (is_row_of j r) refl
+      | Got x m first fs ↦ λ j. stood plan g pre r x Grant Waits Holds Waits In m (λ h. absurd (holds_waits h)) (λ i d h. still_in (fifo g pre) (fifo g (pre ++ r ∷ [])) i fs (old i h)) j (is_row_of j r) refl
+      | Spun x m back fs ↦ λ j. stood plan g pre r x Spin Waits Waits Waits In m (λ h. still_in (fifo g pre) (fifo g (pre ++ r ∷ [])) x fs (old x m.before)) (λ i d h. still_in (fifo g pre) (fifo g (pre ++ r ∷ [])) i fs (old i h)) j (is_row_of j r) refl
+      | Left x m fs ↦ λ j. stood plan g pre r x Release Holds Out Waits In m (λ h. absurd (let k : Out ≡ Waits = h in cc))
           (λ i d h. still_in (drop 1 (fifo g pre)) (fifo g (pre ++ r ∷ [])) i fs
           (rest_in (fifo g pre) i (not_first (fifo g pre) x i (is_first (fifo g pre) (Some i)) refl (orderly.first x m.before) (λ s. true≢false (sym (row_of_job r x m.job) ∙ subst (λ z. is_row_of z r ≡ false) s d))) (old i h))) j (is_row_of j r) refl
     ]
