@@ -20,16 +20,15 @@ use Rattle.msrp_plan.specs.declared.units.Op.TheVariants.{Run as RunUnit, Lock a
 use Rattle.msrp_plan.specs.declared.rows.Kind.{Kind}
 use Rattle.msrp_plan.specs.declared.rows.Kind.TheVariants.{Idle, Run, Lock, Unlock, Take, Queue, Spin, Grant, Release}
 use Rattle.msrp_plan.specs.declared.rows.Row.{Row}
-use Rattle.msrp_plan.proofs.Legality.LegalRows.{same_res_is, same_choice_is, due, legal_turn, legal_due, idle_res}
+use Rattle.msrp_plan.proofs.Legality.LegalRows.{IsTurn, same_res_is, same_choice_is, due, legal_turn, legal_due, idle_res}
 use Rattle.msrp_audit.specs.Foresight.{same_kind, same_action, same_ahead, does_alike, replied_alike, unlike}
 
 -- ---- A3
--- the job that is due is the legal row's
-chosen_alike : (plan : PlanModel) (pre : List Row) (r s : Row) → IsLegal plan pre s → is_in_turn plan pre r ≡ true → r.core.0 ≡ s.core.0 → is_chosen plan pre r ≡ same_choice r.job s.job
-chosen_alike plan pre r s legal turn core =
-    let tick : r.tick ≡ s.tick = (due plan pre r turn).tick ∙ sym (legal_due plan pre s legal).tick in
+-- the job that is due is that of the core's turn
+pub chosen_alike : (plan : PlanModel) (pre : List Row) (r s : Row) → IsTurn plan pre s → r.tick ≡ s.tick → r.core.0 ≡ s.core.0 → is_chosen plan pre r ≡ same_choice r.job s.job
+chosen_alike plan pre r s turn tick core =
     ap (λ c. same_choice r.job (choice plan c r.tick pre)) core
-    ∙ (ap (λ t. same_choice r.job (choice plan s.core.0 t pre)) tick ∙ ap (same_choice r.job) (sym (legal_turn plan pre s legal).job))
+    ∙ (ap (λ t. same_choice r.job (choice plan s.core.0 t pre)) tick ∙ ap (same_choice r.job) (sym turn.job))
 
 -- ---- A4
 -- a unit allows the kinds that are the same action as one that it allows
@@ -108,21 +107,21 @@ idle_alike _ job res h = no_more (same_res res None)
     no_more true = refl
     no_more false = refl
 
--- what the job does next is what the legal row does
-action_by : (plan : PlanModel) (pre : List Row) (r s : Row) (o : Option JobId) → IsLegal plan pre s → r.job ≡ o → s.job ≡ o → does_next plan pre o r ≡ does_alike r s
-action_by plan pre r s None legal jr js =
-    let idle = (legal_turn plan pre s legal).idle js in
+-- what the job does next is what the core's turn does
+action_by : (plan : PlanModel) (pre : List Row) (r s : Row) (o : Option JobId) → IsTurn plan pre s → r.job ≡ o → s.job ≡ o → does_next plan pre o r ≡ does_alike r s
+action_by plan pre r s None turn jr js =
+    let idle = turn.idle js in
     idle_alike r.kind r.job r.res r.shape
     ∙ (ap (λ g. same_res r.res g && same_action r.kind Idle) (sym (idle_res s idle))
     ∙ ap (λ k. same_res r.res s.res && same_action r.kind k) (sym idle))
-action_by plan pre r s (Some x) legal jr js =
-    let does = (legal_turn plan pre s legal).does x js in
+action_by plan pre r s (Some x) turn jr js =
+    let does = turn.does x js in
     ap (does_unit plan (is_queued pre x) r) does.unit
     ∙ (ap (λ g. same_res r.res g && allows (is_global_unit plan does.op) (is_queued pre x) does.op r.kind) (sym does.res)
     ∙ ap (λ b. same_res r.res s.res && b) (allows_alike (is_global_unit plan does.op) (is_queued pre x) does.op s.kind r.kind does.kind))
 
-action_alike : (plan : PlanModel) (pre : List Row) (r s : Row) → IsLegal plan pre s → r.job ≡ s.job → is_next_action plan pre r ≡ does_alike r s
-action_alike plan pre r s legal job = action_by plan pre r s r.job legal refl (sym job)
+pub action_alike : (plan : PlanModel) (pre : List Row) (r s : Row) → IsTurn plan pre s → r.job ≡ s.job → is_next_action plan pre r ≡ does_alike r s
+action_alike plan pre r s turn job = action_by plan pre r s r.job turn refl (sym job)
 
 -- ---- A5
 -- a kind that a queue answers to, and the other answer
@@ -202,16 +201,19 @@ reply_alike plan pre r s legal c job alike =
 
 by_action : (plan : PlanModel) (pre : List Row) (r s : Row) → IsLegal plan pre s → carries_its_ahead s ≡ true → r.job ≡ s.job → (b : Bool) → does_alike r s ≡ b
     → cond (is_next_action plan pre r) (cond (is_fifo_reply pre r) None (Some A5)) (Some A4) ≡ cond b (cond (replied_alike r s) None (Some A5)) (Some A4)
-by_action plan pre r s legal c job true e = ap (λ b. cond b (cond (is_fifo_reply pre r) None (Some A5)) (Some A4)) (action_alike plan pre r s legal job ∙ e) ∙ ap (λ b. cond b None (Some A5)) (reply_alike plan pre r s legal c job e)
-by_action plan pre r s legal c job false e = ap (λ b. cond b (cond (is_fifo_reply pre r) None (Some A5)) (Some A4)) (action_alike plan pre r s legal job ∙ e)
+by_action plan pre r s legal c job true e = ap (λ b. cond b (cond (is_fifo_reply pre r) None (Some A5)) (Some A4)) (action_alike plan pre r s (legal_turn plan pre s legal) job ∙ e) ∙ ap (λ b. cond b None (Some A5)) (reply_alike plan pre r s legal c job e)
+by_action plan pre r s legal c job false e = ap (λ b. cond b (cond (is_fifo_reply pre r) None (Some A5)) (Some A4)) (action_alike plan pre r s (legal_turn plan pre s legal) job ∙ e)
 
 by_choice : (plan : PlanModel) (pre : List Row) (r s : Row) → IsLegal plan pre s → carries_its_ahead s ≡ true → is_in_turn plan pre r ≡ true → r.core.0 ≡ s.core.0 → (b : Bool) → same_choice r.job s.job ≡ b
     → cond (is_chosen plan pre r) (cond (is_next_action plan pre r) (cond (is_fifo_reply pre r) None (Some A5)) (Some A4)) (Some A3)
     ≡ cond b (cond (does_alike r s) (cond (replied_alike r s) None (Some A5)) (Some A4)) (Some A3)
 by_choice plan pre r s legal c turn core true e =
-    ap (λ b. cond b (cond (is_next_action plan pre r) (cond (is_fifo_reply pre r) None (Some A5)) (Some A4)) (Some A3)) (chosen_alike plan pre r s legal turn core ∙ e)
+    let tick : r.tick ≡ s.tick = (due plan pre r turn).tick ∙ sym (legal_due plan pre s legal).tick in
+    ap (λ b. cond b (cond (is_next_action plan pre r) (cond (is_fifo_reply pre r) None (Some A5)) (Some A4)) (Some A3)) (chosen_alike plan pre r s (legal_turn plan pre s legal) tick core ∙ e)
     ∙ by_action plan pre r s legal c (same_choice_is r.job s.job e) (does_alike r s) refl
-by_choice plan pre r s legal c turn core false e = ap (λ b. cond b (cond (is_next_action plan pre r) (cond (is_fifo_reply pre r) None (Some A5)) (Some A4)) (Some A3)) (chosen_alike plan pre r s legal turn core ∙ e)
+by_choice plan pre r s legal c turn core false e =
+    let tick : r.tick ≡ s.tick = (due plan pre r turn).tick ∙ sym (legal_due plan pre s legal).tick in
+    ap (λ b. cond b (cond (is_next_action plan pre r) (cond (is_fifo_reply pre r) None (Some A5)) (Some A4)) (Some A3)) (chosen_alike plan pre r s (legal_turn plan pre s legal) tick core ∙ e)
 
 -- a row that is in its turn, of a job of its core, breaks what it breaks against the legal row of that core
 pub broken_is : (plan : PlanModel) (pre : List Row) (r s : Row) → IsLegal plan pre s → carries_its_ahead s ≡ true → is_in_turn plan pre r ≡ true → is_of_core plan r ≡ true → r.core.0 ≡ s.core.0 → broken plan pre r ≡ unlike r s

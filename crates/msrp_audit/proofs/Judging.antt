@@ -61,18 +61,21 @@ machine_tick m rows c t stands h = by_place (slice_get m.machines c) refl
     by_place None e = let no : None ≡ Some t = sym (ap (option_map (λ (x : MachineModel). x.tick)) e) ∙ h in absurd (cc)
     by_place (Some x) e = same_Some t x.tick (sym h ∙ ap (option_map (λ (x : MachineModel). x.tick)) e) ∙ (stands.logs c x e).tick
 
+-- the core's turns so far tell whether a row in the tick that is due is in its turn
+pub turn_by_tick : (plan : PlanModel) (rows : List Row) (r : Row) (t : ℕ) → IsPlan plan → EachAfter (IsLegal plan) [] rows → r.tick ≡ length rows / plan.cores → r.core.0 < plan.cores → t ≡ length (log_of r.core.0 rows) → (t == r.tick) ≡ is_in_turn plan rows r
+turn_by_tick plan rows r t ok all now low turns =
+    ap (λ n. n == r.tick) turns
+    ∙ (ap (λ n. length (log_of r.core.0 rows) == n) now
+    ∙ (tick_tells plan rows r.core.0 ok all low (had_turn r.core.0 (length rows / plan.cores) rows) refl
+    ∙ (ap (λ n. not (had_turn r.core.0 n rows)) (sym now)
+    ∙ sym (ap (λ b. b && (nat_lt r.core.0 plan.cores && not (had_turn r.core.0 r.tick rows))) (eq-eqb r.tick (length rows / plan.cores) now)
+    ∙ ap (λ b. b && not (had_turn r.core.0 r.tick rows)) (lt-ltb r.core.0 plan.cores low)))))
+
 pub in_turn_is : (m : CoresModel) (plan : PlanModel) (rows : List Row) (r : Row) (fed t : ℕ) → m.plan ≡ plan → IsPlan plan → StandFor m rows → fed ≡ length rows → r.tick ≡ fed / plan.cores → r.core.0 < plan.cores
     → option_map (λ (x : MachineModel). x.tick) (slice_get m.machines r.core.0) ≡ Some t → (t == r.tick) ≡ is_in_turn plan rows r
 in_turn_is m plan rows r fed t same ok stands count tick low has =
     let start : IsRunStart plan rows = subst (λ p. IsRunStart p rows) same stands.start in
-    let now : r.tick ≡ length rows / plan.cores = tick ∙ ap (λ n. n / plan.cores) count in
-    let turns = machine_tick m rows r.core.0 t stands has in
-    ap (λ n. n == r.tick) turns
-    ∙ (ap (λ n. length (log_of r.core.0 rows) == n) now
-    ∙ (tick_tells plan rows r.core.0 ok start.each low (had_turn r.core.0 (length rows / plan.cores) rows) refl
-    ∙ (ap (λ n. not (had_turn r.core.0 n rows)) (sym now)
-    ∙ sym (ap (λ b. b && (nat_lt r.core.0 plan.cores && not (had_turn r.core.0 r.tick rows))) (eq-eqb r.tick (length rows / plan.cores) now)
-    ∙ ap (λ b. b && not (had_turn r.core.0 r.tick rows)) (lt-ltb r.core.0 plan.cores low)))))
+    turn_by_tick plan rows r t ok start.each (tick ∙ ap (λ n. n / plan.cores) count) low (machine_tick m rows r.core.0 t stands has)
 
 -- a row in its turn is of a core that is due
 pub due_after : (plan : PlanModel) (rows : List Row) (r : Row) → IsPlan plan → IsRunStart plan rows → length rows < plan.cores * plan.ticks → is_in_turn plan rows r ≡ true → IsDueAfter plan rows r.core.0

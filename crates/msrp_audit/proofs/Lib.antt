@@ -4,3 +4,10 @@ pub mod Standing
 pub mod Keeping
 pub mod Starting
 pub mod Judging
+pub mod Scanning
+pub mod Merging
+pub mod Parts
+pub mod OwnRows
+pub mod Following
+pub mod Queueing
+pub mod Turned

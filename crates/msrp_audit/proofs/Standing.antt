@@ -50,11 +50,11 @@ get_set_other (z ∷ xs) (suc i) (suc j) y ne = get_set_other xs i j y (λ e. ne
 abbrev state_by : Option JobId → Kind → JobState → JobState
 state_by job kind s = cond (is_job job s.job) (record { job = s.job; started = true; queued = is_waiting kind; done = s.done + cond (not (is_waiting kind)) 1 0 }) s
 
-state_as : (due r : Row) → IsAs due r → (log : List Row) (j : JobId) → state_after (log ++ due ∷ []) j ≡ state_after (log ++ r ∷ []) j
-state_as due r like log j =
+state_as : (due r : Row) → r.kind ≡ due.kind → r.job ≡ due.job → (log : List Row) (j : JobId) → state_after (log ++ due ∷ []) j ≡ state_after (log ++ r ∷ []) j
+state_as due r kind job log j =
     state_push log due j
-    ∙ (ap (λ k. state_by due.job k (state_after log j)) (sym like.kind)
-    ∙ (ap (λ o. state_by o r.kind (state_after log j)) (sym like.job) ∙ sym (state_push log r j)))
+    ∙ (ap (λ k. state_by due.job k (state_after log j)) (sym kind)
+    ∙ (ap (λ o. state_by o r.kind (state_after log j)) (sym job) ∙ sym (state_push log r j)))
 
 map_as : {X Y : Type 0} (f g : X → Y) → ((x : X) → f x ≡ g x) → (xs : List X) → map f xs ≡ map g xs
 map_as f g h [] = refl
@@ -63,11 +63,11 @@ map_as f g h (x ∷ xs) = ap (λ y. y ∷ map f xs) (h x) ∙ ap (λ ys. g x ∷
 phase_push : (log : List Row) (r : Row) → phase_after (log ++ r ∷ []) ≡ phase_with (phase_after log) r.kind r.res
 phase_push log r = fold_push (λ (phase : Phase) (s : Row). phase_with phase s.kind s.res) Free log r
 
-stands_as : (x : MachineModel) (due r : Row) (log : List Row) → IsAs due r → StandsAfter x (log ++ due ∷ []) → StandsAfter x (log ++ r ∷ [])
-stands_as x due r log like h = record {
+pub stands_as : (x : MachineModel) (due r : Row) (log : List Row) → r.kind ≡ due.kind → r.job ≡ due.job → r.res ≡ due.res → StandsAfter x (log ++ due ∷ []) → StandsAfter x (log ++ r ∷ [])
+stands_as x due r log kind job res h = record {
   tick = h.tick ∙ (length-append log (due ∷ []) ∙ sym (length-append log (r ∷ [])));
-  phase = h.phase ∙ (phase_push log due ∙ (ap (λ k. phase_with (phase_after log) k due.res) (sym like.kind) ∙ (ap (λ o. phase_with (phase_after log) r.kind o) (sym like.res) ∙ sym (phase_push log r))));
-  states = h.states ∙ map_as (state_after (log ++ due ∷ [])) (state_after (log ++ r ∷ [])) (state_as due r like log) (jobs_on x.plan x.core);
+  phase = h.phase ∙ (phase_push log due ∙ (ap (λ k. phase_with (phase_after log) k due.res) (sym kind) ∙ (ap (λ o. phase_with (phase_after log) r.kind o) (sym res) ∙ sym (phase_push log r))));
+  states = h.states ∙ map_as (state_after (log ++ due ∷ [])) (state_after (log ++ r ∷ [])) (state_as due r kind job log) (jobs_on x.plan x.core);
 }
 
 -- ---- one turn more
@@ -82,7 +82,7 @@ module _ (old new : CoresModel) (c : ℕ) (made r : Row) (rows : List Row) (core
   -- each machine
   own_log : (y : MachineModel) → y ≡ t.after → StandsAfter y (log_of c (rows ++ r ∷ []))
   own_log y e = subst (λ z. StandsAfter z (log_of c (rows ++ r ∷ []))) (sym e)
-      (subst (StandsAfter t.after) (sym (log_own rows r c at_core)) (stands_as t.after made r (log_of c rows) like (t.stands (log_of c rows) (stands.logs c t.before t.has))))
+      (subst (StandsAfter t.after) (sym (log_own rows r c at_core)) (stands_as t.after made r (log_of c rows) like.kind like.job like.res (t.stands (log_of c rows) (stands.logs c t.before t.has))))
 
   some_log : (d : ℕ) (y : MachineModel) → slice_get new.machines d ≡ Some y → (b : Bool) → (d == c) ≡ b → StandsAfter y (log_of d (rows ++ r ∷ []))
   some_log d y has true e =

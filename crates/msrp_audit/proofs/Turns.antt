@@ -86,7 +86,7 @@ local_passes q j queued (LockUnit g) Lock h = (refl, refl)
 local_passes q j queued (UnlockUnit g) Unlock h = (refl, refl)
 local_passes q j _ _ _ h = absurd (cc)
 
-counts_plain : (q : List JobId) (r : Row) → is_queue r.kind ≡ false → counts q r.ahead ≡ true
+pub counts_plain : (q : List JobId) (r : Row) → is_queue r.kind ≡ false → counts q r.ahead ≡ true
 counts_plain q r e = by_ahead r.ahead r.carrier
   where
     by_ahead : (o : Option ℕ) → may_carry r.kind o ≡ true → counts q o ≡ true
@@ -94,12 +94,12 @@ counts_plain q r e = by_ahead r.ahead r.carrier
     by_ahead (Some n) h = absurd (true≢false (sym h ∙ e))
 
 -- the unit of such a row is on a local resource
-local_unit : (plan : PlanModel) (op : Op) (res : ResId) → Some res ≡ res_of_unit op → is_global plan res.0 ≡ false → is_global_unit plan op ≡ false
+pub local_unit : (plan : PlanModel) (op : Op) (res : ResId) → Some res ≡ res_of_unit op → is_global plan res.0 ≡ false → is_global_unit plan op ≡ false
 local_unit plan RunUnit res e l = refl
 local_unit plan (LockUnit h) res e l = subst (λ (g : ResId). is_global plan g.0 ≡ false) (same_Some res h e) l
 local_unit plan (UnlockUnit h) res e l = subst (λ (g : ResId). is_global plan g.0 ≡ false) (same_Some res h e) l
 
-local_turn : (plan : PlanModel) (pre : List Row) (r : Row) (res : ResId) (o : Option JobId) → r.job ≡ o → IsTurn plan pre r → r.res ≡ Some res → is_global plan res.0 ≡ false → (q : List JobId) → (replies q r.job r.kind ≡ true) × (is_queue r.kind ≡ false)
+pub local_turn : (plan : PlanModel) (pre : List Row) (r : Row) (res : ResId) (o : Option JobId) → r.job ≡ o → IsTurn plan pre r → r.res ≡ Some res → is_global plan res.0 ≡ false → (q : List JobId) → (replies q r.job r.kind ≡ true) × (is_queue r.kind ≡ false)
 local_turn plan pre r res None job turn e l q = let idle = idle_res r (turn.idle job) in absurd (cc)
 local_turn plan pre r res (Some x) job turn e l q =
     let does = turn.does x job in
@@ -110,7 +110,7 @@ record Passes (pre : List Row) (r : Row) : Type 0 where
   reply : is_fifo_reply pre r ≡ true
   carries : carries_its_ahead r ≡ true
 
-both_pass : (a b : Bool) → a ≡ true → b ≡ true → (a && b) ≡ true
+pub both_pass : (a b : Bool) → a ≡ true → b ≡ true → (a && b) ≡ true
 both_pass a b h k = ap (λ c. c && b) h ∙ k
 
 module _ (old new : CoresModel) (c : ℕ) (r : Row) (rows : List Row) (cores : AreCores old) (stands : StandFor old rows) (due : IsDueAfter old.plan rows c) (t : TakesTurn old new c r) where

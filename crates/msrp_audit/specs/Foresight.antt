@@ -42,6 +42,10 @@ does_alike r due = same_res r.res due.res && same_action r.kind due.kind
 abbrev pub replied_alike : Row → Row → Bool
 replied_alike r due = same_kind r.kind due.kind && same_ahead r.ahead due.ahead
 
+-- the lower of the rules on job and action that the row breaks, where this one is the row that is due
+abbrev pub unlike_turn : Row → Row → Option Rule
+unlike_turn r due = cond (same_choice r.job due.job) (cond (does_alike r due) None (Some A4)) (Some A3)
+
 -- the lowest of the rules on job, action and reply that the row breaks, where this one is the row that is due
 abbrev pub unlike : Row → Row → Option Rule
 unlike r due = cond (same_choice r.job due.job) (cond (does_alike r due) (cond (replied_alike r due) None (Some A5)) (Some A4)) (Some A3)

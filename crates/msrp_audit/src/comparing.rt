@@ -2,7 +2,7 @@
 ghost use Rattle.std.specs.Prelude.{◌≡◌};
 ghost use Rattle.msrp_plan.specs.Runs.{same_choice};
 ghost use Rattle.msrp_plan.specs.Actions.{same_res};
-ghost use Rattle.msrp_audit.specs.Foresight.{same_action, same_kind, same_ahead, does_alike, replied_alike, unlike};
+ghost use Rattle.msrp_audit.specs.Foresight.{same_action, same_kind, same_ahead, does_alike, replied_alike, unlike, unlike_turn};
 
 use msrp_plan::{Kind, Row, Rule};
 
@@ -29,17 +29,26 @@ fn replied_as(row: Row, due: Row) -> bool
     row.kind == due.kind && (row.ahead.is_none() || row.ahead == due.ahead)
 }
 
-// The lowest of the rules on job, action and reply that the row breaks, where the other is the row that is due.
-pub fn unlike_due(row: Row, due: Row) -> Option<Rule>
-    ensures { result ≡ unlike row due }
+// The lower of the rules on job and action that the row breaks, where the other is the row that is due.
+pub fn unlike_turn(row: Row, due: Row) -> Option<Rule>
+    ensures { result ≡ unlike_turn row due }
 {
     if row.job != due.job {
         Some(Rule::A3)
     } else if !does_as(row, due) {
         Some(Rule::A4)
-    } else if !replied_as(row, due) {
-        Some(Rule::A5)
     } else {
         None
+    }
+}
+
+// The lowest of the rules on job, action and reply that the row breaks, where the other is the row that is due.
+pub fn unlike_due(row: Row, due: Row) -> Option<Rule>
+    ensures { result ≡ unlike row due }
+{
+    match unlike_turn(row, due) {
+        Some(rule) => Some(rule),
+        None if replied_as(row, due) => None,
+        None => Some(Rule::A5),
     }
 }

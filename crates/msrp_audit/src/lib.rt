@@ -2,11 +2,18 @@
 #![tactic(auto)]
 
 mod auditor;
+mod blocks;
 mod comparing;
 mod cores;
+mod followed;
+mod parallel;
+mod pieces;
+mod queues;
+mod replies;
 #[cfg(test)]
 mod tests;
 mod verdicts;
 
 pub use auditor::Auditor;
+pub use parallel::audit_parallel;
 pub use verdicts::audit;

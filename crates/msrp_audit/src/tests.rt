@@ -4,15 +4,17 @@ ghost use Rattle.msrp_plan.specs.Shape.{has_shape};
 ghost use Rattle.msrp_plan.specs.declared.ids.JobId.{JobId as Job};
 ghost use Rattle.msrp_plan.specs.declared.ids.ResId.{ResId as Resource};
 
-use crate::{Auditor, audit};
+use crate::{Auditor, audit, audit_parallel};
 use msrp_levels::Levels;
 use msrp_plan::{
     CoreId, Fault, JobId, Kind, Memory, Plan, PlanBuilder, PlanFault, ResId, Row, Rule, Step,
     TaskId, Trace,
 };
+use msrp_sim::{Order, simulate};
 use std::alloc::Global;
 use std::process::Abort;
 use std::test::*;
+use std::thread::Threads;
 
 const G: ResId = ResId(0);
 
@@ -101,8 +103,9 @@ fn handover() -> [Row; 12] {
     ]
 }
 
-fn expect_audit(
-    rt: &impl Abort,
+// Both auditors answer so.
+fn expect_audit<R: Abort + Threads + Sync>(
+    rt: &R,
     alloc: Global,
     plan: &Plan,
     rows: &[Row],
@@ -115,6 +118,8 @@ fn expect_audit(
         trace.rows.push(*row)?;
     }
     let answer: Result<Result<(), Fault>, Memory> = audit(alloc, plan, &trace);
+    assert_eq!(rt; answer, Ok(expected));
+    let answer: Result<Result<(), Fault>, Memory> = audit_parallel(rt, alloc, plan, &trace);
     assert_eq!(rt; answer, Ok(expected));
     Ok(())
 }
@@ -157,6 +162,48 @@ fn each_rule_is_told(rt: HostRuntime) -> Result<(), Fail> {
         expect_audit(&rt, rt.alloc(), &plan, &rows, Err(fault))?;
     }
     Ok(())
+}
+
+#[test]
+fn the_earliest_row_and_its_lowest_rule_count(rt: HostRuntime) -> Result<(), Fail> {
+    let plan = plan(rt.alloc())?;
+    let mut rows = handover();
+    rows[5] = on(2, 1, Kind::Spin, 1);
+    for (row, rule) in [(idle(1, 0), Rule::A3), (on(1, 0, Kind::Spin, 1), Rule::A2)] {
+        rows[2] = row;
+        expect_audit(&rt, rt.alloc(), &plan, &rows, Err(Fault { row: 3, rule }))?;
+    }
+    Ok(())
+}
+
+// A task on each of eight cores, which want one resource.
+fn crowd(alloc: Global) -> Result<Plan, PlanFault> {
+    let mut builder = PlanBuilder::new(alloc, 8, 3_000)?;
+    builder.resource("g")?;
+    for (core, name) in ["a", "b", "c", "d", "e", "f", "g", "h"].iter().enumerate() {
+        add_task(&mut builder, name, core as u32)?;
+    }
+    match builder.finish() {
+        Ok(plan) => Ok(plan),
+        Err((_, fault)) => Err(fault),
+    }
+}
+
+#[test]
+fn many_cores_are_judged_alike(rt: HostRuntime) -> Result<(), Fail> {
+    let plan = crowd(rt.alloc())?;
+    let Ok(mut trace) = simulate(rt.alloc(), &plan, &Order::Rot) else {
+        return Err(Fail::from("memory"));
+    };
+    assert_eq!(&rt; trace.rows.len(), 24_000);
+    expect_audit(&rt, rt.alloc(), &plan, &trace.rows, Ok(()))?;
+    let late = idle(2_000, 9);
+    trace.rows[16_003] = late;
+    let fault = Fault {
+        row: 16_004,
+        rule: Rule::A1,
+    };
+    expect_audit(&rt, rt.alloc(), &plan, &trace.rows, Err(fault))
 }
 
 #[test]

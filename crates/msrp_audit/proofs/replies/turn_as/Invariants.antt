@@ -1,0 +1,5 @@
+use Rattle.msrp_audit.specs.Inside.Replies.{call_before, is_yes}
+use Rattle.msrp_audit.proofs.replies.turn_as.Given as goal
+
+abbrev pub ghosts-turn_over : goal.ghosts-turn_over
+ghosts-turn_over a = record { before = call_before a.machine.now.core a.machine.now.phase; yes = is_yes a.row.kind }

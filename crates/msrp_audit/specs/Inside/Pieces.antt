@@ -1,0 +1,103 @@
+-- The pieces of an audit: which rule each of them finds broken at a row, and which fault it answers.
+use Rattle.std.specs.Prelude.{ℕ, List, [], ◌∷◌, ◌++◌, Bool, ◌==◌, ◌&&◌, nat_lt, nat_le, Option, Some, None, IfSome, cond, fold, length, ◌≡◌, ◌≤◌, ◌+◌, ◌-◌, ◌*◌, ◌/◌}
+use Rattle.msrp_plan.specs.Plan.{PlanModel}
+use Rattle.msrp_plan.specs.Levels.{is_global}
+use Rattle.msrp_plan.specs.Logs.{is_of}
+use Rattle.msrp_plan.specs.Queues.{is_on}
+use Rattle.msrp_plan.specs.Runs.{IsRunStart, is_in_turn, is_of_core, is_chosen, is_next_action, is_fifo_reply}
+use Rattle.msrp_plan.specs.declared.faults.Fault.{Fault}
+use Rattle.msrp_plan.specs.declared.faults.Rule.{Rule}
+use Rattle.msrp_plan.specs.declared.faults.Rule.TheVariants.{A1, A2, A3, A4, A5, A6, A7}
+use Rattle.msrp_plan.specs.declared.rows.Row.{Row}
+use Rattle.msrp_audit.specs.declared.pieces.Piece.{Piece}
+use Rattle.msrp_audit.specs.declared.pieces.Piece.TheVariants.{Turns, Core, Resource}
+
+-- ---- the list of the pieces
+-- the rows of so many ticks are one piece
+abbrev pub ticks_a_piece : ℕ
+ticks_a_piece = 1250
+
+-- how many parts the ticks have, of which the last may be empty
+abbrev pub parts : PlanModel → ℕ
+parts plan = plan.ticks / ticks_a_piece + 1
+
+-- a piece for each core, each part of the ticks, and each resource
+abbrev pub pieces_of : PlanModel → ℕ
+pieces_of plan = plan.cores + parts plan + length plan.resources
+
+abbrev pub piece_with : PlanModel → ℕ → Piece
+piece_with plan n =
+    cond (nat_lt n plan.cores) (Core (record { 0 = n })) (
+    cond (nat_lt (n - plan.cores) (parts plan)) (Turns (n - plan.cores)) (
+    Resource (record { 0 = n - plan.cores - parts plan })))
+
+-- ---- what a piece finds of a row
+-- the rows of a part of the ticks, where each core has its turn in each tick
+abbrev pub part_size : PlanModel → ℕ
+part_size plan = plan.cores * ticks_a_piece
+
+abbrev pub is_in_part : PlanModel → ℕ → ℕ → Bool
+is_in_part plan part n = nat_le (part * part_size plan) n && nat_lt n (part * part_size plan + part_size plan)
+
+-- A1, of the rows of a part of the ticks
+abbrev pub broken_turn : PlanModel → ℕ → List Row → Row → Option Rule
+broken_turn plan part pre r = cond (is_in_part plan part (length pre)) (cond (is_in_turn plan pre r) None (Some A1)) None
+
+-- the lowest of A2 to A4
+abbrev pub broken_action : PlanModel → List Row → Row → Option Rule
+broken_action plan pre r =
+    cond (is_of_core plan r) (
+    cond (is_chosen plan pre r) (
+    cond (is_next_action plan pre r) None (Some A4)) (Some A3)) (Some A2)
+
+-- of the rows of a core that are in their turn
+abbrev pub broken_on_core : PlanModel → ℕ → List Row → Row → Option Rule
+broken_on_core plan c pre r = cond (is_of c r && is_in_turn plan pre r) (broken_action plan pre r) None
+
+-- A5, of the rows on a global resource
+abbrev pub broken_reply : PlanModel → ℕ → List Row → Row → Option Rule
+broken_reply plan g pre r = cond (is_global plan g && is_on g r.res) (cond (is_fifo_reply pre r) None (Some A5)) None
+
+abbrev pub broken_in : PlanModel → Piece → List Row → Row → Option Rule
+broken_in plan (Turns part) pre r = broken_turn plan part pre r
+broken_in plan (Core c) pre r = broken_on_core plan c.0 pre r
+broken_in plan (Resource g) pre r = broken_reply plan g.0 pre r
+
+-- ---- what a piece answers
+-- the rule that the fault, if there is one, names at this row
+abbrev pub told_at : ℕ → Option Fault → Option Rule
+told_at n None = None
+told_at n (Some f) = cond (f.row == n) (Some f.rule) None
+
+-- wherever the rows before are the start of a legal run, the answer names the rule that the test finds broken at the
+-- next row, or no rule where it finds none
+pub record TellsFirst (plan : PlanModel) (test : List Row → Row → Option Rule) (rows : List Row) (answer : Option Fault) : Type 0 where
+  pub told : (pre : List Row) (r : Row) (post : List Row) → rows ≡ pre ++ r ∷ post → IsRunStart plan pre → told_at (length pre + 1) answer ≡ test pre r
+  pub row : IfSome answer (λ f. (1 ≤ f.row) × (f.row ≤ length rows))
+
+-- ---- the first of the answers
+abbrev pub rule_number : Rule → ℕ
+rule_number A1 = 1
+rule_number A2 = 2
+rule_number A3 = 3
+rule_number A4 = 4
+rule_number A5 = 5
+rule_number A6 = 6
+rule_number A7 = 7
+
+-- faults in order: by row, and in a row by rule
+abbrev pub fault_order : Fault → ℕ
+fault_order f = f.row * 8 + rule_number f.rule
+
+-- the earlier of two faults, of which one may be missing
+abbrev pub earlier_of : Option Fault → Option Fault → Option Fault
+earlier_of (Some f) (Some g) = cond (nat_lt (fault_order g) (fault_order f)) (Some g) (Some f)
+earlier_of (Some f) None = Some f
+earlier_of None o = o
+
+abbrev pub earliest_of : List (Option Fault) → Option Fault
+earliest_of faults = fold earlier_of None faults
+
+-- the fault of a length, where so many rows are due: a row is missing, or there is one too many
+abbrev pub length_fault_of : ℕ → ℕ → Option Fault
+length_fault_of due rows = cond (nat_lt rows due) (Some (record { row = rows + 1; rule = A6 })) (cond (nat_lt due rows) (Some (record { row = due + 1; rule = A7 })) None)

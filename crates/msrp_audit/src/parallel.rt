@@ -1,0 +1,125 @@
+//! The verdict on a whole trace, by pieces.
+ghost use Rattle.std.specs.Prelude.{◌≡◌, ◌≤◌, ◌<◌, ◌*◌, ◌+◌, nat_lt, IfOk, length, take};
+ghost use Rattle.msrp_plan.specs.Verdict.{fault_in, verdict};
+ghost use Rattle.msrp_audit.specs.Audits.{answer_of};
+ghost use Rattle.msrp_audit.specs.Inside.Pieces.{broken_in, earlier_of, earliest_of, fault_order, length_fault_of, piece_with, pieces_of, rule_number, TellsFirst};
+
+use crate::pieces::{judge, pieces};
+use msrp_levels::Levels;
+use msrp_plan::{Fault, Memory, Plan, Row, Rule, Trace};
+use rayon::prelude::*;
+use std::alloc::Global;
+use std::thread::Threads;
+
+fn rule_number(rule: Rule) -> u32
+    ensures { result ≡ rule_number rule }
+{
+    match rule {
+        Rule::A1 => 1,
+        Rule::A2 => 2,
+        Rule::A3 => 3,
+        Rule::A4 => 4,
+        Rule::A5 => 5,
+        Rule::A6 => 6,
+        Rule::A7 => 7,
+    }
+}
+
+// Whether the fault stands before the other: in an earlier row, or in the same row with a lower rule.
+fn comes_before(fault: Fault, other: Fault) -> bool
+    ensures { result ≡ nat_lt (fault_order fault) (fault_order other) }
+{
+    fault.row < other.row
+        || fault.row == other.row && rule_number(fault.rule) < rule_number(other.rule)
+}
+
+// The earlier of two faults, of which one may be missing.
+fn earlier(first: Option<Fault>, other: Option<Fault>) -> Option<Fault>
+    ensures { result ≡ earlier_of first other }
+{
+    match (first, other) {
+        (Some(fault), Some(next)) if !comes_before(next, fault) => first,
+        (Some(_), None) => first,
+        _ => other,
+    }
+}
+
+// The earliest of the faults.
+fn earliest(faults: &[Option<Fault>]) -> Option<Fault>
+    ensures { result ≡ earliest_of faults.now }
+{
+    let mut first = None;
+    for fault in faults {
+        first = earlier(first, *fault);
+    }
+    first
+}
+
+// The first fault of rows that are not more than the plan has turns: each piece tells its own, and the earliest counts.
+fn first_fault(
+    rt: &(impl Threads + Sync),
+    alloc: Global,
+    plan: &Plan,
+    levels: &Levels,
+    rows: &[Row],
+) -> Result<Option<Fault>, Memory>
+    requires levels { levels.now ≡ plan.now }
+    requires rows { length rows.now ≤ plan.now.cores * plan.now.ticks }
+    ensures { IfOk result (λ fault. fault ≡ fault_in plan.now rows.now) }
+{
+    let faults = (0..pieces(plan))
+        .into_par_iter()
+        .with_min_len(1)
+        .map(
+            |number: u32| -> Result<Option<Fault>, Memory>
+                requires { (number < pieces_of plan.now) × (levels.now ≡ plan.now) × (length rows.now ≤ plan.now.cores * plan.now.ticks) }
+                ensures { IfOk result (TellsFirst plan.entry.now (broken_in plan.entry.now (piece_with plan.entry.now number)) rows.entry.now) }
+            { judge(alloc, plan, levels, rows, number) },
+        )
+        .collect::<Result<Vec<Option<Fault>>, Memory>>(rt, alloc);
+    match faults {
+        Ok(Ok(found)) => Ok(earliest(&found)),
+        _ => Err(Memory),
+    }
+}
+
+// The fault of the length, where no row that is due has one: a row is missing, or there is one too many.
+fn length_fault(due: u32, rows: usize) -> Result<(), Fault>
+    requires { due ≤ 160000 }
+    ensures { result ≡ answer_of (length_fault_of due rows) }
+{
+    if rows < due as usize {
+        return Err(Fault {
+            row: rows as u32 + 1,
+            rule: Rule::A6,
+        });
+    }
+    if rows > due as usize {
+        return Err(Fault {
+            row: due + 1,
+            rule: Rule::A7,
+        });
+    }
+    Ok(())
+}
+
+/// The verdict on a trace, as [`audit`](crate::audit) gives it. The turns of the ticks, the rows of each core and the rows
+/// on each global resource are pieces of one list, which `rayon` shares among threads. It is [`Memory`] only where memory
+/// was refused.
+pub fn audit_parallel(
+    rt: &(impl Threads + Sync),
+    alloc: Global,
+    plan: &Plan,
+    trace: &Trace,
+) -> Result<Result<(), Fault>, Memory>
+    ensures { IfOk result (λ answer. answer ≡ answer_of (verdict plan.now trace.now.rows.items)) }
+{
+    let levels = Levels::of(alloc, plan)?;
+    let due = plan.cores() * plan.ticks();
+    let rows = trace.rows.len();
+    let judged = &trace.rows[..rows.min(due as usize)];
+    match first_fault(rt, alloc, plan, &levels, judged)? {
+        Some(fault) => Ok(Err(fault)),
+        None => Ok(length_fault(due, rows)),
+    }
+}
