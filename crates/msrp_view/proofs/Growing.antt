@@ -1,0 +1,46 @@
+-- Lists that grow part by part.
+use Rattle.std.proofs.Common.{◌≡◌, ℕ, ◌+◌, Bool, true, false, cond, List, [], ◌∷◌, ◌++◌, Result, Ok, Err, OnOk, refl, ap, sym, ◌∙◌, append_assoc, append-nil, arith, map, ◌-◌, ◌≤◌}
+use Rattle.std.specs.Prelude.{⊤}
+use Rattle.std.specs.List.{filter, flat_map, range_with_len}
+use Rattle.std.proofs.lemmas.Grind.{flat_map-append}
+use Rattle.std.proofs.lemmas.List.Elements.{filter-append}
+use Rattle.std.proofs.lemmas.List.FromFn.{map-range_with_len_more}
+use Rattle.msrp_plan.proofs.Lists.Ranges.{flat_more, range_more}
+
+-- by one part, and then by another
+pub grows : {X : Type 0} (a b c x y : List X) → b ≡ a ++ x → c ≡ b ++ y → c ≡ a ++ (x ++ y)
+grows a b c x y e f = f ∙ (ap (λ t. t ++ y) e ∙ append_assoc a x y)
+
+-- the same, where the last part may fail
+pub grows-last : {X E : Type 0} (r : Result ⊤ E) (a b c x y : List X) → b ≡ a ++ x → OnOk r (c ≡ b ++ y) → OnOk r (c ≡ a ++ (x ++ y))
+grows-last (Ok done) a b c x y e f = grows a b c x y e f
+grows-last (Err error) a b c x y e f = f
+
+-- by the part of one number more
+pub grows-each : {X : Type 0} (f : ℕ → List X) (n : ℕ) (a b c : List X) → b ≡ a ++ flat_map f (range_with_len 0 n) → c ≡ b ++ f n → c ≡ a ++ flat_map f (range_with_len 0 (n + 1))
+grows-each f n a b c e h = grows a b c _ _ e h ∙ ap (λ t. a ++ t) (sym (flat_more f n))
+
+-- by the part of one number more, if that passes a test
+nothing-plus : (n : ℕ) → 0 + n ≡ n
+nothing-plus n = omega arith
+
+chosen : {X : Type 0} (f : ℕ → List X) (n : ℕ) (b : Bool) → flat_map f (cond b (n ∷ []) []) ≡ cond b (f n) []
+chosen f n true = append-nil (f n)
+chosen f n false = refl
+
+pub grows-some : {X : Type 0} (p : ℕ → Bool) (f : ℕ → List X) (n : ℕ) (a b c : List X) → b ≡ a ++ flat_map f (filter p (range_with_len 0 n)) → c ≡ b ++ cond (p n) (f n) []
+    → c ≡ a ++ flat_map f (filter p (range_with_len 0 (n + 1)))
+grows-some p f n a b c e h =
+    let more = ap (filter p) (range_more 0 n ∙ ap (λ k. range_with_len 0 n ++ k ∷ []) (nothing-plus n)) ∙ filter-append p (range_with_len 0 n) (n ∷ []) in
+    let whole = ap (flat_map f) more ∙ (flat_map-append f (filter p (range_with_len 0 n)) (cond (p n) (n ∷ []) []) ∙ ap (λ t. flat_map f (filter p (range_with_len 0 n)) ++ t) (chosen f n (p n))) in
+    grows a b c _ _ e h ∙ ap (λ t. a ++ t) (sym whole)
+
+-- by the image of one number more
+one-more : (a t : ℕ) → a ≤ t → t + 1 - a ≡ (t - a) + 1
+one-more a t l = omega arith
+
+place : (a t : ℕ) → a ≤ t → a + (t - a) ≡ t
+place a t l = omega arith
+
+pub grows-map : {X : Type 0} (f : ℕ → X) (a t : ℕ) (b c : List X) → a ≤ t → b ≡ map f (range_with_len a (t - a)) → c ≡ b ++ f t ∷ [] → c ≡ map f (range_with_len a (t + 1 - a))
+grows-map f a t b c l e h = h ∙ (ap (λ xs. xs ++ f t ∷ []) e ∙ (sym (map-range_with_len_more f a (t - a) t (place a t l)) ∙ ap (λ n. map f (range_with_len a n)) (sym (one-more a t l))))

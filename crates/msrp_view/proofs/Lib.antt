@@ -1,0 +1,4 @@
+pub mod Growing
+pub mod ReadThrough
+pub mod Taking
+pub mod Drawing

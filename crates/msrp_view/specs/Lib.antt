@@ -1,0 +1,9 @@
+pub mod Outcomes
+pub mod Inputs
+pub mod Windows
+pub mod Cells
+pub mod Shown
+pub mod Lines
+pub mod Picture
+pub mod Views
+pub mod Inside

@@ -1,0 +1,277 @@
+//! Bytes in, bytes out: a picture of a legal run, of a faulty trace and of a window, and readers and writers that fail.
+
+use crate::cli::{Cmd, command_of};
+use crate::engine::view_text;
+use crate::faults::{ViewFault, exit_of};
+use crate::windows::Asked;
+use msrp_plan::bytes::{Sink, Source};
+use std::alloc::{AllocError, Global};
+use std::io;
+use std::io::{ErrorKind, Read, Write};
+use std::process::Abort;
+use std::test::Fail;
+
+// Two cores and a global resource, handed over within a tick.
+const PLAN: &[u8] =
+    b"msrp,1\ncores,2\nticks,6\nresource,g\ntask,a,0,20,8,0\nop,lock,g\nop,run,1\nop,unlock,g\ntask,b,1,20,8,0\nop,lock,g\nop,run,1\nop,unlock,g\n";
+
+const TRACE: &[u8] =
+    b"msrp-trace,1,2,6\n0,0,take,a,0,g\n0,1,queue,b,0,g\n1,0,run,a,0,-\n1,1,spin,b,0,g\n2,0,release,a,0,g\n2,1,grant,b,0,g\n3,0,idle,-,-,-\n3,1,run,b,0,-\n4,0,idle,-,-,-\n4,1,release,b,0,g\n5,0,idle,-,-,-\n5,1,idle,-,-,-\n";
+
+// The same, where core 1 is granted the resource in tick 1 already.
+const FAULTY: &[u8] =
+    b"msrp-trace,1,2,6\n0,0,take,a,0,g\n0,1,queue,b,0,g\n1,0,run,a,0,-\n1,1,grant,b,0,g\n2,0,release,a,0,g\n";
+
+const LEGEND: &str = "\na: a on core 0\nb: b on core 1\n= works  ( locks  ) unlocks  [ is granted  ] releases  ? joins a queue  ~ spins  ! breaks a rule\nof a resource: the first in its queue after the tick, and how many wait behind it\n";
+
+const WHOLE: &str = "good\nticks 0 to 5 of 6\n\ntick              0----+\ncore 0            aaa...\n                  [=]...\ncore 1            bbbbb.\n                  ?~[=].\ng                 aabb..\n  waiting         11....\n";
+
+const BROKEN: &str = "fault,4,A5\nticks 0 to 5 of 6\n\ntick              0----+\ncore 0            aa\n                  [=\ncore 1            bb\n                  ?!\ng                 aa\n  waiting         11\n";
+
+const LATER: &str = "good\nticks 2 to 4 of 6\n\ntick              ---\ncore 0            a..\n                  ]..\ncore 1            bbb\n                  [=]\ng                 bb.\n  waiting         ...\n";
+
+const ALL: Asked = Asked {
+    from: None,
+    to: None,
+};
+
+// The answer to a plan and a trace, with what was written.
+fn answer_from<T: Read + Drop>(alloc: Global, trace: T, asked: Asked) -> (Result<u8, ViewFault>, Vec<u8>) {
+    let mut written = Vec::new(alloc);
+    let mut plan = Source::new(PLAN);
+    let mut trace = Source::new(trace);
+    let mut out = Sink::new(&mut written);
+    let answer = view_text(alloc, &mut plan, &mut trace, &mut out, asked);
+    (answer, written)
+}
+
+// Expects that picture of a trace, with its status.
+fn expect_picture(rt: &impl Abort, alloc: Global, trace: &[u8], asked: Asked, status: u8, lines: &str) {
+    let (answer, written) = answer_from(alloc, trace, asked);
+    assert!(rt; answer == Ok(status), "{lines}");
+    assert!(rt; written.as_slice().starts_with(lines.as_bytes()), "{lines}");
+    assert!(rt; written.as_slice().ends_with(LEGEND.as_bytes()), "{lines}");
+    assert_eq!(rt; written.len(), lines.len() + LEGEND.len());
+}
+
+#[test]
+fn pictures(rt: HostRuntime) {
+    let later = Asked {
+        from: Some(2),
+        to: Some(5),
+    };
+    expect_picture(&rt, rt.alloc(), TRACE, ALL, 0, WHOLE);
+    expect_picture(&rt, rt.alloc(), FAULTY, ALL, 1, BROKEN);
+    expect_picture(&rt, rt.alloc(), TRACE, later, 0, LATER);
+}
+
+#[test]
+fn ticks_that_are_not_there(rt: HostRuntime) {
+    for (from, to) in [(0, 0), (3, 3), (4, 3), (0, 7), (6, 6), (6, 7)] {
+        let asked = Asked {
+            from: Some(from),
+            to: Some(to),
+        };
+        let (answer, written) = answer_from(rt.alloc(), TRACE, asked);
+        assert!(rt; answer == Err(ViewFault::Usage), "{from} {to}");
+        assert!(rt; written.is_empty(), "{from} {to}");
+    }
+}
+
+#[test]
+fn a_refused_trace_is_not_drawn(rt: HostRuntime) {
+    let table: [(&[u8], u32, u32); 3] = [
+        (b"", 1, 1),
+        (b"msrp-trace,1,2,6\n0,0,take,a,0,g\n0,1,queue,x,0,g\n", 5, 3),
+        (b"msrp-trace,1,2,6\n5,0,idle,-,-,-\n0,1\n", 2, 3),
+    ];
+    for (trace, code, number) in table {
+        let (answer, written) = answer_from(rt.alloc(), trace, ALL);
+        assert!(rt; answer == Err(ViewFault::Trace { code, number }), "R{code}");
+        assert!(rt; written.is_empty(), "R{code}");
+    }
+}
+
+// Gives its text a byte a call, and fails at one call.
+#[derive(Drop)]
+struct Halting {
+    given: usize,
+    calls: u32,
+    fails_at: u32,
+}
+
+impl Read for Halting {
+    fn read(&mut self, buf: &mut [u8]) -> io::Result<usize> {
+        self.calls = self.calls.saturating_add(1);
+        if self.calls == self.fails_at {
+            return Err(io::Error::from(ErrorKind::Interrupted));
+        }
+        match (TRACE.get(self.given), buf.first_mut()) {
+            (Some(byte), Some(place)) => {
+                *place = *byte;
+                self.given = self.given.saturating_add(1);
+                Ok(1)
+            }
+            _ => Ok(0),
+        }
+    }
+}
+
+// Each byte is one call, and the end is one more.
+#[test]
+fn each_read_fails_in_turn(rt: HostRuntime) {
+    for call in 1..=TRACE.len() as u32 + 1 {
+        let trace = Halting {
+            given: 0,
+            calls: 0,
+            fails_at: call,
+        };
+        let (answer, written) = answer_from(rt.alloc(), trace, ALL);
+        assert!(rt; answer == Err(ViewFault::Read), "call {call}");
+        assert!(rt; written.is_empty(), "call {call}");
+    }
+}
+
+// Takes so many bytes, and then fails.
+#[derive(Drop)]
+struct Narrow {
+    taken: Vec<u8>,
+    room: usize,
+}
+
+impl Write for Narrow {
+    fn write(&mut self, buf: &[u8]) -> io::Result<usize> {
+        let count = buf.len().min(self.room.saturating_sub(self.taken.len()));
+        if count == 0 {
+            return Err(io::Error::from(ErrorKind::Interrupted));
+        }
+        self.taken.extend_from_slice(&buf[..count])?;
+        Ok(count)
+    }
+
+    fn flush(&mut self) -> io::Result<()> {
+        Ok(())
+    }
+}
+
+#[test]
+fn each_write_fails_in_turn(rt: HostRuntime) {
+    let (_, picture) = answer_from(rt.alloc(), TRACE, ALL);
+    for room in 0..=picture.len() {
+        let mut narrow = Narrow {
+            taken: Vec::new(rt.alloc()),
+            room,
+        };
+        let mut plan = Source::new(PLAN);
+        let mut trace = Source::new(TRACE);
+        let mut out = Sink::new(&mut narrow);
+        let answer = view_text(rt.alloc(), &mut plan, &mut trace, &mut out, ALL);
+        let due = if room == picture.len() {
+            Ok(0)
+        } else {
+            Err(ViewFault::Write)
+        };
+        assert!(rt; answer == due, "room {room}");
+        assert!(rt; picture.as_slice().starts_with(narrow.taken.as_slice()), "room {room}");
+        assert_eq!(rt; narrow.taken.len(), room);
+    }
+}
+
+#[test]
+fn lines_and_statuses(rt: HostRuntime) -> Result<(), Fail> {
+    let table = [
+        (
+            ViewFault::Plan { code: 7, number: 3 },
+            "plan: P7 at record 3",
+            2,
+        ),
+        (
+            ViewFault::Trace {
+                code: 2,
+                number: 13,
+            },
+            "trace: R2 at record 13",
+            2,
+        ),
+        (ViewFault::Usage, "usage", 3),
+        (ViewFault::Memory, "memory", 4),
+        (ViewFault::Read, "read fault", 5),
+        (ViewFault::Write, "write fault", 5),
+    ];
+    for (fault, line, status) in table {
+        let text = format!(in rt.alloc(); "{fault}")?;
+        assert!(rt; text.as_str() == line);
+        assert!(rt; exit_of(&Err(fault)) == status);
+    }
+    assert!(rt; exit_of(&Ok(1)) == 1);
+    Ok(())
+}
+
+// The command of these words, after the program's name.
+fn words_of(alloc: Global, words: &[&str]) -> Result<Vec<String>, AllocError> {
+    let mut all = Vec::new(alloc);
+    all.push(String::from_str(alloc, "msrp_view")?)?;
+    for word in words {
+        all.push(String::from_str(alloc, word)?)?;
+    }
+    Ok(all)
+}
+
+// A picture of all ticks of these.
+fn view<'a>(plan: &'a str, trace: &'a str) -> Cmd<'a> {
+    Cmd::View {
+        asked: ALL,
+        plan,
+        trace,
+    }
+}
+
+#[test]
+fn commands(rt: HostRuntime) -> Result<(), Fail> {
+    let asked = Asked {
+        from: Some(3),
+        to: Some(20),
+    };
+    let table: [(&[&str], Cmd<'_>); 7] = [
+        (&["p", "t"], view("p", "t")),
+        (&["--text", "p", "t"], view("p", "t")),
+        (&["-", "t"], view("-", "t")),
+        (&["p", "-"], view("p", "-")),
+        (
+            &["--from", "3", "p", "--to=20", "t"],
+            Cmd::View {
+                asked,
+                plan: "p",
+                trace: "t",
+            },
+        ),
+        (&["-h"], Cmd::Help),
+        (&["--help"], Cmd::Help),
+    ];
+    for (words, due) in table {
+        let words = words_of(rt.alloc(), words)?;
+        assert!(rt; command_of(rt.alloc(), words.as_slice()) == Ok(due));
+    }
+    Ok(())
+}
+
+#[test]
+fn no_commands(rt: HostRuntime) -> Result<(), Fail> {
+    let table: [&[&str]; 10] = [
+        &[],
+        &["p"],
+        &["p", "t", "x"],
+        &["-", "-"],
+        &["--from", "p", "t"],
+        &["--from", "-1", "p", "t"],
+        &["--from", "+1", "p", "t"],
+        &["--to", "4294967296", "p", "t"],
+        &["--from", "1", "--from", "1", "p", "t"],
+        &["--parallel", "p", "t"],
+    ];
+    for words in table {
+        let words = words_of(rt.alloc(), words)?;
+        assert!(rt; command_of(rt.alloc(), words.as_slice()) == Err(ViewFault::Usage));
+    }
+    Ok(())
+}
