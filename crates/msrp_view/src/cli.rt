@@ -50,9 +50,15 @@ fn grammar<'a>(alloc: Global) -> Result<Command<'a>, AllocError> {
         .action(ArgAction::SetTrue)
         .help("draws in plain text, as without it");
     Command::new(alloc, "msrp_view")
-        .about("draws a trace of a plan: what each core does in each tick, and who stands in the queue of each global resource")
+        .about(
+            "draws a trace of a plan: what each core does in each tick, and who stands in the queue of each global resource",
+        )
         .arg(text)?
-        .arg(tick(alloc, FROM, "the first tick that is drawn; 0 where none is given"))?
+        .arg(tick(
+            alloc,
+            FROM,
+            "the first tick that is drawn; 0 where none is given",
+        ))?
         .arg(tick(
             alloc,
             TO,

@@ -16,8 +16,8 @@ use crate::picture::picture;
 use crate::reading::read_rows;
 use crate::windows::{Asked, Window, window_of};
 use msrp_audit::audit;
-use msrp_plan::{Fault, Plan, Trace};
 use msrp_plan::bytes::{Sink, Source};
+use msrp_plan::{Fault, Plan, Trace};
 use msrp_text::read_plan;
 use std::alloc::Global;
 use std::io::{Read, Write};
@@ -100,7 +100,11 @@ fn draw_rows<W: Write>(
 }
 
 // Writes a picture of rows with that verdict, and answers its status.
-fn write_picture<W: Write>(out: &mut Sink<W>, text: &[u8], found: Result<(), Fault>) -> Result<u8, ViewFault>
+fn write_picture<W: Write>(
+    out: &mut Sink<W>,
+    text: &[u8],
+    found: Result<(), Fault>,
+) -> Result<u8, ViewFault>
     ensures wrote { Wrote W.contents out.old out.new text.now }
     ensures status { result ≡ picture_status found out.new }
     ensures good { IfOk result (λ status. ((status ≡ 0) ⊎ (status ≡ 1)) × (sink_failed out.new ≡ false)) }

@@ -34,11 +34,7 @@ pub(crate) struct Drawn {
 }
 
 /// The lines of a picture of a run of the plan: the axis, the cores and the global resources.
-pub(crate) fn lines_of(
-    alloc: Global,
-    plan: &Plan,
-    levels: &Levels<'_>,
-) -> Result<Vec<Line>, Memory>
+pub(crate) fn lines_of(alloc: Global, plan: &Plan, levels: &Levels<'_>) -> Result<Vec<Line>, Memory>
     requires { levels.now ≡ plan.now }
     ensures { IfOk result (λ lines. lines.items ≡ lines_of plan.now) }
 {
@@ -54,8 +50,12 @@ fn push_cores(lines: &mut Vec<Line>, plan: &Plan) -> Result<(), Memory>
     ensures { OnOk result (lines.new.items ≡ lines.old.items ++ flat_map core_lines (range_with_len 0 plan.now.cores)) }
 {
     for core in 0..plan.cores() {
-        lines.push(Line::Core(CoreId(core), Aspect::Who)).map_err(|_| Memory)?;
-        lines.push(Line::Core(CoreId(core), Aspect::What)).map_err(|_| Memory)?;
+        lines
+            .push(Line::Core(CoreId(core), Aspect::Who))
+            .map_err(|_| Memory)?;
+        lines
+            .push(Line::Core(CoreId(core), Aspect::What))
+            .map_err(|_| Memory)?;
     }
     Ok(())
 }
@@ -67,8 +67,12 @@ fn push_queues(lines: &mut Vec<Line>, plan: &Plan, levels: &Levels<'_>) -> Resul
 {
     for res in 0..plan.resources() {
         if levels.is_global(ResId(res)) {
-            lines.push(Line::Queue(ResId(res), Aspect::Who)).map_err(|_| Memory)?;
-            lines.push(Line::Queue(ResId(res), Aspect::What)).map_err(|_| Memory)?;
+            lines
+                .push(Line::Queue(ResId(res), Aspect::Who))
+                .map_err(|_| Memory)?;
+            lines
+                .push(Line::Queue(ResId(res), Aspect::What))
+                .map_err(|_| Memory)?;
         }
     }
     Ok(())

@@ -112,7 +112,9 @@ pub(crate) fn queue_cells(
     let end = (window.to as usize).min(begun(plan, rows)) as u32;
     for tick in window.from..end {
         queue.take_all(res, rows_between(plan, rows, tick, tick + 1))?;
-        cells.push(queue_cell(aspect, queue.jobs())).map_err(|_| Memory)?;
+        cells
+            .push(queue_cell(aspect, queue.jobs()))
+            .map_err(|_| Memory)?;
     }
     Ok(cells)
 }

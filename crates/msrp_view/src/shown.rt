@@ -21,7 +21,11 @@ impl<'a> Shown<'a> {
         ensures found { result.found ≡ found }
     {
         match found {
-            Ok(()) => Shown { rows, broken: None, found },
+            Ok(()) => Shown {
+                rows,
+                broken: None,
+                found,
+            },
             Err(fault) => {
                 let legal = rows.len().min((fault.row as usize).saturating_sub(1));
                 Shown {
@@ -38,6 +42,7 @@ impl<'a> Shown<'a> {
         ensures { result ≡ goes_on_in plan.now self.now.rows.now window }
     {
         let cores = plan.cores() as usize;
-        window.from as usize * cores <= self.rows.len() && self.rows.len() < window.to as usize * cores
+        window.from as usize * cores <= self.rows.len()
+            && self.rows.len() < window.to as usize * cores
     }
 }

@@ -22,13 +22,17 @@ const TRACE: &[u8] =
 const FAULTY: &[u8] =
     b"msrp-trace,1,2,6\n0,0,take,a,0,g\n0,1,queue,b,0,g\n1,0,run,a,0,-\n1,1,grant,b,0,g\n2,0,release,a,0,g\n";
 
-const LEGEND: &str = "\na: a on core 0\nb: b on core 1\n= works  ( locks  ) unlocks  [ is granted  ] releases  ? joins a queue  ~ spins  ! breaks a rule\nof a resource: the first in its queue after the tick, and how many wait behind it\n";
+const LEGEND: &str =
+    "\na: a on core 0\nb: b on core 1\n= works  ( locks  ) unlocks  [ is granted  ] releases  ? joins a queue  ~ spins  ! breaks a rule\nof a resource: the first in its queue after the tick, and how many wait behind it\n";
 
-const WHOLE: &str = "good\nticks 0 to 5 of 6\n\ntick              0----+\ncore 0            aaa...\n                  [=]...\ncore 1            bbbbb.\n                  ?~[=].\ng                 aabb..\n  waiting         11....\n";
+const WHOLE: &str =
+    "good\nticks 0 to 5 of 6\n\ntick              0----+\ncore 0            aaa...\n                  [=]...\ncore 1            bbbbb.\n                  ?~[=].\ng                 aabb..\n  waiting         11....\n";
 
-const BROKEN: &str = "fault,4,A5\nticks 0 to 5 of 6\n\ntick              0----+\ncore 0            aa\n                  [=\ncore 1            bb\n                  ?!\ng                 aa\n  waiting         11\n";
+const BROKEN: &str =
+    "fault,4,A5\nticks 0 to 5 of 6\n\ntick              0----+\ncore 0            aa\n                  [=\ncore 1            bb\n                  ?!\ng                 aa\n  waiting         11\n";
 
-const LATER: &str = "good\nticks 2 to 4 of 6\n\ntick              ---\ncore 0            a..\n                  ]..\ncore 1            bbb\n                  [=]\ng                 bb.\n  waiting         ...\n";
+const LATER: &str =
+    "good\nticks 2 to 4 of 6\n\ntick              ---\ncore 0            a..\n                  ]..\ncore 1            bbb\n                  [=]\ng                 bb.\n  waiting         ...\n";
 
 const ALL: Asked = Asked {
     from: None,
@@ -36,7 +40,11 @@ const ALL: Asked = Asked {
 };
 
 // The answer to a plan and a trace, with what was written.
-fn answer_from<T: Read + Drop>(alloc: Global, trace: T, asked: Asked) -> (Result<u8, ViewFault>, Vec<u8>) {
+fn answer_from<T: Read + Drop>(
+    alloc: Global,
+    trace: T,
+    asked: Asked,
+) -> (Result<u8, ViewFault>, Vec<u8>) {
     let mut written = Vec::new(alloc);
     let mut plan = Source::new(PLAN);
     let mut trace = Source::new(trace);
@@ -46,7 +54,14 @@ fn answer_from<T: Read + Drop>(alloc: Global, trace: T, asked: Asked) -> (Result
 }
 
 // Expects that picture of a trace, with its status.
-fn expect_picture(rt: &impl Abort, alloc: Global, trace: &[u8], asked: Asked, status: u8, lines: &str) {
+fn expect_picture(
+    rt: &impl Abort,
+    alloc: Global,
+    trace: &[u8],
+    asked: Asked,
+    status: u8,
+    lines: &str,
+) {
     let (answer, written) = answer_from(alloc, trace, asked);
     assert!(rt; answer == Ok(status), "{lines}");
     assert!(rt; written.as_slice().starts_with(lines.as_bytes()), "{lines}");
@@ -172,7 +187,10 @@ fn each_write_fails_in_turn(rt: HostRuntime) {
             Err(ViewFault::Write)
         };
         assert!(rt; answer == due, "room {room}");
-        assert!(rt; picture.as_slice().starts_with(narrow.taken.as_slice()), "room {room}");
+        assert!(rt;
+            picture.as_slice().starts_with(narrow.taken.as_slice()),
+            "room {room}"
+        );
         assert_eq!(rt; narrow.taken.len(), room);
     }
 }
