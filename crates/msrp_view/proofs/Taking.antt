@@ -1,9 +1,9 @@
 -- Rows of a resource that are taken one by one, and tick by tick.
-use Rattle.std.proofs.Common.{◌≡◌, ℕ, ◌+◌, ◌-◌, ◌*◌, ◌≤◌, cond, List, [], ◌∷◌, ◌++◌, ap, sym, ◌∙◌, arith, count_by, length, take, drop, min, length-append, length-take, take-append-drop}
+use Rattle.std.proofs.Common.{◌≡◌, ℕ, ◌+◌, ◌-◌, ◌*◌, ◌≤◌, cond, List, [], ◌∷◌, ◌++◌, ap, sym, ◌∙◌, arith, take, drop, take-append-drop}
 use Rattle.std.specs.List.{cons_option, filter_map, slice_range}
 use Rattle.std.proofs.lemmas.List.{drop-take, take-take}
 use Rattle.std.proofs.lemmas.List.Elements.{filter_map-append}
-use Rattle.std.proofs.lemmas.List.Sums.{count_by-le-length, sum_by_push}
+use Rattle.std.proofs.lemmas.List.Sums.{sum_by_push}
 use Rattle.msrp_plan.specs.Plan.{PlanModel}
 use Rattle.msrp_plan.specs.Queues.{is_release_of, requester}
 use Rattle.msrp_plan.specs.declared.rows.Row.{Row}
@@ -42,16 +42,3 @@ more t m = grind arith
 -- the rows of one tick more
 pub next-rows : (plan : PlanModel) (rows : List Row) (t : ℕ) → take (t * plan.cores) rows ++ rows_between plan rows t (t + 1) ≡ take ((t + 1) * plan.cores) rows
 next-rows plan rows t = split-rows rows (t * plan.cores) ((t + 1) * plan.cores) (more t plan.cores)
-
-at-most : (n : ℕ) (rows : List Row) → length (take n rows) ≤ length rows
-at-most n rows = let e = length-take n rows in omega (arith, e)
-
--- the releases can be counted
-pub room-left : (queue : Queue) (g n most : ℕ) (before next rows : List Row) → HasSeen queue g before → before ++ next ≡ take n rows → length rows ≤ most → queue.releases + length next ≤ most
-room-left queue g n most before next rows h e l =
-    let a = h.releases in
-    let b = count_by-le-length (is_release_of g) before in
-    let c = length-append before next in
-    let d = ap length e in
-    let f = at-most n rows in
-    omega (arith, a, b, c, d, f, l)
