@@ -89,9 +89,6 @@ module _ (plan : PlanModel) (res : ResId) (rows : List Row) where
   on_some None h = absurd (cc)
   on_some (Some own) h = let mk : ℕ → Option ResId = λ n. Some (record { 0 = n }) in ap mk (eqb-true own.0 res.0 h)
 
-  pub local_none : is_global plan res.0 ≡ false → TellsFirst plan (broken_reply plan res.0) rows None
-  local_none loc = tells_none plan (broken_reply plan res.0) rows (λ pre r post is start. ap (λ b. cond (b && is_on res.0 r.res) (cond (is_fifo_reply pre r) None (Some A5)) None) loc)
-
   -- the reply is that of the queue
   reply_is : (pre : List Row) (x : Row) (jobs : List JobId) (n : ℕ) (b : Bool) → is_on res.0 x.res ≡ true → HasRequests res.0 pre jobs n → b ≡ is_reply_of (drop n jobs) x → is_fifo_reply pre x ≡ b
   reply_is pre x jobs n b on has is =

@@ -39,9 +39,6 @@ abbrev pub FindsAt : PlanModel → (List Row → Row → Option Rule) → List R
 FindsAt plan test rows i x o = IsRunStart plan (take i rows) → test (take i rows) x ≡ o
 
 module _ (plan : PlanModel) (test : List Row → Row → Option Rule) (rows : List Row) where
-  pub passes_none : PassesTo plan test rows 0
-  passes_none = record { none = λ pre r post is start low. absurd (omega (arith, low)) }
-
   -- it is what the test says of the row there
   here : (pre post : List Row) (r x : Row) (i : ℕ) (o : Option Rule) → rows ≡ pre ++ r ∷ post → length pre ≡ i → IsRunStart plan pre → x ≡ get_or rows i x → FindsAt plan test rows i x o → test pre r ≡ o
   here pre post r x i o is size start at finds =

@@ -39,15 +39,6 @@ turned_in plan pre c t some start is =
     sym (ap (list_any test) (sym (take-append-drop n pre))
     ∙ (list_any-append test (take n pre) (drop n pre) ∙ ap (λ b. b || list_any test (drop n pre)) (none_turned plan (take n pre) t c some front.each size)))
 
--- a row in another tick, or of no core, is in no turn
-pub other_tick : (plan : PlanModel) (pre : List Row) (r : Row) → ¬ (r.tick ≡ length pre / plan.cores) → false ≡ is_in_turn plan pre r
-other_tick plan pre r ne = sym (ap (λ b. b && (nat_lt r.core.0 plan.cores && not (had_turn r.core.0 r.tick pre))) (not_equal r.tick (length pre / plan.cores) ne))
-
-pub no_core : (plan : PlanModel) (pre : List Row) (r : Row) → r.tick ≡ length pre / plan.cores → plan.cores ≤ r.core.0 → false ≡ is_in_turn plan pre r
-no_core plan pre r is past =
-    sym (ap (λ b. b && (nat_lt r.core.0 plan.cores && not (had_turn r.core.0 r.tick pre))) (eq-eqb r.tick (length pre / plan.cores) is)
-    ∙ ap (λ b. b && not (had_turn r.core.0 r.tick pre)) (le-ltb r.core.0 plan.cores past))
-
 pub by_turned : (plan : PlanModel) (pre : List Row) (r : Row) → 0 < plan.cores → IsRunStart plan pre → r.tick ≡ length pre / plan.cores → r.core.0 < plan.cores → not (had_turn r.core.0 r.tick (drop (r.tick * plan.cores) pre)) ≡ is_in_turn plan pre r
 by_turned plan pre r some start is low =
     ap not (turned_in plan pre r.core.0 r.tick some start is)
