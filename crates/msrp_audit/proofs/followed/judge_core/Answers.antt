@@ -5,7 +5,7 @@ use Rattle.msrp_plan.specs.Logs.{log_of}
 use Rattle.msrp_plan.specs.Runs.{IsRunStart, is_in_turn}
 use Rattle.msrp_core.specs.Machine.{MachineModel, StandsAfter}
 use Rattle.msrp_audit.specs.Inside.Pieces.{broken_on_core, broken_action}
-use Rattle.msrp_audit.proofs.Scanning.{passes_none, passes_all}
+use Rattle.msrp_audit.proofs.Scanning.{passes_all}
 use Rattle.msrp_audit.proofs.OwnRows.{ends_here, breaks_here, passes_here, stands_here, passes_by, stands_by}
 use Rattle.msrp_audit.proofs.followed.judge_core.Goals as goal
 use Rattle.msrp_audit.proofs.followed.judge_core.Goals.{then-eq+else-not-is_due+in_default, else-eq}
