@@ -152,7 +152,7 @@ at_list [] d b e = absurd (some-ne-none b (sym e))
 at_list (x ∷ xs) zero b e = ap (λ (y : Page). some y.tick) (some-injective x b e)
 at_list (x ∷ xs) (suc d) b e = at_list xs d b e
 
-bit : (o : Conductor) → opening_count o ≤ 1
+pub bit : (o : Conductor) → opening_count o ≤ 1
 bit Unopened = omega arith
 bit Opened = omega arith
 bit Aborted = omega arith

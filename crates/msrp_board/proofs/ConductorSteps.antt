@@ -14,17 +14,16 @@ use Rattle.msrp_board.specs.declared.books.BoardSize.{BoardSize}
 use Rattle.msrp_board.specs.declared.books.Conductor.{Conductor}
 use Rattle.msrp_board.specs.declared.books.Conductor.TheVariants.{Unopened, Opened, Aborted}
 use Rattle.msrp_board.specs.Inside.Rule.{OwnsBy, SharedConductor, HasConductor, HasPage, Gathered, IsServedNewest, Ruled, view_with_conductor, TellsOpening, TellsAbort}
-use Rattle.msrp_board.proofs.Sharing.{at_length, same_shared}
+use Rattle.msrp_board.proofs.Sharing.{same_shared}
 use Rattle.msrp_board.proofs.BarrierSteps.{few_arrivals}
-
-some_of : (x y : Conductor) → Some x ≡ Some y → x ≡ y
-some_of x y e = cc
+use Rattle.msrp_board.proofs.Queue.{in_range}
+use Rattle.std.proofs.lemmas.Option.{same_Some}
 
 conductor_shared : (views : List View) (id : ℕ) (v : View) (o w : Conductor) → get_elem? views id ≡ some v → v.conductor ≡ Some o → SharedConductor views o → SharedConductor (set views id (view_with_conductor w v)) w
 conductor_shared views id v o w at_id mine sh = record {
-  true_of = λ i k x p. ⊎_elim (λ (t : (i ≡ id) × (view_with_conductor w v ≡ p.0)). (p.2.0, some_of w x (ap (λ (y : View). y.conductor) t.1 ∙ p.2.1))) (λ (t : (i ≢ id) × (get_elem? views i ≡ some p.0)). absurd (t.0 (whose i k x p t.1))) (at_set views id i (view_with_conductor w v) p.0 p.1);
+  true_of = λ i k x p. ⊎_elim (λ (t : (i ≡ id) × (view_with_conductor w v ≡ p.0)). (p.2.0, same_Some w x (ap (λ (y : View). y.conductor) t.1 ∙ p.2.1))) (λ (t : (i ≢ id) × (get_elem? views i ≡ some p.0)). absurd (t.0 (whose i k x p t.1))) (at_set views id i (view_with_conductor w v) p.0 p.1);
   with_no_other = λ i j k x y p q. at i k x p ∙ sym (at j k y q);
-  with_one = λ k x t. (id, (view_with_conductor w v, set_here views id (view_with_conductor w v) (at_length views id v at_id), (t.0, ap Some t.1)));
+  with_one = λ k x t. (id, (view_with_conductor w v, set_here views id (view_with_conductor w v) (in_range views id v at_id), (t.0, ap Some t.1)));
 }
   where
     whose : (i k : ℕ) (x : Conductor) → (p : OwnsBy HasConductor (set views id (view_with_conductor w v)) i k x) → get_elem? views i ≡ some p.0 → i ≡ id

@@ -15,7 +15,7 @@ use Rattle.msrp_board.specs.declared.books.BoardSize.{BoardSize}
 use Rattle.msrp_board.specs.declared.books.Conductor.{Conductor}
 use Rattle.msrp_board.specs.Inside.Held.{state_of, page_at, state_at, AreStates, IsLow, IsOwn, IsHeld}
 use Rattle.msrp_board.specs.Inside.Rule.{HasOnly, IsKeptNewest, with_pages}
-use Rattle.msrp_board.proofs.Sharing.{at_length}
+use Rattle.msrp_board.proofs.Queue.{in_range}
 
 pub get_or_at : {A : Type 0} (l : List A) (i : ℕ) (a d : A) → get_elem? l i ≡ some a → get_or l i d ≡ a
 get_or_at [] i a d e = absurd (some-ne-none a (sym e))
@@ -72,7 +72,7 @@ core_none held v c b own is = let e : some None ≡ some (Some (state_of b)) = s
 tie_change : (held : List (Option CoreState)) (v : View) (c : ℕ) (b : Page) (f : Page → Page) (x : Option CoreState) → AreStates held v.pages → HasOnly v c b → x ≡ Some (state_of (f b)) → AreStates (set held c x) (with_pages f v).pages
 tie_change held v c b f x tie sole is d low = dite (ℕ_discrete d c)
     (λ q. let t : get_elem? held c ≡ some (state_at v.pages c) = subst (λ k. get_elem? held k ≡ some (state_at v.pages k)) q (tie d low) in
-    subst (λ k. get_elem? (set held c x) k ≡ some (state_at (with_pages f v).pages k)) (sym q) (set_here held c x (at_length held c (state_at v.pages c) t) ∙ ap some (is ∙ sym (state_has (with_pages f v).pages c (f b) (each_at f v.pages c b sole.page)))))
+    subst (λ k. get_elem? (set held c x) k ≡ some (state_at (with_pages f v).pages k)) (sym q) (set_here held c x (in_range held c (state_at v.pages c) t) ∙ ap some (is ∙ sym (state_has (with_pages f v).pages c (f b) (each_at f v.pages c b sole.page)))))
     (λ n. set_else held c d x n ∙ tie d low ∙ ap some (⊎_elim
     (λ h. absurd (n (sole.only d h.0 (has_page v.pages d h.0 h.1))))
     (λ e. ap (option_map state_of) (e ∙ sym (page_each f v.pages d ∙ none_each f (page_at v.pages d) e)))

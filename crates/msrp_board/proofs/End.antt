@@ -25,15 +25,15 @@ use Rattle.msrp_board.specs.Seats.{BoardModel, SeatModel, book_at, HasAll}
 use Rattle.msrp_board.specs.Boards.{WholeBoard, IsTied, high, low, entries_at, opening_count, abort_count}
 use Rattle.msrp_board.specs.Inside.Rule.{empty_page, HasPage, Ruled, IsServedNewest, IsKeptNewest, IsTiedNewest, Gathered, page_reach, arrivals, entry_count}
 use Rattle.msrp_board.specs.Inside.Held.{told, seen_as, page_at, settled_as, IsWhole}
-use Rattle.msrp_board.proofs.Sharing.{at_length}
 use Rattle.msrp_board.proofs.CoreStates.{get_or_at, has_page, page_has, page_or_none}
 use Rattle.msrp_board.proofs.Counts.{total_bound, ticks_length}
 use Rattle.msrp_board.proofs.TicketSteps.{steps_length, split_word}
-use Rattle.msrp_board.proofs.BarrierSteps.{arrivals_bound, reach_high}
+use Rattle.msrp_board.proofs.BarrierSteps.{arrivals_bound, reach_high, bit}
 use Rattle.msrp_board.proofs.Reversed.{history_reversed, legal_reversed, requests_reversed, releases_reversed, rising_reversed}
 use Rattle.msrp_board.proofs.Kept.{kept_told}
 use Rattle.msrp_board.proofs.Told.{shown}
 use Rattle.msrp_board.proofs.Seats.{named}
+use Rattle.msrp_board.proofs.Queue.{in_range}
 
 -- ---- the rule of the last state
 
@@ -67,7 +67,7 @@ whole key board seat id v ws xs out is seen has_all same end =
       pages = r.pages;
       conductor = o;
       known = has;
-      all = λ c b e. let l = at_length r.pages c b e in let n = r.tied.cores in let h = all.0 c (omega (arith, l, n)) in
+      all = λ c b e. let l = in_range r.pages c b e in let n = r.tied.cores in let h = all.0 c (omega (arith, l, n)) in
           subst (HasPage v c) (some-injective h.0 b (sym (has c h.0 h.1) ∙ e)) h.1;
       conducts = all.1.1;
       tied = record {
@@ -171,11 +171,6 @@ few_steps z pages len small short kept =
     let t = total_bound pages z.ticks (λ c b e. let k = kept c b e in let l = ticks_length (page_reach b) b.newest k.ticks in let r = k.within in omega (arith, l, r)) in
     let a = arrivals_bound pages z.ticks (λ c b e. let k = (kept c b e).within in let l = reach_high b in omega (arith, k, l)) in
     let m = mul-le (length pages) z.ticks 8 20000 (omega (arith, len, small)) short in (omega (arith, t, m), omega (arith, a, m))
-
-bit : (o : Conductor) → opening_count o ≤ 1
-bit Unopened = omega arith
-bit Opened = omega arith
-bit Aborted = omega arith
 
 -- a whole board of these words, books and conductor
 abbrev pub whole_of : BoardSize → List ℕ → List Book → Conductor → WholeBoard

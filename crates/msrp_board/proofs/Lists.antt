@@ -4,6 +4,7 @@ use Rattle.std.specs.List.{filter, AllByRecursion}
 use Rattle.std.proofs.lemmas.List.{reverse-append}
 use Rattle.std.proofs.lemmas.List.Elements.{filter-append}
 use Rattle.msrp_board.specs.Books.{IsChain}
+use Rattle.msrp_plan.proofs.Lists.AnyAll.{all_push}
 
 pub reverse_cons : {X : Type 0} (x : X) (xs : List X) → reverse (x ∷ xs) ≡ reverse xs ++ x ∷ []
 reverse_cons x xs = reverse-append (x ∷ []) xs
@@ -12,13 +13,9 @@ pub fold_last : {A B : Type 0} (f : B → A → B) (a : B) (xs : List A) (x : A)
 fold_last f a [] x = refl
 fold_last f a (y ∷ ys) x = fold_last f (f a y) ys x
 
-all_last : {X : Type 0} (P : X → Type 0) (xs : List X) (x : X) → AllByRecursion P xs → P x → AllByRecursion P (xs ++ x ∷ [])
-all_last P [] x h p = (p, tt)
-all_last P (y ∷ ys) x h p = (h.0, all_last P ys x h.1 p)
-
 pub all_reversed : {X : Type 0} (P : X → Type 0) (xs : List X) → AllByRecursion P xs → AllByRecursion P (reverse xs)
 all_reversed P [] h = tt
-all_reversed P (x ∷ xs) h = subst (AllByRecursion P) (sym (reverse_cons x xs)) (all_last P (reverse xs) x (all_reversed P xs h.1) h.0)
+all_reversed P (x ∷ xs) h = subst (AllByRecursion P) (sym (reverse_cons x xs)) (all_push P (reverse xs) x (all_reversed P xs h.1) h.0)
 
 last_kept : {X : Type 0} (x : X) (b : Bool) (l : List X) → reverse l ++ cond b (x ∷ []) [] ≡ reverse (cond b (x ∷ l) l)
 last_kept x true l = sym (reverse_cons x l)

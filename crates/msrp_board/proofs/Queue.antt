@@ -48,7 +48,7 @@ entry t g p k = record { tick = t; res = record { 0 = g }; place = p; call = k }
 no : {A : Type 0} → false ≡ true → A
 no e = absurd (true≢false (sym e))
 
-in_range : {A : Type 0} (l : List A) (i : ℕ) (a : A) → get_elem? l i ≡ some a → i < length l
+pub in_range : {A : Type 0} (l : List A) (i : ℕ) (a : A) → get_elem? l i ≡ some a → i < length l
 in_range [] i a e = absurd (some-ne-none a (sym e))
 in_range (x ∷ xs) zero a e = omega arith
 in_range (x ∷ xs) (suc i) a e = let h = in_range xs i a e in omega (arith, h)

@@ -4,7 +4,7 @@ use Rattle.std.specs.Prelude.{count_by}
 use Rattle.std.specs.List.{AllByRecursion}
 use Rattle.std.specs.Bool.{OnTrue}
 use Rattle.std.proofs.lemmas.List.Sums.{sum_by-append, sum_by-cons}
-use Rattle.msrp_plan.specs.FifoLock.{FifoLock, free_lock, lock_after, Answers, LegalFrom, Legal}
+use Rattle.msrp_plan.specs.FifoLock.{FifoLock, free_lock, lock_after, Answers, Legal}
 use Rattle.msrp_plan.specs.declared.units.Call.{Call}
 use Rattle.msrp_plan.specs.declared.units.Call.TheVariants.{Ask, Poll, Leave}
 use Rattle.msrp_plan.specs.declared.units.Phase.{Phase}
@@ -18,11 +18,10 @@ use Rattle.msrp_board.specs.Inside.Newest.{asks_after, leaves_after, asks, leave
 use Rattle.msrp_board.specs.Inside.Held.{phase_of}
 use Rattle.msrp_board.proofs.Lists.{reverse_cons, fold_last, all_reversed, filter_reversed, chain_reversed}
 use Rattle.msrp_board.proofs.Told.{lock_newest, res_calls_newest}
+use Rattle.msrp_plan.proofs.Queues.LockHistories.{legal_push}
+use Rattle.msrp_plan.specs.LockStates.{lock_from}
 
 -- ---- the lock
-
-abbrev lock_from : FifoLock → List (ℕ × Call) → FifoLock
-lock_from l h = fold (λ (s : FifoLock) (x : ℕ × Call). lock_after s x.0 x.1) l h
 
 calls_last : (h : List Event) (s : Event) → calls (h ++ s ∷ []) ≡ calls h ++ (s.0, s.1.call) ∷ []
 calls_last [] s = refl
@@ -35,13 +34,9 @@ lock_is : (h : List Event) → lock_from free_lock (calls (reverse h)) ≡ lock 
 lock_is [] = refl
 lock_is (s ∷ h) = ap (lock_from free_lock) (calls_cons s h) ∙ fold_last (λ (l : FifoLock) (x : ℕ × Call). lock_after l x.0 x.1) free_lock (calls (reverse h)) (s.0, s.1.call) ∙ ap (λ l. lock_after l s.0 s.1.call) (lock_is h)
 
-legal_last : (l : FifoLock) (h : List (ℕ × Call)) (s : ℕ × Call) → LegalFrom l h → Answers (lock_from l h) s.0 s.1 → LegalFrom l (h ++ s ∷ [])
-legal_last l [] s legal a = (a, tt)
-legal_last l (x ∷ h) s legal a = (legal.0, legal_last (lock_after l x.0 x.1) h s legal.1 a)
-
 pub legal_reversed : (h : List Event) → LegalNewest h → Legal (calls (reverse h))
 legal_reversed [] l = tt
-legal_reversed (s ∷ h) l = subst Legal (sym (calls_cons s h)) (legal_last free_lock (calls (reverse h)) (s.0, s.1.call) (legal_reversed h l.0) (subst (λ k. Answers k s.0 s.1.call) (sym (lock_is h)) l.1))
+legal_reversed (s ∷ h) l = subst Legal (sym (calls_cons s h)) (legal_push free_lock (calls (reverse h)) (s.0, s.1.call) (legal_reversed h l.0) (subst (λ k. Answers k s.0 s.1.call) (sym (lock_is h)) l.1))
 
 -- ---- places
 

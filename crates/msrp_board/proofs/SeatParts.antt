@@ -23,9 +23,9 @@ use Rattle.msrp_board.specs.Inside.Rule.{IsKeptNewest, view_alone, view_without,
 use Rattle.msrp_board.specs.Inside.Held.{told, seen_as, page_at, state_of, state_at, AreStates, IsLow, IsHeld}
 use Rattle.msrp_board.proofs.SeatBooks.{at-only_same, at-only_other, at-none_same, at-none_other, at-together}
 use Rattle.msrp_board.proofs.ViewParts.{of_only, of_none, of_together}
-use Rattle.msrp_board.proofs.Sharing.{at_length}
 use Rattle.msrp_board.proofs.CoreStates.{get_or_at}
 use Rattle.msrp_board.proofs.Told.{none_past}
+use Rattle.msrp_board.proofs.Queue.{in_range}
 
 -- ---- what is kept
 
@@ -54,7 +54,7 @@ only_tie held pages c low tie d h = dite (ℕ_discrete d c)
 pub none_tie : (held : List (Option CoreState)) (pages : List (Option Page)) (c : ℕ) → c < 8 → AreStates held pages → AreStates (set held c None) (none_at c pages)
 none_tie held pages c low tie d h = dite (ℕ_discrete d c)
     (λ q. subst (λ k. get_elem? (set held c None) k ≡ some (state_at (none_at c pages) k)) (sym q)
-    (set_here held c None (at_length held c (state_at pages c) (tie c low)) ∙ ap some (ap (option_map state_of) (sym (at-none_same c pages)))))
+    (set_here held c None (in_range held c (state_at pages c) (tie c low)) ∙ ap some (ap (option_map state_of) (sym (at-none_same c pages)))))
     (λ n. set_else held c d None n ∙ tie d h ∙ ap some (ap (option_map state_of) (sym (at-none_other c d pages n))))
 
 -- the first n cores of both

@@ -7,11 +7,7 @@ use lib.ListN.{get_elem?}
 use Rattle.std.proofs.lemmas.List.{length-set}
 use Rattle.atomic_table.proofs.Lists.{at_set, at_longer, at_last, set_here, set_else}
 use Rattle.msrp_board.specs.Inside.Rule.{OwnsBy, SharedBy}
-
-pub at_length : {A : Type 0} (l : List A) (i : ℕ) (a : A) → get_elem? l i ≡ some a → i < length l
-at_length [] i a e = absurd (some-ne-none a (sym e))
-at_length (x ∷ xs) zero a e = omega arith
-at_length (x ∷ xs) (suc i) a e = let h = at_length xs i a e in omega (arith, h)
+use Rattle.msrp_board.proofs.Queue.{in_range}
 
 at_end : {A : Type 0} (l : List A) (a b : A) (j : ℕ) → get_elem? (l ++ a ∷ []) j ≡ some b → ((j < length l) × (get_elem? l j ≡ some b)) ⊎ ((j ≡ length l) × (a ≡ b))
 at_end [] a b zero e = inr (refl, some-injective a b e)
@@ -32,7 +28,7 @@ module _ {V A : Type 0} (has : V → ℕ → A → Type 0) where
       mine i k a o = ⊎_elim
           (λ (t : (i < length (set views id l)) × (get_elem? (set views id l) i ≡ some o.0)). ⊎_elim
           (λ (u : (i ≡ id) × (l ≡ o.0)). inl (u.0, subst (λ x. has x k a) (sym u.1) o.2))
-          (λ (u : (i ≢ id) × (get_elem? views i ≡ some o.0)). inr (inr (u.0, at_length views i o.0 u.1, (o.0, u.1, o.2))))
+          (λ (u : (i ≢ id) × (get_elem? views i ≡ some o.0)). inr (inr (u.0, in_range views i o.0 u.1, (o.0, u.1, o.2))))
           (at_set views id i l o.0 t.1))
           (λ (t : (i ≡ length (set views id l)) × (r ≡ o.0)). inr (inl (t.0 ∙ length-set views id l, subst (λ x. has x k a) (sym t.1) o.2)))
           (at_end (set views id l) r o.0 i o.1)
@@ -57,7 +53,7 @@ module _ {V A : Type 0} (has : V → ℕ → A → Type 0) where
       there : (k : ℕ) (a : A) → truth k a → (i : ℕ) × OwnsBy has (set views id l ++ r ∷ []) i k a
       there k a t = let o = sh.with_one k a t in dite (ℕ_discrete o.0 id)
           (λ e. ⊎_elim
-          (λ h. (id, (l, at_longer (set views id l) (r ∷ []) id l (set_here views id l (at_length views id v at_id)), h)))
+          (λ h. (id, (l, at_longer (set views id l) (r ∷ []) id l (set_here views id l (in_range views id v at_id)), h)))
           (λ h. (length views, (r, at_last (set views id l) r (length views) (length-set views id l), h)))
           (either_of k a (subst (λ x. has x k a) (some-injective o.1.0 v (sym o.1.1 ∙ ap (get_elem? views) e ∙ at_id)) o.1.2)))
           (λ n. (o.0, (o.1.0, at_longer (set views id l) (r ∷ []) o.0 o.1.0 (set_else views id o.0 l n ∙ o.1.1), o.1.2)))
@@ -102,7 +98,7 @@ module _ {V A : Type 0} (has : V → ℕ → A → Type 0) where
       one i j k a d o p = one_of i j k a d (mine i k a o) (mine j k d p)
 
       both_there : get_elem? late id ≡ some both
-      both_there = set_else (set views id both) other id spent (λ e. apart (sym e)) ∙ set_here views id both (at_length views id v at_id)
+      both_there = set_else (set views id both) other id spent (λ e. apart (sym e)) ∙ set_here views id both (in_range views id v at_id)
 
       there : (k : ℕ) (a : A) → truth k a → (i : ℕ) × OwnsBy has late i k a
       there k a t = let o = sh.with_one k a t in dite (ℕ_discrete o.0 id)
@@ -123,5 +119,5 @@ module _ {V A : Type 0} (has : V → ℕ → A → Type 0) where
 
       there : (k : ℕ) (a : A) → truth k a → (i : ℕ) × OwnsBy has (set views id w) i k a
       there k a t = let o = sh.with_one k a t in dite (ℕ_discrete o.0 id)
-          (λ e. (id, (w, set_here views id w (at_length views id v at_id), up k a (subst (λ x. has x k a) (some-injective o.1.0 v (sym o.1.1 ∙ ap (get_elem? views) e ∙ at_id)) o.1.2))))
+          (λ e. (id, (w, set_here views id w (in_range views id v at_id), up k a (subst (λ x. has x k a) (some-injective o.1.0 v (sym o.1.1 ∙ ap (get_elem? views) e ∙ at_id)) o.1.2))))
           (λ n. (o.0, (o.1.0, set_else views id o.0 w n ∙ o.1.1, o.1.2)))

@@ -15,11 +15,11 @@ use Rattle.msrp_board.specs.declared.held.CoreState.{CoreState}
 use Rattle.msrp_board.specs.Books.{IsSize, on}
 use Rattle.msrp_board.specs.Inside.Held.{AreStates, state_of, state_at}
 use Rattle.msrp_board.specs.Inside.Rule.{HasPage, Ruled, IsKeptNewest, empty_page, first_view, arrivals, page_reach}
-use Rattle.msrp_board.specs.declared.books.Conductor.{Conductor}
 use Rattle.msrp_board.specs.declared.books.Conductor.TheVariants.{Unopened}
-use Rattle.msrp_board.proofs.Sharing.{at_length}
 use Rattle.msrp_board.proofs.Kept.{kept_empty}
 use native.Mathlib.Decide.{dec_lt}
+use Rattle.msrp_board.proofs.Queue.{in_range}
+use Rattle.std.proofs.lemmas.Option.{same_Some}
 
 now_in : (n c : ℕ) → c < n → state_at (replicate n (Some empty_page)) c ≡ Some (state_of empty_page)
 now_in zero c h = absurd (omega (arith, h))
@@ -37,15 +37,15 @@ now_more n c (no h) d = now_out n c (omega (arith, h)) ∙ sym (now_out (suc n) 
 
 pub fresh_step : (held : List (Option CoreState)) (n m : ℕ) → m ≡ suc n → n < 8 → AreStates held (replicate n (Some empty_page)) → AreStates (set held n (Some (state_of empty_page))) (replicate m (Some empty_page))
 fresh_step held n m is low tie c in_8 = subst (λ k. get_elem? (set held n (Some (state_of empty_page))) c ≡ some (state_at (replicate k (Some empty_page)) c)) (sym is) (dite (ℕ_discrete c n)
-    (λ q. subst (λ k. get_elem? (set held n (Some (state_of empty_page))) k ≡ some (state_at (replicate (suc n) (Some empty_page)) k)) (sym q) (set_here held n (Some (state_of empty_page)) (at_length held n _ (tie n low)) ∙ ap some (sym (now_in (suc n) n (omega arith)))))
+    (λ q. subst (λ k. get_elem? (set held n (Some (state_of empty_page))) k ≡ some (state_at (replicate (suc n) (Some empty_page)) k)) (sym q) (set_here held n (Some (state_of empty_page)) (in_range held n _ (tie n low)) ∙ ap some (sym (now_in (suc n) n (omega arith)))))
     (λ d. set_else held n c (Some (state_of empty_page)) d ∙ tie c in_8 ∙ ap some (now_more n c (dec_lt c n) d)))
 
 same_there : (n c : ℕ) (b : Page) → get_elem? (replicate n (Some empty_page)) c ≡ some (Some b) → get_elem? (replicate n empty_page) c ≡ some b
 same_there zero c b e = absurd (some-ne-none (Some b) (sym e))
-same_there (suc n) zero b e = let f : some (Some empty_page) ≡ some (Some b) = e in ap some (some_of empty_page b (some-injective (Some empty_page) (Some b) f))
+same_there (suc n) zero b e = let f : some (Some empty_page) ≡ some (Some b) = e in ap some (same_Some empty_page b (some-injective (Some empty_page) (Some b) f))
   where
-    some_of : (x y : Page) → Some x ≡ Some y → x ≡ y
-    some_of x y h = cc
+    same_Some : (x y : Page) → Some x ≡ Some y → x ≡ y
+    same_Some x y h = cc
 same_there (suc n) (suc c) b e = same_there n c b e
 
 same_back : (n c : ℕ) (b : Page) → get_elem? (replicate n empty_page) c ≡ some b → (get_elem? (replicate n (Some empty_page)) c ≡ some (Some b)) × (empty_page ≡ b) × (c < n)
@@ -69,9 +69,6 @@ zero_arrivals : (n : ℕ) → arrivals (replicate n empty_page) ≡ 0
 zero_arrivals zero = refl
 zero_arrivals (suc n) = let h = zero_arrivals n in omega (arith, h)
 
-some_of : (x y : Conductor) → Some x ≡ Some y → x ≡ y
-some_of x y e = cc
-
 pub begins : (z : BoardSize) (words : List ℕ) → ((g : ℕ) → slice_index words g ≡ 0) → length words ≡ z.resources + 1 → IsSize z → Ruled z (opening words [] (first_view z))
 begins z words zeros len limits = record {
   pages = replicate z.cores empty_page;
@@ -82,7 +79,7 @@ begins z words zeros len limits = record {
     with_one = λ c b e. (0, (first_view z, refl, (same_back z.cores c b e).0));
   };
   shared_conductor = record {
-    true_of = λ i k x o. (o.2.0, some_of Unopened x (ap (λ (v : View). v.conductor) (zero_at (first_view z) i o.0 o.1).1 ∙ o.2.1));
+    true_of = λ i k x o. (o.2.0, same_Some Unopened x (ap (λ (v : View). v.conductor) (zero_at (first_view z) i o.0 o.1).1 ∙ o.2.1));
     with_no_other = λ i j k x y o p. sym (zero_at (first_view z) i o.0 o.1).0 ∙ (zero_at (first_view z) j p.0 p.1).0;
     with_one = λ k x e. (0, (first_view z, refl, (e.0, ap Some e.1)));
   };

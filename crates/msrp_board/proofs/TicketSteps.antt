@@ -23,9 +23,9 @@ use Rattle.msrp_board.specs.Inside.Rule.{page_has_acted, page_with, arrivals, pa
 use Rattle.msrp_board.specs.declared.held.Claim.{Claim}
 use Rattle.msrp_board.specs.declared.held.Claim.TheVariants.{Nothing, Waits, Holds}
 use Rattle.msrp_plan.specs.FifoLock.{Answers, IsAmong, IsFirst}
-use Rattle.msrp_board.proofs.Queue.{at_first, among, not_among, not_first, Coupled, coupled, ticket, held, by_same, by_other, by_cases}
+use Rattle.msrp_board.proofs.Queue.{at_first, among, not_among, not_first, Coupled, coupled, ticket, held, by_same, by_other, by_cases, in_range}
 use Rattle.msrp_board.proofs.Counts.{at, pick, claim_on, on_same, on_other, total_more, total_bound, ticks_length, arrivals_set}
-use Rattle.msrp_board.proofs.Sharing.{at_length, same_shared}
+use Rattle.msrp_board.proofs.Sharing.{same_shared}
 use Rattle.msrp_board.proofs.CoreStates.{each_some, each_at}
 use Rattle.msrp_board.proofs.Kept.{kept_more, fresh_page}
 use Rattle.msrp_board.proofs.Sorted.{insert, inserted}
@@ -54,7 +54,7 @@ served_more g n m c books b e has res s place ok word later =
             (λ (t : (d ≡ c) × (page_with e b ≡ x)). subst (λ y. by y (insert (c, e) log) ≡ on g x.newest) (sym t.0) (i.same c ∙ by_same c e log ∙ ap (λ es. e ∷ es) (hist.entries c b has) ∙ sym (on_same g e b.newest res) ∙ ap (λ (y : Page). on g y.newest) t.1))
             (λ (t : (d ≢ c) × (get_elem? books d ≡ some x)). i.same d ∙ by_other c d e log (λ k. t.0 (sym k)) ∙ hist.entries d x t.1)
             (at_set books c d (page_with e b) x q);
-        none_past = λ d far. let l = at_length books c b has in let w = length-set books c (page_with e b) in i.same d ∙ by_other c d e log (λ k. omega (arith, k, l, w, far)) ∙ hist.none_past d (omega (arith, w, far));
+        none_past = λ d far. let l = in_range books c b has in let w = length-set books c (page_with e b) in i.same d ∙ by_other c d e log (λ k. omega (arith, k, l, w, far)) ∙ hist.none_past d (omega (arith, w, far));
         placed = i.placed;
       };
       legal = i.legal;
@@ -115,7 +115,7 @@ shared_step views books id c v b d f at_id sole is has sh = record { true_of = g
 
     good : (i x : ℕ) (y : Page) → Owns (set views id w) i x y → get_elem? (set books c d) x ≡ some y
     good i x y o = ⊎_elim
-        (λ t. subst (λ k. get_elem? (set books c d) k ≡ some y) (sym t.1) (set_here books c d (at_length books c b has) ∙ ap some (sym t.2)))
+        (λ t. subst (λ k. get_elem? (set books c d) k ≡ some y) (sym t.1) (set_here books c d (in_range books c b has) ∙ ap some (sym t.2)))
         (λ t. set_else books c x d (λ k. apart i y t.0 (subst (λ j. Owns views i j y) k t.1)) ∙ sh.true_of i x y t.1)
         (mine i x y o)
 
@@ -127,7 +127,7 @@ shared_step views books id c v b d f at_id sole is has sh = record { true_of = g
 
     there : (x : ℕ) (y : Page) → get_elem? (set books c d) x ≡ some y → (i : ℕ) × Owns (set views id w) i x y
     there x y e = ⊎_elim
-        (λ (t : (x ≡ c) × (d ≡ y)). (id, (w, set_here views id w (at_length views id v at_id), subst (λ k. get_elem? w.pages k ≡ some (Some y)) (sym t.0) (each_at f v.pages c b sole.page ∙ ap (λ k. some (Some k)) (is ∙ t.1)))))
+        (λ (t : (x ≡ c) × (d ≡ y)). (id, (w, set_here views id w (in_range views id v at_id), subst (λ k. get_elem? w.pages k ≡ some (Some y)) (sym t.0) (each_at f v.pages c b sole.page ∙ ap (λ k. some (Some k)) (is ∙ t.1)))))
         (λ (t : (x ≢ c) × (get_elem? books x ≡ some y)). let o = sh.with_one x y t.1 in (o.0, (o.1.0, kept o.0 o.1.0 x y t.0 o.1.1 o.1.2, o.1.2)))
         (at_set books c x d y e)
       where

@@ -8,6 +8,7 @@ use Rattle.msrp_plan.specs.declared.units.Call.TheVariants.{Ask, Poll, Leave}
 use Rattle.msrp_board.specs.declared.books.Entry.{Entry}
 use Rattle.msrp_board.specs.Books.{IsChain}
 use Rattle.msrp_board.specs.History.{Event, by, is_poll, place_after, Placed, PollsInOrder, IsHistory}
+use Rattle.msrp_plan.proofs.Lists.AnyAll.{all_weaker}
 
 -- ---- an order by parts
 
@@ -59,10 +60,6 @@ adjacent c t p (Poll b) d u q (Poll v) n e f h = inr (e ∙ sym f, inr (refl, h 
 abbrev pub Sorted : (Event → Event → Type 0) → List Event → Type 0
 Sorted R [] = Unit {0}
 Sorted R (x ∷ xs) = AllByRecursion (R x) xs × Sorted R xs
-
-all_weaker : (P Q : Event → Type 0) → ((x : Event) → P x → Q x) → (xs : List Event) → AllByRecursion P xs → AllByRecursion Q xs
-all_weaker P Q f [] h = tt
-all_weaker P Q f (x ∷ xs) h = (f x h.0, all_weaker P Q f xs h.1)
 
 pub sorted_history : (n : ℕ) (h : List Event) → Placed n h → IsChain PollsInOrder h → Sorted Before h
 sorted_history n [] p o = tt

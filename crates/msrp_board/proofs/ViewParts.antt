@@ -11,6 +11,7 @@ use Rattle.msrp_board.specs.declared.books.Conductor.{Conductor}
 use Rattle.msrp_board.specs.Steps.{only_at, none_at, either, together}
 use Rattle.msrp_board.specs.Inside.Rule.{HasConductor, HasPage, Ruled, view_without, view_alone, view_both, spent}
 use Rattle.msrp_board.proofs.Sharing.{split_shared, join_shared}
+use Rattle.msrp_board.proofs.CoreStates.{page_or_none}
 
 abbrev Slots : Type 0
 Slots = List (Option Page)
@@ -64,14 +65,10 @@ to_left (x ∷ xs) [] k b e = e
 to_left (x ∷ xs) (y ∷ ys) zero b e = ap (λ z. some (either z y)) (some-injective x (Some b) e)
 to_left (x ∷ xs) (y ∷ ys) (suc k) b e = to_left xs ys k b e
 
-or_not : (x : Option Page) → ((d : Page) × (x ≡ Some d)) ⊎ (x ≡ None)
-or_not None = inr refl
-or_not (Some d) = inl (d, refl)
-
 to_right : (l m : Slots) (k : ℕ) (b : Page) → In m k b → ((d : Page) → ¬ In l k d) → In (together l m) k b
 to_right [] m k b e n = e
 to_right (x ∷ xs) [] k b e n = absurd (none_in k b e)
-to_right (x ∷ xs) (y ∷ ys) zero b e n = ⊎_elim (λ h. absurd (n h.0 (ap some h.1))) (λ h. ap (λ z. some (either z y)) h ∙ e) (or_not x)
+to_right (x ∷ xs) (y ∷ ys) zero b e n = ⊎_elim (λ h. absurd (n h.0 (ap some h.1))) (λ h. ap (λ z. some (either z y)) h ∙ e) (page_or_none x)
 to_right (x ∷ xs) (y ∷ ys) (suc k) b e n = to_right xs ys k b e n
 
 desk_of : (x y : Option Conductor) (o : Conductor) → either x y ≡ Some o → (x ≡ Some o) ⊎ (y ≡ Some o)

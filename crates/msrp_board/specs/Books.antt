@@ -1,5 +1,5 @@
 -- What a core's book says of the core, and what every book keeps: the rule's part on one book. Entries stand oldest first.
-use Rattle.std.specs.Prelude.{ℕ, suc, ◌<◌, ◌≤◌, List, [], ◌∷◌, Bool, true, false, cond, nat_lt, ◌==◌, map, ⊤}
+use Rattle.std.specs.Prelude.{ℕ, suc, ◌<◌, ◌≤◌, List, [], ◌∷◌, Bool, true, false, nat_lt, ◌==◌, map, ⊤, if◌then◌else◌}
 use Rattle.std.specs.List.{list_any, filter, AllByRecursion}
 use Rattle.msrp_plan.specs.Calls.{ResCall, claim_after, IsRegular}
 use Rattle.msrp_plan.specs.Limits.{most_cores, most_resources, most_ticks}
@@ -49,7 +49,7 @@ phase_in ticks b = phase_by b.stopped b.admitted (nat_lt b.tick ticks)
 
 -- the tick, and 1 where the core is let into it
 abbrev pub reach_of : Bool → ℕ → ℕ
-reach_of admitted tick = cond admitted (suc tick) tick
+reach_of admitted tick = if admitted then suc tick else tick
 
 -- the ticks below it are those to which the core is or was admitted
 abbrev pub reach : Book → ℕ

@@ -1,5 +1,5 @@
 -- The history of a resource: what all cores did with it, in the one order of its ticket word, oldest first.
-use Rattle.std.specs.Prelude.{◌≡◌, ℕ, suc, ◌<◌, ◌≤◌, List, [], ◌∷◌, map, Bool, true, false, cond, ◌==◌, count_by, ◌⊎◌, ⊤}
+use Rattle.std.specs.Prelude.{◌≡◌, ℕ, suc, ◌<◌, ◌≤◌, List, [], ◌∷◌, map, Bool, true, false, ◌==◌, count_by, ◌⊎◌, ⊤, if◌then◌else◌}
 use Rattle.msrp_plan.specs.FifoLock.{Legal}
 use Rattle.msrp_plan.specs.declared.units.Call.{Call}
 use Rattle.msrp_plan.specs.declared.units.Call.TheVariants.{Ask, Poll, Leave}
@@ -13,7 +13,7 @@ Event = ℕ × Entry
 -- what stands under the number c, in order
 abbrev pub by : {X : Type 0} → ℕ → List (ℕ × X) → List X
 by c [] = []
-by c (x ∷ xs) = cond (x.0 == c) (x.1 ∷ by c xs) (by c xs)
+by c (x ∷ xs) = if x.0 == c then x.1 ∷ by c xs else by c xs
 
 -- the calls of these events, each with its core
 abbrev pub calls : List Event → List (ℕ × Call)

@@ -6,3 +6,4 @@ pub mod Overtaking
 pub mod ShortQueues
 pub mod Calls
 pub mod QueueLocks
+pub mod LockHistories

@@ -27,6 +27,7 @@ use Rattle.msrp_plan.proofs.Holding.LocalLocks.{turn_on}
 use Rattle.msrp_plan.proofs.Blocking.Pressing.{Presses, press_kept, press_live, press_lower}
 use Rattle.msrp_plan.proofs.Blocking.Sound.{IsSound, sound_at, shielded, shorter, unstarted}
 use Rattle.msrp_plan.proofs.Blocking.Heads.{IsBehind, held_up, behind_row, blocking_row, no_later, job_on}
+use Rattle.msrp_plan.proofs.Tests.{same_tests}
 
 -- ---- job o, if there is one, is later than j; no other later job presses on the level of a job that isn't started and comes no later than j
 pub record IsBlockedBy (plan : PlanModel) (pre : List Row) (j : JobId) (o : Option JobId) : Type 0 where
@@ -94,13 +95,6 @@ blocked_by_stays plan pre r j o ok all legal there after s old =
     record { later = old.later; quiet = λ i h ini inh other b sh. quiet_cases plan pre r j o i h (is_row_of i r) refl ok sound legal there after (unstarted pre r j s).0 old ini inh other b (unstarted pre r h sh).0 }
 
 -- ---- which rows block j
--- tests that imply each other are one
-same_tests : (a b : Bool) → (a ≡ true → b ≡ true) → (b ≡ true → a ≡ true) → a ≡ b
-same_tests true true f g = refl
-same_tests true false f g = sym (f refl)
-same_tests false true f g = g refl
-same_tests false false f g = refl
-
 -- a row that blocks j is of that job
 by_cases : (plan : PlanModel) (pre : List Row) (r : Row) (j : JobId) (o : Option JobId) (x : JobId) (b : Bool) → is_job o x ≡ b → core_of plan j ≡ r.core.0 → IsBlockedBy plan pre j o → IsBehind plan pre r j x → is_by o r ≡ true
 by_cases plan pre r j None x b e at old d = absurd (old.quiet x d.held.first (subst (λ n. Contains (jobs_on plan n) x) (sym at) d.other) (subst (λ n. Contains (jobs_on plan n) d.held.first) (sym at) d.held.on) refl d.later d.held.unstarted d.held.not_later d.held.presses)

@@ -1,5 +1,5 @@
 -- Names and tasks as they are stored, and as a plan has them.
-use Rattle.std.proofs.Common.{◌≡◌, ℕ, suc, zero, ◌+◌, ◌==◌, nat_eq, Bool, false, cond, not, ◌||◌, List, [], ◌∷◌, ◌++◌, map, set, slice_index_or, string_bytes, string_eq, Option, Some, None, is_some, refl, ap, sym, ◌∙◌, arith}
+use Rattle.std.proofs.Common.{◌≡◌, ℕ, suc, zero, ◌+◌, ◌==◌, nat_eq, Bool, false, cond, not, List, [], ◌∷◌, ◌++◌, map, set, slice_index_or, string_bytes, string_eq, Option, Some, None, is_some, refl, ap, sym, ◌∙◌, arith}
 use Rattle.std.specs.declared.alloc.Global.{Global}
 use Rattle.std.specs.declared.string.String.{String}
 use Rattle.std.specs.List.{list_any, position, position_or_len, slice_get}
@@ -19,11 +19,7 @@ use Rattle.msrp_plan.specs.Inside.Tasks.{task_view, named_view}
 use Rattle.msrp_plan.specs.Inside.Views.{numbers}
 use Rattle.msrp_plan.specs.declared.ids.ResId.{ResId}
 use Rattle.msrp_plan.specs.declared.tasks.Task.{Task}
-
--- a test of some element of a list that is made of another
-pub any_map : {X Y : Type 0} (p : Y → Bool) (f : X → Y) (xs : List X) → list_any p (map f xs) ≡ list_any (λ x. p (f x)) xs
-any_map p f [] = refl
-any_map p f (x ∷ xs) = ap (λ b. p (f x) || b) (any_map p f xs)
+use Rattle.msrp_plan.proofs.Lists.Filters.{any_map}
 
 -- the first place in a list that is made of another
 first_map : {X Y : Type 0} (p : Y → Bool) (f : X → Y) (xs : List X) → position_or_len p (map f xs) ≡ position_or_len (λ x. p (f x)) xs
@@ -41,7 +37,7 @@ task_names (e ∷ es) = ap (λ names. string_bytes e.0 ∷ names) (task_names es
 -- a task of the name stands where the key is found
 pub has_task : (es : List (String Global × Task)) (name : List ℕ) → is_some (lookup (λ k. bytes_eq name (string_bytes k)) es) ≡ has_name (map (λ (u : TaskModel). u.name) (map task_view es)) name
 has_task es name =
-    is_some-lookup (λ k. bytes_eq name (string_bytes k)) es ∙ sym (any_map (bytes_eq name) string_bytes (keys_of es)) ∙ sym (ap (list_any (bytes_eq name)) (task_names es))
+    is_some-lookup (λ k. bytes_eq name (string_bytes k)) es ∙ sym (any_map string_bytes (bytes_eq name) (keys_of es)) ∙ sym (ap (list_any (bytes_eq name)) (task_names es))
 
 -- where a task of the name stands is where the key is found
 pub task_position : (es : List (String Global × Task)) (name : List ℕ) → position (λ k. bytes_eq name (string_bytes k)) (keys_of es) ≡ name_position (map (λ (u : TaskModel). u.name) (map task_view es)) name
@@ -76,7 +72,7 @@ task_push m k task new =
 -- a new name goes last
 pub name_push : (ks : List (String Global)) (k : String Global) → has_name (map string_bytes ks) (string_bytes k) ≡ false → map string_bytes (insert_key string_eq ks k) ≡ map string_bytes ks ++ string_bytes k ∷ []
 name_push ks k new =
-    let none : list_any (string_eq k) ks ≡ false = sym (any_map (bytes_eq (string_bytes k)) string_bytes ks) ∙ new in
+    let none : list_any (string_eq k) ks ≡ false = sym (any_map string_bytes (bytes_eq (string_bytes k)) ks) ∙ new in
     ap (λ b. map string_bytes (cond b ks (ks ++ k ∷ []))) none ∙ map_push string_bytes ks k
 
 -- the task at a place

@@ -35,7 +35,7 @@ against plan n h s x true e r =
 against plan n h s x false e r = inr (cc)
 
 -- nobody is no job
-none_some : (s : JobId) → None ≡ Some s → ⊥
+pub none_some : (s : JobId) → None ≡ Some s → ⊥
 none_some s h = cc
 
 -- by whether there is a head and somebody runs

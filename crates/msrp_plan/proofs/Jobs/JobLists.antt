@@ -8,7 +8,7 @@ pub use Rattle.msrp_plan.specs.Jobs.{job_at}
 use Rattle.msrp_plan.specs.WellFormed.{IsPlan}
 use Rattle.msrp_plan.specs.declared.ids.JobId.{JobId}
 use Rattle.msrp_plan.proofs.Lists.Least.{all_filtered}
-use Rattle.msrp_plan.proofs.Lists.AnyAll.{all_weaker}
+use Rattle.msrp_plan.proofs.Lists.AnyAll.{all_weaker, all_joined}
 use Rattle.msrp_plan.proofs.Lists.Ranges.{flat_more}
 use Rattle.msrp_plan.proofs.Jobs.Releases.{first_jobs, task_times}
 
@@ -47,11 +47,6 @@ jobs_among_more plan c t =
     ap (filter (λ j. core_of plan j == c)) (flat_more (jobs_of plan) t)
     ∙ (filter-append (λ j. core_of plan j == c) (flat_map (jobs_of plan) (range_with_len 0 t)) (jobs_of plan t)
     ∙ ap (λ js. jobs_among plan c (range_with_len 0 t) ++ js) (task_jobs_on plan c t))
-
--- what holds of two lists holds of both together
-all_joined : {X : Type 0} (P : X → Type 0) (xs ys : List X) → AllByRecursion P xs → AllByRecursion P ys → AllByRecursion P (xs ++ ys)
-all_joined P [] ys a b = b
-all_joined P (x ∷ xs) ys a b = (a.0, all_joined P xs ys a.1 b)
 
 -- the jobs of tasks below n
 among_below : (plan : PlanModel) (n a m : ℕ) → a + m ≤ n → AllByRecursion (λ j. j.task.0 < n) (flat_map (jobs_of plan) (range_with_len a m))

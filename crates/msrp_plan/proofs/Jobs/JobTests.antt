@@ -12,6 +12,14 @@ same_is i j h = grind arith
 pub same_self : (j : JobId) → same_job j j ≡ true
 same_self j = ap (λ b. b && (j.k == j.k)) (eq-eqb j.task.0 j.task.0 refl) ∙ eq-eqb j.k j.k refl
 
+-- it doesn't matter which job stands first
+pub same_symm : (i j : JobId) → same_job i j ≡ same_job j i
+same_symm i j = grind arith
+
+-- jobs that pass it with each other pass it with the same jobs
+pub same_congr : (i j k : JobId) → same_job i j ≡ true → same_job i k ≡ same_job j k
+same_congr i j k h = ap (λ x. same_job x k) (same_is i j h)
+
 -- two jobs of one option are one
 pub some_is : (i j : JobId) → Some i ≡ Some j → i ≡ j
 some_is i j h = cc

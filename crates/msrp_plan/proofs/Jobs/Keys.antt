@@ -18,13 +18,13 @@ pub before_order : (plan : PlanModel) → IsStrictWeakOrder (is_before plan)
 before_order plan = ranks_by key_total (key plan)
 
 -- two comparisons in turn are equal where both are
-then_equal : (a b : Ordering) → ordering_then a b ≡ Equal → (a ≡ Equal) × (b ≡ Equal)
+pub then_equal : (a b : Ordering) → ordering_then a b ≡ Equal → (a ≡ Equal) × (b ≡ Equal)
 then_equal Less b h = absurd (cc)
 then_equal Equal b h = (refl, h)
 then_equal Greater b h = absurd (cc)
 
 -- numbers that compare equal are one
-nat_equal : (x y : ℕ) → nat_cmp x y ≡ Equal → x ≡ y
+pub nat_equal : (x y : ℕ) → nat_cmp x y ≡ Equal → x ≡ y
 nat_equal x y h = let k = ranked x y Equal (sym h) in k
 
 -- what is less in neither direction is equal

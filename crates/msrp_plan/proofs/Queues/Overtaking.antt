@@ -95,7 +95,7 @@ behind_same plan g x pre r n more old off fs w st =
     }
 
 -- a queue that stays has nobody more
-same_queue : (f h : List JobId) → h ≡ f → h ≡ f ++ []
+pub same_queue : (f h : List JobId) → h ≡ f → h ≡ f ++ []
 same_queue f h e = e ∙ sym (append-nil f)
 
 -- one counts at most one

@@ -18,6 +18,8 @@ use Rattle.msrp_plan.proofs.Legality.Locality.{AreOwn, choice_local, does_next_l
 use Rattle.msrp_plan.proofs.Legality.LegalRows.{legal_due}
 use Rattle.msrp_plan.proofs.Lists.Prefixes.{each_before, each_rest, each_append, along}
 use Rattle.msrp_plan.proofs.Legality.ReplyLocality.{fifo_local}
+use Rattle.msrp_plan.proofs.Runs.RoundRobin.{in_turn_of}
+use Rattle.msrp_plan.proofs.Tests.{or_neither}
 
 -- ---- rows that look alike to one row
 -- the row's core finds the same rows of its own in both lists, and its resource the same rows on it
@@ -157,18 +159,10 @@ or_left : (a b : Bool) → (a || b) ≡ false → a ≡ false
 or_left true b h = h
 or_left false b h = refl
 
--- nor is their disjunction where each is false
-or_both : (a b : Bool) → a ≡ false → b ≡ false → (a || b) ≡ false
-or_both a b e f = rw (e, f) refl
-
 -- a conjunction is false where its second part is
 and_right : (a b : Bool) → b ≡ false → (a && b) ≡ false
 and_right true b e = e
 and_right false b e = refl
-
--- a row of the due tick, of a core of the plan that hasn't had its turn, is in turn
-in_turn_of : (t n : ℕ) (low had : Bool) → t ≡ n → low ≡ true → had ≡ false → ((t == n) && (low && not had)) ≡ true
-in_turn_of t n low had e l h = rw (l, h, eq-eqb t n e) refl
 
 -- the second row is in turn before the first
 second_turn : (plan : PlanModel) (pre : List Row) (r s : Row) → IsLegal plan pre r → IsLegal plan (pre ++ r ∷ []) s → r.tick ≡ s.tick → is_in_turn plan pre s ≡ true
@@ -186,7 +180,7 @@ first_turn plan pre r s h k tick apart =
     let size : length (pre ++ r ∷ []) ≡ length (pre ++ s ∷ []) = length-append pre (r ∷ []) ∙ sym (length-append pre (s ∷ [])) in
     in_turn_of r.tick (length (pre ++ s ∷ []) / plan.cores) (nat_lt r.core.0 plan.cores) (had_turn r.core.0 r.tick (pre ++ s ∷ [])) (tick ∙ (b.tick ∙ ap (λ n. n / plan.cores) size)) (lt-ltb r.core.0 plan.cores a.core)
     (any_push (λ w. (w.tick == r.tick) && (w.core.0 == r.core.0)) pre s
-    ∙ or_both (had_turn r.core.0 r.tick pre) _ a.once (and_right (s.tick == r.tick) _ (other_core r s apart r.core.0 (eq-eqb r.core.0 r.core.0 refl))))
+    ∙ or_neither (had_turn r.core.0 r.tick pre) _ a.once (and_right (s.tick == r.tick) _ (other_core r s apart r.core.0 (eq-eqb r.core.0 r.core.0 refl))))
 
 -- in a start of a legal run each job keeps to its core
 own_rows : (plan : PlanModel) (rows : List Row) → EachAfter (IsLegal plan) [] rows → AreOwn plan rows

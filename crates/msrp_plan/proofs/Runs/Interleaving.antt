@@ -8,15 +8,11 @@ use Rattle.msrp_plan.specs.Logs.{is_of, log_of, IsDueTurn, AreInterleaved}
 use Rattle.msrp_plan.specs.declared.rows.Row.{Row}
 use Rattle.msrp_plan.proofs.Lists.Prefixes.{each_at, each_push}
 use Rattle.msrp_plan.proofs.Runs.RoundRobin.{due_rows_legal}
+use Rattle.msrp_plan.proofs.Lists.AnyAll.{all_mid}
 
 -- a row of the core stands between the parts of its log
 log_around : (c : ℕ) (pre : List Row) (r : Row) (post : List Row) → r.core.0 ≡ c → log_of c (pre ++ r ∷ post) ≡ log_of c pre ++ r ∷ log_of c post
 log_around c pre r post at = filter-append (is_of c) pre (r ∷ post) ∙ ap (λ b. log_of c pre ++ cond b (r ∷ log_of c post) (log_of c post)) (eq-eqb r.core.0 c at)
-
--- what holds of all elements holds of the one in the middle
-all_at : {X : Type 0} (P : X → Type 0) (xs : List X) (x : X) (ys : List X) → AllByRecursion P (xs ++ x ∷ ys) → P x
-all_at P [] x ys all = all.0
-all_at P (z ∷ xs) x ys all = all_at P xs x ys all.1
 
 -- each row is the next one of its core after the core's log
 turn_at : (plan : PlanModel) (rows : List Row) → AreInterleaved plan rows → (pre : List Row) (r : Row) (post : List Row) → rows ≡ pre ++ r ∷ post → r.core.0 < plan.cores → IsCoreTurn plan r.core.0 (log_of r.core.0 pre) r
@@ -31,7 +27,7 @@ AreAnswered plan rows = (pre : List Row) (r : Row) (post : List Row) → rows �
 -- each of them is then the next row of a due core
 due_at : (plan : PlanModel) (rows : List Row) → AreInterleaved plan rows → AreAnswered plan rows → (pre : List Row) (r : Row) (post : List Row) → rows ≡ pre ++ r ∷ post → EachAfter (IsDueTurn plan) [] pre → IsDueTurn plan pre r
 due_at plan rows h answered pre r post e dues =
-    let low : r.core.0 < plan.cores = all_at (λ r. r.core.0 < plan.cores) pre r post (subst (AllByRecursion (λ r. r.core.0 < plan.cores)) e h.cores) in
+    let low : r.core.0 < plan.cores = all_mid (λ r. r.core.0 < plan.cores) pre r post (subst (AllByRecursion (λ r. r.core.0 < plan.cores)) e h.cores) in
     let turn = turn_at plan rows h pre r post e low in
     let tick : r.tick ≡ length pre / plan.cores = each_at (λ pre r. r.tick ≡ length pre / plan.cores) [] pre r post (subst (EachAfter (λ pre r. r.tick ≡ length pre / plan.cores) []) e h.ticks) in
     record { core = low; due = sym turn.tick ∙ tick; turn = turn; reply = answered pre r post e (due_rows_legal plan pre dues) turn }

@@ -180,7 +180,7 @@ pub fault_is : (plan : PlanModel) (rows : List Row) (f : Fault) → verdict plan
 fault_is plan rows f h = fault_after plan [] rows f (record { size = omega arith; each = tt }) (sym (verdict_is plan rows) ∙ h)
 
 -- faults of one row and one rule are one
-fault_of : (f g : Fault) → f.row ≡ g.row → f.rule ≡ g.rule → Some f ≡ Some g
+pub fault_of : (f g : Fault) → f.row ≡ g.row → f.rule ≡ g.rule → Some f ≡ Some g
 fault_of f g row rule =
     let at : ℕ → Rule → Option Fault = λ n u. Some (record { row = n; rule = u }) in
     ap (λ n. at n f.rule) row ∙ ap (at g.row) rule

@@ -1,6 +1,6 @@
 -- Work conservation: a core idles exactly where its released jobs are finished. Where nobody runs nobody presses on the
 -- head, so it starts.
-use Rattle.std.proofs.Common.{◌≡◌, ℕ, ◌≤◌, Bool, true, false, cond, ◌&&◌, List, [], Option, Some, None, refl, ap, sym, ◌∙◌, subst, arith, nat_lt, length}
+use Rattle.std.proofs.Common.{◌≡◌, ℕ, ◌≤◌, Bool, true, false, cond, List, [], Option, Some, None, refl, ap, sym, ◌∙◌, subst, arith, nat_lt, length}
 use Rattle.std.specs.List.{Contains}
 use Rattle.std.proofs.lemmas.Bool.{eqb-true, ltb-false, true_from_ne_false}
 use Rattle.std.proofs.lemmas.Option.{slice_get_within}
@@ -24,18 +24,9 @@ use Rattle.msrp_plan.proofs.Legality.LegalRows.{IsTurn, legal_turn}
 use Rattle.msrp_plan.proofs.Blocking.Pressing.{press_live, pressed}
 use Rattle.msrp_plan.proofs.Blocking.Sound.{IsSound, sound_push, sound_none, sound_asking, is_ready, ready}
 use Rattle.msrp_plan.proofs.Scheduling.Released.{AreReleased, released_push, released_none, turn_released}
+use Rattle.msrp_plan.proofs.Spinning.QueueWork.{chosen_none}
 
 -- ---- where nobody has the turn
--- nobody runs
-none_runs : (plan : PlanModel) (n : ℕ) (h s : Option JobId) → chosen plan n h s ≡ None → s ≡ None
-none_runs plan n None s e = e
-none_runs plan n (Some h) None e = refl
-none_runs plan n (Some h) (Some s) e = absurd (kept_some (nat_lt n (level plan h.task.0) && is_before plan h s) e)
-  where
-    kept_some : (b : Bool) → cond b (Some h) (Some s) ≡ None → ⊥
-    kept_some true e = cc
-    kept_some false e = cc
-
 -- and the head, if there is one, isn't above the ceiling
 head_low : (plan : PlanModel) (n : ℕ) (h : JobId) (b : Bool) → nat_lt n (level plan h.task.0) ≡ b → cond b (Some h) None ≡ None → level plan h.task.0 ≤ n
 head_low plan n h true e c = absurd (cc)
@@ -57,7 +48,7 @@ none_ready plan c t pre (Some h) e ok sound idle none j on l s =
 -- and whoever is released is finished
 all_finished : (plan : PlanModel) (c t : ℕ) (pre : List Row) → IsPlan plan → IsSound plan pre → choice plan c t pre ≡ None → (j : JobId) → Contains (jobs_on plan c) j → release plan j ≤ t → is_finished plan pre j ≡ true
 all_finished plan c t pre ok sound none j on l =
-    let idle = none_runs plan (ceiling plan c pre) (head plan c t pre) (running plan c pre) none in
+    let idle = chosen_none plan (ceiling plan c pre) (head plan c t pre) (running plan c pre) none in
     let started : is_started pre j ≡ true = true_from_ne_false (is_started pre j) (none_ready plan c t pre (head plan c t pre) refl ok sound idle none j on l) in
     true_from_ne_false (is_finished plan pre j) (λ f. least_some (is_before plan) (is_live plan pre) (jobs_on plan c) j idle on (live plan pre j started f))
 

@@ -12,11 +12,12 @@ use Rattle.msrp_plan.specs.declared.ids.JobId.{JobId}
 use Rattle.msrp_plan.specs.declared.rows.Kind.TheVariants.{Take, Queue, Spin, Grant, Release}
 use Rattle.msrp_plan.specs.declared.rows.Row.{Row}
 use Rattle.msrp_plan.proofs.Lists.AnyAll.{any_push}
-use Rattle.msrp_plan.proofs.Jobs.JobTests.{same_is, same_self, row_of_job}
+use Rattle.msrp_plan.proofs.Jobs.JobTests.{same_self, row_of_job}
 use Rattle.msrp_plan.proofs.Lists.Prefixes.{along}
 use Rattle.msrp_plan.proofs.TaskUnits.Stands.{Out, Waits, Holds, stand, holds_waits}
 use Rattle.msrp_plan.proofs.Queues.Effects.{Effect, Quiet, Took, Joined, Got, Spun, Left, effect}
 use Rattle.msrp_plan.proofs.Holding.Holders.{IsOrderly, orderly_by, orderly_none, stood}
+use Rattle.msrp_plan.proofs.Queues.Fifos.{first_same}
 
 -- the job stands in the queue
 abbrev pub stands_in : List JobId → JobId → Bool
@@ -44,14 +45,9 @@ rest_in : (queue : List JobId) (j : JobId) → is_first queue (Some j) ≡ false
 rest_in [] j first h = absurd (cc)
 rest_in (i ∷ queue) j first h = rest_go (is_job (Some j) i) (stands_in queue j) first h
 
--- one who is first is the only one
-first_one : (queue : List JobId) (i j : JobId) → is_first queue (Some i) ≡ true → is_first queue (Some j) ≡ true → i ≡ j
-first_one [] i j a b = absurd (cc)
-first_one (h ∷ queue) i j a b = same_is i h a ∙ sym (same_is j h b)
-
 -- so whoever isn't the first isn't first
 not_first : (queue : List JobId) (x j : JobId) (b : Bool) → is_first queue (Some j) ≡ b → is_first queue (Some x) ≡ true → (j ≡ x → ⊥) → is_first queue (Some j) ≡ false
-not_first queue x j true e first other = absurd (other (first_one queue j x e first))
+not_first queue x j true e first other = absurd (other (first_same queue j x e first))
 not_first queue x j false e first other = e
 
 -- ---- each effect keeps it

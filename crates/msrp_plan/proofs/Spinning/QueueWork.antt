@@ -70,7 +70,7 @@ kept_some true x y h = cc
 kept_some false x y h = cc
 
 -- where nobody is chosen nobody runs
-chosen_none : (plan : PlanModel) (n : ℕ) (h s : Option JobId) → chosen plan n h s ≡ None → s ≡ None
+pub chosen_none : (plan : PlanModel) (n : ℕ) (h s : Option JobId) → chosen plan n h s ≡ None → s ≡ None
 chosen_none plan n None s e = e
 chosen_none plan n (Some h) None e = refl
 chosen_none plan n (Some h) (Some s) e = absurd (kept_some (nat_lt n (level plan h.task.0) && is_before plan h s) h s e)

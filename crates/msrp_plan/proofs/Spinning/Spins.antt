@@ -1,5 +1,5 @@
 -- How often a waiting job spins: at the end of each tick the spins so far and the work ahead are within the work that was ahead at first.
-use Rattle.std.proofs.Common.{◌≡◌, ◌≢◌, ℕ, ◌+◌, ◌<◌, ◌≤◌, Bool, true, false, cond, ◌||◌, ◌==◌, List, [], ◌∷◌, ◌++◌, Some, refl, ap, sym, ◌∙◌, subst, arith, drop, append_assoc, append-nil, slice_get, inl, inr, ◌⊎◌, eq-eqb}
+use Rattle.std.proofs.Common.{◌≡◌, ◌≢◌, ℕ, ◌+◌, ◌<◌, ◌≤◌, Bool, true, false, cond, ◌||◌, ◌==◌, List, [], ◌∷◌, ◌++◌, Some, refl, ap, sym, ◌∙◌, subst, arith, drop, append_assoc, slice_get, inl, inr, ◌⊎◌, eq-eqb}
 use Rattle.std.specs.List.{AllByRecursion, Contains, count_by, list_any}
 use Rattle.std.proofs.Math.Bool.{true≢false}
 use Rattle.std.proofs.lemmas.Bool.{eqb-true, and_parts, or_parts}
@@ -24,12 +24,14 @@ use Rattle.msrp_plan.proofs.Lists.Apart.{ApartBy}
 use Rattle.msrp_plan.proofs.Queues.Effects.{Effect, Got, IsMove, Joined, Left, Quiet, Spun, Took, effect, mover_is}
 use Rattle.msrp_plan.proofs.Jobs.JobTests.{is_job_is, same_is, same_self}
 use Rattle.msrp_plan.proofs.Legality.LegalRows.{DoesUnit, legal_turn, turn_core}
-use Rattle.msrp_plan.proofs.Queues.Overtaking.{not_mine, still_waits}
+use Rattle.msrp_plan.proofs.Queues.Overtaking.{not_mine, still_waits, same_queue}
 use Rattle.msrp_plan.proofs.Queues.QueueMembers.{IsMember, IsQueueOf}
 use Rattle.msrp_plan.proofs.Spinning.QueueWork.{IsFair, fair_push, work_first, works, works_le}
 use Rattle.msrp_plan.proofs.Spinning.SectionWork.{work, work_some}
 use Rattle.msrp_plan.proofs.TaskUnits.Stands.{Holds, Out, Waits, holds_waits, waits_out, holder_stands, locks_at, up_cases, stand}
 use Rattle.msrp_plan.proofs.Runs.Ticks.{IsFull, IsTick, fresh, full, not_turned, row_tick, rows_in, tick_push, turned, turned_push}
+use Rattle.msrp_plan.proofs.Lists.AnyAll.{all_mid}
+use Rattle.msrp_plan.proofs.Tests.{or_off, one_at_most}
 
 -- ---- the pace: at the end of a tick the spins so far and the work ahead are within the total
 abbrev pub Behind : ℕ → ℕ → ℕ → Bool → Bool → Type 0
@@ -71,11 +73,6 @@ pub record IsSpinning (plan : PlanModel) (g : ℕ) (x : JobId) (t : ℕ) (pre : 
 pub all_left : {X : Type 0} (P : X → Type 0) (xs ys : List X) → AllByRecursion P (xs ++ ys) → AllByRecursion P xs
 all_left P [] ys all = tt
 all_left P (x ∷ xs) ys all = (all.0, all_left P xs ys all.1)
-
--- one in the middle
-all_mid : {X : Type 0} (P : X → Type 0) (xs : List X) (x : X) (ys : List X) → AllByRecursion P (xs ++ x ∷ ys) → P x
-all_mid P [] x ys all = all.0
-all_mid P (z ∷ xs) x ys all = all_mid P xs x ys all.1
 
 -- all before one are apart from it
 pub apart_mid : {X : Type 0} (f : X → ℕ) (xs : List X) (x : X) (ys : List X) → ApartBy f (xs ++ x ∷ ys) → AllByRecursion (λ z. f z ≢ f x) xs
@@ -191,11 +188,6 @@ spin_stays plan g x t pre r total s more w old fs st =
 drop_go : (tc : Bool) (ty : Bool) (s w1 w v total : ℕ) → 1 ≤ w1 → w ≡ w1 + v → Behind s w total tc ty → s + v + 1 ≤ total + cond {A = ℕ} tc 1 0
 drop_go tc ty s w1 w v total some e old = elim old [ inl k ↦ omega (arith, k, some, e) | inr k ↦ let l = k.1 in omega (arith, l, some, e) ]
 
--- one counts at most one
-one_at_most : (b : Bool) → cond {A = ℕ} b 1 0 ≤ 1
-one_at_most true = omega arith
-one_at_most false = omega arith
-
 -- so the rest has the pace
 rest_pace : (plan : PlanModel) (g : ℕ) (pre : List Row) (T : ℕ → Bool) (c total s : ℕ) (ys : List JobId) (b : Bool) → T c ≡ b → s + works plan g pre ys + 1 ≤ total + cond {A = ℕ} b 1 0 → Pace plan g pre T c total s ys
 rest_pace plan g pre T c total s [] b e h = let k = one_at_most b in omega (arith, h, k)
@@ -205,11 +197,6 @@ rest_pace plan g pre T c total s (y ∷ ys) b e h = inl (subst (λ v. s + works 
 ne_eqb : (a b : ℕ) (c : Bool) → (a == b) ≡ c → a ≢ b → (a == b) ≡ false
 ne_eqb a b true e ne = absurd (ne (eqb-true a b e))
 ne_eqb a b false e ne = e
-
--- no turn more
-or_off : (a b : Bool) → b ≡ false → a || b ≡ a
-or_off true b e = refl
-or_off false b e = e
 
 -- keeps the invariant
 spin_left : (plan : PlanModel) (g : ℕ) (x : JobId) (t : ℕ) (pre : List Row) (r : Row) (total s : ℕ) (z : JobId) (ahead behind : List JobId) → Stays plan g x t pre r → fifo g pre ≡ ahead ++ x ∷ behind → stand plan g pre x ≡ Waits → Pace plan g pre (turned t pre) (core_of plan x) total s ahead → IsMove plan g pre r z Release Holds Out → is_first (fifo g pre) (Some z) ≡ true → fifo g (pre ++ r ∷ []) ≡ drop 1 (fifo g pre) → IsSpinning plan g x t (pre ++ r ∷ []) total (s + cond {A = ℕ} (is_spin_of x r) 1 0)
@@ -240,19 +227,15 @@ spin_left plan g x t pre r total s z (y ∷ ys) behind w q st old m first fs =
 out_waits : Out ≡ Waits → ⊥
 out_waits h = cc
 
--- a queue that stays has nobody more
-no_more : (f f2 : List JobId) → f2 ≡ f → f2 ≡ f ++ []
-no_more f f2 e = e ∙ sym (append-nil f)
-
 -- each effect but a grant to x keeps it
 spin_by : (plan : PlanModel) (g : ℕ) (x : JobId) (t : ℕ) (pre : List Row) (r : Row) (total s : ℕ) → Stays plan g x t pre r → IsSpinning plan g x t pre total s → is_grant_of x g r ≡ false → IsSpinning plan g x t (pre ++ r ∷ []) total (s + cond {A = ℕ} (is_spin_of x r) 1 0)
 spin_by plan g x t pre r total s w old non =
     elim w.eff [
-      | Quiet off fs st ↦ spin_stays plan g x t pre r total s [] w old (no_more (fifo g pre) (fifo g (pre ++ r ∷ [])) fs) (st x ∙ old.waits)
+      | Quiet off fs st ↦ spin_stays plan g x t pre r total s [] w old (same_queue (fifo g pre) (fifo g (pre ++ r ∷ [])) fs) (st x ∙ old.waits)
       | Took z m empty fs ↦ spin_stays plan g x t pre r total s (z ∷ []) w old fs (still_waits plan g pre r x z Take Out Holds m (λ h. absurd (out_waits h)) (is_row_of x r) refl old.waits)
       | Joined z m some fs ↦ spin_stays plan g x t pre r total s (z ∷ []) w old fs (still_waits plan g pre r x z Queue Out Waits m (λ _. refl) (is_row_of x r) refl old.waits)
-      | Got z m first fs ↦ spin_stays plan g x t pre r total s [] w old (no_more (fifo g pre) (fifo g (pre ++ r ∷ [])) fs) (m.others x (not_mine x g r m.on (ap is_grant m.kind) non) ∙ old.waits)
-      | Spun z m back fs ↦ spin_stays plan g x t pre r total s [] w old (no_more (fifo g pre) (fifo g (pre ++ r ∷ [])) fs) (still_waits plan g pre r x z Spin Waits Waits m (λ _. refl) (is_row_of x r) refl old.waits)
+      | Got z m first fs ↦ spin_stays plan g x t pre r total s [] w old (same_queue (fifo g pre) (fifo g (pre ++ r ∷ [])) fs) (m.others x (not_mine x g r m.on (ap is_grant m.kind) non) ∙ old.waits)
+      | Spun z m back fs ↦ spin_stays plan g x t pre r total s [] w old (same_queue (fifo g pre) (fifo g (pre ++ r ∷ [])) fs) (still_waits plan g pre r x z Spin Waits Waits m (λ _. refl) (is_row_of x r) refl old.waits)
       | Left z m fs ↦ spin_left plan g x t pre r total s z old.ahead old.behind w old.queue old.waits old.pace m (w.fair.queue.orderly.first z m.before) fs
     ]
 

@@ -1,16 +1,16 @@
 -- What a well-formed plan says of the units of any task number, also of one that it lacks: that has no unit.
-use Rattle.std.proofs.Common.{◌≡◌, ℕ, ◌+◌, ◌<◌, ◌≤◌, List, [], Some, refl, ap, sym, ◌∙◌, subst, arith, length, slice_get, inl, inr}
+use Rattle.std.proofs.Common.{◌≡◌, ℕ, ◌<◌, ◌≤◌, List, [], Some, refl, ap, sym, ◌∙◌, subst, length, slice_get, inl, inr}
 use Rattle.std.specs.List.{Contains}
-use Rattle.std.proofs.Math.Seq.{take-nil}
 use Rattle.std.proofs.lemmas.Bool.{cases_lt}
 use Rattle.std.proofs.lemmas.List.{get_or_past}
 use Rattle.std.proofs.lemmas.List.Elements.{Contains-get_or}
 use Rattle.std.proofs.lemmas.Option.{get_or_from_slice_get, slice_get_within}
 use Rattle.msrp_plan.specs.Plan.{PlanModel, TaskModel, no_task, task_at}
-use Rattle.msrp_plan.specs.Units.{locks, unlocks, held_after}
+use Rattle.msrp_plan.specs.Units.{locks, unlocks}
 use Rattle.msrp_plan.specs.WellFormed.{IsLocking, IsFlat, IsPlan}
 use Rattle.msrp_plan.specs.declared.units.Op.{Op}
 use Rattle.msrp_plan.specs.declared.units.Op.TheVariants.{Lock}
+use Rattle.msrp_plan.proofs.TaskUnits.Nesting.{locks_none}
 
 -- no units have no unit
 no_unit : (n : ℕ) (op : Op) → slice_get [] n ≡ Some op → ⊥
@@ -40,22 +40,13 @@ every_task plan P none each t =
       | inr g ↦ subst (λ (a : TaskModel). P a.units) (sym (past plan t g)) none
     ]
 
--- no units lock properly
-none_locks : (plan : PlanModel) → IsLocking plan []
-none_locks plan = record {
-  declared = λ n g h. absurd (no_unit n (Lock g) h);
-  below = λ n g. subst (λ us. unlocks g us ≤ locks g us) (sym (take-nil n)) (omega arith);
-  once = λ n g. subst (λ us. locks g us ≤ unlocks g us + 1) (sym (take-nil n)) (omega arith);
-  nested = λ n. subst (λ us. (held : List ℕ) × (held_after us ≡ Some held) × (length held ≤ 8)) (sym (take-nil n)) ([], refl, omega arith);
-}
-
 -- and put no global resource in a global one
 none_flat : (plan : PlanModel) → IsFlat plan []
 none_flat plan = record { alone = λ n g h e. absurd (no_unit n (Lock h) e) }
 
 -- locks nest, and those of each resource alternate with its unlocks
 pub units_lock : (plan : PlanModel) → IsPlan plan → (t : ℕ) → IsLocking plan (task_at plan t).units
-units_lock plan ok = every_task plan (IsLocking plan) (none_locks plan) ok.draft.locking
+units_lock plan ok = every_task plan (IsLocking plan) (locks_none plan) ok.draft.locking
 
 -- whoever has done all of its units holds nothing
 pub units_balance : (plan : PlanModel) → IsPlan plan → (t g : ℕ) → unlocks g (task_at plan t).units ≡ locks g (task_at plan t).units
