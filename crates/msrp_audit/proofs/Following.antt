@@ -1,19 +1,17 @@
 -- A core followed by its own rows: the row against the turn of its machine, which answers as the row says.
-use Rattle.std.proofs.Common.{◌≡◌, ℕ, zero, suc, ◌/◌, ◌==◌, ◌&&◌, Bool, true, false, not, cond, List, [], ◌∷◌, ◌++◌, Option, Some, None, refl, ap, sym, ◌∙◌, subst, length, is_some, inl, inr}
+use Rattle.std.proofs.Common.{◌≡◌, ℕ, zero, suc, Bool, true, false, cond, List, [], ◌∷◌, ◌++◌, Option, Some, None, refl, ap, sym, ◌∙◌, subst, is_some, inl, inr}
 use Rattle.std.specs.Option.{ForSome}
 use Rattle.std.proofs.Math.Bool.{true≢false, and-false}
 use Rattle.std.proofs.lemmas.Bool.{cases_Bool, and_parts}
-use Rattle.std.proofs.lemmas.Option.{same_Some}
 use Rattle.msrp_plan.specs.Plan.{PlanModel}
 use Rattle.msrp_plan.specs.Shape.{has_shape}
 use Rattle.msrp_plan.specs.Jobs.{is_queued}
 use Rattle.msrp_plan.specs.Levels.{is_global}
-use Rattle.msrp_plan.specs.Actions.{allows, res_of_unit, same_res}
+use Rattle.msrp_plan.specs.Actions.{allows, same_res}
 use Rattle.msrp_plan.specs.Logs.{log_of}
 use Rattle.msrp_plan.specs.Calls.{kind_of_call}
 use Rattle.msrp_plan.specs.Runs.{IsRunStart, IsCoreTurn, had_turn, is_in_turn, is_of_core, is_chosen, is_next_action, same_choice}
 use Rattle.msrp_plan.specs.WellFormed.{IsPlan}
-use Rattle.msrp_plan.specs.declared.faults.Rule.{Rule}
 use Rattle.msrp_plan.specs.declared.faults.Rule.TheVariants.{A2, A3, A4}
 use Rattle.msrp_plan.specs.declared.ids.JobId.{JobId}
 use Rattle.msrp_plan.specs.declared.ids.ResId.{ResId}
@@ -27,13 +25,13 @@ use Rattle.msrp_plan.specs.declared.units.Op.TheVariants.{Run as RunUnit, Lock a
 use Rattle.msrp_plan.proofs.Legality.LegalRows.{IsTurn, due, turn_of, idle_res, same_res_is, same_choice_is}
 use Rattle.msrp_plan.proofs.Queues.QueueLocks.{own_from_legal, turn_from_log}
 use Rattle.msrp_plan.proofs.Runs.RoundRobin.{log_own}
-use Rattle.msrp_core.specs.CoreJobs.{MakesCall, IsQuiet}
+use Rattle.msrp_core.specs.CoreJobs.{MakesCall}
 use Rattle.msrp_core.specs.Machine.{MachineModel, StandsAfter}
 use Rattle.msrp_core.specs.Ports.{PortModel}
 use Rattle.msrp_core.specs.declared.port.PortCall.{PortCall}
-use Rattle.msrp_audit.specs.Foresight.{same_kind, same_action, does_alike, unlike_turn}
+use Rattle.msrp_audit.specs.Foresight.{same_action, does_alike, unlike_turn}
 use Rattle.msrp_audit.specs.Inside.Pieces.{broken_action}
-use Rattle.msrp_audit.specs.Inside.Replies.{is_yes, is_answered, as_calls, port_after}
+use Rattle.msrp_audit.specs.Inside.Replies.{is_yes, is_answered, as_calls}
 use Rattle.msrp_audit.proofs.Foresight.{chosen_alike, action_alike}
 use Rattle.msrp_audit.proofs.Judging.{reached}
 use Rattle.msrp_audit.proofs.Standing.{stands_as}

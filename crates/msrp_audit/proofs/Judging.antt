@@ -19,7 +19,7 @@ use Rattle.msrp_plan.specs.declared.faults.Fault.{Fault}
 use Rattle.msrp_plan.specs.declared.faults.Rule.{Rule}
 use Rattle.msrp_plan.specs.declared.faults.Rule.TheVariants.{A7}
 use Rattle.msrp_plan.specs.declared.rows.Row.{Row}
-use Rattle.msrp_plan.proofs.Lists.AnyAll.{any_in}
+use Rattle.msrp_plan.proofs.Lists.AnyAll.{any_in, all_joined}
 use Rattle.msrp_plan.proofs.Lists.Ranges.{not_equal}
 use Rattle.msrp_plan.proofs.Jobs.JobTests.{same_is, same_self}
 use Rattle.msrp_plan.proofs.Jobs.JobLists.{jobs_of_are, core_jobs_below}
@@ -91,10 +91,6 @@ low n a (suc m) h = (omega (arith, h), low n (a + 1) m (omega (arith, h)))
 
 abbrev IsNumbered : PlanModel → JobId → Type 0
 IsNumbered plan j = j.k < length (jobs_of plan j.task.0)
-
-all_joined : {X : Type 0} (P : X → Type 0) (xs ys : List X) → AllByRecursion P xs → AllByRecursion P ys → AllByRecursion P (xs ++ ys)
-all_joined P [] ys a b = b
-all_joined P (x ∷ xs) ys a b = (a.0, all_joined P xs ys a.1 b)
 
 numbered_map : (plan : PlanModel) (t : ℕ) (ks : List ℕ) → AllByRecursion (λ k. k < length (jobs_of plan t)) ks → AllByRecursion (IsNumbered plan) (map (job_at t) ks)
 numbered_map plan t [] all = tt

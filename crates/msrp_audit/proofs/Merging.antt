@@ -1,5 +1,5 @@
 -- The earliest of the pieces' answers is the first fault of the rows.
-use Rattle.std.proofs.Common.{append_assoc, min, map, Ok, IfOk, MatchResult, Result, get_or, ◌⊎◌, ◌≡◌, ◌≢◌, ℕ, zero, suc, ◌+◌, ◌-◌, ◌*◌, ◌/◌, ◌%◌, ◌<◌, ◌≤◌, ◌==◌, ◌&&◌, nat_lt, nat_le, Bool, true, false, cond, List, [], ◌∷◌, ◌++◌, Option, Some, None, IfSome, fold, refl, ap, sym, ◌∙◌, subst, arith, length, length-append, take, drop, inl, inr, eq-eqb, eqb-true, is_some}
+use Rattle.std.proofs.Common.{append_assoc, min, map, Ok, IfOk, MatchResult, Result, get_or, ◌⊎◌, ◌≡◌, ◌≢◌, ℕ, zero, suc, ◌+◌, ◌-◌, ◌*◌, ◌/◌, ◌%◌, ◌<◌, ◌≤◌, ◌==◌, ◌&&◌, nat_lt, Bool, true, false, cond, List, [], ◌∷◌, ◌++◌, Option, Some, None, IfSome, fold, refl, ap, sym, ◌∙◌, subst, arith, length, length-append, take, drop, inl, inr, eq-eqb, eqb-true}
 use Rattle.std.specs.Option.{option_or}
 use Rattle.std.specs.List.{AllZip, AllByRecursion, range_with_len}
 use Rattle.std.proofs.Math.Bool.{true≢false}
@@ -21,10 +21,9 @@ use Rattle.msrp_plan.specs.declared.faults.Fault.{Fault}
 use Rattle.msrp_plan.specs.declared.faults.Rule.{Rule}
 use Rattle.msrp_plan.specs.declared.faults.Rule.TheVariants.{A1, A2, A3, A4, A5, A6, A7}
 use Rattle.msrp_plan.specs.declared.rows.Row.{Row}
-use Rattle.msrp_plan.proofs.Lists.Ranges.{not_equal}
 use Rattle.msrp_plan.proofs.Legality.LegalRows.{due, turn_of}
-use Rattle.msrp_plan.proofs.Runs.Verdicts.{unbroken_is_legal, legal_is_unbroken, start_before, start_last, early_fault, early_is, fault_stays, fault_append}
-use Rattle.msrp_audit.specs.Inside.Pieces.{parts, pieces_of, piece_with, part_size, is_in_part, broken_turn, broken_action, broken_on_core, broken_reply, broken_in, told_at, TellsFirst, rule_number, fault_order, earlier_of, earliest_of, length_fault_of}
+use Rattle.msrp_plan.proofs.Runs.Verdicts.{unbroken_is_legal, legal_is_unbroken, start_before, start_last, early_fault, early_is, fault_stays, fault_append, fault_of}
+use Rattle.msrp_audit.specs.Inside.Pieces.{parts, pieces_of, piece_with, part_size, is_in_part, broken_in, told_at, TellsFirst, rule_number, fault_order, earlier_of, earliest_of, length_fault_of}
 use Rattle.msrp_audit.specs.declared.pieces.Piece.{Piece}
 use Rattle.msrp_audit.specs.declared.pieces.Piece.TheVariants.{Turns, Core, Resource}
 use Rattle.std.proofs.lemmas.Option.{same_Some}
@@ -214,19 +213,13 @@ rule_back A5 = refl
 rule_back A6 = refl
 rule_back A7 = refl
 
--- faults of one row and one rule are one
-one_fault : (f g : Fault) → f.row ≡ g.row → f.rule ≡ g.rule → Some f ≡ Some g
-one_fault f g row rule =
-    let at : ℕ → Rule → Option Fault = λ n u. Some (record { row = n; rule = u }) in
-    ap (λ n. at n f.rule) row ∙ ap (at g.row) rule
-
 same_order : (f g : Fault) → fault_order f ≡ fault_order g → Some f ≡ Some g
 same_order f g e =
     let a = few_rules f.rule in
     let b = few_rules g.rule in
     let row : f.row ≡ g.row = omega (arith, e, a, b) in
     let number : rule_number f.rule ≡ rule_number g.rule = omega (arith, e, a, b) in
-    one_fault f g row (sym (rule_back f.rule) ∙ (ap rule_of number ∙ rule_back g.rule))
+    fault_of f g row (sym (rule_back f.rule) ∙ (ap rule_of number ∙ rule_back g.rule))
 
 -- no fault before this one
 abbrev AtLeast : Fault → Option Fault → Type 0
@@ -309,7 +302,7 @@ told_is n (Some g) rule h f row is = by_row (g.row == n) refl
     by_row : (b : Bool) → (g.row == n) ≡ b → Some g ≡ Some f
     by_row true e =
         let named : Some g.rule ≡ Some rule = sym (ap (λ b. cond b (Some g.rule) None) e) ∙ h in
-        one_fault g f (eqb-true g.row n e ∙ sym row) (same_Some g.rule rule named ∙ sym is)
+        fault_of g f (eqb-true g.row n e ∙ sym row) (same_Some g.rule rule named ∙ sym is)
     by_row false e = let no : None ≡ Some rule = sym (ap (λ b. cond b (Some g.rule) None) e) ∙ h in absurd (cc)
 
 module _ (plan : PlanModel) (rows : List Row) where

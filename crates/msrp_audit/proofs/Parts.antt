@@ -1,5 +1,5 @@
 -- The turns of a part of the ticks.
-use Rattle.std.proofs.Common.{◌≡◌, ℕ, suc, ◌+◌, ◌*◌, ◌<◌, ◌≤◌, ◌&&◌, nat_lt, nat_le, Bool, true, false, cond, min, List, [], ◌∷◌, ◌++◌, Option, Some, None, refl, ap, sym, ◌∙◌, subst, arith, length, take, get_or, inl, inr}
+use Rattle.std.proofs.Common.{◌≡◌, ℕ, ◌+◌, ◌*◌, ◌<◌, ◌≤◌, ◌&&◌, nat_lt, nat_le, Bool, true, false, cond, min, List, Some, None, refl, ap, sym, ◌∙◌, arith, length, take, get_or, inl, inr}
 use Rattle.std.proofs.Math.Bool.{and-false}
 use Rattle.std.proofs.lemmas.Bool.{cases_lt, lt-ltb, le-ltb, le-leb, lt-leb}
 use Rattle.std.proofs.lemmas.List.{length-take-le}
@@ -9,7 +9,7 @@ use Rattle.msrp_plan.specs.declared.faults.Rule.TheVariants.{A1}
 use Rattle.msrp_plan.specs.declared.rows.Row.{Row}
 use Rattle.msrp_audit.specs.Inside.Pieces.{part_size, is_in_part, broken_turn, TellsFirst}
 use Rattle.msrp_audit.specs.declared.pieces.Piece.TheVariants.{Turns}
-use Rattle.msrp_audit.proofs.Scanning.{PassesTo, FindsAt, IsSound, split_length, passes_more, tells_none, finds_at}
+use Rattle.msrp_audit.proofs.Scanning.{PassesTo, split_length, passes_more, tells_none, finds_at}
 use Rattle.msrp_audit.proofs.Merging.{sound}
 
 module _ (plan : PlanModel) (part : ℕ) (rows : List Row) where

@@ -1,5 +1,5 @@
 -- The requests and releases of one resource, row by row, and what its queue replies.
-use Rattle.std.proofs.Common.{◌≡◌, ℕ, ◌+◌, ◌<◌, ◌≤◌, ◌==◌, ◌&&◌, eq-eqb, eqb-true, Bool, true, false, cond, nat_lt, List, [], ◌∷◌, ◌++◌, Option, Some, None, refl, ap, sym, ◌∙◌, subst, arith, length, take, drop, append-nil, get_or, is_some}
+use Rattle.std.proofs.Common.{◌≡◌, ℕ, ◌+◌, ◌<◌, ◌&&◌, eqb-true, Bool, true, false, cond, List, [], ◌∷◌, ◌++◌, Option, Some, None, refl, ap, sym, ◌∙◌, subst, arith, length, take, drop, append-nil, get_or}
 use Rattle.std.specs.List.{count_by, filter_map, cons_option}
 use Rattle.std.proofs.Math.Bool.{true≢false, and-false}
 use Rattle.std.proofs.lemmas.List.{take_more}
@@ -9,9 +9,8 @@ use Rattle.msrp_plan.specs.Plan.{PlanModel}
 use Rattle.msrp_plan.specs.Levels.{is_global}
 use Rattle.msrp_plan.specs.Shape.{has_shape}
 use Rattle.msrp_plan.specs.Queues.{is_on, is_request, is_release, requester, is_release_of, fifo, is_reply_of}
-use Rattle.msrp_plan.specs.Runs.{IsLegal, IsRunStart, is_fifo_reply, replies_on}
+use Rattle.msrp_plan.specs.Runs.{IsRunStart, is_fifo_reply, replies_on}
 use Rattle.msrp_plan.specs.WellFormed.{IsPlan}
-use Rattle.msrp_plan.specs.declared.faults.Rule.{Rule}
 use Rattle.msrp_plan.specs.declared.faults.Rule.TheVariants.{A5}
 use Rattle.msrp_plan.specs.declared.ids.JobId.{JobId}
 use Rattle.msrp_plan.specs.declared.ids.ResId.{ResId}
@@ -23,7 +22,7 @@ use Rattle.msrp_plan.proofs.Queues.QueueMembers.{queue_at, queue_short}
 use Rattle.msrp_audit.specs.Inside.Pieces.{broken_reply, TellsFirst}
 use Rattle.msrp_audit.specs.Inside.Requests.{HasRequests}
 use Rattle.msrp_audit.specs.declared.pieces.Piece.TheVariants.{Resource}
-use Rattle.msrp_audit.proofs.Scanning.{PassesTo, tells_none, passes_more, ends_at, finds_at}
+use Rattle.msrp_audit.proofs.Scanning.{PassesTo, passes_more, ends_at, finds_at}
 use Rattle.msrp_audit.proofs.Merging.{sound}
 
 -- ---- one row more

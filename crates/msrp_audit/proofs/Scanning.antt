@@ -1,6 +1,5 @@
 -- A piece of the audit goes over the rows from the first on, and tests each: what its answer tells.
-use Rattle.std.proofs.Common.{◌≡◌, ◌≢◌, ℕ, suc, ◌+◌, ◌<◌, ◌≤◌, ◌==◌, Bool, true, false, cond, List, [], ◌∷◌, ◌++◌, Option, Some, None, refl, ap, sym, ◌∙◌, subst, arith, length, length-append, take, drop, get_or, inl, inr, eq-eqb}
-use Rattle.std.proofs.Math.Bool.{true≢false}
+use Rattle.std.proofs.Common.{◌≡◌, ℕ, suc, ◌+◌, ◌<◌, ◌≤◌, cond, List, [], ◌∷◌, ◌++◌, Option, Some, None, ap, sym, ◌∙◌, subst, arith, length, length-append, take, drop, get_or, inl, inr, eq-eqb}
 use Rattle.std.proofs.lemmas.Bool.{cases_lt}
 use Rattle.std.proofs.lemmas.List.{take_at, take_more, take-append-le, take-append-drop, get_or_at}
 use Rattle.msrp_plan.specs.Plan.{PlanModel}
@@ -9,7 +8,7 @@ use Rattle.msrp_plan.specs.declared.faults.Rule.{Rule}
 use Rattle.msrp_plan.specs.declared.rows.Row.{Row}
 use Rattle.msrp_plan.proofs.Lists.Ranges.{not_equal}
 use Rattle.msrp_plan.proofs.Runs.Verdicts.{start_before, start_last}
-use Rattle.msrp_audit.specs.Inside.Pieces.{told_at, TellsFirst}
+use Rattle.msrp_audit.specs.Inside.Pieces.{TellsFirst}
 
 -- ---- the rows up to a place
 -- a list that is longer by what follows a place

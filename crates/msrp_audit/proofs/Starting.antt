@@ -1,7 +1,7 @@
 -- The cores before the first tick, and what a turn's calls promise as one turn of the cores.
-use Rattle.std.proofs.Common.{◌≡◌, ℕ, zero, suc, ◌+◌, ◌<◌, true, cond, List, [], ◌∷◌, ◌++◌, Some, ap, sym, ◌∙◌, subst, arith, length, slice_get, slice_set}
+use Rattle.std.proofs.Common.{◌≡◌, ℕ, ◌+◌, ◌<◌, true, cond, List, [], ◌∷◌, ◌++◌, Some, ap, sym, ◌∙◌, subst, arith, length, slice_get, slice_set}
 use Rattle.std.proofs.lemmas.Bool.{lt-ltb}
-use Rattle.std.proofs.lemmas.Option.{slice_get_within, same_Some}
+use Rattle.std.proofs.lemmas.Option.{slice_get_within}
 use Rattle.msrp_plan.specs.Plan.{PlanModel}
 use Rattle.msrp_plan.specs.Levels.{is_global}
 use Rattle.msrp_plan.specs.Runs.{IsCoreTurn}
@@ -15,6 +15,7 @@ use Rattle.msrp_core.specs.Machine.{MachineModel, StandsAfter}
 use Rattle.msrp_core.specs.declared.port.PortCall.{PortCall}
 use Rattle.msrp_sim.specs.Served.{IsFresh, AreFifo, as_port, lock_after_calls}
 use Rattle.msrp_audit.specs.Cores.{CoresModel, IsMachineOf, AreCores, StandFor, TakesTurn}
+use Rattle.msrp_plan.proofs.Lists.AnyAll.{places_push}
 
 -- a machine that had no turn yet
 pub record IsNew (plan : PlanModel) (c : ℕ) (x : MachineModel) : Type 0 where
@@ -47,16 +48,9 @@ new_stand m h = record {
   locks = λ g glob. ap (λ (calls : List PortCall). lock_after_calls calls g) h.port.calls;
 }
 
--- what holds at each place of a list, and at one more
-push_each : {X : Type 0} (P : ℕ → X → Type 0) (xs : List X) (y : X) → ((c : ℕ) (x : X) → slice_get xs c ≡ Some x → P c x) → P (length xs) y → (c : ℕ) (x : X) → slice_get (xs ++ y ∷ []) c ≡ Some x → P c x
-push_each P [] y each new zero x h = subst (P zero) (same_Some y x h) new
-push_each P [] y each new (suc c) x h = absurd (cc)
-push_each P (z ∷ xs) y each new zero x h = each zero x h
-push_each P (z ∷ xs) y each new (suc c) x h = push_each (λ n. P (suc n)) xs y (λ n w k. each (suc n) w k) new c x h
-
 -- one machine more
 pub new_push : (plan : PlanModel) (xs : List MachineModel) (y : MachineModel) → ((c : ℕ) (x : MachineModel) → slice_get xs c ≡ Some x → IsNew plan c x) → IsNew plan (length xs) y → (c : ℕ) (x : MachineModel) → slice_get (xs ++ y ∷ []) c ≡ Some x → IsNew plan c x
-new_push plan xs y each new = push_each (IsNew plan) xs y each new
+new_push plan xs y each new = places_push (IsNew plan) xs y each new
 
 -- what a turn of a machine promises, as a turn of the cores
 pub turn_from : (old new : CoresModel) (c : ℕ) (x y : MachineModel) (r : Row) → AreCores old → slice_get old.machines c ≡ Some x → new.plan ≡ old.plan → new.machines ≡ slice_set old.machines c y

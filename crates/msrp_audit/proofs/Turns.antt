@@ -15,8 +15,8 @@ use Rattle.msrp_plan.specs.Actions.{allows, res_of_unit, is_global_unit}
 use Rattle.msrp_plan.specs.Queues.{fifo, replies, counts}
 use Rattle.msrp_plan.specs.Runs.{IsCoreTurn, had_turn, is_in_turn, is_fifo_reply, replies_on}
 use Rattle.msrp_plan.specs.Logs.{log_of}
-use Rattle.msrp_plan.specs.FifoLock.{FifoLock, free_lock, Answers, lock_after, LegalFrom, Legal}
-use Rattle.msrp_plan.specs.LockStates.{lock_at, lock_from}
+use Rattle.msrp_plan.specs.FifoLock.{free_lock, Answers, Legal}
+use Rattle.msrp_plan.specs.LockStates.{lock_at}
 use Rattle.msrp_plan.specs.Calls.{kind_of_call, ahead_of_call}
 use Rattle.msrp_plan.specs.declared.ids.JobId.{JobId}
 use Rattle.msrp_plan.specs.declared.ids.ResId.{ResId}
@@ -37,13 +37,9 @@ use Rattle.msrp_core.specs.CoreJobs.{MakesCall}
 use Rattle.msrp_core.specs.declared.port.PortCall.{PortCall}
 use Rattle.msrp_sim.specs.Served.{AreFifo, as_port, lock_after_calls}
 use Rattle.msrp_audit.specs.Cores.{CoresModel, AreCores, StandFor, IsDueAfter, IsNextRow, TakesTurn}
+use Rattle.msrp_plan.proofs.Queues.LockHistories.{legal_last}
 
 -- ---- the call of a turn
--- the last call of a legal history is answered by the lock before it
-last_answers : (lock : FifoLock) (h : List (ℕ × Call)) (s : ℕ × Call) → LegalFrom lock (h ++ s ∷ []) → Answers (lock_from lock h) s.0 s.1
-last_answers lock [] s legal = legal.0
-last_answers lock (x ∷ h) s legal = last_answers (lock_after lock x.0 x.1) h s legal.1
-
 -- the calls on a resource, and one call of it more
 on_own : (g : ℕ) (calls : List PortCall) (e : PortCall) → (e.res.0 == g) ≡ true → calls_on g (calls ++ e ∷ []) ≡ calls_on g calls ++ (e.core.0, e.call) ∷ []
 on_own g calls e h =
@@ -58,7 +54,7 @@ call_of r res call = record { core = r.core; res = res; call = call }
 -- it is answered as the lock of its resource answers it
 call_answers : (calls more : List PortCall) (e : PortCall) → more ≡ calls ++ e ∷ [] → AreFifo more → Answers (lock_after_calls calls e.res.0) e.core.0 e.call
 call_answers calls more e is fifo =
-    last_answers free_lock (calls_on e.res.0 calls) (e.core.0, e.call)
+    legal_last free_lock (calls_on e.res.0 calls) (e.core.0, e.call)
     (subst Legal (ap (calls_on e.res.0) is ∙ on_own e.res.0 calls e (eq-eqb e.res.0 e.res.0 refl)) (fifo e.res.0))
 
 -- ---- the row is legal

@@ -1,5 +1,5 @@
 -- A row against the one that its core was due to make: what the first rule is that it breaks.
-use Rattle.std.specs.Prelude.{ℕ, Bool, true, false, ◌==◌, ◌&&◌, cond, Option, Some, None}
+use Rattle.std.specs.Prelude.{ℕ, Bool, true, false, ◌==◌, ◌&&◌, Option, Some, None, if◌then◌else◌}
 use Rattle.msrp_plan.specs.Actions.{same_res}
 use Rattle.msrp_plan.specs.Runs.{same_choice}
 use Rattle.msrp_plan.specs.declared.faults.Rule.{Rule}
@@ -44,8 +44,8 @@ replied_alike r due = same_kind r.kind due.kind && same_ahead r.ahead due.ahead
 
 -- the lower of the rules on job and action that the row breaks, where this one is the row that is due
 abbrev pub unlike_turn : Row → Row → Option Rule
-unlike_turn r due = cond (same_choice r.job due.job) (cond (does_alike r due) None (Some A4)) (Some A3)
+unlike_turn r due = if same_choice r.job due.job then (if does_alike r due then None else Some A4) else Some A3
 
 -- the lowest of the rules on job, action and reply that the row breaks, where this one is the row that is due
 abbrev pub unlike : Row → Row → Option Rule
-unlike r due = cond (same_choice r.job due.job) (cond (does_alike r due) (cond (replied_alike r due) None (Some A5)) (Some A4)) (Some A3)
+unlike r due = if same_choice r.job due.job then (if does_alike r due then (if replied_alike r due then None else Some A5) else Some A4) else Some A3

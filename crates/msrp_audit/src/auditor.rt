@@ -11,7 +11,7 @@ ghost use Rattle.msrp_audit.specs.Audits.{HasFed, answer_of};
 use crate::comparing::unlike_due;
 use crate::cores::Cores;
 use msrp_levels::Levels;
-use msrp_plan::{Fault, Memory, Plan, Row, Rule};
+use msrp_plan::{CoreId, Fault, Memory, Plan, Row, Rule};
 use std::alloc::Global;
 use std::marker::Model;
 
@@ -113,6 +113,18 @@ impl<'a> Auditor<'a> {
         }
         let due = self.cores.turn(row.core);
         unlike_due(row, due)
+    }
+
+    /// A guess of the core's next row, with its ahead: that row of the legal run, where no job of the core is released in
+    /// its tick and none starts. There it is none, and none of a core that the plan hasn't. Nothing is promised of it:
+    /// whoever guesses feeds the row that comes.
+    #[inline(always)]
+    pub fn foresee(&self, core: CoreId) -> Option<Row> {
+        if core.0 < self.plan.cores() {
+            self.cores.foresee(core)
+        } else {
+            None
+        }
     }
 
     /// The next row: the fault of the rows so far, if they have one, whatever is still missing. After a fault it

@@ -7,9 +7,9 @@ ghost use Rattle.msrp_plan.specs.WellFormed.{IsPlan};
 ghost use Rattle.msrp_core.specs.Machine.{MachineModel};
 ghost use Rattle.msrp_audit.specs.Cores.{StandFor, IsDueAfter, IsNextRow, IsAs};
 
-use msrp_core::Machine;
+use msrp_core::{Machine, Reply};
 use msrp_levels::Levels;
-use msrp_plan::{CoreId, Memory, Plan, Row};
+use msrp_plan::{CoreId, Kind, Memory, Plan, Row};
 use msrp_sim::FifoPort;
 use std::alloc::Global;
 use std::marker::Model;
@@ -33,6 +33,32 @@ impl<'a> Model for Cores<'a> {
     ghost view = { cores_view };
 
     ghost invariant = { AreCoresView };
+}
+
+// The row of a turn that asks the port, with the answer that the port would give now.
+fn replied(port: &FifoPort, row: Row) -> Row {
+    match (row.kind, row.res) {
+        (Kind::Take, Some(res)) => match port.reply(res) {
+            Reply::Taken => row,
+            Reply::Queued(ahead) => Row {
+                tick: row.tick,
+                core: row.core,
+                kind: Kind::Queue,
+                job: row.job,
+                res: row.res,
+                ahead: Some(ahead),
+            },
+        },
+        (Kind::Grant, Some(res)) if !port.grants(row.core, res) => Row {
+            tick: row.tick,
+            core: row.core,
+            kind: Kind::Spin,
+            job: row.job,
+            res: row.res,
+            ahead: None,
+        },
+        _ => row,
+    }
 }
 
 impl<'a> Cores<'a> {
@@ -67,6 +93,14 @@ impl<'a> Cores<'a> {
         ensures { option_map (λ x. x.tick) (slice_get self.now.machines core.0) ≡ Some result }
     {
         self.machines[core.0 as usize].tick()
+    }
+
+    // The row of the core's next turn, where its machine foresees it.
+    pub fn foresee(&self, core: CoreId) -> Option<Row>
+        requires { core.0 < self.now.plan.cores }
+    {
+        let row = self.machines[core.0 as usize].foresee()?;
+        Some(replied(&self.port, row))
     }
 
     // The core's next turn. Whatever rows the cores stand for, the row is the next one of that core after them, and

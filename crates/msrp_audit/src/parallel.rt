@@ -1,5 +1,6 @@
 //! The verdict on a whole trace, by pieces.
 ghost use Rattle.std.specs.Prelude.{◌≡◌, ◌≤◌, ◌<◌, ◌*◌, ◌+◌, nat_lt, IfOk, length, take};
+ghost use Rattle.msrp_plan.specs.Limits.{most_rows};
 ghost use Rattle.msrp_plan.specs.Verdict.{fault_in, verdict};
 ghost use Rattle.msrp_audit.specs.Audits.{answer_of};
 ghost use Rattle.msrp_audit.specs.Inside.Pieces.{broken_in, earlier_of, earliest_of, fault_order, length_fault_of, piece_with, pieces_of, rule_number, TellsFirst};
@@ -85,7 +86,7 @@ fn first_fault(
 
 // The fault of the length, where no row that is due has one: a row is missing, or there is one too many.
 fn length_fault(due: u32, rows: usize) -> Result<(), Fault>
-    requires { due ≤ 160000 }
+    requires { due ≤ most_rows }
     ensures { result ≡ answer_of (length_fault_of due rows) }
 {
     if rows < due as usize {

@@ -1,5 +1,6 @@
 //! The queue of one resource: A5.
 ghost use Rattle.std.specs.Prelude.{ℕ, ◌≡◌, ◌<◌, ◌≤◌, ◌+◌, ◌*◌, ◌++◌, ◌∷◌, [], List, IfOk, drop, length, Some, true};
+ghost use Rattle.msrp_plan.specs.Limits.{most_rows};
 ghost use Rattle.msrp_plan.specs.Queues.{counts, is_behind, is_first, is_on, is_release, is_reply_of, is_request, replies};
 ghost use Rattle.std.specs.List.{list_any};
 ghost use Rattle.msrp_plan.specs.Jobs.{same_job};
@@ -28,7 +29,7 @@ impl Requests {
 
     // One row on the resource more.
     fn add(&mut self, row: Row) -> Result<(), Memory>
-        requires { self.old.released < 160000 }
+        requires { self.old.released < most_rows }
         ensures requests { IfOk result (λ _. (g : ℕ) (rows : List TraceRow) → is_on g row.res ≡ true → HasRequests g rows self.old.jobs.items self.old.released → HasRequests g (rows ++ row ∷ []) self.new.jobs.items self.new.released) }
         ensures released { self.new.released ≤ self.old.released + 1 }
     {

@@ -1,7 +1,8 @@
 -- An action of the running job, over what is stored of the jobs of a core.
 use Rattle.std.proofs.Common.{◌≡◌, ℕ, ◌+◌, ◌<◌, ◌≤◌, Bool, true, false, nat_eq, List, [], ◌∷◌, Option, Some, refl, ap, sym, ◌∙◌, subst, arith, length, reverse, slice_get, vec_capacity}
 use Rattle.std.specs.List.{list_any}
-use Rattle.std.proofs.lemmas.Bool.{eq-eqb, and_from}
+use Rattle.std.proofs.Math.Bool.{true≢false}
+use Rattle.std.proofs.lemmas.Bool.{eq-eqb, and_from, false_from_ne_true}
 use Rattle.msrp_plan.specs.Plan.{PlanModel, units}
 use Rattle.msrp_plan.specs.Jobs.{jobs_on, is_waiting}
 use Rattle.msrp_plan.specs.WellFormed.{IsPlan}
@@ -16,13 +17,14 @@ use Rattle.msrp_plan.specs.declared.ids.ResId.{ResId}
 use Rattle.msrp_plan.specs.declared.rows.Kind.{Kind}
 use Rattle.msrp_plan.specs.declared.rows.Row.{Row}
 use Rattle.msrp_plan.specs.declared.units.Op.{Op}
+use Rattle.msrp_plan.specs.declared.units.Op.TheVariants.{Unlock as UnlockUnit}
 use Rattle.msrp_plan.specs.declared.units.Phase.{Phase}
 use Rattle.msrp_plan.specs.declared.units.Phase.TheVariants.{Queued, Holding}
 use Rattle.msrp_stack.specs.Stack.{StackModel, StartedJob, HasRoom, IsInnermost, with_held, without_held, without_first}
 use Rattle.msrp_core.specs.Going.{Going, going_of, advanced, is_waiting_phase, is_holding_phase, state_in, HoldSo, AreGoing}
-use Rattle.msrp_core.specs.CoreJobs.{going_in, state_of, AreJobs, IsRunning, CanAct, Acts}
+use Rattle.msrp_core.specs.CoreJobs.{going_in, state_of, AreJobs, IsRunning, CanAct, Acts, DoesNext}
 use Rattle.msrp_core.specs.declared.jobs.Jobs.{Jobs}
-use Rattle.msrp_core.proofs.Steps.{IsStep, advance_going, advance_states, last_free}
+use Rattle.msrp_core.proofs.Steps.{release_phase, IsStep, advance_going, advance_states, last_free}
 
 -- ---- the newest with one resource more, and without the innermost
 abbrev pub kept_with : ℕ → List Going → List Going
@@ -221,3 +223,17 @@ holding_self r = eq-eqb r.0 r.0 refl
 -- what the core awaits is a global resource
 pub waiting_global : (plan : PlanModel) (p : Phase) (s : Going) (below : List Going) (r : ResId) → p ≡ Queued r → HoldSo plan p (s ∷ below) → is_global plan r.0 ≡ true
 waiting_global plan p s below r e h = (subst (λ p. HoldSo plan p (s ∷ below)) e h).0.global
+
+-- an unlock of what the core doesn't hold is local
+pub unlock_local : (jobs : Jobs) (job : JobId) (res : ResId) (can : CanAct jobs job (UnlockUnit res)) → is_holding_phase res jobs.phase ≡ false → is_global jobs.plan.now res.0 ≡ false
+unlock_local jobs job res can off = false_from_ne_true (is_global jobs.plan.now res.0) (λ t.
+    true≢false (sym (ap (is_holding_phase res) (release_phase jobs.plan.now can.jobs_fit.accepted can.newest can.below jobs.phase res (holds_at jobs job (UnlockUnit res) can) (unit_at jobs job (UnlockUnit res) can) t) ∙ holding_self res) ∙ off))
+
+-- ---- the row of the next action, whatever is replied
+pub next_by : (jobs : Jobs) (job : JobId) (op : Op) (tick : ℕ) (r : Row) (k : Kind) (res : Option ResId) → CanAct jobs job op → IsRow r tick jobs job k res → same_res res (res_of_unit op) ≡ true → allows (is_global_unit jobs.plan.now op) (is_waiting_phase jobs.phase) op k ≡ true → DoesNext jobs job tick r
+next_by jobs job op tick r k res can row same may = record {
+  row_tick = row.tick_is;
+  row_core = row.core_is;
+  row_job = row.job_is;
+  action = action_at jobs jobs job op tick r (phase_with jobs.phase k res) k res can row (does_by jobs.plan.now (is_waiting_phase jobs.phase) r op k res row.res_is row.kind_is same may) refl;
+}

@@ -1,10 +1,9 @@
 -- The choice of a core's next job, from the jobs that are ready and those that are going.
-use Rattle.std.proofs.Common.{◌≡◌, ℕ, ◌<◌, ◌==◌, Bool, true, false, cond, not, nat_eq, ◌&&◌, ◌||◌, max, List, [], ◌∷◌, Some, refl, ap, sym, ◌∙◌, subst, arith, length, map, take, take_all, slice_get, inl, inr}
+use Rattle.std.proofs.Common.{◌≡◌, ℕ, ◌<◌, ◌==◌, Bool, true, false, cond, not, nat_eq, ◌&&◌, ◌||◌, max, List, [], ◌∷◌, refl, ap, sym, ◌∙◌, subst, arith, length, map, take, take_all, inl, inr}
 use Rattle.std.specs.List.{list_any, filter, AllByRecursion, Contains}
 use Rattle.std.proofs.Math.Bool.{true≢false, or-true}
 use Rattle.std.proofs.lemmas.Bool.{cases_Bool, eqb-true, eq-eqb, le-ltb, and_parts, and_from, false_from_ne_true, or_parts}
 use Rattle.std.proofs.lemmas.List.Elements.{All-contains, All-from_recursion, filter_agree}
-use Rattle.std.proofs.lemmas.Option.{slice_get_within, get_or_from_slice_get}
 use Rattle.msrp_plan.specs.Plan.{PlanModel, units}
 use Rattle.msrp_plan.specs.Units.{holds_after}
 use Rattle.msrp_plan.specs.Jobs.{jobs_on, same_job, is_released, is_started, is_queued, is_finished, done, holds}
@@ -19,10 +18,9 @@ use Rattle.msrp_plan.specs.declared.ids.ResId.{ResId}
 use Rattle.msrp_plan.specs.declared.rows.Row.{Row}
 use Rattle.msrp_plan.specs.declared.units.Phase.{Phase}
 use Rattle.msrp_plan.specs.declared.units.Phase.TheVariants.{Free, Queued, Holding}
-use Rattle.msrp_plan.proofs.Jobs.JobTests.{same_is, same_self}
+use Rattle.msrp_plan.proofs.Jobs.JobTests.{same_is, same_self, same_symm}
 use Rattle.msrp_plan.proofs.Lists.AnyAll.{any_in, all_weaker, all_both}
 use Rattle.msrp_plan.proofs.Lists.Filters.{filter_same, any_same, all_of, any_map}
-use Rattle.msrp_plan.proofs.Levels.GlobalUse.{passing_place}
 use Rattle.msrp_plan.proofs.TaskUnits.PlanUnits.{units_balance}
 use Rattle.msrp_plan.proofs.Queues.QueueLocks.{global_named}
 use Rattle.msrp_ready.specs.Ready.{is_among}
@@ -30,23 +28,12 @@ use Rattle.msrp_stack.specs.Stack as stack
 use Rattle.msrp_stack.specs.Stack.{StartedJob}
 use Rattle.msrp_core.specs.Going.{Going, going_of, started_job, is_going, is_kept, done_in, is_waiting_phase, is_newest, state_in, IsGoing, AreApart, HoldsLocal, AwaitsGlobal, HoldSo, AreGoing}
 use Rattle.msrp_core.proofs.HeldUnits.{held_test}
-
--- two tests that imply one another
-pub same_test : (a b : Bool) → (a ≡ true → b ≡ true) → (b ≡ true → a ≡ true) → a ≡ b
-same_test true b f g = sym (f refl)
-same_test false true f g = g refl
-same_test false false f g = refl
+use Rattle.msrp_plan.proofs.Lists.Members.{any_from}
+use Rattle.msrp_plan.proofs.Tests.{same_tests}
 
 -- what holds of all elements of a list holds of each
 pub at_in : {X : Type 0} (P : X → Type 0) (xs : List X) (x : X) → AllByRecursion P xs → Contains xs x → P x
 at_in P xs x all there = All-contains P xs x (All-from_recursion P xs all) there
-
--- an element that passes
-pub any_has : {X : Type 0} (p : X → Bool) (xs : List X) → list_any p xs ≡ true → (x : X) × Contains xs x × (p x ≡ true)
-any_has p xs e = let at = passing_place p xs e in (at.1, unit_at xs at.0 at.1 at.2, at.3)
-  where
-    unit_at : {X : Type 0} (xs : List X) (n : ℕ) (x : X) → slice_get xs n ≡ Some x → Contains xs x
-    unit_at xs n x e = (n, slice_get_within xs n x e, get_or_from_slice_get xs n x x e)
 
 -- ---- going jobs
 -- a going job is started, and has a unit left
@@ -77,16 +64,13 @@ each_fails : {X : Type 0} (p : X → Bool) (xs : List X) → list_any p xs ≡ f
 each_fails p [] e = tt
 each_fails p (x ∷ xs) e = let parts = or_parts (p x) (list_any p xs) e in (parts.0, each_fails p xs parts.1)
 
-same_sym : (i j : JobId) → same_job i j ≡ same_job j i
-same_sym i j = grind arith
-
 -- each going job has done what it says
 pub done_each : (plan : PlanModel) (going : List Going) → AreApart going → AllByRecursion (λ s. done_in plan going s.job ≡ s.done) going
 done_each plan [] apart = tt
 done_each plan (x ∷ going) apart = (
   ap (λ b. cond b x.done (done_in plan going x.job)) (same_self x.job),
   all_both (λ s. same_job x.job s.job ≡ false) (λ s. done_in plan going s.job ≡ s.done) (λ s. done_in plan (x ∷ going) s.job ≡ s.done)
-      (λ s off is. ap (λ b. cond b x.done (done_in plan going s.job)) (same_sym s.job x.job ∙ off) ∙ is) going (each_fails (λ s. same_job x.job s.job) going apart.0) (done_each plan going apart.1),
+      (λ s off is. ap (λ b. cond b x.done (done_in plan going s.job)) (same_symm s.job x.job ∙ off) ∙ is) going (each_fails (λ s. same_job x.job s.job) going apart.0) (done_each plan going apart.1),
 )
 
 -- a global resource that is kept raises the ceiling
@@ -171,32 +155,32 @@ module _ (plan : PlanModel) (c : ℕ) (log : List Row) (taken : List JobId) (pha
 
   -- a job of the core holds a resource exactly where a going job does by its units
   held_by_going : (g : ℕ) → is_held_on plan c log g ≡ list_any (holds_by g) going
-  held_by_going g = same_test (is_held_on plan c log g) (list_any (holds_by g) going) forth back
+  held_by_going g = same_tests (is_held_on plan c log g) (list_any (holds_by g) going) forth back
     where
       forth : is_held_on plan c log g ≡ true → list_any (holds_by g) going ≡ true
       forth h =
-          let x = any_has (holds plan log g) (jobs_on plan c) h in
+          let x = any_from (holds plan log g) (jobs_on plan c) h in
           let e : holds_after (take (cond (is_among taken x.0) (done_in plan going x.0) 0) (units plan x.0)) g ≡ true = ap (λ k. holds_after (take k (units plan x.0)) g) (sym (done_is x.0 x.1)) ∙ x.2 in
           let goes = holder_goes g x.0 e in
           going_holds g going x.0 goes.0 (ap (λ b. holds_after (take (cond b (done_in plan going x.0) 0) (units plan x.0)) g) (sym goes.1) ∙ e)
 
       back : list_any (holds_by g) going ≡ true → is_held_on plan c log g ≡ true
       back h =
-          let s = any_has (holds_by g) going h in
+          let s = any_from (holds_by g) going h in
           let is = at_in (IsGoing plan c taken) going s.0 are.each s.1 in
           let d : done s.0.job log ≡ s.0.done = done_is s.0.job is.known ∙ (ap (λ b. cond b (done_in plan going s.0.job) 0) is.started ∙ at_in (λ s. done_in plan going s.job ≡ s.done) going s.0 (done_each plan going are.apart) s.1) in
           any_in (holds plan log g) (jobs_on plan c) s.0.job is.known (ap (λ k. holds_after (take k (units plan s.0.job)) g) d ∙ s.2)
 
   -- a job of the core is queued exactly where the core awaits a resource
   queued_is : list_any (is_queued log) (jobs_on plan c) ≡ is_waiting_phase phase
-  queued_is = same_test (list_any (is_queued log) (jobs_on plan c)) (is_waiting_phase phase) forth (λ w. back phase refl w)
+  queued_is = same_tests (list_any (is_queued log) (jobs_on plan c)) (is_waiting_phase phase) forth (λ w. back phase refl w)
     where
       queued_at : (j : JobId) → Contains (jobs_on plan c) j → is_queued log j ≡ (is_waiting_phase phase && is_newest going j)
       queued_at j there = ap (λ (s : JobState). s.queued) (at_in (λ j. state_after log j ≡ state_in plan taken phase going j) (jobs_on plan c) j told there)
 
       forth : list_any (is_queued log) (jobs_on plan c) ≡ true → is_waiting_phase phase ≡ true
       forth h =
-          let x = any_has (is_queued log) (jobs_on plan c) h in
+          let x = any_from (is_queued log) (jobs_on plan c) h in
           (and_parts (is_waiting_phase phase) (is_newest going x.0) (sym (queued_at x.0 x.1) ∙ x.2)).0
 
       newest_waits : (g : ResId) (rest : List Going) → phase ≡ Queued g → going ≡ rest → HoldSo plan (Queued g) rest → list_any (is_queued log) (jobs_on plan c) ≡ true

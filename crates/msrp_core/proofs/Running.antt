@@ -1,6 +1,6 @@
 -- What is stored of the jobs of a core: who runs, who is chosen, and a job that starts.
 use Rattle.std.proofs.Common.{◌≡◌, ◌≢◌, ℕ, ◌+◌, ◌<◌, ◌≤◌, ◌==◌, Bool, true, false, cond, not, nat_eq, nat_lt, max, ◌⊎◌, ◌&&◌, ◌||◌, List, [], ◌∷◌, ◌++◌, Option, Some, None, refl, ap, sym, ◌∙◌, subst, arith, length, length-append, map, reverse, inl, inr, get_or, ◌-◌, Vec, Global, vec_capacity, IsSome, unwrap_or}
-use Rattle.std.specs.List.{list_any, filter, flat_map, AllByRecursion, Contains, IsDistinct, range_with_len}
+use Rattle.std.specs.List.{list_any, filter, AllByRecursion, Contains, IsDistinct, range_with_len}
 use Rattle.std.specs.Cmp.{IsEquivalence}
 use Rattle.std.proofs.Math.Bool.{true≢false, or-true, or-false}
 use Rattle.std.proofs.Math.Seq.{get_or-append_seam}
@@ -21,10 +21,10 @@ use Rattle.msrp_plan.specs.declared.ids.JobId.{JobId}
 use Rattle.msrp_plan.specs.declared.rows.Row.{Row}
 use Rattle.msrp_plan.specs.declared.units.Phase.{Phase}
 use Rattle.msrp_plan.specs.declared.units.Phase.TheVariants.{Free, Queued, Holding}
-use Rattle.msrp_plan.proofs.Lists.AnyAll.{all_weaker, any_in}
+use Rattle.msrp_plan.proofs.Lists.AnyAll.{all_weaker, any_in, all_flat}
 use Rattle.msrp_plan.proofs.Lists.Least.{all_filtered}
 use Rattle.msrp_plan.proofs.Lists.LeastKept.{least_in, least_passes}
-use Rattle.msrp_plan.proofs.Jobs.JobTests.{same_is, same_self}
+use Rattle.msrp_plan.proofs.Jobs.JobTests.{same_is, same_self, same_symm, same_congr}
 use Rattle.msrp_plan.proofs.Jobs.JobLists.{core_jobs_below}
 use Rattle.msrp_plan.proofs.Jobs.CoreJobs.{on_its_core}
 use Rattle.msrp_plan.proofs.Levels.Ceilings.{top_above}
@@ -40,14 +40,6 @@ use Rattle.msrp_stack.proofs.Changes.{ends_in, reverse_push}
 use Rattle.msrp_core.proofs.Steps.{clash}
 
 -- ---- the jobs of a core
-all_both_ends : {X : Type 0} (P : X → Type 0) (xs ys : List X) → AllByRecursion P xs → AllByRecursion P ys → AllByRecursion P (xs ++ ys)
-all_both_ends P [] ys a b = b
-all_both_ends P (x ∷ xs) ys a b = (a.0, all_both_ends P xs ys a.1 b)
-
-all_flat : {X Y : Type 0} (P : Y → Type 0) (f : X → List Y) → ((x : X) → AllByRecursion P (f x)) → (xs : List X) → AllByRecursion P (flat_map f xs)
-all_flat P f each [] = tt
-all_flat P f each (x ∷ xs) = all_both_ends P (f x) (flat_map f xs) (each x) (all_flat P f each xs)
-
 -- each is released before the ticks are over
 before_end : (plan : PlanModel) (c : ℕ) → AllByRecursion (λ j. nat_lt (release plan j) plan.ticks ≡ true) (jobs_on plan c)
 before_end plan c = all_filtered (λ j. nat_lt (release plan j) plan.ticks ≡ true) (λ j. core_of plan j == c) (jobs_all plan)
@@ -179,12 +171,6 @@ all_apart : (going : List Going) → AreApart going → IsDistinct same_job (map
 unfolding IsDistinct
 all_apart [] apart = tt
 all_apart (s ∷ going) apart = (apart_from s.job going apart.0, all_apart going apart.1)
-
-same_symm : (i j : JobId) → same_job i j ≡ same_job j i
-same_symm i j = grind arith
-
-same_congr : (i j k : JobId) → same_job i j ≡ true → same_job i k ≡ same_job j k
-same_congr i j k h = ap (λ x. same_job x k) (same_is i j h)
 
 same_equivalence : IsEquivalence same_job
 same_equivalence = record { refl = same_self; symm = same_symm; congr = same_congr }

@@ -22,7 +22,7 @@ use Rattle.msrp_plan.proofs.Jobs.States.{state_push}
 use Rattle.msrp_plan.proofs.Jobs.JobTests.{same_self}
 use Rattle.msrp_plan.proofs.Lists.AnyAll.{any_in}
 use Rattle.msrp_core.specs.Going.{done_in, is_waiting_phase, is_newest}
-use Rattle.msrp_core.specs.CoreJobs.{going_in, state_of, AreJobs, AreToldBy, IsRunning, IsSamePlace, Acts, ActsFor, started_with}
+use Rattle.msrp_core.specs.CoreJobs.{going_in, state_of, AreJobs, AreToldBy, IsRunning, IsSamePlace, ActsFor, DoesNext, IsTurnOf, started_with}
 use Rattle.msrp_core.specs.declared.jobs.Jobs.{Jobs}
 use Rattle.msrp_core.proofs.Choices.{at_in}
 use Rattle.msrp_core.proofs.Running.{running_known}
@@ -44,17 +44,22 @@ pub core_after : (mid new : Jobs) (chosen : Option JobId) (tick : ℕ) (r : Row)
 core_after mid new None tick r acts = ap (λ (j : Jobs). j.core) acts.same
 core_after mid new (Some job) tick r acts = acts.core
 
-pub row_tick : (mid new : Jobs) (chosen : Option JobId) (tick : ℕ) (r : Row) → ActsFor mid new chosen tick r → r.tick ≡ tick
-row_tick mid new None tick r acts = acts.row_tick
-row_tick mid new (Some job) tick r acts = acts.row_tick
+-- ---- the row of a turn
+pub turn_of : (mid new : Jobs) (chosen : Option JobId) (tick : ℕ) (r : Row) → ActsFor mid new chosen tick r → IsTurnOf mid chosen tick r
+turn_of mid new None tick r acts = record { row_tick = acts.row_tick; row_core = acts.row_core; row_job = acts.row_job; kind = acts.kind }
+turn_of mid new (Some job) tick r acts = record { row_tick = acts.row_tick; row_core = acts.row_core; row_job = acts.row_job; action = acts.action }
 
-pub row_core : (mid new : Jobs) (chosen : Option JobId) (tick : ℕ) (r : Row) → ActsFor mid new chosen tick r → r.core ≡ mid.core
-row_core mid new None tick r acts = acts.row_core
-row_core mid new (Some job) tick r acts = acts.row_core
+row_tick : (mid : Jobs) (chosen : Option JobId) (tick : ℕ) (r : Row) → IsTurnOf mid chosen tick r → r.tick ≡ tick
+row_tick mid None tick r turn = turn.row_tick
+row_tick mid (Some job) tick r turn = turn.row_tick
 
-pub row_job : (mid new : Jobs) (chosen : Option JobId) (tick : ℕ) (r : Row) → ActsFor mid new chosen tick r → r.job ≡ chosen
-row_job mid new None tick r acts = acts.row_job
-row_job mid new (Some job) tick r acts = acts.row_job
+row_core : (mid : Jobs) (chosen : Option JobId) (tick : ℕ) (r : Row) → IsTurnOf mid chosen tick r → r.core ≡ mid.core
+row_core mid None tick r turn = turn.row_core
+row_core mid (Some job) tick r turn = turn.row_core
+
+row_job : (mid : Jobs) (chosen : Option JobId) (tick : ℕ) (r : Row) → IsTurnOf mid chosen tick r → r.job ≡ chosen
+row_job mid None tick r turn = turn.row_job
+row_job mid (Some job) tick r turn = turn.row_job
 
 -- an idle row leaves the phase
 idle_phase : (p : Phase) (r : Row) → is_idle r.kind ≡ true → r.res ≡ None → phase_with p r.kind r.res ≡ p
@@ -103,7 +108,7 @@ module _ (old mid new : Jobs) (chosen : Option JobId) (tick : ℕ) (r : Row) (lo
   later_state j e =
       turn_states mid new chosen tick r j acts
       ∙ (ap (state_with r) (states j)
-      ∙ (moved_started r chosen (state_of old j) (row_job mid new chosen tick r acts)
+      ∙ (moved_started r chosen (state_of old j) (row_job mid chosen tick r (turn_of mid new chosen tick r acts))
       ∙ (ap (state_with r) (sym e) ∙ sym (state_push log r j))))
 
   pub turn_told : map (state_of new) (jobs_on new.plan.now new.core.0) ≡ map (state_after (log ++ r ∷ [])) (jobs_on new.plan.now new.core.0)
@@ -123,9 +128,9 @@ module _ (old mid new : Jobs) (chosen : Option JobId) (tick : ℕ) (r : Row) (lo
 
 -- ---- the row
 -- the job of a core's turn, and what it does next
-running_row : (old mid new : Jobs) (job : JobId) (tick : ℕ) (r : Row) (log : List Row) → AreJobs mid → IsSamePlace old mid → ((j : JobId) → state_of mid j ≡ started_with (Some job) (state_of old j)) → IsRunning mid job → Acts mid new job tick r → AreToldBy old log
+running_row : (old mid : Jobs) (job : JobId) (tick : ℕ) (r : Row) (log : List Row) → AreJobs mid → IsSamePlace old mid → ((j : JobId) → state_of mid j ≡ started_with (Some job) (state_of old j)) → IsRunning mid job → DoesNext mid job tick r → AreToldBy old log
     → Contains (jobs_on old.plan.now old.core.0) job × (does_unit_after old.plan.now job (is_queued log job) (done job log) r ≡ true)
-running_row old mid new job tick r log fit same states run acts told =
+running_row old mid job tick r log fit same states run turn told =
     let plan : mid.plan.now ≡ old.plan.now = ap (λ p. p.now) same.plan in
     let core : mid.core.0 ≡ old.core.0 = ap (λ (c : CoreId). c.0) same.core in
     let known = running_known mid job fit run in
@@ -135,17 +140,17 @@ running_row old mid new job tick r log fit same states run acts told =
     ap (λ (s : JobState). s.queued) tell ∙ (ap (λ (s : JobState). s.queued) (sym (states job)) ∙ (ap (λ l. is_waiting_phase mid.phase && is_newest l job) run.going ∙ (ap (λ b. is_waiting_phase mid.phase && b) (ap (λ k. same_job job k) run.same ∙ same_self job) ∙ and_true (is_waiting_phase mid.phase)))) in
     let d : done job log ≡ run.newest.done =
     ap (λ (s : JobState). s.done) tell ∙ (ap (λ (s : JobState). s.done) (sym (states job)) ∙ (ap (λ b. cond b (done_in mid.plan.now (going_in mid) job) 0) known.1 ∙ (ap (λ l. done_in mid.plan.now l job) run.going ∙ ap (λ b. cond b run.newest.done (done_in mid.plan.now run.below job)) (ap (λ k. same_job job k) run.same ∙ same_self job)))) in
-    let does = acts.action run.newest run.below run.going in
+    let does = turn.action run.newest run.below run.going in
     (there, ap (λ b. does_unit_after old.plan.now job b (done job log) r) q ∙ (ap (λ n. does_unit_after old.plan.now job (is_waiting_phase mid.phase) n r) d ∙ (ap (λ p. does_unit_after p job (is_waiting_phase mid.phase) run.newest.done r) (sym plan) ∙ does)))
   where
     and_true : (b : Bool) → (b && true) ≡ b
     and_true true = refl
     and_true false = refl
 
-pub turn_row : (old mid new : Jobs) (chosen : Option JobId) (tick : ℕ) (r : Row) (log : List Row) → AreJobs mid → IsSamePlace old mid → ((j : JobId) → state_of mid j ≡ started_with chosen (state_of old j)) → ForSome chosen (IsRunning mid) → ActsFor mid new chosen tick r → AreToldBy old log → tick ≡ length log
+pub turn_row : (old mid : Jobs) (chosen : Option JobId) (tick : ℕ) (r : Row) (log : List Row) → AreJobs mid → IsSamePlace old mid → ((j : JobId) → state_of mid j ≡ started_with chosen (state_of old j)) → ForSome chosen (IsRunning mid) → IsTurnOf mid chosen tick r → AreToldBy old log → tick ≡ length log
     → chosen ≡ choice old.plan.now old.core.0 tick log → IsCoreTurn old.plan.now old.core.0 log r
-turn_row old mid new chosen tick r log fit same states run acts told at is = record {
-  tick = row_tick mid new chosen tick r acts ∙ at;
+turn_row old mid chosen tick r log fit same states run turn told at is = record {
+  tick = row_tick mid chosen tick r turn ∙ at;
   core = core;
   own = own chosen refl;
   chosen = picked chosen refl;
@@ -153,16 +158,16 @@ turn_row old mid new chosen tick r log fit same states run acts told at is = rec
 }
   where
     core : r.core.0 ≡ old.core.0
-    core = ap (λ (c : CoreId). c.0) (row_core mid new chosen tick r acts ∙ same.core)
+    core = ap (λ (c : CoreId). c.0) (row_core mid chosen tick r turn ∙ same.core)
 
     job : r.job ≡ chosen
-    job = row_job mid new chosen tick r acts
+    job = row_job mid chosen tick r turn
 
     the_choice : choice old.plan.now r.core.0 r.tick log ≡ chosen
-    the_choice = ap (λ c. choice old.plan.now c r.tick log) core ∙ (ap (λ t. choice old.plan.now old.core.0 t log) (row_tick mid new chosen tick r acts) ∙ sym is)
+    the_choice = ap (λ c. choice old.plan.now c r.tick log) core ∙ (ap (λ t. choice old.plan.now old.core.0 t log) (row_tick mid chosen tick r turn) ∙ sym is)
 
     running : (x : JobId) → chosen ≡ Some x → Contains (jobs_on old.plan.now old.core.0) x × (does_unit_after old.plan.now x (is_queued log x) (done x log) r ≡ true)
-    running x e = running_row old mid new x tick r log fit same (subst (λ o. (j : JobId) → state_of mid j ≡ started_with o (state_of old j)) e states) (run x e) (subst (λ o. ActsFor mid new o tick r) e acts) told
+    running x e = running_row old mid x tick r log fit same (subst (λ o. (j : JobId) → state_of mid j ≡ started_with o (state_of old j)) e states) (run x e) (subst (λ o. IsTurnOf mid o tick r) e turn) told
 
     own : (o : Option JobId) → chosen ≡ o → is_on_core old.plan.now r.core.0 r.job ≡ true
     own None e = ap (is_on_core old.plan.now r.core.0) (job ∙ e)
@@ -173,5 +178,5 @@ turn_row old mid new chosen tick r log fit same states run acts told at is = rec
     picked (Some x) e = ap (λ a. same_choice a (choice old.plan.now r.core.0 r.tick log)) (job ∙ e) ∙ (ap (same_choice (Some x)) (the_choice ∙ e) ∙ same_self x)
 
     next : (o : Option JobId) → chosen ≡ o → does_next old.plan.now log r.job r ≡ true
-    next None e = ap (λ a. does_next old.plan.now log a r) (job ∙ e) ∙ ap is_idle (subst (λ o. ActsFor mid new o tick r) e acts).kind
+    next None e = ap (λ a. does_next old.plan.now log a r) (job ∙ e) ∙ ap is_idle (subst (λ o. IsTurnOf mid o tick r) e turn).kind
     next (Some x) e = ap (λ a. does_next old.plan.now log a r) (job ∙ e) ∙ (running x e).1

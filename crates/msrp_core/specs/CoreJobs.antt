@@ -117,6 +117,25 @@ abbrev pub ActsFor : Jobs → Jobs → Option JobId → ℕ → Row → Type 0
 ActsFor old new None tick r = Idles old new tick r
 ActsFor old new (Some job) tick r = Acts old new job tick r
 
+-- the row does the next unit of the job, which is the newest that is going, or waits for it
+pub record DoesNext (jobs : Jobs) (job : JobId) (tick : ℕ) (r : Row) : Type 0 where
+  pub row_tick : r.tick ≡ tick
+  pub row_core : r.core ≡ jobs.core
+  pub row_job : r.job ≡ Some job
+  pub action : (s : Going) (below : List Going) → going_in jobs ≡ s ∷ below → does_unit_after jobs.plan.now job (is_waiting_phase jobs.phase) s.done r ≡ true
+
+-- the row is idle
+pub record IsIdle (jobs : Jobs) (tick : ℕ) (r : Row) : Type 0 where
+  pub row_tick : r.tick ≡ tick
+  pub row_core : r.core ≡ jobs.core
+  pub row_job : r.job ≡ None
+  pub kind : r.kind ≡ Idle
+
+-- the row is one of whoever has the turn, whatever a global resource replies
+abbrev pub IsTurnOf : Jobs → Option JobId → ℕ → Row → Type 0
+IsTurnOf jobs None tick r = IsIdle jobs tick r
+IsTurnOf jobs (Some job) tick r = DoesNext jobs job tick r
+
 -- the row is the one that a call of its core on its resource makes, which the port has now
 pub record MakesCall (plan : PlanModel) (r : Row) (before after : PortModel) : Type 0 where
   pub res : ResId

@@ -1,6 +1,6 @@
 -- The jobs of a core between two of its turns: which are going, that is started and not finished, what each of these
 -- holds, and how many of its units it has done.
-use Rattle.std.specs.Prelude.{ℕ, List, [], ◌∷◌, Bool, true, false, nat_eq, ◌==◌, ◌&&◌, cond, Some, length, take, slice_get, ◌≡◌, ◌<◌, ◌+◌, ⊤}
+use Rattle.std.specs.Prelude.{ℕ, List, [], ◌∷◌, Bool, true, false, nat_eq, ◌==◌, ◌&&◌, Some, length, take, slice_get, ◌≡◌, ◌<◌, ◌+◌, ⊤, if◌then◌else◌}
 use Rattle.std.specs.List.{list_any, AllByRecursion, Contains}
 use Rattle.msrp_plan.specs.Plan.{PlanModel, units}
 use Rattle.msrp_plan.specs.Units.{held_after}
@@ -40,7 +40,7 @@ is_kept going g = list_any (λ s. list_any (nat_eq g) s.held) going
 -- the units that a started job has done: all of them where it isn't going
 abbrev pub done_in : PlanModel → List Going → JobId → ℕ
 done_in plan [] j = length (units plan j)
-done_in plan (s ∷ going) j = cond (same_job j s.job) s.done (done_in plan going j)
+done_in plan (s ∷ going) j = if same_job j s.job then s.done else done_in plan going j
 
 abbrev pub is_waiting_phase : Phase → Bool
 is_waiting_phase Free = false
@@ -60,12 +60,12 @@ is_newest (s ∷ below) j = same_job j s.job
 -- going, of which the newest alone waits
 abbrev pub state_in : PlanModel → List JobId → Phase → List Going → JobId → JobState
 state_in plan taken phase going j =
-    record { job = j; started = is_among taken j; queued = is_waiting_phase phase && is_newest going j; done = cond (is_among taken j) (done_in plan going j) 0 }
+    record { job = j; started = is_among taken j; queued = is_waiting_phase phase && is_newest going j; done = if is_among taken j then done_in plan going j else 0 }
 
 -- the newest with one unit more behind it: with its last it goes no more
 abbrev pub advanced : PlanModel → List Going → List Going
 advanced plan [] = []
-advanced plan (s ∷ below) = cond (s.done + 1 == length (units plan s.job)) below (record s { done = s.done + 1 } ∷ below)
+advanced plan (s ∷ below) = if s.done + 1 == length (units plan s.job) then below else record s { done = s.done + 1 } ∷ below
 
 -- ---- what is kept between turns
 -- a job of the core that was taken, and has a unit left

@@ -1,12 +1,13 @@
 //! What the running job does in its turn: its next unit, or the wait for it.
 ghost use Rattle.std.specs.Prelude.{◌≡◌, Some, None, true, false};
 ghost use Rattle.std.specs.Option.{ForSome};
+ghost use Rattle.msrp_plan.specs.Actions.{allows};
 ghost use Rattle.msrp_plan.specs.Levels.{is_global};
 ghost use Rattle.msrp_plan.specs.Shape.{has_shape};
 ghost use Rattle.msrp_plan.specs.declared.ids.ResId.{ResId as Resource};
 ghost use Rattle.msrp_core.specs.Going.{is_holding_phase, is_waiting_phase};
 ghost use Rattle.msrp_core.specs.Ports.{claim_in};
-ghost use Rattle.msrp_core.specs.CoreJobs.{Acts, ActsFor, AreJobs, CanAct, CanCall, IsQuiet, IsRunning, MakesCall};
+ghost use Rattle.msrp_core.specs.CoreJobs.{Acts, ActsFor, AreJobs, CanAct, CanCall, DoesNext, IsQuiet, IsRunning, IsTurnOf, MakesCall};
 
 use crate::jobs::Jobs;
 use crate::port::{Port, Reply};
@@ -260,6 +261,64 @@ impl<'a> Jobs<'a> {
             } else {
                 self.unlock(tick, job, res)
             },
+        }
+    }
+
+    // How the running job locks, where each call of a port is answered by yes.
+    fn kind_of_lock(&self, job: JobId, res: ResId) -> Kind
+        requires { CanAct self.now job (Op.Lock res) }
+        ensures { allows (is_global self.now.plan.now res.0) (is_waiting_phase self.now.phase) (Op.Lock res) result ≡ true }
+    {
+        if self.is_waiting() {
+            Kind::Grant
+        } else if self.levels.is_global(res) {
+            Kind::Take
+        } else {
+            Kind::Lock
+        }
+    }
+
+    // How it unlocks.
+    fn kind_of_unlock(&self, job: JobId, res: ResId) -> Kind
+        requires { CanAct self.now job (Op.Unlock res) }
+        ensures { allows (is_global self.now.plan.now res.0) (is_waiting_phase self.now.phase) (Op.Unlock res) result ≡ true }
+    {
+        if self.is_holding(res) {
+            Kind::Release
+        } else {
+            Kind::Unlock
+        }
+    }
+
+    // The row of the running job's next action, where each call of a port is answered by yes.
+    fn next_row(&self, tick: u32, job: JobId) -> Row
+        requires jobs { AreJobs self.now }
+        requires running { IsRunning self.now job }
+        ensures { DoesNext self.now job tick result }
+    {
+        match self.unit(job) {
+            Op::Run => row_on(self.core, tick, Kind::Run, job, None),
+            Op::Lock(res) => {
+                let kind = self.kind_of_lock(job, res);
+                row_on(self.core, tick, kind, job, Some(res))
+            }
+            Op::Unlock(res) => {
+                let kind = self.kind_of_unlock(job, res);
+                row_on(self.core, tick, kind, job, Some(res))
+            }
+        }
+    }
+
+    /// The row of the turn of who runs, or of nobody, where each call of a port is answered by yes.
+    #[inline(always)]
+    pub(crate) fn row_of(&self, tick: u32, running: Option<JobId>) -> Row
+        requires jobs { AreJobs self.now }
+        requires running { ForSome running (IsRunning self.now) }
+        ensures { IsTurnOf self.now running tick result }
+    {
+        match running {
+            None => idle_row(self.core, tick),
+            Some(job) => self.next_row(tick, job),
         }
     }
 

@@ -9,7 +9,7 @@ ghost use Rattle.msrp_plan.specs.Levels.{is_global};
 ghost use Rattle.msrp_plan.specs.declared.ids.JobId.{JobId as Job};
 ghost use Rattle.msrp_plan.specs.declared.rows.Row.{Row as TraceRow};
 ghost use Rattle.msrp_ready.specs.Ready.{head, is_among};
-ghost use Rattle.msrp_stack.specs.Stack.{current_ceiling, newest};
+ghost use Rattle.msrp_stack.specs.Stack.{current_ceiling, newest, top};
 ghost use Rattle.msrp_core.specs.Going.{Going, advanced, state_in};
 ghost use Rattle.msrp_core.specs.CoreJobs.{AreJobs, AreToldBy, CanAct, IsRunning, IsSamePlace, IsSameStack, going_in, is_first, is_preferred, started_with, state_of};
 
@@ -124,6 +124,24 @@ impl<'a> Jobs<'a> {
                 Some(job)
             }
             _ => running,
+        }
+    }
+
+    /// Whether who runs goes on in this tick, if somebody does: nothing is released in it, and no job starts.
+    #[inline(always)]
+    pub(crate) fn goes_on(&self, tick: u32, running: Option<JobId>) -> bool
+        requires jobs { AreJobs self.now }
+        requires tick { ForSome self.now.ready.tick (λ before. before ≤ tick) }
+        requires newest { running ≡ newest self.now.stack.started }
+        requires top { running ≡ top self.now.stack }
+        ensures { (log : List TraceRow) → result ≡ true → AreToldBy self.now log → running ≡ choice self.now.plan.now self.now.core.0 tick log }
+    {
+        if self.ready.is_due(tick) {
+            return false;
+        }
+        match self.ready.head() {
+            Some(job) => !self.is_next(job, running),
+            None => true,
         }
     }
 

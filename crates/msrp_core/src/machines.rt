@@ -1,5 +1,5 @@
 //! The machine of one core, which makes the rows of its turns.
-ghost use Rattle.std.specs.Prelude.{◌≡◌, ◌<◌, ◌+◌, ◌++◌, ◌∷◌, [], List, Some, None, IfOk, length, true};
+ghost use Rattle.std.specs.Prelude.{◌≡◌, ◌<◌, ◌+◌, ◌++◌, ◌∷◌, [], List, Some, None, IfOk, IfSome, length, true};
 ghost use Rattle.msrp_plan.specs.Levels.{is_global};
 ghost use Rattle.msrp_plan.specs.Runs.{IsCoreTurn};
 ghost use Rattle.msrp_plan.specs.declared.ids.ResId.{ResId as Resource};
@@ -78,6 +78,20 @@ impl<'a> Machine<'a> {
         ensures { result ≡ self.now.phase }
     {
         self.jobs.phase
+    }
+
+    /// The row of the core's next turn, foreseen where no job is released in its tick and none starts: else none. Where
+    /// the turn is a call of a port the row is that of an answer by yes: it takes or is granted what it asks for.
+    #[inline(always)]
+    pub fn foresee(&self) -> Option<Row>
+        ensures { IfSome result (λ row. (log : List TraceRow) → StandsAfter self.now log → IsCoreTurn self.now.plan self.now.core log row) }
+    {
+        let running = self.jobs.stack.top();
+        if self.jobs.goes_on(self.tick, running) {
+            Some(self.jobs.row_of(self.tick, running))
+        } else {
+            None
+        }
     }
 
     /// The core's next turn: the job that has it does its next action, or the core idles. A turn on a global resource

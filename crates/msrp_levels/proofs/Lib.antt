@@ -8,3 +8,4 @@ pub mod Stored
 pub mod Ranges
 pub mod HeldUnits
 pub mod OutermostRows
+pub mod PlanJobs

@@ -14,7 +14,8 @@ use Rattle.msrp_levels.specs.Outermost.{held_with_unit}
 use Rattle.msrp_levels.proofs.Gathered.{filter_more_range, sum_more_range, range_below, filter_none}
 use Rattle.msrp_levels.proofs.HeldUnits.{IsHeldAt, held_first, held_step, inside, outside}
 use Rattle.msrp_levels.proofs.Longest.{fold_max-le}
-use Rattle.msrp_levels.proofs.Ranges.{greatest_push, range_grows, range_more_zero}
+use Rattle.msrp_levels.proofs.Ranges.{range_grows, range_more_zero}
+use Rattle.msrp_plan.proofs.Blocking.Sections.{greatest_push}
 
 -- ---- the opening of a unit
 module _ (plan : PlanModel) (us : List Op) where

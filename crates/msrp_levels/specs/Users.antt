@@ -1,5 +1,5 @@
 -- What is asked of a plan beside levels and local ceilings.
-use Rattle.std.specs.Prelude.{ℕ, List, filter, length, cond}
+use Rattle.std.specs.Prelude.{ℕ, List, filter, length, if◌then◌else◌}
 use Rattle.std.specs.List.{range_with_len}
 use Rattle.msrp_plan.specs.Plan.{PlanModel, task_at}
 use Rattle.msrp_plan.specs.Levels.{uses, is_global, local_ceiling, top}
@@ -11,4 +11,4 @@ users plan g = filter (λ t. uses g (task_at plan t)) (range_with_len 0 (length 
 -- the ceiling of a resource at a core: of a global resource it is the highest level of the core's tasks (Gai, Lipari
 -- and Di Natale 2001), of a local one the highest level of its users (Baker 1991)
 abbrev pub ceiling_at : PlanModel → ℕ → ℕ → ℕ
-ceiling_at plan g c = cond (is_global plan g) (top plan c) (local_ceiling plan g)
+ceiling_at plan g c = if is_global plan g then top plan c else local_ceiling plan g

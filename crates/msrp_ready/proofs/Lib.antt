@@ -5,4 +5,5 @@ pub mod Gathering
 pub mod Between
 pub mod Once
 pub mod Standing
+pub mod Due
 pub mod Moving

@@ -1,11 +1,11 @@
 -- Jobs are released, and the head is taken: what the calendar and the heap then keep.
-use Rattle.std.proofs.Common.{◌≡◌, ◌==◌, ℕ, zero, suc, ◌+◌, ◌-◌, ◌*◌, ◌<◌, ◌≤◌, nat_le, Bool, true, false, not, cond, ◌&&◌, ◌||◌, List, [], ◌∷◌, ◌++◌, map, take, drop, length, get_or, Option, Some, None, refl, ap, sym, ◌∙◌, subst, inl, inr, arith, append_assoc, append-nil, length-append}
+use Rattle.std.proofs.Common.{◌≡◌, ◌==◌, ℕ, zero, suc, ◌+◌, ◌-◌, ◌*◌, ◌<◌, ◌≤◌, Bool, true, false, not, cond, ◌&&◌, ◌||◌, List, [], ◌∷◌, ◌++◌, map, take, drop, length, get_or, Option, Some, None, refl, ap, sym, ◌∙◌, subst, inl, inr, arith, append_assoc, append-nil, length-append}
 use Rattle.std.specs.List.{All, AllByRecursion, Contains, filter, count_by}
 use Rattle.std.specs.Option.{ForSome}
 use Rattle.std.specs.List.Sorted.{IsPermutation, IsNonDecreasingBy}
 use Rattle.std.proofs.Math.Bool.{true≢false}
-use Rattle.std.proofs.lemmas.Bool.{cases_Bool, cases_lt, leb-true, le-leb, lt-leb}
-use Rattle.std.proofs.lemmas.List.{take-append-drop, get_or-drop, length-take-le, length-drop, length-map, map-append}
+use Rattle.std.proofs.lemmas.Bool.{cases_Bool, cases_lt, le-leb}
+use Rattle.std.proofs.lemmas.List.{take-append-drop, length-take-le, length-map, map-append}
 use Rattle.std.proofs.lemmas.List.Elements.{All-nil, All-append, All-weaker, recursion_from_All, All-contains_itself, Contains-append_right, filter-append}
 use Rattle.std.proofs.lemmas.List.Folds.{list_any-append}
 use Rattle.std.proofs.lemmas.List.Sums.{sum_by-cons, sum_by-append, sum_by-take-drop, sum_by-take-le, length-filter, count_by-le-length}
@@ -14,14 +14,16 @@ use Rattle.msrp_plan.specs.Plan.{PlanModel, core_of, release}
 use Rattle.msrp_plan.specs.Jobs.{jobs, jobs_on, same_job}
 use Rattle.msrp_plan.specs.WellFormed.{IsPlan}
 use Rattle.msrp_plan.specs.declared.ids.JobId.{JobId}
-use Rattle.msrp_plan.proofs.Jobs.JobTests.{same_is, same_self}
+use Rattle.msrp_plan.proofs.Jobs.JobTests.{same_is, same_symm}
 use Rattle.msrp_ready.specs.Keyed.{keyed}
 use Rattle.msrp_ready.specs.Heap.{HeapModel}
 use Rattle.msrp_ready.specs.Ready.{is_among, has_come}
 use Rattle.msrp_ready.specs.ReadyView.{has, without, AreReady}
 use Rattle.msrp_ready.specs.declared.keyed.KeyedJob.{KeyedJob}
-use Rattle.msrp_ready.proofs.Once.{count-map, once_on}
-use Rattle.msrp_ready.proofs.Standing.{has_of, among_without, heap_released}
+use Rattle.msrp_ready.proofs.Once.{once_on}
+use Rattle.msrp_ready.proofs.Standing.{has_of, among_without, heap_released, come_later, none_come}
+use Rattle.msrp_plan.proofs.Lists.Filters.{count_map}
+use Rattle.msrp_plan.proofs.Tests.{or_off}
 
 -- ---- a list up to a place, and from there up to another
 take_take : {X : Type 0} (n m : ℕ) (xs : List X) → n ≤ m → take n (take m xs) ≡ take n xs
@@ -32,11 +34,6 @@ take_take (suc n) (suc m) (x ∷ xs) h = ap (λ ys. x ∷ ys) (take_take n m xs 
 
 take_on : {X : Type 0} (n m : ℕ) (xs : List X) → n ≤ m → take m xs ≡ take n xs ++ drop n (take m xs)
 take_on n m xs h = sym (take-append-drop n (take m xs)) ∙ ap (λ ys. ys ++ drop n (take m xs)) (take_take n m xs h)
-
--- ---- a release that has come by a tick has come by each later one
-come_later : (tick : Option ℕ) (t r : ℕ) → ForSome tick (λ before. before ≤ t) → has_come tick r ≡ true → has_come (Some t) r ≡ true
-come_later None t r no_earlier come = absurd (true≢false (sym come))
-come_later (Some before) t r no_earlier come = let later : before ≤ t = no_earlier before refl in le-leb r t (omega (arith, leb-true r before come, later))
 
 -- ---- how often a job stands in a list
 times : JobId → List KeyedJob → ℕ
@@ -69,10 +66,6 @@ none_pass : {X : Type 0} (p : X → Bool) (xs : List X) → AllByRecursion (λ x
 none_pass p [] all = refl
 none_pass p (x ∷ xs) all = sum_by-cons (λ y. cond (p y) 1 0) x xs ∙ ap (λ b. cond b 1 0 + count_by p xs) all.0 ∙ ap (λ n. 0 + n) (none_pass p xs all.1)
 
-or_right_none : (a b : Bool) → b ≡ false → a || b ≡ a
-or_right_none true b e = refl
-or_right_none false b e = e
-
 -- ---- who stands in a list and not in another
 without_same : (one other jobs : List KeyedJob) → AllByRecursion (λ k. has one k.job ≡ has other k.job) jobs → without one jobs ≡ without other jobs
 without_same one other [] all = refl
@@ -85,15 +78,6 @@ without_all heap (x ∷ xs) all = ap (λ b. cond (not b) (x.job ∷ without heap
 
 without-append : (heap one other : List KeyedJob) → without heap (one ++ other) ≡ without heap one ++ without heap other
 without-append heap one other = ap (filter (λ j. not (has heap j))) (map-append (λ k. k.job) one other) ∙ filter-append (λ j. not (has heap j)) (map (λ k. k.job) one) (map (λ k. k.job) other)
-
-same_flip : (i j : JobId) → same_job i j ≡ same_job j i
-same_flip i j = elim (cases_Bool (same_job i j)) [
-  | inl is ↦ is ∙ sym (ap (λ z. same_job j z) (same_is i j is) ∙ same_self j)
-  | inr other ↦ elim (cases_Bool (same_job j i)) [
-    | inl is ↦ absurd (true≢false (sym (ap (λ z. same_job z j) (sym (same_is j i is)) ∙ same_self j) ∙ other))
-    | inr too ↦ other ∙ sym too
-  ]
-]
 
 -- one job gone from the list of those that are not taken
 one_gone : (among is later : Bool) → (is ≡ true → among ≡ true) → (is ≡ true → later ≡ false) → among && not later ≡ (among && not (is || later)) || is
@@ -110,7 +94,7 @@ module _ (plan : PlanModel) (c : ℕ) (tick : Option ℕ) (calendar : List Keyed
   unfolding times
   once j =
       let same = sum_by-IsPermutation (λ k. cond (same_job j k.job) 1 0) (map (keyed plan) (jobs_on plan c)) calendar ok.jobs in
-      let images = count-map (keyed plan) (λ k. same_job j k.job) (jobs_on plan c) in
+      let images = count_map (keyed plan) (λ k. same_job j k.job) (jobs_on plan c) in
       omega (arith, same, images, once_on plan ok.accepted c j)
 
   once_up_to : (j : JobId) (n : ℕ) → times j (take n calendar) ≤ 1
@@ -121,7 +105,7 @@ module _ (plan : PlanModel) (c : ℕ) (tick : Option ℕ) (calendar : List Keyed
   pub released_count : count_by (λ j. has_come tick (release plan j)) (jobs_on plan c) ≡ next
   released_count =
       let come : KeyedJob → Bool = λ k. has_come tick k.key.release in
-      let images = count-map (keyed plan) come (jobs_on plan c) in
+      let images = count_map (keyed plan) come (jobs_on plan c) in
       let same = sum_by-IsPermutation (λ k. cond (come k) 1 0) (map (keyed plan) (jobs_on plan c)) calendar ok.jobs in
       let parts = sum_by-take-drop (λ k. cond (come k) 1 0) calendar next in
       let before = all_pass come (take next calendar) (recursion_from_All (λ k. come k ≡ true) (take next calendar) ok.come) in
@@ -160,11 +144,7 @@ module _ (plan : PlanModel) (c : ℕ) (tick : Option ℕ) (calendar : List Keyed
 
     -- and those from there on have not
     still_to_come : ((d : KeyedJob) → after < length calendar → t < (get_or calendar after d).key.release) → All (λ k. has_come (Some t) k.key.release ≡ false) (drop after calendar)
-    still_to_come next_later k d l =
-        let long = length-drop after calendar in
-        let here = next_later d (omega (arith, long, l)) in
-        let rises = ok.sorted after (after + k) d (omega arith) (omega (arith, long, l)) in
-        ap (λ z. nat_le z.key.release t) (get_or-drop after calendar k d) ∙ lt-leb (get_or calendar (after + k) d).key.release t (omega (arith, here, rises))
+    still_to_come = none_come calendar after t ok.sorted
 
     pub released_on : All (λ k. k.key.release ≤ t) (drop next (take after calendar)) → ((d : KeyedJob) → after < length calendar → t < (get_or calendar after d).key.release) → later.room ≡ heap.room → later.compared ≤ heap.compared + 13 * (after - next)
         → AreReady plan c (Some t) calendar after later
@@ -202,7 +182,7 @@ module _ (plan : PlanModel) (c : ℕ) (tick : Option ℕ) (calendar : List Keyed
         let kept : All (λ k. has later.jobs k.job ≡ has heap.jobs k.job) before = All-weaker (Contains before) (λ k. has later.jobs k.job ≡ has heap.jobs k.job) (λ k there.
         sym (list_any-IsPermutation (λ z. same_job k.job z.job) (heap.jobs ++ more) later.jobs jobs)
         ∙ list_any-append (λ z. same_job k.job z.job) heap.jobs more
-        ∙ or_right_none (has heap.jobs k.job) (has more k.job) (not_among_more k there)) before (All-contains_itself before) in
+        ∙ or_off (has heap.jobs k.job) (has more k.job) (not_among_more k there)) before (All-contains_itself before) in
         ap (without later.jobs) (take_on next after calendar lower)
         ∙ without-append later.jobs before more
         ∙ ap (λ js. without later.jobs before ++ js) (without_all later.jobs more (recursion_from_All (λ k. has later.jobs k.job ≡ true) more joined))
@@ -254,7 +234,7 @@ module _ (plan : PlanModel) (c : ℕ) (tick : Option ℕ) (calendar : List Keyed
         ∙ one_gone (has before j) (same_job j k.job) (has later.jobs j) (was_there j) (gone j)
         ∙ ap (λ b. (has before j && not b) || same_job j k.job) (sym (list_any-IsPermutation (λ z. same_job j z.job) heap.jobs (k ∷ later.jobs) jobs))
         ∙ ap (λ b. b || same_job j k.job) (sym (among_without heap.jobs before j))
-        ∙ ap (λ b. is_among (without heap.jobs before) j || b) (same_flip j k.job)
+        ∙ ap (λ b. is_among (without heap.jobs before) j || b) (same_symm j k.job)
 
 -- ---- what a release leaves
 pub record Releases (plan : PlanModel) (c : ℕ) (tick : Option ℕ) (calendar : List KeyedJob) (next : ℕ) (heap : HeapModel) (t after : ℕ) (later : HeapModel) : Type 0 where

@@ -1,5 +1,5 @@
 -- Each job stands once among the jobs of a core.
-use Rattle.std.proofs.Common.{◌≡◌, ℕ, zero, suc, ◌+◌, ◌<◌, ◌≤◌, ◌==◌, ◌&&◌, nat_eq, Bool, true, false, cond, List, [], ◌∷◌, map, length, refl, ap, sym, ◌∙◌, inl, inr, arith}
+use Rattle.std.proofs.Common.{◌≡◌, ℕ, zero, suc, ◌+◌, ◌<◌, ◌≤◌, ◌==◌, ◌&&◌, nat_eq, Bool, true, false, cond, List, [], ◌∷◌, length, refl, ap, sym, ◌∙◌, inl, inr, arith}
 use Rattle.std.specs.List.{count_by, sum_by, filter, flat_map, range_with_len}
 use Rattle.std.proofs.lemmas.Bool.{cases_Bool, eqb-true}
 use Rattle.std.proofs.lemmas.List.Sums.{sum_by-cons, sum_by-append, sum_by-le-sum_by}
@@ -8,6 +8,7 @@ use Rattle.msrp_plan.specs.WellFormed.{IsPlan}
 use Rattle.msrp_plan.specs.Jobs.{jobs_of, jobs, jobs_on, same_job}
 use Rattle.msrp_plan.specs.declared.ids.JobId.{JobId}
 use Rattle.msrp_plan.proofs.Jobs.JobLists.{job_at, jobs_of_are}
+use Rattle.msrp_plan.proofs.Lists.Filters.{count_map}
 
 -- ---- counts
 count-cons : {X : Type 0} (p : X → Bool) (x : X) (xs : List X) → count_by p (x ∷ xs) ≡ cond (p x) 1 0 + count_by p xs
@@ -28,11 +29,6 @@ count-filter p q (x ∷ xs) =
           let e : count_by p (filter q (x ∷ xs)) ≡ count_by p (filter q xs) = ap (λ b. count_by p (cond b (x ∷ filter q xs) (filter q xs))) dropped in
           omega (arith, e, all, rest)
     ]
-
--- of images as many pass as of elements whose image passes
-pub count-map : {X Y : Type 0} (f : X → Y) (p : Y → Bool) (xs : List X) → count_by p (map f xs) ≡ count_by (λ x. p (f x)) xs
-count-map f p [] = refl
-count-map f p (x ∷ xs) = count-cons p (f x) (map f xs) ∙ ap (λ n. cond (p (f x)) 1 0 + n) (count-map f p xs) ∙ sym (count-cons (λ y. p (f y)) x xs)
 
 count-flat_map : {X Y : Type 0} (f : X → List Y) (p : Y → Bool) (xs : List X) → count_by p (flat_map f xs) ≡ sum_by (λ x. count_by p (f x)) xs
 count-flat_map f p [] = refl
@@ -74,7 +70,7 @@ among_task d ks false once = omega (arith, none_pass ks)
 once_of_task : (plan : PlanModel) → IsPlan plan → (j : JobId) (t : ℕ) → count_by (same_job j) (jobs_of plan t) ≤ cond (nat_eq j.task.0 t) 1 0
 once_of_task plan accepted j t =
     let ks = range_with_len 0 (length (jobs_of plan t)) in
-    let e : count_by (same_job j) (jobs_of plan t) ≡ count_by (λ k. same_job j (job_at t k)) ks = ap (count_by (same_job j)) (jobs_of_are plan accepted t) ∙ count-map (job_at t) (same_job j) ks in
+    let e : count_by (same_job j) (jobs_of plan t) ≡ count_by (λ k. same_job j (job_at t k)) ks = ap (count_by (same_job j)) (jobs_of_are plan accepted t) ∙ count_map (job_at t) (same_job j) ks in
     let few = among_task j.k ks (nat_eq j.task.0 t) (once_in j.k 0 (length (jobs_of plan t))) in
     omega (arith, e, few)
 

@@ -1,11 +1,13 @@
 -- What the calendar and the heap say of the ready jobs: who stands in the heap is ready, and its first is the head.
-use Rattle.std.proofs.Common.{◌≡◌, ℕ, Bool, true, false, not, cond, ◌&&◌, ◌||◌, List, [], ◌∷◌, ◌++◌, map, take, drop, length, get_or, Option, Some, None, refl, ap, sym, ◌∙◌, subst, inl, inr, arith}
+use Rattle.std.proofs.Common.{◌≡◌, ℕ, ◌+◌, ◌<◌, ◌≤◌, nat_le, Bool, true, false, not, cond, ◌&&◌, ◌||◌, List, [], ◌∷◌, ◌++◌, map, take, drop, length, get_or, Option, Some, None, refl, ap, sym, ◌∙◌, subst, inl, inr, arith}
 use Rattle.std.specs.List.{All, Contains, filter, list_any}
+use Rattle.std.specs.List.Sorted.{IsNonDecreasingBy}
+use Rattle.std.specs.Option.{ForSome}
 use Rattle.std.specs.Ordering.{is_lt}
 use Rattle.std.specs.BinaryHeap.{IsUpperBound}
 use Rattle.std.proofs.Math.Bool.{true≢false}
-use Rattle.std.proofs.lemmas.Bool.{cases_Bool, and_parts, and_right, not-true, not-false}
-use Rattle.std.proofs.lemmas.List.{take-append-drop, length-map, get_or-map}
+use Rattle.std.proofs.lemmas.Bool.{cases_Bool, leb-true, le-leb, lt-leb, and_parts, and_right, not-true, not-false}
+use Rattle.std.proofs.lemmas.List.{take-append-drop, get_or-drop, length-drop, length-map, get_or-map}
 use Rattle.std.proofs.lemmas.List.Elements.{All-map, All-contains, All-contains_itself, All-from_recursion, Contains-append_left, Contains-append_right, Contains-append_cases}
 use Rattle.std.proofs.lemmas.List.Sorted.{IsPermutation-sym, All-permutation, Contains-permutation}
 use Rattle.msrp_plan.specs.Plan.{PlanModel, release, key}
@@ -21,6 +23,20 @@ use Rattle.msrp_ready.specs.Heap.{HeapModel, least_on_top}
 use Rattle.msrp_ready.specs.Ready.{ReadyModel, is_among, has_come, head}
 use Rattle.msrp_ready.specs.ReadyView.{has, without, AreReady}
 use Rattle.msrp_ready.specs.declared.keyed.KeyedJob.{KeyedJob}
+
+-- ---- a release that has come by a tick has come by each later one
+pub come_later : (tick : Option ℕ) (t r : ℕ) → ForSome tick (λ before. before ≤ t) → has_come tick r ≡ true → has_come (Some t) r ≡ true
+come_later None t r no_earlier come = absurd (true≢false (sym come))
+come_later (Some before) t r no_earlier come = let later : before ≤ t = no_earlier before refl in le-leb r t (omega (arith, leb-true r before come, later))
+
+-- ---- the calendar from a place on
+-- where the first job there comes later than a tick, so does each one after it
+pub none_come : (calendar : List KeyedJob) (from t : ℕ) → IsNonDecreasingBy (λ k. k.key.release) calendar → ((d : KeyedJob) → from < length calendar → t < (get_or calendar from d).key.release) → All (λ k. has_come (Some t) k.key.release ≡ false) (drop from calendar)
+none_come calendar from t sorted later k d l =
+    let long = length-drop from calendar in
+    let here = later d (omega (arith, long, l)) in
+    let rises = sorted from (from + k) d (omega arith) (omega (arith, long, l)) in
+    ap (λ z. nat_le z.key.release t) (get_or-drop from calendar k d) ∙ lt-leb (get_or calendar (from + k) d).key.release t (omega (arith, here, rises))
 
 -- ---- who stands in a list of keyed jobs
 pub has_of : (jobs : List KeyedJob) (k : KeyedJob) → Contains jobs k → has jobs k.job ≡ true
@@ -82,15 +98,15 @@ contains_image f js k d within = (k, omega (arith, length-map js f), get_or-map 
 
 module _ (plan : PlanModel) (c : ℕ) (tick : Option ℕ) (calendar : List KeyedJob) (next : ℕ) (heap : HeapModel) (ok : AreReady plan c tick calendar next heap) where
   -- each stands beside its key
-  all_keyed : All (λ k. k ≡ keyed plan k.job) calendar
+  pub all_keyed : All (λ k. k ≡ keyed plan k.job) calendar
   all_keyed = All-permutation (λ k. k ≡ keyed plan k.job) (map (keyed plan) (jobs_on plan c)) calendar ok.jobs (All-map (λ k. k ≡ keyed plan k.job) (keyed plan) (jobs_on plan c) (λ k d h. refl))
 
   -- and is a job of the core
-  all_on_core : All (λ k. Contains (jobs_on plan c) k.job) calendar
+  pub all_on_core : All (λ k. Contains (jobs_on plan c) k.job) calendar
   all_on_core = All-permutation (λ k. Contains (jobs_on plan c) k.job) (map (keyed plan) (jobs_on plan c)) calendar ok.jobs (All-map (λ k. Contains (jobs_on plan c) k.job) (keyed plan) (jobs_on plan c) (All-contains_itself (jobs_on plan c)))
 
   -- each job of the core is there
-  in_calendar : (j : JobId) → Contains (jobs_on plan c) j → Contains calendar (keyed plan j)
+  pub in_calendar : (j : JobId) → Contains (jobs_on plan c) j → Contains calendar (keyed plan j)
   in_calendar j there = Contains-permutation (map (keyed plan) (jobs_on plan c)) calendar (keyed plan j) ok.jobs (All-contains (λ i. Contains (map (keyed plan) (jobs_on plan c)) (keyed plan i)) (jobs_on plan c) j (contains_image (keyed plan) (jobs_on plan c)) there)
 
   -- ---- who stands in the heap is one of the released

@@ -1,5 +1,5 @@
 -- The ready jobs of a core: released and not yet taken.
-use Rattle.std.specs.Prelude.{ℕ, List, Bool, false, nat_le, Option, Some, None, count_by}
+use Rattle.std.specs.Prelude.{ℕ, List, Bool, false, not, ◌&&◌, nat_le, Option, Some, None, count_by}
 use Rattle.std.specs.List.{list_any}
 use Rattle.std.specs.Option.{option_and_then}
 use Rattle.msrp_plan.specs.Plan.{PlanModel, release}
@@ -28,6 +28,10 @@ has_come (Some t) release = nat_le release t
 -- how many jobs of the core are released
 abbrev pub released : ReadyModel → ℕ
 released ready = count_by (λ j. has_come ready.tick (release ready.plan j)) (jobs_on ready.plan ready.core)
+
+-- a job of the core is released by this tick that isn't released yet
+abbrev pub is_due : ReadyModel → ℕ → Bool
+is_due ready t = list_any (λ j. has_come (Some t) (release ready.plan j) && not (has_come ready.tick (release ready.plan j))) (jobs_on ready.plan ready.core)
 
 -- the least job of the core that is released and not taken; none before the first tick
 abbrev pub head : ReadyModel → Option JobId

@@ -53,7 +53,33 @@ pub(crate) fn calendar_of(alloc: Global, plan: &Plan, core: CoreId) -> Result<Ve
 
 /// Moves the jobs of a calendar from a place on that are released by a tick into the heap, and answers the place of the
 /// first that isn't.
+#[inline(always)]
 pub(crate) fn release(calendar: &[KeyedJob], from: usize, tick: u32, heap: &mut Heap) -> usize
+    requires from { from ≤ length calendar.now }
+    requires few { length calendar.now ≤ most_jobs }
+    requires room { heap.old.room ≡ length calendar.now }
+    requires jobs { length heap.old.jobs ≤ from }
+    requires count { heap.old.compared < 2 ^ 63 }
+    ensures from { from ≤ result }
+    ensures within { result ≤ length calendar.now }
+    ensures released { All (λ job. job.key.release ≤ tick) (drop from (take result calendar.now)) }
+    ensures later { (d : KeyedJob) → result < length calendar.now → tick < (slice_index_or calendar.now result d).key.release }
+    ensures jobs { IsPermutation (heap.old.jobs ++ drop from (take result calendar.now)) heap.new.jobs }
+    ensures room { heap.new.room ≡ heap.old.room }
+    ensures compared { heap.new.compared ≤ heap.old.compared + 13 * (result - from) }
+    ensures kept { heap.old.compared ≤ heap.new.compared }
+    ensures counted { result ≤ from + 1 + (heap.new.compared - heap.old.compared) }
+{
+    if from < calendar.len() && calendar[from].key.release <= u64::from(tick) {
+        release_some(calendar, from, tick, heap)
+    } else {
+        from
+    }
+}
+
+// The same, apart from the code of the ticks in which nothing is released, which are most.
+#[inline(never)]
+fn release_some(calendar: &[KeyedJob], from: usize, tick: u32, heap: &mut Heap) -> usize
     requires from { from ≤ length calendar.now }
     requires few { length calendar.now ≤ most_jobs }
     requires room { heap.old.room ≡ length calendar.now }

@@ -3,7 +3,7 @@ ghost use Rattle.std.specs.Prelude.{◌≡◌, ◌<◌, ◌≤◌, ◌+◌, ◌-
 ghost use Rattle.std.specs.Option.{ForSome};
 ghost use Rattle.msrp_plan.specs.Jobs.{is_job};
 ghost use Rattle.msrp_plan.specs.declared.ids.JobId.{JobId as Job};
-ghost use Rattle.msrp_ready.specs.Ready.{head, is_among, released};
+ghost use Rattle.msrp_ready.specs.Ready.{head, is_among, is_due, released};
 
 use crate::calendar::{calendar_of, release};
 use crate::heap::Heap;
@@ -72,6 +72,14 @@ impl<'a> Ready<'a> {
     {
         self.next = release(&self.calendar, self.next, tick, &mut self.heap);
         self.tick = Some(tick);
+    }
+
+    /// Whether a job of the core is released by this tick that isn't released yet. It compares no keys.
+    #[inline(always)]
+    pub fn is_due(&self, tick: u32) -> bool
+        ensures { result ≡ is_due self.now tick }
+    {
+        self.next < self.calendar.len() && self.calendar[self.next].key.release <= u64::from(tick)
     }
 
     /// The tick up to which jobs are released, none before the first.

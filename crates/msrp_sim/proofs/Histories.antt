@@ -1,30 +1,25 @@
 -- Calls that are answered first-in-first-out, and one call more.
-use Rattle.std.proofs.Common.{◌≡◌, ◌≢◌, ℕ, zero, suc, ◌+◌, ◌==◌, Bool, true, false, cond, List, [], ◌∷◌, ◌++◌, Some, refl, ap, sym, ◌∙◌, subst, arith, length, length-append, map, slice_get, eq-eqb, ◌⊎◌, inl, inr, append-nil}
-use Rattle.std.specs.List.{filter, fold}
-use Rattle.std.proofs.Math.Bool.{true≢false}
+use Rattle.std.proofs.Common.{◌≡◌, ◌≢◌, ℕ, zero, suc, ◌+◌, ◌==◌, Bool, true, false, cond, List, [], ◌∷◌, ◌++◌, Some, refl, ap, sym, ◌∙◌, subst, arith, length, length-append, map, slice_get, eq-eqb, inl, inr, append-nil}
+use Rattle.std.specs.List.{filter}
 use Rattle.std.proofs.lemmas.Bool.{cases_Bool, eqb-true, eqb-false}
 use Rattle.std.proofs.lemmas.List.{map-append}
 use Rattle.std.proofs.lemmas.List.Elements.{filter-append}
 use Rattle.std.proofs.lemmas.List.Sums.{fold_push}
-use Rattle.msrp_plan.specs.FifoLock.{FifoLock, free_lock, IsAmong, IsFirst, Answers, queue_after, granted_after, without_first, lock_after, LegalFrom, Legal}
+use Rattle.msrp_plan.specs.FifoLock.{FifoLock, free_lock, IsAmong, IsFirst, Answers, without_first, lock_after, Legal}
 use Rattle.msrp_plan.specs.LockStates.{lock_from}
 use Rattle.msrp_plan.specs.Calls.{ResCall, claim_with, claim_after, IsInTurn}
-use Rattle.msrp_plan.specs.declared.ids.CoreId.{CoreId}
 use Rattle.msrp_plan.specs.declared.ids.ResId.{ResId}
 use Rattle.msrp_plan.specs.declared.units.Call.{Call}
 use Rattle.msrp_plan.specs.declared.units.Call.TheVariants.{Ask, Poll, Leave}
 use Rattle.msrp_plan.specs.declared.units.Phase.{Phase}
-use Rattle.msrp_plan.specs.declared.units.Phase.TheVariants.{Free, Queued, Holding}
+use Rattle.msrp_plan.specs.declared.units.Phase.TheVariants.{Free}
 use Rattle.msrp_core.specs.Ports.{core_call, res_call, calls_of, calls_on, claim_in}
 use Rattle.msrp_core.specs.declared.port.PortCall.{PortCall}
-use Rattle.msrp_sim.specs.Served.{AreFifo, lock_after_calls, Stance, Out, Waits, Holds, IsStance, stance_of, IsClaim, IsTicketed, IsServed}
+use Rattle.msrp_sim.specs.Served.{AreFifo, lock_after_calls, Stance, Out, Waits, Holds, IsStance, stance_of, IsClaim, IsTicketed}
 use Rattle.msrp_sim.proofs.Queues.{among_at, place_of, first_at, at_first, first_among, one_first, among_push, among_pushed, among_last, first_push, first_pushed, place_pushed, place_rest, among_rest, rest_among, length_rest}
+use Rattle.msrp_plan.proofs.Queues.LockHistories.{legal_push}
 
 -- ---- a legal history, and one call more
-legal_from_push : (lock : FifoLock) (h : List (ℕ × Call)) (s : ℕ × Call) → LegalFrom lock h → Answers (lock_from lock h) s.0 s.1 → LegalFrom lock (h ++ s ∷ [])
-legal_from_push lock [] s legal answers = (answers, tt)
-legal_from_push lock (x ∷ h) s legal answers = (legal.0, legal_from_push (lock_after lock x.0 x.1) h s legal.1 answers)
-
 lock_push : (h : List (ℕ × Call)) (s : ℕ × Call) → lock_from free_lock (h ++ s ∷ []) ≡ lock_after (lock_from free_lock h) s.0 s.1
 lock_push h s = fold_push (λ before s. lock_after before s.0 s.1) free_lock h s
 
@@ -62,7 +57,7 @@ pub fifo_push : (calls : List PortCall) (e : PortCall) → AreFifo calls → Ans
 fifo_push calls e fifo answers g = elim (cases_Bool (e.res.0 == g)) [
   | inl on ↦
       let at : e.res.0 ≡ g = eqb-true e.res.0 g on in
-      subst Legal (sym (on_push g calls e true on)) (legal_from_push free_lock (calls_on g calls) (e.core.0, e.call) (fifo g) (subst (λ h. Answers (lock_after_calls calls h) e.core.0 e.call) at answers))
+      subst Legal (sym (on_push g calls e true on)) (legal_push free_lock (calls_on g calls) (e.core.0, e.call) (fifo g) (subst (λ h. Answers (lock_after_calls calls h) e.core.0 e.call) at answers))
   | inr off ↦ subst Legal (sym (on_push g calls e false off ∙ append-nil (calls_on g calls))) (fifo g)
 ]
 

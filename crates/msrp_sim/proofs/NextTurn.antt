@@ -1,12 +1,11 @@
 -- The next turn of a simulation: its machine can have it, and what the machine promises goes on the run.
-use Rattle.std.proofs.Common.{◌≡◌, ℕ, ◌+◌, ◌*◌, ◌/◌, ◌<◌, ◌≤◌, ◌==◌, true, Some, List, [], ◌∷◌, ◌++◌, map, refl, ap, sym, ◌∙◌, subst, arith, length, get_or, set, take}
-use Rattle.std.specs.List.{count_by}
+use Rattle.std.proofs.Common.{◌≡◌, ℕ, ◌+◌, ◌*◌, ◌/◌, ◌<◌, true, Some, List, [], ◌∷◌, ◌++◌, ap, sym, ◌∙◌, subst, arith, length, get_or, set, take}
 use Rattle.std.proofs.Math.Seq.{take-length}
 use Rattle.std.proofs.lemmas.List.{length-take-le, map-append, length-map}
 use Rattle.msrp_plan.specs.Plan.{PlanModel}
 use Rattle.msrp_plan.specs.Levels.{is_global}
 use Rattle.msrp_plan.specs.Logs.{core_order, log_of}
-use Rattle.msrp_plan.specs.Runs.{IsCoreTurn, IsRun}
+use Rattle.msrp_plan.specs.Runs.{IsCoreTurn}
 use Rattle.msrp_plan.specs.Scheduling.{IsNextCore, IsOrder}
 use Rattle.msrp_plan.specs.WellFormed.{IsPlan}
 use Rattle.msrp_plan.specs.declared.ids.ResId.{ResId}

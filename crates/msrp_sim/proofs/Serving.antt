@@ -1,25 +1,23 @@
 -- A port that serves requests in their order, over each of its calls.
-use Rattle.std.proofs.Common.{◌≡◌, ◌≢◌, ℕ, zero, suc, ◌+◌, ◌-◌, ◌<◌, ◌≤◌, ◌==◌, Bool, true, false, cond, List, [], ◌∷◌, ◌++◌, Some, refl, ap, sym, ◌∙◌, subst, arith, length, length-append, map, set, replicate, get_or, get_or-set_same, get_or-set_other, eq-eqb, inl, inr}
+use Rattle.std.proofs.Common.{◌≡◌, ◌≢◌, ℕ, zero, suc, ◌+◌, ◌-◌, ◌<◌, ◌≤◌, ◌==◌, Bool, true, false, cond, List, [], ◌∷◌, ◌++◌, refl, ap, sym, ◌∙◌, subst, arith, length, length-append, map, set, replicate, get_or, get_or-set_same, get_or-set_other, eq-eqb, inl, inr}
 use Rattle.std.specs.List.{All, sum_by, AllByRecursion, filter}
 use Rattle.std.proofs.lemmas.Bool.{cases_Bool, cases_lt, eqb-true, eqb-false}
 use Rattle.std.proofs.lemmas.List.{get_or_past}
 use Rattle.std.proofs.lemmas.List.Sums.{sum_by-set}
 use Rattle.std.proofs.lemmas.Option.{none-some}
-use Rattle.std.proofs.lemmas.List.Elements.{All-push, recursion_from_All}
-use Rattle.msrp_plan.specs.FifoLock.{FifoLock, free_lock, IsAmong, IsFirst, Answers, without_first, lock_after}
+use Rattle.std.proofs.lemmas.List.Elements.{recursion_from_All}
+use Rattle.msrp_plan.specs.FifoLock.{FifoLock, free_lock, IsAmong, Answers, without_first, lock_after}
 use Rattle.msrp_plan.specs.LockStates.{lock_from}
 use Rattle.msrp_plan.specs.Calls.{IsInTurn}
 use Rattle.msrp_plan.specs.declared.ids.CoreId.{CoreId}
 use Rattle.msrp_plan.specs.declared.ids.ResId.{ResId}
-use Rattle.msrp_plan.specs.declared.units.Call.{Call}
 use Rattle.msrp_plan.specs.declared.units.Call.TheVariants.{Ask, Poll, Leave}
 use Rattle.msrp_plan.specs.declared.units.Phase.TheVariants.{Free, Queued, Holding}
 use Rattle.msrp_core.specs.Ports.{core_call, calls_on, claim_in}
 use Rattle.msrp_core.specs.declared.port.PortCall.{PortCall}
-use Rattle.msrp_sim.specs.Served.{lock_after_calls, IsStance, Out, Waits, Holds, stance_of, IsTicketed, IsServed}
+use Rattle.msrp_sim.specs.Served.{lock_after_calls, IsStance, Out, Waits, Holds, stance_of, IsTicketed}
 use Rattle.msrp_sim.specs.FifoView.{tickets_of, AreDrawn, IsServedBy}
 use Rattle.msrp_sim.specs.declared.fifo.Tickets.{Tickets}
-use Rattle.msrp_sim.proofs.Queues.{first_among}
 use Rattle.msrp_sim.proofs.Histories.{fifo_push, claims_push, lock_own, lock_other, once_by_ticket, ticketed_ask, ticketed_apart, ticketed_leave, first_by_ticket, ticket_of_first}
 
 -- ---- how the call's core stands
@@ -95,7 +93,7 @@ served_ask queues tickets calls core res ahead s free inq int is =
     (ticketed_apart (lock_after_calls calls g).queue (tickets_of queues g).next (tickets_of queues g).serving (λ c. get_or tickets c 0) (λ c. get_or (set tickets core.0 q.next) c 0) core.0 (s.tickets g) (out g) others)))
 
 -- a poll is answered by the core's ticket
-poll_answers : (queues : List Tickets) (tickets : List ℕ) (calls : List PortCall) (c : ℕ) (res : ResId) (granted : Bool) → IsServedBy queues tickets calls → claim_in c calls ≡ Queued res → granted ≡ (get_or tickets c 0 == (tickets_of queues res.0).serving) → Answers (lock_after_calls calls res.0) c (Poll granted)
+pub poll_answers : (queues : List Tickets) (tickets : List ℕ) (calls : List PortCall) (c : ℕ) (res : ResId) (granted : Bool) → IsServedBy queues tickets calls → claim_in c calls ≡ Queued res → granted ≡ (get_or tickets c 0 == (tickets_of queues res.0).serving) → Answers (lock_after_calls calls res.0) c (Poll granted)
 poll_answers queues tickets calls c res true s queued is =
     let w = waits_at queues tickets calls c res s queued in
     let first = first_by_ticket _ _ _ _ c (s.tickets res.0) w.0 (eqb-true _ _ (sym is)) in

@@ -1,10 +1,9 @@
 -- One turn more of a simulation: the row is due and replied to as the queue says, and the machines and the port stand after it.
-use Rattle.std.proofs.Common.{◌≡◌, ◌≢◌, ℕ, nat_lt, suc, zero, ◌+◌, ◌*◌, ◌/◌, ◌<◌, ◌≤◌, ◌==◌, ◌&&◌, ◌||◌, not, Bool, true, false, cond, Option, Some, None, IfSome, List, [], ◌∷◌, ◌++◌, map, refl, ap, sym, ◌∙◌, subst, arith, length, length-append, add-one, eq-eqb, get_or, set, take, inl, inr}
+use Rattle.std.proofs.Common.{◌≡◌, ◌≢◌, ℕ, nat_lt, suc, zero, ◌+◌, ◌/◌, ◌<◌, ◌≤◌, ◌==◌, ◌&&◌, ◌||◌, not, Bool, true, false, cond, Option, Some, None, IfSome, List, [], ◌∷◌, ◌++◌, refl, ap, sym, ◌∙◌, subst, arith, length, length-append, eq-eqb, get_or, set, inl, inr}
 use Rattle.std.specs.Prelude.{is_some}
-use Rattle.std.specs.List.{count_by}
 use Rattle.std.proofs.Math.Bool.{true≢false}
 use Rattle.std.proofs.lemmas.Bool.{cases_Bool, cases_lt, eqb-true, eqb-false, and_from, lt-ltb}
-use Rattle.std.proofs.lemmas.List.{get_or-set_same, get_or-set_other, get_or_append_left, get_or-append-add, length-set, length-take-le, map-append, length-map}
+use Rattle.std.proofs.lemmas.List.{get_or-set_same, get_or-set_other, get_or_append_left, get_or-append-add, length-set, length-map}
 use Rattle.std.proofs.lemmas.List.Folds.{list_all-append}
 use Rattle.std.proofs.lemmas.Option.{same_Some}
 use Rattle.msrp_plan.specs.Plan.{PlanModel}
@@ -14,11 +13,11 @@ use Rattle.msrp_plan.specs.Shape.{is_queue, may_carry}
 use Rattle.msrp_plan.specs.Actions.{allows, is_global_unit, res_of_unit}
 use Rattle.msrp_plan.specs.Queues.{fifo, is_on, replies, counts, is_reply_of}
 use Rattle.msrp_plan.specs.Calls.{kind_of_call, ahead_of_call}
-use Rattle.msrp_plan.specs.FifoLock.{FifoLock, free_lock, Answers, LegalFrom, Legal, lock_after}
-use Rattle.msrp_plan.specs.LockStates.{IsRowOfCall, Tells, lock_at, lock_from}
+use Rattle.msrp_plan.specs.FifoLock.{FifoLock, free_lock, Answers, Legal, lock_after}
+use Rattle.msrp_plan.specs.LockStates.{IsRowOfCall, lock_at}
 use Rattle.msrp_plan.specs.Logs.{IsDueTurn, core_order, log_of}
-use Rattle.msrp_plan.specs.Runs.{EachAfter, IsCoreTurn, IsLegal, IsRun, IsRunStart, is_fifo_reply, replies_on}
-use Rattle.msrp_plan.specs.Scheduling.{IsNextCore, IsOrder}
+use Rattle.msrp_plan.specs.Runs.{EachAfter, IsCoreTurn, IsLegal, is_fifo_reply, replies_on}
+use Rattle.msrp_plan.specs.Scheduling.{IsNextCore}
 use Rattle.msrp_plan.specs.WellFormed.{IsPlan}
 use Rattle.msrp_plan.specs.declared.ids.JobId.{JobId}
 use Rattle.msrp_plan.specs.declared.ids.ResId.{ResId}
@@ -32,17 +31,17 @@ use Rattle.msrp_plan.specs.declared.units.Call.TheVariants.{Ask, Poll, Leave}
 use Rattle.msrp_plan.proofs.Lists.Prefixes.{each_push, each_at}
 use Rattle.msrp_plan.proofs.Queues.QueueLocks.{reply_at, turn_from_log, own_from_legal, agree_at, tells_from_answers, lock_off}
 use Rattle.msrp_plan.proofs.Lists.Ranges.{not_equal}
-use Rattle.msrp_plan.proofs.Legality.LegalRows.{IsTurn, turn_of, DoesUnit, idle_res}
-use Rattle.msrp_plan.proofs.Runs.RoundRobin.{due_rows_legal, log_own, log_other, quiet_reply}
+use Rattle.msrp_plan.proofs.Legality.LegalRows.{IsTurn}
+use Rattle.msrp_plan.proofs.Runs.RoundRobin.{due_rows_legal, log_own, log_other}
 use Rattle.msrp_plan.proofs.Scheduling.Orders.{turns_of}
 use Rattle.msrp_core.specs.Machine.{MachineModel, StandsAfter}
-use Rattle.msrp_core.specs.Ports.{PortModel, Adds, calls_on, claim_in}
+use Rattle.msrp_core.specs.Ports.{PortModel, calls_on, claim_in}
 use Rattle.msrp_core.specs.CoreJobs.{IsQuiet, MakesCall}
 use Rattle.msrp_core.specs.declared.port.PortCall.{PortCall}
 use Rattle.msrp_sim.specs.Served.{FifoModel, AreFifo, IsFresh, as_port, lock_after_calls}
 use Rattle.msrp_sim.specs.Simulated.{IsMachineAfter, AreMachines, IsLeftBy, AreNew, IsNew}
 use Rattle.msrp_sim.proofs.Histories.{on_push, lock_own, lock_other, claim_other}
-use Rattle.msrp_sim.proofs.Given.{next_in}
+use Rattle.msrp_plan.proofs.Queues.LockHistories.{legal_last}
 
 -- ---- a row that makes no call
 -- a row with a reply is on a global resource
@@ -129,10 +128,6 @@ step_of plan r before after call quiet = by_res r.res refl
     ]
 
 -- ---- the reply
-legal_last : (lock : FifoLock) (h : List (ℕ × Call)) (s : ℕ × Call) → LegalFrom lock (h ++ s ∷ []) → Answers (lock_from lock h) s.0 s.1
-legal_last lock [] s legal = legal.0
-legal_last lock (x ∷ h) s legal = legal_last (lock_after lock x.0 x.1) h s legal.1
-
 -- the last call is answered as the lock of its resource answers it
 answers_last : (calls : List PortCall) (e : PortCall) → AreFifo (calls ++ e ∷ []) → Answers (lock_after_calls calls e.res.0) e.core.0 e.call
 answers_last calls e fifo = legal_last free_lock (calls_on e.res.0 calls) (e.core.0, e.call) (subst Legal (on_push e.res.0 calls e true (eq-eqb e.res.0 e.res.0 refl)) (fifo e.res.0))

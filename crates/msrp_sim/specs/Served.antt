@@ -1,5 +1,5 @@
 -- Calls that are served first-in-first-out, and the tickets by which that is done.
-use Rattle.std.specs.Prelude.{ℕ, List, [], true, false, cond, nat_lt, Some, ◌==◌, ◌≡◌, ◌+◌, length, slice_get, slice_index_or}
+use Rattle.std.specs.Prelude.{ℕ, List, [], true, false, nat_lt, Some, ◌==◌, ◌≡◌, ◌+◌, length, slice_get, slice_index_or, if◌then◌else◌}
 use Rattle.msrp_plan.specs.Plan.{PlanModel}
 use Rattle.msrp_plan.specs.FifoLock.{FifoLock, free_lock, IsAmong, IsFirst, Legal}
 use Rattle.msrp_plan.specs.LockStates.{lock_from}
@@ -30,7 +30,7 @@ as_port p = record { calls = p.calls; rooms = λ c. slice_index_or p.rooms c 0; 
 -- nothing was asked of it yet, and each core of the plan may make a call in each tick
 pub record IsFresh (plan : PlanModel) (port : FifoModel) : Type 0 where
   pub calls : port.calls ≡ []
-  pub rooms : (c : ℕ) → (as_port port).rooms c ≡ cond (nat_lt c plan.cores) plan.ticks 0
+  pub rooms : (c : ℕ) → (as_port port).rooms c ≡ (if nat_lt c plan.cores then plan.ticks else 0)
   pub resources : port.resources ≡ length plan.resources
 
 -- how a core stands to one resource
@@ -49,8 +49,8 @@ IsStance lock c Holds = IsFirst lock.queue c × (lock.granted ≡ true)
 -- how a core of this claim stands to a resource
 abbrev pub stance_of : ℕ → Phase → Stance
 stance_of g Free = Out
-stance_of g (Queued h) = cond (h.0 == g) Waits Out
-stance_of g (Holding h) = cond (h.0 == g) Holds Out
+stance_of g (Queued h) = if h.0 == g then Waits else Out
+stance_of g (Holding h) = if h.0 == g then Holds else Out
 
 -- what a core holds or awaits is what the locks say of it
 abbrev pub IsClaim : (ℕ → FifoLock) → ℕ → Phase → Type 0

@@ -1,9 +1,10 @@
 //! A port that serves requests in their order.
 ghost use Rattle.std.specs.Prelude.{ℕ, ◌*◌, ◌≤◌, cond, nat_lt, sum_by, ◌≡◌, ◌<◌, ◌+◌, ◌++◌, ◌∷◌, [], length, slice_index_or, slice_set, vec_len, vec_capacity, ◌-◌};
+ghost use Rattle.msrp_sim.specs.FifoView.{tickets_of};
 
 use msrp_core::{Port, PortCall, Reply};
 use msrp_plan::limits::{MOST_CORES, MOST_RESOURCES};
-use msrp_plan::{Call, CoreId, Memory, Plan, ResId};
+use msrp_plan::{Call, CoreId, Memory, Phase, Plan, ResId};
 use std::alloc::Global;
 use std::marker::Model;
 
@@ -38,6 +39,26 @@ impl Model for FifoPort {
     ghost invariant = { IsFifoView };
 }
 
+// The tickets of a resource, none drawn of one that isn't there.
+fn tickets_at(queues: &[Tickets], res: ResId) -> Tickets
+    ensures { result ≡ tickets_of queues.now res.0 }
+{
+    match queues.get(res.0 as usize) {
+        Some(tickets) => *tickets,
+        None => Tickets {
+            next: 0,
+            serving: 0,
+        },
+    }
+}
+
+// The newest ticket of a core, 0 of one that isn't there.
+fn ticket_at(tickets: &[u32], core: CoreId) -> u32
+    ensures { result ≡ slice_index_or tickets.now core.0 0 }
+{
+    tickets.get(core.0 as usize).copied().unwrap_or(0)
+}
+
 // Writes a call down, which takes one of its core's room.
 fn write(calls: &mut Vec<PortCall>, rooms: &mut [u32], call: PortCall)
     requires core { call.core.0 < length rooms.old }
@@ -66,7 +87,9 @@ fn rooms_of(cores: u32, ticks: u32) -> [u32; MOST_CORES as usize]
 
 impl FifoPort {
     ghost use Rattle.std.specs.Prelude.{IfOk};
-    ghost use Rattle.msrp_sim.specs.Served.{AreFifo, IsFresh};
+    ghost use Rattle.msrp_plan.specs.FifoLock.{Answers};
+    ghost use Rattle.msrp_core.specs.Ports.{asked, claim_in};
+    ghost use Rattle.msrp_sim.specs.Served.{AreFifo, IsFresh, lock_after_calls};
 
     /// A port of which nothing was asked yet, where each core of the plan may make a call in each tick. All memory
     /// that it ever needs is taken here: it is [`Memory`] only where that was refused.
@@ -93,6 +116,24 @@ impl FifoPort {
         ensures fifo { AreFifo result.now }
     {
         self.calls.as_slice()
+    }
+
+    /// The answer that a request of the resource would get now.
+    pub fn reply(&self, res: ResId) -> Reply
+        ensures { (c : ℕ) → claim_in c self.now.calls ≡ Phase.Free → Answers (lock_after_calls self.now.calls res.0) c (asked result) }
+    {
+        let tickets = tickets_at(&self.queues, res);
+        match tickets.next - tickets.serving {
+            0 => Reply::Taken,
+            ahead => Reply::Queued(ahead),
+        }
+    }
+
+    /// Whether a poll of the core, which awaits the resource, would be granted now.
+    pub fn grants(&self, core: CoreId, res: ResId) -> bool
+        ensures { claim_in core.0 self.now.calls ≡ Phase.Queued res → Answers (lock_after_calls self.now.calls res.0) core.0 (Call.Poll result) }
+    {
+        ticket_at(&self.tickets, core) == tickets_at(&self.queues, res).serving
     }
 }
 

@@ -1,6 +1,6 @@
 -- One started job more or less, and one resource more or less that the newest holds.
-use Rattle.std.proofs.Common.{◌≡◌, ℕ, ◌<◌, ◌≤◌, ◌+◌, ◌-◌, Bool, true, false, cond, ◌||◌, ◌==◌, max, List, [], ◌∷◌, ◌++◌, map, reverse, length, set, slice_index_or, Option, Some, None, refl, ap, sym, ◌∙◌, subst, arith, length-append, append-nil, inl, inr}
-use Rattle.std.specs.List.{flat_map, filter, AllByRecursion, Contains, IsDistinct, list_any}
+use Rattle.std.proofs.Common.{◌≡◌, ℕ, ◌<◌, ◌≤◌, ◌+◌, ◌-◌, true, false, ◌||◌, ◌==◌, max, List, [], ◌∷◌, ◌++◌, map, reverse, length, set, slice_index_or, Option, Some, None, refl, ap, sym, ◌∙◌, subst, arith, length-append, append-nil, inl, inr}
+use Rattle.std.specs.List.{flat_map, AllByRecursion, Contains, IsDistinct, list_any}
 use Rattle.std.specs.Option.{option_to_list}
 use Rattle.std.specs.Cmp.{IsEquivalence}
 use Rattle.std.proofs.Math.Bool.{true≢false}
@@ -14,12 +14,12 @@ use Rattle.msrp_plan.specs.Jobs.{jobs, jobs_on, same_job}
 use Rattle.msrp_plan.specs.Choice.{is_before}
 use Rattle.msrp_plan.specs.WellFormed.{IsPlan}
 use Rattle.msrp_plan.specs.declared.ids.JobId.{JobId}
-use Rattle.msrp_plan.proofs.Jobs.JobTests.{same_is, same_self}
+use Rattle.msrp_plan.proofs.Jobs.JobTests.{same_is, same_self, same_symm, same_congr}
 use Rattle.msrp_plan.proofs.Jobs.Keys.{before_order}
 use Rattle.msrp_plan.proofs.Lists.LeastKept.{irrefl}
 use Rattle.msrp_plan.proofs.Lists.AnyAll.{any_in}
 use Rattle.msrp_stack.proofs.Tops.{before_all}
-use Rattle.msrp_stack.specs.Stack.{StartedJob, CanStart, ComesFirst, IsDone, is_among, with_held, without_held}
+use Rattle.msrp_stack.specs.Stack.{StartedJob, CanStart, ComesFirst, IsDone, with_held, without_held}
 use Rattle.msrp_levels.specs.Users.{ceiling_at}
 use Rattle.msrp_stack.specs.Layers.{Layers, layers_of}
 use Rattle.msrp_stack.specs.StackView.{started_view, started_of, IsFalling, IsStack}
@@ -96,13 +96,6 @@ all_differ : (plan : PlanModel) (started : List StartedJob) → IsFalling plan s
 unfolding IsDistinct
 all_differ plan [] falling = tt
 all_differ plan (s ∷ started) falling = (all_differ_from plan s.job started (before_all plan s.job started falling.0 falling.1), all_differ plan started falling.1)
-
--- the test of jobs is an equivalence
-same_symm : (i j : JobId) → same_job i j ≡ same_job j i
-same_symm i j = grind arith
-
-same_congr : (i j k : JobId) → same_job i j ≡ true → same_job i k ≡ same_job j k
-same_congr i j k h = ap (λ x. same_job x k) (same_is i j h)
 
 same_equivalence : IsEquivalence same_job
 same_equivalence = record { refl = same_self; symm = same_symm; congr = same_congr }

@@ -1,21 +1,20 @@
 -- The ceiling that rises from one held resource to the next is the core's current ceiling.
-use Rattle.std.proofs.Common.{◌≡◌, ℕ, ◌<◌, ◌≤◌, Bool, true, false, cond, not, max, nat_eq, ◌&&◌, ◌||◌, List, [], ◌∷◌, ◌++◌, map, reverse, length, refl, ap, sym, ◌∙◌, subst, arith, inl, inr}
-use Rattle.std.specs.List.{list_any, filter, fold, flat_map, AllByRecursion, Contains}
-use Rattle.std.proofs.Math.Bool.{true≢false, or-true}
+use Rattle.std.proofs.Common.{◌≡◌, ℕ, ◌<◌, ◌≤◌, Bool, true, false, cond, not, max, nat_eq, ◌&&◌, ◌||◌, List, [], ◌∷◌, map, reverse, length, refl, ap, sym, ◌∙◌, subst, arith, inl, inr}
+use Rattle.std.specs.List.{list_any, filter, fold, flat_map}
+use Rattle.std.proofs.Math.Bool.{or-true}
 use Rattle.std.proofs.lemmas.Bool.{eqb-true, eq-eqb, and_parts, cases_Bool}
 use Rattle.std.proofs.lemmas.List.Folds.{list_any-append}
-use Rattle.std.proofs.lemmas.List.Elements.{All-contains_itself, recursion_from_All}
 use Rattle.msrp_plan.specs.Plan.{PlanModel}
 use Rattle.msrp_plan.specs.Levels.{is_global, local_ceiling, top, greatest}
 use Rattle.msrp_plan.specs.Ceiling.{resources, raised_with, ceiling_with}
-use Rattle.msrp_plan.proofs.Lists.AnyAll.{any_in, in_range}
+use Rattle.msrp_plan.proofs.Lists.AnyAll.{any_in}
 use Rattle.msrp_plan.proofs.Lists.Filters.{any_map}
 use Rattle.msrp_plan.proofs.Lists.LeastKept.{greatest_above}
 use Rattle.msrp_plan.proofs.Levels.Ceilings.{in_resources}
-use Rattle.msrp_stack.specs.Stack.{holds, is_held}
+use Rattle.msrp_stack.specs.Stack.{is_held}
 use Rattle.msrp_levels.specs.Users.{ceiling_at}
-use Rattle.msrp_stack.specs.Layers.{Layers, layers_of}
-use Rattle.msrp_stack.specs.StackView.{started_view, started_of}
+use Rattle.msrp_stack.specs.Layers.{Layers}
+use Rattle.msrp_stack.specs.StackView.{started_view}
 use Rattle.msrp_stack.specs.declared.stack.Held.{Held}
 use Rattle.msrp_stack.specs.declared.stack.Started.{Started}
 

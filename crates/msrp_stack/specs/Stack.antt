@@ -1,5 +1,5 @@
 -- The started jobs of a core, newest first, and what each of them holds.
-use Rattle.std.specs.Prelude.{ℕ, List, [], ◌∷◌, Bool, false, nat_eq, Option, Some, None, map, length, ◌≡◌, ◌<◌, ⊤, true}
+use Rattle.std.specs.Prelude.{ℕ, List, [], ◌∷◌, Bool, false, nat_eq, Option, Some, None, length, ◌≡◌, ◌<◌, ⊤, true}
 use Rattle.std.specs.List.{list_any, Contains}
 use Rattle.msrp_plan.specs.Plan.{PlanModel}
 use Rattle.msrp_plan.specs.Jobs.{jobs_on, same_job}

@@ -6,5 +6,7 @@
 
 mod stack;
 mod stacks;
+#[cfg(test)]
+mod tests;
 
 pub use stacks::CeilingStack;

@@ -1,5 +1,5 @@
 -- The pieces of an audit: which rule each of them finds broken at a row, and which fault it answers.
-use Rattle.std.specs.Prelude.{ℕ, List, [], ◌∷◌, ◌++◌, Bool, ◌==◌, ◌&&◌, nat_lt, nat_le, Option, Some, None, IfSome, cond, fold, length, ◌≡◌, ◌≤◌, ◌+◌, ◌-◌, ◌*◌, ◌/◌}
+use Rattle.std.specs.Prelude.{ℕ, List, ◌∷◌, ◌++◌, Bool, ◌==◌, ◌&&◌, nat_lt, nat_le, Option, Some, None, IfSome, fold, length, ◌≡◌, ◌≤◌, ◌+◌, ◌-◌, ◌*◌, ◌/◌, if◌then◌else◌}
 use Rattle.msrp_plan.specs.Plan.{PlanModel}
 use Rattle.msrp_plan.specs.Levels.{is_global}
 use Rattle.msrp_plan.specs.Logs.{is_of}
@@ -27,9 +27,9 @@ pieces_of plan = plan.cores + parts plan + length plan.resources
 
 abbrev pub piece_with : PlanModel → ℕ → Piece
 piece_with plan n =
-    cond (nat_lt n plan.cores) (Core (record { 0 = n })) (
-    cond (nat_lt (n - plan.cores) (parts plan)) (Turns (n - plan.cores)) (
-    Resource (record { 0 = n - plan.cores - parts plan })))
+    if nat_lt n plan.cores then Core (record { 0 = n })
+    else if nat_lt (n - plan.cores) (parts plan) then Turns (n - plan.cores)
+    else Resource (record { 0 = n - plan.cores - parts plan })
 
 -- ---- what a piece finds of a row
 -- the rows of a part of the ticks, where each core has its turn in each tick
@@ -41,22 +41,20 @@ is_in_part plan part n = nat_le (part * part_size plan) n && nat_lt n (part * pa
 
 -- A1, of the rows of a part of the ticks
 abbrev pub broken_turn : PlanModel → ℕ → List Row → Row → Option Rule
-broken_turn plan part pre r = cond (is_in_part plan part (length pre)) (cond (is_in_turn plan pre r) None (Some A1)) None
+broken_turn plan part pre r = if is_in_part plan part (length pre) then (if is_in_turn plan pre r then None else Some A1) else None
 
 -- the lowest of A2 to A4
 abbrev pub broken_action : PlanModel → List Row → Row → Option Rule
 broken_action plan pre r =
-    cond (is_of_core plan r) (
-    cond (is_chosen plan pre r) (
-    cond (is_next_action plan pre r) None (Some A4)) (Some A3)) (Some A2)
+    if is_of_core plan r then (if is_chosen plan pre r then (if is_next_action plan pre r then None else Some A4) else Some A3) else Some A2
 
 -- of the rows of a core that are in their turn
 abbrev pub broken_on_core : PlanModel → ℕ → List Row → Row → Option Rule
-broken_on_core plan c pre r = cond (is_of c r && is_in_turn plan pre r) (broken_action plan pre r) None
+broken_on_core plan c pre r = if is_of c r && is_in_turn plan pre r then broken_action plan pre r else None
 
 -- A5, of the rows on a global resource
 abbrev pub broken_reply : PlanModel → ℕ → List Row → Row → Option Rule
-broken_reply plan g pre r = cond (is_global plan g && is_on g r.res) (cond (is_fifo_reply pre r) None (Some A5)) None
+broken_reply plan g pre r = if is_global plan g && is_on g r.res then (if is_fifo_reply pre r then None else Some A5) else None
 
 abbrev pub broken_in : PlanModel → Piece → List Row → Row → Option Rule
 broken_in plan (Turns part) pre r = broken_turn plan part pre r
@@ -67,7 +65,7 @@ broken_in plan (Resource g) pre r = broken_reply plan g.0 pre r
 -- the rule that the fault, if there is one, names at this row
 abbrev pub told_at : ℕ → Option Fault → Option Rule
 told_at n None = None
-told_at n (Some f) = cond (f.row == n) (Some f.rule) None
+told_at n (Some f) = if f.row == n then Some f.rule else None
 
 -- wherever the rows before are the start of a legal run, the answer names the rule that the test finds broken at the
 -- next row, or no rule where it finds none
@@ -91,7 +89,7 @@ fault_order f = f.row * 8 + rule_number f.rule
 
 -- the earlier of two faults, of which one may be missing
 abbrev pub earlier_of : Option Fault → Option Fault → Option Fault
-earlier_of (Some f) (Some g) = cond (nat_lt (fault_order g) (fault_order f)) (Some g) (Some f)
+earlier_of (Some f) (Some g) = if nat_lt (fault_order g) (fault_order f) then Some g else Some f
 earlier_of (Some f) None = Some f
 earlier_of None o = o
 
@@ -100,4 +98,7 @@ earliest_of faults = fold earlier_of None faults
 
 -- the fault of a length, where so many rows are due: a row is missing, or there is one too many
 abbrev pub length_fault_of : ℕ → ℕ → Option Fault
-length_fault_of due rows = cond (nat_lt rows due) (Some (record { row = rows + 1; rule = A6 })) (cond (nat_lt due rows) (Some (record { row = due + 1; rule = A7 })) None)
+length_fault_of due rows =
+    if nat_lt rows due then Some (record { row = rows + 1; rule = A6 })
+    else if nat_lt due rows then Some (record { row = due + 1; rule = A7 })
+    else None

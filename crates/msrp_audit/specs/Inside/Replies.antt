@@ -1,5 +1,5 @@
 -- A port for one turn, which answers yes to all, or no.
-use Rattle.std.specs.Prelude.{ℕ, zero, suc, List, [], ◌∷◌, ◌++◌, Bool, true, false, ◌==◌, ◌&&◌, not, is_none, cond, Option, Some, None}
+use Rattle.std.specs.Prelude.{ℕ, zero, suc, List, [], ◌∷◌, ◌++◌, Bool, true, false, ◌==◌, ◌&&◌, not, is_none, Option, Some, None, if◌then◌else◌}
 use Rattle.msrp_plan.specs.declared.ids.CoreId.{CoreId}
 use Rattle.msrp_plan.specs.declared.rows.Kind.{Kind}
 use Rattle.msrp_plan.specs.declared.rows.Kind.TheVariants.{Take, Grant}
@@ -20,7 +20,7 @@ is_yes _ = false
 abbrev pub is_answered : Bool → Call → Bool
 is_answered answer (Ask zero) = answer
 is_answered answer (Ask (suc n)) = not answer
-is_answered answer (Poll granted) = cond granted answer (not answer)
+is_answered answer (Poll granted) = if granted then answer else not answer
 is_answered answer Leave = true
 
 -- a call of a core that leaves it so, if it needs one
@@ -36,4 +36,4 @@ as_calls (Some e) = e ∷ []
 
 -- the core may make one call more
 abbrev pub port_after : List PortCall → CoreId → ℕ → Option PortCall → PortModel
-port_after before core resources call = record { calls = before ++ as_calls call; rooms = λ c. cond ((c == core.0) && is_none call) 1 0; resources = resources }
+port_after before core resources call = record { calls = before ++ as_calls call; rooms = λ c. (if (c == core.0) && is_none call then 1 else 0); resources = resources }

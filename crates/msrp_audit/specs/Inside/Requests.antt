@@ -1,5 +1,5 @@
 -- The requests and releases of one resource.
-use Rattle.std.specs.Prelude.{ℕ, List, drop, ◌≡◌, count_by, filter_map}
+use Rattle.std.specs.Prelude.{ℕ, List, ◌≡◌, count_by, filter_map}
 use Rattle.msrp_plan.specs.Queues.{requester, is_release_of}
 use Rattle.msrp_plan.specs.declared.ids.JobId.{JobId}
 use Rattle.msrp_plan.specs.declared.rows.Row.{Row}

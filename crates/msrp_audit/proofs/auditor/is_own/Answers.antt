@@ -1,23 +1,16 @@
-use Rattle.std.proofs.Common.{◌≡◌, Bool, true, false, not, eq-eqb, eqb-true, nat_lt, refl, ap, sym, ◌∙◌, arith}
+use Rattle.std.proofs.Common.{true, false, eq-eqb, eqb-true, nat_lt, ap, sym, ◌∙◌, arith}
 use Rattle.msrp_audit.proofs.Judging.{own_is, no_task_is, other_core_is}
 use Rattle.msrp_audit.proofs.auditor.is_own.Goals as goal
-
-is_true : (b : Bool) → false ≡ not b → b ≡ true
-is_true true h = refl
-is_true false h = absurd (cc)
-
-is_false : (b : Bool) → true ≡ not b → b ≡ true → ⊥
-is_false true h e = cc
-is_false false h e = cc
+use Rattle.msrp_plan.proofs.Tests.{not_held, held}
 
 pub returns-then-job-tasks : goal.returns-then-job-tasks
 returns-then-job-tasks c = let past = c.if-job-tasks.true in let size = c.tasks.ensures.value in no_task_is c.args.plan.now c.args.row c.in-Some.job c.in-Some.is (omega (arith, past, size))
 
 pub returns-then-ne : goal.returns-then-ne
-returns-then-ne c = other_core_is c.args.plan.now c.args.row c.in-Some.job c.in-Some.is (λ e. is_false _ c.if-ne.ensures (eq-eqb c.core_of.result.0 c.args.row.core.0 (c.core_of.ensures ∙ e)))
+returns-then-ne c = other_core_is c.args.plan.now c.args.row c.in-Some.job c.in-Some.is (λ e. not_held _ c.if-ne.ensures (eq-eqb c.core_of.result.0 c.args.row.core.0 (c.core_of.ensures ∙ e)))
 
 pub returns : goal.returns
 returns c =
     let below = c.if-job-tasks.false in
     let size = c.tasks.ensures.value in
-    ap (nat_lt c.in-Some.job.k) c.jobs.ensures.count ∙ own_is c.args.plan.now c.args.row c.in-Some.job c.tasks.ensures.plan c.in-Some.is (omega (arith, below, size)) (sym c.core_of.ensures ∙ eqb-true c.core_of.result.0 c.args.row.core.0 (is_true _ c.if-ne.ensures))
+    ap (nat_lt c.in-Some.job.k) c.jobs.ensures.count ∙ own_is c.args.plan.now c.args.row c.in-Some.job c.tasks.ensures.plan c.in-Some.is (omega (arith, below, size)) (sym c.core_of.ensures ∙ eqb-true c.core_of.result.0 c.args.row.core.0 (held _ c.if-ne.ensures))

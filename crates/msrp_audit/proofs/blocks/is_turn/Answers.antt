@@ -1,4 +1,4 @@
-use Rattle.std.proofs.Common.{◌≡◌, ◌/◌, ◌*◌, ◌-◌, ◌<◌, ℕ, not, length, take, drop, ap, sym, ◌∙◌, arith}
+use Rattle.std.proofs.Common.{◌≡◌, ◌/◌, ◌*◌, ◌-◌, ◌<◌, not, length, take, drop, ap, sym, ◌∙◌, arith}
 use Rattle.std.proofs.lemmas.List.{length-drop, take_all}
 use Rattle.msrp_plan.specs.Runs.{had_turn}
 use Rattle.msrp_audit.proofs.Turned.{by_turned}

@@ -1,4 +1,4 @@
-use Rattle.std.proofs.Common.{◌≡◌, ◌≤◌, ◌<◌, ◌*◌, ◌+◌, ℕ, min, length, ap, sym, ◌∙◌, arith}
+use Rattle.std.proofs.Common.{◌≡◌, ◌*◌, ◌+◌, min, length, ap, ◌∙◌, arith}
 use Rattle.msrp_audit.specs.Inside.Pieces.{part_size}
 use Rattle.msrp_audit.proofs.Parts.{part_begins, part_ends, turn_passes, turn_found}
 use Rattle.msrp_audit.proofs.blocks.judge_turns.Goals as goal

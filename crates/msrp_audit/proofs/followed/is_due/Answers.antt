@@ -1,4 +1,4 @@
-use Rattle.std.proofs.Common.{◌≡◌, ◌/◌, ap, sym, ◌∙◌, arith}
+use Rattle.std.proofs.Common.{◌/◌, ap, ◌∙◌}
 use Rattle.msrp_audit.proofs.Judging.{turn_by_tick}
 use Rattle.msrp_audit.proofs.followed.is_due.Goals as goal
 

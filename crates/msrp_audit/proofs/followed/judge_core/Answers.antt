@@ -1,10 +1,10 @@
-use Rattle.std.proofs.Common.{◌≡◌, ◌≢◌, ◌<◌, ◌++◌, ◌∷◌, [], ℕ, true, false, Some, None, length, take, ap, sym, ◌∙◌, subst, arith, eqb-true}
+use Rattle.std.proofs.Common.{◌≡◌, ◌≢◌, ◌++◌, ◌∷◌, [], true, false, take, ap, sym, ◌∙◌, subst, arith, eqb-true}
 use Rattle.std.proofs.lemmas.Bool.{eqb-false}
 use Rattle.std.proofs.lemmas.List.{length-take-le}
 use Rattle.msrp_plan.specs.Logs.{log_of}
 use Rattle.msrp_plan.specs.Runs.{IsRunStart, is_in_turn}
 use Rattle.msrp_core.specs.Machine.{MachineModel, StandsAfter}
-use Rattle.msrp_audit.specs.Inside.Pieces.{broken_on_core, broken_action}
+use Rattle.msrp_audit.specs.Inside.Pieces.{broken_on_core}
 use Rattle.msrp_audit.proofs.Scanning.{passes_all}
 use Rattle.msrp_audit.proofs.OwnRows.{ends_here, breaks_here, passes_here, stands_here, passes_by, stands_by}
 use Rattle.msrp_audit.proofs.followed.judge_core.Goals as goal

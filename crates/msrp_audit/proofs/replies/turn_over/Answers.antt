@@ -1,6 +1,5 @@
-use Rattle.std.proofs.Common.{◌≡◌, true, ap, sym, ◌∙◌, subst}
-use Rattle.msrp_core.specs.CoreJobs.{MakesCall}
-use Rattle.msrp_audit.specs.Inside.Replies.{is_answered, is_yes, port_after}
+use Rattle.std.proofs.Common.{◌≡◌, true, subst}
+use Rattle.msrp_audit.specs.Inside.Replies.{is_answered}
 use Rattle.msrp_audit.proofs.Following.{kinds_same, has_call}
 use Rattle.msrp_audit.proofs.Turns.{call_of}
 use Rattle.msrp_audit.proofs.replies.turn_over.Goals as goal

@@ -1,4 +1,3 @@
-use Rattle.std.proofs.Common.{◌≡◌, ◌*◌, length}
 use Rattle.msrp_sim.specs.TurnCounts.{AreCounted}
 use Rattle.msrp_sim.proofs.orders.are_turns.Given as goal
 

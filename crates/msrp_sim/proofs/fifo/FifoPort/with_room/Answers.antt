@@ -1,4 +1,4 @@
-use Rattle.std.proofs.Common.{◌≡◌, ◌≤◌, ◌*◌, ◌+◌, ℕ, [], length, replicate, ap, sym, ◌∙◌, arith, rules, vec_capacity}
+use Rattle.std.proofs.Common.{◌≡◌, ◌≤◌, ◌*◌, ℕ, [], length, replicate, ap, sym, ◌∙◌, arith, rules, vec_capacity}
 use Rattle.std.proofs.Math.Nat.{mul-le-mul_left, mul-le-mul_right}
 use Rattle.msrp_sim.specs.declared.fifo.Tickets.{Tickets}
 use Rattle.msrp_sim.proofs.Serving.{same_everywhere, served_none, drawn_none}

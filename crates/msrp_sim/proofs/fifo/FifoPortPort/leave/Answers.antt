@@ -1,4 +1,4 @@
-use Rattle.std.proofs.Common.{◌≡◌, ◌<◌, subst, sym, arith, get_or, refl}
+use Rattle.std.proofs.Common.{◌≡◌, ◌<◌, subst, sym, arith, get_or}
 use Rattle.std.proofs.lemmas.List.Elements.{All-push}
 use Rattle.msrp_plan.specs.declared.units.Phase.TheVariants.{Holding}
 use Rattle.msrp_core.specs.Ports.{claim_in}

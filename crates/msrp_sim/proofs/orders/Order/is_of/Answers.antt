@@ -1,4 +1,4 @@
-use Rattle.std.proofs.Common.{◌≡◌, sym, refl, subst}
+use Rattle.std.proofs.Common.{sym, refl, subst}
 use Rattle.msrp_plan.specs.Scheduling.{IsOrder}
 use Rattle.msrp_plan.proofs.Scheduling.Orders.{ascending_is_order}
 use Rattle.msrp_sim.specs.Orders.{cores_of}

@@ -1,4 +1,4 @@
-use Rattle.std.proofs.Common.{◌≡◌, ◌-◌, ◌++◌, length, slice_set, subst, sym, ap, refl, ◌∙◌}
+use Rattle.std.proofs.Common.{◌≡◌, ◌-◌, ◌++◌, slice_set, subst, sym, ap, refl, ◌∙◌}
 use Rattle.std.specs.Option.{option_to_list}
 use Rattle.msrp_stack.specs.Stack.{SomeHeld, StackModel, without_held}
 use Rattle.msrp_stack.specs.StackView.{started_of, IsStack}

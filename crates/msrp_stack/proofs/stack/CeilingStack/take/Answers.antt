@@ -1,6 +1,5 @@
-use Rattle.std.proofs.Common.{◌≡◌, ◌-◌, ◌<◌, ◌≤◌, max, length, slice_set, slice_index_or, subst, sym, ap, refl, ◌∙◌, arith}
+use Rattle.std.proofs.Common.{◌≡◌, ◌-◌, ◌<◌, length, slice_set, subst, sym, ap, refl, ◌∙◌, arith}
 use Rattle.msrp_stack.specs.Stack.{HasRoom, StackModel, with_held}
-use Rattle.msrp_levels.specs.Users.{ceiling_at}
 use Rattle.msrp_stack.specs.StackView.{started_of, IsStack}
 use Rattle.msrp_stack.specs.declared.stack.Held.{Held}
 use Rattle.msrp_stack.specs.declared.stack.Started.{Started}

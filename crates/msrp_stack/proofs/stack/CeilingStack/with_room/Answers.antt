@@ -1,4 +1,3 @@
-use Rattle.std.proofs.Common.{◌≡◌, refl}
 use Rattle.msrp_stack.proofs.Changes.{nothing_started}
 use Rattle.msrp_stack.proofs.stack.CeilingStack.with_room.Goals as goal
 

@@ -7,7 +7,7 @@ use Rattle.std.proofs.lemmas.List.Sorted.{IsPermutation-push_more, length_permut
 use Rattle.msrp_ready.specs.declared.keyed.KeyedJob.{KeyedJob}
 use Rattle.msrp_ready.proofs.Between.{between_more}
 use Rattle.msrp_ready.proofs.Walks.{few_of_most}
-use Rattle.msrp_ready.proofs.calendar.release.Goals as goal
+use Rattle.msrp_ready.proofs.calendar.release_some.Goals as goal
 
 no_job : KeyedJob
 no_job = record { job = record { task = record { 0 = 0 }; k = 0 }; key = record { deadline = 0; release = 0; task = 0; k = 0 } }
