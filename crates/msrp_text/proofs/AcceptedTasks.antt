@@ -24,6 +24,7 @@ use Rattle.msrp_text.specs.Reading.{body_fault, with_record}
 use Rattle.msrp_text.proofs.Accepting.{Tells, name_is_new, name_told, names_pass, tells_first, tells_none, tells_then}
 use Rattle.msrp_text.proofs.AcceptedUnits.{newest_changed, newest_is, some_steps, some_tasks, units_again, units_told, with_last}
 use Rattle.msrp_text.proofs.Numerals.{number_again}
+use Rattle.msrp_plan.proofs.Tests.{not_up_to}
 
 -- ---- releases
 -- a tick is above the one before it in a list that rises
@@ -101,18 +102,15 @@ range deadline d = grind (arith, nat_tests, d.0, d.1)
 room_left : (n : ℕ) → n < 64 → nat_le 64 n ≡ false
 room_left n h = grind (arith, nat_tests, h)
 
-core_below : (cores core : ℕ) → core < cores → nat_le cores core ≡ false
-core_below cores core h = grind (arith, nat_tests, h)
-
 periodic_none : (plan : PlanModel) (tasks : List TaskModel) (task : TaskModel) (period offset : ℕ) → IsNext plan tasks task → task.times ≡ Every period offset
     → task_fault (record plan { tasks = tasks }) (new_task task.name task.core (Every period offset) task.deadline) ≡ None
 periodic_none plan tasks task period offset h e =
     let t : AreTimes (Every period offset) = subst AreTimes e h.numbers.times in
-    rw (h.end, h.name, h.new, core_below plan.cores task.core h.numbers.core, ranges period offset task.deadline t.positive t.short t.soon h.numbers.deadline, room_left (length tasks) h.room) refl
+    rw (h.end, h.name, h.new, not_up_to plan.cores task.core h.numbers.core, ranges period offset task.deadline t.positive t.short t.soon h.numbers.deadline, room_left (length tasks) h.room) refl
 
 listed_none : (plan : PlanModel) (tasks : List TaskModel) (task : TaskModel) → IsNext plan tasks task → task_fault (record plan { tasks = tasks }) (new_task task.name task.core (Listed []) task.deadline) ≡ None
 listed_none plan tasks task h =
-    rw (h.end, h.name, h.new, core_below plan.cores task.core h.numbers.core, range task.deadline h.numbers.deadline, room_left (length tasks) h.room) refl
+    rw (h.end, h.name, h.new, not_up_to plan.cores task.core h.numbers.core, range task.deadline h.numbers.deadline, room_left (length tasks) h.room) refl
 
 -- the numbers of a task are short
 record AreShort (task : TaskModel) : Type 0 where

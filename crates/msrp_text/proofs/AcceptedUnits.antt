@@ -1,5 +1,5 @@
 -- The units of a task, told step by step, are accepted.
-use Rattle.std.proofs.Common.{◌≡◌, ℕ, suc, ◌+◌, ◌-◌, ◌<◌, ◌≤◌, ◌==◌, ◌||◌, Bool, true, false, cond, List, [], ◌∷◌, ◌++◌, map, set, take, drop, length, replicate, Option, Some, None, is_none, refl, ap, sym, ◌∙◌, subst, arith, append_assoc, append-nil, nat_le, nat_lt, nat_eq, length-append}
+use Rattle.std.proofs.Common.{◌≡◌, ℕ, suc, ◌+◌, ◌-◌, ◌<◌, ◌≤◌, ◌==◌, Bool, true, false, cond, List, [], ◌∷◌, ◌++◌, map, set, take, drop, length, replicate, Option, Some, None, is_none, refl, ap, sym, ◌∙◌, subst, arith, append_assoc, append-nil, nat_le, nat_lt, nat_eq, length-append}
 use Rattle.std.specs.Prelude.{slice_index_or, unwrap_or}
 use Rattle.std.specs.List.{AllByRecursion, flat_map, list_any}
 use Rattle.std.proofs.Math.Seq.{drop-cons, get_or-append_seam, set-append_seam, take-append_seam}
@@ -28,6 +28,7 @@ use Rattle.msrp_text.proofs.Accepting.{Tells, name_place, name_told, names_pass,
 use Rattle.msrp_text.proofs.Folding.{slice_get-seam}
 use Rattle.msrp_text.proofs.Numerals.{number_again}
 use Rattle.msrp_text.proofs.Written.{named_unit}
+use Rattle.msrp_plan.proofs.Tests.{or_neither, not_up_to}
 
 -- ---- the newest task
 -- a plan with this task behind others
@@ -106,14 +107,8 @@ record IsPassed (plan : PlanModel) (us : List Op) (step : Step) : Type 0 where
   nested : is_misnested us step ≡ false
   room : is_too_much us step ≡ false
 
-declared_below : (n m : ℕ) → m < n → nat_le n m ≡ false
-declared_below n m h = grind (arith, nat_tests, h)
-
 proper : (o : Option (List ℕ)) (held next : List ℕ) (u : Op) → o ≡ Some held → held_with held u ≡ Some next → is_improper o u ≡ false
 proper o held next u e s = ap (λ p. is_improper p u) e ∙ ap (λ (p : Option (List ℕ)). is_none p) s
-
-or_neither : (a b : Bool) → a ≡ false → b ≡ false → (a || b) ≡ false
-or_neither a b e f = ap (λ c. c || b) e ∙ f
 
 locked_size : (held next : List ℕ) (g : ResId) (b : Bool) → list_any (nat_eq g.0) held ≡ b → held_with held (unit.Lock g) ≡ Some next → length next ≡ length held + 1
 locked_size held next g true is e = absurd (none-some next (sym (ap (λ c. cond c None (Some (g.0 ∷ held))) is) ∙ e))
@@ -137,7 +132,7 @@ passed plan us rest (Lock g) some h small =
     let grown = locked_size at.before at.next g _ refl at.step in
     let few : nat_le 8 (length at.before) ≡ false = grind (arith, nat_tests, grown, at.few) in
     record {
-      known = declared_below (length plan.resources) g.0 named;
+      known = not_up_to (length plan.resources) g.0 named;
       nested = proper (held_after us) at.before at.next (unit.Lock g) at.holds at.step;
       room = or_neither (nat_le 4096 (length us)) (nat_le 8 (held_count (held_after us))) fits (ap (λ o. nat_le 8 (held_count o)) at.holds ∙ few);
     }
@@ -147,7 +142,7 @@ passed plan us rest (Unlock g) some h small =
     let named = named_unit plan (us ++ unit.Unlock g ∷ rest) (length us) (unit.Unlock g) h (slice_get-seam us rest (unit.Unlock g)) in
     let fits : nat_le 4096 (length us) ≡ false = grind (arith, nat_tests, size, small) in
     record {
-      known = declared_below (length plan.resources) g.0 named;
+      known = not_up_to (length plan.resources) g.0 named;
       nested = proper (held_after us) at.before at.next (unit.Unlock g) at.holds at.step;
       room = fits;
     }

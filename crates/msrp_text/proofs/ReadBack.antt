@@ -37,6 +37,7 @@ use Rattle.msrp_text.proofs.AcceptedUnits.{all_units, units_again}
 use Rattle.msrp_text.proofs.Folding.{plan-begins, plan_from}
 use Rattle.msrp_text.proofs.Numerals.{number_again, plain_decimal}
 use Rattle.msrp_text.proofs.Plain.{IsPlain, IsPlainRecord, plain_back, plain_name}
+use Rattle.msrp_plan.proofs.Lists.AnyAll.{all_joined}
 
 -- ---- the end
 none_any : {X : Type 0} (p : X → Bool) (xs : List X) → AllByRecursion (λ x. p x ≡ false) xs → list_any p xs ≡ false
@@ -159,17 +160,13 @@ records_tell plan ok =
     plan-begins (head_records plan ++ body) ∙ (head_read plan body ok ∙ plan_of_told v (empty_plan plan.cores plan.ticks) plan body 4 told (finish_none plan ok tasks.1))
 
 -- ---- each record is plain
-pub all_join : {X : Type 0} (P : X → Type 0) (xs ys : List X) → AllByRecursion P xs → AllByRecursion P ys → AllByRecursion P (xs ++ ys)
-all_join P [] ys a b = b
-all_join P (x ∷ xs) ys a b = (a.0, all_join P xs ys a.1 b)
-
 pub all_made : {X Y : Type 0} (P : X → Type 0) (Q : Y → Type 0) (f : X → Y) → ((x : X) → P x → Q (f x)) → (xs : List X) → AllByRecursion P xs → AllByRecursion Q (map f xs)
 all_made P Q f h [] all = tt
 all_made P Q f h (x ∷ xs) all = (h x all.0, all_made P Q f h xs all.1)
 
 pub all_gathered : {X Y : Type 0} (P : X → Type 0) (Q : Y → Type 0) (f : X → List Y) → ((x : X) → P x → AllByRecursion Q (f x)) → (xs : List X) → AllByRecursion P xs → AllByRecursion Q (flat_map f xs)
 all_gathered P Q f h [] all = tt
-all_gathered P Q f h (x ∷ xs) all = all_join Q (f x) (flat_map f xs) (h x all.0) (all_gathered P Q f h xs all.1)
+all_gathered P Q f h (x ∷ xs) all = all_joined Q (f x) (flat_map f xs) (h x all.0) (all_gathered P Q f h xs all.1)
 
 -- a name of the list, or none
 plain_at : (names : List (List ℕ)) (g : ℕ) → AllByRecursion (λ name. is_name name ≡ true) names → IsPlain (slice_index_or names g [])
@@ -231,7 +228,7 @@ plain_task plan ok task h =
     let names = recursion_from_All (λ name. is_name name ≡ true) plan.resources ok.draft.resource_names.named in
     let again = units_again task.units in
     let few : length (all_units (steps_of task.units)) ≤ 4096 = subst (λ (us : List Op). length us ≤ 4096) (sym again) h.numbers.size in
-    all_join IsPlainRecord (declaration task task.times ∷ map release_record (listed_ticks task.times)) (map (step_record plan) (steps_of task.units))
+    all_joined IsPlainRecord (declaration task task.times ∷ map release_record (listed_ticks task.times)) (map (step_record plan) (steps_of task.units))
     (plain_declaration plan task task.times h.name h.numbers h.numbers.times ok.draft.cores.1, plain_releases task.times h.numbers.times)
     (all_made IsShort IsPlainRecord (step_record plan) (plain_step plan names) (steps_of task.units) (short_steps (steps_of task.units) 4096 few (omega arith)))
 
@@ -247,8 +244,8 @@ plain_plan : (plan : PlanModel) → IsPlan plan → AllByRecursion IsPlainRecord
 unfolding plan_records
 plain_plan plan ok =
     let names = recursion_from_All (λ name. is_name name ≡ true) plan.resources ok.draft.resource_names.named in
-    all_join IsPlainRecord (head_records plan) (map resource_record plan.resources ++ flat_map (task_records plan) plan.tasks) (plain_head plan ok)
-    (all_join IsPlainRecord (map resource_record plan.resources) (flat_map (task_records plan) plan.tasks)
+    all_joined IsPlainRecord (head_records plan) (map resource_record plan.resources ++ flat_map (task_records plan) plan.tasks) (plain_head plan ok)
+    (all_joined IsPlainRecord (map resource_record plan.resources) (flat_map (task_records plan) plan.tasks)
     (all_made (λ name. is_name name ≡ true) IsPlainRecord resource_record (λ name is. (omega arith, (refl, (plain_name name is, tt)))) plan.resources names)
     (all_gathered (IsNamed plan) IsPlainRecord (task_records plan) (plain_task plan ok) plan.tasks (named_tasks plan ok)))
 

@@ -1,5 +1,5 @@
 -- What the fields of a record say: words, numbers and names.
-use Rattle.std.specs.Prelude.{ℕ, Bool, false, not, List, [], length, Option, Some, None, cond, fold, slice_index, unwrap_or, ◌+◌, ◌-◌, ◌*◌, ◌==◌, ◌&&◌, ◌||◌}
+use Rattle.std.specs.Prelude.{ℕ, Bool, false, not, List, [], length, Option, Some, None, fold, slice_index, unwrap_or, ◌+◌, ◌-◌, ◌*◌, ◌==◌, ◌&&◌, ◌||◌, if◌then◌else◌}
 use Rattle.std.specs.Char.{is_ascii_digit}
 use Rattle.std.specs.List.{list_all}
 use Rattle.std.specs.Option.{option_and_then}
@@ -17,11 +17,11 @@ digits_value digits = fold (λ n digit. n * 10 + (digit - 48)) 0 digits
 
 -- the number that a text stands for, if it is one
 abbrev pub number_of : List ℕ → Option ℕ
-number_of text = cond (is_number text) (Some (digits_value text)) None
+number_of text = if is_number text then Some (digits_value text) else None
 
 -- a text of bytes, and the empty one in place of what isn't UTF-8
 abbrev pub text_of : List ℕ → List ℕ
-text_of bytes = cond (is_utf8 bytes) bytes []
+text_of bytes = if is_utf8 bytes then bytes else []
 
 -- a field is there and is that word
 abbrev pub is_word : List ℕ → Option (List ℕ) → Bool

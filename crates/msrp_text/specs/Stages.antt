@@ -1,5 +1,5 @@
 -- Where a reader of a plan stands between two records: what is to be read next, and the plan so far.
-use Rattle.std.specs.Prelude.{ℕ, List, Option, Some, None, Result, Ok, Err, codes, cond, is_none, length, ◌≡◌, ◌⊎◌, ◌&&◌, ◌≤◌}
+use Rattle.std.specs.Prelude.{ℕ, List, Option, Some, None, Result, Ok, Err, codes, is_none, length, ◌≡◌, ◌⊎◌, ◌&&◌, ◌≤◌, if◌then◌else◌}
 use Rattle.msrp_plan.specs.Building.{empty_plan}
 use Rattle.msrp_plan.specs.Plan.{PlanModel}
 use Rattle.msrp_plan.specs.declared.faults.PlanFault.{PlanFault}
@@ -50,11 +50,11 @@ numbered (Some fault) number next = Err (At fault number)
 -- the four numbers of a `task` record, if all are there
 abbrev pub task_numbers : List (List ℕ) → Option TaskNumbers
 task_numbers fields =
-    cond (lacks_number fields) None (Some (record { core = number_told fields 2; period = number_told fields 3; deadline = number_told fields 4; offset = number_told fields 5 }))
+    if lacks_number fields then None else Some (record { core = number_told fields 2; period = number_told fields 3; deadline = number_told fields 4; offset = number_told fields 5 })
 
 -- what an `op` record tells, unless it is a run whose number is none
 abbrev pub numbered_step : PlanModel → List (List ℕ) → Option Step
-numbered_step plan fields = cond (has_word fields 1 (codes "run") && is_none (number_at fields 2)) None (Some (step_told plan fields))
+numbered_step plan fields = if has_word fields 1 (codes "run") && is_none (number_at fields 2) then None else Some (step_told plan fields)
 
 -- the refusal of a record by its number; want of memory refuses no record
 abbrev pub refusal : PlanFault → ℕ → TextError

@@ -1,5 +1,5 @@
 -- How units are written one by one: units of work wait until a lock or an unlock, or the end.
-use Rattle.std.specs.Prelude.{ℕ, List, [], ◌∷◌, ◌++◌, cond, length, map, ◌==◌, ◌<◌, ◌+◌, ⊤}
+use Rattle.std.specs.Prelude.{ℕ, List, [], ◌∷◌, ◌++◌, length, map, ◌==◌, ◌<◌, ◌+◌, ⊤, if◌then◌else◌}
 use Rattle.msrp_plan.specs.Plan.{PlanModel}
 use Rattle.msrp_plan.specs.declared.units.Op.{Op}
 use Rattle.msrp_plan.specs.declared.units.Op.TheVariants as unit
@@ -12,7 +12,7 @@ steps_text plan steps = records_text (map (step_record plan) steps)
 
 -- so many units of work
 abbrev pub run_steps : ℕ → List Step
-run_steps n = cond (n == 0) [] (Run n ∷ [])
+run_steps n = if n == 0 then [] else Run n ∷ []
 
 -- what is written at a unit, and how many units of work wait after it
 abbrev pub steps_before : ℕ → Op → List Step

@@ -1,5 +1,5 @@
 -- What a record tells as a row, part by part, in the order of judging.
-use Rattle.std.specs.Prelude.{◌≡◌, ℕ, List, Option, Some, None, Result, Err, IsOkAnd, cond, unwrap_or}
+use Rattle.std.specs.Prelude.{◌≡◌, ℕ, List, Option, Some, None, Result, Err, IsOkAnd, unwrap_or, if◌then◌else◌}
 use Rattle.msrp_plan.specs.Plan.{PlanModel}
 use Rattle.msrp_plan.specs.declared.rows.Row.{Row}
 use Rattle.msrp_plan.specs.declared.rows.TextVersion.{TextVersion}
@@ -14,11 +14,11 @@ use Rattle.msrp_trace.specs.declared.rows.Numbers.{Numbers}
 -- the numbers of a row, if all are there that have to be
 abbrev pub numbers_told : TextVersion → List (List ℕ) → Option Numbers
 numbers_told version fields =
-    cond (lacks_number version fields) None (Some (record { tick = unwrap_or (number_at fields 0) 0; core = unwrap_or (number_at fields 1) 0; job = unwrap_or (job_told fields) None; ahead = unwrap_or (ahead_told version fields) None }))
+    if lacks_number version fields then None else Some (record { tick = unwrap_or (number_at fields 0) 0; core = unwrap_or (number_at fields 1) 0; job = unwrap_or (job_told fields) None; ahead = unwrap_or (ahead_told version fields) None })
 
 -- the task and the resource of a row, if they are the plan's
 abbrev pub names_told : PlanModel → List (List ℕ) → Option Names
-names_told plan fields = cond (lacks_name plan fields) None (Some (record { task = unwrap_or (task_told plan fields) None; res = unwrap_or (res_told plan fields) None }))
+names_told plan fields = if lacks_name plan fields then None else Some (record { task = unwrap_or (task_told plan fields) None; res = unwrap_or (res_told plan fields) None })
 
 -- a record that breaks a rule is refused with it, and any other gives its row
 abbrev pub Reads : Option TraceFault → Option Row → Result Row TraceFault → Type 0

@@ -1,5 +1,5 @@
 -- The row that a record tells, or the first rule that the record breaks.
-use Rattle.std.specs.Prelude.{◌≡◌, ℕ, Bool, true, false, not, refl, List, [], ◌∷◌, length, map, Option, Some, None, is_none, option_map, unwrap_or, cond, ◌==◌, ◌&&◌, ◌||◌, if◌then◌else◌}
+use Rattle.std.specs.Prelude.{◌≡◌, ℕ, Bool, true, false, not, refl, List, [], ◌∷◌, length, map, Option, Some, None, is_none, option_map, unwrap_or, ◌==◌, ◌&&◌, ◌||◌, if◌then◌else◌}
 use Rattle.std.specs.List.{find}
 use Rattle.std.specs.Option.{option_and_then}
 use Rattle.std.specs.Str.{bytes_eq}
@@ -59,7 +59,7 @@ is_dash fields i = has_word fields i dash
 
 -- what a field tells, if it tells anything; a dash tells that there is none
 abbrev pub told_at : {A : Type 0} → (List ℕ → Option A) → List (List ℕ) → ℕ → Option (Option A)
-told_at meaning fields i = cond (is_dash fields i) (Some None) (option_map (λ a. Some a) (option_and_then meaning (field_at fields i)))
+told_at meaning fields i = if is_dash fields i then Some None else option_map (λ a. Some a) (option_and_then meaning (field_at fields i))
 
 -- the plan's task, and its resource, of a name
 abbrev pub task_named : PlanModel → List ℕ → Option TaskId
@@ -106,7 +106,7 @@ abbrev pub lacks_name : PlanModel → List (List ℕ) → Bool
 lacks_name plan fields = is_none (task_told plan fields) || is_none (res_told plan fields)
 
 abbrev pub fault_if : Bool → TraceFault → Option TraceFault → Option TraceFault
-fault_if test fault rest = cond test (Some fault) rest
+fault_if test fault rest = if test then Some fault else rest
 
 -- the first rule that a record of a known kind breaks
 abbrev pub kind_fault : TextVersion → PlanModel → List (List ℕ) → Option Kind → Option TraceFault
