@@ -24,6 +24,7 @@ use Rattle.msrp_merge.specs.Steps.{is_step_on, IsTurnOfEvent}
 use Rattle.msrp_merge.specs.Turns.{has_place, IsTurnOf}
 use Rattle.msrp_merge.proofs.Insertion.{sorted_filter}
 use Rattle.msrp_merge.proofs.Pairing.{filters_swap, paired_filter, paired_weaker, Match, paired_whole}
+use Rattle.msrp_plan.proofs.Jobs.Keys.{then_equal, nat_equal}
 
 -- ---- events stand by tick, and as their places say
 abbrev StandsBefore : Event → Event → Type 0
@@ -52,16 +53,8 @@ then_greater Less p h = absurd (cc)
 then_greater Equal p h = inr (refl, h)
 then_greater Greater p h = inl refl
 
-then_equal : (o p : Ordering) → ordering_then o p ≡ Equal → (o ≡ Equal) × (p ≡ Equal)
-then_equal Less p h = absurd (cc)
-then_equal Equal p h = (refl, h)
-then_equal Greater p h = absurd (cc)
-
 nat_greater : (x y : ℕ) → nat_cmp x y ≡ Greater → y < x
 nat_greater x y e = let k = ranked x y Greater (sym e) in k
-
-nat_equal : (x y : ℕ) → nat_cmp x y ≡ Equal → x ≡ y
-nat_equal x y e = let k = ranked x y Equal (sym e) in k
 
 nat_itself : (x y : ℕ) → x ≡ y → nat_cmp x y ≡ Equal
 nat_itself x y e = ap (nat_cmp x) (sym e) ∙ tied_itself nat_cmp_total x

@@ -1,3 +1,4 @@
+pub mod Keeping
 pub mod Insertion
 pub mod Ranks
 pub mod Blocks
@@ -8,4 +9,5 @@ pub mod Replies
 pub mod Runs
 pub mod Loops
 pub mod Boards
+pub mod Coming
 pub mod Handover

@@ -1,7 +1,9 @@
 pub mod Pairs
 pub mod Turns
+pub mod Keeping
 pub mod Order
 pub mod Sorting
 pub mod Steps
 pub mod Merging
+pub mod Coming
 pub mod Handover

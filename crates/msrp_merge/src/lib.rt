@@ -5,6 +5,7 @@
 //! none is needed, since the places are the order of the steps on a resource, and turns on different resources commute.
 #![tactic(auto)]
 
+mod kept;
 pub mod laws;
 mod logs;
 mod merging;
@@ -13,4 +14,4 @@ mod order;
 mod tests;
 
 pub use logs::{CoreLog, Place, Turn};
-pub use merging::merge;
+pub use merging::{Merging, merge};

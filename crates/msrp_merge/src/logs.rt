@@ -1,6 +1,8 @@
 //! What a core did, turn by turn.
-ghost use Rattle.std.specs.Prelude.{◌≡◌, ◌<◌, ◌++◌, ◌∷◌, [], length, IfOk};
+ghost use Rattle.std.specs.Prelude.{◌≡◌, ◌<◌, ◌++◌, ◌∷◌, [], length, slice_index_or, IfOk};
+ghost use Rattle.msrp_merge.specs.declared.logs.Turn.{Turn as TurnAt};
 
+use crate::kept::Kept;
 use msrp_plan::{CoreId, Memory, Row};
 use std::alloc::Global;
 use std::marker::Model;
@@ -21,23 +23,24 @@ pub struct Turn {
     pub place: Option<Place>,
 }
 
-/// The turns of one core, from tick 0 on.
+/// The turns of one core, from tick 0 on. A turn takes 24 bytes.
 #[derive(Debug, Drop)]
 pub struct CoreLog {
     core: CoreId,
     ticks: u32,
-    turns: Vec<Turn>,
+    kept: Vec<Kept>,
 }
 
 impl Model for CoreLog {
     ghost use Rattle.std.specs.Prelude.{◌≤◌, vec_len, vec_capacity};
+    ghost use Rattle.msrp_merge.specs.Keeping.{turns_from};
     ghost use Rattle.msrp_merge.specs.Turns.{LogModel};
 
     ghost Value = { LogModel };
 
-    ghost view = { λ log. record { core = log.core.0; ticks = log.ticks; turns = log.turns.items } };
+    ghost view = { λ log. record { core = log.core.0; ticks = log.ticks; turns = turns_from log.core.0 0 log.kept.items } };
 
-    ghost invariant = { λ log. (vec_len log.turns ≤ log.ticks) × (log.ticks ≤ vec_capacity log.turns) };
+    ghost invariant = { λ log. (vec_len log.kept ≤ log.ticks) × (log.ticks ≤ vec_capacity log.kept) };
 }
 
 impl CoreLog {
@@ -46,8 +49,8 @@ impl CoreLog {
     pub fn with_room(alloc: Global, core: CoreId, ticks: u32) -> Result<CoreLog, Memory>
         ensures { IfOk result (λ log. log ≡ record { core = core.0; ticks = ticks; turns = [] }) }
     {
-        let turns = Vec::with_capacity(alloc, ticks as usize).map_err(|_| Memory)?;
-        Ok(CoreLog { core, ticks, turns })
+        let kept = Vec::with_capacity(alloc, ticks as usize).map_err(|_| Memory)?;
+        Ok(CoreLog { core, ticks, kept })
     }
 
     /// Adds the core's turn of the next tick. It takes no memory.
@@ -57,7 +60,7 @@ impl CoreLog {
         requires room { row.tick < self.old.ticks }
         ensures { self.new ≡ record self.old { turns = self.old.turns ++ record { row = row; place = place } ∷ [] } }
     {
-        self.turns.push_reserved(Turn { row, place });
+        self.kept.push_reserved(Kept::of(row, place));
     }
 
     /// The core whose log it is.
@@ -78,13 +81,14 @@ impl CoreLog {
     pub fn len(&self) -> usize
         ensures { result ≡ length self.now.turns }
     {
-        self.turns.len()
+        self.kept.len()
     }
 
-    /// The turns, tick by tick.
-    pub fn turns(&self) -> &[Turn]
-        ensures { result.now ≡ self.now.turns }
+    /// The turn of a tick.
+    pub fn turn(&self, tick: u32) -> Turn
+        requires { tick < length self.now.turns }
+        ensures { (d : TurnAt) → result ≡ slice_index_or self.now.turns tick d }
     {
-        &self.turns
+        self.kept[tick as usize].turn(self.core, tick)
     }
 }

@@ -3,7 +3,7 @@ ghost use Rattle.std.specs.Prelude.{◌≡◌, Some, length, true};
 ghost use Rattle.msrp_plan.specs.Shape.{has_shape};
 
 use crate::logs::{CoreLog, Place, Turn};
-use crate::merging::merged_rows;
+use crate::merging::{Merging, gathered};
 use msrp_plan::{CoreId, JobId, Kind, ResId, Row, TaskId};
 use std::alloc::Global;
 use std::process::Abort;
@@ -101,7 +101,10 @@ fn a_handover_is_merged(rt: HostRuntime) {
         log_of(&rt, rt.alloc(), 0, &zero),
         log_of(&rt, rt.alloc(), 1, &one),
     ];
-    let Ok(rows) = merged_rows(rt.alloc(), &logs, 2, TICKS as usize) else {
+    let Ok(merging) = Merging::over(rt.alloc(), &logs, 2, TICKS) else {
+        panic!(rt; "no memory")
+    };
+    let Ok(rows) = gathered(rt.alloc(), merging, 12) else {
         panic!(rt; "no memory")
     };
     let told = [

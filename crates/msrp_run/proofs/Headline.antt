@@ -1,23 +1,22 @@
 -- From the workers' logs and the settled board to the trace.
-use Rattle.std.proofs.Common.{◌≡◌, ℕ, ◌<◌, List, length, Bool, true, false, nat_lt, Some, None, get_or, refl, sym, ap, ◌∙◌, subst, arith, inl, inr}
-use Rattle.std.specs.Prelude.{◌⊎◌, slice_get, slice_index, is_some, filter, replicate}
+use Rattle.std.proofs.Common.{◌≡◌, ℕ, ◌<◌, List, length, Bool, true, false, nat_lt, Some, get_or, sym, ap, ◌∙◌, subst, arith, inl, inr}
+use Rattle.std.specs.Prelude.{slice_get, is_some, filter}
 use Rattle.std.proofs.lemmas.Option.{get_or_from_slice_get}
-use Rattle.std.proofs.lemmas.List.{get_or-replicate}
 use Rattle.msrp_plan.specs.Plan.{PlanModel}
 use Rattle.msrp_plan.specs.Aheads.{carries_ahead}
 use Rattle.msrp_plan.specs.declared.rows.Row.{Row}
 use Rattle.msrp_board.specs.declared.answers.SeatPhase.TheVariants.{Stopped}
 use Rattle.msrp_board.specs.declared.books.Book.{Book}
 use Rattle.msrp_board.specs.declared.books.BoardSize.{BoardSize}
-use Rattle.msrp_board.specs.Books.{phase_by, phase_in}
+use Rattle.msrp_board.specs.Books.{phase_by}
 use Rattle.msrp_board.specs.Boards.{WholeBoard, IsTied, entries_at}
 use Rattle.msrp_board.specs.History.{Event, IsHistory}
-use Rattle.msrp_board.specs.Seats.{BoardModel, SeatModel, HasAll, book_at, empty_book, first_seat}
+use Rattle.msrp_board.specs.Seats.{BoardModel, SeatModel, HasAll, book_at, empty_book}
 use Rattle.msrp_merge.specs.Merging.{AreLogs, log_at, turns_of, size_of}
 use Rattle.msrp_merge.specs.Pairs.{Paired}
 use Rattle.msrp_merge.specs.Steps.{is_row_on, IsRowOfEvent}
 use Rattle.msrp_merge.specs.Turns.{LogModel, rows_of, Fits}
-use Rattle.msrp_run.specs.Threads.{HasRun, IsBench, IsServedAs}
+use Rattle.msrp_run.specs.Threads.{HasRun, IsServedAs}
 use Rattle.msrp_run.specs.Work.{IsWhole, IsWorked}
 
 running_on : (stopped admitted left : Bool) → stopped ≡ false → phase_by stopped admitted left ≡ Stopped → ⊥

@@ -46,6 +46,7 @@ use Rattle.msrp_merge.proofs.Fitting.{fits_quiet, fits_step}
 use Rattle.msrp_run.specs.Ports.{calls_by, port_of, IsStepSince, HasAsked}
 use Rattle.msrp_run.specs.Turns.{MayTurn, HasTurned}
 use Rattle.msrp_run.proofs.Ports.{own_calls, core_is}
+use Rattle.msrp_plan.proofs.Queues.Calls.{call_as_row}
 
 -- ---- before the turn
 admitted_is : (stopped admitted left : Bool) → phase_by stopped admitted left ≡ Admitted → admitted ≡ true
@@ -126,13 +127,6 @@ no_queue Lock e = refl
 no_queue Unlock e = refl
 
 -- ---- a step
-call_phase : (phase : Phase) (res : ResId) (call : Call) → IsInTurn phase res call → phase_with phase (kind_of_call call) (Some res) ≡ claim_with phase res call
-call_phase phase res (Ask zero) turn = refl
-call_phase phase res (Ask (suc n)) turn = refl
-call_phase phase res (Poll true) turn = refl
-call_phase phase res (Poll false) turn = sym turn
-call_phase phase res Leave turn = refl
-
 call_carries : (call : Call) (k : Kind) (ahead : Option ℕ) → k ≡ kind_of_call call → ahead ≡ ahead_of_call call → (not (is_queue k) || is_some ahead) ≡ true
 call_carries call k ahead ek ea = ap (λ j. not (is_queue j) || is_some ahead) ek ∙ (ap (λ o. not (is_queue (kind_of_call call)) || is_some o) ea ∙ by_call call)
   where
@@ -277,7 +271,7 @@ after_told board m next log seat back row place may t (Step res p call at polled
     phase =
         t.stands.phase ∙ (fold_push (λ phase r. phase_with phase r.kind r.res) Free (rows_of log.turns) row
         ∙ (ap (λ k. phase_with (phase_after (rows_of log.turns)) k row.res) kind ∙ (ap (λ o. phase_with (phase_after (rows_of log.turns)) (kind_of_call call) o) resource
-        ∙ (ap (λ f. phase_with f (kind_of_call call) (Some res)) (sym before) ∙ call_phase (lock_of may.book) res call (subst (λ l. IsInTurn l res call) own turn)))))
+        ∙ (ap (λ f. phase_with f (kind_of_call call) (Some res)) (sym before) ∙ call_as_row (lock_of may.book) res call (subst (λ l. IsInTurn l res call) own turn)))))
 
     told : IsTurnOf (record { row = row; place = place }) entry
     told = record {

@@ -12,7 +12,7 @@ use Rattle.msrp_board.specs.declared.answers.SeatPhase.TheVariants.{Waiting, Adm
 use Rattle.msrp_board.specs.declared.books.Book.{Book}
 use Rattle.msrp_board.specs.Books.{phase_in, has_acted}
 use Rattle.msrp_board.specs.History.{is_poll}
-use Rattle.msrp_board.specs.Seats.{BoardModel, SeatModel, IsCoreSeat, MayAct, book_at}
+use Rattle.msrp_board.specs.Seats.{BoardModel, SeatModel, MayAct, book_at}
 use Rattle.msrp_board.specs.SeatPorts.{port_calls, port_room, room_in, room_by, IsPort, AddsCall}
 use Rattle.msrp_board.specs.Steps.{with_entry}
 use Rattle.msrp_board.proofs.SeatPortLemmas.{port_core, port_acts, port_adds}

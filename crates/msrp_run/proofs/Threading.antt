@@ -1,13 +1,12 @@
 -- The loops over all cores: one more kit, seat, thread, log and book.
-use Rattle.std.proofs.Common.{◌≡◌, ℕ, ◌+◌, ◌<◌, ◌≤◌, ◌≢◌, List, [], ◌∷◌, ◌++◌, length, get_or, Option, None, Some, refl, arith, subst, sym, ap, ◌∙◌, inl, inr, length-append}
-use Rattle.std.specs.Prelude.{◌⊎◌, slice_index_or, is_some, true}
+use Rattle.std.proofs.Common.{◌≡◌, ℕ, ◌+◌, ◌<◌, List, [], ◌∷◌, ◌++◌, length, get_or, arith, subst, sym, ap, ◌∙◌, inl, inr, length-append}
+use Rattle.std.specs.Prelude.{is_some, true}
 use Rattle.std.proofs.lemmas.List.{get_or_append_left}
 use Rattle.std.proofs.Math.Seq.{get_or-append_seam}
 use Rattle.std.proofs.lemmas.Bool.{cases_eq}
 use Rattle.std.specs.declared.thread.PromisedHandle.{PromisedHandle}
 use Rattle.msrp_plan.specs.Plan.{PlanModel}
 use Rattle.msrp_board.specs.declared.books.Book.{Book}
-use Rattle.msrp_board.specs.declared.books.Conductor.{Conductor}
 use Rattle.msrp_board.specs.Seats.{BoardModel, SeatModel, IsCoreSeat, book_at, empty_book}
 use Rattle.msrp_board.specs.Steps.{alone, without, both, either}
 use Rattle.msrp_board.proofs.CoreSeats.{alone_is_core}

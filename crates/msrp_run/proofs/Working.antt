@@ -1,5 +1,5 @@
 -- A worker's steps: its core is let in, has its turn and arrives, or is told to stop.
-use Rattle.std.proofs.Common.{◌≡◌, ◌+◌, ◌<◌, ◌≤◌, ◌&&◌, ℕ, suc, List, [], ◌∷◌, ◌++◌, Bool, true, false, nat_lt, Option, refl, sym, ap, ◌∙◌, subst, arith, inl, inr, length-append}
+use Rattle.std.proofs.Common.{◌≡◌, ◌+◌, ◌≤◌, ◌&&◌, ℕ, suc, List, [], ◌∷◌, ◌++◌, Bool, true, false, nat_lt, refl, sym, ap, ◌∙◌, subst, arith, inl, inr, length-append}
 use Rattle.std.specs.Prelude.{length}
 use Rattle.std.proofs.lemmas.List.Folds.{list_all-append}
 use Rattle.std.proofs.lemmas.Bool.{ltb-false}
@@ -11,12 +11,11 @@ use Rattle.msrp_board.specs.declared.answers.SeatPhase.{SeatPhase}
 use Rattle.msrp_board.specs.declared.answers.SeatPhase.TheVariants.{Waiting, Admitted, Done}
 use Rattle.msrp_board.specs.declared.books.Book.{Book}
 use Rattle.msrp_board.specs.declared.books.BoardSize.{BoardSize}
-use Rattle.msrp_board.specs.Books.{phase_by, phase_in, reach_of, lock_of, IsKept}
+use Rattle.msrp_board.specs.Books.{phase_by, phase_in, reach_of, lock_of}
 use Rattle.msrp_board.specs.Seats.{BoardModel, SeatModel, IsSeat, IsCoreSeat}
 use Rattle.msrp_board.specs.Steps.{book_with_admission, with_admission, book_with_stop, with_stop, book_with_arrival, with_arrival}
 use Rattle.msrp_board.proofs.CoreSeats.{core_changed, waiting_book, not_acted}
 use Rattle.msrp_core.specs.Machine.{MachineModel, StandsAfter}
-use Rattle.msrp_merge.specs.declared.logs.Place.{Place}
 use Rattle.msrp_merge.specs.declared.logs.Turn.{Turn}
 use Rattle.msrp_merge.specs.Merging.{size_of}
 use Rattle.msrp_merge.specs.Turns.{LogModel, rows_of, Fits}

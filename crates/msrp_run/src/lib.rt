@@ -13,6 +13,6 @@ mod turns;
 mod work;
 
 pub use hire::{Hire, HireAll, RunError};
-pub use threads::{run_threads, run_threads_if};
+pub use threads::{run_logged_if, run_threads, run_threads_if};
 pub use turns::{Plain, Stage, turn_on};
 pub use work::worker;

@@ -1,7 +1,6 @@
 //! Threads that really run: their turns are made side by side, a refused thread stops all of them, and runs end.
 ghost use Rattle.std.specs.Prelude.{◌≡◌, IfOk};
 
-mod payload;
 mod stages;
 
 use crate::{Hire, Plain, RunError, run_threads, run_threads_if};

@@ -3,9 +3,11 @@ ghost use Rattle.std.specs.Prelude.{◌≡◌, ◌<◌, ◌≤◌, ℕ, [], Some
 ghost use Rattle.msrp_plan.specs.Aheads.{carries_ahead};
 ghost use Rattle.msrp_plan.specs.Laws.{KeepsLaws};
 ghost use Rattle.msrp_plan.specs.Runs.{IsRun};
+ghost use Rattle.msrp_plan.specs.WellFormed.{IsPlan};
 ghost use Rattle.msrp_board.specs.declared.books.Conductor.TheVariants.{Unopened, Opened};
-ghost use Rattle.msrp_board.specs.Boards.{IsTied};
-ghost use Rattle.msrp_merge.specs.Merging.{size_of};
+ghost use Rattle.msrp_board.specs.Boards.{IsTied, entries_at};
+ghost use Rattle.msrp_merge.specs.Merging.{AreLogs, size_of, turns_of};
+ghost use Rattle.msrp_merge.specs.Turns.{rows_of};
 ghost use Rattle.msrp_run.specs.Threads.{AllWorked, AreKits, ArePromised, HasRun, IsBench, IsKit, IsPromise, IsServedAs};
 ghost use Rattle.msrp_run.specs.Work.{HasWorked, IsNew};
 
@@ -300,11 +302,36 @@ fn on_threads<R: Threads + Wait + Sync, S: Stage + Sync, H: Hire, L: PlanLevels>
     )
 }
 
-/// Runs the plan with a thread for each core that `hire` allows.
+/// Runs the plan with a thread for each core that `hire` allows, and gives the log of each core, cores rising, and the board
+/// as the threads left it. [`run_threads_if`] merges them; a caller that needs each row once saves the memory of the trace.
 ///
 /// All memory that a core needs is taken before the first thread starts, and the cores are let in once all threads are
-/// started: on [`RunError::U2`] no core had a turn. It waits for its threads, so what it promises holds where it returns. The
-/// trace is a legal run of MSRP (Gai, Lipari and Di Natale 2001), whatever way the threads' steps interleaved.
+/// started: on [`RunError::U2`] no core had a turn. It waits for its threads, so what it promises holds where it returns.
+pub fn run_logged_if<R: Threads + Wait + Sync, S: Stage + Sync, H: Hire>(
+    rt: &R,
+    alloc: Global,
+    plan: &Plan,
+    stage: &S,
+    hire: &H,
+) -> Result<(Vec<CoreLog>, Settled), RunError>
+    // Each log is a run of its core, and fits the core's book on the board.
+    ensures logs { IfOk result (λ r. AreLogs plan.now r.0.items (entries_at r.1.books)) }
+    ensures aheads { IfOk result (λ r. (c : ℕ) → c < plan.now.cores → carries_ahead (rows_of (turns_of r.0.items c)) ≡ true) }
+    ensures board { IfOk result (λ r. (r.1.size ≡ size_of plan.now) × IsTied r.1) }
+    ensures plan { IfOk result (λ _. IsPlan plan.now) }
+{
+    let Ok(levels) = Levels::of(alloc, plan) else {
+        return Err(RunError::U1);
+    };
+    let Ok((board, bench)) = Board::new(alloc, plan.cores(), plan.resources(), plan.ticks()) else {
+        return Err(RunError::U1);
+    };
+    let (logs, seat) = on_threads(rt, alloc, plan, &levels, &board, bench, stage, hire)?;
+    Ok((logs, board.settle(seat)))
+}
+
+/// Runs the plan with a thread for each core that `hire` allows, as [`run_logged_if`] does, and merges the logs. The trace is a
+/// legal run of MSRP (Gai, Lipari and Di Natale 2001), whatever way the threads' steps interleaved.
 pub fn run_threads_if<R: Threads + Wait + Sync, S: Stage + Sync, H: Hire>(
     rt: &R,
     alloc: Global,
@@ -323,14 +350,7 @@ pub fn run_threads_if<R: Threads + Wait + Sync, S: Stage + Sync, H: Hire>(
     ensures aheads { IfOk result (λ r. carries_ahead r.0.rows.items ≡ true) }
     ensures board { IfOk result (λ r. (r.1.size ≡ size_of plan.now) × IsTied r.1) }
 {
-    let Ok(levels) = Levels::of(alloc, plan) else {
-        return Err(RunError::U1);
-    };
-    let Ok((board, bench)) = Board::new(alloc, plan.cores(), plan.resources(), plan.ticks()) else {
-        return Err(RunError::U1);
-    };
-    let (logs, seat) = on_threads(rt, alloc, plan, &levels, &board, bench, stage, hire)?;
-    let settled = board.settle(seat);
+    let (logs, settled) = run_logged_if(rt, alloc, plan, stage, hire)?;
     match merge(alloc, plan, &logs, &settled) {
         Ok(trace) => Ok((trace, settled)),
         Err(Memory) => Err(RunError::U1),

@@ -1,5 +1,4 @@
-use Rattle.std.proofs.Common.{rules, ◌≡◌, ℕ, ◌+◌, ◌<◌, ◌≤◌, arith, subst, sym, ap, List, [], ◌∷◌, ◌++◌, ◌∙◌, Some, length, vec_len, vec_items}
-use Rattle.msrp_merge.specs.Turns.{LogModel}
+use Rattle.std.proofs.Common.{rules, ◌+◌, subst, sym, ap, ◌∙◌, length, vec_items}
 use Rattle.msrp_board.specs.Seats.{SeatModel}
 use Rattle.msrp_board.specs.Steps.{both}
 use Rattle.msrp_run.specs.Threads.{AllWorked, IsPromise}

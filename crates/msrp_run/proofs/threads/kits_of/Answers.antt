@@ -1,4 +1,4 @@
-use Rattle.std.proofs.Common.{◌≡◌, ◌∷◌, ◌++◌, [], rules, subst, sym, ap, ◌∙◌, vec_len, vec_items, length}
+use Rattle.std.proofs.Common.{◌≡◌, rules, subst, sym, ◌∙◌, vec_items, length}
 use Rattle.msrp_run.specs.declared.crew.Kit.{Kit}
 use Rattle.msrp_run.specs.Threads.{AreKits, IsKit}
 use Rattle.msrp_run.proofs.Threading.{kits_more}

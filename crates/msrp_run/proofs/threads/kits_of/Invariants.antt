@@ -1,4 +1,4 @@
-use Rattle.std.proofs.Common.{◌≡◌, ◌<◌, ◌≤◌, vec_len, vec_items}
+use Rattle.std.proofs.Common.{◌≡◌, ◌≤◌, vec_len, vec_items}
 use Rattle.std.specs.Prelude.{vec_capacity}
 use Rattle.msrp_run.specs.Threads.{AreKits}
 use Rattle.msrp_run.proofs.threads.kits_of.Given as goal

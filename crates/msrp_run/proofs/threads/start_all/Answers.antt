@@ -1,7 +1,6 @@
-use Rattle.std.proofs.Common.{rules, ◌≡◌, ℕ, ◌+◌, ◌<◌, ◌≤◌, ◌≢◌, arith, subst, sym, ap, set, List, [], ◌∷◌, ◌++◌, ◌∙◌, Some, None, get_or, slice_index_or, length, vec_len, vec_items}
+use Rattle.std.proofs.Common.{rules, ◌≡◌, ◌+◌, ◌<◌, arith, subst, sym, ap, ◌∙◌, get_or, length, vec_len, vec_items}
 use Rattle.std.specs.Vec.Iter.{into_iter_items, into_iter_len}
 use Rattle.msrp_board.specs.declared.books.BoardSize.{BoardSize}
-use Rattle.msrp_board.specs.Steps.{alone}
 use Rattle.msrp_run.specs.Threads.{ArePromised, IsBench, IsKit, IsPromise}
 use Rattle.msrp_run.proofs.Threading.{has_next, next_seat, bench_less, kit_is_new, promised_more}
 use Rattle.msrp_run.proofs.threads.start_all.Goals as goal

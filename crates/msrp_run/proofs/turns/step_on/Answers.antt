@@ -1,6 +1,5 @@
-use Rattle.std.proofs.Common.{◌≡◌, ◌<◌, subst, sym, ap, ◌∙◌, arith}
+use Rattle.std.proofs.Common.{◌≡◌, subst, sym, ap, ◌∙◌, arith}
 use Rattle.msrp_core.specs.Ports.{claim_in}
-use Rattle.msrp_board.specs.Seats.{SeatModel}
 use Rattle.msrp_run.specs.Ports.{SeatPortModel, HasAsked, port_of}
 use Rattle.msrp_run.proofs.OneTurn.{tick_left, port_claims, has_asked, asked_on}
 use Rattle.msrp_run.proofs.turns.step_on.Goals as goal

@@ -1,5 +1,4 @@
-use Rattle.std.proofs.Common.{◌≡◌}
-use Rattle.msrp_run.proofs.Working.{HasArrived, may_turn, has_stopped, has_arrived, goes_on, has_done}
+use Rattle.msrp_run.proofs.Working.{may_turn, has_stopped, has_arrived, goes_on, has_done}
 use Rattle.msrp_run.proofs.work.worker.Goals as goal
 
 pub returns-in-Stopped : goal.returns-in-Stopped

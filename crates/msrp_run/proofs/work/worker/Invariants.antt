@@ -1,4 +1,3 @@
-use Rattle.std.proofs.Common.{◌≡◌}
 use Rattle.msrp_board.specs.Seats.{IsSeat}
 use Rattle.msrp_run.specs.Work.{IsAtWork}
 use Rattle.msrp_run.proofs.work.worker.Given as goal
