@@ -9,7 +9,7 @@ PROGRAM = TOP / "crates" / "msrp" / "out" / "msrp"
 SECONDS = 20  # a command that takes longer hangs
 
 # The commands that the program has: every sweep goes over these. A command that comes later is added here alone.
-COMMANDS = ("sim", "sim --order desc", "sim --order rot --ahead", "run", "run --ahead", "audit", "report", "check", "check --text")
+COMMANDS = ("sim", "sim --order desc", "sim --order rot --ahead", "run", "run --ahead", "audit", "audit --parallel", "report", "check", "check --text")
 
 GOOD, FAULT, REFUSED, USAGE, WANT, BROKEN = range(6)  # the statuses
 USAGE_FAULT, MEMORY, THREADS, READ_FAULT, WRITE_FAULT = (b"msrp: %s\n" % what for what in (b"usage", b"memory", b"threads", b"read fault", b"write fault"))

@@ -23,6 +23,10 @@ use Rattle.msrp.specs.Outcomes.{trace_fault_of}
 use Rattle.msrp.specs.declared.faults.CliFault.{CliFault}
 use Rattle.msrp.specs.declared.faults.CliFault.TheVariants.{Read as ReadFault, Memory as NoMemory}
 
+-- what is found, but for a read that failed and for memory
+abbrev pub IsFound : PlanModel → Told → Result (Result ⊤ Fault) CliFault → Type 0
+IsFound plan told found = (found ≡ Err ReadFault) ⊎ (found ≡ Err NoMemory) ⊎ (found ≡ finding plan told)
+
 -- these rows of what is told were read, and that is left
 pub record IsReadTo (told : Told) (rows : List Row) (left : Option Told) : Type 0 where
   pub rest : List Row
@@ -55,9 +59,9 @@ read-row told rows left after result r is next e =
     ]
 
 -- a fault of the first rows is found
-pub fault-found : (plan : PlanModel) (told : Told) (rows : List Row) (left : Option Told) (f : Fault) → IsReadTo told rows left → fault_in plan rows ≡ Some f → finding plan told ≡ Ok (Err f)
-fault-found plan told rows left f is h =
-    let whole : fault_in plan told.rows ≡ Some f = subst (λ xs. fault_in plan xs ≡ Some f) (sym is.whole) (fault_stays plan rows is.rest f h) in
+pub fault-found : (plan : PlanModel) (told : Told) (rows rest : List Row) (f : Fault) → told.rows ≡ rows ++ rest → fault_in plan rows ≡ Some f → finding plan told ≡ Ok (Err f)
+fault-found plan told rows rest f is h =
+    let whole : fault_in plan told.rows ≡ Some f = subst (λ xs. fault_in plan xs ≡ Some f) (sym is) (fault_stays plan rows rest f h) in
     ap (λ o. found_first o told.refusal (verdict plan told.rows)) whole
 
 -- at the end nothing is left
@@ -87,13 +91,13 @@ verdict-found plan told rows left after result is next e good =
       ]
     ]
 
-first-refusal : (rows : List Row) (refusal : Option TraceError) (result : Result (Option Row) TraceError) (after : Option Told) (error : TraceError)
+pub first-refusal : (rows : List Row) (refusal : Option TraceError) (result : Result (Option Row) TraceError) (after : Option Told) (error : TraceError)
     → GivesFirst rows refusal result after → result ≡ Err error → (rows ≡ []) × (refusal ≡ Some error)
 first-refusal (x ∷ xs) refusal result after error h e = absurd (cc)
 first-refusal [] None result after error h e = absurd (cc)
 first-refusal [] (Some refusal) result after error h e = let same : refusal ≡ error = cc in (refl, ap (λ x. Some x) same)
 
-refused-found : (plan : PlanModel) (all rows : List Row) (refusal : Option TraceError) (error : TraceError) → all ≡ rows → refusal ≡ Some error → fault_in plan rows ≡ None → found_first (fault_in plan all) refusal (verdict plan all) ≡ Err (trace_fault_of error)
+pub refused-found : (plan : PlanModel) (all rows : List Row) (refusal : Option TraceError) (error : TraceError) → all ≡ rows → refusal ≡ Some error → fault_in plan rows ≡ None → found_first (fault_in plan all) refusal (verdict plan all) ≡ Err (trace_fault_of error)
 refused-found plan all rows refusal error same some good =
     subst (λ xs. found_first (fault_in plan xs) refusal (verdict plan xs) ≡ Err (trace_fault_of error)) (sym same) (
     ap (λ o. found_first o refusal (verdict plan rows)) good ∙ ap (λ o. found_first None o (verdict plan rows)) some)

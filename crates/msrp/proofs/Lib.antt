@@ -4,3 +4,4 @@ pub mod NamedRows
 pub mod SimAnswers
 pub mod Reporting
 pub mod Grammar
+pub mod Gathering

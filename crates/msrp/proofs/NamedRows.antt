@@ -5,7 +5,8 @@ use Rattle.msrp_plan.specs.Logs.{IsDueTurn, log_of}
 use Rattle.msrp_plan.specs.WellFormed.{IsPlan}
 use Rattle.msrp_plan.specs.declared.rows.Row.{Row}
 use Rattle.msrp_plan.specs.declared.rows.TextVersion.{TextVersion}
-use Rattle.msrp_plan.proofs.Legality.LegalRows.{IsTurn, turn_of}
+use Rattle.msrp_plan.specs.Runs.{IsLegal, IsRun}
+use Rattle.msrp_plan.proofs.Legality.LegalRows.{IsTurn, legal_turn, turn_of}
 use Rattle.msrp_plan.proofs.Lists.Prefixes.{each_at}
 use Rattle.msrp_sim.specs.Simulated.{SimModel, HasMade}
 use Rattle.msrp_trace.specs.TraceText.{is_named, row_text, trace_text}
@@ -18,6 +19,10 @@ made_named s rows r ok made =
     let due : IsDueTurn s.plan rows r = each_at (IsDueTurn s.plan) [] rows r [] made.left.turns in
     let turn : IsTurn s.plan (log_of r.core.0 rows) r = turn_of s.plan (log_of r.core.0 rows) r due.turn.own due.turn.chosen due.turn.action in
     turn_named s.plan (log_of r.core.0 rows) r ok turn
+
+-- a row of a run
+pub run_row_named : (plan : PlanModel) (rows rest : List Row) (r : Row) → IsPlan plan → IsRun plan (rows ++ r ∷ rest) → is_named plan r ≡ true
+run_row_named plan rows rest r ok run = turn_named plan rows r ok (legal_turn plan rows r (each_at (IsLegal plan) [] rows r rest run.each))
 
 -- the text of one row more
 pub row_more : (version : TextVersion) (plan : PlanModel) (rows : List Row) (r : Row) → trace_text version plan rows ++ row_text version plan r ≡ trace_text version plan (rows ++ r ∷ [])

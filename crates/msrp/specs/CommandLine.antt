@@ -1,5 +1,5 @@
 -- The words that the program takes, as the parser is told of them, and what is answered.
-use Rattle.std.specs.Prelude.{◌≡◌, ℕ, List, [], ◌∷◌, Option, Some, None, codes, true, Ok, Err, ◌⊎◌, IsOkAnd}
+use Rattle.std.specs.Prelude.{◌≡◌, List, [], ◌∷◌, Option, Some, None, codes, true, Ok, Err, ◌⊎◌, IsOkAnd}
 use Rattle.std.specs.declared.result.Result.{Result}
 use Rattle.clap.specs.Words.{App, IsAmong, Kinds, Row, Rule, Text, app_of, found_of, new_app, new_rule, rows_of, with_rule, with_subcommand}
 use Rattle.clap.specs.declared.builder.command.Command.{Command}

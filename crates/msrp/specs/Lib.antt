@@ -8,3 +8,4 @@ pub mod Words
 pub mod CommandLine
 pub mod Inputs
 pub mod Reports
+pub mod Inside

@@ -6,8 +6,8 @@ use Rattle.msrp_plan.specs.Plan.{PlanModel}
 use Rattle.msrp_plan.specs.declared.bytes.Sink.{Sink}
 use Rattle.msrp_plan.specs.declared.faults.Fault.{Fault}
 use Rattle.msrp_plan.specs.declared.rows.Row.{Row}
-use Rattle.msrp_plan.specs.declared.traces.Trace.{Trace}
 use Rattle.msrp_report.specs.Lines.{lines_of}
+use Rattle.msrp_report.specs.declared.lines.Report.{Report}
 use Rattle.msrp_report.specs.ReportText.{report_text}
 use Rattle.msrp_text.specs.declared.reading.TextError.{TextError}
 use Rattle.msrp_trace.specs.Reading.{Told, rows_of}
@@ -17,17 +17,17 @@ use Rattle.msrp.specs.Outcomes.{fault_of}
 use Rattle.msrp.specs.declared.faults.CliFault.{CliFault}
 use Rattle.msrp.specs.declared.faults.CliFault.TheVariants.{Write}
 
--- ---- the rows of a trace's text, or what is found in them
+-- ---- the report of the rows of a trace's text, or what is found in them
 -- the verdict in such an answer
-abbrev pub verdict_told : Result (Result Trace Fault) CliFault → Result (Result ⊤ Fault) CliFault
-verdict_told (Ok (Ok trace)) = Ok (Ok tt)
+abbrev pub verdict_told : Result (Result Report Fault) CliFault → Result (Result ⊤ Fault) CliFault
+verdict_told (Ok (Ok report)) = Ok (Ok tt)
 verdict_told (Ok (Err fault)) = Ok (Err fault)
 verdict_told (Err fault) = Err fault
 
--- the answer is what is found in the rows that are told, and good rows are kept
-pub record Gathers (plan : PlanModel) (told : Told) (answer : Result (Result Trace Fault) CliFault) : Type 0 where
+-- the answer is what is found in the rows that are told, and good rows are reported
+pub record Reports (plan : PlanModel) (told : Told) (answer : Result (Result Report Fault) CliFault) : Type 0 where
   pub found : verdict_told answer ≡ finding plan told
-  pub rows : IfOk answer (λ good. IfOk good (λ trace. trace.rows.items ≡ told.rows))
+  pub lines : IfOk answer (λ good. IfOk good (λ report. report.lines.items ≡ lines_of plan told.rows))
 
 -- ---- the answer
 -- where these are the rows and that is found in them: the report of a legal run, and else what an audit answers

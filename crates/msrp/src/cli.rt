@@ -8,7 +8,7 @@ ghost use Rattle.msrp.specs.Words.{IsCommand, plan_path};
 
 use crate::faults::CliFault;
 use clap::error::ErrorKind;
-use clap::{Arg, ArgAction, ArgMatches, Command};
+use clap::{Arg, ArgAction, ArgMatches, Command, Error};
 use std::alloc::{AllocError, Global};
 
 /// The order of the cores in each tick of a simulation.
@@ -175,12 +175,34 @@ fn grammar<'a>(alloc: Global) -> Result<Command<'a>, AllocError>
         .subcommand(check(alloc)?)
 }
 
-/// The text of the help.
-pub fn help_text(alloc: Global) -> Result<String, CliFault>
+// The text of the program's help.
+fn program_help(alloc: Global) -> Result<String, CliFault>
     ensures { IfErr result (λ fault. fault ≡ CliFault.Memory) }
 {
     let mut command = grammar(alloc)?;
     Ok(command.render_help()?)
+}
+
+// The help that an answer of the parser is, or else that of the program.
+fn help_in(alloc: Global, answer: Error) -> Result<String, CliFault>
+    ensures { IfErr result (λ fault. fault ≡ CliFault.Memory) }
+{
+    if answer.kind() == ErrorKind::DisplayHelp {
+        Ok(answer.to_string(alloc)?)
+    } else {
+        program_help(alloc)
+    }
+}
+
+/// The text of the help that these words ask for: that of the command before `--help` or after `help`, or else that of the
+/// program.
+pub fn help_text<'a>(alloc: Global, words: &'a [String]) -> Result<String, CliFault>
+    ensures { IfErr result (λ fault. fault ≡ CliFault.Memory) }
+{
+    match grammar(alloc)?.try_get_matches_from(words) {
+        Ok(_) => program_help(alloc),
+        Err(answer) => help_in(alloc, answer),
+    }
 }
 
 // The path of the plan: standard input where none is given.

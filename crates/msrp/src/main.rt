@@ -15,6 +15,7 @@ mod engine;
 mod faults;
 mod fields;
 mod input;
+mod parallel;
 mod report;
 mod running;
 #[cfg(test)]
@@ -25,10 +26,11 @@ use check::check_text;
 use cli::{Cmd, TurnOrder, command_of, help_text};
 use engine::{plan_text, sim_text, write_help};
 use faults::{CliFault, exit_of};
-use input::{open, open_both};
+use input::{Input, open, open_both};
 use msrp_plan::TextVersion;
 use msrp_plan::bytes::{Sink, Source};
 use msrp_sim::Order;
+use parallel::audit_parallel_text;
 use report::report_text;
 use running::run_text;
 use std::alloc::Global;
@@ -93,13 +95,23 @@ fn version_of(ahead: bool) -> TextVersion
     }
 }
 
-// `threads` starts the threads of a run.
+// The sources of a plan and a trace.
+fn sources(
+    rt: &HostRuntime,
+    plan: &str,
+    trace: &str,
+) -> Result<(Source<Input>, Source<Input>), CliFault> {
+    let (plan, trace) = open_both(rt, plan, trace)?;
+    Ok((Source::new(plan), Source::new(trace)))
+}
+
+// `threads` starts the threads of a run, and of an audit in pieces.
 fn run<T: Threads + Wait + Sync>(rt: &HostRuntime, threads: &T) -> Result<u8, CliFault> {
     let alloc = rt.alloc();
     let words = words_of(rt)?;
     let mut out = Sink::new(io::writer(rt));
     match command_of(alloc, words.as_slice())? {
-        Cmd::Help => write_help(&mut out, help_text(alloc)?.as_str()),
+        Cmd::Help => write_help(&mut out, help_text(alloc, words.as_slice())?.as_str()),
         Cmd::Sim { order, ahead, plan } => {
             let mut source = Source::new(open(rt, plan)?);
             let order = order_of(order);
@@ -118,28 +130,21 @@ fn run<T: Threads + Wait + Sync>(rt: &HostRuntime, threads: &T) -> Result<u8, Cl
             check_text(alloc, &mut source, &mut out)
         }
         Cmd::Audit {
-            parallel: false,
+            parallel,
             plan,
             trace,
         } => {
-            let (plan, trace) = open_both(rt, plan, trace)?;
-            audit_text(
-                alloc,
-                &mut Source::new(plan),
-                &mut Source::new(trace),
-                &mut out,
-            )
+            let (mut plan, mut trace) = sources(rt, plan, trace)?;
+            if parallel {
+                audit_parallel_text(threads, alloc, &mut plan, &mut trace, &mut out)
+            } else {
+                audit_text(alloc, &mut plan, &mut trace, &mut out)
+            }
         }
         Cmd::Report { plan, trace } => {
-            let (plan, trace) = open_both(rt, plan, trace)?;
-            report_text(
-                alloc,
-                &mut Source::new(plan),
-                &mut Source::new(trace),
-                &mut out,
-            )
+            let (mut plan, mut trace) = sources(rt, plan, trace)?;
+            report_text(alloc, &mut plan, &mut trace, &mut out)
         }
-        _ => Err(CliFault::Usage),
     }
 }
 

@@ -1,92 +1,79 @@
 //! The report of a trace's text.
-ghost use Rattle.std.specs.Prelude.{◌≡◌, ◌⊎◌, ℕ, List, [], true, false, Some, Ok, Err, IfOk, IfErr};
-ghost use Rattle.msrp_audit.specs.Audits.{HasFed};
+ghost use Rattle.std.specs.Prelude.{◌≡◌, ◌⊎◌, ℕ, List, [], true, false, Some, Err, IfOk, IfErr, length};
 ghost use Rattle.msrp_plan.specs.Bytes.{sink_failed, source_failed, source_remaining};
-ghost use Rattle.msrp_plan.specs.Runs.{IsRun};
+ghost use Rattle.msrp_report.specs.Reports.{HasReported};
 ghost use Rattle.msrp_text.specs.Reading.{csv_records, plan_of};
 ghost use Rattle.msrp_text.specs.declared.reading.TextError.{TextError as PlanError};
 ghost use Rattle.msrp_trace.specs.Reading.{Told, rows_of};
 ghost use Rattle.msrp_trace.specs.Readers.{told_left};
 ghost use Rattle.msrp.specs.Findings.{finding};
 ghost use Rattle.msrp.specs.Outcomes.{fault_of, is_audit_fault, is_trace_fault};
-ghost use Rattle.msrp.specs.Reports.{Gathers, ReportAnswers};
+ghost use Rattle.msrp.specs.Reports.{ReportAnswers, Reports};
 
 #[cfg(test)]
 mod tests;
 
 use crate::audit::write_verdict;
 use crate::faults::CliFault;
-use msrp_audit::Auditor;
 use msrp_levels::Levels;
 use msrp_plan::bytes::{Sink, Source};
-use msrp_plan::{Fault, Memory, Plan, Row, Trace};
-use msrp_report::{run_report, write_report};
+use msrp_plan::{Fault, Plan};
+use msrp_report::{Report, Reporter, write_report};
 use msrp_text::read_plan;
 use msrp_trace::TraceReader;
 use std::alloc::Global;
 use std::io::{Read, Write};
 
-// What is found in the rows that a reader has left, which are kept. They are judged as they come, and none is read
-// after a faulty one.
-fn gather_rows<T: Read>(
-    auditor: &mut Auditor<'_>,
+// The report of the rows that a reader has left, if they are a legal run, or else what is found in them. They are judged and
+// counted as they come, and none is read after a faulty one.
+fn report_rows<T: Read>(
+    mut reporter: Reporter<'_>,
     rows: &mut TraceReader<'_, T>,
-    kept: &mut Vec<Row>,
-) -> Result<Result<(), Fault>, CliFault>
-    requires fed { HasFed auditor.old [] }
-    requires kept { kept.old.items ≡ [] }
+) -> Result<Result<Report, Fault>, CliFault>
+    requires fed { HasReported reporter [] }
     ensures found { (told : Told) → told_left T.remaining rows.old ≡ Some told
-        → (result ≡ Err CliFault.Read) ⊎ (result ≡ Err CliFault.Memory) ⊎ (result ≡ finding auditor.old.plan told) }
-    ensures rows { (told : Told) → told_left T.remaining rows.old ≡ Some told → IfOk result (λ found. IfOk found (λ _. kept.new.items ≡ told.rows)) }
-    ensures run { IfOk result (λ found. IfOk found (λ _. IsRun auditor.old.plan kept.new.items)) }
+        → (result ≡ Err CliFault.Read) ⊎ (result ≡ Err CliFault.Memory) ⊎ Reports reporter.entry.plan.now told result }
+    ensures lines { IfOk result (λ found. IfOk found (λ report. length report.lines.items ≡ length reporter.entry.plan.now.tasks)) }
     ensures faults { IfErr result (λ fault. is_trace_fault fault ≡ true) }
 {
     while let Some(row) = rows.next_row()? {
-        if let Err(fault) = auditor.feed(row) {
+        if let Err(fault) = reporter.feed(row) {
             return Ok(Err(fault));
         }
-        kept.push(row)?;
     }
-    Ok(auditor.end())
+    Ok(reporter.end())
 }
 
-// The rows of a trace's text, if they are a legal run, or else what is found in them. Whatever ends the reading early may
-// be told as a failed read.
-fn gather_all<T: Read>(
+// The report of a trace's text. Whatever ends the reading early may be told as a failed read.
+fn report_all<T: Read>(
     alloc: Global,
     plan: &Plan,
     trace: &mut Source<T>,
-) -> Result<Result<Trace, Fault>, CliFault>
+) -> Result<Result<Report, Fault>, CliFault>
     ensures found { (bytes : List ℕ) → source_remaining T.remaining trace.old ≡ Some bytes
-        → (result ≡ Err CliFault.Read) ⊎ (result ≡ Err CliFault.Memory) ⊎ Gathers plan.now (rows_of plan.now (csv_records bytes)) result }
-    ensures run { IfOk result (λ found. IfOk found (λ run. IsRun plan.now run.rows.items)) }
+        → (result ≡ Err CliFault.Read) ⊎ (result ≡ Err CliFault.Memory) ⊎ Reports plan.now (rows_of plan.now (csv_records bytes)) result }
+    ensures lines { IfOk result (λ found. IfOk found (λ report. length report.lines.items ≡ length plan.now.tasks)) }
     ensures faults { IfErr result (λ fault. is_trace_fault fault ≡ true) }
 {
     let levels = Levels::of(alloc, plan)?;
-    let mut auditor = Auditor::with_room(alloc, plan, &levels)?;
+    let reporter = Reporter::with_room(alloc, plan, &levels)?;
     let mut rows = TraceReader::new(alloc, trace, plan)?;
-    let mut kept = Vec::with_capacity(alloc, plan.cores() as usize * plan.ticks() as usize).map_err(
-        |_| Memory,
-    )?;
-    match gather_rows(&mut auditor, &mut rows, &mut kept)? {
-        Ok(()) => Ok(Ok(Trace { rows: kept })),
-        Err(fault) => Ok(Err(fault)),
-    }
+    report_rows(reporter, &mut rows)
 }
 
-// The same, where a failed read is told only if the source has failed.
-fn gather_text<T: Read>(
+// The same, where a failed read is told only if the source has failed. One row is kept at a time.
+fn report_trace<T: Read>(
     alloc: Global,
     plan: &Plan,
     trace: &mut Source<T>,
-) -> Result<Result<Trace, Fault>, CliFault>
+) -> Result<Result<Report, Fault>, CliFault>
     ensures found { (bytes : List ℕ) → source_remaining T.remaining trace.old ≡ Some bytes
-        → (result ≡ Err CliFault.Read) ⊎ (result ≡ Err CliFault.Memory) ⊎ Gathers plan.now (rows_of plan.now (csv_records bytes)) result }
-    ensures run { IfOk result (λ found. IfOk found (λ run. IsRun plan.now run.rows.items)) }
+        → (result ≡ Err CliFault.Read) ⊎ (result ≡ Err CliFault.Memory) ⊎ Reports plan.now (rows_of plan.now (csv_records bytes)) result }
+    ensures lines { IfOk result (λ found. IfOk found (λ report. length report.lines.items ≡ length plan.now.tasks)) }
     ensures faults { IfErr result (λ fault. is_trace_fault fault ≡ true) }
     ensures read { result ≡ Err CliFault.Read → source_failed trace.new ≡ true }
 {
-    match gather_all(alloc, plan, trace) {
+    match report_all(alloc, plan, trace) {
         Err(CliFault::Read) if !trace.failed() => Err(CliFault::Memory),
         found => found,
     }
@@ -95,8 +82,8 @@ fn gather_text<T: Read>(
 /// Reads a plan and a trace of it, whoever made it, and writes the report of the trace with status 0; where the trace isn't
 /// a legal run, it writes the line of its first fault with status 1, as an audit does.
 ///
-/// The rows are judged as they come. Nothing is written before the trace is whole and legal, and all memory is taken before:
-/// so whatever the fault, but a write fault, nothing was written. A refused plan is told whatever the trace.
+/// The rows are judged and counted as they come, and one is kept at a time. Nothing is written before the trace is whole and
+/// legal, and all memory is taken before: so whatever the fault, but a write fault, nothing was written. A refused plan is told whatever the trace.
 pub fn report_text<P: Read, T: Read, W: Write>(
     alloc: Global,
     plan: &mut Source<P>,
@@ -120,10 +107,9 @@ pub fn report_text<P: Read, T: Read, W: Write>(
     ensures silent { IfErr result (λ fault. (fault ≡ CliFault.Write) ⊎ (out.new ≡ out.old)) }
 {
     let plan = read_plan(alloc, plan)?;
-    match gather_text(alloc, &plan, trace)? {
+    match report_trace(alloc, &plan, trace)? {
         Err(fault) => write_verdict(out, Err(fault)),
-        Ok(run) => {
-            let report = run_report(alloc, &plan, &run)?;
+        Ok(report) => {
             write_report(out, &plan, &report)?;
             Ok(0)
         }

@@ -1,24 +1,50 @@
 //! A plan on threads: from a plan's text to the text of what its cores did.
 
-ghost use Rattle.std.specs.Prelude.{◌≡◌, ◌⊎◌, ◌↔◌, ℕ, List, true, false, Some, Err, IfOk, IfErr};
+ghost use Rattle.std.specs.Prelude.{◌≡◌, ◌⊎◌, ◌↔◌, ℕ, List, true, false, Some, Err, IfOk, IfErr, OnOk, OnErr};
+ghost use Rattle.msrp_plan.specs.Aheads.{carries_ahead};
 ghost use Rattle.msrp_plan.specs.Bytes.{sink_failed, source_failed, source_remaining};
+ghost use Rattle.msrp_plan.specs.Runs.{IsRun};
 ghost use Rattle.msrp_text.specs.Reading.{csv_records, plan_of};
 ghost use Rattle.msrp.specs.Outcomes.{is_sim_fault};
-ghost use Rattle.msrp.specs.Running.{RunAnswers};
+ghost use Rattle.msrp.specs.Running.{RunAnswers, WritesLegalRun};
 
 #[cfg(test)]
 mod tests;
 
 use crate::faults::CliFault;
-use msrp_plan::TextVersion;
+use msrp_merge::Merging;
 use msrp_plan::bytes::{Sink, Source};
-use msrp_run::{Hire, HireAll, Plain, run_threads_if};
+use msrp_plan::{Plan, TextVersion, WriteFault};
+use msrp_run::{Hire, HireAll, Plain, run_logged_if};
 use msrp_text::read_plan;
-use msrp_trace::write_trace;
+use msrp_trace::TraceWriter;
 use std::alloc::Global;
 use std::io::{Read, Write};
 use std::sync::Wait;
 use std::thread::Threads;
+
+// Every row of the merge: the first record, and then the row. After a failed write the merge goes on unheard, so that what was
+// written is the first part of the whole trace's text.
+fn write_merged<W: Write>(
+    plan: &Plan,
+    mut merging: Merging<'_>,
+    version: TextVersion,
+    out: &mut Sink<W>,
+) -> Result<(), WriteFault>
+    requires run { IsRun plan.now merging }
+    requires aheads { carries_ahead merging ≡ true }
+    ensures run { WritesLegalRun W.contents version plan.now out.old out.new }
+    ensures good { OnOk result (sink_failed out.new ≡ false) }
+    ensures fault { OnErr result (sink_failed out.new ≡ true) }
+{
+    let mut text = TraceWriter::new(plan, version);
+    text.head(out);
+    for _turn in 0..plan.cores() * plan.ticks() {
+        let row = merging.row();
+        text.row(out, &row);
+    }
+    text.finish(out)
+}
 
 /// Reads a plan, runs it with a thread for each core that `hire` allows, and writes the trace of what the cores did, as text of
 /// this version. It is [`CliFault::Threads`] where a thread was refused.
@@ -46,8 +72,9 @@ pub fn run_text_if<T: Threads + Wait + Sync, P: Read, W: Write, H: Hire>(
     ensures silent { IfErr result (λ fault. (fault ≡ CliFault.Write) ⊎ (out.new ≡ out.old)) }
 {
     let plan = read_plan(alloc, plan)?;
-    let (trace, _) = run_threads_if(rt, alloc, &plan, &Plain, hire)?;
-    write_trace(out, &plan, &trace, version)?;
+    let (logs, settled) = run_logged_if(rt, alloc, &plan, &Plain, hire)?;
+    let merging = Merging::new(alloc, &plan, &logs, &settled)?;
+    write_merged(&plan, merging, version, out)?;
     Ok(0)
 }
 

@@ -1,10 +1,10 @@
 -- The job of each task that is going, and which of the later ones comes first.
-use Rattle.std.proofs.Common.{◌≡◌, ◌≢◌, ℕ, ◌<◌, ◌≤◌, ◌+◌, ◌==◌, Bool, true, false, not, ◌&&◌, cond, List, [], ◌∷◌, ◌++◌, Option, Some, None, IfSome, refl, ap, sym, ◌∙◌, subst, arith, ◌⊎◌, inl, inr, eqb-true, length, slice_get}
+use Rattle.std.proofs.Common.{◌≡◌, ◌≢◌, ℕ, ◌<◌, ◌+◌, ◌==◌, true, false, not, List, [], Option, Some, None, IfSome, refl, ap, sym, ◌∙◌, subst, arith, ◌⊎◌, inl, inr, eqb-true, length, slice_get}
 use Rattle.std.specs.List.{Contains}
 use Rattle.std.proofs.Math.Bool.{true≢false}
-use Rattle.std.proofs.lemmas.Bool.{and_from, and_parts, false_from_ne_true, true_from_ne_false, cases_Bool, eqb-false}
-use Rattle.msrp_plan.specs.Plan.{PlanModel, core_of, task_at, task_of, release}
-use Rattle.msrp_plan.specs.Jobs.{jobs, jobs_of, jobs_on, job_at, is_job, is_row_of, same_job, is_started, is_finished}
+use Rattle.std.proofs.lemmas.Bool.{and_from, and_parts, true_from_ne_false, cases_Bool, eqb-false}
+use Rattle.msrp_plan.specs.Plan.{PlanModel, core_of, task_at, task_of}
+use Rattle.msrp_plan.specs.Jobs.{jobs, jobs_of, jobs_on, job_at, is_job, is_started, is_finished}
 use Rattle.msrp_plan.specs.Choice.{is_before}
 use Rattle.msrp_plan.specs.Blocking.{first_later}
 use Rattle.msrp_plan.specs.Runs.{EachAfter, IsLegal}
@@ -15,9 +15,9 @@ use Rattle.msrp_plan.proofs.Blocking.Heads.{job_on}
 use Rattle.msrp_plan.proofs.Jobs.CoreJobs.{on_its_core}
 use Rattle.msrp_plan.proofs.Lists.Members.{kept_by}
 use Rattle.msrp_plan.proofs.Blocking.Sound.{before_due, head_ready, sound_at}
-use Rattle.msrp_plan.proofs.Choosing.Live.{live, live_kept}
-use Rattle.msrp_plan.proofs.Choosing.Turns.{has_turn, later_waits, runs_live}
-use Rattle.msrp_plan.proofs.Jobs.JobTests.{is_job_is, same_is, same_self, some_is}
+use Rattle.msrp_plan.proofs.Choosing.Live.{live}
+use Rattle.msrp_plan.proofs.Choosing.Turns.{has_turn, later_waits, runs_live, none_some}
+use Rattle.msrp_plan.proofs.Jobs.JobTests.{is_job_is, same_self, some_is}
 use Rattle.msrp_plan.proofs.Jobs.Keys.{before_order, tied}
 use Rattle.msrp_plan.proofs.Legality.LegalRows.{legal_turn, turn_chosen}
 use Rattle.msrp_plan.proofs.Lists.LeastKept.{irrefl, least_in, least_of_those, least_passes, least_some}
@@ -25,7 +25,7 @@ use Rattle.msrp_core.specs.CoreJobs.{is_first}
 use Rattle.msrp_report.specs.Inside.Tallies.{AreTallies, IsFirstOf, IsKnown, NotBefore, is_going, is_later_going}
 use Rattle.msrp_report.specs.declared.tallies.TaskTally.{TaskTally}
 use Rattle.msrp_report.proofs.JobTallies.{in_task, job_known, number_within, of_task}
-use Rattle.msrp_report.proofs.LineJobs.{job_in}
+use Rattle.msrp_levels.proofs.PlanJobs.{job_in}
 use Rattle.msrp_core.proofs.Running.{known_task}
 
 -- ---- one job of a task is going at most
@@ -50,9 +50,6 @@ sole plan pre r i j going ok all legal job there task gi gj live_j other =
     ]
 
 -- ---- the first of the later jobs that are going
-none-some : (f : JobId) → None ≡ Some f → ⊥
-none-some f e = cc
-
 -- one task more, whose job isn't the first
 pub first_kept : (plan : PlanModel) (rows : List Row) (j : JobId) (n : ℕ) (o : Option JobId) → IsFirstOf plan rows j n o → ((i : JobId) → i.task.0 ≡ n → Contains (jobs_on plan (core_of plan j)) i → is_later_going plan rows j i ≡ true → NotBefore plan i o) → IsFirstOf plan rows j (n + 1) o
 first_kept plan rows j n o old here = record { known = old.known; least = λ i l there p. by_test i l there p (cases_Bool (i.task.0 == n)) }
@@ -106,7 +103,7 @@ on_plan plan c i there = (kept_by (λ k. core_of plan k == c) (jobs plan) i ther
 
 pub step_none : (plan : PlanModel) (rows : List Row) (begun : ℕ → ℕ) (tasks : List TaskTally) (x : TaskTally) (j : JobId) (n : ℕ) (o : Option JobId) → IsPlan plan → AreTallies plan rows begun tasks → slice_get tasks n ≡ Some x → x.going ≡ None → IsFirstOf plan rows j n o → IsFirstOf plan rows j (n + 1) o
 step_none plan rows begun tasks x j n o ok are has none old = first_kept plan rows j n o old (λ i at there p.
-    absurd (none-some i (sym none ∙ one_going plan rows begun tasks x n i ok are has at (on_plan plan (core_of plan j) i there) (and_parts (is_going plan rows i) (is_before plan j i) p).0)))
+    absurd (none_some i (sym none ∙ one_going plan rows begun tasks x n i ok are has at (on_plan plan (core_of plan j) i there) (and_parts (is_going plan rows i) (is_before plan j i) p).0)))
 
 pub step_core : (plan : PlanModel) (rows : List Row) (j : JobId) (n : ℕ) (o : Option JobId) → (task_at plan n).core ≢ core_of plan j → IsFirstOf plan rows j n o → IsFirstOf plan rows j (n + 1) o
 step_core plan rows j n o ne old = first_kept plan rows j n o old (λ i at there p. absurd (ne (ap (λ t. (task_at plan t).core) (sym at) ∙ on_its_core plan (core_of plan j) i there)))

@@ -1,12 +1,11 @@
 -- Where the jobs of a plan stand among what is kept of them.
 use Rattle.std.proofs.Common.{◌≡◌, ℕ, zero, suc, ◌<◌, ◌≤◌, ◌+◌, ◌-◌, ◌==◌, ◌&&◌, not, Bool, true, false, List, [], ◌∷◌, ◌++◌, Option, Some, None, refl, ap, sym, ◌∙◌, subst, arith, length, map, slice_get, get_or, nat_lt, ◌*◌, ◌^◌, cond, fold, filter, unwrap_or, mul_comm}
-use Rattle.std.specs.List.{AllByRecursion, Contains, flat_map, range_with_len}
-use Rattle.std.specs.Prelude.{slice_index_or}
+use Rattle.std.specs.List.{AllByRecursion, Contains, range_with_len}
 use Rattle.std.proofs.lemmas.List.Elements.{All-contains, All-from_recursion}
 use Rattle.std.proofs.lemmas.List.FromFn.{length-map-range_with_len, get_or-map-range_with_len}
 use Rattle.std.proofs.Math.Nat.{mul-le-mul_right, mul-le-mul_left}
 use Rattle.std.proofs.lemmas.Nat.{div_below}
-use Rattle.std.proofs.lemmas.Option.{slice_get_within, slice_get-get_or, slice_get_read}
+use Rattle.std.proofs.lemmas.Option.{slice_get_read}
 use Rattle.msrp_plan.specs.Plan.{PlanModel, core_of}
 use Rattle.msrp_plan.specs.Jobs.{jobs, jobs_of, jobs_on, job_at, is_row_of, is_started, is_finished}
 use Rattle.msrp_plan.specs.Choice.{is_before}
@@ -17,7 +16,7 @@ use Rattle.msrp_plan.specs.declared.ids.JobId.{JobId}
 use Rattle.msrp_plan.specs.declared.rows.Row.{Row}
 use Rattle.msrp_plan.proofs.Blocking.Heads.{job_on}
 use Rattle.msrp_plan.proofs.Jobs.JobLists.{jobs_of_are}
-use Rattle.msrp_plan.proofs.Lists.AnyAll.{all_weaker}
+use Rattle.msrp_plan.proofs.Lists.AnyAll.{all_weaker, all_flat}
 use Rattle.msrp_plan.proofs.Lists.LeastKept.{least_in}
 use Rattle.msrp_plan.proofs.Lists.Members.{kept_by}
 use Rattle.msrp_core.proofs.Running.{known_released, known_task}
@@ -26,23 +25,14 @@ use Rattle.msrp_report.specs.Lines.{last_tick}
 use Rattle.msrp_report.specs.declared.counts.JobCount.{JobCount}
 use Rattle.msrp_report.specs.declared.tallies.Tallies.{Tallies}
 use Rattle.msrp_report.proofs.JobCounts.{AreFew, counts_few, last_is}
-use Rattle.msrp_report.specs.Inside.Tallies.{AreTallies, HasTallied, IsBlocking, IsJobTally, IsKnown, IsTallyOf, IsTaskTally, ToldOf, WaitsFor}
+use Rattle.msrp_report.specs.Inside.Tallies.{AreTallies, HasTallied, IsBlocking, IsJobTally, IsKnown, IsTallyOf, ToldOf, WaitsFor}
 use Rattle.msrp_report.specs.declared.numbers.JobNumbers.{JobNumbers}
-use Rattle.msrp_report.specs.declared.tallies.Blocking.{Blocking}
 use Rattle.msrp_report.specs.declared.tallies.Blocking.TheVariants.{Over, By}
 use Rattle.msrp_report.specs.declared.tallies.JobTally.{JobTally}
 use Rattle.msrp_report.specs.declared.tallies.TaskTally.{TaskTally}
 use Rattle.msrp_report.proofs.Waiting.{waits_told}
 
 -- ---- a job of the plan
-both_ends : {X : Type 0} (P : X → Type 0) (xs ys : List X) → AllByRecursion P xs → AllByRecursion P ys → AllByRecursion P (xs ++ ys)
-both_ends P [] ys a b = b
-both_ends P (x ∷ xs) ys a b = (a.0, both_ends P xs ys a.1 b)
-
-pub all_flat : {X Y : Type 0} (P : Y → Type 0) (f : X → List Y) → ((x : X) → AllByRecursion P (f x)) → (xs : List X) → AllByRecursion P (flat_map f xs)
-all_flat P f each [] = tt
-all_flat P f each (x ∷ xs) = both_ends P (f x) (flat_map f xs) (each x) (all_flat P f each xs)
-
 numbered : (plan : PlanModel) (t a n : ℕ) → a + n ≤ length (jobs_of plan t) → AllByRecursion (λ x. x.k < length (jobs_of plan x.task.0)) (map (job_at t) (range_with_len a n))
 numbered plan t a zero h = tt
 numbered plan t a (suc n) h = (omega (arith, h), numbered plan t (a + 1) n (omega (arith, h)))

@@ -1,33 +1,31 @@
 -- The line of a task, job by job.
-use Rattle.std.proofs.Common.{◌≡◌, ℕ, zero, suc, ◌<◌, ◌≤◌, ◌+◌, Bool, true, false, cond, List, [], ◌∷◌, ◌++◌, refl, ap, sym, ◌∙◌, subst, arith, length, map, max, append-nil, inl, inr, eqb-true, eq-eqb, ◌==◌, nat_lt, Option, None, Some, Ok}
-use Rattle.std.specs.List.{list_any, filter, flat_map, range_with_len, AllByRecursion, Contains}
-use Rattle.std.specs.Prelude.{⊤}
+use Rattle.std.proofs.Common.{◌≡◌, ℕ, zero, suc, ◌<◌, ◌≤◌, ◌+◌, Bool, true, false, cond, List, [], ◌∷◌, ◌++◌, refl, ap, sym, ◌∙◌, subst, arith, length, map, max, append-nil, eqb-true, eq-eqb, ◌==◌, nat_lt}
+use Rattle.std.specs.List.{list_any, filter, range_with_len, AllByRecursion}
 use Rattle.std.proofs.Math.Bool.{true≢false}
-use Rattle.std.proofs.lemmas.Bool.{cases_Bool, eqb-false, false_from_ne_true}
+use Rattle.std.proofs.lemmas.Bool.{false_from_ne_true}
 use Rattle.std.proofs.lemmas.List.{map-append}
-use Rattle.std.proofs.lemmas.List.Elements.{Contains-append_left, Contains-append_right, filter-append}
-use Rattle.std.proofs.lemmas.List.FromFn.{length-map-range_with_len, get_or-map-range_with_len}
+use Rattle.std.proofs.lemmas.List.Elements.{filter-append}
+use Rattle.std.proofs.lemmas.List.FromFn.{length-map-range_with_len}
 use Rattle.std.proofs.lemmas.List.Sums.{sum_by_push, length-filter, count_by-le-length}
 use Rattle.msrp_plan.specs.Plan.{PlanModel, task_at, release}
-use Rattle.msrp_plan.specs.Jobs.{job_at, jobs_of, jobs, is_finished}
+use Rattle.msrp_plan.specs.Jobs.{job_at, jobs_of, is_finished}
 use Rattle.msrp_plan.specs.Levels.{greatest, uses}
 use Rattle.msrp_plan.specs.Bounds.{blocked_bound}
 use Rattle.msrp_plan.specs.Blocking.{blocked}
 use Rattle.msrp_plan.specs.Runs.{IsRun, IsRunStart}
 use Rattle.msrp_plan.specs.WellFormed.{IsPlan}
-use Rattle.msrp_plan.specs.declared.faults.Fault.{Fault}
 use Rattle.msrp_plan.specs.declared.ids.JobId.{JobId}
 use Rattle.msrp_plan.specs.declared.ids.TaskId.{TaskId}
 use Rattle.msrp_plan.specs.declared.rows.Row.{Row}
 use Rattle.msrp_plan.proofs.Blocking.Sections.{greatest_push, greatest_within}
 use Rattle.msrp_plan.proofs.Blocking.Bound.{bounded_blocking}
 use Rattle.msrp_plan.proofs.Jobs.JobLists.{jobs_of_are}
+use Rattle.msrp_levels.proofs.PlanJobs.{job_in}
 use Rattle.msrp_plan.proofs.Lists.Filters.{any_map}
 use Rattle.msrp_plan.proofs.Lists.AnyAll.{any_in, in_range}
 use Rattle.msrp_plan.proofs.Lists.Members.{any_from, in_filter, kept_by}
 use Rattle.msrp_plan.proofs.Lists.Ranges.{range_more}
 use Rattle.msrp_levels.specs.Users.{users}
-use Rattle.msrp_audit.specs.Audits.{answer_of}
 use Rattle.msrp_report.specs.Lines.{is_late, response, spins, longest_wait, task_spin_bound, line_over, line_of}
 use Rattle.msrp_report.specs.Inside.Numbers.{numbers_of}
 use Rattle.msrp_report.specs.Inside.Totals.{line_with}
@@ -80,20 +78,6 @@ jobs_few plan t =
     let d = length-map-range_with_len (job_at t) 0 plan.ticks in
     omega (arith, a, b, d)
 
-flat_in : (f : ℕ → List JobId) (t a m : ℕ) (x : JobId) → a ≤ t → t < a + m → Contains (f t) x → Contains (flat_map f (range_with_len a m)) x
-flat_in f t a zero x h l there = absurd (omega (arith, h, l))
-flat_in f t a (suc m) x h l there = elim (cases_Bool (a == t)) [
-  | inl same ↦ Contains-append_left (f a) (flat_map f (range_with_len (a + 1) m)) x (subst (λ n. Contains (f n) x) (sym (eqb-true a t same)) there)
-  | inr other ↦ let ne = eqb-false a t other in Contains-append_right (f a) (flat_map f (range_with_len (a + 1) m)) x (flat_in f t (a + 1) m x (omega (arith, h, ne)) (omega (arith, l)) there)
-]
-
-pub job_in : (plan : PlanModel) (t k : ℕ) → IsPlan plan → t < length plan.tasks → k < length (jobs_of plan t) → Contains (jobs plan) (job_at t k)
-job_in plan t k ok task l =
-    let n = length (jobs_of plan t) in
-    let size = length-map-range_with_len (job_at t) 0 n in
-    let own : Contains (map (job_at t) (range_with_len 0 n)) (job_at t k) = (k, omega (arith, size, l), get_or-map-range_with_len (job_at t) 0 n k k (job_at t k) l (omega arith)) in
-    flat_in (jobs_of plan) t 0 (length plan.tasks) (job_at t k) (omega arith) (omega (arith, task)) (subst (λ js. Contains js (job_at t k)) (sym (jobs_of_are plan ok t)) own)
-
 -- ---- the bounds
 -- what holds of each of the first numbers holds of the jobs so numbered
 each_job : (f : JobId → ℕ) (m t a n k : ℕ) → ((i : ℕ) → i < k → f (job_at t i) ≤ m) → a + n ≤ k → AllByRecursion (λ x. x ≤ m) (map f (map (job_at t) (range_with_len a n)))
@@ -135,10 +119,6 @@ user_is plan g t us l e =
     sym (any_map (λ (u : TaskId). u.0) (λ n. n == t) us) ∙ (ap (list_any (λ n. n == t)) e ∙ users_by (λ n. uses g (task_at plan n)) t (length plan.tasks) (uses g (task_at plan t)) l refl)
 
 -- ---- in loops
-pub bit_few : (b : Bool) → cond {A = ℕ} b 1 0 ≤ 1
-bit_few true = omega arith
-bit_few false = omega arith
-
 pub map_next : {X : Type 0} (f : ℕ → X) (n : ℕ) → map f (range_with_len 0 (n + 1)) ≡ map f (range_with_len 0 n) ++ f n ∷ []
 map_next f n = ap (map f) (range_next n) ∙ map-append f (range_with_len 0 n) (n ∷ [])
 

@@ -2,13 +2,11 @@
 use Rattle.std.proofs.Common.{◌≡◌, ℕ, ◌<◌, ◌≤◌, ◌+◌, ◌*◌, Bool, true, false, cond, List, [], ◌∷◌, ◌++◌, Option, Some, None, refl, ap, sym, ◌∙◌, subst, length, map, nat_lt, vec_capacity, take, drop, get_or}
 use Rattle.std.specs.Prelude.{⊤}
 use Rattle.std.specs.List.{All, range_with_len}
-use Rattle.std.specs.declared.result.Result.{Result}
 use Rattle.std.specs.declared.result.Result.TheVariants.{Ok, Err}
-use Rattle.std.proofs.Math.Bool.{true≢false}
 use Rattle.std.proofs.lemmas.Bool.{ltb-true}
 use Rattle.std.proofs.lemmas.List.{take-append-drop, take_all, take_more}
 use Rattle.std.proofs.lemmas.List.Elements.{All-from_recursion}
-use Rattle.msrp_audit.specs.Audits.{AuditorModel, HasFed, answer_of}
+use Rattle.msrp_audit.specs.Audits.{HasFed, answer_of}
 use Rattle.msrp_plan.specs.Plan.{PlanModel}
 use Rattle.msrp_plan.specs.Runs.{IsRun, IsRunStart}
 use Rattle.msrp_plan.specs.Verdict.{broken, fault_in, fault_or, verdict}
@@ -19,11 +17,10 @@ use Rattle.msrp_plan.specs.declared.faults.Rule.TheVariants.{A7}
 use Rattle.msrp_plan.specs.declared.rows.Row.{Row}
 use Rattle.msrp_plan.proofs.Runs.Verdicts.{early_is, fault_push, fault_stays, good_is_run, start_is_good, start_push, unbroken_is_legal}
 use Rattle.msrp_report.specs.Inside.Tallies.{HasTallied}
-use Rattle.msrp_report.specs.Lines.{line_of, lines_of}
+use Rattle.msrp_report.specs.Lines.{line_of}
 use Rattle.msrp_report.specs.Reports.{HasReported}
 use Rattle.msrp_report.specs.declared.lines.Line.{Line}
 use Rattle.msrp_report.specs.declared.reporter.Reporter.{Reporter}
-use Rattle.msrp_report.specs.declared.tallies.Tallies.{Tallies}
 use Rattle.msrp_report.proofs.LineJobs.{all_blocked_kept, run_starts, spins_kept}
 
 -- ---- a row without a fault goes on with the rows

@@ -1,15 +1,15 @@
 -- What is kept of the rows stays told by them, with one row more.
-use Rattle.std.proofs.Common.{◌≡◌, ◌≢◌, ℕ, ◌<◌, ◌≤◌, ◌+◌, ◌*◌, ◌/◌, ◌==◌, Bool, true, false, not, ◌&&◌, cond, List, [], ◌∷◌, ◌++◌, Option, Some, None, IfSome, refl, ap, sym, ◌∙◌, subst, arith, inl, inr, ◌⊎◌, length, length-append, slice_get, slice_set, nat_lt, eqb-true, mul_comm}
+use Rattle.std.proofs.Common.{◌≡◌, ◌≢◌, ℕ, ◌<◌, ◌≤◌, ◌+◌, ◌*◌, ◌/◌, ◌==◌, Bool, true, false, not, ◌&&◌, cond, List, [], ◌∷◌, ◌++◌, Some, None, IfSome, refl, ap, sym, ◌∙◌, subst, arith, inl, inr, ◌⊎◌, length, length-append, slice_get, slice_set, nat_lt, eqb-true, mul_comm}
 use Rattle.std.specs.List.{AllByRecursion, Contains}
 use Rattle.std.proofs.Math.Bool.{true≢false}
-use Rattle.std.proofs.lemmas.Bool.{cases_Bool, cases_lt, eqb-false, false_from_ne_true, lt-ltb, le-ltb, ltb-true, ltb-false, true_from_ne_false}
+use Rattle.std.proofs.lemmas.Bool.{cases_Bool, cases_lt, eqb-false, false_from_ne_true, ltb-true, ltb-false, true_from_ne_false}
 use Rattle.std.proofs.lemmas.List.{length-set}
 use Rattle.std.proofs.lemmas.Nat.{div_below, le-div}
 use Rattle.std.proofs.lemmas.Option.{slice_get_within, same_Some}
-use Rattle.msrp_plan.specs.Plan.{PlanModel, task_at, core_of, release, units}
-use Rattle.msrp_plan.specs.Jobs.{jobs, jobs_of, jobs_on, job_at, is_job, is_row_of, same_job, is_started, is_finished, done}
+use Rattle.msrp_plan.specs.Plan.{PlanModel, task_at, core_of, units}
+use Rattle.msrp_plan.specs.Jobs.{jobs, jobs_of, job_at, is_job, is_row_of, same_job, is_finished, done}
 use Rattle.msrp_plan.specs.Blocking.{blocked}
-use Rattle.msrp_plan.specs.Runs.{EachAfter, IsLegal, IsRunStart}
+use Rattle.msrp_plan.specs.Runs.{IsLegal, IsRunStart}
 use Rattle.msrp_plan.specs.Scheduling.{IsOfReleased}
 use Rattle.msrp_plan.specs.WellFormed.{IsPlan}
 use Rattle.msrp_plan.specs.declared.ids.JobId.{JobId}
@@ -33,17 +33,15 @@ use Rattle.msrp_report.specs.declared.tallies.TaskTally.{TaskTally}
 use Rattle.msrp_report.proofs.Going.{sole}
 use Rattle.msrp_report.proofs.JobCounts.{count_push, done_is}
 use Rattle.msrp_report.proofs.JobTallies.{in_task, of_task}
-use Rattle.msrp_report.proofs.LineJobs.{job_in}
+use Rattle.msrp_levels.proofs.PlanJobs.{job_in}
 use Rattle.msrp_report.proofs.TallySteps.{due_before}
 use Rattle.msrp_report.proofs.Waiting.{IsTimely, blocking_more, own_over, started_push}
+use Rattle.msrp_plan.proofs.Runs.Verdicts.{start_last}
 
 -- ---- ticks
-next_legal : (plan : PlanModel) (rows : List Row) (r : Row) → IsRunStart plan (rows ++ r ∷ []) → IsLegal plan rows r
-next_legal plan rows r start = each_at (IsLegal plan) [] rows r [] start.each
-
 -- its job is one of the plan
 pub row_in : (plan : PlanModel) (rows : List Row) (r : Row) (j : JobId) → IsRunStart plan (rows ++ r ∷ []) → r.job ≡ Some j → Contains (jobs plan) j
-row_in plan rows r j start job = (kept_by (λ i. core_of plan i == r.core.0) (jobs plan) j ((legal_turn plan rows r (next_legal plan rows r start)).known j job)).0
+row_in plan rows r j start job = (kept_by (λ i. core_of plan i == r.core.0) (jobs plan) j ((legal_turn plan rows r (start_last plan rows r start)).known j job)).0
 
 pub row_told : (plan : PlanModel) (rows : List Row) (r : Row) (j : JobId) (begun : ℕ) (tasks : List TaskTally) → IsPlan plan → AreTallies plan rows (λ _. begun) tasks → IsRunStart plan (rows ++ r ∷ []) → r.job ≡ Some j → ToldOf tasks j
 row_told plan rows r j begun tasks ok are start job = record { plan = plan; rows = rows; begun = λ _. begun; accepted = ok; tallies = are; known = row_in plan rows r j start job }
@@ -51,7 +49,7 @@ row_told plan rows r j begun tasks ok are start job = record { plan = plan; rows
 -- the next row stands in a tick of the plan
 pub tick_left : (plan : PlanModel) (rows : List Row) (r : Row) → IsPlan plan → IsRunStart plan (rows ++ r ∷ []) → r.tick < plan.ticks
 tick_left plan rows r ok start =
-    let tick = (legal_due plan rows r (next_legal plan rows r start)).tick in
+    let tick = (legal_due plan rows r (start_last plan rows r start)).tick in
     let more = length-append rows (r ∷ []) in
     let size = start.size in
     let comm : plan.cores * plan.ticks ≡ plan.ticks * plan.cores = mul_comm plan.cores plan.ticks in
@@ -62,7 +60,7 @@ tick_left plan rows r ok start =
 -- in one that has begun, or in the next
 pub tick_begun : (plan : PlanModel) (rows : List Row) (r : Row) (begun : ℕ) → HaveBegun plan rows begun → IsRunStart plan (rows ++ r ∷ []) → r.tick ≢ begun → begun ≡ r.tick + 1
 tick_begun plan rows r begun have start ne =
-    let tick = (legal_due plan rows r (next_legal plan rows r start)).tick in
+    let tick = (legal_due plan rows r (start_last plan rows r start)).tick in
     let least = have.least in
     let most = have.most in
     omega (arith, tick, least, most, ne)
@@ -70,7 +68,7 @@ tick_begun plan rows r begun have start ne =
 -- with it so many ticks have begun
 pub begun_push : (plan : PlanModel) (rows : List Row) (r : Row) (before begun : ℕ) → IsPlan plan → AllByRecursion (λ x. x.tick < before) rows → before ≤ begun → IsNextOf plan rows r begun → HaveBegun plan (rows ++ r ∷ []) begun
 begun_push plan rows r before begun ok early low next =
-    let legal = next_legal plan rows r next.start in
+    let legal = start_last plan rows r next.start in
     let due = (legal_due plan rows r legal).tick in
     let tick = next.tick in
     let cores = ok.draft.cores in
@@ -147,7 +145,7 @@ task_counted plan rows r begun i old new s n ok task next job is set told = reco
     mine = row_of_job r i job
 
     legal : IsLegal plan rows r
-    legal = next_legal plan rows r next.start
+    legal = start_last plan rows r next.start
 
     released : nat_lt i.k old.released ≡ true
     released = true_from_ne_false (nat_lt i.k old.released) (λ e.

@@ -1,16 +1,15 @@
 -- Before the first row.
-use Rattle.std.proofs.Common.{◌≡◌, ℕ, zero, suc, ◌<◌, ◌≤◌, ◌+◌, Bool, true, false, not, ◌&&◌, List, [], ◌∷◌, ◌++◌, Option, None, Some, refl, ap, sym, ◌∙◌, subst, arith, length, length-append, nat_lt, slice_get, IfSome}
+use Rattle.std.proofs.Common.{◌≡◌, ℕ, false, [], None, Some, refl, ap, sym, ◌∙◌, subst, arith, length, nat_lt, slice_get, IfSome}
 use Rattle.std.specs.List.{Contains}
 use Rattle.std.proofs.Math.Bool.{true≢false}
 use Rattle.std.proofs.lemmas.Bool.{le-ltb}
-use Rattle.std.proofs.lemmas.Option.{slice_get_within}
 use Rattle.msrp_plan.specs.Plan.{PlanModel}
 use Rattle.msrp_plan.specs.Jobs.{jobs_of, job_at, is_job}
 use Rattle.msrp_plan.specs.WellFormed.{IsPlan}
 use Rattle.std.proofs.lemmas.Nat.{div_below}
 use Rattle.msrp_plan.specs.declared.ids.JobId.{JobId}
 use Rattle.msrp_report.specs.Inside.Counts.{uncounted, count_of}
-use Rattle.msrp_report.specs.Inside.Tallies.{AreTallies, HasTallied, IsJobTally, IsTaskTally, due_tick}
+use Rattle.msrp_report.specs.Inside.Tallies.{HasTallied, IsJobTally, IsTaskTally, due_tick}
 use Rattle.msrp_report.specs.declared.tallies.Blocking.TheVariants.{Over}
 use Rattle.msrp_report.specs.declared.tallies.JobTally.{JobTally}
 use Rattle.msrp_report.specs.declared.tallies.TaskTally.{TaskTally}
@@ -19,13 +18,6 @@ use Rattle.msrp_report.specs.declared.tallies.Tallies.{Tallies}
 -- a job that isn't released
 abbrev pub untold : JobTally
 untold = record { count = uncounted; blocking = Over 0 }
-
--- an element more
-pub each_push : {X : Type 0} (P : ℕ → X → Type 0) (xs : List X) (y : X) → ((k : ℕ) (x : X) → slice_get xs k ≡ Some x → P k x) → P (length xs) y → (k : ℕ) (x : X) → slice_get (xs ++ y ∷ []) k ≡ Some x → P k x
-each_push P [] y old new zero x h = let s : y ≡ x = cc in subst (P 0) s new
-each_push P [] y old new (suc k) x h = absurd (cc)
-each_push P (z ∷ xs) y old new zero x h = old 0 x h
-each_push P (z ∷ xs) y old new (suc k) x h = each_push (λ n. P (suc n)) xs y (λ n. old (suc n)) (subst (λ n. P n y) (omega arith) new) k x h
 
 pub job_untold : (plan : PlanModel) (j : JobId) → IsJobTally plan [] false j untold
 unfolding count_of

@@ -1,36 +1,26 @@
 -- What is kept of the rows stays told by them, release by release and row by row.
-use Rattle.std.proofs.Common.{◌≡◌, ◌≢◌, ℕ, ◌<◌, ◌≤◌, ◌+◌, ◌*◌, ◌/◌, ◌==◌, Bool, true, false, not, ◌&&◌, ◌||◌, cond, List, [], ◌∷◌, ◌++◌, Option, Some, None, IfSome, IsSome, refl, ap, sym, ◌∙◌, subst, arith, inl, inr, ◌⊎◌, length, length-append, slice_get, slice_set, get_or, nat_lt, map, unwrap_or, eqb-true}
+use Rattle.std.proofs.Common.{◌≡◌, ◌≢◌, ℕ, ◌<◌, ◌≤◌, ◌+◌, ◌==◌, true, false, cond, List, Option, Some, None, IfSome, IsSome, refl, ap, sym, ◌∙◌, subst, arith, inl, inr, ◌⊎◌, length, slice_get, slice_set, get_or, nat_lt, unwrap_or, eqb-true}
 use Rattle.std.specs.List.{AllByRecursion, Contains}
 use Rattle.std.proofs.Math.Bool.{true≢false}
-use Rattle.std.proofs.Math.Nat.{mul-le-mul_right}
-use Rattle.std.proofs.lemmas.Bool.{cases_Bool, cases_lt, eqb-false, false_from_ne_true, le-ltb, lt-ltb, ltb-true, ltb-false, true_from_ne_false}
+use Rattle.std.proofs.lemmas.Bool.{cases_Bool, cases_lt, eqb-false, le-ltb, lt-ltb}
 use Rattle.std.proofs.lemmas.List.{length-set}
 use Rattle.std.proofs.lemmas.Option.{slice_get_within, slice_get_read, same_Some}
-use Rattle.msrp_plan.specs.Plan.{PlanModel, task_at, core_of, release, release_tick}
-use Rattle.msrp_plan.specs.Jobs.{jobs, jobs_of, jobs_on, job_at, is_job, is_row_of, same_job, is_started, is_finished}
-use Rattle.msrp_plan.specs.Blocking.{blocked, first_later}
-use Rattle.msrp_plan.specs.Runs.{EachAfter, IsLegal, IsRunStart}
+use Rattle.msrp_plan.specs.Plan.{PlanModel, task_at, release, release_tick}
+use Rattle.msrp_plan.specs.Jobs.{jobs, jobs_of, job_at, is_job}
+use Rattle.msrp_plan.specs.Blocking.{first_later}
 use Rattle.msrp_plan.specs.WellFormed.{IsPlan}
 use Rattle.msrp_plan.specs.declared.ids.JobId.{JobId}
 use Rattle.msrp_plan.specs.declared.rows.Row.{Row}
-use Rattle.msrp_plan.proofs.Choosing.Live.{live_kept}
-use Rattle.msrp_plan.proofs.Jobs.JobTests.{is_job_is, one_job, row_of_job, same_is, same_self, some_is}
 use Rattle.msrp_plan.proofs.Jobs.Releases.{releases_rise, task_times}
-use Rattle.msrp_plan.proofs.Legality.LegalRows.{legal_due, legal_turn}
-use Rattle.msrp_plan.proofs.Lists.AnyAll.{all_push, all_weaker}
-use Rattle.msrp_plan.proofs.Lists.Prefixes.{each_at, each_before}
-use Rattle.msrp_plan.proofs.Blocking.Heads.{job_on}
-use Rattle.msrp_plan.proofs.Scheduling.Released.{runs_released}
 use Rattle.msrp_audit.proofs.Standing.{get_set_same, get_set_other}
-use Rattle.msrp_report.specs.Inside.Counts.{counted, count_of}
-use Rattle.msrp_report.specs.Inside.Tallies.{AreTallies, HaveBegun, IsBlocking, IsJobTally, IsNextOf, IsOver, IsTaskTally, begun_below, blocking_by, due_tick, is_going}
+use Rattle.msrp_report.specs.Inside.Tallies.{AreTallies, IsBlocking, IsJobTally, IsOver, IsTaskTally, begun_below, blocking_by, due_tick}
 use Rattle.msrp_report.specs.declared.tallies.Blocking.{Blocking}
 use Rattle.msrp_report.specs.declared.tallies.Blocking.TheVariants.{Over, By}
 use Rattle.msrp_report.specs.declared.tallies.JobTally.{JobTally}
 use Rattle.msrp_report.specs.declared.tallies.TaskTally.{TaskTally}
-use Rattle.msrp_report.proofs.JobTallies.{in_task, job_known}
-use Rattle.msrp_report.proofs.LineJobs.{job_in}
-use Rattle.msrp_report.proofs.Waiting.{IsTimely, blocking_more, own_over, released_by}
+use Rattle.msrp_report.proofs.JobTallies.{job_known}
+use Rattle.msrp_report.proofs.Waiting.{released_by}
+use Rattle.msrp_levels.proofs.PlanJobs.{job_in}
 
 -- ---- the releases of a task
 tick_is : (plan : PlanModel) (t k : ℕ) → IsSome (release_tick plan (job_at t k)) → release_tick plan (job_at t k) ≡ Some (release plan (job_at t k))

@@ -1,14 +1,14 @@
 -- How long a job is blocked, told at its release and at its start.
-use Rattle.std.proofs.Common.{◌≡◌, ℕ, ◌<◌, ◌≤◌, ◌+◌, ◌-◌, Bool, true, false, not, ◌&&◌, ◌||◌, cond, List, [], ◌∷◌, ◌++◌, Option, Some, None, refl, ap, sym, ◌∙◌, subst, arith, count_by, append_assoc, append-nil, add-zero}
-use Rattle.std.specs.List.{AllByRecursion, Contains, list_any}
+use Rattle.std.proofs.Common.{◌≡◌, ℕ, ◌<◌, ◌≤◌, ◌+◌, ◌-◌, Bool, true, false, not, ◌&&◌, ◌||◌, cond, List, [], ◌∷◌, ◌++◌, Option, Some, None, refl, ap, sym, ◌∙◌, subst, arith, count_by, append_assoc, append-nil}
+use Rattle.std.specs.List.{AllByRecursion, Contains}
 use Rattle.std.proofs.Math.Bool.{true≢false}
 use Rattle.std.proofs.lemmas.List.Sums.{sum_by-append, sum_by-cons}
-use Rattle.std.proofs.lemmas.Bool.{true_from_ne_false, false_from_ne_true}
-use Rattle.msrp_plan.specs.Plan.{PlanModel, core_of, release}
-use Rattle.msrp_plan.specs.Jobs.{jobs, is_row_of, is_job, is_started}
-use Rattle.msrp_plan.specs.Blocking.{blocks, blocked, count_after, first_later, is_by, is_later, ComesBefore, ComesAfter}
+use Rattle.std.proofs.lemmas.Bool.{false_from_ne_true}
+use Rattle.msrp_plan.specs.Plan.{PlanModel, release}
+use Rattle.msrp_plan.specs.Jobs.{jobs, is_row_of, is_started}
+use Rattle.msrp_plan.specs.Blocking.{blocks, blocked, count_after, first_later, is_by, ComesBefore, ComesAfter}
 use Rattle.msrp_plan.specs.Choice.{is_before}
-use Rattle.msrp_plan.specs.Runs.{EachAfter, IsLegal, IsRunStart}
+use Rattle.msrp_plan.specs.Runs.{IsLegal, IsRunStart}
 use Rattle.msrp_plan.specs.WellFormed.{IsPlan}
 use Rattle.msrp_plan.specs.declared.ids.JobId.{JobId}
 use Rattle.msrp_plan.specs.declared.rows.Row.{Row}
@@ -16,7 +16,7 @@ use Rattle.msrp_plan.proofs.Blocking.FromRelease.{blocked_since_release, started
 use Rattle.msrp_plan.proofs.Blocking.Heads.{blocking_row}
 use Rattle.msrp_plan.proofs.Blocking.Sound.{unstarted}
 use Rattle.msrp_plan.proofs.Blocking.SectionRows.{count_after_push}
-use Rattle.msrp_plan.proofs.Jobs.JobTests.{is_job_is, some_is}
+use Rattle.msrp_plan.proofs.Jobs.JobTests.{some_is}
 use Rattle.msrp_plan.proofs.Jobs.Keys.{before_order}
 use Rattle.msrp_plan.proofs.Lists.AnyAll.{all_push, any_push}
 use Rattle.std.proofs.lemmas.Bool.{or_parts}

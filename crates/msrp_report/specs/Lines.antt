@@ -1,6 +1,6 @@
 -- What a report says of each task: counts over the rows of a trace, and beside them the bounds that the plan gives. (The
 -- survey of Davis and Burns 2011 has the words: response time, spin delay, blocking.)
-use Rattle.std.specs.Prelude.{ℕ, List, [], ◌∷◌, Bool, ◌&&◌, cond, nat_lt, nat_le, filter, fold, map, max, count_by, length, ◌+◌, ◌-◌}
+use Rattle.std.specs.Prelude.{ℕ, List, [], ◌∷◌, Bool, ◌&&◌, nat_lt, nat_le, filter, fold, map, max, count_by, length, ◌+◌, ◌-◌, if◌then◌else◌}
 use Rattle.std.specs.List.{sum_by, range_with_len}
 use Rattle.msrp_plan.specs.Plan.{PlanModel, TaskModel, task_at, key, release}
 use Rattle.msrp_plan.specs.Shape.{is_queue}
@@ -25,11 +25,11 @@ due_tick plan j = (key plan j).deadline
 
 -- from the job's release to the end of its last action; 0 where it isn't finished
 abbrev pub response : PlanModel → List Row → JobId → ℕ
-response plan rows j = cond (is_finished plan rows j) ((last_tick j rows + 1) - release plan j) 0
+response plan rows j = if is_finished plan rows j then (last_tick j rows + 1) - release plan j else 0
 
 -- the job finished after its absolute deadline; or it isn't finished, and its absolute deadline isn't after the last tick
 abbrev pub is_late : PlanModel → List Row → JobId → Bool
-is_late plan rows j = cond (is_finished plan rows j) (nat_lt (due_tick plan j) (last_tick j rows + 1)) (nat_le (due_tick plan j) plan.ticks)
+is_late plan rows j = if is_finished plan rows j then nat_lt (due_tick plan j) (last_tick j rows + 1) else nat_le (due_tick plan j) plan.ticks
 
 -- ---- spinning
 -- the row in which the job joins a queue, and the one in which it is granted what it waits for
@@ -46,13 +46,13 @@ spins rows j = count_by (is_spin_of j) rows
 -- how often it spins up to its next grant, or to the end
 abbrev pub spins_to_grant : JobId → List Row → ℕ
 spins_to_grant j [] = 0
-spins_to_grant j (r ∷ rows) = cond (is_granted j r) 0 (cond (is_spin_of j r) 1 0 + spins_to_grant j rows)
+spins_to_grant j (r ∷ rows) = if is_granted j r then 0 else (if is_spin_of j r then 1 else 0) + spins_to_grant j rows
 
 -- how often it spins in one wait, from the row in which it joins the queue to its grant or to the end, at most; 0 where
 -- it never waits
 abbrev pub longest_wait : JobId → List Row → ℕ
 longest_wait j [] = 0
-longest_wait j (r ∷ rows) = max (cond (is_queue_of j r) (spins_to_grant j rows) 0) (longest_wait j rows)
+longest_wait j (r ∷ rows) = max (if is_queue_of j r then spins_to_grant j rows else 0) (longest_wait j rows)
 
 -- ---- bounds
 -- how often a job of the task spins in one wait, at most: the greatest bound of the global resources that it locks; 0

@@ -55,19 +55,3 @@ pub fn report(alloc: Global, plan: &Plan, trace: &Trace) -> Result<Report, Repor
         Err(fault) => Err(ReportError::G1(fault)),
     }
 }
-
-/// The report of a legal run of the plan: a line for each task, in their order. It is [`Memory`] only where memory was
-/// refused, since a legal run has no fault.
-pub fn run_report(alloc: Global, plan: &Plan, run: &Trace) -> Result<Report, Memory>
-    requires { IsRun plan.now run.now.rows.items }
-    // Each number is its count over the rows, or the bound that the plan gives.
-    ensures lines { IfOk result (λ report. report.lines.items ≡ lines_of plan.now run.now.rows.items) }
-    // What was counted keeps the bounds.
-    ensures spinning { IfOk result (λ report. All (λ line. line.worst_spin ≤ line.spin_bound) report.lines.items) }
-    ensures blocking { IfOk result (λ report. All (λ line. line.worst_blocked ≤ line.blocked_bound) report.lines.items) }
-{
-    match report(alloc, plan, run) {
-        Ok(report) => Ok(report),
-        Err(_) => Err(Memory),
-    }
-}

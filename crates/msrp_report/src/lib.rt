@@ -13,7 +13,7 @@ mod tests;
 mod totals;
 mod writing;
 
-pub use judging::{ReportError, report, run_report};
+pub use judging::{ReportError, report};
 pub use lines::{Line, Report};
 pub use reporter::Reporter;
 pub use writing::write_report;

@@ -1,13 +1,18 @@
 //! Audits of texts: worked traces, each with a record changed, and readers and writers that fail.
 
 use crate::audit::audit_text;
+use crate::engine::sim_text;
 use crate::faults::CliFault;
+use crate::parallel::audit_parallel_text;
+use msrp_plan::TextVersion;
 use msrp_plan::bytes::{Sink, Source};
+use msrp_sim::Order;
 use std::alloc::{AllocError, Global};
 use std::io;
 use std::io::{ErrorKind, Read, Write};
 use std::process::Abort;
 use std::test::Fail;
+use std::thread::Threads;
 
 // Two cores and a global resource, handed over within a tick.
 const PLAN: &str =
@@ -21,26 +26,50 @@ const AHEAD: &str = "msrp-trace,2,2,6\n0,0,take,a,0,g,-\n0,1,queue,b,0,g,";
 
 const GOOD: &str = "good\n";
 
-// The answer to a plan and a trace, with what was written.
-fn answer_from<T: Read + Drop>(alloc: Global, trace: T) -> (Result<u8, CliFault>, Vec<u8>) {
+// The answer to a plan and a trace, with what was written: that of an audit in pieces is the same.
+fn answer_to<R: Abort + Threads + Sync, T: Read + Copy>(
+    rt: &R,
+    alloc: Global,
+    plan: &str,
+    trace: T,
+) -> (Result<u8, CliFault>, Vec<u8>) {
     let mut written = Vec::new(alloc);
-    let mut plan = Source::new(PLAN.as_bytes());
-    let mut trace = Source::new(trace);
+    let mut source = Source::new(plan.as_bytes());
+    let mut rows = Source::new(trace);
     let mut out = Sink::new(&mut written);
-    let answer = audit_text(alloc, &mut plan, &mut trace, &mut out);
+    let answer = audit_text(alloc, &mut source, &mut rows, &mut out);
+    let mut in_pieces = Vec::new(alloc);
+    let mut source = Source::new(plan.as_bytes());
+    let mut rows = Source::new(trace);
+    let mut out = Sink::new(&mut in_pieces);
+    let other = audit_parallel_text(rt, alloc, &mut source, &mut rows, &mut out);
+    assert!(rt; other == answer);
+    assert!(rt; in_pieces.as_slice() == written.as_slice());
     (answer, written)
 }
 
 // Expects that verdict on a trace, with its status.
-fn expect_verdict(rt: &impl Abort, alloc: Global, trace: &str, status: u8, line: &str) {
-    let (answer, written) = answer_from(alloc, trace.as_bytes());
+fn expect_verdict<R: Abort + Threads + Sync>(
+    rt: &R,
+    alloc: Global,
+    trace: &str,
+    status: u8,
+    line: &str,
+) {
+    let (answer, written) = answer_to(rt, alloc, PLAN, trace.as_bytes());
     assert!(rt; answer == Ok(status), "{line}");
     assert!(rt; written.as_slice() == line.as_bytes(), "{line}");
 }
 
 // Expects that a trace is refused by that code at that record.
-fn expect_refusal(rt: &impl Abort, alloc: Global, trace: &str, code: u32, number: u32) {
-    let (answer, written) = answer_from(alloc, trace.as_bytes());
+fn expect_refusal<R: Abort + Threads + Sync>(
+    rt: &R,
+    alloc: Global,
+    trace: &str,
+    code: u32,
+    number: u32,
+) {
+    let (answer, written) = answer_to(rt, alloc, PLAN, trace.as_bytes());
     assert!(rt; answer == Err(CliFault::Trace { code, number }), "R{code}");
     assert!(rt; written.is_empty(), "R{code}");
 }
@@ -139,18 +168,15 @@ fn a_fault_before_a_refused_record(rt: HostRuntime) -> Result<(), Fail> {
 #[test]
 fn a_refused_plan(rt: HostRuntime) {
     for trace in [TRACE, "", "x"] {
-        let mut written = Vec::new(rt.alloc());
-        let mut plan = Source::new("msrp,1\ncores,9\n".as_bytes());
-        let mut trace = Source::new(trace.as_bytes());
-        let mut out = Sink::new(&mut written);
-        let answer = audit_text(rt.alloc(), &mut plan, &mut trace, &mut out);
+        let plan = "msrp,1\ncores,9\n";
+        let (answer, written) = answer_to(&rt, rt.alloc(), plan, trace.as_bytes());
         assert!(rt; answer == Err(CliFault::Plan { code: 7, number: 2 }));
         assert!(rt; written.is_empty());
     }
 }
 
 // Gives its text, at most so many bytes a call, and fails at its end.
-#[derive(Drop)]
+#[derive(Clone, Copy)]
 struct Broken<'a> {
     text: &'a [u8],
     most: usize,
@@ -181,12 +207,12 @@ fn a_read_that_fails(rt: HostRuntime) -> Result<(), Fail> {
     for most in [1, 7, 8192] {
         for bytes in 0..TRACE.len() {
             let text = &TRACE.as_bytes()[..bytes];
-            let (answer, written) = answer_from(rt.alloc(), Broken { text, most });
+            let (answer, written) = answer_to(&rt, rt.alloc(), PLAN, Broken { text, most });
             assert!(rt; answer == Err(CliFault::Read), "{bytes}");
             assert!(rt; written.is_empty(), "{bytes}");
         }
         let text = &faulty.as_str().as_bytes()[..after];
-        let (answer, written) = answer_from(rt.alloc(), Broken { text, most });
+        let (answer, written) = answer_to(&rt, rt.alloc(), PLAN, Broken { text, most });
         assert!(rt; answer == Ok(1), "{most}");
         assert!(rt; written.as_slice() == "fault,6,A5\n".as_bytes(), "{most}");
     }
@@ -215,26 +241,72 @@ impl Write for Narrow {
     }
 }
 
+// The answer to a trace by either engine, with what a writer with this much room took.
+fn answer_in<R: Threads + Sync>(
+    rt: &R,
+    alloc: Global,
+    trace: &str,
+    parallel: bool,
+    room: usize,
+) -> (Result<u8, CliFault>, Vec<u8>) {
+    let taken = Vec::new(alloc);
+    let mut narrow = Narrow { taken, room };
+    let mut plan = Source::new(PLAN.as_bytes());
+    let mut trace = Source::new(trace.as_bytes());
+    let mut out = Sink::new(&mut narrow);
+    let answer = if parallel {
+        audit_parallel_text(rt, alloc, &mut plan, &mut trace, &mut out)
+    } else {
+        audit_text(alloc, &mut plan, &mut trace, &mut out)
+    };
+    (answer, narrow.taken)
+}
+
 #[test]
 fn each_write_fails_in_turn(rt: HostRuntime) {
     for (trace, status, line) in [(TRACE, 0, GOOD), ("msrp-trace,1,2,6\n", 1, "fault,1,A6\n")] {
         for room in 0..=line.len() {
-            let taken = Vec::new(rt.alloc());
-            let mut narrow = Narrow { taken, room };
-            let mut plan = Source::new(PLAN.as_bytes());
-            let mut trace = Source::new(trace.as_bytes());
-            let mut out = Sink::new(&mut narrow);
-            let answer = audit_text(rt.alloc(), &mut plan, &mut trace, &mut out);
             let due = if room < line.len() {
                 Err(CliFault::Write)
             } else {
                 Ok(status)
             };
-            assert!(rt; answer == due, "room {room}");
-            assert!(rt;
-                narrow.taken.as_slice() == &line.as_bytes()[..room],
-                "room {room}"
-            );
+            for parallel in [false, true] {
+                let (answer, taken) = answer_in(&rt, rt.alloc(), trace, parallel, room);
+                assert!(rt; answer == due, "room {room}");
+                assert!(rt; taken.as_slice() == &line.as_bytes()[..room], "room {room}");
+            }
         }
     }
+}
+
+// Eight cores share a resource for as many ticks as a trace of 24,000 rows has.
+#[test]
+fn a_long_trace(rt: HostRuntime) -> Result<(), Fail> {
+    let mut plan = String::from_str(rt.alloc(), "msrp,1\ncores,8\nticks,3000\nresource,g\n")?;
+    for core in 0..8 {
+        let task = format!(in rt.alloc();
+            "task,t{core},{core},30,30,{core}\nop,lock,g\nop,run,2\nop,unlock,g\n"
+        )?;
+        plan.push_str(task.as_str())?;
+    }
+    let mut trace = Vec::new(rt.alloc());
+    let mut source = Source::new(plan.as_bytes());
+    let mut out = Sink::new(&mut trace);
+    let simulated = sim_text(
+        rt.alloc(),
+        &mut source,
+        &mut out,
+        &Order::Rot,
+        TextVersion::V2,
+    );
+    assert!(rt; simulated == Ok(0));
+    let (answer, written) = answer_to(&rt, rt.alloc(), plan.as_str(), trace.as_slice());
+    assert!(rt; answer == Ok(0));
+    assert!(rt; written.as_slice() == GOOD.as_bytes());
+    trace.extend_from_slice(b"2999,7,idle,-,-,-,-\n")?;
+    let (answer, written) = answer_to(&rt, rt.alloc(), plan.as_str(), trace.as_slice());
+    assert!(rt; answer == Ok(1));
+    assert!(rt; written.as_slice() == b"fault,24001,A7\n".as_slice());
+    Ok(())
 }

@@ -1,5 +1,5 @@
 -- What the rows tell of one job, row by row.
-use Rattle.std.specs.Prelude.{ℕ, List, Option, Some, None, cond, not, filter, fold, max, unwrap_or, ◌+◌, ◌^◌, ◌<◌, ⊤}
+use Rattle.std.specs.Prelude.{ℕ, List, Option, Some, None, not, filter, fold, max, unwrap_or, ◌+◌, ◌^◌, ◌<◌, ⊤, if◌then◌else◌}
 use Rattle.msrp_plan.specs.Jobs.{is_row_of, is_waiting}
 use Rattle.msrp_plan.specs.Laws.{is_spin}
 use Rattle.msrp_plan.specs.declared.ids.JobId.{JobId}
@@ -28,9 +28,9 @@ uncounted = record { rows = 0; done = 0; last_tick = 0; spins = 0; wait = None; 
 abbrev pub counted : Row → JobCount → JobCount
 counted r c = record {
   rows = c.rows + 1;
-  done = c.done + cond (not (is_waiting r.kind)) 1 0;
+  done = c.done + (if not (is_waiting r.kind) then 1 else 0);
   last_tick = r.tick;
-  spins = c.spins + cond (is_spin r.kind) 1 0;
+  spins = c.spins + (if is_spin r.kind then 1 else 0);
   wait = wait_with r.kind c.wait;
   longest_wait = max c.longest_wait (unwrap_or (wait_with r.kind c.wait) 0);
 }

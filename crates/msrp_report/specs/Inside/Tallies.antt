@@ -1,5 +1,5 @@
 -- What is kept of each job while the rows come, and what it says of the rows so far.
-use Rattle.std.specs.Prelude.{ℕ, List, ◌∷◌, [], ◌++◌, Bool, true, false, not, ◌&&◌, nat_lt, cond, Option, Some, None, IfSome, IsSome, length, slice_get, ◌≡◌, ◌<◌, ◌≤◌, ◌+◌, ◌/◌}
+use Rattle.std.specs.Prelude.{ℕ, List, ◌∷◌, [], ◌++◌, Bool, true, false, not, ◌&&◌, nat_lt, Option, Some, None, IfSome, IsSome, length, slice_get, ◌≡◌, ◌<◌, ◌≤◌, ◌+◌, ◌/◌, if◌then◌else◌}
 use Rattle.std.specs.List.{AllByRecursion, Contains}
 use Rattle.msrp_plan.specs.Plan.{PlanModel, core_of, release, release_tick}
 use Rattle.msrp_plan.specs.Choice.{is_before}
@@ -8,7 +8,6 @@ use Rattle.msrp_plan.specs.Blocking.{blocked, first_later, ComesBefore, ComesAft
 use Rattle.msrp_plan.specs.Runs.{IsRunStart}
 use Rattle.msrp_plan.specs.WellFormed.{IsPlan}
 use Rattle.msrp_plan.specs.declared.ids.JobId.{JobId}
-use Rattle.msrp_plan.specs.declared.ids.TaskId.{TaskId}
 use Rattle.msrp_plan.specs.declared.rows.Row.{Row}
 use Rattle.msrp_report.specs.Inside.Counts.{count_of}
 use Rattle.msrp_report.specs.declared.tallies.Blocking.{Blocking}
@@ -56,7 +55,7 @@ is_going plan rows j = is_started rows j && not (is_finished plan rows j)
 
 -- the tick of the k-th release of a task, or the plan's end where it has no such job
 abbrev pub due_tick : PlanModel → ℕ → ℕ → ℕ
-due_tick plan t k = cond (nat_lt k (length (jobs_of plan t))) (release plan (job_at t k)) plan.ticks
+due_tick plan t k = if nat_lt k (length (jobs_of plan t)) then release plan (job_at t k) else plan.ticks
 
 -- what is kept of task t, where so many ticks have begun for it: its first jobs are released, and of the others the first is due
 pub record IsTaskTally (plan : PlanModel) (rows : List Row) (begun t : ℕ) (x : TaskTally) : Type 0 where
@@ -135,7 +134,7 @@ pub record IsFirstOf (plan : PlanModel) (rows : List Row) (j : JobId) (n : ℕ) 
 -- ---- the releases of a tick
 -- the next tick has begun for the tasks below the n-th
 abbrev pub begun_below : ℕ → ℕ → ℕ → ℕ
-begun_below begun n t = cond (nat_lt t n) (begun + 1) begun
+begun_below begun n t = if nat_lt t n then begun + 1 else begun
 
 -- all rows stand in ticks that have begun
 pub record HasReleased (plan : PlanModel) (rows : List Row) (n : ℕ) (t : Tallies) : Type 0 where

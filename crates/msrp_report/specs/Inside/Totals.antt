@@ -1,13 +1,13 @@
 -- The line of a task, job by job.
-use Rattle.std.specs.Prelude.{cond, max, ◌+◌, ◌^◌, ◌<◌}
+use Rattle.std.specs.Prelude.{max, ◌+◌, ◌^◌, ◌<◌, if◌then◌else◌}
 use Rattle.msrp_report.specs.declared.lines.Line.{Line}
 use Rattle.msrp_report.specs.declared.numbers.JobNumbers.{JobNumbers}
 
 -- one job more
 abbrev pub line_with : JobNumbers → Line → Line
 line_with n l = record l {
-  finished = l.finished + cond n.finished 1 0;
-  late = l.late + cond n.late 1 0;
+  finished = l.finished + (if n.finished then 1 else 0);
+  late = l.late + (if n.late then 1 else 0);
   worst_response = max l.worst_response n.response;
   spin = l.spin + n.spins;
   worst_spin = max l.worst_spin n.longest_wait;

@@ -1,10 +1,8 @@
-use Rattle.std.proofs.Common.{rules, ◌≡◌, ◌⊎◌, Err}
-use Rattle.msrp_plan.specs.Plan.{PlanModel}
+use Rattle.std.proofs.Common.{rules, ◌≡◌, Err}
 use Rattle.msrp_text.specs.Reading.{csv_records}
 use Rattle.msrp_trace.specs.Reading.{rows_of}
-use Rattle.msrp.specs.Findings.{finding}
 use Rattle.msrp.specs.Outcomes.{trace_fault_of}
-use Rattle.msrp.specs.declared.faults.CliFault.TheVariants.{Read, Memory}
+use Rattle.msrp.specs.declared.faults.CliFault.TheVariants.{Read}
 use Rattle.msrp.proofs.Judging.{opened, unopened}
 use Rattle.msrp.proofs.audit.judge_all.Goals as goal
 

@@ -1,8 +1,6 @@
-use Rattle.std.proofs.Common.{rules, ◌≡◌, ◌⊎◌, ◌++◌, ◌∷◌, [], ◌+◌, ◌<◌, ◌*◌, List, Some, None, Ok, Err, length, refl, ap, sym, subst, ◌∙◌, inl, inr, length-append}
-use Rattle.msrp_audit.specs.Audits.{HasFed, answer_of}
+use Rattle.std.proofs.Common.{rules, ◌≡◌, ◌⊎◌, ◌++◌, ◌∷◌, [], ◌+◌, ◌<◌, ◌*◌, Ok, Err, length, refl, ap, sym, subst, ◌∙◌, inr, length-append}
 use Rattle.msrp_plan.specs.Plan.{PlanModel}
-use Rattle.msrp_plan.specs.Verdict.{fault_in, verdict}
-use Rattle.msrp_trace.specs.Readers.{told_left}
+use Rattle.msrp_plan.specs.Verdict.{fault_in}
 use Rattle.msrp.specs.Findings.{finding}
 use Rattle.msrp.specs.Outcomes.{trace_fault_of}
 use Rattle.msrp.specs.declared.faults.CliFault.TheVariants.{Read, Memory}
@@ -24,7 +22,7 @@ returns-in-Err-clause-found g c = λ told known.
     let i = c.loop-row.invariant in
     let more = read-row told i.0 _ _ c.next_row.result c.in-Some.row (i.4 told known) c.next_row.ensures.next (cc) in
     let fault = fault-answer _ c.in-Err.fault (c.in-Err.ensures.answer i.0 i.2) in
-    inr (inr (subst (λ (p : PlanModel). Ok (Err c.in-Err.fault) ≡ finding p told) i.1 (sym (fault-found c.loop-row.auditor.plan told (i.0 ++ c.in-Some.row ∷ []) _ c.in-Err.fault more fault))))
+    inr (inr (subst (λ (p : PlanModel). Ok (Err c.in-Err.fault) ≡ finding p told) i.1 (sym (fault-found c.loop-row.auditor.plan told (i.0 ++ c.in-Some.row ∷ []) _ c.in-Err.fault more.whole fault))))
 
 pub loop-row-smaller : goal.loop-row-smaller
 loop-row-smaller g c =

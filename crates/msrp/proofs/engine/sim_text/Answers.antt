@@ -1,4 +1,4 @@
-use Rattle.std.proofs.Common.{rules, ◌≡◌, ◌∙◌, ap, sym, subst, arith, inl, inr}
+use Rattle.std.proofs.Common.{rules, ◌≡◌, subst, arith, inr}
 use Rattle.msrp_plan.specs.Scheduling.{IsOrder}
 use Rattle.msrp_sim.specs.Orders.{cores_of}
 use Rattle.msrp.specs.Simulation.{Simulated, WritesRun, sim_status}

@@ -1,7 +1,5 @@
-use Rattle.std.proofs.Common.{◌≡◌, ◌∙◌, ◌+◌, ◌*◌, ◌<◌, true, List, [], ◌∷◌, ◌++◌, ap, refl, sym, subst, arith, append-nil}
-use Rattle.msrp_plan.specs.Plan.{PlanModel}
+use Rattle.std.proofs.Common.{◌≡◌, ◌∙◌, ◌+◌, ◌*◌, true, [], ◌∷◌, ◌++◌, ap, refl, sym, subst, arith, append-nil}
 use Rattle.msrp_plan.specs.WellFormed.{IsPlan}
-use Rattle.msrp_plan.specs.declared.rows.Row.{Row}
 use Rattle.msrp_trace.specs.Gathering.{WriterModel}
 use Rattle.msrp_trace.specs.TraceText.{head_text, is_named, row_text}
 use Rattle.msrp_trace.proofs.Gathered.{gathers-all, gathers-as, gathers-more}

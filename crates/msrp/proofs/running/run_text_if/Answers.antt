@@ -1,8 +1,23 @@
-use Rattle.std.proofs.Common.{[]}
-use Rattle.msrp_trace.proofs.NamedRows.{legal_named}
+use Rattle.std.proofs.Common.{◌≡◌, ◌⊎◌, Ok, Err, IfErr, true, cond, ap, refl, sym, subst, inl, inr, ◌∙◌}
+use Rattle.msrp.specs.Outcomes.{is_sim_fault}
+use Rattle.msrp.specs.Running.{RunAnswers}
+use Rattle.msrp.specs.Simulation.{sim_status}
+use Rattle.msrp.specs.declared.faults.CliFault.TheVariants.{Threads, Write}
+use Rattle.msrp.proofs.SimAnswers.{from_plan, only_err}
 use Rattle.msrp.proofs.running.run_text_if.Goals as goal
 
-pub write_trace-requires-clause-named : goal.write_trace-requires-clause-named
-write_trace-requires-clause-named g c =
-    let e = c.in_ok-trace.ensures in
-    legal_named c.in_ok-plan.plan [] c.in_ok-trace.trace.rows.items e.laws.well_formed e.run.each
+pub returns-in_err-write_merged-clause-answer : goal.returns-in_err-write_merged-clause-answer
+returns-in_err-write_merged-clause-answer g c = λ bytes told.
+    let write : c.from_residual-in_err-write_merged.result ≡ Err Write = only_err _ Write c.from_residual-in_err-write_merged.ensures.1 in
+    let status : c.from_residual-in_err-write_merged.result ≡ sim_status c.write_merged.new.out = write ∙ sym (ap (λ b. cond b (Err Write) (Ok 0)) c.in_err-write_merged.ensures.fault) in
+    inr (inr (inr (from_plan (λ x. RunAnswers g.W.Write.contents c.args.version x c.args.out.now c.write_merged.new.out c.from_residual-in_err-write_merged.result) c.in_ok-plan.plan _ (c.in_ok-plan.ensures.answer bytes told) (c.write_merged.ensures.run, status))))
+
+pub returns-in_err-write_merged-clause-faults : goal.returns-in_err-write_merged-clause-faults
+returns-in_err-write_merged-clause-faults g c =
+    let write : c.from_residual-in_err-write_merged.result ≡ Err Write = only_err _ Write c.from_residual-in_err-write_merged.ensures.1 in
+    subst (λ r. IfErr r (λ fault. (fault ≡ Threads) ⊎ (is_sim_fault fault ≡ true))) (sym write) (inr refl)
+
+pub returns-in_err-write_merged-clause-silent : goal.returns-in_err-write_merged-clause-silent
+returns-in_err-write_merged-clause-silent g c =
+    let write : c.from_residual-in_err-write_merged.result ≡ Err Write = only_err _ Write c.from_residual-in_err-write_merged.ensures.1 in
+    subst (λ r. IfErr r (λ fault. (fault ≡ Write) ⊎ (c.write_merged.new.out ≡ c.args.out.now))) (sym write) (inl refl)

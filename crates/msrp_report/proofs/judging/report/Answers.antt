@@ -1,8 +1,7 @@
-use Rattle.std.proofs.Common.{◌≡◌, ◌+◌, ◌<◌, ◌++◌, ◌∷◌, [], Some, Err, take, refl, ap, sym, ◌∙◌, subst}
+use Rattle.std.proofs.Common.{◌≡◌, ◌+◌, ◌++◌, ◌∷◌, [], Some, Err, take, ap, sym, ◌∙◌, subst}
 use Rattle.msrp_plan.specs.Plan.{PlanModel}
 use Rattle.msrp_plan.specs.Runs.{IsRun}
-use Rattle.msrp_plan.specs.Verdict.{fault_in, verdict}
-use Rattle.msrp_audit.specs.Audits.{answer_of}
+use Rattle.msrp_plan.specs.Verdict.{verdict}
 use Rattle.msrp_report.specs.Lines.{lines_of}
 use Rattle.msrp_report.specs.Reports.{HasReported}
 use Rattle.msrp_report.proofs.Reporting.{all_rows, found_early, one_more}

@@ -3,8 +3,10 @@ use Rattle.msrp_plan.specs.Jobs.{job_at}
 use Rattle.msrp_report.specs.Inside.Numbers.{numbers_of}
 use Rattle.msrp_report.specs.Inside.Totals.{line_with}
 use Rattle.msrp_report.specs.declared.lines.Line.{Line}
-use Rattle.msrp_report.proofs.LineJobs.{bit_few, job_in, jobs_few, over_more}
+use Rattle.msrp_report.proofs.LineJobs.{jobs_few, over_more}
+use Rattle.msrp_levels.proofs.PlanJobs.{job_in}
 use Rattle.msrp_report.proofs.totals.task_line.Goals as goal
+use Rattle.msrp_plan.proofs.Tests.{one_at_most}
 
 pub job_numbers-requires-clause-job : goal.job_numbers-requires-clause-job
 job_numbers-requires-clause-job c = let count = c.jobs-jobs.ensures.count in let test = c.loop-k-test.true in job_in c.args.plan.now c.args.task.0 c.loop-k.k c.requires.plan c.requires.task (omega (arith, count, test))
@@ -33,8 +35,8 @@ loop-k-preserved c =
     let with_job = c.with_job-line.ensures in
     record {
       line = λ rows told. with_job ∙ (ap (λ n. line_with n c.loop-k.line) (c.job_numbers.ensures.numbers rows told) ∙ (ap (line_with (numbers_of plan rows (job_at t k))) (i.line rows told) ∙ sym (over_more plan rows t k)));
-      finished = let e = ap (λ (l : Line). l.finished) with_job in let b = bit_few c.job_numbers.result.finished in let a = i.finished in omega (arith, e, a, b);
-      late = let e = ap (λ (l : Line). l.late) with_job in let b = bit_few c.job_numbers.result.late in let a = i.late in omega (arith, e, a, b);
+      finished = let e = ap (λ (l : Line). l.finished) with_job in let b = one_at_most c.job_numbers.result.finished in let a = i.finished in omega (arith, e, a, b);
+      late = let e = ap (λ (l : Line). l.late) with_job in let b = one_at_most c.job_numbers.result.late in let a = i.late in omega (arith, e, a, b);
       spin = let e = ap (λ (l : Line). l.spin) with_job in let b = c.job_numbers.ensures.spins in let a = i.spin in omega (arith, e, a, b);
       blocked = let e = ap (λ (l : Line). l.blocked) with_job in let b = c.job_numbers.ensures.blocked in let a = i.blocked in omega (arith, e, a, b);
     }

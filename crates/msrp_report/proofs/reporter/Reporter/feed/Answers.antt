@@ -1,4 +1,4 @@
-use Rattle.std.proofs.Common.{◌≡◌, refl}
+use Rattle.std.proofs.Common.{refl}
 use Rattle.msrp_report.specs.declared.reporter.Reporter.{Reporter}
 use Rattle.msrp_report.proofs.Reporting.{fed_good, goes_on, good_row, told_before}
 use Rattle.msrp_report.proofs.reporter.Reporter.feed.Goals as goal

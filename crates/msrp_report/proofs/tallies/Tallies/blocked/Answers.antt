@@ -1,5 +1,4 @@
-use Rattle.std.proofs.Common.{◌≡◌, ◌+◌, sym, ◌∙◌, ap, arith}
-use Rattle.msrp_plan.specs.Blocking.{blocked}
+use Rattle.std.proofs.Common.{ap, arith}
 use Rattle.msrp_report.specs.declared.counts.JobCount.{JobCount}
 use Rattle.msrp_report.proofs.JobTallies.{over_told, blocker_told}
 use Rattle.msrp_report.proofs.tallies.Tallies.blocked.Goals as goal

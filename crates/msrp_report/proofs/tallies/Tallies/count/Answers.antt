@@ -3,7 +3,6 @@ use Rattle.std.specs.Vec.{with_item}
 use Rattle.msrp_report.specs.Inside.Counts.{counted}
 use Rattle.msrp_report.specs.declared.counts.JobCount.{JobCount}
 use Rattle.msrp_report.specs.declared.tallies.Blocking.TheVariants.{Over}
-use Rattle.msrp_report.specs.declared.tallies.JobTally.{JobTally}
 use Rattle.msrp_report.proofs.JobTallies.{job_known, job_read, room_read, task_read, told_number, told_task}
 use Rattle.msrp_report.proofs.RowSteps.{row_in, row_told, tallies_counted}
 use Rattle.msrp_report.proofs.tallies.Tallies.count.Goals as goal

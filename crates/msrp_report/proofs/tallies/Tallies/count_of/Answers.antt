@@ -1,4 +1,3 @@
-use Rattle.std.proofs.Common.{◌≡◌, ap, ◌∙◌}
 use Rattle.msrp_report.proofs.JobTallies.{tally_told}
 use Rattle.msrp_report.proofs.tallies.Tallies.count_of.Goals as goal
 

@@ -1,4 +1,4 @@
-use Rattle.std.proofs.Common.{◌≡◌, ◌+◌, ◌<◌, ◌∙◌, arith}
+use Rattle.std.proofs.Common.{◌<◌, arith}
 use Rattle.msrp_plan.specs.declared.rows.Row.{Row as TraceRow}
 use Rattle.msrp_plan.proofs.Lists.AnyAll.{all_weaker}
 use Rattle.msrp_report.proofs.RowSteps.{tick_begun, tick_left}

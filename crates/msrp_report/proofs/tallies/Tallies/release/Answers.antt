@@ -1,14 +1,15 @@
-use Rattle.std.proofs.Common.{◌≡◌, ◌+◌, ◌≤◌, length, slice_set, refl, ap, sym, subst, ◌∙◌, arith}
+use Rattle.std.proofs.Common.{◌+◌, ◌≤◌, length, slice_set, refl, ap, arith}
 use Rattle.std.proofs.lemmas.List.{length-set}
 use Rattle.std.proofs.lemmas.Option.{slice_get_read}
 use Rattle.std.specs.Vec.{with_item}
 use Rattle.msrp_plan.specs.Blocking.{first_later}
 use Rattle.msrp_plan.specs.Jobs.{job_at}
 use Rattle.msrp_audit.proofs.Standing.{get_set_same, get_set_other}
-use Rattle.msrp_report.specs.Inside.Tallies.{begun_below, blocking_by}
+use Rattle.msrp_report.specs.Inside.Tallies.{begun_below}
 use Rattle.msrp_report.specs.declared.tallies.Blocking.{Blocking}
 use Rattle.msrp_report.specs.declared.tallies.TaskTally.{TaskTally}
-use Rattle.msrp_report.proofs.LineJobs.{job_in, jobs_few}
+use Rattle.msrp_levels.proofs.PlanJobs.{job_in}
+use Rattle.msrp_report.proofs.LineJobs.{jobs_few}
 use Rattle.msrp_report.proofs.TallySteps.{at_task, due_within, next_task, read_task, same_task, task_released, task_waits}
 use Rattle.msrp_report.proofs.tallies.Tallies.release.Goals as goal
 

@@ -1,8 +1,9 @@
-use Rattle.std.proofs.Common.{◌≡◌, ◌+◌, ◌≤◌, ◌++◌, ◌∷◌, [], ℕ, Some, length, length-append, slice_get, refl, ap, sym, subst, ◌∙◌, arith}
+use Rattle.std.proofs.Common.{◌≡◌, ◌+◌, ◌≤◌, ◌∷◌, [], ℕ, Some, length, length-append, slice_get, refl, ap, sym, subst, ◌∙◌, arith}
 use Rattle.msrp_report.specs.Inside.Tallies.{IsTaskTally}
 use Rattle.msrp_report.specs.declared.tallies.TaskTally.{TaskTally}
-use Rattle.msrp_report.proofs.Starting.{each_push, tallies_untold}
+use Rattle.msrp_report.proofs.Starting.{tallies_untold}
 use Rattle.msrp_report.proofs.tallies.Tallies.with_room.Goals as goal
+use Rattle.msrp_plan.proofs.Lists.AnyAll.{places_push}
 
 pub loop-task-preserved : goal.loop-task-preserved
 loop-task-preserved c =
@@ -14,7 +15,7 @@ loop-task-preserved c =
     record {
       size = ap length items ∙ (length-append xs (y ∷ []) ∙ ap (λ n. n + 1) i.size);
       room = subst (λ n. length plan.tasks ≤ n) (sym c.push_reserved.ensures.capacity) i.room;
-      each = subst (λ l. (k : ℕ) (x : TaskTally) → slice_get l k ≡ Some x → IsTaskTally plan [] 0 k x) (sym items) (each_push (λ k x. IsTaskTally plan [] 0 k x) xs y i.each (subst (λ n. IsTaskTally plan [] 0 n y) (sym i.size) c.in_ok-untold.ensures));
+      each = subst (λ l. (k : ℕ) (x : TaskTally) → slice_get l k ≡ Some x → IsTaskTally plan [] 0 k x) (sym items) (places_push (λ k x. IsTaskTally plan [] 0 k x) xs y i.each (subst (λ n. IsTaskTally plan [] 0 n y) (sym i.size) c.in_ok-untold.ensures));
     }
 
 pub returns : goal.returns

@@ -1,0 +1,2 @@
+-- Words of the audit in pieces. No public contract speaks of them.
+pub mod Gathered
