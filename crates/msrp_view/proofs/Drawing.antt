@@ -1,13 +1,12 @@
 -- Lines that are drawn with their cells.
-use Rattle.std.proofs.Common.{◌≡◌, ℕ, ◌++◌, List, [], ◌∷◌, Option, map, codes, refl, ap, sym, ◌∙◌}
+use Rattle.std.proofs.Common.{◌≡◌, ℕ, ◌++◌, List, [], ◌∷◌, Option, map, codes, refl, ap, ◌∙◌}
 use Rattle.std.specs.List.{AllByRecursion, flat_map}
 use Rattle.msrp_plan.specs.Plan.{PlanModel}
 use Rattle.msrp_plan.specs.declared.rows.Row.{Row}
 use Rattle.msrp_view.specs.Inside.Drawings.{IsDrawn, drawn_text, line_of}
 use Rattle.msrp_view.specs.Lines.{cells, lines_of}
-use Rattle.msrp_view.specs.Picture.{line_text, part_text, parts_text}
+use Rattle.msrp_view.specs.Picture.{line_text, part_text}
 use Rattle.msrp_view.specs.declared.lines.Drawn.{Drawn}
-use Rattle.msrp_view.specs.declared.lines.Line.{Line}
 use Rattle.msrp_view.specs.declared.windows.Window.{Window}
 
 each-drawn : (plan : PlanModel) (rows : List Row) (broken : Option Row) (w : Window) (i : ℕ) (drawn : List Drawn) → AllByRecursion (IsDrawn plan rows broken w) drawn

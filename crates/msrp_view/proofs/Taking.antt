@@ -1,6 +1,6 @@
 -- Rows of a resource that are taken one by one, and tick by tick.
 use Rattle.std.proofs.Common.{◌≡◌, ℕ, ◌+◌, ◌-◌, ◌*◌, ◌≤◌, cond, List, [], ◌∷◌, ◌++◌, ap, sym, ◌∙◌, arith, take, drop, take-append-drop}
-use Rattle.std.specs.List.{cons_option, filter_map, slice_range}
+use Rattle.std.specs.List.{cons_option, slice_range}
 use Rattle.std.proofs.lemmas.List.{drop-take, take-take}
 use Rattle.std.proofs.lemmas.List.Elements.{filter_map-append}
 use Rattle.std.proofs.lemmas.List.Sums.{sum_by_push}

@@ -6,4 +6,7 @@ pub mod Shown
 pub mod Lines
 pub mod Picture
 pub mod Views
+pub mod Elements
+pub mod Blocks
+pub mod Svg
 pub mod Inside

@@ -13,10 +13,13 @@ use Rattle.msrp_trace.specs.Reading.{Told, rows_of}
 use Rattle.msrp_trace.specs.declared.faults.TraceError.{TraceError}
 use Rattle.msrp_view.specs.Outcomes.{fault_of, trace_fault_of}
 use Rattle.msrp_view.specs.Picture.{picture_text}
+use Rattle.msrp_view.specs.Svg.{svg_text}
 use Rattle.msrp_view.specs.Windows.{window_of}
 use Rattle.msrp_view.specs.declared.faults.ViewFault.{ViewFault}
 use Rattle.msrp_view.specs.declared.faults.ViewFault.TheVariants.{Usage, Write}
 use Rattle.msrp_view.specs.declared.windows.Asked.{Asked}
+use Rattle.msrp_view.specs.declared.windows.Style.{Style}
+use Rattle.msrp_view.specs.declared.windows.Style.TheVariants.{Text, Svg}
 use Rattle.msrp_view.specs.declared.windows.Window.{Window}
 
 -- the exit status of a verdict
@@ -32,9 +35,14 @@ picture_status found new = cond (sink_failed new) (Err Write) (Ok (verdict_statu
 abbrev pub help_status : {W : Type 0} → Sink W → Result ℕ ViewFault
 help_status new = cond (sink_failed new) (Err Write) (Ok 0)
 
--- the picture of these rows with that verdict is written, and its status is answered if the sink took it all
-pub record Draws {W : Type 0} (contents : W → Option (List ℕ)) (plan : PlanModel) (rows : List Row) (found : Result ⊤ Fault) (w : Window) (old new : Sink W) (result : Result ℕ ViewFault) : Type 0 where
-  pub text : Wrote contents old new (picture_text plan rows found w)
+-- the picture of these rows with that verdict
+abbrev pub drawing : Style → PlanModel → List Row → Result ⊤ Fault → Window → List ℕ
+drawing Text plan rows found w = picture_text plan rows found w
+drawing Svg plan rows found w = svg_text plan rows found w
+
+-- it is written, and its status is answered if the sink took it all
+pub record Draws {W : Type 0} (contents : W → Option (List ℕ)) (style : Style) (plan : PlanModel) (rows : List Row) (found : Result ⊤ Fault) (w : Window) (old new : Sink W) (result : Result ℕ ViewFault) : Type 0 where
+  pub text : Wrote contents old new (drawing style plan rows found w)
   pub status : result ≡ picture_status found new
 
 -- the answer where a fault is told: nothing is written
@@ -42,16 +50,16 @@ abbrev pub Refuses : {W : Type 0} → ViewFault → Sink W → Sink W → Result
 Refuses fault old new result = (result ≡ Err fault) × (new ≡ old)
 
 -- of rows behind which nothing was refused, and of others
-abbrev pub DrawsTold : {W : Type 0} → (W → Option (List ℕ)) → PlanModel → List Row → Option TraceError → Window → Sink W → Sink W → Result ℕ ViewFault → Type 0
-DrawsTold contents plan rows None w old new result = Draws contents plan rows (answer_of (verdict plan rows)) w old new result
-DrawsTold contents plan rows (Some error) w old new result = Refuses (trace_fault_of error) old new result
+abbrev pub DrawsTold : {W : Type 0} → (W → Option (List ℕ)) → Style → PlanModel → List Row → Option TraceError → Window → Sink W → Sink W → Result ℕ ViewFault → Type 0
+DrawsTold contents style plan rows None w old new result = Draws contents style plan rows (answer_of (verdict plan rows)) w old new result
+DrawsTold contents style plan rows (Some error) w old new result = Refuses (trace_fault_of error) old new result
 
 -- where there are such ticks, and where not
-abbrev pub DrawsWindow : {W : Type 0} → (W → Option (List ℕ)) → PlanModel → Told → Option Window → Sink W → Sink W → Result ℕ ViewFault → Type 0
-DrawsWindow contents plan told (Some w) old new result = DrawsTold contents plan told.rows told.refusal w old new result
-DrawsWindow contents plan told None old new result = Refuses Usage old new result
+abbrev pub DrawsWindow : {W : Type 0} → (W → Option (List ℕ)) → Style → PlanModel → Told → Option Window → Sink W → Sink W → Result ℕ ViewFault → Type 0
+DrawsWindow contents style plan told (Some w) old new result = DrawsTold contents style plan told.rows told.refusal w old new result
+DrawsWindow contents style plan told None old new result = Refuses Usage old new result
 
 -- the answer to a text that stands for a plan, or to one that is refused, and to the records of a trace's text
 abbrev pub ViewAnswers : {W : Type 0} → (W → Option (List ℕ)) → Result PlanModel TextError → List (List (List ℕ)) → Asked → Sink W → Sink W → Result ℕ ViewFault → Type 0
-ViewAnswers contents (Ok plan) records asked old new result = DrawsWindow contents plan (rows_of plan records) (window_of plan asked) old new result
+ViewAnswers contents (Ok plan) records asked old new result = DrawsWindow contents asked.style plan (rows_of plan records) (window_of plan asked) old new result
 ViewAnswers contents (Err error) records asked old new result = Refuses (fault_of error) old new result

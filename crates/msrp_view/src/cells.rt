@@ -40,7 +40,7 @@ pub(crate) fn letter(task: TaskId) -> u8
     letters().get(task.0 as usize).copied().unwrap_or(NOTHING)
 }
 
-fn job_cell(job: Option<JobId>) -> u8
+pub(crate) fn job_cell(job: Option<JobId>) -> u8
     ensures { result ≡ job_cell job }
 {
     match job {
@@ -49,7 +49,7 @@ fn job_cell(job: Option<JobId>) -> u8
     }
 }
 
-fn sign(kind: Kind) -> u8
+pub(crate) fn sign(kind: Kind) -> u8
     ensures { result ≡ sign kind }
 {
     match kind {

@@ -4,7 +4,7 @@ ghost use Rattle.std.specs.Prelude.{◌≡◌, ◌⊎◌, ◌↔◌, IfErr};
 ghost use Rattle.clap.specs.declared.error.ErrorKind.TheVariants.{OutOfMemory};
 
 use crate::faults::ViewFault;
-use crate::windows::Asked;
+use crate::windows::{Asked, Style};
 use clap::error::ErrorKind;
 use clap::{Arg, ArgAction, ArgMatches, Command};
 use std::alloc::{AllocError, Global};
@@ -29,12 +29,21 @@ const TRACE: &str = "TRACE";
 
 const TEXT: &str = "text";
 
+const SVG: &str = "svg";
+
 const FROM: &str = "from";
 
 const TO: &str = "to";
 
 /// The path that stands for standard input.
 pub const STANDARD: &str = "-";
+
+fn flag<'a>(alloc: Global, name: &'a str, help: &'a str) -> Arg<'a> {
+    Arg::new(alloc, name)
+        .long(name)
+        .action(ArgAction::SetTrue)
+        .help(help)
+}
 
 fn tick<'a>(alloc: Global, name: &'a str, help: &'a str) -> Arg<'a> {
     Arg::new(alloc, name).long(name).value_name("T").help(help)
@@ -45,15 +54,12 @@ fn path<'a>(alloc: Global, name: &'a str, help: &'a str) -> Arg<'a> {
 }
 
 fn grammar<'a>(alloc: Global) -> Result<Command<'a>, AllocError> {
-    let text = Arg::new(alloc, TEXT)
-        .long(TEXT)
-        .action(ArgAction::SetTrue)
-        .help("draws in plain text, as without it");
     Command::new(alloc, "msrp_view")
         .about(
             "draws a trace of a plan: what each core does in each tick, and who stands in the queue of each global resource",
         )
-        .arg(text)?
+        .arg(flag(alloc, TEXT, "draws in plain text, as without it"))?
+        .arg(flag(alloc, SVG, "draws in SVG, for a browser or a document"))?
         .arg(tick(
             alloc,
             FROM,
@@ -104,12 +110,24 @@ fn both_of<'a>(matches: &ArgMatches<'a>) -> Result<(&'a str, &'a str), ViewFault
     }
 }
 
+// How it is drawn: in text, if nothing is said.
+fn style_of(matches: &ArgMatches<'_>) -> Result<Style, ViewFault>
+    ensures { IfErr result (λ fault. fault ≡ ViewFault.Usage) }
+{
+    match (matches.get_flag(TEXT), matches.get_flag(SVG)) {
+        (_, false) => Ok(Style::Text),
+        (false, true) => Ok(Style::Svg),
+        (true, true) => Err(ViewFault::Usage),
+    }
+}
+
 // What is asked for.
 fn view_of<'a>(matches: &ArgMatches<'a>) -> Result<Cmd<'a>, ViewFault>
     ensures { IfErr result (λ fault. fault ≡ ViewFault.Usage) }
 {
     let (plan, trace) = both_of(matches)?;
     let asked = Asked {
+        style: style_of(matches)?,
         from: tick_of(matches.get_str(FROM))?,
         to: tick_of(matches.get_str(TO))?,
     };

@@ -12,9 +12,9 @@ ghost use Rattle.msrp_view.specs.Windows.{IsWindow};
 ghost use Rattle.msrp_view.specs.Views.{Draws, DrawsWindow, ViewAnswers, help_status, picture_status};
 
 use crate::faults::ViewFault;
-use crate::picture::picture;
 use crate::reading::read_rows;
-use crate::windows::{Asked, Window, window_of};
+use crate::styles::draw;
+use crate::windows::{Asked, Style, Window, window_of};
 use msrp_audit::audit;
 use msrp_plan::bytes::{Sink, Source};
 use msrp_plan::{Fault, Plan, Trace};
@@ -24,7 +24,7 @@ use std::io::{Read, Write};
 
 /// Reads a plan and a trace of it, whoever made it, and writes a picture of the ticks that are asked for. The answer is the exit
 /// status of an audit: 0 for a legal run, and 1 else; then the picture shows the rows before the first that breaks a rule, and
-/// that one. It is [`ViewFault::Usage`] where the plan doesn't have such ticks.
+/// that one, and in SVG also what stands behind it. It is [`ViewFault::Usage`] where the plan doesn't have such ticks.
 ///
 /// All memory is taken before anything is written: so whatever the fault, but a write fault, nothing was written. A trace of
 /// which a record is refused isn't drawn. A refused plan is told whatever the trace.
@@ -55,7 +55,7 @@ pub fn view_text<P: Read, T: Read, W: Write>(
     let Some(window) = window_of(&plan, asked) else {
         return Err(ViewFault::Usage);
     };
-    draw_text(alloc, &plan, trace, out, window)
+    draw_text(alloc, &plan, trace, out, asked.style, window)
 }
 
 // The same of an accepted plan, and of these ticks of it.
@@ -64,11 +64,12 @@ fn draw_text<T: Read, W: Write>(
     plan: &Plan,
     trace: &mut Source<T>,
     out: &mut Sink<W>,
+    style: Style,
     window: Window,
 ) -> Result<u8, ViewFault>
     requires { IsWindow window }
     ensures answer { (bytes : List ℕ) → source_remaining T.remaining trace.old ≡ Some bytes
-        → (result ≡ Err ViewFault.Read) ⊎ (result ≡ Err ViewFault.Memory) ⊎ DrawsWindow W.contents plan.now (rows_of plan.now (csv_records bytes)) (Some window) out.old out.new result }
+        → (result ≡ Err ViewFault.Read) ⊎ (result ≡ Err ViewFault.Memory) ⊎ DrawsWindow W.contents style plan.now (rows_of plan.now (csv_records bytes)) (Some window) out.old out.new result }
     ensures good { IfOk result (λ status. ((status ≡ 0) ⊎ (status ≡ 1)) × (sink_failed out.new ≡ false)) }
     ensures faults { IfErr result (λ fault. (is_trace_fault fault ≡ true) ⊎ (fault ≡ ViewFault.Write)) }
     ensures read { result ≡ Err ViewFault.Read → source_failed trace.new ≡ true }
@@ -76,7 +77,7 @@ fn draw_text<T: Read, W: Write>(
     ensures silent { IfErr result (λ fault. (fault ≡ ViewFault.Write) ⊎ (out.new ≡ out.old)) }
 {
     let trace = read_rows(alloc, plan, trace)?;
-    draw_rows(alloc, plan, &trace, out, window)
+    draw_rows(alloc, plan, &trace, out, style, window)
 }
 
 // The same of rows that were read.
@@ -85,17 +86,18 @@ fn draw_rows<W: Write>(
     plan: &Plan,
     trace: &Trace,
     out: &mut Sink<W>,
+    style: Style,
     window: Window,
 ) -> Result<u8, ViewFault>
     requires { IsWindow window }
-    ensures answer { (result ≡ Err ViewFault.Memory) ⊎ Draws W.contents plan.now trace.now.rows.items (answer_of (verdict plan.now trace.now.rows.items)) window out.old out.new result }
+    ensures answer { (result ≡ Err ViewFault.Memory) ⊎ Draws W.contents style plan.now trace.now.rows.items (answer_of (verdict plan.now trace.now.rows.items)) window out.old out.new result }
     ensures good { IfOk result (λ status. ((status ≡ 0) ⊎ (status ≡ 1)) × (sink_failed out.new ≡ false)) }
     ensures faults { IfErr result (λ fault. (fault ≡ ViewFault.Memory) ⊎ (fault ≡ ViewFault.Write)) }
     ensures write { result ≡ Err ViewFault.Write → sink_failed out.new ≡ true }
     ensures silent { IfErr result (λ fault. (fault ≡ ViewFault.Write) ⊎ (out.new ≡ out.old)) }
 {
     let found = audit(alloc, plan, trace)?;
-    let text = picture(alloc, plan, trace.rows.as_slice(), found, window)?;
+    let text = draw(alloc, plan, trace.rows.as_slice(), found, style, window)?;
     write_picture(out, text.as_slice(), found)
 }
 

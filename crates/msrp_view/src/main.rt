@@ -1,21 +1,26 @@
-//! `msrp_view`: a trace of a plan as a picture, in text.
+//! `msrp_view`: a trace of a plan as a picture, in text or in SVG.
 //!
-//! `cli` reads the command line, `reading` gathers the rows of a trace, `lines` and `picture` draw them, `engine` turns bytes
-//! into bytes, and `main` opens what the words name, prints the line of a fault and gives the exit status.
+//! `cli` reads the command line, `reading` gathers the rows of a trace, `lines` and `picture` draw them in text, and
+//! `blocks` and `svg` in SVG; `engine` turns bytes into bytes, and `main` opens what the words name, prints the line of a fault and gives the exit status.
 #![tactic(auto)]
 
 ghost use Rattle.std.specs.Prelude.{◌≡◌, ◌⊎◌, ◌↔◌, IfErr};
 
+mod blocks;
 mod cells;
 mod cli;
+mod elements;
 mod engine;
 mod faults;
 mod input;
 mod lines;
 mod picture;
+mod places;
 mod queues;
 mod reading;
 mod shown;
+mod styles;
+mod svg;
 #[cfg(test)]
 mod tests;
 mod windows;

@@ -30,13 +30,13 @@ fn signs() -> &'static [u8]
     b"= works  ( locks  ) unlocks  [ is granted  ] releases  ? joins a queue  ~ spins  ! breaks a rule\nof a resource: the first in its queue after the tick, and how many wait behind it\n"
 }
 
-fn add(text: &mut Vec<u8>, part: &[u8]) -> Result<(), Memory>
+pub(crate) fn add(text: &mut Vec<u8>, part: &[u8]) -> Result<(), Memory>
     ensures { OnOk result (text.new.items ≡ text.old.items ++ part.now) }
 {
     text.extend_from_slice(part).map_err(|_| Memory)
 }
 
-fn add_number(text: &mut Vec<u8>, number: u32) -> Result<(), Memory>
+pub(crate) fn add_number(text: &mut Vec<u8>, number: u64) -> Result<(), Memory>
     ensures { OnOk result (text.new.items ≡ text.old.items ++ decimal number) }
 {
     let mut digits = Buffer::new();
@@ -45,7 +45,7 @@ fn add_number(text: &mut Vec<u8>, number: u32) -> Result<(), Memory>
 
 // The code of a rule.
 #[tactic(auto, unfolding(crate::specs::Picture::rule_text))]
-fn rule_word(rule: Rule) -> &'static [u8]
+pub(crate) fn rule_word(rule: Rule) -> &'static [u8]
     ensures { result.now ≡ rule_text rule }
 {
     match rule {
@@ -60,14 +60,14 @@ fn rule_word(rule: Rule) -> &'static [u8]
 }
 
 // The verdict.
-fn add_verdict(text: &mut Vec<u8>, found: Result<(), Fault>) -> Result<(), Memory>
+pub(crate) fn add_verdict(text: &mut Vec<u8>, found: Result<(), Fault>) -> Result<(), Memory>
     ensures { OnOk result (text.new.items ≡ text.old.items ++ verdict_text found) }
 {
     match found {
         Ok(()) => add(text, b"good\n"),
         Err(fault) => {
             add(text, b"fault,")?;
-            add_number(text, fault.row)?;
+            add_number(text, fault.row as u64)?;
             add(text, b",")?;
             add(text, rule_word(fault.rule))?;
             add(text, b"\n")
@@ -76,21 +76,21 @@ fn add_verdict(text: &mut Vec<u8>, found: Result<(), Fault>) -> Result<(), Memor
 }
 
 // Which ticks are drawn, the last one by its own number.
-fn add_window(text: &mut Vec<u8>, plan: &Plan, window: Window) -> Result<(), Memory>
+pub(crate) fn add_window(text: &mut Vec<u8>, plan: &Plan, window: Window) -> Result<(), Memory>
     requires { IsWindow window }
     ensures { OnOk result (text.new.items ≡ text.old.items ++ window_text plan.now window) }
 {
     add(text, b"ticks ")?;
-    add_number(text, window.from)?;
+    add_number(text, window.from as u64)?;
     add(text, b" to ")?;
-    add_number(text, window.to - 1)?;
+    add_number(text, (window.to - 1) as u64)?;
     add(text, b" of ")?;
-    add_number(text, plan.ticks())?;
+    add_number(text, plan.ticks() as u64)?;
     add(text, b"\n")
 }
 
 // The name of a resource; nothing where the plan has no such one.
-fn res_name(plan: &Plan, res: ResId) -> &[u8]
+pub(crate) fn res_name(plan: &Plan, res: ResId) -> &[u8]
     ensures { result.now ≡ slice_index_or plan.now.resources res.0 [] }
 {
     if res.0 < plan.resources() {
@@ -172,7 +172,7 @@ fn add_parts(text: &mut Vec<u8>, plan: &Plan, drawn: &[Drawn], window: Window) -
     Ok(())
 }
 
-fn add_task(text: &mut Vec<u8>, plan: &Plan, task: TaskId) -> Result<(), Memory>
+pub(crate) fn add_task(text: &mut Vec<u8>, plan: &Plan, task: TaskId) -> Result<(), Memory>
     requires { task.0 < length plan.now.tasks }
     ensures { OnOk result (text.new.items ≡ text.old.items ++ task_text plan.now task.0) }
 {
@@ -180,7 +180,7 @@ fn add_task(text: &mut Vec<u8>, plan: &Plan, task: TaskId) -> Result<(), Memory>
     add(text, b": ")?;
     add(text, plan.task_name(task).as_bytes())?;
     add(text, b" on core ")?;
-    add_number(text, plan.core_of(task).0)?;
+    add_number(text, plan.core_of(task).0 as u64)?;
     add(text, b"\n")
 }
 

@@ -1,14 +1,15 @@
 //! What of a trace is drawn.
 ghost use Rattle.std.specs.Prelude.{◌≡◌};
-ghost use Rattle.msrp_view.specs.Shown.{broken_row, goes_on_in, legal_rows};
+ghost use Rattle.msrp_view.specs.Shown.{broken_row, goes_on_in, later_rows, legal_rows};
 
 use crate::windows::Window;
 use msrp_plan::{Fault, Plan, Row};
 
-/// The rows of a legal run; or those before the first that breaks a rule, and that one, where it stands.
+/// The rows of a legal run; or those before the first that breaks a rule, and that one with what stands behind it.
 #[derive(Clone, Copy)]
 pub(crate) struct Shown<'a> {
     pub(crate) rows: &'a [Row],
+    pub(crate) later: &'a [Row],
     pub(crate) broken: Option<Row>,
     pub(crate) found: Result<(), Fault>,
 }
@@ -17,12 +18,14 @@ impl<'a> Shown<'a> {
     /// What is drawn of these rows, on which that is the verdict.
     pub(crate) fn of(rows: &'a [Row], found: Result<(), Fault>) -> Shown<'a>
         ensures rows { result.rows.now ≡ legal_rows rows.now found }
+        ensures later { result.later.now ≡ later_rows rows.now found }
         ensures broken { result.broken ≡ broken_row rows.now found }
         ensures found { result.found ≡ found }
     {
         match found {
             Ok(()) => Shown {
                 rows,
+                later: &[],
                 broken: None,
                 found,
             },
@@ -30,6 +33,7 @@ impl<'a> Shown<'a> {
                 let legal = rows.len().min((fault.row as usize).saturating_sub(1));
                 Shown {
                     rows: &rows[..legal],
+                    later: &rows[legal..],
                     broken: rows.get(legal).copied(),
                     found,
                 }

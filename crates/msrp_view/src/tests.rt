@@ -3,7 +3,7 @@
 use crate::cli::{Cmd, command_of};
 use crate::engine::view_text;
 use crate::faults::{ViewFault, exit_of};
-use crate::windows::Asked;
+use crate::windows::{Asked, Style};
 use msrp_plan::bytes::{Sink, Source};
 use std::alloc::{AllocError, Global};
 use std::io;
@@ -35,6 +35,7 @@ const LATER: &str =
     "good\nticks 2 to 4 of 6\n\ntick              ---\ncore 0            a..\n                  ]..\ncore 1            bbb\n                  [=]\ng                 bb.\n  waiting         ...\n";
 
 const ALL: Asked = Asked {
+    style: Style::Text,
     from: None,
     to: None,
 };
@@ -72,6 +73,7 @@ fn expect_picture(
 #[test]
 fn pictures(rt: HostRuntime) {
     let later = Asked {
+        style: Style::Text,
         from: Some(2),
         to: Some(5),
     };
@@ -80,10 +82,55 @@ fn pictures(rt: HostRuntime) {
     expect_picture(&rt, rt.alloc(), TRACE, later, 0, LATER);
 }
 
+// Whether a text has this part.
+fn has(text: &[u8], part: &str) -> bool {
+    (0..text.len()).any(|at| text[at..].starts_with(part.as_bytes()))
+}
+
+// The row that is framed stands in tick 1 of core 1: one tick and one lane from where core 0 begins.
+#[test]
+fn pictures_in_svg(rt: HostRuntime) {
+    let asked = Asked {
+        style: Style::Svg,
+        ..ALL
+    };
+    let table: [(&[u8], u8, [&str; 4]); 2] = [
+        (
+            TRACE,
+            0,
+            [
+                "<svg ",
+                ">good\n",
+                "<title>ticks 0 to 0: a, job 0, take g</title>",
+                "<title>ticks 1 to 1: b, job 0, spin g</title>",
+            ],
+        ),
+        (
+            FAULTY,
+            1,
+            [
+                ">fault,4,A5\n",
+                "<rect class=\"mark\" x=\"152\" y=\"158\"",
+                ">A5</text>",
+                "<title>ticks 2 to 2: a, job 0, release g</title>",
+            ],
+        ),
+    ];
+    for (trace, status, parts) in table {
+        let (answer, written) = answer_from(rt.alloc(), trace, asked);
+        assert!(rt; answer == Ok(status), "{status}");
+        for part in parts {
+            assert!(rt; has(written.as_slice(), part), "{part}");
+        }
+        assert!(rt; written.as_slice().ends_with(b"</svg>\n"));
+    }
+}
+
 #[test]
 fn ticks_that_are_not_there(rt: HostRuntime) {
     for (from, to) in [(0, 0), (3, 3), (4, 3), (0, 7), (6, 6), (6, 7)] {
         let asked = Asked {
+            style: Style::Text,
             from: Some(from),
             to: Some(to),
         };
@@ -236,9 +283,9 @@ fn words_of(alloc: Global, words: &[&str]) -> Result<Vec<String>, AllocError> {
 }
 
 // A picture of all ticks of these.
-fn view<'a>(plan: &'a str, trace: &'a str) -> Cmd<'a> {
+fn view<'a>(style: Style, plan: &'a str, trace: &'a str) -> Cmd<'a> {
     Cmd::View {
-        asked: ALL,
+        asked: Asked { style, ..ALL },
         plan,
         trace,
     }
@@ -247,14 +294,16 @@ fn view<'a>(plan: &'a str, trace: &'a str) -> Cmd<'a> {
 #[test]
 fn commands(rt: HostRuntime) -> Result<(), Fail> {
     let asked = Asked {
+        style: Style::Text,
         from: Some(3),
         to: Some(20),
     };
-    let table: [(&[&str], Cmd<'_>); 7] = [
-        (&["p", "t"], view("p", "t")),
-        (&["--text", "p", "t"], view("p", "t")),
-        (&["-", "t"], view("-", "t")),
-        (&["p", "-"], view("p", "-")),
+    let table: [(&[&str], Cmd<'_>); 8] = [
+        (&["p", "t"], view(Style::Text, "p", "t")),
+        (&["--text", "p", "t"], view(Style::Text, "p", "t")),
+        (&["--svg", "p", "t"], view(Style::Svg, "p", "t")),
+        (&["-", "t"], view(Style::Text, "-", "t")),
+        (&["p", "-"], view(Style::Text, "p", "-")),
         (
             &["--from", "3", "p", "--to=20", "t"],
             Cmd::View {
@@ -275,8 +324,10 @@ fn commands(rt: HostRuntime) -> Result<(), Fail> {
 
 #[test]
 fn no_commands(rt: HostRuntime) -> Result<(), Fail> {
-    let table: [&[&str]; 10] = [
+    let table: [&[&str]; 12] = [
         &[],
+        &["--svg", "--text", "p", "t"],
+        &["--svg", "--svg", "p", "t"],
         &["p"],
         &["p", "t", "x"],
         &["-", "-"],

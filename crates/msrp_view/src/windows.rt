@@ -11,9 +11,19 @@ pub const SHORT_RUN: u32 = 200;
 /// So many ticks stand on a line.
 pub const LINE_TICKS: u32 = 80;
 
-/// The ticks that are asked for: from one on, and up to another, which isn't drawn.
+/// How a picture is drawn.
+#[derive(Clone, Copy, Debug, PartialEq, Eq)]
+pub enum Style {
+    /// In plain text.
+    Text,
+    /// In SVG.
+    Svg,
+}
+
+/// What is asked for: how it is drawn, and the ticks, from one on and up to another, which isn't drawn.
 #[derive(Clone, Copy, Debug, PartialEq, Eq)]
 pub struct Asked {
+    pub style: Style,
     pub from: Option<u32>,
     pub to: Option<u32>,
 }

@@ -1,4 +1,4 @@
-use Rattle.std.proofs.Common.{rules, arith}
+use Rattle.std.proofs.Common.{arith}
 use Rattle.std.proofs.lemmas.Grind.{common_steps}
 use Rattle.msrp_view.specs.Lines.{core_lines}
 use Rattle.msrp_view.proofs.Growing.{grows-each}

@@ -1,4 +1,4 @@
-use Rattle.std.proofs.Common.{ap, ◌∙◌, sym, length-append}
+use Rattle.std.proofs.Common.{length-append}
 use Rattle.msrp_view.proofs.Growing.{grows, grows-last}
 use Rattle.msrp_view.proofs.picture.add_label.Goals as goal
 

@@ -1,4 +1,4 @@
-use Rattle.std.proofs.Common.{◌≡◌, ◌++◌, codes, []}
+use Rattle.std.proofs.Common.{◌≡◌, ◌++◌, codes}
 use Rattle.std.specs.List.{flat_map, range_with_len}
 use Rattle.msrp_view.specs.Inside.Drawings.{drawn_text}
 use Rattle.msrp_view.proofs.picture.add_parts.Given as goal

@@ -1,4 +1,4 @@
-use Rattle.std.proofs.Common.{codes, ◌∷◌, [], ◌∙◌}
+use Rattle.std.proofs.Common.{codes, ◌∷◌, []}
 use Rattle.msrp_view.specs.Cells.{letter}
 use Rattle.msrp_view.specs.Picture.{task_text}
 use Rattle.msrp_view.proofs.Growing.{grows, grows-last}

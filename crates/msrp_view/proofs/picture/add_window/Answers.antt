@@ -1,4 +1,4 @@
-use Rattle.std.proofs.Common.{codes, decimal}
+use Rattle.std.proofs.Common.{codes}
 use Rattle.msrp_view.specs.Picture.{window_text}
 use Rattle.msrp_view.proofs.Growing.{grows, grows-last}
 use Rattle.msrp_view.proofs.picture.add_window.Goals as goal

@@ -1,4 +1,3 @@
-use Rattle.std.proofs.Common.{◌≡◌, List, ℕ}
 use Rattle.msrp_view.proofs.picture.picture.Goals as goal
 
 pub returns : goal.returns

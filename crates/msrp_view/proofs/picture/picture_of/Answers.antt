@@ -1,4 +1,3 @@
-use Rattle.std.proofs.Common.{◌++◌, codes}
 use Rattle.std.specs.List.{range_with_len}
 use Rattle.msrp_view.specs.Windows.{parts}
 use Rattle.msrp_view.proofs.Drawing.{parts-drawn}

@@ -1,4 +1,4 @@
-use Rattle.std.proofs.Common.{◌++◌, ◌+◌, ◌≤◌, List, take, length}
+use Rattle.std.proofs.Common.{◌++◌, ◌+◌, ◌≤◌, List, take}
 use Rattle.msrp_plan.specs.declared.rows.Row.{Row}
 use Rattle.msrp_view.specs.Inside.Queues.{HasSeen}
 use Rattle.msrp_view.proofs.queues.Queue.take_all.Given as goal
