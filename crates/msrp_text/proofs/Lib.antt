@@ -1,4 +1,7 @@
 pub mod Remaining
+pub mod PlainLines
+pub mod AheadBytes
+pub mod Fronts
 pub mod Digits
 pub mod Texts
 pub mod Judging
@@ -7,6 +10,7 @@ pub mod Firsts
 pub mod Written
 pub mod Numerals
 pub mod Plain
+pub mod MetLines
 pub mod Accepting
 pub mod AcceptedUnits
 pub mod AcceptedTasks

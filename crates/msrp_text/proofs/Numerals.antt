@@ -27,6 +27,9 @@ tells_more n ds h t =
 tells_decimal : (n : ℕ) → n < 2 ^ 64 → Tells n (decimal n)
 tells_decimal n h = decimal_by_steps Tells tells_one tells_more n h
 
+pub all_digits : (n : ℕ) → n < 2 ^ 64 → list_all is_ascii_digit (decimal n) ≡ true
+all_digits n h = (tells_decimal n h).0
+
 -- it doesn't begin with 0 unless it is 0
 begins : (n : ℕ) → n < 2 ^ 64 → ((length (decimal n) == 1) || not (get_or (decimal n) 0 0 == 48)) ≡ true
 begins n h = elim (cases_eq n 0) [
@@ -63,4 +66,4 @@ plain_digits (d ∷ ds) h =
     ap (λ b. b || list_any (needs_byte default_writer) ds) (plain_digit d both.0) ∙ plain_digits ds both.1
 
 pub plain_decimal : (n : ℕ) → n < 2 ^ 64 → list_any (needs_byte default_writer) (decimal n) ≡ false
-plain_decimal n h = plain_digits (decimal n) (tells_decimal n h).0
+plain_decimal n h = plain_digits (decimal n) (all_digits n h)

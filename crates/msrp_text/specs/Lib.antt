@@ -1,4 +1,6 @@
 pub mod Settings
+pub mod Plain
+pub mod Ahead
 pub mod Records
 pub mod Fields
 pub mod Reading

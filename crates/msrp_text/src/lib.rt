@@ -1,8 +1,11 @@
 //! Plan text: the plan of a text, or its first refusal, and the text of a plan.
 #![tactic(auto)]
 
+mod csv_records;
 pub mod fields;
+mod front;
 pub mod laws;
+mod lines;
 pub mod reading;
 pub mod records;
 #[cfg(test)]

@@ -1,12 +1,16 @@
 //! The records of a text, read in turn.
-ghost use Rattle.std.specs.Prelude.{◌≡◌, ◌↔◌, ℕ, List, Some, None, Err, IfOk, IfErr, OnOk, option_map, true, false};
+ghost use Rattle.std.specs.Prelude.{◌≡◌, ◌↔◌, ◌≤◌, ◌<◌, ◌++◌, ℕ, List, Some, None, Err, IfOk, IfErr, OnOk, OnErr, IsSome, option_map, length, take, true, false};
 ghost use Rattle.csv.specs.Records.{fields_of};
-ghost use Rattle.csv.specs.declared.reader.Trim.TheVariants as trim;
-ghost use Rattle.csv.specs.Reading.{default_config, is_flexible, is_io, reader_config, reader_trim, stops_reader};
-ghost use Rattle.msrp_text.specs.Settings.{is_ready};
+ghost use Rattle.msrp_text.specs.declared.front.TheConstants.{LONGEST};
+ghost use Rattle.msrp_text.specs.Plain.{BeginsWith, EndsLine, IsPeeked, NoLine, is_plain, split_commas};
+ghost use Rattle.msrp_text.specs.Records.{GivesLine, GivesNext, KeepsRecords, bytes_ahead, csv_records, is_csv, left_at, reader_under, reads_csv, records_left, stop_at, stop_of};
 
-use csv::{ByteRecord, ErrorKind, Reader, ReaderBuilder};
-use std::alloc::Global;
+use crate::csv_records::CsvRecords;
+use crate::front::{PlainLine, line_met};
+use crate::lines::Lines;
+use core::mem;
+use csv::ByteRecord;
+use std::alloc::{AllocError, Global};
 use std::io::Read;
 
 /// Why no further record can be had.
@@ -18,45 +22,45 @@ pub enum Stopped {
     Memory,
 }
 
-// Why a read of a record failed, where no rule on records can have refused it.
-fn stopped_by(kind: &ErrorKind) -> Stopped
-    requires { stops_reader kind.now ≡ true }
-    ensures { (result ≡ Stopped.Read) ↔ (is_io kind.now ≡ true) }
+// How the records are read: from plain lines, or, from the first line on that isn't plain, by `csv`.
+#[derive(Drop)]
+enum Way<R> {
+    Lines(Lines<R>),
+    Csv(CsvRecords<Lines<R>>),
+}
+
+// The way by `csv`, from where the lines stand.
+fn by_csv<R: Read>(way: Way<R>, alloc: Global) -> (Way<R>, ())
+    ensures same { KeepsRecords (left_at R.remaining way) (left_at R.remaining result.0) }
+    ensures stop { stop_at result.0 ≡ stop_at way }
+    ensures csv { is_csv result.0 ≡ true }
 {
-    match kind {
-        ErrorKind::Io(_) => Stopped::Read,
-        ErrorKind::OutOfMemory => Stopped::Memory,
-        _ => unreachable!(),
+    match way {
+        Way::Lines(lines) => (Way::Csv(lines.into_records(alloc)), ()),
+        Way::Csv(records) => (Way::Csv(records), ()),
     }
 }
 
 /// The records of a text: fields between commas, no header row, records of any length, an empty line is no
 /// record.
+///
+/// Lines without a quote are taken as they stand. The first line that isn't plain and all that comes after it is read by
+/// `csv`.
 #[derive(Drop)]
 pub struct RecordReader<R> {
-    rows: Reader<R>,
-    stopped: Option<Stopped>,
-    ghost trim: { stopped ≡ None → reader_trim rows ≡ trim.None },
-    ghost config: { stopped ≡ None → reader_config rows ≡ default_config },
-    ghost ready: { stopped ≡ None → is_ready rows ≡ true },
-    ghost flexible: { stopped ≡ None → is_flexible rows ≡ true },
+    alloc: Global,
+    way: Way<R>,
 }
 
 impl<R: Read> RecordReader<R> {
-    ghost use Rattle.msrp_text.specs.Records.{GivesNext, csv_records, reader_under, records_left, stop_of};
-
     /// The records of all that a reader has left.
     pub fn new(alloc: Global, text: R) -> RecordReader<R>
         ensures left { records_left R.remaining result ≡ option_map csv_records (R.remaining text) }
         ensures goes { stop_of result ≡ None }
     {
-        let rows = ReaderBuilder::new()
-            .has_headers(false)
-            .flexible(true)
-            .from_reader(alloc, text);
         RecordReader {
-            rows,
-            stopped: None,
+            alloc,
+            way: Way::Lines(Lines::new(text)),
         }
     }
 
@@ -64,26 +68,129 @@ impl<R: Read> RecordReader<R> {
     pub fn reader(&self) -> &R
         ensures { result.now ≡ reader_under self.now }
     {
-        self.rows.get_ref()
+        match &self.way {
+            Way::Lines(lines) => lines.source(),
+            Way::Csv(records) => records.reader().source(),
+        }
     }
 
-    /// The next record into `row`, and whether there was one.
+    /// The bytes that were read ahead, where the next record begins. There are none once `csv` reads.
+    pub fn ahead(&self) -> &[u8]
+        ensures { result.now ≡ bytes_ahead self.now }
+    {
+        match &self.way {
+            Way::Lines(lines) => lines.ahead(),
+            Way::Csv(_) => &[],
+        }
+    }
+
+    /// Whether the bytes that were read ahead go on with these two texts and the end of a line (LF or CRLF). Where they do, that line is taken; else nothing is.
+    #[inline]
+    pub fn meets(&mut self, front: &[u8], rest: &[u8]) -> bool
+        ensures taken { result ≡ true → is_plain (front.now ++ rest.now) ≡ true → GivesLine (records_left R.remaining self.old) (split_commas (front.now ++ rest.now)) (records_left R.remaining self.new) }
+        ensures kept { result ≡ false → KeepsRecords (records_left R.remaining self.old) (records_left R.remaining self.new) }
+        ensures stop { stop_of self.new ≡ stop_of self.old }
+        ensures finds { (result ≡ true) ↔ BeginsWith (front.now ++ rest.now) (bytes_ahead self.old) }
+    {
+        match line_met(self.ahead(), front, rest) {
+            Some(taken) => {
+                self.take_line(taken);
+                true
+            }
+            None => false,
+        }
+    }
+
+    // Takes so many of the bytes that were read ahead: a plain line with its end. Its fields were the next record.
+    #[inline]
+    fn take_line(&mut self, count: usize)
+        requires count { count ≤ length (bytes_ahead self.old) }
+        requires some { 0 < count }
+        ensures next { (line : List ℕ) → EndsLine line (take count (bytes_ahead self.old)) → is_plain line ≡ true → GivesLine (records_left R.remaining self.old) (split_commas line) (records_left R.remaining self.new) }
+        ensures stop { stop_of self.new ≡ stop_of self.old }
+        ensures way { reads_csv self.new ≡ reads_csv self.old }
+    {
+        if let Way::Lines(lines) = &mut self.way {
+            lines.take(count);
+        }
+    }
+
+    // The next record, where it is a plain line: its fields into `row`, and where it stands in the bytes that were read
+    // ahead. It is not taken. Where memory is refused for its fields, no read has failed before.
+    fn peek_line(&mut self, row: &mut ByteRecord) -> Result<Option<PlainLine>, AllocError>
+        ensures line { IfOk result (λ found. IsPeeked (bytes_ahead self.new) (fields_of row.new) found) }
+        ensures grows { (more : List ℕ) × (bytes_ahead self.new ≡ bytes_ahead self.old ++ more) }
+        ensures same { KeepsRecords (records_left R.remaining self.old) (records_left R.remaining self.new) }
+        ensures stop { stop_of self.new ≡ stop_of self.old }
+        ensures way { reads_csv self.new ≡ reads_csv self.old }
+        ensures found { IfOk result (λ found. IsSome found → stop_of self.new ≡ None) }
+        ensures refused { OnErr result (stop_of self.new ≡ None) }
+    {
+        match &mut self.way {
+            Way::Lines(lines) => lines.peek(row),
+            Way::Csv(_) => Ok(None),
+        }
+    }
+
+    /// The next record into `row`, and whether there was one. A plain line that was read ahead is no reason to turn to `csv`.
     pub fn read(&mut self, row: &mut ByteRecord) -> Result<bool, Stopped>
         ensures next { IfOk result (λ found. (left : List (List (List ℕ))) → records_left R.remaining self.old ≡ Some left → GivesNext left found (fields_of row.new) (records_left R.remaining self.new)) }
         ensures goes { OnOk result (stop_of self.new ≡ None) }
         ensures stops { IfErr result (λ why. stop_of self.new ≡ Some why) }
         ensures stopped { (why : Stopped) → stop_of self.old ≡ Some why → result ≡ Err why }
+        ensures finds { OnOk result (reads_csv self.new ≡ true → NoLine LONGEST (bytes_ahead self.old)) }
     {
-        if let Some(why) = self.stopped {
-            return Err(why);
-        }
-        match self.rows.read_byte_record(row) {
-            Ok(found) => Ok(found),
-            Err(error) => {
-                let why = stopped_by(error.kind());
-                self.stopped = Some(why);
-                Err(why)
+        match self.peek_line(row) {
+            Ok(Some(line)) => {
+                self.take_line(line.taken);
+                Ok(true)
+            }
+            Ok(None) => {
+                self.turn();
+                self.read_csv(row)
+            }
+            Err(_) => {
+                self.turn();
+                self.stop(Stopped::Memory)
             }
         }
+    }
+
+    // From here on `csv` reads.
+    fn turn(&mut self)
+        ensures same { KeepsRecords (records_left R.remaining self.old) (records_left R.remaining self.new) }
+        ensures stop { stop_of self.new ≡ stop_of self.old }
+        ensures csv { reads_csv self.new ≡ true }
+    {
+        if matches!(self.way, Way::Lines(_)) {
+            mem::replace_with(&mut self.way, self.alloc, by_csv);
+        }
+    }
+
+    // The next record by `csv`.
+    fn read_csv(&mut self, row: &mut ByteRecord) -> Result<bool, Stopped>
+        requires { reads_csv self.old ≡ true }
+        ensures next { IfOk result (λ found. (left : List (List (List ℕ))) → records_left R.remaining self.old ≡ Some left → GivesNext left found (fields_of row.new) (records_left R.remaining self.new)) }
+        ensures goes { OnOk result (stop_of self.new ≡ None) }
+        ensures stops { IfErr result (λ why. stop_of self.new ≡ Some why) }
+        ensures stopped { (why : Stopped) → stop_of self.old ≡ Some why → result ≡ Err why }
+    {
+        match &mut self.way {
+            Way::Csv(records) => records.read(row),
+            Way::Lines(_) => unreachable!(),
+        }
+    }
+
+    // Each read from here on fails, for that reason.
+    fn stop(&mut self, why: Stopped) -> Result<bool, Stopped>
+        requires { reads_csv self.old ≡ true }
+        ensures fails { result ≡ Err why }
+        ensures stops { stop_of self.new ≡ Some why }
+    {
+        match &mut self.way {
+            Way::Csv(records) => records.stop(why),
+            Way::Lines(_) => unreachable!(),
+        }
+        Err(why)
     }
 }

@@ -494,3 +494,220 @@ fn refused_memory_is_told(rt: HostRuntime) {
     assert!(rt; matches!(&answer, Ok(_) | Err(TextError::Memory)));
     assert!(rt; !source.failed());
 }
+
+// Gives its text so many bytes a call.
+#[derive(Drop)]
+struct Pieces<'a> {
+    text: &'a [u8],
+    size: usize,
+}
+
+impl<'a> Read for Pieces<'a> {
+    fn read(&mut self, buf: &mut [u8]) -> io::Result<usize> {
+        let size = self.size.min(buf.len());
+        self.text.read(&mut buf[..size])
+    }
+}
+
+// Adds a record to a text: a bar after each field, and a slash at the end.
+fn tell(told: &mut Vec<u8>, row: &ByteRecord) -> Result<(), Fail> {
+    for place in 0..row.len() {
+        if let Some(field) = row.get(place) {
+            told.extend_from_slice(field)?;
+            told.push(b'|')?;
+        }
+    }
+    told.push(b'/')?;
+    Ok(())
+}
+
+// The records that a reader has left, as `tell` writes them, and an exclamation mark where it stops before the end.
+fn records_told<R: Read>(alloc: Global, records: &mut RecordReader<R>) -> Result<Vec<u8>, Fail> {
+    let mut row = ByteRecord::new(alloc);
+    let mut told = Vec::new(alloc);
+    for _ in 0..u64::MAX {
+        match records.read(&mut row) {
+            Ok(true) => tell(&mut told, &row)?,
+            Ok(false) => break,
+            Err(_) => {
+                told.push(b'!')?;
+                break;
+            }
+        }
+    }
+    Ok(told)
+}
+
+// Texts, and their records as `tell` writes them.
+const TOLD: [(&[u8], &[u8]); 8] = [
+    (
+        b"a,b\nc,,d\r\n1\n,\nlast,one",
+        b"a|b|/c||d|/1|/||/last|one|/",
+    ),
+    (b"\xef\xbb\xbfa,b\nc\n", b"a|b|/c|/"),
+    (b"\xef\xbba\nc\n", b"\xef\xbba|/c|/"),
+    (b"a\n\xef\xbb\xbfb,c\nd,e\n", b"a|/\xef\xbb\xbfb|c|/d|e|/"),
+    (
+        b"a\n\"x,\ny\",z\n\xef\xbb\xbfq\"r\rs,t,u\nv",
+        b"a|/x,\ny|z|/\xef\xbb\xbfq\"r|/s|t|u|/v|/",
+    ),
+    (b"a,b\r\r\nc\n\n\r\nd,e\n", b"a|b|/c|/d|e|/"),
+    (b"a\r\nb\r\nc\rd\n", b"a|/b|/c|/d|/"),
+    (b"\n\r\n", b""),
+];
+
+#[test]
+fn records_in_pieces(rt: HostRuntime) -> Result<(), Fail> {
+    for (text, due) in TOLD {
+        for size in 1..=9usize {
+            let mut records = RecordReader::new(rt.alloc(), Pieces { text, size });
+            let told = records_told(rt.alloc(), &mut records)?;
+            assert!(rt; told.as_slice() == due, "{size}");
+        }
+    }
+    Ok(())
+}
+
+// Each record that is whole before the read that fails is given, and then each read fails.
+#[test]
+fn records_before_a_read_fails(rt: HostRuntime) -> Result<(), Fail> {
+    let text = b"a,b\r\nc\n\"d\"\ne\n";
+    let due: [&[u8]; 17] = [
+        b"!",
+        b"!",
+        b"!",
+        b"!",
+        b"a|b|/!",
+        b"a|b|/!",
+        b"a|b|/!",
+        b"a|b|/c|/!",
+        b"a|b|/c|/!",
+        b"a|b|/c|/!",
+        b"a|b|/c|/!",
+        b"a|b|/c|/d|/!",
+        b"a|b|/c|/d|/!",
+        b"a|b|/c|/d|/e|/!",
+        b"a|b|/c|/d|/e|/",
+        b"a|b|/c|/d|/e|/",
+        b"a|b|/c|/d|/e|/",
+    ];
+    for (call, told) in (1u32..).zip(due) {
+        let mut records = RecordReader::new(rt.alloc(), halt_at(text, call));
+        let found = records_told(rt.alloc(), &mut records)?;
+        assert!(rt; found.as_slice() == told, "{call}");
+        let again = records_told(rt.alloc(), &mut records)?;
+        assert!(rt;
+            !told.ends_with(b"!") || again.as_slice() == b"!".as_slice(),
+            "{call}"
+        );
+    }
+    Ok(())
+}
+
+// Lines over the border of what is read ahead, and one that is longer than a line may be that is taken as it stands.
+#[test]
+fn records_over_the_border(rt: HostRuntime) -> Result<(), Fail> {
+    let mut text = Vec::new(rt.alloc());
+    let mut due = Vec::new(rt.alloc());
+    for _ in 0..1200u32 {
+        text.extend_from_slice(b"12345,1,spin,b,0,g\n")?;
+        due.extend_from_slice(b"12345|1|spin|b|0|g|/")?;
+    }
+    for _ in 0..300u32 {
+        text.push(b'x')?;
+        due.push(b'x')?;
+    }
+    text.extend_from_slice(b",y\nz\n")?;
+    due.extend_from_slice(b"|y|/z|/")?;
+    for size in [1usize, 7, 9, 4096, 16_383, 16_384, 100_000] {
+        let text = text.as_slice();
+        let mut records = RecordReader::new(rt.alloc(), Pieces { text, size });
+        let told = records_told(rt.alloc(), &mut records)?;
+        assert!(rt; told == due, "{size}");
+    }
+    Ok(())
+}
+
+// Whether a line is met after a first record, and the records after it.
+fn met_after_one(
+    alloc: Global,
+    text: &[u8],
+    front: &[u8],
+    rest: &[u8],
+) -> Result<(bool, Vec<u8>), Fail> {
+    let mut records = RecordReader::new(alloc, text);
+    let mut row = ByteRecord::new(alloc);
+    if records.read(&mut row) != Ok(true) {
+        return Err(Fail::new("no record"));
+    }
+    let met = records.meets(front, rest);
+    Ok((met, records_told(alloc, &mut records)?))
+}
+
+#[test]
+fn foreseen_lines_are_met_whole(rt: HostRuntime) -> Result<(), Fail> {
+    let table: [(&[u8], &[u8], &[u8], bool, &[u8]); 13] = [
+        (b"1\nab,c\nd", b"ab", b",c", true, b"d|/"),
+        (b"1\nab,c\r\nd", b"ab", b",c", true, b"d|/"),
+        (b"1\r\nab,c\nd", b"", b"ab,c", true, b"d|/"),
+        (b"1\nab,c\nd", b"ab,c", b"", true, b"d|/"),
+        (b"1\nab,c\n", b"ab", b",c", true, b""),
+        (b"1\nab,c\nd", b"ab", b",", false, b"ab|c|/d|/"),
+        (b"1\nab,c\nd", b"ab", b",cd", false, b"ab|c|/d|/"),
+        (b"1\nab,c\nd", b"a", b",c", false, b"ab|c|/d|/"),
+        (b"1\nab,c\nd", b"ab,c\nd\nef", b"", false, b"ab|c|/d|/"),
+        (b"1\nab,c\rd", b"ab", b",c", false, b"ab|c|/d|/"),
+        (b"1\nab,c\r", b"ab", b",c", false, b"ab|c|/"),
+        (b"1\nab,c", b"ab", b",c", false, b"ab|c|/"),
+        (b"\"1\"\nab,c\nd", b"ab", b",c", false, b"ab|c|/d|/"),
+    ];
+    for (text, front, rest, met, told) in table {
+        let found = met_after_one(rt.alloc(), text, front, rest)?;
+        assert_eq!(rt; found.0, met);
+        assert!(rt; found.1.as_slice() == told);
+    }
+    Ok(())
+}
+
+// How many of the lines are met. Each that isn't is read, and is then the same.
+fn lines_met(
+    alloc: Global,
+    lines: &[(&[u8], &[u8])],
+    records: &mut RecordReader<Pieces>,
+) -> Result<usize, Fail> {
+    let mut row = ByteRecord::new(alloc);
+    let mut met = 0usize;
+    for (front, rest) in lines {
+        if records.meets(front, rest) {
+            met = met.saturating_add(1);
+        } else if records.read(&mut row) != Ok(true) || row.get(1) != Some(*rest) {
+            return Err(Fail::new("another record"));
+        }
+    }
+    match records.read(&mut row) {
+        Ok(false) => Ok(met),
+        _ => Err(Fail::new("more records")),
+    }
+}
+
+// With each number of bytes a read: the lines that a read brought whole are met, and the others are read.
+#[test]
+fn foreseen_lines_in_pieces(rt: HostRuntime) -> Result<(), Fail> {
+    let text = b"1,a\n2,bc\r\n3,d\n4,e\n5,f\r\n6,\n";
+    let lines: [(&[u8], &[u8]); 6] = [
+        (b"1,", b"a"),
+        (b"2,", b"bc"),
+        (b"3,", b"d"),
+        (b"4,", b"e"),
+        (b"5,", b"f"),
+        (b"6,", b""),
+    ];
+    for size in 1..=40usize {
+        let mut records = RecordReader::new(rt.alloc(), Pieces { text, size });
+        let met = lines_met(rt.alloc(), &lines, &mut records)?;
+        assert!(rt; met < 6, "{size}");
+        assert!(rt; size < 12 || met >= 3, "{size}");
+        assert!(rt; size < 31 || met == 5, "{size}");
+    }
+    Ok(())
+}

@@ -1,5 +1,5 @@
-use Rattle.msrp_text.proofs.Remaining.{left-new}
+use Rattle.msrp_text.proofs.PlainLines.{lines-new}
 use Rattle.msrp_text.proofs.records.RecordReader.new.Goals as goal
 
 pub returns-clause-left : goal.returns-clause-left
-returns-clause-left g c = left-new _ _ _ c.from_reader-rows.ensures.state c.from_reader-rows.ensures.source
+returns-clause-left g c = lines-new _ _ _ c.new.ensures.begun c.new.ensures.bytes

@@ -1,6 +1,6 @@
 use Rattle.std.proofs.Common.{rules, ◌≡◌, None}
 use Rattle.msrp_text.proofs.Remaining.{read-gives, stops-only}
-use Rattle.msrp_text.proofs.records.RecordReader.read.Goals as goal
+use Rattle.msrp_text.proofs.csv_records.CsvRecords.read.Goals as goal
 
 pub stopped_by-why-requires : goal.stopped_by-why-requires
 stopped_by-why-requires g c =

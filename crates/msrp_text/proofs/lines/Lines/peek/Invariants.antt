@@ -1,0 +1,14 @@
+use Rattle.std.proofs.Common.{◌≡◌, ◌++◌, ◌-◌, ℕ, List}
+use Rattle.msrp_text.specs.Ahead.{buffered, lines_ahead}
+use Rattle.msrp_text.specs.declared.lines.TheConstants.{ROOM}
+use Rattle.msrp_text.specs.Records.{KeepsRecords, records_ahead}
+use Rattle.msrp_text.proofs.lines.Lines.peek.Given as goal
+
+abbrev pub invariant-loop-line : goal.invariant-loop-line
+invariant-loop-line g l = record {
+  same : KeepsRecords (records_ahead g.R.Read.remaining l.fn.self) (records_ahead g.R.Read.remaining l.self);
+  grows : (more : List ℕ) × (lines_ahead l.self ≡ lines_ahead l.fn.self ++ more);
+}
+
+abbrev pub decreases-loop-line : goal.decreases-loop-line
+decreases-loop-line g l = ROOM - buffered l.self

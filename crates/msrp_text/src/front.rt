@@ -1,0 +1,131 @@
+//! Plain lines: those without quotes, whose fields stand between commas.
+ghost use Rattle.std.specs.Prelude.{◌≡◌, ◌==◌, ◌&&◌, ◌||◌, ◌≤◌, ◌<◌, ◌⊎◌, ◌++◌, ◌∷◌, ℕ, List, [], IfOk, IsSome, true, slice_index, length, take, drop};
+ghost use Rattle.std.specs.Option.{IfSome};
+ghost use Rattle.csv.specs.Records.{fields_of, partial_of};
+ghost use Rattle.msrp_text.specs.Plain.{BeginsWith, EndsLine, IsInLine, Stands, is_plain, split_commas, split_from};
+
+use csv::ByteRecord;
+use std::alloc::AllocError;
+
+// A longer line is left to `csv`. No line of a trace is as long, nor one of a plan.
+pub(crate) const LONGEST: usize = 256;
+
+// The first byte of a byte order mark. A line that begins with it is left to `csv`.
+const MARK: u8 = 0xEF;
+
+/// Where a plain line stands at the front of a text.
+#[derive(Clone, Copy, Debug, PartialEq, Eq)]
+pub(crate) struct PlainLine {
+    /// Its bytes, without its end.
+    pub(crate) length: usize,
+    /// Its bytes with its end: a line feed, or a carriage return and a line feed.
+    pub(crate) taken: usize,
+}
+
+/// What stands at the front of a text of which more may come.
+#[derive(Clone, Copy, Debug, PartialEq, Eq)]
+pub(crate) enum Front {
+    /// A plain line.
+    Line(PlainLine),
+    /// The start of a line that may be plain.
+    Part,
+    /// Anything else.
+    Other,
+}
+
+// The line of that length, whose last field begins at `start` and isn't in `row` yet.
+fn line_to(
+    text: &[u8],
+    start: usize,
+    at: usize,
+    taken: usize,
+    row: &mut ByteRecord,
+) -> Result<Front, AllocError>
+    requires inside { at < taken }
+    requires within { taken ≤ length text.now }
+    requires ended { EndsLine (take at text.now) (take taken text.now) }
+    requires start { start ≤ at }
+    requires plain { is_plain (take at text.now) ≡ true }
+    requires whole { partial_of row.old ≡ [] }
+    requires fields { split_commas (take at text.now) ≡ fields_of row.old ++ (drop start (take at text.now) ∷ []) }
+    ensures { IfOk result (λ front. Stands text.now (fields_of row.new) front) }
+{
+    row.push_field(&text[start..at])?;
+    Ok(Front::Line(PlainLine { length: at, taken }))
+}
+
+// The front of a text whose first line ends at a line feed or a carriage return.
+fn front_to(text: &[u8], start: usize, at: usize, row: &mut ByteRecord) -> Result<Front, AllocError>
+    requires within { at < length text.now }
+    requires end { (slice_index text.now at ≡ 10) ⊎ (slice_index text.now at ≡ 13) }
+    requires start { start ≤ at }
+    requires plain { 0 < at → is_plain (take at text.now) ≡ true }
+    requires whole { partial_of row.old ≡ [] }
+    requires fields { split_commas (take at text.now) ≡ fields_of row.old ++ (drop start (take at text.now) ∷ []) }
+    requires before { IsInLine at text.now }
+    ensures { IfOk result (λ front. Stands text.now (fields_of row.new) front) }
+{
+    if at == 0 {
+        return Ok(Front::Other);
+    }
+    if text[at] == b'\n' {
+        return line_to(text, start, at, at + 1, row);
+    }
+    if at + 1 == text.len() {
+        return Ok(Front::Part);
+    }
+    if text[at + 1] == b'\n' {
+        return line_to(text, start, at, at + 2, row);
+    }
+    Ok(Front::Other)
+}
+
+// Whether a byte at that place is in no plain line: a quote, and at the start what may begin a byte order mark.
+fn is_other(byte: u8, at: usize) -> bool
+    ensures { result ≡ ((byte == 34) || ((at == 0) && (byte == 239))) }
+{
+    byte == b'"' || (at == 0 && byte == MARK)
+}
+
+/// What stands at the front of a text. The fields of a plain line are put into `row`.
+pub(crate) fn front_of(text: &[u8], row: &mut ByteRecord) -> Result<Front, AllocError>
+    ensures { IfOk result (λ front. Stands text.now (fields_of row.new) front) }
+{
+    row.clear();
+    let mut start = 0;
+    for at in 0..text.len().min(LONGEST) {
+        let byte = text[at];
+        if byte == b'\n' || byte == b'\r' {
+            return front_to(text, start, at, row);
+        }
+        if is_other(byte, at) {
+            return Ok(Front::Other);
+        }
+        if byte == b',' {
+            row.push_field(&text[start..at])?;
+            start = at + 1;
+        }
+    }
+    if text.len() < LONGEST {
+        Ok(Front::Part)
+    } else {
+        Ok(Front::Other)
+    }
+}
+
+/// How many bytes a line takes with its end, where a text begins with it. The line is given in two parts.
+#[inline]
+pub(crate) fn line_met(text: &[u8], front: &[u8], rest: &[u8]) -> Option<usize>
+    ensures line { IfSome result (λ taken. (0 < taken) × (taken ≤ length text.now) × EndsLine (front.now ++ rest.now) (take taken text.now)) }
+    ensures finds { BeginsWith (front.now ++ rest.now) text.now → IsSome result }
+{
+    let end = text.strip_prefix(front)?.strip_prefix(rest)?;
+    let length = front.len() + rest.len();
+    if end.starts_with(b"\n") {
+        return Some(length + 1);
+    }
+    if end.starts_with(b"\r\n") {
+        return Some(length + 2);
+    }
+    None
+}

@@ -1,0 +1,156 @@
+//! The bytes of a text, some of them read ahead, and the plain lines at their front.
+ghost use Rattle.std.specs.Prelude.{◌≡◌, ◌≤◌, ◌<◌, ◌++◌, ℕ, List, [], None, IfOk, true, false, length, take};
+ghost use Rattle.msrp_text.specs.declared.lines.TheConstants.{ROOM};
+ghost use Rattle.std.specs.Io.{ReadsAtMost};
+ghost use Rattle.std.specs.Io.KnownBytes.{Keeps, ReadConsumes};
+ghost use Rattle.csv.specs.Records.{fields_of};
+ghost use Rattle.msrp_text.specs.Plain.{EndsLine, IsPeeked, is_plain, split_commas};
+
+use crate::csv_records::CsvRecords;
+use crate::front::{Front, PlainLine, front_of};
+use csv::ByteRecord;
+use std::alloc::{AllocError, Global};
+use std::io;
+use std::io::{ErrorKind, Read};
+
+/// How many bytes are read ahead at most, and one, which is free for a line feed.
+pub(crate) const ROOM: usize = 16_384;
+
+/// The bytes of a text, some of them read ahead.
+#[derive(Drop)]
+pub(crate) struct Lines<R> {
+    source: R,
+    buffer: [u8; ROOM],
+    at: usize,
+    end: usize,
+    // A line was taken, so what is left isn't the start of the text.
+    begun: bool,
+    // Why a read ahead failed, if one did.
+    failed: Option<ErrorKind>,
+    ghost front: { begun ≡ true → 1 ≤ at },
+    ghost order: { at ≤ end },
+    ghost within: { end ≤ length buffer },
+    ghost room: { end ≤ ROOM },
+}
+
+impl<R: Read> Lines<R> {
+    ghost use Rattle.msrp_text.specs.Ahead.{buffered, lines_ahead, unread};
+    ghost use Rattle.msrp_text.specs.Records.{GivesLine, KeepsRecords, csv_left, records_ahead};
+
+    /// The bytes that a reader has left.
+    pub(crate) fn new(source: R) -> Lines<R>
+        ensures bytes { unread R.remaining result ≡ R.remaining source }
+        ensures begun { result.begun ≡ false }
+    {
+        Lines {
+            source,
+            buffer: [0; ROOM],
+            at: 1,
+            end: 1,
+            begun: false,
+            failed: None,
+        }
+    }
+
+    /// The reader underneath.
+    pub(crate) fn source(&self) -> &R
+        ensures { result.now ≡ self.now.source }
+    {
+        &self.source
+    }
+
+    /// The bytes that were read ahead.
+    pub(crate) fn ahead(&self) -> &[u8]
+        ensures { result.now ≡ lines_ahead self.now }
+    {
+        &self.buffer[self.at..self.end]
+    }
+
+    /// Takes so many of the bytes that were read ahead.
+    pub(crate) fn take(&mut self, count: usize)
+        requires count { count ≤ length (lines_ahead self.old) }
+        requires some { 0 < count }
+        ensures { (line : List ℕ) → EndsLine line (take count (lines_ahead self.old)) → is_plain line ≡ true → GivesLine (records_ahead R.remaining self.old) (split_commas line) (records_ahead R.remaining self.new) }
+    {
+        self.at += count;
+        self.begun = true;
+    }
+
+    /// The plain line that is next, if one is: its fields into `row`. It is not taken. As much is read as it takes.
+    pub(crate) fn peek(&mut self, row: &mut ByteRecord) -> Result<Option<PlainLine>, AllocError>
+        ensures line { IfOk result (λ found. IsPeeked (lines_ahead self.new) (fields_of row.new) found) }
+        ensures grows { (more : List ℕ) × (lines_ahead self.new ≡ lines_ahead self.old ++ more) }
+        ensures same { KeepsRecords (records_ahead R.remaining self.old) (records_ahead R.remaining self.new) }
+    {
+        loop {
+            match front_of(self.ahead(), row)? {
+                Front::Line(line) => return Ok(Some(line)),
+                Front::Part if self.fetch() => {}
+                _ => return Ok(None),
+            }
+        }
+    }
+
+    // One more read ahead, and whether it gave a byte. Where it fails, the read after the bytes that are there fails.
+    #[inline(never)]
+    fn fetch(&mut self) -> bool
+        ensures kept { Keeps (unread R.remaining self.old) (unread R.remaining self.new) }
+        ensures begun { self.new.begun ≡ self.old.begun }
+        ensures grows { (more : List ℕ) × (lines_ahead self.new ≡ lines_ahead self.old ++ more) × (result ≡ false → more ≡ []) }
+        ensures more { result ≡ true → buffered self.old < buffered self.new }
+    {
+        let front = self.at.min(1);
+        let count = self.end - self.at;
+        self.buffer.copy_within(self.at..self.end, front);
+        self.at = front;
+        self.end = front + count;
+        match self.source.read(&mut self.buffer[self.end..]) {
+            Ok(more) => {
+                self.end += more;
+                more > 0
+            }
+            Err(error) => {
+                self.failed = Some(error.kind());
+                false
+            }
+        }
+    }
+
+    /// The records that are left, read by `csv`.
+    pub(crate) fn into_records(self, alloc: Global) -> CsvRecords<Lines<R>>
+        ensures left { KeepsRecords (records_ahead R.remaining self) (csv_left (unread R.remaining) result) }
+        ensures goes { result.stopped ≡ None }
+    {
+        let mut rest = self;
+        if rest.begun {
+            // A reader of records takes a byte order mark off the front. After a line feed it finds none.
+            let front = rest.at - 1;
+            rest.at = front;
+            rest.begun = false;
+            rest.buffer[front] = b'\n';
+        }
+        CsvRecords::new(alloc, rest)
+    }
+}
+
+impl<R: Read> Read for Lines<R> {
+    ghost use Rattle.msrp_text.specs.Ahead.{unread};
+
+    ghost remaining = { unread R.remaining };
+
+    fn read(&mut self, buf: &mut [u8]) -> io::Result<usize>
+        ensures bound { ReadsAtMost result buf.new }
+        ensures bytes { ReadConsumes (unread R.remaining self.old) (unread R.remaining self.new) result buf.new }
+    {
+        if self.at == self.end {
+            return match self.failed {
+                Some(kind) => Err(io::Error::from(kind)),
+                None => self.source.read(buf),
+            };
+        }
+        let count = (self.end - self.at).min(buf.len());
+        buf[..count].copy_from_slice(&self.buffer[self.at..self.at + count]);
+        self.at += count;
+        Ok(count)
+    }
+}
