@@ -5,4 +5,6 @@ pub mod Gathered
 pub mod Records
 pub mod NamedRows
 pub mod ReadBack
+pub mod MetRows
 pub mod Kept
+pub mod ReadThrough

@@ -1,5 +1,5 @@
 -- What is written of rows reads back as those rows.
-use Rattle.std.proofs.Common.{◌≡◌, ℕ, ◌+◌, ◌<◌, ◌==◌, ◌&&◌, ◌||◌, not, true, false, cond, List, [], ◌∷◌, ◌++◌, map, length, decimal, Option, Some, None, is_some, option_map, unwrap_or, refl, ap, sym, ◌∙◌, subst, arith, nat_lt}
+use Rattle.std.proofs.Common.{◌≡◌, ℕ, ◌+◌, ◌<◌, ◌==◌, ◌&&◌, ◌||◌, not, true, false, cond, List, [], ◌∷◌, ◌++◌, map, length, decimal, Option, Some, None, is_none, is_some, option_map, unwrap_or, refl, ap, sym, ◌∙◌, subst, arith, nat_lt}
 use Rattle.std.specs.Prelude.{slice_index_or}
 use Rattle.std.specs.List.{AllByRecursion, flat_map, list_all}
 use Rattle.std.specs.Str.{bytes_eq}
@@ -25,12 +25,14 @@ use Rattle.msrp_plan.specs.declared.rows.Row.{Row}
 use Rattle.msrp_plan.specs.declared.rows.TextVersion.{TextVersion}
 use Rattle.msrp_plan.specs.declared.rows.TextVersion.TheVariants.{V1, V2}
 use Rattle.msrp_text.specs.Fields.{number_at, number_of}
+use Rattle.msrp_text.specs.Plain.{is_plain, split_commas}
 use Rattle.msrp_text.specs.PlanText.{records_text, version_text}
 use Rattle.msrp_text.specs.Records.{csv_records, records_at}
+use Rattle.msrp_text.proofs.MetLines.{met-line}
 use Rattle.msrp_text.proofs.Numerals.{number_again, plain_decimal}
 use Rattle.msrp_text.proofs.Plain.{IsPlain, IsPlainRecord, plain_back, plain_name}
 use Rattle.msrp_text.proofs.ReadBack.{all_made}
-use Rattle.msrp_trace.specs.Laws.{as_read, has_short_ahead, has_short_job, has_short_numbers, is_short}
+use Rattle.msrp_trace.specs.Laws.{as_read, has_short_ahead, has_short_job, has_short_numbers, has_told_ahead, is_short, is_told_whole}
 use Rattle.msrp_trace.specs.Reading.{Told, rows_of, told_after}
 use Rattle.msrp_trace.specs.Rows.{ahead_told, field_count, has_its_ahead, has_parts, is_dash, is_shaped, job_told, job_with, kind_named, kind_told, lacks_name, lacks_number, res_named, res_told, row_fault, row_told, task_named, task_told, version_told}
 use Rattle.msrp_trace.specs.TraceText.{ahead_fields, ahead_text, dash, head_fields, head_text, is_named, is_res_of, is_task_of, job_text, kind_text, res_text, row_fields, row_text, task_text, trace_text, trace_word}
@@ -341,6 +343,47 @@ plain_row version plan r ok h =
     let c = and_parts (has_short_job r.job) (has_short_ahead r.ahead) b.1 in
     (omega arith, (plain_short r.tick a.0, (plain_short r.core.0 b.0, (plain_kind r.kind, (plain_task plan r.job ok both.0, (plain_job r.job c.0, (plain_res plan r.res ok both.1, plain_ahead version r.ahead c.1)))))))
 
+-- ---- one row
+-- a row that is told whole
+whole_tells : (version : TextVersion) (plan : PlanModel) (r : Row) → IsPlan plan → is_told_whole version plan r ≡ true → TellsRow version plan (row_fields version plan r) r
+whole_tells version plan r ok h =
+    let parts = and_parts (is_named plan r) (has_short_numbers r && has_told_ahead version r) h in
+    let more = and_parts (has_short_numbers r) (has_told_ahead version r) parts.1 in
+    let a = and_parts (is_short r.tick) (is_short r.core.0 && (has_short_job r.job && has_short_ahead r.ahead)) more.0 in
+    let b = and_parts (is_short r.core.0) (has_short_job r.job && has_short_ahead r.ahead) a.1 in
+    let c = and_parts (has_short_job r.job) (has_short_ahead r.ahead) b.1 in
+    row_tells version plan r ok (record { named = parts.0; tick = a.0; core = b.0; job = c.0 }) (by version more.1 c.1)
+  where
+    none_is : (o : Option ℕ) → is_none o ≡ true → o ≡ None
+    none_is None e = refl
+    none_is (Some n) e = absurd (cc)
+
+    by : (v : TextVersion) → has_told_ahead v r ≡ true → has_short_ahead r.ahead ≡ true → IsCarried v r
+    by V1 told short = none_is r.ahead told
+    by V2 told short = (told, short)
+
+-- its record is read as that row
+pub whole_read : (version : TextVersion) (plan : PlanModel) (r : Row) → IsPlan plan → is_told_whole version plan r ≡ true → (row_fault version plan (row_fields version plan r) ≡ None) × (row_told version plan (row_fields version plan r) ≡ Some r)
+whole_read version plan r ok h =
+    let tells = whole_tells version plan r ok h in
+    (row_kept version plan _ r tells, row_again version plan _ r tells)
+
+-- and is a plain line
+pub whole_line : (version : TextVersion) (plan : PlanModel) (r : Row) (line : List ℕ) → IsPlan plan → is_told_whole version plan r ≡ true → line ++ (10 ∷ []) ≡ row_text version plan r
+    → (is_plain line ≡ true) × (split_commas line ≡ row_fields version plan r)
+whole_line version plan r line ok h e =
+    let parts = and_parts (is_named plan r) (has_short_numbers r && has_told_ahead version r) h in
+    let more = and_parts (has_short_numbers r) (has_told_ahead version r) parts.1 in
+    let short = and_parts (is_short r.tick) (is_short r.core.0 && (has_short_job r.job && has_short_ahead r.ahead)) more.0 in
+    let low : r.tick < 1000000000 = let n = short.0 in grind (arith, nat_tests, n) in
+    let plain = plain_row version plan r ok (record { named = parts.0; short = more.0; carries = by version more.1 }) in
+    met-line r.tick _ line (omega (arith, low)) (omega (arith, plain.0)) plain.1.1 e
+  where
+    by : (v : TextVersion) → has_told_ahead v r ≡ true → v ≡ V2 → carries_its_ahead r ≡ true
+    by V1 told e = absurd (cc)
+    by V2 told e = told
+
+-- ---- the first record of a text
 plain_head : (version : TextVersion) (plan : PlanModel) → IsPlan plan → IsPlainRecord (head_fields version plan)
 unfolding trace_word
 plain_head version plan ok =

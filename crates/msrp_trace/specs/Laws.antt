@@ -1,10 +1,12 @@
 -- Rows that were written, as they are read.
-use Rattle.std.specs.Prelude.{ℕ, Bool, true, ◌&&◌, nat_lt, Option, Some, None}
-use Rattle.msrp_plan.specs.Aheads.{without_ahead}
+use Rattle.std.specs.Prelude.{ℕ, Bool, true, ◌&&◌, is_none, nat_lt, Option, Some, None}
+use Rattle.msrp_plan.specs.Aheads.{carries_its_ahead, without_ahead}
+use Rattle.msrp_plan.specs.Plan.{PlanModel}
 use Rattle.msrp_plan.specs.declared.ids.JobId.{JobId}
 use Rattle.msrp_plan.specs.declared.rows.Row.{Row}
 use Rattle.msrp_plan.specs.declared.rows.TextVersion.{TextVersion}
 use Rattle.msrp_plan.specs.declared.rows.TextVersion.TheVariants.{V1, V2}
+use Rattle.msrp_trace.specs.TraceText.{is_named}
 
 -- a number of at most nine digits
 abbrev pub is_short : ℕ → Bool
@@ -26,3 +28,12 @@ has_short_numbers r = is_short r.tick && (is_short r.core.0 && (has_short_job r.
 abbrev pub as_read : TextVersion → Row → Row
 as_read V1 r = without_ahead r
 as_read V2 r = r
+
+-- the row has an ahead as its version tells one: version 1 tells none, and version 2 that of each queue row
+abbrev pub has_told_ahead : TextVersion → Row → Bool
+has_told_ahead V1 r = is_none r.ahead
+has_told_ahead V2 r = carries_its_ahead r
+
+-- the row is read as it was written
+abbrev pub is_told_whole : TextVersion → PlanModel → Row → Bool
+is_told_whole version plan r = is_named plan r && (has_short_numbers r && has_told_ahead version r)

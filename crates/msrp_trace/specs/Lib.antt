@@ -6,5 +6,6 @@ pub mod WriterView
 pub mod Rows
 pub mod RowParts
 pub mod Reading
-pub mod Readers
 pub mod Laws
+pub mod Readers
+pub mod Foreseen

@@ -1,12 +1,15 @@
 -- What a reader of rows has left, and what each call gives.
-use Rattle.std.specs.Prelude.{◌≡◌, ◌⊎◌, ℕ, Bool, true, false, List, [], ◌∷◌, Option, Some, None, Result, Ok, Err, option_map, IsOkAnd}
+use Rattle.std.specs.Prelude.{◌++◌, ◌+◌, ◌^◌, ◌<◌, codes, ◌≡◌, ◌⊎◌, ℕ, Bool, true, false, List, [], ◌∷◌, Option, Some, None, Result, Ok, Err, option_map, IsOkAnd}
 use Rattle.msrp_plan.specs.Bytes.{source_remaining}
 use Rattle.msrp_plan.specs.declared.bytes.Source.{Source}
 use Rattle.msrp_plan.specs.Plan.{PlanModel}
 use Rattle.msrp_plan.specs.declared.rows.Row.{Row}
 use Rattle.msrp_plan.specs.declared.rows.TextVersion.{TextVersion}
-use Rattle.msrp_text.specs.Records.{reader_under, records_left}
+use Rattle.msrp_text.specs.Plain.{BeginsWith}
+use Rattle.msrp_text.specs.Records.{bytes_ahead, reader_under, records_left}
+use Rattle.msrp_trace.specs.Laws.{is_told_whole}
 use Rattle.msrp_trace.specs.Reading.{Told, rows_of, told_after, version_of}
+use Rattle.msrp_trace.specs.TraceText.{row_text}
 use Rattle.msrp_trace.specs.declared.faults.TraceError.{TraceError}
 use Rattle.msrp_trace.specs.declared.faults.TraceError.TheVariants.{At, Read, Memory}
 use Rattle.msrp_trace.specs.declared.faults.TraceFault.TheVariants.{Head}
@@ -33,6 +36,15 @@ stage_after (Err e) = Failed
 -- the rows that a reader has left, and the refusal after them, where the reader underneath tells its bytes
 abbrev pub told_left : {R : Type 0} → (R → Option (List ℕ)) → TraceReader R → Option Told
 told_left remaining t = left_at t.stage (option_map (told_after t.version t.plan.now t.number) (records_left (λ s. source_remaining remaining s.now) t.records))
+
+-- the next row can be met: its text is read as it is, and the bytes that were read ahead begin with it
+pub record CanMeet {R : Type 0} (t : TraceReader R) (r : Row) : Type 0 where
+  pub stage : t.stage ≡ Rows
+  pub number : t.number + 1 < 2 ^ 32
+  pub whole : is_told_whole t.version t.plan.now r ≡ true
+  pub line : List ℕ
+  pub text : line ++ codes "\n" ≡ row_text t.version t.plan.now r
+  pub ahead : BeginsWith line (bytes_ahead t.records)
 
 abbrev pub is_failed : Stage → Bool
 is_failed Failed = true

@@ -2,6 +2,7 @@
 #![tactic(auto)]
 
 mod faults;
+mod foreseen;
 mod guesses;
 pub mod laws;
 mod line;
@@ -10,6 +11,7 @@ mod reading;
 mod rows;
 #[cfg(test)]
 mod tests;
+mod text;
 mod tick;
 mod words;
 mod writing;

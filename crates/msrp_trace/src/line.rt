@@ -1,24 +1,25 @@
 //! The text of one record as it is made, and the record that a core had last.
 ghost use Rattle.std.specs.Prelude.{◌≡◌, ◌≤◌, ◌<◌, ◌+◌, ◌++◌, [], codes, decimal, length, true, Some, None, IsSomeAnd};
 ghost use Rattle.std.specs.List.{flat_map};
-ghost use Rattle.msrp_plan.specs.Plan.{task_at};
+ghost use Rattle.std.specs.Option.{IfSome};
+ghost use Rattle.msrp_plan.specs.Plan.{PlanModel, task_at};
 ghost use Rattle.msrp_trace.specs.Gathering.{next_field, after_tick};
-ghost use Rattle.msrp_trace.specs.Lines.{IsLine, is_same_place};
+ghost use Rattle.msrp_trace.specs.Lines.{IsLine, IsWhole, is_same_place};
+ghost use Rattle.msrp_trace.specs.Laws.{is_short, is_told_whole};
 ghost use Rattle.msrp_trace.specs.TraceText.{ahead_fields, dash, head_text, is_named, is_res_of, is_task_of, job_text, res_text, task_text};
 
+use crate::text::Text;
 use crate::words::{DASH, TRACE_WORD, kind_word, version_word};
-use arrayvec::ArrayVec;
-use itoa::Buffer;
 use msrp_plan::{JobId, Kind, Plan, ResId, Row, TaskId, TextVersion};
 use std::marker::Model;
 
 // No record is longer: a number has at most 10 digits, and a name at most 16 letters.
-const LINE: usize = 96;
+pub(crate) const LINE: usize = 80;
 
 /// The text of a record, as far as it is made.
 #[derive(Drop)]
 pub(crate) struct Line {
-    bytes: ArrayVec<u8, LINE>,
+    text: Text<LINE>,
 }
 
 impl Model for Line {
@@ -26,7 +27,7 @@ impl Model for Line {
 
     ghost Value = { List ℕ };
 
-    ghost view = { λ l. l.bytes.items };
+    ghost view = { λ l. l.text };
 }
 
 // The name of a task.
@@ -56,23 +57,21 @@ impl Line {
     pub(crate) fn new() -> Line
         ensures { result ≡ [] }
     {
-        Line {
-            bytes: ArrayVec::new(),
-        }
+        Line { text: Text::new() }
     }
 
     /// The text.
-    pub(crate) fn as_bytes(&self) -> &[u8]
+    pub(crate) fn text(&self) -> &Text<LINE>
         ensures { result.now ≡ self.now }
     {
-        self.bytes.as_slice()
+        &self.text
     }
 
     /// Takes everything back.
     pub(crate) fn clear(&mut self)
         ensures { self.new ≡ [] }
     {
-        self.bytes.clear();
+        self.text.clear();
     }
 
     // Takes a text, for which there is room.
@@ -81,7 +80,7 @@ impl Line {
         ensures text { self.new ≡ self.old ++ text.now }
         ensures size { length self.new ≡ length self.old + length text.now }
     {
-        self.bytes.try_extend_from_slice(text).unwrap();
+        self.text.add(text);
     }
 
     // A further field.
@@ -90,18 +89,8 @@ impl Line {
         ensures text { self.new ≡ self.old ++ next_field text.now }
         ensures size { length self.new ≡ length self.old + length text.now + 1 }
     {
-        self.bytes.push(b',');
-        self.add(text);
-    }
-
-    /// Takes a number.
-    pub(crate) fn number(&mut self, number: u32)
-        requires { length self.old + 10 ≤ LINE }
-        ensures text { self.new ≡ self.old ++ decimal number }
-        ensures size { length self.new ≤ length self.old + 10 }
-    {
-        let mut digits = Buffer::new();
-        self.add(digits.format(number).as_bytes());
+        self.text.add(b",");
+        self.text.add(text);
     }
 
     fn next_number(&mut self, number: u32)
@@ -109,8 +98,8 @@ impl Line {
         ensures text { self.new ≡ self.old ++ next_field (decimal number) }
         ensures size { length self.new ≤ length self.old + 11 }
     {
-        self.bytes.push(b',');
-        self.number(number);
+        self.text.add(b",");
+        self.text.number(number);
     }
 
     // A field that says that there is none.
@@ -245,6 +234,7 @@ impl RowLine {
         requires before { IsLine version plan.now self.old }
         ensures after { IsLine version plan.now self.new }
         ensures text { self.new.line ≡ after_tick version plan.now row.now }
+        ensures whole { IsWhole version plan.now self.old → is_told_whole version plan.now row.now ≡ true → IsWhole version plan.now self.new }
     {
         if !self.is_of(row) {
             self.line.make(plan, version, row);
@@ -252,10 +242,30 @@ impl RowLine {
         }
     }
 
+    /// The row that is kept, as it is in another tick.
+    #[inline(always)]
+    pub(crate) fn in_tick(&self, tick: u32) -> Option<Row>
+        ensures tick { IfSome result (λ row. row.tick ≡ tick) }
+        ensures whole { (version : TextVersion) (plan : PlanModel) → IsWhole version plan self.now → IfSome result (λ row. is_short row.tick ≡ true → is_told_whole version plan row ≡ true) }
+        ensures text { (version : TextVersion) (plan : PlanModel) → IsLine version plan self.now → IfSome result (λ row. self.now.line ≡ after_tick version plan row) }
+    {
+        match self.row {
+            Some(row) => Some(Row {
+                tick,
+                core: row.core,
+                kind: row.kind,
+                job: row.job,
+                res: row.res,
+                ahead: row.ahead,
+            }),
+            None => None,
+        }
+    }
+
     /// The text of the record after the tick.
-    pub(crate) fn as_bytes(&self) -> &[u8]
+    pub(crate) fn text(&self) -> &Text<LINE>
         ensures { result.now ≡ self.now.line }
     {
-        self.line.as_bytes()
+        self.line.text()
     }
 }

@@ -1,9 +1,9 @@
 //! Text that is gathered and then written, some kilobytes at a time.
-ghost use Rattle.std.specs.Prelude.{◌≡◌, []};
+ghost use Rattle.std.specs.Prelude.{◌≡◌, ◌≤◌, []};
 ghost use Rattle.msrp_plan.specs.Bytes.{Wrote};
 ghost use Rattle.msrp_trace.specs.Gathering.{Gathers};
 
-use arrayvec::ArrayVec;
+use crate::text::Text;
 use msrp_plan::bytes::Sink;
 use std::io::Write;
 use std::marker::Model;
@@ -14,7 +14,7 @@ const PAGE: usize = 8192;
 /// Text that was gathered and is not written yet.
 #[derive(Drop)]
 pub(crate) struct Page {
-    bytes: ArrayVec<u8, PAGE>,
+    text: Text<PAGE>,
 }
 
 impl Model for Page {
@@ -22,7 +22,7 @@ impl Model for Page {
 
     ghost Value = { List ℕ };
 
-    ghost view = { λ p. p.bytes.items };
+    ghost view = { λ p. p.text };
 }
 
 impl Page {
@@ -30,41 +30,28 @@ impl Page {
     pub(crate) fn new() -> Page
         ensures { result ≡ [] }
     {
-        Page {
-            bytes: ArrayVec::new(),
-        }
+        Page { text: Text::new() }
     }
 
     /// Writes what was gathered.
+    #[inline(never)]
     pub(crate) fn write<W: Write>(&mut self, out: &mut Sink<W>)
         ensures wrote { Wrote W.contents out.old out.new self.old }
         ensures empty { self.new ≡ [] }
     {
-        out.add(self.bytes.as_slice());
-        self.bytes.clear();
+        out.add(self.text.as_bytes());
+        self.text.clear();
     }
 
-    /// Takes a text.
+    /// Takes a text. Where the page has no room for the longest of its type, what was gathered is written before.
     #[inline(always)]
-    pub(crate) fn add<W: Write>(&mut self, out: &mut Sink<W>, text: &[u8])
+    pub(crate) fn add<W: Write, const N: usize>(&mut self, out: &mut Sink<W>, text: &Text<N>)
+        requires { N ≤ PAGE }
         ensures { Gathers W.contents self.old out.old self.new out.new text.now }
     {
-        match self.bytes.try_extend_from_slice(text) {
-            Ok(()) => {}
-            Err(_) => self.turn(out, text),
+        if self.text.room() < N {
+            self.write(out);
         }
-    }
-
-    // Takes a text that does not fit: what was gathered is written, and the text begins the next page, unless
-    // it is longer than a page.
-    #[inline(never)]
-    fn turn<W: Write>(&mut self, out: &mut Sink<W>, text: &[u8])
-        ensures { Gathers W.contents self.old out.old self.new out.new text.now }
-    {
-        self.write(out);
-        if self.bytes.try_extend_from_slice(text).is_ok() {
-            return;
-        }
-        out.add(text);
+        self.text.add_text(text);
     }
 }

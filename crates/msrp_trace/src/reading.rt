@@ -1,19 +1,24 @@
 //! Trace text, read.
-ghost use Rattle.std.specs.Prelude.{◌≡◌, ◌⊎◌, ◌↔◌, ℕ, List, Some, None, Ok, Err, IfOk, OnOk, OnErr, true, false};
+ghost use Rattle.std.proofs.Props.{props};
+ghost use Rattle.std.specs.Option.{IfSome};
+ghost use Rattle.std.specs.Prelude.{◌+◌, ◌≡◌, ◌⊎◌, ◌↔◌, ℕ, List, Some, None, Ok, Err, IfOk, OnOk, OnErr, true, false};
 ghost use Rattle.msrp_plan.specs.Bytes.{source_failed, source_remaining};
 ghost use Rattle.csv.specs.Records.{fields_of};
 ghost use Rattle.msrp_text.specs.Records.{csv_records, reader_under};
+ghost use Rattle.msrp_plan.specs.WellFormed.{IsPlan};
+ghost use Rattle.msrp_trace.specs.Foreseen.{AreTexts, AreTextsOf};
+ghost use Rattle.msrp_trace.specs.Laws.{is_told_whole};
 ghost use Rattle.msrp_trace.specs.Reading.{Told};
-ghost use Rattle.msrp_trace.specs.Readers.{GivesFirstOr, GivesNext, IsDue, Opens, has_failed, source_of, stage_after, told_left};
 ghost use Rattle.msrp_trace.specs.RowParts.{ReadsAt};
 ghost use Rattle.msrp_trace.specs.Rows.{row_fault, row_told};
 
 use crate::faults::{TraceError, TraceFault};
+use crate::foreseen::{Foreseen, is_short, is_told_whole};
 use crate::guesses::Guesses;
 use crate::rows::{read_row, version_told};
 use csv::ByteRecord;
 use msrp_plan::bytes::Source;
-use msrp_plan::{Plan, Row, TextVersion};
+use msrp_plan::{CoreId, Plan, Row, TextVersion};
 use msrp_text::records::RecordReader;
 use std::alloc::Global;
 use std::io::Read;
@@ -43,9 +48,26 @@ pub struct TraceReader<'a, R> {
     records: RecordReader<&'a mut Source<R>>,
     fields: ByteRecord,
     guesses: Guesses,
+    foreseen: Foreseen,
     version: TextVersion,
     number: u32,
     stage: Stage,
+    ghost texts: { AreTexts version plan.now foreseen } by { Prim.hlevel props },
+}
+
+// A row as a text of the version tells it: version 1 leaves out the ahead.
+fn told_in(version: TextVersion, row: Row) -> Row {
+    match version {
+        TextVersion::V1 => Row {
+            tick: row.tick,
+            core: row.core,
+            kind: row.kind,
+            job: row.job,
+            res: row.res,
+            ahead: None,
+        },
+        TextVersion::V2 => row,
+    }
 }
 
 // The refusal of the first record.
@@ -66,14 +88,18 @@ fn stopped<R: Read>(records: &RecordReader<&mut Source<R>>) -> TraceError
     }
 }
 
-// The stage after an answer.
-fn stage_after(answer: &Result<Option<Row>, TraceError>) -> Stage
-    ensures { result ≡ stage_after answer.now }
-{
-    match answer {
-        Ok(Some(_)) => Stage::Rows,
-        Ok(None) => Stage::Ended,
-        Err(_) => Stage::Failed,
+impl Stage {
+    ghost use Rattle.msrp_trace.specs.Readers.{stage_after};
+
+    // The stage after an answer.
+    fn after(answer: &Result<Option<Row>, TraceError>) -> Stage
+        ensures { result ≡ stage_after answer.now }
+    {
+        match answer {
+            Ok(Some(_)) => Stage::Rows,
+            Ok(None) => Stage::Ended,
+            Err(_) => Stage::Failed,
+        }
     }
 }
 
@@ -97,6 +123,8 @@ fn numbered_row(
 }
 
 impl<'a, R: Read> TraceReader<'a, R> {
+    ghost use Rattle.msrp_trace.specs.Readers.{CanMeet, GivesFirstOr, GivesNext, IsDue, Opens, has_failed, source_of, told_left};
+
     /// The rows of all that a source has left, for a trace of the plan. R1 is refused here.
     pub fn new(
         alloc: Global,
@@ -119,6 +147,7 @@ impl<'a, R: Read> TraceReader<'a, R> {
                 records,
                 fields,
                 guesses: Guesses::new(),
+                foreseen: Foreseen::new(),
                 version,
                 number: 1,
                 stage: Stage::Rows,
@@ -142,8 +171,111 @@ impl<'a, R: Read> TraceReader<'a, R> {
             Stage::Ended => Ok(None),
             Stage::Failed => Err(TraceError::Failed),
         };
-        self.stage = stage_after(&answer);
+        self.stage = Stage::after(&answer);
         answer
+    }
+
+    /// Whether the next row is this one. Its text is compared with the bytes that come next. Where they are the same the row is
+    /// taken, as [`TraceReader::next_row`] takes it, and else nothing is. Only bytes that were read ahead are compared: a row whose text
+    /// isn't there whole, or stands in quotes, isn't met.
+    pub fn meets(&mut self, row: &Row) -> bool
+        ensures taken { result ≡ true → (told : Told) → told_left R.remaining self.old ≡ Some told → GivesNext told (Ok (Some row.now)) (told_left R.remaining self.new) }
+        ensures kept { result ≡ false → (told : Told) → told_left R.remaining self.old ≡ Some told → told_left R.remaining self.new ≡ Some told }
+        ensures same { has_failed self.new ≡ has_failed self.old }
+        ensures going { result ≡ true → has_failed self.old ≡ false }
+        ensures finds { CanMeet self.old row.now → result ≡ true }
+    {
+        let Some(next) = self.number.checked_add(1) else {
+            return false;
+        };
+        if self.stage != Stage::Rows {
+            return false;
+        }
+        if !is_told_whole(self.plan, self.version, row) {
+            return false;
+        }
+        self.foreseen.show(self.plan, self.version, row);
+        self.takes(row, next)
+    }
+
+    // Whether the texts that are here, which are those of the row, come next. Then they are taken.
+    #[inline(always)]
+    fn takes(&mut self, row: &Row, next: u32) -> bool
+        requires plan { IsPlan self.old.plan.now }
+        requires stage { self.old.stage ≡ Stage.Rows }
+        requires number { next ≡ self.old.number + 1 }
+        requires whole { is_told_whole self.old.version self.old.plan.now row.now ≡ true }
+        requires texts { AreTextsOf self.old.version self.old.plan.now row.now self.old.foreseen }
+        ensures taken { result ≡ true → (told : Told) → told_left R.remaining self.old ≡ Some told → GivesNext told (Ok (Some row.now)) (told_left R.remaining self.new) }
+        ensures kept { result ≡ false → (told : Told) → told_left R.remaining self.old ≡ Some told → told_left R.remaining self.new ≡ Some told }
+        ensures stage { self.new.stage ≡ Stage.Rows }
+        ensures finds { CanMeet self.old row.now → result ≡ true }
+    {
+        let (tick, rest) = (self.foreseen.tick(), self.foreseen.rest(row.core));
+        if !self.records.meets(tick, rest) {
+            return false;
+        }
+        self.number = next;
+        true
+    }
+
+    /// The next row, where it is the last row that was foreseen of its core again, in another tick. It is met as by
+    /// [`TraceReader::meets`]; where it isn't met nothing is taken.
+    #[inline(always)]
+    pub fn next_alike(&mut self) -> Option<Row>
+        ensures taken { IfSome result (λ row. (told : Told) → told_left R.remaining self.old ≡ Some told → GivesNext told (Ok (Some row)) (told_left R.remaining self.new)) }
+        ensures kept { result ≡ None → (told : Told) → told_left R.remaining self.old ≡ Some told → told_left R.remaining self.new ≡ Some told }
+        ensures same { has_failed self.new ≡ has_failed self.old }
+        ensures going { ¬ (result ≡ None) → has_failed self.old ≡ false }
+    {
+        let Some(next) = self.number.checked_add(1) else {
+            return None;
+        };
+        self.foreseen.turn_to(self.records.ahead());
+        let Some(core) = self.core_ahead() else {
+            return None;
+        };
+        let Some(row) = self.foreseen.alike(core) else {
+            return None;
+        };
+        // Read so that the plan is known to be an accepted one.
+        let _accepted = self.plan.tasks();
+        if self.stage == Stage::Rows && is_short(row.tick) && self.takes(&row, next) {
+            return Some(row);
+        }
+        None
+    }
+
+    /// The next row, as [`TraceReader::next_row`] gives it. Where a row is foreseen it is looked first whether its text comes
+    /// next; in version 1 that text leaves out the ahead, and so does the answer.
+    #[inline(always)]
+    pub fn next_foreseen(&mut self, foreseen: Option<Row>) -> Result<Option<Row>, TraceError>
+        ensures next { (told : Told) → told_left R.remaining self.old ≡ Some told → GivesNext told result (told_left R.remaining self.new) }
+        ensures goes { OnOk result (has_failed self.new ≡ false) }
+        ensures fails { OnErr result (has_failed self.new ≡ true) }
+        ensures failed { has_failed self.old ≡ true → result ≡ Err TraceError.Failed }
+        ensures going { has_failed self.old ≡ false → ¬ (result ≡ Err TraceError.Failed) }
+        ensures read { result ≡ Err TraceError.Read → source_failed (source_of self.new) ≡ true }
+        ensures memory { result ≡ Err TraceError.Memory → source_failed (source_of self.new) ≡ false }
+    {
+        if let Some(row) = foreseen {
+            let row = told_in(self.version, row);
+            if self.meets(&row) {
+                return Ok(Some(row));
+            }
+        }
+        self.next_row()
+    }
+
+    /// The core of the next row, guessed from the bytes that were read ahead. Nothing rests on it: there may be none, or
+    /// another.
+    #[inline(always)]
+    pub fn core_ahead(&self) -> Option<CoreId> {
+        let last = self.foreseen.tick().len();
+        match self.records.ahead().get(last + 1) {
+            Some(digit) if digit.is_ascii_digit() => Some(CoreId(u32::from(*digit - b'0'))),
+            _ => None,
+        }
     }
 
     // The next row where further rows may come.

@@ -2,7 +2,7 @@
 
 use crate::{TraceError, TraceFault, TraceReader, are_named, write_trace};
 use msrp_plan::bytes::{Sink, Source};
-use msrp_plan::{CoreId, Plan, PlanBuilder, Step, TextVersion, Trace};
+use msrp_plan::{CoreId, Plan, PlanBuilder, Row, Step, TextVersion, Trace};
 use std::alloc::Global;
 use std::io;
 use std::io::{ErrorKind, Read, Write};
@@ -51,13 +51,8 @@ const VERSION_ONE: &[u8] =
 const VERSION_TWO: &[u8] =
     b"msrp-trace,2,2,6\n0,0,take,a,0,g,-\n0,1,queue,b,0,g,1\n1,0,run,a,0,-,-\n1,1,spin,b,0,g,-\n2,0,release,a,0,g,-\n2,1,grant,b,0,g,-\n3,0,idle,-,-,-,-\n3,1,run,b,0,-,-\n4,0,idle,-,-,-,-\n4,1,release,b,0,g,-\n5,0,idle,-,-,-,-\n5,1,idle,-,-,-,-\n";
 
-// The rows of a text up to its end, or its refusal.
-fn read_all<R: Read>(
-    alloc: Global,
-    source: &mut Source<R>,
-    plan: &Plan,
-) -> Result<Trace, TraceError> {
-    let mut reader = TraceReader::new(alloc, source, plan)?;
+// The rows that a reader has left, or its refusal.
+fn rows_left<R: Read>(alloc: Global, reader: &mut TraceReader<'_, R>) -> Result<Trace, TraceError> {
     let mut rows = Vec::new(alloc);
     for _ in 0..u64::MAX {
         match reader.next_row()? {
@@ -70,6 +65,18 @@ fn read_all<R: Read>(
         }
     }
     Ok(Trace { rows })
+}
+
+// The rows of a text up to its end, or its refusal.
+fn read_all<R: Read>(
+    alloc: Global,
+    source: &mut Source<R>,
+    plan: &Plan,
+) -> Result<Trace, TraceError> {
+    let mut reader = TraceReader::new(alloc, source, plan)?;
+    let answer = rows_left(alloc, &mut reader);
+    drop(reader);
+    answer
 }
 
 fn read_text(alloc: Global, text: &[u8], plan: &Plan) -> Result<Trace, TraceError> {
@@ -112,6 +119,50 @@ fn texts_are_read_and_written_again(rt: HostRuntime) -> Result<(), Fail> {
         let mut sink = Sink::new(&mut bytes);
         assert!(rt; write_all(&mut sink, &plan, &trace, version));
         assert!(rt; bytes.as_slice() == written);
+    }
+    Ok(())
+}
+
+// The same row past the plan's ticks.
+fn at_another_tick(row: &Row) -> Row {
+    Row {
+        tick: 7,
+        core: row.core,
+        kind: row.kind,
+        job: row.job,
+        res: row.res,
+        ahead: row.ahead,
+    }
+}
+
+// Whether each of these rows is met, in turn, and none at another tick.
+fn meets_each<R: Read>(reader: &mut TraceReader<'_, R>, rows: &[Row]) -> bool {
+    for row in rows.iter() {
+        let other = at_another_tick(row);
+        if reader.core_ahead() != Some(row.core) || reader.meets(&other) || !reader.meets(row) {
+            return false;
+        }
+    }
+    true
+}
+
+// Whether a reader of a text meets all its rows.
+fn is_met(alloc: Global, text: &[u8], plan: &Plan) -> Result<bool, TraceError> {
+    let trace = read_text(alloc, text, plan)?;
+    let mut source = Source::new(text);
+    let mut reader = TraceReader::new(alloc, &mut source, plan)?;
+    let met = meets_each(&mut reader, trace.rows.as_slice());
+    drop(reader);
+    Ok(met)
+}
+
+#[test]
+fn foreseen_rows_are_met(rt: HostRuntime) -> Result<(), Fail> {
+    let alloc = rt.alloc();
+    let plan = handover(alloc)?;
+    for text in [VERSION_ONE, VERSION_TWO] {
+        let met = is_met(alloc, text, &plan);
+        assert!(rt; met == Ok(true));
     }
     Ok(())
 }
@@ -249,11 +300,18 @@ fn a_refused_reader_stays_refused(rt: HostRuntime) -> Result<(), Fail> {
     let Ok(mut reader) = TraceReader::new(alloc, &mut source, &plan) else {
         return Err(Fail::new("refused"));
     };
-    assert!(rt; matches!(reader.next_row(), Ok(Some(_))));
+    let answers = [
+        reader.next_row(),
+        reader.next_row(),
+        reader.next_row(),
+        reader.next_row(),
+    ];
+    drop(reader);
     let fault = TraceFault::FieldCount;
-    assert!(rt; reader.next_row() == Err(TraceError::At { fault, number: 3 }));
-    assert!(rt; reader.next_row() == Err(TraceError::Failed));
-    assert!(rt; reader.next_row() == Err(TraceError::Failed));
+    assert!(rt; matches!(answers[0], Ok(Some(_))));
+    assert!(rt; answers[1] == Err(TraceError::At { fault, number: 3 }));
+    assert!(rt; answers[2] == Err(TraceError::Failed));
+    assert!(rt; answers[3] == Err(TraceError::Failed));
     Ok(())
 }
 
@@ -266,9 +324,11 @@ fn an_ended_reader_stays_ended(rt: HostRuntime) -> Result<(), Fail> {
     let Ok(mut reader) = TraceReader::new(alloc, &mut source, &plan) else {
         return Err(Fail::new("refused"));
     };
-    assert!(rt; matches!(reader.next_row(), Ok(Some(_))));
-    assert!(rt; reader.next_row() == Ok(None));
-    assert!(rt; reader.next_row() == Ok(None));
+    let answers = [reader.next_row(), reader.next_row(), reader.next_row()];
+    drop(reader);
+    assert!(rt; matches!(answers[0], Ok(Some(_))));
+    assert!(rt; answers[1] == Ok(None));
+    assert!(rt; answers[2] == Ok(None));
     Ok(())
 }
 

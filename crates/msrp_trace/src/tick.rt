@@ -1,39 +1,57 @@
 //! The text of a tick, which stands in the records of all cores.
 ghost use Rattle.std.specs.Prelude.{◌≡◌, decimal};
 
-use crate::line::Line;
+use crate::text::Text;
+
+// No number of 32 bits has more than 10 digits.
+const NUMBER: usize = 16;
 
 /// A tick, and its text.
 #[derive(Drop)]
 pub(crate) struct Tick {
     tick: u32,
-    text: Line,
+    text: Text<NUMBER>,
     ghost fits: { text ≡ decimal tick },
 }
 
 impl Tick {
     /// The first tick.
     pub(crate) fn new() -> Tick {
-        let mut text = Line::new();
+        let mut text = Text::new();
         text.number(0);
         Tick { tick: 0, text }
     }
 
     /// Makes the text of a tick, unless it is here already.
+    #[inline(always)]
     pub(crate) fn show(&mut self, tick: u32)
         ensures { self.new.tick ≡ tick }
     {
         if self.tick != tick {
-            self.text.clear();
-            self.text.number(tick);
-            self.tick = tick;
+            self.make(tick);
         }
     }
 
+    #[inline(never)]
+    fn make(&mut self, tick: u32)
+        ensures { self.new.tick ≡ tick }
+    {
+        self.text.clear();
+        self.text.number(tick);
+        self.tick = tick;
+    }
+
+    /// The tick.
+    pub(crate) fn number(&self) -> u32
+        ensures { result ≡ self.now.tick }
+    {
+        self.tick
+    }
+
     /// The text.
-    pub(crate) fn as_bytes(&self) -> &[u8]
+    pub(crate) fn text(&self) -> &Text<NUMBER>
         ensures { result.now ≡ decimal self.now.tick }
     {
-        self.text.as_bytes()
+        &self.text
     }
 }

@@ -4,7 +4,8 @@ ghost use Rattle.std.specs.List.{All, list_all};
 ghost use Rattle.msrp_plan.specs.Aheads.{carries_ahead};
 ghost use Rattle.msrp_plan.specs.Bytes.{Wrote, sink_failed};
 ghost use Rattle.msrp_trace.specs.Gathering.{Gathers, after_tick};
-ghost use Rattle.msrp_trace.specs.Lines.{IsLine};
+ghost use Rattle.msrp_trace.specs.Laws.{is_told_whole};
+ghost use Rattle.msrp_trace.specs.Lines.{IsLine, IsWhole};
 ghost use Rattle.msrp_trace.specs.declared.line.RowLine.{RowLine as Kept};
 ghost use Rattle.msrp_trace.specs.TraceText.{head_text, is_named, is_res_of, is_task_of, row_text, trace_text};
 
@@ -43,17 +44,25 @@ impl<'a> Model for TraceWriter<'a> {
 }
 
 // Makes the line of a core's row.
-fn show_line(lines: &mut [RowLine], core: usize, plan: &Plan, version: TextVersion, row: &Row)
+pub(crate) fn show_line(
+    lines: &mut [RowLine],
+    core: usize,
+    plan: &Plan,
+    version: TextVersion,
+    row: &Row,
+)
     requires core { core < length lines.old }
     requires named { is_named plan.now row.now ≡ true }
     requires before { All (IsLine version plan.now) lines.old }
     ensures after { All (IsLine version plan.now) lines.new }
     ensures text { (d : Kept) → (slice_index_or lines.new core d).line ≡ after_tick version plan.now row.now }
+    ensures whole { All (IsWhole version plan.now) lines.old → is_told_whole version plan.now row.now ≡ true → All (IsWhole version plan.now) lines.new }
 {
     lines[core].show(plan, version, row);
 }
 
 // The record of a row: its tick, and what its core's line says.
+#[inline(always)]
 fn add_record<W: Write>(
     page: &mut Page,
     out: &mut Sink<W>,
@@ -64,8 +73,8 @@ fn add_record<W: Write>(
     requires { core < length lines.now }
     ensures { (d : Kept) → Gathers W.contents page.old out.old page.new out.new (decimal tick.now.tick ++ (slice_index_or lines.now core d).line) }
 {
-    page.add(out, tick.as_bytes());
-    page.add(out, lines[core].as_bytes());
+    page.add(out, tick.text());
+    page.add(out, lines[core].text());
 }
 
 impl<'a> TraceWriter<'a> {
@@ -89,7 +98,7 @@ impl<'a> TraceWriter<'a> {
     {
         let mut line = Line::new();
         line.head(self.plan, self.version);
-        self.page.add(out, line.as_bytes());
+        self.page.add(out, line.text());
     }
 
     /// Writes the record of a row of a trace of the plan.

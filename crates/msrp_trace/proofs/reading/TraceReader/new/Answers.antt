@@ -24,3 +24,6 @@ returns-clause-opens g c = λ bytes known.
     let next = gave-one _ _ _ _ (c.in-Ok-true.ensures.next (csv_records bytes) (rw known at c.new-records.ensures.left)) c.in-Ok-true.field-0-test in
     let told : version_told c.args.plan.now (fields_of c.read.new.row) ≡ None = sym c.version_told.ensures ∙ c.in-None.is in
     opens_none _ _ _ (ap (version_of c.args.plan.now) next.1 ∙ (version_first c.args.plan.now _ next.0 ∙ told))
+
+pub invariant_of-result : goal.invariant_of-result
+invariant_of-result g c = record { texts = c.new-in-Some.ensures c.in-Some.version c.args.plan.now }

@@ -1,0 +1,27 @@
+use Rattle.std.proofs.Common.{◌≡◌, ◌++◌, codes, [], None, sym, ap, ◌∙◌, decimal}
+use Rattle.msrp_trace.specs.declared.line.RowLine.{RowLine}
+use Rattle.msrp_trace.proofs.MetRows.{met_row, row_begins, row_line}
+use Rattle.msrp_trace.proofs.reading.TraceReader.takes.Goals as goal
+
+pub returns-clause-taken : goal.returns-clause-taken
+returns-clause-taken g c = λ yes told h.
+    let old = c.args.self.now in
+    let r = c.args.row.now in
+    let none : RowLine = record { row = None; line = [] } in
+    let texts = c.requires.texts in
+    let rest = c.rest-rest.ensures none _ (texts.line none) in
+    let tick : c.tick-tick.result.now ≡ decimal r.tick = c.tick-tick.ensures ∙ ap decimal texts.tick in
+    let line = row_line old.version old.plan.now r c.tick-tick.result.now c.rest-rest.result.now tick (ap (λ t. t ++ codes "\n") (sym rest)) in
+    met_row old.version old.plan.now old.number c.args.next r _ _ _ old.stage told c.requires.plan c.requires.whole line (c.meets.ensures.taken c.if-not-meets.false) c.requires.number c.requires.stage h
+
+pub returns-then-not-meets-clause-finds : goal.returns-then-not-meets-clause-finds
+returns-then-not-meets-clause-finds g c = λ can.
+    let old = c.args.self.now in
+    let r = c.args.row.now in
+    let none : RowLine = record { row = None; line = [] } in
+    let texts = c.requires.texts in
+    let rest = c.rest-rest.ensures none _ (texts.line none) in
+    let tick : c.tick-tick.result.now ≡ decimal r.tick = c.tick-tick.ensures ∙ ap decimal texts.tick in
+    let line = row_line old.version old.plan.now r c.tick-tick.result.now c.rest-rest.result.now tick (ap (λ t. t ++ codes "\n") (sym rest)) in
+    let met = c.meets.ensures.finds.1 (row_begins can.line c.tick-tick.result.now c.rest-rest.result.now _ _ line can.text can.ahead) in
+    sym c.if-not-meets.true ∙ met

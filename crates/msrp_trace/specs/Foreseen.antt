@@ -1,0 +1,19 @@
+-- The texts that are kept of rows that were foreseen.
+use Rattle.std.specs.Prelude.{◌≡◌, ◌%◌, slice_index_or}
+use Rattle.std.specs.List.{All}
+use Rattle.msrp_plan.specs.Plan.{PlanModel}
+use Rattle.msrp_plan.specs.declared.rows.Row.{Row}
+use Rattle.msrp_plan.specs.declared.rows.TextVersion.{TextVersion}
+use Rattle.msrp_trace.specs.Gathering.{after_tick}
+use Rattle.msrp_trace.specs.Lines.{IsLine, IsWhole}
+use Rattle.msrp_trace.specs.declared.foreseen.Foreseen.{Foreseen}
+use Rattle.msrp_trace.specs.declared.line.RowLine.{RowLine}
+
+-- what is kept of each core's last row is the text of that row, which is read as it was written
+abbrev pub AreTexts : TextVersion → PlanModel → Foreseen → Type 0
+AreTexts version plan foreseen = All (IsLine version plan) foreseen.lines × All (IsWhole version plan) foreseen.lines
+
+-- the text of the tick, and that of its core, are those of the row
+pub record AreTextsOf (version : TextVersion) (plan : PlanModel) (r : Row) (foreseen : Foreseen) : Type 0 where
+  pub tick : foreseen.tick.tick ≡ r.tick
+  pub line : (d : RowLine) → (slice_index_or foreseen.lines (r.core.0 % 8) d).line ≡ after_tick version plan r

@@ -1,0 +1,153 @@
+//! Rows that a caller foresees, as the texts that would tell them.
+ghost use Rattle.std.specs.Prelude.{ℕ, List, ◌%◌, slice_index_or, ◌≡◌, ◌++◌, codes, decimal, length, true};
+ghost use Rattle.std.specs.List.{All};
+ghost use Rattle.std.specs.Option.{IfSome};
+ghost use Rattle.msrp_plan.specs.WellFormed.{IsPlan};
+ghost use Rattle.msrp_trace.specs.Gathering.{after_tick};
+ghost use Rattle.msrp_trace.specs.Laws.{has_short_ahead, has_short_job, has_short_numbers, has_told_ahead, is_short, is_told_whole};
+ghost use Rattle.msrp_trace.specs.Lines.{IsLine};
+ghost use Rattle.msrp_plan.specs.Plan.{PlanModel};
+ghost use Rattle.msrp_plan.specs.declared.rows.TextVersion.{TextVersion};
+ghost use Rattle.msrp_trace.specs.TraceText.{is_named};
+ghost use Rattle.msrp_trace.specs.declared.line.RowLine.{RowLine as Kept};
+
+use crate::line::RowLine;
+use crate::tick::Tick;
+use crate::writing::{is_named, show_line};
+use msrp_plan::limits::MOST_CORES;
+use msrp_plan::{CoreId, JobId, Kind, Plan, Row, TextVersion};
+use std::array;
+
+/// The texts of the rows that were foreseen last: that of the tick, and for each core what stands after it.
+#[derive(Drop)]
+pub(crate) struct Foreseen {
+    tick: Tick,
+    lines: [RowLine; MOST_CORES as usize],
+}
+
+// The least number of ten digits.
+const LONG: u32 = 1_000_000_000;
+
+/// Whether a number has at most nine digits.
+pub(crate) fn is_short(number: u32) -> bool
+    ensures { result ≡ is_short number }
+{
+    number < LONG
+}
+
+fn has_short_job(job: Option<JobId>) -> bool
+    ensures { result ≡ has_short_job job }
+{
+    match job {
+        Some(job) => is_short(job.k),
+        None => true,
+    }
+}
+
+fn has_short_ahead(ahead: Option<u32>) -> bool
+    ensures { result ≡ has_short_ahead ahead }
+{
+    match ahead {
+        Some(ahead) => is_short(ahead),
+        None => true,
+    }
+}
+
+// Whether each number of the row has at most nine digits.
+fn has_short_numbers(row: &Row) -> bool
+    ensures { result ≡ has_short_numbers row.now }
+{
+    is_short(row.tick)
+        && is_short(row.core.0)
+        && has_short_job(row.job)
+        && has_short_ahead(row.ahead)
+}
+
+// Whether the row has an ahead just where a text of the version tells one.
+fn has_told_ahead(version: TextVersion, row: &Row) -> bool
+    ensures { result ≡ has_told_ahead version row.now }
+{
+    match version {
+        TextVersion::V1 => row.ahead.is_none(),
+        TextVersion::V2 => row.kind != Kind::Queue || row.ahead.is_some(),
+    }
+}
+
+/// Whether a row is read back as it is from its text: it names what the plan has, its numbers have at most nine digits, and
+/// it carries an ahead just where the version tells one.
+pub(crate) fn is_told_whole(plan: &Plan, version: TextVersion, row: &Row) -> bool
+    ensures plan { IsPlan plan.now }
+    ensures whole { result ≡ is_told_whole version plan.now row.now }
+{
+    // Read so that the plan is known to be an accepted one.
+    let _accepted = plan.tasks();
+    is_named(plan, row) && has_short_numbers(row) && has_told_ahead(version, row)
+}
+
+impl Foreseen {
+    ghost use Rattle.msrp_trace.specs.Foreseen.{AreTexts, AreTextsOf};
+
+    /// Before any row.
+    pub(crate) fn new() -> Foreseen
+        ensures { (version : TextVersion) (plan : PlanModel) → AreTexts version plan result }
+    {
+        Foreseen {
+            tick: Tick::new(),
+            lines: array::from_fn(|_| RowLine::new()),
+        }
+    }
+
+    /// Makes the texts of a row.
+    #[inline(always)]
+    pub(crate) fn show(&mut self, plan: &Plan, version: TextVersion, row: &Row)
+        requires whole { is_told_whole version plan.now row.now ≡ true }
+        requires before { AreTexts version plan.now self.old }
+        ensures after { AreTexts version plan.now self.new }
+        ensures shown { AreTextsOf version plan.now row.now self.new }
+    {
+        let core = (row.core.0 % MOST_CORES) as usize;
+        self.tick.show(row.tick);
+        show_line(&mut self.lines, core, plan, version, row);
+    }
+
+    /// Turns to the tick that a text begins with, guessed by its last digit: the one that is here or the next.
+    #[inline(always)]
+    pub(crate) fn turn_to(&mut self, text: &[u8])
+        ensures { (version : TextVersion) (plan : PlanModel) → AreTexts version plan self.old → AreTexts version plan self.new }
+    {
+        let here = self.tick();
+        let last = here.len().saturating_sub(1);
+        if text.get(last) != here.get(last) {
+            self.tick.show(self.tick.number().saturating_add(1));
+        }
+    }
+
+    /// The row that the core had last, in the tick that is here.
+    #[inline(always)]
+    pub(crate) fn alike(&self, core: CoreId) -> Option<Row>
+        ensures text { (version : TextVersion) (plan : PlanModel) → AreTexts version plan self.now → IfSome result (λ row. AreTextsOf version plan row self.now) }
+        ensures whole { (version : TextVersion) (plan : PlanModel) → AreTexts version plan self.now → IfSome result (λ row. is_short row.tick ≡ true → is_told_whole version plan row ≡ true) }
+    {
+        let line = &self.lines[(core.0 % MOST_CORES) as usize];
+        match line.in_tick(self.tick.number()) {
+            Some(row) if row.core == core => Some(row),
+            _ => None,
+        }
+    }
+
+    /// The text of the row's tick.
+    pub(crate) fn tick(&self) -> &[u8]
+        ensures { result.now ≡ decimal self.now.tick.tick }
+    {
+        self.tick.text().as_bytes()
+    }
+
+    /// The text of a row after its tick, without its end.
+    pub(crate) fn rest(&self, core: CoreId) -> &[u8]
+        ensures { (d : Kept) (text : List ℕ) → (slice_index_or self.now.lines (core.0 % MOST_CORES) d).line ≡ text ++ codes "\n" → result.now ≡ text }
+    {
+        let core = (core.0 % MOST_CORES) as usize;
+        let line = self.lines[core].text().as_bytes();
+        &line[..line.len().saturating_sub(1)]
+    }
+}

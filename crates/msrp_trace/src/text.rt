@@ -1,0 +1,97 @@
+//! Text in an array of its own, which is copied whole.
+ghost use Rattle.std.specs.Prelude.{ℕ, ◌≡◌, ◌≤◌, ◌+◌, ◌++◌, [], decimal, length, take};
+
+use itoa::Buffer;
+use std::marker::Model;
+
+/// A text of at most `N` bytes.
+#[derive(Drop)]
+pub(crate) struct Text<const N: usize> {
+    bytes: [u8; N],
+    // How many of the bytes are the text. What stands behind them means nothing.
+    len: usize,
+}
+
+impl<const N: usize> Model for Text<N> {
+    ghost use Rattle.std.specs.Prelude.{ℕ, List, ◌≤◌, take};
+
+    ghost Value = { List ℕ };
+
+    ghost view = { λ t. take t.len t.bytes };
+
+    ghost invariant = { λ t. t.len ≤ N };
+}
+
+// Writes some bytes over those of an array from a place on.
+#[inline(always)]
+fn lay(array: &mut [u8], place: usize, bytes: &[u8])
+    requires { place + length bytes.now ≤ length array.old }
+    ensures front { take (place + length bytes.now) array.new ≡ take place array.old ++ bytes.now }
+    ensures size { length array.new ≡ length array.old }
+{
+    let end = place + bytes.len();
+    array[place..end].copy_from_slice(bytes);
+}
+
+impl<const N: usize> Text<N> {
+    /// No text.
+    pub(crate) fn new() -> Text<N>
+        ensures { result ≡ [] }
+    {
+        Text {
+            bytes: [0; N],
+            len: 0,
+        }
+    }
+
+    /// The text.
+    pub(crate) fn as_bytes(&self) -> &[u8]
+        ensures { result.now ≡ self.now }
+    {
+        &self.bytes[..self.len]
+    }
+
+    /// How many bytes more there is room for.
+    pub(crate) fn room(&self) -> usize
+        ensures { result + length self.now ≡ N }
+    {
+        N - self.len
+    }
+
+    /// Takes everything back.
+    pub(crate) fn clear(&mut self)
+        ensures { self.new ≡ [] }
+    {
+        self.len = 0;
+    }
+
+    /// Takes some bytes more, for which there is room.
+    pub(crate) fn add(&mut self, bytes: &[u8])
+        requires { length self.old + length bytes.now ≤ N }
+        ensures text { self.new ≡ self.old ++ bytes.now }
+        ensures size { length self.new ≡ length self.old + length bytes.now }
+    {
+        lay(&mut self.bytes, self.len, bytes);
+        self.len += bytes.len();
+    }
+
+    /// Takes another text, where there is room for the longest of its type: so the copy is always of the same length.
+    #[inline(always)]
+    pub(crate) fn add_text<const M: usize>(&mut self, text: &Text<M>)
+        requires { length self.old + M ≤ N }
+        ensures { self.new ≡ self.old ++ text.now }
+    {
+        lay(&mut self.bytes, self.len, &text.bytes);
+        self.len += text.len;
+    }
+
+    /// Takes a number.
+    pub(crate) fn number(&mut self, number: u32)
+        requires { length self.old + 10 ≤ N }
+        ensures text { self.new ≡ self.old ++ decimal number }
+        ensures size { length self.new ≤ length self.old + 10 }
+    {
+        let mut digits = Buffer::new();
+        self.add(digits.format(number).as_bytes());
+    }
+}
