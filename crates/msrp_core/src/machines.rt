@@ -114,9 +114,9 @@ impl<'a> Machine<'a> {
         ensures quiet { IsQuiet self.old.plan result → port.new ≡ port.old }
         ensures claim { claim_in self.new.core (P.port port.new).calls ≡ self.new.phase }
     {
-        let chosen = self.jobs.choose(self.tick);
-        let row = self.jobs.act_chosen(port, self.tick, chosen);
+        let tick = self.tick;
         self.tick += 1;
-        row
+        let chosen = self.jobs.choose(tick);
+        self.jobs.act_chosen(port, tick, chosen)
     }
 }

@@ -79,9 +79,9 @@ module _ (s : SimModel) (rows : List Row) (c : ℕ) (order : IsOrder s.plan s.or
   pub made_turn : IsPlan s.plan → (old m : MachineModel) (r : Row) (after : FifoModel) → get_or s.machines c old ≡ old → m.plan ≡ old.plan → m.core ≡ old.core
       → ((log : List Row) → StandsAfter old log → IsCoreTurn old.plan old.core log r) → ((log : List Row) → StandsAfter old log → StandsAfter m (log ++ r ∷ []))
       → ((res : ResId) → r.res ≡ Some res → is_global old.plan res.0 ≡ true → MakesCall old.plan r (as_port s.port) (as_port after)) → (IsQuiet old.plan r → after ≡ s.port)
-      → claim_in m.core after.calls ≡ m.phase → AreFifo after.calls
-      → HasMade (record { plan = s.plan; order = s.order; turn = s.turn + 1; machines = set s.machines c m; port = after }) (rows ++ r ∷ [])
-  made_turn ok old m r after is p k turn stands call quiet claim served =
+      → claim_in m.core after.calls ≡ m.phase → AreFifo after.calls → (n : ℕ) → n ≡ s.turn + 1
+      → HasMade (record { plan = s.plan; order = s.order; turn = n; machines = set s.machines c m; port = after }) (rows ++ r ∷ [])
+  made_turn ok old m r after is p k turn stands call quiet claim served n next =
       let x = subst (IsMachineAfter s.plan rows s.port c) is (machine_at old) in
       let here : IsCoreTurn s.plan c (log_of c rows) r = subst (λ n. IsCoreTurn s.plan n (log_of c rows) r) x.same_core (subst (λ q. IsCoreTurn q old.core (log_of c rows) r) x.same_plan (turn (log_of c rows) x.stands)) in
       let own : c ≡ r.core.0 = sym here.core in
@@ -90,7 +90,8 @@ module _ (s : SimModel) (rows : List Row) (c : ℕ) (order : IsOrder s.plan s.or
       (subst (λ q. IsQuiet q r → after ≡ s.port) x.same_plan quiet) in
       let core : m.core ≡ c = k ∙ x.same_core in
       record {
-        order = map-append (λ (w : Row). w.core.0) rows (r ∷ []) ∙ (ap (λ l. l ++ r.core.0 ∷ []) made.order ∙ (ap (λ n. take s.turn s.order ++ n ∷ []) (here.core ∙ at) ∙ sym (take_more s.order s.turn within)));
+        order = map-append (λ (w : Row). w.core.0) rows (r ∷ [])
+            ∙ (ap (λ l. l ++ r.core.0 ∷ []) made.order ∙ (ap (λ k. take s.turn s.order ++ k ∷ []) (here.core ∙ at) ∙ (sym (take_more s.order s.turn within) ∙ ap (λ k. take k s.order) (sym next))));
         left = subst (λ n. IsLeftBy s.plan (rows ++ r ∷ []) (set s.machines n m) after) here.core
             (left_by_turn s.plan rows r s.machines s.port after ok made.left served (subst (λ n. IsCoreTurn s.plan n (log_of n rows) r) own here)
             m step (subst (IsNextCore s.plan (core_order rows)) own next_core) (p ∙ x.same_plan) (core ∙ own)

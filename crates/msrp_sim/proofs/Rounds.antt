@@ -126,7 +126,7 @@ order_by plan core place round = record {
 }
 
 -- ---- one turn among all
-within_ticks : (m t i n : ℕ) → t < n → i < m → t * m + i < n * m
+pub within_ticks : (m t i n : ℕ) → t < n → i < m → t * m + i < n * m
 within_ticks m t i n lt li = let l : suc t * m ≤ n * m = mul-le-mul_right m (omega (arith, lt)) in let e = suc-mul t m in omega (arith, l, e, li)
 
 -- turn i of tick t
@@ -239,11 +239,9 @@ before_last m n turn l = elim (cases_lt (turn / m) n) [
 ]
 
 -- which core has the turn of place i in tick t
-pub turn_in : (core : ℕ → ℕ → ℕ) (plan : PlanModel) (turn t i : ℕ) → turn ≡ t * plan.cores + i → i < plan.cores → t < plan.ticks → core t i ≡ get_or (turns_by core plan) turn 0
-turn_in core plan turn t i at place tick =
-    sym (turn_at core plan.cores t i plan.ticks tick place)
-    ∙ ap (λ n. get_or (turns_by core plan) n 0) (sym at)
+pub turn_in : (core : ℕ → ℕ → ℕ) (plan : PlanModel) (t i : ℕ) → i < plan.cores → t < plan.ticks → core t i ≡ get_or (turns_by core plan) (t * plan.cores + i) 0
+turn_in core plan t i place tick = sym (turn_at core plan.cores t i plan.ticks tick place)
 
 -- its tick is one of the n
-pub tick_within : (m n turn t i : ℕ) → turn ≡ t * m + i → i < m → turn < m * n → t < n
-tick_within m n turn t i at place l = subst (λ k. k < n) (ap (λ k. k / m) at ∙ div-mul-add t m i place) (before_last m n turn l)
+pub tick_within : (m n t i : ℕ) → i < m → t * m + i < m * n → t < n
+tick_within m n t i place l = subst (λ k. k < n) (div-mul-add t m i place) (before_last m n (t * m + i) l)

@@ -1,5 +1,5 @@
 -- What a clause sees of a simulation, and what its fields keep.
-use Rattle.std.specs.Prelude.{List, ◌≡◌, ◌<◌, ◌≤◌, ◌+◌, ◌*◌}
+use Rattle.std.specs.Prelude.{List, ◌<◌, ◌≤◌, ◌+◌, ◌*◌}
 use Rattle.msrp_plan.specs.Scheduling.{IsOrder}
 use Rattle.msrp_plan.specs.WellFormed.{IsPlan}
 use Rattle.msrp_plan.specs.declared.rows.Row.{Row}
@@ -8,14 +8,13 @@ use Rattle.msrp_sim.specs.Simulated.{SimModel, HasMade}
 use Rattle.msrp_sim.specs.declared.stepping.Simulation.TheInside.{Inside}
 
 abbrev pub sim_view : Inside → SimModel
-sim_view s = record { plan = s.plan.now; order = cores_of s.order.now s.plan.now; turn = s.turn; machines = s.machines.items; port = s.port }
+sim_view s = record { plan = s.plan.now; order = cores_of s.order.now s.plan.now; turn = s.at.tick * s.plan.now.cores + s.at.place; machines = s.machines.items; port = s.port }
 
 -- some rows led here, in an order of the plan
 pub record IsSimView (s : Inside) : Type 0 where
   pub accepted : IsPlan s.plan.now
   pub order : IsOrder s.plan.now (cores_of s.order.now s.plan.now)
-  pub turns : s.turn ≤ s.plan.now.cores * s.plan.now.ticks
-  pub at : s.turn ≡ s.at.tick * s.plan.now.cores + s.at.place
+  pub turns : s.at.tick * s.plan.now.cores + s.at.place ≤ s.plan.now.cores * s.plan.now.ticks
   pub place : s.at.place < s.plan.now.cores
   pub rows : List Row
   pub made : HasMade (sim_view s) rows

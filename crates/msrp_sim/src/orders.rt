@@ -16,23 +16,17 @@ pub(crate) struct TickPlace {
 }
 
 impl TickPlace {
-    /// Where the next turn stands, if each tick has so many.
-    pub(crate) fn next(self, cores: u32) -> TickPlace
-        requires place { self.place < cores }
-        requires tick { self.tick + 1 < 2 ^ 32 }
-        ensures place { result.place < cores }
-        ensures next { result.tick * cores + result.place ≡ self.tick * cores + self.place + 1 }
+    /// Goes on to the next turn, if each tick has so many.
+    pub(crate) fn advance(&mut self, cores: u32)
+        requires place { self.old.place < cores }
+        requires tick { self.old.tick + 1 < 2 ^ 32 }
+        ensures place { self.new.place < cores }
+        ensures next { self.new.tick * cores + self.new.place ≡ self.old.tick * cores + self.old.place + 1 }
     {
-        if self.place + 1 == cores {
-            TickPlace {
-                tick: self.tick + 1,
-                place: 0,
-            }
-        } else {
-            TickPlace {
-                tick: self.tick,
-                place: self.place + 1,
-            }
+        self.place += 1;
+        if self.place == cores {
+            self.tick += 1;
+            self.place = 0;
         }
     }
 }
@@ -76,6 +70,14 @@ fn are_turns(plan: &Plan, cores: &[u32]) -> bool
     true
 }
 
+// What a list has for the turn that stands here, of so many in each tick.
+fn listed(list: &[u32], cores: u32, at: &TickPlace) -> u32
+    requires { at.now.tick * cores + at.now.place < length list.now }
+    ensures { result ≡ slice_index_or list.now (at.now.tick * cores + at.now.place) 0 }
+{
+    list[at.tick as usize * cores as usize + at.place as usize]
+}
+
 impl Order {
     /// Whether the order gives each core of the plan one turn in each tick, as all do that aren't given by a list.
     pub fn is_of(&self, plan: &Plan) -> bool
@@ -100,23 +102,23 @@ impl Order {
             tick: turn / cores,
             place: turn % cores,
         };
-        self.core_at(plan, turn, at)
+        self.core_at(plan, &at)
     }
 
-    /// The core that has this turn, of which it is known where it stands: nothing is divided where the cores rise or fall.
+    /// The core that has the turn which stands here. Nothing is divided where the cores rise or fall.
     #[inline(always)]
-    pub(crate) fn core_at(&self, plan: &Plan, turn: u32, at: TickPlace) -> CoreId
-        requires at { turn ≡ at.tick * plan.now.cores + at.place }
-        requires place { at.place < plan.now.cores }
-        requires tick { at.tick < plan.now.ticks }
+    pub(crate) fn core_at(&self, plan: &Plan, at: &TickPlace) -> CoreId
+        requires place { at.now.place < plan.now.cores }
+        requires tick { at.now.tick < plan.now.ticks }
         requires order { IsOrder plan.now (cores_of self.now plan.now) }
-        ensures { result.0 ≡ slice_index_or (cores_of self.now plan.now) turn 0 }
+        ensures { result.0 ≡ slice_index_or (cores_of self.now plan.now) (at.now.tick * plan.now.cores + at.now.place) 0 }
     {
+        let cores = plan.cores();
         CoreId(match self {
             Order::Asc => at.place,
-            Order::Desc => plan.cores() - (at.place + 1),
-            Order::Rot => (at.tick + at.place) % plan.cores(),
-            Order::Given(cores) => cores[turn as usize],
+            Order::Desc => cores - (at.place + 1),
+            Order::Rot => (at.tick + at.place) % cores,
+            Order::Given(list) => listed(list.as_slice(), cores, at),
         })
     }
 }

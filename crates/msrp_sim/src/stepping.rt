@@ -18,7 +18,7 @@ use std::marker::Model;
 pub struct Simulation<'a> {
     plan: &'a Plan,
     order: &'a Order,
-    turn: u32,
+    // Where the next turn stands.
     at: TickPlace,
     machines: Vec<Machine<'a>>,
     port: FifoPort,
@@ -76,7 +76,6 @@ impl<'a> Simulation<'a> {
         Ok(Simulation {
             plan,
             order,
-            turn: 0,
             at: TickPlace { tick: 0, place: 0 },
             machines,
             port,
@@ -93,12 +92,11 @@ impl<'a> Simulation<'a> {
         ensures turn { self.new.turn ≡ self.old.turn + 1 }
         ensures row { (rows : List TraceRow) → HasMade self.old rows → HasMade self.new (rows ++ result ∷ []) }
     {
-        let core = self.order.core_at(self.plan, self.turn, self.at);
+        let core = self.order.core_at(self.plan, &self.at);
+        self.at.advance(self.plan.cores());
         let row = self.machines[core.0 as usize].turn(&mut self.port);
         // Read so that what was asked so far is known to be answered first in, first out.
         let _calls = self.port.calls();
-        self.turn += 1;
-        self.at = self.at.next(self.plan.cores());
         row
     }
 }

@@ -1,3 +1,4 @@
 pub mod Layers
 pub mod Tops
 pub mod Changes
+pub mod Nested

@@ -1,3 +1,4 @@
 pub mod Stack
 pub mod Layers
 pub mod StackView
+pub mod Nested

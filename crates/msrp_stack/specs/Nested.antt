@@ -1,0 +1,7 @@
+-- The resources of the tests, held one within the other.
+use Rattle.std.specs.Prelude.{ℕ, zero, suc, List, [], ◌∷◌}
+
+-- the first n, the innermost first
+abbrev pub nested : ℕ → List ℕ
+nested zero = []
+nested (suc n) = n ∷ nested n
