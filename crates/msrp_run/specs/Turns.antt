@@ -1,5 +1,5 @@
 -- One core's turn on a board: what its machine, its log and its seat must be before it, and what they are after it.
-use Rattle.std.specs.Prelude.{◌≡◌, ◌+◌, ◌++◌, ◌∷◌, [], Option, true, false}
+use Rattle.std.specs.Prelude.{◌≡◌, ◌++◌, ◌∷◌, [], Option, true, false}
 use Rattle.msrp_plan.specs.Aheads.{carries_its_ahead}
 use Rattle.msrp_plan.specs.Runs.{CoreRun}
 use Rattle.msrp_plan.specs.declared.rows.Row.{Row}

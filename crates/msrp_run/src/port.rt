@@ -30,11 +30,11 @@ impl FirstSeat for Brand {
 /// The seat of a core that is let into its tick, with the place of the step that was made through it.
 #[derive(Drop)]
 pub(crate) struct SeatPort<'a, B: FirstSeat> {
-    board: &'a Board,
-    core: CoreId,
-    seat: BoardSeat,
-    place: Option<Place>,
-    first: PhantomData<B>,
+    pub(crate) board: &'a Board,
+    pub(crate) core: CoreId,
+    pub(crate) seat: BoardSeat,
+    pub(crate) place: Option<Place>,
+    pub(crate) first: PhantomData<B>,
 }
 
 impl<'a, B: FirstSeat> Model for SeatPort<'a, B> {
@@ -57,21 +57,6 @@ impl<'a, B: FirstSeat> SeatPort<'a, B> {
             place: None,
             first: PhantomData,
         }
-    }
-
-    /// The place of the step that was made, and the seat.
-    pub(crate) fn into_parts(self) -> (Option<Place>, BoardSeat)
-        ensures parts { result ≡ (self.entry.place, self.entry.seat) }
-        ensures keeps { (board : BoardModel) × IsSeatPort B.core B.first board self.entry.core self.entry.place self.entry.seat }
-    {
-        let SeatPort {
-            board: _,
-            core: _,
-            seat,
-            place,
-            first: _,
-        } = self;
-        (place, seat)
     }
 }
 

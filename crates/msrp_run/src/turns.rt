@@ -14,30 +14,32 @@ use msrp_merge::{CoreLog, Place};
 use msrp_plan::Row;
 use std::marker::Brand;
 
-// The machine's turn through the seat: the row, the place of its step, and the seat.
-fn step_on<B: FirstSeat>(
+// The core's turn, with its seat as the machine's port. The port is taken apart here, since a seat is large to hand on.
+fn turn_through<B: FirstSeat>(
     machine: &mut Machine<'_>,
-    log: &CoreLog,
+    log: &mut CoreLog,
     board: &Board,
     seat: BoardSeat,
-) -> (Row, Option<Place>, BoardSeat)
-    requires may { MayTurn board.now machine.old log.now seat }
+) -> (Row, BoardSeat)
+    requires may { MayTurn board.now machine.old log.old seat }
     requires core { B.core ≡ machine.old.core }
     requires first { B.first ≡ seat }
-    ensures tick { result.0.tick < log.now.ticks }
-    ensures plan { machine.new.plan ≡ machine.old.plan }
-    ensures core { machine.new.core ≡ machine.old.core }
-    ensures row { (rows : List TraceRow) → StandsAfter machine.old rows → IsCoreTurn machine.old.plan machine.old.core rows result.0 }
-    ensures stands { (rows : List TraceRow) → StandsAfter machine.old rows → StandsAfter machine.new (rows ++ result.0 ∷ []) }
-    ensures seat { (at : BoardModel) × IsSeatPort machine.old.core seat at result.0.core result.1 result.2 }
-    ensures port { HasAsked machine.old.plan result.0 (port_of result.0.core seat) (port_of result.0.core result.2) }
+    ensures { HasTurned board.now machine.old log.old seat machine.new log.new result.0 result.1 }
 {
-    let left = seat.tick() < log.ticks();
+    let left = machine.tick() < log.ticks();
+    let _conductor = seat.conductor();
     prove!(left);
     let mut port = SeatPort::<B>::new(board, machine.core(), seat);
     let row = machine.turn(&mut port);
-    let (place, back) = port.into_parts();
-    (row, place, back)
+    let SeatPort {
+        board: _,
+        core: _,
+        seat: back,
+        place,
+        first: _,
+    } = port;
+    log.push(row, place);
+    (row, back)
 }
 
 /// One core's turn on a board: the machine makes the row, and the board answers where it is on a global resource. The log
@@ -51,9 +53,7 @@ pub fn turn_on(
     requires { MayTurn board.now machine.old log.old seat }
     ensures { HasTurned board.now machine.old log.old seat machine.new log.new result.0 result.1 }
 {
-    let (row, place, back) = step_on::<Brand>(machine, log, board, seat);
-    log.push(row, place);
-    (row, back)
+    turn_through::<Brand>(machine, log, board, seat)
 }
 
 /// Makes the turns of the cores, each on the thread of its core: a way to put work of one's own beside them, between the

@@ -9,10 +9,13 @@ use msrp_core::Machine;
 use msrp_merge::CoreLog;
 use std::sync::Wait;
 
-// Ends a wait. The next one begins by spinning, unless a wait was so long that the threads seem to be more than the processors:
-// from then on each wait yields at once.
-fn end_wait(backoff: &Backoff) {
-    if !backoff.is_completed() {
+// A thread that waited long looks whether waits are short again once in so many ticks.
+const PATIENCE: u32 = 64;
+
+// Ends a wait before this tick. The next one begins by spinning, unless a wait was so long that the threads seem to be more
+// than the processors: then each wait yields at once, but for one now and then.
+fn end_wait(backoff: &Backoff, tick: u32) {
+    if !backoff.is_completed() || tick % PATIENCE == 0 {
         backoff.reset();
     }
 }
@@ -38,12 +41,11 @@ pub fn worker<R: Wait, S: Stage>(
             Look::Wait => backoff.snooze(),
             Look::Stopped => return (log, seat),
             Look::Go => {
-                let (_, back) = stage.turn(&mut machine, &mut log, board, seat);
-                seat = back;
+                seat = stage.turn(&mut machine, &mut log, board, seat).1;
                 board.arrive(&mut seat);
                 match seat.phase() {
                     SeatPhase::Done => return (log, seat),
-                    _ => end_wait(&backoff),
+                    _ => end_wait(&backoff, machine.tick()),
                 }
             }
         }
