@@ -201,7 +201,7 @@ fed_bad a b rows r rule none h is plan fault = record {
 }
 
 -- ---- the turn of a row's core
-module _ (m n : CoresModel) (plan : PlanModel) (rows : List Row) (r s : Row) (same : m.plan ≡ plan) (ok : IsPlan plan) (left : length rows < plan.cores * plan.ticks) (stands : StandFor m rows) (turn : is_in_turn plan rows r ≡ true) (own : is_of_core plan r ≡ true)
+module _ (m n : CoresModel) (plan : PlanModel) (rows : List Row) (r s : Row) (same : m.plan ≡ plan) (ok : IsPlan plan) (left : length rows < plan.cores * plan.ticks) (stands : StandFor m rows) (turn : is_in_turn plan rows r ≡ true)
     (next : (before : List Row) → StandFor m before → IsDueAfter m.plan before r.core.0 → IsNextRow m.plan before r.core.0 s) where
   is_due : IsDueAfter plan rows r.core.0
   is_due = due_after plan rows r ok (subst (λ p. IsRunStart p rows) same stands.start) left turn
@@ -209,12 +209,22 @@ module _ (m n : CoresModel) (plan : PlanModel) (rows : List Row) (r s : Row) (sa
   is_next : IsNextRow plan rows r.core.0 s
   is_next = subst (λ p. IsNextRow p rows r.core.0 s) same (next rows stands (subst (λ p. IsDueAfter p rows r.core.0) (sym same) is_due))
 
-  -- it breaks the rule that the comparison names
-  pub judged : unlike r s ≡ refused plan rows r
-  judged = refused_is plan rows r s left turn own is_next
+  -- a row as the one that is due has a job of its core
+  own_as : unlike r s ≡ None → is_of_core plan r ≡ true
+  own_as none =
+      let same_row = as_due r s (sym is_next.core) none in
+      ap (is_on_core plan r.core.0) same_row.job ∙ (ap (λ c. is_on_core plan c s.job) (sym is_next.core) ∙ is_next.legal.own)
+
+  -- a row of its core breaks the rule that the comparison names
+  pub judged : is_of_core plan r ≡ true → unlike r s ≡ refused plan rows r
+  judged own = refused_is plan rows r s left turn own is_next
+
+  -- and any row where it names none
+  pub judged_good : unlike r s ≡ None → None ≡ refused plan rows r
+  judged_good none = sym none ∙ judged (own_as none)
 
   -- and where it names none the cores stand for the row too
   pub stands_on : ((before : List Row) (row : Row) → StandFor m before → IsDueAfter m.plan before r.core.0 → IsAs s row → IsLegal m.plan before row → StandFor n (before ++ row ∷ [])) → unlike r s ≡ None → StandFor n (rows ++ r ∷ [])
   stands_on stand none =
-      let legal : IsLegal plan rows r = unbroken_is_legal plan rows r (broken_is plan rows r s is_next.legal is_next.carries turn own (sym is_next.core) ∙ none) in
+      let legal : IsLegal plan rows r = unbroken_is_legal plan rows r (broken_is plan rows r s is_next.legal is_next.carries turn (own_as none) (sym is_next.core) ∙ none) in
       stand rows r stands (subst (λ p. IsDueAfter p rows r.core.0) (sym same) is_due) (as_due r s (sym is_next.core) none) (subst (λ p. IsLegal p rows r) (sym same) legal)

@@ -1,5 +1,5 @@
 -- The earliest of the pieces' answers is the first fault of the rows.
-use Rattle.std.proofs.Common.{append_assoc, min, map, Ok, IfOk, MatchResult, Result, get_or, ◌⊎◌, ◌≡◌, ◌≢◌, ℕ, zero, suc, ◌+◌, ◌-◌, ◌*◌, ◌/◌, ◌%◌, ◌<◌, ◌≤◌, ◌==◌, ◌&&◌, nat_lt, Bool, true, false, cond, List, [], ◌∷◌, ◌++◌, Option, Some, None, IfSome, fold, refl, ap, sym, ◌∙◌, subst, arith, length, length-append, take, drop, inl, inr, eq-eqb, eqb-true}
+use Rattle.std.proofs.Common.{append_assoc, min, map, Ok, IfOk, MatchResult, Result, get_or, ◌⊎◌, ◌≡◌, ℕ, zero, suc, ◌+◌, ◌-◌, ◌*◌, ◌/◌, ◌%◌, ◌<◌, ◌≤◌, ◌==◌, ◌&&◌, nat_lt, Bool, true, false, cond, List, [], ◌∷◌, ◌++◌, Option, Some, None, IfSome, fold, refl, ap, sym, ◌∙◌, subst, arith, length, length-append, take, drop, inl, inr, eq-eqb, eqb-true}
 use Rattle.std.specs.Option.{option_or}
 use Rattle.std.specs.List.{AllZip, AllByRecursion, range_with_len}
 use Rattle.std.proofs.Math.Bool.{true≢false}

@@ -94,6 +94,7 @@ impl<'a> Auditor<'a> {
     }
 
     // The rule that the next row breaks, if it breaks one; else the cores stand for it too.
+    #[inline(always)]
     fn judge(&mut self, row: Row) -> Option<Rule>
         ensures plan { self.new.plan ≡ self.old.plan }
         ensures fed { self.new.fed ≡ self.old.fed }
@@ -108,11 +109,13 @@ impl<'a> Auditor<'a> {
         if !is_due(self.plan, &self.cores, self.fed, row) {
             return Some(Rule::A1);
         }
-        if !is_own(self.plan, row) {
+        let due = self.cores.turn(row.core);
+        let unlike = unlike_due(row, due);
+        // A row as the one that is due has a job of its core.
+        if unlike.is_some() && !is_own(self.plan, row) {
             return Some(Rule::A2);
         }
-        let due = self.cores.turn(row.core);
-        unlike_due(row, due)
+        unlike
     }
 
     /// A guess of the core's next row, with its ahead: that row of the legal run, where no job of the core is released in
@@ -129,6 +132,7 @@ impl<'a> Auditor<'a> {
 
     /// The next row: the fault of the rows so far, if they have one, whatever is still missing. After a fault it
     /// answers that same fault. It takes no memory.
+    #[inline(always)]
     pub fn feed(&mut self, row: Row) -> Result<(), Fault>
         ensures plan { self.new.plan ≡ self.old.plan }
         ensures fed { (rows : List TraceRow) → HasFed self.old rows → HasFed self.new (rows ++ row ∷ []) }

@@ -105,6 +105,7 @@ impl<'a> Cores<'a> {
 
     // The core's next turn. Whatever rows the cores stand for, the row is the next one of that core after them, and
     // the cores then stand for them and this row, with its ahead or without.
+    #[inline(always)]
     pub fn turn(&mut self, core: CoreId) -> Row
         requires core { core.0 < self.old.plan.cores }
         requires tick { (x : MachineModel) → slice_get self.old.machines core.0 ≡ Some x → x.tick < self.old.plan.ticks }

@@ -7,7 +7,7 @@ use Rattle.std.proofs.lemmas.List.{length-set}
 use Rattle.std.proofs.lemmas.Nat.{div_below, le-div}
 use Rattle.std.proofs.lemmas.Option.{slice_get_within, same_Some}
 use Rattle.msrp_plan.specs.Plan.{PlanModel, task_at, core_of, units}
-use Rattle.msrp_plan.specs.Jobs.{jobs, jobs_of, job_at, is_job, is_row_of, same_job, is_finished, done}
+use Rattle.msrp_plan.specs.Jobs.{jobs, jobs_of, job_at, is_job, is_row_of, same_job, is_finished}
 use Rattle.msrp_plan.specs.Blocking.{blocked}
 use Rattle.msrp_plan.specs.Runs.{IsLegal, IsRunStart}
 use Rattle.msrp_plan.specs.Scheduling.{IsOfReleased}

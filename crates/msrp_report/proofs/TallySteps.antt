@@ -6,7 +6,7 @@ use Rattle.std.proofs.lemmas.Bool.{cases_Bool, cases_lt, eqb-false, le-ltb, lt-l
 use Rattle.std.proofs.lemmas.List.{length-set}
 use Rattle.std.proofs.lemmas.Option.{slice_get_within, slice_get_read, same_Some}
 use Rattle.msrp_plan.specs.Plan.{PlanModel, task_at, release, release_tick}
-use Rattle.msrp_plan.specs.Jobs.{jobs, jobs_of, job_at, is_job}
+use Rattle.msrp_plan.specs.Jobs.{jobs_of, job_at, is_job}
 use Rattle.msrp_plan.specs.Blocking.{first_later}
 use Rattle.msrp_plan.specs.WellFormed.{IsPlan}
 use Rattle.msrp_plan.specs.declared.ids.JobId.{JobId}

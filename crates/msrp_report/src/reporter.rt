@@ -14,7 +14,7 @@ use crate::tallies::Tallies;
 use crate::totals::task_line;
 use msrp_audit::Auditor;
 use msrp_levels::Levels;
-use msrp_plan::{CoreId, Fault, Memory, Plan, Row, TaskId};
+use msrp_plan::{Fault, Memory, Plan, Row, TaskId};
 use std::alloc::Global;
 
 /// Judges the rows of a trace as they come, whoever made them, and counts what each task meets in them. No row is kept.
@@ -50,10 +50,10 @@ impl<'a> Reporter<'a> {
         })
     }
 
-    /// A guess of the core's next row, as [`Auditor::foresee`] makes it.
+    /// The auditor of the rows so far.
     #[inline(always)]
-    pub fn foresee(&self, core: CoreId) -> Option<Row> {
-        self.auditor.foresee(core)
+    pub fn auditor(&self) -> &Auditor<'a> {
+        &self.auditor
     }
 
     /// The next row: the fault of the rows so far, if they have one. After a fault it answers that same fault. It takes no

@@ -1,4 +1,4 @@
-use Rattle.std.proofs.Common.{true, false, length, refl, sym, ◌∙◌, arith, eq-eqb, eqb-true}
+use Rattle.std.proofs.Common.{length, refl, sym, ◌∙◌, arith, eq-eqb, eqb-true}
 use Rattle.std.proofs.lemmas.Option.{slice_get_read}
 use Rattle.msrp_report.proofs.Going.{going_known, step_core, step_early, step_later, step_new, step_none}
 use Rattle.msrp_report.proofs.JobTallies.{job_known}
