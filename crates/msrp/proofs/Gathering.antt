@@ -1,5 +1,5 @@
 -- Rows that are gathered before they are judged.
-use Rattle.std.proofs.Common.{◌≡◌, ◌++◌, ◌≤◌, ◌+◌, ◌*◌, ℕ, Bool, true, false, cond, length, List, Option, None, Some, option_map, refl, ap, sym, subst, ◌∙◌, inl, inr, append-nil, arith}
+use Rattle.std.proofs.Common.{◌≡◌, ◌++◌, [], ◌≤◌, ◌+◌, ◌*◌, ℕ, Bool, true, false, cond, length, List, Option, None, Some, option_map, refl, ap, sym, subst, ◌∙◌, inl, inr, append-nil, arith}
 use Rattle.std.proofs.lemmas.Bool.{le-ltb}
 use Rattle.std.specs.Option.{option_or}
 use Rattle.std.specs.Prelude.{⊤, nat_lt}
@@ -15,15 +15,14 @@ use Rattle.msrp_plan.specs.declared.faults.Rule.TheVariants.{A1, A2, A3, A4, A5,
 use Rattle.msrp_plan.specs.declared.rows.Row.{Row}
 use Rattle.msrp_plan.proofs.Runs.Verdicts.{early_fault, early_is, good_is_run}
 use Rattle.msrp_trace.specs.Reading.{Told}
-use Rattle.msrp_trace.specs.Readers.{GivesNext}
 use Rattle.msrp_trace.specs.declared.faults.TraceError.{TraceError}
-use Rattle.msrp_trace.specs.declared.faults.TraceError.TheVariants.{Read, Memory}
+use Rattle.msrp_trace.proofs.ReadThrough.{Answers, IsReadTo, read-refused, read-whole}
 use Rattle.msrp.specs.Findings.{found_first}
 use Rattle.msrp.specs.Inside.Gathered.{IsGathered, found_in, is_missing}
-use Rattle.msrp.specs.Outcomes.{trace_fault_of}
-use Rattle.msrp.specs.declared.faults.CliFault.{CliFault}
-use Rattle.msrp.specs.declared.faults.CliFault.TheVariants.{Memory as NoMemory}
-use Rattle.msrp.proofs.Judging.{IsFound, IsReadTo, fault-answer, fault-found, first-refusal, good-answer, last-row, refused-found}
+use Rattle.msrp_cli.specs.Outcomes.{trace_fault_of}
+use Rattle.msrp_cli.specs.declared.faults.CliFault.{CliFault}
+use Rattle.msrp_cli.specs.declared.faults.CliFault.TheVariants.{Memory as NoMemory}
+use Rattle.msrp.proofs.Judging.{IsFound, fault-answer, fault-found, good-answer, refused-found}
 
 -- ---- what ended the reading
 -- as many as were asked for
@@ -36,29 +35,21 @@ gathered-unkept most told rows left is = record { rest = is.rest; whole = is.who
 
 -- the end of the text
 pub gathered-all : (most : ℕ) (told : Told) (rows : List Row) (left after : Option Told) (result : Result (Option Row) TraceError)
-    → IsReadTo told rows left → ((t : Told) → left ≡ Some t → GivesNext t result after) → result ≡ Ok None → IsGathered most told rows (Ok tt)
+    → IsReadTo told rows left → Answers left result after → result ≡ Ok None → IsGathered most told rows (Ok tt)
 gathered-all most told rows left after result is next e =
-    elim (next _ is.unread) [
-      | inl h ↦ absurd (cc)
-      | inr k ↦ elim k [
-        | inl h ↦ absurd (cc)
-        | inr h ↦ record { rest = is.rest; whole = is.whole; end = inr (last-row is.rest told.refusal result after h e) }
-      ]
-    ]
+    let whole = read-whole told rows left after result is next e in
+    record { rest = []; whole = whole.0 ∙ sym (append-nil rows); end = inr (refl, whole.1) }
 
 -- an error of the reader
 pub gathered-refused : (most : ℕ) (told : Told) (rows : List Row) (left after : Option Told) (result : Result (Option Row) TraceError) (error : TraceError)
-    → IsReadTo told rows left → ((t : Told) → left ≡ Some t → GivesNext t result after) → result ≡ Err error → IsGathered most told rows (Err (trace_fault_of error))
-gathered-refused most told rows left after result error is next e =
-    elim (next _ is.unread) [
-      | inl h ↦ let same : error ≡ Read = cc in record { rest = is.rest; whole = is.whole; end = inl (ap trace_fault_of same) }
-      | inr k ↦ elim k [
-        | inl h ↦ let same : error ≡ Memory = cc in record { rest = is.rest; whole = is.whole; end = inr (inl (ap trace_fault_of same)) }
-        | inr h ↦
-            let last = first-refusal is.rest told.refusal result after error h e in
-            record { rest = is.rest; whole = is.whole; end = inr (inr (last.0, ap (option_map trace_fault_of) last.1)) }
-      ]
-    ]
+    → IsReadTo told rows left → Answers left result after → result ≡ Err error → IsGathered most told rows (Err (trace_fault_of error))
+gathered-refused most told rows left after result error is next e = elim (read-refused told rows left after result error is next e) [
+  | inl same ↦ record { rest = is.rest; whole = is.whole; end = inl (ap trace_fault_of same) }
+  | inr k ↦ elim k [
+    | inl same ↦ record { rest = is.rest; whole = is.whole; end = inr (inl (ap trace_fault_of same)) }
+    | inr last ↦ record { rest = []; whole = last.0 ∙ sym (append-nil rows); end = inr (inr (refl, ap (option_map trace_fault_of) last.1)) }
+  ]
+]
 
 -- ---- the fault of the rows that stand, and a row that is missing
 not-missing : (a b c d e : Bool) → cond a (cond b (cond c (cond d (cond e None (Some A5)) (Some A4)) (Some A3)) (Some A2)) (Some A1) ≡ Some A6 → ⊥

@@ -8,8 +8,8 @@ use Rattle.clap.specs.declared.parser.matches.ArgMatches.{ArgMatches}
 use Rattle.msrp.specs.CommandLine.{IsAnswered, IsChosen, answer_to, grammar}
 use Rattle.msrp.specs.Words.{IsCommand, plan_path}
 use Rattle.msrp.specs.declared.cli.Cmd.{Cmd}
-use Rattle.msrp.specs.declared.faults.CliFault.{CliFault}
-use Rattle.msrp.specs.declared.faults.CliFault.TheVariants.{Usage}
+use Rattle.msrp_cli.specs.declared.faults.CliFault.{CliFault}
+use Rattle.msrp_cli.specs.declared.faults.CliFault.TheVariants.{Usage}
 
 -- a plain command has no argument for its subcommands too
 own_args : (a b c d : Bool) → (a && (b && (not c && d))) ≡ true → c ≡ false

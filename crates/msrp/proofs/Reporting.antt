@@ -1,5 +1,5 @@
 -- The rows of a trace's text, counted as they are judged.
-use Rattle.std.proofs.Common.{◌≡◌, ◌⊎◌, ◌++◌, List, Option, None, Some, IfOk, OnOk, refl, ap, sym, ◌∙◌, inl, inr, append-nil}
+use Rattle.std.proofs.Common.{◌≡◌, ◌⊎◌, List, Some, IfOk, OnOk, refl, ap, sym, ◌∙◌, inl, inr}
 use Rattle.std.specs.declared.result.Result.{Result}
 use Rattle.std.specs.declared.result.Result.TheVariants.{Ok, Err}
 use Rattle.msrp_audit.specs.Audits.{answer_of}
@@ -12,28 +12,13 @@ use Rattle.msrp_plan.proofs.Runs.Verdicts.{run_is_good}
 use Rattle.msrp_report.specs.Lines.{lines_of}
 use Rattle.msrp_report.specs.declared.lines.Report.{Report}
 use Rattle.msrp_trace.specs.Reading.{Told}
-use Rattle.msrp_trace.specs.Readers.{GivesNext}
-use Rattle.msrp_trace.specs.declared.faults.TraceError.{TraceError}
 use Rattle.msrp.specs.Findings.{finding}
 use Rattle.msrp.specs.Reports.{Reports}
-use Rattle.msrp.specs.declared.faults.CliFault.{CliFault}
-use Rattle.msrp.specs.declared.faults.CliFault.TheVariants.{Read as ReadFault, Memory as NoMemory}
-use Rattle.msrp.proofs.Judging.{IsFound, IsReadTo, last-row}
+use Rattle.msrp_cli.specs.declared.faults.CliFault.{CliFault}
+use Rattle.msrp_cli.specs.declared.faults.CliFault.TheVariants.{Read as ReadFault, Memory as NoMemory}
+use Rattle.msrp.proofs.Judging.{IsFound}
 
--- at the end all rows were read
-pub all-read : (told : Told) (rows : List Row) (left after : Option Told) (result : Result (Option Row) TraceError)
-    → IsReadTo told rows left → ((t : Told) → left ≡ Some t → GivesNext t result after) → result ≡ Ok None → rows ≡ told.rows
-all-read told rows left after result is next e =
-    elim (next _ is.unread) [
-      | inl h ↦ absurd (cc)
-      | inr k ↦ elim k [
-        | inl h ↦ absurd (cc)
-        | inr h ↦ sym (is.whole ∙ (ap (λ xs. rows ++ xs) (last-row is.rest told.refusal result after h e).0 ∙ append-nil rows))
-      ]
-    ]
-
--- ---- what is reported
--- but for a read that failed and for memory
+-- what is reported, but for a read that failed and for memory
 abbrev pub IsReported : PlanModel → Told → Result (Result Report Fault) CliFault → Type 0
 IsReported plan told answer = (answer ≡ Err ReadFault) ⊎ (answer ≡ Err NoMemory) ⊎ Reports plan told answer
 

@@ -11,7 +11,7 @@ use Rattle.msrp_sim.specs.Orders.{cores_of}
 use Rattle.msrp_text.specs.Reading.{Answers}
 use Rattle.msrp_text.specs.declared.reading.TextError.{TextError}
 use Rattle.msrp.specs.Simulation.{SimAnswers, SimAnswersPlan}
-use Rattle.msrp.specs.declared.faults.CliFault.{CliFault}
+use Rattle.msrp_cli.specs.declared.faults.CliFault.{CliFault}
 
 -- what is nothing but this error
 pub only_err : {T E : Type 0} (r : Result T E) (x : E) → IsErrAnd r (λ y. y ≡ x) → r ≡ Err x

@@ -1,5 +1,5 @@
 -- What an audit writes and answers.
-use Rattle.std.specs.Prelude.{◌≡◌, ℕ, List, [], ◌∷◌, codes, decimal, cond, Option, Ok, Err, ⊤}
+use Rattle.std.specs.Prelude.{◌≡◌, ℕ, List, [], ◌∷◌, codes, decimal, if◌then◌else◌, Option, Ok, Err, ⊤}
 use Rattle.std.specs.declared.result.Result.{Result}
 use Rattle.msrp_plan.specs.Bytes.{Wrote, sink_failed}
 use Rattle.msrp_plan.specs.declared.bytes.Sink.{Sink}
@@ -7,8 +7,8 @@ use Rattle.msrp_plan.specs.declared.faults.Fault.{Fault}
 use Rattle.msrp_plan.specs.declared.faults.Rule.{Rule}
 use Rattle.msrp_plan.specs.declared.faults.Rule.TheVariants.{A1, A2, A3, A4, A5, A6, A7}
 use Rattle.msrp_text.specs.PlanText.{record_text}
-use Rattle.msrp.specs.declared.faults.CliFault.{CliFault}
-use Rattle.msrp.specs.declared.faults.CliFault.TheVariants.{Write}
+use Rattle.msrp_cli.specs.declared.faults.CliFault.{CliFault}
+use Rattle.msrp_cli.specs.declared.faults.CliFault.TheVariants.{Write}
 
 -- the code of a rule
 unfoldable pub rule_text : Rule → List ℕ
@@ -33,7 +33,7 @@ verdict_status (Err fault) = 1
 -- the verdict is written, and its status is answered if the sink took it all
 pub record TellsVerdict {W : Type 0} (contents : W → Option (List ℕ)) (found : Result ⊤ Fault) (old new : Sink W) (result : Result ℕ CliFault) : Type 0 where
   pub text : Wrote contents old new (record_text (verdict_fields found))
-  pub status : result ≡ cond (sink_failed new) (Err Write) (Ok (verdict_status found))
+  pub status : result ≡ if sink_failed new then Err Write else Ok (verdict_status found)
 
 -- the answer where that is found: a verdict is written, and of a refusal nothing is
 abbrev pub AuditAnswers : {W : Type 0} → (W → Option (List ℕ)) → Result (Result ⊤ Fault) CliFault → Sink W → Sink W → Result ℕ CliFault → Type 0

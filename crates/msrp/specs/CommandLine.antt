@@ -10,8 +10,8 @@ use Rattle.clap.specs.declared.parser.matches.ArgMatches.{ArgMatches}
 use Rattle.msrp.specs.Words.{IsCommand, plan_path}
 use Rattle.msrp.specs.declared.cli.Cmd.{Cmd}
 use Rattle.msrp.specs.declared.cli.Cmd.TheVariants.{Help}
-use Rattle.msrp.specs.declared.faults.CliFault.{CliFault}
-use Rattle.msrp.specs.declared.faults.CliFault.TheVariants.{Memory, Usage}
+use Rattle.msrp_cli.specs.declared.faults.CliFault.{CliFault}
+use Rattle.msrp_cli.specs.declared.faults.CliFault.TheVariants.{Memory, Usage}
 
 -- ---- arguments
 -- a flag

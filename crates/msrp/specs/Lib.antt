@@ -6,6 +6,5 @@ pub mod Findings
 pub mod AuditText
 pub mod Words
 pub mod CommandLine
-pub mod Inputs
 pub mod Reports
 pub mod Inside

@@ -10,9 +10,8 @@ use Rattle.msrp_plan.specs.declared.rows.Row.{Row}
 use Rattle.msrp_plan.specs.declared.rows.TextVersion.{TextVersion}
 use Rattle.msrp_text.specs.declared.reading.TextError.{TextError}
 use Rattle.msrp_trace.specs.TraceText.{trace_text}
-use Rattle.msrp.specs.Outcomes.{fault_of}
-use Rattle.msrp.specs.Simulation.{sim_status}
-use Rattle.msrp.specs.declared.faults.CliFault.{CliFault}
+use Rattle.msrp_cli.specs.Outcomes.{fault_of, written_status}
+use Rattle.msrp_cli.specs.declared.faults.CliFault.{CliFault}
 
 -- the sink took the text, in this version, of the trace of a legal run of the plan, in whatever order its cores had their turns
 pub record WritesLegalRun {W : Type 0} (contents : W → Option (List ℕ)) (version : TextVersion) (plan : PlanModel) (old new : Sink W) : Type 0 where
@@ -23,5 +22,5 @@ pub record WritesLegalRun {W : Type 0} (contents : W → Option (List ℕ)) (ver
 
 -- the answer to a text that stands for a plan, or to one that is refused: then nothing is written
 abbrev pub RunAnswers : {W : Type 0} → (W → Option (List ℕ)) → TextVersion → Result PlanModel TextError → Sink W → Sink W → Result ℕ CliFault → Type 0
-RunAnswers contents version (Ok plan) old new result = WritesLegalRun contents version plan old new × (result ≡ sim_status new)
+RunAnswers contents version (Ok plan) old new result = WritesLegalRun contents version plan old new × (result ≡ written_status new)
 RunAnswers contents version (Err error) old new result = (result ≡ Err (fault_of error)) × (new ≡ old)

@@ -1,9 +1,9 @@
 -- What a simulation of a plan, and a text of it, write and answer.
-use Rattle.std.specs.Prelude.{◌≡◌, ℕ, List, cond, Option, Ok, Err}
+use Rattle.std.specs.Prelude.{◌≡◌, ℕ, List, Option, Ok, Err}
 use Rattle.std.specs.declared.result.Result.{Result}
 use Rattle.msrp_plan.specs.Plan.{PlanModel}
 use Rattle.msrp_plan.specs.Scheduling.{IsOrder}
-use Rattle.msrp_plan.specs.Bytes.{Wrote, sink_failed}
+use Rattle.msrp_plan.specs.Bytes.{Wrote}
 use Rattle.msrp_plan.specs.WellFormed.{IsPlan}
 use Rattle.msrp_plan.specs.declared.rows.Row.{Row}
 use Rattle.msrp_plan.specs.declared.bytes.Sink.{Sink}
@@ -13,9 +13,9 @@ use Rattle.msrp_sim.specs.Orders.{cores_of}
 use Rattle.msrp_sim.specs.Simulated.{IsRunIn}
 use Rattle.msrp_sim.specs.declared.orders.Order.{Order}
 use Rattle.msrp_trace.specs.TraceText.{trace_text}
-use Rattle.msrp.specs.Outcomes.{fault_of}
-use Rattle.msrp.specs.declared.faults.CliFault.{CliFault}
-use Rattle.msrp.specs.declared.faults.CliFault.TheVariants.{Usage, Write}
+use Rattle.msrp_cli.specs.Outcomes.{fault_of, written_status}
+use Rattle.msrp_cli.specs.declared.faults.CliFault.{CliFault}
+use Rattle.msrp_cli.specs.declared.faults.CliFault.TheVariants.{Usage}
 
 -- the sink took the text, in this version, of the trace of a whole run of the plan in this order
 pub record WritesRun {W : Type 0} (contents : W → Option (List ℕ)) (version : TextVersion) (plan : PlanModel) (order : List ℕ) (old new : Sink W) : Type 0 where
@@ -36,13 +36,9 @@ pub record WritesSomeText {W : Type 0} (contents : W → Option (List ℕ)) (tex
   pub well_formed : IsPlan plan
   pub text : Wrote contents old new (text_of plan)
 
--- 0 where the sink took it all, a write fault where it failed
-abbrev pub sim_status : {W : Type 0} → Sink W → Result ℕ CliFault
-sim_status new = cond (sink_failed new) (Err Write) (Ok 0)
-
 -- what a plan is answered in an order of it, and in a list that is no order of it: then nothing is written
 pub data SimAnswersPlan {W : Type 0} (contents : W → Option (List ℕ)) (version : TextVersion) (plan : PlanModel) (order : List ℕ) (old new : Sink W) (result : Result ℕ CliFault) : Type 0 where
-  Simulated : (is : IsOrder plan order) (writes : WritesRun contents version plan order old new) (status : result ≡ sim_status new) → SimAnswersPlan contents version plan order old new result
+  Simulated : (is : IsOrder plan order) (writes : WritesRun contents version plan order old new) (status : result ≡ written_status new) → SimAnswersPlan contents version plan order old new result
   NoOrder : (isnt : ¬ IsOrder plan order) (usage : result ≡ Err Usage) (silent : new ≡ old) → SimAnswersPlan contents version plan order old new result
 
 -- the answer to a text that stands for a plan, or to one that is refused: then nothing is written
@@ -52,5 +48,5 @@ SimAnswers contents version order (Err error) old new result = (result ≡ Err (
 
 -- the same where such a text of the plan is asked for
 abbrev pub TextAnswers : {W : Type 0} → (W → Option (List ℕ)) → (PlanModel → List ℕ) → Result PlanModel TextError → Sink W → Sink W → Result ℕ CliFault → Type 0
-TextAnswers contents text_of (Ok plan) old new result = Wrote contents old new (text_of plan) × (result ≡ sim_status new)
+TextAnswers contents text_of (Ok plan) old new result = Wrote contents old new (text_of plan) × (result ≡ written_status new)
 TextAnswers contents text_of (Err error) old new result = (result ≡ Err (fault_of error)) × (new ≡ old)

@@ -6,24 +6,43 @@ ghost use Rattle.msrp_text.specs.PlanText.{record_text};
 ghost use Rattle.msrp_text.specs.Reading.{csv_records, plan_of};
 ghost use Rattle.msrp_text.specs.declared.reading.TextError.{TextError as PlanError};
 ghost use Rattle.msrp_trace.specs.Reading.{Told, rows_of};
-ghost use Rattle.msrp_trace.specs.Readers.{told_left};
+ghost use Rattle.msrp_trace.specs.Readers.{GivesNext, told_left};
 ghost use Rattle.msrp.specs.AuditText.{AuditAnswers, TellsVerdict, rule_text, verdict_fields};
 ghost use Rattle.msrp.specs.Findings.{finding, finding_of};
-ghost use Rattle.msrp.specs.Outcomes.{fault_of, is_audit_fault, is_trace_fault};
+ghost use Rattle.msrp_cli.specs.Outcomes.{fault_of, is_trace_fault};
+ghost use Rattle.msrp.specs.Outcomes.{is_audit_fault};
 
 #[cfg(test)]
 mod tests;
 
-use crate::faults::CliFault;
 use crate::fields::{next_field, next_number};
 use msrp_audit::Auditor;
+use msrp_cli::CliFault;
 use msrp_levels::Levels;
 use msrp_plan::bytes::{Sink, Source};
-use msrp_plan::{Fault, Plan, Rule};
+use msrp_plan::{Fault, Plan, Row, Rule};
 use msrp_text::read_plan;
-use msrp_trace::TraceReader;
+use msrp_trace::{TraceError, TraceReader};
 use std::alloc::Global;
 use std::io::{Read, Write};
+
+/// The next row that a reader has left: what its core did last again, or what the auditor foresees, or else any other.
+#[inline(always)]
+pub fn next_row<T: Read>(
+    auditor: &Auditor<'_>,
+    rows: &mut TraceReader<'_, T>,
+) -> Result<Option<Row>, TraceError>
+    ensures { (told : Told) → told_left T.remaining rows.old ≡ Some told → GivesNext told result (told_left T.remaining rows.new) }
+{
+    if let Some(row) = rows.next_alike() {
+        return Ok(Some(row));
+    }
+    let foreseen = match rows.core_ahead() {
+        Some(core) => auditor.foresee(core),
+        None => None,
+    };
+    rows.next_foreseen(foreseen)
+}
 
 // What is found in the rows that a reader has left. They are judged as they come, and none is read after a faulty one.
 fn judge_rows<T: Read>(
@@ -35,7 +54,7 @@ fn judge_rows<T: Read>(
         → (result ≡ Err CliFault.Read) ⊎ (result ≡ Err CliFault.Memory) ⊎ (result ≡ finding auditor.old.plan told) }
     ensures faults { IfErr result (λ fault. is_trace_fault fault ≡ true) }
 {
-    while let Some(row) = rows.next_row()? {
+    while let Some(row) = next_row(auditor, rows)? {
         if let Err(fault) = auditor.feed(row) {
             return Ok(Err(fault));
         }
@@ -56,7 +75,9 @@ fn judge_all<T: Read>(
     let levels = Levels::of(alloc, plan)?;
     let mut auditor = Auditor::with_room(alloc, plan, &levels)?;
     let mut rows = TraceReader::new(alloc, trace, plan)?;
-    judge_rows(&mut auditor, &mut rows)
+    let found = judge_rows(&mut auditor, &mut rows);
+    drop(rows);
+    found
 }
 
 // What is found in a trace's text. One row is kept at a time.

@@ -12,8 +12,8 @@ ghost use Rattle.msrp.specs.Simulation.{TextAnswers, WritesSomeText};
 #[cfg(test)]
 mod tests;
 
-use crate::faults::CliFault;
 use crate::fields::{next_field, next_number};
+use msrp_cli::CliFault;
 use msrp_levels::Levels;
 use msrp_plan::bytes::{Sink, Source};
 use msrp_plan::{CoreId, Plan, ResId, TaskId, WriteFault};

@@ -6,9 +6,9 @@ ghost use Rattle.msrp.specs.CommandLine as line;
 ghost use Rattle.msrp.specs.CommandLine.{IsAnswered, IsChosen, Takes};
 ghost use Rattle.msrp.specs.Words.{IsCommand, plan_path};
 
-use crate::faults::CliFault;
 use clap::error::ErrorKind;
 use clap::{Arg, ArgAction, ArgMatches, Command, Error};
+use msrp_cli::{CliFault, STANDARD};
 use std::alloc::{AllocError, Global};
 
 /// The order of the cores in each tick of a simulation.
@@ -71,9 +71,6 @@ const AHEAD: &str = "ahead";
 const PARALLEL: &str = "parallel";
 
 const TEXT: &str = "text";
-
-/// The path that stands for standard input.
-pub const STANDARD: &str = "-";
 
 fn flag<'a>(alloc: Global, name: &'a str, help: &'a str) -> Arg<'a>
     ensures rule { rule_of result ≡ line.flag name.now }

@@ -8,9 +8,9 @@ ghost use Rattle.msrp_sim.specs.Simulated.{HasMade};
 ghost use Rattle.msrp_text.specs.PlanText.{plan_text};
 ghost use Rattle.msrp_text.specs.Reading.{csv_records, plan_of};
 ghost use Rattle.msrp.specs.Outcomes.{is_sim_fault};
-ghost use Rattle.msrp.specs.Simulation.{SimAnswers, TextAnswers, WritesRun, WritesSomeRun, WritesSomeText, sim_status};
+ghost use Rattle.msrp.specs.Simulation.{SimAnswers, TextAnswers, WritesRun, WritesSomeRun, WritesSomeText};
 
-use crate::faults::CliFault;
+use msrp_cli::CliFault;
 use msrp_levels::Levels;
 use msrp_plan::bytes::{Sink, Source};
 use msrp_plan::{Plan, TextVersion, WriteFault};
@@ -104,15 +104,5 @@ pub fn plan_text<P: Read, W: Write>(
 {
     let plan = read_plan(alloc, plan)?;
     write_plan(out, &plan)?;
-    Ok(0)
-}
-
-/// Writes the help.
-pub fn write_help<W: Write>(out: &mut Sink<W>, help: &str) -> Result<u8, CliFault>
-    ensures wrote { Wrote W.contents out.old out.new help.now }
-    ensures status { result ≡ sim_status out.new }
-{
-    out.add(help.as_bytes());
-    out.outcome()?;
     Ok(0)
 }

@@ -7,14 +7,11 @@
 mod audit;
 mod check;
 
-ghost use Rattle.std.specs.IoError.{error_kind};
-ghost use Rattle.std.specs.Prelude.{◌≡◌, ◌⊎◌, ◌↔◌, if◌then◌else◌, IfErr, IfOk, IsErrAnd};
+ghost use Rattle.std.specs.Prelude.{◌≡◌, if◌then◌else◌};
 
 mod cli;
 mod engine;
-mod faults;
 mod fields;
-mod input;
 mod parallel;
 mod report;
 mod running;
@@ -24,52 +21,18 @@ mod tests;
 use audit::audit_text;
 use check::check_text;
 use cli::{Cmd, TurnOrder, command_of, help_text};
-use engine::{plan_text, sim_text, write_help};
-use faults::{CliFault, exit_of};
-use input::{Input, open, open_both};
+use engine::{plan_text, sim_text};
+use msrp_cli::{CliFault, Input, exit_of, open, open_both, words_of, write_help};
 use msrp_plan::TextVersion;
 use msrp_plan::bytes::{Sink, Source};
 use msrp_sim::Order;
 use parallel::audit_parallel_text;
 use report::report_text;
 use running::run_text;
-use std::alloc::Global;
-use std::env::Args;
 use std::io;
-use std::io::ErrorKind;
 use std::process::ExitCode;
 use std::sync::Wait;
 use std::thread::Threads;
-
-// What is answered where the words can't be had: want of memory is told as such, and a word that isn't UTF-8 as usage.
-fn unread_words(kind: ErrorKind) -> CliFault
-    ensures memory { (result ≡ CliFault.Memory) ↔ (kind ≡ ErrorKind.OutOfMemory) }
-    ensures usage { (result ≡ CliFault.Memory) ⊎ (result ≡ CliFault.Usage) }
-{
-    match kind {
-        ErrorKind::OutOfMemory => CliFault::Memory,
-        _ => CliFault::Usage,
-    }
-}
-
-// The words that were had of the command line, or why none were.
-fn words_had(alloc: Global, args: io::Result<Args>) -> Result<Vec<String>, CliFault>
-    ensures had { IfOk args (λ _. IfErr result (λ fault. fault ≡ CliFault.Memory)) }
-    ensures unread { IfErr args (λ error. IsErrAnd result (λ fault. (fault ≡ CliFault.Memory) ↔ (error_kind error ≡ ErrorKind.OutOfMemory))) }
-    ensures usage { IfErr result (λ fault. (fault ≡ CliFault.Memory) ⊎ (fault ≡ CliFault.Usage)) }
-{
-    match args {
-        Ok(args) => args.collect(alloc).map_err(|_| CliFault::Memory),
-        Err(error) => Err(unread_words(error.kind())),
-    }
-}
-
-// The words of the command line, the program's name first.
-fn words_of(rt: &HostRuntime) -> Result<Vec<String>, CliFault>
-    ensures { IfErr result (λ fault. (fault ≡ CliFault.Memory) ⊎ (fault ≡ CliFault.Usage)) }
-{
-    words_had(rt.alloc(), std::env::args(rt))
-}
 
 // The order of turns that a word asks for.
 fn order_of(order: TurnOrder) -> Order

@@ -8,11 +8,12 @@ ghost use Rattle.msrp_trace.specs.Readers.{told_left};
 ghost use Rattle.msrp.specs.AuditText.{AuditAnswers};
 ghost use Rattle.msrp.specs.Findings.{finding, finding_of};
 ghost use Rattle.msrp.specs.Inside.Gathered.{IsGathered, found_in, is_missing};
-ghost use Rattle.msrp.specs.Outcomes.{fault_of, is_audit_fault, is_trace_fault};
+ghost use Rattle.msrp_cli.specs.Outcomes.{fault_of, is_trace_fault};
+ghost use Rattle.msrp.specs.Outcomes.{is_audit_fault};
 
 use crate::audit::write_verdict;
-use crate::faults::CliFault;
 use msrp_audit::audit_parallel;
+use msrp_cli::CliFault;
 use msrp_plan::bytes::{Sink, Source};
 use msrp_plan::{Fault, Memory, Plan, Row, Rule, Trace};
 use msrp_text::read_plan;
@@ -87,6 +88,7 @@ fn judge_all<T: Read>(
     let mut gathered = Vec::with_capacity(alloc, most).map_err(|_| Memory)?;
     let mut rows = TraceReader::new(alloc, trace, plan)?;
     let ended = gather_rows(&mut rows, &mut gathered, most);
+    drop(rows);
     let judged = audit_parallel(rt, alloc, plan, &Trace { rows: gathered })?;
     found_in(judged, ended)
 }

@@ -7,14 +7,15 @@ ghost use Rattle.msrp_text.specs.declared.reading.TextError.{TextError as PlanEr
 ghost use Rattle.msrp_trace.specs.Reading.{Told, rows_of};
 ghost use Rattle.msrp_trace.specs.Readers.{told_left};
 ghost use Rattle.msrp.specs.Findings.{finding};
-ghost use Rattle.msrp.specs.Outcomes.{fault_of, is_audit_fault, is_trace_fault};
+ghost use Rattle.msrp_cli.specs.Outcomes.{fault_of, is_trace_fault};
+ghost use Rattle.msrp.specs.Outcomes.{is_audit_fault};
 ghost use Rattle.msrp.specs.Reports.{ReportAnswers, Reports};
 
 #[cfg(test)]
 mod tests;
 
-use crate::audit::write_verdict;
-use crate::faults::CliFault;
+use crate::audit::{next_row, write_verdict};
+use msrp_cli::CliFault;
 use msrp_levels::Levels;
 use msrp_plan::bytes::{Sink, Source};
 use msrp_plan::{Fault, Plan};
@@ -36,7 +37,7 @@ fn report_rows<T: Read>(
     ensures lines { IfOk result (λ found. IfOk found (λ report. length report.lines.items ≡ length reporter.entry.plan.now.tasks)) }
     ensures faults { IfErr result (λ fault. is_trace_fault fault ≡ true) }
 {
-    while let Some(row) = rows.next_row()? {
+    while let Some(row) = next_row(reporter.auditor(), rows)? {
         if let Err(fault) = reporter.feed(row) {
             return Ok(Err(fault));
         }
@@ -58,7 +59,9 @@ fn report_all<T: Read>(
     let levels = Levels::of(alloc, plan)?;
     let reporter = Reporter::with_room(alloc, plan, &levels)?;
     let mut rows = TraceReader::new(alloc, trace, plan)?;
-    report_rows(reporter, &mut rows)
+    let found = report_rows(reporter, &mut rows);
+    drop(rows);
+    found
 }
 
 // The same, where a failed read is told only if the source has failed. One row is kept at a time.

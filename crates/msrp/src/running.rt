@@ -11,7 +11,7 @@ ghost use Rattle.msrp.specs.Running.{RunAnswers, WritesLegalRun};
 #[cfg(test)]
 mod tests;
 
-use crate::faults::CliFault;
+use msrp_cli::CliFault;
 use msrp_merge::Merging;
 use msrp_plan::bytes::{Sink, Source};
 use msrp_plan::{Plan, TextVersion, WriteFault};

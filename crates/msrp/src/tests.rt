@@ -2,7 +2,7 @@
 
 use crate::cli::{Cmd, TurnOrder, command_of};
 use crate::engine::{plan_text, sim_text};
-use crate::faults::{CliFault, exit_of};
+use msrp_cli::{CliFault, exit_of};
 use msrp_plan::TextVersion;
 use msrp_plan::bytes::{Sink, Source};
 use msrp_sim::Order;

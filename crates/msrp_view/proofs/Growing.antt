@@ -1,5 +1,5 @@
 -- Lists that grow part by part.
-use Rattle.std.proofs.Common.{◌≡◌, ℕ, ◌+◌, Bool, true, false, cond, List, [], ◌∷◌, ◌++◌, Result, Ok, Err, OnOk, refl, ap, sym, ◌∙◌, append_assoc, append-nil, arith, map, ◌-◌, ◌≤◌}
+use Rattle.std.proofs.Common.{◌≡◌, ℕ, ◌+◌, Bool, true, false, cond, List, [], ◌∷◌, ◌++◌, Result, Ok, Err, OnOk, refl, ap, sym, ◌∙◌, append_assoc, append-nil, length, length-append, arith, map, ◌-◌, ◌≤◌}
 use Rattle.std.specs.Prelude.{⊤}
 use Rattle.std.specs.List.{filter, flat_map, range_with_len}
 use Rattle.std.proofs.lemmas.Grind.{flat_map-append}
@@ -28,12 +28,22 @@ chosen : {X : Type 0} (f : ℕ → List X) (n : ℕ) (b : Bool) → flat_map f (
 chosen f n true = append-nil (f n)
 chosen f n false = refl
 
+some-more : (p : ℕ → Bool) (n : ℕ) → filter p (range_with_len 0 (n + 1)) ≡ filter p (range_with_len 0 n) ++ cond (p n) (n ∷ []) []
+some-more p n = ap (filter p) (range_more 0 n ∙ ap (λ k. range_with_len 0 n ++ k ∷ []) (nothing-plus n)) ∙ filter-append p (range_with_len 0 n) (n ∷ [])
+
 pub grows-some : {X : Type 0} (p : ℕ → Bool) (f : ℕ → List X) (n : ℕ) (a b c : List X) → b ≡ a ++ flat_map f (filter p (range_with_len 0 n)) → c ≡ b ++ cond (p n) (f n) []
     → c ≡ a ++ flat_map f (filter p (range_with_len 0 (n + 1)))
 grows-some p f n a b c e h =
-    let more = ap (filter p) (range_more 0 n ∙ ap (λ k. range_with_len 0 n ++ k ∷ []) (nothing-plus n)) ∙ filter-append p (range_with_len 0 n) (n ∷ []) in
-    let whole = ap (flat_map f) more ∙ (flat_map-append f (filter p (range_with_len 0 n)) (cond (p n) (n ∷ []) []) ∙ ap (λ t. flat_map f (filter p (range_with_len 0 n)) ++ t) (chosen f n (p n))) in
+    let whole = ap (flat_map f) (some-more p n) ∙ (flat_map-append f (filter p (range_with_len 0 n)) (cond (p n) (n ∷ []) []) ∙ ap (λ t. flat_map f (filter p (range_with_len 0 n)) ++ t) (chosen f n (p n))) in
     grows a b c _ _ e h ∙ ap (λ t. a ++ t) (sym whole)
+
+-- so many pass a test, with one number more
+one-counted : (n : ℕ) (b : Bool) → length (cond b (n ∷ []) []) ≡ cond b 1 0
+one-counted n true = refl
+one-counted n false = refl
+
+pub counts-some : (p : ℕ → Bool) (n : ℕ) → length (filter p (range_with_len 0 (n + 1))) ≡ length (filter p (range_with_len 0 n)) + cond (p n) 1 0
+counts-some p n = ap length (some-more p n) ∙ (length-append (filter p (range_with_len 0 n)) (cond (p n) (n ∷ []) []) ∙ ap (λ k. length (filter p (range_with_len 0 n)) + k) (one-counted n (p n)))
 
 -- by the image of one number more
 one-more : (a t : ℕ) → a ≤ t → t + 1 - a ≡ (t - a) + 1

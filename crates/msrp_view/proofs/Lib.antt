@@ -3,3 +3,4 @@ pub mod ReadThrough
 pub mod Taking
 pub mod Drawing
 pub mod Stretches
+pub mod TaskRows

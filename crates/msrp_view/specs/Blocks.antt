@@ -1,5 +1,5 @@
 -- Blocks: the stretches of a core's rows in which one job does the same.
-use Rattle.std.specs.Prelude.{ℕ, List, [], ◌∷◌, Bool, false, ◌&&◌, ◌==◌, not, nat_eq, nat_lt, nat_le, cond, Option, Some, None, filter, slice_get, ◌+◌, ◌-◌}
+use Rattle.std.specs.Prelude.{ℕ, List, [], ◌∷◌, Bool, false, ◌&&◌, ◌==◌, not, nat_eq, nat_lt, nat_le, if◌then◌else◌, Option, Some, None, filter, slice_get, ◌+◌, ◌-◌}
 use Rattle.msrp_audit.specs.Foresight.{same_kind}
 use Rattle.msrp_plan.specs.Actions.{same_res}
 use Rattle.msrp_plan.specs.Logs.{is_of}
@@ -25,7 +25,7 @@ joins _ _ = false
 
 -- the row that stands before a place of a log, if one does
 abbrev pub row_before : List Row → ℕ → Option Row
-row_before log i = cond (nat_eq i 0) None (slice_get log (i - 1))
+row_before log i = if nat_eq i 0 then None else slice_get log (i - 1)
 
 -- a block begins at this place of a log: the row there doesn't go on from the one before it
 abbrev pub begins : List Row → ℕ → Bool
@@ -34,4 +34,4 @@ begins log i = not (joins (row_before log i) (slice_get log i))
 -- the last tick of the block that begins with a row, where these rows stand behind it
 unfoldable pub last_tick : Row → List Row → ℕ
 last_tick r [] = r.tick
-last_tick r (s ∷ rest) = cond (goes_on r s) (last_tick s rest) r.tick
+last_tick r (s ∷ rest) = if goes_on r s then last_tick s rest else r.tick

@@ -1,11 +1,12 @@
 -- What one cell of a picture shows: a byte of ASCII.
-use Rattle.std.specs.Prelude.{ℕ, List, [], ◌∷◌, Option, Some, None, cond, codes, decimal, nat_lt, nat_eq, length, slice_index_or, ◌-◌, ◌%◌}
+use Rattle.std.specs.Prelude.{ℕ, List, Option, Some, None, if◌then◌else◌, codes, decimal, nat_lt, nat_eq, slice_index_or, ◌-◌, ◌%◌}
 use Rattle.msrp_plan.specs.declared.ids.JobId.{JobId}
 use Rattle.msrp_plan.specs.declared.rows.Kind.{Kind}
 use Rattle.msrp_plan.specs.declared.rows.Kind.TheVariants.{Idle, Run, Lock, Unlock, Take, Queue, Spin, Grant, Release}
 use Rattle.msrp_plan.specs.declared.rows.Row.{Row}
 use Rattle.msrp_view.specs.declared.cells.Aspect.{Aspect}
 use Rattle.msrp_view.specs.declared.cells.Aspect.TheVariants.{Who, What}
+use Rattle.msrp_view.specs.declared.queues.Standing.{Standing}
 
 -- the code of a sign
 abbrev pub byte : List ℕ → ℕ
@@ -56,16 +57,15 @@ unfoldable pub waiting : List ℕ
 waiting = codes ".1234567"
 
 -- who stands first in a queue, or how many behind the first
-abbrev pub queue_cell : Aspect → List JobId → ℕ
-queue_cell aspect [] = nothing
-queue_cell Who (j ∷ js) = letter j.task.0
-queue_cell What (j ∷ js) = slice_index_or waiting (length js) (byte (codes "+"))
+abbrev pub standing_cell : Aspect → Standing → ℕ
+standing_cell Who s = job_cell s.first
+standing_cell What s = slice_index_or waiting s.behind (byte (codes "+"))
 
 -- ---- of the axis
 -- between the numbers of ticks
 abbrev pub dash : ℕ → ℕ
-dash t = cond (nat_eq (t % 10) 5) (byte (codes "+")) (byte (codes "-"))
+dash t = if nat_eq (t % 10) 5 then byte (codes "+") else byte (codes "-")
 
 -- the number of each tenth tick stands at it and the ticks after it, if it isn't before the first tick of its part
 abbrev pub tick_cell : ℕ → ℕ → ℕ
-tick_cell start t = cond (nat_lt (t - t % 10) start) (dash t) (slice_index_or (decimal (t - t % 10)) (t % 10) (dash t))
+tick_cell start t = if nat_lt (t - t % 10) start then dash t else slice_index_or (decimal (t - t % 10)) (t % 10) (dash t)

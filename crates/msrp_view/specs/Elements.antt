@@ -22,13 +22,25 @@ text_end = codes "</text>\n"
 unfoldable pub text_text : List ℕ → ℕ → ℕ → List ℕ → List ℕ
 text_text class x y text = text_head class x y ++ text ++ text_end
 
--- a symbol of a class, at a point
-unfoldable pub use_text : List ℕ → List ℕ → ℕ → ℕ → List ℕ
-use_text symbol class x y = codes "<use href=\"#" ++ symbol ++ codes "\" class=\"" ++ class ++ codes "\"" ++ attribute (codes "x") x ++ attribute (codes "y") y ++ codes "/>\n"
+-- what stands before what a symbol of a class tells, at a point
+unfoldable pub use_head : List ℕ → List ℕ → ℕ → ℕ → List ℕ
+use_head symbol class x y = codes "<use href=\"#" ++ symbol ++ codes "\" class=\"" ++ class ++ codes "\"" ++ attribute (codes "x") x ++ attribute (codes "y") y ++ codes ">"
+
+-- what stands behind it
+unfoldable pub use_end : List ℕ
+use_end = codes "</use>\n"
 
 -- what stands before elements that have their place from a point
 unfoldable pub place_head : ℕ → ℕ → List ℕ
 place_head x y = codes "<g transform=\"translate(" ++ decimal x ++ codes "," ++ decimal y ++ codes ")\">\n"
+
+-- what stands before elements that have their place in an area, outside of which nothing of them is drawn
+unfoldable pub clip_head : Area → List ℕ
+clip_head area = codes "<svg" ++ attribute (codes "x") area.x ++ attribute (codes "y") area.y ++ attribute (codes "width") area.width ++ attribute (codes "height") area.height ++ codes ">"
+
+-- what stands behind them
+unfoldable pub clip_end : List ℕ
+clip_end = codes "</svg>\n"
 
 -- what stands behind elements that stand together
 unfoldable pub group_end : List ℕ

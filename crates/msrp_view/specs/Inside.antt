@@ -1,3 +1,4 @@
 pub mod Queues
 pub mod Drawings
 pub mod Readings
+pub mod TaskRows

@@ -1,14 +1,14 @@
 -- The lines of a picture: each has a label, and a cell for each tick that is drawn.
-use Rattle.std.specs.Prelude.{ℕ, List, [], ◌∷◌, ◌++◌, ◌&&◌, Option, Some, None, cond, codes, decimal, filter, length, map, min, slice_index_or, take, ◌+◌, ◌-◌, ◌*◌, ◌%◌}
+use Rattle.std.specs.Prelude.{ℕ, List, [], ◌∷◌, ◌++◌, ◌&&◌, Option, Some, None, if◌then◌else◌, codes, decimal, filter, length, map, slice_index_or, ◌-◌, ◌%◌}
 use Rattle.std.specs.List.{flat_map, range_with_len}
 use Rattle.msrp_plan.specs.Levels.{is_global}
 use Rattle.msrp_plan.specs.Logs.{is_of, log_of}
 use Rattle.msrp_plan.specs.Plan.{PlanModel}
-use Rattle.msrp_plan.specs.Queues.{fifo}
 use Rattle.msrp_plan.specs.declared.rows.Row.{Row}
-use Rattle.msrp_view.specs.Cells.{broken_cell, queue_cell, row_cell, tick_cell}
+use Rattle.msrp_view.specs.Cells.{broken_cell, row_cell, standing_cell, tick_cell}
 use Rattle.msrp_view.specs.Shown.{goes_on_in}
-use Rattle.msrp_view.specs.Windows.{begun, rows_between}
+use Rattle.msrp_view.specs.Standings.{standings}
+use Rattle.msrp_view.specs.Windows.{rows_between}
 use Rattle.msrp_view.specs.declared.cells.Aspect.{Aspect}
 use Rattle.msrp_view.specs.declared.cells.Aspect.TheVariants.{Who, What}
 use Rattle.msrp_view.specs.declared.lines.Line.{Line}
@@ -38,19 +38,15 @@ tick_cells w = map (λ t. tick_cell (t - (t - w.from) % LINE_TICKS) t) (range_wi
 -- the first row that breaks a rule, where it is of this core
 abbrev pub broken_cells : PlanModel → List Row → Option Row → Window → ℕ → Aspect → List ℕ
 broken_cells plan rows None w c aspect = []
-broken_cells plan rows (Some r) w c aspect = cond (is_of c r && goes_on_in plan rows w) (broken_cell aspect r ∷ []) []
+broken_cells plan rows (Some r) w c aspect = if is_of c r && goes_on_in plan rows w then broken_cell aspect r ∷ [] else []
 
 -- a core: its rows in these ticks, in their order, and the row that breaks a rule
 abbrev pub core_cells : PlanModel → List Row → Option Row → Window → ℕ → Aspect → List ℕ
 core_cells plan rows broken w c aspect = map (row_cell aspect) (log_of c (rows_between plan rows w.from w.to)) ++ broken_cells plan rows broken w c aspect
 
--- the queue of a resource after a tick
-abbrev pub queue_after : PlanModel → List Row → ℕ → ℕ → Aspect → ℕ
-queue_after plan rows g t aspect = queue_cell aspect (fifo g (take ((t + 1) * plan.cores) rows))
-
--- a resource: how its queue is after each of these ticks, as far as rows stand
+-- a resource: how its queue stands after each of these ticks, as far as rows stand
 abbrev pub queue_cells : PlanModel → List Row → Window → ℕ → Aspect → List ℕ
-queue_cells plan rows w g aspect = map (λ t. queue_after plan rows g t aspect) (range_with_len w.from (min w.to (begun plan rows) - w.from))
+queue_cells plan rows w g aspect = map (standing_cell aspect) (standings plan rows w g)
 
 abbrev pub cells : PlanModel → List Row → Option Row → Window → Line → List ℕ
 cells plan rows broken w Ticks = tick_cells w

@@ -1,5 +1,5 @@
 -- The ticks that are drawn, and their rows.
-use Rattle.std.specs.Prelude.{ℕ, List, Bool, ◌&&◌, nat_lt, nat_le, Option, Some, None, cond, min, length, slice_range, unwrap_or, ◌<◌, ◌+◌, ◌-◌, ◌*◌, ◌/◌, ◌%◌}
+use Rattle.std.specs.Prelude.{ℕ, List, Bool, ◌&&◌, nat_lt, nat_le, Option, Some, None, if◌then◌else◌, min, length, slice_range, unwrap_or, ◌<◌, ◌+◌, ◌-◌, ◌*◌, ◌/◌, ◌%◌}
 use Rattle.msrp_plan.specs.Plan.{PlanModel}
 use Rattle.msrp_plan.specs.declared.rows.Row.{Row}
 use Rattle.msrp_view.specs.declared.windows.Asked.{Asked}
@@ -19,7 +19,7 @@ is_window plan from to = nat_lt from to && nat_le to plan.ticks
 
 -- the ticks that are drawn, if there are such
 abbrev pub window_of : PlanModel → Asked → Option Window
-window_of plan asked = cond (is_window plan (first_asked asked) (end_asked plan asked)) (Some (record { from = first_asked asked; to = end_asked plan asked })) None
+window_of plan asked = if is_window plan (first_asked asked) (end_asked plan asked) then Some (record { from = first_asked asked; to = end_asked plan asked }) else None
 
 -- a window has a tick
 abbrev pub IsWindow : Window → Type 0

@@ -1,7 +1,8 @@
 //! What one cell of a picture shows.
 ghost use Rattle.std.specs.Prelude.{◌≡◌};
-ghost use Rattle.msrp_view.specs.Cells.{broken_cell, job_cell, letter, letters, queue_cell, row_cell, sign, tick_cell, waiting};
+ghost use Rattle.msrp_view.specs.Cells.{broken_cell, job_cell, letter, letters, row_cell, sign, standing_cell, tick_cell, waiting};
 
+use crate::queues::Standing;
 use itoa::Buffer;
 use msrp_plan::{JobId, Kind, Row, TaskId};
 
@@ -85,15 +86,12 @@ pub(crate) fn broken_cell(aspect: Aspect, row: &Row) -> u8
 }
 
 /// The cell of a queue.
-pub(crate) fn queue_cell(aspect: Aspect, queue: &[JobId]) -> u8
-    ensures { result ≡ queue_cell aspect queue.now }
+pub(crate) fn standing_cell(aspect: Aspect, standing: &Standing) -> u8
+    ensures { result ≡ standing_cell aspect standing.now }
 {
-    let Some(first) = queue.first() else {
-        return NOTHING;
-    };
     match aspect {
-        Aspect::Who => letter(first.task),
-        Aspect::What => waiting().get(queue.len() - 1).copied().unwrap_or(b'+'),
+        Aspect::Who => job_cell(standing.first),
+        Aspect::What => waiting().get(standing.behind).copied().unwrap_or(b'+'),
     }
 }
 

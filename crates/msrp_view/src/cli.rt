@@ -3,10 +3,10 @@
 ghost use Rattle.std.specs.Prelude.{◌≡◌, ◌⊎◌, ◌↔◌, IfErr};
 ghost use Rattle.clap.specs.declared.error.ErrorKind.TheVariants.{OutOfMemory};
 
-use crate::faults::ViewFault;
 use crate::windows::{Asked, Style};
 use clap::error::ErrorKind;
 use clap::{Arg, ArgAction, ArgMatches, Command};
+use msrp_cli::{CliFault, STANDARD};
 use std::alloc::{AllocError, Global};
 
 /// A command, with its words. A path `-` is standard input.
@@ -34,9 +34,6 @@ const SVG: &str = "svg";
 const FROM: &str = "from";
 
 const TO: &str = "to";
-
-/// The path that stands for standard input.
-pub const STANDARD: &str = "-";
 
 fn flag<'a>(alloc: Global, name: &'a str, help: &'a str) -> Arg<'a> {
     Arg::new(alloc, name)
@@ -75,55 +72,55 @@ fn grammar<'a>(alloc: Global) -> Result<Command<'a>, AllocError> {
 }
 
 /// The text of the help.
-pub fn help_text(alloc: Global) -> Result<String, ViewFault>
-    ensures { IfErr result (λ fault. fault ≡ ViewFault.Memory) }
+pub fn help_text(alloc: Global) -> Result<String, CliFault>
+    ensures { IfErr result (λ fault. fault ≡ CliFault.Memory) }
 {
     let Ok(mut command) = grammar(alloc) else {
-        return Err(ViewFault::Memory);
+        return Err(CliFault::Memory);
     };
-    command.render_help().map_err(|_| ViewFault::Memory)
+    command.render_help().map_err(|_| CliFault::Memory)
 }
 
 // The tick of a word, if there is one: digits alone.
-fn tick_of(word: Option<&str>) -> Result<Option<u32>, ViewFault>
-    ensures { IfErr result (λ fault. fault ≡ ViewFault.Usage) }
+fn tick_of(word: Option<&str>) -> Result<Option<u32>, CliFault>
+    ensures { IfErr result (λ fault. fault ≡ CliFault.Usage) }
 {
     let Some(word) = word else {
         return Ok(None);
     };
     if !word.as_bytes().iter().all(|byte| byte.is_ascii_digit()) {
-        return Err(ViewFault::Usage);
+        return Err(CliFault::Usage);
     }
     match word.parse() {
         Ok(tick) => Ok(Some(tick)),
-        Err(_) => Err(ViewFault::Usage),
+        Err(_) => Err(CliFault::Usage),
     }
 }
 
 // The paths of a plan and a trace, which are not both standard input.
-fn both_of<'a>(matches: &ArgMatches<'a>) -> Result<(&'a str, &'a str), ViewFault>
-    ensures { IfErr result (λ fault. fault ≡ ViewFault.Usage) }
+fn both_of<'a>(matches: &ArgMatches<'a>) -> Result<(&'a str, &'a str), CliFault>
+    ensures { IfErr result (λ fault. fault ≡ CliFault.Usage) }
 {
     match (matches.get_str(PLAN), matches.get_str(TRACE)) {
         (Some(plan), Some(trace)) if plan != STANDARD || trace != STANDARD => Ok((plan, trace)),
-        _ => Err(ViewFault::Usage),
+        _ => Err(CliFault::Usage),
     }
 }
 
 // How it is drawn: in text, if nothing is said.
-fn style_of(matches: &ArgMatches<'_>) -> Result<Style, ViewFault>
-    ensures { IfErr result (λ fault. fault ≡ ViewFault.Usage) }
+fn style_of(matches: &ArgMatches<'_>) -> Result<Style, CliFault>
+    ensures { IfErr result (λ fault. fault ≡ CliFault.Usage) }
 {
     match (matches.get_flag(TEXT), matches.get_flag(SVG)) {
         (_, false) => Ok(Style::Text),
         (false, true) => Ok(Style::Svg),
-        (true, true) => Err(ViewFault::Usage),
+        (true, true) => Err(CliFault::Usage),
     }
 }
 
 // What is asked for.
-fn view_of<'a>(matches: &ArgMatches<'a>) -> Result<Cmd<'a>, ViewFault>
-    ensures { IfErr result (λ fault. fault ≡ ViewFault.Usage) }
+fn view_of<'a>(matches: &ArgMatches<'a>) -> Result<Cmd<'a>, CliFault>
+    ensures { IfErr result (λ fault. fault ≡ CliFault.Usage) }
 {
     let (plan, trace) = both_of(matches)?;
     let asked = Asked {
@@ -135,22 +132,22 @@ fn view_of<'a>(matches: &ArgMatches<'a>) -> Result<Cmd<'a>, ViewFault>
 }
 
 // What words that are no command are answered: want of memory is told as such, and nothing else is.
-fn refused(kind: ErrorKind) -> ViewFault
-    ensures memory { (result ≡ ViewFault.Memory) ↔ (kind ≡ OutOfMemory) }
-    ensures usage { (result ≡ ViewFault.Memory) ⊎ (result ≡ ViewFault.Usage) }
+fn refused(kind: ErrorKind) -> CliFault
+    ensures memory { (result ≡ CliFault.Memory) ↔ (kind ≡ OutOfMemory) }
+    ensures usage { (result ≡ CliFault.Memory) ⊎ (result ≡ CliFault.Usage) }
 {
     match kind {
-        ErrorKind::OutOfMemory => ViewFault::Memory,
-        _ => ViewFault::Usage,
+        ErrorKind::OutOfMemory => CliFault::Memory,
+        _ => CliFault::Usage,
     }
 }
 
 /// The command that the words ask for; the first word is the program's name.
-pub fn command_of<'a>(alloc: Global, words: &'a [String]) -> Result<Cmd<'a>, ViewFault>
-    ensures { IfErr result (λ fault. (fault ≡ ViewFault.Usage) ⊎ (fault ≡ ViewFault.Memory)) }
+pub fn command_of<'a>(alloc: Global, words: &'a [String]) -> Result<Cmd<'a>, CliFault>
+    ensures { IfErr result (λ fault. (fault ≡ CliFault.Usage) ⊎ (fault ≡ CliFault.Memory)) }
 {
     let Ok(command) = grammar(alloc) else {
-        return Err(ViewFault::Memory);
+        return Err(CliFault::Memory);
     };
     match command.try_get_matches_from(words) {
         Ok(matches) => view_of(&matches),

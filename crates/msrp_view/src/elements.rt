@@ -1,6 +1,6 @@
 //! Elements of SVG, as text.
 ghost use Rattle.std.specs.Prelude.{◌≡◌, ◌++◌, OnOk};
-ghost use Rattle.msrp_view.specs.Elements.{attribute, group_end, place_head, rect_text, text_end, text_head, text_text, use_text};
+ghost use Rattle.msrp_view.specs.Elements.{attribute, clip_end, clip_head, group_end, place_head, rect_text, text_end, text_head, text_text, use_end, use_head};
 
 use crate::picture::{add, add_number};
 use msrp_plan::Memory;
@@ -74,15 +74,15 @@ pub(crate) fn add_text(
     end_text(text)
 }
 
-/// Adds a symbol of a class, at a point.
-pub(crate) fn add_use(
+/// Adds what stands before what a symbol of a class tells, at a point.
+pub(crate) fn begin_use(
     text: &mut Vec<u8>,
     symbol: &[u8],
     class: &[u8],
     x: u64,
     y: u64,
 ) -> Result<(), Memory>
-    ensures { OnOk result (text.new.items ≡ text.old.items ++ use_text symbol.now class.now x y) }
+    ensures { OnOk result (text.new.items ≡ text.old.items ++ use_head symbol.now class.now x y) }
 {
     add(text, b"<use href=\"#")?;
     add(text, symbol)?;
@@ -91,7 +91,15 @@ pub(crate) fn add_use(
     add(text, b"\"")?;
     add_attribute(text, b"x", x)?;
     add_attribute(text, b"y", y)?;
-    add(text, b"/>\n")
+    add(text, b">")
+}
+
+/// Adds what stands behind it.
+#[tactic(auto, unfolding(crate::specs::Elements::use_end))]
+pub(crate) fn end_use(text: &mut Vec<u8>) -> Result<(), Memory>
+    ensures { OnOk result (text.new.items ≡ text.old.items ++ use_end) }
+{
+    add(text, b"</use>\n")
 }
 
 /// Adds what stands before elements that have their place from a point.
@@ -103,6 +111,26 @@ pub(crate) fn begin_place(text: &mut Vec<u8>, x: u64, y: u64) -> Result<(), Memo
     add(text, b",")?;
     add_number(text, y)?;
     add(text, b")\">\n")
+}
+
+/// Adds what stands before elements that have their place in an area, outside of which nothing of them is drawn.
+pub(crate) fn begin_clip(text: &mut Vec<u8>, area: Area) -> Result<(), Memory>
+    ensures { OnOk result (text.new.items ≡ text.old.items ++ clip_head area) }
+{
+    add(text, b"<svg")?;
+    add_attribute(text, b"x", area.x)?;
+    add_attribute(text, b"y", area.y)?;
+    add_attribute(text, b"width", area.width)?;
+    add_attribute(text, b"height", area.height)?;
+    add(text, b">")
+}
+
+/// Adds what stands behind them.
+#[tactic(auto, unfolding(crate::specs::Elements::clip_end))]
+pub(crate) fn end_clip(text: &mut Vec<u8>) -> Result<(), Memory>
+    ensures { OnOk result (text.new.items ≡ text.old.items ++ clip_end) }
+{
+    add(text, b"</svg>\n")
 }
 
 /// Adds what stands behind elements that stand together.

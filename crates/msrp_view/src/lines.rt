@@ -3,12 +3,12 @@ ghost use Rattle.std.specs.Prelude.{◌≡◌, ◌++◌, length, map, IfOk, OnOk
 ghost use Rattle.std.specs.List.{AllByRecursion, flat_map, range_with_len};
 ghost use Rattle.msrp_plan.specs.Logs.{log_of};
 ghost use Rattle.msrp_view.specs.Inside.Drawings.{IsDrawn, line_of};
-ghost use Rattle.msrp_view.specs.Lines.{cells, core_cells, core_lines, global_resources, lines_of, queue_lines, tick_cells};
-ghost use Rattle.msrp_view.specs.Cells.{row_cell};
+ghost use Rattle.msrp_view.specs.Lines.{cells, core_cells, core_lines, global_resources, lines_of, queue_cells, queue_lines, tick_cells};
+ghost use Rattle.msrp_view.specs.Cells.{row_cell, standing_cell};
 ghost use Rattle.msrp_view.specs.Windows.{IsWindow};
 
-use crate::cells::{Aspect, broken_cell, row_cell, tick_cell};
-use crate::queues::queue_cells;
+use crate::cells::{Aspect, broken_cell, row_cell, standing_cell, tick_cell};
+use crate::queues::{Standing, standings};
 use crate::shown::Shown;
 use crate::windows::{LINE_TICKS, Window, rows_between};
 use msrp_levels::Levels;
@@ -123,6 +123,34 @@ fn core_cells(
         }
     }
     Ok(cells)
+}
+
+fn standing_cells(alloc: Global, standings: &[Standing], aspect: Aspect) -> Result<Vec<u8>, Memory>
+    ensures { IfOk result (λ cells. cells.items ≡ map (standing_cell aspect) standings.now) }
+{
+    let mut cells = Vec::new(alloc);
+    for standing in standings {
+        cells
+            .push(standing_cell(aspect, standing))
+            .map_err(|_| Memory)?;
+    }
+    Ok(cells)
+}
+
+// The cells of a resource: how its queue stands after each tick.
+fn queue_cells(
+    alloc: Global,
+    plan: &Plan,
+    rows: &[Row],
+    res: ResId,
+    aspect: Aspect,
+    window: Window,
+) -> Result<Vec<u8>, Memory>
+    requires { IsWindow window }
+    ensures { IfOk result (λ cells. cells.items ≡ queue_cells plan.now rows.now window res.0 aspect) }
+{
+    let standings = standings(alloc, plan, rows, res, window)?;
+    standing_cells(alloc, &standings, aspect)
 }
 
 /// The cells of a line.

@@ -1,19 +1,39 @@
 //! Places in a picture in SVG, in its units.
-ghost use Rattle.std.specs.Prelude.{◌≡◌, ◌<◌, ◌^◌};
-ghost use Rattle.msrp_view.specs.Svg.{block_area, column, lane_top, legend_top, width_of};
+ghost use Rattle.std.specs.Prelude.{◌≡◌, ◌<◌, ◌≤◌, ◌^◌, length};
+ghost use Rattle.msrp_view.specs.Lines.{global_resources};
+ghost use Rattle.msrp_view.specs.Places.{block_area, column, lane_top, legend_top, res_top, width_of};
 
 use crate::elements::Area;
 use crate::windows::Window;
-use msrp_plan::{Plan, Row};
+use msrp_levels::Levels;
+use msrp_plan::{Plan, ResId};
 
 /// The width of a tick.
 pub const TICK_WIDTH: u64 = 12;
 
 /// The height of a lane.
-pub const LANE_HEIGHT: u64 = 40;
+pub const LANE_HEIGHT: u64 = 64;
 
 /// From where a lane begins to where the next one does.
-pub const LANE_PITCH: u64 = 68;
+pub const LANE_PITCH: u64 = 108;
+
+/// From where a lane begins to the lines of what is late in it.
+pub const LATE_TOP: u64 = 65;
+
+/// From where a lane begins to the lines of its jobs.
+pub const LIFE_TOP: u64 = 68;
+
+/// From the line of one colour to that of the next.
+pub const LIFE_PITCH: u64 = 3;
+
+/// The height of a line.
+pub const LIFE_HEIGHT: u64 = 2;
+
+/// The height of the lane of a resource.
+pub const RES_HEIGHT: u64 = 40;
+
+/// From where the lane of a resource begins to where the next one does.
+pub const RES_PITCH: u64 = 52;
 
 /// Where the lanes begin, from the left.
 pub const LEFT: u64 = 140;
@@ -24,8 +44,14 @@ pub const TOP: u64 = 90;
 /// Where a block begins in its lane.
 pub const BLOCK_TOP: u64 = 4;
 
-/// The height of a block.
-pub const BLOCK_HEIGHT: u64 = 32;
+/// From where a lane begins to its sections.
+pub const SECTION_TOP: u64 = 35;
+
+/// The height of a section.
+pub const SECTION_HEIGHT: u64 = 8;
+
+/// So many sections find place under one another.
+pub const SECTION_LEVELS: u32 = 3;
 
 /// The height of a line of the legend.
 pub const LEGEND_LINE: u64 = 18;
@@ -50,7 +76,21 @@ pub(crate) fn column(window: Window, tick: u32) -> u64
     width_of(tick.saturating_sub(window.from))
 }
 
-/// Where the lane of this number begins.
+// So many of the resources below a number are global.
+fn globals_below(levels: &Levels<'_>, end: u32) -> u32
+    requires { end ≤ length levels.now.resources }
+    ensures { result ≡ length (global_resources levels.now end) }
+{
+    let mut count = 0;
+    for res in 0..end {
+        if levels.is_global(ResId(res)) {
+            count += 1;
+        }
+    }
+    count
+}
+
+/// Where the lane of a core begins.
 pub(crate) fn lane_top(place: u32) -> u64
     ensures top { result ≡ lane_top place }
     ensures small { result < 2 ^ 40 }
@@ -58,23 +98,35 @@ pub(crate) fn lane_top(place: u32) -> u64
     TOP + place as u64 * LANE_PITCH
 }
 
-/// Where a line of the legend stands, below all lanes.
-pub(crate) fn legend_top(plan: &Plan, line: u32) -> u64
-    ensures top { result ≡ legend_top plan.now line }
+/// Where the lane of a resource begins, below those of the cores and of the global resources before it.
+pub(crate) fn res_top(plan: &Plan, levels: &Levels<'_>, res: u32) -> u64
+    requires levels { levels.now ≡ plan.now }
+    requires res { res ≤ length plan.now.resources }
+    ensures top { result ≡ res_top plan.now res }
     ensures small { result < 2 ^ 41 }
 {
-    lane_top(plan.cores()) + line as u64 * LEGEND_LINE
+    lane_top(plan.cores()) + globals_below(levels, res) as u64 * RES_PITCH
 }
 
-/// The ticks from that of a row to the last one, in a lane.
-pub(crate) fn block_area(window: Window, row: &Row, last: u32) -> Area
-    ensures { result ≡ block_area window row.now last }
+/// Where a line of the legend stands, below all lanes.
+pub(crate) fn legend_top(plan: &Plan, levels: &Levels<'_>, line: u32) -> u64
+    requires { levels.now ≡ plan.now }
+    ensures top { result ≡ legend_top plan.now line }
+    ensures small { result < 2 ^ 42 }
 {
-    let ticks = (last as u64 + 1).saturating_sub(row.tick as u64);
+    res_top(plan, levels, plan.resources()) + line as u64 * LEGEND_LINE
+}
+
+/// So many ticks from one on, in a lane of so much height.
+pub(crate) fn block_area(window: Window, height: u64, first: u32, ticks: u64) -> Area
+    requires { ticks ≤ 2 ^ 40 }
+    ensures area { result ≡ block_area window height first ticks }
+    ensures left { result.x < 2 ^ 40 }
+{
     Area {
-        x: column(window, row.tick),
+        x: column(window, first),
         y: BLOCK_TOP,
         width: ticks * TICK_WIDTH,
-        height: BLOCK_HEIGHT,
+        height: height.saturating_sub(2 * BLOCK_TOP),
     }
 }

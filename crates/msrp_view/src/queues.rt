@@ -1,13 +1,12 @@
 //! The queue of a resource, tick by tick.
-ghost use Rattle.std.specs.Prelude.{◌≡◌, ◌<◌, ◌≤◌, ◌+◌, ◌++◌, ◌∷◌, ℕ, List, [], cond, length, OnOk, IfOk};
-ghost use Rattle.std.specs.List.{cons_option};
+ghost use Rattle.std.specs.Prelude.{◌≡◌, ◌<◌, ◌≤◌, ◌+◌, ◌++◌, ◌∷◌, ℕ, List, [], cond, length, not, slice_get, ◌^◌, OnOk, IfOk};
+ghost use Rattle.std.specs.List.{cons_option, position};
 ghost use Rattle.msrp_plan.specs.Queues.{fifo, is_release_of, requester};
 ghost use Rattle.msrp_plan.specs.declared.rows.Row.{Row as TraceRow};
 ghost use Rattle.msrp_view.specs.Inside.Queues.{HasSeen};
-ghost use Rattle.msrp_view.specs.Lines.{queue_cells};
+ghost use Rattle.msrp_view.specs.Standings.{changes, same_standing, same_where, standing_of, standings, stays};
 ghost use Rattle.msrp_view.specs.Windows.{IsWindow};
 
-use crate::cells::{Aspect, queue_cell};
 use crate::windows::{Window, begun, rows_between};
 use msrp_plan::{JobId, Kind, Memory, Plan, ResId, Row};
 use std::alloc::Global;
@@ -91,30 +90,99 @@ impl Queue {
     }
 }
 
-/// The cells of a resource: of each tick of which a row stands, how its queue is after the rows of that tick.
-pub(crate) fn queue_cells(
+/// How a queue stands: who is first in it, and how many wait behind.
+#[derive(Clone, Copy, Debug, PartialEq, Eq)]
+pub struct Standing {
+    pub first: Option<JobId>,
+    pub behind: usize,
+}
+
+fn standing_of(queue: &[JobId]) -> Standing
+    ensures { result ≡ standing_of queue.now }
+{
+    match queue {
+        [] => Standing {
+            first: None,
+            behind: 0,
+        },
+        [first, rest @ ..] => Standing {
+            first: Some(*first),
+            behind: rest.len(),
+        },
+    }
+}
+
+/// How the queue of a resource stands after each tick that is drawn, as far as rows stand.
+pub(crate) fn standings(
     alloc: Global,
     plan: &Plan,
     rows: &[Row],
     res: ResId,
-    aspect: Aspect,
     window: Window,
-) -> Result<Vec<u8>, Memory>
+) -> Result<Vec<Standing>, Memory>
     requires { IsWindow window }
-    ensures { IfOk result (λ cells. cells.items ≡ queue_cells plan.now rows.now window res.0 aspect) }
+    ensures standings { IfOk result (λ found. found.items ≡ standings plan.now rows.now window res.0) }
+    ensures size { IfOk result (λ found. window.from + length found.items ≤ 2 ^ 32) }
 {
     let mut queue = Queue {
         requests: Vec::new(alloc),
         releases: 0,
     };
     queue.take_all(res, rows_between(plan, rows, 0, window.from))?;
-    let mut cells = Vec::new(alloc);
+    let mut found = Vec::new(alloc);
     let end = (window.to as usize).min(begun(plan, rows)) as u32;
     for tick in window.from..end {
         queue.take_all(res, rows_between(plan, rows, tick, tick + 1))?;
-        cells
-            .push(queue_cell(aspect, queue.jobs()))
-            .map_err(|_| Memory)?;
+        found.push(standing_of(queue.jobs())).map_err(|_| Memory)?;
     }
-    Ok(cells)
+    Ok(found)
+}
+
+fn same_standing(standing: &Standing, next: &Standing) -> bool
+    ensures { result ≡ same_standing standing.now next.now }
+{
+    standing == next
+}
+
+// Whether a queue stands the same at two places, if it does at both.
+fn same_where(before: Option<Standing>, standing: Option<Standing>) -> bool
+    ensures { result ≡ same_where before standing }
+{
+    match (before, standing) {
+        (Some(before), Some(standing)) => same_standing(&before, &standing),
+        _ => false,
+    }
+}
+
+fn standing_at(standings: &[Standing], place: usize) -> Option<Standing>
+    ensures { result ≡ slice_get standings.now place }
+{
+    standings.get(place).copied()
+}
+
+/// Whether a queue stands otherwise before this place.
+pub(crate) fn changes(standings: &[Standing], place: usize) -> bool
+    ensures { result ≡ changes standings.now place }
+{
+    let before = if place == 0 {
+        None
+    } else {
+        standing_at(standings, place - 1)
+    };
+    !same_where(before, standing_at(standings, place))
+}
+
+// The place of the first of these that is another.
+fn first_other(standing: &Standing, rest: &[Standing]) -> Option<usize>
+    ensures { result ≡ position (λ next. not (same_standing standing.now next)) rest.now }
+{
+    rest.iter().position(|next| !same_standing(standing, next))
+}
+
+/// How many of these follow on a standing in its stretch.
+pub(crate) fn stays(standing: &Standing, rest: &[Standing]) -> usize
+    ensures value { result ≡ stays standing.now rest.now }
+    ensures bound { result ≤ length rest.now }
+{
+    first_other(standing, rest).unwrap_or(rest.len())
 }

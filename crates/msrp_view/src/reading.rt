@@ -5,9 +5,9 @@ ghost use Rattle.msrp_text.specs.Records.{csv_records};
 ghost use Rattle.msrp_trace.specs.Reading.{Told, rows_of};
 ghost use Rattle.msrp_trace.specs.Readers.{told_left};
 ghost use Rattle.msrp_view.specs.Inside.Readings.{Reads};
-ghost use Rattle.msrp_view.specs.Outcomes.{is_trace_fault};
+ghost use Rattle.msrp_cli.specs.Outcomes.{is_trace_fault};
 
-use crate::faults::ViewFault;
+use msrp_cli::CliFault;
 use msrp_plan::bytes::Source;
 use msrp_plan::{Memory, Plan, Row, Trace};
 use msrp_trace::TraceReader;
@@ -18,7 +18,7 @@ use std::io::Read;
 fn gather_rows<T: Read>(
     rows: &mut TraceReader<'_, T>,
     mut gathered: Vec<Row>,
-) -> Result<Trace, ViewFault>
+) -> Result<Trace, CliFault>
     requires { gathered.items ≡ [] }
     ensures rows { (told : Told) → told_left T.remaining rows.old ≡ Some told → Reads told result }
     ensures faults { IfErr result (λ fault. is_trace_fault fault ≡ true) }
@@ -29,20 +29,18 @@ fn gather_rows<T: Read>(
             None => return Ok(Trace { rows: gathered }),
         }
     }
-    Err(ViewFault::Memory)
+    Err(CliFault::Memory)
 }
 
 // All rows of a trace's text. Whatever ends the reading early may be told as a failed read.
-fn gather_all<T: Read>(
-    alloc: Global,
-    plan: &Plan,
-    trace: &mut Source<T>,
-) -> Result<Trace, ViewFault>
+fn gather_all<T: Read>(alloc: Global, plan: &Plan, trace: &mut Source<T>) -> Result<Trace, CliFault>
     ensures rows { (bytes : List ℕ) → source_remaining T.remaining trace.old ≡ Some bytes → Reads (rows_of plan.now (csv_records bytes)) result }
     ensures faults { IfErr result (λ fault. is_trace_fault fault ≡ true) }
 {
     let mut rows = TraceReader::new(alloc, trace, plan)?;
-    gather_rows(&mut rows, Vec::new(alloc))
+    let answer = gather_rows(&mut rows, Vec::new(alloc));
+    drop(rows);
+    answer
 }
 
 /// All rows of a trace's text, where a failed read is told only if the source has failed.
@@ -50,13 +48,13 @@ pub(crate) fn read_rows<T: Read>(
     alloc: Global,
     plan: &Plan,
     trace: &mut Source<T>,
-) -> Result<Trace, ViewFault>
+) -> Result<Trace, CliFault>
     ensures rows { (bytes : List ℕ) → source_remaining T.remaining trace.old ≡ Some bytes → Reads (rows_of plan.now (csv_records bytes)) result }
     ensures faults { IfErr result (λ fault. is_trace_fault fault ≡ true) }
-    ensures read { result ≡ Err ViewFault.Read → source_failed trace.new ≡ true }
+    ensures read { result ≡ Err CliFault.Read → source_failed trace.new ≡ true }
 {
     match gather_all(alloc, plan, trace) {
-        Err(ViewFault::Read) if !trace.failed() => Err(ViewFault::Memory),
+        Err(CliFault::Read) if !trace.failed() => Err(CliFault::Memory),
         answer => answer,
     }
 }

@@ -1,26 +1,30 @@
 //! A picture of a trace in SVG.
-ghost use Rattle.std.specs.Prelude.{◌≡◌, ◌<◌, ◌++◌, [], ◌+◌, length, IfOk, IsSome, OnOk};
+ghost use Rattle.std.specs.Prelude.{◌≡◌, ◌<◌, ◌++◌, length, IfOk, OnOk};
 ghost use Rattle.std.specs.List.{flat_map, range_with_len};
-ghost use Rattle.msrp_plan.specs.Plan.{release_tick, task_at};
 ghost use Rattle.msrp_trace.specs.TraceText.{kind_text};
-ghost use Rattle.msrp_view.specs.Elements.{rect_text};
-ghost use Rattle.msrp_view.specs.Svg.{arrow_text, arrows_key, arrows_text, axis_text, block_at, block_text, blocks_text, caption_text, core_text, cores_text, drawn_svg, fault_text, first_block, found_text, hue, hue_letter, job_arrows, job_hue, job_told, key_text, lane_text, lanes_text, legend_line, mark_of, mark_text, res_told, style_text, svg_head, svg_legend, svg_text, task_arrows, tick_text, title_text};
+ghost use Rattle.msrp_view.specs.Svg.{arrows_key, axis_text, block_at, block_text, blocks_text, caption_text, core_text, cores_text, drawn_svg, fault_text, first_block, found_text, key_text, lane_text, lanes_text, legend_line, lives_key, mark_of, mark_text, queues_key, style_text, svg_head, svg_legend, svg_text, tick_text, title_text};
 ghost use Rattle.msrp_view.specs.Windows.{IsWindow};
 
+use crate::arrows::add_arrows;
 use crate::blocks::{begins, is_in, last_tick, log_in};
-use crate::cells::{job_cell, letter, sign};
+use crate::cells::sign;
 use crate::elements::{
-    Area, add_attribute, add_rect, add_text, add_use, begin_place, begin_text, end_group, end_text,
+    Area, add_attribute, add_rect, add_text, begin_place, begin_text, end_group, end_text,
 };
-use crate::picture::{add, add_number, add_task, add_verdict, add_window, res_name, rule_word};
+use crate::figures::{add_body, add_hued, add_res_told, add_span_told};
+use crate::lives::add_lives;
+use crate::picture::{add, add_number, add_task, add_verdict, add_window, rule_word};
 use crate::places::{
-    HUES, LANE_HEIGHT, LEFT, LEGEND_WIDTH, TICK_WIDTH, TOP, block_area, column, lane_top,
-    legend_top, width_of,
+    LANE_HEIGHT, LEFT, LEGEND_WIDTH, TICK_WIDTH, TOP, block_area, column, lane_top, legend_top,
+    width_of,
 };
+use crate::resource_lanes::add_resources;
+use crate::sections::add_sections;
 use crate::shown::Shown;
 use crate::windows::Window;
 use itoa::Buffer;
-use msrp_plan::{CoreId, Fault, JobId, Kind, Memory, Plan, ResId, Row, Rule, TaskId};
+use msrp_levels::Levels;
+use msrp_plan::{CoreId, Fault, Kind, Memory, Plan, Row, Rule, TaskId};
 use std::alloc::Global;
 
 // The word of a kind.
@@ -46,7 +50,7 @@ fn kind_word(kind: Kind) -> &'static [u8]
 fn style() -> &'static [u8]
     ensures { result.now ≡ style_text }
 {
-    b"<style>text{font:11px monospace}.label{text-anchor:end}.tick{text-anchor:middle;font-size:9px}.caption{font-size:13px}.sign{font-size:10px}.rule{fill:#b00;font-weight:bold}rect{fill:none}use{fill:none;stroke:#000;stroke-width:1.4;fill-opacity:0}.lane{fill:url(#ticks);stroke:#999}.a{fill:#E69F00}.b{fill:#56B4E9}.c{fill:#009E73}.d{fill:#F0E442}.e{fill:#0072B2}.f{fill:#D55E00}.g{fill:#CC79A7}.a,.b,.c,.d,.e,.f,.g{fill-opacity:.7}.run,.lock,.unlock,.take,.queue,.spin,.grant,.release{stroke:#333;stroke-width:.7}.queue,.spin{fill:url(#hatch)}.after{opacity:.35}.mark{stroke:#b00;stroke-width:2}</style><defs><path id='release' d='M0 0V-13M-3 -9L0 -13L3 -9'/><path id='deadline' d='M0 -13V0M-3 -4L0 0L3 -4'/><pattern id='ticks' width='12' height='40' x='140' patternUnits='userSpaceOnUse'><path d='M0 0V40' stroke='#ddd'/></pattern><pattern id='hatch' width='5' height='5' patternUnits='userSpaceOnUse' patternTransform='rotate(45)'><path d='M1 0V5' stroke='#fff' stroke-width='2'/></pattern></defs><rect width='100%' height='100%' style='fill:#fff'/>\n"
+    b"<style>text{font:11px monospace}.label{text-anchor:end}.tick{text-anchor:middle;font-size:9px}.caption{font-size:13px}.sign{font-size:10px}.rule{fill:#b00;font-weight:bold}rect{fill:none}use{fill:none;stroke:#000;stroke-width:1.4;fill-opacity:0;pointer-events:all}.lane{fill:url(#ticks);stroke:#999}.a{fill:#E69F00}.b{fill:#56B4E9}.c{fill:#009E73}.d{fill:#F0E442}.e{fill:#0072B2}.f{fill:#D55E00}.g{fill:#CC79A7}.a,.b,.c,.d,.e,.f,.g{fill-opacity:.7}.run,.lock,.unlock,.take,.queue,.spin,.grant,.release,.first{stroke:#333;stroke-width:.7}.queue,.spin{fill:url(#hatch)}.after{opacity:.35}.mark{stroke:#b00;stroke-width:2}.late{fill:#b00}.section{fill:#fff;fill-opacity:.8;stroke:#333}.name{font-size:7px}</style><defs><path id='release' d='M0 0V-13M-3 -9L0 -13L3 -9'/><path id='deadline' d='M0 -13V0M-3 -4L0 0L3 -4'/><pattern id='ticks' width='12' height='64' x='140' patternUnits='userSpaceOnUse'><path d='M0 0V64' stroke='#ddd'/></pattern><pattern id='hatch' width='5' height='5' patternUnits='userSpaceOnUse' patternTransform='rotate(45)'><path d='M1 0V5' stroke='#fff' stroke-width='2'/></pattern></defs><rect width='100%' height='100%' style='fill:#fff'/>\n"
 }
 
 // What the signs in the blocks mean.
@@ -65,80 +69,31 @@ fn arrows_key() -> &'static [u8]
     b"arrow up: a job is released; arrow down: its absolute deadline"
 }
 
-// The name of a task; nothing where the plan has no such one.
-fn task_name(plan: &Plan, task: TaskId) -> &[u8]
-    ensures { result.now ≡ (task_at plan.now task.0).name }
+// What the lines below a lane mean.
+#[tactic(auto, unfolding(crate::specs::Svg::lives_key))]
+fn lives_key() -> &'static [u8]
+    ensures { result.now ≡ lives_key }
 {
-    if task.0 < plan.tasks() {
-        plan.task_name(task).as_bytes()
-    } else {
-        b""
-    }
+    b"thin line: from a job's release to its end; red: behind its absolute deadline"
 }
 
-fn add_job_told(text: &mut Vec<u8>, plan: &Plan, job: Option<JobId>) -> Result<(), Memory>
-    ensures { OnOk result (text.new.items ≡ text.old.items ++ job_told plan.now job) }
+// What the signs in the lanes of resources mean.
+#[tactic(auto, unfolding(crate::specs::Svg::queues_key))]
+fn queues_key() -> &'static [u8]
+    ensures { result.now ≡ queues_key }
 {
-    match job {
-        Some(job) => {
-            add(text, b": ")?;
-            add(text, task_name(plan, job.task))?;
-            add(text, b", job ")?;
-            add_number(text, job.k as u64)
-        }
-        None => Ok(()),
-    }
-}
-
-fn add_res_told(text: &mut Vec<u8>, plan: &Plan, res: Option<ResId>) -> Result<(), Memory>
-    ensures { OnOk result (text.new.items ≡ text.old.items ++ res_told plan.now res) }
-{
-    match res {
-        Some(res) => {
-            add(text, b" ")?;
-            add(text, res_name(plan, res))
-        }
-        None => Ok(()),
-    }
+    b"of a resource: the first in its queue after the tick, and how many wait behind it"
 }
 
 // What a block tells where one points at it.
 fn add_title(text: &mut Vec<u8>, plan: &Plan, row: &Row, last: u32) -> Result<(), Memory>
     ensures { OnOk result (text.new.items ≡ text.old.items ++ title_text plan.now row.now last) }
 {
-    add(text, b"<title>ticks ")?;
-    add_number(text, row.tick as u64)?;
-    add(text, b" to ")?;
-    add_number(text, last as u64)?;
-    add_job_told(text, plan, row.job)?;
+    add_span_told(text, plan, row.tick as u64, last as u64, row.job)?;
     add(text, b", ")?;
     add(text, kind_word(row.kind))?;
     add_res_told(text, plan, row.res)?;
     add(text, b"</title>")
-}
-
-// The letter of the class that gives a task its colour.
-fn hue_letter(task: TaskId) -> u8
-    ensures { result ≡ hue_letter task.0 }
-{
-    letter(TaskId(task.0 % HUES))
-}
-
-// Adds a rectangle in the colour of a task.
-fn add_hued(text: &mut Vec<u8>, task: TaskId, area: Area) -> Result<(), Memory>
-    ensures { OnOk result (text.new.items ≡ text.old.items ++ rect_text (hue task.0) area) }
-{
-    add_rect(text, &[hue_letter(task)], area)
-}
-
-// Adds a rectangle in the colour of a job's task.
-fn add_job_hued(text: &mut Vec<u8>, job: Option<JobId>, area: Area) -> Result<(), Memory>
-    ensures { OnOk result (text.new.items ≡ text.old.items ++ rect_text (job_hue job) area) }
-{
-    match job {
-        Some(job) => add_hued(text, job.task, area),
-        None => add_rect(text, b"", area),
-    }
 }
 
 // The block that begins with a row and has this last tick.
@@ -151,15 +106,11 @@ fn add_block(
 ) -> Result<(), Memory>
     ensures { OnOk result (text.new.items ≡ text.old.items ++ block_text plan.now window row.now last) }
 {
-    let area = block_area(window, row, last);
-    let x = column(window, row.tick) + 3;
+    let ticks = (last as u64 + 1).saturating_sub(row.tick as u64);
     add(text, b"<g>")?;
     add_title(text, plan, row, last)?;
-    add_job_hued(text, row.job, area)?;
-    add_rect(text, kind_word(row.kind), area)?;
-    add_text(text, b"sign", x, 16, &[job_cell(row.job)])?;
-    add_text(text, b"sign", x, 30, &[sign(row.kind)])?;
-    end_group(text)
+    let area = block_area(window, LANE_HEIGHT, row.tick, ticks);
+    add_body(text, area, row.job, kind_word(row.kind), sign(row.kind))
 }
 
 // The block of the first row; nothing where the core is idle.
@@ -269,63 +220,6 @@ fn add_lanes(text: &mut Vec<u8>, plan: &Plan, window: Window) -> Result<(), Memo
     Ok(())
 }
 
-// An arrow of a task above the lane of its core, where it is in the picture.
-fn add_arrow(
-    text: &mut Vec<u8>,
-    plan: &Plan,
-    window: Window,
-    symbol: &[u8],
-    task: TaskId,
-    tick: u64,
-) -> Result<(), Memory>
-    requires { task.0 < length plan.now.tasks }
-    ensures { OnOk result (text.new.items ≡ text.old.items ++ arrow_text plan.now window symbol.now task.0 tick) }
-{
-    if window.from as u64 <= tick && tick <= window.to as u64 {
-        let x = LEFT + column(window, tick as u32);
-        let y = lane_top(plan.core_of(task).0);
-        add_use(text, symbol, &[hue_letter(task)], x, y)
-    } else {
-        Ok(())
-    }
-}
-
-fn add_job_arrows(text: &mut Vec<u8>, plan: &Plan, window: Window, job: JobId) -> Result<(), Memory>
-    requires task { job.task.0 < length plan.now.tasks }
-    requires released { IsSome (release_tick plan.now job) }
-    ensures { OnOk result (text.new.items ≡ text.old.items ++ job_arrows plan.now window job.task.0 job.k) }
-{
-    let release = plan.release(job);
-    let deadline = release + plan.deadline(job.task) as u64;
-    add_arrow(text, plan, window, b"release", job.task, release)?;
-    add_arrow(text, plan, window, b"deadline", job.task, deadline)
-}
-
-fn add_task_arrows(
-    text: &mut Vec<u8>,
-    plan: &Plan,
-    window: Window,
-    task: TaskId,
-) -> Result<(), Memory>
-    requires { task.0 < length plan.now.tasks }
-    ensures { OnOk result (text.new.items ≡ text.old.items ++ task_arrows plan.now window task.0) }
-{
-    for k in 0..plan.jobs(task) {
-        add_job_arrows(text, plan, window, JobId { task, k })?;
-    }
-    Ok(())
-}
-
-// The releases and absolute deadlines of all jobs.
-fn add_arrows(text: &mut Vec<u8>, plan: &Plan, window: Window) -> Result<(), Memory>
-    ensures { OnOk result (text.new.items ≡ text.old.items ++ arrows_text plan.now window) }
-{
-    for task in 0..plan.tasks() {
-        add_task_arrows(text, plan, window, TaskId(task))?;
-    }
-    Ok(())
-}
-
 // Frames the row that breaks a rule.
 fn add_mark(text: &mut Vec<u8>, window: Window, rule: Rule, row: Row) -> Result<(), Memory>
     ensures { OnOk result (text.new.items ≡ text.old.items ++ mark_text window rule row) }
@@ -339,7 +233,7 @@ fn add_mark(text: &mut Vec<u8>, window: Window, rule: Rule, row: Row) -> Result<
         height: LANE_HEIGHT,
     };
     add_rect(text, b"mark", area)?;
-    add_text(text, b"rule", x, top + 52, rule_word(rule))
+    add_text(text, b"rule", x, top + 92, rule_word(rule))
 }
 
 // The same where there is such a row, and it is drawn.
@@ -395,11 +289,17 @@ fn add_found(
     }
 }
 
-fn add_head(text: &mut Vec<u8>, plan: &Plan, window: Window) -> Result<(), Memory>
+fn add_head(
+    text: &mut Vec<u8>,
+    plan: &Plan,
+    levels: &Levels<'_>,
+    window: Window,
+) -> Result<(), Memory>
+    requires { levels.now ≡ plan.now }
     ensures { OnOk result (text.new.items ≡ text.old.items ++ svg_head plan.now window) }
 {
     let ticks = width_of(window.to.saturating_sub(window.from));
-    let height = legend_top(plan, plan.tasks() + 2);
+    let height = legend_top(plan, levels, plan.tasks() + 4);
     add(text, b"<svg xmlns=\"http://www.w3.org/2000/svg\"")?;
     add_attribute(text, b"width", LEFT + ticks.max(LEGEND_WIDTH) + 20)?;
     add_attribute(text, b"height", height)?;
@@ -448,11 +348,17 @@ fn add_axis(text: &mut Vec<u8>, window: Window) -> Result<(), Memory>
     Ok(())
 }
 
-fn add_legend_line(text: &mut Vec<u8>, plan: &Plan, task: TaskId) -> Result<(), Memory>
-    requires { task.0 < length plan.now.tasks }
+fn add_legend_line(
+    text: &mut Vec<u8>,
+    plan: &Plan,
+    levels: &Levels<'_>,
+    task: TaskId,
+) -> Result<(), Memory>
+    requires task { task.0 < length plan.now.tasks }
+    requires levels { levels.now ≡ plan.now }
     ensures { OnOk result (text.new.items ≡ text.old.items ++ legend_line plan.now task.0) }
 {
-    let top = legend_top(plan, task.0);
+    let top = legend_top(plan, levels, task.0);
     let area = Area {
         x: LEFT,
         y: top,
@@ -465,22 +371,26 @@ fn add_legend_line(text: &mut Vec<u8>, plan: &Plan, task: TaskId) -> Result<(), 
     end_text(text)
 }
 
-fn add_legend_lines(text: &mut Vec<u8>, plan: &Plan) -> Result<(), Memory>
+fn add_legend_lines(text: &mut Vec<u8>, plan: &Plan, levels: &Levels<'_>) -> Result<(), Memory>
+    requires { levels.now ≡ plan.now }
     ensures { OnOk result (text.new.items ≡ text.old.items ++ flat_map (legend_line plan.now) (range_with_len 0 (length plan.now.tasks))) }
 {
     for task in 0..plan.tasks() {
-        add_legend_line(text, plan, TaskId(task))?;
+        add_legend_line(text, plan, levels, TaskId(task))?;
     }
     Ok(())
 }
 
-fn add_legend(text: &mut Vec<u8>, plan: &Plan) -> Result<(), Memory>
+fn add_legend(text: &mut Vec<u8>, plan: &Plan, levels: &Levels<'_>) -> Result<(), Memory>
+    requires { levels.now ≡ plan.now }
     ensures { OnOk result (text.new.items ≡ text.old.items ++ svg_legend plan.now) }
 {
-    add_legend_lines(text, plan)?;
-    let top = legend_top(plan, plan.tasks());
+    add_legend_lines(text, plan, levels)?;
+    let top = legend_top(plan, levels, plan.tasks());
     add_text(text, b"legend", LEFT, top + 10, key())?;
-    add_text(text, b"legend", LEFT, top + 28, arrows_key())
+    add_text(text, b"legend", LEFT, top + 28, arrows_key())?;
+    add_text(text, b"legend", LEFT, top + 46, lives_key())?;
+    add_text(text, b"legend", LEFT, top + 64, queues_key())
 }
 
 // A picture of these ticks of what is shown of a trace of the plan.
@@ -488,15 +398,19 @@ fn svg_of(alloc: Global, plan: &Plan, shown: &Shown<'_>, window: Window) -> Resu
     requires { IsWindow window }
     ensures { IfOk result (λ text. text.items ≡ drawn_svg plan.now shown.now.rows.now shown.now.later.now shown.now.broken shown.now.found window) }
 {
+    let levels = Levels::of(alloc, plan)?;
     let mut text = Vec::new(alloc);
-    add_head(&mut text, plan, window)?;
+    add_head(&mut text, plan, &levels, window)?;
     add_caption(&mut text, plan, shown.found, window)?;
     add_axis(&mut text, window)?;
     add_lanes(&mut text, plan, window)?;
     add_arrows(&mut text, plan, window)?;
     add_cores(alloc, &mut text, plan, window, shown.rows)?;
+    add_sections(alloc, &mut text, plan, window, shown.rows)?;
+    add_lives(alloc, &mut text, plan, window, shown.rows)?;
+    add_resources(alloc, &mut text, plan, &levels, window, shown.rows)?;
     add_found(alloc, &mut text, plan, shown, window)?;
-    add_legend(&mut text, plan)?;
+    add_legend(&mut text, plan, &levels)?;
     add(&mut text, b"</svg>\n")?;
     Ok(text)
 }

@@ -2,8 +2,8 @@
 
 use crate::cli::{Cmd, command_of};
 use crate::engine::view_text;
-use crate::faults::{ViewFault, exit_of};
 use crate::windows::{Asked, Style};
+use msrp_cli::{CliFault, exit_of};
 use msrp_plan::bytes::{Sink, Source};
 use std::alloc::{AllocError, Global};
 use std::io;
@@ -45,7 +45,7 @@ fn answer_from<T: Read + Drop>(
     alloc: Global,
     trace: T,
     asked: Asked,
-) -> (Result<u8, ViewFault>, Vec<u8>) {
+) -> (Result<u8, CliFault>, Vec<u8>) {
     let mut written = Vec::new(alloc);
     let mut plan = Source::new(PLAN);
     let mut trace = Source::new(trace);
@@ -94,7 +94,7 @@ fn pictures_in_svg(rt: HostRuntime) {
         style: Style::Svg,
         ..ALL
     };
-    let table: [(&[u8], u8, [&str; 4]); 2] = [
+    let table: [(&[u8], u8, [&str; 8]); 2] = [
         (
             TRACE,
             0,
@@ -103,6 +103,10 @@ fn pictures_in_svg(rt: HostRuntime) {
                 ">good\n",
                 "<title>ticks 0 to 0: a, job 0, take g</title>",
                 "<title>ticks 1 to 1: b, job 0, spin g</title>",
+                "<title>ticks 0 to 1: a, job 0, first in the queue of g; waiting behind: 1</title>",
+                "<title>release at 0: b, job 0</title>",
+                "<title>released at 0, finished by 3: a, job 0</title>",
+                "<title>ticks 2 to 4: b, job 0, holds g</title>",
             ],
         ),
         (
@@ -110,9 +114,13 @@ fn pictures_in_svg(rt: HostRuntime) {
             1,
             [
                 ">fault,4,A5\n",
-                "<rect class=\"mark\" x=\"152\" y=\"158\"",
+                "<rect class=\"mark\" x=\"152\" y=\"198\"",
                 ">A5</text>",
                 "<title>ticks 2 to 2: a, job 0, release g</title>",
+                "<title>ticks 0 to 1: a, job 0, first in the queue of g; waiting behind: 1</title>",
+                "<text class=\"label\" x=\"132\" y=\"330\">g</text>",
+                "<title>released at 0, not finished by 2: a, job 0</title>",
+                "<title>ticks 0 to 1: a, job 0, holds g</title>",
             ],
         ),
     ];
@@ -135,7 +143,7 @@ fn ticks_that_are_not_there(rt: HostRuntime) {
             to: Some(to),
         };
         let (answer, written) = answer_from(rt.alloc(), TRACE, asked);
-        assert!(rt; answer == Err(ViewFault::Usage), "{from} {to}");
+        assert!(rt; answer == Err(CliFault::Usage), "{from} {to}");
         assert!(rt; written.is_empty(), "{from} {to}");
     }
 }
@@ -149,7 +157,7 @@ fn a_refused_trace_is_not_drawn(rt: HostRuntime) {
     ];
     for (trace, code, number) in table {
         let (answer, written) = answer_from(rt.alloc(), trace, ALL);
-        assert!(rt; answer == Err(ViewFault::Trace { code, number }), "R{code}");
+        assert!(rt; answer == Err(CliFault::Trace { code, number }), "R{code}");
         assert!(rt; written.is_empty(), "R{code}");
     }
 }
@@ -189,7 +197,7 @@ fn each_read_fails_in_turn(rt: HostRuntime) {
             fails_at: call,
         };
         let (answer, written) = answer_from(rt.alloc(), trace, ALL);
-        assert!(rt; answer == Err(ViewFault::Read), "call {call}");
+        assert!(rt; answer == Err(CliFault::Read), "call {call}");
         assert!(rt; written.is_empty(), "call {call}");
     }
 }
@@ -231,7 +239,7 @@ fn each_write_fails_in_turn(rt: HostRuntime) {
         let due = if room == picture.len() {
             Ok(0)
         } else {
-            Err(ViewFault::Write)
+            Err(CliFault::Write)
         };
         assert!(rt; answer == due, "room {room}");
         assert!(rt;
@@ -246,22 +254,22 @@ fn each_write_fails_in_turn(rt: HostRuntime) {
 fn lines_and_statuses(rt: HostRuntime) -> Result<(), Fail> {
     let table = [
         (
-            ViewFault::Plan { code: 7, number: 3 },
+            CliFault::Plan { code: 7, number: 3 },
             "plan: P7 at record 3",
             2,
         ),
         (
-            ViewFault::Trace {
+            CliFault::Trace {
                 code: 2,
                 number: 13,
             },
             "trace: R2 at record 13",
             2,
         ),
-        (ViewFault::Usage, "usage", 3),
-        (ViewFault::Memory, "memory", 4),
-        (ViewFault::Read, "read fault", 5),
-        (ViewFault::Write, "write fault", 5),
+        (CliFault::Usage, "usage", 3),
+        (CliFault::Memory, "memory", 4),
+        (CliFault::Read, "read fault", 5),
+        (CliFault::Write, "write fault", 5),
     ];
     for (fault, line, status) in table {
         let text = format!(in rt.alloc(); "{fault}")?;
@@ -340,7 +348,7 @@ fn no_commands(rt: HostRuntime) -> Result<(), Fail> {
     ];
     for words in table {
         let words = words_of(rt.alloc(), words)?;
-        assert!(rt; command_of(rt.alloc(), words.as_slice()) == Err(ViewFault::Usage));
+        assert!(rt; command_of(rt.alloc(), words.as_slice()) == Err(CliFault::Usage));
     }
     Ok(())
 }

@@ -2,8 +2,8 @@
 
 use crate::audit::audit_text;
 use crate::engine::sim_text;
-use crate::faults::CliFault;
 use crate::parallel::audit_parallel_text;
+use msrp_cli::CliFault;
 use msrp_plan::TextVersion;
 use msrp_plan::bytes::{Sink, Source};
 use msrp_sim::Order;

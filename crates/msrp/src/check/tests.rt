@@ -1,5 +1,5 @@
 use super::check_text;
-use crate::faults::CliFault;
+use msrp_cli::CliFault;
 use msrp_plan::bytes::{Sink, Source};
 use std::alloc::Global;
 use std::io;

@@ -1,7 +1,7 @@
 //! Reports of texts: worked traces, traces that aren't legal, and a plan that is refused.
 
-use crate::faults::CliFault;
 use crate::report::report_text;
+use msrp_cli::CliFault;
 use msrp_plan::bytes::{Sink, Source};
 use std::alloc::Global;
 

@@ -4,7 +4,7 @@
 use super::{run_text, run_text_if};
 use crate::audit::audit_text;
 use crate::engine::sim_text;
-use crate::faults::{CliFault, exit_of};
+use msrp_cli::{CliFault, exit_of};
 use msrp_plan::bytes::{Sink, Source};
 use msrp_plan::{CoreId, TextVersion};
 use msrp_run::Hire;

@@ -2,10 +2,10 @@ use Rattle.std.proofs.Common.{rules, ◌≡◌, ◌++◌, ◌∷◌, ◌+◌, []
 use Rattle.msrp_plan.specs.declared.rows.Row.{Row}
 use Rattle.msrp_trace.specs.Readers.{told_left}
 use Rattle.msrp.specs.Inside.Gathered.{IsGathered}
-use Rattle.msrp.specs.Outcomes.{trace_fault_of}
-use Rattle.msrp.specs.declared.faults.CliFault.TheVariants.{Memory}
+use Rattle.msrp_cli.specs.Outcomes.{trace_fault_of}
+use Rattle.msrp_cli.specs.declared.faults.CliFault.TheVariants.{Memory}
 use Rattle.msrp.proofs.Gathering.{gathered-all, gathered-full, gathered-refused, gathered-unkept}
-use Rattle.msrp.proofs.Judging.{IsReadTo, none-read, read-row}
+use Rattle.msrp_trace.proofs.ReadThrough.{IsReadTo, none-read, read-row}
 use Rattle.msrp.proofs.parallel.gather_rows.Goals as goal
 
 pub loop-row-init : goal.loop-row-init

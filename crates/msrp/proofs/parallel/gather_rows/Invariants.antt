@@ -1,7 +1,7 @@
 use Rattle.std.proofs.Common.{◌≡◌, Some, length}
 use Rattle.msrp_trace.specs.Reading.{Told}
 use Rattle.msrp_trace.specs.Readers.{told_left}
-use Rattle.msrp.proofs.Judging.{IsReadTo}
+use Rattle.msrp_trace.proofs.ReadThrough.{IsReadTo}
 use Rattle.msrp.proofs.parallel.gather_rows.Given as goal
 
 abbrev pub invariant-loop-row : goal.invariant-loop-row

@@ -2,15 +2,16 @@ use Rattle.std.proofs.Common.{rules, ◌≡◌, ◌*◌, ◌+◌, Err, subst, sy
 use Rattle.msrp_text.specs.Reading.{csv_records}
 use Rattle.msrp_trace.specs.Reading.{rows_of}
 use Rattle.msrp.specs.Inside.Gathered.{IsGathered}
-use Rattle.msrp.specs.Outcomes.{trace_fault_of}
-use Rattle.msrp.proofs.Judging.{IsFound, opened, unopened}
+use Rattle.msrp_cli.specs.Outcomes.{trace_fault_of}
+use Rattle.msrp_trace.proofs.ReadThrough.{opened}
+use Rattle.msrp.proofs.Judging.{IsFound, unopened-found}
 use Rattle.msrp.proofs.Gathering.{found-gathered}
 use Rattle.msrp.proofs.parallel.judge_all.Goals as goal
 
 pub returns-in_err-rows-clause-found : goal.returns-in_err-rows-clause-found
 returns-in_err-rows-clause-found g c = λ bytes known.
     let gives : c.from_residual-in_err-rows.result ≡ Err (trace_fault_of c.in_err-rows.field-0.0) = search rules in
-    unopened g.T.Read.remaining c.args.plan.now (csv_records bytes) c.in_err-rows.field-0.0 c.from_residual-in_err-rows.result (c.in_err-rows.ensures.opens bytes known) gives
+    unopened-found g.T.Read.remaining c.args.plan.now (csv_records bytes) c.in_err-rows.field-0.0 c.from_residual-in_err-rows.result (c.in_err-rows.ensures.opens bytes known) gives
 
 pub returns-clause-found : goal.returns-clause-found
 returns-clause-found g c = λ bytes known.

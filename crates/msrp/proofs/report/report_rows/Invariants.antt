@@ -4,7 +4,7 @@ use Rattle.msrp_plan.specs.declared.rows.Row.{Row}
 use Rattle.msrp_report.specs.Reports.{HasReported}
 use Rattle.msrp_trace.specs.Reading.{Told}
 use Rattle.msrp_trace.specs.Readers.{told_left}
-use Rattle.msrp.proofs.Judging.{IsReadTo}
+use Rattle.msrp_trace.proofs.ReadThrough.{IsReadTo}
 use Rattle.msrp.proofs.report.report_rows.Given as goal
 
 abbrev pub invariant-loop-reporter : goal.invariant-loop-reporter

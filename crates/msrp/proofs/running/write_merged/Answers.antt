@@ -1,4 +1,4 @@
-use Rattle.std.proofs.Common.{◌≡◌, ◌∙◌, ◌+◌, ◌*◌, true, [], ◌∷◌, ◌++◌, length, ap, refl, sym, subst, arith, append-nil, append_assoc, length-append}
+use Rattle.std.proofs.Common.{◌≡◌, ◌∙◌, ◌*◌, true, [], ◌∷◌, ◌++◌, length, ap, refl, sym, subst, arith, append-nil, append_assoc, length-append}
 use Rattle.std.proofs.lemmas.List.{nil_from_length}
 use Rattle.msrp_plan.specs.Runs.{IsRun}
 use Rattle.msrp_trace.specs.Gathering.{WriterModel}

@@ -1,4 +1,4 @@
-use Rattle.std.proofs.Common.{◌≡◌, ◌-◌, ◌+◌, ◌%◌, ◌++◌, ◌∷◌, [], ℕ, ap, map, rules, arith, ◌∙◌}
+use Rattle.std.proofs.Common.{◌≡◌, ◌-◌, ◌%◌, ◌++◌, ◌∷◌, [], ℕ, ap, map, rules, arith, ◌∙◌}
 use Rattle.std.specs.List.{range_with_len}
 use Rattle.msrp_view.specs.Cells.{tick_cell}
 use Rattle.msrp_view.specs.declared.windows.TheConstants.{LINE_TICKS}

@@ -1,8 +1,9 @@
 use Rattle.std.proofs.Common.{rules, ◌≡◌, ◌++◌, ◌∷◌, [], List, Ok, Err, ap, subst, sym, ◌∙◌}
 use Rattle.msrp_plan.specs.declared.rows.Row.{Row}
 use Rattle.msrp_trace.specs.Readers.{told_left}
-use Rattle.msrp_view.specs.Outcomes.{trace_fault_of}
-use Rattle.msrp_view.proofs.ReadThrough.{IsReadTo, all-read, none-read, read-row, refused-read}
+use Rattle.msrp_cli.specs.Outcomes.{trace_fault_of}
+use Rattle.msrp_trace.proofs.ReadThrough.{IsReadTo, none-read, read-row}
+use Rattle.msrp_view.proofs.ReadThrough.{all-read, refused-read}
 use Rattle.msrp_view.proofs.reading.gather_rows.Goals as goal
 
 pub loop-row-init : goal.loop-row-init

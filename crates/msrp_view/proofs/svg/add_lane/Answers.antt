@@ -1,7 +1,8 @@
 use Rattle.std.proofs.Common.{codes, ◌+◌, ◌-◌}
 use Rattle.msrp_view.specs.Elements.{text_head}
 use Rattle.msrp_view.specs.declared.places.TheConstants.{LEFT}
-use Rattle.msrp_view.specs.Svg.{lane_text, lane_top, width_of}
+use Rattle.msrp_view.specs.Places.{lane_top}
+use Rattle.msrp_view.specs.Svg.{lane_text}
 use Rattle.msrp_view.proofs.Growing.{grows, grows-last}
 use Rattle.msrp_view.proofs.svg.add_lane.Goals as goal
 

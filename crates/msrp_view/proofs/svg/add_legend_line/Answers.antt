@@ -1,7 +1,8 @@
 use Rattle.std.proofs.Common.{codes, ◌+◌}
 use Rattle.msrp_view.specs.Elements.{text_head}
 use Rattle.msrp_view.specs.declared.places.TheConstants.{LEFT}
-use Rattle.msrp_view.specs.Svg.{legend_line, legend_top}
+use Rattle.msrp_view.specs.Places.{legend_top}
+use Rattle.msrp_view.specs.Svg.{legend_line}
 use Rattle.msrp_view.proofs.Growing.{grows, grows-last}
 use Rattle.msrp_view.proofs.svg.add_legend_line.Goals as goal
 

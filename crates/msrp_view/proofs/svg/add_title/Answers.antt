@@ -7,5 +7,5 @@ pub returns : goal.returns
 unfolding title_text
 returns c =
     let old = c.args.text.now.items in
-    let kind = rw c.kind_word.ensures at c.in_ok-add-4.ensures in
-    grows-last _ old _ _ _ (codes "</title>") (grows old _ _ _ _ (grows old _ _ _ _ (grows old _ _ _ (codes ", ") (grows old _ _ _ _ (grows old _ _ _ _ (grows old _ _ _ (codes " to ") (grows old _ _ (codes "<title>ticks ") _ c.in_ok-add.ensures c.in_ok-add_number.ensures) c.in_ok-add-2.ensures) c.in_ok-add_number-2.ensures) c.in_ok-add_job_told.ensures) c.in_ok-add-3.ensures) kind) c.in_ok-add_res_told.ensures) c.add-5.ensures
+    let kind = rw c.kind_word.ensures at c.in_ok-add-2.ensures in
+    grows-last _ old _ _ _ (codes "</title>") (grows old _ _ _ _ (grows old _ _ _ _ (grows old _ _ _ (codes ", ") c.in_ok-add_span_told.ensures c.in_ok-add.ensures) kind) c.in_ok-add_res_told.ensures) c.add-3.ensures

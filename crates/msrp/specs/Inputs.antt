@@ -1,8 +1,0 @@
--- What a text is read from.
-use Rattle.std.specs.Prelude.{Bool, true, false}
-use Rattle.msrp.specs.declared.input.Input.{Input}
-use Rattle.msrp.specs.declared.input.Input.TheVariants.{Standard, Opened}
-
-abbrev pub is_standard : Input → Bool
-is_standard (Standard input) = true
-is_standard (Opened file) = false

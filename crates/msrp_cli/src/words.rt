@@ -1,0 +1,40 @@
+//! The words of the command line.
+
+ghost use Rattle.std.specs.IoError.{error_kind};
+ghost use Rattle.std.specs.Prelude.{◌≡◌, ◌⊎◌, ◌↔◌, IfErr, IfOk, IsErrAnd};
+
+use crate::faults::CliFault;
+use std::alloc::Global;
+use std::env::Args;
+use std::io;
+use std::io::ErrorKind;
+
+// What is answered where the words can't be had: want of memory is told as such, and a word that isn't UTF-8 as usage.
+fn unread_words(kind: ErrorKind) -> CliFault
+    ensures memory { (result ≡ CliFault.Memory) ↔ (kind ≡ ErrorKind.OutOfMemory) }
+    ensures usage { (result ≡ CliFault.Memory) ⊎ (result ≡ CliFault.Usage) }
+{
+    match kind {
+        ErrorKind::OutOfMemory => CliFault::Memory,
+        _ => CliFault::Usage,
+    }
+}
+
+// The words that were had of the command line, or why none were.
+fn words_had(alloc: Global, args: io::Result<Args>) -> Result<Vec<String>, CliFault>
+    ensures had { IfOk args (λ _. IfErr result (λ fault. fault ≡ CliFault.Memory)) }
+    ensures unread { IfErr args (λ error. IsErrAnd result (λ fault. (fault ≡ CliFault.Memory) ↔ (error_kind error ≡ ErrorKind.OutOfMemory))) }
+    ensures usage { IfErr result (λ fault. (fault ≡ CliFault.Memory) ⊎ (fault ≡ CliFault.Usage)) }
+{
+    match args {
+        Ok(args) => args.collect(alloc).map_err(|_| CliFault::Memory),
+        Err(error) => Err(unread_words(error.kind())),
+    }
+}
+
+/// The words of the command line, the program's name first. A word that isn't UTF-8 is a usage fault.
+pub fn words_of(rt: &HostRuntime) -> Result<Vec<String>, CliFault>
+    ensures { IfErr result (λ fault. (fault ≡ CliFault.Memory) ⊎ (fault ≡ CliFault.Usage)) }
+{
+    words_had(rt.alloc(), std::env::args(rt))
+}

@@ -1,0 +1,15 @@
+use Rattle.std.proofs.Common.{codes, []}
+use Rattle.std.specs.Prelude.{slice_index_or}
+use Rattle.msrp_view.specs.Elements.{clip_head, text_text}
+use Rattle.msrp_view.specs.Sections.{section_area, section_text}
+use Rattle.msrp_view.proofs.Growing.{grows, grows-last}
+use Rattle.msrp_view.proofs.sections.add_section.Goals as goal
+
+pub returns : goal.returns
+unfolding section_text
+returns c =
+    let old = c.args.text.now.items in
+    let clip = rw c.section_area-area.ensures at c.in_ok-begin_clip.ensures in
+    let told = rw c.saturating_sub.ensures at c.in_ok-add_span_told.ensures in
+    let name = rw c.res_name.ensures at c.in_ok-add_text.ensures in
+    grows-last _ old _ _ _ _ (grows old _ _ _ (text_text (codes "name") 2 7 (slice_index_or c.args.plan.now.resources c.args.res.0 [])) (grows old _ _ _ _ (grows old _ _ _ _ (grows old _ _ _ (codes ", holds") (grows old _ _ (clip_head (section_area c.args.window c.args.row.now c.args.res c.args.end)) _ clip told) c.in_ok-add.ensures) c.in_ok-add_res_told.ensures) c.in_ok-add-2.ensures) name) c.end_clip.ensures
