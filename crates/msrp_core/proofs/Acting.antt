@@ -17,14 +17,14 @@ use Rattle.msrp_plan.specs.declared.ids.ResId.{ResId}
 use Rattle.msrp_plan.specs.declared.rows.Kind.{Kind}
 use Rattle.msrp_plan.specs.declared.rows.Row.{Row}
 use Rattle.msrp_plan.specs.declared.units.Op.{Op}
-use Rattle.msrp_plan.specs.declared.units.Op.TheVariants.{Unlock as UnlockUnit}
+use Rattle.msrp_plan.specs.declared.units.Op.TheVariants.{Run as RunUnit, Lock as LockUnit, Unlock as UnlockUnit}
 use Rattle.msrp_plan.specs.declared.units.Phase.{Phase}
-use Rattle.msrp_plan.specs.declared.units.Phase.TheVariants.{Queued, Holding}
+use Rattle.msrp_plan.specs.declared.units.Phase.TheVariants.{Free, Queued, Holding}
 use Rattle.msrp_stack.specs.Stack.{StackModel, StartedJob, HasRoom, IsInnermost, with_held, without_held, without_first}
 use Rattle.msrp_core.specs.Going.{Going, going_of, advanced, is_waiting_phase, is_holding_phase, state_in, HoldSo, AreGoing}
 use Rattle.msrp_core.specs.CoreJobs.{going_in, state_of, AreJobs, IsRunning, CanAct, Acts, DoesNext}
 use Rattle.msrp_core.specs.declared.jobs.Jobs.{Jobs}
-use Rattle.msrp_core.proofs.Steps.{release_phase, IsStep, advance_going, advance_states, last_free}
+use Rattle.msrp_core.proofs.Steps.{CanUnlock, IsStep, advance_going, advance_states, grant_step, last_free, lock_room, lock_step, release_phase, release_step, request_room, take_step, unlock_room, unlock_step, work_step}
 
 -- ---- the newest with one resource more, and without the innermost
 abbrev pub kept_with : ℕ → List Going → List Going
@@ -78,14 +78,93 @@ module _ (jobs : Jobs) (job : JobId) (op : Op) (can : CanAct jobs job op) where
   pub still_running : (mid : Jobs) (held : List ℕ) → going_in mid ≡ record can.newest { held = held } ∷ can.below → IsRunning mid job
   still_running mid held e = record { newest = record can.newest { held = held }; below = can.below; going = e; same = can.same }
 
-  -- its last unit leaves it with nothing
-  pub last_by : (l : List Going) (q : Phase) (held : List ℕ) → IsStep jobs.plan.now can.newest can.below q held → l ≡ record can.newest { held = held } ∷ can.below
-      → (s : Going) (below : List Going) → l ≡ s ∷ below → s.done + 1 ≡ length (units jobs.plan.now job) → s.held ≡ []
-  last_by l q held step e s below k last =
-      let both : record can.newest { held = held } ∷ can.below ≡ s ∷ below = sym e ∙ k in
-      let h : s.held ≡ held = cc in
-      let d : can.newest.done ≡ s.done = cc in
-      h ∙ last_free jobs.plan.now can.jobs_fit.accepted jobs.core.0 jobs.ready.taken can.newest can.below jobs.phase going_at q held step (ap (λ n. n + 1) d ∙ (last ∙ sym (ap (λ j. length (units jobs.plan.now j)) can.same)))
+-- ---- the running job in its action
+-- a unit of the running job changes the stack to m and the phase to q, with which it holds so much
+pub record IsActing (jobs : Jobs) (job : JobId) (op : Op) (can : CanAct jobs job op) (q : Phase) (m : StackModel) (held : List ℕ) : Type 0 where
+  pub step : IsStep jobs.plan.now can.newest can.below q held
+  pub going : going_of m.started (reverse jobs.done.items) ≡ record can.newest { held = held } ∷ can.below
+  pub same_plan : m.plan ≡ jobs.stack.plan
+  pub same_core : m.core ≡ jobs.stack.core
+
+-- its last unit leaves it with nothing
+pub last_by : (jobs : Jobs) (job : JobId) (op : Op) (can : CanAct jobs job op) (q : Phase) (m : StackModel) (held : List ℕ) → IsActing jobs job op can q m held
+    → (s : Going) (below : List Going) → going_of m.started (reverse jobs.done.items) ≡ s ∷ below → s.done + 1 ≡ length (units jobs.plan.now job) → s.held ≡ []
+last_by jobs job op can q m held acting s below k last =
+    let both : record can.newest { held = held } ∷ can.below ≡ s ∷ below = sym acting.going ∙ k in
+    let h : s.held ≡ held = cc in
+    let d : can.newest.done ≡ s.done = cc in
+    h ∙ last_free jobs.plan.now can.jobs_fit.accepted jobs.core.0 jobs.ready.taken can.newest can.below jobs.phase (going_at jobs job op can) q held acting.step (ap (λ n. n + 1) d ∙ (last ∙ sym (ap (λ j. length (units jobs.plan.now j)) can.same)))
+
+-- a unit of work, a lock and an unlock of a local resource
+pub working : (jobs : Jobs) (job : JobId) (can : CanAct jobs job RunUnit) → IsActing jobs job RunUnit can jobs.phase jobs.stack can.newest.held
+working jobs job can = record {
+  step = work_step jobs.plan.now can.jobs_fit.accepted can.newest can.below jobs.phase (holds_at jobs job RunUnit can) (unit_at jobs job RunUnit can);
+  going = can.going;
+  same_plan = refl;
+  same_core = refl;
+}
+
+-- the stack's newest holds one resource more
+locked_by : (jobs : Jobs) (job : JobId) (res : ResId) (can : CanAct jobs job (LockUnit res)) (q : Phase) (m : StackModel) → m ≡ record jobs.stack { started = with_held jobs.stack.started res.0 }
+    → IsStep jobs.plan.now can.newest can.below q (res.0 ∷ can.newest.held) → IsActing jobs job (LockUnit res) can q m (res.0 ∷ can.newest.held)
+locked_by jobs job res can q m e step = record {
+  step = step;
+  going = going_locked jobs job (LockUnit res) can m res.0 e;
+  same_plan = ap (λ (n : StackModel). n.plan) e;
+  same_core = ap (λ (n : StackModel). n.core) e;
+}
+
+module _ (jobs : Jobs) (job : JobId) (res : ResId) (can : CanAct jobs job (LockUnit res)) (m : StackModel) (locks : m ≡ record jobs.stack { started = with_held jobs.stack.started res.0 }) where
+  pub locking : is_global jobs.plan.now res.0 ≡ false → IsActing jobs job (LockUnit res) can jobs.phase m (res.0 ∷ can.newest.held)
+  locking local = locked_by jobs job res can jobs.phase m locks (lock_step jobs.plan.now can.jobs_fit.accepted can.newest can.below jobs.phase res (holds_at jobs job (LockUnit res) can) (unit_at jobs job (LockUnit res) can) local)
+
+  pub taking : jobs.phase ≡ Free → is_global jobs.plan.now res.0 ≡ true → IsActing jobs job (LockUnit res) can (Holding res) m (res.0 ∷ can.newest.held)
+  taking free global =
+      locked_by jobs job res can (Holding res) m locks
+      (take_step jobs.plan.now can.jobs_fit.accepted can.newest can.below res (subst (λ p. HoldSo jobs.plan.now p (can.newest ∷ can.below)) free (holds_at jobs job (LockUnit res) can)) (unit_at jobs job (LockUnit res) can) global)
+
+-- a grant: the job held the resource, for the ceiling, since its request
+pub granting : (jobs : Jobs) (job : JobId) (res : ResId) (can : CanAct jobs job (LockUnit res)) → jobs.phase ≡ Queued res → IsActing jobs job (LockUnit res) can (Holding res) jobs.stack can.newest.held
+granting jobs job res can awaits = record {
+  step = grant_step jobs.plan.now can.jobs_fit.accepted can.newest can.below res (subst (λ p. HoldSo jobs.plan.now p (can.newest ∷ can.below)) awaits (holds_at jobs job (LockUnit res) can));
+  going = can.going;
+  same_plan = refl;
+  same_core = refl;
+}
+
+-- the stack has room for a lock, and for a request
+pub lock_fits : (jobs : Jobs) (job : JobId) (res : ResId) (can : CanAct jobs job (LockUnit res)) → is_global jobs.plan.now res.0 ≡ false → HasRoom jobs.stack.started 8 res.0
+lock_fits jobs job res can local =
+    let room = lock_room jobs.plan.now can.jobs_fit.accepted can.newest can.below jobs.phase res (holds_at jobs job (LockUnit res) can) (unit_at jobs job (LockUnit res) can) local in
+    room_of jobs.stack.started (reverse jobs.done.items) can.newest can.below res.0 can.going room.few room.fresh
+
+pub request_fits : (jobs : Jobs) (job : JobId) (res : ResId) (can : CanAct jobs job (LockUnit res)) → jobs.phase ≡ Free → HasRoom jobs.stack.started 8 res.0
+request_fits jobs job res can free =
+    let room = request_room jobs.plan.now can.jobs_fit.accepted can.newest can.below res (subst (λ p. HoldSo jobs.plan.now p (can.newest ∷ can.below)) free (holds_at jobs job (LockUnit res) can)) (unit_at jobs job (LockUnit res) can) in
+    room_of jobs.stack.started (reverse jobs.done.items) can.newest can.below res.0 can.going room.few room.fresh
+
+-- ---- an unlock
+module _ (jobs : Jobs) (job : JobId) (res : ResId) (can : CanAct jobs job (UnlockUnit res)) where
+  pub unlocks : CanUnlock jobs.plan.now can.jobs_fit.accepted can.newest can.below res
+  unlocks = unlock_room jobs.plan.now can.jobs_fit.accepted can.newest can.below jobs.phase res (holds_at jobs job (UnlockUnit res) can) (unit_at jobs job (UnlockUnit res) can)
+
+  pub is_innermost : IsInnermost jobs.stack.started res.0
+  is_innermost = innermost_of jobs.stack.started (reverse jobs.done.items) can.newest can.below res.0 unlocks.rest can.going unlocks.held
+
+  unlocked_by : (q : Phase) (m : StackModel) → m ≡ record jobs.stack { started = without_held jobs.stack.started } → IsStep jobs.plan.now can.newest can.below q unlocks.rest → IsActing jobs job (UnlockUnit res) can q m unlocks.rest
+  unlocked_by q m e step = record {
+    step = step;
+    going = going_unlocked jobs job (UnlockUnit res) can m res.0 unlocks.rest e unlocks.held;
+    same_plan = ap (λ (n : StackModel). n.plan) e;
+    same_core = ap (λ (n : StackModel). n.core) e;
+  }
+
+  pub unlocking : (m : StackModel) → m ≡ record jobs.stack { started = without_held jobs.stack.started } → is_global jobs.plan.now res.0 ≡ false → IsActing jobs job (UnlockUnit res) can jobs.phase m unlocks.rest
+  unlocking m e local = unlocked_by jobs.phase m e (unlock_step jobs.plan.now can.jobs_fit.accepted can.newest can.below jobs.phase res unlocks (holds_at jobs job (UnlockUnit res) can) (unit_at jobs job (UnlockUnit res) can) local)
+
+  -- of a global resource
+  pub dropping : (m : StackModel) → m ≡ record jobs.stack { started = without_held jobs.stack.started } → is_global jobs.plan.now res.0 ≡ true → IsActing jobs job (UnlockUnit res) can Free m unlocks.rest
+  dropping m e global = unlocked_by Free m e (release_step jobs.plan.now can.jobs_fit.accepted can.newest can.below jobs.phase res unlocks (holds_at jobs job (UnlockUnit res) can) (unit_at jobs job (UnlockUnit res) can) global)
 
 -- the row does the unit
 pub does_by : (plan : PlanModel) (queued : Bool) (r : Row) (op : Op) (k : Kind) (res : Option ResId) → r.res ≡ res → r.kind ≡ k → same_res res (res_of_unit op) ≡ true → allows (is_global_unit plan op) queued op k ≡ true → does_unit plan queued r (Some op) ≡ true
@@ -206,15 +285,14 @@ pub record IsAdvanced (mid new : Jobs) : Type 0 where
   pub stack_core : new.stack.core ≡ mid.stack.core
   pub others : new ≡ record mid { stack = new.stack; done = new.done }
 
--- each unit acts so: the stack changes to m and the phase to q, with which the newest holds so much, then the job advances
+-- each unit acts so: the stack and the phase change, then the job advances
 pub unit_acts : (old new : Jobs) (job : JobId) (op : Op) (tick : ℕ) (r : Row) (q : Phase) (k : Kind) (res : Option ResId) (m : StackModel) (held : List ℕ) (can : CanAct old job op)
-    → IsStep old.plan.now can.newest can.below q held → going_of m.started (reverse old.done.items) ≡ record can.newest { held = held } ∷ can.below → m.plan ≡ old.stack.plan → m.core ≡ old.stack.core
-    → IsAdvanced (record old { phase = q; stack = m }) new → IsRow r tick new job k res
+    → IsActing old job op can q m held → IsAdvanced (record old { phase = q; stack = m }) new → IsRow r tick new job k res
     → same_res res (res_of_unit op) ≡ true → allows (is_global_unit old.plan.now op) (is_waiting_phase old.phase) op k ≡ true → q ≡ phase_with old.phase k res → is_waiting k ≡ false → Acts old new job tick r
-unit_acts old new job op tick r q k res m held can step mid plan core done row same may phase acts =
-    let left = left_by old new q m (advanced old.plan.now (record can.newest { held = held } ∷ can.below)) plan core done.others done.stack_plan done.stack_core done.size done.room (done.going ∙ ap (advanced old.plan.now) mid) in
+unit_acts old new job op tick r q k res m held can acting done row same may phase acts =
+    let left = left_by old new q m (advanced old.plan.now (record can.newest { held = held } ∷ can.below)) acting.same_plan acting.same_core done.others done.stack_plan done.stack_core done.size done.room (done.going ∙ ap (advanced old.plan.now) acting.going) in
     acts_unit old new job op tick r q k res can (record { tick_is = row.tick_is; core_is = row.core_is ∙ ap (λ (j : Jobs). j.core) done.others; job_is = row.job_is; kind_is = row.kind_is; res_is = row.res_is })
-    (does_by old.plan.now (is_waiting_phase old.phase) r op k res row.res_is row.kind_is same may) phase held step acts left
+    (does_by old.plan.now (is_waiting_phase old.phase) r op k res row.res_is row.kind_is same may) phase held acting.step acts left
 
 -- the phase of a core that holds a resource passes the test for it
 pub holding_self : (r : ResId) → is_holding_phase r (Holding r) ≡ true

@@ -1,45 +1,23 @@
-use Rattle.std.proofs.Common.{ap, refl, reverse, Some}
+use Rattle.std.proofs.Common.{ap, refl, Some}
 use Rattle.msrp_plan.specs.Actions.{allows}
 use Rattle.msrp_plan.specs.declared.rows.Kind.TheVariants.{Unlock}
 use Rattle.msrp_plan.specs.declared.units.Op.TheVariants.{Unlock as UnlockUnit}
-use Rattle.msrp_stack.specs.Stack.{StackModel}
-use Rattle.msrp_core.specs.Going.{going_of, is_waiting_phase}
-use Rattle.msrp_core.proofs.Steps.{unlock_room, unlock_step}
-use Rattle.msrp_core.proofs.Acting.{unit_at, holds_at, going_unlocked, still_running, last_by, same_here, innermost_of, unit_acts}
+use Rattle.msrp_core.specs.Going.{is_waiting_phase}
+use Rattle.msrp_core.proofs.Acting.{is_innermost, last_by, same_here, still_running, unit_acts, unlocking, unlocks}
 use Rattle.msrp_core.proofs.jobs.Jobs.unlock.Goals as goal
 
 pub unlock-requires-clause-innermost : goal.unlock-requires-clause-innermost
-unlock-requires-clause-innermost c =
-    let can = c.requires.can in
-    let unit = unit_at c.args.self.now c.args.job (UnlockUnit c.args.res) can in
-    let hold = holds_at c.args.self.now c.args.job (UnlockUnit c.args.res) can in
-    let room = unlock_room c.args.self.now.plan.now can.jobs_fit.accepted can.newest can.below c.args.self.now.phase c.args.res hold unit in
-    innermost_of c.args.self.now.stack.started (reverse c.args.self.now.done.items) can.newest can.below c.args.res.0 room.rest can.going room.held
+unlock-requires-clause-innermost c = is_innermost c.args.self.now c.args.job c.args.res c.requires.can
 
 pub advance-requires-clause-running : goal.advance-requires-clause-running
-advance-requires-clause-running c =
-    let can = c.requires.can in
-    let unit = unit_at c.args.self.now c.args.job (UnlockUnit c.args.res) can in
-    let hold = holds_at c.args.self.now c.args.job (UnlockUnit c.args.res) can in
-    let room = unlock_room c.args.self.now.plan.now can.jobs_fit.accepted can.newest can.below c.args.self.now.phase c.args.res hold unit in
-    still_running c.args.self.now c.args.job (UnlockUnit c.args.res) can _ room.rest (going_unlocked c.args.self.now c.args.job (UnlockUnit c.args.res) can c.unlock.new.self c.args.res.0 room.rest c.unlock.ensures room.held)
+advance-requires-clause-running c = still_running c.args.self.now c.args.job (UnlockUnit c.args.res) c.requires.can _ (unlocks c.args.self.now c.args.job c.args.res c.requires.can).rest (unlocking c.args.self.now c.args.job c.args.res c.requires.can c.unlock.new.self c.unlock.ensures c.requires.local).going
 
 pub advance-requires-clause-last : goal.advance-requires-clause-last
-advance-requires-clause-last c =
-    let can = c.requires.can in
-    let unit = unit_at c.args.self.now c.args.job (UnlockUnit c.args.res) can in
-    let hold = holds_at c.args.self.now c.args.job (UnlockUnit c.args.res) can in
-    let room = unlock_room c.args.self.now.plan.now can.jobs_fit.accepted can.newest can.below c.args.self.now.phase c.args.res hold unit in
-    last_by c.args.self.now c.args.job (UnlockUnit c.args.res) can (going_of c.unlock.new.self.started (reverse c.args.self.now.done.items)) c.args.self.now.phase room.rest (unlock_step c.args.self.now.plan.now can.jobs_fit.accepted can.newest can.below c.args.self.now.phase c.args.res room hold unit c.requires.local) (going_unlocked c.args.self.now c.args.job (UnlockUnit c.args.res) can c.unlock.new.self c.args.res.0 room.rest c.unlock.ensures room.held)
+advance-requires-clause-last c = last_by c.args.self.now c.args.job (UnlockUnit c.args.res) c.requires.can c.args.self.now.phase c.unlock.new.self (unlocks c.args.self.now c.args.job c.args.res c.requires.can).rest (unlocking c.args.self.now c.args.job c.args.res c.requires.can c.unlock.new.self c.unlock.ensures c.requires.local)
 
 pub returns-clause-acts : goal.returns-clause-acts
 returns-clause-acts c =
-    let can = c.requires.can in
-    let unit = unit_at c.args.self.now c.args.job (UnlockUnit c.args.res) can in
-    let hold = holds_at c.args.self.now c.args.job (UnlockUnit c.args.res) can in
-    let room = unlock_room c.args.self.now.plan.now can.jobs_fit.accepted can.newest can.below c.args.self.now.phase c.args.res hold unit in
-    unit_acts c.args.self.now c.advance.new.self c.args.job (UnlockUnit c.args.res) c.args.tick c.row_on.result c.args.self.now.phase Unlock (Some c.args.res) c.unlock.new.self room.rest can
-    (unlock_step c.args.self.now.plan.now can.jobs_fit.accepted can.newest can.below c.args.self.now.phase c.args.res room hold unit c.requires.local) (going_unlocked c.args.self.now c.args.job (UnlockUnit c.args.res) can c.unlock.new.self c.args.res.0 room.rest c.unlock.ensures room.held) (ap (λ (m : StackModel). m.plan) c.unlock.ensures) (ap (λ (m : StackModel). m.core) c.unlock.ensures)
+    unit_acts c.args.self.now c.advance.new.self c.args.job (UnlockUnit c.args.res) c.args.tick c.row_on.result c.args.self.now.phase Unlock (Some c.args.res) c.unlock.new.self (unlocks c.args.self.now c.args.job c.args.res c.requires.can).rest c.requires.can (unlocking c.args.self.now c.args.job c.args.res c.requires.can c.unlock.new.self c.unlock.ensures c.requires.local)
     (record { going = c.advance.ensures.going; size = c.advance.ensures.size; room = c.advance.ensures.room; stack_plan = c.advance.ensures.stack.plan; stack_core = c.advance.ensures.stack.core; others = c.advance.ensures.others })
     (record { tick_is = c.row_on.ensures.tick; core_is = c.row_on.ensures.core; job_is = c.row_on.ensures.job; kind_is = c.row_on.ensures.kind; res_is = c.row_on.ensures.res })
     (same_here c.args.res) (ap (λ b. allows b (is_waiting_phase c.args.self.now.phase) (UnlockUnit c.args.res) Unlock) c.requires.local) refl refl
