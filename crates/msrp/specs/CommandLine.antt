@@ -47,9 +47,16 @@ judge name = with_rule (with_rule (new_app name) (wanted (codes "PLAN"))) (wante
 abbrev pub audit : App
 audit = with_rule (judge (codes "audit")) (flag (codes "parallel"))
 
+-- those that make traces, and those that judge them
+abbrev pub with_runs : App → App
+with_runs words = with_subcommand (with_subcommand words sim.top) run.top
+
+abbrev pub with_judges : App → App
+with_judges words = with_subcommand (with_subcommand words audit.top) (judge (codes "report")).top
+
 -- all of them
 unfoldable pub grammar : App
-grammar = with_subcommand (with_subcommand (with_subcommand (with_subcommand (with_subcommand (new_app (codes "msrp")) sim.top) run.top) audit.top) (judge (codes "report")).top) check.top
+grammar = with_subcommand (with_judges (with_runs (new_app (codes "msrp")))) check.top
 
 -- the parser was told of these words
 abbrev pub Takes : App → Command → Type 0

@@ -1,7 +1,7 @@
 //! The command line: the words of a command, and what they ask for.
 
 ghost use Rattle.std.specs.Prelude.{◌≡◌, ◌⊎◌, codes, false, map, string_bytes, Err, IfErr, IfOk};
-ghost use Rattle.clap.specs.Words.{fault_of, rule_of, subcommand_of, subcommand_rows_of};
+ghost use Rattle.clap.specs.Words.{App, fault_of, rule_of, subcommand_of, subcommand_rows_of};
 ghost use Rattle.msrp.specs.CommandLine as line;
 ghost use Rattle.msrp.specs.CommandLine.{IsAnswered, IsChosen, Takes};
 ghost use Rattle.msrp.specs.Words.{IsCommand, plan_path};
@@ -154,22 +154,31 @@ fn audit<'a>(alloc: Global) -> Result<Command<'a>, AllocError>
     ))
 }
 
+// The commands that make traces.
+fn with_runs<'a>(alloc: Global, command: Command<'a>) -> Result<Command<'a>, AllocError>
+    ensures { (words : App) → Takes words command.entry → IfOk result (Takes (line.with_runs words)) }
+{
+    command.subcommand(sim(alloc)?)?.subcommand(run(alloc)?)
+}
+
+// The commands that judge traces.
+fn with_judges<'a>(alloc: Global, command: Command<'a>) -> Result<Command<'a>, AllocError>
+    ensures { (words : App) → Takes words command.entry → IfOk result (Takes (line.with_judges words)) }
+{
+    command.subcommand(audit(alloc)?)?.subcommand(judge(
+        alloc,
+        "report",
+        "counts what each task met in a legal trace, beside what it can meet at most",
+    )?)
+}
+
 fn grammar<'a>(alloc: Global) -> Result<Command<'a>, AllocError>
     ensures { IfOk result (Takes line.grammar) }
 {
-    Command::new(alloc, "msrp")
-        .about(
-            "the Multiprocessor Stack Resource Policy: runs, audits and reports; without a command as sim -",
-        )
-        .subcommand(sim(alloc)?)?
-        .subcommand(run(alloc)?)?
-        .subcommand(audit(alloc)?)?
-        .subcommand(judge(
-            alloc,
-            "report",
-            "counts what each task met in a legal trace, beside what it can meet at most",
-        )?)?
-        .subcommand(check(alloc)?)
+    let command = Command::new(alloc, "msrp").about(
+        "the Multiprocessor Stack Resource Policy: runs, audits and reports; without a command as sim -",
+    );
+    with_judges(alloc, with_runs(alloc, command)?)?.subcommand(check(alloc)?)
 }
 
 // The text of the program's help.

@@ -42,11 +42,7 @@ fn seen() -> [Row; 2] {
 }
 
 /// Feeds the rows to an auditor, which takes no memory for them, and prints the first that breaks a rule.
-pub fn judged(rt: &impl Print, alloc: Global) -> Result<(), &'static str> {
-    let mut text = Source::new(PLAN.as_bytes());
-    let plan = read_plan(alloc, &mut text).map_err(|_| "the plan is refused")?;
-    let levels = Levels::of(alloc, &plan).map_err(|_| "memory")?;
-    let mut auditor = Auditor::with_room(alloc, &plan, &levels).map_err(|_| "memory")?;
+fn feed_all(rt: &impl Print, auditor: &mut Auditor<'_>) -> Result<(), &'static str> {
     for row in seen() {
         if let Err(fault) = auditor.feed(row) {
             return println!(rt; "row {} breaks {:?}", fault.row, fault.rule).map_err(
@@ -55,4 +51,13 @@ pub fn judged(rt: &impl Print, alloc: Global) -> Result<(), &'static str> {
         }
     }
     println!(rt; "good so far").map_err(|_| "write fault")
+}
+
+/// Judges what the tracer saw of a run of the plan.
+pub fn judged(rt: &impl Print, alloc: Global) -> Result<(), &'static str> {
+    let mut text = Source::new(PLAN.as_bytes());
+    let plan = read_plan(alloc, &mut text).map_err(|_| "the plan is refused")?;
+    let levels = Levels::of(alloc, &plan).map_err(|_| "memory")?;
+    let mut auditor = Auditor::with_room(alloc, &plan, &levels).map_err(|_| "memory")?;
+    feed_all(rt, &mut auditor)
 }
