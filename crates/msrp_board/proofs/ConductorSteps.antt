@@ -7,7 +7,7 @@ use Rattle.std.proofs.lemmas.List.{length-set, get_or-set_same, get_or-set_other
 use Rattle.atomic_table.specs.Table.{State, Me, step, keeps, stepped, Allows}
 use Rattle.atomic_table.proofs.Lists.{at_set, set_here}
 use Rattle.msrp_board.specs.declared.pages.View.{View}
-use Rattle.msrp_board.specs.declared.held.CoreState.{CoreState}
+use Rattle.msrp_board.specs.declared.states.States.{States}
 use Rattle.msrp_board.specs.Inside.Held.{IsHeld}
 use Rattle.std.specs.declared.option.Option.{Option}
 use Rattle.msrp_board.specs.declared.books.BoardSize.{BoardSize}
@@ -85,5 +85,5 @@ abort_allowed z slots id me mine s r _ at_id fits =
     )
 
 -- what a seat keeps after the opening or the abort
-pub conducted_held : (z : BoardSize) (held : List (Option CoreState)) (o : Option Conductor) (me now : Me (Unit {0}) View) (w : Conductor) → IsHeld z held o me → now ≡ (view_with_conductor w me.0, me.1) → IsHeld z held (Some w) now
+pub conducted_held : (z : BoardSize) (held : States) (o : Option Conductor) (me now : Me (Unit {0}) View) (w : Conductor) → IsHeld z held o me → now ≡ (view_with_conductor w me.0, me.1) → IsHeld z held (Some w) now
 conducted_held z held o me now w s is = subst (IsHeld z held (Some w)) (sym is) (record { no_slot = s.no_slot; limits = s.limits; states = s.states; conducts = refl; cores = s.cores; kept = s.kept })

@@ -1,21 +1,21 @@
 -- What a seat keeps of its cores is what its pages say, also after a step.
-use Rattle.std.proofs.Common.{arith, ◌≡◌, ◌⊎◌, inl, inr, ⊎_elim, ℕ, zero, suc, ◌<◌, List, [], ◌∷◌, map, set, get_or, Some, None, true, true≢false, refl, sym, ap, ◌∙◌, subst}
+use Rattle.std.proofs.Common.{◌≡◌, ◌⊎◌, inl, inr, ⊎_elim, ℕ, zero, suc, List, [], ◌∷◌, map, get_or, Some, None, if◌then◌else◌, refl, sym, ap, ◌∙◌, subst, eq-eqb, ne_eqb}
 use Rattle.std.specs.declared.option.Option.{Option}
-use Rattle.std.specs.Option.{is_some, option_map}
+use Rattle.std.specs.Option.{option_map}
 use mathlib.Core.Option.{some, some-injective, some-ne-none}
 use mathlib.Core.Logic.{dite}
 use native.Mathlib.Decide.{ℕ_discrete}
 use lib.ListN.{get_elem?}
 use Rattle.atomic_table.specs.Table.{Me}
-use Rattle.atomic_table.proofs.Lists.{set_here, set_else}
+use Rattle.std.proofs.lemmas.Option.{same_Some}
 use Rattle.msrp_board.specs.declared.pages.Page.{Page}
 use Rattle.msrp_board.specs.declared.pages.View.{View}
 use Rattle.msrp_board.specs.declared.held.CoreState.{CoreState}
+use Rattle.msrp_board.specs.declared.states.States.{States, End, Of'}
 use Rattle.msrp_board.specs.declared.books.BoardSize.{BoardSize}
 use Rattle.msrp_board.specs.declared.books.Conductor.{Conductor}
-use Rattle.msrp_board.specs.Inside.Held.{state_of, page_at, state_at, AreStates, IsLow, IsOwn, IsHeld}
+use Rattle.msrp_board.specs.Inside.Held.{state_of, page_at, state_at, kept_of, with_own, AreStates, IsOwn, IsHeld}
 use Rattle.msrp_board.specs.Inside.Rule.{HasOnly, IsKeptNewest, with_pages}
-use Rattle.msrp_board.proofs.Queue.{in_range}
 
 pub get_or_at : {A : Type 0} (l : List A) (i : ℕ) (a d : A) → get_elem? l i ≡ some a → get_or l i d ≡ a
 get_or_at [] i a d e = absurd (some-ne-none a (sym e))
@@ -59,32 +59,55 @@ each_at f [] c b e = absurd (some-ne-none (Some b) (sym e))
 each_at f (x ∷ xs) zero b e = ap (λ o. some (option_map f o)) (some-injective x (Some b) e)
 each_at f (x ∷ xs) (suc c) b e = each_at f xs c b e
 
-pub core_here : (held : List (Option CoreState)) (v : View) (k c : ℕ) (b : Page) → IsOwn held v c b → k < 8 → true ≡ is_some (get_or held k None) → k ≡ c
-core_here held v k c b own low is = ⊎_elim
-    (λ h. own.only.only k h.0 (has_page v.pages k h.0 h.1))
-    (λ n. absurd (true≢false (is ∙ ap is_some (get_or_at held k (state_at v.pages k) None (own.states k low) ∙ ap (option_map state_of) n))))
-    (page_or_none (page_at v.pages k))
+-- the first node of a chain is of this core, with this state
+abbrev pub IsFirst : States → ℕ → CoreState → Type 0
+IsFirst End c x = ⊥
+IsFirst (Of' p core state more) c x = (core.0 ≡ c) × (state ≡ x)
 
-pub core_none : (held : List (Option CoreState)) (v : View) (c : ℕ) (b : Page) → IsOwn held v c b → get_elem? held c ≡ some None → ⊥
-core_none held v c b own is = let e : some None ≡ some (Some (state_of b)) = sym is ∙ own.states c own.low ∙ ap some (state_has v.pages c b own.only.page) in absurd (cc)
+none_now : (x : CoreState) → None ≡ Some x → ⊥
+none_now x e = cc
 
--- what is kept of the changed core
-tie_change : (held : List (Option CoreState)) (v : View) (c : ℕ) (b : Page) (f : Page → Page) (x : Option CoreState) → AreStates held v.pages → HasOnly v c b → x ≡ Some (state_of (f b)) → AreStates (set held c x) (with_pages f v).pages
-tie_change held v c b f x tie sole is d low = dite (ℕ_discrete d c)
-    (λ q. let t : get_elem? held c ≡ some (state_at v.pages c) = subst (λ k. get_elem? held k ≡ some (state_at v.pages k)) q (tie d low) in
-    subst (λ k. get_elem? (set held c x) k ≡ some (state_at (with_pages f v).pages k)) (sym q) (set_here held c x (in_range held c (state_at v.pages c) t) ∙ ap some (is ∙ sym (state_has (with_pages f v).pages c (f b) (each_at f v.pages c b sole.page)))))
-    (λ n. set_else held c d x n ∙ tie d low ∙ ap some (⊎_elim
-    (λ h. absurd (n (sole.only d h.0 (has_page v.pages d h.0 h.1))))
-    (λ e. ap (option_map state_of) (e ∙ sym (page_each f v.pages d ∙ none_each f (page_at v.pages d) e)))
-    (page_or_none (page_at v.pages d))))
+-- where a state is kept there is a page
+page_behind : (l : List (Option Page)) (c : ℕ) (x : CoreState) → state_at l c ≡ Some x → (b : Page) × (get_elem? l c ≡ some (Some b))
+page_behind l c x e = ⊎_elim
+    (λ h. (h.0, has_page l c h.0 h.1))
+    (λ n. absurd (none_now x (sym (ap (option_map state_of) n) ∙ e)))
+    (page_or_none (page_at l c))
+
+-- in a core's seat the first node is the core's
+pub own_first : (held : States) (v : View) (c : ℕ) (b : Page) → IsOwn held v c b → IsFirst held c (state_of b)
+own_first End v c b own = none_now (state_of b) (own.states c ∙ state_has v.pages c b own.only.page)
+own_first (Of' p core state more) v c b own =
+    let has : state_at v.pages core.0 ≡ Some state = sym (own.states core.0) ∙ ap (λ k. if k then Some state else kept_of more core.0) (eq-eqb core.0 core.0 refl) in
+    let page = page_behind v.pages core.0 state has in
+    let same = own.only.only core.0 page.0 page.1 in
+    (same, same_Some state (state_of b) (sym has ∙ ap (state_at v.pages) same ∙ state_has v.pages c b own.only.page))
+
+-- a core that has no page has none after a change of each page
+none_after : (f : Page → Page) (l : List (Option Page)) (d : ℕ) → ((b : Page) → ¬ (get_elem? l d ≡ some (Some b))) → state_at l d ≡ state_at (map (option_map f) l) d
+none_after f l d lacks = ⊎_elim
+    (λ h. absurd (lacks h.0 (has_page l d h.0 h.1)))
+    (λ e. ap (option_map state_of) (e ∙ sym (page_each f l d ∙ none_each f (page_at l d) e)))
+    (page_or_none (page_at l d))
+
+-- what is kept where the core's page has changed
+tie_change : (held : States) (v : View) (c : ℕ) (b : Page) (f : Page → Page) (x : CoreState) → IsOwn held v c b → x ≡ state_of (f b) → AreStates (with_own x held) (with_pages f v).pages
+tie_change End v c b f x own is d = absurd (own_first End v c b own)
+tie_change (Of' p core state more) v c b f x own is d =
+    let first = (own_first (Of' p core state more) v c b own).0 in
+    dite (ℕ_discrete core.0 d)
+    (λ q. ap (λ k. if k then Some x else kept_of more d) (eq-eqb core.0 d q) ∙ ap Some is
+    ∙ sym (state_has (map (option_map f) v.pages) d (f b) (each_at f v.pages d b (subst (λ k. get_elem? v.pages k ≡ some (Some b)) (sym first ∙ q) own.only.page))))
+    (λ n. ap (λ k. if k then Some x else kept_of more d) (ne_eqb core.0 d n) ∙ sym (ap (λ k. if k then Some state else kept_of more d) (ne_eqb core.0 d n)) ∙ own.states d
+    ∙ none_after f v.pages d (λ e h. n (first ∙ sym (own.only.only d e h))))
 
 -- the only page of a core's seat has changed
-pub seat_step : (z : BoardSize) (held : List (Option CoreState)) (o : Option Conductor) (me now : Me (Unit {0}) View) (c k : ℕ) (b : Page) (f : Page → Page) (x : CoreState)
-    → IsHeld z held o me → HasOnly me.0 c b → k ≡ c → now ≡ (with_pages f me.0, me.1) → x ≡ state_of (f b) → IsKeptNewest z (f b) → IsHeld z (set held k (Some x)) o now
-seat_step z held o me now c k b f x s sole at is step kept = subst (IsHeld z (set held k (Some x)) o) (sym is) (record {
+pub seat_step : (z : BoardSize) (held next : States) (o : Option Conductor) (me now : Me (Unit {0}) View) (c : ℕ) (b : Page) (f : Page → Page) (x : CoreState)
+    → IsHeld z held o me → HasOnly me.0 c b → now ≡ (with_pages f me.0, me.1) → next ≡ with_own x held → x ≡ state_of (f b) → IsKeptNewest z (f b) → IsHeld z next o now
+seat_step z held next o me now c b f x s sole is set step kept = subst (IsHeld z next o) (sym is) (record {
   no_slot = s.no_slot;
   limits = s.limits;
-  states = subst (λ j. AreStates (set held j (Some x)) (with_pages f me.0).pages) (sym at) (tie_change held me.0 c b f (Some x) s.states sole (ap Some step));
+  states = subst (λ k. AreStates k (with_pages f me.0).pages) (sym set) (tie_change held me.0 c b f x (record { states = s.states; only = sole }) step);
   conducts = s.conducts;
   cores = λ d e h. let u = each_some f me.0.pages d e h in s.cores d u.0 u.1;
   kept = λ d e h. let u = each_some f me.0.pages d e h in
@@ -94,16 +117,3 @@ seat_step z held o me now c k b f x s sole at is step kept = subst (IsHeld z (se
   where
     page_of : (p q : Page) → some (Some p) ≡ some (Some q) → p ≡ q
     page_of p q e = cc
-
--- the cores of a seat are among the first eight
-pub is_low : (z : BoardSize) (held : List (Option CoreState)) (o : Option Conductor) (me : Me (Unit {0}) View) → IsHeld z held o me → IsLow me.0
-is_low z held o me s c b h = let l = s.cores c b h in let eight = s.limits.cores.1 in omega (arith, l, eight)
-
-pub own_at : (held : List (Option CoreState)) (v : View) (k c : ℕ) (b : Page) → IsOwn held v c b → k ≡ c → get_or held k None ≡ Some (state_of b)
-own_at held v k c b own same = subst (λ j. get_or held j None ≡ Some (state_of b)) (sym same) (get_or_at held c (Some (state_of b)) None (own.states c own.low ∙ ap some (state_has v.pages c b own.only.page)))
-
-pub some_now : (x y : CoreState) → Some x ≡ Some y → x ≡ y
-some_now x y h = cc
-
-pub none_now : (y : CoreState) → None ≡ Some y → ⊥
-none_now y h = cc

@@ -1,31 +1,23 @@
 -- What a seat keeps of its cores, and what callers see, where a seat is parted and where two are joined.
-use Rattle.std.proofs.Common.{◌≡◌, ◌⊎◌, ⊎_elim, inl, inr, ℕ, zero, suc, ◌<◌, ◌≤◌, List, [], ◌∷◌, map, replicate, length, set, get_or, true, Some, None, refl, sym, ap, ◌∙◌, subst, arith, true≢false}
-use Rattle.std.specs.Prelude.{slice_index_or}
-use Rattle.std.specs.Option.{option_map, option_or, is_some}
-use Rattle.std.proofs.lemmas.Bool.{cases_lt}
+use Rattle.std.proofs.Common.{◌==◌, ◌≡◌, ⊎_elim, ℕ, zero, suc, ◌<◌, List, [], ◌∷◌, map, not, Some, None, refl, sym, ap, ◌∙◌, subst, eq-eqb, ne_eqb}
+use Rattle.std.specs.Option.{option_map, option_or}
 use Rattle.std.specs.declared.option.Option.{Option}
-use mathlib.Core.Option.{some}
 use mathlib.Core.Logic.{dite}
 use native.Mathlib.Decide.{ℕ_discrete}
-use lib.ListN.{get_elem?}
 use Rattle.atomic_table.specs.Table.{Me}
 use Rattle.atomic_table.specs.Seated.{TableId}
-use Rattle.atomic_table.proofs.Lists.{set_here, set_else}
 use Rattle.msrp_board.specs.declared.books.Book.{Book}
 use Rattle.msrp_board.specs.declared.books.BoardSize.{BoardSize}
 use Rattle.msrp_board.specs.declared.books.Conductor.{Conductor}
-use Rattle.msrp_board.specs.declared.held.CoreState.{CoreState}
+use Rattle.msrp_board.specs.declared.states.States.{States}
 use Rattle.msrp_board.specs.declared.pages.Page.{Page}
 use Rattle.msrp_board.specs.declared.pages.View.{View}
 use Rattle.msrp_board.specs.Seats.{BoardModel, SeatModel}
 use Rattle.msrp_board.specs.Steps.{only_at, none_at, either, together, alone, without, both}
 use Rattle.msrp_board.specs.Inside.Rule.{IsKeptNewest, view_alone, view_without, view_both}
-use Rattle.msrp_board.specs.Inside.Held.{told, seen_as, page_at, state_of, state_at, AreStates, IsLow, IsHeld}
+use Rattle.msrp_board.specs.Inside.Held.{told, seen_as, page_at, state_of, state_at, kept_of, kept_if, AreStates, IsHeld}
 use Rattle.msrp_board.proofs.SeatBooks.{at-only_same, at-only_other, at-none_same, at-none_other, at-together}
 use Rattle.msrp_board.proofs.ViewParts.{of_only, of_none, of_together}
-use Rattle.msrp_board.proofs.CoreStates.{get_or_at}
-use Rattle.msrp_board.proofs.Told.{none_past}
-use Rattle.msrp_board.proofs.Queue.{in_range}
 
 -- ---- what is kept
 
@@ -33,44 +25,19 @@ or_state : (x y : Option Page) → option_or (option_map state_of x) (option_map
 or_state None y = refl
 or_state (Some b) y = refl
 
-abbrev nones : ℕ → List (Option CoreState)
-nones n = replicate n None
+pub only_tie : (held own : States) (pages : List (Option Page)) (c : ℕ) → ((d : ℕ) → kept_of own d ≡ kept_if (d == c) (kept_of held d)) → AreStates held pages → AreStates own (only_at c pages)
+only_tie held own pages c parted tie d = parted d ∙ dite (ℕ_discrete d c)
+    (λ q. ap (λ k. kept_if k (kept_of held d)) (eq-eqb d c q) ∙ tie d ∙ ap (option_map state_of) (subst (λ k. page_at pages k ≡ page_at (only_at c pages) k) (sym q) (sym (at-only_same c pages))))
+    (λ n. ap (λ k. kept_if k (kept_of held d)) (ne_eqb d c n) ∙ ap (option_map state_of) (sym (at-only_other c d pages n)))
 
--- eight cores of which nothing is kept
-abbrev pub nothing : List (Option CoreState)
-nothing = replicate 8 None
+pub none_tie : (held others : States) (pages : List (Option Page)) (c : ℕ) → ((d : ℕ) → kept_of others d ≡ kept_if (not (d == c)) (kept_of held d)) → AreStates held pages → AreStates others (none_at c pages)
+none_tie held others pages c parted tie d = parted d ∙ dite (ℕ_discrete d c)
+    (λ q. ap (λ k. kept_if (not k) (kept_of held d)) (eq-eqb d c q) ∙ ap (option_map state_of) (subst (λ k. None ≡ page_at (none_at c pages) k) (sym q) (sym (at-none_same c pages))))
+    (λ n. ap (λ k. kept_if (not k) (kept_of held d)) (ne_eqb d c n) ∙ tie d ∙ ap (option_map state_of) (sym (at-none_other c d pages n)))
 
-at_nones : (n d : ℕ) → d < n → get_elem? (nones n) d ≡ some None
-at_nones zero d h = absurd (omega (arith, h))
-at_nones (suc n) zero h = refl
-at_nones (suc n) (suc d) h = at_nones n d (omega (arith, h))
-
-pub only_tie : (held : List (Option CoreState)) (pages : List (Option Page)) (c : ℕ) → c < 8 → AreStates held pages → AreStates (set nothing c (get_or held c None)) (only_at c pages)
-only_tie held pages c low tie d h = dite (ℕ_discrete d c)
-    (λ q. subst (λ k. get_elem? (set nothing c (get_or held c None)) k ≡ some (state_at (only_at c pages) k)) (sym q)
-    (set_here nothing c (get_or held c None) (omega (arith, low)) ∙ ap some (get_or_at held c (state_at pages c) None (tie c low) ∙ ap (option_map state_of) (sym (at-only_same c pages)))))
-    (λ n. set_else nothing c d (get_or held c None) n ∙ at_nones 8 d h ∙ ap some (ap (option_map state_of) (sym (at-only_other c d pages n))))
-
-pub none_tie : (held : List (Option CoreState)) (pages : List (Option Page)) (c : ℕ) → c < 8 → AreStates held pages → AreStates (set held c None) (none_at c pages)
-none_tie held pages c low tie d h = dite (ℕ_discrete d c)
-    (λ q. subst (λ k. get_elem? (set held c None) k ≡ some (state_at (none_at c pages) k)) (sym q)
-    (set_here held c None (in_range held c (state_at pages c) (tie c low)) ∙ ap some (ap (option_map state_of) (sym (at-none_same c pages)))))
-    (λ n. set_else held c d None n ∙ tie d h ∙ ap some (ap (option_map state_of) (sym (at-none_other c d pages n))))
-
--- the first n cores of both
-abbrev pub JoinedBelow : ℕ → List (Option CoreState) → List (Option CoreState) → List (Option CoreState) → Type 0
-JoinedBelow n held other both = (d : ℕ) → d < n → get_elem? both d ≡ some (option_or (get_or held d None) (get_or other d None))
-
-pub joined_step : (held other both : List (Option CoreState)) (n m : ℕ) → m ≡ suc n → n < length both → JoinedBelow n held other both → JoinedBelow m held other (set both n (option_or (get_or held n None) (get_or other n None)))
-joined_step held other both n m is low old d h = dite (ℕ_discrete d n)
-    (λ q. subst (λ k. get_elem? (set both n (option_or (get_or held n None) (get_or other n None))) k ≡ some (option_or (get_or held k None) (get_or other k None))) (sym q) (set_here both n _ low))
-    (λ ne. set_else both n d _ ne ∙ old d (omega (arith, is, h, ne)))
-
-pub joined_tie : (held other both : List (Option CoreState)) (pages more : List (Option Page)) → JoinedBelow 8 held other both → AreStates held pages → AreStates other more → AreStates both (together pages more)
-joined_tie held other both pages more joined one two d h = joined d h ∙ ap some (
-    ap (λ x. option_or x (get_or other d None)) (get_or_at held d (state_at pages d) None (one d h))
-    ∙ ap (λ x. option_or (state_at pages d) x) (get_or_at other d (state_at more d) None (two d h))
-    ∙ or_state (page_at pages d) (page_at more d) ∙ ap (option_map state_of) (sym (at-together pages more d)))
+pub joined_tie : (held other all : States) (pages more : List (Option Page)) → ((d : ℕ) → kept_of all d ≡ option_or (kept_of held d) (kept_of other d)) → AreStates held pages → AreStates other more → AreStates all (together pages more)
+joined_tie held other all pages more joined one two d = joined d ∙ ap (λ x. option_or x (kept_of other d)) (one d) ∙ ap (option_or (state_at pages d)) (two d)
+    ∙ or_state (page_at pages d) (page_at more d) ∙ ap (option_map state_of) (sym (at-together pages more d))
 
 -- ---- what is seen
 
@@ -102,7 +69,7 @@ without_seen z t u c me now seat at is seen = ap (λ (m : Me (Unit {0}) View). s
 
 -- ---- the parts are seats
 
-pub alone_is_seat : (z : BoardSize) (held own : List (Option CoreState)) (o : Option Conductor) (c : ℕ) (me now : Me (Unit {0}) View) → IsHeld z held o me → now ≡ (view_alone c me.0, me.1) → AreStates own (only_at c me.0.pages) → IsHeld z own None now
+pub alone_is_seat : (z : BoardSize) (held own : States) (o : Option Conductor) (c : ℕ) (me now : Me (Unit {0}) View) → IsHeld z held o me → now ≡ (view_alone c me.0, me.1) → AreStates own (only_at c me.0.pages) → IsHeld z own None now
 alone_is_seat z held own o c me now s is tie = subst (IsHeld z own None) (sym is) (record {
   no_slot = s.no_slot;
   limits = s.limits;
@@ -112,7 +79,7 @@ alone_is_seat z held own o c me now s is tie = subst (IsHeld z own None) (sym is
   kept = λ d b h. s.kept d b (of_only c me.0.pages d b h).0;
 })
 
-pub without_is_seat : (z : BoardSize) (held others : List (Option CoreState)) (o : Option Conductor) (c : ℕ) (me now : Me (Unit {0}) View) → IsHeld z held o me → now ≡ (view_without c me.0, []) → AreStates others (none_at c me.0.pages) → IsHeld z others o now
+pub without_is_seat : (z : BoardSize) (held others : States) (o : Option Conductor) (c : ℕ) (me now : Me (Unit {0}) View) → IsHeld z held o me → now ≡ (view_without c me.0, []) → AreStates others (none_at c me.0.pages) → IsHeld z others o now
 without_is_seat z held others o c me now s is tie = subst (IsHeld z others o) (sym is) (record {
   no_slot = refl;
   limits = s.limits;
@@ -122,20 +89,13 @@ without_is_seat z held others o c me now s is tie = subst (IsHeld z others o) (s
   kept = λ d b h. s.kept d b (of_none c me.0.pages d b h).0;
 })
 
--- a core whose book a seat has is one of the first eight
-pub core_low : (board : BoardModel) (v : View) (seat : SeatModel) (c : ℕ) → IsLow v → seen_as board v ≡ seat → is_some (slice_index_or seat.books c None) ≡ true → c < 8
-core_low board v seat c low seen has = ⊎_elim (λ h. h) (λ past. absurd (true≢false (sym has ∙ ap (λ (s : SeatModel). is_some (slice_index_or s.books c None)) (sym seen) ∙ none_past v c low past))) (cases c)
-  where
-    cases : (k : ℕ) → (k < 8) ⊎ (8 ≤ k)
-    cases k = elim (cases_lt k 8) [ inl l ↦ inl l | inr g ↦ inr g ]
-
 -- ---- two seats joined
 
 or_either : {X : Type 0} (x y : Option X) → option_or x y ≡ either x y
 or_either None y = refl
 or_either (Some a) y = refl
 
-pub both_is_seat : (z y : BoardSize) (held more all : List (Option CoreState)) (o p q : Option Conductor) (me other now : Me (Unit {0}) View) → y ≡ z → IsHeld z held o me → IsHeld y more p other → q ≡ option_or o p → now ≡ (view_both me.0 other.0, me.1) → AreStates all (together me.0.pages other.0.pages) → IsHeld z all q now
+pub both_is_seat : (z y : BoardSize) (held more all : States) (o p q : Option Conductor) (me other now : Me (Unit {0}) View) → y ≡ z → IsHeld z held o me → IsHeld y more p other → q ≡ option_or o p → now ≡ (view_both me.0 other.0, me.1) → AreStates all (together me.0.pages other.0.pages) → IsHeld z all q now
 both_is_seat z y held more all o p q me other now size s r or is tie = subst (IsHeld z all q) (sym is) (record {
   no_slot = s.no_slot;
   limits = s.limits;

@@ -1,5 +1,5 @@
 -- What a call makes of a seat, as callers see it.
-use Rattle.std.proofs.Common.{set, arith, ◌==◌, ◌≡◌, ℕ, zero, suc, ◌+◌, ◌*◌, ◌<◌, List, [], ◌∷◌, map, replicate, Bool, true, false, nat_lt, ltb, leb, ltb-true, Some, None, refl, sym, ap, ◌∙◌, subst}
+use Rattle.std.proofs.Common.{arith, ◌==◌, ◌≡◌, ℕ, zero, suc, ◌+◌, ◌*◌, ◌<◌, List, [], ◌∷◌, map, replicate, Bool, true, false, nat_lt, ltb, leb, ltb-true, Some, None, refl, sym, ap, ◌∙◌, subst}
 use Rattle.std.specs.Option.{option_map}
 use Rattle.std.specs.declared.option.Option.{Option}
 use mathlib.Core.Option.{some}
@@ -21,6 +21,7 @@ use Rattle.msrp_board.specs.declared.books.Entry.{Entry}
 use Rattle.msrp_board.specs.declared.held.Claim.{Claim}
 use Rattle.msrp_board.specs.declared.held.Claim.TheVariants.{Nothing, Waits, Holds}
 use Rattle.msrp_board.specs.declared.held.CoreState.{CoreState}
+use Rattle.msrp_board.specs.declared.states.States.{States}
 use Rattle.msrp_board.specs.declared.pages.Page.{Page}
 use Rattle.msrp_board.specs.declared.pages.View.{View}
 use Rattle.msrp_board.specs.Books.{IsSize, IsBefore, on, reach_of, phase_by, phase_in, has_acted, lock_of, AreBefore, IsKept}
@@ -29,11 +30,11 @@ use Rattle.msrp_board.specs.Steps.{with_admission, with_stop, book_with_entry, w
 use Rattle.msrp_board.specs.Boards.{high, low}
 use Rattle.msrp_board.specs.Inside.Newest.{claim_of, IsClaimInTurn, TicksNewest}
 use Rattle.msrp_board.specs.Inside.Rule.{page_reach, page_after_look_if, page_after_look, AtStart, empty_page, first_view, HasOnly, IsKeptNewest, HasEntered, page_has_acted, page_with_entry, with_pages, ViewIsBehind}
-use Rattle.msrp_board.specs.Inside.Held.{look_if, look_of, told, phase_of, seen_as, state_of, AreStates, IsOwn, IsBelow, IsHeld}
+use Rattle.msrp_board.specs.Inside.Held.{look_if, look_of, told, phase_of, seen_as, state_of, with_own, AreStates, IsOwn, IsBelow, IsHeld}
 use Rattle.msrp_board.proofs.Start.{first_page}
 use Rattle.msrp_board.proofs.Lists.{reverse_cons, all_reversed, filter_reversed}
 use Rattle.msrp_board.proofs.Told.{lock_told, acted_told, page_of, sole_of}
-use Rattle.msrp_board.proofs.CoreStates.{is_low, seat_step}
+use Rattle.msrp_board.proofs.CoreStates.{seat_step}
 use Rattle.msrp_board.proofs.Kept.{kept_more, fresh_page, kept_empty, kept_told, claim_below}
 
 -- ---- what a caller's condition says of the page
@@ -72,13 +73,13 @@ abbrev pub named : TableId → BoardSize → BoardModel
 named t z = record { table = t; size = z }
 
 -- a core's seat knows one page, that of its book
-pub core_own : (z : BoardSize) (t : TableId) (held : List (Option CoreState)) (o : Option Conductor) (me : Me (Unit {0}) View) (seat : SeatModel) → IsHeld z held o me → seen_as (named t z) me.0 ≡ seat → (c : ℕ) (b : Book) → IsCoreSeat seat c b → (p : Page) × IsOwn held me.0 c p × (told p ≡ b)
+pub core_own : (z : BoardSize) (t : TableId) (held : States) (o : Option Conductor) (me : Me (Unit {0}) View) (seat : SeatModel) → IsHeld z held o me → seen_as (named t z) me.0 ≡ seat → (c : ℕ) (b : Book) → IsCoreSeat seat c b → (p : Page) × IsOwn held me.0 c p × (told p ≡ b)
 core_own z t held o me seat s seen c b is =
     let r = sole_of (named t z) me.0 c b (subst (λ x. IsCoreSeat x c b) (sym seen) is) in
-    (r.0, record { states = s.states; low = is_low z held o me s c r.0 r.1.page; only = r.1 }, r.2)
+    (r.0, record { states = s.states; only = r.1 }, r.2)
 
 -- the page of a core's seat that may act
-pub record Acting (z : BoardSize) (held : List (Option CoreState)) (v : View) (lock : Phase) : Type 0 where
+pub record Acting (z : BoardSize) (held : States) (v : View) (lock : Phase) : Type 0 where
   pub core : ℕ
   pub page : Page
   pub own : IsOwn held v core page
@@ -87,7 +88,7 @@ pub record Acting (z : BoardSize) (held : List (Option CoreState)) (v : View) (l
   pub claims : phase_of (claim_of page.newest) ≡ lock
   pub kept : IsKeptNewest z page
 
-pub acting : (z : BoardSize) (t : TableId) (held : List (Option CoreState)) (o : Option Conductor) (me : Me (Unit {0}) View) (seat : SeatModel) (lock : Phase) → IsHeld z held o me → seen_as (named t z) me.0 ≡ seat → MayAct lock seat → Acting z held me.0 lock
+pub acting : (z : BoardSize) (t : TableId) (held : States) (o : Option Conductor) (me : Me (Unit {0}) View) (seat : SeatModel) (lock : Phase) → IsHeld z held o me → seen_as (named t z) me.0 ≡ seat → MayAct lock seat → Acting z held me.0 lock
 acting z t held o me seat lock s is may =
     let h : MayAct lock (seen_as (named t z) me.0) = subst (MayAct lock) (sym is) may in
     let r = core_own z t held o me (seen_as (named t z) me.0) s refl h.core h.book h.of_core in
@@ -101,29 +102,28 @@ acting z t held o me seat lock s is may =
       kept = s.kept h.core r.0 r.1.only.page;
     }
 
--- the page of a core's seat that may act, where the state kept of the core n is x, with the claim l
-pub record Claiming (z : BoardSize) (held : List (Option CoreState)) (v : View) (lock : Phase) (n : ℕ) (x : CoreState) (l : Claim) : Type 0 where
+-- the page of a core's seat that may act, where the state kept of the core is x, with the claim l
+pub record Claiming (z : BoardSize) (held : States) (v : View) (lock : Phase) (x : CoreState) (l : Claim) : Type 0 where
   pub act : Acting z held v lock
-  pub at : n ≡ act.core
   pub is : x ≡ state_of act.page
   pub claim : claim_of act.page.newest ≡ l
   pub below : IsBelow z.resources l
   pub locks : phase_of l ≡ lock
 
-pub claiming : (z : BoardSize) (t : TableId) (held : List (Option CoreState)) (o : Option Conductor) (me : Me (Unit {0}) View) (seat : SeatModel) (lock : Phase) (n : ℕ) (x : CoreState) (l : Claim) → IsHeld z held o me → seen_as (named t z) me.0 ≡ seat → MayAct lock seat
-    → ((c : ℕ) (b : Page) → IsOwn held me.0 c b → (n ≡ c) × (x ≡ state_of b)) → x.claim ≡ l → Claiming z held me.0 lock n x l
-claiming z t held o me seat lock n x l s seen may own claim_is =
+pub claiming : (z : BoardSize) (t : TableId) (held : States) (o : Option Conductor) (me : Me (Unit {0}) View) (seat : SeatModel) (lock : Phase) (x : CoreState) (l : Claim) → IsHeld z held o me → seen_as (named t z) me.0 ≡ seat → MayAct lock seat
+    → ((c : ℕ) (b : Page) → IsOwn held me.0 c b → x ≡ state_of b) → x.claim ≡ l → Claiming z held me.0 lock x l
+claiming z t held o me seat lock x l s seen may own claim_is =
     let a = acting z t held o me seat lock s seen may in
     let r = own a.core a.page a.own in
-    let claim = sym (ap (λ (y : CoreState). y.claim) r.1) ∙ claim_is in
-    record { act = a; at = r.0; is = r.1; claim = claim; below = subst (IsBelow z.resources) claim (claim_below z.resources a.page.newest a.kept.declared); locks = ap phase_of (sym claim) ∙ a.claims }
+    let claim = sym (ap (λ (y : CoreState). y.claim) r) ∙ claim_is in
+    record { act = a; is = r; claim = claim; below = subst (IsBelow z.resources) claim (claim_below z.resources a.page.newest a.kept.declared); locks = ap phase_of (sym claim) ∙ a.claims }
 
 -- what is kept of a core that waits, or holds
-pub waits_state : (z : BoardSize) (held : List (Option CoreState)) (v : View) (g : ResId) (n : ℕ) (x : CoreState) (l : Claim) → Claiming z held v (Queued g) n x l → (t : ℕ) × (l ≡ Waits g.0 t)
-waits_state z held v g n x l k = waits_claim l g k.locks
+pub waits_state : (z : BoardSize) (held : States) (v : View) (g : ResId) (x : CoreState) (l : Claim) → Claiming z held v (Queued g) x l → (t : ℕ) × (l ≡ Waits g.0 t)
+waits_state z held v g x l k = waits_claim l g k.locks
 
-pub holds_state : (z : BoardSize) (held : List (Option CoreState)) (v : View) (g : ResId) (n : ℕ) (x : CoreState) (l : Claim) → Claiming z held v (Holding g) n x l → (t : ℕ) × (l ≡ Holds g.0 t)
-holds_state z held v g n x l k = holds_claim l g k.locks
+pub holds_state : (z : BoardSize) (held : States) (v : View) (g : ResId) (x : CoreState) (l : Claim) → Claiming z held v (Holding g) x l → (t : ℕ) × (l ≡ Holds g.0 t)
+holds_state z held v g x l k = holds_claim l g k.locks
 
 pub waits_res : (r t : ℕ) (g : ResId) → phase_of (Waits r t) ≡ Queued g → record { 0 = r } ≡ g
 waits_res r t g e = cc
@@ -132,7 +132,7 @@ pub holds_res : (r t : ℕ) (g : ResId) → phase_of (Holds r t) ≡ Holding g �
 holds_res r t g e = cc
 
 -- what every seat keeps, as callers see it
-pub is_seat : (z : BoardSize) (t : TableId) (held : List (Option CoreState)) (o : Option Conductor) (me : Me (Unit {0}) View) (seat : SeatModel) → IsHeld z held o me → seen_as (named t z) me.0 ≡ seat → IsSeat seat
+pub is_seat : (z : BoardSize) (t : TableId) (held : States) (o : Option Conductor) (me : Me (Unit {0}) View) (seat : SeatModel) → IsHeld z held o me → seen_as (named t z) me.0 ≡ seat → IsSeat seat
 is_seat z t held o me seat s seen = subst IsSeat seen (record {
   limits = s.limits;
   cores = λ c b h. let r = page_of me.0.pages c b h in s.cores c r.0 r.1;
@@ -189,10 +189,10 @@ pub seat_changed : (z : BoardSize) (t u : TableId) (me now : Me (Unit {0}) View)
 seat_changed z t u me now seat f h same at is seen = ap (λ x. seen_as (named x z) now.0) at ∙ ap (λ (m : Me (Unit {0}) View). seen_as (named t z) m.0) is ∙ change_seen (named t z) me.0 f h same ∙ ap (with_books h) seen
 
 -- a core's seat after a request, a poll or a release
-pub entered_held : (z : BoardSize) (held : List (Option CoreState)) (o : Option Conductor) (me now : Me (Unit {0}) View) (lock : Phase) (n g p : ℕ) (k : Call) (x : CoreState) → IsHeld z held o me → (a : Acting z held me.0 lock) → n ≡ a.core → HasEntered g p k me now
-    → x ≡ state_of (page_with_entry g p k a.page) → g < z.resources → IsClaimInTurn (claim_of a.page.newest) g k → IsHeld z (set held n (Some x)) o now
-entered_held z held o me now lock n g p k x s a at step is in_board in_turn =
-    seat_step z held o me now a.core n a.page (page_with_entry g p k) x s a.own.only at step.changed is
+pub entered_held : (z : BoardSize) (held next : States) (o : Option Conductor) (me now : Me (Unit {0}) View) (lock : Phase) (g p : ℕ) (k : Call) (x : CoreState) → IsHeld z held o me → (a : Acting z held me.0 lock) → HasEntered g p k me now
+    → next ≡ with_own x held → x ≡ state_of (page_with_entry g p k a.page) → g < z.resources → IsClaimInTurn (claim_of a.page.newest) g k → IsHeld z next o now
+entered_held z held next o me now lock g p k x s a step set is in_board in_turn =
+    seat_step z held next o me now a.core a.page (page_with_entry g p k) x s a.own.only step.changed set is
     (kept_more z a.page (record { tick = a.page.tick; res = record { 0 = g }; place = p; call = k }) a.kept in_board (step.behind a.core a.page a.own.only.page) in_turn a.room (fresh_page z a.page a.kept a.room a.quiet) refl)
 
 pub entered_seen : (z : BoardSize) (t u : TableId) (me now : Me (Unit {0}) View) (seat : SeatModel) (g p : ℕ) (k : Call) → u ≡ t → HasEntered g p k me now → seen_as (named t z) me.0 ≡ seat
@@ -213,7 +213,7 @@ first_seen board = ap (λ (l : List (Option Book)). seat l) (replicate_told boar
     seat : List (Option Book) → SeatModel
     seat l = record { board = board; books = l; conductor = Some Unopened }
 
-pub first_is_seat : (z : BoardSize) (held : List (Option CoreState)) (me : Me (Unit {0}) View) → IsSize z → AreStates held (replicate z.cores (Some empty_page)) → me ≡ (first_view z, []) → IsHeld z held (Some Unopened) me
+pub first_is_seat : (z : BoardSize) (held : States) (me : Me (Unit {0}) View) → IsSize z → AreStates held (replicate z.cores (Some empty_page)) → me ≡ (first_view z, []) → IsHeld z held (Some Unopened) me
 first_is_seat z held me limits states is = subst (IsHeld z held (Some Unopened)) (sym is) (record {
   no_slot = refl;
   limits = limits;
@@ -229,23 +229,23 @@ first_made z t u me at is = ap (λ (m : Me (Unit {0}) View). seen_as (named u z)
 -- ---- the barrier
 
 -- the page of a core's seat in this phase
-pub record Standing (z : BoardSize) (held : List (Option CoreState)) (v : View) (phase : SeatPhase) : Type 0 where
+pub record Standing (z : BoardSize) (held : States) (v : View) (phase : SeatPhase) : Type 0 where
   pub core : ℕ
   pub page : Page
   pub own : IsOwn held v core page
   pub stands : phase_by page.stopped page.admitted (nat_lt page.tick z.ticks) ≡ phase
   pub kept : IsKeptNewest z page
 
-pub standing : (z : BoardSize) (t : TableId) (held : List (Option CoreState)) (o : Option Conductor) (me : Me (Unit {0}) View) (seat : SeatModel) (phase : SeatPhase) → IsHeld z held o me → seen_as (named t z) me.0 ≡ seat → IsIn phase seat → Standing z held me.0 phase
+pub standing : (z : BoardSize) (t : TableId) (held : States) (o : Option Conductor) (me : Me (Unit {0}) View) (seat : SeatModel) (phase : SeatPhase) → IsHeld z held o me → seen_as (named t z) me.0 ≡ seat → IsIn phase seat → Standing z held me.0 phase
 standing z t held o me seat phase s is at =
     let h : IsIn phase (seen_as (named t z) me.0) = subst (IsIn phase) (sym is) at in
     let r = core_own z t held o me (seen_as (named t z) me.0) s refl h.core h.book h.of_core in
     record { core = h.core; page = r.0; own = r.1; stands = ap (phase_in z.ticks) r.2 ∙ h.stands; kept = s.kept h.core r.0 r.1.only.page }
 
-pub admitted_page : (z : BoardSize) (held : List (Option CoreState)) (v : View) (s : Standing z held v Admitted) → s.page.admitted ≡ true
+pub admitted_page : (z : BoardSize) (held : States) (v : View) (s : Standing z held v Admitted) → s.page.admitted ≡ true
 admitted_page z held v s = (admitted_of s.page.stopped s.page.admitted (nat_lt s.page.tick z.ticks) s.stands).1
 
-pub waiting_page : (z : BoardSize) (held : List (Option CoreState)) (v : View) (s : Standing z held v Waiting) → (s.page.admitted ≡ false) × (s.page.tick < z.ticks)
+pub waiting_page : (z : BoardSize) (held : States) (v : View) (s : Standing z held v Waiting) → (s.page.admitted ≡ false) × (s.page.tick < z.ticks)
 waiting_page z held v s = let w = waiting_of s.page.stopped s.page.admitted (nat_lt s.page.tick z.ticks) s.stands in (w.1, ltb-true s.page.tick z.ticks w.2)
 
 -- an admitted core has not arrived from the last tick, and has no entry of a later one
@@ -253,7 +253,7 @@ pub record Arriving (b : Page) : Type 0 where
   pub tick : b.tick < 20000
   pub ticks : TicksNewest (suc b.tick) b.newest
 
-pub arriving : (z : BoardSize) (held : List (Option CoreState)) (v : View) → IsSize z → (s : Standing z held v Admitted) → Arriving s.page
+pub arriving : (z : BoardSize) (held : States) (v : View) → IsSize z → (s : Standing z held v Admitted) → Arriving s.page
 arriving z held v limits s =
     let reach : page_reach s.page ≡ suc s.page.tick = ap (λ a. reach_of a s.page.tick) (admitted_page z held v s) in
     let within = s.kept.within in

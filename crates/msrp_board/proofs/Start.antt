@@ -1,24 +1,21 @@
 -- The rule at the start.
-use Rattle.std.proofs.Common.{◌≡◌, ◌≢◌, ℕ, zero, suc, ◌+◌, ◌<◌, ◌≤◌, List, [], ◌∷◌, length, set, take, replicate, Some, None, true≢false, refl, sym, ap, ◌∙◌, subst, arith}
+use Rattle.std.proofs.Common.{◌==◌, ◌≡◌, ◌≢◌, ℕ, zero, suc, ◌+◌, ◌<◌, ◌≤◌, List, [], ◌∷◌, length, take, replicate, Some, None, if◌then◌else◌, eq-eqb, ne_eqb, true≢false, refl, sym, ap, ◌∙◌, subst, arith}
 use Rattle.std.specs.Prelude.{slice_index}
-use Rattle.std.specs.declared.option.Option.{Option}
 use mathlib.Core.Option.{some, some-injective, some-ne-none}
 use mathlib.Core.Logic.{dite}
 use native.Mathlib.Decide.{ℕ_discrete}
 use lib.ListN.{get_elem?}
 use Rattle.atomic_table.specs.Table.{opening}
-use Rattle.atomic_table.proofs.Lists.{set_here, set_else}
 use Rattle.msrp_board.specs.declared.pages.Page.{Page}
 use Rattle.msrp_board.specs.declared.pages.View.{View}
 use Rattle.msrp_board.specs.declared.books.BoardSize.{BoardSize}
-use Rattle.msrp_board.specs.declared.held.CoreState.{CoreState}
+use Rattle.msrp_board.specs.declared.states.States.{States}
 use Rattle.msrp_board.specs.Books.{IsSize, on}
-use Rattle.msrp_board.specs.Inside.Held.{AreStates, state_of, state_at}
+use Rattle.msrp_board.specs.Inside.Held.{AreStates, kept_of, state_of, state_at}
 use Rattle.msrp_board.specs.Inside.Rule.{HasPage, Ruled, IsKeptNewest, empty_page, first_view, arrivals, page_reach}
 use Rattle.msrp_board.specs.declared.books.Conductor.TheVariants.{Unopened}
 use Rattle.msrp_board.proofs.Kept.{kept_empty}
 use native.Mathlib.Decide.{dec_lt}
-use Rattle.msrp_board.proofs.Queue.{in_range}
 use Rattle.std.proofs.lemmas.Option.{same_Some}
 
 now_in : (n c : ℕ) → c < n → state_at (replicate n (Some empty_page)) c ≡ Some (state_of empty_page)
@@ -35,10 +32,11 @@ now_more : (n c : ℕ) → Dec (c < n) → c ≢ n → state_at (replicate n (So
 now_more n c (yes h) d = now_in n c h ∙ sym (now_in (suc n) c (omega (arith, h)))
 now_more n c (no h) d = now_out n c (omega (arith, h)) ∙ sym (now_out (suc n) c (omega (arith, h, d)))
 
-pub fresh_step : (held : List (Option CoreState)) (n m : ℕ) → m ≡ suc n → n < 8 → AreStates held (replicate n (Some empty_page)) → AreStates (set held n (Some (state_of empty_page))) (replicate m (Some empty_page))
-fresh_step held n m is low tie c in_8 = subst (λ k. get_elem? (set held n (Some (state_of empty_page))) c ≡ some (state_at (replicate k (Some empty_page)) c)) (sym is) (dite (ℕ_discrete c n)
-    (λ q. subst (λ k. get_elem? (set held n (Some (state_of empty_page))) k ≡ some (state_at (replicate (suc n) (Some empty_page)) k)) (sym q) (set_here held n (Some (state_of empty_page)) (in_range held n _ (tie n low)) ∙ ap some (sym (now_in (suc n) n (omega arith)))))
-    (λ d. set_else held n c (Some (state_of empty_page)) d ∙ tie c in_8 ∙ ap some (now_more n c (dec_lt c n) d)))
+-- a node more, of the next core
+pub fresh_step : (held : States) (n m c : ℕ) → m ≡ suc n → AreStates held (replicate n (Some empty_page)) → (if n == c then Some (state_of empty_page) else kept_of held c) ≡ state_at (replicate m (Some empty_page)) c
+fresh_step held n m c is tie = subst (λ k. (if n == c then Some (state_of empty_page) else kept_of held c) ≡ state_at (replicate k (Some empty_page)) c) (sym is) (dite (ℕ_discrete n c)
+    (λ q. ap (λ k. if k then Some (state_of empty_page) else kept_of held c) (eq-eqb n c q) ∙ sym (now_in (suc n) c (omega (arith, q))))
+    (λ d. ap (λ k. if k then Some (state_of empty_page) else kept_of held c) (ne_eqb n c d) ∙ tie c ∙ now_more n c (dec_lt c n) (λ q. d (sym q))))
 
 same_there : (n c : ℕ) (b : Page) → get_elem? (replicate n (Some empty_page)) c ≡ some (Some b) → get_elem? (replicate n empty_page) c ≡ some b
 same_there zero c b e = absurd (some-ne-none (Some b) (sym e))

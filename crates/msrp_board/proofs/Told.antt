@@ -1,5 +1,5 @@
 -- A page as callers see it: what it says of its core is what the book says.
-use Rattle.std.proofs.Common.{get_or, ◌++◌, nat_lt, ◌<◌, ◌≤◌, ⊎_elim, arith, ◌==◌, ◌||◌, ◌≡◌, ℕ, zero, suc, List, [], ◌∷◌, map, reverse, Bool, true, false, Some, None, refl, sym, ap, ◌∙◌}
+use Rattle.std.proofs.Common.{◌++◌, nat_lt, ◌==◌, ◌||◌, ◌≡◌, ℕ, zero, suc, List, [], ◌∷◌, map, reverse, Bool, true, false, Some, None, refl, sym, ap, ◌∙◌}
 use Rattle.std.specs.Prelude.{slice_index_or}
 use Rattle.std.specs.List.{list_any}
 use Rattle.std.specs.Option.{option_map, is_some}
@@ -17,14 +17,15 @@ use Rattle.msrp_board.specs.declared.pages.Page.{Page}
 use Rattle.msrp_board.specs.declared.pages.View.{View}
 use Rattle.msrp_board.specs.declared.held.Claim.{Claim}
 use Rattle.msrp_board.specs.declared.held.CoreState.{CoreState}
+use Rattle.msrp_board.specs.declared.states.States.{States}
 use Rattle.msrp_plan.specs.Calls.{ResCall, claim_with, claim_after}
 use Rattle.msrp_board.specs.Books.{res_calls, phase_by, phase_in, lock_of, has_acted}
 use Rattle.msrp_board.specs.Seats.{BoardModel, IsCoreSeat}
 use Rattle.msrp_board.specs.Inside.Newest.{claim_of, claim_with_call}
 use Rattle.msrp_board.specs.Inside.Rule.{HasOnly, page_has_acted}
-use Rattle.msrp_board.specs.Inside.Held.{told, phase_of, page_at, seen_as, state_of, state_at, AreStates, IsLow, Shows}
+use Rattle.msrp_board.specs.Inside.Held.{told, phase_of, page_at, seen_as, state_of, kept_of, AreStates, Shows}
 use Rattle.msrp_board.proofs.Lists.{reverse_cons, fold_last}
-use Rattle.msrp_board.proofs.CoreStates.{has_page, page_has, get_or_at, page_or_none}
+use Rattle.msrp_board.proofs.CoreStates.{has_page, page_has}
 
 -- one call more: what a core claims is what it holds or awaits
 after_call : (l : Claim) (g : ℕ) (p : ℕ) (k : Call) → claim_with (phase_of l) (record { 0 = g }) k ≡ phase_of (claim_with_call l g p k)
@@ -89,15 +90,8 @@ some_told None = refl
 some_told (Some b) = refl
 
 -- a seat keeps a state of the core just where it has its book
-pub held_some : (held : List (Option CoreState)) (pages : List (Option Page)) (c : ℕ) → AreStates held pages → c < 8 → is_some (get_or held c None) ≡ is_some (slice_index_or (map (option_map told) pages) c None)
-held_some held pages c tie low = ap is_some (get_or_at held c (state_at pages c) None (tie c low)) ∙ some_told (page_at pages c) ∙ sym (ap is_some (shown pages c))
-
--- no seat has a book of a core past the eighth
-pub none_past : (v : View) (c : ℕ) → IsLow v → 8 ≤ c → is_some (slice_index_or (map (option_map told) v.pages) c None) ≡ false
-none_past v c low past = ap is_some (shown v.pages c) ∙ ⊎_elim
-    (λ h. absurd (let l = low c h.0 (has_page v.pages c h.0 h.1) in omega (arith, l, past)))
-    (λ n. ap (λ o. is_some (option_map told o)) n)
-    (page_or_none (page_at v.pages c))
+pub held_some : (held : States) (pages : List (Option Page)) (c : ℕ) → AreStates held pages → is_some (kept_of held c) ≡ is_some (slice_index_or (map (option_map told) pages) c None)
+held_some held pages c tie = ap is_some (tie c) ∙ some_told (page_at pages c) ∙ sym (ap is_some (shown pages c))
 
 -- where a core's seat stands
 pub phase_shown : (x : CoreState) (b : Book) (n : ℕ) → Shows x b → phase_by x.stopped x.admitted (nat_lt x.tick n) ≡ phase_in n b

@@ -1,5 +1,5 @@
 //! The board and its calls. None but [`Board::new`] takes memory, and none waits for another thread.
-ghost use Rattle.std.specs.Prelude.{◌≡◌, ◌<◌, ◌↔◌, ℕ, Some, IfOk, IfErr, IsSome};
+ghost use Rattle.std.specs.Prelude.{◌≡◌, ◌<◌, ◌↔◌, ℕ, Some, IfOk, IsSome};
 ghost use Rattle.msrp_plan.specs.declared.ids.ResId.{ResId};
 ghost use Rattle.msrp_plan.specs.declared.units.Call.TheVariants.{Ask, Poll, Leave};
 ghost use Rattle.msrp_plan.specs.declared.units.Phase.TheVariants.{Free, Queued, Holding};
@@ -9,14 +9,15 @@ ghost use Rattle.msrp_board.specs.declared.answers.SeatPhase.TheVariants.{Waitin
 ghost use Rattle.msrp_board.specs.declared.books.Book.{Book};
 ghost use Rattle.msrp_board.specs.declared.books.Conductor.TheVariants.{Unopened, Opened, Aborted};
 ghost use Rattle.msrp_board.specs.Books.{IsSize};
-ghost use Rattle.msrp_board.specs.Seats.{book_at, IsCoreSeat, IsIn, MayAct, HasAnother, HasAll, first_seat};
+ghost use Rattle.msrp_board.specs.Seats.{book_at, IsCoreSeat, IsIn, MayAct, HasAnother, first_seat};
 ghost use Rattle.msrp_board.specs.Steps.{IsBehind, with_entry, with_admission, with_stop, with_arrival, with_conductor, alone, without, both};
 
 use crate::answers::{Asked, BoardError, Look, Polled};
 use crate::books::{BoardSize, Conductor};
-use crate::held::{Claim, fresh, only, others, own, union};
+use crate::held::Claim;
 use crate::pages::{Tickets, View};
 use crate::seat::BoardSeat;
+use crate::states::States;
 use crate::steps;
 use atomic_table::Table;
 use msrp_plan::limits::{MOST_CORES, MOST_RESOURCES, MOST_TICKS};
@@ -68,6 +69,9 @@ impl Board {
             resources,
             ticks,
         };
+        let Ok(states) = States::fresh(alloc, cores) else {
+            return Err(BoardError::B2);
+        };
         let zeros = [0u64; MOST_RESOURCES + 1];
         let Ok((table, table_seat)) = Table::of_words(
             alloc,
@@ -79,7 +83,7 @@ impl Board {
         let seat = BoardSeat {
             table_seat,
             size,
-            held: fresh(cores as usize),
+            states,
             conductor: Some(Conductor::Unopened),
         };
         Ok((Board { table, size }, seat))
@@ -101,13 +105,13 @@ impl Board {
         ensures entry { seat.new ≡ with_entry res result.place (Ask result.ahead) seat.old }
         ensures behind { IsBehind res.0 result.place seat.old }
     {
-        let (core, state) = own(&seat.held);
+        let state = seat.states.own();
         let word = steps::ask(&self.table.shared, &mut seat.table_seat, res.0 as usize);
         let asked = Asked {
             place: word.next + word.serving,
             ahead: word.next - word.serving,
         };
-        seat.held[core] = Some(state.with_ask(res.0, word));
+        seat.states.set_own(state.with_ask(res.0, word));
         asked
     }
 
@@ -119,7 +123,7 @@ impl Board {
         ensures entry { (g : ResId) → MayAct (Queued g) seat.old → seat.new ≡ with_entry g result.place (Poll result.granted) seat.old }
         ensures behind { (g : ResId) → MayAct (Queued g) seat.old → IsBehind g.0 result.place seat.old }
     {
-        let (core, state) = own(&seat.held);
+        let state = seat.states.own();
         let Claim::Waits { res, ticket } = state.claim else {
             unreachable!()
         };
@@ -133,7 +137,8 @@ impl Board {
             place: word.next + word.serving,
             granted: word.serving == ticket,
         };
-        seat.held[core] = Some(state.with_poll(res, ticket, polled.granted));
+        seat.states
+            .set_own(state.with_poll(res, ticket, polled.granted));
         polled
     }
 
@@ -145,12 +150,12 @@ impl Board {
         ensures entry { (g : ResId) → MayAct (Holding g) seat.old → seat.new ≡ with_entry g result Leave seat.old }
         ensures behind { (g : ResId) → MayAct (Holding g) seat.old → IsBehind g.0 result seat.old }
     {
-        let (core, state) = own(&seat.held);
+        let state = seat.states.own();
         let Claim::Holds { res, .. } = state.claim else {
             unreachable!()
         };
         let word = steps::leave(&self.table.shared, &mut seat.table_seat, res as usize);
-        seat.held[core] = Some(state.with_leave());
+        seat.states.set_own(state.with_leave());
         word.next + word.serving
     }
 
@@ -169,7 +174,7 @@ impl Board {
             resources,
             ..
         } = self.size;
-        let (core, state) = own(&seat.held);
+        let state = seat.states.own();
         let found = steps::look(
             &self.table.shared,
             &mut seat.table_seat,
@@ -177,7 +182,7 @@ impl Board {
             cores,
         );
         let look = state.finds(cores, found);
-        seat.held[core] = Some(state.after_look(look));
+        seat.states.set_own(state.after_look(look));
         look
     }
 
@@ -188,10 +193,10 @@ impl Board {
         requires admitted { IsIn Admitted seat.old }
         ensures { seat.new ≡ with_arrival seat.old }
     {
-        let (core, state) = own(&seat.held);
+        let state = seat.states.own();
         let BoardSize { resources, .. } = self.size;
         steps::arrive(&self.table.shared, &mut seat.table_seat, resources as usize);
-        seat.held[core] = Some(state.with_arrival());
+        seat.states.set_own(state.with_arrival());
     }
 
     /// Lets the cores into tick 0: one `fetch_add` on the barrier word.
@@ -228,21 +233,21 @@ impl Board {
         let BoardSeat {
             mut table_seat,
             size,
-            held,
+            states,
             conductor,
         } = seat;
-        let core = core.0 as usize;
-        let rest = steps::split(&self.table.shared, &mut table_seat, core);
+        let rest = steps::split(&self.table.shared, &mut table_seat, core.0 as usize);
+        let (own, others) = states.part(core);
         let own = BoardSeat {
             table_seat,
             size,
-            held: only(&held, core),
+            states: own,
             conductor: None,
         };
         let others = BoardSeat {
             table_seat: rest,
             size,
-            held: others(&held, core),
+            states: others,
             conductor,
         };
         (own, others)
@@ -256,20 +261,20 @@ impl Board {
         let BoardSeat {
             mut table_seat,
             size,
-            held,
+            states,
             conductor,
         } = seat;
         let BoardSeat {
             table_seat: other_seat,
             size: _,
-            held: other_held,
+            states: other_states,
             conductor: other_conductor,
         } = other;
         steps::join(&self.table.shared, &mut table_seat, other_seat);
         BoardSeat {
             table_seat,
             size,
-            held: union(&held, &other_held),
+            states: states.and(other_states),
             conductor: conductor.or(other_conductor),
         }
     }

@@ -1,18 +1,15 @@
-//! What a seat keeps at run time of the cores whose books it holds: enough to answer its readers, without the entries.
-ghost use Rattle.std.specs.Prelude.{◌≡◌, ◌<◌, ◌≤◌, ◌+◌, ◌-◌, ℕ, List, Some, replicate, suc, nat_lt, false};
-ghost use Rattle.std.specs.declared.option.Option.{Option};
+//! What a seat keeps at run time of a core whose book it holds: enough to answer its readers, without the entries.
+ghost use Rattle.std.specs.Prelude.{◌≡◌, ◌<◌, ◌+◌, ◌-◌, ℕ, suc, nat_lt};
 ghost use Rattle.msrp_plan.specs.declared.units.Call.TheVariants.{Ask, Poll, Leave};
 ghost use Rattle.msrp_board.specs.declared.pages.Page.{Page};
-ghost use Rattle.msrp_board.specs.declared.pages.View.{View};
 ghost use Rattle.msrp_board.specs.Books.{phase_by};
-ghost use Rattle.msrp_board.specs.Steps.{only_at, none_at, together};
-ghost use Rattle.msrp_board.specs.Inside.Held.{AreStates, IsOwn, state_of, phase_of, look_of};
-ghost use Rattle.msrp_board.specs.Inside.Newest.{TicksNewest, claim_of};
-ghost use Rattle.msrp_board.specs.Inside.Rule.{IsTicket, HasOnly, page_with_arrival, empty_page, page_with_entry, page_after_look};
+ghost use Rattle.msrp_board.specs.Inside.Held.{state_of, phase_of, look_of};
+ghost use Rattle.msrp_board.specs.Inside.Newest.{TicksNewest};
+ghost use Rattle.msrp_board.specs.Inside.Rule.{IsTicket, page_with_arrival, page_with_entry, page_after_look};
 
 use crate::answers::{Look, SeatPhase};
 use crate::words::{TicketWord, high_half, low_half};
-use msrp_plan::limits::{MOST_CORES, MOST_TICKS};
+use msrp_plan::limits::MOST_TICKS;
 use msrp_plan::{Phase, ResId};
 
 /// What a core claims.
@@ -49,7 +46,8 @@ pub struct CoreState {
 }
 
 impl CoreState {
-    const EMPTY: CoreState = CoreState {
+    /// Of an empty book.
+    pub const EMPTY: CoreState = CoreState {
         tick: 0,
         claim: Claim::Nothing,
         admitted: false,
@@ -160,82 +158,4 @@ impl CoreState {
             },
         }
     }
-}
-
-/// Empty books of so many cores.
-pub fn fresh(cores: usize) -> [Option<CoreState>; MOST_CORES as usize]
-    requires { cores ≤ MOST_CORES }
-    ensures { AreStates result (replicate cores (Some empty_page)) }
-{
-    let mut held = [None; MOST_CORES as usize];
-    for core in 0..cores {
-        held[core] = Some(CoreState::EMPTY);
-    }
-    held
-}
-
-/// The core whose book this is, where there is but one.
-fn core_of(held: &[Option<CoreState>; MOST_CORES as usize]) -> usize
-    ensures small { result < MOST_CORES }
-    ensures core { (v : View) (c : ℕ) (b : Page) → IsOwn held.now v c b → result ≡ c }
-{
-    for core in 0..MOST_CORES as usize {
-        if held[core].is_some() {
-            return core;
-        }
-    }
-    0
-}
-
-/// The core of a core's seat, and its state.
-pub fn own(held: &[Option<CoreState>; MOST_CORES as usize]) -> (usize, CoreState)
-    requires { (v : View) × (c : ℕ) × (b : Page) × IsOwn held.now v c b }
-    ensures small { result.0 < MOST_CORES }
-    ensures own { (v : View) (c : ℕ) (b : Page) → IsOwn held.now v c b → (result.0 ≡ c) × (result.1 ≡ state_of b) }
-{
-    let core = core_of(held);
-    match held[core] {
-        Some(state) => (core, state),
-        None => unreachable!(),
-    }
-}
-
-/// The state of the core alone.
-pub fn only(
-    held: &[Option<CoreState>; MOST_CORES as usize],
-    core: usize,
-) -> [Option<CoreState>; MOST_CORES as usize]
-    requires { core < MOST_CORES }
-    ensures { (pages : List (Option Page)) → AreStates held.now pages → AreStates result (only_at core pages) }
-{
-    let mut own = [None; MOST_CORES as usize];
-    own[core] = held[core];
-    own
-}
-
-/// The states of the others.
-pub fn others(
-    held: &[Option<CoreState>; MOST_CORES as usize],
-    core: usize,
-) -> [Option<CoreState>; MOST_CORES as usize]
-    requires { core < MOST_CORES }
-    ensures { (pages : List (Option Page)) → AreStates held.now pages → AreStates result (none_at core pages) }
-{
-    let mut others = *held;
-    others[core] = None;
-    others
-}
-
-/// The states of both, where no core is in both.
-pub fn union(
-    held: &[Option<CoreState>; MOST_CORES as usize],
-    other: &[Option<CoreState>; MOST_CORES as usize],
-) -> [Option<CoreState>; MOST_CORES as usize]
-    ensures { (pages more : List (Option Page)) → AreStates held.now pages → AreStates other.now more → AreStates result (together pages more) }
-{
-    let mut both = [None; MOST_CORES as usize];
-    for core in 0..MOST_CORES as usize {
-        both[core] = held[core].or(other[core]);
-    }
-    both
 }

@@ -14,6 +14,7 @@ pub mod laws;
 mod pages;
 mod seat;
 mod settled;
+mod states;
 mod steps;
 #[cfg(test)]
 mod tests;

@@ -7,9 +7,9 @@ ghost use Rattle.msrp_board.specs.Inside.Held.{Shows};
 
 use crate::answers::SeatPhase;
 use crate::books::{BoardSize, Conductor};
-use crate::held::{CoreState, own};
+use crate::held::CoreState;
 use crate::pages::TableSeat;
-use msrp_plan::limits::MOST_CORES;
+use crate::states::States;
 use msrp_plan::{CoreId, Phase};
 use std::marker::Model;
 
@@ -20,7 +20,7 @@ use std::marker::Model;
 pub struct BoardSeat {
     pub(crate) table_seat: TableSeat,
     pub(crate) size: BoardSize,
-    pub(crate) held: [Option<CoreState>; MOST_CORES as usize],
+    pub(crate) states: States,
     pub(crate) conductor: Option<Conductor>,
 }
 
@@ -32,7 +32,7 @@ impl Model for BoardSeat {
 
     ghost view = { λ s. seen_as record { table = s.table_seat.table_id; size = s.size } s.table_seat.me.0 };
 
-    ghost invariant = { λ s. IsHeld s.size s.held s.conductor s.table_seat.me };
+    ghost invariant = { λ s. IsHeld s.size s.states s.conductor s.table_seat.me };
 }
 
 impl BoardSeat {
@@ -42,8 +42,7 @@ impl BoardSeat {
         ensures shows { (c : ℕ) (b : Book) → IsCoreSeat self.now c b → Shows result b }
         ensures seat { IsSeat self.now }
     {
-        let (_, state) = own(&self.held);
-        state
+        self.states.own()
     }
 
     /// Where the core of a core's seat stands.
@@ -87,7 +86,7 @@ impl BoardSeat {
         ensures value { IsTrue result ↔ IsSome (book_at self.now core.0) }
         ensures seat { IsSeat self.now }
     {
-        core.0 < MOST_CORES && self.held[core.0 as usize].is_some()
+        self.states.has(core)
     }
 
     /// What the conductor did, where the seat holds its book.

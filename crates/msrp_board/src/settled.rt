@@ -53,7 +53,7 @@ impl Board {
         let BoardSeat {
             table_seat,
             size: _,
-            held: _,
+            states: _,
             conductor: _,
         } = seat;
         let closed = table.close_with(table_seat);

@@ -1,9 +1,9 @@
 -- How what a seat keeps at run time stands to what it knows, and how what it knows is told to callers.
-use Rattle.std.specs.Prelude.{◌≡◌, ℕ, ◌<◌, ◌≤◌, List, [], map, take, slice_index, Some, None, reverse, Bool, true, false, ltb, leb, ◌+◌, ◌*◌, slice_index_or, ⊤}
+use Rattle.std.specs.Prelude.{◌≡◌, ℕ, ◌<◌, ◌≤◌, ◌==◌, List, [], map, take, slice_index, Some, None, reverse, Bool, true, false, ltb, leb, ◌+◌, ◌*◌, slice_index_or, ⊤, if◌then◌else◌}
 use Rattle.std.specs.List.{filter_map}
 use Rattle.std.specs.Option.{option_map, unwrap_or}
 use Rattle.std.specs.declared.option.Option.{Option}
-use Rattle.msrp_plan.specs.Limits.{most_cores, most_resources}
+use Rattle.msrp_plan.specs.Limits.{most_resources}
 use mathlib.Core.Option.{some}
 use lib.ListN.{get_elem?}
 use Rattle.msrp_plan.specs.declared.units.Phase.{Phase}
@@ -19,6 +19,7 @@ use Rattle.msrp_board.specs.declared.books.Conductor.TheVariants.{Unopened}
 use Rattle.msrp_board.specs.declared.pages.Page.{Page}
 use Rattle.msrp_board.specs.declared.pages.View.{View}
 use Rattle.msrp_board.specs.declared.held.CoreState.{CoreState}
+use Rattle.msrp_board.specs.declared.states.States.{States, End, Of'}
 use Rattle.msrp_board.specs.declared.held.Claim.{Claim}
 use Rattle.msrp_board.specs.declared.held.Claim.TheVariants.{Nothing, Waits, Holds}
 use Rattle.msrp_board.specs.Books.{IsSize, lock_of, has_acted}
@@ -39,18 +40,27 @@ page_at pages c = slice_index_or pages c None
 abbrev pub state_at : List (Option Page) → ℕ → Option CoreState
 state_at pages c = option_map state_of (page_at pages c)
 
--- what a seat keeps of each core is what its page says
-abbrev pub AreStates : List (Option CoreState) → List (Option Page) → Type 0
-AreStates held pages = (c : ℕ) → c < most_cores → get_elem? held c ≡ some (state_at pages c)
+-- what a chain keeps of core c: the state of the first node of that core
+abbrev pub kept_of : States → ℕ → Option CoreState
+kept_of End c = None
+kept_of (Of' p core state more) c = if core.0 == c then Some state else kept_of more c
 
--- no page is of a core past the last that a board may have
-abbrev pub IsLow : View → Type 0
-IsLow v = (c : ℕ) (b : Page) → HasPage v c b → c < most_cores
+-- what is kept, where it is wanted
+abbrev pub kept_if : Bool → Option CoreState → Option CoreState
+kept_if wanted kept = if wanted then kept else None
+
+-- the chain with another state of the core of its first node
+abbrev pub with_own : CoreState → States → States
+with_own own End = End
+with_own own (Of' p core state more) = Of' p core own more
+
+-- what a seat keeps of each core is what its page says
+abbrev pub AreStates : States → List (Option Page) → Type 0
+AreStates held pages = (c : ℕ) → kept_of held c ≡ state_at pages c
 
 -- the seat has the page of core c and no other, and keeps its state
-pub record IsOwn (held : List (Option CoreState)) (v : View) (c : ℕ) (b : Page) : Type 0 where
+pub record IsOwn (held : States) (v : View) (c : ℕ) (b : Page) : Type 0 where
   pub states : AreStates held v.pages
-  pub low : c < most_cores
   pub only : HasOnly v c b
 
 -- what is claimed is one of the first n resources
@@ -93,7 +103,7 @@ look_of m n t = look_if (ltb 0 (high n)) (leb (1 + m * t) (low n))
 
 -- what holds of each seat: what it keeps of its cores and of the conductor is what its view says, its cores are the
 -- board's, and each page keeps the rule's part on one page
-pub record IsHeld (z : BoardSize) (held : List (Option CoreState)) (conductor : Option Conductor) (me : Me (Unit {0}) View) : Type 0 where
+pub record IsHeld (z : BoardSize) (held : States) (conductor : Option Conductor) (me : Me (Unit {0}) View) : Type 0 where
   pub no_slot : me.1 ≡ []
   pub limits : IsSize z
   pub states : AreStates held me.0.pages

@@ -10,7 +10,7 @@ own-requires c = let r = core_own _ _ _ _ _ _ c.self.invariant c.self.view_is c.
 pub returns-clause-shows : goal.returns-clause-shows
 returns-clause-shows c k b is =
     let r = core_own _ _ _ _ _ _ c.self.invariant c.self.view_is k b is in
-    let o = (c.own.ensures.own c.self.inside.table_seat.me.0 k r.0 r.1).1 in
+    let o = c.own.ensures c.self.inside.table_seat.me.0 k r.0 r.1 in
     subst (λ s. Shows s b) (sym o) (subst (Shows (state_of r.0)) r.2 (record { tick = refl; lock = sym (lock_told r.0); admitted = refl; stopped = refl; acted = sym (acted_told r.0) }))
 
 pub returns-clause-seat : goal.returns-clause-seat

@@ -1,7 +1,7 @@
 use Rattle.std.proofs.Common.{Some, replicate}
 use Rattle.msrp_board.specs.Inside.Held.{AreStates}
 use Rattle.msrp_board.specs.Inside.Rule.{empty_page}
-use Rattle.msrp_board.proofs.held.fresh.Given as goal
+use Rattle.msrp_board.proofs.states.States.fresh.Given as goal
 
 abbrev pub invariant-loop-core : goal.invariant-loop-core
-invariant-loop-core l = AreStates l.held (replicate l.core (Some empty_page))
+invariant-loop-core l = AreStates l.states (replicate l.core (Some empty_page))
