@@ -3,24 +3,12 @@ use Rattle.std.proofs.Common.{◌≡◌, ◌≤◌, ◌<◌, ◌+◌, ◌-◌, �
 use Rattle.std.proofs.Math.ListN.{get_or-append}
 use Rattle.std.proofs.Math.Nat.{eq-or-lt_of_le}
 use Rattle.std.proofs.Math.Seq.{get_or-append_seam}
-use Rattle.std.proofs.lemmas.Bool.{cases_Bool, eqb-true}
+use Rattle.std.proofs.lemmas.Bool.{and_parts, eqb-true, or_cases, or_from, or_parts}
 use Rattle.std.proofs.lemmas.List.{drop-append-le, take_at, take_more}
 use mathlib.Core.Bool.{true≢false}
 use Rattle.msrp_text.specs.Plain.{BeginsWith, EndsLine, IsInLine, NoLine, is_mark, is_plain}
 use Rattle.msrp_text.proofs.AheadBytes.{between-bytes, none-left}
 use Rattle.msrp_text.proofs.PlainLines.{IsSplit, plain-byte, plain-first, plain-more, split-joins, split-parts}
-
-or-left : (a b : Bool) → (a || b) ≡ false → a ≡ false
-or-left false b e = refl
-or-left true b e = cc e
-
-or-right : (a b : Bool) → (a || b) ≡ false → b ≡ false
-or-right false b e = e
-or-right true b e = cc e
-
-or-neither : (a b : Bool) → a ≡ false → b ≡ false → (a || b) ≡ false
-or-neither false b e h = h
-or-neither true b e h = cc e
 
 -- a byte that ends no plain line, where it isn't the first byte of a byte order mark
 abbrev pub is_other : ℕ → ℕ → Bool
@@ -34,9 +22,9 @@ pub plain-on : (text : List ℕ) (at : ℕ) → at < length text → (slice_inde
     → (0 < at → is_plain (take at text) ≡ true) → is_plain (take (at + 1) text) ≡ true
 plain-on text at within feed return other plain =
     let size : length (take at text) ≡ at = length-take-le at text (omega arith) in
-    let mark : is_mark (slice_index text at) ≡ false = or-neither _ _ (or-left _ _ other) (or-neither _ _ (ne_eqb _ 13 return) (ne_eqb _ 10 feed)) in
+    let mark : is_mark (slice_index text at) ≡ false = or_from _ _ (or_parts _ _ other).0 (or_from _ _ (ne_eqb _ 13 return) (ne_eqb _ 10 feed)) in
     ap is_plain (take_more text at 0 within)
-    ∙ plain-more (take at text) (slice_index text at) (λ some. plain (omega (arith, size))) (λ none. first-other _ at (or-right _ _ other) (omega (arith, size))) mark
+    ∙ plain-more (take at text) (slice_index text at) (λ some. plain (omega (arith, size))) (λ none. first-other _ at (or_parts _ _ other).1 (omega (arith, size))) mark
 
 -- its last field goes on
 pub field-on : (text : List ℕ) (at start : ℕ) (fields : List (List ℕ)) → at < length text → start ≤ at → (slice_index text at ≡ 44 → ⊥) → IsSplit fields (drop start (take at text)) (take at text)
@@ -121,19 +109,11 @@ quote-none : (text : List ℕ) (at most : ℕ) → slice_index text at ≡ 34 �
 quote-none text at most quote before =
     marked-none text at most (ap is_mark quote) (λ (e : slice_index text at ≡ 10). let no : 34 ≡ 10 = sym quote ∙ e in omega (arith, no)) (λ (e : slice_index text at ≡ 13) within next. let no : 34 ≡ 13 = sym quote ∙ e in omega (arith, no)) before
 
-both-true : (a b : Bool) → (a && b) ≡ true → (a ≡ true) × (b ≡ true)
-both-true true b e = (refl, e)
-both-true false b e = cc e
-
-or-true : (a b : Bool) → (a || b) ≡ true → a ≡ false → b ≡ true
-or-true true b e f = cc f
-or-true false b e f = e
-
 pub other-none : (text : List ℕ) (at most : ℕ) → is_other (slice_index text at) at ≡ true → IsInLine at text → NoLine most text
-other-none text at most other before = elim (cases_Bool (slice_index text at == 34)) [
+other-none text at most other before = elim (or_cases (slice_index text at == 34) _ other) [
   | inl quote ↦ quote-none text at most (eqb-true _ 34 quote) before
-  | inr unquoted ↦
-      let both = both-true (at == 0) (slice_index text at == 239) (or-true _ _ other unquoted) in
+  | inr first ↦
+      let both = and_parts (at == 0) (slice_index text at == 239) first in
       let zero : at ≡ 0 = eqb-true at 0 both.0 in
       bom-none text most (ap (λ n. slice_index text n == 239) (sym zero) ∙ both.1)
 ]

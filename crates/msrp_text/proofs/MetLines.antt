@@ -1,8 +1,8 @@
 -- The line of a record of a number and plain fields, as it stands in a text.
-use Rattle.std.proofs.Common.{◌==◌, ◌^◌, decimal, ◌≡◌, ◌≤◌, ◌||◌, ◌<◌, ◌++◌, ◌∷◌, ◌∙◌, [], ℕ, List, Bool, true, false, not, length, refl, sym, ap, append_assoc, append-nil, arith}
+use Rattle.std.proofs.Common.{◌==◌, ◌^◌, decimal, ◌≡◌, ◌≤◌, ◌<◌, ◌++◌, ◌∷◌, ◌∙◌, [], ℕ, List, true, false, not, length, refl, sym, ap, append_assoc, append-nil, arith}
 use Rattle.std.specs.Char.{is_ascii_digit}
 use Rattle.std.specs.List.{AllByRecursion, list_all, list_any}
-use Rattle.std.proofs.lemmas.Bool.{and_from, and_parts}
+use Rattle.std.proofs.lemmas.Bool.{and_from, and_parts, or_parts}
 use Rattle.std.proofs.lemmas.Bool.Decides.{nat_tests}
 use Rattle.std.proofs.lemmas.Fmt.{decimal_nonempty}
 use Rattle.std.proofs.lemmas.List.{append_cancel_right}
@@ -16,20 +16,12 @@ use Rattle.msrp_text.proofs.Numerals.{all_digits, plain_decimal}
 use Rattle.msrp_text.proofs.Plain.{IsPlain, IsPlainRecord, plain_back}
 use Rattle.msrp_text.proofs.PlainLines.{records-line}
 
-or-left : (a b : Bool) → (a || b) ≡ false → a ≡ false
-or-left false b e = refl
-or-left true b e = cc e
-
-or-right : (a b : Bool) → (a || b) ≡ false → b ≡ false
-or-right false b e = e
-or-right true b e = cc e
-
 no-mark : (b : ℕ) → needs_byte default_writer b ≡ false → is_mark b ≡ false
 no-mark b h = grind (arith, nat_tests, h)
 
 unmarked : (field : List ℕ) → IsPlain field → list_any is_mark field ≡ false
 unmarked [] h = refl
-unmarked (b ∷ rest) h = rw (no-mark b (or-left _ _ h)) (unmarked rest (or-right _ _ h))
+unmarked (b ∷ rest) h = rw (no-mark b (or_parts _ _ h).0) (unmarked rest (or_parts _ _ h).1)
 
 -- the fields after the first, each after a comma
 commas : List (List ℕ) → List ℕ

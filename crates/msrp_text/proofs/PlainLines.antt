@@ -1,9 +1,9 @@
 -- Plain lines and the rules of comma-separated fields.
-use Rattle.std.proofs.Common.{◌<◌, length, slice_index, arith, ◌≡◌, ◌==◌, ◌&&◌, ◌||◌, ◌++◌, ◌∷◌, ◌∙◌, [], ℕ, List, Bool, Option, Some, None, refl, sym, ap, true, false, not, append_assoc, append-nil, inl, inr}
+use Rattle.std.proofs.Common.{◌<◌, length, slice_index, arith, ◌≡◌, ◌==◌, ◌++◌, ◌∷◌, ◌∙◌, [], ℕ, List, Bool, Option, Some, None, refl, sym, ap, true, false, not, append_assoc, append-nil, inl, inr}
 use Rattle.std.specs.Prelude.{option_map}
 use Rattle.std.specs.Io.KnownBytes.{Consumes, prepend_known}
 use Rattle.std.specs.List.{list_any}
-use Rattle.std.proofs.lemmas.Bool.{cases_Bool, eqb-true}
+use Rattle.std.proofs.lemmas.Bool.{and_from, and_parts, cases_Bool, eqb-true, not-true, or_parts}
 use Rattle.std.proofs.lemmas.List.Folds.{list_any-append, list_any_at}
 use Rattle.csv.specs.Machine.{next_record}
 use Rattle.csv.specs.Reading.{default_config, strip_bom}
@@ -12,30 +12,6 @@ use Rattle.csv.specs.declared.parser.State.TheVariants as st
 use Rattle.msrp_text.specs.Plain.{EndsLine, is_mark, is_plain, split_commas, split_from}
 use Rattle.msrp_text.specs.Records.{GivesLine, csv_records, records_at, records_of}
 use Rattle.msrp_text.proofs.Remaining.{records-unfold}
-
-and-left : (a b : Bool) → (a && b) ≡ true → a ≡ true
-and-left true b e = refl
-and-left false b e = cc e
-
-and-right : (a b : Bool) → (a && b) ≡ true → b ≡ true
-and-right true b e = e
-and-right false b e = cc e
-
-and-both : (a b : Bool) → a ≡ true → b ≡ true → (a && b) ≡ true
-and-both true b e h = h
-and-both false b e h = cc e
-
-or-left : (a b : Bool) → (a || b) ≡ false → a ≡ false
-or-left false b e = refl
-or-left true b e = cc e
-
-or-right : (a b : Bool) → (a || b) ≡ false → b ≡ false
-or-right false b e = e
-or-right true b e = cc e
-
-not-false : (b : Bool) → not b ≡ true → b ≡ false
-not-false false e = refl
-not-false true e = cc e
 
 -- a byte that is no quote starts a field as it goes on in one
 start-same : (fields : List (List ℕ)) (field : List ℕ) (c : ℕ) (tail : List ℕ) → (c == 34) ≡ false
@@ -53,7 +29,7 @@ record-same fields field c tail r n = rw (r, n) refl
 start-line : (end : ℕ) (fields : List (List ℕ)) (line tail : List ℕ) → (end == 34) ≡ false → list_any is_mark line ≡ false
     → next_record default_config st.StartField fields [] (line ++ (end ∷ tail)) ≡ next_record default_config st.InField fields [] (line ++ (end ∷ tail))
 start-line end fields [] tail q e = start-same fields [] end tail q
-start-line end fields (b ∷ rest) tail q e = start-same fields [] b _ (or-left _ _ (or-left _ _ e))
+start-line end fields (b ∷ rest) tail q e = start-same fields [] b _ (or_parts _ _ (or_parts _ _ e).0).0
 
 -- a comma ends a field
 comma-ends : (fields : List (List ℕ)) (field tail : List ℕ)
@@ -78,8 +54,8 @@ byte-joins : (fields : List (List ℕ)) (field : List ℕ) (b : ℕ) (tail : Lis
     → next_record default_config st.InField fields field (b ∷ tail) ≡ next_record default_config st.InField fields (field ++ (b ∷ [])) tail
 unfolding next_record
 byte-joins fields field b tail c m =
-    let r : (b == 13) ≡ false = or-left _ _ (or-right _ _ m) in
-    let n : (b == 10) ≡ false = or-right _ _ (or-right _ _ m) in
+    let r : (b == 13) ≡ false = (or_parts _ _ (or_parts _ _ m).1).0 in
+    let n : (b == 10) ≡ false = (or_parts _ _ (or_parts _ _ m).1).1 in
     rw (c, r, n) refl
 
 -- the rest of a plain line, inside a field
@@ -91,12 +67,12 @@ line-run end after tail ends q fields field (b ∷ rest) e = elim (cases_Bool (b
   | inl comma ↦
       let same = eqb-true b 44 comma in
       rw (same) (comma-ends fields field (rest ++ (end ∷ tail))
-      ∙ start-line end (fields ++ (field ∷ [])) rest tail q (or-right _ _ e)
-      ∙ line-run end after tail ends q (fields ++ (field ∷ [])) [] rest (or-right _ _ e)
+      ∙ start-line end (fields ++ (field ∷ [])) rest tail q (or_parts _ _ e).1
+      ∙ line-run end after tail ends q (fields ++ (field ∷ [])) [] rest (or_parts _ _ e).1
       ∙ rw (append_assoc fields (field ∷ []) (split_from [] rest)) refl)
   | inr other ↦
-      rw other (byte-joins fields field b (rest ++ (end ∷ tail)) other (or-left _ _ e)
-      ∙ line-run end after tail ends q fields (field ++ (b ∷ [])) rest (or-right _ _ e))
+      rw other (byte-joins fields field b (rest ++ (end ∷ tail)) other (or_parts _ _ e).0
+      ∙ line-run end after tail ends q fields (field ++ (b ∷ [])) rest (or_parts _ _ e).1)
 ]
 
 -- a plain line at the start of a record is the next record
@@ -104,9 +80,9 @@ next-ended : (end : ℕ) (after : State) (tail : List ℕ) → Ends end after ta
     → next_record default_config st.StartRecord [] [] (line ++ (end ∷ tail)) ≡ Some (split_commas line, after, tail)
 next-ended end after tail ends q [] e = cc e
 next-ended end after tail ends q (b ∷ rest) e =
-    let plain = not-false _ (and-right _ _ e) in
-    let mark = or-left _ _ plain in
-    record-same [] [] b _ (or-left _ _ (or-right _ _ mark)) (or-right _ _ (or-right _ _ mark))
+    let plain = not-true _ (and_parts _ _ e).1 in
+    let mark = (or_parts _ _ plain).0 in
+    record-same [] [] b _ (or_parts _ _ (or_parts _ _ mark).1).0 (or_parts _ _ (or_parts _ _ mark).1).1
     ∙ start-line end [] (b ∷ rest) tail q plain
     ∙ line-run end after tail ends q [] [] (b ∷ rest) plain
 
@@ -153,12 +129,12 @@ no-bom b (c ∷ d ∷ rest) e = rw e refl
 -- ---- a line more
 -- a line that grows by a byte
 pub plain-more : (xs : List ℕ) (b : ℕ) → (0 < length xs → is_plain xs ≡ true) → (length xs ≡ 0 → (b == 239) ≡ false) → is_mark b ≡ false → is_plain (xs ++ (b ∷ [])) ≡ true
-plain-more [] b h first mark = let f = first refl in let m : list_any is_mark (b ∷ []) ≡ false = rw mark refl in and-both _ _ (ap not f) (ap not m)
+plain-more [] b h first mark = let f = first refl in let m : list_any is_mark (b ∷ []) ≡ false = rw mark refl in and_from _ _ (ap not f) (ap not m)
 plain-more (x ∷ xs) b h first mark =
     let old = h (omega arith) in
-    let none : list_any is_mark (x ∷ xs) ≡ false = not-false _ (and-right _ _ old) in
+    let none : list_any is_mark (x ∷ xs) ≡ false = not-true _ (and_parts _ _ old).1 in
     let all : list_any is_mark ((x ∷ xs) ++ (b ∷ [])) ≡ false = list_any-append is_mark (x ∷ xs) (b ∷ []) ∙ rw (none, mark) refl in
-    and-both _ _ (and-left _ _ old) (ap not all)
+    and_from _ _ (and_parts _ _ old).0 (ap not all)
 
 -- no byte of a plain line is a mark
 pub plain-byte : (line : List ℕ) (at : ℕ) → is_plain line ≡ true → at < length line → is_mark (slice_index line at) ≡ false
@@ -166,7 +142,7 @@ plain-byte [] at e h = cc e
 plain-byte (b ∷ rest) at e h = elim (cases_Bool (is_mark (slice_index (b ∷ rest) at))) [
   | inl mark ↦
       let any : list_any is_mark (b ∷ rest) ≡ true = list_any_at is_mark (b ∷ rest) at 0 h mark in
-      let none : list_any is_mark (b ∷ rest) ≡ false = not-false _ (and-right _ _ e) in
+      let none : list_any is_mark (b ∷ rest) ≡ false = not-true _ (and_parts _ _ e).1 in
       cc
   | inr other ↦ other
 ]
@@ -174,7 +150,7 @@ plain-byte (b ∷ rest) at e h = elim (cases_Bool (is_mark (slice_index (b ∷ r
 -- nor is its first that of a byte order mark
 pub plain-first : (line : List ℕ) → is_plain line ≡ true → (0 < length line) × ((slice_index line 0 == 239) ≡ false)
 plain-first [] e = cc e
-plain-first (b ∷ rest) e = (omega arith, not-false _ (and-left _ _ e))
+plain-first (b ∷ rest) e = (omega arith, not-true _ (and_parts _ _ e).0)
 
 -- the fields of a text that goes on after some bytes: these, and one that has begun
 abbrev pub IsSplit : List (List ℕ) → List ℕ → List ℕ → Type 0
@@ -196,18 +172,18 @@ split-ends fields field xs h = ap split_commas (sym (append-nil xs)) ∙ h []
 -- a text that doesn't begin as a byte order mark does
 begins : (begun : Bool) (rest : List ℕ) (b : ℕ) → not (b == 239) ≡ true → records_of begun (b ∷ rest) ≡ records_at st.StartRecord (b ∷ rest)
 begins true rest b h = refl
-begins false rest b h = rw (no-bom b rest (not-false _ h)) refl
+begins false rest b h = rw (no-bom b rest (not-true _ h)) refl
 
 -- a plain line with its end is the first record
 fed-first : (begun : Bool) (line rest : List ℕ) → is_plain line ≡ true → records_of begun ((line ++ (10 ∷ [])) ++ rest) ≡ split_commas line ∷ records_at st.StartRecord rest
 fed-first begun [] rest plain = cc plain
 fed-first begun (b ∷ line) rest plain =
-    begins begun ((line ++ (10 ∷ [])) ++ rest) b (and-left _ _ plain) ∙ ap (records_at st.StartRecord) (append_assoc (b ∷ line) (10 ∷ []) rest) ∙ records-line (b ∷ line) rest plain
+    begins begun ((line ++ (10 ∷ [])) ++ rest) b (and_parts _ _ plain).0 ∙ ap (records_at st.StartRecord) (append_assoc (b ∷ line) (10 ∷ []) rest) ∙ records-line (b ∷ line) rest plain
 
 returned-first : (begun : Bool) (line rest : List ℕ) → is_plain line ≡ true → records_of begun ((line ++ (13 ∷ 10 ∷ [])) ++ rest) ≡ split_commas line ∷ records_at st.StartRecord rest
 returned-first begun [] rest plain = cc plain
 returned-first begun (b ∷ line) rest plain =
-    begins begun ((line ++ (13 ∷ 10 ∷ [])) ++ rest) b (and-left _ _ plain) ∙ ap (records_at st.StartRecord) (append_assoc (b ∷ line) (13 ∷ 10 ∷ []) rest) ∙ records-return (b ∷ line) rest plain
+    begins begun ((line ++ (13 ∷ 10 ∷ [])) ++ rest) b (and_parts _ _ plain).0 ∙ ap (records_at st.StartRecord) (append_assoc (b ∷ line) (13 ∷ 10 ∷ []) rest) ∙ records-return (b ∷ line) rest plain
 
 ended-first : (begun : Bool) (line text rest : List ℕ) → EndsLine line text → is_plain line ≡ true → records_of begun (text ++ rest) ≡ split_commas line ∷ records_at st.StartRecord rest
 ended-first begun line text rest (inl e) plain = ap (λ (t : List ℕ). records_of begun (t ++ rest)) e ∙ fed-first begun line rest plain
