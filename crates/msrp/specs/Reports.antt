@@ -1,7 +1,7 @@
 -- What the report of a trace's text is.
-use Rattle.std.specs.Prelude.{◌≡◌, ℕ, List, Option, Ok, Err, IfOk, if◌then◌else◌, ⊤}
+use Rattle.std.specs.Prelude.{◌≡◌, ℕ, List, Option, Ok, Err, IfOk, ⊤}
 use Rattle.std.specs.declared.result.Result.{Result}
-use Rattle.msrp_plan.specs.Bytes.{Wrote, sink_failed}
+use Rattle.msrp_plan.specs.Bytes.{Wrote}
 use Rattle.msrp_plan.specs.Plan.{PlanModel}
 use Rattle.msrp_plan.specs.declared.bytes.Sink.{Sink}
 use Rattle.msrp_plan.specs.declared.faults.Fault.{Fault}
@@ -13,9 +13,8 @@ use Rattle.msrp_text.specs.declared.reading.TextError.{TextError}
 use Rattle.msrp_trace.specs.Reading.{Told, rows_of}
 use Rattle.msrp.specs.AuditText.{AuditAnswers}
 use Rattle.msrp.specs.Findings.{finding}
-use Rattle.msrp_cli.specs.Outcomes.{fault_of}
+use Rattle.msrp_cli.specs.Outcomes.{fault_of, written_status}
 use Rattle.msrp_cli.specs.declared.faults.CliFault.{CliFault}
-use Rattle.msrp_cli.specs.declared.faults.CliFault.TheVariants.{Write}
 
 -- ---- the report of the rows of a trace's text, or what is found in them
 -- the verdict in such an answer
@@ -32,7 +31,7 @@ pub record Reports (plan : PlanModel) (told : Told) (answer : Result (Result Rep
 -- ---- the answer
 -- where these are the rows and that is found in them: the report of a legal run, and else what an audit answers
 abbrev pub TellsReport : {W : Type 0} → (W → Option (List ℕ)) → PlanModel → List Row → Result (Result ⊤ Fault) CliFault → Sink W → Sink W → Result ℕ CliFault → Type 0
-TellsReport contents plan rows (Ok (Ok good)) old new result = Wrote contents old new (report_text plan (lines_of plan rows)) × (result ≡ (if sink_failed new then Err Write else Ok 0))
+TellsReport contents plan rows (Ok (Ok good)) old new result = Wrote contents old new (report_text plan (lines_of plan rows)) × (result ≡ written_status new)
 TellsReport contents plan rows (Ok (Err fault)) old new result = AuditAnswers contents (Ok (Err fault)) old new result
 TellsReport contents plan rows (Err fault) old new result = AuditAnswers contents (Err fault) old new result
 

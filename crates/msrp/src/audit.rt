@@ -26,7 +26,7 @@ use msrp_trace::{TraceError, TraceReader};
 use std::alloc::Global;
 use std::io::{Read, Write};
 
-/// The next row that a reader has left: what its core did last again, or what the auditor foresees, or else any other.
+/// The next row that a reader has left, which the auditor may foresee.
 #[inline(always)]
 pub fn next_row<T: Read>(
     auditor: &Auditor<'_>,
@@ -34,14 +34,7 @@ pub fn next_row<T: Read>(
 ) -> Result<Option<Row>, TraceError>
     ensures { (told : Told) → told_left T.remaining rows.old ≡ Some told → GivesNext told result (told_left T.remaining rows.new) }
 {
-    if let Some(row) = rows.next_alike() {
-        return Ok(Some(row));
-    }
-    let foreseen = match rows.core_ahead() {
-        Some(core) => auditor.foresee(core),
-        None => None,
-    };
-    rows.next_foreseen(foreseen)
+    rows.next_foreseen(|core| auditor.foresee(core))
 }
 
 // What is found in the rows that a reader has left. They are judged as they come, and none is read after a faulty one.

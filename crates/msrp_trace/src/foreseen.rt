@@ -110,6 +110,16 @@ impl Foreseen {
         show_line(&mut self.lines, core, plan, version, row);
     }
 
+    /// Makes the texts of a row, if it is read back from them.
+    pub(crate) fn keep(&mut self, plan: &Plan, version: TextVersion, row: &Row)
+        requires before { AreTexts version plan.now self.old }
+        ensures after { AreTexts version plan.now self.new }
+    {
+        if is_told_whole(plan, version, row) {
+            self.show(plan, version, row);
+        }
+    }
+
     /// Turns to the tick that a text begins with, guessed by its last digit: the one that is here or the next.
     #[inline(always)]
     pub(crate) fn turn_to(&mut self, text: &[u8])

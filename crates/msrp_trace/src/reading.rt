@@ -166,13 +166,7 @@ impl<'a, R: Read> TraceReader<'a, R> {
         ensures read { result ≡ Err TraceError.Read → source_failed (source_of self.new) ≡ true }
         ensures memory { result ≡ Err TraceError.Memory → source_failed (source_of self.new) ≡ false }
     {
-        let answer = match self.stage {
-            Stage::Rows => self.read_next(),
-            Stage::Ended => Ok(None),
-            Stage::Failed => Err(TraceError::Failed),
-        };
-        self.stage = Stage::after(&answer);
-        answer
+        self.next_foreseen(|_core| None)
     }
 
     /// Whether the next row is this one. Its text is compared with the bytes that come next. Where they are the same the row is
@@ -219,10 +213,10 @@ impl<'a, R: Read> TraceReader<'a, R> {
         true
     }
 
-    /// The next row, where it is the last row that was foreseen of its core again, in another tick. It is met as by
-    /// [`TraceReader::meets`]; where it isn't met nothing is taken.
+    // The next row, where it is the last row of its core whose texts were made, in another tick. It is met as by `meets`;
+    // where it isn't met nothing is taken.
     #[inline(always)]
-    pub fn next_alike(&mut self) -> Option<Row>
+    fn next_alike(&mut self) -> Option<Row>
         ensures taken { IfSome result (λ row. (told : Told) → told_left R.remaining self.old ≡ Some told → GivesNext told (Ok (Some row)) (told_left R.remaining self.new)) }
         ensures kept { result ≡ None → (told : Told) → told_left R.remaining self.old ≡ Some told → told_left R.remaining self.new ≡ Some told }
         ensures same { has_failed self.new ≡ has_failed self.old }
@@ -246,10 +240,15 @@ impl<'a, R: Read> TraceReader<'a, R> {
         None
     }
 
-    /// The next row, as [`TraceReader::next_row`] gives it. Where a row is foreseen it is looked first whether its text comes
-    /// next; in version 1 that text leaves out the ahead, and so does the answer.
+    /// The next row, as [`TraceReader::next_row`] gives it, where a caller may foresee it. It is looked first whether its core
+    /// does its last row again, and then whether the row comes that `foresee` makes of the core; in version 1 the text of that
+    /// row leaves out the ahead, and so does the answer. Any other row is read.
     #[inline(always)]
-    pub fn next_foreseen(&mut self, foreseen: Option<Row>) -> Result<Option<Row>, TraceError>
+    pub fn next_foreseen<F: FnOnce(CoreId) -> Option<Row>>(
+        &mut self,
+        foresee: F,
+    ) -> Result<Option<Row>, TraceError>
+        requires { F.IsAlwaysCallable foresee }
         ensures next { (told : Told) → told_left R.remaining self.old ≡ Some told → GivesNext told result (told_left R.remaining self.new) }
         ensures goes { OnOk result (has_failed self.new ≡ false) }
         ensures fails { OnErr result (has_failed self.new ≡ true) }
@@ -258,19 +257,22 @@ impl<'a, R: Read> TraceReader<'a, R> {
         ensures read { result ≡ Err TraceError.Read → source_failed (source_of self.new) ≡ true }
         ensures memory { result ≡ Err TraceError.Memory → source_failed (source_of self.new) ≡ false }
     {
-        if let Some(row) = foreseen {
+        if let Some(row) = self.next_alike() {
+            return Ok(Some(row));
+        }
+        if let Some(row) = self.core_ahead().and_then(foresee) {
             let row = told_in(self.version, row);
             if self.meets(&row) {
                 return Ok(Some(row));
             }
         }
-        self.next_row()
+        self.read_row()
     }
 
     /// The core of the next row, guessed from the bytes that were read ahead. Nothing rests on it: there may be none, or
     /// another.
     #[inline(always)]
-    pub fn core_ahead(&self) -> Option<CoreId> {
+    pub(crate) fn core_ahead(&self) -> Option<CoreId> {
         let last = self.foreseen.tick().len();
         match self.records.ahead().get(last + 1) {
             Some(digit) if digit.is_ascii_digit() => Some(CoreId(u32::from(*digit - b'0'))),
@@ -278,7 +280,26 @@ impl<'a, R: Read> TraceReader<'a, R> {
         }
     }
 
-    // The next row where further rows may come.
+    // The next row, read field by field.
+    fn read_row(&mut self) -> Result<Option<Row>, TraceError>
+        ensures next { (told : Told) → told_left R.remaining self.old ≡ Some told → GivesNext told result (told_left R.remaining self.new) }
+        ensures goes { OnOk result (has_failed self.new ≡ false) }
+        ensures fails { OnErr result (has_failed self.new ≡ true) }
+        ensures failed { has_failed self.old ≡ true → result ≡ Err TraceError.Failed }
+        ensures going { has_failed self.old ≡ false → ¬ (result ≡ Err TraceError.Failed) }
+        ensures read { result ≡ Err TraceError.Read → source_failed (source_of self.new) ≡ true }
+        ensures memory { result ≡ Err TraceError.Memory → source_failed (source_of self.new) ≡ false }
+    {
+        let answer = match self.stage {
+            Stage::Rows => self.read_next(),
+            Stage::Ended => Ok(None),
+            Stage::Failed => Err(TraceError::Failed),
+        };
+        self.stage = Stage::after(&answer);
+        answer
+    }
+
+    // The next row where further rows may come. Its texts are kept for the next row of its core.
     fn read_next(&mut self) -> Result<Option<Row>, TraceError>
         requires { self.old.stage ≡ Stage.Rows }
         ensures next { (told : Told) → told_left R.remaining self.old ≡ Some told → IsDue result (GivesFirstOr told.rows told.refusal result (told_left R.remaining self.new)) }
@@ -304,6 +325,7 @@ impl<'a, R: Read> TraceReader<'a, R> {
             number,
         )?;
         self.number = number;
+        self.foreseen.keep(self.plan, self.version, &row);
         Ok(Some(row))
     }
 }
