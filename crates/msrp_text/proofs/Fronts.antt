@@ -17,6 +17,22 @@ is_other byte at = (byte == 34) || ((at == 0) && (byte == 239))
 first-other : (byte at : ℕ) → ((at == 0) && (byte == 239)) ≡ false → at ≡ 0 → (byte == 239) ≡ false
 first-other byte at h zero = rw zero at h
 
+-- a byte that is none of those that end a field, a line, or the plain lines
+pub record IsInside (byte at : ℕ) : Type 0 where
+  pub feed : byte ≡ 10 → ⊥
+  pub return : byte ≡ 13 → ⊥
+  pub comma : byte ≡ 44 → ⊥
+  pub other : is_other byte at ≡ false
+
+-- one above the comma, where it isn't the first byte of a byte order mark
+pub inside-other : (byte at : ℕ) → 44 < byte → ((at == 0) && (byte == 239)) ≡ false → IsInside byte at
+inside-other byte at above first = record {
+  feed = λ e. omega (arith, above, e);
+  return = λ e. omega (arith, above, e);
+  comma = λ e. omega (arith, above, e);
+  other = or_from _ _ (ne_eqb byte 34 (λ e. omega (arith, above, e))) first;
+}
+
 -- a plain line goes on
 pub plain-on : (text : List ℕ) (at : ℕ) → at < length text → (slice_index text at ≡ 10 → ⊥) → (slice_index text at ≡ 13 → ⊥) → is_other (slice_index text at) at ≡ false
     → (0 < at → is_plain (take at text) ≡ true) → is_plain (take (at + 1) text) ≡ true

@@ -1,5 +1,5 @@
 //! Plain lines: those without quotes, whose fields stand between commas.
-ghost use Rattle.std.specs.Prelude.{◌≡◌, ◌==◌, ◌&&◌, ◌||◌, ◌≤◌, ◌<◌, ◌⊎◌, ◌++◌, ◌∷◌, ℕ, List, [], IfOk, IsSome, true, slice_index, length, take, drop};
+ghost use Rattle.std.specs.Prelude.{◌≡◌, ◌==◌, ◌&&◌, ◌||◌, ◌≤◌, ◌<◌, ◌⊎◌, ◌++◌, ◌∷◌, ℕ, List, [], IfOk, IsSome, true, false, slice_index, length, take, drop};
 ghost use Rattle.std.specs.Option.{IfSome};
 ghost use Rattle.csv.specs.Records.{fields_of, partial_of};
 ghost use Rattle.msrp_text.specs.Plain.{BeginsWith, EndsLine, IsInLine, Stands, is_plain, split_commas, split_from};
@@ -87,6 +87,14 @@ fn is_other(byte: u8, at: usize) -> bool
     byte == b'"' || (at == 0 && byte == MARK)
 }
 
+// Whether a byte at that place is one of those that are told at once to be inside a field: it comes after the comma, as most do.
+fn is_inside(byte: u8, at: usize) -> bool
+    ensures above { result ≡ true → 44 < byte }
+    ensures first { result ≡ true → ((at == 0) && (byte == 239)) ≡ false }
+{
+    byte > b',' && (at > 0 || byte != MARK)
+}
+
 /// What stands at the front of a text. The fields of a plain line are put into `row`.
 pub(crate) fn front_of(text: &[u8], row: &mut ByteRecord) -> Result<Front, AllocError>
     ensures { IfOk result (λ front. Stands text.now (fields_of row.new) front) }
@@ -95,6 +103,9 @@ pub(crate) fn front_of(text: &[u8], row: &mut ByteRecord) -> Result<Front, Alloc
     let mut start = 0;
     for at in 0..text.len().min(LONGEST) {
         let byte = text[at];
+        if is_inside(byte, at) {
+            continue;
+        }
         if byte == b'\n' || byte == b'\r' {
             return front_to(text, start, at, row);
         }
