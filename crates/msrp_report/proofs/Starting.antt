@@ -35,8 +35,9 @@ task_untold plan t x size released due going each = record {
   going = λ j there. ap (λ g. is_job g j) going;
 }
 
-pub tallies_untold : (plan : PlanModel) (t : Tallies) → IsPlan plan → t.begun ≡ 0 → length t.tasks.items ≡ length plan.tasks → ((k : ℕ) (x : TaskTally) → slice_get t.tasks.items k ≡ Some x → IsTaskTally plan [] 0 k x) → HasTallied plan [] t
-tallies_untold plan t ok begun size each = record {
+pub tallies_untold : (plan : PlanModel) (t : Tallies) → IsPlan plan → t.begun ≡ 0 → t.next ≡ 0 → length t.tasks.items ≡ length plan.tasks → ((k : ℕ) (x : TaskTally) → slice_get t.tasks.items k ≡ Some x → IsTaskTally plan [] 0 k x) → HasTallied plan [] t
+tallies_untold plan t ok begun next size each = record {
   begun = record { early = tt; least = let cores = ok.draft.cores in let z = div_below 0 plan.cores 1 (omega (arith, cores)) (omega (arith, cores)) in omega (arith, begun, z); most = omega (arith, begun) };
+  quiet = λ i l k within from. omega (arith, next);
   tallies = record { start = record { size = omega arith; each = tt }; size = size; each = λ k x has. subst (λ b. IsTaskTally plan [] b k x) (sym begun) (each k x has) };
 }

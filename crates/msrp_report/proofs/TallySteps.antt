@@ -1,5 +1,5 @@
 -- What is kept of the rows stays told by them, release by release and row by row.
-use Rattle.std.proofs.Common.{◌≡◌, ◌≢◌, ℕ, ◌<◌, ◌≤◌, ◌+◌, ◌==◌, true, false, cond, List, Option, Some, None, IfSome, IsSome, refl, ap, sym, ◌∙◌, subst, arith, inl, inr, ◌⊎◌, length, slice_get, slice_set, get_or, nat_lt, unwrap_or, eqb-true}
+use Rattle.std.proofs.Common.{◌≡◌, ◌≢◌, ℕ, ◌<◌, ◌≤◌, ◌+◌, ◌==◌, true, false, cond, min, List, Option, Some, None, IfSome, IsSome, refl, ap, sym, ◌∙◌, subst, arith, inl, inr, ◌⊎◌, length, slice_get, slice_set, get_or, nat_lt, unwrap_or, eqb-true}
 use Rattle.std.specs.List.{AllByRecursion, Contains}
 use Rattle.std.proofs.Math.Bool.{true≢false}
 use Rattle.std.proofs.lemmas.Bool.{cases_Bool, cases_lt, eqb-false, le-ltb, lt-ltb}
@@ -13,7 +13,7 @@ use Rattle.msrp_plan.specs.declared.ids.JobId.{JobId}
 use Rattle.msrp_plan.specs.declared.rows.Row.{Row}
 use Rattle.msrp_plan.proofs.Jobs.Releases.{releases_rise, task_times}
 use Rattle.msrp_audit.proofs.Standing.{get_set_same, get_set_other}
-use Rattle.msrp_report.specs.Inside.Tallies.{AreTallies, IsBlocking, IsJobTally, IsOver, IsTaskTally, begun_below, blocking_by, due_tick}
+use Rattle.msrp_report.specs.Inside.Tallies.{AreTallies, IsBlocking, IsJobTally, IsOver, IsQuiet, IsQuietTask, IsTaskTally, begun_below, blocking_by, due_tick}
 use Rattle.msrp_report.specs.declared.tallies.Blocking.{Blocking}
 use Rattle.msrp_report.specs.declared.tallies.Blocking.TheVariants.{Over, By}
 use Rattle.msrp_report.specs.declared.tallies.JobTally.{JobTally}
@@ -44,17 +44,26 @@ due_none : (plan : PlanModel) (t k : ℕ) → length (jobs_of plan t) ≤ k → 
 due_none plan t k l = ap (λ b. cond b (release plan (job_at t k)) plan.ticks) (le-ltb k (length (jobs_of plan t)) l)
 
 -- so none of the others is released before
-pub due_before : (plan : PlanModel) (rows : List Row) (begun t k : ℕ) (x : TaskTally) → IsPlan plan → t < length plan.tasks → IsTaskTally plan rows begun t x → x.released ≤ k → k < length (jobs_of plan t) → begun ≤ release plan (job_at t k)
-due_before plan rows begun t k x ok task is from l =
+due_least : (plan : PlanModel) (rows : List Row) (begun t k : ℕ) (x : TaskTally) → IsPlan plan → t < length plan.tasks → IsTaskTally plan rows begun t x → x.released ≤ k → k < length (jobs_of plan t) → x.due ≤ release plan (job_at t k)
+due_least plan rows begun t k x ok task is from l =
     let first = due_first plan t x.released (omega (arith, from, l)) in
     let due = is.due in
-    let later = is.later in
     elim (cases_lt x.released k) [
-      | inl less ↦ let rise = release_rises plan t x.released k ok task less l in omega (arith, first, due, later, rise)
+      | inl less ↦ let rise = release_rises plan t x.released k ok task less l in omega (arith, first, due, rise)
       | inr past ↦
           let same : release plan (job_at t x.released) ≡ release plan (job_at t k) = ap (λ n. release plan (job_at t n)) (omega (arith, from, past)) in
-          omega (arith, first, due, later, same)
+          omega (arith, first, due, same)
     ]
+
+pub due_before : (plan : PlanModel) (rows : List Row) (begun t k : ℕ) (x : TaskTally) → IsPlan plan → t < length plan.tasks → IsTaskTally plan rows begun t x → x.released ≤ k → k < length (jobs_of plan t) → begun ≤ release plan (job_at t k)
+due_before plan rows begun t k x ok task is from l = let least = due_least plan rows begun t k x ok task is from l in let later = is.later in omega (arith, least, later)
+
+-- no job of the task is released from the last tick that has begun to its due tick
+task_quiet : (plan : PlanModel) (rows : List Row) (begun t : ℕ) (x : TaskTally) → IsPlan plan → t < length plan.tasks → IsTaskTally plan rows begun t x → IsQuietTask plan t begun x.due
+task_quiet plan rows begun t x ok task is k l from = elim (cases_lt k x.released) [
+  | inl come ↦ let past = is.past k come in absurd (omega (arith, past, from))
+  | inr left ↦ due_least plan rows begun t k x ok task is left l
+]
 
 -- ---- a release
 -- the task's next job is released in the tick that begins
@@ -178,8 +187,11 @@ next_task plan rows begun n tasks after x are size at others is = record {
         subst (λ b. IsTaskTally plan rows b t y) (below_next begun n t ne) (are.each t y (sym (others t ne) ∙ has))
 
 -- at first none has, at last all have
+below_none : (begun t : ℕ) → begun_below begun 0 t ≡ begun
+below_none begun t = ap (λ b. cond b (begun + 1) begun) (le-ltb t 0 (omega arith))
+
 pub none_begun : (plan : PlanModel) (rows : List Row) (begun : ℕ) (tasks : List TaskTally) → AreTallies plan rows (λ _. begun) tasks → AreTallies plan rows (begun_below begun 0) tasks
-none_begun plan rows begun tasks are = record { start = are.start; size = are.size; each = λ t x has. subst (λ b. IsTaskTally plan rows b t x) (ap (λ b. cond b (begun + 1) begun) (sym (le-ltb t 0 (omega arith)))) (are.each t x has) }
+none_begun plan rows begun tasks are = record { start = are.start; size = are.size; each = λ t x has. subst (λ b. IsTaskTally plan rows b t x) (sym (below_none begun t)) (are.each t x has) }
 
 pub all_begun : (plan : PlanModel) (rows : List Row) (begun n : ℕ) (tasks : List TaskTally) → n ≡ length plan.tasks → AreTallies plan rows (begun_below begun n) tasks → AreTallies plan rows (λ _. begun + 1) tasks
 all_begun plan rows begun n tasks all are = record {
@@ -203,3 +215,36 @@ due_within plan rows begun n tasks x y are task ix iy due left =
     let within = due_job plan rows begun n x (at_task plan rows begun n tasks x are (read_task plan rows (begun_below begun n) n tasks x are task ix)) due left in
     let same = ap (λ (z : TaskTally). z.released) (same_task plan rows (begun_below begun n) n tasks x y are task ix iy) in
     omega (arith, within, same)
+
+-- ---- ticks without a release
+-- with the due tick of one task more
+pub quiet_more : (plan : PlanModel) (rows : List Row) (begun n to : ℕ) (tasks : List TaskTally) (x : TaskTally) → IsPlan plan → n < length plan.tasks → AreTallies plan rows (begun_below begun (n + 1)) tasks → x ≡ get_or tasks n x → IsQuiet plan n (begun + 1) to → IsQuiet plan (n + 1) (begun + 1) (min to x.due)
+quiet_more plan rows begun n to tasks x ok task are is quiet t l k within from =
+    let here = are.each n x (read_task plan rows (begun_below begun (n + 1)) n tasks x are task is) in
+    elim (cases_lt t n) [
+      | inl below ↦ let far = quiet t below k within from in omega (arith, far)
+      | inr past ↦
+          let own : IsQuietTask plan n (begun + 1) x.due = task_quiet plan rows (begun + 1) n x ok task (subst (λ b. IsTaskTally plan rows b n x) (below_then begun n) here) in
+          let far = subst (λ m. IsQuietTask plan m (begun + 1) x.due) (let e : n ≡ t = omega (arith, l, past) in e) own k within from in
+          omega (arith, far)
+    ]
+
+-- in a tick before the next release all tasks wait
+quiet_waits : (plan : PlanModel) (rows : List Row) (begun to t : ℕ) (x : TaskTally) → IsQuietTask plan t begun to → begun < to → begun < plan.ticks → IsTaskTally plan rows begun t x → begun < x.due
+quiet_waits plan rows begun to t x quiet ahead left is =
+    let due = is.due in
+    let later = is.later in
+    elim (cases_lt x.released (length (jobs_of plan t))) [
+      | inl l ↦ let first = due_first plan t x.released l in let far = quiet x.released l (omega (arith, first, due, later)) in omega (arith, first, due, far, ahead)
+      | inr past ↦ let none = due_none plan t x.released past in omega (arith, none, due, left)
+    ]
+
+pub all_wait : (plan : PlanModel) (rows : List Row) (begun to : ℕ) (tasks : List TaskTally) → IsQuiet plan (length plan.tasks) begun to → begun < to → begun < plan.ticks → AreTallies plan rows (begun_below begun 0) tasks → AreTallies plan rows (λ _. begun + 1) tasks
+all_wait plan rows begun to tasks quiet ahead left are = record {
+  start = are.start;
+  size = are.size;
+  each = λ t x has.
+      let is = subst (λ b. IsTaskTally plan rows b t x) (below_none begun t) (are.each t x has) in
+      let l : t < length plan.tasks = (let w = slice_get_within tasks t x has in let size = are.size in omega (arith, w, size)) in
+      task_waits plan rows begun t x is (quiet_waits plan rows begun to t x (quiet t l) ahead left is);
+}

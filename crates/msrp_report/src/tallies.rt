@@ -51,6 +51,8 @@ pub(crate) struct Tallies {
     pub(crate) tasks: Vec<TaskTally>,
     /// How many ticks have begun.
     pub(crate) begun: u32,
+    /// No further job is released before this tick.
+    pub(crate) next: u64,
 }
 
 impl Tallies {

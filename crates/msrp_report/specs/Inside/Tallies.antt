@@ -80,9 +80,17 @@ pub record HaveBegun (plan : PlanModel) (rows : List Row) (begun : ℕ) : Type 0
   pub least : length rows / plan.cores ≤ begun
   pub most : begun ≤ length rows / plan.cores + 1
 
+-- no job of a task is released from one tick on and before another; the same of the first n tasks
+abbrev pub IsQuietTask : PlanModel → ℕ → ℕ → ℕ → Type 0
+IsQuietTask plan t from to = (k : ℕ) → k < length (jobs_of plan t) → from ≤ release plan (job_at t k) → to ≤ release plan (job_at t k)
+
+abbrev pub IsQuiet : PlanModel → ℕ → ℕ → ℕ → Type 0
+IsQuiet plan n from to = (t : ℕ) → t < n → IsQuietTask plan t from to
+
 -- what is kept is what these rows tell
 pub record HasTallied (plan : PlanModel) (rows : List Row) (t : Tallies) : Type 0 where
   pub begun : HaveBegun plan rows t.begun
+  pub quiet : IsQuiet plan (length plan.tasks) t.begun t.next
   pub tallies : AreTallies plan rows (λ _. t.begun) t.tasks.items
 
 -- ---- one job
@@ -157,6 +165,7 @@ Counts plan r t = (rows : List Row) × AreTallies plan rows (λ _. t.begun) t.ta
 -- they are told with the row's tick begun
 pub record StandsAt (plan : PlanModel) (rows : List Row) (r : Row) (t : Tallies) : Type 0 where
   pub early : AllByRecursion (λ x. x.tick < t.begun) rows
+  pub quiet : IsQuiet plan (length plan.tasks) t.begun t.next
   pub tallies : AreTallies plan rows (λ _. t.begun) t.tasks.items
   pub next : IsNextOf plan rows r t.begun
 

@@ -22,6 +22,7 @@ impl Tallies {
         requires told { Counts plan.now row self.old }
         requires job { row.job ≡ Some job }
         ensures begun { self.new.begun ≡ self.old.begun }
+        ensures next { self.new.next ≡ self.old.next }
         ensures told { (rows : List TraceRow) → AreTallies plan.now rows (λ _. self.old.begun) self.old.tasks.items → IsNextOf plan.now rows row self.old.begun → AreTallies plan.now (rows ++ row ∷ []) (λ _. self.old.begun) self.new.tasks.items }
     {
         let blocked = self.blocked(job);

@@ -7,7 +7,7 @@ ghost use Rattle.msrp_plan.specs.Blocking.{first_later};
 ghost use Rattle.msrp_plan.specs.Jobs.{jobs};
 ghost use Rattle.msrp_plan.specs.WellFormed.{IsPlan};
 ghost use Rattle.msrp_plan.specs.declared.rows.Row.{Row as TraceRow};
-ghost use Rattle.msrp_report.specs.Inside.Tallies.{AreTallies, HasReleased, IsFirstOf, IsKnown, ReleasesNext, ToldBy, begun_below, blocking_by, due_tick};
+ghost use Rattle.msrp_report.specs.Inside.Tallies.{AreTallies, HasReleased, IsFirstOf, IsKnown, IsQuiet, ReleasesNext, ToldBy, begun_below, blocking_by, due_tick};
 
 use super::{Blocking, Tallies};
 use msrp_plan::{JobId, Plan, TaskId};
@@ -119,15 +119,34 @@ impl Tallies {
         tally.due = due_tick(plan, task, k + 1);
     }
 
-    /// Begins the next tick.
-    pub(super) fn begin(&mut self, plan: &Plan)
+    // Releases each job that is released in the tick that begins, and looks for the tick of the next release.
+    fn release_all(&mut self, plan: &Plan)
         requires told { ReleasesNext plan.now 0 self.old }
         requires left { self.old.begun < plan.now.ticks }
-        ensures begun { self.new.begun ≡ self.old.begun + 1 }
-        ensures told { (rows : List TraceRow) → HasReleased plan.now rows 0 self.old → AreTallies plan.now rows (λ _. self.new.begun) self.new.tasks.items }
+        ensures begun { self.new.begun ≡ self.old.begun }
+        ensures next { IsQuiet plan.now (length plan.now.tasks) (self.old.begun + 1) self.new.next }
+        ensures told { (rows : List TraceRow) → HasReleased plan.now rows 0 self.old → HasReleased plan.now rows (length plan.now.tasks) self.new }
     {
+        let mut next = u64::from(plan.ticks());
         for task in 0..plan.tasks() {
             self.release(plan, TaskId(task));
+            next = next.min(self.tasks[task as usize].due);
+        }
+        self.next = next;
+    }
+
+    /// Begins the next tick. Where no job is released in it, no task is looked at.
+    pub(super) fn begin(&mut self, plan: &Plan)
+        requires plan { IsPlan plan.now }
+        requires told { ReleasesNext plan.now 0 self.old }
+        requires next { IsQuiet plan.now (length plan.now.tasks) self.old.begun self.old.next }
+        requires left { self.old.begun < plan.now.ticks }
+        ensures begun { self.new.begun ≡ self.old.begun + 1 }
+        ensures next { IsQuiet plan.now (length plan.now.tasks) self.new.begun self.new.next }
+        ensures told { (rows : List TraceRow) → HasReleased plan.now rows 0 self.old → AreTallies plan.now rows (λ _. self.new.begun) self.new.tasks.items }
+    {
+        if self.next <= u64::from(self.begun) {
+            self.release_all(plan);
         }
         self.begun += 1;
     }

@@ -42,6 +42,10 @@ impl Tallies {
         for task in 0..plan.tasks() {
             tasks.push_reserved(untold(alloc, plan, TaskId(task))?);
         }
-        Ok(Tallies { tasks, begun: 0 })
+        Ok(Tallies {
+            tasks,
+            begun: 0,
+            next: 0,
+        })
     }
 }

@@ -22,4 +22,4 @@ pub returns : goal.returns
 returns c =
     let i = c.loop-task.invariant in
     let all : c.loop-task.task ≡ length c.args.plan.now.tasks = (let t = c.tasks-task-end.ensures.value in let past = c.loop-task-test.false in let end = c.loop-task.auto.task-end in omega (arith, t, past, end)) in
-    tallies_untold c.args.plan.now _ c.tasks-task-end.ensures.plan refl (i.size ∙ all) i.each
+    tallies_untold c.args.plan.now _ c.tasks-task-end.ensures.plan refl refl (i.size ∙ all) i.each
