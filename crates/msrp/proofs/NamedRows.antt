@@ -1,12 +1,11 @@
 -- The newest row of a simulation names what the plan has; the text of one row more.
-use Rattle.std.proofs.Common.{◌≡◌, ◌+◌, true, List, [], ◌∷◌, ◌++◌, ap, sym, ◌∙◌, append-nil}
+use Rattle.std.proofs.Common.{◌≡◌, ◌+◌, true, List, [], ◌∷◌, ◌++◌, ap, sym, ◌∙◌, subst, append-nil}
 use Rattle.msrp_plan.specs.Plan.{PlanModel}
-use Rattle.msrp_plan.specs.Logs.{IsDueTurn, log_of}
 use Rattle.msrp_plan.specs.WellFormed.{IsPlan}
 use Rattle.msrp_plan.specs.declared.rows.Row.{Row}
 use Rattle.msrp_plan.specs.declared.rows.TextVersion.{TextVersion}
-use Rattle.msrp_plan.specs.Runs.{IsLegal, IsRun}
-use Rattle.msrp_plan.proofs.Legality.LegalRows.{IsTurn, legal_turn, turn_of}
+use Rattle.msrp_plan.specs.Runs.{IsLegal, IsRun, IsRunStart}
+use Rattle.msrp_plan.proofs.Legality.LegalRows.{legal_turn}
 use Rattle.msrp_plan.proofs.Lists.Prefixes.{each_at}
 use Rattle.msrp_sim.specs.Simulated.{SimModel, HasMade}
 use Rattle.msrp_trace.specs.TraceText.{is_named, row_text, trace_text}
@@ -16,9 +15,8 @@ use Rattle.msrp_trace.proofs.Records.{trace-more}
 -- the newest row of a simulation
 pub made_named : (s : SimModel) (rows : List Row) (r : Row) → IsPlan s.plan → HasMade s (rows ++ r ∷ []) → is_named s.plan r ≡ true
 made_named s rows r ok made =
-    let due : IsDueTurn s.plan rows r = each_at (IsDueTurn s.plan) [] rows r [] made.left.turns in
-    let turn : IsTurn s.plan (log_of r.core.0 rows) r = turn_of s.plan (log_of r.core.0 rows) r due.turn.own due.turn.chosen due.turn.action in
-    turn_named s.plan (log_of r.core.0 rows) r ok turn
+    let start : IsRunStart s.plan (rows ++ r ∷ []) = subst (λ p. IsRunStart p (rows ++ r ∷ [])) made.plan made.stands.start in
+    turn_named s.plan rows r ok (legal_turn s.plan rows r (each_at (IsLegal s.plan) [] rows r [] start.each))
 
 -- a row of a run
 pub run_row_named : (plan : PlanModel) (rows rest : List Row) (r : Row) → IsPlan plan → IsRun plan (rows ++ r ∷ rest) → is_named plan r ≡ true

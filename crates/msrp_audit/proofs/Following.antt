@@ -31,11 +31,12 @@ use Rattle.msrp_core.specs.Ports.{PortModel}
 use Rattle.msrp_core.specs.declared.port.PortCall.{PortCall}
 use Rattle.msrp_audit.specs.Foresight.{same_action, does_alike, unlike_turn}
 use Rattle.msrp_audit.specs.Inside.Pieces.{broken_action}
-use Rattle.msrp_audit.specs.Inside.Replies.{is_yes, is_answered, as_calls}
+use Rattle.msrp_sim.specs.TurnPorts.{as_calls}
+use Rattle.msrp_audit.specs.Inside.Replies.{is_yes, is_answered}
 use Rattle.msrp_audit.proofs.Foresight.{chosen_alike, action_alike}
 use Rattle.msrp_audit.proofs.Judging.{reached}
-use Rattle.msrp_audit.proofs.Standing.{stands_as}
-use Rattle.msrp_audit.proofs.Turns.{local_unit}
+use Rattle.msrp_sim.proofs.Standing.{stands_as}
+use Rattle.msrp_sim.proofs.Turns.{local_unit}
 
 -- ---- the same action has the same answer
 -- a request or a poll

@@ -30,14 +30,14 @@ use Rattle.msrp_plan.proofs.Legality.LegalRows.{due, legal_due, same_res_is, sam
 use Rattle.msrp_plan.proofs.Scheduling.NextRow.{next_row}
 use Rattle.msrp_plan.proofs.Runs.Verdicts.{fault_push, fault_stays, unbroken_is_legal}
 use Rattle.msrp_core.specs.Machine.{MachineModel}
-use Rattle.msrp_audit.specs.Cores.{CoresModel, StandFor, IsDueAfter, IsNextRow}
+use Rattle.msrp_sim.specs.Cores.{CoresModel, StandFor, IsDueAfter, IsNextRow}
 use Rattle.msrp_audit.specs.Audits.{AuditorModel, HasFed}
 use Rattle.msrp_plan.specs.Actions.{same_res}
 use Rattle.msrp_plan.specs.Runs.{same_choice}
 use Rattle.msrp_plan.specs.declared.faults.Rule.TheVariants.{A3, A4, A5}
 use Rattle.std.proofs.Common.{IfSome}
 use Rattle.std.proofs.lemmas.Bool.{and_parts}
-use Rattle.msrp_audit.specs.Cores.{IsAs}
+use Rattle.msrp_sim.specs.Cores.{IsAs}
 use Rattle.msrp_audit.specs.Foresight.{unlike, does_alike, replied_alike, same_action, same_kind, same_ahead}
 use Rattle.msrp_audit.proofs.Foresight.{broken_is, same_kind_is}
 

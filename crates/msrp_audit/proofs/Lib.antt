@@ -1,8 +1,4 @@
 pub mod Foresight
-pub mod Turns
-pub mod Standing
-pub mod Keeping
-pub mod Starting
 pub mod Judging
 pub mod Scanning
 pub mod Merging

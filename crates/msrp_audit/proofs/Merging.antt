@@ -29,7 +29,7 @@ use Rattle.msrp_audit.specs.declared.pieces.Piece.TheVariants.{Turns, Core, Reso
 use Rattle.std.proofs.lemmas.Option.{same_Some}
 use Rattle.msrp_plan.proofs.Levels.GlobalUse.{undeclared_local}
 use Rattle.msrp_audit.proofs.Scanning.{split_length, start_at, IsSound}
-use Rattle.msrp_audit.proofs.Turns.{local_turn, counts_plain, both_pass}
+use Rattle.msrp_sim.proofs.Turns.{local_turn, counts_plain, both_pass}
 
 -- ---- a piece finds what a row breaks
 -- the lowest rule, by the five tests

@@ -5,7 +5,7 @@ use Rattle.msrp_plan.specs.Verdict.{fault_in}
 use Rattle.msrp_plan.specs.WellFormed.{IsPlan}
 use Rattle.msrp_plan.specs.declared.faults.Fault.{Fault}
 use Rattle.msrp_plan.specs.declared.rows.Row.{Row}
-use Rattle.msrp_audit.specs.Cores.{CoresModel, StandFor}
+use Rattle.msrp_sim.specs.Cores.{CoresModel, StandFor}
 use Rattle.msrp_audit.specs.declared.auditor.Auditor.TheInside.{Inside}
 
 -- the cores as the rows without a fault leave them, how many these are, and the fault behind them, if one came

@@ -5,13 +5,13 @@ ghost use Rattle.msrp_plan.specs.Runs.{is_of_core, is_in_turn};
 ghost use Rattle.msrp_plan.specs.Verdict.{fault_in, verdict, refused};
 ghost use Rattle.msrp_plan.specs.declared.faults.Fault.{Fault as TraceFault};
 ghost use Rattle.msrp_plan.specs.declared.rows.Row.{Row as TraceRow};
-ghost use Rattle.msrp_audit.specs.Cores.{StandFor};
+ghost use Rattle.msrp_sim.specs.Cores.{StandFor};
 ghost use Rattle.msrp_audit.specs.Audits.{HasFed, answer_of};
 
 use crate::comparing::unlike_due;
-use crate::cores::Cores;
 use msrp_levels::Levels;
 use msrp_plan::{CoreId, Fault, Memory, Plan, Row, Rule};
+use msrp_sim::Cores;
 use std::alloc::Global;
 use std::marker::Model;
 

@@ -4,7 +4,6 @@
 mod auditor;
 mod blocks;
 mod comparing;
-mod cores;
 mod followed;
 mod parallel;
 mod pieces;

@@ -6,7 +6,8 @@ ghost use Rattle.msrp_plan.specs.declared.rows.Row.{Row as TraceRow};
 ghost use Rattle.msrp_core.specs.Machine.{StandsAfter};
 ghost use Rattle.msrp_core.specs.Ports.{Adds, claim_in};
 ghost use Rattle.msrp_audit.specs.Foresight.{same_action};
-ghost use Rattle.msrp_audit.specs.Inside.Replies.{is_yes, is_answered, port_after};
+ghost use Rattle.msrp_sim.specs.TurnPorts.{port_after};
+ghost use Rattle.msrp_audit.specs.Inside.Replies.{is_yes, is_answered};
 
 use msrp_core::{Machine, Port, PortCall, Reply};
 use msrp_plan::{Call, CoreId, Kind, Plan, ResId, Row};

@@ -23,7 +23,7 @@ use Rattle.msrp_plan.proofs.Lists.AnyAll.{all_push, all_weaker}
 use Rattle.msrp_plan.proofs.Lists.Members.{kept_by}
 use Rattle.msrp_plan.proofs.Lists.Prefixes.{each_at, each_before}
 use Rattle.msrp_plan.proofs.Scheduling.Released.{runs_released}
-use Rattle.msrp_audit.proofs.Standing.{get_set_same, get_set_other}
+use Rattle.msrp_sim.proofs.Standing.{get_set_same, get_set_other}
 use Rattle.msrp_report.specs.Inside.Counts.{counted, count_of}
 use Rattle.msrp_report.specs.Inside.Tallies.{AreTallies, HaveBegun, IsJobTally, IsNextOf, IsTaskTally, ToldOf, due_tick, is_going}
 use Rattle.msrp_report.specs.declared.counts.JobCount.{JobCount}

@@ -12,7 +12,7 @@ use Rattle.msrp_plan.specs.WellFormed.{IsPlan}
 use Rattle.msrp_plan.specs.declared.ids.JobId.{JobId}
 use Rattle.msrp_plan.specs.declared.rows.Row.{Row}
 use Rattle.msrp_plan.proofs.Jobs.Releases.{releases_rise, task_times}
-use Rattle.msrp_audit.proofs.Standing.{get_set_same, get_set_other}
+use Rattle.msrp_sim.proofs.Standing.{get_set_same, get_set_other}
 use Rattle.msrp_report.specs.Inside.Tallies.{AreTallies, IsBlocking, IsJobTally, IsOver, IsQuiet, IsQuietTask, IsTaskTally, begun_below, blocking_by, due_tick}
 use Rattle.msrp_report.specs.declared.tallies.Blocking.{Blocking}
 use Rattle.msrp_report.specs.declared.tallies.Blocking.TheVariants.{Over, By}

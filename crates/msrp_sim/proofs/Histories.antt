@@ -16,6 +16,7 @@ use Rattle.msrp_plan.specs.declared.units.Phase.TheVariants.{Free}
 use Rattle.msrp_core.specs.Ports.{core_call, res_call, calls_of, calls_on, claim_in}
 use Rattle.msrp_core.specs.declared.port.PortCall.{PortCall}
 use Rattle.msrp_sim.specs.Served.{AreFifo, lock_after_calls, Stance, Out, Waits, Holds, IsStance, stance_of, IsClaim, IsTicketed}
+use Rattle.msrp_sim.specs.Serving.{MovesBy}
 use Rattle.msrp_sim.proofs.Queues.{among_at, place_of, first_at, at_first, first_among, one_first, among_push, among_pushed, among_last, first_push, first_pushed, place_pushed, place_rest, among_rest, rest_among, length_rest}
 use Rattle.msrp_plan.proofs.Queues.LockHistories.{legal_push}
 
@@ -123,38 +124,42 @@ stance_there claim res (Poll false) g off turn = refl
 stance_there claim res Leave g off turn = sym (ap (stance_of g) turn ∙ ap (λ b. cond b Holds Out) off)
 
 -- ---- what the cores hold or await after one call more
-module _ (calls : List PortCall) (e : PortCall) (fifo : AreFifo calls) (answers : Answers (lock_after_calls calls e.res.0) e.core.0 e.call) (turn : IsInTurn (claim_in e.core.0 calls) e.res e.call) (once : IsOnce (lock_after_calls calls e.res.0).queue e.core.0) where
-  own_here : (g : ℕ) → e.res.0 ≡ g → IsStance (lock_after_calls (calls ++ e ∷ []) g) e.core.0 (stance_of g (claim_in e.core.0 (calls ++ e ∷ [])))
+module _ (e : PortCall) (locks after : ℕ → FifoLock) (claims newer : ℕ → Phase) (moves : MovesBy e locks after claims newer) (answers : Answers (locks e.res.0) e.core.0 e.call) (turn : IsInTurn (claims e.core.0) e.res e.call) (once : IsOnce (locks e.res.0).queue e.core.0) where
+  own_here : (g : ℕ) → e.res.0 ≡ g → IsStance (after g) e.core.0 (stance_of g (newer e.core.0))
   own_here g at =
-      let s : stance_of g (claim_in e.core.0 (calls ++ e ∷ [])) ≡ stance_after e.call = ap (stance_of g) (claim_own calls e e.core.0 refl) ∙ subst (λ h. stance_of h (claim_with (claim_in e.core.0 calls) e.res e.call) ≡ stance_after e.call) at (stance_here (claim_in e.core.0 calls) e.res e.call turn) in
-      subst (IsStance (lock_after_calls (calls ++ e ∷ []) g) e.core.0) (sym s)
-      (subst (λ l. IsStance l e.core.0 (stance_after e.call)) (sym (lock_own calls e g at))
-      (subst (λ h. IsStance (lock_after (lock_after_calls calls h) e.core.0 e.call) e.core.0 (stance_after e.call)) at (stance_own (lock_after_calls calls e.res.0) e.core.0 e.call once answers)))
+      let s : stance_of g (newer e.core.0) ≡ stance_after e.call = ap (stance_of g) moves.claim ∙ subst (λ h. stance_of h (claim_with (claims e.core.0) e.res e.call) ≡ stance_after e.call) at (stance_here (claims e.core.0) e.res e.call turn) in
+      subst (IsStance (after g) e.core.0) (sym s)
+      (subst (λ h. IsStance (after h) e.core.0 (stance_after e.call)) at (subst (λ l. IsStance l e.core.0 (stance_after e.call)) (sym moves.lock) (stance_own (locks e.res.0) e.core.0 e.call once answers)))
 
-  own_there : (g : ℕ) → (e.res.0 == g) ≡ false → IsClaim (lock_after_calls calls) e.core.0 (claim_in e.core.0 calls) → IsStance (lock_after_calls (calls ++ e ∷ []) g) e.core.0 (stance_of g (claim_in e.core.0 (calls ++ e ∷ [])))
+  own_there : (g : ℕ) → (e.res.0 == g) ≡ false → IsClaim locks e.core.0 (claims e.core.0) → IsStance (after g) e.core.0 (stance_of g (newer e.core.0))
   own_there g off old =
-      let s : stance_of g (claim_in e.core.0 (calls ++ e ∷ [])) ≡ stance_of g (claim_in e.core.0 calls) = ap (stance_of g) (claim_own calls e e.core.0 refl) ∙ stance_there (claim_in e.core.0 calls) e.res e.call g off turn in
-      subst (IsStance (lock_after_calls (calls ++ e ∷ []) g) e.core.0) (sym s)
-      (subst (λ l. IsStance l e.core.0 (stance_of g (claim_in e.core.0 calls))) (sym (lock_other calls e g off)) (old g))
+      let s : stance_of g (newer e.core.0) ≡ stance_of g (claims e.core.0) = ap (stance_of g) moves.claim ∙ stance_there (claims e.core.0) e.res e.call g off turn in
+      subst (IsStance (after g) e.core.0) (sym s)
+      (subst (λ l. IsStance l e.core.0 (stance_of g (claims e.core.0))) (sym (moves.other_locks g off)) (old g))
 
-  other_stands : (c g : ℕ) → (e.core.0 == c) ≡ false → (b : Bool) → (e.res.0 == g) ≡ b → IsClaim (lock_after_calls calls) c (claim_in c calls) → IsStance (lock_after_calls (calls ++ e ∷ []) g) c (stance_of g (claim_in c (calls ++ e ∷ [])))
+  other_stands : (c g : ℕ) → (e.core.0 == c) ≡ false → (b : Bool) → (e.res.0 == g) ≡ b → IsClaim locks c (claims c) → IsStance (after g) c (stance_of g (newer c))
   other_stands c g ne true on old =
       let at : e.res.0 ≡ g = eqb-true e.res.0 g on in
-      subst (λ p. IsStance (lock_after_calls (calls ++ e ∷ []) g) c (stance_of g p)) (sym (claim_other calls e c ne))
-      (subst (λ l. IsStance l c (stance_of g (claim_in c calls))) (sym (lock_own calls e g at))
-      (stance_other (lock_after_calls calls g) e.core.0 c e.call (stance_of g (claim_in c calls)) (eqb-false e.core.0 c ne) (subst (λ h. Answers (lock_after_calls calls h) e.core.0 e.call) at answers) (old g)))
+      subst (λ p. IsStance (after g) c (stance_of g p)) (sym (moves.other_claims c ne))
+      (subst (λ h. IsStance (after h) c (stance_of h (claims c))) at
+      (subst (λ l. IsStance l c (stance_of e.res.0 (claims c))) (sym moves.lock)
+      (stance_other (locks e.res.0) e.core.0 c e.call (stance_of e.res.0 (claims c)) (eqb-false e.core.0 c ne) answers (old e.res.0))))
   other_stands c g ne false off old =
-      subst (λ p. IsStance (lock_after_calls (calls ++ e ∷ []) g) c (stance_of g p)) (sym (claim_other calls e c ne))
-      (subst (λ l. IsStance l c (stance_of g (claim_in c calls))) (sym (lock_other calls e g off)) (old g))
+      subst (λ p. IsStance (after g) c (stance_of g p)) (sym (moves.other_claims c ne))
+      (subst (λ l. IsStance l c (stance_of g (claims c))) (sym (moves.other_locks g off)) (old g))
 
-  pub claims_push : ((c : ℕ) → IsClaim (lock_after_calls calls) c (claim_in c calls)) → (c : ℕ) → IsClaim (lock_after_calls (calls ++ e ∷ [])) c (claim_in c (calls ++ e ∷ []))
+  pub claims_push : ((c : ℕ) → IsClaim locks c (claims c)) → (c : ℕ) → IsClaim after c (newer c)
   claims_push old c g = elim (cases_Bool (e.core.0 == c)) [
     | inl mine ↦
         let at : e.core.0 ≡ c = eqb-true e.core.0 c mine in
-        subst (λ d. IsStance (lock_after_calls (calls ++ e ∷ []) g) d (stance_of g (claim_in d (calls ++ e ∷ [])))) at
+        subst (λ d. IsStance (after g) d (stance_of g (newer d))) at
         (elim (cases_Bool (e.res.0 == g)) [ inl on ↦ own_here g (eqb-true e.res.0 g on) | inr off ↦ own_there g off (old e.core.0) ])
     | inr ne ↦ other_stands c g ne (e.res.0 == g) refl (old c)
   ]
+
+-- the locks and claims that calls leave move so
+pub calls_move : (calls : List PortCall) (e : PortCall) → MovesBy e (lock_after_calls calls) (lock_after_calls (calls ++ e ∷ [])) (λ c. claim_in c calls) (λ c. claim_in c (calls ++ e ∷ []))
+calls_move calls e = record { lock = lock_own calls e e.res.0 refl; other_locks = λ g off. lock_other calls e g off; claim = claim_own calls e e.core.0 refl; other_claims = λ c off. claim_other calls e c off }
 
 -- ---- tickets
 -- a core stands at one place, since it has one ticket

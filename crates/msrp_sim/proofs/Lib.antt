@@ -1,7 +1,11 @@
 pub mod Queues
 pub mod Histories
 pub mod Serving
+pub mod TurnPorts
+pub mod Turns
+pub mod Standing
+pub mod Keeping
+pub mod Starting
 pub mod Rounds
 pub mod Given
-pub mod Turns
 pub mod NextTurn

@@ -1,25 +1,29 @@
--- The next turn of a simulation: its machine can have it, and what the machine promises goes on the run.
-use Rattle.std.proofs.Common.{◌≡◌, ℕ, ◌+◌, ◌*◌, ◌/◌, ◌<◌, true, Some, List, [], ◌∷◌, ◌++◌, ap, sym, ◌∙◌, subst, arith, length, get_or, set, take}
+-- The next turn of a simulation: its core is due, and what the cores promise of it goes on the run.
+use Rattle.std.proofs.Common.{◌≡◌, ℕ, ◌+◌, ◌*◌, ◌/◌, ◌<◌, true, ◌&&◌, Some, IfSome, Option, None, List, [], ◌∷◌, ◌++◌, ap, sym, ◌∙◌, subst, arith, length, get_or, take, slice_get, refl}
 use Rattle.std.proofs.Math.Seq.{take-length}
+use Rattle.std.proofs.lemmas.Bool.{and_from}
 use Rattle.std.proofs.lemmas.List.{length-take-le, map-append, length-map}
+use Rattle.std.proofs.lemmas.List.Folds.{list_all-append}
 use Rattle.msrp_plan.specs.Plan.{PlanModel}
-use Rattle.msrp_plan.specs.Levels.{is_global}
+use Rattle.msrp_plan.specs.Aheads.{carries_its_ahead, carries_ahead}
 use Rattle.msrp_plan.specs.Logs.{core_order, log_of}
-use Rattle.msrp_plan.specs.Runs.{IsCoreTurn}
+use Rattle.msrp_plan.specs.Runs.{IsLegal, IsRunStart}
 use Rattle.msrp_plan.specs.Scheduling.{IsNextCore, IsOrder}
-use Rattle.msrp_plan.specs.WellFormed.{IsPlan}
-use Rattle.msrp_plan.specs.declared.ids.ResId.{ResId}
 use Rattle.msrp_plan.specs.declared.rows.Row.{Row}
-use Rattle.msrp_plan.proofs.Runs.RoundRobin.{due_rows_legal}
 use Rattle.msrp_plan.proofs.Scheduling.Orders.{turns_of}
-use Rattle.msrp_core.specs.Machine.{MachineModel, StandsAfter}
-use Rattle.msrp_core.specs.Ports.{claim_in}
-use Rattle.msrp_core.specs.CoreJobs.{IsQuiet, MakesCall}
-use Rattle.msrp_sim.specs.Served.{FifoModel, AreFifo, as_port}
-use Rattle.msrp_sim.specs.Simulated.{SimModel, HasMade, IsMachineAfter, IsLeftBy, IsRunIn}
+use Rattle.msrp_core.specs.Machine.{MachineModel}
+use Rattle.msrp_sim.specs.Cores.{CoresModel, StandFor, IsDueAfter, IsNextRow, IsAs}
+use Rattle.msrp_sim.specs.Simulated.{SimModel, HasMade, IsRunIn}
 use Rattle.msrp_sim.proofs.Given.{next_in, take_more}
 use Rattle.msrp_sim.proofs.Rounds.{before_last}
-use Rattle.msrp_sim.proofs.Turns.{Step, step_of, left_by_turn}
+
+-- a row is as itself
+told : (o : Option ℕ) → IfSome o (λ n. o ≡ Some n)
+told None = tt
+told (Some n) = refl
+
+as_itself : (r : Row) → IsAs r r
+as_itself r = record { core = refl; kind = refl; job = refl; res = refl; ahead = told r.ahead }
 
 -- ---- the core that has it
 module _ (s : SimModel) (rows : List Row) (c : ℕ) (order : IsOrder s.plan s.order) (l : s.turn < s.plan.cores * s.plan.ticks) (at : c ≡ get_or s.order s.turn 0) (made : HasMade s rows) where
@@ -29,83 +33,54 @@ module _ (s : SimModel) (rows : List Row) (c : ℕ) (order : IsOrder s.plan s.or
   next_core : IsNextCore s.plan (core_order rows) c
   next_core = subst (λ k. IsNextCore s.plan (core_order rows) k) (sym at) (subst (λ p. IsNextCore s.plan p (get_or s.order s.turn 0)) (sym made.order) (next_in s.plan s.order s.turn order within))
 
-  pub low_core : c < s.plan.cores
-  low_core = next_core.core
-
-  pub within_machines : c < length s.machines
-  within_machines = let a = low_core in let e = made.left.after.size in omega (arith, a, e)
-
-  machine_at : (d : MachineModel) → IsMachineAfter s.plan rows s.port c (get_or s.machines c d)
-  machine_at d = made.left.after.each c d low_core
-
   made_length : length (core_order rows) ≡ s.turn
   made_length = ap length made.order ∙ length-take-le s.turn s.order (let w = within in omega (arith, w))
 
+  rows_length : length rows ≡ s.turn
+  rows_length = sym (length-map rows (λ (r : Row). r.core.0)) ∙ made_length
+
+  turns_due : length (log_of c rows) ≡ length rows / s.plan.cores
+  turns_due = sym (turns_of rows c) ∙ (next_core.due ∙ ap (λ n. n / s.plan.cores) (length-map rows (λ (r : Row). r.core.0)))
+
+  pub low_core : c < s.cores.plan.cores
+  low_core = subst (λ (p : PlanModel). c < p.cores) (sym made.plan) next_core.core
+
+  -- it is due
+  pub is_due : IsDueAfter s.cores.plan rows c
+  is_due = subst (λ p. IsDueAfter p rows c) (sym made.plan) (record { core = next_core.core; left = let e = rows_length in omega (arith, e, l); due = turns_due })
+
   -- a tick is left to it
-  log_left : length (log_of c rows) < s.plan.ticks
-  log_left =
-      let a : length (log_of c rows) ≡ s.turn / s.plan.cores = sym (turns_of rows c) ∙ (next_core.due ∙ ap (λ n. n / s.plan.cores) made_length) in
-      let b = before_last s.plan.cores s.plan.ticks s.turn l in
-      omega (arith, a, b)
+  pub tick_left : (x : MachineModel) → slice_get s.cores.machines c ≡ Some x → x.tick < s.cores.plan.ticks
+  tick_left x has =
+      let a = (made.stands.logs c x has).tick in
+      let b : length (log_of c rows) ≡ s.turn / s.plan.cores = turns_due ∙ ap (λ n. n / s.plan.cores) rows_length in
+      let d = before_last s.plan.cores s.plan.ticks s.turn l in
+      subst (λ (p : PlanModel). x.tick < p.ticks) (sym made.plan) (omega (arith, a, b, d))
 
-  -- so its machine can have the turn
-  pub tick_left : (m : MachineModel) → get_or s.machines c m ≡ m → m.tick < m.plan.ticks
-  tick_left m is =
-      let x = subst (IsMachineAfter s.plan rows s.port c) is (machine_at m) in
-      let a = x.stands.tick in
-      let b = ap (λ (p : PlanModel). p.ticks) x.same_plan in
-      let d = log_left in
-      omega (arith, a, b, d)
-
-  pub claim_is : (m : MachineModel) → get_or s.machines c m ≡ m → claim_in m.core s.port.calls ≡ m.phase
-  claim_is m is =
-      let x = subst (IsMachineAfter s.plan rows s.port c) is (machine_at m) in
-      ap (λ k. claim_in k s.port.calls) x.same_core ∙ x.claim
-
-  pub room_left : (m : MachineModel) → get_or s.machines c m ≡ m → 0 < (as_port s.port).rooms m.core
-  room_left m is =
-      let x = subst (IsMachineAfter s.plan rows s.port c) is (machine_at m) in
-      let a = x.room in
-      let b = log_left in
-      let d = ap (as_port s.port).rooms x.same_core in
-      omega (arith, a, b, d)
-
-  pub resources_are : (m : MachineModel) → get_or s.machines c m ≡ m → s.port.resources ≡ length m.plan.resources
-  resources_are m is =
-      let x = subst (IsMachineAfter s.plan rows s.port c) is (machine_at m) in
-      made.left.resources ∙ ap (λ (p : PlanModel). length p.resources) (sym x.same_plan)
-
-  -- and what the machine promises goes on the run
-  pub made_turn : IsPlan s.plan → (old m : MachineModel) (r : Row) (after : FifoModel) → get_or s.machines c old ≡ old → m.plan ≡ old.plan → m.core ≡ old.core
-      → ((log : List Row) → StandsAfter old log → IsCoreTurn old.plan old.core log r) → ((log : List Row) → StandsAfter old log → StandsAfter m (log ++ r ∷ []))
-      → ((res : ResId) → r.res ≡ Some res → is_global old.plan res.0 ≡ true → MakesCall old.plan r (as_port s.port) (as_port after)) → (IsQuiet old.plan r → after ≡ s.port)
-      → claim_in m.core after.calls ≡ m.phase → AreFifo after.calls → (n : ℕ) → n ≡ s.turn + 1
-      → HasMade (record { plan = s.plan; order = s.order; turn = n; machines = set s.machines c m; port = after }) (rows ++ r ∷ [])
-  made_turn ok old m r after is p k turn stands call quiet claim served n next =
-      let x = subst (IsMachineAfter s.plan rows s.port c) is (machine_at old) in
-      let here : IsCoreTurn s.plan c (log_of c rows) r = subst (λ n. IsCoreTurn s.plan n (log_of c rows) r) x.same_core (subst (λ q. IsCoreTurn q old.core (log_of c rows) r) x.same_plan (turn (log_of c rows) x.stands)) in
-      let own : c ≡ r.core.0 = sym here.core in
-      let step : Step s.plan r s.port after = step_of s.plan r s.port after
-      (subst (λ q. (res : ResId) → r.res ≡ Some res → is_global q res.0 ≡ true → MakesCall q r (as_port s.port) (as_port after)) x.same_plan call)
-      (subst (λ q. IsQuiet q r → after ≡ s.port) x.same_plan quiet) in
-      let core : m.core ≡ c = k ∙ x.same_core in
+  -- and its row goes on the run
+  pub made_turn : (after : CoresModel) (r : Row) (n : ℕ) → n ≡ s.turn + 1 → after.plan ≡ s.cores.plan
+      → ((before : List Row) → StandFor s.cores before → IsDueAfter s.cores.plan before c → IsNextRow s.cores.plan before c r)
+      → ((before : List Row) (row : Row) → StandFor s.cores before → IsDueAfter s.cores.plan before c → IsAs r row → IsLegal s.cores.plan before row → StandFor after (before ++ row ∷ []))
+      → HasMade (record { plan = s.plan; order = s.order; turn = n; cores = after }) (rows ++ r ∷ [])
+  made_turn after r n next plan is stands =
+      let row = is rows made.stands is_due in
       record {
         order = map-append (λ (w : Row). w.core.0) rows (r ∷ [])
-            ∙ (ap (λ l. l ++ r.core.0 ∷ []) made.order ∙ (ap (λ k. take s.turn s.order ++ k ∷ []) (here.core ∙ at) ∙ (sym (take_more s.order s.turn within) ∙ ap (λ k. take k s.order) (sym next))));
-        left = subst (λ n. IsLeftBy s.plan (rows ++ r ∷ []) (set s.machines n m) after) here.core
-            (left_by_turn s.plan rows r s.machines s.port after ok made.left served (subst (λ n. IsCoreTurn s.plan n (log_of n rows) r) own here)
-            m step (subst (IsNextCore s.plan (core_order rows)) own next_core) (p ∙ x.same_plan) (core ∙ own)
-            (subst (λ n. StandsAfter m (log_of n rows ++ r ∷ [])) own (stands (log_of c rows) x.stands)) (ap (λ n. claim_in n after.calls) (sym (core ∙ own)) ∙ claim));
+            ∙ (ap (λ l. l ++ r.core.0 ∷ []) made.order ∙ (ap (λ k. take s.turn s.order ++ k ∷ []) (row.core ∙ at) ∙ (sym (take_more s.order s.turn within) ∙ ap (λ k. take k s.order) (sym next))));
+        plan = plan ∙ made.plan;
+        stands = stands rows r made.stands is_due (as_itself r) row.legal;
+        carries = list_all-append carries_its_ahead rows (r ∷ []) ∙ and_from (carries_ahead rows) (carries_its_ahead r && true) made.carries (and_from (carries_its_ahead r) true row.carries refl);
       }
 
 -- ---- after the last turn
-pub made_all : (s : SimModel) (rows : List Row) → IsOrder s.plan s.order → s.turn ≡ s.plan.cores * s.plan.ticks → HasMade s rows → IsRunIn s.plan s.order rows
+made_all : (s : SimModel) (rows : List Row) → IsOrder s.plan s.order → s.turn ≡ s.plan.cores * s.plan.ticks → HasMade s rows → IsRunIn s.plan s.order rows
 made_all s rows order last made =
     let whole : core_order rows ≡ s.order = made.order ∙ (ap (λ n. take n s.order) (last ∙ sym order.size) ∙ take-length s.order) in
+    let start : IsRunStart s.plan rows = subst (λ p. IsRunStart p rows) made.plan made.stands.start in
     record {
-      run = record { size = sym (length-map rows (λ (r : Row). r.core.0)) ∙ (ap length whole ∙ order.size); each = due_rows_legal s.plan rows made.left.turns };
+      run = record { size = sym (length-map rows (λ (r : Row). r.core.0)) ∙ (ap length whole ∙ order.size); each = start.each };
       turns = whole;
-      carries = made.left.carries;
+      carries = made.carries;
     }
 
 -- so it is a run of the plan in the order

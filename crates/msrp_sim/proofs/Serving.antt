@@ -1,4 +1,4 @@
--- A port that serves requests in their order, over each of its calls.
+-- Queues of tickets over each call, and the locks that they stand for.
 use Rattle.std.proofs.Common.{◌≡◌, ◌≢◌, ℕ, zero, suc, ◌+◌, ◌-◌, ◌<◌, ◌≤◌, ◌==◌, Bool, true, false, cond, List, [], ◌∷◌, ◌++◌, refl, ap, sym, ◌∙◌, subst, arith, length, length-append, map, set, replicate, get_or, get_or-set_same, get_or-set_other, eq-eqb, inl, inr}
 use Rattle.std.specs.List.{All, sum_by, AllByRecursion, filter}
 use Rattle.std.proofs.lemmas.Bool.{cases_Bool, cases_lt, eqb-true, eqb-false}
@@ -6,35 +6,40 @@ use Rattle.std.proofs.lemmas.List.{get_or_past}
 use Rattle.std.proofs.lemmas.List.Sums.{sum_by-set}
 use Rattle.std.proofs.lemmas.Option.{none-some}
 use Rattle.std.proofs.lemmas.List.Elements.{recursion_from_All}
-use Rattle.msrp_plan.specs.FifoLock.{FifoLock, free_lock, IsAmong, Answers, without_first, lock_after}
+use Rattle.msrp_plan.specs.FifoLock.{FifoLock, free_lock, IsAmong, Answers, lock_after}
 use Rattle.msrp_plan.specs.LockStates.{lock_from}
 use Rattle.msrp_plan.specs.Calls.{IsInTurn}
-use Rattle.msrp_plan.specs.declared.ids.CoreId.{CoreId}
 use Rattle.msrp_plan.specs.declared.ids.ResId.{ResId}
+use Rattle.msrp_plan.specs.declared.units.Call.{Call}
 use Rattle.msrp_plan.specs.declared.units.Call.TheVariants.{Ask, Poll, Leave}
+use Rattle.msrp_plan.specs.declared.units.Phase.{Phase}
 use Rattle.msrp_plan.specs.declared.units.Phase.TheVariants.{Free, Queued, Holding}
-use Rattle.msrp_core.specs.Ports.{core_call, calls_on, claim_in}
+use Rattle.msrp_core.specs.Ports.{asked, core_call, calls_on}
 use Rattle.msrp_core.specs.declared.port.PortCall.{PortCall}
-use Rattle.msrp_sim.specs.Served.{lock_after_calls, IsStance, Out, Waits, Holds, stance_of, IsTicketed}
-use Rattle.msrp_sim.specs.FifoView.{tickets_of, AreDrawn, IsServedBy}
-use Rattle.msrp_sim.specs.declared.fifo.Tickets.{Tickets}
-use Rattle.msrp_sim.proofs.Histories.{fifo_push, claims_push, lock_own, lock_other, once_by_ticket, ticketed_ask, ticketed_apart, ticketed_leave, first_by_ticket, ticket_of_first}
-
--- ---- how the call's core stands
--- a free core stands in no queue
-pub out_of : (queues : List Tickets) (tickets : List ℕ) (calls : List PortCall) (c g : ℕ) → IsServedBy queues tickets calls → claim_in c calls ≡ Free → ¬ IsAmong (lock_after_calls calls g).queue c
-out_of queues tickets calls c g s free = subst (λ p. IsStance (lock_after_calls calls g) c (stance_of g p)) free (s.claims c g)
+use Rattle.msrp_core.specs.declared.port.Reply.{Reply}
+use Rattle.msrp_core.specs.declared.port.Reply.TheVariants.{Taken, Queued as Replied}
+use Rattle.msrp_sim.specs.Served.{lock_after_calls, IsClaim, IsStance, Out, Waits, Holds, stance_of, IsTicketed}
+use Rattle.msrp_sim.specs.Serving.{tickets_in, queue_of, ticket_of, AreDrawn, IsServing, IsTold, MovesBy, Notes}
+use Rattle.msrp_sim.specs.declared.tickets.Queues.{Queues}
+use Rattle.msrp_sim.specs.declared.tickets.Tickets.{Tickets}
+use Rattle.msrp_sim.proofs.Histories.{claims_push, once_by_ticket, ticketed_ask, ticketed_apart, ticketed_leave, first_by_ticket, ticket_of_first}
 
 here : (res : ResId) → (res.0 == res.0) ≡ true
 here res = eq-eqb res.0 res.0 refl
 
--- a queued one waits
-pub waits_at : (queues : List Tickets) (tickets : List ℕ) (calls : List PortCall) (c : ℕ) (res : ResId) → IsServedBy queues tickets calls → claim_in c calls ≡ Queued res → IsStance (lock_after_calls calls res.0) c Waits
-waits_at queues tickets calls c res s queued = subst (IsStance (lock_after_calls calls res.0) c) (ap (stance_of res.0) queued ∙ ap (λ b. cond b Waits Out) (here res)) (s.claims c res.0)
+-- ---- how a core stands to the locks
+module _ (locks : ℕ → FifoLock) (c : ℕ) (claim : Phase) (stands : IsClaim locks c claim) where
+  -- a free core stands in no queue
+  pub out_of : claim ≡ Free → (g : ℕ) → ¬ IsAmong (locks g).queue c
+  out_of free g = subst (λ p. IsStance (locks g) c (stance_of g p)) free (stands g)
 
--- a holding one holds
-pub holds_at : (queues : List Tickets) (tickets : List ℕ) (calls : List PortCall) (c : ℕ) (res : ResId) → IsServedBy queues tickets calls → claim_in c calls ≡ Holding res → IsStance (lock_after_calls calls res.0) c Holds
-holds_at queues tickets calls c res s holding = subst (IsStance (lock_after_calls calls res.0) c) (ap (stance_of res.0) holding ∙ ap (λ b. cond b Holds Out) (here res)) (s.claims c res.0)
+  -- a queued one waits
+  pub waits_at : (res : ResId) → claim ≡ Queued res → IsStance (locks res.0) c Waits
+  waits_at res queued = subst (IsStance (locks res.0) c) (ap (stance_of res.0) queued ∙ ap (λ b. cond b Waits Out) (here res)) (stands res.0)
+
+  -- a holding one holds
+  pub holds_at : (res : ResId) → claim ≡ Holding res → IsStance (locks res.0) c Holds
+  holds_at res holding = subst (IsStance (locks res.0) c) (ap (stance_of res.0) holding ∙ ap (λ b. cond b Holds Out) (here res)) (stands res.0)
 
 -- a resource that nobody called has no queue
 none_on : (calls : List PortCall) (g bound : ℕ) → bound ≤ g → AllByRecursion (λ e. e.res.0 < bound) calls → calls_on g calls ≡ []
@@ -51,76 +56,131 @@ known_by calls c g bound all among = elim (cases_lt g bound) [
   | inr past ↦ absurd (subst (λ h. IsAmong (lock_from free_lock h).queue c) (none_on calls g bound past (recursion_from_All (λ e. e.res.0 < bound) calls all)) among)
 ]
 
--- ---- one call more
-served_push : (queues after : List Tickets) (tickets newer : List ℕ) (calls : List PortCall) (e : PortCall) → IsServedBy queues tickets calls → Answers (lock_after_calls calls e.res.0) e.core.0 e.call → IsInTurn (claim_in e.core.0 calls) e.res e.call
-    → ((g : ℕ) → IsTicketed (lock_after_calls (calls ++ e ∷ []) g).queue (tickets_of after g).next (tickets_of after g).serving (λ c. get_or newer c 0)) → IsServedBy after newer (calls ++ e ∷ [])
-served_push queues after tickets newer calls e s answers turn given = record {
-  fifo = fifo_push calls e s.fifo answers;
-  claims = claims_push calls e s.fifo answers turn (once_by_ticket _ _ _ _ e.core.0 (s.tickets e.res.0)) s.claims;
-  tickets = given;
-}
+-- a request of a free core is made in its turn, whatever the reply
+pub asked_in_turn : (claim : Phase) (res : ResId) (reply : Reply) → claim ≡ Free → IsInTurn claim res (asked reply)
+asked_in_turn claim res Taken free = free
+asked_in_turn claim res (Replied n) free = free
 
--- by whether the call is of the resource
-by_resource : (calls : List PortCall) (e : PortCall) (after : List Tickets) (newer : List ℕ)
-    → IsTicketed (lock_after (lock_after_calls calls e.res.0) e.core.0 e.call).queue (tickets_of after e.res.0).next (tickets_of after e.res.0).serving (λ c. get_or newer c 0)
-    → ((g : ℕ) → g ≢ e.res.0 → IsTicketed (lock_after_calls calls g).queue (tickets_of after g).next (tickets_of after g).serving (λ c. get_or newer c 0))
-    → (g : ℕ) → IsTicketed (lock_after_calls (calls ++ e ∷ []) g).queue (tickets_of after g).next (tickets_of after g).serving (λ c. get_or newer c 0)
-by_resource calls e after newer own others g = elim (cases_Bool (e.res.0 == g)) [
+-- ---- what the tickets answer
+-- a call in its turn that is answered as the tickets stand is answered as its lock answers
+module _ (locks : ℕ → FifoLock) (claims : ℕ → Phase) (q : Queues) (serving : IsServing locks claims q) (c : ℕ) (res : ResId) where
+  poll_answers : (granted : Bool) → claims c ≡ Queued res → granted ≡ (ticket_of q c == (queue_of q res.0).serving) → Answers (locks res.0) c (Poll granted)
+  poll_answers true queued is =
+      let w = waits_at locks c (claims c) (serving.stances c) res queued in
+      let first = first_by_ticket _ _ _ _ c (serving.tickets res.0) w.0 (eqb-true _ _ (sym is)) in
+      (first, w.1 first)
+  poll_answers false queued is =
+      let w = waits_at locks c (claims c) (serving.stances c) res queued in
+      (w.0, λ first. eqb-false _ _ (sym is) (ticket_of_first _ _ _ _ c (serving.tickets res.0) first))
+
+  pub told_answers : (call : Call) → IsInTurn (claims c) res call → IsTold q c res.0 call → Answers (locks res.0) c call
+  told_answers (Ask ahead) turn told = (out_of locks c (claims c) (serving.stances c) turn res.0, let n = (serving.tickets res.0).size in omega (arith, n, told))
+  told_answers (Poll granted) turn told = poll_answers granted turn told
+  told_answers Leave turn told = holds_at locks c (claims c) (serving.stances c) res turn
+
+  pub asked_answers : (reply : Reply) → claims c ≡ Free → IsTold q c res.0 (asked reply) → Answers (locks res.0) c (asked reply)
+  asked_answers reply free told = told_answers (asked reply) (asked_in_turn (claims c) res reply free) told
+
+-- ---- one call more
+-- tickets stay those of their locks, by whether the call is of the resource
+by_resource : (e : PortCall) (locks after : ℕ → FifoLock) (claims newer : ℕ → Phase) (q : Queues) → MovesBy e locks after claims newer
+    → IsTicketed (lock_after (locks e.res.0) e.core.0 e.call).queue (queue_of q e.res.0).next (queue_of q e.res.0).serving (ticket_of q)
+    → ((g : ℕ) → g ≢ e.res.0 → IsTicketed (locks g).queue (queue_of q g).next (queue_of q g).serving (ticket_of q))
+    → (g : ℕ) → IsTicketed (after g).queue (queue_of q g).next (queue_of q g).serving (ticket_of q)
+by_resource e locks after claims newer q moves own others g = elim (cases_Bool (e.res.0 == g)) [
   | inl on ↦
       let at : e.res.0 ≡ g = eqb-true e.res.0 g on in
-      subst (λ h. IsTicketed (lock_after_calls (calls ++ e ∷ []) h).queue (tickets_of after h).next (tickets_of after h).serving (λ c. get_or newer c 0)) at
-      (subst (λ (l : FifoLock). IsTicketed l.queue (tickets_of after e.res.0).next (tickets_of after e.res.0).serving (λ c. get_or newer c 0)) (sym (lock_own calls e e.res.0 refl)) own)
-  | inr off ↦ subst (λ (l : FifoLock). IsTicketed l.queue (tickets_of after g).next (tickets_of after g).serving (λ c. get_or newer c 0)) (sym (lock_other calls e g off)) (others g (λ h. eqb-false e.res.0 g off (sym h)))
+      subst (λ h. IsTicketed (after h).queue (queue_of q h).next (queue_of q h).serving (ticket_of q)) at
+      (subst (λ (l : FifoLock). IsTicketed l.queue (queue_of q e.res.0).next (queue_of q e.res.0).serving (ticket_of q)) (sym moves.lock) own)
+  | inr off ↦ subst (λ (l : FifoLock). IsTicketed l.queue (queue_of q g).next (queue_of q g).serving (ticket_of q)) (sym (moves.other_locks g off)) (others g (λ h. eqb-false e.res.0 g off (sym h)))
 ]
 
+serving_push : (e : PortCall) (locks after : ℕ → FifoLock) (claims newer : ℕ → Phase) (old new : Queues) → IsServing locks claims old → MovesBy e locks after claims newer → Answers (locks e.res.0) e.core.0 e.call → IsInTurn (claims e.core.0) e.res e.call
+    → ((g : ℕ) → IsTicketed (after g).queue (queue_of new g).next (queue_of new g).serving (ticket_of new)) → IsServing after newer new
+serving_push e locks after claims newer old new s moves answers turn tickets = record {
+  stances = claims_push e locks after claims newer moves answers turn (once_by_ticket _ _ _ _ e.core.0 (s.tickets e.res.0)) s.stances;
+  tickets = tickets;
+}
+
+-- as many tickets, or one more of one resource
+pub drawn_more : (q : Queues) (n : ℕ) → AreDrawn q n → AreDrawn q (n + 1)
+drawn_more q n old g = let h = old g in (omega (arith, h.0), omega (arith, h.1))
+
+drawn_set : (q : Queues) (g n : ℕ) (new : Tickets) (tickets : List ℕ) → g < length q.queues → new.next ≤ n + 1 → new.serving ≤ n + 1 → AreDrawn q n → AreDrawn (record { queues = set q.queues g new; tickets = tickets }) (n + 1)
+drawn_set q g n new tickets inq next serving old h = elim (cases_Bool (h == g)) [
+  | inl on ↦
+      let none : Tickets = record { next = 0; serving = 0 } in
+      let same : tickets_in (set q.queues g new) h ≡ new = ap (tickets_in (set q.queues g new)) (eqb-true h g on) ∙ get_or-set_same q.queues g new none inq in
+      let a = ap (λ (t : Tickets). t.next) same in
+      let b = ap (λ (t : Tickets). t.serving) same in
+      (omega (arith, a, next), omega (arith, b, serving))
+  | inr off ↦
+      let none : Tickets = record { next = 0; serving = 0 } in
+      let same : tickets_in (set q.queues g new) h ≡ tickets_in q.queues h = get_or-set_other q.queues g h new none (eqb-false h g off) in
+      let a = ap (λ (t : Tickets). t.next) same in
+      let b = ap (λ (t : Tickets). t.serving) same in
+      let o = old h in
+      (omega (arith, a, o.0), omega (arith, b, o.1))
+]
+
+-- the call by what it is
+as_call : (e : PortCall) (call : Call) (old new : Queues) → e.call ≡ call → Notes (record { core = e.core; res = e.res; call = call }) old new → Notes e old new
+as_call e call old new is h = subst (λ k. Notes (record { core = e.core; res = e.res; call = k }) old new) (sym is) h
+
 -- a request
-pub served_ask : (queues : List Tickets) (tickets : List ℕ) (calls : List PortCall) (core : CoreId) (res : ResId) (ahead : ℕ) → IsServedBy queues tickets calls → claim_in core.0 calls ≡ Free → res.0 < length queues → core.0 < length tickets → ahead ≡ (tickets_of queues res.0).next - (tickets_of queues res.0).serving
-    → IsServedBy (set queues res.0 (record { next = (tickets_of queues res.0).next + 1; serving = (tickets_of queues res.0).serving })) (set tickets core.0 (tickets_of queues res.0).next) (calls ++ record { core = core; res = res; call = Ask ahead } ∷ [])
-served_ask queues tickets calls core res ahead s free inq int is =
-    let q = tickets_of queues res.0 in
-    let new : Tickets = record { next = q.next + 1; serving = q.serving } in
-    let at = s.tickets res.0 in
-    let out = λ (g : ℕ). out_of queues tickets calls core.0 g s free in
-    let others = λ (d : ℕ) (ne : d ≢ core.0). get_or-set_other tickets core.0 d q.next 0 ne in
+pub notes_ask : (e : PortCall) (ahead : ℕ) (q : Queues) → e.call ≡ Ask ahead → e.res.0 < length q.queues → e.core.0 < length q.tickets
+    → Notes e q (record { queues = set q.queues e.res.0 (record { next = (queue_of q e.res.0).next + 1; serving = (queue_of q e.res.0).serving }); tickets = set q.tickets e.core.0 (queue_of q e.res.0).next })
+notes_ask e ahead q is inq int =
     let none : Tickets = record { next = 0; serving = 0 } in
-    let e : PortCall = record { core = core; res = res; call = Ask ahead } in
-    served_push queues (set queues res.0 new) tickets (set tickets core.0 q.next) calls e s
-    (out res.0, let n = at.size in omega (arith, n, is)) free
-    (by_resource calls e (set queues res.0 new) (set tickets core.0 q.next)
-    (subst (λ (t : Tickets). IsTicketed ((lock_after_calls calls res.0).queue ++ core.0 ∷ []) t.next t.serving (λ c. get_or (set tickets core.0 q.next) c 0)) (sym (get_or-set_same queues res.0 new none inq))
-    (ticketed_ask (lock_after_calls calls res.0).queue q.next q.serving (λ c. get_or tickets c 0) (λ c. get_or (set tickets core.0 q.next) c 0) core.0 at (out res.0) (get_or-set_same tickets core.0 q.next 0 int) others))
-    (λ g ne. subst (λ (t : Tickets). IsTicketed (lock_after_calls calls g).queue t.next t.serving (λ c. get_or (set tickets core.0 q.next) c 0)) (sym (get_or-set_other queues res.0 g new none ne))
-    (ticketed_apart (lock_after_calls calls g).queue (tickets_of queues g).next (tickets_of queues g).serving (λ c. get_or tickets c 0) (λ c. get_or (set tickets core.0 q.next) c 0) core.0 (s.tickets g) (out g) others)))
+    let t = queue_of q e.res.0 in
+    let more : Tickets = record { next = t.next + 1; serving = t.serving } in
+    let new : Queues = record { queues = set q.queues e.res.0 more; tickets = set q.tickets e.core.0 t.next } in
+    let others = λ (d : ℕ) (ne : d ≢ e.core.0). get_or-set_other q.tickets e.core.0 d t.next 0 ne in
+    as_call e (Ask ahead) q new is (record {
+      serving = λ locks after claims newer s moves answers turn.
+          let out = out_of locks e.core.0 (claims e.core.0) (s.stances e.core.0) turn in
+          serving_push (record { core = e.core; res = e.res; call = Ask ahead }) locks after claims newer q new s moves answers turn
+          (by_resource (record { core = e.core; res = e.res; call = Ask ahead }) locks after claims newer new moves
+          (subst (λ (k : Tickets). IsTicketed ((locks e.res.0).queue ++ e.core.0 ∷ []) k.next k.serving (ticket_of new)) (sym (get_or-set_same q.queues e.res.0 more none inq))
+          (ticketed_ask (locks e.res.0).queue t.next t.serving (ticket_of q) (ticket_of new) e.core.0 (s.tickets e.res.0) (out e.res.0) (get_or-set_same q.tickets e.core.0 t.next 0 int) others))
+          (λ g ne. subst (λ (k : Tickets). IsTicketed (locks g).queue k.next k.serving (ticket_of new)) (sym (get_or-set_other q.queues e.res.0 g more none ne))
+          (ticketed_apart (locks g).queue (queue_of q g).next (queue_of q g).serving (ticket_of q) (ticket_of new) e.core.0 (s.tickets g) (out g) others)));
+      drawn = λ n old. let o = old e.res.0 in drawn_set q e.res.0 n more (set q.tickets e.core.0 t.next) inq (omega (arith, o.0)) (omega (arith, o.1)) old;
+    })
 
--- a poll is answered by the core's ticket
-pub poll_answers : (queues : List Tickets) (tickets : List ℕ) (calls : List PortCall) (c : ℕ) (res : ResId) (granted : Bool) → IsServedBy queues tickets calls → claim_in c calls ≡ Queued res → granted ≡ (get_or tickets c 0 == (tickets_of queues res.0).serving) → Answers (lock_after_calls calls res.0) c (Poll granted)
-poll_answers queues tickets calls c res true s queued is =
-    let w = waits_at queues tickets calls c res s queued in
-    let first = first_by_ticket _ _ _ _ c (s.tickets res.0) w.0 (eqb-true _ _ (sym is)) in
-    (first, w.1 first)
-poll_answers queues tickets calls c res false s queued is =
-    let w = waits_at queues tickets calls c res s queued in
-    (w.0, λ first. eqb-false _ _ (sym is) (ticket_of_first _ _ _ _ c (s.tickets res.0) first))
-
-pub served_poll : (queues : List Tickets) (tickets : List ℕ) (calls : List PortCall) (core : CoreId) (res : ResId) (granted : Bool) → IsServedBy queues tickets calls → claim_in core.0 calls ≡ Queued res → granted ≡ (get_or tickets core.0 0 == (tickets_of queues res.0).serving)
-    → IsServedBy queues tickets (calls ++ record { core = core; res = res; call = Poll granted } ∷ [])
-served_poll queues tickets calls core res granted s queued is =
-    let e : PortCall = record { core = core; res = res; call = Poll granted } in
-    served_push queues queues tickets tickets calls e s (poll_answers queues tickets calls core.0 res granted s queued is) queued (by_resource calls e queues tickets (s.tickets res.0) (λ g ne. s.tickets g))
+-- a poll
+pub notes_poll : (e : PortCall) (granted : Bool) (q : Queues) → e.call ≡ Poll granted → Notes e q q
+notes_poll e granted q is = as_call e (Poll granted) q q is (record {
+  serving = λ locks after claims newer s moves answers turn.
+      serving_push (record { core = e.core; res = e.res; call = Poll granted }) locks after claims newer q q s moves answers turn
+      (by_resource (record { core = e.core; res = e.res; call = Poll granted }) locks after claims newer q moves (s.tickets e.res.0) (λ g ne. s.tickets g));
+  drawn = drawn_more q;
+})
 
 -- a release
-pub served_leave : (queues : List Tickets) (tickets : List ℕ) (calls : List PortCall) (core : CoreId) (res : ResId) → IsServedBy queues tickets calls → claim_in core.0 calls ≡ Holding res → res.0 < length queues
-    → IsServedBy (set queues res.0 (record { next = (tickets_of queues res.0).next; serving = (tickets_of queues res.0).serving + 1 })) tickets (calls ++ record { core = core; res = res; call = Leave } ∷ [])
-served_leave queues tickets calls core res s holding inq =
-    let q = tickets_of queues res.0 in
-    let new : Tickets = record { next = q.next; serving = q.serving + 1 } in
+pub notes_leave : (e : PortCall) (q : Queues) → e.call ≡ Leave → e.res.0 < length q.queues
+    → Notes e q (record { queues = set q.queues e.res.0 (record { next = (queue_of q e.res.0).next; serving = (queue_of q e.res.0).serving + 1 }); tickets = q.tickets })
+notes_leave e q is inq =
     let none : Tickets = record { next = 0; serving = 0 } in
-    let e : PortCall = record { core = core; res = res; call = Leave } in
-    let h = holds_at queues tickets calls core.0 res s holding in
-    served_push queues (set queues res.0 new) tickets tickets calls e s h holding
-    (by_resource calls e (set queues res.0 new) tickets
-    (subst (λ (t : Tickets). IsTicketed (without_first (lock_after_calls calls res.0).queue) t.next t.serving (λ c. get_or tickets c 0)) (sym (get_or-set_same queues res.0 new none inq)) (ticketed_leave (lock_after_calls calls res.0).queue q.next q.serving (λ c. get_or tickets c 0) core.0 (s.tickets res.0) h.0))
-    (λ g ne. subst (λ (t : Tickets). IsTicketed (lock_after_calls calls g).queue t.next t.serving (λ c. get_or tickets c 0)) (sym (get_or-set_other queues res.0 g new none ne)) (s.tickets g)))
+    let t = queue_of q e.res.0 in
+    let served : Tickets = record { next = t.next; serving = t.serving + 1 } in
+    let new : Queues = record { queues = set q.queues e.res.0 served; tickets = q.tickets } in
+    as_call e Leave q new is (record {
+      serving = λ locks after claims newer s moves answers turn.
+          serving_push (record { core = e.core; res = e.res; call = Leave }) locks after claims newer q new s moves answers turn
+          (by_resource (record { core = e.core; res = e.res; call = Leave }) locks after claims newer new moves
+          (subst (λ (k : Tickets). IsTicketed (lock_after (locks e.res.0) e.core.0 Leave).queue k.next k.serving (ticket_of new)) (sym (get_or-set_same q.queues e.res.0 served none inq))
+          (ticketed_leave (locks e.res.0).queue t.next t.serving (ticket_of q) e.core.0 (s.tickets e.res.0) answers.0))
+          (λ g ne. subst (λ (k : Tickets). IsTicketed (locks g).queue k.next k.serving (ticket_of new)) (sym (get_or-set_other q.queues e.res.0 g served none ne)) (s.tickets g)));
+      drawn = λ n old. let o = old e.res.0 in drawn_set q e.res.0 n served q.tickets inq (omega (arith, o.0)) (omega (arith, o.1)) old;
+    })
+
+-- ---- the same locks and claims
+pub serving_as : (locks after : ℕ → FifoLock) (claims newer : ℕ → Phase) (q : Queues) → ((g : ℕ) → after g ≡ locks g) → ((c : ℕ) → newer c ≡ claims c) → IsServing locks claims q → IsServing after newer q
+serving_as locks after claims newer q same hold s = record {
+  stances = λ c g. subst (λ p. IsStance (after g) c (stance_of g p)) (sym (hold c)) (subst (λ l. IsStance l c (stance_of g (claims c))) (sym (same g)) (s.stances c g));
+  tickets = λ g. subst (λ (l : FifoLock). IsTicketed l.queue (queue_of q g).next (queue_of q g).serving (ticket_of q)) (sym (same g)) (s.tickets g);
+}
 
 -- ---- rooms and numbers
 -- a core with room is one of the port's
@@ -137,48 +197,6 @@ room_kept rooms c room calls e left fits =
     let b = length-append calls (e ∷ []) in
     omega (arith, a, b, left, fits)
 
--- tickets that are drawn stay within the calls
-pub drawn_ask : (queues : List Tickets) (calls : List PortCall) (e : PortCall) (g serving : ℕ) → g < length queues → AreDrawn queues calls → AreDrawn (set queues g (record { next = (tickets_of queues g).next + 1; serving = serving })) (calls ++ e ∷ [])
-drawn_ask queues calls e g serving inq old h = elim (cases_Bool (h == g)) [
-  | inl on ↦
-      let none : Tickets = record { next = 0; serving = 0 } in
-      let new : Tickets = record { next = (tickets_of queues g).next + 1; serving = serving } in
-      let same = ap (λ (t : Tickets). t.next) (get_or-set_same queues g new none inq) in
-      let at = ap (λ k. (tickets_of (set queues g new) k).next) (eqb-true h g on) in
-      let l = length-append calls (e ∷ []) in
-      let o = old g in
-      omega (arith, same, at, l, o)
-  | inr off ↦
-      let none : Tickets = record { next = 0; serving = 0 } in
-      let new : Tickets = record { next = (tickets_of queues g).next + 1; serving = serving } in
-      let same = ap (λ (t : Tickets). t.next) (get_or-set_other queues g h new none (eqb-false h g off)) in
-      let l = length-append calls (e ∷ []) in
-      let o = old h in
-      omega (arith, same, l, o)
-]
-
-pub drawn_leave : (queues : List Tickets) (calls : List PortCall) (e : PortCall) (g serving : ℕ) → g < length queues → AreDrawn queues calls → AreDrawn (set queues g (record { next = (tickets_of queues g).next; serving = serving })) (calls ++ e ∷ [])
-drawn_leave queues calls e g serving inq old h = elim (cases_Bool (h == g)) [
-  | inl on ↦
-      let none : Tickets = record { next = 0; serving = 0 } in
-      let new : Tickets = record { next = (tickets_of queues g).next; serving = serving } in
-      let same = ap (λ (t : Tickets). t.next) (get_or-set_same queues g new none inq) in
-      let at = ap (λ k. (tickets_of (set queues g new) k).next) (eqb-true h g on) in
-      let l = length-append calls (e ∷ []) in
-      let o = old g in
-      omega (arith, same, at, l, o)
-  | inr off ↦
-      let none : Tickets = record { next = 0; serving = 0 } in
-      let new : Tickets = record { next = (tickets_of queues g).next; serving = serving } in
-      let same = ap (λ (t : Tickets). t.next) (get_or-set_other queues g h new none (eqb-false h g off)) in
-      let l = length-append calls (e ∷ []) in
-      let o = old h in
-      omega (arith, same, l, o)
-]
-
-pub drawn_poll : (queues : List Tickets) (calls : List PortCall) (e : PortCall) → AreDrawn queues calls → AreDrawn queues (calls ++ e ∷ [])
-drawn_poll queues calls e old g = let l = length-append calls (e ∷ []) in let o = old g in omega (arith, l, o)
-
 -- ---- before the first call
 -- where nothing was drawn every place has the same tickets
 pub same_everywhere : (none : Tickets) (n g : ℕ) → get_or (replicate n none) g none ≡ none
@@ -186,15 +204,14 @@ same_everywhere none zero g = refl
 same_everywhere none (suc n) zero = refl
 same_everywhere none (suc n) (suc g) = same_everywhere none n g
 
-pub served_none : (queues : List Tickets) (tickets : List ℕ) → ((g : ℕ) → tickets_of queues g ≡ record { next = 0; serving = 0 }) → IsServedBy queues tickets []
-served_none queues tickets none = record {
-  fifo = λ g. tt;
-  claims = λ c g h. h;
+pub serving_none : (q : Queues) → ((g : ℕ) → queue_of q g ≡ record { next = 0; serving = 0 }) → IsServing (λ _. free_lock) (λ _. Free) q
+serving_none q none = record {
+  stances = λ c g h. h;
   tickets = λ g. record {
     size = let e = ap (λ (t : Tickets). t.next) (none g) in let f = ap (λ (t : Tickets). t.serving) (none g) in omega (arith, e, f);
     place = λ i c h. absurd (none-some c h);
   };
 }
 
-pub drawn_none : (queues : List Tickets) → ((g : ℕ) → tickets_of queues g ≡ record { next = 0; serving = 0 }) → AreDrawn queues []
-drawn_none queues none g = let e = ap (λ (t : Tickets). t.next) (none g) in omega (arith, e)
+pub drawn_none : (q : Queues) → ((g : ℕ) → queue_of q g ≡ record { next = 0; serving = 0 }) → AreDrawn q 0
+drawn_none q none g = let e = ap (λ (t : Tickets). t.next) (none g) in let f = ap (λ (t : Tickets). t.serving) (none g) in (omega (arith, e), omega (arith, f))

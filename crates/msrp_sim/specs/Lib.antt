@@ -1,5 +1,9 @@
 pub mod Served
+pub mod Serving
 pub mod FifoView
+pub mod TurnPorts
+pub mod Cores
+pub mod CoresView
 pub mod Orders
 pub mod TurnCounts
 pub mod Simulated

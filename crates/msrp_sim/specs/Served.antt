@@ -5,7 +5,7 @@ use Rattle.msrp_plan.specs.FifoLock.{FifoLock, free_lock, IsAmong, IsFirst, Lega
 use Rattle.msrp_plan.specs.LockStates.{lock_from}
 use Rattle.msrp_plan.specs.declared.units.Phase.{Phase}
 use Rattle.msrp_plan.specs.declared.units.Phase.TheVariants.{Free, Queued, Holding}
-use Rattle.msrp_core.specs.Ports.{PortModel, calls_on, claim_in}
+use Rattle.msrp_core.specs.Ports.{PortModel, calls_on}
 use Rattle.msrp_core.specs.declared.port.PortCall.{PortCall}
 
 -- the calls of each resource are answered as the one-thread lock answers them
@@ -61,9 +61,3 @@ IsClaim locks c claim = (g : ℕ) → IsStance (locks g) c (stance_of g claim)
 pub record IsTicketed (queue : List ℕ) (next serving : ℕ) (ticket : ℕ → ℕ) : Type 0 where
   pub size : next ≡ serving + length queue
   pub place : (i c : ℕ) → slice_get queue i ≡ Some c → ticket c ≡ serving + i
-
--- the calls so far, and how the tickets stand
-pub record IsServed (calls : List PortCall) (next serving ticket : ℕ → ℕ) : Type 0 where
-  pub fifo : AreFifo calls
-  pub claims : (c : ℕ) → IsClaim (lock_after_calls calls) c (claim_in c calls)
-  pub tickets : (g : ℕ) → IsTicketed (lock_after_calls calls g).queue (next g) (serving g) ticket

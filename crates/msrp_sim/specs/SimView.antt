@@ -8,7 +8,7 @@ use Rattle.msrp_sim.specs.Simulated.{SimModel, HasMade}
 use Rattle.msrp_sim.specs.declared.stepping.Simulation.TheInside.{Inside}
 
 abbrev pub sim_view : Inside → SimModel
-sim_view s = record { plan = s.plan.now; order = cores_of s.order.now s.plan.now; turn = s.at.tick * s.plan.now.cores + s.at.place; machines = s.machines.items; port = s.port }
+sim_view s = record { plan = s.plan.now; order = cores_of s.order.now s.plan.now; turn = s.at.tick * s.plan.now.cores + s.at.place; cores = s.cores }
 
 -- some rows led here, in an order of the plan
 pub record IsSimView (s : Inside) : Type 0 where

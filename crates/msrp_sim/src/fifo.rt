@@ -1,28 +1,18 @@
 //! A port that serves requests in their order.
 ghost use Rattle.std.specs.Prelude.{ℕ, ◌*◌, ◌≤◌, cond, nat_lt, sum_by, ◌≡◌, ◌<◌, ◌+◌, ◌++◌, ◌∷◌, [], length, slice_index_or, slice_set, vec_len, vec_capacity, ◌-◌};
-ghost use Rattle.msrp_sim.specs.FifoView.{tickets_of};
 
+use crate::tickets::{Queues, request};
 use msrp_core::{Port, PortCall, Reply};
-use msrp_plan::limits::{MOST_CORES, MOST_RESOURCES};
+use msrp_plan::limits::MOST_CORES;
 use msrp_plan::{Call, CoreId, Memory, Phase, Plan, ResId};
 use std::alloc::Global;
 use std::marker::Model;
-
-// The tickets of a resource: a request draws the next one, and the core with the one that is served holds the
-// resource, or does so at its next poll. A release serves the one after.
-#[derive(Clone, Copy)]
-struct Tickets {
-    next: u32,
-    serving: u32,
-}
 
 /// A port that answers the calls of each resource as a first-in-first-out lock.
 #[derive(Drop)]
 pub struct FifoPort {
     resources: u32,
-    queues: [Tickets; MOST_RESOURCES],
-    // The newest ticket of each core.
-    tickets: [u32; MOST_CORES as usize],
+    queues: Queues,
     rooms: [u32; MOST_CORES as usize],
     calls: Vec<PortCall>,
 }
@@ -37,26 +27,6 @@ impl Model for FifoPort {
     ghost view = { fifo_view };
 
     ghost invariant = { IsFifoView };
-}
-
-// The tickets of a resource, none drawn of one that isn't there.
-fn tickets_at(queues: &[Tickets], res: ResId) -> Tickets
-    ensures { result ≡ tickets_of queues.now res.0 }
-{
-    match queues.get(res.0 as usize) {
-        Some(tickets) => *tickets,
-        None => Tickets {
-            next: 0,
-            serving: 0,
-        },
-    }
-}
-
-// The newest ticket of a core, 0 of one that isn't there.
-fn ticket_at(tickets: &[u32], core: CoreId) -> u32
-    ensures { result ≡ slice_index_or tickets.now core.0 0 }
-{
-    tickets.get(core.0 as usize).copied().unwrap_or(0)
 }
 
 // Writes a call down, which takes one of its core's room.
@@ -87,24 +57,20 @@ fn rooms_of(cores: u32, ticks: u32) -> [u32; MOST_CORES as usize]
 
 impl FifoPort {
     ghost use Rattle.std.specs.Prelude.{IfOk};
+    ghost use Rattle.msrp_plan.specs.Calls.{IsInTurn};
     ghost use Rattle.msrp_plan.specs.FifoLock.{Answers};
-    ghost use Rattle.msrp_core.specs.Ports.{asked, claim_in};
-    ghost use Rattle.msrp_sim.specs.Served.{AreFifo, IsFresh, lock_after_calls};
+    ghost use Rattle.msrp_core.specs.Ports.{Adds, asked, claim_in};
+    ghost use Rattle.msrp_sim.specs.Served.{AreFifo, IsFresh, as_port, lock_after_calls};
 
     /// A port of which nothing was asked yet, where each core of the plan may make a call in each tick. All memory
     /// that it ever needs is taken here: it is [`Memory`] only where that was refused.
     pub fn with_room(alloc: Global, plan: &Plan) -> Result<FifoPort, Memory>
         ensures { IfOk result (IsFresh plan.now) }
     {
-        let none = Tickets {
-            next: 0,
-            serving: 0,
-        };
         let room = plan.cores() as usize * plan.ticks() as usize;
         Ok(FifoPort {
             resources: plan.resources(),
-            queues: [none; MOST_RESOURCES],
-            tickets: [0; MOST_CORES as usize],
+            queues: Queues::new(),
             rooms: rooms_of(plan.cores(), plan.ticks()),
             calls: Vec::with_capacity(alloc, room).map_err(|_| Memory)?,
         })
@@ -122,18 +88,26 @@ impl FifoPort {
     pub fn reply(&self, res: ResId) -> Reply
         ensures { (c : ℕ) → claim_in c self.now.calls ≡ Phase.Free → Answers (lock_after_calls self.now.calls res.0) c (asked result) }
     {
-        let tickets = tickets_at(&self.queues, res);
-        match tickets.next - tickets.serving {
-            0 => Reply::Taken,
-            ahead => Reply::Queued(ahead),
-        }
+        self.queues.reply(res)
     }
 
     /// Whether a poll of the core, which awaits the resource, would be granted now.
     pub fn grants(&self, core: CoreId, res: ResId) -> bool
         ensures { claim_in core.0 self.now.calls ≡ Phase.Queued res → Answers (lock_after_calls self.now.calls res.0) core.0 (Call.Poll result) }
     {
-        ticket_at(&self.tickets, core) == tickets_at(&self.queues, res).serving
+        self.queues.grants(core, res)
+    }
+
+    // A call that is made in its turn, and answered as the lock answers it.
+    fn serve(&mut self, call: PortCall)
+        requires room { 0 < (as_port self.old).rooms call.core.0 }
+        requires resource { call.res.0 < self.old.resources }
+        requires turn { IsInTurn (claim_in call.core.0 self.old.calls) call.res call.call }
+        requires answers { Answers (lock_after_calls self.old.calls call.res.0) call.core.0 call.call }
+        ensures { Adds call.core call.res call.call (as_port self.old) (as_port self.new) }
+    {
+        self.queues.note(call);
+        write(&mut self.calls, &mut self.rooms, call);
     }
 }
 
@@ -143,43 +117,24 @@ impl Port for FifoPort {
     ghost port = { as_port };
 
     fn ask(&mut self, core: CoreId, res: ResId) -> Reply {
-        let queue = &mut self.queues[res.0 as usize];
-        let ticket = queue.next;
-        let ahead = ticket - queue.serving;
-        queue.next += 1;
-        self.tickets[core.0 as usize] = ticket;
-        let call = Call::Ask(ahead);
-        write(
-            &mut self.calls,
-            &mut self.rooms,
-            PortCall { core, res, call },
-        );
-        if ahead == 0 {
-            Reply::Taken
-        } else {
-            Reply::Queued(ahead)
-        }
+        let reply = self.queues.reply(res);
+        let call = request(reply);
+        self.serve(PortCall { core, res, call });
+        reply
     }
 
     fn poll(&mut self, core: CoreId, res: ResId) -> bool {
-        let granted = self.tickets[core.0 as usize] == self.queues[res.0 as usize].serving;
+        let granted = self.queues.grants(core, res);
         let call = Call::Poll(granted);
-        write(
-            &mut self.calls,
-            &mut self.rooms,
-            PortCall { core, res, call },
-        );
+        self.serve(PortCall { core, res, call });
         granted
     }
 
     fn leave(&mut self, core: CoreId, res: ResId) {
-        self.queues[res.0 as usize].serving += 1;
+        // Read so that what the calls so far say of the core is known to be what the locks do.
+        let _resources = self.resources;
         let call = Call::Leave;
-        write(
-            &mut self.calls,
-            &mut self.rooms,
-            PortCall { core, res, call },
-        );
+        self.serve(PortCall { core, res, call });
     }
 
     fn room(&self, core: CoreId) -> u32 {

@@ -3,25 +3,23 @@ ghost use Rattle.std.specs.Prelude.{◌≡◌, ◌<◌, ◌+◌, ◌*◌, ◌++�
 ghost use Rattle.msrp_plan.specs.Scheduling.{IsOrder};
 ghost use Rattle.msrp_plan.specs.declared.rows.Row.{Row as TraceRow};
 ghost use Rattle.msrp_sim.specs.Orders.{cores_of};
-ghost use Rattle.msrp_sim.specs.Simulated.{AreNew, HasMade, IsRunIn};
+ghost use Rattle.msrp_sim.specs.Simulated.{HasMade, IsRunIn};
 
-use crate::fifo::FifoPort;
+use crate::machines::Cores;
 use crate::orders::{Order, TickPlace};
-use msrp_core::Machine;
 use msrp_levels::Levels;
-use msrp_plan::{CoreId, Memory, Plan, Row, Trace};
+use msrp_plan::{Memory, Plan, Row, Trace};
 use std::alloc::Global;
 use std::marker::Model;
 
-/// A run of a plan on one thread: a machine for each core, over one port, which have their turns in an order.
+/// A run of a plan on one thread: its cores have their turns in an order.
 #[derive(Drop)]
 pub struct Simulation<'a> {
     plan: &'a Plan,
     order: &'a Order,
     // Where the next turn stands.
     at: TickPlace,
-    machines: Vec<Machine<'a>>,
-    port: FifoPort,
+    cores: Cores<'a>,
 }
 
 impl<'a> Model for Simulation<'a> {
@@ -34,23 +32,6 @@ impl<'a> Model for Simulation<'a> {
     ghost view = { sim_view };
 
     ghost invariant = { IsSimView };
-}
-
-// A machine for each core, before its first turn.
-fn machines_of<'a>(
-    alloc: Global,
-    plan: &'a Plan,
-    levels: &'a Levels<'a>,
-) -> Result<Vec<Machine<'a>>, Memory>
-    requires { levels.now ≡ plan.now }
-    ensures { IfOk result (λ machines. AreNew plan.now plan.now.cores machines.items) }
-{
-    let cores = plan.cores();
-    let mut machines = Vec::with_capacity(alloc, cores as usize).map_err(|_| Memory)?;
-    for core in 0..cores {
-        machines.push_reserved(Machine::with_room(alloc, plan, levels, CoreId(core))?);
-    }
-    Ok(machines)
 }
 
 impl<'a> Simulation<'a> {
@@ -69,20 +50,15 @@ impl<'a> Simulation<'a> {
         ensures turn { IfOk result (λ sim. sim.turn ≡ 0) }
         ensures made { IfOk result (λ sim. HasMade sim []) }
     {
-        // Read so that the plan is known to be an accepted one.
-        let _accepted = plan.cores();
-        let machines = machines_of(alloc, plan, levels)?;
-        let port = FifoPort::with_room(alloc, plan)?;
         Ok(Simulation {
             plan,
             order,
             at: TickPlace { tick: 0, place: 0 },
-            machines,
-            port,
+            cores: Cores::with_room(alloc, plan, levels)?,
         })
     }
 
-    /// The next turn: its core's machine makes a row, and the port answers at once. It never fails, and takes no
+    /// The next turn: its core makes a row, and a global resource answers at once. It never fails, and takes no
     /// memory. Whatever rows the simulation has made, this is the next of them.
     #[inline(always)]
     pub fn turn(&mut self) -> Row
@@ -94,10 +70,7 @@ impl<'a> Simulation<'a> {
     {
         let core = self.order.core_at(self.plan, &self.at);
         self.at.advance(self.plan.cores());
-        let row = self.machines[core.0 as usize].turn(&mut self.port);
-        // Read so that what was asked so far is known to be answered first in, first out.
-        let _calls = self.port.calls();
-        row
+        self.cores.turn(core)
     }
 }
 

@@ -8,8 +8,3 @@ use Rattle.msrp_plan.specs.declared.units.Call.{Call}
 pub legal_push : (lock : FifoLock) (h : List (ℕ × Call)) (s : ℕ × Call) → LegalFrom lock h → Answers (lock_from lock h) s.0 s.1 → LegalFrom lock (h ++ s ∷ [])
 legal_push lock [] s legal answers = (answers, tt)
 legal_push lock (x ∷ h) s legal answers = (legal.0, legal_push (lock_after lock x.0 x.1) h s legal.1 answers)
-
--- and the lock answers the last call of a legal history
-pub legal_last : (lock : FifoLock) (h : List (ℕ × Call)) (s : ℕ × Call) → LegalFrom lock (h ++ s ∷ []) → Answers (lock_from lock h) s.0 s.1
-legal_last lock [] s legal = legal.0
-legal_last lock (x ∷ h) s legal = legal_last (lock_after lock x.0 x.1) h s legal.1

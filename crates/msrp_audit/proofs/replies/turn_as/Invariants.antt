@@ -1,4 +1,5 @@
-use Rattle.msrp_audit.specs.Inside.Replies.{call_before, is_yes}
+use Rattle.msrp_sim.specs.TurnPorts.{call_before}
+use Rattle.msrp_audit.specs.Inside.Replies.{is_yes}
 use Rattle.msrp_audit.proofs.replies.turn_as.Given as goal
 
 abbrev pub ghosts-turn_over : goal.ghosts-turn_over

@@ -1,7 +1,7 @@
 use Rattle.std.proofs.Common.{◌≡◌, ℕ, ◌++◌, ◌∷◌, [], ◌+◌, ◌*◌, ◌≤◌, Option, None, Some, refl, ap, sym, ◌∙◌, subst, arith}
 use Rattle.std.proofs.Math.Nat.{mul-le-mul_left}
 use Rattle.msrp_plan.specs.declared.faults.Fault.{Fault}
-use Rattle.msrp_audit.specs.Cores.{StandFor}
+use Rattle.msrp_sim.specs.Cores.{StandFor}
 use Rattle.msrp_audit.specs.Audits.{AuditorModel, auditor_view, answer_of}
 use Rattle.msrp_audit.proofs.Judging.{stays_faulty, fed_behind, fault_next, fed_on, fed_bad}
 use Rattle.msrp_audit.proofs.auditor.Auditor.feed.Goals as goal

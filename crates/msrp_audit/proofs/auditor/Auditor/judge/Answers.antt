@@ -3,7 +3,7 @@ use Rattle.std.specs.Option.{is_some}
 use Rattle.msrp_plan.specs.Verdict.{refused}
 use Rattle.msrp_plan.specs.declared.rows.Row.{Row as TraceRow}
 use Rattle.msrp_audit.specs.Audits.{AuditorModel, auditor_view}
-use Rattle.msrp_audit.specs.Cores.{StandFor}
+use Rattle.msrp_sim.specs.Cores.{StandFor}
 use Rattle.msrp_audit.proofs.Judging.{judged, judged_good, stands_on}
 use Rattle.msrp_audit.proofs.auditor.Auditor.judge.Goals.{else-is_some-via-then-is_some+else-not-is_own, else-is_some-via-else-is_some}
 use Rattle.msrp_audit.proofs.auditor.Auditor.judge.Goals as goal

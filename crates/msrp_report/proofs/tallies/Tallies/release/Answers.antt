@@ -4,7 +4,7 @@ use Rattle.std.proofs.lemmas.Option.{slice_get_read}
 use Rattle.std.specs.Vec.{with_item}
 use Rattle.msrp_plan.specs.Blocking.{first_later}
 use Rattle.msrp_plan.specs.Jobs.{job_at}
-use Rattle.msrp_audit.proofs.Standing.{get_set_same, get_set_other}
+use Rattle.msrp_sim.proofs.Standing.{get_set_same, get_set_other}
 use Rattle.msrp_report.specs.Inside.Tallies.{begun_below}
 use Rattle.msrp_report.specs.declared.tallies.Blocking.{Blocking}
 use Rattle.msrp_report.specs.declared.tallies.TaskTally.{TaskTally}

@@ -1,7 +1,5 @@
-use Rattle.std.proofs.Common.{◌≡◌, ◌≤◌, ◌*◌, ℕ, [], length, replicate, ap, sym, ◌∙◌, arith, rules, vec_capacity}
+use Rattle.std.proofs.Common.{◌≡◌, ◌≤◌, ◌*◌, ℕ, [], length, ap, sym, ◌∙◌, arith, rules, vec_capacity}
 use Rattle.std.proofs.Math.Nat.{mul-le-mul_left, mul-le-mul_right}
-use Rattle.msrp_sim.specs.declared.fifo.Tickets.{Tickets}
-use Rattle.msrp_sim.proofs.Serving.{same_everywhere, served_none, drawn_none}
 use Rattle.msrp_sim.proofs.fifo.FifoPort.with_room.Goals as goal
 
 -- the greatest number of calls
@@ -10,7 +8,6 @@ most cores ticks a b = let x = mul-le-mul_right ticks a in let y = mul-le-mul_le
 
 pub invariant_of-result : goal.invariant_of-result
 invariant_of-result c =
-    let none : Tickets = record { next = 0; serving = 0 } in
     let empty : c.in_ok-map_err.field-0.items ≡ [] = search rules in
     let exact : vec_capacity c.in_ok-map_err.field-0 ≡ c.cores.result * c.ticks.result = search rules in
     let plan = c.cores.ensures.plan in
@@ -18,8 +15,9 @@ invariant_of-result c =
     let ticks = c.ticks.ensures.value in
     let few = most c.cores.result c.ticks.result (let n = plan.draft.cores in omega (arith, n, cores)) (let n = plan.draft.ticks in omega (arith, n, ticks)) in
     record {
-      served = rw empty (served_none (replicate 32 none) (replicate 8 0) (same_everywhere none 32));
-      drawn = rw empty (drawn_none (replicate 32 none) (same_everywhere none 32));
+      fifo = rw empty (λ g. tt);
+      serving = rw empty c.new.ensures.serving;
+      drawn = rw empty c.new.ensures.drawn;
       resources = let n = plan.draft.resources in let r = c.resources.ensures.value in omega (arith, n, r);
       known = rw empty (search rules);
       room =

@@ -1,37 +1,23 @@
-use Rattle.std.proofs.Common.{◌≡◌, ◌<◌, subst, sym, arith, get_or}
-use Rattle.std.proofs.lemmas.List.Elements.{All-push}
+use Rattle.std.proofs.Common.{◌≡◌, ◌<◌, sym, subst}
+use Rattle.msrp_plan.specs.FifoLock.{Answers}
+use Rattle.msrp_plan.specs.declared.units.Call.TheVariants.{Leave}
 use Rattle.msrp_plan.specs.declared.units.Phase.TheVariants.{Holding}
 use Rattle.msrp_core.specs.Ports.{claim_in}
-use Rattle.msrp_sim.specs.Served.{FifoModel}
+use Rattle.msrp_sim.specs.Served.{FifoModel, lock_after_calls}
 use Rattle.msrp_sim.proofs.Queues.{first_among}
-use Rattle.msrp_sim.proofs.Serving.{served_leave, drawn_leave, holds_at, known_by, room_kept}
+use Rattle.msrp_sim.proofs.Serving.{holds_at, known_by}
 use Rattle.msrp_sim.proofs.fifo.FifoPortPort.leave.Goals as goal
 
-pub bounds-self-inside-res : goal.bounds-self-inside-res
-bounds-self-inside-res c =
-    let claim = subst (λ (p : FifoModel). claim_in c.args.core.0 p.calls ≡ Holding c.args.res) (sym c.self.view_is) c.requires.holding in
-    let known : c.args.res.0 < c.self.inside.resources = known_by c.self.inside.calls.items c.args.core.0 c.args.res.0 c.self.inside.resources c.self.invariant.known (first_among _ c.args.core.0 ((holds_at c.self.inside.queues c.self.inside.tickets c.self.inside.calls.items c.args.core.0 c.args.res c.self.invariant.served claim).0)) in
-    let few = c.self.invariant.resources in
-    omega (arith, known, few)
+pub serve-requires-clause-resource : goal.serve-requires-clause-resource
+serve-requires-clause-resource c =
+    let p = c.self.inside in
+    let holding = subst (λ (m : FifoModel). claim_in c.args.core.0 m.calls ≡ Holding c.args.res) (sym c.self.view_is) c.requires.holding in
+    let holds = holds_at (lock_after_calls p.calls.items) c.args.core.0 (claim_in c.args.core.0 p.calls.items) (c.self.invariant.serving.stances c.args.core.0) c.args.res holding in
+    subst (λ (m : FifoModel). c.args.res.0 < m.resources) c.self.view_is (known_by p.calls.items c.args.core.0 c.args.res.0 p.resources c.self.invariant.known (first_among _ c.args.core.0 holds.0))
 
-pub bounds-self-inside-res-2 : goal.bounds-self-inside-res-2
-bounds-self-inside-res-2 c =
-    let claim = subst (λ (p : FifoModel). claim_in c.args.core.0 p.calls ≡ Holding c.args.res) (sym c.self.view_is) c.requires.holding in
-    let known : c.args.res.0 < c.self.inside.resources = known_by c.self.inside.calls.items c.args.core.0 c.args.res.0 c.self.inside.resources c.self.invariant.known (first_among _ c.args.core.0 ((holds_at c.self.inside.queues c.self.inside.tickets c.self.inside.calls.items c.args.core.0 c.args.res c.self.invariant.served claim).0)) in
-    let few = c.self.invariant.resources in
-    omega (arith, known, few)
-
-pub invariant_of-self : goal.invariant_of-self
-invariant_of-self c =
-    let claim = subst (λ (p : FifoModel). claim_in c.args.core.0 p.calls ≡ Holding c.args.res) (sym c.self.view_is) c.requires.holding in
-    let known : c.args.res.0 < c.self.inside.resources = known_by c.self.inside.calls.items c.args.core.0 c.args.res.0 c.self.inside.resources c.self.invariant.known (first_among _ c.args.core.0 ((holds_at c.self.inside.queues c.self.inside.tickets c.self.inside.calls.items c.args.core.0 c.args.res c.self.invariant.served claim).0)) in
-    let few = c.self.invariant.resources in
-    let left : 0 < get_or c.self.inside.rooms c.args.core.0 0 = subst (λ (p : FifoModel). 0 < get_or p.rooms c.args.core.0 0) (sym c.self.view_is) c.requires.room in
-    record {
-      served = rw c.write.ensures.calls (served_leave c.self.inside.queues c.self.inside.tickets c.self.inside.calls.items c.args.core c.args.res c.self.invariant.served claim (omega (arith, known, few)));
-      drawn = rw c.write.ensures.calls (drawn_leave c.self.inside.queues c.self.inside.calls.items _ c.args.res.0 _ (omega (arith, known, few)) c.self.invariant.drawn);
-      resources = few;
-      known = rw c.write.ensures.calls (All-push (λ e. e.res.0 < c.self.inside.resources) c.self.inside.calls.items _ c.self.invariant.known known);
-      room = rw (c.write.ensures.calls, c.write.ensures.rooms, c.write.ensures.room) (room_kept c.self.inside.rooms c.args.core.0 _ c.self.inside.calls.items _ left c.self.invariant.room);
-      size = rw c.write.ensures.room c.self.invariant.size;
-    }
+pub serve-requires-clause-answers : goal.serve-requires-clause-answers
+serve-requires-clause-answers c =
+    let p = c.self.inside in
+    let holding = subst (λ (m : FifoModel). claim_in c.args.core.0 m.calls ≡ Holding c.args.res) (sym c.self.view_is) c.requires.holding in
+    subst (λ (m : FifoModel). Answers (lock_after_calls m.calls c.args.res.0) c.args.core.0 Leave) c.self.view_is
+    (holds_at (lock_after_calls p.calls.items) c.args.core.0 (claim_in c.args.core.0 p.calls.items) (c.self.invariant.serving.stances c.args.core.0) c.args.res holding)

@@ -1,29 +1,22 @@
-use Rattle.std.proofs.Common.{◌≡◌, ◌<◌, subst, sym, arith, get_or, refl}
-use Rattle.std.proofs.lemmas.List.Elements.{All-push}
+use Rattle.std.proofs.Common.{◌≡◌, ◌<◌, sym, subst}
+use Rattle.msrp_plan.specs.FifoLock.{Answers}
+use Rattle.msrp_plan.specs.declared.units.Call.TheVariants.{Poll}
 use Rattle.msrp_plan.specs.declared.units.Phase.TheVariants.{Queued}
 use Rattle.msrp_core.specs.Ports.{claim_in}
-use Rattle.msrp_sim.specs.Served.{FifoModel}
-use Rattle.msrp_sim.proofs.Serving.{served_poll, drawn_poll, waits_at, known_by, room_kept}
+use Rattle.msrp_sim.specs.Served.{FifoModel, lock_after_calls}
+use Rattle.msrp_sim.proofs.Serving.{known_by, told_answers, waits_at}
 use Rattle.msrp_sim.proofs.fifo.FifoPortPort.poll.Goals as goal
 
-pub bounds-self-inside-res : goal.bounds-self-inside-res
-bounds-self-inside-res c =
-    let claim = subst (λ (p : FifoModel). claim_in c.args.core.0 p.calls ≡ Queued c.args.res) (sym c.self.view_is) c.requires.queued in
-    let known : c.args.res.0 < c.self.inside.resources = known_by c.self.inside.calls.items c.args.core.0 c.args.res.0 c.self.inside.resources c.self.invariant.known ((waits_at c.self.inside.queues c.self.inside.tickets c.self.inside.calls.items c.args.core.0 c.args.res c.self.invariant.served claim).0) in
-    let few = c.self.invariant.resources in
-    omega (arith, known, few)
+pub serve-requires-clause-resource : goal.serve-requires-clause-resource
+serve-requires-clause-resource c =
+    let p = c.self.inside in
+    let queued = subst (λ (m : FifoModel). claim_in c.args.core.0 m.calls ≡ Queued c.args.res) (sym c.self.view_is) c.requires.queued in
+    let waits = waits_at (lock_after_calls p.calls.items) c.args.core.0 (claim_in c.args.core.0 p.calls.items) (c.self.invariant.serving.stances c.args.core.0) c.args.res queued in
+    subst (λ (m : FifoModel). c.args.res.0 < m.resources) c.self.view_is (known_by p.calls.items c.args.core.0 c.args.res.0 p.resources c.self.invariant.known waits.0)
 
-pub invariant_of-self : goal.invariant_of-self
-invariant_of-self c =
-    let claim = subst (λ (p : FifoModel). claim_in c.args.core.0 p.calls ≡ Queued c.args.res) (sym c.self.view_is) c.requires.queued in
-    let known : c.args.res.0 < c.self.inside.resources = known_by c.self.inside.calls.items c.args.core.0 c.args.res.0 c.self.inside.resources c.self.invariant.known ((waits_at c.self.inside.queues c.self.inside.tickets c.self.inside.calls.items c.args.core.0 c.args.res c.self.invariant.served claim).0) in
-    let few = c.self.invariant.resources in
-    let left : 0 < get_or c.self.inside.rooms c.args.core.0 0 = subst (λ (p : FifoModel). 0 < get_or p.rooms c.args.core.0 0) (sym c.self.view_is) c.requires.room in
-    record {
-      served = rw c.write.ensures.calls (served_poll c.self.inside.queues c.self.inside.tickets c.self.inside.calls.items c.args.core c.args.res _ c.self.invariant.served claim refl);
-      drawn = rw c.write.ensures.calls (drawn_poll c.self.inside.queues c.self.inside.calls.items _ c.self.invariant.drawn);
-      resources = few;
-      known = rw c.write.ensures.calls (All-push (λ e. e.res.0 < c.self.inside.resources) c.self.inside.calls.items _ c.self.invariant.known known);
-      room = rw (c.write.ensures.calls, c.write.ensures.rooms, c.write.ensures.room) (room_kept c.self.inside.rooms c.args.core.0 _ c.self.inside.calls.items _ left c.self.invariant.room);
-      size = rw c.write.ensures.room c.self.invariant.size;
-    }
+pub serve-requires-clause-answers : goal.serve-requires-clause-answers
+serve-requires-clause-answers c =
+    let p = c.self.inside in
+    let queued = subst (λ (m : FifoModel). claim_in c.args.core.0 m.calls ≡ Queued c.args.res) (sym c.self.view_is) c.requires.queued in
+    subst (λ (m : FifoModel). Answers (lock_after_calls m.calls c.args.res.0) c.args.core.0 (Poll c.grants-granted.result)) c.self.view_is
+    (told_answers (lock_after_calls p.calls.items) (λ k. claim_in k p.calls.items) p.queues c.self.invariant.serving c.args.core.0 c.args.res (Poll c.grants-granted.result) queued c.grants-granted.ensures)

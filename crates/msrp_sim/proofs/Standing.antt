@@ -11,9 +11,9 @@ use Rattle.msrp_plan.specs.Runs.{IsLegal}
 use Rattle.msrp_plan.specs.Logs.{log_of}
 use Rattle.msrp_plan.specs.Phases.{phase_with, phase_after}
 use Rattle.msrp_plan.specs.States.{JobState, state_after}
-use Rattle.msrp_plan.specs.FifoLock.{Answers, lock_after}
+use Rattle.msrp_plan.specs.FifoLock.{Answers, free_lock, lock_after}
 use Rattle.msrp_plan.specs.LockStates.{lock_at, first_holds, IsRowOfCall}
-use Rattle.msrp_plan.specs.Calls.{ahead_of_call}
+use Rattle.msrp_plan.specs.Calls.{ahead_of_call, claim_with}
 use Rattle.msrp_plan.specs.declared.ids.JobId.{JobId}
 use Rattle.msrp_plan.specs.declared.ids.ResId.{ResId}
 use Rattle.msrp_plan.specs.declared.rows.Kind.{Kind}
@@ -24,13 +24,14 @@ use Rattle.msrp_plan.proofs.Jobs.States.{state_push}
 use Rattle.msrp_plan.proofs.Runs.RoundRobin.{log_own, log_other}
 use Rattle.msrp_plan.proofs.Queues.QueueLocks.{agree_at, lock_off, tells_from_answers}
 use Rattle.msrp_plan.proofs.Runs.Verdicts.{start_push}
-use Rattle.msrp_core.specs.CoreJobs.{MakesCall, IsQuiet}
+use Rattle.msrp_core.specs.CoreJobs.{IsQuiet}
 use Rattle.msrp_core.specs.Machine.{MachineModel, StandsAfter}
 use Rattle.msrp_core.specs.declared.port.PortCall.{PortCall}
-use Rattle.msrp_sim.specs.Served.{FifoModel, as_port, lock_after_calls}
-use Rattle.msrp_sim.proofs.Histories.{lock_own, lock_other}
-use Rattle.msrp_audit.specs.Cores.{CoresModel, AreCores, StandFor, IsDueAfter, IsAs, TakesTurn}
-use Rattle.msrp_audit.proofs.Turns.{call_of, answers_at, turn_row}
+use Rattle.msrp_sim.specs.Cores.{CoresModel, AreCores, StandFor, IsDueAfter, IsAs, TakesTurn, locks_at, phases_at}
+use Rattle.msrp_sim.specs.Serving.{IsServing}
+use Rattle.msrp_sim.specs.TurnPorts.{MakesCallOf}
+use Rattle.msrp_sim.proofs.Serving.{serving_as}
+use Rattle.msrp_sim.proofs.Turns.{answers_at, in_phase, lock_answers, lock_of_global, on_global, turn_row}
 
 -- ---- a list with one element changed
 pub get_set_same : {X : Type 0} (xs : List X) (i : ℕ) (x y : X) → slice_get xs i ≡ Some x → slice_get (slice_set xs i y) i ≡ Some y
@@ -82,7 +83,7 @@ module _ (old new : CoresModel) (c : ℕ) (made r : Row) (rows : List Row) (core
   -- each machine
   own_log : (y : MachineModel) → y ≡ t.after → StandsAfter y (log_of c (rows ++ r ∷ []))
   own_log y e = subst (λ z. StandsAfter z (log_of c (rows ++ r ∷ []))) (sym e)
-      (subst (StandsAfter t.after) (sym (log_own rows r c at_core)) (stands_as t.after made r (log_of c rows) like.kind like.job like.res (t.stands (log_of c rows) (stands.logs c t.before t.has))))
+      (subst (StandsAfter t.after) (sym (log_own rows r c at_core)) (stands_as t.after made r (log_of c rows) like.kind like.job like.res (t.turned.stands (log_of c rows) (stands.logs c t.before t.has))))
 
   some_log : (d : ℕ) (y : MachineModel) → slice_get new.machines d ≡ Some y → (b : Bool) → (d == c) ≡ b → StandsAfter y (log_of d (rows ++ r ∷ []))
   some_log d y has true e =
@@ -94,54 +95,92 @@ module _ (old new : CoresModel) (c : ℕ) (made r : Row) (rows : List Row) (core
       let other : slice_get new.machines d ≡ slice_get old.machines d = ap (λ ms. slice_get ms d) t.machines ∙ get_set_other old.machines c d t.after ne in
       subst (StandsAfter y) (sym (log_other rows r d (λ k. ne (sym (sym at_core ∙ k))))) (stands.logs d y (sym other ∙ has))
 
-  -- each lock, where the turn makes a call
-  call_lock : MakesCall old.plan made (as_port old.port) (as_port new.port) → (g : ℕ) → is_global old.plan g ≡ true → lock_after_calls new.port.calls g ≡ lock_at old.plan g (rows ++ r ∷ [])
-  call_lock mc g glob = ap (λ l. lock_after_calls l g) mc.adds.calls ∙ by_res (mc.res.0 == g) refl
+  -- ---- the queues
+  -- the machine goes from the one phase to the other
+  phase_before : phases_at rows made.core.0 ≡ t.before.phase
+  phase_before = ap (phases_at rows) (turn_row old new c made rows cores stands due t).core ∙ sym (stands.logs c t.before t.has).phase
+
+  phase_now : phases_at (rows ++ r ∷ []) c ≡ t.after.phase
+  phase_now = sym (own_log t.after refl).phase
+
+  other_phase : (d : ℕ) → (r.core.0 == d) ≡ false → phases_at (rows ++ r ∷ []) d ≡ phases_at rows d
+  other_phase d off = ap phase_after (log_other rows r d (eqb-false r.core.0 d off))
+
+  -- a resource that the row isn't on
+  off_lock : (g : ℕ) → (is_global old.plan g ≡ true → is_on g r.res ≡ false) → locks_at old.plan (rows ++ r ∷ []) g ≡ locks_at old.plan rows g
+  off_lock g off = elim (cases_Bool (is_global old.plan g)) [
+    | inl glob ↦ lock_of_global old.plan (rows ++ r ∷ []) g glob ∙ (lock_off old.plan g rows r cores.accepted glob stands.start.each legal (off glob) ∙ sym (lock_of_global old.plan rows g glob))
+    | inr loc ↦ ap (λ b. cond b (lock_at old.plan g (rows ++ r ∷ [])) free_lock) loc ∙ sym (ap (λ b. cond b (lock_at old.plan g rows) free_lock) loc)
+  ]
+
+  -- where the turn makes a call
+  call_serving : MakesCallOf old.queues t.before t.after made t.call → IsServing (locks_at old.plan (rows ++ r ∷ [])) (phases_at (rows ++ r ∷ [])) new.queues
+  call_serving mc =
+      (t.noted e mc.is).serving (locks_at old.plan rows) (locks_at old.plan (rows ++ r ∷ [])) (phases_at rows) (phases_at (rows ++ r ∷ [])) stands.serving
+      (record {
+        lock = own_lock;
+        other_locks = λ g off. off_lock g (λ glob. off_by r.res mc.res g (like.res ∙ mc.resource) off);
+        claim = ap (phases_at (rows ++ r ∷ [])) at_made ∙ (phase_now ∙ (mc.claim ∙ ap (λ p. claim_with p mc.res mc.call) (sym phase_before)));
+        other_claims = λ d off. other_phase d (ap (λ n. n == d) like.core ∙ off);
+      })
+      (answers_at old new c made rows cores stands due t mc) (in_phase old new c made rows cores stands due t mc)
     where
       e : PortCall
-      e = call_of made mc.res mc.call
+      e = record { core = made.core; res = mc.res; call = mc.call }
+
+      at_made : made.core.0 ≡ c
+      at_made = (turn_row old new c made rows cores stands due t).core
+
+      glob : is_global old.plan mc.res.0 ≡ true
+      glob = on_global old new c made rows cores stands due t mc
 
       told : (o : Option ℕ) → IfSome o (λ n. made.ahead ≡ Some n) → IfSome o (λ n. ahead_of_call mc.call ≡ Some n)
       told None h = tt
       told (Some n) h = sym mc.ahead ∙ h
 
-      by_res : (b : Bool) → (mc.res.0 == g) ≡ b → lock_after_calls (old.port.calls ++ call_of made mc.res mc.call ∷ []) g ≡ lock_at old.plan g (rows ++ r ∷ [])
-      by_res true at =
-          let on : mc.res.0 ≡ g = eqb-true mc.res.0 g at in
-          let answers : Answers (lock_at old.plan mc.res.0 rows) made.core.0 mc.call = answers_at old new c made rows cores stands due t mc in
+      own_lock : locks_at old.plan (rows ++ r ∷ []) mc.res.0 ≡ lock_after (locks_at old.plan rows mc.res.0) made.core.0 mc.call
+      own_lock =
+          let answers : Answers (lock_at old.plan mc.res.0 rows) made.core.0 mc.call = lock_answers old new c made rows cores stands due t mc in
           let row : IsRowOfCall mc.res.0 r.core.0 mc.call r = record { core = refl; resource = like.res ∙ mc.resource; kind = like.kind ∙ mc.kind; ahead = told r.ahead like.ahead } in
-          let agrees = agree_at old.plan mc.res.0 rows r mc.call cores.accepted mc.global stands.start.each legal row (tells_from_answers old.plan (fifo mc.res.0 rows) (first_holds old.plan rows mc.res.0 (fifo mc.res.0 rows)) made.core.0 mc.call answers) in
-          lock_own old.port.calls (call_of made mc.res mc.call) g on
-          ∙ (ap (λ l. lock_after l made.core.0 mc.call) (stands.locks g glob)
-          ∙ (ap (λ n. lock_after (lock_at old.plan g rows) n mc.call) (sym like.core)
-          ∙ subst (λ n. lock_after (lock_at old.plan n rows) r.core.0 mc.call ≡ lock_at old.plan n (rows ++ r ∷ [])) on (sym agrees.next)))
-      by_res false off =
-          lock_other old.port.calls (call_of made mc.res mc.call) g off
-          ∙ (stands.locks g glob ∙ sym (lock_off old.plan g rows r cores.accepted glob stands.start.each legal (off_by r.res mc.res g (like.res ∙ mc.resource) off)))
+          let agrees = agree_at old.plan mc.res.0 rows r mc.call cores.accepted glob stands.start.each legal row (tells_from_answers old.plan (fifo mc.res.0 rows) (first_holds old.plan rows mc.res.0 (fifo mc.res.0 rows)) made.core.0 mc.call answers) in
+          lock_of_global old.plan (rows ++ r ∷ []) mc.res.0 glob
+          ∙ (agrees.next
+          ∙ (ap (λ n. lock_after (lock_at old.plan mc.res.0 rows) n mc.call) like.core
+          ∙ ap (λ l. lock_after l made.core.0 mc.call) (sym (lock_of_global old.plan rows mc.res.0 glob))))
 
   -- and where it makes none
-  quiet_lock : IsQuiet old.plan made → (g : ℕ) → is_global old.plan g ≡ true → is_on g r.res ≡ false → lock_after_calls new.port.calls g ≡ lock_at old.plan g (rows ++ r ∷ [])
-  quiet_lock quiet g glob off =
-      ap (λ (p : FifoModel). lock_after_calls p.calls g) (t.quiet quiet)
-      ∙ (stands.locks g glob ∙ sym (lock_off old.plan g rows r cores.accepted glob stands.start.each legal off))
-
-  lock_by : (o : Option ResId) → made.res ≡ o → (g : ℕ) → is_global old.plan g ≡ true → lock_after_calls new.port.calls g ≡ lock_at old.plan g (rows ++ r ∷ [])
-  lock_by None e g glob = quiet_lock (λ res h. let no : None ≡ Some res = sym e ∙ h in absurd (cc)) g glob (ap (is_on g) (like.res ∙ e))
-  lock_by (Some res) e g glob = elim (cases_Bool (is_global old.plan res.0)) [
-    | inl own ↦ call_lock (t.call res e own) g glob
-    | inr loc ↦ quiet_lock (λ res' h. subst (λ (k : ResId). is_global old.plan k.0 ≡ false) (same_Some res res' (sym e ∙ h)) loc) g glob
-        (off_by r.res res g (like.res ∙ e) (not_this loc (res.0 == g) refl))
-  ]
+  quiet_serving : IsQuiet old.plan made → IsServing (locks_at old.plan (rows ++ r ∷ [])) (phases_at (rows ++ r ∷ [])) new.queues
+  quiet_serving quiet =
+      let x = cores.each c t.before t.has in
+      let none = t.turned.quiet (subst (λ p. IsQuiet p made) (sym x.same_plan) quiet) in
+      let own : phases_at (rows ++ r ∷ []) c ≡ phases_at rows c = phase_now ∙ (none.1 ∙ (stands.logs c t.before t.has).phase) in
+      subst (IsServing (locks_at old.plan (rows ++ r ∷ [])) (phases_at (rows ++ r ∷ []))) (sym (t.same none.0))
+      (serving_as (locks_at old.plan rows) (locks_at old.plan (rows ++ r ∷ [])) (phases_at rows) (phases_at (rows ++ r ∷ [])) old.queues
+      (λ g. off_lock g (λ glob. quiet_off quiet g glob r.res refl)) (λ d. same_phase own d (r.core.0 == d) refl) stands.serving)
     where
-      not_this : is_global old.plan res.0 ≡ false → (b : Bool) → (res.0 == g) ≡ b → (res.0 == g) ≡ false
-      not_this loc true h = absurd (true≢false (sym glob ∙ (ap (is_global old.plan) (sym (eqb-true res.0 g h)) ∙ loc)))
-      not_this loc false h = h
+      quiet_off : IsQuiet old.plan made → (g : ℕ) → is_global old.plan g ≡ true → (o : Option ResId) → r.res ≡ o → is_on g o ≡ false
+      quiet_off quiet g glob None e = refl
+      quiet_off quiet g glob (Some l) e = elim (cases_Bool (l.0 == g)) [
+        | inl on ↦ absurd (true≢false (sym (ap (is_global old.plan) (eqb-true l.0 g on) ∙ glob) ∙ quiet l (sym like.res ∙ e)))
+        | inr off ↦ off
+      ]
+
+      same_phase : phases_at (rows ++ r ∷ []) c ≡ phases_at rows c → (d : ℕ) (b : Bool) → (r.core.0 == d) ≡ b → phases_at (rows ++ r ∷ []) d ≡ phases_at rows d
+      same_phase own d true on = subst (λ k. phases_at (rows ++ r ∷ []) k ≡ phases_at rows k) (sym at_core ∙ eqb-true r.core.0 d on) own
+      same_phase own d false off = other_phase d off
+
+  serving_by : (o : Option ResId) → made.res ≡ o → IsServing (locks_at old.plan (rows ++ r ∷ [])) (phases_at (rows ++ r ∷ [])) new.queues
+  serving_by None e = quiet_serving (λ res h. let no : None ≡ Some res = sym e ∙ h in absurd (cc))
+  serving_by (Some res) e = elim (cases_Bool (is_global old.plan res.0)) [
+    | inl own ↦ call_serving (t.turned.call res e (ap (λ p. is_global p res.0) (cores.each c t.before t.has).same_plan ∙ own))
+    | inr loc ↦ quiet_serving (λ res' h. subst (λ (k : ResId). is_global old.plan k.0 ≡ false) (same_Some res res' (sym e ∙ h)) loc)
+  ]
 
   -- the cores stand after that row
   pub stand_push : StandFor new (rows ++ r ∷ [])
-  stand_push = subst (λ p. StandFor (record { plan = p; machines = new.machines; port = new.port }) (rows ++ r ∷ [])) (sym t.plan)
+  stand_push = subst (λ p. StandFor (record { plan = p; machines = new.machines; queues = new.queues }) (rows ++ r ∷ [])) (sym t.plan)
       (record {
         start = start_push old.plan rows r stands.start due.left legal;
         logs = λ d y has. some_log d y has (d == c) refl;
-        locks = lock_by made.res refl;
+        serving = serving_by made.res refl;
       })

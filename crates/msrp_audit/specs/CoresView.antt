@@ -1,9 +1,0 @@
--- What a clause sees of the cores of an auditor, and what their fields keep.
-use Rattle.msrp_audit.specs.Cores.{CoresModel, AreCores}
-use Rattle.msrp_audit.specs.declared.cores.Cores.TheInside.{Inside}
-
-abbrev pub cores_view : Inside → CoresModel
-cores_view c = record { plan = c.plan.now; machines = c.machines.items; port = c.port }
-
-abbrev pub AreCoresView : Inside → Type 0
-AreCoresView c = AreCores (cores_view c)

@@ -1,0 +1,98 @@
+-- The cores of a plan over first-in-first-out queues, and the rows that they stand after.
+use Rattle.std.specs.Prelude.{ℕ, List, [], true, Option, Some, None, IfSome, length, slice_get, slice_set, sum_by, ◌≡◌, ◌<◌, ◌≤◌, ◌*◌, ◌/◌, if◌then◌else◌}
+use Rattle.std.specs.Option.{ForSome}
+use Rattle.msrp_plan.specs.Plan.{PlanModel}
+use Rattle.msrp_plan.specs.Levels.{is_global}
+use Rattle.msrp_plan.specs.Aheads.{carries_its_ahead}
+use Rattle.msrp_plan.specs.Runs.{IsRunStart, IsLegal}
+use Rattle.msrp_plan.specs.Logs.{log_of}
+use Rattle.msrp_plan.specs.FifoLock.{FifoLock, free_lock}
+use Rattle.msrp_plan.specs.LockStates.{lock_at}
+use Rattle.msrp_plan.specs.Phases.{phase_after}
+use Rattle.msrp_plan.specs.WellFormed.{IsPlan}
+use Rattle.msrp_plan.specs.declared.rows.Row.{Row}
+use Rattle.msrp_plan.specs.declared.units.Phase.{Phase}
+use Rattle.msrp_core.specs.Machine.{MachineModel, StandsAfter}
+use Rattle.msrp_core.specs.declared.port.PortCall.{PortCall}
+use Rattle.msrp_sim.specs.Serving.{AreDrawn, IsServing, Notes}
+use Rattle.msrp_sim.specs.TurnPorts.{HasTurned}
+use Rattle.msrp_sim.specs.declared.tickets.Queues.{Queues}
+
+-- the machines of the cores, by number, and the queues of the resources
+pub record CoresModel : Type 0 where
+  pub plan : PlanModel
+  pub machines : List MachineModel
+  pub queues : Queues
+
+-- the machine is that of the core, and stands after some log
+pub record IsMachineOf (plan : PlanModel) (c : ℕ) (x : MachineModel) : Type 0 where
+  pub same_plan : x.plan ≡ plan
+  pub core : x.core ≡ c
+  pub log : List Row
+  pub stands : StandsAfter x log
+  pub left : x.tick ≤ plan.ticks
+
+-- a machine for each core of an accepted plan, of which each drew at most one ticket in each of its ticks
+pub record AreCores (m : CoresModel) : Type 0 where
+  pub accepted : IsPlan m.plan
+  pub size : length m.machines ≡ m.plan.cores
+  pub each : (c : ℕ) (x : MachineModel) → slice_get m.machines c ≡ Some x → IsMachineOf m.plan c x
+  pub drawn : AreDrawn m.queues (sum_by (λ x. x.tick) m.machines)
+
+-- the lock of each resource as the rows leave it: a local one is none, and stays free
+abbrev pub locks_at : PlanModel → List Row → ℕ → FifoLock
+locks_at plan rows g = if is_global plan g then lock_at plan g rows else free_lock
+
+-- what each core holds or awaits after the rows
+abbrev pub phases_at : List Row → ℕ → Phase
+phases_at rows c = phase_after (log_of c rows)
+
+-- the start of a legal run leaves the cores so: each machine stands after its core's log, and the tickets of each resource
+-- are those of the lock that the rows leave
+pub record StandFor (m : CoresModel) (rows : List Row) : Type 0 where
+  pub start : IsRunStart m.plan rows
+  pub logs : (c : ℕ) (x : MachineModel) → slice_get m.machines c ≡ Some x → StandsAfter x (log_of c rows)
+  pub serving : IsServing (locks_at m.plan rows) (phases_at rows) m.queues
+
+-- the core has had one turn in each full tick, and rows are left
+pub record IsDueAfter (plan : PlanModel) (rows : List Row) (c : ℕ) : Type 0 where
+  pub core : c < plan.cores
+  pub left : length rows < plan.cores * plan.ticks
+  pub due : length (log_of c rows) ≡ length rows / plan.cores
+
+-- the row is the next one of the core, and carries its ahead
+pub record IsNextRow (plan : PlanModel) (rows : List Row) (c : ℕ) (r : Row) : Type 0 where
+  pub core : r.core.0 ≡ c
+  pub legal : IsLegal plan rows r
+  pub carries : carries_its_ahead r ≡ true
+
+-- a row as another, which may leave the ahead out
+pub record IsAs (due r : Row) : Type 0 where
+  pub core : r.core.0 ≡ due.core.0
+  pub kind : r.kind ≡ due.kind
+  pub job : r.job ≡ due.job
+  pub res : r.res ≡ due.res
+  pub ahead : IfSome r.ahead (λ n. due.ahead ≡ Some n)
+
+-- a machine before its first turn
+pub record IsNew (plan : PlanModel) (c : ℕ) (x : MachineModel) : Type 0 where
+  pub plan_is : x.plan ≡ plan
+  pub core : x.core ≡ c
+  pub stands : StandsAfter x []
+
+-- the machines of the first n cores, in order, before their first turns
+pub record AreNew (plan : PlanModel) (n : ℕ) (machines : List MachineModel) : Type 0 where
+  pub size : length machines ≡ n
+  pub each : (c : ℕ) (x : MachineModel) → slice_get machines c ≡ Some x → IsNew plan c x
+
+-- one turn of a core: its machine goes one tick on, and its call, if it makes one, goes into the queues
+pub record TakesTurn (old new : CoresModel) (c : ℕ) (r : Row) : Type 0 where
+  pub plan : new.plan ≡ old.plan
+  pub before : MachineModel
+  pub after : MachineModel
+  pub call : Option PortCall
+  pub has : slice_get old.machines c ≡ Some before
+  pub machines : new.machines ≡ slice_set old.machines c after
+  pub turned : HasTurned old.queues before after r call
+  pub same : call ≡ None → new.queues ≡ old.queues
+  pub noted : ForSome call (λ e. Notes e old.queues new.queues)

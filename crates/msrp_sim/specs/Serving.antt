@@ -1,0 +1,50 @@
+-- How the tickets of the queues stand for the locks of the resources, and what one call more does to them.
+use Rattle.std.specs.Prelude.{ℕ, List, false, ◌==◌, ◌≡◌, ◌≤◌, ◌+◌, ◌-◌, slice_index_or, ⊤}
+use Rattle.msrp_plan.specs.Calls.{claim_with, IsInTurn}
+use Rattle.msrp_plan.specs.FifoLock.{FifoLock, Answers, lock_after}
+use Rattle.msrp_plan.specs.declared.units.Call.{Call}
+use Rattle.msrp_plan.specs.declared.units.Call.TheVariants.{Ask, Poll, Leave}
+use Rattle.msrp_plan.specs.declared.units.Phase.{Phase}
+use Rattle.msrp_core.specs.declared.port.PortCall.{PortCall}
+use Rattle.msrp_sim.specs.Served.{IsClaim, IsTicketed}
+use Rattle.msrp_sim.specs.declared.tickets.Queues.{Queues}
+use Rattle.msrp_sim.specs.declared.tickets.Tickets.{Tickets}
+
+-- the tickets of a resource, none drawn of one that isn't there
+abbrev pub tickets_in : List Tickets → ℕ → Tickets
+tickets_in queues g = slice_index_or queues g (record { next = 0; serving = 0 })
+
+abbrev pub queue_of : Queues → ℕ → Tickets
+queue_of q g = tickets_in q.queues g
+
+-- the newest ticket of a core
+abbrev pub ticket_of : Queues → ℕ → ℕ
+ticket_of q c = slice_index_or q.tickets c 0
+
+-- no more tickets were drawn of a resource than this, and no more served
+abbrev pub AreDrawn : Queues → ℕ → Type 0
+AreDrawn q n = (g : ℕ) → ((queue_of q g).next ≤ n) × ((queue_of q g).serving ≤ n)
+
+-- each core holds or awaits what its claim and the locks say, and the tickets of each resource are those of its lock
+pub record IsServing (locks : ℕ → FifoLock) (claims : ℕ → Phase) (q : Queues) : Type 0 where
+  pub stances : (c : ℕ) → IsClaim locks c (claims c)
+  pub tickets : (g : ℕ) → IsTicketed (locks g).queue (queue_of q g).next (queue_of q g).serving (ticket_of q)
+
+-- the call is answered as the tickets stand: so many have drawn one that isn't served yet, and the core's own is served
+abbrev pub IsTold : Queues → ℕ → ℕ → Call → Type 0
+IsTold q c g (Ask ahead) = ahead ≡ (queue_of q g).next - (queue_of q g).serving
+IsTold q c g (Poll granted) = granted ≡ (ticket_of q c == (queue_of q g).serving)
+IsTold q c g Leave = ⊤
+
+-- the call changes the lock of its resource and the claim of its core, and no others
+pub record MovesBy (e : PortCall) (locks after : ℕ → FifoLock) (claims newer : ℕ → Phase) : Type 0 where
+  pub lock : after e.res.0 ≡ lock_after (locks e.res.0) e.core.0 e.call
+  pub other_locks : (g : ℕ) → (e.res.0 == g) ≡ false → after g ≡ locks g
+  pub claim : newer e.core.0 ≡ claim_with (claims e.core.0) e.res e.call
+  pub other_claims : (c : ℕ) → (e.core.0 == c) ≡ false → newer c ≡ claims c
+
+-- the queues after one call more: whatever locks they stood for, they stand for those that a call leaves which is made in
+-- its turn and answered as its lock answers
+pub record Notes (e : PortCall) (old new : Queues) : Type 0 where
+  pub serving : (locks after : ℕ → FifoLock) (claims newer : ℕ → Phase) → IsServing locks claims old → MovesBy e locks after claims newer → Answers (locks e.res.0) e.core.0 e.call → IsInTurn (claims e.core.0) e.res e.call → IsServing after newer new
+  pub drawn : (n : ℕ) → AreDrawn old n → AreDrawn new (n + 1)

@@ -1,0 +1,77 @@
+-- A port for one turn of one core, and what the turn makes.
+use Rattle.std.specs.Prelude.{ℕ, List, [], ◌∷◌, ◌++◌, true, ◌==◌, ◌&&◌, is_none, Option, Some, None, ◌≡◌, ◌+◌, if◌then◌else◌}
+use Rattle.std.specs.Option.{ForSome}
+use Rattle.msrp_plan.specs.Levels.{is_global}
+use Rattle.msrp_plan.specs.Runs.{IsCoreTurn}
+use Rattle.msrp_plan.specs.Calls.{claim_with, IsInTurn, kind_of_call, ahead_of_call}
+use Rattle.msrp_plan.specs.declared.ids.CoreId.{CoreId}
+use Rattle.msrp_plan.specs.declared.ids.ResId.{ResId}
+use Rattle.msrp_plan.specs.declared.rows.Row.{Row}
+use Rattle.msrp_plan.specs.declared.units.Call.{Call}
+use Rattle.msrp_plan.specs.declared.units.Call.TheVariants.{Ask}
+use Rattle.msrp_plan.specs.declared.units.Phase.{Phase}
+use Rattle.msrp_plan.specs.declared.units.Phase.TheVariants.{Free, Queued, Holding}
+use Rattle.msrp_core.specs.CoreJobs.{IsQuiet}
+use Rattle.msrp_core.specs.Machine.{MachineModel, StandsAfter}
+use Rattle.msrp_core.specs.Ports.{PortModel, claim_in}
+use Rattle.msrp_core.specs.declared.port.PortCall.{PortCall}
+use Rattle.msrp_sim.specs.Serving.{IsTold}
+use Rattle.msrp_sim.specs.declared.tickets.Queues.{Queues}
+
+-- a call of a core that leaves it so, if it needs one
+abbrev pub call_before : ℕ → Phase → List PortCall
+call_before c Free = []
+call_before c (Queued g) = record { core = record { 0 = c }; res = g; call = Ask 1 } ∷ []
+call_before c (Holding g) = record { core = record { 0 = c }; res = g; call = Ask 0 } ∷ []
+
+-- the call of the turn, if there was one
+abbrev pub as_calls : Option PortCall → List PortCall
+as_calls None = []
+as_calls (Some e) = e ∷ []
+
+-- the core may make one call more
+abbrev pub port_after : List PortCall → CoreId → ℕ → Option PortCall → PortModel
+port_after before core resources call = record { calls = before ++ as_calls call; rooms = λ c. (if (c == core.0) && is_none call then 1 else 0); resources = resources }
+
+-- the core, the number of resources and the call so far
+pub record TurnPortModel : Type 0 where
+  pub core : CoreId
+  pub resources : ℕ
+  pub call : Option PortCall
+
+-- a call that is made in its turn after the others, and answered as the tickets stand
+pub record IsCallAfter (before : List PortCall) (q : Queues) (e : PortCall) : Type 0 where
+  pub turn : IsInTurn (claim_in e.core.0 before) e.res e.call
+  pub told : IsTold q e.core.0 e.res.0 e.call
+
+-- the queues are those from before the turn, and so is the call of it
+pub record IsTurnPort (before : List PortCall) (first queues : Queues) (call : Option PortCall) : Type 0 where
+  pub same : queues ≡ first
+  pub made : ForSome call (IsCallAfter before first)
+
+-- no queues
+abbrev pub no_queues : Queues
+no_queues = record { queues = []; tickets = [] }
+
+-- the call of a turn: the row is the one that it makes, and it is made in its turn and answered as the tickets stand
+pub record MakesCallOf (q : Queues) (old new : MachineModel) (r : Row) (made : Option PortCall) : Type 0 where
+  pub res : ResId
+  pub resource : r.res ≡ Some res
+  pub global : is_global old.plan res.0 ≡ true
+  pub call : Call
+  pub is : made ≡ Some (record { core = r.core; res = res; call = call })
+  pub kind : r.kind ≡ kind_of_call call
+  pub ahead : r.ahead ≡ ahead_of_call call
+  pub turn : IsInTurn old.phase res call
+  pub told : IsTold q r.core.0 res.0 call
+  pub claim : new.phase ≡ claim_with old.phase res call
+
+-- the machine's turn made the row and the call, if it made one
+pub record HasTurned (q : Queues) (old new : MachineModel) (r : Row) (made : Option PortCall) : Type 0 where
+  pub plan : new.plan ≡ old.plan
+  pub core : new.core ≡ old.core
+  pub tick : new.tick ≡ old.tick + 1
+  pub row : (log : List Row) → StandsAfter old log → IsCoreTurn old.plan old.core log r
+  pub stands : (log : List Row) → StandsAfter old log → StandsAfter new (log ++ r ∷ [])
+  pub call : (res : ResId) → r.res ≡ Some res → is_global old.plan res.0 ≡ true → MakesCallOf q old new r made
+  pub quiet : IsQuiet old.plan r → (made ≡ None) × (new.phase ≡ old.phase)

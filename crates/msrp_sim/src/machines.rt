@@ -1,0 +1,151 @@
+//! All cores of a plan, and the queues of its global resources.
+ghost use Rattle.std.specs.Prelude.{◌≡◌, ◌<◌, ◌++◌, ◌∷◌, [], List, IfOk, None, Some, slice_get};
+ghost use Rattle.std.specs.Option.{ForSome, option_map};
+ghost use Rattle.msrp_plan.specs.Limits.{most_cores, most_resources, most_rows};
+ghost use Rattle.msrp_plan.specs.Runs.{IsLegal};
+ghost use Rattle.msrp_plan.specs.WellFormed.{IsPlan};
+ghost use Rattle.msrp_plan.specs.declared.rows.Row.{Row as TraceRow};
+ghost use Rattle.msrp_core.specs.Machine.{MachineModel};
+ghost use Rattle.msrp_sim.specs.Cores.{AreNew, StandFor, IsDueAfter, IsNextRow, IsAs};
+ghost use Rattle.msrp_sim.specs.Serving.{AreDrawn, Notes};
+
+use crate::tickets::Queues;
+use crate::turning::turn_by;
+use msrp_core::{Machine, PortCall, Reply};
+use msrp_levels::Levels;
+use msrp_plan::{CoreId, Kind, Memory, Plan, Row};
+use std::alloc::Global;
+use std::marker::Model;
+
+/// The machine of each core of a plan, and the queues of its global resources: after the start of a legal run it tells
+/// the one row that each core may make next. It keeps no list of the calls.
+#[derive(Drop)]
+pub struct Cores<'a> {
+    plan: &'a Plan,
+    machines: Vec<Machine<'a>>,
+    queues: Queues,
+}
+
+impl<'a> Model for Cores<'a> {
+    ghost use Rattle.msrp_sim.specs.Cores.{CoresModel};
+
+    ghost Value = { CoresModel };
+
+    ghost use Rattle.msrp_sim.specs.CoresView.{cores_view, AreCoresView};
+
+    ghost view = { cores_view };
+
+    ghost invariant = { AreCoresView };
+}
+
+// The row of a turn that asks the queues, with the answer that they give now.
+fn replied(queues: &Queues, row: Row) -> Row {
+    match (row.kind, row.res) {
+        (Kind::Take, Some(res)) => match queues.reply(res) {
+            Reply::Taken => row,
+            Reply::Queued(ahead) => Row {
+                tick: row.tick,
+                core: row.core,
+                kind: Kind::Queue,
+                job: row.job,
+                res: row.res,
+                ahead: Some(ahead),
+            },
+        },
+        (Kind::Grant, Some(res)) if !queues.grants(row.core, res) => Row {
+            tick: row.tick,
+            core: row.core,
+            kind: Kind::Spin,
+            job: row.job,
+            res: row.res,
+            ahead: None,
+        },
+        _ => row,
+    }
+}
+
+// The queues after a turn that made this call, if it made one.
+fn note_turn(queues: &mut Queues, call: Option<PortCall>)
+    requires core { ForSome call (λ e. e.core.0 < most_cores) }
+    requires resource { ForSome call (λ e. e.res.0 < most_resources) }
+    requires drawn { AreDrawn queues.old most_rows }
+    ensures none { call ≡ None → queues.new ≡ queues.old }
+    ensures noted { ForSome call (λ e. Notes e queues.old queues.new) }
+{
+    if let Some(made) = call {
+        queues.note(made);
+    }
+}
+
+// A machine for each core, before its first turn.
+fn machines_of<'a>(
+    alloc: Global,
+    plan: &'a Plan,
+    levels: &'a Levels<'a>,
+) -> Result<Vec<Machine<'a>>, Memory>
+    requires { levels.now ≡ plan.now }
+    ensures { IfOk result (λ machines. AreNew plan.now plan.now.cores machines.items) }
+{
+    let cores = plan.cores();
+    let mut machines = Vec::with_capacity(alloc, cores as usize).map_err(|_| Memory)?;
+    for core in 0..cores {
+        machines.push_reserved(Machine::with_room(alloc, plan, levels, CoreId(core))?);
+    }
+    Ok(machines)
+}
+
+impl<'a> Cores<'a> {
+    /// The cores before the first tick. All memory that they ever need is taken here: it is [`Memory`] only where that
+    /// was refused. The levels are those of the plan.
+    pub fn with_room(
+        alloc: Global,
+        plan: &'a Plan,
+        levels: &'a Levels<'a>,
+    ) -> Result<Cores<'a>, Memory>
+        requires levels { levels.now ≡ plan.now }
+        ensures accepted { IfOk result (λ cores. IsPlan cores.plan) }
+        ensures plan { IfOk result (λ cores. cores.plan ≡ plan.now) }
+        ensures stand { IfOk result (λ cores. StandFor cores []) }
+    {
+        // Read so that the plan is known to be an accepted one.
+        let _accepted = plan.cores();
+        Ok(Cores {
+            plan,
+            machines: machines_of(alloc, plan, levels)?,
+            queues: Queues::new(),
+        })
+    }
+
+    /// How many turns the core has had.
+    pub fn tick(&self, core: CoreId) -> u32
+        requires { core.0 < self.now.plan.cores }
+        ensures { option_map (λ x. x.tick) (slice_get self.now.machines core.0) ≡ Some result }
+    {
+        self.machines[core.0 as usize].tick()
+    }
+
+    /// A guess of the core's next row, where its machine foresees it. Nothing is promised of it.
+    pub fn foresee(&self, core: CoreId) -> Option<Row>
+        requires { core.0 < self.now.plan.cores }
+    {
+        let row = self.machines[core.0 as usize].foresee()?;
+        Some(replied(&self.queues, row))
+    }
+
+    /// The core's next turn. Whatever rows the cores stand for, the row is the next one of that core after them, and
+    /// the cores then stand for them and this row, with its ahead or without.
+    #[inline(always)]
+    pub fn turn(&mut self, core: CoreId) -> Row
+        requires core { core.0 < self.old.plan.cores }
+        requires tick { (x : MachineModel) → slice_get self.old.machines core.0 ≡ Some x → x.tick < self.old.plan.ticks }
+        ensures plan { self.new.plan ≡ self.old.plan }
+        ensures next { (rows : List TraceRow) → StandFor self.old rows → IsDueAfter self.old.plan rows core.0 → IsNextRow self.old.plan rows core.0 result }
+        ensures stand { (rows : List TraceRow) (row : TraceRow) → StandFor self.old rows → IsDueAfter self.old.plan rows core.0 → IsAs result row → IsLegal self.old.plan rows row → StandFor self.new (rows ++ row ∷ []) }
+    {
+        let resources = self.plan.resources();
+        let machine = &mut self.machines[core.0 as usize];
+        let turned = turn_by(&self.queues, resources, machine);
+        note_turn(&mut self.queues, turned.call);
+        turned.row
+    }
+}
