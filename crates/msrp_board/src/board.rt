@@ -105,12 +105,12 @@ impl Board {
         ensures entry { seat.new ≡ with_entry res result.place (Ask result.ahead) seat.old }
         ensures behind { IsBehind res.0 result.place seat.old }
     {
-        let state = seat.states.own();
         let word = steps::ask(&self.table.shared, &mut seat.table_seat, res.0 as usize);
         let asked = Asked {
             place: word.next + word.serving,
             ahead: word.next - word.serving,
         };
+        let state = seat.states.own();
         seat.states.set_own(state.with_ask(res.0, word));
         asked
     }
@@ -174,13 +174,13 @@ impl Board {
             resources,
             ..
         } = self.size;
-        let state = seat.states.own();
         let found = steps::look(
             &self.table.shared,
             &mut seat.table_seat,
             resources as usize,
             cores,
         );
+        let state = seat.states.own();
         let look = state.finds(cores, found);
         seat.states.set_own(state.after_look(look));
         look
@@ -193,9 +193,9 @@ impl Board {
         requires admitted { IsIn Admitted seat.old }
         ensures { seat.new ≡ with_arrival seat.old }
     {
-        let state = seat.states.own();
         let BoardSize { resources, .. } = self.size;
         steps::arrive(&self.table.shared, &mut seat.table_seat, resources as usize);
+        let state = seat.states.own();
         seat.states.set_own(state.with_arrival());
     }
 
