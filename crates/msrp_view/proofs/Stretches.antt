@@ -6,7 +6,7 @@ use Rattle.std.proofs.lemmas.List.{drop_all}
 use Rattle.msrp_plan.specs.declared.rows.Row.{Row}
 use Rattle.msrp_view.specs.Blocks.{goes_on, last_tick}
 
-drop-at : (rows : List Row) (i : ℕ) (r : Row) → i < length rows → r ≡ slice_index_or rows i r → drop i rows ≡ r ∷ drop (i + 1) rows
+pub drop-at : (rows : List Row) (i : ℕ) (r : Row) → i < length rows → r ≡ slice_index_or rows i r → drop i rows ≡ r ∷ drop (i + 1) rows
 drop-at rows i r within is = drop-cons rows i r within ∙ (ap (λ (x : Row). x ∷ drop (suc i) rows) (sym is) ∙ ap (λ (n : ℕ). r ∷ drop n rows) {x = suc i} {y = i + 1} (omega arith))
 
 -- it goes on with one row more, ends before a row, and ends with the last row

@@ -1,7 +1,6 @@
 -- Arrows at the releases and the absolute deadlines of jobs, above the lanes of their cores.
-use Rattle.std.specs.Prelude.{ℕ, List, [], ◌++◌, ◌&&◌, Some, if◌then◌else◌, codes, decimal, length, nat_le, ◌+◌}
-use Rattle.std.specs.List.{flat_map, range_with_len}
-use Rattle.msrp_plan.specs.Jobs.{job_at, jobs_of}
+use Rattle.std.specs.Prelude.{ℕ, List, [], ◌++◌, ◌&&◌, Some, if◌then◌else◌, codes, decimal, nat_le, ◌+◌}
+use Rattle.msrp_plan.specs.Jobs.{job_at}
 use Rattle.msrp_plan.specs.Plan.{PlanModel, core_of, release, task_at}
 use Rattle.msrp_plan.specs.declared.ids.JobId.{JobId}
 use Rattle.msrp_view.specs.Elements.{use_end, use_head}
@@ -21,9 +20,3 @@ arrow_text plan w symbol j tick = if nat_le w.from tick && nat_le tick w.to then
 -- up where a job is released, and down at its absolute deadline
 unfoldable pub job_arrows : PlanModel → Window → ℕ → ℕ → List ℕ
 job_arrows plan w t k = arrow_text plan w (codes "release") (job_at t k) (release plan (job_at t k)) ++ arrow_text plan w (codes "deadline") (job_at t k) (release plan (job_at t k) + (task_at plan t).deadline)
-
-unfoldable pub task_arrows : PlanModel → Window → ℕ → List ℕ
-task_arrows plan w t = flat_map (job_arrows plan w t) (range_with_len 0 (length (jobs_of plan t)))
-
-abbrev pub arrows_text : PlanModel → Window → List ℕ
-arrows_text plan w = flat_map (task_arrows plan w) (range_with_len 0 (length plan.tasks))

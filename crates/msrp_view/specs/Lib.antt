@@ -13,6 +13,7 @@ pub mod Arrows
 pub mod Blocks
 pub mod ResourceLanes
 pub mod Lives
+pub mod Jobs
 pub mod Sections
 pub mod Svg
 pub mod Inside

@@ -1,7 +1,6 @@
 -- The life of a job, from its release to its end, and the thin line that is drawn of it below the lane of its core.
-use Rattle.std.specs.Prelude.{ℕ, List, [], ◌++◌, Bool, true, false, Some, if◌then◌else◌, codes, decimal, filter, fold, length, max, min, nat_lt, ◌+◌, ◌-◌, ◌*◌, ◌%◌}
-use Rattle.std.specs.List.{flat_map, range_with_len}
-use Rattle.msrp_plan.specs.Jobs.{is_finished, is_row_of, job_at, jobs_of}
+use Rattle.std.specs.Prelude.{ℕ, List, [], ◌++◌, Bool, true, false, Some, if◌then◌else◌, codes, decimal, filter, fold, max, min, nat_lt, ◌+◌, ◌-◌, ◌*◌, ◌%◌}
+use Rattle.msrp_plan.specs.Jobs.{is_finished, is_row_of}
 use Rattle.msrp_plan.specs.Plan.{PlanModel, core_of, release, task_of}
 use Rattle.msrp_plan.specs.declared.ids.JobId.{JobId}
 use Rattle.msrp_plan.specs.declared.rows.Row.{Row}
@@ -56,12 +55,6 @@ unfoldable pub line_text : PlanModel → Window → Life → List ℕ
 line_text plan w life =
     codes "<g>" ++ life_told plan life ++ span_text w (hue life.job.task.0) (life_top plan life.job) life.release life.end ++ span_text w (codes "late") (late_top plan life.job) life.due life.end ++ group_end
 
--- ---- those of all jobs
+-- the same where some of it is drawn
 abbrev pub life_text : PlanModel → Window → Life → List ℕ
 life_text plan w life = if is_seen w life.release life.end then line_text plan w life else []
-
-unfoldable pub task_lives : PlanModel → Window → List Row → ℕ → List ℕ
-task_lives plan w rows t = flat_map (λ k. life_text plan w (life_of plan rows (job_at t k))) (range_with_len 0 (length (jobs_of plan t)))
-
-abbrev pub lives_text : PlanModel → Window → List Row → List ℕ
-lives_text plan w rows = flat_map (task_lives plan w rows) (range_with_len 0 (length plan.tasks))

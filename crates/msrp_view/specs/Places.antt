@@ -1,9 +1,9 @@
 -- Places in a picture in SVG, in its units: the lanes of the cores, below them those of the global resources, and the legend.
-use Rattle.std.specs.Prelude.{ℕ, length, ◌+◌, ◌-◌, ◌*◌}
+use Rattle.std.specs.Prelude.{ℕ, length, max, ◌+◌, ◌-◌, ◌*◌, ◌/◌}
 use Rattle.msrp_plan.specs.Plan.{PlanModel}
 use Rattle.msrp_view.specs.Lines.{global_resources}
 use Rattle.msrp_view.specs.declared.elements.Area.{Area}
-use Rattle.msrp_view.specs.declared.places.TheConstants.{BLOCK_TOP, LANE_PITCH, LEGEND_LINE, RES_PITCH, TICK_WIDTH, TOP}
+use Rattle.msrp_view.specs.declared.places.TheConstants.{BLOCK_TOP, LANE_PITCH, LEGEND_LINE, RES_PITCH, SECTION_LEVELS, SECTION_ROOM, TICK_WIDTH, TOP}
 use Rattle.msrp_view.specs.declared.windows.Window.{Window}
 
 -- how wide so many ticks are
@@ -17,6 +17,10 @@ column w t = width_of (t - w.from)
 -- where the lane of a core begins
 abbrev pub lane_top : ℕ → ℕ
 lane_top c = TOP + c * LANE_PITCH
+
+-- how high a section is where so many stand under one another
+abbrev pub section_height : ℕ → ℕ
+section_height levels = SECTION_ROOM / max SECTION_LEVELS levels
 
 -- where the lane of a resource begins: below those of the global resources before it
 abbrev pub res_top : PlanModel → ℕ → ℕ

@@ -10,16 +10,15 @@ use Rattle.msrp_plan.specs.declared.faults.Rule.{Rule}
 use Rattle.msrp_plan.specs.declared.rows.Kind.TheVariants.{Idle}
 use Rattle.msrp_plan.specs.declared.rows.Row.{Row}
 use Rattle.msrp_trace.specs.TraceText.{kind_text}
-use Rattle.msrp_view.specs.Arrows.{arrows_text}
 use Rattle.msrp_view.specs.Blocks.{begins, is_in, last_tick, log_in}
 use Rattle.msrp_view.specs.Cells.{sign}
 use Rattle.msrp_view.specs.Elements.{attribute, group_end, place_head, rect_text, text_end, text_head, text_text}
 use Rattle.msrp_view.specs.Figures.{body_text, hue, res_told, span_told}
-use Rattle.msrp_view.specs.Lives.{lives_text}
+use Rattle.msrp_view.specs.Jobs.{jobs_text}
 use Rattle.msrp_view.specs.Picture.{rule_text, task_text, verdict_text, window_text}
 use Rattle.msrp_view.specs.Places.{block_area, column, lane_top, legend_top, width_of}
 use Rattle.msrp_view.specs.ResourceLanes.{resources_text}
-use Rattle.msrp_view.specs.Sections.{sections_text}
+use Rattle.msrp_view.specs.Sections.{core_sections}
 use Rattle.msrp_view.specs.Shown.{broken_row, later_rows, legal_rows}
 use Rattle.msrp_view.specs.declared.places.TheConstants.{LANE_HEIGHT, LEFT, LEGEND_WIDTH, TICK_WIDTH, TOP}
 use Rattle.msrp_view.specs.declared.windows.Window.{Window}
@@ -57,8 +56,12 @@ lane_text w c =
     text_head (codes "label") (LEFT - 8) (lane_top c + 24) ++ codes "core " ++ decimal c ++ text_end
     ++ rect_text (codes "lane") (record { x = LEFT; y = lane_top c; width = width_of (w.to - w.from); height = LANE_HEIGHT })
 
-abbrev pub lanes_text : PlanModel → Window → List ℕ
-lanes_text plan w = flat_map (lane_text w) (range_with_len 0 plan.cores)
+-- the same with its blocks and sections
+unfoldable pub core_lane : PlanModel → Window → List Row → ℕ → List ℕ
+core_lane plan w rows c = lane_text w c ++ core_text plan w rows c ++ core_sections plan w rows c
+
+abbrev pub lanes_text : PlanModel → Window → List Row → List ℕ
+lanes_text plan w rows = flat_map (core_lane plan w rows) (range_with_len 0 plan.cores)
 
 -- ---- a rule that is broken
 -- the row that breaks it is framed, with the rule's name
@@ -122,7 +125,7 @@ svg_legend plan = flat_map (legend_line plan) (range_with_len 0 (length plan.tas
 -- ---- the whole
 abbrev pub drawn_svg : PlanModel → List Row → List Row → Option Row → Result ⊤ Fault → Window → List ℕ
 drawn_svg plan legal later broken found w =
-    svg_head plan w ++ caption_text plan found w ++ axis_text w ++ lanes_text plan w ++ arrows_text plan w ++ cores_text plan w legal ++ sections_text plan w legal ++ lives_text plan w legal ++ resources_text plan w legal ++ found_text plan w later broken found ++ svg_legend plan ++ codes "</svg>\n"
+    svg_head plan w ++ caption_text plan found w ++ axis_text w ++ lanes_text plan w legal ++ jobs_text plan w legal ++ resources_text plan w legal ++ found_text plan w later broken found ++ svg_legend plan ++ codes "</svg>\n"
 
 abbrev pub svg_text : PlanModel → List Row → Result ⊤ Fault → Window → List ℕ
 svg_text plan rows found w = drawn_svg plan (legal_rows rows found) (later_rows rows found) (broken_row rows found) found w

@@ -1,14 +1,14 @@
 //! Arrows at the releases and the absolute deadlines of jobs, above the lanes of their cores.
 ghost use Rattle.std.specs.Prelude.{◌≡◌, ◌<◌, ◌++◌, length, IsSome, OnOk};
 ghost use Rattle.msrp_plan.specs.Plan.{release_tick};
-ghost use Rattle.msrp_view.specs.Arrows.{arrow_text, arrow_told, arrows_text, job_arrows, task_arrows};
+ghost use Rattle.msrp_view.specs.Arrows.{arrow_text, arrow_told, job_arrows};
 
 use crate::elements::{begin_use, end_use};
 use crate::figures::{add_job_told, hue_letter};
 use crate::picture::{add, add_number};
 use crate::places::{LEFT, column, lane_top};
 use crate::windows::Window;
-use msrp_plan::{JobId, Memory, Plan, TaskId};
+use msrp_plan::{JobId, Memory, Plan};
 
 // Whose an arrow is, what it stands for, and the tick.
 fn add_arrow_told(
@@ -51,7 +51,13 @@ fn add_arrow(
     }
 }
 
-fn add_job_arrows(text: &mut Vec<u8>, plan: &Plan, window: Window, job: JobId) -> Result<(), Memory>
+/// Adds the release and the absolute deadline of a job.
+pub(crate) fn add_job_arrows(
+    text: &mut Vec<u8>,
+    plan: &Plan,
+    window: Window,
+    job: JobId,
+) -> Result<(), Memory>
     requires task { job.task.0 < length plan.now.tasks }
     requires released { IsSome (release_tick plan.now job) }
     ensures { OnOk result (text.new.items ≡ text.old.items ++ job_arrows plan.now window job.task.0 job.k) }
@@ -60,29 +66,4 @@ fn add_job_arrows(text: &mut Vec<u8>, plan: &Plan, window: Window, job: JobId) -
     let deadline = release + plan.deadline(job.task) as u64;
     add_arrow(text, plan, window, b"release", job, release)?;
     add_arrow(text, plan, window, b"deadline", job, deadline)
-}
-
-fn add_task_arrows(
-    text: &mut Vec<u8>,
-    plan: &Plan,
-    window: Window,
-    task: TaskId,
-) -> Result<(), Memory>
-    requires { task.0 < length plan.now.tasks }
-    ensures { OnOk result (text.new.items ≡ text.old.items ++ task_arrows plan.now window task.0) }
-{
-    for k in 0..plan.jobs(task) {
-        add_job_arrows(text, plan, window, JobId { task, k })?;
-    }
-    Ok(())
-}
-
-/// Adds the releases and absolute deadlines of all jobs.
-pub(crate) fn add_arrows(text: &mut Vec<u8>, plan: &Plan, window: Window) -> Result<(), Memory>
-    ensures { OnOk result (text.new.items ≡ text.old.items ++ arrows_text plan.now window) }
-{
-    for task in 0..plan.tasks() {
-        add_task_arrows(text, plan, window, TaskId(task))?;
-    }
-    Ok(())
 }

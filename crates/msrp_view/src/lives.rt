@@ -3,7 +3,7 @@ ghost use Rattle.std.specs.Prelude.{◌≡◌, ◌<◌, ◌≤◌, ◌++◌, ◌
 ghost use Rattle.msrp_plan.specs.Jobs.{done, is_row_of, is_waiting};
 ghost use Rattle.msrp_plan.specs.Plan.{release_tick};
 ghost use Rattle.msrp_view.specs.Inside.TaskRows.{is_job_of, task_rows};
-ghost use Rattle.msrp_view.specs.Lives.{after_last, end_word, is_seen, late_top, life_of, life_text, life_told, life_top, line_text, lives_text, span_text, task_lives};
+ghost use Rattle.msrp_view.specs.Lives.{after_last, end_word, is_seen, late_top, life_of, life_text, life_told, life_top, line_text, span_text};
 ghost use Rattle.msrp_view.specs.Windows.{begun};
 
 use crate::elements::{Area, add_rect, end_group};
@@ -35,8 +35,8 @@ fn is_job_of(task: TaskId, job: Option<JobId>) -> bool
     }
 }
 
-// The rows of a task, in their order.
-fn task_rows(alloc: Global, rows: &[Row], task: TaskId) -> Result<Vec<Row>, Memory>
+/// The rows of a task, in their order.
+pub(crate) fn task_rows(alloc: Global, rows: &[Row], task: TaskId) -> Result<Vec<Row>, Memory>
     ensures { IfOk result (λ found. found.items ≡ task_rows task.0 rows.now) }
 {
     let mut found = Vec::new(alloc);
@@ -92,8 +92,8 @@ fn end_of(plan: &Plan, rows: &[Row], own: &[Row], job: JobId, is_finished: bool)
     }
 }
 
-// The life of a job, where these are the rows of its task among the rows that stand.
-fn life_of(plan: &Plan, rows: &[Row], own: &[Row], job: JobId) -> Life
+/// The life of a job, where these are the rows of its task among the rows that stand.
+pub(crate) fn life_of(plan: &Plan, rows: &[Row], own: &[Row], job: JobId) -> Life
     requires task { job.task.0 < length plan.now.tasks }
     requires released { IsSome (release_tick plan.now job) }
     requires rows { own.now ≡ task_rows job.task.0 rows.now }
@@ -198,8 +198,13 @@ fn add_line(text: &mut Vec<u8>, plan: &Plan, window: Window, life: Life) -> Resu
     end_group(text)
 }
 
-// The same where some of it is drawn.
-fn add_life(text: &mut Vec<u8>, plan: &Plan, window: Window, life: Life) -> Result<(), Memory>
+/// Adds the line of a life, where some of it is drawn.
+pub(crate) fn add_life(
+    text: &mut Vec<u8>,
+    plan: &Plan,
+    window: Window,
+    life: Life,
+) -> Result<(), Memory>
     requires { life.job.task.0 < length plan.now.tasks }
     ensures { OnOk result (text.new.items ≡ text.old.items ++ life_text plan.now window life) }
 {
@@ -208,39 +213,4 @@ fn add_life(text: &mut Vec<u8>, plan: &Plan, window: Window, life: Life) -> Resu
     } else {
         Ok(())
     }
-}
-
-fn add_task_lives(
-    alloc: Global,
-    text: &mut Vec<u8>,
-    plan: &Plan,
-    window: Window,
-    rows: &[Row],
-    task: TaskId,
-) -> Result<(), Memory>
-    requires { task.0 < length plan.now.tasks }
-    ensures { OnOk result (text.new.items ≡ text.old.items ++ task_lives plan.now window rows.now task.0) }
-{
-    let own = task_rows(alloc, rows, task)?;
-    for k in 0..plan.jobs(task) {
-        let life = life_of(plan, rows, &own, JobId { task, k });
-        add_life(text, plan, window, life)?;
-    }
-    Ok(())
-}
-
-/// Adds the lines of all jobs.
-pub(crate) fn add_lives(
-    alloc: Global,
-    text: &mut Vec<u8>,
-    plan: &Plan,
-    window: Window,
-    rows: &[Row],
-) -> Result<(), Memory>
-    ensures { OnOk result (text.new.items ≡ text.old.items ++ lives_text plan.now window rows.now) }
-{
-    for task in 0..plan.tasks() {
-        add_task_lives(alloc, text, plan, window, rows, TaskId(task))?;
-    }
-    Ok(())
 }

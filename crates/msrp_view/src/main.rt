@@ -11,6 +11,7 @@ mod cli;
 mod elements;
 mod engine;
 mod figures;
+mod jobs;
 mod lines;
 mod lives;
 mod picture;

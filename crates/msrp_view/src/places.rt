@@ -1,7 +1,7 @@
 //! Places in a picture in SVG, in its units.
-ghost use Rattle.std.specs.Prelude.{◌≡◌, ◌<◌, ◌≤◌, ◌^◌, length};
+ghost use Rattle.std.specs.Prelude.{◌≡◌, ℕ, ◌<◌, ◌≤◌, ◌*◌, ◌^◌, length};
 ghost use Rattle.msrp_view.specs.Lines.{global_resources};
-ghost use Rattle.msrp_view.specs.Places.{block_area, column, lane_top, legend_top, res_top, width_of};
+ghost use Rattle.msrp_view.specs.Places.{block_area, column, lane_top, legend_top, res_top, section_height, width_of};
 
 use crate::elements::Area;
 use crate::windows::Window;
@@ -45,13 +45,13 @@ pub const TOP: u64 = 90;
 pub const BLOCK_TOP: u64 = 4;
 
 /// From where a lane begins to its sections.
-pub const SECTION_TOP: u64 = 35;
+pub const SECTION_TOP: u64 = 32;
 
-/// The height of a section.
-pub const SECTION_HEIGHT: u64 = 8;
+/// The height of all sections of a lane: a pixel at least for each of a plan's resources.
+pub const SECTION_ROOM: u64 = 32;
 
-/// So many sections find place under one another.
-pub const SECTION_LEVELS: u32 = 3;
+/// So many sections find place under one another without being made lower.
+pub const SECTION_LEVELS: u64 = 4;
 
 /// The height of a line of the legend.
 pub const LEGEND_LINE: u64 = 18;
@@ -74,6 +74,14 @@ pub(crate) fn column(window: Window, tick: u32) -> u64
     ensures { result ≡ column window tick }
 {
     width_of(tick.saturating_sub(window.from))
+}
+
+/// The height of a section where so many stand under one another.
+pub(crate) fn section_height(levels: u64) -> u64
+    ensures height { result ≡ section_height levels }
+    ensures room { (n : ℕ) → n ≤ levels → n * result ≤ SECTION_ROOM }
+{
+    SECTION_ROOM / SECTION_LEVELS.max(levels)
 }
 
 // So many of the resources below a number are global.

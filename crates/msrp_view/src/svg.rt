@@ -2,24 +2,23 @@
 ghost use Rattle.std.specs.Prelude.{◌≡◌, ◌<◌, ◌++◌, length, IfOk, OnOk};
 ghost use Rattle.std.specs.List.{flat_map, range_with_len};
 ghost use Rattle.msrp_trace.specs.TraceText.{kind_text};
-ghost use Rattle.msrp_view.specs.Svg.{arrows_key, axis_text, block_at, block_text, blocks_text, caption_text, core_text, cores_text, drawn_svg, fault_text, first_block, found_text, key_text, lane_text, lanes_text, legend_line, lives_key, mark_of, mark_text, queues_key, style_text, svg_head, svg_legend, svg_text, tick_text, title_text};
+ghost use Rattle.msrp_view.specs.Svg.{arrows_key, axis_text, block_at, block_text, blocks_text, caption_text, core_lane, core_text, cores_text, drawn_svg, fault_text, first_block, found_text, key_text, lane_text, lanes_text, legend_line, lives_key, mark_of, mark_text, queues_key, style_text, svg_head, svg_legend, svg_text, tick_text, title_text};
 ghost use Rattle.msrp_view.specs.Windows.{IsWindow};
 
-use crate::arrows::add_arrows;
 use crate::blocks::{begins, is_in, last_tick, log_in};
 use crate::cells::sign;
 use crate::elements::{
     Area, add_attribute, add_rect, add_text, begin_place, begin_text, end_group, end_text,
 };
 use crate::figures::{add_body, add_hued, add_res_told, add_span_told};
-use crate::lives::add_lives;
+use crate::jobs::add_jobs;
 use crate::picture::{add, add_number, add_task, add_verdict, add_window, rule_word};
 use crate::places::{
     LANE_HEIGHT, LEFT, LEGEND_WIDTH, TICK_WIDTH, TOP, block_area, column, lane_top, legend_top,
     width_of,
 };
 use crate::resource_lanes::add_resources;
-use crate::sections::add_sections;
+use crate::sections::add_core_sections;
 use crate::shown::Shown;
 use crate::windows::Window;
 use itoa::Buffer;
@@ -211,11 +210,33 @@ fn add_lane(text: &mut Vec<u8>, window: Window, core: CoreId) -> Result<(), Memo
     add_rect(text, b"lane", area)
 }
 
-fn add_lanes(text: &mut Vec<u8>, plan: &Plan, window: Window) -> Result<(), Memory>
-    ensures { OnOk result (text.new.items ≡ text.old.items ++ lanes_text plan.now window) }
+// The same with its blocks and sections.
+fn add_core_lane(
+    alloc: Global,
+    text: &mut Vec<u8>,
+    plan: &Plan,
+    window: Window,
+    rows: &[Row],
+    core: CoreId,
+) -> Result<(), Memory>
+    ensures { OnOk result (text.new.items ≡ text.old.items ++ core_lane plan.now window rows.now core.0) }
+{
+    add_lane(text, window, core)?;
+    add_core(alloc, text, plan, window, rows, core)?;
+    add_core_sections(alloc, text, plan, window, rows, core)
+}
+
+fn add_lanes(
+    alloc: Global,
+    text: &mut Vec<u8>,
+    plan: &Plan,
+    window: Window,
+    rows: &[Row],
+) -> Result<(), Memory>
+    ensures { OnOk result (text.new.items ≡ text.old.items ++ lanes_text plan.now window rows.now) }
 {
     for core in 0..plan.cores() {
-        add_lane(text, window, CoreId(core))?;
+        add_core_lane(alloc, text, plan, window, rows, CoreId(core))?;
     }
     Ok(())
 }
@@ -403,11 +424,8 @@ fn svg_of(alloc: Global, plan: &Plan, shown: &Shown<'_>, window: Window) -> Resu
     add_head(&mut text, plan, &levels, window)?;
     add_caption(&mut text, plan, shown.found, window)?;
     add_axis(&mut text, window)?;
-    add_lanes(&mut text, plan, window)?;
-    add_arrows(&mut text, plan, window)?;
-    add_cores(alloc, &mut text, plan, window, shown.rows)?;
-    add_sections(alloc, &mut text, plan, window, shown.rows)?;
-    add_lives(alloc, &mut text, plan, window, shown.rows)?;
+    add_lanes(alloc, &mut text, plan, window, shown.rows)?;
+    add_jobs(alloc, &mut text, plan, window, shown.rows)?;
     add_resources(alloc, &mut text, plan, &levels, window, shown.rows)?;
     add_found(alloc, &mut text, plan, shown, window)?;
     add_legend(&mut text, plan, &levels)?;

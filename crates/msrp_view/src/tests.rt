@@ -40,14 +40,24 @@ const ALL: Asked = Asked {
     to: None,
 };
 
-// The answer to a plan and a trace, with what was written.
+// The answer to a trace of the plan, with what was written.
 fn answer_from<T: Read + Drop>(
     alloc: Global,
     trace: T,
     asked: Asked,
 ) -> (Result<u8, CliFault>, Vec<u8>) {
+    answer_of(alloc, PLAN, trace, asked)
+}
+
+// The answer to a plan and a trace, with what was written.
+fn answer_of<T: Read + Drop>(
+    alloc: Global,
+    plan: &[u8],
+    trace: T,
+    asked: Asked,
+) -> (Result<u8, CliFault>, Vec<u8>) {
     let mut written = Vec::new(alloc);
-    let mut plan = Source::new(PLAN);
+    let mut plan = Source::new(plan);
     let mut trace = Source::new(trace);
     let mut out = Sink::new(&mut written);
     let answer = view_text(alloc, &mut plan, &mut trace, &mut out, asked);
@@ -131,6 +141,41 @@ fn pictures_in_svg(rt: HostRuntime) {
             assert!(rt; has(written.as_slice(), part), "{part}");
         }
         assert!(rt; written.as_slice().ends_with(b"</svg>\n"));
+    }
+}
+
+// Sections in one another: of two, the inner one lies a whole section lower, whatever their resources; five are made lower so that
+// all find room.
+#[test]
+fn sections_within_one_another(rt: HostRuntime) {
+    let asked = Asked {
+        style: Style::Svg,
+        ..ALL
+    };
+    let table: [(&[u8], &[u8], [&str; 2]); 2] = [
+        (
+            b"msrp,1\ncores,1\nticks,4\nresource,a\nresource,b\nresource,c\nresource,d\ntask,t,0,20,20,0\nop,lock,a\nop,lock,d\nop,unlock,d\nop,unlock,a\n",
+            b"msrp-trace,1,1,4\n0,0,lock,t,0,a\n1,0,lock,t,0,d\n2,0,unlock,t,0,d\n3,0,unlock,t,0,a\n",
+            [
+                "<svg x=\"140\" y=\"122\" width=\"48\" height=\"8\"><title>ticks 0 to 3: t, job 0, holds a</title>",
+                "<svg x=\"152\" y=\"130\" width=\"24\" height=\"8\"><title>ticks 1 to 2: t, job 0, holds d</title>",
+            ],
+        ),
+        (
+            b"msrp,1\ncores,1\nticks,10\nresource,a\nresource,b\nresource,c\nresource,d\nresource,e\ntask,t,0,20,20,0\nop,lock,a\nop,lock,b\nop,lock,c\nop,lock,d\nop,lock,e\nop,unlock,e\nop,unlock,d\nop,unlock,c\nop,unlock,b\nop,unlock,a\n",
+            b"msrp-trace,1,1,10\n0,0,lock,t,0,a\n1,0,lock,t,0,b\n2,0,lock,t,0,c\n3,0,lock,t,0,d\n4,0,lock,t,0,e\n5,0,unlock,t,0,e\n6,0,unlock,t,0,d\n7,0,unlock,t,0,c\n8,0,unlock,t,0,b\n9,0,unlock,t,0,a\n",
+            [
+                "<svg x=\"140\" y=\"122\" width=\"120\" height=\"6\"><title>ticks 0 to 9: t, job 0, holds a</title>",
+                "<svg x=\"188\" y=\"146\" width=\"24\" height=\"6\"><title>ticks 4 to 5: t, job 0, holds e</title>",
+            ],
+        ),
+    ];
+    for (plan, trace, parts) in table {
+        let (answer, written) = answer_of(rt.alloc(), plan, trace, asked);
+        assert!(rt; answer == Ok(0));
+        for part in parts {
+            assert!(rt; has(written.as_slice(), part), "{part}");
+        }
     }
 }
 
