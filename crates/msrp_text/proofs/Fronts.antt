@@ -3,7 +3,7 @@ use Rattle.std.proofs.Common.{◌≡◌, ◌≤◌, ◌<◌, ◌+◌, ◌-◌, �
 use Rattle.std.proofs.Math.ListN.{get_or-append}
 use Rattle.std.proofs.Math.Nat.{eq-or-lt_of_le}
 use Rattle.std.proofs.Math.Seq.{get_or-append_seam}
-use Rattle.std.proofs.lemmas.Bool.{and_parts, eqb-true, or_cases, or_from, or_parts}
+use Rattle.std.proofs.lemmas.Bool.{and_parts, and_right, eqb-true, or_cases, or_from, or_parts}
 use Rattle.std.proofs.lemmas.List.{drop-append-le, take_at, take_more}
 use mathlib.Core.Bool.{true≢false}
 use Rattle.msrp_text.specs.Plain.{BeginsWith, EndsLine, IsInLine, NoLine, is_mark, is_plain}
@@ -25,12 +25,12 @@ pub record IsInside (byte at : ℕ) : Type 0 where
   pub other : is_other byte at ≡ false
 
 -- one above the comma, where it isn't the first byte of a byte order mark
-pub inside-other : (byte at : ℕ) → 44 < byte → ((at == 0) && (byte == 239)) ≡ false → IsInside byte at
+pub inside-other : (byte at : ℕ) → 44 < byte → (byte == 239) ≡ false → IsInside byte at
 inside-other byte at above first = record {
   feed = λ e. omega (arith, above, e);
   return = λ e. omega (arith, above, e);
   comma = λ e. omega (arith, above, e);
-  other = or_from _ _ (ne_eqb byte 34 (λ e. omega (arith, above, e))) first;
+  other = or_from _ _ (ne_eqb byte 34 (λ e. omega (arith, above, e))) (and_right (at == 0) _ first);
 }
 
 -- a plain line goes on

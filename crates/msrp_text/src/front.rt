@@ -87,12 +87,12 @@ fn is_other(byte: u8, at: usize) -> bool
     byte == b'"' || (at == 0 && byte == MARK)
 }
 
-// Whether a byte at that place is one of those that are told at once to be inside a field: it comes after the comma, as most do.
-fn is_inside(byte: u8, at: usize) -> bool
+// Whether a byte is told at once to be inside a field, wherever it stands: it comes after the comma, as most do.
+fn is_inside(byte: u8) -> bool
     ensures above { result ≡ true → 44 < byte }
-    ensures first { result ≡ true → ((at == 0) && (byte == 239)) ≡ false }
+    ensures first { result ≡ true → (byte == 239) ≡ false }
 {
-    byte > b',' && (at > 0 || byte != MARK)
+    byte > b',' && byte != MARK
 }
 
 /// What stands at the front of a text. The fields of a plain line are put into `row`.
@@ -103,7 +103,7 @@ pub(crate) fn front_of(text: &[u8], row: &mut ByteRecord) -> Result<Front, Alloc
     let mut start = 0;
     for at in 0..text.len().min(LONGEST) {
         let byte = text[at];
-        if is_inside(byte, at) {
+        if is_inside(byte) {
             continue;
         }
         if byte == b'\n' || byte == b'\r' {
