@@ -14,7 +14,7 @@ use msrp_merge::{CoreLog, Place};
 use msrp_plan::Row;
 use std::marker::Brand;
 
-// The core's turn, with its seat as the machine's port. The port is taken apart here, since a seat is large to hand on.
+// The core's turn, with its seat as the machine's port, which is made and taken apart here.
 fn turn_through<B: FirstSeat>(
     machine: &mut Machine<'_>,
     log: &mut CoreLog,
