@@ -65,6 +65,7 @@ fn replied(queues: &Queues, row: Row) -> Row {
 }
 
 // The queues after a turn that made this call, if it made one.
+#[inline(always)]
 fn note_turn(queues: &mut Queues, call: Option<PortCall>)
     requires core { ForSome call (λ e. e.core.0 < most_cores) }
     requires resource { ForSome call (λ e. e.res.0 < most_resources) }

@@ -89,6 +89,7 @@ pub struct Turned {
 }
 
 // The machine's turn over such a port.
+#[inline(always)]
 fn turn_over<B: Before>(queues: &Queues, resources: u32, machine: &mut Machine<'_>) -> Turned
     requires tick { machine.old.tick < machine.old.plan.ticks }
     requires resources { resources ≡ length machine.old.plan.resources }
@@ -111,6 +112,7 @@ fn turn_over<B: Before>(queues: &Queues, resources: u32, machine: &mut Machine<'
 }
 
 // The machine's turn, where a global resource answers as its queue stands.
+#[inline(always)]
 pub fn turn_by(queues: &Queues, resources: u32, machine: &mut Machine<'_>) -> Turned
     requires tick { machine.old.tick < machine.old.plan.ticks }
     requires resources { resources ≡ length machine.old.plan.resources }
