@@ -146,7 +146,8 @@ impl<'a> Jobs<'a> {
         }
     }
 
-    // A request of a global resource.
+    // A request of a global resource. In place, so that a port of one turn needs no memory.
+    #[inline(always)]
     fn request<P: Port>(&mut self, port: &mut P, tick: u32, job: JobId, res: ResId) -> Row
         requires can { CanAct self.old job (Op.Lock res) }
         requires global { is_global self.old.plan.now res.0 ≡ true }
