@@ -9,7 +9,7 @@ use std::io::Write;
 use std::marker::Model;
 
 // So many bytes are gathered before they are written.
-const PAGE: usize = 8192;
+const PAGE: usize = 32_768;
 
 /// Text that was gathered and is not written yet.
 #[derive(Drop)]

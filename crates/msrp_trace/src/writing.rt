@@ -117,13 +117,12 @@ impl<'a> TraceWriter<'a> {
     }
 
     /// Writes what is still gathered, and tells how the writes went.
-    pub fn finish<W: Write>(self, out: &mut Sink<W>) -> Result<(), WriteFault>
+    pub fn finish<W: Write>(mut self, out: &mut Sink<W>) -> Result<(), WriteFault>
         ensures wrote { Wrote W.contents out.old out.new self.entry.text }
         ensures good { OnOk result (sink_failed out.new ≡ false) }
         ensures fault { OnErr result (sink_failed out.new ≡ true) }
     {
-        let mut page = self.page;
-        page.write(out);
+        self.page.write(out);
         out.outcome()
     }
 }
