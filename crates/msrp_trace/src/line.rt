@@ -237,8 +237,17 @@ impl RowLine {
         ensures whole { IsWhole version plan.now self.old → is_told_whole version plan.now row.now ≡ true → IsWhole version plan.now self.new }
     {
         if !self.is_of(row) {
-            self.line.make(plan, version, row);
-            self.row = Some(*row);
+            // The row is taken field by field, so that one that repeats is never laid down in memory as a whole.
+            let made = Row {
+                tick: row.tick,
+                core: row.core,
+                kind: row.kind,
+                job: row.job,
+                res: row.res,
+                ahead: row.ahead,
+            };
+            self.line.make(plan, version, &made);
+            self.row = Some(made);
         }
     }
 
