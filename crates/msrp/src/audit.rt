@@ -6,7 +6,7 @@ ghost use Rattle.msrp_text.specs.PlanText.{record_text};
 ghost use Rattle.msrp_text.specs.Reading.{csv_records, plan_of};
 ghost use Rattle.msrp_text.specs.declared.reading.TextError.{TextError as PlanError};
 ghost use Rattle.msrp_trace.specs.Reading.{Told, rows_of};
-ghost use Rattle.msrp_trace.specs.Readers.{GivesNext, told_left};
+ghost use Rattle.msrp_trace.specs.Readers.{told_left};
 ghost use Rattle.msrp.specs.AuditText.{AuditAnswers, TellsVerdict, rule_text, verdict_fields};
 ghost use Rattle.msrp.specs.Findings.{finding, finding_of};
 ghost use Rattle.msrp_cli.specs.Outcomes.{fault_of, is_trace_fault};
@@ -20,22 +20,11 @@ use msrp_audit::Auditor;
 use msrp_cli::CliFault;
 use msrp_levels::Levels;
 use msrp_plan::bytes::{Sink, Source};
-use msrp_plan::{Fault, Plan, Row, Rule};
+use msrp_plan::{Fault, Plan, Rule};
 use msrp_text::read_plan;
-use msrp_trace::{TraceError, TraceReader};
+use msrp_trace::TraceReader;
 use std::alloc::Global;
 use std::io::{Read, Write};
-
-/// The next row that a reader has left, which the auditor may foresee.
-#[inline(always)]
-pub fn next_row<T: Read>(
-    auditor: &Auditor<'_>,
-    rows: &mut TraceReader<'_, T>,
-) -> Result<Option<Row>, TraceError>
-    ensures { (told : Told) → told_left T.remaining rows.old ≡ Some told → GivesNext told result (told_left T.remaining rows.new) }
-{
-    rows.next_foreseen(|core| auditor.foresee(core))
-}
 
 // What is found in the rows that a reader has left. They are judged as they come, and none is read after a faulty one.
 fn judge_rows<T: Read>(
@@ -47,7 +36,7 @@ fn judge_rows<T: Read>(
         → (result ≡ Err CliFault.Read) ⊎ (result ≡ Err CliFault.Memory) ⊎ (result ≡ finding auditor.old.plan told) }
     ensures faults { IfErr result (λ fault. is_trace_fault fault ≡ true) }
 {
-    while let Some(row) = next_row(auditor, rows)? {
+    while let Some(row) = rows.next_foreseen(|core| auditor.foresee(core))? {
         if let Err(fault) = auditor.feed(row) {
             return Ok(Err(fault));
         }

@@ -14,7 +14,7 @@ ghost use Rattle.msrp.specs.Reports.{ReportAnswers, Reports};
 #[cfg(test)]
 mod tests;
 
-use crate::audit::{next_row, write_verdict};
+use crate::audit::write_verdict;
 use msrp_cli::CliFault;
 use msrp_levels::Levels;
 use msrp_plan::bytes::{Sink, Source};
@@ -37,7 +37,7 @@ fn report_rows<T: Read>(
     ensures lines { IfOk result (λ found. IfOk found (λ report. length report.lines.items ≡ length reporter.entry.plan.now.tasks)) }
     ensures faults { IfErr result (λ fault. is_trace_fault fault ≡ true) }
 {
-    while let Some(row) = next_row(reporter.auditor(), rows)? {
+    while let Some(row) = rows.next_foreseen(|core| reporter.auditor().foresee(core))? {
         if let Err(fault) = reporter.feed(row) {
             return Ok(Err(fault));
         }

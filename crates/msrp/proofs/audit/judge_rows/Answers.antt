@@ -16,12 +16,12 @@ returns-in_err-row-clause-found g c = λ told known.
     let i = c.loop-row.invariant in
     let gives : c.from_residual.result ≡ Err (trace_fault_of c.in_err-row.field-0.0) = search rules in
     subst (λ (p : PlanModel). (c.from_residual.result ≡ Err Read) ⊎ (c.from_residual.result ≡ Err Memory) ⊎ (c.from_residual.result ≡ finding p told)) i.1
-    (refusal-found c.loop-row.auditor.plan told i.0 _ _ c.next_row.result c.in_err-row.field-0.0 c.from_residual.result (i.4 told known) c.next_row.ensures (cc) i.3 gives)
+    (refusal-found c.loop-row.auditor.plan told i.0 _ _ c.next_foreseen.result c.in_err-row.field-0.0 c.from_residual.result (i.4 told known) c.next_foreseen.ensures.next (cc) i.3 gives)
 
 pub returns-in-Err-clause-found : goal.returns-in-Err-clause-found
 returns-in-Err-clause-found g c = λ told known.
     let i = c.loop-row.invariant in
-    let more = read-row told i.0 _ _ c.next_row.result c.in-Some.row (i.4 told known) c.next_row.ensures (c.in_ok-row.was ∙ ap (λ x. Ok x) c.in-Some.is) in
+    let more = read-row told i.0 _ _ c.next_foreseen.result c.in-Some.row (i.4 told known) c.next_foreseen.ensures.next (c.in_ok-row.was ∙ ap (λ x. Ok x) c.in-Some.is) in
     let fault = fault-answer _ c.in-Err.fault (c.in-Err.ensures.answer i.0 i.2) in
     inr (inr (subst (λ (p : PlanModel). Ok (Err c.in-Err.fault) ≡ finding p told) i.1 (sym (fault-found c.loop-row.auditor.plan told (i.0 ++ c.in-Some.row ∷ []) _ c.in-Err.fault more.whole fault))))
 
@@ -43,11 +43,11 @@ loop-row-preserved g c =
       c.feed.ensures.plan ∙ i.1,
       c.feed.ensures.fed i.0 i.2,
       ap (λ p. fault_in p (i.0 ++ c.in-Some.row ∷ [])) c.feed.ensures.plan ∙ good,
-      λ told known. read-row told i.0 _ _ c.next_row.result c.in-Some.row (i.4 told known) c.next_row.ensures (c.in_ok-row.was ∙ ap (λ x. Ok x) c.in-Some.is),
+      λ told known. read-row told i.0 _ _ c.next_foreseen.result c.in-Some.row (i.4 told known) c.next_foreseen.ensures.next (c.in_ok-row.was ∙ ap (λ x. Ok x) c.in-Some.is),
     )
 
 pub returns-clause-found : goal.returns-clause-found
 returns-clause-found g c = λ told known.
     let i = c.loop-row.invariant in
-    let whole = verdict-found c.loop-row.auditor.plan told i.0 _ _ c.next_row.result (i.4 told known) c.next_row.ensures (cc) i.3 in
+    let whole = verdict-found c.loop-row.auditor.plan told i.0 _ _ c.next_foreseen.result (i.4 told known) c.next_foreseen.ensures.next (cc) i.3 in
     inr (inr (subst (λ (p : PlanModel). Ok c.end.result ≡ finding p told) i.1 (ap (λ x. Ok x) (c.end.ensures i.0 i.2) ∙ sym whole)))

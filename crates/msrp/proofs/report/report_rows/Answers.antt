@@ -15,13 +15,13 @@ returns-in_err-row-clause-found g c = λ told known.
     let i = c.loop-reporter.invariant in
     let error = c.in_err-row.field-0.0 in
     let gives : c.from_residual.result ≡ Err (trace_fault_of error) = search rules in
-    let found = refusal-found c.loop-reporter.reporter.plan.now told i.0 _ _ c.next_row.result error (Err (trace_fault_of error)) (i.4 told known) c.next_row.ensures (cc) i.3 refl in
+    let found = refusal-found c.loop-reporter.reporter.plan.now told i.0 _ _ c.next_foreseen.result error (Err (trace_fault_of error)) (i.4 told known) c.next_foreseen.ensures.next (cc) i.3 refl in
     subst (λ (p : PlanModel). IsReported p told c.from_residual.result) i.1 (subst (IsReported c.loop-reporter.reporter.plan.now told) (sym gives) (reported-error c.loop-reporter.reporter.plan.now told (trace_fault_of error) found))
 
 pub returns-in-Err-clause-found : goal.returns-in-Err-clause-found
 returns-in-Err-clause-found g c = λ told known.
     let i = c.loop-reporter.invariant in
-    let more = read-row told i.0 _ _ c.next_row.result c.in-Some.row (i.4 told known) c.next_row.ensures (c.in_ok-row.was ∙ ap (λ x. Ok x) c.in-Some.is) in
+    let more = read-row told i.0 _ _ c.next_foreseen.result c.in-Some.row (i.4 told known) c.next_foreseen.ensures.next (c.in_ok-row.was ∙ ap (λ x. Ok x) c.in-Some.is) in
     let fault = fault-answer _ c.in-Err.fault (c.in-Err.ensures.answer i.0 i.2) in
     subst (λ (p : PlanModel). IsReported p told (Ok (Err c.in-Err.fault))) i.1 (reported-fault c.loop-reporter.reporter.plan.now told c.in-Err.fault (fault-found c.loop-reporter.reporter.plan.now told (i.0 ++ c.in-Some.row ∷ []) _ c.in-Err.fault more.whole fault))
 
@@ -46,12 +46,12 @@ loop-reporter-preserved g c =
       ap (λ p. p.now) c.feed.ensures.plan ∙ i.1,
       c.feed.ensures.fed i.0 i.2,
       ap (λ p. fault_in p.now (i.0 ++ c.in-Some.row ∷ [])) c.feed.ensures.plan ∙ good,
-      λ told known. read-row told i.0 _ _ c.next_row.result c.in-Some.row (i.4 told known) c.next_row.ensures (c.in_ok-row.was ∙ ap (λ x. Ok x) c.in-Some.is),
+      λ told known. read-row told i.0 _ _ c.next_foreseen.result c.in-Some.row (i.4 told known) c.next_foreseen.ensures.next (c.in_ok-row.was ∙ ap (λ x. Ok x) c.in-Some.is),
     )
 
 pub returns-clause-found : goal.returns-clause-found
 returns-clause-found g c = λ told known.
     let i = c.loop-reporter.invariant in
-    let whole = verdict-found c.loop-reporter.reporter.plan.now told i.0 _ _ c.next_row.result (i.4 told known) c.next_row.ensures (cc) i.3 in
-    let read = sym (read-whole told i.0 _ _ c.next_row.result (i.4 told known) c.next_row.ensures (cc)).0 in
+    let whole = verdict-found c.loop-reporter.reporter.plan.now told i.0 _ _ c.next_foreseen.result (i.4 told known) c.next_foreseen.ensures.next (cc) i.3 in
+    let read = sym (read-whole told i.0 _ _ c.next_foreseen.result (i.4 told known) c.next_foreseen.ensures.next (cc)).0 in
     subst (λ (p : PlanModel). IsReported p told (Ok c.end.result)) i.1 (reported-end c.loop-reporter.reporter.plan.now told i.0 c.end.result whole (c.end.ensures.run i.0 i.2) (λ f. c.end.ensures.fault i.0 f i.2) (c.end.ensures.lines i.0 i.2) read)
