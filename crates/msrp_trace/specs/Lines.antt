@@ -1,12 +1,15 @@
 -- The record that a core had last, but for its tick.
-use Rattle.std.specs.Prelude.{◌≡◌, Bool, true, ◌&&◌, ◌==◌, is_none}
+use Rattle.std.specs.Prelude.{◌≡◌, ◌++◌, ℕ, List, Option, Some, Bool, true, ◌&&◌, ◌==◌, is_none}
 use Rattle.std.specs.Option.{IfSome}
 use Rattle.msrp_plan.specs.Actions.{same_res}
 use Rattle.msrp_plan.specs.Plan.{PlanModel}
 use Rattle.msrp_plan.specs.Runs.{same_choice}
 use Rattle.msrp_plan.specs.declared.rows.Row.{Row}
 use Rattle.msrp_plan.specs.declared.rows.TextVersion.{TextVersion}
-use Rattle.msrp_trace.specs.Gathering.{after_tick}
+use Rattle.msrp_plan.specs.declared.ids.JobId.{JobId}
+use Rattle.msrp_trace.specs.Gathering.{after_tick, next_field}
+use Rattle.msrp_trace.specs.TraceText.{job_text, task_text}
+use Rattle.msrp_trace.specs.declared.job.JobText.{JobText}
 use Rattle.msrp_trace.specs.Laws.{is_told_whole}
 use Rattle.msrp_trace.specs.declared.line.RowLine.{RowLine}
 
@@ -14,9 +17,18 @@ use Rattle.msrp_trace.specs.declared.line.RowLine.{RowLine}
 abbrev pub is_same_place : Row → Row → Bool
 is_same_place a b = a.core.0 == b.core.0 && (same_choice a.job b.job && (same_res a.res b.res && (is_none a.ahead && is_none b.ahead)))
 
--- the text is that of the row
+-- the two fields of a job in the record of a row
+abbrev pub job_fields : PlanModel → Option JobId → List ℕ
+job_fields plan job = next_field (task_text plan job) ++ next_field (job_text job)
+
+-- the text is that of the job
+abbrev pub IsJobText : PlanModel → JobText → Type 0
+IsJobText plan kept = IfSome kept.job (λ j. kept.text ≡ job_fields plan (Some j))
+
+-- the texts are those of the row, and of the job that the core ran last
 pub record IsLine (version : TextVersion) (plan : PlanModel) (kept : RowLine) : Type 0 where
   pub fits : IfSome kept.row (λ r. kept.line ≡ after_tick version plan r)
+  pub job : IsJobText plan kept.job
 
 -- the row is read as it was written
 pub record IsWhole (version : TextVersion) (plan : PlanModel) (kept : RowLine) : Type 0 where

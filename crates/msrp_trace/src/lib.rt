@@ -4,6 +4,7 @@
 mod faults;
 mod foreseen;
 mod guesses;
+mod job;
 pub mod laws;
 mod line;
 mod page;

@@ -2,15 +2,16 @@
 ghost use Rattle.std.specs.Prelude.{◌≡◌, ◌≤◌, ◌<◌, ◌+◌, ◌++◌, [], codes, decimal, length, true, Some, None, IsSomeAnd};
 ghost use Rattle.std.specs.List.{flat_map};
 ghost use Rattle.std.specs.Option.{IfSome};
-ghost use Rattle.msrp_plan.specs.Plan.{PlanModel, task_at};
+ghost use Rattle.msrp_plan.specs.Plan.{PlanModel};
 ghost use Rattle.msrp_trace.specs.Gathering.{next_field, after_tick};
-ghost use Rattle.msrp_trace.specs.Lines.{IsLine, IsWhole, is_same_place};
+ghost use Rattle.msrp_trace.specs.Lines.{IsJobText, IsLine, IsWhole, is_same_place, job_fields};
 ghost use Rattle.msrp_trace.specs.Laws.{is_short, is_told_whole};
 ghost use Rattle.msrp_trace.specs.TraceText.{ahead_fields, dash, head_text, is_named, is_res_of, is_task_of, job_text, res_text, task_text};
 
+use crate::job::JobText;
 use crate::text::Text;
 use crate::words::{DASH, TRACE_WORD, kind_word, version_word};
-use msrp_plan::{JobId, Kind, Plan, ResId, Row, TaskId, TextVersion};
+use msrp_plan::{JobId, Kind, Plan, ResId, Row, TextVersion};
 use std::marker::Model;
 
 // No record is longer: a number has at most 10 digits, and a name at most 16 letters.
@@ -28,17 +29,6 @@ impl Model for Line {
     ghost Value = { List ℕ };
 
     ghost view = { λ l. l.text };
-}
-
-// The name of a task.
-fn task_field(plan: &Plan, task: TaskId) -> &[u8]
-    requires { task.0 < length plan.now.tasks }
-    ensures name { result.now ≡ (task_at plan.now task.0).name }
-    ensures short { length result.now ≤ 16 }
-{
-    // Read so that the plan is known to be an accepted one.
-    let _accepted = plan.tasks();
-    plan.task_name(task).as_bytes()
 }
 
 // The name of a resource.
@@ -74,34 +64,6 @@ impl Line {
         self.text.clear();
     }
 
-    // Takes a text, for which there is room.
-    fn add(&mut self, text: &[u8])
-        requires { length self.old + length text.now ≤ LINE }
-        ensures text { self.new ≡ self.old ++ text.now }
-        ensures size { length self.new ≡ length self.old + length text.now }
-    {
-        self.text.add(text);
-    }
-
-    // A further field.
-    fn next(&mut self, text: &[u8])
-        requires { length self.old + length text.now < LINE }
-        ensures text { self.new ≡ self.old ++ next_field text.now }
-        ensures size { length self.new ≡ length self.old + length text.now + 1 }
-    {
-        self.text.add(b",");
-        self.text.add(text);
-    }
-
-    fn next_number(&mut self, number: u32)
-        requires { length self.old + 11 ≤ LINE }
-        ensures text { self.new ≡ self.old ++ next_field (decimal number) }
-        ensures size { length self.new ≤ length self.old + 11 }
-    {
-        self.text.add(b",");
-        self.text.number(number);
-    }
-
     // A field that says that there is none.
     #[tactic(auto, unfolding(crate::specs::TraceText::dash))]
     fn next_dash(&mut self)
@@ -109,20 +71,23 @@ impl Line {
         ensures text { self.new ≡ self.old ++ next_field dash }
         ensures size { length self.new ≡ length self.old + 2 }
     {
-        self.next(DASH);
+        self.text.next(DASH);
     }
 
-    // The two fields of a job: its task's name and its number.
-    fn next_job(&mut self, plan: &Plan, job: Option<JobId>)
+    // The two fields of a job: its task's name and its number. They are kept for its next row.
+    #[inline(always)]
+    fn next_job(&mut self, plan: &Plan, kept: &mut JobText, job: Option<JobId>)
         requires task { is_task_of plan.now job ≡ true }
-        requires room { length self.old + 28 ≤ LINE }
-        ensures text { self.new ≡ self.old ++ (next_field (task_text plan.now job) ++ next_field (job_text job)) }
-        ensures size { length self.new ≤ length self.old + 28 }
+        requires room { length self.old + 32 ≤ LINE }
+        requires before { IsJobText plan.now kept.old }
+        ensures after { IsJobText plan.now kept.new }
+        ensures text { self.new ≡ self.old ++ job_fields plan.now job }
+        ensures size { length self.new ≤ length self.old + 32 }
     {
         match job {
             Some(job) => {
-                self.next(task_field(plan, job.task));
-                self.next_number(job.k);
+                kept.show(plan, job);
+                self.text.add_text(kept.text());
             }
             None => {
                 self.next_dash();
@@ -138,7 +103,7 @@ impl Line {
         ensures size { length self.new ≤ length self.old + 17 }
     {
         match res {
-            Some(res) => self.next(res_field(plan, res)),
+            Some(res) => self.text.next(res_field(plan, res)),
             None => self.next_dash(),
         }
     }
@@ -151,7 +116,7 @@ impl Line {
     {
         match (version, ahead) {
             (TextVersion::V1, _) => {}
-            (TextVersion::V2, Some(ahead)) => self.next_number(ahead),
+            (TextVersion::V2, Some(ahead)) => self.text.next_number(ahead),
             (TextVersion::V2, None) => self.next_dash(),
         }
     }
@@ -161,26 +126,28 @@ impl Line {
         requires { self.old ≡ [] }
         ensures { self.new ≡ head_text version plan.now }
     {
-        self.add(TRACE_WORD);
-        self.next(version_word(version));
-        self.next_number(plan.cores());
-        self.next_number(plan.ticks());
-        self.add(b"\n");
+        self.text.add(TRACE_WORD);
+        self.text.next(version_word(version));
+        self.text.next_number(plan.cores());
+        self.text.next_number(plan.ticks());
+        self.text.add(b"\n");
     }
 
     // Makes the record of a row but for its tick.
     #[inline(never)]
-    fn make(&mut self, plan: &Plan, version: TextVersion, row: &Row)
+    fn make(&mut self, plan: &Plan, version: TextVersion, row: &Row, job: &mut JobText)
         requires named { is_named plan.now row.now ≡ true }
-        ensures { self.new ≡ after_tick version plan.now row.now }
+        requires before { IsJobText plan.now job.old }
+        ensures after { IsJobText plan.now job.new }
+        ensures text { self.new ≡ after_tick version plan.now row.now }
     {
         self.clear();
-        self.next_number(row.core.0);
-        self.next(kind_word(row.kind));
-        self.next_job(plan, row.job);
+        self.text.next_number(row.core.0);
+        self.text.next(kind_word(row.kind));
+        self.next_job(plan, job, row.job);
         self.next_resource(plan, row.res);
         self.next_ahead(version, row.ahead);
-        self.add(b"\n");
+        self.text.add(b"\n");
     }
 }
 
@@ -190,6 +157,8 @@ impl Line {
 pub(crate) struct RowLine {
     row: Option<Row>,
     line: Line,
+    // The job that the core ran last.
+    job: JobText,
 }
 
 fn is_same_kind(a: Kind, b: Kind) -> bool
@@ -208,11 +177,13 @@ fn is_same_place(a: &Row, b: &Row) -> bool
 impl RowLine {
     /// No row.
     pub(crate) fn new() -> RowLine
-        ensures { result.row ≡ None }
+        ensures row { result.row ≡ None }
+        ensures job { result.job.job ≡ None }
     {
         RowLine {
             row: None,
             line: Line::new(),
+            job: JobText::new(),
         }
     }
 
@@ -246,7 +217,7 @@ impl RowLine {
                 res: row.res,
                 ahead: row.ahead,
             };
-            self.line.make(plan, version, &made);
+            self.line.make(plan, version, &made, &mut self.job);
             self.row = Some(made);
         }
     }

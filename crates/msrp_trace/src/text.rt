@@ -1,5 +1,6 @@
 //! Text in an array of its own, which is copied whole.
-ghost use Rattle.std.specs.Prelude.{ℕ, ◌≡◌, ◌≤◌, ◌+◌, ◌++◌, [], decimal, length, take};
+ghost use Rattle.std.specs.Prelude.{ℕ, ◌≡◌, ◌≤◌, ◌<◌, ◌+◌, ◌++◌, [], decimal, length, take};
+ghost use Rattle.msrp_trace.specs.Gathering.{next_field};
 
 use itoa::Buffer;
 use std::marker::Model;
@@ -79,19 +80,45 @@ impl<const N: usize> Text<N> {
     #[inline(always)]
     pub(crate) fn add_text<const M: usize>(&mut self, text: &Text<M>)
         requires { length self.old + M ≤ N }
-        ensures { self.new ≡ self.old ++ text.now }
+        ensures text { self.new ≡ self.old ++ text.now }
+        ensures size { length self.new ≤ length self.old + M }
     {
         lay(&mut self.bytes, self.len, &text.bytes);
         self.len += text.len;
     }
 
     /// Takes a number.
+    #[tactic(auto, using(std::proofs::lemmas::Fmt::decimal_digit))]
     pub(crate) fn number(&mut self, number: u32)
         requires { length self.old + 10 ≤ N }
         ensures text { self.new ≡ self.old ++ decimal number }
         ensures size { length self.new ≤ length self.old + 10 }
     {
-        let mut digits = Buffer::new();
-        self.add(digits.format(number).as_bytes());
+        if number < 10 {
+            self.add(&[b'0' + number as u8]);
+        } else {
+            let mut digits = Buffer::new();
+            self.add(digits.format(number).as_bytes());
+        }
+    }
+
+    /// Takes a further field of a record, after a comma.
+    pub(crate) fn next(&mut self, field: &[u8])
+        requires { length self.old + length field.now < N }
+        ensures text { self.new ≡ self.old ++ next_field field.now }
+        ensures size { length self.new ≡ length self.old + length field.now + 1 }
+    {
+        self.add(b",");
+        self.add(field);
+    }
+
+    /// Takes a further field that is a number.
+    pub(crate) fn next_number(&mut self, number: u32)
+        requires { length self.old + 11 ≤ N }
+        ensures text { self.new ≡ self.old ++ next_field (decimal number) }
+        ensures size { length self.new ≤ length self.old + 11 }
+    {
+        self.add(b",");
+        self.number(number);
     }
 }

@@ -7,7 +7,7 @@ pub returns-clause-taken : goal.returns-clause-taken
 returns-clause-taken g c = λ yes told h.
     let old = c.args.self.now in
     let r = c.args.row.now in
-    let none : RowLine = record { row = None; line = [] } in
+    let none : RowLine = record { row = None; line = []; job = record { job = None; text = [] } } in
     let texts = c.requires.texts in
     let rest = c.rest-rest.ensures none _ (texts.line none) in
     let tick : c.tick-tick.result.now ≡ decimal r.tick = c.tick-tick.ensures ∙ ap decimal texts.tick in
@@ -18,7 +18,7 @@ pub returns-then-not-meets-clause-finds : goal.returns-then-not-meets-clause-fin
 returns-then-not-meets-clause-finds g c = λ can.
     let old = c.args.self.now in
     let r = c.args.row.now in
-    let none : RowLine = record { row = None; line = [] } in
+    let none : RowLine = record { row = None; line = []; job = record { job = None; text = [] } } in
     let texts = c.requires.texts in
     let rest = c.rest-rest.ensures none _ (texts.line none) in
     let tick : c.tick-tick.result.now ≡ decimal r.tick = c.tick-tick.ensures ∙ ap decimal texts.tick in

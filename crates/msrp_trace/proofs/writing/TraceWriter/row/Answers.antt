@@ -8,7 +8,7 @@ use Rattle.msrp_trace.proofs.writing.TraceWriter.row.Goals as goal
 
 pub returns-clause-text : goal.returns-clause-text
 returns-clause-text g c =
-    let none : RowLine = record { row = None; line = [] } in
+    let none : RowLine = record { row = None; line = []; job = record { job = None; text = [] } } in
     let tick = rw c.show.ensures at (c.add_record.ensures none) in
     let line = rw (c.show_line.ensures.text none) at tick in
     subst (λ (w : WriterModel). Gathers g.W.Write.contents w.text c.args.out.now c.add_record.new.page c.add_record.new.out (row_text w.version w.plan c.args.row.now)) c.self.view_is
