@@ -1,5 +1,5 @@
 //! The auditor, row by row.
-ghost use Rattle.std.specs.Prelude.{◌≡◌, ◌<◌, ◌*◌, ◌++◌, ◌∷◌, [], List, IfOk, Some, None, Err, length, true, slice_get};
+ghost use Rattle.std.specs.Prelude.{◌≡◌, ◌≢◌, ◌<◌, ◌*◌, ◌/◌, ◌++◌, ◌∷◌, [], List, IfOk, Some, None, Err, length, true, false, slice_get};
 ghost use Rattle.msrp_core.specs.Machine.{MachineModel};
 ghost use Rattle.msrp_plan.specs.Runs.{is_of_core, is_in_turn};
 ghost use Rattle.msrp_plan.specs.Verdict.{fault_in, verdict, refused};
@@ -40,6 +40,18 @@ impl<'a> Model for Auditor<'a> {
     ghost invariant = { IsAuditorView };
 }
 
+// Whether the row after so many stands in that tick, where each tick has a row of each core. A division would take as long
+// as all else that is asked of the row.
+fn is_in_tick(cores: u32, fed: u32, tick: u32) -> bool
+    requires { 0 < cores }
+    ensures met { result ≡ true → tick ≡ fed / cores }
+    ensures missed { result ≡ false → tick ≢ fed / cores }
+{
+    let before = u64::from(tick) * u64::from(cores);
+    let fed = u64::from(fed);
+    before <= fed && fed - before < u64::from(cores)
+}
+
 // Whether the row stands in the tick that is due, of a core that has not had its turn in it.
 fn is_due(plan: &Plan, cores: &Cores, fed: u32, row: Row) -> bool
     requires plan { cores.now.plan ≡ plan.now }
@@ -48,7 +60,7 @@ fn is_due(plan: &Plan, cores: &Cores, fed: u32, row: Row) -> bool
     ensures core { result ≡ true → row.core.0 < plan.now.cores }
     ensures tick { result ≡ true → (x : MachineModel) → slice_get cores.now.machines row.core.0 ≡ Some x → x.tick < plan.now.ticks }
 {
-    if row.tick != fed / plan.cores() {
+    if !is_in_tick(plan.cores(), fed, row.tick) {
         return false;
     }
     if row.core.0 >= plan.cores() {
