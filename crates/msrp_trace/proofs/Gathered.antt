@@ -1,5 +1,5 @@
 -- Texts that were gathered, one after the other.
-use Rattle.std.proofs.Common.{◌≡◌, ℕ, List, [], ◌++◌, Option, ap, sym, ◌∙◌, append_assoc}
+use Rattle.std.proofs.Common.{◌≡◌, ℕ, List, [], ◌++◌, Option, ap, sym, ◌∙◌, append_assoc, append-nil}
 use Rattle.msrp_plan.specs.Bytes.{Wrote}
 use Rattle.msrp_plan.specs.declared.bytes.Sink.{Sink}
 use Rattle.msrp_plan.proofs.Writes.{wrote-more}
@@ -11,6 +11,14 @@ gathers-more contents p q r a b c x y g h = record {
   written = g.written ++ h.written;
   wrote = wrote-more contents a b c g.written h.written g.wrote h.wrote;
   rest = sym (append_assoc p x y) ∙ (ap (λ t. t ++ y) g.rest ∙ (append_assoc g.written q y ∙ (ap (λ t. g.written ++ t) h.rest ∙ sym (append_assoc g.written h.written r))));
+}
+
+-- a text that a page takes once it has room
+pub gathers-on : {W : Type 0} (contents : W → Option (List ℕ)) (p q r : List ℕ) (a b : Sink W) (x : List ℕ) → Gathers contents p a q b [] → r ≡ q ++ x → Gathers contents p a r b x
+gathers-on contents p q r a b x g e = record {
+  written = g.written;
+  wrote = g.wrote;
+  rest = ap (λ t. t ++ x) (sym (append-nil p) ∙ g.rest) ∙ (append_assoc g.written q x ∙ ap (λ t. g.written ++ t) (sym e));
 }
 
 -- the same text in other words

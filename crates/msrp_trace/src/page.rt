@@ -1,5 +1,5 @@
 //! Text that is gathered and then written, some kilobytes at a time.
-ghost use Rattle.std.specs.Prelude.{◌≡◌, ◌≤◌, []};
+ghost use Rattle.std.specs.Prelude.{◌≡◌, ◌≤◌, ◌+◌, ◌++◌, [], length};
 ghost use Rattle.msrp_plan.specs.Bytes.{Wrote};
 ghost use Rattle.msrp_trace.specs.Gathering.{Gathers};
 
@@ -43,15 +43,41 @@ impl Page {
         self.text.clear();
     }
 
+    // Writes what was gathered where the page has no room for so many bytes more.
+    #[inline(always)]
+    fn make_room<W: Write>(&mut self, out: &mut Sink<W>, more: usize)
+        requires { more ≤ PAGE }
+        ensures text { Gathers W.contents self.old out.old self.new out.new [] }
+        ensures room { length self.new + more ≤ PAGE }
+    {
+        if self.text.room() < more {
+            self.write(out);
+        }
+    }
+
     /// Takes a text. Where the page has no room for the longest of its type, what was gathered is written before.
     #[inline(always)]
     pub(crate) fn add<W: Write, const N: usize>(&mut self, out: &mut Sink<W>, text: &Text<N>)
         requires { N ≤ PAGE }
         ensures { Gathers W.contents self.old out.old self.new out.new text.now }
     {
-        if self.text.room() < N {
-            self.write(out);
-        }
+        self.make_room(out, N);
         self.text.add_text(text);
+    }
+
+    /// Takes two texts, one behind the other, and looks once for the room of both.
+    #[inline(always)]
+    pub(crate) fn add_both<W: Write, const N: usize, const M: usize>(
+        &mut self,
+        out: &mut Sink<W>,
+        first: &Text<N>,
+        second: &Text<M>,
+    )
+        requires { N + M ≤ PAGE }
+        ensures { Gathers W.contents self.old out.old self.new out.new (first.now ++ second.now) }
+    {
+        self.make_room(out, N + M);
+        self.text.add_text(first);
+        self.text.add_text(second);
     }
 }

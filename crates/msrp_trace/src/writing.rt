@@ -73,8 +73,7 @@ fn add_record<W: Write>(
     requires { core < length lines.now }
     ensures { (d : Kept) → Gathers W.contents page.old out.old page.new out.new (decimal tick.now.tick ++ (slice_index_or lines.now core d).line) }
 {
-    page.add(out, tick.text());
-    page.add(out, lines[core].text());
+    page.add_both(out, tick.text(), lines[core].text());
 }
 
 impl<'a> TraceWriter<'a> {
