@@ -11,6 +11,7 @@ use Rattle.std.proofs.lemmas.Option.{same_Some}
 use Rattle.msrp_board.specs.declared.pages.Page.{Page}
 use Rattle.msrp_board.specs.declared.pages.View.{View}
 use Rattle.msrp_board.specs.declared.held.CoreState.{CoreState}
+use Rattle.crossbeam_utils.specs.Padded.{padded_value}
 use Rattle.msrp_board.specs.declared.states.States.{States, End, Of'}
 use Rattle.msrp_board.specs.declared.books.BoardSize.{BoardSize}
 use Rattle.msrp_board.specs.declared.books.Conductor.{Conductor}
@@ -62,7 +63,7 @@ each_at f (x ∷ xs) (suc c) b e = each_at f xs c b e
 -- the first node of a chain is of this core, with this state
 abbrev pub IsFirst : States → ℕ → CoreState → Type 0
 IsFirst End c x = ⊥
-IsFirst (Of' p core state more) c x = (core.0 ≡ c) × (state ≡ x)
+IsFirst (Of' p core state more) c x = (core.0 ≡ c) × (padded_value state ≡ x)
 
 none_now : (x : CoreState) → None ≡ Some x → ⊥
 none_now x e = cc
@@ -78,10 +79,10 @@ page_behind l c x e = ⊎_elim
 pub own_first : (held : States) (v : View) (c : ℕ) (b : Page) → IsOwn held v c b → IsFirst held c (state_of b)
 own_first End v c b own = none_now (state_of b) (own.states c ∙ state_has v.pages c b own.only.page)
 own_first (Of' p core state more) v c b own =
-    let has : state_at v.pages core.0 ≡ Some state = sym (own.states core.0) ∙ ap (λ k. if k then Some state else kept_of more core.0) (eq-eqb core.0 core.0 refl) in
-    let page = page_behind v.pages core.0 state has in
+    let has : state_at v.pages core.0 ≡ Some (padded_value state) = sym (own.states core.0) ∙ ap (λ k. if k then Some (padded_value state) else kept_of more core.0) (eq-eqb core.0 core.0 refl) in
+    let page = page_behind v.pages core.0 (padded_value state) has in
     let same = own.only.only core.0 page.0 page.1 in
-    (same, same_Some state (state_of b) (sym has ∙ ap (state_at v.pages) same ∙ state_has v.pages c b own.only.page))
+    (same, same_Some (padded_value state) (state_of b) (sym has ∙ ap (state_at v.pages) same ∙ state_has v.pages c b own.only.page))
 
 -- a core that has no page has none after a change of each page
 none_after : (f : Page → Page) (l : List (Option Page)) (d : ℕ) → ((b : Page) → ¬ (get_elem? l d ≡ some (Some b))) → state_at l d ≡ state_at (map (option_map f) l) d
@@ -98,7 +99,7 @@ tie_change (Of' p core state more) v c b f x own is d =
     dite (ℕ_discrete core.0 d)
     (λ q. ap (λ k. if k then Some x else kept_of more d) (eq-eqb core.0 d q) ∙ ap Some is
     ∙ sym (state_has (map (option_map f) v.pages) d (f b) (each_at f v.pages d b (subst (λ k. get_elem? v.pages k ≡ some (Some b)) (sym first ∙ q) own.only.page))))
-    (λ n. ap (λ k. if k then Some x else kept_of more d) (ne_eqb core.0 d n) ∙ sym (ap (λ k. if k then Some state else kept_of more d) (ne_eqb core.0 d n)) ∙ own.states d
+    (λ n. ap (λ k. if k then Some x else kept_of more d) (ne_eqb core.0 d n) ∙ sym (ap (λ k. if k then Some (padded_value state) else kept_of more d) (ne_eqb core.0 d n)) ∙ own.states d
     ∙ none_after f v.pages d (λ e h. n (first ∙ sym (own.only.only d e h))))
 
 -- the only page of a core's seat has changed

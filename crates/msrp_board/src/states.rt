@@ -8,6 +8,7 @@ ghost use Rattle.msrp_board.specs.Inside.Held.{AreStates, IsOwn, state_of, kept_
 ghost use Rattle.msrp_board.specs.Inside.Rule.{empty_page};
 
 use crate::held::CoreState;
+use crossbeam_utils::CachePadded;
 use msrp_plan::CoreId;
 use std::alloc::{AllocError, Global};
 use std::mem;
@@ -20,12 +21,12 @@ pub enum States {
     Of(Box<Kept>),
 }
 
-/// A core, its state, and the states of other cores.
+/// A core, its state, and the states of other cores. Its thread writes the state in each tick: so the state has lines of a cache to itself.
 #[cycle(states)]
 #[derive(Drop)]
 pub struct Kept {
     core: CoreId,
-    state: CoreState,
+    state: CachePadded<CoreState>,
     more: States,
 }
 
@@ -38,7 +39,7 @@ impl States {
         for core in 0..cores {
             let kept = Kept {
                 core: CoreId(core),
-                state: CoreState::EMPTY,
+                state: CachePadded::new(CoreState::EMPTY),
                 more: states,
             };
             states = States::Of(Box::new(alloc, kept)?);
@@ -52,19 +53,23 @@ impl States {
         ensures { (v : View) (c : ℕ) (b : Page) → IsOwn self.now v c b → result ≡ state_of b }
     {
         match self {
-            States::Of(kept) => kept.state,
+            States::Of(kept) => *kept.state,
             States::End => unreachable!(),
         }
     }
 
-    /// Changes the state of the core of a core's seat.
+    /// Changes the state of the core of a core's seat. The chain is written anew with its tag: a seat that is handed on then carries no
+    /// bytes behind the tag that somebody else wrote.
     pub fn set_own(&mut self, state: CoreState)
         ensures { self.new ≡ with_own state self.old }
     {
-        match self {
-            States::Of(kept) => kept.state = state,
-            States::End => {}
-        }
+        *self = match mem::replace(self, States::End) {
+            States::Of(mut kept) => {
+                *kept.state = state;
+                States::Of(kept)
+            }
+            States::End => States::End,
+        };
     }
 
     /// Whether there is a state of the core.

@@ -19,6 +19,7 @@ use Rattle.msrp_board.specs.declared.books.Conductor.TheVariants.{Unopened}
 use Rattle.msrp_board.specs.declared.pages.Page.{Page}
 use Rattle.msrp_board.specs.declared.pages.View.{View}
 use Rattle.msrp_board.specs.declared.held.CoreState.{CoreState}
+use Rattle.crossbeam_utils.specs.Padded.{padded_value, padded_with_value}
 use Rattle.msrp_board.specs.declared.states.States.{States, End, Of'}
 use Rattle.msrp_board.specs.declared.held.Claim.{Claim}
 use Rattle.msrp_board.specs.declared.held.Claim.TheVariants.{Nothing, Waits, Holds}
@@ -43,7 +44,7 @@ state_at pages c = option_map state_of (page_at pages c)
 -- what a chain keeps of core c: the state of the first node of that core
 abbrev pub kept_of : States → ℕ → Option CoreState
 kept_of End c = None
-kept_of (Of' p core state more) c = if core.0 == c then Some state else kept_of more c
+kept_of (Of' p core state more) c = if core.0 == c then Some (padded_value state) else kept_of more c
 
 -- what is kept, where it is wanted
 abbrev pub kept_if : Bool → Option CoreState → Option CoreState
@@ -52,7 +53,7 @@ kept_if wanted kept = if wanted then kept else None
 -- the chain with another state of the core of its first node
 abbrev pub with_own : CoreState → States → States
 with_own own End = End
-with_own own (Of' p core state more) = Of' p core own more
+with_own own (Of' p core state more) = Of' p core (padded_with_value state own) more
 
 -- what a seat keeps of each core is what its page says
 abbrev pub AreStates : States → List (Option Page) → Type 0
