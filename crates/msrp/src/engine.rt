@@ -4,9 +4,11 @@ ghost use Rattle.std.specs.Prelude.{◌≡◌, ◌⊎◌, ◌↔◌, ℕ, List, 
 ghost use Rattle.msrp_plan.specs.Bytes.{Wrote, sink_failed, source_failed, source_remaining};
 ghost use Rattle.msrp_plan.specs.Scheduling.{IsOrder};
 ghost use Rattle.msrp_plan.specs.WellFormed.{IsPlan};
+ghost use Rattle.msrp_sim.specs.Orders.{cores_of};
 ghost use Rattle.msrp_sim.specs.Simulated.{HasMade};
 ghost use Rattle.msrp_text.specs.PlanText.{plan_text};
 ghost use Rattle.msrp_text.specs.Reading.{csv_records, plan_of};
+ghost use Rattle.msrp_cli.specs.Outcomes.{written_status};
 ghost use Rattle.msrp.specs.Outcomes.{is_sim_fault};
 ghost use Rattle.msrp.specs.Simulation.{SimAnswers, TextAnswers, WritesRun, WritesSomeRun, WritesSomeText};
 
@@ -46,6 +48,23 @@ fn write_run<W: Write>(
     text.finish(out)
 }
 
+// Runs an accepted plan in this order, and writes the run. All memory is taken before the first byte is written.
+fn write_sim<W: Write>(
+    alloc: Global,
+    plan: &Plan,
+    out: &mut Sink<W>,
+    order: &Order,
+    version: TextVersion,
+) -> Result<u8, CliFault>
+    requires order { IsOrder plan.now (cores_of order.now plan.now) }
+    ensures { ((result ≡ Err CliFault.Memory) × (out.new ≡ out.old)) ⊎ (IsPlan plan.now × WritesRun W.contents version plan.now (cores_of order.now plan.now) out.old out.new × (result ≡ written_status out.new)) }
+{
+    let levels = Levels::of(alloc, plan)?;
+    let mut simulation = Simulation::with_room(alloc, plan, &levels, order)?;
+    write_run(plan, &mut simulation, version, out)?;
+    Ok(0)
+}
+
 /// Reads a plan, and writes the trace of its run on one thread in which the cores have their turns in this order, as text of
 /// this version. It is [`CliFault::Usage`] where the order is a list that doesn't name each core of the plan once in each
 /// tick.
@@ -76,10 +95,7 @@ pub fn sim_text<P: Read, W: Write>(
     if !order.is_of(&plan) {
         return Err(CliFault::Usage);
     }
-    let levels = Levels::of(alloc, &plan)?;
-    let mut simulation = Simulation::with_room(alloc, &plan, &levels, order)?;
-    write_run(&plan, &mut simulation, version, out)?;
-    Ok(0)
+    write_sim(alloc, &plan, out, order, version)
 }
 
 /// Reads a plan, and writes the plan's own text, which reads as the same plan. The whole plan is read before anything is

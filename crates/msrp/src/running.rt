@@ -5,6 +5,7 @@ ghost use Rattle.msrp_plan.specs.Aheads.{carries_ahead};
 ghost use Rattle.msrp_plan.specs.Bytes.{sink_failed, source_failed, source_remaining};
 ghost use Rattle.msrp_plan.specs.Runs.{IsRun};
 ghost use Rattle.msrp_text.specs.Reading.{csv_records, plan_of};
+ghost use Rattle.msrp_cli.specs.Outcomes.{written_status};
 ghost use Rattle.msrp.specs.Outcomes.{is_sim_fault};
 ghost use Rattle.msrp.specs.Running.{RunAnswers, WritesLegalRun};
 
@@ -46,6 +47,23 @@ fn write_merged<W: Write>(
     text.finish(out)
 }
 
+// Runs an accepted plan with a thread for each core that is hired, and writes what the cores did when the run has ended.
+fn write_run<T: Threads + Wait + Sync, W: Write, H: Hire>(
+    rt: &T,
+    alloc: Global,
+    plan: &Plan,
+    out: &mut Sink<W>,
+    version: TextVersion,
+    hire: &H,
+) -> Result<u8, CliFault>
+    ensures { (((result ≡ Err CliFault.Memory) ⊎ (result ≡ Err CliFault.Threads)) × (out.new ≡ out.old)) ⊎ (WritesLegalRun W.contents version plan.now out.old out.new × (result ≡ written_status out.new)) }
+{
+    let (logs, settled) = run_logged_if(rt, alloc, plan, &Plain, hire)?;
+    let merging = Merging::new(alloc, plan, &logs, &settled)?;
+    write_merged(plan, merging, version, out)?;
+    Ok(0)
+}
+
 /// Reads a plan, runs it with a thread for each core that `hire` allows, and writes the trace of what the cores did, as text of
 /// this version. It is [`CliFault::Threads`] where a thread was refused.
 ///
@@ -72,10 +90,7 @@ pub fn run_text_if<T: Threads + Wait + Sync, P: Read, W: Write, H: Hire>(
     ensures silent { IfErr result (λ fault. (fault ≡ CliFault.Write) ⊎ (out.new ≡ out.old)) }
 {
     let plan = read_plan(alloc, plan)?;
-    let (logs, settled) = run_logged_if(rt, alloc, &plan, &Plain, hire)?;
-    let merging = Merging::new(alloc, &plan, &logs, &settled)?;
-    write_merged(&plan, merging, version, out)?;
-    Ok(0)
+    write_run(rt, alloc, &plan, out, version, hire)
 }
 
 /// Reads a plan, runs it with a thread for each core, and writes the trace of what the cores did, as [`run_text_if`] does

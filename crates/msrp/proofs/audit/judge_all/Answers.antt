@@ -2,7 +2,6 @@ use Rattle.std.proofs.Common.{rules, ◌≡◌, Err}
 use Rattle.msrp_text.specs.Reading.{csv_records}
 use Rattle.msrp_trace.specs.Reading.{rows_of}
 use Rattle.msrp_cli.specs.Outcomes.{trace_fault_of}
-use Rattle.msrp_cli.specs.declared.faults.CliFault.TheVariants.{Read}
 use Rattle.msrp_trace.proofs.ReadThrough.{opened}
 use Rattle.msrp.proofs.Judging.{unopened-found}
 use Rattle.msrp.proofs.audit.judge_all.Goals as goal
