@@ -8,3 +8,4 @@ pub mod ReadBack
 pub mod MetRows
 pub mod Kept
 pub mod ReadThrough
+pub mod Counting

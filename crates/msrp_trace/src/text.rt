@@ -1,5 +1,5 @@
 //! Text in an array of its own, which is copied whole.
-ghost use Rattle.std.specs.Prelude.{ℕ, ◌≡◌, ◌≤◌, ◌<◌, ◌+◌, ◌++◌, [], decimal, length, take};
+ghost use Rattle.std.specs.Prelude.{ℕ, ◌≡◌, ◌≤◌, ◌<◌, ◌+◌, ◌-◌, ◌++◌, [], decimal, length, take};
 ghost use Rattle.msrp_trace.specs.Gathering.{next_field};
 
 use itoa::Buffer;
@@ -64,6 +64,15 @@ impl<const N: usize> Text<N> {
         ensures { self.new ≡ [] }
     {
         self.len = 0;
+    }
+
+    /// Takes the last byte back.
+    pub(crate) fn shorten(&mut self)
+        requires { 0 < length self.old }
+        ensures text { self.new ≡ take (length self.old - 1) self.old }
+        ensures size { length self.new + 1 ≡ length self.old }
+    {
+        self.len -= 1;
     }
 
     /// Takes some bytes more, for which there is room.

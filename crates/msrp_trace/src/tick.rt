@@ -1,5 +1,5 @@
 //! The text of a tick, which stands in the records of all cores.
-ghost use Rattle.std.specs.Prelude.{◌≡◌, decimal};
+ghost use Rattle.std.specs.Prelude.{◌≡◌, ◌<◌, ◌+◌, ◌%◌, ◌^◌, decimal};
 
 use crate::text::Text;
 
@@ -32,13 +32,28 @@ impl Tick {
         }
     }
 
+    // The next tick, which doesn't end in 0: its text has another last digit.
+    fn count(&mut self)
+        requires more { self.old.tick + 1 < 2 ^ 32 }
+        requires digit { 0 < (self.old.tick + 1) % 10 }
+        ensures { self.new.tick ≡ self.old.tick + 1 }
+    {
+        self.tick += 1;
+        self.text.shorten();
+        self.text.add(&[b'0' + (self.tick % 10) as u8]);
+    }
+
     #[inline(never)]
     fn make(&mut self, tick: u32)
         ensures { self.new.tick ≡ tick }
     {
-        self.text.clear();
-        self.text.number(tick);
-        self.tick = tick;
+        if tick % 10 != 0 && self.tick == tick - 1 {
+            self.count();
+        } else {
+            self.text.clear();
+            self.text.number(tick);
+            self.tick = tick;
+        }
     }
 
     /// The tick.
