@@ -44,6 +44,7 @@ impl<'a> Model for TraceWriter<'a> {
 }
 
 // Makes the line of a core's row.
+#[inline(always)]
 pub(crate) fn show_line(
     lines: &mut [RowLine],
     core: usize,
