@@ -9,14 +9,43 @@ use msrp_core::Machine;
 use msrp_merge::CoreLog;
 use std::sync::Wait;
 
-// A thread that waited long looks whether waits are short again once in so many ticks.
+// So many looks of a wait spin between them; those after them yield.
+const SPINS: u32 = 7;
+
+// After so many ticks a thread tries again whether waits are short.
 const PATIENCE: u32 = 64;
 
-// Ends a wait before this tick. The next one begins by spinning, unless a wait was so long that the threads seem to be more
-// than the processors: then each wait yields at once, but for one now and then.
-fn end_wait(backoff: &Backoff, tick: u32) {
-    if !backoff.is_completed() || tick % PATIENCE == 0 {
-        backoff.reset();
+// How a thread waits. It spins first, and then yields. Where a wait came to yield, the threads seem to be more than the processors:
+// then the next waits yield at once, for some ticks.
+#[derive(Drop)]
+struct Waiting {
+    backoff: Backoff,
+    looks: u32,
+    crowded: bool,
+}
+
+impl Waiting {
+    fn new() -> Waiting {
+        Waiting {
+            backoff: Backoff::new(),
+            looks: 0,
+            crowded: false,
+        }
+    }
+
+    // After a look in vain.
+    fn wait(&mut self) {
+        self.looks = self.looks.saturating_add(1);
+        self.backoff.snooze();
+    }
+
+    // Before the first look of this tick.
+    fn begin(&mut self, tick: u32) {
+        self.crowded = (self.crowded || self.looks > SPINS) && tick % PATIENCE != 0;
+        if !self.crowded {
+            self.backoff.reset();
+        }
+        self.looks = 0;
     }
 }
 
@@ -34,18 +63,18 @@ pub fn worker<R: Wait, S: Stage>(
     requires { IsNew board.now machine log seat }
     ensures { HasWorked board.now machine.entry.plan machine.entry.core result.0 result.1 }
 {
-    let backoff = Backoff::new();
+    let mut waiting = Waiting::new();
     let _ticks = seat.tick();
     for _ in rt.forever() {
         match board.look(&mut seat) {
-            Look::Wait => backoff.snooze(),
+            Look::Wait => waiting.wait(),
             Look::Stopped => return (log, seat),
             Look::Go => {
                 seat = stage.turn(&mut machine, &mut log, board, seat).1;
                 board.arrive(&mut seat);
                 match seat.phase() {
                     SeatPhase::Done => return (log, seat),
-                    _ => end_wait(&backoff, machine.tick()),
+                    _ => waiting.begin(machine.tick()),
                 }
             }
         }
