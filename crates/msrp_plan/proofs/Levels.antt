@@ -2,3 +2,4 @@
 pub mod LevelOrder
 pub mod Ceilings
 pub mod GlobalUse
+pub mod CoreUsers

@@ -5,7 +5,6 @@ ghost use Rattle.std.specs.Option.{option_map};
 ghost use Rattle.std.specs.List.{list_any};
 ghost use Rattle.msrp_plan.specs.Plan.{task_at};
 ghost use Rattle.msrp_plan.specs.Jobs.{jobs, jobs_of};
-ghost use Rattle.msrp_plan.specs.Levels.{is_global};
 ghost use Rattle.msrp_plan.specs.Inside.Marks.{AreGlobals, holds_one_after, is_marked, locks_one};
 ghost use Rattle.msrp_plan.specs.Limits.{most_ticks};
 ghost use Rattle.msrp_plan.specs.Names.{has_name, name_position};
@@ -25,9 +24,10 @@ use crate::limits::{
 use crate::names::is_name;
 use crate::parts::Parts;
 use crate::plans::Plan;
-use crate::tasks::{Task, add_release, add_units, first_user, is_used_elsewhere};
+use crate::tasks::{Task, add_release, add_units};
 use crate::times::Releases;
 use crate::units::{Op, Step};
+use crate::users::users_of;
 use indexmap::{IndexMap, IndexSet};
 use std::alloc::{AllocError, Global};
 use std::collections::VecDeque;
@@ -356,23 +356,14 @@ impl PlanBuilder {
         }
     }
 
-    // Whether tasks of two cores use a resource.
-    fn is_global(&self, res: ResId) -> bool
-        ensures { result ≡ is_global self.now res.0 }
-    {
-        match first_user(&self.parts.tasks, res) {
-            Some(first) => is_used_elsewhere(&self.parts.tasks, res, first.core),
-            None => false,
-        }
-    }
-
     // Which resources are global, by their numbers.
     fn globals(&self) -> [bool; MOST_RESOURCES]
         ensures { AreGlobals self.now result }
     {
+        let users = users_of(&self.parts.tasks);
         let mut globals = [false; MOST_RESOURCES];
-        for res in 0..self.parts.resources.len() {
-            globals[res] = self.is_global(ResId(res as u32));
+        for res in 0..MOST_RESOURCES {
+            globals[res] = users[res].are_on_two();
         }
         globals
     }

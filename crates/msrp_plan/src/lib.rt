@@ -20,6 +20,7 @@ mod tasks;
 mod times;
 mod traces;
 mod units;
+mod users;
 pub mod worked;
 
 pub use builder::PlanBuilder;

@@ -1,13 +1,9 @@
 //! Tasks as a plan and its builder store them.
-ghost use Rattle.std.specs.Prelude.{◌≡◌, ◌<◌, ◌+◌, ◌^◌, ◌==◌, ◌&&◌, not, ℕ, List, length, map, replicate, vec_len, OnOk, OnErr};
-ghost use Rattle.std.specs.List.{find, list_any};
-ghost use Rattle.std.specs.Option.{option_copied};
-ghost use Rattle.indexmap.specs.IndexMap.{values};
-ghost use Rattle.msrp_plan.specs.Units.{is_lock_of};
+ghost use Rattle.std.specs.Prelude.{◌≡◌, ◌<◌, ◌+◌, ◌^◌, ℕ, List, length, map, replicate, vec_len, OnOk, OnErr};
 ghost use Rattle.msrp_plan.specs.Building.{with_more_ticks, with_more_units, with_newest};
 ghost use Rattle.msrp_plan.specs.Inside.Tasks.{named_view, task_view};
 
-use crate::ids::{CoreId, ResId};
+use crate::ids::CoreId;
 use crate::times::Releases;
 use crate::units::Op;
 use indexmap::IndexMap;
@@ -40,29 +36,6 @@ impl Task {
     {
         self.releases.push(tick)
     }
-
-    // Whether the task locks a resource.
-    pub(crate) fn uses(&self, res: ResId) -> bool
-        ensures { result ≡ list_any (is_lock_of res.0) self.now.units.items }
-    {
-        self.units.iter().any(|unit| unit.is_lock_of(res))
-    }
-}
-
-// The first task that uses a resource.
-pub(crate) fn first_user(tasks: &IndexMap<String, Task>, res: ResId) -> Option<&Task>
-    ensures { option_copied result ≡ find (λ task. list_any (is_lock_of res.0) task.units.items) (values tasks.now) }
-{
-    tasks.values().find(|task| task.uses(res))
-}
-
-// Whether a task of another core uses a resource.
-pub(crate) fn is_used_elsewhere(tasks: &IndexMap<String, Task>, res: ResId, core: CoreId) -> bool
-    ensures { result ≡ list_any (λ task. list_any (is_lock_of res.0) task.units.items && not (core.0 == task.core.0)) (values tasks.now) }
-{
-    tasks
-        .values()
-        .any(|task| task.uses(res) && core != task.core)
 }
 
 // More units of one kind for the newest task.

@@ -1,5 +1,4 @@
 //! What tasks are made of, and what a core does with a global resource.
-ghost use Rattle.std.specs.Prelude.{◌≡◌};
 
 use crate::ids::ResId;
 
@@ -12,17 +11,6 @@ pub enum Op {
     Lock(ResId),
     /// An unlock of a local resource, or a release of a global one.
     Unlock(ResId),
-}
-
-impl Op {
-    ghost use Rattle.msrp_plan.specs.Units.{is_lock_of};
-
-    // Whether the unit locks a resource.
-    pub(crate) fn is_lock_of(&self, res: ResId) -> bool
-        ensures { result ≡ is_lock_of res.0 self.now }
-    {
-        matches!(self, Op::Lock(locked) if locked.0 == res.0)
-    }
 }
 
 /// What a builder takes: as [`Op`], with a run of any length.

@@ -1,4 +1,4 @@
--- Which resources are global: by the first task that uses them, and none that isn't declared.
+-- Which resources are global: those whose users are apart, and none that isn't declared; and their marks.
 use Rattle.std.proofs.Common.{◌≡◌, ℕ, zero, suc, ◌+◌, ◌<◌, ◌≤◌, ◌==◌, Bool, true, false, cond, not, ◌&&◌, ◌||◌, List, [], ◌∷◌, length, map, set, replicate, Some, None, refl, ap, sym, ◌∙◌, inl, inr, arith}
 use Rattle.std.specs.declared.alloc.Global.{Global}
 use Rattle.std.specs.declared.string.String.{String}
@@ -64,7 +64,7 @@ module _ {X : Type 0} (p : X → Bool) where
 -- ---- whether two elements that pass are apart, by the first that passes
 module _ {X : Type 0} (p : X → Bool) (place : X → ℕ) where
   -- both pass, and they are apart
-  abbrev apart : X → X → Bool
+  abbrev pub apart : X → X → Bool
   apart a b = p a && (p b && not (place a == place b))
 
   -- it passes, and is apart from one
@@ -105,25 +105,16 @@ any_stored p q same [] = refl
 any_stored p q same (e ∷ es) = ap (λ b. b || list_any p (map task_view es)) (same e) ∙ ap (λ b. q e.1 || b) (any_stored p q same es)
 
 -- the stored task uses the resource
-abbrev uses_stored : ℕ → Task → Bool
+abbrev pub uses_stored : ℕ → Task → Bool
 uses_stored g task = list_any (is_lock_of g) task.units.items
 
 -- a resource is global as the stored tasks say
-global_stored : (plan : PlanModel) (es : List (String Global × Task)) (g : ℕ) → plan.tasks ≡ map task_view es
+pub global_stored : (plan : PlanModel) (es : List (String Global × Task)) (g : ℕ) → plan.tasks ≡ map task_view es
     → is_global plan g ≡ list_any (λ a. list_any (apart (uses_stored g) (λ task. task.core.0) a) (values_of es)) (values_of es)
 global_stored plan es g same =
     ap (λ (tasks : List TaskModel). list_any (λ a. list_any (λ b. uses g a && (uses g b && not (a.core == b.core))) tasks) tasks) same
     ∙ any_stored (λ a. list_any (λ b. uses g a && (uses g b && not (a.core == b.core))) (map task_view es)) (λ a. list_any (apart (uses_stored g) (λ task. task.core.0) a) (values_of es))
     (λ e. any_stored (λ b. uses g (task_view e) && (uses g b && not ((task_view e).core == b.core))) (apart (uses_stored g) (λ task. task.core.0) e.1) (λ f. refl) es) es
-
--- a resource with a first user is global where a task of another core uses it
-pub global_by_first : (plan : PlanModel) (es : List (String Global × Task)) (g : ℕ) (first : Task) → plan.tasks ≡ map task_view es → find (uses_stored g) (values_of es) ≡ Some first
-    → is_global plan g ≡ list_any (apart_from (uses_stored g) (λ task. task.core.0) first.core.0) (values_of es)
-global_by_first plan es g first same e = global_stored plan es g same ∙ by_first (uses_stored g) (λ task. task.core.0) (values_of es) first e
-
--- one that nobody uses is local
-pub local_by_none : (plan : PlanModel) (es : List (String Global × Task)) (g : ℕ) → plan.tasks ≡ map task_view es → find (uses_stored g) (values_of es) ≡ None → is_global plan g ≡ false
-local_by_none plan es g same e = global_stored plan es g same ∙ by_none (uses_stored g) (λ task. task.core.0) (values_of es) e
 
 -- a unit that locks a resource names it
 lock_names : (g : ℕ) (u : Op) → is_lock_of g u ≡ true → (r : ResId) × (u ≡ Lock r) × (r.0 ≡ g)

@@ -1,25 +1,26 @@
-use Rattle.std.proofs.Common.{◌≡◌, length, string_bytes, arith}
-use Rattle.std.proofs.lemmas.List.{length-map}
+use Rattle.std.proofs.Common.{◌≡◌, ◌∙◌, refl, arith, get_or}
+use Rattle.msrp_plan.specs.Levels.{is_global}
 use Rattle.msrp_plan.specs.Inside.Views.{draft_view}
+use Rattle.msrp_plan.specs.declared.users.Users.TheVariants.{Nobody}
+use Rattle.msrp_plan.proofs.Levels.CoreUsers.{global_noted}
 use Rattle.msrp_plan.proofs.Levels.GlobalUse.{marked_all, marked_more, marked_none}
 use Rattle.msrp_plan.proofs.builder.PlanBuilder.globals.Goals as goal
 
 pub loop-res-init : goal.loop-res-init
 loop-res-init c = marked_none c.args.self.now
 
-pub bounds-globals-res : goal.bounds-globals-res
-bounds-globals-res c =
-    let size = length-map c.self.inside.parts.resources.keys string_bytes in
-    omega (arith, size, c.self.invariant.draft.resources, c.len-res-end.ensures.len, c.loop-res-test.true)
-
 pub loop-res-preserved : goal.loop-res-preserved
 loop-res-preserved c =
-    let size = length-map c.self.inside.parts.resources.keys string_bytes in
-    marked_more c.args.self.now c.loop-res.globals c.loop-res.res c.is_global.result (omega (arith, size, c.self.invariant.draft.resources, c.len-res-end.ensures.len, c.loop-res-test.true)) c.is_global.ensures c.loop-res.invariant
+    let plan = draft_view c.self.inside in
+    let g = c.loop-res.res in
+    let within = c.loop-res-test.true in
+    let users = get_or c.users_of-users.result g Nobody in
+    let global : c.are_on_two.result ≡ is_global plan g = c.are_on_two.ensures ∙ global_noted plan c.self.inside.parts.tasks.entries g users refl (c.users_of-users.ensures g within) in
+    let marks = rw (← c.self.view_is) at c.loop-res.invariant in
+    rw (← c.self.view_is) (marked_more plan c.loop-res.globals g c.are_on_two.result within global marks)
 
 pub returns : goal.returns
 returns c =
     let plan = draft_view c.self.inside in
-    let size : length plan.resources ≡ length c.self.inside.parts.resources.keys = length-map c.self.inside.parts.resources.keys string_bytes in
     let marks = rw (← c.self.view_is) at c.loop-res.invariant in
-    rw (← c.self.view_is) (marked_all plan c.loop-res.globals c.loop-res.res c.self.invariant.draft (omega (arith, size, c.len-res-end.ensures.len, c.loop-res-test.false)) marks)
+    rw (← c.self.view_is) (marked_all plan c.loop-res.globals c.loop-res.res c.self.invariant.draft (omega (arith, c.loop-res-test.false, c.self.invariant.draft.resources)) marks)
