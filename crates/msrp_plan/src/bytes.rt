@@ -214,6 +214,13 @@ impl<W: Write> Sink<W> {
         if self.failed { Err(WriteFault) } else { Ok(()) }
     }
 
+    /// The writer, with what it was given.
+    pub fn into_inner(self) -> W
+        ensures { result ≡ sink_inner self }
+    {
+        self.inner
+    }
+
     // One call of the writer: how many bytes it took, 0 also where it failed.
     fn put_some(&mut self, rest: &[u8]) -> usize
         ensures bound { result ≤ length rest.now }
