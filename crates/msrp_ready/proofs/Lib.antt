@@ -7,3 +7,4 @@ pub mod Once
 pub mod Standing
 pub mod Due
 pub mod Moving
+pub mod Ahead

@@ -8,7 +8,7 @@ use Rattle.msrp_plan.specs.Choice.{first_ready}
 use Rattle.msrp_plan.specs.declared.ids.JobId.{JobId}
 
 -- the ready jobs of a core of a plan: the tick up to which jobs are released (none before the first), the jobs that were
--- taken, and how often two keys were compared
+-- taken, and how often two keys were compared as they were released and taken
 pub record ReadyModel : Type 0 where
   pub plan : PlanModel
   pub core : ℕ

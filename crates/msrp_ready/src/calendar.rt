@@ -51,6 +51,21 @@ pub(crate) fn calendar_of(alloc: Global, plan: &Plan, core: CoreId) -> Result<Ve
     Ok(jobs)
 }
 
+/// The place of the first job of a calendar, from a place on, that isn't released by a tick.
+pub(crate) fn due_to(calendar: &[KeyedJob], from: usize, tick: u32) -> usize
+    requires { from ≤ length calendar.now }
+    ensures from { from ≤ result }
+    ensures within { result ≤ length calendar.now }
+    ensures released { All (λ job. job.key.release ≤ tick) (drop from (take result calendar.now)) }
+    ensures later { (d : KeyedJob) → result < length calendar.now → tick < (slice_index_or calendar.now result d).key.release }
+{
+    let mut next = from;
+    while next < calendar.len() && calendar[next].key.release <= u64::from(tick) {
+        next += 1;
+    }
+    next
+}
+
 /// Moves the jobs of a calendar from a place on that are released by a tick into the heap, and answers the place of the
 /// first that isn't.
 #[inline(always)]
@@ -95,10 +110,10 @@ fn release_some(calendar: &[KeyedJob], from: usize, tick: u32, heap: &mut Heap) 
     ensures kept { heap.old.compared ≤ heap.new.compared }
     ensures counted { result ≤ from + 1 + (heap.new.compared - heap.old.compared) }
 {
-    let mut next = from;
-    while next < calendar.len() && calendar[next].key.release <= u64::from(tick) {
-        heap.push(calendar[next]);
-        next += 1;
+    let until = due_to(calendar, from, tick);
+    let due = &calendar[from..until];
+    for job in due {
+        heap.push(*job);
     }
-    next
+    until
 }

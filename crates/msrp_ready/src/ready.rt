@@ -5,9 +5,9 @@ ghost use Rattle.msrp_plan.specs.Jobs.{is_job};
 ghost use Rattle.msrp_plan.specs.declared.ids.JobId.{JobId as Job};
 ghost use Rattle.msrp_ready.specs.Ready.{head, is_among, is_due, released};
 
-use crate::calendar::{calendar_of, release};
+use crate::calendar::{calendar_of, due_to, release};
 use crate::heap::Heap;
-use crate::keyed::KeyedJob;
+use crate::keyed::{KeyedJob, first_of};
 use msrp_plan::{CoreId, JobId, Memory, Plan};
 use std::alloc::Global;
 use std::marker::Model;
@@ -97,6 +97,31 @@ impl<'a> Ready<'a> {
         Some(first.job)
     }
 
+    // The head as a release to a tick would leave it, apart from the code of the ticks in which nothing is released.
+    #[inline(never)]
+    fn head_of_due(&self, tick: u32) -> Option<JobId>
+        requires { ForSome self.now.tick (λ before. before ≤ tick) }
+        ensures { result ≡ head (record self.now { tick = Some tick }) }
+    {
+        let until = due_to(&self.calendar, self.next, tick);
+        let first = first_of(self.heap.first(), &self.calendar[self.next..until])?;
+        Some(first.job)
+    }
+
+    /// The head as a release to a tick would leave it, which is no earlier than the one before. It releases nothing, and
+    /// counts no comparison.
+    #[inline(always)]
+    pub fn head_at(&self, tick: u32) -> Option<JobId>
+        requires { ForSome self.now.tick (λ before. before ≤ tick) }
+        ensures { result ≡ head (record self.now { tick = Some tick }) }
+    {
+        if self.is_due(tick) {
+            self.head_of_due(tick)
+        } else {
+            self.head()
+        }
+    }
+
     /// Takes the head, which is ready no more. It takes no memory.
     pub fn take_head(&mut self) -> Option<JobId>
         ensures head { result ≡ head self.old }
@@ -109,7 +134,7 @@ impl<'a> Ready<'a> {
         Some(first.job)
     }
 
-    /// How often two keys were compared since this was made.
+    /// How often two keys were compared since this was made, but for a look ahead.
     pub fn compared(&self) -> u64
         ensures { result ≡ self.now.compared }
     {

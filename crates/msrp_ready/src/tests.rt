@@ -19,6 +19,13 @@ fn head(ready: &Ready<'_>) -> Option<JobId> {
     ready.head()
 }
 
+fn head_at(ready: &Ready<'_>, tick: u32) -> Option<JobId> {
+    match ready.tick() {
+        Some(before) if tick < before => None,
+        _ => ready.head_at(tick),
+    }
+}
+
 fn take_head(ready: &mut Ready<'_>) -> Option<JobId> {
     ready.take_head()
 }
@@ -88,6 +95,7 @@ fn equal_deadlines_go_by_release(rt: HostRuntime) -> Result<(), Fail> {
         return Err(Fail::from("memory"));
     };
     assert_eq!(rt; head(&ready), None);
+    assert_eq!(rt; head_at(&ready, 2), job(1, 0));
     assert!(rt; release_to(&mut ready, 2));
     assert_eq!(rt; head(&ready), job(1, 0));
     assert_eq!(rt; take_head(&mut ready), job(1, 0));
@@ -112,6 +120,8 @@ fn blocked_head_stays(rt: HostRuntime) -> Result<(), Fail> {
     assert_eq!(rt; take_head(&mut ready), job(0, 0));
     assert!(rt; release_to(&mut ready, 1));
     assert_eq!(rt; head(&ready), job(1, 0));
+    assert_eq!(rt; head_at(&ready, 11), job(1, 0));
+    assert_eq!(rt; head_at(&ready, 12), job(1, 0));
     assert!(rt; release_to(&mut ready, 12));
     assert_eq!(rt; head(&ready), job(1, 0));
     assert!(rt; release_to(&mut ready, 14));
@@ -131,9 +141,12 @@ fn listed_jobs_come_at_their_ticks(rt: HostRuntime) -> Result<(), Fail> {
         return Err(Fail::from("memory"));
     };
     assert!(rt; release_to(&mut ready, 1));
+    assert_eq!(rt; head_at(&ready, 9), job(1, 0));
     assert_eq!(rt; take_head(&mut ready), job(1, 0));
     assert_eq!(rt; take_head(&mut ready), job(0, 0));
     assert_eq!(rt; take_head(&mut ready), None);
+    assert_eq!(rt; head_at(&ready, 1), None);
+    assert_eq!(rt; head_at(&ready, 9), job(0, 1));
     assert!(rt; release_to(&mut ready, 9));
     for (task, k) in [(0, 1), (1, 1), (0, 2), (1, 2)] {
         assert_eq!(rt; take_head(&mut ready), job(task, k));
