@@ -130,9 +130,9 @@ impl<'a> Auditor<'a> {
         unlike
     }
 
-    /// A guess of the core's next row, with its ahead: that row of the legal run, where no job of the core is released in
-    /// its tick and none starts. There it is none, and none of a core that the plan hasn't. Nothing is promised of it:
-    /// whoever guesses feeds the row that comes.
+    /// A guess of the core's next row, with its ahead: that row of the legal run, where one is left. It is none where the
+    /// core has had all its turns, and none of a core that the plan hasn't. Nothing is promised of it: whoever guesses
+    /// feeds the row that comes.
     #[inline(always)]
     pub fn foresee(&self, core: CoreId) -> Option<Row> {
         if core.0 < self.plan.cores() {

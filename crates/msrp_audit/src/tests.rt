@@ -206,33 +206,22 @@ fn many_cores_are_judged_alike(rt: HostRuntime) -> Result<(), Fail> {
     expect_audit(&rt, rt.alloc(), &plan, &trace.rows, Err(fault))
 }
 
-// The rows that are foreseen are all but those in whose tick a job of the core is released, in each twentieth, or starts.
+// A row is foreseen in each turn, also where a job of its core is released, in each twentieth, or starts; and none after the last.
 #[test]
-fn rows_are_foreseen_but_for_releases_and_starts(rt: HostRuntime) -> Result<(), Fail> {
+fn each_row_is_foreseen(rt: HostRuntime) -> Result<(), Fail> {
     let plan = crowd(rt.alloc())?;
     let levels = Levels::of(rt.alloc(), &plan)?;
     let Ok(trace) = simulate(rt.alloc(), &plan, &Order::Rot) else {
         return Err(Fail::from("memory"));
     };
     let mut auditor = Auditor::with_room(rt.alloc(), &plan, &levels)?;
-    let mut last = [None; 8];
-    let mut foreseen: u32 = 0;
     for row in &trace.rows {
-        let guess = auditor.foresee(row.core);
-        if let Some(last) = last.get_mut(row.core.0 as usize) {
-            let starts = row.job.is_some() && row.job != *last;
-            if starts || row.tick % 20 == 0 {
-                assert_eq!(&rt; guess, None);
-            } else {
-                assert_eq!(&rt; guess, Some(*row));
-                foreseen = foreseen.saturating_add(1);
-            }
-            *last = row.job.or(*last);
-        }
+        assert_eq!(&rt; auditor.foresee(row.core), Some(*row));
         assert_eq!(&rt; auditor.feed(*row), Ok(()));
     }
-    assert_eq!(&rt; foreseen, 22_800);
-    assert_eq!(&rt; auditor.foresee(CoreId(8)), None);
+    for core in 0..9 {
+        assert_eq!(&rt; auditor.foresee(CoreId(core)), None);
+    }
     Ok(())
 }
 

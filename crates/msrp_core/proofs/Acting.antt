@@ -1,5 +1,5 @@
 -- An action of the running job, over what is stored of the jobs of a core.
-use Rattle.std.proofs.Common.{◌≡◌, ℕ, ◌+◌, ◌<◌, ◌≤◌, Bool, true, false, nat_eq, List, [], ◌∷◌, Option, Some, refl, ap, sym, ◌∙◌, subst, arith, length, reverse, slice_get, vec_capacity}
+use Rattle.std.proofs.Common.{◌≡◌, ℕ, ◌+◌, ◌<◌, ◌≤◌, Bool, true, false, cond, nat_eq, ◌&&◌, List, [], ◌∷◌, Option, Some, refl, ap, sym, ◌∙◌, subst, arith, length, reverse, slice_get, vec_capacity}
 use Rattle.std.specs.List.{list_any}
 use Rattle.std.proofs.Math.Bool.{true≢false}
 use Rattle.std.proofs.lemmas.Bool.{eq-eqb, and_from, false_from_ne_true}
@@ -7,7 +7,7 @@ use Rattle.msrp_plan.specs.Plan.{PlanModel, units}
 use Rattle.msrp_plan.specs.Jobs.{jobs_on, is_waiting}
 use Rattle.msrp_plan.specs.WellFormed.{IsPlan}
 use Rattle.msrp_plan.specs.declared.ids.CoreId.{CoreId}
-use Rattle.msrp_ready.specs.Ready.{ReadyModel}
+use Rattle.msrp_ready.specs.Ready.{ReadyModel, is_among}
 use Rattle.msrp_plan.specs.Levels.{is_global}
 use Rattle.msrp_plan.specs.Actions.{same_res, res_of_unit, is_global_unit, allows, does_unit, does_unit_after}
 use Rattle.msrp_plan.specs.Phases.{phase_with}
@@ -21,9 +21,10 @@ use Rattle.msrp_plan.specs.declared.units.Op.TheVariants.{Run as RunUnit, Lock a
 use Rattle.msrp_plan.specs.declared.units.Phase.{Phase}
 use Rattle.msrp_plan.specs.declared.units.Phase.TheVariants.{Free, Queued, Holding}
 use Rattle.msrp_stack.specs.Stack.{StackModel, StartedJob, HasRoom, IsInnermost, with_held, without_held, without_first}
-use Rattle.msrp_core.specs.Going.{Going, going_of, advanced, is_waiting_phase, is_holding_phase, state_in, HoldSo, AreGoing}
-use Rattle.msrp_core.specs.CoreJobs.{going_in, state_of, AreJobs, IsRunning, CanAct, Acts, DoesNext}
+use Rattle.msrp_core.specs.Going.{Going, going_of, advanced, done_in, is_newest, is_waiting_phase, is_holding_phase, state_in, HoldSo, AreGoing}
+use Rattle.msrp_core.specs.CoreJobs.{going_in, state_of, AreJobs, IsRunning, CanAct, Acts, IsNextUnit, DoesNext}
 use Rattle.msrp_core.specs.declared.jobs.Jobs.{Jobs}
+use Rattle.msrp_core.proofs.Running.{begun, begun_holds, running_done, running_queued}
 use Rattle.msrp_core.proofs.Steps.{CanUnlock, IsStep, advance_going, advance_states, grant_step, last_free, lock_room, lock_step, release_phase, release_step, request_room, take_step, unlock_room, unlock_step, work_step}
 
 -- ---- the newest with one resource more, and without the innermost
@@ -302,16 +303,54 @@ holding_self r = eq-eqb r.0 r.0 refl
 pub waiting_global : (plan : PlanModel) (p : Phase) (s : Going) (below : List Going) (r : ResId) → p ≡ Queued r → HoldSo plan p (s ∷ below) → is_global plan r.0 ≡ true
 waiting_global plan p s below r e h = (subst (λ p. HoldSo plan p (s ∷ below)) e h).0.global
 
--- an unlock of what the core doesn't hold is local
-pub unlock_local : (jobs : Jobs) (job : JobId) (res : ResId) (can : CanAct jobs job (UnlockUnit res)) → is_holding_phase res jobs.phase ≡ false → is_global jobs.plan.now res.0 ≡ false
-unlock_local jobs job res can off = false_from_ne_true (is_global jobs.plan.now res.0) (λ t.
-    true≢false (sym (ap (is_holding_phase res) (release_phase jobs.plan.now can.jobs_fit.accepted can.newest can.below jobs.phase res (holds_at jobs job (UnlockUnit res) can) (unit_at jobs job (UnlockUnit res) can) t) ∙ holding_self res) ∙ off))
+-- ---- the next unit of a job
+-- of the running job
+pub next_unit : (jobs : Jobs) (job : JobId) (op : Op) → CanAct jobs job op → IsNextUnit jobs job op
+next_unit jobs job op can =
+    let run : IsRunning jobs job = record { newest = can.newest; below = can.below; going = can.going; same = can.same } in
+    record {
+      accepted = can.jobs_fit.accepted;
+      levels = can.jobs_fit.levels;
+      newest = can.newest;
+      below = can.below;
+      same = can.same;
+      holds = holds_at jobs job op can;
+      unit = can.unit;
+      queued = running_queued jobs job run;
+      done = running_done jobs job can.jobs_fit run;
+    }
 
--- ---- the row of the next action, whatever is replied
-pub next_by : (jobs : Jobs) (job : JobId) (op : Op) (tick : ℕ) (r : Row) (k : Kind) (res : Option ResId) → CanAct jobs job op → IsRow r tick jobs job k res → same_res res (res_of_unit op) ≡ true → allows (is_global_unit jobs.plan.now op) (is_waiting_phase jobs.phase) op k ≡ true → DoesNext jobs job tick r
-next_by jobs job op tick r k res can row same may = record {
-  row_tick = row.tick_is;
-  row_core = row.core_is;
-  row_job = row.job_is;
-  action = action_at jobs jobs job op tick r (phase_with jobs.phase k res) k res can row (does_by jobs.plan.now (is_waiting_phase jobs.phase) r op k res row.res_is row.kind_is same may) refl;
+-- the first one of a job that starts
+pub first_unit : (jobs : Jobs) (job : JobId) (op : Op) → AreJobs jobs → is_among jobs.ready.taken job ≡ false → jobs.phase ≡ Free → slice_get (units jobs.plan.now job) 0 ≡ Some op → IsNextUnit jobs job op
+first_unit jobs job op fit fresh free unit = record {
+  accepted = fit.accepted;
+  levels = fit.levels;
+  newest = begun job;
+  below = going_in jobs;
+  same = refl;
+  holds = begun_holds jobs job fit free;
+  unit = unit;
+  queued = ap (λ p. is_waiting_phase p && is_newest (going_in jobs) job) free ∙ sym (ap is_waiting_phase free);
+  done = ap (λ b. cond b (done_in jobs.plan.now (going_in jobs) job) 0) fresh;
 }
+
+module _ (jobs : Jobs) (job : JobId) (op : Op) (next : IsNextUnit jobs job op) where
+  pub next_at : slice_get (units jobs.plan.now next.newest.job) next.newest.done ≡ Some op
+  next_at = ap (λ j. slice_get (units jobs.plan.now j) next.newest.done) next.same ∙ next.unit
+
+  -- its row, whatever is replied
+  pub next_by : (tick : ℕ) (r : Row) (k : Kind) (res : Option ResId) → IsRow r tick jobs job k res → same_res res (res_of_unit op) ≡ true → allows (is_global_unit jobs.plan.now op) (is_waiting_phase jobs.phase) op k ≡ true → DoesNext jobs job tick r
+  next_by tick r k res row same may = record {
+    row_tick = row.tick_is;
+    row_core = row.core_is;
+    row_job = row.job_is;
+    action =
+        ap (λ b. does_unit_after jobs.plan.now job b (state_of jobs job).done r) next.queued
+        ∙ (ap (λ n. does_unit_after jobs.plan.now job (is_waiting_phase jobs.phase) n r) next.done
+        ∙ (ap (does_unit jobs.plan.now (is_waiting_phase jobs.phase) r) next.unit ∙ does_by jobs.plan.now (is_waiting_phase jobs.phase) r op k res row.res_is row.kind_is same may));
+  }
+
+-- an unlock of what the core doesn't hold is local
+pub unlock_local : (jobs : Jobs) (job : JobId) (res : ResId) → IsNextUnit jobs job (UnlockUnit res) → is_holding_phase res jobs.phase ≡ false → is_global jobs.plan.now res.0 ≡ false
+unlock_local jobs job res next off = false_from_ne_true (is_global jobs.plan.now res.0) (λ t.
+    true≢false (sym (ap (is_holding_phase res) (release_phase jobs.plan.now next.accepted next.newest next.below jobs.phase res next.holds (next_at jobs job (UnlockUnit res) next) t) ∙ holding_self res) ∙ off))

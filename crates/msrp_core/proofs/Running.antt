@@ -2,7 +2,7 @@
 use Rattle.std.proofs.Common.{◌≡◌, ◌≢◌, ℕ, ◌+◌, ◌<◌, ◌≤◌, ◌==◌, Bool, true, false, cond, not, nat_eq, nat_lt, max, ◌⊎◌, ◌&&◌, ◌||◌, List, [], ◌∷◌, ◌++◌, Option, Some, None, refl, ap, sym, ◌∙◌, subst, arith, length, length-append, map, reverse, inl, inr, get_or, ◌-◌, Vec, Global, vec_capacity, IsSome, unwrap_or}
 use Rattle.std.specs.List.{list_any, filter, AllByRecursion, Contains, IsDistinct, range_with_len}
 use Rattle.std.specs.Cmp.{IsEquivalence}
-use Rattle.std.proofs.Math.Bool.{true≢false, or-true, or-false}
+use Rattle.std.proofs.Math.Bool.{true≢false, and-true, or-true, or-false}
 use Rattle.std.proofs.Math.Seq.{get_or-append_seam}
 use Rattle.std.proofs.lemmas.Bool.{cases_Bool, eqb-true, ltb-true, and_parts, false_from_ne_true, not-true, or_parts, eq-eqb}
 use Rattle.std.proofs.lemmas.Map.Made.{length-le_from_is_member}
@@ -15,7 +15,7 @@ use Rattle.msrp_plan.specs.Levels.{level, is_global, local_ceiling, greatest}
 use Rattle.msrp_plan.specs.Levels as levels
 use Rattle.msrp_plan.specs.Ceiling.{resources, raised_with, ceiling_with}
 use Rattle.msrp_plan.specs.Choice.{is_before, first_ready, first_unfinished, chosen, choice}
-use Rattle.msrp_plan.specs.States.{JobState}
+use Rattle.msrp_plan.specs.States.{JobState, state_after}
 use Rattle.msrp_plan.specs.WellFormed.{IsPlan}
 use Rattle.msrp_plan.specs.declared.ids.JobId.{JobId}
 use Rattle.msrp_plan.specs.declared.rows.Row.{Row}
@@ -77,6 +77,16 @@ running_known jobs j fit run =
     let all = subst (AllByRecursion (IsGoing jobs.plan.now jobs.core.0 jobs.ready.taken)) run.going fit.are.each in
     (subst (Contains (jobs_on jobs.plan.now jobs.core.0)) run.same all.0.known, ap (is_among jobs.ready.taken) (sym run.same) ∙ all.0.started)
 
+-- it waits where the core does, and has done what it has as the newest
+pub running_queued : (jobs : Jobs) (j : JobId) → IsRunning jobs j → (state_of jobs j).queued ≡ is_waiting_phase jobs.phase
+running_queued jobs j run =
+    ap (λ l. is_waiting_phase jobs.phase && is_newest l j) run.going ∙ (ap (λ b. is_waiting_phase jobs.phase && b) (ap (λ k. same_job j k) run.same ∙ same_self j) ∙ and-true (is_waiting_phase jobs.phase))
+
+pub running_done : (jobs : Jobs) (j : JobId) → AreJobs jobs → (run : IsRunning jobs j) → (state_of jobs j).done ≡ run.newest.done
+running_done jobs j fit run =
+    ap (λ b. cond b (done_in jobs.plan.now (going_in jobs) j) 0) (running_known jobs j fit run).1
+    ∙ (ap (λ l. done_in jobs.plan.now l j) run.going ∙ ap (λ b. cond b run.newest.done (done_in jobs.plan.now run.below j)) (ap (λ k. same_job j k) run.same ∙ same_self j))
+
 pub newest_known : (jobs : Jobs) (j : JobId) → AreJobs jobs → newest jobs.stack.started ≡ Some j → Contains (jobs_on jobs.plan.now jobs.core.0) j
 newest_known jobs j fit e = (running_known jobs j fit (running_of jobs j fit.size e)).0
 
@@ -110,6 +120,13 @@ ready_known jobs j fit e = by_tick jobs.ready.tick refl
 -- what is said of the ready jobs after a release to a tick
 pub ready_head : (jobs : Jobs) (tick : ℕ) (m : ReadyModel) → m ≡ record jobs.ready { tick = Some tick; compared = m.compared } → ready.head m ≡ first_ready jobs.ready.plan jobs.ready.core tick (is_among jobs.ready.taken)
 ready_head jobs tick m e = ap ready.head e
+
+pub head_of_release : (jobs : Jobs) (tick : ℕ) (m : ReadyModel) → m ≡ record jobs.ready { tick = Some tick; compared = m.compared } → ready.head m ≡ first_ready m.plan m.core tick (is_among m.taken)
+head_of_release jobs tick m e = ap (λ o. ready.head (record m { tick = o })) (ap (λ (n : ReadyModel). n.tick) e)
+
+pub released_told : (jobs : Jobs) (tick : ℕ) (m : ReadyModel) (log : List Row) → m ≡ record jobs.ready { tick = Some tick; compared = m.compared } → AreToldBy jobs log → AreToldBy (record jobs { ready = m }) log
+released_told jobs tick m log e told =
+    subst (λ taken. AllByRecursion (λ j. state_after log j ≡ state_in jobs.plan.now taken jobs.phase (going_in jobs) j) (jobs_on jobs.plan.now jobs.core.0)) (sym (ap (λ (n : ReadyModel). n.taken) e)) told
 
 -- the ceiling and who runs, as the stack says them
 ceiling_of : (jobs : Jobs) → AreJobs jobs → ceiling_with jobs.plan.now jobs.core.0 false (is_kept (going_in jobs)) ≡ current_ceiling jobs.stack
@@ -200,8 +217,11 @@ can_start jobs j fit there first = record {
     comes (s ∷ below) e = e
 
 -- a job that is new among those that are going
-abbrev begun : JobId → Going
+abbrev pub begun : JobId → Going
 begun j = record { job = j; held = []; done = 0 }
+
+pub begun_holds : (jobs : Jobs) (j : JobId) → AreJobs jobs → jobs.phase ≡ Free → HoldSo jobs.plan.now jobs.phase (begun j ∷ going_in jobs)
+begun_holds jobs j fit free = subst (λ p. HoldSo jobs.plan.now p (begun j ∷ going_in jobs)) (sym free) (record { now = refl; locals = λ g h. absurd (true≢false (sym h)) }, subst (λ p. HoldSo jobs.plan.now p (going_in jobs)) free fit.are.holds)
 
 module _ (jobs : Jobs) (j : JobId) (taken : List JobId) (fit : AreJobs jobs) (there : Contains (jobs_on jobs.plan.now jobs.core.0) j) (fresh : is_among jobs.ready.taken j ≡ false) (free : jobs.phase ≡ Free)
     (more : (k : JobId) → is_among taken k ≡ is_among jobs.ready.taken k || is_job (Some j) k) where
@@ -218,7 +238,7 @@ module _ (jobs : Jobs) (j : JobId) (taken : List JobId) (fit : AreJobs jobs) (th
       all_weaker (IsGoing jobs.plan.now jobs.core.0 jobs.ready.taken) (IsGoing jobs.plan.now jobs.core.0 taken) (λ s g. record { known = g.known; started = more s.job ∙ ap (λ b. b || is_job (Some j) s.job) g.started; left = g.left }) (going_in jobs) fit.are.each,
     );
     apart = (not_going, fit.are.apart);
-    holds = subst (λ p. HoldSo jobs.plan.now p (begun j ∷ going_in jobs)) (sym free) (record { now = refl; locals = λ g h. absurd (true≢false (sym h)) }, subst (λ p. HoldSo jobs.plan.now p (going_in jobs)) free fit.are.holds);
+    holds = begun_holds jobs j fit free;
   }
 
   pub begun_states : (k : JobId) → state_in jobs.plan.now taken jobs.phase (begun j ∷ going_in jobs) k ≡ started_with (Some j) (state_of jobs k)
@@ -302,16 +322,15 @@ popped jobs front n s below items e = by_started jobs.stack.started refl
         (d, (x, rest, is, j, h, b))
 
 -- ---- what a choice answers
-pub choose_head : (jobs : Jobs) (tick : ℕ) (m : ReadyModel) (running : Option JobId) (j : JobId) (b : Bool) (log : List Row) → AreJobs jobs → m ≡ record jobs.ready { tick = Some tick; compared = m.compared } → running ≡ stack.top jobs.stack → Some j ≡ ready.head m
-    → is_preferred jobs.plan.now (current_ceiling jobs.stack) j running ≡ b → AreToldBy jobs log → cond b (Some j) running ≡ choice jobs.plan.now jobs.core.0 tick log
-choose_head jobs tick m running j b log fit rest top head next told =
+pub choose_head : (jobs : Jobs) (tick : ℕ) (running : Option JobId) (j : JobId) (b : Bool) (log : List Row) → AreJobs jobs → running ≡ stack.top jobs.stack → Some j ≡ first_ready jobs.ready.plan jobs.ready.core tick (is_among jobs.ready.taken) → is_preferred jobs.plan.now (current_ceiling jobs.stack) j running ≡ b → AreToldBy jobs log
+    → cond b (Some j) running ≡ choice jobs.plan.now jobs.core.0 tick log
+choose_head jobs tick running j b log fit top head next told =
     sym (choice_of jobs log tick fit told
-    ∙ (ap (λ h. chosen jobs.plan.now (current_ceiling jobs.stack) h (stack.top jobs.stack)) (sym (head ∙ ready_head jobs tick m rest))
-    ∙ (ap (chosen jobs.plan.now (current_ceiling jobs.stack) (Some j)) (sym top) ∙ chosen_by jobs.plan.now (current_ceiling jobs.stack) j running b next)))
+    ∙ (ap (λ h. chosen jobs.plan.now (current_ceiling jobs.stack) h (stack.top jobs.stack)) (sym head) ∙ (ap (chosen jobs.plan.now (current_ceiling jobs.stack) (Some j)) (sym top) ∙ chosen_by jobs.plan.now (current_ceiling jobs.stack) j running b next)))
 
-pub choose_none : (jobs : Jobs) (tick : ℕ) (m : ReadyModel) (running : Option JobId) (log : List Row) → AreJobs jobs → m ≡ record jobs.ready { tick = Some tick; compared = m.compared } → running ≡ stack.top jobs.stack → None ≡ ready.head m → AreToldBy jobs log → running ≡ choice jobs.plan.now jobs.core.0 tick log
-choose_none jobs tick m running log fit rest top head told =
-    sym (choice_of jobs log tick fit told ∙ (ap (λ h. chosen jobs.plan.now (current_ceiling jobs.stack) h (stack.top jobs.stack)) (sym (head ∙ ready_head jobs tick m rest)) ∙ sym top))
+pub choose_none : (jobs : Jobs) (tick : ℕ) (running : Option JobId) (log : List Row) → AreJobs jobs → running ≡ stack.top jobs.stack → None ≡ first_ready jobs.ready.plan jobs.ready.core tick (is_among jobs.ready.taken) → AreToldBy jobs log → running ≡ choice jobs.plan.now jobs.core.0 tick log
+choose_none jobs tick running log fit top head told =
+    sym (choice_of jobs log tick fit told ∙ (ap (λ h. chosen jobs.plan.now (current_ceiling jobs.stack) h (stack.top jobs.stack)) (sym head) ∙ sym top))
 
 -- who runs is started already
 runs_started : (plan : PlanModel) (taken : List JobId) (running : Option JobId) (j : JobId) → ((x : JobId) → running ≡ Some x → is_among taken x ≡ true) → is_among taken j ≡ is_among taken j || is_job running j

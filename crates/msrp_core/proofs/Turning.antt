@@ -1,11 +1,11 @@
 -- A turn of a machine: its row is the next one of whatever log the machine stands after.
-use Rattle.std.proofs.Common.{◌≡◌, ℕ, Bool, true, false, cond, ◌&&◌, ◌||◌, List, [], ◌∷◌, ◌++◌, Option, Some, None, refl, ap, sym, ◌∙◌, subst, length, map, inl, inr}
+use Rattle.std.proofs.Common.{◌≡◌, ℕ, Bool, true, false, cond, ◌||◌, List, [], ◌∷◌, ◌++◌, Option, Some, None, refl, ap, sym, ◌∙◌, subst, length, map, inl, inr}
 use Rattle.std.specs.List.{list_any, AllByRecursion, Contains}
 use Rattle.std.specs.Option.{ForSome}
 use Rattle.std.proofs.Math.Bool.{or-false}
 use Rattle.std.proofs.lemmas.Bool.{cases_Bool}
 use Rattle.std.proofs.lemmas.List.Sums.{fold_push}
-use Rattle.msrp_plan.specs.Jobs.{jobs_on, same_job, is_job, is_queued, done}
+use Rattle.msrp_plan.specs.Jobs.{jobs_on, same_job, is_job}
 use Rattle.msrp_plan.specs.Choice.{choice}
 use Rattle.msrp_plan.specs.Actions.{does_next, does_unit_after, is_idle}
 use Rattle.msrp_plan.specs.Phases.{phase_with, phase_after}
@@ -21,11 +21,11 @@ use Rattle.msrp_plan.specs.declared.units.Phase.TheVariants.{Free}
 use Rattle.msrp_plan.proofs.Jobs.States.{state_push}
 use Rattle.msrp_plan.proofs.Jobs.JobTests.{same_self}
 use Rattle.msrp_plan.proofs.Lists.AnyAll.{any_in}
-use Rattle.msrp_core.specs.Going.{done_in, is_waiting_phase, is_newest}
-use Rattle.msrp_core.specs.CoreJobs.{going_in, state_of, AreJobs, AreToldBy, IsRunning, IsSamePlace, ActsFor, DoesNext, IsTurnOf, started_with}
+use Rattle.msrp_core.specs.Going.{is_waiting_phase}
+use Rattle.msrp_core.specs.CoreJobs.{state_of, AreJobs, AreToldBy, IsRunning, IsSamePlace, ActsFor, IsTurnOf, started_with}
 use Rattle.msrp_core.specs.declared.jobs.Jobs.{Jobs}
 use Rattle.msrp_core.proofs.Choices.{at_in}
-use Rattle.msrp_core.proofs.Running.{running_known}
+use Rattle.msrp_core.proofs.Running.{running_done, running_known, running_queued}
 
 -- ---- what a turn leaves
 pub fits_after : (mid new : Jobs) (chosen : Option JobId) (tick : ℕ) (r : Row) → AreJobs mid → ActsFor mid new chosen tick r → AreJobs new
@@ -45,21 +45,21 @@ core_after mid new None tick r acts = ap (λ (j : Jobs). j.core) acts.same
 core_after mid new (Some job) tick r acts = acts.core
 
 -- ---- the row of a turn
-pub turn_of : (mid new : Jobs) (chosen : Option JobId) (tick : ℕ) (r : Row) → ActsFor mid new chosen tick r → IsTurnOf mid chosen tick r
-turn_of mid new None tick r acts = record { row_tick = acts.row_tick; row_core = acts.row_core; row_job = acts.row_job; kind = acts.kind }
-turn_of mid new (Some job) tick r acts = record { row_tick = acts.row_tick; row_core = acts.row_core; row_job = acts.row_job; action = acts.action }
+acts_job : (mid new : Jobs) (chosen : Option JobId) (tick : ℕ) (r : Row) → ActsFor mid new chosen tick r → r.job ≡ chosen
+acts_job mid new None tick r acts = acts.row_job
+acts_job mid new (Some job) tick r acts = acts.row_job
 
-row_tick : (mid : Jobs) (chosen : Option JobId) (tick : ℕ) (r : Row) → IsTurnOf mid chosen tick r → r.tick ≡ tick
-row_tick mid None tick r turn = turn.row_tick
-row_tick mid (Some job) tick r turn = turn.row_tick
+row_tick : (jobs : Jobs) (chosen : Option JobId) (tick : ℕ) (r : Row) → IsTurnOf jobs chosen tick r → r.tick ≡ tick
+row_tick jobs None tick r turn = turn.row_tick
+row_tick jobs (Some job) tick r turn = turn.row_tick
 
-row_core : (mid : Jobs) (chosen : Option JobId) (tick : ℕ) (r : Row) → IsTurnOf mid chosen tick r → r.core ≡ mid.core
-row_core mid None tick r turn = turn.row_core
-row_core mid (Some job) tick r turn = turn.row_core
+row_core : (jobs : Jobs) (chosen : Option JobId) (tick : ℕ) (r : Row) → IsTurnOf jobs chosen tick r → r.core ≡ jobs.core
+row_core jobs None tick r turn = turn.row_core
+row_core jobs (Some job) tick r turn = turn.row_core
 
-row_job : (mid : Jobs) (chosen : Option JobId) (tick : ℕ) (r : Row) → IsTurnOf mid chosen tick r → r.job ≡ chosen
-row_job mid None tick r turn = turn.row_job
-row_job mid (Some job) tick r turn = turn.row_job
+row_job : (jobs : Jobs) (chosen : Option JobId) (tick : ℕ) (r : Row) → IsTurnOf jobs chosen tick r → r.job ≡ chosen
+row_job jobs None tick r turn = turn.row_job
+row_job jobs (Some job) tick r turn = turn.row_job
 
 -- an idle row leaves the phase
 idle_phase : (p : Phase) (r : Row) → is_idle r.kind ≡ true → r.res ≡ None → phase_with p r.kind r.res ≡ p
@@ -108,7 +108,7 @@ module _ (old mid new : Jobs) (chosen : Option JobId) (tick : ℕ) (r : Row) (lo
   later_state j e =
       turn_states mid new chosen tick r j acts
       ∙ (ap (state_with r) (states j)
-      ∙ (moved_started r chosen (state_of old j) (row_job mid chosen tick r (turn_of mid new chosen tick r acts))
+      ∙ (moved_started r chosen (state_of old j) (acts_job mid new chosen tick r acts)
       ∙ (ap (state_with r) (sym e) ∙ sym (state_push log r j))))
 
   pub turn_told : map (state_of new) (jobs_on new.plan.now new.core.0) ≡ map (state_after (log ++ r ∷ [])) (jobs_on new.plan.now new.core.0)
@@ -127,56 +127,59 @@ module _ (old mid new : Jobs) (chosen : Option JobId) (tick : ℕ) (r : Row) (lo
   turn_phase e = phase_after_turn mid new chosen tick r acts ∙ (ap (λ p. phase_with p r.kind r.res) (same.phase ∙ e) ∙ sym (fold_push (λ (p : Phase) (w : Row). phase_with p w.kind w.res) Free log r))
 
 -- ---- the row
--- the job of a core's turn, and what it does next
-running_row : (old mid : Jobs) (job : JobId) (tick : ℕ) (r : Row) (log : List Row) → AreJobs mid → IsSamePlace old mid → ((j : JobId) → state_of mid j ≡ started_with (Some job) (state_of old j)) → IsRunning mid job → DoesNext mid job tick r → AreToldBy old log
-    → Contains (jobs_on old.plan.now old.core.0) job × (does_unit_after old.plan.now job (is_queued log job) (done job log) r ≡ true)
-running_row old mid job tick r log fit same states run turn told =
-    let plan : mid.plan.now ≡ old.plan.now = ap (λ p. p.now) same.plan in
-    let core : mid.core.0 ≡ old.core.0 = ap (λ (c : CoreId). c.0) same.core in
-    let known = running_known mid job fit run in
-    let there : Contains (jobs_on old.plan.now old.core.0) job = subst (λ p. Contains (jobs_on p old.core.0) job) plan (subst (λ c. Contains (jobs_on mid.plan.now c) job) core known.0) in
-    let tell : state_after log job ≡ state_of old job = at_in (λ j. state_after log j ≡ state_of old j) (jobs_on old.plan.now old.core.0) job told there in
-    let q : is_queued log job ≡ is_waiting_phase mid.phase =
-    ap (λ (s : JobState). s.queued) tell ∙ (ap (λ (s : JobState). s.queued) (sym (states job)) ∙ (ap (λ l. is_waiting_phase mid.phase && is_newest l job) run.going ∙ (ap (λ b. is_waiting_phase mid.phase && b) (ap (λ k. same_job job k) run.same ∙ same_self job) ∙ and_true (is_waiting_phase mid.phase)))) in
-    let d : done job log ≡ run.newest.done =
-    ap (λ (s : JobState). s.done) tell ∙ (ap (λ (s : JobState). s.done) (sym (states job)) ∙ (ap (λ b. cond b (done_in mid.plan.now (going_in mid) job) 0) known.1 ∙ (ap (λ l. done_in mid.plan.now l job) run.going ∙ ap (λ b. cond b run.newest.done (done_in mid.plan.now run.below job)) (ap (λ k. same_job job k) run.same ∙ same_self job)))) in
-    let does = turn.action run.newest run.below run.going in
-    (there, ap (λ b. does_unit_after old.plan.now job b (done job log) r) q ∙ (ap (λ n. does_unit_after old.plan.now job (is_waiting_phase mid.phase) n r) d ∙ (ap (λ p. does_unit_after p job (is_waiting_phase mid.phase) run.newest.done r) (sym plan) ∙ does)))
-  where
-    and_true : (b : Bool) → (b && true) ≡ b
-    and_true true = refl
-    and_true false = refl
+-- what acts, once it is chosen and perhaps started, does what the jobs as they were before have next
+module _ (old mid : Jobs) (fit : AreJobs mid) (same : IsSamePlace old mid) where
+  plan_before : mid.plan.now ≡ old.plan.now
+  plan_before = ap (λ p. p.now) same.plan
 
-pub turn_row : (old mid : Jobs) (chosen : Option JobId) (tick : ℕ) (r : Row) (log : List Row) → AreJobs mid → IsSamePlace old mid → ((j : JobId) → state_of mid j ≡ started_with chosen (state_of old j)) → ForSome chosen (IsRunning mid) → IsTurnOf mid chosen tick r → AreToldBy old log → tick ≡ length log
-    → chosen ≡ choice old.plan.now old.core.0 tick log → IsCoreTurn old.plan.now old.core.0 log r
-turn_row old mid chosen tick r log fit same states run turn told at is = record {
-  tick = row_tick mid chosen tick r turn ∙ at;
-  core = core;
-  own = own chosen refl;
-  chosen = picked chosen refl;
-  action = next chosen refl;
-}
-  where
-    core : r.core.0 ≡ old.core.0
-    core = ap (λ (c : CoreId). c.0) (row_core mid chosen tick r turn ∙ same.core)
+  pub chosen_known : (chosen : Option JobId) → ForSome chosen (IsRunning mid) → ForSome chosen (Contains (jobs_on old.plan.now old.core.0))
+  chosen_known chosen runs x e =
+      subst (λ p. Contains (jobs_on p old.core.0) x) plan_before (subst (λ (c : CoreId). Contains (jobs_on mid.plan.now c.0) x) same.core (running_known mid x fit (runs x e)).0)
 
-    job : r.job ≡ chosen
-    job = row_job mid chosen tick r turn
+  pub turn_of : (new : Jobs) (chosen : Option JobId) (tick : ℕ) (r : Row) → ForSome chosen (IsRunning mid) → ((j : JobId) → state_of mid j ≡ started_with chosen (state_of old j)) → ActsFor mid new chosen tick r → IsTurnOf old chosen tick r
+  turn_of new None tick r runs states acts = record { row_tick = acts.row_tick; row_core = acts.row_core ∙ same.core; row_job = acts.row_job; kind = acts.kind }
+  turn_of new (Some job) tick r runs states acts =
+      let run = runs job refl in
+      record {
+        row_tick = acts.row_tick;
+        row_core = acts.row_core ∙ same.core;
+        row_job = acts.row_job;
+        action =
+            ap (λ b. does_unit_after old.plan.now job b (state_of old job).done r) (sym (ap (λ (s : JobState). s.queued) (states job)) ∙ running_queued mid job run)
+            ∙ (ap (λ n. does_unit_after old.plan.now job (is_waiting_phase mid.phase) n r) (sym (ap (λ (s : JobState). s.done) (states job)) ∙ running_done mid job fit run)
+            ∙ (ap (λ p. does_unit_after p job (is_waiting_phase mid.phase) run.newest.done r) (sym plan_before) ∙ acts.action run.newest run.below run.going));
+      }
 
-    the_choice : choice old.plan.now r.core.0 r.tick log ≡ chosen
-    the_choice = ap (λ c. choice old.plan.now c r.tick log) core ∙ (ap (λ t. choice old.plan.now old.core.0 t log) (row_tick mid chosen tick r turn) ∙ sym is)
+-- the row of whoever is chosen is the core's next
+module _ (jobs : Jobs) (chosen : Option JobId) (tick : ℕ) (r : Row) (log : List Row) (known : ForSome chosen (Contains (jobs_on jobs.plan.now jobs.core.0))) (turn : IsTurnOf jobs chosen tick r) (told : AreToldBy jobs log) where
+  core_is : r.core.0 ≡ jobs.core.0
+  core_is = ap (λ (c : CoreId). c.0) (row_core jobs chosen tick r turn)
 
-    running : (x : JobId) → chosen ≡ Some x → Contains (jobs_on old.plan.now old.core.0) x × (does_unit_after old.plan.now x (is_queued log x) (done x log) r ≡ true)
-    running x e = running_row old mid x tick r log fit same (subst (λ o. (j : JobId) → state_of mid j ≡ started_with o (state_of old j)) e states) (run x e) (subst (λ o. IsTurnOf mid o tick r) e turn) told
+  job_is : r.job ≡ chosen
+  job_is = row_job jobs chosen tick r turn
 
-    own : (o : Option JobId) → chosen ≡ o → is_on_core old.plan.now r.core.0 r.job ≡ true
-    own None e = ap (is_on_core old.plan.now r.core.0) (job ∙ e)
-    own (Some x) e = ap (is_on_core old.plan.now r.core.0) (job ∙ e) ∙ (ap (λ c. list_any (same_job x) (jobs_on old.plan.now c)) core ∙ any_in (same_job x) (jobs_on old.plan.now old.core.0) x (running x e).0 (same_self x))
+  own_by : (o : Option JobId) → chosen ≡ o → is_on_core jobs.plan.now r.core.0 r.job ≡ true
+  own_by None e = ap (is_on_core jobs.plan.now r.core.0) (job_is ∙ e)
+  own_by (Some x) e = ap (is_on_core jobs.plan.now r.core.0) (job_is ∙ e) ∙ (ap (λ c. list_any (same_job x) (jobs_on jobs.plan.now c)) core_is ∙ any_in (same_job x) (jobs_on jobs.plan.now jobs.core.0) x (known x e) (same_self x))
 
-    picked : (o : Option JobId) → chosen ≡ o → same_choice r.job (choice old.plan.now r.core.0 r.tick log) ≡ true
-    picked None e = ap (λ a. same_choice a (choice old.plan.now r.core.0 r.tick log)) (job ∙ e) ∙ ap (same_choice None) (the_choice ∙ e)
-    picked (Some x) e = ap (λ a. same_choice a (choice old.plan.now r.core.0 r.tick log)) (job ∙ e) ∙ (ap (same_choice (Some x)) (the_choice ∙ e) ∙ same_self x)
+  next_by_state : (o : Option JobId) → chosen ≡ o → does_next jobs.plan.now log r.job r ≡ true
+  next_by_state None e = ap (λ a. does_next jobs.plan.now log a r) (job_is ∙ e) ∙ ap is_idle (subst (λ o. IsTurnOf jobs o tick r) e turn).kind
+  next_by_state (Some x) e =
+      let tell : state_after log x ≡ state_of jobs x = at_in (λ j. state_after log j ≡ state_of jobs j) (jobs_on jobs.plan.now jobs.core.0) x told (known x e) in
+      ap (λ a. does_next jobs.plan.now log a r) (job_is ∙ e) ∙ (ap (λ (s : JobState). does_unit_after jobs.plan.now x s.queued s.done r) tell ∙ (subst (λ o. IsTurnOf jobs o tick r) e turn).action)
 
-    next : (o : Option JobId) → chosen ≡ o → does_next old.plan.now log r.job r ≡ true
-    next None e = ap (λ a. does_next old.plan.now log a r) (job ∙ e) ∙ ap is_idle (subst (λ o. IsTurnOf mid o tick r) e turn).kind
-    next (Some x) e = ap (λ a. does_next old.plan.now log a r) (job ∙ e) ∙ (running x e).1
+  same_itself : (o : Option JobId) → same_choice o o ≡ true
+  same_itself None = refl
+  same_itself (Some x) = same_self x
+
+  pub turn_row : tick ≡ length log → chosen ≡ choice jobs.plan.now jobs.core.0 tick log → IsCoreTurn jobs.plan.now jobs.core.0 log r
+  turn_row at is = record {
+    tick = row_tick jobs chosen tick r turn ∙ at;
+    core = core_is;
+    own = own_by chosen refl;
+    chosen =
+        ap (λ c. same_choice r.job (choice jobs.plan.now c r.tick log)) core_is
+        ∙ (ap (λ t. same_choice r.job (choice jobs.plan.now jobs.core.0 t log)) (row_tick jobs chosen tick r turn)
+        ∙ (ap (same_choice r.job) (sym is) ∙ (ap (λ o. same_choice o chosen) job_is ∙ same_itself chosen)));
+    action = next_by_state chosen refl;
+  }

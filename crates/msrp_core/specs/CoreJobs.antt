@@ -17,7 +17,7 @@ use Rattle.msrp_plan.specs.declared.rows.Row.{Row}
 use Rattle.msrp_plan.specs.declared.units.Op.{Op}
 use Rattle.msrp_plan.specs.declared.units.Call.{Call}
 use Rattle.msrp_core.specs.Ports.{PortModel, Adds, claim_in}
-use Rattle.msrp_core.specs.Going.{Going, going_of, state_in, is_waiting_phase, AreGoing}
+use Rattle.msrp_core.specs.Going.{Going, going_of, state_in, is_waiting_phase, HoldSo, AreGoing}
 use Rattle.msrp_core.specs.declared.jobs.Jobs.{Jobs}
 
 -- the going jobs, the newest first
@@ -117,12 +117,24 @@ abbrev pub ActsFor : Jobs → Jobs → Option JobId → ℕ → Row → Type 0
 ActsFor old new None tick r = Idles old new tick r
 ActsFor old new (Some job) tick r = Acts old new job tick r
 
--- the row does the next unit of the job, which is the newest that is going, or waits for it
+-- this is the job's next unit; it is then the newest that is going, with so much held and so many units done
+pub record IsNextUnit (jobs : Jobs) (job : JobId) (op : Op) : Type 0 where
+  pub accepted : IsPlan jobs.plan.now
+  pub levels : jobs.levels.now ≡ jobs.plan.now
+  pub newest : Going
+  pub below : List Going
+  pub same : newest.job ≡ job
+  pub holds : HoldSo jobs.plan.now jobs.phase (newest ∷ below)
+  pub unit : slice_get (units jobs.plan.now job) newest.done ≡ Some op
+  pub queued : (state_of jobs job).queued ≡ is_waiting_phase jobs.phase
+  pub done : (state_of jobs job).done ≡ newest.done
+
+-- the row does the next unit of the job, or waits for it
 pub record DoesNext (jobs : Jobs) (job : JobId) (tick : ℕ) (r : Row) : Type 0 where
   pub row_tick : r.tick ≡ tick
   pub row_core : r.core ≡ jobs.core
   pub row_job : r.job ≡ Some job
-  pub action : (s : Going) (below : List Going) → going_in jobs ≡ s ∷ below → does_unit_after jobs.plan.now job (is_waiting_phase jobs.phase) s.done r ≡ true
+  pub action : does_unit_after jobs.plan.now job (state_of jobs job).queued (state_of jobs job).done r ≡ true
 
 -- the row is idle
 pub record IsIdle (jobs : Jobs) (tick : ℕ) (r : Row) : Type 0 where

@@ -1,13 +1,18 @@
 //! What the running job does in its turn: its next unit, or the wait for it.
-ghost use Rattle.std.specs.Prelude.{◌≡◌, Some, None, true, false};
+ghost use Rattle.std.specs.Prelude.{◌≡◌, ◌≤◌, List, Some, None, true, false, length};
+ghost use Rattle.std.specs.List.{Contains};
 ghost use Rattle.std.specs.Option.{ForSome};
 ghost use Rattle.msrp_plan.specs.Actions.{allows};
+ghost use Rattle.msrp_plan.specs.Jobs.{jobs_on};
 ghost use Rattle.msrp_plan.specs.Levels.{is_global};
+ghost use Rattle.msrp_plan.specs.Runs.{IsCoreTurn};
 ghost use Rattle.msrp_plan.specs.Shape.{has_shape};
 ghost use Rattle.msrp_plan.specs.declared.ids.ResId.{ResId as Resource};
+ghost use Rattle.msrp_plan.specs.declared.rows.Row.{Row as TraceRow};
+ghost use Rattle.msrp_ready.specs.Ready.{is_among};
 ghost use Rattle.msrp_core.specs.Going.{is_holding_phase, is_waiting_phase};
 ghost use Rattle.msrp_core.specs.Ports.{claim_in};
-ghost use Rattle.msrp_core.specs.CoreJobs.{Acts, ActsFor, AreJobs, CanAct, CanCall, DoesNext, IsQuiet, IsRunning, IsTurnOf, MakesCall};
+ghost use Rattle.msrp_core.specs.CoreJobs.{Acts, ActsFor, AreJobs, AreToldBy, CanAct, CanCall, DoesNext, IsNextUnit, IsQuiet, IsRunning, IsTurnOf, MakesCall};
 
 use crate::jobs::Jobs;
 use crate::port::{Port, Reply};
@@ -265,9 +270,9 @@ impl<'a> Jobs<'a> {
         }
     }
 
-    // How the running job locks, where each call of a port is answered by yes.
+    // How a job locks, where each call of a port is answered by yes.
     fn kind_of_lock(&self, job: JobId, res: ResId) -> Kind
-        requires { CanAct self.now job (Op.Lock res) }
+        requires { IsNextUnit self.now job (Op.Lock res) }
         ensures { allows (is_global self.now.plan.now res.0) (is_waiting_phase self.now.phase) (Op.Lock res) result ≡ true }
     {
         if self.is_waiting() {
@@ -281,7 +286,7 @@ impl<'a> Jobs<'a> {
 
     // How it unlocks.
     fn kind_of_unlock(&self, job: JobId, res: ResId) -> Kind
-        requires { CanAct self.now job (Op.Unlock res) }
+        requires { IsNextUnit self.now job (Op.Unlock res) }
         ensures { allows (is_global self.now.plan.now res.0) (is_waiting_phase self.now.phase) (Op.Unlock res) result ≡ true }
     {
         if self.is_holding(res) {
@@ -291,13 +296,13 @@ impl<'a> Jobs<'a> {
         }
     }
 
-    // The row of the running job's next action, where each call of a port is answered by yes.
-    fn next_row(&self, tick: u32, job: JobId) -> Row
-        requires jobs { AreJobs self.now }
-        requires running { IsRunning self.now job }
+    // The row of a job's next unit, where each call of a port is answered by yes.
+    #[inline(always)]
+    fn unit_row(&self, tick: u32, job: JobId, op: Op) -> Row
+        requires { IsNextUnit self.now job op }
         ensures { DoesNext self.now job tick result }
     {
-        match self.unit(job) {
+        match op {
             Op::Run => row_on(self.core, tick, Kind::Run, job, None),
             Op::Lock(res) => {
                 let kind = self.kind_of_lock(job, res);
@@ -310,16 +315,43 @@ impl<'a> Jobs<'a> {
         }
     }
 
-    /// The row of the turn of who runs, or of nobody, where each call of a port is answered by yes.
+    // That of a job's first unit, as it starts, apart from the code of the ticks in which none does.
+    #[inline(never)]
+    fn first_row(&self, tick: u32, job: JobId) -> Row
+        requires jobs { AreJobs self.now }
+        requires known { Contains (jobs_on self.now.plan.now self.now.core.0) job }
+        requires fresh { is_among self.now.ready.taken job ≡ false }
+        requires free { self.now.phase ≡ Phase.Free }
+        ensures { DoesNext self.now job tick result }
+    {
+        self.unit_row(tick, job, self.plan.unit(job.task, 0))
+    }
+
+    // That of the next unit of who runs, and an idle row where nobody does.
     #[inline(always)]
-    pub(crate) fn row_of(&self, tick: u32, running: Option<JobId>) -> Row
+    fn row_of(&self, tick: u32, running: Option<JobId>) -> Row
         requires jobs { AreJobs self.now }
         requires running { ForSome running (IsRunning self.now) }
         ensures { IsTurnOf self.now running tick result }
     {
         match running {
             None => idle_row(self.core, tick),
-            Some(job) => self.next_row(tick, job),
+            Some(job) => self.unit_row(tick, job, self.unit(job)),
+        }
+    }
+
+    /// The row of the turn in this tick, where each call of a port is answered by yes. No job is released by that, and none
+    /// starts.
+    #[inline(always)]
+    pub(crate) fn foresee(&self, tick: u32) -> Row
+        requires jobs { AreJobs self.now }
+        requires tick { ForSome self.now.ready.tick (λ before. before ≤ tick) }
+        ensures { (log : List TraceRow) → AreToldBy self.now log → tick ≡ length log → IsCoreTurn self.now.plan.now self.now.core.0 log result }
+    {
+        let running = self.stack.top();
+        match self.starting(self.ready.head_at(tick), running) {
+            Some(job) => self.first_row(tick, job),
+            None => self.row_of(tick, running),
         }
     }
 

@@ -1,10 +1,10 @@
 //! The jobs of a core between two of its turns: which are ready, which are started, and how far these are.
-ghost use Rattle.std.specs.Prelude.{◌≡◌, ◌<◌, ◌≤◌, ◌+◌, ◌||◌, [], ◌∷◌, List, Some, None, true, false, length, reverse, IfOk, slice_get, vec_capacity};
-ghost use Rattle.std.specs.Option.{ForSome, IfSome};
+ghost use Rattle.std.specs.Prelude.{◌≡◌, ◌<◌, ◌≤◌, ◌+◌, ◌||◌, [], ◌∷◌, ℕ, List, Some, None, true, false, length, reverse, IfOk, slice_get, vec_capacity};
+ghost use Rattle.std.specs.Option.{ForSome, IfSome, option_or};
 ghost use Rattle.std.specs.List.{Contains};
 ghost use Rattle.msrp_plan.specs.Plan.{units};
 ghost use Rattle.msrp_plan.specs.Jobs.{jobs_on, is_job};
-ghost use Rattle.msrp_plan.specs.Choice.{choice};
+ghost use Rattle.msrp_plan.specs.Choice.{choice, first_ready};
 ghost use Rattle.msrp_plan.specs.Levels.{is_global};
 ghost use Rattle.msrp_plan.specs.declared.ids.JobId.{JobId as Job};
 ghost use Rattle.msrp_plan.specs.declared.rows.Row.{Row as TraceRow};
@@ -104,6 +104,23 @@ impl<'a> Jobs<'a> {
         self.done.push_reserved(0);
     }
 
+    /// The head, where it is preferred to who runs and so starts; else none, and who runs has the turn.
+    #[inline(always)]
+    pub(crate) fn starting(&self, head: Option<JobId>, running: Option<JobId>) -> Option<JobId>
+        requires jobs { AreJobs self.now }
+        requires known { ForSome head (Contains (jobs_on self.now.plan.now self.now.core.0)) }
+        requires newest { running ≡ newest self.now.stack.started }
+        requires top { running ≡ top self.now.stack }
+        ensures head { IfSome result (λ job. head ≡ Some job) }
+        ensures next { IfSome result (λ job. is_preferred self.now.plan.now (current_ceiling self.now.stack) job running ≡ true) }
+        ensures choice { (tick : ℕ) (log : List TraceRow) → AreToldBy self.now log → head ≡ first_ready self.now.ready.plan self.now.ready.core tick (is_among self.now.ready.taken) → option_or result running ≡ choice self.now.plan.now self.now.core.0 tick log }
+    {
+        match head {
+            Some(job) if self.is_next(job, running) => Some(job),
+            _ => None,
+        }
+    }
+
     /// The job that has the turn in this tick, or none: the head where it is preferred, which is then started, or else who runs.
     #[inline(always)]
     pub(crate) fn choose(&mut self, tick: u32) -> Option<JobId>
@@ -118,30 +135,12 @@ impl<'a> Jobs<'a> {
     {
         self.ready.release_to(tick);
         let running = self.stack.top();
-        match self.ready.head() {
-            Some(job) if self.is_next(job, running) => {
+        match self.starting(self.ready.head(), running) {
+            Some(job) => {
                 self.start(job);
                 Some(job)
             }
-            _ => running,
-        }
-    }
-
-    /// Whether who runs goes on in this tick, if somebody does: nothing is released in it, and no job starts.
-    #[inline(always)]
-    pub(crate) fn goes_on(&self, tick: u32, running: Option<JobId>) -> bool
-        requires jobs { AreJobs self.now }
-        requires tick { ForSome self.now.ready.tick (λ before. before ≤ tick) }
-        requires newest { running ≡ newest self.now.stack.started }
-        requires top { running ≡ top self.now.stack }
-        ensures { (log : List TraceRow) → result ≡ true → AreToldBy self.now log → running ≡ choice self.now.plan.now self.now.core.0 tick log }
-    {
-        if self.ready.is_due(tick) {
-            return false;
-        }
-        match self.ready.head() {
-            Some(job) => !self.is_next(job, running),
-            None => true,
+            None => running,
         }
     }
 

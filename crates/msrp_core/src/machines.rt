@@ -1,5 +1,5 @@
 //! The machine of one core, which makes the rows of its turns.
-ghost use Rattle.std.specs.Prelude.{◌≡◌, ◌<◌, ◌+◌, ◌++◌, ◌∷◌, [], List, Some, None, IfOk, IfSome, length, true};
+ghost use Rattle.std.specs.Prelude.{◌≡◌, ◌<◌, ◌≤◌, ◌+◌, ◌++◌, ◌∷◌, [], List, Some, None, IfOk, IfSome, IfNone, length, true};
 ghost use Rattle.msrp_plan.specs.Levels.{is_global};
 ghost use Rattle.msrp_plan.specs.Runs.{IsCoreTurn};
 ghost use Rattle.msrp_plan.specs.declared.ids.ResId.{ResId as Resource};
@@ -80,15 +80,15 @@ impl<'a> Machine<'a> {
         self.jobs.phase
     }
 
-    /// The row of the core's next turn, foreseen where no job is released in its tick and none starts: else none. Where
-    /// the turn is a call of a port the row is that of an answer by yes: it takes or is granted what it asks for.
+    /// The row of the core's next turn, where one is left. Where the turn is a call of a port the row is that of an answer by
+    /// yes: it takes or is granted what it asks for. Nothing is released by that, and no job starts.
     #[inline(always)]
     pub fn foresee(&self) -> Option<Row>
-        ensures { IfSome result (λ row. (log : List TraceRow) → StandsAfter self.now log → IsCoreTurn self.now.plan self.now.core log row) }
+        ensures row { IfSome result (λ row. (log : List TraceRow) → StandsAfter self.now log → IsCoreTurn self.now.plan self.now.core log row) }
+        ensures none { IfNone result (self.now.plan.ticks ≤ self.now.tick) }
     {
-        let running = self.jobs.stack.top();
-        if self.jobs.goes_on(self.tick, running) {
-            Some(self.jobs.row_of(self.tick, running))
+        if self.tick < self.jobs.plan.ticks() {
+            Some(self.jobs.foresee(self.tick))
         } else {
             None
         }

@@ -125,7 +125,7 @@ impl<'a> Cores<'a> {
         self.machines[core.0 as usize].tick()
     }
 
-    /// A guess of the core's next row, where its machine foresees it. Nothing is promised of it.
+    /// A guess of the core's next row, where one is left. Nothing is promised of it.
     pub fn foresee(&self, core: CoreId) -> Option<Row>
         requires { core.0 < self.now.plan.cores }
     {

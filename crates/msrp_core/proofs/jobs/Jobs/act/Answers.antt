@@ -4,9 +4,9 @@ use Rattle.std.proofs.lemmas.Option.{same_Some}
 use Rattle.msrp_plan.specs.Plan.{PlanModel}
 use Rattle.msrp_plan.specs.Levels.{is_global}
 use Rattle.msrp_plan.specs.declared.ids.ResId.{ResId}
-use Rattle.msrp_plan.specs.declared.units.Op.TheVariants.{Lock as LockUnit}
+use Rattle.msrp_plan.specs.declared.units.Op.TheVariants.{Lock as LockUnit, Unlock as UnlockUnit}
 use Rattle.msrp_core.proofs.Steps.{request_phase}
-use Rattle.msrp_core.proofs.Acting.{unit_at, holds_at, unlock_local}
+use Rattle.msrp_core.proofs.Acting.{next_unit, unit_at, holds_at, unlock_local}
 use Rattle.msrp_core.proofs.jobs.Jobs.act.Goals as goal
 
 pub request-requires-clause-free : goal.request-requires-clause-free
@@ -16,10 +16,10 @@ request-requires-clause-free g c =
     (ap (λ (p : PlanModel). is_global p c.in-Lock.res.0) (sym can.jobs_fit.levels) ∙ (sym c.is_global.ensures ∙ c.if-is_global.true)) (sym c.is_waiting.ensures ∙ c.if-is_waiting.false)
 
 pub unlock-requires-clause-local : goal.unlock-requires-clause-local
-unlock-requires-clause-local g c = unlock_local c.args.self.now c.args.job c.in-Unlock.res c.in-Unlock.ensures (sym c.is_holding.ensures ∙ c.if-is_holding.false)
+unlock-requires-clause-local g c = unlock_local c.args.self.now c.args.job c.in-Unlock.res (next_unit c.args.self.now c.args.job (UnlockUnit c.in-Unlock.res) c.in-Unlock.ensures) (sym c.is_holding.ensures ∙ c.if-is_holding.false)
 
 pub returns-else-is_holding-clause-call : goal.returns-else-is_holding-clause-call
 returns-else-is_holding-clause-call g c = λ r e glob.
     let same : r ≡ c.in-Unlock.res = same_Some r c.in-Unlock.res (sym e ∙ c.unlock.ensures.res) in
     let t : is_global c.args.self.now.plan.now c.in-Unlock.res.0 ≡ true = ap (λ (x : ResId). is_global c.args.self.now.plan.now x.0) (sym same) ∙ glob in
-    absurd (true≢false (sym t ∙ unlock_local c.args.self.now c.args.job c.in-Unlock.res c.in-Unlock.ensures (sym c.is_holding.ensures ∙ c.if-is_holding.false)))
+    absurd (true≢false (sym t ∙ unlock_local c.args.self.now c.args.job c.in-Unlock.res (next_unit c.args.self.now c.args.job (UnlockUnit c.in-Unlock.res) c.in-Unlock.ensures) (sym c.is_holding.ensures ∙ c.if-is_holding.false)))

@@ -5,7 +5,7 @@ use Rattle.msrp_plan.specs.declared.rows.Kind.TheVariants.{Release, Unlock}
 use Rattle.msrp_plan.specs.declared.units.Op.TheVariants.{Unlock as UnlockUnit}
 use Rattle.msrp_core.specs.Going.{is_waiting_phase}
 use Rattle.msrp_core.proofs.Steps.{held_global}
-use Rattle.msrp_core.proofs.Acting.{holds_at, unlock_local}
+use Rattle.msrp_core.proofs.Acting.{unlock_local}
 use Rattle.msrp_core.proofs.jobs.Jobs.kind_of_unlock.Goals as goal
 
 releases : (queued : Bool) (g : ResId) → allows true queued (UnlockUnit g) Release ≡ true
@@ -19,7 +19,7 @@ unlocks false g = refl
 pub returns-then-is_holding : goal.returns-then-is_holding
 returns-then-is_holding c =
     let jobs = c.args.self.now in
-    let glob = held_global jobs.plan.now c.requires.jobs_fit.accepted c.requires.newest c.requires.below jobs.phase c.args.res (holds_at jobs c.args.job (UnlockUnit c.args.res) c.requires) (sym c.is_holding.ensures ∙ c.if-is_holding.true) in
+    let glob = held_global jobs.plan.now c.requires.accepted c.requires.newest c.requires.below jobs.phase c.args.res c.requires.holds (sym c.is_holding.ensures ∙ c.if-is_holding.true) in
     ap (λ b. allows b (is_waiting_phase jobs.phase) (UnlockUnit c.args.res) Release) glob ∙ releases (is_waiting_phase jobs.phase) c.args.res
 
 pub returns-else-is_holding : goal.returns-else-is_holding

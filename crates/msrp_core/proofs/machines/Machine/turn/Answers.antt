@@ -7,7 +7,7 @@ use Rattle.msrp_ready.specs.Ready.{ReadyModel}
 use Rattle.msrp_core.specs.Machine.{StandsAfter, MachineModel}
 use Rattle.msrp_core.specs.MachineView.{machine_view}
 use Rattle.msrp_core.specs.CoreJobs.{state_of}
-use Rattle.msrp_core.proofs.Turning.{fits_after, ready_after, told_from, turn_of, turn_row, turn_told, turn_phase}
+use Rattle.msrp_core.proofs.Turning.{chosen_known, fits_after, ready_after, told_from, turn_of, turn_row, turn_told, turn_phase}
 use Rattle.msrp_core.proofs.machines.Machine.turn.Goals as goal
 
 pub invariant_of-self : goal.invariant_of-self
@@ -23,8 +23,10 @@ pub returns-clause-row : goal.returns-clause-row
 returns-clause-row g c = λ log.
     subst (λ (m : MachineModel). StandsAfter m log → IsCoreTurn m.plan m.core log c.act_chosen.result) c.self.view_is (λ stands.
     let told = told_from (state_of c.self.inside.jobs) (state_after log) (jobs_on c.self.inside.jobs.plan.now c.self.inside.jobs.core.0) stands.states in
-    turn_row c.self.inside.jobs c.choose-chosen.new.self c.choose-chosen.result c.self.inside.tick c.act_chosen.result log c.choose-chosen.ensures.jobs c.choose-chosen.ensures.same c.choose-chosen.ensures.states c.choose-chosen.ensures.running (turn_of c.choose-chosen.new.self c.act_chosen.new.self c.choose-chosen.result c.self.inside.tick c.act_chosen.result c.act_chosen.ensures.acts) told stands.tick
-    (c.choose-chosen.ensures.choice log told))
+    let jobs = c.self.inside.jobs in
+    let chosen = c.choose-chosen.ensures in
+    turn_row jobs c.choose-chosen.result c.self.inside.tick c.act_chosen.result log (chosen_known jobs c.choose-chosen.new.self chosen.jobs chosen.same c.choose-chosen.result chosen.running)
+    (turn_of jobs c.choose-chosen.new.self chosen.jobs chosen.same c.act_chosen.new.self c.choose-chosen.result c.self.inside.tick c.act_chosen.result chosen.running chosen.states c.act_chosen.ensures.acts) told stands.tick (chosen.choice log told))
 
 pub returns-clause-stands : goal.returns-clause-stands
 returns-clause-stands g c = λ log.
