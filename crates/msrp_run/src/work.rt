@@ -9,7 +9,7 @@ use msrp_core::Machine;
 use msrp_merge::CoreLog;
 use std::sync::Wait;
 
-// So many looks of a wait spin between them; those after them yield.
+// So often a `Backoff` spins before it yields.
 const SPINS: u32 = 7;
 
 // After so many ticks a thread tries again whether waits are short.
