@@ -2,9 +2,15 @@
 use Rattle.std.proofs.Common.{◌≡◌, ◌++◌, ◌∷◌, ◌∙◌, ◌≤◌, ◌<◌, ◌+◌, ◌-◌, [], ℕ, List, Option, Some, None, Result, length, drop, take, suc, refl, sym, ap, append_assoc, append-nil, arith, length-drop, set, take-append-drop}
 use Rattle.std.proofs.lemmas.List.{drop-take, drop_at, length-take-le, take-take, drop-drop, take-append-le, take_all, drop-set}
 use Rattle.std.proofs.lemmas.List.Edits.{take-paste}
+use Rattle.std.proofs.lemmas.Option.{none-some, same_Some}
 use Rattle.std.specs.Io.KnownBytes.{Consumes, Keeps, ReadConsumes, prepend_known}
 use Rattle.std.specs.List.{copy_within}
 use borrow.Rule.Slice.PartMut.{put_mid}
+use Rattle.msrp_text.specs.Ahead.{lines_ahead}
+use Rattle.msrp_text.specs.Records.{ahead_at, bytes_ahead, bytes_at, bytes_left}
+use Rattle.msrp_text.specs.declared.records.RecordReader.{RecordReader}
+use Rattle.msrp_text.specs.declared.records.Way.{Way}
+use Rattle.msrp_text.specs.declared.records.Way.TheVariants as way
 
 pub none-ahead : (known : Option (List ℕ)) → prepend_known [] known ≡ known
 none-ahead None = refl
@@ -102,3 +108,21 @@ fed-front xs at end h k w =
 -- bytes taken off those that were read ahead
 pub taken-bytes : (known : Option (List ℕ)) (xs : List ℕ) (at count : ℕ) → Consumes (prepend_known (drop at xs) known) (prepend_known (drop (at + count) xs) known) (take count (drop at xs))
 taken-bytes known xs at count = taken-ahead known (drop at xs) (take count (drop at xs)) (drop (at + count) xs) (sym (take-append-drop count (drop at xs)) ∙ ap (λ (l : List ℕ). take count (drop at xs) ++ l) (drop-drop count at xs))
+
+-- known bytes that stay, known by what they were
+pub kept-known : (old new : Option (List ℕ)) (bytes : List ℕ) → Keeps old new → old ≡ Some bytes → new ≡ Some bytes
+kept-known None new bytes h e = absurd (none-some bytes e)
+kept-known (Some xs) None bytes h e = absurd h
+kept-known (Some xs) (Some ys) bytes h e = rw h e
+
+-- the known bytes begin with those that were read ahead
+known-ahead : (ahead : List ℕ) (known : Option (List ℕ)) (bytes : List ℕ) → prepend_known ahead known ≡ Some bytes → (more : List ℕ) × (bytes ≡ ahead ++ more)
+known-ahead ahead None bytes e = absurd (none-some bytes e)
+known-ahead ahead (Some more) bytes e = (more, sym (same_Some (ahead ++ more) bytes e))
+
+way-ahead : {R : Type 0} (remaining : R → Option (List ℕ)) (w : Way R) (bytes : List ℕ) → bytes_at remaining w ≡ Some bytes → (more : List ℕ) × (bytes ≡ ahead_at w ++ more)
+way-ahead remaining (way.Lines lines) bytes e = known-ahead (lines_ahead lines) (remaining lines.source) bytes e
+way-ahead remaining (way.Csv records) bytes e = absurd (none-some bytes e)
+
+pub bytes-ahead : {R : Type 0} (remaining : R → Option (List ℕ)) (r : RecordReader R) (bytes : List ℕ) → bytes_left remaining r ≡ Some bytes → (more : List ℕ) × (bytes ≡ bytes_ahead r ++ more)
+bytes-ahead remaining r bytes e = way-ahead remaining r.way bytes e

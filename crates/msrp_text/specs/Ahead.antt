@@ -1,5 +1,6 @@
 -- The bytes that are left of a text, of which some were read ahead.
-use Rattle.std.specs.Prelude.{◌-◌, ℕ, List, Option, drop, take}
+use Rattle.std.specs.Prelude.{◌-◌, ℕ, Bool, List, Option, drop, take}
+use Rattle.std.specs.Option.{is_some}
 use Rattle.std.specs.Io.KnownBytes.{prepend_known}
 use Rattle.msrp_text.specs.declared.lines.Lines.{Lines}
 
@@ -14,3 +15,7 @@ unread remaining lines = prepend_known (lines_ahead lines) (remaining lines.sour
 -- how many bytes were read ahead
 abbrev pub buffered : {R : Type 0} → Lines R → ℕ
 buffered lines = lines.end - lines.at
+
+-- a read ahead has failed
+abbrev pub has_failed : {R : Type 0} → Lines R → Bool
+has_failed lines = is_some lines.failed

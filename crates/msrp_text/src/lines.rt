@@ -1,8 +1,8 @@
 //! The bytes of a text, some of them read ahead, and the plain lines at their front.
-ghost use Rattle.std.specs.Prelude.{◌≡◌, ◌≤◌, ◌<◌, ◌++◌, ℕ, List, [], None, IfOk, true, false, length, take};
+ghost use Rattle.std.specs.Prelude.{◌≡◌, ◌≤◌, ◌<◌, ◌+◌, ◌++◌, ◌⊎◌, ℕ, List, [], None, IfOk, true, false, length, take};
 ghost use Rattle.msrp_text.specs.declared.lines.TheConstants.{ROOM};
 ghost use Rattle.std.specs.Io.{ReadsAtMost};
-ghost use Rattle.std.specs.Io.KnownBytes.{Keeps, ReadConsumes};
+ghost use Rattle.std.specs.Io.KnownBytes.{IsAtEnd, Keeps, ReadConsumes};
 ghost use Rattle.csv.specs.Records.{fields_of};
 ghost use Rattle.msrp_text.specs.Plain.{EndsLine, IsPeeked, is_plain, split_commas};
 
@@ -34,7 +34,7 @@ pub(crate) struct Lines<R> {
 }
 
 impl<R: Read> Lines<R> {
-    ghost use Rattle.msrp_text.specs.Ahead.{buffered, lines_ahead, unread};
+    ghost use Rattle.msrp_text.specs.Ahead.{buffered, has_failed, lines_ahead, unread};
     ghost use Rattle.msrp_text.specs.Records.{GivesLine, KeepsRecords, csv_left, records_ahead};
 
     /// The bytes that a reader has left.
@@ -91,13 +91,14 @@ impl<R: Read> Lines<R> {
         }
     }
 
-    // One more read ahead, and whether it gave a byte. Where it fails, the read after the bytes that are there fails.
+    /// One more read ahead, and whether it gave a byte. Where it fails, the read after the bytes that are there fails.
     #[inline(never)]
-    fn fetch(&mut self) -> bool
+    pub(crate) fn fetch(&mut self) -> bool
         ensures kept { Keeps (unread R.remaining self.old) (unread R.remaining self.new) }
         ensures begun { self.new.begun ≡ self.old.begun }
         ensures grows { (more : List ℕ) × (lines_ahead self.new ≡ lines_ahead self.old ++ more) × (result ≡ false → more ≡ []) }
         ensures more { result ≡ true → buffered self.old < buffered self.new }
+        ensures end { result ≡ false → length (lines_ahead self.new) + 1 < ROOM → (has_failed self.new ≡ true) ⊎ IsAtEnd (R.remaining self.new.source) }
     {
         let front = self.at.min(1);
         let count = self.end - self.at;

@@ -1,12 +1,15 @@
 //! The records of a text, read in turn.
-ghost use Rattle.std.specs.Prelude.{◌≡◌, ◌↔◌, ◌≤◌, ◌<◌, ◌++◌, ℕ, List, Some, None, Err, IfOk, IfErr, OnOk, OnErr, IsSome, option_map, length, take, true, false};
+ghost use Rattle.std.specs.Prelude.{◌≡◌, ◌==◌, ◌⊎◌, ◌≤◌, ◌<◌, ◌+◌, ◌++◌, [], ℕ, List, Some, None, Err, IfOk, IfErr, OnOk, OnErr, IsSome, option_map, length, take, true, false};
+ghost use Rattle.std.specs.List.{list_any};
 ghost use Rattle.csv.specs.Records.{fields_of};
 ghost use Rattle.msrp_text.specs.declared.front.TheConstants.{LONGEST};
+ghost use Rattle.msrp_text.specs.declared.lines.TheConstants.{ROOM};
+ghost use Rattle.std.specs.Io.KnownBytes.{Keeps};
 ghost use Rattle.msrp_text.specs.Plain.{BeginsWith, EndsLine, IsPeeked, NoLine, is_plain, split_commas};
-ghost use Rattle.msrp_text.specs.Records.{GivesLine, GivesNext, KeepsRecords, bytes_ahead, csv_records, is_csv, left_at, reader_under, reads_csv, records_left, stop_at, stop_of};
+ghost use Rattle.msrp_text.specs.Records.{GivesLine, GivesNext, KeepsRecords, bytes_ahead, bytes_left, csv_records, is_csv, left_at, read_failed, reader_under, reads_csv, records_left, stop_at, stop_of};
 
 use crate::csv_records::CsvRecords;
-use crate::front::{PlainLine, line_met};
+use crate::front::{LONGEST, PlainLine, line_met};
 use crate::lines::Lines;
 use core::mem;
 use csv::ByteRecord;
@@ -84,20 +87,56 @@ impl<R: Read> RecordReader<R> {
         }
     }
 
-    /// Whether the bytes that were read ahead go on with these two texts and the end of a line (LF or CRLF). Where they do, that line is taken; else nothing is.
+    /// Whether the text goes on with these two texts and the end of a line (LF or CRLF). Where it does, that line is taken; else
+    /// nothing is. Where no whole line was read ahead, more is read; a line of [`LONGEST`] bytes or more may not be met there.
     #[inline]
     pub fn meets(&mut self, front: &[u8], rest: &[u8]) -> bool
         ensures taken { result ≡ true → is_plain (front.now ++ rest.now) ≡ true → GivesLine (records_left R.remaining self.old) (split_commas (front.now ++ rest.now)) (records_left R.remaining self.new) }
         ensures kept { result ≡ false → KeepsRecords (records_left R.remaining self.old) (records_left R.remaining self.new) }
         ensures stop { stop_of self.new ≡ stop_of self.old }
-        ensures finds { (result ≡ true) ↔ BeginsWith (front.now ++ rest.now) (bytes_ahead self.old) }
+        ensures ahead { BeginsWith (front.now ++ rest.now) (bytes_ahead self.old) → result ≡ true }
+        ensures begins { result ≡ true → (bytes : List ℕ) → bytes_left R.remaining self.old ≡ Some bytes → BeginsWith (front.now ++ rest.now) bytes }
+        ensures finds { (bytes : List ℕ) → bytes_left R.remaining self.old ≡ Some bytes → length (front.now ++ rest.now) < LONGEST → is_plain (front.now ++ rest.now) ≡ true → BeginsWith (front.now ++ rest.now) bytes → (result ≡ true) ⊎ (read_failed self.new ≡ true) }
     {
+        if self.ahead().len() <= LONGEST {
+            self.read_line_ahead();
+        }
         match line_met(self.ahead(), front, rest) {
             Some(taken) => {
                 self.take_line(taken);
                 true
             }
             None => false,
+        }
+    }
+
+    // Reads ahead until a whole line is there, or as many bytes as the longest has, or no more come.
+    #[inline(never)]
+    fn read_line_ahead(&mut self)
+        ensures same { KeepsRecords (records_left R.remaining self.old) (records_left R.remaining self.new) }
+        ensures bytes { Keeps (bytes_left R.remaining self.old) (bytes_left R.remaining self.new) }
+        ensures stop { stop_of self.new ≡ stop_of self.old }
+        ensures grows { (more : List ℕ) × (bytes_ahead self.new ≡ bytes_ahead self.old ++ more) }
+        ensures line { (bytes : List ℕ) → bytes_left R.remaining self.new ≡ Some bytes → (list_any (λ byte. byte == 10) (bytes_ahead self.new) ≡ true) ⊎ (LONGEST < length (bytes_ahead self.new)) ⊎ (read_failed self.new ≡ true) ⊎ (bytes ≡ bytes_ahead self.new) }
+    {
+        while self.ahead().len() <= LONGEST
+            && !self.ahead().contains(&b'\n')
+            && self.read_ahead()
+        {}
+    }
+
+    // Reads more of the text ahead, and whether that gave a byte. Once `csv` reads it gives none.
+    fn read_ahead(&mut self) -> bool
+        ensures same { KeepsRecords (records_left R.remaining self.old) (records_left R.remaining self.new) }
+        ensures bytes { Keeps (bytes_left R.remaining self.old) (bytes_left R.remaining self.new) }
+        ensures stop { stop_of self.new ≡ stop_of self.old }
+        ensures grows { (more : List ℕ) × (bytes_ahead self.new ≡ bytes_ahead self.old ++ more) × (result ≡ false → more ≡ []) }
+        ensures more { result ≡ true → length (bytes_ahead self.old) < length (bytes_ahead self.new) }
+        ensures end { result ≡ false → (bytes : List ℕ) → bytes_left R.remaining self.new ≡ Some bytes → length (bytes_ahead self.new) + 1 < ROOM → (read_failed self.new ≡ true) ⊎ (bytes ≡ bytes_ahead self.new) }
+    {
+        match &mut self.way {
+            Way::Lines(lines) => lines.fetch(),
+            Way::Csv(_) => false,
         }
     }
 

@@ -690,7 +690,7 @@ fn lines_met(
     }
 }
 
-// With each number of bytes a read: the lines that a read brought whole are met, and the others are read.
+// With each number of bytes a read all lines are met, those too of which a read brings only a part.
 #[test]
 fn foreseen_lines_in_pieces(rt: HostRuntime) -> Result<(), Fail> {
     let text = b"1,a\n2,bc\r\n3,d\n4,e\n5,f\r\n6,\n";
@@ -705,9 +705,7 @@ fn foreseen_lines_in_pieces(rt: HostRuntime) -> Result<(), Fail> {
     for size in 1..=40usize {
         let mut records = RecordReader::new(rt.alloc(), Pieces { text, size });
         let met = lines_met(rt.alloc(), &lines, &mut records)?;
-        assert!(rt; met < 6, "{size}");
-        assert!(rt; size < 12 || met >= 3, "{size}");
-        assert!(rt; size < 31 || met == 5, "{size}");
+        assert!(rt; met == lines.len(), "{size}");
     }
     Ok(())
 }
