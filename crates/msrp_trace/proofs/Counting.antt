@@ -1,18 +1,14 @@
 -- Numbers as texts: the next one.
-use Rattle.std.proofs.Common.{◌≡◌, ℕ, List, [], ◌∷◌, ◌++◌, ◌+◌, ◌-◌, ◌/◌, ◌%◌, ◌<◌, ◌^◌, length, take, refl, ap, sym, ◌∙◌, arith, inl, inr}
+use Rattle.std.proofs.Common.{◌≡◌, ℕ, List, [], ◌∷◌, ◌++◌, ◌+◌, ◌-◌, ◌/◌, ◌%◌, ◌<◌, ◌^◌, length, take, ap, sym, ◌∙◌, arith, inl, inr}
 use Rattle.std.specs.Prelude.{decimal}
 use Rattle.std.proofs.lemmas.Bool.{cases_lt}
-use Rattle.std.proofs.lemmas.List.{length-append}
+use Rattle.std.proofs.lemmas.List.{length-append, take-append-le, take_all}
 use Rattle.std.proofs.lemmas.Fmt.{decimal_digit, decimal_step}
-
-first_part : (xs : List ℕ) (x : ℕ) → take (length xs) (xs ++ x ∷ []) ≡ xs
-first_part [] x = refl
-first_part (y ∷ xs) x = ap (λ l. y ∷ l) (first_part xs x)
 
 without_last : (xs : List ℕ) (x : ℕ) → take (length (xs ++ x ∷ []) - 1) (xs ++ x ∷ []) ≡ xs
 without_last xs x =
     let size = length-append xs (x ∷ []) in
-    ap (λ k. take k (xs ++ x ∷ [])) (omega (arith, size)) ∙ first_part xs x
+    ap (λ k. take k (xs ++ x ∷ [])) (omega (arith, size)) ∙ (take-append-le (length xs) xs (x ∷ []) (omega arith) ∙ take_all (length xs) xs (omega arith))
 
 -- a number that doesn't end in 0 is the one before with another last digit
 pub next_decimal : (n m : ℕ) → n + 1 ≡ m → 0 < m % 10 → m < 2 ^ 64 → take (length (decimal n) - 1) (decimal n) ++ (48 + m % 10) ∷ [] ≡ decimal m

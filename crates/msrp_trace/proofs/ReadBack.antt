@@ -1,18 +1,20 @@
 -- What is written of rows reads back as those rows.
-use Rattle.std.proofs.Common.{◌≡◌, ℕ, ◌+◌, ◌<◌, ◌==◌, ◌&&◌, ◌||◌, not, true, false, cond, List, [], ◌∷◌, ◌++◌, map, length, decimal, Option, Some, None, is_none, is_some, option_map, unwrap_or, refl, ap, sym, ◌∙◌, subst, arith, nat_lt}
+use Rattle.std.proofs.Common.{◌≡◌, ℕ, ◌+◌, ◌*◌, ◌<◌, ◌≤◌, ◌==◌, ◌&&◌, ◌||◌, not, true, false, cond, List, [], ◌∷◌, ◌++◌, map, length, decimal, Option, Some, None, is_none, is_some, option_map, unwrap_or, refl, ap, sym, ◌∙◌, subst, arith, nat_lt, nat_le}
 use Rattle.std.specs.Prelude.{slice_index_or}
 use Rattle.std.specs.List.{AllByRecursion, flat_map, list_all}
+use Rattle.std.specs.Char.{is_ascii_lowercase}
 use Rattle.std.specs.Str.{bytes_eq}
 use Rattle.std.proofs.lemmas.Bool.{and_parts, and_from, false_from_ne_true}
 use mathlib.Core.Bool.{true≢false}
 use Rattle.std.proofs.lemmas.Bool.Decides.{nat_tests}
-use Rattle.std.proofs.lemmas.List.{get_or-map, length-map}
+use Rattle.std.proofs.lemmas.Fmt.{length-decimal-le}
+use Rattle.std.proofs.lemmas.List.{get_or-map, length-append, length-map}
 use Rattle.std.proofs.lemmas.Option.{slice_get-get_or}
 use Rattle.csv.specs.Reading.{strip_bom}
 use Rattle.csv.specs.Records.{field_at}
 use Rattle.csv.specs.declared.parser.State.TheVariants as st
 use Rattle.msrp_plan.specs.Aheads.{carries_ahead, carries_its_ahead, without_ahead}
-use Rattle.msrp_plan.specs.Names.{is_name}
+use Rattle.msrp_plan.specs.Names.{is_name, is_name_byte}
 use Rattle.msrp_plan.specs.Plan.{PlanModel, TaskModel, no_task, task_at, task_of}
 use Rattle.msrp_plan.specs.Shape.{has_shape, is_queue, may_carry}
 use Rattle.msrp_plan.specs.Runs.{IsRunStart}
@@ -26,7 +28,7 @@ use Rattle.msrp_plan.specs.declared.rows.TextVersion.{TextVersion}
 use Rattle.msrp_plan.specs.declared.rows.TextVersion.TheVariants.{V1, V2}
 use Rattle.msrp_text.specs.Fields.{number_at, number_of}
 use Rattle.msrp_text.specs.Plain.{is_plain, split_commas}
-use Rattle.msrp_text.specs.PlanText.{records_text, version_text}
+use Rattle.msrp_text.specs.PlanText.{next_fields, records_text, version_text}
 use Rattle.msrp_text.specs.Records.{csv_records, records_at}
 use Rattle.msrp_text.proofs.MetLines.{met-line}
 use Rattle.msrp_text.proofs.Numerals.{number_again, plain_decimal}
@@ -298,6 +300,33 @@ records_again : (version : TextVersion) (plan : PlanModel) (rows : List Row) →
 records_again version plan rows ok all =
     rows_first plan (head_fields version plan) (map (row_fields version plan) rows) version (head_again version plan ok) ∙ rows_again version plan 1 rows ok all
 
+-- ---- each field of a row is a dash, the word of a kind, a number or a name
+module _ (P : List ℕ → Type 0) (dashed : P dash) (worded : (k : Kind) → P (kind_text k)) (numbered : (n : ℕ) → is_short n ≡ true → P (decimal n)) (named : (name : List ℕ) → is_name name ≡ true → P name) where
+  each_task : (plan : PlanModel) (job : Option JobId) → IsPlan plan → is_task_of plan job ≡ true → P (task_text plan job)
+  each_task plan None ok h = dashed
+  each_task plan (Some j) ok h = named (task_of plan j).name (task_name_is plan j.task.0 ok (known_at j.task.0 (length plan.tasks) h))
+
+  each_job : (job : Option JobId) → has_short_job job ≡ true → P (job_text job)
+  each_job None h = dashed
+  each_job (Some j) h = numbered j.k h
+
+  each_res : (plan : PlanModel) (res : Option ResId) → IsPlan plan → is_res_of plan res ≡ true → P (res_text plan res)
+  each_res plan None ok h = dashed
+  each_res plan (Some g) ok h = named (slice_index_or plan.resources g.0 []) (ok.draft.resource_names.named g.0 [] (known_at g.0 (length plan.resources) h))
+
+  each_ahead : (version : TextVersion) (ahead : Option ℕ) → has_short_ahead ahead ≡ true → AllByRecursion P (ahead_fields version ahead)
+  each_ahead V1 ahead h = tt
+  each_ahead V2 None h = (dashed, tt)
+  each_ahead V2 (Some n) h = (numbered n h, tt)
+
+  each_field : (version : TextVersion) (plan : PlanModel) (r : Row) → IsPlan plan → is_named plan r ≡ true → has_short_numbers r ≡ true → AllByRecursion P (row_fields version plan r)
+  each_field version plan r ok known short =
+      let both = and_parts (is_task_of plan r.job) (is_res_of plan r.res) known in
+      let a = and_parts (is_short r.tick) (is_short r.core.0 && (has_short_job r.job && has_short_ahead r.ahead)) short in
+      let b = and_parts (is_short r.core.0) (has_short_job r.job && has_short_ahead r.ahead) a.1 in
+      let c = and_parts (has_short_job r.job) (has_short_ahead r.ahead) b.1 in
+      (numbered r.tick a.0, (numbered r.core.0 b.0, (worded r.kind, (each_task plan r.job ok both.0, (each_job r.job c.0, (each_res plan r.res ok both.1, each_ahead version r.ahead c.1))))))
+
 -- ---- each record is plain
 plain_dash : IsPlain dash
 unfolding dash
@@ -318,30 +347,8 @@ plain_kind Spin = refl
 plain_kind Grant = refl
 plain_kind Release = refl
 
-plain_task : (plan : PlanModel) (job : Option JobId) → IsPlan plan → is_task_of plan job ≡ true → IsPlain (task_text plan job)
-plain_task plan None ok h = plain_dash
-plain_task plan (Some j) ok h = plain_name (task_of plan j).name (task_name_is plan j.task.0 ok (known_at j.task.0 (length plan.tasks) h))
-
-plain_job : (job : Option JobId) → has_short_job job ≡ true → IsPlain (job_text job)
-plain_job None h = plain_dash
-plain_job (Some j) h = plain_short j.k h
-
-plain_res : (plan : PlanModel) (res : Option ResId) → IsPlan plan → is_res_of plan res ≡ true → IsPlain (res_text plan res)
-plain_res plan None ok h = plain_dash
-plain_res plan (Some g) ok h = plain_name (slice_index_or plan.resources g.0 []) (ok.draft.resource_names.named g.0 [] (known_at g.0 (length plan.resources) h))
-
-plain_ahead : (version : TextVersion) (ahead : Option ℕ) → has_short_ahead ahead ≡ true → AllByRecursion IsPlain (ahead_fields version ahead)
-plain_ahead V1 ahead h = tt
-plain_ahead V2 None h = (plain_dash, tt)
-plain_ahead V2 (Some n) h = (plain_short n h, tt)
-
 plain_row : (version : TextVersion) (plan : PlanModel) (r : Row) → IsPlan plan → IsWritten version plan r → IsPlainRecord (row_fields version plan r)
-plain_row version plan r ok h =
-    let both = and_parts (is_task_of plan r.job) (is_res_of plan r.res) h.named in
-    let a = and_parts (is_short r.tick) (is_short r.core.0 && (has_short_job r.job && has_short_ahead r.ahead)) h.short in
-    let b = and_parts (is_short r.core.0) (has_short_job r.job && has_short_ahead r.ahead) a.1 in
-    let c = and_parts (has_short_job r.job) (has_short_ahead r.ahead) b.1 in
-    (omega arith, (plain_short r.tick a.0, (plain_short r.core.0 b.0, (plain_kind r.kind, (plain_task plan r.job ok both.0, (plain_job r.job c.0, (plain_res plan r.res ok both.1, plain_ahead version r.ahead c.1)))))))
+plain_row version plan r ok h = (omega arith, each_field IsPlain plain_dash plain_kind plain_short plain_name version plan r ok h.named h.short)
 
 -- ---- one row
 -- a row that is told whole
@@ -382,6 +389,56 @@ whole_line version plan r line ok h e =
     by : (v : TextVersion) → has_told_ahead v r ≡ true → v ≡ V2 → carries_its_ahead r ≡ true
     by V1 told e = absurd (cc)
     by V2 told e = told
+
+-- ---- how long a row's text is
+few_dash : length dash ≤ 16
+unfolding dash
+few_dash = omega arith
+
+few_kind : (k : Kind) → length (kind_text k) ≤ 16
+unfolding kind_text
+few_kind Idle = omega arith
+few_kind Run = omega arith
+few_kind Lock = omega arith
+few_kind Unlock = omega arith
+few_kind Take = omega arith
+few_kind Queue = omega arith
+few_kind Spin = omega arith
+few_kind Grant = omega arith
+few_kind Release = omega arith
+
+few_digits : (n : ℕ) → is_short n ≡ true → length (decimal n) ≤ 16
+few_digits n h = let low : n < 1000000000 = grind (arith, nat_tests, h) in omega (arith, length-decimal-le 9 n (omega arith) (omega (arith, low)) (omega (arith, low)))
+
+few_bytes : (name : List ℕ) → is_name name ≡ true → length name ≤ 16
+few_bytes [] h = omega arith
+few_bytes (b ∷ bs) h =
+    let parts = and_parts (is_ascii_lowercase b) (nat_le (length bs) 15 && list_all is_name_byte bs) h in
+    let size = (and_parts (nat_le (length bs) 15) (list_all is_name_byte bs) parts.1).0 in
+    grind (arith, nat_tests, size)
+
+-- fields that follow others, each after a comma
+few_next : (fields : List (List ℕ)) → AllByRecursion (λ field. length field ≤ 16) fields → length (next_fields fields) ≤ 17 * length fields + 1
+few_next [] all = omega arith
+few_next (field ∷ fields) all =
+    let size : length (field ++ next_fields fields) ≡ length field + length (next_fields fields) = length-append field (next_fields fields) in
+    omega (arith, all.0, few_next fields all.1, size)
+
+few_ahead : (version : TextVersion) (ahead : Option ℕ) → length (ahead_fields version ahead) ≤ 1
+few_ahead V1 ahead = omega arith
+few_ahead V2 None = omega arith
+few_ahead V2 (Some n) = omega arith
+
+pub short_line : (version : TextVersion) (plan : PlanModel) (r : Row) (line : List ℕ) → IsPlan plan → is_told_whole version plan r ≡ true → line ++ (10 ∷ []) ≡ row_text version plan r → length line < 256
+short_line version plan r line ok h e =
+    let parts = and_parts (is_named plan r) (has_short_numbers r && has_told_ahead version r) h in
+    let more = and_parts (has_short_numbers r) (has_told_ahead version r) parts.1 in
+    let each = each_field (λ field. length field ≤ 16) few_dash few_kind few_digits few_bytes version plan r ok parts.0 more.0 in
+    let rest : List (List ℕ) = decimal r.core.0 ∷ kind_text r.kind ∷ task_text plan r.job ∷ job_text r.job ∷ res_text plan r.res ∷ ahead_fields version r.ahead in
+    let size : length (decimal r.tick ++ next_fields rest) ≡ length (decimal r.tick) + length (next_fields rest) = length-append (decimal r.tick) (next_fields rest) in
+    let whole : length line + 1 ≡ length (decimal r.tick ++ next_fields rest) = sym (length-append line (10 ∷ [])) ∙ ap length e in
+    let count : length rest ≤ 6 = omega (arith, few_ahead version r.ahead) in
+    omega (arith, each.0, few_next rest each.1, size, whole, count)
 
 -- ---- the first record of a text
 plain_head : (version : TextVersion) (plan : PlanModel) → IsPlan plan → IsPlainRecord (head_fields version plan)

@@ -6,7 +6,7 @@ use Rattle.msrp_plan.specs.Plan.{PlanModel}
 use Rattle.msrp_plan.specs.declared.rows.Row.{Row}
 use Rattle.msrp_plan.specs.declared.rows.TextVersion.{TextVersion}
 use Rattle.msrp_text.specs.Plain.{BeginsWith}
-use Rattle.msrp_text.specs.Records.{bytes_ahead, reader_under, records_left}
+use Rattle.msrp_text.specs.Records.{bytes_ahead, bytes_left, read_failed, reader_under, records_left}
 use Rattle.msrp_trace.specs.Laws.{is_told_whole}
 use Rattle.msrp_trace.specs.Reading.{Told, rows_of, told_after, version_of}
 use Rattle.msrp_trace.specs.TraceText.{row_text}
@@ -37,14 +37,24 @@ stage_after (Err e) = Failed
 abbrev pub told_left : {R : Type 0} → (R → Option (List ℕ)) → TraceReader R → Option Told
 told_left remaining t = left_at t.stage (option_map (told_after t.version t.plan.now t.number) (records_left (λ s. source_remaining remaining s.now) t.records))
 
--- the next row can be met: its text is read as it is, and the bytes that were read ahead begin with it
-pub record CanMeet {R : Type 0} (t : TraceReader R) (r : Row) : Type 0 where
+-- the line is the text of a row, which is read as it is, and a further row may come
+pub record IsLineOf {R : Type 0} (t : TraceReader R) (r : Row) (line : List ℕ) : Type 0 where
   pub stage : t.stage ≡ Rows
   pub number : t.number + 1 < 2 ^ 32
   pub whole : is_told_whole t.version t.plan.now r ≡ true
-  pub line : List ℕ
   pub text : line ++ codes "\n" ≡ row_text t.version t.plan.now r
-  pub ahead : BeginsWith line (bytes_ahead t.records)
+
+-- the next row can be met: the bytes that were read ahead begin with its text
+abbrev pub CanMeet : {R : Type 0} → TraceReader R → Row → Type 0
+CanMeet t r = (line : List ℕ) × IsLineOf t r line × BeginsWith line (bytes_ahead t.records)
+
+-- its text comes next: the bytes that are left begin with it, where the reader underneath tells them
+abbrev pub ComesNext : {R : Type 0} → (R → Option (List ℕ)) → TraceReader R → Row → Type 0
+ComesNext remaining t r = (line : List ℕ) × (bytes : List ℕ) × IsLineOf t r line × (bytes_left (λ s. source_remaining remaining s.now) t.records ≡ Some bytes) × BeginsWith line bytes
+
+-- a read ahead has failed
+abbrev pub ahead_failed : {R : Type 0} → TraceReader R → Bool
+ahead_failed t = read_failed t.records
 
 abbrev pub is_failed : Stage → Bool
 is_failed Failed = true

@@ -123,7 +123,7 @@ fn numbered_row(
 }
 
 impl<'a, R: Read> TraceReader<'a, R> {
-    ghost use Rattle.msrp_trace.specs.Readers.{CanMeet, GivesFirstOr, GivesNext, IsDue, Opens, has_failed, source_of, told_left};
+    ghost use Rattle.msrp_trace.specs.Readers.{CanMeet, ComesNext, GivesFirstOr, GivesNext, IsDue, Opens, ahead_failed, has_failed, source_of, told_left};
 
     /// The rows of all that a source has left, for a trace of the plan. R1 is refused here.
     pub fn new(
@@ -170,14 +170,15 @@ impl<'a, R: Read> TraceReader<'a, R> {
     }
 
     /// Whether the next row is this one. Its text is compared with the bytes that come next. Where they are the same the row is
-    /// taken, as [`TraceReader::next_row`] takes it, and else nothing is. Only bytes that were read ahead are compared: a row whose text
-    /// isn't there whole, or stands in quotes, isn't met.
+    /// taken, as [`TraceReader::next_row`] takes it, and else nothing is. Where no whole line was read ahead, more is read. A
+    /// row with quotes in its text isn't met, nor is any once there were such.
     pub fn meets(&mut self, row: &Row) -> bool
         ensures taken { result ≡ true → (told : Told) → told_left R.remaining self.old ≡ Some told → GivesNext told (Ok (Some row.now)) (told_left R.remaining self.new) }
         ensures kept { result ≡ false → (told : Told) → told_left R.remaining self.old ≡ Some told → told_left R.remaining self.new ≡ Some told }
         ensures same { has_failed self.new ≡ has_failed self.old }
         ensures going { result ≡ true → has_failed self.old ≡ false }
         ensures finds { CanMeet self.old row.now → result ≡ true }
+        ensures comes { ComesNext R.remaining self.old row.now → (result ≡ true) ⊎ (ahead_failed self.new ≡ true) }
     {
         let Some(next) = self.number.checked_add(1) else {
             return false;
@@ -204,6 +205,7 @@ impl<'a, R: Read> TraceReader<'a, R> {
         ensures kept { result ≡ false → (told : Told) → told_left R.remaining self.old ≡ Some told → told_left R.remaining self.new ≡ Some told }
         ensures stage { self.new.stage ≡ Stage.Rows }
         ensures finds { CanMeet self.old row.now → result ≡ true }
+        ensures comes { ComesNext R.remaining self.old row.now → (result ≡ true) ⊎ (ahead_failed self.new ≡ true) }
     {
         let (tick, rest) = (self.foreseen.tick(), self.foreseen.rest(row.core));
         if !self.records.meets(tick, rest) {

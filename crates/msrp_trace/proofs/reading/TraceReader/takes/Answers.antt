@@ -1,6 +1,7 @@
-use Rattle.std.proofs.Common.{◌≡◌, ◌++◌, codes, [], None, sym, ap, ◌∙◌, decimal}
+use Rattle.std.proofs.Common.{◌≡◌, ◌++◌, codes, [], None, sym, ap, ◌∙◌, decimal, inl, inr}
 use Rattle.msrp_trace.specs.declared.line.RowLine.{RowLine}
 use Rattle.msrp_trace.proofs.MetRows.{met_row, row_begins, row_line}
+use Rattle.msrp_trace.proofs.ReadBack.{short_line, whole_line}
 use Rattle.msrp_trace.proofs.reading.TraceReader.takes.Goals as goal
 
 pub returns-clause-taken : goal.returns-clause-taken
@@ -23,5 +24,22 @@ returns-then-not-meets-clause-finds g c = λ can.
     let rest = c.rest-rest.ensures none _ (texts.line none) in
     let tick : c.tick-tick.result.now ≡ decimal r.tick = c.tick-tick.ensures ∙ ap decimal texts.tick in
     let line = row_line old.version old.plan.now r c.tick-tick.result.now c.rest-rest.result.now tick (ap (λ t. t ++ codes "\n") (sym rest)) in
-    let met = c.meets.ensures.finds.1 (row_begins can.line c.tick-tick.result.now c.rest-rest.result.now _ _ line can.text can.ahead) in
+    let met = c.meets.ensures.ahead (row_begins can.0 c.tick-tick.result.now c.rest-rest.result.now _ _ line can.1.text can.2) in
     sym c.if-not-meets.true ∙ met
+
+pub returns-then-not-meets-clause-comes : goal.returns-then-not-meets-clause-comes
+returns-then-not-meets-clause-comes g c = λ comes.
+    let old = c.args.self.now in
+    let r = c.args.row.now in
+    let none : RowLine = record { row = None; line = []; job = record { job = None; text = [] } } in
+    let texts = c.requires.texts in
+    let rest = c.rest-rest.ensures none _ (texts.line none) in
+    let tick : c.tick-tick.result.now ≡ decimal r.tick = c.tick-tick.ensures ∙ ap decimal texts.tick in
+    let line = row_line old.version old.plan.now r c.tick-tick.result.now c.rest-rest.result.now tick (ap (λ t. t ++ codes "\n") (sym rest)) in
+    let begins = row_begins comes.0 c.tick-tick.result.now c.rest-rest.result.now _ _ line comes.2.text comes.4 in
+    let few = short_line old.version old.plan.now r (c.tick-tick.result.now ++ c.rest-rest.result.now) c.requires.plan c.requires.whole line in
+    let plain = whole_line old.version old.plan.now r (c.tick-tick.result.now ++ c.rest-rest.result.now) c.requires.plan c.requires.whole line in
+    elim (c.meets.ensures.finds comes.1 comes.3 few plain.0 begins) [
+      | inl met ↦ inl (sym c.if-not-meets.true ∙ met)
+      | inr failed ↦ inr failed
+    ]
