@@ -1,7 +1,6 @@
 -- What a plan is answered is what its text is answered.
-use Rattle.std.proofs.Common.{◌≡◌, ℕ, Bool, true, false, cond, List, Option, IfErr, OnOk, refl, ap, subst, inl, inr}
+use Rattle.std.proofs.Common.{◌≡◌, ℕ, Bool, true, false, cond, List, Option, IfErr, OnOk, refl, subst, inl, inr}
 use Rattle.std.specs.Prelude.{Ok, Err}
-use Rattle.std.specs.Result.{IsErrAnd}
 use Rattle.std.specs.declared.result.Result.{Result}
 use Rattle.msrp_plan.specs.Plan.{PlanModel}
 use Rattle.msrp_plan.specs.Bytes.{sink_failed}
@@ -15,11 +14,6 @@ use Rattle.msrp.specs.Simulation.{SimAnswers, SimAnswersPlan}
 use Rattle.msrp_cli.specs.Outcomes.{written_status}
 use Rattle.msrp_cli.specs.declared.faults.CliFault.{CliFault}
 use Rattle.msrp_cli.specs.declared.faults.CliFault.TheVariants.{Write}
-
--- what is nothing but this error
-pub only_err : {T E : Type 0} (r : Result T E) (x : E) → IsErrAnd r (λ y. y ≡ x) → r ≡ Err x
-only_err (Ok v) x h = absurd h
-only_err (Err e) x h = ap (λ y. Err y) h
 
 -- whatever answers the plan that was read answers the text that it was read from
 pub from_plan : (Q : Result PlanModel TextError → Type 0) (plan : PlanModel) (expected : Result PlanModel TextError) → Answers (Ok plan) expected → Q (Ok plan) → Q expected

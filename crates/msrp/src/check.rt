@@ -106,6 +106,20 @@ fn write_check<W: Write>(
     out.outcome()
 }
 
+// The text of a plan's levels and ceilings, in memory.
+fn gathered<'a>(alloc: Global, plan: &Plan, levels: &Levels<'a>) -> Result<Vec<u8>, CliFault>
+    requires { levels.now ≡ plan.now }
+    ensures plan { IsPlan plan.now }
+    ensures text { IfOk result (λ text. text.items ≡ check_text plan.now) }
+    ensures memory { IfErr result (λ fault. fault ≡ CliFault.Memory) }
+{
+    let mut text = Sink::new(Vec::new(alloc));
+    if write_check(&mut text, plan, levels).is_err() {
+        return Err(CliFault::Memory);
+    }
+    Ok(text.into_inner())
+}
+
 /// Reads a plan, and writes its levels and ceilings: `level,NAME,N` for each task, `ceiling,NAME,local,N` or
 /// `ceiling,NAME,global,-` for each resource, and `top,CORE,N` for each core, the highest level of its tasks (Baker 1991;
 /// Gai, Lipari and Di Natale 2001).
@@ -132,6 +146,8 @@ pub fn check_text<P: Read, W: Write>(
 {
     let plan = read_plan(alloc, plan)?;
     let levels = Levels::of(alloc, &plan)?;
-    write_check(out, &plan, &levels)?;
+    let text = gathered(alloc, &plan, &levels)?;
+    out.add(text.as_slice());
+    out.outcome()?;
     Ok(0)
 }

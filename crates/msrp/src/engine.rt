@@ -98,8 +98,21 @@ pub fn sim_text<P: Read, W: Write>(
     write_sim(alloc, &plan, out, order, version)
 }
 
+// A plan's own text, in memory.
+fn gathered(alloc: Global, plan: &Plan) -> Result<Vec<u8>, CliFault>
+    ensures plan { IsPlan plan.now }
+    ensures text { IfOk result (λ text. text.items ≡ plan_text plan.now) }
+    ensures memory { IfErr result (λ fault. fault ≡ CliFault.Memory) }
+{
+    let mut text = Sink::new(Vec::new(alloc));
+    if write_plan(&mut text, plan).is_err() {
+        return Err(CliFault::Memory);
+    }
+    Ok(text.into_inner())
+}
+
 /// Reads a plan, and writes the plan's own text, which reads as the same plan. The whole plan is read before anything is
-/// written.
+/// written, and all memory is taken before: so whatever the fault, but a write fault, nothing was written.
 pub fn plan_text<P: Read, W: Write>(
     alloc: Global,
     plan: &mut Source<P>,
@@ -119,6 +132,8 @@ pub fn plan_text<P: Read, W: Write>(
     ensures silent { IfErr result (λ fault. (fault ≡ CliFault.Write) ⊎ (out.new ≡ out.old)) }
 {
     let plan = read_plan(alloc, plan)?;
-    write_plan(out, &plan)?;
+    let text = gathered(alloc, &plan)?;
+    out.add(text.as_slice());
+    out.outcome()?;
     Ok(0)
 }

@@ -2,6 +2,7 @@
 ghost use Rattle.std.specs.Prelude.{◌≡◌, ◌⊎◌, ℕ, List, [], true, false, Some, Err, IfOk, IfErr, length};
 ghost use Rattle.msrp_plan.specs.Bytes.{sink_failed, source_failed, source_remaining};
 ghost use Rattle.msrp_report.specs.Reports.{HasReported};
+ghost use Rattle.msrp_report.specs.ReportText.{report_text};
 ghost use Rattle.msrp_text.specs.Reading.{csv_records, plan_of};
 ghost use Rattle.msrp_text.specs.declared.reading.TextError.{TextError as PlanError};
 ghost use Rattle.msrp_trace.specs.Reading.{Told, rows_of};
@@ -82,6 +83,19 @@ fn report_trace<T: Read>(
     }
 }
 
+// The text of a report, in memory.
+fn gathered(alloc: Global, plan: &Plan, report: &Report) -> Result<Vec<u8>, CliFault>
+    requires { length report.now.lines.items ≡ length plan.now.tasks }
+    ensures text { IfOk result (λ text. text.items ≡ report_text plan.now report.now.lines.items) }
+    ensures memory { IfErr result (λ fault. fault ≡ CliFault.Memory) }
+{
+    let mut text = Sink::new(Vec::new(alloc));
+    if write_report(&mut text, plan, report).is_err() {
+        return Err(CliFault::Memory);
+    }
+    Ok(text.into_inner())
+}
+
 /// Reads a plan and a trace of it, whoever made it, and writes the report of the trace with status 0; where the trace isn't
 /// a legal run, it writes the line of its first fault with status 1, as an audit does.
 ///
@@ -113,7 +127,9 @@ pub fn report_text<P: Read, T: Read, W: Write>(
     match report_trace(alloc, &plan, trace)? {
         Err(fault) => write_verdict(out, Err(fault)),
         Ok(report) => {
-            write_report(out, &plan, &report)?;
+            let text = gathered(alloc, &plan, &report)?;
+            out.add(text.as_slice());
+            out.outcome()?;
             Ok(0)
         }
     }
