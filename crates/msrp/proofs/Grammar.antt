@@ -1,15 +1,14 @@
 -- What the parser was told, command by command.
-use Rattle.std.proofs.Common.{◌≡◌, ◌&&◌, Bool, true, false, not, List, [], ◌∷◌, Option, Some, None, Result, Ok, Err, IfErr, IfOk, option_map, refl, ap, ap₂, sym, ◌∙◌, inl, inr}
+use Rattle.std.proofs.Common.{◌≡◌, ◌∙◌, ◌&&◌, Bool, true, false, not, List, [], ◌∷◌, Option, Some, None, Result, option_map, refl, ap, ap₂, sym}
 use Rattle.clap.proofs.OnLiterals.{clap_on_literals}
 use Rattle.clap.specs.Words.{AddsSubcommand, App, IsAmong, Kinds, Row, Text, app_of, found_of, is_simple, is_simple_and_free, rows_of, subcommand_name_of, subcommand_rows_of, with_subcommand}
 use Rattle.clap.specs.declared.builder.command.Command.{Command}
 use Rattle.clap.specs.declared.error.kind.ErrorKind.{ErrorKind}
 use Rattle.clap.specs.declared.parser.matches.ArgMatches.{ArgMatches}
 use Rattle.msrp.specs.CommandLine.{IsAnswered, IsChosen, answer_to, grammar}
-use Rattle.msrp.specs.Words.{IsCommand, plan_path}
+use Rattle.msrp.specs.Words.{IsAsked}
 use Rattle.msrp.specs.declared.cli.Cmd.{Cmd}
 use Rattle.msrp_cli.specs.declared.faults.CliFault.{CliFault}
-use Rattle.msrp_cli.specs.declared.faults.CliFault.TheVariants.{Usage}
 
 -- a plain command has no argument for its subcommands too
 own_args : (a b c d : Bool) → (a && (b && (not c && d))) ≡ true → c ≡ false
@@ -46,13 +45,9 @@ both_told : {X Y : Type 0} (q : Option (X × Y)) (x : X) (y : Y) → Some x ≡ 
 both_told None x y e f = absurd (cc)
 both_told (Some p) x y e f = let a : p.0 ≡ x = cc in let b : p.1 ≡ y = cc in ap₂ (λ u v. Some (u, v)) a b
 
-chosen_by : (result : Result Cmd CliFault) (word : Text) (words : ArgMatches) → IfErr result (λ fault. fault ≡ Usage) → IfOk result (IsCommand word (plan_path words)) → IsChosen (Some (word, rows_of (found_of words))) result
-chosen_by (Ok command) word words e h = inr (words, refl, h)
-chosen_by (Err fault) word words e h = inl (ap (λ f. Err f) e)
-
 pub chosen_named : (m : ArgMatches) (word : Text) (words : ArgMatches) (result : Result Cmd CliFault) → Some word ≡ subcommand_name_of m → Some (rows_of (found_of words)) ≡ option_map (λ (p : Text × List Row). p.1) (subcommand_rows_of m)
-    → IfErr result (λ fault. fault ≡ Usage) → IfOk result (IsCommand word (plan_path words)) → IsChosen (subcommand_rows_of m) result
-chosen_named m word words result named rows e h = rw (both_told (subcommand_rows_of m) word (rows_of (found_of words)) (named ∙ names_are m) rows) (chosen_by result word words e h)
+    → IsAsked word (rows_of (found_of words)) result → IsChosen (subcommand_rows_of m) result
+chosen_named m word words result named rows h = rw (both_told (subcommand_rows_of m) word (rows_of (found_of words)) (named ∙ names_are m) rows) h
 
 -- what refused words are answered
 pub answered_fault : (kinds : Kinds) (given : Option (Text × List Row)) (k : ErrorKind) (result : Result Cmd CliFault) → IsAmong k kinds → result ≡ answer_to k → IsAnswered kinds given result

@@ -4,4 +4,5 @@ pub mod NamedRows
 pub mod SimAnswers
 pub mod Reporting
 pub mod Grammar
+pub mod Found
 pub mod Gathering

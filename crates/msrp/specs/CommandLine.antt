@@ -1,13 +1,12 @@
 -- The words that the program takes, as the parser is told of them, and what is answered.
-use Rattle.std.specs.Prelude.{◌≡◌, List, [], ◌∷◌, Option, Some, None, codes, true, Ok, Err, ◌⊎◌, IsOkAnd}
+use Rattle.std.specs.Prelude.{◌≡◌, List, [], ◌∷◌, Option, Some, None, codes, true, Ok, Err, IsOkAnd}
 use Rattle.std.specs.declared.result.Result.{Result}
-use Rattle.clap.specs.Words.{App, IsAmong, Kinds, Row, Rule, Text, app_of, found_of, new_app, new_rule, rows_of, with_rule, with_subcommand}
+use Rattle.clap.specs.Words.{App, IsAmong, Kinds, Row, Rule, Text, app_of, new_app, new_rule, with_rule, with_subcommand}
 use Rattle.clap.specs.declared.builder.command.Command.{Command}
 use Rattle.clap.specs.declared.builder.action.ArgAction.TheVariants.{SetTrue}
 use Rattle.clap.specs.declared.error.kind.ErrorKind.{ErrorKind}
 use Rattle.clap.specs.declared.error.kind.ErrorKind.TheVariants as kind
-use Rattle.clap.specs.declared.parser.matches.ArgMatches.{ArgMatches}
-use Rattle.msrp.specs.Words.{IsCommand, plan_path}
+use Rattle.msrp.specs.Words.{IsAsked, IsCommand}
 use Rattle.msrp.specs.declared.cli.Cmd.{Cmd}
 use Rattle.msrp.specs.declared.cli.Cmd.TheVariants.{Help}
 use Rattle.msrp_cli.specs.declared.faults.CliFault.{CliFault}
@@ -69,11 +68,11 @@ answer_to kind.DisplayHelp = Ok Help
 answer_to kind.OutOfMemory = Err Memory
 answer_to _ = Err Usage
 
--- words without a command ask for the simulation of standard input; those after a command ask for that command on the plan
--- of their path, or for what it doesn't take
+-- words without a command ask for what `sim` asks for with nothing after it, the simulation of standard input; those after a
+-- command ask for that command, as they tell it, or for what it doesn't take
 abbrev pub IsChosen : Option (Text × List Row) → Result Cmd CliFault → Type 0
-IsChosen None result = IsOkAnd result (IsCommand (codes "sim") (codes "-"))
-IsChosen (Some given) result = (result ≡ Err Usage) ⊎ (words : ArgMatches) × (rows_of (found_of words) ≡ given.1) × IsOkAnd result (IsCommand given.0 (plan_path words))
+IsChosen None result = IsOkAnd result (IsCommand (codes "sim") [])
+IsChosen (Some given) result = IsAsked given.0 given.1 result
 
 -- the answer to words of which the parser tells these kinds of fault, and else this command with what it was given
 abbrev pub IsAnswered : Kinds → Option (Text × List Row) → Result Cmd CliFault → Type 0

@@ -1,12 +1,14 @@
 //! The command line: the words of a command, and what they ask for.
 
-ghost use Rattle.std.specs.Prelude.{◌≡◌, ◌⊎◌, codes, false, map, string_bytes, Err, IfErr, IfOk};
-ghost use Rattle.clap.specs.Words.{App, fault_of, rule_of, subcommand_of, subcommand_rows_of};
+ghost use Rattle.std.specs.Prelude.{◌≡◌, ◌⊎◌, codes, false, map, ok_or, option_map, string_bytes, Err, IfErr, IfOk};
+ghost use Rattle.std.specs.Result.{result_map_both};
+ghost use Rattle.clap.specs.Words.{App, fault_of, found_of, rows_of, rule_of, subcommand_of, subcommand_rows_of};
 ghost use Rattle.msrp.specs.CommandLine as line;
 ghost use Rattle.msrp.specs.CommandLine.{IsAnswered, IsChosen, Takes};
-ghost use Rattle.msrp.specs.Words.{IsCommand, plan_path};
+ghost use Rattle.msrp.specs.Words.{IsAsked, IsCommand, both_of, is_given, order_of, plan_path};
 
 use clap::error::ErrorKind;
+use clap::parser::ValueSource;
 use clap::{Arg, ArgAction, ArgMatches, Command, Error};
 use msrp_cli::{CliFault, STANDARD};
 use std::alloc::{AllocError, Global};
@@ -211,9 +213,16 @@ pub fn help_text<'a>(alloc: Global, words: &'a [String]) -> Result<String, CliFa
     }
 }
 
+// Whether an argument is given in the words.
+fn is_given(matches: &ArgMatches<'_>, name: &str) -> bool
+    ensures { result ≡ is_given name.now (rows_of (found_of matches.now)) }
+{
+    matches.value_source(name) == Some(ValueSource::CommandLine)
+}
+
 // The path of the plan: standard input where none is given.
 fn plan_of<'a>(matches: &ArgMatches<'a>) -> &'a str
-    ensures { result.now ≡ plan_path matches.now }
+    ensures { result.now ≡ plan_path (rows_of (found_of matches.now)) }
 {
     match matches.get_str(PLAN) {
         Some(path) => path,
@@ -223,7 +232,7 @@ fn plan_of<'a>(matches: &ArgMatches<'a>) -> &'a str
 
 // The order of a word; rising where there is none.
 fn order_of(word: Option<&str>) -> Result<TurnOrder, CliFault>
-    ensures { IfErr result (λ fault. fault ≡ CliFault.Usage) }
+    ensures { result ≡ ok_or (order_of (option_map (λ word. word.now) word.entry)) CliFault.Usage }
 {
     match word {
         None | Some("asc") => Ok(TurnOrder::Asc),
@@ -234,32 +243,42 @@ fn order_of(word: Option<&str>) -> Result<TurnOrder, CliFault>
 }
 
 // The paths of a plan and a trace, which are not both standard input.
-fn both_of<'a>(matches: &ArgMatches<'a>) -> Result<(&'a str, &'a str), CliFault>
-    ensures fault { IfErr result (λ fault. fault ≡ CliFault.Usage) }
-    ensures plan { IfOk result (λ paths. paths.0.now ≡ plan_path matches.now) }
+fn both_of<'a>(
+    plan: Option<&'a str>,
+    trace: Option<&'a str>,
+) -> Result<(&'a str, &'a str), CliFault>
+    ensures { result_map_both (λ paths. (paths.0.now, paths.1.now)) (λ fault. fault) result ≡ ok_or (both_of (option_map (λ path. path.now) plan.entry) (option_map (λ path. path.now) trace.entry)) CliFault.Usage }
 {
-    match (matches.get_str(PLAN), matches.get_str(TRACE)) {
+    match (plan, trace) {
         (Some(plan), Some(trace)) if plan != STANDARD || trace != STANDARD => Ok((plan, trace)),
         _ => Err(CliFault::Usage),
     }
 }
 
 fn sim_of<'a>(matches: &ArgMatches<'a>) -> Result<Cmd<'a>, CliFault>
-    ensures fault { IfErr result (λ fault. fault ≡ CliFault.Usage) }
-    ensures command { IfOk result (λ command. IsCommand (codes "sim") (plan_path matches.now) command) }
+    ensures { IsAsked (codes "sim") (rows_of (found_of matches.now)) result }
 {
     Ok(Cmd::Sim {
         order: order_of(matches.get_str(ORDER))?,
-        ahead: matches.get_flag(AHEAD),
+        ahead: is_given(matches, AHEAD),
         plan: plan_of(matches),
     })
 }
 
+fn run_of<'a>(matches: &ArgMatches<'a>) -> Cmd<'a>
+    ensures { IsCommand (codes "run") (rows_of (found_of matches.now)) result }
+{
+    Cmd::Run {
+        ahead: is_given(matches, AHEAD),
+        plan: plan_of(matches),
+    }
+}
+
 fn check_of<'a>(matches: &ArgMatches<'a>) -> Cmd<'a>
-    ensures { IsCommand (codes "check") (plan_path matches.now) result }
+    ensures { IsCommand (codes "check") (rows_of (found_of matches.now)) result }
 {
     let plan = plan_of(matches);
-    if matches.get_flag(TEXT) {
+    if is_given(matches, TEXT) {
         Cmd::CheckText { plan }
     } else {
         Cmd::Check { plan }
@@ -267,36 +286,30 @@ fn check_of<'a>(matches: &ArgMatches<'a>) -> Cmd<'a>
 }
 
 fn audit_of<'a>(matches: &ArgMatches<'a>) -> Result<Cmd<'a>, CliFault>
-    ensures fault { IfErr result (λ fault. fault ≡ CliFault.Usage) }
-    ensures command { IfOk result (λ command. IsCommand (codes "audit") (plan_path matches.now) command) }
+    ensures { IsAsked (codes "audit") (rows_of (found_of matches.now)) result }
 {
-    let (plan, trace) = both_of(matches)?;
+    let (plan, trace) = both_of(matches.get_str(PLAN), matches.get_str(TRACE))?;
     Ok(Cmd::Audit {
-        parallel: matches.get_flag(PARALLEL),
+        parallel: is_given(matches, PARALLEL),
         plan,
         trace,
     })
 }
 
 fn report_of<'a>(matches: &ArgMatches<'a>) -> Result<Cmd<'a>, CliFault>
-    ensures fault { IfErr result (λ fault. fault ≡ CliFault.Usage) }
-    ensures command { IfOk result (λ command. IsCommand (codes "report") (plan_path matches.now) command) }
+    ensures { IsAsked (codes "report") (rows_of (found_of matches.now)) result }
 {
-    let (plan, trace) = both_of(matches)?;
+    let (plan, trace) = both_of(matches.get_str(PLAN), matches.get_str(TRACE))?;
     Ok(Cmd::Report { plan, trace })
 }
 
 // The command of a word, and what the words after it ask for.
 fn command_named<'a>(word: &str, words: &ArgMatches<'a>) -> Result<Cmd<'a>, CliFault>
-    ensures fault { IfErr result (λ fault. fault ≡ CliFault.Usage) }
-    ensures command { IfOk result (λ command. IsCommand word.now (plan_path words.now) command) }
+    ensures { IsAsked word.now (rows_of (found_of words.now)) result }
 {
     match word {
         "sim" => sim_of(words),
-        "run" => Ok(Cmd::Run {
-            ahead: words.get_flag(AHEAD),
-            plan: plan_of(words),
-        }),
+        "run" => Ok(run_of(words)),
         "audit" => audit_of(words),
         "report" => report_of(words),
         "check" => Ok(check_of(words)),
