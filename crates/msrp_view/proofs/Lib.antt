@@ -5,3 +5,4 @@ pub mod Drawing
 pub mod Stretches
 pub mod TaskRows
 pub mod Depths
+pub mod Grammar

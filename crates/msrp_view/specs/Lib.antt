@@ -17,3 +17,4 @@ pub mod Jobs
 pub mod Sections
 pub mod Svg
 pub mod Inside
+pub mod CommandLine

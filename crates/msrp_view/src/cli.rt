@@ -1,10 +1,16 @@
 //! The command line: the words of a command, and what they ask for.
 
-ghost use Rattle.std.specs.Prelude.{◌≡◌, ◌⊎◌, ◌↔◌, IfErr};
-ghost use Rattle.clap.specs.declared.error.ErrorKind.TheVariants.{OutOfMemory};
+ghost use Rattle.std.specs.Prelude.{◌≡◌, ◌⊎◌, map, ok_or, option_map, string_bytes, Err, IfErr, IfOk, Some, false};
+ghost use Rattle.std.specs.Char.{is_ascii_digit};
+ghost use Rattle.std.specs.List.{list_all};
+ghost use Rattle.std.specs.Result.{result_map_both};
+ghost use Rattle.clap.specs.Words.{fault_of, found_of, matches_of, rows_of, rule_of};
+ghost use Rattle.msrp_view.specs.CommandLine as line;
+ghost use Rattle.msrp_view.specs.CommandLine.{IsAnswered, IsDrawn, Takes};
 
 use crate::windows::{Asked, Style};
 use clap::error::ErrorKind;
+use clap::parser::ValueSource;
 use clap::{Arg, ArgAction, ArgMatches, Command};
 use msrp_cli::{CliFault, STANDARD};
 use std::alloc::{AllocError, Global};
@@ -35,22 +41,36 @@ const FROM: &str = "from";
 
 const TO: &str = "to";
 
-fn flag<'a>(alloc: Global, name: &'a str, help: &'a str) -> Arg<'a> {
+fn flag<'a>(alloc: Global, name: &'a str, help: &'a str) -> Arg<'a>
+    ensures rule { rule_of result ≡ line.flag name.now }
+    ensures own { result.global ≡ false }
+    ensures text { result.help ≡ Some help.entry }
+{
     Arg::new(alloc, name)
         .long(name)
         .action(ArgAction::SetTrue)
         .help(help)
 }
 
-fn tick<'a>(alloc: Global, name: &'a str, help: &'a str) -> Arg<'a> {
+fn tick<'a>(alloc: Global, name: &'a str, help: &'a str) -> Arg<'a>
+    ensures rule { rule_of result ≡ line.tick name.now }
+    ensures own { result.global ≡ false }
+    ensures text { result.help ≡ Some help.entry }
+{
     Arg::new(alloc, name).long(name).value_name("T").help(help)
 }
 
-fn path<'a>(alloc: Global, name: &'a str, help: &'a str) -> Arg<'a> {
+fn path<'a>(alloc: Global, name: &'a str, help: &'a str) -> Arg<'a>
+    ensures rule { rule_of result ≡ line.wanted name.now }
+    ensures own { result.global ≡ false }
+    ensures text { result.help ≡ Some help.entry }
+{
     Arg::new(alloc, name).required(true).help(help)
 }
 
-fn grammar<'a>(alloc: Global) -> Result<Command<'a>, AllocError> {
+fn grammar<'a>(alloc: Global) -> Result<Command<'a>, AllocError>
+    ensures { IfOk result (Takes line.grammar) }
+{
     Command::new(alloc, "msrp_view")
         .about(
             "draws a trace of a plan: what each core does in each tick, and who stands in the queue of each global resource",
@@ -81,14 +101,21 @@ pub fn help_text(alloc: Global) -> Result<String, CliFault>
     command.render_help().map_err(|_| CliFault::Memory)
 }
 
+// Whether each byte is a decimal digit.
+fn are_digits(text: &[u8]) -> bool
+    ensures { result ≡ list_all is_ascii_digit text.now }
+{
+    text.iter().all(|byte| byte.is_ascii_digit())
+}
+
 // The tick of a word, if there is one: digits alone.
 fn tick_of(word: Option<&str>) -> Result<Option<u32>, CliFault>
-    ensures { IfErr result (λ fault. fault ≡ CliFault.Usage) }
+    ensures { result ≡ ok_or (line.tick_of (option_map (λ word. word.now) word.entry)) CliFault.Usage }
 {
     let Some(word) = word else {
         return Ok(None);
     };
-    if !word.as_bytes().iter().all(|byte| byte.is_ascii_digit()) {
+    if !are_digits(word.as_bytes()) {
         return Err(CliFault::Usage);
     }
     match word.parse() {
@@ -98,62 +125,74 @@ fn tick_of(word: Option<&str>) -> Result<Option<u32>, CliFault>
 }
 
 // The paths of a plan and a trace, which are not both standard input.
-fn both_of<'a>(matches: &ArgMatches<'a>) -> Result<(&'a str, &'a str), CliFault>
-    ensures { IfErr result (λ fault. fault ≡ CliFault.Usage) }
+fn both_of<'a>(
+    plan: Option<&'a str>,
+    trace: Option<&'a str>,
+) -> Result<(&'a str, &'a str), CliFault>
+    ensures { result_map_both (λ paths. (paths.0.now, paths.1.now)) (λ fault. fault) result ≡ ok_or (line.both_of (option_map (λ path. path.now) plan.entry) (option_map (λ path. path.now) trace.entry)) CliFault.Usage }
 {
-    match (matches.get_str(PLAN), matches.get_str(TRACE)) {
+    match (plan, trace) {
         (Some(plan), Some(trace)) if plan != STANDARD || trace != STANDARD => Ok((plan, trace)),
         _ => Err(CliFault::Usage),
     }
 }
 
-// How it is drawn: in text, if nothing is said.
-fn style_of(matches: &ArgMatches<'_>) -> Result<Style, CliFault>
-    ensures { IfErr result (λ fault. fault ≡ CliFault.Usage) }
+// Whether an argument is given in the words.
+fn is_given(matches: &ArgMatches<'_>, name: &str) -> bool
+    ensures { result ≡ line.is_given name.now (rows_of (found_of matches.now)) }
 {
-    match (matches.get_flag(TEXT), matches.get_flag(SVG)) {
+    matches.value_source(name) == Some(ValueSource::CommandLine)
+}
+
+// How it is drawn, where these flags are given: in text, if none is.
+fn style_of(text: bool, svg: bool) -> Result<Style, CliFault>
+    ensures { result ≡ ok_or (line.style_of text svg) CliFault.Usage }
+{
+    match (text, svg) {
         (_, false) => Ok(Style::Text),
         (false, true) => Ok(Style::Svg),
         (true, true) => Err(CliFault::Usage),
     }
 }
 
-// What is asked for.
-fn view_of<'a>(matches: &ArgMatches<'a>) -> Result<Cmd<'a>, CliFault>
-    ensures { IfErr result (λ fault. fault ≡ CliFault.Usage) }
+// How it is drawn, and the ticks.
+fn asked_of(matches: &ArgMatches<'_>) -> Result<Asked, CliFault>
+    ensures { result ≡ ok_or (line.asked_of (rows_of (found_of matches.now))) CliFault.Usage }
 {
-    let (plan, trace) = both_of(matches)?;
-    let asked = Asked {
-        style: style_of(matches)?,
+    Ok(Asked {
+        style: style_of(is_given(matches, TEXT), is_given(matches, SVG))?,
         from: tick_of(matches.get_str(FROM))?,
         to: tick_of(matches.get_str(TO))?,
-    };
+    })
+}
+
+// What is asked for.
+fn view_of<'a>(matches: &ArgMatches<'a>) -> Result<Cmd<'a>, CliFault>
+    ensures { IsDrawn (line.view_of (rows_of (found_of matches.now))) result }
+{
+    let (plan, trace) = both_of(matches.get_str(PLAN), matches.get_str(TRACE))?;
+    let asked = asked_of(matches)?;
     Ok(Cmd::View { asked, plan, trace })
 }
 
-// What words that are no command are answered: want of memory is told as such, and nothing else is.
-fn refused(kind: ErrorKind) -> CliFault
-    ensures memory { (result ≡ CliFault.Memory) ↔ (kind ≡ OutOfMemory) }
-    ensures usage { (result ≡ CliFault.Memory) ⊎ (result ≡ CliFault.Usage) }
+// What a fault of the words is answered: the help where it is asked for, want of memory as such, and usage for all else.
+fn answer_to<'a>(kind: ErrorKind) -> Result<Cmd<'a>, CliFault>
+    ensures { result ≡ line.answer_to kind }
 {
     match kind {
-        ErrorKind::OutOfMemory => CliFault::Memory,
-        _ => CliFault::Usage,
+        ErrorKind::DisplayHelp => Ok(Cmd::Help),
+        ErrorKind::OutOfMemory => Err(CliFault::Memory),
+        _ => Err(CliFault::Usage),
     }
 }
 
 /// The command that the words ask for; the first word is the program's name.
 pub fn command_of<'a>(alloc: Global, words: &'a [String]) -> Result<Cmd<'a>, CliFault>
-    ensures { IfErr result (λ fault. (fault ≡ CliFault.Usage) ⊎ (fault ≡ CliFault.Memory)) }
+    ensures fault { IfErr result (λ fault. (fault ≡ CliFault.Usage) ⊎ (fault ≡ CliFault.Memory)) }
+    ensures answer { (result ≡ Err CliFault.Memory) ⊎ IsAnswered (fault_of line.grammar (map string_bytes words.now)) (matches_of line.grammar (map string_bytes words.now)) result }
 {
-    let Ok(command) = grammar(alloc) else {
-        return Err(CliFault::Memory);
-    };
-    match command.try_get_matches_from(words) {
+    match grammar(alloc)?.try_get_matches_from(words) {
         Ok(matches) => view_of(&matches),
-        Err(error) => match error.kind() {
-            ErrorKind::DisplayHelp => Ok(Cmd::Help),
-            kind => Err(refused(kind)),
-        },
+        Err(error) => answer_to(error.kind()),
     }
 }

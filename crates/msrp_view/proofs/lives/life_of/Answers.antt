@@ -1,6 +1,6 @@
 use Rattle.std.proofs.Common.{ℕ, Bool, cond, nat_eq, ap, ◌∙◌}
 use Rattle.msrp_plan.specs.Jobs.{done, is_finished}
-use Rattle.msrp_plan.specs.Plan.{release, task_of, units}
+use Rattle.msrp_plan.specs.Plan.{release, task_of}
 use Rattle.msrp_view.specs.Lives.{after_last}
 use Rattle.msrp_view.specs.Windows.{begun}
 use Rattle.msrp_view.proofs.TaskRows.{done_same, last_same, same_life}

@@ -1,0 +1,143 @@
+-- What the parser was told, and what it found.
+use Rattle.std.proofs.Common.{◌≡◌, ◌∙◌, ◌↔◌, ◌⊎◌, ◌&&◌, ◌<◌, ◌^◌, ℕ, Bool, true, false, List, [], ◌∷◌, length, Option, Some, None, Result, Ok, Err, IfErr, OkIff, MatchResult, find, ok_or, option_map, option_and_then, slice_get, refl, ap, ap₂, sym, inl, inr}
+use Rattle.std.specs.Borrow.{Bor}
+use Rattle.std.specs.Char.{is_ascii_digit}
+use Rattle.std.specs.List.{list_all}
+use Rattle.std.specs.Str.{all_ascii_digits, bytes_eq}
+use Rattle.std.specs.Str.Parse.{ParsesUnsigned, digits_value}
+use Rattle.std.proofs.lemmas.Bool.{cases_lt, le-ltb, lt-ltb}
+use Rattle.std.proofs.lemmas.Option.{slice_get-map}
+use Rattle.std.proofs.lemmas.Str.Parse.{numerals_by_value, parse_digits, tells_all_ascii_digits}
+use Rattle.clap.proofs.OnLiterals.{clap_on_literals}
+use Rattle.clap.proofs.WalkLemmas.{find_row}
+use Rattle.clap.specs.Facts.{Entry}
+use Rattle.clap.specs.Matches.{matched_of}
+use Rattle.clap.specs.Walk.{row_of}
+use Rattle.clap.specs.Words.{AddsArg, App, IsAmong, Kinds, Row, Rule, Text, app_of, first_of, first_value, is_simple, is_simple_and_free, rows_of, rule_of, with_rule}
+use Rattle.clap.specs.declared.builder.arg.Arg.{Arg}
+use Rattle.clap.specs.declared.builder.command.Command.{Command}
+use Rattle.clap.specs.declared.error.kind.ErrorKind.{ErrorKind}
+use Rattle.clap.specs.declared.parser.matches.Found.{Found}
+use Rattle.clap.specs.declared.parser.matches.ValueSource.{ValueSource}
+use Rattle.clap.specs.declared.parser.matches.ValueSource.TheVariants.{CommandLine, DefaultValue}
+use Rattle.msrp_cli.specs.declared.faults.CliFault.{CliFault}
+use Rattle.msrp_cli.specs.declared.faults.CliFault.TheVariants.{Memory, Usage}
+use Rattle.msrp_view.specs.declared.cli.Cmd.{Cmd}
+use Rattle.msrp_view.specs.declared.cli.Cmd.TheVariants.{View}
+use Rattle.msrp_view.specs.declared.windows.Style.{Style}
+use Rattle.msrp_view.specs.declared.windows.Asked.{Asked}
+use Rattle.msrp_view.specs.CommandLine.{IsAnswered, IsDrawn, answer_to, asked_by, grammar, is_from_words, source_of, tick_of, view_by}
+
+-- one argument more
+pub adds_rule : (old : Command) (arg : Arg) (new : Command) (words : App) (rule : Rule) → AddsArg old arg new → app_of old ≡ words → rule_of arg ≡ rule → arg.global ≡ false → app_of new ≡ with_rule words rule
+adds_rule old arg new words rule h told is own = h.shape own ∙ ap₂ with_rule told is
+
+-- the parser can tell of all words what it gives for them
+pub grammar_simple : is_simple grammar ≡ true
+unfolding clap_on_literals grammar
+grammar_simple = refl
+
+pub grammar_free : is_simple_and_free grammar ≡ true
+unfolding clap_on_literals grammar
+grammar_free = refl
+
+-- ---- what the parser found is what its rows say
+source_at : (entry : Option Entry) → option_and_then (λ a. a.source) (option_map (λ e. e.1) entry) ≡ option_and_then (λ r. r.source) (option_map row_of entry)
+source_at None = refl
+source_at (Some e) = refl
+
+pub source_is : (found : Found) (id : Text) → option_and_then (λ a. a.source) (matched_of found id) ≡ source_of id (rows_of found)
+source_is found id = source_at (find (λ e. bytes_eq e.0.now id) found.entries.items) ∙ ap (λ r. option_and_then (λ r. r.source) r) (sym (find_row found.entries.items id))
+
+-- a source is the words exactly if it equals them
+pub equals_words : (source : Option ValueSource) (b : Bool) → (b ≡ true ↔ source ≡ Some CommandLine) → b ≡ is_from_words source
+equals_words (Some CommandLine) b h = h.1 refl
+equals_words (Some DefaultValue) true h = let bad : Some DefaultValue ≡ Some CommandLine = h.0 refl in cc
+equals_words (Some DefaultValue) false h = refl
+equals_words None true h = let bad : None ≡ Some CommandLine = h.0 refl in cc
+equals_words None false h = refl
+
+first_at : (entry : Option Entry) → option_and_then (λ a. option_map (λ s. s.now) (slice_get a.vals.items 0)) (option_map (λ e. e.1) entry) ≡ option_and_then (λ r. slice_get r.values 0) (option_map row_of entry)
+first_at None = refl
+first_at (Some e) = sym (slice_get-map (λ s. s.now) e.1.vals.items 0)
+
+pub first_is : (found : Found) (id : Text) → first_value found id ≡ first_of id (rows_of found)
+first_is found id = first_at (find (λ e. bytes_eq e.0.now id) found.entries.items) ∙ ap (λ r. option_and_then (λ r. slice_get r.values 0) r) (sym (find_row found.entries.items id))
+
+-- what refused words are answered
+pub answered_fault : (kinds : Kinds) (rows : List Row) (k : ErrorKind) (result : Result Cmd CliFault) → IsAmong k kinds → result ≡ answer_to k → IsAnswered kinds rows result
+answered_fault [] rows k result among e = absurd among
+answered_fault (x ∷ kinds) rows k result among e = (k, among, e)
+
+-- ---- ticks
+same_digits : (word : Text) → all_ascii_digits word ≡ list_all is_ascii_digit word
+same_digits [] = refl
+same_digits (c ∷ cs) = ap (λ b. is_ascii_digit c && b) (same_digits cs)
+
+-- std's parsing of digits alone reads exactly ticks
+pub reads_tick : {E : Type 0} (word : Text) (r : Result ℕ E) → list_all is_ascii_digit word ≡ true → ParsesUnsigned 32 10 word r → MatchResult r (λ n. tick_of (Some word) ≡ Some (Some n)) (λ _. tick_of (Some word) ≡ None)
+reads_tick {E = E} word r digits parses = at r (parse_digits (numerals_by_value (λ ds. all_ascii_digits ds ≡ true) tells_all_ascii_digits) 32 word r parses (same_digits word ∙ digits))
+  where
+    at : (r : Result ℕ E) → OkIff r ((0 < length word) × (digits_value 10 word < 2 ^ 32)) (digits_value 10 word) → MatchResult r (λ n. tick_of (Some word) ≡ Some (Some n)) (λ _. tick_of (Some word) ≡ None)
+    at (Ok n) h = rw (lt-ltb 0 (length word) h.0.0, digits, lt-ltb (digits_value 10 word) (2 ^ 32) h.0.1) (ap (λ v. Some (Some v)) (sym h.1))
+    at (Err e) h = elim (cases_lt 0 (length word)) [
+      | inl some ↦ elim (cases_lt (digits_value 10 word) (2 ^ 32)) [
+        | inl fits ↦ absurd (h (some, fits))
+        | inr past ↦ rw (lt-ltb 0 (length word) some, digits, le-ltb (digits_value 10 word) (2 ^ 32) past) refl
+      ]
+      | inr none ↦ rw (le-ltb 0 (length word) none) refl
+    ]
+
+pub no_tick : (word : Text) → list_all is_ascii_digit word ≡ false → tick_of (Some word) ≡ None
+no_tick word other = elim (cases_lt 0 (length word)) [
+  | inl some ↦ rw (lt-ltb 0 (length word) some, other) refl
+  | inr none ↦ rw (le-ltb 0 (length word) none) refl
+]
+
+-- ---- what is told, part by part
+pub no_style : (style : Option Style) (from to : Option (Option ℕ)) (fault : CliFault) → Err fault ≡ ok_or style Usage → Err fault ≡ ok_or (asked_by style from to) Usage
+no_style None from to fault e = ap (λ f. Err f) (cc)
+no_style (Some s) from to fault e = absurd (cc)
+
+pub no_from : (style : Option Style) (from to : Option (Option ℕ)) (s : Style) (fault : CliFault) → Ok s ≡ ok_or style Usage → Err fault ≡ ok_or from Usage → Err fault ≡ ok_or (asked_by style from to) Usage
+no_from None from to s fault told e = absurd (cc)
+no_from (Some x) None to s fault told e = ap (λ f. Err f) (cc)
+no_from (Some x) (Some f) to s fault told e = absurd (cc)
+
+pub no_to : (style : Option Style) (from to : Option (Option ℕ)) (s : Style) (f : Option ℕ) (fault : CliFault) → Ok s ≡ ok_or style Usage → Ok f ≡ ok_or from Usage → Err fault ≡ ok_or to Usage → Err fault ≡ ok_or (asked_by style from to) Usage
+no_to None from to s f fault told first e = absurd (cc)
+no_to (Some x) None to s f fault told first e = absurd (cc)
+no_to (Some x) (Some y) None s f fault told first e = ap (λ f. Err f) (cc)
+no_to (Some x) (Some y) (Some z) s f fault told first e = absurd (cc)
+
+pub all_asked : (style : Option Style) (from to : Option (Option ℕ)) (s : Style) (f t : Option ℕ) → Ok s ≡ ok_or style Usage → Ok f ≡ ok_or from Usage → Ok t ≡ ok_or to Usage → Ok (record { style = s; from = f; to = t }) ≡ ok_or (asked_by style from to) Usage
+all_asked None from to s f t told first last = absurd (cc)
+all_asked (Some x) None to s f t told first last = absurd (cc)
+all_asked (Some x) (Some y) None s f t told first last = absurd (cc)
+all_asked (Some x) (Some y) (Some z) s f t told first last =
+    let a : s ≡ x = cc in
+    let b : f ≡ y = cc in
+    let c : t ≡ z = cc in
+    rw (a, b, c) refl
+
+pub no_paths : (paths : Option (Text × Text)) (asked : Option Asked) (fault : CliFault) (result : Result Cmd CliFault) → Err fault ≡ ok_or paths Usage → result ≡ Err fault → IsDrawn (view_by paths asked) result
+no_paths None asked fault result e is = is ∙ ap (λ f. Err f) (cc)
+no_paths (Some p) asked fault result e is = absurd (cc)
+
+pub none_asked : (paths : Option (Text × Text)) (asked : Option Asked) (p : Text × Text) (fault : CliFault) (result : Result Cmd CliFault) → Ok p ≡ ok_or paths Usage → Err fault ≡ ok_or asked Usage → result ≡ Err fault → IsDrawn (view_by paths asked) result
+none_asked None asked p fault result told e is = absurd (cc)
+none_asked (Some q) None p fault result told e is = is ∙ ap (λ f. Err f) (cc)
+none_asked (Some q) (Some a) p fault result told e is = absurd (cc)
+
+pub all_told : (paths : Option (Text × Text)) (asked : Option Asked) (a : Asked) (plan trace : Bor Text) → Ok (plan.now, trace.now) ≡ ok_or paths Usage → Ok a ≡ ok_or asked Usage → IsDrawn (view_by paths asked) (Ok (View a plan trace))
+all_told None asked a plan trace told e = absurd (cc)
+all_told (Some p) None a plan trace told e = absurd (cc)
+all_told (Some p) (Some x) a plan trace told e =
+    let both : (plan.now, trace.now) ≡ p = cc in
+    (cc, ap (λ q. q.0) both, ap (λ q. q.1) both)
+
+-- a picture's faults
+pub drawn_faults : (view : Option (Asked × Text × Text)) (result : Result Cmd CliFault) → IsDrawn view result → IfErr result (λ fault. (fault ≡ Usage) ⊎ (fault ≡ Memory))
+drawn_faults view (Ok command) h = tt
+drawn_faults None (Err fault) h = inl (cc)
+drawn_faults (Some v) (Err fault) h = absurd h
