@@ -117,7 +117,7 @@ unfoldable pub queues_key : List ℕ
 queues_key = codes "of a resource: the first in its queue after the tick, and how many wait behind it"
 
 unfoldable pub key_text : List ℕ
-key_text = codes "= works  ( locks  ) unlocks  [ is granted  ] releases  ? joins a queue  ~ spins (hatched)"
+key_text = codes "= works  ( locks  ) unlocks  [ gets  ] releases  ? joins a queue  ~ spins (hatched)"
 
 abbrev pub svg_legend : PlanModel → List ℕ
 svg_legend plan = flat_map (legend_line plan) (range_with_len 0 (length plan.tasks)) ++ text_text (codes "legend") LEFT (legend_top plan (length plan.tasks) + 10) key_text ++ text_text (codes "legend") LEFT (legend_top plan (length plan.tasks) + 28) arrows_key ++ text_text (codes "legend") LEFT (legend_top plan (length plan.tasks) + 46) lives_key ++ text_text (codes "legend") LEFT (legend_top plan (length plan.tasks) + 64) queues_key

@@ -57,7 +57,7 @@ fn style() -> &'static [u8]
 fn key() -> &'static [u8]
     ensures { result.now ≡ key_text }
 {
-    b"= works  ( locks  ) unlocks  [ is granted  ] releases  ? joins a queue  ~ spins (hatched)"
+    b"= works  ( locks  ) unlocks  [ gets  ] releases  ? joins a queue  ~ spins (hatched)"
 }
 
 // What the arrows mean.

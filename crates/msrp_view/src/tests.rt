@@ -23,7 +23,7 @@ const FAULTY: &[u8] =
     b"msrp-trace,1,2,6\n0,0,take,a,0,g\n0,1,queue,b,0,g\n1,0,run,a,0,-\n1,1,grant,b,0,g\n2,0,release,a,0,g\n";
 
 const LEGEND: &str =
-    "\na: a on core 0\nb: b on core 1\n= works  ( locks  ) unlocks  [ is granted  ] releases  ? joins a queue  ~ spins  ! breaks a rule\nof a resource: the first in its queue after the tick, and how many wait behind it\n";
+    "\na: a on core 0\nb: b on core 1\n= works  ( locks  ) unlocks  [ gets  ] releases  ? joins a queue  ~ spins  . idle  ! breaks a rule\nof a resource: the first in its queue after the tick, and how many wait behind it\n";
 
 const WHOLE: &str =
     "good\nticks 0 to 5 of 6\n\ntick              0----+\ncore 0            aaa...\n                  [=]...\ncore 1            bbbbb.\n                  ?~[=].\ng                 aabb..\n  waiting         11....\n";
