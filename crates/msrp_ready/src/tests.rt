@@ -3,8 +3,21 @@ use msrp_plan::{CoreId, JobId, Plan, PlanBuilder, PlanFault, Step, TaskId};
 use std::alloc::Global;
 use std::test::Fail;
 
-// The calls as they are, so that a test relies on what it sees and not on their contracts.
+// What a call is to answer.
+#[derive(Clone, Copy)]
+enum Call {
+    // The jobs released by this tick join.
+    Release(u32),
+    Head(Option<JobId>),
+    HeadAt(u32, Option<JobId>),
+    Take(Option<JobId>),
+}
 
+use Call::{Head, HeadAt, Release, Take};
+
+// The calls are made as they are: a test relies on what it sees, and not on their contracts.
+
+// Whether the jobs of this tick could join: no later tick was released to before.
 fn release_to(ready: &mut Ready<'_>, tick: u32) -> bool {
     match ready.tick() {
         Some(before) if tick < before => false,
@@ -15,10 +28,6 @@ fn release_to(ready: &mut Ready<'_>, tick: u32) -> bool {
     }
 }
 
-fn head(ready: &Ready<'_>) -> Option<JobId> {
-    ready.head()
-}
-
 fn head_at(ready: &Ready<'_>, tick: u32) -> Option<JobId> {
     match ready.tick() {
         Some(before) if tick < before => None,
@@ -26,12 +35,24 @@ fn head_at(ready: &Ready<'_>, tick: u32) -> Option<JobId> {
     }
 }
 
-fn take_head(ready: &mut Ready<'_>) -> Option<JobId> {
-    ready.take_head()
+// Whether the call answers what it is to.
+fn answers(ready: &mut Ready<'_>, call: Call) -> bool {
+    match call {
+        Release(tick) => release_to(ready, tick),
+        Head(job) => ready.head() == job,
+        HeadAt(tick, job) => head_at(ready, tick) == job,
+        Take(job) => ready.take_head() == job,
+    }
 }
 
-fn compared(ready: &Ready<'_>) -> u64 {
-    ready.compared()
+// The first call that doesn't answer what it is to, by its place.
+fn first_wrong(ready: &mut Ready<'_>, calls: &[Call]) -> Option<usize> {
+    for (at, call) in calls.iter().enumerate() {
+        if !answers(ready, *call) {
+            return Some(at);
+        }
+    }
+    None
 }
 
 fn work(builder: &mut PlanBuilder) -> Result<(), PlanFault> {
@@ -91,17 +112,20 @@ fn equal_deadlines_go_by_release(rt: HostRuntime) -> Result<(), Fail> {
     periodic(&mut builder, "y", [20, 8, 2])?;
     periodic(&mut builder, "x", [20, 10, 0])?;
     let plan = finished(builder)?;
+    let calls = [
+        Head(None),
+        HeadAt(2, job(1, 0)),
+        Release(2),
+        Head(job(1, 0)),
+        Take(job(1, 0)),
+        Take(job(0, 0)),
+        Take(None),
+    ];
     let Ok(mut ready) = Ready::with_room(rt.alloc(), &plan, CoreId(0)) else {
         return Err(Fail::from("memory"));
     };
-    assert_eq!(rt; head(&ready), None);
-    assert_eq!(rt; head_at(&ready, 2), job(1, 0));
-    assert!(rt; release_to(&mut ready, 2));
-    assert_eq!(rt; head(&ready), job(1, 0));
-    assert_eq!(rt; take_head(&mut ready), job(1, 0));
-    assert_eq!(rt; take_head(&mut ready), job(0, 0));
-    assert_eq!(rt; take_head(&mut ready), None);
-    assert_eq!(rt; compared(&ready), 1);
+    assert_eq!(rt; first_wrong(&mut ready, &calls), None);
+    assert_eq!(rt; ready.compared(), 1);
     Ok(())
 }
 
@@ -113,20 +137,23 @@ fn blocked_head_stays(rt: HostRuntime) -> Result<(), Fail> {
     periodic(&mut builder, "j2", [40, 15, 1])?;
     periodic(&mut builder, "j", [40, 5, 12])?;
     let plan = finished(builder)?;
+    let calls = [
+        Release(0),
+        Take(job(0, 0)),
+        Release(1),
+        Head(job(1, 0)),
+        HeadAt(11, job(1, 0)),
+        HeadAt(12, job(1, 0)),
+        Release(12),
+        Head(job(1, 0)),
+        Release(14),
+        Take(job(1, 0)),
+        Take(job(2, 0)),
+    ];
     let Ok(mut ready) = Ready::with_room(rt.alloc(), &plan, CoreId(0)) else {
         return Err(Fail::from("memory"));
     };
-    assert!(rt; release_to(&mut ready, 0));
-    assert_eq!(rt; take_head(&mut ready), job(0, 0));
-    assert!(rt; release_to(&mut ready, 1));
-    assert_eq!(rt; head(&ready), job(1, 0));
-    assert_eq!(rt; head_at(&ready, 11), job(1, 0));
-    assert_eq!(rt; head_at(&ready, 12), job(1, 0));
-    assert!(rt; release_to(&mut ready, 12));
-    assert_eq!(rt; head(&ready), job(1, 0));
-    assert!(rt; release_to(&mut ready, 14));
-    assert_eq!(rt; take_head(&mut ready), job(1, 0));
-    assert_eq!(rt; take_head(&mut ready), job(2, 0));
+    assert_eq!(rt; first_wrong(&mut ready, &calls), None);
     assert_eq!(rt; ready.tick(), Some(14));
     Ok(())
 }
@@ -137,21 +164,25 @@ fn listed_jobs_come_at_their_ticks(rt: HostRuntime) -> Result<(), Fail> {
     listed(&mut builder, "a", 4, &[1, 2, 7])?;
     periodic(&mut builder, "b", [4, 4, 0])?;
     let plan = finished(builder)?;
+    let calls = [
+        Release(1),
+        HeadAt(9, job(1, 0)),
+        Take(job(1, 0)),
+        Take(job(0, 0)),
+        Take(None),
+        HeadAt(1, None),
+        HeadAt(9, job(0, 1)),
+        Release(9),
+        Take(job(0, 1)),
+        Take(job(1, 1)),
+        Take(job(0, 2)),
+        Take(job(1, 2)),
+        Take(None),
+    ];
     let Ok(mut ready) = Ready::with_room(rt.alloc(), &plan, CoreId(0)) else {
         return Err(Fail::from("memory"));
     };
-    assert!(rt; release_to(&mut ready, 1));
-    assert_eq!(rt; head_at(&ready, 9), job(1, 0));
-    assert_eq!(rt; take_head(&mut ready), job(1, 0));
-    assert_eq!(rt; take_head(&mut ready), job(0, 0));
-    assert_eq!(rt; take_head(&mut ready), None);
-    assert_eq!(rt; head_at(&ready, 1), None);
-    assert_eq!(rt; head_at(&ready, 9), job(0, 1));
-    assert!(rt; release_to(&mut ready, 9));
-    for (task, k) in [(0, 1), (1, 1), (0, 2), (1, 2)] {
-        assert_eq!(rt; take_head(&mut ready), job(task, k));
-    }
-    assert_eq!(rt; take_head(&mut ready), None);
+    assert_eq!(rt; first_wrong(&mut ready, &calls), None);
     Ok(())
 }
 
@@ -170,11 +201,11 @@ fn full(alloc: Global) -> Result<Plan, PlanFault> {
 fn leaves_next(ready: &mut Ready<'_>, task: u32) -> bool {
     let mut good = true;
     for k in 0..128u32 {
-        let before = compared(ready);
-        let seen = head(ready);
-        let unchanged = compared(ready) == before;
-        let taken = take_head(ready);
-        let more = compared(ready).saturating_sub(before);
+        let before = ready.compared();
+        let seen = ready.head();
+        let unchanged = ready.compared() == before;
+        let taken = ready.take_head();
+        let more = ready.compared().saturating_sub(before);
         good = good && seen == job(task, k) && unchanged && taken == seen && more <= 26;
     }
     good
@@ -186,11 +217,10 @@ fn most_jobs_leave_task_by_task(rt: HostRuntime) -> Result<(), Fail> {
     let Ok(mut ready) = Ready::with_room(rt.alloc(), &plan, CoreId(0)) else {
         return Err(Fail::from("memory"));
     };
-    assert!(rt; release_to(&mut ready, 8_191));
-    assert!(rt; compared(&ready) <= 13 * 8_192);
+    assert!(rt; answers(&mut ready, Release(8_191)) && ready.compared() <= 13 * 8_192);
     for t in 0..64u32 {
         assert!(rt; leaves_next(&mut ready, 63 - t));
     }
-    assert_eq!(rt; take_head(&mut ready), None);
+    assert_eq!(rt; ready.take_head(), None);
     Ok(())
 }
