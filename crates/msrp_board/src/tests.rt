@@ -162,6 +162,14 @@ fn enter_both(rt: &impl Abort, board: &Board, zero: &mut BoardSeat, one: &mut Bo
     enter(rt, board, one);
 }
 
+/// What both cores see.
+fn look_both(rt: &impl Abort, board: &Board, zero: &mut BoardSeat, one: &mut BoardSeat) -> [Look; 2]
+    requires { IsCoreSeatOn board.now zero.old × IsCoreSeatOn board.now one.old }
+    ensures { IsCoreSeatOn board.now zero.new × IsCoreSeatOn board.now one.new }
+{
+    [look(rt, board, zero), look(rt, board, one)]
+}
+
 /// Both cores arrive, and are let into the next tick.
 fn next_tick(rt: &impl Abort, board: &Board, zero: &mut BoardSeat, one: &mut BoardSeat)
     requires { IsCoreSeatOn board.now zero.old × IsCoreSeatOn board.now one.old }
@@ -180,50 +188,36 @@ fn handover_takes_the_next_poll(rt: HostRuntime) {
     let (board, mut rest, mut zero, mut one) = two(&rt, rt.alloc(), 6);
     open(&rt, &board, &mut rest);
     enter_both(&rt, &board, &mut zero, &mut one);
-    assert_eq!(rt;
+    let asked = [
         ask(&rt, &board, &mut zero, RES),
-        Asked { place: 0, ahead: 0 }
-    );
-    assert_eq!(rt;
         ask(&rt, &board, &mut one, RES),
-        Asked { place: 1, ahead: 1 }
-    );
+    ];
     next_tick(&rt, &board, &mut zero, &mut one);
-    assert_eq!(rt;
-        poll(&rt, &board, &mut one),
-        Polled {
-            place: 2,
-            granted: false
-        }
-    );
+    let in_one = poll(&rt, &board, &mut one);
     next_tick(&rt, &board, &mut zero, &mut one);
-    assert_eq!(rt;
-        poll(&rt, &board, &mut one),
-        Polled {
-            place: 2,
-            granted: false
-        }
-    );
-    assert_eq!(rt; leave(&rt, &board, &mut zero), 2);
+    let in_two = poll(&rt, &board, &mut one);
+    let left_in_two = leave(&rt, &board, &mut zero);
     next_tick(&rt, &board, &mut zero, &mut one);
-    assert_eq!(rt;
-        poll(&rt, &board, &mut one),
-        Polled {
-            place: 3,
-            granted: true
-        }
-    );
+    let in_three = poll(&rt, &board, &mut one);
     next_tick(&rt, &board, &mut zero, &mut one);
     next_tick(&rt, &board, &mut zero, &mut one);
-    assert_eq!(rt; leave(&rt, &board, &mut one), 3);
+    let left_in_five = leave(&rt, &board, &mut one);
     arrive(&rt, &board, &mut zero);
     arrive(&rt, &board, &mut one);
-    assert_eq!(rt; zero.phase(), SeatPhase::Done);
-    assert_eq!(rt; one.tick(), 6);
+    assert_eq!(rt;
+        asked,
+        [Asked { place: 0, ahead: 0 }, Asked { place: 1, ahead: 1 }]
+    );
+    let polled = [(2u32, false), (2, false), (3, true)].map(|(place, granted)| Polled {
+        place,
+        granted,
+    });
+    assert_eq!(rt; [in_one, in_two, in_three], polled);
+    assert_eq!(rt; [left_in_two, left_in_five], [2, 3]);
+    assert_eq!(rt; (zero.phase(), one.tick()), (SeatPhase::Done, 6));
     let rest = board.join(rest, zero);
     let all = board.join(rest, one);
     let settled = end(&rt, board, 2, all);
-    assert_eq!(rt; settled.word(RES), (2, 2));
     assert_eq!(rt; word_bytes(&settled), [0, 0, 0, 2, 0, 0, 0, 2]);
 }
 
@@ -233,16 +227,18 @@ fn two_requests_are_counted(rt: HostRuntime) {
     open(&rt, &board, &mut rest);
     enter(&rt, &board, &mut zero);
     enter(&rt, &board, &mut one);
-    assert_eq!(rt;
+    let asked = [
         ask(&rt, &board, &mut zero, RES),
-        Asked { place: 0, ahead: 0 }
+        ask(&rt, &board, &mut one, RES),
+    ];
+    assert_eq!(rt;
+        asked,
+        [Asked { place: 0, ahead: 0 }, Asked { place: 1, ahead: 1 }]
     );
     assert_eq!(rt;
-        ask(&rt, &board, &mut one, RES),
-        Asked { place: 1, ahead: 1 }
+        [zero.lock(), one.lock()],
+        [Phase::Holding(RES), Phase::Queued(RES)]
     );
-    assert_eq!(rt; zero.lock(), Phase::Holding(RES));
-    assert_eq!(rt; one.lock(), Phase::Queued(RES));
     assert!(rt; one.acted());
     let rest = board.join(rest, zero);
     let all = board.join(rest, one);
@@ -253,16 +249,18 @@ fn two_requests_are_counted(rt: HostRuntime) {
 #[test]
 fn cores_meet_between_ticks(rt: HostRuntime) {
     let (board, mut rest, mut zero, mut one) = two(&rt, rt.alloc(), 2);
-    assert_eq!(rt; look(&rt, &board, &mut zero), Look::Wait);
-    assert_eq!(rt; look(&rt, &board, &mut one), Look::Wait);
+    let before = look_both(&rt, &board, &mut zero, &mut one);
     open(&rt, &board, &mut rest);
-    assert_eq!(rt; look(&rt, &board, &mut zero), Look::Go);
-    assert_eq!(rt; look(&rt, &board, &mut one), Look::Go);
+    let opened = look_both(&rt, &board, &mut zero, &mut one);
     arrive(&rt, &board, &mut zero);
-    assert_eq!(rt; look(&rt, &board, &mut zero), Look::Wait);
+    let alone = look(&rt, &board, &mut zero);
     arrive(&rt, &board, &mut one);
-    assert_eq!(rt; look(&rt, &board, &mut zero), Look::Go);
-    assert_eq!(rt; look(&rt, &board, &mut one), Look::Go);
+    let met = look_both(&rt, &board, &mut zero, &mut one);
+    assert_eq!(rt;
+        [before, opened, met],
+        [[Look::Wait; 2], [Look::Go; 2], [Look::Go; 2]]
+    );
+    assert_eq!(rt; alone, Look::Wait);
     assert_eq!(rt; (zero.tick(), one.tick()), (1, 1));
 }
 
@@ -271,8 +269,8 @@ fn an_abort_is_told(rt: HostRuntime) {
     let (board, mut rest, mut zero, mut one) = two(&rt, rt.alloc(), 2);
     abort(&rt, &board, &mut rest);
     assert_eq!(rt; rest.conductor(), Some(Conductor::Aborted));
-    assert_eq!(rt; look(&rt, &board, &mut zero), Look::Stopped);
-    assert_eq!(rt; look(&rt, &board, &mut one), Look::Stopped);
+    let stopped = look_both(&rt, &board, &mut zero, &mut one);
+    assert_eq!(rt; stopped, [Look::Stopped; 2]);
     assert_eq!(rt; (zero.phase(), zero.tick()), (SeatPhase::Stopped, 0));
 }
 
