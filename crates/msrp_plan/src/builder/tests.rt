@@ -142,10 +142,11 @@ fn two_tasks(alloc: Global) -> Result<PlanBuilder, PlanFault> {
 #[test]
 fn a_builder_is_read(rt: HostRuntime) -> Result<(), Fail> {
     let mut builder = two_tasks(rt.alloc())?;
-    assert_eq!(rt; builder.res_of("h"), Some(ResId(1)));
-    assert_eq!(rt; builder.res_of("a"), None);
-    assert_eq!(rt; builder.tasks(), 2);
-    assert_eq!(rt; task(&mut builder, "c", 1, [7, 3, 2])?, TaskId(2));
+    let found = [builder.res_of("h"), builder.res_of("a")];
+    assert_eq!(rt; found, [Some(ResId(1)), None]);
+    let tasks = builder.tasks();
+    let newest = task(&mut builder, "c", 1, [7, 3, 2])?;
+    assert_eq!(rt; [tasks, newest.0], [2, 2]);
     Ok(())
 }
 
@@ -154,11 +155,13 @@ fn numbers_are_read_back(rt: HostRuntime) -> Result<(), Fail> {
     let Ok(plan) = finish(two_tasks(rt.alloc())?) else {
         return Err(Fail::from("the plan is refused"));
     };
-    assert_eq!(rt; plan.cores(), 2);
-    assert_eq!(rt; plan.ticks(), 10);
     assert!(rt; plan.tasks() == 2);
-    assert_eq!(rt; plan.core_of(TaskId(1)), CoreId(1));
-    assert_eq!(rt; plan.deadline(TaskId(1)), 3);
+    let core = plan.core_of(TaskId(1));
+    let deadline = plan.deadline(TaskId(1));
+    assert_eq!(rt;
+        [plan.cores(), plan.ticks(), core.0, deadline],
+        [2, 10, 1, 3]
+    );
     Ok(())
 }
 
@@ -173,8 +176,7 @@ fn times_are_read_back(rt: HostRuntime) -> Result<(), Fail> {
         offset: 2,
     };
     assert_eq!(rt; plan.times(TaskId(1)), times);
-    assert_eq!(rt; plan.jobs(TaskId(0)), 3);
-    assert_eq!(rt; plan.jobs(TaskId(1)), 2);
+    assert_eq!(rt; [plan.jobs(TaskId(0)), plan.jobs(TaskId(1))], [3, 2]);
     Ok(())
 }
 
@@ -184,17 +186,21 @@ fn names_and_units_are_read_back(rt: HostRuntime) -> Result<(), Fail> {
     let Ok(plan) = finish(started(rt.alloc(), &steps)?) else {
         return Err(Fail::from("the plan is refused"));
     };
-    assert!(rt; plan.tasks() == 1);
-    assert!(rt; plan.resources() == 2);
-    assert_eq!(rt; plan.task_name(TaskId(0)), "a");
-    assert_eq!(rt; plan.res_name(ResId(1)), "h");
-    assert_eq!(rt; plan.task_of("a"), Some(TaskId(0)));
-    assert_eq!(rt; plan.task_of("g"), None);
+    assert!(rt; plan.tasks() == 1 && plan.resources() == 2);
+    assert_eq!(rt;
+        [plan.task_name(TaskId(0)), plan.res_name(ResId(1))],
+        ["a", "h"]
+    );
+    assert_eq!(rt;
+        [plan.task_of("a"), plan.task_of("g")],
+        [Some(TaskId(0)), None]
+    );
     assert_eq!(rt; plan.res_of("h"), Some(ResId(1)));
-    assert!(rt; plan.units(TaskId(0)) == 4);
-    assert_eq!(rt; plan.unit(TaskId(0), 0), Op::Lock(ResId(1)));
-    assert_eq!(rt; plan.unit(TaskId(0), 2), Op::Run);
-    assert_eq!(rt; plan.unit(TaskId(0), 3), Op::Unlock(ResId(1)));
+    let task = TaskId(0);
+    assert!(rt; plan.units(task) == 4);
+    let units = [plan.unit(task, 0), plan.unit(task, 2), plan.unit(task, 3)];
+    let told = [Op::Lock(ResId(1)), Op::Run, Op::Unlock(ResId(1))];
+    assert_eq!(rt; units, told);
     Ok(())
 }
 
@@ -203,8 +209,7 @@ fn jobs_are_read_back(rt: HostRuntime) -> Result<(), Fail> {
     let Ok(plan) = finish(started(rt.alloc(), &[Step::Run(1)])?) else {
         return Err(Fail::from("the plan is refused"));
     };
-    assert!(rt; plan.tasks() == 1);
-    assert!(rt; plan.jobs(TaskId(0)) == 3);
+    assert!(rt; plan.tasks() == 1 && plan.jobs(TaskId(0)) == 3);
     let job = JobId {
         task: TaskId(0),
         k: 2,
@@ -253,9 +258,8 @@ fn listed_releases_are_read_back(rt: HostRuntime) -> Result<(), Fail> {
     let Ok(plan) = finish(builder) else {
         return Err(Fail::from("the plan is refused"));
     };
-    assert!(rt; plan.tasks() == 1);
+    assert!(rt; plan.tasks() == 1 && plan.jobs(TaskId(0)) == 2);
     assert_eq!(rt; plan.times(TaskId(0)), Times::Listed { count: 3 });
-    assert_eq!(rt; plan.jobs(TaskId(0)), 2);
     let mut ticks = [0u64; 3];
     releases(&plan, &mut ticks);
     assert_eq!(rt; ticks, [1, 4, 1_000_000]);
@@ -273,18 +277,23 @@ fn releases_are_refused(rt: HostRuntime) -> Result<(), Fail> {
     ] {
         assert_eq!(rt; listed(alloc, &ticks).err(), Some(fault));
     }
-    let mut bare = listed(alloc, &[])?;
-    let nothing = told(&mut bare, &[Step::Run(0)]);
-    assert_eq!(rt; nothing.err(), Some(PlanFault::Releases));
-    assert_eq!(rt;
-        task(&mut bare, "B", 9, [0, 0, 0]).err(),
-        Some(PlanFault::Releases)
-    );
-    assert_eq!(rt;
-        finish(bare).err().map(|refused| refused.1),
-        Some(PlanFault::Releases)
-    );
-    let mut full = listed(alloc, &[])?;
+    Ok(())
+}
+
+// A listed task without a release takes no unit, no task comes after it, and the plan doesn't end.
+#[test]
+fn no_release_is_refused(rt: HostRuntime) -> Result<(), Fail> {
+    let mut bare = listed(rt.alloc(), &[])?;
+    let unit = told(&mut bare, &[Step::Run(0)]).err();
+    let next = task(&mut bare, "B", 9, [0, 0, 0]).err();
+    let end = finish(bare).err().map(|refused| refused.1);
+    assert_eq!(rt; [unit, next, end], [Some(PlanFault::Releases); 3]);
+    Ok(())
+}
+
+#[test]
+fn releases_are_limited(rt: HostRuntime) -> Result<(), Fail> {
+    let mut full = listed(rt.alloc(), &[])?;
     for tick in 0..8_192u32 {
         if full.takes_releases() {
             full.release(tick)?;
@@ -296,32 +305,35 @@ fn releases_are_refused(rt: HostRuntime) -> Result<(), Fail> {
 }
 
 #[test]
-fn plans_and_resources_are_refused(rt: HostRuntime) -> Result<(), Fail> {
+fn plans_are_refused(rt: HostRuntime) -> Result<(), Fail> {
     let alloc = rt.alloc();
     for (cores, ticks) in [(0u32, 1u32), (9, 1), (1, 0), (1, 20_001)] {
         assert_eq!(rt; new(alloc, cores, ticks).err(), Some(PlanFault::Limit));
     }
     assert!(rt; new(alloc, 8, 20_000).is_ok());
-    let full = [
-        ("", PlanFault::Name),
-        ("R", PlanFault::Name),
-        ("r1", PlanFault::Taken),
-        ("fresh", PlanFault::Limit),
+    Ok(())
+}
+
+#[test]
+fn resources_are_refused(rt: HostRuntime) -> Result<(), Fail> {
+    let alloc = rt.alloc();
+    let rows = [
+        (32u32, "", PlanFault::Name),
+        (32, "R", PlanFault::Name),
+        (32, "r1", PlanFault::Taken),
+        (32, "fresh", PlanFault::Limit),
+        (0, "1a", PlanFault::Name),
+        (0, "_a", PlanFault::Name),
+        (0, "a b", PlanFault::Name),
+        (0, "seventeen_letters", PlanFault::Name),
     ];
-    for (name, fault) in full {
-        assert_eq!(rt;
-            resource(&mut with_resources(alloc, 32)?, name).err(),
-            Some(fault)
-        );
+    for (count, name, fault) in rows {
+        let mut builder = with_resources(alloc, count)?;
+        assert_eq!(rt; resource(&mut builder, name).err(), Some(fault), "{name}");
     }
     for name in ["a_9", "sixteen_letters_"] {
-        assert_eq!(rt; resource(&mut with_resources(alloc, 31)?, name)?, ResId(31));
-    }
-    for name in ["1a", "_a", "a b", "seventeen_letters"] {
-        assert_eq!(rt;
-            resource(&mut with_resources(alloc, 0)?, name).err(),
-            Some(PlanFault::Name)
-        );
+        let mut builder = with_resources(alloc, 31)?;
+        assert_eq!(rt; resource(&mut builder, name)?, ResId(31));
     }
     Ok(())
 }
@@ -406,16 +418,12 @@ fn steps_are_refused(rt: HostRuntime) -> Result<(), Fail> {
 fn ends_are_refused(rt: HostRuntime) -> Result<(), Fail> {
     let alloc = rt.alloc();
     let nested = Step::Lock(ResId(1));
-    assert_eq!(rt; end_fault(alloc, &[]), Some(PlanFault::NoUnit));
-    assert_eq!(rt; end_fault(alloc, &[nested]), Some(PlanFault::Nesting));
-    assert_eq!(rt;
-        global_fault(alloc, nested, 1)?,
-        Some(PlanFault::NestedGlobal)
-    );
-    assert_eq!(rt;
-        global_fault(alloc, nested, 20_000)?,
-        Some(PlanFault::NestedGlobal)
-    );
+    let local = [end_fault(alloc, &[]), end_fault(alloc, &[nested])];
+    assert_eq!(rt; local, [Some(PlanFault::NoUnit), Some(PlanFault::Nesting)]);
+    for ticks in [1u32, 20_000] {
+        let fault = global_fault(alloc, nested, ticks)?;
+        assert_eq!(rt; fault, Some(PlanFault::NestedGlobal));
+    }
     for (ticks, fault) in [(8_192u32, None), (8_193, Some(PlanFault::Jobs))] {
         let mut builder = new(alloc, 1, ticks)?;
         task(&mut builder, "a", 0, [1, 1, 0])?;
@@ -428,22 +436,23 @@ fn ends_are_refused(rt: HostRuntime) -> Result<(), Fail> {
 #[test]
 fn a_refused_builder_goes_on(rt: HostRuntime) -> Result<(), Fail> {
     let mut builder = started(rt.alloc(), &[Step::Lock(ResId(0))])?;
-    assert_eq!(rt; resource(&mut builder, "g").err(), Some(PlanFault::Taken));
-    assert_eq!(rt;
-        told(&mut builder, &[Step::Unlock(ResId(1))]).err(),
-        Some(PlanFault::Nesting)
-    );
+    let taken = resource(&mut builder, "g").err();
+    let nesting = told(&mut builder, &[Step::Unlock(ResId(1))]).err();
     let Err((mut builder, fault)) = finish(builder) else {
         return Err(Fail::from("the plan is accepted"));
     };
-    assert_eq!(rt; fault, PlanFault::Nesting);
+    let faults = [
+        Some(PlanFault::Taken),
+        Some(PlanFault::Nesting),
+        Some(PlanFault::Nesting),
+    ];
+    assert_eq!(rt; [taken, nesting, Some(fault)], faults);
     assert_eq!(rt; resource(&mut builder, "i")?, ResId(2));
     told(&mut builder, &[Step::Unlock(ResId(0))])?;
     let Ok(plan) = finish(builder) else {
         return Err(Fail::from("the plan is refused"));
     };
-    assert_eq!(rt; plan.resources(), 3);
     assert!(rt; plan.tasks() == 1);
-    assert_eq!(rt; plan.units(TaskId(0)), 2);
+    assert_eq!(rt; [plan.resources(), plan.units(TaskId(0))], [3, 2]);
     Ok(())
 }
