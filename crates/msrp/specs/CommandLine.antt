@@ -1,37 +1,23 @@
 -- The words that the program takes, as the parser is told of them, and what is answered.
-use Rattle.std.specs.Prelude.{◌≡◌, List, [], ◌∷◌, Option, Some, None, codes, true, Ok, Err, IsOkAnd}
+use Rattle.std.specs.Prelude.{◌≡◌, List, [], ◌∷◌, Option, Some, None, codes, IsOkAnd}
 use Rattle.std.specs.declared.result.Result.{Result}
 use Rattle.clap.specs.Words.{App, IsAmong, Kinds, Row, Rule, Text, app_of, new_app, new_rule, with_rule, with_subcommand}
 use Rattle.clap.specs.declared.builder.command.Command.{Command}
-use Rattle.clap.specs.declared.builder.action.ArgAction.TheVariants.{SetTrue}
 use Rattle.clap.specs.declared.error.kind.ErrorKind.{ErrorKind}
-use Rattle.clap.specs.declared.error.kind.ErrorKind.TheVariants as kind
 use Rattle.msrp.specs.Words.{IsAsked, IsCommand}
 use Rattle.msrp.specs.declared.cli.Cmd.{Cmd}
 use Rattle.msrp.specs.declared.cli.Cmd.TheVariants.{Help}
+use Rattle.msrp_cli.specs.Arguments.{fault_of_words, flag, help_unless, valued, wanted}
 use Rattle.msrp_cli.specs.declared.faults.CliFault.{CliFault}
-use Rattle.msrp_cli.specs.declared.faults.CliFault.TheVariants.{Memory, Usage}
 
 -- ---- arguments
--- a flag
-abbrev pub flag : Text → Rule
-flag name = record (new_rule name) { long = Some name; action = Some SetTrue }
-
--- a path that must be given
-abbrev pub wanted : Text → Rule
-wanted name = record (new_rule name) { required = true }
-
--- the order of turns, of which the help names one value
-abbrev pub order : Rule
-order = record (new_rule (codes "order")) { long = Some (codes "order"); value_names = 1 }
-
 -- the path of a plan, which need not be given
 abbrev pub plan : Rule
 plan = new_rule (codes "PLAN")
 
 -- ---- commands
 abbrev pub sim : App
-sim = with_rule (with_rule (with_rule (new_app (codes "sim")) order) (flag (codes "ahead"))) plan
+sim = with_rule (with_rule (with_rule (new_app (codes "sim")) (valued (codes "order"))) (flag (codes "ahead"))) plan
 
 abbrev pub run : App
 run = with_rule (with_rule (new_app (codes "run")) (flag (codes "ahead"))) plan
@@ -62,11 +48,9 @@ abbrev pub Takes : App → Command → Type 0
 Takes words command = app_of command ≡ words
 
 -- ---- answers
--- what a fault of the words is answered: the help where it is asked for, want of memory as such, and usage for all else
+-- what a fault of the words is answered: the help where it is asked for, which is no fault
 abbrev pub answer_to : ErrorKind → Result Cmd CliFault
-answer_to kind.DisplayHelp = Ok Help
-answer_to kind.OutOfMemory = Err Memory
-answer_to _ = Err Usage
+answer_to kind = help_unless Help (fault_of_words kind)
 
 -- words without a command ask for what `sim` asks for with nothing after it, the simulation of standard input; those after a
 -- command ask for that command, as they tell it, or for what it doesn't take

@@ -1,16 +1,17 @@
 //! The command line: the words of a command, and what they ask for.
 
 ghost use Rattle.std.specs.Prelude.{◌≡◌, ◌⊎◌, codes, false, map, ok_or, option_map, string_bytes, Err, IfErr, IfOk};
-ghost use Rattle.std.specs.Result.{result_map_both};
 ghost use Rattle.clap.specs.Words.{App, fault_of, found_of, rows_of, rule_of, subcommand_of, subcommand_rows_of};
 ghost use Rattle.msrp.specs.CommandLine as line;
 ghost use Rattle.msrp.specs.CommandLine.{IsAnswered, IsChosen, Takes};
-ghost use Rattle.msrp.specs.Words.{IsAsked, IsCommand, both_of, is_given, order_of, plan_path};
+ghost use Rattle.msrp.specs.Words.{IsAsked, IsCommand, order_of, plan_path};
 
 use clap::error::ErrorKind;
-use clap::parser::ValueSource;
-use clap::{Arg, ArgAction, ArgMatches, Command, Error};
-use msrp_cli::{CliFault, STANDARD};
+use clap::{Arg, ArgMatches, Command, Error};
+use msrp_cli::{
+    CliFault, PLAN, STANDARD, TRACE, both_paths, fault_of_words, flag, is_given, path, value_of,
+    valued,
+};
 use std::alloc::{AllocError, Global};
 
 /// The order of the cores in each tick of a simulation.
@@ -62,10 +63,6 @@ pub enum Cmd<'a> {
 }
 
 // The words of arguments, by which they are declared and found again.
-const PLAN: &str = "PLAN";
-
-const TRACE: &str = "TRACE";
-
 const ORDER: &str = "order";
 
 const AHEAD: &str = "ahead";
@@ -73,16 +70,6 @@ const AHEAD: &str = "ahead";
 const PARALLEL: &str = "parallel";
 
 const TEXT: &str = "text";
-
-fn flag<'a>(alloc: Global, name: &'a str, help: &'a str) -> Arg<'a>
-    ensures rule { rule_of result ≡ line.flag name.now }
-    ensures own { result.global ≡ false }
-{
-    Arg::new(alloc, name)
-        .long(name)
-        .action(ArgAction::SetTrue)
-        .help(help)
-}
 
 fn plan_path<'a>(alloc: Global) -> Arg<'a>
     ensures rule { rule_of result ≡ line.plan }
@@ -95,27 +82,23 @@ fn plan_path<'a>(alloc: Global) -> Arg<'a>
 fn judge<'a>(alloc: Global, name: &'a str, about: &'a str) -> Result<Command<'a>, AllocError>
     ensures { IfOk result (Takes (line.judge name.now)) }
 {
-    let plan = Arg::new(alloc, PLAN)
-        .required(true)
-        .help("the plan's path; - is standard input");
-    let trace = Arg::new(alloc, TRACE)
-        .required(true)
-        .help("the trace's path; - is standard input");
-    Command::new(alloc, name).about(about).arg(plan)?.arg(trace)
+    Command::new(alloc, name)
+        .about(about)
+        .arg(path(alloc, PLAN, "the plan's path; - is standard input"))?
+        .arg(path(alloc, TRACE, "the trace's path; - is standard input"))
 }
 
 fn sim<'a>(alloc: Global) -> Result<Command<'a>, AllocError>
     ensures { IfOk result (Takes line.sim) }
 {
-    let order = Arg::new(alloc, ORDER)
-        .long(ORDER)
-        .value_name("asc|desc|rot")
-        .help(
-            "the order of the cores in each tick: rising, falling, or from core t mod m on in tick t",
-        );
     Command::new(alloc, "sim")
         .about("writes the trace of the plan's run on one thread")
-        .arg(order)?
+        .arg(valued(
+            alloc,
+            ORDER,
+            "asc|desc|rot",
+            "the order of the cores in each tick: rising, falling, or from core t mod m on in tick t",
+        ))?
         .arg(flag(
             alloc,
             AHEAD,
@@ -213,18 +196,11 @@ pub fn help_text<'a>(alloc: Global, words: &'a [String]) -> Result<String, CliFa
     }
 }
 
-// Whether an argument is given in the words.
-fn is_given(matches: &ArgMatches<'_>, name: &str) -> bool
-    ensures { result ≡ is_given name.now (rows_of (found_of matches.now)) }
-{
-    matches.value_source(name) == Some(ValueSource::CommandLine)
-}
-
 // The path of the plan: standard input where none is given.
 fn plan_of<'a>(matches: &ArgMatches<'a>) -> &'a str
     ensures { result.now ≡ plan_path (rows_of (found_of matches.now)) }
 {
-    match matches.get_str(PLAN) {
+    match value_of(matches, PLAN) {
         Some(path) => path,
         None => STANDARD,
     }
@@ -242,24 +218,11 @@ fn order_of(word: Option<&str>) -> Result<TurnOrder, CliFault>
     }
 }
 
-// The paths of a plan and a trace, which are not both standard input.
-fn both_of<'a>(
-    plan: Option<&'a str>,
-    trace: Option<&'a str>,
-) -> Result<(&'a str, &'a str), CliFault>
-    ensures { result_map_both (λ paths. (paths.0.now, paths.1.now)) (λ fault. fault) result ≡ ok_or (both_of (option_map (λ path. path.now) plan.entry) (option_map (λ path. path.now) trace.entry)) CliFault.Usage }
-{
-    match (plan, trace) {
-        (Some(plan), Some(trace)) if plan != STANDARD || trace != STANDARD => Ok((plan, trace)),
-        _ => Err(CliFault::Usage),
-    }
-}
-
 fn sim_of<'a>(matches: &ArgMatches<'a>) -> Result<Cmd<'a>, CliFault>
     ensures { IsAsked (codes "sim") (rows_of (found_of matches.now)) result }
 {
     Ok(Cmd::Sim {
-        order: order_of(matches.get_str(ORDER))?,
+        order: order_of(value_of(matches, ORDER))?,
         ahead: is_given(matches, AHEAD),
         plan: plan_of(matches),
     })
@@ -288,7 +251,7 @@ fn check_of<'a>(matches: &ArgMatches<'a>) -> Cmd<'a>
 fn audit_of<'a>(matches: &ArgMatches<'a>) -> Result<Cmd<'a>, CliFault>
     ensures { IsAsked (codes "audit") (rows_of (found_of matches.now)) result }
 {
-    let (plan, trace) = both_of(matches.get_str(PLAN), matches.get_str(TRACE))?;
+    let (plan, trace) = both_paths(matches)?;
     Ok(Cmd::Audit {
         parallel: is_given(matches, PARALLEL),
         plan,
@@ -299,7 +262,7 @@ fn audit_of<'a>(matches: &ArgMatches<'a>) -> Result<Cmd<'a>, CliFault>
 fn report_of<'a>(matches: &ArgMatches<'a>) -> Result<Cmd<'a>, CliFault>
     ensures { IsAsked (codes "report") (rows_of (found_of matches.now)) result }
 {
-    let (plan, trace) = both_of(matches.get_str(PLAN), matches.get_str(TRACE))?;
+    let (plan, trace) = both_paths(matches)?;
     Ok(Cmd::Report { plan, trace })
 }
 
@@ -331,14 +294,13 @@ fn chosen<'a>(matches: &ArgMatches<'a>) -> Result<Cmd<'a>, CliFault>
     }
 }
 
-// What a fault of the words is answered: the help where it is asked for, want of memory as such, and usage for all else.
+// What a fault of the words is answered: the help where it is asked for, which is no fault.
 fn answer_to<'a>(kind: ErrorKind) -> Result<Cmd<'a>, CliFault>
     ensures { result ≡ line.answer_to kind }
 {
-    match kind {
-        ErrorKind::DisplayHelp => Ok(Cmd::Help),
-        ErrorKind::OutOfMemory => Err(CliFault::Memory),
-        _ => Err(CliFault::Usage),
+    match fault_of_words(kind) {
+        None => Ok(Cmd::Help),
+        Some(fault) => Err(fault),
     }
 }
 

@@ -4,11 +4,10 @@
 //! prints the line of a fault and gives the exit status.
 #![tactic(auto)]
 
-mod audit;
-mod check;
-
 ghost use Rattle.std.specs.Prelude.{◌≡◌, if◌then◌else◌};
 
+mod audit;
+mod check;
 mod cli;
 mod engine;
 mod fields;

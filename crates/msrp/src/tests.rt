@@ -2,7 +2,7 @@
 
 use crate::cli::{Cmd, TurnOrder, command_of};
 use crate::engine::{plan_text, sim_text};
-use msrp_cli::{CliFault, exit_of};
+use msrp_cli::CliFault;
 use msrp_plan::TextVersion;
 use msrp_plan::bytes::{Sink, Source};
 use msrp_sim::Order;
@@ -488,38 +488,6 @@ fn a_long_trace_is_cut(rt: HostRuntime) {
         let takes_none = writer_with_room(rt.alloc(), room, 1000, false);
         check_room(&rt, plan, trace.as_slice(), takes_none);
     }
-}
-
-#[test]
-fn lines_and_statuses(rt: HostRuntime) -> Result<(), Fail> {
-    let table = [
-        (
-            CliFault::Plan { code: 7, number: 3 },
-            "plan: P7 at record 3",
-            2,
-        ),
-        (
-            CliFault::Trace {
-                code: 2,
-                number: 13,
-            },
-            "trace: R2 at record 13",
-            2,
-        ),
-        (CliFault::Usage, "usage", 3),
-        (CliFault::Memory, "memory", 4),
-        (CliFault::Threads, "threads", 4),
-        (CliFault::Read, "read fault", 5),
-        (CliFault::Write, "write fault", 5),
-    ];
-    for (fault, line, status) in table {
-        let text = format!(in rt.alloc(); "{fault}")?;
-        assert!(rt; text.as_str() == line);
-        assert!(rt; exit_of(&Err(fault)) == status);
-    }
-    assert!(rt; exit_of(&Ok(0)) == 0);
-    assert!(rt; exit_of(&Ok(1)) == 1);
-    Ok(())
 }
 
 // The command of these words, after the program's name.

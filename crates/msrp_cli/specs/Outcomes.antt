@@ -51,6 +51,13 @@ is_plan_code code = is_within 1 16 code
 abbrev pub is_trace_code : ℕ → Bool
 is_trace_code code = is_within 1 8 code
 
+-- the faults that the reading of a plan's text may end in
+abbrev pub is_plan_fault : CliFault → Bool
+is_plan_fault (Plan code number) = is_plan_code code
+is_plan_fault Memory = true
+is_plan_fault Read = true
+is_plan_fault _ = false
+
 -- the faults that the reading of a trace's text may end in
 abbrev pub is_trace_fault : CliFault → Bool
 is_trace_fault (Trace code number) = is_trace_code code

@@ -1,32 +1,24 @@
--- What the parser was told, and what it found.
-use Rattle.std.proofs.Common.{◌≡◌, ◌∙◌, ◌↔◌, ◌⊎◌, ◌&&◌, ◌<◌, ◌^◌, ℕ, Bool, true, false, List, [], ◌∷◌, length, Option, Some, None, Result, Ok, Err, IfErr, OkIff, MatchResult, find, ok_or, option_map, option_and_then, slice_get, refl, ap, ap₂, sym, inl, inr}
+-- What the parser was told, and what is made of what it found.
+use Rattle.std.proofs.Common.{◌≡◌, ◌∙◌, ◌⊎◌, ◌&&◌, ◌<◌, ◌^◌, ℕ, true, false, List, [], ◌∷◌, length, Option, Some, None, Result, Ok, Err, IfErr, OkIff, MatchResult, ok_or, refl, ap, ap₂, sym, inl, inr}
 use Rattle.std.specs.Borrow.{Bor}
 use Rattle.std.specs.Char.{is_ascii_digit}
 use Rattle.std.specs.List.{list_all}
-use Rattle.std.specs.Str.{all_ascii_digits, bytes_eq}
+use Rattle.std.specs.Str.{all_ascii_digits}
 use Rattle.std.specs.Str.Parse.{ParsesUnsigned, digits_value}
 use Rattle.std.proofs.lemmas.Bool.{cases_lt, le-ltb, lt-ltb}
-use Rattle.std.proofs.lemmas.Option.{slice_get-map}
 use Rattle.std.proofs.lemmas.Str.Parse.{numerals_by_value, parse_digits, tells_all_ascii_digits}
 use Rattle.clap.proofs.OnLiterals.{clap_on_literals}
-use Rattle.clap.proofs.WalkLemmas.{find_row}
-use Rattle.clap.specs.Facts.{Entry}
-use Rattle.clap.specs.Matches.{matched_of}
-use Rattle.clap.specs.Walk.{row_of}
-use Rattle.clap.specs.Words.{AddsArg, App, IsAmong, Kinds, Row, Rule, Text, app_of, first_of, first_value, is_simple, is_simple_and_free, rows_of, rule_of, with_rule}
+use Rattle.clap.specs.Words.{AddsArg, App, IsAmong, Kinds, Row, Rule, Text, app_of, is_simple, is_simple_and_free, rule_of, with_rule}
 use Rattle.clap.specs.declared.builder.arg.Arg.{Arg}
 use Rattle.clap.specs.declared.builder.command.Command.{Command}
 use Rattle.clap.specs.declared.error.kind.ErrorKind.{ErrorKind}
-use Rattle.clap.specs.declared.parser.matches.Found.{Found}
-use Rattle.clap.specs.declared.parser.matches.ValueSource.{ValueSource}
-use Rattle.clap.specs.declared.parser.matches.ValueSource.TheVariants.{CommandLine, DefaultValue}
 use Rattle.msrp_cli.specs.declared.faults.CliFault.{CliFault}
 use Rattle.msrp_cli.specs.declared.faults.CliFault.TheVariants.{Memory, Usage}
 use Rattle.msrp_view.specs.declared.cli.Cmd.{Cmd}
 use Rattle.msrp_view.specs.declared.cli.Cmd.TheVariants.{View}
-use Rattle.msrp_view.specs.declared.windows.Style.{Style}
-use Rattle.msrp_view.specs.declared.windows.Asked.{Asked}
-use Rattle.msrp_view.specs.CommandLine.{IsAnswered, IsDrawn, answer_to, asked_by, grammar, is_from_words, source_of, tick_of, view_by}
+use Rattle.msrp_picture.specs.declared.windows.Style.{Style}
+use Rattle.msrp_picture.specs.declared.windows.Asked.{Asked}
+use Rattle.msrp_view.specs.CommandLine.{IsAnswered, IsDrawn, answer_to, asked_by, grammar, tick_of, view_by}
 
 -- one argument more
 pub adds_rule : (old : Command) (arg : Arg) (new : Command) (words : App) (rule : Rule) → AddsArg old arg new → app_of old ≡ words → rule_of arg ≡ rule → arg.global ≡ false → app_of new ≡ with_rule words rule
@@ -41,29 +33,7 @@ pub grammar_free : is_simple_and_free grammar ≡ true
 unfolding clap_on_literals grammar
 grammar_free = refl
 
--- ---- what the parser found is what its rows say
-source_at : (entry : Option Entry) → option_and_then (λ a. a.source) (option_map (λ e. e.1) entry) ≡ option_and_then (λ r. r.source) (option_map row_of entry)
-source_at None = refl
-source_at (Some e) = refl
-
-pub source_is : (found : Found) (id : Text) → option_and_then (λ a. a.source) (matched_of found id) ≡ source_of id (rows_of found)
-source_is found id = source_at (find (λ e. bytes_eq e.0.now id) found.entries.items) ∙ ap (λ r. option_and_then (λ r. r.source) r) (sym (find_row found.entries.items id))
-
--- a source is the words exactly if it equals them
-pub equals_words : (source : Option ValueSource) (b : Bool) → (b ≡ true ↔ source ≡ Some CommandLine) → b ≡ is_from_words source
-equals_words (Some CommandLine) b h = h.1 refl
-equals_words (Some DefaultValue) true h = let bad : Some DefaultValue ≡ Some CommandLine = h.0 refl in cc
-equals_words (Some DefaultValue) false h = refl
-equals_words None true h = let bad : None ≡ Some CommandLine = h.0 refl in cc
-equals_words None false h = refl
-
-first_at : (entry : Option Entry) → option_and_then (λ a. option_map (λ s. s.now) (slice_get a.vals.items 0)) (option_map (λ e. e.1) entry) ≡ option_and_then (λ r. slice_get r.values 0) (option_map row_of entry)
-first_at None = refl
-first_at (Some e) = sym (slice_get-map (λ s. s.now) e.1.vals.items 0)
-
-pub first_is : (found : Found) (id : Text) → first_value found id ≡ first_of id (rows_of found)
-first_is found id = first_at (find (λ e. bytes_eq e.0.now id) found.entries.items) ∙ ap (λ r. option_and_then (λ r. slice_get r.values 0) r) (sym (find_row found.entries.items id))
-
+-- ---- what is answered
 -- what refused words are answered
 pub answered_fault : (kinds : Kinds) (rows : List Row) (k : ErrorKind) (result : Result Cmd CliFault) → IsAmong k kinds → result ≡ answer_to k → IsAnswered kinds rows result
 answered_fault [] rows k result among e = absurd among

@@ -1,8 +1,1 @@
-pub mod Growing
-pub mod ReadThrough
-pub mod Taking
-pub mod Drawing
-pub mod Stretches
-pub mod TaskRows
-pub mod Depths
 pub mod Grammar

@@ -1,18 +1,18 @@
 //! The command line: the words of a command, and what they ask for.
 
-ghost use Rattle.std.specs.Prelude.{◌≡◌, ◌⊎◌, map, ok_or, option_map, string_bytes, Err, IfErr, IfOk, Some, false};
+ghost use Rattle.std.specs.Prelude.{◌≡◌, ◌⊎◌, map, ok_or, option_map, string_bytes, Err, IfErr, IfOk};
 ghost use Rattle.std.specs.Char.{is_ascii_digit};
 ghost use Rattle.std.specs.List.{list_all};
-ghost use Rattle.std.specs.Result.{result_map_both};
-ghost use Rattle.clap.specs.Words.{fault_of, found_of, matches_of, rows_of, rule_of};
+ghost use Rattle.clap.specs.Words.{fault_of, found_of, matches_of, rows_of};
 ghost use Rattle.msrp_view.specs.CommandLine as line;
 ghost use Rattle.msrp_view.specs.CommandLine.{IsAnswered, IsDrawn, Takes};
 
-use crate::windows::{Asked, Style};
 use clap::error::ErrorKind;
-use clap::parser::ValueSource;
-use clap::{Arg, ArgAction, ArgMatches, Command};
-use msrp_cli::{CliFault, STANDARD};
+use clap::{ArgMatches, Command};
+use msrp_cli::{
+    CliFault, PLAN, TRACE, both_paths, fault_of_words, flag, is_given, path, value_of, valued,
+};
+use msrp_picture::{Asked, Style};
 use std::alloc::{AllocError, Global};
 
 /// A command, with its words. A path `-` is standard input.
@@ -29,10 +29,6 @@ pub enum Cmd<'a> {
 }
 
 // The words of arguments, by which they are declared and found again.
-const PLAN: &str = "PLAN";
-
-const TRACE: &str = "TRACE";
-
 const TEXT: &str = "text";
 
 const SVG: &str = "svg";
@@ -41,50 +37,31 @@ const FROM: &str = "from";
 
 const TO: &str = "to";
 
-fn flag<'a>(alloc: Global, name: &'a str, help: &'a str) -> Arg<'a>
-    ensures rule { rule_of result ≡ line.flag name.now }
-    ensures own { result.global ≡ false }
-    ensures text { result.help ≡ Some help.entry }
+// The program, still without arguments.
+fn program<'a>(alloc: Global) -> Command<'a>
+    ensures { Takes line.program result }
 {
-    Arg::new(alloc, name)
-        .long(name)
-        .action(ArgAction::SetTrue)
-        .help(help)
-}
-
-fn tick<'a>(alloc: Global, name: &'a str, help: &'a str) -> Arg<'a>
-    ensures rule { rule_of result ≡ line.tick name.now }
-    ensures own { result.global ≡ false }
-    ensures text { result.help ≡ Some help.entry }
-{
-    Arg::new(alloc, name).long(name).value_name("T").help(help)
-}
-
-fn path<'a>(alloc: Global, name: &'a str, help: &'a str) -> Arg<'a>
-    ensures rule { rule_of result ≡ line.wanted name.now }
-    ensures own { result.global ≡ false }
-    ensures text { result.help ≡ Some help.entry }
-{
-    Arg::new(alloc, name).required(true).help(help)
+    Command::new(alloc, "msrp_view").about(
+        "draws a trace of a plan: what each core does in each tick, and who stands in the queue of each global resource",
+    )
 }
 
 fn grammar<'a>(alloc: Global) -> Result<Command<'a>, AllocError>
     ensures { IfOk result (Takes line.grammar) }
 {
-    Command::new(alloc, "msrp_view")
-        .about(
-            "draws a trace of a plan: what each core does in each tick, and who stands in the queue of each global resource",
-        )
+    program(alloc)
         .arg(flag(alloc, TEXT, "draws in plain text, as without it"))?
         .arg(flag(alloc, SVG, "draws in SVG, for a browser or a document"))?
-        .arg(tick(
+        .arg(valued(
             alloc,
             FROM,
+            "T",
             "the first tick that is drawn; 0 where none is given",
         ))?
-        .arg(tick(
+        .arg(valued(
             alloc,
             TO,
+            "T",
             "the tick up to which is drawn, itself left out; where none is given the end, after at most 200 ticks",
         ))?
         .arg(path(alloc, PLAN, "the plan's path; - is standard input"))?
@@ -124,26 +101,6 @@ fn tick_of(word: Option<&str>) -> Result<Option<u32>, CliFault>
     }
 }
 
-// The paths of a plan and a trace, which are not both standard input.
-fn both_of<'a>(
-    plan: Option<&'a str>,
-    trace: Option<&'a str>,
-) -> Result<(&'a str, &'a str), CliFault>
-    ensures { result_map_both (λ paths. (paths.0.now, paths.1.now)) (λ fault. fault) result ≡ ok_or (line.both_of (option_map (λ path. path.now) plan.entry) (option_map (λ path. path.now) trace.entry)) CliFault.Usage }
-{
-    match (plan, trace) {
-        (Some(plan), Some(trace)) if plan != STANDARD || trace != STANDARD => Ok((plan, trace)),
-        _ => Err(CliFault::Usage),
-    }
-}
-
-// Whether an argument is given in the words.
-fn is_given(matches: &ArgMatches<'_>, name: &str) -> bool
-    ensures { result ≡ line.is_given name.now (rows_of (found_of matches.now)) }
-{
-    matches.value_source(name) == Some(ValueSource::CommandLine)
-}
-
 // How it is drawn, where these flags are given: in text, if none is.
 fn style_of(text: bool, svg: bool) -> Result<Style, CliFault>
     ensures { result ≡ ok_or (line.style_of text svg) CliFault.Usage }
@@ -161,8 +118,8 @@ fn asked_of(matches: &ArgMatches<'_>) -> Result<Asked, CliFault>
 {
     Ok(Asked {
         style: style_of(is_given(matches, TEXT), is_given(matches, SVG))?,
-        from: tick_of(matches.get_str(FROM))?,
-        to: tick_of(matches.get_str(TO))?,
+        from: tick_of(value_of(matches, FROM))?,
+        to: tick_of(value_of(matches, TO))?,
     })
 }
 
@@ -170,19 +127,18 @@ fn asked_of(matches: &ArgMatches<'_>) -> Result<Asked, CliFault>
 fn view_of<'a>(matches: &ArgMatches<'a>) -> Result<Cmd<'a>, CliFault>
     ensures { IsDrawn (line.view_of (rows_of (found_of matches.now))) result }
 {
-    let (plan, trace) = both_of(matches.get_str(PLAN), matches.get_str(TRACE))?;
+    let (plan, trace) = both_paths(matches)?;
     let asked = asked_of(matches)?;
     Ok(Cmd::View { asked, plan, trace })
 }
 
-// What a fault of the words is answered: the help where it is asked for, want of memory as such, and usage for all else.
+// What a fault of the words is answered: the help where it is asked for, which is no fault.
 fn answer_to<'a>(kind: ErrorKind) -> Result<Cmd<'a>, CliFault>
     ensures { result ≡ line.answer_to kind }
 {
-    match kind {
-        ErrorKind::DisplayHelp => Ok(Cmd::Help),
-        ErrorKind::OutOfMemory => Err(CliFault::Memory),
-        _ => Err(CliFault::Usage),
+    match fault_of_words(kind) {
+        None => Ok(Cmd::Help),
+        Some(fault) => Err(fault),
     }
 }
 

@@ -1,35 +1,16 @@
-//! `msrp_view`: a trace of a plan as a picture, in text or in SVG.
+//! `msrp_view`: draws a trace of a plan, in text or in SVG.
 //!
-//! `cli` reads the command line, `reading` gathers the rows of a trace, `lines` and `picture` draw them in text, and
-//! `blocks` and `svg` in SVG; `engine` turns bytes into bytes, and `main` opens what the words name, prints the line of a fault and gives the exit status.
+//! `cli` reads the command line, and `main` opens what the words name, prints the line of a fault and gives the exit status. What is drawn is
+//! `msrp_picture`'s.
 #![tactic(auto)]
 
-mod arrows;
-mod blocks;
-mod cells;
 mod cli;
-mod elements;
-mod engine;
-mod figures;
-mod jobs;
-mod lines;
-mod lives;
-mod picture;
-mod places;
-mod queues;
-mod reading;
-mod resource_lanes;
-mod sections;
-mod shown;
-mod styles;
-mod svg;
 #[cfg(test)]
 mod tests;
-mod windows;
 
 use cli::{Cmd, command_of, help_text};
-use engine::view_text;
 use msrp_cli::{CliFault, exit_of, open_both, words_of, write_help};
+use msrp_picture::view_text;
 use msrp_plan::bytes::{Sink, Source};
 use std::io;
 use std::process::ExitCode;

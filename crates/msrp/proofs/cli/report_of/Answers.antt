@@ -1,21 +1,20 @@
-use Rattle.std.proofs.Common.{rules, ◌≡◌, ◌∙◌, Ok, Err, ap, codes, ok_or, refl}
-use Rattle.clap.specs.Words.{first_value, found_of, rows_of}
+use Rattle.std.proofs.Common.{rules, ◌≡◌, Ok, Err, ok_or, refl}
+use Rattle.clap.specs.Words.{found_of, rows_of}
+use Rattle.msrp_cli.specs.Arguments.{paths_of}
 use Rattle.msrp_cli.specs.declared.faults.CliFault.TheVariants.{Usage}
-use Rattle.msrp.specs.Words.{both_of}
-use Rattle.msrp.proofs.Found.{a_value, paths_are, report_refused}
+use Rattle.msrp.proofs.Found.{a_value, report_refused}
 use Rattle.msrp.proofs.cli.report_of.Goals as goal
 
 pub returns-in_err-plan : goal.returns-in_err-plan
 returns-in_err-plan c =
-    let found = found_of c.args.matches.now in
+    let rows = rows_of (found_of c.args.matches.now) in
     let fault = c.in_err-plan.field-0.0 in
     let out : c.from_residual.result ≡ Err fault = search rules in
-    let none : Err fault ≡ ok_or (both_of (first_value found (codes "PLAN")) (first_value found (codes "TRACE"))) Usage = search rules in
-    report_refused (rows_of found) fault c.from_residual.result (none ∙ ap (λ o. ok_or o Usage) (paths_are found)) out
+    let none : Err fault ≡ ok_or (paths_of rows) Usage = search rules in
+    report_refused rows fault c.from_residual.result none out
 
 pub returns : goal.returns
 returns c =
-    let found = found_of c.args.matches.now in
-    let both : Ok (c.in_ok-plan.plan.now, c.in_ok-plan.trace.now) ≡ ok_or (both_of (first_value found (codes "PLAN")) (first_value found (codes "TRACE"))) Usage = search rules in
-    let paths = a_value _ (c.in_ok-plan.plan.now, c.in_ok-plan.trace.now) (both ∙ ap (λ o. ok_or o Usage) (paths_are found)) in
+    let both : Ok (c.in_ok-plan.plan.now, c.in_ok-plan.trace.now) ≡ ok_or (paths_of (rows_of (found_of c.args.matches.now))) Usage = search rules in
+    let paths = a_value _ (c.in_ok-plan.plan.now, c.in_ok-plan.trace.now) both in
     (refl, paths)

@@ -1,20 +1,19 @@
-use Rattle.std.proofs.Common.{rules, ◌≡◌, ◌∙◌, Ok, Err, ap, codes, ok_or, refl}
-use Rattle.clap.specs.Words.{first_value, found_of, rows_of}
+use Rattle.std.proofs.Common.{rules, ◌≡◌, Ok, Err, codes, ok_or, refl}
+use Rattle.clap.specs.Words.{first_of, found_of, rows_of}
 use Rattle.msrp_cli.specs.declared.faults.CliFault.TheVariants.{Usage}
 use Rattle.msrp.specs.Words.{order_of}
-use Rattle.msrp.proofs.Found.{a_value, order_is, sim_refused}
+use Rattle.msrp.proofs.Found.{a_value, sim_refused}
 use Rattle.msrp.proofs.cli.sim_of.Goals as goal
 
 pub returns-in_err-order_of : goal.returns-in_err-order_of
 returns-in_err-order_of c =
-    let found = found_of c.args.matches.now in
+    let rows = rows_of (found_of c.args.matches.now) in
     let fault = c.in_err-order_of.field-0.0 in
     let out : c.from_residual.result ≡ Err fault = search rules in
-    let none : Err fault ≡ ok_or (order_of (first_value found (codes "order"))) Usage = search rules in
-    sim_refused (rows_of found) fault c.from_residual.result (none ∙ ap (λ o. ok_or o Usage) (order_is found)) out
+    let none : Err fault ≡ ok_or (order_of (first_of (codes "order") rows)) Usage = search rules in
+    sim_refused rows fault c.from_residual.result none out
 
 pub returns : goal.returns
 returns c =
-    let found = found_of c.args.matches.now in
-    let order : Ok c.in_ok-order_of.field-0 ≡ ok_or (order_of (first_value found (codes "order"))) Usage = search rules in
-    (refl, (a_value _ c.in_ok-order_of.field-0 (order ∙ ap (λ o. ok_or o Usage) (order_is found)), c.is_given.ensures, c.plan_of.ensures))
+    let order : Ok c.in_ok-order_of.field-0 ≡ ok_or (order_of (first_of (codes "order") (rows_of (found_of c.args.matches.now)))) Usage = search rules in
+    (refl, (a_value _ c.in_ok-order_of.field-0 order, c.is_given.ensures, c.plan_of.ensures))

@@ -1,8 +1,9 @@
-use Rattle.std.proofs.Common.{rules, ◌≡◌, ◌∙◌, Ok, Err, ap, codes, ok_or}
-use Rattle.clap.specs.Words.{first_value, found_of, rows_of}
+use Rattle.std.proofs.Common.{rules, ◌≡◌, ◌∙◌, Ok, Err, codes, ok_or}
+use Rattle.clap.specs.Words.{first_of, found_of, rows_of}
+use Rattle.msrp_cli.specs.Arguments.{is_given}
 use Rattle.msrp_cli.specs.declared.faults.CliFault.TheVariants.{Usage}
-use Rattle.msrp_view.specs.CommandLine.{is_given, style_of, tick_of}
-use Rattle.msrp_view.proofs.Grammar.{all_asked, first_is, no_from, no_style, no_to}
+use Rattle.msrp_view.specs.CommandLine.{style_of, tick_of}
+use Rattle.msrp_view.proofs.Grammar.{all_asked, no_from, no_style, no_to}
 use Rattle.msrp_view.proofs.cli.asked_of.Goals as goal
 
 pub returns-in_err-style_of : goal.returns-in_err-style_of
@@ -15,30 +16,27 @@ returns-in_err-style_of c =
 
 pub returns-in_err-tick_of : goal.returns-in_err-tick_of
 returns-in_err-tick_of c =
-    let found = found_of c.args.matches.now in
-    let rows = rows_of found in
+    let rows = rows_of (found_of c.args.matches.now) in
     let fault = c.in_err-tick_of.field-0.0 in
     let out : c.from_residual-in_err-tick_of.result ≡ Err fault = search rules in
     let style : Ok c.in_ok-style_of.field-0 ≡ ok_or (style_of (is_given (codes "text") rows) (is_given (codes "svg") rows)) Usage = search rules in
-    let none : Err fault ≡ ok_or (tick_of (first_value found (codes "from"))) Usage = search rules in
-    out ∙ no_from _ _ _ c.in_ok-style_of.field-0 fault style (none ∙ ap (λ t. ok_or (tick_of t) Usage) (first_is found (codes "from")))
+    let none : Err fault ≡ ok_or (tick_of (first_of (codes "from") rows)) Usage = search rules in
+    out ∙ no_from _ _ _ c.in_ok-style_of.field-0 fault style none
 
 pub returns-in_err-tick_of-2 : goal.returns-in_err-tick_of-2
 returns-in_err-tick_of-2 c =
-    let found = found_of c.args.matches.now in
-    let rows = rows_of found in
+    let rows = rows_of (found_of c.args.matches.now) in
     let fault = c.in_err-tick_of-2.field-0.0 in
     let out : c.from_residual-in_err-tick_of-2.result ≡ Err fault = search rules in
     let style : Ok c.in_ok-style_of.field-0 ≡ ok_or (style_of (is_given (codes "text") rows) (is_given (codes "svg") rows)) Usage = search rules in
-    let from : Ok c.in_ok-tick_of.field-0 ≡ ok_or (tick_of (first_value found (codes "from"))) Usage = search rules in
-    let none : Err fault ≡ ok_or (tick_of (first_value found (codes "to"))) Usage = search rules in
-    out ∙ no_to _ _ _ c.in_ok-style_of.field-0 c.in_ok-tick_of.field-0 fault style (from ∙ ap (λ t. ok_or (tick_of t) Usage) (first_is found (codes "from"))) (none ∙ ap (λ t. ok_or (tick_of t) Usage) (first_is found (codes "to")))
+    let from : Ok c.in_ok-tick_of.field-0 ≡ ok_or (tick_of (first_of (codes "from") rows)) Usage = search rules in
+    let none : Err fault ≡ ok_or (tick_of (first_of (codes "to") rows)) Usage = search rules in
+    out ∙ no_to _ _ _ c.in_ok-style_of.field-0 c.in_ok-tick_of.field-0 fault style from none
 
 pub returns : goal.returns
 returns c =
-    let found = found_of c.args.matches.now in
-    let rows = rows_of found in
+    let rows = rows_of (found_of c.args.matches.now) in
     let style : Ok c.in_ok-style_of.field-0 ≡ ok_or (style_of (is_given (codes "text") rows) (is_given (codes "svg") rows)) Usage = search rules in
-    let from : Ok c.in_ok-tick_of.field-0 ≡ ok_or (tick_of (first_value found (codes "from"))) Usage = search rules in
-    let to : Ok c.in_ok-tick_of-2.field-0 ≡ ok_or (tick_of (first_value found (codes "to"))) Usage = search rules in
-    all_asked _ _ _ c.in_ok-style_of.field-0 c.in_ok-tick_of.field-0 c.in_ok-tick_of-2.field-0 style (from ∙ ap (λ t. ok_or (tick_of t) Usage) (first_is found (codes "from"))) (to ∙ ap (λ t. ok_or (tick_of t) Usage) (first_is found (codes "to")))
+    let from : Ok c.in_ok-tick_of.field-0 ≡ ok_or (tick_of (first_of (codes "from") rows)) Usage = search rules in
+    let to : Ok c.in_ok-tick_of-2.field-0 ≡ ok_or (tick_of (first_of (codes "to") rows)) Usage = search rules in
+    all_asked _ _ _ c.in_ok-style_of.field-0 c.in_ok-tick_of.field-0 c.in_ok-tick_of-2.field-0 style from to

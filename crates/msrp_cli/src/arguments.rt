@@ -1,0 +1,99 @@
+//! The arguments of a command line: how they are declared, and what the words give them.
+
+ghost use Rattle.std.specs.Prelude.{◌≡◌, false, ok_or, option_map, Some};
+ghost use Rattle.std.specs.Result.{result_map_both};
+ghost use Rattle.clap.specs.Words.{first_of, found_of, rows_of, rule_of};
+ghost use Rattle.msrp_cli.specs.Arguments as argument;
+ghost use Rattle.msrp_cli.specs.Arguments.{fault_of_words, paths_of};
+
+use crate::faults::CliFault;
+use crate::input::STANDARD;
+use clap::error::ErrorKind;
+use clap::parser::ValueSource;
+use clap::{Arg, ArgAction, ArgMatches};
+use std::alloc::Global;
+
+/// The name of the argument that is a plan's path.
+pub const PLAN: &str = "PLAN";
+
+/// The name of the argument that is a trace's path.
+pub const TRACE: &str = "TRACE";
+
+/// The flag `--name`.
+pub fn flag<'a>(alloc: Global, name: &'a str, help: &'a str) -> Arg<'a>
+    ensures rule { rule_of result ≡ argument.flag name.now }
+    ensures own { result.global ≡ false }
+    ensures text { result.help ≡ Some help.entry }
+{
+    Arg::new(alloc, name)
+        .long(name)
+        .action(ArgAction::SetTrue)
+        .help(help)
+}
+
+/// `--name` with a value, which the help calls `value`.
+pub fn valued<'a>(alloc: Global, name: &'a str, value: &'a str, help: &'a str) -> Arg<'a>
+    ensures rule { rule_of result ≡ argument.valued name.now }
+    ensures own { result.global ≡ false }
+    ensures text { result.help ≡ Some help.entry }
+{
+    Arg::new(alloc, name)
+        .long(name)
+        .value_name(value)
+        .help(help)
+}
+
+/// A path that must be given.
+pub fn path<'a>(alloc: Global, name: &'a str, help: &'a str) -> Arg<'a>
+    ensures rule { rule_of result ≡ argument.wanted name.now }
+    ensures own { result.global ≡ false }
+    ensures text { result.help ≡ Some help.entry }
+{
+    Arg::new(alloc, name).required(true).help(help)
+}
+
+/// Whether an argument is given in the words.
+pub fn is_given(matches: &ArgMatches<'_>, name: &str) -> bool
+    ensures { result ≡ argument.is_given name.now (rows_of (found_of matches.now)) }
+{
+    matches.value_source(name) == Some(ValueSource::CommandLine)
+}
+
+/// The value of an argument, if it has one.
+pub fn value_of<'a>(matches: &ArgMatches<'a>, name: &str) -> Option<&'a str>
+    ensures { option_map (λ value. value.now) result ≡ first_of name.now (rows_of (found_of matches.now)) }
+{
+    matches.get_str(name)
+}
+
+// The paths of a plan and a trace, which are not both standard input.
+fn both_of<'a>(
+    plan: Option<&'a str>,
+    trace: Option<&'a str>,
+) -> Result<(&'a str, &'a str), CliFault>
+    ensures { result_map_both (λ paths. (paths.0.now, paths.1.now)) (λ fault. fault) result ≡ ok_or (argument.both_of (option_map (λ path. path.now) plan.entry) (option_map (λ path. path.now) trace.entry)) CliFault.Usage }
+{
+    match (plan, trace) {
+        (Some(plan), Some(trace)) if plan != STANDARD || trace != STANDARD => Ok((plan, trace)),
+        _ => Err(CliFault::Usage),
+    }
+}
+
+/// The paths of a plan and a trace. It is a usage fault where one isn't given, or both are standard input.
+pub fn both_paths<'a>(matches: &ArgMatches<'a>) -> Result<(&'a str, &'a str), CliFault>
+    ensures { result_map_both (λ paths. (paths.0.now, paths.1.now)) (λ fault. fault) result ≡ ok_or (paths_of (rows_of (found_of matches.now))) CliFault.Usage }
+{
+    both_of(value_of(matches, PLAN), value_of(matches, TRACE))
+}
+
+/// What a fault of the words is: want of memory as such, and usage for all else. None where the words ask for the help, which is
+/// no fault.
+pub fn fault_of_words(kind: ErrorKind) -> Option<CliFault>
+    ensures { result ≡ fault_of_words kind }
+{
+    match kind {
+        ErrorKind::DisplayHelp => None,
+        ErrorKind::OutOfMemory => Some(CliFault::Memory),
+        _ => Some(CliFault::Usage),
+    }
+}

@@ -1,0 +1,7 @@
+use Rattle.std.proofs.Common.{◌≡◌, ◌++◌, codes, take}
+use Rattle.std.specs.List.{flat_map}
+use Rattle.msrp_picture.specs.Inside.Drawings.{drawn_text}
+use Rattle.msrp_picture.proofs.picture.add_part.Given as goal
+
+abbrev pub invariant-loop-line : goal.invariant-loop-line
+invariant-loop-line l = l.text.items ≡ l.fn.text.items ++ (codes "\n" ++ flat_map (drawn_text l.plan l.part) (take l.line-index l.drawn))

@@ -1,0 +1,71 @@
+-- What one cell of a picture shows: a byte of ASCII.
+use Rattle.std.specs.Prelude.{ℕ, List, Option, Some, None, if◌then◌else◌, codes, decimal, nat_lt, nat_eq, slice_index_or, ◌-◌, ◌%◌}
+use Rattle.msrp_plan.specs.declared.ids.JobId.{JobId}
+use Rattle.msrp_plan.specs.declared.rows.Kind.{Kind}
+use Rattle.msrp_plan.specs.declared.rows.Kind.TheVariants.{Idle, Run, Lock, Unlock, Take, Queue, Spin, Grant, Release}
+use Rattle.msrp_plan.specs.declared.rows.Row.{Row}
+use Rattle.msrp_picture.specs.declared.cells.Aspect.{Aspect}
+use Rattle.msrp_picture.specs.declared.cells.Aspect.TheVariants.{Who, What}
+use Rattle.msrp_picture.specs.declared.queues.Standing.{Standing}
+
+-- the code of a sign
+abbrev pub byte : List ℕ → ℕ
+byte text = slice_index_or text 0 0
+
+-- where there is nothing
+abbrev pub nothing : ℕ
+nothing = byte (codes ".")
+
+-- the letters of tasks, by their numbers: a plan has no more than 64 tasks
+unfoldable pub letters : List ℕ
+letters = codes "abcdefghijklmnopqrstuvwxyzABCDEFGHIJKLMNOPQRSTUVWXYZ0123456789+*"
+
+abbrev pub letter : ℕ → ℕ
+letter t = slice_index_or letters t nothing
+
+-- ---- of a core
+-- the letter of the task whose job has the turn
+abbrev pub job_cell : Option JobId → ℕ
+job_cell None = nothing
+job_cell (Some j) = letter j.task.0
+
+-- what the job does
+abbrev pub sign : Kind → ℕ
+sign Idle = nothing
+sign Run = byte (codes "=")
+sign Lock = byte (codes "(")
+sign Unlock = byte (codes ")")
+sign Take = byte (codes "[")
+sign Grant = byte (codes "[")
+sign Release = byte (codes "]")
+sign Queue = byte (codes "?")
+sign Spin = byte (codes "~")
+
+-- who has the turn in a row, or what it does there
+abbrev pub row_cell : Aspect → Row → ℕ
+row_cell Who r = job_cell r.job
+row_cell What r = sign r.kind
+
+-- the same of the first row that breaks a rule, which is marked
+abbrev pub broken_cell : Aspect → Row → ℕ
+broken_cell Who r = job_cell r.job
+broken_cell What r = byte (codes "!")
+
+-- ---- of a resource
+-- how many wait behind the first, by their number: a job of each core at most
+unfoldable pub waiting : List ℕ
+waiting = codes ".1234567"
+
+-- who stands first in a queue, or how many behind the first
+abbrev pub standing_cell : Aspect → Standing → ℕ
+standing_cell Who s = job_cell s.first
+standing_cell What s = slice_index_or waiting s.behind (byte (codes "+"))
+
+-- ---- of the axis
+-- between the numbers of ticks
+abbrev pub dash : ℕ → ℕ
+dash t = if nat_eq (t % 10) 5 then byte (codes "+") else byte (codes "-")
+
+-- the number of each tenth tick stands at it and the ticks after it, if it isn't before the first tick of its part
+abbrev pub tick_cell : ℕ → ℕ → ℕ
+tick_cell start t = if nat_lt (t - t % 10) start then dash t else slice_index_or (decimal (t - t % 10)) (t % 10) (dash t)

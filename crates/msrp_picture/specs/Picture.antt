@@ -1,0 +1,72 @@
+-- A picture of a trace, as text: the verdict, the ticks that are drawn, the lines in parts of so many ticks, and what letters and
+-- signs mean.
+use Rattle.std.specs.Prelude.{ℕ, List, [], ◌∷◌, ◌++◌, Option, Ok, Err, codes, decimal, drop, length, slice_range, ◌+◌, ◌-◌, ◌*◌, ⊤}
+use Rattle.std.specs.List.{flat_map, range_with_len}
+use Rattle.std.specs.declared.result.Result.{Result}
+use Rattle.msrp_plan.specs.Plan.{PlanModel, task_at}
+use Rattle.msrp_plan.specs.declared.faults.Fault.{Fault}
+use Rattle.msrp_plan.specs.declared.faults.Rule.{Rule}
+use Rattle.msrp_plan.specs.declared.faults.Rule.TheVariants.{A1, A2, A3, A4, A5, A6, A7}
+use Rattle.msrp_plan.specs.declared.rows.Row.{Row}
+use Rattle.msrp_picture.specs.Cells.{letter}
+use Rattle.msrp_picture.specs.Lines.{cells, lines_of, name_of}
+use Rattle.msrp_picture.specs.Shown.{broken_row, legal_rows}
+use Rattle.msrp_picture.specs.Windows.{parts}
+use Rattle.msrp_picture.specs.declared.lines.Line.{Line}
+use Rattle.msrp_picture.specs.declared.windows.TheConstants.{LINE_TICKS}
+use Rattle.msrp_picture.specs.declared.windows.Window.{Window}
+
+-- ---- the head
+unfoldable pub rule_text : Rule → List ℕ
+rule_text A1 = codes "A1"
+rule_text A2 = codes "A2"
+rule_text A3 = codes "A3"
+rule_text A4 = codes "A4"
+rule_text A5 = codes "A5"
+rule_text A6 = codes "A6"
+rule_text A7 = codes "A7"
+
+-- the verdict, as an audit tells it
+unfoldable pub verdict_text : Result ⊤ Fault → List ℕ
+verdict_text (Ok good) = codes "good\n"
+verdict_text (Err fault) = codes "fault," ++ decimal fault.row ++ codes "," ++ rule_text fault.rule ++ codes "\n"
+
+-- the first and the last tick that are drawn, and how many the plan has
+unfoldable pub window_text : PlanModel → Window → List ℕ
+window_text plan w = codes "ticks " ++ decimal w.from ++ codes " to " ++ decimal (w.to - 1) ++ codes " of " ++ decimal plan.ticks ++ codes "\n"
+
+-- ---- the lines
+unfoldable pub spaces : List ℕ
+spaces = codes "                  "
+
+-- a label, filled up with spaces
+abbrev pub label : List ℕ → List ℕ
+label name = name ++ drop (length name) spaces
+
+-- what stands of a line in this part
+unfoldable pub line_text : PlanModel → ℕ → Line → List ℕ → List ℕ
+line_text plan i line cs = label (name_of plan line) ++ slice_range cs (i * LINE_TICKS) ((i + 1) * LINE_TICKS) ++ codes "\n"
+
+-- an empty line, and what stands of all lines
+unfoldable pub part_text : PlanModel → List Row → Option Row → Window → ℕ → List ℕ
+part_text plan rows broken w i = codes "\n" ++ flat_map (λ line. line_text plan i line (cells plan rows broken w line)) (lines_of plan)
+
+-- ---- the legend
+unfoldable pub task_text : PlanModel → ℕ → List ℕ
+task_text plan t = (letter t ∷ []) ++ codes ": " ++ (task_at plan t).name ++ codes " on core " ++ decimal (task_at plan t).core ++ codes "\n"
+
+unfoldable pub signs_text : List ℕ
+signs_text = codes "= works  ( locks  ) unlocks  [ gets  ] releases  ? joins a queue  ~ spins  . idle  ! breaks a rule\nof a resource: the first in its queue after the tick, and how many wait behind it\n"
+
+unfoldable pub legend_text : PlanModel → List ℕ
+legend_text plan = codes "\n" ++ flat_map (task_text plan) (range_with_len 0 (length plan.tasks)) ++ signs_text
+
+-- ---- the whole
+abbrev pub parts_text : PlanModel → List Row → Option Row → Window → List ℕ
+parts_text plan rows broken w = flat_map (part_text plan rows broken w) (range_with_len 0 (parts w))
+
+abbrev pub drawn_picture : PlanModel → List Row → Option Row → Result ⊤ Fault → Window → List ℕ
+drawn_picture plan rows broken found w = verdict_text found ++ window_text plan w ++ parts_text plan rows broken w ++ legend_text plan
+
+abbrev pub picture_text : PlanModel → List Row → Result ⊤ Fault → Window → List ℕ
+picture_text plan rows found w = drawn_picture plan (legal_rows rows found) (broken_row rows found) found w

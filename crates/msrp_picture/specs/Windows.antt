@@ -1,0 +1,38 @@
+-- The ticks that are drawn, and their rows.
+use Rattle.std.specs.Prelude.{ℕ, List, Bool, ◌&&◌, nat_lt, nat_le, Option, Some, None, if◌then◌else◌, min, length, slice_range, unwrap_or, ◌<◌, ◌+◌, ◌-◌, ◌*◌, ◌/◌, ◌%◌}
+use Rattle.msrp_plan.specs.Plan.{PlanModel}
+use Rattle.msrp_plan.specs.declared.rows.Row.{Row}
+use Rattle.msrp_picture.specs.declared.windows.Asked.{Asked}
+use Rattle.msrp_picture.specs.declared.windows.Window.{Window}
+use Rattle.msrp_picture.specs.declared.windows.TheConstants.{LINE_TICKS, SHORT_RUN}
+
+-- the first tick, and the one up to which is drawn, where these are asked for
+abbrev pub first_asked : Asked → ℕ
+first_asked asked = unwrap_or asked.from 0
+
+abbrev pub end_asked : PlanModel → Asked → ℕ
+end_asked plan asked = unwrap_or asked.to (min plan.ticks (first_asked asked + SHORT_RUN))
+
+-- there is such a tick, and all of them are the plan's
+abbrev pub is_window : PlanModel → ℕ → ℕ → Bool
+is_window plan from to = nat_lt from to && nat_le to plan.ticks
+
+-- the ticks that are drawn, if there are such
+abbrev pub window_of : PlanModel → Asked → Option Window
+window_of plan asked = if is_window plan (first_asked asked) (end_asked plan asked) then Some (record { from = first_asked asked; to = end_asked plan asked }) else None
+
+-- a window has a tick
+abbrev pub IsWindow : Window → Type 0
+IsWindow w = w.from < w.to
+
+-- how many parts stand under one another: the full ones, and one for the ticks that are left, if any are
+abbrev pub parts : Window → ℕ
+parts w = (w.to - w.from) / LINE_TICKS + min 1 ((w.to - w.from) % LINE_TICKS)
+
+-- the rows of the ticks from one on and up to another: a run has one for each core in each tick
+abbrev pub rows_between : PlanModel → List Row → ℕ → ℕ → List Row
+rows_between plan rows from to = slice_range rows (from * plan.cores) (to * plan.cores)
+
+-- the number of ticks of which a row stands: the whole ones, and one that is begun, if one is
+abbrev pub begun : PlanModel → List Row → ℕ
+begun plan rows = length rows / plan.cores + min 1 (length rows % plan.cores)

@@ -1,0 +1,236 @@
+//! A picture of a trace, as text.
+ghost use Rattle.std.specs.Prelude.{◌≡◌, ◌<◌, ◌≤◌, ◌+◌, ◌++◌, codes, decimal, drop, length, slice_index_or, slice_range, [], ◌*◌, IfOk, OnOk};
+ghost use Rattle.std.specs.List.{flat_map, range_with_len};
+ghost use Rattle.msrp_picture.specs.Inside.Drawings.{drawn_text};
+ghost use Rattle.msrp_picture.specs.Lines.{name_of};
+ghost use Rattle.msrp_picture.specs.Picture.{drawn_picture, label, legend_text, picture_text, rule_text, signs_text, spaces, task_text, verdict_text, window_text};
+ghost use Rattle.msrp_picture.specs.Windows.{IsWindow, parts};
+
+use crate::cells::{Aspect, letter};
+use crate::lines::{Drawn, Line, draw_lines};
+use crate::shown::Shown;
+use crate::windows::{LINE_TICKS, Window};
+use itoa::Buffer;
+use msrp_plan::{Fault, Memory, Plan, ResId, Row, Rule, TaskId};
+use std::alloc::Global;
+
+// As many as a label is filled up to.
+#[tactic(auto, unfolding(crate::specs::Picture::spaces))]
+fn spaces() -> &'static [u8]
+    ensures { result.now ≡ spaces }
+{
+    b"                  "
+}
+
+// What the signs of a picture mean.
+#[tactic(auto, unfolding(crate::specs::Picture::signs_text))]
+fn signs() -> &'static [u8]
+    ensures { result.now ≡ signs_text }
+{
+    b"= works  ( locks  ) unlocks  [ gets  ] releases  ? joins a queue  ~ spins  . idle  ! breaks a rule\nof a resource: the first in its queue after the tick, and how many wait behind it\n"
+}
+
+pub(crate) fn add(text: &mut Vec<u8>, part: &[u8]) -> Result<(), Memory>
+    ensures { OnOk result (text.new.items ≡ text.old.items ++ part.now) }
+{
+    text.extend_from_slice(part).map_err(|_| Memory)
+}
+
+pub(crate) fn add_number(text: &mut Vec<u8>, number: u64) -> Result<(), Memory>
+    ensures { OnOk result (text.new.items ≡ text.old.items ++ decimal number) }
+{
+    let mut digits = Buffer::new();
+    add(text, digits.format(number).as_bytes())
+}
+
+// The code of a rule.
+#[tactic(auto, unfolding(crate::specs::Picture::rule_text))]
+pub(crate) fn rule_word(rule: Rule) -> &'static [u8]
+    ensures { result.now ≡ rule_text rule }
+{
+    match rule {
+        Rule::A1 => b"A1",
+        Rule::A2 => b"A2",
+        Rule::A3 => b"A3",
+        Rule::A4 => b"A4",
+        Rule::A5 => b"A5",
+        Rule::A6 => b"A6",
+        Rule::A7 => b"A7",
+    }
+}
+
+// The verdict.
+pub(crate) fn add_verdict(text: &mut Vec<u8>, found: Result<(), Fault>) -> Result<(), Memory>
+    ensures { OnOk result (text.new.items ≡ text.old.items ++ verdict_text found) }
+{
+    match found {
+        Ok(()) => add(text, b"good\n"),
+        Err(fault) => {
+            add(text, b"fault,")?;
+            add_number(text, fault.row as u64)?;
+            add(text, b",")?;
+            add(text, rule_word(fault.rule))?;
+            add(text, b"\n")
+        }
+    }
+}
+
+// Which ticks are drawn, the last one by its own number.
+pub(crate) fn add_window(text: &mut Vec<u8>, plan: &Plan, window: Window) -> Result<(), Memory>
+    requires { IsWindow window }
+    ensures { OnOk result (text.new.items ≡ text.old.items ++ window_text plan.now window) }
+{
+    add(text, b"ticks ")?;
+    add_number(text, window.from as u64)?;
+    add(text, b" to ")?;
+    add_number(text, (window.to - 1) as u64)?;
+    add(text, b" of ")?;
+    add_number(text, plan.ticks() as u64)?;
+    add(text, b"\n")
+}
+
+// The name of a resource; nothing where the plan has no such one.
+pub(crate) fn res_name(plan: &Plan, res: ResId) -> &[u8]
+    ensures { result.now ≡ slice_index_or plan.now.resources res.0 [] }
+{
+    if res.0 < plan.resources() {
+        plan.res_name(res).as_bytes()
+    } else {
+        b""
+    }
+}
+
+// The spaces behind a label of so many columns.
+fn filling(columns: usize) -> &'static [u8]
+    ensures { result.now ≡ drop columns spaces }
+{
+    let spaces = spaces();
+    &spaces[columns.min(spaces.len())..]
+}
+
+// A word and a name, filled up with spaces.
+fn add_label(text: &mut Vec<u8>, word: &[u8], name: &[u8]) -> Result<(), Memory>
+    requires { length word.now + length name.now ≤ usize.MAX }
+    ensures { OnOk result (text.new.items ≡ text.old.items ++ label (word.now ++ name.now)) }
+{
+    add(text, word)?;
+    add(text, name)?;
+    add(text, filling(word.len() + name.len()))
+}
+
+fn add_label_of(text: &mut Vec<u8>, plan: &Plan, line: Line) -> Result<(), Memory>
+    ensures { OnOk result (text.new.items ≡ text.old.items ++ label (name_of plan.now line)) }
+{
+    let mut digits = Buffer::new();
+    match line {
+        Line::Ticks => add_label(text, b"tick", b""),
+        Line::Core(core, Aspect::Who) => {
+            add_label(text, b"core ", digits.format(core.0).as_bytes())
+        }
+        Line::Core(_, Aspect::What) => add_label(text, b"", b""),
+        Line::Queue(res, Aspect::Who) => add_label(text, b"", res_name(plan, res)),
+        Line::Queue(_, Aspect::What) => add_label(text, b"  waiting", b""),
+    }
+}
+
+// The cells that stand in a part.
+fn part_of(cells: &[u8], part: u32) -> &[u8]
+    ensures { result.now ≡ slice_range cells.now (part * LINE_TICKS) ((part + 1) * LINE_TICKS) }
+{
+    let width = LINE_TICKS as usize;
+    let first = cells.len().min(part as usize * width);
+    let last = cells.len().min((part as usize + 1) * width);
+    &cells[first..last]
+}
+
+// What stands of a line in a part.
+fn add_line(text: &mut Vec<u8>, plan: &Plan, drawn: &Drawn, part: u32) -> Result<(), Memory>
+    ensures { OnOk result (text.new.items ≡ text.old.items ++ drawn_text plan.now part drawn.now) }
+{
+    add_label_of(text, plan, drawn.line)?;
+    add(text, part_of(&drawn.cells, part))?;
+    add(text, b"\n")
+}
+
+fn add_part(text: &mut Vec<u8>, plan: &Plan, drawn: &[Drawn], part: u32) -> Result<(), Memory>
+    ensures { OnOk result (text.new.items ≡ text.old.items ++ (codes "\n" ++ flat_map (drawn_text plan.now part) drawn.now)) }
+{
+    add(text, b"\n")?;
+    for line in drawn {
+        add_line(text, plan, line, part)?;
+    }
+    Ok(())
+}
+
+fn add_parts(text: &mut Vec<u8>, plan: &Plan, drawn: &[Drawn], window: Window) -> Result<(), Memory>
+    requires { IsWindow window }
+    ensures { OnOk result (text.new.items ≡ text.old.items ++ flat_map (λ i. codes "\n" ++ flat_map (drawn_text plan.now i) drawn.now) (range_with_len 0 (parts window))) }
+{
+    for part in 0..window.parts() {
+        add_part(text, plan, drawn, part)?;
+    }
+    Ok(())
+}
+
+pub(crate) fn add_task(text: &mut Vec<u8>, plan: &Plan, task: TaskId) -> Result<(), Memory>
+    requires { task.0 < length plan.now.tasks }
+    ensures { OnOk result (text.new.items ≡ text.old.items ++ task_text plan.now task.0) }
+{
+    add(text, &[letter(task)])?;
+    add(text, b": ")?;
+    add(text, plan.task_name(task).as_bytes())?;
+    add(text, b" on core ")?;
+    add_number(text, plan.core_of(task).0 as u64)?;
+    add(text, b"\n")
+}
+
+fn add_tasks(text: &mut Vec<u8>, plan: &Plan) -> Result<(), Memory>
+    ensures { OnOk result (text.new.items ≡ text.old.items ++ flat_map (task_text plan.now) (range_with_len 0 (length plan.now.tasks))) }
+{
+    for task in 0..plan.tasks() {
+        add_task(text, plan, TaskId(task))?;
+    }
+    Ok(())
+}
+
+fn add_legend(text: &mut Vec<u8>, plan: &Plan) -> Result<(), Memory>
+    ensures { OnOk result (text.new.items ≡ text.old.items ++ legend_text plan.now) }
+{
+    add(text, b"\n")?;
+    add_tasks(text, plan)?;
+    add(text, signs())
+}
+
+// A picture of these ticks of what is shown of a trace of the plan.
+fn picture_of(
+    alloc: Global,
+    plan: &Plan,
+    shown: &Shown<'_>,
+    window: Window,
+) -> Result<Vec<u8>, Memory>
+    requires { IsWindow window }
+    ensures { IfOk result (λ text. text.items ≡ drawn_picture plan.now shown.now.rows.now shown.now.broken shown.now.found window) }
+{
+    let drawn = draw_lines(alloc, plan, shown, window)?;
+    let mut text = Vec::new(alloc);
+    add_verdict(&mut text, shown.found)?;
+    add_window(&mut text, plan, window)?;
+    add_parts(&mut text, plan, &drawn, window)?;
+    add_legend(&mut text, plan)?;
+    Ok(text)
+}
+
+/// A picture of these ticks of rows of the plan, on which that is the verdict.
+pub(crate) fn picture(
+    alloc: Global,
+    plan: &Plan,
+    rows: &[Row],
+    found: Result<(), Fault>,
+    window: Window,
+) -> Result<Vec<u8>, Memory>
+    requires { IsWindow window }
+    ensures { IfOk result (λ text. text.items ≡ picture_text plan.now rows.now found window) }
+{
+    let shown = Shown::of(rows, found);
+    picture_of(alloc, plan, &shown, window)
+}

@@ -1,9 +1,0 @@
-use Rattle.std.proofs.Common.{arith}
-use Rattle.std.proofs.lemmas.Grind.{common_steps}
-use Rattle.msrp_plan.specs.Levels.{is_global}
-use Rattle.msrp_view.specs.Lines.{queue_lines}
-use Rattle.msrp_view.proofs.Growing.{grows-some}
-use Rattle.msrp_view.proofs.lines.push_queues.Goals as goal
-
-pub loop-res-preserved : goal.loop-res-preserved
-loop-res-preserved c = grows-some (is_global c.args.plan.now) queue_lines c.loop-res.res c.args.lines.now.items c.loop-res.lines.items c.if-is_global.lines.items c.loop-res.invariant (grind (arith, common_steps))
