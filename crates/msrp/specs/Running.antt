@@ -5,6 +5,7 @@ use Rattle.msrp_plan.specs.Aheads.{carries_ahead}
 use Rattle.msrp_plan.specs.Bytes.{Wrote}
 use Rattle.msrp_plan.specs.Plan.{PlanModel}
 use Rattle.msrp_plan.specs.Runs.{IsRun}
+use Rattle.msrp_plan.specs.WellFormed.{IsPlan}
 use Rattle.msrp_plan.specs.declared.bytes.Sink.{Sink}
 use Rattle.msrp_plan.specs.declared.rows.Row.{Row}
 use Rattle.msrp_plan.specs.declared.rows.TextVersion.{TextVersion}
@@ -19,6 +20,12 @@ pub record WritesLegalRun {W : Type 0} (contents : W → Option (List ℕ)) (ver
   pub run : IsRun plan rows
   pub aheads : carries_ahead rows ≡ true
   pub text : Wrote contents old new (trace_text version plan rows)
+
+-- the sink took such a text of some well-formed plan
+pub record WritesSomeLegalRun {W : Type 0} (contents : W → Option (List ℕ)) (version : TextVersion) (old new : Sink W) : Type 0 where
+  pub plan : PlanModel
+  pub well_formed : IsPlan plan
+  pub writes : WritesLegalRun contents version plan old new
 
 -- the answer to a text that stands for a plan, or to one that is refused: then nothing is written
 abbrev pub RunAnswers : {W : Type 0} → (W → Option (List ℕ)) → TextVersion → Result PlanModel TextError → Sink W → Sink W → Result ℕ CliFault → Type 0

@@ -4,10 +4,11 @@ ghost use Rattle.std.specs.Prelude.{◌≡◌, ◌⊎◌, ◌↔◌, ℕ, List, 
 ghost use Rattle.msrp_plan.specs.Aheads.{carries_ahead};
 ghost use Rattle.msrp_plan.specs.Bytes.{sink_failed, source_failed, source_remaining};
 ghost use Rattle.msrp_plan.specs.Runs.{IsRun};
+ghost use Rattle.msrp_plan.specs.WellFormed.{IsPlan};
 ghost use Rattle.msrp_text.specs.Reading.{csv_records, plan_of};
 ghost use Rattle.msrp_cli.specs.Outcomes.{written_status};
 ghost use Rattle.msrp.specs.Outcomes.{is_sim_fault};
-ghost use Rattle.msrp.specs.Running.{RunAnswers, WritesLegalRun};
+ghost use Rattle.msrp.specs.Running.{RunAnswers, WritesLegalRun, WritesSomeLegalRun};
 
 #[cfg(test)]
 mod tests;
@@ -56,7 +57,7 @@ fn write_run<T: Threads + Wait + Sync, W: Write, H: Hire>(
     version: TextVersion,
     hire: &H,
 ) -> Result<u8, CliFault>
-    ensures { (((result ≡ Err CliFault.Memory) ⊎ (result ≡ Err CliFault.Threads)) × (out.new ≡ out.old)) ⊎ (WritesLegalRun W.contents version plan.now out.old out.new × (result ≡ written_status out.new)) }
+    ensures { (((result ≡ Err CliFault.Memory) ⊎ (result ≡ Err CliFault.Threads)) × (out.new ≡ out.old)) ⊎ (IsPlan plan.now × WritesLegalRun W.contents version plan.now out.old out.new × (result ≡ written_status out.new)) }
 {
     let (logs, settled) = run_logged_if(rt, alloc, plan, &Plain, hire)?;
     let merging = Merging::new(alloc, plan, &logs, &settled)?;
@@ -84,6 +85,7 @@ pub fn run_text_if<T: Threads + Wait + Sync, P: Read, W: Write, H: Hire>(
 
     // Whatever the reader tells.
     ensures good { IfOk result (λ status. (status ≡ 0) × (sink_failed out.new ≡ false)) }
+    ensures written { OnOk result (WritesSomeLegalRun W.contents version out.old out.new) }
     ensures faults { IfErr result (λ fault. (fault ≡ CliFault.Threads) ⊎ (is_sim_fault fault ≡ true)) }
     ensures read { (result ≡ Err CliFault.Read) ↔ (source_failed plan.new ≡ true) }
     ensures write { result ≡ Err CliFault.Write → sink_failed out.new ≡ true }
@@ -105,6 +107,7 @@ pub fn run_text<T: Threads + Wait + Sync, P: Read, W: Write>(
     ensures answer { (bytes : List ℕ) → source_remaining P.remaining plan.old ≡ Some bytes
         → (result ≡ Err CliFault.Read) ⊎ (result ≡ Err CliFault.Memory) ⊎ (result ≡ Err CliFault.Threads) ⊎ RunAnswers W.contents version (plan_of (csv_records bytes)) out.old out.new result }
     ensures good { IfOk result (λ status. (status ≡ 0) × (sink_failed out.new ≡ false)) }
+    ensures written { OnOk result (WritesSomeLegalRun W.contents version out.old out.new) }
     ensures faults { IfErr result (λ fault. (fault ≡ CliFault.Threads) ⊎ (is_sim_fault fault ≡ true)) }
     ensures read { (result ≡ Err CliFault.Read) ↔ (source_failed plan.new ≡ true) }
     ensures write { result ≡ Err CliFault.Write → sink_failed out.new ≡ true }

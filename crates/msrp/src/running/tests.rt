@@ -24,6 +24,14 @@ const LOCAL: &[u8] =
 const MEET: &[u8] =
     b"msrp,1\ncores,2\nticks,6\nresource,g\ntask,a,0,20,8,0\nop,lock,g\nop,run,1\nop,unlock,g\ntask,b,1,20,8,0\nop,lock,g\nop,run,1\nop,unlock,g\n";
 
+// A task holds g, which only a task of the other core shares that has no job.
+const ALONE: &[u8] =
+    b"msrp,1\ncores,2\nticks,7\nresource,g\ntask,lo,0,20,10,0\nop,lock,g\nop,run,3\nop,unlock,g\ntask,hi,0,20,6,1\nop,run,1\ntask,other,1,20,10,7\nop,lock,g\nop,unlock,g\n";
+
+// Its rows as the logs are merged: in each tick those without a place come first, by core, and then those on g.
+const MERGED: &[u8] =
+    b"msrp-trace,1,2,7\n0,1,idle,-,-,-\n0,0,take,lo,0,g\n1,0,run,lo,0,-\n1,1,idle,-,-,-\n2,0,run,lo,0,-\n2,1,idle,-,-,-\n3,0,run,lo,0,-\n3,1,idle,-,-,-\n4,1,idle,-,-,-\n4,0,release,lo,0,g\n5,0,run,hi,0,-\n5,1,idle,-,-,-\n6,0,idle,-,-,-\n6,1,idle,-,-,-\n";
+
 // The answer on threads, with what was written.
 fn answer_to<R: Threads + Wait + Sync>(
     rt: &R,
@@ -65,6 +73,14 @@ fn on_one_core_a_run_is_the_simulation(rt: HostRuntime) {
     let (answer, written) = answer_to(&rt, rt.alloc(), LOCAL, TextVersion::V1);
     assert!(rt; answer == Ok(0));
     assert!(rt; written.as_slice() == simulated.as_slice());
+}
+
+// No order of a simulation writes these rows: in tick 0 core 1 comes first, and in tick 1 core 0.
+#[test]
+fn a_run_is_no_simulation(rt: HostRuntime) {
+    let (answer, written) = answer_to(&rt, rt.alloc(), ALONE, TextVersion::V1);
+    assert!(rt; answer == Ok(0));
+    assert!(rt; written.as_slice() == MERGED);
 }
 
 #[test]
