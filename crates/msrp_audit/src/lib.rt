@@ -14,5 +14,6 @@ mod tests;
 mod verdicts;
 
 pub use auditor::Auditor;
+pub use msrp_plan::{Fault, Rule};
 pub use parallel::audit_parallel;
 pub use verdicts::audit;

@@ -26,4 +26,5 @@ mod tests;
 mod windows;
 
 pub use engine::view_text;
-pub use windows::{Asked, LINE_TICKS, SHORT_RUN, Style};
+pub use msrp_cli::CliFault;
+pub use windows::{Asked, SHORT_RUN, Style};
