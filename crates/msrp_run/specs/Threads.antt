@@ -5,14 +5,17 @@ use Rattle.msrp_plan.specs.Plan.{PlanModel}
 use Rattle.msrp_plan.specs.declared.rows.Row.{Row}
 use Rattle.msrp_board.specs.declared.books.Book.{Book}
 use Rattle.msrp_board.specs.declared.books.Conductor.TheVariants.{Unopened, Opened}
+use Rattle.msrp_board.specs.declared.books.Entry.{Entry}
 use Rattle.msrp_board.specs.Boards.{WholeBoard, high, low, entries_at}
 use Rattle.msrp_board.specs.History.{Event, IsServed}
 use Rattle.msrp_board.specs.Seats.{BoardModel, SeatModel, book_at, empty_book}
 use Rattle.msrp_core.specs.Machine.{StandsAfter}
-use Rattle.msrp_merge.specs.Merging.{log_at}
+use Rattle.msrp_merge.specs.declared.logs.Turn.{Turn}
+use Rattle.msrp_merge.specs.Merging.{AreLogs, log_at, turns_of}
 use Rattle.msrp_merge.specs.Pairs.{Paired}
+use Rattle.msrp_merge.specs.Sorting.{IsMerged}
 use Rattle.msrp_merge.specs.Steps.{is_row_on, IsRowOfEvent}
-use Rattle.msrp_merge.specs.Turns.{LogModel}
+use Rattle.msrp_merge.specs.Turns.{LogModel, rows_of}
 use Rattle.msrp_run.specs.declared.crew.Kit.{Kit}
 use Rattle.msrp_run.specs.declared.crew.WorkOf.{WorkOf}
 use Rattle.msrp_run.specs.Work.{IsWorked}
@@ -52,6 +55,15 @@ AllWorked plan logs seat = (k : ℕ) → k < length logs → (b : Book) × (book
 -- a first-in-first-out lock answers
 abbrev pub IsServedAs : WholeBoard → ℕ → List Row → Type 0
 IsServedAs board g rows = (h : List Event) × IsServed (high (slice_index board.tickets g)) (low (slice_index board.tickets g)) g (entries_at board.books) h × Paired IsRowOfEvent (filter (is_row_on g) rows) h
+
+-- the rows are the turns of the cores' logs, whose places are those in the books: they stand by tick, and the turns of a tick by
+-- rank, those without a place first, by core, then the others by resource and place
+pub record IsInOrder (plan : PlanModel) (books : ℕ → List Entry) (rows : List Row) : Type 0 where
+  pub logs : List LogModel
+  pub fit : AreLogs plan logs books
+  pub turns : List Turn
+  pub rows_are : rows ≡ rows_of turns
+  pub sorted : IsMerged plan.cores plan.ticks (turns_of logs) turns
 
 -- the workers of all cores were let in and have ended: each has left its log, and the seat holds all books and the conductor's
 pub record HasRun (board : BoardModel) (plan : PlanModel) (logs : List LogModel) (seat : SeatModel) : Type 0 where

@@ -8,7 +8,7 @@ ghost use Rattle.msrp_board.specs.declared.books.Conductor.TheVariants.{Unopened
 ghost use Rattle.msrp_board.specs.Boards.{IsTied, entries_at};
 ghost use Rattle.msrp_merge.specs.Merging.{AreLogs, size_of, turns_of};
 ghost use Rattle.msrp_merge.specs.Turns.{rows_of};
-ghost use Rattle.msrp_run.specs.Threads.{AllWorked, AreKits, ArePromised, HasRun, IsBench, IsKit, IsPromise, IsServedAs};
+ghost use Rattle.msrp_run.specs.Threads.{AllWorked, AreKits, ArePromised, HasRun, IsBench, IsInOrder, IsKit, IsPromise, IsServedAs};
 ghost use Rattle.msrp_run.specs.Work.{HasWorked, IsNew};
 
 use crate::crew::{Handle, Kit, Started, WorkOf};
@@ -348,6 +348,9 @@ pub fn run_threads_if<R: Threads + Wait + Sync, S: Stage + Sync, H: Hire>(
     // The steps on each resource are its one history on the board, in order.
     ensures history { IfOk result (λ r. (g : ℕ) → g < length plan.now.resources → IsServedAs r.1 g r.0.rows.items) }
     ensures aheads { IfOk result (λ r. carries_ahead r.0.rows.items ≡ true) }
+
+    // The rows stand by tick. In a tick those without a place come first, by core; then the others by resource and place.
+    ensures order { IfOk result (λ r. IsInOrder plan.now (entries_at r.1.books) r.0.rows.items) }
     ensures board { IfOk result (λ r. (r.1.size ≡ size_of plan.now) × IsTied r.1) }
 {
     let (logs, settled) = run_logged_if(rt, alloc, plan, stage, hire)?;
@@ -368,6 +371,7 @@ pub fn run_threads<R: Threads + Wait + Sync, S: Stage + Sync>(
     ensures laws { IfOk result (λ r. KeepsLaws plan.now r.0.rows.items) }
     ensures history { IfOk result (λ r. (g : ℕ) → g < length plan.now.resources → IsServedAs r.1 g r.0.rows.items) }
     ensures aheads { IfOk result (λ r. carries_ahead r.0.rows.items ≡ true) }
+    ensures order { IfOk result (λ r. IsInOrder plan.now (entries_at r.1.books) r.0.rows.items) }
     ensures board { IfOk result (λ r. (r.1.size ≡ size_of plan.now) × IsTied r.1) }
 {
     run_threads_if(rt, alloc, plan, stage, &HireAll)

@@ -1,6 +1,7 @@
 use Rattle.std.proofs.Common.{◌≡◌, List, true, subst, sym}
 use Rattle.msrp_board.specs.Boards.{entries_at}
 use Rattle.msrp_merge.specs.Merging.{AreLogs, turns_of}
+use Rattle.msrp_merge.specs.Sorting.{IsMerged}
 use Rattle.msrp_merge.specs.Turns.{LogModel, rows_of}
 use Rattle.msrp_plan.specs.Aheads.{carries_ahead}
 use Rattle.msrp_plan.proofs.Runs.KeptLaws.{keeps_laws}
@@ -21,3 +22,14 @@ returns-in-Ok-clause-aheads g c =
     c.in-Ok.ensures.aheads (λ k low.
     subst (λ (l : List LogModel). carries_ahead (rows_of (turns_of l k)) ≡ true) (sym c.deref.ensures.value)
     (c.in_ok-logs.ensures.aheads k low))
+
+pub returns-in-Ok-clause-order : goal.returns-in-Ok-clause-order
+returns-in-Ok-clause-order g c =
+    let order = c.in-Ok.ensures.order in
+    record {
+      logs = c.in_ok-logs.logs.items;
+      fit = c.in_ok-logs.ensures.logs;
+      turns = order.0;
+      rows_are = order.1;
+      sorted = subst (λ (l : List LogModel). IsMerged c.args.plan.now.cores c.args.plan.now.ticks (turns_of l) order.0) c.deref.ensures.value order.2;
+    }
