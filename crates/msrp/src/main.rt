@@ -1,7 +1,8 @@
-//! `msrp`: the run of a plan of periodic tasks on several cores, from a plan's text to a trace's text.
+//! `msrp`: runs a plan of tasks on several cores, on one thread or on one for each core; judges a trace of it, and reports what happened
+//! in one; and checks a plan, of which it writes the levels and ceilings, or the plan's own text.
 //!
-//! `cli` reads the command line, `engine` turns bytes into bytes, and `main` opens what the words name,
-//! prints the line of a fault and gives the exit status.
+//! `cli` reads the command line. `engine`, `running`, `audit`, `parallel`, `report` and `check` turn bytes into bytes. `main` opens what
+//! the words name, prints the line of a fault and gives the exit status.
 #![tactic(auto)]
 
 ghost use Rattle.std.specs.Prelude.{◌≡◌, if◌then◌else◌};
@@ -33,7 +34,7 @@ use std::process::ExitCode;
 use std::sync::Wait;
 use std::thread::Threads;
 
-// The order of turns that a word asks for.
+// The order of turns of a command.
 fn order_of(order: TurnOrder) -> Order
     ensures asc { order ≡ TurnOrder.Asc → result ≡ Order.Asc }
     ensures desc { order ≡ TurnOrder.Desc → result ≡ Order.Desc }
@@ -67,7 +68,7 @@ fn sources(
     Ok((Source::new(plan), Source::new(trace)))
 }
 
-// `threads` starts the threads of a run, and of an audit in pieces.
+// Does what the words ask for, and answers the exit status. `threads` starts the threads of a run, and of an audit in pieces.
 fn run<T: Threads + Wait + Sync>(rt: &HostRuntime, threads: &T) -> Result<u8, CliFault> {
     let alloc = rt.alloc();
     let words = words_of(rt)?;

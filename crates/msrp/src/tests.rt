@@ -198,7 +198,8 @@ fn worked_plans(rt: HostRuntime) {
     }
 }
 
-// What a text is read as is the same run: a byte order mark, quotes, other line ends, an empty line.
+// The same plan in other texts gives the same run: with a byte order mark, quotes, other line ends, empty lines, and its work in two
+// records.
 #[test]
 fn the_same_plan(rt: HostRuntime) {
     let table: [&[u8]; 5] = [
@@ -490,7 +491,7 @@ fn a_long_trace_is_cut(rt: HostRuntime) {
     }
 }
 
-// The command of these words, after the program's name.
+// These words, after the program's name.
 fn words_of(alloc: Global, words: &[&str]) -> Result<Vec<String>, AllocError> {
     let mut all = Vec::new(alloc);
     all.push(String::from_str(alloc, "msrp")?)?;

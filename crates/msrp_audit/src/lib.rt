@@ -1,4 +1,6 @@
 //! The auditor: it accepts exactly the legal runs, and names the first row that breaks a rule.
+//!
+//! [`audit`] judges a whole trace, and [`audit_parallel`] does so in pieces, which threads share. An [`Auditor`] judges rows as they come.
 #![tactic(auto)]
 
 mod auditor;

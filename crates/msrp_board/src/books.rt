@@ -29,8 +29,11 @@ pub struct Book {
 /// What the conductor of a run did: it lets the cores into tick 0, or calls the run off.
 #[derive(Clone, Copy, Debug, PartialEq, Eq)]
 pub enum Conductor {
+    /// Nothing yet.
     Unopened,
+    /// It let the cores into tick 0.
     Opened,
+    /// It called the run off.
     Aborted,
 }
 

@@ -1,4 +1,4 @@
-//! The eight kinds of step, each one atomic instruction on one word.
+//! The seven kinds of step, each one atomic instruction on one word, and how seats are parted and joined.
 ghost use Rattle.std.specs.Prelude.{Some, ◌≡◌, [], ◌+◌, ◌-◌, ◌<◌, ◌==◌, ◌*◌, ℕ};
 ghost use mathlib.Core.Option.{none};
 ghost use Rattle.atomic_table.specs.Table.{step};

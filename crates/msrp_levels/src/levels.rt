@@ -16,7 +16,7 @@ use std::marker::Model;
 
 /// The preemption levels and ceilings of a plan, which of its resources are global, and the bounds that it gives.
 ///
-/// All is computed once, by [`Levels::of`], in one pass over the units of each task. A reader looks up what is
+/// All is computed once, by [`Levels::of`], in two passes over the units of each task. A reader looks up what is
 /// stored; it takes no memory. The numbers of tasks, resources and cores that a reader takes are the plan's.
 #[derive(Drop)]
 pub struct Levels<'a> {

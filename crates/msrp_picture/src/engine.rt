@@ -1,4 +1,4 @@
-//! Engines: from bytes to bytes, over any reader and writer.
+//! The engine: from bytes to bytes, over any reader and writer.
 
 ghost use Rattle.std.specs.Prelude.{◌≡◌, ◌⊎◌, ℕ, List, true, false, Some, Err, IfOk, IfErr};
 ghost use Rattle.msrp_plan.specs.Bytes.{Wrote, sink_failed, source_failed, source_remaining};

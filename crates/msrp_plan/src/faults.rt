@@ -20,7 +20,7 @@ pub enum PlanFault {
     Name,
     /// P6: a task, or a resource, of that name stands already.
     Taken,
-    /// P7: a number is out of its range, or there is one resource, task, unit or held resource too many.
+    /// P7: a number is out of its range, or there is one resource, task, unit, release or held resource too many.
     Limit,
     /// P8: a resource that was not declared.
     Undeclared,

@@ -27,8 +27,11 @@ pub enum Step {
 /// What a core has to do with the global resources: a core holds or awaits at most one.
 #[derive(Clone, Copy, Debug, PartialEq, Eq)]
 pub enum Phase {
+    /// It neither holds nor awaits one.
     Free,
+    /// It awaits this one.
     Queued(ResId),
+    /// It holds this one.
     Holding(ResId),
 }
 

@@ -1,3 +1,5 @@
+//! Ready jobs: which one comes first, and which one is taken next.
+
 use crate::Ready;
 use msrp_plan::{CoreId, JobId, Plan, PlanBuilder, PlanFault, Step, TaskId};
 use std::alloc::Global;

@@ -133,7 +133,7 @@ fn a_refused_thread_stops_the_run(rt: HostRuntime) -> Result<(), Fail> {
     Ok(())
 }
 
-// Whatever growth is refused: all turns were made, or none.
+// The turns that were made fit the answer: all of them with a trace, none where a thread was refused, all or none where memory was.
 #[test]
 fn turns_are_all_or_none(rt: HostRuntime) -> Result<(), Fail> {
     let plan = two_sections(rt.alloc())?;

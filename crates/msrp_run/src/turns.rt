@@ -27,6 +27,7 @@ fn turn_through<B: FirstSeat>(
     ensures { HasTurned board.now machine.old log.old seat machine.new log.new result.0 result.1 }
 {
     let left = machine.tick() < log.ticks();
+    // Read so that what every seat keeps is known of this one: a core that is let in has a tick left.
     let _conductor = seat.conductor();
     prove!(left);
     let mut port = SeatPort::<B>::new(board, machine.core(), seat);

@@ -64,6 +64,7 @@ pub fn worker<R: Wait, S: Stage>(
     ensures { HasWorked board.now machine.entry.plan machine.entry.core result.0 result.1 }
 {
     let mut waiting = Waiting::new();
+    // Read so that what every seat keeps is known of this one.
     let _ticks = seat.tick();
     for _ in rt.forever() {
         match board.look(&mut seat) {

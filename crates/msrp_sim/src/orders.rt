@@ -31,7 +31,7 @@ impl TickPlace {
     }
 }
 
-/// An order of turns: in each tick each core has one.
+/// An order of turns: in each tick each core has one. A given list may be no such order, as [`Order::is_of`] tells.
 #[derive(Debug, Drop)]
 pub enum Order {
     /// In each tick the cores rising.

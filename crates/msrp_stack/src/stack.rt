@@ -31,7 +31,8 @@ pub(crate) struct Started {
 /// The started jobs of one core, and its current ceiling.
 ///
 /// A global resource counts as held from its request on, since the core stands at its highest level from then to the
-/// release (Gai, Lipari and Di Natale 2001). All calls take constant time and no memory.
+/// release (Gai, Lipari and Di Natale 2001). After [`CeilingStack::with_room`], which takes all memory, all calls take constant
+/// time and no memory.
 #[derive(Drop)]
 pub struct CeilingStack<'a> {
     pub(crate) plan: &'a Plan,

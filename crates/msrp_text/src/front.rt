@@ -1,4 +1,5 @@
-//! Plain lines: those without quotes, whose fields stand between commas.
+//! Plain lines, whose fields stand between commas: a plain line isn't empty, has no quote, doesn't begin as a byte order mark does, is
+//! shorter than [`LONGEST`], and ends with LF or CRLF.
 ghost use Rattle.std.specs.Prelude.{◌≡◌, ◌==◌, ◌&&◌, ◌||◌, ◌≤◌, ◌<◌, ◌⊎◌, ◌++◌, ◌∷◌, ℕ, List, [], IfOk, IsSome, true, false, slice_index, length, take, drop};
 ghost use Rattle.std.specs.Option.{IfSome};
 ghost use Rattle.csv.specs.Records.{fields_of, partial_of};
@@ -7,7 +8,7 @@ ghost use Rattle.msrp_text.specs.Plain.{BeginsWith, EndsLine, IsInLine, Stands, 
 use csv::ByteRecord;
 use std::alloc::AllocError;
 
-// A longer line is left to `csv`. No line of a trace is as long, nor one of a plan.
+// A line of so many bytes or more is left to `csv`. No line of a trace is as long, nor one of a plan.
 pub(crate) const LONGEST: usize = 256;
 
 // The first byte of a byte order mark. A line that begins with it is left to `csv`.

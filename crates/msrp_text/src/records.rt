@@ -47,8 +47,8 @@ fn by_csv<R: Read>(way: Way<R>, alloc: Global) -> (Way<R>, ())
 /// The records of a text: fields between commas, no header row, records of any length, an empty line is no
 /// record.
 ///
-/// Lines without a quote are taken as they stand. The first line that isn't plain and all that comes after it is read by
-/// `csv`.
+/// Plain lines are taken as they stand. A plain line isn't empty, has no quote, doesn't begin as a byte order mark does, is shorter than
+/// [`LONGEST`], and ends with LF or CRLF. The first line that isn't plain and all that comes after it is read by `csv`.
 #[derive(Drop)]
 pub struct RecordReader<R> {
     alloc: Global,

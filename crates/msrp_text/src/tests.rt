@@ -1,3 +1,5 @@
+//! Texts of plans and their refusals, and records over readers that fail or give a text in pieces.
+
 use crate::reading::{TextError, read_plan};
 use crate::records::{RecordReader, Stopped};
 use csv::ByteRecord;

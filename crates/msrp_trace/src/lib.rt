@@ -1,4 +1,7 @@
 //! Trace text, read and written: the rows of a text, or its first refusal, and the text of rows.
+//!
+//! A [`TraceReader`] gives the rows of a text one by one, and a [`TraceWriter`] writes them; [`write_trace`] writes a whole trace. [`laws`]
+//! are theorems about what is written and read again.
 #![tactic(auto)]
 
 mod faults;

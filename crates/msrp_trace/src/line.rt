@@ -187,7 +187,7 @@ impl RowLine {
         }
     }
 
-    // Whether the row differs from this one in the tick alone. One with an ahead isn't kept: no other follows it.
+    // Whether the row differs from this one in the tick alone. A row with an ahead is like no other.
     fn is_of(&self, row: &Row) -> bool
         ensures kind { result ≡ true → IsSomeAnd self.now.row (λ last. last.kind ≡ row.now.kind) }
         ensures place { result ≡ true → IsSomeAnd self.now.row (λ last. is_same_place last row.now ≡ true) }

@@ -357,7 +357,7 @@ impl Read for Halting<'_> {
     }
 }
 
-// Wherever a read fails, the rows before it are read, and then the fault is told.
+// Wherever a read fails, the reading ends with that fault.
 #[test]
 fn each_read_fails_in_turn(rt: HostRuntime) -> Result<(), Fail> {
     let alloc = rt.alloc();

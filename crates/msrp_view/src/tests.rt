@@ -12,7 +12,7 @@ const ALL: Asked = Asked {
     to: None,
 };
 
-// The command of these words, after the program's name.
+// These words, after the program's name.
 fn words_of(alloc: Global, words: &[&str]) -> Result<Vec<String>, AllocError> {
     let mut all = Vec::new(alloc);
     all.push(String::from_str(alloc, "msrp_view")?)?;

@@ -1,3 +1,5 @@
+//! Checks of texts: worked plans, plans that are refused, and a write that fails.
+
 use super::check_text;
 use msrp_cli::CliFault;
 use msrp_plan::bytes::{Sink, Source};

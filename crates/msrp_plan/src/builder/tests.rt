@@ -1,3 +1,5 @@
+//! Calls to a builder: what was told is read back from the plan, and what is refused, with which fault.
+
 use super::PlanBuilder;
 use crate::faults::PlanFault;
 use crate::ids::{CoreId, JobId, JobKey, ResId, TaskId};
@@ -108,7 +110,7 @@ fn with_tasks(alloc: Global, count: u32) -> Result<PlanBuilder, PlanFault> {
     Ok(builder)
 }
 
-// The fault of a task of two cores' resource g, of which a locks h inside where it is asked to, at so many ticks.
+// The fault of a plan of so many ticks with a task on each of two cores, which both do `nested` inside a section on g.
 fn global_fault(alloc: Global, nested: Step, ticks: u32) -> Result<Option<PlanFault>, PlanFault> {
     let mut builder = new(alloc, 2, ticks)?;
     resource(&mut builder, "g")?;

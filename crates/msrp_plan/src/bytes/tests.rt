@@ -1,3 +1,5 @@
+//! Sources and sinks over readers and writers that fail, that end, and that go on past the limits.
+
 use super::{BYTE_LIMIT, CALL_LIMIT, Sink, Source};
 use std::alloc::Global;
 use std::io;

@@ -31,7 +31,8 @@ pub(super) struct Rows {
     words: Vec<AtomicU64>,
 }
 
-// A row in a word: what stands beside its tick and core, two bytes each, and 1 where something stands.
+// A row in a word, but for its tick and core: kind and resource in a byte each; ahead, task and job number in two; and 1 where something
+// stands.
 fn word_of(row: &Row) -> u64 {
     let job = match row.job {
         Some(job) => 1 | u64::from(job.task.0) << 1 | u64::from(job.k) << 16,
