@@ -137,7 +137,7 @@ fn whole_traces_are_good(rt: HostRuntime) -> Result<(), Fail> {
 }
 
 #[test]
-fn each_rule_is_told(rt: HostRuntime) -> Result<(), Fail> {
+fn rules_of_a_row_are_told(rt: HostRuntime) -> Result<(), Fail> {
     let plan = plan(rt.alloc())?;
     let changes = [
         (0, on(0, 2, Kind::Take, 0), Rule::A1),

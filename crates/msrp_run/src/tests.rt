@@ -72,7 +72,7 @@ fn two_cores_meet(rt: HostRuntime) -> Result<(), Fail> {
 }
 
 #[test]
-fn core_one_first(rt: HostRuntime) -> Result<(), Fail> {
+fn who_goes_first_takes(rt: HostRuntime) -> Result<(), Fail> {
     let plan = two_sections(rt.alloc())?;
     for (leader, follower) in [(1, 0), (0, 1)] {
         let stage = OneFirst::of(rt.alloc(), &plan, CoreId(leader))?;

@@ -280,7 +280,7 @@ fn rows_of_version_two(rt: HostRuntime) -> Result<(), Fail> {
 }
 
 #[test]
-fn codes_are_printed(rt: HostRuntime) {
+fn faults_have_their_codes(rt: HostRuntime) {
     let table = [
         (TraceFault::Head, 1),
         (TraceFault::Name, 5),

@@ -84,7 +84,7 @@ fn a_run_is_no_simulation(rt: HostRuntime) {
 }
 
 #[test]
-fn twenty_runs_are_good(rt: HostRuntime) {
+fn runs_are_good(rt: HostRuntime) {
     for version in [TextVersion::V1, TextVersion::V2] {
         for _ in 0..20 {
             let (answer, written) = answer_to(&rt, rt.alloc(), MEET, version);
