@@ -165,7 +165,7 @@ fn records_of_tasks(rt: HostRuntime) -> Result<(), Fail> {
 
 #[test]
 fn records_of_units(rt: HostRuntime) -> Result<(), Fail> {
-    let table: [(&[u8], PlanFault, u32); 22] = [
+    let table: [(&[u8], PlanFault, u32); 24] = [
         (b"op\n", PlanFault::OutOfPlace, 4),
         (b"op,run,1\n", PlanFault::OutOfPlace, 4),
         (b"task,a,0,3,3,0\nop\n", PlanFault::FieldCount, 5),
@@ -200,6 +200,16 @@ fn records_of_units(rt: HostRuntime) -> Result<(), Fail> {
             6,
         ),
         (b"task,a,0,3,3,0\nop,run,1\n \n", PlanFault::OutOfPlace, 6),
+        (
+            b"resource,r\nresource,q\ntask,a,0,9,9,0\nop,lock,r\nop,lock,q\nop,unlock,r\n",
+            PlanFault::Nesting,
+            9,
+        ),
+        (
+            b"resource,r\nresource,q\ntask,a,0,9,9,0\nop,lock,r\nop,lock,q\n",
+            PlanFault::Nesting,
+            9,
+        ),
     ];
     all_refused_after_head(&rt, rt.alloc(), &table)
 }

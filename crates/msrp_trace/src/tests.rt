@@ -357,12 +357,12 @@ impl Read for Halting<'_> {
     }
 }
 
-// Wherever a read fails, the reading ends with that fault.
+// Each byte is one read, and the end is one more. Wherever a read fails, the reading ends with that fault.
 #[test]
 fn each_read_fails_in_turn(rt: HostRuntime) -> Result<(), Fail> {
     let alloc = rt.alloc();
     let plan = handover(alloc)?;
-    for fails_at in 0..VERSION_TWO.len() {
+    for fails_at in 0..=VERSION_TWO.len() {
         let mut source = Source::new(Halting {
             text: VERSION_TWO,
             calls: 0,
