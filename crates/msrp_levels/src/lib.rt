@@ -13,5 +13,6 @@ mod preemption;
 mod tests;
 mod usage;
 mod usages;
+pub mod worked;
 
 pub use levels::Levels;

@@ -17,6 +17,7 @@ pub mod RaisedWhileHolding
 pub mod RaisedWhileQueued
 pub mod RequestedAgain
 pub mod LocalInsideGlobal
+pub mod GlobalInsideLocal
 pub mod LockHistory
 pub mod Refusals
 pub mod JobsOfOneTask
@@ -24,6 +25,7 @@ pub mod TwoHeads
 pub mod LevelsOverThePlan
 pub mod TwoResources
 pub mod UnevenSections
+pub mod TwoSections
 pub mod FiveInAQueue
 pub mod LockCalls
 pub mod WrongActions

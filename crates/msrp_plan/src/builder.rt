@@ -24,7 +24,7 @@ use crate::limits::{
 use crate::names::is_name;
 use crate::parts::Parts;
 use crate::plans::Plan;
-use crate::tasks::{Task, add_release, add_units};
+use crate::tasks::{Task, add_release, add_task, add_units};
 use crate::times::Releases;
 use crate::units::{Op, Step};
 use crate::users::users_of;
@@ -142,14 +142,13 @@ impl PlanBuilder {
             return Err(fault);
         }
         let number = self.parts.tasks.len() as u32;
-        let name = String::from_str(self.alloc, name)?;
         let task = Task {
             core,
             releases,
             deadline,
             units: Vec::new(self.alloc),
         };
-        self.parts.tasks.insert(name, task)?;
+        add_task(self.alloc, &mut self.parts.tasks, name, task)?;
         Ok(TaskId(number))
     }
 

@@ -25,9 +25,9 @@ mod scheduling;
 pub use blocking::{
     blocked_as_long_as_can_be, blocked_by_a_global_section, blocked_by_begun_sections,
     blocked_by_one_section, blocked_since_release, bounded_blocking, bounded_sections,
-    bounds_on_blocking,
+    bounds_of_nested_sections, bounds_of_two_sections, bounds_on_blocking,
 };
-pub use broken::{broken_bounds, broken_schedules};
+pub use broken::{broken_bounds, broken_deadlines, broken_schedules};
 pub use scheduling::{earliest_deadline_first, existence, runs_released, work_conservation};
 
 /// No local blocking: a job that has its turn never finds a local resource held by another job, of whatever
@@ -70,12 +70,13 @@ pub fn determinacy()
 {}
 
 /// A worked run with a local resource: who is started later finds it free. Were it started past the ceiling,
-/// it would find it held.
+/// it would find it held, and both would hold it.
 pub fn ceiling_keeps_a_lock_free()
     ensures laws { KeepsLaws blocked_by_the_ceiling.plan blocked_by_the_ceiling.rows }
     ensures held { holds blocked_by_the_ceiling.plan (take 4 blocked_by_the_ceiling.rows) 0 (job 0 0) ≡ true }
     ensures free { holds blocked_by_the_ceiling.plan (take 5 blocked_by_the_ceiling.rows) 0 (job 0 0) ≡ false }
     ensures past_the_ceiling { ¬ NoLocalBlocking blocked_by_the_ceiling.plan blocked_by_the_ceiling.past_the_ceiling }
+    ensures two_holders { ¬ MutualExclusion blocked_by_the_ceiling.plan blocked_by_the_ceiling.past_the_ceiling }
 {}
 
 /// A worked run in which a global resource goes from one core to another. Were it taken while it is held, two

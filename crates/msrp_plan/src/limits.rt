@@ -1,6 +1,8 @@
 //! The limits that every plan keeps. The builder refuses what is past one of them: too many jobs as P13, all else as P7.
 ghost use Rattle.std.specs.Prelude.{◌≡◌};
-ghost use Rattle.msrp_plan.specs.Limits.{most_cores, most_ticks, most_tasks, most_resources, most_units, most_held, most_jobs, most_releases, longest_time};
+ghost use Rattle.msrp_plan.specs.Limits.{most_cores, most_ticks, most_tasks, most_resources, most_units, most_held, most_jobs, most_releases, longest_time, most_bytes, most_calls};
+
+use crate::bytes::{BYTE_LIMIT, CALL_LIMIT};
 
 /// The most cores of a plan.
 pub const MOST_CORES: u32 = 8;
@@ -29,7 +31,7 @@ pub const MOST_RELEASES: usize = 8_192;
 /// The greatest period, relative deadline, offset and tick of a listed release, in ticks.
 pub const LONGEST_TIME: u32 = 1_000_000;
 
-/// The constants are the limits that the definitions state.
+/// The constants are the limits that the definitions state, those of a source of bytes too.
 pub fn stated()
     ensures cores { MOST_CORES ≡ most_cores }
     ensures ticks { MOST_TICKS ≡ most_ticks }
@@ -40,4 +42,6 @@ pub fn stated()
     ensures jobs { MOST_JOBS ≡ most_jobs }
     ensures releases { MOST_RELEASES ≡ most_releases }
     ensures time { LONGEST_TIME ≡ longest_time }
+    ensures bytes { BYTE_LIMIT ≡ most_bytes }
+    ensures calls { CALL_LIMIT ≡ most_calls }
 {}

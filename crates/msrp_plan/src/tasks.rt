@@ -1,13 +1,14 @@
 //! Tasks as a plan and its builder store them.
-ghost use Rattle.std.specs.Prelude.{◌≡◌, ◌<◌, ◌+◌, ◌^◌, ℕ, List, length, map, replicate, vec_len, OnOk, OnErr};
+ghost use Rattle.std.specs.Prelude.{◌≡◌, ◌<◌, ◌+◌, ◌++◌, ◌∷◌, [], ◌^◌, ℕ, false, List, length, map, replicate, vec_len, OnOk, OnErr};
 ghost use Rattle.msrp_plan.specs.Building.{with_more_ticks, with_more_units, with_newest};
+ghost use Rattle.msrp_plan.specs.Names.{has_name};
 ghost use Rattle.msrp_plan.specs.Inside.Tasks.{named_view, task_view};
 
 use crate::ids::CoreId;
 use crate::times::Releases;
 use crate::units::Op;
 use indexmap::IndexMap;
-use std::alloc::AllocError;
+use std::alloc::{AllocError, Global};
 
 // A task as it is stored, under its name.
 #[derive(Debug, Drop)]
@@ -36,6 +37,22 @@ impl Task {
     {
         self.releases.push(tick)
     }
+}
+
+// A task of a new name goes last.
+pub(crate) fn add_task(
+    alloc: Global,
+    tasks: &mut IndexMap<String, Task>,
+    name: &str,
+    task: Task,
+) -> Result<(), AllocError>
+    requires { has_name (map (λ other. other.name) (map task_view tasks.old.entries)) name.now ≡ false }
+    ensures added { OnOk result (map task_view tasks.new.entries ≡ map task_view tasks.old.entries ++ named_view name.now task ∷ []) }
+    ensures kept { OnErr result (map task_view tasks.new.entries ≡ map task_view tasks.old.entries) }
+{
+    let name = String::from_str(alloc, name)?;
+    tasks.insert(name, task)?;
+    Ok(())
 }
 
 // More units of one kind for the newest task.

@@ -26,7 +26,7 @@ ghost use Rattle.msrp_plan.specs.Examples.RaisedWhileQueued as raised_while_queu
 ghost use Rattle.msrp_plan.specs.Examples.LocalInsideGlobal as local_inside_global;
 ghost use Rattle.msrp_plan.specs.Examples.RequestedAgain as requested_again;
 ghost use Rattle.msrp_plan.specs.Examples.LockHistory as lock_history;
-ghost use Rattle.msrp_plan.specs.Examples.Refusals.{with_tasks, fresh, after, after_ticks, full_of_resources, full_of_tasks, eight_held, nested, nested_local};
+ghost use Rattle.msrp_plan.specs.Examples.Refusals.{with_tasks, fresh, after, after_ticks, full_of_resources, full_of_tasks, eight_held, nested, nested_local, nested_with_many_jobs};
 ghost use Rattle.msrp_plan.specs.declared.faults.PlanFault.TheVariants.{Name, Taken, Limit, Undeclared, Core, Nesting, NestedGlobal, NoUnit, Releases};
 ghost use Rattle.msrp_plan.specs.declared.units.Step.TheVariants.{Run, Lock, Unlock};
 ghost use Rattle.msrp_plan.specs.declared.faults.Rule.TheVariants.{A1, A2, A3, A4, A5, A6, A7};
@@ -35,7 +35,7 @@ mod corners;
 
 pub use corners::{
     five_in_a_queue, jobs_of_one_task, levels_over_the_plan, lock_calls, orders_and_phases,
-    past_limits, two_heads, two_resources, uneven_sections, wrong_actions,
+    past_limits, source_limits, two_heads, two_resources, uneven_sections, wrong_actions,
 };
 
 /// A plan without a task: its core idles.
@@ -244,6 +244,7 @@ pub fn refused_steps()
     ensures locked_twice { op_fault (after (locks 0 ∷ [])) (Lock (record { 0 = 0 })) ≡ Some Nesting }
     ensures not_innermost { op_fault (after (locks 0 ∷ locks 1 ∷ [])) (Unlock (record { 0 = 0 })) ≡ Some Nesting }
     ensures not_held { op_fault (after (section 0 1)) (Unlock (record { 0 = 0 })) ≡ Some Nesting }
+    ensures unlock_4097 { op_fault (after (locks 0 ∷ locks 1 ∷ works 4094)) (Unlock (record { 0 = 1 })) ≡ Some Limit }
     ensures ninth_held { op_fault eight_held (Lock (record { 0 = 8 })) ≡ Some Limit }
     ensures ninth_held_twice { op_fault eight_held (Lock (record { 0 = 7 })) ≡ Some Nesting }
     ensures run_of_none { op_fault (after []) (Run 0) ≡ Some Limit }
@@ -255,6 +256,7 @@ pub fn refused_steps()
 pub fn refused_plans()
     ensures finished { finish_fault nested_local ≡ None }
     ensures nested_global { finish_fault nested ≡ Some NestedGlobal }
+    ensures before_jobs { finish_fault nested_with_many_jobs ≡ Some NestedGlobal }
     ensures last_unitless { finish_fault (after []) ≡ Some NoUnit }
     ensures last_holds { finish_fault (after (locks 0 ∷ [])) ≡ Some Nesting }
     ensures without_tasks { finish_fault (with_tasks []) ≡ None }

@@ -36,6 +36,10 @@ eight_held = record { cores = 1; ticks = 1; resources = replicate 9 (codes "r");
 abbrev pub nested : PlanModel
 nested = with_tasks (task (codes "a") 0 20 10 0 (locks 0 ∷ section 1 0 ++ unlocks 0 ∷ []) ∷ task (codes "b") 1 20 10 0 (section 0 0 ++ section 1 0) ∷ [])
 
+-- the same with a job of each task in every tick: far more than a plan may have
+abbrev pub nested_with_many_jobs : PlanModel
+nested_with_many_jobs = record { cores = 2; ticks = 20000; resources = codes "g" ∷ codes "h" ∷ []; tasks = task (codes "a") 0 1 10 0 (locks 0 ∷ section 1 0 ++ unlocks 0 ∷ []) ∷ task (codes "b") 1 1 10 0 (section 0 0 ++ section 1 0) ∷ [] }
+
 -- core 1 doesn't use h: it is local
 abbrev pub nested_local : PlanModel
 nested_local = with_tasks (task (codes "a") 0 20 10 0 (locks 0 ∷ section 1 0 ++ unlocks 0 ∷ []) ∷ task (codes "b") 1 20 10 0 (section 0 0) ∷ [])

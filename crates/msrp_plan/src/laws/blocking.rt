@@ -9,8 +9,11 @@ ghost use Rattle.msrp_plan.specs.Blocking.{BlockedByBegunSections, BlockedByOneS
 ghost use Rattle.msrp_plan.specs.Laws.{KeepsLaws};
 ghost use Rattle.msrp_plan.specs.Examples.Notation.{job, run};
 ghost use Rattle.msrp_plan.specs.Examples.BlockedHead as blocked_head;
+ghost use Rattle.msrp_plan.specs.Examples.GlobalInsideLocal as global_inside_local;
 ghost use Rattle.msrp_plan.specs.Examples.LevelsOverThePlan as levels_over_the_plan;
 ghost use Rattle.msrp_plan.specs.Examples.RaisedWhileHolding as raised_while_holding;
+ghost use Rattle.msrp_plan.specs.Examples.TwoSections as two_sections;
+ghost use Rattle.msrp_plan.specs.Examples.UnevenSections as uneven_sections;
 ghost use Rattle.msrp_plan.specs.declared.rows.Row.{Row};
 
 /// A row of a later job, while a job of its core is released and unfinished, is of the job that comes first
@@ -55,6 +58,7 @@ pub fn blocked_as_long_as_can_be()
     ensures known { first_later blocked_head.plan (take 1 blocked_head.rows) (job 1 0) ≡ Some (job 0 0) }
     ensures amid { is_amid blocked_head.plan (take 1 blocked_head.rows) (job 0 0) ≡ true }
     ensures begun { IsBegun blocked_head.plan (take 1 blocked_head.rows) (job 0 0) 1 }
+    ensures begun_no_earlier { ¬ IsBegun blocked_head.plan (take 1 blocked_head.rows) (job 0 0) 0 }
     ensures section { count_after (continues blocked_head.plan (job 0 0) 0) [] blocked_head.rows ≡ out blocked_head.plan (task_at blocked_head.plan 0) }
     ensures longest { blocked blocked_head.plan blocked_head.rows (job 1 0) ≡ blocked_bound blocked_head.plan (task_at blocked_head.plan 1) }
     ensures rest { blocked blocked_head.plan blocked_head.rows (job 2 0) ≡ 2 }
@@ -81,5 +85,20 @@ pub fn bounds_on_blocking()
     ensures spins { spin_bound raised_while_holding.plan 0 0 ≡ 2 }
     ensures global { out raised_while_holding.plan (task_at raised_while_holding.plan 0) ≡ 7 }
     ensures global_section { blocked_bound raised_while_holding.plan (task_at raised_while_holding.plan 1) ≡ 7 }
+    ensures of_core_1 { out raised_while_holding.plan (task_at raised_while_holding.plan 2) ≡ 7 }
     ensures other_core { blocked_bound levels_over_the_plan.plan (task_at levels_over_the_plan.plan 2) ≡ 0 }
+{}
+
+/// Of the outermost sections of one task the longest counts, whichever comes first, and never their sum.
+pub fn bounds_of_two_sections()
+    ensures longest_first { out two_sections.plan (task_at two_sections.plan 0) ≡ 4 }
+    ensures blocked { blocked_bound two_sections.plan (task_at two_sections.plan 1) ≡ 4 }
+    ensures longest_last { out uneven_sections.plan (task_at uneven_sections.plan 0) ≡ 7 }
+{}
+
+/// A request inside an outermost section adds its wait to it once.
+pub fn bounds_of_nested_sections()
+    ensures inner { out global_inside_local.plan (task_at global_inside_local.plan 0) ≡ 11 }
+    ensures blocked { blocked_bound global_inside_local.plan (task_at global_inside_local.plan 1) ≡ 11 }
+    ensures second_resource { out global_inside_local.plan (task_at global_inside_local.plan 2) ≡ 7 }
 {}

@@ -1,11 +1,16 @@
 //! Rows that break a law, so that no law holds of whatever rows.
+ghost use Rattle.std.specs.Prelude.{take};
 ghost use Rattle.msrp_plan.specs.Laws.{BoundedOvertaking, BoundedSpinning, ShortQueues};
 ghost use Rattle.msrp_plan.specs.Blocking.{BlockedByBegunSections, BlockedByOneSection, BoundedBlocking, BoundedSections};
 ghost use Rattle.msrp_plan.specs.Scheduling.{EarliestDeadlineFirst, RunsReleased, WorkConservation};
+ghost use Rattle.msrp_plan.specs.Examples.Notation.{job, run, changed};
+ghost use Rattle.msrp_plan.specs.Examples.BlockedByTheCeiling as blocked_by_the_ceiling;
 ghost use Rattle.msrp_plan.specs.Examples.BlockedHead as blocked_head;
 ghost use Rattle.msrp_plan.specs.Examples.BrokenLaws as broken_laws;
+ghost use Rattle.msrp_plan.specs.Examples.EqualDeadlines as equal_deadlines;
 ghost use Rattle.msrp_plan.specs.Examples.HandoverATickLater as handover_a_tick_later;
 ghost use Rattle.msrp_plan.specs.Examples.JobsOfOneTask as jobs_of_one_task;
+ghost use Rattle.msrp_plan.specs.Examples.PreemptsASection as preempts_a_section;
 ghost use Rattle.msrp_plan.specs.Examples.TwoHeads as two_heads;
 
 /// Rows that break one bound each, by one: an overtaking too many, a queue too long, a spin too many, a row
@@ -19,11 +24,22 @@ pub fn broken_bounds()
 {}
 
 /// Rows that break the laws of scheduling: a job that is blocked outside of a section, one that runs before
-/// its release, a core that idles while it has work, a later job that goes first.
+/// its release, a core that idles while it has work, and one that works where nothing is left to do.
 pub fn broken_schedules()
     ensures begun { ¬ BlockedByBegunSections two_heads.plan two_heads.by_declaration }
     ensures one_section { ¬ BlockedByOneSection two_heads.plan two_heads.by_declaration }
     ensures released { ¬ RunsReleased jobs_of_one_task.plan jobs_of_one_task.too_early }
-    ensures conservation { ¬ WorkConservation jobs_of_one_task.plan jobs_of_one_task.never_started }
-    ensures deadlines { ¬ EarliestDeadlineFirst two_heads.plan two_heads.by_declaration }
+    ensures idles { ¬ WorkConservation jobs_of_one_task.plan jobs_of_one_task.never_started }
+    ensures works { ¬ WorkConservation jobs_of_one_task.plan (take 3 jobs_of_one_task.too_early) }
+{}
+
+/// Rows that break earliest deadline first, each by its last row and in one way alone: a job starts before an
+/// earlier one that is ready, before an earlier one that is started, and below the ceiling; a job goes on
+/// where an earlier one is started, and where the first of those that are ready is above the ceiling.
+pub fn broken_deadlines()
+    ensures first { ¬ EarliestDeadlineFirst two_heads.plan (take 1 two_heads.by_declaration) }
+    ensures preempts { ¬ EarliestDeadlineFirst equal_deadlines.plan (take 3 equal_deadlines.preempted) }
+    ensures above { ¬ EarliestDeadlineFirst blocked_by_the_ceiling.plan (take 2 blocked_by_the_ceiling.past_the_ceiling) }
+    ensures goes_on { ¬ EarliestDeadlineFirst preempts_a_section.plan (take 3 (changed preempts_a_section.rows 3 (run 2 0 (job 0 0)))) }
+    ensures blocked { ¬ EarliestDeadlineFirst preempts_a_section.plan (take 2 preempts_a_section.without_preemption) }
 {}

@@ -1,6 +1,8 @@
 //! Worked examples of corners in which a definition is easily taken wrongly.
 ghost use Rattle.std.specs.Prelude.{◌≡◌, true, [], ◌∷◌, ◌++◌, take};
+ghost use Rattle.msrp_plan.specs.Codes.{code_of};
 ghost use Rattle.msrp_plan.specs.Levels.{level, local_ceiling};
+ghost use Rattle.msrp_plan.specs.Limits.{most_bytes, most_calls};
 ghost use Rattle.msrp_plan.specs.Bounds.{spin_bound};
 ghost use Rattle.msrp_plan.specs.Logs.{ascending, log_of};
 ghost use Rattle.msrp_plan.specs.Phases.{phase_after};
@@ -20,6 +22,7 @@ ghost use Rattle.msrp_plan.specs.Examples.FiveInAQueue as five_in_a_queue;
 ghost use Rattle.msrp_plan.specs.Examples.LockCalls as lock_calls;
 ghost use Rattle.msrp_plan.specs.Examples.WrongActions as wrong_actions;
 ghost use Rattle.msrp_plan.specs.Examples.PastLimits.{nine_cores, nine_held, no_unit, jobs_8193};
+ghost use Rattle.msrp_plan.specs.declared.faults.PlanFault.TheVariants.{Read, Memory};
 ghost use Rattle.msrp_plan.specs.declared.faults.Rule.TheVariants.{A3, A4, A5};
 ghost use Rattle.msrp_plan.specs.declared.units.Phase.TheVariants.{Free, Holding, Queued};
 
@@ -88,6 +91,14 @@ pub fn orders_and_phases()
     ensures holding { phase_after (log_of 0 (take 4 handover_within_a_tick.rows)) ≡ Holding (record { 0 = 0 }) }
     ensures queued { phase_after (log_of 1 (take 4 handover_within_a_tick.rows)) ≡ Queued (record { 0 = 0 }) }
     ensures released { phase_after (log_of 0 handover_within_a_tick.rows) ≡ Free }
+{}
+
+/// The limits of a source of bytes, and the codes of the two refusals that no text brings about.
+pub fn source_limits()
+    ensures bytes { most_bytes ≡ 16777216 }
+    ensures calls { most_calls ≡ 33554432 }
+    ensures read { code_of Read ≡ 15 }
+    ensures memory { code_of Memory ≡ 16 }
 {}
 
 /// No plan is one past a limit, and no start is longer than a run.
