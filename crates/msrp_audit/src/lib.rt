@@ -11,8 +11,6 @@ mod parallel;
 mod pieces;
 mod queues;
 mod replies;
-#[cfg(test)]
-mod tests;
 mod verdicts;
 
 pub use auditor::Auditor;

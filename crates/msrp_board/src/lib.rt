@@ -16,8 +16,6 @@ mod seat;
 mod settled;
 mod states;
 mod steps;
-#[cfg(test)]
-mod tests;
 mod words;
 
 pub use answers::{Asked, BoardError, Look, Polled, SeatPhase};

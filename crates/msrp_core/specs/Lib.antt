@@ -3,4 +3,3 @@ pub mod Going
 pub mod CoreJobs
 pub mod Machine
 pub mod MachineView
-pub mod Deaf

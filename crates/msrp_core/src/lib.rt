@@ -11,6 +11,3 @@ mod port;
 
 pub use machines::Machine;
 pub use port::{Port, PortCall, Reply};
-
-#[cfg(test)]
-mod tests;

@@ -9,8 +9,6 @@ mod footprints;
 mod levels;
 mod outermost;
 mod preemption;
-#[cfg(test)]
-mod tests;
 mod usage;
 mod usages;
 pub mod worked;

@@ -12,9 +12,6 @@ ghost use Rattle.msrp_plan.specs.Building.{AreNew, IsJudged, judged, finished, e
 ghost use Rattle.msrp_plan.specs.ReleaseTimes.{Every, Listed, lacks_release, listed_ticks};
 ghost use Rattle.msrp_plan.specs.Inside.Tasks.{named_view, times_view};
 
-#[cfg(test)]
-mod tests;
-
 use crate::faults::PlanFault;
 use crate::ids::{CoreId, ResId, TaskId};
 use crate::limits::{

@@ -11,9 +11,6 @@ ghost use Rattle.std.specs.IoError.{error_kind};
 ghost use Rattle.msrp_plan.specs.Limits.{most_bytes};
 ghost use Rattle.msrp_plan.specs.Bytes.{sink_failed, sink_inner, source_failed, source_ended, source_inner, source_given, source_calls, source_remaining, is_open, is_spent, AppendsPrefix, Wrote};
 
-#[cfg(test)]
-mod tests;
-
 use crate::faults::WriteFault;
 use std::io;
 use std::io::{ErrorKind, Read, Write};

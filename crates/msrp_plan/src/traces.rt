@@ -4,9 +4,6 @@ ghost use Rattle.msrp_plan.specs.Aheads.{carries_ahead};
 
 use crate::rows::{Kind, Row};
 
-#[cfg(test)]
-mod tests;
-
 /// Rows in the order in which they were made: a row for each core and tick where the run is whole. The
 /// numbers of cores and ticks are those of the plan.
 #[derive(Debug, Drop)]

@@ -10,6 +10,3 @@ mod keyed;
 mod ready;
 
 pub use ready::Ready;
-
-#[cfg(test)]
-mod tests;

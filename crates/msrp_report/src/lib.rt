@@ -11,8 +11,6 @@ mod lines;
 mod numbers;
 mod reporter;
 mod tallies;
-#[cfg(test)]
-mod tests;
 mod totals;
 mod writing;
 

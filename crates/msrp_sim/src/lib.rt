@@ -8,8 +8,6 @@ mod fifo;
 mod machines;
 mod orders;
 mod stepping;
-#[cfg(test)]
-mod tests;
 mod tickets;
 mod turning;
 

@@ -1,4 +1,3 @@
 pub mod Layers
 pub mod Tops
 pub mod Changes
-pub mod Nested

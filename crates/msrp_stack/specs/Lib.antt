@@ -1,4 +1,3 @@
 pub mod Stack
 pub mod Layers
 pub mod StackView
-pub mod Nested

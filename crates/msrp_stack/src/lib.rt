@@ -6,7 +6,5 @@
 
 mod stack;
 mod stacks;
-#[cfg(test)]
-mod tests;
 
 pub use stacks::CeilingStack;

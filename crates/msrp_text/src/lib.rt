@@ -11,11 +11,7 @@ pub mod laws;
 mod lines;
 pub mod reading;
 pub mod records;
-#[cfg(test)]
-mod round_trips;
 mod stages;
-#[cfg(test)]
-mod tests;
 pub mod worked;
 mod writing;
 

@@ -13,8 +13,6 @@ mod line;
 mod page;
 mod reading;
 mod rows;
-#[cfg(test)]
-mod tests;
 mod text;
 mod tick;
 mod words;

@@ -274,7 +274,7 @@ impl<'a, R: Read> TraceReader<'a, R> {
     /// The core of the next row, guessed from the bytes that were read ahead. Nothing rests on it: there may be none, or
     /// another.
     #[inline(always)]
-    pub(crate) fn core_ahead(&self) -> Option<CoreId> {
+    fn core_ahead(&self) -> Option<CoreId> {
         let last = self.foreseen.tick().len();
         match self.records.ahead().get(last + 1) {
             Some(digit) if digit.is_ascii_digit() => Some(CoreId(u32::from(*digit - b'0'))),

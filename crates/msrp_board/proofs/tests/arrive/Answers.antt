@@ -1,5 +1,0 @@
-use Rattle.msrp_board.proofs.CoreSeats.{step_on}
-use Rattle.msrp_board.proofs.tests.arrive.Goals as goal
-
-pub returns : goal.returns
-returns g c = step_on _ _ _ _ c.arrive.ensures c.requires

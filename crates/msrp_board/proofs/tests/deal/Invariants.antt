@@ -1,7 +1,0 @@
-use Rattle.std.proofs.Common.{◌≡◌}
-use Rattle.std.specs.List.{All}
-use Rattle.msrp_board.specs.Seats.{IsCoreSeatOn}
-use Rattle.msrp_board.proofs.tests.deal.Given as goal
-
-abbrev pub invariant-loop-core : goal.invariant-loop-core
-invariant-loop-core g l = All (λ p. IsCoreSeatOn l.board p.seat) l.players.items × (l.rest.board ≡ l.board)

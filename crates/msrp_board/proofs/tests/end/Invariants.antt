@@ -1,7 +1,0 @@
-use Rattle.std.proofs.Common.{◌<◌, ℕ}
-use Rattle.std.specs.Prelude.{IsSome}
-use Rattle.msrp_board.specs.Seats.{book_at}
-use Rattle.msrp_board.proofs.tests.end.Given as goal
-
-abbrev pub invariant-loop-core : goal.invariant-loop-core
-invariant-loop-core g l = (d : ℕ) → d < l.core → IsSome (book_at l.seat d)

@@ -1,5 +1,0 @@
-use Rattle.msrp_board.proofs.CoreSeats.{alone_on}
-use Rattle.msrp_board.proofs.tests.part.Goals as goal
-
-pub returns-clause-own : goal.returns-clause-own
-returns-clause-own g c = alone_on c.args.seat _ _ _ c.split.ensures.core c.requires (c.has_book-has_book.ensures.value.0 c.if-not-has_book.false)

@@ -1,8 +1,0 @@
-use Rattle.msrp_board.proofs.SeatPortLemmas.{port_adds}
-use Rattle.msrp_board.proofs.tests.port.SeatPort.ask.Goals as goal
-
-pub returns-clause-call : goal.returns-clause-call
-returns-clause-call c = (port_adds _ _ _ _ _ _ _ _ c.requires.port c.requires.room c.ask.ensures.entry).0
-
-pub returns-clause-port : goal.returns-clause-port
-returns-clause-port c = (port_adds _ _ _ _ _ _ _ _ c.requires.port c.requires.room c.ask.ensures.entry).1

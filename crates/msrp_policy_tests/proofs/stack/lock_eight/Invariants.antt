@@ -1,0 +1,6 @@
+use Rattle.std.proofs.Common.{◌≡◌, ◌∷◌, []}
+use Rattle.msrp_policy_tests.specs.Nested.{nested}
+use Rattle.msrp_policy_tests.proofs.stack.lock_eight.Given as goal
+
+abbrev pub invariant-loop-r : goal.invariant-loop-r
+invariant-loop-r g l = l.stack ≡ record { plan = l.plan; core = 0; started = record { job = l.job; held = nested l.r } ∷ [] }

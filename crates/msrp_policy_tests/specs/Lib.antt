@@ -1,0 +1,2 @@
+pub mod Deaf
+pub mod Nested

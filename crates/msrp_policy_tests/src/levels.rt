@@ -1,0 +1,157 @@
+//! Plans small enough to follow by hand, with what the literature's rules make of them.
+ghost use Rattle.std.specs.Prelude.{◌≡◌};
+
+use msrp_levels::Levels;
+use msrp_plan::{CoreId, Plan, PlanBuilder, PlanFault, ResId, Step, TaskId};
+use std::alloc::Global;
+use std::process::Abort;
+use std::test::*;
+
+const R: ResId = ResId(0);
+
+const Q: ResId = ResId(1);
+
+// A task: its name, its core, its relative deadline and its units. The period is 20, the offset 0.
+type Told<'a> = (&'a str, u32, u32, &'a [Step]);
+
+fn add(builder: &mut PlanBuilder, told: &Told) -> Result<(), PlanFault> {
+    let (name, core, deadline, steps) = *told;
+    builder.task(name, CoreId(core), 20, deadline, 0)?;
+    for step in steps {
+        if builder.tasks() > 0 {
+            builder.op(*step)?;
+        }
+    }
+    Ok(())
+}
+
+// A plan of resources and tasks.
+fn plan(alloc: Global, cores: u32, resources: &[&str], tasks: &[Told]) -> Result<Plan, PlanFault> {
+    let mut builder = PlanBuilder::new(alloc, cores, 9)?;
+    for name in resources {
+        builder.resource(name)?;
+    }
+    for told in tasks {
+        add(&mut builder, told)?;
+    }
+    match builder.finish() {
+        Ok(plan) => Ok(plan),
+        Err((_, fault)) => Err(fault),
+    }
+}
+
+// Each task's level, and how long its outermost sections are.
+fn expect_tasks(rt: &impl Abort, plan: &Plan, levels: &Levels, expected: &[(u32, u32)])
+    requires { levels.now ≡ plan.now }
+{
+    assert_eq!(rt; plan.tasks() as usize, expected.len());
+    for t in 0..plan.tasks() {
+        let task = TaskId(t);
+        assert_eq!(rt;
+            (levels.level(task), levels.out(task)),
+            expected[t as usize]
+        );
+    }
+}
+
+// Each core's highest level.
+fn expect_tops(rt: &impl Abort, plan: &Plan, levels: &Levels, expected: &[u32])
+    requires { levels.now ≡ plan.now }
+{
+    assert_eq!(rt; plan.cores() as usize, expected.len());
+    for c in 0..plan.cores() {
+        assert_eq!(rt; levels.top(CoreId(c)), expected[c as usize]);
+    }
+}
+
+// Whether a resource is global, and its users.
+fn expect_users(
+    rt: &impl Abort,
+    plan: &Plan,
+    levels: &Levels,
+    res: ResId,
+    global: bool,
+    users: &[TaskId],
+)
+    requires { levels.now ≡ plan.now }
+{
+    assert!(rt; res.0 < plan.resources());
+    assert_eq!(rt; levels.is_global(res), global);
+    assert_eq!(rt; levels.users(res), users);
+}
+
+// At each core a resource's ceiling, its longest section, and the bound on spinning.
+fn expect_cores(
+    rt: &impl Abort,
+    plan: &Plan,
+    levels: &Levels,
+    res: ResId,
+    expected: &[(u32, u32, u32)],
+)
+    requires { levels.now ≡ plan.now }
+{
+    assert!(rt; res.0 < plan.resources());
+    assert_eq!(rt; plan.cores() as usize, expected.len());
+    for c in 0..plan.cores() {
+        let core = CoreId(c);
+        let found = (
+            levels.ceiling(res, core),
+            levels.section(res, core),
+            levels.spin_bound(res, core),
+        );
+        assert_eq!(rt; found, expected[c as usize]);
+    }
+}
+
+#[test]
+fn two_levels_on_a_local_resource(rt: HostRuntime) -> Result<(), Fail> {
+    let lo = [Step::Lock(R), Step::Run(3), Step::Unlock(R)];
+    let hi = [Step::Lock(R), Step::Run(1), Step::Unlock(R)];
+    let tasks = [("lo", 0, 10, lo.as_slice()), ("hi", 0, 5, hi.as_slice())];
+    let plan = plan(rt.alloc(), 1, &["r"], &tasks)?;
+    let levels = Levels::of(rt.alloc(), &plan)?;
+    expect_tasks(&rt, &plan, &levels, &[(1, 4), (2, 2)]);
+    expect_tops(&rt, &plan, &levels, &[2]);
+    expect_users(&rt, &plan, &levels, R, false, &[TaskId(0), TaskId(1)]);
+    expect_cores(&rt, &plan, &levels, R, &[(2, 4, 0)]);
+    Ok(())
+}
+
+// A job of lo spends one row to join the queue, two to spin at most, and four after the lock.
+#[test]
+fn a_global_resource_on_two_cores(rt: HostRuntime) -> Result<(), Fail> {
+    let lo = [Step::Lock(R), Step::Run(3), Step::Unlock(R)];
+    let hi = [Step::Run(1)];
+    let other = [Step::Lock(R), Step::Unlock(R)];
+    let tasks = [
+        ("lo", 0, 10, lo.as_slice()),
+        ("hi", 0, 6, hi.as_slice()),
+        ("other", 1, 10, other.as_slice()),
+    ];
+    let plan = plan(rt.alloc(), 2, &["g"], &tasks)?;
+    let levels = Levels::of(rt.alloc(), &plan)?;
+    expect_tasks(&rt, &plan, &levels, &[(1, 7), (2, 0), (1, 7)]);
+    expect_tops(&rt, &plan, &levels, &[2, 1]);
+    expect_users(&rt, &plan, &levels, R, true, &[TaskId(0), TaskId(2)]);
+    expect_cores(&rt, &plan, &levels, R, &[(2, 4, 2), (1, 1, 5)]);
+    Ok(())
+}
+
+#[test]
+fn a_local_resource_inside_a_global_one(rt: HostRuntime) -> Result<(), Fail> {
+    let a = [
+        Step::Lock(R),
+        Step::Lock(Q),
+        Step::Unlock(Q),
+        Step::Unlock(R),
+    ];
+    let b = [Step::Lock(R), Step::Unlock(R)];
+    let tasks = [("a", 0, 10, a.as_slice()), ("b", 1, 10, b.as_slice())];
+    let plan = plan(rt.alloc(), 2, &["g", "h"], &tasks)?;
+    let levels = Levels::of(rt.alloc(), &plan)?;
+    expect_tasks(&rt, &plan, &levels, &[(1, 6), (1, 6)]);
+    expect_users(&rt, &plan, &levels, Q, false, &[TaskId(0)]);
+    expect_cores(&rt, &plan, &levels, R, &[(1, 3, 2), (1, 1, 4)]);
+    expect_cores(&rt, &plan, &levels, Q, &[(1, 1, 0), (1, 0, 2)]);
+    Ok(())
+}

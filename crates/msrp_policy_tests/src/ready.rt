@@ -1,0 +1,228 @@
+//! Ready jobs: which one comes first, and which one is taken next.
+
+use msrp_plan::{CoreId, JobId, Plan, PlanBuilder, PlanFault, Step, TaskId};
+use msrp_ready::Ready;
+use std::alloc::Global;
+use std::test::Fail;
+
+// What a call is to answer.
+#[derive(Clone, Copy)]
+enum Call {
+    // The jobs released by this tick join.
+    Release(u32),
+    Head(Option<JobId>),
+    HeadAt(u32, Option<JobId>),
+    Take(Option<JobId>),
+}
+
+use Call::{Head, HeadAt, Release, Take};
+
+// The calls are made as they are: a test relies on what it sees, and not on their contracts.
+
+// Whether the jobs of this tick could join: no later tick was released to before.
+fn release_to(ready: &mut Ready<'_>, tick: u32) -> bool {
+    match ready.tick() {
+        Some(before) if tick < before => false,
+        _ => {
+            ready.release_to(tick);
+            true
+        }
+    }
+}
+
+fn head_at(ready: &Ready<'_>, tick: u32) -> Option<JobId> {
+    match ready.tick() {
+        Some(before) if tick < before => None,
+        _ => ready.head_at(tick),
+    }
+}
+
+// Whether the call answers what it is to.
+fn answers(ready: &mut Ready<'_>, call: Call) -> bool {
+    match call {
+        Release(tick) => release_to(ready, tick),
+        Head(job) => ready.head() == job,
+        HeadAt(tick, job) => head_at(ready, tick) == job,
+        Take(job) => ready.take_head() == job,
+    }
+}
+
+// The first call that doesn't answer what it is to, by its place.
+fn first_wrong(ready: &mut Ready<'_>, calls: &[Call]) -> Option<usize> {
+    for (at, call) in calls.iter().enumerate() {
+        if !answers(ready, *call) {
+            return Some(at);
+        }
+    }
+    None
+}
+
+fn work(builder: &mut PlanBuilder) -> Result<(), PlanFault> {
+    if builder.tasks() > 0 {
+        builder.op(Step::Run(1))?;
+    }
+    Ok(())
+}
+
+fn release(builder: &mut PlanBuilder, tick: u32) -> Result<(), PlanFault> {
+    if builder.takes_releases() {
+        builder.release(tick)?;
+    }
+    Ok(())
+}
+
+// A task of core 0 that recurs by its period, relative deadline and offset.
+fn periodic(builder: &mut PlanBuilder, name: &str, times: [u32; 3]) -> Result<(), PlanFault> {
+    let [period, deadline, offset] = times;
+    builder.task(name, CoreId(0), period, deadline, offset)?;
+    work(builder)
+}
+
+// A task of core 0 that is released at these ticks.
+fn listed(
+    builder: &mut PlanBuilder,
+    name: &str,
+    deadline: u32,
+    ticks: &[u32],
+) -> Result<(), PlanFault> {
+    builder.listed(name, CoreId(0), deadline)?;
+    for tick in ticks {
+        release(builder, *tick)?;
+    }
+    work(builder)
+}
+
+fn started(alloc: Global, ticks: u32) -> Result<PlanBuilder, PlanFault> {
+    PlanBuilder::new(alloc, 1, ticks)
+}
+
+fn finished(builder: PlanBuilder) -> Result<Plan, PlanFault> {
+    builder.finish().map_err(|(_, fault)| fault)
+}
+
+fn job(task: u32, k: u32) -> Option<JobId> {
+    Some(JobId {
+        task: TaskId(task),
+        k,
+    })
+}
+
+// The task y is declared first and released last: both absolute deadlines are 10, and the release decides.
+#[test]
+fn equal_deadlines_go_by_release(rt: HostRuntime) -> Result<(), Fail> {
+    let mut builder = started(rt.alloc(), 8)?;
+    periodic(&mut builder, "y", [20, 8, 2])?;
+    periodic(&mut builder, "x", [20, 10, 0])?;
+    let plan = finished(builder)?;
+    let calls = [
+        Head(None),
+        HeadAt(2, job(1, 0)),
+        Release(2),
+        Head(job(1, 0)),
+        Take(job(1, 0)),
+        Take(job(0, 0)),
+        Take(None),
+    ];
+    let Ok(mut ready) = Ready::with_room(rt.alloc(), &plan, CoreId(0)) else {
+        return Err(Fail::from("memory"));
+    };
+    assert_eq!(rt; first_wrong(&mut ready, &calls), None);
+    assert_eq!(rt; ready.compared(), 1);
+    Ok(())
+}
+
+// The head stays the head, whoever is released behind it.
+#[test]
+fn blocked_head_stays(rt: HostRuntime) -> Result<(), Fail> {
+    let mut builder = started(rt.alloc(), 19)?;
+    periodic(&mut builder, "k", [40, 20, 0])?;
+    periodic(&mut builder, "j2", [40, 15, 1])?;
+    periodic(&mut builder, "j", [40, 5, 12])?;
+    let plan = finished(builder)?;
+    let calls = [
+        Release(0),
+        Take(job(0, 0)),
+        Release(1),
+        Head(job(1, 0)),
+        HeadAt(11, job(1, 0)),
+        HeadAt(12, job(1, 0)),
+        Release(12),
+        Head(job(1, 0)),
+        Release(14),
+        Take(job(1, 0)),
+        Take(job(2, 0)),
+    ];
+    let Ok(mut ready) = Ready::with_room(rt.alloc(), &plan, CoreId(0)) else {
+        return Err(Fail::from("memory"));
+    };
+    assert_eq!(rt; first_wrong(&mut ready, &calls), None);
+    assert_eq!(rt; ready.tick(), Some(14));
+    Ok(())
+}
+
+#[test]
+fn listed_jobs_come_at_their_ticks(rt: HostRuntime) -> Result<(), Fail> {
+    let mut builder = started(rt.alloc(), 10)?;
+    listed(&mut builder, "a", 4, &[1, 2, 7])?;
+    periodic(&mut builder, "b", [4, 4, 0])?;
+    let plan = finished(builder)?;
+    let calls = [
+        Release(1),
+        HeadAt(9, job(1, 0)),
+        Take(job(1, 0)),
+        Take(job(0, 0)),
+        Take(None),
+        HeadAt(1, None),
+        HeadAt(9, job(0, 1)),
+        Release(9),
+        Take(job(0, 1)),
+        Take(job(1, 1)),
+        Take(job(0, 2)),
+        Take(job(1, 2)),
+        Take(None),
+    ];
+    let Ok(mut ready) = Ready::with_room(rt.alloc(), &plan, CoreId(0)) else {
+        return Err(Fail::from("memory"));
+    };
+    assert_eq!(rt; first_wrong(&mut ready, &calls), None);
+    Ok(())
+}
+
+// A plan of 64 tasks with 128 jobs each. The jobs of each task come before those of all tasks declared before it, so that a
+// job rises far when it joins.
+fn full(alloc: Global) -> Result<Plan, PlanFault> {
+    let mut builder = started(alloc, 8_192)?;
+    for t in 0..64u32 {
+        let name = format!(in alloc; "t{t}")?;
+        periodic(&mut builder, name.as_str(), [64, 1_000_000 - 10_000 * t, t])?;
+    }
+    finished(builder)
+}
+
+// Whether the next heads are the jobs of a task, each seen with no comparison and taken with at most 26.
+fn leaves_next(ready: &mut Ready<'_>, task: u32) -> bool {
+    let mut good = true;
+    for k in 0..128u32 {
+        let before = ready.compared();
+        let seen = ready.head();
+        let unchanged = ready.compared() == before;
+        let taken = ready.take_head();
+        let more = ready.compared().saturating_sub(before);
+        good = good && seen == job(task, k) && unchanged && taken == seen && more <= 26;
+    }
+    good
+}
+
+#[test]
+fn most_jobs_leave_task_by_task(rt: HostRuntime) -> Result<(), Fail> {
+    let plan = full(rt.alloc())?;
+    let Ok(mut ready) = Ready::with_room(rt.alloc(), &plan, CoreId(0)) else {
+        return Err(Fail::from("memory"));
+    };
+    assert!(rt; answers(&mut ready, Release(8_191)) && ready.compared() <= 13 * 8_192);
+    for t in 0..64u32 {
+        assert!(rt; leaves_next(&mut ready, 63 - t));
+    }
+    assert_eq!(rt; ready.take_head(), None);
+    Ok(())
+}

@@ -1,0 +1,262 @@
+//! Jobs that start, lock and finish on a core, worked by hand.
+ghost use Rattle.std.specs.Prelude.{◌≡◌, ◌<◌, ◌∷◌, [], IfOk, IsSome, length, true};
+ghost use Rattle.std.specs.List.{Contains};
+ghost use Rattle.msrp_plan.specs.Plan.{release_tick};
+ghost use Rattle.msrp_plan.specs.Jobs.{jobs_on};
+ghost use Rattle.msrp_plan.specs.Levels.{is_global};
+ghost use Rattle.msrp_plan.specs.Choice.{is_before};
+ghost use Rattle.msrp_policy_tests.specs.Nested.{nested};
+
+use msrp_levels::Levels;
+use msrp_plan::{CoreId, JobId, Memory, Plan, PlanBuilder, PlanFault, ResId, Step, TaskId};
+use msrp_stack::CeilingStack;
+use std::alloc::Global;
+use std::process::Abort;
+use std::test::Fail;
+
+const CORE: CoreId = CoreId(0);
+// A resource of one task, one of two tasks of the core, and one that another core uses too.
+const OWN: ResId = ResId(0);
+
+const BOTH: ResId = ResId(1);
+
+const SHARED: ResId = ResId(2);
+
+fn first_job(task: u32) -> JobId {
+    JobId {
+        task: TaskId(task),
+        k: 0,
+    }
+}
+
+fn add(
+    builder: &mut PlanBuilder,
+    name: &str,
+    core: u32,
+    deadline: u32,
+    uses: &[ResId],
+) -> Result<(), PlanFault> {
+    builder.task(name, CoreId(core), 40, deadline, 0)?;
+    for res in uses {
+        for step in [Step::Lock(*res), Step::Unlock(*res)] {
+            if builder.tasks() > 0 {
+                builder.op(step)?;
+            }
+        }
+    }
+    Ok(())
+}
+
+// The task of the earlier deadline has level 2, the other one of its core level 1.
+fn plan(alloc: Global) -> Result<Plan, PlanFault> {
+    let mut builder = PlanBuilder::new(alloc, 2, 40)?;
+    for name in ["own", "both", "shared"] {
+        builder.resource(name)?;
+    }
+    add(&mut builder, "late", 0, 20, &[OWN, BOTH, SHARED])?;
+    add(&mut builder, "early", 0, 10, &[BOTH])?;
+    add(&mut builder, "other", 1, 10, &[SHARED])?;
+    builder.finish().map_err(|(_, fault)| fault)
+}
+
+// A task of the latest deadline, which holds as many resources as a job may, one within the other, and for each of them a task
+// of its own, each of an earlier deadline than the last.
+fn deep_plan(alloc: Global) -> Result<Plan, PlanFault> {
+    let mut builder = PlanBuilder::new(alloc, 1, 40)?;
+    for name in ["a", "b", "c", "d", "e", "f", "g", "h"] {
+        builder.resource(name)?;
+    }
+    builder.task("deep", CORE, 40, 20, 0)?;
+    for r in 0..16 {
+        let step = if r < 8 {
+            Step::Lock(ResId(r))
+        } else {
+            Step::Unlock(ResId(15 - r))
+        };
+        if builder.tasks() > 0 {
+            builder.op(step)?;
+        }
+    }
+    for (r, name) in ["t", "u", "v", "w", "x", "y", "z", "zz"].iter().enumerate() {
+        let r = r as u32;
+        add(&mut builder, name, 0, 19 - r, &[ResId(r)])?;
+    }
+    builder.finish().map_err(|(_, fault)| fault)
+}
+
+// Whether a job is one of the core.
+fn is_own(plan: &Plan, job: JobId) -> bool
+    ensures { result ≡ true → Contains (jobs_on plan.now 0) job }
+{
+    if job.task.0 >= plan.tasks() {
+        return false;
+    }
+    if job.k >= plan.jobs(job.task) {
+        return false;
+    }
+    plan.core_of(job.task).0 == CORE.0
+}
+
+// Whether a job is one of the plan.
+fn has_job(plan: &Plan, job: JobId) -> bool
+    ensures task { result ≡ true → job.task.0 < length plan.now.tasks }
+    ensures released { result ≡ true → IsSome (release_tick plan.now job) }
+{
+    job.task.0 < plan.tasks() && job.k < plan.jobs(job.task)
+}
+
+// Whether a job comes before another.
+fn is_first(plan: &Plan, job: JobId, other: JobId) -> bool
+    ensures { result ≡ true → is_before plan.now job other ≡ true }
+{
+    has_job(plan, job) && has_job(plan, other) && plan.job_key(job).is_before(&plan.job_key(other))
+}
+
+// Whether a resource is one of the plan, and global or not as it should be.
+fn has_resource(plan: &Plan, levels: &Levels, res: ResId, global: bool) -> bool
+    requires { levels.now ≡ plan.now }
+    ensures declared { result ≡ true → res.0 < length plan.now.resources }
+    ensures global { result ≡ true → is_global plan.now res.0 ≡ global }
+{
+    res.0 < plan.resources() && levels.is_global(res) == global
+}
+
+// A stack of the core on which one job is started.
+fn started<'a>(
+    alloc: Global,
+    plan: &'a Plan,
+    levels: &Levels<'_>,
+    job: JobId,
+) -> Result<CeilingStack<'a>, Memory>
+    requires levels { levels.now ≡ plan.now }
+    requires job { Contains (jobs_on plan.now 0) job }
+    ensures { IfOk result (λ stack. stack ≡ record { plan = plan.now; core = 0; started = record { job = job; held = [] } ∷ [] }) }
+{
+    // Read so that the plan is known to be an accepted one, which has a core.
+    let _cores = plan.cores();
+    let mut stack = CeilingStack::with_room(alloc, plan, levels, CORE)?;
+    stack.start(job);
+    Ok(stack)
+}
+
+// Starts a job of the core over another one, which holds a resource and comes after it.
+fn start_over(rt: &impl Abort, plan: &Plan, stack: &mut CeilingStack, job: JobId, below: JobId)
+    requires { stack.old ≡ record { plan = plan.now; core = 0; started = record { job = below; held = 0 ∷ [] } ∷ [] } }
+    ensures { stack.new ≡ record { plan = plan.now; core = 0; started = record { job = job; held = [] } ∷ record { job = below; held = 0 ∷ [] } ∷ [] } }
+{
+    assert!(rt; is_own(plan, job));
+    assert!(rt; is_first(plan, job, below));
+    stack.start(job);
+}
+
+// Which job is on top, and the ceiling.
+fn expect(rt: &impl Abort, stack: &CeilingStack, top: JobId, ceiling: u32) {
+    assert_eq!(rt; stack.top(), Some(top));
+    assert_eq!(rt; stack.ceiling(), ceiling);
+}
+
+#[test]
+fn a_new_stack_is_empty(rt: HostRuntime) -> Result<(), Fail> {
+    let plan = plan(rt.alloc())?;
+    let levels = Levels::of(rt.alloc(), &plan)?;
+    assert!(rt; plan.cores() > 0);
+    let stack = CeilingStack::with_room(rt.alloc(), &plan, &levels, CORE)?;
+    assert!(rt; stack.top().is_none());
+    assert_eq!(rt; stack.ceiling(), 0);
+    Ok(())
+}
+
+// Each lock keeps the ceiling from before, and its unlock puts it back.
+#[test]
+fn nested_locks_raise_the_ceiling(rt: HostRuntime) -> Result<(), Fail> {
+    let plan = plan(rt.alloc())?;
+    let levels = Levels::of(rt.alloc(), &plan)?;
+    let late = first_job(0);
+    assert!(rt; is_own(&plan, late));
+    assert!(rt; has_resource(&plan, &levels, OWN, false));
+    assert!(rt; has_resource(&plan, &levels, BOTH, false));
+    let mut stack = started(rt.alloc(), &plan, &levels, late)?;
+    expect(&rt, &stack, late, 0);
+    stack.lock(OWN);
+    expect(&rt, &stack, late, 1);
+    stack.lock(BOTH);
+    expect(&rt, &stack, late, 2);
+    stack.unlock(BOTH);
+    expect(&rt, &stack, late, 1);
+    stack.unlock(OWN);
+    expect(&rt, &stack, late, 0);
+    Ok(())
+}
+
+// A request of a global resource raises the ceiling to the core's highest level, though only a task of a lower one uses it there.
+#[test]
+fn a_global_request_raises_to_the_highest_level(rt: HostRuntime) -> Result<(), Fail> {
+    let plan = plan(rt.alloc())?;
+    let levels = Levels::of(rt.alloc(), &plan)?;
+    let late = first_job(0);
+    assert!(rt; is_own(&plan, late));
+    assert!(rt; has_resource(&plan, &levels, SHARED, true));
+    let mut stack = started(rt.alloc(), &plan, &levels, late)?;
+    stack.raise_global(SHARED);
+    expect(&rt, &stack, late, 2);
+    stack.drop_global(SHARED);
+    expect(&rt, &stack, late, 0);
+    Ok(())
+}
+
+// A job that is started while another holds a resource stands on top until it is finished, and leaves the ceiling to the other.
+#[test]
+fn a_second_job_stands_on_the_first(rt: HostRuntime) -> Result<(), Fail> {
+    let plan = plan(rt.alloc())?;
+    let levels = Levels::of(rt.alloc(), &plan)?;
+    let (late, early) = (first_job(0), first_job(1));
+    assert!(rt; is_own(&plan, late));
+    assert!(rt; has_resource(&plan, &levels, OWN, false));
+    let mut stack = started(rt.alloc(), &plan, &levels, late)?;
+    stack.lock(OWN);
+    start_over(&rt, &plan, &mut stack, early, late);
+    expect(&rt, &stack, early, 1);
+    stack.finish();
+    expect(&rt, &stack, late, 1);
+    Ok(())
+}
+
+// Locks the first eight resources, one within the other: each raises the ceiling by one.
+fn lock_eight(rt: &impl Abort, plan: &Plan, levels: &Levels, stack: &mut CeilingStack, job: JobId)
+    requires levels { levels.now ≡ plan.now }
+    requires stack { stack.old ≡ record { plan = plan.now; core = 0; started = record { job = job; held = [] } ∷ [] } }
+    ensures { stack.new ≡ record { plan = plan.now; core = 0; started = record { job = job; held = nested 8 } ∷ [] } }
+{
+    for r in 0..8 {
+        assert!(rt; has_resource(plan, levels, ResId(r), false));
+        stack.lock(ResId(r));
+        expect(rt, stack, job, r + 2);
+    }
+}
+
+// Unlocks them, the last one first: each gives the ceiling back.
+fn unlock_eight(rt: &impl Abort, plan: &Plan, levels: &Levels, stack: &mut CeilingStack, job: JobId)
+    requires levels { levels.now ≡ plan.now }
+    requires stack { stack.old ≡ record { plan = plan.now; core = 0; started = record { job = job; held = nested 8 } ∷ [] } }
+{
+    for left in 0..8 {
+        let r = 7 - left;
+        expect(rt, stack, job, r + 2);
+        assert!(rt; has_resource(plan, levels, ResId(r), false));
+        stack.unlock(ResId(r));
+    }
+    expect(rt, stack, job, 0);
+}
+
+// A job may hold eight resources at once.
+#[test]
+fn eight_resources_are_held_at_once(rt: HostRuntime) -> Result<(), Fail> {
+    let plan = deep_plan(rt.alloc())?;
+    let levels = Levels::of(rt.alloc(), &plan)?;
+    let deep = first_job(0);
+    assert!(rt; is_own(&plan, deep));
+    let mut stack = started(rt.alloc(), &plan, &levels, deep)?;
+    lock_eight(&rt, &plan, &levels, &mut stack, deep);
+    unlock_eight(&rt, &plan, &levels, &mut stack, deep);
+    Ok(())
+}

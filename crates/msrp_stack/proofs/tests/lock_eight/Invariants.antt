@@ -1,6 +1,0 @@
-use Rattle.std.proofs.Common.{◌≡◌, ◌∷◌, []}
-use Rattle.msrp_stack.specs.Nested.{nested}
-use Rattle.msrp_stack.proofs.tests.lock_eight.Given as goal
-
-abbrev pub invariant-loop-r : goal.invariant-loop-r
-invariant-loop-r g l = l.stack ≡ record { plan = l.plan; core = 0; started = record { job = l.job; held = nested l.r } ∷ [] }

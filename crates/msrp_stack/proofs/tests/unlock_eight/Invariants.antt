@@ -1,6 +1,0 @@
-use Rattle.std.proofs.Common.{◌≡◌, ◌-◌, ◌∷◌, []}
-use Rattle.msrp_stack.specs.Nested.{nested}
-use Rattle.msrp_stack.proofs.tests.unlock_eight.Given as goal
-
-abbrev pub invariant-loop-left : goal.invariant-loop-left
-invariant-loop-left g l = l.stack ≡ record { plan = l.plan; core = 0; started = record { job = l.job; held = nested (8 - l.left) } ∷ [] }

@@ -1,0 +1,11 @@
+//! Tests of the crates that read and write texts, and of the board on which threads meet.
+//!
+//! They stand above those crates, which are proved once, without them.
+#![tactic(auto)]
+
+#[cfg(test)]
+mod board;
+#[cfg(test)]
+mod text;
+#[cfg(test)]
+mod trace;

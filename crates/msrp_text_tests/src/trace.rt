@@ -1,0 +1,469 @@
+//! Tests on texts: worked traces, the codes of refusals, and readers and writers that fail.
+
+use msrp_plan::bytes::{Sink, Source};
+use msrp_plan::{CoreId, Plan, PlanBuilder, Row, Step, TextVersion, Trace};
+use msrp_trace::{TraceError, TraceFault, TraceReader, are_named, write_trace};
+use std::alloc::Global;
+use std::io;
+use std::io::{ErrorKind, Read, Write};
+use std::process::Abort;
+use std::test::Fail;
+
+// ---- the plan
+
+// One task more: it locks the resource, works for a tick, and unlocks it.
+fn add_task(builder: &mut PlanBuilder, name: &str, core: u32) -> Result<(), Fail> {
+    let Some(res) = builder.res_of("g") else {
+        return Err(Fail::new("no resource"));
+    };
+    if builder.task(name, CoreId(core), 20, 8, 0).is_err() {
+        return Err(Fail::new("task"));
+    }
+    for step in [Step::Lock(res), Step::Run(1), Step::Unlock(res)] {
+        if builder.tasks() == 0 || builder.op(step).is_err() {
+            return Err(Fail::new("step"));
+        }
+    }
+    Ok(())
+}
+
+// Two cores and one resource, which task a of core 0 and task b of core 1 want in tick 0.
+fn handover(alloc: Global) -> Result<Plan, Fail> {
+    let Ok(mut builder) = PlanBuilder::new(alloc, 2, 6) else {
+        return Err(Fail::new("builder"));
+    };
+    if builder.resource("g").is_err() {
+        return Err(Fail::new("resource"));
+    }
+    add_task(&mut builder, "a", 0)?;
+    add_task(&mut builder, "b", 1)?;
+    match builder.finish() {
+        Ok(plan) => Ok(plan),
+        Err(_) => Err(Fail::new("plan")),
+    }
+}
+
+// ---- worked traces
+
+const VERSION_ONE: &[u8] =
+    b"msrp-trace,1,2,6\n0,0,take,a,0,g\n0,1,queue,b,0,g\n1,0,run,a,0,-\n1,1,spin,b,0,g\n2,0,release,a,0,g\n2,1,grant,b,0,g\n3,0,idle,-,-,-\n3,1,run,b,0,-\n4,0,idle,-,-,-\n4,1,release,b,0,g\n5,0,idle,-,-,-\n5,1,idle,-,-,-\n";
+
+const VERSION_TWO: &[u8] =
+    b"msrp-trace,2,2,6\n0,0,take,a,0,g,-\n0,1,queue,b,0,g,1\n1,0,run,a,0,-,-\n1,1,spin,b,0,g,-\n2,0,release,a,0,g,-\n2,1,grant,b,0,g,-\n3,0,idle,-,-,-,-\n3,1,run,b,0,-,-\n4,0,idle,-,-,-,-\n4,1,release,b,0,g,-\n5,0,idle,-,-,-,-\n5,1,idle,-,-,-,-\n";
+
+// The rows that a reader has left, or its refusal.
+fn rows_left<R: Read>(alloc: Global, reader: &mut TraceReader<'_, R>) -> Result<Trace, TraceError> {
+    let mut rows = Vec::new(alloc);
+    for _ in 0..u64::MAX {
+        match reader.next_row()? {
+            Some(row) => {
+                if rows.push(row).is_err() {
+                    return Err(TraceError::Memory);
+                }
+            }
+            None => break,
+        }
+    }
+    Ok(Trace { rows })
+}
+
+// The rows of a text up to its end, or its refusal.
+fn read_all<R: Read>(
+    alloc: Global,
+    source: &mut Source<R>,
+    plan: &Plan,
+) -> Result<Trace, TraceError> {
+    let mut reader = TraceReader::new(alloc, source, plan)?;
+    let answer = rows_left(alloc, &mut reader);
+    drop(reader);
+    answer
+}
+
+fn read_text(alloc: Global, text: &[u8], plan: &Plan) -> Result<Trace, TraceError> {
+    let mut source = Source::new(text);
+    read_all(alloc, &mut source, plan)
+}
+
+// Writes a trace, if its rows have what its text wants; and whether it was written.
+fn write_all<W: Write>(
+    writer: &mut Sink<W>,
+    plan: &Plan,
+    trace: &Trace,
+    version: TextVersion,
+) -> bool {
+    if !are_named(plan, trace) {
+        return false;
+    }
+    match version {
+        TextVersion::V1 => write_trace(writer, plan, trace, version).is_ok(),
+        TextVersion::V2 => {
+            trace.carries_ahead() && write_trace(writer, plan, trace, version).is_ok()
+        }
+    }
+}
+
+// A text, the version that is written, and what is written.
+const AGAIN: [(&[u8], TextVersion, &[u8]); 3] = [
+    (VERSION_ONE, TextVersion::V1, VERSION_ONE),
+    (VERSION_TWO, TextVersion::V2, VERSION_TWO),
+    (VERSION_TWO, TextVersion::V1, VERSION_ONE),
+];
+
+#[test]
+fn texts_are_read_and_written_again(rt: HostRuntime) -> Result<(), Fail> {
+    let alloc = rt.alloc();
+    let plan = handover(alloc)?;
+    for (text, version, written) in AGAIN {
+        let Ok(trace) = read_text(alloc, text, &plan) else {
+            return Err(Fail::new("refused"));
+        };
+        let mut bytes = Vec::new(alloc);
+        let mut sink = Sink::new(&mut bytes);
+        assert!(rt; write_all(&mut sink, &plan, &trace, version));
+        assert!(rt; bytes.as_slice() == written);
+    }
+    Ok(())
+}
+
+// The same row past the plan's ticks.
+fn at_another_tick(row: &Row) -> Row {
+    Row {
+        tick: 7,
+        core: row.core,
+        kind: row.kind,
+        job: row.job,
+        res: row.res,
+        ahead: row.ahead,
+    }
+}
+
+// Whether each of these rows is met, in turn, and none at another tick.
+fn meets_each<R: Read>(reader: &mut TraceReader<'_, R>, rows: &[Row]) -> bool {
+    for row in rows.iter() {
+        let other = at_another_tick(row);
+        if reader.meets(&other) || !reader.meets(row) {
+            return false;
+        }
+    }
+    true
+}
+
+// How often it was asked to foresee a row, if each row was given and each time the core asked of was the row's.
+fn times_asked<R: Read>(
+    reader: &mut TraceReader<'_, R>,
+    rows: &[Row],
+) -> Result<Option<usize>, TraceError> {
+    let mut times = 0usize;
+    for row in rows.iter() {
+        let mut asked = None;
+        let told = reader.next_foreseen(|core| {
+            asked = Some(core);
+            None
+        })?;
+        if told != Some(*row) || asked.is_some_and(|core| core != row.core) {
+            return Ok(None);
+        }
+        times = times.saturating_add(usize::from(asked.is_some()));
+    }
+    Ok(Some(times))
+}
+
+// Whether a reader of a text meets all its rows.
+fn is_met(alloc: Global, text: &[u8], plan: &Plan) -> Result<bool, TraceError> {
+    let trace = read_text(alloc, text, plan)?;
+    let mut source = Source::new(text);
+    let mut reader = TraceReader::new(alloc, &mut source, plan)?;
+    let met = meets_each(&mut reader, trace.rows.as_slice());
+    drop(reader);
+    Ok(met)
+}
+
+#[test]
+fn foreseen_rows_are_met(rt: HostRuntime) -> Result<(), Fail> {
+    let alloc = rt.alloc();
+    let plan = handover(alloc)?;
+    for text in [VERSION_ONE, VERSION_TWO] {
+        let met = is_met(alloc, text, &plan);
+        assert!(rt; met == Ok(true));
+    }
+    Ok(())
+}
+
+// A row is foreseen for its own core. The idle rows of ticks 4 and 5 on core 0 are its last row again, and nobody is asked.
+#[test]
+fn rows_are_foreseen_for_their_core(rt: HostRuntime) -> Result<(), Fail> {
+    let alloc = rt.alloc();
+    let plan = handover(alloc)?;
+    for text in [VERSION_ONE, VERSION_TWO] {
+        let Ok(trace) = read_text(alloc, text, &plan) else {
+            return Err(Fail::new("refused"));
+        };
+        let mut source = Source::new(text);
+        let Ok(mut reader) = TraceReader::new(alloc, &mut source, &plan) else {
+            return Err(Fail::new("refused"));
+        };
+        let times = times_asked(&mut reader, trace.rows.as_slice());
+        drop(reader);
+        assert!(rt; times == Ok(Some(10)));
+    }
+    Ok(())
+}
+
+#[test]
+fn version_one_has_no_aheads_to_write(rt: HostRuntime) -> Result<(), Fail> {
+    let alloc = rt.alloc();
+    let plan = handover(alloc)?;
+    let Ok(trace) = read_text(alloc, VERSION_ONE, &plan) else {
+        return Err(Fail::new("refused"));
+    };
+    assert!(rt; !trace.carries_ahead());
+    Ok(())
+}
+
+// ---- refusals
+
+// Whether the record of that number is refused with that fault.
+fn refuses(alloc: Global, text: &[u8], plan: &Plan, fault: TraceFault, number: u32) -> bool {
+    match read_text(alloc, text, plan) {
+        Err(error) => error == TraceError::At { fault, number },
+        Ok(_) => false,
+    }
+}
+
+// First records that are refused.
+const HEADS: [&[u8]; 12] = [
+    b"",
+    b"\n\r\n",
+    b"msrp-trace,1,2\n",
+    b"msrp-trace,1,2,6,\n",
+    b"msrp-trace,3,2,6\n",
+    b"msrp-trace,01,2,6\n",
+    b"msrp-trace,1,3,6\n",
+    b"msrp-trace,1,2,5\n",
+    b"msrp-trace,1,02,6\n",
+    b"msrp-trace,1,2,+6\n",
+    b"msrp,1,2,6\n",
+    b" msrp-trace,1,2,6\n",
+];
+
+#[test]
+fn first_records(rt: HostRuntime) -> Result<(), Fail> {
+    let alloc = rt.alloc();
+    let plan = handover(alloc)?;
+    for text in HEADS {
+        assert!(rt; refuses(alloc, text, &plan, TraceFault::Head, 1));
+    }
+    Ok(())
+}
+
+// A text of a first record and one row.
+fn with_row(alloc: Global, head: &[u8], row: &[u8]) -> Result<Vec<u8>, Fail> {
+    let mut text = Vec::from_slice(alloc, head)?;
+    text.extend_from_slice(row)?;
+    Ok(text)
+}
+
+fn rows_refused(
+    rt: &impl Abort,
+    alloc: Global,
+    head: &[u8],
+    table: &[(&[u8], TraceFault)],
+) -> Result<(), Fail> {
+    let plan = handover(alloc)?;
+    for (row, fault) in table {
+        let text = with_row(alloc, head, row)?;
+        assert!(rt;
+            refuses(alloc, text.as_slice(), &plan, *fault, 2),
+            "{fault:?}"
+        );
+    }
+    Ok(())
+}
+
+// Rows of version 1, and their faults.
+const ONES: [(&[u8], TraceFault); 22] = [
+    (b"0,0,idle,-,-\n", TraceFault::FieldCount),
+    (b"0,0,idle,-,-,-,-\n", TraceFault::FieldCount),
+    (b"5,1,id\n", TraceFault::FieldCount),
+    (b"00,0,idle,-,-,-\n", TraceFault::Number),
+    (b"0,-,idle,-,-,-\n", TraceFault::Number),
+    (b"1000000000,0,idle,-,-,-\n", TraceFault::Number),
+    (b"0,0,run,a,,-\n", TraceFault::Number),
+    (b"x,0,walk,a,0,-\n", TraceFault::Number),
+    (b"0,0,walk,-,0,-\n", TraceFault::Kind),
+    (b"0,0,Run,a,0,-\n", TraceFault::Kind),
+    (b"0,0,,a,0,-\n", TraceFault::Kind),
+    (b"0,0,idle,a,0,-\n", TraceFault::Shape),
+    (b"0,0,idle,-,-,z\n", TraceFault::Shape),
+    (b"0,0,run,a,-,-\n", TraceFault::Shape),
+    (b"0,0,run,-,0,-\n", TraceFault::Shape),
+    (b"0,0,run,z,0,g\n", TraceFault::Shape),
+    (b"0,0,run,a,0,\n", TraceFault::Shape),
+    (b"0,0,take,a,0,-\n", TraceFault::Shape),
+    (b"0,0,run,z,0,-\n", TraceFault::Name),
+    (b"0,0,run,,0,-\n", TraceFault::Name),
+    (b"0,0,take,a,0,h\n", TraceFault::Name),
+    (b"0,0,run,\xff,0,-\n", TraceFault::Name),
+];
+
+#[test]
+fn rows_of_version_one(rt: HostRuntime) -> Result<(), Fail> {
+    rows_refused(&rt, rt.alloc(), b"msrp-trace,1,2,6\n", &ONES)
+}
+
+// Rows of version 2, and their faults.
+const TWOS: [(&[u8], TraceFault); 7] = [
+    (b"0,0,idle,-,-,-\n", TraceFault::FieldCount),
+    (b"0,0,take,a,0,g,\n", TraceFault::Number),
+    (b"0,1,queue,b,0,g,01\n", TraceFault::Number),
+    (b"0,1,queue,b,0,g,-\n", TraceFault::Shape),
+    (b"0,0,take,a,0,g,0\n", TraceFault::Shape),
+    (b"0,0,idle,-,-,-,0\n", TraceFault::Shape),
+    (b"0,1,queue,z,0,g,1\n", TraceFault::Name),
+];
+
+#[test]
+fn rows_of_version_two(rt: HostRuntime) -> Result<(), Fail> {
+    rows_refused(&rt, rt.alloc(), b"msrp-trace,2,2,6\n", &TWOS)
+}
+
+#[test]
+fn faults_have_their_codes(rt: HostRuntime) {
+    let table = [
+        (TraceFault::Head, 1),
+        (TraceFault::Name, 5),
+        (TraceFault::Memory, 8),
+    ];
+    for (fault, code) in table {
+        assert!(rt; fault.code() == code);
+    }
+}
+
+#[test]
+fn a_refused_reader_stays_refused(rt: HostRuntime) -> Result<(), Fail> {
+    let alloc = rt.alloc();
+    let plan = handover(alloc)?;
+    let text: &[u8] = b"msrp-trace,1,2,6\n0,0,take,a,0,g\n0,1\n1,0,run,a,0,-\n";
+    let mut source = Source::new(text);
+    let Ok(mut reader) = TraceReader::new(alloc, &mut source, &plan) else {
+        return Err(Fail::new("refused"));
+    };
+    let answers = [
+        reader.next_row(),
+        reader.next_row(),
+        reader.next_row(),
+        reader.next_row(),
+    ];
+    drop(reader);
+    let fault = TraceFault::FieldCount;
+    assert!(rt; matches!(answers[0], Ok(Some(_))));
+    assert!(rt; answers[1] == Err(TraceError::At { fault, number: 3 }));
+    assert!(rt; answers[2] == Err(TraceError::Failed));
+    assert!(rt; answers[3] == Err(TraceError::Failed));
+    Ok(())
+}
+
+#[test]
+fn an_ended_reader_stays_ended(rt: HostRuntime) -> Result<(), Fail> {
+    let alloc = rt.alloc();
+    let plan = handover(alloc)?;
+    let text: &[u8] = b"msrp-trace,1,2,6\n0,0,take,a,0,g";
+    let mut source = Source::new(text);
+    let Ok(mut reader) = TraceReader::new(alloc, &mut source, &plan) else {
+        return Err(Fail::new("refused"));
+    };
+    let answers = [reader.next_row(), reader.next_row(), reader.next_row()];
+    drop(reader);
+    assert!(rt; matches!(answers[0], Ok(Some(_))));
+    assert!(rt; answers[1] == Ok(None));
+    assert!(rt; answers[2] == Ok(None));
+    Ok(())
+}
+
+// ---- readers and writers that fail
+
+// Gives a text one byte a call, and fails at one call.
+#[derive(Drop)]
+struct Halting<'a> {
+    text: &'a [u8],
+    calls: usize,
+    fails_at: usize,
+}
+
+impl Read for Halting<'_> {
+    fn read(&mut self, buf: &mut [u8]) -> io::Result<usize> {
+        let at = self.calls;
+        self.calls = self.calls.saturating_add(1);
+        if at == self.fails_at {
+            return Err(io::Error::from(ErrorKind::Other));
+        }
+        if buf.is_empty() || at >= self.text.len() {
+            return Ok(0);
+        }
+        buf[0] = self.text[at];
+        Ok(1)
+    }
+}
+
+// Each byte is one read, and the end is one more. Wherever a read fails, the reading ends with that fault.
+#[test]
+fn each_read_fails_in_turn(rt: HostRuntime) -> Result<(), Fail> {
+    let alloc = rt.alloc();
+    let plan = handover(alloc)?;
+    for fails_at in 0..=VERSION_TWO.len() {
+        let mut source = Source::new(Halting {
+            text: VERSION_TWO,
+            calls: 0,
+            fails_at,
+        });
+        let answer = read_all(alloc, &mut source, &plan);
+        assert!(rt; matches!(answer, Err(TraceError::Read)), "{fails_at}");
+        assert!(rt; source.failed());
+    }
+    Ok(())
+}
+
+// Takes so many bytes, and then fails.
+#[derive(Drop)]
+struct Narrow {
+    got: Vec<u8>,
+    room: usize,
+}
+
+impl Write for Narrow {
+    fn write(&mut self, buf: &[u8]) -> io::Result<usize> {
+        let taken = buf.len().min(self.room.saturating_sub(self.got.len()));
+        if taken == 0 {
+            return Err(io::Error::from(ErrorKind::Other));
+        }
+        match self.got.extend_from_slice(&buf[..taken]) {
+            Ok(()) => Ok(taken),
+            Err(_) => Err(io::Error::from(ErrorKind::Other)),
+        }
+    }
+
+    fn flush(&mut self) -> io::Result<()> {
+        Ok(())
+    }
+}
+
+// Wherever a write fails, a first part of the text was written.
+#[test]
+fn each_write_fails_in_turn(rt: HostRuntime) -> Result<(), Fail> {
+    let alloc = rt.alloc();
+    let plan = handover(alloc)?;
+    let Ok(trace) = read_text(alloc, VERSION_TWO, &plan) else {
+        return Err(Fail::new("refused"));
+    };
+    for room in 0..VERSION_TWO.len() {
+        let mut writer = Narrow {
+            got: Vec::new(alloc),
+            room,
+        };
+        let mut sink = Sink::new(&mut writer);
+        assert!(rt; !write_all(&mut sink, &plan, &trace, TextVersion::V2));
+        assert!(rt; sink.failed());
+        assert!(rt; writer.got.as_slice() == &VERSION_TWO[..room]);
+    }
+    Ok(())
+}
