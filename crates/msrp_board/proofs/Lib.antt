@@ -25,6 +25,7 @@ pub mod ViewParts
 -- the rule, as callers see it
 pub mod End
 pub mod Moments
+pub mod BrokenBoards
 -- for callers: a core's seat, the books of parted and joined seats, a port over a seat
 pub mod CoreSeats
 pub mod SeatBooks

@@ -1,16 +1,19 @@
 -- A state under the rule, as callers see it.
-use Rattle.std.proofs.Common.{◌≡◌, ℕ, zero, suc, List, [], ◌∷◌, map, Some, refl, sym, ap, ◌∙◌, arith}
-use Rattle.std.specs.Prelude.{slice_get}
-use mathlib.Core.Option.{some, some-injective, some-ne-none}
+use Rattle.std.proofs.Common.{◌≡◌, ℕ, zero, suc, List, [], ◌∷◌, map, set, Some, refl, sym, ap, ◌∙◌, subst, arith}
+use Rattle.std.specs.Prelude.{slice_get, slice_index}
+use Rattle.std.proofs.lemmas.List.{set-get_or}
+use Rattle.atomic_table.proofs.Lists.{set_again}
+use mathlib.Core.Option.{some, none, some-injective, some-ne-none}
 use lib.ListN.{get_elem?}
-use Rattle.atomic_table.specs.Table.{State}
+use Rattle.atomic_table.specs.Table.{State, Me, step, keeps, stepped, Allows}
+use Rattle.msrp_board.specs.declared.books.BoardSize.{BoardSize}
 use Rattle.msrp_board.specs.declared.books.Book.{Book}
 use Rattle.msrp_board.specs.declared.books.Conductor.{Conductor}
 use Rattle.msrp_board.specs.declared.pages.Page.{Page}
 use Rattle.msrp_board.specs.declared.pages.View.{View}
 use Rattle.msrp_board.specs.Seats.{BoardModel, SeatModel, book_at}
-use Rattle.msrp_board.specs.Moments.{HoldsBook, HoldsConductor, AreTied}
-use Rattle.msrp_board.specs.Inside.Rule.{OwnsBy, HasPage, HasConductor, Ruled}
+use Rattle.msrp_board.specs.Moments.{HoldsBook, HoldsConductor, AreTied, StandsIn}
+use Rattle.msrp_board.specs.Inside.Rule.{OwnsBy, HasPage, HasConductor, Ruled, IsUnderRule, TellsRule}
 use Rattle.msrp_board.specs.Inside.Held.{told, seen_as}
 use Rattle.msrp_board.proofs.Told.{page_of, book_of}
 use Rattle.msrp_board.proofs.End.{whole_of, tied_told, book_of_page, page_of_book}
@@ -62,3 +65,26 @@ tied_always board s r =
       };
       tied = tied_told z s.words r.pages r.conductor r.limits (let l = r.words in omega (arith, l)) r.tied;
     }
+
+-- a step that changes nothing
+unchanged : (s : State (Unit {0}) View) (i id : ℕ) (me : Me (Unit {0}) View) → get_elem? s.views id ≡ some me.0 → stepped s i (slice_index s.words i) id me.1 me.0 keeps ≡ s
+unchanged s i id me at_id =
+    let of : List ℕ → List View → State (Unit {0}) View = λ words views. record { words = words; homes = s.homes; views = views } in
+    ap (λ words. of words (set s.views id me.0)) (set-get_or s.words i 0) ∙ ap (of s.words) (set_again s.views id me.0 at_id)
+
+pub confirm_allowed : (z : BoardSize) (slots id i : ℕ) (me : Me (Unit {0}) View) → Allows (Ruled z) slots id me i (λ n. n) (TellsRule z (step slots i 0 0 none) me)
+confirm_allowed z slots id i me s r _ at_id fits =
+    (me.0, keeps, tt, subst (Ruled z) (sym (unchanged s i id me at_id)) r, record { same = refl; state = s; seat = id; ruled = r; there = at_id })
+
+-- a seat of a state under the rule, as callers see it
+pub stands : (z : BoardSize) (board : BoardModel) (seat : SeatModel) (me now : Me (Unit {0}) View) → z ≡ board.size → seen_as board me.0 ≡ seat → IsUnderRule z me now → StandsIn seat
+stands z board seat me now size seen r =
+    let tied = tied_always board r.state (subst (λ k. Ruled k r.state) size r.ruled) in
+    let at = seat_of board r.state.views r.seat me.0 r.there in
+    subst StandsIn seen (record {
+      whole = tied.whole;
+      sized = tied.sized;
+      books = λ c b h. tied.shared.books r.seat c b (seen_as board me.0, at, h);
+      conductor = λ o h. tied.shared.conductor r.seat o (seen_as board me.0, at, h);
+      tied = tied.tied;
+    })

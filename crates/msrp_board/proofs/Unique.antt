@@ -6,7 +6,7 @@ use native.Mathlib.Decide.{ℕ_discrete}
 use Rattle.msrp_plan.specs.declared.units.Call.{Call}
 use Rattle.msrp_plan.specs.declared.units.Call.TheVariants.{Ask, Poll, Leave}
 use Rattle.msrp_board.specs.declared.books.Entry.{Entry}
-use Rattle.msrp_board.specs.Books.{IsChain}
+use Rattle.msrp_board.specs.Books.{on, IsChain}
 use Rattle.msrp_board.specs.History.{Event, by, is_poll, place_after, Placed, PollsInOrder, IsHistory}
 use Rattle.msrp_plan.proofs.Lists.AnyAll.{all_weaker}
 
@@ -115,5 +115,9 @@ unique R anti (x ∷ xs) (y ∷ ys) same a b = dite (ℕ_discrete y.0 x.0)
         (λ e. subst (λ d. by d xs ≡ by d ys) e t)
         (λ n. sym (by_other c x.0 x.1 xs n) ∙ (same c ∙ by_other c y.0 y.1 ys (λ e. n (sym q ∙ e))))
 
+-- a list in that order with the entries of a history is the history
+pub history_is : (g : ℕ) (books : ℕ → List Entry) (h k : List Event) → IsHistory g books h → ((c : ℕ) → by c k ≡ on g (books c)) → Sorted Before k → h ≡ k
+history_is g books h k a entries order = unique Before before_both h k (λ c. a.entries c ∙ sym (entries c)) (sorted_history 0 h a.placed a.polls) order
+
 pub history_unique : (g : ℕ) (books : ℕ → List Entry) (h k : List Event) → IsHistory g books h → IsHistory g books k → h ≡ k
-history_unique g books h k a b = unique Before before_both h k (λ c. a.entries c ∙ sym (b.entries c)) (sorted_history 0 h a.placed a.polls) (sorted_history 0 k b.placed b.polls)
+history_unique g books h k a b = history_is g books h k a b.entries (sorted_history 0 k b.placed b.polls)

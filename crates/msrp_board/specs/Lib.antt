@@ -5,4 +5,5 @@ pub mod Steps
 pub mod SeatPorts
 pub mod Boards
 pub mod Moments
+pub mod BrokenBoards
 pub mod Inside

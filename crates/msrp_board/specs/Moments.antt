@@ -32,3 +32,11 @@ pub record AreTied (size : BoardSize) (words : List ℕ) (seats : List SeatModel
   pub barrier : whole.barrier ≡ slice_index words size.resources
   pub shared : IsSharedOut seats whole
   pub tied : IsTied whole
+
+-- what a seat holds is part of a whole board that keeps the rule
+pub record StandsIn (seat : SeatModel) : Type 0 where
+  pub whole : WholeBoard
+  pub sized : whole.size ≡ seat.board.size
+  pub books : (c : ℕ) (b : Book) → book_at seat c ≡ Some b → slice_get whole.books c ≡ Some b
+  pub conductor : (o : Conductor) → seat.conductor ≡ Some o → o ≡ whole.conductor
+  pub tied : IsTied whole

@@ -10,6 +10,7 @@ ghost use Rattle.msrp_board.specs.declared.books.Book.{Book};
 ghost use Rattle.msrp_board.specs.declared.books.Conductor.TheVariants.{Unopened, Opened, Aborted};
 ghost use Rattle.msrp_board.specs.Books.{IsSize};
 ghost use Rattle.msrp_board.specs.Seats.{book_at, IsCoreSeat, IsIn, MayAct, HasAnother, first_seat};
+ghost use Rattle.msrp_board.specs.Moments.{StandsIn};
 ghost use Rattle.msrp_board.specs.Steps.{IsBehind, with_entry, with_admission, with_stop, with_arrival, with_conductor, alone, without, both};
 
 use crate::answers::{Asked, BoardError, Look, Polled};
@@ -277,5 +278,16 @@ impl Board {
             states: states.and(other_states),
             conductor: conductor.or(other_conductor),
         }
+    }
+
+    /// Confirms that what the seat holds is part of a whole board that keeps the rule: one `load` of the barrier word. So the
+    /// answers in its books, as those of joined seats, stand in one history of each resource, whoever holds the other books.
+    pub fn confirm(&self, seat: &mut BoardSeat)
+        requires board { seat.old.board ≡ self.now }
+        ensures seat { seat.new ≡ seat.old }
+        ensures stands { StandsIn seat.old }
+    {
+        let barrier = self.size.resources as usize;
+        steps::confirm(&self.table.shared, &mut seat.table_seat, barrier, self.size);
     }
 }

@@ -8,9 +8,14 @@ ghost use Rattle.msrp_board.specs.declared.books.BoardSize.{BoardSize};
 ghost use Rattle.msrp_board.specs.Books.{IsKept, phase_in, has_acted};
 ghost use Rattle.msrp_board.specs.History.{HistoryIsUnique};
 ghost use Rattle.msrp_board.specs.Seats.{BoardModel};
+ghost use Rattle.msrp_board.specs.Boards.{IsTied};
 ghost use Rattle.msrp_board.specs.Moments.{AreTied};
-ghost use Rattle.msrp_board.specs.Inside.Rule.{Ruled};
 ghost use Rattle.msrp_board.specs.Inside.Held.{seen_as};
+ghost use Rattle.msrp_board.specs.BrokenBoards as boards;
+
+use crate::books::BoardSize;
+use crate::pages::{Tickets, View};
+use atomic_table::TableRule;
 
 /// Books have but one history of a resource: the list in which requests and releases stand by place, each poll
 /// before the step of the place that it read, and polls of one place by tick, then core.
@@ -18,11 +23,27 @@ pub fn history_is_unique()
     ensures { HistoryIsUnique }
 {}
 
-/// At every moment the words and the books of all seats are tied. Every step of every thread keeps the rule `Ruled` of
-/// the board's table, whatever state of it that step finds; and a state under that rule is one whose books, as callers
-/// see them, are shared out among the seats and tied to the words.
+/// At every moment the words and the books of all seats are tied: a state under the rule of the board's table, as callers see it, has
+/// its books shared out among the seats and tied to the words. The table's steps are called under that rule alone, so every step
+/// of every thread keeps it, whatever state of the table it finds.
 pub fn tied_at_every_moment()
-    ensures { (board : BoardModel) (state : State (Unit {0}) View) → Ruled board.size state → AreTied board.size state.words (map (seen_as board) state.views) }
+    ensures { (board : BoardModel) (state : State (Unit {0}) View) → ⟦<Tickets as TableRule<(), View, BoardSize>>⟧.holds board.size state → AreTied board.size state.words (map (seen_as board) state.views) }
+{}
+
+/// Boards that break one line of the rule each, as wrong calls would: a book that is lost, a place that two requests found, a release
+/// that is counted twice, two cores that are told that none is ahead, a grant of what is held, a poll that tells what an earlier tick found,
+/// a core that acts twice in a tick, an arrival that isn't counted, a stop without an abort, and a core that is let in before all have arrived.
+pub fn broken_boards()
+    ensures lost_book { ¬ IsTied boards.lost_book }
+    ensures shared_ticket { ¬ IsTied boards.shared_ticket }
+    ensures counted_twice { ¬ IsTied boards.counted_twice }
+    ensures two_holders { ¬ IsTied boards.two_holders }
+    ensures invented_grant { ¬ IsTied boards.invented_grant }
+    ensures old_poll { ¬ IsTied boards.old_poll }
+    ensures acted_twice { ¬ IsTied boards.acted_twice }
+    ensures lost_arrival { ¬ IsTied boards.lost_arrival }
+    ensures invented_stop { ¬ IsTied boards.invented_stop }
+    ensures early { ¬ IsTied boards.early }
 {}
 
 /// A core that waits for its tick has not acted in it, and one that waits for tick 0 has done nothing. So a seat that

@@ -69,6 +69,17 @@ impl Named for Brand {
     ghost number = { 0 };
 }
 
+/// Names the size of a board, for the same reason.
+pub trait OfSize {
+    ghost use Rattle.msrp_board.specs.declared.books.BoardSize.{BoardSize};
+
+    ghost size: { BoardSize };
+}
+
+impl OfSize for Brand {
+    ghost size = { record { cores = 0; resources = 0; ticks = 0 } };
+}
+
 /// Parts the page of core `N` from the others.
 pub struct Parts<N: Named> {
     core: PhantomData<N>,
@@ -111,6 +122,17 @@ impl<N: Named> Play<(), View> for Looks<N> {
     ghost use Rattle.msrp_board.specs.Inside.Rule.{TellsLook};
 
     ghost then = { TellsLook N.number };
+}
+
+/// The step that tells the rule, on a board of size `Z`.
+pub struct Confirms<Z: OfSize> {
+    size: PhantomData<Z>,
+}
+
+impl<Z: OfSize> Play<(), View> for Confirms<Z> {
+    ghost use Rattle.msrp_board.specs.Inside.Rule.{TellsRule};
+
+    ghost then = { TellsRule Z.size };
 }
 
 /// The step of the opening.

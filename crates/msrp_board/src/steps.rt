@@ -1,14 +1,16 @@
-//! The seven kinds of step, each one atomic instruction on one word, and how seats are parted and joined.
+//! The kinds of step, each one atomic instruction on one word, and how seats are parted and joined.
 ghost use Rattle.std.specs.Prelude.{Some, ◌≡◌, [], ◌+◌, ◌-◌, ◌<◌, ◌==◌, ◌*◌, ℕ};
 ghost use mathlib.Core.Option.{none};
 ghost use Rattle.atomic_table.specs.Table.{step};
 ghost use Rattle.msrp_plan.specs.declared.units.Call.TheVariants.{Ask, Poll, Leave};
 ghost use Rattle.msrp_board.specs.declared.books.Conductor.TheVariants.{Unopened, Opened, Aborted};
 ghost use Rattle.msrp_board.specs.declared.held.Claim.TheVariants.{Nothing, Waits, Holds};
-ghost use Rattle.msrp_board.specs.Inside.Rule.{ViewMayAct, HasEntered, IsTicket, TellsLook, ViewWaits, ViewIsAdmitted, with_pages, page_with_arrival, view_with_conductor, view_alone, view_without, view_both};
+ghost use Rattle.msrp_board.specs.Inside.Rule.{ViewMayAct, HasEntered, IsTicket, TellsLook, IsUnderRule, ViewWaits, ViewIsAdmitted, with_pages, page_with_arrival, view_with_conductor, view_alone, view_without, view_both};
 
+use crate::books::BoardSize;
 use crate::pages::{
-    Aborts, Arrives, Asks, Both, Leaves, Looks, Named, Opens, Parts, Polls, TableSeat, Words,
+    Aborts, Arrives, Asks, Both, Confirms, Leaves, Looks, Named, OfSize, Opens, Parts, Polls,
+    TableSeat, Words,
 };
 use crate::words::{HIGH_ONE, TicketWord};
 use std::marker::Brand;
@@ -83,6 +85,28 @@ fn look_named<N: Named>(words: &Words, seat: &mut TableSeat, barrier: usize, cor
 {
     let _ = cores;
     words.load::<Looks<N>>(seat, barrier)
+}
+
+/// A confirmation: a state under the rule has the seat, and the step changes nothing.
+pub fn confirm(words: &Words, seat: &mut TableSeat, barrier: usize, size: BoardSize)
+    requires table { seat.old.table_id ≡ words.now.table_id }
+    requires barrier { (barrier ≡ words.now.key.resources) × (words.now.table_id.words ≡ words.now.key.resources + 1) }
+    requires size { words.now.key ≡ size }
+    ensures table { seat.new.table_id ≡ seat.old.table_id }
+    ensures told { IsUnderRule size seat.old.me seat.new.me }
+{
+    confirm_named::<Brand>(words, seat, barrier, size)
+}
+
+fn confirm_named<Z: OfSize>(words: &Words, seat: &mut TableSeat, barrier: usize, size: BoardSize)
+    requires table { seat.old.table_id ≡ words.now.table_id }
+    requires barrier { (barrier ≡ words.now.key.resources) × (words.now.table_id.words ≡ words.now.key.resources + 1) }
+    requires size { (Z.size ≡ size) × (words.now.key ≡ size) }
+    ensures table { seat.new.table_id ≡ seat.old.table_id }
+    ensures told { IsUnderRule size seat.old.me seat.new.me }
+{
+    let _ = size;
+    words.load::<Confirms<Z>>(seat, barrier);
 }
 
 /// The opening.

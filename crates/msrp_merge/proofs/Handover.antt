@@ -1,16 +1,20 @@
 -- The worked handover: its logs fit its books, and its history was served.
-use Rattle.std.proofs.Common.{◌≡◌, ℕ, zero, suc, ◌<◌, ◌≤◌, List, [], ◌∷◌, cond, true, false, length, refl, ap, ◌∙◌, arith, inl, inr, ⊎_elim, ne_eqb}
-use Rattle.std.specs.List.{AllByRecursion}
+use Rattle.std.proofs.Common.{◌≡◌, ℕ, zero, suc, ◌<◌, true, false, length, refl, arith, inl, inr, ⊎_elim}
+use Rattle.std.specs.List.{AllByRecursion, filter}
 use Rattle.msrp_plan.specs.Examples.HandoverATickLater as handover
+use Rattle.msrp_plan.specs.Examples.HandoverWithinATick as within_a_tick
 use Rattle.msrp_plan.specs.FifoLock.{Legal}
 use Rattle.msrp_plan.specs.Runs.{CoreRun, IsRun, IsRunStart}
 use Rattle.msrp_plan.proofs.Runs.CoreRuns.{core_run}
 use Rattle.msrp_plan.proofs.Runs.Verdicts.{good_is_run}
+use Rattle.msrp_board.proofs.BrokenBoards.{no_others}
 use Rattle.msrp_board.specs.Boards.{entries_at}
 use Rattle.msrp_board.specs.Books.{on, IsChain}
 use Rattle.msrp_board.specs.History.{Event, by, calls, PollsInOrder, IsNotLater, IsServed}
 use Rattle.msrp_merge.specs.Handover.{logs, books, history}
 use Rattle.msrp_merge.specs.Merging.{log_at, turns_of, AreLogs}
+use Rattle.msrp_merge.specs.Pairs.{Paired}
+use Rattle.msrp_merge.specs.Steps.{is_row_on, IsRowOfEvent}
 use Rattle.msrp_merge.specs.Turns.{rows_of, Fits}
 
 -- ---- the logs
@@ -48,10 +52,6 @@ logs_fit = record {
 }
 
 -- ---- the history
-no_others : (h : List Event) (c : ℕ) → AllByRecursion (λ s. s.0 < 2) h → 2 ≤ c → by c h ≡ []
-no_others [] c all past = refl
-no_others (s ∷ h) c all past = let low = all.0 in ap (λ k. cond k (s.1 ∷ by c h) (by c h)) (ne_eqb s.0 c (λ e. absurd (omega (arith, e, low, past)))) ∙ no_others h c all.1 past
-
 two_cores : AllByRecursion (λ (s : Event). s.0 < 2) history
 two_cores = (omega arith, (omega arith, (omega arith, (omega arith, (omega arith, (omega arith, (omega arith, tt)))))))
 
@@ -83,3 +83,11 @@ served = record {
   legal = legal;
   rising = rises;
 }
+
+-- ---- its rows, and those of a handover a tick earlier: there core 0 releases where the history has a poll of core 1
+pub paired : Paired IsRowOfEvent (filter (is_row_on 0) handover.rows) history
+paired =
+    (record { core = refl; step = record { tick = refl; resource = refl; kind = refl; ahead = tt } }, (record { core = refl; step = record { tick = refl; resource = refl; kind = refl; ahead = tt } }, (record { core = refl; step = record { tick = refl; resource = refl; kind = refl; ahead = tt } }, (record { core = refl; step = record { tick = refl; resource = refl; kind = refl; ahead = tt } }, (record { core = refl; step = record { tick = refl; resource = refl; kind = refl; ahead = tt } }, (record { core = refl; step = record { tick = refl; resource = refl; kind = refl; ahead = tt } }, (record { core = refl; step = record { tick = refl; resource = refl; kind = refl; ahead = tt } }, tt)))))))
+
+pub not_paired : ¬ Paired IsRowOfEvent (filter (is_row_on 0) within_a_tick.rows) history
+not_paired pairs = apart pairs.1.1.1.0.core

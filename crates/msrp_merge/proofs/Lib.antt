@@ -11,3 +11,4 @@ pub mod Loops
 pub mod Boards
 pub mod Coming
 pub mod Handover
+pub mod OneMerge

@@ -19,13 +19,13 @@ abbrev b : JobId
 b = job 1 0
 
 -- a turn on no global resource, a request or release at a place, and a poll that read one
-abbrev quiet : Row → Turn
+abbrev pub quiet : Row → Turn
 quiet r = record { row = r; place = None }
 
-abbrev at : ℕ → Row → Turn
+abbrev pub at : ℕ → Row → Turn
 at n r = record { row = r; place = Some (record { number = n; polled = false }) }
 
-abbrev reads : ℕ → Row → Turn
+abbrev pub reads : ℕ → Row → Turn
 reads n r = record { row = r; place = Some (record { number = n; polled = true }) }
 
 abbrev pub logs : List LogModel

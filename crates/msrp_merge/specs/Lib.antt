@@ -7,3 +7,4 @@ pub mod Steps
 pub mod Merging
 pub mod Coming
 pub mod Handover
+pub mod TwoResources

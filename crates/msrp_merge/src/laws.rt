@@ -1,6 +1,7 @@
 //! Laws that the merge rests on. Each function does nothing; its contract is the law.
-ghost use Rattle.std.specs.Prelude.{◌≡◌, ℕ, List, [], ◌∷◌, ◌++◌, None, filter, true, false};
+ghost use Rattle.std.specs.Prelude.{◌≡◌, ℕ, List, [], ◌∷◌, ◌++◌, None, filter, map, true, false};
 ghost use Rattle.msrp_plan.specs.Examples.HandoverATickLater as handover_a_tick_later;
+ghost use Rattle.msrp_plan.specs.Examples.HandoverWithinATick as handover_within_a_tick;
 ghost use Rattle.msrp_plan.specs.Logs.{AreInterleaved};
 ghost use Rattle.msrp_plan.specs.Plan.{PlanModel};
 ghost use Rattle.msrp_plan.specs.Runs.{EachAfter, is_fifo_reply};
@@ -15,13 +16,19 @@ ghost use Rattle.msrp_merge.specs.Merging.{AreLogs, turns_of};
 ghost use Rattle.msrp_merge.specs.Order.{InOrder, Sorted};
 ghost use Rattle.msrp_merge.specs.Pairs.{Paired};
 ghost use Rattle.msrp_merge.specs.Sorting.{AreTurns, IsMerged, is_by, merged};
-ghost use Rattle.msrp_merge.specs.Steps.{AreServed, IsTurnOfEvent, is_step_on};
+ghost use Rattle.msrp_merge.specs.Steps.{AreServed, IsRowOfEvent, IsTurnOfEvent, is_row_on, is_step_on};
 ghost use Rattle.msrp_merge.specs.Turns.{Fits, IsTurnOf, is_step, rows_of};
+ghost use Rattle.msrp_merge.specs.TwoResources as two_resources;
 ghost use Rattle.msrp_merge.specs.declared.logs.Turn.{Turn};
 
 /// The sort keeps each core's turns in their order, one in each tick, and puts those of a tick in order by rank.
 pub fn sort_keeps_each_log()
     ensures { (cores ticks : ℕ) (logs : ℕ → List Turn) → AreTurns cores ticks logs → IsMerged cores ticks logs (merged logs cores ticks) }
+{}
+
+/// Logs have but one merge: the turns of a tick are of different cores, and ranks end in the core.
+pub fn merge_is_unique()
+    ensures { (cores ticks : ℕ) (logs : ℕ → List Turn) (turns : List Turn) → AreTurns cores ticks logs → IsMerged cores ticks logs turns → turns ≡ merged logs cores ticks }
 {}
 
 /// Because ticks never fall along a history, the steps on a resource, in the order of the sort, are the resource's history:
@@ -51,9 +58,17 @@ pub fn logs_fit_turn_by_turn()
 
 /// A worked merge: two logs that fit the books of a board, the history of the resource that one core hands over to the
 /// other, and the rows, in which a poll stands before the release of the same place, though its core has the higher
-/// number.
+/// number. Rows that hand it over a tick earlier are no rows of that history.
 pub fn handover()
     ensures logs { AreLogs handover_a_tick_later.plan logs (entries_at books) }
     ensures history { IsServed 2 2 0 (entries_at books) history }
     ensures rows { rows_of (merged (turns_of logs) 2 6) ≡ handover_a_tick_later.rows }
+    ensures paired { Paired IsRowOfEvent (filter (is_row_on 0) handover_a_tick_later.rows) history }
+    ensures earlier { ¬ Paired IsRowOfEvent (filter (is_row_on 0) handover_within_a_tick.rows) history }
+{}
+
+/// A worked merge of steps on two resources, by the cores of its rows. In tick 3 core 1 stands first, since its step is on the
+/// first resource, and in tick 4, since it touches none.
+pub fn two_resources_in_a_tick()
+    ensures { map (λ x. x.row.core.0) (merged (turns_of two_resources.logs) 2 5) ≡ 0 ∷ 1 ∷ 0 ∷ 1 ∷ 0 ∷ 1 ∷ 1 ∷ 0 ∷ 1 ∷ 0 ∷ [] }
 {}

@@ -263,6 +263,18 @@ AtStart n v = (c : ℕ) (b : Page) → HasPage v c b → ltb 0 (high n) ≡ true
 abbrev pub TellsLook : ℕ → Step (Unit {0}) → Me (Unit {0}) View → ℕ → Me (Unit {0}) View → Type 0
 TellsLook m st me n now = (now ≡ (with_pages (page_after_look m n) me.0, me.1)) × AtStart n me.0
 
+-- a seat that is left as it is was one of those of a state under the rule
+pub record IsUnderRule (z : BoardSize) (me now : Me (Unit {0}) View) : Type 0 where
+  pub same : now ≡ me
+  pub state : State (Unit {0}) View
+  pub seat : ℕ
+  pub ruled : Ruled z state
+  pub there : get_elem? state.views seat ≡ some me.0
+
+-- what a step tells that changes nothing
+abbrev pub TellsRule : BoardSize → Step (Unit {0}) → Me (Unit {0}) View → ℕ → Me (Unit {0}) View → Type 0
+TellsRule z st me n now = IsUnderRule z me now
+
 -- the conductor did this
 abbrev pub view_with_conductor : Conductor → View → View
 view_with_conductor o v = record { pages = v.pages; conductor = Some o }

@@ -1,0 +1,81 @@
+-- Each broken board breaks the rule.
+use Rattle.std.proofs.Common.{◌≡◌, ℕ, zero, suc, ◌<◌, ◌≤◌, List, [], ◌∷◌, cond, true, false, refl, ap, ◌∙◌, subst, arith, inl, inr, ne_eqb}
+use Rattle.std.specs.List.{AllByRecursion}
+use Rattle.msrp_plan.specs.declared.units.Call.TheVariants.{Ask, Poll, Leave}
+use Rattle.msrp_board.specs.declared.books.Book.{Book}
+use Rattle.msrp_board.specs.declared.books.Conductor.TheVariants.{Opened, Aborted}
+use Rattle.msrp_board.specs.declared.books.Entry.{Entry}
+use Rattle.msrp_board.specs.Boards.{IsTied, entries_at}
+use Rattle.msrp_board.specs.Books.{on}
+use Rattle.msrp_board.specs.BrokenBoards.{step, lost_book, shared_ticket, counted_twice, two_holders, invented_grant, old_poll, acted_twice, lost_arrival, invented_stop, early}
+use Rattle.msrp_board.specs.History.{Event, by, IsServed}
+use Rattle.msrp_board.proofs.Unique.{Before, Sorted, history_is}
+
+-- ---- the history of the resource, where there are two cores
+
+pub no_others : (h : List Event) (c : ℕ) → AllByRecursion (λ s. s.0 < 2) h → 2 ≤ c → by c h ≡ []
+no_others [] c all past = refl
+no_others (s ∷ h) c all past = let low = all.0 in ap (λ k. cond k (s.1 ∷ by c h) (by c h)) (ne_eqb s.0 c (λ e. absurd (omega (arith, e, low, past)))) ∙ no_others h c all.1 past
+
+own_entries : (a b : Book) (h : List Event) → AllByRecursion (λ s. s.0 < 2) h → by 0 h ≡ on 0 a.entries → by 1 h ≡ on 0 b.entries → (c : ℕ) → by c h ≡ on 0 (entries_at (a ∷ b ∷ []) c)
+own_entries a b h few p q zero = p
+own_entries a b h few p q (suc zero) = q
+own_entries a b h few p q (suc (suc c)) = no_others h (suc (suc c)) few (omega arith)
+
+-- a list in the order of a history, with the entries of two books, is what was served
+served_as : (next serving : ℕ) (a b : Book) (h : List Event) → AllByRecursion (λ s. s.0 < 2) h → by 0 h ≡ on 0 a.entries → by 1 h ≡ on 0 b.entries → Sorted Before h
+    → (k : List Event) × IsServed next serving 0 (entries_at (a ∷ b ∷ [])) k → IsServed next serving 0 (entries_at (a ∷ b ∷ [])) h
+served_as next serving a b h few p q order s =
+    let books : ℕ → List Entry = entries_at (a ∷ b ∷ []) in subst (IsServed next serving 0 books) (history_is 0 books s.0 h s.1.history (own_entries a b h few p q) order) s.1
+
+-- ---- each board
+
+pub lost : ¬ IsTied lost_book
+lost t = let e : ◌≡◌ {A = ℕ} 1 2 = t.cores in omega (arith, e)
+
+pub shared : ¬ IsTied shared_ticket
+shared t =
+    let h : List Event = (0, step 0 0 (Ask 0)) ∷ (1, step 0 0 (Ask 1)) ∷ [] in
+    let s = served_as 2 0 _ _ h (omega arith, (omega arith, tt)) refl refl ((inr (refl, inr (refl, inr (refl, omega arith))), tt), (tt, tt)) (t.served 0 (omega arith)) in
+    let e : ◌≡◌ {A = ℕ} 0 1 = s.history.placed.1.0 in omega (arith, e)
+
+pub counted : ¬ IsTied counted_twice
+counted t =
+    let h : List Event = (0, step 0 0 (Ask 0)) ∷ (0, step 1 1 Leave) ∷ [] in
+    let s = served_as 1 2 _ _ h (omega arith, (omega arith, tt)) refl refl ((inl (omega arith), tt), (tt, tt)) (t.served 0 (omega arith)) in
+    let e : ◌≡◌ {A = ℕ} 1 2 = s.releases in omega (arith, e)
+
+pub holders : ¬ IsTied two_holders
+holders t =
+    let h : List Event = (0, step 0 0 (Ask 0)) ∷ (1, step 0 1 (Ask 0)) ∷ [] in
+    let s = served_as 2 0 _ _ h (omega arith, (omega arith, tt)) refl refl ((inl (omega arith), tt), (tt, tt)) (t.served 0 (omega arith)) in
+    let e : ◌≡◌ {A = ℕ} 0 1 = s.legal.1.0.1 in omega (arith, e)
+
+pub invented : ¬ IsTied invented_grant
+invented t =
+    let h : List Event = (0, step 0 0 (Ask 0)) ∷ (1, step 0 1 (Ask 1)) ∷ (1, step 1 2 (Poll true)) ∷ [] in
+    let s = served_as 2 0 _ _ h (omega arith, (omega arith, (omega arith, tt))) refl refl ((inl (omega arith), (inl (omega arith), tt)), ((inl (omega arith), tt), (tt, tt))) (t.served 0 (omega arith)) in
+    let e : ◌≡◌ {A = ℕ} 0 1 = s.legal.1.1.0.0 in omega (arith, e)
+
+pub old : ¬ IsTied old_poll
+old t =
+    let h : List Event = (0, step 0 0 (Ask 0)) ∷ (1, step 0 1 (Ask 1)) ∷ (1, step 2 2 (Poll false)) ∷ (0, step 1 2 Leave) ∷ [] in
+    let order : Sorted Before h =
+    ((inl (omega arith), (inl (omega arith), (inl (omega arith), tt))), ((inl (omega arith), (inl (omega arith), tt)), ((inr (refl, inl (omega arith)), tt), (tt, tt)))) in
+    let s = served_as 2 1 _ _ h (omega arith, (omega arith, (omega arith, (omega arith, tt)))) refl refl order (t.served 0 (omega arith)) in
+    let e : 2 ≤ 1 = s.rising.1.1.0 in omega (arith, e)
+
+pub acted : ¬ IsTied acted_twice
+acted t = let l : 0 < 0 = (t.kept 0 _ refl).one_a_tick.0 in omega (arith, l)
+
+pub uncounted : ¬ IsTied lost_arrival
+uncounted t = let e : ◌≡◌ {A = ℕ} 2 3 = t.arrivals in omega (arith, e)
+
+clash : Opened ≡ Aborted → ⊥
+clash e = cc
+
+pub stopped : ¬ IsTied invented_stop
+stopped t = clash (t.told 0 _ refl refl)
+
+pub let_in_early : ¬ IsTied early
+let_in_early t = let l : 1 ≤ 0 = (t.met 0 1 _ refl (omega arith)).1 1 _ refl in omega (arith, l)

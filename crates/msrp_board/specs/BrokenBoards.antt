@@ -1,0 +1,68 @@
+-- Boards of two cores and one resource that break one line of the rule each: the conductor opened, and nobody was stopped but where it is said.
+use Rattle.std.specs.Prelude.{ℕ, ◌+◌, ◌*◌, List, [], ◌∷◌, true, false}
+use Rattle.msrp_plan.specs.declared.units.Call.{Call}
+use Rattle.msrp_plan.specs.declared.units.Call.TheVariants.{Ask, Poll, Leave}
+use Rattle.msrp_board.specs.declared.books.Book.{Book}
+use Rattle.msrp_board.specs.declared.books.Conductor.TheVariants.{Opened}
+use Rattle.msrp_board.specs.declared.books.Entry.{Entry}
+use Rattle.msrp_board.specs.Boards.{WholeBoard, half_word}
+use Rattle.msrp_board.specs.Seats.{empty_book}
+use Rattle.msrp_board.specs.Steps.{book_with_stop}
+
+-- so many requests and releases, and arrivals with the opening
+abbrev board : ℕ → ℕ → ℕ → List Book → WholeBoard
+board next serving arrivals books = record {
+  size = record { cores = 2; resources = 1; ticks = 4 };
+  tickets = (next * half_word + serving) ∷ [];
+  barrier = arrivals;
+  books = books;
+  conductor = Opened;
+}
+
+-- the book of a core that is let into a tick
+abbrev in_tick : ℕ → List Entry → Book
+in_tick tick entries = record { entries = entries; tick = tick; admitted = true; stopped = false }
+
+-- a step in a tick, at a place
+abbrev pub step : ℕ → ℕ → Call → Entry
+step tick place call = record { tick = tick; res = record { 0 = 0 }; place = place; call = call }
+
+-- core 1 has no book
+abbrev pub lost_book : WholeBoard
+lost_book = board 0 0 1 (empty_book ∷ [])
+
+-- both requests found place 0
+abbrev pub shared_ticket : WholeBoard
+shared_ticket = board 2 0 1 (in_tick 0 (step 0 0 (Ask 0) ∷ []) ∷ in_tick 0 (step 0 0 (Ask 1) ∷ []) ∷ [])
+
+-- one release is counted as two
+abbrev pub counted_twice : WholeBoard
+counted_twice = board 1 2 3 (in_tick 1 (step 0 0 (Ask 0) ∷ step 1 1 Leave ∷ []) ∷ in_tick 1 [] ∷ [])
+
+-- both requests are told that none is ahead
+abbrev pub two_holders : WholeBoard
+two_holders = board 2 0 1 (in_tick 0 (step 0 0 (Ask 0) ∷ []) ∷ in_tick 0 (step 0 1 (Ask 0) ∷ []) ∷ [])
+
+-- core 1 is granted what core 0 holds
+abbrev pub invented_grant : WholeBoard
+invented_grant = board 2 0 3 (in_tick 1 (step 0 0 (Ask 0) ∷ []) ∷ in_tick 1 (step 0 1 (Ask 1) ∷ step 1 2 (Poll true) ∷ []) ∷ [])
+
+-- core 1 is told in tick 2 what was so before core 0 released in tick 1
+abbrev pub old_poll : WholeBoard
+old_poll = board 2 1 5 (in_tick 2 (step 0 0 (Ask 0) ∷ step 1 2 Leave ∷ []) ∷ in_tick 2 (step 0 1 (Ask 1) ∷ step 2 2 (Poll false) ∷ []) ∷ [])
+
+-- core 0 acted twice in tick 0
+abbrev pub acted_twice : WholeBoard
+acted_twice = board 1 1 1 (in_tick 0 (step 0 0 (Ask 0) ∷ step 0 1 Leave ∷ []) ∷ in_tick 0 [] ∷ [])
+
+-- two cores arrived from tick 0, and one arrival is counted
+abbrev pub lost_arrival : WholeBoard
+lost_arrival = board 0 0 2 (in_tick 1 [] ∷ in_tick 1 [] ∷ [])
+
+-- core 0 was told to stop
+abbrev pub invented_stop : WholeBoard
+invented_stop = board 0 0 1 (book_with_stop empty_book ∷ empty_book ∷ [])
+
+-- core 0 is let into tick 1, and core 1 is in tick 0
+abbrev pub early : WholeBoard
+early = board 0 0 2 (in_tick 1 [] ∷ in_tick 0 [] ∷ [])
