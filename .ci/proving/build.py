@@ -93,12 +93,13 @@ class Proof:
 
 
 def chosen(left, done, free, behind):
-    """Which crates are begun now, each with how many jobs: those that the longest chains wait for first, with the processors that no other ready crate wants."""
+    """Which crates are begun now, each with how many jobs. The one that the longest chain waits for comes first, and gets two processors if there are four."""
     ready = sorted((it for it in left if all(used in done for used in below(it))), key=lambda it: -behind[it])
-    for number, name in enumerate(ready[:free]):
-        jobs = min(MOST_JOBS, -(-free // (len(ready) - number))) if len(ready) - number < free else 1
-        free -= jobs
-        yield name, jobs
+    for number, name in enumerate(ready):
+        if free > 0:
+            jobs = min(MOST_JOBS, -(-free // min(3, len(ready) - number)))
+            free -= jobs
+            yield name, jobs
 
 
 class Build:
