@@ -131,7 +131,7 @@ class Build:
         print(f"\r\x1b[K{line[:shutil.get_terminal_size().columns - 1]}", end="", file=sys.stderr, flush=True)
 
     def begin(self):
-        """Begins what can be begun. A crate that another checkout has proved is taken from there."""
+        """Begins what can be begun."""
         behind = self.figures.behind({it: self.figures.of(it)[0] for it in self.left})
         for name, jobs in chosen(self.left, self.done, self.processors - sum(it.jobs for it in _running.values()), behind):
             folder = rooms.prepared(name, self.sums)
@@ -158,6 +158,8 @@ class Build:
         about = minutes(self.seconds_left())
         if not all(it in self.figures.measured for it in self.names):
             about = about.replace("about", "perhaps")
+        if all(os.path.isdir(f"{TOP}/crates/{it}/out/incremental") for it in self.names):
+            about = about.replace("about", "at most").replace("perhaps", "at most")
         self.say(f"proves and builds {len(self.names)} crate{'s' * (len(self.names) > 1)} first, {about} on {self.processors} processors")
         while self.left or _running:
             self.begin()
@@ -176,7 +178,8 @@ def stop(number, _):
 def build(whom, names, sums):
     """Proves and builds what these crates stand on, and them; ends the process where that can't be done."""
     if shutil.which("rt") is None:
-        sys.exit(f"{whom}: needs rt, the command of the Rattle kit, on the path")
+        print(f"{whom}: needs rt, the command of the Rattle kit, on the path", file=sys.stderr)
+        sys.exit(FAILED)
     for number in (signal.SIGINT, signal.SIGTERM, signal.SIGHUP):
         signal.signal(number, stop)
     with rooms.locked(f"{TOP}/crates.txt", lambda: print(f"{whom}: waits for another build in this checkout", file=sys.stderr, flush=True)):
