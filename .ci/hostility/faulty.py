@@ -1,10 +1,11 @@
-"""A read that fails behind each byte of a text with a record that is refused: what is complete before the failure is judged first."""
+"""A read that fails behind each byte of a text with a record that is refused: what is complete before the failure is judged first, in plans and traces alike."""
 from .inputs import text
 from .program import BROKEN, COMMANDS, READ_FAULT, REFUSED, Answer, judges, words_of
 from .refusals import MOST_CALLS, ask_refusing
 from .sweep import kept
 
-LINE_ENDS = {"LF": b"\n", "CR LF": b"\r\n", "CR": b"\r"}
+LF, CR = b"\n", b"\r"
+LINE_ENDS = ((LF, LF), (CR + LF, CR + LF), (CR, CR), (LF, CR))  # of all records, and of the refused one
 PLAN = text("msrp,1 cores,1 ticks,3 task,a,0,3,3,0 op,run,2")
 # Texts in which one record is refused: the text, the answer to it, and the number of the record.
 PLANS = (
@@ -24,11 +25,11 @@ def reads_of(preloaded, plan):
     return next(number for number in range(1, MOST_CALLS) if not ask_refusing(preloaded, words_of("check", plan, ""), "read", number, short=True)[1]) - 1
 
 
-def judged_first(found, preloaded, command, what, given, end):
-    """Fails each read in turn: a read fault, until the refused record is complete, which the first byte of its line end does; then its refusal."""
+def judged_first(found, preloaded, command, what, given, ends):
+    """Fails each read in turn: a read fault until the refused record is complete, which it is with the first byte of its line end; then its refusal."""
     records, code, number = given
-    whole = records.replace(b"\n", end)
-    complete = len(end.join(records.split(b"\n")[:number])) + 1
+    lines = [record + ends[at == number] for at, record in enumerate(records.splitlines(), 1)]
+    whole, complete = b"".join(lines), len(b"".join(lines[:number])) - len(ends[True]) + 1
     if what == "plan":
         words, before = words_of(command, kept("plan", whole), kept("trace", b"")), 0
     else:
@@ -44,6 +45,6 @@ def judged_first(found, preloaded, command, what, given, end):
 def pieces(preloaded):
     """All pieces of work of this sweep, by the sweep's name."""
     return {
-        "reads failing behind refused records": [(judged_first, preloaded, command, "plan", given, end) for command in COMMANDS for given in PLANS for end in LINE_ENDS.values()]
-        + [(judged_first, preloaded, command, "trace", given, end) for command in filter(judges, COMMANDS) for given in TRACES for end in LINE_ENDS.values()],
+        "reads failing behind refused records": [(judged_first, preloaded, command, "plan", given, ends) for command in COMMANDS for given in PLANS for ends in LINE_ENDS]
+        + [(judged_first, preloaded, command, "trace", given, ends) for command in filter(judges, COMMANDS) for given in TRACES for ends in LINE_ENDS],
     }
