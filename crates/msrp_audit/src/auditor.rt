@@ -1,11 +1,12 @@
 //! The auditor, row by row.
 ghost use Rattle.std.specs.Prelude.{◌≡◌, ◌≢◌, ◌<◌, ◌*◌, ◌/◌, ◌++◌, ◌∷◌, [], List, IfOk, Some, None, Err, length, true, false, slice_get};
+ghost use Rattle.std.specs.Option.{IsSomeAnd};
 ghost use Rattle.msrp_core.specs.Machine.{MachineModel};
 ghost use Rattle.msrp_plan.specs.Runs.{is_of_core, is_in_turn};
 ghost use Rattle.msrp_plan.specs.Verdict.{fault_in, verdict, refused};
 ghost use Rattle.msrp_plan.specs.declared.faults.Fault.{Fault as TraceFault};
 ghost use Rattle.msrp_plan.specs.declared.rows.Row.{Row as TraceRow};
-ghost use Rattle.msrp_sim.specs.Cores.{StandFor};
+ghost use Rattle.msrp_sim.specs.Cores.{StandFor, IsDueAfter, IsNextRow};
 ghost use Rattle.msrp_audit.specs.Audits.{HasFed, answer_of};
 
 use crate::comparing::unlike_due;
@@ -130,11 +131,13 @@ impl<'a> Auditor<'a> {
         unlike
     }
 
-    /// A guess of the core's next row, with its ahead: that row of the legal run, where one is left. It is none where the
-    /// core has had all its turns, and none of a core that the plan hasn't. Nothing is promised of it: whoever guesses
+    /// The core's next row, with its ahead: while the rows so far have no fault, the one legal row of a core that is due.
+    /// It is none where the core has had all its turns, and none of a core that the plan hasn't. Whoever foresees a row
     /// feeds the row that comes.
     #[inline(always)]
-    pub fn foresee(&self, core: CoreId) -> Option<Row> {
+    pub fn foresee(&self, core: CoreId) -> Option<Row>
+        ensures { (rows : List TraceRow) → HasFed self.now rows → self.now.fault ≡ None → IsDueAfter self.now.plan rows core.0 → IsSomeAnd result (IsNextRow self.now.plan rows core.0) }
+    {
         if core.0 < self.plan.cores() {
             self.cores.foresee(core)
         } else {

@@ -85,6 +85,7 @@ impl<'a> Machine<'a> {
     #[inline(always)]
     pub fn foresee(&self) -> Option<Row>
         ensures row { IfSome result (λ row. (log : List TraceRow) → StandsAfter self.now log → IsCoreTurn self.now.plan self.now.core log row) }
+        ensures left { IfSome result (λ _. self.now.tick < self.now.plan.ticks) }
         ensures none { IfNone result (self.now.plan.ticks ≤ self.now.tick) }
     {
         if self.tick < self.jobs.plan.ticks() {

@@ -2,6 +2,7 @@
 #![tactic(auto)]
 
 mod judge;
+mod lock;
 mod simulate;
 mod stage;
 
@@ -12,6 +13,7 @@ fn main(rt: HostRuntime) -> ExitCode {
     let mut out = io::writer(&rt);
     let done = simulate::simulated(rt.alloc(), &mut out)
         .and_then(|()| judge::judged(&rt, rt.alloc()))
+        .and_then(|()| lock::handed_over(&rt, rt.alloc()))
         .and_then(|()| stage::counted(&rt, &rt, rt.alloc()));
     match done {
         Ok(()) => ExitCode::SUCCESS,

@@ -8,7 +8,7 @@ use std::alloc::Global;
 use std::io::Write;
 
 /// Two cores share a bus for 8 ticks. Each has a task that holds the bus for a unit of work.
-fn bus_plan(alloc: Global) -> Result<Plan, PlanFault> {
+pub fn bus_plan(alloc: Global) -> Result<Plan, PlanFault> {
     let mut builder = PlanBuilder::new(alloc, 2, 8)?;
     let bus = builder.resource("bus")?;
     for (name, core) in [("sensor", CoreId(0)), ("motor", CoreId(1))] {

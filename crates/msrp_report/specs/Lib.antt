@@ -1,4 +1,5 @@
 pub mod Lines
 pub mod ReportText
+pub mod Examples
 pub mod Inside
 pub mod Reports

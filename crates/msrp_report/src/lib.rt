@@ -1,7 +1,7 @@
 //! What happened to each task in a trace, beside what can happen in any run: response times, spin delay, blocking.
 //!
 //! [`report`] judges a whole trace and makes its [`Report`], with a [`Line`] for each task. A [`Reporter`] does so with rows as they come,
-//! and [`write_report`] writes a report as text.
+//! and [`write_report`] writes a report as text. [`worked`] has examples.
 #![tactic(auto)]
 
 mod bounds;
@@ -12,6 +12,7 @@ mod numbers;
 mod reporter;
 mod tallies;
 mod totals;
+pub mod worked;
 mod writing;
 
 pub use judging::{ReportError, report};

@@ -9,3 +9,4 @@ pub mod Starting
 pub mod Rounds
 pub mod Given
 pub mod NextTurn
+pub mod Foreseeing

@@ -10,11 +10,16 @@ use Rattle.msrp_plan.specs.FifoLock.{FifoLock, free_lock}
 use Rattle.msrp_plan.specs.LockStates.{lock_at}
 use Rattle.msrp_plan.specs.Phases.{phase_after}
 use Rattle.msrp_plan.specs.WellFormed.{IsPlan}
+use Rattle.msrp_plan.specs.Calls.{kind_of_call, ahead_of_call}
+use Rattle.msrp_plan.specs.declared.ids.ResId.{ResId}
+use Rattle.msrp_plan.specs.declared.rows.Kind.{Kind}
+use Rattle.msrp_plan.specs.declared.rows.Kind.TheVariants.{Take, Queue, Grant, Spin}
 use Rattle.msrp_plan.specs.declared.rows.Row.{Row}
+use Rattle.msrp_plan.specs.declared.units.Call.TheVariants.{Ask, Poll}
 use Rattle.msrp_plan.specs.declared.units.Phase.{Phase}
 use Rattle.msrp_core.specs.Machine.{MachineModel, StandsAfter}
 use Rattle.msrp_core.specs.declared.port.PortCall.{PortCall}
-use Rattle.msrp_sim.specs.Serving.{AreDrawn, IsServing, Notes}
+use Rattle.msrp_sim.specs.Serving.{AreDrawn, IsServing, Notes, waiting, is_served}
 use Rattle.msrp_sim.specs.TurnPorts.{HasTurned}
 use Rattle.msrp_sim.specs.declared.tickets.Queues.{Queues}
 
@@ -74,6 +79,34 @@ pub record IsAs (due r : Row) : Type 0 where
   pub res : r.res ≡ due.res
   pub ahead : IfSome r.ahead (λ n. due.ahead ≡ Some n)
 
+-- ---- a row that is foreseen
+-- the kind and the ahead that the queues give now to the row of a core, where it asks them
+abbrev pub kind_told : Queues → ℕ → Kind → Option ResId → Kind
+kind_told q c Take (Some g) = kind_of_call (Ask (waiting q g.0))
+kind_told q c Queue (Some g) = kind_of_call (Ask (waiting q g.0))
+kind_told q c Grant (Some g) = kind_of_call (Poll (is_served q c g.0))
+kind_told q c Spin (Some g) = kind_of_call (Poll (is_served q c g.0))
+kind_told q c kind res = kind
+
+abbrev pub ahead_told : Queues → Kind → Option ResId → Option ℕ
+ahead_told q Take (Some g) = ahead_of_call (Ask (waiting q g.0))
+ahead_told q Queue (Some g) = ahead_of_call (Ask (waiting q g.0))
+ahead_told q kind res = None
+
+-- the row as another, but of this kind and with this ahead
+pub record IsRowWith (kind : Kind) (ahead : Option ℕ) (asks r : Row) : Type 0 where
+  pub tick : r.tick ≡ asks.tick
+  pub core : r.core ≡ asks.core
+  pub job : r.job ≡ asks.job
+  pub res : r.res ≡ asks.res
+  pub kind_is : r.kind ≡ kind
+  pub ahead_is : r.ahead ≡ ahead
+
+-- the row as another, but with the answer that the queues give now
+abbrev pub IsAnswered : Queues → Row → Row → Type 0
+IsAnswered q asks r = IsRowWith (kind_told q asks.core.0 asks.kind asks.res) (ahead_told q asks.kind asks.res) asks r
+
+-- ---- before the first turn, and one turn more
 -- a machine before its first turn
 pub record IsNew (plan : PlanModel) (c : ℕ) (x : MachineModel) : Type 0 where
   pub plan_is : x.plan ≡ plan

@@ -5,6 +5,7 @@ pub mod TurnPorts
 pub mod Cores
 pub mod CoresView
 pub mod Orders
+pub mod Examples
 pub mod TurnCounts
 pub mod Simulated
 pub mod SimView

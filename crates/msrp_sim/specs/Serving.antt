@@ -1,5 +1,5 @@
 -- How the tickets of the queues stand for the locks of the resources, and what one call more does to them.
-use Rattle.std.specs.Prelude.{ℕ, List, false, ◌==◌, ◌≡◌, ◌≤◌, ◌+◌, ◌-◌, slice_index_or, ⊤}
+use Rattle.std.specs.Prelude.{ℕ, List, Bool, false, ◌==◌, ◌≡◌, ◌≤◌, ◌+◌, ◌-◌, slice_index_or, ⊤}
 use Rattle.msrp_plan.specs.Calls.{claim_with, IsInTurn}
 use Rattle.msrp_plan.specs.FifoLock.{FifoLock, Answers, lock_after}
 use Rattle.msrp_plan.specs.declared.units.Call.{Call}
@@ -21,6 +21,14 @@ queue_of q g = tickets_in q.queues g
 abbrev pub ticket_of : Queues → ℕ → ℕ
 ticket_of q c = slice_index_or q.tickets c 0
 
+-- how many have drawn one that isn't served yet
+abbrev pub waiting : Queues → ℕ → ℕ
+waiting q g = (queue_of q g).next - (queue_of q g).serving
+
+-- the core's newest one is served
+abbrev pub is_served : Queues → ℕ → ℕ → Bool
+is_served q c g = ticket_of q c == (queue_of q g).serving
+
 -- no more tickets were drawn of a resource than this, and no more served
 abbrev pub AreDrawn : Queues → ℕ → Type 0
 AreDrawn q n = (g : ℕ) → ((queue_of q g).next ≤ n) × ((queue_of q g).serving ≤ n)
@@ -32,8 +40,8 @@ pub record IsServing (locks : ℕ → FifoLock) (claims : ℕ → Phase) (q : Qu
 
 -- the call is answered as the tickets stand: so many have drawn one that isn't served yet, and the core's own is served
 abbrev pub IsTold : Queues → ℕ → ℕ → Call → Type 0
-IsTold q c g (Ask ahead) = ahead ≡ (queue_of q g).next - (queue_of q g).serving
-IsTold q c g (Poll granted) = granted ≡ (ticket_of q c == (queue_of q g).serving)
+IsTold q c g (Ask ahead) = ahead ≡ waiting q g
+IsTold q c g (Poll granted) = granted ≡ is_served q c g
 IsTold q c g Leave = ⊤
 
 -- the call changes the lock of its resource and the claim of its core, and no others

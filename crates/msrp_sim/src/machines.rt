@@ -1,19 +1,21 @@
 //! All cores of a plan, and the queues of its global resources.
-ghost use Rattle.std.specs.Prelude.{◌≡◌, ◌<◌, ◌++◌, ◌∷◌, [], List, IfOk, None, Some, slice_get};
-ghost use Rattle.std.specs.Option.{ForSome, option_map};
+ghost use Rattle.std.specs.Prelude.{◌≡◌, ◌<◌, ◌++◌, ◌∷◌, [], true, List, IfOk, None, Some, slice_get};
+ghost use Rattle.std.specs.Option.{ForSome, IsSomeAnd, option_map};
 ghost use Rattle.msrp_plan.specs.Limits.{most_cores, most_resources, most_rows};
 ghost use Rattle.msrp_plan.specs.Runs.{IsLegal};
+ghost use Rattle.msrp_plan.specs.Calls.{kind_of_call, ahead_of_call};
+ghost use Rattle.msrp_plan.specs.Shape.{has_shape, may_carry};
 ghost use Rattle.msrp_plan.specs.WellFormed.{IsPlan};
 ghost use Rattle.msrp_plan.specs.declared.rows.Row.{Row as TraceRow};
 ghost use Rattle.msrp_core.specs.Machine.{MachineModel};
-ghost use Rattle.msrp_sim.specs.Cores.{AreNew, StandFor, IsDueAfter, IsNextRow, IsAs};
-ghost use Rattle.msrp_sim.specs.Serving.{AreDrawn, Notes};
+ghost use Rattle.msrp_sim.specs.Cores.{AreNew, StandFor, IsDueAfter, IsNextRow, IsAs, IsAnswered, IsRowWith};
+ghost use Rattle.msrp_sim.specs.Serving.{AreDrawn, Notes, waiting};
 
 use crate::tickets::Queues;
 use crate::turning::turn_by;
 use msrp_core::{Machine, PortCall, Reply};
 use msrp_levels::Levels;
-use msrp_plan::{CoreId, Kind, Memory, Plan, Row};
+use msrp_plan::{Call, CoreId, Kind, Memory, Plan, ResId, Row};
 use std::alloc::Global;
 use std::marker::Model;
 
@@ -38,28 +40,46 @@ impl<'a> Model for Cores<'a> {
     ghost invariant = { AreCoresView };
 }
 
-// The row of a turn that asks the queues, with the answer that they give now.
-fn replied(queues: &Queues, row: Row) -> Row {
+// The row with this kind and ahead.
+fn with_answer(row: Row, kind: Kind, ahead: Option<u32>) -> Row
+    requires shape { has_shape kind row.job row.res ≡ true }
+    requires carrier { may_carry kind ahead ≡ true }
+    ensures { IsRowWith kind ahead row result }
+{
+    Row {
+        tick: row.tick,
+        core: row.core,
+        kind,
+        job: row.job,
+        res: row.res,
+        ahead,
+    }
+}
+
+// The row of a request of the resource, with the reply that it gets now.
+fn requested(queues: &Queues, row: Row, res: ResId) -> Row
+    requires { has_shape Kind.Take row.job row.res ≡ true }
+    ensures { IsRowWith (kind_of_call (Call.Ask (waiting queues.now res.0))) (ahead_of_call (Call.Ask (waiting queues.now res.0))) row result }
+{
+    match queues.reply(res) {
+        Reply::Taken => with_answer(row, Kind::Take, None),
+        Reply::Queued(ahead) => with_answer(row, Kind::Queue, Some(ahead)),
+    }
+}
+
+// The row with the answer that the queues give now, where it asks them.
+fn answered(queues: &Queues, row: Row) -> Row
+    ensures { IsAnswered queues.now row result }
+{
     match (row.kind, row.res) {
-        (Kind::Take, Some(res)) => match queues.reply(res) {
-            Reply::Taken => row,
-            Reply::Queued(ahead) => Row {
-                tick: row.tick,
-                core: row.core,
-                kind: Kind::Queue,
-                job: row.job,
-                res: row.res,
-                ahead: Some(ahead),
-            },
-        },
-        (Kind::Grant, Some(res)) if !queues.grants(row.core, res) => Row {
-            tick: row.tick,
-            core: row.core,
-            kind: Kind::Spin,
-            job: row.job,
-            res: row.res,
-            ahead: None,
-        },
+        (Kind::Take | Kind::Queue, Some(res)) => requested(queues, row, res),
+        (Kind::Grant | Kind::Spin, Some(res)) => {
+            if queues.grants(row.core, res) {
+                with_answer(row, Kind::Grant, None)
+            } else {
+                with_answer(row, Kind::Spin, None)
+            }
+        }
         _ => row,
     }
 }
@@ -125,12 +145,14 @@ impl<'a> Cores<'a> {
         self.machines[core.0 as usize].tick()
     }
 
-    /// A guess of the core's next row, where one is left. Nothing is promised of it.
+    /// The row that [`Cores::turn`] would make, where the core has a turn left. Whatever rows the cores stand for, it is the next
+    /// one of a core that is due after them.
     pub fn foresee(&self, core: CoreId) -> Option<Row>
         requires { core.0 < self.now.plan.cores }
+        ensures { (rows : List TraceRow) → StandFor self.now rows → IsDueAfter self.now.plan rows core.0 → IsSomeAnd result (IsNextRow self.now.plan rows core.0) }
     {
         let row = self.machines[core.0 as usize].foresee()?;
-        Some(replied(&self.queues, row))
+        Some(answered(&self.queues, row))
     }
 
     /// The core's next turn. Whatever rows the cores stand for, the row is the next one of that core after them, and

@@ -1,5 +1,4 @@
 use Rattle.std.proofs.Common.{◌≡◌, ℕ, get_or, ◌<◌, ◌++◌, ◌∷◌, [], List, Some, length, slice_get, refl, ap, sym, ◌∙◌, subst}
-use Rattle.std.proofs.lemmas.Option.{slice_get_read}
 use Rattle.std.specs.Vec.{with_item}
 use Rattle.msrp_plan.specs.Plan.{PlanModel}
 use Rattle.msrp_plan.specs.Runs.{IsLegal}
@@ -7,16 +6,11 @@ use Rattle.msrp_plan.specs.declared.rows.Row.{Row as TraceRow}
 use Rattle.msrp_core.specs.Machine.{MachineModel}
 use Rattle.msrp_sim.specs.Cores.{CoresModel, AreCores, StandFor, IsDueAfter, IsNextRow, IsAs, TakesTurn}
 use Rattle.msrp_sim.specs.CoresView.{cores_view}
+use Rattle.msrp_sim.proofs.Foreseeing.{has_machine}
 use Rattle.msrp_sim.proofs.Turns.{next_legal}
 use Rattle.msrp_sim.proofs.Standing.{stand_push}
 use Rattle.msrp_sim.proofs.Keeping.{call_core, call_resource, cores_kept, few_drawn}
 use Rattle.msrp_sim.proofs.machines.Cores.turn.Goals as goal
-
--- the machine that has the turn
-has_machine : (m : CoresModel) (c : ℕ) (x : MachineModel) (now : CoresModel) → AreCores m → m ≡ now → c < now.plan.cores → x ≡ get_or m.machines c x → slice_get m.machines c ≡ Some x
-has_machine m c x now cores is low value =
-    let l : c < m.plan.cores = subst (λ (n : CoresModel). c < n.plan.cores) (sym is) low in
-    slice_get_read m.machines m.plan.cores c x (sym cores.size) l value
 
 -- it has ticks left
 left : (m : CoresModel) (c : ℕ) (x : MachineModel) (now : CoresModel) → AreCores m → m ≡ now → c < now.plan.cores → x ≡ get_or m.machines c x → ((y : MachineModel) → slice_get now.machines c ≡ Some y → y.tick < now.plan.ticks) → x.tick < m.plan.ticks

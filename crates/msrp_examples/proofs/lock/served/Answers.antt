@@ -1,0 +1,25 @@
+use Rattle.std.proofs.Common.{◌≢◌, ap, sym, ◌∙◌, subst, arith}
+use Rattle.msrp_core.specs.Machine.{MachineModel}
+use Rattle.msrp_examples.specs.Lock.{CanGoOn}
+use Rattle.msrp_examples.proofs.lock.served.Goals.{then-core-eq0, else-core-eq0}
+use Rattle.msrp_examples.proofs.lock.served.Goals as goal
+
+pub loop-core-preserved : goal.loop-core-preserved
+loop-core-preserved c =
+    let before = c.loop-core in
+    let all = c.loop-core.invariant in
+    let apart : before.second.core ≢ before.first.core = λ e. (let a = all.first in let b = all.second in omega (arith, a, b, e)) in
+    elim c.if-core-eq0.branch [
+      | then-core-eq0 w ↦ record {
+        first = ap (λ (m : MachineModel). m.core) w.first-is ∙ (w.turn.ensures.core ∙ all.first);
+        second = ap (λ (m : MachineModel). m.core) w.second-is ∙ all.second;
+        first_goes_on = subst (λ m. CanGoOn m c.if-core-eq0.port) (sym w.first-is) (subst (CanGoOn w.turn.new.machine) (sym w.port-is) w.turn.ensures.own);
+        second_goes_on = subst (λ m. CanGoOn m c.if-core-eq0.port) (sym w.second-is) (subst (CanGoOn before.second) (sym w.port-is) (w.turn.ensures.others before.second apart all.second_goes_on));
+      }
+      | else-core-eq0 w ↦ record {
+        first = ap (λ (m : MachineModel). m.core) w.first-is ∙ all.first;
+        second = ap (λ (m : MachineModel). m.core) w.second-is ∙ (w.turn-else-core-eq0.ensures.core ∙ all.second);
+        first_goes_on = subst (λ m. CanGoOn m c.if-core-eq0.port) (sym w.first-is) (subst (CanGoOn before.first) (sym w.port-is) (w.turn-else-core-eq0.ensures.others before.first (λ e. apart (sym e)) all.first_goes_on));
+        second_goes_on = subst (λ m. CanGoOn m c.if-core-eq0.port) (sym w.second-is) (subst (CanGoOn w.turn-else-core-eq0.new.machine) (sym w.port-is) w.turn-else-core-eq0.ensures.own);
+      }
+    ]
