@@ -4,12 +4,10 @@ ghost use Rattle.msrp_plan.specs.Shape.{has_shape};
 ghost use Rattle.msrp_plan.specs.declared.ids.JobId.{JobId as Job};
 ghost use Rattle.msrp_plan.specs.declared.ids.ResId.{ResId as Resource};
 
+use crate::plans::plan_of;
 use msrp_audit::{Auditor, audit, audit_parallel};
 use msrp_levels::Levels;
-use msrp_plan::{
-    CoreId, Fault, JobId, Kind, Memory, Plan, PlanBuilder, PlanFault, ResId, Row, Rule, Step,
-    TaskId, Trace,
-};
+use msrp_plan::{CoreId, Fault, JobId, Kind, Memory, Plan, ResId, Row, Rule, TaskId, Trace};
 use msrp_sim::{Order, simulate};
 use std::alloc::Global;
 use std::process::Abort;
@@ -62,28 +60,9 @@ fn on(tick: u32, core: u32, kind: Kind, task: u32) -> Row
     }
 }
 
-// One task more: it locks the resource, works for a tick, and unlocks it.
-fn add_task(builder: &mut PlanBuilder, name: &str, core: u32) -> Result<(), PlanFault> {
-    builder.task(name, CoreId(core), 20, 8, 0)?;
-    for step in [Step::Lock(G), Step::Run(1), Step::Unlock(G)] {
-        if builder.tasks() > 0 {
-            builder.op(step)?;
-        }
-    }
-    Ok(())
-}
-
 // Two cores and one resource, which task 0 of core 0 and task 1 of core 1 want in tick 0.
-fn plan(alloc: Global) -> Result<Plan, PlanFault> {
-    let mut builder = PlanBuilder::new(alloc, 2, 6)?;
-    builder.resource("g")?;
-    add_task(&mut builder, "a", 0)?;
-    add_task(&mut builder, "b", 1)?;
-    match builder.finish() {
-        Ok(plan) => Ok(plan),
-        Err((_, fault)) => Err(fault),
-    }
-}
+const PLAN: &[u8] =
+    b"msrp,1\ncores,2\nticks,6\nresource,g\ntask,a,0,20,8,0\nop,lock,g\nop,run,1\nop,unlock,g\ntask,b,1,20,8,0\nop,lock,g\nop,run,1\nop,unlock,g\n";
 
 // Core 1 gets the resource in the tick in which core 0 releases it.
 fn handover() -> [Row; 12] {
@@ -126,7 +105,7 @@ fn expect_audit<R: Abort + Threads + Sync>(
 
 #[test]
 fn whole_traces_are_good(rt: HostRuntime) -> Result<(), Fail> {
-    let plan = plan(rt.alloc())?;
+    let plan = plan_of(rt.alloc(), PLAN)?;
     let rows = handover();
     expect_audit(&rt, rt.alloc(), &plan, &rows, Ok(()))?;
     let missing = Fault {
@@ -138,9 +117,7 @@ fn whole_traces_are_good(rt: HostRuntime) -> Result<(), Fail> {
 
 #[test]
 fn idle_cores_are_judged(rt: HostRuntime) -> Result<(), Fail> {
-    let plan = PlanBuilder::new(rt.alloc(), 2, 2)?
-        .finish()
-        .map_err(|(_, fault)| fault)?;
+    let plan = plan_of(rt.alloc(), b"msrp,1\ncores,2\nticks,2\n")?;
     let rows = [idle(0, 1), idle(0, 0), idle(1, 0), idle(1, 1)];
     expect_audit(&rt, rt.alloc(), &plan, &rows, Ok(()))?;
     let missing = Fault {
@@ -152,7 +129,7 @@ fn idle_cores_are_judged(rt: HostRuntime) -> Result<(), Fail> {
 
 #[test]
 fn rules_of_a_row_are_told(rt: HostRuntime) -> Result<(), Fail> {
-    let plan = plan(rt.alloc())?;
+    let plan = plan_of(rt.alloc(), PLAN)?;
     let changes = [
         (0, on(0, 2, Kind::Take, 0), Rule::A1),
         (0, on(0, 0, Kind::Queue, 0), Rule::A5),
@@ -180,7 +157,7 @@ fn rules_of_a_row_are_told(rt: HostRuntime) -> Result<(), Fail> {
 
 #[test]
 fn the_earliest_row_and_its_lowest_rule_count(rt: HostRuntime) -> Result<(), Fail> {
-    let plan = plan(rt.alloc())?;
+    let plan = plan_of(rt.alloc(), PLAN)?;
     let mut rows = handover();
     rows[5] = on(2, 1, Kind::Spin, 1);
     for (row, rule) in [(idle(1, 0), Rule::A3), (on(1, 0, Kind::Spin, 1), Rule::A2)] {
@@ -190,23 +167,13 @@ fn the_earliest_row_and_its_lowest_rule_count(rt: HostRuntime) -> Result<(), Fai
     Ok(())
 }
 
-// A task on each of eight cores, which want one resource.
-fn crowd(alloc: Global, ticks: u32) -> Result<Plan, PlanFault> {
-    let mut builder = PlanBuilder::new(alloc, 8, ticks)?;
-    builder.resource("g")?;
-    for (core, name) in ["a", "b", "c", "d", "e", "f", "g", "h"].iter().enumerate() {
-        add_task(&mut builder, name, core as u32)?;
-    }
-    match builder.finish() {
-        Ok(plan) => Ok(plan),
-        Err((_, fault)) => Err(fault),
-    }
-}
+// A task on each of eight cores, which want one resource, in the longest run of the most cores.
+const CROWD: &[u8] =
+    b"msrp,1\ncores,8\nticks,20000\nresource,g\ntask,a,0,20,8,0\nop,lock,g\nop,run,1\nop,unlock,g\ntask,b,1,20,8,0\nop,lock,g\nop,run,1\nop,unlock,g\ntask,c,2,20,8,0\nop,lock,g\nop,run,1\nop,unlock,g\ntask,d,3,20,8,0\nop,lock,g\nop,run,1\nop,unlock,g\ntask,e,4,20,8,0\nop,lock,g\nop,run,1\nop,unlock,g\ntask,f,5,20,8,0\nop,lock,g\nop,run,1\nop,unlock,g\ntask,g,6,20,8,0\nop,lock,g\nop,run,1\nop,unlock,g\ntask,h,7,20,8,0\nop,lock,g\nop,run,1\nop,unlock,g\n";
 
-// The longest run of the most cores.
 #[test]
 fn many_cores_are_judged_alike(rt: HostRuntime) -> Result<(), Fail> {
-    let plan = crowd(rt.alloc(), 20_000)?;
+    let plan = plan_of(rt.alloc(), CROWD)?;
     let Ok(mut trace) = simulate(rt.alloc(), &plan, &Order::Rot) else {
         return Err(Fail::from("memory"));
     };
@@ -224,7 +191,7 @@ fn many_cores_are_judged_alike(rt: HostRuntime) -> Result<(), Fail> {
 // A row is foreseen in each turn, also where a job of its core is released, in each twentieth, or starts; and none after the last.
 #[test]
 fn each_row_is_foreseen(rt: HostRuntime) -> Result<(), Fail> {
-    let plan = crowd(rt.alloc(), 3_000)?;
+    let plan = plan_of(rt.alloc(), CROWD)?;
     let levels = Levels::of(rt.alloc(), &plan)?;
     let Ok(trace) = simulate(rt.alloc(), &plan, &Order::Rot) else {
         return Err(Fail::from("memory"));
@@ -242,7 +209,7 @@ fn each_row_is_foreseen(rt: HostRuntime) -> Result<(), Fail> {
 
 #[test]
 fn a_fault_stays(rt: HostRuntime) -> Result<(), Fail> {
-    let plan = plan(rt.alloc())?;
+    let plan = plan_of(rt.alloc(), PLAN)?;
     let levels = Levels::of(rt.alloc(), &plan)?;
     let mut auditor = Auditor::with_room(rt.alloc(), &plan, &levels)?;
     let missing = Fault {
@@ -268,7 +235,7 @@ fn a_fault_stays(rt: HostRuntime) -> Result<(), Fail> {
 
 #[test]
 fn a_row_too_many_is_told(rt: HostRuntime) -> Result<(), Fail> {
-    let plan = plan(rt.alloc())?;
+    let plan = plan_of(rt.alloc(), PLAN)?;
     let levels = Levels::of(rt.alloc(), &plan)?;
     let mut auditor = Auditor::with_room(rt.alloc(), &plan, &levels)?;
     for row in handover() {

@@ -1,44 +1,15 @@
 //! Plans small enough to follow by hand, with what the literature's rules make of them.
 ghost use Rattle.std.specs.Prelude.{◌≡◌};
 
+use crate::plans::plan_of;
 use msrp_levels::Levels;
-use msrp_plan::{CoreId, Plan, PlanBuilder, PlanFault, ResId, Step, TaskId};
-use std::alloc::Global;
+use msrp_plan::{CoreId, Plan, ResId, TaskId};
 use std::process::Abort;
 use std::test::*;
 
 const R: ResId = ResId(0);
 
 const Q: ResId = ResId(1);
-
-// A task: its name, its core, its relative deadline and its units. The period is 20, the offset 0.
-type Told<'a> = (&'a str, u32, u32, &'a [Step]);
-
-fn add(builder: &mut PlanBuilder, told: &Told) -> Result<(), PlanFault> {
-    let (name, core, deadline, steps) = *told;
-    builder.task(name, CoreId(core), 20, deadline, 0)?;
-    for step in steps {
-        if builder.tasks() > 0 {
-            builder.op(*step)?;
-        }
-    }
-    Ok(())
-}
-
-// A plan of resources and tasks.
-fn plan(alloc: Global, cores: u32, resources: &[&str], tasks: &[Told]) -> Result<Plan, PlanFault> {
-    let mut builder = PlanBuilder::new(alloc, cores, 9)?;
-    for name in resources {
-        builder.resource(name)?;
-    }
-    for told in tasks {
-        add(&mut builder, told)?;
-    }
-    match builder.finish() {
-        Ok(plan) => Ok(plan),
-        Err((_, fault)) => Err(fault),
-    }
-}
 
 // Each task's level, and how long its outermost sections are.
 fn expect_tasks(rt: &impl Abort, plan: &Plan, levels: &Levels, expected: &[(u32, u32)])
@@ -105,10 +76,9 @@ fn expect_cores(
 
 #[test]
 fn two_levels_on_a_local_resource(rt: HostRuntime) -> Result<(), Fail> {
-    let lo = [Step::Lock(R), Step::Run(3), Step::Unlock(R)];
-    let hi = [Step::Lock(R), Step::Run(1), Step::Unlock(R)];
-    let tasks = [("lo", 0, 10, lo.as_slice()), ("hi", 0, 5, hi.as_slice())];
-    let plan = plan(rt.alloc(), 1, &["r"], &tasks)?;
+    let text =
+        b"msrp,1\ncores,1\nticks,9\nresource,r\ntask,lo,0,20,10,0\nop,lock,r\nop,run,3\nop,unlock,r\ntask,hi,0,20,5,0\nop,lock,r\nop,run,1\nop,unlock,r\n";
+    let plan = plan_of(rt.alloc(), text)?;
     let levels = Levels::of(rt.alloc(), &plan)?;
     expect_tasks(&rt, &plan, &levels, &[(1, 4), (2, 2)]);
     expect_tops(&rt, &plan, &levels, &[2]);
@@ -120,15 +90,9 @@ fn two_levels_on_a_local_resource(rt: HostRuntime) -> Result<(), Fail> {
 // A job of lo spends one row to join the queue, two to spin at most, and four after the lock.
 #[test]
 fn a_global_resource_on_two_cores(rt: HostRuntime) -> Result<(), Fail> {
-    let lo = [Step::Lock(R), Step::Run(3), Step::Unlock(R)];
-    let hi = [Step::Run(1)];
-    let other = [Step::Lock(R), Step::Unlock(R)];
-    let tasks = [
-        ("lo", 0, 10, lo.as_slice()),
-        ("hi", 0, 6, hi.as_slice()),
-        ("other", 1, 10, other.as_slice()),
-    ];
-    let plan = plan(rt.alloc(), 2, &["g"], &tasks)?;
+    let text =
+        b"msrp,1\ncores,2\nticks,9\nresource,g\ntask,lo,0,20,10,0\nop,lock,g\nop,run,3\nop,unlock,g\ntask,hi,0,20,6,0\nop,run,1\ntask,other,1,20,10,0\nop,lock,g\nop,unlock,g\n";
+    let plan = plan_of(rt.alloc(), text)?;
     let levels = Levels::of(rt.alloc(), &plan)?;
     expect_tasks(&rt, &plan, &levels, &[(1, 7), (2, 0), (1, 7)]);
     expect_tops(&rt, &plan, &levels, &[2, 1]);
@@ -139,15 +103,9 @@ fn a_global_resource_on_two_cores(rt: HostRuntime) -> Result<(), Fail> {
 
 #[test]
 fn a_local_resource_inside_a_global_one(rt: HostRuntime) -> Result<(), Fail> {
-    let a = [
-        Step::Lock(R),
-        Step::Lock(Q),
-        Step::Unlock(Q),
-        Step::Unlock(R),
-    ];
-    let b = [Step::Lock(R), Step::Unlock(R)];
-    let tasks = [("a", 0, 10, a.as_slice()), ("b", 1, 10, b.as_slice())];
-    let plan = plan(rt.alloc(), 2, &["g", "h"], &tasks)?;
+    let text =
+        b"msrp,1\ncores,2\nticks,9\nresource,g\nresource,h\ntask,a,0,20,10,0\nop,lock,g\nop,lock,h\nop,unlock,h\nop,unlock,g\ntask,b,1,20,10,0\nop,lock,g\nop,unlock,g\n";
+    let plan = plan_of(rt.alloc(), text)?;
     let levels = Levels::of(rt.alloc(), &plan)?;
     expect_tasks(&rt, &plan, &levels, &[(1, 6), (1, 6)]);
     expect_users(&rt, &plan, &levels, Q, false, &[TaskId(0)]);

@@ -12,6 +12,8 @@ mod machine;
 #[cfg(test)]
 mod plan;
 #[cfg(test)]
+mod plans;
+#[cfg(test)]
 mod ready;
 #[cfg(test)]
 mod report;

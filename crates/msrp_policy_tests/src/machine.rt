@@ -3,11 +3,10 @@ ghost use Rattle.std.specs.Prelude.{◌≡◌, ◌<◌, ◌≤◌, ◌+◌, ◌=
 ghost use Rattle.msrp_core.specs.Ports.{PortModel, Adds, claim_in};
 ghost use Rattle.msrp_policy_tests.specs.Deaf.{deaf_port};
 
+use crate::plans::plan_of;
 use msrp_core::{Machine, Port, PortCall, Reply};
 use msrp_levels::Levels;
-use msrp_plan::{
-    Call, CoreId, Kind, Memory, Phase, Plan, PlanBuilder, PlanFault, ResId, Row, Step,
-};
+use msrp_plan::{Call, CoreId, Kind, Memory, Phase, Plan, ResId, Row};
 use std::alloc::Global;
 use std::test::*;
 
@@ -85,26 +84,12 @@ fn next_row<P: Port>(machine: &mut Machine, port: &mut P, plan: &Plan) -> Option
 }
 
 // Two tasks on two cores, each with a section of one unit on the same resource.
-fn two_sections(alloc: Global) -> Result<Plan, PlanFault> {
-    let mut builder = PlanBuilder::new(alloc, 2, 6)?;
-    let res = builder.resource("g")?;
-    for core in 0..2 {
-        builder.task(if core == 0 { "a" } else { "b" }, CoreId(core), 20, 8, 0)?;
-        for step in [Step::Lock(res), Step::Run(1), Step::Unlock(res)] {
-            if builder.tasks() > 0 {
-                builder.op(step)?;
-            }
-        }
-    }
-    match builder.finish() {
-        Ok(plan) => Ok(plan),
-        Err((_, fault)) => Err(fault),
-    }
-}
+const TWO_SECTIONS: &[u8] =
+    b"msrp,1\ncores,2\nticks,6\nresource,g\ntask,a,0,20,8,0\nop,lock,g\nop,run,1\nop,unlock,g\ntask,b,1,20,8,0\nop,lock,g\nop,run,1\nop,unlock,g\n";
 
 #[test]
 fn who_is_never_granted_spins_to_the_end(rt: HostRuntime) -> Result<(), Fail> {
-    let sections = two_sections(rt.alloc())?;
+    let sections = plan_of(rt.alloc(), TWO_SECTIONS)?;
     let plan = &sections;
     let levels = Levels::of(rt.alloc(), plan)?;
     let core = CoreId(1);

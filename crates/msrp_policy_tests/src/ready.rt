@@ -1,6 +1,7 @@
 //! Ready jobs: which one comes first, and which one is taken next.
 
-use msrp_plan::{CoreId, JobId, Plan, PlanBuilder, PlanFault, Step, TaskId};
+use crate::plans::plan_of;
+use msrp_plan::{CoreId, JobId, Plan, TaskId};
 use msrp_ready::Ready;
 use std::alloc::Global;
 use std::test::Fail;
@@ -57,49 +58,6 @@ fn first_wrong(ready: &mut Ready<'_>, calls: &[Call]) -> Option<usize> {
     None
 }
 
-fn work(builder: &mut PlanBuilder) -> Result<(), PlanFault> {
-    if builder.tasks() > 0 {
-        builder.op(Step::Run(1))?;
-    }
-    Ok(())
-}
-
-fn release(builder: &mut PlanBuilder, tick: u32) -> Result<(), PlanFault> {
-    if builder.takes_releases() {
-        builder.release(tick)?;
-    }
-    Ok(())
-}
-
-// A task of core 0 that recurs by its period, relative deadline and offset.
-fn periodic(builder: &mut PlanBuilder, name: &str, times: [u32; 3]) -> Result<(), PlanFault> {
-    let [period, deadline, offset] = times;
-    builder.task(name, CoreId(0), period, deadline, offset)?;
-    work(builder)
-}
-
-// A task of core 0 that is released at these ticks.
-fn listed(
-    builder: &mut PlanBuilder,
-    name: &str,
-    deadline: u32,
-    ticks: &[u32],
-) -> Result<(), PlanFault> {
-    builder.listed(name, CoreId(0), deadline)?;
-    for tick in ticks {
-        release(builder, *tick)?;
-    }
-    work(builder)
-}
-
-fn started(alloc: Global, ticks: u32) -> Result<PlanBuilder, PlanFault> {
-    PlanBuilder::new(alloc, 1, ticks)
-}
-
-fn finished(builder: PlanBuilder) -> Result<Plan, PlanFault> {
-    builder.finish().map_err(|(_, fault)| fault)
-}
-
 fn job(task: u32, k: u32) -> Option<JobId> {
     Some(JobId {
         task: TaskId(task),
@@ -110,10 +68,8 @@ fn job(task: u32, k: u32) -> Option<JobId> {
 // The task y is declared first and released last: both absolute deadlines are 10, and the release decides.
 #[test]
 fn equal_deadlines_go_by_release(rt: HostRuntime) -> Result<(), Fail> {
-    let mut builder = started(rt.alloc(), 8)?;
-    periodic(&mut builder, "y", [20, 8, 2])?;
-    periodic(&mut builder, "x", [20, 10, 0])?;
-    let plan = finished(builder)?;
+    let text = b"msrp,1\ncores,1\nticks,8\ntask,y,0,20,8,2\nop,run,1\ntask,x,0,20,10,0\nop,run,1\n";
+    let plan = plan_of(rt.alloc(), text)?;
     let calls = [
         Head(None),
         HeadAt(2, job(1, 0)),
@@ -134,11 +90,9 @@ fn equal_deadlines_go_by_release(rt: HostRuntime) -> Result<(), Fail> {
 // The head stays the head, whoever is released behind it.
 #[test]
 fn blocked_head_stays(rt: HostRuntime) -> Result<(), Fail> {
-    let mut builder = started(rt.alloc(), 19)?;
-    periodic(&mut builder, "k", [40, 20, 0])?;
-    periodic(&mut builder, "j2", [40, 15, 1])?;
-    periodic(&mut builder, "j", [40, 5, 12])?;
-    let plan = finished(builder)?;
+    let text =
+        b"msrp,1\ncores,1\nticks,19\ntask,k,0,40,20,0\nop,run,1\ntask,j2,0,40,15,1\nop,run,1\ntask,j,0,40,5,12\nop,run,1\n";
+    let plan = plan_of(rt.alloc(), text)?;
     let calls = [
         Release(0),
         Take(job(0, 0)),
@@ -162,10 +116,9 @@ fn blocked_head_stays(rt: HostRuntime) -> Result<(), Fail> {
 
 #[test]
 fn listed_jobs_come_at_their_ticks(rt: HostRuntime) -> Result<(), Fail> {
-    let mut builder = started(rt.alloc(), 10)?;
-    listed(&mut builder, "a", 4, &[1, 2, 7])?;
-    periodic(&mut builder, "b", [4, 4, 0])?;
-    let plan = finished(builder)?;
+    let text =
+        b"msrp,2\ncores,1\nticks,10\nlisted,a,0,4\nrelease,1\nrelease,2\nrelease,7\nop,run,1\ntask,b,0,4,4,0\nop,run,1\n";
+    let plan = plan_of(rt.alloc(), text)?;
     let calls = [
         Release(1),
         HeadAt(9, job(1, 0)),
@@ -190,13 +143,14 @@ fn listed_jobs_come_at_their_ticks(rt: HostRuntime) -> Result<(), Fail> {
 
 // A plan of 64 tasks with 128 jobs each. The jobs of each task come before those of all tasks declared before it, so that a
 // job rises far when it joins.
-fn full(alloc: Global) -> Result<Plan, PlanFault> {
-    let mut builder = started(alloc, 8_192)?;
+fn full(alloc: Global) -> Result<Plan, Fail> {
+    let mut text = Vec::from_slice(alloc, b"msrp,1\ncores,1\nticks,8192\n")?;
     for t in 0..64u32 {
-        let name = format!(in alloc; "t{t}")?;
-        periodic(&mut builder, name.as_str(), [64, 1_000_000 - 10_000 * t, t])?;
+        let deadline = 1_000_000 - 10_000 * t;
+        let record = format!(in alloc; "task,t{t},0,64,{deadline},{t}\nop,run,1\n")?;
+        text.extend_from_slice(record.as_bytes())?;
     }
-    finished(builder)
+    plan_of(alloc, text.as_slice())
 }
 
 // Whether the next heads are the jobs of a task, each seen with no comparison and taken with at most 26.

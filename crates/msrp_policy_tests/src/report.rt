@@ -1,10 +1,10 @@
 //! Reports of worked plans, beside their bounds, and of traces that aren't legal.
 
-use msrp_plan::bytes::{Sink, Source};
-use msrp_plan::{Fault, Plan, Rule, Trace};
+use crate::plans::plan_of;
+use msrp_plan::bytes::Sink;
+use msrp_plan::{Fault, Rule, Trace};
 use msrp_report::{ReportError, report, write_report};
 use msrp_sim::{Order, simulate};
-use msrp_text::read_plan;
 use std::alloc::Global;
 use std::process::Abort;
 use std::test::Fail;
@@ -57,126 +57,117 @@ const LONGEST: &[u8] = b"msrp,1\ncores,8\nticks,20000\ntask,a,7,20,8,0\nop,run,1
 
 const EMPTY: &[u8] = b"msrp,1\ncores,1\nticks,1\n";
 
-fn plan_of(alloc: Global, text: &[u8]) -> Option<Plan> {
-    read_plan(alloc, &mut Source::new(text)).ok()
-}
-
-// The text of the report of a plan's run in this order, if nothing fails.
-fn report_of(alloc: Global, text: &[u8], order: &Order) -> Option<Vec<u8>> {
+// The text of the report of a plan's run in this order.
+fn report_of(alloc: Global, text: &[u8], order: &Order) -> Result<Vec<u8>, Fail> {
     let plan = plan_of(alloc, text)?;
-    let trace = simulate(alloc, &plan, order).ok()?;
-    let report = report(alloc, &plan, &trace).ok()?;
+    let trace = simulate(alloc, &plan, order)?;
+    let report = report(alloc, &plan, &trace)?;
     let mut written = Vec::new(alloc);
     let mut out = Sink::new(&mut written);
     if report.lines.len() != plan.tasks() as usize {
-        return None;
+        return Err(Fail::from("there isn't a line for each task"));
     }
-    write_report(&mut out, &plan, &report).ok()?;
-    Some(written)
+    match write_report(&mut out, &plan, &report) {
+        Ok(()) => Ok(written),
+        Err(_) => Err(Fail::from("the report is not written")),
+    }
 }
 
-fn expect_report(
+// The report of each plan's run in this order.
+fn expect_reports(
     rt: &impl Abort,
     alloc: Global,
-    plan: &[u8],
     order: &Order,
-    expected: &[u8],
+    table: &[(&[u8], &[u8])],
 ) -> Result<(), Fail> {
-    let written = report_of(alloc, plan, order);
-    assert!(rt; written.is_some_and(|text| text.as_slice() == expected));
+    for (plan, expected) in table {
+        assert!(rt; report_of(alloc, plan, order)?.as_slice() == *expected);
+    }
     Ok(())
 }
+
+const RISING: [(&[u8], &[u8]); 9] = [
+    (JOBS, b"msrp-report,2\na,0,3,2,0,5,0,0,0,0,0,0\n"),
+    (EMPTY, b"msrp-report,2\n"),
+    (
+        WAITS,
+        b"msrp-report,2\na,0,1,1,1,12,0,0,0,0,2,0\nb,1,1,1,0,13,4,2,0,0,4,0\n",
+    ),
+    (
+        BLOCKS,
+        b"msrp-report,2\nk,0,3,2,0,4,0,0,0,0,0,0\nhi,0,3,2,3,5,0,0,5,3,0,3\n",
+    ),
+    (
+        ROUNDS,
+        b"msrp-report,2\na,0,2,2,0,3,0,0,0,0,2,0\nb,1,2,2,0,4,2,1,0,0,3,0\n",
+    ),
+    (
+        BOTH,
+        b"msrp-report,2\na,0,1,1,0,5,0,0,0,0,2,0\nb,1,1,1,0,4,0,0,0,0,3,0\n",
+    ),
+    (
+        CUT,
+        b"msrp-report,2\na,0,1,0,0,0,0,0,0,0,3,0\nb,1,1,0,0,0,1,1,0,0,3,0\n",
+    ),
+    (
+        BLOCKED,
+        b"msrp-report,2\nk,0,1,1,0,14,0,0,0,0,0,0\nj2,0,1,1,1,16,0,0,13,13,0,13\nj,0,1,1,1,6,0,0,2,2,0,13\n",
+    ),
+    (
+        GLOBAL,
+        b"msrp-report,2\nlo,0,1,1,0,5,0,0,0,0,2,0\nhi,0,1,1,0,5,0,0,4,4,0,7\nother,1,0,0,0,0,0,0,0,0,5,0\n",
+    ),
+];
+
+const FALLING: [(&[u8], &[u8]); 2] = [
+    (LONGEST, b"msrp-report,2\na,7,1000,1000,0,1,0,0,0,0,0,0\n"),
+    (
+        THREE,
+        b"msrp-report,2\na,0,1,1,0,7,3,3,0,0,6,0\nb,1,1,1,0,5,1,1,0,0,6,0\nc,2,1,1,0,3,0,0,0,0,6,0\n",
+    ),
+];
+
+const ROTATING: [(&[u8], &[u8]); 1] = [(
+    AGAIN,
+    b"msrp-report,2\na,0,1,1,0,5,0,0,0,0,2,0\nb,1,1,1,0,4,1,1,0,0,2,0\n",
+)];
 
 #[test]
 fn worked_runs_have_their_counts_and_bounds(rt: HostRuntime) -> Result<(), Fail> {
-    let table: [(&[u8], Order, &[u8]); 12] = [
-        (
-            JOBS,
-            Order::Asc,
-            b"msrp-report,2\na,0,3,2,0,5,0,0,0,0,0,0\n",
-        ),
-        (EMPTY, Order::Asc, b"msrp-report,2\n"),
-        (
-            LONGEST,
-            Order::Desc,
-            b"msrp-report,2\na,7,1000,1000,0,1,0,0,0,0,0,0\n",
-        ),
-        (
-            WAITS,
-            Order::Asc,
-            b"msrp-report,2\na,0,1,1,1,12,0,0,0,0,2,0\nb,1,1,1,0,13,4,2,0,0,4,0\n",
-        ),
-        (
-            BLOCKS,
-            Order::Asc,
-            b"msrp-report,2\nk,0,3,2,0,4,0,0,0,0,0,0\nhi,0,3,2,3,5,0,0,5,3,0,3\n",
-        ),
-        (
-            ROUNDS,
-            Order::Asc,
-            b"msrp-report,2\na,0,2,2,0,3,0,0,0,0,2,0\nb,1,2,2,0,4,2,1,0,0,3,0\n",
-        ),
-        (
-            BOTH,
-            Order::Asc,
-            b"msrp-report,2\na,0,1,1,0,5,0,0,0,0,2,0\nb,1,1,1,0,4,0,0,0,0,3,0\n",
-        ),
-        (
-            CUT,
-            Order::Asc,
-            b"msrp-report,2\na,0,1,0,0,0,0,0,0,0,3,0\nb,1,1,0,0,0,1,1,0,0,3,0\n",
-        ),
-        (
-            BLOCKED,
-            Order::Asc,
-            b"msrp-report,2\nk,0,1,1,0,14,0,0,0,0,0,0\nj2,0,1,1,1,16,0,0,13,13,0,13\nj,0,1,1,1,6,0,0,2,2,0,13\n",
-        ),
-        (
-            GLOBAL,
-            Order::Asc,
-            b"msrp-report,2\nlo,0,1,1,0,5,0,0,0,0,2,0\nhi,0,1,1,0,5,0,0,4,4,0,7\nother,1,0,0,0,0,0,0,0,0,5,0\n",
-        ),
-        (
-            THREE,
-            Order::Desc,
-            b"msrp-report,2\na,0,1,1,0,7,3,3,0,0,6,0\nb,1,1,1,0,5,1,1,0,0,6,0\nc,2,1,1,0,3,0,0,0,0,6,0\n",
-        ),
-        (
-            AGAIN,
-            Order::Rot,
-            b"msrp-report,2\na,0,1,1,0,5,0,0,0,0,2,0\nb,1,1,1,0,4,1,1,0,0,2,0\n",
-        ),
-    ];
-    for (plan, order, expected) in table {
-        expect_report(&rt, rt.alloc(), plan, &order, expected)?;
-    }
-    Ok(())
+    expect_reports(&rt, rt.alloc(), &Order::Asc, &RISING)?;
+    expect_reports(&rt, rt.alloc(), &Order::Desc, &FALLING)?;
+    expect_reports(&rt, rt.alloc(), &Order::Rot, &ROTATING)
 }
+
+const LATER: [(&[u8], &[u8]); 1] = [(
+    MEET,
+    b"msrp-report,2\na,0,1,1,0,3,0,0,0,0,3,0\nb,1,1,1,0,6,2,2,0,0,3,0\n",
+)];
 
 #[test]
 fn a_handover_a_tick_later(rt: HostRuntime) -> Result<(), Fail> {
     let given = Order::Given(vec![in rt.alloc(); 0, 1, 0, 1, 1, 0, 0, 1, 0, 1, 0, 1]?);
-    let expected = b"msrp-report,2\na,0,1,1,0,3,0,0,0,0,3,0\nb,1,1,1,0,6,2,2,0,0,3,0\n";
-    expect_report(&rt, rt.alloc(), MEET, &given, expected)
+    expect_reports(&rt, rt.alloc(), &given, &LATER)
 }
 
 // The verdict that is answered in place of a report, if one is, of a trace without rows.
-fn fault_of(alloc: Global, text: &[u8]) -> Option<Fault> {
+fn fault_of(alloc: Global, text: &[u8]) -> Result<Option<Fault>, Fail> {
     let plan = plan_of(alloc, text)?;
     let trace = Trace {
         rows: Vec::new(alloc),
     };
     match report(alloc, &plan, &trace) {
-        Err(ReportError::G1(fault)) => Some(fault),
-        _ => None,
+        Err(ReportError::G1(fault)) => Ok(Some(fault)),
+        _ => Ok(None),
     }
 }
 
 #[test]
-fn a_trace_that_is_not_legal_has_no_report(rt: HostRuntime) {
+fn a_trace_that_is_not_legal_has_no_report(rt: HostRuntime) -> Result<(), Fail> {
     let missing = Fault {
         row: 1,
         rule: Rule::A6,
     };
-    assert!(&rt; fault_of(rt.alloc(), MEET) == Some(missing));
+    assert_eq!(rt; fault_of(rt.alloc(), MEET)?, Some(missing));
+    Ok(())
 }

@@ -7,8 +7,9 @@ ghost use Rattle.msrp_plan.specs.Levels.{is_global};
 ghost use Rattle.msrp_plan.specs.Choice.{is_before};
 ghost use Rattle.msrp_policy_tests.specs.Nested.{nested};
 
+use crate::plans::plan_of;
 use msrp_levels::Levels;
-use msrp_plan::{CoreId, JobId, Memory, Plan, PlanBuilder, PlanFault, ResId, Step, TaskId};
+use msrp_plan::{CoreId, JobId, Memory, Plan, ResId, TaskId};
 use msrp_stack::CeilingStack;
 use std::alloc::Global;
 use std::process::Abort;
@@ -29,60 +30,14 @@ fn first_job(task: u32) -> JobId {
     }
 }
 
-fn add(
-    builder: &mut PlanBuilder,
-    name: &str,
-    core: u32,
-    deadline: u32,
-    uses: &[ResId],
-) -> Result<(), PlanFault> {
-    builder.task(name, CoreId(core), 40, deadline, 0)?;
-    for res in uses {
-        for step in [Step::Lock(*res), Step::Unlock(*res)] {
-            if builder.tasks() > 0 {
-                builder.op(step)?;
-            }
-        }
-    }
-    Ok(())
-}
-
 // The task of the earlier deadline has level 2, the other one of its core level 1.
-fn plan(alloc: Global) -> Result<Plan, PlanFault> {
-    let mut builder = PlanBuilder::new(alloc, 2, 40)?;
-    for name in ["own", "both", "shared"] {
-        builder.resource(name)?;
-    }
-    add(&mut builder, "late", 0, 20, &[OWN, BOTH, SHARED])?;
-    add(&mut builder, "early", 0, 10, &[BOTH])?;
-    add(&mut builder, "other", 1, 10, &[SHARED])?;
-    builder.finish().map_err(|(_, fault)| fault)
-}
+const PLAN: &[u8] =
+    b"msrp,1\ncores,2\nticks,40\nresource,own\nresource,both\nresource,shared\ntask,late,0,40,20,0\nop,lock,own\nop,unlock,own\nop,lock,both\nop,unlock,both\nop,lock,shared\nop,unlock,shared\ntask,early,0,40,10,0\nop,lock,both\nop,unlock,both\ntask,other,1,40,10,0\nop,lock,shared\nop,unlock,shared\n";
 
 // A task of the latest deadline, which holds as many resources as a job may, one within the other, and for each of them a task
 // of its own, each of an earlier deadline than the last.
-fn deep_plan(alloc: Global) -> Result<Plan, PlanFault> {
-    let mut builder = PlanBuilder::new(alloc, 1, 40)?;
-    for name in ["a", "b", "c", "d", "e", "f", "g", "h"] {
-        builder.resource(name)?;
-    }
-    builder.task("deep", CORE, 40, 20, 0)?;
-    for r in 0..16 {
-        let step = if r < 8 {
-            Step::Lock(ResId(r))
-        } else {
-            Step::Unlock(ResId(15 - r))
-        };
-        if builder.tasks() > 0 {
-            builder.op(step)?;
-        }
-    }
-    for (r, name) in ["t", "u", "v", "w", "x", "y", "z", "zz"].iter().enumerate() {
-        let r = r as u32;
-        add(&mut builder, name, 0, 19 - r, &[ResId(r)])?;
-    }
-    builder.finish().map_err(|(_, fault)| fault)
-}
+const DEEP_PLAN: &[u8] =
+    b"msrp,1\ncores,1\nticks,40\nresource,a\nresource,b\nresource,c\nresource,d\nresource,e\nresource,f\nresource,g\nresource,h\ntask,deep,0,40,20,0\nop,lock,a\nop,lock,b\nop,lock,c\nop,lock,d\nop,lock,e\nop,lock,f\nop,lock,g\nop,lock,h\nop,unlock,h\nop,unlock,g\nop,unlock,f\nop,unlock,e\nop,unlock,d\nop,unlock,c\nop,unlock,b\nop,unlock,a\ntask,t,0,40,19,0\nop,lock,a\nop,unlock,a\ntask,u,0,40,18,0\nop,lock,b\nop,unlock,b\ntask,v,0,40,17,0\nop,lock,c\nop,unlock,c\ntask,w,0,40,16,0\nop,lock,d\nop,unlock,d\ntask,x,0,40,15,0\nop,lock,e\nop,unlock,e\ntask,y,0,40,14,0\nop,lock,f\nop,unlock,f\ntask,z,0,40,13,0\nop,lock,g\nop,unlock,g\ntask,zz,0,40,12,0\nop,lock,h\nop,unlock,h\n";
 
 // Whether a job is one of the core.
 fn is_own(plan: &Plan, job: JobId) -> bool
@@ -157,7 +112,7 @@ fn expect(rt: &impl Abort, stack: &CeilingStack, top: JobId, ceiling: u32) {
 
 #[test]
 fn a_new_stack_is_empty(rt: HostRuntime) -> Result<(), Fail> {
-    let plan = plan(rt.alloc())?;
+    let plan = plan_of(rt.alloc(), PLAN)?;
     let levels = Levels::of(rt.alloc(), &plan)?;
     assert!(rt; plan.cores() > 0);
     let stack = CeilingStack::with_room(rt.alloc(), &plan, &levels, CORE)?;
@@ -169,7 +124,7 @@ fn a_new_stack_is_empty(rt: HostRuntime) -> Result<(), Fail> {
 // Each lock keeps the ceiling from before, and its unlock puts it back.
 #[test]
 fn nested_locks_raise_the_ceiling(rt: HostRuntime) -> Result<(), Fail> {
-    let plan = plan(rt.alloc())?;
+    let plan = plan_of(rt.alloc(), PLAN)?;
     let levels = Levels::of(rt.alloc(), &plan)?;
     let late = first_job(0);
     assert!(rt; is_own(&plan, late));
@@ -191,7 +146,7 @@ fn nested_locks_raise_the_ceiling(rt: HostRuntime) -> Result<(), Fail> {
 // A request of a global resource raises the ceiling to the core's highest level, though only a task of a lower one uses it there.
 #[test]
 fn a_global_request_raises_to_the_highest_level(rt: HostRuntime) -> Result<(), Fail> {
-    let plan = plan(rt.alloc())?;
+    let plan = plan_of(rt.alloc(), PLAN)?;
     let levels = Levels::of(rt.alloc(), &plan)?;
     let late = first_job(0);
     assert!(rt; is_own(&plan, late));
@@ -207,7 +162,7 @@ fn a_global_request_raises_to_the_highest_level(rt: HostRuntime) -> Result<(), F
 // A job that is started while another holds a resource stands on top until it is finished, and leaves the ceiling to the other.
 #[test]
 fn a_second_job_stands_on_the_first(rt: HostRuntime) -> Result<(), Fail> {
-    let plan = plan(rt.alloc())?;
+    let plan = plan_of(rt.alloc(), PLAN)?;
     let levels = Levels::of(rt.alloc(), &plan)?;
     let (late, early) = (first_job(0), first_job(1));
     assert!(rt; is_own(&plan, late));
@@ -251,7 +206,7 @@ fn unlock_eight(rt: &impl Abort, plan: &Plan, levels: &Levels, stack: &mut Ceili
 // A job may hold eight resources at once.
 #[test]
 fn eight_resources_are_held_at_once(rt: HostRuntime) -> Result<(), Fail> {
-    let plan = deep_plan(rt.alloc())?;
+    let plan = plan_of(rt.alloc(), DEEP_PLAN)?;
     let levels = Levels::of(rt.alloc(), &plan)?;
     let deep = first_job(0);
     assert!(rt; is_own(&plan, deep));

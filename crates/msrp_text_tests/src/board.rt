@@ -183,29 +183,58 @@ fn next_tick(rt: &impl Abort, board: &Board, zero: &mut BoardSeat, one: &mut Boa
     enter_both(rt, board, zero, one);
 }
 
+/// What both cores request in tick 0, and what the second polls in tick 1. Both are let into tick 2.
+fn ask_both(
+    rt: &impl Abort,
+    board: &Board,
+    zero: &mut BoardSeat,
+    one: &mut BoardSeat,
+) -> ([Asked; 2], Polled)
+    requires seats { IsCoreSeatOn board.now zero.old × IsCoreSeatOn board.now one.old }
+    requires resource { board.now.size.resources ≡ 1 }
+    ensures zero { IsCoreSeatOn board.now zero.new × IsFresh zero.new }
+    ensures one { IsCoreSeatOn board.now one.new × IsFresh one.new }
+{
+    enter_both(rt, board, zero, one);
+    let asked = [ask(rt, board, zero, RES), ask(rt, board, one, RES)];
+    next_tick(rt, board, zero, one);
+    let polled = poll(rt, board, one);
+    next_tick(rt, board, zero, one);
+    (asked, polled)
+}
+
+/// What the second core polls in ticks 2 and 3, before and after the first one releases in tick 2, and the places of both
+/// releases. Both have arrived from tick 5.
+fn hand_over(
+    rt: &impl Abort,
+    board: &Board,
+    zero: &mut BoardSeat,
+    one: &mut BoardSeat,
+) -> ([Polled; 2], [u32; 2])
+    requires zero { IsCoreSeatOn board.now zero.old × IsFresh zero.old }
+    requires one { IsCoreSeatOn board.now one.old × IsFresh one.old }
+    ensures { IsCoreSeatOn board.now zero.new × IsCoreSeatOn board.now one.new }
+{
+    let before = poll(rt, board, one);
+    let left = leave(rt, board, zero);
+    next_tick(rt, board, zero, one);
+    let after = poll(rt, board, one);
+    next_tick(rt, board, zero, one);
+    next_tick(rt, board, zero, one);
+    let left_last = leave(rt, board, one);
+    arrive(rt, board, zero);
+    arrive(rt, board, one);
+    ([before, after], [left, left_last])
+}
+
 /// Each core's place and answer, and the word, in the order in which the core that polls comes before the core that
 /// releases in tick 2, and so is not granted before tick 3.
 #[test]
 fn handover_takes_the_next_poll(rt: HostRuntime) {
     let (board, mut rest, mut zero, mut one) = two(&rt, rt.alloc(), 6);
     open(&rt, &board, &mut rest);
-    enter_both(&rt, &board, &mut zero, &mut one);
-    let asked = [
-        ask(&rt, &board, &mut zero, RES),
-        ask(&rt, &board, &mut one, RES),
-    ];
-    next_tick(&rt, &board, &mut zero, &mut one);
-    let in_one = poll(&rt, &board, &mut one);
-    next_tick(&rt, &board, &mut zero, &mut one);
-    let in_two = poll(&rt, &board, &mut one);
-    let left_in_two = leave(&rt, &board, &mut zero);
-    next_tick(&rt, &board, &mut zero, &mut one);
-    let in_three = poll(&rt, &board, &mut one);
-    next_tick(&rt, &board, &mut zero, &mut one);
-    next_tick(&rt, &board, &mut zero, &mut one);
-    let left_in_five = leave(&rt, &board, &mut one);
-    arrive(&rt, &board, &mut zero);
-    arrive(&rt, &board, &mut one);
+    let (asked, in_one) = ask_both(&rt, &board, &mut zero, &mut one);
+    let ([in_two, in_three], left) = hand_over(&rt, &board, &mut zero, &mut one);
     assert_eq!(rt;
         asked,
         [Asked { place: 0, ahead: 0 }, Asked { place: 1, ahead: 1 }]
@@ -215,7 +244,7 @@ fn handover_takes_the_next_poll(rt: HostRuntime) {
         granted,
     });
     assert_eq!(rt; [in_one, in_two, in_three], polled);
-    assert_eq!(rt; [left_in_two, left_in_five], [2, 3]);
+    assert_eq!(rt; left, [2, 3]);
     assert_eq!(rt; (zero.phase(), one.tick()), (SeatPhase::Done, 6));
     let rest = board.join(rest, zero);
     let all = board.join(rest, one);

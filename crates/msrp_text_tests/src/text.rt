@@ -106,14 +106,15 @@ fn the_first_three_records(rt: HostRuntime) {
 // The first three records, for one core and nine ticks.
 const HEAD: &[u8] = b"msrp,1\ncores,1\nticks,9\n";
 
-// Whether a text of more records after the first three is refused so.
-fn refuses_after_head(
+// Whether a text of more records after others is refused so.
+fn refuses_after(
     alloc: Global,
+    head: &[u8],
     rest: &[u8],
     fault: PlanFault,
     number: u32,
 ) -> Result<bool, Fail> {
-    let mut text = Vec::from_slice(alloc, HEAD)?;
+    let mut text = Vec::from_slice(alloc, head)?;
     text.extend_from_slice(rest)?;
     Ok(refuses(alloc, text.as_slice(), fault, number))
 }
@@ -125,7 +126,7 @@ fn all_refused_after_head(
 ) -> Result<(), Fail> {
     for (rest, fault, number) in table {
         assert!(rt;
-            refuses_after_head(alloc, rest, *fault, *number)?,
+            refuses_after(alloc, HEAD, rest, *fault, *number)?,
             "{fault:?} at {number}"
         );
     }
@@ -222,13 +223,14 @@ fn records_of_units(rt: HostRuntime) -> Result<(), Fail> {
     all_refused_after_head(&rt, rt.alloc(), &UNITS)
 }
 
-// So many tasks of one unit, t0 and on.
-fn add_tasks(alloc: Global, text: &mut Vec<u8>, count: u32) -> Result<(), Fail> {
+// The first three records and so many tasks of one unit, t0 and on.
+fn with_tasks(alloc: Global, count: u32) -> Result<Vec<u8>, Fail> {
+    let mut text = Vec::from_slice(alloc, HEAD)?;
     for number in 0..count {
         let record = format!(in alloc; "task,t{number},0,9,9,0\nop,run,1\n")?;
         text.extend_from_slice(record.as_bytes())?;
     }
-    Ok(())
+    Ok(text)
 }
 
 // A task after 64 others.
@@ -241,16 +243,12 @@ const MORE: [(&[u8], PlanFault, u32); 4] = [
 
 #[test]
 fn one_task_too_many(rt: HostRuntime) -> Result<(), Fail> {
-    let alloc = rt.alloc();
-    let mut text = Vec::from_slice(alloc, HEAD)?;
-    add_tasks(alloc, &mut text, 64)?;
-    let plan = answer(alloc, text.as_slice())?;
+    let text = with_tasks(rt.alloc(), 64)?;
+    let plan = answer(rt.alloc(), text.as_slice())?;
     assert_eq!(rt; plan.tasks(), 64);
-    for (more, fault, number) in &MORE {
-        let mut longer = text.clone()?;
-        longer.extend_from_slice(more)?;
+    for (more, fault, number) in MORE {
         assert!(rt;
-            refuses(alloc, longer.as_slice(), *fault, *number),
+            refuses_after(rt.alloc(), text.as_slice(), more, fault, number)?,
             "{fault:?}"
         );
     }
@@ -430,19 +428,24 @@ impl<'a> Read for Halting<'a> {
     }
 }
 
+// The answer for a text of which this read fails, and whether its source says so.
+fn halted(alloc: Global, text: &[u8], call: u32) -> (Result<Plan, TextError>, bool) {
+    let mut source = Source::new(halt_at(text, call));
+    let answer = read_plan(alloc, &mut source);
+    let failed = source.failed();
+    (answer, failed)
+}
+
 #[test]
 fn each_read_fails_in_turn(rt: HostRuntime) -> Result<(), Fail> {
     // 47 bytes and the end
     for call in 1..=48u32 {
-        let mut source = Source::new(halt_at(PLAN, call));
-        let answer = read_plan(rt.alloc(), &mut source);
-        assert!(rt; source.failed());
-        assert!(rt; matches!(&answer, Err(TextError::Read)), "{call}");
+        let (answer, failed) = halted(rt.alloc(), PLAN, call);
+        assert!(rt; failed && matches!(&answer, Err(TextError::Read)), "{call}");
     }
-    let mut source = Source::new(halt_at(PLAN, 49));
-    let plan = read_plan(rt.alloc(), &mut source)?;
-    assert!(rt; !source.failed());
-    assert!(rt; is_the_plan(&plan));
+    let (answer, failed) = halted(rt.alloc(), PLAN, 49);
+    let plan = answer?;
+    assert!(rt; !failed && is_the_plan(&plan));
     Ok(())
 }
 
@@ -451,8 +454,7 @@ fn each_read_fails_in_turn(rt: HostRuntime) -> Result<(), Fail> {
 fn refused_before_a_read_fails(rt: HostRuntime) {
     let text = b"msrp,1\nsomething\ncores,1\n";
     for (call, refused) in [(17u32, false), (18, true), (19, true), (26, true)] {
-        let mut source = Source::new(halt_at(text, call));
-        let answer = read_plan(rt.alloc(), &mut source);
+        let (answer, _) = halted(rt.alloc(), text, call);
         let due = TextError::At {
             fault: PlanFault::OutOfPlace,
             number: 2,
@@ -581,12 +583,24 @@ const TOLD: [(&[u8], &[u8]); 8] = [
     (b"\n\r\n", b""),
 ];
 
+// The records of a text of which each read gives so many bytes.
+fn told_in_pieces(alloc: Global, text: &[u8], size: usize) -> Result<Vec<u8>, Fail> {
+    let mut records = RecordReader::new(alloc, Pieces { text, size });
+    records_told(alloc, &mut records)
+}
+
+// The records of a text of which one read fails, and those that are left then.
+fn told_twice(alloc: Global, text: &[u8], call: u32) -> Result<(Vec<u8>, Vec<u8>), Fail> {
+    let mut records = RecordReader::new(alloc, halt_at(text, call));
+    let told = records_told(alloc, &mut records)?;
+    Ok((told, records_told(alloc, &mut records)?))
+}
+
 #[test]
 fn records_in_pieces(rt: HostRuntime) -> Result<(), Fail> {
     for (text, due) in TOLD {
         for size in 1..=9usize {
-            let mut records = RecordReader::new(rt.alloc(), Pieces { text, size });
-            let told = records_told(rt.alloc(), &mut records)?;
+            let told = told_in_pieces(rt.alloc(), text, size)?;
             assert!(rt; told.as_slice() == due, "{size}");
         }
     }
@@ -617,10 +631,8 @@ fn records_before_a_read_fails(rt: HostRuntime) -> Result<(), Fail> {
         b"a|b|/c|/d|/e|/",
     ];
     for (call, told) in (1u32..).zip(due) {
-        let mut records = RecordReader::new(rt.alloc(), halt_at(text, call));
-        let found = records_told(rt.alloc(), &mut records)?;
+        let (found, again) = told_twice(rt.alloc(), text, call)?;
         assert!(rt; found.as_slice() == told, "{call}");
-        let again = records_told(rt.alloc(), &mut records)?;
         assert!(rt;
             !told.ends_with(b"!") || again.as_slice() == b"!".as_slice(),
             "{call}"
@@ -645,9 +657,7 @@ fn records_over_the_border(rt: HostRuntime) -> Result<(), Fail> {
     text.extend_from_slice(b",y\nz\n")?;
     due.extend_from_slice(b"|y|/z|/")?;
     for size in [1usize, 7, 9, 4096, 16_383, 16_384, 100_000] {
-        let text = text.as_slice();
-        let mut records = RecordReader::new(rt.alloc(), Pieces { text, size });
-        let told = records_told(rt.alloc(), &mut records)?;
+        let told = told_in_pieces(rt.alloc(), text.as_slice(), size)?;
         assert!(rt; told == due, "{size}");
     }
     Ok(())
@@ -696,18 +706,29 @@ fn foreseen_lines_are_met_whole(rt: HostRuntime) -> Result<(), Fail> {
     Ok(())
 }
 
-// How many of the lines are met. Each that isn't is read, and is then the same.
-fn lines_met(
-    alloc: Global,
-    lines: &[(&[u8], &[u8])],
-    records: &mut RecordReader<Pieces>,
-) -> Result<usize, Fail> {
+// A text, and its lines in two parts.
+const LINES: (&[u8], [(&[u8], &[u8]); 6]) = (
+    b"1,a\n2,bc\r\n3,d\n4,e\n5,f\r\n6,\n",
+    [
+        (b"1,", b"a"),
+        (b"2,", b"bc"),
+        (b"3,", b"d"),
+        (b"4,", b"e"),
+        (b"5,", b"f"),
+        (b"6,", b""),
+    ],
+);
+
+// How many of the lines are met, where each read gives so many bytes. Each that isn't is read, and is then the same.
+fn lines_met(alloc: Global, size: usize) -> Result<usize, Fail> {
+    let (text, lines) = LINES;
+    let mut records = RecordReader::new(alloc, Pieces { text, size });
     let mut row = ByteRecord::new(alloc);
     let mut met = 0usize;
     for (front, rest) in lines {
         if records.meets(front, rest) {
             met = met.saturating_add(1);
-        } else if records.read(&mut row) != Ok(true) || row.get(1) != Some(*rest) {
+        } else if records.read(&mut row) != Ok(true) || row.get(1) != Some(rest) {
             return Err(Fail::new("another record"));
         }
     }
@@ -720,19 +741,9 @@ fn lines_met(
 // With each number of bytes a read all lines are met, those too of which a read brings only a part.
 #[test]
 fn foreseen_lines_in_pieces(rt: HostRuntime) -> Result<(), Fail> {
-    let text = b"1,a\n2,bc\r\n3,d\n4,e\n5,f\r\n6,\n";
-    let lines: [(&[u8], &[u8]); 6] = [
-        (b"1,", b"a"),
-        (b"2,", b"bc"),
-        (b"3,", b"d"),
-        (b"4,", b"e"),
-        (b"5,", b"f"),
-        (b"6,", b""),
-    ];
     for size in 1..=40usize {
-        let mut records = RecordReader::new(rt.alloc(), Pieces { text, size });
-        let met = lines_met(rt.alloc(), &lines, &mut records)?;
-        assert!(rt; met == lines.len(), "{size}");
+        let met = lines_met(rt.alloc(), size)?;
+        assert!(rt; met == 6, "{size}");
     }
     Ok(())
 }

@@ -1,7 +1,8 @@
 //! Tests on texts: worked traces, the codes of refusals, and readers and writers that fail.
 
 use msrp_plan::bytes::{Sink, Source};
-use msrp_plan::{CoreId, Plan, PlanBuilder, Row, Step, TextVersion, Trace};
+use msrp_plan::{Plan, Row, TextVersion, Trace};
+use msrp_text::read_plan;
 use msrp_trace::{TraceError, TraceFault, TraceReader, are_named, write_trace};
 use std::alloc::Global;
 use std::io;
@@ -11,33 +12,12 @@ use std::test::Fail;
 
 // ---- the plan
 
-// One task more: it locks the resource, works for a tick, and unlocks it.
-fn add_task(builder: &mut PlanBuilder, name: &str, core: u32) -> Result<(), Fail> {
-    let Some(res) = builder.res_of("g") else {
-        return Err(Fail::new("no resource"));
-    };
-    if builder.task(name, CoreId(core), 20, 8, 0).is_err() {
-        return Err(Fail::new("task"));
-    }
-    for step in [Step::Lock(res), Step::Run(1), Step::Unlock(res)] {
-        if builder.tasks() == 0 || builder.op(step).is_err() {
-            return Err(Fail::new("step"));
-        }
-    }
-    Ok(())
-}
-
 // Two cores and one resource, which task a of core 0 and task b of core 1 want in tick 0.
+const PLAN: &[u8] =
+    b"msrp,1\ncores,2\nticks,6\nresource,g\ntask,a,0,20,8,0\nop,lock,g\nop,run,1\nop,unlock,g\ntask,b,1,20,8,0\nop,lock,g\nop,run,1\nop,unlock,g\n";
+
 fn handover(alloc: Global) -> Result<Plan, Fail> {
-    let Ok(mut builder) = PlanBuilder::new(alloc, 2, 6) else {
-        return Err(Fail::new("builder"));
-    };
-    if builder.resource("g").is_err() {
-        return Err(Fail::new("resource"));
-    }
-    add_task(&mut builder, "a", 0)?;
-    add_task(&mut builder, "b", 1)?;
-    match builder.finish() {
+    match read_plan(alloc, &mut Source::new(PLAN)) {
         Ok(plan) => Ok(plan),
         Err(_) => Err(Fail::new("plan")),
     }
@@ -405,20 +385,29 @@ impl Read for Halting<'_> {
     }
 }
 
+// The answer for VERSION_TWO where one read fails, and whether its source says so.
+fn halted(alloc: Global, plan: &Plan, fails_at: usize) -> (Result<Trace, TraceError>, bool) {
+    let mut source = Source::new(Halting {
+        text: VERSION_TWO,
+        calls: 0,
+        fails_at,
+    });
+    let answer = read_all(alloc, &mut source, plan);
+    let failed = source.failed();
+    (answer, failed)
+}
+
 // Each byte is one read, and the end is one more. Wherever a read fails, the reading ends with that fault.
 #[test]
 fn each_read_fails_in_turn(rt: HostRuntime) -> Result<(), Fail> {
     let alloc = rt.alloc();
     let plan = handover(alloc)?;
     for fails_at in 0..=VERSION_TWO.len() {
-        let mut source = Source::new(Halting {
-            text: VERSION_TWO,
-            calls: 0,
-            fails_at,
-        });
-        let answer = read_all(alloc, &mut source, &plan);
-        assert!(rt; matches!(answer, Err(TraceError::Read)), "{fails_at}");
-        assert!(rt; source.failed());
+        let (answer, failed) = halted(alloc, &plan, fails_at);
+        assert!(rt;
+            failed && matches!(answer, Err(TraceError::Read)),
+            "{fails_at}"
+        );
     }
     Ok(())
 }
@@ -447,6 +436,19 @@ impl Write for Narrow {
     }
 }
 
+// The writer of so much room after a trace was written to it, if the sink says that a write failed.
+fn narrowed(alloc: Global, plan: &Plan, trace: &Trace, room: usize) -> Option<Narrow> {
+    let mut sink = Sink::new(Narrow {
+        got: Vec::new(alloc),
+        room,
+    });
+    let written = write_all(&mut sink, plan, trace, TextVersion::V2);
+    if written || !sink.failed() {
+        return None;
+    }
+    Some(sink.into_inner())
+}
+
 // Wherever a write fails, a first part of the text was written.
 #[test]
 fn each_write_fails_in_turn(rt: HostRuntime) -> Result<(), Fail> {
@@ -456,13 +458,9 @@ fn each_write_fails_in_turn(rt: HostRuntime) -> Result<(), Fail> {
         return Err(Fail::new("refused"));
     };
     for room in 0..VERSION_TWO.len() {
-        let mut writer = Narrow {
-            got: Vec::new(alloc),
-            room,
+        let Some(writer) = narrowed(alloc, &plan, &trace, room) else {
+            return Err(Fail::new("no write failed"));
         };
-        let mut sink = Sink::new(&mut writer);
-        assert!(rt; !write_all(&mut sink, &plan, &trace, TextVersion::V2));
-        assert!(rt; sink.failed());
         assert!(rt; writer.got.as_slice() == &VERSION_TWO[..room]);
     }
     Ok(())
