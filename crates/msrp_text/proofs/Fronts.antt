@@ -71,29 +71,21 @@ field-put new old partial text start at e none h =
 record Ended (line text : List ℕ) : Type 0 where
   less : length line < length text
   inside : (at : ℕ) → at < length line → slice_index text at ≡ slice_index line at
-  ends : (slice_index text (length line) ≡ 10) ⊎ ((slice_index text (length line) ≡ 13) × (length line + 1 < length text) × (slice_index text (length line + 1) ≡ 10))
+  ends : (slice_index text (length line) ≡ 10) ⊎ (slice_index text (length line) ≡ 13)
 
-fed-text : (line after : List ℕ) → Ended line (line ++ (10 ∷ after))
-fed-text line after = record {
-  less = omega (arith, length-append line (10 ∷ after));
-  inside = λ at h. get_or-append line (10 ∷ after) 0 at h;
-  ends = inl (get_or-append_seam line 10 after 0);
-}
-
-returned-text : (line after : List ℕ) → Ended line (line ++ (13 ∷ 10 ∷ after))
-returned-text line after =
-    let size : length (line ++ (13 ∷ [])) ≡ length line + 1 = length-append line (13 ∷ []) in
-    let feed : slice_index ((line ++ (13 ∷ [])) ++ (10 ∷ after)) (length (line ++ (13 ∷ []))) ≡ 10 = get_or-append_seam (line ++ (13 ∷ [])) 10 after 0 in
-    let next : slice_index (line ++ (13 ∷ 10 ∷ after)) (length line + 1) ≡ 10 = rw (append_assoc line (13 ∷ []) (10 ∷ after), size) at feed in
+marked-text : (line after : List ℕ) (end : ℕ) → (end ≡ 10) ⊎ (end ≡ 13) → Ended line (line ++ (end ∷ after))
+marked-text line after end mark =
+    let here : slice_index (line ++ (end ∷ after)) (length line) ≡ end = get_or-append_seam line end after 0 in
     record {
-      less = omega (arith, length-append line (13 ∷ 10 ∷ after));
-      inside = λ at h. get_or-append line (13 ∷ 10 ∷ after) 0 at h;
-      ends = inr (get_or-append_seam line 13 (10 ∷ after) 0, omega (arith, length-append line (13 ∷ 10 ∷ after)), next);
+      less = omega (arith, length-append line (end ∷ after));
+      inside = λ at h. get_or-append line (end ∷ after) 0 at h;
+      ends = rw here mark;
     }
 
 ended-text : (line ended after text : List ℕ) → EndsLine line ended → text ≡ ended ++ after → Ended line text
-ended-text line ended after text (inl e) same = rw (same, e, append_assoc line (10 ∷ []) after) (fed-text line after)
-ended-text line ended after text (inr e) same = rw (same, e, append_assoc line (13 ∷ 10 ∷ []) after) (returned-text line after)
+ended-text line ended after text (inl e) same = rw (same, e, append_assoc line (10 ∷ []) after) (marked-text line after 10 (inl refl))
+ended-text line ended after text (inr (inl e)) same = rw (same, e, append_assoc line (13 ∷ []) after) (marked-text line after 13 (inr refl))
+ended-text line ended after text (inr (inr e)) same = rw (same, e, append_assoc line (13 ∷ 10 ∷ []) after) (marked-text line (10 ∷ after) 13 (inr refl))
 
 begun-text : (line text : List ℕ) → BeginsWith line text → Ended line text
 begun-text line text h = ended-text line h.0 h.1 text h.2 h.3
@@ -103,31 +95,26 @@ pub line-on : (text : List ℕ) (at : ℕ) → (slice_index text at ≡ 10 → �
 line-on text at feed return before = λ line begins plain. elim (eq-or-lt_of_le (before line begins plain)) [
   | inl here ↦ elim (begun-text line text begins).ends [
     | inl e ↦ absurd (feed (ap (slice_index text) here ∙ e))
-    | inr e ↦ absurd (return (ap (slice_index text) here ∙ e.0))
+    | inr e ↦ absurd (return (ap (slice_index text) here ∙ e))
   ]
   | inr inside ↦ omega (arith, inside)
 ]
 
--- a mark that doesn't end it is in no plain line
-pub marked-none : (text : List ℕ) (at most : ℕ) → is_mark (slice_index text at) ≡ true → (slice_index text at ≡ 10 → ⊥) → (slice_index text at ≡ 13 → at + 1 < length text → slice_index text (at + 1) ≡ 10 → ⊥)
-    → IsInLine at text → NoLine most text
-marked-none text at most mark feed return before = λ line begins plain few. elim (eq-or-lt_of_le (before line begins plain)) [
+-- a quote is in no plain line
+quote-none : (text : List ℕ) (at most : ℕ) → slice_index text at ≡ 34 → IsInLine at text → NoLine most text
+quote-none text at most quote before = λ line begins plain few. elim (eq-or-lt_of_le (before line begins plain)) [
   | inl here ↦ elim (begun-text line text begins).ends [
-    | inl e ↦ feed (ap (slice_index text) here ∙ e)
-    | inr e ↦ return (ap (slice_index text) here ∙ e.0) (rw (← here) at e.1) (rw (← here) at e.2)
+    | inl e ↦ let no : 34 ≡ 10 = sym quote ∙ ap (slice_index text) here ∙ e in omega (arith, no)
+    | inr e ↦ let no : 34 ≡ 13 = sym quote ∙ ap (slice_index text) here ∙ e in omega (arith, no)
   ]
-  | inr inside ↦ true≢false (sym mark ∙ ap is_mark ((begun-text line text begins).inside at inside) ∙ plain-byte line at plain inside)
+  | inr inside ↦ true≢false (sym (ap is_mark quote) ∙ ap is_mark ((begun-text line text begins).inside at inside) ∙ plain-byte line at plain inside)
 ]
 
--- a plain line isn't empty, and doesn't begin as a byte order mark does
+-- it doesn't begin as a byte order mark does
 bom-none : (text : List ℕ) (most : ℕ) → (slice_index text 0 == 239) ≡ true → NoLine most text
 bom-none text most mark = λ line begins plain few.
     let first = plain-first line plain in
     true≢false (sym mark ∙ ap (λ b. b == 239) ((begun-text line text begins).inside 0 first.0) ∙ first.1)
-
-quote-none : (text : List ℕ) (at most : ℕ) → slice_index text at ≡ 34 → IsInLine at text → NoLine most text
-quote-none text at most quote before =
-    marked-none text at most (ap is_mark quote) (λ (e : slice_index text at ≡ 10). let no : 34 ≡ 10 = sym quote ∙ e in omega (arith, no)) (λ (e : slice_index text at ≡ 13) within next. let no : 34 ≡ 13 = sym quote ∙ e in omega (arith, no)) before
 
 pub other-none : (text : List ℕ) (at most : ℕ) → is_other (slice_index text at) at ≡ true → IsInLine at text → NoLine most text
 other-none text at most other before = elim (or_cases (slice_index text at == 34) _ other) [
@@ -137,11 +124,6 @@ other-none text at most other before = elim (or_cases (slice_index text at == 34
       let zero : at ≡ 0 = eqb-true at 0 both.0 in
       bom-none text most (ap (λ n. slice_index text n == 239) (sym zero) ∙ both.1)
 ]
-
--- a line's end is a mark
-pub end-mark : (b : ℕ) → (b ≡ 10) ⊎ (b ≡ 13) → is_mark b ≡ true
-end-mark b (inl e) = ap is_mark e
-end-mark b (inr e) = ap is_mark e
 
 -- a line in two parts, and its end, at the front of a text
 pub line-ends : (text front rest middle end mark after : List ℕ) → text ≡ front ++ middle → middle ≡ rest ++ end → end ≡ mark ++ after
@@ -159,11 +141,12 @@ begins-taken line text taken h = (take taken text, drop taken text, h, sym (take
 
 -- what comes after a line: its end
 abbrev pub AfterLine : List ℕ → Type 0
-AfterLine end = ((after : List ℕ) × (end ≡ (10 ∷ []) ++ after)) ⊎ ((after : List ℕ) × (end ≡ (13 ∷ 10 ∷ []) ++ after))
+AfterLine end = ((after : List ℕ) × (end ≡ (10 ∷ []) ++ after)) ⊎ ((after : List ℕ) × (end ≡ (13 ∷ []) ++ after))
 
 after-ended : (line ended after text : List ℕ) → EndsLine line ended → text ≡ ended ++ after → (end : List ℕ) × (text ≡ line ++ end) × AfterLine end
 after-ended line ended after text (inl e) same = (10 ∷ after, same ∙ ap (λ (t : List ℕ). t ++ after) e ∙ append_assoc line (10 ∷ []) after, inl (after, refl))
-after-ended line ended after text (inr e) same = (13 ∷ 10 ∷ after, same ∙ ap (λ (t : List ℕ). t ++ after) e ∙ append_assoc line (13 ∷ 10 ∷ []) after, inr (after, refl))
+after-ended line ended after text (inr (inl e)) same = (13 ∷ after, same ∙ ap (λ (t : List ℕ). t ++ after) e ∙ append_assoc line (13 ∷ []) after, inr (after, refl))
+after-ended line ended after text (inr (inr e)) same = (13 ∷ 10 ∷ after, same ∙ ap (λ (t : List ℕ). t ++ after) e ∙ append_assoc line (13 ∷ 10 ∷ []) after, inr (10 ∷ after, refl))
 
 -- a text begins with a line in two parts
 pub begins-parts : (front rest text : List ℕ) → BeginsWith (front ++ rest) text → (end : List ℕ) × (text ≡ front ++ (rest ++ end)) × AfterLine end
@@ -187,11 +170,15 @@ one-begins (x ∷ xs) (y ∷ ys) more after e =
 -- a line and its end
 ended-size : (line ended : List ℕ) → EndsLine line ended → length ended ≤ length line + 2
 ended-size line ended (inl e) = omega (arith, ap length e ∙ length-append line (10 ∷ []))
-ended-size line ended (inr e) = omega (arith, ap length e ∙ length-append line (13 ∷ 10 ∷ []))
+ended-size line ended (inr (inl e)) = omega (arith, ap length e ∙ length-append line (13 ∷ []))
+ended-size line ended (inr (inr e)) = omega (arith, ap length e ∙ length-append line (13 ∷ 10 ∷ []))
 
 -- what begins with a line and its end does so whatever comes after it
 pub begins-on : (line text more : List ℕ) → BeginsWith line text → BeginsWith line (text ++ more)
 begins-on line text more begins = (begins.0, begins.1 ++ more, begins.2, ap (λ (t : List ℕ). t ++ more) begins.3 ∙ append_assoc begins.0 begins.1 more)
+
+pub no-line-on : (text more all : List ℕ) (most : ℕ) → all ≡ text ++ more → NoLine most all → NoLine most text
+no-line-on text more all most e none = λ line begins. none line (subst (λ (t : List ℕ). BeginsWith line t) (sym e) (begins-on line text more begins))
 
 -- where the bytes that were read ahead do, all that are left do
 pub begins-known : {R : Type 0} (remaining : R → Option (List ℕ)) (r : RecordReader R) (bytes line : List ℕ) → bytes_left remaining r ≡ Some bytes → BeginsWith line (bytes_ahead r) → BeginsWith line bytes
@@ -223,6 +210,15 @@ fed-first (b ∷ line) (x ∷ xs) more after none some e =
     let rest = fed-first line xs more after parts.1 other tail in
     (rest.0, ap (λ n. n ∷ xs) here ∙ ap (λ (t : List ℕ). b ∷ t) rest.1)
 
+-- a text with a line feed in it that begins as one without any does begins with all of that
+fed-past : (line xs more after : List ℕ) → list_any (λ b. b == 10) line ≡ false → list_any (λ b. b == 10) xs ≡ true → xs ++ more ≡ line ++ after → (rest : List ℕ) × (xs ≡ line ++ rest)
+fed-past line xs more after none some e = elim (one-begins xs line more after e) [
+  | inl h ↦ h
+  | inr h ↦
+      let both : list_any (λ b. b == 10) line ≡ true = ap (list_any (λ b. b == 10)) h.1 ∙ list_any-append (λ b. b == 10) xs h.0 ∙ rw some refl in
+      absurd (true≢false (sym both ∙ none))
+]
+
 -- no byte of a plain line is a line feed
 no-feed : (line : List ℕ) → list_any is_mark line ≡ false → list_any (λ b. b == 10) line ≡ false
 no-feed [] e = refl
@@ -241,8 +237,12 @@ begins-fed line xs more plain fed begins = by begins.2
     by (inl e) =
         let first = fed-first line xs more begins.1 (plain-feed line plain) fed (begins.3 ∙ ap (λ (t : List ℕ). t ++ begins.1) e) in
         (line ++ (10 ∷ []), first.0, inl refl, first.1)
-    by (inr e) =
+    by (inr (inl e)) =
+        let none : list_any (λ b. b == 10) (line ++ (13 ∷ [])) ≡ false = list_any-append (λ b. b == 10) line (13 ∷ []) ∙ rw (plain-feed line plain) refl in
+        let first = fed-past (line ++ (13 ∷ [])) xs more begins.1 none fed (begins.3 ∙ ap (λ (t : List ℕ). t ++ begins.1) e) in
+        (line ++ (13 ∷ []), first.0, inr (inl refl), first.1)
+    by (inr (inr e)) =
         let same : (line ++ (13 ∷ [])) ++ (10 ∷ []) ≡ line ++ (13 ∷ 10 ∷ []) = append_assoc line (13 ∷ []) (10 ∷ []) in
         let none : list_any (λ b. b == 10) (line ++ (13 ∷ [])) ≡ false = list_any-append (λ b. b == 10) line (13 ∷ []) ∙ rw (plain-feed line plain) refl in
         let first = fed-first (line ++ (13 ∷ [])) xs more begins.1 none fed (begins.3 ∙ ap (λ (t : List ℕ). t ++ begins.1) (e ∙ sym same)) in
-        (line ++ (13 ∷ 10 ∷ []), first.0, inr refl, first.1 ∙ ap (λ (t : List ℕ). t ++ first.0) same)
+        (line ++ (13 ∷ 10 ∷ []), first.0, inr (inr refl), first.1 ∙ ap (λ (t : List ℕ). t ++ first.0) same)

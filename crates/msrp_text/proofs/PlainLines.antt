@@ -1,7 +1,7 @@
 -- Plain lines and the rules of comma-separated fields.
-use Rattle.std.proofs.Common.{◌<◌, length, slice_index, arith, ◌≡◌, ◌==◌, ◌++◌, ◌∷◌, ◌∙◌, [], ℕ, List, Bool, Option, Some, None, refl, sym, ap, true, false, not, append_assoc, append-nil, inl, inr}
+use Rattle.std.proofs.Common.{subst, ◌<◌, length, slice_index, arith, ◌≡◌, ◌==◌, ◌++◌, ◌∷◌, ◌∙◌, [], ℕ, List, Bool, Option, Some, None, refl, sym, ap, true, false, not, append_assoc, append-nil, inl, inr}
 use Rattle.std.specs.Prelude.{option_map}
-use Rattle.std.specs.Io.KnownBytes.{Consumes, prepend_known}
+use Rattle.std.specs.Io.KnownBytes.{Consumes, Keeps, prepend_known}
 use Rattle.std.specs.List.{list_any}
 use Rattle.std.proofs.lemmas.Bool.{and_from, and_parts, cases_Bool, eqb-true, not-true, or_parts}
 use Rattle.std.proofs.lemmas.List.Folds.{list_any-append, list_any_at}
@@ -10,7 +10,7 @@ use Rattle.csv.specs.Reading.{default_config, strip_bom}
 use Rattle.csv.specs.declared.parser.State.{State}
 use Rattle.csv.specs.declared.parser.State.TheVariants as st
 use Rattle.msrp_text.specs.Plain.{EndsLine, is_mark, is_plain, split_commas, split_from}
-use Rattle.msrp_text.specs.Records.{GivesLine, csv_records, records_at, records_of}
+use Rattle.msrp_text.specs.Records.{GivesLine, KeepsRecords, csv_records, records_at, records_of}
 use Rattle.msrp_text.proofs.Remaining.{records-unfold}
 
 -- a byte that is no quote starts a field as it goes on in one
@@ -94,10 +94,14 @@ pub next-return : (line tail : List ℕ) → is_plain line ≡ true
     → next_record default_config st.StartRecord [] [] (line ++ (13 ∷ tail)) ≡ Some (split_commas line, st.AfterCr, tail)
 next-return line tail e = next-ended 13 st.AfterCr tail (return-ends tail) refl line e
 
--- a line feed after a carriage return is none of its own
-feed-skips : (tail : List ℕ) → next_record default_config st.AfterCr [] [] (10 ∷ tail) ≡ next_record default_config st.StartRecord [] [] tail
+-- a record starts after a carriage return as it does elsewhere: a line feed there is an empty line
+after-return : (tail : List ℕ) → next_record default_config st.AfterCr [] [] tail ≡ next_record default_config st.StartRecord [] [] tail
 unfolding next_record
-feed-skips tail = refl
+after-return [] = refl
+after-return (b ∷ tail) = elim (cases_Bool (b == 10)) [
+  | inl feed ↦ subst (λ n. next_record default_config st.AfterCr [] [] (n ∷ tail) ≡ next_record default_config st.StartRecord [] [] (n ∷ tail)) (sym (eqb-true b 10 feed)) refl
+  | inr other ↦ rw other refl
+]
 
 -- an empty line is no record
 pub next-empty : (tail : List ℕ) → next_record default_config st.StartRecord [] [] (10 ∷ tail) ≡ next_record default_config st.StartRecord [] [] tail
@@ -112,12 +116,12 @@ records-line line tail e = records-unfold st.StartRecord (line ++ (10 ∷ tail))
 pub records-empty : (tail : List ℕ) → records_at st.StartRecord (10 ∷ tail) ≡ records_at st.StartRecord tail
 records-empty tail = records-unfold st.StartRecord (10 ∷ tail) _ (next-empty tail) ∙ sym (records-unfold st.StartRecord tail _ refl)
 
--- the records of a text that goes on with a plain line, ended by a carriage return and a line feed
-pub records-return : (line tail : List ℕ) → is_plain line ≡ true → records_at st.StartRecord (line ++ (13 ∷ 10 ∷ tail)) ≡ split_commas line ∷ records_at st.StartRecord tail
+-- the records of a text that goes on with a plain line, ended by a carriage return
+pub records-return : (line tail : List ℕ) → is_plain line ≡ true → records_at st.StartRecord (line ++ (13 ∷ tail)) ≡ split_commas line ∷ records_at st.StartRecord tail
 records-return line tail e =
-    records-unfold st.StartRecord (line ++ (13 ∷ 10 ∷ tail)) _ (next-return line (10 ∷ tail) e)
+    records-unfold st.StartRecord (line ++ (13 ∷ tail)) _ (next-return line tail e)
     ∙ ap (λ (rs : List (List (List ℕ))). split_commas line ∷ rs)
-    (records-unfold st.AfterCr (10 ∷ tail) _ (feed-skips tail) ∙ sym (records-unfold st.StartRecord tail _ refl))
+    (records-unfold st.AfterCr tail _ (after-return tail) ∙ sym (records-unfold st.StartRecord tail _ refl))
 
 -- a text whose first byte is not that of a byte order mark begins with none
 pub no-bom : (b : ℕ) (rest : List ℕ) → (b == 239) ≡ false → strip_bom (b ∷ rest) ≡ b ∷ rest
@@ -174,20 +178,18 @@ begins : (begun : Bool) (rest : List ℕ) (b : ℕ) → not (b == 239) ≡ true 
 begins true rest b h = refl
 begins false rest b h = rw (no-bom b rest (not-true _ h)) refl
 
+-- a text that begins with a plain line and a mark
+marked-first : (begun : Bool) (line mark text rest : List ℕ) → text ≡ line ++ mark → is_plain line ≡ true → records_of begun (text ++ rest) ≡ records_at st.StartRecord (line ++ (mark ++ rest))
+marked-first begun [] mark text rest e plain = cc plain
+marked-first begun (b ∷ line) mark text rest e plain =
+    ap (λ (t : List ℕ). records_of begun (t ++ rest)) e ∙ begins begun ((line ++ mark) ++ rest) b (and_parts _ _ plain).0 ∙ ap (records_at st.StartRecord) (append_assoc (b ∷ line) mark rest)
+
 -- a plain line with its end is the first record
-fed-first : (begun : Bool) (line rest : List ℕ) → is_plain line ≡ true → records_of begun ((line ++ (10 ∷ [])) ++ rest) ≡ split_commas line ∷ records_at st.StartRecord rest
-fed-first begun [] rest plain = cc plain
-fed-first begun (b ∷ line) rest plain =
-    begins begun ((line ++ (10 ∷ [])) ++ rest) b (and_parts _ _ plain).0 ∙ ap (records_at st.StartRecord) (append_assoc (b ∷ line) (10 ∷ []) rest) ∙ records-line (b ∷ line) rest plain
-
-returned-first : (begun : Bool) (line rest : List ℕ) → is_plain line ≡ true → records_of begun ((line ++ (13 ∷ 10 ∷ [])) ++ rest) ≡ split_commas line ∷ records_at st.StartRecord rest
-returned-first begun [] rest plain = cc plain
-returned-first begun (b ∷ line) rest plain =
-    begins begun ((line ++ (13 ∷ 10 ∷ [])) ++ rest) b (and_parts _ _ plain).0 ∙ ap (records_at st.StartRecord) (append_assoc (b ∷ line) (13 ∷ 10 ∷ []) rest) ∙ records-return (b ∷ line) rest plain
-
 ended-first : (begun : Bool) (line text rest : List ℕ) → EndsLine line text → is_plain line ≡ true → records_of begun (text ++ rest) ≡ split_commas line ∷ records_at st.StartRecord rest
-ended-first begun line text rest (inl e) plain = ap (λ (t : List ℕ). records_of begun (t ++ rest)) e ∙ fed-first begun line rest plain
-ended-first begun line text rest (inr e) plain = ap (λ (t : List ℕ). records_of begun (t ++ rest)) e ∙ returned-first begun line rest plain
+ended-first begun line text rest (inl e) plain = marked-first begun line (10 ∷ []) text rest e plain ∙ records-line line rest plain
+ended-first begun line text rest (inr (inl e)) plain = marked-first begun line (13 ∷ []) text rest e plain ∙ records-return line rest plain
+ended-first begun line text rest (inr (inr e)) plain =
+    marked-first begun line (13 ∷ 10 ∷ []) text rest e plain ∙ records-return line (10 ∷ rest) plain ∙ ap (λ (rs : List (List (List ℕ))). split_commas line ∷ rs) (records-empty rest)
 
 -- a plain line that was taken with its end was the next record
 pub taken-line : (begun : Bool) (old new : Option (List ℕ)) (line text : List ℕ) → Consumes old new text → EndsLine line text → is_plain line ≡ true
@@ -198,6 +200,20 @@ taken-line begun (Some xs) (Some ys) line text h ended plain left known =
     let from : records_of begun xs ≡ left = cc in
     let all : left ≡ split_commas line ∷ records_at st.StartRecord ys = sym from ∙ ap (records_of begun) h ∙ ended-first begun line text ys ended plain in
     rw all (refl, refl, refl)
+
+-- bytes that are left still hold the same records
+pub kept-records : (begun still : Bool) (old new : Option (List ℕ)) → Keeps old new → still ≡ begun → KeepsRecords (option_map (records_of begun) old) (option_map (records_of still) new)
+kept-records begun still None new h e left known = cc known
+kept-records begun still (Some xs) None h e left known = absurd h
+kept-records begun still (Some xs) (Some ys) h e left known = rw (e, h) known
+
+-- a line feed that was taken was no record
+pub taken-feed : (begun : Bool) (old new : Option (List ℕ)) → Consumes old new (10 ∷ []) → KeepsRecords (option_map (records_of begun) old) (option_map (records_of true) new)
+taken-feed begun None new h left known = cc known
+taken-feed begun (Some xs) None h left known = absurd h
+taken-feed begun (Some xs) (Some ys) h left known =
+    let from : records_of begun xs ≡ left = cc in
+    ap (λ (rs : List (List (List ℕ))). Some rs) (sym (records-empty ys) ∙ sym (begins begun ys 10 refl) ∙ sym (ap (records_of begun) h) ∙ from)
 
 -- the records of a text are those from its start
 csv-start : (bytes : List ℕ) → csv_records bytes ≡ records_of false bytes

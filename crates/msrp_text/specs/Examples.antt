@@ -16,6 +16,15 @@ one_task_plan = record {
   tasks = record { name = codes "a"; core = 0; times = Every 3 0; deadline = 3; units = replicate 2 Run } ∷ [];
 }
 
+-- task a on core 0, with period 7, deadline 5 and offset 2 and one unit of work
+abbrev pub offset_plan : PlanModel
+offset_plan = record {
+  cores = 1;
+  ticks = 9;
+  resources = [];
+  tasks = record { name = codes "a"; core = 0; times = Every 7 2; deadline = 5; units = Run ∷ [] } ∷ [];
+}
+
 -- task a on core 0, with deadline 4 and one unit of work, released in ticks 1 and 3
 abbrev pub listed_plan : PlanModel
 listed_plan = record {

@@ -24,9 +24,9 @@ split_from field (b ∷ rest) = if b == 44 then field ∷ split_from [] rest els
 abbrev pub split_commas : List ℕ → List (List ℕ)
 split_commas line = split_from [] line
 
--- a text is a line and its end: a line feed, or a carriage return and a line feed
+-- a text is a line and its end: a line feed, a carriage return, or both
 abbrev pub EndsLine : List ℕ → List ℕ → Type 0
-EndsLine line text = (text ≡ line ++ (10 ∷ [])) ⊎ (text ≡ line ++ (13 ∷ 10 ∷ []))
+EndsLine line text = (text ≡ line ++ (10 ∷ [])) ⊎ (text ≡ line ++ (13 ∷ [])) ⊎ (text ≡ line ++ (13 ∷ 10 ∷ []))
 
 -- a plain line stands at the front of a text, and these are its fields
 pub record IsFront (text : List ℕ) (line : PlainLine) (row : List (List ℕ)) : Type 0 where

@@ -118,8 +118,11 @@ task_record_fault plan fields =
     task_fault plan (task_told fields)))
 
 -- `op,run,N`, `op,lock,NAME` or `op,unlock,NAME`
+abbrev pub is_lock_word : List (List ℕ) → Bool
+is_lock_word fields = has_word fields 1 (codes "lock") || has_word fields 1 (codes "unlock")
+
 abbrev pub is_op_word : List (List ℕ) → Bool
-is_op_word fields = has_word fields 1 (codes "run") || (has_word fields 1 (codes "lock") || has_word fields 1 (codes "unlock"))
+is_op_word fields = has_word fields 1 (codes "run") || is_lock_word fields
 
 abbrev pub op_record_fault : PlanModel → List (List ℕ) → Option PlanFault
 op_record_fault plan fields =

@@ -1,9 +1,9 @@
 //! Plain lines, whose fields stand between commas: a plain line isn't empty, has no quote, doesn't begin as a byte order mark does, is
-//! shorter than [`LONGEST`], and ends with LF or CRLF.
+//! shorter than [`LONGEST`], and ends with LF, CR or CRLF.
 ghost use Rattle.std.specs.Prelude.{◌≡◌, ◌==◌, ◌&&◌, ◌||◌, ◌≤◌, ◌<◌, ◌⊎◌, ◌++◌, ◌∷◌, ℕ, List, [], IfOk, IsSome, true, false, slice_index, length, take, drop};
 ghost use Rattle.std.specs.Option.{IfSome};
 ghost use Rattle.csv.specs.Records.{fields_of, partial_of};
-ghost use Rattle.msrp_text.specs.Plain.{BeginsWith, EndsLine, IsInLine, Stands, is_plain, split_commas, split_from};
+ghost use Rattle.msrp_text.specs.Plain.{BeginsWith, EndsLine, Stands, is_plain, split_commas, split_from};
 
 use csv::ByteRecord;
 use std::alloc::AllocError;
@@ -19,7 +19,7 @@ const MARK: u8 = 0xEF;
 pub(crate) struct PlainLine {
     /// Its bytes, without its end.
     pub(crate) length: usize,
-    /// Its bytes with its end: a line feed, or a carriage return and a line feed.
+    /// Its bytes with its end. Where a carriage return is all that is there of the end, a line feed may come after it.
     pub(crate) taken: usize,
 }
 
@@ -63,22 +63,15 @@ fn front_to(text: &[u8], start: usize, at: usize, row: &mut ByteRecord) -> Resul
     requires plain { 0 < at → is_plain (take at text.now) ≡ true }
     requires whole { partial_of row.old ≡ [] }
     requires fields { split_commas (take at text.now) ≡ fields_of row.old ++ (drop start (take at text.now) ∷ []) }
-    requires before { IsInLine at text.now }
     ensures { IfOk result (λ front. Stands text.now (fields_of row.new) front) }
 {
     if at == 0 {
         return Ok(Front::Other);
     }
-    if text[at] == b'\n' {
-        return line_to(text, start, at, at + 1, row);
-    }
-    if at + 1 == text.len() {
-        return Ok(Front::Part);
-    }
-    if text[at + 1] == b'\n' {
+    if text[at] == b'\r' && at + 1 < text.len() && text[at + 1] == b'\n' {
         return line_to(text, start, at, at + 2, row);
     }
-    Ok(Front::Other)
+    line_to(text, start, at, at + 1, row)
 }
 
 // Whether a byte at that place is in no plain line: a quote, and at the start what may begin a byte order mark.
@@ -138,6 +131,9 @@ pub(crate) fn line_met(text: &[u8], front: &[u8], rest: &[u8]) -> Option<usize>
     }
     if end.starts_with(b"\r\n") {
         return Some(length + 2);
+    }
+    if end.starts_with(b"\r") {
+        return Some(length + 1);
     }
     None
 }

@@ -1,10 +1,11 @@
 //! The bytes of a text, some of them read ahead, and the plain lines at their front.
 ghost use Rattle.std.specs.Prelude.{◌≡◌, ◌≤◌, ◌<◌, ◌+◌, ◌++◌, ◌⊎◌, ℕ, List, [], None, IfOk, true, false, length, take};
+ghost use Rattle.msrp_text.specs.declared.front.TheConstants.{LONGEST};
 ghost use Rattle.msrp_text.specs.declared.lines.TheConstants.{ROOM};
 ghost use Rattle.std.specs.Io.{ReadsAtMost};
 ghost use Rattle.std.specs.Io.KnownBytes.{IsAtEnd, Keeps, ReadConsumes};
 ghost use Rattle.csv.specs.Records.{fields_of};
-ghost use Rattle.msrp_text.specs.Plain.{EndsLine, IsPeeked, is_plain, split_commas};
+ghost use Rattle.msrp_text.specs.Plain.{EndsLine, IsPeeked, NoLine, is_plain, split_commas};
 
 use crate::csv_records::CsvRecords;
 use crate::front::{Front, PlainLine, front_of};
@@ -76,12 +77,28 @@ impl<R: Read> Lines<R> {
         self.begun = true;
     }
 
+    // Passes over a line feed that comes next: an empty line is no record. It may be what is left of the end of the line before,
+    // whose carriage return was the last byte that was there.
+    fn pass_feed(&mut self)
+        ensures none { NoLine LONGEST (lines_ahead self.new) → NoLine LONGEST (lines_ahead self.old) }
+        ensures same { KeepsRecords (records_ahead R.remaining self.old) (records_ahead R.remaining self.new) }
+    {
+        if self.at == self.end {
+            self.fetch();
+        }
+        if self.ahead().starts_with(b"\n") {
+            self.at += 1;
+            self.begun = true;
+        }
+    }
+
     /// The plain line that is next, if one is: its fields into `row`. It is not taken. As much is read as it takes.
     pub(crate) fn peek(&mut self, row: &mut ByteRecord) -> Result<Option<PlainLine>, AllocError>
         ensures line { IfOk result (λ found. IsPeeked (lines_ahead self.new) (fields_of row.new) found) }
-        ensures grows { (more : List ℕ) × (lines_ahead self.new ≡ lines_ahead self.old ++ more) }
+        ensures none { NoLine LONGEST (lines_ahead self.new) → NoLine LONGEST (lines_ahead self.old) }
         ensures same { KeepsRecords (records_ahead R.remaining self.old) (records_ahead R.remaining self.new) }
     {
+        self.pass_feed();
         loop {
             match front_of(self.ahead(), row)? {
                 Front::Line(line) => return Ok(Some(line)),

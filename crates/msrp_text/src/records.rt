@@ -48,7 +48,7 @@ fn by_csv<R: Read>(way: Way<R>, alloc: Global) -> (Way<R>, ())
 /// record.
 ///
 /// Plain lines are taken as they stand. A plain line isn't empty, has no quote, doesn't begin as a byte order mark does, is shorter than
-/// [`LONGEST`], and ends with LF or CRLF. The first line that isn't plain and all that comes after it is read by `csv`.
+/// [`LONGEST`], and ends with LF, CR or CRLF. The first line that isn't plain and all that comes after it is read by `csv`.
 #[derive(Drop)]
 pub struct RecordReader<R> {
     alloc: Global,
@@ -87,7 +87,7 @@ impl<R: Read> RecordReader<R> {
         }
     }
 
-    /// Whether the text goes on with these two texts and the end of a line (LF or CRLF). Where it does, that line is taken; else
+    /// Whether the text goes on with these two texts and the end of a line (LF, CR or CRLF). Where it does, that line is taken; else
     /// nothing is. Where no whole line was read ahead, more is read; a line of [`LONGEST`] bytes or more may not be met there.
     #[inline]
     pub fn meets(&mut self, front: &[u8], rest: &[u8]) -> bool
@@ -158,7 +158,7 @@ impl<R: Read> RecordReader<R> {
     // ahead. It is not taken. Where memory is refused for its fields, no read has failed before.
     fn peek_line(&mut self, row: &mut ByteRecord) -> Result<Option<PlainLine>, AllocError>
         ensures line { IfOk result (λ found. IsPeeked (bytes_ahead self.new) (fields_of row.new) found) }
-        ensures grows { (more : List ℕ) × (bytes_ahead self.new ≡ bytes_ahead self.old ++ more) }
+        ensures none { NoLine LONGEST (bytes_ahead self.new) → NoLine LONGEST (bytes_ahead self.old) }
         ensures same { KeepsRecords (records_left R.remaining self.old) (records_left R.remaining self.new) }
         ensures stop { stop_of self.new ≡ stop_of self.old }
         ensures way { reads_csv self.new ≡ reads_csv self.old }

@@ -3,7 +3,7 @@ ghost use Rattle.std.specs.Prelude.{◌≡◌, Some, None, true};
 ghost use Rattle.csv.specs.Records.{fields_of};
 ghost use Rattle.msrp_plan.specs.Building.{empty_plan, units_of, with_release, with_resource, with_task, with_units};
 ghost use Rattle.msrp_text.specs.Fields.{name_at};
-ghost use Rattle.msrp_text.specs.Reading.{body_fault, cores_fault, is_op_word, list_fault, listed_record_fault, listed_told, number_told, op_record_fault, release_record_fault, resource_record_fault, resource_told, step_told, task_record_fault, task_told, ticks_fault, version_fault, version_told, with_list_record, with_record};
+ghost use Rattle.msrp_text.specs.Reading.{body_fault, cores_fault, is_lock_word, is_op_word, list_fault, listed_record_fault, listed_told, number_told, op_record_fault, release_record_fault, resource_record_fault, resource_told, step_told, task_record_fault, task_told, ticks_fault, version_fault, version_told, with_list_record, with_record};
 ghost use Rattle.msrp_text.specs.Stages.{IsTaken, numbered_step, stage_fault, stage_plan, stage_with, task_numbers};
 
 use crate::fields::{has_word, name_at, number_at};
@@ -156,11 +156,18 @@ fn step_told(builder: &PlanBuilder, row: &ByteRecord) -> Option<Step>
     }
 }
 
+// Whether an operation's record is of a lock or an unlock.
+fn is_lock_word(row: &ByteRecord) -> bool
+    ensures { result ≡ is_lock_word (fields_of row.now) }
+{
+    has_word(row, 1, b"lock") || has_word(row, 1, b"unlock")
+}
+
 // Whether an operation's record has one of the three words.
 fn is_op_word(row: &ByteRecord) -> bool
     ensures { result ≡ is_op_word (fields_of row.now) }
 {
-    has_word(row, 1, b"run") || has_word(row, 1, b"lock") || has_word(row, 1, b"unlock")
+    has_word(row, 1, b"run") || is_lock_word(row)
 }
 
 // Units of the newest task.

@@ -2,7 +2,7 @@
 //! the refusal. Each function does nothing; its contract is the example.
 ghost use Rattle.std.specs.Prelude.{◌≡◌, ◌++◌, codes, Ok};
 ghost use Rattle.msrp_text.specs.Reading.{csv_records, plan_of};
-ghost use Rattle.msrp_text.specs.Examples.{bare_list, head, listed_head, listed_plan, locking_plan, one_task_plan, refused};
+ghost use Rattle.msrp_text.specs.Examples.{bare_list, head, listed_head, listed_plan, locking_plan, offset_plan, one_task_plan, refused};
 ghost use Rattle.msrp_plan.specs.declared.faults.PlanFault.TheVariants.{Version, OutOfPlace, FieldCount, Number, Name, Taken, Limit, Undeclared, Core, NoUnit, Releases};
 
 /// One task, which works for two ticks of three; also with its work told in two records, and with fields in
@@ -29,6 +29,7 @@ pub fn first_records()
 
 /// Records of tasks, after the first three with one core.
 pub fn tasks()
+    ensures three_numbers { plan_of (csv_records (head ++ codes "task,a,0,7,5,2\nop,run,1\n")) ≡ Ok offset_plan }
     ensures capital { plan_of (csv_records (head ++ codes "task,A,0,3,3,0\n")) ≡ refused Name 4 }
     ensures no_such_core { plan_of (csv_records (head ++ codes "task,a,1,3,3,0\n")) ≡ refused Core 4 }
     ensures no_period { plan_of (csv_records (head ++ codes "task,a,0,0,3,0\n")) ≡ refused Limit 4 }
@@ -66,6 +67,8 @@ pub fn release_lists()
     ensures first { plan_of (csv_records (listed_head ++ codes "release\n")) ≡ refused OutOfPlace 4 }
     ensures no_deadline { plan_of (csv_records (listed_head ++ codes "listed,a,0\n")) ≡ refused FieldCount 4 }
     ensures no_number { plan_of (csv_records (listed_head ++ codes "listed,A,0,04\n")) ≡ refused Number 4 }
+    ensures unknown { plan_of (csv_records (listed_head ++ codes "foo\n")) ≡ refused OutOfPlace 4 }
+    ensures misspelt { plan_of (csv_records (bare_list ++ codes "relaese,1\n")) ≡ refused OutOfPlace 5 }
 {}
 
 /// Records of units, after a task.

@@ -449,19 +449,29 @@ fn each_read_fails_in_turn(rt: HostRuntime) -> Result<(), Fail> {
     Ok(())
 }
 
-// A record that is whole before the read that fails is judged.
+// A record that is whole before the read that fails is judged, whatever ends its line.
 #[test]
 fn refused_before_a_read_fails(rt: HostRuntime) {
-    let text = b"msrp,1\nsomething\ncores,1\n";
-    for (call, refused) in [(17u32, false), (18, true), (19, true), (26, true)] {
-        let (answer, _) = halted(rt.alloc(), text, call);
-        let due = TextError::At {
-            fault: PlanFault::OutOfPlace,
-            number: 2,
-        };
-        match answer {
-            Err(error) => assert_eq!(rt; error, if refused { due } else { TextError::Read }),
-            Ok(_) => assert!(rt; false),
+    let texts: [(&[u8], u32); 3] = [
+        (b"msrp,1\nsomething\ncores,1\n", 17),
+        (b"msrp,1\rsomething\rcores,1\r", 17),
+        (b"msrp,1\r\nsomething\r\ncores,1\r\n", 18),
+    ];
+    for (text, whole) in texts {
+        for call in 1..=28u32 {
+            let due = if call > whole {
+                TextError::At {
+                    fault: PlanFault::OutOfPlace,
+                    number: 2,
+                }
+            } else {
+                TextError::Read
+            };
+            let (answer, _) = halted(rt.alloc(), text, call);
+            match answer {
+                Err(error) => assert_eq!(rt; error, due),
+                Ok(_) => assert!(rt; false),
+            }
         }
     }
 }

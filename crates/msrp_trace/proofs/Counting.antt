@@ -1,9 +1,11 @@
 -- Numbers as texts: the next one.
-use Rattle.std.proofs.Common.{◌≡◌, ℕ, List, [], ◌∷◌, ◌++◌, ◌+◌, ◌-◌, ◌/◌, ◌%◌, ◌<◌, ◌^◌, length, take, ap, sym, ◌∙◌, arith, inl, inr}
+use Rattle.std.proofs.Common.{◌≡◌, ℕ, List, [], ◌∷◌, ◌++◌, ◌+◌, ◌-◌, ◌/◌, ◌%◌, ◌<◌, ◌^◌, slice_index, length, take, ap, sym, ◌∙◌, arith, inl, inr}
 use Rattle.std.specs.Prelude.{decimal}
 use Rattle.std.proofs.lemmas.Bool.{cases_lt}
-use Rattle.std.proofs.lemmas.List.{length-append, take-append-le, take_all}
-use Rattle.std.proofs.lemmas.Fmt.{decimal_digit, decimal_step}
+use Rattle.std.proofs.Math.ListN.{get_or-append}
+use Rattle.std.proofs.Math.Seq.{get_or-append_seam}
+use Rattle.std.proofs.lemmas.List.{length-append, length-take-le, take-append-le, take_all}
+use Rattle.std.proofs.lemmas.Fmt.{decimal_digit, decimal_nonempty, decimal_step}
 
 without_last : (xs : List ℕ) (x : ℕ) → take (length (xs ++ x ∷ []) - 1) (xs ++ x ∷ []) ≡ xs
 without_last xs x =
@@ -24,3 +26,41 @@ next_decimal n m next some small = elim (cases_lt m 10) [
       ∙ (ap (λ l. l ++ (48 + m % 10) ∷ []) (without_last (decimal (n / 10)) (48 + n % 10))
       ∙ (ap (λ k. decimal k ++ (48 + m % 10) ∷ []) front ∙ sym (decimal_step m high small)))
 ]
+
+-- the last digit of a number
+last_of : (xs : List ℕ) (x : ℕ) → slice_index (xs ++ x ∷ []) (length (xs ++ x ∷ []) - 1) ≡ x
+last_of xs x = let size = length-append xs (x ∷ []) in ap (slice_index (xs ++ x ∷ [])) (omega (arith, size)) ∙ get_or-append_seam xs x [] 0
+
+last_digit : (n : ℕ) → n < 2 ^ 64 → slice_index (decimal n) (length (decimal n) - 1) ≡ 48 + n % 10
+last_digit n small = elim (cases_lt n 10) [
+  | inl low ↦ ap (λ l. slice_index l (length l - 1)) (decimal_digit n low) ∙ omega (arith, low)
+  | inr high ↦ ap (λ l. slice_index l (length l - 1)) (decimal_step n high small) ∙ last_of (decimal (n / 10)) (48 + n % 10)
+]
+
+-- a number that doesn't end in 0 is as long as the one before, and has another last digit
+next_size : (n : ℕ) → 0 < (n + 1) % 10 → n + 1 < 2 ^ 32 → length (decimal (n + 1)) ≡ length (decimal n)
+next_size n some small =
+    let all = ap length (next_decimal n (n + 1) (omega arith) some (omega (arith, small))) in
+    let most = decimal_nonempty n (omega (arith, small)) in
+    let size = length-append (take (length (decimal n) - 1) (decimal n)) ((48 + (n + 1) % 10) ∷ []) in
+    let front = length-take-le (length (decimal n) - 1) (decimal n) (omega arith) in
+    omega (arith, all, most, size, front)
+
+pub next_within : (n : ℕ) (text rest : List ℕ) → text ≡ decimal (n + 1) ++ rest → 0 < (n + 1) % 10 → n + 1 < 2 ^ 32 → (length (decimal n) - 1 < length text) × (length (decimal n) - 1 < length (decimal n))
+next_within n text rest e some small =
+    let size = next_size n some small in
+    let most = decimal_nonempty n (omega (arith, small)) in
+    let all = ap length e ∙ length-append (decimal (n + 1)) rest in
+    (omega (arith, size, most, all), omega (arith, most))
+
+pub next_differs : (n : ℕ) (text rest : List ℕ) → text ≡ decimal (n + 1) ++ rest → 0 < (n + 1) % 10 → n + 1 < 2 ^ 32
+    → slice_index text (length (decimal n) - 1) ≡ slice_index (decimal n) (length (decimal n) - 1) → ⊥
+next_differs n text rest e some small same =
+    let size = next_size n some small in
+    let most = decimal_nonempty n (omega (arith, small)) in
+    let here = last_digit n (omega (arith, small)) in
+    let next = last_digit (n + 1) (omega (arith, small)) in
+    let there : slice_index text (length (decimal n) - 1) ≡ 48 + (n + 1) % 10 =
+    ap (λ (t : List ℕ). slice_index t (length (decimal n) - 1)) e ∙ get_or-append (decimal (n + 1)) rest 0 (length (decimal n) - 1) (omega (arith, size, most)) ∙ ap (λ k. slice_index (decimal (n + 1)) (k - 1)) (sym size) ∙ next in
+    let both : 48 + (n + 1) % 10 ≡ 48 + n % 10 = sym there ∙ same ∙ here in
+    omega (arith, both)

@@ -1,5 +1,5 @@
--- The texts that are kept of rows that were foreseen.
-use Rattle.std.specs.Prelude.{◌≡◌, ◌%◌, slice_index_or}
+-- What is foreseen of a row: the texts that are kept of it, and what it may name.
+use Rattle.std.specs.Prelude.{◌≡◌, ℕ, ◌%◌, slice_index_or}
 use Rattle.std.specs.List.{All}
 use Rattle.msrp_plan.specs.Plan.{PlanModel}
 use Rattle.msrp_plan.specs.declared.rows.Row.{Row}
@@ -7,7 +7,14 @@ use Rattle.msrp_plan.specs.declared.rows.TextVersion.{TextVersion}
 use Rattle.msrp_trace.specs.Gathering.{after_tick}
 use Rattle.msrp_trace.specs.Lines.{IsLine, IsWhole}
 use Rattle.msrp_trace.specs.declared.foreseen.Foreseen.{Foreseen}
+use Rattle.msrp_trace.specs.declared.guesses.Guess.{Guess}
+use Rattle.msrp_trace.specs.declared.guesses.Guesses.{Guesses}
+use Rattle.msrp_trace.specs.declared.guesses.TheConstants.{FIRST}
 use Rattle.msrp_trace.specs.declared.line.RowLine.{RowLine}
+
+-- what the next row of a core may name, as its last row did
+abbrev pub guess_of : Guesses → ℕ → Guess
+guess_of guesses core = slice_index_or guesses.of_core core FIRST
 
 -- what is kept of each core's last row is the text of that row, which is read as it was written
 abbrev pub AreTexts : TextVersion → PlanModel → Foreseen → Type 0

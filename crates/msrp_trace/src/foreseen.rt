@@ -1,5 +1,5 @@
 //! Rows that a caller foresees, as the texts that would tell them.
-ghost use Rattle.std.specs.Prelude.{ℕ, List, ◌%◌, slice_index_or, ◌≡◌, ◌++◌, codes, decimal, length, true};
+ghost use Rattle.std.specs.Prelude.{ℕ, List, ◌+◌, ◌<◌, ◌^◌, ◌%◌, false, slice_index, slice_index_or, ◌≡◌, ◌++◌, codes, decimal, length, true};
 ghost use Rattle.std.specs.List.{All};
 ghost use Rattle.std.specs.Option.{IfSome};
 ghost use Rattle.msrp_plan.specs.WellFormed.{IsPlan};
@@ -84,6 +84,16 @@ pub(crate) fn is_told_whole(plan: &Plan, version: TextVersion, row: &Row) -> boo
     is_named(plan, row) && has_short_numbers(row) && has_told_ahead(version, row)
 }
 
+// Whether a text has another byte at a place than one that has a byte there.
+#[inline(always)]
+fn differs_at(text: &[u8], other: &[u8], place: usize) -> bool
+    ensures within { result ≡ true → place < length other.now }
+    ensures differs { result ≡ true → ¬ (slice_index text.now place ≡ slice_index other.now place) }
+    ensures same { result ≡ false → place < length text.now → place < length other.now → slice_index text.now place ≡ slice_index other.now place }
+{
+    place < text.len() && place < other.len() && text[place] != other[place]
+}
+
 impl Foreseen {
     ghost use Rattle.msrp_trace.specs.Foreseen.{AreTexts, AreTextsOf};
 
@@ -123,11 +133,13 @@ impl Foreseen {
     /// Turns to the tick that a text begins with, guessed by its last digit: the one that is here or the next.
     #[inline(always)]
     pub(crate) fn turn_to(&mut self, text: &[u8])
-        ensures { (version : TextVersion) (plan : PlanModel) → AreTexts version plan self.old → AreTexts version plan self.new }
+        ensures texts { (version : TextVersion) (plan : PlanModel) → AreTexts version plan self.old → AreTexts version plan self.new }
+        ensures here { (rest : List ℕ) → text.now ≡ decimal self.old.tick.tick ++ rest → self.new.tick.tick ≡ self.old.tick.tick }
+        ensures next { (rest : List ℕ) → text.now ≡ decimal (self.old.tick.tick + 1) ++ rest → 0 < (self.old.tick.tick + 1) % 10 → self.old.tick.tick + 1 < 2 ^ 32 → self.new.tick.tick ≡ self.old.tick.tick + 1 }
     {
         let here = self.tick();
         let last = here.len().saturating_sub(1);
-        if text.get(last) != here.get(last) {
+        if differs_at(text, here, last) {
             self.tick.show(self.tick.number().saturating_add(1));
         }
     }

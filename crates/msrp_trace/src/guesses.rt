@@ -1,4 +1,7 @@
 //! What a row may name, guessed.
+ghost use Rattle.std.specs.Prelude.{◌≡◌, ◌<◌};
+ghost use Rattle.std.specs.Option.{IfSome};
+ghost use Rattle.msrp_plan.specs.Limits.{most_cores};
 
 use msrp_plan::limits::MOST_CORES;
 use msrp_plan::{ResId, Row, TaskId};
@@ -24,6 +27,8 @@ pub(crate) struct Guesses {
 }
 
 impl Guesses {
+    ghost use Rattle.msrp_trace.specs.Foreseen.{guess_of};
+
     /// Before any row.
     pub(crate) fn new() -> Guesses {
         Guesses {
@@ -32,7 +37,9 @@ impl Guesses {
     }
 
     /// What the next row of a core may name.
-    pub(crate) fn of(&self, core: u32) -> Guess {
+    pub(crate) fn of(&self, core: u32) -> Guess
+        ensures { result ≡ guess_of self.now core }
+    {
         let core = core as usize;
         if core < self.of_core.len() {
             self.of_core[core]
@@ -42,7 +49,10 @@ impl Guesses {
     }
 
     /// Keeps what a row named.
-    pub(crate) fn keep(&mut self, row: &Row) {
+    pub(crate) fn keep(&mut self, row: &Row)
+        ensures task { row.now.core.0 < most_cores → IfSome row.now.job (λ job. (guess_of self.new row.now.core.0).task ≡ job.task) }
+        ensures res { row.now.core.0 < most_cores → IfSome row.now.res (λ res. (guess_of self.new row.now.core.0).res ≡ res) }
+    {
         let core = row.core.0 as usize;
         if core < self.of_core.len() {
             let last = self.of_core[core];

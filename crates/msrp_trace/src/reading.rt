@@ -7,7 +7,7 @@ ghost use Rattle.csv.specs.Records.{fields_of};
 ghost use Rattle.msrp_text.specs.Records.{csv_records, reader_under};
 ghost use Rattle.msrp_plan.specs.WellFormed.{IsPlan};
 ghost use Rattle.msrp_trace.specs.Foreseen.{AreTexts, AreTextsOf};
-ghost use Rattle.msrp_trace.specs.Laws.{is_told_whole};
+ghost use Rattle.msrp_trace.specs.Laws.{as_read, is_told_whole};
 ghost use Rattle.msrp_trace.specs.Reading.{Told};
 ghost use Rattle.msrp_trace.specs.RowParts.{ReadsAt};
 ghost use Rattle.msrp_trace.specs.Rows.{row_fault, row_told};
@@ -56,7 +56,9 @@ pub struct TraceReader<'a, R> {
 }
 
 // A row as a text of the version tells it: version 1 leaves out the ahead.
-fn told_in(version: TextVersion, row: Row) -> Row {
+fn told_in(version: TextVersion, row: Row) -> Row
+    ensures { result ≡ as_read version row }
+{
     match version {
         TextVersion::V1 => Row {
             tick: row.tick,

@@ -37,7 +37,17 @@ returns-then-starts_with-2-clause-line c =
     let second = strip_prefix_is Decides-eqb middle.now c.args.rest.now (Some end) c.in_ok-end.ensures.cases in
     let third = (starts_is Decides-eqb end.now (13 ∷ 10 ∷ []) _ c.starts_with-2.ensures.value).0 c.if-starts_with-2.true in
     let ends = line-ends c.args.text.now c.args.front.now c.args.rest.now middle.now end.now (13 ∷ 10 ∷ []) _ first second third in
-    (omega arith, ends.0, inr ends.1)
+    (omega arith, ends.0, inr (inr ends.1))
+
+pub returns-then-starts_with-3-clause-line : goal.returns-then-starts_with-3-clause-line
+returns-then-starts_with-3-clause-line c =
+    let middle = c.in_ok-strip_prefix.field-0 in
+    let end = c.in_ok-end.end in
+    let first = strip_prefix_is Decides-eqb c.args.text.now c.args.front.now (Some middle) c.in_ok-strip_prefix.ensures.cases in
+    let second = strip_prefix_is Decides-eqb middle.now c.args.rest.now (Some end) c.in_ok-end.ensures.cases in
+    let third = (starts_is Decides-eqb end.now (13 ∷ []) _ c.starts_with-3.ensures.value).0 c.if-starts_with-3.true in
+    let ends = line-ends c.args.text.now c.args.front.now c.args.rest.now middle.now end.now (13 ∷ []) _ first second third in
+    (omega arith, ends.0, inr (inl ends.1))
 
 pub returns-clause-finds : goal.returns-clause-finds
 returns-clause-finds c = λ begins.
@@ -49,5 +59,5 @@ returns-clause-finds c = λ begins.
     let same : end.now ≡ parts.0 = append_cancel_left c.args.rest.now end.now parts.0 (sym second ∙ append_cancel_left c.args.front.now middle.now _ (sym first ∙ parts.1)) in
     elim parts.2 [
       | inl fed ↦ absurd (true≢false (sym ((starts_is Decides-eqb end.now (10 ∷ []) _ c.starts_with.ensures.value).1 fed.0 (same ∙ fed.1)) ∙ c.if-starts_with.false))
-      | inr returned ↦ absurd (true≢false (sym ((starts_is Decides-eqb end.now (13 ∷ 10 ∷ []) _ c.starts_with-2.ensures.value).1 returned.0 (same ∙ returned.1)) ∙ c.if-starts_with-2.false))
+      | inr returned ↦ absurd (true≢false (sym ((starts_is Decides-eqb end.now (13 ∷ []) _ c.starts_with-3.ensures.value).1 returned.0 (same ∙ returned.1)) ∙ c.if-starts_with-3.false))
     ]

@@ -8,4 +8,4 @@ use Rattle.msrp_text.proofs.worked.tasks.Goals as goal
 
 pub returns : goal.returns
 unfolding csv_on_literals field_at is_utf8 chars encode fault_after plan_of plan_told
-returns c = record { capital = refl; no_such_core = refl; no_period = refl; no_unit = refl; used_name = refl; record_first = refl }
+returns c = record { three_numbers = refl; capital = refl; no_such_core = refl; no_period = refl; no_unit = refl; used_name = refl; record_first = refl }

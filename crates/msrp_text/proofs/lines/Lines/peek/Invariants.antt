@@ -1,5 +1,7 @@
-use Rattle.std.proofs.Common.{◌≡◌, ◌++◌, ◌-◌, ℕ, List}
+use Rattle.std.proofs.Common.{◌-◌}
 use Rattle.msrp_text.specs.Ahead.{buffered, lines_ahead}
+use Rattle.msrp_text.specs.Plain.{NoLine}
+use Rattle.msrp_text.specs.declared.front.TheConstants.{LONGEST}
 use Rattle.msrp_text.specs.declared.lines.TheConstants.{ROOM}
 use Rattle.msrp_text.specs.Records.{KeepsRecords, records_ahead}
 use Rattle.msrp_text.proofs.lines.Lines.peek.Given as goal
@@ -7,7 +9,7 @@ use Rattle.msrp_text.proofs.lines.Lines.peek.Given as goal
 abbrev pub invariant-loop-line : goal.invariant-loop-line
 invariant-loop-line g l = record {
   same : KeepsRecords (records_ahead g.R.Read.remaining l.fn.self) (records_ahead g.R.Read.remaining l.self);
-  grows : (more : List ℕ) × (lines_ahead l.self ≡ lines_ahead l.fn.self ++ more);
+  none : NoLine LONGEST (lines_ahead l.self) → NoLine LONGEST (lines_ahead l.fn.self);
 }
 
 abbrev pub decreases-loop-line : goal.decreases-loop-line
