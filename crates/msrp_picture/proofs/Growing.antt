@@ -45,6 +45,11 @@ one-counted n false = refl
 pub counts-some : (p : ℕ → Bool) (n : ℕ) → length (filter p (range_with_len 0 (n + 1))) ≡ length (filter p (range_with_len 0 n)) + cond (p n) 1 0
 counts-some p n = ap length (some-more p n) ∙ (length-append (filter p (range_with_len 0 n)) (cond (p n) (n ∷ []) []) ∙ ap (λ k. length (filter p (range_with_len 0 n)) + k) (one-counted n (p n)))
 
+-- one more at most is counted
+pub counts-within : (k n : ℕ) (b : Bool) → k ≤ n → k + cond b 1 0 ≤ n + 1
+counts-within k n true l = omega arith
+counts-within k n false l = omega arith
+
 -- by the image of one number more
 one-more : (a t : ℕ) → a ≤ t → t + 1 - a ≡ (t - a) + 1
 one-more a t l = omega arith

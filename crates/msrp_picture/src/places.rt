@@ -1,5 +1,5 @@
 //! Places in a picture in SVG, in its units.
-ghost use Rattle.std.specs.Prelude.{◌≡◌, ℕ, ◌<◌, ◌≤◌, ◌*◌, ◌^◌, length};
+ghost use Rattle.std.specs.Prelude.{◌≡◌, ℕ, ◌<◌, ◌≤◌, ◌*◌, ◌^◌, if◌then◌else◌, length};
 ghost use Rattle.msrp_picture.specs.Lines.{global_resources};
 ghost use Rattle.msrp_picture.specs.Places.{block_area, column, lane_top, legend_top, res_top, section_height, width_of};
 
@@ -84,6 +84,12 @@ pub(crate) fn section_height(levels: u64) -> u64
     SECTION_ROOM / SECTION_LEVELS.max(levels)
 }
 
+fn counted(is: bool) -> u32
+    ensures { result ≡ (if is then 1 else 0) }
+{
+    if is { 1 } else { 0 }
+}
+
 // So many of the resources below a number are global.
 fn globals_below(levels: &Levels<'_>, end: u32) -> u32
     requires { end ≤ length levels.now.resources }
@@ -91,9 +97,7 @@ fn globals_below(levels: &Levels<'_>, end: u32) -> u32
 {
     let mut count = 0;
     for res in 0..end {
-        if levels.is_global(ResId(res)) {
-            count += 1;
-        }
+        count += counted(levels.is_global(ResId(res)));
     }
     count
 }
