@@ -1,5 +1,5 @@
 -- The loops over all cores: one more kit, seat, thread, log and book.
-use Rattle.std.proofs.Common.{◌≡◌, ℕ, ◌+◌, ◌<◌, List, [], ◌∷◌, ◌++◌, length, get_or, arith, subst, sym, ap, ◌∙◌, inl, inr, length-append}
+use Rattle.std.proofs.Common.{◌≡◌, ℕ, ◌+◌, ◌<◌, ◌≤◌, List, [], ◌∷◌, ◌++◌, None, length, get_or, arith, refl, subst, sym, ap, ◌∙◌, inl, inr, length-append}
 use Rattle.std.specs.Prelude.{is_some, true}
 use Rattle.std.proofs.lemmas.List.{get_or_append_left}
 use Rattle.std.proofs.Math.Seq.{get_or-append_seam}
@@ -7,15 +7,17 @@ use Rattle.std.proofs.lemmas.Bool.{cases_eq}
 use Rattle.std.specs.declared.thread.PromisedHandle.{PromisedHandle}
 use Rattle.msrp_plan.specs.Plan.{PlanModel}
 use Rattle.msrp_board.specs.declared.books.Book.{Book}
+use Rattle.msrp_board.specs.declared.books.Conductor.{Conductor}
+use Rattle.msrp_board.specs.declared.books.Conductor.TheVariants.{Aborted}
 use Rattle.msrp_board.specs.Seats.{BoardModel, SeatModel, IsCoreSeat, book_at, empty_book}
-use Rattle.msrp_board.specs.Steps.{alone, without, both, either}
+use Rattle.msrp_board.specs.Steps.{alone, without, both, either, with_conductor}
 use Rattle.msrp_board.proofs.CoreSeats.{alone_is_core}
 use Rattle.msrp_board.proofs.SeatBooks.{book_at-without_other, book_of_first, book_of_second, no_other_book}
 use Rattle.msrp_merge.specs.Merging.{size_of, log_at}
 use Rattle.msrp_merge.specs.Turns.{LogModel}
 use Rattle.msrp_run.specs.declared.crew.Kit.{Kit}
 use Rattle.msrp_run.specs.declared.crew.WorkOf.{WorkOf}
-use Rattle.msrp_run.specs.Threads.{IsKit, AreKits, IsBench, IsPromise, ArePromised, AllWorked}
+use Rattle.msrp_run.specs.Threads.{IsKit, AreKits, IsBench, HasRest, IsPromise, ArePromised, AllWorked}
 use Rattle.msrp_run.specs.Work.{IsNew, IsWorked, HasWorked}
 
 -- ---- the kits
@@ -95,8 +97,9 @@ worked_more plan logs log seat bench b was own is k below =
 
 -- one more worker's log and seat, as its thread promised
 pub joined_more : (board : BoardModel) (plan : PlanModel) (logs : List LogModel) (log : LogModel) (seat bench : SeatModel) (p : WorkOf) → AllWorked plan logs bench → IsPromise board plan (length logs) p → HasWorked p.seat.value.board p.plan.value p.core.0 log seat
-    → AllWorked plan (logs ++ log ∷ []) (both seat bench) × (seat.board ≡ board) × ((both seat bench).conductor ≡ bench.conductor)
-joined_more board plan logs log seat bench p was is w = (worked_more plan logs log seat bench w.book was own work, w.on ∙ is.on, ap (λ o. either o bench.conductor) w.of_core.conductor)
+    → AllWorked plan (logs ++ log ∷ []) (both seat bench) × (seat.board ≡ board) × ((both seat bench).conductor ≡ bench.conductor) × ((c : ℕ) → length logs < c → book_at seat c ≡ None)
+joined_more board plan logs log seat bench p was is w =
+    (worked_more plan logs log seat bench w.book was own work, w.on ∙ is.on, ap (λ o. either o bench.conductor) w.of_core.conductor, λ c low. no_other_book seat (length logs) c w.book own (λ e. absurd (omega (arith, low, e))))
   where
     own : IsCoreSeat seat (length logs) w.book
     own = subst (λ n. IsCoreSeat seat n w.book) is.core w.of_core
@@ -108,3 +111,34 @@ joined_more board plan logs log seat bench p was is w = (worked_more plan logs l
 pub as_promised : (board : BoardModel) (plan : PlanModel) (c : ℕ) (p : WorkOf) (log : LogModel) (seat : SeatModel) → IsPromise board plan c p → HasWorked board plan c log seat → HasWorked p.seat.value.board p.plan.value p.core.0 log seat
 as_promised board plan c p log seat is w =
     subst (λ b. HasWorked b p.plan.value p.core.0 log seat) (sym is.on) (subst (λ q. HasWorked board q p.core.0 log seat) (sym is.plan_is) (subst (λ n. HasWorked board plan n log seat) (sym is.core) w))
+
+-- ---- the conductor's seat
+-- after what the conductor did it still has the books of the other cores
+pub rest_of_bench : (board : BoardModel) (n : ℕ) (bench new : SeatModel) (did : Conductor) → IsBench board n bench → new ≡ with_conductor did bench → HasRest board n did new
+rest_of_bench board n bench new did b is = subst (HasRest board n did) (sym is) (record { on = b.on; books = λ c from low. ap is_some (b.books c from low); conductor = refl })
+
+-- the seat of a core whose thread was refused is back
+pub rest_with : (board : BoardModel) (plan : PlanModel) (c : ℕ) (p : WorkOf) (log : LogModel) (seat bench off joined : SeatModel) → IsBench board (c + 1) bench → off ≡ with_conductor Aborted bench → IsPromise board plan c p → HasWorked p.seat.value.board p.plan.value p.core.0 log seat
+    → joined ≡ both seat off → HasRest board c Aborted joined
+rest_with board plan c p log seat bench off joined b called is w one = subst (HasRest board c Aborted) (sym one) (record {
+  on = w.on ∙ is.on;
+  books = λ d from low. elim (cases_eq d c) [
+    | inl at ↦ ap is_some (book_of_first seat off d w.book (ap (book_at seat) at ∙ own.book))
+    | inr other ↦ ap is_some (book_of_second seat off d (no_other_book seat c d w.book own other)) ∙ rest.books d (omega (arith, from, other)) low
+  ];
+  conductor = ap (λ o. either o off.conductor) w.of_core.conductor ∙ rest.conductor;
+})
+  where
+    own : IsCoreSeat seat c w.book
+    own = subst (λ n. IsCoreSeat seat n w.book) is.core w.of_core
+
+    rest : HasRest board (c + 1) Aborted off
+    rest = rest_of_bench board (c + 1) bench off Aborted b called
+
+-- a worker's seat joined to it
+pub rest_joined : (board : BoardModel) (n : ℕ) (did : Conductor) (seat bench joined : SeatModel) → HasRest board n did bench → seat.board ≡ board → joined ≡ both seat bench → joined.conductor ≡ bench.conductor → ((c : ℕ) → n ≤ c → book_at seat c ≡ None) → HasRest board n did joined
+rest_joined board n did seat bench joined r on is same none = record {
+  on = ap (λ (s : SeatModel). s.board) is ∙ on;
+  books = λ c from low. ap (λ s. is_some (book_at s c)) is ∙ (ap is_some (book_of_second seat bench c (none c from)) ∙ r.books c from low);
+  conductor = same ∙ r.conductor;
+}

@@ -1,5 +1,5 @@
 -- A worker's steps: its core is let in, has its turn and arrives, or is told to stop.
-use Rattle.std.proofs.Common.{◌≡◌, ◌≤◌, ◌&&◌, ℕ, suc, List, [], ◌∷◌, ◌++◌, Bool, true, false, nat_lt, refl, sym, ap, ◌∙◌, subst, arith, inl, inr, length-append}
+use Rattle.std.proofs.Common.{◌≡◌, ◌+◌, ◌≤◌, ◌&&◌, ℕ, suc, List, [], ◌∷◌, ◌++◌, Bool, true, false, nat_lt, refl, sym, ap, ◌∙◌, subst, arith, inl, inr, length-append}
 use Rattle.std.specs.Prelude.{length}
 use Rattle.std.proofs.lemmas.List.Folds.{list_all-append}
 use Rattle.std.proofs.lemmas.Bool.{ltb-false}
@@ -87,21 +87,31 @@ both_true true true x y = refl
 both_true true false x y = absurd (cc)
 both_true false b x y = absurd (cc)
 
+-- its log has one row more
+row_more : (board : BoardModel) (m next : MachineModel) (log longer : LogModel) (let_in back : SeatModel) (row : Row) → HasTurned board m log let_in next longer row back → rows_of longer.turns ≡ rows_of log.turns ++ row ∷ []
+row_more board m next log longer let_in back row t = ap (λ (l : LogModel). rows_of l.turns) t.logged ∙ sym (rows_longer log.turns row t.place)
+
+-- and its machine is a tick on
+pub next_tick : (board : BoardModel) (plan : PlanModel) (c : ℕ) (m next : MachineModel) (log longer : LogModel) (seat let_in back : SeatModel) (row : Row) → IsAtWork board plan c m log seat → HasTurned board m log let_in next longer row back → next.tick ≡ m.tick + 1
+next_tick board plan c m next log longer seat let_in back row w t =
+    let a = t.stands.tick in
+    let b = ap length (row_more board m next log longer let_in back row t) in
+    let d = length-append (rows_of log.turns) (row ∷ []) in
+    let e = w.stands.tick in
+    omega (arith, a, b, d, e)
+
 pub has_arrived : (board : BoardModel) (plan : PlanModel) (c : ℕ) (m next : MachineModel) (log longer : LogModel) (seat let_in back new : SeatModel) (row : Row) → IsAtWork board plan c m log seat → let_in ≡ with_admission seat
     → HasTurned board m log let_in next longer row back → new ≡ with_arrival back → HasArrived board plan c next longer new
 has_arrived board plan c m next log longer seat let_in back new row w in_is t is = subst (HasArrived board plan c next longer) (sym is) arrived
   where
     more : rows_of longer.turns ≡ rows_of log.turns ++ row ∷ []
-    more = ap (λ (l : LogModel). rows_of l.turns) t.logged ∙ sym (rows_longer log.turns row t.place)
+    more = row_more board m next log longer let_in back row t
 
     ticks : suc t.book.tick ≡ next.tick
     ticks =
-        let a = t.stands.tick in
-        let b = ap length more in
-        let d = length-append (rows_of log.turns) (row ∷ []) in
-        let e = w.stands.tick in
-        let f = t.tick in
-        omega (arith, a, b, d, e, f)
+        let a = next_tick board plan c m next log longer seat let_in back row w t in
+        let b = t.tick in
+        omega (arith, a, b)
 
     admitted : IsCoreSeat let_in m.core (book_with_admission w.book)
     admitted = subst (λ s. IsCoreSeat s m.core (book_with_admission w.book)) (sym in_is) (subst (λ k. IsCoreSeat (with_admission seat) k (book_with_admission w.book)) (sym w.core) (core_changed book_with_admission seat c w.book w.of_core))
@@ -156,7 +166,7 @@ goes_on board plan c m log seat phase a reads left = record {
   aheads = a.aheads;
 }
 
-none_left : (stopped admitted left : Bool) → phase_by stopped admitted left ≡ Done → left ≡ false
+pub none_left : (stopped admitted left : Bool) → phase_by stopped admitted left ≡ Done → left ≡ false
 none_left true admitted left e = absurd (cc)
 none_left false true left e = absurd (cc)
 none_left false false true e = absurd (cc)

@@ -1,12 +1,16 @@
 -- The workers of all cores: what they are given, what their threads promise, and what they leave.
-use Rattle.std.specs.Prelude.{◌≡◌, ℕ, ◌<◌, ◌≤◌, List, [], Some, length, slice_index, slice_index_or, filter}
+use Rattle.std.specs.Prelude.{◌≡◌, ℕ, ◌<◌, ◌≤◌, List, [], Bool, true, false, Some, IsSome, IsTrue, length, slice_get, slice_index, slice_index_or, filter}
 use Rattle.std.specs.declared.thread.PromisedHandle.{PromisedHandle}
+use Rattle.msrp_plan.specs.Aheads.{carries_ahead}
 use Rattle.msrp_plan.specs.Plan.{PlanModel}
 use Rattle.msrp_plan.specs.declared.rows.Row.{Row}
+use Rattle.msrp_board.specs.declared.answers.SeatPhase.TheVariants.{Done}
 use Rattle.msrp_board.specs.declared.books.Book.{Book}
-use Rattle.msrp_board.specs.declared.books.Conductor.TheVariants.{Unopened, Opened}
+use Rattle.msrp_board.specs.declared.books.Conductor.{Conductor}
+use Rattle.msrp_board.specs.declared.books.Conductor.TheVariants.{Unopened, Opened, Aborted}
 use Rattle.msrp_board.specs.declared.books.Entry.{Entry}
 use Rattle.msrp_board.specs.Boards.{WholeBoard, high, low, entries_at}
+use Rattle.msrp_board.specs.Books.{phase_in}
 use Rattle.msrp_board.specs.History.{Event, IsServed}
 use Rattle.msrp_board.specs.Seats.{BoardModel, SeatModel, book_at, empty_book}
 use Rattle.msrp_core.specs.Machine.{StandsAfter}
@@ -16,6 +20,7 @@ use Rattle.msrp_merge.specs.Pairs.{Paired}
 use Rattle.msrp_merge.specs.Sorting.{IsMerged}
 use Rattle.msrp_merge.specs.Steps.{is_row_on, IsRowOfEvent}
 use Rattle.msrp_merge.specs.Turns.{LogModel, rows_of}
+use Rattle.msrp_run.specs.declared.crew.Ended.{Ended}
 use Rattle.msrp_run.specs.declared.crew.Kit.{Kit}
 use Rattle.msrp_run.specs.declared.crew.WorkOf.{WorkOf}
 use Rattle.msrp_run.specs.Work.{IsWorked}
@@ -37,6 +42,17 @@ pub record IsBench (board : BoardModel) (n : ℕ) (seat : SeatModel) : Type 0 wh
   pub books : (c : ℕ) → n ≤ c → c < board.size.cores → book_at seat c ≡ Some empty_book
   pub conductor : seat.conductor ≡ Some Unopened
 
+-- what the conductor does: it lets the cores in where all threads were started, and else calls the run off
+abbrev pub ordered : Bool → Conductor
+ordered true = Opened
+ordered false = Aborted
+
+-- the conductor's seat after that, with the books of all but the first n cores
+pub record HasRest (board : BoardModel) (n : ℕ) (did : Conductor) (seat : SeatModel) : Type 0 where
+  pub on : seat.board ≡ board
+  pub books : (c : ℕ) → n ≤ c → c < board.size.cores → IsSome (book_at seat c)
+  pub conductor : seat.conductor ≡ Some did
+
 -- the promise of the thread of core c
 pub record IsPromise (board : BoardModel) (plan : PlanModel) (c : ℕ) (p : WorkOf) : Type 0 where
   pub core : p.core.0 ≡ c
@@ -51,6 +67,29 @@ ArePromised board plan handles = (k : ℕ) (d : _) → k < length handles → Is
 abbrev pub AllWorked : PlanModel → List LogModel → SeatModel → Type 0
 AllWorked plan logs seat = (k : ℕ) → k < length logs → (b : Book) × (book_at seat k ≡ Some b) × IsWorked plan k (log_at logs k) b
 
+-- the workers that were started have ended: each has left its log, and the seat holds all books and the conductor's
+pub record HasEnded (board : BoardModel) (plan : PlanModel) (ended : Ended) : Type 0 where
+  pub few : length ended.logs.items ≤ plan.cores
+  pub all : IsTrue ended.all → length ended.logs.items ≡ plan.cores
+  pub each : AllWorked plan ended.logs.items ended.seat
+  pub rest : HasRest board (length ended.logs.items) (ordered ended.all) ended.seat
+
+-- every core has arrived from its last tick
+abbrev pub AreDone : ℕ → List Book → Type 0
+AreDone ticks books = (c : ℕ) (b : Book) → slice_get books c ≡ Some b → phase_in ticks b ≡ Done
+
+-- all cores were let in and have ended: their logs are runs of the cores, which carry their aheads and fit the board's books
+pub record HasRun (plan : PlanModel) (logs : List LogModel) (board : WholeBoard) : Type 0 where
+  pub logs_are : AreLogs plan logs (entries_at board.books)
+  pub aheads : (c : ℕ) → c < plan.cores → carries_ahead (rows_of (turns_of logs c)) ≡ true
+  pub opened : board.conductor ≡ Opened
+  pub done : AreDone plan.ticks board.books
+
+-- the run was called off, and no core has made a row
+pub record IsCalledOff (logs : List LogModel) (board : WholeBoard) : Type 0 where
+  pub aborted : board.conductor ≡ Aborted
+  pub empty : (k : ℕ) → k < length logs → turns_of logs k ≡ []
+
 -- the rows' steps on resource g are, in their order, its one history on the board: what its ticket word counts, answered as
 -- a first-in-first-out lock answers
 abbrev pub IsServedAs : WholeBoard → ℕ → List Row → Type 0
@@ -64,10 +103,3 @@ pub record IsInOrder (plan : PlanModel) (books : ℕ → List Entry) (rows : Lis
   pub turns : List Turn
   pub rows_are : rows ≡ rows_of turns
   pub sorted : IsMerged plan.cores plan.ticks (turns_of logs) turns
-
--- the workers of all cores were let in and have ended: each has left its log, and the seat holds all books and the conductor's
-pub record HasRun (board : BoardModel) (plan : PlanModel) (logs : List LogModel) (seat : SeatModel) : Type 0 where
-  pub many : length logs ≡ plan.cores
-  pub on : seat.board ≡ board
-  pub each : AllWorked plan logs seat
-  pub opened : seat.conductor ≡ Some Opened

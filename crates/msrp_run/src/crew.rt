@@ -25,10 +25,19 @@ pub(crate) struct WorkOf {
 /// The thread of a core.
 pub(crate) type Handle = PromisedHandle<(CoreLog, BoardSeat), WorkOf>;
 
-/// The threads that were started, the seat with the other books, and whether these are all.
+/// The threads that were started, the seat with the other books, and whether all were started: then the cores are let in, and
+/// else the run is called off.
 #[derive(Drop)]
 pub(crate) struct Started {
     pub(crate) handles: Vec<Handle>,
     pub(crate) bench: BoardSeat,
+    pub(crate) all: bool,
+}
+
+/// What the threads left that were started: their logs, the seat with all books, and whether all were started.
+#[derive(Drop)]
+pub(crate) struct Ended {
+    pub(crate) logs: Vec<CoreLog>,
+    pub(crate) seat: BoardSeat,
     pub(crate) all: bool,
 }

@@ -1,6 +1,6 @@
 //! Which threads may be started, and why a run is refused.
 
-use msrp_plan::CoreId;
+use msrp_plan::{CoreId, Memory};
 
 /// Says whether the thread of a core may be started. It is asked once for each core, cores rising, before the thread is
 /// started; a no counts as a thread that was refused.
@@ -26,4 +26,15 @@ pub enum RunError {
     U1,
     /// A thread was refused, so that no core had a turn. Want of memory in a thread's start isn't told apart.
     U2,
+}
+
+impl From<Memory> for RunError {
+    ghost use Rattle.std.specs.Prelude.{◌≡◌};
+    ghost use Rattle.msrp_run.specs.declared.hire.RunError.{RunError};
+
+    ghost from_gives = { λ _ error. error ≡ RunError.U1 };
+
+    fn from(_error: Memory) -> RunError {
+        RunError::U1
+    }
 }

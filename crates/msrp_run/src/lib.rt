@@ -15,4 +15,4 @@ mod work;
 pub use hire::{Hire, HireAll, RunError};
 pub use threads::{run_logged_if, run_threads, run_threads_if};
 pub use turns::{Plain, Stage, turn_on};
-pub use work::worker;
+pub use work::{Progress, round, worker};

@@ -1,17 +1,17 @@
 //! A thread for each core: they are started, let in, and joined.
-ghost use Rattle.std.specs.Prelude.{◌≡◌, ◌<◌, ◌≤◌, ℕ, [], Some, IfOk, IfSome, IsTrue, length, true, vec_capacity, vec_len};
+ghost use Rattle.std.specs.Prelude.{◌≡◌, ◌+◌, ◌<◌, ◌≤◌, ℕ, [], IfOk, IfErr, IsTrue, length, true, false, vec_capacity, vec_len};
 ghost use Rattle.msrp_plan.specs.Aheads.{carries_ahead};
 ghost use Rattle.msrp_plan.specs.Laws.{KeepsLaws};
 ghost use Rattle.msrp_plan.specs.Runs.{IsRun};
 ghost use Rattle.msrp_plan.specs.WellFormed.{IsPlan};
-ghost use Rattle.msrp_board.specs.declared.books.Conductor.TheVariants.{Unopened, Opened};
+ghost use Rattle.msrp_board.specs.declared.books.Conductor.TheVariants.{Opened, Aborted};
 ghost use Rattle.msrp_board.specs.Boards.{IsTied, entries_at};
 ghost use Rattle.msrp_merge.specs.Merging.{AreLogs, size_of, turns_of};
 ghost use Rattle.msrp_merge.specs.Turns.{rows_of};
-ghost use Rattle.msrp_run.specs.Threads.{AllWorked, AreKits, ArePromised, HasRun, IsBench, IsInOrder, IsKit, IsPromise, IsServedAs};
+ghost use Rattle.msrp_run.specs.Threads.{AreDone, AreKits, ArePromised, HasEnded, HasRest, HasRun, IsBench, IsCalledOff, IsInOrder, IsKit, IsPromise, IsServedAs, ordered};
 ghost use Rattle.msrp_run.specs.Work.{HasWorked, IsNew};
 
-use crate::crew::{Handle, Kit, Started, WorkOf};
+use crate::crew::{Ended, Handle, Kit, Started, WorkOf};
 use crate::hire::{Hire, HireAll, RunError};
 use crate::turns::Stage;
 use crate::work::worker;
@@ -113,7 +113,8 @@ fn work_as<R: Wait, S: Stage, W: CoreWork>(
     machine.work(rt, log, seat, board, stage)
 }
 
-// Starts the thread that does the work of a core. The promise and what the closure is given are the same.
+// Starts the thread that does the work of a core. The promise and what the closure is given are the same. Where the thread is
+// refused the run is called off, and the core's work is done here: it is told so, and its seat joins the others.
 fn start<'s, E, R: Wait + Sync, S: Stage + Sync, W: CoreWork + 's>(
     scope: &'s Scope<'s, E>,
     rt: &'s R,
@@ -123,12 +124,15 @@ fn start<'s, E, R: Wait + Sync, S: Stage + Sync, W: CoreWork + 's>(
     log: CoreLog,
     seat: BoardSeat,
     board: &'s Board,
+    mut bench: BoardSeat,
     stage: &'s S,
-) -> Option<Handle>
+) -> Result<(Handle, BoardSeat), BoardSeat>
     requires plan { (W.machine machine).plan ≡ plan.now }
     requires core { (W.machine machine).core ≡ core.0 }
     requires new { IsNew board.now (W.machine machine) log seat }
-    ensures { IfSome result (λ h. IsPromise board.now plan.now core.0 h.promise) }
+    requires bench { IsBench board.now (core.0 + 1) bench }
+    ensures started { IfOk result (λ r. IsPromise board.now plan.now core.0 r.0.promise × (r.1 ≡ bench)) }
+    ensures refused { IfErr result (λ seat. HasRest board.now core.0 Aborted seat) }
 {
     let promise = WorkOf::of(core, &seat, plan);
     let given = WorkOf::of(core, &seat, plan);
@@ -136,10 +140,17 @@ fn start<'s, E, R: Wait + Sync, S: Stage + Sync, W: CoreWork + 's>(
         requires { IsNew board.now (W.machine machine) log seat × IsPromise board.now (W.machine machine).plan (W.machine machine).core given }
         ensures { HasWorked given.seat.value.board given.plan.value given.core.0 result.0 result.1 }
     { work_as(rt, given, machine, log, seat, board, stage) };
-    scope.spawn_with(promise, work).ok()
+    match scope.spawn_with(promise, work) {
+        Ok(handle) => Ok((handle, bench)),
+        Err(refused) => {
+            board.abort(&mut bench);
+            let (_, seat) = (refused.value)();
+            Err(board.join(seat, bench))
+        }
+    }
 }
 
-// Starts the workers, cores rising, until a thread is refused.
+// Starts the workers, cores rising. Once all are started it lets the cores in; where a thread is refused it calls the run off.
 fn start_all<'s, E, R: Wait + Sync, S: Stage + Sync, H: Hire>(
     scope: &'s Scope<'s, E>,
     rt: &'s R,
@@ -153,19 +164,19 @@ fn start_all<'s, E, R: Wait + Sync, S: Stage + Sync, H: Hire>(
 ) -> Started
     requires kits { AreKits plan.now kits.items }
     requires size { board.now.size ≡ size_of plan.now }
-    requires count { vec_len kits ≤ plan.now.cores }
+    requires count { vec_len kits ≡ plan.now.cores }
     requires bench { IsBench board.now 0 bench }
     requires none { handles.items ≡ [] }
     requires room { vec_len kits ≤ vec_capacity handles }
     ensures promised { ArePromised board.now plan.now result.handles.items }
-    ensures count { vec_len result.handles ≤ vec_len kits.entry }
-    ensures all { IsTrue result.all → vec_len result.handles ≡ vec_len kits.entry }
-    ensures on { result.bench.board ≡ board.now }
-    ensures conductor { result.bench.conductor ≡ Some Unopened }
+    ensures count { vec_len result.handles ≤ plan.now.cores }
+    ensures all { IsTrue result.all → vec_len result.handles ≡ plan.now.cores }
+    ensures rest { HasRest board.now (vec_len result.handles) (ordered result.all) result.bench }
 {
     for kit in kits {
         let core = kit.machine.core();
         if !hire.may_start(core) {
+            board.abort(&mut bench);
             return Started {
                 handles,
                 bench,
@@ -173,17 +184,24 @@ fn start_all<'s, E, R: Wait + Sync, S: Stage + Sync, H: Hire>(
             };
         }
         let (seat, rest) = board.split(bench, core);
-        bench = rest;
         let Kit { machine, log } = kit;
-        let Some(handle) = start(scope, rt, plan, core, machine, log, seat, board, stage) else {
-            return Started {
-                handles,
-                bench,
-                all: false,
-            };
-        };
-        handles.push_reserved(handle);
+        match start(
+            scope, rt, plan, core, machine, log, seat, board, rest, stage,
+        ) {
+            Ok((handle, back)) => {
+                bench = back;
+                handles.push_reserved(handle);
+            }
+            Err(back) => {
+                return Started {
+                    handles,
+                    bench: back,
+                    all: false,
+                };
+            }
+        }
     }
+    board.open(&mut bench);
     Started {
         handles,
         bench,
@@ -191,34 +209,40 @@ fn start_all<'s, E, R: Wait + Sync, S: Stage + Sync, H: Hire>(
     }
 }
 
-// Joins the workers, cores rising, and their seats into one.
+// Joins the workers, cores rising, and their seats into one. They end, since the cores were let in or the run was called off.
 fn join_all<R: Threads>(
     rt: &R,
     _plan: &Plan,
     board: &Board,
-    handles: Vec<Handle>,
-    mut bench: BoardSeat,
+    started: Started,
     mut logs: Vec<CoreLog>,
-) -> (Vec<CoreLog>, BoardSeat)
-    requires promised { ArePromised board.now _plan.now handles.items }
-    requires on { bench.board ≡ board.now }
+) -> Ended
+    requires promised { ArePromised board.now _plan.now started.handles.items }
+    requires count { vec_len started.handles ≤ _plan.now.cores }
+    requires all { IsTrue started.all → vec_len started.handles ≡ _plan.now.cores }
+    requires rest { HasRest board.now (vec_len started.handles) (ordered started.all) started.bench }
     requires none { logs.items ≡ [] }
-    requires room { vec_len handles ≤ vec_capacity logs }
-    ensures count { vec_len result.0 ≡ vec_len handles }
-    ensures on { result.1.board ≡ board.now }
-    ensures each { AllWorked _plan.now result.0.items result.1 }
-    ensures conductor { result.1.conductor ≡ bench.conductor }
+    requires room { vec_len started.handles ≤ vec_capacity logs }
+    ensures { HasEnded board.now _plan.now result }
 {
+    let Started {
+        handles,
+        mut bench,
+        all,
+    } = started;
     for handle in handles {
         let (log, seat) = handle.join(rt);
         bench = board.join(seat, bench);
         logs.push_reserved(log);
     }
-    (logs, bench)
+    Ended {
+        logs,
+        seat: bench,
+        all,
+    }
 }
 
-// Makes what the cores need, starts the workers, lets them in once all are started or else calls the run off, and joins those
-// that were started.
+// Makes what the cores need, starts the workers, and joins those that were started.
 fn conduct<'s, E, R: Threads + Wait + Sync, S: Stage + Sync, H: Hire, L: PlanLevels>(
     scope: &'s Scope<'s, E>,
     rt: &'s R,
@@ -229,33 +253,17 @@ fn conduct<'s, E, R: Threads + Wait + Sync, S: Stage + Sync, H: Hire, L: PlanLev
     bench: BoardSeat,
     stage: &'s S,
     hire: &H,
-) -> Result<(Vec<CoreLog>, BoardSeat), RunError>
+) -> Result<Ended, Memory>
     requires levels { L.plan levels.now ≡ plan.now }
     requires size { board.now.size ≡ size_of plan.now }
     requires bench { IsBench board.now 0 bench }
-    ensures { IfOk result (λ r. HasRun board.now plan.now r.0.items r.1) }
+    ensures { IfOk result (λ ended. HasEnded board.now plan.now ended) }
 {
-    let Ok(kits) = kits_of(alloc, plan, levels.levels()) else {
-        return Err(RunError::U1);
-    };
-    let Ok(handles) = Vec::with_capacity(alloc, kits.len()) else {
-        return Err(RunError::U1);
-    };
-    let Ok(logs) = Vec::with_capacity(alloc, kits.len()) else {
-        return Err(RunError::U1);
-    };
-    let Started {
-        handles,
-        mut bench,
-        all,
-    } = start_all(scope, rt, plan, kits, board, bench, stage, hire, handles);
-    if !all {
-        board.abort(&mut bench);
-        join_all(rt, plan, board, handles, bench, logs);
-        return Err(RunError::U2);
-    }
-    board.open(&mut bench);
-    Ok(join_all(rt, plan, board, handles, bench, logs))
+    let kits = kits_of(alloc, plan, levels.levels())?;
+    let handles = Vec::with_capacity(alloc, kits.len()).map_err(|_| Memory)?;
+    let logs = Vec::with_capacity(alloc, kits.len()).map_err(|_| Memory)?;
+    let started = start_all(scope, rt, plan, kits, board, bench, stage, hire, handles);
+    Ok(join_all(rt, plan, board, started, logs))
 }
 
 // The levels of a plan, by a type that does not tell what they borrow, for the same reason as `CoreWork`.
@@ -286,20 +294,46 @@ fn on_threads<R: Threads + Wait + Sync, S: Stage + Sync, H: Hire, L: PlanLevels>
     bench: BoardSeat,
     stage: &S,
     hire: &H,
-) -> Result<(Vec<CoreLog>, BoardSeat), RunError>
+) -> Result<Ended, Memory>
     requires levels { L.plan levels.now ≡ plan.now }
     requires size { board.now.size ≡ size_of plan.now }
     requires bench { IsBench board.now 0 bench }
-    ensures { IfOk result (λ r. HasRun board.now plan.now r.0.items r.1) }
+    ensures { IfOk result (λ ended. HasEnded board.now plan.now ended) }
 {
     thread::scope(
         thread::scope_env(),
         rt,
-        move |scope| -> Result<(Vec<CoreLog>, BoardSeat), RunError>
+        move |scope| -> Result<Ended, Memory>
             requires { (L.plan levels.now ≡ plan.now) × (board.now.size ≡ size_of plan.now) × IsBench board.now 0 bench }
-            ensures { IfOk result (λ r. HasRun board.entry.now plan.entry.now r.0.items r.1) }
+            ensures { IfOk result (λ ended. HasEnded board.entry.now plan.entry.now ended) }
         { conduct(scope, rt, alloc, plan, levels, board, bench, stage, hire) },
     )
+}
+
+// The logs and the board as the threads left them, and whether all threads were started. So only a thread that was refused is
+// told as such, and only memory that was refused as memory.
+fn settled_run<R: Threads + Wait + Sync, S: Stage + Sync, H: Hire>(
+    rt: &R,
+    alloc: Global,
+    plan: &Plan,
+    stage: &S,
+    hire: &H,
+) -> Result<(Vec<CoreLog>, Settled, bool), Memory>
+    ensures run { IfOk result (λ r. IsTrue r.2 → HasRun plan.now r.0.items r.1) }
+
+    // Where a thread was refused, no core has made a row.
+    ensures off { IfOk result (λ r. r.2 ≡ false → IsCalledOff r.0.items r.1) }
+    ensures board { IfOk result (λ r. (r.1.size ≡ size_of plan.now) × IsTied r.1) }
+    ensures plan { IfOk result (λ _. IsPlan plan.now) }
+{
+    let levels = Levels::of(alloc, plan)?;
+    let (board, bench) = Board::new(alloc, plan.cores(), plan.resources(), plan.ticks()).map_err(
+        |_| Memory,
+    )?;
+    let Ended { logs, seat, all } = on_threads(
+        rt, alloc, plan, &levels, &board, bench, stage, hire,
+    )?;
+    Ok((logs, board.settle(seat), all))
 }
 
 /// Runs the plan with a thread for each core that `hire` allows, and gives the log of each core, cores rising, and the board
@@ -317,17 +351,18 @@ pub fn run_logged_if<R: Threads + Wait + Sync, S: Stage + Sync, H: Hire>(
     // Each log is a run of its core, and fits the core's book on the board.
     ensures logs { IfOk result (λ r. AreLogs plan.now r.0.items (entries_at r.1.books)) }
     ensures aheads { IfOk result (λ r. (c : ℕ) → c < plan.now.cores → carries_ahead (rows_of (turns_of r.0.items c)) ≡ true) }
+
+    // The board is that of this run: it was opened, and each core has arrived from its last tick.
     ensures board { IfOk result (λ r. (r.1.size ≡ size_of plan.now) × IsTied r.1) }
+    ensures opened { IfOk result (λ r. r.1.conductor ≡ Opened) }
+    ensures done { IfOk result (λ r. AreDone plan.now.ticks r.1.books) }
     ensures plan { IfOk result (λ _. IsPlan plan.now) }
 {
-    let Ok(levels) = Levels::of(alloc, plan) else {
-        return Err(RunError::U1);
-    };
-    let Ok((board, bench)) = Board::new(alloc, plan.cores(), plan.resources(), plan.ticks()) else {
-        return Err(RunError::U1);
-    };
-    let (logs, seat) = on_threads(rt, alloc, plan, &levels, &board, bench, stage, hire)?;
-    Ok((logs, board.settle(seat)))
+    let (logs, settled, all) = settled_run(rt, alloc, plan, stage, hire)?;
+    if !all {
+        return Err(RunError::U2);
+    }
+    Ok((logs, settled))
 }
 
 /// Runs the plan with a thread for each core that `hire` allows, as [`run_logged_if`] does, and merges the logs. The trace is a
@@ -351,13 +386,15 @@ pub fn run_threads_if<R: Threads + Wait + Sync, S: Stage + Sync, H: Hire>(
 
     // The rows stand by tick. In a tick those without a place come first, by core; then the others by resource and place.
     ensures order { IfOk result (λ r. IsInOrder plan.now (entries_at r.1.books) r.0.rows.items) }
+
+    // The board is that of this run: it was opened, and each core has arrived from its last tick.
     ensures board { IfOk result (λ r. (r.1.size ≡ size_of plan.now) × IsTied r.1) }
+    ensures opened { IfOk result (λ r. r.1.conductor ≡ Opened) }
+    ensures done { IfOk result (λ r. AreDone plan.now.ticks r.1.books) }
 {
     let (logs, settled) = run_logged_if(rt, alloc, plan, stage, hire)?;
-    match merge(alloc, plan, &logs, &settled) {
-        Ok(trace) => Ok((trace, settled)),
-        Err(Memory) => Err(RunError::U1),
-    }
+    let trace = merge(alloc, plan, &logs, &settled)?;
+    Ok((trace, settled))
 }
 
 /// Runs the plan with a thread for each core, as [`run_threads_if`] does where every thread may be started.
@@ -373,6 +410,8 @@ pub fn run_threads<R: Threads + Wait + Sync, S: Stage + Sync>(
     ensures aheads { IfOk result (λ r. carries_ahead r.0.rows.items ≡ true) }
     ensures order { IfOk result (λ r. IsInOrder plan.now (entries_at r.1.books) r.0.rows.items) }
     ensures board { IfOk result (λ r. (r.1.size ≡ size_of plan.now) × IsTied r.1) }
+    ensures opened { IfOk result (λ r. r.1.conductor ≡ Opened) }
+    ensures done { IfOk result (λ r. AreDone plan.now.ticks r.1.books) }
 {
     run_threads_if(rt, alloc, plan, stage, &HireAll)
 }

@@ -1,6 +1,7 @@
 //! What the thread of a core does.
-ghost use Rattle.std.specs.Prelude.{◌≡◌};
-ghost use Rattle.msrp_run.specs.Work.{HasWorked, IsNew};
+ghost use Rattle.std.specs.Prelude.{◌≡◌, ◌+◌};
+ghost use Rattle.msrp_run.specs.declared.work.Progress.TheVariants.{Waits, Turned, Ended};
+ghost use Rattle.msrp_run.specs.Work.{HasWorked, IsAtWork, IsNew};
 
 use crate::turns::Stage;
 use crossbeam_utils::Backoff;
@@ -40,7 +41,9 @@ impl Waiting {
     }
 
     // Before the first look of this tick.
-    fn begin(&mut self, tick: u32) {
+    fn begin(&mut self, tick: u32)
+        ensures { self.new.looks ≡ 0 }
+    {
         self.crowded = (self.crowded || self.looks > SPINS) && tick % PATIENCE != 0;
         if !self.crowded {
             self.backoff.reset();
@@ -49,9 +52,50 @@ impl Waiting {
     }
 }
 
-/// Makes the turns of a core, tick by tick: it waits until the board lets the core into its tick, has the stage make the turn
-/// and arrives from the tick, until all ticks are done or the run is called off. A log that comes back is whole, or it is
-/// empty and the core was told to stop.
+/// What a round of a core's work came to.
+#[derive(Clone, Copy, Debug, PartialEq, Eq)]
+pub enum Progress {
+    /// The core was not let in: nothing has changed.
+    Waits,
+    /// The core was let into its tick, had its turn, and waits for the next.
+    Turned,
+    /// The core has arrived from its last tick, or was told to stop.
+    Ended,
+}
+
+/// One round of a core's work: one look at the board, and where the core is let into its tick, its turn by the stage and its
+/// arrival. It waits for nobody.
+pub fn round<S: Stage>(
+    machine: &mut Machine<'_>,
+    log: &mut CoreLog,
+    board: &Board,
+    mut seat: BoardSeat,
+    stage: &S,
+) -> (Progress, BoardSeat)
+    requires { IsAtWork board.now machine.old.plan machine.old.core machine.old log.old seat }
+    ensures waits { result.0 ≡ Waits → (machine.new ≡ machine.old) × (log.new ≡ log.old) × (result.1 ≡ seat) }
+    ensures turned { result.0 ≡ Turned → (machine.new.tick ≡ machine.old.tick + 1) × IsAtWork board.now machine.old.plan machine.old.core machine.new log.new result.1 }
+    ensures ended { result.0 ≡ Ended → HasWorked board.now machine.old.plan machine.old.core log.new result.1 }
+{
+    // Read so that what every seat keeps is known of this one.
+    let _tick = seat.tick();
+    match board.look(&mut seat) {
+        Look::Wait => (Progress::Waits, seat),
+        Look::Stopped => (Progress::Ended, seat),
+        Look::Go => {
+            let (_, mut back) = stage.turn(machine, log, board, seat);
+            board.arrive(&mut back);
+            match back.phase() {
+                SeatPhase::Done => (Progress::Ended, back),
+                _ => (Progress::Turned, back),
+            }
+        }
+    }
+}
+
+/// Makes the turns of a core, tick by tick, a [`round`] after the other: it waits until the board lets the core into its tick,
+/// has the stage make the turn and arrives from the tick, until all ticks are done or the run is called off. A log that comes
+/// back is whole, or it is empty and the core was told to stop.
 pub fn worker<R: Wait, S: Stage>(
     rt: &R,
     mut machine: Machine<'_>,
@@ -64,20 +108,13 @@ pub fn worker<R: Wait, S: Stage>(
     ensures { HasWorked board.now machine.entry.plan machine.entry.core result.0 result.1 }
 {
     let mut waiting = Waiting::new();
-    // Read so that what every seat keeps is known of this one.
-    let _ticks = seat.tick();
     for _ in rt.forever() {
-        match board.look(&mut seat) {
-            Look::Wait => waiting.wait(),
-            Look::Stopped => return (log, seat),
-            Look::Go => {
-                seat = stage.turn(&mut machine, &mut log, board, seat).1;
-                board.arrive(&mut seat);
-                match seat.phase() {
-                    SeatPhase::Done => return (log, seat),
-                    _ => waiting.begin(machine.tick()),
-                }
-            }
+        let (came, back) = round(&mut machine, &mut log, board, seat, stage);
+        seat = back;
+        match came {
+            Progress::Waits => waiting.wait(),
+            Progress::Turned => waiting.begin(machine.tick()),
+            Progress::Ended => return (log, seat),
         }
     }
     unreachable!()

@@ -1,8 +1,9 @@
-use Rattle.std.proofs.Common.{rules, ◌+◌, subst, sym, ap, ◌∙◌, length, vec_items}
+use Rattle.std.proofs.Common.{rules, ◌≡◌, ◌+◌, ◌<◌, arith, subst, sym, ap, ◌∙◌, length, vec_len, vec_items}
+use Rattle.std.specs.Vec.Iter.{into_iter_len}
 use Rattle.msrp_board.specs.Seats.{SeatModel}
 use Rattle.msrp_board.specs.Steps.{both}
 use Rattle.msrp_run.specs.Threads.{AllWorked, IsPromise}
-use Rattle.msrp_run.proofs.Threading.{joined_more}
+use Rattle.msrp_run.proofs.Threading.{joined_more, rest_joined}
 use Rattle.msrp_run.proofs.threads.join_all.Goals as goal
 
 pub loop-handle-preserved : goal.loop-handle-preserved
@@ -15,11 +16,13 @@ loop-handle-preserved g c =
     let bench = c.loop-handle.bench in
     let first = was.1 0 c.in-Some.handle in
     let is : IsPromise c.args.board.now c.args._plan.now (length logs) c.in-Some.handle.promise = grind rules in
-    let more = joined_more c.args.board.now c.args._plan.now logs log seat bench c.in-Some.handle.promise was.2 is c.join-log.ensures in (
+    let more = joined_more c.args.board.now c.args._plan.now logs log seat bench c.in-Some.handle.promise was.2 is c.join-log.ensures in
+    let some : 0 < into_iter_len c.loop-handle.handle-iterator = omega (arith, step.1) in
+    let count = was.0 in
+    let done : length logs ≡ vec_len c.loop-handle.logs = grind rules in (
       search rules,
       (λ k d low. let h = was.1 (k + 1) d in grind rules),
       subst (λ s. AllWorked c.args._plan.now (vec_items c.push_reserved.new.self) s) (sym c.join-bench.ensures) (subst (λ l. AllWorked c.args._plan.now l (both seat bench)) (sym c.push_reserved.ensures.items) more.0),
-      ap (λ (s : SeatModel). s.board) c.join-bench.ensures ∙ more.1,
       search rules,
-      ap (λ (s : SeatModel). s.conductor) c.join-bench.ensures ∙ (more.2 ∙ was.5),
+      rest_joined _ _ _ seat bench c.join-bench.result was.4 more.1 c.join-bench.ensures (ap (λ (s : SeatModel). s.conductor) c.join-bench.ensures ∙ more.2) (λ k from. more.3 k (omega (arith, from, some, count, done))),
     )

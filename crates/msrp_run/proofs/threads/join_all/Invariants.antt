@@ -1,14 +1,14 @@
 use Rattle.std.proofs.Common.{◌≡◌, ℕ, ◌+◌, ◌<◌, ◌≤◌, slice_index_or, vec_len, vec_items}
 use Rattle.std.specs.Prelude.{vec_capacity}
 use Rattle.std.specs.Vec.Iter.{into_iter_items, into_iter_len}
-use Rattle.msrp_run.specs.Threads.{AllWorked, IsPromise}
+use Rattle.msrp_run.specs.Threads.{AllWorked, HasRest, IsPromise, ordered}
 use Rattle.msrp_run.proofs.threads.join_all.Given as goal
 
 abbrev pub invariant-loop-handle : goal.invariant-loop-handle
 invariant-loop-handle g l =
     let done = vec_len l.logs in
     let rest = l.handle-iterator in
-    (done + into_iter_len rest ≡ vec_len l.fn.handles)
+    (done + into_iter_len rest ≡ vec_len l.fn.started.handles)
     × ((k : ℕ) (d : _) → k < into_iter_len rest → IsPromise l.board l._plan (done + k) (slice_index_or (into_iter_items rest) k d).promise)
-    × AllWorked l._plan (vec_items l.logs) l.bench × (l.bench.board ≡ l.board) × (vec_len l.fn.handles ≤ vec_capacity l.logs)
-    × (l.bench.conductor ≡ l.fn.bench.conductor)
+    × AllWorked l._plan (vec_items l.logs) l.bench × (vec_len l.fn.started.handles ≤ vec_capacity l.logs)
+    × HasRest l.board (vec_len l.fn.started.handles) (ordered l.fn.started.all) l.bench

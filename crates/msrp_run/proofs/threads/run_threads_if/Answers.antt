@@ -11,21 +11,21 @@ use Rattle.msrp_run.proofs.threads.run_threads_if.Goals as goal
 pub merge-requires-clause-logs : goal.merge-requires-clause-logs
 merge-requires-clause-logs g c = subst (λ (l : List LogModel). AreLogs c.args.plan.now l (entries_at c.in_ok-logs.settled.books)) (sym c.deref.ensures.value) c.in_ok-logs.ensures.logs
 
-pub returns-in-Ok-clause-laws : goal.returns-in-Ok-clause-laws
-returns-in-Ok-clause-laws g c = keeps_laws c.args.plan.now c.in-Ok.trace.rows.items c.in_ok-logs.ensures.plan c.in-Ok.ensures.run
+pub returns-clause-laws : goal.returns-clause-laws
+returns-clause-laws g c = keeps_laws c.args.plan.now c.in_ok-trace.trace.rows.items c.in_ok-logs.ensures.plan c.in_ok-trace.ensures.run
 
-pub returns-in-Ok-clause-history : goal.returns-in-Ok-clause-history
-returns-in-Ok-clause-history g c = served_as c.in_ok-logs.settled c.args.plan.now c.in-Ok.trace.rows.items c.in_ok-logs.ensures.board.0 c.in_ok-logs.ensures.board.1 c.in-Ok.ensures.history
+pub returns-clause-history : goal.returns-clause-history
+returns-clause-history g c = served_as c.in_ok-logs.settled c.args.plan.now c.in_ok-trace.trace.rows.items c.in_ok-logs.ensures.board.0 c.in_ok-logs.ensures.board.1 c.in_ok-trace.ensures.history
 
-pub returns-in-Ok-clause-aheads : goal.returns-in-Ok-clause-aheads
-returns-in-Ok-clause-aheads g c =
-    c.in-Ok.ensures.aheads (λ k low.
+pub returns-clause-aheads : goal.returns-clause-aheads
+returns-clause-aheads g c =
+    c.in_ok-trace.ensures.aheads (λ k low.
     subst (λ (l : List LogModel). carries_ahead (rows_of (turns_of l k)) ≡ true) (sym c.deref.ensures.value)
     (c.in_ok-logs.ensures.aheads k low))
 
-pub returns-in-Ok-clause-order : goal.returns-in-Ok-clause-order
-returns-in-Ok-clause-order g c =
-    let order = c.in-Ok.ensures.order in
+pub returns-clause-order : goal.returns-clause-order
+returns-clause-order g c =
+    let order = c.in_ok-trace.ensures.order in
     record {
       logs = c.in_ok-logs.logs.items;
       fit = c.in_ok-logs.ensures.logs;

@@ -1,8 +1,5 @@
-use Rattle.msrp_board.specs.Seats.{IsSeat}
 use Rattle.msrp_run.specs.Work.{IsAtWork}
 use Rattle.msrp_run.proofs.work.worker.Given as goal
 
 abbrev pub invariant-loop : goal.invariant-loop
-invariant-loop g l =
-    (goal.iterator-loop g).can_next l.iterator' × (goal.iterator-loop g).is_finite l.iterator'
-    × IsAtWork l.board l.fn.machine.plan l.fn.machine.core l.machine l.log l.seat × IsSeat l.seat
+invariant-loop g l = (goal.iterator-loop g).can_next l.iterator' × (goal.iterator-loop g).is_finite l.iterator' × IsAtWork l.board l.fn.machine.plan l.fn.machine.core l.machine l.log l.seat
