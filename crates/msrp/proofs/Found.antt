@@ -7,8 +7,8 @@ use Rattle.msrp.specs.Words.{IsAsked, IsCommand, order_of}
 use Rattle.msrp.specs.declared.cli.Cmd.{Cmd}
 use Rattle.msrp.specs.declared.cli.Cmd.TheVariants.{Sim, Run, Audit, Report, Check, CheckText, Help}
 use Rattle.msrp_cli.specs.Arguments.{paths_of}
-use Rattle.msrp_cli.specs.declared.faults.CliFault.{CliFault}
-use Rattle.msrp_cli.specs.declared.faults.CliFault.TheVariants.{Usage}
+use Rattle.msrp_engine.specs.declared.faults.CliFault.{CliFault}
+use Rattle.msrp_engine.specs.declared.faults.CliFault.TheVariants.{Usage}
 
 pub a_value : {A : Type 0} (found : Option A) (a : A) → Ok a ≡ ok_or found Usage → found ≡ Some a
 a_value None a e = absurd (cc)

@@ -8,7 +8,7 @@ use Rattle.clap.specs.declared.parser.matches.ArgMatches.{ArgMatches}
 use Rattle.msrp.specs.CommandLine.{IsAnswered, IsChosen, answer_to, grammar}
 use Rattle.msrp.specs.Words.{IsAsked}
 use Rattle.msrp.specs.declared.cli.Cmd.{Cmd}
-use Rattle.msrp_cli.specs.declared.faults.CliFault.{CliFault}
+use Rattle.msrp_engine.specs.declared.faults.CliFault.{CliFault}
 
 -- a plain command has no argument for its subcommands too
 own_args : (a b c d : Bool) → (a && (b && (not c && d))) ≡ true → c ≡ false

@@ -1,8 +1,2 @@
-pub mod CheckRecords
-pub mod Judging
-pub mod NamedRows
-pub mod SimAnswers
-pub mod Reporting
 pub mod Grammar
 pub mod Found
-pub mod Gathering

@@ -8,19 +8,26 @@ use Rattle.msrp.specs.Words.{IsAsked, IsCommand}
 use Rattle.msrp.specs.declared.cli.Cmd.{Cmd}
 use Rattle.msrp.specs.declared.cli.Cmd.TheVariants.{Help}
 use Rattle.msrp_cli.specs.Arguments.{fault_of_words, flag, help_unless, valued, wanted}
-use Rattle.msrp_cli.specs.declared.faults.CliFault.{CliFault}
+use Rattle.msrp_engine.specs.declared.faults.CliFault.{CliFault}
 
 -- ---- arguments
 -- the path of a plan, which need not be given
 abbrev pub plan : Rule
 plan = new_rule (codes "PLAN")
 
+-- the order of the cores, and whether aheads are told
+abbrev pub order : Rule
+order = valued (codes "order")
+
+abbrev pub ahead : Rule
+ahead = flag (codes "ahead")
+
 -- ---- commands
 abbrev pub sim : App
-sim = with_rule (with_rule (with_rule (new_app (codes "sim")) (valued (codes "order"))) (flag (codes "ahead"))) plan
+sim = with_rule (with_rule (with_rule (new_app (codes "sim")) order) ahead) plan
 
 abbrev pub run : App
-run = with_rule (with_rule (new_app (codes "run")) (flag (codes "ahead"))) plan
+run = with_rule (with_rule (new_app (codes "run")) ahead) plan
 
 abbrev pub check : App
 check = with_rule (with_rule (new_app (codes "check")) (flag (codes "text"))) plan

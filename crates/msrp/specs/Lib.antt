@@ -1,10 +1,2 @@
-pub mod Outcomes
-pub mod Simulation
-pub mod CheckText
-pub mod Running
-pub mod Findings
-pub mod AuditText
 pub mod Words
 pub mod CommandLine
-pub mod Reports
-pub mod Inside

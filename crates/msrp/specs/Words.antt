@@ -7,8 +7,8 @@ use Rattle.msrp.specs.declared.cli.Cmd.TheVariants.{Sim, Run, Audit, Report, Che
 use Rattle.msrp.specs.declared.cli.TurnOrder.{TurnOrder}
 use Rattle.msrp.specs.declared.cli.TurnOrder.TheVariants.{Asc, Desc, Rot}
 use Rattle.msrp_cli.specs.Arguments.{is_given, paths_of}
-use Rattle.msrp_cli.specs.declared.faults.CliFault.{CliFault}
-use Rattle.msrp_cli.specs.declared.faults.CliFault.TheVariants.{Usage}
+use Rattle.msrp_engine.specs.declared.faults.CliFault.{CliFault}
+use Rattle.msrp_engine.specs.declared.faults.CliFault.TheVariants.{Usage}
 
 -- ---- arguments, by what the parser found
 -- the path of the plan: standard input where none is given

@@ -9,9 +9,9 @@ ghost use Rattle.msrp.specs.Words.{IsAsked, IsCommand, order_of, plan_path};
 use clap::error::ErrorKind;
 use clap::{Arg, ArgMatches, Command, Error};
 use msrp_cli::{
-    CliFault, PLAN, STANDARD, TRACE, both_paths, fault_of_words, flag, is_given, path, value_of,
-    valued,
+    PLAN, STANDARD, TRACE, both_paths, fault_of_words, flag, is_given, path, value_of, valued,
 };
+use msrp_engine::CliFault;
 use std::alloc::{AllocError, Global};
 
 /// The order of the cores in each tick of a simulation.
@@ -88,22 +88,38 @@ fn judge<'a>(alloc: Global, name: &'a str, about: &'a str) -> Result<Command<'a>
         .arg(path(alloc, TRACE, "the trace's path; - is standard input"))
 }
 
+// The order of the cores.
+fn order_arg<'a>(alloc: Global) -> Arg<'a>
+    ensures rule { rule_of result ≡ line.order }
+    ensures own { result.global ≡ false }
+{
+    valued(
+        alloc,
+        ORDER,
+        "asc|desc|rot",
+        "the order of the cores in each tick: rising, falling, or from core t mod m on in tick t",
+    )
+}
+
+// Whether aheads are told.
+fn ahead_arg<'a>(alloc: Global) -> Arg<'a>
+    ensures rule { rule_of result ≡ line.ahead }
+    ensures own { result.global ≡ false }
+{
+    flag(
+        alloc,
+        AHEAD,
+        "tells with each queued request how many are ahead",
+    )
+}
+
 fn sim<'a>(alloc: Global) -> Result<Command<'a>, AllocError>
     ensures { IfOk result (Takes line.sim) }
 {
     Command::new(alloc, "sim")
         .about("writes the trace of the plan's run on one thread")
-        .arg(valued(
-            alloc,
-            ORDER,
-            "asc|desc|rot",
-            "the order of the cores in each tick: rising, falling, or from core t mod m on in tick t",
-        ))?
-        .arg(flag(
-            alloc,
-            AHEAD,
-            "tells with each queued request how many are ahead",
-        ))?
+        .arg(order_arg(alloc))?
+        .arg(ahead_arg(alloc))?
         .arg(plan_path(alloc))
 }
 
@@ -112,11 +128,7 @@ fn run<'a>(alloc: Global) -> Result<Command<'a>, AllocError>
 {
     Command::new(alloc, "run")
         .about("writes the trace of the plan's run on one thread for each core")
-        .arg(flag(
-            alloc,
-            AHEAD,
-            "tells with each queued request how many are ahead",
-        ))?
+        .arg(ahead_arg(alloc))?
         .arg(plan_path(alloc))
 }
 

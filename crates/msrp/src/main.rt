@@ -1,34 +1,25 @@
 //! `msrp`: runs a plan of tasks on several cores, on one thread or on one for each core; judges a trace of it, and reports what happened
 //! in one; and checks a plan, of which it writes the levels and ceilings, or the plan's own text.
 //!
-//! `cli` reads the command line. `engine`, `running`, `audit`, `parallel`, `report` and `check` turn bytes into bytes. `main` opens what
-//! the words name, prints the line of a fault and gives the exit status.
+//! `cli` reads the command line, and `main` opens what the words name, prints the line of a fault and gives the exit status. The
+//! engines, which turn bytes into bytes, are `msrp_engine`'s.
 #![tactic(auto)]
 
 ghost use Rattle.std.specs.Prelude.{◌≡◌, if◌then◌else◌};
 
-mod audit;
-mod check;
 mod cli;
-mod engine;
-mod fields;
-mod parallel;
-mod report;
-mod running;
 #[cfg(test)]
 mod tests;
 
-use audit::audit_text;
-use check::check_text;
 use cli::{Cmd, TurnOrder, command_of, help_text};
-use engine::{plan_text, sim_text};
-use msrp_cli::{CliFault, Input, exit_of, open, open_both, words_of, write_help};
+use msrp_cli::{Input, open, open_both, words_of, write_help};
+pub use msrp_engine::{
+    CliFault, audit_parallel_text, audit_text, check_text, exit_of, plan_text, report_text,
+    run_text, run_text_if, sim_text,
+};
 use msrp_plan::TextVersion;
 use msrp_plan::bytes::{Sink, Source};
 use msrp_sim::Order;
-use parallel::audit_parallel_text;
-use report::report_text;
-use running::run_text;
 use std::io;
 use std::process::ExitCode;
 use std::sync::Wait;

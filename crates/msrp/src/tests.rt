@@ -1,8 +1,7 @@
 //! Bytes in, bytes out: worked plans, refusals, and readers and writers that fail.
 
 use crate::cli::{Cmd, TurnOrder, command_of};
-use crate::engine::{plan_text, sim_text};
-use msrp_cli::CliFault;
+use crate::{CliFault, plan_text, sim_text};
 use msrp_plan::TextVersion;
 use msrp_plan::bytes::{Sink, Source};
 use msrp_sim::Order;
@@ -11,6 +10,13 @@ use std::io;
 use std::io::{ErrorKind, Read, Write};
 use std::process::Abort;
 use std::test::Fail;
+
+mod audit;
+mod check;
+mod faults;
+mod report;
+mod run;
+mod view;
 
 const PLAN: &[u8] = b"msrp,1\ncores,1\nticks,3\ntask,a,0,3,3,0\nop,run,2\n";
 

@@ -6,11 +6,11 @@ ghost use Rattle.clap.specs.Words.{first_of, found_of, rows_of, rule_of};
 ghost use Rattle.msrp_cli.specs.Arguments as argument;
 ghost use Rattle.msrp_cli.specs.Arguments.{fault_of_words, paths_of};
 
-use crate::faults::CliFault;
 use crate::input::STANDARD;
 use clap::error::ErrorKind;
 use clap::parser::ValueSource;
 use clap::{Arg, ArgAction, ArgMatches};
+use msrp_engine::CliFault;
 use std::alloc::Global;
 
 /// The name of the argument that is a plan's path.

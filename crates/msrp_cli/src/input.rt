@@ -3,7 +3,7 @@
 ghost use Rattle.std.specs.Prelude.{◌≡◌, ◌↔◌, codes, IfErr, IfOk, true};
 ghost use Rattle.msrp_cli.specs.Inputs.{is_standard};
 
-use crate::faults::CliFault;
+use msrp_engine::CliFault;
 use std::fs::File;
 use std::io;
 use std::io::Read;

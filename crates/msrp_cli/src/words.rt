@@ -3,7 +3,7 @@
 ghost use Rattle.std.specs.IoError.{error_kind};
 ghost use Rattle.std.specs.Prelude.{◌≡◌, ◌⊎◌, ◌↔◌, IfErr, IfOk, IsErrAnd};
 
-use crate::faults::CliFault;
+use msrp_engine::CliFault;
 use std::alloc::Global;
 use std::env::Args;
 use std::io;

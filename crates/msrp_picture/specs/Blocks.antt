@@ -1,6 +1,6 @@
 -- Blocks: the stretches of a core's rows in which one job does the same.
 use Rattle.std.specs.Prelude.{ℕ, List, [], ◌∷◌, Bool, false, ◌&&◌, ◌==◌, not, nat_eq, nat_lt, nat_le, if◌then◌else◌, Option, Some, None, filter, slice_get, ◌+◌, ◌-◌}
-use Rattle.msrp_audit.specs.Foresight.{same_kind}
+use Rattle.msrp_picture.specs.Kinds.{same_kind}
 use Rattle.msrp_plan.specs.Actions.{same_res}
 use Rattle.msrp_plan.specs.Logs.{is_of}
 use Rattle.msrp_plan.specs.Runs.{same_choice}

@@ -1,4 +1,3 @@
 pub mod Queues
 pub mod Drawings
-pub mod Readings
 pub mod TaskRows

@@ -3,13 +3,12 @@
 use Rattle.std.specs.Prelude.{ℕ, List, [], ◌∷◌, ◌++◌, Option, Some, None, Ok, Err, if◌then◌else◌, codes, decimal, drop, length, max, nat_eq, ◌+◌, ◌-◌, ◌%◌, ⊤}
 use Rattle.std.specs.List.{flat_map, range_with_len}
 use Rattle.std.specs.declared.result.Result.{Result}
-use Rattle.msrp_audit.specs.Foresight.{same_kind}
+use Rattle.msrp_picture.specs.Kinds.{kind_text, same_kind}
 use Rattle.msrp_plan.specs.Plan.{PlanModel}
 use Rattle.msrp_plan.specs.declared.faults.Fault.{Fault}
 use Rattle.msrp_plan.specs.declared.faults.Rule.{Rule}
 use Rattle.msrp_plan.specs.declared.rows.Kind.TheVariants.{Idle}
 use Rattle.msrp_plan.specs.declared.rows.Row.{Row}
-use Rattle.msrp_trace.specs.TraceText.{kind_text}
 use Rattle.msrp_picture.specs.Blocks.{begins, is_in, last_tick, log_in}
 use Rattle.msrp_picture.specs.Cells.{sign}
 use Rattle.msrp_picture.specs.Elements.{attribute, group_end, place_head, rect_text, text_end, text_head, text_text}

@@ -1,6 +1,6 @@
 //! How a picture is drawn.
 ghost use Rattle.std.specs.Prelude.{◌≡◌, IfOk};
-ghost use Rattle.msrp_picture.specs.Views.{drawing};
+ghost use Rattle.msrp_picture.specs.Styles.{drawing};
 ghost use Rattle.msrp_picture.specs.Windows.{IsWindow};
 
 use crate::picture::picture;
@@ -10,7 +10,7 @@ use msrp_plan::{Fault, Memory, Plan, Row};
 use std::alloc::Global;
 
 /// A picture of these ticks of rows of the plan, on which that is the verdict.
-pub(crate) fn draw(
+pub fn draw(
     alloc: Global,
     plan: &Plan,
     rows: &[Row],

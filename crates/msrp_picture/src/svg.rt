@@ -1,7 +1,7 @@
 //! A picture of a trace in SVG.
 ghost use Rattle.std.specs.Prelude.{◌≡◌, ◌<◌, ◌++◌, length, IfOk, OnOk};
 ghost use Rattle.std.specs.List.{flat_map, range_with_len};
-ghost use Rattle.msrp_trace.specs.TraceText.{kind_text};
+ghost use Rattle.msrp_picture.specs.Kinds.{kind_text};
 ghost use Rattle.msrp_picture.specs.Svg.{arrows_key, axis_text, block_at, block_text, blocks_text, caption_text, core_lane, core_text, cores_text, drawn_svg, fault_text, first_block, found_text, key_text, lane_text, lanes_text, legend_line, lives_key, mark_of, mark_text, queues_key, style_text, svg_head, svg_legend, svg_text, tick_text, title_text};
 ghost use Rattle.msrp_picture.specs.Windows.{IsWindow};
 
@@ -27,7 +27,7 @@ use msrp_plan::{CoreId, Fault, Kind, Memory, Plan, Row, Rule, TaskId};
 use std::alloc::Global;
 
 // The word of a kind.
-#[tactic(auto, unfolding(msrp_trace::specs::TraceText::kind_text))]
+#[tactic(auto, unfolding(crate::specs::Kinds::kind_text))]
 fn kind_word(kind: Kind) -> &'static [u8]
     ensures { result.now ≡ kind_text kind }
 {

@@ -9,9 +9,8 @@ ghost use Rattle.msrp_view.specs.CommandLine.{IsAnswered, IsDrawn, Takes};
 
 use clap::error::ErrorKind;
 use clap::{ArgMatches, Command};
-use msrp_cli::{
-    CliFault, PLAN, TRACE, both_paths, fault_of_words, flag, is_given, path, value_of, valued,
-};
+use msrp_cli::{PLAN, TRACE, both_paths, fault_of_words, flag, is_given, path, value_of, valued};
+use msrp_engine::CliFault;
 use msrp_picture::{Asked, Style};
 use std::alloc::{AllocError, Global};
 

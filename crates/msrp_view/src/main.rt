@@ -1,7 +1,7 @@
 //! `msrp_view`: draws a trace of a plan, in text or in SVG.
 //!
-//! `cli` reads the command line, and `main` opens what the words name, prints the line of a fault and gives the exit status. What is drawn is
-//! `msrp_picture`'s.
+//! `cli` reads the command line, and `main` opens what the words name, prints the line of a fault and gives the exit status. The engine
+//! is `msrp_engine`'s.
 #![tactic(auto)]
 
 mod cli;
@@ -9,8 +9,8 @@ mod cli;
 mod tests;
 
 use cli::{Cmd, command_of, help_text};
-use msrp_cli::{CliFault, exit_of, open_both, words_of, write_help};
-use msrp_picture::view_text;
+use msrp_cli::{open_both, words_of, write_help};
+use msrp_engine::{CliFault, exit_of, view_text};
 use msrp_plan::bytes::{Sink, Source};
 use std::io;
 use std::process::ExitCode;

@@ -1,7 +1,7 @@
 //! What words ask for.
 
 use crate::cli::{Cmd, command_of};
-use msrp_cli::CliFault;
+use msrp_engine::CliFault;
 use msrp_picture::{Asked, Style};
 use std::alloc::{AllocError, Global};
 use std::test::Fail;

@@ -1,7 +1,7 @@
 use Rattle.std.proofs.Common.{rules, ◌≡◌, Ok, Err, ok_or, refl}
 use Rattle.clap.specs.Words.{found_of, rows_of}
 use Rattle.msrp_cli.specs.Arguments.{paths_of}
-use Rattle.msrp_cli.specs.declared.faults.CliFault.TheVariants.{Usage}
+use Rattle.msrp_engine.specs.declared.faults.CliFault.TheVariants.{Usage}
 use Rattle.msrp.proofs.Found.{a_value, audit_refused}
 use Rattle.msrp.proofs.cli.audit_of.Goals as goal
 

@@ -1,6 +1,6 @@
 use Rattle.std.proofs.Common.{rules, ◌≡◌, Ok, Err, codes, ok_or, refl}
 use Rattle.clap.specs.Words.{first_of, found_of, rows_of}
-use Rattle.msrp_cli.specs.declared.faults.CliFault.TheVariants.{Usage}
+use Rattle.msrp_engine.specs.declared.faults.CliFault.TheVariants.{Usage}
 use Rattle.msrp.specs.Words.{order_of}
 use Rattle.msrp.proofs.Found.{a_value, sim_refused}
 use Rattle.msrp.proofs.cli.sim_of.Goals as goal

@@ -1,6 +1,0 @@
-use Rattle.msrp_plan.specs.Bytes.{Wrote}
-use Rattle.msrp.specs.CheckText.{ceiling_record, told_each}
-use Rattle.msrp.proofs.check.write_ceilings.Given as goal
-
-abbrev pub invariant-loop-res : goal.invariant-loop-res
-invariant-loop-res g l = Wrote g.W.Write.contents l.fn.out l.out (told_each (ceiling_record l.plan) l.res)

@@ -1,6 +1,0 @@
-use Rattle.msrp.specs.CheckText.{level_record}
-use Rattle.msrp.proofs.CheckRecords.{wrote-told}
-use Rattle.msrp.proofs.check.write_levels.Goals as goal
-
-pub loop-task-preserved : goal.loop-task-preserved
-loop-task-preserved g c = wrote-told _ _ _ _ (level_record c.args.plan.now) c.loop-task.task c.loop-task.invariant c.write_level.ensures

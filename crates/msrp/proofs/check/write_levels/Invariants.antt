@@ -1,6 +1,0 @@
-use Rattle.msrp_plan.specs.Bytes.{Wrote}
-use Rattle.msrp.specs.CheckText.{level_record, told_each}
-use Rattle.msrp.proofs.check.write_levels.Given as goal
-
-abbrev pub invariant-loop-task : goal.invariant-loop-task
-invariant-loop-task g l = Wrote g.W.Write.contents l.fn.out l.out (told_each (level_record l.plan) l.task)

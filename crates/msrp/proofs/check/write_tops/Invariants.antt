@@ -1,6 +1,0 @@
-use Rattle.msrp_plan.specs.Bytes.{Wrote}
-use Rattle.msrp.specs.CheckText.{top_record, told_each}
-use Rattle.msrp.proofs.check.write_tops.Given as goal
-
-abbrev pub invariant-loop-core : goal.invariant-loop-core
-invariant-loop-core g l = Wrote g.W.Write.contents l.fn.out l.out (told_each (top_record l.plan) l.core)

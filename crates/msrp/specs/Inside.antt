@@ -1,2 +1,0 @@
--- Words of the audit in pieces. No public contract speaks of them.
-pub mod Gathered

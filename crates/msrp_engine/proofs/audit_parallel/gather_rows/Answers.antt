@@ -1,0 +1,49 @@
+use Rattle.std.proofs.Common.{rules, ◌≡◌, ◌++◌, ◌∷◌, ◌+◌, [], List, Ok, Err, length, length-append, arith, ap, subst, sym, ◌∙◌}
+use Rattle.msrp_plan.specs.declared.rows.Row.{Row}
+use Rattle.msrp_trace.specs.Readers.{told_left}
+use Rattle.msrp_engine.specs.Inside.Gathered.{IsGathered}
+use Rattle.msrp_engine.specs.Outcomes.{trace_fault_of}
+use Rattle.msrp_engine.specs.declared.faults.CliFault.TheVariants.{Memory}
+use Rattle.msrp_engine.proofs.Gathering.{gathered-all, gathered-full, gathered-refused, gathered-unkept}
+use Rattle.msrp_trace.proofs.ReadThrough.{IsReadTo, none-read, read-row}
+use Rattle.msrp_engine.proofs.audit_parallel.gather_rows.Goals as goal
+
+pub loop-row-init : goal.loop-row-init
+loop-row-init g c = record {
+  count = ap length c.requires;
+  read = λ told known. subst (λ (rows : List Row). IsReadTo told rows (told_left g.T.Read.remaining c.args.rows.now)) (sym c.requires) (none-read told _ known);
+}
+
+pub loop-row-preserved : goal.loop-row-preserved
+loop-row-preserved g c =
+    let i = c.loop-row.invariant in
+    let rows = c.loop-row.gathered.items in
+    let pushed : c.push.new.self.items ≡ rows ++ c.in-Some.row ∷ [] = search rules in
+    record {
+      count = ap length pushed ∙ (length-append rows (c.in-Some.row ∷ []) ∙ ap (λ n. n + 1) i.count);
+      read = λ told known. subst (λ (l : List Row). IsReadTo told l (told_left g.T.Read.remaining c.next_row.new.self)) (sym pushed)
+          (read-row told rows _ _ c.next_row.result c.in-Some.row (i.read told known) c.next_row.ensures.next (c.in_ok-row.was ∙ ap (λ x. Ok x) c.in-Some.is));
+    }
+
+pub returns-in_err-row-clause-gathered : goal.returns-in_err-row-clause-gathered
+returns-in_err-row-clause-gathered g c = λ told known.
+    let rows = c.loop-row.gathered.items in
+    let gives : c.from_residual.result ≡ Err (trace_fault_of c.in_err-row.field-0.0) = search rules in
+    subst (IsGathered c.args.most told rows) (sym gives)
+    (gathered-refused c.args.most told rows _ _ c.next_row.result c.in_err-row.field-0.0 (c.loop-row.invariant.read told known) c.next_row.ensures.next (cc))
+
+pub returns-in-None-clause-gathered : goal.returns-in-None-clause-gathered
+returns-in-None-clause-gathered g c = λ told known.
+    gathered-all c.args.most told c.loop-row.gathered.items _ _ c.next_row.result (c.loop-row.invariant.read told known) c.next_row.ensures.next (cc)
+
+pub returns-clause-gathered : goal.returns-clause-gathered
+returns-clause-gathered g c = λ told known.
+    gathered-full c.args.most told c.loop-row.gathered.items _ (c.loop-row.invariant.read told known) (omega (arith, c.loop-row.invariant.count))
+
+pub returns-in_err-push-in-Some-clause-gathered : goal.returns-in_err-push-in-Some-clause-gathered
+returns-in_err-push-in-Some-clause-gathered g c = λ told known.
+    let rows = c.loop-row.gathered.items in
+    let gives : c.from_residual-in_err-push-in-Some.result ≡ Err Memory = search rules in
+    let kept : c.push.new.self.items ≡ rows = search rules in
+    subst (λ (l : List Row). IsGathered c.args.most told l c.from_residual-in_err-push-in-Some.result) (sym kept)
+    (subst (IsGathered c.args.most told rows) (sym gives) (gathered-unkept c.args.most told rows _ (c.loop-row.invariant.read told known)))

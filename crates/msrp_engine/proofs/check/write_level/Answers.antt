@@ -1,0 +1,10 @@
+use Rattle.std.proofs.Common.{ap, ◌∙◌}
+use Rattle.msrp_plan.specs.Levels.{level}
+use Rattle.msrp_plan.proofs.Writes.{wrote-more}
+use Rattle.msrp_engine.proofs.check.write_level.Goals as goal
+
+pub returns : goal.returns
+returns g c =
+    let name = rw (c.as_bytes.ensures.value ∙ c.task_name.ensures) at c.next_field.ensures in
+    let number = rw (c.level.ensures ∙ ap (λ plan. level plan c.args.task.0) c.requires.levels) at c.next_number.ensures in
+    wrote-more _ _ _ _ _ _ c.add.ensures (wrote-more _ _ _ _ _ _ name (wrote-more _ _ _ _ _ _ number c.add-2.ensures))

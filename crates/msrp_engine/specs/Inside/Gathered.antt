@@ -1,0 +1,35 @@
+-- The rows of a trace's text that are gathered before they are judged, and what is found in them.
+use Rattle.std.specs.Prelude.{◌≡◌, ◌⊎◌, ◌≤◌, if◌then◌else◌, ℕ, Bool, true, false, ⊤, List, [], ◌++◌, None, Some, length, option_map}
+use Rattle.std.specs.declared.result.Result.{Result}
+use Rattle.std.specs.declared.result.Result.TheVariants.{Ok, Err}
+use Rattle.msrp_plan.specs.declared.faults.Fault.{Fault}
+use Rattle.msrp_plan.specs.declared.faults.Rule.{Rule}
+use Rattle.msrp_plan.specs.declared.faults.Rule.TheVariants.{A6}
+use Rattle.msrp_plan.specs.declared.rows.Row.{Row}
+use Rattle.msrp_trace.specs.Reading.{Told}
+use Rattle.msrp_engine.specs.Outcomes.{trace_fault_of}
+use Rattle.msrp_engine.specs.declared.faults.CliFault.{CliFault}
+use Rattle.msrp_engine.specs.declared.faults.CliFault.TheVariants.{Read, Memory}
+
+-- why no row behind these was gathered: there are as many as were asked for, or none is left; else a read failed, memory was
+-- refused, or the record behind them is refused
+abbrev pub EndsBy : ℕ → Told → List Row → List Row → Result ⊤ CliFault → Type 0
+EndsBy most told rows rest (Ok done) = (most ≤ length rows) ⊎ ((rest ≡ []) × (told.refusal ≡ None))
+EndsBy most told rows rest (Err fault) = (fault ≡ Read) ⊎ (fault ≡ Memory) ⊎ ((rest ≡ []) × (option_map trace_fault_of told.refusal ≡ Some fault))
+
+-- these rows are the first of what is told
+pub record IsGathered (most : ℕ) (told : Told) (rows : List Row) (ended : Result ⊤ CliFault) : Type 0 where
+  pub rest : List Row
+  pub whole : told.rows ≡ rows ++ rest
+  pub end : EndsBy most told rows rest ended
+
+-- the rule of a missing row
+abbrev pub is_missing : Rule → Bool
+is_missing A6 = true
+is_missing _ = false
+
+-- rows that were judged so: where a fault ended the reading, none of them is missing
+abbrev pub found_in : Result ⊤ Fault → Result ⊤ CliFault → Result (Result ⊤ Fault) CliFault
+found_in judged (Ok done) = Ok judged
+found_in (Ok good) (Err fault) = Err fault
+found_in (Err found) (Err fault) = if is_missing found.rule then Err fault else Ok (Err found)

@@ -1,0 +1,9 @@
+pub mod Outcomes
+pub mod Simulation
+pub mod CheckText
+pub mod Running
+pub mod Findings
+pub mod AuditText
+pub mod Reports
+pub mod Views
+pub mod Inside

@@ -1,0 +1,41 @@
+-- What the report of a trace's text is.
+use Rattle.std.specs.Prelude.{◌≡◌, ℕ, List, Option, Ok, Err, IfOk, ⊤}
+use Rattle.std.specs.declared.result.Result.{Result}
+use Rattle.msrp_plan.specs.Bytes.{Wrote}
+use Rattle.msrp_plan.specs.Plan.{PlanModel}
+use Rattle.msrp_plan.specs.declared.bytes.Sink.{Sink}
+use Rattle.msrp_plan.specs.declared.faults.Fault.{Fault}
+use Rattle.msrp_plan.specs.declared.rows.Row.{Row}
+use Rattle.msrp_report.specs.Lines.{lines_of}
+use Rattle.msrp_report.specs.declared.lines.Report.{Report}
+use Rattle.msrp_report.specs.ReportText.{report_text}
+use Rattle.msrp_text.specs.declared.reading.TextError.{TextError}
+use Rattle.msrp_trace.specs.Reading.{Told, rows_of}
+use Rattle.msrp_engine.specs.AuditText.{AuditAnswers}
+use Rattle.msrp_engine.specs.Findings.{finding}
+use Rattle.msrp_engine.specs.Outcomes.{fault_of, written_status}
+use Rattle.msrp_engine.specs.declared.faults.CliFault.{CliFault}
+
+-- ---- the report of the rows of a trace's text, or what is found in them
+-- the verdict in such an answer
+abbrev pub verdict_told : Result (Result Report Fault) CliFault → Result (Result ⊤ Fault) CliFault
+verdict_told (Ok (Ok report)) = Ok (Ok tt)
+verdict_told (Ok (Err fault)) = Ok (Err fault)
+verdict_told (Err fault) = Err fault
+
+-- the answer is what is found in the rows that are told, and good rows are reported
+pub record Reports (plan : PlanModel) (told : Told) (answer : Result (Result Report Fault) CliFault) : Type 0 where
+  pub found : verdict_told answer ≡ finding plan told
+  pub lines : IfOk answer (λ good. IfOk good (λ report. report.lines.items ≡ lines_of plan told.rows))
+
+-- ---- the answer
+-- where these are the rows and that is found in them: the report of a legal run, and else what an audit answers
+abbrev pub TellsReport : {W : Type 0} → (W → Option (List ℕ)) → PlanModel → List Row → Result (Result ⊤ Fault) CliFault → Sink W → Sink W → Result ℕ CliFault → Type 0
+TellsReport contents plan rows (Ok (Ok good)) old new result = Wrote contents old new (report_text plan (lines_of plan rows)) × (result ≡ written_status new)
+TellsReport contents plan rows (Ok (Err fault)) old new result = AuditAnswers contents (Ok (Err fault)) old new result
+TellsReport contents plan rows (Err fault) old new result = AuditAnswers contents (Err fault) old new result
+
+-- the answer to a text that stands for a plan, or to one that is refused, and to the records of a trace's text
+abbrev pub ReportAnswers : {W : Type 0} → (W → Option (List ℕ)) → Result PlanModel TextError → List (List (List ℕ)) → Sink W → Sink W → Result ℕ CliFault → Type 0
+ReportAnswers contents (Ok plan) records old new result = TellsReport contents plan (rows_of plan records).rows (finding plan (rows_of plan records)) old new result
+ReportAnswers contents (Err error) records old new result = (result ≡ Err (fault_of error)) × (new ≡ old)

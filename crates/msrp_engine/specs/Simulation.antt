@@ -1,0 +1,52 @@
+-- What a simulation of a plan, and a text of it, write and answer.
+use Rattle.std.specs.Prelude.{◌≡◌, ℕ, List, Option, Ok, Err}
+use Rattle.std.specs.declared.result.Result.{Result}
+use Rattle.msrp_plan.specs.Plan.{PlanModel}
+use Rattle.msrp_plan.specs.Scheduling.{IsOrder}
+use Rattle.msrp_plan.specs.Bytes.{Wrote}
+use Rattle.msrp_plan.specs.WellFormed.{IsPlan}
+use Rattle.msrp_plan.specs.declared.rows.Row.{Row}
+use Rattle.msrp_plan.specs.declared.bytes.Sink.{Sink}
+use Rattle.msrp_text.specs.declared.reading.TextError.{TextError}
+use Rattle.msrp_plan.specs.declared.rows.TextVersion.{TextVersion}
+use Rattle.msrp_sim.specs.Orders.{cores_of}
+use Rattle.msrp_sim.specs.Simulated.{IsRunIn}
+use Rattle.msrp_sim.specs.declared.orders.Order.{Order}
+use Rattle.msrp_trace.specs.TraceText.{trace_text}
+use Rattle.msrp_engine.specs.Outcomes.{fault_of, written_status}
+use Rattle.msrp_engine.specs.declared.faults.CliFault.{CliFault}
+use Rattle.msrp_engine.specs.declared.faults.CliFault.TheVariants.{Usage}
+
+-- the sink took the text, in this version, of the trace of a whole run of the plan in this order
+pub record WritesRun {W : Type 0} (contents : W → Option (List ℕ)) (version : TextVersion) (plan : PlanModel) (order : List ℕ) (old new : Sink W) : Type 0 where
+  pub rows : List Row
+  pub run : IsRunIn plan order rows
+  pub text : Wrote contents old new (trace_text version plan rows)
+
+-- the sink took the text of the run of some well-formed plan in this order of it
+pub record WritesSomeRun {W : Type 0} (contents : W → Option (List ℕ)) (version : TextVersion) (order : Order) (old new : Sink W) : Type 0 where
+  pub plan : PlanModel
+  pub well_formed : IsPlan plan
+  pub is_order : IsOrder plan (cores_of order plan)
+  pub writes : WritesRun contents version plan (cores_of order plan) old new
+
+-- the sink took such a text of some well-formed plan
+pub record WritesSomeText {W : Type 0} (contents : W → Option (List ℕ)) (text_of : PlanModel → List ℕ) (old new : Sink W) : Type 0 where
+  pub plan : PlanModel
+  pub well_formed : IsPlan plan
+  pub text : Wrote contents old new (text_of plan)
+
+-- what a plan is answered in an order of it, and in a list that is no order of it: then nothing is written
+pub data SimAnswersPlan {W : Type 0} (contents : W → Option (List ℕ)) (version : TextVersion) (plan : PlanModel) (order : List ℕ) (old new : Sink W) (result : Result ℕ CliFault) : Type 0 where
+  Simulated : (is : IsOrder plan order) (writes : WritesRun contents version plan order old new) (status : result ≡ written_status new) → SimAnswersPlan contents version plan order old new result
+  NoOrder : (isnt : ¬ IsOrder plan order) (usage : result ≡ Err Usage) (silent : new ≡ old) → SimAnswersPlan contents version plan order old new result
+
+-- the answer to a text that stands for a plan, or to one that is refused: then nothing is written
+abbrev pub SimAnswers : {W : Type 0} → (W → Option (List ℕ)) → TextVersion → Order → Result PlanModel TextError → Sink W → Sink W → Result ℕ CliFault → Type 0
+SimAnswers contents version order (Ok plan) old new result = SimAnswersPlan contents version plan (cores_of order plan) old new result
+SimAnswers contents version order (Err error) old new result = (result ≡ Err (fault_of error)) × (new ≡ old)
+
+-- the same where such a text of the plan is asked for
+abbrev pub TextAnswers : {W : Type 0} → (W → Option (List ℕ)) → (PlanModel → List ℕ) → Result PlanModel TextError → Sink W → Sink W → Result ℕ CliFault → Type 0
+TextAnswers contents text_of (Ok plan) old new result = Wrote contents old new (text_of plan) × (result ≡ written_status new)
+TextAnswers contents text_of (Err error) old new result = (result ≡ Err (fault_of error)) × (new ≡ old)

@@ -1,0 +1,152 @@
+//! The audit of a trace's text, row by row.
+ghost use Rattle.std.specs.Prelude.{◌≡◌, ◌⊎◌, ℕ, List, [], true, false, Some, Err, IfOk, IfErr};
+ghost use Rattle.msrp_audit.specs.Audits.{HasFed};
+ghost use Rattle.msrp_plan.specs.Bytes.{Wrote, sink_failed, source_failed, source_remaining};
+ghost use Rattle.msrp_text.specs.PlanText.{record_text};
+ghost use Rattle.msrp_text.specs.Reading.{csv_records, plan_of};
+ghost use Rattle.msrp_text.specs.declared.reading.TextError.{TextError as PlanError};
+ghost use Rattle.msrp_trace.specs.Reading.{Told, rows_of};
+ghost use Rattle.msrp_trace.specs.Readers.{told_left};
+ghost use Rattle.msrp_engine.specs.AuditText.{AuditAnswers, TellsVerdict, rule_text, verdict_fields};
+ghost use Rattle.msrp_engine.specs.Findings.{finding, finding_of};
+ghost use Rattle.msrp_engine.specs.Outcomes.{fault_of, is_trace_fault, is_audit_fault};
+
+use crate::faults::CliFault;
+use crate::fields::{next_field, next_number};
+use msrp_audit::Auditor;
+use msrp_levels::Levels;
+use msrp_plan::bytes::{Sink, Source};
+use msrp_plan::{Fault, Plan, Rule};
+use msrp_text::read_plan;
+use msrp_trace::TraceReader;
+use std::alloc::Global;
+use std::io::{Read, Write};
+
+// What is found in the rows that a reader has left. They are judged as they come, and none is read after a faulty one.
+fn judge_rows<T: Read>(
+    auditor: &mut Auditor<'_>,
+    rows: &mut TraceReader<'_, T>,
+) -> Result<Result<(), Fault>, CliFault>
+    requires fed { HasFed auditor.old [] }
+    ensures found { (told : Told) → told_left T.remaining rows.old ≡ Some told
+        → (result ≡ Err CliFault.Read) ⊎ (result ≡ Err CliFault.Memory) ⊎ (result ≡ finding auditor.old.plan told) }
+    ensures faults { IfErr result (λ fault. is_trace_fault fault ≡ true) }
+{
+    while let Some(row) = rows.next_foreseen(|core| auditor.foresee(core))? {
+        if let Err(fault) = auditor.feed(row) {
+            return Ok(Err(fault));
+        }
+    }
+    Ok(auditor.end())
+}
+
+// What is found in the rows of a trace's text. Whatever ends the reading early may be told as a failed read.
+fn judge_all<T: Read>(
+    alloc: Global,
+    plan: &Plan,
+    trace: &mut Source<T>,
+) -> Result<Result<(), Fault>, CliFault>
+    ensures found { (bytes : List ℕ) → source_remaining T.remaining trace.old ≡ Some bytes
+        → (result ≡ Err CliFault.Read) ⊎ (result ≡ Err CliFault.Memory) ⊎ (result ≡ finding plan.now (rows_of plan.now (csv_records bytes))) }
+    ensures faults { IfErr result (λ fault. is_trace_fault fault ≡ true) }
+{
+    let levels = Levels::of(alloc, plan)?;
+    let mut auditor = Auditor::with_room(alloc, plan, &levels)?;
+    let mut rows = TraceReader::new(alloc, trace, plan)?;
+    let found = judge_rows(&mut auditor, &mut rows);
+    drop(rows);
+    found
+}
+
+// What is found in a trace's text. One row is kept at a time.
+fn judge_text<T: Read>(
+    alloc: Global,
+    plan: &Plan,
+    trace: &mut Source<T>,
+) -> Result<Result<(), Fault>, CliFault>
+    ensures found { (bytes : List ℕ) → source_remaining T.remaining trace.old ≡ Some bytes
+        → (result ≡ Err CliFault.Read) ⊎ (result ≡ Err CliFault.Memory) ⊎ (result ≡ finding plan.now (rows_of plan.now (csv_records bytes))) }
+    ensures faults { IfErr result (λ fault. is_trace_fault fault ≡ true) }
+    ensures read { result ≡ Err CliFault.Read → source_failed trace.new ≡ true }
+{
+    match judge_all(alloc, plan, trace) {
+        Err(CliFault::Read) if !trace.failed() => Err(CliFault::Memory),
+        found => found,
+    }
+}
+
+// The code of a rule.
+#[tactic(auto, unfolding(crate::specs::AuditText::rule_text))]
+fn rule_word(rule: Rule) -> &'static [u8]
+    ensures { result.now ≡ rule_text rule }
+{
+    match rule {
+        Rule::A1 => b"A1",
+        Rule::A2 => b"A2",
+        Rule::A3 => b"A3",
+        Rule::A4 => b"A4",
+        Rule::A5 => b"A5",
+        Rule::A6 => b"A6",
+        Rule::A7 => b"A7",
+    }
+}
+
+// Writes the record of a verdict.
+fn add_verdict<W: Write>(out: &mut Sink<W>, found: Result<(), Fault>)
+    ensures { Wrote W.contents out.old out.new (record_text (verdict_fields found)) }
+{
+    match found {
+        Ok(()) => out.add(b"good\n"),
+        Err(fault) => {
+            out.add(b"fault");
+            next_number(out, fault.row);
+            next_field(out, rule_word(fault.rule));
+            out.add(b"\n");
+        }
+    }
+}
+
+/// Writes a verdict, and answers its status.
+pub fn write_verdict<W: Write>(out: &mut Sink<W>, found: Result<(), Fault>) -> Result<u8, CliFault>
+    ensures { TellsVerdict W.contents found out.old out.new result }
+{
+    add_verdict(out, found);
+    out.outcome()?;
+    match found {
+        Ok(()) => Ok(0),
+        Err(_) => Ok(1),
+    }
+}
+
+/// Reads a plan and a trace of it, whoever made it, and writes the verdict: `good` for a legal run, and else
+/// `fault,ROW,RULE` with the first row that breaks a rule, counted from 1, and the lowest rule that it breaks. The answer
+/// is the exit status, 0 or 1.
+///
+/// The rows are judged as they come, and one is kept at a time. So a fault on a row that stands before a refused record is
+/// the answer, and nothing is read after the first fault. A refused plan is told whatever the trace.
+pub fn audit_text<P: Read, T: Read, W: Write>(
+    alloc: Global,
+    plan: &mut Source<P>,
+    trace: &mut Source<T>,
+    out: &mut Sink<W>,
+) -> Result<u8, CliFault>
+    // Where the readers tell their bytes, and no read failed and no memory was refused, the answer is that to
+    // the plan and the rows that they stand for.
+    ensures answer { (plan_bytes trace_bytes : List ℕ) → source_remaining P.remaining plan.old ≡ Some plan_bytes → source_remaining T.remaining trace.old ≡ Some trace_bytes
+        → (result ≡ Err CliFault.Read) ⊎ (result ≡ Err CliFault.Memory) ⊎ AuditAnswers W.contents (finding_of (plan_of (csv_records plan_bytes)) (csv_records trace_bytes)) out.old out.new result }
+
+    // The same of a refused plan, whatever the trace is read from.
+    ensures refused { (bytes : List ℕ) (error : PlanError) → source_remaining P.remaining plan.old ≡ Some bytes → plan_of (csv_records bytes) ≡ Err error
+        → (result ≡ Err CliFault.Read) ⊎ (result ≡ Err CliFault.Memory) ⊎ (result ≡ Err (fault_of error)) }
+
+    // Whatever the readers tell.
+    ensures good { IfOk result (λ status. ((status ≡ 0) ⊎ (status ≡ 1)) × (sink_failed out.new ≡ false)) }
+    ensures faults { IfErr result (λ fault. is_audit_fault fault ≡ true) }
+    ensures read { result ≡ Err CliFault.Read → (source_failed plan.new ≡ true) ⊎ (source_failed trace.new ≡ true) }
+    ensures write { result ≡ Err CliFault.Write → sink_failed out.new ≡ true }
+    ensures silent { IfErr result (λ fault. (fault ≡ CliFault.Write) ⊎ (out.new ≡ out.old)) }
+{
+    let plan = read_plan(alloc, plan)?;
+    let found = judge_text(alloc, &plan, trace)?;
+    write_verdict(out, found)
+}

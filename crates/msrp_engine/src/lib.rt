@@ -1,0 +1,28 @@
+//! The engines: from bytes to bytes, over any reader and writer.
+//!
+//! Each reads a plan, and some a trace of it, and writes one text: a simulation (`sim`), a run on threads (`run`), a verdict (`audit`,
+//! `audit_parallel`), a report (`report`), levels and ceilings (`check`), the plan's own text (`own_text`) or a picture (`view`). What is
+//! answered in place of a text is a [`CliFault`], and [`exit_of`] gives the exit status of either.
+#![tactic(auto)]
+
+mod audit;
+mod audit_parallel;
+mod check;
+mod faults;
+mod fields;
+mod own_text;
+mod reading;
+mod report;
+mod run;
+mod sim;
+mod view;
+
+pub use audit::audit_text;
+pub use audit_parallel::audit_parallel_text;
+pub use check::check_text;
+pub use faults::{CliFault, exit_of};
+pub use own_text::plan_text;
+pub use report::report_text;
+pub use run::{run_text, run_text_if};
+pub use sim::sim_text;
+pub use view::view_text;

@@ -1,0 +1,113 @@
+//! A plan on threads: from a plan's text to the text of what its cores did.
+
+ghost use Rattle.std.specs.Prelude.{◌≡◌, ◌⊎◌, ◌↔◌, ℕ, List, true, false, Some, Err, IfOk, IfErr, OnOk, OnErr};
+ghost use Rattle.msrp_plan.specs.Aheads.{carries_ahead};
+ghost use Rattle.msrp_plan.specs.Bytes.{sink_failed, source_failed, source_remaining};
+ghost use Rattle.msrp_plan.specs.Runs.{IsRun};
+ghost use Rattle.msrp_plan.specs.WellFormed.{IsPlan};
+ghost use Rattle.msrp_text.specs.Reading.{csv_records, plan_of};
+ghost use Rattle.msrp_engine.specs.Outcomes.{written_status, is_sim_fault};
+ghost use Rattle.msrp_engine.specs.Running.{RunAnswers, WritesLegalRun, WritesSomeLegalRun};
+
+use crate::faults::CliFault;
+use msrp_merge::Merging;
+use msrp_plan::bytes::{Sink, Source};
+use msrp_plan::{Plan, TextVersion, WriteFault};
+use msrp_run::{Hire, HireAll, Plain, run_logged_if};
+use msrp_text::read_plan;
+use msrp_trace::TraceWriter;
+use std::alloc::Global;
+use std::io::{Read, Write};
+use std::sync::Wait;
+use std::thread::Threads;
+
+// Every row of the merge: the first record, and then the row. After a failed write the merge goes on unheard, so that what was
+// written is the first part of the whole trace's text.
+fn write_merged<W: Write>(
+    plan: &Plan,
+    mut merging: Merging<'_>,
+    version: TextVersion,
+    out: &mut Sink<W>,
+) -> Result<(), WriteFault>
+    requires run { IsRun plan.now merging }
+    requires aheads { carries_ahead merging ≡ true }
+    ensures run { WritesLegalRun W.contents version plan.now out.old out.new }
+    ensures good { OnOk result (sink_failed out.new ≡ false) }
+    ensures fault { OnErr result (sink_failed out.new ≡ true) }
+{
+    let mut text = TraceWriter::new(plan, version);
+    text.head(out);
+    for _turn in 0..plan.cores() * plan.ticks() {
+        let row = merging.row();
+        text.row(out, &row);
+    }
+    text.finish(out)
+}
+
+// Runs an accepted plan with a thread for each core that is hired, and writes what the cores did when the run has ended.
+fn write_run<T: Threads + Wait + Sync, W: Write, H: Hire>(
+    rt: &T,
+    alloc: Global,
+    plan: &Plan,
+    out: &mut Sink<W>,
+    version: TextVersion,
+    hire: &H,
+) -> Result<u8, CliFault>
+    ensures { (((result ≡ Err CliFault.Memory) ⊎ (result ≡ Err CliFault.Threads)) × (out.new ≡ out.old)) ⊎ (IsPlan plan.now × WritesLegalRun W.contents version plan.now out.old out.new × (result ≡ written_status out.new)) }
+{
+    let (logs, settled) = run_logged_if(rt, alloc, plan, &Plain, hire)?;
+    let merging = Merging::new(alloc, plan, &logs, &settled)?;
+    write_merged(plan, merging, version, out)?;
+    Ok(0)
+}
+
+/// Reads a plan, runs it with a thread for each core that `hire` allows, and writes the trace of what the cores did, as text of
+/// this version. It is [`CliFault::Threads`] where a thread was refused.
+///
+/// Nothing is written before the run has ended: so whatever the fault, but a write fault, nothing was written. It waits for
+/// its threads, so what it promises holds where it returns.
+pub fn run_text_if<T: Threads + Wait + Sync, P: Read, W: Write, H: Hire>(
+    rt: &T,
+    alloc: Global,
+    plan: &mut Source<P>,
+    out: &mut Sink<W>,
+    version: TextVersion,
+    hire: &H,
+) -> Result<u8, CliFault>
+    // Where the reader tells its bytes, and no read failed and no memory and no thread was refused, the answer is that to
+    // the plan that they stand for: a legal run of it.
+    ensures answer { (bytes : List ℕ) → source_remaining P.remaining plan.old ≡ Some bytes
+        → (result ≡ Err CliFault.Read) ⊎ (result ≡ Err CliFault.Memory) ⊎ (result ≡ Err CliFault.Threads) ⊎ RunAnswers W.contents version (plan_of (csv_records bytes)) out.old out.new result }
+
+    // Whatever the reader tells.
+    ensures good { IfOk result (λ status. (status ≡ 0) × (sink_failed out.new ≡ false)) }
+    ensures written { OnOk result (WritesSomeLegalRun W.contents version out.old out.new) }
+    ensures faults { IfErr result (λ fault. (fault ≡ CliFault.Threads) ⊎ (is_sim_fault fault ≡ true)) }
+    ensures read { (result ≡ Err CliFault.Read) ↔ (source_failed plan.new ≡ true) }
+    ensures write { result ≡ Err CliFault.Write → sink_failed out.new ≡ true }
+    ensures silent { IfErr result (λ fault. (fault ≡ CliFault.Write) ⊎ (out.new ≡ out.old)) }
+{
+    let plan = read_plan(alloc, plan)?;
+    write_run(rt, alloc, &plan, out, version, hire)
+}
+
+/// Reads a plan, runs it with a thread for each core, and writes the trace of what the cores did, as [`run_text_if`] does
+/// where every thread may be started.
+pub fn run_text<T: Threads + Wait + Sync, P: Read, W: Write>(
+    rt: &T,
+    alloc: Global,
+    plan: &mut Source<P>,
+    out: &mut Sink<W>,
+    version: TextVersion,
+) -> Result<u8, CliFault>
+    ensures answer { (bytes : List ℕ) → source_remaining P.remaining plan.old ≡ Some bytes
+        → (result ≡ Err CliFault.Read) ⊎ (result ≡ Err CliFault.Memory) ⊎ (result ≡ Err CliFault.Threads) ⊎ RunAnswers W.contents version (plan_of (csv_records bytes)) out.old out.new result }
+    ensures good { IfOk result (λ status. (status ≡ 0) × (sink_failed out.new ≡ false)) }
+    ensures written { OnOk result (WritesSomeLegalRun W.contents version out.old out.new) }
+    ensures faults { IfErr result (λ fault. (fault ≡ CliFault.Threads) ⊎ (is_sim_fault fault ≡ true)) }
+    ensures read { (result ≡ Err CliFault.Read) ↔ (source_failed plan.new ≡ true) }
+    ensures write { result ≡ Err CliFault.Write → sink_failed out.new ≡ true }
+    ensures silent { IfErr result (λ fault. (fault ≡ CliFault.Write) ⊎ (out.new ≡ out.old)) }
+{
+    run_text_if(rt, alloc, plan, out, version, &HireAll)
+}
