@@ -4,7 +4,7 @@ import os
 
 from .crates import LINES, TOP, text_of
 
-MORE = "must-fail/more"  # the edits that `rt` doesn't try
+MORE = "more-edits"  # the edits that `rt` doesn't try
 
 
 def edits_of(name, folder):
