@@ -108,7 +108,8 @@ impl<R: Read> Lines<R> {
         }
     }
 
-    /// One more read ahead, and whether it gave a byte. Where it fails, the read after the bytes that are there fails.
+    /// One more read ahead, and whether it gave a byte. Where it fails, no more is read ahead, and the read after the bytes that are
+    /// there fails.
     #[inline(never)]
     pub(crate) fn fetch(&mut self) -> bool
         ensures kept { Keeps (unread R.remaining self.old) (unread R.remaining self.new) }
@@ -117,6 +118,9 @@ impl<R: Read> Lines<R> {
         ensures more { result ≡ true → buffered self.old < buffered self.new }
         ensures end { result ≡ false → length (lines_ahead self.new) + 1 < ROOM → (has_failed self.new ≡ true) ⊎ IsAtEnd (R.remaining self.new.source) }
     {
+        if self.failed.is_some() {
+            return false;
+        }
         let front = self.at.min(1);
         let count = self.end - self.at;
         self.buffer.copy_within(self.at..self.end, front);

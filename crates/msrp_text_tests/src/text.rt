@@ -700,8 +700,8 @@ const FORESEEN: [(&[u8], &[u8], &[u8], bool, &[u8]); 13] = [
     (b"1\nab,c\nd", b"ab", b",cd", false, b"ab|c|/d|/"),
     (b"1\nab,c\nd", b"a", b",c", false, b"ab|c|/d|/"),
     (b"1\nab,c\nd", b"ab,c\nd\nef", b"", false, b"ab|c|/d|/"),
-    (b"1\nab,c\rd", b"ab", b",c", false, b"ab|c|/d|/"),
-    (b"1\nab,c\r", b"ab", b",c", false, b"ab|c|/"),
+    (b"1\nab,c\rd", b"ab", b",c", true, b"d|/"),
+    (b"1\nab,c\r", b"ab", b",c", true, b""),
     (b"1\nab,c", b"ab", b",c", false, b"ab|c|/"),
     (b"\"1\"\nab,c\nd", b"ab", b",c", false, b"ab|c|/d|/"),
 ];

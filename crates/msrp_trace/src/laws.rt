@@ -1,4 +1,4 @@
-//! Laws over the definitions: the text of rows, read again. Each function does nothing; its contract is the law.
+//! Laws over the definitions: the text of rows, read again, and two codes. Each function does nothing; its contract is the law.
 ghost use Rattle.std.specs.Prelude.{◌≡◌, List, map, None, true};
 ghost use Rattle.std.specs.List.{list_all};
 ghost use Rattle.msrp_plan.specs.Aheads.{carries_ahead};
@@ -9,9 +9,11 @@ ghost use Rattle.msrp_plan.specs.declared.rows.Row.{Row};
 ghost use Rattle.msrp_plan.specs.declared.rows.TextVersion.{TextVersion};
 ghost use Rattle.msrp_plan.specs.declared.rows.TextVersion.TheVariants.{V2};
 ghost use Rattle.msrp_text.specs.Records.{csv_records};
+ghost use Rattle.msrp_trace.specs.Codes.{code_of};
 ghost use Rattle.msrp_trace.specs.Laws.{as_read, has_short_numbers};
 ghost use Rattle.msrp_trace.specs.Reading.{rows_of};
 ghost use Rattle.msrp_trace.specs.TraceText.{is_named, trace_text};
+ghost use Rattle.msrp_trace.specs.declared.faults.TraceFault.TheVariants.{Memory, Read};
 
 /// What is written of rows that name what the plan has reads back as those rows, whether they are legal or not;
 /// version 1 leaves out the aheads. Their numbers have at most nine digits, as each number of a text has.
@@ -22,4 +24,10 @@ pub fn read_back()
 /// What is written of a legal run, or of the start of one, reads back as it was; version 1 leaves out the aheads.
 pub fn runs_read_back()
     ensures { (version : TextVersion) (plan : PlanModel) (rows : List Row) → IsPlan plan → IsRunStart plan rows → (version ≡ V2 → carries_ahead rows ≡ true) → rows_of plan (csv_records (trace_text version plan rows)) ≡ record { rows = map (as_read version) rows; refusal = None } }
+{}
+
+/// The codes of what no record of a text is refused with.
+pub fn last_codes()
+    ensures read { code_of Read ≡ 7 }
+    ensures memory { code_of Memory ≡ 8 }
 {}
