@@ -6,8 +6,6 @@
 mod crew;
 mod hire;
 mod port;
-#[cfg(test)]
-mod tests;
 mod threads;
 mod turns;
 mod work;

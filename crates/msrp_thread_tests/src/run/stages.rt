@@ -1,11 +1,11 @@
 //! Stages whose cores look for each other, and which write down or count the turns.
 
-use crate::{Stage, turn_on};
 use crossbeam_utils::Backoff;
 use msrp_board::{Board, BoardSeat};
 use msrp_core::Machine;
 use msrp_merge::CoreLog;
 use msrp_plan::{CoreId, Plan, Row};
+use msrp_run::{Stage, turn_on};
 use std::alloc::{AllocError, Global};
 use std::sync::atomic::{AtomicBool, AtomicU64, Ordering};
 
@@ -81,28 +81,41 @@ impl Rows {
     }
 }
 
-/// In tick 0 the cores raise a flag each and look for those of all others.
+/// In tick 0 the cores raise a flag each and look for those of all.
 #[derive(Drop)]
 pub(super) struct Meeting {
-    raised: [AtomicBool; 2],
-    seen: [AtomicBool; 2],
+    raised: Vec<AtomicBool>,
+    seen: Vec<AtomicBool>,
     rows: Rows,
+}
+
+// A flag for each core.
+fn flags(alloc: Global, plan: &Plan) -> Result<Vec<AtomicBool>, AllocError> {
+    let mut flags = Vec::new(alloc);
+    for _ in 0..plan.cores() {
+        flags.push(AtomicBool::new(false))?;
+    }
+    Ok(flags)
 }
 
 impl Meeting {
     pub(super) fn of(alloc: Global, plan: &Plan) -> Result<Meeting, AllocError> {
         Ok(Meeting {
-            raised: [AtomicBool::new(false), AtomicBool::new(false)],
-            seen: [AtomicBool::new(false), AtomicBool::new(false)],
+            raised: flags(alloc, plan)?,
+            seen: flags(alloc, plan)?,
             rows: Rows::of(alloc, plan)?,
         })
     }
 
     fn meet(&self, core: CoreId) {
-        let (mine, other) = if core == CoreId(0) { (0, 1) } else { (1, 0) };
-        self.raised[mine].store(true, Ordering::SeqCst);
-        let has_seen = sees(&self.raised[other]);
-        self.seen[mine].store(has_seen, Ordering::SeqCst);
+        let mine = core.0 as usize;
+        if let Some(raised) = self.raised.get(mine) {
+            raised.store(true, Ordering::SeqCst);
+        }
+        let has_seen = self.raised.iter().all(|raised| sees(raised));
+        if let Some(seen) = self.seen.get(mine) {
+            seen.store(has_seen, Ordering::SeqCst);
+        }
     }
 
     pub(super) fn all_met(&self) -> bool {

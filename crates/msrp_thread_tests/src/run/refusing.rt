@@ -1,0 +1,75 @@
+//! A thread that is refused stops the run before its first turn, whichever core's it is.
+//! Where memory is refused, all turns were made or none.
+
+use super::plans::{hot, two_sections};
+use super::stages::Counting;
+use msrp_plan::CoreId;
+use msrp_run::{Hire, RunError, run_threads, run_threads_if};
+use std::sync::atomic::{AtomicU64, Ordering};
+use std::test::*;
+
+const TICKS: u32 = 6;
+
+// Refuses one core's thread, and counts how often it is asked.
+#[derive(Drop)]
+struct AllBut {
+    core: CoreId,
+    asked: AtomicU64,
+}
+
+impl AllBut {
+    fn of(core: u32) -> AllBut {
+        AllBut {
+            core: CoreId(core),
+            asked: AtomicU64::new(0),
+        }
+    }
+
+    fn asked(&self) -> u64 {
+        self.asked.load(Ordering::SeqCst)
+    }
+}
+
+impl Hire for AllBut {
+    fn may_start(&self, core: CoreId) -> bool {
+        self.asked.fetch_add(1, Ordering::SeqCst);
+        self.core != core
+    }
+}
+
+#[test]
+fn a_refused_thread_stops_the_run(rt: HostRuntime) -> Result<(), Fail> {
+    for cores in 1..=8 {
+        let plan = hot(rt.alloc(), cores, TICKS)?;
+        for core in 0..cores {
+            let stage = Counting::new();
+            let hire = AllBut::of(core);
+            let answer = run_threads_if(&rt, rt.alloc(), &plan, &stage, &hire).err();
+            assert_eq!(rt; answer, Some(RunError::U2));
+            assert_eq!(rt; stage.turns(), 0);
+            assert_eq!(rt; hire.asked(), u64::from(core) + 1);
+        }
+        let stage = Counting::new();
+        let hire = AllBut::of(cores);
+        let (trace, _) = run_threads_if(&rt, rt.alloc(), &plan, &stage, &hire)?;
+        assert_eq!(rt; trace.rows.len(), (cores * TICKS) as usize);
+        assert_eq!(rt; stage.turns(), u64::from(cores * TICKS));
+        assert_eq!(rt; hire.asked(), u64::from(cores));
+    }
+    Ok(())
+}
+
+// The turns that were made fit the answer: all of them with a trace, none where a thread was refused, all or none where memory was.
+#[test]
+fn turns_are_all_or_none(rt: HostRuntime) -> Result<(), Fail> {
+    let plan = two_sections(rt.alloc())?;
+    let stage = Counting::new();
+    let answer = run_threads(&rt, rt.alloc(), &plan, &stage).err();
+    let turns = stage.turns();
+    match answer {
+        None => assert_eq!(rt; turns, 12),
+        Some(RunError::U1) => assert!(rt; turns == 0 || turns == 12),
+        Some(RunError::U2) => assert_eq!(rt; turns, 0),
+    }
+    Ok(())
+}
