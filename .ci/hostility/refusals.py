@@ -3,17 +3,24 @@ import os
 import resource
 import shutil
 import subprocess
+from collections import Counter
 from pathlib import Path
 
 from .inputs import HANDOVER_WITHIN_A_TICK, WORK_THEN_IDLE
-from .program import BROKEN, COMMANDS, GOOD, MEMORY, PROGRAM, READ_FAULT, THREADS, WANT, WRITE_FAULT, Answer, ask, is_whole, judges, varies, words_of
+from .program import BROKEN, COMMANDS, GOOD, MEMORY, PROGRAM, READ_FAULT, THREADS, TOP, WANT, WRITE_FAULT, Answer, ask, is_whole, judges, varies, words_of
 from .sweep import kept
 
 HERE = Path(__file__).resolve().parent
 MOST_CALLS = 100_000
+MOST_TOLD = 65_536  # bytes, as many as a pipe holds
 EVER_AFTER = 1 << 40
 STARTS_THREADS = ("run", "run --ahead")
-MAY_START_THREADS = ("audit --parallel",)
+STARTS_WITH_TWO_PROCESSORS = ("audit --parallel",)  # it does without the threads that it is refused
+PROCESSORS = len(os.sched_getaffinity(0))
+CALLS = TOP / "crates" / "msrp_refusals" / "out" / "msrp_refusals"  # the program that makes single calls
+STEPS = b"ask 0 0\nask 1 1\npoll 2 false\npoll 2 false\nleave 2\npoll 3 true\nleave 3\n"
+TURNS = 12  # of the run that it makes
+NO_WORDS = Answer(1, b"", b"memory\n")  # its answer where the words or the plan couldn't be had
 BIT_OF_MEMORY = 256 * 1024
 MOST_MEMORY = 1 << 30
 NOBODY = 54_321  # a user that owns no process
@@ -35,17 +42,41 @@ def library(place):
     return path
 
 
-def ask_refusing(preloaded, words, call, first, last=None, how="error", short=False):
-    """Runs the program with calls refused, and tells whether any was."""
+def ask_told(preloaded, words, program=PROGRAM, **how):
+    """Runs the program over the library, which is told by these words, and what the library tells."""
     read, write = os.pipe()
-    wanted = {"REFUSE": call, "REFUSE_FIRST": first, "REFUSE_LAST": last or first, "REFUSE_HOW": how, "REFUSE_TELL": write, **({"REFUSE_SHORT": 1} if short else {})}
-    environment = {"LD_PRELOAD": str(preloaded), **{name: str(value) for name, value in wanted.items()}}
+    environment = {"LD_PRELOAD": str(preloaded), "REFUSE_TELL": str(write), **{f"REFUSE_{name}".rstrip("_"): str(value) for name, value in how.items()}}
     try:
-        answer = ask(words, env=environment, pass_fds=(write,))
+        answer = ask(words, program, env=environment, pass_fds=(write,))
+        os.set_blocking(read, False)
         os.close(write)
-        return answer, os.read(read, 1) != b""
+        return answer, os.read(read, MOST_TOLD)
     finally:
         os.close(read)
+
+
+def ask_refusing(preloaded, words, call, first, last=None, how="error", short=False, program=PROGRAM):
+    """Runs the program with calls refused, and tells whether any was."""
+    answer, told = ask_told(preloaded, words, program, _=call, FIRST=first, LAST=last or first, HOW=how, **({"SHORT": 1} if short else {}))
+    return answer, told != b""
+
+
+def growths_before_a_start(preloaded):
+    """How many growths a start of a thread wants before the system is asked for it: as many as lie between two starts."""
+    words = words_of("run", kept("two cores", HANDOVER_WITHIN_A_TICK.plan), "")
+    _, told = ask_told(preloaded, words, TRACE=1)
+    return told.split(b"<")[1].split(b">")[1].count(b".")
+
+
+def growths_of_starts(preloaded, words, program=PROGRAM):
+    """The numbers of the growths that the starts of threads want, with nothing refused: those in a start, and some before it."""
+    _, told = ask_told(preloaded, words, program, TRACE=1)
+    before, *starts = told.split(b"<")
+    want, made, numbers = growths_before_a_start(preloaded), before.count(b"."), set()
+    for start in starts:
+        numbers.update(range(made - want + 1, made + start.split(b">")[0].count(b".") + 1))
+        made += start.count(b".")
+    return numbers
 
 
 def is_audited(plan, out):
@@ -65,10 +96,9 @@ def is_ample(command, words, ample, answer):
     return answer.status == GOOD and not answer.line and is_whole(command, answer.out) and is_audited(words[-1], answer.out)
 
 
-def is_want(command, ample, answer):
-    """Whether this tells of want, and no more than a first part was written; nothing of a run."""
+def is_want(command, ample, answer, lines=(MEMORY,)):
+    """Whether this tells of want by one of these lines, and no more than a first part was written; nothing of a run."""
     part = not answer.out if varies(command) else ample.out.startswith(answer.out)
-    lines = (MEMORY, THREADS) if command in STARTS_THREADS + MAY_START_THREADS else (MEMORY,)
     return answer.status == WANT and part and answer.line in lines
 
 
@@ -76,15 +106,23 @@ def paths_of(given):
     return kept("plan", given.plan), kept("trace", given.trace)
 
 
+def want_of(command, call, number, starts):
+    """The lines that may tell of want where this call is refused: that threads are wanting is told of a run alone, and where a thread's start was refused."""
+    is_start = command in STARTS_THREADS and (call == "thread" or number in starts)
+    return (THREADS,) if is_start else (MEMORY,)
+
+
 def refused_in_turn(found, preloaded, command, given, call, lasting):
     """Each growth, or each thread, refused in turn: alone, or it and all after it."""
     words = words_of(command, *paths_of(given))
     ample = ask(words)
     found.judge(ample.status == GOOD, f"{given.name}, {command} with nothing refused", ample)
+    starts = growths_of_starts(preloaded, words) if command in STARTS_THREADS and call == "growth" else set()
     for number in range(1, MOST_CALLS):
         answer, told = ask_refusing(preloaded, words, call, number, EVER_AFTER if lasting else number)
         what = f"{given.name}, {command}, {call} {number}{' and all after it' if lasting else ''} refused"
-        found.judge(is_ample(command, words, ample, answer) or (told and is_want(command, ample, answer)), what, answer)
+        wants = told and is_want(command, ample, answer, want_of(command, call, number, starts))
+        found.judge(is_ample(command, words, ample, answer) or wants, what, answer)
         if not told:
             break
         found.counts["refused"] += 1
@@ -99,8 +137,29 @@ def growths(found, preloaded, command, given, lasting):
 
 def threads(found, preloaded, command, given, lasting):
     refused = refused_in_turn(found, preloaded, command, given, "thread", lasting)
-    starts = command in STARTS_THREADS
-    found.judge(command in MAY_START_THREADS or (refused > 0) == starts, f"{given.name}, {command}: {refused} threads were refused")
+    starts = command in STARTS_THREADS or (command in STARTS_WITH_TWO_PROCESSORS and PROCESSORS > 1)
+    found.judge((refused > 0) == starts, f"{given.name}, {command}: {refused} threads were refused")
+
+
+def calls_refused(found, preloaded, word, call, lasting):
+    """Each growth, or each thread, refused in turn to a single call: a new board whose steps are then made, or a run that counts its turns."""
+    starts = growths_of_starts(preloaded, [word], CALLS)
+    ample = STEPS if word == "board" else b"ok %d\n" % TURNS
+    none, all_turns, unstarted = b"U1 0\n", b"U1 %d\n" % TURNS, b"U2 0\n"
+    answers = Counter()
+    for number in range(1, MOST_CALLS):
+        answer, told = ask_refusing(preloaded, [word], call, number, EVER_AFTER if lasting else number, program=CALLS)
+        is_start = call == "thread" or number in starts
+        want = (b"B2\n",) if word == "board" else (unstarted,) if is_start else (none, all_turns)
+        good = answer == NO_WORDS or (answer[0::2] == (GOOD, b"") and answer.out in want)
+        found.judge(answer == Answer(GOOD, ample, b"") or (told and good), f"{word}, {call} {number}{' and all after it' if lasting else ''} refused", answer)
+        if not told:
+            break
+        found.counts["refused"] += 1
+        answers[answer.out] += 1
+    due = {("board", "growth"): [b"B2\n"], ("run", "growth"): [none, unstarted] + [all_turns], ("run", "thread"): [unstarted]}.get((word, call), [])
+    found.judge(all(answers[out] for out in due), f"{word}, {call}: no answer of one kind", dict(answers))
+    found.judge(bool(due) or not answers, f"{word}, {call}: {dict(answers)}")
 
 
 def reads(found, preloaded, command, given, how):
@@ -163,7 +222,7 @@ def address_space(found, given):
     while room < MOST_MEMORY:
         answer = limited(words, AS=room)
         whole = is_ample("run", words, ample, answer)
-        found.judge(whole or is_want("run", ample, answer), f"{given.name}, run in {room} bytes of address space", answer)
+        found.judge(whole or is_want("run", ample, answer, (MEMORY, THREADS)), f"{given.name}, run in {room} bytes of address space", answer)
         found.counts["refused"] += not whole
         if whole:
             break
@@ -193,6 +252,7 @@ def pieces(inputs, preloaded, place):
     everything = {
         "growths refused": [(growths, preloaded, command, given, lasting) for given in inputs for command in COMMANDS for lasting in (False, True)],
         "threads refused": [(threads, preloaded, command, given, lasting) for given in inputs for command in COMMANDS for lasting in (False, True)],
+        "single calls refused": [(calls_refused, preloaded, word, call, lasting) for word in ("board", "run") for call in ("growth", "thread") for lasting in (False, True)],
         "reads failing": [(reads, preloaded, command, given, how) for given in few for command in COMMANDS for how in ("error", "interrupt")],
         "writes failing": [(writes, preloaded, command, given, how) for given in few for command in COMMANDS for how in ("error", "interrupt", "none")],
         "one byte a call": [(short_calls, preloaded, command, given) for given in inputs for command in COMMANDS],

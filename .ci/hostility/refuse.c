@@ -5,7 +5,8 @@
    REFUSE_LAST   the number of the last one
    REFUSE_HOW    for read and write: error (EIO), interrupt (EINTR), none (answers 0), one (moves one byte)
    REFUSE_SHORT  if it is there, a read or write that isn't refused moves one byte
-   REFUSE_TELL   a file descriptor, to which one byte goes with the first refusal
+   REFUSE_TELL   a file descriptor, to which '!' goes with the first refusal
+   REFUSE_TRACE  if it is there, '.' goes to it with each growth, and '<' and '>' before and after each start of a thread
 
    Writes to standard error are let through, so that the line of a fault can be seen. It includes no header: the kit's clang has none. */
 
@@ -31,7 +32,7 @@ static const int STANDARD_ERROR = 2;
 static enum call refused_call = NOTHING;
 static enum how how = ERROR;
 static long first, last, made;
-static int tell = -1, all_short;
+static int tell = -1, all_short, traced;
 
 static int is(const char *value, const char *word) { return value && strcmp(value, word) == 0; }
 
@@ -46,12 +47,18 @@ __attribute__((constructor)) static void begin(void) {
   last = number("REFUSE_LAST", first);
   tell = (int)number("REFUSE_TELL", -1);
   all_short = getenv("REFUSE_SHORT") != 0;
+  traced = tell >= 0 && getenv("REFUSE_TRACE") != 0;
   how = is(by, "interrupt") ? INTERRUPT : is(by, "none") ? NONE : is(by, "one") ? ONE : ERROR;
   refused_call = is(call, "growth") ? GROWTH : is(call, "thread") ? THREAD : is(call, "read") ? READ : is(call, "write") ? WRITE : NOTHING;
 }
 
+static void trace(const char *mark) {
+  if (traced) (void)!__write(tell, mark, 1);
+}
+
 /* Whether this call is one to refuse. */
 static int refused(enum call call) {
+  if (call == GROWTH) trace(".");
   if (call != refused_call) return 0;
   long mine = __atomic_add_fetch(&made, 1, __ATOMIC_SEQ_CST);
   if (mine < first || mine > last) return 0;
@@ -89,7 +96,10 @@ typedef int create(void *, const void *, void *(*)(void *), void *);
 int pthread_create(void *thread, const void *attributes, void *(*body)(void *), void *argument) {
   if (refused(THREAD)) return TRY_AGAIN;
   create *next = (create *)dlsym((void *)-1L /* RTLD_NEXT */, "pthread_create");
-  return next(thread, attributes, body, argument);
+  trace("<");
+  int error = next(thread, attributes, body, argument);
+  trace(">");
+  return error;
 }
 
 /* How many of so many bytes move, or -1 where the call fails. */
