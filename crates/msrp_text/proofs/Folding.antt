@@ -1,5 +1,5 @@
 -- The plan of a list of records, record by record.
-use Rattle.std.proofs.Common.{◌≡◌, ◌⊎◌, ℕ, ◌+◌, List, [], ◌∷◌, ◌++◌, Option, Some, None, Result, Ok, Err, length, take, refl, sym, ◌∙◌, ap, inl, inr, arith, append_assoc, append-nil, length-append, suc}
+use Rattle.std.proofs.Common.{◌≡◌, ◌⊎◌, ℕ, Bool, true, false, ◌+◌, List, [], ◌∷◌, ◌++◌, Option, Some, None, Result, Ok, Err, length, take, refl, sym, ◌∙◌, ap, inl, inr, arith, append_assoc, append-nil, length-append, suc}
 use Rattle.std.specs.List.{filter_map, range_with_len, slice_get}
 use Rattle.std.proofs.Math.Seq.{take-append_seam}
 use Rattle.std.proofs.lemmas.List.{take_all}
@@ -10,11 +10,15 @@ use Rattle.msrp_plan.specs.Plan.{PlanModel}
 use Rattle.msrp_plan.specs.declared.faults.PlanFault.{PlanFault}
 use Rattle.msrp_plan.specs.declared.faults.PlanFault.TheVariants as want
 use Rattle.msrp_text.specs.Reading.{Answers, fault_after, first_or, number_told, plan_of, plan_told, refusal_at, version_told, with_record}
-use Rattle.msrp_text.specs.Stages.{IsTaken, IsTakenAt, numbered, refusal, stage_fault, stage_plan, stage_with}
+use Rattle.msrp_text.specs.Stages.{Advances, IsTaken, IsTakenAt, next_due, numbered, refusal, stage_fault, stage_plan, stage_with}
+use Rattle.msrp_text.specs.Records.{GivesNext}
+use Rattle.msrp_text.specs.declared.reading.Progress.{Progress}
+use Rattle.msrp_text.specs.declared.reading.Progress.TheVariants.{More, Whole}
+use Rattle.msrp_text.proofs.Remaining.{gave-none, gave-one}
 use Rattle.msrp_text.specs.declared.stages.Stage.{Stage}
 use Rattle.msrp_text.specs.declared.stages.Stage.TheVariants.{Version, Cores, Ticks, Body}
 use Rattle.msrp_text.specs.declared.reading.TextError.{TextError}
-use Rattle.msrp_text.specs.declared.reading.TextError.TheVariants.{At, Memory}
+use Rattle.msrp_text.specs.declared.reading.TextError.TheVariants.{At, Memory, Read}
 
 abbrev pub going : Result Stage TextError → (Stage → Result PlanModel TextError) → Result PlanModel TextError
 going (Ok stage) next = next stage
@@ -119,13 +123,6 @@ refusal-is : (fault : PlanFault) (number : ℕ) → (refusal fault number ≡ Me
 refusal-is want.Memory number = inl refl
 refusal-is _ number = inr refl
 
-pub taken-due : {A : Type 0} (o : Option PlanFault) (number : ℕ) (next : A) (r : Result A TextError) → IsTakenAt o number next r → (r ≡ Err Memory) ⊎ (r ≡ numbered o number next)
-taken-due None number next r h = h
-taken-due (Some fault) number next r h = elim (refusal-is fault number) [
-  | inl e ↦ inl (h ∙ ap (λ x. Err x) e)
-  | inr e ↦ inr (h ∙ ap (λ x. Err x) e)
-]
-
 -- a stage that is taken, and one that is refused
 pub taken-ok : {A : Type 0} (o : Option PlanFault) (number : ℕ) (next x : A) → IsTaken o next (Ok x) → IsTakenAt o number next (Ok x)
 taken-ok None number next x (inl h) = absurd (cc)
@@ -137,27 +134,101 @@ taken-refused None number next fault (inl h) = let e : fault ≡ want.Memory = c
 taken-refused None number next fault (inr h) = absurd (cc)
 taken-refused (Some due) number next fault h = let e : fault ≡ due = cc in ap (λ f. Err (refusal f number)) e
 
--- an answer that is no want of memory is the one that is due
-pub due-ok : {A : Type 0} (r due : Result A TextError) (x : A) → (r ≡ Err Memory) ⊎ (r ≡ due) → r ≡ Ok x → due ≡ Ok x
-due-ok r due x (inl h) e = cc
-due-ok r due x (inr h) e = cc
+-- what comes of a stage that is taken, and of one that is refused
+numbered-ok : {A B : Type 0} (f : A → B) (o : Option PlanFault) (number : ℕ) (due x : A) (s : Result A TextError) → IsTakenAt o number due s → s ≡ Ok x → Ok (f x) ≡ numbered o number (f due)
+numbered-ok f None number due x s (inl h) e = cc
+numbered-ok f None number due x s (inr h) e = let same : x ≡ due = cc in rw same refl
+numbered-ok f (Some fault) number due x s h e = cc
 
--- one more record read
-pub plan-more : (stage next : Stage) (number : ℕ) (row : List (List ℕ)) (rest : List (List (List ℕ))) (all : Result PlanModel TextError)
-    → plan_from stage number (row ∷ rest) ≡ all → numbered (stage_fault stage (Some row)) number (stage_with stage row) ≡ Ok next → plan_from next (number + 1) rest ≡ all
-unfolding plan_from
-plan-more stage next number row rest all h e = sym (rw e refl) ∙ h
+numbered-err : {A B : Type 0} (f : A → B) (o : Option PlanFault) (number : ℕ) (due : A) (s : Result A TextError) (e : TextError) → IsTakenAt o number due s → s ≡ Err e → (e ≡ Memory) ⊎ (Err e ≡ numbered o number (f due))
+numbered-err f None number due s e (inl h) k = inl (cc)
+numbered-err f None number due s e (inr h) k = cc
+numbered-err f (Some fault) number due s e h k = let same : e ≡ refusal fault number = cc in elim (refusal-is fault number) [
+  | inl r ↦ inl (same ∙ r)
+  | inr r ↦ inr (ap (λ x. Err x) (same ∙ r))
+]
 
--- a record that is refused, whatever comes after it
-pub plan-stops : (stage : Stage) (number : ℕ) (row : List (List ℕ)) (rest : List (List (List ℕ))) (all : Result PlanModel TextError) (s : Result Stage TextError) (e : TextError)
-    → plan_from stage number (row ∷ rest) ≡ all → (s ≡ Err Memory) ⊎ (s ≡ numbered (stage_fault stage (Some row)) number (stage_with stage row)) → s ≡ Err e → Answers (Err e) all
-unfolding plan_from
-plan-stops stage number row rest all s e h (inl k) m = let same : e ≡ Memory = cc in inr (inl (rw same refl))
-plan-stops stage number row rest all s e h (inr k) m = let due : numbered (stage_fault stage (Some row)) number (stage_with stage row) ≡ Err e = sym k ∙ m in inr (inr (sym (rw due refl) ∙ h))
+refused-due : (stage : Stage) (number : ℕ) (left : List (List (List ℕ))) (after : Option (List (List (List ℕ)))) (e : TextError)
+    → (e ≡ Memory) ⊎ (Err e ≡ next_due stage number left) → Advances stage number left after (Err e)
+refused-due stage number left after e (inl memory) = record { due = inr (inl (rw memory refl)); rest = λ next is. cc }
+refused-due stage number left after e (inr due) = record { due = inr (inr due); rest = λ next is. cc }
 
--- the end of the records
-pub plan-ends : (stage : Stage) (number : ℕ) (all r : Result PlanModel TextError)
-    → plan_from stage number [] ≡ all → (r ≡ Err Memory) ⊎ (r ≡ numbered (stage_fault stage None) number (stage_plan stage)) → Answers r all
+-- a read at a stage that gave a record
+pub advances-more : (stage next : Stage) (number : ℕ) (left : List (List (List ℕ))) (found : Bool) (row : List (List ℕ)) (after : Option (List (List (List ℕ)))) (s : Result Stage TextError)
+    → GivesNext left found row after → found ≡ true → IsTakenAt (stage_fault stage (Some row)) number (stage_with stage row) s → s ≡ Ok next → Advances stage number left after (Ok (More next))
+advances-more stage next number left found row after s gives is taken e =
+    let one = gave-one left found row after gives is in
+    record { due = inr (inr (rw one.1 (numbered-ok (λ x. More x) _ number _ next s taken e))); rest = λ other same. (row, one.0, one.1, one.2) }
+
+pub advances-refused : (stage : Stage) (number : ℕ) (left : List (List (List ℕ))) (found : Bool) (row : List (List ℕ)) (after : Option (List (List (List ℕ)))) (s : Result Stage TextError) (e : TextError)
+    → GivesNext left found row after → found ≡ true → IsTakenAt (stage_fault stage (Some row)) number (stage_with stage row) s → s ≡ Err e → Advances stage number left after (Err e)
+advances-refused stage number left found row after s e gives is taken k =
+    let one = gave-one left found row after gives is in
+    refused-due stage number left after e (rw one.1 (numbered-err (λ x. More x) _ number _ s e taken k))
+
+-- a read at a stage that came to the end
+pub advances-whole : (stage : Stage) (number : ℕ) (left : List (List (List ℕ))) (found : Bool) (row : List (List ℕ)) (after : Option (List (List (List ℕ)))) (s : Result PlanModel TextError) (plan : PlanModel)
+    → GivesNext left found row after → found ≡ false → IsTakenAt (stage_fault stage None) number (stage_plan stage) s → s ≡ Ok plan → Advances stage number left after (Ok (Whole plan))
+advances-whole stage number left found row after s plan gives is taken e =
+    record { due = inr (inr (rw (gave-none left found row after gives is) (numbered-ok (λ x. Whole x) _ number _ plan s taken e))); rest = λ next same. cc }
+
+pub advances-ended : (stage : Stage) (number : ℕ) (left : List (List (List ℕ))) (found : Bool) (row : List (List ℕ)) (after : Option (List (List (List ℕ)))) (s : Result PlanModel TextError) (e : TextError)
+    → GivesNext left found row after → found ≡ false → IsTakenAt (stage_fault stage None) number (stage_plan stage) s → s ≡ Err e → Advances stage number left after (Err e)
+advances-ended stage number left found row after s e gives is taken k = refused-due stage number left after e (rw (gave-none left found row after gives is) (numbered-err (λ x. Whole x) _ number _ s e taken k))
+
+-- the records from a stage on, where a read of the next one gave a further stage
+numbered-more : (o : Option PlanFault) (number : ℕ) (due next : Stage) (rest : Stage → Result PlanModel TextError) → Ok (More next) ≡ numbered o number (More due) → going (numbered o number due) rest ≡ rest next
+numbered-more None number due next rest e = let same : due ≡ next = cc in rw same refl
+numbered-more (Some fault) number due next rest e = cc
+
+pub plan-goes : (stage next : Stage) (number : ℕ) (left : List (List (List ℕ))) (after : Option (List (List (List ℕ)))) (answer : Result Progress TextError) (all : Result PlanModel TextError)
+    → plan_from stage number left ≡ all → Advances stage number left after answer → answer ≡ Ok (More next)
+    → (others : List (List (List ℕ))) × (after ≡ Some others) × (plan_from next (number + 1) others ≡ all) × (length left ≡ length others + 1)
 unfolding plan_from
-plan-ends stage number all r h (inl k) = inr (inl k)
-plan-ends stage number all r h (inr k) = inr (inr (k ∙ h))
+plan-goes stage next number left after answer all h advances e =
+    let split = advances.rest next e in
+    let due : Ok (More next) ≡ next_due stage number (split.0 ∷ split.1) = elim advances.due [
+      | inl read ↦ cc
+      | inr (inl memory) ↦ cc
+      | inr (inr is) ↦ sym e ∙ (rw split.2 at is)
+    ] in
+    (split.1, split.3, sym (numbered-more _ number _ next (λ x. plan_from x (number + 1) split.1) due) ∙ (rw split.2 at h), rw split.2 (omega arith))
+
+-- the end of the records, and a refusal, where that is what a read of the next one gave
+numbered-whole : (o : Option PlanFault) (number : ℕ) (due plan : PlanModel) → Ok (Whole plan) ≡ numbered o number (Whole due) → Ok plan ≡ numbered o number due
+numbered-whole None number due plan e = let same : plan ≡ due = cc in rw same refl
+numbered-whole (Some fault) number due plan e = cc
+
+whole-at : (stage : Stage) (number : ℕ) (left : List (List (List ℕ))) (plan : PlanModel) → Ok (Whole plan) ≡ next_due stage number left → Ok plan ≡ plan_from stage number left
+unfolding plan_from
+whole-at stage number [] plan e = numbered-whole _ number _ plan e
+whole-at stage number (fields ∷ rest) plan e = absurd (more-whole (stage_fault stage (Some fields)) number (stage_with stage fields) plan e)
+  where
+    more-whole : (o : Option PlanFault) (number : ℕ) (due : Stage) (plan : PlanModel) → Ok (Whole plan) ≡ numbered o number (More due) → ⊥
+    more-whole None number due plan e = cc
+    more-whole (Some fault) number due plan e = cc
+
+pub plan-whole : (stage : Stage) (number : ℕ) (left : List (List (List ℕ))) (after : Option (List (List (List ℕ)))) (answer : Result Progress TextError) (plan : PlanModel) (all : Result PlanModel TextError)
+    → plan_from stage number left ≡ all → Advances stage number left after answer → answer ≡ Ok (Whole plan) → Answers (Ok plan) all
+plan-whole stage number left after answer plan all h advances e = elim advances.due [
+  | inl read ↦ cc
+  | inr (inl memory) ↦ cc
+  | inr (inr is) ↦ inr (inr (whole-at stage number left plan (sym e ∙ is) ∙ h))
+]
+
+numbered-refused : {A B : Type 0} (o : Option PlanFault) (number : ℕ) (due : A) (other : B) (e : TextError) → Err e ≡ numbered o number due → Err e ≡ numbered o number other
+numbered-refused None number due other e h = cc
+numbered-refused (Some fault) number due other e h = ap (λ x. Err x) (let same : e ≡ At fault number = cc in same)
+
+refused-at : (stage : Stage) (number : ℕ) (left : List (List (List ℕ))) (e : TextError) → Err e ≡ next_due stage number left → Err e ≡ plan_from stage number left
+unfolding plan_from
+refused-at stage number [] e h = numbered-refused _ number _ (stage_plan stage) e h
+refused-at stage number (fields ∷ rest) e h = rw (sym (numbered-refused _ number _ (stage_with stage fields) e h)) refl
+
+pub plan-refused : (stage : Stage) (number : ℕ) (left : List (List (List ℕ))) (after : Option (List (List (List ℕ)))) (answer : Result Progress TextError) (e : TextError) (all : Result PlanModel TextError)
+    → plan_from stage number left ≡ all → Advances stage number left after answer → answer ≡ Err e → Answers (Err e) all
+plan-refused stage number left after answer e all h advances k = elim advances.due [
+  | inl read ↦ inl (ap (λ x. Err x) (let same : e ≡ Read = cc in same))
+  | inr (inl memory) ↦ inr (inl (ap (λ x. Err x) (let same : e ≡ Memory = cc in same)))
+  | inr (inr is) ↦ inr (inr (refused-at stage number left e (sym k ∙ is) ∙ h))
+]

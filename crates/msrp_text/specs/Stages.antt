@@ -1,5 +1,5 @@
 -- Where a reader of a plan stands between two records: what is to be read next, and the plan so far.
-use Rattle.std.specs.Prelude.{ℕ, List, Option, Some, None, Result, Ok, Err, codes, is_none, length, ◌≡◌, ◌⊎◌, ◌&&◌, ◌≤◌, if◌then◌else◌}
+use Rattle.std.specs.Prelude.{ℕ, List, [], ◌∷◌, Option, Some, None, Result, Ok, Err, codes, is_none, length, ◌≡◌, ◌⊎◌, ◌&&◌, ◌≤◌, if◌then◌else◌}
 use Rattle.msrp_plan.specs.Building.{empty_plan}
 use Rattle.msrp_plan.specs.Plan.{PlanModel}
 use Rattle.msrp_plan.specs.declared.faults.PlanFault.{PlanFault}
@@ -13,6 +13,8 @@ use Rattle.msrp_text.specs.declared.stages.TaskNumbers.{TaskNumbers}
 use Rattle.msrp_text.specs.declared.reading.TextError.{TextError}
 use Rattle.msrp_text.specs.declared.reading.TextError.TheVariants.{At}
 use Rattle.msrp_text.specs.declared.reading.TextError.TheVariants as text
+use Rattle.msrp_text.specs.declared.reading.Progress.{Progress}
+use Rattle.msrp_text.specs.declared.reading.Progress.TheVariants.{More, Whole}
 use Rattle.msrp_text.specs.declared.reading.Unread.{Unread}
 use Rattle.msrp_text.specs.declared.reading.Unread.TheVariants.{Told, TooMany}
 
@@ -66,6 +68,17 @@ refusal fault number = At fault number
 abbrev pub IsTakenAt : {A : Type 0} → Option PlanFault → ℕ → A → Result A TextError → Type 0
 IsTakenAt (Some fault) number next r = r ≡ Err (refusal fault number)
 IsTakenAt None number next r = (r ≡ Err text.Memory) ⊎ (r ≡ Ok next)
+
+-- what is due of one more read at a stage, where these records are left: the stage after the first of them, or at the end the plan
+abbrev pub next_due : Stage → ℕ → List (List (List ℕ)) → Result Progress TextError
+next_due stage number [] = numbered (stage_fault stage None) number (Whole (stage_plan stage))
+next_due stage number (fields ∷ rest) = numbered (stage_fault stage (Some fields)) number (More (stage_with stage fields))
+
+-- a read at a stage brings what is due, but for a read that failed and for memory; where it brings a further stage, the records
+-- after the first are left
+pub record Advances (stage : Stage) (number : ℕ) (left : List (List (List ℕ))) (after : Option (List (List (List ℕ)))) (answer : Result Progress TextError) : Type 0 where
+  pub due : (answer ≡ Err text.Read) ⊎ (answer ≡ Err text.Memory) ⊎ (answer ≡ next_due stage number left)
+  pub rest : (next : Stage) → answer ≡ Ok (More next) → (fields : List (List ℕ)) × (others : List (List (List ℕ))) × (left ≡ fields ∷ others) × (after ≡ Some others)
 
 -- the number of records that can be numbered
 abbrev pub most_records : ℕ

@@ -3,7 +3,8 @@ ghost use Rattle.std.specs.Prelude.{◌≡◌, ◌↔◌, ℕ, List, Some, None,
 ghost use Rattle.csv.specs.Records.{fields_of};
 ghost use Rattle.msrp_plan.specs.Bytes.{source_failed, source_remaining};
 ghost use Rattle.msrp_text.specs.Reading.{Answers, csv_records, plan_of};
-ghost use Rattle.msrp_text.specs.Stages.{IsTakenAt, ReadsAs, refusal, stage_fault, stage_plan, stage_with};
+ghost use Rattle.msrp_text.specs.Records.{records_left};
+ghost use Rattle.msrp_text.specs.Stages.{Advances, IsTakenAt, ReadsAs, refusal, stage_fault, stage_plan, stage_with};
 
 use crate::records::{RecordReader, Stopped};
 use crate::stages::{Stage, plan_at_end, stage_after};
@@ -76,22 +77,56 @@ fn end(stage: Stage, number: u32) -> Result<Plan, TextError>
     }
 }
 
-// The plan of a text. Whatever a read fails of is told as it was.
+// What one more read brings: the stage after a record, or the plan at the end.
+#[derive(Drop)]
+enum Progress {
+    More(Stage),
+    Whole(Plan),
+}
+
+// One more read at a stage, by the number of what it comes to. A failed read is told as it was.
+fn advance<R: Read>(
+    alloc: Global,
+    records: &mut RecordReader<R>,
+    row: &mut ByteRecord,
+    stage: Stage,
+    number: u32,
+) -> Result<Progress, TextError>
+    ensures { (left : List (List (List ℕ))) → records_left R.remaining records.old ≡ Some left → Advances stage number left (records_left R.remaining records.new) result }
+{
+    match records.read(row) {
+        Ok(true) => Ok(Progress::More(step(alloc, stage, row, number)?)),
+        Ok(false) => Ok(Progress::Whole(end(stage, number)?)),
+        Err(Stopped::Read) => Err(TextError::Read),
+        Err(Stopped::Memory) => Err(TextError::Memory),
+    }
+}
+
+// The plan of the records that are left, from the first stage on.
+fn read_stages<R: Read>(
+    alloc: Global,
+    records: &mut RecordReader<R>,
+    row: &mut ByteRecord,
+) -> Result<Plan, Unread>
+    ensures { (left : List (List (List ℕ))) → records_left R.remaining records.old ≡ Some left → ReadsAs left result }
+{
+    let mut stage = Stage::Version;
+    for number in 1..=MOST_RECORDS {
+        match advance(alloc, records, row, stage, number)? {
+            Progress::More(next) => stage = next,
+            Progress::Whole(plan) => return Ok(plan),
+        }
+    }
+    Err(Unread::TooMany)
+}
+
+// The plan of a text.
 fn read_records<R: Read>(alloc: Global, source: &mut Source<R>) -> Result<Plan, Unread>
     ensures { (bytes : List ℕ) → source_remaining R.remaining source.old ≡ Some bytes → ReadsAs (csv_records bytes) result }
 {
     let mut records = RecordReader::new(alloc, source);
     let mut row = ByteRecord::new(alloc);
-    let mut stage = Stage::Version;
-    for number in 1..=MOST_RECORDS {
-        match records.read(&mut row) {
-            Ok(true) => stage = step(alloc, stage, &row, number)?,
-            Ok(false) => return Ok(end(stage, number)?),
-            Err(Stopped::Read) => return Err(Unread::Told(TextError::Read)),
-            Err(Stopped::Memory) => return Err(Unread::Told(TextError::Memory)),
-        }
-    }
-    Err(Unread::TooMany)
+    read_stages(alloc, &mut records, &mut row)
 }
 
 /// The plan of a text, or its first refusal.

@@ -1,7 +1,7 @@
 //! Plan text, record by record.
-ghost use Rattle.std.specs.Prelude.{◌≡◌, Some, None, true};
+ghost use Rattle.std.specs.Prelude.{◌≡◌, Some, None, OnOk, true};
 ghost use Rattle.csv.specs.Records.{fields_of};
-ghost use Rattle.msrp_plan.specs.Building.{empty_plan, units_of, with_release, with_resource, with_task, with_units};
+ghost use Rattle.msrp_plan.specs.Building.{IsJudged, empty_plan, units_of, with_release, with_resource, with_task, with_units};
 ghost use Rattle.msrp_text.specs.Fields.{name_at};
 ghost use Rattle.msrp_text.specs.Reading.{body_fault, cores_fault, is_lock_word, is_op_word, list_fault, listed_record_fault, listed_told, number_told, op_record_fault, release_record_fault, resource_record_fault, resource_told, step_told, task_record_fault, task_told, ticks_fault, version_fault, version_told, with_list_record, with_record};
 ghost use Rattle.msrp_text.specs.Stages.{IsTaken, numbered_step, stage_fault, stage_plan, stage_with, task_numbers};
@@ -79,8 +79,9 @@ fn read_ticks(
 }
 
 // A new resource.
-fn read_resource(mut builder: PlanBuilder, row: &ByteRecord) -> Result<PlanBuilder, PlanFault>
-    ensures { IsTaken (resource_record_fault builder (fields_of row.now)) (with_resource builder (name_at (fields_of row.now) 1)) result }
+fn read_resource(builder: &mut PlanBuilder, row: &ByteRecord) -> Result<(), PlanFault>
+    ensures judged { IsJudged (resource_record_fault builder.old (fields_of row.now)) result }
+    ensures added { OnOk result (builder.new ≡ with_resource builder.old (name_at (fields_of row.now) 1)) }
 {
     if builder.tasks() != 0 {
         return Err(PlanFault::OutOfPlace);
@@ -89,7 +90,7 @@ fn read_resource(mut builder: PlanBuilder, row: &ByteRecord) -> Result<PlanBuild
         return Err(PlanFault::FieldCount);
     }
     builder.resource(name_at(row, 1))?;
-    Ok(builder)
+    Ok(())
 }
 
 // The numbers of a task's record.
@@ -114,8 +115,9 @@ fn task_numbers(row: &ByteRecord) -> Option<TaskNumbers>
 }
 
 // A new task.
-fn read_task(mut builder: PlanBuilder, row: &ByteRecord) -> Result<PlanBuilder, PlanFault>
-    ensures { IsTaken (task_record_fault builder (fields_of row.now)) (with_task builder (task_told (fields_of row.now))) result }
+fn read_task(builder: &mut PlanBuilder, row: &ByteRecord) -> Result<(), PlanFault>
+    ensures judged { IsJudged (task_record_fault builder.old (fields_of row.now)) result }
+    ensures added { OnOk result (builder.new ≡ with_task builder.old (task_told (fields_of row.now))) }
 {
     if row.len() != 6 {
         return Err(PlanFault::FieldCount);
@@ -130,7 +132,7 @@ fn read_task(mut builder: PlanBuilder, row: &ByteRecord) -> Result<PlanBuilder, 
                 numbers.deadline,
                 numbers.offset,
             )?;
-            Ok(builder)
+            Ok(())
         }
     }
 }
@@ -171,8 +173,9 @@ fn is_op_word(row: &ByteRecord) -> bool
 }
 
 // Units of the newest task.
-fn read_op(mut builder: PlanBuilder, row: &ByteRecord) -> Result<PlanBuilder, PlanFault>
-    ensures { IsTaken (op_record_fault builder (fields_of row.now)) (with_units builder (units_of (step_told builder (fields_of row.now)))) result }
+fn read_op(builder: &mut PlanBuilder, row: &ByteRecord) -> Result<(), PlanFault>
+    ensures judged { IsJudged (op_record_fault builder.old (fields_of row.now)) result }
+    ensures added { OnOk result (builder.new ≡ with_units builder.old (units_of (step_told builder.old (fields_of row.now)))) }
 {
     if builder.tasks() == 0 {
         return Err(PlanFault::OutOfPlace);
@@ -186,18 +189,16 @@ fn read_op(mut builder: PlanBuilder, row: &ByteRecord) -> Result<PlanBuilder, Pl
     if row.len() != 3 {
         return Err(PlanFault::FieldCount);
     }
-    match step_told(&builder, row) {
+    match step_told(builder, row) {
         None => Err(PlanFault::Number),
-        Some(step) => {
-            builder.op(step)?;
-            Ok(builder)
-        }
+        Some(step) => builder.op(step),
     }
 }
 
 // A new task with a list of releases.
-fn read_listed(mut builder: PlanBuilder, row: &ByteRecord) -> Result<PlanBuilder, PlanFault>
-    ensures { IsTaken (listed_record_fault builder (fields_of row.now)) (with_task builder (listed_told (fields_of row.now))) result }
+fn read_listed(builder: &mut PlanBuilder, row: &ByteRecord) -> Result<(), PlanFault>
+    ensures judged { IsJudged (listed_record_fault builder.old (fields_of row.now)) result }
+    ensures added { OnOk result (builder.new ≡ with_task builder.old (listed_told (fields_of row.now))) }
 {
     if row.len() != 4 {
         return Err(PlanFault::FieldCount);
@@ -205,15 +206,16 @@ fn read_listed(mut builder: PlanBuilder, row: &ByteRecord) -> Result<PlanBuilder
     match (number_at(row, 2), number_at(row, 3)) {
         (Some(core), Some(deadline)) => {
             builder.listed(name_at(row, 1), CoreId(core), deadline)?;
-            Ok(builder)
+            Ok(())
         }
         _ => Err(PlanFault::Number),
     }
 }
 
 // A release of the newest task.
-fn read_release(mut builder: PlanBuilder, row: &ByteRecord) -> Result<PlanBuilder, PlanFault>
-    ensures { IsTaken (release_record_fault builder (fields_of row.now)) (with_release builder (number_told (fields_of row.now) 1)) result }
+fn read_release(builder: &mut PlanBuilder, row: &ByteRecord) -> Result<(), PlanFault>
+    ensures judged { IsJudged (release_record_fault builder.old (fields_of row.now)) result }
+    ensures added { OnOk result (builder.new ≡ with_release builder.old (number_told (fields_of row.now) 1)) }
 {
     if !builder.takes_releases() {
         return Err(PlanFault::OutOfPlace);
@@ -223,20 +225,18 @@ fn read_release(mut builder: PlanBuilder, row: &ByteRecord) -> Result<PlanBuilde
     }
     match number_at(row, 1) {
         None => Err(PlanFault::Number),
-        Some(tick) => {
-            builder.release(tick)?;
-            Ok(builder)
-        }
+        Some(tick) => builder.release(tick),
     }
 }
 
 // A record of a release list, which is of version 2.
 fn read_list_record(
     version: TextVersion,
-    builder: PlanBuilder,
+    builder: &mut PlanBuilder,
     row: &ByteRecord,
-) -> Result<PlanBuilder, PlanFault>
-    ensures { IsTaken (list_fault version builder (fields_of row.now)) (with_list_record builder (fields_of row.now)) result }
+) -> Result<(), PlanFault>
+    ensures judged { IsJudged (list_fault version builder.old (fields_of row.now)) result }
+    ensures added { OnOk result (builder.new ≡ with_list_record builder.old (fields_of row.now)) }
 {
     match version {
         TextVersion::V1 => Err(PlanFault::OutOfPlace),
@@ -253,10 +253,11 @@ fn read_list_record(
 // A record after the first three: a resource, a task, or units or a release of the newest one.
 fn read_record(
     version: TextVersion,
-    builder: PlanBuilder,
+    builder: &mut PlanBuilder,
     row: &ByteRecord,
-) -> Result<PlanBuilder, PlanFault>
-    ensures { IsTaken (body_fault version builder (Some (fields_of row.now))) (with_record builder (fields_of row.now)) result }
+) -> Result<(), PlanFault>
+    ensures judged { IsJudged (body_fault version builder.old (Some (fields_of row.now))) result }
+    ensures added { OnOk result (builder.new ≡ with_record builder.old (fields_of row.now)) }
 {
     if has_word(row, 0, b"resource") {
         read_resource(builder, row)
@@ -278,8 +279,9 @@ pub(crate) fn stage_after(alloc: Global, stage: Stage, row: &ByteRecord) -> Resu
         Stage::Version => read_version(row),
         Stage::Cores(version) => read_cores(version, row),
         Stage::Ticks(version, cores) => read_ticks(alloc, version, cores, row),
-        Stage::Body(version, builder) => {
-            Ok(Stage::Body(version, read_record(version, builder, row)?))
+        Stage::Body(version, mut builder) => {
+            read_record(version, &mut builder, row)?;
+            Ok(Stage::Body(version, builder))
         }
     }
 }
