@@ -13,6 +13,7 @@ ghost use Rattle.msrp_engine.specs.Outcomes.{fault_of, is_trace_fault, is_audit_
 
 use crate::faults::CliFault;
 use crate::fields::{next_field, next_number};
+use crate::reading::ending_of;
 use msrp_audit::Auditor;
 use msrp_levels::Levels;
 use msrp_plan::bytes::{Sink, Source};
@@ -68,9 +69,10 @@ fn judge_text<T: Read>(
         → (result ≡ Err CliFault.Read) ⊎ (result ≡ Err CliFault.Memory) ⊎ (result ≡ finding plan.now (rows_of plan.now (csv_records bytes))) }
     ensures faults { IfErr result (λ fault. is_trace_fault fault ≡ true) }
     ensures read { result ≡ Err CliFault.Read → source_failed trace.new ≡ true }
+    ensures memory { result ≡ Err CliFault.Memory → source_failed trace.new ≡ false }
 {
     match judge_all(alloc, plan, trace) {
-        Err(CliFault::Read) if !trace.failed() => Err(CliFault::Memory),
+        Err(CliFault::Read | CliFault::Memory) => Err(ending_of(trace)),
         found => found,
     }
 }
@@ -143,6 +145,7 @@ pub fn audit_text<P: Read, T: Read, W: Write>(
     ensures good { IfOk result (λ status. ((status ≡ 0) ⊎ (status ≡ 1)) × (sink_failed out.new ≡ false)) }
     ensures faults { IfErr result (λ fault. is_audit_fault fault ≡ true) }
     ensures read { result ≡ Err CliFault.Read → (source_failed plan.new ≡ true) ⊎ (source_failed trace.new ≡ true) }
+    ensures memory { result ≡ Err CliFault.Memory → (source_failed plan.new ≡ false) × ((source_failed trace.new ≡ false) ⊎ (trace.new ≡ trace.old)) }
     ensures write { result ≡ Err CliFault.Write → sink_failed out.new ≡ true }
     ensures silent { IfErr result (λ fault. (fault ≡ CliFault.Write) ⊎ (out.new ≡ out.old)) }
 {

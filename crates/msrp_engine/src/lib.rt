@@ -23,6 +23,6 @@ pub use check::check_text;
 pub use faults::{CliFault, exit_of};
 pub use own_text::plan_text;
 pub use report::report_text;
-pub use run::{run_text, run_text_if};
+pub use run::{run_text, run_text_by, run_text_if};
 pub use sim::sim_text;
 pub use view::view_text;

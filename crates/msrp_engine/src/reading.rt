@@ -1,5 +1,5 @@
 //! The rows of a trace's text.
-ghost use Rattle.std.specs.Prelude.{◌≡◌, ℕ, List, [], Some, Err, IfErr, true};
+ghost use Rattle.std.specs.Prelude.{◌≡◌, ℕ, List, [], Some, Err, IfErr, OnOk, true, false};
 ghost use Rattle.msrp_plan.specs.Bytes.{source_failed, source_remaining};
 ghost use Rattle.msrp_text.specs.Records.{csv_records};
 ghost use Rattle.msrp_trace.specs.Reading.{Told, rows_of};
@@ -43,7 +43,19 @@ fn gather_all<T: Read>(alloc: Global, plan: &Plan, trace: &mut Source<T>) -> Res
     answer
 }
 
-/// All rows of a trace's text, where a failed read is told only if the source has failed.
+/// What ended the reading of a source early: a failed read exactly where the source has failed, and else want of memory.
+pub(crate) fn ending_of<T: Read>(source: &Source<T>) -> CliFault
+    ensures read { source_failed source.now ≡ true → result ≡ CliFault.Read }
+    ensures memory { source_failed source.now ≡ false → result ≡ CliFault.Memory }
+{
+    if source.failed() {
+        CliFault::Read
+    } else {
+        CliFault::Memory
+    }
+}
+
+/// All rows of a trace's text, where a failed read is told only if the source has failed, and want of memory or rows only if it hasn't.
 pub(crate) fn read_rows<T: Read>(
     alloc: Global,
     plan: &Plan,
@@ -52,9 +64,12 @@ pub(crate) fn read_rows<T: Read>(
     ensures rows { (bytes : List ℕ) → source_remaining T.remaining trace.old ≡ Some bytes → Reads (rows_of plan.now (csv_records bytes)) result }
     ensures faults { IfErr result (λ fault. is_trace_fault fault ≡ true) }
     ensures read { result ≡ Err CliFault.Read → source_failed trace.new ≡ true }
+    ensures memory { result ≡ Err CliFault.Memory → source_failed trace.new ≡ false }
+    ensures whole { OnOk result (source_failed trace.new ≡ false) }
 {
     match gather_all(alloc, plan, trace) {
-        Err(CliFault::Read) if !trace.failed() => Err(CliFault::Memory),
+        Err(CliFault::Read | CliFault::Memory) => Err(ending_of(trace)),
+        Ok(_) if trace.failed() => Err(CliFault::Read),
         answer => answer,
     }
 }

@@ -1,5 +1,5 @@
 //! The report of a trace's text.
-ghost use Rattle.std.specs.Prelude.{◌≡◌, ◌⊎◌, ℕ, List, [], true, false, Some, Err, IfOk, IfErr, length};
+ghost use Rattle.std.specs.Prelude.{◌≡◌, ◌⊎◌, ℕ, List, [], true, false, Some, Err, IfOk, IfErr, OnOk, length};
 ghost use Rattle.msrp_plan.specs.Bytes.{sink_failed, source_failed, source_remaining};
 ghost use Rattle.msrp_report.specs.Reports.{HasReported};
 ghost use Rattle.msrp_report.specs.ReportText.{report_text};
@@ -13,6 +13,7 @@ ghost use Rattle.msrp_engine.specs.Reports.{ReportAnswers, Reports};
 
 use crate::audit::write_verdict;
 use crate::faults::CliFault;
+use crate::reading::ending_of;
 use msrp_levels::Levels;
 use msrp_plan::bytes::{Sink, Source};
 use msrp_plan::{Fault, Plan};
@@ -61,7 +62,8 @@ fn report_all<T: Read>(
     found
 }
 
-// The same, where a failed read is told only if the source has failed. One row is kept at a time.
+// The same, where a failed read is told only if the source has failed, and want of memory or a report only if it hasn't. One row is kept
+// at a time.
 fn report_trace<T: Read>(
     alloc: Global,
     plan: &Plan,
@@ -72,9 +74,12 @@ fn report_trace<T: Read>(
     ensures lines { IfOk result (λ found. IfOk found (λ report. length report.lines.items ≡ length plan.now.tasks)) }
     ensures faults { IfErr result (λ fault. is_trace_fault fault ≡ true) }
     ensures read { result ≡ Err CliFault.Read → source_failed trace.new ≡ true }
+    ensures memory { result ≡ Err CliFault.Memory → source_failed trace.new ≡ false }
+    ensures whole { IfOk result (λ found. OnOk found (source_failed trace.new ≡ false)) }
 {
     match report_all(alloc, plan, trace) {
-        Err(CliFault::Read) if !trace.failed() => Err(CliFault::Memory),
+        Err(CliFault::Read | CliFault::Memory) => Err(ending_of(trace)),
+        Ok(Ok(_)) if trace.failed() => Err(CliFault::Read),
         found => found,
     }
 }
@@ -116,6 +121,7 @@ pub fn report_text<P: Read, T: Read, W: Write>(
     ensures good { IfOk result (λ status. ((status ≡ 0) ⊎ (status ≡ 1)) × (sink_failed out.new ≡ false)) }
     ensures faults { IfErr result (λ fault. is_audit_fault fault ≡ true) }
     ensures read { result ≡ Err CliFault.Read → (source_failed plan.new ≡ true) ⊎ (source_failed trace.new ≡ true) }
+    ensures memory { result ≡ Err CliFault.Memory → (source_failed plan.new ≡ false) × ((source_failed trace.new ≡ false) ⊎ (trace.new ≡ trace.old)) }
     ensures write { result ≡ Err CliFault.Write → sink_failed out.new ≡ true }
     ensures silent { IfErr result (λ fault. (fault ≡ CliFault.Write) ⊎ (out.new ≡ out.old)) }
 {

@@ -13,7 +13,7 @@ use crate::faults::CliFault;
 use msrp_merge::Merging;
 use msrp_plan::bytes::{Sink, Source};
 use msrp_plan::{Plan, TextVersion, WriteFault};
-use msrp_run::{Hire, HireAll, Plain, run_logged_if};
+use msrp_run::{Hire, HireAll, Plain, Stage, run_logged_if};
 use msrp_text::read_plan;
 use msrp_trace::TraceWriter;
 use std::alloc::Global;
@@ -44,34 +44,37 @@ fn write_merged<W: Write>(
     text.finish(out)
 }
 
-// Runs an accepted plan with a thread for each core that is hired, and writes what the cores did when the run has ended.
-fn write_run<T: Threads + Wait + Sync, W: Write, H: Hire>(
+// Runs an accepted plan with a thread for each core that is hired, each turn made by the stage, and writes what the cores did when the run
+// has ended.
+fn write_run<T: Threads + Wait + Sync, W: Write, S: Stage + Sync, H: Hire>(
     rt: &T,
     alloc: Global,
     plan: &Plan,
     out: &mut Sink<W>,
     version: TextVersion,
+    stage: &S,
     hire: &H,
 ) -> Result<u8, CliFault>
     ensures { (((result ≡ Err CliFault.Memory) ⊎ (result ≡ Err CliFault.Threads)) × (out.new ≡ out.old)) ⊎ (IsPlan plan.now × WritesLegalRun W.contents version plan.now out.old out.new × (result ≡ written_status out.new)) }
 {
-    let (logs, settled) = run_logged_if(rt, alloc, plan, &Plain, hire)?;
+    let (logs, settled) = run_logged_if(rt, alloc, plan, stage, hire)?;
     let merging = Merging::new(alloc, plan, &logs, &settled)?;
     write_merged(plan, merging, version, out)?;
     Ok(0)
 }
 
-/// Reads a plan, runs it with a thread for each core that `hire` allows, and writes the trace of what the cores did, as text of
-/// this version. It is [`CliFault::Threads`] where a thread was refused.
+/// Reads a plan, runs it with a thread for each core that `hire` allows, each turn made by the stage, and writes the trace of what
+/// the cores did, as text of this version. It is [`CliFault::Threads`] where a thread was refused.
 ///
 /// Nothing is written before the run has ended: so whatever the fault, but a write fault, nothing was written. It waits for
 /// its threads, so what it promises holds where it returns.
-pub fn run_text_if<T: Threads + Wait + Sync, P: Read, W: Write, H: Hire>(
+pub fn run_text_by<T: Threads + Wait + Sync, P: Read, W: Write, S: Stage + Sync, H: Hire>(
     rt: &T,
     alloc: Global,
     plan: &mut Source<P>,
     out: &mut Sink<W>,
     version: TextVersion,
+    stage: &S,
     hire: &H,
 ) -> Result<u8, CliFault>
     // Where the reader tells its bytes, and no read failed and no memory and no thread was refused, the answer is that to
@@ -88,7 +91,29 @@ pub fn run_text_if<T: Threads + Wait + Sync, P: Read, W: Write, H: Hire>(
     ensures silent { IfErr result (λ fault. (fault ≡ CliFault.Write) ⊎ (out.new ≡ out.old)) }
 {
     let plan = read_plan(alloc, plan)?;
-    write_run(rt, alloc, &plan, out, version, hire)
+    write_run(rt, alloc, &plan, out, version, stage, hire)
+}
+
+/// Reads a plan, runs it with a thread for each core that `hire` allows, and writes the trace of what the cores did, as [`run_text_by`]
+/// does with the stage that makes the turns and does nothing else.
+pub fn run_text_if<T: Threads + Wait + Sync, P: Read, W: Write, H: Hire>(
+    rt: &T,
+    alloc: Global,
+    plan: &mut Source<P>,
+    out: &mut Sink<W>,
+    version: TextVersion,
+    hire: &H,
+) -> Result<u8, CliFault>
+    ensures answer { (bytes : List ℕ) → source_remaining P.remaining plan.old ≡ Some bytes
+        → (result ≡ Err CliFault.Read) ⊎ (result ≡ Err CliFault.Memory) ⊎ (result ≡ Err CliFault.Threads) ⊎ RunAnswers W.contents version (plan_of (csv_records bytes)) out.old out.new result }
+    ensures good { IfOk result (λ status. (status ≡ 0) × (sink_failed out.new ≡ false)) }
+    ensures written { OnOk result (WritesSomeLegalRun W.contents version out.old out.new) }
+    ensures faults { IfErr result (λ fault. (fault ≡ CliFault.Threads) ⊎ (is_sim_fault fault ≡ true)) }
+    ensures read { (result ≡ Err CliFault.Read) ↔ (source_failed plan.new ≡ true) }
+    ensures write { result ≡ Err CliFault.Write → sink_failed out.new ≡ true }
+    ensures silent { IfErr result (λ fault. (fault ≡ CliFault.Write) ⊎ (out.new ≡ out.old)) }
+{
+    run_text_by(rt, alloc, plan, out, version, &Plain, hire)
 }
 
 /// Reads a plan, runs it with a thread for each core, and writes the trace of what the cores did, as [`run_text_if`] does

@@ -47,6 +47,7 @@ pub fn view_text<P: Read, T: Read, W: Write>(
     ensures good { IfOk result (λ status. ((status ≡ 0) ⊎ (status ≡ 1)) × (sink_failed out.new ≡ false)) }
     ensures faults { IfErr result (λ fault. is_view_fault fault ≡ true) }
     ensures read { result ≡ Err CliFault.Read → (source_failed plan.new ≡ true) ⊎ (source_failed trace.new ≡ true) }
+    ensures memory { result ≡ Err CliFault.Memory → (source_failed plan.new ≡ false) × ((source_failed trace.new ≡ false) ⊎ (trace.new ≡ trace.old)) }
     ensures write { result ≡ Err CliFault.Write → sink_failed out.new ≡ true }
     ensures silent { IfErr result (λ fault. (fault ≡ CliFault.Write) ⊎ (out.new ≡ out.old)) }
 {
@@ -72,6 +73,7 @@ fn draw_text<T: Read, W: Write>(
     ensures good { IfOk result (λ status. ((status ≡ 0) ⊎ (status ≡ 1)) × (sink_failed out.new ≡ false)) }
     ensures faults { IfErr result (λ fault. (is_trace_fault fault ≡ true) ⊎ (fault ≡ CliFault.Write)) }
     ensures read { result ≡ Err CliFault.Read → source_failed trace.new ≡ true }
+    ensures memory { result ≡ Err CliFault.Memory → source_failed trace.new ≡ false }
     ensures write { result ≡ Err CliFault.Write → sink_failed out.new ≡ true }
     ensures silent { IfErr result (λ fault. (fault ≡ CliFault.Write) ⊎ (out.new ≡ out.old)) }
 {
