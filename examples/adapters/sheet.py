@@ -1,0 +1,113 @@
+#!/usr/bin/env python3
+"""Makes a plan of a spreadsheet's export, and tells on standard error each name and each time that it had to change.
+
+usage: sheet.py --tick 100us --for 200ms SHEET > PLAN
+
+The sheet has a line of heads: task, core, period, deadline, offset, does. What a task does is a list, as "run 0.3 ms, lock can, run 100us, unlock can".
+Fields may stand apart by commas, semicolons or tabs, in quotes or not, in UTF-8 or UTF-16; capitals and blanks don't matter; 0,3 ms is 0.3 ms.
+Work is rounded up, since it is a worst case; periods, deadlines and offsets are rounded down."""
+import argparse
+import csv
+import io
+import re
+import sys
+from fractions import Fraction
+
+HEADS = ("task", "core", "period", "deadline", "offset", "does")
+UNITS = {"ns": Fraction(1, 1000), "us": Fraction(1), "µs": Fraction(1), "μs": Fraction(1), "ms": Fraction(1000), "s": Fraction(1000000)}
+TIME = re.compile(r"(\d+(?:[.,]\d+)?)\s*(ns|us|µs|μs|ms|s)", re.I)
+LONGEST_NAME = 16
+
+
+def fail(text):
+    sys.exit(f"sheet.py: {text}")
+
+
+def tell(text):
+    print(f"sheet.py: {text}", file=sys.stderr)
+
+
+def microseconds(text, where):
+    found = TIME.fullmatch(text.strip())
+    if not found:
+        fail(f"{where}: {text!r} is no time with a unit, as 2.5 ms")
+    return Fraction(found[1].replace(",", ".")) * UNITS[found[2].lower()]
+
+
+def text_of(path):
+    with open(path, "rb") as file:
+        content = file.read()
+    return content.decode("utf-16" if content[:2] in (b"\xff\xfe", b"\xfe\xff") else "utf-8-sig")
+
+
+def lines_of(path):
+    """The lines of the sheet that have a task, each as a record by the heads, with its number."""
+    text = text_of(path)
+    first = text.lstrip().split("\n", 1)[0]
+    reader, heads = csv.reader(io.StringIO(text, newline=""), delimiter=max(",;\t", key=first.count)), None
+    for record in reader:
+        fields = [field.strip() for field in record]
+        if heads is not None and any(fields):
+            yield reader.line_num, dict(zip(heads, fields + [""] * len(heads)))
+        elif any(fields):
+            heads = [field.lower() for field in fields]
+            if missing := [head for head in HEADS if head not in heads]:
+                fail(f"the line of heads lacks {', '.join(missing)}")
+
+
+class Sheet:
+    def __init__(self, tick):
+        self.tick, self.names = tick, {"task": {}, "resource": {}}
+
+    def name(self, kind, text):
+        """The plan's name for a task or a resource: small letters, digits and _, at most 16, and of nobody else."""
+        known, key = self.names[kind], text.lower()
+        if key not in known:
+            plain = re.sub(r"[^a-z0-9_]", "_", key)
+            plain = (plain if plain[:1].isalpha() else "t_" + plain)[:LONGEST_NAME]
+            number, found = 2, plain
+            while found in known.values():
+                found, number = f"{plain[:LONGEST_NAME - 1 - len(str(number))]}_{number}", number + 1
+            known[key] = found
+            if found != text:
+                tell(f"{kind} {text} is {found}")
+        return known[key]
+
+    def ticks(self, text, where, up):
+        exact = microseconds(text, where) / self.tick
+        found = -(-exact.numerator // exact.denominator) if up else exact.numerator // exact.denominator
+        if found != exact:
+            tell(f"{where}: {text} is {float(exact):g} ticks, rounded {'up' if up else 'down'} to {found}")
+        return found
+
+    def actions(self, text, where):
+        """The op records of what a task does."""
+        for action in re.split(r"[,;\s]\s*(?=(?:run|lock|unlock)\s)", text, flags=re.I):
+            what, _, of = action.strip().rstrip(",;").partition(" ")
+            if what.lower() not in ("run", "lock", "unlock") or not of.strip():
+                fail(f"{where}: {action.strip()!r} is neither run TIME, lock NAME nor unlock NAME")
+            yield "op", what.lower(), self.ticks(of, where, up=True) if what.lower() == "run" else self.name("resource", of.strip())
+
+    def task(self, number, line):
+        where = f"line {number}, {line['task']}"
+        core = int(line["core"]) if line["core"].isdigit() else fail(f"{where}: {line['core']!r} is no core's number")
+        times = [self.ticks(line[head] or ("0us" if head == "offset" else ""), f"{where}, {head}", up=False) for head in HEADS[2:5]]
+        return [("task", self.name("task", line["task"]), core, *times), *self.actions(line["does"], where)]
+
+
+def main():
+    parser = argparse.ArgumentParser(description=__doc__)
+    parser.add_argument("--tick", required=True, help="how long a tick is, as 100us")
+    parser.add_argument("--for", dest="whole", required=True, help="how long the plan is, as 200ms")
+    parser.add_argument("sheet")
+    words = parser.parse_args()
+    sheet = Sheet(microseconds(words.tick, "--tick"))
+    tasks = [sheet.task(number, line) for number, line in lines_of(words.sheet)]
+    cores = 1 + max((records[0][2] for records in tasks), default=0)
+    head = [("msrp", 1), ("cores", cores), ("ticks", sheet.ticks(words.whole, "--for", up=True))]
+    resources = [("resource", name) for name in sheet.names["resource"].values()]
+    for record in [*head, *resources, *(record for records in tasks for record in records)]:
+        print(*record, sep=",")
+
+
+main()
