@@ -173,7 +173,7 @@ fn grammar<'a>(alloc: Global) -> Result<Command<'a>, AllocError>
     ensures { IfOk result (Takes line.grammar) }
 {
     let command = Command::new(alloc, "msrp").about(
-        "the Multiprocessor Stack Resource Policy: runs, audits and reports; without a command as sim -",
+        "MSRP 0.1.0, the Multiprocessor Stack Resource Policy: runs, audits, reports; without a command as sim -",
     );
     with_judges(alloc, with_runs(alloc, command)?)?.subcommand(check(alloc)?)
 }
