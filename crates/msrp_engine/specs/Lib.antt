@@ -4,6 +4,7 @@ pub mod CheckText
 pub mod Running
 pub mod Findings
 pub mod AuditText
+pub mod MadeTexts
 pub mod Reports
 pub mod Views
 pub mod Inside

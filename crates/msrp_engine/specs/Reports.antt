@@ -1,5 +1,5 @@
 -- What the report of a trace's text is.
-use Rattle.std.specs.Prelude.{◌≡◌, ℕ, List, Option, Ok, Err, IfOk, ⊤}
+use Rattle.std.specs.Prelude.{◌≡◌, ℕ, List, [], Option, Ok, Err, IfOk, ⊤}
 use Rattle.std.specs.declared.result.Result.{Result}
 use Rattle.msrp_plan.specs.Bytes.{Wrote}
 use Rattle.msrp_plan.specs.Plan.{PlanModel}
@@ -13,6 +13,8 @@ use Rattle.msrp_text.specs.declared.reading.TextError.{TextError}
 use Rattle.msrp_trace.specs.Reading.{Told, rows_of}
 use Rattle.msrp_engine.specs.AuditText.{AuditAnswers}
 use Rattle.msrp_engine.specs.Findings.{finding}
+use Rattle.msrp_engine.specs.MadeTexts.{found_in}
+use Rattle.msrp_engine.specs.declared.made.Made.{Made}
 use Rattle.msrp_engine.specs.Outcomes.{fault_of, written_status}
 use Rattle.msrp_engine.specs.declared.faults.CliFault.{CliFault}
 
@@ -27,6 +29,22 @@ verdict_told (Err fault) = Err fault
 pub record Reports (plan : PlanModel) (told : Told) (answer : Result (Result Report Fault) CliFault) : Type 0 where
   pub found : verdict_told answer ≡ finding plan told
   pub lines : IfOk answer (λ good. IfOk good (λ report. report.lines.items ≡ lines_of plan told.rows))
+
+-- ---- the text of it, in memory
+-- the text that is shown of rows with that verdict: the report of good ones, and else none
+abbrev pub report_shown : PlanModel → List Row → Result ⊤ Fault → List ℕ
+report_shown plan rows (Ok good) = report_text plan (lines_of plan rows)
+report_shown plan rows (Err fault) = []
+
+-- the answer is what is found in the rows that are told, with the text that is shown of them
+pub record IsReported (plan : PlanModel) (told : Told) (answer : Result Made CliFault) : Type 0 where
+  pub found : found_in answer ≡ finding plan told
+  pub text : IfOk answer (λ made. made.text.items ≡ report_shown plan told.rows made.found)
+
+-- the same of a text that stands for a plan, or of one that is refused, and of the records of a trace's text
+abbrev pub IsReportOf : Result PlanModel TextError → List (List (List ℕ)) → Result Made CliFault → Type 0
+IsReportOf (Ok plan) records answer = IsReported plan (rows_of plan records) answer
+IsReportOf (Err error) records answer = answer ≡ Err (fault_of error)
 
 -- ---- the answer
 -- where these are the rows and that is found in them: the report of a legal run, and else what an audit answers

@@ -1,5 +1,5 @@
 -- What the picture of a trace's text is.
-use Rattle.std.specs.Prelude.{◌≡◌, ℕ, List, Option, Some, None, Ok, Err, if◌then◌else◌, ⊤}
+use Rattle.std.specs.Prelude.{◌≡◌, ℕ, List, Option, Some, None, Ok, Err, IfOk, if◌then◌else◌, ⊤}
 use Rattle.std.specs.declared.result.Result.{Result}
 use Rattle.msrp_audit.specs.Audits.{answer_of}
 use Rattle.msrp_plan.specs.Bytes.{Wrote, sink_failed}
@@ -11,7 +11,9 @@ use Rattle.msrp_plan.specs.declared.rows.Row.{Row}
 use Rattle.msrp_text.specs.declared.reading.TextError.{TextError}
 use Rattle.msrp_trace.specs.Reading.{Told, rows_of}
 use Rattle.msrp_trace.specs.declared.faults.TraceError.{TraceError}
+use Rattle.msrp_engine.specs.MadeTexts.{found_in}
 use Rattle.msrp_engine.specs.Outcomes.{fault_of, trace_fault_of}
+use Rattle.msrp_engine.specs.declared.made.Made.{Made}
 use Rattle.msrp_picture.specs.Styles.{drawing}
 use Rattle.msrp_picture.specs.Windows.{window_of}
 use Rattle.msrp_engine.specs.declared.faults.CliFault.{CliFault}
@@ -52,3 +54,24 @@ DrawsWindow contents style plan told None old new result = Refuses Usage old new
 abbrev pub ViewAnswers : {W : Type 0} → (W → Option (List ℕ)) → Result PlanModel TextError → List (List (List ℕ)) → Asked → Sink W → Sink W → Result ℕ CliFault → Type 0
 ViewAnswers contents (Ok plan) records asked old new result = DrawsWindow contents asked.style plan (rows_of plan records) (window_of plan asked) old new result
 ViewAnswers contents (Err error) records asked old new result = Refuses (fault_of error) old new result
+
+-- ---- the picture in memory
+-- the picture of these rows, with that verdict on them
+pub record IsPictured (style : Style) (plan : PlanModel) (rows : List Row) (w : Window) (answer : Result Made CliFault) : Type 0 where
+  pub found : found_in answer ≡ Ok (answer_of (verdict plan rows))
+  pub text : IfOk answer (λ made. made.text.items ≡ drawing style plan rows made.found w)
+
+-- of rows behind which nothing was refused, and of others
+abbrev pub IsPictureTold : Style → PlanModel → List Row → Option TraceError → Window → Result Made CliFault → Type 0
+IsPictureTold style plan rows None w answer = IsPictured style plan rows w answer
+IsPictureTold style plan rows (Some error) w answer = answer ≡ Err (trace_fault_of error)
+
+-- where there are such ticks, and where not
+abbrev pub IsPictureIn : Style → PlanModel → Told → Option Window → Result Made CliFault → Type 0
+IsPictureIn style plan told (Some w) answer = IsPictureTold style plan told.rows told.refusal w answer
+IsPictureIn style plan told None answer = answer ≡ Err Usage
+
+-- the same of a text that stands for a plan, or of one that is refused, and of the records of a trace's text
+abbrev pub IsPictureOf : Result PlanModel TextError → List (List (List ℕ)) → Asked → Result Made CliFault → Type 0
+IsPictureOf (Ok plan) records asked answer = IsPictureIn asked.style plan (rows_of plan records) (window_of plan asked) answer
+IsPictureOf (Err error) records asked answer = answer ≡ Err (fault_of error)

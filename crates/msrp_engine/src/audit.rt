@@ -120,6 +120,29 @@ pub fn write_verdict<W: Write>(out: &mut Sink<W>, found: Result<(), Fault>) -> R
     }
 }
 
+/// The verdict on a trace of a plan, whoever made it: the first row that breaks a rule, counted from 1, with the lowest rule
+/// that it breaks.
+///
+/// The rows are judged as they come, and one is kept at a time. So a fault on a row that stands before a refused record is
+/// the answer, and nothing is read after the first fault. A refused plan is told whatever the trace.
+pub fn judge_texts<P: Read, T: Read>(
+    alloc: Global,
+    plan: &mut Source<P>,
+    trace: &mut Source<T>,
+) -> Result<Result<(), Fault>, CliFault>
+    ensures found { (plan_bytes trace_bytes : List ℕ) → source_remaining P.remaining plan.old ≡ Some plan_bytes → source_remaining T.remaining trace.old ≡ Some trace_bytes
+        → (result ≡ Err CliFault.Read) ⊎ (result ≡ Err CliFault.Memory) ⊎ (result ≡ finding_of (plan_of (csv_records plan_bytes)) (csv_records trace_bytes)) }
+    ensures refused { (bytes : List ℕ) (error : PlanError) → source_remaining P.remaining plan.old ≡ Some bytes → plan_of (csv_records bytes) ≡ Err error
+        → (result ≡ Err CliFault.Read) ⊎ (result ≡ Err CliFault.Memory) ⊎ (result ≡ Err (fault_of error)) }
+    ensures faults { IfErr result (λ fault. is_audit_fault fault ≡ true) }
+    ensures unwritten { ¬ (result ≡ Err CliFault.Write) }
+    ensures read { result ≡ Err CliFault.Read → (source_failed plan.new ≡ true) ⊎ (source_failed trace.new ≡ true) }
+    ensures memory { result ≡ Err CliFault.Memory → (source_failed plan.new ≡ false) × ((source_failed trace.new ≡ false) ⊎ (trace.new ≡ trace.old)) }
+{
+    let plan = read_plan(alloc, plan)?;
+    judge_text(alloc, &plan, trace)
+}
+
 /// Reads a plan and a trace of it, whoever made it, and writes the verdict: `good` for a legal run, and else
 /// `fault,ROW,RULE` with the first row that breaks a rule, counted from 1, and the lowest rule that it breaks. The answer
 /// is the exit status, 0 or 1.
@@ -149,7 +172,6 @@ pub fn audit_text<P: Read, T: Read, W: Write>(
     ensures write { result ≡ Err CliFault.Write → sink_failed out.new ≡ true }
     ensures silent { IfErr result (λ fault. (fault ≡ CliFault.Write) ⊎ (out.new ≡ out.old)) }
 {
-    let plan = read_plan(alloc, plan)?;
-    let found = judge_text(alloc, &plan, trace)?;
+    let found = judge_texts(alloc, plan, trace)?;
     write_verdict(out, found)
 }

@@ -9,10 +9,11 @@ ghost use Rattle.msrp_trace.specs.Reading.{Told, rows_of};
 ghost use Rattle.msrp_trace.specs.Readers.{told_left};
 ghost use Rattle.msrp_engine.specs.Findings.{finding};
 ghost use Rattle.msrp_engine.specs.Outcomes.{fault_of, is_trace_fault, is_audit_fault};
-ghost use Rattle.msrp_engine.specs.Reports.{ReportAnswers, Reports};
+ghost use Rattle.msrp_engine.specs.Reports.{IsReportOf, ReportAnswers, Reports};
 
 use crate::audit::write_verdict;
 use crate::faults::CliFault;
+use crate::made::Made;
 use crate::reading::ending_of;
 use msrp_levels::Levels;
 use msrp_plan::bytes::{Sink, Source};
@@ -95,6 +96,36 @@ fn gathered(alloc: Global, plan: &Plan, report: &Report) -> Result<Vec<u8>, CliF
         return Err(CliFault::Memory);
     }
     Ok(text.into_inner())
+}
+
+/// The text of the report of a trace of a plan, whoever made it; where the trace isn't a legal run, its first fault and no text.
+///
+/// The rows are judged and counted as they come, and one is kept at a time. A refused plan is told whatever the trace.
+pub fn report_of_texts<P: Read, T: Read>(
+    alloc: Global,
+    plan: &mut Source<P>,
+    trace: &mut Source<T>,
+) -> Result<Made, CliFault>
+    ensures found { (plan_bytes trace_bytes : List ℕ) → source_remaining P.remaining plan.old ≡ Some plan_bytes → source_remaining T.remaining trace.old ≡ Some trace_bytes
+        → (result ≡ Err CliFault.Read) ⊎ (result ≡ Err CliFault.Memory) ⊎ IsReportOf (plan_of (csv_records plan_bytes)) (csv_records trace_bytes) result }
+    ensures refused { (bytes : List ℕ) (error : PlanError) → source_remaining P.remaining plan.old ≡ Some bytes → plan_of (csv_records bytes) ≡ Err error
+        → (result ≡ Err CliFault.Read) ⊎ (result ≡ Err CliFault.Memory) ⊎ (result ≡ Err (fault_of error)) }
+    ensures faults { IfErr result (λ fault. is_audit_fault fault ≡ true) }
+    ensures unwritten { ¬ (result ≡ Err CliFault.Write) }
+    ensures read { result ≡ Err CliFault.Read → (source_failed plan.new ≡ true) ⊎ (source_failed trace.new ≡ true) }
+    ensures memory { result ≡ Err CliFault.Memory → (source_failed plan.new ≡ false) × ((source_failed trace.new ≡ false) ⊎ (trace.new ≡ trace.old)) }
+{
+    let plan = read_plan(alloc, plan)?;
+    match report_trace(alloc, &plan, trace)? {
+        Err(fault) => Ok(Made {
+            text: Vec::new(alloc),
+            found: Err(fault),
+        }),
+        Ok(report) => Ok(Made {
+            text: gathered(alloc, &plan, &report)?,
+            found: Ok(()),
+        }),
+    }
 }
 
 /// Reads a plan and a trace of it, whoever made it, and writes the report of the trace with status 0; where the trace isn't

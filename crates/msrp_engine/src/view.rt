@@ -1,6 +1,6 @@
 //! The picture of a trace's text.
 
-ghost use Rattle.std.specs.Prelude.{◌≡◌, ◌⊎◌, ℕ, List, true, false, Some, Err, IfOk, IfErr};
+ghost use Rattle.std.specs.Prelude.{◌≡◌, ◌⊎◌, ℕ, List, true, false, Some, Ok, Err, IfOk, IfErr};
 ghost use Rattle.msrp_plan.specs.Bytes.{Wrote, sink_failed, source_failed, source_remaining};
 ghost use Rattle.msrp_text.specs.Reading.{csv_records, plan_of};
 ghost use Rattle.msrp_text.specs.declared.reading.TextError.{TextError as PlanError};
@@ -9,9 +9,12 @@ ghost use Rattle.msrp_plan.specs.Verdict.{verdict};
 ghost use Rattle.msrp_trace.specs.Reading.{rows_of};
 ghost use Rattle.msrp_engine.specs.Outcomes.{fault_of, is_trace_fault, is_view_fault};
 ghost use Rattle.msrp_picture.specs.Windows.{IsWindow};
-ghost use Rattle.msrp_engine.specs.Views.{Draws, DrawsWindow, ViewAnswers, picture_status};
+ghost use Rattle.msrp_engine.specs.MadeTexts.{found_in};
+ghost use Rattle.msrp_engine.specs.Views.{Draws, DrawsWindow, IsPictureOf, ViewAnswers, picture_status};
+ghost use Rattle.msrp_picture.specs.Styles.{drawing};
 
 use crate::faults::CliFault;
+use crate::made::Made;
 use crate::reading::read_rows;
 use msrp_audit::audit;
 use msrp_picture::{Asked, Style, Window, draw, window_of};
@@ -81,6 +84,48 @@ fn draw_text<T: Read, W: Write>(
     draw_rows(alloc, plan, &trace, out, style, window)
 }
 
+// The picture of rows, in memory.
+fn pictured(
+    alloc: Global,
+    plan: &Plan,
+    trace: &Trace,
+    style: Style,
+    window: Window,
+) -> Result<Made, CliFault>
+    requires { IsWindow window }
+    ensures found { (result ≡ Err CliFault.Memory) ⊎ (found_in result ≡ Ok (answer_of (verdict plan.now trace.now.rows.items))) }
+    ensures text { IfOk result (λ made. made.text.items ≡ drawing style plan.now trace.now.rows.items made.found window) }
+    ensures memory { IfErr result (λ fault. fault ≡ CliFault.Memory) }
+{
+    let found = audit(alloc, plan, trace)?;
+    let text = draw(alloc, plan, trace.rows.as_slice(), found, style, window)?;
+    Ok(Made { text, found })
+}
+
+/// The picture of a trace of a plan, whoever made it, with the verdict on its rows, as [`view_text`] writes it.
+pub fn picture_of_texts<P: Read, T: Read>(
+    alloc: Global,
+    plan: &mut Source<P>,
+    trace: &mut Source<T>,
+    asked: Asked,
+) -> Result<Made, CliFault>
+    ensures found { (plan_bytes trace_bytes : List ℕ) → source_remaining P.remaining plan.old ≡ Some plan_bytes → source_remaining T.remaining trace.old ≡ Some trace_bytes
+        → (result ≡ Err CliFault.Read) ⊎ (result ≡ Err CliFault.Memory) ⊎ IsPictureOf (plan_of (csv_records plan_bytes)) (csv_records trace_bytes) asked result }
+    ensures refused { (bytes : List ℕ) (error : PlanError) → source_remaining P.remaining plan.old ≡ Some bytes → plan_of (csv_records bytes) ≡ Err error
+        → (result ≡ Err CliFault.Read) ⊎ (result ≡ Err CliFault.Memory) ⊎ (result ≡ Err (fault_of error)) }
+    ensures faults { IfErr result (λ fault. is_view_fault fault ≡ true) }
+    ensures unwritten { ¬ (result ≡ Err CliFault.Write) }
+    ensures read { result ≡ Err CliFault.Read → (source_failed plan.new ≡ true) ⊎ (source_failed trace.new ≡ true) }
+    ensures memory { result ≡ Err CliFault.Memory → (source_failed plan.new ≡ false) × ((source_failed trace.new ≡ false) ⊎ (trace.new ≡ trace.old)) }
+{
+    let plan = read_plan(alloc, plan)?;
+    let Some(window) = window_of(&plan, asked) else {
+        return Err(CliFault::Usage);
+    };
+    let trace = read_rows(alloc, &plan, trace)?;
+    pictured(alloc, &plan, &trace, asked.style, window)
+}
+
 // The same of rows that were read.
 fn draw_rows<W: Write>(
     alloc: Global,
@@ -97,9 +142,8 @@ fn draw_rows<W: Write>(
     ensures write { result ≡ Err CliFault.Write → sink_failed out.new ≡ true }
     ensures silent { IfErr result (λ fault. (fault ≡ CliFault.Write) ⊎ (out.new ≡ out.old)) }
 {
-    let found = audit(alloc, plan, trace)?;
-    let text = draw(alloc, plan, trace.rows.as_slice(), found, style, window)?;
-    write_picture(out, text.as_slice(), found)
+    let made = pictured(alloc, plan, trace, style, window)?;
+    write_picture(out, made.text.as_slice(), made.found)
 }
 
 // Writes a picture of rows with that verdict, and answers its status.
