@@ -42,6 +42,11 @@ def is_program(name):
     return os.path.exists(f"{TOP}/crates/{name}/src/main.rt")
 
 
+def is_static(name):
+    """Whether it is a library for C, on which no crate stands."""
+    return "staticlib" in LINES[name].partition(":")[0].split()
+
+
 @functools.lru_cache(maxsize=None)
 def kit():
     """The kit's line, or None where the kit isn't at hand."""
@@ -73,6 +78,8 @@ def sums_of(names, top=TOP):
 def made_of(name, top=TOP):
     """What was built: the file that changes whenever it is built anew, and the note beside it. A library's note goes when the library goes."""
     out = f"{top}/crates/{name}/out"
+    if is_static(name):
+        return f"{out}/lib{name}.a", f"{out}/lib{name}.a.proved"
     return (f"{out}/{name}", f"{out}/{name}.proved") if is_program(name) else (f"{out}/rlib/stamp", f"{out}/rlib/proved")
 
 

@@ -1,0 +1,18 @@
+-- The picture of a trace, in a style that is named.
+use Rattle.std.specs.Prelude.{◌≡◌, ℕ, List, Option, Some, None}
+use Rattle.std.specs.declared.result.Result.{Result}
+use Rattle.std.specs.declared.result.Result.TheVariants.{Err}
+use Rattle.msrp_engine.specs.Views.{IsPictureOf}
+use Rattle.msrp_engine.specs.declared.faults.CliFault.{CliFault}
+use Rattle.msrp_engine.specs.declared.faults.CliFault.TheVariants.{Usage}
+use Rattle.msrp_engine.specs.declared.made.Made.{Made}
+use Rattle.msrp_picture.specs.declared.windows.Style.{Style}
+use Rattle.msrp_plan.specs.Plan.{PlanModel}
+use Rattle.msrp_text.specs.declared.reading.TextError.{TextError}
+use Rattle.msrp_c.specs.Answers.{OrUnread}
+use Rattle.msrp_c.specs.Numbers.{ticks_asked}
+
+-- the picture of these ticks in that style; where the number names no style, whatever the texts, it is wrong usage
+abbrev pub IsDrawn : Option Style → ℕ → ℕ → Result PlanModel TextError → List (List (List ℕ)) → Result Made CliFault → Type 0
+IsDrawn (Some style) from to expected records made = OrUnread made (IsPictureOf expected records (ticks_asked style from to) made)
+IsDrawn None from to expected records made = made ≡ Err Usage

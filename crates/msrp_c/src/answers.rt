@@ -1,0 +1,112 @@
+//! What a call tells: its status, the numbers of what was found, and a text.
+ghost use Rattle.std.specs.Prelude.{◌≡◌, ◌≤◌, ◌<◌, ◌++◌, length, drop, true, false};
+ghost use Rattle.msrp_c.specs.Answers.{Hands, Puts, numbers_of, rule_number, status_told};
+
+use msrp_audit::{Fault, Rule};
+use msrp_engine::{CliFault, Made, exit_of};
+
+/// What a call found. What doesn't apply is 0.
+#[repr(C)]
+#[derive(Clone, Copy, Debug, PartialEq, Eq)]
+pub struct MsrpFound {
+    /// The first row that breaks a rule, counted from 1.
+    pub row: u32,
+    /// The number after A of the lowest rule that it breaks.
+    pub rule: u32,
+    /// The number after P of the code by which the plan is refused.
+    pub plan_code: u32,
+    /// The number after R of the code by which the trace is refused.
+    pub trace_code: u32,
+    /// The record that is refused, counted from 1.
+    pub number: u32,
+}
+
+// Nothing was found.
+const NOTHING: MsrpFound = MsrpFound {
+    row: 0,
+    rule: 0,
+    plan_code: 0,
+    trace_code: 0,
+    number: 0,
+};
+
+// The status where a text doesn't fit into the buffer.
+const ROOM: u32 = 6;
+
+fn rule_number(rule: Rule) -> u32
+    ensures { result ≡ rule_number rule }
+{
+    match rule {
+        Rule::A1 => 1,
+        Rule::A2 => 2,
+        Rule::A3 => 3,
+        Rule::A4 => 4,
+        Rule::A5 => 5,
+        Rule::A6 => 6,
+        Rule::A7 => 7,
+    }
+}
+
+/// The exit status of what was found.
+pub(crate) fn status_told(what: Result<Result<(), Fault>, CliFault>) -> u32
+    ensures { result ≡ status_told what }
+{
+    match what {
+        Ok(Ok(())) => 0,
+        Ok(Err(_)) => 1,
+        Err(fault) => u32::from(exit_of(&Err(fault))),
+    }
+}
+
+/// The numbers of what was found.
+pub(crate) fn numbers_of(what: Result<Result<(), Fault>, CliFault>) -> MsrpFound
+    ensures { result ≡ numbers_of what }
+{
+    match what {
+        Ok(Err(fault)) => MsrpFound {
+            row: fault.row,
+            rule: rule_number(fault.rule),
+            ..NOTHING
+        },
+        Err(CliFault::Plan { code, number }) => MsrpFound {
+            plan_code: code,
+            number,
+            ..NOTHING
+        },
+        Err(CliFault::Trace { code, number }) => MsrpFound {
+            trace_code: code,
+            number,
+            ..NOTHING
+        },
+        _ => NOTHING,
+    }
+}
+
+// Puts a text in front of the buffer, if it fits, and answers whether it does.
+fn put_text(made: &[u8], text: &mut [u8], needed: &mut usize) -> bool
+    ensures { Puts made.now text.old text.new needed.new result }
+{
+    *needed = made.len();
+    if made.len() > text.len() {
+        return false;
+    }
+    text[..made.len()].copy_from_slice(made);
+    true
+}
+
+/// Hands a text over, or tells why there is none.
+pub(crate) fn hand_over(
+    made: Result<Made, CliFault>,
+    text: &mut [u8],
+    needed: &mut usize,
+    found: &mut MsrpFound,
+) -> u32
+    ensures { Hands made text.old text.new needed.new found.new result }
+{
+    let (what, fits) = match made {
+        Ok(made) => (Ok(made.found), put_text(made.text.as_slice(), text, needed)),
+        Err(fault) => (Err(fault), put_text(&[], text, needed)),
+    };
+    *found = numbers_of(what);
+    if fits { status_told(what) } else { ROOM }
+}

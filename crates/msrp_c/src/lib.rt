@@ -1,0 +1,30 @@
+//! The engines for C, and so for any language that calls C: texts come as bytes, and go into the caller's buffer.
+//!
+//! No call keeps anything, prints, or starts a thread. The header is `include/msrp.h`, and docs/C.md tells what a caller has to keep.
+#![tactic(auto)]
+
+ghost use Rattle.std.specs.Prelude.{◌≡◌};
+
+mod answers;
+mod audits;
+mod orders;
+mod pictures;
+mod plans;
+#[cfg(test)]
+mod tests;
+
+pub use answers::MsrpFound;
+pub use audits::{msrp_audit, msrp_report};
+pub use pictures::msrp_view;
+pub use plans::{msrp_check, msrp_plan_text, msrp_sim};
+
+// The version of the calls, which the header tells too.
+const VERSION: u32 = 1;
+
+/// The version of these calls: a program that was built with the header of another one isn't to call them.
+#[unsafe(no_mangle)]
+pub extern "C" fn msrp_version() -> u32
+    ensures { result ≡ 1 }
+{
+    VERSION
+}

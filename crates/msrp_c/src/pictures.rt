@@ -1,0 +1,57 @@
+//! The picture of a trace.
+ghost use Rattle.std.specs.Prelude.{◌≡◌, ◌⊎◌, Err};
+ghost use Rattle.msrp_text.specs.Reading.{csv_records, plan_of};
+ghost use Rattle.msrp_c.specs.Answers.{Answers};
+ghost use Rattle.msrp_c.specs.Numbers.{style_named};
+ghost use Rattle.msrp_c.specs.Pictures.{IsDrawn};
+
+use crate::answers::{MsrpFound, hand_over};
+use crate::orders::style_of;
+use msrp_engine::{CliFault, Made, picture_of_texts};
+use msrp_picture::Asked;
+use msrp_plan::bytes::Source;
+use std::alloc::Global;
+
+// The picture of a trace, in a style that is named by a number.
+fn drawn(
+    alloc: Global,
+    plan: &[u8],
+    trace: &[u8],
+    style: u32,
+    from: u32,
+    to: u32,
+) -> Result<Made, CliFault>
+    ensures { IsDrawn (style_named style) from to (plan_of (csv_records plan.now)) (csv_records trace.now) result }
+{
+    let Some(style) = style_of(style) else {
+        return Err(CliFault::Usage);
+    };
+    let asked = Asked {
+        style,
+        from: Some(from),
+        to: if to == 0 { None } else { Some(to) },
+    };
+    let mut plan = Source::new(plan);
+    let mut trace = Source::new(trace);
+    picture_of_texts(alloc, &mut plan, &mut trace, asked)
+}
+
+/// The picture of a trace, in plain text at style 0 and in SVG at 1, of the ticks from one on and up to another, which isn't drawn;
+/// with 0 for the latter up to the plan's end, but 200 ticks at most. It is drawn of a trace with a fault too: then the answer is 1.
+#[unsafe(no_mangle)]
+pub extern "C" fn msrp_view(
+    alloc: Global,
+    plan: &[u8],
+    trace: &[u8],
+    style: u32,
+    from: u32,
+    to: u32,
+    text: &mut [u8],
+    needed: &mut usize,
+    found: &mut MsrpFound,
+) -> u32
+    ensures { Answers (IsDrawn (style_named style) from to (plan_of (csv_records plan.now)) (csv_records trace.now)) text.old text.new needed.new found.new result }
+{
+    let made = drawn(alloc, plan, trace, style, from, to);
+    hand_over(made, text, needed, found)
+}

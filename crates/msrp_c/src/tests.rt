@@ -1,0 +1,67 @@
+//! The calls, as C makes them.
+
+use crate::{
+    MsrpFound, msrp_audit, msrp_check, msrp_plan_text, msrp_report, msrp_sim, msrp_version,
+    msrp_view,
+};
+use std::process::Abort;
+
+const PLAN: &[u8] = b"msrp,1\ncores,1\nticks,2\ntask,a,0,2,2,0\nop,run,1\n";
+
+const RUN: &[u8] = b"msrp-trace,2,1,2\n0,0,run,a,0,-,-\n1,0,idle,-,-,-,-\n";
+
+const NOTHING: MsrpFound = MsrpFound {
+    row: 0,
+    rule: 0,
+    plan_code: 0,
+    trace_code: 0,
+    number: 0,
+};
+
+#[test]
+fn a_run_is_simulated_and_audited(rt: HostRuntime) {
+    let mut found = NOTHING;
+    let mut text = [0u8; 64];
+    let mut needed = 0;
+    let status = msrp_sim(
+        rt.alloc(),
+        PLAN,
+        0,
+        &[],
+        2,
+        &mut text,
+        &mut needed,
+        &mut found,
+    );
+    assert!(rt; status == 0 && needed == RUN.len() && found == NOTHING);
+    assert!(rt; text.starts_with(RUN));
+    assert!(rt; msrp_audit(rt.alloc(), PLAN, RUN, &mut found) == 0);
+    assert!(rt; found == NOTHING && msrp_version() == 1);
+}
+
+#[test]
+fn the_other_texts_are_made(rt: HostRuntime) {
+    let mut found = NOTHING;
+    let mut text = [0u8; 512];
+    let mut needed = 0;
+    assert!(rt; msrp_check(rt.alloc(), PLAN, &mut text, &mut needed, &mut found) == 0);
+    assert!(rt; text.starts_with(b"level,a,1\ntop,0,1\n"));
+    assert!(rt; msrp_plan_text(rt.alloc(), PLAN, &mut text, &mut needed, &mut found) == 0);
+    assert!(rt; text.starts_with(PLAN) && needed == PLAN.len());
+    assert!(rt; msrp_report(rt.alloc(), PLAN, RUN, &mut text, &mut needed, &mut found) == 0);
+    assert!(rt; text.starts_with(b"msrp-report,"));
+    assert!(rt;
+        msrp_view(
+            rt.alloc(),
+            PLAN,
+            RUN,
+            0,
+            0,
+            0,
+            &mut [],
+            &mut needed,
+            &mut found
+        ) == 6
+    );
+    assert!(rt; needed > 0 && found == NOTHING);
+}

@@ -1,0 +1,89 @@
+/* msrp: runs of real-time plans under the Multiprocessor Stack Resource Policy, simulated, audited, reported and drawn.
+ *
+ * The functions behind these names are proved; this header is kept by hand, and nothing proves that a caller keeps what it says:
+ *
+ * - A text is a pointer and a length in bytes. Of a length of 0 the pointer may be null, and is not read through.
+ * - `needed` and `found` are never null. The bytes of `text` can be written; they need not be set before.
+ * - What a call writes (text, needed, found) overlaps no other argument, and no other thread touches it during the call. What a
+ *   call only reads may be shared by several threads.
+ * - The calling thread has 512 KiB of stack left. So no call is made from a signal handler.
+ * - No call is made in the forked child of a process with threads.
+ * - The library is built for Linux on x86-64, for processors of the level x86-64-v2.
+ *
+ * No call keeps anything, prints, ends the process or starts a thread; each may be made by several threads at once. Memory comes
+ * from malloc, and is given back before the call returns. */
+#ifndef MSRP_H
+#define MSRP_H
+
+#include <stddef.h>
+#include <stdint.h>
+
+#ifdef __cplusplus
+extern "C" {
+#endif
+
+/* The version of these calls. msrp_version() answers that of the library which was linked. */
+#define MSRP_VERSION 1
+
+/* What a call answers: the exit status of the program msrp, and MSRP_ROOM. */
+enum msrp_status {
+    MSRP_GOOD = 0,     /* what was asked for */
+    MSRP_FAULT = 1,    /* the trace is no legal run: row, rule */
+    MSRP_REFUSED = 2,  /* the plan (plan_code, number) or the trace (trace_code, number) is refused */
+    MSRP_USAGE = 3,    /* a number is none of those listed, or asks for what the plan doesn't have */
+    MSRP_MEMORY = 4,   /* memory was refused */
+    MSRP_TOO_LONG = 5, /* a text has 16 MiB or more */
+    MSRP_ROOM = 6      /* the buffer is too short: it is as before, and needed tells the length */
+};
+
+/* What was found. What doesn't apply is 0. With MSRP_ROOM it is what it would be in a longer buffer. */
+struct msrp_found {
+    uint32_t row;        /* the first row that breaks a rule, counted from 1 */
+    uint32_t rule;       /* the number after A of the lowest rule that it breaks, 1 to 7 */
+    uint32_t plan_code;  /* the number after P of the plan's refusal, 1 to 16 */
+    uint32_t trace_code; /* the number after R of the trace's refusal, 1 to 8 */
+    uint32_t number;     /* the refused record, counted from 1 */
+};
+
+/* The order of the cores' turns in each tick. */
+enum msrp_order {
+    MSRP_ASC = 0,  /* rising */
+    MSRP_DESC = 1, /* falling */
+    MSRP_ROT = 2,  /* in tick t from core t mod m on, going round */
+    MSRP_LIST = 3  /* one core for each turn, tick after tick, from the list */
+};
+
+/* How a picture is drawn. */
+enum msrp_style { MSRP_TEXT = 0, MSRP_SVG = 1 };
+
+uint32_t msrp_version(void);
+
+/* The verdict on a trace of a plan, both as texts: MSRP_GOOD for a legal run, and else the first row that breaks a rule. A fault on
+ * a row before a refused record comes first, and nothing is read behind it; a refused plan is told whatever the trace. */
+uint32_t msrp_audit(const uint8_t *plan, size_t plan_len, const uint8_t *trace, size_t trace_len, struct msrp_found *found);
+
+/* Each of the following makes a text. Where it fits into the buffer it is put in front, and what stands behind it is as before; where
+ * it doesn't the answer is MSRP_ROOM, and the buffer is as before. Either way needed is its length. Where there is no text needed is 0. */
+
+/* The report of a trace. Where the trace is no legal run there is no text, and the first fault is found. */
+uint32_t msrp_report(const uint8_t *plan, size_t plan_len, const uint8_t *trace, size_t trace_len, uint8_t *text, size_t text_len, size_t *needed, struct msrp_found *found);
+
+/* The trace of a plan's run on one thread, in version 1 or 2 of the text. cores is read for MSRP_LIST alone; MSRP_USAGE if it doesn't give
+ * each core of the plan one turn in each tick. */
+uint32_t msrp_sim(const uint8_t *plan, size_t plan_len, uint32_t order, const uint32_t *cores, size_t cores_len, uint32_t version, uint8_t *text, size_t text_len, size_t *needed, struct msrp_found *found);
+
+/* The levels and ceilings of a plan. */
+uint32_t msrp_check(const uint8_t *plan, size_t plan_len, uint8_t *text, size_t text_len, size_t *needed, struct msrp_found *found);
+
+/* The plan's own text, which reads as the same plan. */
+uint32_t msrp_plan_text(const uint8_t *plan, size_t plan_len, uint8_t *text, size_t text_len, size_t *needed, struct msrp_found *found);
+
+/* The picture of a trace, of the ticks from one on and up to another, which isn't drawn; with to 0 up to the end, but 200 ticks at
+ * most. Of a trace with a fault the rows up to it are drawn, and the answer is MSRP_FAULT. */
+uint32_t msrp_view(const uint8_t *plan, size_t plan_len, const uint8_t *trace, size_t trace_len, uint32_t style, uint32_t from, uint32_t to, uint8_t *text, size_t text_len, size_t *needed, struct msrp_found *found);
+
+#ifdef __cplusplus
+}
+#endif
+
+#endif
