@@ -1,0 +1,4 @@
+pub mod Words
+pub mod Lasts
+pub mod Vcd
+pub mod Exports

@@ -1,0 +1,72 @@
+-- Words of rows and of rules, and the names of tasks and resources.
+use Rattle.std.specs.Prelude.{ℕ, List, Bool, true, false, ◌++◌, codes, decimal, Option, Some, None, slice_get}
+use Rattle.std.specs.Option.{option_or}
+use Rattle.msrp_plan.specs.Plan.{PlanModel, TaskModel}
+use Rattle.msrp_plan.specs.declared.faults.Rule.{Rule}
+use Rattle.msrp_plan.specs.declared.faults.Rule.TheVariants.{A1, A2, A3, A4, A5, A6, A7}
+use Rattle.msrp_plan.specs.declared.ids.JobId.{JobId}
+use Rattle.msrp_plan.specs.declared.ids.ResId.{ResId}
+use Rattle.msrp_plan.specs.declared.rows.Kind.{Kind}
+use Rattle.msrp_plan.specs.declared.rows.Kind.TheVariants.{Idle, Run, Lock, Unlock, Take, Queue, Spin, Grant, Release}
+
+-- the word for a kind of row
+unfoldable pub kind_text : Kind → List ℕ
+kind_text Idle = codes "idle"
+kind_text Run = codes "run"
+kind_text Lock = codes "lock"
+kind_text Unlock = codes "unlock"
+kind_text Take = codes "take"
+kind_text Queue = codes "queue"
+kind_text Spin = codes "spin"
+kind_text Grant = codes "grant"
+kind_text Release = codes "release"
+
+abbrev pub same_kind : Kind → Kind → Bool
+same_kind Idle Idle = true
+same_kind Run Run = true
+same_kind Lock Lock = true
+same_kind Unlock Unlock = true
+same_kind Take Take = true
+same_kind Queue Queue = true
+same_kind Spin Spin = true
+same_kind Grant Grant = true
+same_kind Release Release = true
+same_kind _ _ = false
+
+-- the code of a rule
+unfoldable pub rule_text : Rule → List ℕ
+rule_text A1 = codes "A1"
+rule_text A2 = codes "A2"
+rule_text A3 = codes "A3"
+rule_text A4 = codes "A4"
+rule_text A5 = codes "A5"
+rule_text A6 = codes "A6"
+rule_text A7 = codes "A7"
+
+-- what stands where there is no job, no resource or no holder
+unfoldable pub dash : List ℕ
+dash = codes "-"
+
+abbrev pub name_of_task : Option TaskModel → List ℕ
+name_of_task None = dash
+name_of_task (Some task) = task.name
+
+abbrev pub name_of_res : Option (List ℕ) → List ℕ
+name_of_res None = dash
+name_of_res (Some name) = name
+
+-- the name of a task and of a resource, by their numbers; a dash where the plan has none of that number
+abbrev pub task_name : PlanModel → ℕ → List ℕ
+task_name plan t = name_of_task (slice_get plan.tasks t)
+
+abbrev pub res_name : PlanModel → ℕ → List ℕ
+res_name plan g = name_of_res (slice_get plan.resources g)
+
+-- a job: the name of its task, a dot, and its number
+abbrev pub job_text : PlanModel → Option JobId → List ℕ
+job_text plan None = dash
+job_text plan (Some j) = task_name plan j.task.0 ++ codes "." ++ decimal j.k
+
+abbrev pub res_text : PlanModel → Option ResId → List ℕ
+res_text plan None = dash
+res_text plan (Some g) = res_name plan g.0

@@ -1,0 +1,101 @@
+//! Words of rows and of rules, and the names of tasks and resources.
+ghost use Rattle.std.specs.Prelude.{◌≡◌, decimal};
+ghost use Rattle.msrp_plan.specs.Bytes.{Wrote};
+ghost use Rattle.msrp_export.specs.Words.{job_text, kind_text, res_text, rule_text, task_name, res_name};
+
+use itoa::Buffer;
+use msrp_plan::bytes::Sink;
+use msrp_plan::{JobId, Kind, Plan, ResId, Rule, TaskId};
+use std::io::Write;
+
+/// The word for a kind of row.
+#[tactic(auto, unfolding(crate::specs::Words::kind_text))]
+pub(crate) fn kind_word(kind: Kind) -> &'static [u8]
+    ensures { result.now ≡ kind_text kind }
+{
+    match kind {
+        Kind::Idle => b"idle",
+        Kind::Run => b"run",
+        Kind::Lock => b"lock",
+        Kind::Unlock => b"unlock",
+        Kind::Take => b"take",
+        Kind::Queue => b"queue",
+        Kind::Spin => b"spin",
+        Kind::Grant => b"grant",
+        Kind::Release => b"release",
+    }
+}
+
+/// The code of a rule.
+#[tactic(auto, unfolding(crate::specs::Words::rule_text))]
+pub(crate) fn rule_word(rule: Rule) -> &'static [u8]
+    ensures { result.now ≡ rule_text rule }
+{
+    match rule {
+        Rule::A1 => b"A1",
+        Rule::A2 => b"A2",
+        Rule::A3 => b"A3",
+        Rule::A4 => b"A4",
+        Rule::A5 => b"A5",
+        Rule::A6 => b"A6",
+        Rule::A7 => b"A7",
+    }
+}
+
+/// The name of a task, or a dash where the plan has no such task.
+#[tactic(auto, unfolding(crate::specs::Words::dash))]
+pub(crate) fn task_word(plan: &Plan, task: TaskId) -> &[u8]
+    ensures { result.now ≡ task_name plan.now task.0 }
+{
+    if task.0 < plan.tasks() {
+        plan.task_name(task).as_bytes()
+    } else {
+        b"-"
+    }
+}
+
+/// The name of a resource, or a dash where the plan has no such resource.
+#[tactic(auto, unfolding(crate::specs::Words::dash))]
+pub(crate) fn res_word(plan: &Plan, res: ResId) -> &[u8]
+    ensures { result.now ≡ res_name plan.now res.0 }
+{
+    if res.0 < plan.resources() {
+        plan.res_name(res).as_bytes()
+    } else {
+        b"-"
+    }
+}
+
+/// Writes a number.
+pub(crate) fn add_number<W: Write>(out: &mut Sink<W>, number: u32)
+    ensures { Wrote W.contents out.old out.new (decimal number) }
+{
+    let mut digits = Buffer::new();
+    out.add(digits.format(number).as_bytes());
+}
+
+/// Writes a job, or a dash.
+#[tactic(auto, unfolding(crate::specs::Words::dash))]
+pub(crate) fn add_job<W: Write>(out: &mut Sink<W>, plan: &Plan, job: Option<JobId>)
+    ensures { Wrote W.contents out.old out.new (job_text plan.now job) }
+{
+    match job {
+        None => out.add(b"-"),
+        Some(job) => {
+            out.add(task_word(plan, job.task));
+            out.add(b".");
+            add_number(out, job.k);
+        }
+    }
+}
+
+/// The name of the resource, or a dash.
+#[tactic(auto, unfolding(crate::specs::Words::dash))]
+pub(crate) fn res_or_dash(plan: &Plan, res: Option<ResId>) -> &[u8]
+    ensures { result.now ≡ res_text plan.now res }
+{
+    match res {
+        None => b"-",
+        Some(res) => res_word(plan, res),
+    }
+}
