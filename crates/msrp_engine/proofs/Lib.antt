@@ -5,3 +5,4 @@ pub mod SimAnswers
 pub mod Reporting
 pub mod Gathering
 pub mod ReadThrough
+pub mod Recounting

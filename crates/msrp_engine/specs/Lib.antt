@@ -7,4 +7,5 @@ pub mod AuditText
 pub mod MadeTexts
 pub mod Reports
 pub mod Views
+pub mod Explaining
 pub mod Inside

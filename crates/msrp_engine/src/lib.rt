@@ -1,7 +1,8 @@
 //! The engines: from bytes to bytes, over any reader and writer.
 //!
 //! Each reads a plan, and some a trace of it, and writes one text: a simulation (`sim`), a run on threads (`run`), a verdict (`audit`,
-//! `audit_parallel`), a report (`report`), levels and ceilings (`check`), the plan's own text (`own_text`) or a picture (`view`). What is
+//! `audit_parallel`), a report (`report`), levels and ceilings (`check`), the plan's own text (`own_text`), a picture (`view`), or words on a plan (`why_plan`) or on a trace
+//! of it (`why`). What is
 //! answered in place of a text is a [`CliFault`], and [`exit_of`] gives the exit status of either.
 #![tactic(auto)]
 
@@ -17,6 +18,8 @@ mod report;
 mod run;
 mod sim;
 mod view;
+mod why;
+mod why_plan;
 
 pub use audit::{audit_text, judge_texts};
 pub use audit_parallel::audit_parallel_text;
@@ -28,3 +31,5 @@ pub use report::{report_of_texts, report_text};
 pub use run::{run_text, run_text_by, run_text_if};
 pub use sim::sim_text;
 pub use view::{picture_of_texts, view_text};
+pub use why::why_text;
+pub use why_plan::why_plan_text;

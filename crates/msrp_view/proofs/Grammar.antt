@@ -1,24 +1,25 @@
 -- What the parser was told, and what is made of what it found.
-use Rattle.std.proofs.Common.{◌≡◌, ◌∙◌, ◌⊎◌, ◌&&◌, ◌<◌, ◌^◌, ℕ, true, false, List, [], ◌∷◌, length, Option, Some, None, Result, Ok, Err, IfErr, OkIff, MatchResult, ok_or, refl, ap, ap₂, sym, inl, inr}
+use Rattle.std.proofs.Common.{◌≡◌, ◌∙◌, ◌⊎◌, ◌&&◌, ◌<◌, ◌^◌, ℕ, true, false, List, [], ◌∷◌, length, Option, Some, None, Result, Ok, Err, IfErr, OkIff, MatchResult, ok_or, refl, ap, ap₂, sym, inl, inr, codes}
 use Rattle.std.specs.Borrow.{Bor}
 use Rattle.std.specs.Char.{is_ascii_digit}
 use Rattle.std.specs.List.{list_all}
 use Rattle.std.specs.Str.{all_ascii_digits}
 use Rattle.std.specs.Str.Parse.{ParsesUnsigned, digits_value}
-use Rattle.std.proofs.lemmas.Bool.{cases_lt, le-ltb, lt-ltb}
+use Rattle.std.proofs.lemmas.Bool.{cases_Bool, cases_lt, le-ltb, lt-ltb}
 use Rattle.std.proofs.lemmas.Str.Parse.{numerals_by_value, parse_digits, tells_all_ascii_digits}
 use Rattle.clap.proofs.OnLiterals.{clap_on_literals}
 use Rattle.clap.specs.Words.{AddsArg, App, IsAmong, Kinds, Row, Rule, Text, app_of, is_simple, is_simple_and_free, rule_of, with_rule}
 use Rattle.clap.specs.declared.builder.arg.Arg.{Arg}
 use Rattle.clap.specs.declared.builder.command.Command.{Command}
 use Rattle.clap.specs.declared.error.kind.ErrorKind.{ErrorKind}
+use Rattle.msrp_cli.specs.Arguments.{is_given}
 use Rattle.msrp_engine.specs.declared.faults.CliFault.{CliFault}
 use Rattle.msrp_engine.specs.declared.faults.CliFault.TheVariants.{Memory, Usage}
 use Rattle.msrp_view.specs.declared.cli.Cmd.{Cmd}
 use Rattle.msrp_view.specs.declared.cli.Cmd.TheVariants.{View}
 use Rattle.msrp_picture.specs.declared.windows.Style.{Style}
 use Rattle.msrp_picture.specs.declared.windows.Asked.{Asked}
-use Rattle.msrp_view.specs.CommandLine.{IsAnswered, IsDrawn, answer_to, asked_by, grammar, tick_of, view_by}
+use Rattle.msrp_view.specs.CommandLine.{IsAnswered, IsDrawn, IsExplained, IsTold, answer_to, asked_by, grammar, tick_of, view_by, view_of, why_of}
 
 -- one argument more
 pub adds_rule : (old : Command) (arg : Arg) (new : Command) (words : App) (rule : Rule) → AddsArg old arg new → app_of old ≡ words → rule_of arg ≡ rule → arg.global ≡ false → app_of new ≡ with_rule words rule
@@ -107,7 +108,19 @@ all_told (Some p) (Some x) a plan trace told e =
     (cc, ap (λ q. q.0) both, ap (λ q. q.1) both)
 
 -- a picture's faults
-pub drawn_faults : (view : Option (Asked × Text × Text)) (result : Result Cmd CliFault) → IsDrawn view result → IfErr result (λ fault. (fault ≡ Usage) ⊎ (fault ≡ Memory))
+drawn_faults : (view : Option (Asked × Text × Text)) (result : Result Cmd CliFault) → IsDrawn view result → IfErr result (λ fault. (fault ≡ Usage) ⊎ (fault ≡ Memory))
 drawn_faults view (Ok command) h = tt
 drawn_faults None (Err fault) h = inl (cc)
 drawn_faults (Some v) (Err fault) h = absurd h
+
+explained_faults : (told : Option (Text × Option Text)) (result : Result Cmd CliFault) → IsExplained told result → IfErr result (λ fault. (fault ≡ Usage) ⊎ (fault ≡ Memory))
+explained_faults told (Ok command) h = tt
+explained_faults None (Err fault) h = inl (cc)
+explained_faults (Some v) (Err fault) h = absurd h
+
+-- and those of either
+pub told_faults : (rows : List Row) (result : Result Cmd CliFault) → IsTold rows result → IfErr result (λ fault. (fault ≡ Usage) ⊎ (fault ≡ Memory))
+told_faults rows result h = elim (cases_Bool (is_given (codes "why") rows)) [
+  | inl yes ↦ explained_faults (why_of rows) result (h.0 yes)
+  | inr no ↦ drawn_faults (view_of rows) result (h.1 no)
+]

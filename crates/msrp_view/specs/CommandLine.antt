@@ -1,16 +1,16 @@
 -- The words that the program takes, as the parser is told of them, and what is answered.
-use Rattle.std.specs.Prelude.{◌≡◌, ◌&&◌, ℕ, ◌^◌, Bool, true, false, nat_lt, length, List, [], ◌∷◌, Option, Some, None, codes, if◌then◌else◌, Result, Err, IsOkAnd}
+use Rattle.std.specs.Prelude.{◌≡◌, ◌&&◌, ◌||◌, ℕ, ◌^◌, Bool, true, false, nat_lt, length, List, [], ◌∷◌, Option, Some, None, codes, option_map, if◌then◌else◌, Result, Err, IsOkAnd}
 use Rattle.std.specs.Char.{is_ascii_digit}
 use Rattle.std.specs.List.{list_all}
 use Rattle.std.specs.Str.Parse.{digits_value}
-use Rattle.clap.specs.Words.{App, IsAmong, Kinds, Row, Text, app_of, first_of, new_app, with_rule}
+use Rattle.clap.specs.Words.{App, IsAmong, Kinds, Row, Rule, Text, app_of, first_of, new_app, new_rule, with_rule}
 use Rattle.clap.specs.declared.builder.command.Command.{Command}
 use Rattle.clap.specs.declared.error.kind.ErrorKind.{ErrorKind}
 use Rattle.msrp_cli.specs.Arguments.{fault_of_words, flag, help_unless, is_given, paths_of, valued, wanted}
 use Rattle.msrp_engine.specs.declared.faults.CliFault.{CliFault}
 use Rattle.msrp_engine.specs.declared.faults.CliFault.TheVariants.{Usage}
 use Rattle.msrp_view.specs.declared.cli.Cmd.{Cmd}
-use Rattle.msrp_view.specs.declared.cli.Cmd.TheVariants.{Help, View}
+use Rattle.msrp_view.specs.declared.cli.Cmd.TheVariants.{Help, View, Why}
 use Rattle.msrp_picture.specs.declared.windows.Asked.{Asked}
 use Rattle.msrp_picture.specs.declared.windows.Style.{Style}
 use Rattle.msrp_picture.specs.declared.windows.Style.TheVariants as style
@@ -20,12 +20,17 @@ use Rattle.msrp_picture.specs.declared.windows.Style.TheVariants as style
 abbrev pub program : App
 program = new_app (codes "msrp_view")
 
+-- a path that need not be given
+abbrev pub optional : Text → Rule
+optional name = new_rule name
+
 -- all of them
 unfoldable pub grammar : App
 grammar =
     let flags = with_rule (with_rule program (flag (codes "text"))) (flag (codes "svg")) in
     let ticks = with_rule (with_rule flags (valued (codes "from"))) (valued (codes "to")) in
-    with_rule (with_rule ticks (wanted (codes "PLAN"))) (wanted (codes "TRACE"))
+    let words = with_rule ticks (flag (codes "why")) in
+    with_rule (with_rule words (wanted (codes "PLAN"))) (optional (codes "TRACE"))
 
 -- the parser was told of these words
 abbrev pub Takes : App → Command → Type 0
@@ -63,6 +68,19 @@ view_by _ _ = None
 abbrev pub view_of : List Row → Option (Asked × Text × Text)
 view_of rows = view_by (paths_of rows) (asked_of rows)
 
+-- the words say how to draw, or which ticks
+abbrev pub says_picture : List Row → Bool
+says_picture rows = is_given (codes "text") rows || (is_given (codes "svg") rows || (is_given (codes "from") rows || is_given (codes "to") rows))
+
+-- the path of the plan alone, or both paths where a trace is told
+abbrev pub why_by : Option Text → Option Text → Option (Text × Text) → Option (Text × Option Text)
+why_by plan None both = option_map (λ path. (path, None)) plan
+why_by plan (Some trace) both = option_map (λ paths. (paths.0, Some paths.1)) both
+
+-- what is explained, where nothing is said of a picture
+abbrev pub why_of : List Row → Option (Text × Option Text)
+why_of rows = if says_picture rows then None else why_by (first_of (codes "PLAN") rows) (first_of (codes "TRACE") rows) (paths_of rows)
+
 -- ---- answers
 -- what a fault of the words is answered: the help where it is asked for, which is no fault
 abbrev pub answer_to : ErrorKind → Result Cmd CliFault
@@ -71,14 +89,30 @@ answer_to kind = help_unless Help (fault_of_words kind)
 -- the command draws that, of the plan and the trace of those paths
 abbrev pub Draws : Asked × Text × Text → Cmd → Type 0
 Draws view (View asked plan trace) = (asked ≡ view.0) × (plan.now ≡ view.1) × (trace.now ≡ view.2)
+Draws view (Why plan trace) = ⊥
 Draws view Help = ⊥
+
+-- the command explains the plan of that path, or that trace of it
+abbrev pub Explains : Text × Option Text → Cmd → Type 0
+Explains told (View asked plan trace) = ⊥
+Explains told (Why plan trace) = (plan.now ≡ told.0) × (option_map (λ path. path.now) trace ≡ told.1)
+Explains told Help = ⊥
 
 -- the picture that is asked for is drawn; where none is, it is usage
 abbrev pub IsDrawn : Option (Asked × Text × Text) → Result Cmd CliFault → Type 0
 IsDrawn None result = result ≡ Err Usage
 IsDrawn (Some view) result = IsOkAnd result (Draws view)
 
+-- what is to be explained is; where that isn't told, it is usage
+abbrev pub IsExplained : Option (Text × Option Text) → Result Cmd CliFault → Type 0
+IsExplained None result = result ≡ Err Usage
+IsExplained (Some told) result = IsOkAnd result (Explains told)
+
+-- words are asked for, or else a picture
+abbrev pub IsTold : List Row → Result Cmd CliFault → Type 0
+IsTold rows result = ((is_given (codes "why") rows ≡ true) → IsExplained (why_of rows) result) × ((is_given (codes "why") rows ≡ false) → IsDrawn (view_of rows) result)
+
 -- the answer to words of which the parser tells these kinds of fault, and else this
 abbrev pub IsAnswered : Kinds → List Row → Result Cmd CliFault → Type 0
-IsAnswered [] rows result = IsDrawn (view_of rows) result
+IsAnswered [] rows result = IsTold rows result
 IsAnswered (k ∷ kinds) rows result = (j : ErrorKind) × IsAmong j (k ∷ kinds) × (result ≡ answer_to j)

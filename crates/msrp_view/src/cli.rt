@@ -1,14 +1,14 @@
 //! The command line: the words of a command, and what they ask for.
 
-ghost use Rattle.std.specs.Prelude.{◌≡◌, ◌⊎◌, map, ok_or, option_map, string_bytes, Err, IfErr, IfOk};
+ghost use Rattle.std.specs.Prelude.{◌≡◌, ◌⊎◌, false, map, ok_or, option_map, string_bytes, Err, IfErr, IfOk, Some};
 ghost use Rattle.std.specs.Char.{is_ascii_digit};
 ghost use Rattle.std.specs.List.{list_all};
-ghost use Rattle.clap.specs.Words.{fault_of, found_of, matches_of, rows_of};
+ghost use Rattle.clap.specs.Words.{fault_of, found_of, matches_of, rows_of, rule_of};
 ghost use Rattle.msrp_view.specs.CommandLine as line;
-ghost use Rattle.msrp_view.specs.CommandLine.{IsAnswered, IsDrawn, Takes};
+ghost use Rattle.msrp_view.specs.CommandLine.{IsAnswered, IsDrawn, IsExplained, IsTold, Takes};
 
 use clap::error::ErrorKind;
-use clap::{ArgMatches, Command};
+use clap::{Arg, ArgMatches, Command};
 use msrp_cli::{PLAN, TRACE, both_paths, fault_of_words, flag, is_given, path, value_of, valued};
 use msrp_engine::CliFault;
 use msrp_picture::{Asked, Style};
@@ -23,6 +23,11 @@ pub enum Cmd<'a> {
         plan: &'a str,
         trace: &'a str,
     },
+    /// Says why the plan is refused, or what is odd in it; of a trace of it what was due in the first row that breaks a rule.
+    Why {
+        plan: &'a str,
+        trace: Option<&'a str>,
+    },
     /// Prints the help.
     Help,
 }
@@ -36,6 +41,8 @@ const FROM: &str = "from";
 
 const TO: &str = "to";
 
+const WHY: &str = "why";
+
 // The program, still without arguments.
 fn program<'a>(alloc: Global) -> Command<'a>
     ensures { Takes line.program result }
@@ -43,6 +50,15 @@ fn program<'a>(alloc: Global) -> Command<'a>
     Command::new(alloc, "msrp_view").about(
         "draws a trace of a plan: what each core does in each tick, and who stands in the queue of each global resource",
     )
+}
+
+// A path that need not be given.
+fn optional<'a>(alloc: Global, name: &'a str, help: &'a str) -> Arg<'a>
+    ensures rule { rule_of result ≡ line.optional name.now }
+    ensures own { result.global ≡ false }
+    ensures text { result.help ≡ Some help.entry }
+{
+    Arg::new(alloc, name).help(help)
 }
 
 fn grammar<'a>(alloc: Global) -> Result<Command<'a>, AllocError>
@@ -63,8 +79,17 @@ fn grammar<'a>(alloc: Global) -> Result<Command<'a>, AllocError>
             "T",
             "the tick up to which is drawn, itself left out; where none is given the end, after at most 200 ticks",
         ))?
+        .arg(flag(
+            alloc,
+            WHY,
+            "draws nothing, and says in words why the plan is refused or what is odd in it; with a trace, what was due in place of its first faulty row",
+        ))?
         .arg(path(alloc, PLAN, "the plan's path; - is standard input"))?
-        .arg(path(alloc, TRACE, "the trace's path; - is standard input"))
+        .arg(optional(
+            alloc,
+            TRACE,
+            "the trace's path; - is standard input; only --why goes without it",
+        ))
 }
 
 /// The text of the help.
@@ -122,13 +147,54 @@ fn asked_of(matches: &ArgMatches<'_>) -> Result<Asked, CliFault>
     })
 }
 
-// What is asked for.
+// What is drawn.
 fn view_of<'a>(matches: &ArgMatches<'a>) -> Result<Cmd<'a>, CliFault>
     ensures { IsDrawn (line.view_of (rows_of (found_of matches.now))) result }
 {
     let (plan, trace) = both_paths(matches)?;
     let asked = asked_of(matches)?;
     Ok(Cmd::View { asked, plan, trace })
+}
+
+// Whether the words say how to draw, or which ticks.
+fn says_picture(matches: &ArgMatches<'_>) -> bool
+    ensures { result ≡ line.says_picture (rows_of (found_of matches.now)) }
+{
+    is_given(matches, TEXT)
+        || is_given(matches, SVG)
+        || is_given(matches, FROM)
+        || is_given(matches, TO)
+}
+
+// What is explained: a plan, or a trace of it.
+fn why_of<'a>(matches: &ArgMatches<'a>) -> Result<Cmd<'a>, CliFault>
+    ensures { IsExplained (line.why_of (rows_of (found_of matches.now))) result }
+{
+    if says_picture(matches) {
+        return Err(CliFault::Usage);
+    }
+    if value_of(matches, TRACE).is_some() {
+        let (plan, trace) = both_paths(matches)?;
+        return Ok(Cmd::Why {
+            plan,
+            trace: Some(trace),
+        });
+    }
+    match value_of(matches, PLAN) {
+        Some(plan) => Ok(Cmd::Why { plan, trace: None }),
+        None => Err(CliFault::Usage),
+    }
+}
+
+// What is asked for: words, or a picture.
+fn asked_for<'a>(matches: &ArgMatches<'a>) -> Result<Cmd<'a>, CliFault>
+    ensures { IsTold (rows_of (found_of matches.now)) result }
+{
+    if is_given(matches, WHY) {
+        why_of(matches)
+    } else {
+        view_of(matches)
+    }
 }
 
 // What a fault of the words is answered: the help where it is asked for, which is no fault.
@@ -147,7 +213,7 @@ pub fn command_of<'a>(alloc: Global, words: &'a [String]) -> Result<Cmd<'a>, Cli
     ensures answer { (result ≡ Err CliFault.Memory) ⊎ IsAnswered (fault_of line.grammar (map string_bytes words.now)) (matches_of line.grammar (map string_bytes words.now)) result }
 {
     match grammar(alloc)?.try_get_matches_from(words) {
-        Ok(matches) => view_of(&matches),
+        Ok(matches) => asked_for(&matches),
         Err(error) => answer_to(error.kind()),
     }
 }

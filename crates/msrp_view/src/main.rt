@@ -1,4 +1,4 @@
-//! `msrp_view`: draws a trace of a plan, in text or in SVG.
+//! `msrp_view`: draws a trace of a plan, in text or in SVG, or says in words what is wrong with either.
 //!
 //! `cli` reads the command line, and `main` opens what the words name, prints the line of a fault and gives the exit status. The engine
 //! is `msrp_engine`'s.
@@ -9,8 +9,8 @@ mod cli;
 mod tests;
 
 use cli::{Cmd, command_of, help_text};
-use msrp_cli::{open_both, words_of, write_help};
-use msrp_engine::{CliFault, exit_of, view_text};
+use msrp_cli::{open, open_both, words_of, write_help};
+use msrp_engine::{CliFault, exit_of, view_text, why_plan_text, why_text};
 use msrp_plan::bytes::{Sink, Source};
 use std::io;
 use std::process::ExitCode;
@@ -21,6 +21,21 @@ fn run(rt: &HostRuntime) -> Result<u8, CliFault> {
     let mut out = Sink::new(io::writer(rt));
     match command_of(alloc, words.as_slice())? {
         Cmd::Help => write_help(&mut out, help_text(alloc)?.as_str()),
+        Cmd::Why { plan, trace: None } => {
+            why_plan_text(alloc, &mut Source::new(open(rt, plan)?), &mut out)
+        }
+        Cmd::Why {
+            plan,
+            trace: Some(trace),
+        } => {
+            let (plan, trace) = open_both(rt, plan, trace)?;
+            why_text(
+                alloc,
+                &mut Source::new(plan),
+                &mut Source::new(trace),
+                &mut out,
+            )
+        }
         Cmd::View { asked, plan, trace } => {
             let (plan, trace) = open_both(rt, plan, trace)?;
             view_text(

@@ -31,6 +31,11 @@ fn view<'a>(style: Style, plan: &'a str, trace: &'a str) -> Cmd<'a> {
     }
 }
 
+// Words on these.
+fn why<'a>(plan: &'a str, trace: Option<&'a str>) -> Cmd<'a> {
+    Cmd::Why { plan, trace }
+}
+
 #[test]
 fn commands(rt: HostRuntime) -> Result<(), Fail> {
     let asked = Asked {
@@ -38,7 +43,7 @@ fn commands(rt: HostRuntime) -> Result<(), Fail> {
         from: Some(3),
         to: Some(20),
     };
-    let table: [(&[&str], Cmd<'_>); 8] = [
+    let table: [(&[&str], Cmd<'_>); 12] = [
         (&["p", "t"], view(Style::Text, "p", "t")),
         (&["--text", "p", "t"], view(Style::Text, "p", "t")),
         (&["--svg", "p", "t"], view(Style::Svg, "p", "t")),
@@ -52,6 +57,10 @@ fn commands(rt: HostRuntime) -> Result<(), Fail> {
                 trace: "t",
             },
         ),
+        (&["--why", "p"], why("p", None)),
+        (&["-", "--why"], why("-", None)),
+        (&["--why", "p", "-"], why("p", Some("-"))),
+        (&["p", "t", "--why"], why("p", Some("t"))),
         (&["-h"], Cmd::Help),
         (&["--help"], Cmd::Help),
     ];
@@ -64,7 +73,7 @@ fn commands(rt: HostRuntime) -> Result<(), Fail> {
 
 #[test]
 fn no_commands(rt: HostRuntime) -> Result<(), Fail> {
-    let table: [&[&str]; 12] = [
+    let table: [&[&str]; 20] = [
         &[],
         &["--svg", "--text", "p", "t"],
         &["--svg", "--svg", "p", "t"],
@@ -77,6 +86,14 @@ fn no_commands(rt: HostRuntime) -> Result<(), Fail> {
         &["--to", "4294967296", "p", "t"],
         &["--from", "1", "--from", "1", "p", "t"],
         &["--parallel", "p", "t"],
+        &["--why"],
+        &["--why", "--why", "p"],
+        &["--why", "-", "-"],
+        &["--why", "p", "t", "x"],
+        &["--why", "--text", "p", "t"],
+        &["--why", "--svg", "p", "t"],
+        &["--why", "--from", "1", "p", "t"],
+        &["--why", "--to", "1", "p"],
     ];
     for words in table {
         let words = words_of(rt.alloc(), words)?;

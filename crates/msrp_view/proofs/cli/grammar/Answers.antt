@@ -10,5 +10,6 @@ returns c =
     let svg = adds_rule c.in_ok-arg.field-0 c.flag-2.result c.in_ok-arg-2.field-0 _ _ c.in_ok-arg-2.ensures text c.flag-2.ensures.rule c.flag-2.ensures.own in
     let from = adds_rule c.in_ok-arg-2.field-0 c.valued.result c.in_ok-arg-3.field-0 _ _ c.in_ok-arg-3.ensures svg c.valued.ensures.rule c.valued.ensures.own in
     let to = adds_rule c.in_ok-arg-3.field-0 c.valued-2.result c.in_ok-arg-4.field-0 _ _ c.in_ok-arg-4.ensures from c.valued-2.ensures.rule c.valued-2.ensures.own in
-    let plan = adds_rule c.in_ok-arg-4.field-0 c.path.result c.in_ok-arg-5.field-0 _ _ c.in_ok-arg-5.ensures to c.path.ensures.rule c.path.ensures.own in
-    IfOk-weaker c.arg-6.result _ _ (λ new h. adds_rule c.in_ok-arg-5.field-0 c.path-2.result new _ _ h plan c.path-2.ensures.rule c.path-2.ensures.own) c.arg-6.ensures
+    let why = adds_rule c.in_ok-arg-4.field-0 c.flag-3.result c.in_ok-arg-5.field-0 _ _ c.in_ok-arg-5.ensures to c.flag-3.ensures.rule c.flag-3.ensures.own in
+    let plan = adds_rule c.in_ok-arg-5.field-0 c.path.result c.in_ok-arg-6.field-0 _ _ c.in_ok-arg-6.ensures why c.path.ensures.rule c.path.ensures.own in
+    IfOk-weaker c.arg-7.result _ _ (λ new h. adds_rule c.in_ok-arg-6.field-0 c.optional.result new _ _ h plan c.optional.ensures.rule c.optional.ensures.own) c.arg-7.ensures

@@ -1,0 +1,4 @@
+pub mod Choosing
+pub mod Sentences
+pub mod Refusals
+pub mod Warnings

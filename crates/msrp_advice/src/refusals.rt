@@ -1,0 +1,114 @@
+//! What is written of a refused record.
+ghost use Rattle.std.specs.Prelude.{◌≡◌, ◌++◌, ◌∷◌, [], codes, decimal, length, min, option_map, unwrap_or};
+ghost use Rattle.csv.specs.Records.{fields_of};
+ghost use Rattle.msrp_plan.specs.Bytes.{Wrote};
+ghost use Rattle.msrp_advice.specs.Refusals as due;
+ghost use Rattle.msrp_advice.specs.Refusals.{record_line, refusal_text, shown_byte, shown_bytes, shown_field, shown_fields, shown_record};
+
+use crate::choosing::advice_of;
+use crate::sentences::sentence;
+use csv::ByteRecord;
+use itoa::Buffer;
+use msrp_plan::PlanFault;
+use msrp_plan::bytes::Sink;
+use std::io::Write;
+
+// The most fields of a record that are shown.
+const MOST_FIELDS: usize = 16;
+
+// The most bytes of a field that are shown.
+const MOST_SHOWN: usize = 40;
+
+// A number in decimal digits.
+pub(crate) fn write_number<W: Write>(out: &mut Sink<W>, number: u32)
+    ensures { Wrote W.contents out.old out.new (decimal number) }
+{
+    let mut digits = Buffer::new();
+    out.add(digits.format(number).as_bytes());
+}
+
+// A byte of printable ASCII as it is, and a question mark in place of another.
+fn shown_byte(byte: u8) -> u8
+    ensures { result ≡ shown_byte byte }
+{
+    if (32..=126).contains(&byte) {
+        byte
+    } else {
+        b'?'
+    }
+}
+
+// The first bytes of a field.
+fn write_bytes<W: Write>(out: &mut Sink<W>, field: &[u8])
+    ensures { Wrote W.contents out.old out.new (shown_bytes field.now (min (length field.now) due.most_shown)) }
+{
+    for i in 0..field.len().min(MOST_SHOWN) {
+        out.add(&[shown_byte(field[i])]);
+    }
+}
+
+// A field in brackets.
+fn write_field<W: Write>(out: &mut Sink<W>, field: &[u8])
+    ensures { Wrote W.contents out.old out.new (shown_field field.now) }
+{
+    out.add(b"[");
+    write_bytes(out, field);
+    out.add(b"]");
+}
+
+// The bytes of a field; one that isn't there has none.
+fn bytes_of<'a>(field: Option<&'a [u8]>) -> &'a [u8]
+    ensures { result.now ≡ unwrap_or (option_map (λ f. f.now) field.entry) [] }
+{
+    match field {
+        Some(field) => field,
+        None => b"",
+    }
+}
+
+// The first fields of a record.
+fn write_fields<W: Write>(out: &mut Sink<W>, row: &ByteRecord)
+    ensures { Wrote W.contents out.old out.new (shown_fields (fields_of row.now) (min (length (fields_of row.now)) due.most_fields)) }
+{
+    for i in 0..row.len().min(MOST_FIELDS) {
+        write_field(out, bytes_of(row.get(i)));
+    }
+}
+
+// A record as it stands.
+fn write_record<W: Write>(out: &mut Sink<W>, row: &ByteRecord)
+    ensures { Wrote W.contents out.old out.new (shown_record (fields_of row.now)) }
+{
+    if row.len() == 0 {
+        out.add(b"the end of the text");
+    } else {
+        write_fields(out, row);
+    }
+}
+
+// The number of a record, and the record.
+fn write_line<W: Write>(out: &mut Sink<W>, number: u32, row: &ByteRecord)
+    ensures { Wrote W.contents out.old out.new (record_line number (fields_of row.now)) }
+{
+    out.add(b"record ");
+    write_number(out, number);
+    out.add(b": ");
+    write_record(out, row);
+    out.add(b"\n");
+}
+
+/// Writes the code and the number of a refused record with a sentence on it, and the record as it stands: the first bytes of its
+/// first fields, each in brackets. A record without fields stands for the end of the text.
+#[tactic(auto, unfolding(crate::specs::Refusals::refusal_text))]
+pub fn write_refusal<W: Write>(out: &mut Sink<W>, fault: PlanFault, number: u32, row: &ByteRecord)
+    ensures { Wrote W.contents out.old out.new (refusal_text fault number (fields_of row.now)) }
+{
+    out.add(b"P");
+    write_number(out, fault.code());
+    out.add(b" at record ");
+    write_number(out, number);
+    out.add(b": ");
+    out.add(sentence(advice_of(fault, number, row)));
+    out.add(b"\n");
+    write_line(out, number, row);
+}

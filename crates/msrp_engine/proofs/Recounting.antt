@@ -1,0 +1,18 @@
+-- The records of a text, read again up to one of them.
+use Rattle.std.proofs.Common.{◌≡◌, ◌∙◌, ℕ, ◌+◌, ◌-◌, ◌≤◌, List, [], ◌∷◌, length, drop, sym, ap, arith, length-drop, inl, inr}
+use Rattle.std.specs.Prelude.{slice_index_or}
+use Rattle.std.proofs.lemmas.Bool.{cases_lt}
+use Rattle.std.proofs.lemmas.List.{drop_more, get_or_past}
+
+-- the record that is next, and what is left behind it
+pub next-is : (records : List (List (List ℕ))) (n : ℕ) (row : List (List ℕ)) (rest : List (List (List ℕ))) → drop n records ≡ row ∷ rest → (row ≡ slice_index_or records n []) × (rest ≡ drop (n + 1) records)
+next-is records n row rest e = elim (cases_lt n (length records)) [
+  | inl within ↦ let f = sym (drop_more records n [] within) ∙ e in (cc, cc)
+  | inr past ↦ let size : length (drop n records) ≡ length (row ∷ rest) = ap length e in absurd (omega (arith, length-drop n records, size, past))
+]
+
+-- where no record is left there is none further on
+pub none-is : (records : List (List (List ℕ))) (n m : ℕ) → drop n records ≡ [] → n ≤ m → [] ≡ slice_index_or records m []
+none-is records n m e h =
+    let size : length (drop n records) ≡ 0 = ap length e in
+    sym (get_or_past records m [] (omega (arith, length-drop n records, size, h)))
