@@ -6,4 +6,5 @@ pub mod Findings
 pub mod AuditText
 pub mod Reports
 pub mod Views
+pub mod Whys
 pub mod Inside

@@ -1,8 +1,9 @@
 //! The engines: from bytes to bytes, over any reader and writer.
 //!
 //! Each reads a plan, and some a trace of it, and writes one text: a simulation (`sim`), a run on threads (`run`), a verdict (`audit`,
-//! `audit_parallel`), a report (`report`), levels and ceilings (`check`), the plan's own text (`own_text`) or a picture (`view`). What is
-//! answered in place of a text is a [`CliFault`], and [`exit_of`] gives the exit status of either.
+//! `audit_parallel`), a verdict with what makes it so (`why`), a report (`report`), levels and ceilings (`check`), the plan's own text
+//! (`own_text`) or a picture (`view`). What is answered in place of a text is a [`CliFault`], and [`exit_of`] gives the exit status of
+//! either.
 #![tactic(auto)]
 
 mod audit;
@@ -16,6 +17,7 @@ mod report;
 mod run;
 mod sim;
 mod view;
+mod why;
 
 pub use audit::audit_text;
 pub use audit_parallel::audit_parallel_text;
@@ -26,3 +28,4 @@ pub use report::report_text;
 pub use run::{run_text, run_text_if};
 pub use sim::sim_text;
 pub use view::view_text;
+pub use why::why_text;
