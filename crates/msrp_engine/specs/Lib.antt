@@ -8,4 +8,5 @@ pub mod MadeTexts
 pub mod Reports
 pub mod Views
 pub mod Explaining
+pub mod Whys
 pub mod Inside

@@ -93,8 +93,8 @@ fn rule_word(rule: Rule) -> &'static [u8]
     }
 }
 
-// Writes the record of a verdict.
-fn add_verdict<W: Write>(out: &mut Sink<W>, found: Result<(), Fault>)
+/// Writes the record of a verdict.
+pub fn add_verdict<W: Write>(out: &mut Sink<W>, found: Result<(), Fault>)
     ensures { Wrote W.contents out.old out.new (record_text (verdict_fields found)) }
 {
     match found {

@@ -1,9 +1,9 @@
 //! The engines: from bytes to bytes, over any reader and writer.
 //!
 //! Each reads a plan, and some a trace of it, and writes one text: a simulation (`sim`), a run on threads (`run`), a verdict (`audit`,
-//! `audit_parallel`), a report (`report`), levels and ceilings (`check`), the plan's own text (`own_text`), a picture (`view`), or words on a plan (`why_plan`) or on a trace
-//! of it (`why`). What is
-//! answered in place of a text is a [`CliFault`], and [`exit_of`] gives the exit status of either.
+//! `audit_parallel`), a verdict with what makes it so (`why`), a report (`report`), levels and ceilings (`check`), the plan's own text
+//! (`own_text`), a picture (`view`), or words on a plan (`why_plan`). What is answered in place of a text is a [`CliFault`], and
+//! [`exit_of`] gives the exit status of either.
 #![tactic(auto)]
 
 mod audit;

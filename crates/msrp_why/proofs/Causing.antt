@@ -1,0 +1,84 @@
+-- The cause of a fault, from what the auditor foresaw.
+use Rattle.std.proofs.Common.{◌≡◌, ℕ, ◌+◌, ◌*◌, ◌<◌, ◌≤◌, ◌++◌, ◌∷◌, [], Bool, true, false, cond, nat_lt, List, Option, Some, None, length, refl, ap, sym, ◌∙◌, subst, arith, append-nil, append_assoc, length-append, ltb-true}
+use Rattle.std.specs.Option.{IsSomeAnd}
+use Rattle.std.specs.declared.result.Result.{Result}
+use Rattle.std.specs.declared.result.Result.TheVariants.{Ok, Err}
+use Rattle.std.specs.Prelude.{⊤}
+use Rattle.msrp_plan.specs.Plan.{PlanModel}
+use Rattle.msrp_plan.specs.Runs.{IsLegal, IsRunStart, EachAfter, is_in_turn, is_of_core, is_chosen, is_next_action, is_fifo_reply}
+use Rattle.msrp_plan.specs.Verdict.{broken, fault_from, fault_in, fault_or, refused}
+use Rattle.msrp_plan.specs.WellFormed.{IsPlan}
+use Rattle.msrp_plan.specs.declared.faults.Fault.{Fault}
+use Rattle.msrp_plan.specs.declared.faults.Rule.{Rule}
+use Rattle.msrp_plan.specs.declared.faults.Rule.TheVariants.{A1, A2, A3, A4, A5, A6, A7}
+use Rattle.msrp_plan.specs.declared.rows.Row.{Row}
+use Rattle.msrp_plan.proofs.Runs.Verdicts.{fault_push, unbroken_is_legal}
+use Rattle.msrp_sim.specs.Cores.{IsDueAfter, IsNextRow}
+use Rattle.msrp_audit.specs.Audits.{AuditorModel, HasFed, answer_of}
+use Rattle.msrp_audit.proofs.Judging.{due_after}
+use Rattle.msrp_why.specs.Causes.{IsCauseAfter, IsDue}
+
+-- a row without a fault is due, and breaks no rule
+good_next : (n : ℕ) (later : Option Fault) (due : Bool) (o : Option Rule) → fault_or (cond due o (Some A7)) n later ≡ None → (due ≡ true) × (o ≡ None) × (later ≡ None)
+good_next n later true None h = (refl, refl, h)
+good_next n later true (Some rule) h = absurd (cc)
+good_next n later false o h = absurd (cc)
+
+-- rows without a fault are legal
+legal_after : (plan : PlanModel) (pre rows : List Row) → length pre ≤ plan.cores * plan.ticks → fault_from plan pre rows ≡ None → EachAfter (IsLegal plan) pre rows × (length (pre ++ rows) ≤ plan.cores * plan.ticks)
+legal_after plan pre [] within h = (tt, subst (λ l. length l ≤ plan.cores * plan.ticks) (sym (append-nil pre)) within)
+legal_after plan pre (r ∷ rows) within h =
+    let now = good_next (length pre + 1) (fault_from plan (pre ++ r ∷ []) rows) (nat_lt (length pre) (plan.cores * plan.ticks)) (broken plan pre r) h in
+    let rest = legal_after plan (pre ++ r ∷ []) rows (omega (arith, length-append pre (r ∷ []), ltb-true (length pre) (plan.cores * plan.ticks) now.0)) now.2 in
+    ((unbroken_is_legal plan pre r now.1, rest.0), subst (λ l. length l ≤ plan.cores * plan.ticks) (append_assoc pre (r ∷ []) rows) rest.1)
+
+pub good_start : (plan : PlanModel) (rows : List Row) → fault_in plan rows ≡ None → IsRunStart plan rows
+good_start plan rows h = let all = legal_after plan [] rows (omega arith) h in record { size = all.1; each = all.0 }
+
+-- what is due, whatever the rule
+due_by : (plan : PlanModel) (rows : List Row) (c : ℕ) (rule : Rule) (due : Option Row) → IsSomeAnd due (IsNextRow plan rows c) → IsDue plan rows c rule due
+due_by plan rows c A1 due d = tt
+due_by plan rows c A2 due d = d
+due_by plan rows c A3 due d = d
+due_by plan rows c A4 due d = d
+due_by plan rows c A5 due d = d
+due_by plan rows c A6 due d = tt
+due_by plan rows c A7 due d = tt
+
+-- by whether a row is left, and whether the core is in its turn
+due_for : (plan : PlanModel) (rows : List Row) (c : ℕ) (rule : Rule) (due : Option Row) (left turn : Bool) (rest : Option Rule)
+    → (left ≡ true → turn ≡ true → IsSomeAnd due (IsNextRow plan rows c)) → cond left (cond turn rest (Some A1)) (Some A7) ≡ Some rule → IsDue plan rows c rule due
+due_for plan rows c rule due true true rest d h = due_by plan rows c rule due (d refl refl)
+due_for plan rows c rule due true false rest d h = let same : A1 ≡ rule = cc in subst (λ u. IsDue plan rows c u due) same tt
+due_for plan rows c rule due false turn rest d h = let same : A7 ≡ rule = cc in subst (λ u. IsDue plan rows c u due) same tt
+
+-- the rule of a fault at the last row
+rule_of : (o : Option Rule) (n : ℕ) (f : Fault) → fault_or o n None ≡ Some f → o ≡ Some f.rule
+rule_of None n f h = absurd (cc)
+rule_of (Some rule) n f h =
+    let same : record { row = n; rule = rule } ≡ f = cc in
+    ap (λ (g : Fault). Some g.rule) same
+
+fault_answer : (o : Option Fault) (f : Fault) → Err f ≡ answer_of o → o ≡ Some f
+fault_answer None f h = absurd (cc)
+fault_answer (Some g) f h = cc
+
+pub good_answer : (o : Option Fault) (good : ⊤) → Ok good ≡ answer_of o → o ≡ None
+good_answer None good h = refl
+good_answer (Some f) good h = absurd (cc)
+
+-- a fault that the auditor answers, with the row that it foresaw
+pub cause_is : (a : AuditorModel) (rows : List Row) (r : Row) (f : Fault) (due : Option Row) → IsPlan a.plan → HasFed a rows → fault_in a.plan rows ≡ None → Err f ≡ answer_of (fault_in a.plan (rows ++ r ∷ []))
+    → ((before : List Row) → HasFed a before → a.fault ≡ None → IsDueAfter a.plan before r.core.0 → IsSomeAnd due (IsNextRow a.plan before r.core.0))
+    → IsCauseAfter a.plan rows r (record { fault = f; row = r; due = due })
+cause_is a rows r f due ok fed good answer foreseen =
+    let fault = fault_answer (fault_in a.plan (rows ++ r ∷ [])) f answer in
+    let rule = rule_of (refused a.plan rows r) (length rows + 1) f (sym (fault_push a.plan rows r good) ∙ fault) in
+    let start = good_start a.plan rows good in
+    record {
+      good = good;
+      fault = fault;
+      row = refl;
+      due = due_for a.plan rows r.core.0 f.rule due (nat_lt (length rows) (a.plan.cores * a.plan.ticks)) (is_in_turn a.plan rows r) _
+          (λ left turn. foreseen rows fed (fed.fault ∙ good) (due_after a.plan rows r ok start (ltb-true (length rows) (a.plan.cores * a.plan.ticks) left) turn)) rule;
+    }

@@ -1,0 +1,17 @@
+use Rattle.std.proofs.Common.{ap, sym, subst, ◌∙◌, ◌++◌, ◌∷◌, []}
+use Rattle.msrp_audit.specs.Audits.{answer_of}
+use Rattle.msrp_plan.specs.Plan.{PlanModel}
+use Rattle.msrp_plan.specs.Verdict.{fault_in}
+use Rattle.msrp_plan.specs.WellFormed.{IsPlan}
+use Rattle.std.specs.Prelude.{◌≡◌, None}
+use Rattle.msrp_why.specs.Causes.{IsCauseAfter}
+use Rattle.msrp_why.proofs.Causing.{cause_is, good_answer}
+use Rattle.msrp_why.proofs.causes.feed.Goals as goal
+
+pub returns-in-Ok-clause-good : goal.returns-in-Ok-clause-good
+returns-in-Ok-clause-good c = λ rows fed. subst (λ (p : PlanModel). fault_in p (rows ++ c.args.row ∷ []) ≡ None) c.requires.plan (good_answer _ c.in-Ok.field-0 (c.in-Ok.ensures.answer rows fed))
+
+pub returns-in-Err-clause-cause : goal.returns-in-Err-clause-cause
+returns-in-Err-clause-cause c = λ rows fed good.
+    subst (λ (p : PlanModel). IsCauseAfter p rows c.args.row (record { fault = c.in-Err.fault; row = c.args.row; due = c.foresee-due.result })) c.requires.plan
+    (cause_is c.args.auditor.now rows c.args.row c.in-Err.fault c.foresee-due.result (subst IsPlan (sym c.requires.plan) c.cores-accepted.ensures.plan) fed (subst (λ (p : PlanModel). fault_in p rows ≡ None) (sym c.requires.plan) good) (c.in-Err.ensures.answer rows fed) c.foresee-due.ensures)

@@ -1,0 +1,8 @@
+use Rattle.msrp_plan.proofs.Writes.{wrote-more}
+use Rattle.msrp_why.proofs.telling.write_place.Goals as goal
+
+pub returns : goal.returns
+returns g c =
+    let row = rw c.from.ensures at c.write_number.ensures in
+    let line = rw c.from-2.ensures at c.write_number-2.ensures in
+    wrote-more _ _ _ _ _ _ c.add.ensures (wrote-more _ _ _ _ _ _ row (wrote-more _ _ _ _ _ _ c.add-2.ensures (wrote-more _ _ _ _ _ _ line (wrote-more _ _ _ _ _ _ c.add-3.ensures c.write_row.ensures))))

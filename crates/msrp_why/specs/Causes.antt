@@ -1,0 +1,43 @@
+-- The cause of a fault: what the definitions give of the rows before it.
+use Rattle.std.specs.Prelude.{ℕ, List, [], ◌∷◌, ◌++◌, Option, Some, None, length, ◌≡◌, ⊤}
+use Rattle.std.specs.Option.{IsSomeAnd}
+use Rattle.std.specs.declared.result.Result.{Result}
+use Rattle.std.specs.declared.result.Result.TheVariants.{Ok, Err}
+use Rattle.msrp_audit.specs.Audits.{answer_of}
+use Rattle.msrp_plan.specs.Plan.{PlanModel}
+use Rattle.msrp_plan.specs.Verdict.{fault_in, missing}
+use Rattle.msrp_plan.specs.declared.faults.Fault.{Fault}
+use Rattle.msrp_plan.specs.declared.faults.Rule.{Rule}
+use Rattle.msrp_plan.specs.declared.faults.Rule.TheVariants.{A1, A2, A3, A4, A5, A6, A7}
+use Rattle.msrp_plan.specs.declared.rows.Row.{Row}
+use Rattle.msrp_sim.specs.Cores.{IsNextRow}
+use Rattle.msrp_why.specs.declared.causes.Cause.{Cause}
+
+-- where a core in its turn breaks a rule, the row that is due is the one legal row of that core after the rows before, with
+-- its ahead; where no row of the core is due nothing is said
+abbrev pub IsDue : PlanModel → List Row → ℕ → Rule → Option Row → Type 0
+IsDue plan rows c A2 due = IsSomeAnd due (IsNextRow plan rows c)
+IsDue plan rows c A3 due = IsSomeAnd due (IsNextRow plan rows c)
+IsDue plan rows c A4 due = IsSomeAnd due (IsNextRow plan rows c)
+IsDue plan rows c A5 due = IsSomeAnd due (IsNextRow plan rows c)
+IsDue plan rows c rule due = ⊤
+
+-- why this row is refused after these, which have no fault
+pub record IsCauseAfter (plan : PlanModel) (rows : List Row) (r : Row) (cause : Cause) : Type 0 where
+  pub good : fault_in plan rows ≡ None
+  pub fault : fault_in plan (rows ++ r ∷ []) ≡ Some cause.fault
+  pub row : cause.row ≡ r
+  pub due : IsDue plan rows r.core.0 cause.fault.rule cause.due
+
+-- why one of these rows is refused
+pub record IsCauseIn (plan : PlanModel) (rows : List Row) (cause : Cause) : Type 0 where
+  pub before : List Row
+  pub row : Row
+  pub behind : List Row
+  pub place : rows ≡ before ++ row ∷ behind
+  pub is : IsCauseAfter plan before row cause
+
+-- the cause of a verdict on rows: that of a fault at one of them; a good trace has none, nor a row that is missing
+abbrev pub IsCauseOf : PlanModel → List Row → Result ⊤ Fault → Option Cause → Type 0
+IsCauseOf plan rows found (Some cause) = (found ≡ Err cause.fault) × IsCauseIn plan rows cause
+IsCauseOf plan rows found None = found ≡ answer_of (missing plan rows)

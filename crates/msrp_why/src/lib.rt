@@ -1,0 +1,10 @@
+//! Why a row of a trace is refused: the row, the rule, the row that was due in its place, and what makes it so.
+//!
+//! [`feed`] judges a row, and keeps with a fault what was due before it. [`write_cause`] tells it in plain sentences.
+#![tactic(auto)]
+
+mod causes;
+mod telling;
+
+pub use causes::{Cause, feed};
+pub use telling::{write_cause, write_missing};
