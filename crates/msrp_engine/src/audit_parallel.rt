@@ -13,8 +13,7 @@ ghost use Rattle.msrp_engine.specs.Outcomes.{fault_of, is_trace_fault, is_audit_
 use crate::audit::write_verdict;
 use crate::faults::CliFault;
 use crate::reading::ending_of;
-use msrp_audit::{Auditor, audit_parallel};
-use msrp_levels::Levels;
+use msrp_audit::audit_parallel;
 use msrp_plan::bytes::{Sink, Source};
 use msrp_plan::{Fault, Memory, Plan, Row, Rule, Trace};
 use msrp_text::read_plan;
@@ -23,11 +22,9 @@ use std::alloc::Global;
 use std::io::{Read, Write};
 use std::thread::Threads;
 
-// Gathers the rows that a reader has left, at most so many, and tells what ended the reading before. An auditor is fed them and
-// foresees the next ones, so that few are read field by field. What is gathered is the same whatever it foresees.
+// Gathers the rows that a reader has left, at most so many, and tells what ended the reading before.
 fn gather_rows<T: Read>(
     rows: &mut TraceReader<'_, T>,
-    auditor: &mut Auditor<'_>,
     gathered: &mut Vec<Row>,
     most: usize,
 ) -> Result<(), CliFault>
@@ -36,11 +33,8 @@ fn gather_rows<T: Read>(
     ensures faults { IfErr result (λ fault. is_trace_fault fault ≡ true) }
 {
     for _row in 0..most {
-        match rows.next_foreseen(|core| auditor.foresee(core))? {
-            Some(row) => {
-                let _judged = auditor.feed(row);
-                gathered.push(row)?;
-            }
+        match rows.next_row()? {
+            Some(row) => gathered.push(row)?,
             None => return Ok(()),
         }
     }
@@ -92,12 +86,9 @@ fn judge_all<T: Read>(
     // One row more than are due is a fault, whatever stands behind it.
     let most = plan.cores() as usize * plan.ticks() as usize + 1;
     let mut gathered = Vec::with_capacity(alloc, most).map_err(|_| Memory)?;
-    let levels = Levels::of(alloc, plan)?;
-    let mut auditor = Auditor::with_room(alloc, plan, &levels)?;
     let mut rows = TraceReader::new(alloc, trace, plan)?;
-    let ended = gather_rows(&mut rows, &mut auditor, &mut gathered, most);
+    let ended = gather_rows(&mut rows, &mut gathered, most);
     drop(rows);
-    drop(auditor);
     let judged = audit_parallel(rt, alloc, plan, &Trace { rows: gathered })?;
     found_in(judged, ended)
 }

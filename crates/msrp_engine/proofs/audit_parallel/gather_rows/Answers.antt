@@ -21,8 +21,8 @@ loop-row-preserved g c =
     let pushed : c.push.new.self.items ≡ rows ++ c.in-Some.row ∷ [] = search rules in
     record {
       count = ap length pushed ∙ (length-append rows (c.in-Some.row ∷ []) ∙ ap (λ n. n + 1) i.count);
-      read = λ told known. subst (λ (l : List Row). IsReadTo told l (told_left g.T.Read.remaining c.next_foreseen.new.self)) (sym pushed)
-          (read-row told rows _ _ c.next_foreseen.result c.in-Some.row (i.read told known) c.next_foreseen.ensures.next (c.in_ok-row.was ∙ ap (λ x. Ok x) c.in-Some.is));
+      read = λ told known. subst (λ (l : List Row). IsReadTo told l (told_left g.T.Read.remaining c.next_row.new.self)) (sym pushed)
+          (read-row told rows _ _ c.next_row.result c.in-Some.row (i.read told known) c.next_row.ensures.next (c.in_ok-row.was ∙ ap (λ x. Ok x) c.in-Some.is));
     }
 
 pub returns-in_err-row-clause-gathered : goal.returns-in_err-row-clause-gathered
@@ -30,11 +30,11 @@ returns-in_err-row-clause-gathered g c = λ told known.
     let rows = c.loop-row.gathered.items in
     let gives : c.from_residual.result ≡ Err (trace_fault_of c.in_err-row.field-0.0) = search rules in
     subst (IsGathered c.args.most told rows) (sym gives)
-    (gathered-refused c.args.most told rows _ _ c.next_foreseen.result c.in_err-row.field-0.0 (c.loop-row.invariant.read told known) c.next_foreseen.ensures.next (cc))
+    (gathered-refused c.args.most told rows _ _ c.next_row.result c.in_err-row.field-0.0 (c.loop-row.invariant.read told known) c.next_row.ensures.next (cc))
 
 pub returns-in-None-clause-gathered : goal.returns-in-None-clause-gathered
 returns-in-None-clause-gathered g c = λ told known.
-    gathered-all c.args.most told c.loop-row.gathered.items _ _ c.next_foreseen.result (c.loop-row.invariant.read told known) c.next_foreseen.ensures.next (cc)
+    gathered-all c.args.most told c.loop-row.gathered.items _ _ c.next_row.result (c.loop-row.invariant.read told known) c.next_row.ensures.next (cc)
 
 pub returns-clause-gathered : goal.returns-clause-gathered
 returns-clause-gathered g c = λ told known.
