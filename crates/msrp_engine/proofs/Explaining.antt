@@ -1,5 +1,5 @@
 -- What is found in rows that are judged as they come, with the cause of a fault.
-use Rattle.std.proofs.Common.{◌≡◌, ◌⊎◌, ◌++◌, ◌∷◌, [], ℕ, List, Option, None, Some, refl, ap, sym, subst, ◌∙◌, inl, inr, append_assoc}
+use Rattle.std.proofs.Common.{◌≡◌, ◌⊎◌, ◌++◌, ◌∷◌, [], List, Option, None, Some, refl, ap, sym, subst, ◌∙◌, inl, inr, append_assoc}
 use Rattle.std.specs.Prelude.{⊤}
 use Rattle.std.specs.Option.{option_or}
 use Rattle.std.specs.declared.result.Result.{Result}
@@ -9,17 +9,13 @@ use Rattle.msrp_plan.specs.Plan.{PlanModel}
 use Rattle.msrp_plan.specs.Verdict.{fault_in, missing, verdict}
 use Rattle.msrp_plan.specs.declared.faults.Fault.{Fault}
 use Rattle.msrp_plan.specs.declared.rows.Row.{Row}
-use Rattle.msrp_trace.specs.Reading.{Told, rows_of}
-use Rattle.msrp_trace.specs.Readers.{Opens}
+use Rattle.msrp_trace.specs.Reading.{Told}
 use Rattle.msrp_trace.specs.declared.faults.TraceError.{TraceError}
 use Rattle.msrp_trace.proofs.ReadThrough.{Answers, IsReadTo, read-whole}
-use Rattle.msrp_why.specs.Causes.{IsCauseAfter, IsCauseOf}
+use Rattle.msrp_why.specs.Causes.{IsCauseAfter}
 use Rattle.msrp_why.specs.declared.causes.Cause.{Cause}
 use Rattle.msrp_engine.specs.Findings.{finding}
-use Rattle.msrp_engine.specs.Outcomes.{trace_fault_of}
-use Rattle.msrp_engine.specs.Whys.{IsFound, WhyFound, WhyTold, found_text, why_status}
-use Rattle.msrp_plan.specs.Bytes.{Wrote}
-use Rattle.msrp_plan.specs.declared.bytes.Sink.{Sink}
+use Rattle.msrp_engine.specs.Whys.{IsFound}
 use Rattle.msrp_engine.specs.declared.faults.CliFault.{CliFault}
 use Rattle.msrp_engine.specs.declared.faults.CliFault.TheVariants.{Read as ReadFault, Memory as NoMemory}
 use Rattle.msrp_engine.specs.declared.why.Explained.{Explained}
@@ -60,13 +56,3 @@ end-found plan told rows left after result found is next e good answer =
     let whole = read-whole told rows left after result is next e in
     let short : verdict plan rows ≡ missing plan rows = ap (λ o. option_or o (missing plan rows)) good in
     (judging.verdict-found plan told rows left after result is next e good ∙ ap (λ x. Ok x) (sym answer), answer ∙ (ap answer_of short ∙ ap (λ xs. answer_of (missing plan xs)) (sym whole.0)))
-
--- the answer of a refusal, and that of a verdict
-pub why-refused : {W : Type 0} (contents : W → Option (List ℕ)) (plan : PlanModel) (told : Told) (fault : CliFault) (old new : Sink W) (result : Result ℕ CliFault)
-    → finding plan told ≡ Err fault → result ≡ Err fault → new ≡ old → WhyTold contents plan told old new result
-why-refused contents plan told fault old new result is answer same = subst (λ f. WhyFound contents plan told f old new result) (sym is) (answer, same)
-
-pub why-told : {W : Type 0} (contents : W → Option (List ℕ)) (plan : PlanModel) (told : Told) (found : Explained) (old new : Sink W) (result : Result ℕ CliFault)
-    → IsFound plan told (Ok found) → Wrote contents old new (found_text plan found.verdict found.cause) → result ≡ why_status found.verdict new → WhyTold contents plan told old new result
-why-told contents plan told found old new result is text status =
-    subst (λ f. WhyFound contents plan told f old new result) (sym is.0) (record { cause = found.cause; is = is.1; text = text; status = status })
