@@ -1,6 +1,5 @@
 -- The text of rows, with one row more.
-use Rattle.std.proofs.Common.{◌≡◌, ℕ, Some, None, List, [], ◌∷◌, ◌++◌, refl, ap, sym, ◌∙◌, append-nil, append_assoc}
-use Rattle.std.proofs.lemmas.List.Sums.{fold-append}
+use Rattle.std.proofs.Common.{◌≡◌, ℕ, List, [], ◌∷◌, ◌++◌, ap, sym, ◌∙◌, append-nil, append_assoc}
 use Rattle.msrp_plan.specs.Plan.{PlanModel}
 use Rattle.msrp_plan.specs.declared.rows.Row.{Row}
 use Rattle.msrp_export.specs.Exports.{part_text, rows_from}
@@ -18,7 +17,3 @@ from_push plan pre (x ∷ rows) r =
 
 pub part_push : (plan : PlanModel) (rows : List Row) (r : Row) → part_text plan (rows ++ r ∷ []) ≡ part_text plan rows ++ row_text plan (last_tick rows) (last_row r.core.0 rows) r
 part_push plan rows r = ap (λ t. head_text plan ++ t) (from_push plan [] rows r) ∙ sym (append_assoc (head_text plan) (rows_from plan [] rows) (text_after plan rows r))
-
--- the tick of the last row is that of the new one
-pub tick_push : (rows : List Row) (r : Row) → last_tick (rows ++ r ∷ []) ≡ Some r.tick
-tick_push rows r = fold-append (λ _ x. Some x.tick) None rows (r ∷ [])

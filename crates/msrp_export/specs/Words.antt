@@ -1,6 +1,5 @@
 -- Words of rows and of rules, and the names of tasks and resources.
 use Rattle.std.specs.Prelude.{ℕ, List, Bool, true, false, ◌++◌, codes, decimal, Option, Some, None, slice_get}
-use Rattle.std.specs.Option.{option_or}
 use Rattle.msrp_plan.specs.Plan.{PlanModel, TaskModel}
 use Rattle.msrp_plan.specs.declared.faults.Rule.{Rule}
 use Rattle.msrp_plan.specs.declared.faults.Rule.TheVariants.{A1, A2, A3, A4, A5, A6, A7}
