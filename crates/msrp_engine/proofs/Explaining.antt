@@ -14,7 +14,6 @@ use Rattle.msrp_trace.specs.declared.faults.TraceError.{TraceError}
 use Rattle.msrp_trace.proofs.ReadThrough.{Answers, IsReadTo, read-whole}
 use Rattle.msrp_why.specs.Causes.{IsCauseAfter}
 use Rattle.msrp_why.specs.declared.causes.Cause.{Cause}
-use Rattle.msrp_engine.specs.Findings.{finding}
 use Rattle.msrp_engine.specs.Whys.{IsFound}
 use Rattle.msrp_engine.specs.declared.faults.CliFault.{CliFault}
 use Rattle.msrp_engine.specs.declared.faults.CliFault.TheVariants.{Read as ReadFault, Memory as NoMemory}

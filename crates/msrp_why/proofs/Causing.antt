@@ -1,11 +1,10 @@
 -- The cause of a fault, from what the auditor foresaw.
-use Rattle.std.proofs.Common.{◌≡◌, ℕ, ◌+◌, ◌*◌, ◌<◌, ◌≤◌, ◌++◌, ◌∷◌, [], Bool, true, false, cond, nat_lt, List, Option, Some, None, length, refl, ap, sym, ◌∙◌, subst, arith, append-nil, append_assoc, length-append, ltb-true}
+use Rattle.std.proofs.Common.{◌≡◌, ℕ, ◌+◌, ◌*◌, ◌≤◌, ◌++◌, ◌∷◌, [], Bool, true, false, cond, nat_lt, List, Option, Some, None, length, refl, ap, sym, ◌∙◌, subst, arith, append-nil, append_assoc, length-append, ltb-true}
 use Rattle.std.specs.Option.{IsSomeAnd}
-use Rattle.std.specs.declared.result.Result.{Result}
 use Rattle.std.specs.declared.result.Result.TheVariants.{Ok, Err}
 use Rattle.std.specs.Prelude.{⊤}
 use Rattle.msrp_plan.specs.Plan.{PlanModel}
-use Rattle.msrp_plan.specs.Runs.{IsLegal, IsRunStart, EachAfter, is_in_turn, is_of_core, is_chosen, is_next_action, is_fifo_reply}
+use Rattle.msrp_plan.specs.Runs.{IsLegal, IsRunStart, EachAfter, is_in_turn}
 use Rattle.msrp_plan.specs.Verdict.{broken, fault_from, fault_in, fault_or, refused}
 use Rattle.msrp_plan.specs.WellFormed.{IsPlan}
 use Rattle.msrp_plan.specs.declared.faults.Fault.{Fault}

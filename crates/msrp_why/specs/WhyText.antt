@@ -4,7 +4,6 @@ use Rattle.std.specs.Option.{is_some}
 use Rattle.msrp_plan.specs.Plan.{PlanModel, core_of, key, task_of}
 use Rattle.msrp_plan.specs.Jobs.{jobs_of}
 use Rattle.msrp_plan.specs.Levels.{level}
-use Rattle.msrp_plan.specs.declared.faults.Fault.{Fault}
 use Rattle.msrp_plan.specs.declared.faults.Rule.{Rule}
 use Rattle.msrp_plan.specs.declared.faults.Rule.TheVariants.{A1, A2, A3, A4, A5, A6, A7}
 use Rattle.msrp_plan.specs.declared.ids.JobId.{JobId}

@@ -1,4 +1,4 @@
-use Rattle.std.proofs.Common.{rules, ◌≡◌, ◌∙◌, ◌≤◌, ◌<◌, ◌+◌, ◌-◌, ℕ, List, [], Some, true, false, ap, arith, drop, sym}
+use Rattle.std.proofs.Common.{rules, ◌≡◌, ◌∙◌, ◌+◌, ◌-◌, ℕ, List, [], Some, true, false, ap, arith, drop}
 use Rattle.std.specs.Prelude.{slice_index_or}
 use Rattle.msrp_text.specs.Reading.{csv_records}
 use Rattle.msrp_text.proofs.Remaining.{gave-none, gave-one}

@@ -1,5 +1,4 @@
-use Rattle.std.proofs.Common.{ap, sym, subst, ◌∙◌, ◌++◌, ◌∷◌, []}
-use Rattle.msrp_audit.specs.Audits.{answer_of}
+use Rattle.std.proofs.Common.{sym, subst, ◌++◌, ◌∷◌, []}
 use Rattle.msrp_plan.specs.Plan.{PlanModel}
 use Rattle.msrp_plan.specs.Verdict.{fault_in}
 use Rattle.msrp_plan.specs.WellFormed.{IsPlan}
