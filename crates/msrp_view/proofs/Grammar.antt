@@ -121,6 +121,6 @@ explained_faults (Some v) (Err fault) h = absurd h
 -- and those of either
 pub told_faults : (rows : List Row) (result : Result Cmd CliFault) → IsTold rows result → IfErr result (λ fault. (fault ≡ Usage) ⊎ (fault ≡ Memory))
 told_faults rows result h = elim (cases_Bool (is_given (codes "why") rows)) [
-  | inl yes ↦ explained_faults (why_of rows) result (h.0 yes)
-  | inr no ↦ drawn_faults (view_of rows) result (h.1 no)
+  | inl given ↦ explained_faults (why_of rows) result (h.0 given)
+  | inr absent ↦ drawn_faults (view_of rows) result (h.1 absent)
 ]
