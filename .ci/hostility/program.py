@@ -6,7 +6,7 @@ from typing import NamedTuple
 
 TOP = Path(__file__).resolve().parent.parent.parent
 PROGRAM = TOP / "crates" / "msrp" / "out" / "msrp"
-SECONDS = 20  # a command that takes longer hangs
+SECONDS = 60  # a command that takes longer hangs: `run` on eight threads has few processors where sweeps go side by side
 
 # The commands that the program has: every sweep goes over these. A command that comes later is added here alone.
 COMMANDS = ("sim", "sim --order desc", "sim --order rot --ahead", "run", "run --ahead", "audit", "audit --parallel", "report", "check", "check --text")
