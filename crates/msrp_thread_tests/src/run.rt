@@ -5,3 +5,4 @@ mod meeting;
 mod plans;
 mod refusing;
 mod stages;
+mod texts;
