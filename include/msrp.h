@@ -2,7 +2,8 @@
  *
  * The functions behind these names are proved; this header is kept by hand, and nothing proves that a caller keeps what it says:
  *
- * - A text is a pointer and a length in bytes. Of a length of 0 the pointer may be null, and is not read through.
+ * - A text is a pointer and a length in bytes, and a list is a pointer and the count of its elements. Of a length of 0 the pointer may be
+ *   null, and is not read through.
  * - `needed` and `found` are never null. The bytes of `text` can be written; they need not be set before.
  * - What a call writes (text, needed, found) overlaps no other argument, and no other thread touches it during the call. What a
  *   call only reads may be shared by several threads.
@@ -15,6 +16,7 @@
 #ifndef MSRP_H
 #define MSRP_H
 
+#include <stdbool.h>
 #include <stddef.h>
 #include <stdint.h>
 
@@ -42,8 +44,22 @@ struct msrp_found {
     uint32_t rule;       /* the number after A of the lowest rule that it breaks, 1 to 7 */
     uint32_t plan_code;  /* the number after P of the plan's refusal, 1 to 16 */
     uint32_t trace_code; /* the number after R of the trace's refusal, 1 to 8 */
-    uint32_t number;     /* the refused record, counted from 1 */
+    uint32_t number;     /* the refused record, or of rows as numbers the refused row, counted from 1 */
 };
+
+/* A row as numbers, one turn of one core. Tasks and resources are numbered from 0 in the order of their declaration, jobs within their task.
+ * What a row doesn't have is MSRP_NONE. */
+struct msrp_row {
+    uint32_t tick, core;
+    uint32_t kind;      /* enum msrp_kind */
+    uint32_t task, job; /* of each row but an idle one */
+    uint32_t resource;  /* of each row but one that is idle or runs */
+    uint32_t ahead;     /* on a queue row how many stood in the queue before its job, if that is known */
+};
+
+#define MSRP_NONE UINT32_MAX
+
+enum msrp_kind { MSRP_IDLE = 0, MSRP_RUN = 1, MSRP_LOCK = 2, MSRP_UNLOCK = 3, MSRP_TAKE = 4, MSRP_QUEUE = 5, MSRP_SPIN = 6, MSRP_GRANT = 7, MSRP_RELEASE = 8 };
 
 /* The order of the cores' turns in each tick. */
 enum msrp_order {
@@ -61,6 +77,11 @@ uint32_t msrp_version(void);
 /* The verdict on a trace of a plan, both as texts: MSRP_GOOD for a legal run, and else the first row that breaks a rule. A fault on
  * a row before a refused record comes first, and nothing is read behind it; a refused plan is told whatever the trace. */
 uint32_t msrp_audit(const uint8_t *plan, size_t plan_len, const uint8_t *trace, size_t trace_len, struct msrp_found *found);
+
+/* The verdict on rows that are numbers: of a whole trace, or with so_far of one that goes on, where MSRP_GOOD tells the start of a legal
+ * run. A row is refused where its kind is none (R4), where it has not what a row of its kind has (R6), and where the plan has no such task
+ * or resource (R5), in this order; number is then the row's, counted from 1. No memory is taken for a row. */
+uint32_t msrp_audit_rows(const uint8_t *plan, size_t plan_len, const struct msrp_row *rows, size_t rows_len, bool so_far, struct msrp_found *found);
 
 /* Each of the following makes a text. Where it fits into the buffer it is put in front, and what stands behind it is as before; where
  * it doesn't the answer is MSRP_ROOM, and the buffer is as before. Either way needed is its length. Where there is no text needed is 0. */

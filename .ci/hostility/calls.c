@@ -22,6 +22,8 @@ static const char *const PLAN = "msrp,1\ncores,2\nticks,6\nresource,g\ntask,a,0,
 static const char *const GOOD = "msrp-trace,1,2,6\n0,0,take,a,0,g\n0,1,queue,b,0,g\n1,0,run,a,0,-\n1,1,spin,b,0,g\n2,0,release,a,0,g\n2,1,grant,b,0,g\n3,0,idle,-,-,-\n3,1,run,b,0,-\n4,0,idle,-,-,-\n4,1,release,b,0,g\n5,0,idle,-,-,-\n5,1,idle,-,-,-\n";
 static const char *const FAULTY = "msrp-trace,1,2,6\n0,0,take,a,0,g\n0,1,queue,b,0,g\n1,0,run,a,0,-\n1,1,grant,b,0,g\n";
 static const uint32_t CORES[] = {0, 1, 1, 0, 0, 1, 1, 0, 0, 1, 1, 0};
+static const struct msrp_row ROWS[] = {
+    {0, 0, MSRP_TAKE, 0, 0, 0, MSRP_NONE}, {0, 1, MSRP_QUEUE, 1, 0, 0, 1}, {1, 0, MSRP_RUN, 0, 0, MSRP_NONE, MSRP_NONE}, {1, 1, MSRP_GRANT, 1, 0, 0, MSRP_NONE}};
 
 static long held;
 #ifndef PLAIN
@@ -61,7 +63,7 @@ struct answer {
 };
 
 /* One of the calls, by its number. */
-#define CALLS 10
+#define CALLS 13
 static void call(int which, struct answer *to) {
     uint8_t *text = to->text;
     size_t *needed = &to->needed;
@@ -78,11 +80,14 @@ static void call(int which, struct answer *to) {
     case 6: to->status = msrp_plan_text(BYTES(PLAN), text, ROOM, needed, found); break;
     case 7: to->status = msrp_view(BYTES(PLAN), BYTES(GOOD), MSRP_TEXT, 0, 0, text, ROOM, needed, found); break;
     case 8: to->status = msrp_view(BYTES(PLAN), BYTES(FAULTY), MSRP_SVG, 0, 4, text, ROOM, needed, found); break;
+    case 9: to->status = msrp_audit_rows(BYTES(PLAN), ROWS, 3, true, found); break;
+    case 10: to->status = msrp_audit_rows(BYTES(PLAN), ROWS, 4, true, found); break;
+    case 11: to->status = msrp_audit_rows(BYTES(PLAN), NULL, 0, false, found); break;
     default: to->status = msrp_audit(NULL, 0, BYTES(GOOD), found); break;
     }
 }
 
-static const uint32_t DUE[CALLS] = {0, 1, 0, 1, 0, 0, 0, 0, 1, 2};
+static const uint32_t DUE[CALLS] = {0, 1, 0, 1, 0, 0, 0, 0, 1, 0, 1, 1, 2};
 
 static void fail(const char *what, int which) {
     printf("%s: call %d\n", what, which);

@@ -1,4 +1,5 @@
 pub mod Answers
 pub mod Numbers
 pub mod Texts
+pub mod Turns
 pub mod Pictures

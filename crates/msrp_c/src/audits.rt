@@ -5,10 +5,15 @@ ghost use Rattle.msrp_engine.specs.Reports.{IsReportOf};
 ghost use Rattle.msrp_faults.specs.declared.faults.CliFault.{CliFault};
 ghost use Rattle.msrp_text.specs.Reading.{csv_records, plan_of};
 ghost use Rattle.msrp_c.specs.Answers.{Answers, OrUnread, Tells};
+ghost use Rattle.msrp_c.specs.Turns.{finding_of_turns};
 
 use crate::answers::{MsrpFound, hand_over, numbers_of, status_told};
+use crate::turns::{MsrpRow, judge_turns};
+use msrp_audit::{Auditor, Fault};
 use msrp_engine::{CliFault, Made, judge_texts, report_of_texts};
+use msrp_levels::Levels;
 use msrp_plan::bytes::Source;
+use msrp_text::read_plan;
 use std::alloc::Global;
 
 /// The verdict on a trace of a plan: 0 for a legal run, 1 for a fault, and 2 where a text is refused.
@@ -19,6 +24,39 @@ pub extern "C" fn msrp_audit(alloc: Global, plan: &[u8], trace: &[u8], found: &m
     let mut plan = Source::new(plan);
     let mut trace = Source::new(trace);
     let what = judge_texts(alloc, &mut plan, &mut trace);
+    *found = numbers_of(what);
+    status_told(what)
+}
+
+// What is found in rows of the plan that a text tells.
+fn judged(
+    alloc: Global,
+    plan: &[u8],
+    rows: &[MsrpRow],
+    so_far: bool,
+) -> Result<Result<(), Fault>, CliFault>
+    ensures { (result ≡ Err CliFault.Read) ⊎ (result ≡ Err CliFault.Memory) ⊎ (result ≡ finding_of_turns so_far (plan_of (csv_records plan.now)) rows.now) }
+{
+    let mut source = Source::new(plan);
+    let plan = read_plan(alloc, &mut source)?;
+    let levels = Levels::of(alloc, &plan)?;
+    let mut auditor = Auditor::with_room(alloc, &plan, &levels)?;
+    judge_turns(&plan, &mut auditor, rows, so_far)
+}
+
+/// The verdict on rows that are told as numbers, as [`msrp_audit`] gives it on their text, but that rows are counted from 1. Of rows so
+/// far it is 0 where they are the start of a legal run.
+#[unsafe(no_mangle)]
+pub extern "C" fn msrp_audit_rows(
+    alloc: Global,
+    plan: &[u8],
+    rows: &[MsrpRow],
+    so_far: bool,
+    found: &mut MsrpFound,
+) -> u32
+    ensures { Tells (Err CliFault.Read) found.new result ⊎ Tells (Err CliFault.Memory) found.new result ⊎ Tells (finding_of_turns so_far (plan_of (csv_records plan.now)) rows.now) found.new result }
+{
+    let what = judged(alloc, plan, rows, so_far);
     *found = numbers_of(what);
     status_told(what)
 }

@@ -1,8 +1,8 @@
 //! The calls, as C makes them.
 
 use crate::{
-    MsrpFound, msrp_audit, msrp_check, msrp_plan_text, msrp_report, msrp_sim, msrp_version,
-    msrp_view,
+    MsrpFound, MsrpRow, msrp_audit, msrp_audit_rows, msrp_check, msrp_plan_text, msrp_report,
+    msrp_sim, msrp_version, msrp_view,
 };
 use std::process::Abort;
 
@@ -64,4 +64,40 @@ fn the_other_texts_are_made(rt: HostRuntime) {
         ) == 6
     );
     assert!(rt; needed > 0 && found == NOTHING);
+}
+
+const NONE: u32 = 4_294_967_295;
+
+const WORK: MsrpRow = MsrpRow {
+    tick: 0,
+    core: 0,
+    kind: 1,
+    task: 0,
+    job: 0,
+    resource: NONE,
+    ahead: NONE,
+};
+
+const IDLE: MsrpRow = MsrpRow {
+    tick: 1,
+    core: 0,
+    kind: 0,
+    task: NONE,
+    job: NONE,
+    resource: NONE,
+    ahead: NONE,
+};
+
+#[test]
+fn rows_as_numbers_are_audited(rt: HostRuntime) {
+    let mut found = NOTHING;
+    let rows = [WORK, IDLE];
+    assert!(rt; msrp_audit_rows(rt.alloc(), PLAN, &rows, false, &mut found) == 0);
+    assert!(rt; msrp_audit_rows(rt.alloc(), PLAN, &rows[..1], true, &mut found) == 0);
+    assert!(rt; found == NOTHING);
+    assert!(rt; msrp_audit_rows(rt.alloc(), PLAN, &rows[..1], false, &mut found) == 1);
+    assert!(rt; found.row == 2 && found.rule == 6);
+    let strange = [WORK, MsrpRow { kind: 9, ..IDLE }];
+    assert!(rt; msrp_audit_rows(rt.alloc(), PLAN, &strange, true, &mut found) == 2);
+    assert!(rt; found.trace_code == 4 && found.number == 2);
 }

@@ -1,0 +1,111 @@
+-- Rows as numbers that are judged one by one.
+use Rattle.std.proofs.Common.{◌≡◌, ◌++◌, ◌∷◌, [], ◌+◌, ◌<◌, ℕ, Bool, cond, length, map, take, drop, get_or, List, None, Some, Result, Ok, Err, refl, ap, sym, ◌∙◌, arith, append-nil, append_assoc}
+use Rattle.std.proofs.Math.Seq.{take-append-add}
+use Rattle.std.proofs.lemmas.List.{length-map, map-append, take-append-drop, take_more}
+use Rattle.std.proofs.lemmas.List.Elements.{filter_map-append}
+use Rattle.std.proofs.lemmas.Option.{slice_get_past}
+use Rattle.std.specs.List.{filter_map, prefix_len, take_while}
+use Rattle.std.specs.Option.{option_and_then}
+use Rattle.std.specs.Prelude.{slice_get}
+use Rattle.std.specs.Result.{is_ok, result_ok}
+use Rattle.msrp_audit.specs.Audits.{answer_of}
+use Rattle.msrp_engine.specs.Findings.{found_first}
+use Rattle.msrp_engine.specs.Outcomes.{trace_fault_of}
+use Rattle.msrp_plan.specs.Plan.{PlanModel}
+use Rattle.msrp_plan.specs.Verdict.{fault_in, verdict}
+use Rattle.msrp_plan.specs.declared.faults.Fault.{Fault}
+use Rattle.msrp_plan.specs.declared.rows.Row.{Row}
+use Rattle.msrp_plan.proofs.Runs.Verdicts.{fault_stays}
+use Rattle.msrp_text.proofs.Folding.{slice_get-seam}
+use Rattle.msrp_trace.specs.Reading.{Told}
+use Rattle.msrp_trace.specs.declared.faults.TraceError.{TraceError}
+use Rattle.msrp_trace.specs.declared.faults.TraceError.TheVariants.{At}
+use Rattle.msrp_trace.specs.declared.faults.TraceFault.{TraceFault}
+use Rattle.msrp_c.specs.Turns.{finding_in, refusal_at, told_in}
+
+-- ---- rows that are told before others
+-- rows, each as what its numbers tell
+abbrev pub readings : List Row → List (Result Row TraceFault)
+readings rows = map (λ r. Ok r) rows
+
+all-pass : (rows : List Row) (rest : List (Result Row TraceFault)) → prefix_len is_ok (readings rows ++ rest) ≡ length (readings rows) + prefix_len is_ok rest
+all-pass [] rest = let e : prefix_len is_ok rest ≡ 0 + prefix_len is_ok rest = omega arith in e
+all-pass (r ∷ rows) rest =
+    let more : 1 + (length (readings rows) + prefix_len is_ok rest) ≡ length (readings (r ∷ rows)) + prefix_len is_ok rest = omega arith in
+    ap (λ n. 1 + n) (all-pass rows rest) ∙ more
+
+rows-of : (rows : List Row) → filter_map result_ok (readings rows) ≡ rows
+rows-of [] = refl
+rows-of (r ∷ rows) = ap (λ xs. r ∷ xs) (rows-of rows)
+
+pub some-told : (rows : List Row) (rest : List (Result Row TraceFault)) → (told_in (readings rows ++ rest)).rows ≡ rows ++ (told_in rest).rows
+unfolding told_in
+some-told rows rest =
+    let xs = readings rows in
+    ap (λ n. filter_map result_ok (take n (xs ++ rest))) (all-pass rows rest)
+    ∙ (ap (filter_map result_ok) (take-append-add xs rest (prefix_len is_ok rest))
+    ∙ (filter_map-append result_ok xs (take_while is_ok rest) ∙ ap (λ ys. ys ++ filter_map result_ok (take_while is_ok rest)) (rows-of rows)))
+
+none-more : (n : ℕ) → n + 0 ≡ n
+none-more n = omega arith
+
+-- numbers that tell no row end the rows
+pub refused-told : (rows : List Row) (fault : TraceFault) (rest : List (Result Row TraceFault)) → told_in (readings rows ++ Err fault ∷ rest) ≡ record { rows = rows; refusal = Some (At fault (length rows + 1)) }
+unfolding told_in
+refused-told rows fault rest =
+    let xs = readings rows in
+    let all = xs ++ Err fault ∷ rest in
+    let at : prefix_len is_ok all ≡ length xs = all-pass rows (Err fault ∷ rest) ∙ none-more (length xs) in
+    ap (λ rs. record { rows = rs; refusal = option_and_then (refusal_at (prefix_len is_ok all + 1)) (slice_get all (prefix_len is_ok all)) }) (some-told rows (Err fault ∷ rest) ∙ append-nil rows)
+    ∙ (ap (λ n. record { rows = rows; refusal = option_and_then (refusal_at (n + 1)) (slice_get all n) }) at
+    ∙ (ap (λ o. record { rows = rows; refusal = option_and_then (refusal_at (length xs + 1)) o }) (slice_get-seam xs rest (Err fault))
+    ∙ ap (λ n. record { rows = rows; refusal = Some (At fault (n + 1)) }) (length-map rows (λ r. Ok r))))
+
+-- else all are told
+pub all-told : (rows : List Row) → told_in (readings rows) ≡ record { rows = rows; refusal = None }
+unfolding told_in
+all-told rows =
+    let xs = readings rows in
+    let none : xs ++ [] ≡ xs = append-nil xs in
+    let at : prefix_len is_ok xs ≡ length xs = ap (prefix_len is_ok) (sym none) ∙ (all-pass rows [] ∙ none-more (length xs)) in
+    let told : (told_in xs).rows ≡ rows = ap (λ ys. (told_in ys).rows) (sym none) ∙ (some-told rows [] ∙ append-nil rows) in
+    let past : slice_get xs (length xs) ≡ None = slice_get_past xs (length xs) (omega arith) in
+    ap (λ rs. record { rows = rs; refusal = option_and_then (refusal_at (prefix_len is_ok xs + 1)) (slice_get xs (prefix_len is_ok xs)) }) told
+    ∙ (ap (λ n. record { rows = rows; refusal = option_and_then (refusal_at (n + 1)) (slice_get xs n) }) at
+    ∙ ap (λ o. record { rows = rows; refusal = option_and_then (refusal_at (length xs + 1)) o }) past)
+
+-- ---- one turn more
+-- the first turns tell rows, and the next one reads so
+pub record Comes {A : Type 0} (f : A → Result Row TraceFault) (turns : List A) (i : ℕ) (rows : List Row) (x : Result Row TraceFault) : Type 0 where
+  pub front : map f (take (i + 1) turns) ≡ readings rows ++ x ∷ []
+  pub whole : map f turns ≡ readings rows ++ x ∷ map f (drop (i + 1) turns)
+
+pub comes : {A : Type 0} (f : A → Result Row TraceFault) (turns : List A) (i : ℕ) (rows : List Row) (x : Result Row TraceFault) (d : A) → i < length turns → map f (take i turns) ≡ readings rows → x ≡ f (get_or turns i d) → Comes f turns i rows x
+comes f turns i rows x d less before reads =
+    let front : map f (take (i + 1) turns) ≡ readings rows ++ x ∷ [] =
+    ap (map f) (take_more turns i d less) ∙ (map-append f (take i turns) (get_or turns i d ∷ []) ∙ (ap (λ xs. xs ++ f (get_or turns i d) ∷ []) before ∙ ap (λ y. readings rows ++ y ∷ []) (sym reads))) in
+    record {
+      front = front;
+      whole = ap (map f) (sym (take-append-drop (i + 1) turns)) ∙ (map-append f (take (i + 1) turns) (drop (i + 1) turns) ∙ (ap (λ xs. xs ++ map f (drop (i + 1) turns)) front ∙ append_assoc (readings rows) (x ∷ []) (map f (drop (i + 1) turns))));
+    }
+
+-- a row more is a reading more
+pub reading-more : (rows : List Row) (r : Row) → readings (rows ++ r ∷ []) ≡ readings rows ++ Ok r ∷ []
+reading-more rows r = map-append (λ x. Ok x) rows (r ∷ [])
+
+pub row-told : {A : Type 0} (f : A → Result Row TraceFault) (turns : List A) (i : ℕ) (rows : List Row) (r : Row) → Comes f turns i rows (Ok r) → (told_in (map f turns)).rows ≡ (rows ++ r ∷ []) ++ (told_in (map f (drop (i + 1) turns))).rows
+row-told f turns i rows r h =
+    let rest = map f (drop (i + 1) turns) in
+    ap (λ xs. (told_in xs).rows) (h.whole ∙ (sym (append_assoc (readings rows) (Ok r ∷ []) rest) ∙ ap (λ xs. xs ++ rest) (sym (reading-more rows r)))) ∙ some-told (rows ++ r ∷ []) rest
+
+-- ---- what is found
+pub fault-in-told : (so_far : Bool) (plan : PlanModel) (told : Told) (rows rest : List Row) (fault : Fault) → told.rows ≡ rows ++ rest → fault_in plan rows ≡ Some fault → finding_in so_far plan told ≡ Ok (Err fault)
+fault-in-told so_far plan told rows rest fault is h =
+    let whole : fault_in plan told.rows ≡ Some fault = ap (fault_in plan) is ∙ fault_stays plan rows rest fault h in
+    ap (λ o. found_first o told.refusal (cond so_far None (verdict plan told.rows))) whole
+
+pub refusal-in-told : (so_far : Bool) (plan : PlanModel) (told : Told) (rows : List Row) (error : TraceError) → told ≡ record { rows = rows; refusal = Some error } → fault_in plan rows ≡ None → finding_in so_far plan told ≡ Err (trace_fault_of error)
+refusal-in-told so_far plan told rows error is good = ap (finding_in so_far plan) is ∙ ap (λ o. found_first o (Some error) (cond so_far None (verdict plan rows))) good
+
+pub good-in-told : (so_far : Bool) (plan : PlanModel) (told : Told) (rows : List Row) → told ≡ record { rows = rows; refusal = None } → fault_in plan rows ≡ None → finding_in so_far plan told ≡ Ok (answer_of (cond so_far None (verdict plan rows)))
+good-in-told so_far plan told rows is good = ap (finding_in so_far plan) is ∙ ap (λ o. found_first o None (cond so_far None (verdict plan rows))) good

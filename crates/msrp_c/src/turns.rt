@@ -1,0 +1,166 @@
+//! Rows as numbers, and the verdict on them.
+ghost use Rattle.std.specs.Prelude.{◌≡◌, [], true};
+ghost use Rattle.std.specs.Prelude.{map, option_map};
+ghost use Rattle.msrp_audit.specs.Audits.{HasFed};
+ghost use Rattle.msrp_plan.specs.Shape.{has_shape, may_carry};
+ghost use Rattle.msrp_plan.specs.declared.ids.ResId.{ResId as Resource};
+ghost use Rattle.msrp_trace.specs.Rows.{row_with};
+ghost use Rattle.msrp_c.specs.Turns.{finding_in, job_numbered, kind_numbered, numbered, row_of, shaped_row, told_in};
+
+use msrp_audit::{Auditor, Fault};
+use msrp_engine::CliFault;
+use msrp_plan::{CoreId, JobId, Kind, Plan, ResId, Row, TaskId};
+use msrp_trace::{TraceError, TraceFault, is_named};
+
+/// A row as numbers. The greatest number, 4294967295, stands where it has no task, job, resource or ahead.
+#[repr(C)]
+#[derive(Clone, Copy, Debug, PartialEq, Eq)]
+pub struct MsrpRow {
+    pub tick: u32,
+    pub core: u32,
+    /// 0 for idle, 1 run, 2 lock, 3 unlock, 4 take, 5 queue, 6 spin, 7 grant, 8 release.
+    pub kind: u32,
+    /// Tasks are numbered from 0 in the order of their declaration.
+    pub task: u32,
+    /// The number of the task's job, from 0.
+    pub job: u32,
+    /// Resources are numbered from 0 in the order of their declaration.
+    pub resource: u32,
+    /// On a queue row how many stood in the queue before its job, if that is known.
+    pub ahead: u32,
+}
+
+// The number where there is none.
+const NONE: u32 = 4_294_967_295;
+
+fn numbered(number: u32) -> Option<u32>
+    ensures { result ≡ numbered number }
+{
+    if number == NONE { None } else { Some(number) }
+}
+
+fn kind_numbered(number: u32) -> Option<Kind>
+    ensures { result ≡ kind_numbered number }
+{
+    match number {
+        0 => Some(Kind::Idle),
+        1 => Some(Kind::Run),
+        2 => Some(Kind::Lock),
+        3 => Some(Kind::Unlock),
+        4 => Some(Kind::Take),
+        5 => Some(Kind::Queue),
+        6 => Some(Kind::Spin),
+        7 => Some(Kind::Grant),
+        8 => Some(Kind::Release),
+        _ => None,
+    }
+}
+
+// The job of a task and a number, where there are both or neither.
+fn job_numbered(task: Option<u32>, k: Option<u32>) -> Option<Option<JobId>>
+    ensures { result ≡ job_numbered task k }
+{
+    match (task, k) {
+        (None, None) => Some(None),
+        (Some(task), Some(k)) => Some(Some(JobId {
+            task: TaskId(task),
+            k,
+        })),
+        _ => None,
+    }
+}
+
+fn res_numbered(number: Option<u32>) -> Option<ResId>
+    ensures { result ≡ option_map (λ g. record { 0 = g }) number }
+{
+    match number {
+        Some(number) => Some(ResId(number)),
+        None => None,
+    }
+}
+
+fn has_shape(kind: Kind, job: Option<JobId>, res: Option<ResId>) -> bool
+    ensures { result ≡ has_shape kind job res }
+{
+    match kind {
+        Kind::Idle => job.is_none() && res.is_none(),
+        Kind::Run => job.is_some() && res.is_none(),
+        _ => job.is_some() && res.is_some(),
+    }
+}
+
+fn may_carry(kind: Kind, ahead: Option<u32>) -> bool
+    ensures { result ≡ may_carry kind ahead }
+{
+    ahead.is_none() || kind == Kind::Queue
+}
+
+// The row of these numbers, if a row of its kind may have them.
+fn shaped_row(turn: &MsrpRow, kind: Kind) -> Option<Row>
+    ensures { result ≡ shaped_row turn.now kind (job_numbered (numbered turn.now.task) (numbered turn.now.job)) }
+{
+    let Some(job) = job_numbered(numbered(turn.task), numbered(turn.job)) else {
+        return None;
+    };
+    let res = res_numbered(numbered(turn.resource));
+    let ahead = numbered(turn.ahead);
+    if !has_shape(kind, job, res) || !may_carry(kind, ahead) {
+        return None;
+    }
+    Some(Row {
+        tick: turn.tick,
+        core: CoreId(turn.core),
+        kind,
+        job,
+        res,
+        ahead,
+    })
+}
+
+// The row of these numbers, or why they are none.
+fn row_of(plan: &Plan, turn: &MsrpRow) -> Result<Row, TraceFault>
+    ensures { result ≡ row_of plan.now turn.now }
+{
+    let Some(kind) = kind_numbered(turn.kind) else {
+        return Err(TraceFault::Kind);
+    };
+    let Some(row) = shaped_row(turn, kind) else {
+        return Err(TraceFault::Shape);
+    };
+    if is_named(plan, &row) {
+        Ok(row)
+    } else {
+        Err(TraceFault::Name)
+    }
+}
+
+/// What is found in rows, which are judged as they come. In rows so far it is no fault that further ones are missing.
+pub(crate) fn judge_turns(
+    plan: &Plan,
+    auditor: &mut Auditor<'_>,
+    turns: &[MsrpRow],
+    so_far: bool,
+) -> Result<Result<(), Fault>, CliFault>
+    requires plan { auditor.old.plan ≡ plan.now }
+    requires fed { HasFed auditor.old [] }
+    ensures { result ≡ finding_in so_far plan.now (told_in (map (row_of plan.now) turns.now)) }
+{
+    // Read so that the plan is known to be an accepted one, which has few rows.
+    let _accepted = plan.tasks();
+    let mut number = 0u32;
+    for turn in turns {
+        number += 1;
+        let row = match row_of(plan, turn) {
+            Ok(row) => row,
+            Err(fault) => return Err(CliFault::from(TraceError::At { fault, number })),
+        };
+        if let Err(fault) = auditor.feed(row) {
+            return Ok(Err(fault));
+        }
+    }
+    if so_far {
+        Ok(Ok(()))
+    } else {
+        Ok(auditor.end())
+    }
+}
