@@ -1,9 +1,8 @@
 -- What a task does, by tests.
-use Rattle.std.proofs.Common.{◌≡◌, ℕ, ◌+◌, ◌<◌, ◌≤◌, List, ap, sym, subst, ◌∙◌, arith, cond, Bool, true, false, nat_lt}
+use Rattle.std.proofs.Common.{◌≡◌, ℕ, ◌+◌, ◌<◌, ◌≤◌, List, ap, sym, subst, ◌∙◌, cond, Bool, true, nat_lt}
 use Rattle.std.specs.Prelude.{nat_le}
 use Rattle.std.proofs.lemmas.Bool.{le-leb, lt-leb}
 use Rattle.msrp_plan.specs.Plan.{PlanModel, key, release, task_at}
-use Rattle.msrp_plan.specs.declared.ids.JobId.{JobId}
 use Rattle.msrp_plan.specs.declared.rows.Row.{Row}
 use Rattle.msrp_export.specs.Signals.{acquired, active_state, given_up, job_after, kind_in, last_row, task_state}
 use Rattle.msrp_export.specs.declared.states.TaskState.{TaskState}

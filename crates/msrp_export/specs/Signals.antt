@@ -1,6 +1,6 @@
 -- What the rows of a trace say of a core, of a task and of a resource.
-use Rattle.std.specs.Prelude.{ℕ, List, Bool, true, false, ◌==◌, ◌&&◌, not, nat_lt, nat_le, Option, Some, None, fold, filter, count_by, length, if◌then◌else◌, ◌/◌}
-use Rattle.msrp_plan.specs.Plan.{PlanModel, core_of, key, task_at}
+use Rattle.std.specs.Prelude.{ℕ, List, Bool, true, false, ◌==◌, ◌&&◌, not, nat_lt, nat_le, Option, Some, None, fold, count_by, length, if◌then◌else◌, ◌/◌}
+use Rattle.msrp_plan.specs.Plan.{PlanModel, key, task_at}
 use Rattle.msrp_plan.specs.Jobs.{is_released, is_waiting, job_at}
 use Rattle.msrp_plan.specs.Logs.{log_of}
 use Rattle.msrp_plan.specs.Queues.{is_on}

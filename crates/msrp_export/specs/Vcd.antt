@@ -2,7 +2,7 @@
 -- time is one tick. Of each core it says what it does (k), for which job (j) and on which resource (g); of each task its state (t); of
 -- each resource its holder (h) and how many jobs stand in its queue (q); and the rule that is broken (f), and the row that breaks it (r).
 -- Strings are as GTKWave reads them, and numbers are reals.
-use Rattle.std.specs.Prelude.{ℕ, List, [], ◌++◌, Bool, true, false, not, nat_eq, nat_lt, ◌==◌, ◌&&◌, codes, decimal, length, take, Option, Some, None, if◌then◌else◌, ◌+◌, ◌-◌, ◌*◌, ◌/◌}
+use Rattle.std.specs.Prelude.{ℕ, List, [], ◌++◌, Bool, false, not, nat_eq, nat_lt, ◌==◌, ◌&&◌, codes, decimal, length, take, Option, Some, None, if◌then◌else◌, ◌+◌, ◌-◌, ◌*◌, ◌/◌}
 use Rattle.std.specs.List.{flat_map, range_with_len}
 use Rattle.msrp_plan.specs.Plan.{PlanModel}
 use Rattle.msrp_plan.specs.Actions.{same_res}

@@ -1,6 +1,5 @@
-use Rattle.std.proofs.Common.{rules, ◌≡◌, ◌+◌, ◌<◌, ◌≤◌, ap, sym, subst, ◌∙◌, arith, length, nat_lt}
-use Rattle.msrp_plan.specs.Plan.{release, task_at}
-use Rattle.msrp_plan.specs.declared.ids.JobId.{JobId}
+use Rattle.std.proofs.Common.{◌<◌, ap, sym, subst, ◌∙◌, arith, length, nat_lt}
+use Rattle.msrp_plan.specs.Plan.{release}
 use Rattle.msrp_plan.specs.declared.ids.TaskId.{TaskId}
 use Rattle.msrp_export.specs.Signals.{active_state, kind_in, last_row}
 use Rattle.msrp_export.specs.Tells.{count_of}

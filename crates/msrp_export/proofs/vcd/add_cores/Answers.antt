@@ -1,7 +1,6 @@
-use Rattle.std.proofs.Common.{◌≡◌, sym, subst, arith, ap, ◌∙◌, List, ℕ}
+use Rattle.std.proofs.Common.{◌≡◌, sym, subst, arith, List, ℕ}
 use Rattle.std.specs.List.{flat_map, range_with_len}
 use Rattle.msrp_plan.specs.Bytes.{Wrote}
-use Rattle.msrp_plan.specs.declared.rows.Row.{Row}
 use Rattle.msrp_plan.proofs.Lists.Ranges.{flat_more}
 use Rattle.msrp_plan.proofs.Writes.{wrote-more, wrote-nothing}
 use Rattle.msrp_export.specs.Signals.{last_row}

@@ -1,9 +1,6 @@
-use Rattle.std.proofs.Common.{◌≡◌, sym, subst, ap, ◌∙◌, List, ℕ}
+use Rattle.std.proofs.Common.{ap}
 use Rattle.msrp_plan.proofs.Writes.{wrote-more}
-use Rattle.msrp_plan.specs.Bytes.{Wrote}
-use Rattle.msrp_plan.specs.Queues.{fifo}
-use Rattle.msrp_export.specs.Signals.{holder}
-use Rattle.msrp_export.specs.Vcd.{holder_change, queue_change, rows_before, rows_in}
+use Rattle.msrp_export.specs.Vcd.{rows_before, rows_in}
 use Rattle.msrp_export.proofs.vcd.add_res_change.Goals as goal
 
 pub returns : goal.returns

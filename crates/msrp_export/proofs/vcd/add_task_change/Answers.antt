@@ -1,5 +1,3 @@
-use Rattle.std.proofs.Common.{sym}
-use Rattle.msrp_export.specs.Vcd.{rows_before, rows_in}
 use Rattle.msrp_export.proofs.vcd.add_task_change.Goals as goal
 
 pub returns : goal.returns

@@ -1,7 +1,7 @@
-use Rattle.std.proofs.Common.{◌≡◌, ◌+◌, ◌<◌, ◌^◌, ◌∙◌, ap, sym, subst, arith}
+use Rattle.std.proofs.Common.{◌+◌, ◌∙◌, ap, sym, subst, arith}
 use Rattle.msrp_plan.specs.Bytes.{Wrote}
 use Rattle.msrp_plan.proofs.Writes.{wrote-more}
-use Rattle.msrp_export.specs.Vcd.{fault_text, over, tick_line}
+use Rattle.msrp_export.specs.Vcd.{fault_text, tick_line}
 use Rattle.msrp_export.proofs.Exporting.{are_over}
 use Rattle.msrp_export.proofs.Ticks.{over_is, tick_fits}
 use Rattle.msrp_export.proofs.exporter.Exporter.fault.Goals as goal
