@@ -54,21 +54,21 @@ Follows contents (Err fault) old new result = (result ≡ Err fault) × (new ≡
 shown-as : {W : Type 0} (contents : W → Option (List ℕ)) (found : Result ⊤ Fault) (old new : Sink W) (result : Result ℕ CliFault) (a b : List ℕ) → a ≡ b → WritesShown contents a found old new result → WritesShown contents b found old new result
 shown-as contents found old new result a b same shown = subst (λ text. WritesShown contents text found old new result) same shown
 
-told : {W : Type 0} (contents : W → Option (List ℕ)) (plan : PlanModel) (told : Told) (answer : Result Made CliFault) (old new : Sink W) (result : Result ℕ CliFault)
+in-shown : {W : Type 0} (contents : W → Option (List ℕ)) (plan : PlanModel) (told : Told) (answer : Result Made CliFault) (old new : Sink W) (result : Result ℕ CliFault)
     → reports.IsReported plan told answer → Follows contents answer old new result → TellsReport contents plan told.rows (finding plan told) old new result
-told contents plan told (Ok made) old new result is follows =
+in-shown contents plan told (Ok made) old new result is follows =
     subst (λ f. TellsReport contents plan told.rows f old new result) is.found (shown-as contents made.found old new result made.text.items (report_shown plan told.rows made.found) is.text follows)
-told contents plan told (Err fault) old new result is follows = subst (λ f. TellsReport contents plan told.rows f old new result) is.found follows
+in-shown contents plan told (Err fault) old new result is follows = subst (λ f. TellsReport contents plan told.rows f old new result) is.found follows
 
 -- of a fault nothing is written
 refuses : {W : Type 0} (contents : W → Option (List ℕ)) (answer : Result Made CliFault) (fault : CliFault) (old new : Sink W) (result : Result ℕ CliFault)
     → answer ≡ Err fault → Follows contents answer old new result → (result ≡ Err fault) × (new ≡ old)
 refuses contents (Ok made) fault old new result is follows = absurd (cc)
-refuses contents (Err other) fault old new result is follows = (follows.0 ∙ is, follows.1)
+refuses contents (Err other) fault old new result is follows = let same : other ≡ fault = cc in (follows.0 ∙ ap (λ x. Err x) same, follows.1)
 
 answers : {W : Type 0} (contents : W → Option (List ℕ)) (read : Result PlanModel TextError) (records : List (List (List ℕ))) (answer : Result Made CliFault) (old new : Sink W) (result : Result ℕ CliFault)
     → IsReportOf read records answer → Follows contents answer old new result → ReportAnswers contents read records old new result
-answers contents (Ok plan) records answer old new result is follows = told contents plan (rows_of plan records) answer old new result is follows
+answers contents (Ok plan) records answer old new result is follows = in-shown contents plan (rows_of plan records) answer old new result is follows
 answers contents (Err error) records answer old new result is follows = refuses contents answer (fault_of error) old new result is follows
 
 -- the answer is that of the texts, but for a read that failed and for memory

@@ -28,7 +28,7 @@ Follows contents (Err fault) old new result = Refuses fault old new result
 refuses : {W : Type 0} (contents : W → Option (List ℕ)) (answer : Result Made CliFault) (fault : CliFault) (old new : Sink W) (result : Result ℕ CliFault)
     → answer ≡ Err fault → Follows contents answer old new result → Refuses fault old new result
 refuses contents (Ok made) fault old new result is follows = absurd (cc)
-refuses contents (Err other) fault old new result is follows = (follows.0 ∙ is, follows.1)
+refuses contents (Err other) fault old new result is follows = let same : other ≡ fault = cc in (follows.0 ∙ ap (λ x. Err x) same, follows.1)
 
 drawn : {W : Type 0} (contents : W → Option (List ℕ)) (style : Style) (plan : PlanModel) (rows : List Row) (w : Window) (answer : Result Made CliFault) (old new : Sink W) (result : Result ℕ CliFault)
     → IsPictured style plan rows w answer → Follows contents answer old new result → Draws contents style plan rows (answer_of (verdict plan rows)) w old new result
