@@ -1,16 +1,16 @@
 -- Texts that are too long, and status 5.
-use Rattle.std.proofs.Common.{◌≡◌, ◌<◌, ◌≤◌, ℕ, Bool, true, false, List, length, refl, ap, sym, ◌∙◌, inl, inr, arith}
+use Rattle.std.proofs.Common.{◌≡◌, ℕ, Bool, true, false, List, length, refl, ap, sym, ◌∙◌, inl, inr, arith}
 use mathlib.Core.Bool.{true≢false}
 use Rattle.std.proofs.lemmas.Bool.{cases_lt}
 use Rattle.std.specs.Prelude.{⊤}
 use Rattle.std.specs.declared.result.Result.{Result}
 use Rattle.std.specs.declared.result.Result.TheVariants.{Ok, Err}
 use Rattle.msrp_engine.specs.MadeTexts.{found_in}
-use Rattle.msrp_engine.specs.declared.faults.CliFault.{CliFault}
-use Rattle.msrp_engine.specs.declared.faults.CliFault.TheVariants.{Plan, Trace, Usage, Memory, Threads, Read, Write}
+use Rattle.msrp_faults.specs.declared.faults.CliFault.{CliFault}
+use Rattle.msrp_faults.specs.declared.faults.CliFault.TheVariants.{Plan, Trace, Usage, Memory, Threads, Read, Write}
 use Rattle.msrp_engine.specs.declared.made.Made.{Made}
 use Rattle.msrp_plan.specs.declared.faults.Fault.{Fault}
-use Rattle.msrp_c.specs.Answers.{Answers, Hands, Judges, OrUnread, Tells, status_told, text_in, told_as, unfailed}
+use Rattle.msrp_c.specs.Answers.{Answers, Hands, Judges, OrUnread, Tells, status_told, text_in, unfailed}
 use Rattle.msrp_c.specs.declared.answers.MsrpFound.{MsrpFound}
 
 -- ---- status 5

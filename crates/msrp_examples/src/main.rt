@@ -1,6 +1,7 @@
 //! Programs that use the crates of this repository, one in each module. `docs/LIBRARY.md` leads through them.
 #![tactic(auto)]
 
+mod engine;
 mod judge;
 mod lock;
 mod simulate;
@@ -11,7 +12,8 @@ use std::process::ExitCode;
 
 fn main(rt: HostRuntime) -> ExitCode {
     let mut out = io::writer(&rt);
-    let done = simulate::simulated(rt.alloc(), &mut out)
+    let done = engine::recorded(rt.alloc(), &mut out)
+        .and_then(|()| simulate::simulated(rt.alloc(), &mut out))
         .and_then(|()| judge::judged(&rt, rt.alloc()))
         .and_then(|()| lock::handed_over(&rt, rt.alloc()))
         .and_then(|()| stage::counted(&rt, &rt, rt.alloc()));

@@ -13,11 +13,9 @@ pub fn bus_plan(alloc: Global) -> Result<Plan, PlanFault> {
     let bus = builder.resource("bus")?;
     for (name, core) in [("sensor", CoreId(0)), ("motor", CoreId(1))] {
         builder.task(name, core, 8, 8, 0)?;
-        for step in [Step::Lock(bus), Step::Run(1), Step::Unlock(bus)] {
-            if builder.tasks() > 0 {
-                builder.op(step)?;
-            }
-        }
+        builder.op(Step::Lock(bus))?;
+        builder.op(Step::Run(1))?;
+        builder.op(Step::Unlock(bus))?;
     }
     builder.finish().map_err(|refused| refused.1)
 }
