@@ -1,7 +1,7 @@
 #!/usr/bin/env python3
 """Splits a plan by the bodies that its jobs really had: a task whose jobs took less than their worst case becomes one listed task for each body.
 
-usage: bodies.py [--tick MICROSECONDS] PLAN LOG NEW_PLAN NEW_TRACE
+usage: bodies.py [--tick MICROSECONDS] [--zero MICROSECONDS] PLAN LOG NEW_PLAN NEW_TRACE
 
 The new tasks stand where the task stood, on its core and with its deadline; each releases the jobs that had its body. A body has the locks and unlocks
 of the task, in their order, and at most its units of work between them. A job that did anything else keeps the body of the plan."""
@@ -125,13 +125,15 @@ def divided(tasks, did, ended):
 
 
 def main():
-    parser = argparse.ArgumentParser(description=__doc__)
-    parser.add_argument("--tick", type=int, default=100, help="microseconds of a tick")
+    parser = argparse.ArgumentParser(description=__doc__, formatter_class=argparse.RawDescriptionHelpFormatter)
+    parser.add_argument("--tick", type=int, default=100, help="microseconds of a tick; 100 where none is given")
+    parser.add_argument("--zero", type=int, default=0, help="when tick 0 of the plan begins, in microseconds of the log")
     for name in ("plan", "log", "new_plan", "new_trace"):
         parser.add_argument(name)
     words = parser.parse_args()
-    plan, log = records(words.plan), Log(words.log, words.tick)
+    plan, log = records(words.plan), Log(words.log, words.tick, words.zero)
     cores, ticks = size_of(plan)
+    log.check(plan)
     rows, (head, tasks) = log.rows(cores, ticks), tasks_of(plan)
     out, names = divided(tasks, bodies_of(rows), log.ended)
     with open(words.new_plan, "w") as file:

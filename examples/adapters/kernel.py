@@ -6,6 +6,8 @@ usage: kernel.py [--bug NAME] [--early SEED] PLAN > LOG"""
 import argparse
 import csv
 import random
+import signal
+import sys
 
 TICK = 100
 BUGS = ("spinner-preempted", "last-in-first-out", "lost-wake-up", "ceiling-not-raised", "ceiling-not-lowered", "released-early", "counts-from-one", "wrong-core")
@@ -127,12 +129,18 @@ class Kernel:
 
 
 def main():
-    parser = argparse.ArgumentParser(description=__doc__)
+    parser = argparse.ArgumentParser(description=__doc__, formatter_class=argparse.RawDescriptionHelpFormatter)
     parser.add_argument("--bug", choices=BUGS)
     parser.add_argument("--early", type=int, metavar="SEED", help="jobs leave out some of their work")
     parser.add_argument("plan")
     words = parser.parse_args()
-    cores, ticks, tasks = plan_of(words.plan)
+    signal.signal(signal.SIGPIPE, signal.SIG_DFL)
+    try:
+        cores, ticks, tasks = plan_of(words.plan)
+        if not cores or not tasks:
+            raise ValueError("it has no core or no task")
+    except (OSError, ValueError, IndexError) as wrong:
+        sys.exit(f"kernel.py: {words.plan} is no plan: {wrong}")
     kernel = Kernel(cores, tasks, words.bug, words.early)
     print("time_us,cpu,event,task,job,resource,ahead")
     for tick in range(ticks):

@@ -4,7 +4,8 @@
 usage: sheet.py --tick 100us --for 200ms SHEET > PLAN
 
 The sheet has a line of heads: task, core, period, deadline, offset, does. What a task does is a list, as "run 0.3 ms, lock can, run 100us, unlock can".
-Fields may stand apart by commas, semicolons or tabs, in quotes or not, in UTF-8 or UTF-16; capitals and blanks don't matter; 0,3 ms is 0.3 ms.
+Other columns are left out. A head may have a unit, as "period (ms)", for times without one; an empty offset is 0, and an empty deadline the period.
+Fields may stand apart by commas, semicolons or tabs, in quotes or not, in UTF-8, UTF-16 or Windows-1252; capitals and blanks don't matter; 0,3 ms is 0.3 ms.
 Work is rounded up, since it is a worst case; periods, deadlines and offsets are rounded down."""
 import argparse
 import csv
@@ -16,6 +17,7 @@ from fractions import Fraction
 HEADS = ("task", "core", "period", "deadline", "offset", "does")
 UNITS = {"ns": Fraction(1, 1000), "us": Fraction(1), "µs": Fraction(1), "μs": Fraction(1), "ms": Fraction(1000), "s": Fraction(1000000)}
 TIME = re.compile(r"(\d+(?:[.,]\d+)?)\s*(ns|us|µs|μs|ms|s)", re.I)
+HEAD = re.compile(r"([^(\[]*?)\s*[(\[]\s*(ns|us|µs|μs|ms|s)\s*[)\]]", re.I)
 LONGEST_NAME = 16
 
 
@@ -35,24 +37,37 @@ def microseconds(text, where):
 
 
 def text_of(path):
-    with open(path, "rb") as file:
-        content = file.read()
-    return content.decode("utf-16" if content[:2] in (b"\xff\xfe", b"\xfe\xff") else "utf-8-sig")
+    try:
+        with open(path, "rb") as file:
+            content = file.read()
+    except OSError as lacking:
+        fail(f"{path}: {lacking.strerror}")
+    try:
+        return content.decode("utf-16" if content[:2] in (b"\xff\xfe", b"\xfe\xff") else "utf-8-sig")
+    except UnicodeDecodeError:
+        return content.decode("cp1252", "replace")  # a spreadsheet's plain CSV under Windows
+
+
+def head_of(field):
+    """A head, and the unit that it has for its column."""
+    found = HEAD.fullmatch(field)
+    return (found[1].lower(), found[2]) if found else (field.lower(), "")
 
 
 def lines_of(path):
-    """The lines of the sheet that have a task, each as a record by the heads, with its number."""
+    """The lines of the sheet that have a task, each as a record by the heads, with its number. The units of the columns stand under unit."""
     text = text_of(path)
     first = text.lstrip().split("\n", 1)[0]
     reader, heads = csv.reader(io.StringIO(text, newline=""), delimiter=max(",;\t", key=first.count)), None
     for record in reader:
         fields = [field.strip() for field in record]
         if heads is not None and any(fields):
-            yield reader.line_num, dict(zip(heads, fields + [""] * len(heads)))
+            yield reader.line_num, {**dict(zip(heads, fields + [""] * len(heads))), "unit": units}
         elif any(fields):
-            heads = [field.lower() for field in fields]
+            units = dict(map(head_of, fields))
+            heads = [head_of(field)[0] for field in fields]
             if missing := [head for head in HEADS if head not in heads]:
-                fail(f"the line of heads lacks {', '.join(missing)}")
+                fail(f"the line of heads lacks {', '.join(missing)}; it has {', '.join(filter(None, heads))}")
 
 
 class Sheet:
@@ -73,30 +88,31 @@ class Sheet:
                 tell(f"{kind} {text} is {found}")
         return known[key]
 
-    def ticks(self, text, where, up):
-        exact = microseconds(text, where) / self.tick
+    def ticks(self, text, where, up, unit=""):
+        exact = microseconds(text + unit if text[-1:].isdigit() else text, where) / self.tick
         found = -(-exact.numerator // exact.denominator) if up else exact.numerator // exact.denominator
         if found != exact:
             tell(f"{where}: {text} is {float(exact):g} ticks, rounded {'up' if up else 'down'} to {found}")
         return found
 
-    def actions(self, text, where):
+    def actions(self, text, where, unit):
         """The op records of what a task does."""
         for action in re.split(r"[,;\s]\s*(?=(?:run|lock|unlock)\s)", text, flags=re.I):
             what, _, of = action.strip().rstrip(",;").partition(" ")
             if what.lower() not in ("run", "lock", "unlock") or not of.strip():
                 fail(f"{where}: {action.strip()!r} is neither run TIME, lock NAME nor unlock NAME")
-            yield "op", what.lower(), self.ticks(of, where, up=True) if what.lower() == "run" else self.name("resource", of.strip())
+            yield "op", what.lower(), self.ticks(of.strip(), where, up=True, unit=unit) if what.lower() == "run" else self.name("resource", of.strip())
 
     def task(self, number, line):
         where = f"line {number}, {line['task']}"
         core = int(line["core"]) if line["core"].isdigit() else fail(f"{where}: {line['core']!r} is no core's number")
-        times = [self.ticks(line[head] or ("0us" if head == "offset" else ""), f"{where}, {head}", up=False) for head in HEADS[2:5]]
-        return [("task", self.name("task", line["task"]), core, *times), *self.actions(line["does"], where)]
+        columns = "period", "deadline" if line["deadline"] else "period", "offset"
+        times = [self.ticks(line[column] or ("0us" if column == "offset" else ""), f"{where}, {column}", False, line["unit"][column]) for column in columns]
+        return [("task", self.name("task", line["task"]), core, *times), *self.actions(line["does"], where, line["unit"]["does"])]
 
 
 def main():
-    parser = argparse.ArgumentParser(description=__doc__)
+    parser = argparse.ArgumentParser(description=__doc__, formatter_class=argparse.RawDescriptionHelpFormatter)
     parser.add_argument("--tick", required=True, help="how long a tick is, as 100us")
     parser.add_argument("--for", dest="whole", required=True, help="how long the plan is, as 200ms")
     parser.add_argument("sheet")

@@ -1,7 +1,6 @@
 //! Judges a trace that lies in memory, by the engine of `msrp audit`.
 ghost use Rattle.std.specs.Prelude.{◌≡◌, Ok, true};
-ghost use Rattle.msrp_engine.specs.Findings.{finding_of};
-ghost use Rattle.msrp_text.specs.Reading.{csv_records, plan_of};
+ghost use Rattle.msrp_examples.specs.Legal.{TellsRun};
 
 use msrp_engine::{CliFault, audit_text};
 use msrp_plan::bytes::{Sink, Source};
@@ -13,13 +12,14 @@ const PLAN: &str = "msrp,1\ncores,1\nticks,3\ntask,pump,0,3,3,0\nop,run,2\n";
 const SEEN: &str = "msrp-trace,1,1,3\n0,0,run,pump,0,-\n1,0,idle,-,-,-\n2,0,run,pump,0,-\n";
 
 /// Whether the trace is a legal run of the plan. The line that `msrp audit` prints is written to `out`.
+#[tactic(auto, using(crate::proofs::Legal::good_tells))]
 pub fn is_legal<W: Write>(
     alloc: Global,
     plan: &[u8],
     trace: &[u8],
     out: &mut W,
 ) -> Result<bool, CliFault>
-    ensures { result ≡ Ok true → finding_of (plan_of (csv_records plan.now)) (csv_records trace.now) ≡ Ok (Ok tt) }
+    ensures { result ≡ Ok true → TellsRun plan.now trace.now }
 {
     let mut plan = Source::new(plan);
     let mut trace = Source::new(trace);

@@ -1,28 +1,43 @@
 -- What is written of a trace, row by row.
-use Rattle.std.specs.Prelude.{ℕ, List, [], ◌∷◌, ◌++◌, take, slice_get, ◌-◌, Ok, Err, ⊤, ◌≡◌}
+use Rattle.std.specs.Prelude.{◌≡◌, ℕ, ◌<◌, ◌+◌, ◌-◌, ◌*◌, List, [], ◌∷◌, ◌++◌, if◌then◌else◌, length, nat_lt, slice_get, take, Ok, Err, ⊤}
 use Rattle.std.specs.declared.result.Result.{Result}
 use Rattle.msrp_plan.specs.Plan.{PlanModel}
+use Rattle.msrp_plan.specs.WellFormed.{IsPlan}
 use Rattle.msrp_plan.specs.declared.faults.Fault.{Fault}
 use Rattle.msrp_plan.specs.declared.rows.Row.{Row}
-use Rattle.msrp_export.specs.Lasts.{AreLasts, last_row, last_tick}
+use Rattle.msrp_export.specs.Tells.{Tells}
+use Rattle.msrp_export.specs.Vcd.{end_text, fault_text, head_text, over, rows_before, rows_in, tick_text}
 use Rattle.msrp_export.specs.declared.exporter.Exporter.{Exporter}
-use Rattle.msrp_export.specs.Vcd as vcd
+use Rattle.msrp_export.specs.declared.recent.Recent.{Recent}
 
--- the rows that follow pre, each by the tick of the last one and by the last one of its core
+-- what a row adds behind those before it: with the last row of a tick the tick, and what changes in it
+abbrev pub row_text : PlanModel → List Row → Row → List ℕ
+row_text plan pre r = if nat_lt (over plan pre) (over plan (pre ++ r ∷ [])) then tick_text plan (pre ++ r ∷ []) (over plan pre) else []
+
+-- the rows that follow pre
 abbrev pub rows_from : PlanModel → List Row → List Row → List ℕ
 rows_from plan pre [] = []
-rows_from plan pre (r ∷ rows) = vcd.row_text plan (last_tick pre) (last_row r.core.0 pre) r ++ rows_from plan (pre ++ r ∷ []) rows
+rows_from plan pre (r ∷ rows) = row_text plan pre r ++ rows_from plan (pre ++ r ∷ []) rows
 
 -- the head, and rows from the first on
 abbrev pub part_text : PlanModel → List Row → List ℕ
-part_text plan rows = vcd.head_text plan ++ rows_from plan [] rows
+part_text plan rows = head_text plan ++ rows_from plan [] rows
 
 -- what is written of rows with that verdict: all of a legal run, and else those before the first that breaks a rule, and the fault
 unfoldable pub export_text : PlanModel → List Row → Result ⊤ Fault → List ℕ
-export_text plan rows (Ok good) = part_text plan rows ++ vcd.end_text plan
-export_text plan rows (Err f) = part_text plan (take (f.row - 1) rows) ++ vcd.fault_text plan f (slice_get rows (f.row - 1))
+export_text plan rows (Ok good) = part_text plan rows ++ end_text plan
+export_text plan rows (Err f) = part_text plan (take (f.row - 1) rows) ++ fault_text plan (take (f.row - 1) rows) f.rule (slice_get rows (f.row - 1))
 
--- these rows were written
+-- ---- what is kept
+-- of rows with a tick that has this number: those before the tick before, those before it, and those up to it
+pub record TellsTick (plan : PlanModel) (rows : List Row) (tick : ℕ) (s : Recent) : Type 0 where
+  pub earlier : Tells s.earlier (rows_before plan rows (tick - 1))
+  pub before : Tells s.before (rows_before plan rows tick)
+  pub latest : Tells s.latest (rows_in plan rows tick)
+
+-- these rows were taken
 pub record HasExported (e : Exporter) (rows : List Row) : Type 0 where
-  pub lasts : AreLasts e.lasts rows
-  pub tick : e.tick ≡ last_tick rows
+  pub plan : IsPlan e.plan.now
+  pub size : length rows ≡ e.tick * e.plan.now.cores + e.turns
+  pub turns : e.turns < e.plan.now.cores
+  pub told : TellsTick e.plan.now rows e.tick e.recent

@@ -1,4 +1,5 @@
 pub mod Words
-pub mod Lasts
+pub mod Signals
 pub mod Vcd
+pub mod Tells
 pub mod Exports

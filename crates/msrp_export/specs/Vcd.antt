@@ -1,20 +1,28 @@
--- The value change dump (IEEE 1364) of rows. Signals are strings, as GTKWave reads them: of each core what it does (k), for which
--- job (j) and on which resource (g); and the
--- rule that is broken (f), and the row that breaks it (r).
--- A signal's name is its letter and a number. One unit of time is one tick.
-use Rattle.std.specs.Prelude.{ℕ, List, [], ◌++◌, Bool, true, false, not, ◌==◌, codes, decimal, Option, Some, None, if◌then◌else◌, ◌+◌, ◌-◌, ◌/◌}
+-- The value change dump (IEEE 1364) of rows: signals, and what they become. A signal's name is its letter and a number, and one unit of
+-- time is one tick. Of each core it says what it does (k), for which job (j) and on which resource (g); of each task its state (t); of
+-- each resource its holder (h) and how many jobs stand in its queue (q); and the rule that is broken (f), and the row that breaks it (r).
+-- Strings are as GTKWave reads them, and numbers are reals.
+use Rattle.std.specs.Prelude.{ℕ, List, [], ◌++◌, Bool, false, not, nat_eq, nat_lt, ◌==◌, ◌&&◌, codes, decimal, length, take, Option, Some, None, if◌then◌else◌, ◌+◌, ◌-◌, ◌*◌, ◌/◌}
 use Rattle.std.specs.List.{flat_map, range_with_len}
 use Rattle.msrp_plan.specs.Plan.{PlanModel}
 use Rattle.msrp_plan.specs.Actions.{same_res}
+use Rattle.msrp_plan.specs.Queues.{fifo}
 use Rattle.msrp_plan.specs.Runs.{same_choice}
-use Rattle.msrp_plan.specs.declared.faults.Fault.{Fault}
+use Rattle.msrp_plan.specs.declared.faults.Rule.{Rule}
+use Rattle.msrp_plan.specs.declared.ids.JobId.{JobId}
 use Rattle.msrp_plan.specs.declared.rows.Row.{Row}
-use Rattle.msrp_export.specs.Words.{dash, job_text, kind_text, res_text, rule_text, same_kind}
+use Rattle.msrp_export.specs.Signals.{holder, last_row, task_state}
+use Rattle.msrp_export.specs.Words.{dash, job_text, kind_text, res_name, res_text, rule_text, same_kind, same_state, state_text, task_name}
+use Rattle.msrp_export.specs.declared.states.TaskState.{TaskState}
 
 -- ---- lines
 -- the signal has this value from here on
 abbrev pub value_line : List ℕ → List ℕ → ℕ → List ℕ
 value_line value letter n = codes "s" ++ value ++ codes " " ++ letter ++ decimal n ++ codes "\n"
+
+-- a signal has this number from here on
+abbrev pub number_line : ℕ → List ℕ → ℕ → List ℕ
+number_line number letter n = codes "r" ++ decimal number ++ codes " " ++ letter ++ decimal n ++ codes "\n"
 
 -- a tick begins
 abbrev pub tick_line : ℕ → List ℕ
@@ -41,42 +49,98 @@ core_lines plan before r =
     ++ (if keeps_job before r then [] else value_line (job_text plan r.job) (codes "j") r.core.0)
     ++ (if keeps_res before r then [] else value_line (res_text plan r.res) (codes "g") r.core.0)
 
--- the last row, if there is one, is of another tick
-abbrev pub begins_tick : Option ℕ → Row → Bool
-begins_tick None r = true
-begins_tick (Some t) r = not (t == r.tick)
+-- of a core whose last row was one and now is another, if it has any
+abbrev pub core_change : PlanModel → Option Row → Option Row → List ℕ
+core_change plan before None = []
+core_change plan before (Some r) = core_lines plan before r
 
--- a row, where the last row of all is of this tick, and this one is the last of its core: its tick, if it begins one, and what changes
-unfoldable pub row_text : PlanModel → Option ℕ → Option Row → Row → List ℕ
-row_text plan tick before r = (if begins_tick tick r then tick_line r.tick else []) ++ core_lines plan before r
+-- ---- ticks
+-- how many ticks are over
+abbrev pub over : PlanModel → List Row → ℕ
+over plan rows = length rows / plan.cores
+
+-- the rows before a tick
+abbrev pub rows_before : PlanModel → List Row → ℕ → List Row
+rows_before plan rows tick = take (tick * plan.cores) rows
+
+-- the rows of ticks up to this one
+abbrev pub rows_in : PlanModel → List Row → ℕ → List Row
+rows_in plan rows tick = rows_before plan rows (tick + 1)
+
+-- what a task does in a tick, and what it did in the one before
+abbrev pub state_in : PlanModel → List Row → ℕ → ℕ → TaskState
+state_in plan rows t tick = task_state plan (rows_before plan rows tick) (rows_in plan rows tick) tick t
+
+abbrev pub state_before : PlanModel → List Row → ℕ → ℕ → TaskState
+state_before plan rows t tick = task_state plan (rows_before plan rows (tick - 1)) (rows_before plan rows tick) (tick - 1) t
+
+-- in the first tick each signal has a value, and later where it isn't that of the tick before
+abbrev pub unless_same : ℕ → Bool → List ℕ → List ℕ
+unless_same tick same line = if not (nat_eq tick 0) && same then [] else line
+
+abbrev pub state_change : ℕ → ℕ → TaskState → TaskState → List ℕ
+state_change tick t before now = unless_same tick (same_state before now) (value_line (state_text now) (codes "t") t)
+
+abbrev pub task_change : PlanModel → List Row → ℕ → ℕ → List ℕ
+task_change plan rows tick t = state_change tick t (state_before plan rows t tick) (state_in plan rows t tick)
+
+abbrev pub holder_change : PlanModel → ℕ → ℕ → Option JobId → Option JobId → List ℕ
+holder_change plan tick g before now = unless_same tick (same_choice before now) (value_line (job_text plan now) (codes "h") g)
+
+abbrev pub queue_change : ℕ → ℕ → ℕ → ℕ → List ℕ
+queue_change tick g before now = unless_same tick (before == now) (number_line now (codes "q") g)
+
+abbrev pub res_change : PlanModel → List Row → ℕ → ℕ → List ℕ
+res_change plan rows tick g =
+    holder_change plan tick g (holder g (rows_before plan rows tick)) (holder g (rows_in plan rows tick))
+    ++ queue_change tick g (length (fifo g (rows_before plan rows tick))) (length (fifo g (rows_in plan rows tick)))
+
+-- a tick, and what changes in it
+unfoldable pub tick_text : PlanModel → List Row → ℕ → List ℕ
+tick_text plan rows tick =
+    tick_line tick
+    ++ flat_map (λ c. core_change plan (last_row c (rows_before plan rows tick)) (last_row c (rows_in plan rows tick))) (range_with_len 0 plan.cores)
+    ++ flat_map (task_change plan rows tick) (range_with_len 0 (length plan.tasks))
+    ++ flat_map (res_change plan rows tick) (range_with_len 0 (length plan.resources))
 
 -- ---- head and end
--- the signals of a core
+-- the signals of a core, of a task and of a resource
 abbrev pub core_head : ℕ → List ℕ
 core_head c =
-    codes "$scope module core_" ++ decimal c ++ codes " $end\n$var string 1 k" ++ decimal c ++ codes " does $end\n$var string 1 j" ++ decimal c
-    ++ codes " job $end\n$var string 1 g" ++ decimal c ++ codes " resource $end\n$upscope $end\n"
+    codes "$var string 1 k" ++ decimal c ++ codes " core_" ++ decimal c ++ codes "_does $end\n$var string 1 j" ++ decimal c ++ codes " core_" ++ decimal c ++ codes "_job $end\n$var string 1 g" ++ decimal c
+    ++ codes " core_" ++ decimal c ++ codes "_resource $end\n"
+
+abbrev pub task_head : PlanModel → ℕ → List ℕ
+task_head plan t = codes "$var string 1 t" ++ decimal t ++ codes " task_" ++ task_name plan t ++ codes " $end\n"
+
+abbrev pub res_head : PlanModel → ℕ → List ℕ
+res_head plan g =
+    codes "$var string 1 h" ++ decimal g ++ codes " resource_" ++ res_name plan g ++ codes "_holder $end\n$var real 64 q" ++ decimal g ++ codes " resource_" ++ res_name plan g ++ codes "_queue $end\n"
 
 unfoldable pub head_text : PlanModel → List ℕ
 head_text plan =
     codes "$version msrp $end\n$comment One unit of time is one tick. $end\n$timescale 1 us $end\n$scope module msrp $end\n$var string 1 f0 fault $end\n$var string 1 r0 faulty_row $end\n"
     ++ flat_map core_head (range_with_len 0 plan.cores)
+    ++ flat_map (task_head plan) (range_with_len 0 (length plan.tasks))
+    ++ flat_map (res_head plan) (range_with_len 0 (length plan.resources))
     ++ codes "$upscope $end\n$enddefinitions $end\n"
-
--- the tick in which a row is due, by its number, counted from 1
-abbrev pub due_tick : PlanModel → ℕ → ℕ
-due_tick plan row = (row - 1) / plan.cores
 
 -- the row that breaks the rule, if there is one: core, kind, job and resource
 abbrev pub faulty_text : PlanModel → Option Row → List ℕ
 faulty_text plan None = dash
 faulty_text plan (Some r) = decimal r.core.0 ++ codes "," ++ kind_text r.kind ++ codes "," ++ job_text plan r.job ++ codes "," ++ res_text plan r.res
 
--- the rule that is broken, and by which row, in the tick in which that was due, which then ends
-unfoldable pub fault_text : PlanModel → Fault → Option Row → List ℕ
-fault_text plan f r =
-    tick_line (due_tick plan f.row) ++ value_line (rule_text f.rule) (codes "f") 0 ++ value_line (faulty_text plan r) (codes "r") 0
-    ++ tick_line (due_tick plan f.row + 1)
+-- the tick behind these rows, with those of them that are in it
+abbrev pub begun_text : PlanModel → List Row → List ℕ
+begun_text plan rows = if nat_lt (over plan rows * plan.cores) (length rows) then tick_text plan rows (over plan rows) else tick_line (over plan rows)
+
+-- the rule that is broken, and by which row
+abbrev pub broken_text : PlanModel → Rule → Option Row → List ℕ
+broken_text plan rule r = value_line (rule_text rule) (codes "f") 0 ++ value_line (faulty_text plan r) (codes "r") 0
+
+-- the tick in which a rule is broken behind these rows, which rule it is, and by which row; the tick then ends
+unfoldable pub fault_text : PlanModel → List Row → Rule → Option Row → List ℕ
+fault_text plan rows rule r = begun_text plan rows ++ broken_text plan rule r ++ tick_line (over plan rows + 1)
 
 -- the last tick ends
 unfoldable pub end_text : PlanModel → List ℕ

@@ -7,6 +7,8 @@ use Rattle.msrp_plan.specs.declared.ids.JobId.{JobId}
 use Rattle.msrp_plan.specs.declared.ids.ResId.{ResId}
 use Rattle.msrp_plan.specs.declared.rows.Kind.{Kind}
 use Rattle.msrp_plan.specs.declared.rows.Kind.TheVariants.{Idle, Run, Lock, Unlock, Take, Queue, Spin, Grant, Release}
+use Rattle.msrp_export.specs.declared.states.TaskState.{TaskState}
+use Rattle.msrp_export.specs.declared.states.TaskState.TheVariants.{Unreleased, Ready, Running, Holding, Spinning, Late}
 
 -- the word for a kind of row
 unfoldable pub kind_text : Kind → List ℕ
@@ -41,6 +43,24 @@ rule_text A4 = codes "A4"
 rule_text A5 = codes "A5"
 rule_text A6 = codes "A6"
 rule_text A7 = codes "A7"
+
+-- the word for what a task does
+unfoldable pub state_text : TaskState → List ℕ
+state_text Unreleased = codes "unreleased"
+state_text Ready = codes "ready"
+state_text Running = codes "running"
+state_text Holding = codes "holding"
+state_text Spinning = codes "spinning"
+state_text Late = codes "late"
+
+abbrev pub same_state : TaskState → TaskState → Bool
+same_state Unreleased Unreleased = true
+same_state Ready Ready = true
+same_state Running Running = true
+same_state Holding Holding = true
+same_state Spinning Spinning = true
+same_state Late Late = true
+same_state _ _ = false
 
 -- what stands where there is no job, no resource or no holder
 unfoldable pub dash : List ℕ

@@ -1,10 +1,14 @@
 //! Traces in the formats of other tools: a value change dump (VCD, IEEE 1364), as GTKWave opens it.
 //!
-//! A plan, the rows of a trace and their verdict in, a text out: [`write_export`].
+//! An [`Exporter`] takes the rows of a trace as they come, and writes what each tick changes of the signals of cores, tasks and
+//! resources. It keeps no row but the last of each core.
 #![tactic(auto)]
 
 mod exporter;
+mod recent;
+mod standing;
+mod states;
 mod vcd;
 mod words;
 
-pub use exporter::write_export;
+pub use exporter::Exporter;

@@ -1,17 +1,29 @@
-//! A value change dump: its head, the lines of a row, and its end.
-ghost use Rattle.std.specs.Prelude.{◌≡◌, ◌++◌, [], codes, if◌then◌else◌};
+//! A value change dump: its head, the lines of a tick, and its end.
+ghost use Rattle.std.specs.Prelude.{◌≡◌, ◌==◌, ◌<◌, ◌&&◌, [], ◌++◌, ℕ, List, codes, if◌then◌else◌, length, nat_eq, nat_lt, not};
 ghost use Rattle.std.specs.List.{flat_map, range_with_len};
 ghost use Rattle.msrp_plan.specs.Bytes.{Wrote};
-ghost use Rattle.msrp_export.specs.Vcd.{begins_tick, core_head, core_lines, end_text, fault_text, faulty_text, head_text, keeps_job, keeps_kind, keeps_res, row_text, tick_line, value_line};
-ghost use Rattle.msrp_export.specs.Words.{job_text, kind_text, res_text};
+ghost use Rattle.msrp_plan.specs.Limits.{most_cores, most_resources};
+ghost use Rattle.msrp_plan.specs.Runs.{same_choice};
+ghost use Rattle.msrp_plan.specs.WellFormed.{IsPlan};
+ghost use Rattle.msrp_plan.specs.declared.rows.Row.{Row as TraceRow};
+ghost use Rattle.msrp_export.specs.Exports.{TellsTick};
+ghost use Rattle.msrp_export.specs.Signals.{last_row};
+ghost use Rattle.msrp_export.specs.Tells.{Tells};
+ghost use Rattle.msrp_export.specs.Vcd.{broken_text, core_change, core_head, core_lines, end_text, faulty_text, head_text, holder_change, keeps_job, keeps_kind, keeps_res, number_line, queue_change, res_change, res_head, rows_before, rows_in, state_change, task_change, task_head, tick_line, tick_text, value_line};
+ghost use Rattle.msrp_export.specs.Words.{job_text, kind_text, res_text, rule_text, same_state};
 
-use crate::words::{add_job, add_number, kind_word, res_or_dash, rule_word};
+use crate::recent::Recent;
+use crate::standing::Standing;
+use crate::states::{TaskState, task_state};
+use crate::words::{
+    add_job, add_number, kind_word, res_or_dash, res_word, rule_word, state_word, task_word,
+};
 use msrp_plan::bytes::Sink;
-use msrp_plan::{Fault, Plan, Row};
+use msrp_plan::{CoreId, JobId, Plan, ResId, Row, Rule, TaskId};
 use std::io::Write;
 
-// A tick begins.
-fn add_tick<W: Write>(out: &mut Sink<W>, tick: u32)
+/// A tick begins.
+pub(crate) fn add_tick<W: Write>(out: &mut Sink<W>, tick: u32)
     ensures { Wrote W.contents out.old out.new (tick_line tick) }
 {
     out.add(b"#");
@@ -31,15 +43,33 @@ fn add_value<W: Write>(out: &mut Sink<W>, value: &[u8], letter: &[u8], number: u
     out.add(b"\n");
 }
 
-// The job of a core from here on.
-fn add_job_value<W: Write>(out: &mut Sink<W>, plan: &Plan, row: Row)
-    ensures { Wrote W.contents out.old out.new (value_line (job_text plan.now row.job) (codes "j") row.core.0) }
+// The same of a number.
+fn add_number_value<W: Write>(out: &mut Sink<W>, value: u32, letter: &[u8], number: u32)
+    ensures { Wrote W.contents out.old out.new (number_line value letter.now number) }
+{
+    out.add(b"r");
+    add_number(out, value);
+    out.add(b" ");
+    out.add(letter);
+    add_number(out, number);
+    out.add(b"\n");
+}
+
+// A signal has a job as its value from here on.
+fn add_job_value<W: Write>(
+    out: &mut Sink<W>,
+    plan: &Plan,
+    job: Option<JobId>,
+    letter: &[u8],
+    number: u32,
+)
+    ensures { Wrote W.contents out.old out.new (value_line (job_text plan.now job) letter.now number) }
 {
     out.add(b"s");
-    add_job(out, plan, row.job);
+    add_job(out, plan, job);
     out.add(b" ");
-    out.add(b"j");
-    add_number(out, row.core.0);
+    out.add(letter);
+    add_number(out, number);
     out.add(b"\n");
 }
 
@@ -84,12 +114,12 @@ fn add_job_change<W: Write>(out: &mut Sink<W>, plan: &Plan, before: Option<Row>,
     ensures { Wrote W.contents out.old out.new (if keeps_job before row then [] else value_line (job_text plan.now row.job) (codes "j") row.core.0) }
 {
     if !keeps_job(before, row) {
-        add_job_value(out, plan, row);
+        add_job_value(out, plan, row.job, b"j", row.core.0);
     }
 }
 
 // The resource of a core's row, if it changes.
-fn add_res_change<W: Write>(out: &mut Sink<W>, plan: &Plan, before: Option<Row>, row: Row)
+fn add_on_change<W: Write>(out: &mut Sink<W>, plan: &Plan, before: Option<Row>, row: Row)
     ensures { Wrote W.contents out.old out.new (if keeps_res before row then [] else value_line (res_text plan.now row.res) (codes "g") row.core.0) }
 {
     if !keeps_res(before, row) {
@@ -97,61 +127,165 @@ fn add_res_change<W: Write>(out: &mut Sink<W>, plan: &Plan, before: Option<Row>,
     }
 }
 
-// What a row changes of its core's signals.
+// What a row changes of its core's signals, where this is the row before.
 fn add_core<W: Write>(out: &mut Sink<W>, plan: &Plan, before: Option<Row>, row: Row)
     ensures { Wrote W.contents out.old out.new (core_lines plan.now before row) }
 {
     add_kind_change(out, before, row);
     add_job_change(out, plan, before, row);
-    add_res_change(out, plan, before, row);
+    add_on_change(out, plan, before, row);
 }
 
-fn begins_tick(tick: Option<u32>, row: Row) -> bool
-    ensures { result ≡ begins_tick tick row }
+// What a core's last row changes, where this was the last one.
+fn add_core_change<W: Write>(out: &mut Sink<W>, plan: &Plan, before: Option<Row>, now: Option<Row>)
+    ensures { Wrote W.contents out.old out.new (core_change plan.now before now) }
 {
-    match tick {
-        None => true,
-        Some(tick) => tick != row.tick,
+    if let Some(row) = now {
+        add_core(out, plan, before, row);
     }
 }
 
-// The row's tick, where it begins one.
-fn add_begin<W: Write>(out: &mut Sink<W>, tick: Option<u32>, row: Row)
-    ensures { Wrote W.contents out.old out.new (if begins_tick tick row then tick_line row.tick else []) }
+// What a tick changes of the cores.
+fn add_cores<W: Write>(out: &mut Sink<W>, plan: &Plan, before: &Standing, now: &Standing)
+    ensures { (earlier rows : List TraceRow) → Tells before.now earlier → Tells now.now rows
+        → Wrote W.contents out.old out.new (flat_map (λ c. core_change plan.now (last_row c earlier) (last_row c rows)) (range_with_len 0 plan.now.cores)) }
 {
-    if begins_tick(tick, row) {
-        add_tick(out, row.tick);
+    for core in 0..plan.cores() {
+        let earlier = before.last(CoreId(core));
+        let last = now.last(CoreId(core));
+        add_core_change(out, plan, earlier, last);
     }
 }
 
-/// Writes a row, where the last row of all is of this tick, and this one is the last of its core.
-#[tactic(auto, unfolding(crate::specs::Vcd::row_text))]
-pub(crate) fn add_row<W: Write>(
+fn same_state(before: TaskState, now: TaskState) -> bool
+    ensures { result ≡ same_state before now }
+{
+    before == now
+}
+
+fn add_state_change<W: Write>(
+    out: &mut Sink<W>,
+    tick: u32,
+    task: TaskId,
+    before: TaskState,
+    now: TaskState,
+)
+    ensures { Wrote W.contents out.old out.new (state_change tick task.0 before now) }
+{
+    if tick == 0 || !same_state(before, now) {
+        add_value(out, state_word(now), b"t", task.0);
+    }
+}
+
+// What a tick changes of a task.
+fn add_task_change<W: Write>(
     out: &mut Sink<W>,
     plan: &Plan,
-    tick: Option<u32>,
-    before: Option<Row>,
-    row: Row,
+    recent: &Recent,
+    tick: u32,
+    task: TaskId,
 )
-    ensures { Wrote W.contents out.old out.new (row_text plan.now tick before row) }
+    requires plan { IsPlan plan.now }
+    requires task { task.0 < length plan.now.tasks }
+    ensures { (rows : List TraceRow) → TellsTick plan.now rows tick recent.now → Wrote W.contents out.old out.new (task_change plan.now rows tick task.0) }
 {
-    add_begin(out, tick, row);
-    add_core(out, plan, before, row);
+    let now = task_state(plan, &recent.before, &recent.latest, tick, task);
+    let before = task_state(
+        plan,
+        &recent.earlier,
+        &recent.before,
+        tick.saturating_sub(1),
+        task,
+    );
+    add_state_change(out, tick, task, before, now);
+}
+
+// What a tick changes of the tasks.
+fn add_tasks<W: Write>(out: &mut Sink<W>, plan: &Plan, recent: &Recent, tick: u32)
+    ensures { (rows : List TraceRow) → TellsTick plan.now rows tick recent.now → Wrote W.contents out.old out.new (flat_map (task_change plan.now rows tick) (range_with_len 0 (length plan.now.tasks))) }
+{
+    for task in 0..plan.tasks() {
+        add_task_change(out, plan, recent, tick, TaskId(task));
+    }
+}
+
+fn same_choice(before: Option<JobId>, now: Option<JobId>) -> bool
+    ensures { result ≡ same_choice before now }
+{
+    before == now
+}
+
+fn add_holder_change<W: Write>(
+    out: &mut Sink<W>,
+    plan: &Plan,
+    tick: u32,
+    res: ResId,
+    before: Option<JobId>,
+    now: Option<JobId>,
+)
+    ensures { Wrote W.contents out.old out.new (holder_change plan.now tick res.0 before now) }
+{
+    if tick == 0 || !same_choice(before, now) {
+        add_job_value(out, plan, now, b"h", res.0);
+    }
+}
+
+fn add_queue_change<W: Write>(out: &mut Sink<W>, tick: u32, res: ResId, before: u32, now: u32)
+    ensures { Wrote W.contents out.old out.new (queue_change tick res.0 before now) }
+{
+    if tick == 0 || before != now {
+        add_number_value(out, now, b"q", res.0);
+    }
+}
+
+// What a tick changes of a resource.
+fn add_res_change<W: Write>(out: &mut Sink<W>, plan: &Plan, recent: &Recent, tick: u32, res: ResId)
+    requires { res.0 < most_resources }
+    ensures { (rows : List TraceRow) → TellsTick plan.now rows tick recent.now → Wrote W.contents out.old out.new (res_change plan.now rows tick res.0) }
+{
+    let before = recent.before.use_of(res);
+    let now = recent.latest.use_of(res);
+    add_holder_change(out, plan, tick, res, before.holder, now.holder);
+    add_queue_change(out, tick, res, before.queued(), now.queued());
+}
+
+// What a tick changes of the resources.
+fn add_resources<W: Write>(out: &mut Sink<W>, plan: &Plan, recent: &Recent, tick: u32)
+    ensures { (rows : List TraceRow) → TellsTick plan.now rows tick recent.now → Wrote W.contents out.old out.new (flat_map (res_change plan.now rows tick) (range_with_len 0 (length plan.now.resources))) }
+{
+    for res in 0..plan.resources() {
+        add_res_change(out, plan, recent, tick, ResId(res));
+    }
+}
+
+/// Writes a tick, and what changes in it.
+#[tactic(auto, unfolding(crate::specs::Vcd::tick_text))]
+pub(crate) fn add_changes<W: Write>(out: &mut Sink<W>, plan: &Plan, recent: &Recent, tick: u32)
+    ensures { (rows : List TraceRow) → TellsTick plan.now rows tick recent.now → Wrote W.contents out.old out.new (tick_text plan.now rows tick) }
+{
+    add_tick(out, tick);
+    add_cores(out, plan, &recent.before, &recent.latest);
+    add_tasks(out, plan, recent, tick);
+    add_resources(out, plan, recent, tick);
 }
 
 // The signals of a core.
 fn add_core_head<W: Write>(out: &mut Sink<W>, core: u32)
     ensures { Wrote W.contents out.old out.new (core_head core) }
 {
-    out.add(b"$scope module core_");
+    out.add(b"$var string 1 k");
     add_number(out, core);
-    out.add(b" $end\n$var string 1 k");
+    out.add(b" core_");
     add_number(out, core);
-    out.add(b" does $end\n$var string 1 j");
+    out.add(b"_does $end\n$var string 1 j");
     add_number(out, core);
-    out.add(b" job $end\n$var string 1 g");
+    out.add(b" core_");
     add_number(out, core);
-    out.add(b" resource $end\n$upscope $end\n");
+    out.add(b"_job $end\n$var string 1 g");
+    add_number(out, core);
+    out.add(b" core_");
+    add_number(out, core);
+    out.add(b"_resource $end\n");
 }
 
 // The signals of all cores.
@@ -160,6 +294,50 @@ fn add_core_heads<W: Write>(out: &mut Sink<W>, plan: &Plan)
 {
     for core in 0..plan.cores() {
         add_core_head(out, core);
+    }
+}
+
+// The signal of a task.
+fn add_task_head<W: Write>(out: &mut Sink<W>, plan: &Plan, task: TaskId)
+    ensures { Wrote W.contents out.old out.new (task_head plan.now task.0) }
+{
+    out.add(b"$var string 1 t");
+    add_number(out, task.0);
+    out.add(b" task_");
+    out.add(task_word(plan, task));
+    out.add(b" $end\n");
+}
+
+// The signals of all tasks.
+fn add_task_heads<W: Write>(out: &mut Sink<W>, plan: &Plan)
+    ensures { Wrote W.contents out.old out.new (flat_map (task_head plan.now) (range_with_len 0 (length plan.now.tasks))) }
+{
+    for task in 0..plan.tasks() {
+        add_task_head(out, plan, TaskId(task));
+    }
+}
+
+// The signals of a resource.
+fn add_res_head<W: Write>(out: &mut Sink<W>, plan: &Plan, res: ResId)
+    ensures { Wrote W.contents out.old out.new (res_head plan.now res.0) }
+{
+    out.add(b"$var string 1 h");
+    add_number(out, res.0);
+    out.add(b" resource_");
+    out.add(res_word(plan, res));
+    out.add(b"_holder $end\n$var real 64 q");
+    add_number(out, res.0);
+    out.add(b" resource_");
+    out.add(res_word(plan, res));
+    out.add(b"_queue $end\n");
+}
+
+// The signals of all resources.
+fn add_res_heads<W: Write>(out: &mut Sink<W>, plan: &Plan)
+    ensures { Wrote W.contents out.old out.new (flat_map (res_head plan.now) (range_with_len 0 (length plan.now.resources))) }
+{
+    for res in 0..plan.resources() {
+        add_res_head(out, plan, ResId(res));
     }
 }
 
@@ -172,6 +350,8 @@ pub(crate) fn add_head<W: Write>(out: &mut Sink<W>, plan: &Plan)
         b"$version msrp $end\n$comment One unit of time is one tick. $end\n$timescale 1 us $end\n$scope module msrp $end\n$var string 1 f0 fault $end\n$var string 1 r0 faulty_row $end\n",
     );
     add_core_heads(out, plan);
+    add_task_heads(out, plan);
+    add_res_heads(out, plan);
     out.add(b"$upscope $end\n$enddefinitions $end\n");
 }
 
@@ -206,16 +386,12 @@ fn add_faulty_value<W: Write>(out: &mut Sink<W>, plan: &Plan, row: Option<Row>)
     out.add(b"\n");
 }
 
-/// Writes a fault, with the row that has it, if there is one, and the end of its tick.
-#[tactic(auto, unfolding(crate::specs::Vcd::fault_text))]
-pub(crate) fn add_fault<W: Write>(out: &mut Sink<W>, plan: &Plan, fault: Fault, row: Option<Row>)
-    ensures { Wrote W.contents out.old out.new (fault_text plan.now fault row) }
+/// Writes the rule that is broken, and by which row, if there is one.
+pub(crate) fn add_broken<W: Write>(out: &mut Sink<W>, plan: &Plan, rule: Rule, row: Option<Row>)
+    ensures { Wrote W.contents out.old out.new (broken_text plan.now rule row) }
 {
-    let tick = fault.row.saturating_sub(1) / plan.cores();
-    add_tick(out, tick);
-    add_value(out, rule_word(fault.rule), b"f", 0);
+    add_value(out, rule_word(rule), b"f", 0);
     add_faulty_value(out, plan, row);
-    add_tick(out, tick + 1);
 }
 
 /// Writes the end of the last tick.

@@ -1,8 +1,9 @@
 //! Words of rows and of rules, and the names of tasks and resources.
 ghost use Rattle.std.specs.Prelude.{◌≡◌, decimal};
 ghost use Rattle.msrp_plan.specs.Bytes.{Wrote};
-ghost use Rattle.msrp_export.specs.Words.{job_text, kind_text, res_text, rule_text, task_name, res_name};
+ghost use Rattle.msrp_export.specs.Words.{job_text, kind_text, res_text, rule_text, state_text, task_name, res_name};
 
+use crate::states::TaskState;
 use itoa::Buffer;
 use msrp_plan::bytes::Sink;
 use msrp_plan::{JobId, Kind, Plan, ResId, Rule, TaskId};
@@ -39,6 +40,21 @@ pub(crate) fn rule_word(rule: Rule) -> &'static [u8]
         Rule::A5 => b"A5",
         Rule::A6 => b"A6",
         Rule::A7 => b"A7",
+    }
+}
+
+/// The word for what a task does.
+#[tactic(auto, unfolding(crate::specs::Words::state_text))]
+pub(crate) fn state_word(state: TaskState) -> &'static [u8]
+    ensures { result.now ≡ state_text state }
+{
+    match state {
+        TaskState::Unreleased => b"unreleased",
+        TaskState::Ready => b"ready",
+        TaskState::Running => b"running",
+        TaskState::Holding => b"holding",
+        TaskState::Spinning => b"spinning",
+        TaskState::Late => b"late",
     }
 }
 

@@ -15,7 +15,7 @@ use std::thread::Threads;
 const TICKS: u32 = 70;
 
 // What is written down of each core is what the trace says that it did.
-fn expect_kept(rt: &impl Abort, rows: &[Row], kept: &Rows) {
+pub(super) fn expect_kept(rt: &impl Abort, rows: &[Row], kept: &Rows) {
     assert_eq!(rt; rows.len(), kept.len());
     for row in rows {
         assert!(rt; kept.has_just(row), "{row:?}");

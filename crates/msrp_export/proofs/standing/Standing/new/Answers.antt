@@ -1,0 +1,12 @@
+use Rattle.std.proofs.Common.{None}
+use Rattle.std.proofs.lemmas.List.{get_or-replicate}
+use Rattle.msrp_plan.specs.Limits.{most_cores, most_resources, most_tasks}
+use Rattle.msrp_export.specs.Tells.{no_count, no_use}
+use Rattle.msrp_export.proofs.standing.Standing.new.Goals as goal
+
+pub returns : goal.returns
+returns c = record {
+  lasts = λ k low. get_or-replicate most_cores k None None low;
+  tasks = λ t low. get_or-replicate most_tasks t no_count no_count low;
+  uses = λ g low. get_or-replicate most_resources g no_use no_use low;
+}

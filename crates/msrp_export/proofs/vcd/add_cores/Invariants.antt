@@ -1,0 +1,13 @@
+use Rattle.std.proofs.Common.{List}
+use Rattle.std.specs.List.{flat_map, range_with_len}
+use Rattle.msrp_plan.specs.Bytes.{Wrote}
+use Rattle.msrp_plan.specs.declared.rows.Row.{Row}
+use Rattle.msrp_export.specs.Signals.{last_row}
+use Rattle.msrp_export.specs.Tells.{Tells}
+use Rattle.msrp_export.specs.Vcd.{core_change}
+use Rattle.msrp_export.proofs.vcd.add_cores.Given as goal
+
+abbrev pub invariant-loop-core : goal.invariant-loop-core
+invariant-loop-core g l =
+    (earlier rows : List Row) → Tells l.before earlier → Tells l.now rows
+    → Wrote g.W.Write.contents l.fn.out l.out (flat_map (λ c. core_change l.plan (last_row c earlier) (last_row c rows)) (range_with_len 0 l.core))
