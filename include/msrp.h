@@ -34,7 +34,7 @@ enum msrp_status {
     MSRP_REFUSED = 2,  /* the plan (plan_code, number) or the trace (trace_code, number) is refused */
     MSRP_USAGE = 3,    /* a number is none of those listed, or asks for what the plan doesn't have */
     MSRP_MEMORY = 4,   /* memory was refused */
-    MSRP_TOO_LONG = 5, /* a text has 16 MiB or more */
+    MSRP_TOO_LONG = 5, /* a text has 16 MiB or more, whatever else there is to tell */
     MSRP_ROOM = 6      /* the buffer is too short: it is as before, and needed tells the length */
 };
 

@@ -10,7 +10,7 @@ use Rattle.std.specs.Prelude.{slice_get}
 use Rattle.std.specs.Result.{is_ok, result_ok}
 use Rattle.msrp_audit.specs.Audits.{answer_of}
 use Rattle.msrp_engine.specs.Findings.{found_first}
-use Rattle.msrp_engine.specs.Outcomes.{trace_fault_of}
+use Rattle.msrp_faults.specs.Outcomes.{trace_fault_of}
 use Rattle.msrp_plan.specs.Plan.{PlanModel}
 use Rattle.msrp_plan.specs.Verdict.{fault_in, verdict}
 use Rattle.msrp_plan.specs.declared.faults.Fault.{Fault}

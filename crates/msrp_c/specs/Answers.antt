@@ -1,13 +1,14 @@
 -- What a call tells: its status, the numbers of what was found, and a text in the caller's buffer.
-use Rattle.std.specs.Prelude.{◌≡◌, ◌⊎◌, ◌<◌, ◌≤◌, ◌++◌, ℕ, Bool, true, false, List, [], length, drop, ⊤}
+use Rattle.std.specs.Prelude.{◌≡◌, ◌⊎◌, ◌↔◌, ◌<◌, ◌≤◌, ◌++◌, ℕ, Bool, true, false, nat_le, List, [], length, drop, ⊤}
 use Rattle.std.specs.declared.result.Result.{Result}
 use Rattle.std.specs.declared.result.Result.TheVariants.{Ok, Err}
 use Rattle.msrp_engine.specs.AuditText.{verdict_status}
 use Rattle.msrp_engine.specs.MadeTexts.{found_in}
 use Rattle.msrp_faults.specs.Outcomes.{status_of}
 use Rattle.msrp_faults.specs.declared.faults.CliFault.{CliFault}
-use Rattle.msrp_faults.specs.declared.faults.CliFault.TheVariants.{Plan, Trace, Memory, Read}
+use Rattle.msrp_faults.specs.declared.faults.CliFault.TheVariants.{Plan, Trace, Memory, Read, Write}
 use Rattle.msrp_engine.specs.declared.made.Made.{Made}
+use Rattle.msrp_plan.specs.Limits.{most_bytes}
 use Rattle.msrp_plan.specs.declared.faults.Fault.{Fault}
 use Rattle.msrp_plan.specs.declared.faults.Rule.{Rule}
 use Rattle.msrp_plan.specs.declared.faults.Rule.TheVariants.{A1, A2, A3, A4, A5, A6, A7}
@@ -45,6 +46,33 @@ pub record Tells (what : Result (Result ⊤ Fault) CliFault) (found : MsrpFound)
   pub numbers : found ≡ numbers_of what
   pub status_is : status ≡ status_told what
 
+-- ---- texts that are too long
+-- a text has as many bytes as a source gives at most, or more
+abbrev pub is_long : List ℕ → Bool
+is_long text = nat_le most_bytes (length text)
+
+-- want of memory in place of a read or a write that failed
+abbrev pub unfailed : {A : Type 0} → Result A CliFault → Result A CliFault
+unfailed (Err Read) = Err Memory
+unfailed (Err Write) = Err Memory
+unfailed made = made
+
+-- where a text is too long a read fails, whatever is in it, and else none does
+abbrev pub told_as : {A : Type 0} → Bool → Result A CliFault → Result A CliFault
+told_as true made = Err Read
+told_as false made = unfailed made
+
+-- a read failed, or memory was refused; else this holds
+abbrev pub OrUnread : {A : Type 0} → Result A CliFault → Type 0 → Type 0
+OrUnread made Holds = (made ≡ Err Read) ⊎ (made ≡ Err Memory) ⊎ Holds
+
+-- what is due was found in rows and is told, with status 5 exactly where a text is too long
+pub record Judges (long : Bool) (due : Result (Result ⊤ Fault) CliFault) (found : MsrpFound) (status : ℕ) : Type 0 where
+  pub what : Result (Result ⊤ Fault) CliFault
+  pub is : long ≡ false → OrUnread what (what ≡ due)
+  pub tells : Tells (told_as long what) found status
+  pub too_long : (status ≡ 5) ↔ (long ≡ true)
+
 -- ---- a text in the caller's buffer
 -- the text stands in front of the buffer, and behind it the buffer is as before; or it doesn't fit, and the whole buffer is as before
 pub record Puts (text old new : List ℕ) (needed : ℕ) (put : Bool) : Type 0 where
@@ -64,12 +92,9 @@ pub record Hands (made : Result Made CliFault) (old new : List ℕ) (needed : �
   pub fits : length (text_in made) ≤ length old → (status ≡ status_told (found_in made)) × (new ≡ text_in made ++ drop (length (text_in made)) old)
   pub short : length old < length (text_in made) → (status ≡ 6) × (new ≡ old)
 
--- what is handed over was made so
-pub record Answers (IsMade : Result Made CliFault → Type 0) (old new : List ℕ) (needed : ℕ) (found : MsrpFound) (status : ℕ) : Type 0 where
+-- what is handed over was made so, with status 5 exactly where a text is too long
+pub record Answers (long : Bool) (IsMade : Result Made CliFault → Type 0) (old new : List ℕ) (needed : ℕ) (found : MsrpFound) (status : ℕ) : Type 0 where
   pub made : Result Made CliFault
-  pub is : IsMade made
-  pub hands : Hands made old new needed found status
-
--- a text has too many bytes to be read, or memory was refused; else this holds
-abbrev pub OrUnread : Result Made CliFault → Type 0 → Type 0
-OrUnread made Holds = (made ≡ Err Read) ⊎ (made ≡ Err Memory) ⊎ Holds
+  pub is : long ≡ false → IsMade made
+  pub hands : Hands (told_as long made) old new needed found status
+  pub too_long : (status ≡ 5) ↔ (long ≡ true)

@@ -14,7 +14,7 @@ use Rattle.msrp_sim.specs.Simulated.{IsRunIn}
 use Rattle.msrp_text.specs.declared.reading.TextError.{TextError}
 use Rattle.msrp_trace.specs.TraceText.{trace_text}
 
--- such a text was made, and nothing is wrong with it; else the plan's text has too many bytes, memory was refused, or this is why
+-- such a text was made, and nothing is wrong with it; else a read failed, memory was refused, or this is why
 abbrev pub Makes : (List ℕ → Type 0) → (CliFault → Type 0) → Result Made CliFault → Type 0
 Makes IsText IsWhy (Ok made) = IsText made.text.items × (made.found ≡ Ok tt)
 Makes IsText IsWhy (Err fault) = (fault ≡ Read) ⊎ (fault ≡ Memory) ⊎ IsWhy fault

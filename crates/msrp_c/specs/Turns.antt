@@ -6,8 +6,8 @@ use Rattle.std.specs.Result.{is_ok, result_ok}
 use Rattle.std.specs.declared.result.Result.{Result}
 use Rattle.std.specs.declared.result.Result.TheVariants.{Ok, Err}
 use Rattle.msrp_engine.specs.Findings.{found_first}
-use Rattle.msrp_engine.specs.Outcomes.{fault_of}
-use Rattle.msrp_engine.specs.declared.faults.CliFault.{CliFault}
+use Rattle.msrp_faults.specs.Outcomes.{fault_of}
+use Rattle.msrp_faults.specs.declared.faults.CliFault.{CliFault}
 use Rattle.msrp_plan.specs.Plan.{PlanModel}
 use Rattle.msrp_plan.specs.Verdict.{fault_in, verdict}
 use Rattle.msrp_plan.specs.declared.faults.Fault.{Fault}

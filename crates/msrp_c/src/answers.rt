@@ -1,9 +1,10 @@
 //! What a call tells: its status, the numbers of what was found, and a text.
-ghost use Rattle.std.specs.Prelude.{◌≡◌, ◌≤◌, ◌<◌, ◌++◌, length, drop, true, false};
-ghost use Rattle.msrp_c.specs.Answers.{Hands, Puts, numbers_of, rule_number, status_told};
+ghost use Rattle.std.specs.Prelude.{◌≡◌, ◌≤◌, ◌<◌, ◌++◌, ◌||◌, length, drop, true, false};
+ghost use Rattle.msrp_c.specs.Answers.{Hands, Puts, Tells, is_long, numbers_of, rule_number, status_told, unfailed};
 
 use msrp_audit::{Fault, Rule};
 use msrp_engine::{CliFault, Made, exit_of};
+use msrp_plan::bytes::BYTE_LIMIT;
 
 /// What a call found. What doesn't apply is 0.
 #[repr(C)]
@@ -47,8 +48,8 @@ fn rule_number(rule: Rule) -> u32
     }
 }
 
-/// The exit status of what was found.
-pub(crate) fn status_told(what: Result<Result<(), Fault>, CliFault>) -> u32
+// The exit status of what was found.
+fn status_told(what: Result<Result<(), Fault>, CliFault>) -> u32
     ensures { result ≡ status_told what }
 {
     match what {
@@ -58,8 +59,8 @@ pub(crate) fn status_told(what: Result<Result<(), Fault>, CliFault>) -> u32
     }
 }
 
-/// The numbers of what was found.
-pub(crate) fn numbers_of(what: Result<Result<(), Fault>, CliFault>) -> MsrpFound
+// The numbers of what was found.
+fn numbers_of(what: Result<Result<(), Fault>, CliFault>) -> MsrpFound
     ensures { result ≡ numbers_of what }
 {
     match what {
@@ -79,6 +80,45 @@ pub(crate) fn numbers_of(what: Result<Result<(), Fault>, CliFault>) -> MsrpFound
             ..NOTHING
         },
         _ => NOTHING,
+    }
+}
+
+/// Tells what was found in rows.
+pub(crate) fn tell(what: Result<Result<(), Fault>, CliFault>, found: &mut MsrpFound) -> u32
+    ensures { Tells what found.new result }
+{
+    *found = numbers_of(what);
+    status_told(what)
+}
+
+/// Whether a text has too many bytes to be read.
+pub(crate) fn is_long(text: &[u8]) -> bool
+    ensures { result ≡ is_long text.now }
+{
+    text.len() >= BYTE_LIMIT as usize
+}
+
+/// Whether one of two texts has.
+pub(crate) fn are_long(plan: &[u8], trace: &[u8]) -> bool
+    ensures { result ≡ (is_long plan.now || is_long trace.now) }
+{
+    is_long(plan) || is_long(trace)
+}
+
+/// What is told where no text is too long. Then no read of one fails, and a vector takes each text that there is memory for; were
+/// either to fail, want of memory would be told.
+pub(crate) fn unfailed<T>(made: Result<T, CliFault>) -> Result<T, CliFault>
+    ensures { result ≡ unfailed made }
+{
+    match made {
+        Ok(made) => Ok(made),
+        Err(CliFault::Read) => Err(CliFault::Memory),
+        Err(CliFault::Write) => Err(CliFault::Memory),
+        Err(CliFault::Plan { code, number }) => Err(CliFault::Plan { code, number }),
+        Err(CliFault::Trace { code, number }) => Err(CliFault::Trace { code, number }),
+        Err(CliFault::Usage) => Err(CliFault::Usage),
+        Err(CliFault::Memory) => Err(CliFault::Memory),
+        Err(CliFault::Threads) => Err(CliFault::Threads),
     }
 }
 

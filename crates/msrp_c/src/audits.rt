@@ -1,13 +1,13 @@
 //! The verdict on a trace, and the report of a legal run.
-ghost use Rattle.std.specs.Prelude.{◌≡◌, ◌⊎◌, Err, true, false};
+ghost use Rattle.std.specs.Prelude.{◌≡◌, ◌⊎◌, ◌||◌, Err, true, false};
 ghost use Rattle.msrp_engine.specs.Findings.{finding_of};
 ghost use Rattle.msrp_engine.specs.Reports.{IsReportOf};
 ghost use Rattle.msrp_faults.specs.declared.faults.CliFault.{CliFault};
 ghost use Rattle.msrp_text.specs.Reading.{csv_records, plan_of};
-ghost use Rattle.msrp_c.specs.Answers.{Answers, OrUnread, Tells};
+ghost use Rattle.msrp_c.specs.Answers.{Answers, Judges, OrUnread, is_long};
 ghost use Rattle.msrp_c.specs.Turns.{finding_of_turns};
 
-use crate::answers::{MsrpFound, hand_over, numbers_of, status_told};
+use crate::answers::{MsrpFound, are_long, hand_over, is_long, tell, unfailed};
 use crate::turns::{MsrpRow, judge_turns};
 use msrp_audit::{Auditor, Fault};
 use msrp_engine::{CliFault, Made, judge_texts, report_of_texts};
@@ -16,16 +16,25 @@ use msrp_plan::bytes::Source;
 use msrp_text::read_plan;
 use std::alloc::Global;
 
-/// The verdict on a trace of a plan: 0 for a legal run, 1 for a fault, and 2 where a text is refused.
-#[unsafe(no_mangle)]
-pub extern "C" fn msrp_audit(alloc: Global, plan: &[u8], trace: &[u8], found: &mut MsrpFound) -> u32
-    ensures { Tells (Err CliFault.Read) found.new result ⊎ Tells (Err CliFault.Memory) found.new result ⊎ Tells (finding_of (plan_of (csv_records plan.now)) (csv_records trace.now)) found.new result }
+// What is found in a trace of a plan.
+fn audited(alloc: Global, plan: &[u8], trace: &[u8]) -> Result<Result<(), Fault>, CliFault>
+    ensures { OrUnread result (result ≡ finding_of (plan_of (csv_records plan.now)) (csv_records trace.now)) }
 {
     let mut plan = Source::new(plan);
     let mut trace = Source::new(trace);
-    let what = judge_texts(alloc, &mut plan, &mut trace);
-    *found = numbers_of(what);
-    status_told(what)
+    judge_texts(alloc, &mut plan, &mut trace)
+}
+
+/// The verdict on a trace of a plan: 0 for a legal run, 1 for a fault, and 2 where a text is refused.
+#[unsafe(no_mangle)]
+pub extern "C" fn msrp_audit(alloc: Global, plan: &[u8], trace: &[u8], found: &mut MsrpFound) -> u32
+    ensures { Judges (is_long plan.now || is_long trace.now) (finding_of (plan_of (csv_records plan.now)) (csv_records trace.now)) found.new result }
+{
+    if are_long(plan, trace) {
+        return tell(Err(CliFault::Read), found);
+    }
+    let what = audited(alloc, plan, trace);
+    tell(unfailed(what), found)
 }
 
 // What is found in rows of the plan that a text tells.
@@ -35,7 +44,7 @@ fn judged(
     rows: &[MsrpRow],
     so_far: bool,
 ) -> Result<Result<(), Fault>, CliFault>
-    ensures { (result ≡ Err CliFault.Read) ⊎ (result ≡ Err CliFault.Memory) ⊎ (result ≡ finding_of_turns so_far (plan_of (csv_records plan.now)) rows.now) }
+    ensures { OrUnread result (result ≡ finding_of_turns so_far (plan_of (csv_records plan.now)) rows.now) }
 {
     let mut source = Source::new(plan);
     let plan = read_plan(alloc, &mut source)?;
@@ -54,11 +63,13 @@ pub extern "C" fn msrp_audit_rows(
     so_far: bool,
     found: &mut MsrpFound,
 ) -> u32
-    ensures { Tells (Err CliFault.Read) found.new result ⊎ Tells (Err CliFault.Memory) found.new result ⊎ Tells (finding_of_turns so_far (plan_of (csv_records plan.now)) rows.now) found.new result }
+    ensures { Judges (is_long plan.now) (finding_of_turns so_far (plan_of (csv_records plan.now)) rows.now) found.new result }
 {
+    if is_long(plan) {
+        return tell(Err(CliFault::Read), found);
+    }
     let what = judged(alloc, plan, rows, so_far);
-    *found = numbers_of(what);
-    status_told(what)
+    tell(unfailed(what), found)
 }
 
 // The report of a trace, in memory.
@@ -80,8 +91,11 @@ pub extern "C" fn msrp_report(
     needed: &mut usize,
     found: &mut MsrpFound,
 ) -> u32
-    ensures { Answers (λ made. OrUnread made (IsReportOf (plan_of (csv_records plan.now)) (csv_records trace.now) made)) text.old text.new needed.new found.new result }
+    ensures { Answers (is_long plan.now || is_long trace.now) (λ made. OrUnread made (IsReportOf (plan_of (csv_records plan.now)) (csv_records trace.now) made)) text.old text.new needed.new found.new result }
 {
+    if are_long(plan, trace) {
+        return hand_over(Err(CliFault::Read), text, needed, found);
+    }
     let made = reported(alloc, plan, trace);
-    hand_over(made, text, needed, found)
+    hand_over(unfailed(made), text, needed, found)
 }

@@ -1,11 +1,11 @@
 //! The picture of a trace.
-ghost use Rattle.std.specs.Prelude.{◌≡◌, ◌⊎◌, Err};
+ghost use Rattle.std.specs.Prelude.{◌≡◌, ◌⊎◌, ◌||◌, Err};
 ghost use Rattle.msrp_text.specs.Reading.{csv_records, plan_of};
-ghost use Rattle.msrp_c.specs.Answers.{Answers};
+ghost use Rattle.msrp_c.specs.Answers.{Answers, is_long};
 ghost use Rattle.msrp_c.specs.Numbers.{style_named};
 ghost use Rattle.msrp_c.specs.Pictures.{IsDrawn};
 
-use crate::answers::{MsrpFound, hand_over};
+use crate::answers::{MsrpFound, are_long, hand_over, unfailed};
 use crate::orders::style_of;
 use msrp_engine::{CliFault, Made};
 use msrp_picture::Asked;
@@ -51,8 +51,11 @@ pub extern "C" fn msrp_view(
     needed: &mut usize,
     found: &mut MsrpFound,
 ) -> u32
-    ensures { Answers (IsDrawn (style_named style) from to (plan_of (csv_records plan.now)) (csv_records trace.now)) text.old text.new needed.new found.new result }
+    ensures { Answers (is_long plan.now || is_long trace.now) (IsDrawn (style_named style) from to (plan_of (csv_records plan.now)) (csv_records trace.now)) text.old text.new needed.new found.new result }
 {
+    if are_long(plan, trace) {
+        return hand_over(Err(CliFault::Read), text, needed, found);
+    }
     let made = drawn(alloc, plan, trace, style, from, to);
-    hand_over(made, text, needed, found)
+    hand_over(unfailed(made), text, needed, found)
 }

@@ -4,11 +4,11 @@ ghost use Rattle.msrp_engine.specs.CheckText.{check_text};
 ghost use Rattle.msrp_text.specs.PlanText.{plan_text};
 ghost use Rattle.msrp_text.specs.Reading.{csv_records, plan_of};
 ghost use Rattle.msrp_sim.specs.Orders.{cores_of};
-ghost use Rattle.msrp_c.specs.Answers.{Answers};
+ghost use Rattle.msrp_c.specs.Answers.{Answers, is_long};
 ghost use Rattle.msrp_c.specs.Numbers.{turns_named, version_named};
 ghost use Rattle.msrp_c.specs.Texts.{IsRunOf, IsSimulated, IsTextOf, Makes, WhyNoRun, WhyNoText};
 
-use crate::answers::{MsrpFound, hand_over};
+use crate::answers::{MsrpFound, hand_over, is_long, unfailed};
 use crate::orders::{order_of, version_of};
 use msrp_engine::{CliFault, Made, check_text, plan_text, sim_text};
 use msrp_plan::TextVersion;
@@ -97,10 +97,13 @@ pub extern "C" fn msrp_sim(
     needed: &mut usize,
     found: &mut MsrpFound,
 ) -> u32
-    ensures { Answers (IsSimulated (version_named version) (turns_named order cores.now) (plan_of (csv_records plan.now))) text.old text.new needed.new found.new result }
+    ensures { Answers (is_long plan.now) (IsSimulated (version_named version) (turns_named order cores.now) (plan_of (csv_records plan.now))) text.old text.new needed.new found.new result }
 {
+    if is_long(plan) {
+        return hand_over(Err(CliFault::Read), text, needed, found);
+    }
     let made = simulated(alloc, plan, order, cores, version);
-    hand_over(made, text, needed, found)
+    hand_over(unfailed(made), text, needed, found)
 }
 
 /// The levels and ceilings of a plan, as a text.
@@ -112,10 +115,13 @@ pub extern "C" fn msrp_check(
     needed: &mut usize,
     found: &mut MsrpFound,
 ) -> u32
-    ensures { Answers (Makes (IsTextOf check_text (plan_of (csv_records plan.now))) (WhyNoText (plan_of (csv_records plan.now)))) text.old text.new needed.new found.new result }
+    ensures { Answers (is_long plan.now) (Makes (IsTextOf check_text (plan_of (csv_records plan.now))) (WhyNoText (plan_of (csv_records plan.now)))) text.old text.new needed.new found.new result }
 {
+    if is_long(plan) {
+        return hand_over(Err(CliFault::Read), text, needed, found);
+    }
     let made = checked(alloc, plan);
-    hand_over(made, text, needed, found)
+    hand_over(unfailed(made), text, needed, found)
 }
 
 /// A plan's own text, which reads as the same plan.
@@ -127,8 +133,11 @@ pub extern "C" fn msrp_plan_text(
     needed: &mut usize,
     found: &mut MsrpFound,
 ) -> u32
-    ensures { Answers (Makes (IsTextOf plan_text (plan_of (csv_records plan.now))) (WhyNoText (plan_of (csv_records plan.now)))) text.old text.new needed.new found.new result }
+    ensures { Answers (is_long plan.now) (Makes (IsTextOf plan_text (plan_of (csv_records plan.now))) (WhyNoText (plan_of (csv_records plan.now)))) text.old text.new needed.new found.new result }
 {
+    if is_long(plan) {
+        return hand_over(Err(CliFault::Read), text, needed, found);
+    }
     let made = own_text(alloc, plan);
-    hand_over(made, text, needed, found)
+    hand_over(unfailed(made), text, needed, found)
 }

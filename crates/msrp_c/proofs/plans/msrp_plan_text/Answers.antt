@@ -1,4 +1,10 @@
+use Rattle.std.proofs.Common.{sym, subst, ◌∙◌}
+use Rattle.msrp_c.proofs.Lengths.{long-answered, short-answered}
+use Rattle.msrp_c.specs.Answers.{Hands}
 use Rattle.msrp_c.proofs.plans.msrp_plan_text.Goals as goal
 
+pub returns-then-is_long : goal.returns-then-is_long
+returns-then-is_long c = long-answered _ _ _ _ _ _ _ (sym c.is_long.ensures ∙ c.if-is_long.true) c.hand_over.ensures
+
 pub returns : goal.returns
-returns c = record { made = c.own_text-made.result; is = c.own_text-made.ensures; hands = c.hand_over.ensures }
+returns c = short-answered _ _ c.own_text-made.result _ _ _ _ _ (sym c.is_long.ensures ∙ c.if-is_long.false) c.own_text-made.ensures (subst (λ made. Hands made c.args.text.now c.hand_over-2.new.text c.hand_over-2.new.needed c.hand_over-2.new.found c.hand_over-2.result) c.unfailed.ensures c.hand_over-2.ensures)
