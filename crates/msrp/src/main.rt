@@ -1,17 +1,15 @@
 //! `msrp`: runs a plan of tasks on several cores, on one thread or on one for each core; judges a trace of it, and reports what happened
 //! in one; and checks a plan, of which it writes the levels and ceilings, or the plan's own text.
 //!
-//! `cli` reads the command line, and `main` opens what the words name, prints the line of a fault and gives the exit status. The
+//! `msrp_words` reads the command line, and `main` opens what the words name, prints the line of a fault and gives the exit status. The
 //! engines, which turn bytes into bytes, are `msrp_engine`'s.
 #![tactic(auto)]
 
 ghost use Rattle.std.specs.Prelude.{◌≡◌, if◌then◌else◌};
 
-mod cli;
 #[cfg(test)]
 mod tests;
 
-use cli::{Cmd, TurnOrder, command_of, help_text};
 use msrp_cli::{Input, open, open_both, words_of, write_help};
 pub use msrp_engine::{
     CliFault, audit_parallel_text, audit_text, check_text, exit_of, plan_text, report_text,
@@ -20,7 +18,10 @@ pub use msrp_engine::{
 use msrp_plan::TextVersion;
 use msrp_plan::bytes::{Sink, Source};
 use msrp_sim::Order;
+pub use msrp_words::command_of;
+use msrp_words::{Cmd, TurnOrder, help_text};
 use std::io;
+use std::io::Write;
 use std::process::ExitCode;
 use std::sync::Wait;
 use std::thread::Threads;
@@ -59,6 +60,72 @@ fn sources(
     Ok((Source::new(plan), Source::new(trace)))
 }
 
+// Simulates the plan at a path.
+fn simulate<W: Write>(
+    rt: &HostRuntime,
+    out: &mut Sink<W>,
+    order: TurnOrder,
+    version: TextVersion,
+    plan: &str,
+) -> Result<u8, CliFault> {
+    let mut plan = Source::new(open(rt, plan)?);
+    sim_text(rt.alloc(), &mut plan, out, &order_of(order), version)
+}
+
+// Runs it on threads.
+fn run_plan<T: Threads + Wait + Sync, W: Write>(
+    rt: &HostRuntime,
+    threads: &T,
+    out: &mut Sink<W>,
+    version: TextVersion,
+    plan: &str,
+) -> Result<u8, CliFault> {
+    let mut plan = Source::new(open(rt, plan)?);
+    run_text(threads, rt.alloc(), &mut plan, out, version)
+}
+
+// Writes its levels and ceilings, or its own text.
+fn check<W: Write>(
+    rt: &HostRuntime,
+    out: &mut Sink<W>,
+    is_text: bool,
+    plan: &str,
+) -> Result<u8, CliFault> {
+    let mut plan = Source::new(open(rt, plan)?);
+    if is_text {
+        plan_text(rt.alloc(), &mut plan, out)
+    } else {
+        check_text(rt.alloc(), &mut plan, out)
+    }
+}
+
+// Judges a trace of it.
+fn audit<T: Threads + Sync, W: Write>(
+    rt: &HostRuntime,
+    threads: &T,
+    out: &mut Sink<W>,
+    parallel: bool,
+    paths: (&str, &str),
+) -> Result<u8, CliFault> {
+    let (mut plan, mut trace) = sources(rt, paths.0, paths.1)?;
+    if parallel {
+        audit_parallel_text(threads, rt.alloc(), &mut plan, &mut trace, out)
+    } else {
+        audit_text(rt.alloc(), &mut plan, &mut trace, out)
+    }
+}
+
+// Reports on a trace of it.
+fn report<W: Write>(
+    rt: &HostRuntime,
+    out: &mut Sink<W>,
+    plan: &str,
+    trace: &str,
+) -> Result<u8, CliFault> {
+    let (mut plan, mut trace) = sources(rt, plan, trace)?;
+    report_text(rt.alloc(), &mut plan, &mut trace, out)
+}
+
 // Does what the words ask for, and answers the exit status. `threads` starts the threads of a run, and of an audit in pieces.
 fn run<T: Threads + Wait + Sync>(rt: &HostRuntime, threads: &T) -> Result<u8, CliFault> {
     let alloc = rt.alloc();
@@ -67,38 +134,17 @@ fn run<T: Threads + Wait + Sync>(rt: &HostRuntime, threads: &T) -> Result<u8, Cl
     match command_of(alloc, words.as_slice())? {
         Cmd::Help => write_help(&mut out, help_text(alloc, words.as_slice())?.as_str()),
         Cmd::Sim { order, ahead, plan } => {
-            let mut source = Source::new(open(rt, plan)?);
-            let order = order_of(order);
-            sim_text(alloc, &mut source, &mut out, &order, version_of(ahead))
+            simulate(rt, &mut out, order, version_of(ahead), plan)
         }
-        Cmd::Run { ahead, plan } => {
-            let mut source = Source::new(open(rt, plan)?);
-            run_text(threads, alloc, &mut source, &mut out, version_of(ahead))
-        }
-        Cmd::CheckText { plan } => {
-            let mut source = Source::new(open(rt, plan)?);
-            plan_text(alloc, &mut source, &mut out)
-        }
-        Cmd::Check { plan } => {
-            let mut source = Source::new(open(rt, plan)?);
-            check_text(alloc, &mut source, &mut out)
-        }
+        Cmd::Run { ahead, plan } => run_plan(rt, threads, &mut out, version_of(ahead), plan),
+        Cmd::CheckText { plan } => check(rt, &mut out, true, plan),
+        Cmd::Check { plan } => check(rt, &mut out, false, plan),
         Cmd::Audit {
             parallel,
             plan,
             trace,
-        } => {
-            let (mut plan, mut trace) = sources(rt, plan, trace)?;
-            if parallel {
-                audit_parallel_text(threads, alloc, &mut plan, &mut trace, &mut out)
-            } else {
-                audit_text(alloc, &mut plan, &mut trace, &mut out)
-            }
-        }
-        Cmd::Report { plan, trace } => {
-            let (mut plan, mut trace) = sources(rt, plan, trace)?;
-            report_text(alloc, &mut plan, &mut trace, &mut out)
-        }
+        } => audit(rt, threads, &mut out, parallel, (plan, trace)),
+        Cmd::Report { plan, trace } => report(rt, &mut out, plan, trace),
     }
 }
 

@@ -1,10 +1,10 @@
 //! Bytes in, bytes out: worked plans, refusals, and readers and writers that fail.
 
-use crate::cli::{Cmd, TurnOrder, command_of};
-use crate::{CliFault, plan_text, sim_text};
+use crate::{CliFault, command_of, plan_text, sim_text};
 use msrp_plan::TextVersion;
 use msrp_plan::bytes::{Sink, Source};
 use msrp_sim::Order;
+use msrp_words::{Cmd, TurnOrder};
 use std::alloc::{AllocError, Global};
 use std::io;
 use std::io::{ErrorKind, Read, Write};
@@ -16,7 +16,6 @@ mod check;
 mod faults;
 mod report;
 mod run;
-mod view;
 
 const PLAN: &[u8] = b"msrp,1\ncores,1\nticks,3\ntask,a,0,3,3,0\nop,run,2\n";
 

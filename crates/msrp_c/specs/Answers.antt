@@ -4,9 +4,9 @@ use Rattle.std.specs.declared.result.Result.{Result}
 use Rattle.std.specs.declared.result.Result.TheVariants.{Ok, Err}
 use Rattle.msrp_engine.specs.AuditText.{verdict_status}
 use Rattle.msrp_engine.specs.MadeTexts.{found_in}
-use Rattle.msrp_engine.specs.Outcomes.{status_of}
-use Rattle.msrp_engine.specs.declared.faults.CliFault.{CliFault}
-use Rattle.msrp_engine.specs.declared.faults.CliFault.TheVariants.{Plan, Trace, Memory, Read}
+use Rattle.msrp_faults.specs.Outcomes.{status_of}
+use Rattle.msrp_faults.specs.declared.faults.CliFault.{CliFault}
+use Rattle.msrp_faults.specs.declared.faults.CliFault.TheVariants.{Plan, Trace, Memory, Read}
 use Rattle.msrp_engine.specs.declared.made.Made.{Made}
 use Rattle.msrp_plan.specs.declared.faults.Fault.{Fault}
 use Rattle.msrp_plan.specs.declared.faults.Rule.{Rule}

@@ -2,9 +2,9 @@
 use Rattle.std.specs.Prelude.{◌≡◌, ℕ, List, Option, Some, None}
 use Rattle.std.specs.declared.result.Result.{Result}
 use Rattle.std.specs.declared.result.Result.TheVariants.{Err}
-use Rattle.msrp_engine.specs.Views.{IsPictureOf}
-use Rattle.msrp_engine.specs.declared.faults.CliFault.{CliFault}
-use Rattle.msrp_engine.specs.declared.faults.CliFault.TheVariants.{Usage}
+use Rattle.msrp_view_engine.specs.Views.{IsPictureOf}
+use Rattle.msrp_faults.specs.declared.faults.CliFault.{CliFault}
+use Rattle.msrp_faults.specs.declared.faults.CliFault.TheVariants.{Usage}
 use Rattle.msrp_engine.specs.declared.made.Made.{Made}
 use Rattle.msrp_picture.specs.declared.windows.Style.{Style}
 use Rattle.msrp_plan.specs.Plan.{PlanModel}

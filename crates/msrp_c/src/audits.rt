@@ -2,7 +2,7 @@
 ghost use Rattle.std.specs.Prelude.{◌≡◌, ◌⊎◌, Err, true, false};
 ghost use Rattle.msrp_engine.specs.Findings.{finding_of};
 ghost use Rattle.msrp_engine.specs.Reports.{IsReportOf};
-ghost use Rattle.msrp_engine.specs.declared.faults.CliFault.{CliFault};
+ghost use Rattle.msrp_faults.specs.declared.faults.CliFault.{CliFault};
 ghost use Rattle.msrp_text.specs.Reading.{csv_records, plan_of};
 ghost use Rattle.msrp_c.specs.Answers.{Answers, OrUnread, Tells};
 

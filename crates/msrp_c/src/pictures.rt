@@ -7,9 +7,10 @@ ghost use Rattle.msrp_c.specs.Pictures.{IsDrawn};
 
 use crate::answers::{MsrpFound, hand_over};
 use crate::orders::style_of;
-use msrp_engine::{CliFault, Made, picture_of_texts};
+use msrp_engine::{CliFault, Made};
 use msrp_picture::Asked;
 use msrp_plan::bytes::Source;
+use msrp_view_engine::picture_of_texts;
 use std::alloc::Global;
 
 // The picture of a trace, in a style that is named by a number.

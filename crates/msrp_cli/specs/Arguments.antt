@@ -7,8 +7,8 @@ use Rattle.clap.specs.declared.error.kind.ErrorKind.{ErrorKind}
 use Rattle.clap.specs.declared.error.kind.ErrorKind.TheVariants.{DisplayHelp, OutOfMemory}
 use Rattle.clap.specs.declared.parser.matches.ValueSource.{ValueSource}
 use Rattle.clap.specs.declared.parser.matches.ValueSource.TheVariants.{CommandLine}
-use Rattle.msrp_engine.specs.declared.faults.CliFault.{CliFault}
-use Rattle.msrp_engine.specs.declared.faults.CliFault.TheVariants.{Memory, Usage}
+use Rattle.msrp_faults.specs.declared.faults.CliFault.{CliFault}
+use Rattle.msrp_faults.specs.declared.faults.CliFault.TheVariants.{Memory, Usage}
 
 -- ---- as the parser is told of them
 -- a flag

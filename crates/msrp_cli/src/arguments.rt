@@ -10,7 +10,7 @@ use crate::input::STANDARD;
 use clap::error::ErrorKind;
 use clap::parser::ValueSource;
 use clap::{Arg, ArgAction, ArgMatches};
-use msrp_engine::CliFault;
+use msrp_faults::CliFault;
 use std::alloc::Global;
 
 /// The name of the argument that is a plan's path.

@@ -2,9 +2,9 @@
 
 ghost use Rattle.std.specs.Prelude.{◌≡◌};
 ghost use Rattle.msrp_plan.specs.Bytes.{Wrote};
-ghost use Rattle.msrp_engine.specs.Outcomes.{written_status};
+ghost use Rattle.msrp_faults.specs.Outcomes.{written_status};
 
-use msrp_engine::CliFault;
+use msrp_faults::CliFault;
 use msrp_plan::bytes::Sink;
 use std::io::Write;
 

@@ -3,7 +3,7 @@
 ghost use Rattle.std.specs.Prelude.{◌≡◌, ◌↔◌, codes, IfErr, IfOk, true};
 ghost use Rattle.msrp_cli.specs.Inputs.{is_standard};
 
-use msrp_engine::CliFault;
+use msrp_faults::CliFault;
 use std::fs::File;
 use std::io;
 use std::io::Read;

@@ -3,7 +3,7 @@
 ghost use Rattle.std.specs.IoError.{error_kind};
 ghost use Rattle.std.specs.Prelude.{◌≡◌, ◌⊎◌, ◌↔◌, IfErr, IfOk, IsErrAnd};
 
-use msrp_engine::CliFault;
+use msrp_faults::CliFault;
 use std::alloc::Global;
 use std::env::Args;
 use std::io;

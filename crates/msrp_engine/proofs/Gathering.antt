@@ -19,9 +19,9 @@ use Rattle.msrp_trace.specs.declared.faults.TraceError.{TraceError}
 use Rattle.msrp_trace.proofs.ReadThrough.{Answers, IsReadTo, read-refused, read-whole}
 use Rattle.msrp_engine.specs.Findings.{found_first}
 use Rattle.msrp_engine.specs.Inside.Gathered.{IsGathered, found_in, is_missing}
-use Rattle.msrp_engine.specs.Outcomes.{trace_fault_of}
-use Rattle.msrp_engine.specs.declared.faults.CliFault.{CliFault}
-use Rattle.msrp_engine.specs.declared.faults.CliFault.TheVariants.{Memory as NoMemory}
+use Rattle.msrp_faults.specs.Outcomes.{trace_fault_of}
+use Rattle.msrp_faults.specs.declared.faults.CliFault.{CliFault}
+use Rattle.msrp_faults.specs.declared.faults.CliFault.TheVariants.{Memory as NoMemory}
 use Rattle.msrp_engine.proofs.Judging.{IsFound, fault-answer, fault-found, good-answer, refused-found}
 
 -- ---- what ended the reading

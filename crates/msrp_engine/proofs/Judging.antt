@@ -16,9 +16,9 @@ use Rattle.msrp_trace.specs.Readers.{Opens}
 use Rattle.msrp_trace.specs.declared.faults.TraceError.{TraceError}
 use Rattle.msrp_trace.proofs.ReadThrough.{Answers, IsError, IsReadTo, read-refused, read-whole, unopened}
 use Rattle.msrp_engine.specs.Findings.{finding, found_first}
-use Rattle.msrp_engine.specs.Outcomes.{trace_fault_of}
-use Rattle.msrp_engine.specs.declared.faults.CliFault.{CliFault}
-use Rattle.msrp_engine.specs.declared.faults.CliFault.TheVariants.{Read as ReadFault, Memory as NoMemory}
+use Rattle.msrp_faults.specs.Outcomes.{trace_fault_of}
+use Rattle.msrp_faults.specs.declared.faults.CliFault.{CliFault}
+use Rattle.msrp_faults.specs.declared.faults.CliFault.TheVariants.{Read as ReadFault, Memory as NoMemory}
 
 -- what is found, but for a read that failed and for memory
 abbrev pub IsFound : PlanModel → Told → Result (Result ⊤ Fault) CliFault → Type 0

@@ -1,9 +1,6 @@
 pub mod CheckRecords
 pub mod Judging
-pub mod Explaining
 pub mod NamedRows
 pub mod SimAnswers
 pub mod Reporting
 pub mod Gathering
-pub mod ReadThrough
-pub mod Recounting

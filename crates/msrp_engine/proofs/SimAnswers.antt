@@ -11,9 +11,9 @@ use Rattle.msrp_sim.specs.Orders.{cores_of}
 use Rattle.msrp_text.specs.Reading.{Answers}
 use Rattle.msrp_text.specs.declared.reading.TextError.{TextError}
 use Rattle.msrp_engine.specs.Simulation.{SimAnswers, SimAnswersPlan}
-use Rattle.msrp_engine.specs.Outcomes.{written_status}
-use Rattle.msrp_engine.specs.declared.faults.CliFault.{CliFault}
-use Rattle.msrp_engine.specs.declared.faults.CliFault.TheVariants.{Write}
+use Rattle.msrp_faults.specs.Outcomes.{written_status}
+use Rattle.msrp_faults.specs.declared.faults.CliFault.{CliFault}
+use Rattle.msrp_faults.specs.declared.faults.CliFault.TheVariants.{Write}
 
 -- whatever answers the plan that was read answers the text that it was read from
 pub from_plan : (Q : Result PlanModel TextError → Type 0) (plan : PlanModel) (expected : Result PlanModel TextError) → Answers (Ok plan) expected → Q (Ok plan) → Q expected

@@ -9,8 +9,8 @@ use Rattle.msrp_plan.specs.declared.faults.Fault.{Fault}
 use Rattle.msrp_text.specs.declared.reading.TextError.{TextError}
 use Rattle.msrp_trace.specs.Reading.{Told, rows_of}
 use Rattle.msrp_trace.specs.declared.faults.TraceError.{TraceError}
-use Rattle.msrp_engine.specs.Outcomes.{fault_of, trace_fault_of}
-use Rattle.msrp_engine.specs.declared.faults.CliFault.{CliFault}
+use Rattle.msrp_faults.specs.Outcomes.{fault_of, trace_fault_of}
+use Rattle.msrp_faults.specs.declared.faults.CliFault.{CliFault}
 
 -- a fault of the rows that stand comes first, then the refusal that ends them, and else the verdict
 abbrev pub found_first : Option Fault → Option TraceError → Option Fault → Result (Result ⊤ Fault) CliFault

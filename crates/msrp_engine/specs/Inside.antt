@@ -1,3 +1,2 @@
 -- Words of private functions. No public contract speaks of them.
 pub mod Gathered
-pub mod Readings

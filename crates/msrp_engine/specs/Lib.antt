@@ -1,4 +1,3 @@
-pub mod Outcomes
 pub mod Simulation
 pub mod CheckText
 pub mod Running
@@ -6,7 +5,4 @@ pub mod Findings
 pub mod AuditText
 pub mod MadeTexts
 pub mod Reports
-pub mod Views
-pub mod Explaining
-pub mod Whys
 pub mod Inside

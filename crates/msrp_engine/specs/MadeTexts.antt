@@ -3,7 +3,7 @@ use Rattle.std.specs.Prelude.{⊤}
 use Rattle.std.specs.declared.result.Result.{Result}
 use Rattle.std.specs.declared.result.Result.TheVariants.{Ok, Err}
 use Rattle.msrp_plan.specs.declared.faults.Fault.{Fault}
-use Rattle.msrp_engine.specs.declared.faults.CliFault.{CliFault}
+use Rattle.msrp_faults.specs.declared.faults.CliFault.{CliFault}
 use Rattle.msrp_engine.specs.declared.made.Made.{Made}
 
 -- the verdict that comes with a text, or the fault in place of both

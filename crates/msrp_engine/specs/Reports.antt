@@ -15,8 +15,8 @@ use Rattle.msrp_engine.specs.AuditText.{AuditAnswers}
 use Rattle.msrp_engine.specs.Findings.{finding}
 use Rattle.msrp_engine.specs.MadeTexts.{found_in}
 use Rattle.msrp_engine.specs.declared.made.Made.{Made}
-use Rattle.msrp_engine.specs.Outcomes.{fault_of, written_status}
-use Rattle.msrp_engine.specs.declared.faults.CliFault.{CliFault}
+use Rattle.msrp_faults.specs.Outcomes.{fault_of, written_status}
+use Rattle.msrp_faults.specs.declared.faults.CliFault.{CliFault}
 
 -- ---- the report of the rows of a trace's text, or what is found in them
 -- the verdict in such an answer
@@ -47,10 +47,14 @@ IsReportOf (Ok plan) records answer = IsReported plan (rows_of plan records) ans
 IsReportOf (Err error) records answer = answer ≡ Err (fault_of error)
 
 -- ---- the answer
+-- where that text is shown of rows with that verdict: it is written of good ones, and else the verdict
+abbrev pub WritesShown : {W : Type 0} → (W → Option (List ℕ)) → List ℕ → Result ⊤ Fault → Sink W → Sink W → Result ℕ CliFault → Type 0
+WritesShown contents text (Ok good) old new result = Wrote contents old new text × (result ≡ written_status new)
+WritesShown contents text (Err fault) old new result = AuditAnswers contents (Ok (Err fault)) old new result
+
 -- where these are the rows and that is found in them: the report of a legal run, and else what an audit answers
 abbrev pub TellsReport : {W : Type 0} → (W → Option (List ℕ)) → PlanModel → List Row → Result (Result ⊤ Fault) CliFault → Sink W → Sink W → Result ℕ CliFault → Type 0
-TellsReport contents plan rows (Ok (Ok good)) old new result = Wrote contents old new (report_text plan (lines_of plan rows)) × (result ≡ written_status new)
-TellsReport contents plan rows (Ok (Err fault)) old new result = AuditAnswers contents (Ok (Err fault)) old new result
+TellsReport contents plan rows (Ok found) old new result = WritesShown contents (report_shown plan rows found) found old new result
 TellsReport contents plan rows (Err fault) old new result = AuditAnswers contents (Err fault) old new result
 
 -- the answer to a text that stands for a plan, or to one that is refused, and to the records of a trace's text

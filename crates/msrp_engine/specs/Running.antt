@@ -11,8 +11,8 @@ use Rattle.msrp_plan.specs.declared.rows.Row.{Row}
 use Rattle.msrp_plan.specs.declared.rows.TextVersion.{TextVersion}
 use Rattle.msrp_text.specs.declared.reading.TextError.{TextError}
 use Rattle.msrp_trace.specs.TraceText.{trace_text}
-use Rattle.msrp_engine.specs.Outcomes.{fault_of, written_status}
-use Rattle.msrp_engine.specs.declared.faults.CliFault.{CliFault}
+use Rattle.msrp_faults.specs.Outcomes.{fault_of, written_status}
+use Rattle.msrp_faults.specs.declared.faults.CliFault.{CliFault}
 
 -- the sink took the text, in this version, of the trace of a legal run of the plan, in whatever order its cores had their turns
 pub record WritesLegalRun {W : Type 0} (contents : W → Option (List ℕ)) (version : TextVersion) (plan : PlanModel) (old new : Sink W) : Type 0 where

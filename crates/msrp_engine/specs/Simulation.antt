@@ -13,9 +13,9 @@ use Rattle.msrp_sim.specs.Orders.{cores_of}
 use Rattle.msrp_sim.specs.Simulated.{IsRunIn}
 use Rattle.msrp_sim.specs.declared.orders.Order.{Order}
 use Rattle.msrp_trace.specs.TraceText.{trace_text}
-use Rattle.msrp_engine.specs.Outcomes.{fault_of, written_status}
-use Rattle.msrp_engine.specs.declared.faults.CliFault.{CliFault}
-use Rattle.msrp_engine.specs.declared.faults.CliFault.TheVariants.{Usage}
+use Rattle.msrp_faults.specs.Outcomes.{fault_of, written_status}
+use Rattle.msrp_faults.specs.declared.faults.CliFault.{CliFault}
+use Rattle.msrp_faults.specs.declared.faults.CliFault.TheVariants.{Usage}
 
 -- the sink took the text, in this version, of the trace of a whole run of the plan in this order
 pub record WritesRun {W : Type 0} (contents : W → Option (List ℕ)) (version : TextVersion) (plan : PlanModel) (order : List ℕ) (old new : Sink W) : Type 0 where

@@ -9,12 +9,12 @@ ghost use Rattle.msrp_trace.specs.Reading.{Told, rows_of};
 ghost use Rattle.msrp_trace.specs.Readers.{told_left};
 ghost use Rattle.msrp_engine.specs.AuditText.{AuditAnswers, TellsVerdict, rule_text, verdict_fields};
 ghost use Rattle.msrp_engine.specs.Findings.{finding, finding_of};
-ghost use Rattle.msrp_engine.specs.Outcomes.{fault_of, is_trace_fault, is_audit_fault};
+ghost use Rattle.msrp_faults.specs.Outcomes.{fault_of, is_trace_fault, is_audit_fault};
 
-use crate::faults::CliFault;
 use crate::fields::{next_field, next_number};
 use crate::reading::ending_of;
 use msrp_audit::Auditor;
+use msrp_faults::CliFault;
 use msrp_levels::Levels;
 use msrp_plan::bytes::{Sink, Source};
 use msrp_plan::{Fault, Plan, Rule};

@@ -8,12 +8,12 @@ ghost use Rattle.msrp_trace.specs.Readers.{told_left};
 ghost use Rattle.msrp_engine.specs.AuditText.{AuditAnswers};
 ghost use Rattle.msrp_engine.specs.Findings.{finding, finding_of};
 ghost use Rattle.msrp_engine.specs.Inside.Gathered.{IsGathered, found_in, is_missing};
-ghost use Rattle.msrp_engine.specs.Outcomes.{fault_of, is_trace_fault, is_audit_fault};
+ghost use Rattle.msrp_faults.specs.Outcomes.{fault_of, is_trace_fault, is_audit_fault};
 
 use crate::audit::write_verdict;
-use crate::faults::CliFault;
 use crate::reading::ending_of;
 use msrp_audit::audit_parallel;
+use msrp_faults::CliFault;
 use msrp_plan::bytes::{Sink, Source};
 use msrp_plan::{Fault, Memory, Plan, Row, Rule, Trace};
 use msrp_text::read_plan;

@@ -6,11 +6,11 @@ ghost use Rattle.msrp_plan.specs.WellFormed.{IsPlan};
 ghost use Rattle.msrp_text.specs.PlanText.{record_text};
 ghost use Rattle.msrp_text.specs.Reading.{csv_records, plan_of};
 ghost use Rattle.msrp_engine.specs.CheckText.{ceiling_record, check_text, level_record, told_each, top_record};
-ghost use Rattle.msrp_engine.specs.Outcomes.{is_sim_fault};
+ghost use Rattle.msrp_faults.specs.Outcomes.{is_sim_fault};
 ghost use Rattle.msrp_engine.specs.Simulation.{TextAnswers, WritesSomeText};
 
-use crate::faults::CliFault;
 use crate::fields::{next_field, next_number};
+use msrp_faults::CliFault;
 use msrp_levels::Levels;
 use msrp_plan::bytes::{Sink, Source};
 use msrp_plan::{CoreId, Plan, ResId, TaskId, WriteFault};

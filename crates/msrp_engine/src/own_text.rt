@@ -5,10 +5,10 @@ ghost use Rattle.msrp_plan.specs.Bytes.{sink_failed, source_failed, source_remai
 ghost use Rattle.msrp_plan.specs.WellFormed.{IsPlan};
 ghost use Rattle.msrp_text.specs.PlanText.{plan_text};
 ghost use Rattle.msrp_text.specs.Reading.{csv_records, plan_of};
-ghost use Rattle.msrp_engine.specs.Outcomes.{is_sim_fault};
+ghost use Rattle.msrp_faults.specs.Outcomes.{is_sim_fault};
 ghost use Rattle.msrp_engine.specs.Simulation.{TextAnswers, WritesSomeText};
 
-use crate::faults::CliFault;
+use msrp_faults::CliFault;
 use msrp_plan::Plan;
 use msrp_plan::bytes::{Sink, Source};
 use msrp_text::{read_plan, write_plan};

@@ -8,13 +8,13 @@ ghost use Rattle.msrp_text.specs.declared.reading.TextError.{TextError as PlanEr
 ghost use Rattle.msrp_trace.specs.Reading.{Told, rows_of};
 ghost use Rattle.msrp_trace.specs.Readers.{told_left};
 ghost use Rattle.msrp_engine.specs.Findings.{finding};
-ghost use Rattle.msrp_engine.specs.Outcomes.{fault_of, is_trace_fault, is_audit_fault};
-ghost use Rattle.msrp_engine.specs.Reports.{IsReportOf, ReportAnswers, Reports};
+ghost use Rattle.msrp_faults.specs.Outcomes.{fault_of, is_trace_fault, is_audit_fault};
+ghost use Rattle.msrp_engine.specs.Reports.{IsReportOf, ReportAnswers, Reports, WritesShown};
 
 use crate::audit::write_verdict;
-use crate::faults::CliFault;
 use crate::made::Made;
 use crate::reading::ending_of;
+use msrp_faults::CliFault;
 use msrp_levels::Levels;
 use msrp_plan::bytes::{Sink, Source};
 use msrp_plan::{Fault, Plan};
@@ -128,6 +128,26 @@ pub fn report_of_texts<P: Read, T: Read>(
     }
 }
 
+// Writes the text that is shown of rows with that verdict, or the verdict in its place, and answers the status.
+fn write_shown<W: Write>(
+    out: &mut Sink<W>,
+    text: &[u8],
+    found: Result<(), Fault>,
+) -> Result<u8, CliFault>
+    ensures answer { WritesShown W.contents text.now found out.old out.new result }
+    ensures good { IfOk result (λ status. ((status ≡ 0) ⊎ (status ≡ 1)) × (sink_failed out.new ≡ false)) }
+    ensures fault { IfErr result (λ fault. (fault ≡ CliFault.Write) × (sink_failed out.new ≡ true)) }
+{
+    match found {
+        Err(fault) => write_verdict(out, Err(fault)),
+        Ok(()) => {
+            out.add(text);
+            out.outcome()?;
+            Ok(0)
+        }
+    }
+}
+
 /// Reads a plan and a trace of it, whoever made it, and writes the report of the trace with status 0; where the trace isn't
 /// a legal run, it writes the line of its first fault with status 1, as an audit does.
 ///
@@ -156,14 +176,6 @@ pub fn report_text<P: Read, T: Read, W: Write>(
     ensures write { result ≡ Err CliFault.Write → sink_failed out.new ≡ true }
     ensures silent { IfErr result (λ fault. (fault ≡ CliFault.Write) ⊎ (out.new ≡ out.old)) }
 {
-    let plan = read_plan(alloc, plan)?;
-    match report_trace(alloc, &plan, trace)? {
-        Err(fault) => write_verdict(out, Err(fault)),
-        Ok(report) => {
-            let text = gathered(alloc, &plan, &report)?;
-            out.add(text.as_slice());
-            out.outcome()?;
-            Ok(0)
-        }
-    }
+    let made = report_of_texts(alloc, plan, trace)?;
+    write_shown(out, made.text.as_slice(), made.found)
 }

@@ -6,10 +6,10 @@ ghost use Rattle.msrp_plan.specs.Bytes.{sink_failed, source_failed, source_remai
 ghost use Rattle.msrp_plan.specs.Runs.{IsRun};
 ghost use Rattle.msrp_plan.specs.WellFormed.{IsPlan};
 ghost use Rattle.msrp_text.specs.Reading.{csv_records, plan_of};
-ghost use Rattle.msrp_engine.specs.Outcomes.{written_status, is_sim_fault};
+ghost use Rattle.msrp_faults.specs.Outcomes.{written_status, is_sim_fault};
 ghost use Rattle.msrp_engine.specs.Running.{RunAnswers, WritesLegalRun, WritesSomeLegalRun};
 
-use crate::faults::CliFault;
+use msrp_faults::CliFault;
 use msrp_merge::Merging;
 use msrp_plan::bytes::{Sink, Source};
 use msrp_plan::{Plan, TextVersion, WriteFault};

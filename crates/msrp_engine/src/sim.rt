@@ -7,10 +7,10 @@ ghost use Rattle.msrp_plan.specs.WellFormed.{IsPlan};
 ghost use Rattle.msrp_sim.specs.Orders.{cores_of};
 ghost use Rattle.msrp_sim.specs.Simulated.{HasMade};
 ghost use Rattle.msrp_text.specs.Reading.{csv_records, plan_of};
-ghost use Rattle.msrp_engine.specs.Outcomes.{written_status, is_sim_fault};
+ghost use Rattle.msrp_faults.specs.Outcomes.{written_status, is_sim_fault};
 ghost use Rattle.msrp_engine.specs.Simulation.{SimAnswers, WritesRun, WritesSomeRun};
 
-use crate::faults::CliFault;
+use msrp_faults::CliFault;
 use msrp_levels::Levels;
 use msrp_plan::bytes::{Sink, Source};
 use msrp_plan::{Plan, TextVersion, WriteFault};

@@ -13,8 +13,8 @@ use Rattle.clap.specs.declared.builder.arg.Arg.{Arg}
 use Rattle.clap.specs.declared.builder.command.Command.{Command}
 use Rattle.clap.specs.declared.error.kind.ErrorKind.{ErrorKind}
 use Rattle.msrp_cli.specs.Arguments.{is_given}
-use Rattle.msrp_engine.specs.declared.faults.CliFault.{CliFault}
-use Rattle.msrp_engine.specs.declared.faults.CliFault.TheVariants.{Memory, Usage}
+use Rattle.msrp_faults.specs.declared.faults.CliFault.{CliFault}
+use Rattle.msrp_faults.specs.declared.faults.CliFault.TheVariants.{Memory, Usage}
 use Rattle.msrp_view.specs.declared.cli.Cmd.{Cmd}
 use Rattle.msrp_view.specs.declared.cli.Cmd.TheVariants.{View}
 use Rattle.msrp_picture.specs.declared.windows.Style.{Style}

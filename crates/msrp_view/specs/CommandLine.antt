@@ -7,8 +7,8 @@ use Rattle.clap.specs.Words.{App, IsAmong, Kinds, Row, Rule, Text, app_of, first
 use Rattle.clap.specs.declared.builder.command.Command.{Command}
 use Rattle.clap.specs.declared.error.kind.ErrorKind.{ErrorKind}
 use Rattle.msrp_cli.specs.Arguments.{fault_of_words, flag, help_unless, is_given, paths_of, valued, wanted}
-use Rattle.msrp_engine.specs.declared.faults.CliFault.{CliFault}
-use Rattle.msrp_engine.specs.declared.faults.CliFault.TheVariants.{Usage}
+use Rattle.msrp_faults.specs.declared.faults.CliFault.{CliFault}
+use Rattle.msrp_faults.specs.declared.faults.CliFault.TheVariants.{Usage}
 use Rattle.msrp_view.specs.declared.cli.Cmd.{Cmd}
 use Rattle.msrp_view.specs.declared.cli.Cmd.TheVariants.{Help, View, Why}
 use Rattle.msrp_picture.specs.declared.windows.Asked.{Asked}

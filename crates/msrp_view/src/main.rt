@@ -1,7 +1,7 @@
 //! `msrp_view`: draws a trace of a plan, in text or in SVG, or says in words what is wrong with either.
 //!
-//! `cli` reads the command line, and `main` opens what the words name, prints the line of a fault and gives the exit status. The engine
-//! is `msrp_engine`'s.
+//! `cli` reads the command line, and `main` opens what the words name, prints the line of a fault and gives the exit status. The engines
+//! are `msrp_view_engine`'s.
 #![tactic(auto)]
 
 mod cli;
@@ -10,8 +10,9 @@ mod tests;
 
 use cli::{Cmd, command_of, help_text};
 use msrp_cli::{open, open_both, words_of, write_help};
-use msrp_engine::{CliFault, exit_of, view_text, why_plan_text, why_text};
+use msrp_engine::{CliFault, exit_of};
 use msrp_plan::bytes::{Sink, Source};
+use msrp_view_engine::{view_text, why_plan_text, why_text};
 use std::io;
 use std::process::ExitCode;
 

@@ -1,10 +1,12 @@
-//! What words ask for.
+//! What words ask for, and pictures.
 
 use crate::cli::{Cmd, command_of};
 use msrp_engine::CliFault;
 use msrp_picture::{Asked, Style};
 use std::alloc::{AllocError, Global};
 use std::test::Fail;
+
+mod pictures;
 
 const ALL: Asked = Asked {
     style: Style::Text,

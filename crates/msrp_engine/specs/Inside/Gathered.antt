@@ -7,9 +7,9 @@ use Rattle.msrp_plan.specs.declared.faults.Rule.{Rule}
 use Rattle.msrp_plan.specs.declared.faults.Rule.TheVariants.{A6}
 use Rattle.msrp_plan.specs.declared.rows.Row.{Row}
 use Rattle.msrp_trace.specs.Reading.{Told}
-use Rattle.msrp_engine.specs.Outcomes.{trace_fault_of}
-use Rattle.msrp_engine.specs.declared.faults.CliFault.{CliFault}
-use Rattle.msrp_engine.specs.declared.faults.CliFault.TheVariants.{Read, Memory}
+use Rattle.msrp_faults.specs.Outcomes.{trace_fault_of}
+use Rattle.msrp_faults.specs.declared.faults.CliFault.{CliFault}
+use Rattle.msrp_faults.specs.declared.faults.CliFault.TheVariants.{Read, Memory}
 
 -- why no row behind these was gathered: there are as many as were asked for, or none is left; else a read failed, memory was
 -- refused, or the record behind them is refused

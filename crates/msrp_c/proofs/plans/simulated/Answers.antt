@@ -1,7 +1,7 @@
 use Rattle.std.proofs.Common.{◌≡◌, ◌⊎◌, ◌∙◌, ℕ, List, Option, Some, None, Err, ap, inl, inr, subst, sym}
 use Rattle.std.specs.declared.result.Result.{Result}
-use Rattle.msrp_engine.specs.declared.faults.CliFault.{CliFault}
-use Rattle.msrp_engine.specs.declared.faults.CliFault.TheVariants.{Memory, Usage}
+use Rattle.msrp_faults.specs.declared.faults.CliFault.{CliFault}
+use Rattle.msrp_faults.specs.declared.faults.CliFault.TheVariants.{Memory, Usage}
 use Rattle.msrp_plan.specs.Plan.{PlanModel}
 use Rattle.msrp_plan.specs.declared.rows.TextVersion.{TextVersion}
 use Rattle.msrp_text.specs.Reading.{csv_records, plan_of}

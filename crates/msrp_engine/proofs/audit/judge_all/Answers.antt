@@ -1,7 +1,7 @@
 use Rattle.std.proofs.Common.{rules, ◌≡◌, Err}
 use Rattle.msrp_text.specs.Reading.{csv_records}
 use Rattle.msrp_trace.specs.Reading.{rows_of}
-use Rattle.msrp_engine.specs.Outcomes.{trace_fault_of}
+use Rattle.msrp_faults.specs.Outcomes.{trace_fault_of}
 use Rattle.msrp_trace.proofs.ReadThrough.{opened}
 use Rattle.msrp_engine.proofs.Judging.{unopened-found}
 use Rattle.msrp_engine.proofs.audit.judge_all.Goals as goal

@@ -2,8 +2,8 @@ use Rattle.std.proofs.Common.{rules, ◌≡◌, ◌⊎◌, ◌++◌, ◌∷◌, 
 use Rattle.msrp_plan.specs.Plan.{PlanModel}
 use Rattle.msrp_plan.specs.Verdict.{fault_in}
 use Rattle.msrp_engine.specs.Findings.{finding}
-use Rattle.msrp_engine.specs.Outcomes.{trace_fault_of}
-use Rattle.msrp_engine.specs.declared.faults.CliFault.TheVariants.{Read, Memory}
+use Rattle.msrp_faults.specs.Outcomes.{trace_fault_of}
+use Rattle.msrp_faults.specs.declared.faults.CliFault.TheVariants.{Read, Memory}
 use Rattle.msrp_trace.proofs.ReadThrough.{none-read, read-row}
 use Rattle.msrp_engine.proofs.Judging.{fault-answer, fault-found, fewer-left, good-answer, refusal-found, turn-left, verdict-found}
 use Rattle.msrp_engine.proofs.audit.judge_rows.Goals as goal

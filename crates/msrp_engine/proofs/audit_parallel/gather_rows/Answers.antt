@@ -2,8 +2,8 @@ use Rattle.std.proofs.Common.{rules, ◌≡◌, ◌++◌, ◌∷◌, ◌+◌, []
 use Rattle.msrp_plan.specs.declared.rows.Row.{Row}
 use Rattle.msrp_trace.specs.Readers.{told_left}
 use Rattle.msrp_engine.specs.Inside.Gathered.{IsGathered}
-use Rattle.msrp_engine.specs.Outcomes.{trace_fault_of}
-use Rattle.msrp_engine.specs.declared.faults.CliFault.TheVariants.{Memory}
+use Rattle.msrp_faults.specs.Outcomes.{trace_fault_of}
+use Rattle.msrp_faults.specs.declared.faults.CliFault.TheVariants.{Memory}
 use Rattle.msrp_engine.proofs.Gathering.{gathered-all, gathered-full, gathered-refused, gathered-unkept}
 use Rattle.msrp_trace.proofs.ReadThrough.{IsReadTo, none-read, read-row}
 use Rattle.msrp_engine.proofs.audit_parallel.gather_rows.Goals as goal

@@ -1,7 +1,7 @@
 use Rattle.std.proofs.Common.{rules, ◌≡◌, ◌++◌, ◌∷◌, [], ◌+◌, ◌<◌, ◌*◌, Ok, Err, length, refl, ap, sym, subst, ◌∙◌, length-append}
 use Rattle.msrp_plan.specs.Plan.{PlanModel}
 use Rattle.msrp_plan.specs.Verdict.{fault_in}
-use Rattle.msrp_engine.specs.Outcomes.{trace_fault_of}
+use Rattle.msrp_faults.specs.Outcomes.{trace_fault_of}
 use Rattle.msrp_trace.proofs.ReadThrough.{none-read, read-row, read-whole}
 use Rattle.msrp_engine.proofs.Judging.{fault-answer, fault-found, fewer-left, good-answer, refusal-found, turn-left, verdict-found}
 use Rattle.msrp_engine.proofs.Reporting.{IsReported, reported-end, reported-error, reported-fault}

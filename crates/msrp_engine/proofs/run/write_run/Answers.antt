@@ -1,6 +1,6 @@
 use Rattle.std.proofs.Common.{◌≡◌, Ok, Err, cond, ap, sym, inr, ◌∙◌}
 use Rattle.std.proofs.lemmas.Result.{err_from_is_err_and}
-use Rattle.msrp_engine.specs.declared.faults.CliFault.TheVariants.{Write}
+use Rattle.msrp_faults.specs.declared.faults.CliFault.TheVariants.{Write}
 use Rattle.msrp_engine.proofs.run.write_run.Goals as goal
 
 pub returns-in_err-write_merged : goal.returns-in_err-write_merged

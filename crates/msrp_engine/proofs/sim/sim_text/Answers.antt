@@ -1,9 +1,9 @@
 use Rattle.std.proofs.Common.{◌≡◌, true, subst, sym, ◌∙◌, refl, inl, inr, arith}
 use Rattle.msrp_plan.specs.Scheduling.{IsOrder}
 use Rattle.msrp_sim.specs.Orders.{cores_of}
-use Rattle.msrp_engine.specs.Outcomes.{is_sim_fault}
+use Rattle.msrp_faults.specs.Outcomes.{is_sim_fault}
 use Rattle.msrp_engine.specs.Simulation.{Simulated}
-use Rattle.msrp_engine.specs.declared.faults.CliFault.TheVariants.{Memory}
+use Rattle.msrp_faults.specs.declared.faults.CliFault.TheVariants.{Memory}
 use Rattle.msrp_engine.proofs.SimAnswers.{on_fault, on_status, sim_from_plan, write_fault}
 use Rattle.msrp_engine.proofs.sim.sim_text.Goals as goal
 

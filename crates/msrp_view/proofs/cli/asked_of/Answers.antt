@@ -1,7 +1,7 @@
 use Rattle.std.proofs.Common.{rules, ◌≡◌, ◌∙◌, Ok, Err, codes, ok_or}
 use Rattle.clap.specs.Words.{first_of, found_of, rows_of}
 use Rattle.msrp_cli.specs.Arguments.{is_given}
-use Rattle.msrp_engine.specs.declared.faults.CliFault.TheVariants.{Usage}
+use Rattle.msrp_faults.specs.declared.faults.CliFault.TheVariants.{Usage}
 use Rattle.msrp_view.specs.CommandLine.{style_of, tick_of}
 use Rattle.msrp_view.proofs.Grammar.{all_asked, no_from, no_style, no_to}
 use Rattle.msrp_view.proofs.cli.asked_of.Goals as goal

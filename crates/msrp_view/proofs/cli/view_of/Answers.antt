@@ -1,7 +1,7 @@
 use Rattle.std.proofs.Common.{rules, ◌≡◌, Ok, Err, ok_or}
 use Rattle.clap.specs.Words.{found_of, rows_of}
 use Rattle.msrp_cli.specs.Arguments.{paths_of}
-use Rattle.msrp_engine.specs.declared.faults.CliFault.TheVariants.{Usage}
+use Rattle.msrp_faults.specs.declared.faults.CliFault.TheVariants.{Usage}
 use Rattle.msrp_view.specs.CommandLine.{asked_of}
 use Rattle.msrp_view.proofs.Grammar.{all_told, no_paths, none_asked}
 use Rattle.msrp_view.proofs.cli.view_of.Goals as goal

@@ -1,0 +1,4 @@
+pub mod Explaining
+pub mod ReadThrough
+pub mod Recounting
+pub mod Picturing

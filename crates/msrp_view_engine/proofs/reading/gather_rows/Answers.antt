@@ -1,0 +1,25 @@
+use Rattle.std.proofs.Common.{rules, ◌≡◌, ◌++◌, ◌∷◌, [], List, Ok, Err, ap, subst, sym, ◌∙◌}
+use Rattle.msrp_plan.specs.declared.rows.Row.{Row}
+use Rattle.msrp_trace.specs.Readers.{told_left}
+use Rattle.msrp_faults.specs.Outcomes.{trace_fault_of}
+use Rattle.msrp_trace.proofs.ReadThrough.{IsReadTo, none-read, read-row}
+use Rattle.msrp_view_engine.proofs.ReadThrough.{all-read, refused-read}
+use Rattle.msrp_view_engine.proofs.reading.gather_rows.Goals as goal
+
+pub loop-row-init : goal.loop-row-init
+loop-row-init g c = λ told known. subst (λ (rows : List Row). IsReadTo told rows (told_left g.T.Read.remaining c.args.rows.now)) (sym c.requires) (none-read told _ known)
+
+pub loop-row-preserved : goal.loop-row-preserved
+loop-row-preserved g c = λ told known.
+    let pushed : c.push.new.self.items ≡ c.loop-row.gathered.items ++ c.in-Some.row ∷ [] = search rules in
+    subst (λ (rows : List Row). IsReadTo told rows (told_left g.T.Read.remaining c.next_row.new.self)) (sym pushed)
+    (read-row told c.loop-row.gathered.items _ _ c.next_row.result c.in-Some.row (c.loop-row.invariant told known) c.next_row.ensures.next (c.in_ok-row.was ∙ ap (λ x. Ok x) c.in-Some.is))
+
+pub returns-in_err-row-clause-rows : goal.returns-in_err-row-clause-rows
+returns-in_err-row-clause-rows g c = λ told known.
+    let gives : c.from_residual.result ≡ Err (trace_fault_of c.in_err-row.field-0.0) = search rules in
+    refused-read told c.loop-row.gathered.items _ _ c.next_row.result c.in_err-row.field-0.0 c.from_residual.result (c.loop-row.invariant told known) c.next_row.ensures.next (cc) gives
+
+pub returns-in-None-clause-rows : goal.returns-in-None-clause-rows
+returns-in-None-clause-rows g c = λ told known.
+    all-read told (record { rows = c.loop-row.gathered }) _ _ c.next_row.result (c.loop-row.invariant told known) c.next_row.ensures.next (cc)

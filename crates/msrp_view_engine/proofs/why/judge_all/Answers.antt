@@ -1,0 +1,20 @@
+use Rattle.std.proofs.Common.{rules, ◌≡◌, Err, refl}
+use Rattle.msrp_text.specs.Reading.{csv_records}
+use Rattle.msrp_trace.specs.Reading.{rows_of}
+use Rattle.msrp_faults.specs.Outcomes.{trace_fault_of}
+use Rattle.msrp_trace.proofs.ReadThrough.{opened}
+use Rattle.msrp_view_engine.proofs.Explaining.{refusal-why}
+use Rattle.msrp_engine.proofs.Judging.{unopened-found}
+use Rattle.msrp_view_engine.proofs.why.judge_all.Goals as goal
+
+pub returns-in_err-rows-clause-found : goal.returns-in_err-rows-clause-found
+returns-in_err-rows-clause-found g c = λ bytes known.
+    let gives : c.from_residual-in_err-rows.result ≡ Err (trace_fault_of c.in_err-rows.field-0.0) = search rules in
+    refusal-why c.args.plan.now (rows_of c.args.plan.now (csv_records bytes)) (trace_fault_of c.in_err-rows.field-0.0) c.from_residual-in_err-rows.result gives
+    (unopened-found g.T.Read.remaining c.args.plan.now (csv_records bytes) c.in_err-rows.field-0.0 _ (c.in_err-rows.ensures.opens bytes known) refl)
+
+pub returns-clause-found : goal.returns-clause-found
+returns-clause-found g c = λ bytes known.
+    let told = rows_of c.args.plan.now (csv_records bytes) in
+    let begun = opened g.T.Read.remaining c.args.plan.now (csv_records bytes) c.in_ok-rows.rows (c.in_ok-rows.ensures.opens bytes known) in
+    c.judge_rows-found.ensures.found told begun

@@ -1,0 +1,28 @@
+-- What is written and answered where words on a plan are asked for.
+use Rattle.std.specs.Prelude.{◌≡◌, ℕ, ◌-◌, List, Option, Ok, Err, if◌then◌else◌}
+use Rattle.std.specs.declared.result.Result.{Result}
+use Rattle.msrp_advice.specs.Refusals.{refusal_text}
+use Rattle.msrp_advice.specs.Warnings.{accepted_text}
+use Rattle.msrp_plan.specs.Bytes.{Wrote, sink_failed}
+use Rattle.msrp_plan.specs.Codes.{code_of}
+use Rattle.msrp_plan.specs.Plan.{PlanModel}
+use Rattle.msrp_plan.specs.declared.bytes.Sink.{Sink}
+use Rattle.msrp_plan.specs.declared.faults.PlanFault.{PlanFault}
+use Rattle.msrp_text.specs.Reading.{record_at}
+use Rattle.msrp_text.specs.declared.reading.TextError.{TextError}
+use Rattle.msrp_text.specs.declared.reading.TextError.TheVariants.{At, Read, Memory}
+use Rattle.msrp_faults.specs.Outcomes.{fault_of, written_status}
+use Rattle.msrp_faults.specs.declared.faults.CliFault.{CliFault}
+use Rattle.msrp_faults.specs.declared.faults.CliFault.TheVariants.{Plan, Write}
+
+-- the words on a refused record are written, and the refusal is answered as ever if the sink took them all
+pub record TellsRefusal {W : Type 0} (contents : W → Option (List ℕ)) (records : List (List (List ℕ))) (fault : PlanFault) (number : ℕ) (old new : Sink W) (result : Result ℕ CliFault) : Type 0 where
+  pub text : Wrote contents old new (refusal_text fault number (record_at records (number - 1)))
+  pub answer : result ≡ if sink_failed new then Err Write else Err (Plan (code_of fault) number)
+
+-- the answer to records that stand for a plan, or of which one is refused
+abbrev pub WhyPlanAnswers : {W : Type 0} → (W → Option (List ℕ)) → List (List (List ℕ)) → Result PlanModel TextError → Sink W → Sink W → Result ℕ CliFault → Type 0
+WhyPlanAnswers contents records (Ok plan) old new result = Wrote contents old new (accepted_text plan) × (result ≡ written_status new)
+WhyPlanAnswers contents records (Err (At fault number)) old new result = TellsRefusal contents records fault number old new result
+WhyPlanAnswers contents records (Err Read) old new result = result ≡ Err (fault_of Read)
+WhyPlanAnswers contents records (Err Memory) old new result = result ≡ Err (fault_of Memory)

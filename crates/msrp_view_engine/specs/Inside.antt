@@ -1,0 +1,2 @@
+-- Words of private functions. No public contract speaks of them.
+pub mod Readings

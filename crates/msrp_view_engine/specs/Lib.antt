@@ -1,0 +1,4 @@
+pub mod Views
+pub mod Explaining
+pub mod Whys
+pub mod Inside

@@ -1,0 +1,177 @@
+//! Why a trace is no legal run: the verdict, the row that breaks a rule, and what was due.
+ghost use Rattle.std.specs.Prelude.{◌≡◌, ◌⊎◌, ℕ, List, [], true, false, Some, Err, IfOk, IfErr};
+ghost use Rattle.msrp_audit.specs.Audits.{HasFed};
+ghost use Rattle.msrp_plan.specs.Bytes.{Wrote, sink_failed, source_failed, source_remaining};
+ghost use Rattle.msrp_text.specs.Reading.{csv_records, plan_of};
+ghost use Rattle.msrp_text.specs.declared.reading.TextError.{TextError as PlanError};
+ghost use Rattle.msrp_trace.specs.Reading.{Told, rows_of};
+ghost use Rattle.msrp_trace.specs.Readers.{told_left};
+ghost use Rattle.msrp_faults.specs.Outcomes.{fault_of, is_trace_fault, is_audit_fault};
+ghost use Rattle.msrp_view_engine.specs.Whys.{IsFound, WhyAnswers, WhyTold, behind_text, found_text, why_status};
+
+use msrp_audit::Auditor;
+use msrp_engine::{CliFault, add_verdict};
+use msrp_levels::Levels;
+use msrp_plan::bytes::{Sink, Source};
+use msrp_plan::{Fault, Plan};
+use msrp_text::read_plan;
+use msrp_trace::TraceReader;
+use msrp_why::{Cause, feed, write_cause, write_missing};
+use std::alloc::Global;
+use std::io::{Read, Write};
+
+// A verdict, with the cause of a fault at a row.
+#[derive(Clone, Copy, Debug)]
+struct Explained {
+    verdict: Result<(), Fault>,
+    cause: Option<Cause>,
+}
+
+// What is found in the rows that a reader has left. They are judged as they come, and none is read after a faulty one.
+fn judge_rows<T: Read>(
+    plan: &Plan,
+    auditor: &mut Auditor<'_>,
+    rows: &mut TraceReader<'_, T>,
+) -> Result<Explained, CliFault>
+    requires plan { auditor.old.plan ≡ plan.now }
+    requires fed { HasFed auditor.old [] }
+    ensures found { (told : Told) → told_left T.remaining rows.old ≡ Some told
+        → (result ≡ Err CliFault.Read) ⊎ (result ≡ Err CliFault.Memory) ⊎ IsFound plan.now told result }
+    ensures faults { IfErr result (λ fault. is_trace_fault fault ≡ true) }
+{
+    while let Some(row) = rows.next_foreseen(|core| auditor.foresee(core))? {
+        if let Err(cause) = feed(plan, auditor, row) {
+            return Ok(Explained {
+                verdict: Err(cause.fault),
+                cause: Some(cause),
+            });
+        }
+    }
+    Ok(Explained {
+        verdict: auditor.end(),
+        cause: None,
+    })
+}
+
+// What is found in the rows of a trace's text. Whatever ends the reading early may be told as a failed read.
+fn judge_all<T: Read>(
+    alloc: Global,
+    plan: &Plan,
+    levels: &Levels<'_>,
+    trace: &mut Source<T>,
+) -> Result<Explained, CliFault>
+    requires levels { levels.now ≡ plan.now }
+    ensures found { (bytes : List ℕ) → source_remaining T.remaining trace.old ≡ Some bytes
+        → (result ≡ Err CliFault.Read) ⊎ (result ≡ Err CliFault.Memory) ⊎ IsFound plan.now (rows_of plan.now (csv_records bytes)) result }
+    ensures faults { IfErr result (λ fault. is_trace_fault fault ≡ true) }
+{
+    let mut auditor = Auditor::with_room(alloc, plan, levels)?;
+    let mut rows = TraceReader::new(alloc, trace, plan)?;
+    let found = judge_rows(plan, &mut auditor, &mut rows);
+    drop(rows);
+    found
+}
+
+// What is found in a trace's text. One row is kept at a time.
+fn judge_text<T: Read>(
+    alloc: Global,
+    plan: &Plan,
+    levels: &Levels<'_>,
+    trace: &mut Source<T>,
+) -> Result<Explained, CliFault>
+    requires levels { levels.now ≡ plan.now }
+    ensures found { (bytes : List ℕ) → source_remaining T.remaining trace.old ≡ Some bytes
+        → (result ≡ Err CliFault.Read) ⊎ (result ≡ Err CliFault.Memory) ⊎ IsFound plan.now (rows_of plan.now (csv_records bytes)) result }
+    ensures faults { IfErr result (λ fault. is_trace_fault fault ≡ true) }
+    ensures read { result ≡ Err CliFault.Read → source_failed trace.new ≡ true }
+{
+    match judge_all(alloc, plan, levels, trace) {
+        Err(CliFault::Read) if !trace.failed() => Err(CliFault::Memory),
+        found => found,
+    }
+}
+
+// Tells what makes the verdict so, behind its record.
+fn write_behind<W: Write>(out: &mut Sink<W>, plan: &Plan, levels: &Levels<'_>, found: Explained)
+    requires levels { levels.now ≡ plan.now }
+    ensures { Wrote W.contents out.old out.new (behind_text plan.now found.verdict found.cause) }
+{
+    match (found.verdict, found.cause) {
+        (Ok(()), _) => {}
+        (Err(_), None) => write_missing(out, plan),
+        (Err(_), Some(cause)) => write_cause(out, plan, levels, cause),
+    }
+}
+
+// Writes a verdict and what makes it so, and answers its status.
+fn write_found<W: Write>(
+    out: &mut Sink<W>,
+    plan: &Plan,
+    levels: &Levels<'_>,
+    found: Explained,
+) -> Result<u8, CliFault>
+    requires levels { levels.now ≡ plan.now }
+    ensures wrote { Wrote W.contents out.old out.new (found_text plan.now found.verdict found.cause) }
+    ensures status { result ≡ why_status found.verdict out.new }
+    ensures good { IfOk result (λ status. ((status ≡ 0) ⊎ (status ≡ 1)) × (sink_failed out.new ≡ false)) }
+    ensures fault { IfErr result (λ fault. (fault ≡ CliFault.Write) × (sink_failed out.new ≡ true)) }
+{
+    add_verdict(out, found.verdict);
+    write_behind(out, plan, levels, found);
+    out.outcome()?;
+    match found.verdict {
+        Ok(()) => Ok(0),
+        Err(_) => Ok(1),
+    }
+}
+
+// The same of an accepted plan.
+fn explain<T: Read, W: Write>(
+    alloc: Global,
+    plan: &Plan,
+    trace: &mut Source<T>,
+    out: &mut Sink<W>,
+) -> Result<u8, CliFault>
+    ensures answer { (bytes : List ℕ) → source_remaining T.remaining trace.old ≡ Some bytes
+        → (result ≡ Err CliFault.Read) ⊎ (result ≡ Err CliFault.Memory) ⊎ WhyTold W.contents plan.now (rows_of plan.now (csv_records bytes)) out.old out.new result }
+    ensures good { IfOk result (λ status. ((status ≡ 0) ⊎ (status ≡ 1)) × (sink_failed out.new ≡ false)) }
+    ensures faults { IfErr result (λ fault. (is_trace_fault fault ≡ true) ⊎ (fault ≡ CliFault.Write)) }
+    ensures read { result ≡ Err CliFault.Read → source_failed trace.new ≡ true }
+    ensures write { result ≡ Err CliFault.Write → sink_failed out.new ≡ true }
+    ensures silent { IfErr result (λ fault. (fault ≡ CliFault.Write) ⊎ (out.new ≡ out.old)) }
+{
+    let levels = Levels::of(alloc, plan)?;
+    let found = judge_text(alloc, plan, &levels, trace)?;
+    write_found(out, plan, &levels, found)
+}
+
+/// Reads a plan and a trace of it, whoever made it, and writes the verdict as [`audit_text`](crate::audit_text) does, and behind
+/// it, in plain sentences, what makes it so: the first row that breaks a rule, the rule, the row that was due in its place, and
+/// the facts that the rule needs. The answer is the exit status, 0 or 1.
+///
+/// The rows are judged as they come, and one is kept at a time. A refusal is answered as it is there, and nothing is written of it.
+pub fn why_text<P: Read, T: Read, W: Write>(
+    alloc: Global,
+    plan: &mut Source<P>,
+    trace: &mut Source<T>,
+    out: &mut Sink<W>,
+) -> Result<u8, CliFault>
+    // Where the readers tell their bytes, and no read failed and no memory was refused, the answer is that to
+    // the plan and the rows that they stand for.
+    ensures answer { (plan_bytes trace_bytes : List ℕ) → source_remaining P.remaining plan.old ≡ Some plan_bytes → source_remaining T.remaining trace.old ≡ Some trace_bytes
+        → (result ≡ Err CliFault.Read) ⊎ (result ≡ Err CliFault.Memory) ⊎ WhyAnswers W.contents (plan_of (csv_records plan_bytes)) (csv_records trace_bytes) out.old out.new result }
+
+    // The same of a refused plan, whatever the trace is read from.
+    ensures refused { (bytes : List ℕ) (error : PlanError) → source_remaining P.remaining plan.old ≡ Some bytes → plan_of (csv_records bytes) ≡ Err error
+        → (result ≡ Err CliFault.Read) ⊎ (result ≡ Err CliFault.Memory) ⊎ (result ≡ Err (fault_of error)) }
+
+    // Whatever the readers tell.
+    ensures good { IfOk result (λ status. ((status ≡ 0) ⊎ (status ≡ 1)) × (sink_failed out.new ≡ false)) }
+    ensures faults { IfErr result (λ fault. is_audit_fault fault ≡ true) }
+    ensures read { result ≡ Err CliFault.Read → (source_failed plan.new ≡ true) ⊎ (source_failed trace.new ≡ true) }
+    ensures write { result ≡ Err CliFault.Write → sink_failed out.new ≡ true }
+    ensures silent { IfErr result (λ fault. (fault ≡ CliFault.Write) ⊎ (out.new ≡ out.old)) }
+{
+    let plan = read_plan(alloc, plan)?;
+    explain(alloc, &plan, trace, out)
+}

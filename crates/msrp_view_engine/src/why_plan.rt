@@ -1,0 +1,123 @@
+//! Why a plan is refused, or what is odd in it, in words.
+ghost use Rattle.std.specs.Prelude.{◌≡◌, ◌⊎◌, ◌-◌, ℕ, List, [], true, false, Ok, Some, Err, IfOk, IfErr, if◌then◌else◌};
+ghost use Rattle.csv.specs.Records.{fields_of};
+ghost use Rattle.msrp_advice.specs.Refusals.{refusal_text};
+ghost use Rattle.msrp_advice.specs.Warnings.{accepted_text};
+ghost use Rattle.msrp_plan.specs.Bytes.{Wrote, sink_failed, source_failed, source_remaining};
+ghost use Rattle.msrp_plan.specs.Codes.{code_of};
+ghost use Rattle.msrp_text.specs.Reading.{csv_records, plan_of, record_at};
+ghost use Rattle.msrp_text.specs.Records.{GivesNext, records_left};
+ghost use Rattle.msrp_view_engine.specs.Explaining.{TellsRefusal, WhyPlanAnswers};
+ghost use Rattle.msrp_faults.specs.Outcomes.{is_sim_fault, written_status};
+
+use csv::ByteRecord;
+use msrp_advice::{write_accepted, write_refusal};
+use msrp_engine::CliFault;
+use msrp_levels::Levels;
+use msrp_plan::bytes::{Sink, Source};
+use msrp_plan::{Plan, PlanFault};
+use msrp_text::records::RecordReader;
+use msrp_text::{TextError, read_plan};
+use std::alloc::Global;
+use std::io::{Read, Write};
+
+// All bytes of a text.
+fn bytes_of<P: Read>(alloc: Global, text: &mut Source<P>) -> Result<Vec<u8>, CliFault>
+    ensures bytes { (bytes : List ℕ) → source_remaining P.remaining text.old ≡ Some bytes → IfOk result (λ all. all.items ≡ bytes) }
+    ensures faults { IfErr result (λ fault. (fault ≡ CliFault.Read) ⊎ (fault ≡ CliFault.Memory)) }
+    ensures read { result ≡ Err CliFault.Read → source_failed text.new ≡ true }
+{
+    let mut all = Vec::new(alloc);
+    match text.read_to_end(&mut all) {
+        Ok(_) => Ok(all),
+        Err(_) => if text.failed() {
+            Err(CliFault::Read)
+        } else {
+            Err(CliFault::Memory)
+        },
+    }
+}
+
+// The next record into `row`, and whether there was one.
+fn next<'a>(records: &mut RecordReader<&'a [u8]>, row: &mut ByteRecord) -> Result<bool, CliFault>
+    ensures next { IfOk result (λ found. (left : List (List (List ℕ))) → records_left (λ s. Some s.now) records.old ≡ Some left → GivesNext left found (fields_of row.new) (records_left (λ s. Some s.now) records.new)) }
+    ensures fault { IfErr result (λ fault. fault ≡ CliFault.Memory) }
+{
+    records.read(row).map_err(|_| CliFault::Memory)
+}
+
+// The record of a text by its number, counted from 1. One that isn't there has no field.
+fn record_of(alloc: Global, bytes: &[u8], number: u32) -> Result<ByteRecord, CliFault>
+    ensures record { IfOk result (λ row. fields_of row ≡ record_at (csv_records bytes.now) (number - 1)) }
+    ensures fault { IfErr result (λ fault. fault ≡ CliFault.Memory) }
+{
+    let mut records = RecordReader::new(alloc, bytes);
+    let mut row = ByteRecord::new(alloc);
+    for _at in 1..number {
+        if !next(&mut records, &mut row)? {
+            return Ok(ByteRecord::new(alloc));
+        }
+    }
+    if next(&mut records, &mut row)? {
+        Ok(row)
+    } else {
+        Ok(ByteRecord::new(alloc))
+    }
+}
+
+// Writes the words on a refused record of a text.
+fn tell_refusal<W: Write>(
+    alloc: Global,
+    bytes: &[u8],
+    fault: PlanFault,
+    number: u32,
+    out: &mut Sink<W>,
+) -> Result<u8, CliFault>
+    ensures answer { ((result ≡ Err CliFault.Memory) × (out.new ≡ out.old)) ⊎ TellsRefusal W.contents (csv_records bytes.now) fault number out.old out.new result }
+{
+    let row = record_of(alloc, bytes, number)?;
+    write_refusal(out, fault, number, &row);
+    out.outcome()?;
+    Err(CliFault::Plan {
+        code: fault.code(),
+        number,
+    })
+}
+
+// Writes the words on an accepted plan.
+fn tell_accepted<W: Write>(alloc: Global, plan: &Plan, out: &mut Sink<W>) -> Result<u8, CliFault>
+    ensures answer { ((result ≡ Err CliFault.Memory) × (out.new ≡ out.old)) ⊎ (Wrote W.contents out.old out.new (accepted_text plan.now) × (result ≡ written_status out.new)) }
+{
+    let levels = Levels::of(alloc, plan)?;
+    write_accepted(out, plan, &levels);
+    out.outcome()?;
+    Ok(0)
+}
+
+/// Reads a plan, and writes what is wrong with it or odd in it. Of a refused plan: the code and the number of the refused record with
+/// a sentence on it, and the record as it stands. The answer is the refusal, as every engine gives it, and so is the exit status. Of
+/// an accepted plan: `good`, and then a line for each thing that is odd.
+///
+/// All memory is taken before anything is written: so whatever the fault, but a refusal or a write fault, nothing was written.
+pub fn why_plan_text<P: Read, W: Write>(
+    alloc: Global,
+    plan: &mut Source<P>,
+    out: &mut Sink<W>,
+) -> Result<u8, CliFault>
+    // Where the reader tells its bytes, and no read failed and no memory was refused, the answer is that to
+    // the records that they stand for.
+    ensures answer { (bytes : List ℕ) → source_remaining P.remaining plan.old ≡ Some bytes
+        → (result ≡ Err CliFault.Read) ⊎ (result ≡ Err CliFault.Memory) ⊎ WhyPlanAnswers W.contents (csv_records bytes) (plan_of (csv_records bytes)) out.old out.new result }
+
+    // Whatever the reader tells.
+    ensures read { result ≡ Err CliFault.Read → source_failed plan.new ≡ true }
+{
+    let bytes = bytes_of(alloc, plan)?;
+    match read_plan(alloc, &mut Source::new(bytes.as_slice())) {
+        Ok(plan) => tell_accepted(alloc, &plan, out),
+        Err(TextError::At { fault, number }) => {
+            tell_refusal(alloc, bytes.as_slice(), fault, number, out)
+        }
+        Err(_) => Err(CliFault::Memory),
+    }
+}

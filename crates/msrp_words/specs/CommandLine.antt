@@ -1,0 +1,71 @@
+-- The words that the program takes, as the parser is told of them, and what is answered.
+use Rattle.std.specs.Prelude.{◌≡◌, List, [], ◌∷◌, Option, Some, None, codes, IsOkAnd}
+use Rattle.std.specs.declared.result.Result.{Result}
+use Rattle.clap.specs.Words.{App, IsAmong, Kinds, Row, Rule, Text, app_of, new_app, new_rule, with_rule, with_subcommand}
+use Rattle.clap.specs.declared.builder.command.Command.{Command}
+use Rattle.clap.specs.declared.error.kind.ErrorKind.{ErrorKind}
+use Rattle.msrp_words.specs.Words.{IsAsked, IsCommand}
+use Rattle.msrp_words.specs.declared.cli.Cmd.{Cmd}
+use Rattle.msrp_words.specs.declared.cli.Cmd.TheVariants.{Help}
+use Rattle.msrp_cli.specs.Arguments.{fault_of_words, flag, help_unless, valued, wanted}
+use Rattle.msrp_faults.specs.declared.faults.CliFault.{CliFault}
+
+-- ---- arguments
+-- the path of a plan, which need not be given
+abbrev pub plan : Rule
+plan = new_rule (codes "PLAN")
+
+-- the order of the cores, and whether aheads are told
+abbrev pub order : Rule
+order = valued (codes "order")
+
+abbrev pub ahead : Rule
+ahead = flag (codes "ahead")
+
+-- ---- commands
+abbrev pub sim : App
+sim = with_rule (with_rule (with_rule (new_app (codes "sim")) order) ahead) plan
+
+abbrev pub run : App
+run = with_rule (with_rule (new_app (codes "run")) ahead) plan
+
+abbrev pub check : App
+check = with_rule (with_rule (new_app (codes "check")) (flag (codes "text"))) plan
+
+-- a command that judges a trace of a plan
+abbrev pub judge : Text → App
+judge name = with_rule (with_rule (new_app name) (wanted (codes "PLAN"))) (wanted (codes "TRACE"))
+
+abbrev pub audit : App
+audit = with_rule (judge (codes "audit")) (flag (codes "parallel"))
+
+-- those that make traces, and those that judge them
+abbrev pub with_runs : App → App
+with_runs words = with_subcommand (with_subcommand words sim.top) run.top
+
+abbrev pub with_judges : App → App
+with_judges words = with_subcommand (with_subcommand words audit.top) (judge (codes "report")).top
+
+-- all of them
+unfoldable pub grammar : App
+grammar = with_subcommand (with_judges (with_runs (new_app (codes "msrp")))) check.top
+
+-- the parser was told of these words
+abbrev pub Takes : App → Command → Type 0
+Takes words command = app_of command ≡ words
+
+-- ---- answers
+-- what a fault of the words is answered: the help where it is asked for, which is no fault
+abbrev pub answer_to : ErrorKind → Result Cmd CliFault
+answer_to kind = help_unless Help (fault_of_words kind)
+
+-- words without a command ask for what `sim` asks for with nothing after it, the simulation of standard input; those after a
+-- command ask for that command, as they tell it, or for what it doesn't take
+abbrev pub IsChosen : Option (Text × List Row) → Result Cmd CliFault → Type 0
+IsChosen None result = IsOkAnd result (IsCommand (codes "sim") [])
+IsChosen (Some given) result = IsAsked given.0 given.1 result
+
+-- the answer to words of which the parser tells these kinds of fault, and else this command with what it was given
+abbrev pub IsAnswered : Kinds → Option (Text × List Row) → Result Cmd CliFault → Type 0
+IsAnswered [] given result = IsChosen given result
+IsAnswered (k ∷ kinds) given result = (j : ErrorKind) × IsAmong j (k ∷ kinds) × (result ≡ answer_to j)

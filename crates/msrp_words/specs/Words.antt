@@ -1,0 +1,51 @@
+-- What a command line asks for.
+use Rattle.std.specs.Prelude.{◌≡◌, true, false, List, Option, Some, None, codes, unwrap_or, if◌then◌else◌, Result, Ok, Err}
+use Rattle.std.specs.Str.{bytes_eq}
+use Rattle.clap.specs.Words.{Row, Text, first_of}
+use Rattle.msrp_words.specs.declared.cli.Cmd.{Cmd}
+use Rattle.msrp_words.specs.declared.cli.Cmd.TheVariants.{Sim, Run, Audit, Report, Check, CheckText, Help}
+use Rattle.msrp_words.specs.declared.cli.TurnOrder.{TurnOrder}
+use Rattle.msrp_words.specs.declared.cli.TurnOrder.TheVariants.{Asc, Desc, Rot}
+use Rattle.msrp_cli.specs.Arguments.{is_given, paths_of}
+use Rattle.msrp_faults.specs.declared.faults.CliFault.{CliFault}
+use Rattle.msrp_faults.specs.declared.faults.CliFault.TheVariants.{Usage}
+
+-- ---- arguments, by what the parser found
+-- the path of the plan: standard input where none is given
+abbrev pub plan_path : List Row → Text
+plan_path rows = unwrap_or (first_of (codes "PLAN") rows) (codes "-")
+
+-- the order of the cores that a word names: rising where none is given
+abbrev pub order_of : Option Text → Option TurnOrder
+order_of None = Some Asc
+order_of (Some word) = if bytes_eq word (codes "asc") then Some Asc else if bytes_eq word (codes "desc") then Some Desc else if bytes_eq word (codes "rot") then Some Rot else None
+
+-- ---- commands
+-- the word of a command
+abbrev pub word_of : Cmd → Text
+word_of (Sim order ahead plan) = codes "sim"
+word_of (Run ahead plan) = codes "run"
+word_of (Audit parallel plan trace) = codes "audit"
+word_of (Report plan trace) = codes "report"
+word_of (Check plan) = codes "check"
+word_of (CheckText plan) = codes "check"
+word_of Help = codes "help"
+
+-- the command that these rows tell, its word aside; the help is told as a fault of the words
+abbrev pub IsTold : List Row → Cmd → Type 0
+IsTold rows (Sim order ahead plan) = (order_of (first_of (codes "order") rows) ≡ Some order) × (ahead ≡ is_given (codes "ahead") rows) × (plan.now ≡ plan_path rows)
+IsTold rows (Run ahead plan) = (ahead ≡ is_given (codes "ahead") rows) × (plan.now ≡ plan_path rows)
+IsTold rows (Audit parallel plan trace) = (parallel ≡ is_given (codes "parallel") rows) × (paths_of rows ≡ Some (plan.now, trace.now))
+IsTold rows (Report plan trace) = paths_of rows ≡ Some (plan.now, trace.now)
+IsTold rows (Check plan) = (is_given (codes "text") rows ≡ false) × (plan.now ≡ plan_path rows)
+IsTold rows (CheckText plan) = (is_given (codes "text") rows ≡ true) × (plan.now ≡ plan_path rows)
+IsTold rows Help = ⊥
+
+-- the command of that word, as these rows tell it
+abbrev pub IsCommand : Text → List Row → Cmd → Type 0
+IsCommand word rows command = (word_of command ≡ word) × IsTold rows command
+
+-- the command that is asked for; usage exactly if there is none
+abbrev pub IsAsked : Text → List Row → Result Cmd CliFault → Type 0
+IsAsked word rows (Ok command) = IsCommand word rows command
+IsAsked word rows (Err fault) = (fault ≡ Usage) × ((command : Cmd) → IsCommand word rows command → ⊥)

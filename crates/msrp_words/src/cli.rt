@@ -1,0 +1,327 @@
+//! The command line: the words of a command, and what they ask for.
+
+ghost use Rattle.std.specs.Prelude.{◌≡◌, ◌⊎◌, codes, false, map, ok_or, option_map, string_bytes, Err, IfErr, IfOk};
+ghost use Rattle.clap.specs.Words.{App, fault_of, found_of, rows_of, rule_of, subcommand_of, subcommand_rows_of};
+ghost use Rattle.msrp_words.specs.CommandLine as line;
+ghost use Rattle.msrp_words.specs.CommandLine.{IsAnswered, IsChosen, Takes};
+ghost use Rattle.msrp_words.specs.Words.{IsAsked, IsCommand, order_of, plan_path};
+
+use clap::error::ErrorKind;
+use clap::{Arg, ArgMatches, Command, Error};
+use msrp_cli::{
+    PLAN, STANDARD, TRACE, both_paths, fault_of_words, flag, is_given, path, value_of, valued,
+};
+use msrp_faults::CliFault;
+use std::alloc::{AllocError, Global};
+
+/// The order of the cores in each tick of a simulation.
+#[derive(Clone, Copy, Debug, PartialEq, Eq)]
+pub enum TurnOrder {
+    /// Rising.
+    Asc,
+    /// Falling.
+    Desc,
+    /// In tick t from core t mod m on, and round.
+    Rot,
+}
+
+/// A command, with its words. A path `-` is standard input.
+#[derive(Clone, Copy, Debug, PartialEq, Eq)]
+pub enum Cmd<'a> {
+    /// Simulates the plan on one thread; with `ahead` its trace tells the lengths of queues.
+    Sim {
+        order: TurnOrder,
+        ahead: bool,
+        plan: &'a str,
+    },
+    /// Runs the plan on a thread for each core.
+    Run {
+        ahead: bool,
+        plan: &'a str,
+    },
+    /// Judges a trace of the plan.
+    Audit {
+        parallel: bool,
+        plan: &'a str,
+        trace: &'a str,
+    },
+    /// Counts what happened in a trace of the plan.
+    Report {
+        plan: &'a str,
+        trace: &'a str,
+    },
+    /// Prints the plan's levels and ceilings.
+    Check {
+        plan: &'a str,
+    },
+    /// Prints the plan's own text.
+    CheckText {
+        plan: &'a str,
+    },
+    /// Prints the help.
+    Help,
+}
+
+// The words of arguments, by which they are declared and found again.
+const ORDER: &str = "order";
+
+const AHEAD: &str = "ahead";
+
+const PARALLEL: &str = "parallel";
+
+const TEXT: &str = "text";
+
+fn plan_path<'a>(alloc: Global) -> Arg<'a>
+    ensures rule { rule_of result ≡ line.plan }
+    ensures own { result.global ≡ false }
+{
+    Arg::new(alloc, PLAN).help("the plan's path; - is standard input, as where none is given")
+}
+
+// A command that judges a trace of a plan.
+fn judge<'a>(alloc: Global, name: &'a str, about: &'a str) -> Result<Command<'a>, AllocError>
+    ensures { IfOk result (Takes (line.judge name.now)) }
+{
+    Command::new(alloc, name)
+        .about(about)
+        .arg(path(alloc, PLAN, "the plan's path; - is standard input"))?
+        .arg(path(alloc, TRACE, "the trace's path; - is standard input"))
+}
+
+// The order of the cores.
+fn order_arg<'a>(alloc: Global) -> Arg<'a>
+    ensures rule { rule_of result ≡ line.order }
+    ensures own { result.global ≡ false }
+{
+    valued(
+        alloc,
+        ORDER,
+        "asc|desc|rot",
+        "the order of the cores in each tick: rising, falling, or from core t mod m on in tick t",
+    )
+}
+
+// Whether aheads are told.
+fn ahead_arg<'a>(alloc: Global) -> Arg<'a>
+    ensures rule { rule_of result ≡ line.ahead }
+    ensures own { result.global ≡ false }
+{
+    flag(
+        alloc,
+        AHEAD,
+        "tells with each queued request how many are ahead",
+    )
+}
+
+fn sim<'a>(alloc: Global) -> Result<Command<'a>, AllocError>
+    ensures { IfOk result (Takes line.sim) }
+{
+    Command::new(alloc, "sim")
+        .about("writes the trace of the plan's run on one thread")
+        .arg(order_arg(alloc))?
+        .arg(ahead_arg(alloc))?
+        .arg(plan_path(alloc))
+}
+
+fn run<'a>(alloc: Global) -> Result<Command<'a>, AllocError>
+    ensures { IfOk result (Takes line.run) }
+{
+    Command::new(alloc, "run")
+        .about("writes the trace of the plan's run on one thread for each core")
+        .arg(ahead_arg(alloc))?
+        .arg(plan_path(alloc))
+}
+
+fn check<'a>(alloc: Global) -> Result<Command<'a>, AllocError>
+    ensures { IfOk result (Takes line.check) }
+{
+    Command::new(alloc, "check")
+        .about("writes the plan's preemption levels and ceilings")
+        .arg(flag(alloc, TEXT, "writes the plan's own text"))?
+        .arg(plan_path(alloc))
+}
+
+fn audit<'a>(alloc: Global) -> Result<Command<'a>, AllocError>
+    ensures { IfOk result (Takes line.audit) }
+{
+    judge(alloc, "audit", "judges a trace: good, or its first fault")?.arg(flag(
+        alloc,
+        PARALLEL,
+        "judges the parts of the trace side by side",
+    ))
+}
+
+// The commands that make traces.
+fn with_runs<'a>(alloc: Global, command: Command<'a>) -> Result<Command<'a>, AllocError>
+    ensures { (words : App) → Takes words command.entry → IfOk result (Takes (line.with_runs words)) }
+{
+    command.subcommand(sim(alloc)?)?.subcommand(run(alloc)?)
+}
+
+// The commands that judge traces.
+fn with_judges<'a>(alloc: Global, command: Command<'a>) -> Result<Command<'a>, AllocError>
+    ensures { (words : App) → Takes words command.entry → IfOk result (Takes (line.with_judges words)) }
+{
+    command.subcommand(audit(alloc)?)?.subcommand(judge(
+        alloc,
+        "report",
+        "counts what each task met in a legal trace, beside what it can meet at most",
+    )?)
+}
+
+fn grammar<'a>(alloc: Global) -> Result<Command<'a>, AllocError>
+    ensures { IfOk result (Takes line.grammar) }
+{
+    let command = Command::new(alloc, "msrp").about(
+        "MSRP 0.1.0, the Multiprocessor Stack Resource Policy: runs, audits, reports; without a command as sim -",
+    );
+    with_judges(alloc, with_runs(alloc, command)?)?.subcommand(check(alloc)?)
+}
+
+// The text of the program's help.
+fn program_help(alloc: Global) -> Result<String, CliFault>
+    ensures { IfErr result (λ fault. fault ≡ CliFault.Memory) }
+{
+    let mut command = grammar(alloc)?;
+    Ok(command.render_help()?)
+}
+
+// The help that an answer of the parser is, or else that of the program.
+fn help_in(alloc: Global, answer: Error) -> Result<String, CliFault>
+    ensures { IfErr result (λ fault. fault ≡ CliFault.Memory) }
+{
+    if answer.kind() == ErrorKind::DisplayHelp {
+        Ok(answer.to_string(alloc)?)
+    } else {
+        program_help(alloc)
+    }
+}
+
+/// The text of the help that these words ask for: that of the command before `--help` or after `help`, or else that of the
+/// program.
+pub fn help_text<'a>(alloc: Global, words: &'a [String]) -> Result<String, CliFault>
+    ensures { IfErr result (λ fault. fault ≡ CliFault.Memory) }
+{
+    match grammar(alloc)?.try_get_matches_from(words) {
+        Ok(_) => program_help(alloc),
+        Err(answer) => help_in(alloc, answer),
+    }
+}
+
+// The path of the plan: standard input where none is given.
+fn plan_of<'a>(matches: &ArgMatches<'a>) -> &'a str
+    ensures { result.now ≡ plan_path (rows_of (found_of matches.now)) }
+{
+    match value_of(matches, PLAN) {
+        Some(path) => path,
+        None => STANDARD,
+    }
+}
+
+// The order of a word; rising where there is none.
+fn order_of(word: Option<&str>) -> Result<TurnOrder, CliFault>
+    ensures { result ≡ ok_or (order_of (option_map (λ word. word.now) word.entry)) CliFault.Usage }
+{
+    match word {
+        None | Some("asc") => Ok(TurnOrder::Asc),
+        Some("desc") => Ok(TurnOrder::Desc),
+        Some("rot") => Ok(TurnOrder::Rot),
+        Some(_) => Err(CliFault::Usage),
+    }
+}
+
+fn sim_of<'a>(matches: &ArgMatches<'a>) -> Result<Cmd<'a>, CliFault>
+    ensures { IsAsked (codes "sim") (rows_of (found_of matches.now)) result }
+{
+    Ok(Cmd::Sim {
+        order: order_of(value_of(matches, ORDER))?,
+        ahead: is_given(matches, AHEAD),
+        plan: plan_of(matches),
+    })
+}
+
+fn run_of<'a>(matches: &ArgMatches<'a>) -> Cmd<'a>
+    ensures { IsCommand (codes "run") (rows_of (found_of matches.now)) result }
+{
+    Cmd::Run {
+        ahead: is_given(matches, AHEAD),
+        plan: plan_of(matches),
+    }
+}
+
+fn check_of<'a>(matches: &ArgMatches<'a>) -> Cmd<'a>
+    ensures { IsCommand (codes "check") (rows_of (found_of matches.now)) result }
+{
+    let plan = plan_of(matches);
+    if is_given(matches, TEXT) {
+        Cmd::CheckText { plan }
+    } else {
+        Cmd::Check { plan }
+    }
+}
+
+fn audit_of<'a>(matches: &ArgMatches<'a>) -> Result<Cmd<'a>, CliFault>
+    ensures { IsAsked (codes "audit") (rows_of (found_of matches.now)) result }
+{
+    let (plan, trace) = both_paths(matches)?;
+    Ok(Cmd::Audit {
+        parallel: is_given(matches, PARALLEL),
+        plan,
+        trace,
+    })
+}
+
+fn report_of<'a>(matches: &ArgMatches<'a>) -> Result<Cmd<'a>, CliFault>
+    ensures { IsAsked (codes "report") (rows_of (found_of matches.now)) result }
+{
+    let (plan, trace) = both_paths(matches)?;
+    Ok(Cmd::Report { plan, trace })
+}
+
+// The command of a word, and what the words after it ask for.
+fn command_named<'a>(word: &str, words: &ArgMatches<'a>) -> Result<Cmd<'a>, CliFault>
+    ensures { IsAsked word.now (rows_of (found_of words.now)) result }
+{
+    match word {
+        "sim" => sim_of(words),
+        "run" => Ok(run_of(words)),
+        "audit" => audit_of(words),
+        "report" => report_of(words),
+        "check" => Ok(check_of(words)),
+        _ => Err(CliFault::Usage),
+    }
+}
+
+// The command that is asked for: the simulation of standard input where none is.
+fn chosen<'a>(matches: &ArgMatches<'a>) -> Result<Cmd<'a>, CliFault>
+    ensures { IsChosen (subcommand_rows_of matches.now) result }
+{
+    match matches.subcommand() {
+        Some((word, words)) => command_named(word, words),
+        None => Ok(Cmd::Sim {
+            order: TurnOrder::Asc,
+            ahead: false,
+            plan: STANDARD,
+        }),
+    }
+}
+
+// What a fault of the words is answered: the help where it is asked for, which is no fault.
+fn answer_to<'a>(kind: ErrorKind) -> Result<Cmd<'a>, CliFault>
+    ensures { result ≡ line.answer_to kind }
+{
+    match fault_of_words(kind) {
+        None => Ok(Cmd::Help),
+        Some(fault) => Err(fault),
+    }
+}
+
+/// The command that the words ask for; the first word is the program's name.
+pub fn command_of<'a>(alloc: Global, words: &'a [String]) -> Result<Cmd<'a>, CliFault>
+    ensures { (result ≡ Err CliFault.Memory) ⊎ IsAnswered (fault_of line.grammar (map string_bytes words.now)) (subcommand_of line.grammar (map string_bytes words.now)) result }
+{
+    match grammar(alloc)?.try_get_matches_from(words) {
+        Ok(matches) => chosen(&matches),
+        Err(error) => answer_to(error.kind()),
+    }
+}

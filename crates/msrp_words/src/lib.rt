@@ -1,0 +1,6 @@
+//! The words of `msrp`: its commands, with their flags and paths, and its help.
+#![tactic(auto)]
+
+mod cli;
+
+pub use cli::{Cmd, TurnOrder, command_of, help_text};
