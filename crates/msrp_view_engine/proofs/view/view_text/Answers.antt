@@ -1,12 +1,16 @@
 use Rattle.std.proofs.Common.{rules, ◌≡◌, Ok, Err, refl}
+use Rattle.msrp_text.specs.Reading.{csv_records, plan_of}
 use Rattle.msrp_view_engine.proofs.Picturing.{view-answers}
 use Rattle.msrp_view_engine.proofs.view.view_text.Goals as goal
 
 pub returns-in_err-made-clause-answer : goal.returns-in_err-made-clause-answer
 returns-in_err-made-clause-answer g c = λ plan_bytes trace_bytes plan trace.
-    let gives : c.from_residual.result ≡ Err c.in_err-made.field-0.0 = search rules in
-    view-answers g.W.Write.contents _ _ _ (Err c.in_err-made.field-0.0) _ _ _ (c.in_err-made.ensures.found plan_bytes trace_bytes plan trace) (gives, refl)
+    let fault = c.in_err-made.field-0.0 in
+    let gives : c.from_residual.result ≡ Err fault = search rules in
+    view-answers g.W.Write.contents (plan_of (csv_records plan_bytes)) (csv_records trace_bytes) c.args.asked (Err fault) c.args.out.now c.args.out.now c.from_residual.result
+    (c.in_err-made.ensures.found plan_bytes trace_bytes plan trace) (gives, refl)
 
 pub returns-clause-answer : goal.returns-clause-answer
 returns-clause-answer g c = λ plan_bytes trace_bytes plan trace.
-    view-answers g.W.Write.contents _ _ _ (Ok c.in_ok-made.made) _ _ _ (c.in_ok-made.ensures.found plan_bytes trace_bytes plan trace) (rw c.as_slice.ensures.value at c.write_picture.ensures.wrote, c.write_picture.ensures.status)
+    view-answers g.W.Write.contents (plan_of (csv_records plan_bytes)) (csv_records trace_bytes) c.args.asked (Ok c.in_ok-made.made) c.args.out.now c.write_picture.new.out c.write_picture.result
+    (c.in_ok-made.ensures.found plan_bytes trace_bytes plan trace) (rw c.as_slice.ensures.value at c.write_picture.ensures.wrote, c.write_picture.ensures.status)
