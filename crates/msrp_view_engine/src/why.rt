@@ -7,6 +7,7 @@ ghost use Rattle.msrp_text.specs.declared.reading.TextError.{TextError as PlanEr
 ghost use Rattle.msrp_trace.specs.Reading.{Told, rows_of};
 ghost use Rattle.msrp_trace.specs.Readers.{told_left};
 ghost use Rattle.msrp_faults.specs.Outcomes.{fault_of, is_trace_fault, is_audit_fault};
+ghost use Rattle.msrp_why.specs.Noted.{AreNoted};
 ghost use Rattle.msrp_view_engine.specs.Whys.{IsFound, WhyAnswers, WhyTold, behind_text, found_text, why_status};
 
 use msrp_audit::Auditor;
@@ -16,12 +17,12 @@ use msrp_plan::bytes::{Sink, Source};
 use msrp_plan::{Fault, Plan};
 use msrp_text::read_plan;
 use msrp_trace::TraceReader;
-use msrp_why::{Cause, feed, write_cause, write_missing};
+use msrp_why::{Cause, Notes, feed, write_cause, write_missing};
 use std::alloc::Global;
 use std::io::{Read, Write};
 
 // A verdict, with the cause of a fault at a row.
-#[derive(Clone, Copy, Debug)]
+#[derive(Debug, Drop)]
 struct Explained {
     verdict: Result<(), Fault>,
     cause: Option<Cause>,
@@ -29,18 +30,21 @@ struct Explained {
 
 // What is found in the rows that a reader has left. They are judged as they come, and none is read after a faulty one.
 fn judge_rows<T: Read>(
+    alloc: Global,
     plan: &Plan,
     auditor: &mut Auditor<'_>,
+    notes: &mut Notes,
     rows: &mut TraceReader<'_, T>,
 ) -> Result<Explained, CliFault>
     requires plan { auditor.old.plan ≡ plan.now }
     requires fed { HasFed auditor.old [] }
+    requires noted { AreNoted plan.now [] notes.old }
     ensures found { (told : Told) → told_left T.remaining rows.old ≡ Some told
         → (result ≡ Err CliFault.Read) ⊎ (result ≡ Err CliFault.Memory) ⊎ IsFound plan.now told result }
     ensures faults { IfErr result (λ fault. is_trace_fault fault ≡ true) }
 {
     while let Some(row) = rows.next_foreseen(|core| auditor.foresee(core))? {
-        if let Err(cause) = feed(plan, auditor, row) {
+        if let Err(cause) = feed(alloc, plan, auditor, notes, row) {
             return Ok(Explained {
                 verdict: Err(cause.fault),
                 cause: Some(cause),
@@ -66,8 +70,9 @@ fn judge_all<T: Read>(
     ensures faults { IfErr result (λ fault. is_trace_fault fault ≡ true) }
 {
     let mut auditor = Auditor::with_room(alloc, plan, levels)?;
+    let mut notes = Notes::with_room(alloc, plan)?;
     let mut rows = TraceReader::new(alloc, trace, plan)?;
-    let found = judge_rows(plan, &mut auditor, &mut rows);
+    let found = judge_rows(alloc, plan, &mut auditor, &mut notes, &mut rows);
     drop(rows);
     found
 }
@@ -92,14 +97,21 @@ fn judge_text<T: Read>(
 }
 
 // Tells what makes the verdict so, behind its record.
-fn write_behind<W: Write>(out: &mut Sink<W>, plan: &Plan, levels: &Levels<'_>, found: Explained)
+fn write_behind<W: Write>(
+    out: &mut Sink<W>,
+    plan: &Plan,
+    levels: &Levels<'_>,
+    verdict: Result<(), Fault>,
+    cause: &Option<Cause>,
+)
     requires levels { levels.now ≡ plan.now }
-    ensures { Wrote W.contents out.old out.new (behind_text plan.now found.verdict found.cause) }
+    ensures { Wrote W.contents out.old out.new (behind_text plan.now verdict cause.now) }
 {
-    match (found.verdict, found.cause) {
-        (Ok(()), _) => {}
-        (Err(_), None) => write_missing(out, plan),
-        (Err(_), Some(cause)) => write_cause(out, plan, levels, cause),
+    if verdict.is_err() {
+        match cause {
+            None => write_missing(out, plan),
+            Some(known) => write_cause(out, plan, levels, known),
+        }
     }
 }
 
@@ -117,7 +129,7 @@ fn write_found<W: Write>(
     ensures fault { IfErr result (λ fault. (fault ≡ CliFault.Write) × (sink_failed out.new ≡ true)) }
 {
     add_verdict(out, found.verdict);
-    write_behind(out, plan, levels, found);
+    write_behind(out, plan, levels, found.verdict, &found.cause);
     out.outcome()?;
     match found.verdict {
         Ok(()) => Ok(0),

@@ -74,6 +74,10 @@ fn tell_refusal<W: Write>(
     out: &mut Sink<W>,
 ) -> Result<u8, CliFault>
     ensures answer { ((result ≡ Err CliFault.Memory) × (out.new ≡ out.old)) ⊎ TellsRefusal W.contents (csv_records bytes.now) fault number out.old out.new result }
+    ensures good { IfOk result (λ status. (status ≡ 0) × (sink_failed out.new ≡ false)) }
+    ensures faults { IfErr result (λ fault. is_sim_fault fault ≡ true) }
+    ensures write { result ≡ Err CliFault.Write → sink_failed out.new ≡ true }
+    ensures silent { (result ≡ Err CliFault.Memory) ⊎ (result ≡ Err CliFault.Read) → out.new ≡ out.old }
 {
     let row = record_of(alloc, bytes, number)?;
     write_refusal(out, fault, number, &row);
@@ -87,6 +91,10 @@ fn tell_refusal<W: Write>(
 // Writes the words on an accepted plan.
 fn tell_accepted<W: Write>(alloc: Global, plan: &Plan, out: &mut Sink<W>) -> Result<u8, CliFault>
     ensures answer { ((result ≡ Err CliFault.Memory) × (out.new ≡ out.old)) ⊎ (Wrote W.contents out.old out.new (accepted_text plan.now) × (result ≡ written_status out.new)) }
+    ensures good { IfOk result (λ status. (status ≡ 0) × (sink_failed out.new ≡ false)) }
+    ensures faults { IfErr result (λ fault. is_sim_fault fault ≡ true) }
+    ensures write { result ≡ Err CliFault.Write → sink_failed out.new ≡ true }
+    ensures silent { (result ≡ Err CliFault.Memory) ⊎ (result ≡ Err CliFault.Read) → out.new ≡ out.old }
 {
     let levels = Levels::of(alloc, plan)?;
     write_accepted(out, plan, &levels);
@@ -110,7 +118,11 @@ pub fn why_plan_text<P: Read, W: Write>(
         → (result ≡ Err CliFault.Read) ⊎ (result ≡ Err CliFault.Memory) ⊎ WhyPlanAnswers W.contents (csv_records bytes) (plan_of (csv_records bytes)) out.old out.new result }
 
     // Whatever the reader tells.
+    ensures good { IfOk result (λ status. (status ≡ 0) × (sink_failed out.new ≡ false)) }
+    ensures faults { IfErr result (λ fault. is_sim_fault fault ≡ true) }
     ensures read { result ≡ Err CliFault.Read → source_failed plan.new ≡ true }
+    ensures write { result ≡ Err CliFault.Write → sink_failed out.new ≡ true }
+    ensures silent { (result ≡ Err CliFault.Memory) ⊎ (result ≡ Err CliFault.Read) → out.new ≡ out.old }
 {
     let bytes = bytes_of(alloc, plan)?;
     match read_plan(alloc, &mut Source::new(bytes.as_slice())) {

@@ -1,8 +1,11 @@
 -- The cause of a fault, from what the auditor foresaw.
-use Rattle.std.proofs.Common.{◌≡◌, ℕ, ◌+◌, ◌*◌, ◌≤◌, ◌++◌, ◌∷◌, [], Bool, true, false, cond, nat_lt, List, Option, Some, None, length, refl, ap, sym, ◌∙◌, subst, arith, append-nil, append_assoc, length-append, ltb-true}
+use Rattle.std.proofs.Common.{◌≡◌, ℕ, ◌+◌, ◌*◌, ◌/◌, ◌<◌, ◌≤◌, ◌++◌, ◌∷◌, [], Bool, true, false, cond, nat_lt, List, Option, Some, None, length, refl, ap, sym, ◌∙◌, subst, arith, append-nil, append_assoc, length-append, ltb-true}
 use Rattle.std.specs.Option.{IsSomeAnd}
 use Rattle.std.specs.declared.result.Result.TheVariants.{Ok, Err}
 use Rattle.std.specs.Prelude.{⊤}
+use Rattle.msrp_core.specs.CoreStates.{IsCoreState}
+use Rattle.msrp_core.specs.declared.states.CoreState.{CoreState}
+use Rattle.msrp_plan.specs.Logs.{log_of}
 use Rattle.msrp_plan.specs.Plan.{PlanModel}
 use Rattle.msrp_plan.specs.Runs.{IsLegal, IsRunStart, EachAfter, is_in_turn}
 use Rattle.msrp_plan.specs.Verdict.{broken, fault_from, fault_in, fault_or, refused}
@@ -15,7 +18,9 @@ use Rattle.msrp_plan.proofs.Runs.Verdicts.{fault_push, unbroken_is_legal}
 use Rattle.msrp_sim.specs.Cores.{IsDueAfter, IsNextRow}
 use Rattle.msrp_audit.specs.Audits.{AuditorModel, HasFed, answer_of}
 use Rattle.msrp_audit.proofs.Judging.{due_after}
-use Rattle.msrp_why.specs.Causes.{IsCauseAfter, IsDue}
+use Rattle.msrp_why.specs.Causes.{IsCauseAfter, IsDue, IsStateFor}
+use Rattle.msrp_why.specs.Noted.{AreNoted}
+use Rattle.msrp_why.specs.declared.notes.Notes.{Notes}
 
 -- a row without a fault is due, and breaks no rule
 good_next : (n : ℕ) (later : Option Fault) (due : Bool) (o : Option Rule) → fault_or (cond due o (Some A7)) n later ≡ None → (due ≡ true) × (o ≡ None) × (later ≡ None)
@@ -44,12 +49,27 @@ due_by plan rows c A5 due d = d
 due_by plan rows c A6 due d = tt
 due_by plan rows c A7 due d = tt
 
+state_by : (plan : PlanModel) (rows : List Row) (c : ℕ) (rule : Rule) (state : Option CoreState) → IsSomeAnd state (IsCoreState plan c (length rows / plan.cores) rows) → IsStateFor plan rows c rule state
+state_by plan rows c A1 state d = tt
+state_by plan rows c A2 state d = d
+state_by plan rows c A3 state d = d
+state_by plan rows c A4 state d = d
+state_by plan rows c A5 state d = d
+state_by plan rows c A6 state d = tt
+state_by plan rows c A7 state d = tt
+
 -- by whether a row is left, and whether the core is in its turn
 due_for : (plan : PlanModel) (rows : List Row) (c : ℕ) (rule : Rule) (due : Option Row) (left turn : Bool) (rest : Option Rule)
     → (left ≡ true → turn ≡ true → IsSomeAnd due (IsNextRow plan rows c)) → cond left (cond turn rest (Some A1)) (Some A7) ≡ Some rule → IsDue plan rows c rule due
 due_for plan rows c rule due true true rest d h = due_by plan rows c rule due (d refl refl)
 due_for plan rows c rule due true false rest d h = let same : A1 ≡ rule = cc in subst (λ u. IsDue plan rows c u due) same tt
 due_for plan rows c rule due false turn rest d h = let same : A7 ≡ rule = cc in subst (λ u. IsDue plan rows c u due) same tt
+
+state_for : (plan : PlanModel) (rows : List Row) (c : ℕ) (rule : Rule) (state : Option CoreState) (left turn : Bool) (rest : Option Rule)
+    → (left ≡ true → turn ≡ true → IsSomeAnd state (IsCoreState plan c (length rows / plan.cores) rows)) → cond left (cond turn rest (Some A1)) (Some A7) ≡ Some rule → IsStateFor plan rows c rule state
+state_for plan rows c rule state true true rest d h = state_by plan rows c rule state (d refl refl)
+state_for plan rows c rule state true false rest d h = let same : A1 ≡ rule = cc in subst (λ u. IsStateFor plan rows c u state) same tt
+state_for plan rows c rule state false turn rest d h = let same : A7 ≡ rule = cc in subst (λ u. IsStateFor plan rows c u state) same tt
 
 -- the rule of a fault at the last row
 rule_of : (o : Option Rule) (n : ℕ) (f : Fault) → fault_or o n None ≡ Some f → o ≡ Some f.rule
@@ -66,18 +86,23 @@ pub good_answer : (o : Option Fault) (good : ⊤) → Ok good ≡ answer_of o �
 good_answer None good h = refl
 good_answer (Some f) good h = absurd (cc)
 
--- a fault that the auditor answers, with the row that it foresaw
-pub cause_is : (a : AuditorModel) (rows : List Row) (r : Row) (f : Fault) (due : Option Row) → IsPlan a.plan → HasFed a rows → fault_in a.plan rows ≡ None → Err f ≡ answer_of (fault_in a.plan (rows ++ r ∷ []))
+-- a fault that the auditor answers, with the row that it foresaw and the state of the core
+pub cause_is : (a : AuditorModel) (rows : List Row) (r : Row) (f : Fault) (due : Option Row) (state : Option CoreState) (notes : Notes) → IsPlan a.plan → AreNoted a.plan rows notes → HasFed a rows → fault_in a.plan rows ≡ None → Err f ≡ answer_of (fault_in a.plan (rows ++ r ∷ []))
     → ((before : List Row) → HasFed a before → a.fault ≡ None → IsDueAfter a.plan before r.core.0 → IsSomeAnd due (IsNextRow a.plan before r.core.0))
-    → IsCauseAfter a.plan rows r (record { fault = f; row = r; due = due })
-cause_is a rows r f due ok fed good answer foreseen =
+    → ((before : List Row) → HasFed a before → a.fault ≡ None → r.core.0 < a.plan.cores → IsSomeAnd state (IsCoreState a.plan r.core.0 (length (log_of r.core.0 before)) before))
+    → IsCauseAfter a.plan rows r (record { fault = f; row = r; due = due; state = state; notes = notes })
+cause_is a rows r f due state notes ok noted fed good answer foreseen told =
     let fault = fault_answer (fault_in a.plan (rows ++ r ∷ [])) f answer in
     let rule = rule_of (refused a.plan rows r) (length rows + 1) f (sym (fault_push a.plan rows r good) ∙ fault) in
     let start = good_start a.plan rows good in
+    let none = fed.fault ∙ good in
+    let due_now : nat_lt (length rows) (a.plan.cores * a.plan.ticks) ≡ true → is_in_turn a.plan rows r ≡ true → IsDueAfter a.plan rows r.core.0 = λ left turn. due_after a.plan rows r ok start (ltb-true (length rows) (a.plan.cores * a.plan.ticks) left) turn in
     record {
       good = good;
       fault = fault;
       row = refl;
-      due = due_for a.plan rows r.core.0 f.rule due (nat_lt (length rows) (a.plan.cores * a.plan.ticks)) (is_in_turn a.plan rows r) _
-          (λ left turn. foreseen rows fed (fed.fault ∙ good) (due_after a.plan rows r ok start (ltb-true (length rows) (a.plan.cores * a.plan.ticks) left) turn)) rule;
+      due = due_for a.plan rows r.core.0 f.rule due (nat_lt (length rows) (a.plan.cores * a.plan.ticks)) (is_in_turn a.plan rows r) _ (λ left turn. foreseen rows fed none (due_now left turn)) rule;
+      state = state_for a.plan rows r.core.0 f.rule state (nat_lt (length rows) (a.plan.cores * a.plan.ticks)) (is_in_turn a.plan rows r) _
+          (λ left turn. let d = due_now left turn in subst (λ t. IsSomeAnd state (IsCoreState a.plan r.core.0 t rows)) d.due (told rows fed none d.core)) rule;
+      notes = noted;
     }

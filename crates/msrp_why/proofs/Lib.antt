@@ -1,1 +1,3 @@
 pub mod Causing
+pub mod Noting
+pub mod Written

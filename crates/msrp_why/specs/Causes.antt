@@ -1,9 +1,11 @@
 -- The cause of a fault: what the definitions give of the rows before it.
-use Rattle.std.specs.Prelude.{ℕ, List, [], ◌∷◌, ◌++◌, Option, Some, None, ◌≡◌, ⊤}
+use Rattle.std.specs.Prelude.{ℕ, List, [], ◌∷◌, ◌++◌, ◌/◌, Option, Some, None, ◌≡◌, ⊤, length}
 use Rattle.std.specs.Option.{IsSomeAnd}
 use Rattle.std.specs.declared.result.Result.{Result}
 use Rattle.std.specs.declared.result.Result.TheVariants.{Err}
 use Rattle.msrp_audit.specs.Audits.{answer_of}
+use Rattle.msrp_core.specs.CoreStates.{IsCoreState}
+use Rattle.msrp_core.specs.declared.states.CoreState.{CoreState}
 use Rattle.msrp_plan.specs.Plan.{PlanModel}
 use Rattle.msrp_plan.specs.Verdict.{fault_in, missing}
 use Rattle.msrp_plan.specs.declared.faults.Fault.{Fault}
@@ -11,6 +13,7 @@ use Rattle.msrp_plan.specs.declared.faults.Rule.{Rule}
 use Rattle.msrp_plan.specs.declared.faults.Rule.TheVariants.{A2, A3, A4, A5}
 use Rattle.msrp_plan.specs.declared.rows.Row.{Row}
 use Rattle.msrp_sim.specs.Cores.{IsNextRow}
+use Rattle.msrp_why.specs.Noted.{AreNoted}
 use Rattle.msrp_why.specs.declared.causes.Cause.{Cause}
 
 -- where a core in its turn breaks a rule, the row that is due is the one legal row of that core after the rows before, with
@@ -22,12 +25,22 @@ IsDue plan rows c A4 due = IsSomeAnd due (IsNextRow plan rows c)
 IsDue plan rows c A5 due = IsSomeAnd due (IsNextRow plan rows c)
 IsDue plan rows c rule due = ⊤
 
+-- there, too, the state of the core is the one that these rows leave it in, in the tick that is due
+abbrev pub IsStateFor : PlanModel → List Row → ℕ → Rule → Option CoreState → Type 0
+IsStateFor plan rows c A2 state = IsSomeAnd state (IsCoreState plan c (length rows / plan.cores) rows)
+IsStateFor plan rows c A3 state = IsSomeAnd state (IsCoreState plan c (length rows / plan.cores) rows)
+IsStateFor plan rows c A4 state = IsSomeAnd state (IsCoreState plan c (length rows / plan.cores) rows)
+IsStateFor plan rows c A5 state = IsSomeAnd state (IsCoreState plan c (length rows / plan.cores) rows)
+IsStateFor plan rows c rule state = ⊤
+
 -- why this row is refused after these, which have no fault
 pub record IsCauseAfter (plan : PlanModel) (rows : List Row) (r : Row) (cause : Cause) : Type 0 where
   pub good : fault_in plan rows ≡ None
   pub fault : fault_in plan (rows ++ r ∷ []) ≡ Some cause.fault
   pub row : cause.row ≡ r
   pub due : IsDue plan rows r.core.0 cause.fault.rule cause.due
+  pub state : IsStateFor plan rows r.core.0 cause.fault.rule cause.state
+  pub notes : AreNoted plan rows cause.notes
 
 -- why one of these rows is refused
 pub record IsCauseIn (plan : PlanModel) (rows : List Row) (cause : Cause) : Type 0 where

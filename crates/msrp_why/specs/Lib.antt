@@ -1,2 +1,5 @@
+pub mod Noted
 pub mod Causes
+pub mod FactLines
+pub mod ResourceText
 pub mod WhyText

@@ -4,7 +4,10 @@
 #![tactic(auto)]
 
 mod causes;
+mod notes;
+mod resources;
 mod telling;
 
 pub use causes::{Cause, feed};
+pub use notes::{Notes, Numbered, ResourceNotes};
 pub use telling::{write_cause, write_missing};

@@ -4,17 +4,20 @@ ghost use Rattle.std.specs.Option.{IsSome};
 ghost use Rattle.msrp_plan.specs.Bytes.{Wrote};
 ghost use Rattle.msrp_plan.specs.Plan.{release_tick};
 ghost use Rattle.msrp_trace.specs.TraceText.{is_named, row_text};
-ghost use Rattle.msrp_why.specs.WhyText.{cause_text, due_job_lines, due_lines, facts_text, is_job_of, job_line, job_lines, missing_text, owner_line, owner_lines, place_line, rows_line, rule_line, told_row, turn_line, version_told};
+ghost use Rattle.msrp_why.specs.WhyText.{cause_text, facts_text, missing_text};
+ghost use Rattle.msrp_why.specs.FactLines.{ceiling_line, due_lines, is_job_of, job_line, job_lines, owner_line, owner_lines, place_line, rows_line, rule_line, state_text, told_row, turn_line, units_done, units_line, units_lines, version_told, whom_line};
 
 use crate::causes::Cause;
+use crate::resources::{write_held, write_reply};
 use itoa::Buffer;
+use msrp_core::CoreState;
 use msrp_levels::Levels;
 use msrp_plan::bytes::Sink;
-use msrp_plan::{JobId, Plan, Row, Rule, TextVersion};
+use msrp_plan::{CoreId, JobId, Plan, Row, Rule, TextVersion};
 use msrp_trace::{TraceWriter, is_named};
 use std::io::Write;
 
-fn write_number<W: Write>(out: &mut Sink<W>, number: u64)
+pub(crate) fn write_number<W: Write>(out: &mut Sink<W>, number: u64)
     ensures { Wrote W.contents out.old out.new (decimal number) }
 {
     let mut digits = Buffer::new();
@@ -41,7 +44,7 @@ fn write_named<W: Write>(out: &mut Sink<W>, plan: &Plan, row: Row)
     let _ = text.finish(out);
 }
 
-fn write_row<W: Write>(out: &mut Sink<W>, plan: &Plan, row: Row)
+pub(crate) fn write_row<W: Write>(out: &mut Sink<W>, plan: &Plan, row: Row)
     ensures { Wrote W.contents out.old out.new (told_row plan.now row) }
 {
     if is_named(plan, &row) {
@@ -63,7 +66,7 @@ fn write_place<W: Write>(out: &mut Sink<W>, plan: &Plan, number: u32, row: Row)
 }
 
 // A rule in words.
-#[tactic(auto, unfolding(crate::specs::WhyText::rule_line))]
+#[tactic(auto, unfolding(crate::specs::FactLines::rule_line))]
 fn rule_words(rule: Rule) -> &'static [u8]
     ensures { result.now ≡ rule_line rule }
 {
@@ -128,13 +131,85 @@ fn write_job<W: Write>(out: &mut Sink<W>, plan: &Plan, levels: &Levels<'_>, job:
     }
 }
 
-// The job of the row that is due.
-fn write_due_job<W: Write>(out: &mut Sink<W>, plan: &Plan, levels: &Levels<'_>, due: Option<Row>)
+// Who it is, behind a word, or that it is nobody.
+fn write_whom<W: Write>(
+    out: &mut Sink<W>,
+    plan: &Plan,
+    levels: &Levels<'_>,
+    word: &[u8],
+    job: Option<JobId>,
+)
     requires levels { levels.now ≡ plan.now }
-    ensures { Wrote W.contents out.old out.new (due_job_lines plan.now due) }
+    ensures { Wrote W.contents out.old out.new (whom_line plan.now word.now job) }
 {
-    if let Some(row) = due {
-        write_job(out, plan, levels, row.job);
+    out.add(word);
+    match job {
+        None => out.add(b"nobody\n"),
+        Some(_) => write_job(out, plan, levels, job),
+    }
+}
+
+fn write_ceiling<W: Write>(out: &mut Sink<W>, core: CoreId, ceiling: u32)
+    ensures { Wrote W.contents out.old out.new (ceiling_line core.0 ceiling) }
+{
+    out.add(b"ceiling of core ");
+    write_number(out, u64::from(core.0));
+    out.add(b": ");
+    write_number(out, u64::from(ceiling));
+    out.add(b"\n");
+}
+
+// What decides who has the turn of the core.
+fn write_state<W: Write>(
+    out: &mut Sink<W>,
+    plan: &Plan,
+    levels: &Levels<'_>,
+    core: CoreId,
+    state: Option<CoreState>,
+)
+    requires levels { levels.now ≡ plan.now }
+    ensures { Wrote W.contents out.old out.new (state_text plan.now core.0 state) }
+{
+    if let Some(before) = state {
+        write_whom(out, plan, levels, b"running: ", before.running);
+        write_whom(out, plan, levels, b"head: ", before.head);
+        write_ceiling(out, core, before.ceiling);
+    }
+}
+
+// How many of its units the job has done.
+fn units_done(state: CoreState, job: JobId) -> u32
+    ensures { result ≡ units_done state job }
+{
+    match state.running {
+        Some(running) if running == job => state.done,
+        _ => 0,
+    }
+}
+
+fn write_done<W: Write>(out: &mut Sink<W>, plan: &Plan, state: CoreState, job: JobId)
+    requires { job.task.0 < length plan.now.tasks }
+    ensures { Wrote W.contents out.old out.new (units_line plan.now state job) }
+{
+    out.add(b"units done: ");
+    write_number(out, u64::from(units_done(state, job)));
+    out.add(b" of ");
+    write_number(out, u64::from(plan.units(job.task)));
+    out.add(b"\n");
+}
+
+fn write_units<W: Write>(
+    out: &mut Sink<W>,
+    plan: &Plan,
+    state: Option<CoreState>,
+    job: Option<JobId>,
+)
+    ensures { Wrote W.contents out.old out.new (units_lines plan.now state job) }
+{
+    if let (Some(before), Some(told)) = (state, job) {
+        if told.task.0 < plan.tasks() {
+            write_done(out, plan, before, told);
+        }
     }
 }
 
@@ -180,9 +255,9 @@ fn write_rows<W: Write>(out: &mut Sink<W>, plan: &Plan)
 }
 
 // The facts that a rule needs.
-fn write_facts<W: Write>(out: &mut Sink<W>, plan: &Plan, levels: &Levels<'_>, cause: Cause)
+fn write_facts<W: Write>(out: &mut Sink<W>, plan: &Plan, levels: &Levels<'_>, cause: &Cause)
     requires levels { levels.now ≡ plan.now }
-    ensures { Wrote W.contents out.old out.new (facts_text plan.now cause cause.fault.rule) }
+    ensures { Wrote W.contents out.old out.new (facts_text plan.now cause.now cause.now.fault.rule) }
 {
     match cause.fault.rule {
         Rule::A1 => write_turn(out, plan, cause.fault.row),
@@ -192,18 +267,28 @@ fn write_facts<W: Write>(out: &mut Sink<W>, plan: &Plan, levels: &Levels<'_>, ca
         }
         Rule::A3 => {
             write_due(out, plan, cause.due);
-            write_due_job(out, plan, levels, cause.due);
-            write_job(out, plan, levels, cause.row.job);
+            write_whom(out, plan, levels, b"found: ", cause.row.job);
+            write_state(out, plan, levels, cause.row.core, cause.state);
+            write_held(out, plan, cause.row.core, &cause.notes);
         }
-        Rule::A4 | Rule::A5 => write_due(out, plan, cause.due),
+        Rule::A4 => {
+            write_due(out, plan, cause.due);
+            write_job(out, plan, levels, cause.row.job);
+            write_units(out, plan, cause.state, cause.row.job);
+            write_held(out, plan, cause.row.core, &cause.notes);
+        }
+        Rule::A5 => {
+            write_due(out, plan, cause.due);
+            write_reply(out, plan, &cause.notes, cause.row.res);
+        }
         Rule::A6 | Rule::A7 => write_rows(out, plan),
     }
 }
 
 /// Tells why a row is refused: which row it is, the rule, and the facts.
-pub fn write_cause<W: Write>(out: &mut Sink<W>, plan: &Plan, levels: &Levels<'_>, cause: Cause)
+pub fn write_cause<W: Write>(out: &mut Sink<W>, plan: &Plan, levels: &Levels<'_>, cause: &Cause)
     requires levels { levels.now ≡ plan.now }
-    ensures { Wrote W.contents out.old out.new (cause_text plan.now cause) }
+    ensures { Wrote W.contents out.old out.new (cause_text plan.now cause.now) }
 {
     write_place(out, plan, cause.fault.row, cause.row);
     out.add(rule_words(cause.fault.rule));

@@ -9,7 +9,7 @@ use Rattle.msrp_engine.proofs.Judging.{fewer-left, refusal-found, turn-left}
 use Rattle.msrp_view_engine.proofs.why.judge_rows.Goals as goal
 
 pub loop-row-init : goal.loop-row-init
-loop-row-init g c = ([], c.requires.plan, c.requires.fed, refl, λ told known. none-read told _ known)
+loop-row-init g c = ([], c.requires.plan, c.requires.fed, refl, λ told known. none-read told _ known, c.requires.noted)
 
 pub returns-in_err-row-clause-found : goal.returns-in_err-row-clause-found
 returns-in_err-row-clause-found g c = λ told known.
@@ -22,7 +22,7 @@ pub returns-in-Err-clause-found : goal.returns-in-Err-clause-found
 returns-in-Err-clause-found g c = λ told known.
     let i = c.loop-row.invariant in
     let more = read-row told i.0 _ _ c.next_foreseen.result c.in-Some.row (i.4 told known) c.next_foreseen.ensures.next (c.in_ok-row.was ∙ ap (λ x. Ok x) c.in-Some.is) in
-    inr (inr (cause-found c.args.plan.now told i.0 c.in-Some.row _ c.in-Err.cause more (c.in-Err.ensures.cause i.0 i.2 i.3)))
+    inr (inr (cause-found c.args.plan.now told i.0 c.in-Some.row _ c.in-Err.cause more (c.in-Err.ensures.cause i.0 i.2 i.3 i.5)))
 
 pub loop-row-smaller : goal.loop-row-smaller
 loop-row-smaller g c =
@@ -43,6 +43,7 @@ loop-row-preserved g c =
       c.feed.ensures.fed i.0 i.2,
       c.in_default-feed.ensures.good i.0 i.2,
       λ told known. read-row told i.0 _ _ c.next_foreseen.result c.in-Some.row (i.4 told known) c.next_foreseen.ensures.next (c.in_ok-row.was ∙ ap (λ x. Ok x) c.in-Some.is),
+      c.in_default-feed.ensures.noted i.0 i.2 i.5,
     )
 
 pub returns-clause-found : goal.returns-clause-found

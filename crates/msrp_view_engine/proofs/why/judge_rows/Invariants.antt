@@ -5,6 +5,7 @@ use Rattle.msrp_plan.specs.declared.rows.Row.{Row}
 use Rattle.msrp_trace.specs.Reading.{Told}
 use Rattle.msrp_trace.specs.Readers.{told_left}
 use Rattle.msrp_trace.proofs.ReadThrough.{IsReadTo}
+use Rattle.msrp_why.specs.Noted.{AreNoted}
 use Rattle.msrp_view_engine.proofs.why.judge_rows.Given as goal
 
 abbrev pub invariant-loop-row : goal.invariant-loop-row
@@ -14,6 +15,7 @@ invariant-loop-row g l =
     × HasFed l.auditor rows
     × (fault_in l.plan rows ≡ None)
     × ((told : Told) → told_left g.T.Read.remaining l.fn.rows ≡ Some told → IsReadTo told rows (told_left g.T.Read.remaining l.rows))
+    × AreNoted l.plan rows l.notes
 
 abbrev pub decreases-loop-row : goal.decreases-loop-row
 decreases-loop-row g l = l.auditor.plan.cores * l.auditor.plan.ticks - l.auditor.fed

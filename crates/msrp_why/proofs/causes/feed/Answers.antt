@@ -4,13 +4,20 @@ use Rattle.msrp_plan.specs.Verdict.{fault_in}
 use Rattle.msrp_plan.specs.WellFormed.{IsPlan}
 use Rattle.std.specs.Prelude.{◌≡◌, None}
 use Rattle.msrp_why.specs.Causes.{IsCauseAfter}
-use Rattle.msrp_why.proofs.Causing.{cause_is, good_answer}
+use Rattle.msrp_why.specs.Noted.{AreNoted}
+use Rattle.msrp_why.proofs.Causing.{cause_is, good_answer, good_start}
 use Rattle.msrp_why.proofs.causes.feed.Goals as goal
 
 pub returns-in-Ok-clause-good : goal.returns-in-Ok-clause-good
 returns-in-Ok-clause-good c = λ rows fed. subst (λ (p : PlanModel). fault_in p (rows ++ c.args.row ∷ []) ≡ None) c.requires.plan (good_answer _ c.in-Ok.field-0 (c.in-Ok.ensures.answer rows fed))
 
+pub returns-in-Ok-clause-noted : goal.returns-in-Ok-clause-noted
+returns-in-Ok-clause-noted c = λ rows fed noted.
+    c.note.ensures rows (good_start c.args.plan.now (rows ++ c.args.row ∷ []) (subst (λ (p : PlanModel). fault_in p (rows ++ c.args.row ∷ []) ≡ None) c.requires.plan (good_answer _ c.in-Ok.field-0 (c.in-Ok.ensures.answer rows fed)))) noted
+
 pub returns-in-Err-clause-cause : goal.returns-in-Err-clause-cause
-returns-in-Err-clause-cause c = λ rows fed good.
-    subst (λ (p : PlanModel). IsCauseAfter p rows c.args.row (record { fault = c.in-Err.fault; row = c.args.row; due = c.foresee-due.result })) c.requires.plan
-    (cause_is c.args.auditor.now rows c.args.row c.in-Err.fault c.foresee-due.result (subst IsPlan (sym c.requires.plan) c.cores-accepted.ensures.plan) fed (subst (λ (p : PlanModel). fault_in p rows ≡ None) (sym c.requires.plan) good) (c.in-Err.ensures.answer rows fed) c.foresee-due.ensures)
+returns-in-Err-clause-cause c = λ rows fed good noted.
+    let P : PlanModel → Type 0 = λ p. IsCauseAfter p rows c.args.row (record { fault = c.in-Err.fault; row = c.args.row; due = c.foresee-due.result; state = c.state-state.result; notes = c.take.result }) in
+    subst P c.requires.plan
+    (cause_is c.args.auditor.now rows c.args.row c.in-Err.fault c.foresee-due.result c.state-state.result c.take.result (subst IsPlan (sym c.requires.plan) c.cores-accepted.ensures.plan)
+    (subst (λ p. AreNoted p rows c.take.result) (sym c.requires.plan) (subst (AreNoted c.args.plan.now rows) (sym c.take.ensures) noted)) fed (subst (λ (p : PlanModel). fault_in p rows ≡ None) (sym c.requires.plan) good) (c.in-Err.ensures.answer rows fed) c.foresee-due.ensures c.state-state.ensures)

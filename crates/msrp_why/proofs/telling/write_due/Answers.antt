@@ -1,7 +1,7 @@
 use Rattle.std.proofs.Common.{subst, sym}
 use Rattle.msrp_plan.specs.Bytes.{Wrote}
 use Rattle.msrp_plan.proofs.Writes.{wrote-more}
-use Rattle.msrp_why.specs.WhyText.{due_lines}
+use Rattle.msrp_why.specs.FactLines.{due_lines}
 use Rattle.msrp_why.proofs.telling.write_due.Goals as goal
 
 pub returns-in-Some : goal.returns-in-Some

@@ -1,0 +1,309 @@
+-- What is noted of the resources stays what the rows say, one row more.
+use Rattle.std.proofs.Common.{◌≡◌, ◌≢◌, ℕ, zero, suc, ◌+◌, ◌-◌, ◌*◌, ◌^◌, min, ◌<◌, ◌≤◌, ◌==◌, ◌&&◌, Bool, true, false, cond, List, [], ◌∷◌, ◌++◌, Option, Some, None, refl, ap, sym, ◌∙◌, subst, arith, length, length-append, length-drop, drop, append-nil, is_some, slice_get, slice_set}
+use Rattle.std.specs.List.{Contains, cons_option, filter, fold}
+use Rattle.std.proofs.Math.Bool.{true≢false}
+use Rattle.std.proofs.Math.Nat.{min-eq_left, mul-le-mul_left}
+use Rattle.std.proofs.lemmas.Bool.{and_parts, eq-eqb, eqb-false, eqb-true}
+use Rattle.std.proofs.lemmas.Option.{same_Some}
+use Rattle.std.proofs.lemmas.List.{drop-append-le, drop-drop}
+use Rattle.std.proofs.lemmas.List.Elements.{filter-append}
+use Rattle.std.proofs.lemmas.List.Sums.{fold_push, sum_by_push}
+use Rattle.msrp_plan.specs.Plan.{PlanModel}
+use Rattle.msrp_plan.specs.Shape.{has_shape}
+use Rattle.msrp_plan.specs.Levels.{is_global}
+use Rattle.msrp_plan.specs.Ceiling.{resources}
+use Rattle.msrp_plan.specs.Jobs.{done, is_queued}
+use Rattle.msrp_plan.specs.Actions.{is_global_unit, res_of_unit}
+use Rattle.msrp_plan.specs.Queues.{fifo, is_on, is_release, is_release_of, is_request, requester}
+use Rattle.msrp_plan.specs.Runs.{EachAfter, IsLegal, IsRunStart}
+use Rattle.msrp_plan.specs.WellFormed.{IsPlan}
+use Rattle.msrp_plan.specs.declared.ids.JobId.{JobId}
+use Rattle.msrp_plan.specs.declared.ids.ResId.{ResId}
+use Rattle.msrp_plan.specs.declared.rows.Kind.{Kind}
+use Rattle.msrp_plan.specs.declared.rows.Kind.TheVariants.{Grant, Idle, Lock, Queue, Release, Run, Spin, Take, Unlock}
+use Rattle.msrp_plan.specs.declared.rows.Row.{Row}
+use Rattle.msrp_plan.specs.declared.units.Op.TheVariants.{Lock as LockUnit}
+use Rattle.msrp_plan.proofs.Levels.Ceilings.{in_resources}
+use Rattle.msrp_plan.proofs.Legality.LegalRows.{DoesUnit, legal_turn}
+use Rattle.msrp_plan.proofs.Lists.AnyAll.{places_push}
+use Rattle.msrp_plan.proofs.Lists.Ranges.{not_equal}
+use Rattle.msrp_plan.proofs.Lists.Prefixes.{each_at, each_before}
+use Rattle.msrp_plan.proofs.Queues.Fifos.{IsFed, fifo_request, released, requested}
+use Rattle.msrp_plan.proofs.Queues.QueueMembers.{IsQueueOf, queue_at, queue_short}
+use Rattle.msrp_plan.proofs.TaskUnits.PlanUnits.{units_lock}
+use Rattle.msrp_plan.proofs.TaskUnits.UnitKinds.{Grants, Locks, Queues, Releases, Runs, Spins, Takes, Unlocks, step_of}
+use Rattle.msrp_sim.proofs.Standing.{get_set_other, get_set_same}
+use Rattle.msrp_why.specs.Noted.{IsNoted, changes, is_change, last_change, last_with, numbered, queue_rows, queue_with, requests}
+use Rattle.msrp_why.specs.declared.notes.Numbered.{Numbered}
+use Rattle.msrp_why.specs.declared.notes.ResourceNotes.{ResourceNotes}
+
+-- ---- the rows with their numbers, one more
+numbered_push : (n : ℕ) (rows : List Row) (r : Row) → numbered n (rows ++ r ∷ []) ≡ numbered n rows ++ record { number = n + length rows + 1; row = r } ∷ []
+numbered_push n [] r =
+    let at : n + 1 ≡ n + 0 + 1 = omega arith in
+    let one : ℕ → List Numbered = λ k. record { number = k; row = r } ∷ [] in
+    ap one at
+numbered_push n (x ∷ rows) r =
+    let at : n + 1 + length rows + 1 ≡ n + suc (length rows) + 1 = omega arith in
+    let one : ℕ → List Numbered = λ k. numbered (n + 1) rows ++ record { number = k; row = r } ∷ [] in
+    ap (λ es. record { number = n + 1; row = x } ∷ es) (numbered_push (n + 1) rows r ∙ ap one at)
+
+numbered_more : (rows : List Row) (r : Row) → numbered 0 (rows ++ r ∷ []) ≡ numbered 0 rows ++ record { number = length rows + 1; row = r } ∷ []
+numbered_more rows r =
+    let at : 0 + length rows + 1 ≡ length rows + 1 = omega arith in
+    let one : ℕ → List Numbered = λ k. numbered 0 rows ++ record { number = k; row = r } ∷ [] in
+    numbered_push 0 rows r ∙ ap one at
+
+-- those that pass a test, one more
+filter_one : (p : Numbered → Bool) (es : List Numbered) (e : Numbered) (b : Bool) → p e ≡ b → filter p (es ++ e ∷ []) ≡ filter p es ++ cond b (e ∷ []) []
+filter_one p es e b h = filter-append p es (e ∷ []) ∙ ap (λ c. filter p es ++ cond c (e ∷ []) []) h
+
+-- ---- the last change
+last_push : (g : ℕ) (rows : List Row) (r : Row) (b : Bool) → changes g (record { number = length rows + 1; row = r }) ≡ b → last_change g (rows ++ r ∷ []) ≡ cond b (Some (record { number = length rows + 1; row = r })) (last_change g rows)
+last_push g rows r true h =
+    let e : Numbered = record { number = length rows + 1; row = r } in
+    ap (λ es. fold (λ _ e. Some e) None (filter (changes g) es)) (numbered_more rows r)
+    ∙ (ap (fold (λ _ e. Some e) None) (filter_one (changes g) (numbered 0 rows) e true h)
+    ∙ fold_push (λ (o : Option Numbered) (e : Numbered). Some e) None (filter (changes g) (numbered 0 rows)) e)
+last_push g rows r false h =
+    let e : Numbered = record { number = length rows + 1; row = r } in
+    ap (λ es. fold (λ _ e. Some e) None (filter (changes g) es)) (numbered_more rows r)
+    ∙ (ap (fold (λ _ e. Some e) None) (filter_one (changes g) (numbered 0 rows) e false h)
+    ∙ ap (fold (λ _ e. Some e) None) (append-nil (filter (changes g) (numbered 0 rows))))
+
+-- a row on the resource
+last_on : (g : ℕ) (rows : List Row) (r : Row) (k : Kind) → is_on g r.res ≡ true → r.kind ≡ k → last_change g (rows ++ r ∷ []) ≡ cond (is_change k) (Some (record { number = length rows + 1; row = r })) (last_change g rows)
+last_on g rows r k on is = last_push g rows r (is_change k) (ap (λ b. b && is_change r.kind) on ∙ ap is_change is)
+
+last_by : (o : Option Numbered) (e : Numbered) (k : Kind) → last_with k o e ≡ cond (is_change k) (Some e) o
+last_by o e Lock = refl
+last_by o e Unlock = refl
+last_by o e Release = refl
+last_by o e Idle = refl
+last_by o e Run = refl
+last_by o e Take = refl
+last_by o e Queue = refl
+last_by o e Spin = refl
+last_by o e Grant = refl
+
+pub last_noted : (g : ℕ) (rows : List Row) (r : Row) → is_on g r.res ≡ true → last_with r.kind (last_change g rows) (record { number = length rows + 1; row = r }) ≡ last_change g (rows ++ r ∷ [])
+last_noted g rows r on = last_by (last_change g rows) (record { number = length rows + 1; row = r }) r.kind ∙ sym (last_on g rows r r.kind on refl)
+
+-- a row that isn't on it
+pub last_off : (g : ℕ) (rows : List Row) (r : Row) → is_on g r.res ≡ false → last_change g rows ≡ last_change g (rows ++ r ∷ [])
+last_off g rows r off = sym (last_push g rows r false (ap (λ b. b && is_change r.kind) off))
+
+-- ---- the queue
+-- the requests with their numbers are as many as those that tell who
+has_job : (k : Kind) (j : Option JobId) (res : Option ResId) → has_shape k j res ≡ true → is_request k ≡ true → is_some j ≡ true
+has_job Take (Some x) res s q = refl
+has_job Queue (Some x) res s q = refl
+has_job Take None res s q = absurd (cc)
+has_job Queue None res s q = absurd (cc)
+has_job _ j res s q = absurd (cc)
+
+more : (b : Bool) (o : Option JobId) → (b ≡ true → is_some o ≡ true) → (e : Numbered) (es : List Numbered) (js : List JobId) → length es ≡ length js → length (cond b (e ∷ es) es) ≡ length (cons_option (cond b o None) js)
+more true (Some x) h e es js same = ap (λ n. suc n) same
+more true None h e es js same = absurd (true≢false (sym (h refl)))
+more false o h e es js same = same
+
+as_many : (g n : ℕ) (rows : List Row) → length (filter (requests g) (numbered n rows)) ≡ length (requested g rows)
+as_many g n [] = refl
+as_many g n (r ∷ rows) =
+    more (is_on g r.res && is_request r.kind) r.job (λ b. has_job r.kind r.job r.res r.shape (and_parts (is_on g r.res) (is_request r.kind) b).1) (record { number = n + 1; row = r }) (filter (requests g) (numbered (n + 1) rows)) (requested g rows) (as_many g (n + 1) rows)
+
+-- no more releases than requests
+fed_rows : (g : ℕ) (rows : List Row) → IsFed g rows → released g rows ≤ length (filter (requests g) (numbered 0 rows))
+fed_rows g rows fed = let n = as_many g 0 rows in omega (arith, n, fed)
+
+-- as many stand in the queue
+pub queue_size : (g : ℕ) (rows : List Row) → length (queue_rows g rows) ≡ length (fifo g rows)
+queue_size g rows =
+    let a = length-drop (released g rows) (filter (requests g) (numbered 0 rows)) in
+    let b = length-drop (released g rows) (requested g rows) in
+    let n = as_many g 0 rows in
+    omega (arith, a, b, n)
+
+-- by whether the row releases or requests it
+released_one : (g : ℕ) (rows : List Row) (r : Row) (b : Bool) → is_release_of g r ≡ b → released g (rows ++ r ∷ []) ≡ released g rows + cond b 1 0
+released_one g rows r b e = sum_by_push (λ w. cond (is_release_of g w) 1 0) rows r ∙ ap (λ c. released g rows + cond c 1 0) e
+
+rows_one : (g : ℕ) (rows : List Row) (r : Row) (b : Bool) → (is_on g r.res && is_request r.kind) ≡ b → filter (requests g) (numbered 0 (rows ++ r ∷ [])) ≡ filter (requests g) (numbered 0 rows) ++ cond b (record { number = length rows + 1; row = r } ∷ []) []
+rows_one g rows r b e = ap (filter (requests g)) (numbered_more rows r) ∙ filter_one (requests g) (numbered 0 rows) (record { number = length rows + 1; row = r }) b e
+
+-- neither
+queue_same : (g : ℕ) (rows : List Row) (r : Row) → is_release_of g r ≡ false → (is_on g r.res && is_request r.kind) ≡ false → queue_rows g (rows ++ r ∷ []) ≡ queue_rows g rows
+queue_same g rows r release request =
+    let n : released g (rows ++ r ∷ []) ≡ released g rows = let k : released g (rows ++ r ∷ []) ≡ released g rows + 0 = released_one g rows r false release in omega (arith, k) in
+    ap (λ m. drop m (filter (requests g) (numbered 0 (rows ++ r ∷ [])))) n ∙ ap (drop (released g rows)) (rows_one g rows r false request ∙ append-nil (filter (requests g) (numbered 0 rows)))
+
+-- a request joins the end
+queue_more : (g : ℕ) (rows : List Row) (r : Row) → IsFed g rows → is_release_of g r ≡ false → (is_on g r.res && is_request r.kind) ≡ true → queue_rows g (rows ++ r ∷ []) ≡ queue_rows g rows ++ record { number = length rows + 1; row = r } ∷ []
+queue_more g rows r fed release request =
+    let n : released g (rows ++ r ∷ []) ≡ released g rows = let k : released g (rows ++ r ∷ []) ≡ released g rows + 0 = released_one g rows r false release in omega (arith, k) in
+    ap (λ m. drop m (filter (requests g) (numbered 0 (rows ++ r ∷ [])))) n
+    ∙ (ap (drop (released g rows)) (rows_one g rows r true request)
+    ∙ drop-append-le (released g rows) (filter (requests g) (numbered 0 rows)) (record { number = length rows + 1; row = r } ∷ []) (fed_rows g rows fed))
+
+-- a release takes the front away
+queue_less : (g : ℕ) (rows : List Row) (r : Row) → is_release_of g r ≡ true → (is_on g r.res && is_request r.kind) ≡ false → queue_rows g (rows ++ r ∷ []) ≡ drop 1 (queue_rows g rows)
+queue_less g rows r release request =
+    ap (λ m. drop m (filter (requests g) (numbered 0 (rows ++ r ∷ [])))) (released_one g rows r true release)
+    ∙ (ap (drop (released g rows + 1)) (rows_one g rows r false request ∙ append-nil (filter (requests g) (numbered 0 rows)))
+    ∙ sym (drop-drop 1 (released g rows) (filter (requests g) (numbered 0 rows))))
+
+-- a row that isn't on it
+pub queue_off : (g : ℕ) (rows : List Row) (r : Row) → is_on g r.res ≡ false → queue_rows g rows ≡ queue_rows g (rows ++ r ∷ [])
+queue_off g rows r off = sym (queue_same g rows r (ap (λ b. b && is_release r.kind) off) (ap (λ b. b && is_request r.kind) off))
+
+-- ---- a row on it
+-- what is requested is a global resource of the plan
+requested_is : (plan : PlanModel) (pre : List Row) (r : Row) (x : JobId) (g : ℕ) → IsPlan plan → DoesUnit plan pre x r → is_on g r.res ≡ true → is_request r.kind ≡ true → (is_global plan g ≡ true) × Contains (resources plan) g
+requested_is plan pre r x g ok d on request =
+    elim (step_of (is_global_unit plan d.op) (is_queued pre x) d.op r.kind d.kind) [
+      | Runs eo ek ↦ absurd (true≢false (sym request ∙ ap is_request ek))
+      | Locks h eo ek eg ↦ absurd (true≢false (sym request ∙ ap is_request ek))
+      | Unlocks h eo ek eg ↦ absurd (true≢false (sym request ∙ ap is_request ek))
+      | Takes h eo ek eg eq ↦ named h eo eg
+      | Queues h eo ek eg eq ↦ named h eo eg
+      | Grants h eo ek eg eq ↦ absurd (true≢false (sym request ∙ ap is_request ek))
+      | Spins h eo ek eg eq ↦ absurd (true≢false (sym request ∙ ap is_request ek))
+      | Releases h eo ek eg ↦ absurd (true≢false (sym request ∙ ap is_request ek))
+    ]
+  where
+    named : (h : ResId) → d.op ≡ LockUnit h → is_global_unit plan d.op ≡ true → (is_global plan g ≡ true) × Contains (resources plan) g
+    named h eo eg =
+        let s : h.0 ≡ g = eqb-true h.0 g (sym (ap (is_on g) (d.res ∙ ap res_of_unit eo)) ∙ on) in (
+          subst (λ n. is_global plan n ≡ true) s (sym (ap (is_global_unit plan) eo) ∙ eg),
+          subst (λ n. Contains (resources plan) n) s (in_resources plan h.0 ((units_lock plan ok x.task.0).declared (done x pre) h (d.unit ∙ ap (λ o. Some o) eo))),
+        )
+
+module _ (plan : PlanModel) (rows : List Row) (r : Row) (g : ℕ) (ok : IsPlan plan) (start : IsRunStart plan (rows ++ r ∷ [])) (on : is_on g r.res ≡ true) where
+  before : EachAfter (IsLegal plan) [] rows
+  before = each_before (IsLegal plan) [] rows (r ∷ []) start.each
+
+  legal : IsLegal plan rows r
+  legal = each_at (IsLegal plan) [] rows r [] start.each
+
+  no_release : (k : Kind) → is_request k ≡ true → is_release k ≡ false
+  no_release Take e = refl
+  no_release Queue e = refl
+  no_release _ e = absurd (cc)
+
+  -- a request of it finds fewer than there are cores
+  request_fits : is_request r.kind ≡ true → IsFed g rows × (length (queue_rows g rows) + 1 ≤ plan.cores)
+  request_fits request = by_job r.job refl (has_job r.kind r.job r.res r.shape request)
+    where
+      by_job : (o : Option JobId) → r.job ≡ o → is_some o ≡ true → IsFed g rows × (length (queue_rows g rows) + 1 ≤ plan.cores)
+      by_job None job some = absurd (true≢false (sym some))
+      by_job (Some x) job some =
+          let known = requested_is plan rows r x g ok ((legal_turn plan rows r legal).does x job) on request in
+          let queue = queue_at plan g rows ok known.0 known.1 before in
+          let after = queue_at plan g (rows ++ r ∷ []) ok known.0 known.1 start.each in
+          let release : is_release_of g r ≡ false = ap (λ b. b && is_release r.kind) on ∙ no_release r.kind request in
+          let who : requester g r ≡ Some x = ap (λ b. cond (b && is_request r.kind) r.job None) on ∙ (ap (λ b. cond b r.job None) request ∙ job) in
+          let joined = ap length (fifo_request g rows r x queue.orderly.fed release who) ∙ length-append (fifo g rows) (x ∷ []) in
+          let short = queue_short plan g (rows ++ r ∷ []) after in
+          let size = queue_size g rows in
+          (queue.orderly.fed, omega (arith, joined, short, size))
+
+  pub request_short : is_request r.kind ≡ true → length (queue_rows g rows) < 8
+  request_short request = let f = (request_fits request).1 in let most = ok.draft.cores.1 in omega (arith, f, most)
+
+  -- the queue with the row
+  queue_by : (k : Kind) → r.kind ≡ k → queue_with k (queue_rows g rows) (record { number = length rows + 1; row = r }) ≡ queue_rows g (rows ++ r ∷ [])
+  queue_by Idle is = sym (queue_same g rows r (ap (λ b. b && is_release r.kind) on ∙ ap is_release is) (ap (λ b. b && is_request r.kind) on ∙ ap is_request is))
+  queue_by Run is = sym (queue_same g rows r (ap (λ b. b && is_release r.kind) on ∙ ap is_release is) (ap (λ b. b && is_request r.kind) on ∙ ap is_request is))
+  queue_by Lock is = sym (queue_same g rows r (ap (λ b. b && is_release r.kind) on ∙ ap is_release is) (ap (λ b. b && is_request r.kind) on ∙ ap is_request is))
+  queue_by Unlock is = sym (queue_same g rows r (ap (λ b. b && is_release r.kind) on ∙ ap is_release is) (ap (λ b. b && is_request r.kind) on ∙ ap is_request is))
+  queue_by Spin is = sym (queue_same g rows r (ap (λ b. b && is_release r.kind) on ∙ ap is_release is) (ap (λ b. b && is_request r.kind) on ∙ ap is_request is))
+  queue_by Grant is = sym (queue_same g rows r (ap (λ b. b && is_release r.kind) on ∙ ap is_release is) (ap (λ b. b && is_request r.kind) on ∙ ap is_request is))
+  queue_by Take is = sym (queue_more g rows r (request_fits (ap is_request is)).0 (ap (λ b. b && is_release r.kind) on ∙ ap is_release is) (ap (λ b. b && is_request r.kind) on ∙ ap is_request is))
+  queue_by Queue is = sym (queue_more g rows r (request_fits (ap is_request is)).0 (ap (λ b. b && is_release r.kind) on ∙ ap is_release is) (ap (λ b. b && is_request r.kind) on ∙ ap is_request is))
+  queue_by Release is = sym (queue_less g rows r (ap (λ b. b && is_release r.kind) on ∙ ap is_release is) (ap (λ b. b && is_request r.kind) on ∙ ap is_request is))
+
+  pub queue_noted : queue_with r.kind (queue_rows g rows) (record { number = length rows + 1; row = r }) ≡ queue_rows g (rows ++ r ∷ [])
+  queue_noted = queue_by r.kind refl
+
+-- ---- all resources
+-- nothing is noted before the first row
+pub record AreEmpty (n : ℕ) (notes : List ResourceNotes) : Type 0 where
+  pub size : length notes ≡ n
+  pub each : (g : ℕ) (x : ResourceNotes) → slice_get notes g ≡ Some x → IsNoted [] g x
+
+pub empty_none : (notes : List ResourceNotes) → notes ≡ [] → AreEmpty 0 notes
+empty_none [] e = record { size = refl; each = λ g x has. absurd (cc) }
+empty_none (x ∷ notes) e = absurd (cc)
+
+pub empty_more : (n : ℕ) (notes : List ResourceNotes) (x : ResourceNotes) → AreEmpty n notes → x.queue.items ≡ [] → x.last ≡ None → AreEmpty (n + 1) (notes ++ x ∷ [])
+empty_more n notes x all queue last = record {
+  size = length-append notes (x ∷ []) ∙ ap (λ k. k + 1) all.size;
+  each = places_push (IsNoted []) notes x all.each (record { queue = queue; last = last });
+}
+
+-- a row that is on a resource
+on_it : (r : Row) (res : ResId) → r.res ≡ Some res → is_on res.0 r.res ≡ true
+on_it r res e = ap (is_on res.0) e ∙ eq-eqb res.0 res.0 refl
+
+off_it : (r : Row) (res : ResId) (g : ℕ) → r.res ≡ Some res → g ≢ res.0 → is_on g r.res ≡ false
+off_it r res g e ne = ap (is_on g) e ∙ not_equal res.0 g (λ same. ne (sym same))
+
+slice_get_low : (notes : List ResourceNotes) (g : ℕ) (n : ResourceNotes) → slice_get notes g ≡ Some n → g < length notes
+slice_get_low [] g n e = absurd (cc)
+slice_get_low (x ∷ notes) zero n e = omega arith
+slice_get_low (x ∷ notes) (suc g) n e = let l = slice_get_low notes g n e in omega (arith, l)
+
+module _ (plan : PlanModel) (rows : List Row) (r : Row) (old : List ResourceNotes) (noted : (g : ℕ) (n : ResourceNotes) → slice_get old g ≡ Some n → IsNoted rows g n) where
+  -- a row on none of them leaves them
+  pub each_off : ((g : ℕ) → g < length old → is_on g r.res ≡ false) → (g : ℕ) (n : ResourceNotes) → slice_get old g ≡ Some n → IsNoted (rows ++ r ∷ []) g n
+  each_off off g n has =
+      let is = noted g n has in
+      let away = off g (slice_get_low old g n has) in
+      record { queue = is.queue ∙ queue_off g rows r away; last = is.last ∙ last_off g rows r away }
+
+  -- a row on one of them
+  pub each_on : (res : ResId) (one new : ResourceNotes) → IsPlan plan → IsRunStart plan (rows ++ r ∷ []) → r.res ≡ Some res → slice_get old res.0 ≡ Some one
+      → ((is_request r.kind ≡ true → length one.queue.items < 8) → new.queue.items ≡ queue_with r.kind one.queue.items (record { number = length rows + 1; row = r })) → new.last ≡ last_with r.kind one.last (record { number = length rows + 1; row = r })
+      → (g : ℕ) (n : ResourceNotes) → slice_get (slice_set old res.0 new) g ≡ Some n → IsNoted (rows ++ r ∷ []) g n
+  each_on res one new ok start on has queue last g n is = by_place (g == res.0) refl
+    where
+      before : IsNoted rows res.0 one
+      before = noted res.0 one has
+
+      now : IsNoted (rows ++ r ∷ []) res.0 new
+      now =
+          let here = on_it r res on in
+          let e : Numbered = record { number = length rows + 1; row = r } in
+          record {
+            queue = queue (λ request. subst (λ q. length q < 8) (sym before.queue) (request_short plan rows r res.0 ok start here request))
+                ∙ (ap (λ q. queue_with r.kind q e) before.queue ∙ queue_noted plan rows r res.0 ok start here);
+            last = last ∙ (ap (λ l. last_with r.kind l e) before.last ∙ last_noted res.0 rows r here);
+          }
+
+      by_place : (b : Bool) → (g == res.0) ≡ b → IsNoted (rows ++ r ∷ []) g n
+      by_place true e =
+          let at : g ≡ res.0 = eqb-true g res.0 e in
+          let same : new ≡ n = same_Some new n (sym (get_set_same old res.0 one new has) ∙ subst (λ k. slice_get (slice_set old res.0 new) k ≡ Some n) at is) in
+          subst (λ k. IsNoted (rows ++ r ∷ []) k n) (sym at) (subst (IsNoted (rows ++ r ∷ []) res.0) same now)
+      by_place false e =
+          let ne : g ≢ res.0 = eqb-false g res.0 e in
+          let was = noted g n (sym (get_set_other old res.0 g new ne) ∙ is) in
+          let away = off_it r res g on ne in
+          record { queue = was.queue ∙ queue_off g rows r away; last = was.last ∙ last_off g rows r away }
+
+-- ---- how many rows were noted
+few : (n cores ticks : ℕ) → n ≤ cores * ticks → cores ≤ 8 → ticks ≤ 20000 → n ≤ 160000
+few n cores ticks h c t = let a = mul-le-mul_left cores t in omega (arith, a)
+
+pub one_more : (plan : PlanModel) (rows : List Row) (r : Row) (k n : ℕ) → IsPlan plan → IsRunStart plan (rows ++ r ∷ []) → k ≡ length rows → n ≡ min (k + 1) (2 ^ 32 - 1) → n ≡ length rows + 1
+one_more plan rows r k n ok start at is =
+    let size = length-append rows (r ∷ []) in
+    let most = few (length (rows ++ r ∷ [])) plan.cores plan.ticks start.size ok.draft.cores.1 ok.draft.ticks.1 in
+    is ∙ (min-eq_left (omega (arith, at, size, most)) ∙ ap (λ m. m + 1) at)
+
+-- a row that is on no resource, or on none of the plan
+pub noted_off : (plan : PlanModel) (rows : List Row) (r : Row) (notes : List ResourceNotes) → ((g : ℕ) (n : ResourceNotes) → slice_get notes g ≡ Some n → IsNoted rows g n) → r.res ≡ None → (g : ℕ) (n : ResourceNotes) → slice_get notes g ≡ Some n → IsNoted (rows ++ r ∷ []) g n
+noted_off plan rows r notes noted none = each_off plan rows r notes noted (λ g low. ap (is_on g) none)
+
+pub noted_past : (plan : PlanModel) (rows : List Row) (r : Row) (res : ResId) (notes : List ResourceNotes) → ((g : ℕ) (n : ResourceNotes) → slice_get notes g ≡ Some n → IsNoted rows g n) → r.res ≡ Some res → length notes ≤ res.0 → (g : ℕ) (n : ResourceNotes) → slice_get notes g ≡ Some n → IsNoted (rows ++ r ∷ []) g n
+noted_past plan rows r res notes noted on past = each_off plan rows r notes noted (λ g low. off_it r res g on (omega (arith, low, past)))

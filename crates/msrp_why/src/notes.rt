@@ -1,0 +1,120 @@
+//! What is noted of each resource as rows are judged: since which row who stands in its queue, and its last change.
+ghost use Rattle.std.specs.Prelude.{◌≡◌, ◌<◌, ◌++◌, ◌∷◌, [], List, IfOk, length, true};
+ghost use Rattle.msrp_plan.specs.Queues.{is_request};
+ghost use Rattle.msrp_plan.specs.Runs.{IsRunStart};
+ghost use Rattle.msrp_plan.specs.declared.rows.Row.{Row as TraceRow};
+ghost use Rattle.msrp_why.specs.Noted.{AreNoted, last_with, queue_with};
+
+use arrayvec::ArrayVec;
+use msrp_plan::limits::MOST_CORES;
+use msrp_plan::{CoreId, Kind, Memory, Plan, Row};
+use std::alloc::Global;
+use std::mem;
+
+/// The most requests in a queue: each core has one at most.
+pub const MOST_QUEUED: usize = MOST_CORES as usize;
+
+/// A row with its number, counted from 1.
+#[derive(Clone, Copy, Debug)]
+pub struct Numbered {
+    pub number: u32,
+    pub row: Row,
+}
+
+// What an empty place of a list holds.
+impl Default for Numbered {
+    fn default() -> Numbered {
+        Numbered {
+            number: 0,
+            row: Row {
+                tick: 0,
+                core: CoreId(0),
+                kind: Kind::Idle,
+                job: None,
+                res: None,
+                ahead: None,
+            },
+        }
+    }
+}
+
+/// What is noted of a resource.
+#[derive(Debug, Drop)]
+pub struct ResourceNotes {
+    /// The requests that are not released, in order.
+    pub queue: ArrayVec<Numbered, MOST_QUEUED>,
+    /// The last row that locks, unlocks or releases the resource.
+    pub last: Option<Numbered>,
+}
+
+impl ResourceNotes {
+    // The notes after a row on the resource.
+    fn note(&mut self, row: Numbered)
+        ensures queue { (is_request row.row.kind ≡ true → length self.old.queue.items < MOST_QUEUED) → self.new.queue.items ≡ queue_with row.row.kind self.old.queue.items row }
+        ensures last { self.new.last ≡ last_with row.row.kind self.old.last row }
+    {
+        match row.row.kind {
+            Kind::Take | Kind::Queue => {
+                let _fits = self.queue.try_push(row);
+            }
+            Kind::Release => {
+                let _first = self.queue.pop_at(0);
+                self.last = Some(row);
+            }
+            Kind::Lock | Kind::Unlock => self.last = Some(row),
+            Kind::Idle | Kind::Run | Kind::Spin | Kind::Grant => {}
+        }
+    }
+}
+
+/// What is noted of the resources of a plan. The memory grows with the resources, and not with the rows.
+#[derive(Debug, Drop)]
+pub struct Notes {
+    /// How many rows were noted.
+    pub rows: u32,
+    /// The notes of each resource, by its number.
+    pub resources: Vec<ResourceNotes>,
+}
+
+impl Notes {
+    /// The notes before the first row. All memory that they ever need is taken here.
+    pub fn with_room(alloc: Global, plan: &Plan) -> Result<Notes, Memory>
+        ensures { IfOk result (AreNoted plan.now []) }
+    {
+        let count = plan.resources();
+        let mut resources = Vec::with_capacity(alloc, count as usize).map_err(|_| Memory)?;
+        for _res in 0..count {
+            resources.push_reserved(ResourceNotes {
+                queue: ArrayVec::new(),
+                last: None,
+            });
+        }
+        Ok(Notes { rows: 0, resources })
+    }
+
+    // The notes, which are then empty.
+    pub(crate) fn take(&mut self, alloc: Global) -> Notes
+        ensures { result ≡ self.old }
+    {
+        let empty = Notes {
+            rows: 0,
+            resources: Vec::new(alloc),
+        };
+        mem::replace(self, empty)
+    }
+
+    /// The notes after one row more, which is legal.
+    pub fn note(&mut self, plan: &Plan, row: Row)
+        ensures { (rows : List TraceRow) → IsRunStart plan.now (rows ++ row ∷ []) → AreNoted plan.now rows self.old → AreNoted plan.now (rows ++ row ∷ []) self.new }
+    {
+        // Read so that the plan is known to be an accepted one.
+        let _accepted = plan.cores();
+        let number = self.rows.saturating_add(1);
+        self.rows = number;
+        if let Some(res) = row.res {
+            if (res.0 as usize) < self.resources.len() {
+                self.resources[res.0 as usize].note(Numbered { number, row });
+            }
+        }
+    }
+}

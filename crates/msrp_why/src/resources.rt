@@ -1,0 +1,124 @@
+//! What is noted of the resources, in plain sentences.
+ghost use Rattle.std.specs.Prelude.{◌≡◌, length};
+ghost use Rattle.std.specs.List.{flat_map};
+ghost use Rattle.msrp_plan.specs.Bytes.{Wrote};
+ghost use Rattle.msrp_why.specs.ResourceText.{held_lines, held_text, last_lines, lock_lines, own_line, queue_lines, reply_text, resource_lines, since_line};
+
+use crate::notes::{Notes, Numbered, ResourceNotes};
+use crate::telling::{write_number, write_row};
+use msrp_plan::bytes::Sink;
+use msrp_plan::{CoreId, Kind, Plan, ResId};
+use std::io::Write;
+
+// A row with its number, behind words.
+fn write_since<W: Write>(out: &mut Sink<W>, plan: &Plan, words: &[u8], row: Numbered)
+    ensures { Wrote W.contents out.old out.new (since_line plan.now words.now row) }
+{
+    out.add(words);
+    write_number(out, u64::from(row.number));
+    out.add(b": ");
+    write_row(out, plan, row.row);
+}
+
+// A row, if it is one of the core.
+fn write_own<W: Write>(out: &mut Sink<W>, plan: &Plan, core: CoreId, row: Numbered)
+    ensures { Wrote W.contents out.old out.new (own_line plan.now core.0 row) }
+{
+    if row.row.core == core {
+        write_since(out, plan, b"held or awaited since row ", row);
+    }
+}
+
+// The last change of a resource, if it is a lock of the core.
+fn write_lock<W: Write>(out: &mut Sink<W>, plan: &Plan, core: CoreId, last: Option<Numbered>)
+    ensures { Wrote W.contents out.old out.new (lock_lines plan.now core.0 last) }
+{
+    if let Some(row) = last {
+        if row.row.kind == Kind::Lock {
+            write_own(out, plan, core, row);
+        }
+    }
+}
+
+// Those of the rows that are of the core.
+fn write_own_rows<W: Write>(out: &mut Sink<W>, plan: &Plan, core: CoreId, rows: &[Numbered])
+    ensures { Wrote W.contents out.old out.new (flat_map (own_line plan.now core.0) rows.now) }
+{
+    for i in 0..rows.len() {
+        write_own(out, plan, core, rows[i]);
+    }
+}
+
+// What the core holds or awaits of a resource.
+fn write_held_of<W: Write>(out: &mut Sink<W>, plan: &Plan, core: CoreId, notes: &ResourceNotes)
+    ensures { Wrote W.contents out.old out.new (held_lines plan.now core.0 notes.now) }
+{
+    write_lock(out, plan, core, notes.last);
+    write_own_rows(out, plan, core, notes.queue.as_slice());
+}
+
+/// What the core holds or awaits.
+pub(crate) fn write_held<W: Write>(out: &mut Sink<W>, plan: &Plan, core: CoreId, notes: &Notes)
+    ensures { Wrote W.contents out.old out.new (held_text plan.now core.0 notes.now.resources.items) }
+{
+    for i in 0..notes.resources.len() {
+        write_held_of(out, plan, core, &notes.resources[i]);
+    }
+}
+
+// Each of the rows, behind words.
+fn write_each<W: Write>(out: &mut Sink<W>, plan: &Plan, words: &[u8], rows: &[Numbered])
+    ensures { Wrote W.contents out.old out.new (flat_map (since_line plan.now words.now) rows.now) }
+{
+    for i in 0..rows.len() {
+        write_since(out, plan, words, rows[i]);
+    }
+}
+
+// Who stands in a queue, in order.
+fn write_queue<W: Write>(out: &mut Sink<W>, plan: &Plan, notes: &ResourceNotes)
+    ensures { Wrote W.contents out.old out.new (queue_lines plan.now notes.now.queue.items) }
+{
+    out.add(b"so many stand in its queue: ");
+    write_number(out, notes.queue.len() as u64);
+    out.add(b"\n");
+    write_each(
+        out,
+        plan,
+        b"in its queue since row ",
+        notes.queue.as_slice(),
+    );
+}
+
+// The last release of a resource, if there was one.
+fn write_last<W: Write>(out: &mut Sink<W>, plan: &Plan, last: Option<Numbered>)
+    ensures { Wrote W.contents out.old out.new (last_lines plan.now last) }
+{
+    if let Some(row) = last {
+        write_since(out, plan, b"last released in row ", row);
+    }
+}
+
+// Who stands in the queue of a resource, and its last release.
+fn write_noted<W: Write>(out: &mut Sink<W>, plan: &Plan, notes: &ResourceNotes)
+    ensures { Wrote W.contents out.old out.new (resource_lines plan.now notes.now) }
+{
+    write_queue(out, plan, notes);
+    write_last(out, plan, notes.last);
+}
+
+/// What a queue answers from: who stands in it, and its last release.
+pub(crate) fn write_reply<W: Write>(
+    out: &mut Sink<W>,
+    plan: &Plan,
+    notes: &Notes,
+    res: Option<ResId>,
+)
+    ensures { Wrote W.contents out.old out.new (reply_text plan.now notes.now.resources.items res) }
+{
+    if let Some(known) = res {
+        if (known.0 as usize) < notes.resources.len() {
+            write_noted(out, plan, &notes.resources[known.0 as usize]);
+        }
+    }
+}
