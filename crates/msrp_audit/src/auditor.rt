@@ -1,7 +1,9 @@
 //! The auditor, row by row.
 ghost use Rattle.std.specs.Prelude.{◌≡◌, ◌≢◌, ◌<◌, ◌*◌, ◌/◌, ◌++◌, ◌∷◌, [], List, IfOk, Some, None, Err, length, true, false, slice_get};
 ghost use Rattle.std.specs.Option.{IsSomeAnd};
+ghost use Rattle.msrp_core.specs.CoreStates.{IsCoreState};
 ghost use Rattle.msrp_core.specs.Machine.{MachineModel};
+ghost use Rattle.msrp_plan.specs.Logs.{log_of};
 ghost use Rattle.msrp_plan.specs.Runs.{is_of_core, is_in_turn};
 ghost use Rattle.msrp_plan.specs.Verdict.{fault_in, verdict, refused};
 ghost use Rattle.msrp_plan.specs.declared.faults.Fault.{Fault as TraceFault};
@@ -10,6 +12,7 @@ ghost use Rattle.msrp_sim.specs.Cores.{StandFor, IsDueAfter, IsNextRow};
 ghost use Rattle.msrp_audit.specs.Audits.{HasFed, answer_of};
 
 use crate::comparing::unlike_due;
+use msrp_core::CoreState;
 use msrp_levels::Levels;
 use msrp_plan::{CoreId, Fault, Memory, Plan, Row, Rule};
 use msrp_sim::Cores;
@@ -140,6 +143,17 @@ impl<'a> Auditor<'a> {
     {
         if core.0 < self.plan.cores() {
             self.cores.foresee(core)
+        } else {
+            None
+        }
+    }
+
+    /// What decides who has the core's next turn, while the rows so far have no fault; none of a core that the plan hasn't.
+    pub fn state(&self, core: CoreId) -> Option<CoreState>
+        ensures { (rows : List TraceRow) → HasFed self.now rows → self.now.fault ≡ None → core.0 < self.now.plan.cores → IsSomeAnd result (IsCoreState self.now.plan core.0 (length (log_of core.0 rows)) rows) }
+    {
+        if core.0 < self.plan.cores() {
+            Some(self.cores.state(core))
         } else {
             None
         }

@@ -34,8 +34,10 @@ use Rattle.msrp_stack.specs.Stack.{StackModel, StartedJob, CanStart, ComesFirst,
 use Rattle.msrp_stack.specs.Stack as stack
 use Rattle.msrp_core.specs.Going.{Going, going_of, advanced, started_job, is_going, is_kept, done_in, is_waiting_phase, is_newest, state_in, IsGoing, AreApart, HoldSo, AreGoing}
 use Rattle.msrp_core.specs.CoreJobs.{going_in, state_of, AreJobs, AreToldBy, IsRunning, is_first, is_preferred, started_with}
+use Rattle.msrp_core.specs.CoreStates.{IsCoreState}
 use Rattle.msrp_core.specs.declared.jobs.Jobs.{Jobs}
-use Rattle.msrp_core.proofs.Choices.{at_in, going_left, started_jobs, choice_is, top_is, current_is, kept_raised}
+use Rattle.msrp_core.specs.declared.states.CoreState.{CoreState}
+use Rattle.msrp_core.proofs.Choices.{at_in, ceiling_is, choice_is, current_is, going_left, head_is, kept_raised, running_is, started_jobs, top_is}
 use Rattle.msrp_stack.proofs.Changes.{ends_in, reverse_push}
 use Rattle.msrp_core.proofs.Steps.{clash}
 
@@ -395,3 +397,17 @@ advanced_push jobs front n s below done items e more pushed =
     ∙ (ap (λ k. mk s.job s.held (k + 1) (going_of x.1 (reverse front))) (sym p.0)
     ∙ (ap (mk s.job s.held (s.done + 1)) x.5
     ∙ sym (ap (advanced jobs.plan.now) e ∙ ap (λ b. cond b below (record s { done = s.done + 1 } ∷ below)) off))))))
+
+-- what decides the choice, as it is stored
+pub state_told : (jobs : Jobs) (tick : ℕ) (log : List Row) (s : CoreState) → AreJobs jobs → s.running ≡ stack.top jobs.stack → s.head ≡ first_ready jobs.ready.plan jobs.ready.core tick (is_among jobs.ready.taken) → s.ceiling ≡ current_ceiling jobs.stack
+    → ((j : JobId) → s.running ≡ Some j → (state_of jobs j).done ≡ s.done × Contains (jobs_on jobs.plan.now jobs.core.0) j) → AreToldBy jobs log → IsCoreState jobs.plan.now jobs.core.0 tick log s
+state_told jobs tick log s fit running head above count told =
+    let plan = jobs.plan.now in
+    let c = jobs.core.0 in
+    let taken = jobs.ready.taken in
+    record {
+      running = running ∙ sym (running_is plan c log taken jobs.phase (going_in jobs) fit.accepted fit.are told ∙ top_of jobs fit);
+      head = head ∙ (ap (λ p. first_ready p jobs.ready.core tick (is_among taken)) fit.ready_plan ∙ (ap (λ k. first_ready plan k tick (is_among taken)) fit.ready_core ∙ sym (head_is plan c log taken jobs.phase (going_in jobs) fit.accepted fit.are told tick)));
+      ceiling = above ∙ sym (ceiling_is plan c log taken jobs.phase (going_in jobs) fit.accepted fit.are told ∙ ceiling_of jobs fit);
+      done = λ j e. let own = count j e in sym (ap (λ (k : JobState). k.done) (at_in (λ j. state_after log j ≡ state_of jobs j) (jobs_on plan c) j told own.1) ∙ own.0);
+    }

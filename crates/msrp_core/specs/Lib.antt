@@ -3,3 +3,4 @@ pub mod Going
 pub mod CoreJobs
 pub mod Machine
 pub mod MachineView
+pub mod CoreStates

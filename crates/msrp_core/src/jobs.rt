@@ -11,8 +11,10 @@ ghost use Rattle.msrp_plan.specs.declared.rows.Row.{Row as TraceRow};
 ghost use Rattle.msrp_ready.specs.Ready.{head, is_among};
 ghost use Rattle.msrp_stack.specs.Stack.{current_ceiling, newest, top};
 ghost use Rattle.msrp_core.specs.Going.{Going, advanced, state_in};
+ghost use Rattle.msrp_core.specs.CoreStates.{IsCoreState};
 ghost use Rattle.msrp_core.specs.CoreJobs.{AreJobs, AreToldBy, CanAct, IsRunning, IsSamePlace, IsSameStack, going_in, is_first, is_preferred, started_with, state_of};
 
+use crate::states::CoreState;
 use msrp_levels::Levels;
 use msrp_plan::limits::MOST_JOBS;
 use msrp_plan::{CoreId, JobId, Memory, Op, Phase, Plan};
@@ -150,6 +152,24 @@ impl<'a> Jobs<'a> {
         ensures { (s : Going) (below : List Going) → going_in self.now ≡ s ∷ below → result ≡ s.done }
     {
         self.done[self.done.len() - 1]
+    }
+
+    /// What decides who has the turn in this tick. No job is released by that.
+    pub(crate) fn state(&self, tick: u32) -> CoreState
+        requires jobs { AreJobs self.now }
+        requires tick { ForSome self.now.ready.tick (λ before. before ≤ tick) }
+        ensures { (log : List TraceRow) → AreToldBy self.now log → IsCoreState self.now.plan.now self.now.core.0 tick log result }
+    {
+        let running = self.stack.top();
+        CoreState {
+            running,
+            head: self.ready.head_at(tick),
+            ceiling: self.stack.ceiling(),
+            done: match running {
+                Some(_) => self.progress(),
+                None => 0,
+            },
+        }
     }
 
     /// The next unit of the running job.

@@ -8,6 +8,8 @@ mod actions;
 mod jobs;
 mod machines;
 mod port;
+mod states;
 
 pub use machines::Machine;
 pub use port::{Port, PortCall, Reply};
+pub use states::CoreState;

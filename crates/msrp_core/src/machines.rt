@@ -6,10 +6,12 @@ ghost use Rattle.msrp_plan.specs.declared.ids.ResId.{ResId as Resource};
 ghost use Rattle.msrp_plan.specs.declared.rows.Row.{Row as TraceRow};
 ghost use Rattle.msrp_core.specs.Ports.{claim_in};
 ghost use Rattle.msrp_core.specs.CoreJobs.{IsQuiet, MakesCall};
+ghost use Rattle.msrp_core.specs.CoreStates.{IsCoreState};
 ghost use Rattle.msrp_core.specs.Machine.{StandsAfter};
 
 use crate::jobs::Jobs;
 use crate::port::Port;
+use crate::states::CoreState;
 use msrp_levels::Levels;
 use msrp_plan::{CoreId, Memory, Phase, Plan, Row};
 use std::alloc::Global;
@@ -78,6 +80,13 @@ impl<'a> Machine<'a> {
         ensures { result ≡ self.now.phase }
     {
         self.jobs.phase
+    }
+
+    /// What decides who has the core's next turn.
+    pub fn state(&self) -> CoreState
+        ensures { (log : List TraceRow) → StandsAfter self.now log → IsCoreState self.now.plan self.now.core (length log) log result }
+    {
+        self.jobs.state(self.tick)
     }
 
     /// The row of the core's next turn, where one is left. Where the turn is a call of a port the row is that of an answer by

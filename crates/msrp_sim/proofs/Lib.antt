@@ -10,3 +10,4 @@ pub mod Rounds
 pub mod Given
 pub mod NextTurn
 pub mod Foreseeing
+pub mod CoreStates

@@ -1,19 +1,21 @@
 //! All cores of a plan, and the queues of its global resources.
-ghost use Rattle.std.specs.Prelude.{◌≡◌, ◌<◌, ◌++◌, ◌∷◌, [], true, List, IfOk, None, Some, slice_get};
+ghost use Rattle.std.specs.Prelude.{◌≡◌, ◌<◌, ◌++◌, ◌∷◌, [], true, List, IfOk, None, Some, length, slice_get};
 ghost use Rattle.std.specs.Option.{ForSome, IsSomeAnd, option_map};
 ghost use Rattle.msrp_plan.specs.Limits.{most_cores, most_resources, most_rows};
+ghost use Rattle.msrp_plan.specs.Logs.{log_of};
 ghost use Rattle.msrp_plan.specs.Runs.{IsLegal};
 ghost use Rattle.msrp_plan.specs.Calls.{kind_of_call, ahead_of_call};
 ghost use Rattle.msrp_plan.specs.Shape.{has_shape, may_carry};
 ghost use Rattle.msrp_plan.specs.WellFormed.{IsPlan};
 ghost use Rattle.msrp_plan.specs.declared.rows.Row.{Row as TraceRow};
+ghost use Rattle.msrp_core.specs.CoreStates.{IsCoreState};
 ghost use Rattle.msrp_core.specs.Machine.{MachineModel};
 ghost use Rattle.msrp_sim.specs.Cores.{AreNew, StandFor, IsDueAfter, IsNextRow, IsAs, IsAnswered, IsRowWith};
 ghost use Rattle.msrp_sim.specs.Serving.{AreDrawn, Notes, waiting};
 
 use crate::tickets::Queues;
 use crate::turning::turn_by;
-use msrp_core::{Machine, PortCall, Reply};
+use msrp_core::{CoreState, Machine, PortCall, Reply};
 use msrp_levels::Levels;
 use msrp_plan::{Call, CoreId, Kind, Memory, Plan, ResId, Row};
 use std::alloc::Global;
@@ -143,6 +145,14 @@ impl<'a> Cores<'a> {
         ensures { option_map (λ x. x.tick) (slice_get self.now.machines core.0) ≡ Some result }
     {
         self.machines[core.0 as usize].tick()
+    }
+
+    /// What decides who has the core's next turn.
+    pub fn state(&self, core: CoreId) -> CoreState
+        requires { core.0 < self.now.plan.cores }
+        ensures { (rows : List TraceRow) → StandFor self.now rows → IsCoreState self.now.plan core.0 (length (log_of core.0 rows)) rows result }
+    {
+        self.machines[core.0 as usize].state()
     }
 
     /// The row that [`Cores::turn`] would make, where the core has a turn left. Whatever rows the cores stand for, it is the next

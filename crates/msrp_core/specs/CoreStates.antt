@@ -1,0 +1,16 @@
+-- What decides who has the turn of a core, by the definitions.
+use Rattle.std.specs.Prelude.{ℕ, List, ◌≡◌}
+use Rattle.std.specs.Option.{ForSome}
+use Rattle.msrp_plan.specs.Plan.{PlanModel}
+use Rattle.msrp_plan.specs.Ceiling as ceilings
+use Rattle.msrp_plan.specs.Choice as choices
+use Rattle.msrp_plan.specs.Jobs as jobs
+use Rattle.msrp_plan.specs.declared.rows.Row.{Row}
+use Rattle.msrp_core.specs.declared.states.CoreState.{CoreState}
+
+-- after these rows, in tick t: who runs and how many units that job has done, who is the head, and the current ceiling
+pub record IsCoreState (plan : PlanModel) (c t : ℕ) (rows : List Row) (s : CoreState) : Type 0 where
+  pub running : s.running ≡ choices.running plan c rows
+  pub head : s.head ≡ choices.head plan c t rows
+  pub ceiling : s.ceiling ≡ ceilings.ceiling plan c rows
+  pub done : ForSome s.running (λ j. s.done ≡ jobs.done j rows)
