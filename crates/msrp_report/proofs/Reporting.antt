@@ -4,7 +4,7 @@ use Rattle.std.specs.Prelude.{⊤}
 use Rattle.std.specs.List.{All, range_with_len}
 use Rattle.std.specs.declared.result.Result.TheVariants.{Ok, Err}
 use Rattle.std.proofs.lemmas.Bool.{ltb-true}
-use Rattle.std.proofs.lemmas.List.{take-append-drop, take_all, take_more}
+use Rattle.std.proofs.lemmas.List.{take-append-drop, take_more}
 use Rattle.std.proofs.lemmas.List.Elements.{All-from_recursion}
 use Rattle.msrp_audit.specs.Audits.{HasFed, answer_of}
 use Rattle.msrp_plan.specs.Plan.{PlanModel}
@@ -93,10 +93,6 @@ pub one_more : (rows items : List Row) (i : ℕ) (r : Row) → items ≡ rows �
 one_more rows items i r same l is =
     let P : List Row → Type 0 = λ xs. take (i + 1) xs ≡ take i xs ++ r ∷ [] in
     subst P same (take_more items i r l ∙ ap (λ x. take i items ++ x ∷ []) (sym is))
-
--- all of them
-pub all_rows : (rows items : List Row) (i : ℕ) → items ≡ rows → length items ≤ i → take i rows ≡ rows
-all_rows rows items i same past = take_all i rows (subst (λ l. length l ≤ i) same past)
 
 -- a fault of the first rows is the verdict
 pub found_early : (plan own : PlanModel) (rows part : List Row) (n : ℕ) (f : Fault) → own ≡ plan → take n rows ≡ part → Err f ≡ answer_of (fault_in own part) → verdict plan rows ≡ Some f

@@ -1,15 +1,16 @@
 //! The report of a trace.
-ghost use Rattle.std.specs.Prelude.{◌≡◌, ◌≤◌, Some, Err, IfOk, OnOk};
+ghost use Rattle.std.specs.Prelude.{◌≡◌, ◌≤◌, [], Some, Err, IfOk, OnOk};
 ghost use Rattle.std.specs.List.{All};
 ghost use Rattle.msrp_plan.specs.Runs.{IsRun};
 ghost use Rattle.msrp_plan.specs.Verdict.{verdict};
 ghost use Rattle.msrp_plan.specs.declared.faults.Fault.{Fault as TraceFault};
 ghost use Rattle.msrp_report.specs.Lines.{lines_of};
+ghost use Rattle.msrp_report.specs.Reports.{HasReported};
 
 use crate::lines::Report;
 use crate::reporter::Reporter;
 use msrp_levels::Levels;
-use msrp_plan::{Fault, Memory, Plan, Trace};
+use msrp_plan::{Fault, Memory, Plan, Row, Trace};
 use std::alloc::Global;
 
 /// Why there is no report.
@@ -31,6 +32,21 @@ impl From<Memory> for ReportError {
     }
 }
 
+// Judges and counts all rows of a trace, up to the first fault.
+fn feed_all(reporter: &mut Reporter<'_>, rows: &[Row]) -> Result<(), Fault>
+    requires { HasReported reporter.old [] }
+    ensures plan { reporter.new.plan.now ≡ reporter.old.plan.now }
+    ensures fed { IfOk result (λ done. HasReported reporter.new rows.now) }
+    ensures fault { (fault : TraceFault) → result ≡ Err fault → verdict reporter.old.plan.now rows.now ≡ Some fault }
+{
+    for row in rows {
+        if let Err(fault) = reporter.feed(*row) {
+            return Err(fault);
+        }
+    }
+    Ok(())
+}
+
 /// The report of a trace, whoever made it. The trace is audited first: one that isn't a legal run of the plan is
 /// [`ReportError::G1`] with its verdict. It is [`ReportError::G2`] only where memory was refused.
 pub fn report(alloc: Global, plan: &Plan, trace: &Trace) -> Result<Report, ReportError>
@@ -45,10 +61,8 @@ pub fn report(alloc: Global, plan: &Plan, trace: &Trace) -> Result<Report, Repor
 {
     let levels = Levels::of(alloc, plan)?;
     let mut reporter = Reporter::with_room(alloc, plan, &levels)?;
-    for row in &trace.rows {
-        if let Err(fault) = reporter.feed(*row) {
-            return Err(ReportError::G1(fault));
-        }
+    if let Err(fault) = feed_all(&mut reporter, trace.rows.as_slice()) {
+        return Err(ReportError::G1(fault));
     }
     match reporter.end() {
         Ok(report) => Ok(report),

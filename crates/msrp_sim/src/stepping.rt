@@ -1,5 +1,6 @@
 //! A run on one thread, turn by turn.
-ghost use Rattle.std.specs.Prelude.{◌≡◌, ◌<◌, ◌+◌, ◌*◌, ◌++◌, ◌∷◌, [], List, Err, IfOk, ◌↔◌};
+ghost use Rattle.std.specs.Prelude.{◌≡◌, ◌<◌, ◌≤◌, ◌+◌, ◌*◌, ◌++◌, ◌∷◌, [], List, Err, IfOk, ◌↔◌};
+ghost use Rattle.std.specs.Vec.{vec_capacity};
 ghost use Rattle.msrp_plan.specs.Scheduling.{IsOrder};
 ghost use Rattle.msrp_plan.specs.declared.rows.Row.{Row as TraceRow};
 ghost use Rattle.msrp_sim.specs.Orders.{cores_of};
@@ -93,6 +94,23 @@ impl From<Memory> for SimError {
     }
 }
 
+// All turns of a simulation that had none, one row each.
+fn turn_all(simulation: &mut Simulation<'_>, size: u32, rows: &mut Vec<Row>)
+    requires turn { simulation.old.turn ≡ 0 }
+    requires size { size ≡ simulation.old.plan.cores * simulation.old.plan.ticks }
+    requires made { HasMade simulation.old [] }
+    requires rows { rows.old.items ≡ [] }
+    requires room { size ≤ vec_capacity rows.old }
+    ensures plan { simulation.new.plan ≡ simulation.old.plan }
+    ensures order { simulation.new.order ≡ simulation.old.order }
+    ensures turn { simulation.new.turn ≡ size }
+    ensures made { HasMade simulation.new rows.new.items }
+{
+    for _turn in 0..size {
+        rows.push_reserved(simulation.turn());
+    }
+}
+
 /// The run of a plan in which the cores have their turns in this order, whole. There is one such run.
 pub fn simulate(alloc: Global, plan: &Plan, order: &Order) -> Result<Trace, SimError>
     ensures given { (result ≡ Err SimError.S1) ↔ ¬ IsOrder plan.now (cores_of order.now plan.now) }
@@ -105,8 +123,6 @@ pub fn simulate(alloc: Global, plan: &Plan, order: &Order) -> Result<Trace, SimE
     let mut simulation = Simulation::with_room(alloc, plan, &levels, order)?;
     let size = plan.cores() * plan.ticks();
     let mut rows = Vec::with_capacity(alloc, size as usize).map_err(|_| SimError::S2)?;
-    for _turn in 0..size {
-        rows.push_reserved(simulation.turn());
-    }
+    turn_all(&mut simulation, size, &mut rows);
     Ok(Trace { rows })
 }

@@ -1,9 +1,9 @@
 use Rattle.std.proofs.Common.{◌≡◌, take}
 use Rattle.msrp_audit.specs.Audits.{HasFed}
-use Rattle.msrp_audit.proofs.verdicts.audit.Given as goal
+use Rattle.msrp_audit.proofs.verdicts.feed_all.Given as goal
 
 abbrev pub invariant-loop-row : goal.invariant-loop-row
 invariant-loop-row l = record {
-  plan : l.auditor.plan ≡ l.plan;
-  fed : HasFed l.auditor (take l.row-index l.trace.rows.items);
+  plan : l.auditor.plan ≡ l.fn.auditor.plan;
+  fed : HasFed l.auditor (take l.row-index l.rows);
 }

@@ -1,4 +1,4 @@
-use Rattle.std.proofs.Common.{◌≡◌, ℕ, ◌+◌, ◌<◌, ◌++◌, ◌∷◌, [], List, Option, None, Some, Err, length, take, drop, get_or, ap, sym, ◌∙◌, subst}
+use Rattle.std.proofs.Common.{◌≡◌, ℕ, ◌+◌, ◌<◌, ◌++◌, ◌∷◌, [], List, Option, None, Some, Err, length, take, drop, get_or, refl, ap, sym, ◌∙◌, subst}
 use Rattle.std.proofs.lemmas.List.{take-append-drop, take_more}
 use Rattle.msrp_plan.specs.Plan.{PlanModel}
 use Rattle.msrp_plan.specs.Verdict.{fault_in, verdict}
@@ -6,7 +6,7 @@ use Rattle.msrp_plan.specs.declared.faults.Fault.{Fault}
 use Rattle.msrp_plan.specs.declared.rows.Row.{Row as TraceRow}
 use Rattle.msrp_plan.proofs.Runs.Verdicts.{fault_stays, early_is}
 use Rattle.msrp_audit.specs.Audits.{HasFed, answer_of}
-use Rattle.msrp_audit.proofs.verdicts.audit.Goals as goal
+use Rattle.msrp_audit.proofs.verdicts.feed_all.Goals as goal
 
 -- the rows up to one more
 one_more : (rows items : List TraceRow) (i : ℕ) (r : TraceRow) → items ≡ rows → i < length items → r ≡ get_or items i r → take (i + 1) rows ≡ take i rows ++ r ∷ []
@@ -25,18 +25,19 @@ found plan own rows part n f same is h =
     let now : fault_in plan (take n rows) ≡ Some f = told (fault_in plan (take n rows)) f (h ∙ ap answer_of (ap (λ p. fault_in p part) same ∙ ap (fault_in plan) (sym is))) in
     sym (ap answer_of (early_is plan rows f (subst (λ l. fault_in plan l ≡ Some f) (take-append-drop n rows) (fault_stays plan (take n rows) (drop n rows) f now))))
 
-pub returns-in-Err : goal.returns-in-Err
-returns-in-Err c =
-    let rows = c.args.trace.now.rows.items in
+pub returns-in-Err-clause-fault : goal.returns-in-Err-clause-fault
+returns-in-Err-clause-fault c = λ fault e.
+    let rows = c.args.rows.now in
     let i = c.loop-row.invariant in
-    let more = one_more rows c.deref-row-items.result.now c.loop-row.row-index c.row-item.result c.deref-row-items.ensures.value c.loop-row-test.true c.row-item.is in
-    found c.args.plan.now c.loop-row.auditor.plan rows (take c.loop-row.row-index rows ++ c.row-item.result ∷ []) (c.loop-row.row-index + 1) c.in-Err.fault i.plan more (c.in-Err.ensures.answer (take c.loop-row.row-index rows) i.fed)
+    let same : c.in-Err.fault ≡ fault = cc in
+    let more = one_more rows rows c.loop-row.row-index c.row-item.result refl c.loop-row-test.true c.row-item.is in
+    ap (λ f. Err f) (sym same) ∙ found c.args.auditor.now.plan c.loop-row.auditor.plan rows (take c.loop-row.row-index rows ++ c.row-item.result ∷ []) (c.loop-row.row-index + 1) c.in-Err.fault i.plan more (c.in-Err.ensures.answer (take c.loop-row.row-index rows) i.fed)
 
 pub loop-row-preserved : goal.loop-row-preserved
 loop-row-preserved c =
-    let rows = c.args.trace.now.rows.items in
+    let rows = c.args.rows.now in
     let i = c.loop-row.invariant in
-    let more = one_more rows c.deref-row-items.result.now c.loop-row.row-index c.row-item.result c.deref-row-items.ensures.value c.loop-row-test.true c.row-item.is in
+    let more = one_more rows rows c.loop-row.row-index c.row-item.result refl c.loop-row-test.true c.row-item.is in
     record {
       plan = c.feed.ensures.plan ∙ i.plan;
       fed = subst (HasFed c.feed.new.self) (sym more) (c.feed.ensures.fed (take c.loop-row.row-index rows) i.fed);
