@@ -1,5 +1,5 @@
 -- What is written of a trace's text for another tool.
-use Rattle.std.specs.Prelude.{◌≡◌, ℕ, List, Option, Some, None, Ok, Err, ⊤}
+use Rattle.std.specs.Prelude.{◌≡◌, ℕ, List, Option, None, Ok, Err, ⊤}
 use Rattle.std.specs.declared.result.Result.{Result}
 use Rattle.msrp_export.specs.Exports as exports
 use Rattle.msrp_export.specs.Vcd.{end_text, fault_text}

@@ -1,7 +1,6 @@
-use Rattle.std.proofs.Common.{rules, ◌≡◌, ◌++◌, ◌∷◌, [], ◌+◌, ◌<◌, ◌*◌, ◌^◌, Ok, Err, Some, None, length, refl, ap, sym, subst, ◌∙◌, inr, arith, length-append, append-nil}
-use Rattle.std.specs.Prelude.{IfOk}
+use Rattle.std.proofs.Common.{rules, ◌≡◌, ◌++◌, ◌∷◌, [], ◌+◌, ◌<◌, ◌*◌, Ok, Err, Some, None, length, refl, ap, sym, subst, ◌∙◌, inr, arith, length-append, append-nil}
 use Rattle.msrp_audit.specs.Audits.{answer_of}
-use Rattle.msrp_export.specs.Exports.{export_text, part_text, row_text}
+use Rattle.msrp_export.specs.Exports.{part_text, row_text}
 use Rattle.msrp_export.specs.Vcd.{fault_text, head_text}
 use Rattle.msrp_export.proofs.Rows.{part_push}
 use Rattle.msrp_plan.specs.Bytes.{Wrote}
