@@ -106,6 +106,15 @@ def whole_pictures(found, name, plan, style):
         found.judge(answer.status == GOOD and not answer.line and whole, f"{name}, a picture {style} {' '.join(window)}", answer)
 
 
+def whole_dump(found, name, plan):
+    """A dump of the whole run, up to the end of its last tick."""
+    size, path = Size(plan), kept("plan", plan)
+    trace = kept("trace", ask(words_of("sim", path, "")).out)
+    answer = ask(["--vcd", str(path), str(trace)], program=VIEWER)
+    whole = answer.out.startswith(b"$version ") and answer.out.endswith(b"\n#%d\n" % size.ticks)
+    found.judge(answer.status == GOOD and not answer.line and whole, f"{name}, a dump", answer)
+
+
 def is_drawn(svg):
     """Whether this is a whole SVG with the verdict good."""
     try:
@@ -118,5 +127,6 @@ def pieces():
     """All pieces of work of this sweep, by the sweep's name."""
     return {
         "the greatest and the least plans": [(whole_answers, *plan) for plan in PLANS.items()]
-        + [(whole_pictures, *plan, style) for plan in PLANS.items() for style in ("--text", "--svg")],
+        + [(whole_pictures, *plan, style) for plan in PLANS.items() for style in ("--text", "--svg")]
+        + [(whole_dump, *plan) for plan in PLANS.items()],
     }

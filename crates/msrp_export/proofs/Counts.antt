@@ -1,5 +1,5 @@
--- What is kept of a task, of a resource and of a core, with one row more.
-use Rattle.std.proofs.Common.{◌≡◌, ℕ, ◌+◌, ◌≤◌, ◌<◌, ◌^◌, ◌==◌, Bool, true, false, ◌&&◌, not, cond, List, [], ◌∷◌, ◌++◌, ap, sym, ◌∙◌, arith, length, length-append, Option, Some, None, refl, slice_index_or, slice_set, eqb-true, eq-eqb}
+-- What is kept of a resource, with one row more.
+use Rattle.std.proofs.Common.{◌≡◌, ℕ, ◌+◌, ◌≤◌, ◌<◌, ◌^◌, ◌==◌, Bool, true, false, ◌&&◌, cond, List, [], ◌∷◌, ◌++◌, ap, sym, ◌∙◌, arith, length, length-append, Option, Some, None, refl, slice_index_or, slice_set, eqb-true, eq-eqb}
 use Rattle.std.proofs.Math.Bool.{true≢false}
 use Rattle.std.proofs.lemmas.Grind.{get_or-set_at}
 use Rattle.std.proofs.lemmas.List.{get_or-set_other}
@@ -10,27 +10,14 @@ use Rattle.std.proofs.lemmas.List.Sums.{count_by-le-length, fold_push, sum_by_pu
 use Rattle.msrp_plan.specs.declared.ids.JobId.{JobId}
 use Rattle.msrp_plan.specs.declared.ids.ResId.{ResId}
 use Rattle.msrp_plan.specs.declared.rows.Row.{Row}
-use Rattle.msrp_plan.specs.Jobs.{is_waiting}
 use Rattle.msrp_plan.specs.Queues.{is_on, is_release, is_release_of, is_request, requester}
-use Rattle.msrp_export.specs.Signals.{acquired, acquires, given_up, gives_up, holder, holder_by, holder_with, is_job_of, is_row_of_task, work}
-use Rattle.msrp_export.specs.Tells.{count_of, counted, no_count, no_use, use_of, used}
+use Rattle.msrp_export.specs.Signals.{holder, holder_by, holder_with}
+use Rattle.msrp_export.specs.Tells.{no_use, use_of, used}
 use Rattle.msrp_export.specs.declared.standing.ResUse.{ResUse}
-use Rattle.msrp_export.specs.declared.standing.TaskCount.{TaskCount}
 
 -- ---- numbers that fit
 pub few_of : (p : Row → Bool) (rows : List Row) → count_by p rows ≤ length rows
 few_of p rows = count_by-le-length p rows
-
--- ---- tasks
-task_cases : (t : ℕ) (rows : List Row) (r : Row) (mine : Bool) (w a g : ℕ) → w ≡ work t rows + cond (mine && not (is_waiting r.kind)) 1 0 → a ≡ acquired t rows + cond (mine && acquires r.kind) 1 0
-    → g ≡ given_up t rows + cond (mine && gives_up r.kind) 1 0 → record { work = w; acquired = a; given_up = g } ≡ cond mine (counted r (count_of t rows)) (count_of t rows)
-task_cases t rows r true w a g d e f = cc
-task_cases t rows r false w a g d e f = let x : w ≡ work t rows = omega (arith, d) in let y : a ≡ acquired t rows = omega (arith, e) in let z : g ≡ given_up t rows = omega (arith, f) in cc
-
-pub task_push : (t : ℕ) (rows : List Row) (r : Row) → count_of t (rows ++ r ∷ []) ≡ cond (is_row_of_task t r) (counted r (count_of t rows)) (count_of t rows)
-task_push t rows r =
-    task_cases t rows r (is_row_of_task t r) _ _ _ (sum_by_push (λ x. cond (is_row_of_task t x && not (is_waiting x.kind)) 1 0) rows r)
-    (sum_by_push (λ x. cond (is_row_of_task t x && acquires x.kind) 1 0) rows r) (sum_by_push (λ x. cond (is_row_of_task t x && gives_up x.kind) 1 0) rows r)
 
 -- ---- resources
 requested : (on asks : Bool) (j : Option JobId) → length (cons_option (cond (on && asks) j None) []) ≡ cond on (cond (is_some j && asks) 1 0) 0
@@ -72,16 +59,6 @@ few_requests g (r ∷ rows) =
     let few = few_requests g rows in
     omega (arith, split, one, few)
 
-pub count_fits : (t : ℕ) (rows : List Row) (c : TaskCount) → c ≡ count_of t rows → length rows + 1 < 2 ^ 32 → (c.work + 1 < 2 ^ 32) × (c.acquired + 1 < 2 ^ 32) × (c.given_up + 1 < 2 ^ 32)
-count_fits t rows c is few =
-    let w : c.work ≡ work t rows = ap (λ x. x.work) is in
-    let a : c.acquired ≡ acquired t rows = ap (λ x. x.acquired) is in
-    let g : c.given_up ≡ given_up t rows = ap (λ x. x.given_up) is in
-    let m = few_of (λ x. is_row_of_task t x && not (is_waiting x.kind)) rows in
-    let n = few_of (λ x. is_row_of_task t x && acquires x.kind) rows in
-    let k = few_of (λ x. is_row_of_task t x && gives_up x.kind) rows in
-    (omega (arith, w, m, few), omega (arith, a, n, few), omega (arith, g, k, few))
-
 pub use_fits : (g : ℕ) (rows : List Row) (u : ResUse) → u ≡ use_of g rows → length rows + 1 < 2 ^ 32 → (u.requests + 1 < 2 ^ 32) × (u.releases + 1 < 2 ^ 32)
 use_fits g rows u is few =
     let q : u.requests ≡ length (filter_map (requester g) rows) = ap (λ x. x.requests) is in
@@ -91,29 +68,6 @@ use_fits g rows u is few =
     (omega (arith, q, m, few), omega (arith, n, k, few))
 
 -- ---- by number
-abbrev pub Fits : TaskCount → Type 0
-Fits c = (c.work + 1 < 2 ^ 32) × (c.acquired + 1 < 2 ^ 32) × (c.given_up + 1 < 2 ^ 32)
-
-by_task : (ts : List TaskCount) (n t : ℕ) (r : Row) (rows : List Row) (v : TaskCount) → n < length ts → (mine : Bool) → (n == t) ≡ mine → is_row_of_task t r ≡ mine → length rows + 1 < 2 ^ 32
-    → slice_index_or ts t no_count ≡ count_of t rows → (Fits (slice_index_or ts n no_count) → v ≡ counted r (slice_index_or ts n no_count)) → slice_index_or (slice_set ts n v) t no_count ≡ count_of t (rows ++ r ∷ [])
-by_task ts n t r rows v low true same own few was gives =
-    let at : n ≡ t = eqb-true n t same in
-    let here : slice_index_or ts n no_count ≡ count_of t rows = ap (λ k. slice_index_or ts k no_count) at ∙ was in
-    get_or-set_at ts n t v no_count (sym at) low
-    ∙ (gives (count_fits t rows (slice_index_or ts n no_count) here few)
-    ∙ (ap (counted r) here ∙ sym (task_push t rows r ∙ ap (λ b. cond b (counted r (count_of t rows)) (count_of t rows)) own)))
-by_task ts n t r rows v low false other own few was gives =
-    get_or-set_other ts n t v no_count (λ e. absurd (true≢false (sym (eq-eqb n t (sym e)) ∙ other)))
-    ∙ (was ∙ sym (task_push t rows r ∙ ap (λ b. cond b (counted r (count_of t rows)) (count_of t rows)) own))
-
--- a row of a task, and one of none
-pub set_task : (ts : List TaskCount) (j : JobId) (t : ℕ) (r : Row) (rows : List Row) (v : TaskCount) → r.job ≡ Some j → j.task.0 < length ts → length rows + 1 < 2 ^ 32 → slice_index_or ts t no_count ≡ count_of t rows
-    → (Fits (slice_index_or ts j.task.0 no_count) → v ≡ counted r (slice_index_or ts j.task.0 no_count)) → slice_index_or (slice_set ts j.task.0 v) t no_count ≡ count_of t (rows ++ r ∷ [])
-set_task ts j t r rows v is low few was gives = by_task ts j.task.0 t r rows v low (j.task.0 == t) refl (ap (is_job_of t) is) few was gives
-
-pub other_task : (t : ℕ) (r : Row) (rows : List Row) (c : TaskCount) → is_row_of_task t r ≡ false → c ≡ count_of t rows → c ≡ count_of t (rows ++ r ∷ [])
-other_task t r rows c other was = was ∙ sym (task_push t rows r ∙ ap (λ b. cond b (counted r (count_of t rows)) (count_of t rows)) other)
-
 abbrev pub FitsUse : ResUse → Type 0
 FitsUse u = (u.requests + 1 < 2 ^ 32) × (u.releases + 1 < 2 ^ 32)
 

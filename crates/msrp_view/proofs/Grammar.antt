@@ -19,7 +19,7 @@ use Rattle.msrp_view.specs.declared.cli.Cmd.{Cmd}
 use Rattle.msrp_view.specs.declared.cli.Cmd.TheVariants.{View}
 use Rattle.msrp_picture.specs.declared.windows.Style.{Style}
 use Rattle.msrp_picture.specs.declared.windows.Asked.{Asked}
-use Rattle.msrp_view.specs.CommandLine.{IsAnswered, IsDrawn, IsExplained, IsTold, answer_to, asked_by, grammar, tick_of, view_by, view_of, why_of}
+use Rattle.msrp_view.specs.CommandLine.{IsAnswered, IsDrawn, IsExplained, IsExported, IsShown, IsTold, answer_to, asked_by, export_of, grammar, tick_of, view_by, view_of, why_of}
 
 -- one argument more
 pub adds_rule : (old : Command) (arg : Arg) (new : Command) (words : App) (rule : Rule) → AddsArg old arg new → app_of old ≡ words → rule_of arg ≡ rule → arg.global ≡ false → app_of new ≡ with_rule words rule
@@ -118,9 +118,20 @@ explained_faults told (Ok command) h = tt
 explained_faults None (Err fault) h = inl (cc)
 explained_faults (Some v) (Err fault) h = absurd h
 
--- and those of either
+exported_faults : (paths : Option (Text × Text)) (result : Result Cmd CliFault) → IsExported paths result → IfErr result (λ fault. (fault ≡ Usage) ⊎ (fault ≡ Memory))
+exported_faults paths (Ok command) h = tt
+exported_faults None (Err fault) h = inl (cc)
+exported_faults (Some v) (Err fault) h = absurd h
+
+shown_faults : (rows : List Row) (result : Result Cmd CliFault) → IsShown rows result → IfErr result (λ fault. (fault ≡ Usage) ⊎ (fault ≡ Memory))
+shown_faults rows result h = elim (cases_Bool (is_given (codes "vcd") rows)) [
+  | inl given ↦ exported_faults (export_of rows) result (h.0 given)
+  | inr absent ↦ drawn_faults (view_of rows) result (h.1 absent)
+]
+
+-- and those of each
 pub told_faults : (rows : List Row) (result : Result Cmd CliFault) → IsTold rows result → IfErr result (λ fault. (fault ≡ Usage) ⊎ (fault ≡ Memory))
 told_faults rows result h = elim (cases_Bool (is_given (codes "why") rows)) [
   | inl given ↦ explained_faults (why_of rows) result (h.0 given)
-  | inr absent ↦ drawn_faults (view_of rows) result (h.1 absent)
+  | inr absent ↦ shown_faults rows result (h.1 absent)
 ]

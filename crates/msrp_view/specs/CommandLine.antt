@@ -10,7 +10,7 @@ use Rattle.msrp_cli.specs.Arguments.{fault_of_words, flag, help_unless, is_given
 use Rattle.msrp_faults.specs.declared.faults.CliFault.{CliFault}
 use Rattle.msrp_faults.specs.declared.faults.CliFault.TheVariants.{Usage}
 use Rattle.msrp_view.specs.declared.cli.Cmd.{Cmd}
-use Rattle.msrp_view.specs.declared.cli.Cmd.TheVariants.{Help, View, Why}
+use Rattle.msrp_view.specs.declared.cli.Cmd.TheVariants.{Export, Help, View, Why}
 use Rattle.msrp_picture.specs.declared.windows.Asked.{Asked}
 use Rattle.msrp_picture.specs.declared.windows.Style.{Style}
 use Rattle.msrp_picture.specs.declared.windows.Style.TheVariants as style
@@ -29,7 +29,7 @@ unfoldable pub grammar : App
 grammar =
     let flags = with_rule (with_rule program (flag (codes "text"))) (flag (codes "svg")) in
     let ticks = with_rule (with_rule flags (valued (codes "from"))) (valued (codes "to")) in
-    let words = with_rule ticks (flag (codes "why")) in
+    let words = with_rule (with_rule ticks (flag (codes "why"))) (flag (codes "vcd")) in
     with_rule (with_rule words (wanted (codes "PLAN"))) (optional (codes "TRACE"))
 
 -- the parser was told of these words
@@ -77,9 +77,13 @@ abbrev pub why_by : Option Text → Option Text → Option (Text × Text) → Op
 why_by plan None both = option_map (λ path. (path, None)) plan
 why_by plan (Some trace) both = option_map (λ paths. (paths.0, Some paths.1)) both
 
--- what is explained, where nothing is said of a picture
+-- what is explained, where nothing is said of a picture or of a dump
 abbrev pub why_of : List Row → Option (Text × Option Text)
-why_of rows = if says_picture rows then None else why_by (first_of (codes "PLAN") rows) (first_of (codes "TRACE") rows) (paths_of rows)
+why_of rows = if says_picture rows || is_given (codes "vcd") rows then None else why_by (first_of (codes "PLAN") rows) (first_of (codes "TRACE") rows) (paths_of rows)
+
+-- what is dumped, where nothing is said of a picture
+abbrev pub export_of : List Row → Option (Text × Text)
+export_of rows = if says_picture rows then None else paths_of rows
 
 -- ---- answers
 -- what a fault of the words is answered: the help where it is asked for, which is no fault
@@ -90,13 +94,22 @@ answer_to kind = help_unless Help (fault_of_words kind)
 abbrev pub Draws : Asked × Text × Text → Cmd → Type 0
 Draws view (View asked plan trace) = (asked ≡ view.0) × (plan.now ≡ view.1) × (trace.now ≡ view.2)
 Draws view (Why plan trace) = ⊥
+Draws view (Export plan trace) = ⊥
 Draws view Help = ⊥
 
 -- the command explains the plan of that path, or that trace of it
 abbrev pub Explains : Text × Option Text → Cmd → Type 0
 Explains told (View asked plan trace) = ⊥
+Explains told (Export plan trace) = ⊥
 Explains told (Why plan trace) = (plan.now ≡ told.0) × (option_map (λ path. path.now) trace ≡ told.1)
 Explains told Help = ⊥
+
+-- the command dumps that trace of the plan of those paths
+abbrev pub Exports : Text × Text → Cmd → Type 0
+Exports paths (View asked plan trace) = ⊥
+Exports paths (Why plan trace) = ⊥
+Exports paths (Export plan trace) = (plan.now ≡ paths.0) × (trace.now ≡ paths.1)
+Exports paths Help = ⊥
 
 -- the picture that is asked for is drawn; where none is, it is usage
 abbrev pub IsDrawn : Option (Asked × Text × Text) → Result Cmd CliFault → Type 0
@@ -108,9 +121,18 @@ abbrev pub IsExplained : Option (Text × Option Text) → Result Cmd CliFault �
 IsExplained None result = result ≡ Err Usage
 IsExplained (Some told) result = IsOkAnd result (Explains told)
 
--- words are asked for, or else a picture
+-- what is to be dumped is; where that isn't told, it is usage
+abbrev pub IsExported : Option (Text × Text) → Result Cmd CliFault → Type 0
+IsExported None result = result ≡ Err Usage
+IsExported (Some paths) result = IsOkAnd result (Exports paths)
+
+-- a dump is asked for, or else a picture
+abbrev pub IsShown : List Row → Result Cmd CliFault → Type 0
+IsShown rows result = ((is_given (codes "vcd") rows ≡ true) → IsExported (export_of rows) result) × ((is_given (codes "vcd") rows ≡ false) → IsDrawn (view_of rows) result)
+
+-- words are asked for, or else what is shown
 abbrev pub IsTold : List Row → Result Cmd CliFault → Type 0
-IsTold rows result = ((is_given (codes "why") rows ≡ true) → IsExplained (why_of rows) result) × ((is_given (codes "why") rows ≡ false) → IsDrawn (view_of rows) result)
+IsTold rows result = ((is_given (codes "why") rows ≡ true) → IsExplained (why_of rows) result) × ((is_given (codes "why") rows ≡ false) → IsShown rows result)
 
 -- the answer to words of which the parser tells these kinds of fault, and else this
 abbrev pub IsAnswered : Kinds → List Row → Result Cmd CliFault → Type 0

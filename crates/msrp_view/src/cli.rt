@@ -5,7 +5,7 @@ ghost use Rattle.std.specs.Char.{is_ascii_digit};
 ghost use Rattle.std.specs.List.{list_all};
 ghost use Rattle.clap.specs.Words.{fault_of, found_of, matches_of, rows_of, rule_of};
 ghost use Rattle.msrp_view.specs.CommandLine as line;
-ghost use Rattle.msrp_view.specs.CommandLine.{IsAnswered, IsDrawn, IsExplained, IsTold, Takes};
+ghost use Rattle.msrp_view.specs.CommandLine.{IsAnswered, IsDrawn, IsExplained, IsExported, IsShown, IsTold, Takes};
 
 use clap::error::ErrorKind;
 use clap::{Arg, ArgMatches, Command};
@@ -28,6 +28,11 @@ pub enum Cmd<'a> {
         plan: &'a str,
         trace: Option<&'a str>,
     },
+    /// Writes a value change dump of a trace of the plan.
+    Export {
+        plan: &'a str,
+        trace: &'a str,
+    },
     /// Prints the help.
     Help,
 }
@@ -43,12 +48,14 @@ const TO: &str = "to";
 
 const WHY: &str = "why";
 
+const VCD: &str = "vcd";
+
 // The program, still without arguments.
 fn program<'a>(alloc: Global) -> Command<'a>
     ensures { Takes line.program result }
 {
     Command::new(alloc, "msrp_view").about(
-        "draws a trace of a plan: what each core does in each tick, and who stands in the queue of each global resource",
+        "MSRP 0.1.0, draws a trace of a plan: what each core does in each tick, and who stands in the queue of each global resource",
     )
 }
 
@@ -83,6 +90,11 @@ fn grammar<'a>(alloc: Global) -> Result<Command<'a>, AllocError>
             alloc,
             WHY,
             "draws nothing, and says in words why the plan is refused or what is odd in it; with a trace, what was due in place of its first faulty row",
+        ))?
+        .arg(flag(
+            alloc,
+            VCD,
+            "draws nothing, and writes the whole trace as a value change dump, for GTKWave and other viewers of waves",
         ))?
         .arg(path(alloc, PLAN, "the plan's path; - is standard input"))?
         .arg(optional(
@@ -170,7 +182,7 @@ fn says_picture(matches: &ArgMatches<'_>) -> bool
 fn why_of<'a>(matches: &ArgMatches<'a>) -> Result<Cmd<'a>, CliFault>
     ensures { IsExplained (line.why_of (rows_of (found_of matches.now))) result }
 {
-    if says_picture(matches) {
+    if says_picture(matches) || is_given(matches, VCD) {
         return Err(CliFault::Usage);
     }
     if value_of(matches, TRACE).is_some() {
@@ -186,14 +198,36 @@ fn why_of<'a>(matches: &ArgMatches<'a>) -> Result<Cmd<'a>, CliFault>
     }
 }
 
-// What is asked for: words, or a picture.
+// What is written for another tool.
+fn export_of<'a>(matches: &ArgMatches<'a>) -> Result<Cmd<'a>, CliFault>
+    ensures { IsExported (line.export_of (rows_of (found_of matches.now))) result }
+{
+    if says_picture(matches) {
+        return Err(CliFault::Usage);
+    }
+    let (plan, trace) = both_paths(matches)?;
+    Ok(Cmd::Export { plan, trace })
+}
+
+// What is shown: a picture, or what another tool shows.
+fn shown_of<'a>(matches: &ArgMatches<'a>) -> Result<Cmd<'a>, CliFault>
+    ensures { IsShown (rows_of (found_of matches.now)) result }
+{
+    if is_given(matches, VCD) {
+        export_of(matches)
+    } else {
+        view_of(matches)
+    }
+}
+
+// What is asked for: words, or what is shown.
 fn asked_for<'a>(matches: &ArgMatches<'a>) -> Result<Cmd<'a>, CliFault>
     ensures { IsTold (rows_of (found_of matches.now)) result }
 {
     if is_given(matches, WHY) {
         why_of(matches)
     } else {
-        view_of(matches)
+        shown_of(matches)
     }
 }
 

@@ -1,4 +1,4 @@
-//! `msrp_view`: draws a trace of a plan, in text or in SVG, or says in words what is wrong with either.
+//! `msrp_view`: draws a trace of a plan, in text or in SVG, writes it as a value change dump, or says in words what is wrong with either.
 //!
 //! `cli` reads the command line, and `main` opens what the words name, prints the line of a fault and gives the exit status. The engines
 //! are `msrp_view_engine`'s.
@@ -12,7 +12,7 @@ use cli::{Cmd, command_of, help_text};
 use msrp_cli::{open, open_both, words_of, write_help};
 use msrp_engine::{CliFault, exit_of};
 use msrp_plan::bytes::{Sink, Source};
-use msrp_view_engine::{view_text, why_plan_text, why_text};
+use msrp_view_engine::{export_text, view_text, why_plan_text, why_text};
 use std::io;
 use std::process::ExitCode;
 
@@ -31,6 +31,15 @@ fn run(rt: &HostRuntime) -> Result<u8, CliFault> {
         } => {
             let (plan, trace) = open_both(rt, plan, trace)?;
             why_text(
+                alloc,
+                &mut Source::new(plan),
+                &mut Source::new(trace),
+                &mut out,
+            )
+        }
+        Cmd::Export { plan, trace } => {
+            let (plan, trace) = open_both(rt, plan, trace)?;
+            export_text(
                 alloc,
                 &mut Source::new(plan),
                 &mut Source::new(trace),

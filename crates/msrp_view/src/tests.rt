@@ -38,6 +38,11 @@ fn why<'a>(plan: &'a str, trace: Option<&'a str>) -> Cmd<'a> {
     Cmd::Why { plan, trace }
 }
 
+// A dump of these.
+fn export<'a>(plan: &'a str, trace: &'a str) -> Cmd<'a> {
+    Cmd::Export { plan, trace }
+}
+
 #[test]
 fn commands(rt: HostRuntime) -> Result<(), Fail> {
     let asked = Asked {
@@ -45,7 +50,7 @@ fn commands(rt: HostRuntime) -> Result<(), Fail> {
         from: Some(3),
         to: Some(20),
     };
-    let table: [(&[&str], Cmd<'_>); 12] = [
+    let table: [(&[&str], Cmd<'_>); 14] = [
         (&["p", "t"], view(Style::Text, "p", "t")),
         (&["--text", "p", "t"], view(Style::Text, "p", "t")),
         (&["--svg", "p", "t"], view(Style::Svg, "p", "t")),
@@ -63,6 +68,8 @@ fn commands(rt: HostRuntime) -> Result<(), Fail> {
         (&["-", "--why"], why("-", None)),
         (&["--why", "p", "-"], why("p", Some("-"))),
         (&["p", "t", "--why"], why("p", Some("t"))),
+        (&["--vcd", "p", "t"], export("p", "t")),
+        (&["-", "t", "--vcd"], export("-", "t")),
         (&["-h"], Cmd::Help),
         (&["--help"], Cmd::Help),
     ];
@@ -75,7 +82,7 @@ fn commands(rt: HostRuntime) -> Result<(), Fail> {
 
 #[test]
 fn no_commands(rt: HostRuntime) -> Result<(), Fail> {
-    let table: [&[&str]; 20] = [
+    let table: [&[&str]; 25] = [
         &[],
         &["--svg", "--text", "p", "t"],
         &["--svg", "--svg", "p", "t"],
@@ -96,6 +103,11 @@ fn no_commands(rt: HostRuntime) -> Result<(), Fail> {
         &["--why", "--svg", "p", "t"],
         &["--why", "--from", "1", "p", "t"],
         &["--why", "--to", "1", "p"],
+        &["--vcd", "p"],
+        &["--vcd", "--vcd", "p", "t"],
+        &["--vcd", "--svg", "p", "t"],
+        &["--vcd", "--to", "9", "p", "t"],
+        &["--vcd", "--why", "p", "t"],
     ];
     for words in table {
         let words = words_of(rt.alloc(), words)?;

@@ -2,3 +2,4 @@ pub mod Explaining
 pub mod ReadThrough
 pub mod Recounting
 pub mod Picturing
+pub mod Exporting

@@ -2,3 +2,4 @@ pub mod Views
 pub mod Explaining
 pub mod Whys
 pub mod Inside
+pub mod Exporting

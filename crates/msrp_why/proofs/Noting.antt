@@ -29,7 +29,7 @@ use Rattle.msrp_plan.proofs.Lists.AnyAll.{places_push}
 use Rattle.msrp_plan.proofs.Lists.Ranges.{not_equal}
 use Rattle.msrp_plan.proofs.Lists.Prefixes.{each_at, each_before}
 use Rattle.msrp_plan.proofs.Queues.Fifos.{IsFed, fifo_request, released, requested}
-use Rattle.msrp_plan.proofs.Queues.QueueMembers.{IsQueueOf, queue_at, queue_short}
+use Rattle.msrp_plan.proofs.Queues.QueueMembers.{queue_at, queue_short}
 use Rattle.msrp_plan.proofs.TaskUnits.PlanUnits.{units_lock}
 use Rattle.msrp_plan.proofs.TaskUnits.UnitKinds.{Grants, Locks, Queues, Releases, Runs, Spins, Takes, Unlocks, step_of}
 use Rattle.msrp_sim.proofs.Standing.{get_set_other, get_set_same}
@@ -230,10 +230,6 @@ module _ (plan : PlanModel) (rows : List Row) (r : Row) (g : ℕ) (ok : IsPlan p
 pub record AreEmpty (n : ℕ) (notes : List ResourceNotes) : Type 0 where
   pub size : length notes ≡ n
   pub each : (g : ℕ) (x : ResourceNotes) → slice_get notes g ≡ Some x → IsNoted [] g x
-
-pub empty_none : (notes : List ResourceNotes) → notes ≡ [] → AreEmpty 0 notes
-empty_none [] e = record { size = refl; each = λ g x has. absurd (cc) }
-empty_none (x ∷ notes) e = absurd (cc)
 
 pub empty_more : (n : ℕ) (notes : List ResourceNotes) (x : ResourceNotes) → AreEmpty n notes → x.queue.items ≡ [] → x.last ≡ None → AreEmpty (n + 1) (notes ++ x ∷ [])
 empty_more n notes x all queue last = record {

@@ -1,5 +1,5 @@
 -- Facts on a row that is refused, as text: a line each.
-use Rattle.std.specs.Prelude.{ℕ, Bool, List, [], ◌++◌, ◌+◌, ◌-◌, ◌*◌, ◌/◌, ◌&&◌, nat_lt, length, codes, decimal, Option, Some, None, if◌then◌else◌}
+use Rattle.std.specs.Prelude.{ℕ, Bool, List, [], ◌++◌, ◌+◌, ◌*◌, ◌/◌, ◌&&◌, nat_lt, length, codes, decimal, Option, Some, None, if◌then◌else◌}
 use Rattle.std.specs.Option.{is_some}
 use Rattle.msrp_core.specs.declared.states.CoreState.{CoreState}
 use Rattle.msrp_plan.specs.Plan.{PlanModel, core_of, key, task_of, units}

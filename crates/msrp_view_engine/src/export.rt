@@ -1,0 +1,169 @@
+//! A trace in the format of another tool.
+ghost use Rattle.std.specs.Prelude.{◌≡◌, ◌⊎◌, ◌+◌, ◌<◌, ◌^◌, ℕ, List, [], length, true, false, Some, Err, IfOk, IfErr};
+ghost use Rattle.msrp_audit.specs.Audits.{HasFed};
+ghost use Rattle.msrp_plan.specs.Bytes.{Wrote, sink_failed, source_failed, source_remaining};
+ghost use Rattle.msrp_plan.specs.declared.rows.Row.{Row as TraceRow};
+ghost use Rattle.msrp_text.specs.Reading.{csv_records, plan_of};
+ghost use Rattle.msrp_text.specs.declared.reading.TextError.{TextError as PlanError};
+ghost use Rattle.msrp_trace.specs.Reading.{Told, rows_of};
+ghost use Rattle.msrp_trace.specs.Readers.{told_left};
+ghost use Rattle.msrp_engine.specs.Findings.{finding};
+ghost use Rattle.msrp_export.specs.Exports.{HasExported, export_text};
+ghost use Rattle.msrp_faults.specs.Outcomes.{fault_of, is_audit_fault, is_trace_fault};
+ghost use Rattle.msrp_view_engine.specs.Exporting.{ExportAnswers, ExportTold, end_or_fault};
+ghost use Rattle.msrp_view_engine.specs.Whys.{why_status};
+
+use msrp_audit::Auditor;
+use msrp_engine::CliFault;
+use msrp_export::Exporter;
+use msrp_levels::Levels;
+use msrp_plan::bytes::{Sink, Source};
+use msrp_plan::{Fault, Plan};
+use msrp_text::read_plan;
+use msrp_trace::TraceReader;
+use std::alloc::Global;
+use std::io::{Read, Write};
+
+// Writes what comes behind all rows, with the verdict on them.
+fn write_end<W: Write>(exporter: &Exporter<'_>, out: &mut Sink<W>, found: Result<(), Fault>)
+    ensures { (rows : List TraceRow) → HasExported exporter.now rows → length rows + 1 < 2 ^ 32 → Wrote W.contents out.old out.new (end_or_fault exporter.now.plan.now rows found) }
+{
+    match found {
+        Ok(()) => exporter.end(out),
+        Err(fault) => exporter.fault(out, fault.rule, None),
+    }
+}
+
+// Writes the rows that a reader has left as they are judged, and answers the verdict. None is read after a faulty one.
+fn export_rows<T: Read, W: Write>(
+    plan: &Plan,
+    auditor: &mut Auditor<'_>,
+    rows: &mut TraceReader<'_, T>,
+    out: &mut Sink<W>,
+) -> Result<Result<(), Fault>, CliFault>
+    requires plan { auditor.old.plan ≡ plan.now }
+    requires fed { HasFed auditor.old [] }
+    ensures found { (told : Told) → told_left T.remaining rows.old ≡ Some told
+        → (result ≡ Err CliFault.Read) ⊎ (result ≡ Err CliFault.Memory) ⊎ (result ≡ finding plan.now told) }
+    ensures wrote { (told : Told) → told_left T.remaining rows.old ≡ Some told → IfOk result (λ found. Wrote W.contents out.old out.new (export_text plan.now told.rows found)) }
+    ensures faults { IfErr result (λ fault. is_trace_fault fault ≡ true) }
+{
+    let mut exporter = Exporter::new(plan);
+    exporter.head(out);
+    while let Some(row) = rows.next_foreseen(|core| auditor.foresee(core))? {
+        if let Err(fault) = auditor.feed(row) {
+            exporter.fault(out, fault.rule, Some(row));
+            return Ok(Err(fault));
+        }
+        exporter.row(out, row);
+    }
+    let found = auditor.end();
+    write_end(&exporter, out, found);
+    Ok(found)
+}
+
+// The same of a trace's text. Whatever ends the reading early may be told as a failed read.
+fn export_all<T: Read, W: Write>(
+    alloc: Global,
+    plan: &Plan,
+    levels: &Levels<'_>,
+    trace: &mut Source<T>,
+    out: &mut Sink<W>,
+) -> Result<Result<(), Fault>, CliFault>
+    requires levels { levels.now ≡ plan.now }
+    ensures found { (bytes : List ℕ) → source_remaining T.remaining trace.old ≡ Some bytes
+        → (result ≡ Err CliFault.Read) ⊎ (result ≡ Err CliFault.Memory) ⊎ (result ≡ finding plan.now (rows_of plan.now (csv_records bytes))) }
+    ensures wrote { (bytes : List ℕ) → source_remaining T.remaining trace.old ≡ Some bytes
+        → IfOk result (λ found. Wrote W.contents out.old out.new (export_text plan.now (rows_of plan.now (csv_records bytes)).rows found)) }
+    ensures faults { IfErr result (λ fault. is_trace_fault fault ≡ true) }
+{
+    let mut auditor = Auditor::with_room(alloc, plan, levels)?;
+    let mut rows = TraceReader::new(alloc, trace, plan)?;
+    let found = export_rows(plan, &mut auditor, &mut rows, out);
+    drop(rows);
+    found
+}
+
+// The same, where a failed read is told only if the source has failed.
+fn export_trace<T: Read, W: Write>(
+    alloc: Global,
+    plan: &Plan,
+    levels: &Levels<'_>,
+    trace: &mut Source<T>,
+    out: &mut Sink<W>,
+) -> Result<Result<(), Fault>, CliFault>
+    requires levels { levels.now ≡ plan.now }
+    ensures found { (bytes : List ℕ) → source_remaining T.remaining trace.old ≡ Some bytes
+        → (result ≡ Err CliFault.Read) ⊎ (result ≡ Err CliFault.Memory) ⊎ (result ≡ finding plan.now (rows_of plan.now (csv_records bytes))) }
+    ensures wrote { (bytes : List ℕ) → source_remaining T.remaining trace.old ≡ Some bytes
+        → IfOk result (λ found. Wrote W.contents out.old out.new (export_text plan.now (rows_of plan.now (csv_records bytes)).rows found)) }
+    ensures faults { IfErr result (λ fault. is_trace_fault fault ≡ true) }
+    ensures read { result ≡ Err CliFault.Read → source_failed trace.new ≡ true }
+{
+    match export_all(alloc, plan, levels, trace, out) {
+        Err(CliFault::Read) if !trace.failed() => Err(CliFault::Memory),
+        found => found,
+    }
+}
+
+// The status of a verdict that was written.
+fn status_of<W: Write>(out: &Sink<W>, found: Result<(), Fault>) -> Result<u8, CliFault>
+    ensures status { result ≡ why_status found out.now }
+    ensures good { IfOk result (λ status. ((status ≡ 0) ⊎ (status ≡ 1)) × (sink_failed out.now ≡ false)) }
+    ensures fault { IfErr result (λ fault. (fault ≡ CliFault.Write) × (sink_failed out.now ≡ true)) }
+{
+    out.outcome()?;
+    match found {
+        Ok(()) => Ok(0),
+        Err(_) => Ok(1),
+    }
+}
+
+// The same of an accepted plan.
+fn export_plan<T: Read, W: Write>(
+    alloc: Global,
+    plan: &Plan,
+    trace: &mut Source<T>,
+    out: &mut Sink<W>,
+) -> Result<u8, CliFault>
+    ensures answer { (bytes : List ℕ) → source_remaining T.remaining trace.old ≡ Some bytes
+        → (result ≡ Err CliFault.Read) ⊎ (result ≡ Err CliFault.Memory) ⊎ ExportTold W.contents plan.now (rows_of plan.now (csv_records bytes)) out.old out.new result }
+    ensures good { IfOk result (λ status. ((status ≡ 0) ⊎ (status ≡ 1)) × (sink_failed out.new ≡ false)) }
+    ensures faults { IfErr result (λ fault. (is_trace_fault fault ≡ true) ⊎ (fault ≡ CliFault.Write)) }
+    ensures read { result ≡ Err CliFault.Read → source_failed trace.new ≡ true }
+    ensures write { result ≡ Err CliFault.Write → sink_failed out.new ≡ true }
+{
+    let levels = Levels::of(alloc, plan)?;
+    let found = export_trace(alloc, plan, &levels, trace, out)?;
+    status_of(out, found)
+}
+
+/// Reads a plan and a trace of it, whoever made it, and writes a value change dump of the trace: all of a legal run, and else the rows
+/// before the first that breaks a rule, and the fault. The answer is the exit status of an audit, 0 or 1.
+///
+/// The rows are judged and written as they come, and one is kept at a time. So where a record of the trace is refused, or a read fails,
+/// the rows before it may have been written. Of a refused plan nothing is.
+pub fn export_text<P: Read, T: Read, W: Write>(
+    alloc: Global,
+    plan: &mut Source<P>,
+    trace: &mut Source<T>,
+    out: &mut Sink<W>,
+) -> Result<u8, CliFault>
+    // Where the readers tell their bytes, and no read failed and no memory was refused, the answer is that to
+    // the plan and the rows that they stand for.
+    ensures answer { (plan_bytes trace_bytes : List ℕ) → source_remaining P.remaining plan.old ≡ Some plan_bytes → source_remaining T.remaining trace.old ≡ Some trace_bytes
+        → (result ≡ Err CliFault.Read) ⊎ (result ≡ Err CliFault.Memory) ⊎ ExportAnswers W.contents (plan_of (csv_records plan_bytes)) (csv_records trace_bytes) out.old out.new result }
+
+    // The same of a refused plan, whatever the trace is read from.
+    ensures refused { (bytes : List ℕ) (error : PlanError) → source_remaining P.remaining plan.old ≡ Some bytes → plan_of (csv_records bytes) ≡ Err error
+        → (result ≡ Err CliFault.Read) ⊎ (result ≡ Err CliFault.Memory) ⊎ (result ≡ Err (fault_of error)) }
+
+    // Whatever the readers tell.
+    ensures good { IfOk result (λ status. ((status ≡ 0) ⊎ (status ≡ 1)) × (sink_failed out.new ≡ false)) }
+    ensures faults { IfErr result (λ fault. is_audit_fault fault ≡ true) }
+    ensures read { result ≡ Err CliFault.Read → (source_failed plan.new ≡ true) ⊎ (source_failed trace.new ≡ true) }
+    ensures write { result ≡ Err CliFault.Write → sink_failed out.new ≡ true }
+{
+    let plan = read_plan(alloc, plan)?;
+    export_plan(alloc, &plan, trace, out)
+}
