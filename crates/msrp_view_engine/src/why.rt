@@ -11,7 +11,7 @@ ghost use Rattle.msrp_why.specs.Noted.{AreNoted};
 ghost use Rattle.msrp_view_engine.specs.Whys.{IsFound, WhyAnswers, WhyTold, behind_text, found_text, why_status};
 
 use msrp_audit::Auditor;
-use msrp_engine::{CliFault, add_verdict};
+use msrp_engine::{CliFault, add_verdict, ending_of};
 use msrp_levels::Levels;
 use msrp_plan::bytes::{Sink, Source};
 use msrp_plan::{Fault, Plan};
@@ -89,9 +89,10 @@ fn judge_text<T: Read>(
         → (result ≡ Err CliFault.Read) ⊎ (result ≡ Err CliFault.Memory) ⊎ IsFound plan.now (rows_of plan.now (csv_records bytes)) result }
     ensures faults { IfErr result (λ fault. is_trace_fault fault ≡ true) }
     ensures read { result ≡ Err CliFault.Read → source_failed trace.new ≡ true }
+    ensures memory { result ≡ Err CliFault.Memory → source_failed trace.new ≡ false }
 {
     match judge_all(alloc, plan, levels, trace) {
-        Err(CliFault::Read) if !trace.failed() => Err(CliFault::Memory),
+        Err(CliFault::Read | CliFault::Memory) => Err(ending_of(trace)),
         found => found,
     }
 }
@@ -149,6 +150,7 @@ fn explain<T: Read, W: Write>(
     ensures good { IfOk result (λ status. ((status ≡ 0) ⊎ (status ≡ 1)) × (sink_failed out.new ≡ false)) }
     ensures faults { IfErr result (λ fault. (is_trace_fault fault ≡ true) ⊎ (fault ≡ CliFault.Write)) }
     ensures read { result ≡ Err CliFault.Read → source_failed trace.new ≡ true }
+    ensures memory { result ≡ Err CliFault.Memory → (source_failed trace.new ≡ false) ⊎ (trace.new ≡ trace.old) }
     ensures write { result ≡ Err CliFault.Write → sink_failed out.new ≡ true }
     ensures silent { IfErr result (λ fault. (fault ≡ CliFault.Write) ⊎ (out.new ≡ out.old)) }
 {
@@ -181,6 +183,7 @@ pub fn why_text<P: Read, T: Read, W: Write>(
     ensures good { IfOk result (λ status. ((status ≡ 0) ⊎ (status ≡ 1)) × (sink_failed out.new ≡ false)) }
     ensures faults { IfErr result (λ fault. is_audit_fault fault ≡ true) }
     ensures read { result ≡ Err CliFault.Read → (source_failed plan.new ≡ true) ⊎ (source_failed trace.new ≡ true) }
+    ensures memory { result ≡ Err CliFault.Memory → (source_failed plan.new ≡ false) × ((source_failed trace.new ≡ false) ⊎ (trace.new ≡ trace.old)) }
     ensures write { result ≡ Err CliFault.Write → sink_failed out.new ≡ true }
     ensures silent { IfErr result (λ fault. (fault ≡ CliFault.Write) ⊎ (out.new ≡ out.old)) }
 {

@@ -1,5 +1,5 @@
 //! Why a plan is refused, or what is odd in it, in words.
-ghost use Rattle.std.specs.Prelude.{◌≡◌, ◌⊎◌, ◌-◌, ℕ, List, [], true, false, Ok, Some, Err, IfOk, IfErr, if◌then◌else◌};
+ghost use Rattle.std.specs.Prelude.{◌≡◌, ◌⊎◌, ◌-◌, ℕ, List, [], true, false, Ok, Some, Err, IfOk, IfErr, OnOk, if◌then◌else◌};
 ghost use Rattle.csv.specs.Records.{fields_of};
 ghost use Rattle.msrp_advice.specs.Refusals.{refusal_text};
 ghost use Rattle.msrp_advice.specs.Warnings.{accepted_text};
@@ -12,7 +12,7 @@ ghost use Rattle.msrp_faults.specs.Outcomes.{is_sim_fault, written_status};
 
 use csv::ByteRecord;
 use msrp_advice::{write_accepted, write_refusal};
-use msrp_engine::CliFault;
+use msrp_engine::{CliFault, ending_of};
 use msrp_levels::Levels;
 use msrp_plan::bytes::{Sink, Source};
 use msrp_plan::{Plan, PlanFault};
@@ -26,15 +26,13 @@ fn bytes_of<P: Read>(alloc: Global, text: &mut Source<P>) -> Result<Vec<u8>, Cli
     ensures bytes { (bytes : List ℕ) → source_remaining P.remaining text.old ≡ Some bytes → IfOk result (λ all. all.items ≡ bytes) }
     ensures faults { IfErr result (λ fault. (fault ≡ CliFault.Read) ⊎ (fault ≡ CliFault.Memory)) }
     ensures read { result ≡ Err CliFault.Read → source_failed text.new ≡ true }
+    ensures memory { result ≡ Err CliFault.Memory → source_failed text.new ≡ false }
+    ensures whole { OnOk result (source_failed text.new ≡ false) }
 {
     let mut all = Vec::new(alloc);
     match text.read_to_end(&mut all) {
-        Ok(_) => Ok(all),
-        Err(_) => if text.failed() {
-            Err(CliFault::Read)
-        } else {
-            Err(CliFault::Memory)
-        },
+        Ok(_) if !text.failed() => Ok(all),
+        _ => Err(ending_of(text)),
     }
 }
 
@@ -121,6 +119,7 @@ pub fn why_plan_text<P: Read, W: Write>(
     ensures good { IfOk result (λ status. (status ≡ 0) × (sink_failed out.new ≡ false)) }
     ensures faults { IfErr result (λ fault. is_sim_fault fault ≡ true) }
     ensures read { result ≡ Err CliFault.Read → source_failed plan.new ≡ true }
+    ensures memory { result ≡ Err CliFault.Memory → source_failed plan.new ≡ false }
     ensures write { result ≡ Err CliFault.Write → sink_failed out.new ≡ true }
     ensures silent { (result ≡ Err CliFault.Memory) ⊎ (result ≡ Err CliFault.Read) → out.new ≡ out.old }
 {
