@@ -5,6 +5,7 @@
 
 mod crew;
 mod hire;
+pub mod laws;
 mod port;
 mod threads;
 mod turns;
