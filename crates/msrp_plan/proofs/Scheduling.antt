@@ -6,3 +6,4 @@ pub mod DeadlineOrder
 pub mod Waiters
 pub mod NextRow
 pub mod Orders
+pub mod Stretches

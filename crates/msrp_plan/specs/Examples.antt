@@ -31,3 +31,4 @@ pub mod LockCalls
 pub mod WrongActions
 pub mod PastLimits
 pub mod BrokenLaws
+pub mod StretchEnds

@@ -25,6 +25,7 @@ pub mod WellFormed
 pub mod Bounds
 pub mod Blocking
 pub mod Scheduling
+pub mod Stretches
 pub mod Building
 pub mod Codes
 pub mod Times

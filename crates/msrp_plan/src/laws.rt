@@ -21,6 +21,7 @@ ghost use Rattle.msrp_plan.specs.declared.rows.Row.{Row};
 mod blocking;
 mod broken;
 mod scheduling;
+mod stretches;
 
 pub use blocking::{
     blocked_as_long_as_can_be, blocked_by_a_global_section, blocked_by_begun_sections,
@@ -29,6 +30,7 @@ pub use blocking::{
 };
 pub use broken::{broken_bounds, broken_deadlines, broken_schedules};
 pub use scheduling::{earliest_deadline_first, existence, runs_released, work_conservation};
+pub use stretches::{stays_again, stretch_ends};
 
 /// No local blocking: a job that has its turn never finds a local resource held by another job, of whatever
 /// core (Baker 1991). So a lock of a local resource takes one tick.

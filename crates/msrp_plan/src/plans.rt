@@ -1,6 +1,6 @@
 //! Accepted plans. Only a builder makes them, so each is well formed (`IsPlan`), and its readers say so. Tasks and
 //! resources go by their numbers, from 0, in the order of their declaration.
-ghost use Rattle.std.specs.Prelude.{◌≡◌, ◌<◌, ◌≤◌, ◌*◌, ◌^◌, ℕ, length, map, IsSome, IsSomeAnd, Some, slice_get};
+ghost use Rattle.std.specs.Prelude.{◌≡◌, ◌≢◌, ◌<◌, ◌≤◌, ◌+◌, ◌*◌, ◌^◌, ℕ, length, map, IsSome, IsSomeAnd, Some, slice_get};
 ghost use Rattle.std.specs.List.{range_with_len};
 ghost use Rattle.std.specs.Option.{option_map};
 ghost use Rattle.msrp_plan.specs.Plan.{task_at, release, release_tick, key};
@@ -16,7 +16,7 @@ use crate::limits::MOST_RESOURCES;
 use crate::parts::Parts;
 use crate::tasks::Task;
 use crate::times::Times;
-use crate::units::Op;
+use crate::units::{Op, work_from};
 use std::marker::Model;
 
 /// An accepted plan: tasks that recur, partitioned over cores, with the resources that they lock.
@@ -163,6 +163,16 @@ impl Plan {
         ensures { slice_get (task_at self.now task.0).units place ≡ Some result }
     {
         self.named_task(task).1.units[place as usize]
+    }
+
+    /// How many units of a task from a place on are work, one after another, of at most so many.
+    pub fn work(&self, task: TaskId, place: u32, most: u32) -> u32
+        requires { task.0 < length self.now.tasks }
+        ensures most { result ≤ most }
+        ensures work { (i : ℕ) → place ≤ i → i < place + result → slice_get (task_at self.now task.0).units i ≡ Some Op.Run }
+        ensures next { result < most → slice_get (task_at self.now task.0).units (place + result) ≢ Some Op.Run }
+    {
+        work_from(self.named_task(task).1.units.as_slice(), place, most)
     }
 
     /// The number of jobs of a task: of its releases before the plan's ticks are over. The task's jobs are those

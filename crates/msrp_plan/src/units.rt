@@ -1,4 +1,5 @@
 //! What tasks are made of, and what a core does with a global resource.
+ghost use Rattle.std.specs.Prelude.{◌≡◌, ◌≢◌, ◌<◌, ◌≤◌, ◌+◌, ℕ, Some, slice_get};
 
 use crate::ids::ResId;
 
@@ -44,4 +45,19 @@ pub enum Call {
     Poll(bool),
     /// A release.
     Leave,
+}
+
+// How many units from a place on are work, one after another, of at most so many.
+pub(crate) fn work_from(units: &[Op], place: u32, most: u32) -> u32
+    ensures most { result ≤ most }
+    ensures work { (i : ℕ) → place ≤ i → i < place + result → slice_get units.now i ≡ Some Op.Run }
+    ensures next { result < most → slice_get units.now (place + result) ≢ Some Op.Run }
+{
+    let place = place as usize;
+    for count in 0..most {
+        let Some(Op::Run) = units.get(place + count as usize) else {
+            return count;
+        };
+    }
+    most
 }

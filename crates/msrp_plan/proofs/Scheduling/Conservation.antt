@@ -53,7 +53,7 @@ all_finished plan c t pre ok sound none j on l =
     true_from_ne_false (is_finished plan pre j) (λ f. least_some (is_before plan) (is_live plan pre) (jobs_on plan c) j idle on (live plan pre j started f))
 
 -- ---- an idle row has no job
-idle_job : (r : Row) → r.kind ≡ Idle → r.job ≡ None
+pub idle_job : (r : Row) → r.kind ≡ Idle → r.job ≡ None
 idle_job r e = none r.job r.res (subst (λ k. has_shape k r.job r.res ≡ true) e r.shape)
   where
     none : (o : Option JobId) (res : Option ResId) → has_shape Idle o res ≡ true → o ≡ None
