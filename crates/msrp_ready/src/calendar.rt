@@ -44,9 +44,7 @@ pub(crate) fn calendar_of(alloc: Global, plan: &Plan, core: CoreId) -> Result<Ve
     ensures jobs { IfOk result (λ jobs. IsPermutation (map (keyed plan.now) (jobs_on plan.now core.0)) jobs.items) }
     ensures sorted { IfOk result (λ jobs. IsNonDecreasingBy (λ job. job.key.release) jobs.items) }
 {
-    let Ok(mut jobs) = jobs_on(alloc, plan, core) else {
-        return Err(Memory);
-    };
+    let mut jobs = jobs_on(alloc, plan, core)?;
     jobs.sort_unstable_by_key(|job| job.key.release);
     Ok(jobs)
 }
@@ -92,7 +90,7 @@ pub(crate) fn release(calendar: &[KeyedJob], from: usize, tick: u32, heap: &mut 
     }
 }
 
-// The same, apart from the code of the ticks in which nothing is released, which are most.
+// Releases the jobs of a calendar that are due. Apart from the code of the ticks in which nothing is released, which are most.
 #[inline(never)]
 fn release_some(calendar: &[KeyedJob], from: usize, tick: u32, heap: &mut Heap) -> usize
     requires from { from ≤ length calendar.now }

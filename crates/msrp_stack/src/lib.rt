@@ -5,6 +5,5 @@
 #![tactic(auto)]
 
 mod stack;
-mod stacks;
 
-pub use stacks::CeilingStack;
+pub use stack::CeilingStack;

@@ -1,14 +1,23 @@
-//! What is stored of the started jobs of a core.
+//! A stack of started jobs, and its calls.
+ghost use Rattle.std.specs.Prelude.{◌≡◌, ◌<◌, ◌∷◌, [], length, slice_index_or, true, false, ℕ, IfOk, ◌≤◌, vec_capacity};
+ghost use Rattle.msrp_plan.specs.Levels.{is_global};
+ghost use Rattle.msrp_plan.specs.WellFormed.{IsPlan};
+ghost use Rattle.msrp_plan.specs.Limits.{most_held, most_jobs, most_resources};
+ghost use Rattle.msrp_levels.specs.Users.{ceiling_at};
+ghost use Rattle.msrp_stack.specs.Stack.{top, newest, current_ceiling, CanStart, HasRoom, IsInnermost, SomeHeld, IsDone, with_held, without_held, without_newest};
+
 use arrayvec::ArrayVec;
-use msrp_plan::limits::{MOST_HELD, MOST_RESOURCES};
-use msrp_plan::{CoreId, JobId, Plan, ResId};
+use msrp_levels::Levels;
+use msrp_plan::limits::{MOST_HELD, MOST_JOBS, MOST_RESOURCES};
+use msrp_plan::{CoreId, JobId, Memory, Plan, ResId};
+use std::alloc::Global;
 use std::marker::Model;
 
 // A resource that is held, and the core's ceiling from before.
 #[derive(Clone, Copy, Debug)]
-pub(crate) struct Held {
-    pub(crate) res: ResId,
-    pub(crate) before: u32,
+struct Held {
+    res: ResId,
+    before: u32,
 }
 
 // What an empty place of a list holds.
@@ -23,9 +32,9 @@ impl Default for Held {
 
 // A job that is started and not finished, and what it holds, the innermost last.
 #[derive(Debug, Drop)]
-pub(crate) struct Started {
-    pub(crate) job: JobId,
-    pub(crate) held: ArrayVec<Held, MOST_HELD>,
+struct Started {
+    job: JobId,
+    held: ArrayVec<Held, MOST_HELD>,
 }
 
 /// The started jobs of one core, and its current ceiling.
@@ -35,11 +44,11 @@ pub(crate) struct Started {
 /// time and no memory.
 #[derive(Drop)]
 pub struct CeilingStack<'a> {
-    pub(crate) plan: &'a Plan,
-    pub(crate) core: CoreId,
-    pub(crate) ceilings: [u32; MOST_RESOURCES],
-    pub(crate) started: Vec<Started>,
-    pub(crate) ceiling: u32,
+    plan: &'a Plan,
+    core: CoreId,
+    ceilings: [u32; MOST_RESOURCES],
+    started: Vec<Started>,
+    ceiling: u32,
 }
 
 impl<'a> Model for CeilingStack<'a> {
@@ -52,4 +61,154 @@ impl<'a> Model for CeilingStack<'a> {
     ghost view = { stack_view };
 
     ghost invariant = { IsStackView };
+}
+
+// The ceilings of a plan's resources at a core, by their numbers.
+fn ceilings_at(plan: &Plan, levels: &Levels<'_>, core: CoreId) -> [u32; MOST_RESOURCES]
+    requires levels { levels.now ≡ plan.now }
+    requires core { core.0 < plan.now.cores }
+    ensures plan { IsPlan plan.now }
+    ensures size { length result ≡ most_resources }
+    ensures ceilings { (g : ℕ) → g < length plan.now.resources → slice_index_or result g 0 ≡ ceiling_at plan.now g core.0 }
+{
+    let mut ceilings = [0; MOST_RESOURCES];
+    for res in 0..plan.resources() {
+        ceilings[res as usize] = levels.ceiling(ResId(res), core);
+    }
+    ceilings
+}
+
+// Room for all jobs of a plan: what no job comes to is never touched.
+fn room(alloc: Global) -> Result<Vec<Started>, Memory>
+    ensures empty { IfOk result (λ started. started.items ≡ []) }
+    ensures room { IfOk result (λ started. most_jobs ≤ vec_capacity started) }
+{
+    Ok(Vec::with_capacity(alloc, MOST_JOBS as usize)?)
+}
+
+impl<'a> CeilingStack<'a> {
+    /// A stack on which no job is started. All memory that it ever needs is taken here: it is [`Memory`] only where
+    /// that was refused.
+    pub fn with_room(
+        alloc: Global,
+        plan: &'a Plan,
+        levels: &Levels<'_>,
+        core: CoreId,
+    ) -> Result<CeilingStack<'a>, Memory>
+        requires levels { levels.now ≡ plan.now }
+        requires core { core.0 < plan.now.cores }
+        ensures { IfOk result (λ stack. stack ≡ record { plan = plan.now; core = core.0; started = [] }) }
+    {
+        Ok(CeilingStack {
+            plan,
+            core,
+            ceilings: ceilings_at(plan, levels, core),
+            started: room(alloc)?,
+            ceiling: 0,
+        })
+    }
+
+    /// Starts a job of the core, which then stands on top: it comes before the job that was on top.
+    pub fn start(&mut self, job: JobId)
+        requires { CanStart self.old job }
+        ensures { self.new ≡ record self.old { started = record { job = job; held = [] } ∷ self.old.started } }
+    {
+        self.started.push_reserved(Started {
+            job,
+            held: ArrayVec::new(),
+        });
+    }
+
+    /// The job on top locks a local resource: one that it doesn't hold, and it holds fewer than 8.
+    pub fn lock(&mut self, res: ResId)
+        requires local { is_global self.old.plan res.0 ≡ false }
+        requires declared { res.0 < length self.old.plan.resources }
+        requires room { HasRoom self.old.started most_held res.0 }
+        ensures { self.new ≡ record self.old { started = with_held self.old.started res.0 } }
+    {
+        self.take(res);
+    }
+
+    /// The job on top requests a global resource: one that it doesn't hold, and it holds fewer than 8. The core's
+    /// ceiling rises to its highest level.
+    pub fn raise_global(&mut self, res: ResId)
+        requires global { is_global self.old.plan res.0 ≡ true }
+        requires declared { res.0 < length self.old.plan.resources }
+        requires room { HasRoom self.old.started most_held res.0 }
+        ensures { self.new ≡ record self.old { started = with_held self.old.started res.0 } }
+    {
+        self.take(res);
+    }
+
+    /// The job on top unlocks the local resource that it locked last.
+    pub fn unlock(&mut self, res: ResId)
+        requires local { is_global self.old.plan res.0 ≡ false }
+        requires innermost { IsInnermost self.old.started res.0 }
+        ensures { self.new ≡ record self.old { started = without_held self.old.started } }
+    {
+        self.give_back();
+    }
+
+    /// The job on top releases the global resource that it requested last.
+    pub fn drop_global(&mut self, res: ResId)
+        requires global { is_global self.old.plan res.0 ≡ true }
+        requires innermost { IsInnermost self.old.started res.0 }
+        ensures { self.new ≡ record self.old { started = without_held self.old.started } }
+    {
+        self.give_back();
+    }
+
+    /// The job on top is finished: it holds nothing.
+    pub fn finish(&mut self)
+        requires { IsDone self.old.started }
+        ensures { self.new ≡ record self.old { started = without_newest self.old.started } }
+    {
+        self.started.pop();
+    }
+
+    /// The started job that comes first, which is the one on top.
+    pub fn top(&self) -> Option<JobId>
+        ensures first { result ≡ top self.now }
+        ensures newest { result ≡ newest self.now.started }
+    {
+        self.newest()
+    }
+
+    /// The core's current ceiling.
+    pub fn ceiling(&self) -> u32
+        ensures { result ≡ current_ceiling self.now }
+    {
+        self.ceiling
+    }
+
+    // The job that was started last.
+    fn newest(&self) -> Option<JobId>
+        ensures job { result ≡ newest self.now.started }
+        ensures first { newest self.now.started ≡ top self.now }
+    {
+        self.started.last().map(|started| started.job)
+    }
+
+    // One resource more for the job on top: the ceiling from before is kept with it.
+    fn take(&mut self, res: ResId)
+        requires declared { res.0 < length self.old.plan.resources }
+        requires room { HasRoom self.old.started most_held res.0 }
+        ensures { self.new ≡ record self.old { started = with_held self.old.started res.0 } }
+    {
+        let before = self.ceiling;
+        let last = self.started.len() - 1;
+        self.started[last].held.push(Held { res, before });
+        self.ceiling = before.max(self.ceilings[res.0 as usize]);
+    }
+
+    // The last resource of the job on top goes, and the ceiling from before it is back.
+    fn give_back(&mut self)
+        requires { SomeHeld self.old.started }
+        ensures { self.new ≡ record self.old { started = without_held self.old.started } }
+    {
+        let last = self.started.len() - 1;
+        if let Some(held) = self.started[last].held.pop() {
+            self.ceiling = held.before;
+        }
+    }
 }

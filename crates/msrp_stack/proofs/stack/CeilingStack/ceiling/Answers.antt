@@ -5,7 +5,7 @@ use Rattle.msrp_stack.specs.StackView.{started_of}
 use Rattle.msrp_stack.proofs.Layers.{layers_ceiling, held_in_layers}
 use Rattle.msrp_stack.proofs.stack.CeilingStack.ceiling.Goals as goal
 
--- src/stacks.rt:80:5
+-- src/stack.rt:80:5
 pub returns : goal.returns
 returns c =
     let items = c.self.inside.started.items in

@@ -4,7 +4,7 @@ use Rattle.msrp_stack.specs.StackView.{IsStack}
 use Rattle.msrp_stack.proofs.Changes.{finish_keeps}
 use Rattle.msrp_stack.proofs.stack.CeilingStack.finish.Goals as goal
 
--- src/stacks.rt:64:5
+-- src/stack.rt:64:5
 pub invariant_of-self : goal.invariant_of-self
 invariant_of-self c =
     let keeps = finish_keeps c.self.inside.plan.now c.self.inside.core.0 c.self.inside.ceilings c.self.inside.started.items c.pop.new.self.items c.pop.result _ c.self.inside.ceiling c.pop.ensures.items (subst (λ s. IsDone s.started) (sym c.self.view_is) c.requires) c.self.invariant in

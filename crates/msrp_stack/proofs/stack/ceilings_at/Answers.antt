@@ -2,7 +2,7 @@ use Rattle.std.proofs.Common.{◌≡◌, ◌<◌, length, arith, ap, ◌∙◌}
 use Rattle.std.proofs.lemmas.List.{length-set}
 use Rattle.msrp_levels.specs.Users.{ceiling_at}
 use Rattle.msrp_stack.proofs.Changes.{told_more}
-use Rattle.msrp_stack.proofs.stacks.ceilings_at.Goals as goal
+use Rattle.msrp_stack.proofs.stack.ceilings_at.Goals as goal
 
 pub loop-res-preserved : goal.loop-res-preserved
 loop-res-preserved c =
