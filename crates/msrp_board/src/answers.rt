@@ -1,5 +1,8 @@
 //! What a board answers.
 
+use std::alloc::AllocError;
+use thiserror::Error;
+
 /// A request was made.
 #[derive(Clone, Copy, Debug, PartialEq, Eq)]
 pub struct Asked {
@@ -43,12 +46,25 @@ pub enum SeatPhase {
 }
 
 /// Why a board is refused.
-#[derive(Clone, Copy, Debug, PartialEq, Eq)]
+#[derive(Clone, Copy, Debug, Error, PartialEq, Eq)]
 pub enum BoardError {
     /// Cores not 1 to [`MOST_CORES`](msrp_plan::limits::MOST_CORES), more resources than
     /// [`MOST_RESOURCES`](msrp_plan::limits::MOST_RESOURCES), or ticks not 1 to
     /// [`MOST_TICKS`](msrp_plan::limits::MOST_TICKS). This is judged before memory.
+    #[error("B1: a size of the board is past its limit")]
     B1,
     /// Memory was refused.
+    #[error("B2: memory was refused")]
     B2,
+}
+
+impl From<AllocError> for BoardError {
+    ghost use Rattle.std.specs.Prelude.{◌≡◌};
+    ghost use Rattle.msrp_board.specs.declared.answers.BoardError.{BoardError};
+
+    ghost from_gives = { λ _ error. error ≡ BoardError.B2 };
+
+    fn from(_refused: AllocError) -> BoardError {
+        BoardError::B2
+    }
 }

@@ -3,7 +3,7 @@ ghost use Rattle.std.specs.Prelude.{◌≡◌, ◌<◌, ◌↔◌, ℕ, Some, If
 ghost use Rattle.msrp_plan.specs.declared.ids.ResId.{ResId};
 ghost use Rattle.msrp_plan.specs.declared.units.Call.TheVariants.{Ask, Poll, Leave};
 ghost use Rattle.msrp_plan.specs.declared.units.Phase.TheVariants.{Free, Queued, Holding};
-ghost use Rattle.msrp_board.specs.declared.answers.BoardError.TheVariants.{B1, B2};
+ghost use Rattle.msrp_board.specs.declared.answers.BoardError.TheVariants.{B1};
 ghost use Rattle.msrp_board.specs.declared.answers.Look.TheVariants.{Wait, Go, Stopped};
 ghost use Rattle.msrp_board.specs.declared.answers.SeatPhase.TheVariants.{Waiting, Admitted};
 ghost use Rattle.msrp_board.specs.declared.books.Book.{Book};
@@ -70,17 +70,9 @@ impl Board {
             resources,
             ticks,
         };
-        let Ok(states) = States::fresh(alloc, cores) else {
-            return Err(BoardError::B2);
-        };
+        let states = States::fresh(alloc, cores)?;
         let zeros = [0u64; MOST_RESOURCES + 1];
-        let Ok((table, table_seat)) = Table::of_words(
-            alloc,
-            &zeros[..resources as usize + 1],
-            &size,
-        ) else {
-            return Err(BoardError::B2);
-        };
+        let (table, table_seat) = Table::of_words(alloc, &zeros[..resources as usize + 1], &size)?;
         let seat = BoardSeat {
             table_seat,
             size,

@@ -14,7 +14,7 @@ use msrp_plan::{Phase, ResId};
 
 /// What a core claims.
 #[derive(Clone, Copy, Drop)]
-pub enum Claim {
+pub(crate) enum Claim {
     Nothing,
     /// It awaits the resource: its ticket isn't served yet.
     Waits { res: u32, ticket: u32 },
@@ -23,7 +23,7 @@ pub enum Claim {
 }
 
 impl Claim {
-    pub fn phase(self) -> Phase
+    pub(crate) fn phase(self) -> Phase
         ensures { result ≡ phase_of self }
     {
         match self {
@@ -36,18 +36,18 @@ impl Claim {
 
 /// What a book says of its core.
 #[derive(Clone, Copy, Drop)]
-pub struct CoreState {
-    pub tick: u32,
-    pub claim: Claim,
-    pub admitted: bool,
-    pub stopped: bool,
+pub(crate) struct CoreState {
+    pub(crate) tick: u32,
+    pub(crate) claim: Claim,
+    pub(crate) admitted: bool,
+    pub(crate) stopped: bool,
     /// Whether the book has an entry of this tick.
-    pub acted: bool,
+    pub(crate) acted: bool,
 }
 
 impl CoreState {
     /// Of an empty book.
-    pub const EMPTY: CoreState = CoreState {
+    pub(crate) const EMPTY: CoreState = CoreState {
         tick: 0,
         claim: Claim::Nothing,
         admitted: false,
@@ -56,7 +56,7 @@ impl CoreState {
     };
 
     /// Where the core stands, on a board of so many ticks.
-    pub fn phase(self, ticks: u32) -> SeatPhase
+    pub(crate) fn phase(self, ticks: u32) -> SeatPhase
         ensures { result ≡ phase_by self.stopped self.admitted (nat_lt self.tick ticks) }
     {
         if self.stopped {
@@ -71,7 +71,7 @@ impl CoreState {
     }
 
     /// After a request that found this ticket word.
-    pub fn with_ask(self, res: u32, word: TicketWord) -> CoreState
+    pub(crate) fn with_ask(self, res: u32, word: TicketWord) -> CoreState
         requires { IsTicket word }
         ensures { (b : Page) → self ≡ state_of b → result ≡ state_of (page_with_entry res (word.next + word.serving) (Ask (word.next - word.serving)) b) }
     {
@@ -89,7 +89,7 @@ impl CoreState {
     }
 
     /// After a poll of what it awaits, granted or not.
-    pub fn with_poll(self, res: u32, ticket: u32, granted: bool) -> CoreState
+    pub(crate) fn with_poll(self, res: u32, ticket: u32, granted: bool) -> CoreState
         requires { self.claim ≡ Claim.Waits res ticket }
         ensures { (b : Page) (p : ℕ) → self ≡ state_of b → result ≡ state_of (page_with_entry res p (Poll granted) b) }
     {
@@ -106,7 +106,7 @@ impl CoreState {
     }
 
     /// After a release.
-    pub fn with_leave(self) -> CoreState
+    pub(crate) fn with_leave(self) -> CoreState
         ensures { (b : Page) (g p : ℕ) → self ≡ state_of b → result ≡ state_of (page_with_entry g p Leave b) }
     {
         CoreState {
@@ -117,7 +117,7 @@ impl CoreState {
     }
 
     /// After an arrival.
-    pub fn with_arrival(self) -> CoreState
+    pub(crate) fn with_arrival(self) -> CoreState
         requires { self.tick < MOST_TICKS }
         ensures { (b : Page) → self ≡ state_of b → TicksNewest (suc b.tick) b.newest → result ≡ state_of (page_with_arrival b) }
     {
@@ -130,7 +130,7 @@ impl CoreState {
     }
 
     /// What a look finds, on a board of so many cores, where the barrier word is `found`.
-    pub fn finds(self, cores: u32, found: u64) -> Look
+    pub(crate) fn finds(self, cores: u32, found: u64) -> Look
         ensures { result ≡ look_of cores found self.tick }
     {
         if high_half(found) > 0 {
@@ -143,7 +143,7 @@ impl CoreState {
     }
 
     /// After a look that found this.
-    pub fn after_look(self, look: Look) -> CoreState
+    pub(crate) fn after_look(self, look: Look) -> CoreState
         ensures { (b : Page) (m n : ℕ) → self ≡ state_of b → look ≡ look_of m n b.tick → result ≡ state_of (page_after_look m n b) }
     {
         match look {

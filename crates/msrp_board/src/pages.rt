@@ -7,21 +7,21 @@ use std::collections::LinkedList;
 use std::marker::{Brand, PhantomData};
 
 /// A core's book as the rule keeps it, which is the newest entry first.
-pub struct Page {
-    pub newest: LinkedList<Entry>,
-    pub tick: u32,
-    pub admitted: bool,
-    pub stopped: bool,
+pub(crate) struct Page {
+    pub(crate) newest: LinkedList<Entry>,
+    pub(crate) tick: u32,
+    pub(crate) admitted: bool,
+    pub(crate) stopped: bool,
 }
 
 /// What a seat holds: the pages of some cores, by their numbers, and the conductor's, or not.
-pub struct View {
-    pub pages: LinkedList<Option<Page>>,
-    pub conductor: Option<Conductor>,
+pub(crate) struct View {
+    pub(crate) pages: LinkedList<Option<Page>>,
+    pub(crate) conductor: Option<Conductor>,
 }
 
 /// The rule of a board's words.
-pub struct Tickets;
+pub(crate) struct Tickets;
 
 impl TableRule<(), View, BoardSize> for Tickets {
     ghost use Rattle.msrp_board.specs.Inside.Rule.{Ruled, first_view};
@@ -32,7 +32,7 @@ impl TableRule<(), View, BoardSize> for Tickets {
 }
 
 /// The step of a request.
-pub struct Asks;
+pub(crate) struct Asks;
 
 impl Play<(), View> for Asks {
     ghost use Rattle.msrp_board.specs.Inside.Rule.{TellsAsk};
@@ -41,7 +41,7 @@ impl Play<(), View> for Asks {
 }
 
 /// The step of a poll.
-pub struct Polls;
+pub(crate) struct Polls;
 
 impl Play<(), View> for Polls {
     ghost use Rattle.msrp_board.specs.Inside.Rule.{TellsPoll};
@@ -50,7 +50,7 @@ impl Play<(), View> for Polls {
 }
 
 /// The step of a release.
-pub struct Leaves;
+pub(crate) struct Leaves;
 
 impl Play<(), View> for Leaves {
     ghost use Rattle.msrp_board.specs.Inside.Rule.{TellsLeave};
@@ -59,7 +59,7 @@ impl Play<(), View> for Leaves {
 }
 
 /// Names a number that a step's rule speaks of and its view does not tell: a core, or how many cores there are.
-pub trait Named {
+pub(crate) trait Named {
     ghost use Rattle.std.specs.Prelude.{ℕ};
 
     ghost number: { ℕ };
@@ -70,7 +70,7 @@ impl Named for Brand {
 }
 
 /// Names the size of a board, for the same reason.
-pub trait OfSize {
+pub(crate) trait OfSize {
     ghost use Rattle.msrp_board.specs.declared.books.BoardSize.{BoardSize};
 
     ghost size: { BoardSize };
@@ -81,7 +81,7 @@ impl OfSize for Brand {
 }
 
 /// Parts the page of core `N` from the others.
-pub struct Parts<N: Named> {
+pub(crate) struct Parts<N: Named> {
     core: PhantomData<N>,
 }
 
@@ -94,7 +94,7 @@ impl<N: Named> Split<View> for Parts<N> {
 }
 
 /// Puts the pages of two seats together.
-pub struct Both;
+pub(crate) struct Both;
 
 impl Join<View> for Both {
     ghost use Rattle.msrp_board.specs.Inside.Rule.{view_both, spent};
@@ -105,7 +105,7 @@ impl Join<View> for Both {
 }
 
 /// The step of an arrival.
-pub struct Arrives;
+pub(crate) struct Arrives;
 
 impl Play<(), View> for Arrives {
     ghost use Rattle.msrp_board.specs.Inside.Rule.{TellsArrival};
@@ -114,7 +114,7 @@ impl Play<(), View> for Arrives {
 }
 
 /// The step of a look, on a board of `N` cores.
-pub struct Looks<N: Named> {
+pub(crate) struct Looks<N: Named> {
     cores: PhantomData<N>,
 }
 
@@ -125,7 +125,7 @@ impl<N: Named> Play<(), View> for Looks<N> {
 }
 
 /// The step that tells the rule, on a board of size `Z`.
-pub struct Confirms<Z: OfSize> {
+pub(crate) struct Confirms<Z: OfSize> {
     size: PhantomData<Z>,
 }
 
@@ -136,7 +136,7 @@ impl<Z: OfSize> Play<(), View> for Confirms<Z> {
 }
 
 /// The step of the opening.
-pub struct Opens;
+pub(crate) struct Opens;
 
 impl Play<(), View> for Opens {
     ghost use Rattle.msrp_board.specs.Inside.Rule.{TellsOpening};
@@ -145,7 +145,7 @@ impl Play<(), View> for Opens {
 }
 
 /// The step of an abort.
-pub struct Aborts;
+pub(crate) struct Aborts;
 
 impl Play<(), View> for Aborts {
     ghost use Rattle.msrp_board.specs.Inside.Rule.{TellsAbort};
@@ -153,6 +153,6 @@ impl Play<(), View> for Aborts {
     ghost then = { TellsAbort };
 }
 
-pub type Words = Shared<(), View, BoardSize, Tickets>;
+pub(crate) type Words = Shared<(), View, BoardSize, Tickets>;
 
-pub type TableSeat = Seat<(), View>;
+pub(crate) type TableSeat = Seat<(), View>;

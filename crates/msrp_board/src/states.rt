@@ -16,7 +16,7 @@ use std::mem;
 /// The states of some cores.
 #[cycle(states)]
 #[derive(Drop)]
-pub enum States {
+pub(crate) enum States {
     End,
     Of(Box<Kept>),
 }
@@ -24,7 +24,7 @@ pub enum States {
 /// A core, its state, and the states of other cores. Its thread writes the state in each tick: so the state has lines of a cache to itself.
 #[cycle(states)]
 #[derive(Drop)]
-pub struct Kept {
+pub(crate) struct Kept {
     core: CoreId,
     state: CachePadded<CoreState>,
     more: States,
@@ -32,7 +32,7 @@ pub struct Kept {
 
 impl States {
     /// Of empty books of so many cores.
-    pub fn fresh(alloc: Global, cores: u32) -> Result<States, AllocError>
+    pub(crate) fn fresh(alloc: Global, cores: u32) -> Result<States, AllocError>
         ensures { IfOk result (λ s. AreStates s (replicate cores (Some empty_page))) }
     {
         let mut states = States::End;
@@ -48,7 +48,7 @@ impl States {
     }
 
     /// The state of the core of a core's seat.
-    pub fn own(&self) -> CoreState
+    pub(crate) fn own(&self) -> CoreState
         requires { (v : View) × (c : ℕ) × (b : Page) × IsOwn self.now v c b }
         ensures { (v : View) (c : ℕ) (b : Page) → IsOwn self.now v c b → result ≡ state_of b }
     {
@@ -60,7 +60,7 @@ impl States {
 
     /// Changes the state of the core of a core's seat. The chain is written anew with its tag: a seat that is handed on then carries no
     /// bytes behind the tag that somebody else wrote.
-    pub fn set_own(&mut self, state: CoreState)
+    pub(crate) fn set_own(&mut self, state: CoreState)
         ensures { self.new ≡ with_own state self.old }
     {
         *self = match mem::replace(self, States::End) {
@@ -73,7 +73,7 @@ impl States {
     }
 
     /// Whether there is a state of the core.
-    pub fn has(&self, core: CoreId) -> bool
+    pub(crate) fn has(&self, core: CoreId) -> bool
         ensures { result ≡ is_some (kept_of self.now core.0) }
     {
         match self {
@@ -83,7 +83,7 @@ impl States {
     }
 
     /// The state of the core, and those of the others.
-    pub fn part(self, core: CoreId) -> (States, States)
+    pub(crate) fn part(self, core: CoreId) -> (States, States)
         ensures own { (d : ℕ) → kept_of result.0 d ≡ kept_if (d == core.0) (kept_of self d) }
         ensures others { (d : ℕ) → kept_of result.1 d ≡ kept_if (not (d == core.0)) (kept_of self d) }
     {
@@ -104,7 +104,7 @@ impl States {
     }
 
     /// These states and the others, where no core is in both.
-    pub fn and(self, others: States) -> States
+    pub(crate) fn and(self, others: States) -> States
         ensures { (d : ℕ) → kept_of result d ≡ option_or (kept_of self d) (kept_of others d) }
     {
         match self {

@@ -16,7 +16,7 @@ use crate::words::{HIGH_ONE, TicketWord};
 use std::marker::Brand;
 
 /// A request. Answers the ticket word that it found.
-pub fn ask(words: &Words, seat: &mut TableSeat, res: usize) -> TicketWord
+pub(crate) fn ask(words: &Words, seat: &mut TableSeat, res: usize) -> TicketWord
     requires table { seat.old.table_id ≡ words.now.table_id }
     requires res { (res < words.now.key.resources) × (words.now.table_id.words ≡ words.now.key.resources + 1) }
     requires free { ViewMayAct seat.old.me.0 Nothing }
@@ -28,7 +28,7 @@ pub fn ask(words: &Words, seat: &mut TableSeat, res: usize) -> TicketWord
 }
 
 /// A poll of a core that waits with this ticket. Answers the ticket word that it found.
-pub fn poll(words: &Words, seat: &mut TableSeat, res: usize, ticket: u32) -> TicketWord
+pub(crate) fn poll(words: &Words, seat: &mut TableSeat, res: usize, ticket: u32) -> TicketWord
     requires table { seat.old.table_id ≡ words.now.table_id }
     requires res { (res < words.now.key.resources) × (words.now.table_id.words ≡ words.now.key.resources + 1) }
     requires queued { ViewMayAct seat.old.me.0 (Waits res ticket) }
@@ -41,7 +41,7 @@ pub fn poll(words: &Words, seat: &mut TableSeat, res: usize, ticket: u32) -> Tic
 }
 
 /// A release. Answers the ticket word that it found.
-pub fn leave(words: &Words, seat: &mut TableSeat, res: usize) -> TicketWord
+pub(crate) fn leave(words: &Words, seat: &mut TableSeat, res: usize) -> TicketWord
     requires table { seat.old.table_id ≡ words.now.table_id }
     requires res { (res < words.now.key.resources) × (words.now.table_id.words ≡ words.now.key.resources + 1) }
     requires holding { (t : ℕ) × ViewMayAct seat.old.me.0 (Holds res t) }
@@ -53,7 +53,7 @@ pub fn leave(words: &Words, seat: &mut TableSeat, res: usize) -> TicketWord
 }
 
 /// An arrival.
-pub fn arrive(words: &Words, seat: &mut TableSeat, barrier: usize)
+pub(crate) fn arrive(words: &Words, seat: &mut TableSeat, barrier: usize)
     requires table { seat.old.table_id ≡ words.now.table_id }
     requires barrier { (barrier ≡ words.now.key.resources) × (words.now.table_id.words ≡ words.now.key.resources + 1) }
     requires admitted { ViewIsAdmitted seat.old.me.0 }
@@ -64,7 +64,7 @@ pub fn arrive(words: &Words, seat: &mut TableSeat, barrier: usize)
 }
 
 /// A look. Answers the barrier word that it found.
-pub fn look(words: &Words, seat: &mut TableSeat, barrier: usize, cores: u32) -> u64
+pub(crate) fn look(words: &Words, seat: &mut TableSeat, barrier: usize, cores: u32) -> u64
     requires table { seat.old.table_id ≡ words.now.table_id }
     requires barrier { (barrier ≡ words.now.key.resources) × (words.now.table_id.words ≡ words.now.key.resources + 1) }
     requires cores { words.now.key.cores ≡ cores }
@@ -88,7 +88,7 @@ fn look_named<N: Named>(words: &Words, seat: &mut TableSeat, barrier: usize, cor
 }
 
 /// A confirmation: a state under the rule has the seat, and the step changes nothing.
-pub fn confirm(words: &Words, seat: &mut TableSeat, barrier: usize, size: BoardSize)
+pub(crate) fn confirm(words: &Words, seat: &mut TableSeat, barrier: usize, size: BoardSize)
     requires table { seat.old.table_id ≡ words.now.table_id }
     requires barrier { (barrier ≡ words.now.key.resources) × (words.now.table_id.words ≡ words.now.key.resources + 1) }
     requires size { words.now.key ≡ size }
@@ -110,7 +110,7 @@ fn confirm_named<Z: OfSize>(words: &Words, seat: &mut TableSeat, barrier: usize,
 }
 
 /// The opening.
-pub fn open(words: &Words, seat: &mut TableSeat, barrier: usize)
+pub(crate) fn open(words: &Words, seat: &mut TableSeat, barrier: usize)
     requires table { seat.old.table_id ≡ words.now.table_id }
     requires barrier { (barrier ≡ words.now.key.resources) × (words.now.table_id.words ≡ words.now.key.resources + 1) }
     requires unopened { seat.old.me.0.conductor ≡ Some Unopened }
@@ -121,7 +121,7 @@ pub fn open(words: &Words, seat: &mut TableSeat, barrier: usize)
 }
 
 /// The abort.
-pub fn abort(words: &Words, seat: &mut TableSeat, barrier: usize)
+pub(crate) fn abort(words: &Words, seat: &mut TableSeat, barrier: usize)
     requires table { seat.old.table_id ≡ words.now.table_id }
     requires barrier { (barrier ≡ words.now.key.resources) × (words.now.table_id.words ≡ words.now.key.resources + 1) }
     requires unopened { seat.old.me.0.conductor ≡ Some Unopened }
@@ -132,7 +132,7 @@ pub fn abort(words: &Words, seat: &mut TableSeat, barrier: usize)
 }
 
 /// The seat keeps the page of the core, and the new one has the others.
-pub fn split(words: &Words, seat: &mut TableSeat, core: usize) -> TableSeat
+pub(crate) fn split(words: &Words, seat: &mut TableSeat, core: usize) -> TableSeat
     requires table { seat.old.table_id ≡ words.now.table_id }
     requires words { 0 < words.now.table_id.words }
     ensures tables { (seat.new.table_id ≡ seat.old.table_id) × (result.table_id ≡ seat.old.table_id) }
@@ -153,7 +153,7 @@ fn split_named<N: Named>(words: &Words, seat: &mut TableSeat, core: usize) -> Ta
 }
 
 /// The seat takes the other's pages.
-pub fn join(words: &Words, seat: &mut TableSeat, other: TableSeat)
+pub(crate) fn join(words: &Words, seat: &mut TableSeat, other: TableSeat)
     requires table { (seat.old.table_id ≡ words.now.table_id) × (other.table_id ≡ words.now.table_id) × (other.me.1 ≡ []) }
     requires words { 0 < words.now.table_id.words }
     ensures table { seat.new.table_id ≡ seat.old.table_id }

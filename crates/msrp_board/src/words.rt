@@ -4,17 +4,17 @@ ghost use Rattle.std.specs.Prelude.{◌≡◌};
 ghost use Rattle.msrp_board.specs.Boards.{high, low};
 
 /// One more in the high half of a word.
-pub const HIGH_ONE: u64 = 4_294_967_296;
+pub(crate) const HIGH_ONE: u64 = 4_294_967_296;
 
 /// The high half of a word.
-pub fn high_half(word: u64) -> u32
+pub(crate) fn high_half(word: u64) -> u32
     ensures { result ≡ high word }
 {
     (word / HIGH_ONE) as u32
 }
 
 /// The low half of a word.
-pub fn low_half(word: u64) -> u32
+pub(crate) fn low_half(word: u64) -> u32
     ensures { result ≡ low word }
 {
     (word % HIGH_ONE) as u32
@@ -22,15 +22,15 @@ pub fn low_half(word: u64) -> u32
 
 /// What a ticket word counts. The place of a step is the sum of both, as the step found them.
 #[derive(Clone, Copy)]
-pub struct TicketWord {
+pub(crate) struct TicketWord {
     /// Requests, which is also the ticket of the next request.
-    pub next: u32,
+    pub(crate) next: u32,
     /// Releases, which is also the ticket that is served.
-    pub serving: u32,
+    pub(crate) serving: u32,
 }
 
 impl TicketWord {
-    pub fn of(word: u64) -> TicketWord
+    pub(crate) fn of(word: u64) -> TicketWord
         ensures { (result.next ≡ high word) × (result.serving ≡ low word) }
     {
         TicketWord {

@@ -49,7 +49,7 @@ impl CoreLog {
     pub fn with_room(alloc: Global, core: CoreId, ticks: u32) -> Result<CoreLog, Memory>
         ensures { IfOk result (λ log. log ≡ record { core = core.0; ticks = ticks; turns = [] }) }
     {
-        let kept = Vec::with_capacity(alloc, ticks as usize).map_err(|_| Memory)?;
+        let kept = Vec::with_capacity(alloc, ticks as usize)?;
         Ok(CoreLog { core, ticks, kept })
     }
 
