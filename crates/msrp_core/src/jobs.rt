@@ -55,7 +55,7 @@ impl<'a> Jobs<'a> {
     {
         let ready = Ready::with_room(alloc, plan, core)?;
         let stack = CeilingStack::with_room(alloc, plan, levels, core)?;
-        let done = Vec::with_capacity(alloc, MOST_JOBS as usize).map_err(|_| Memory)?;
+        let done = Vec::with_capacity(alloc, MOST_JOBS as usize)?;
         Ok(Jobs {
             plan,
             levels,

@@ -41,10 +41,9 @@ use Rattle.msrp_core.specs.CoreJobs.{MakesCall, IsQuiet}
 use Rattle.msrp_core.specs.declared.port.PortCall.{PortCall}
 use Rattle.msrp_merge.specs.declared.logs.Place.{Place}
 use Rattle.msrp_merge.specs.declared.logs.Turn.{Turn}
-use Rattle.msrp_merge.specs.Turns.{LogModel, rows_of, is_step, IsTurnOf, Fits}
-use Rattle.msrp_merge.proofs.Fitting.{fits_quiet, fits_step}
+use Rattle.msrp_merge.specs.Turns.{LogModel, rows_of, is_step, IsTurnOf}
 use Rattle.msrp_run.specs.Ports.{calls_by, port_of, IsStepSince, HasAsked}
-use Rattle.msrp_run.specs.Turns.{MayTurn, HasTurned}
+use Rattle.msrp_run.specs.Turns.{MayTurn, HasTurned, NoStep, OneStep, core_with}
 use Rattle.msrp_run.proofs.Ports.{own_calls, core_is}
 use Rattle.msrp_plan.proofs.Queues.Calls.{call_as_row}
 
@@ -203,7 +202,7 @@ told_by board m log seat back row (Some p) may is since (inl makes) =
 
 -- ---- after the turn
 -- the log with the turn is still a run of the core
-run_longer : (plan : PlanModel) (c : ℕ) (turns : List Turn) (row : Row) (place : Option Place) → IsCoreTurn plan c (rows_of turns) row → CoreRun plan c (rows_of turns) → CoreRun plan c (rows_of (turns ++ record { row = row; place = place } ∷ []))
+pub run_longer : (plan : PlanModel) (c : ℕ) (turns : List Turn) (row : Row) (place : Option Place) → IsCoreTurn plan c (rows_of turns) row → CoreRun plan c (rows_of turns) → CoreRun plan c (rows_of (turns ++ record { row = row; place = place } ∷ []))
 run_longer plan c turns row place is run =
     subst (CoreRun plan c) (sym (map-append (λ (x : Turn). x.row) turns (record { row = row; place = place } ∷ []))) (each_push (IsCoreTurn plan c) [] (rows_of turns) row run is)
 
@@ -218,7 +217,7 @@ pub record Turned (m next : MachineModel) (log : LogModel) (row : Row) : Type 0 
   pub stands : StandsAfter next (rows_of log.turns ++ row ∷ [])
 
 after_told : (board : BoardModel) (m next : MachineModel) (log : LogModel) (seat back : SeatModel) (row : Row) (place : Option Place) → (may : MayTurn board m log seat) → Turned m next log row
-    → Told board m seat back may.book row place → HasTurned board m log seat next (record { core = log.core; ticks = log.ticks; turns = log.turns ++ record { row = row; place = place } ∷ [] }) row back
+    → Told board m seat back may.book row place → HasTurned board (core_with m log seat) row (core_with next (record { core = log.core; ticks = log.ticks; turns = log.turns ++ record { row = row; place = place } ∷ [] }) back)
 after_told board m next log seat back row place may t (Quiet bare still quiet) = record {
   plan = t.plan;
   core = t.core;
@@ -226,14 +225,14 @@ after_told board m next log seat back row place may t (Quiet bare still quiet) =
   logged = refl;
   stands = subst (StandsAfter next) (rows_longer log.turns row place) t.stands;
   ahead = ap (λ b. not b || is_some row.ahead) (no_queue row.kind quiet);
-  run = run_longer m.plan m.core log.turns row place t.is;
+  is = t.is;
   on = ap (λ (s : SeatModel). s.board) still ∙ may.on;
   book = may.book;
   of_core = subst (λ s. IsCoreSeat s m.core may.book) (sym still) may.of_core;
   admitted = ap (λ (s : SeatModel). phase_in s.board.size.ticks may.book) still ∙ may.admitted;
   tick = may.tick;
   claims = may.claims ∙ sym (t.stands.phase ∙ (fold_push (λ phase r. phase_with phase r.kind r.res) Free (rows_of log.turns) row ∙ (quiet_phase (phase_after (rows_of log.turns)) row.kind row.res quiet ∙ sym may.stands.phase)));
-  fits = λ b of_core fits. subst (λ (w : Book). Fits (log.turns ++ record { row = row; place = place } ∷ []) w.entries) (core_is_one seat m.core m.core b may.book of_core may.of_core).1 (fits_quiet log.turns b.entries (record { row = row; place = place }) fits bare quiet);
+  stepped = λ b of_core. NoStep bare quiet (ap (λ (w : Book). w.entries) (sym (core_is_one seat m.core m.core b may.book of_core may.of_core).1));
 }
 after_told board m next log seat back row place may t (Step res p call at polled moved turn resource kind ahead) = record {
   plan = t.plan;
@@ -242,14 +241,14 @@ after_told board m next log seat back row place may t (Step res p call at polled
   logged = refl;
   stands = subst (StandsAfter next) (rows_longer log.turns row place) t.stands;
   ahead = call_carries call row.kind row.ahead kind ahead;
-  run = run_longer m.plan m.core log.turns row place t.is;
+  is = t.is;
   on = ap (λ (s : SeatModel). s.board) moved ∙ may.on;
   book = book;
   of_core = subst (λ s. IsCoreSeat s m.core book) (sym moved) (core_changed (book_with_entry res p.number call) seat m.core may.book may.of_core);
   admitted = ap (λ (s : SeatModel). phase_in s.board.size.ticks book) moved ∙ may.admitted;
   tick = may.tick;
   claims = lock ∙ sym phase;
-  fits = λ b of_core fits. fits_step log.turns may.book.entries (record { row = row; place = place }) entry (subst (λ (w : Book). Fits log.turns w.entries) (core_is_one seat m.core m.core b may.book of_core may.of_core).1 fits) told;
+  stepped = λ b of_core. OneStep entry told (ap (λ (w : Book). w.entries ++ entry ∷ []) (sym (core_is_one seat m.core m.core b may.book of_core may.of_core).1));
 }
   where
     book : Book
@@ -291,6 +290,6 @@ after_told board m next log seat back row place may t (Step res p call at polled
 -- the turn as the log has it
 pub has_turned : (board : BoardModel) (m next : MachineModel) (log longer : LogModel) (seat back : SeatModel) (row : Row) (place : Option Place) → MayTurn board m log seat → Turned m next log row
     → IsStepSince m.core seat place back → HasAsked m.plan row (port_of row.core seat) (port_of row.core back)
-    → longer ≡ record { core = log.core; ticks = log.ticks; turns = log.turns ++ record { row = row; place = place } ∷ [] } → HasTurned board m log seat next longer row back
+    → longer ≡ record { core = log.core; ticks = log.ticks; turns = log.turns ++ record { row = row; place = place } ∷ [] } → HasTurned board (core_with m log seat) row (core_with next longer back)
 has_turned board m next log longer seat back row place may t since touches is =
-    subst (λ l. HasTurned board m log seat next l row back) (sym is) (after_told board m next log seat back row place may t (told_by board m log seat back row place may t.is since touches))
+    subst (λ l. HasTurned board (core_with m log seat) row (core_with next l back)) (sym is) (after_told board m next log seat back row place may t (told_by board m log seat back row place may t.is since touches))

@@ -11,6 +11,7 @@ use Rattle.msrp_board.specs.declared.answers.SeatPhase.{SeatPhase}
 use Rattle.msrp_board.specs.declared.answers.SeatPhase.TheVariants.{Waiting, Admitted, Done}
 use Rattle.msrp_board.specs.declared.books.Book.{Book}
 use Rattle.msrp_board.specs.declared.books.BoardSize.{BoardSize}
+use Rattle.msrp_board.specs.declared.books.Entry.{Entry}
 use Rattle.msrp_board.specs.Books.{phase_by, phase_in, reach_of, lock_of}
 use Rattle.msrp_board.specs.Seats.{BoardModel, SeatModel, IsSeat, IsCoreSeat}
 use Rattle.msrp_board.specs.Steps.{book_with_admission, with_admission, book_with_stop, with_stop, book_with_arrival, with_arrival}
@@ -19,9 +20,10 @@ use Rattle.msrp_core.specs.Machine.{MachineModel, StandsAfter}
 use Rattle.msrp_merge.specs.declared.logs.Turn.{Turn}
 use Rattle.msrp_merge.specs.Merging.{size_of}
 use Rattle.msrp_merge.specs.Turns.{LogModel, rows_of, Fits}
-use Rattle.msrp_run.specs.Turns.{MayTurn, HasTurned}
+use Rattle.msrp_merge.proofs.Fitting.{fits_quiet, fits_step}
+use Rattle.msrp_run.specs.Turns.{MayTurn, HasTurned, IsOneStep, NoStep, OneStep, core_with}
 use Rattle.msrp_run.specs.Work.{IsAtWork, HasWorked}
-use Rattle.msrp_run.proofs.OneTurn.{rows_longer}
+use Rattle.msrp_run.proofs.OneTurn.{rows_longer, run_longer}
 
 -- let into its tick, the core may have its turn
 pub may_turn : (board : BoardModel) (plan : PlanModel) (c : ℕ) (m : MachineModel) (log : LogModel) (seat new : SeatModel) → IsAtWork board plan c m log seat → IsSeat seat → new ≡ with_admission seat → MayTurn board m log new
@@ -87,12 +89,17 @@ both_true true true x y = refl
 both_true true false x y = absurd (cc)
 both_true false b x y = absurd (cc)
 
+-- a log that fits a book fits it after one turn more
+fits_one_more : (turns : List Turn) (before after : List Entry) (x : Turn) → IsOneStep x before after → Fits turns before → Fits (turns ++ x ∷ []) after
+fits_one_more turns before after x (NoStep bare quiet same) fits = subst (Fits (turns ++ x ∷ [])) (sym same) (fits_quiet turns before x fits bare quiet)
+fits_one_more turns before after x (OneStep entry told added) fits = subst (Fits (turns ++ x ∷ [])) (sym added) (fits_step turns before x entry fits told)
+
 -- its log has one row more
-row_more : (board : BoardModel) (m next : MachineModel) (log longer : LogModel) (let_in back : SeatModel) (row : Row) → HasTurned board m log let_in next longer row back → rows_of longer.turns ≡ rows_of log.turns ++ row ∷ []
+row_more : (board : BoardModel) (m next : MachineModel) (log longer : LogModel) (let_in back : SeatModel) (row : Row) → HasTurned board (core_with m log let_in) row (core_with next longer back) → rows_of longer.turns ≡ rows_of log.turns ++ row ∷ []
 row_more board m next log longer let_in back row t = ap (λ (l : LogModel). rows_of l.turns) t.logged ∙ sym (rows_longer log.turns row t.place)
 
 -- and its machine is a tick on
-pub next_tick : (board : BoardModel) (plan : PlanModel) (c : ℕ) (m next : MachineModel) (log longer : LogModel) (seat let_in back : SeatModel) (row : Row) → IsAtWork board plan c m log seat → HasTurned board m log let_in next longer row back → next.tick ≡ m.tick + 1
+pub next_tick : (board : BoardModel) (plan : PlanModel) (c : ℕ) (m next : MachineModel) (log longer : LogModel) (seat let_in back : SeatModel) (row : Row) → IsAtWork board plan c m log seat → HasTurned board (core_with m log let_in) row (core_with next longer back) → next.tick ≡ m.tick + 1
 next_tick board plan c m next log longer seat let_in back row w t =
     let a = t.stands.tick in
     let b = ap length (row_more board m next log longer let_in back row t) in
@@ -101,7 +108,7 @@ next_tick board plan c m next log longer seat let_in back row w t =
     omega (arith, a, b, d, e)
 
 pub has_arrived : (board : BoardModel) (plan : PlanModel) (c : ℕ) (m next : MachineModel) (log longer : LogModel) (seat let_in back new : SeatModel) (row : Row) → IsAtWork board plan c m log seat → let_in ≡ with_admission seat
-    → HasTurned board m log let_in next longer row back → new ≡ with_arrival back → HasArrived board plan c next longer new
+    → HasTurned board (core_with m log let_in) row (core_with next longer back) → new ≡ with_arrival back → HasArrived board plan c next longer new
 has_arrived board plan c m next log longer seat let_in back new row w in_is t is = subst (HasArrived board plan c next longer) (sym is) arrived
   where
     more : rows_of longer.turns ≡ rows_of log.turns ++ row ∷ []
@@ -134,8 +141,8 @@ has_arrived board plan c m next log longer seat let_in back new row w in_is t is
       out = refl;
       tick = ticks;
       claims = t.claims;
-      run = subst (λ p. CoreRun p c (rows_of longer.turns)) w.plan_is (subst (λ k. CoreRun m.plan k (rows_of longer.turns)) w.core (t.run before));
-      fits = t.fits (book_with_admission w.book) admitted w.fits;
+      run = subst (λ p. CoreRun p c (rows_of longer.turns)) w.plan_is (subst (λ k. CoreRun m.plan k (rows_of longer.turns)) w.core (subst (λ (l : LogModel). CoreRun m.plan m.core (rows_of l.turns)) (sym t.logged) (run_longer m.plan m.core log.turns row t.place t.is before)));
+      fits = subst (λ (l : LogModel). Fits l.turns t.book.entries) (sym t.logged) (fits_one_more log.turns w.book.entries t.book.entries (record { row = row; place = t.place }) (t.stepped (book_with_admission w.book) admitted) w.fits);
       aheads = ap carries_ahead more ∙ (list_all-append carries_its_ahead (rows_of log.turns) (row ∷ []) ∙ both_true (carries_ahead (rows_of log.turns)) (carries_its_ahead row) w.aheads t.ahead);
     }
 

@@ -59,7 +59,7 @@ pub record IsPromise (board : BoardModel) (plan : PlanModel) (c : ℕ) (p : Work
   pub on : p.seat.value.board ≡ board
   pub plan_is : p.plan.value ≡ plan
 
--- those of the cores, rising
+-- the promises of the threads of the cores, rising
 abbrev pub ArePromised : {T : Type 0} → BoardModel → PlanModel → List (PromisedHandle T WorkOf) → Type 0
 ArePromised board plan handles = (k : ℕ) (d : _) → k < length handles → IsPromise board plan k (slice_index_or handles k d).promise
 

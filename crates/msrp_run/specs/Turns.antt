@@ -1,16 +1,18 @@
 -- One core's turn on a board: what its machine, its log and its seat must be before it, and what they are after it.
-use Rattle.std.specs.Prelude.{◌≡◌, ◌++◌, ◌∷◌, [], Option, true, false}
+use Rattle.std.specs.Prelude.{◌≡◌, ◌++◌, ◌∷◌, [], List, Option, None, true, false}
 use Rattle.msrp_plan.specs.Aheads.{carries_its_ahead}
-use Rattle.msrp_plan.specs.Runs.{CoreRun}
+use Rattle.msrp_plan.specs.Runs.{IsCoreTurn}
 use Rattle.msrp_plan.specs.declared.rows.Row.{Row}
 use Rattle.msrp_board.specs.declared.answers.SeatPhase.TheVariants.{Admitted}
 use Rattle.msrp_board.specs.declared.books.Book.{Book}
+use Rattle.msrp_board.specs.declared.books.Entry.{Entry}
 use Rattle.msrp_board.specs.Books.{phase_in, has_acted, lock_of}
 use Rattle.msrp_board.specs.Seats.{BoardModel, SeatModel, IsCoreSeat}
 use Rattle.msrp_core.specs.Machine.{MachineModel, StandsAfter}
 use Rattle.msrp_merge.specs.declared.logs.Place.{Place}
+use Rattle.msrp_merge.specs.declared.logs.Turn.{Turn}
 use Rattle.msrp_merge.specs.Merging.{size_of}
-use Rattle.msrp_merge.specs.Turns.{LogModel, rows_of, Fits}
+use Rattle.msrp_merge.specs.Turns.{LogModel, IsTurnOf, is_step, rows_of}
 
 -- a core may have its turn on a board of its plan: the machine stands after the log, which is of its core and for the
 -- plan's ticks, and the seat is the core's, let into the machine's tick, has not acted in it, and holds or awaits what the
@@ -28,20 +30,34 @@ pub record MayTurn (board : BoardModel) (m : MachineModel) (log : LogModel) (sea
   pub tick : book.tick ≡ m.tick
   pub claims : lock_of book ≡ m.phase
 
--- the core had its turn: the log has one row more, the one answered, and the machine stands after it; the seat is the same
--- core's on the same board, still in the same tick. A log that was a run of its core and fitted its book still does
-pub record HasTurned (board : BoardModel) (m : MachineModel) (log : LogModel) (seat : SeatModel) (next : MachineModel) (longer : LogModel) (row : Row) (back : SeatModel) : Type 0 where
-  pub plan : next.plan ≡ m.plan
-  pub core : next.core ≡ m.core
-  pub place : Option Place
-  pub logged : longer ≡ record { core = log.core; ticks = log.ticks; turns = log.turns ++ record { row = row; place = place } ∷ [] }
-  pub stands : StandsAfter next (rows_of longer.turns)
+-- a turn and the entries of its core's book: a turn on no global resource adds none, and any other adds the one that it is of
+pub data IsOneStep (turn : Turn) (before after : List Entry) : Type 0 where
+  NoStep : (bare : turn.place ≡ None) (quiet : is_step turn.row.kind ≡ false) (same : after ≡ before) → IsOneStep turn before after
+  OneStep : (entry : Entry) (told : IsTurnOf turn entry) (added : after ≡ before ++ entry ∷ []) → IsOneStep turn before after
+
+-- what the thread of a core has: its machine, its log and its seat
+pub record CoreModel : Type 0 where
+  pub machine : MachineModel
+  pub log : LogModel
+  pub seat : SeatModel
+
+abbrev pub core_with : MachineModel → LogModel → SeatModel → CoreModel
+core_with m log seat = record { machine = m; log = log; seat = seat }
+
+-- the core had its turn: the row is its next one and stands at the end of its log, after which the machine stands; the seat is the
+-- same core's on the same board, still in the same tick, and its book has the turn's entry
+pub record HasTurned (board : BoardModel) (old : CoreModel) (row : Row) (new : CoreModel) : Type 0 where
+  pub plan : new.machine.plan ≡ old.machine.plan
+  pub core : new.machine.core ≡ old.machine.core
+  pub is : IsCoreTurn old.machine.plan old.machine.core (rows_of old.log.turns) row
   pub ahead : carries_its_ahead row ≡ true
-  pub run : CoreRun m.plan m.core (rows_of log.turns) → CoreRun m.plan m.core (rows_of longer.turns)
-  pub on : back.board ≡ board
+  pub place : Option Place
+  pub logged : new.log ≡ record { core = old.log.core; ticks = old.log.ticks; turns = old.log.turns ++ record { row = row; place = place } ∷ [] }
+  pub stands : StandsAfter new.machine (rows_of new.log.turns)
+  pub on : new.seat.board ≡ board
   pub book : Book
-  pub of_core : IsCoreSeat back m.core book
-  pub admitted : phase_in back.board.size.ticks book ≡ Admitted
-  pub tick : book.tick ≡ m.tick
-  pub claims : lock_of book ≡ next.phase
-  pub fits : (b : Book) → IsCoreSeat seat m.core b → Fits log.turns b.entries → Fits longer.turns book.entries
+  pub of_core : IsCoreSeat new.seat old.machine.core book
+  pub admitted : phase_in new.seat.board.size.ticks book ≡ Admitted
+  pub tick : book.tick ≡ old.machine.tick
+  pub claims : lock_of book ≡ new.machine.phase
+  pub stepped : (b : Book) → IsCoreSeat old.seat old.machine.core b → IsOneStep (record { row = row; place = place }) b.entries book.entries

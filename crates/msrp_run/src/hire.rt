@@ -1,6 +1,7 @@
 //! Which threads may be started, and why a run is refused.
 
 use msrp_plan::{CoreId, Memory};
+use thiserror::Error;
 
 /// Says whether the thread of a core may be started. It is asked once for each core, cores rising, before the thread is
 /// started; a no counts as a thread that was refused.
@@ -20,11 +21,13 @@ impl Hire for HireAll {
 }
 
 /// Why a plan was not run.
-#[derive(Clone, Copy, Debug, PartialEq, Eq)]
+#[derive(Clone, Copy, Debug, Error, PartialEq, Eq)]
 pub enum RunError {
     /// Memory was refused, before the first tick or after the last.
+    #[error("U1: memory was refused")]
     U1,
     /// A thread was refused, so that no core had a turn. Want of memory in a thread's start isn't told apart.
+    #[error("U2: a thread was refused")]
     U2,
 }
 

@@ -40,7 +40,7 @@ fn kits_of<'a>(
     ensures count { IfOk result (λ kits. vec_len kits ≡ plan.now.cores) }
     ensures each { IfOk result (λ kits. AreKits plan.now kits.items) }
 {
-    let mut kits = Vec::with_capacity(alloc, plan.cores() as usize).map_err(|_| Memory)?;
+    let mut kits = Vec::with_capacity(alloc, plan.cores() as usize)?;
     for c in 0..plan.cores() {
         let machine = Machine::with_room(alloc, plan, levels, CoreId(c))?;
         let log = CoreLog::with_room(alloc, CoreId(c), plan.ticks())?;
@@ -150,6 +150,36 @@ fn start<'s, E, R: Wait + Sync, S: Stage + Sync, W: CoreWork + 's>(
     }
 }
 
+// Starts the worker of the next core, with its seat out of those that are left. Where it isn't to be started the run is called off.
+fn start_next<'s, E, R: Wait + Sync, S: Stage + Sync, H: Hire>(
+    scope: &'s Scope<'s, E>,
+    rt: &'s R,
+    plan: &'s Plan,
+    kit: Kit<'s>,
+    board: &'s Board,
+    mut bench: BoardSeat,
+    stage: &'s S,
+    hire: &H,
+) -> Result<(Handle, BoardSeat), BoardSeat>
+    requires kit { IsKit plan.now kit.machine.core kit }
+    requires size { board.now.size ≡ size_of plan.now }
+    requires core { kit.machine.core < board.now.size.cores }
+    requires bench { IsBench board.now kit.machine.core bench }
+    ensures started { IfOk result (λ r. IsPromise board.now plan.now kit.entry.machine.core r.0.promise × IsBench board.now (kit.entry.machine.core + 1) r.1) }
+    ensures refused { IfErr result (λ seat. HasRest board.now kit.entry.machine.core Aborted seat) }
+{
+    let core = kit.machine.core();
+    if !hire.may_start(core) {
+        board.abort(&mut bench);
+        return Err(bench);
+    }
+    let (seat, rest) = board.split(bench, core);
+    let Kit { machine, log } = kit;
+    start(
+        scope, rt, plan, core, machine, log, seat, board, rest, stage,
+    )
+}
+
 // Starts the workers, cores rising. Once all are started it lets the cores in; where a thread is refused it calls the run off.
 fn start_all<'s, E, R: Wait + Sync, S: Stage + Sync, H: Hire>(
     scope: &'s Scope<'s, E>,
@@ -174,28 +204,15 @@ fn start_all<'s, E, R: Wait + Sync, S: Stage + Sync, H: Hire>(
     ensures rest { HasRest board.now (vec_len result.handles) (ordered result.all) result.bench }
 {
     for kit in kits {
-        let core = kit.machine.core();
-        if !hire.may_start(core) {
-            board.abort(&mut bench);
-            return Started {
-                handles,
-                bench,
-                all: false,
-            };
-        }
-        let (seat, rest) = board.split(bench, core);
-        let Kit { machine, log } = kit;
-        match start(
-            scope, rt, plan, core, machine, log, seat, board, rest, stage,
-        ) {
-            Ok((handle, back)) => {
-                bench = back;
+        match start_next(scope, rt, plan, kit, board, bench, stage, hire) {
+            Ok((handle, rest)) => {
+                bench = rest;
                 handles.push_reserved(handle);
             }
-            Err(back) => {
+            Err(rest) => {
                 return Started {
                     handles,
-                    bench: back,
+                    bench: rest,
                     all: false,
                 };
             }
@@ -260,8 +277,8 @@ fn conduct<'s, E, R: Threads + Wait + Sync, S: Stage + Sync, H: Hire, L: PlanLev
     ensures { IfOk result (λ ended. HasEnded board.now plan.now ended) }
 {
     let kits = kits_of(alloc, plan, levels.levels())?;
-    let handles = Vec::with_capacity(alloc, kits.len()).map_err(|_| Memory)?;
-    let logs = Vec::with_capacity(alloc, kits.len()).map_err(|_| Memory)?;
+    let handles = Vec::with_capacity(alloc, kits.len())?;
+    let logs = Vec::with_capacity(alloc, kits.len())?;
     let started = start_all(scope, rt, plan, kits, board, bench, stage, hire, handles);
     Ok(join_all(rt, plan, board, started, logs))
 }
@@ -284,7 +301,7 @@ impl PlanLevels for Levels<'_> {
     }
 }
 
-// The same in a scope of its own, which ends with its threads.
+// Starts and joins the workers in a scope of their own, which ends with its threads.
 fn on_threads<R: Threads + Wait + Sync, S: Stage + Sync, H: Hire, L: PlanLevels>(
     rt: &R,
     alloc: Global,
@@ -327,9 +344,9 @@ fn settled_run<R: Threads + Wait + Sync, S: Stage + Sync, H: Hire>(
     ensures plan { IfOk result (λ _. IsPlan plan.now) }
 {
     let levels = Levels::of(alloc, plan)?;
-    let (board, bench) = Board::new(alloc, plan.cores(), plan.resources(), plan.ticks()).map_err(
-        |_| Memory,
-    )?;
+    let Ok((board, bench)) = Board::new(alloc, plan.cores(), plan.resources(), plan.ticks()) else {
+        return Err(Memory);
+    };
     let Ended { logs, seat, all } = on_threads(
         rt, alloc, plan, &levels, &board, bench, stage, hire,
     )?;

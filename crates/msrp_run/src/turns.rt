@@ -4,7 +4,7 @@ ghost use Rattle.msrp_plan.specs.Runs.{IsCoreTurn};
 ghost use Rattle.msrp_plan.specs.declared.rows.Row.{Row as TraceRow};
 ghost use Rattle.msrp_core.specs.Machine.{StandsAfter};
 ghost use Rattle.msrp_run.specs.Ports.{HasAsked, IsSeatPort, port_of};
-ghost use Rattle.msrp_run.specs.Turns.{HasTurned, MayTurn};
+ghost use Rattle.msrp_run.specs.Turns.{HasTurned, MayTurn, core_with};
 ghost use Rattle.msrp_board.specs.Seats.{BoardModel};
 
 use crate::port::{FirstSeat, SeatPort};
@@ -24,7 +24,7 @@ fn turn_through<B: FirstSeat>(
     requires may { MayTurn board.now machine.old log.old seat }
     requires core { B.core ≡ machine.old.core }
     requires first { B.first ≡ seat }
-    ensures { HasTurned board.now machine.old log.old seat machine.new log.new result.0 result.1 }
+    ensures { HasTurned board.now (core_with machine.old log.old seat) result.0 (core_with machine.new log.new result.1) }
 {
     let left = machine.tick() < log.ticks();
     // Read so that what every seat keeps is known of this one: a core that is let in has a tick left.
@@ -52,7 +52,7 @@ pub fn turn_on(
     seat: BoardSeat,
 ) -> (Row, BoardSeat)
     requires { MayTurn board.now machine.old log.old seat }
-    ensures { HasTurned board.now machine.old log.old seat machine.new log.new result.0 result.1 }
+    ensures { HasTurned board.now (core_with machine.old log.old seat) result.0 (core_with machine.new log.new result.1) }
 {
     turn_through::<Brand>(machine, log, board, seat)
 }
@@ -69,7 +69,7 @@ pub trait Stage {
         seat: BoardSeat,
     ) -> (Row, BoardSeat)
         requires { MayTurn board.now machine.old log.old seat }
-        ensures { HasTurned board.now machine.old log.old seat machine.new log.new result.0 result.1 };
+        ensures { HasTurned board.now (core_with machine.old log.old seat) result.0 (core_with machine.new log.new result.1) };
 }
 
 /// The stage that makes the turns and does nothing else.
