@@ -13,15 +13,19 @@ use msrp_plan::bytes::Source;
 use msrp_plan::{Plan, PlanFault};
 use std::alloc::Global;
 use std::io::Read;
+use thiserror::Error;
 
 /// Why a text gave no plan.
-#[derive(Clone, Copy, Debug, PartialEq, Eq)]
+#[derive(Clone, Copy, Debug, Error, PartialEq, Eq)]
 pub enum TextError {
     /// A record is refused, by its number, counted from 1. The end of the text counts as one more record.
+    #[error("record {number}: {fault}")]
     At { fault: PlanFault, number: u32 },
     /// A read of the source failed.
+    #[error("a read failed")]
     Read,
     /// Memory was refused.
+    #[error("memory was refused")]
     Memory,
 }
 

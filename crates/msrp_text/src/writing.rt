@@ -8,25 +8,9 @@ ghost use Rattle.msrp_plan.specs.WellFormed.{IsPlan};
 ghost use Rattle.msrp_text.specs.PlanText.{declaration, head_records, plan_text, record_text, records_text, release_record, resource_record, steps_of, task_records, times_records, version_of, version_record};
 ghost use Rattle.msrp_text.specs.Writing.{IsNamedUnit, run_after, run_steps, steps_before, steps_text};
 
-use itoa::Buffer;
 use msrp_plan::bytes::Sink;
 use msrp_plan::{JobId, Op, Plan, ResId, TaskId, TextVersion, Times, WriteFault};
 use std::io::Write;
-
-// A field that is not the first of its record.
-fn next_field<W: Write>(out: &mut Sink<W>, text: &[u8])
-    ensures { Wrote W.contents out.old out.new (codes "," ++ text.now) }
-{
-    out.add(b",");
-    out.add(text);
-}
-
-fn next_number<W: Write>(out: &mut Sink<W>, number: u64)
-    ensures { Wrote W.contents out.old out.new (codes "," ++ decimal number) }
-{
-    let mut digits = Buffer::new();
-    next_field(out, digits.format(number).as_bytes());
-}
 
 // The version that the plan's text wants: listed tasks are of version 2.
 fn version_of(plan: &Plan) -> TextVersion
@@ -45,7 +29,7 @@ fn write_number<W: Write>(out: &mut Sink<W>, word: &[u8], number: u64)
     ensures { Wrote W.contents out.old out.new (record_text (word.now ∷ decimal number ∷ [])) }
 {
     out.add(word);
-    next_number(out, number);
+    out.number(number);
     out.add(b"\n");
 }
 
@@ -54,7 +38,7 @@ fn write_name<W: Write>(out: &mut Sink<W>, word: &[u8], name: &str)
     ensures { Wrote W.contents out.old out.new (record_text (word.now ∷ name.now ∷ [])) }
 {
     out.add(word);
-    next_field(out, name.as_bytes());
+    out.field(name.as_bytes());
     out.add(b"\n");
 }
 
@@ -92,11 +76,11 @@ fn write_periodic<W: Write>(out: &mut Sink<W>, plan: &Plan, task: TaskId, period
     ensures { Wrote W.contents out.old out.new (record_text (declaration (task_at plan.now task.0) (Every period offset))) }
 {
     out.add(b"task");
-    next_field(out, plan.task_name(task).as_bytes());
-    next_number(out, u64::from(plan.core_of(task).0));
-    next_number(out, u64::from(period));
-    next_number(out, u64::from(plan.deadline(task)));
-    next_number(out, u64::from(offset));
+    out.field(plan.task_name(task).as_bytes());
+    out.number(u64::from(plan.core_of(task).0));
+    out.number(u64::from(period));
+    out.number(u64::from(plan.deadline(task)));
+    out.number(u64::from(offset));
     out.add(b"\n");
 }
 
@@ -106,9 +90,9 @@ fn write_listed<W: Write>(out: &mut Sink<W>, plan: &Plan, task: TaskId)
     ensures { Wrote W.contents out.old out.new (record_text (declaration (task_at plan.now task.0) (Listed []))) }
 {
     out.add(b"listed");
-    next_field(out, plan.task_name(task).as_bytes());
-    next_number(out, u64::from(plan.core_of(task).0));
-    next_number(out, u64::from(plan.deadline(task)));
+    out.field(plan.task_name(task).as_bytes());
+    out.number(u64::from(plan.core_of(task).0));
+    out.number(u64::from(plan.deadline(task)));
     out.add(b"\n");
 }
 

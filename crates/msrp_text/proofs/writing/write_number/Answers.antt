@@ -2,4 +2,4 @@ use Rattle.msrp_plan.proofs.Writes.{wrote-more}
 use Rattle.msrp_text.proofs.writing.write_number.Goals as goal
 
 pub returns : goal.returns
-returns g c = wrote-more _ _ _ _ _ _ c.add.ensures (wrote-more _ _ _ _ _ _ c.next_number.ensures c.add-2.ensures)
+returns g c = wrote-more _ _ _ _ _ _ c.add.ensures (wrote-more _ _ _ _ _ _ c.number.ensures c.add-2.ensures)
