@@ -1,24 +1,22 @@
 -- What is told of a resource by the tasks is what the plan says.
-use Rattle.std.proofs.Common.{◌≡◌, ℕ, ◌+◌, ◌<◌, ◌≤◌, ◌==◌, Bool, false, not, ◌&&◌, List, map, get_or, refl, ap, sym, ◌∙◌, arith, length}
-use Rattle.std.specs.List.{filter, find, list_any, range_with_len, sum_by}
-use Rattle.std.specs.Prelude.{Some, None}
+use Rattle.std.proofs.Common.{◌≡◌, ℕ, ◌+◌, ◌<◌, ◌≤◌, ◌==◌, Bool, not, ◌&&◌, List, map, get_or, refl, ap, ◌∙◌, arith, length}
+use Rattle.std.specs.List.{filter, range_with_len, sum_by}
 use Rattle.std.proofs.lemmas.List.{get_or-map}
 use Rattle.std.proofs.lemmas.List.FromFn.{get_or-map-range_with_len, length-map-range_with_len}
 use Rattle.std.proofs.lemmas.Simd.{map-map}
 use Rattle.msrp_plan.specs.Plan.{PlanModel, TaskModel, no_task, task_at}
-use Rattle.msrp_plan.specs.Levels.{greatest, level_of, uses, is_global, local_ceiling, top}
+use Rattle.msrp_plan.specs.Levels.{greatest, level_of, uses, local_ceiling, top}
 use Rattle.msrp_plan.specs.Bounds.{longest_section, section, is_used_on, spin_bound}
 use Rattle.msrp_plan.specs.WellFormed.{IsPlan}
 use Rattle.msrp_plan.proofs.Lists.Filters.{all_of, filter_same}
 use Rattle.msrp_plan.proofs.Lists.AnyAll.{all_weaker}
 use Rattle.msrp_plan.proofs.Lists.Least.{all_filtered}
-use Rattle.msrp_plan.proofs.Levels.GlobalUse.{by_first, by_none}
 use Rattle.msrp_levels.specs.declared.footprints.Footprint.{Footprint}
 use Rattle.msrp_levels.specs.declared.footprints.Use.{Use}
 use Rattle.msrp_levels.specs.declared.usage.CoreUse.{CoreUse}
 use Rattle.msrp_levels.specs.Users.{users}
 use Rattle.msrp_levels.specs.Footprints.{footprint_of, footprint_at, unused, locks_in, longest_in}
-use Rattle.msrp_levels.specs.Usage.{is_used_among, is_global_among, section_among, core_use, core_use_at, is_other_user, spin_among}
+use Rattle.msrp_levels.specs.Usage.{is_used_among, section_among, core_use, core_use_at, is_other_user, spin_among}
 use Rattle.msrp_levels.proofs.Gathered.{range_below, map_agree, sum_agree, greatest_image, any_image}
 use Rattle.msrp_levels.proofs.Longest.{section-le}
 use Rattle.msrp_levels.proofs.PassedUnits.{get_or-uses_from}
@@ -46,12 +44,6 @@ section_same plan g c l = greatest_image (footprint_of plan) (longest_in g) (λ 
 
 used_same : (plan : PlanModel) (g c : ℕ) → g < 32 → is_used_among (footprints plan) g c ≡ is_used_on plan g c
 used_same plan g c l = any_image (footprint_of plan) (λ f. (f.core.0 == c) && locks_in g f) (λ a. (a.core == c) && uses g a) (λ a. ap (λ b. (a.core == c) && b) (locks_same plan g l a)) plan.tasks
-
-pub global_same : (plan : PlanModel) (g : ℕ) → g < 32 → is_global_among (footprints plan) g ≡ is_global plan g
-global_same plan g l =
-    any_image (footprint_of plan) (λ a. list_any (λ b. locks_in g a && (locks_in g b && not (a.core.0 == b.core.0))) (footprints plan)) (λ a. list_any (λ b. uses g a && (uses g b && not (a.core == b.core))) plan.tasks)
-    (λ a. any_image (footprint_of plan) (λ b. locks_in g (footprint_of plan a) && (locks_in g b && not (a.core == b.core.0))) (λ b. uses g a && (uses g b && not (a.core == b.core)))
-    (λ b. ap (λ v. v && (locks_in g (footprint_of plan b) && not (a.core == b.core))) (locks_same plan g l a) ∙ ap (λ v. uses g a && (v && not (a.core == b.core))) (locks_same plan g l b)) plan.tasks) plan.tasks
 
 pub users_same : (plan : PlanModel) (g n : ℕ) → g < 32 → n ≡ length plan.tasks → filter (λ t. locks_in g (footprint_at (footprints plan) t)) (range_with_len 0 n) ≡ users plan g
 users_same plan g n l e =
@@ -99,13 +91,3 @@ sections_short plan ok g k d l within =
     let at = ap (λ (x : CoreUse). x.section) (get_or-map-range_with_len (core_use (footprints plan) g) 0 plan.cores k k d within (omega arith)) ∙ section_same plan g k l in
     let short = section-le plan ok g k in
     omega (arith, at, short)
-
--- ---- global by the first user
-abbrev place : Footprint → ℕ
-place f = f.core.0
-
-pub global_first : (tasks : List Footprint) (g : ℕ) (f : Footprint) → find (locks_in g) tasks ≡ Some f → list_any (λ b. locks_in g b && not (f.core.0 == b.core.0)) tasks ≡ is_global_among tasks g
-global_first tasks g f e = sym (by_first (locks_in g) place tasks f e)
-
-pub global_none : (tasks : List Footprint) (g : ℕ) → find (locks_in g) tasks ≡ None → false ≡ is_global_among tasks g
-global_none tasks g e = sym (by_none (locks_in g) place tasks e)

@@ -1,6 +1,5 @@
 pub mod Users
 pub mod Footprints
 pub mod Usage
-pub mod UsagesView
 pub mod Outermost
 pub mod LevelsView

@@ -2,7 +2,7 @@
 use Rattle.std.specs.Prelude.{ℕ, List, Bool, map, filter, not, length, slice_index_or, ◌==◌, ◌&&◌, ◌+◌, ◌<◌, ◌≤◌, ◌≡◌, false}
 use Rattle.std.specs.List.{list_any, range_with_len, sum_by}
 use Rattle.msrp_plan.specs.Plan.{PlanModel}
-use Rattle.msrp_plan.specs.Levels.{greatest, is_global, local_ceiling}
+use Rattle.msrp_plan.specs.Levels.{greatest, local_ceiling}
 use Rattle.msrp_plan.specs.Bounds.{section, spin_bound}
 use Rattle.msrp_plan.specs.Limits.{most_units}
 use Rattle.msrp_levels.specs.Users.{users}
@@ -14,10 +14,6 @@ use Rattle.msrp_levels.specs.declared.usage.Usage.{Usage}
 -- a task of the core uses the resource
 abbrev pub is_used_among : List Footprint → ℕ → ℕ → Bool
 is_used_among tasks g c = list_any (λ f. (f.core.0 == c) && locks_in g f) tasks
-
--- tasks of two cores use the resource
-abbrev pub is_global_among : List Footprint → ℕ → Bool
-is_global_among tasks g = list_any (λ a. list_any (λ b. locks_in g a && (locks_in g b && not (a.core.0 == b.core.0))) tasks) tasks
 
 -- the longest section on the resource of the tasks of a core
 abbrev pub section_among : List Footprint → ℕ → ℕ → ℕ
@@ -45,7 +41,6 @@ IsShort u = u.section ≤ most_units
 -- what is stored of a resource is what the plan says
 pub record IsUsage (plan : PlanModel) (g : ℕ) (u : Usage) : Type 0 where
   pub users : map (λ t. t.0) u.users.items ≡ users plan g
-  pub global : u.global ≡ is_global plan g
   pub ceiling : u.ceiling ≡ local_ceiling plan g
   pub cores : map (λ x. x.section) u.cores.items ≡ map (section plan g) (range_with_len 0 plan.cores)
   pub spins : u.spins.items ≡ map (spin_bound plan g) (range_with_len 0 plan.cores)

@@ -111,7 +111,7 @@ pub(crate) fn footprints_of(
     requires { levels.now ≡ map (level_of plan.now) plan.now.tasks }
     ensures { IfOk result (λ footprints. footprints.items ≡ map (footprint_of plan.now) plan.now.tasks) }
 {
-    let mut footprints = Vec::with_capacity(alloc, plan.tasks() as usize).map_err(|_| Memory)?;
+    let mut footprints = Vec::with_capacity(alloc, plan.tasks() as usize)?;
     for t in 0..plan.tasks() {
         footprints.push_reserved(Footprint {
             core: plan.core_of(TaskId(t)),

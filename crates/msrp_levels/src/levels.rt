@@ -3,13 +3,13 @@ ghost use Rattle.std.specs.Prelude.{◌≡◌, ◌<◌, length, map, IfOk};
 ghost use Rattle.msrp_plan.specs.Plan.{task_at};
 ghost use Rattle.msrp_plan.specs.Levels.{level, is_global, top};
 ghost use Rattle.msrp_plan.specs.Bounds.{section, spin_bound, out};
+ghost use Rattle.msrp_levels.specs.Usage.{IsUsage};
 ghost use Rattle.msrp_levels.specs.Users.{users, ceiling_at};
 
 use crate::footprints::footprints_of;
 use crate::outermost::outs_of;
 use crate::preemption::levels_of;
-use crate::usage::tops_of;
-use crate::usages::Usages;
+use crate::usage::{Usage, tops_of, usages_of};
 use msrp_plan::{CoreId, Memory, Plan, ResId, TaskId};
 use std::alloc::Global;
 use std::marker::Model;
@@ -20,7 +20,9 @@ use std::marker::Model;
 /// stored; it takes no memory. The numbers of tasks, resources and cores that a reader takes are the plan's.
 #[derive(Drop)]
 pub struct Levels<'a> {
-    usages: Usages<'a>,
+    plan: &'a Plan,
+    // By resource.
+    usages: Vec<Usage>,
     // By task.
     levels: Vec<u32>,
     // By core.
@@ -49,14 +51,23 @@ impl<'a> Levels<'a> {
         let levels = levels_of(alloc, plan)?;
         let tasks = footprints_of(alloc, plan, &levels)?;
         let tops = tops_of(alloc, plan, &tasks)?;
-        let usages = Usages::of(alloc, plan, &tasks)?;
+        let usages = usages_of(alloc, plan, &tasks)?;
         let outs = outs_of(alloc, plan, &usages)?;
         Ok(Levels {
+            plan,
             usages,
             levels,
             tops,
             outs,
         })
+    }
+
+    // How the plan uses a resource.
+    fn usage(&self, res: ResId) -> &Usage
+        requires { res.0 < length self.now.resources }
+        ensures { IsUsage self.now res.0 result.now }
+    {
+        &self.usages[res.0 as usize]
     }
 
     /// The preemption level of a task: 1 and the number of distinct longer relative deadlines in the plan (Baker
@@ -81,7 +92,7 @@ impl<'a> Levels<'a> {
         requires { res.0 < length self.now.resources }
         ensures { result ≡ is_global self.now res.0 }
     {
-        self.usages.is_global(res)
+        self.plan.is_global(res)
     }
 
     /// The ceiling of a resource at a core: of a local one the highest level of its users, 0 if there is none
@@ -94,7 +105,7 @@ impl<'a> Levels<'a> {
         if self.is_global(res) {
             self.top(core)
         } else {
-            self.usages.local_ceiling(res)
+            self.usage(res).ceiling
         }
     }
 
@@ -103,7 +114,7 @@ impl<'a> Levels<'a> {
         requires { res.0 < length self.now.resources }
         ensures { map (λ task. task.0) result.now ≡ users self.now res.0 }
     {
-        self.usages.users(res)
+        &self.usage(res).users
     }
 
     /// The longest section on a resource of the tasks of a core, in units after the lock up to and with the unlock;
@@ -113,7 +124,7 @@ impl<'a> Levels<'a> {
         requires core { core.0 < self.now.cores }
         ensures { result ≡ section self.now res.0 core.0 }
     {
-        self.usages.section(res, core)
+        self.usage(res).cores[core.0 as usize].section
     }
 
     /// How often a job of a core spins in one wait for a resource, at most: for each other core that uses it, one
@@ -123,7 +134,7 @@ impl<'a> Levels<'a> {
         requires core { core.0 < self.now.cores }
         ensures { result ≡ spin_bound self.now res.0 core.0 }
     {
-        self.usages.spin_bound(res, core)
+        self.usage(res).spins[core.0 as usize]
     }
 
     /// How many rows a job of a task has in one outermost section after the first, at most: its units after the lock

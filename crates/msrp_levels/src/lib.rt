@@ -10,7 +10,6 @@ mod levels;
 mod outermost;
 mod preemption;
 mod usage;
-mod usages;
 pub mod worked;
 
 pub use levels::Levels;

@@ -4,24 +4,26 @@ ghost use Rattle.msrp_plan.specs.Plan.{task_at};
 ghost use Rattle.msrp_plan.specs.Bounds.{wait_bound, out};
 ghost use Rattle.msrp_plan.specs.WellFormed.{IsPlan};
 ghost use Rattle.msrp_levels.specs.Outermost.{held_with_unit, CanFollow, IsLockBelow};
+ghost use Rattle.msrp_levels.specs.Usage.{AreUsages};
 
-use crate::usages::Usages;
+use crate::usage::Usage;
 use msrp_plan::{CoreId, Memory, Op, Plan, TaskId};
 use std::alloc::Global;
 
 // How many rows a job of a core waits at a unit, at most: at a request of a global resource one to join the queue,
 // and as many as it may spin.
-fn wait_of(usages: &Usages, core: CoreId, unit: Op) -> u32
-    requires plan { IsPlan usages.now }
-    requires core { core.0 < usages.now.cores }
-    requires known { IsLockBelow (length usages.now.resources) unit }
-    ensures value { result ≡ wait_bound usages.now core.0 (Some unit) }
+fn wait_of(plan: &Plan, usages: &[Usage], core: CoreId, unit: Op) -> u32
+    requires plan { IsPlan plan.now }
+    requires usages { AreUsages plan.now (length plan.now.resources) usages.now }
+    requires core { core.0 < plan.now.cores }
+    requires known { IsLockBelow (length plan.now.resources) unit }
+    ensures value { result ≡ wait_bound plan.now core.0 (Some unit) }
     ensures small { result ≤ 32777 }
 {
     match unit {
         Op::Run | Op::Unlock(_) => 0,
-        Op::Lock(res) => if usages.is_global(res) {
-            1 + usages.spin_bound(res, core)
+        Op::Lock(res) => if plan.is_global(res) {
+            1 + usages[res.0 as usize].spins[core.0 as usize]
         } else {
             0
         },
@@ -41,9 +43,9 @@ fn held_with(held: u32, unit: Op) -> u32
 }
 
 // How many rows the longest outermost section of a task has after its first, at most.
-fn out_of(plan: &Plan, usages: &Usages, task: TaskId) -> u32
+fn out_of(plan: &Plan, usages: &[Usage], task: TaskId) -> u32
     requires plan { IsPlan plan.now }
-    requires usages { usages.now ≡ plan.now }
+    requires usages { AreUsages plan.now (length plan.now.resources) usages.now }
     requires task { task.0 < length plan.now.tasks }
     ensures { result ≡ out plan.now (task_at plan.now task.0) }
 {
@@ -54,19 +56,19 @@ fn out_of(plan: &Plan, usages: &Usages, task: TaskId) -> u32
     for place in 0..plan.units(task) {
         let unit = plan.unit(task, place);
         // The rows of the outermost section so far; outside of all, one begins here if one does.
-        rows = if held == 0 { 0 } else { rows + 1 } + wait_of(usages, core, unit);
+        rows = if held == 0 { 0 } else { rows + 1 } + wait_of(plan, usages, core, unit);
         longest = longest.max(rows);
         held = held_with(held, unit);
     }
     longest
 }
 
-/// The same for each task.
-pub(crate) fn outs_of(alloc: Global, plan: &Plan, usages: &Usages) -> Result<Vec<u32>, Memory>
-    requires { usages.now ≡ plan.now }
+/// How many rows the longest outermost section of each task has after its first, at most.
+pub(crate) fn outs_of(alloc: Global, plan: &Plan, usages: &[Usage]) -> Result<Vec<u32>, Memory>
+    requires { AreUsages plan.now (length plan.now.resources) usages.now }
     ensures { IfOk result (λ outs. outs.items ≡ map (out plan.now) plan.now.tasks) }
 {
-    let mut outs = Vec::with_capacity(alloc, plan.tasks() as usize).map_err(|_| Memory)?;
+    let mut outs = Vec::with_capacity(alloc, plan.tasks() as usize)?;
     for t in 0..plan.tasks() {
         outs.push_reserved(out_of(plan, usages, TaskId(t)));
     }

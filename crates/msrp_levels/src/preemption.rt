@@ -12,7 +12,7 @@ fn distinct_deadlines(alloc: Global, plan: &Plan) -> Result<Vec<u32>, Memory>
     ensures levels { IfOk result (λ deadlines. (task : TaskModel) → count_by (nat_lt task.deadline) deadlines.items + 1 ≡ level_of plan.now task) }
     ensures few { IfOk result (λ deadlines. vec_len deadlines ≤ most_tasks) }
 {
-    let mut deadlines = Vec::with_capacity(alloc, plan.tasks() as usize).map_err(|_| Memory)?;
+    let mut deadlines = Vec::with_capacity(alloc, plan.tasks() as usize)?;
     for t in (0..plan.tasks()).rev() {
         let deadline = plan.deadline(TaskId(t));
         if !deadlines.contains(&deadline) {
@@ -35,7 +35,7 @@ pub(crate) fn levels_of(alloc: Global, plan: &Plan) -> Result<Vec<u32>, Memory>
     ensures { IfOk result (λ levels. levels.items ≡ map (level_of plan.now) plan.now.tasks) }
 {
     let deadlines = distinct_deadlines(alloc, plan)?;
-    let mut levels = Vec::with_capacity(alloc, plan.tasks() as usize).map_err(|_| Memory)?;
+    let mut levels = Vec::with_capacity(alloc, plan.tasks() as usize)?;
     for t in 0..plan.tasks() {
         levels.push_reserved(level_among(&deadlines, plan.deadline(TaskId(t))));
     }

@@ -1,11 +1,10 @@
-//! How a plan uses one resource.
-ghost use Rattle.std.specs.Prelude.{◌≡◌, ◌==◌, ◌<◌, ◌≤◌, ◌^◌, ◌&&◌, filter, length, map, not, IfOk};
-ghost use Rattle.std.specs.List.{All, find, list_any, range_with_len};
-ghost use Rattle.std.specs.Option.{option_copied};
+//! How a plan uses each of its resources, told by its tasks.
+ghost use Rattle.std.specs.Prelude.{◌≡◌, ◌==◌, ◌<◌, ◌≤◌, ◌^◌, ◌&&◌, filter, length, map, IfOk};
+ghost use Rattle.std.specs.List.{All, range_with_len};
 ghost use Rattle.msrp_plan.specs.Levels.{greatest, top};
 ghost use Rattle.msrp_plan.specs.Limits.{most_cores, most_resources};
 ghost use Rattle.msrp_levels.specs.Footprints.{footprint_of, locks_in, footprint_at};
-ghost use Rattle.msrp_levels.specs.Usage.{is_used_among, is_global_among, section_among, spin_among, core_use, IsUsage, IsShort};
+ghost use Rattle.msrp_levels.specs.Usage.{is_used_among, section_among, spin_among, core_use, AreUsages, IsUsage, IsShort};
 
 use crate::footprints::Footprint;
 use msrp_plan::{CoreId, Memory, Plan, ResId, TaskId};
@@ -24,7 +23,6 @@ pub(crate) struct CoreUse {
 #[derive(Drop)]
 pub(crate) struct Usage {
     pub(crate) users: Vec<TaskId>,
-    pub(crate) global: bool,
     /// The highest level of a user, 0 where there is none.
     pub(crate) ceiling: u32,
     /// By core.
@@ -42,39 +40,10 @@ fn users_of(alloc: Global, tasks: &[Footprint], res: ResId) -> Result<Vec<TaskId
     let mut users = Vec::new(alloc);
     for (t, task) in tasks.iter().enumerate() {
         if task.locks(res) {
-            users.push(TaskId(t as u32)).map_err(|_| Memory)?;
+            users.push(TaskId(t as u32))?;
         }
     }
     Ok(users)
-}
-
-// The first user of a resource.
-fn first_user(tasks: &[Footprint], res: ResId) -> Option<&Footprint>
-    requires { res.0 < most_resources }
-    ensures { option_copied result ≡ find (locks_in res.0) tasks.now }
-{
-    tasks.iter().find(|task| task.locks(res))
-}
-
-// Whether a task of another core uses a resource.
-fn is_used_elsewhere(tasks: &[Footprint], res: ResId, core: CoreId) -> bool
-    requires { res.0 < most_resources }
-    ensures { result ≡ list_any (λ f. locks_in res.0 f && not (core.0 == f.core.0)) tasks.now }
-{
-    tasks
-        .iter()
-        .any(|task| task.locks(res) && core != task.core)
-}
-
-// Whether tasks of two cores use a resource.
-fn is_global(tasks: &[Footprint], res: ResId) -> bool
-    requires { res.0 < most_resources }
-    ensures { result ≡ is_global_among tasks.now res.0 }
-{
-    match first_user(tasks, res) {
-        Some(first) => is_used_elsewhere(tasks, res, first.core),
-        None => false,
-    }
 }
 
 // The highest level of the tasks that use a resource.
@@ -109,7 +78,7 @@ pub(crate) fn tops_of(alloc: Global, plan: &Plan, tasks: &[Footprint]) -> Result
     requires { tasks.now ≡ map (footprint_of plan.now) plan.now.tasks }
     ensures { IfOk result (λ tops. tops.items ≡ map (top plan.now) (range_with_len 0 plan.now.cores)) }
 {
-    let mut tops = Vec::with_capacity(alloc, plan.cores() as usize).map_err(|_| Memory)?;
+    let mut tops = Vec::with_capacity(alloc, plan.cores() as usize)?;
     for c in 0..plan.cores() {
         tops.push_reserved(top_of(tasks, CoreId(c)));
     }
@@ -161,7 +130,7 @@ fn core_uses(
     requires { res.0 < most_resources }
     ensures { IfOk result (λ uses. uses.items ≡ map (core_use tasks.now res.0) (range_with_len 0 cores)) }
 {
-    let mut uses = Vec::with_capacity(alloc, cores as usize).map_err(|_| Memory)?;
+    let mut uses = Vec::with_capacity(alloc, cores as usize)?;
     for c in 0..cores {
         uses.push_reserved(core_use(tasks, res, CoreId(c)));
     }
@@ -184,13 +153,13 @@ fn spin_among(cores: &[CoreUse], core: CoreId) -> u32
     spin
 }
 
-// The same for each core.
+// How often a job of each core does.
 fn spins_among(alloc: Global, cores: &[CoreUse]) -> Result<Vec<u32>, Memory>
     requires few { length cores.now ≤ most_cores }
     requires short { All IsShort cores.now }
     ensures { IfOk result (λ spins. spins.items ≡ map (spin_among cores.now) (range_with_len 0 (length cores.now))) }
 {
-    let mut spins = Vec::with_capacity(alloc, cores.len()).map_err(|_| Memory)?;
+    let mut spins = Vec::with_capacity(alloc, cores.len())?;
     for c in 0..cores.len() {
         spins.push_reserved(spin_among(cores, CoreId(c as u32)));
     }
@@ -213,10 +182,25 @@ impl Usage {
         let spins = spins_among(alloc, &cores)?;
         Ok(Usage {
             users: users_of(alloc, tasks, res)?,
-            global: is_global(tasks, res),
             ceiling: ceiling_of(tasks, res),
             cores,
             spins,
         })
     }
+}
+
+/// How a plan uses each of its resources, told by its tasks.
+pub(crate) fn usages_of(
+    alloc: Global,
+    plan: &Plan,
+    tasks: &[Footprint],
+) -> Result<Vec<Usage>, Memory>
+    requires { tasks.now ≡ map (footprint_of plan.now) plan.now.tasks }
+    ensures { IfOk result (λ usages. AreUsages plan.now (length plan.now.resources) usages.items) }
+{
+    let mut usages = Vec::with_capacity(alloc, plan.resources() as usize)?;
+    for r in 0..plan.resources() {
+        usages.push_reserved(Usage::of(alloc, plan, tasks, ResId(r))?);
+    }
+    Ok(usages)
 }

@@ -199,10 +199,14 @@ impl PlanBuilder {
     pub fn finish(self) -> Result<Plan, (PlanBuilder, PlanFault)>
         ensures { result ≡ finished (finish_fault self) self }
     {
-        if let Some(fault) = self.finish_fault() {
+        let globals = self.globals();
+        if let Some(fault) = self.finish_fault(&globals) {
             return Err((self, fault));
         }
-        Ok(Plan { parts: self.parts })
+        Ok(Plan {
+            parts: self.parts,
+            globals,
+        })
     }
 
     /// The number of a resource, by its name.
@@ -381,12 +385,12 @@ impl PlanBuilder {
     }
 
     // Whether some task does.
-    fn nests_globals(&self) -> bool
+    fn nests_globals(&self, globals: &[bool; MOST_RESOURCES]) -> bool
+        requires { AreGlobals self.now globals.now }
         ensures { result ≡ list_any (λ task. nests_global self.now task.units) self.now.tasks }
     {
-        let globals = self.globals();
         for task in 0..self.parts.tasks.len() {
-            if self.nests_global(task, &globals) {
+            if self.nests_global(task, globals) {
                 return true;
             }
         }
@@ -416,12 +420,13 @@ impl PlanBuilder {
     }
 
     // Why the plan may not end as it is.
-    fn finish_fault(&self) -> Option<PlanFault>
+    fn finish_fault(&self, globals: &[bool; MOST_RESOURCES]) -> Option<PlanFault>
+        requires { AreGlobals self.now globals.now }
         ensures { result ≡ finish_fault self.now }
     {
         if let Some(fault) = self.end_fault() {
             Some(fault)
-        } else if self.nests_globals() {
+        } else if self.nests_globals(globals) {
             Some(PlanFault::NestedGlobal)
         } else if self.all_jobs() > MOST_JOBS {
             Some(PlanFault::Jobs)

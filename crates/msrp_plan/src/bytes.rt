@@ -4,7 +4,7 @@
 //! reader of records, can ask afterwards whether it was a read that failed, and a caller that writes many
 //! texts can write them all and ask once at the end.
 
-ghost use Rattle.std.specs.Prelude.{◌≡◌, ◌++◌, ◌+◌, ◌≤◌, ◌<◌, ◌||◌, nat_lt, true, false, ◌↔◌, Some, None, IfOk, IfErr, OnOk, OnErr, IsErr, IsOk, Ok, length, take};
+ghost use Rattle.std.specs.Prelude.{◌≡◌, ◌++◌, ◌+◌, ◌≤◌, ◌<◌, ◌||◌, nat_lt, true, false, ◌↔◌, Some, None, IfOk, IfErr, OnOk, OnErr, IsErr, IsOk, Ok, codes, decimal, length, take};
 ghost use Rattle.std.specs.Io.{ReadsAtMost};
 ghost use Rattle.std.specs.Io.KnownBytes.{Appends, ReadConsumes};
 ghost use Rattle.std.specs.IoError.{error_kind};
@@ -12,6 +12,7 @@ ghost use Rattle.msrp_plan.specs.Limits.{most_bytes};
 ghost use Rattle.msrp_plan.specs.Bytes.{sink_failed, sink_inner, source_failed, source_ended, source_inner, source_given, source_calls, source_remaining, is_open, is_spent, AppendsPrefix, Wrote};
 
 use crate::faults::WriteFault;
+use itoa::Buffer;
 use std::io;
 use std::io::{ErrorKind, Read, Write};
 
@@ -201,6 +202,22 @@ impl<W: Write> Sink<W> {
         ensures { Wrote W.contents self.old self.new text.now }
     {
         let _ = self.put(text);
+    }
+
+    /// Adds a field that is not the first of its record.
+    pub fn field(&mut self, text: &[u8])
+        ensures { Wrote W.contents self.old self.new (codes "," ++ text.now) }
+    {
+        self.add(b",");
+        self.add(text);
+    }
+
+    /// Adds a number that is not the first field of its record.
+    pub fn number(&mut self, number: u64)
+        ensures { Wrote W.contents self.old self.new (codes "," ++ decimal number) }
+    {
+        let mut digits = Buffer::new();
+        self.field(digits.format(number).as_bytes());
     }
 
     /// How the writes went.

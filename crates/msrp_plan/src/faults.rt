@@ -4,42 +4,60 @@ ghost use Rattle.msrp_plan.specs.Codes.{code_of};
 ghost use Rattle.msrp_plan.specs.declared.faults.PlanFault.TheVariants as codes;
 
 use std::alloc::{AllocError, AllocFailed};
+use std::fmt;
+use thiserror::Error;
 
 /// Why a plan is refused. Each refusal has a code, which the program prints.
-#[derive(Clone, Copy, Debug, PartialEq, Eq)]
+#[derive(Clone, Copy, Debug, Error, PartialEq, Eq)]
 pub enum PlanFault {
     /// P1: the first record is not the version, or there is none.
+    #[error("P1: the first record is not the version")]
     Version,
     /// P2: a record is unknown or out of place, or the end comes too early.
+    #[error("P2: a record is unknown, out of place or missing")]
     OutOfPlace,
     /// P3: a record has too few or too many fields.
+    #[error("P3: a record has too few or too many fields")]
     FieldCount,
     /// P4: a field that has to be a number is none.
+    #[error("P4: a field is no number")]
     Number,
     /// P5: a name that is declared is no name.
+    #[error("P5: a field is no name")]
     Name,
     /// P6: a task, or a resource, of that name stands already.
+    #[error("P6: a name stands already")]
     Taken,
     /// P7: a number is out of its range, or there is one resource, task, unit, release or held resource too many.
+    #[error("P7: a limit of plans is passed")]
     Limit,
     /// P8: a resource that was not declared.
+    #[error("P8: a resource was not declared")]
     Undeclared,
     /// P9: a core's number that is not below the number of cores.
+    #[error("P9: a core is not below the number of cores")]
     Core,
     /// P10: a lock of a resource that the task holds, an unlock of one that is not the innermost it holds,
     /// or a resource that is still held at the task's end.
+    #[error("P10: locks and unlocks do not nest")]
     Nesting,
     /// P11: a global resource is locked while a global one is held.
+    #[error("P11: a global resource is locked while a global one is held")]
     NestedGlobal,
     /// P12: a task ends without a unit.
+    #[error("P12: a task has no unit")]
     NoUnit,
     /// P13: more jobs than the limit.
+    #[error("P13: there are more jobs than the limit")]
     Jobs,
     /// P14: the ticks of a release list do not rise, or there is none.
+    #[error("P14: the ticks of a release list do not rise, or there is none")]
     Releases,
     /// P15: a read failed.
+    #[error("P15: a read failed")]
     Read,
     /// P16: memory was refused.
+    #[error("P16: memory was refused")]
     Memory,
 }
 
@@ -86,11 +104,25 @@ impl PlanFault {
 }
 
 /// Memory was refused.
-#[derive(Clone, Copy, Debug, PartialEq, Eq)]
+#[derive(Clone, Copy, Debug, Error, PartialEq, Eq)]
+#[error("memory was refused")]
 pub struct Memory;
 
+impl From<AllocError> for Memory {
+    fn from(_refused: AllocError) -> Memory {
+        Memory
+    }
+}
+
+impl<T: Drop> From<AllocFailed<T>> for Memory {
+    fn from(_refused: AllocFailed<T>) -> Memory {
+        Memory
+    }
+}
+
 /// A write failed.
-#[derive(Clone, Copy, Debug, PartialEq, Eq)]
+#[derive(Clone, Copy, Debug, Error, PartialEq, Eq)]
+#[error("a write failed")]
 pub struct WriteFault;
 
 /// The rules of a legal run, in the order in which a row is judged.
@@ -110,6 +142,20 @@ pub enum Rule {
     A6,
     /// The trace goes on after each core had each of its turns.
     A7,
+}
+
+impl fmt::Display for Rule {
+    fn fmt<W: fmt::Write>(&self, f: &mut fmt::Formatter<W>) -> fmt::Result {
+        f.write_str(match self {
+            Rule::A1 => "A1: it is not the core's turn",
+            Rule::A2 => "A2: the job is none of the core's",
+            Rule::A3 => "A3: another job is to run",
+            Rule::A4 => "A4: another action is due",
+            Rule::A5 => "A5: the queue answers otherwise",
+            Rule::A6 => "A6: the trace ends too early",
+            Rule::A7 => "A7: the trace goes on too long",
+        })
+    }
 }
 
 /// The first row that breaks a rule, counted from 1, with the lowest rule that it breaks.

@@ -5,12 +5,14 @@ ghost use Rattle.std.specs.List.{range_with_len};
 ghost use Rattle.std.specs.Option.{option_map};
 ghost use Rattle.msrp_plan.specs.Plan.{task_at, release, release_tick, key};
 ghost use Rattle.msrp_plan.specs.Jobs.{job_at, jobs_of};
+ghost use Rattle.msrp_plan.specs.Levels.{is_global};
 ghost use Rattle.msrp_plan.specs.Limits.{longest_time};
 ghost use Rattle.msrp_plan.specs.Names.{name_position};
 ghost use Rattle.msrp_plan.specs.Times.{HasRelease, times_told};
 ghost use Rattle.msrp_plan.specs.WellFormed.{IsPlan, IsTask};
 
 use crate::ids::{CoreId, JobId, JobKey, ResId, TaskId};
+use crate::limits::MOST_RESOURCES;
 use crate::parts::Parts;
 use crate::tasks::Task;
 use crate::times::Times;
@@ -21,6 +23,7 @@ use std::marker::Model;
 #[derive(Debug, Drop)]
 pub struct Plan {
     pub(crate) parts: Parts,
+    pub(crate) globals: [bool; MOST_RESOURCES],
 }
 
 impl Model for Plan {
@@ -110,6 +113,14 @@ impl Plan {
         ensures { option_map (λ res. res.0) result ≡ name_position self.now.resources name.now }
     {
         self.parts.res_of(name)
+    }
+
+    /// Whether tasks of two cores use a resource.
+    pub fn is_global(&self, res: ResId) -> bool
+        requires { res.0 < length self.now.resources }
+        ensures { result ≡ is_global self.now res.0 }
+    {
+        self.globals[res.0 as usize]
     }
 
     /// The core that a task belongs to.

@@ -42,6 +42,57 @@ pub struct Row {
     ghost carrier: { may_carry kind ahead ≡ true },
 }
 
+impl Row {
+    ghost use Rattle.msrp_plan.specs.Aheads.{HasReply, without_ahead};
+
+    /// The row, as it is in another tick.
+    #[inline(always)]
+    pub fn in_tick(self, tick: u32) -> Row
+        ensures { result ≡ record self { tick = tick } }
+    {
+        Row {
+            tick,
+            core: self.core,
+            kind: self.kind,
+            job: self.job,
+            res: self.res,
+            ahead: self.ahead,
+        }
+    }
+
+    /// The row with another answer: the kind that tells it, and how many stand ahead.
+    #[inline(always)]
+    pub fn with_reply(self, kind: Kind, ahead: Option<u32>) -> Row
+        requires shape { has_shape kind self.job self.res ≡ true }
+        requires carrier { may_carry kind ahead ≡ true }
+        ensures { HasReply kind ahead self result }
+    {
+        Row {
+            tick: self.tick,
+            core: self.core,
+            kind,
+            job: self.job,
+            res: self.res,
+            ahead,
+        }
+    }
+
+    /// The row, without how many stand ahead.
+    #[inline(always)]
+    pub fn without_ahead(self) -> Row
+        ensures { result ≡ without_ahead self }
+    {
+        Row {
+            tick: self.tick,
+            core: self.core,
+            kind: self.kind,
+            job: self.job,
+            res: self.res,
+            ahead: None,
+        }
+    }
+}
+
 /// The versions of plan text and trace text.
 #[derive(Clone, Copy, Debug, PartialEq, Eq)]
 pub enum TextVersion {

@@ -1,16 +1,16 @@
 -- Plain lines and the rules of comma-separated fields.
 use Rattle.std.proofs.Common.{subst, ◌<◌, length, slice_index, arith, ◌≡◌, ◌==◌, ◌++◌, ◌∷◌, ◌∙◌, [], ℕ, List, Bool, Option, Some, None, refl, sym, ap, true, false, not, append_assoc, append-nil, inl, inr}
 use Rattle.std.specs.Prelude.{option_map}
-use Rattle.std.specs.Io.KnownBytes.{Consumes, Keeps, prepend_known}
+use Rattle.std.specs.Io.KnownBytes.{Consumes, IsAtEnd, Keeps, prepend_known}
 use Rattle.std.specs.List.{list_any}
 use Rattle.std.proofs.lemmas.Bool.{and_from, and_parts, cases_Bool, eqb-true, not-true, or_parts}
 use Rattle.std.proofs.lemmas.List.Folds.{list_any-append, list_any_at}
 use Rattle.csv.specs.Machine.{next_record}
-use Rattle.csv.specs.Reading.{default_config, strip_bom}
+use Rattle.csv.specs.Reading.{default_config, records_from, strip_bom}
 use Rattle.csv.specs.declared.parser.State.{State}
 use Rattle.csv.specs.declared.parser.State.TheVariants as st
 use Rattle.msrp_text.specs.Plain.{EndsLine, is_mark, is_plain, split_commas, split_from}
-use Rattle.msrp_text.specs.Records.{GivesLine, KeepsRecords, csv_records, records_at, records_of}
+use Rattle.msrp_text.specs.Records.{GivesLine, HasNone, KeepsRecords, csv_records, records_at, records_of}
 use Rattle.msrp_text.proofs.Remaining.{records-unfold}
 
 -- a byte that is no quote starts a field as it goes on in one
@@ -233,3 +233,13 @@ csv-begun (Some rest) ahead =
 pub csv-fresh : (known : Option (List ℕ)) → option_map csv_records known ≡ option_map (records_of false) known
 csv-fresh None = refl
 csv-fresh (Some bytes) = ap (λ (rs : List (List (List ℕ))). Some rs) (csv-start bytes)
+
+-- where no byte is left there is no record
+no-bytes : (begun : Bool) → records_of begun [] ≡ []
+unfolding records_at records_from next_record strip_bom
+no-bytes true = refl
+no-bytes false = refl
+
+pub none-more : (begun : Bool) (ahead : List ℕ) (known : Option (List ℕ)) → ahead ≡ [] → IsAtEnd known → HasNone (option_map (records_of begun) (prepend_known ahead known))
+none-more begun ahead None e h left is = cc is
+none-more begun ahead (Some bytes) e h left is = let here : records_of begun (ahead ++ bytes) ≡ left = cc in sym here ∙ rw (e, h) (no-bytes begun)

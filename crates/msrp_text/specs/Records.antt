@@ -103,3 +103,7 @@ GivesLine old fields new = (left : List (List (List ℕ))) → old ≡ Some left
 -- the records that were left, where those are known, are left still
 abbrev pub KeepsRecords : Option (List (List (List ℕ))) → Option (List (List (List ℕ))) → Type 0
 KeepsRecords old new = (left : List (List (List ℕ))) → old ≡ Some left → new ≡ Some left
+
+-- no record was left, where those that were are known
+abbrev pub HasNone : Option (List (List (List ℕ))) → Type 0
+HasNone known = (left : List (List (List ℕ))) → known ≡ Some left → left ≡ []

@@ -36,7 +36,7 @@ pub(crate) struct Lines<R> {
 
 impl<R: Read> Lines<R> {
     ghost use Rattle.msrp_text.specs.Ahead.{buffered, has_failed, lines_ahead, unread};
-    ghost use Rattle.msrp_text.specs.Records.{GivesLine, KeepsRecords, csv_left, records_ahead};
+    ghost use Rattle.msrp_text.specs.Records.{GivesLine, HasNone, KeepsRecords, csv_left, records_ahead};
 
     /// The bytes that a reader has left.
     pub(crate) fn new(source: R) -> Lines<R>
@@ -136,6 +136,17 @@ impl<R: Read> Lines<R> {
                 false
             }
         }
+    }
+
+    /// Whether no byte is left. More is read ahead where that has to be known. Where a read ahead failed there is no end.
+    pub(crate) fn is_at_end(&mut self) -> bool
+        ensures same { KeepsRecords (records_ahead R.remaining self.old) (records_ahead R.remaining self.new) }
+        ensures none { result ≡ true → HasNone (records_ahead R.remaining self.new) }
+    {
+        if self.at < self.end {
+            return false;
+        }
+        !self.fetch() && self.failed.is_none()
     }
 
     /// The records that are left, read by `csv`.

@@ -6,7 +6,7 @@ ghost use Rattle.msrp_text.specs.declared.front.TheConstants.{LONGEST};
 ghost use Rattle.msrp_text.specs.declared.lines.TheConstants.{ROOM};
 ghost use Rattle.std.specs.Io.KnownBytes.{Keeps};
 ghost use Rattle.msrp_text.specs.Plain.{BeginsWith, EndsLine, IsPeeked, NoLine, is_plain, split_commas};
-ghost use Rattle.msrp_text.specs.Records.{GivesLine, GivesNext, KeepsRecords, bytes_ahead, bytes_left, csv_records, is_csv, left_at, read_failed, reader_under, reads_csv, records_left, stop_at, stop_of};
+ghost use Rattle.msrp_text.specs.Records.{GivesLine, GivesNext, HasNone, KeepsRecords, bytes_ahead, bytes_left, csv_records, is_csv, left_at, read_failed, reader_under, reads_csv, records_left, stop_at, stop_of};
 
 use crate::csv_records::CsvRecords;
 use crate::front::{LONGEST, PlainLine, line_met};
@@ -171,7 +171,22 @@ impl<R: Read> RecordReader<R> {
         }
     }
 
-    /// The next record into `row`, and whether there was one. A plain line that was read ahead is no reason to turn to `csv`.
+    // Whether no record is left, where that is known without `csv`. Where it is, no read has failed.
+    fn is_at_end(&mut self) -> bool
+        ensures same { KeepsRecords (records_left R.remaining self.old) (records_left R.remaining self.new) }
+        ensures none { result ≡ true → HasNone (records_left R.remaining self.new) }
+        ensures stop { stop_of self.new ≡ stop_of self.old }
+        ensures goes { result ≡ true → stop_of self.new ≡ None }
+        ensures way { reads_csv self.new ≡ reads_csv self.old }
+    {
+        match &mut self.way {
+            Way::Lines(lines) => lines.is_at_end(),
+            Way::Csv(_) => false,
+        }
+    }
+
+    /// The next record into `row`, and whether there was one. A plain line that was read ahead is no reason to turn to `csv`, nor is
+    /// the end of the text.
     pub fn read(&mut self, row: &mut ByteRecord) -> Result<bool, Stopped>
         ensures next { IfOk result (λ found. (left : List (List (List ℕ))) → records_left R.remaining self.old ≡ Some left → GivesNext left found (fields_of row.new) (records_left R.remaining self.new)) }
         ensures goes { OnOk result (stop_of self.new ≡ None) }
@@ -184,6 +199,7 @@ impl<R: Read> RecordReader<R> {
                 self.take_line(line.taken);
                 Ok(true)
             }
+            Ok(None) if self.is_at_end() => Ok(false),
             Ok(None) => {
                 self.turn();
                 self.read_csv(row)

@@ -2,6 +2,7 @@ pub mod Names
 pub mod Fields
 pub mod Telling
 pub mod Gathered
+pub mod Shown
 pub mod Records
 pub mod NamedRows
 pub mod ReadBack

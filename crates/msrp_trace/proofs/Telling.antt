@@ -6,6 +6,7 @@ use Rattle.std.specs.Option.{option_and_then}
 use Rattle.msrp_plan.specs.Plan.{PlanModel}
 use Rattle.msrp_plan.specs.declared.rows.Row.{Row}
 use Rattle.msrp_plan.specs.declared.rows.TextVersion.{TextVersion}
+use Rattle.msrp_text.specs.Records.{KeepsRecords}
 use Rattle.msrp_trace.specs.Reading.{Told, is_row, refusal_at, rows_of, told_after, told_by, version_of}
 use Rattle.msrp_trace.specs.Readers.{GivesFirst, GivesFirstOr, GivesNext, IsDue, Opens, left_at, nothing_left, stage_after, told_left}
 use Rattle.msrp_trace.specs.RowParts.{ReadsAt}
@@ -94,6 +95,12 @@ left_rows {A = A} f stage o told s h = by_left o (sym (ap (λ t. left_at t (opti
 
 pub rows_left : {A : Type 0} (f : A → Told) (stage : Stage) (o : Option A) (left : A) → stage ≡ Rows → o ≡ Some left → left_at stage (option_map f o) ≡ Some (f left)
 rows_left f stage o left s h = ap (λ t. left_at t (option_map f o)) s ∙ ap (option_map f) h
+
+-- records that are left still tell the same
+pub keeps_told : (f : List (List (List ℕ)) → Told) (stage : Stage) (old new : Option (List (List (List ℕ)))) (told : Told) → stage ≡ Rows → KeepsRecords old new → left_at stage (option_map f old) ≡ Some told → left_at stage (option_map f new) ≡ Some told
+keeps_told f stage old new told s keeps h =
+    let left = left_rows f stage old told s h in
+    rows_left f stage new left.0 s (keeps left.0 left.1) ∙ ap (λ (t : Told). Some t) (sym left.2)
 
 pub gives_next : (told : Told) (answer : Result (Option Row) TraceError) (stage : Stage) (o : Option Told) → stage ≡ Rows → IsDue answer (GivesFirstOr told.rows told.refusal answer (left_at stage o)) → GivesNext told answer (left_at (stage_after answer) o)
 gives_next told answer stage o s (inl h) = inl h

@@ -9,3 +9,4 @@ pub mod Reading
 pub mod Laws
 pub mod Readers
 pub mod Foreseen
+pub mod Texts

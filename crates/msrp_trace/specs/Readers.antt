@@ -7,9 +7,11 @@ use Rattle.msrp_plan.specs.declared.rows.Row.{Row}
 use Rattle.msrp_plan.specs.declared.rows.TextVersion.{TextVersion}
 use Rattle.msrp_text.specs.Plain.{BeginsWith}
 use Rattle.msrp_text.specs.Records.{bytes_ahead, bytes_left, read_failed, reader_under, records_left}
+use Rattle.msrp_trace.specs.Gathering.{after_tick}
 use Rattle.msrp_trace.specs.Laws.{is_told_whole}
 use Rattle.msrp_trace.specs.Reading.{Told, rows_of, told_after, version_of}
 use Rattle.msrp_trace.specs.TraceText.{row_text}
+use Rattle.msrp_trace.specs.Texts.{TextsModel, text_of_core}
 use Rattle.msrp_trace.specs.declared.faults.TraceError.{TraceError}
 use Rattle.msrp_trace.specs.declared.faults.TraceError.TheVariants.{At, Read, Memory}
 use Rattle.msrp_trace.specs.declared.faults.TraceFault.TheVariants.{Head}
@@ -51,6 +53,10 @@ CanMeet t r = (line : List ℕ) × IsLineOf t r line × BeginsWith line (bytes_a
 -- its text comes next: the bytes that are left begin with it, where the reader underneath tells them
 abbrev pub ComesNext : {R : Type 0} → (R → Option (List ℕ)) → TraceReader R → Row → Type 0
 ComesNext remaining t r = (line : List ℕ) × (bytes : List ℕ) × IsLineOf t r line × (bytes_left (λ s. source_remaining remaining s.now) t.records ≡ Some bytes) × BeginsWith line bytes
+
+-- a reader of the same trace: of the same plan, and in the same version
+abbrev pub IsOfTrace : {R : Type 0} → TraceReader R → TraceReader R → Type 0
+IsOfTrace old new = (new.version ≡ old.version) × (new.plan.now ≡ old.plan.now)
 
 -- a read ahead has failed
 abbrev pub ahead_failed : {R : Type 0} → TraceReader R → Bool
@@ -94,3 +100,9 @@ GivesFirstOr [] (Some refusal) result after = result ≡ Err refusal
 
 abbrev pub GivesNext : Told → Result (Option Row) TraceError → Option Told → Type 0
 GivesNext told result after = IsDue result (GivesFirst told.rows told.refusal result after)
+
+-- in that tick the core's text is that of a row, which the reader gives as it is
+pub record IsTextOf {R : Type 0} (t : TraceReader R) (texts : TextsModel) (n core : ℕ) (r : Row) : Type 0 where
+  pub tick : r.tick ≡ n
+  pub whole : is_told_whole t.version t.plan.now r ≡ true
+  pub text : text_of_core texts core ≡ after_tick t.version t.plan.now r

@@ -12,6 +12,7 @@ ghost use Rattle.msrp_trace.specs.TraceText.{is_named};
 ghost use Rattle.msrp_trace.specs.declared.line.RowLine.{RowLine as Kept};
 
 use crate::line::RowLine;
+use crate::texts::rest_of;
 use crate::tick::Tick;
 use crate::writing::{is_named, show_line};
 use msrp_plan::limits::MOST_CORES;
@@ -144,6 +145,15 @@ impl Foreseen {
         }
     }
 
+    /// Turns to a tick.
+    #[inline(always)]
+    pub(crate) fn to_tick(&mut self, tick: u32)
+        ensures texts { (version : TextVersion) (plan : PlanModel) → AreTexts version plan self.old → AreTexts version plan self.new }
+        ensures tick { self.new.tick.tick ≡ tick }
+    {
+        self.tick.show(tick);
+    }
+
     /// The row that the core had last, in the tick that is here.
     #[inline(always)]
     pub(crate) fn alike(&self, core: CoreId) -> Option<Row>
@@ -168,8 +178,6 @@ impl Foreseen {
     pub(crate) fn rest(&self, core: CoreId) -> &[u8]
         ensures { (d : Kept) (text : List ℕ) → (slice_index_or self.now.lines (core.0 % MOST_CORES) d).line ≡ text ++ codes "\n" → result.now ≡ text }
     {
-        let core = (core.0 % MOST_CORES) as usize;
-        let line = self.lines[core].text().as_bytes();
-        &line[..line.len().saturating_sub(1)]
+        rest_of(&self.lines, (core.0 % MOST_CORES) as usize)
     }
 }

@@ -16,8 +16,10 @@ use crate::faults::{TraceError, TraceFault};
 use crate::foreseen::{Foreseen, is_short, is_told_whole};
 use crate::guesses::Guesses;
 use crate::rows::{read_row, version_told};
+use crate::texts::{RowTexts, rest_of};
 use csv::ByteRecord;
 use msrp_plan::bytes::Source;
+use msrp_plan::limits::MOST_CORES;
 use msrp_plan::{CoreId, Plan, Row, TextVersion};
 use msrp_text::records::RecordReader;
 use std::alloc::Global;
@@ -125,7 +127,7 @@ fn numbered_row(
 }
 
 impl<'a, R: Read> TraceReader<'a, R> {
-    ghost use Rattle.msrp_trace.specs.Readers.{CanMeet, ComesNext, GivesFirstOr, GivesNext, IsDue, Opens, ahead_failed, has_failed, source_of, told_left};
+    ghost use Rattle.msrp_trace.specs.Readers.{CanMeet, ComesNext, GivesFirstOr, GivesNext, IsDue, IsOfTrace, IsTextOf, Opens, ahead_failed, has_failed, source_of, told_left};
 
     /// The rows of all that a source has left, for a trace of the plan. R1 is refused here.
     pub fn new(
@@ -167,6 +169,7 @@ impl<'a, R: Read> TraceReader<'a, R> {
         ensures going { has_failed self.old ≡ false → ¬ (result ≡ Err TraceError.Failed) }
         ensures read { result ≡ Err TraceError.Read → source_failed (source_of self.new) ≡ true }
         ensures memory { result ≡ Err TraceError.Memory → source_failed (source_of self.new) ≡ false }
+        ensures trace { IsOfTrace self.old self.new }
     {
         self.next_foreseen(|_core| None)
     }
@@ -181,6 +184,7 @@ impl<'a, R: Read> TraceReader<'a, R> {
         ensures going { result ≡ true → has_failed self.old ≡ false }
         ensures finds { CanMeet self.old row.now → result ≡ true }
         ensures comes { ComesNext R.remaining self.old row.now → (result ≡ true) ⊎ (ahead_failed self.new ≡ true) }
+        ensures trace { IsOfTrace self.old self.new }
     {
         let Some(next) = self.number.checked_add(1) else {
             return false;
@@ -208,6 +212,7 @@ impl<'a, R: Read> TraceReader<'a, R> {
         ensures stage { self.new.stage ≡ Stage.Rows }
         ensures finds { CanMeet self.old row.now → result ≡ true }
         ensures comes { ComesNext R.remaining self.old row.now → (result ≡ true) ⊎ (ahead_failed self.new ≡ true) }
+        ensures trace { IsOfTrace self.old self.new }
     {
         let (tick, rest) = (self.foreseen.tick(), self.foreseen.rest(row.core));
         if !self.records.meets(tick, rest) {
@@ -215,6 +220,51 @@ impl<'a, R: Read> TraceReader<'a, R> {
         }
         self.number = next;
         true
+    }
+
+    /// The version that the first record tells.
+    pub fn version(&self) -> TextVersion
+        ensures { result ≡ self.now.version }
+    {
+        self.version
+    }
+
+    /// Whether the next row is one of the core in that tick, with the text that is kept of it. The text is compared with the bytes that come
+    /// next, as [`TraceReader::meets`] compares the text of a row.
+    #[inline(always)]
+    pub fn comes(&mut self, tick: u32, texts: &RowTexts<'_>, core: CoreId) -> bool
+        ensures taken { result ≡ true → (row : Row) (told : Told) → IsTextOf self.old texts.now tick core.0 row → told_left R.remaining self.old ≡ Some told → GivesNext told (Ok (Some row)) (told_left R.remaining self.new) }
+        ensures kept { result ≡ false → (told : Told) → told_left R.remaining self.old ≡ Some told → told_left R.remaining self.new ≡ Some told }
+        ensures same { has_failed self.new ≡ has_failed self.old }
+        ensures going { result ≡ true → has_failed self.old ≡ false }
+        ensures trace { IsOfTrace self.old self.new }
+        ensures finds { (row : Row) → IsTextOf self.old texts.now tick core.0 row → CanMeet self.old row → result ≡ true }
+    {
+        let (Some(next_number), Stage::Rows) = (self.number.checked_add(1), self.stage) else {
+            return false;
+        };
+        // Read so that the plan is known to be an accepted one.
+        let _accepted = self.plan.tasks();
+        self.foreseen.to_tick(tick);
+        let core = (core.0 % MOST_CORES) as usize;
+        let (tick, rest) = (self.foreseen.tick(), rest_of(&texts.lines, core));
+        let met = self.records.meets(tick, rest);
+        if met {
+            self.number = next_number;
+        }
+        met
+    }
+
+    /// The core of the next row, if it is one of that tick, guessed from the bytes that were read ahead. Nothing rests on it: there may be
+    /// none, or another.
+    #[inline(always)]
+    pub fn core_in(&mut self, tick: u32) -> Option<CoreId>
+        ensures kept { (told : Told) → told_left R.remaining self.old ≡ Some told → told_left R.remaining self.new ≡ Some told }
+        ensures same { has_failed self.new ≡ has_failed self.old }
+        ensures trace { IsOfTrace self.old self.new }
+    {
+        self.foreseen.to_tick(tick);
+        self.core_ahead()
     }
 
     // The next row, where it is the last row of its core whose texts were made, in another tick. It is met as by `meets`;
@@ -225,6 +275,7 @@ impl<'a, R: Read> TraceReader<'a, R> {
         ensures kept { result ≡ None → (told : Told) → told_left R.remaining self.old ≡ Some told → told_left R.remaining self.new ≡ Some told }
         ensures same { has_failed self.new ≡ has_failed self.old }
         ensures going { ¬ (result ≡ None) → has_failed self.old ≡ false }
+        ensures trace { IsOfTrace self.old self.new }
     {
         let Some(next) = self.number.checked_add(1) else {
             return None;
@@ -260,6 +311,7 @@ impl<'a, R: Read> TraceReader<'a, R> {
         ensures going { has_failed self.old ≡ false → ¬ (result ≡ Err TraceError.Failed) }
         ensures read { result ≡ Err TraceError.Read → source_failed (source_of self.new) ≡ true }
         ensures memory { result ≡ Err TraceError.Memory → source_failed (source_of self.new) ≡ false }
+        ensures trace { IsOfTrace self.old self.new }
     {
         if let Some(row) = self.next_alike() {
             return Ok(Some(row));
@@ -293,6 +345,7 @@ impl<'a, R: Read> TraceReader<'a, R> {
         ensures going { has_failed self.old ≡ false → ¬ (result ≡ Err TraceError.Failed) }
         ensures read { result ≡ Err TraceError.Read → source_failed (source_of self.new) ≡ true }
         ensures memory { result ≡ Err TraceError.Memory → source_failed (source_of self.new) ≡ false }
+        ensures trace { IsOfTrace self.old self.new }
     {
         let answer = match self.stage {
             Stage::Rows => self.read_next(),
@@ -311,6 +364,7 @@ impl<'a, R: Read> TraceReader<'a, R> {
         ensures going { ¬ (result ≡ Err TraceError.Failed) }
         ensures read { result ≡ Err TraceError.Read → source_failed (source_of self.new) ≡ true }
         ensures memory { result ≡ Err TraceError.Memory → source_failed (source_of self.new) ≡ false }
+        ensures trace { IsOfTrace self.old self.new }
     {
         let Some(number) = self.number.checked_add(1) else {
             // A source gives far fewer bytes than so many records take.

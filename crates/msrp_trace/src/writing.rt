@@ -1,5 +1,5 @@
 //! Trace text, written.
-ghost use Rattle.std.specs.Prelude.{◌≡◌, ◌<◌, ◌++◌, [], decimal, length, slice_index_or, true, false, OnOk, OnErr};
+ghost use Rattle.std.specs.Prelude.{◌≡◌, ◌<◌, ◌++◌, [], decimal, length, slice_index_or, slice_set, true, false, OnOk, OnErr};
 ghost use Rattle.std.specs.List.{All, list_all};
 ghost use Rattle.msrp_plan.specs.Aheads.{carries_ahead};
 ghost use Rattle.msrp_plan.specs.Bytes.{Wrote, sink_failed};
@@ -7,14 +7,16 @@ ghost use Rattle.msrp_trace.specs.Gathering.{Gathers, after_tick};
 ghost use Rattle.msrp_trace.specs.Laws.{is_told_whole};
 ghost use Rattle.msrp_trace.specs.Lines.{IsLine, IsWhole};
 ghost use Rattle.msrp_trace.specs.declared.line.RowLine.{RowLine as Kept};
+ghost use Rattle.msrp_trace.specs.Texts.{text_of_core, texts_of};
 ghost use Rattle.msrp_trace.specs.TraceText.{head_text, is_named, is_res_of, is_task_of, row_text, trace_text};
 
 use crate::line::{Line, RowLine};
 use crate::page::Page;
+use crate::texts::RowTexts;
 use crate::tick::Tick;
 use msrp_plan::bytes::Sink;
 use msrp_plan::limits::MOST_CORES;
-use msrp_plan::{JobId, Plan, ResId, Row, TextVersion, Trace, WriteFault};
+use msrp_plan::{CoreId, JobId, Plan, ResId, Row, TextVersion, Trace, WriteFault};
 use std::array;
 use std::io::Write;
 use std::marker::Model;
@@ -57,6 +59,7 @@ pub(crate) fn show_line(
     requires before { All (IsLine version plan.now) lines.old }
     ensures after { All (IsLine version plan.now) lines.new }
     ensures text { (d : Kept) → (slice_index_or lines.new core d).line ≡ after_tick version plan.now row.now }
+    ensures texts { texts_of lines.new ≡ slice_set (texts_of lines.old) core (after_tick version plan.now row.now) }
     ensures whole { All (IsWhole version plan.now) lines.old → is_told_whole version plan.now row.now ≡ true → All (IsWhole version plan.now) lines.new }
 {
     lines[core].show(plan, version, row);
@@ -114,6 +117,23 @@ impl<'a> TraceWriter<'a> {
         self.tick.show(row.tick);
         show_line(&mut self.lines, core, plan, version, row);
         add_record(&mut self.page, out, &self.tick, &self.lines, core);
+    }
+
+    /// Writes the record of a core in a tick, by the text that is kept of its row.
+    #[inline(always)]
+    pub fn again<W: Write>(
+        &mut self,
+        out: &mut Sink<W>,
+        tick: u32,
+        texts: &RowTexts<'_>,
+        core: CoreId,
+    )
+        ensures text { Gathers W.contents self.old.text out.old self.new.text out.new (decimal tick ++ text_of_core texts.now core.0) }
+        ensures same { self.new ≡ record self.old { text = self.new.text } }
+    {
+        self.tick.show(tick);
+        let core = (core.0 % MOST_CORES) as usize;
+        add_record(&mut self.page, out, &self.tick, &texts.lines, core);
     }
 
     /// Writes what is still gathered, and tells how the writes went.

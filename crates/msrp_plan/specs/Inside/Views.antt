@@ -4,6 +4,7 @@ use Rattle.msrp_plan.specs.Plan.{PlanModel, task_at}
 use Rattle.msrp_plan.specs.Units.{held_after}
 use Rattle.msrp_plan.specs.WellFormed.{IsDraft, IsPlan, IsWhole}
 use Rattle.msrp_plan.specs.Building.{newest_units}
+use Rattle.msrp_plan.specs.Inside.Marks.{AreGlobals}
 use Rattle.msrp_plan.specs.Inside.Tasks.{task_view}
 use Rattle.msrp_plan.specs.declared.ids.ResId.{ResId}
 use Rattle.msrp_plan.specs.declared.parts.Parts.{Parts}
@@ -17,8 +18,9 @@ parts_view p = record { cores = p.cores; ticks = p.ticks; resources = map string
 abbrev pub plan_view : plan.Inside → PlanModel
 plan_view p = parts_view p.parts
 
+-- a plan is well formed, and its global resources are marked
 abbrev pub IsPlanView : plan.Inside → Type 0
-IsPlanView p = IsPlan (plan_view p)
+IsPlanView p = IsPlan (plan_view p) × AreGlobals (plan_view p) p.globals
 
 abbrev pub draft_view : draft.Inside → PlanModel
 draft_view b = parts_view b.parts

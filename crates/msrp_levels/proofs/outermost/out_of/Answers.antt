@@ -1,5 +1,5 @@
 use Rattle.std.proofs.Common.{◌≡◌, ◌+◌, ◌==◌, ℕ, cond, max, Some, ap, sym, subst, ◌∙◌, eq-eqb}
-use Rattle.msrp_plan.specs.Plan.{PlanModel, task_at}
+use Rattle.msrp_plan.specs.Plan.{task_at}
 use Rattle.msrp_plan.specs.Bounds.{wait_bound}
 use Rattle.msrp_plan.proofs.TaskUnits.PlanUnits.{units_lock}
 use Rattle.msrp_plan.proofs.Lists.Ranges.{not_equal}
@@ -21,7 +21,7 @@ loop-place-preserved c =
     let plan = c.args.plan.now in
     let task = task_at plan c.args.task.0 in
     let place = c.loop-place.place in
-    let wait = c.wait_of.ensures.value ∙ (ap (λ (p : PlanModel). wait_bound p c.core_of-core.result.0 (Some c.unit-unit.result)) c.requires.usages ∙ ap (λ k. wait_bound plan k (Some c.unit-unit.result)) c.core_of-core.ensures) in
+    let wait = c.wait_of.ensures.value ∙ ap (λ k. wait_bound plan k (Some c.unit-unit.result)) c.core_of-core.ensures in
     let rows : c.if-held-eq0.rows ≡ cond (c.loop-place.held == 0) 0 (c.loop-place.rows + 1) = elim c.if-held-eq0.branch [
       | then-held-eq0 w ↦ w.rows-is ∙ sym (ap (λ b. cond b 0 (c.loop-place.rows + 1)) (eq-eqb c.loop-place.held 0 w.if-held-eq0.true))
       | else-held-eq0 w ↦ w.rows-is ∙ sym (ap (λ b. cond b 0 (c.loop-place.rows + 1)) (not_equal c.loop-place.held 0 w.if-held-eq0.false))

@@ -1,16 +1,15 @@
-use Rattle.std.proofs.Common.{◌++◌, ◌∷◌, [], map, is_ok, if◌then◌else◌, ap, sym, ◌∙◌}
+use Rattle.std.proofs.Common.{◌∷◌, [], map, ap, sym, ◌∙◌}
 use Rattle.std.proofs.lemmas.List.{map-append}
 use Rattle.msrp_plan.specs.declared.ids.TaskId.{TaskId}
 use Rattle.msrp_levels.specs.Footprints.{locks_in, footprint_at}
 use Rattle.msrp_levels.proofs.Gathered.{gather_yes, gather_no}
 use Rattle.msrp_levels.proofs.usage.users_of.Goals as goal
-use Rattle.msrp_levels.proofs.usage.users_of.Goals.{then-locks+in_ok-map_err, else-locks}
+use Rattle.msrp_levels.proofs.usage.users_of.Goals.{then-locks+in_ok-push, else-locks}
 
 pub loop-t-preserved : goal.loop-t-preserved
 loop-t-preserved c = elim c.if-locks.branch [
-  | then-locks+in_ok-map_err w ↦
-      let ok = sym w.map_err.ensures.variant ∙ ap is_ok w.in_ok-map_err.was in
-      let pushed = ap (λ v. v.items) w.users-is ∙ (w.push.ensures.items ∙ ap (λ b. if b then c.loop-t.users.items ++ record { 0 = c.loop-t.t } ∷ [] else c.loop-t.users.items) ok) in
+  | then-locks+in_ok-push w ↦
+      let pushed = ap (λ v. v.items) w.users-is ∙ w.in_ok-push.ensures.items in
       gather_yes (λ t. locks_in c.args.res.0 (footprint_at c.args.tasks.now t)) c.loop-t.t (map (λ t. t.0) c.loop-t.users.items) _ (sym c.locks.ensures ∙ w.if-locks.true) c.loop-t.invariant
       (ap (map (λ (t : TaskId). t.0)) pushed ∙ map-append (λ (t : TaskId). t.0) c.loop-t.users.items (record { 0 = c.loop-t.t } ∷ []))
   | else-locks w ↦

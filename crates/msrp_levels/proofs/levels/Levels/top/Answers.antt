@@ -6,12 +6,12 @@ use Rattle.msrp_levels.proofs.levels.Levels.top.Goals as goal
 
 pub index-requires : goal.index-requires
 index-requires c =
-    let plan = c.self.inside.usages in
+    let plan = c.self.inside.plan.now in
     let within = rw (← c.self.view_is) at c.requires in
     let size = length-map-range_with_len (top plan) 0 plan.cores in
     omega (arith, within, size, ap length c.self.invariant.tops)
 
 pub returns : goal.returns
 returns c =
-    let plan = c.self.inside.usages in
+    let plan = c.self.inside.plan.now in
     rw (← c.self.view_is) (read_number (top plan) plan.cores c.self.inside.tops.items c.args.core.0 c.index.result.now (rw (← c.self.view_is) at c.requires) c.self.invariant.tops c.index.ensures)

@@ -5,11 +5,11 @@ use Rattle.std.proofs.lemmas.List.FromFn.{length-map-range_with_len}
 use Rattle.msrp_plan.specs.Plan.{PlanModel}
 use Rattle.msrp_plan.specs.Levels.{greatest}
 use Rattle.msrp_plan.specs.WellFormed.{IsPlan}
-use Rattle.msrp_levels.specs.Usage.{core_use, spin_among, is_global_among, IsShort}
+use Rattle.msrp_levels.specs.Usage.{core_use, spin_among, IsShort}
 use Rattle.msrp_levels.specs.Footprints.{footprint_of, footprint_at, locks_in}
 use Rattle.msrp_levels.specs.declared.footprints.Footprint.{Footprint}
 use Rattle.msrp_levels.specs.declared.usage.CoreUse.{CoreUse}
-use Rattle.msrp_levels.proofs.TaskUses.{footprints, core_uses, sections_short, ceiling_same, global_same, users_same, sections_same, spins_same}
+use Rattle.msrp_levels.proofs.TaskUses.{footprints, core_uses, sections_short, ceiling_same, users_same, sections_same, spins_same}
 use Rattle.msrp_levels.proofs.usage.Usage.of.Goals as goal
 
 -- the resource is one of 32
@@ -46,7 +46,6 @@ returns c =
     record {
       users = c.in_ok-users_of.ensures
           ∙ (ap (λ ts. filter (λ t. locks_in g (footprint_at ts t)) (range_with_len 0 (length ts))) c.requires.tasks ∙ users_same plan g (length (footprints plan)) l (length-map plan.tasks (footprint_of plan)));
-      global = c.is_global.ensures ∙ (ap (λ ts. is_global_among ts g) c.requires.tasks ∙ global_same plan g l);
       ceiling = c.ceiling_of.ensures ∙ (ap (λ ts. greatest (map (λ f. f.level) (filter (locks_in g) ts))) c.requires.tasks ∙ ceiling_same plan g l);
       cores = ap (map (λ (x : CoreUse). x.section)) cores ∙ sections_same plan g l;
       spins = c.in_ok-spins.ensures ∙ (ap (λ cs. map (spin_among cs) (range_with_len 0 (length cs))) (c.deref.ensures.value ∙ cores)

@@ -1,6 +1,6 @@
 use Rattle.std.proofs.Common.{arith}
 use Rattle.msrp_levels.proofs.Stored.{read_spin, spins_stored}
-use Rattle.msrp_levels.proofs.usages.Usages.spin_bound.Goals as goal
+use Rattle.msrp_levels.proofs.levels.Levels.spin_bound.Goals as goal
 
 pub index-requires : goal.index-requires
 index-requires c =

@@ -1,7 +1,7 @@
 use Rattle.std.proofs.Common.{◌≡◌, length}
 use Rattle.std.specs.Prelude.{vec_capacity}
 use Rattle.msrp_levels.specs.Usage.{AreUsages}
-use Rattle.msrp_levels.proofs.usages.usages_of.Given as goal
+use Rattle.msrp_levels.proofs.usage.usages_of.Given as goal
 
 abbrev pub invariant-loop-r : goal.invariant-loop-r
 invariant-loop-r l = record {

@@ -1,6 +1,6 @@
 use Rattle.std.proofs.Common.{◌∙◌}
 use Rattle.msrp_levels.proofs.Stored.{usages_more}
-use Rattle.msrp_levels.proofs.usages.usages_of.Goals as goal
+use Rattle.msrp_levels.proofs.usage.usages_of.Goals as goal
 
 pub loop-r-preserved : goal.loop-r-preserved
 loop-r-preserved c = record {

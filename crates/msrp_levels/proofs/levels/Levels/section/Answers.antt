@@ -1,6 +1,6 @@
 use Rattle.std.proofs.Common.{arith}
 use Rattle.msrp_levels.proofs.Stored.{cores_stored, read_section}
-use Rattle.msrp_levels.proofs.usages.Usages.section.Goals as goal
+use Rattle.msrp_levels.proofs.levels.Levels.section.Goals as goal
 
 pub index-requires : goal.index-requires
 index-requires c =

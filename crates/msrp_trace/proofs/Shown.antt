@@ -1,0 +1,14 @@
+-- The texts that are kept of the cores' rows.
+use Rattle.std.proofs.Common.{◌≡◌, ℕ, ◌%◌, List, [], None, subst, sym, ap, ◌∙◌, slice_index_or}
+use Rattle.std.proofs.Math.ListN.{get_or-map}
+use Rattle.msrp_trace.specs.Texts.{TextsModel, text_of_core, texts_of, texts_view}
+use Rattle.msrp_trace.specs.declared.line.RowLine.{RowLine}
+use Rattle.msrp_trace.specs.declared.texts.RowTexts.TheInside.{Inside}
+
+-- where nothing is kept
+abbrev pub no_line : RowLine
+no_line = record { row = None; line = []; job = record { job = None; text = [] } }
+
+-- the line of a core is its text
+pub line_text : (texts : TextsModel) (t : Inside) (core : ℕ) → texts_view t ≡ texts → (slice_index_or t.lines (core % 8) no_line).line ≡ text_of_core texts core
+line_text texts t core e = sym (get_or-map (λ (kept : RowLine). kept.line) t.lines (core % 8) no_line) ∙ ap (λ (w : TextsModel). text_of_core w core) e

@@ -1,0 +1,69 @@
+//! The texts of the cores' rows, kept as long as the cores do the same.
+ghost use Rattle.std.specs.Prelude.{◌≡◌, ◌<◌, ◌++◌, ◌%◌, ℕ, List, codes, length, slice_index_or, slice_set, true};
+ghost use Rattle.msrp_trace.specs.Gathering.{after_tick};
+ghost use Rattle.msrp_trace.specs.TraceText.{is_named};
+ghost use Rattle.msrp_trace.specs.declared.line.RowLine.{RowLine as Kept};
+
+use crate::line::RowLine;
+use crate::writing::show_line;
+use msrp_plan::limits::MOST_CORES;
+use msrp_plan::{Plan, Row, TextVersion};
+use std::array;
+use std::marker::Model;
+
+/// For each core the text of a row, but for its tick. As long as a core's rows differ in the tick alone they are written, and met,
+/// by the text that is here.
+#[derive(Drop)]
+pub struct RowTexts<'a> {
+    plan: &'a Plan,
+    version: TextVersion,
+    pub(crate) lines: [RowLine; MOST_CORES as usize],
+}
+
+impl<'a> Model for RowTexts<'a> {
+    ghost use Rattle.msrp_trace.specs.Texts.{TextsModel};
+
+    ghost Value = { TextsModel };
+
+    ghost use Rattle.msrp_trace.specs.Texts.{texts_view, AreTextsView};
+
+    ghost view = { texts_view };
+
+    ghost invariant = { AreTextsView };
+}
+
+// The text of a core, without the end of the line.
+#[inline(always)]
+pub(crate) fn rest_of(lines: &[RowLine], core: usize) -> &[u8]
+    requires { core < length lines.now }
+    ensures { (d : Kept) (text : List ℕ) → (slice_index_or lines.now core d).line ≡ text ++ codes "\n" → result.now ≡ text }
+{
+    let text = lines[core].text().as_bytes();
+    &text[..text.len().saturating_sub(1)]
+}
+
+impl<'a> RowTexts<'a> {
+    /// No row of any core yet.
+    pub fn new(plan: &'a Plan, version: TextVersion) -> RowTexts<'a>
+        ensures plan { result.plan ≡ plan.now }
+        ensures version { result.version ≡ version }
+    {
+        RowTexts {
+            plan,
+            version,
+            lines: array::from_fn(|_| RowLine::new()),
+        }
+    }
+
+    /// Makes the text of a row.
+    #[inline(always)]
+    pub fn show(&mut self, row: &Row)
+        requires { is_named self.old.plan row.now ≡ true }
+        ensures { self.new ≡ record self.old { texts = slice_set self.old.texts (row.now.core.0 % 8) (after_tick self.old.version self.old.plan row.now) } }
+    {
+        let core = (row.core.0 % MOST_CORES) as usize;
+        let plan = self.plan;
+        let version = self.version;
+        show_line(&mut self.lines, core, plan, version, row);
+    }
+}
