@@ -4,3 +4,4 @@ pub mod Steps
 pub mod Running
 pub mod Acting
 pub mod Turning
+mod Repeating

@@ -45,7 +45,7 @@ core_after mid new None tick r acts = ap (λ (j : Jobs). j.core) acts.same
 core_after mid new (Some job) tick r acts = acts.core
 
 -- ---- the row of a turn
-acts_job : (mid new : Jobs) (chosen : Option JobId) (tick : ℕ) (r : Row) → ActsFor mid new chosen tick r → r.job ≡ chosen
+pub acts_job : (mid new : Jobs) (chosen : Option JobId) (tick : ℕ) (r : Row) → ActsFor mid new chosen tick r → r.job ≡ chosen
 acts_job mid new None tick r acts = acts.row_job
 acts_job mid new (Some job) tick r acts = acts.row_job
 

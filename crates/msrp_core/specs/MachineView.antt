@@ -1,15 +1,37 @@
 -- What a clause sees of a machine, and what its fields keep.
-use Rattle.std.specs.Prelude.{map, ◌≤◌}
+use Rattle.std.specs.Prelude.{ℕ, List, [], ◌∷◌, ◌++◌, Some, false, map, ◌≡◌, ◌≤◌, ◌<◌, ◌+◌}
 use Rattle.std.specs.Option.{ForSome}
-use Rattle.msrp_plan.specs.Jobs.{jobs_on}
-use Rattle.msrp_core.specs.Machine.{MachineModel}
+use Rattle.msrp_plan.specs.Jobs.{jobs_on, is_queued}
+use Rattle.msrp_plan.specs.Runs.{IsCoreTurn}
+use Rattle.msrp_plan.specs.declared.rows.Row.{Row}
+use Rattle.msrp_ready.specs.Ready.{is_due}
+use Rattle.msrp_core.specs.Machine.{MachineModel, StandsAfter}
 use Rattle.msrp_core.specs.CoreJobs.{AreJobs, state_of}
+use Rattle.msrp_core.specs.Repeats.{CanRepeat}
 use Rattle.msrp_core.specs.declared.machines.Machine.TheInside.{Inside}
 
 abbrev pub machine_view : Inside → MachineModel
 machine_view m = record { plan = m.jobs.plan.now; core = m.jobs.core.0; tick = m.tick; phase = m.jobs.phase; states = map (state_of m.jobs) (jobs_on m.jobs.plan.now m.jobs.core.0) }
 
+-- the last row, which came after pre, stands again so often: nobody is released by then, and its job goes on, which wasn't queued
+pub record Repeats (m : Inside) : Type 0 where
+  pub pre : List Row
+  pub row : Row
+  pub stands : StandsAfter (machine_view m) (pre ++ row ∷ [])
+  pub turn : IsCoreTurn m.jobs.plan.now m.jobs.core.0 pre row
+  pub job : row.job ≡ m.job
+  pub can : CanRepeat m.jobs row.kind m.job m.again
+  pub ready : ForSome m.job (λ j. is_queued pre j ≡ false)
+  pub left : m.tick + m.again ≤ m.jobs.plan.now.ticks
+  pub since : ℕ
+  pub released : m.jobs.ready.tick ≡ Some since
+  pub before : since < m.tick
+  pub quiet : (t : ℕ) → t < m.tick + m.again → is_due m.jobs.ready t ≡ false
+
 -- no job is released yet that comes in a later tick
 pub record IsMachineView (m : Inside) : Type 0 where
   pub jobs_fit : AreJobs m.jobs
   pub released : ForSome m.jobs.ready.tick (λ before. before ≤ m.tick)
+  pub log : List Row
+  pub stands : StandsAfter (machine_view m) log
+  pub repeats : 0 < m.again → Repeats m

@@ -19,7 +19,7 @@ use crate::port::{Port, Reply};
 use msrp_plan::{CoreId, JobId, Kind, Op, Phase, ResId, Row};
 
 // A row of a job.
-fn row_on(core: CoreId, tick: u32, kind: Kind, job: JobId, res: Option<ResId>) -> Row
+pub(crate) fn row_on(core: CoreId, tick: u32, kind: Kind, job: JobId, res: Option<ResId>) -> Row
     requires { has_shape kind (Some job) res ≡ true }
     ensures tick { result.tick ≡ tick }
     ensures core { result.core ≡ core }
@@ -39,7 +39,7 @@ fn row_on(core: CoreId, tick: u32, kind: Kind, job: JobId, res: Option<ResId>) -
 }
 
 // The row of a turn that nobody has.
-fn idle_row(core: CoreId, tick: u32) -> Row
+pub(crate) fn idle_row(core: CoreId, tick: u32) -> Row
     ensures tick { result.tick ≡ tick }
     ensures core { result.core ≡ core }
     ensures kind { result.kind ≡ Kind.Idle }

@@ -147,7 +147,7 @@ impl<'a> Jobs<'a> {
     }
 
     // How many units the newest job has done.
-    fn progress(&self) -> u32
+    pub(crate) fn progress(&self) -> u32
         requires { 0 < length self.now.done.items }
         ensures { (s : Going) (below : List Going) → going_in self.now ≡ s ∷ below → result ≡ s.done }
     {

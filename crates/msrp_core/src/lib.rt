@@ -8,6 +8,7 @@ mod actions;
 mod jobs;
 mod machines;
 mod port;
+mod repeats;
 mod states;
 
 pub use machines::Machine;

@@ -13,7 +13,7 @@ use crate::jobs::Jobs;
 use crate::port::Port;
 use crate::states::CoreState;
 use msrp_levels::Levels;
-use msrp_plan::{CoreId, Memory, Phase, Plan, Row};
+use msrp_plan::{CoreId, JobId, Memory, Phase, Plan, Row};
 use std::alloc::Global;
 use std::marker::Model;
 
@@ -27,6 +27,9 @@ use std::marker::Model;
 pub struct Machine<'a> {
     tick: u32,
     jobs: Jobs<'a>,
+    // How often the row of the last turn stands again, and of which job it is.
+    again: u32,
+    job: Option<JobId>,
 }
 
 impl<'a> Model for Machine<'a> {
@@ -58,7 +61,12 @@ impl<'a> Machine<'a> {
         ensures stands { IfOk result (λ machine. StandsAfter machine []) }
     {
         let jobs = Jobs::with_room(alloc, plan, levels, core)?;
-        Ok(Machine { tick: 0, jobs })
+        Ok(Machine {
+            tick: 0,
+            jobs,
+            again: 0,
+            job: None,
+        })
     }
 
     /// The tick of the next turn, which is how many turns the core has had.
@@ -104,6 +112,54 @@ impl<'a> Machine<'a> {
         }
     }
 
+    /// The core's next turn, where it is known from the last one that its row stands again: the job has work next, or the
+    /// core idles, and no job of the core is released. That takes no choice and no call of a port. Elsewhere it is none, and
+    /// nothing changes.
+    #[inline(always)]
+    pub fn repeat(&mut self) -> Option<Row>
+        ensures none { IfNone result (self.new ≡ self.old) }
+        ensures plan { self.new.plan ≡ self.old.plan }
+        ensures core { self.new.core ≡ self.old.core }
+        ensures phase { self.new.phase ≡ self.old.phase }
+        ensures tick { IfSome result (λ _. self.new.tick ≡ self.old.tick + 1) }
+        ensures res { IfSome result (λ row. row.res ≡ None) }
+        ensures row { IfSome result (λ row. (log : List TraceRow) → StandsAfter self.old log → IsCoreTurn self.old.plan self.old.core log row) }
+        ensures stands { IfSome result (λ row. (log : List TraceRow) → StandsAfter self.old log → StandsAfter self.new (log ++ row ∷ [])) }
+    {
+        if self.again == 0 {
+            return None;
+        }
+        self.again -= 1;
+        let tick = self.tick;
+        self.tick = tick + 1;
+        Some(self.jobs.act_again(tick, self.job))
+    }
+
+    // A turn that is chosen anew: then it is known how often its row stands again.
+    #[inline(always)]
+    fn turn_anew<P: Port>(&mut self, port: &mut P) -> Row
+        requires tick { self.old.tick < self.old.plan.ticks }
+        requires claim { claim_in self.old.core (P.port port.old).calls ≡ self.old.phase }
+        requires room { 0 < (P.port port.old).rooms self.old.core }
+        requires resources { (P.port port.old).resources ≡ length self.old.plan.resources }
+        ensures plan { self.new.plan ≡ self.old.plan }
+        ensures core { self.new.core ≡ self.old.core }
+        ensures tick { self.new.tick ≡ self.old.tick + 1 }
+        ensures row { (log : List TraceRow) → StandsAfter self.old log → IsCoreTurn self.old.plan self.old.core log result }
+        ensures stands { (log : List TraceRow) → StandsAfter self.old log → StandsAfter self.new (log ++ result ∷ []) }
+        ensures call { (res : Resource) → result.res ≡ Some res → is_global self.old.plan res.0 ≡ true → MakesCall self.old.plan result (P.port port.old) (P.port port.new) }
+        ensures quiet { IsQuiet self.old.plan result → port.new ≡ port.old }
+        ensures claim { claim_in self.new.core (P.port port.new).calls ≡ self.new.phase }
+    {
+        let tick = self.tick;
+        self.tick += 1;
+        let chosen = self.jobs.choose(tick);
+        let row = self.jobs.act_chosen(port, tick, chosen);
+        self.job = row.job;
+        self.again = self.jobs.repeats(self.tick, row.kind, row.job);
+        row
+    }
+
     /// The core's next turn: the job that has it does its next action, or the core idles. A turn on a global resource
     /// makes one call of the port, and any other makes none. It never fails, and takes no memory. Whatever log the
     /// machine stands after, the row is the next one of that log.
@@ -124,9 +180,9 @@ impl<'a> Machine<'a> {
         ensures quiet { IsQuiet self.old.plan result → port.new ≡ port.old }
         ensures claim { claim_in self.new.core (P.port port.new).calls ≡ self.new.phase }
     {
-        let tick = self.tick;
-        self.tick += 1;
-        let chosen = self.jobs.choose(tick);
-        self.jobs.act_chosen(port, tick, chosen)
+        match self.repeat() {
+            Some(row) => row,
+            None => self.turn_anew(port),
+        }
     }
 }

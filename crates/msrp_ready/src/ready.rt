@@ -1,5 +1,5 @@
 //! The ready jobs of a core.
-ghost use Rattle.std.specs.Prelude.{◌≡◌, ◌<◌, ◌≤◌, ◌+◌, ◌-◌, ◌*◌, ◌||◌, [], None, Some, IfOk};
+ghost use Rattle.std.specs.Prelude.{◌≡◌, ◌<◌, ◌≤◌, ◌+◌, ◌-◌, ◌*◌, ◌||◌, [], ℕ, None, Some, true, false, IfOk, IfNone, IfSome};
 ghost use Rattle.std.specs.Option.{ForSome};
 ghost use Rattle.msrp_plan.specs.Jobs.{is_job};
 ghost use Rattle.msrp_plan.specs.declared.ids.JobId.{JobId as Job};
@@ -80,6 +80,20 @@ impl<'a> Ready<'a> {
         ensures { result ≡ is_due self.now tick }
     {
         self.next < self.calendar.len() && self.calendar[self.next].key.release <= u64::from(tick)
+    }
+
+    /// The tick in which the next job of the core is released, if one is left. It compares no keys.
+    #[inline(always)]
+    pub fn next_release(&self) -> Option<u64>
+        ensures none { IfNone result ((tick : ℕ) → is_due self.now tick ≡ false) }
+        ensures due { IfSome result (λ next. is_due self.now next ≡ true) }
+        ensures first { IfSome result (λ next. (tick : ℕ) → tick < next → is_due self.now tick ≡ false) }
+    {
+        if self.next < self.calendar.len() {
+            Some(self.calendar[self.next].key.release)
+        } else {
+            None
+        }
     }
 
     /// The tick up to which jobs are released, none before the first.

@@ -111,12 +111,15 @@ fn turn_over<B: Before>(queues: &Queues, resources: u32, machine: &mut Machine<'
     }
 }
 
-// The machine's turn, where a global resource answers as its queue stands.
+// The machine's turn, where a global resource answers as its queue stands. A row that stands again needs no port.
 #[inline(always)]
 pub fn turn_by(queues: &Queues, resources: u32, machine: &mut Machine<'_>) -> Turned
     requires tick { machine.old.tick < machine.old.plan.ticks }
     requires resources { resources ≡ length machine.old.plan.resources }
     ensures { HasTurned queues.now machine.old machine.new result.row result.call }
 {
-    turn_over::<Brand>(queues, resources, machine)
+    match machine.repeat() {
+        Some(row) => Turned { row, call: None },
+        None => turn_over::<Brand>(queues, resources, machine),
+    }
 }

@@ -1,0 +1,25 @@
+-- A core whose last row stands again, as it is stored.
+use Rattle.std.specs.Prelude.{ℕ, Option, Some, None, length, ◌≡◌, ◌<◌, ◌+◌}
+use Rattle.msrp_plan.specs.Plan.{units}
+use Rattle.msrp_plan.specs.Stretches.{HasWork}
+use Rattle.msrp_plan.specs.declared.ids.JobId.{JobId}
+use Rattle.msrp_plan.specs.declared.rows.Kind.{Kind}
+use Rattle.msrp_plan.specs.declared.rows.Kind.TheVariants.{Idle, Run}
+use Rattle.msrp_core.specs.CoreJobs.{IsRunning}
+use Rattle.msrp_core.specs.declared.jobs.Jobs.{Jobs}
+
+-- the running job has so many units of work next, none of them its last unit
+pub record HasWorkLeft (jobs : Jobs) (job : JobId) (k : ℕ) : Type 0 where
+  pub running : IsRunning jobs job
+  pub work : HasWork jobs.plan.now job running.newest.done k
+  pub more : running.newest.done + k < length (units jobs.plan.now job)
+
+-- a row that repeats is one of work, or idle
+abbrev pub kind_again : Option JobId → Kind
+kind_again None = Idle
+kind_again (Some job) = Run
+
+-- a row of this kind and job may stand again, for its job's sake, k times
+abbrev pub CanRepeat : Jobs → Kind → Option JobId → ℕ → Type 0
+CanRepeat jobs kind None k = kind ≡ Idle
+CanRepeat jobs kind (Some job) k = (kind ≡ Run) × HasWorkLeft jobs job k

@@ -1,0 +1,101 @@
+//! Turns whose row is the last one again: the running job is in a run of work, or the core idles, and nobody is released.
+ghost use Rattle.std.specs.Prelude.{◌≡◌, ◌<◌, ◌≤◌, ◌+◌, ◌∷◌, ℕ, List, Some, None, false, length, vec_capacity};
+ghost use Rattle.std.specs.Option.{ForSome};
+ghost use Rattle.msrp_plan.specs.Plan.{units};
+ghost use Rattle.msrp_plan.specs.Stretches.{HasWork};
+ghost use Rattle.msrp_ready.specs.Ready.{is_due};
+ghost use Rattle.msrp_core.specs.Going.{Going, advanced};
+ghost use Rattle.msrp_core.specs.CoreJobs.{ActsFor, AreJobs, CanAct, Acts, IsRunning, going_in};
+ghost use Rattle.msrp_core.specs.Repeats.{CanRepeat, HasWorkLeft, kind_again};
+
+use crate::actions::{idle_row, row_on};
+use crate::jobs::Jobs;
+use msrp_plan::{JobId, Kind, Op, Row};
+
+impl<'a> Jobs<'a> {
+    // How many ticks from this one on pass before a job of the core is released, as far as is known.
+    fn quiet_ticks(&self, tick: u32) -> u32
+        ensures quiet { (t : ℕ) → 0 < result → t < tick + result → is_due self.now.ready t ≡ false }
+        ensures within { 0 < result → tick + result ≤ self.now.plan.now.ticks }
+    {
+        let ticks = self.plan.ticks();
+        let next = match self.ready.next_release() {
+            Some(next) if next < u64::from(ticks) => next as u32,
+            _ => ticks,
+        };
+        next.saturating_sub(tick)
+    }
+
+    // How many units of work the running job has next, of at most so many, none of them its last unit.
+    fn work_left(&self, job: JobId, most: u32) -> u32
+        requires jobs { AreJobs self.now }
+        requires running { IsRunning self.now job }
+        ensures most { result ≤ most }
+        ensures left { HasWorkLeft self.now job result }
+    {
+        let done = self.progress();
+        let left = self.plan.units(job.task) - done - 1;
+        self.plan.work(job.task, done, most.min(left))
+    }
+
+    /// How many turns more, from this tick on, the row of the last turn stands again, where it was of this kind and job.
+    pub(crate) fn repeats(&self, tick: u32, kind: Kind, job: Option<JobId>) -> u32
+        requires { AreJobs self.now }
+        ensures quiet { (t : ℕ) → 0 < result → t < tick + result → is_due self.now.ready t ≡ false }
+        ensures within { 0 < result → tick + result ≤ self.now.plan.now.ticks }
+        ensures can { 0 < result → CanRepeat self.now kind job result }
+    {
+        match (kind, job) {
+            (Kind::Idle, None) => self.quiet_ticks(tick),
+            (Kind::Run, Some(working)) if self.stack.top() == job => {
+                self.work_left(working, self.quiet_ticks(tick))
+            }
+            _ => 0,
+        }
+    }
+
+    // One unit more for the running job, not its last.
+    fn count(&mut self, job: JobId)
+        requires running { IsRunning self.old job }
+        requires jobs { AreJobs self.old }
+        requires more { (s : Going) (below : List Going) → going_in self.old ≡ s ∷ below → s.done + 1 < length (units self.old.plan.now job) }
+        ensures going { going_in self.new ≡ advanced self.old.plan.now (going_in self.old) }
+        ensures size { length self.new.stack.started ≡ length self.new.done.items }
+        ensures room { vec_capacity self.new.done ≡ vec_capacity self.old.done }
+        ensures stack { self.new.stack ≡ self.old.stack }
+        ensures others { self.new ≡ record self.old { stack = self.new.stack; done = self.new.done } }
+    {
+        if let Some(done) = self.done.pop() {
+            self.done.push_reserved(done + 1);
+        }
+    }
+
+    // A unit of work that isn't the last one of the running job.
+    fn work_on(&mut self, tick: u32, job: JobId) -> Row
+        requires can { CanAct self.old job Op.Run }
+        requires more { (s : Going) (below : List Going) → going_in self.old ≡ s ∷ below → s.done + 1 < length (units self.old.plan.now job) }
+        ensures acts { Acts self.old self.new job tick result }
+        ensures res { result.res ≡ None }
+        ensures kind { result.kind ≡ Kind.Run }
+        ensures left { (k : ℕ) → CanRepeat self.old Kind.Run (Some job) (k + 1) → CanRepeat self.new Kind.Run (Some job) k }
+    {
+        self.count(job);
+        row_on(self.core, tick, Kind::Run, job, None)
+    }
+
+    /// A turn whose row is the last one again.
+    #[inline(always)]
+    pub(crate) fn act_again(&mut self, tick: u32, job: Option<JobId>) -> Row
+        requires jobs { AreJobs self.old }
+        requires can { CanRepeat self.old (kind_again job) job 1 }
+        ensures acts { ActsFor self.old self.new job tick result }
+        ensures res { result.res ≡ None }
+        ensures kind { result.kind ≡ kind_again job }
+        ensures left { (k : ℕ) → CanRepeat self.old (kind_again job) job (k + 1) → CanRepeat self.new (kind_again job) job k }
+    {
+        match job {
+            None => idle_row(self.core, tick),
+            Some(job) => self.work_on(tick, job),
+        }
+    }
+}
