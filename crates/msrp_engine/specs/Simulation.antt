@@ -30,6 +30,22 @@ pub record WritesSomeRun {W : Type 0} (contents : W → Option (List ℕ)) (vers
   pub is_order : IsOrder plan (cores_of order plan)
   pub writes : WritesRun contents version plan (cores_of order plan) old new
 
+-- the text of some well-formed plan
+pub record IsSomeText (text_of : PlanModel → List ℕ) (text : List ℕ) : Type 0 where
+  pub plan : PlanModel
+  pub well_formed : IsPlan plan
+  pub text_is : text ≡ text_of plan
+
+-- the text of the plan that a text stands for; one that is refused has none
+abbrev pub IsTextOf : (PlanModel → List ℕ) → Result PlanModel TextError → List ℕ → Type 0
+IsTextOf text_of (Ok plan) text = text ≡ text_of plan
+IsTextOf text_of (Err error) text = ⊥
+
+-- why there is none
+abbrev pub WhyNoText : Result PlanModel TextError → CliFault → Type 0
+WhyNoText (Ok plan) fault = ⊥
+WhyNoText (Err error) fault = fault ≡ fault_of error
+
 -- the sink took such a text of some well-formed plan
 pub record WritesSomeText {W : Type 0} (contents : W → Option (List ℕ)) (text_of : PlanModel → List ℕ) (old new : Sink W) : Type 0 where
   pub plan : PlanModel

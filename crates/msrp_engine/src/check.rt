@@ -6,10 +6,11 @@ ghost use Rattle.msrp_plan.specs.WellFormed.{IsPlan};
 ghost use Rattle.msrp_text.specs.PlanText.{record_text};
 ghost use Rattle.msrp_text.specs.Reading.{csv_records, plan_of};
 ghost use Rattle.msrp_engine.specs.CheckText.{ceiling_record, check_text, level_record, told_each, top_record};
-ghost use Rattle.msrp_faults.specs.Outcomes.{is_sim_fault};
-ghost use Rattle.msrp_engine.specs.Simulation.{TextAnswers, WritesSomeText};
+ghost use Rattle.msrp_faults.specs.Outcomes.{is_plan_fault, is_sim_fault};
+ghost use Rattle.msrp_engine.specs.Simulation.{WhyNoText, IsSomeText, IsTextOf, TextAnswers, WritesSomeText};
 
 use crate::fields::{next_field, next_number};
+use crate::whole::write_whole;
 use msrp_faults::CliFault;
 use msrp_levels::Levels;
 use msrp_plan::bytes::{Sink, Source};
@@ -104,17 +105,29 @@ fn write_check<W: Write>(
 }
 
 // The text of a plan's levels and ceilings, in memory.
-fn gathered<'a>(alloc: Global, plan: &Plan, levels: &Levels<'a>) -> Result<Vec<u8>, CliFault>
-    requires { levels.now ≡ plan.now }
-    ensures plan { IsPlan plan.now }
+fn gathered(alloc: Global, plan: &Plan) -> Result<Vec<u8>, CliFault>
+    ensures plan { OnOk result (IsPlan plan.now) }
     ensures text { IfOk result (λ text. text.items ≡ check_text plan.now) }
     ensures memory { IfErr result (λ fault. fault ≡ CliFault.Memory) }
 {
+    let levels = Levels::of(alloc, plan)?;
     let mut text = Sink::new(Vec::new(alloc));
-    if write_check(&mut text, plan, levels).is_err() {
+    if write_check(&mut text, plan, &levels).is_err() {
         return Err(CliFault::Memory);
     }
     Ok(text.into_inner())
+}
+
+// That of the plan that a source's text stands for.
+fn text_of_source<P: Read>(alloc: Global, plan: &mut Source<P>) -> Result<Vec<u8>, CliFault>
+    ensures text { (bytes : List ℕ) → source_remaining P.remaining plan.old ≡ Some bytes → IfOk result (λ text. IsTextOf check_text (plan_of (csv_records bytes)) text.items) }
+    ensures refused { (bytes : List ℕ) → source_remaining P.remaining plan.old ≡ Some bytes → IfErr result (λ fault. (fault ≡ CliFault.Read) ⊎ (fault ≡ CliFault.Memory) ⊎ WhyNoText (plan_of (csv_records bytes)) fault) }
+    ensures some { IfOk result (λ text. IsSomeText check_text text.items) }
+    ensures faults { IfErr result (λ fault. is_plan_fault fault ≡ true) }
+    ensures read { (result ≡ Err CliFault.Read) ↔ (source_failed plan.new ≡ true) }
+{
+    let plan = read_plan(alloc, plan)?;
+    gathered(alloc, &plan)
 }
 
 /// Reads a plan, and writes its levels and ceilings: `level,NAME,N` for each task, `ceiling,NAME,local,N` or
@@ -141,10 +154,6 @@ pub fn check_text<P: Read, W: Write>(
     ensures write { result ≡ Err CliFault.Write → sink_failed out.new ≡ true }
     ensures silent { IfErr result (λ fault. (fault ≡ CliFault.Write) ⊎ (out.new ≡ out.old)) }
 {
-    let plan = read_plan(alloc, plan)?;
-    let levels = Levels::of(alloc, &plan)?;
-    let text = gathered(alloc, &plan, &levels)?;
-    out.add(text.as_slice());
-    out.outcome()?;
-    Ok(0)
+    let text = text_of_source(alloc, plan)?;
+    write_whole(out, text.as_slice())
 }

@@ -15,6 +15,7 @@ mod reading;
 mod report;
 mod run;
 mod sim;
+mod whole;
 
 pub use audit::{add_verdict, audit_text, judge_texts};
 pub use audit_parallel::audit_parallel_text;

@@ -5,9 +5,10 @@ ghost use Rattle.msrp_plan.specs.Bytes.{sink_failed, source_failed, source_remai
 ghost use Rattle.msrp_plan.specs.WellFormed.{IsPlan};
 ghost use Rattle.msrp_text.specs.PlanText.{plan_text};
 ghost use Rattle.msrp_text.specs.Reading.{csv_records, plan_of};
-ghost use Rattle.msrp_faults.specs.Outcomes.{is_sim_fault};
-ghost use Rattle.msrp_engine.specs.Simulation.{TextAnswers, WritesSomeText};
+ghost use Rattle.msrp_faults.specs.Outcomes.{is_plan_fault, is_sim_fault};
+ghost use Rattle.msrp_engine.specs.Simulation.{WhyNoText, IsSomeText, IsTextOf, TextAnswers, WritesSomeText};
 
+use crate::whole::write_whole;
 use msrp_faults::CliFault;
 use msrp_plan::Plan;
 use msrp_plan::bytes::{Sink, Source};
@@ -26,6 +27,18 @@ fn gathered(alloc: Global, plan: &Plan) -> Result<Vec<u8>, CliFault>
         return Err(CliFault::Memory);
     }
     Ok(text.into_inner())
+}
+
+// The own text of the plan that a source's text stands for, in memory.
+fn text_of_source<P: Read>(alloc: Global, plan: &mut Source<P>) -> Result<Vec<u8>, CliFault>
+    ensures text { (bytes : List ℕ) → source_remaining P.remaining plan.old ≡ Some bytes → IfOk result (λ text. IsTextOf plan_text (plan_of (csv_records bytes)) text.items) }
+    ensures refused { (bytes : List ℕ) → source_remaining P.remaining plan.old ≡ Some bytes → IfErr result (λ fault. (fault ≡ CliFault.Read) ⊎ (fault ≡ CliFault.Memory) ⊎ WhyNoText (plan_of (csv_records bytes)) fault) }
+    ensures some { IfOk result (λ text. IsSomeText plan_text text.items) }
+    ensures faults { IfErr result (λ fault. is_plan_fault fault ≡ true) }
+    ensures read { (result ≡ Err CliFault.Read) ↔ (source_failed plan.new ≡ true) }
+{
+    let plan = read_plan(alloc, plan)?;
+    gathered(alloc, &plan)
 }
 
 /// Reads a plan, and writes the plan's own text, which reads as the same plan. The whole plan is read before anything is
@@ -48,9 +61,6 @@ pub fn plan_text<P: Read, W: Write>(
     ensures write { result ≡ Err CliFault.Write → sink_failed out.new ≡ true }
     ensures silent { IfErr result (λ fault. (fault ≡ CliFault.Write) ⊎ (out.new ≡ out.old)) }
 {
-    let plan = read_plan(alloc, plan)?;
-    let text = gathered(alloc, &plan)?;
-    out.add(text.as_slice());
-    out.outcome()?;
-    Ok(0)
+    let text = text_of_source(alloc, plan)?;
+    write_whole(out, text.as_slice())
 }

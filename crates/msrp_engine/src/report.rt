@@ -1,5 +1,5 @@
 //! The report of a trace's text.
-ghost use Rattle.std.specs.Prelude.{◌≡◌, ◌⊎◌, ℕ, List, [], true, false, Some, Err, IfOk, IfErr, OnOk, length};
+ghost use Rattle.std.specs.Prelude.{◌≡◌, ◌⊎◌, ℕ, List, [], true, false, Some, Ok, Err, IfOk, IfErr, OnOk, length};
 ghost use Rattle.msrp_plan.specs.Bytes.{sink_failed, source_failed, source_remaining};
 ghost use Rattle.msrp_report.specs.Reports.{HasReported};
 ghost use Rattle.msrp_report.specs.ReportText.{report_text};
@@ -14,6 +14,7 @@ ghost use Rattle.msrp_engine.specs.Reports.{IsReportOf, ReportAnswers, Reports, 
 use crate::audit::write_verdict;
 use crate::made::Made;
 use crate::reading::ending_of;
+use crate::whole::write_whole;
 use msrp_faults::CliFault;
 use msrp_levels::Levels;
 use msrp_plan::bytes::{Sink, Source};
@@ -86,16 +87,20 @@ fn report_trace<T: Read>(
 }
 
 // The text of a report, in memory.
-fn gathered(alloc: Global, plan: &Plan, report: &Report) -> Result<Vec<u8>, CliFault>
+fn made_of(alloc: Global, plan: &Plan, report: &Report) -> Result<Made, CliFault>
     requires { length report.now.lines.items ≡ length plan.now.tasks }
-    ensures text { IfOk result (λ text. text.items ≡ report_text plan.now report.now.lines.items) }
+    ensures text { IfOk result (λ made. made.text.items ≡ report_text plan.now report.now.lines.items) }
+    ensures found { IfOk result (λ made. made.found ≡ Ok tt) }
     ensures memory { IfErr result (λ fault. fault ≡ CliFault.Memory) }
 {
     let mut text = Sink::new(Vec::new(alloc));
     if write_report(&mut text, plan, report).is_err() {
         return Err(CliFault::Memory);
     }
-    Ok(text.into_inner())
+    Ok(Made {
+        text: text.into_inner(),
+        found: Ok(()),
+    })
 }
 
 /// The text of the report of a trace of a plan, whoever made it; where the trace isn't a legal run, its first fault and no text.
@@ -121,10 +126,7 @@ pub fn report_of_texts<P: Read, T: Read>(
             text: Vec::new(alloc),
             found: Err(fault),
         }),
-        Ok(report) => Ok(Made {
-            text: gathered(alloc, &plan, &report)?,
-            found: Ok(()),
-        }),
+        Ok(report) => made_of(alloc, &plan, &report),
     }
 }
 
@@ -140,11 +142,7 @@ fn write_shown<W: Write>(
 {
     match found {
         Err(fault) => write_verdict(out, Err(fault)),
-        Ok(()) => {
-            out.add(text);
-            out.outcome()?;
-            Ok(0)
-        }
+        Ok(()) => write_whole(out, text),
     }
 }
 
