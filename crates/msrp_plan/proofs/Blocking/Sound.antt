@@ -68,7 +68,7 @@ asks_still : (plan : PlanModel) (pre : List Row) (r : Row) (j : JobId) → done 
 asks_still plan pre r j same old = record { res = old.res; unit = ap (slice_get (units plan j)) same ∙ old.unit; global = old.global }
 
 -- by whose row it is
-pub asks_cases : (plan : PlanModel) (pre : List Row) (r : Row) (j : JobId) (mine : Bool) → is_row_of j r ≡ mine → IsTurn plan pre r → (is_queued pre j ≡ true → IsAsking plan pre j) → is_queued (pre ++ r ∷ []) j ≡ true → IsAsking plan (pre ++ r ∷ []) j
+asks_cases : (plan : PlanModel) (pre : List Row) (r : Row) (j : JobId) (mine : Bool) → is_row_of j r ≡ mine → IsTurn plan pre r → (is_queued pre j ≡ true → IsAsking plan pre j) → is_queued (pre ++ r ∷ []) j ≡ true → IsAsking plan (pre ++ r ∷ []) j
 asks_cases plan pre r j true e turn old q =
     let job = is_job_is r.job j e in
     let s = state_moved pre r j job in

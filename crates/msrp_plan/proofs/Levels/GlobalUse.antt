@@ -1,11 +1,10 @@
 -- Which resources are global: those whose users are apart, and none that isn't declared; and their marks.
-use Rattle.std.proofs.Common.{◌≡◌, ℕ, zero, suc, ◌+◌, ◌<◌, ◌≤◌, ◌==◌, Bool, true, false, cond, not, ◌&&◌, ◌||◌, List, [], ◌∷◌, length, map, set, replicate, Some, None, refl, ap, sym, ◌∙◌, inl, inr, arith}
+use Rattle.std.proofs.Common.{◌≡◌, ℕ, zero, suc, ◌+◌, ◌<◌, ◌≤◌, ◌==◌, Bool, true, false, not, ◌&&◌, ◌||◌, List, [], ◌∷◌, length, map, set, replicate, Some, refl, ap, sym, ◌∙◌, inl, inr, arith}
 use Rattle.std.specs.declared.alloc.Global.{Global}
 use Rattle.std.specs.declared.string.String.{String}
-use Rattle.std.specs.List.{AllByRecursion, find, list_any, slice_get}
+use Rattle.std.specs.List.{list_any, slice_get}
 use Rattle.std.specs.Map.{values_of}
-use Rattle.std.proofs.lemmas.Bool.{cases_Bool, cases_eq, cases_lt, or_parts, and_parts, and_from, and_left, eqb-true, true≢false, false_from_ne_true}
-use Rattle.std.proofs.lemmas.Bool.Decides.{nat_tests}
+use Rattle.std.proofs.lemmas.Bool.{cases_Bool, cases_eq, cases_lt, and_parts, eqb-true, true≢false, false_from_ne_true}
 use Rattle.std.proofs.lemmas.List.{length-set, length-replicate, get_or-set_same, get_or-set_other}
 use Rattle.std.proofs.lemmas.Option.{none-some, same_Some, slice_get_within, get_or_from_slice_get}
 use Rattle.msrp_plan.specs.Plan.{PlanModel, TaskModel, task_at, no_task}
@@ -18,19 +17,8 @@ use Rattle.msrp_plan.specs.declared.ids.ResId.{ResId}
 use Rattle.msrp_plan.specs.declared.tasks.Task.{Task}
 use Rattle.msrp_plan.specs.declared.units.Op.{Op}
 use Rattle.msrp_plan.specs.declared.units.Op.TheVariants.{Run, Lock, Unlock}
-use Rattle.msrp_plan.proofs.Lists.AnyAll.{all_weaker}
 
 module _ {X : Type 0} (p : X → Bool) where
-  -- where no element passes, each fails
-  each_fails : (xs : List X) → list_any p xs ≡ false → AllByRecursion (λ x. p x ≡ false) xs
-  each_fails [] e = tt
-  each_fails (x ∷ xs) e = let parts = or_parts (p x) (list_any p xs) e in (parts.0, each_fails xs parts.1)
-
-  -- and the other way round
-  none_passes : (xs : List X) → AllByRecursion (λ x. p x ≡ false) xs → list_any p xs ≡ false
-  none_passes [] all = refl
-  none_passes (x ∷ xs) all = ap (λ b. b || list_any p xs) all.0 ∙ none_passes xs all.1
-
   -- the place of an element that passes
   pub passing_place : (xs : List X) → list_any p xs ≡ true → (n : ℕ) × (x : X) × (slice_get xs n ≡ Some x) × (p x ≡ true)
   passing_place [] e = absurd (true≢false (sym e))
@@ -45,59 +33,11 @@ module _ {X : Type 0} (p : X → Bool) where
   passes_there (y ∷ xs) zero x at hit = ap (λ b. b || list_any p xs) (ap p (same_Some y x at) ∙ hit)
   passes_there (y ∷ xs) (suc n) x at hit = let rest = passes_there xs n x at hit in grind arith
 
-  -- what is found passes, and has a place
-  found_place : (xs : List X) (x : X) → find p xs ≡ Some x → (n : ℕ) × (slice_get xs n ≡ Some x) × (p x ≡ true)
-  found_place [] x e = absurd (none-some x e)
-  found_place (y ∷ xs) x e = elim (cases_Bool (p y)) [
-    | inl hit ↦ let same : Some y ≡ Some x = sym (ap (λ b. cond b (Some y) (find p xs)) hit) ∙ e in (zero, same, sym (ap p (same_Some y x same)) ∙ hit)
-    | inr miss ↦ let rest = found_place xs x (sym (ap (λ b. cond b (Some y) (find p xs)) miss) ∙ e) in (suc rest.0, rest.1, rest.2)
-  ]
-
-  -- where nothing is found, none passes
-  not_found : (xs : List X) → find p xs ≡ None → list_any p xs ≡ false
-  not_found [] e = refl
-  not_found (y ∷ xs) e = elim (cases_Bool (p y)) [
-    | inl hit ↦ absurd (none-some y (sym e ∙ ap (λ b. cond b (Some y) (find p xs)) hit))
-    | inr miss ↦ ap (λ b. b || list_any p xs) miss ∙ not_found xs (sym (ap (λ b. cond b (Some y) (find p xs)) miss) ∙ e)
-  ]
-
--- ---- whether two elements that pass are apart, by the first that passes
+-- ---- whether two elements that pass are apart
 module _ {X : Type 0} (p : X → Bool) (place : X → ℕ) where
   -- both pass, and they are apart
   abbrev pub apart : X → X → Bool
   apart a b = p a && (p b && not (place a == place b))
-
-  -- it passes, and is apart from one
-  abbrev apart_from : ℕ → X → Bool
-  apart_from c b = p b && not (c == place b)
-
-  -- two that are not apart from a third are not apart
-  not_apart : (c : ℕ) (a b : X) → apart_from c a ≡ false → apart_from c b ≡ false → apart a b ≡ false
-  not_apart c a b ha hb = grind (arith, nat_tests)
-
-  -- one that is apart from a third that passes
-  apart_there : (f b : X) → p f ≡ true → apart_from (place f) b ≡ true → apart f b ≡ true
-  apart_there f b hf hb = and_from (p f) (apart_from (place f) b) hf hb
-
-  pub by_first : (xs : List X) (f : X) → find p xs ≡ Some f → list_any (λ a. list_any (apart a) xs) xs ≡ list_any (apart_from (place f)) xs
-  by_first xs f e = elim (cases_Bool (list_any (apart_from (place f)) xs)) [
-    | inl hit ↦
-        let first = found_place p xs f e in
-        let other = passing_place (apart_from (place f)) xs hit in
-        let inner : list_any (apart f) xs ≡ true = passes_there (apart f) xs other.0 other.1 other.2 (apart_there f other.1 first.2 other.3) in
-        passes_there (λ a. list_any (apart a) xs) xs first.0 f first.1 inner ∙ sym hit
-    | inr miss ↦
-        let each = each_fails (apart_from (place f)) xs miss in
-        none_passes (λ a. list_any (apart a) xs) xs
-        (all_weaker (λ a. apart_from (place f) a ≡ false) (λ a. list_any (apart a) xs ≡ false)
-        (λ a ha. none_passes (apart a) xs (all_weaker (λ b. apart_from (place f) b ≡ false) (λ b. apart a b ≡ false) (λ b hb. not_apart (place f) a b ha hb) xs each)) xs each)
-        ∙ sym miss
-  ]
-
-  pub by_none : (xs : List X) → find p xs ≡ None → list_any (λ a. list_any (apart a) xs) xs ≡ false
-  by_none xs e = none_passes (λ a. list_any (apart a) xs) xs
-      (all_weaker (λ a. p a ≡ false) (λ a. list_any (apart a) xs ≡ false)
-      (λ a ha. none_passes (apart a) xs (all_weaker (λ b. p b ≡ false) (λ b. apart a b ≡ false) (λ b hb. and_left (p a) (p b && not (place a == place b)) ha) xs (each_fails p xs (not_found p xs e)))) xs (each_fails p xs (not_found p xs e)))
 
 -- a test of some task, as it is stored
 any_stored : (p : TaskModel → Bool) (q : Task → Bool) → ((e : String Global × Task) → p (task_view e) ≡ q e.1) → (es : List (String Global × Task)) → list_any p (map task_view es) ≡ list_any q (values_of es)

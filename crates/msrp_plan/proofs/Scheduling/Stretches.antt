@@ -39,7 +39,7 @@ use Rattle.msrp_plan.proofs.Choosing.Turns.{IsNew, has_turn, runs_live, runs_lea
 use Rattle.msrp_plan.proofs.Legality.Locality.{SameStates, choice_same}
 use Rattle.msrp_plan.proofs.Legality.LegalRows.{IsTurn, turn_of}
 use Rattle.msrp_plan.proofs.Spinning.QueueWork.{chosen_none}
-use Rattle.msrp_plan.proofs.Blocking.Sound.{IsAsking, asks_cases, is_ready, head_ready, head_least, unstarted}
+use Rattle.msrp_plan.proofs.Blocking.Sound.{is_ready, head_ready, head_least, unstarted}
 use Rattle.msrp_plan.proofs.Scheduling.Conservation.{idle_job}
 
 -- ---- a tick in which nobody is released
@@ -118,9 +118,6 @@ spin_still : (plan : PlanModel) (c : ℕ) (pre : List Row) (r : Row) → IsCoreT
 spin_still plan c pre r h k j e =
     let q = spin_queued plan c pre r j h k e in
     spin_state j (is_started pre j) (is_queued pre j) (is_waiting r.kind) (done j pre) (done j pre + cond (not (is_waiting r.kind)) 1 0) (queued_started pre j q) q (ap is_waiting k) refl (state_after (pre ++ r ∷ []) j) (state_after pre j) (state_moved pre r j e) refl
-
-spin_chosen : (plan : PlanModel) (c : ℕ) (pre : List Row) (r : Row) → IsCoreTurn plan c pre r → r.kind ≡ Spin → choice plan c r.tick (pre ++ r ∷ []) ≡ r.job
-spin_chosen plan c pre r h k = still_chosen plan c pre r h (spin_still plan c pre r h k)
 
 -- ---- a row that works
 -- what the ceiling looks at
