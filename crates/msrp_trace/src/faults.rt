@@ -2,24 +2,34 @@
 ghost use Rattle.std.specs.Prelude.{◌≡◌};
 ghost use Rattle.msrp_trace.specs.Codes.{code_of};
 
+use thiserror::Error;
+
 /// Why a trace's text is refused. Each refusal has a code, which the program prints.
-#[derive(Clone, Copy, Debug, PartialEq, Eq)]
+#[derive(Clone, Copy, Debug, Error, PartialEq, Eq)]
 pub enum TraceFault {
     /// R1: the first record is not that of a trace of the plan, or there is none.
+    #[error("R1: the first record is not that of a trace of the plan")]
     Head,
     /// R2: a row has too few or too many fields.
+    #[error("R2: a row has too few or too many fields")]
     FieldCount,
     /// R3: a field that has to be a number is none.
+    #[error("R3: a field is no number")]
     Number,
     /// R4: the kind is none.
+    #[error("R4: the kind is none")]
     Kind,
     /// R5: the task or the resource is none of the plan.
+    #[error("R5: the task or the resource is none of the plan")]
     Name,
     /// R6: the row has not what a row of its kind has.
+    #[error("R6: the row has not what its kind has")]
     Shape,
     /// R7: a read failed.
+    #[error("R7: a read failed")]
     Read,
     /// R8: memory was refused.
+    #[error("R8: memory was refused")]
     Memory,
 }
 
@@ -42,14 +52,18 @@ impl TraceFault {
 }
 
 /// Why a reader of a trace gave no row.
-#[derive(Clone, Copy, Debug, PartialEq, Eq)]
+#[derive(Clone, Copy, Debug, Error, PartialEq, Eq)]
 pub enum TraceError {
     /// A record is refused, by its number, counted from 1.
+    #[error("record {number}: {fault}")]
     At { fault: TraceFault, number: u32 },
     /// A read of the source failed.
+    #[error("a read failed")]
     Read,
     /// Memory was refused.
+    #[error("memory was refused")]
     Memory,
     /// The reader has refused before.
+    #[error("the reader has refused before")]
     Failed,
 }
