@@ -12,13 +12,16 @@ use crate::reporter::Reporter;
 use msrp_levels::Levels;
 use msrp_plan::{Fault, Memory, Plan, Row, Trace};
 use std::alloc::Global;
+use thiserror::Error;
 
 /// Why there is no report.
-#[derive(Clone, Copy, Debug, PartialEq, Eq)]
+#[derive(Clone, Copy, Debug, Error, PartialEq, Eq)]
 pub enum ReportError {
     /// The trace isn't a legal run of the plan; the first row that breaks a rule.
+    #[error("G1: the trace is no legal run: row {} breaks {}", .0.row, .0.rule)]
     G1(Fault),
     /// Memory was refused.
+    #[error("G2: memory was refused")]
     G2,
 }
 

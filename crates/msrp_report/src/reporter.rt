@@ -46,7 +46,7 @@ impl<'a> Reporter<'a> {
             levels,
             auditor: Auditor::with_room(alloc, plan, levels)?,
             tallies: Tallies::with_room(alloc, plan)?,
-            lines: Vec::with_capacity(alloc, plan.tasks() as usize).map_err(|_| Memory)?,
+            lines: Vec::with_capacity(alloc, plan.tasks() as usize)?,
         })
     }
 

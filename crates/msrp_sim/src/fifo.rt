@@ -72,7 +72,7 @@ impl FifoPort {
             resources: plan.resources(),
             queues: Queues::new(),
             rooms: rooms_of(plan.cores(), plan.ticks()),
-            calls: Vec::with_capacity(alloc, room).map_err(|_| Memory)?,
+            calls: Vec::with_capacity(alloc, room)?,
         })
     }
 

@@ -110,7 +110,7 @@ fn machines_of<'a>(
     ensures { IfOk result (λ machines. AreNew plan.now plan.now.cores machines.items) }
 {
     let cores = plan.cores();
-    let mut machines = Vec::with_capacity(alloc, cores as usize).map_err(|_| Memory)?;
+    let mut machines = Vec::with_capacity(alloc, cores as usize)?;
     for core in 0..cores {
         machines.push_reserved(Machine::with_room(alloc, plan, levels, CoreId(core))?);
     }

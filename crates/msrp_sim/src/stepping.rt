@@ -10,8 +10,9 @@ use crate::machines::Cores;
 use crate::orders::{Order, TickPlace};
 use msrp_levels::Levels;
 use msrp_plan::{Memory, Plan, Row, Trace};
-use std::alloc::Global;
+use std::alloc::{AllocError, Global};
 use std::marker::Model;
+use thiserror::Error;
 
 /// A run of a plan on one thread: its cores have their turns in an order.
 #[derive(Drop)]
@@ -76,11 +77,13 @@ impl<'a> Simulation<'a> {
 }
 
 /// Why a plan was not simulated.
-#[derive(Clone, Copy, Debug, PartialEq, Eq)]
+#[derive(Clone, Copy, Debug, Error, PartialEq, Eq)]
 pub enum SimError {
     /// The list that gives the order doesn't name each core of the plan once in each tick. This is judged before memory.
+    #[error("S1: the list is no order of the cores")]
     S1,
     /// Memory was refused.
+    #[error("S2: memory was refused")]
     S2,
 }
 
@@ -90,6 +93,16 @@ impl From<Memory> for SimError {
     ghost from_gives = { λ _ error. error ≡ SimError.S2 };
 
     fn from(_error: Memory) -> SimError {
+        SimError::S2
+    }
+}
+
+impl From<AllocError> for SimError {
+    ghost use Rattle.msrp_sim.specs.declared.stepping.SimError.{SimError};
+
+    ghost from_gives = { λ _ error. error ≡ SimError.S2 };
+
+    fn from(_refused: AllocError) -> SimError {
         SimError::S2
     }
 }
@@ -122,7 +135,7 @@ pub fn simulate(alloc: Global, plan: &Plan, order: &Order) -> Result<Trace, SimE
     let levels = Levels::of(alloc, plan)?;
     let mut simulation = Simulation::with_room(alloc, plan, &levels, order)?;
     let size = plan.cores() * plan.ticks();
-    let mut rows = Vec::with_capacity(alloc, size as usize).map_err(|_| SimError::S2)?;
+    let mut rows = Vec::with_capacity(alloc, size as usize)?;
     turn_all(&mut simulation, size, &mut rows);
     Ok(Trace { rows })
 }

@@ -21,7 +21,7 @@ fn untold(alloc: Global, plan: &Plan, task: TaskId) -> Result<TaskTally, Memory>
     ensures { IfOk result (λ tally. IsTaskTally plan.now [] 0 task.0 tally) }
 {
     let count = plan.jobs(task);
-    let mut jobs = Vec::with_capacity(alloc, count as usize).map_err(|_| Memory)?;
+    let mut jobs = Vec::with_capacity(alloc, count as usize)?;
     for _ in 0..count {
         jobs.push_reserved(UNTOLD);
     }
@@ -38,7 +38,7 @@ impl Tallies {
     pub(crate) fn with_room(alloc: Global, plan: &Plan) -> Result<Tallies, Memory>
         ensures { IfOk result (HasTallied plan.now []) }
     {
-        let mut tasks = Vec::with_capacity(alloc, plan.tasks() as usize).map_err(|_| Memory)?;
+        let mut tasks = Vec::with_capacity(alloc, plan.tasks() as usize)?;
         for task in 0..plan.tasks() {
             tasks.push_reserved(untold(alloc, plan, TaskId(task))?);
         }

@@ -8,8 +8,8 @@ most cores ticks a b = let x = mul-le-mul_right ticks a in let y = mul-le-mul_le
 
 pub invariant_of-result : goal.invariant_of-result
 invariant_of-result c =
-    let empty : c.in_ok-map_err.field-0.items ≡ [] = search rules in
-    let exact : vec_capacity c.in_ok-map_err.field-0 ≡ c.cores.result * c.ticks.result = search rules in
+    let empty : c.in_ok-with_capacity.field-0.items ≡ [] = search rules in
+    let exact : vec_capacity c.in_ok-with_capacity.field-0 ≡ c.cores.result * c.ticks.result = search rules in
     let plan = c.cores.ensures.plan in
     let cores = c.cores.ensures.value in
     let ticks = c.ticks.ensures.value in
