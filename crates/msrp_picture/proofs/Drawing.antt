@@ -16,14 +16,14 @@ each-drawn plan rows broken w i (d ∷ ds) all =
     ap (λ cs. line_text plan i d.line cs ++ flat_map (drawn_text plan i) ds) all.0
     ∙ ap (λ t. line_text plan i d.line (cells plan rows broken w d.line) ++ t) (each-drawn plan rows broken w i ds all.1)
 
-part-drawn : (plan : PlanModel) (rows : List Row) (broken : Option Row) (w : Window) (drawn : List Drawn) (i : ℕ) → map line_of drawn ≡ lines_of plan → AllByRecursion (IsDrawn plan rows broken w) drawn
+part-drawn : (plan : PlanModel) (rows : List Row) (broken : Option Row) (w : Window) (drawn : List Drawn) (i : ℕ) → map line_of drawn ≡ lines_of plan rows broken w → AllByRecursion (IsDrawn plan rows broken w) drawn
     → codes "\n" ++ flat_map (drawn_text plan i) drawn ≡ part_text plan rows broken w i
 unfolding part_text
 part-drawn plan rows broken w drawn i lines all =
     ap (λ t. codes "\n" ++ t) (each-drawn plan rows broken w i drawn all ∙ ap (flat_map (λ line. line_text plan i line (cells plan rows broken w line))) lines)
 
 -- all parts
-pub parts-drawn : (plan : PlanModel) (rows : List Row) (broken : Option Row) (w : Window) (drawn : List Drawn) → map line_of drawn ≡ lines_of plan → AllByRecursion (IsDrawn plan rows broken w) drawn
+pub parts-drawn : (plan : PlanModel) (rows : List Row) (broken : Option Row) (w : Window) (drawn : List Drawn) → map line_of drawn ≡ lines_of plan rows broken w → AllByRecursion (IsDrawn plan rows broken w) drawn
     → (is : List ℕ) → flat_map (λ i. codes "\n" ++ flat_map (drawn_text plan i) drawn) is ≡ flat_map (part_text plan rows broken w) is
 parts-drawn plan rows broken w drawn lines all [] = refl
 parts-drawn plan rows broken w drawn lines all (i ∷ is) =

@@ -46,10 +46,12 @@ abbrev pub row_cell : Aspect → Row → ℕ
 row_cell Who r = job_cell r.job
 row_cell What r = sign r.kind
 
--- the same of the first row that breaks a rule, which is marked
-abbrev pub broken_cell : Aspect → Row → ℕ
-broken_cell Who r = job_cell r.job
-broken_cell What r = byte (codes "!")
+-- below the first row that breaks a rule, and below the rows before it
+abbrev pub mark : ℕ
+mark = byte (codes "!")
+
+abbrev pub no_mark : ℕ
+no_mark = byte (codes " ")
 
 -- ---- of a resource
 -- how many wait behind the first, by their number: a job of each core at most

@@ -1,24 +1,31 @@
 -- The lines of a picture: each has a label, and a cell for each tick that is drawn.
-use Rattle.std.specs.Prelude.{ℕ, List, [], ◌∷◌, ◌++◌, ◌&&◌, Option, Some, None, if◌then◌else◌, codes, decimal, filter, length, map, slice_index_or, ◌-◌, ◌%◌}
+use Rattle.std.specs.Prelude.{ℕ, List, [], ◌∷◌, ◌++◌, Bool, false, ◌&&◌, Option, Some, None, if◌then◌else◌, codes, decimal, filter, length, map, slice_index_or, ◌-◌, ◌%◌}
 use Rattle.std.specs.List.{flat_map, range_with_len}
 use Rattle.msrp_plan.specs.Levels.{is_global}
 use Rattle.msrp_plan.specs.Logs.{is_of, log_of}
 use Rattle.msrp_plan.specs.Plan.{PlanModel}
 use Rattle.msrp_plan.specs.declared.rows.Row.{Row}
-use Rattle.msrp_picture.specs.Cells.{broken_cell, row_cell, standing_cell, tick_cell}
+use Rattle.msrp_picture.specs.Cells.{mark, no_mark, row_cell, standing_cell, tick_cell}
 use Rattle.msrp_picture.specs.Shown.{goes_on_in}
 use Rattle.msrp_picture.specs.Standings.{standings}
 use Rattle.msrp_picture.specs.Windows.{rows_between}
 use Rattle.msrp_picture.specs.declared.cells.Aspect.{Aspect}
 use Rattle.msrp_picture.specs.declared.cells.Aspect.TheVariants.{Who, What}
 use Rattle.msrp_picture.specs.declared.lines.Line.{Line}
-use Rattle.msrp_picture.specs.declared.lines.Line.TheVariants.{Ticks, Core, Queue}
+use Rattle.msrp_picture.specs.declared.lines.Line.TheVariants.{Ticks, Core, Mark, Queue}
 use Rattle.msrp_picture.specs.declared.windows.TheConstants.{LINE_TICKS}
 use Rattle.msrp_picture.specs.declared.windows.Window.{Window}
 
 -- ---- which lines there are: the axis, then each core, then each global resource
-abbrev pub core_lines : ℕ → List Line
-core_lines c = Core (record { 0 = c }) Who ∷ Core (record { 0 = c }) What ∷ []
+-- the first row that breaks a rule is of this core, and is drawn
+abbrev pub is_marked : PlanModel → List Row → Option Row → Window → ℕ → Bool
+is_marked plan rows None w c = false
+is_marked plan rows (Some r) w c = is_of c r && goes_on_in plan rows w
+
+-- such a core has a line more for the mark
+abbrev pub core_lines : PlanModel → List Row → Option Row → Window → ℕ → List Line
+core_lines plan rows broken w c =
+    Core (record { 0 = c }) Who ∷ Core (record { 0 = c }) What ∷ (if is_marked plan rows broken w c then Mark (record { 0 = c }) ∷ [] else [])
 
 abbrev pub queue_lines : ℕ → List Line
 queue_lines g = Queue (record { 0 = g }) Who ∷ Queue (record { 0 = g }) What ∷ []
@@ -27,8 +34,8 @@ queue_lines g = Queue (record { 0 = g }) Who ∷ Queue (record { 0 = g }) What �
 abbrev pub global_resources : PlanModel → ℕ → List ℕ
 global_resources plan n = filter (is_global plan) (range_with_len 0 n)
 
-abbrev pub lines_of : PlanModel → List Line
-lines_of plan = ((Ticks ∷ []) ++ flat_map core_lines (range_with_len 0 plan.cores)) ++ flat_map queue_lines (global_resources plan (length plan.resources))
+abbrev pub lines_of : PlanModel → List Row → Option Row → Window → List Line
+lines_of plan rows broken w = ((Ticks ∷ []) ++ flat_map (core_lines plan rows broken w) (range_with_len 0 plan.cores)) ++ flat_map queue_lines (global_resources plan (length plan.resources))
 
 -- ---- their cells
 -- the axis: the number of a tick is not told in part where a part begins
@@ -38,11 +45,15 @@ tick_cells w = map (λ t. tick_cell (t - (t - w.from) % LINE_TICKS) t) (range_wi
 -- the first row that breaks a rule, where it is of this core
 abbrev pub broken_cells : PlanModel → List Row → Option Row → Window → ℕ → Aspect → List ℕ
 broken_cells plan rows None w c aspect = []
-broken_cells plan rows (Some r) w c aspect = if is_of c r && goes_on_in plan rows w then broken_cell aspect r ∷ [] else []
+broken_cells plan rows (Some r) w c aspect = if is_of c r && goes_on_in plan rows w then row_cell aspect r ∷ [] else []
 
 -- a core: its rows in these ticks, in their order, and the row that breaks a rule
 abbrev pub core_cells : PlanModel → List Row → Option Row → Window → ℕ → Aspect → List ℕ
 core_cells plan rows broken w c aspect = map (row_cell aspect) (log_of c (rows_between plan rows w.from w.to)) ++ broken_cells plan rows broken w c aspect
+
+-- the mark of a core: below the row that stands behind its rows in these ticks
+abbrev pub mark_cells : PlanModel → List Row → Window → ℕ → List ℕ
+mark_cells plan rows w c = map (λ _. no_mark) (log_of c (rows_between plan rows w.from w.to)) ++ mark ∷ []
 
 -- a resource: how its queue stands after each of these ticks, as far as rows stand
 abbrev pub queue_cells : PlanModel → List Row → Window → ℕ → Aspect → List ℕ
@@ -51,6 +62,7 @@ queue_cells plan rows w g aspect = map (standing_cell aspect) (standings plan ro
 abbrev pub cells : PlanModel → List Row → Option Row → Window → Line → List ℕ
 cells plan rows broken w Ticks = tick_cells w
 cells plan rows broken w (Core c aspect) = core_cells plan rows broken w c.0 aspect
+cells plan rows broken w (Mark c) = mark_cells plan rows w c.0
 cells plan rows broken w (Queue g aspect) = queue_cells plan rows w g.0 aspect
 
 -- ---- their labels
@@ -58,5 +70,6 @@ abbrev pub name_of : PlanModel → Line → List ℕ
 name_of plan Ticks = codes "tick"
 name_of plan (Core c Who) = codes "core " ++ decimal c.0
 name_of plan (Core c What) = []
+name_of plan (Mark c) = []
 name_of plan (Queue g Who) = slice_index_or plan.resources g.0 []
 name_of plan (Queue g What) = codes "  waiting"

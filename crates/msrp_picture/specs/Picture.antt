@@ -11,7 +11,7 @@ use Rattle.msrp_plan.specs.declared.rows.Row.{Row}
 use Rattle.msrp_picture.specs.Cells.{letter}
 use Rattle.msrp_picture.specs.Lines.{cells, lines_of, name_of}
 use Rattle.msrp_picture.specs.Shown.{broken_row, legal_rows}
-use Rattle.msrp_picture.specs.Windows.{parts}
+use Rattle.msrp_picture.specs.Windows.{due_in, parts}
 use Rattle.msrp_picture.specs.declared.lines.Line.{Line}
 use Rattle.msrp_picture.specs.declared.windows.TheConstants.{LINE_TICKS}
 use Rattle.msrp_picture.specs.declared.windows.Window.{Window}
@@ -31,9 +31,14 @@ unfoldable pub verdict_text : Result ⊤ Fault → List ℕ
 verdict_text (Ok good) = codes "good\n"
 verdict_text (Err fault) = codes "fault," ++ decimal fault.row ++ codes "," ++ rule_text fault.rule ++ codes "\n"
 
--- the first and the last tick that are drawn, and how many the plan has
-unfoldable pub window_text : PlanModel → Window → List ℕ
-window_text plan w = codes "ticks " ++ decimal w.from ++ codes " to " ++ decimal (w.to - 1) ++ codes " of " ++ decimal plan.ticks ++ codes "\n"
+-- in which tick the row is due that breaks a rule
+unfoldable pub fault_place : PlanModel → Result ⊤ Fault → List ℕ
+fault_place plan (Ok good) = []
+fault_place plan (Err fault) = codes ", the fault in tick " ++ decimal (due_in plan fault.row)
+
+-- the first and the last tick that are drawn, how many the plan has, and in which the fault is
+unfoldable pub window_text : PlanModel → Result ⊤ Fault → Window → List ℕ
+window_text plan found w = codes "ticks " ++ decimal w.from ++ codes " to " ++ decimal (w.to - 1) ++ codes " of " ++ decimal plan.ticks ++ fault_place plan found ++ codes "\n"
 
 -- ---- the lines
 unfoldable pub spaces : List ℕ
@@ -49,7 +54,7 @@ line_text plan i line cs = label (name_of plan line) ++ slice_range cs (i * LINE
 
 -- an empty line, and what stands of all lines
 unfoldable pub part_text : PlanModel → List Row → Option Row → Window → ℕ → List ℕ
-part_text plan rows broken w i = codes "\n" ++ flat_map (λ line. line_text plan i line (cells plan rows broken w line)) (lines_of plan)
+part_text plan rows broken w i = codes "\n" ++ flat_map (λ line. line_text plan i line (cells plan rows broken w line)) (lines_of plan rows broken w)
 
 -- ---- the legend
 unfoldable pub task_text : PlanModel → ℕ → List ℕ
@@ -66,7 +71,7 @@ abbrev pub parts_text : PlanModel → List Row → Option Row → Window → Lis
 parts_text plan rows broken w = flat_map (part_text plan rows broken w) (range_with_len 0 (parts w))
 
 abbrev pub drawn_picture : PlanModel → List Row → Option Row → Result ⊤ Fault → Window → List ℕ
-drawn_picture plan rows broken found w = verdict_text found ++ window_text plan w ++ parts_text plan rows broken w ++ legend_text plan
+drawn_picture plan rows broken found w = verdict_text found ++ window_text plan found w ++ parts_text plan rows broken w ++ legend_text plan
 
 abbrev pub picture_text : PlanModel → List Row → Result ⊤ Fault → Window → List ℕ
 picture_text plan rows found w = drawn_picture plan (legal_rows rows found) (broken_row rows found) found w

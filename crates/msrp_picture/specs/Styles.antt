@@ -6,11 +6,17 @@ use Rattle.msrp_plan.specs.declared.faults.Fault.{Fault}
 use Rattle.msrp_plan.specs.declared.rows.Row.{Row}
 use Rattle.msrp_picture.specs.Picture.{picture_text}
 use Rattle.msrp_picture.specs.Svg.{svg_text}
+use Rattle.msrp_picture.specs.Windows.{shown_window}
+use Rattle.msrp_picture.specs.declared.windows.Asked.{Asked}
 use Rattle.msrp_picture.specs.declared.windows.Style.{Style}
 use Rattle.msrp_picture.specs.declared.windows.Style.TheVariants.{Text, Svg}
 use Rattle.msrp_picture.specs.declared.windows.Window.{Window}
 
--- the picture of these rows with that verdict
-abbrev pub drawing : Style → PlanModel → List Row → Result ⊤ Fault → Window → List ℕ
-drawing Text plan rows found w = picture_text plan rows found w
-drawing Svg plan rows found w = svg_text plan rows found w
+-- these ticks of these rows with that verdict
+abbrev pub drawn_in : Style → PlanModel → List Row → Result ⊤ Fault → Window → List ℕ
+drawn_in Text plan rows found w = picture_text plan rows found w
+drawn_in Svg plan rows found w = svg_text plan rows found w
+
+-- the picture of these rows with that verdict, where these ticks are asked for
+abbrev pub drawing : Asked → PlanModel → List Row → Result ⊤ Fault → Window → List ℕ
+drawing asked plan rows found w = drawn_in asked.style plan rows found (shown_window plan asked w found)

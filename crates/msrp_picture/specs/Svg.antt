@@ -92,7 +92,7 @@ svg_head plan w =
 
 -- the verdict, and which ticks are drawn
 unfoldable pub caption_text : PlanModel → Result ⊤ Fault → Window → List ℕ
-caption_text plan found w = text_head (codes "caption") 20 24 ++ verdict_text found ++ text_end ++ text_head (codes "caption") 20 42 ++ window_text plan w ++ text_end
+caption_text plan found w = text_head (codes "caption") 20 24 ++ verdict_text found ++ text_end ++ text_head (codes "caption") 20 42 ++ window_text plan found w ++ text_end
 
 -- each fifth tick has its number
 abbrev pub tick_text : Window → ℕ → List ℕ

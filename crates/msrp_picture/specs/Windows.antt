@@ -1,6 +1,8 @@
 -- The ticks that are drawn, and their rows.
-use Rattle.std.specs.Prelude.{ℕ, List, Bool, ◌&&◌, nat_lt, nat_le, Option, Some, None, if◌then◌else◌, min, length, slice_range, unwrap_or, ◌<◌, ◌+◌, ◌-◌, ◌*◌, ◌/◌, ◌%◌}
+use Rattle.std.specs.Prelude.{ℕ, List, Bool, ◌&&◌, nat_lt, nat_le, Option, Some, None, Ok, Err, if◌then◌else◌, is_none, min, length, slice_range, unwrap_or, ◌<◌, ◌+◌, ◌-◌, ◌*◌, ◌/◌, ◌%◌, ⊤}
+use Rattle.std.specs.declared.result.Result.{Result}
 use Rattle.msrp_plan.specs.Plan.{PlanModel}
+use Rattle.msrp_plan.specs.declared.faults.Fault.{Fault}
 use Rattle.msrp_plan.specs.declared.rows.Row.{Row}
 use Rattle.msrp_picture.specs.declared.windows.Asked.{Asked}
 use Rattle.msrp_picture.specs.declared.windows.Window.{Window}
@@ -24,6 +26,23 @@ window_of plan asked = if is_window plan (first_asked asked) (end_asked plan ask
 -- a window has a tick
 abbrev pub IsWindow : Window → Type 0
 IsWindow w = w.from < w.to
+
+-- the tick in which the row of this number is due, which counts from 1: each tick has a row for each core
+abbrev pub due_in : PlanModel → ℕ → ℕ
+due_in plan row = (row - 1) / plan.cores
+
+-- the first tick that is drawn where this one is to stand in the middle, and as many ticks as may be are to follow
+abbrev first_round : PlanModel → ℕ → ℕ
+first_round plan t = min (t - SHORT_RUN / 2) (plan.ticks - SHORT_RUN)
+
+-- as many ticks as are drawn at most, half of them before this one, as far as the plan has them
+abbrev pub round : PlanModel → ℕ → Window
+round plan t = record { from = first_round plan t; to = min plan.ticks (first_round plan t + SHORT_RUN) }
+
+-- these ticks, but where none are asked for and a rule is broken, those round the row that breaks it
+abbrev pub shown_window : PlanModel → Asked → Window → Result ⊤ Fault → Window
+shown_window plan asked w (Ok good) = w
+shown_window plan asked w (Err fault) = if is_none asked.from && is_none asked.to then round plan (due_in plan fault.row) else w
 
 -- how many parts stand under one another: the full ones, and one for the ticks that are left, if any are
 abbrev pub parts : Window → ℕ

@@ -33,7 +33,7 @@ pub(crate) fn log_in(
     let mut log = Vec::new(alloc);
     for row in rows {
         if is_drawn(window, core, row) {
-            log.push(*row).map_err(|_| Memory)?;
+            log.push(*row)?;
         }
     }
     Ok(log)

@@ -1,6 +1,6 @@
 //! What one cell of a picture shows.
 ghost use Rattle.std.specs.Prelude.{◌≡◌};
-ghost use Rattle.msrp_picture.specs.Cells.{broken_cell, job_cell, letter, letters, row_cell, sign, standing_cell, tick_cell, waiting};
+ghost use Rattle.msrp_picture.specs.Cells.{job_cell, letter, letters, mark, no_mark, row_cell, sign, standing_cell, tick_cell, waiting};
 
 use crate::queues::Standing;
 use itoa::Buffer;
@@ -75,14 +75,18 @@ pub(crate) fn row_cell(aspect: Aspect, row: &Row) -> u8
     }
 }
 
-/// The cell of the first row that breaks a rule.
-pub(crate) fn broken_cell(aspect: Aspect, row: &Row) -> u8
-    ensures { result ≡ broken_cell aspect row.now }
+/// Below the first row that breaks a rule.
+pub(crate) fn mark() -> u8
+    ensures { result ≡ mark }
 {
-    match aspect {
-        Aspect::Who => job_cell(row.job),
-        Aspect::What => b'!',
-    }
+    b'!'
+}
+
+/// Below a row before it.
+pub(crate) fn no_mark() -> u8
+    ensures { result ≡ no_mark }
+{
+    b' '
 }
 
 /// The cell of a queue.

@@ -3,11 +3,11 @@ ghost use Rattle.std.specs.Prelude.{◌≡◌, ◌++◌, length, map, IfOk, OnOk
 ghost use Rattle.std.specs.List.{AllByRecursion, flat_map, range_with_len};
 ghost use Rattle.msrp_plan.specs.Logs.{log_of};
 ghost use Rattle.msrp_picture.specs.Inside.Drawings.{IsDrawn, line_of};
-ghost use Rattle.msrp_picture.specs.Lines.{cells, core_cells, core_lines, global_resources, lines_of, queue_cells, queue_lines, tick_cells};
-ghost use Rattle.msrp_picture.specs.Cells.{row_cell, standing_cell};
+ghost use Rattle.msrp_picture.specs.Lines.{cells, core_cells, core_lines, global_resources, is_marked, lines_of, mark_cells, queue_cells, queue_lines, tick_cells};
+ghost use Rattle.msrp_picture.specs.Cells.{no_mark, row_cell, standing_cell};
 ghost use Rattle.msrp_picture.specs.Windows.{IsWindow};
 
-use crate::cells::{Aspect, broken_cell, row_cell, standing_cell, tick_cell};
+use crate::cells::{Aspect, mark, no_mark, row_cell, standing_cell, tick_cell};
 use crate::queues::{Standing, standings};
 use crate::shown::Shown;
 use crate::windows::{LINE_TICKS, Window, rows_between};
@@ -22,6 +22,8 @@ pub enum Line {
     Ticks,
     /// A core.
     Core(CoreId, Aspect),
+    /// The mark below a core's row that breaks a rule.
+    Mark(CoreId),
     /// A global resource.
     Queue(ResId, Aspect),
 }
@@ -34,28 +36,62 @@ pub(crate) struct Drawn {
 }
 
 /// The lines of a picture of a run of the plan: the axis, the cores and the global resources.
-pub(crate) fn lines_of(alloc: Global, plan: &Plan, levels: &Levels<'_>) -> Result<Vec<Line>, Memory>
+pub(crate) fn lines_of(
+    alloc: Global,
+    plan: &Plan,
+    levels: &Levels<'_>,
+    shown: &Shown<'_>,
+    window: Window,
+) -> Result<Vec<Line>, Memory>
     requires { levels.now ≡ plan.now }
-    ensures { IfOk result (λ lines. lines.items ≡ lines_of plan.now) }
+    ensures { IfOk result (λ lines. lines.items ≡ lines_of plan.now shown.now.rows.now shown.now.broken window) }
 {
     let mut lines = Vec::new(alloc);
-    lines.push(Line::Ticks).map_err(|_| Memory)?;
-    push_cores(&mut lines, plan)?;
+    lines.push(Line::Ticks)?;
+    push_cores(&mut lines, plan, shown, window)?;
     push_queues(&mut lines, plan, levels)?;
     Ok(lines)
 }
 
+// Whether the row that breaks a rule is of this core, and is drawn.
+fn is_marked(plan: &Plan, shown: &Shown<'_>, window: Window, core: CoreId) -> bool
+    ensures { result ≡ is_marked plan.now shown.now.rows.now shown.now.broken window core.0 }
+{
+    match shown.broken {
+        Some(row) => row.core == core && shown.breaks_in(plan, window),
+        None => false,
+    }
+}
+
+// The lines of a core.
+fn push_core(
+    lines: &mut Vec<Line>,
+    plan: &Plan,
+    shown: &Shown<'_>,
+    window: Window,
+    core: CoreId,
+) -> Result<(), Memory>
+    ensures { OnOk result (lines.new.items ≡ lines.old.items ++ core_lines plan.now shown.now.rows.now shown.now.broken window core.0) }
+{
+    lines.push(Line::Core(core, Aspect::Who))?;
+    lines.push(Line::Core(core, Aspect::What))?;
+    if is_marked(plan, shown, window, core) {
+        lines.push(Line::Mark(core))?;
+    }
+    Ok(())
+}
+
 // The lines of the cores.
-fn push_cores(lines: &mut Vec<Line>, plan: &Plan) -> Result<(), Memory>
-    ensures { OnOk result (lines.new.items ≡ lines.old.items ++ flat_map core_lines (range_with_len 0 plan.now.cores)) }
+fn push_cores(
+    lines: &mut Vec<Line>,
+    plan: &Plan,
+    shown: &Shown<'_>,
+    window: Window,
+) -> Result<(), Memory>
+    ensures { OnOk result (lines.new.items ≡ lines.old.items ++ flat_map (core_lines plan.now shown.now.rows.now shown.now.broken window) (range_with_len 0 plan.now.cores)) }
 {
     for core in 0..plan.cores() {
-        lines
-            .push(Line::Core(CoreId(core), Aspect::Who))
-            .map_err(|_| Memory)?;
-        lines
-            .push(Line::Core(CoreId(core), Aspect::What))
-            .map_err(|_| Memory)?;
+        push_core(lines, plan, shown, window, CoreId(core))?;
     }
     Ok(())
 }
@@ -67,12 +103,8 @@ fn push_queues(lines: &mut Vec<Line>, plan: &Plan, levels: &Levels<'_>) -> Resul
 {
     for res in 0..plan.resources() {
         if levels.is_global(ResId(res)) {
-            lines
-                .push(Line::Queue(ResId(res), Aspect::Who))
-                .map_err(|_| Memory)?;
-            lines
-                .push(Line::Queue(ResId(res), Aspect::What))
-                .map_err(|_| Memory)?;
+            lines.push(Line::Queue(ResId(res), Aspect::Who))?;
+            lines.push(Line::Queue(ResId(res), Aspect::What))?;
         }
     }
     Ok(())
@@ -85,7 +117,7 @@ fn tick_cells(alloc: Global, window: Window) -> Result<Vec<u8>, Memory>
     let mut cells = Vec::new(alloc);
     for tick in window.from..window.to {
         let start = tick - (tick - window.from) % LINE_TICKS;
-        cells.push(tick_cell(start, tick)).map_err(|_| Memory)?;
+        cells.push(tick_cell(start, tick))?;
     }
     Ok(cells)
 }
@@ -97,7 +129,7 @@ fn row_cells(alloc: Global, rows: &[Row], core: CoreId, aspect: Aspect) -> Resul
     let mut cells = Vec::new(alloc);
     for row in rows {
         if row.core == core {
-            cells.push(row_cell(aspect, row)).map_err(|_| Memory)?;
+            cells.push(row_cell(aspect, row))?;
         }
     }
     Ok(cells)
@@ -119,9 +151,39 @@ fn core_cells(
     let mut cells = row_cells(alloc, rows, core, aspect)?;
     if let Some(row) = shown.broken {
         if row.core == core && shown.breaks_in(plan, window) {
-            cells.push(broken_cell(aspect, &row)).map_err(|_| Memory)?;
+            cells.push(row_cell(aspect, &row))?;
         }
     }
+    Ok(cells)
+}
+
+// Blank below each row of the core.
+fn blank_cells(alloc: Global, rows: &[Row], core: CoreId) -> Result<Vec<u8>, Memory>
+    ensures { IfOk result (λ cells. cells.items ≡ map (λ _. no_mark) (log_of core.0 rows.now)) }
+{
+    let mut cells = Vec::new(alloc);
+    for row in rows {
+        if row.core == core {
+            cells.push(no_mark())?;
+        }
+    }
+    Ok(cells)
+}
+
+// The mark of a core, below the row that stands behind its rows.
+fn mark_cells(
+    alloc: Global,
+    plan: &Plan,
+    shown: &Shown<'_>,
+    core: CoreId,
+    window: Window,
+) -> Result<Vec<u8>, Memory>
+    requires { IsWindow window }
+    ensures { IfOk result (λ cells. cells.items ≡ mark_cells plan.now shown.now.rows.now window core.0) }
+{
+    let rows = rows_between(plan, shown.rows, window.from, window.to);
+    let mut cells = blank_cells(alloc, rows, core)?;
+    cells.push(mark())?;
     Ok(cells)
 }
 
@@ -130,9 +192,7 @@ fn standing_cells(alloc: Global, standings: &[Standing], aspect: Aspect) -> Resu
 {
     let mut cells = Vec::new(alloc);
     for standing in standings {
-        cells
-            .push(standing_cell(aspect, standing))
-            .map_err(|_| Memory)?;
+        cells.push(standing_cell(aspect, standing))?;
     }
     Ok(cells)
 }
@@ -167,6 +227,7 @@ pub(crate) fn cells_of(
     match line {
         Line::Ticks => tick_cells(alloc, window),
         Line::Core(core, aspect) => core_cells(alloc, plan, shown, core, aspect, window),
+        Line::Mark(core) => mark_cells(alloc, plan, shown, core, window),
         Line::Queue(res, aspect) => queue_cells(alloc, plan, shown.rows, res, aspect, window),
     }
 }
@@ -195,15 +256,15 @@ pub(crate) fn draw_lines(
     window: Window,
 ) -> Result<Vec<Drawn>, Memory>
     requires { IsWindow window }
-    ensures lines { IfOk result (λ drawn. map line_of drawn.items ≡ lines_of plan.now) }
+    ensures lines { IfOk result (λ drawn. map line_of drawn.items ≡ lines_of plan.now shown.now.rows.now shown.now.broken window) }
     ensures cells { IfOk result (λ drawn. AllByRecursion (IsDrawn plan.now shown.now.rows.now shown.now.broken window) drawn.items) }
 {
     let levels = Levels::of(alloc, plan)?;
-    let lines = lines_of(alloc, plan, &levels)?;
+    let lines = lines_of(alloc, plan, &levels, shown, window)?;
     let mut drawn = Vec::new(alloc);
     for line in &lines {
         let one = draw_line(alloc, plan, shown, window, *line)?;
-        drawn.push(one).map_err(|_| Memory)?;
+        drawn.push(one)?;
     }
     Ok(drawn)
 }

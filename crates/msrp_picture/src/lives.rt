@@ -42,7 +42,7 @@ pub(crate) fn task_rows(alloc: Global, rows: &[Row], task: TaskId) -> Result<Vec
     let mut found = Vec::new(alloc);
     for row in rows {
         if is_job_of(task, row.job) {
-            found.push(*row).map_err(|_| Memory)?;
+            found.push(*row)?;
         }
     }
     Ok(found)

@@ -3,13 +3,13 @@ ghost use Rattle.std.specs.Prelude.{◌≡◌, ◌<◌, ◌≤◌, ◌+◌, ◌+
 ghost use Rattle.std.specs.List.{flat_map, range_with_len};
 ghost use Rattle.msrp_picture.specs.Inside.Drawings.{drawn_text};
 ghost use Rattle.msrp_picture.specs.Lines.{name_of};
-ghost use Rattle.msrp_picture.specs.Picture.{drawn_picture, label, legend_text, picture_text, rule_text, signs_text, spaces, task_text, verdict_text, window_text};
+ghost use Rattle.msrp_picture.specs.Picture.{drawn_picture, fault_place, label, legend_text, picture_text, rule_text, signs_text, spaces, task_text, verdict_text, window_text};
 ghost use Rattle.msrp_picture.specs.Windows.{IsWindow, parts};
 
 use crate::cells::{Aspect, letter};
 use crate::lines::{Drawn, Line, draw_lines};
 use crate::shown::Shown;
-use crate::windows::{LINE_TICKS, Window};
+use crate::windows::{LINE_TICKS, Window, due_in};
 use itoa::Buffer;
 use msrp_plan::{Fault, Memory, Plan, ResId, Row, Rule, TaskId};
 use std::alloc::Global;
@@ -33,7 +33,8 @@ fn signs() -> &'static [u8]
 pub(crate) fn add(text: &mut Vec<u8>, part: &[u8]) -> Result<(), Memory>
     ensures { OnOk result (text.new.items ≡ text.old.items ++ part.now) }
 {
-    text.extend_from_slice(part).map_err(|_| Memory)
+    text.extend_from_slice(part)?;
+    Ok(())
 }
 
 pub(crate) fn add_number(text: &mut Vec<u8>, number: u64) -> Result<(), Memory>
@@ -75,10 +76,29 @@ pub(crate) fn add_verdict(text: &mut Vec<u8>, found: Result<(), Fault>) -> Resul
     }
 }
 
-// Which ticks are drawn, the last one by its own number.
-pub(crate) fn add_window(text: &mut Vec<u8>, plan: &Plan, window: Window) -> Result<(), Memory>
+// In which tick the row is due that breaks a rule.
+#[tactic(auto, unfolding(crate::specs::Picture::fault_place))]
+fn add_fault_place(text: &mut Vec<u8>, plan: &Plan, found: Result<(), Fault>) -> Result<(), Memory>
+    ensures { OnOk result (text.new.items ≡ text.old.items ++ fault_place plan.now found) }
+{
+    match found {
+        Ok(()) => Ok(()),
+        Err(fault) => {
+            add(text, b", the fault in tick ")?;
+            add_number(text, due_in(plan, fault.row) as u64)
+        }
+    }
+}
+
+// Which ticks are drawn, the last one by its own number, and in which the fault is.
+pub(crate) fn add_window(
+    text: &mut Vec<u8>,
+    plan: &Plan,
+    found: Result<(), Fault>,
+    window: Window,
+) -> Result<(), Memory>
     requires { IsWindow window }
-    ensures { OnOk result (text.new.items ≡ text.old.items ++ window_text plan.now window) }
+    ensures { OnOk result (text.new.items ≡ text.old.items ++ window_text plan.now found window) }
 {
     add(text, b"ticks ")?;
     add_number(text, window.from as u64)?;
@@ -86,6 +106,7 @@ pub(crate) fn add_window(text: &mut Vec<u8>, plan: &Plan, window: Window) -> Res
     add_number(text, (window.to - 1) as u64)?;
     add(text, b" of ")?;
     add_number(text, plan.ticks() as u64)?;
+    add_fault_place(text, plan, found)?;
     add(text, b"\n")
 }
 
@@ -127,7 +148,7 @@ fn add_label_of(text: &mut Vec<u8>, plan: &Plan, line: Line) -> Result<(), Memor
         Line::Core(core, Aspect::Who) => {
             add_label(text, b"core ", digits.format(core.0).as_bytes())
         }
-        Line::Core(_, Aspect::What) => add_label(text, b"", b""),
+        Line::Core(_, Aspect::What) | Line::Mark(_) => add_label(text, b"", b""),
         Line::Queue(res, Aspect::Who) => add_label(text, b"", res_name(plan, res)),
         Line::Queue(_, Aspect::What) => add_label(text, b"  waiting", b""),
     }
@@ -214,7 +235,7 @@ fn picture_of(
     let drawn = draw_lines(alloc, plan, shown, window)?;
     let mut text = Vec::new(alloc);
     add_verdict(&mut text, shown.found)?;
-    add_window(&mut text, plan, window)?;
+    add_window(&mut text, plan, shown.found, window)?;
     add_parts(&mut text, plan, &drawn, window)?;
     add_legend(&mut text, plan)?;
     Ok(text)

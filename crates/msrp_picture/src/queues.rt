@@ -54,7 +54,7 @@ impl Queue {
         ensures releases { self.new.releases ≡ self.old.releases }
     {
         if let Some(job) = job {
-            self.requests.push(job).map_err(|_| Memory)?;
+            self.requests.push(job)?;
         }
         Ok(())
     }
@@ -133,7 +133,7 @@ pub(crate) fn standings(
     let end = (window.to as usize).min(begun(plan, rows)) as u32;
     for tick in window.from..end {
         queue.take_all(res, rows_between(plan, rows, tick, tick + 1))?;
-        found.push(standing_of(queue.jobs())).map_err(|_| Memory)?;
+        found.push(standing_of(queue.jobs()))?;
     }
     Ok(found)
 }

@@ -40,7 +40,7 @@ fn add_standing(
     add_body(text, area, standing.first, b"first", waiting)
 }
 
-// The same where someone is first.
+// The block of a resource, if someone is first in its queue.
 fn add_held(
     text: &mut Vec<u8>,
     plan: &Plan,

@@ -139,7 +139,7 @@ fn add_section(
     end_clip(text)
 }
 
-// The same where some of it is drawn.
+// A section, if some of it is drawn.
 fn add_seen_section(
     text: &mut Vec<u8>,
     plan: &Plan,
@@ -206,7 +206,7 @@ fn log_of(alloc: Global, core: CoreId, rows: &[Row]) -> Result<Vec<Row>, Memory>
     let mut log = Vec::new(alloc);
     for row in rows {
         if row.core == core {
-            log.push(*row).map_err(|_| Memory)?;
+            log.push(*row)?;
         }
     }
     Ok(log)

@@ -5,23 +5,25 @@ ghost use Rattle.msrp_picture.specs.Windows.{IsWindow};
 
 use crate::picture::picture;
 use crate::svg::svg;
-use crate::windows::{Style, Window};
+use crate::windows::{Asked, Style, Window, shown_window};
 use msrp_plan::{Fault, Memory, Plan, Row};
 use std::alloc::Global;
 
-/// A picture of these ticks of rows of the plan, on which that is the verdict.
+/// A picture of rows of the plan, on which that is the verdict: of the ticks that are asked for, which are those of the window; where none are asked for
+/// and a rule is broken, of those round the row that breaks it.
 pub fn draw(
     alloc: Global,
     plan: &Plan,
     rows: &[Row],
     found: Result<(), Fault>,
-    style: Style,
+    asked: Asked,
     window: Window,
 ) -> Result<Vec<u8>, Memory>
     requires { IsWindow window }
-    ensures { IfOk result (λ text. text.items ≡ drawing style plan.now rows.now found window) }
+    ensures { IfOk result (λ text. text.items ≡ drawing asked plan.now rows.now found window) }
 {
-    match style {
+    let window = shown_window(plan, asked, window, found);
+    match asked.style {
         Style::Text => picture(alloc, plan, rows, found, window),
         Style::Svg => svg(alloc, plan, rows, found, window),
     }

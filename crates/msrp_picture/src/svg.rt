@@ -210,7 +210,7 @@ fn add_lane(text: &mut Vec<u8>, window: Window, core: CoreId) -> Result<(), Memo
     add_rect(text, b"lane", area)
 }
 
-// The same with its blocks and sections.
+// A core's lane with its blocks and sections.
 fn add_core_lane(
     alloc: Global,
     text: &mut Vec<u8>,
@@ -257,7 +257,7 @@ fn add_mark(text: &mut Vec<u8>, window: Window, rule: Rule, row: Row) -> Result<
     add_text(text, b"rule", x, top + 92, rule_word(rule))
 }
 
-// The same where there is such a row, and it is drawn.
+// Frames the row that breaks a rule, if there is one and it is drawn.
 fn add_mark_of(
     text: &mut Vec<u8>,
     window: Window,
@@ -342,7 +342,7 @@ fn add_caption(
     add_verdict(text, found)?;
     end_text(text)?;
     begin_text(text, b"caption", 20, 42)?;
-    add_window(text, plan, window)?;
+    add_window(text, plan, found, window)?;
     end_text(text)
 }
 

@@ -1,15 +1,15 @@
 //! The ticks that are drawn.
 ghost use Rattle.std.specs.Prelude.{◌≡◌, ◌<◌, ◌≤◌, ◌+◌, ◌*◌, length, Some, None, IfSome};
 ghost use Rattle.msrp_plan.specs.WellFormed.{IsPlan};
-ghost use Rattle.msrp_picture.specs.Windows.{begun, parts, rows_between, window_of, IsWindow};
+ghost use Rattle.msrp_picture.specs.Windows.{begun, due_in, parts, round, rows_between, shown_window, window_of, IsWindow};
 
-use msrp_plan::{Plan, Row};
+use msrp_plan::{Fault, Plan, Row};
 
 /// Where no last tick is asked for, so many ticks are drawn at most.
 pub const SHORT_RUN: u32 = 200;
 
-/// So many ticks stand on a line.
-pub const LINE_TICKS: u32 = 80;
+/// So many ticks stand on a line: with its label that is at most 80 columns.
+pub const LINE_TICKS: u32 = 60;
 
 /// How a picture is drawn.
 #[derive(Clone, Copy, Debug, PartialEq, Eq)]
@@ -49,6 +49,43 @@ pub fn window_of(plan: &Plan, asked: Asked) -> Option<Window>
         Some(Window { from, to })
     } else {
         None
+    }
+}
+
+/// The tick in which the row of this number is due, which counts from 1: each tick has a row for each core.
+pub(crate) fn due_in(plan: &Plan, row: u32) -> u32
+    ensures { result ≡ due_in plan.now row }
+{
+    row.saturating_sub(1) / plan.cores()
+}
+
+// As many ticks as are drawn at most, half of them before this one, as far as the plan has them.
+fn round(plan: &Plan, tick: u32) -> Window
+    ensures window { result ≡ round plan.now tick }
+    ensures some { IsWindow result }
+{
+    let from = tick
+        .saturating_sub(SHORT_RUN / 2)
+        .min(plan.ticks().saturating_sub(SHORT_RUN));
+    let to = plan.ticks().min(from + SHORT_RUN);
+    Window { from, to }
+}
+
+/// The ticks that are drawn of rows on which that is the verdict: these, but where none are asked for and a rule is broken, those round the
+/// row that breaks it.
+pub(crate) fn shown_window(
+    plan: &Plan,
+    asked: Asked,
+    window: Window,
+    found: Result<(), Fault>,
+) -> Window
+    requires { IsWindow window }
+    ensures window { result ≡ shown_window plan.now asked window found }
+    ensures some { IsWindow result }
+{
+    match (asked.from, asked.to, found) {
+        (None, None, Err(fault)) => round(plan, due_in(plan, fault.row)),
+        _ => window,
     }
 }
 

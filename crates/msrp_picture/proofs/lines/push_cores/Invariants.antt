@@ -4,4 +4,4 @@ use Rattle.msrp_picture.specs.Lines.{core_lines}
 use Rattle.msrp_picture.proofs.lines.push_cores.Given as goal
 
 abbrev pub invariant-loop-core : goal.invariant-loop-core
-invariant-loop-core l = l.lines.items ≡ l.fn.lines.items ++ flat_map core_lines (range_with_len 0 l.core)
+invariant-loop-core l = l.lines.items ≡ l.fn.lines.items ++ flat_map (core_lines l.fn.plan l.fn.shown.rows.now l.fn.shown.broken l.fn.window) (range_with_len 0 l.core)
