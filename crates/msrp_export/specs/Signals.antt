@@ -9,7 +9,7 @@ use Rattle.msrp_plan.specs.declared.rows.Kind.{Kind}
 use Rattle.msrp_plan.specs.declared.rows.Kind.TheVariants.{Lock, Unlock, Take, Grant, Release}
 use Rattle.msrp_plan.specs.declared.rows.Row.{Row}
 use Rattle.msrp_export.specs.declared.states.TaskState.{TaskState}
-use Rattle.msrp_export.specs.declared.states.TaskState.TheVariants.{Unreleased, Ready, Running, Holding, Spinning, Late}
+use Rattle.msrp_export.specs.declared.states.TaskState.TheVariants.{Unreleased, Ready, Running, Holding, Spinning}
 
 -- a row of these kinds gives its job a resource, or takes it away
 abbrev pub acquires : Kind → Bool
@@ -63,12 +63,15 @@ abbrev pub active_state : Bool → Option Kind → TaskState
 active_state holds None = if holds then Holding else Ready
 active_state holds (Some kind) = if is_waiting kind then Spinning else (if holds then Holding else Running)
 
--- by the job that the task is at when the tick begins: one that is not finished by its absolute deadline is late from there on
+-- by the job that the task is at when the tick begins
 abbrev pub task_state : PlanModel → List Row → List Row → ℕ → ℕ → TaskState
 task_state plan before rows tick t =
-    if is_released plan tick (job_after plan before t) then (
-    if nat_le (key plan (job_after plan before t)).deadline tick then Late else
-    active_state (nat_lt (given_up t rows) (acquired t rows)) (kind_in tick t (last_row (task_at plan t).core rows))) else Unreleased
+    if is_released plan tick (job_after plan before t) then
+    active_state (nat_lt (given_up t rows) (acquired t rows)) (kind_in tick t (last_row (task_at plan t).core rows)) else Unreleased
+
+-- that job is not finished by its absolute deadline
+abbrev pub is_late : PlanModel → List Row → ℕ → ℕ → Bool
+is_late plan before tick t = nat_le (key plan (job_after plan before t)).deadline tick
 
 -- ---- resources
 -- the holder of a resource after a row more

@@ -1,5 +1,5 @@
 -- The value change dump (IEEE 1364) of rows: signals, and what they become. A signal's name is its letter and a number, and one unit of
--- time is one tick. Of each core it says what it does (k), for which job (j) and on which resource (g); of each task its state (t); of
+-- time is one tick. Of each core it says what it does (k), for which job (j) and on which resource (g); of each task its state (t), and whether it is late (l); of
 -- each resource its holder (h) and how many jobs stand in its queue (q); and the rule that is broken (f), and the row that breaks it (r).
 -- Strings are as GTKWave reads them, and numbers are reals.
 use Rattle.std.specs.Prelude.{ℕ, List, [], ◌++◌, Bool, false, not, nat_eq, nat_lt, ◌==◌, ◌&&◌, codes, decimal, length, take, Option, Some, None, if◌then◌else◌, ◌+◌, ◌-◌, ◌*◌, ◌/◌}
@@ -11,8 +11,8 @@ use Rattle.msrp_plan.specs.Runs.{same_choice}
 use Rattle.msrp_plan.specs.declared.faults.Rule.{Rule}
 use Rattle.msrp_plan.specs.declared.ids.JobId.{JobId}
 use Rattle.msrp_plan.specs.declared.rows.Row.{Row}
-use Rattle.msrp_export.specs.Signals.{holder, last_row, task_state}
-use Rattle.msrp_export.specs.Words.{dash, job_text, kind_text, res_name, res_text, rule_text, same_kind, same_state, state_text, task_name}
+use Rattle.msrp_export.specs.Signals.{holder, is_late, last_row, task_state}
+use Rattle.msrp_export.specs.Words.{bit_text, dash, job_text, kind_text, res_name, res_text, rule_text, same_bit, same_kind, same_state, state_text, task_name}
 use Rattle.msrp_export.specs.declared.states.TaskState.{TaskState}
 
 -- ---- lines
@@ -23,6 +23,10 @@ value_line value letter n = codes "s" ++ value ++ codes " " ++ letter ++ decimal
 -- a signal has this number from here on
 abbrev pub number_line : ℕ → List ℕ → ℕ → List ℕ
 number_line number letter n = codes "r" ++ decimal number ++ codes " " ++ letter ++ decimal n ++ codes "\n"
+
+-- a signal is on from here on, or off
+abbrev pub bit_line : Bool → List ℕ → ℕ → List ℕ
+bit_line bit letter n = bit_text bit ++ letter ++ decimal n ++ codes "\n"
 
 -- a tick begins
 abbrev pub tick_line : ℕ → List ℕ
@@ -81,8 +85,17 @@ unless_same tick same line = if not (nat_eq tick 0) && same then [] else line
 abbrev pub state_change : ℕ → ℕ → TaskState → TaskState → List ℕ
 state_change tick t before now = unless_same tick (same_state before now) (value_line (state_text now) (codes "t") t)
 
+abbrev pub late_change : ℕ → ℕ → Bool → Bool → List ℕ
+late_change tick t before now = unless_same tick (same_bit before now) (bit_line now (codes "l") t)
+
+abbrev pub task_state_change : PlanModel → List Row → ℕ → ℕ → List ℕ
+task_state_change plan rows tick t = state_change tick t (state_before plan rows t tick) (state_in plan rows t tick)
+
+abbrev pub task_late_change : PlanModel → List Row → ℕ → ℕ → List ℕ
+task_late_change plan rows tick t = late_change tick t (is_late plan (rows_before plan rows (tick - 1)) (tick - 1) t) (is_late plan (rows_before plan rows tick) tick t)
+
 abbrev pub task_change : PlanModel → List Row → ℕ → ℕ → List ℕ
-task_change plan rows tick t = state_change tick t (state_before plan rows t tick) (state_in plan rows t tick)
+task_change plan rows tick t = task_state_change plan rows tick t ++ task_late_change plan rows tick t
 
 abbrev pub holder_change : PlanModel → ℕ → ℕ → Option JobId → Option JobId → List ℕ
 holder_change plan tick g before now = unless_same tick (same_choice before now) (value_line (job_text plan now) (codes "h") g)
@@ -111,7 +124,8 @@ core_head c =
     ++ codes " core_" ++ decimal c ++ codes "_resource $end\n"
 
 abbrev pub task_head : PlanModel → ℕ → List ℕ
-task_head plan t = codes "$var string 1 t" ++ decimal t ++ codes " task_" ++ task_name plan t ++ codes " $end\n"
+task_head plan t =
+    codes "$var string 1 t" ++ decimal t ++ codes " task_" ++ task_name plan t ++ codes " $end\n$var wire 1 l" ++ decimal t ++ codes " task_" ++ task_name plan t ++ codes "_late $end\n"
 
 abbrev pub res_head : PlanModel → ℕ → List ℕ
 res_head plan g =

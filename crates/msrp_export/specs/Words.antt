@@ -8,7 +8,7 @@ use Rattle.msrp_plan.specs.declared.ids.ResId.{ResId}
 use Rattle.msrp_plan.specs.declared.rows.Kind.{Kind}
 use Rattle.msrp_plan.specs.declared.rows.Kind.TheVariants.{Idle, Run, Lock, Unlock, Take, Queue, Spin, Grant, Release}
 use Rattle.msrp_export.specs.declared.states.TaskState.{TaskState}
-use Rattle.msrp_export.specs.declared.states.TaskState.TheVariants.{Unreleased, Ready, Running, Holding, Spinning, Late}
+use Rattle.msrp_export.specs.declared.states.TaskState.TheVariants.{Unreleased, Ready, Running, Holding, Spinning}
 
 -- the word for a kind of row
 unfoldable pub kind_text : Kind → List ℕ
@@ -51,7 +51,6 @@ state_text Ready = codes "ready"
 state_text Running = codes "running"
 state_text Holding = codes "holding"
 state_text Spinning = codes "spinning"
-state_text Late = codes "late"
 
 abbrev pub same_state : TaskState → TaskState → Bool
 same_state Unreleased Unreleased = true
@@ -59,8 +58,17 @@ same_state Ready Ready = true
 same_state Running Running = true
 same_state Holding Holding = true
 same_state Spinning Spinning = true
-same_state Late Late = true
 same_state _ _ = false
+
+-- a bit
+unfoldable pub bit_text : Bool → List ℕ
+bit_text true = codes "1"
+bit_text false = codes "0"
+
+abbrev pub same_bit : Bool → Bool → Bool
+same_bit true true = true
+same_bit false false = true
+same_bit _ _ = false
 
 -- what stands where there is no job, no resource or no holder
 unfoldable pub dash : List ℕ

@@ -5,7 +5,7 @@ ghost use Rattle.msrp_plan.specs.Plan.{release};
 ghost use Rattle.msrp_plan.specs.Times.{HasRelease};
 ghost use Rattle.msrp_plan.specs.WellFormed.{IsPlan};
 ghost use Rattle.msrp_plan.specs.declared.rows.Row.{Row as TraceRow};
-ghost use Rattle.msrp_export.specs.Signals.{active_state, job_after, kind_in, task_state, work};
+ghost use Rattle.msrp_export.specs.Signals.{active_state, is_late, job_after, kind_in, task_state, work};
 ghost use Rattle.msrp_export.specs.Tells.{IsPast, Tells};
 
 use crate::standing::{Standing, waits};
@@ -24,8 +24,6 @@ pub(crate) enum TaskState {
     Holding,
     /// Its job waits for a global resource.
     Spinning,
-    /// Its job wasn't finished by its absolute deadline, and isn't now.
-    Late,
 }
 
 // Whether a task has a release of this number.
@@ -77,7 +75,7 @@ fn kind_in(tick: u32, task: TaskId, row: Option<Row>) -> Option<Kind>
     }
 }
 
-// What a released job does that isn't late.
+// What a released job does.
 fn active_state(holds: bool, kind: Option<Kind>) -> TaskState
     ensures { result ≡ active_state holds kind }
 {
@@ -106,9 +104,17 @@ pub(crate) fn task_state(
     let last = now.last(plan.core_of(task));
     if u64::from(tick) < release {
         TaskState::Unreleased
-    } else if release + u64::from(plan.deadline(task)) <= u64::from(tick) {
-        TaskState::Late
     } else {
         active_state(count.given_up < count.acquired, kind_in(tick, task, last))
     }
+}
+
+/// Whether the job that a task is at when the tick begins isn't finished by its absolute deadline.
+pub(crate) fn is_late(plan: &Plan, before: &Standing, tick: u32, task: TaskId) -> bool
+    requires plan { IsPlan plan.now }
+    requires task { task.0 < length plan.now.tasks }
+    ensures { (earlier : List TraceRow) → Tells before.now earlier → result ≡ is_late plan.now earlier tick task.0 }
+{
+    let release = release_of(plan, job_after(plan, task, before.task(task).work));
+    release + u64::from(plan.deadline(task)) <= u64::from(tick)
 }

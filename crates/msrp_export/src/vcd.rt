@@ -9,14 +9,15 @@ ghost use Rattle.msrp_plan.specs.declared.rows.Row.{Row as TraceRow};
 ghost use Rattle.msrp_export.specs.Exports.{TellsTick};
 ghost use Rattle.msrp_export.specs.Signals.{last_row};
 ghost use Rattle.msrp_export.specs.Tells.{Tells};
-ghost use Rattle.msrp_export.specs.Vcd.{broken_text, core_change, core_head, core_lines, end_text, faulty_text, head_text, holder_change, keeps_job, keeps_kind, keeps_res, number_line, queue_change, res_change, res_head, rows_before, rows_in, state_change, task_change, task_head, tick_line, tick_text, value_line};
-ghost use Rattle.msrp_export.specs.Words.{job_text, kind_text, res_text, rule_text, same_state};
+ghost use Rattle.msrp_export.specs.Vcd.{bit_line, broken_text, core_change, core_head, core_lines, end_text, faulty_text, head_text, holder_change, keeps_job, keeps_kind, keeps_res, late_change, number_line, queue_change, res_change, res_head, rows_before, rows_in, state_change, task_change, task_head, task_late_change, task_state_change, tick_line, tick_text, value_line};
+ghost use Rattle.msrp_export.specs.Words.{job_text, kind_text, res_text, rule_text, same_bit, same_state};
 
 use crate::recent::Recent;
 use crate::standing::Standing;
-use crate::states::{TaskState, task_state};
+use crate::states::{TaskState, is_late, task_state};
 use crate::words::{
-    add_job, add_number, kind_word, res_or_dash, res_word, rule_word, state_word, task_word,
+    add_job, add_number, bit_word, kind_word, res_or_dash, res_word, rule_word, state_word,
+    task_word,
 };
 use msrp_plan::bytes::Sink;
 use msrp_plan::{CoreId, JobId, Plan, ResId, Row, Rule, TaskId};
@@ -43,13 +44,23 @@ fn add_value<W: Write>(out: &mut Sink<W>, value: &[u8], letter: &[u8], number: u
     out.add(b"\n");
 }
 
-// The same of a number.
+// A signal has this number as its value from here on.
 fn add_number_value<W: Write>(out: &mut Sink<W>, value: u32, letter: &[u8], number: u32)
     ensures { Wrote W.contents out.old out.new (number_line value letter.now number) }
 {
     out.add(b"r");
     add_number(out, value);
     out.add(b" ");
+    out.add(letter);
+    add_number(out, number);
+    out.add(b"\n");
+}
+
+// A signal of one bit has this value from here on.
+fn add_bit<W: Write>(out: &mut Sink<W>, bit: bool, letter: &[u8], number: u32)
+    ensures { Wrote W.contents out.old out.new (bit_line bit letter.now number) }
+{
+    out.add(bit_word(bit));
     out.add(letter);
     add_number(out, number);
     out.add(b"\n");
@@ -177,6 +188,54 @@ fn add_state_change<W: Write>(
     }
 }
 
+// What a tick changes of a task's state.
+fn add_task_state<W: Write>(
+    out: &mut Sink<W>,
+    plan: &Plan,
+    recent: &Recent,
+    tick: u32,
+    task: TaskId,
+)
+    requires plan { IsPlan plan.now }
+    requires task { task.0 < length plan.now.tasks }
+    ensures { (rows : List TraceRow) → TellsTick plan.now rows tick recent.now → Wrote W.contents out.old out.new (task_state_change plan.now rows tick task.0) }
+{
+    let now = task_state(plan, &recent.before, &recent.latest, tick, task);
+    let before = task_state(
+        plan,
+        &recent.earlier,
+        &recent.before,
+        tick.saturating_sub(1),
+        task,
+    );
+    add_state_change(out, tick, task, before, now);
+}
+
+fn same_bit(before: bool, now: bool) -> bool
+    ensures { result ≡ same_bit before now }
+{
+    before == now
+}
+
+fn add_late_change<W: Write>(out: &mut Sink<W>, tick: u32, task: TaskId, before: bool, now: bool)
+    ensures { Wrote W.contents out.old out.new (late_change tick task.0 before now) }
+{
+    if tick == 0 || !same_bit(before, now) {
+        add_bit(out, now, b"l", task.0);
+    }
+}
+
+// Whether a task becomes late in a tick, or isn't late any more.
+fn add_task_late<W: Write>(out: &mut Sink<W>, plan: &Plan, recent: &Recent, tick: u32, task: TaskId)
+    requires plan { IsPlan plan.now }
+    requires task { task.0 < length plan.now.tasks }
+    ensures { (rows : List TraceRow) → TellsTick plan.now rows tick recent.now → Wrote W.contents out.old out.new (task_late_change plan.now rows tick task.0) }
+{
+    let now = is_late(plan, &recent.before, tick, task);
+    let before = is_late(plan, &recent.earlier, tick.saturating_sub(1), task);
+    add_late_change(out, tick, task, before, now);
+}
+
 // What a tick changes of a task.
 fn add_task_change<W: Write>(
     out: &mut Sink<W>,
@@ -189,15 +248,8 @@ fn add_task_change<W: Write>(
     requires task { task.0 < length plan.now.tasks }
     ensures { (rows : List TraceRow) → TellsTick plan.now rows tick recent.now → Wrote W.contents out.old out.new (task_change plan.now rows tick task.0) }
 {
-    let now = task_state(plan, &recent.before, &recent.latest, tick, task);
-    let before = task_state(
-        plan,
-        &recent.earlier,
-        &recent.before,
-        tick.saturating_sub(1),
-        task,
-    );
-    add_state_change(out, tick, task, before, now);
+    add_task_state(out, plan, recent, tick, task);
+    add_task_late(out, plan, recent, tick, task);
 }
 
 // What a tick changes of the tasks.
@@ -305,7 +357,11 @@ fn add_task_head<W: Write>(out: &mut Sink<W>, plan: &Plan, task: TaskId)
     add_number(out, task.0);
     out.add(b" task_");
     out.add(task_word(plan, task));
-    out.add(b" $end\n");
+    out.add(b" $end\n$var wire 1 l");
+    add_number(out, task.0);
+    out.add(b" task_");
+    out.add(task_word(plan, task));
+    out.add(b"_late $end\n");
 }
 
 // The signals of all tasks.

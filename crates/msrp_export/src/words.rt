@@ -1,7 +1,7 @@
 //! Words of rows and of rules, and the names of tasks and resources.
 ghost use Rattle.std.specs.Prelude.{◌≡◌, decimal};
 ghost use Rattle.msrp_plan.specs.Bytes.{Wrote};
-ghost use Rattle.msrp_export.specs.Words.{job_text, kind_text, res_text, rule_text, state_text, task_name, res_name};
+ghost use Rattle.msrp_export.specs.Words.{bit_text, job_text, kind_text, res_text, rule_text, state_text, task_name, res_name};
 
 use crate::states::TaskState;
 use itoa::Buffer;
@@ -54,8 +54,15 @@ pub(crate) fn state_word(state: TaskState) -> &'static [u8]
         TaskState::Running => b"running",
         TaskState::Holding => b"holding",
         TaskState::Spinning => b"spinning",
-        TaskState::Late => b"late",
     }
+}
+
+/// A bit.
+#[tactic(auto, unfolding(crate::specs::Words::bit_text))]
+pub(crate) fn bit_word(bit: bool) -> &'static [u8]
+    ensures { result.now ≡ bit_text bit }
+{
+    if bit { b"1" } else { b"0" }
 }
 
 /// The name of a task, or a dash where the plan has no such task.

@@ -1,7 +1,5 @@
+use Rattle.msrp_plan.proofs.Writes.{wrote-more}
 use Rattle.msrp_export.proofs.vcd.add_task_change.Goals as goal
 
 pub returns : goal.returns
-returns g c = λ rows told.
-    let now = c.task_state-now.ensures _ _ told.before told.latest in
-    let before = rw c.saturating_sub.ensures at c.task_state-before.ensures _ _ told.earlier told.before in
-    rw (before, now) at c.add_state_change.ensures
+returns g c = λ rows told. wrote-more _ _ _ _ _ _ (c.add_task_state.ensures rows told) (c.add_task_late.ensures rows told)
