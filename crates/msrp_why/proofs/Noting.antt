@@ -1,8 +1,8 @@
 -- What is noted of the resources stays what the rows say, one row more.
-use Rattle.std.proofs.Common.{◌≡◌, ◌≢◌, ℕ, zero, suc, ◌+◌, ◌-◌, ◌*◌, ◌^◌, min, ◌<◌, ◌≤◌, ◌==◌, ◌&&◌, Bool, true, false, cond, List, [], ◌∷◌, ◌++◌, Option, Some, None, refl, ap, sym, ◌∙◌, subst, arith, length, length-append, length-drop, drop, append-nil, is_some, slice_get, slice_set}
+use Rattle.std.proofs.Common.{◌≡◌, ◌≢◌, ℕ, zero, suc, ◌+◌, ◌-◌, ◌^◌, min, ◌<◌, ◌≤◌, ◌==◌, ◌&&◌, Bool, true, false, cond, List, [], ◌∷◌, ◌++◌, Option, Some, None, refl, ap, sym, ◌∙◌, subst, arith, length, length-append, length-drop, drop, append-nil, is_some, slice_get, slice_set}
 use Rattle.std.specs.List.{Contains, cons_option, filter, fold}
 use Rattle.std.proofs.Math.Bool.{true≢false}
-use Rattle.std.proofs.Math.Nat.{min-eq_left, mul-le-mul_left}
+use Rattle.std.proofs.Math.Nat.{min-eq_left}
 use Rattle.std.proofs.lemmas.Bool.{and_parts, eq-eqb, eqb-false, eqb-true}
 use Rattle.std.proofs.lemmas.Option.{same_Some}
 use Rattle.std.proofs.lemmas.List.{drop-append-le, drop-drop}
@@ -33,9 +33,13 @@ use Rattle.msrp_plan.proofs.Queues.QueueMembers.{queue_at, queue_short}
 use Rattle.msrp_plan.proofs.TaskUnits.PlanUnits.{units_lock}
 use Rattle.msrp_plan.proofs.TaskUnits.UnitKinds.{Grants, Locks, Queues, Releases, Runs, Spins, Takes, Unlocks, step_of}
 use Rattle.msrp_sim.proofs.Standing.{get_set_other, get_set_same}
-use Rattle.msrp_why.specs.Noted.{IsNoted, changes, is_change, last_change, last_with, numbered, queue_rows, queue_with, requests}
+use Rattle.msrp_why.specs.Exercise.{AreResourceCounts}
+use Rattle.msrp_why.specs.Inside.Steps.{IsCountStep}
+use Rattle.msrp_why.specs.Noted.{IsNoted, last_with, queue_with}
+use Rattle.msrp_why.specs.NumberedRows.{changes, is_change, last_change, last_row, numbered, queue_rows, requests}
 use Rattle.msrp_why.specs.declared.notes.Numbered.{Numbered}
 use Rattle.msrp_why.specs.declared.notes.ResourceNotes.{ResourceNotes}
+use Rattle.msrp_why.proofs.Exercising.{counts_off, counts_on, few_before}
 
 -- ---- the rows with their numbers, one more
 numbered_push : (n : ℕ) (rows : List Row) (r : Row) → numbered n (rows ++ r ∷ []) ≡ numbered n rows ++ record { number = n + length rows + 1; row = r } ∷ []
@@ -57,6 +61,12 @@ numbered_more rows r =
 -- those that pass a test, one more
 filter_one : (p : Numbered → Bool) (es : List Numbered) (e : Numbered) (b : Bool) → p e ≡ b → filter p (es ++ e ∷ []) ≡ filter p es ++ cond b (e ∷ []) []
 filter_one p es e b h = filter-append p es (e ∷ []) ∙ ap (λ c. filter p es ++ cond c (e ∷ []) []) h
+
+-- ---- the last row
+pub last_row_push : (rows : List Row) (r : Row) (n : ℕ) → n ≡ length rows + 1 → Some (record { number = n; row = r }) ≡ last_row (rows ++ r ∷ [])
+last_row_push rows r n at =
+    let one : ℕ → Option Numbered = λ k. Some (record { number = k; row = r }) in
+    ap one at ∙ (sym (fold_push (λ (o : Option Numbered) (e : Numbered). Some e) None (numbered 0 rows) (record { number = length rows + 1; row = r })) ∙ ap (fold (λ _ e. Some e) None) (sym (numbered_more rows r)))
 
 -- ---- the last change
 last_push : (g : ℕ) (rows : List Row) (r : Row) (b : Bool) → changes g (record { number = length rows + 1; row = r }) ≡ b → last_change g (rows ++ r ∷ []) ≡ cond b (Some (record { number = length rows + 1; row = r })) (last_change g rows)
@@ -231,10 +241,10 @@ pub record AreEmpty (n : ℕ) (notes : List ResourceNotes) : Type 0 where
   pub size : length notes ≡ n
   pub each : (g : ℕ) (x : ResourceNotes) → slice_get notes g ≡ Some x → IsNoted [] g x
 
-pub empty_more : (n : ℕ) (notes : List ResourceNotes) (x : ResourceNotes) → AreEmpty n notes → x.queue.items ≡ [] → x.last ≡ None → AreEmpty (n + 1) (notes ++ x ∷ [])
-empty_more n notes x all queue last = record {
+pub empty_more : (n : ℕ) (notes : List ResourceNotes) (x : ResourceNotes) → AreEmpty n notes → x.queue.items ≡ [] → x.last ≡ None → ((g : ℕ) → AreResourceCounts [] g x.counts) → AreEmpty (n + 1) (notes ++ x ∷ [])
+empty_more n notes x all queue last counts = record {
   size = length-append notes (x ∷ []) ∙ ap (λ k. k + 1) all.size;
-  each = places_push (IsNoted []) notes x all.each (record { queue = queue; last = last });
+  each = places_push (IsNoted []) notes x all.each (record { queue = queue; last = last; counts = counts (length notes) });
 }
 
 -- a row that is on a resource
@@ -255,13 +265,13 @@ module _ (plan : PlanModel) (rows : List Row) (r : Row) (old : List ResourceNote
   each_off off g n has =
       let is = noted g n has in
       let away = off g (slice_get_low old g n has) in
-      record { queue = is.queue ∙ queue_off g rows r away; last = is.last ∙ last_off g rows r away }
+      record { queue = is.queue ∙ queue_off g rows r away; last = is.last ∙ last_off g rows r away; counts = counts_off g rows r n.counts away is.counts }
 
   -- a row on one of them
   pub each_on : (res : ResId) (one new : ResourceNotes) → IsPlan plan → IsRunStart plan (rows ++ r ∷ []) → r.res ≡ Some res → slice_get old res.0 ≡ Some one
-      → ((is_request r.kind ≡ true → length one.queue.items < 8) → new.queue.items ≡ queue_with r.kind one.queue.items (record { number = length rows + 1; row = r })) → new.last ≡ last_with r.kind one.last (record { number = length rows + 1; row = r })
+      → ((is_request r.kind ≡ true → length one.queue.items < 8) → new.queue.items ≡ queue_with r.kind one.queue.items (record { number = length rows + 1; row = r })) → new.last ≡ last_with r.kind one.last (record { number = length rows + 1; row = r }) → IsCountStep r one new
       → (g : ℕ) (n : ResourceNotes) → slice_get (slice_set old res.0 new) g ≡ Some n → IsNoted (rows ++ r ∷ []) g n
-  each_on res one new ok start on has queue last g n is = by_place (g == res.0) refl
+  each_on res one new ok start on has queue last counts g n is = by_place (g == res.0) refl
     where
       before : IsNoted rows res.0 one
       before = noted res.0 one has
@@ -270,10 +280,12 @@ module _ (plan : PlanModel) (rows : List Row) (r : Row) (old : List ResourceNote
       now =
           let here = on_it r res on in
           let e : Numbered = record { number = length rows + 1; row = r } in
+          let queued = queue (λ request. subst (λ q. length q < 8) (sym before.queue) (request_short plan rows r res.0 ok start here request))
+          ∙ (ap (λ q. queue_with r.kind q e) before.queue ∙ queue_noted plan rows r res.0 ok start here) in
           record {
-            queue = queue (λ request. subst (λ q. length q < 8) (sym before.queue) (request_short plan rows r res.0 ok start here request))
-                ∙ (ap (λ q. queue_with r.kind q e) before.queue ∙ queue_noted plan rows r res.0 ok start here);
+            queue = queued;
             last = last ∙ (ap (λ l. last_with r.kind l e) before.last ∙ last_noted res.0 rows r here);
+            counts = counts_on res.0 rows r one new (few_before plan rows r ok start) here counts before.last queued before.counts;
           }
 
       by_place : (b : Bool) → (g == res.0) ≡ b → IsNoted (rows ++ r ∷ []) g n
@@ -285,17 +297,14 @@ module _ (plan : PlanModel) (rows : List Row) (r : Row) (old : List ResourceNote
           let ne : g ≢ res.0 = eqb-false g res.0 e in
           let was = noted g n (sym (get_set_other old res.0 g new ne) ∙ is) in
           let away = off_it r res g on ne in
-          record { queue = was.queue ∙ queue_off g rows r away; last = was.last ∙ last_off g rows r away }
+          record { queue = was.queue ∙ queue_off g rows r away; last = was.last ∙ last_off g rows r away; counts = counts_off g rows r n.counts away was.counts }
 
 -- ---- how many rows were noted
-few : (n cores ticks : ℕ) → n ≤ cores * ticks → cores ≤ 8 → ticks ≤ 20000 → n ≤ 160000
-few n cores ticks h c t = let a = mul-le-mul_left cores t in omega (arith, a)
-
 pub one_more : (plan : PlanModel) (rows : List Row) (r : Row) (k n : ℕ) → IsPlan plan → IsRunStart plan (rows ++ r ∷ []) → k ≡ length rows → n ≡ min (k + 1) (2 ^ 32 - 1) → n ≡ length rows + 1
 one_more plan rows r k n ok start at is =
     let size = length-append rows (r ∷ []) in
-    let most = few (length (rows ++ r ∷ [])) plan.cores plan.ticks start.size ok.draft.cores.1 ok.draft.ticks.1 in
-    is ∙ (min-eq_left (omega (arith, at, size, most)) ∙ ap (λ m. m + 1) at)
+    let few = few_before plan rows r ok start in
+    is ∙ (min-eq_left (omega (arith, at, size, few)) ∙ ap (λ m. m + 1) at)
 
 -- a row that is on no resource, or on none of the plan
 pub noted_off : (plan : PlanModel) (rows : List Row) (r : Row) (notes : List ResourceNotes) → ((g : ℕ) (n : ResourceNotes) → slice_get notes g ≡ Some n → IsNoted rows g n) → r.res ≡ None → (g : ℕ) (n : ResourceNotes) → slice_get notes g ≡ Some n → IsNoted (rows ++ r ∷ []) g n

@@ -1,10 +1,11 @@
 -- Texts that are written line by line.
-use Rattle.std.proofs.Common.{◌≡◌, ℕ, ◌+◌, ◌<◌, List, [], ◌∷◌, ◌++◌, Option, ap, sym, ◌∙◌, subst, append-nil, get_or, length, take}
-use Rattle.std.specs.List.{flat_map}
+use Rattle.std.proofs.Common.{◌≡◌, ℕ, ◌+◌, ◌<◌, List, [], ◌∷◌, ◌++◌, Option, ap, sym, ◌∙◌, subst, arith, append-nil, append_assoc, get_or, length, take}
+use Rattle.std.specs.List.{flat_map, range_with_len}
 use Rattle.std.proofs.lemmas.List.Concat.{flat_map-append}
 use Rattle.std.proofs.lemmas.List.{take_more}
 use Rattle.msrp_plan.specs.Bytes.{Wrote}
 use Rattle.msrp_plan.specs.declared.bytes.Sink.{Sink}
+use Rattle.msrp_plan.proofs.Lists.Ranges.{range_more}
 use Rattle.msrp_plan.proofs.Writes.{wrote-more}
 
 -- the lines of one element more
@@ -13,3 +14,13 @@ flat_one f xs i d l = ap (flat_map f) (take_more xs i d l) ∙ (flat_map-append 
 
 pub wrote-item : {W X : Type 0} (contents : W → Option (List ℕ)) (a b c : Sink W) (f : X → List ℕ) (xs : List X) (i : ℕ) (x : X) → i < length xs → x ≡ get_or xs i x → Wrote contents a b (flat_map f (take i xs)) → Wrote contents b c (f x) → Wrote contents a c (flat_map f (take (i + 1) xs))
 wrote-item contents a b c f xs i x l is before next = subst (Wrote contents a c) (sym (flat_one f xs i x l ∙ ap (λ y. flat_map f (take i xs) ++ f y) (sym is))) (wrote-more contents a b c _ _ before next)
+
+-- the lines of one number more, behind what stands in front
+flat_number : (f : ℕ → List ℕ) (n : ℕ) → flat_map f (range_with_len 0 (n + 1)) ≡ flat_map f (range_with_len 0 n) ++ f n
+flat_number f n =
+    let at : 0 + n ≡ n = omega arith in
+    ap (flat_map f) (range_more 0 n) ∙ (flat_map-append f (range_with_len 0 n) ((0 + n) ∷ []) ∙ ap (λ ys. flat_map f (range_with_len 0 n) ++ ys) (append-nil (f (0 + n)) ∙ ap f at))
+
+pub wrote-number : {W : Type 0} (contents : W → Option (List ℕ)) (a b c : Sink W) (front : List ℕ) (f : ℕ → List ℕ) (n : ℕ) → Wrote contents a b (front ++ flat_map f (range_with_len 0 n)) → Wrote contents b c (f n) → Wrote contents a c (front ++ flat_map f (range_with_len 0 (n + 1)))
+wrote-number contents a b c front f n before next =
+    subst (Wrote contents a c) (append_assoc front (flat_map f (range_with_len 0 n)) (f n) ∙ ap (λ ys. front ++ ys) (sym (flat_number f n))) (wrote-more contents a b c _ _ before next)

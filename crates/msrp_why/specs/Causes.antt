@@ -15,6 +15,8 @@ use Rattle.msrp_plan.specs.declared.rows.Row.{Row}
 use Rattle.msrp_sim.specs.Cores.{IsNextRow}
 use Rattle.msrp_why.specs.Noted.{AreNoted}
 use Rattle.msrp_why.specs.declared.causes.Cause.{Cause}
+use Rattle.msrp_why.specs.declared.causes.Ground.{Ground}
+use Rattle.msrp_why.specs.declared.causes.Ground.TheVariants.{End, Row as AtRow}
 
 -- where a core in its turn breaks a rule, the row that is due is the one legal row of that core after the rows before, with
 -- its ahead; where no row of the core is due nothing is said
@@ -50,7 +52,7 @@ pub record IsCauseIn (plan : PlanModel) (rows : List Row) (cause : Cause) : Type
   pub place : rows ≡ before ++ row ∷ behind
   pub is : IsCauseAfter plan before row cause
 
--- the cause of a verdict on rows: that of a fault at one of them; a good trace has none, nor a row that is missing
-abbrev pub IsCauseOf : PlanModel → List Row → Result ⊤ Fault → Option Cause → Type 0
-IsCauseOf plan rows found (Some cause) = (found ≡ Err cause.fault) × IsCauseIn plan rows cause
-IsCauseOf plan rows found None = found ≡ answer_of (missing plan rows)
+-- what a verdict on rows stands on: the cause of a fault at one of them; or, where none has a fault, what is noted of all
+abbrev pub IsGroundOf : PlanModel → List Row → Result ⊤ Fault → Ground → Type 0
+IsGroundOf plan rows found (AtRow cause) = (found ≡ Err cause.fault) × IsCauseIn plan rows cause
+IsGroundOf plan rows found (End notes) = (found ≡ answer_of (missing plan rows)) × AreNoted plan rows notes

@@ -95,3 +95,7 @@ turn_line plan n = codes "due here: a row of tick " ++ (decimal (n / plan.cores)
 -- how many rows are due
 abbrev pub rows_line : PlanModel → List ℕ
 rows_line plan = codes "rows due: " ++ (decimal (plan.cores * plan.ticks) ++ codes "\n")
+
+-- how many came
+abbrev pub came_line : ℕ → List ℕ
+came_line n = codes "rows that came: " ++ (decimal n ++ codes "\n")

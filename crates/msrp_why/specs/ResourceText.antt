@@ -13,6 +13,11 @@ use Rattle.msrp_why.specs.declared.notes.ResourceNotes.{ResourceNotes}
 abbrev pub since_line : PlanModel → List ℕ → Numbered → List ℕ
 since_line plan words e = words ++ (decimal e.number ++ (codes ": " ++ told_row plan e.row))
 
+-- the row before
+abbrev pub before_lines : PlanModel → Option Numbered → List ℕ
+before_lines plan None = []
+before_lines plan (Some e) = since_line plan (codes "the row before is row ") e
+
 -- ---- what a core holds or awaits
 abbrev pub own_line : PlanModel → ℕ → Numbered → List ℕ
 own_line plan c e = if e.row.core.0 == c then since_line plan (codes "held or awaited since row ") e else []

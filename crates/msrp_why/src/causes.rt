@@ -9,6 +9,7 @@ ghost use Rattle.msrp_why.specs.Noted.{AreNoted};
 use crate::notes::Notes;
 use msrp_audit::Auditor;
 use msrp_core::CoreState;
+use msrp_levels::Levels;
 use msrp_plan::{Fault, Plan, Row};
 use std::alloc::Global;
 
@@ -26,15 +27,26 @@ pub struct Cause {
     pub notes: Notes,
 }
 
+/// What a verdict stands on.
+#[derive(Debug, Drop)]
+pub enum Ground {
+    /// The cause of a fault at a row.
+    Row(Cause),
+    /// What was noted of all rows, where none has a fault: the run is legal, or rows are missing.
+    End(Notes),
+}
+
 /// The next row, as the auditor judges it: a fault comes with its cause, which takes the notes away. It takes no memory.
 pub fn feed(
     alloc: Global,
     plan: &Plan,
+    levels: &Levels<'_>,
     auditor: &mut Auditor<'_>,
     notes: &mut Notes,
     row: Row,
 ) -> Result<(), Cause>
     requires plan { auditor.old.plan ≡ plan.now }
+    requires levels { levels.now ≡ plan.now }
     ensures plan { auditor.new.plan ≡ auditor.old.plan }
     ensures fed { (rows : List TraceRow) → HasFed auditor.old rows → HasFed auditor.new (rows ++ row ∷ []) }
     ensures good { (rows : List TraceRow) → HasFed auditor.old rows → IfOk result (λ _. fault_in plan.now (rows ++ row ∷ []) ≡ None) }
@@ -47,7 +59,7 @@ pub fn feed(
     let state = auditor.state(row.core);
     match auditor.feed(row) {
         Ok(()) => {
-            notes.note(plan, row);
+            notes.note(plan, levels, state, row);
             Ok(())
         }
         Err(fault) => Err(Cause {

@@ -2,7 +2,7 @@
 ghost use Rattle.std.specs.Prelude.{◌≡◌, length};
 ghost use Rattle.std.specs.List.{flat_map};
 ghost use Rattle.msrp_plan.specs.Bytes.{Wrote};
-ghost use Rattle.msrp_why.specs.ResourceText.{held_lines, held_text, last_lines, lock_lines, own_line, queue_lines, reply_text, resource_lines, since_line};
+ghost use Rattle.msrp_why.specs.ResourceText.{before_lines, held_lines, held_text, last_lines, lock_lines, own_line, queue_lines, reply_text, resource_lines, since_line};
 
 use crate::notes::{Notes, Numbered, ResourceNotes};
 use crate::telling::{write_number, write_row};
@@ -18,6 +18,15 @@ fn write_since<W: Write>(out: &mut Sink<W>, plan: &Plan, words: &[u8], row: Numb
     write_number(out, u64::from(row.number));
     out.add(b": ");
     write_row(out, plan, row.row);
+}
+
+/// The row before, if there is one.
+pub(crate) fn write_before<W: Write>(out: &mut Sink<W>, plan: &Plan, last: Option<Numbered>)
+    ensures { Wrote W.contents out.old out.new (before_lines plan.now last) }
+{
+    if let Some(row) = last {
+        write_since(out, plan, b"the row before is row ", row);
+    }
 }
 
 // A row, if it is one of the core.

@@ -5,10 +5,11 @@ ghost use Rattle.msrp_plan.specs.Bytes.{Wrote};
 ghost use Rattle.msrp_plan.specs.Plan.{release_tick};
 ghost use Rattle.msrp_trace.specs.TraceText.{is_named, row_text};
 ghost use Rattle.msrp_why.specs.WhyText.{cause_text, facts_text, missing_text};
-ghost use Rattle.msrp_why.specs.FactLines.{ceiling_line, due_lines, is_job_of, job_line, job_lines, owner_line, owner_lines, place_line, rows_line, rule_line, state_text, told_row, turn_line, units_done, units_line, units_lines, version_told, whom_line};
+ghost use Rattle.msrp_why.specs.FactLines.{came_line, ceiling_line, due_lines, is_job_of, job_line, job_lines, owner_line, owner_lines, place_line, rows_line, rule_line, state_text, told_row, turn_line, units_done, units_line, units_lines, version_told, whom_line};
 
 use crate::causes::Cause;
-use crate::resources::{write_held, write_reply};
+use crate::notes::Notes;
+use crate::resources::{write_before, write_held, write_reply};
 use itoa::Buffer;
 use msrp_core::CoreState;
 use msrp_levels::Levels;
@@ -91,8 +92,8 @@ fn write_due<W: Write>(out: &mut Sink<W>, plan: &Plan, due: Option<Row>)
     }
 }
 
-// Whether there is such a job.
-fn is_job_of(plan: &Plan, job: JobId) -> bool
+/// Whether there is such a job.
+pub(crate) fn is_job_of(plan: &Plan, job: JobId) -> bool
     ensures is { result ≡ is_job_of plan.now job }
     ensures task { result ≡ true → job.task.0 < length plan.now.tasks }
     ensures released { result ≡ true → IsSome (release_tick plan.now job) }
@@ -177,8 +178,8 @@ fn write_state<W: Write>(
     }
 }
 
-// How many of its units the job has done.
-fn units_done(state: CoreState, job: JobId) -> u32
+/// How many of its units the job has done.
+pub(crate) fn units_done(state: CoreState, job: JobId) -> u32
     ensures { result ≡ units_done state job }
 {
     match state.running {
@@ -260,7 +261,10 @@ fn write_facts<W: Write>(out: &mut Sink<W>, plan: &Plan, levels: &Levels<'_>, ca
     ensures { Wrote W.contents out.old out.new (facts_text plan.now cause.now cause.now.fault.rule) }
 {
     match cause.fault.rule {
-        Rule::A1 => write_turn(out, plan, cause.fault.row),
+        Rule::A1 => {
+            write_turn(out, plan, cause.fault.row);
+            write_before(out, plan, cause.notes.last);
+        }
         Rule::A2 => {
             write_due(out, plan, cause.due);
             write_owners(out, plan, cause.row.job);
@@ -281,7 +285,10 @@ fn write_facts<W: Write>(out: &mut Sink<W>, plan: &Plan, levels: &Levels<'_>, ca
             write_due(out, plan, cause.due);
             write_reply(out, plan, &cause.notes, cause.row.res);
         }
-        Rule::A6 | Rule::A7 => write_rows(out, plan),
+        Rule::A6 | Rule::A7 => {
+            write_rows(out, plan);
+            write_before(out, plan, cause.notes.last);
+        }
     }
 }
 
@@ -295,10 +302,21 @@ pub fn write_cause<W: Write>(out: &mut Sink<W>, plan: &Plan, levels: &Levels<'_>
     write_facts(out, plan, levels, cause);
 }
 
-/// Tells that rows are missing.
-pub fn write_missing<W: Write>(out: &mut Sink<W>, plan: &Plan)
-    ensures { Wrote W.contents out.old out.new (missing_text plan.now) }
+// How many rows came.
+fn write_came<W: Write>(out: &mut Sink<W>, rows: u32)
+    ensures { Wrote W.contents out.old out.new (came_line rows) }
+{
+    out.add(b"rows that came: ");
+    write_number(out, u64::from(rows));
+    out.add(b"\n");
+}
+
+/// Tells that rows are missing: how many are due, how many came, and the last of them.
+pub fn write_missing<W: Write>(out: &mut Sink<W>, plan: &Plan, notes: &Notes)
+    ensures { Wrote W.contents out.old out.new (missing_text plan.now notes.now) }
 {
     out.add(rule_words(Rule::A6));
     write_rows(out, plan);
+    write_came(out, notes.rows);
+    write_before(out, plan, notes.last);
 }

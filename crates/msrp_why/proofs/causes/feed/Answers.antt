@@ -1,11 +1,13 @@
 use Rattle.std.proofs.Common.{sym, subst, ◌++◌, ◌∷◌, []}
+use Rattle.std.specs.Option.{IsSomeAnd}
+use Rattle.msrp_core.specs.CoreStates.{IsCoreState}
 use Rattle.msrp_plan.specs.Plan.{PlanModel}
 use Rattle.msrp_plan.specs.Verdict.{fault_in}
 use Rattle.msrp_plan.specs.WellFormed.{IsPlan}
 use Rattle.std.specs.Prelude.{◌≡◌, None}
 use Rattle.msrp_why.specs.Causes.{IsCauseAfter}
 use Rattle.msrp_why.specs.Noted.{AreNoted}
-use Rattle.msrp_why.proofs.Causing.{cause_is, good_answer, good_start}
+use Rattle.msrp_why.proofs.Causing.{cause_is, good_answer, good_start, told_before}
 use Rattle.msrp_why.proofs.causes.feed.Goals as goal
 
 pub returns-in-Ok-clause-good : goal.returns-in-Ok-clause-good
@@ -13,7 +15,11 @@ returns-in-Ok-clause-good c = λ rows fed. subst (λ (p : PlanModel). fault_in p
 
 pub returns-in-Ok-clause-noted : goal.returns-in-Ok-clause-noted
 returns-in-Ok-clause-noted c = λ rows fed noted.
-    c.note.ensures rows (good_start c.args.plan.now (rows ++ c.args.row ∷ []) (subst (λ (p : PlanModel). fault_in p (rows ++ c.args.row ∷ []) ≡ None) c.requires.plan (good_answer _ c.in-Ok.field-0 (c.in-Ok.ensures.answer rows fed)))) noted
+    let r = c.args.row in
+    let good = good_answer _ c.in-Ok.field-0 (c.in-Ok.ensures.answer rows fed) in
+    let told = told_before c.args.auditor.now rows r c.state-state.result (subst IsPlan (sym c.requires.plan) c.cores-accepted.ensures.plan) fed good c.state-state.ensures in
+    c.note.ensures rows (good_start c.args.plan.now (rows ++ r ∷ []) (subst (λ (p : PlanModel). fault_in p (rows ++ r ∷ []) ≡ None) c.requires.plan good))
+    (subst (λ (p : PlanModel). IsSomeAnd c.state-state.result (IsCoreState p r.core.0 r.tick rows)) c.requires.plan told) noted
 
 pub returns-in-Err-clause-cause : goal.returns-in-Err-clause-cause
 returns-in-Err-clause-cause c = λ rows fed good noted.

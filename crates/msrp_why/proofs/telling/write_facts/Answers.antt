@@ -1,4 +1,4 @@
-use Rattle.std.proofs.Common.{subst, sym}
+use Rattle.std.proofs.Common.{inl, inr, subst, sym}
 use Rattle.msrp_plan.specs.Bytes.{Wrote}
 use Rattle.msrp_plan.proofs.Writes.{wrote-more}
 use Rattle.msrp_why.specs.WhyText.{facts_text}
@@ -19,3 +19,14 @@ returns-in-A4 g c =
 
 pub returns-in-A5 : goal.returns-in-A5
 returns-in-A5 g c = subst (λ u. Wrote g.W.Write.contents c.args.out.now c.write_reply.new.out (facts_text c.args.plan.now c.args.cause.now u)) (sym c.in-A5.is) (wrote-more _ _ _ _ _ _ c.write_due-in-A5.ensures c.write_reply.ensures)
+
+pub returns-in-A1 : goal.returns-in-A1
+returns-in-A1 g c = subst (λ u. Wrote g.W.Write.contents c.args.out.now c.write_before.new.out (facts_text c.args.plan.now c.args.cause.now u)) (sym c.in-A1.is) (wrote-more _ _ _ _ _ _ c.write_turn.ensures c.write_before.ensures)
+
+pub returns-in-A6 : goal.returns-in-A6
+returns-in-A6 g c =
+    let both = wrote-more _ _ _ _ _ _ c.write_rows.ensures c.write_before-in-A6.ensures in
+    elim c.in-A6.is [
+      | inl one ↦ subst (λ u. Wrote g.W.Write.contents c.args.out.now c.write_before-in-A6.new.out (facts_text c.args.plan.now c.args.cause.now u)) (sym one) both
+      | inr other ↦ subst (λ u. Wrote g.W.Write.contents c.args.out.now c.write_before-in-A6.new.out (facts_text c.args.plan.now c.args.cause.now u)) (sym other) both
+    ]

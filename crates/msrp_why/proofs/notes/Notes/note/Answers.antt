@@ -1,50 +1,17 @@
-use Rattle.std.proofs.Common.{◌≡◌, ◌<◌, ◌∷◌, [], ℕ, Some, true, length, length-append, refl, sym, ◌∙◌, subst, arith, slice_get}
-use Rattle.std.proofs.lemmas.List.{length-set}
-use Rattle.std.proofs.lemmas.Option.{slice_get_read}
-use Rattle.msrp_plan.specs.Queues.{is_request}
-use Rattle.msrp_why.specs.Noted.{last_with, queue_with}
-use Rattle.msrp_why.specs.declared.notes.ResourceNotes.{ResourceNotes}
-use Rattle.msrp_why.proofs.Noting.{each_on, noted_off, noted_past, one_more}
+use Rattle.std.proofs.Common.{◌++◌, ◌∷◌, [], subst, sym}
+use Rattle.std.specs.Option.{IsSomeAnd}
+use Rattle.msrp_core.specs.CoreStates.{IsCoreState}
+use Rattle.msrp_why.specs.Exercise.{AreTurnCounts}
 use Rattle.msrp_why.proofs.notes.Notes.note.Goals as goal
 
-pub returns-then-res-len : goal.returns-then-res-len
-returns-then-res-len c = λ rows start noted.
-    let r = c.args.row in
-    let res = c.in-Some.res in
-    let items = c.args.self.now.resources.items in
-    let one : ResourceNotes = c.index_mut.result.now in
-    let new : ResourceNotes = c.note.new.self in
-    let ok = c.cores-accepted.ensures.plan in
-    let size : c.len.result ≡ length items = c.len.ensures ∙ c.args.self.now.resources.ok.0 in
-    let low = c.if-res-len.true in
-    let has : slice_get items res.0 ≡ Some one = slice_get_read items (length items) res.0 one refl (omega (arith, low, size)) c.index_mut.ensures.value in
-    let number = one_more c.args.plan.now rows r c.args.self.now.rows c.saturating_add-number.result ok start noted.count c.saturating_add-number.ensures in
-    let Step : ℕ → Type 0 = λ k.
-    ((is_request r.kind ≡ true → length one.queue.items < 8) → new.queue.items ≡ queue_with r.kind one.queue.items (record { number = k; row = r })) × (new.last ≡ last_with r.kind one.last (record { number = k; row = r })) in
-    let step = subst Step number (c.note.ensures.queue, c.note.ensures.last) in
+pub returns-in-Some : goal.returns-in-Some
+returns-in-Some c = λ rows start state noted.
+    let is = subst (λ o. IsSomeAnd o (IsCoreState c.args.plan.now c.args.row.core.0 c.args.row.tick rows)) c.in-Some.is state in
+    let was = noted.resources in
     record {
-      count = number ∙ sym (length-append rows (r ∷ []));
-      size = length-set items res.0 new ∙ noted.size;
-      each = each_on c.args.plan.now rows r items noted.each res one new ok start c.in-Some.is has step.0 step.1;
-    }
-
-pub returns-else-res-len : goal.returns-else-res-len
-returns-else-res-len c = λ rows start noted.
-    let r = c.args.row in
-    let items = c.args.self.now.resources.items in
-    let size : c.len.result ≡ length items = c.len.ensures ∙ c.args.self.now.resources.ok.0 in
-    let past = c.if-res-len.false in
-    record {
-      count = one_more c.args.plan.now rows r c.args.self.now.rows c.saturating_add-number.result c.cores-accepted.ensures.plan start noted.count c.saturating_add-number.ensures ∙ sym (length-append rows (r ∷ []));
-      size = noted.size;
-      each = noted_past c.args.plan.now rows r c.in-Some.res items noted.each c.in-Some.is (omega (arith, past, size));
+      resources = c.note_row.ensures.rows rows start (record { count = was.count; last = was.last; size = was.size; each = was.each });
+      turns = subst (AreTurnCounts c.args.plan.now (rows ++ c.args.row ∷ [])) (sym c.note_row.ensures.turns) (c.note.ensures rows start is noted.turns);
     }
 
 pub returns-in_default : goal.returns-in_default
-returns-in_default c = λ rows start noted.
-    let r = c.args.row in
-    record {
-      count = one_more c.args.plan.now rows r c.args.self.now.rows c.saturating_add-number.result c.cores-accepted.ensures.plan start noted.count c.saturating_add-number.ensures ∙ sym (length-append rows (r ∷ []));
-      size = noted.size;
-      each = noted_off c.args.plan.now rows r c.args.self.now.resources.items noted.each c.in_default.is;
-    }
+returns-in_default c = λ rows start state noted. absurd (subst (λ o. IsSomeAnd o (IsCoreState c.args.plan.now c.args.row.core.0 c.args.row.tick rows)) c.in_default.is state)

@@ -1,0 +1,161 @@
+-- What a run exercised, one row more.
+use Rattle.std.proofs.Common.{◌≡◌, ℕ, suc, ◌+◌, ◌*◌, max, ◌<◌, ◌≤◌, ◌&&◌, Bool, true, false, cond, not, nat_lt, List, [], ◌∷◌, ◌++◌, Option, Some, None, refl, ap, sym, ◌∙◌, subst, arith, length, length-append, append-nil, append_assoc, lt-ltb, inl, inr}
+use Rattle.std.specs.List.{Contains}
+use Rattle.std.specs.Option.{ForSome}
+use Rattle.std.proofs.Math.Nat.{max-zero, mul-le-mul_left}
+use Rattle.std.proofs.lemmas.Bool.{and_parts, not-true}
+use Rattle.std.proofs.lemmas.List.Elements.{All-contains, All-from_recursion}
+use Rattle.msrp_core.specs.CoreStates.{IsCoreState}
+use Rattle.msrp_core.specs.declared.states.CoreState.{CoreState}
+use Rattle.msrp_plan.specs.Blocking.{count_after}
+use Rattle.msrp_plan.specs.Choice.{head, is_before}
+use Rattle.msrp_plan.specs.Jobs.{done, is_job, is_released, is_started, jobs_of, jobs_on}
+use Rattle.msrp_plan.specs.Plan.{PlanModel}
+use Rattle.msrp_plan.specs.Queues.{is_on}
+use Rattle.msrp_plan.specs.Runs.{IsLegal, IsRunStart}
+use Rattle.msrp_plan.specs.WellFormed.{IsPlan}
+use Rattle.msrp_plan.specs.declared.ids.JobId.{JobId}
+use Rattle.msrp_plan.specs.declared.rows.Row.{Row}
+use Rattle.msrp_plan.proofs.Blocking.SectionRows.{count_after_push}
+use Rattle.msrp_plan.proofs.Choosing.Live.{nothing_done}
+use Rattle.msrp_plan.proofs.Choosing.Turns.{has_turn}
+use Rattle.msrp_plan.proofs.Jobs.JobLists.{core_jobs_below}
+use Rattle.msrp_plan.proofs.Jobs.JobTests.{is_job_is, same_self}
+use Rattle.msrp_plan.proofs.Legality.LegalRows.{IsTurn, legal_turn, turn_chosen, turn_core}
+use Rattle.msrp_plan.proofs.Lists.LeastKept.{least_in, least_passes}
+use Rattle.msrp_audit.proofs.Judging.{own_is}
+use Rattle.msrp_why.specs.Exercise.{AreResourceCounts, AreTurnCounts, ends, enters, finishes, finishes_late, is_entry, is_grant, is_granted_at_once, is_granted_later, is_in_tick, is_kept, is_other, is_past, is_queue, job_finishes, joins, keeps_head, most_after, one_if, preempts, queued_with}
+use Rattle.msrp_why.specs.FactLines.{is_job_of, units_done}
+use Rattle.msrp_why.specs.Inside.Steps.{IsCountStep}
+use Rattle.msrp_why.specs.Inside.Turns.{finishes_from}
+use Rattle.msrp_why.specs.NumberedRows.{last_change, queue_rows}
+use Rattle.msrp_why.specs.declared.exercise.ResourceCounts.{ResourceCounts}
+use Rattle.msrp_why.specs.declared.exercise.TurnCounts.{TurnCounts}
+use Rattle.msrp_why.specs.declared.notes.ResourceNotes.{ResourceNotes}
+
+-- the rows before another are few
+few : (n cores ticks : ℕ) → n ≤ cores * ticks → cores ≤ 8 → ticks ≤ 20000 → n ≤ 160000
+few n cores ticks h c t = let a = mul-le-mul_left cores t in omega (arith, a)
+
+pub few_before : (plan : PlanModel) (rows : List Row) (r : Row) → IsPlan plan → IsRunStart plan (rows ++ r ∷ []) → length rows < 160000
+few_before plan rows r ok start =
+    let size = length-append rows (r ∷ []) in
+    let most = few (length (rows ++ r ∷ [])) plan.cores plan.ticks start.size ok.draft.cores.1 ok.draft.ticks.1 in
+    omega (arith, size, most)
+
+-- no more are counted than there are rows
+count_few : {X : Type 0} (p : List X → X → Bool) (pre xs : List X) → count_after p pre xs ≤ length xs
+count_few p pre [] = omega arith
+count_few p pre (x ∷ xs) = by_test (p pre x) (count_few p (pre ++ x ∷ []) xs)
+  where
+    by_test : (b : Bool) → count_after p (pre ++ x ∷ []) xs ≤ length xs → cond b 1 0 + count_after p (pre ++ x ∷ []) xs ≤ suc (length xs)
+    by_test true h = omega (arith, h)
+    by_test false h = omega (arith, h)
+
+at_most : (n : ℕ) (b : Bool) (l : ℕ) → n ≤ l → l < 160000 → one_if n b ≡ n + cond b 1 0
+at_most n true l h few = omega (arith, h, few)
+at_most n false l h few = omega (arith, h, few)
+
+-- a count with one row more
+pub one_more_counted : (p : List Row → Row → Bool) (rows : List Row) (r : Row) (b : Bool) (old new : ℕ) → length rows < 160000 → p rows r ≡ b → new ≡ one_if old b → old ≡ count_after p [] rows → new ≡ count_after p [] (rows ++ r ∷ [])
+one_more_counted p rows r b old new few is step was =
+    let n : old ≤ length rows = subst (λ k. k ≤ length rows) (sym was) (count_few p [] rows) in
+    step ∙ (at_most old b (length rows) n few ∙ (ap (λ k. k + cond b 1 0) was ∙ (ap (λ c. count_after p [] rows + cond c 1 0) (sym is) ∙ sym (count_after_push p [] rows r))))
+
+-- and with one that doesn't count
+pub none_more_counted : (p : List Row → Row → Bool) (rows : List Row) (r : Row) (n : ℕ) → p rows r ≡ false → n ≡ count_after p [] rows → n ≡ count_after p [] (rows ++ r ∷ [])
+none_more_counted p rows r n is was =
+    let push : count_after p [] (rows ++ r ∷ []) ≡ count_after p [] rows + cond (p rows r) 1 0 = count_after_push p [] rows r in
+    let none : count_after p [] rows + cond (p rows r) 1 0 ≡ count_after p [] rows + 0 = ap (λ c. count_after p [] rows + cond c 1 0) is in
+    omega (arith, was, push, none)
+
+-- the greatest, with one row more
+most_push : (f : List Row → Row → ℕ) (most : ℕ) (pre rows : List Row) (r : Row) → most_after f most pre (rows ++ r ∷ []) ≡ max (most_after f most pre rows) (f (pre ++ rows) r)
+most_push f most pre [] r = ap (λ ys. max most (f ys r)) (sym (append-nil pre))
+most_push f most pre (x ∷ rows) r = most_push f (max most (f pre x)) (pre ++ x ∷ []) rows r ∙ ap (λ ys. max (most_after f (max most (f pre x)) (pre ++ x ∷ []) rows) (f ys r)) (append_assoc pre (x ∷ []) rows)
+
+pub most_with : (g : ℕ) (rows : List Row) (r : Row) (old new : ℕ) → is_on g r.res ≡ true → new ≡ max old (length (queue_rows g (rows ++ r ∷ []))) → old ≡ most_after (queued_with g) 0 [] rows → new ≡ most_after (queued_with g) 0 [] (rows ++ r ∷ [])
+most_with g rows r old new on step was =
+    step ∙ (ap (λ m. max m (length (queue_rows g (rows ++ r ∷ [])))) was
+    ∙ (ap (λ b. max (most_after (queued_with g) 0 [] rows) (cond b (length (queue_rows g (rows ++ r ∷ []))) 0)) (sym on)
+    ∙ sym (most_push (queued_with g) 0 [] rows r)))
+
+pub most_without : (g : ℕ) (rows : List Row) (r : Row) (n : ℕ) → is_on g r.res ≡ false → n ≡ most_after (queued_with g) 0 [] rows → n ≡ most_after (queued_with g) 0 [] (rows ++ r ∷ [])
+most_without g rows r n off was =
+    was ∙ (sym (max-zero (most_after (queued_with g) 0 [] rows))
+    ∙ (ap (λ b. max (most_after (queued_with g) 0 [] rows) (cond b (length (queue_rows g (rows ++ r ∷ []))) 0)) (sym off)
+    ∙ sym (most_push (queued_with g) 0 [] rows r)))
+
+-- ---- what the rows on a resource found
+-- a row that isn't on it
+pub counts_off : (g : ℕ) (rows : List Row) (r : Row) (n : ResourceCounts) → is_on g r.res ≡ false → AreResourceCounts rows g n → AreResourceCounts (rows ++ r ∷ []) g n
+counts_off g rows r n off was = record {
+  free = none_more_counted (enters g) rows r n.free (ap (λ b. b && is_entry r.kind) off) was.free;
+  joined = none_more_counted (joins g) rows r n.joined (ap (λ b. b && is_queue r.kind) off) was.joined;
+  at_once = none_more_counted (is_granted_at_once g) rows r n.at_once (ap (λ b. b && (is_grant r.kind && is_in_tick r.tick (last_change g rows))) off) was.at_once;
+  later = none_more_counted (is_granted_later g) rows r n.later (ap (λ b. b && (is_grant r.kind && not (is_in_tick r.tick (last_change g rows)))) off) was.later;
+  longest = most_without g rows r n.longest off was.longest;
+}
+
+-- a row on it
+pub counts_on : (g : ℕ) (rows : List Row) (r : Row) (old new : ResourceNotes) → length rows < 160000 → is_on g r.res ≡ true → IsCountStep r old new → old.last ≡ last_change g rows → new.queue.items ≡ queue_rows g (rows ++ r ∷ []) → AreResourceCounts rows g old.counts → AreResourceCounts (rows ++ r ∷ []) g new.counts
+counts_on g rows r old new few on step last queue was = record {
+  free = one_more_counted (enters g) rows r (is_entry r.kind) old.counts.free new.counts.free few (ap (λ b. b && is_entry r.kind) on) step.free was.free;
+  joined = one_more_counted (joins g) rows r (is_queue r.kind) old.counts.joined new.counts.joined few (ap (λ b. b && is_queue r.kind) on) step.joined was.joined;
+  at_once = one_more_counted (is_granted_at_once g) rows r (is_grant r.kind && is_in_tick r.tick old.last) old.counts.at_once new.counts.at_once few
+      (ap (λ b. b && (is_grant r.kind && is_in_tick r.tick (last_change g rows))) on ∙ ap (λ l. is_grant r.kind && is_in_tick r.tick l) (sym last)) step.at_once was.at_once;
+  later = one_more_counted (is_granted_later g) rows r (is_grant r.kind && not (is_in_tick r.tick old.last)) old.counts.later new.counts.later few
+      (ap (λ b. b && (is_grant r.kind && not (is_in_tick r.tick (last_change g rows)))) on ∙ ap (λ l. is_grant r.kind && not (is_in_tick r.tick l)) (sym last)) step.later was.later;
+  longest = most_with g rows r old.counts.longest new.counts.longest on (step.longest ∙ ap (λ q. max old.counts.longest (length q)) queue) was.longest;
+}
+
+-- ---- what the turns met
+module _ (plan : PlanModel) (rows : List Row) (r : Row) (s : CoreState) (ok : IsPlan plan) (legal : IsLegal plan rows r) (is : IsCoreState plan r.core.0 r.tick rows s) where
+  turn : IsTurn plan rows r
+  turn = legal_turn plan rows r legal
+
+  below : (j : JobId) → Contains (jobs_on plan r.core.0) j → j.task.0 < length plan.tasks
+  below j on = All-contains (λ i. i.task.0 < length plan.tasks) (jobs_on plan r.core.0) j (All-from_recursion (λ i. i.task.0 < length plan.tasks) (jobs_on plan r.core.0) (core_jobs_below plan r.core.0)) on
+
+  -- the row's job is one of the plan
+  pub job_below : ForSome r.job (λ j. j.task.0 < length plan.tasks)
+  job_below = λ j job. below j (turn.known j job)
+
+  pub job_known : ForSome r.job (λ j. is_job_of plan j ≡ true)
+  job_known = λ j job.
+      let low = below j (turn.known j job) in
+      let k : nat_lt j.k (length (jobs_of plan j.task.0)) ≡ true = own_is plan r j ok job low (turn_core plan rows r j turn job) ∙ legal.own in
+      ap (λ b. b && nat_lt j.k (length (jobs_of plan j.task.0))) (lt-ltb j.task.0 (length plan.tasks) low) ∙ k
+
+  pub head_below : ForSome s.head (λ h. h.task.0 < length plan.tasks)
+  head_below = λ h first. below h (least_in (is_before plan) (λ j. is_released plan r.tick j && not (is_started rows j)) (jobs_on plan r.core.0) h (sym is.head ∙ first))
+
+  -- how many units the row's job has done
+  runs_so : (j : JobId) → s.running ≡ Some j → s.done ≡ done j rows
+  runs_so j runs = is.done j runs
+
+  new_so : (j : JobId) → done j rows ≡ 0 → (b : Bool) → is_job s.running j ≡ b → cond b s.done 0 ≡ done j rows
+  new_so j none true runs = runs_so j (is_job_is s.running j runs)
+  new_so j none false runs = sym none
+
+  done_so : (j : JobId) → r.job ≡ Some j → units_done s j ≡ done j rows
+  done_so j job = elim (has_turn plan r.core.0 r.tick rows j (turn_chosen plan rows r j turn job)) [
+    | inl new ↦ (let passes = and_parts (is_released plan r.tick j) (not (is_started rows j)) (least_passes (is_before plan) (λ i. is_released plan r.tick i && not (is_started rows i)) (jobs_on plan r.core.0) j new.first) in new_so j (nothing_done rows j (not-true (is_started rows j) passes.1)) (is_job s.running j) refl)
+    | inr runs ↦ ap (λ o. cond (is_job o j) s.done 0) (is.running ∙ runs) ∙ (ap (λ b. cond b s.done 0) (same_self j) ∙ runs_so j (is.running ∙ runs))
+  ]
+
+  finishes_by : (o : Option JobId) → r.job ≡ o → job_finishes plan rows r o ≡ finishes_from plan s r.kind o
+  finishes_by None job = refl
+  finishes_by (Some j) job = ap (λ n. ends plan r.kind n j) (sym (done_so j job))
+
+  pub turns_on : (few : length rows < 160000) (old new : TurnCounts) (finished past kept other : Bool) → finished ≡ finishes_from plan s r.kind r.job → past ≡ is_past plan r.tick r.job → kept ≡ is_kept plan s.ceiling s.head → other ≡ is_other s.running r.job
+      → new.finished ≡ one_if old.finished finished → new.late ≡ one_if old.late (finished && past) → new.kept ≡ one_if old.kept kept → new.preempted ≡ one_if old.preempted other
+      → AreTurnCounts plan rows old → AreTurnCounts plan (rows ++ r ∷ []) new
+  turns_on few old new finished past kept other fs ps ks os f l k o was =
+      let ends_so : finishes plan rows r ≡ finished = finishes_by r.job refl ∙ sym fs in
+      record {
+        finished = one_more_counted (finishes plan) rows r finished old.finished new.finished few ends_so f was.finished;
+        late = one_more_counted (finishes_late plan) rows r (finished && past) old.late new.late few (ap (λ b. b && is_past plan r.tick r.job) ends_so ∙ ap (λ b. finished && b) (sym ps)) l was.late;
+        kept = one_more_counted (keeps_head plan) rows r kept old.kept new.kept few (ap (λ n. is_kept plan n (head plan r.core.0 r.tick rows)) (sym is.ceiling) ∙ (ap (is_kept plan s.ceiling) (sym is.head) ∙ sym ks)) k was.kept;
+        preempted = one_more_counted (preempts plan) rows r other old.preempted new.preempted few (ap (λ x. is_other x r.job) (sym is.running) ∙ sym os) o was.preempted;
+      }

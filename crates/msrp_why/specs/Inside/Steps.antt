@@ -1,0 +1,12 @@
+-- What is noted of a resource, one row more on it.
+use Rattle.std.specs.Prelude.{◌≡◌, ◌&&◌, length, max, not}
+use Rattle.msrp_plan.specs.declared.rows.Row.{Row}
+use Rattle.msrp_why.specs.Exercise.{is_entry, is_grant, is_in_tick, is_queue, one_if}
+use Rattle.msrp_why.specs.declared.notes.ResourceNotes.{ResourceNotes}
+
+pub record IsCountStep (r : Row) (old new : ResourceNotes) : Type 0 where
+  pub free : new.counts.free ≡ one_if old.counts.free (is_entry r.kind)
+  pub joined : new.counts.joined ≡ one_if old.counts.joined (is_queue r.kind)
+  pub at_once : new.counts.at_once ≡ one_if old.counts.at_once (is_grant r.kind && is_in_tick r.tick old.last)
+  pub later : new.counts.later ≡ one_if old.counts.later (is_grant r.kind && not (is_in_tick r.tick old.last))
+  pub longest : new.counts.longest ≡ max old.counts.longest (length new.queue.items)
