@@ -3,12 +3,14 @@ use Rattle.std.specs.Prelude.{ℕ, Bool, false, ◌==◌, ◌&&◌, ◌||◌, �
 use Rattle.std.specs.Char.{is_ascii_uppercase}
 use Rattle.std.specs.List.{list_any}
 use Rattle.csv.specs.Records.{field_at}
+use Rattle.msrp_plan.specs.Building.{is_within}
+use Rattle.msrp_plan.specs.Limits.{longest_time}
 use Rattle.msrp_plan.specs.declared.faults.PlanFault.{PlanFault}
 use Rattle.msrp_plan.specs.declared.faults.PlanFault.TheVariants as fault
 use Rattle.msrp_text.specs.Fields.{has_word, name_at}
-use Rattle.msrp_text.specs.Reading.{is_op_word}
+use Rattle.msrp_text.specs.Reading.{is_op_word, number_told}
 use Rattle.msrp_advice.specs.declared.advice.Advice.{Advice}
-use Rattle.msrp_advice.specs.declared.advice.Advice.TheVariants.{NoRecord, Comment, Zeros, Semicolons, SpareCommas, OpenQuote, Blanks, TraceGiven, UnknownVersion, NoVersion, CutShort, CoresDue, TicksDue, LateResource, UnknownStep, NoTaskYet, OldVersion, StrayRelease, FirstThree, UnknownRecord, TwoFields, SixFields, FourFields, ThreeFields, NotNumber, NoName, LongName, Capitals, Dots, OddName, TakenResource, TakenTask, CoresLimit, TicksLimit, ResourcesLimit, TaskLimits, ListedLimits, ReleaseLimits, RunLimit, LockLimit, Undeclared, NoSuchCore, LockedTwice, NotInnermost, StillHeld, NestedGlobal, NoUnit, ManyJobs, NotRising, NoRelease, Unread}
+use Rattle.msrp_advice.specs.declared.advice.Advice.TheVariants.{NoRecord, Comment, Zeros, Semicolons, SpareCommas, OpenQuote, Blanks, TraceGiven, UnknownVersion, NoVersion, CutShort, CoresDue, TicksDue, LateResource, UnknownStep, NoTaskYet, OldVersion, StrayRelease, FirstThree, UnknownRecord, TwoFields, SixFields, FourFields, ThreeFields, NotNumber, NoName, LongName, Capitals, Dots, OddName, TakenResource, TakenTask, CoresLimit, TicksLimit, ResourcesLimit, PeriodLimit, DeadlineLimit, ListedDeadlineLimit, OffsetLimit, TasksLimit, ReleaseLimits, EmptyRun, RunLimit, LockLimit, Undeclared, NoSuchCore, LockedTwice, NotInnermost, StillHeld, NestedGlobal, NoUnit, ManyJobs, NotRising, NoRelease, Unread}
 
 -- ---- what a field has
 -- the field is there and has that byte
@@ -116,16 +118,36 @@ name_advice fields =
 abbrev pub taken_advice : List (List ℕ) → Advice
 taken_advice fields = if has_word fields 0 (codes "resource") then TakenResource else TakenTask
 
+-- the number at a place is below the least or above the longest time that a plan may name
+abbrev pub is_out : ℕ → List (List ℕ) → ℕ → Bool
+is_out least fields i = not (is_within least longest_time (number_told fields i))
+
+-- P7, of a task's record
+abbrev pub task_advice : List (List ℕ) → Advice
+task_advice fields =
+    if is_out 1 fields 3 then PeriodLimit
+    else if is_out 1 fields 4 then DeadlineLimit
+    else if is_out 0 fields 5 then OffsetLimit
+    else TasksLimit
+
+-- P7, of a listed task's record
+abbrev pub listed_advice : List (List ℕ) → Advice
+listed_advice fields = if is_out 1 fields 3 then ListedDeadlineLimit else TasksLimit
+
+-- P7, of a run
+abbrev pub run_advice : List (List ℕ) → Advice
+run_advice fields = if number_told fields 2 == 0 then EmptyRun else RunLimit
+
 -- P7
 abbrev pub limit_advice : ℕ → List (List ℕ) → Advice
 limit_advice number fields =
     if number == 2 then CoresLimit
     else if number == 3 then TicksLimit
     else if has_word fields 0 (codes "resource") then ResourcesLimit
-    else if has_word fields 0 (codes "task") then TaskLimits
-    else if has_word fields 0 (codes "listed") then ListedLimits
+    else if has_word fields 0 (codes "task") then task_advice fields
+    else if has_word fields 0 (codes "listed") then listed_advice fields
     else if has_word fields 0 (codes "release") then ReleaseLimits
-    else if has_word fields 1 (codes "run") then RunLimit
+    else if has_word fields 1 (codes "run") then run_advice fields
     else LockLimit
 
 -- P10: an operation's own, and else that of the task that ends there

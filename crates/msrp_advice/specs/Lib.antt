@@ -1,4 +1,5 @@
 pub mod Choosing
+pub mod Places
 pub mod Sentences
 pub mod Refusals
 pub mod Warnings

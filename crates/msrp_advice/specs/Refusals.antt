@@ -1,12 +1,14 @@
 -- What is written of a refused record: its code and number with a sentence, and the record as it stands.
-use Rattle.std.specs.Prelude.{ℕ, List, [], ◌∷◌, ◌++◌, ◌==◌, length, codes, decimal, min, slice_index, unwrap_or, if◌then◌else◌}
+use Rattle.std.specs.Prelude.{ℕ, List, [], ◌∷◌, ◌+◌, ◌++◌, ◌==◌, Option, Some, None, length, codes, decimal, min, slice_index, unwrap_or, if◌then◌else◌}
 use Rattle.std.specs.List.{flat_map, range_with_len}
 use Rattle.csv.specs.Records.{field_at}
 use Rattle.msrp_plan.specs.Building.{is_within}
 use Rattle.msrp_plan.specs.Codes.{code_of}
 use Rattle.msrp_plan.specs.declared.faults.PlanFault.{PlanFault}
 use Rattle.msrp_advice.specs.Choosing.{advice_of}
+use Rattle.msrp_advice.specs.Places.{place_of}
 use Rattle.msrp_advice.specs.Sentences.{sentence}
+use Rattle.msrp_advice.specs.declared.advice.Advice.{Advice}
 
 -- the most fields of a record that are shown, and the most bytes of a field
 abbrev pub most_fields : ℕ
@@ -39,7 +41,16 @@ shown_record fields = if length fields == 0 then codes "the end of the text" els
 abbrev pub record_line : ℕ → List (List ℕ) → List ℕ
 record_line number fields = codes "record " ++ (decimal number ++ (codes ": " ++ (shown_record fields ++ codes "\n")))
 
+-- the field that is wrong, counted from 1, where it is one
+abbrev pub wrong_field : List (List ℕ) → Option ℕ → List ℕ
+wrong_field fields None = []
+wrong_field fields (Some i) = codes "field " ++ (decimal (i + 1) ++ (codes " " ++ (shown_field (unwrap_or (field_at fields i) []) ++ codes ": ")))
+
+-- the field that is wrong, and what is said of it
+abbrev pub said_of : Advice → List (List ℕ) → List ℕ
+said_of advice fields = wrong_field fields (place_of advice fields) ++ sentence advice
+
 -- what is written of a record of that number which has that fault
 unfoldable pub refusal_text : PlanFault → ℕ → List (List ℕ) → List ℕ
 refusal_text fault number fields =
-    codes "P" ++ (decimal (code_of fault) ++ (codes " at record " ++ (decimal number ++ (codes ": " ++ (sentence (advice_of fault number fields) ++ (codes "\n" ++ record_line number fields))))))
+    codes "P" ++ (decimal (code_of fault) ++ (codes " at record " ++ (decimal number ++ (codes ": " ++ (said_of (advice_of fault number fields) fields ++ (codes "\n" ++ record_line number fields))))))

@@ -73,13 +73,21 @@ pub enum Advice {
     TicksLimit,
     /// Too many resources.
     ResourcesLimit,
-    /// A number of a task that is out of range, or too many tasks.
-    TaskLimits,
-    /// A number of a listed task that is out of range, or too many tasks.
-    ListedLimits,
+    /// A period that is out of range.
+    PeriodLimit,
+    /// A relative deadline that is out of range.
+    DeadlineLimit,
+    /// A relative deadline of a listed task that is out of range.
+    ListedDeadlineLimit,
+    /// An offset that is out of range.
+    OffsetLimit,
+    /// Too many tasks.
+    TasksLimit,
     /// A release that is out of range, or too many of them.
     ReleaseLimits,
-    /// No unit, or too many.
+    /// A run of no unit.
+    EmptyRun,
+    /// A run of too many units.
     RunLimit,
     /// Too many units, or too many resources held.
     LockLimit,

@@ -10,7 +10,8 @@ ghost use Rattle.msrp_advice.specs.Choosing.{advice_of, written_or};
 use crate::advice::Advice;
 use csv::ByteRecord;
 use msrp_plan::PlanFault;
-use msrp_text::fields::{has_word, name_at};
+use msrp_plan::limits::LONGEST_TIME;
+use msrp_text::fields::{has_word, name_at, number_at};
 
 // Whether a field is there and has that byte.
 fn has_byte(field: Option<&[u8]>, byte: u8) -> bool
@@ -46,8 +47,8 @@ fn is_blank(byte: u8) -> bool
     byte == b' ' || byte == b'\t'
 }
 
-// Whether a field is there, and begins or ends with a blank.
-fn is_padded(field: Option<&[u8]>) -> bool
+/// Whether a field is there, and begins or ends with a blank.
+pub(crate) fn is_padded(field: Option<&[u8]>) -> bool
     ensures { result ≡ due.is_padded (option_map (λ f. f.now) field.entry) }
 {
     match field {
@@ -235,6 +236,51 @@ fn taken_advice(row: &ByteRecord) -> Advice
     }
 }
 
+// Whether the number at a place is below the least or above the longest time.
+fn is_out(least: u32, row: &ByteRecord, i: usize) -> bool
+    ensures { result ≡ due.is_out least (fields_of row.now) i }
+{
+    let number = number_at(row, i).unwrap_or(0);
+    !(least <= number && number <= LONGEST_TIME)
+}
+
+// P7, of a task's record.
+fn task_advice(row: &ByteRecord) -> Advice
+    ensures { result ≡ due.task_advice (fields_of row.now) }
+{
+    if is_out(1, row, 3) {
+        Advice::PeriodLimit
+    } else if is_out(1, row, 4) {
+        Advice::DeadlineLimit
+    } else if is_out(0, row, 5) {
+        Advice::OffsetLimit
+    } else {
+        Advice::TasksLimit
+    }
+}
+
+// P7, of a listed task's record.
+fn listed_advice(row: &ByteRecord) -> Advice
+    ensures { result ≡ due.listed_advice (fields_of row.now) }
+{
+    if is_out(1, row, 3) {
+        Advice::ListedDeadlineLimit
+    } else {
+        Advice::TasksLimit
+    }
+}
+
+// P7, of a run.
+fn run_advice(row: &ByteRecord) -> Advice
+    ensures { result ≡ due.run_advice (fields_of row.now) }
+{
+    if number_at(row, 2).unwrap_or(0) == 0 {
+        Advice::EmptyRun
+    } else {
+        Advice::RunLimit
+    }
+}
+
 // P7.
 fn limit_advice(number: u32, row: &ByteRecord) -> Advice
     ensures { result ≡ due.limit_advice number (fields_of row.now) }
@@ -246,13 +292,13 @@ fn limit_advice(number: u32, row: &ByteRecord) -> Advice
     } else if has_word(row, 0, b"resource") {
         Advice::ResourcesLimit
     } else if has_word(row, 0, b"task") {
-        Advice::TaskLimits
+        task_advice(row)
     } else if has_word(row, 0, b"listed") {
-        Advice::ListedLimits
+        listed_advice(row)
     } else if has_word(row, 0, b"release") {
         Advice::ReleaseLimits
     } else if has_word(row, 1, b"run") {
-        Advice::RunLimit
+        run_advice(row)
     } else {
         Advice::LockLimit
     }

@@ -4,6 +4,7 @@
 
 mod advice;
 mod choosing;
+mod places;
 mod refusals;
 mod sentences;
 mod warnings;

@@ -1,14 +1,17 @@
 //! What is written of a refused record.
-ghost use Rattle.std.specs.Prelude.{◌≡◌, ◌++◌, ◌∷◌, [], codes, decimal, length, min, option_map, unwrap_or};
+ghost use Rattle.std.specs.Prelude.{◌≡◌, ◌<◌, ◌++◌, ◌∷◌, [], codes, decimal, length, min, option_map, unwrap_or};
+ghost use Rattle.std.specs.Option.{IfSome};
 ghost use Rattle.csv.specs.Records.{fields_of};
 ghost use Rattle.msrp_plan.specs.Bytes.{Wrote};
 ghost use Rattle.msrp_advice.specs.Refusals as due;
-ghost use Rattle.msrp_advice.specs.Refusals.{record_line, refusal_text, shown_byte, shown_bytes, shown_field, shown_fields, shown_record};
+ghost use Rattle.msrp_advice.specs.Refusals.{record_line, refusal_text, said_of, shown_byte, shown_bytes, shown_field, shown_fields, shown_record, wrong_field};
 
+use crate::advice::Advice;
 use crate::choosing::advice_of;
+use crate::places::place_of;
 use crate::sentences::sentence;
 use csv::ByteRecord;
-use itoa::Buffer;
+use itoa::{Buffer, Integer};
 use msrp_plan::PlanFault;
 use msrp_plan::bytes::Sink;
 use std::io::Write;
@@ -20,8 +23,8 @@ const MOST_FIELDS: usize = 16;
 const MOST_SHOWN: usize = 40;
 
 // A number in decimal digits.
-pub(crate) fn write_number<W: Write>(out: &mut Sink<W>, number: u32)
-    ensures { Wrote W.contents out.old out.new (decimal number) }
+pub(crate) fn write_number<W: Write, I: Integer>(out: &mut Sink<W>, number: I)
+    ensures { Wrote W.contents out.old out.new (I.text number) }
 {
     let mut digits = Buffer::new();
     out.add(digits.format(number).as_bytes());
@@ -97,8 +100,30 @@ fn write_line<W: Write>(out: &mut Sink<W>, number: u32, row: &ByteRecord)
     out.add(b"\n");
 }
 
-/// Writes the code and the number of a refused record with a sentence on it, and the record as it stands: the first bytes of its
-/// first fields, each in brackets. A record without fields stands for the end of the text.
+// The field that is wrong, counted from 1, where it is one.
+fn write_place<W: Write>(out: &mut Sink<W>, row: &ByteRecord, place: Option<usize>)
+    requires { IfSome place (λ i. i < 6) }
+    ensures { Wrote W.contents out.old out.new (wrong_field (fields_of row.now) place) }
+{
+    if let Some(i) = place {
+        out.add(b"field ");
+        write_number(out, i as u32 + 1);
+        out.add(b" ");
+        write_field(out, bytes_of(row.get(i)));
+        out.add(b": ");
+    }
+}
+
+// The field that is wrong, and what is said of it.
+fn write_said<W: Write>(out: &mut Sink<W>, advice: Advice, row: &ByteRecord)
+    ensures { Wrote W.contents out.old out.new (said_of advice (fields_of row.now)) }
+{
+    write_place(out, row, place_of(advice, row));
+    out.add(sentence(advice));
+}
+
+/// Writes the code and the number of a refused record with the field that is wrong and a sentence on it, and the record as it stands: the first bytes
+/// of its first fields, each in brackets. A record without fields stands for the end of the text.
 #[tactic(auto, unfolding(crate::specs::Refusals::refusal_text))]
 pub fn write_refusal<W: Write>(out: &mut Sink<W>, fault: PlanFault, number: u32, row: &ByteRecord)
     ensures { Wrote W.contents out.old out.new (refusal_text fault number (fields_of row.now)) }
@@ -108,7 +133,7 @@ pub fn write_refusal<W: Write>(out: &mut Sink<W>, fault: PlanFault, number: u32,
     out.add(b" at record ");
     write_number(out, number);
     out.add(b": ");
-    out.add(sentence(advice_of(fault, number, row)));
+    write_said(out, advice_of(fault, number, row), row);
     out.add(b"\n");
     write_line(out, number, row);
 }

@@ -52,13 +52,16 @@ pub(crate) fn sentence(advice: Advice) -> &'static [u8]
         Advice::CoresLimit => b"a plan has 1 to 8 cores",
         Advice::TicksLimit => b"a plan has 1 to 20000 ticks",
         Advice::ResourcesLimit => b"a plan has at most 32 resources",
-        Advice::TaskLimits =>
-            b"a period and a relative deadline are 1 to 1000000, an offset is at most 1000000, and a plan has at most 64 tasks",
-        Advice::ListedLimits =>
-            b"a relative deadline is 1 to 1000000, and a plan has at most 64 tasks",
+        Advice::PeriodLimit => b"a period is 1 to 1000000; a coarser tick makes it shorter",
+        Advice::DeadlineLimit => b"a relative deadline is 1 to 1000000",
+        Advice::ListedDeadlineLimit => b"a relative deadline is 1 to 1000000",
+        Advice::OffsetLimit => b"an offset is at most 1000000",
+        Advice::TasksLimit => b"a plan has at most 64 tasks",
         Advice::ReleaseLimits =>
             b"a release is at most 1000000, and a task has at most 8192 of them",
-        Advice::RunLimit => b"a run is at least 1, and a task has at most 4096 units",
+        Advice::EmptyRun => b"a run has at least one unit",
+        Advice::RunLimit =>
+            b"a task has at most 4096 units, those of its runs, locks and unlocks together",
         Advice::LockLimit =>
             b"a task has at most 4096 units, and holds at most 8 resources at once",
         Advice::Undeclared => b"no resource record before it has this name",

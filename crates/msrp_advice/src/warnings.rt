@@ -1,12 +1,13 @@
 //! What is odd in an accepted plan.
-ghost use Rattle.std.specs.Prelude.{◌≡◌, ◌<◌, length};
+ghost use Rattle.std.specs.Prelude.{◌≡◌, ◌<◌, ◌||◌, length};
+ghost use Rattle.std.specs.List.{list_any, range_with_len};
 ghost use Rattle.msrp_plan.specs.Bytes.{Wrote};
-ghost use Rattle.msrp_advice.specs.Warnings.{accepted_text, core_warning, deadline_warning, each, no_job_warning, resource_warning, task_warnings};
+ghost use Rattle.msrp_advice.specs.Warnings.{accepted_text, core_units, core_warning, core_warnings, deadline_warning, each, is_due, load_warning, no_job_warning, resource_warning, task_warnings, ticks_warning, units_due};
 
 use crate::refusals::write_number;
 use msrp_levels::Levels;
 use msrp_plan::bytes::Sink;
-use msrp_plan::{CoreId, Plan, ResId, TaskId};
+use msrp_plan::{CoreId, JobId, Plan, ResId, TaskId};
 use std::io::Write;
 
 // A task that has no job.
@@ -70,6 +71,83 @@ fn warn_of_core<W: Write>(out: &mut Sink<W>, levels: &Levels<'_>, core: CoreId)
     }
 }
 
+// How many units the jobs of a task have, where it is a task of that core.
+fn units_due(plan: &Plan, core: CoreId, task: TaskId) -> u64
+    requires { task.0 < length plan.now.tasks }
+    ensures { result ≡ units_due plan.now core.0 task.0 }
+{
+    if plan.core_of(task) == core {
+        u64::from(plan.jobs(task)) * u64::from(plan.units(task))
+    } else {
+        0
+    }
+}
+
+// How many units the jobs of a core have. The sum of so many products is told in as many bits as it may have by its types alone.
+fn core_units(plan: &Plan, core: CoreId) -> u128
+    ensures { result ≡ core_units plan.now core.0 }
+{
+    let mut sum = 0u128;
+    for task in 0..plan.tasks() {
+        sum += u128::from(units_due(plan, core, TaskId(task)));
+    }
+    sum
+}
+
+// A core whose jobs have more units than there are ticks.
+fn warn_of_load<W: Write>(out: &mut Sink<W>, plan: &Plan, core: CoreId)
+    ensures { Wrote W.contents out.old out.new (load_warning plan.now core.0) }
+{
+    let units = core_units(plan, core);
+    if u128::from(plan.ticks()) < units {
+        out.add(b"core ");
+        write_number(out, core.0);
+        out.add(b": its jobs have ");
+        write_number(out, units);
+        out.add(b" units, and the plan has ");
+        write_number(out, plan.ticks());
+        out.add(b" ticks\n");
+    }
+}
+
+// Whether a task has a job whose deadline comes by the end of the ticks: then its first job is one.
+fn is_due(plan: &Plan, task: TaskId) -> bool
+    requires { task.0 < length plan.now.tasks }
+    ensures { result ≡ is_due plan.now task.0 }
+{
+    0 < plan.jobs(task) && plan.job_key(JobId { task, k: 0 }).deadline <= u64::from(plan.ticks())
+}
+
+// Whether that is so of a task before, or of this one.
+fn is_due_or(before: bool, plan: &Plan, task: TaskId) -> bool
+    requires { task.0 < length plan.now.tasks }
+    ensures { result ≡ (before || is_due plan.now task.0) }
+{
+    before || is_due(plan, task)
+}
+
+// Whether a job has its deadline by the end of the ticks.
+fn is_any_due(plan: &Plan) -> bool
+    ensures { result ≡ list_any (is_due plan.now) (range_with_len 0 (length plan.now.tasks)) }
+{
+    let mut any = false;
+    for task in 0..plan.tasks() {
+        any = is_due_or(any, plan, TaskId(task));
+    }
+    any
+}
+
+// Ticks that end before the first deadline.
+fn warn_of_ticks<W: Write>(out: &mut Sink<W>, plan: &Plan)
+    ensures { Wrote W.contents out.old out.new (ticks_warning plan.now) }
+{
+    if !is_any_due(plan) {
+        out.add(b"no job has its deadline within the ");
+        write_number(out, plan.ticks());
+        out.add(b" ticks\n");
+    }
+}
+
 fn warn_of_tasks<W: Write>(out: &mut Sink<W>, plan: &Plan)
     ensures { Wrote W.contents out.old out.new (each (task_warnings plan.now) (length plan.now.tasks)) }
 {
@@ -89,15 +167,17 @@ fn warn_of_resources<W: Write>(out: &mut Sink<W>, plan: &Plan, levels: &Levels<'
 
 fn warn_of_cores<W: Write>(out: &mut Sink<W>, plan: &Plan, levels: &Levels<'_>)
     requires { levels.now ≡ plan.now }
-    ensures { Wrote W.contents out.old out.new (each (core_warning plan.now) plan.now.cores) }
+    ensures { Wrote W.contents out.old out.new (each (core_warnings plan.now) plan.now.cores) }
 {
     for core in 0..plan.cores() {
         warn_of_core(out, levels, CoreId(core));
+        warn_of_load(out, plan, CoreId(core));
     }
 }
 
 /// Writes that a plan is good, and then a line for each thing that is odd in it: a task without a job or with more units than its
-/// relative deadline has ticks, a resource that no task locks, a core without tasks.
+/// relative deadline has ticks, a resource that no task locks, a core without tasks
+/// or whose jobs have more units than there are ticks, and ticks that end before the first deadline.
 #[tactic(auto, unfolding(crate::specs::Warnings::accepted_text))]
 pub fn write_accepted<W: Write>(out: &mut Sink<W>, plan: &Plan, levels: &Levels<'_>)
     requires { levels.now ≡ plan.now }
@@ -107,4 +187,5 @@ pub fn write_accepted<W: Write>(out: &mut Sink<W>, plan: &Plan, levels: &Levels<
     warn_of_tasks(out, plan);
     warn_of_resources(out, plan, levels);
     warn_of_cores(out, plan, levels);
+    warn_of_ticks(out, plan);
 }

@@ -1,6 +1,6 @@
 use Rattle.msrp_plan.specs.Bytes.{Wrote}
-use Rattle.msrp_advice.specs.Warnings.{core_warning, each}
+use Rattle.msrp_advice.specs.Warnings.{core_warnings, each}
 use Rattle.msrp_advice.proofs.warnings.warn_of_cores.Given as goal
 
 abbrev pub invariant-loop-core : goal.invariant-loop-core
-invariant-loop-core g l = Wrote g.W.Write.contents l.fn.out l.out (each (core_warning l.plan) l.core)
+invariant-loop-core g l = Wrote g.W.Write.contents l.fn.out l.out (each (core_warnings l.plan) l.core)

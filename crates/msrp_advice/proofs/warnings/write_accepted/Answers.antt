@@ -4,4 +4,4 @@ use Rattle.msrp_advice.proofs.warnings.write_accepted.Goals as goal
 
 pub returns : goal.returns
 unfolding accepted_text
-returns g c = wrote-more _ _ _ _ _ _ c.add.ensures (wrote-more _ _ _ _ _ _ c.warn_of_tasks.ensures (wrote-more _ _ _ _ _ _ c.warn_of_resources.ensures c.warn_of_cores.ensures))
+returns g c = wrote-more _ _ _ _ _ _ c.add.ensures (wrote-more _ _ _ _ _ _ c.warn_of_tasks.ensures (wrote-more _ _ _ _ _ _ c.warn_of_resources.ensures (wrote-more _ _ _ _ _ _ c.warn_of_cores.ensures c.warn_of_ticks.ensures)))
