@@ -78,7 +78,7 @@ fn grammar<'a>(alloc: Global) -> Result<Command<'a>, AllocError>
             alloc,
             FROM,
             "T",
-            "the first tick that is drawn; 0 where none is given",
+            "the first tick that is drawn; 0 where none is given, but round a fault where neither is",
         ))?
         .arg(valued(
             alloc,

@@ -14,37 +14,30 @@ use msrp_engine::{CliFault, exit_of};
 use msrp_plan::bytes::{Sink, Source};
 use msrp_view_engine::{export_text, view_text, why_plan_text, why_text};
 use std::io;
+use std::io::{BufWriter, Write};
 use std::process::ExitCode;
 
-fn run(rt: &HostRuntime) -> Result<u8, CliFault> {
+// Output is gathered into writes of this many bytes.
+const GATHERED: usize = 65_536;
+
+// Does what the command asks for, and answers the exit status.
+fn answer<W: Write>(rt: &HostRuntime, cmd: Cmd<'_>, out: &mut Sink<W>) -> Result<u8, CliFault> {
     let alloc = rt.alloc();
-    let words = words_of(rt)?;
-    let mut out = Sink::new(io::writer(rt));
-    match command_of(alloc, words.as_slice())? {
-        Cmd::Help => write_help(&mut out, help_text(alloc)?.as_str()),
+    match cmd {
+        Cmd::Help => write_help(out, help_text(alloc)?.as_str()),
         Cmd::Why { plan, trace: None } => {
-            why_plan_text(alloc, &mut Source::new(open(rt, plan)?), &mut out)
+            why_plan_text(alloc, &mut Source::new(open(rt, plan)?), out)
         }
         Cmd::Why {
             plan,
             trace: Some(trace),
         } => {
             let (plan, trace) = open_both(rt, plan, trace)?;
-            why_text(
-                alloc,
-                &mut Source::new(plan),
-                &mut Source::new(trace),
-                &mut out,
-            )
+            why_text(alloc, &mut Source::new(plan), &mut Source::new(trace), out)
         }
         Cmd::Export { plan, trace } => {
             let (plan, trace) = open_both(rt, plan, trace)?;
-            export_text(
-                alloc,
-                &mut Source::new(plan),
-                &mut Source::new(trace),
-                &mut out,
-            )
+            export_text(alloc, &mut Source::new(plan), &mut Source::new(trace), out)
         }
         Cmd::View { asked, plan, trace } => {
             let (plan, trace) = open_both(rt, plan, trace)?;
@@ -52,10 +45,24 @@ fn run(rt: &HostRuntime) -> Result<u8, CliFault> {
                 alloc,
                 &mut Source::new(plan),
                 &mut Source::new(trace),
-                &mut out,
+                out,
                 asked,
             )
         }
+    }
+}
+
+fn run(rt: &HostRuntime) -> Result<u8, CliFault> {
+    let words = words_of(rt)?;
+    let cmd = command_of(rt.alloc(), words.as_slice())?;
+    let Ok(writer) = BufWriter::with_capacity(rt.alloc(), GATHERED, io::writer(rt)) else {
+        return Err(CliFault::Memory);
+    };
+    let mut out = Sink::new(writer);
+    let status = answer(rt, cmd, &mut out)?;
+    match out.into_inner().flush() {
+        Ok(()) => Ok(status),
+        Err(_) => Err(CliFault::Write),
     }
 }
 

@@ -3,3 +3,4 @@ pub mod ReadThrough
 pub mod Recounting
 pub mod Picturing
 pub mod Exporting
+pub mod WhyWritten

@@ -13,7 +13,7 @@ use Rattle.msrp_trace.specs.Reading.{Told, rows_of}
 use Rattle.msrp_engine.specs.Findings.{finding}
 use Rattle.msrp_faults.specs.Outcomes.{fault_of}
 use Rattle.msrp_faults.specs.declared.faults.CliFault.{CliFault}
-use Rattle.msrp_view_engine.specs.Whys.{why_status}
+use Rattle.msrp_view_engine.specs.Statuses.{told_status}
 
 -- what comes behind all rows, where none breaks a rule
 abbrev pub end_or_fault : PlanModel → List Row → Result ⊤ Fault → List ℕ
@@ -23,7 +23,7 @@ end_or_fault plan rows (Err f) = fault_text plan rows f.rule None
 -- the rows are written with the verdict, and its status is answered if the sink took it all
 pub record IsExported {W : Type 0} (contents : W → Option (List ℕ)) (plan : PlanModel) (rows : List Row) (found : Result ⊤ Fault) (old new : Sink W) (result : Result ℕ CliFault) : Type 0 where
   pub text : Wrote contents old new (exports.export_text plan rows found)
-  pub status : result ≡ why_status found new
+  pub status : result ≡ told_status found new
 
 -- the answer where that is found: of a refusal, whatever of the rows before it was written
 abbrev pub ExportFound : {W : Type 0} → (W → Option (List ℕ)) → PlanModel → Told → Result (Result ⊤ Fault) CliFault → Sink W → Sink W → Result ℕ CliFault → Type 0

@@ -1,3 +1,4 @@
+pub mod Statuses
 pub mod Views
 pub mod Explaining
 pub mod Whys

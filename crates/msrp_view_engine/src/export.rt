@@ -11,7 +11,7 @@ ghost use Rattle.msrp_engine.specs.Findings.{finding};
 ghost use Rattle.msrp_export.specs.Exports.{HasExported, export_text};
 ghost use Rattle.msrp_faults.specs.Outcomes.{fault_of, is_audit_fault, is_trace_fault};
 ghost use Rattle.msrp_view_engine.specs.Exporting.{ExportAnswers, ExportTold, end_or_fault};
-ghost use Rattle.msrp_view_engine.specs.Whys.{why_status};
+ghost use Rattle.msrp_view_engine.specs.Statuses.{told_status};
 
 use msrp_audit::Auditor;
 use msrp_engine::CliFault;
@@ -62,7 +62,7 @@ fn export_rows<T: Read, W: Write>(
     Ok(found)
 }
 
-// The same of a trace's text. Whatever ends the reading early may be told as a failed read.
+// Writes the rows of a trace's text, and what is found in them. Whatever ends the reading early may be told as a failed read.
 fn export_all<T: Read, W: Write>(
     alloc: Global,
     plan: &Plan,
@@ -84,7 +84,7 @@ fn export_all<T: Read, W: Write>(
     found
 }
 
-// The same, where a failed read is told only if the source has failed.
+// Writes the rows of a trace's text, and what is found in them; a failed read is told only if the source has failed.
 fn export_trace<T: Read, W: Write>(
     alloc: Global,
     plan: &Plan,
@@ -108,7 +108,7 @@ fn export_trace<T: Read, W: Write>(
 
 // The status of a verdict that was written.
 fn status_of<W: Write>(out: &Sink<W>, found: Result<(), Fault>) -> Result<u8, CliFault>
-    ensures status { result ≡ why_status found out.now }
+    ensures status { result ≡ told_status found out.now }
     ensures good { IfOk result (λ status. ((status ≡ 0) ⊎ (status ≡ 1)) × (sink_failed out.now ≡ false)) }
     ensures fault { IfErr result (λ fault. (fault ≡ CliFault.Write) × (sink_failed out.now ≡ true)) }
 {
@@ -119,7 +119,7 @@ fn status_of<W: Write>(out: &Sink<W>, found: Result<(), Fault>) -> Result<u8, Cl
     }
 }
 
-// The same of an accepted plan.
+// Writes a trace of an accepted plan, and answers the status of its verdict.
 fn export_plan<T: Read, W: Write>(
     alloc: Global,
     plan: &Plan,
@@ -154,7 +154,7 @@ pub fn export_text<P: Read, T: Read, W: Write>(
     ensures answer { (plan_bytes trace_bytes : List ℕ) → source_remaining P.remaining plan.old ≡ Some plan_bytes → source_remaining T.remaining trace.old ≡ Some trace_bytes
         → (result ≡ Err CliFault.Read) ⊎ (result ≡ Err CliFault.Memory) ⊎ ExportAnswers W.contents (plan_of (csv_records plan_bytes)) (csv_records trace_bytes) out.old out.new result }
 
-    // The same of a refused plan, whatever the trace is read from.
+    // A refused plan is the answer, whatever the trace is read from.
     ensures refused { (bytes : List ℕ) (error : PlanError) → source_remaining P.remaining plan.old ≡ Some bytes → plan_of (csv_records bytes) ≡ Err error
         → (result ≡ Err CliFault.Read) ⊎ (result ≡ Err CliFault.Memory) ⊎ (result ≡ Err (fault_of error)) }
 

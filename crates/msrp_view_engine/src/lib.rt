@@ -5,11 +5,12 @@
 
 mod export;
 mod reading;
+mod told;
 mod view;
 mod why;
 mod why_plan;
 
 pub use export::export_text;
 pub use view::{picture_of_texts, view_text};
-pub use why::why_text;
-pub use why_plan::why_plan_text;
+pub use why::{why_of_texts, why_text};
+pub use why_plan::{Refusal, Words, why_of_plan, why_plan_text};

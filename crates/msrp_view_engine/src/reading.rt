@@ -9,7 +9,7 @@ ghost use Rattle.msrp_faults.specs.Outcomes.{is_trace_fault};
 
 use msrp_engine::{CliFault, ending_of};
 use msrp_plan::bytes::Source;
-use msrp_plan::{Memory, Plan, Row, Trace};
+use msrp_plan::{Plan, Row, Trace};
 use msrp_trace::TraceReader;
 use std::alloc::Global;
 use std::io::Read;
@@ -25,7 +25,7 @@ fn gather_rows<T: Read>(
 {
     for _row in 0..u64::MAX {
         match rows.next_row()? {
-            Some(row) => gathered.push(row).map_err(|_| Memory)?,
+            Some(row) => gathered.push(row)?,
             None => return Ok(Trace { rows: gathered }),
         }
     }

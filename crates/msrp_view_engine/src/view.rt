@@ -1,7 +1,7 @@
 //! The picture of a trace's text.
 
 ghost use Rattle.std.specs.Prelude.{◌≡◌, ◌⊎◌, ℕ, List, true, false, Some, Ok, Err, IfOk, IfErr};
-ghost use Rattle.msrp_plan.specs.Bytes.{Wrote, sink_failed, source_failed, source_remaining};
+ghost use Rattle.msrp_plan.specs.Bytes.{sink_failed, source_failed, source_remaining};
 ghost use Rattle.msrp_text.specs.Reading.{csv_records, plan_of};
 ghost use Rattle.msrp_text.specs.declared.reading.TextError.{TextError as PlanError};
 ghost use Rattle.msrp_audit.specs.Audits.{answer_of};
@@ -9,15 +9,16 @@ ghost use Rattle.msrp_plan.specs.Verdict.{verdict};
 ghost use Rattle.msrp_faults.specs.Outcomes.{fault_of, is_view_fault};
 ghost use Rattle.msrp_picture.specs.Windows.{IsWindow};
 ghost use Rattle.msrp_engine.specs.MadeTexts.{found_in};
-ghost use Rattle.msrp_view_engine.specs.Views.{IsPictureOf, ViewAnswers, picture_status};
+ghost use Rattle.msrp_view_engine.specs.Views.{IsPictureOf, ViewAnswers};
 ghost use Rattle.msrp_picture.specs.Styles.{drawing};
 
 use crate::reading::read_rows;
+use crate::told::write_told;
 use msrp_audit::audit;
 use msrp_engine::{CliFault, Made};
-use msrp_picture::{Asked, Style, Window, draw, window_of};
+use msrp_picture::{Asked, Window, draw, window_of};
 use msrp_plan::bytes::{Sink, Source};
-use msrp_plan::{Fault, Plan, Trace};
+use msrp_plan::{Plan, Trace};
 use msrp_text::read_plan;
 use std::alloc::Global;
 use std::io::{Read, Write};
@@ -27,16 +28,16 @@ fn pictured(
     alloc: Global,
     plan: &Plan,
     trace: &Trace,
-    style: Style,
+    asked: Asked,
     window: Window,
 ) -> Result<Made, CliFault>
     requires { IsWindow window }
     ensures found { (result ≡ Err CliFault.Memory) ⊎ (found_in result ≡ Ok (answer_of (verdict plan.now trace.now.rows.items))) }
-    ensures text { IfOk result (λ made. made.text.items ≡ drawing style plan.now trace.now.rows.items made.found window) }
+    ensures text { IfOk result (λ made. made.text.items ≡ drawing asked plan.now trace.now.rows.items made.found window) }
     ensures memory { IfErr result (λ fault. fault ≡ CliFault.Memory) }
 {
     let found = audit(alloc, plan, trace)?;
-    let text = draw(alloc, plan, trace.rows.as_slice(), found, style, window)?;
+    let text = draw(alloc, plan, trace.rows.as_slice(), found, asked, window)?;
     Ok(Made { text, found })
 }
 
@@ -61,26 +62,7 @@ pub fn picture_of_texts<P: Read, T: Read>(
         return Err(CliFault::Usage);
     };
     let trace = read_rows(alloc, &plan, trace)?;
-    pictured(alloc, &plan, &trace, asked.style, window)
-}
-
-// Writes a picture of rows with that verdict, and answers its status.
-fn write_picture<W: Write>(
-    out: &mut Sink<W>,
-    text: &[u8],
-    found: Result<(), Fault>,
-) -> Result<u8, CliFault>
-    ensures wrote { Wrote W.contents out.old out.new text.now }
-    ensures status { result ≡ picture_status found out.new }
-    ensures good { IfOk result (λ status. ((status ≡ 0) ⊎ (status ≡ 1)) × (sink_failed out.new ≡ false)) }
-    ensures fault { IfErr result (λ fault. (fault ≡ CliFault.Write) × (sink_failed out.new ≡ true)) }
-{
-    out.add(text);
-    out.outcome()?;
-    match found {
-        Ok(()) => Ok(0),
-        Err(_) => Ok(1),
-    }
+    pictured(alloc, &plan, &trace, asked, window)
 }
 
 /// Reads a plan and a trace of it, whoever made it, and writes a picture of the ticks that are asked for. The answer is the exit
@@ -101,7 +83,7 @@ pub fn view_text<P: Read, T: Read, W: Write>(
     ensures answer { (plan_bytes trace_bytes : List ℕ) → source_remaining P.remaining plan.old ≡ Some plan_bytes → source_remaining T.remaining trace.old ≡ Some trace_bytes
         → (result ≡ Err CliFault.Read) ⊎ (result ≡ Err CliFault.Memory) ⊎ ViewAnswers W.contents (plan_of (csv_records plan_bytes)) (csv_records trace_bytes) asked out.old out.new result }
 
-    // The same of a refused plan, whatever the trace is read from.
+    // A refused plan is the answer, whatever the trace is read from.
     ensures refused { (bytes : List ℕ) (error : PlanError) → source_remaining P.remaining plan.old ≡ Some bytes → plan_of (csv_records bytes) ≡ Err error
         → (result ≡ Err CliFault.Read) ⊎ (result ≡ Err CliFault.Memory) ⊎ (result ≡ Err (fault_of error)) }
 
@@ -114,5 +96,5 @@ pub fn view_text<P: Read, T: Read, W: Write>(
     ensures silent { IfErr result (λ fault. (fault ≡ CliFault.Write) ⊎ (out.new ≡ out.old)) }
 {
     let made = picture_of_texts(alloc, plan, trace, asked)?;
-    write_picture(out, made.text.as_slice(), made.found)
+    write_told(out, made.text.as_slice(), made.found)
 }

@@ -7,8 +7,9 @@ ghost use Rattle.msrp_plan.specs.Bytes.{Wrote, sink_failed, source_failed, sourc
 ghost use Rattle.msrp_plan.specs.Codes.{code_of};
 ghost use Rattle.msrp_text.specs.Reading.{csv_records, plan_of, record_at};
 ghost use Rattle.msrp_text.specs.Records.{GivesNext, records_left};
-ghost use Rattle.msrp_view_engine.specs.Explaining.{TellsRefusal, WhyPlanAnswers};
-ghost use Rattle.msrp_faults.specs.Outcomes.{is_sim_fault, written_status};
+ghost use Rattle.msrp_text.specs.declared.reading.TextError.{TextError};
+ghost use Rattle.msrp_view_engine.specs.Explaining.{AreWordsOn, WhyPlanAnswers, words_status};
+ghost use Rattle.msrp_faults.specs.Outcomes.{is_sim_fault};
 
 use csv::ByteRecord;
 use msrp_advice::{write_accepted, write_refusal};
@@ -20,6 +21,20 @@ use msrp_text::records::RecordReader;
 use msrp_text::{TextError, read_plan};
 use std::alloc::Global;
 use std::io::{Read, Write};
+
+/// The refused record of a plan's text, counted from 1, and why it is refused.
+#[derive(Clone, Copy, Debug, PartialEq, Eq)]
+pub struct Refusal {
+    pub fault: PlanFault,
+    pub number: u32,
+}
+
+/// Words on a plan that were made in memory, and the plan's refusal if it is refused.
+#[derive(Debug, Drop)]
+pub struct Words {
+    pub text: Vec<u8>,
+    pub refusal: Option<Refusal>,
+}
 
 // All bytes of a text.
 fn bytes_of<P: Read>(alloc: Global, text: &mut Source<P>) -> Result<Vec<u8>, CliFault>
@@ -63,41 +78,79 @@ fn record_of(alloc: Global, bytes: &[u8], number: u32) -> Result<ByteRecord, Cli
     }
 }
 
-// Writes the words on a refused record of a text.
-fn tell_refusal<W: Write>(
-    alloc: Global,
-    bytes: &[u8],
-    fault: PlanFault,
-    number: u32,
-    out: &mut Sink<W>,
-) -> Result<u8, CliFault>
-    ensures answer { ((result ≡ Err CliFault.Memory) × (out.new ≡ out.old)) ⊎ TellsRefusal W.contents (csv_records bytes.now) fault number out.old out.new result }
-    ensures good { IfOk result (λ status. (status ≡ 0) × (sink_failed out.new ≡ false)) }
-    ensures faults { IfErr result (λ fault. is_sim_fault fault ≡ true) }
-    ensures write { result ≡ Err CliFault.Write → sink_failed out.new ≡ true }
-    ensures silent { (result ≡ Err CliFault.Memory) ⊎ (result ≡ Err CliFault.Read) → out.new ≡ out.old }
+// The words on a refused record of a text, in memory.
+fn words_on_refusal(alloc: Global, bytes: &[u8], refusal: Refusal) -> Result<Words, CliFault>
+    ensures words { IfOk result (λ words. AreWordsOn (csv_records bytes.now) (Err (TextError.At refusal.fault refusal.number)) words) }
+    ensures memory { IfErr result (λ fault. fault ≡ CliFault.Memory) }
 {
-    let row = record_of(alloc, bytes, number)?;
-    write_refusal(out, fault, number, &row);
-    out.outcome()?;
-    Err(CliFault::Plan {
-        code: fault.code(),
-        number,
+    let row = record_of(alloc, bytes, refusal.number)?;
+    let mut text = Sink::new(Vec::new(alloc));
+    write_refusal(&mut text, refusal.fault, refusal.number, &row);
+    if text.outcome().is_err() {
+        return Err(CliFault::Memory);
+    }
+    Ok(Words {
+        text: text.into_inner(),
+        refusal: Some(refusal),
     })
 }
 
-// Writes the words on an accepted plan.
-fn tell_accepted<W: Write>(alloc: Global, plan: &Plan, out: &mut Sink<W>) -> Result<u8, CliFault>
-    ensures answer { ((result ≡ Err CliFault.Memory) × (out.new ≡ out.old)) ⊎ (Wrote W.contents out.old out.new (accepted_text plan.now) × (result ≡ written_status out.new)) }
-    ensures good { IfOk result (λ status. (status ≡ 0) × (sink_failed out.new ≡ false)) }
-    ensures faults { IfErr result (λ fault. is_sim_fault fault ≡ true) }
-    ensures write { result ≡ Err CliFault.Write → sink_failed out.new ≡ true }
-    ensures silent { (result ≡ Err CliFault.Memory) ⊎ (result ≡ Err CliFault.Read) → out.new ≡ out.old }
+// The words on an accepted plan, in memory.
+fn words_on_plan(alloc: Global, plan: &Plan) -> Result<Words, CliFault>
+    ensures words { (records : List (List (List ℕ))) → IfOk result (λ words. AreWordsOn records (Ok plan.now) words) }
+    ensures memory { IfErr result (λ fault. fault ≡ CliFault.Memory) }
 {
     let levels = Levels::of(alloc, plan)?;
-    write_accepted(out, plan, &levels);
+    let mut text = Sink::new(Vec::new(alloc));
+    write_accepted(&mut text, plan, &levels);
+    if text.outcome().is_err() {
+        return Err(CliFault::Memory);
+    }
+    Ok(Words {
+        text: text.into_inner(),
+        refusal: None,
+    })
+}
+
+/// The words on a plan, and its refusal if it is refused, as [`why_plan_text`] writes them.
+pub fn why_of_plan<P: Read>(alloc: Global, plan: &mut Source<P>) -> Result<Words, CliFault>
+    ensures words { (bytes : List ℕ) → source_remaining P.remaining plan.old ≡ Some bytes → IfOk result (λ words. AreWordsOn (csv_records bytes) (plan_of (csv_records bytes)) words) }
+    ensures faults { IfErr result (λ fault. (fault ≡ CliFault.Read) ⊎ (fault ≡ CliFault.Memory)) }
+    ensures read { result ≡ Err CliFault.Read → source_failed plan.new ≡ true }
+    ensures memory { result ≡ Err CliFault.Memory → source_failed plan.new ≡ false }
+{
+    let bytes = bytes_of(alloc, plan)?;
+    match read_plan(alloc, &mut Source::new(bytes.as_slice())) {
+        Ok(plan) => words_on_plan(alloc, &plan),
+        Err(TextError::At { fault, number }) => {
+            words_on_refusal(alloc, bytes.as_slice(), Refusal { fault, number })
+        }
+        Err(_) => Err(CliFault::Memory),
+    }
+}
+
+// Writes words on a plan, and answers its refusal if there is one.
+fn write_words<W: Write>(
+    out: &mut Sink<W>,
+    text: &[u8],
+    refusal: Option<Refusal>,
+) -> Result<u8, CliFault>
+    ensures wrote { Wrote W.contents out.old out.new text.now }
+    ensures status { result ≡ words_status refusal out.new }
+    ensures good { IfOk result (λ status. (status ≡ 0) × (sink_failed out.new ≡ false)) }
+    ensures faults { IfErr result (λ fault. is_sim_fault fault ≡ true) }
+    ensures known { ¬ (result ≡ Err CliFault.Read) × ¬ (result ≡ Err CliFault.Memory) }
+    ensures write { result ≡ Err CliFault.Write → sink_failed out.new ≡ true }
+{
+    out.add(text);
     out.outcome()?;
-    Ok(0)
+    match refusal {
+        None => Ok(0),
+        Some(refusal) => Err(CliFault::Plan {
+            code: refusal.fault.code(),
+            number: refusal.number,
+        }),
+    }
 }
 
 /// Reads a plan, and writes what is wrong with it or odd in it. Of a refused plan: the code and the number of the refused record with
@@ -123,12 +176,6 @@ pub fn why_plan_text<P: Read, W: Write>(
     ensures write { result ≡ Err CliFault.Write → sink_failed out.new ≡ true }
     ensures silent { (result ≡ Err CliFault.Memory) ⊎ (result ≡ Err CliFault.Read) → out.new ≡ out.old }
 {
-    let bytes = bytes_of(alloc, plan)?;
-    match read_plan(alloc, &mut Source::new(bytes.as_slice())) {
-        Ok(plan) => tell_accepted(alloc, &plan, out),
-        Err(TextError::At { fault, number }) => {
-            tell_refusal(alloc, bytes.as_slice(), fault, number, out)
-        }
-        Err(_) => Err(CliFault::Memory),
-    }
+    let words = why_of_plan(alloc, plan)?;
+    write_words(out, words.text.as_slice(), words.refusal)
 }

@@ -27,7 +27,7 @@ const WHOLE: &str =
     "good\nticks 0 to 5 of 6\n\ntick              0----+\ncore 0            aaa...\n                  [=]...\ncore 1            bbbbb.\n                  ?~[=].\ng                 aabb..\n  waiting         11....\n";
 
 const BROKEN: &str =
-    "fault,4,A5\nticks 0 to 5 of 6\n\ntick              0----+\ncore 0            aa\n                  [=\ncore 1            bb\n                  ?!\ng                 aa\n  waiting         11\n";
+    "fault,4,A5\nticks 0 to 5 of 6, the fault in tick 1\n\ntick              0----+\ncore 0            aa\n                  [=\ncore 1            bb\n                  ?[\n                   !\ng                 aa\n  waiting         11\n";
 
 const LATER: &str =
     "good\nticks 2 to 4 of 6\n\ntick              ---\ncore 0            a..\n                  ]..\ncore 1            bbb\n                  [=]\ng                 bb.\n  waiting         ...\n";

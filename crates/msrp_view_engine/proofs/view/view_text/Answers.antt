@@ -12,5 +12,5 @@ returns-in_err-made-clause-answer g c = λ plan_bytes trace_bytes plan trace.
 
 pub returns-clause-answer : goal.returns-clause-answer
 returns-clause-answer g c = λ plan_bytes trace_bytes plan trace.
-    view-answers g.W.Write.contents (plan_of (csv_records plan_bytes)) (csv_records trace_bytes) c.args.asked (Ok c.in_ok-made.made) c.args.out.now c.write_picture.new.out c.write_picture.result
-    (c.in_ok-made.ensures.found plan_bytes trace_bytes plan trace) (rw c.as_slice.ensures.value at c.write_picture.ensures.wrote, c.write_picture.ensures.status)
+    view-answers g.W.Write.contents (plan_of (csv_records plan_bytes)) (csv_records trace_bytes) c.args.asked (Ok c.in_ok-made.made) c.args.out.now c.write_told.new.out c.write_told.result
+    (c.in_ok-made.ensures.found plan_bytes trace_bytes plan trace) (rw c.as_slice.ensures.value at c.write_told.ensures.wrote, c.write_told.ensures.status)

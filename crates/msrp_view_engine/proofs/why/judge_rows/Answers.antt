@@ -8,36 +8,36 @@ use Rattle.msrp_view_engine.proofs.Explaining.{cause-found, end-found, refusal-w
 use Rattle.msrp_engine.proofs.Judging.{fewer-left, refusal-found, turn-left}
 use Rattle.msrp_view_engine.proofs.why.judge_rows.Goals as goal
 
-pub loop-row-init : goal.loop-row-init
-loop-row-init g c = ([], c.requires.plan, c.requires.fed, refl, λ told known. none-read told _ known, c.requires.noted)
+pub loop-notes-init : goal.loop-notes-init
+loop-notes-init g c = ([], c.requires.plan, c.requires.fed, refl, λ told known. none-read told _ known, c.requires.noted)
 
 pub returns-in_err-row-clause-found : goal.returns-in_err-row-clause-found
 returns-in_err-row-clause-found g c = λ told known.
-    let i = c.loop-row.invariant in
+    let i = c.loop-notes.invariant in
     let gives : c.from_residual.result ≡ Err (trace_fault_of c.in_err-row.field-0.0) = search rules in
     refusal-why c.args.plan.now told (trace_fault_of c.in_err-row.field-0.0) c.from_residual.result gives
     (refusal-found c.args.plan.now told i.0 _ _ c.next_foreseen.result c.in_err-row.field-0.0 _ (i.4 told known) c.next_foreseen.ensures.next (cc) i.3 refl)
 
 pub returns-in-Err-clause-found : goal.returns-in-Err-clause-found
 returns-in-Err-clause-found g c = λ told known.
-    let i = c.loop-row.invariant in
+    let i = c.loop-notes.invariant in
     let more = read-row told i.0 _ _ c.next_foreseen.result c.in-Some.row (i.4 told known) c.next_foreseen.ensures.next (c.in_ok-row.was ∙ ap (λ x. Ok x) c.in-Some.is) in
     inr (inr (cause-found c.args.plan.now told i.0 c.in-Some.row _ c.in-Err.cause more (c.in-Err.ensures.cause i.0 i.2 i.3 i.5)))
 
-pub loop-row-smaller : goal.loop-row-smaller
-loop-row-smaller g c =
-    let i = c.loop-row.invariant in
+pub loop-notes-smaller : goal.loop-notes-smaller
+loop-notes-smaller g c =
+    let i = c.loop-notes.invariant in
     let fed = c.feed.ensures.fed i.0 i.2 in
     let good = c.in_default-feed.ensures.good i.0 i.2 in
     let left = turn-left c.args.plan.now i.0 c.in-Some.row i.3 good in
-    let was : c.loop-row.auditor.fed ≡ length i.0 = i.2.count (i.2.fault ∙ (ap (λ p. fault_in p i.0) i.1 ∙ i.3)) in
+    let was : c.loop-notes.auditor.fed ≡ length i.0 = i.2.count (i.2.fault ∙ (ap (λ p. fault_in p i.0) i.1 ∙ i.3)) in
     let now : c.feed.new.auditor.fed ≡ length (i.0 ++ c.in-Some.row ∷ []) = fed.count (fed.fault ∙ (ap (λ p. fault_in p (i.0 ++ c.in-Some.row ∷ [])) (c.feed.ensures.plan ∙ i.1) ∙ good)) in
-    fewer-left c.loop-row.auditor.plan c.feed.new.auditor.plan c.loop-row.auditor.fed c.feed.new.auditor.fed c.feed.ensures.plan (now ∙ (length-append i.0 (c.in-Some.row ∷ []) ∙ ap (λ n. n + 1) (sym was)))
-    (subst (λ n. n < c.loop-row.auditor.plan.cores * c.loop-row.auditor.plan.ticks) (sym was) (subst (λ (p : PlanModel). length i.0 < p.cores * p.ticks) (sym i.1) left))
+    fewer-left c.loop-notes.auditor.plan c.feed.new.auditor.plan c.loop-notes.auditor.fed c.feed.new.auditor.fed c.feed.ensures.plan (now ∙ (length-append i.0 (c.in-Some.row ∷ []) ∙ ap (λ n. n + 1) (sym was)))
+    (subst (λ n. n < c.loop-notes.auditor.plan.cores * c.loop-notes.auditor.plan.ticks) (sym was) (subst (λ (p : PlanModel). length i.0 < p.cores * p.ticks) (sym i.1) left))
 
-pub loop-row-preserved : goal.loop-row-preserved
-loop-row-preserved g c =
-    let i = c.loop-row.invariant in (
+pub loop-notes-preserved : goal.loop-notes-preserved
+loop-notes-preserved g c =
+    let i = c.loop-notes.invariant in (
       i.0 ++ c.in-Some.row ∷ [],
       c.feed.ensures.plan ∙ i.1,
       c.feed.ensures.fed i.0 i.2,
@@ -48,5 +48,5 @@ loop-row-preserved g c =
 
 pub returns-clause-found : goal.returns-clause-found
 returns-clause-found g c = λ told known.
-    let i = c.loop-row.invariant in
-    inr (inr (end-found c.args.plan.now told i.0 _ _ c.next_foreseen.result c.end.result (i.4 told known) c.next_foreseen.ensures.next (cc) i.3 (c.end.ensures i.0 i.2 ∙ ap (λ (p : PlanModel). answer_of (verdict p i.0)) i.1)))
+    let i = c.loop-notes.invariant in
+    inr (inr (end-found c.args.plan.now told i.0 _ _ c.next_foreseen.result c.end.result c.loop-notes.notes (i.4 told known) c.next_foreseen.ensures.next (cc) i.3 (c.end.ensures i.0 i.2 ∙ ap (λ (p : PlanModel). answer_of (verdict p i.0)) i.1) i.5))
