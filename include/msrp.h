@@ -103,6 +103,13 @@ uint32_t msrp_plan_text(const uint8_t *plan, size_t plan_len, uint8_t *text, siz
  * most. Of a trace with a fault the rows up to it are drawn, and the answer is MSRP_FAULT. */
 uint32_t msrp_view(const uint8_t *plan, size_t plan_len, const uint8_t *trace, size_t trace_len, uint32_t style, uint32_t from, uint32_t to, uint8_t *text, size_t text_len, size_t *needed, struct msrp_found *found);
 
+/* The verdict on a trace, and behind it, in plain sentences, what makes it so: of a fault the row, the rule and what was due; of a legal run
+ * what it exercised. Of a refused plan or trace there is no text. */
+uint32_t msrp_why(const uint8_t *plan, size_t plan_len, const uint8_t *trace, size_t trace_len, uint8_t *text, size_t text_len, size_t *needed, struct msrp_found *found);
+
+/* The words on a plan: why it is refused, or what is odd in it. A refused plan has a text too, and the answer is MSRP_REFUSED. */
+uint32_t msrp_why_plan(const uint8_t *plan, size_t plan_len, uint8_t *text, size_t text_len, size_t *needed, struct msrp_found *found);
+
 #ifdef __cplusplus
 }
 #endif

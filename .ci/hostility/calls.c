@@ -63,7 +63,7 @@ struct answer {
 };
 
 /* One of the calls, by its number. */
-#define CALLS 13
+#define CALLS 17
 static void call(int which, struct answer *to) {
     uint8_t *text = to->text;
     size_t *needed = &to->needed;
@@ -83,11 +83,15 @@ static void call(int which, struct answer *to) {
     case 9: to->status = msrp_audit_rows(BYTES(PLAN), ROWS, 3, true, found); break;
     case 10: to->status = msrp_audit_rows(BYTES(PLAN), ROWS, 4, true, found); break;
     case 11: to->status = msrp_audit_rows(BYTES(PLAN), NULL, 0, false, found); break;
+    case 12: to->status = msrp_why(BYTES(PLAN), BYTES(GOOD), text, ROOM, needed, found); break;
+    case 13: to->status = msrp_why(BYTES(PLAN), BYTES(FAULTY), text, ROOM, needed, found); break;
+    case 14: to->status = msrp_why_plan(BYTES(PLAN), text, ROOM, needed, found); break;
+    case 15: to->status = msrp_why_plan(BYTES("msrp,1\ncores,9\n"), text, ROOM, needed, found); break;
     default: to->status = msrp_audit(NULL, 0, BYTES(GOOD), found); break;
     }
 }
 
-static const uint32_t DUE[CALLS] = {0, 1, 0, 1, 0, 0, 0, 0, 1, 0, 1, 1, 2};
+static const uint32_t DUE[CALLS] = {0, 1, 0, 1, 0, 0, 0, 0, 1, 0, 1, 1, 0, 1, 0, 2, 2};
 
 static void fail(const char *what, int which) {
     printf("%s: call %d\n", what, which);

@@ -1,5 +1,5 @@
 /* A toy kernel of two cores that notes its rows in a ring buffer, and a monitor that audits them: after each tick the rows so far, and
- * in the end the whole run. The kernel's second run has a bug: it grants a resource that is still held. */
+ * in the end the whole run. The kernel's second run has a bug: it grants a resource that is still held. Then the monitor says why that is wrong. */
 #include "msrp.h"
 #include <inttypes.h>
 #include <stdio.h>
@@ -44,23 +44,40 @@ static uint32_t audit(const struct ring *ring, bool so_far, struct msrp_found *f
 }
 
 /* Runs the kernel with the monitor beside it, up to the first fault. */
-static uint32_t run(bool is_broken, struct msrp_found *found) {
-    struct ring ring = {.count = 0};
+static uint32_t run(struct ring *ring, bool is_broken, struct msrp_found *found) {
+    ring->count = 0;
     for (uint32_t now = 0; now < TICKS; now++) {
-        tick(&ring, now, is_broken);
-        uint32_t status = audit(&ring, true, found);
+        tick(ring, now, is_broken);
+        uint32_t status = audit(ring, true, found);
         if (status != MSRP_GOOD)
             return status;
     }
-    return audit(&ring, false, found);
+    return audit(ring, false, found);
+}
+
+/* Prints the words on the rows, which are written as the text of a trace first. */
+static void explain(const struct ring *ring) {
+    static const char *const KINDS[] = {"idle", "run", "lock", "unlock", "take", "queue", "spin", "grant", "release"};
+    char trace[1024], words[4096];
+    size_t length = (size_t)snprintf(trace, sizeof trace, "msrp-trace,1,%d,%d\n", CORES, TICKS), needed;
+    for (size_t at = 0; at < ring->count; at++) {
+        const struct msrp_row *row = &ring->rows[at % ROOM];
+        const char *task = row->task == 0 ? "a" : row->task == 1 ? "b" : "-", *job = row->task == MSRP_NONE ? "-" : "0";
+        length += (size_t)snprintf(trace + length, sizeof trace - length, "%" PRIu32 ",%" PRIu32 ",%s,%s,%s,%s\n", row->tick, row->core, KINDS[row->kind], task, job, row->resource == 0 ? "g" : "-");
+    }
+    struct msrp_found found;
+    if (msrp_why((const uint8_t *)PLAN, sizeof PLAN - 1, (const uint8_t *)trace, length, (uint8_t *)words, sizeof words, &needed, &found) == MSRP_FAULT)
+        fwrite(words, 1, needed, stdout);
 }
 
 int main(void) {
+    struct ring ring;
     struct msrp_found found;
     if (msrp_version() != MSRP_VERSION)
         return 1;
-    printf("the run: status %" PRIu32 "\n", run(false, &found));
-    uint32_t status = run(true, &found);
+    printf("the run: status %" PRIu32 "\n", run(&ring, false, &found));
+    uint32_t status = run(&ring, true, &found);
     printf("the broken run: status %" PRIu32 ", row %" PRIu32 " breaks A%" PRIu32 "\n", status, found.row, found.rule);
+    explain(&ring);
     return 0;
 }

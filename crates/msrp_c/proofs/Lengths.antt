@@ -1,5 +1,5 @@
 -- Texts that are too long, and status 5.
-use Rattle.std.proofs.Common.{◌≡◌, ℕ, Bool, true, false, List, length, refl, ap, sym, ◌∙◌, inl, inr, arith}
+use Rattle.std.proofs.Common.{◌≡◌, ◌≤◌, ℕ, Bool, true, false, List, [], length, Option, Some, None, refl, ap, sym, subst, ◌∙◌, inl, inr, arith}
 use mathlib.Core.Bool.{true≢false}
 use Rattle.std.proofs.lemmas.Bool.{cases_lt}
 use Rattle.std.specs.Prelude.{⊤}
@@ -10,7 +10,10 @@ use Rattle.msrp_faults.specs.declared.faults.CliFault.{CliFault}
 use Rattle.msrp_faults.specs.declared.faults.CliFault.TheVariants.{Plan, Trace, Usage, Memory, Threads, Read, Write}
 use Rattle.msrp_engine.specs.declared.made.Made.{Made}
 use Rattle.msrp_plan.specs.declared.faults.Fault.{Fault}
-use Rattle.msrp_c.specs.Answers.{Answers, Hands, Judges, OrUnread, Tells, status_told, text_in, unfailed}
+use Rattle.msrp_c.specs.Answers.{Answers, Gives, Hands, HandsOver, Judges, OrUnread, Tells, status_told, text_in, unfailed}
+use Rattle.msrp_c.specs.Whys.{AnswersWords, HandsWords, refusal_in, refusal_told, words_in}
+use Rattle.msrp_view_engine.specs.declared.why_plan.Refusal.{Refusal}
+use Rattle.msrp_view_engine.specs.declared.why_plan.Words.{Words}
 use Rattle.msrp_c.specs.declared.answers.MsrpFound.{MsrpFound}
 
 -- ---- status 5
@@ -38,10 +41,24 @@ found-unfailed (Err Write) = refl
 six : (status : ℕ) → status ≡ 6 → status ≡ 5 → ⊥
 six status h e = absurd (cc)
 
-hands-five : (made : Result Made CliFault) (old new : List ℕ) (needed : ℕ) (found : MsrpFound) (status : ℕ) → Hands (unfailed made) old new needed found status → status ≡ 5 → ⊥
-hands-five made old new needed found status h e = elim (cases_lt (length old) (length (text_in (unfailed made)))) [
+refused-unfailed : (refusal : Option Refusal) → refusal_told refusal ≡ unfailed (refusal_told refusal)
+refused-unfailed None = refl
+refused-unfailed (Some refusal) = refl
+
+words-unfailed : (words : Result Words CliFault) → refusal_in (unfailed words) ≡ unfailed (refusal_in words)
+words-unfailed (Ok words) = refused-unfailed words.refusal
+words-unfailed (Err (Plan c n)) = refl
+words-unfailed (Err (Trace c n)) = refl
+words-unfailed (Err Usage) = refl
+words-unfailed (Err Memory) = refl
+words-unfailed (Err Threads) = refl
+words-unfailed (Err Read) = refl
+words-unfailed (Err Write) = refl
+
+hands-five : (what : Result (Result ⊤ Fault) CliFault) (text old new : List ℕ) (needed : ℕ) (found : MsrpFound) (status : ℕ) → HandsOver (unfailed what) text old new needed found status → status ≡ 5 → ⊥
+hands-five what text old new needed found status h e = elim (cases_lt (length old) (length text)) [
   | inl short ↦ six status (h.short short).0 e
-  | inr fits ↦ not-five (found_in made) (sym (ap status_told (found-unfailed made)) ∙ (sym (h.fits fits).0 ∙ e))
+  | inr fits ↦ not-five what (sym (h.fits fits).0 ∙ e)
 ]
 
 -- ---- what calls answer
@@ -61,19 +78,37 @@ short-judged long due what found status is good h = record {
   too_long = ((λ e. absurd (not-five what (sym h.status_is ∙ e))), (λ t. absurd (true≢false (sym t ∙ is))));
 }
 
-pub long-answered : (long : Bool) (IsMade : Result Made CliFault → Type 0) (old new : List ℕ) (needed : ℕ) (found : MsrpFound) (status : ℕ) → long ≡ true → Hands (Err Read) old new needed found status → Answers long IsMade old new needed found status
-long-answered long IsMade old new needed found status is h = record {
+pub long-given : {A : Type 0} (what_in : Result A CliFault → Result (Result ⊤ Fault) CliFault) (text_in : Result A CliFault → List ℕ) (long : Bool) (IsMade : Result A CliFault → Type 0) (old new : List ℕ) (needed : ℕ) (found : MsrpFound) (status : ℕ)
+    → what_in (Err Read) ≡ Err Read → text_in (Err Read) ≡ [] → long ≡ true → HandsOver (what_in (Err Read)) (text_in (Err Read)) old new needed found status → Gives what_in text_in long IsMade old new needed found status
+long-given what_in text_in long IsMade old new needed found status read none is h = record {
   made = Err Read;
   is = λ no. absurd (true≢false (sym is ∙ no));
   hands = rw is h;
-  too_long = ((λ _. is), (λ _. (h.fits (omega arith)).0));
+  too_long = ((λ _. is), (λ _. (h.fits (subst (λ text. length text ≤ length old) (sym none) (omega arith))).0 ∙ ap status_told read));
 }
 
-pub short-answered : (long : Bool) (IsMade : Result Made CliFault → Type 0) (made : Result Made CliFault) (old new : List ℕ) (needed : ℕ) (found : MsrpFound) (status : ℕ)
-    → long ≡ false → IsMade made → Hands (unfailed made) old new needed found status → Answers long IsMade old new needed found status
-short-answered long IsMade made old new needed found status is good h = record {
+pub short-given : {A : Type 0} (what_in : Result A CliFault → Result (Result ⊤ Fault) CliFault) (text_in : Result A CliFault → List ℕ) (long : Bool) (IsMade : Result A CliFault → Type 0) (made : Result A CliFault) (old new : List ℕ) (needed : ℕ) (found : MsrpFound) (status : ℕ)
+    → what_in (unfailed made) ≡ unfailed (what_in made) → long ≡ false → IsMade made → HandsOver (what_in (unfailed made)) (text_in (unfailed made)) old new needed found status → Gives what_in text_in long IsMade old new needed found status
+short-given what_in text_in long IsMade made old new needed found status same is good h = record {
   made = made;
   is = λ _. good;
   hands = rw is h;
-  too_long = ((λ e. absurd (hands-five made old new needed found status h e)), (λ t. absurd (true≢false (sym t ∙ is))));
+  too_long = (
+    (λ e. absurd (hands-five (what_in made) (text_in (unfailed made)) old new needed found status (subst (λ what. HandsOver what (text_in (unfailed made)) old new needed found status) same h) e)),
+    (λ t. absurd (true≢false (sym t ∙ is))),
+  );
 }
+
+pub long-answered : (long : Bool) (IsMade : Result Made CliFault → Type 0) (old new : List ℕ) (needed : ℕ) (found : MsrpFound) (status : ℕ) → long ≡ true → Hands (Err Read) old new needed found status → Answers long IsMade old new needed found status
+long-answered long IsMade old new needed found status is h = long-given found_in text_in long IsMade old new needed found status refl refl is h
+
+pub short-answered : (long : Bool) (IsMade : Result Made CliFault → Type 0) (made : Result Made CliFault) (old new : List ℕ) (needed : ℕ) (found : MsrpFound) (status : ℕ)
+    → long ≡ false → IsMade made → Hands (unfailed made) old new needed found status → Answers long IsMade old new needed found status
+short-answered long IsMade made old new needed found status is good h = short-given found_in text_in long IsMade made old new needed found status (found-unfailed made) is good h
+
+pub long-words : (long : Bool) (AreMade : Result Words CliFault → Type 0) (old new : List ℕ) (needed : ℕ) (found : MsrpFound) (status : ℕ) → long ≡ true → HandsWords (Err Read) old new needed found status → AnswersWords long AreMade old new needed found status
+long-words long AreMade old new needed found status is h = long-given refusal_in words_in long AreMade old new needed found status refl refl is h
+
+pub short-words : (long : Bool) (AreMade : Result Words CliFault → Type 0) (words : Result Words CliFault) (old new : List ℕ) (needed : ℕ) (found : MsrpFound) (status : ℕ)
+    → long ≡ false → AreMade words → HandsWords (unfailed words) old new needed found status → AnswersWords long AreMade old new needed found status
+short-words long AreMade words old new needed found status is good h = short-given refusal_in words_in long AreMade words old new needed found status (words-unfailed words) is good h

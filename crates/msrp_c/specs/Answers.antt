@@ -85,16 +85,25 @@ abbrev pub text_in : Result Made CliFault → List ℕ
 text_in (Ok made) = made.text.items
 text_in (Err fault) = []
 
--- the text is handed over with the status of what was found, or with 6 where it doesn't fit
-pub record Hands (made : Result Made CliFault) (old new : List ℕ) (needed : ℕ) (found : MsrpFound) (status : ℕ) : Type 0 where
-  pub numbers : found ≡ numbers_of (found_in made)
-  pub needs : needed ≡ length (text_in made)
-  pub fits : length (text_in made) ≤ length old → (status ≡ status_told (found_in made)) × (new ≡ text_in made ++ drop (length (text_in made)) old)
-  pub short : length old < length (text_in made) → (status ≡ 6) × (new ≡ old)
+-- a text is handed over with the numbers and the status of what was found, or with 6 where it doesn't fit
+pub record HandsOver (what : Result (Result ⊤ Fault) CliFault) (text old new : List ℕ) (needed : ℕ) (found : MsrpFound) (status : ℕ) : Type 0 where
+  pub numbers : found ≡ numbers_of what
+  pub needs : needed ≡ length text
+  pub fits : length text ≤ length old → (status ≡ status_told what) × (new ≡ text ++ drop (length text) old)
+  pub short : length old < length text → (status ≡ 6) × (new ≡ old)
+
+-- the text that was made is handed over with what was found in its rows
+abbrev pub Hands : Result Made CliFault → List ℕ → List ℕ → ℕ → MsrpFound → ℕ → Type 0
+Hands made old new needed found status = HandsOver (found_in made) (text_in made) old new needed found status
 
 -- what is handed over was made so, with status 5 exactly where a text is too long
-pub record Answers (long : Bool) (IsMade : Result Made CliFault → Type 0) (old new : List ℕ) (needed : ℕ) (found : MsrpFound) (status : ℕ) : Type 0 where
-  pub made : Result Made CliFault
+pub record Gives {A : Type 0} (what_in : Result A CliFault → Result (Result ⊤ Fault) CliFault) (text_in : Result A CliFault → List ℕ) (long : Bool) (IsMade : Result A CliFault → Type 0)
+    (old new : List ℕ) (needed : ℕ) (found : MsrpFound) (status : ℕ) : Type 0 where
+  pub made : Result A CliFault
   pub is : long ≡ false → IsMade made
-  pub hands : Hands (told_as long made) old new needed found status
+  pub hands : HandsOver (what_in (told_as long made)) (text_in (told_as long made)) old new needed found status
   pub too_long : (status ≡ 5) ↔ (long ≡ true)
+
+-- the same of a text with what was found in its rows
+abbrev pub Answers : Bool → (Result Made CliFault → Type 0) → List ℕ → List ℕ → ℕ → MsrpFound → ℕ → Type 0
+Answers long IsMade old new needed found status = Gives found_in text_in long IsMade old new needed found status

@@ -3,3 +3,4 @@ pub mod Numbers
 pub mod Texts
 pub mod Turns
 pub mod Pictures
+pub mod Whys

@@ -19,17 +19,6 @@ abbrev pub Makes : (List ℕ → Type 0) → (CliFault → Type 0) → Result Ma
 Makes IsText IsWhy (Ok made) = IsText made.text.items × (made.found ≡ Ok tt)
 Makes IsText IsWhy (Err fault) = (fault ≡ Read) ⊎ (fault ≡ Memory) ⊎ IsWhy fault
 
--- ---- levels and ceilings, and the plan's own text
--- the text of the plan; of a refused one none is made
-abbrev pub IsTextOf : (PlanModel → List ℕ) → Result PlanModel TextError → List ℕ → Type 0
-IsTextOf text_of (Ok plan) text = text ≡ text_of plan
-IsTextOf text_of (Err error) text = ⊥
-
--- none is made only where the plan is refused
-abbrev pub WhyNoText : Result PlanModel TextError → CliFault → Type 0
-WhyNoText (Ok plan) fault = ⊥
-WhyNoText (Err error) fault = fault ≡ fault_of error
-
 -- ---- runs
 -- the text of the trace of a whole run of the plan in this order of it
 pub record IsRunText (version : TextVersion) (plan : PlanModel) (order : List ℕ) (text : List ℕ) : Type 0 where

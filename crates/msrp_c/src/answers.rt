@@ -1,6 +1,6 @@
 //! What a call tells: its status, the numbers of what was found, and a text.
 ghost use Rattle.std.specs.Prelude.{◌≡◌, ◌≤◌, ◌<◌, ◌++◌, ◌||◌, length, drop, true, false};
-ghost use Rattle.msrp_c.specs.Answers.{Hands, Puts, Tells, is_long, numbers_of, rule_number, status_told, unfailed};
+ghost use Rattle.msrp_c.specs.Answers.{Hands, HandsOver, Puts, Tells, is_long, numbers_of, rule_number, status_told, unfailed};
 
 use msrp_audit::{Fault, Rule};
 use msrp_engine::{CliFault, Made, exit_of};
@@ -134,7 +134,25 @@ fn put_text(made: &[u8], text: &mut [u8], needed: &mut usize) -> bool
     true
 }
 
-/// Hands a text over, or tells why there is none.
+/// Hands a text over, with what was found.
+pub(crate) fn hand_text(
+    what: Result<Result<(), Fault>, CliFault>,
+    made: &[u8],
+    text: &mut [u8],
+    needed: &mut usize,
+    found: &mut MsrpFound,
+) -> u32
+    ensures { HandsOver what made.now text.old text.new needed.new found.new result }
+{
+    *found = numbers_of(what);
+    if put_text(made, text, needed) {
+        status_told(what)
+    } else {
+        ROOM
+    }
+}
+
+/// Hands over the text that was made of rows, or tells why there is none.
 pub(crate) fn hand_over(
     made: Result<Made, CliFault>,
     text: &mut [u8],
@@ -143,10 +161,8 @@ pub(crate) fn hand_over(
 ) -> u32
     ensures { Hands made text.old text.new needed.new found.new result }
 {
-    let (what, fits) = match made {
-        Ok(made) => (Ok(made.found), put_text(made.text.as_slice(), text, needed)),
-        Err(fault) => (Err(fault), put_text(&[], text, needed)),
-    };
-    *found = numbers_of(what);
-    if fits { status_told(what) } else { ROOM }
+    match made {
+        Ok(made) => hand_text(Ok(made.found), made.text.as_slice(), text, needed, found),
+        Err(fault) => hand_text(Err(fault), &[], text, needed, found),
+    }
 }

@@ -13,12 +13,14 @@ mod plans;
 #[cfg(test)]
 mod tests;
 mod turns;
+mod whys;
 
 pub use answers::MsrpFound;
 pub use audits::{msrp_audit, msrp_audit_rows, msrp_report};
 pub use pictures::msrp_view;
 pub use plans::{msrp_check, msrp_plan_text, msrp_sim};
 pub use turns::MsrpRow;
+pub use whys::{msrp_why, msrp_why_plan};
 
 // The version of the calls, which the header tells too.
 const VERSION: u32 = 1;

@@ -1,12 +1,13 @@
 //! Texts of a plan: its run, its levels and ceilings, and its own text.
 ghost use Rattle.std.specs.Prelude.{◌≡◌, ◌⊎◌, ℕ, List, Ok, IfOk, IfErr, true};
 ghost use Rattle.msrp_engine.specs.CheckText.{check_text};
+ghost use Rattle.msrp_engine.specs.Simulation.{IsTextOf, WhyNoText};
 ghost use Rattle.msrp_text.specs.PlanText.{plan_text};
 ghost use Rattle.msrp_text.specs.Reading.{csv_records, plan_of};
 ghost use Rattle.msrp_sim.specs.Orders.{cores_of};
 ghost use Rattle.msrp_c.specs.Answers.{Answers, is_long};
 ghost use Rattle.msrp_c.specs.Numbers.{turns_named, version_named};
-ghost use Rattle.msrp_c.specs.Texts.{IsRunOf, IsSimulated, IsTextOf, Makes, WhyNoRun, WhyNoText};
+ghost use Rattle.msrp_c.specs.Texts.{IsRunOf, IsSimulated, Makes, WhyNoRun};
 
 use crate::answers::{MsrpFound, hand_over, is_long, unfailed};
 use crate::orders::{order_of, version_of};
@@ -33,7 +34,7 @@ fn run_of(alloc: Global, plan: &[u8], order: &Order, version: TextVersion) -> Re
     }
 }
 
-// The same of an order and a version that are named by numbers.
+// The trace of a plan's run in an order and of a version that are named by numbers.
 fn simulated(
     alloc: Global,
     plan: &[u8],

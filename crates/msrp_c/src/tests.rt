@@ -2,7 +2,7 @@
 
 use crate::{
     MsrpFound, MsrpRow, msrp_audit, msrp_audit_rows, msrp_check, msrp_plan_text, msrp_report,
-    msrp_sim, msrp_version, msrp_view,
+    msrp_sim, msrp_version, msrp_view, msrp_why, msrp_why_plan,
 };
 use std::process::Abort;
 
@@ -100,4 +100,18 @@ fn rows_as_numbers_are_audited(rt: HostRuntime) {
     let strange = [WORK, MsrpRow { kind: 9, ..IDLE }];
     assert!(rt; msrp_audit_rows(rt.alloc(), PLAN, &strange, true, &mut found) == 2);
     assert!(rt; found.trace_code == 4 && found.number == 2);
+}
+
+#[test]
+fn words_are_made(rt: HostRuntime) {
+    let mut found = NOTHING;
+    let mut text = [0u8; 512];
+    let mut needed = 0;
+    let late = b"msrp-trace,2,1,2\n0,0,idle,-,-,-,-\n";
+    assert!(rt; msrp_why(rt.alloc(), PLAN, late, &mut text, &mut needed, &mut found) == 1);
+    assert!(rt;
+        found.row == 1 && found.rule == 3 && text.starts_with(b"fault,1,A3\nrow 1 is record 2")
+    );
+    assert!(rt; msrp_why_plan(rt.alloc(), b"msrp,9\n", &mut text, &mut needed, &mut found) == 2);
+    assert!(rt; found.plan_code == 1 && found.number == 1 && text.starts_with(b"P1 at record 1: "));
 }

@@ -1,0 +1,39 @@
+-- Words on a trace, and on a plan.
+use Rattle.std.specs.Prelude.{ℕ, Bool, List, [], Option, Some, None, Ok, Err, IsOkAnd, ⊤}
+use Rattle.std.specs.declared.result.Result.{Result}
+use Rattle.msrp_faults.specs.declared.faults.CliFault.{CliFault}
+use Rattle.msrp_faults.specs.declared.faults.CliFault.TheVariants.{Plan}
+use Rattle.msrp_plan.specs.Codes.{code_of}
+use Rattle.msrp_plan.specs.declared.faults.Fault.{Fault}
+use Rattle.msrp_text.specs.Reading.{plan_of}
+use Rattle.msrp_view_engine.specs.Explaining.{AreWordsOn}
+use Rattle.msrp_view_engine.specs.declared.why_plan.Refusal.{Refusal}
+use Rattle.msrp_view_engine.specs.declared.why_plan.Words.{Words}
+use Rattle.msrp_c.specs.Answers.{Gives, HandsOver, OrUnread}
+use Rattle.msrp_c.specs.declared.answers.MsrpFound.{MsrpFound}
+
+-- the plan's refusal, if there is one
+abbrev pub refusal_told : Option Refusal → Result (Result ⊤ Fault) CliFault
+refusal_told None = Ok (Ok tt)
+refusal_told (Some refusal) = Err (Plan (code_of refusal.fault) refusal.number)
+
+-- the refusal that comes with words on a plan, or the fault in place of both
+abbrev pub refusal_in : Result Words CliFault → Result (Result ⊤ Fault) CliFault
+refusal_in (Ok words) = refusal_told words.refusal
+refusal_in (Err fault) = Err fault
+
+-- the words; where a fault is told there are none
+abbrev pub words_in : Result Words CliFault → List ℕ
+words_in (Ok words) = words.text.items
+words_in (Err fault) = []
+
+-- these are the words on the records of a plan's text
+abbrev pub AreWords : List (List (List ℕ)) → Result Words CliFault → Type 0
+AreWords records words = OrUnread words (IsOkAnd words (AreWordsOn records (plan_of records)))
+
+-- words are handed over with the plan's refusal, which is no fault of the call: a refused plan has words too
+abbrev pub HandsWords : Result Words CliFault → List ℕ → List ℕ → ℕ → MsrpFound → ℕ → Type 0
+HandsWords words old new needed found status = HandsOver (refusal_in words) (words_in words) old new needed found status
+
+abbrev pub AnswersWords : Bool → (Result Words CliFault → Type 0) → List ℕ → List ℕ → ℕ → MsrpFound → ℕ → Type 0
+AnswersWords long AreMade old new needed found status = Gives refusal_in words_in long AreMade old new needed found status

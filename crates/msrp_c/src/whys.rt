@@ -1,0 +1,98 @@
+//! Words on a trace, and on a plan.
+ghost use Rattle.std.specs.Prelude.{◌≡◌, ◌⊎◌, ◌||◌, Ok, Err};
+ghost use Rattle.msrp_text.specs.Reading.{csv_records, plan_of};
+ghost use Rattle.msrp_view_engine.specs.Whys.{IsWhyOf};
+ghost use Rattle.msrp_c.specs.Answers.{Answers, OrUnread, is_long};
+ghost use Rattle.msrp_c.specs.Whys.{AnswersWords, AreWords, HandsWords, refusal_told};
+
+use crate::answers::{MsrpFound, are_long, hand_over, hand_text, is_long, unfailed};
+use msrp_audit::Fault;
+use msrp_engine::{CliFault, Made};
+use msrp_plan::bytes::Source;
+use msrp_view_engine::{Refusal, Words, why_of_plan, why_of_texts};
+use std::alloc::Global;
+
+// The words on a trace.
+fn explained(alloc: Global, plan: &[u8], trace: &[u8]) -> Result<Made, CliFault>
+    ensures { OrUnread result (IsWhyOf (plan_of (csv_records plan.now)) (csv_records trace.now) result) }
+{
+    let mut plan = Source::new(plan);
+    let mut trace = Source::new(trace);
+    why_of_texts(alloc, &mut plan, &mut trace)
+}
+
+/// The verdict on a trace, and in plain sentences what makes it so; of a legal trace what its run exercised. A refused text has no words.
+#[unsafe(no_mangle)]
+pub extern "C" fn msrp_why(
+    alloc: Global,
+    plan: &[u8],
+    trace: &[u8],
+    text: &mut [u8],
+    needed: &mut usize,
+    found: &mut MsrpFound,
+) -> u32
+    ensures { Answers (is_long plan.now || is_long trace.now) (λ made. OrUnread made (IsWhyOf (plan_of (csv_records plan.now)) (csv_records trace.now) made)) text.old text.new needed.new found.new result }
+{
+    if are_long(plan, trace) {
+        return hand_over(Err(CliFault::Read), text, needed, found);
+    }
+    let made = explained(alloc, plan, trace);
+    hand_over(unfailed(made), text, needed, found)
+}
+
+// The words on a plan.
+fn advised(alloc: Global, plan: &[u8]) -> Result<Words, CliFault>
+    ensures { AreWords (csv_records plan.now) result }
+{
+    let mut plan = Source::new(plan);
+    why_of_plan(alloc, &mut plan)
+}
+
+// A plan's refusal, if there is one.
+fn refusal_told(refusal: Option<Refusal>) -> Result<Result<(), Fault>, CliFault>
+    ensures { result ≡ refusal_told refusal }
+{
+    match refusal {
+        None => Ok(Ok(())),
+        Some(refusal) => Err(CliFault::Plan {
+            code: refusal.fault.code(),
+            number: refusal.number,
+        }),
+    }
+}
+
+// Hands words over, or tells why there are none.
+fn hand_words(
+    words: Result<Words, CliFault>,
+    text: &mut [u8],
+    needed: &mut usize,
+    found: &mut MsrpFound,
+) -> u32
+    ensures { HandsWords words text.old text.new needed.new found.new result }
+{
+    match words {
+        Ok(words) => {
+            let what = refusal_told(words.refusal);
+            hand_text(what, words.text.as_slice(), text, needed, found)
+        }
+        Err(fault) => hand_text(Err(fault), &[], text, needed, found),
+    }
+}
+
+/// The words on a plan: why it is refused, or what is odd in it. A refused plan has words too.
+#[unsafe(no_mangle)]
+pub extern "C" fn msrp_why_plan(
+    alloc: Global,
+    plan: &[u8],
+    text: &mut [u8],
+    needed: &mut usize,
+    found: &mut MsrpFound,
+) -> u32
+    ensures { AnswersWords (is_long plan.now) (AreWords (csv_records plan.now)) text.old text.new needed.new found.new result }
+{
+    if is_long(plan) {
+        return hand_words(Err(CliFault::Read), text, needed, found);
+    }
+    let words = advised(alloc, plan);
+    hand_words(unfailed(words), text, needed, found)
+}
