@@ -24,9 +24,9 @@ pub struct PortCall {
 /// The place where cores request, poll and release global resources.
 ///
 /// A port has a list of the calls that were made of it, and for each core a room: how many calls the core may
-/// still make. Each call is written down once, with its answer, and takes one of its core's room. Nothing is
-/// promised of the answers: that requests are served in their order is the promise of a port, not of this
-/// trait.
+/// still make. Each call is written down once, with its answer, and takes one of its core's room. Of the
+/// answers only this is promised: somebody is ahead of a request that is queued. That requests are served in
+/// their order is the promise of a port, not of this trait.
 pub trait Port {
     ghost use Rattle.std.specs.Prelude.{ℕ};
     ghost use Rattle.msrp_core.specs.Ports.{PortModel};

@@ -15,7 +15,7 @@ use crate::reading::ending_of;
 use msrp_audit::audit_parallel;
 use msrp_faults::CliFault;
 use msrp_plan::bytes::{Sink, Source};
-use msrp_plan::{Fault, Memory, Plan, Row, Rule, Trace};
+use msrp_plan::{Fault, Plan, Row, Rule, Trace};
 use msrp_text::read_plan;
 use msrp_trace::TraceReader;
 use std::alloc::Global;
@@ -85,7 +85,7 @@ fn judge_all<T: Read>(
 {
     // One row more than are due is a fault, whatever stands behind it.
     let most = plan.cores() as usize * plan.ticks() as usize + 1;
-    let mut gathered = Vec::with_capacity(alloc, most).map_err(|_| Memory)?;
+    let mut gathered = Vec::with_capacity(alloc, most)?;
     let mut rows = TraceReader::new(alloc, trace, plan)?;
     let ended = gather_rows(&mut rows, &mut gathered, most);
     drop(rows);
@@ -93,7 +93,7 @@ fn judge_all<T: Read>(
     found_in(judged, ended)
 }
 
-// The same, where a failed read is told only if the source has failed, and want of memory only if it hasn't.
+// What is found in a trace's text, where a failed read is told only if the source has failed, and want of memory only if it hasn't.
 fn judge_text<T: Read>(
     rt: &(impl Threads + Sync),
     alloc: Global,
@@ -129,7 +129,7 @@ pub fn audit_parallel_text<P: Read, T: Read, W: Write>(
     ensures answer { (plan_bytes trace_bytes : List ℕ) → source_remaining P.remaining plan.old ≡ Some plan_bytes → source_remaining T.remaining trace.old ≡ Some trace_bytes
         → (result ≡ Err CliFault.Read) ⊎ (result ≡ Err CliFault.Memory) ⊎ AuditAnswers W.contents (finding_of (plan_of (csv_records plan_bytes)) (csv_records trace_bytes)) out.old out.new result }
 
-    // The same of a refused plan, whatever the trace is read from.
+    // A refused plan is the answer, whatever the trace is read from.
     ensures refused { (bytes : List ℕ) (error : PlanError) → source_remaining P.remaining plan.old ≡ Some bytes → plan_of (csv_records bytes) ≡ Err error
         → (result ≡ Err CliFault.Read) ⊎ (result ≡ Err CliFault.Memory) ⊎ (result ≡ Err (fault_of error)) }
 

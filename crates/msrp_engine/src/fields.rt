@@ -14,7 +14,7 @@ pub fn next_field<W: Write>(out: &mut Sink<W>, text: &[u8])
     out.add(text);
 }
 
-/// The same of a number.
+/// A number as a field that is not the first of its record.
 pub fn next_number<W: Write>(out: &mut Sink<W>, number: u32)
     ensures { Wrote W.contents out.old out.new (codes "," ++ decimal number) }
 {

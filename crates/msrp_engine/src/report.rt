@@ -64,8 +64,8 @@ fn report_all<T: Read>(
     found
 }
 
-// The same, where a failed read is told only if the source has failed, and want of memory or a report only if it hasn't. One row is kept
-// at a time.
+// The report of a trace's text, where a failed read is told only if the source has failed, and want of memory or a report only if it hasn't.
+// One row is kept at a time.
 fn report_trace<T: Read>(
     alloc: Global,
     plan: &Plan,
@@ -162,7 +162,7 @@ pub fn report_text<P: Read, T: Read, W: Write>(
     ensures answer { (plan_bytes trace_bytes : List ℕ) → source_remaining P.remaining plan.old ≡ Some plan_bytes → source_remaining T.remaining trace.old ≡ Some trace_bytes
         → (result ≡ Err CliFault.Read) ⊎ (result ≡ Err CliFault.Memory) ⊎ ReportAnswers W.contents (plan_of (csv_records plan_bytes)) (csv_records trace_bytes) out.old out.new result }
 
-    // The same of a refused plan, whatever the trace is read from.
+    // A refused plan is the answer, whatever the trace is read from.
     ensures refused { (bytes : List ℕ) (error : PlanError) → source_remaining P.remaining plan.old ≡ Some bytes → plan_of (csv_records bytes) ≡ Err error
         → (result ≡ Err CliFault.Read) ⊎ (result ≡ Err CliFault.Memory) ⊎ (result ≡ Err (fault_of error)) }
 

@@ -34,8 +34,8 @@ pub fn verdicts()
     ensures row { (plan : PlanModel) (pre : List Row) (r : Row) → (broken plan pre r ≡ None) ↔ IsLegal plan pre r }
 {}
 
-/// Each first part of a legal run is the start of one, and a start goes on by legal rows alone, as long as
-/// a core has a turn left.
+/// Each first part of a legal run is the start of one. As long as a core has a turn left, a start goes on with
+/// each legal row, and with no other.
 pub fn starts()
     ensures run { (plan : PlanModel) (pre post : List Row) → IsRun plan (pre ++ post) → IsRunStart plan pre }
     ensures start { (plan : PlanModel) (pre post : List Row) → IsRunStart plan (pre ++ post) → IsRunStart plan pre }

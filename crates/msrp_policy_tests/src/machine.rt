@@ -28,7 +28,7 @@ impl Deaf {
             core,
             room: plan.ticks(),
             resources: plan.resources(),
-            calls: Vec::with_capacity(alloc, plan.ticks() as usize).map_err(|_| Memory)?,
+            calls: Vec::with_capacity(alloc, plan.ticks() as usize)?,
         })
     }
 

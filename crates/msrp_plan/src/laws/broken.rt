@@ -13,7 +13,7 @@ ghost use Rattle.msrp_plan.specs.Examples.JobsOfOneTask as jobs_of_one_task;
 ghost use Rattle.msrp_plan.specs.Examples.PreemptsASection as preempts_a_section;
 ghost use Rattle.msrp_plan.specs.Examples.TwoHeads as two_heads;
 
-/// Rows that break one bound each, by one: an overtaking too many, a queue too long, a spin too many, a row
+/// Rows that break one bound each: an overtaking too many, a queue too long, a spin too many, a row
 /// too many in a section, and while a job is blocked.
 pub fn broken_bounds()
     ensures overtaking { ¬ BoundedOvertaking handover_a_tick_later.plan broken_laws.overtaken_twice }
@@ -33,9 +33,9 @@ pub fn broken_schedules()
     ensures works { ¬ WorkConservation jobs_of_one_task.plan (take 3 jobs_of_one_task.too_early) }
 {}
 
-/// Rows that break earliest deadline first, each by its last row and in one way alone: a job starts before an
-/// earlier one that is ready, before an earlier one that is started, and below the ceiling; a job goes on
-/// where an earlier one is started, and where the first of those that are ready is above the ceiling.
+/// Rows that break earliest deadline first, each by its last row: a job starts before an earlier one that is
+/// ready, before an earlier one that is started, and below the ceiling; a job goes on where an earlier one is
+/// started, and where the first of those that are ready is above the ceiling.
 pub fn broken_deadlines()
     ensures first { ¬ EarliestDeadlineFirst two_heads.plan (take 1 two_heads.by_declaration) }
     ensures preempts { ¬ EarliestDeadlineFirst equal_deadlines.plan (take 3 equal_deadlines.preempted) }
