@@ -93,11 +93,12 @@ class Proof:
 
 
 def chosen(left, done, free, behind):
-    """Which crates are begun now, each with how many jobs. The one that the longest chain waits for comes first, and gets two processors if there are four."""
+    """Which crates are begun now, each with how many jobs. The one that the longest chain waits for comes first, and gets two processors if there are four;
+    a program, which has few functions over many libraries, gets one: it takes longer with more jobs, since each loads the libraries."""
     ready = sorted((it for it in left if all(used in done for used in below(it))), key=lambda it: -behind[it])
     for number, name in enumerate(ready):
         if free > 0:
-            jobs = min(MOST_JOBS, -(-free // min(3, len(ready) - number)))
+            jobs = 1 if is_program(name) else min(MOST_JOBS, -(-free // min(3, len(ready) - number)))
             free -= jobs
             yield name, jobs
 
