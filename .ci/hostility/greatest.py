@@ -8,7 +8,7 @@ from .program import COMMANDS, GOOD, TOP, ask, judges, makes_trace, varies, word
 from .sweep import kept
 
 VIEWER = TOP / "crates/msrp_view/out/msrp_view"
-PART = 80  # ticks in a line of a picture
+PART = 60  # ticks in a line of a picture
 TICKS = 20_000
 
 
