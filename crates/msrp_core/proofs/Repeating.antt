@@ -1,37 +1,89 @@
 -- A core whose last row stands again.
-use Rattle.std.proofs.Common.{◌≡◌, ℕ, ◌+◌, ◌-◌, ◌<◌, ◌≤◌, ◌==◌, ◌&&◌, Some, None, Option, slice_get, Bool, false, not, cond, List, [], ◌∷◌, ◌++◌, nat_le, refl, ap, sym, ◌∙◌, subst, arith, length, length-append}
+use Rattle.std.proofs.Common.{◌≡◌, ℕ, ◌+◌, ◌-◌, ◌<◌, ◌≤◌, ◌==◌, ◌&&◌, Some, None, Option, slice_get, Bool, false, not, cond, List, [], ◌∷◌, ◌++◌, nat_le, refl, ap, sym, ◌∙◌, subst, arith, length, length-append, true, IfSome}
 use Rattle.std.specs.Option.{ForSome}
 use Rattle.std.proofs.Math.Bool.{true≢false, and-true}
-use Rattle.std.proofs.lemmas.Bool.{eqb-true, leb-false, lt-leb, false_from_ne_true}
+use Rattle.std.proofs.lemmas.Bool.{eqb-true, eqb-false, leb-false, lt-leb, false_from_ne_true}
 use Rattle.std.proofs.lemmas.Option.{same_Some}
 use Rattle.msrp_plan.specs.Plan.{PlanModel, units, release}
 use Rattle.msrp_plan.specs.Jobs.{jobs_on, is_queued, done}
 use Rattle.msrp_plan.specs.Choice.{choice}
 use Rattle.msrp_plan.specs.Phases.{phase_with}
 use Rattle.msrp_plan.specs.Runs.{IsCoreTurn}
+use Rattle.msrp_plan.specs.Shape.{has_shape, may_carry}
 use Rattle.msrp_plan.specs.States.{JobState, state_after}
 use Rattle.msrp_plan.specs.Stretches.{in_tick, NoneReleased, Stays, Works as StayWorks, Idles as StayIdles}
 use Rattle.msrp_plan.specs.declared.ids.JobId.{JobId}
 use Rattle.msrp_plan.specs.declared.ids.CoreId.{CoreId}
+use Rattle.msrp_plan.specs.declared.ids.ResId.{ResId}
 use Rattle.msrp_plan.specs.declared.rows.Kind.{Kind}
 use Rattle.msrp_plan.specs.declared.rows.Kind.TheVariants as kinds
 use Rattle.msrp_plan.specs.declared.rows.Row.{Row}
 use Rattle.msrp_plan.specs.declared.units.Op.TheVariants.{Run}
 use Rattle.msrp_plan.proofs.Legality.LegalRows as legal
+use Rattle.msrp_plan.proofs.Legality.SameRow.{parts, same_row}
 use Rattle.msrp_plan.proofs.Lists.AnyAll.{any_in}
 use Rattle.msrp_plan.proofs.Scheduling.Stretches.{stays_again, turns_by_states}
 use Rattle.msrp_ready.specs.Ready.{ReadyModel, has_come, is_due}
 use Rattle.msrp_core.specs.Going.{advanced, is_waiting_phase}
 use Rattle.msrp_core.specs.CoreJobs.{going_in, state_of, AreJobs, AreToldBy, IsRunning, CanAct, ActsFor, IsSamePlace, started_with}
-use Rattle.msrp_core.specs.Machine.{StandsAfter}
+use Rattle.msrp_core.specs.Machine.{RepeatsOnly, StandsAfter}
 use Rattle.msrp_core.specs.MachineView.{machine_view, Repeats, IsMachineView}
-use Rattle.msrp_core.specs.Repeats.{CanRepeat, HasWorkLeft, kind_again}
+use Rattle.msrp_core.specs.Repeats.{CanRepeat, HasWorkLeft, kind_again, row_again}
 use Rattle.msrp_core.specs.declared.jobs.Jobs.{Jobs}
 use Rattle.msrp_core.specs.declared.machines.Machine.TheInside.{Inside}
 use Rattle.msrp_core.proofs.Acting.{working}
 use Rattle.msrp_core.proofs.Choices.{at_in}
 use Rattle.msrp_core.proofs.Running.{running_done, running_known, running_queued, running_states}
-use Rattle.msrp_core.proofs.Turning.{acts_job, chosen_known, core_after, plan_after, ready_after, fits_after, told_from, turn_of, turn_row, turn_told, turn_phase, phase_after_turn}
+use Rattle.msrp_core.proofs.Turning.{acts_core, acts_job, acts_tick, chosen_known, core_after, plan_after, ready_after, fits_after, told_from, turn_of, turn_row, turn_told, turn_phase, phase_after_turn}
+
+-- ---- the row that stands again
+same_parts : (r s : Row) → r.tick ≡ s.tick → r.core ≡ s.core → r.kind ≡ s.kind → r.job ≡ s.job → r.res ≡ s.res → r.ahead ≡ s.ahead → parts r ≡ parts s
+same_parts r s t c k j g a = cc
+
+-- it has no resource, and carries no ahead
+no_res : (o job : Option JobId) (res : Option ResId) → has_shape (kind_again o) job res ≡ true → res ≡ None
+no_res None None None h = refl
+no_res None None (Some g) h = absurd (cc)
+no_res None (Some j) res h = absurd (cc)
+no_res (Some i) None res h = absurd (cc)
+no_res (Some i) (Some j) None h = refl
+no_res (Some i) (Some j) (Some g) h = absurd (cc)
+
+no_ahead : (o : Option JobId) (ahead : Option ℕ) → may_carry (kind_again o) ahead ≡ true → ahead ≡ None
+no_ahead o None h = refl
+no_ahead None (Some n) h = absurd (cc)
+no_ahead (Some j) (Some n) h = absurd (cc)
+
+pub is_again : (r : Row) (t : ℕ) (core : CoreId) (o : Option JobId) → r.tick ≡ t → r.core ≡ core → r.kind ≡ kind_again o → r.job ≡ o → r ≡ row_again t core o
+is_again r t core o tick c kind job =
+    let res = no_res o r.job r.res (subst (λ k. has_shape k r.job r.res ≡ true) kind r.shape) in
+    let ahead = no_ahead o r.ahead (subst (λ k. may_carry k r.ahead ≡ true) kind r.carrier) in
+    by_job o kind job res ahead
+  where
+    by_job : (o : Option JobId) → r.kind ≡ kind_again o → r.job ≡ o → r.res ≡ None → r.ahead ≡ None → r ≡ row_again t core o
+    by_job None k j g a = same_row r (row_again t core None) (same_parts r (row_again t core None) tick c k j g a)
+    by_job (Some i) k j g a = same_row r (row_again t core (Some i)) (same_parts r (row_again t core (Some i)) tick c k j g a)
+
+-- where a machine's last row stands again, its next one is known
+pub known_row : (m : Inside) (r : Row) → 0 < m.again → r.tick ≡ m.tick → r.core ≡ m.jobs.core → r.kind ≡ kind_again m.job → r.job ≡ m.job → Some r ≡ (machine_view m).again
+known_row m r some tick core kind job = by_flag (m.again == 0) refl
+  where
+    by_flag : (b : Bool) → (m.again == 0) ≡ b → Some r ≡ cond b None (Some (row_again m.tick m.jobs.core m.job))
+    by_flag true e = let none = eqb-true m.again 0 e in absurd (omega (arith, some, none))
+    by_flag false e = ap (λ x. Some x) (is_again r m.tick m.jobs.core m.job tick core kind job)
+
+-- and it is the last one in the next tick
+pub repeats_only : (m : Inside) (r : Row) → (0 < m.again → r.kind ≡ kind_again m.job) → r.core ≡ m.jobs.core → r.job ≡ m.job → RepeatsOnly (machine_view m) r
+repeats_only m r kind core job = by_flag (m.again == 0) refl
+  where
+    by_flag : (b : Bool) → (m.again == 0) ≡ b → IfSome (cond b None (Some (row_again m.tick m.jobs.core m.job))) (λ next. next ≡ in_tick m.tick r)
+    by_flag true e = tt
+    by_flag false e = let some = eqb-false m.again 0 e in sym (is_again (in_tick m.tick r) m.tick m.jobs.core m.job refl core (kind (omega (arith, some))) job)
+
+-- the kind of a row that stands again
+pub can_kind : (jobs : Jobs) (kind : Kind) (o : Option JobId) (k : ℕ) → CanRepeat jobs kind o k → kind ≡ kind_again o
+can_kind jobs kind None k can = can
+can_kind jobs kind (Some j) k can = can.0
 
 -- ---- one unit of work more, of those that the job has left
 pub work_left : (old new : Jobs) (job : JobId) (k : ℕ) → HasWorkLeft old job (k + 1) → going_in new ≡ advanced old.plan.now (going_in old) → new.plan.now ≡ old.plan.now → HasWorkLeft new job k

@@ -49,6 +49,14 @@ pub acts_job : (mid new : Jobs) (chosen : Option JobId) (tick : ℕ) (r : Row) �
 acts_job mid new None tick r acts = acts.row_job
 acts_job mid new (Some job) tick r acts = acts.row_job
 
+pub acts_tick : (mid new : Jobs) (chosen : Option JobId) (tick : ℕ) (r : Row) → ActsFor mid new chosen tick r → r.tick ≡ tick
+acts_tick mid new None tick r acts = acts.row_tick
+acts_tick mid new (Some job) tick r acts = acts.row_tick
+
+pub acts_core : (mid new : Jobs) (chosen : Option JobId) (tick : ℕ) (r : Row) → ActsFor mid new chosen tick r → r.core ≡ mid.core
+acts_core mid new None tick r acts = acts.row_core
+acts_core mid new (Some job) tick r acts = acts.row_core
+
 row_tick : (jobs : Jobs) (chosen : Option JobId) (tick : ℕ) (r : Row) → IsTurnOf jobs chosen tick r → r.tick ≡ tick
 row_tick jobs None tick r turn = turn.row_tick
 row_tick jobs (Some job) tick r turn = turn.row_tick

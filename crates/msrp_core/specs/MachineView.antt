@@ -1,5 +1,5 @@
 -- What a clause sees of a machine, and what its fields keep.
-use Rattle.std.specs.Prelude.{ℕ, List, [], ◌∷◌, ◌++◌, Some, false, map, ◌≡◌, ◌≤◌, ◌<◌, ◌+◌}
+use Rattle.std.specs.Prelude.{ℕ, List, [], ◌∷◌, ◌++◌, Some, None, false, map, ◌==◌, ◌≡◌, ◌≤◌, ◌<◌, ◌+◌, if◌then◌else◌}
 use Rattle.std.specs.Option.{ForSome}
 use Rattle.msrp_plan.specs.Jobs.{jobs_on, is_queued}
 use Rattle.msrp_plan.specs.Runs.{IsCoreTurn}
@@ -7,11 +7,12 @@ use Rattle.msrp_plan.specs.declared.rows.Row.{Row}
 use Rattle.msrp_ready.specs.Ready.{is_due}
 use Rattle.msrp_core.specs.Machine.{MachineModel, StandsAfter}
 use Rattle.msrp_core.specs.CoreJobs.{AreJobs, state_of}
-use Rattle.msrp_core.specs.Repeats.{CanRepeat}
+use Rattle.msrp_core.specs.Repeats.{CanRepeat, row_again}
 use Rattle.msrp_core.specs.declared.machines.Machine.TheInside.{Inside}
 
 abbrev pub machine_view : Inside → MachineModel
-machine_view m = record { plan = m.jobs.plan.now; core = m.jobs.core.0; tick = m.tick; phase = m.jobs.phase; states = map (state_of m.jobs) (jobs_on m.jobs.plan.now m.jobs.core.0) }
+machine_view m =
+    record { plan = m.jobs.plan.now; core = m.jobs.core.0; tick = m.tick; phase = m.jobs.phase; states = map (state_of m.jobs) (jobs_on m.jobs.plan.now m.jobs.core.0); again = if m.again == 0 then None else Some (row_again m.tick m.jobs.core m.job) }
 
 -- the last row, which came after pre, stands again so often: nobody is released by then, and its job goes on, which wasn't queued
 pub record Repeats (m : Inside) : Type 0 where

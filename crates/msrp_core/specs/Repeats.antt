@@ -1,10 +1,12 @@
 -- A core whose last row stands again, as it is stored.
-use Rattle.std.specs.Prelude.{ℕ, Option, Some, None, length, ◌≡◌, ◌<◌, ◌+◌}
+use Rattle.std.specs.Prelude.{ℕ, Option, Some, None, length, ◌≡◌, ◌<◌, ◌+◌, refl}
 use Rattle.msrp_plan.specs.Plan.{units}
 use Rattle.msrp_plan.specs.Stretches.{HasWork}
+use Rattle.msrp_plan.specs.declared.ids.CoreId.{CoreId}
 use Rattle.msrp_plan.specs.declared.ids.JobId.{JobId}
 use Rattle.msrp_plan.specs.declared.rows.Kind.{Kind}
 use Rattle.msrp_plan.specs.declared.rows.Kind.TheVariants.{Idle, Run}
+use Rattle.msrp_plan.specs.declared.rows.Row.{Row}
 use Rattle.msrp_core.specs.CoreJobs.{IsRunning}
 use Rattle.msrp_core.specs.declared.jobs.Jobs.{Jobs}
 
@@ -18,6 +20,11 @@ pub record HasWorkLeft (jobs : Jobs) (job : JobId) (k : ℕ) : Type 0 where
 abbrev pub kind_again : Option JobId → Kind
 kind_again None = Idle
 kind_again (Some job) = Run
+
+-- it is this row
+abbrev pub row_again : ℕ → CoreId → Option JobId → Row
+row_again t core None = record { tick = t; core = core; kind = Idle; job = None; res = None; ahead = None; shape = refl; carrier = refl }
+row_again t core (Some job) = record { tick = t; core = core; kind = Run; job = Some job; res = None; ahead = None; shape = refl; carrier = refl }
 
 -- a row of this kind and job may stand again, for its job's sake, k times
 abbrev pub CanRepeat : Jobs → Kind → Option JobId → ℕ → Type 0

@@ -1,5 +1,5 @@
 //! The machine of one core, which makes the rows of its turns.
-ghost use Rattle.std.specs.Prelude.{◌≡◌, ◌<◌, ◌≤◌, ◌+◌, ◌++◌, ◌∷◌, [], List, Some, None, IfOk, IfSome, IfNone, length, true};
+ghost use Rattle.std.specs.Prelude.{◌≡◌, ◌<◌, ◌≤◌, ◌+◌, ◌++◌, ◌∷◌, [], List, Some, None, IfOk, IfSome, IfNone, length, true, false};
 ghost use Rattle.msrp_plan.specs.Levels.{is_global};
 ghost use Rattle.msrp_plan.specs.Runs.{IsCoreTurn};
 ghost use Rattle.msrp_plan.specs.declared.ids.ResId.{ResId as Resource};
@@ -7,10 +7,11 @@ ghost use Rattle.msrp_plan.specs.declared.rows.Row.{Row as TraceRow};
 ghost use Rattle.msrp_core.specs.Ports.{claim_in};
 ghost use Rattle.msrp_core.specs.CoreJobs.{IsQuiet, MakesCall};
 ghost use Rattle.msrp_core.specs.CoreStates.{IsCoreState};
-ghost use Rattle.msrp_core.specs.Machine.{StandsAfter};
+ghost use Rattle.msrp_core.specs.Machine.{RepeatsOnly, StandsAfter};
 
 use crate::jobs::Jobs;
 use crate::port::Port;
+use crate::repeats::is_row_again;
 use crate::states::CoreState;
 use msrp_levels::Levels;
 use msrp_plan::{CoreId, JobId, Memory, Phase, Plan, Row};
@@ -59,6 +60,7 @@ impl<'a> Machine<'a> {
         ensures core { IfOk result (λ machine. machine.core ≡ core.0) }
         ensures phase { IfOk result (λ machine. machine.phase ≡ Phase.Free) }
         ensures stands { IfOk result (λ machine. StandsAfter machine []) }
+        ensures again { IfOk result (λ machine. machine.again ≡ None) }
     {
         let jobs = Jobs::with_room(alloc, plan, levels, core)?;
         Ok(Machine {
@@ -118,6 +120,8 @@ impl<'a> Machine<'a> {
     #[inline(always)]
     pub fn repeat(&mut self) -> Option<Row>
         ensures none { IfNone result (self.new ≡ self.old) }
+        ensures known { result ≡ self.old.again }
+        ensures again { IfSome result (RepeatsOnly self.new) }
         ensures plan { self.new.plan ≡ self.old.plan }
         ensures core { self.new.core ≡ self.old.core }
         ensures phase { self.new.phase ≡ self.old.phase }
@@ -135,6 +139,15 @@ impl<'a> Machine<'a> {
         Some(self.jobs.act_again(tick, self.job))
     }
 
+    /// Whether the row is known to be that of the core's next turn, which [`Machine::repeat`] then makes.
+    #[inline(always)]
+    pub fn knows(&self, row: &Row) -> bool
+        ensures known { result ≡ true → self.now.again ≡ Some row.now }
+        ensures other { result ≡ false → ¬ (self.now.again ≡ Some row.now) }
+    {
+        self.again != 0 && is_row_again(row, self.tick, self.jobs.core, self.job)
+    }
+
     // A turn that is chosen anew: then it is known how often its row stands again.
     #[inline(always)]
     fn turn_anew<P: Port>(&mut self, port: &mut P) -> Row
@@ -147,6 +160,7 @@ impl<'a> Machine<'a> {
         ensures tick { self.new.tick ≡ self.old.tick + 1 }
         ensures row { (log : List TraceRow) → StandsAfter self.old log → IsCoreTurn self.old.plan self.old.core log result }
         ensures stands { (log : List TraceRow) → StandsAfter self.old log → StandsAfter self.new (log ++ result ∷ []) }
+        ensures again { RepeatsOnly self.new result }
         ensures call { (res : Resource) → result.res ≡ Some res → is_global self.old.plan res.0 ≡ true → MakesCall self.old.plan result (P.port port.old) (P.port port.new) }
         ensures quiet { IsQuiet self.old.plan result → port.new ≡ port.old }
         ensures claim { claim_in self.new.core (P.port port.new).calls ≡ self.new.phase }
@@ -174,6 +188,8 @@ impl<'a> Machine<'a> {
         ensures tick { self.new.tick ≡ self.old.tick + 1 }
         ensures row { (log : List TraceRow) → StandsAfter self.old log → IsCoreTurn self.old.plan self.old.core log result }
         ensures stands { (log : List TraceRow) → StandsAfter self.old log → StandsAfter self.new (log ++ result ∷ []) }
+        ensures known { IfSome self.old.again (λ next. result ≡ next) }
+        ensures again { RepeatsOnly self.new result }
 
         // What is asked of the port is the row's own call, and the row has the port's answer.
         ensures call { (res : Resource) → result.res ≡ Some res → is_global self.old.plan res.0 ≡ true → MakesCall self.old.plan result (P.port port.old) (P.port port.new) }

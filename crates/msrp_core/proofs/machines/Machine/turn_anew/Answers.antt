@@ -1,4 +1,4 @@
-use Rattle.std.proofs.Common.{◌+◌, ◌++◌, ◌∷◌, [], ◌≡◌, sym, ap, subst, ◌∙◌, arith}
+use Rattle.std.proofs.Common.{◌+◌, ◌++◌, ◌∷◌, [], ◌≡◌, sym, ap, subst, ◌∙◌, arith, refl}
 use Rattle.std.proofs.lemmas.Option.{same_Some}
 use Rattle.msrp_plan.specs.Jobs.{jobs_on}
 use Rattle.msrp_plan.specs.Runs.{IsCoreTurn}
@@ -7,8 +7,8 @@ use Rattle.msrp_ready.specs.Ready.{ReadyModel}
 use Rattle.msrp_core.specs.CoreJobs.{state_of}
 use Rattle.msrp_core.specs.Machine.{StandsAfter, MachineModel}
 use Rattle.msrp_core.specs.MachineView.{machine_view}
-use Rattle.msrp_core.proofs.Repeating.{repeats_by, row_by, stands_by}
-use Rattle.msrp_core.proofs.Turning.{fits_after, ready_after, told_from}
+use Rattle.msrp_core.proofs.Repeating.{can_kind, repeats_by, repeats_only, row_by, stands_by}
+use Rattle.msrp_core.proofs.Turning.{acts_core, core_after, fits_after, ready_after, told_from}
 use Rattle.msrp_core.proofs.machines.Machine.turn_anew.Goals as goal
 
 pub repeats-self-inside-requires : goal.repeats-self-inside-requires
@@ -50,3 +50,12 @@ returns-clause-stands g c = λ log.
     let e = c.choose-chosen.ensures in
     let P : MachineModel → Type 0 = λ m. StandsAfter m log → StandsAfter (machine_view (record { tick = c.self.inside.tick + 1; jobs = c.act_chosen-row.new.self; again = c.repeats-self-inside.result; job = c.act_chosen-row.result.job })) (log ++ c.act_chosen-row.result ∷ []) in
     subst P c.self.view_is (stands_by c.self.inside c.choose-chosen.new.self c.act_chosen-row.new.self c.choose-chosen.result c.act_chosen-row.result e.jobs e.same e.running e.states c.act_chosen-row.ensures.acts c.repeats-self-inside.result c.act_chosen-row.result.job log)
+
+pub returns-clause-again : goal.returns-clause-again
+returns-clause-again g c =
+    let mid = c.choose-chosen.new.self in
+    let new = c.act_chosen-row.new.self in
+    let row = c.act_chosen-row.result in
+    let acts = c.act_chosen-row.ensures.acts in
+    let core = acts_core mid new c.choose-chosen.result c.self.inside.tick row acts ∙ sym (core_after mid new c.choose-chosen.result c.self.inside.tick row acts) in
+    repeats_only (record { tick = c.self.inside.tick + 1; jobs = new; again = c.repeats-self-inside.result; job = row.job }) row (λ some. can_kind new row.kind row.job c.repeats-self-inside.result (c.repeats-self-inside.ensures.can some)) core refl
