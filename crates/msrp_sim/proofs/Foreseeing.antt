@@ -244,6 +244,12 @@ has_machine m c x now cores is low value =
     let l : c < m.plan.cores = subst (λ (n : CoresModel). c < n.plan.cores) (sym is) low in
     slice_get_read m.machines m.plan.cores c x (sym cores.size) l value
 
+-- it has ticks left
+pub left : (m : CoresModel) (c : ℕ) (x : MachineModel) (now : CoresModel) → AreCores m → m ≡ now → c < now.plan.cores → x ≡ get_or m.machines c x → ((y : MachineModel) → slice_get now.machines c ≡ Some y → y.tick < now.plan.ticks) → x.tick < m.plan.ticks
+left m c x now cores is low value ticks =
+    let P : CoresModel → Type 0 = λ n. (y : MachineModel) → slice_get n.machines c ≡ Some y → y.tick < n.plan.ticks in
+    subst P (sym is) ticks x (has_machine m c x now cores is low value)
+
 -- a core that is due has a tick left
 pub tick_left : (m : CoresModel) (rows : List Row) (c : ℕ) (x : MachineModel) → AreCores m → slice_get m.machines c ≡ Some x → StandFor m rows → IsDueAfter m.plan rows c → x.tick < x.plan.ticks
 tick_left m rows c x cores has stands due =

@@ -1,5 +1,5 @@
 -- The cores before the first tick.
-use Rattle.std.proofs.Common.{◌≡◌, ℕ, ◌+◌, Bool, true, false, cond, List, [], ◌∷◌, ◌++◌, refl, ap, ◌∙◌, arith, length-append}
+use Rattle.std.proofs.Common.{◌≡◌, ℕ, ◌+◌, Bool, true, false, cond, List, [], ◌∷◌, ◌++◌, Option, Some, None, slice_get, refl, ap, ◌∙◌, arith, length-append}
 use Rattle.msrp_plan.specs.Plan.{PlanModel}
 use Rattle.msrp_plan.specs.FifoLock.{free_lock}
 use Rattle.msrp_plan.specs.Levels.{is_global}
@@ -7,7 +7,7 @@ use Rattle.msrp_plan.specs.WellFormed.{IsPlan}
 use Rattle.msrp_plan.specs.declared.units.Phase.TheVariants.{Free}
 use Rattle.msrp_plan.proofs.Lists.AnyAll.{places_push}
 use Rattle.msrp_core.specs.Machine.{MachineModel}
-use Rattle.msrp_sim.specs.Cores.{CoresModel, AreCores, AreNew, IsNew, StandFor, locks_at, phases_at}
+use Rattle.msrp_sim.specs.Cores.{CoresModel, AreCores, AreNew, IsNew, StandFor, again_of, known_row, locks_at, phases_at}
 use Rattle.msrp_sim.specs.Serving.{AreDrawn, IsServing}
 use Rattle.msrp_sim.proofs.Serving.{serving_as}
 
@@ -36,3 +36,11 @@ new_more plan n machines m all new = record {
   size = length-append machines (m ∷ []) ∙ ap (λ k. k + 1) all.size;
   each = places_push (IsNew plan) machines m all.each (rw all.size new);
 }
+
+-- nothing is known of a core before its first turn
+pub none_known : (m : CoresModel) (n : ℕ) → AreNew m.plan n m.machines → (c : ℕ) → known_row m c ≡ None
+none_known m n new c = by_place (slice_get m.machines c) refl
+  where
+    by_place : (o : Option MachineModel) → slice_get m.machines c ≡ o → again_of o ≡ None
+    by_place None e = refl
+    by_place (Some x) e = (new.each c x e).again

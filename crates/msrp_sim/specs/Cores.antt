@@ -1,5 +1,5 @@
 -- The cores of a plan over first-in-first-out queues, and the rows that they stand after.
-use Rattle.std.specs.Prelude.{ℕ, List, [], true, Option, Some, None, IfSome, length, slice_get, slice_set, sum_by, ◌≡◌, ◌<◌, ◌≤◌, ◌*◌, ◌/◌, if◌then◌else◌}
+use Rattle.std.specs.Prelude.{ℕ, List, [], true, Option, Some, None, IfSome, length, slice_get, slice_set, sum_by, ◌≡◌, ◌≢◌, ◌<◌, ◌≤◌, ◌*◌, ◌/◌, if◌then◌else◌}
 use Rattle.std.specs.Option.{ForSome}
 use Rattle.msrp_plan.specs.Plan.{PlanModel}
 use Rattle.msrp_plan.specs.Levels.{is_global}
@@ -9,6 +9,7 @@ use Rattle.msrp_plan.specs.Logs.{log_of}
 use Rattle.msrp_plan.specs.FifoLock.{FifoLock, free_lock}
 use Rattle.msrp_plan.specs.LockStates.{lock_at}
 use Rattle.msrp_plan.specs.Phases.{phase_after}
+use Rattle.msrp_plan.specs.Stretches.{in_tick}
 use Rattle.msrp_plan.specs.WellFormed.{IsPlan}
 use Rattle.msrp_plan.specs.Calls.{kind_of_call, ahead_of_call}
 use Rattle.msrp_plan.specs.declared.ids.ResId.{ResId}
@@ -79,6 +80,21 @@ pub record IsAs (due r : Row) : Type 0 where
   pub res : r.res ≡ due.res
   pub ahead : IfSome r.ahead (λ n. due.ahead ≡ Some n)
 
+-- ---- a row that stands again
+abbrev pub again_of : Option MachineModel → Option Row
+again_of None = None
+again_of (Some x) = x.again
+
+-- the row that a core is known to make in its next turn
+abbrev pub known_row : CoresModel → ℕ → Option Row
+known_row m c = again_of (slice_get m.machines c)
+
+-- the core of the row had its turn: where its next row is known, that is this one in another tick. What is known of the
+-- others is what was known before
+pub record Leaves (old new : CoresModel) (r : Row) : Type 0 where
+  pub own : IfSome (known_row new r.core.0) (λ next. next ≡ in_tick next.tick r)
+  pub others : (c : ℕ) → c ≢ r.core.0 → known_row new c ≡ known_row old c
+
 -- ---- a row that is foreseen
 -- the kind and the ahead that the queues give now to the row of a core, where it asks them
 abbrev pub kind_told : Queues → ℕ → Kind → Option ResId → Kind
@@ -112,6 +128,7 @@ pub record IsNew (plan : PlanModel) (c : ℕ) (x : MachineModel) : Type 0 where
   pub plan_is : x.plan ≡ plan
   pub core : x.core ≡ c
   pub stands : StandsAfter x []
+  pub again : x.again ≡ None
 
 -- the machines of the first n cores, in order, before their first turns
 pub record AreNew (plan : PlanModel) (n : ℕ) (machines : List MachineModel) : Type 0 where

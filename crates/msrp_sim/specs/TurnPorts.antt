@@ -12,7 +12,7 @@ use Rattle.msrp_plan.specs.declared.units.Call.TheVariants.{Ask}
 use Rattle.msrp_plan.specs.declared.units.Phase.{Phase}
 use Rattle.msrp_plan.specs.declared.units.Phase.TheVariants.{Free, Queued, Holding}
 use Rattle.msrp_core.specs.CoreJobs.{IsQuiet}
-use Rattle.msrp_core.specs.Machine.{MachineModel, StandsAfter}
+use Rattle.msrp_core.specs.Machine.{MachineModel, RepeatsOnly, StandsAfter}
 use Rattle.msrp_core.specs.Ports.{PortModel, claim_in}
 use Rattle.msrp_core.specs.declared.port.PortCall.{PortCall}
 use Rattle.msrp_sim.specs.Serving.{IsTold}
@@ -73,5 +73,6 @@ pub record HasTurned (q : Queues) (old new : MachineModel) (r : Row) (made : Opt
   pub tick : new.tick ≡ old.tick + 1
   pub row : (log : List Row) → StandsAfter old log → IsCoreTurn old.plan old.core log r
   pub stands : (log : List Row) → StandsAfter old log → StandsAfter new (log ++ r ∷ [])
+  pub again : RepeatsOnly new r
   pub call : (res : ResId) → r.res ≡ Some res → is_global old.plan res.0 ≡ true → MakesCallOf q old new r made
   pub quiet : IsQuiet old.plan r → (made ≡ None) × (new.phase ≡ old.phase)

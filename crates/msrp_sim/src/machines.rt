@@ -1,5 +1,5 @@
 //! All cores of a plan, and the queues of its global resources.
-ghost use Rattle.std.specs.Prelude.{◌≡◌, ◌<◌, ◌++◌, ◌∷◌, [], true, List, IfOk, None, Some, length, slice_get};
+ghost use Rattle.std.specs.Prelude.{◌≡◌, ◌<◌, ◌++◌, ◌∷◌, [], true, false, ℕ, List, IfOk, IfNone, IfSome, None, Some, length, slice_get};
 ghost use Rattle.std.specs.Option.{ForSome, IsSomeAnd, option_map};
 ghost use Rattle.msrp_plan.specs.Limits.{most_cores, most_resources, most_rows};
 ghost use Rattle.msrp_plan.specs.Logs.{log_of};
@@ -10,7 +10,7 @@ ghost use Rattle.msrp_plan.specs.WellFormed.{IsPlan};
 ghost use Rattle.msrp_plan.specs.declared.rows.Row.{Row as TraceRow};
 ghost use Rattle.msrp_core.specs.CoreStates.{IsCoreState};
 ghost use Rattle.msrp_core.specs.Machine.{MachineModel};
-ghost use Rattle.msrp_sim.specs.Cores.{AreNew, StandFor, IsDueAfter, IsNextRow, IsAs, IsAnswered, IsRowWith};
+ghost use Rattle.msrp_sim.specs.Cores.{AreNew, StandFor, IsDueAfter, IsNextRow, IsAs, IsAnswered, IsRowWith, Leaves, known_row};
 ghost use Rattle.msrp_sim.specs.Serving.{AreDrawn, Notes, waiting};
 
 use crate::tickets::Queues;
@@ -129,6 +129,7 @@ impl<'a> Cores<'a> {
         ensures accepted { IfOk result (λ cores. IsPlan cores.plan) }
         ensures plan { IfOk result (λ cores. cores.plan ≡ plan.now) }
         ensures stand { IfOk result (λ cores. StandFor cores []) }
+        ensures known { IfOk result (λ cores. (c : ℕ) → known_row cores c ≡ None) }
     {
         // Read so that the plan is known to be an accepted one.
         let _accepted = plan.cores();
@@ -165,6 +166,33 @@ impl<'a> Cores<'a> {
         Some(answered(&self.queues, row))
     }
 
+    /// The core's next turn, where it is known from its last one: its row is that one in the next tick. That takes no choice,
+    /// and no queue is asked. Elsewhere it is none, and nothing changes.
+    #[inline(always)]
+    pub fn repeat(&mut self, core: CoreId) -> Option<Row>
+        requires core { core.0 < self.old.plan.cores }
+        requires tick { (x : MachineModel) → slice_get self.old.machines core.0 ≡ Some x → x.tick < self.old.plan.ticks }
+        ensures none { IfNone result (self.new ≡ self.old) }
+        ensures known { result ≡ known_row self.old core.0 }
+        ensures plan { self.new.plan ≡ self.old.plan }
+        ensures leaves { IfSome result (Leaves self.old self.new) }
+        ensures next { IfSome result (λ due. (rows : List TraceRow) → StandFor self.old rows → IsDueAfter self.old.plan rows core.0 → IsNextRow self.old.plan rows core.0 due) }
+        ensures stand { IfSome result (λ due. (rows : List TraceRow) (row : TraceRow) → StandFor self.old rows → IsDueAfter self.old.plan rows core.0 → IsAs due row → IsLegal self.old.plan rows row → StandFor self.new (rows ++ row ∷ [])) }
+    {
+        let machine = &mut self.machines[core.0 as usize];
+        machine.repeat()
+    }
+
+    /// Whether the row is known to be its core's next one, which [`Cores::repeat`] then makes.
+    #[inline(always)]
+    pub fn knows(&self, row: &Row) -> bool
+        requires { row.now.core.0 < self.now.plan.cores }
+        ensures known { result ≡ true → known_row self.now row.now.core.0 ≡ Some row.now }
+        ensures other { result ≡ false → ¬ (known_row self.now row.now.core.0 ≡ Some row.now) }
+    {
+        self.machines[row.core.0 as usize].knows(row)
+    }
+
     /// The core's next turn. Whatever rows the cores stand for, the row is the next one of that core after them, and
     /// the cores then stand for them and this row, with its ahead or without.
     #[inline(always)]
@@ -172,6 +200,7 @@ impl<'a> Cores<'a> {
         requires core { core.0 < self.old.plan.cores }
         requires tick { (x : MachineModel) → slice_get self.old.machines core.0 ≡ Some x → x.tick < self.old.plan.ticks }
         ensures plan { self.new.plan ≡ self.old.plan }
+        ensures leaves { Leaves self.old self.new result }
         ensures next { (rows : List TraceRow) → StandFor self.old rows → IsDueAfter self.old.plan rows core.0 → IsNextRow self.old.plan rows core.0 result }
         ensures stand { (rows : List TraceRow) (row : TraceRow) → StandFor self.old rows → IsDueAfter self.old.plan rows core.0 → IsAs result row → IsLegal self.old.plan rows row → StandFor self.new (rows ++ row ∷ []) }
     {

@@ -1,8 +1,9 @@
 //! A run on one thread, turn by turn.
-ghost use Rattle.std.specs.Prelude.{◌≡◌, ◌<◌, ◌≤◌, ◌+◌, ◌*◌, ◌++◌, ◌∷◌, [], List, Err, IfOk, ◌↔◌};
+ghost use Rattle.std.specs.Prelude.{◌≡◌, ◌<◌, ◌≤◌, ◌+◌, ◌*◌, ◌++◌, ◌∷◌, [], ℕ, List, Some, None, Err, IfOk, IfNone, IfSome, ◌↔◌};
 ghost use Rattle.std.specs.Vec.{vec_capacity};
 ghost use Rattle.msrp_plan.specs.Scheduling.{IsOrder};
 ghost use Rattle.msrp_plan.specs.declared.rows.Row.{Row as TraceRow};
+ghost use Rattle.msrp_sim.specs.Cores.{Leaves, known_row};
 ghost use Rattle.msrp_sim.specs.Orders.{cores_of};
 ghost use Rattle.msrp_sim.specs.Simulated.{HasMade, IsRunIn};
 
@@ -51,6 +52,7 @@ impl<'a> Simulation<'a> {
         ensures order { IfOk result (λ sim. sim.order ≡ cores_of order.now plan.now) }
         ensures turn { IfOk result (λ sim. sim.turn ≡ 0) }
         ensures made { IfOk result (λ sim. HasMade sim []) }
+        ensures known { IfOk result (λ sim. (c : ℕ) → known_row sim.cores c ≡ None) }
     {
         Ok(Simulation {
             plan,
@@ -58,6 +60,25 @@ impl<'a> Simulation<'a> {
             at: TickPlace { tick: 0, place: 0 },
             cores: Cores::with_room(alloc, plan, levels)?,
         })
+    }
+
+    /// The next turn, where it is known from the core's last one: its row is that one in the next tick. Elsewhere it is none,
+    /// and nothing changes.
+    #[inline(always)]
+    pub fn repeat(&mut self) -> Option<Row>
+        requires { self.old.turn < self.old.plan.cores * self.old.plan.ticks }
+        ensures none { IfNone result (self.new ≡ self.old) }
+        ensures known { IfSome result (λ row. known_row self.old.cores row.core.0 ≡ Some row) }
+        ensures plan { self.new.plan ≡ self.old.plan }
+        ensures order { self.new.order ≡ self.old.order }
+        ensures turn { IfSome result (λ _. self.new.turn ≡ self.old.turn + 1) }
+        ensures leaves { IfSome result (Leaves self.old.cores self.new.cores) }
+        ensures row { IfSome result (λ row. (rows : List TraceRow) → HasMade self.old rows → HasMade self.new (rows ++ row ∷ [])) }
+    {
+        let core = self.order.core_at(self.plan, &self.at);
+        let row = self.cores.repeat(core)?;
+        self.at.advance(self.plan.cores());
+        Some(row)
     }
 
     /// The next turn: its core makes a row, and a global resource answers at once. It never fails, and takes no
@@ -68,6 +89,7 @@ impl<'a> Simulation<'a> {
         ensures plan { self.new.plan ≡ self.old.plan }
         ensures order { self.new.order ≡ self.old.order }
         ensures turn { self.new.turn ≡ self.old.turn + 1 }
+        ensures leaves { Leaves self.old.cores self.new.cores result }
         ensures row { (rows : List TraceRow) → HasMade self.old rows → HasMade self.new (rows ++ result ∷ []) }
     {
         let core = self.order.core_at(self.plan, &self.at);

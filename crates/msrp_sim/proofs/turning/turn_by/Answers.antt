@@ -11,6 +11,7 @@ returns-in-Some c = record {
   tick = c.in-Some.ensures.tick;
   row = c.in-Some.ensures.row;
   stands = c.in-Some.ensures.stands;
+  again = c.in-Some.ensures.again;
   call = λ res e global. absurd (none-some res (sym c.in-Some.ensures.res ∙ e));
   quiet = λ q. (refl, c.repeat.ensures.phase);
 }

@@ -1,22 +1,16 @@
-use Rattle.std.proofs.Common.{◌≡◌, ℕ, get_or, ◌<◌, ◌++◌, ◌∷◌, [], List, Some, length, slice_get, refl, ap, sym, ◌∙◌, subst}
+use Rattle.std.proofs.Common.{◌<◌, ◌++◌, ◌∷◌, [], List, length, refl, ap, sym, ◌∙◌, subst}
 use Rattle.std.specs.Vec.{with_item}
 use Rattle.msrp_plan.specs.Plan.{PlanModel}
 use Rattle.msrp_plan.specs.Runs.{IsLegal}
 use Rattle.msrp_plan.specs.declared.rows.Row.{Row as TraceRow}
-use Rattle.msrp_core.specs.Machine.{MachineModel}
-use Rattle.msrp_sim.specs.Cores.{CoresModel, AreCores, StandFor, IsDueAfter, IsNextRow, IsAs, TakesTurn}
+use Rattle.msrp_sim.specs.Cores.{CoresModel, StandFor, IsDueAfter, IsNextRow, IsAs, Leaves, TakesTurn}
 use Rattle.msrp_sim.specs.CoresView.{cores_view}
-use Rattle.msrp_sim.proofs.Foreseeing.{has_machine}
+use Rattle.msrp_sim.proofs.Foreseeing.{has_machine, left}
+use Rattle.msrp_sim.proofs.Repeating.{leaves}
 use Rattle.msrp_sim.proofs.Turns.{next_legal}
 use Rattle.msrp_sim.proofs.Standing.{stand_push}
 use Rattle.msrp_sim.proofs.Keeping.{call_core, call_resource, cores_kept, few_drawn}
 use Rattle.msrp_sim.proofs.machines.Cores.turn.Goals as goal
-
--- it has ticks left
-left : (m : CoresModel) (c : ℕ) (x : MachineModel) (now : CoresModel) → AreCores m → m ≡ now → c < now.plan.cores → x ≡ get_or m.machines c x → ((y : MachineModel) → slice_get now.machines c ≡ Some y → y.tick < now.plan.ticks) → x.tick < m.plan.ticks
-left m c x now cores is low value ticks =
-    let P : CoresModel → Type 0 = λ n. (y : MachineModel) → slice_get n.machines c ≡ Some y → y.tick < n.plan.ticks in
-    subst P (sym is) ticks x (has_machine m c x now cores is low value)
 
 pub turn_by-turned-requires-clause-tick : goal.turn_by-turned-requires-clause-tick
 turn_by-turned-requires-clause-tick c =
@@ -79,3 +73,12 @@ returns-clause-stand c =
     let t : TakesTurn m n c.args.core.0 c.turn_by-turned.result.row = record { plan = refl; before = x; after = c.turn_by-turned.new.machine; call = c.turn_by-turned.result.call; has = has; machines = refl; turned = c.turn_by-turned.ensures; same = c.note_turn.ensures.none; noted = c.note_turn.ensures.noted } in
     let P : CoresModel → Type 0 = λ o. (rows : List TraceRow) (row : TraceRow) → StandFor o rows → IsDueAfter o.plan rows c.args.core.0 → IsAs c.turn_by-turned.result.row row → IsLegal o.plan rows row → StandFor n (rows ++ row ∷ []) in
     subst P c.self.view_is (λ rows row stands due like legal. stand_push m n c.args.core.0 c.turn_by-turned.result.row row rows c.self.invariant stands due t like legal)
+
+pub returns-clause-leaves : goal.returns-clause-leaves
+returns-clause-leaves c =
+    let m = cores_view c.self.inside in
+    let x = c.index_mut-machine.result.now in
+    let has = has_machine m c.args.core.0 x c.args.self.now c.self.invariant c.self.view_is c.requires.core c.index_mut-machine.ensures.value in
+    let n = cores_view (record { plan = c.self.inside.plan; machines = with_item c.self.inside.machines c.args.core.0 c.turn_by-turned.new.machine; queues = c.note_turn.new.queues }) in
+    let t : TakesTurn m n c.args.core.0 c.turn_by-turned.result.row = record { plan = refl; before = x; after = c.turn_by-turned.new.machine; call = c.turn_by-turned.result.call; has = has; machines = refl; turned = c.turn_by-turned.ensures; same = c.note_turn.ensures.none; noted = c.note_turn.ensures.noted } in
+    subst (λ (o : CoresModel). Leaves o n c.turn_by-turned.result.row) c.self.view_is (leaves m n c.args.core.0 c.turn_by-turned.result.row c.self.invariant t)

@@ -1,4 +1,5 @@
 use Rattle.std.proofs.Common.{◌≡◌, ◌+◌, ◌*◌, ◌<◌, ◌++◌, ◌∷◌, [], sym, subst, arith}
+use Rattle.msrp_sim.specs.Cores.{Leaves}
 use Rattle.msrp_sim.specs.Simulated.{SimModel, HasMade}
 use Rattle.msrp_sim.specs.SimView.{sim_view}
 use Rattle.msrp_sim.proofs.Rounds.{tick_within}
@@ -47,3 +48,6 @@ returns-clause-row c = λ rows.
     let after : SimModel = sim_view (record { plan = c.self.inside.plan; order = c.self.inside.order; at = c.advance.new.self; cores = c.turn.new.self }) in
     subst (λ (s : SimModel). HasMade s rows → HasMade after (rows ++ c.turn.result ∷ [])) c.self.view_is (λ made.
     made_turn (sim_view c.self.inside) rows c.core_at-core.result.0 i.order l c.core_at-core.ensures made c.turn.new.self c.turn.result _ next e.plan e.next e.stand)
+
+pub returns-clause-leaves : goal.returns-clause-leaves
+returns-clause-leaves c = subst (λ (s : SimModel). Leaves s.cores c.turn.new.self c.turn.result) c.self.view_is c.turn.ensures.leaves
