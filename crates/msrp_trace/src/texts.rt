@@ -1,6 +1,7 @@
 //! The texts of the cores' rows, kept as long as the cores do the same.
 ghost use Rattle.std.specs.Prelude.{◌≡◌, ◌<◌, ◌++◌, ◌%◌, ℕ, List, codes, length, slice_index_or, slice_set, true};
 ghost use Rattle.msrp_trace.specs.Gathering.{after_tick};
+ghost use Rattle.msrp_trace.specs.Texts.{text_of_core};
 ghost use Rattle.msrp_trace.specs.TraceText.{is_named};
 ghost use Rattle.msrp_trace.specs.declared.line.RowLine.{RowLine as Kept};
 
@@ -59,7 +60,8 @@ impl<'a> RowTexts<'a> {
     #[inline(always)]
     pub fn show(&mut self, row: &Row)
         requires { is_named self.old.plan row.now ≡ true }
-        ensures { self.new ≡ record self.old { texts = slice_set self.old.texts (row.now.core.0 % 8) (after_tick self.old.version self.old.plan row.now) } }
+        ensures texts { self.new ≡ record self.old { texts = slice_set self.old.texts (row.now.core.0 % 8) (after_tick self.old.version self.old.plan row.now) } }
+        ensures here { text_of_core self.new row.now.core.0 ≡ after_tick self.old.version self.old.plan row.now }
     {
         let core = (row.core.0 % MOST_CORES) as usize;
         let plan = self.plan;
