@@ -1,2 +1,3 @@
 -- Words of private functions. No public contract speaks of them.
 pub mod Gathered
+pub mod Known

@@ -1,24 +1,55 @@
 //! The simulation of a plan: from its text to the text of its run on one thread.
 
-ghost use Rattle.std.specs.Prelude.{◌≡◌, ◌⊎◌, ◌↔◌, ℕ, List, [], true, false, Some, Err, IfOk, IfErr, OnOk, OnErr};
+ghost use Rattle.std.specs.Prelude.{◌≡◌, ◌<◌, ◌+◌, ◌*◌, ◌++◌, ◌∷◌, ◌⊎◌, ◌↔◌, ℕ, List, [], true, false, Some, None, Err, IfOk, IfErr, OnOk, OnErr};
 ghost use Rattle.msrp_plan.specs.Bytes.{Wrote, sink_failed, source_failed, source_remaining};
 ghost use Rattle.msrp_plan.specs.Scheduling.{IsOrder};
 ghost use Rattle.msrp_plan.specs.WellFormed.{IsPlan};
+ghost use Rattle.msrp_plan.specs.declared.rows.Row.{Row as TraceRow};
+ghost use Rattle.msrp_sim.specs.Cores.{known_row};
 ghost use Rattle.msrp_sim.specs.Orders.{cores_of};
 ghost use Rattle.msrp_sim.specs.Simulated.{HasMade};
 ghost use Rattle.msrp_text.specs.Reading.{csv_records, plan_of};
 ghost use Rattle.msrp_faults.specs.Outcomes.{written_status, is_sim_fault};
+ghost use Rattle.msrp_trace.specs.Gathering.{after_tick};
+ghost use Rattle.msrp_trace.specs.Texts.{text_of_core};
+ghost use Rattle.msrp_engine.specs.Inside.Known.{HasMadeSome, KeepKnown};
 ghost use Rattle.msrp_engine.specs.Simulation.{SimAnswers, WritesRun, WritesSomeRun};
 
 use msrp_faults::CliFault;
 use msrp_levels::Levels;
 use msrp_plan::bytes::{Sink, Source};
-use msrp_plan::{Plan, TextVersion, WriteFault};
+use msrp_plan::{Plan, Row, TextVersion, WriteFault};
 use msrp_sim::{Order, Simulation};
 use msrp_text::read_plan;
-use msrp_trace::TraceWriter;
+use msrp_trace::{RowTexts, TraceWriter};
 use std::alloc::Global;
 use std::io::{Read, Write};
+
+// The next turn. Where its row is known from its core's last one, so is its text; else that is made.
+#[inline(always)]
+fn next_turn(simulation: &mut Simulation<'_>, texts: &mut RowTexts<'_>) -> Row
+    requires accepted { IsPlan simulation.old.plan }
+    requires plan { texts.old.plan ≡ simulation.old.plan }
+    requires left { simulation.old.turn < simulation.old.plan.cores * simulation.old.plan.ticks }
+    requires made { HasMadeSome simulation.old }
+    requires known { KeepKnown simulation.old texts.old }
+    ensures plan { simulation.new.plan ≡ simulation.old.plan }
+    ensures order { simulation.new.order ≡ simulation.old.order }
+    ensures turn { simulation.new.turn ≡ simulation.old.turn + 1 }
+    ensures row { (rows : List TraceRow) → HasMade simulation.old rows → HasMade simulation.new (rows ++ result ∷ []) }
+    ensures text { text_of_core texts.new result.core.0 ≡ after_tick texts.old.version texts.old.plan result }
+    ensures same { texts.new ≡ record texts.old { texts = texts.new.texts } }
+    ensures known { KeepKnown simulation.new texts.new }
+{
+    match simulation.repeat() {
+        Some(row) => row,
+        None => {
+            let row = simulation.turn();
+            texts.show(&row);
+            row
+        }
+    }
+}
 
 // Every turn of the simulation: the first record, and then the row of each turn. After a failed write the run goes on
 // unheard, so that what was written is the first part of the whole run's text.
@@ -32,16 +63,18 @@ fn write_run<W: Write>(
     requires order { IsOrder plan.now simulation.old.order }
     requires turn { simulation.old.turn ≡ 0 }
     requires made { HasMade simulation.old [] }
+    requires known { (c : ℕ) → known_row simulation.old.cores c ≡ None }
     ensures plan { IsPlan plan.now }
     ensures run { WritesRun W.contents version plan.now simulation.old.order out.old out.new }
     ensures good { OnOk result (sink_failed out.new ≡ false) }
     ensures fault { OnErr result (sink_failed out.new ≡ true) }
 {
     let mut text = TraceWriter::new(plan, version);
+    let mut texts = RowTexts::new(plan, version);
     text.head(out);
     for _turn in 0..plan.cores() * plan.ticks() {
-        let row = simulation.turn();
-        text.row(out, &row);
+        let row = next_turn(simulation, &mut texts);
+        text.again(out, row.tick, &texts, row.core);
     }
     text.finish(out)
 }

@@ -3,6 +3,7 @@ use Rattle.msrp_plan.specs.declared.rows.Row.{Row}
 use Rattle.msrp_sim.specs.Simulated.{HasMade}
 use Rattle.msrp_trace.specs.Gathering.{Gathers}
 use Rattle.msrp_trace.specs.TraceText.{trace_text}
+use Rattle.msrp_engine.specs.Inside.Known.{KeepKnown}
 use Rattle.msrp_engine.proofs.sim.write_run.Given as goal
 
 abbrev pub invariant-loop-turn : goal.invariant-loop-turn
@@ -14,3 +15,6 @@ invariant-loop-turn g l =
     × (l.simulation.order ≡ l.fn.simulation.order)
     × (l.simulation.turn ≡ l._turn)
     × (l.text ≡ record { plan = l.fn.plan; version = l.fn.version; text = l.text.text })
+    × (l.texts.plan ≡ l.fn.plan)
+    × (l.texts.version ≡ l.fn.version)
+    × KeepKnown l.simulation l.texts
