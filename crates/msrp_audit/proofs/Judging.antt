@@ -36,10 +36,7 @@ use Rattle.msrp_plan.specs.Actions.{same_res}
 use Rattle.msrp_plan.specs.Runs.{same_choice}
 use Rattle.msrp_plan.specs.declared.faults.Rule.TheVariants.{A3, A4, A5}
 use Rattle.std.proofs.Common.{IfSome}
-use Rattle.std.proofs.lemmas.Bool.{and_from, and_parts}
-use Rattle.msrp_plan.specs.declared.ids.ResId.{ResId}
-use Rattle.msrp_plan.specs.declared.rows.Kind.{Kind}
-use Rattle.msrp_plan.specs.declared.rows.Kind.TheVariants.{Idle, Run, Lock, Unlock, Take, Queue, Spin, Grant, Release}
+use Rattle.std.proofs.lemmas.Bool.{and_parts}
 use Rattle.msrp_sim.specs.Cores.{IsAs}
 use Rattle.msrp_audit.specs.Foresight.{unlike, does_alike, replied_alike, same_action, same_kind, same_ahead}
 use Rattle.msrp_audit.proofs.Foresight.{broken_is, same_kind_is}
@@ -202,39 +199,6 @@ fed_bad a b rows r rule none h is plan fault = record {
   stand = λ e. let no : None ≡ Some (record { row = a.fed + 1; rule = rule }) = sym e ∙ fault in absurd (cc);
   count = λ e. let no : None ≡ Some (record { row = a.fed + 1; rule = rule }) = sym e ∙ fault in absurd (cc);
 }
-
--- ---- a row is as itself
-choice_self : (o : Option JobId) → same_choice o o ≡ true
-choice_self None = refl
-choice_self (Some j) = same_self j
-
-res_self : (o : Option ResId) → same_res o o ≡ true
-res_self None = refl
-res_self (Some g) = eq-eqb g.0 g.0 refl
-
-kind_self : (k : Kind) → (same_action k k ≡ true) × (same_kind k k ≡ true)
-kind_self Idle = (refl, refl)
-kind_self Run = (refl, refl)
-kind_self Lock = (refl, refl)
-kind_self Unlock = (refl, refl)
-kind_self Take = (refl, refl)
-kind_self Queue = (refl, refl)
-kind_self Spin = (refl, refl)
-kind_self Grant = (refl, refl)
-kind_self Release = (refl, refl)
-
-ahead_self : (o : Option ℕ) → same_ahead o o ≡ true
-ahead_self None = refl
-ahead_self (Some n) = eq-eqb n n refl
-
-alike : (a b d : Bool) → a ≡ true → b ≡ true → d ≡ true → cond a (cond b (cond d None (Some A5)) (Some A4)) (Some A3) ≡ None
-alike a b d h k l = ap (λ x. cond x (cond b (cond d None (Some A5)) (Some A4)) (Some A3)) h ∙ (ap (λ x. cond x (cond d None (Some A5)) (Some A4)) k ∙ ap (λ x. cond x None (Some A5)) l)
-
-pub unlike_self : (r : Row) → unlike r r ≡ None
-unlike_self r =
-    alike (same_choice r.job r.job) (does_alike r r) (replied_alike r r) (choice_self r.job)
-    (and_from (same_res r.res r.res) (same_action r.kind r.kind) (res_self r.res) (kind_self r.kind).0)
-    (and_from (same_kind r.kind r.kind) (same_ahead r.ahead r.ahead) (kind_self r.kind).1 (ahead_self r.ahead))
 
 -- ---- the turn of a row's core
 module _ (m n : CoresModel) (plan : PlanModel) (rows : List Row) (r s : Row) (same : m.plan ≡ plan) (ok : IsPlan plan) (left : length rows < plan.cores * plan.ticks) (stands : StandFor m rows) (turn : is_in_turn plan rows r ≡ true)

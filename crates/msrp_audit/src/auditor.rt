@@ -125,10 +125,6 @@ impl<'a> Auditor<'a> {
         if !is_due(self.plan, &self.cores, self.fed, row) {
             return Some(Rule::A1);
         }
-        if self.cores.knows(&row) {
-            self.cores.repeat(row.core);
-            return None;
-        }
         let due = self.cores.turn(row.core);
         let unlike = unlike_due(row, due);
         // A row as the one that is due has a job of its core.

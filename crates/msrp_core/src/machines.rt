@@ -1,5 +1,5 @@
 //! The machine of one core, which makes the rows of its turns.
-ghost use Rattle.std.specs.Prelude.{◌≡◌, ◌<◌, ◌≤◌, ◌+◌, ◌++◌, ◌∷◌, [], List, Some, None, IfOk, IfSome, IfNone, length, true, false};
+ghost use Rattle.std.specs.Prelude.{◌≡◌, ◌<◌, ◌≤◌, ◌+◌, ◌++◌, ◌∷◌, [], List, Some, None, IfOk, IfSome, IfNone, length, true};
 ghost use Rattle.msrp_plan.specs.Levels.{is_global};
 ghost use Rattle.msrp_plan.specs.Runs.{IsCoreTurn};
 ghost use Rattle.msrp_plan.specs.declared.ids.ResId.{ResId as Resource};
@@ -11,7 +11,6 @@ ghost use Rattle.msrp_core.specs.Machine.{RepeatsOnly, StandsAfter};
 
 use crate::jobs::Jobs;
 use crate::port::Port;
-use crate::repeats::is_row_again;
 use crate::states::CoreState;
 use msrp_levels::Levels;
 use msrp_plan::{CoreId, JobId, Memory, Phase, Plan, Row};
@@ -137,15 +136,6 @@ impl<'a> Machine<'a> {
         let tick = self.tick;
         self.tick = tick + 1;
         Some(self.jobs.act_again(tick, self.job))
-    }
-
-    /// Whether the row is known to be that of the core's next turn, which [`Machine::repeat`] then makes.
-    #[inline(always)]
-    pub fn knows(&self, row: &Row) -> bool
-        ensures known { result ≡ true → self.now.again ≡ Some row.now }
-        ensures other { result ≡ false → ¬ (self.now.again ≡ Some row.now) }
-    {
-        self.again != 0 && is_row_again(row, self.tick, self.jobs.core, self.job)
     }
 
     // A turn that is chosen anew: then it is known how often its row stands again.

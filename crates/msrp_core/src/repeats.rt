@@ -1,35 +1,16 @@
 //! Turns whose row is the last one again: the running job is in a run of work, or the core idles, and nobody is released.
-ghost use Rattle.std.specs.Prelude.{◌≡◌, ◌<◌, ◌≤◌, ◌+◌, ◌∷◌, ℕ, List, Some, None, true, false, length, vec_capacity};
+ghost use Rattle.std.specs.Prelude.{◌≡◌, ◌<◌, ◌≤◌, ◌+◌, ◌∷◌, ℕ, List, Some, None, false, length, vec_capacity};
 ghost use Rattle.std.specs.Option.{ForSome};
 ghost use Rattle.msrp_plan.specs.Plan.{units};
 ghost use Rattle.msrp_plan.specs.Stretches.{HasWork};
 ghost use Rattle.msrp_ready.specs.Ready.{is_due};
 ghost use Rattle.msrp_core.specs.Going.{Going, advanced};
 ghost use Rattle.msrp_core.specs.CoreJobs.{ActsFor, AreJobs, CanAct, Acts, IsRunning, going_in};
-ghost use Rattle.msrp_core.specs.Repeats.{CanRepeat, HasWorkLeft, kind_again, row_again};
+ghost use Rattle.msrp_core.specs.Repeats.{CanRepeat, HasWorkLeft, kind_again};
 
 use crate::actions::{idle_row, row_on};
 use crate::jobs::Jobs;
-use msrp_plan::{CoreId, JobId, Kind, Op, Row};
-
-// The kind of a row that stands again.
-fn kind_again(job: Option<JobId>) -> Kind
-    ensures { result ≡ kind_again job }
-{
-    match job {
-        None => Kind::Idle,
-        Some(_) => Kind::Run,
-    }
-}
-
-/// Whether a row is the one that stands again in that tick.
-#[inline(always)]
-pub(crate) fn is_row_again(row: &Row, tick: u32, core: CoreId, job: Option<JobId>) -> bool
-    ensures same { result ≡ true → row.now ≡ row_again tick core job }
-    ensures other { result ≡ false → ¬ (row.now ≡ row_again tick core job) }
-{
-    row.tick == tick && row.core == core && row.kind == kind_again(job) && row.job == job
-}
+use msrp_plan::{JobId, Kind, Op, Row};
 
 impl<'a> Jobs<'a> {
     // How many ticks from this one on pass before a job of the core is released, as far as is known.

@@ -1,5 +1,5 @@
 //! All cores of a plan, and the queues of its global resources.
-ghost use Rattle.std.specs.Prelude.{◌≡◌, ◌<◌, ◌++◌, ◌∷◌, [], true, false, ℕ, List, IfOk, IfNone, IfSome, None, Some, length, slice_get};
+ghost use Rattle.std.specs.Prelude.{◌≡◌, ◌<◌, ◌++◌, ◌∷◌, [], true, ℕ, List, IfOk, IfNone, IfSome, None, Some, length, slice_get};
 ghost use Rattle.std.specs.Option.{ForSome, IsSomeAnd, option_map};
 ghost use Rattle.msrp_plan.specs.Limits.{most_cores, most_resources, most_rows};
 ghost use Rattle.msrp_plan.specs.Logs.{log_of};
@@ -181,16 +181,6 @@ impl<'a> Cores<'a> {
     {
         let machine = &mut self.machines[core.0 as usize];
         machine.repeat()
-    }
-
-    /// Whether the row is known to be its core's next one, which [`Cores::repeat`] then makes.
-    #[inline(always)]
-    pub fn knows(&self, row: &Row) -> bool
-        requires { row.now.core.0 < self.now.plan.cores }
-        ensures known { result ≡ true → known_row self.now row.now.core.0 ≡ Some row.now }
-        ensures other { result ≡ false → ¬ (known_row self.now row.now.core.0 ≡ Some row.now) }
-    {
-        self.machines[row.core.0 as usize].knows(row)
     }
 
     /// The core's next turn. Whatever rows the cores stand for, the row is the next one of that core after them, and

@@ -1,12 +1,10 @@
-use Rattle.std.proofs.Common.{◌≡◌, ◌≢◌, ℕ, ◌++◌, ◌∷◌, [], ◌*◌, ◌<◌, ◌≤◌, List, Option, Some, None, IfSome, false, length, refl, ap, sym, ◌∙◌, subst, arith}
+use Rattle.std.proofs.Common.{◌≡◌, ◌≢◌, ℕ, ◌++◌, ◌∷◌, [], ◌*◌, ◌<◌, ◌≤◌, List, Option, Some, None, false, length, refl, ap, sym, ◌∙◌, subst, arith}
 use Rattle.std.specs.Option.{is_some}
-use Rattle.msrp_plan.specs.Runs.{IsLegal}
 use Rattle.msrp_plan.specs.Verdict.{refused}
-use Rattle.msrp_plan.specs.declared.faults.Rule.{Rule}
 use Rattle.msrp_plan.specs.declared.rows.Row.{Row as TraceRow}
 use Rattle.msrp_audit.specs.Audits.{AuditorModel, auditor_view}
-use Rattle.msrp_sim.specs.Cores.{StandFor, IsDueAfter, IsNextRow, IsAs}
-use Rattle.msrp_audit.proofs.Judging.{judged, judged_good, stands_on, unlike_self}
+use Rattle.msrp_sim.specs.Cores.{StandFor}
+use Rattle.msrp_audit.proofs.Judging.{judged, judged_good, stands_on}
 use Rattle.msrp_audit.proofs.auditor.Auditor.judge.Goals.{else-is_some-via-then-is_some+else-not-is_own, else-is_some-via-else-is_some}
 use Rattle.msrp_audit.proofs.auditor.Auditor.judge.Goals as goal
 
@@ -47,32 +45,3 @@ returns-clause-stand c =
     let P : AuditorModel → Type 0 = λ b. (rows : List TraceRow) → StandFor b.cores rows → b.fed ≡ length rows → c.unlike_due-unlike.result ≡ None → StandFor c.turn-due.new.self (rows ++ c.args.row ∷ []) in
     subst P c.self.view_is (λ rows stands count none. stands_on a.cores c.turn-due.new.self plan rows c.args.row c.turn-due.result c.self.invariant.same c.cores.ensures.plan (subst (λ n. n < plan.cores * plan.ticks) count left) stands
     (sym (c.is_due.ensures.turn rows stands count) ∙ c.if-not-is_due.false) c.turn-due.ensures.next c.turn-due.ensures.stand (sym c.unlike_due-unlike.ensures ∙ none))
-
-pub returns-then-knows-clause-rule : goal.returns-then-knows-clause-rule
-returns-then-knows-clause-rule c =
-    let a = auditor_view c.self.inside in
-    let plan = c.self.inside.plan.now in
-    let size : c.cores.result * c.ticks.result ≡ plan.cores * plan.ticks = ap (λ n. n * c.ticks.result) c.cores.ensures.value ∙ ap (λ n. plan.cores * n) c.ticks.ensures.value in
-    let other = c.if-self-cores.false in
-    let fits = c.self.invariant.fits in
-    let left : c.self.inside.fed < plan.cores * plan.ticks = below c.self.inside.fed (c.cores.result * c.ticks.result) (plan.cores * plan.ticks) size other fits in
-    let known : c.repeat.result ≡ Some c.args.row = c.repeat.ensures.known ∙ c.knows.ensures.known c.if-knows.true in
-    let next = subst (λ o. IfSome o (λ due. (rows : List TraceRow) → StandFor a.cores rows → IsDueAfter a.cores.plan rows c.args.row.core.0 → IsNextRow a.cores.plan rows c.args.row.core.0 due)) known c.repeat.ensures.next in
-    let P : AuditorModel → Type 0 = λ b. (rows : List TraceRow) → StandFor b.cores rows → b.fed ≡ length rows → None ≡ refused b.plan rows c.args.row in
-    subst P c.self.view_is (λ rows stands count. judged_good a.cores c.repeat.new.self plan rows c.args.row c.args.row c.self.invariant.same c.cores.ensures.plan (subst (λ n. n < plan.cores * plan.ticks) count left) stands
-    (sym (c.is_due.ensures.turn rows stands count) ∙ c.if-not-is_due.false) next (unlike_self c.args.row))
-
-pub returns-then-knows-clause-stand : goal.returns-then-knows-clause-stand
-returns-then-knows-clause-stand c =
-    let a = auditor_view c.self.inside in
-    let plan = c.self.inside.plan.now in
-    let size : c.cores.result * c.ticks.result ≡ plan.cores * plan.ticks = ap (λ n. n * c.ticks.result) c.cores.ensures.value ∙ ap (λ n. plan.cores * n) c.ticks.ensures.value in
-    let other = c.if-self-cores.false in
-    let fits = c.self.invariant.fits in
-    let left : c.self.inside.fed < plan.cores * plan.ticks = below c.self.inside.fed (c.cores.result * c.ticks.result) (plan.cores * plan.ticks) size other fits in
-    let known : c.repeat.result ≡ Some c.args.row = c.repeat.ensures.known ∙ c.knows.ensures.known c.if-knows.true in
-    let next = subst (λ o. IfSome o (λ due. (rows : List TraceRow) → StandFor a.cores rows → IsDueAfter a.cores.plan rows c.args.row.core.0 → IsNextRow a.cores.plan rows c.args.row.core.0 due)) known c.repeat.ensures.next in
-    let stand = subst (λ o. IfSome o (λ due. (rows : List TraceRow) (row : TraceRow) → StandFor a.cores rows → IsDueAfter a.cores.plan rows c.args.row.core.0 → IsAs due row → IsLegal a.cores.plan rows row → StandFor c.repeat.new.self (rows ++ row ∷ []))) known c.repeat.ensures.stand in
-    let P : AuditorModel → Type 0 = λ b. (rows : List TraceRow) → StandFor b.cores rows → b.fed ≡ length rows → ◌≡◌ {A = Option Rule} None None → StandFor c.repeat.new.self (rows ++ c.args.row ∷ []) in
-    subst P c.self.view_is (λ rows stands count none. stands_on a.cores c.repeat.new.self plan rows c.args.row c.args.row c.self.invariant.same c.cores.ensures.plan (subst (λ n. n < plan.cores * plan.ticks) count left) stands
-    (sym (c.is_due.ensures.turn rows stands count) ∙ c.if-not-is_due.false) next stand (unlike_self c.args.row))
