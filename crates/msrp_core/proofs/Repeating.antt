@@ -34,7 +34,7 @@ use Rattle.msrp_core.specs.declared.machines.Machine.TheInside.{Inside}
 use Rattle.msrp_core.proofs.Acting.{working}
 use Rattle.msrp_core.proofs.Choices.{at_in}
 use Rattle.msrp_core.proofs.Running.{running_done, running_known, running_queued, running_states}
-use Rattle.msrp_core.proofs.Turning.{acts_core, acts_job, acts_tick, chosen_known, core_after, plan_after, ready_after, fits_after, told_from, turn_of, turn_row, turn_told, turn_phase, phase_after_turn}
+use Rattle.msrp_core.proofs.Turning.{acts_job, chosen_known, core_after, plan_after, ready_after, fits_after, told_from, turn_of, turn_row, turn_told, turn_phase, phase_after_turn}
 
 -- ---- the row that stands again
 same_parts : (r s : Row) → r.tick ≡ s.tick → r.core ≡ s.core → r.kind ≡ s.kind → r.job ≡ s.job → r.res ≡ s.res → r.ahead ≡ s.ahead → parts r ≡ parts s
