@@ -2,7 +2,7 @@
 import random
 
 from .inputs import EXAMPLES
-from .program import BROKEN, FAULT, GOOD, TOP, ask
+from .program import FAULT, REFUSED, TOP, ask
 from .sweep import kept
 
 VIEWER = TOP / "crates/msrp_view/out/msrp_view"
@@ -79,6 +79,12 @@ def explained(found, what, plan, trace):
     judged, why = verdict(plan, path), ask(["--why", str(plan), str(path)], VIEWER)
     same = why.status == judged.status and why.out.startswith(judged.out) and why.line == judged.line.replace(b"msrp:", b"msrp_view:")
     found.judge(same, f"{what}: audit answers {judged}", why)
+    if judged.status == REFUSED:
+        refusal = judged.line.rstrip().removeprefix(b"msrp: trace: ")
+        number = int(refusal.split()[-1])
+        shown = b"".join(b"[%s]" % field for field in trace[number - 1].rstrip(b"\n").split(b","))
+        found.counts["refused records in words"] += 1
+        found.judge(why.out.startswith(refusal + b": ") and why.out.endswith(b"\nrecord %d: %s\n" % (number, shown)), f"{what}: the record is another than {shown}", why)
     due = [line[len(DUE):] for line in why.out.splitlines(keepends=True) if line.startswith(DUE) and not line.startswith(DUE + b"a row")]
     if judged.status == FAULT and due:
         at = row_of(judged)

@@ -31,7 +31,7 @@ use Rattle.msrp_plan.proofs.Scheduling.NextRow.{next_row}
 use Rattle.msrp_plan.proofs.Runs.Verdicts.{fault_push, fault_stays, unbroken_is_legal}
 use Rattle.msrp_core.specs.Machine.{MachineModel}
 use Rattle.msrp_sim.specs.Cores.{CoresModel, StandFor, IsDueAfter, IsNextRow}
-use Rattle.msrp_audit.specs.Audits.{AuditorModel, HasFed}
+use Rattle.msrp_audit.specs.Audits.{AuditorModel, HasFed, has_turn}
 use Rattle.msrp_plan.specs.Actions.{same_res}
 use Rattle.msrp_plan.specs.Runs.{same_choice}
 use Rattle.msrp_plan.specs.declared.faults.Rule.TheVariants.{A3, A4, A5}
@@ -76,6 +76,19 @@ pub in_turn_is : (m : CoresModel) (plan : PlanModel) (rows : List Row) (r : Row)
 in_turn_is m plan rows r fed t same ok stands count tick low has =
     let start : IsRunStart plan rows = subst (λ p. IsRunStart p rows) same stands.start in
     turn_by_tick plan rows r t ok start.each (tick ∙ ap (λ n. n / plan.cores) count) low (machine_tick m rows r.core.0 t stands has)
+
+-- and it tells whether the core has its turn still to come
+pub has_turn_is : (m : CoresModel) (plan : PlanModel) (rows : List Row) (c fed t : ℕ) → m.plan ≡ plan → IsPlan plan → StandFor m rows → fed ≡ length rows → c < plan.cores
+    → option_map (λ (x : MachineModel). x.tick) (slice_get m.machines c) ≡ Some t → (t == fed / plan.cores) ≡ has_turn plan rows c
+has_turn_is m plan rows c fed t same ok stands count low has =
+    let start : IsRunStart plan rows = subst (λ p. IsRunStart p rows) same stands.start in
+    ap (λ n. n == fed / plan.cores) (machine_tick m rows c t stands has)
+    ∙ (ap (λ n. length (log_of c rows) == n / plan.cores) count
+    ∙ (tick_tells plan rows c ok start.each low (had_turn c (length rows / plan.cores) rows) refl
+    ∙ sym (ap (λ b. b && not (had_turn c (length rows / plan.cores) rows)) (lt-ltb c plan.cores low))))
+
+pub no_core_has : (plan : PlanModel) (rows : List Row) (c : ℕ) → plan.cores ≤ c → false ≡ has_turn plan rows c
+no_core_has plan rows c past = sym (ap (λ b. b && not (had_turn c (length rows / plan.cores) rows)) (le-ltb c plan.cores past))
 
 -- a row in its turn is of a core that is due
 pub due_after : (plan : PlanModel) (rows : List Row) (r : Row) → IsPlan plan → IsRunStart plan rows → length rows < plan.cores * plan.ticks → is_in_turn plan rows r ≡ true → IsDueAfter plan rows r.core.0

@@ -1,6 +1,7 @@
 -- An auditor, and the rows that it was fed.
-use Rattle.std.specs.Prelude.{ℕ, List, Option, Some, None, Result, Ok, Err, length, ◌≡◌, ◌≤◌, ◌*◌, ⊤}
+use Rattle.std.specs.Prelude.{ℕ, List, Bool, not, nat_lt, ◌&&◌, ◌/◌, Option, Some, None, Result, Ok, Err, length, ◌≡◌, ◌≤◌, ◌*◌, ⊤}
 use Rattle.msrp_plan.specs.Plan.{PlanModel}
+use Rattle.msrp_plan.specs.Runs.{had_turn}
 use Rattle.msrp_plan.specs.Verdict.{fault_in}
 use Rattle.msrp_plan.specs.WellFormed.{IsPlan}
 use Rattle.msrp_plan.specs.declared.faults.Fault.{Fault}
@@ -25,6 +26,10 @@ pub record HasFed (a : AuditorModel) (rows : List Row) : Type 0 where
 abbrev pub answer_of : Option Fault → Result ⊤ Fault
 answer_of None = Ok tt
 answer_of (Some fault) = Err fault
+
+-- the core has its turn still to come in the tick that is due after these rows
+abbrev pub has_turn : PlanModel → List Row → ℕ → Bool
+has_turn plan rows c = nat_lt c plan.cores && not (had_turn c (length rows / plan.cores) rows)
 
 -- ---- the fields
 abbrev pub auditor_view : Inside → AuditorModel

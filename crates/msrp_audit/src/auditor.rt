@@ -9,7 +9,7 @@ ghost use Rattle.msrp_plan.specs.Verdict.{fault_in, verdict, refused};
 ghost use Rattle.msrp_plan.specs.declared.faults.Fault.{Fault as TraceFault};
 ghost use Rattle.msrp_plan.specs.declared.rows.Row.{Row as TraceRow};
 ghost use Rattle.msrp_sim.specs.Cores.{StandFor, IsDueAfter, IsNextRow};
-ghost use Rattle.msrp_audit.specs.Audits.{HasFed, answer_of};
+ghost use Rattle.msrp_audit.specs.Audits.{HasFed, answer_of, has_turn};
 
 use crate::comparing::unlike_due;
 use msrp_core::CoreState;
@@ -146,6 +146,28 @@ impl<'a> Auditor<'a> {
         } else {
             None
         }
+    }
+
+    /// Whether a row is in its turn: of the tick that is due, and of a core that has its turn in it still to come. While the rows so far have
+    /// no fault and rows are left, a row that isn't is A1.
+    #[inline(always)]
+    pub fn is_in_turn(&self, row: Row) -> bool
+        ensures { (rows : List TraceRow) → HasFed self.now rows → self.now.fault ≡ None → length rows < self.now.plan.cores * self.now.plan.ticks → result ≡ is_in_turn self.now.plan rows row }
+    {
+        if self.fed == self.plan.cores() * self.plan.ticks() {
+            return false;
+        }
+        is_due(self.plan, &self.cores, self.fed, row)
+    }
+
+    /// Whether a core has its turn still to come in the tick that is due, while the rows so far have no fault and rows are left.
+    pub fn has_turn(&self, core: CoreId) -> bool
+        ensures { (rows : List TraceRow) → HasFed self.now rows → self.now.fault ≡ None → length rows < self.now.plan.cores * self.now.plan.ticks → result ≡ has_turn self.now.plan rows core.0 }
+    {
+        if core.0 >= self.plan.cores() {
+            return false;
+        }
+        self.cores.tick(core) == self.fed / self.plan.cores()
     }
 
     /// What decides who has the core's next turn, while the rows so far have no fault; none of a core that the plan hasn't.

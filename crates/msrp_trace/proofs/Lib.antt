@@ -10,3 +10,4 @@ pub mod MetRows
 pub mod Kept
 pub mod ReadThrough
 pub mod Counting
+pub mod Standing

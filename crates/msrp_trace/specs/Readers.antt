@@ -1,11 +1,13 @@
 -- What a reader of rows has left, and what each call gives.
-use Rattle.std.specs.Prelude.{◌++◌, ◌+◌, ◌^◌, ◌<◌, codes, ◌≡◌, ◌⊎◌, ℕ, Bool, true, false, List, [], ◌∷◌, Option, Some, None, Result, Ok, Err, option_map, IsOkAnd}
+use Rattle.std.specs.Prelude.{◌++◌, ◌+◌, ◌^◌, ◌<◌, codes, ◌≡◌, ◌⊎◌, ℕ, Bool, true, false, List, [], ◌∷◌, Option, Some, None, Result, Ok, Err, option_map, IsOkAnd, ⊤, drop, ◌-◌}
+use Rattle.csv.specs.Records.{fields_of}
 use Rattle.msrp_plan.specs.Bytes.{source_remaining}
 use Rattle.msrp_plan.specs.declared.bytes.Source.{Source}
 use Rattle.msrp_plan.specs.Plan.{PlanModel}
 use Rattle.msrp_plan.specs.declared.rows.Row.{Row}
 use Rattle.msrp_plan.specs.declared.rows.TextVersion.{TextVersion}
 use Rattle.msrp_text.specs.Plain.{BeginsWith}
+use Rattle.msrp_text.specs.Reading.{record_at}
 use Rattle.msrp_text.specs.Records.{bytes_ahead, bytes_left, read_failed, reader_under, records_left}
 use Rattle.msrp_trace.specs.Gathering.{after_tick}
 use Rattle.msrp_trace.specs.Laws.{is_told_whole}
@@ -18,6 +20,7 @@ use Rattle.msrp_trace.specs.declared.faults.TraceFault.TheVariants.{Head}
 use Rattle.msrp_trace.specs.declared.reading.Stage.{Stage}
 use Rattle.msrp_trace.specs.declared.reading.Stage.TheVariants.{Rows, Ended, Failed}
 use Rattle.msrp_trace.specs.declared.reading.TraceReader.{TraceReader}
+use Rattle.msrp_trace.specs.declared.reading.Unopened.{Unopened}
 
 -- neither a row nor a refusal
 abbrev pub nothing_left : Told
@@ -106,3 +109,28 @@ pub record IsTextOf {R : Type 0} (t : TraceReader R) (texts : TextsModel) (n cor
   pub tick : r.tick ≡ n
   pub whole : is_told_whole t.version t.plan.now r ≡ true
   pub text : text_of_core texts core ≡ after_tick t.version t.plan.now r
+
+-- ---- the record that is refused
+-- the record that a reader has read last, field by field
+abbrev pub record_read : {R : Type 0} → TraceReader R → List (List ℕ)
+record_read t = fields_of t.fields
+
+-- of these records those are left that come behind as many as the reader has counted, where the reader underneath tells its bytes
+abbrev pub StandsIn : {R : Type 0} → (R → Option (List ℕ)) → List (List (List ℕ)) → TraceReader R → Type 0
+StandsIn remaining records t = records_left (λ s. source_remaining remaining s.now) t.records ≡ Some (drop t.number records)
+
+-- the fields are those of the record that is refused by its number
+abbrev pub IsRecordOf : List (List (List ℕ)) → TraceError → List (List ℕ) → Type 0
+IsRecordOf records (At fault number) fields = fields ≡ record_at records (number - 1)
+IsRecordOf records _ fields = ⊤
+
+-- behind a row the reader stands in the records still; behind a refusal the refused record was read last
+abbrev pub StandsBehind : {R : Type 0} → (R → Option (List ℕ)) → List (List (List ℕ)) → Result (Option Row) TraceError → TraceReader R → Type 0
+StandsBehind remaining records (Ok (Some r)) t = StandsIn remaining records t
+StandsBehind remaining records (Ok None) t = ⊤
+StandsBehind remaining records (Err error) t = IsRecordOf records error (record_read t)
+
+-- no reader was opened, by this error
+abbrev pub error_of : {R : Type 0} → Result (TraceReader R) Unopened → Result (TraceReader R) TraceError
+error_of (Ok reader) = Ok reader
+error_of (Err unopened) = Err unopened.error

@@ -21,6 +21,6 @@ mod words;
 mod writing;
 
 pub use faults::{TraceError, TraceFault};
-pub use reading::TraceReader;
+pub use reading::{TraceReader, Unopened};
 pub use texts::RowTexts;
 pub use writing::{TraceWriter, are_named, is_named, write_trace};

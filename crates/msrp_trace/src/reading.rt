@@ -1,7 +1,7 @@
 //! Trace text, read.
 ghost use Rattle.std.proofs.Props.{props};
 ghost use Rattle.std.specs.Option.{IfSome};
-ghost use Rattle.std.specs.Prelude.{◌+◌, ◌≡◌, ◌⊎◌, ◌↔◌, ℕ, List, Some, None, Ok, Err, IfOk, OnOk, OnErr, true, false};
+ghost use Rattle.std.specs.Prelude.{◌+◌, ◌≡◌, ◌⊎◌, ◌↔◌, ℕ, List, Some, None, Ok, Err, IfOk, IfErr, OnOk, OnErr, true, false};
 ghost use Rattle.msrp_plan.specs.Bytes.{source_failed, source_remaining};
 ghost use Rattle.csv.specs.Records.{fields_of};
 ghost use Rattle.msrp_text.specs.Records.{csv_records, reader_under};
@@ -74,11 +74,26 @@ fn told_in(version: TextVersion, row: Row) -> Row
     }
 }
 
+/// Why no reader of a trace's rows could be opened, and the first record, if one was read.
+#[derive(Drop)]
+pub struct Unopened {
+    pub error: TraceError,
+    pub first: ByteRecord,
+}
+
 // The refusal of the first record.
-const NO_HEAD: TraceError = TraceError::At {
-    fault: TraceFault::Head,
-    number: 1,
-};
+fn no_head(first: ByteRecord) -> Unopened
+    ensures error { result.error ≡ TraceError.At TraceFault.Head 1 }
+    ensures first { result.first ≡ first }
+{
+    Unopened {
+        error: TraceError::At {
+            fault: TraceFault::Head,
+            number: 1,
+        },
+        first,
+    }
+}
 
 // Why no further record can be had: a read failed, or else memory was refused.
 fn stopped<R: Read>(records: &RecordReader<&mut Source<R>>) -> TraceError
@@ -127,7 +142,7 @@ fn numbered_row(
 }
 
 impl<'a, R: Read> TraceReader<'a, R> {
-    ghost use Rattle.msrp_trace.specs.Readers.{CanMeet, ComesNext, GivesFirstOr, GivesNext, IsDue, IsOfTrace, IsTextOf, Opens, ahead_failed, has_failed, source_of, told_left};
+    ghost use Rattle.msrp_trace.specs.Readers.{CanMeet, ComesNext, GivesFirstOr, GivesNext, IsDue, IsOfTrace, IsRecordOf, IsTextOf, Opens, StandsBehind, StandsIn, ahead_failed, error_of, has_failed, record_read, source_of, told_left};
 
     /// The rows of all that a source has left, for a trace of the plan. R1 is refused here.
     pub fn new(
@@ -138,12 +153,34 @@ impl<'a, R: Read> TraceReader<'a, R> {
         ensures opens { (bytes : List ℕ) → source_remaining R.remaining source.old ≡ Some bytes → Opens R.remaining plan.now (csv_records bytes) result }
         ensures goes { IfOk result (λ reader. has_failed reader ≡ false) }
     {
+        match TraceReader::open(alloc, source, plan) {
+            Ok(reader) => Ok(reader),
+            Err(unopened) => Err(unopened.error),
+        }
+    }
+
+    /// The same. A first record that is refused is given back with its refusal.
+    pub fn open(
+        alloc: Global,
+        source: &'a mut Source<R>,
+        plan: &'a Plan,
+    ) -> Result<TraceReader<'a, R>, Unopened>
+        ensures opens { (bytes : List ℕ) → source_remaining R.remaining source.old ≡ Some bytes → Opens R.remaining plan.now (csv_records bytes) (error_of result) }
+        ensures goes { IfOk result (λ reader. has_failed reader ≡ false) }
+        ensures stands { (bytes : List ℕ) → source_remaining R.remaining source.old ≡ Some bytes → IfOk result (StandsIn R.remaining (csv_records bytes)) }
+        ensures refused { (bytes : List ℕ) → source_remaining R.remaining source.old ≡ Some bytes → IfErr result (λ unopened. IsRecordOf (csv_records bytes) unopened.error (fields_of unopened.first)) }
+    {
         let mut records = RecordReader::new(alloc, source);
         let mut fields = ByteRecord::new(alloc);
         match records.read(&mut fields) {
             Ok(true) => {}
-            Ok(false) => return Err(NO_HEAD),
-            Err(_) => return Err(stopped(&records)),
+            Ok(false) => return Err(no_head(ByteRecord::new(alloc))),
+            Err(_) => {
+                return Err(Unopened {
+                    error: stopped(&records),
+                    first: fields,
+                });
+            }
         }
         match version_told(plan, &fields) {
             Some(version) => Ok(TraceReader {
@@ -156,8 +193,15 @@ impl<'a, R: Read> TraceReader<'a, R> {
                 number: 1,
                 stage: Stage::Rows,
             }),
-            None => Err(NO_HEAD),
+            None => Err(no_head(fields)),
         }
+    }
+
+    /// The record that was read last, field by field. After a refusal it is the refused one.
+    pub fn record(&self) -> &ByteRecord
+        ensures { fields_of result.now ≡ record_read self.now }
+    {
+        &self.fields
     }
 
     /// The next row, and none at the end of the text. After a refusal the reader answers [`TraceError::Failed`].
@@ -170,6 +214,7 @@ impl<'a, R: Read> TraceReader<'a, R> {
         ensures read { result ≡ Err TraceError.Read → source_failed (source_of self.new) ≡ true }
         ensures memory { result ≡ Err TraceError.Memory → source_failed (source_of self.new) ≡ false }
         ensures trace { IsOfTrace self.old self.new }
+        ensures stands { (records : List (List (List ℕ))) → StandsIn R.remaining records self.old → StandsBehind R.remaining records result self.new }
     {
         self.next_foreseen(|_core| None)
     }
@@ -185,6 +230,7 @@ impl<'a, R: Read> TraceReader<'a, R> {
         ensures finds { CanMeet self.old row.now → result ≡ true }
         ensures comes { ComesNext R.remaining self.old row.now → (result ≡ true) ⊎ (ahead_failed self.new ≡ true) }
         ensures trace { IsOfTrace self.old self.new }
+        ensures stands { (records : List (List (List ℕ))) → StandsIn R.remaining records self.old → StandsIn R.remaining records self.new }
     {
         let Some(next) = self.number.checked_add(1) else {
             return false;
@@ -213,6 +259,7 @@ impl<'a, R: Read> TraceReader<'a, R> {
         ensures finds { CanMeet self.old row.now → result ≡ true }
         ensures comes { ComesNext R.remaining self.old row.now → (result ≡ true) ⊎ (ahead_failed self.new ≡ true) }
         ensures trace { IsOfTrace self.old self.new }
+        ensures stands { (records : List (List (List ℕ))) → StandsIn R.remaining records self.old → StandsIn R.remaining records self.new }
     {
         let (tick, rest) = (self.foreseen.tick(), self.foreseen.rest(row.core));
         if !self.records.meets(tick, rest) {
@@ -276,6 +323,7 @@ impl<'a, R: Read> TraceReader<'a, R> {
         ensures same { has_failed self.new ≡ has_failed self.old }
         ensures going { ¬ (result ≡ None) → has_failed self.old ≡ false }
         ensures trace { IsOfTrace self.old self.new }
+        ensures stands { (records : List (List (List ℕ))) → StandsIn R.remaining records self.old → StandsIn R.remaining records self.new }
     {
         let Some(next) = self.number.checked_add(1) else {
             return None;
@@ -312,6 +360,7 @@ impl<'a, R: Read> TraceReader<'a, R> {
         ensures read { result ≡ Err TraceError.Read → source_failed (source_of self.new) ≡ true }
         ensures memory { result ≡ Err TraceError.Memory → source_failed (source_of self.new) ≡ false }
         ensures trace { IsOfTrace self.old self.new }
+        ensures stands { (records : List (List (List ℕ))) → StandsIn R.remaining records self.old → StandsBehind R.remaining records result self.new }
     {
         if let Some(row) = self.next_alike() {
             return Ok(Some(row));
@@ -346,6 +395,7 @@ impl<'a, R: Read> TraceReader<'a, R> {
         ensures read { result ≡ Err TraceError.Read → source_failed (source_of self.new) ≡ true }
         ensures memory { result ≡ Err TraceError.Memory → source_failed (source_of self.new) ≡ false }
         ensures trace { IsOfTrace self.old self.new }
+        ensures stands { (records : List (List (List ℕ))) → StandsIn R.remaining records self.old → StandsBehind R.remaining records result self.new }
     {
         let answer = match self.stage {
             Stage::Rows => self.read_next(),
@@ -365,6 +415,7 @@ impl<'a, R: Read> TraceReader<'a, R> {
         ensures read { result ≡ Err TraceError.Read → source_failed (source_of self.new) ≡ true }
         ensures memory { result ≡ Err TraceError.Memory → source_failed (source_of self.new) ≡ false }
         ensures trace { IsOfTrace self.old self.new }
+        ensures stands { (records : List (List (List ℕ))) → StandsIn R.remaining records self.old → StandsBehind R.remaining records result self.new }
     {
         let Some(number) = self.number.checked_add(1) else {
             // A source gives far fewer bytes than so many records take.

@@ -1,5 +1,5 @@
--- What is found in rows that are judged as they come, with the cause of a fault.
-use Rattle.std.proofs.Common.{◌≡◌, ◌⊎◌, ◌++◌, ◌∷◌, [], List, Option, None, IfOk, IfErr, refl, ap, sym, subst, ◌∙◌, inl, inr, append_assoc}
+-- What is found in rows that are judged as they come, with the cause of a fault or the refusal behind them, and the words on it.
+use Rattle.std.proofs.Common.{◌≡◌, ◌⊎◌, ◌++◌, ◌∷◌, [], ℕ, true, List, Option, Some, None, IfOk, IfErr, refl, ap, sym, subst, ◌∙◌, inl, inr, append_assoc}
 use Rattle.std.specs.Prelude.{⊤}
 use Rattle.std.specs.Option.{option_or}
 use Rattle.std.specs.declared.result.Result.{Result}
@@ -9,43 +9,45 @@ use Rattle.msrp_plan.specs.Plan.{PlanModel}
 use Rattle.msrp_plan.specs.Verdict.{fault_in, missing, verdict}
 use Rattle.msrp_plan.specs.declared.faults.Fault.{Fault}
 use Rattle.msrp_plan.specs.declared.rows.Row.{Row}
-use Rattle.msrp_trace.specs.Reading.{Told}
+use Rattle.msrp_text.specs.declared.reading.TextError.{TextError}
+use Rattle.msrp_trace.specs.Reading.{Told, rows_of}
+use Rattle.msrp_trace.specs.Readers.{IsRecordOf, Opens}
 use Rattle.msrp_trace.specs.declared.faults.TraceError.{TraceError}
-use Rattle.msrp_trace.proofs.ReadThrough.{Answers, IsReadTo, read-whole}
-use Rattle.msrp_why.specs.Causes.{IsCauseAfter, IsGroundOf}
+use Rattle.msrp_trace.specs.declared.faults.TraceError.TheVariants.{At, Read, Memory, Failed}
+use Rattle.msrp_trace.proofs.ReadThrough.{Answers, IsReadTo, read-refused, read-whole, unopened}
+use Rattle.msrp_why.specs.Causes.{IsCauseAfter}
 use Rattle.msrp_why.specs.Noted.{AreNoted}
+use Rattle.msrp_why.specs.RefusalText.{refused_text}
 use Rattle.msrp_why.specs.declared.causes.Cause.{Cause}
 use Rattle.msrp_why.specs.declared.causes.Ground.TheVariants.{End, Row as AtRow}
 use Rattle.msrp_why.specs.declared.notes.Notes.{Notes}
-use Rattle.msrp_view_engine.specs.Whys.{IsFound, IsWhy, found_text}
-use Rattle.msrp_faults.specs.declared.faults.CliFault.{CliFault}
-use Rattle.msrp_faults.specs.declared.faults.CliFault.TheVariants.{Read as ReadFault, Memory as NoMemory}
-use Rattle.msrp_view_engine.specs.declared.why.Explained.{Explained}
+use Rattle.msrp_engine.specs.Findings.{finding}
+use Rattle.msrp_engine.specs.MadeTexts.{found_in}
 use Rattle.msrp_engine.specs.declared.made.Made.{Made}
 use Rattle.msrp_engine.proofs.Judging as judging
+use Rattle.msrp_faults.specs.Outcomes.{trace_fault_of}
+use Rattle.msrp_faults.specs.declared.faults.CliFault.{CliFault}
+use Rattle.msrp_faults.specs.declared.faults.CliFault.TheVariants.{Read as ReadFault, Memory as NoMemory}
+use Rattle.msrp_view_engine.specs.Inside.Readings.{error_words}
+use Rattle.msrp_view_engine.specs.Statuses.{is_record_fault}
+use Rattle.msrp_view_engine.specs.Whys.{AreWords, AreWordsFor, IsExplained, IsJudged, IsWhy, IsWhyOf, found_text, refusal_words}
+use Rattle.msrp_view_engine.specs.declared.why.Explained.{Explained}
+use Rattle.msrp_view_engine.specs.declared.why.Judged.{Judged}
 
--- what is found, but for a read that failed and for memory
-abbrev pub IsFoundOr : PlanModel → Told → Result Explained CliFault → Type 0
-IsFoundOr plan told found = (found ≡ Err ReadFault) ⊎ (found ≡ Err NoMemory) ⊎ IsFound plan told found
-
-err_is : (x y : CliFault) (found : Result Explained CliFault) → found ≡ Err x → (e : Result (Result ⊤ Fault) CliFault) → e ≡ Err x → e ≡ Err y → found ≡ Err y
-err_is x y found is e h k =
-    let same : x ≡ y = cc in
-    is ∙ ap (λ z. Err z) same
-
--- what an audit answers in place of a verdict
-pub refusal-why : (plan : PlanModel) (told : Told) (x : CliFault) (found : Result Explained CliFault) → found ≡ Err x → judging.IsFound plan told (Err x) → IsFoundOr plan told found
-refusal-why plan told x found is h = elim h [
-  | inl read ↦ inl (err_is x ReadFault found is (Err x) refl read)
+-- an error of the reader, behind good rows
+pub refusal-judged : (plan : PlanModel) (told : Told) (rows : List Row) (left after : Option Told) (result : Result (Option Row) TraceError) (error : TraceError) (answer : Result Judged TraceError)
+    → IsReadTo told rows left → Answers left result after → result ≡ Err error → fault_in plan rows ≡ None → answer ≡ Err error → IsJudged plan told answer
+refusal-judged plan told rows left after result error answer is next e good gives = subst (IsJudged plan told) (sym gives) (elim (read-refused told rows left after result error is next e) [
+  | inl same ↦ inl same
   | inr k ↦ elim k [
-    | inl memory ↦ inr (inl (err_is x NoMemory found is (Err x) refl memory))
-    | inr last ↦ inr (inr (subst (IsFound plan told) (sym is) (sym last)))
+    | inl same ↦ inr (inl same)
+    | inr last ↦ inr (inr (judging.refused-found plan told.rows rows told.refusal error last.0 last.1 good, last.1))
   ]
-]
+])
 
 -- a faulty row, with its cause
 pub cause-found : (plan : PlanModel) (told : Told) (rows : List Row) (r : Row) (left : Option Told) (cause : Cause) → IsReadTo told (rows ++ r ∷ []) left → IsCauseAfter plan rows r cause
-    → IsFound plan told (Ok (record { verdict = Err cause.fault; cause = AtRow cause }))
+    → IsJudged plan told (Ok (record { verdict = Err cause.fault; ground = AtRow cause }))
 cause-found plan told rows r left cause more is = (
   judging.fault-found plan told (rows ++ r ∷ []) more.rest cause.fault more.whole is.fault,
   (refl, record { before = rows; row = r; behind = more.rest; place = more.whole ∙ append_assoc rows (r ∷ []) more.rest; is = is }),
@@ -54,27 +56,76 @@ cause-found plan told rows r left cause more is = (
 -- rows without a fault, at the end
 pub end-found : (plan : PlanModel) (told : Told) (rows : List Row) (left after : Option Told) (result : Result (Option Row) TraceError) (found : Result ⊤ Fault) (notes : Notes)
     → IsReadTo told rows left → Answers left result after → result ≡ Ok None → fault_in plan rows ≡ None → found ≡ answer_of (verdict plan rows) → AreNoted plan rows notes
-    → IsFound plan told (Ok (record { verdict = found; cause = End notes }))
+    → IsJudged plan told (Ok (record { verdict = found; ground = End notes }))
 end-found plan told rows left after result found notes is next e good answer noted =
     let whole = read-whole told rows left after result is next e in
     let short : verdict plan rows ≡ missing plan rows = ap (λ o. option_or o (missing plan rows)) good in
     (judging.verdict-found plan told rows left after result is next e good ∙ ap (λ x. Ok x) (sym answer), (answer ∙ (ap answer_of short ∙ ap (λ xs. answer_of (missing plan xs)) (sym whole.0)), subst (λ xs. AreNoted plan xs notes) (sym whole.0) noted))
 
--- the words on what is found, in memory
-pub words-why : (plan : PlanModel) (told : Told) (found : Explained) (answer : Result Made CliFault) → IsFoundOr plan told (Ok found) → IfOk answer (λ made. made.found ≡ found.verdict)
-    → IfOk answer (λ made. made.text.items ≡ found_text plan found.verdict found.cause) → IfErr answer (λ fault. fault ≡ NoMemory) → (answer ≡ Err ReadFault) ⊎ (answer ≡ Err NoMemory) ⊎ IsWhy plan told answer
-words-why plan told found (Ok made) h verdict text memory = elim h [
-  | inl read ↦ absurd (cc)
+-- ---- the words in memory
+abbrev pub IsExplainedOr : PlanModel → List (List (List ℕ)) → Told → Result Explained CliFault → Type 0
+IsExplainedOr plan records told answer = (answer ≡ Err ReadFault) ⊎ (answer ≡ Err NoMemory) ⊎ IfOk answer (IsExplained plan records told)
+
+-- on a verdict
+pub judged-explained : (plan : PlanModel) (records : List (List (List ℕ))) (told : Told) (judged : Judged) (answer : Result Explained CliFault) → IsJudged plan told (Ok judged) → IfOk answer (λ words. words.found ≡ Ok judged.verdict)
+    → IfOk answer (λ words. words.text.items ≡ found_text plan judged.verdict judged.ground) → IfErr answer (λ fault. fault ≡ NoMemory) → IsExplainedOr plan records told answer
+judged-explained plan records told judged (Ok words) is found text memory = inr (inr (record {
+  found = found ∙ sym is.0;
+  text = subst (λ f. AreWordsFor plan records told f words.text.items) (sym found) (record { cause = judged.ground; is = is.1; text_is = text });
+}))
+judged-explained plan records told judged (Err fault) is found text memory = inr (inl (ap (λ x. Err x) memory))
+
+-- the words on a refused record are those on the refusal of the records
+words-same : (plan : PlanModel) (records : List (List (List ℕ))) (error : TraceError) (fields : List (List ℕ)) → IsRecordOf records error fields → error_words plan error fields ≡ refusal_words plan records (Some error)
+words-same plan records (At fault number) fields h = ap (refused_text plan fault number) h
+words-same plan records Read fields h = refl
+words-same plan records Memory fields h = refl
+words-same plan records Failed fields h = refl
+
+-- a read that failed, or want of memory, has no words
+no-record : (x : CliFault) (found : Result (Result ⊤ Fault) CliFault) → found ≡ Err x → IfErr found (λ f. is_record_fault f ≡ true) → is_record_fault x ≡ true
+no-record x found is record_fault = subst (λ f. IfErr f (λ g. is_record_fault g ≡ true)) is record_fault
+
+-- on a refusal
+pub refused-explained : (plan : PlanModel) (records : List (List (List ℕ))) (told : Told) (error : TraceError) (fields : List (List ℕ)) (answer : Result Explained CliFault) → IsJudged plan told (Err error) → IsRecordOf records error fields
+    → IfOk answer (λ words. words.found ≡ Err (trace_fault_of error)) → IfOk answer (λ words. words.text.items ≡ error_words plan error fields) → IfOk answer (λ words. IfErr words.found (λ fault. is_record_fault fault ≡ true))
+    → IfErr answer (λ fault. (fault ≡ NoMemory) ⊎ (fault ≡ ReadFault)) → IsExplainedOr plan records told answer
+refused-explained plan records told error fields (Ok words) is last found text refused fault = elim is [
+  | inl read ↦ (let f : words.found ≡ Err ReadFault = found ∙ ap (λ e. Err (trace_fault_of e)) read in let no = no-record ReadFault words.found f refused in absurd (cc))
   | inr k ↦ elim k [
-    | inl none ↦ absurd (cc)
-    | inr is ↦ inr (inr (record {
-      found = ap (λ v. Ok v) verdict ∙ sym is.0;
-      words = record {
-        cause = found.cause;
-        is = subst (λ v. IsGroundOf plan told.rows v found.cause) (sym verdict) is.1;
-        text_is = subst (λ v. made.text.items ≡ found_text plan v found.cause) (sym verdict) text;
-      };
+    | inl memory ↦ (let f : words.found ≡ Err NoMemory = found ∙ ap (λ e. Err (trace_fault_of e)) memory in let no = no-record NoMemory words.found f refused in absurd (cc))
+    | inr due ↦ inr (inr (record {
+      found = found ∙ sym due.0;
+      text = subst (λ f. AreWordsFor plan records told f words.text.items) (sym found) (text ∙ (words-same plan records error fields last ∙ ap (refusal_words plan records) (sym due.1)));
     }))
   ]
 ]
-words-why plan told found (Err fault) h verdict text memory = inr (inl (ap (λ x. Err x) memory))
+refused-explained plan records told error fields (Err f) is last found text refused fault = elim fault [ inl memory ↦ inr (inl (ap (λ x. Err x) memory)) | inr read ↦ inl (ap (λ x. Err x) read) ]
+
+-- a reader that doesn't open
+pub unopened-judged : {R : Type 0} (remaining : R → Option (List ℕ)) (plan : PlanModel) (records : List (List (List ℕ))) (error : TraceError) → Opens remaining plan records (Err error) → IsJudged plan (rows_of plan records) (Err error)
+unopened-judged remaining plan records error h = elim (unopened remaining plan records error h) [
+  | inl same ↦ inl same
+  | inr k ↦ elim k [ inl same ↦ inr (inl same) | inr told ↦ inr (inr (ap (finding plan) told, ap (λ (t : Told). t.refusal) told)) ]
+]
+
+-- ---- the text alone
+pub made-why : (plan : PlanModel) (records : List (List (List ℕ))) (told : Told) (words : Explained) (answer : Result Made CliFault) → IsExplained plan records told words → found_in answer ≡ words.found → IfOk answer (λ made. made.text ≡ words.text) → IsWhy plan told answer
+made-why plan records told words (Ok made) is found text =
+    let same : words.found ≡ Ok made.found = sym found in
+    record {
+      found = found ∙ is.found;
+      words = subst (λ t. AreWords plan told.rows made.found t.items) (sym text) (subst (λ f. AreWordsFor plan records told f words.text.items) same is.text);
+    }
+made-why plan records told words (Err fault) is found text = record { found = found ∙ is.found; words = tt }
+
+-- the answer to a text that stands for a plan
+pub explained-why : (read : Result PlanModel TextError) (plan : PlanModel) (records : List (List (List ℕ))) (words : Explained) (answer : Result Made CliFault) → read ≡ Ok plan → IsExplainedOr plan records (rows_of plan records) (Ok words)
+    → found_in answer ≡ words.found → IfOk answer (λ made. made.text ≡ words.text) → (answer ≡ Err ReadFault) ⊎ (answer ≡ Err NoMemory) ⊎ IsWhyOf read records answer
+explained-why read plan records words answer is explained found text = elim explained [
+  | inl e ↦ absurd (cc)
+  | inr k ↦ elim k [
+    | inl e ↦ absurd (cc)
+    | inr e ↦ inr (inr (subst (λ r. IsWhyOf r records answer) (sym is) (made-why plan records (rows_of plan records) words answer e found text)))
+  ]
+]

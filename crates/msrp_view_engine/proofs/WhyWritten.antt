@@ -1,40 +1,43 @@
 -- Words on a trace that are written as they were made in memory.
-use Rattle.std.proofs.Common.{◌≡◌, ◌⊎◌, ℕ, List, Option, Result, Ok, Err, subst, inl, inr}
+use Rattle.std.proofs.Common.{◌≡◌, ◌⊎◌, ℕ, List, Option, Result, Ok, Err, subst, sym, inl, inr}
+use Rattle.std.specs.Prelude.{⊤}
 use Rattle.msrp_plan.specs.Bytes.{Wrote}
 use Rattle.msrp_plan.specs.Plan.{PlanModel}
 use Rattle.msrp_plan.specs.declared.bytes.Sink.{Sink}
+use Rattle.msrp_plan.specs.declared.faults.Fault.{Fault}
 use Rattle.msrp_text.specs.declared.reading.TextError.{TextError}
 use Rattle.msrp_trace.specs.Reading.{Told, rows_of}
-use Rattle.msrp_engine.specs.declared.made.Made.{Made}
-use Rattle.msrp_faults.specs.Outcomes.{fault_of}
 use Rattle.msrp_faults.specs.declared.faults.CliFault.{CliFault}
 use Rattle.msrp_faults.specs.declared.faults.CliFault.TheVariants.{Read as ReadFault, Memory as NoMemory}
-use Rattle.msrp_view_engine.specs.Whys.{IsWhy, IsWhyOf, WhyAnswers, WhyFound, WhyTold}
-use Rattle.msrp_view_engine.proofs.Picturing.{Follows, refuses}
+use Rattle.msrp_view_engine.specs.Statuses.{found_status}
+use Rattle.msrp_view_engine.specs.Whys.{AreWordsFor, IsExplained, WhyAnswers, WhyFound, WhyTold}
+use Rattle.msrp_view_engine.specs.declared.why.Explained.{Explained}
+use Rattle.msrp_view_engine.proofs.Explaining.{IsExplainedOr}
 
-why-told : {W : Type 0} (contents : W → Option (List ℕ)) (plan : PlanModel) (told : Told) (answer : Result Made CliFault) (old new : Sink W) (result : Result ℕ CliFault)
-    → IsWhy plan told answer → Follows contents answer old new result → WhyTold contents plan told old new result
-why-told contents plan told (Ok made) old new result is follows = subst (λ f. WhyFound contents plan told f old new result) is.found (record {
-  cause = is.words.cause;
-  is = is.words.is;
-  text = subst (λ text. Wrote contents old new text) is.words.text_is follows.0;
-  status = follows.1;
-})
-why-told contents plan told (Err fault) old new result is follows = subst (λ f. WhyFound contents plan told f old new result) is.found follows
+told_by : {W : Type 0} (contents : W → Option (List ℕ)) (plan : PlanModel) (records : List (List (List ℕ))) (told : Told) (found : Result (Result ⊤ Fault) CliFault) (text : List ℕ) (old new : Sink W) (result : Result ℕ CliFault)
+    → AreWordsFor plan records told found text → Wrote contents old new text → result ≡ found_status found new → WhyFound contents plan records told found old new result
+told_by contents plan records told (Ok found) text old new result words wrote status = record {
+  cause = words.cause;
+  is = words.is;
+  text = subst (λ t. Wrote contents old new t) words.text_is wrote;
+  status = status;
+}
+told_by contents plan records told (Err fault) text old new result words wrote status = record { text = subst (λ t. Wrote contents old new t) words wrote; answer = status }
 
-answers : {W : Type 0} (contents : W → Option (List ℕ)) (read : Result PlanModel TextError) (records : List (List (List ℕ))) (answer : Result Made CliFault) (old new : Sink W) (result : Result ℕ CliFault)
-    → IsWhyOf read records answer → Follows contents answer old new result → WhyAnswers contents read records old new result
-answers contents (Ok plan) records answer old new result is follows = why-told contents plan (rows_of plan records) answer old new result is follows
-answers contents (Err error) records answer old new result is follows = refuses contents answer (fault_of error) old new result is follows
+-- what is told of the words that were made
+pub words-told : {W : Type 0} (contents : W → Option (List ℕ)) (plan : PlanModel) (records : List (List (List ℕ))) (told : Told) (words : Explained) (old new : Sink W) (result : Result ℕ CliFault)
+    → IsExplained plan records told words → Wrote contents old new words.text.items → result ≡ found_status words.found new → WhyTold contents plan records told old new result
+words-told contents plan records told words old new result is wrote status =
+    subst (λ f. WhyFound contents plan records told f old new result) is.found (told_by contents plan records told words.found words.text.items old new result is.text wrote status)
 
--- the answer is that of the texts, but for a read that failed and for memory
-pub why-answers : {W : Type 0} (contents : W → Option (List ℕ)) (read : Result PlanModel TextError) (records : List (List (List ℕ))) (answer : Result Made CliFault) (old new : Sink W) (result : Result ℕ CliFault)
-    → (answer ≡ Err ReadFault) ⊎ (answer ≡ Err NoMemory) ⊎ IsWhyOf read records answer → Follows contents answer old new result
+-- the answer to a text that stands for a plan, where the words were written
+pub told-answers : {W : Type 0} (contents : W → Option (List ℕ)) (read : Result PlanModel TextError) (plan : PlanModel) (records : List (List (List ℕ))) (words : Explained) (old new : Sink W) (result : Result ℕ CliFault)
+    → read ≡ Ok plan → IsExplainedOr plan records (rows_of plan records) (Ok words) → Wrote contents old new words.text.items → result ≡ found_status words.found new
     → (result ≡ Err ReadFault) ⊎ (result ≡ Err NoMemory) ⊎ WhyAnswers contents read records old new result
-why-answers contents read records answer old new result h follows = elim h [
-  | inl e ↦ inl (refuses contents answer ReadFault old new result e follows).0
+told-answers contents read plan records words old new result is explained wrote status = elim explained [
+  | inl e ↦ absurd (cc)
   | inr k ↦ elim k [
-    | inl e ↦ inr (inl (refuses contents answer NoMemory old new result e follows).0)
-    | inr is ↦ inr (inr (answers contents read records answer old new result is follows))
+    | inl e ↦ absurd (cc)
+    | inr e ↦ inr (inr (subst (λ r. WhyAnswers contents r records old new result) (sym is) (words-told contents plan records (rows_of plan records) words old new result e wrote status)))
   ]
 ]

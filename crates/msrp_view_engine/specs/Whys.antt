@@ -1,5 +1,5 @@
 -- Why a trace is no legal run: what is found, and what is written of it.
-use Rattle.std.specs.Prelude.{◌≡◌, ℕ, List, ◌++◌, Option, Ok, Err, IfOk, ⊤}
+use Rattle.std.specs.Prelude.{◌≡◌, ◌⊎◌, ◌-◌, ℕ, List, [], ◌++◌, Option, Some, Ok, Err, IfOk, ⊤}
 use Rattle.std.specs.declared.result.Result.{Result}
 use Rattle.msrp_plan.specs.Bytes.{Wrote}
 use Rattle.msrp_plan.specs.Plan.{PlanModel}
@@ -8,9 +8,13 @@ use Rattle.msrp_plan.specs.declared.faults.Fault.{Fault}
 use Rattle.msrp_plan.specs.declared.rows.Row.{Row}
 use Rattle.msrp_text.specs.PlanText.{record_text}
 use Rattle.msrp_text.specs.declared.reading.TextError.{TextError}
+use Rattle.msrp_text.specs.Reading.{record_at}
 use Rattle.msrp_trace.specs.Reading.{Told, rows_of}
+use Rattle.msrp_trace.specs.declared.faults.TraceError.{TraceError}
+use Rattle.msrp_trace.specs.declared.faults.TraceError.TheVariants.{At, Read, Memory}
 use Rattle.msrp_why.specs.Causes.{IsGroundOf}
 use Rattle.msrp_why.specs.ExerciseText.{exercise_text}
+use Rattle.msrp_why.specs.RefusalText.{refused_text}
 use Rattle.msrp_why.specs.WhyText.{cause_text, missing_text}
 use Rattle.msrp_why.specs.declared.causes.Ground.{Ground}
 use Rattle.msrp_why.specs.declared.causes.Ground.TheVariants.{End, Row as AtRow}
@@ -18,15 +22,16 @@ use Rattle.msrp_engine.specs.AuditText.{verdict_fields}
 use Rattle.msrp_engine.specs.Findings.{finding}
 use Rattle.msrp_engine.specs.MadeTexts.{found_in}
 use Rattle.msrp_engine.specs.declared.made.Made.{Made}
-use Rattle.msrp_faults.specs.Outcomes.{fault_of}
+use Rattle.msrp_faults.specs.Outcomes.{fault_of, trace_fault_of}
 use Rattle.msrp_faults.specs.declared.faults.CliFault.{CliFault}
-use Rattle.msrp_view_engine.specs.Statuses.{told_status}
+use Rattle.msrp_view_engine.specs.Statuses.{found_status, told_status}
 use Rattle.msrp_view_engine.specs.declared.why.Explained.{Explained}
+use Rattle.msrp_view_engine.specs.declared.why.Judged.{Judged}
 
--- what an audit of these rows finds, with the cause
-abbrev pub IsFound : PlanModel → Told → Result Explained CliFault → Type 0
-IsFound plan told (Ok found) = (finding plan told ≡ Ok found.verdict) × IsGroundOf plan told.rows found.verdict found.cause
-IsFound plan told (Err fault) = finding plan told ≡ Err fault
+-- what an audit of these rows finds, with the cause; or the refusal behind them, but for a read that failed and for memory
+abbrev pub IsJudged : PlanModel → Told → Result Judged TraceError → Type 0
+IsJudged plan told (Ok judged) = (finding plan told ≡ Ok judged.verdict) × IsGroundOf plan told.rows judged.verdict judged.ground
+IsJudged plan told (Err error) = (error ≡ Read) ⊎ (error ≡ Memory) ⊎ ((finding plan told ≡ Err (trace_fault_of error)) × (told.refusal ≡ Some error))
 
 -- what is told of a verdict behind its record: its cause, what the run exercised, or that rows are missing
 abbrev pub behind_text : PlanModel → Result ⊤ Fault → Ground → List ℕ
@@ -37,12 +42,26 @@ behind_text plan (Err fault) (End notes) = missing_text plan notes
 abbrev pub found_text : PlanModel → Result ⊤ Fault → Ground → List ℕ
 found_text plan found cause = record_text (verdict_fields found) ++ behind_text plan found cause
 
+-- what is told of a refusal behind the rows of these records
+abbrev pub refusal_words : PlanModel → List (List (List ℕ)) → Option TraceError → List ℕ
+refusal_words plan records (Some (At fault number)) = refused_text plan fault number (record_at records (number - 1))
+refusal_words plan records _ = []
+
 -- ---- in memory
 -- the words on a verdict on these rows
 pub record AreWords (plan : PlanModel) (rows : List Row) (found : Result ⊤ Fault) (text : List ℕ) : Type 0 where
   pub cause : Ground
   pub is : IsGroundOf plan rows found cause
   pub text_is : text ≡ found_text plan found cause
+
+-- the words on what is found in the rows of these records: on a verdict, or on the refusal behind the rows
+abbrev pub AreWordsFor : PlanModel → List (List (List ℕ)) → Told → Result (Result ⊤ Fault) CliFault → List ℕ → Type 0
+AreWordsFor plan records told (Ok found) text = AreWords plan told.rows found text
+AreWordsFor plan records told (Err fault) text = text ≡ refusal_words plan records told.refusal
+
+pub record IsExplained (plan : PlanModel) (records : List (List (List ℕ))) (told : Told) (words : Explained) : Type 0 where
+  pub found : words.found ≡ finding plan told
+  pub text : AreWordsFor plan records told words.found words.text.items
 
 -- the answer is what is found in the rows that are told, with the words on it
 pub record IsWhy (plan : PlanModel) (told : Told) (answer : Result Made CliFault) : Type 0 where
@@ -62,16 +81,21 @@ pub record TellsWhy {W : Type 0} (contents : W → Option (List ℕ)) (plan : Pl
   pub text : Wrote contents old new (found_text plan found cause)
   pub status : result ≡ told_status found new
 
--- the answer where that is found: of a refusal nothing is written
-abbrev pub WhyFound : {W : Type 0} → (W → Option (List ℕ)) → PlanModel → Told → Result (Result ⊤ Fault) CliFault → Sink W → Sink W → Result ℕ CliFault → Type 0
-WhyFound contents plan told (Ok found) old new result = TellsWhy contents plan told found old new result
-WhyFound contents plan told (Err fault) old new result = (result ≡ Err fault) × (new ≡ old)
+-- the refusal behind these rows is told, and answered as it is if the sink took all words
+pub record TellsRefused {W : Type 0} (contents : W → Option (List ℕ)) (plan : PlanModel) (records : List (List (List ℕ))) (told : Told) (fault : CliFault) (old new : Sink W) (result : Result ℕ CliFault) : Type 0 where
+  pub text : Wrote contents old new (refusal_words plan records told.refusal)
+  pub answer : result ≡ found_status (Err fault) new
 
--- the answer to what a trace's text tells
-abbrev pub WhyTold : {W : Type 0} → (W → Option (List ℕ)) → PlanModel → Told → Sink W → Sink W → Result ℕ CliFault → Type 0
-WhyTold contents plan told old new result = WhyFound contents plan told (finding plan told) old new result
+-- the answer where that is found
+abbrev pub WhyFound : {W : Type 0} → (W → Option (List ℕ)) → PlanModel → List (List (List ℕ)) → Told → Result (Result ⊤ Fault) CliFault → Sink W → Sink W → Result ℕ CliFault → Type 0
+WhyFound contents plan records told (Ok found) old new result = TellsWhy contents plan told found old new result
+WhyFound contents plan records told (Err fault) old new result = TellsRefused contents plan records told fault old new result
+
+-- the answer to what the records of a trace's text tell
+abbrev pub WhyTold : {W : Type 0} → (W → Option (List ℕ)) → PlanModel → List (List (List ℕ)) → Told → Sink W → Sink W → Result ℕ CliFault → Type 0
+WhyTold contents plan records told old new result = WhyFound contents plan records told (finding plan told) old new result
 
 -- the answer to a text that stands for a plan, or to one that is refused, and to the records of a trace's text
 abbrev pub WhyAnswers : {W : Type 0} → (W → Option (List ℕ)) → Result PlanModel TextError → List (List (List ℕ)) → Sink W → Sink W → Result ℕ CliFault → Type 0
-WhyAnswers contents (Ok plan) records old new result = WhyTold contents plan (rows_of plan records) old new result
+WhyAnswers contents (Ok plan) records old new result = WhyTold contents plan records (rows_of plan records) old new result
 WhyAnswers contents (Err error) records old new result = (result ≡ Err (fault_of error)) × (new ≡ old)

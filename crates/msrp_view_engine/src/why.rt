@@ -1,32 +1,44 @@
 //! Why a trace is no legal run: the verdict, the row that breaks a rule, and what was due.
-ghost use Rattle.std.specs.Prelude.{◌≡◌, ◌⊎◌, ℕ, List, [], true, false, Some, Err, IfOk, IfErr};
+ghost use Rattle.std.specs.Prelude.{◌≡◌, ◌⊎◌, ℕ, List, [], true, false, Ok, Some, Err, IfOk, IfErr};
+ghost use Rattle.csv.specs.Records.{fields_of};
 ghost use Rattle.msrp_audit.specs.Audits.{HasFed};
 ghost use Rattle.msrp_plan.specs.Bytes.{Wrote, sink_failed, source_failed, source_remaining};
 ghost use Rattle.msrp_text.specs.Reading.{csv_records, plan_of};
 ghost use Rattle.msrp_text.specs.declared.reading.TextError.{TextError as PlanError};
 ghost use Rattle.msrp_trace.specs.Reading.{Told, rows_of};
-ghost use Rattle.msrp_trace.specs.Readers.{told_left};
-ghost use Rattle.msrp_faults.specs.Outcomes.{fault_of, is_trace_fault, is_audit_fault};
+ghost use Rattle.msrp_trace.specs.Readers.{StandsBehind, StandsIn, told_left};
+ghost use Rattle.msrp_engine.specs.MadeTexts.{found_in};
+ghost use Rattle.msrp_faults.specs.Outcomes.{fault_of, is_audit_fault, trace_fault_of};
 ghost use Rattle.msrp_why.specs.Noted.{AreNoted};
-ghost use Rattle.msrp_view_engine.specs.Whys.{IsFound, IsWhy, IsWhyOf, WhyAnswers, behind_text, found_text};
+ghost use Rattle.msrp_view_engine.specs.Statuses.{is_record_fault};
+ghost use Rattle.msrp_view_engine.specs.Inside.Readings.{error_words};
+ghost use Rattle.msrp_view_engine.specs.Whys.{IsExplained, IsJudged, IsWhyOf, WhyAnswers, behind_text, found_text};
 
-use crate::told::write_told;
+use crate::told::write_found;
+use csv::ByteRecord;
 use msrp_audit::Auditor;
 use msrp_engine::{CliFault, Made, add_verdict, ending_of};
 use msrp_levels::Levels;
 use msrp_plan::bytes::{Sink, Source};
 use msrp_plan::{Fault, Plan};
 use msrp_text::read_plan;
-use msrp_trace::TraceReader;
-use msrp_why::{Ground, Notes, feed, write_cause, write_exercise, write_missing};
+use msrp_trace::{TraceError, TraceReader};
+use msrp_why::{Ground, Notes, feed, write_cause, write_exercise, write_missing, write_refused};
 use std::alloc::Global;
 use std::io::{Read, Write};
 
 // A verdict, with what it stands on.
 #[derive(Debug, Drop)]
-struct Explained {
+struct Judged {
     verdict: Result<(), Fault>,
-    cause: Ground,
+    ground: Ground,
+}
+
+// Words on a trace that were made in memory, and what an audit of it answers: a verdict, or the refusal of a record.
+#[derive(Debug, Drop)]
+struct Explained {
+    text: Vec<u8>,
+    found: Result<Result<(), Fault>, CliFault>,
 }
 
 // What is found in the rows that a reader has left. They are judged as they come, and none is read after a faulty one.
@@ -37,47 +49,26 @@ fn judge_rows<T: Read>(
     auditor: &mut Auditor<'_>,
     mut notes: Notes,
     rows: &mut TraceReader<'_, T>,
-) -> Result<Explained, CliFault>
+) -> Result<Judged, TraceError>
     requires plan { auditor.old.plan ≡ plan.now }
     requires levels { levels.now ≡ plan.now }
     requires fed { HasFed auditor.old [] }
     requires noted { AreNoted plan.now [] notes }
-    ensures found { (told : Told) → told_left T.remaining rows.old ≡ Some told
-        → (result ≡ Err CliFault.Read) ⊎ (result ≡ Err CliFault.Memory) ⊎ IsFound plan.now told result }
-    ensures faults { IfErr result (λ fault. is_trace_fault fault ≡ true) }
+    ensures found { (told : Told) → told_left T.remaining rows.old ≡ Some told → IsJudged plan.now told result }
+    ensures stands { (records : List (List (List ℕ))) → StandsIn T.remaining records rows.old → IfErr result (λ error. StandsBehind T.remaining records (Err error) rows.new) }
 {
     while let Some(row) = rows.next_foreseen(|core| auditor.foresee(core))? {
         if let Err(cause) = feed(alloc, plan, levels, auditor, &mut notes, row) {
-            return Ok(Explained {
+            return Ok(Judged {
                 verdict: Err(cause.fault),
-                cause: Ground::Row(cause),
+                ground: Ground::Row(cause),
             });
         }
     }
-    Ok(Explained {
+    Ok(Judged {
         verdict: auditor.end(),
-        cause: Ground::End(notes),
+        ground: Ground::End(notes),
     })
-}
-
-// What is found in the rows of a trace's text. Whatever ends the reading early may be told as a failed read.
-fn judge_all<T: Read>(
-    alloc: Global,
-    plan: &Plan,
-    levels: &Levels<'_>,
-    trace: &mut Source<T>,
-) -> Result<Explained, CliFault>
-    requires levels { levels.now ≡ plan.now }
-    ensures found { (bytes : List ℕ) → source_remaining T.remaining trace.old ≡ Some bytes
-        → (result ≡ Err CliFault.Read) ⊎ (result ≡ Err CliFault.Memory) ⊎ IsFound plan.now (rows_of plan.now (csv_records bytes)) result }
-    ensures faults { IfErr result (λ fault. is_trace_fault fault ≡ true) }
-{
-    let mut auditor = Auditor::with_room(alloc, plan, levels)?;
-    let notes = Notes::with_room(alloc, plan)?;
-    let mut rows = TraceReader::new(alloc, trace, plan)?;
-    let found = judge_rows(alloc, plan, levels, &mut auditor, notes, &mut rows);
-    drop(rows);
-    found
 }
 
 // Tells what makes the verdict so, behind its record.
@@ -86,64 +77,142 @@ fn write_behind<W: Write>(
     plan: &Plan,
     levels: &Levels<'_>,
     verdict: Result<(), Fault>,
-    cause: &Ground,
+    ground: &Ground,
 )
     requires levels { levels.now ≡ plan.now }
-    ensures { Wrote W.contents out.old out.new (behind_text plan.now verdict cause.now) }
+    ensures { Wrote W.contents out.old out.new (behind_text plan.now verdict ground.now) }
 {
-    match (cause, verdict) {
-        (Ground::Row(known), _) => write_cause(out, plan, levels, known),
+    match (ground, verdict) {
+        (Ground::Row(cause), _) => write_cause(out, plan, levels, cause),
         (Ground::End(notes), Ok(())) => write_exercise(out, plan, notes),
         (Ground::End(notes), Err(_)) => write_missing(out, plan, notes),
     }
 }
 
-// The words on what was found, in memory.
+// The words on a verdict, in memory.
 fn words_on(
     alloc: Global,
     plan: &Plan,
     levels: &Levels<'_>,
-    found: Explained,
-) -> Result<Made, CliFault>
+    judged: Judged,
+) -> Result<Explained, CliFault>
     requires levels { levels.now ≡ plan.now }
-    ensures found { IfOk result (λ made. made.found ≡ found.verdict) }
-    ensures text { IfOk result (λ made. made.text.items ≡ found_text plan.now found.verdict found.cause) }
+    ensures found { IfOk result (λ words. words.found ≡ Ok judged.verdict) }
+    ensures text { IfOk result (λ words. words.text.items ≡ found_text plan.now judged.verdict judged.ground) }
     ensures memory { IfErr result (λ fault. fault ≡ CliFault.Memory) }
 {
     let mut text = Sink::new(Vec::new(alloc));
-    add_verdict(&mut text, found.verdict);
-    write_behind(&mut text, plan, levels, found.verdict, &found.cause);
+    add_verdict(&mut text, judged.verdict);
+    write_behind(&mut text, plan, levels, judged.verdict, &judged.ground);
     if text.outcome().is_err() {
         return Err(CliFault::Memory);
     }
-    Ok(Made {
+    Ok(Explained {
         text: text.into_inner(),
-        found: found.verdict,
+        found: Ok(judged.verdict),
     })
 }
 
+// The words on a refused record, in memory.
+fn words_on_refusal(
+    alloc: Global,
+    plan: &Plan,
+    error: TraceError,
+    row: &ByteRecord,
+) -> Result<Explained, CliFault>
+    ensures found { IfOk result (λ words. words.found ≡ Err (trace_fault_of error)) }
+    ensures text { IfOk result (λ words. words.text.items ≡ error_words plan.now error (fields_of row.now)) }
+    ensures refused { IfOk result (λ words. IfErr words.found (λ fault. is_record_fault fault ≡ true)) }
+    ensures fault { IfErr result (λ fault. (fault ≡ CliFault.Memory) ⊎ (fault ≡ CliFault.Read)) }
+{
+    let TraceError::At { fault, number } = error else {
+        return Err(CliFault::from(error));
+    };
+    let mut text = Sink::new(Vec::new(alloc));
+    write_refused(&mut text, plan, fault, number, row);
+    if text.outcome().is_err() {
+        return Err(CliFault::Memory);
+    }
+    Ok(Explained {
+        text: text.into_inner(),
+        found: Err(CliFault::from(error)),
+    })
+}
+
+// The words on the rows that a reader has left.
+fn explain_rows<T: Read>(
+    alloc: Global,
+    plan: &Plan,
+    levels: &Levels<'_>,
+    rows: &mut TraceReader<'_, T>,
+) -> Result<Explained, CliFault>
+    requires levels { levels.now ≡ plan.now }
+    ensures explained { (records : List (List (List ℕ))) (told : Told) → told_left T.remaining rows.old ≡ Some told → StandsIn T.remaining records rows.old
+        → (result ≡ Err CliFault.Read) ⊎ (result ≡ Err CliFault.Memory) ⊎ IfOk result (IsExplained plan.now records told) }
+    ensures refused { IfOk result (λ words. IfErr words.found (λ fault. is_record_fault fault ≡ true)) }
+    ensures faults { IfErr result (λ fault. (fault ≡ CliFault.Memory) ⊎ (fault ≡ CliFault.Read)) }
+{
+    let mut auditor = Auditor::with_room(alloc, plan, levels)?;
+    let notes = Notes::with_room(alloc, plan)?;
+    match judge_rows(alloc, plan, levels, &mut auditor, notes, rows) {
+        Ok(judged) => words_on(alloc, plan, levels, judged),
+        Err(error) => words_on_refusal(alloc, plan, error, rows.record()),
+    }
+}
+
 // The words on a trace of an accepted plan. Whatever ends the reading early may be told as a failed read.
-fn explain_all<T: Read>(alloc: Global, plan: &Plan, trace: &mut Source<T>) -> Result<Made, CliFault>
-    ensures why { (bytes : List ℕ) → source_remaining T.remaining trace.old ≡ Some bytes
-        → (result ≡ Err CliFault.Read) ⊎ (result ≡ Err CliFault.Memory) ⊎ IsWhy plan.now (rows_of plan.now (csv_records bytes)) result }
-    ensures faults { IfErr result (λ fault. is_trace_fault fault ≡ true) }
+fn explain_all<T: Read>(
+    alloc: Global,
+    plan: &Plan,
+    trace: &mut Source<T>,
+) -> Result<Explained, CliFault>
+    ensures explained { (bytes : List ℕ) → source_remaining T.remaining trace.old ≡ Some bytes
+        → (result ≡ Err CliFault.Read) ⊎ (result ≡ Err CliFault.Memory) ⊎ IfOk result (IsExplained plan.now (csv_records bytes) (rows_of plan.now (csv_records bytes))) }
+    ensures refused { IfOk result (λ words. IfErr words.found (λ fault. is_record_fault fault ≡ true)) }
+    ensures faults { IfErr result (λ fault. (fault ≡ CliFault.Memory) ⊎ (fault ≡ CliFault.Read)) }
 {
     let levels = Levels::of(alloc, plan)?;
-    let found = judge_all(alloc, plan, &levels, trace)?;
-    words_on(alloc, plan, &levels, found)
+    let mut rows = match TraceReader::open(alloc, trace, plan) {
+        Ok(rows) => rows,
+        Err(unopened) => {
+            return words_on_refusal(alloc, plan, unopened.error, &unopened.first);
+        }
+    };
+    let words = explain_rows(alloc, plan, &levels, &mut rows);
+    drop(rows);
+    words
 }
 
 // The words on a trace of an accepted plan, where a failed read is told only if the source has failed, and want of memory only if it hasn't.
-fn explain<T: Read>(alloc: Global, plan: &Plan, trace: &mut Source<T>) -> Result<Made, CliFault>
-    ensures why { (bytes : List ℕ) → source_remaining T.remaining trace.old ≡ Some bytes
-        → (result ≡ Err CliFault.Read) ⊎ (result ≡ Err CliFault.Memory) ⊎ IsWhy plan.now (rows_of plan.now (csv_records bytes)) result }
-    ensures faults { IfErr result (λ fault. is_trace_fault fault ≡ true) }
+fn explain<T: Read>(
+    alloc: Global,
+    plan: &Plan,
+    trace: &mut Source<T>,
+) -> Result<Explained, CliFault>
+    ensures explained { (bytes : List ℕ) → source_remaining T.remaining trace.old ≡ Some bytes
+        → (result ≡ Err CliFault.Read) ⊎ (result ≡ Err CliFault.Memory) ⊎ IfOk result (IsExplained plan.now (csv_records bytes) (rows_of plan.now (csv_records bytes))) }
+    ensures refused { IfOk result (λ words. IfErr words.found (λ fault. is_record_fault fault ≡ true)) }
+    ensures faults { IfErr result (λ fault. (fault ≡ CliFault.Memory) ⊎ (fault ≡ CliFault.Read)) }
     ensures read { result ≡ Err CliFault.Read → source_failed trace.new ≡ true }
     ensures memory { result ≡ Err CliFault.Memory → source_failed trace.new ≡ false }
 {
     match explain_all(alloc, plan, trace) {
-        Err(CliFault::Read | CliFault::Memory) => Err(ending_of(trace)),
-        made => made,
+        Err(_) => Err(ending_of(trace)),
+        words => words,
+    }
+}
+
+// The words on a verdict; of a refusal there are none.
+fn made_of(words: Explained) -> Result<Made, CliFault>
+    ensures found { found_in result ≡ words.found }
+    ensures text { IfOk result (λ made. made.text ≡ words.text) }
+{
+    match words.found {
+        Ok(found) => Ok(Made {
+            text: words.text,
+            found,
+        }),
+        Err(fault) => Err(fault),
     }
 }
 
@@ -163,15 +232,17 @@ pub fn why_of_texts<P: Read, T: Read>(
     ensures memory { result ≡ Err CliFault.Memory → (source_failed plan.new ≡ false) × ((source_failed trace.new ≡ false) ⊎ (trace.new ≡ trace.old)) }
 {
     let plan = read_plan(alloc, plan)?;
-    explain(alloc, &plan, trace)
+    let words = explain(alloc, &plan, trace)?;
+    made_of(words)
 }
 
 /// Reads a plan and a trace of it, whoever made it, and writes the verdict as [`audit_text`](crate::audit_text) does, and behind
 /// it, in plain sentences, what makes it so: the first row that breaks a rule, the rule, the row that was due in its place, and
-/// the facts that the rule needs; of a legal trace, what its run exercised. The answer is the exit status, 0 or 1.
+/// the facts that the rule needs; of a legal trace, what its run exercised. The answer is the exit status, 0 or 1. Of a trace with a
+/// refused record it writes the code, the field that is wrong, what it should be, and the record as it stands; the answer is the refusal.
 ///
-/// The rows are judged as they come, and one is kept at a time. All memory is taken before anything is written. A refusal is answered as it is
-/// there, and nothing is written of it.
+/// The rows are judged as they come, and one is kept at a time. All memory is taken before anything is written. Of a refused plan nothing is
+/// written.
 pub fn why_text<P: Read, T: Read, W: Write>(
     alloc: Global,
     plan: &mut Source<P>,
@@ -193,8 +264,9 @@ pub fn why_text<P: Read, T: Read, W: Write>(
     ensures read { result ≡ Err CliFault.Read → (source_failed plan.new ≡ true) ⊎ (source_failed trace.new ≡ true) }
     ensures memory { result ≡ Err CliFault.Memory → (source_failed plan.new ≡ false) × ((source_failed trace.new ≡ false) ⊎ (trace.new ≡ trace.old)) }
     ensures write { result ≡ Err CliFault.Write → sink_failed out.new ≡ true }
-    ensures silent { IfErr result (λ fault. (fault ≡ CliFault.Write) ⊎ (out.new ≡ out.old)) }
+    ensures silent { IfErr result (λ fault. (fault ≡ CliFault.Write) ⊎ (is_record_fault fault ≡ true) ⊎ (out.new ≡ out.old)) }
 {
-    let made = why_of_texts(alloc, plan, trace)?;
-    write_told(out, made.text.as_slice(), made.found)
+    let plan = read_plan(alloc, plan)?;
+    let words = explain(alloc, &plan, trace)?;
+    write_found(out, words.text.as_slice(), words.found)
 }

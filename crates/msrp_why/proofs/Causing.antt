@@ -1,13 +1,15 @@
 -- The cause of a fault, from what the auditor foresaw.
-use Rattle.std.proofs.Common.{◌≡◌, ℕ, ◌+◌, ◌*◌, ◌/◌, ◌<◌, ◌≤◌, ◌++◌, ◌∷◌, [], Bool, true, false, cond, nat_lt, List, Option, Some, None, length, refl, ap, sym, ◌∙◌, subst, arith, append-nil, append_assoc, length-append, ltb-true}
+use Rattle.std.proofs.Common.{◌≡◌, ℕ, ◌+◌, ◌*◌, ◌/◌, ◌<◌, ◌≤◌, ◌++◌, ◌∷◌, [], Bool, true, false, cond, nat_lt, List, Option, Some, None, length, refl, ap, sym, ◌∙◌, subst, arith, append-nil, append_assoc, length-append, ltb-true, filter}
+use Rattle.std.specs.List.{range_with_len}
 use Rattle.std.specs.Option.{IsSomeAnd}
+use Rattle.std.proofs.lemmas.List.Elements.{filter-append}
 use Rattle.std.specs.declared.result.Result.TheVariants.{Ok, Err}
 use Rattle.std.specs.Prelude.{⊤}
 use Rattle.msrp_core.specs.CoreStates.{IsCoreState}
 use Rattle.msrp_core.specs.declared.states.CoreState.{CoreState}
 use Rattle.msrp_plan.specs.Logs.{log_of}
 use Rattle.msrp_plan.specs.Plan.{PlanModel}
-use Rattle.msrp_plan.specs.Runs.{IsLegal, IsRunStart, EachAfter, is_in_turn}
+use Rattle.msrp_plan.specs.Runs.{IsLegal, IsRunStart, EachAfter, is_chosen, is_fifo_reply, is_in_turn, is_next_action, is_of_core}
 use Rattle.msrp_plan.specs.Verdict.{broken, fault_from, fault_in, fault_or, refused}
 use Rattle.msrp_plan.specs.WellFormed.{IsPlan}
 use Rattle.msrp_plan.specs.declared.faults.Fault.{Fault}
@@ -17,10 +19,12 @@ use Rattle.msrp_plan.specs.declared.rows.Row.{Row}
 use Rattle.msrp_plan.proofs.Runs.Verdicts.{fault_push, fault_stays, unbroken_is_legal}
 use Rattle.msrp_plan.proofs.Legality.LegalRows.{legal_due}
 use Rattle.msrp_plan.proofs.Lists.Prefixes.{each_at}
+use Rattle.msrp_plan.proofs.Lists.Ranges.{range_more}
 use Rattle.msrp_sim.specs.Cores.{IsDueAfter, IsNextRow}
-use Rattle.msrp_audit.specs.Audits.{AuditorModel, HasFed, answer_of}
+use Rattle.msrp_audit.specs.Audits.{AuditorModel, HasFed, answer_of, has_turn}
 use Rattle.msrp_audit.proofs.Judging.{due_after}
-use Rattle.msrp_why.specs.Causes.{IsCauseAfter, IsDue, IsStateFor}
+use Rattle.msrp_why.specs.Causes.{AreTurnsFor, IsCauseAfter, IsDue, IsStateFor, cores_due}
+use Rattle.arrayvec.specs.ArrayVec.{ArrayVec}
 use Rattle.msrp_why.specs.Noted.{AreNoted}
 use Rattle.msrp_why.specs.declared.notes.Notes.{Notes}
 
@@ -73,6 +77,38 @@ state_for plan rows c rule state true true rest d h = state_by plan rows c rule 
 state_for plan rows c rule state true false rest d h = let same : A1 ≡ rule = cc in subst (λ u. IsStateFor plan rows c u state) same tt
 state_for plan rows c rule state false turn rest d h = let same : A7 ≡ rule = cc in subst (λ u. IsStateFor plan rows c u state) same tt
 
+-- a row in its turn breaks another rule
+later_turns : (plan : PlanModel) (rows : List Row) (rule : Rule) (turns : List ℕ) (own chosen action reply : Bool) → cond own (cond chosen (cond action (cond reply None (Some A5)) (Some A4)) (Some A3)) (Some A2) ≡ Some rule → AreTurnsFor plan rows rule turns
+later_turns plan rows rule turns false chosen action reply h = let same : A2 ≡ rule = cc in subst (λ u. AreTurnsFor plan rows u turns) same tt
+later_turns plan rows rule turns true false action reply h = let same : A3 ≡ rule = cc in subst (λ u. AreTurnsFor plan rows u turns) same tt
+later_turns plan rows rule turns true true false reply h = let same : A4 ≡ rule = cc in subst (λ u. AreTurnsFor plan rows u turns) same tt
+later_turns plan rows rule turns true true true false h = let same : A5 ≡ rule = cc in subst (λ u. AreTurnsFor plan rows u turns) same tt
+later_turns plan rows rule turns true true true true h = absurd (cc)
+
+turns_for : (plan : PlanModel) (rows : List Row) (rule : Rule) (turns : List ℕ) (left turn own chosen action reply : Bool) → (left ≡ true → turn ≡ false → turns ≡ cores_due plan rows)
+    → cond left (cond turn (cond own (cond chosen (cond action (cond reply None (Some A5)) (Some A4)) (Some A3)) (Some A2)) (Some A1)) (Some A7) ≡ Some rule → AreTurnsFor plan rows rule turns
+turns_for plan rows rule turns true true own chosen action reply d h = later_turns plan rows rule turns own chosen action reply h
+turns_for plan rows rule turns true false own chosen action reply d h = let same : A1 ≡ rule = cc in subst (λ u. AreTurnsFor plan rows u turns) same (d refl refl)
+turns_for plan rows rule turns false turn own chosen action reply d h = let same : A7 ≡ rule = cc in subst (λ u. AreTurnsFor plan rows u turns) same tt
+
+-- the cores that are due, one more
+append_if : (b : Bool) (xs : List ℕ) (x : ℕ) → cond b (xs ++ x ∷ []) xs ≡ xs ++ cond b (x ∷ []) []
+append_if true xs x = refl
+append_if false xs x = sym (append-nil xs)
+
+pub due_more : (plan : PlanModel) (rows : List Row) (n : ℕ) (b : Bool) (old new : List ℕ) → b ≡ has_turn plan rows n → new ≡ cond b (old ++ n ∷ []) old → old ≡ filter (has_turn plan rows) (range_with_len 0 n)
+    → new ≡ filter (has_turn plan rows) (range_with_len 0 (n + 1))
+due_more plan rows n b old new is step was =
+    let p = has_turn plan rows in
+    let at : 0 + n ≡ n = omega arith in
+    let whole : filter p (range_with_len 0 (n + 1)) ≡ filter p (range_with_len 0 n) ++ cond (p n) (n ∷ []) [] =
+    ap (filter p) (range_more 0 n) ∙ (filter-append p (range_with_len 0 n) ((0 + n) ∷ []) ∙ ap (λ k. filter p (range_with_len 0 n) ++ cond (p k) (k ∷ []) []) at) in
+    step ∙ (append_if b old n ∙ (ap (λ xs. xs ++ cond b (n ∷ []) []) was ∙ (ap (λ c. filter p (range_with_len 0 n) ++ cond c (n ∷ []) []) is ∙ sym whole)))
+
+pub due_few : (b : Bool) (n : ℕ) (old new : List ℕ) → new ≡ cond b (old ++ n ∷ []) old → length old ≤ n → length new ≤ n + 1
+due_few true n old new step few = let l = ap length step in omega (arith, l, length-append old (n ∷ []), few)
+due_few false n old new step few = let l = ap length step in omega (arith, l, few)
+
 -- the rule of a fault at the last row
 rule_of : (o : Option Rule) (n : ℕ) (f : Fault) → fault_or o n None ≡ Some f → o ≡ Some f.rule
 rule_of None n f h = absurd (cc)
@@ -105,11 +141,12 @@ told_before a rows r state ok fed next told =
     subst (λ t. IsSomeAnd state (IsCoreState a.plan r.core.0 t rows)) (d.due ∙ sym (legal_due a.plan rows r legal).tick) (told rows fed (fed.fault ∙ good) d.core)
 
 -- a fault that the auditor answers, with the row that it foresaw and the state of the core
-pub cause_is : (a : AuditorModel) (rows : List Row) (r : Row) (f : Fault) (due : Option Row) (state : Option CoreState) (notes : Notes) → IsPlan a.plan → AreNoted a.plan rows notes → HasFed a rows → fault_in a.plan rows ≡ None → Err f ≡ answer_of (fault_in a.plan (rows ++ r ∷ []))
+pub cause_is : (a : AuditorModel) (rows : List Row) (r : Row) (f : Fault) (due : Option Row) (state : Option CoreState) (turns : ArrayVec ℕ) (notes : Notes) → IsPlan a.plan → AreNoted a.plan rows notes → HasFed a rows → fault_in a.plan rows ≡ None → Err f ≡ answer_of (fault_in a.plan (rows ++ r ∷ []))
     → ((before : List Row) → HasFed a before → a.fault ≡ None → IsDueAfter a.plan before r.core.0 → IsSomeAnd due (IsNextRow a.plan before r.core.0))
     → ((before : List Row) → HasFed a before → a.fault ≡ None → r.core.0 < a.plan.cores → IsSomeAnd state (IsCoreState a.plan r.core.0 (length (log_of r.core.0 before)) before))
-    → IsCauseAfter a.plan rows r (record { fault = f; row = r; due = due; state = state; notes = notes })
-cause_is a rows r f due state notes ok noted fed good answer foreseen told =
+    → ((before : List Row) → HasFed a before → a.fault ≡ None → length before < a.plan.cores * a.plan.ticks → is_in_turn a.plan before r ≡ false → turns.items ≡ cores_due a.plan before)
+    → IsCauseAfter a.plan rows r (record { fault = f; row = r; due = due; state = state; turns = turns; notes = notes })
+cause_is a rows r f due state turns notes ok noted fed good answer foreseen told turned =
     let fault = fault_answer (fault_in a.plan (rows ++ r ∷ [])) f answer in
     let rule = rule_of (refused a.plan rows r) (length rows + 1) f (sym (fault_push a.plan rows r good) ∙ fault) in
     let start = good_start a.plan rows good in
@@ -122,5 +159,7 @@ cause_is a rows r f due state notes ok noted fed good answer foreseen told =
       due = due_for a.plan rows r.core.0 f.rule due (nat_lt (length rows) (a.plan.cores * a.plan.ticks)) (is_in_turn a.plan rows r) _ (λ left turn. foreseen rows fed none (due_now left turn)) rule;
       state = state_for a.plan rows r.core.0 f.rule state (nat_lt (length rows) (a.plan.cores * a.plan.ticks)) (is_in_turn a.plan rows r) _
           (λ left turn. let d = due_now left turn in subst (λ t. IsSomeAnd state (IsCoreState a.plan r.core.0 t rows)) d.due (told rows fed none d.core)) rule;
+      turns = turns_for a.plan rows f.rule turns.items (nat_lt (length rows) (a.plan.cores * a.plan.ticks)) (is_in_turn a.plan rows r) (is_of_core a.plan r) (is_chosen a.plan rows r) (is_next_action a.plan rows r) (is_fifo_reply rows r)
+          (λ left turn. turned rows fed none (ltb-true (length rows) (a.plan.cores * a.plan.ticks) left) turn) rule;
       notes = noted;
     }

@@ -24,10 +24,10 @@ use Rattle.msrp_plan.proofs.Jobs.JobTests.{is_job_is, same_self}
 use Rattle.msrp_plan.proofs.Legality.LegalRows.{IsTurn, legal_turn, turn_chosen, turn_core}
 use Rattle.msrp_plan.proofs.Lists.LeastKept.{least_in, least_passes}
 use Rattle.msrp_audit.proofs.Judging.{own_is}
-use Rattle.msrp_why.specs.Exercise.{AreResourceCounts, AreTurnCounts, ends, enters, finishes, finishes_late, is_entry, is_grant, is_granted_at_once, is_granted_later, is_in_tick, is_kept, is_other, is_past, is_queue, job_finishes, joins, keeps_head, most_after, one_if, preempts, queued_with}
+use Rattle.msrp_why.specs.Exercise.{AreResourceCounts, AreTurnCounts, ends, enters, finishes, finishes_at_deadline, finishes_late, has_open, is_at, is_entry, is_grant, is_granted_at_once, is_granted_later, is_in_tick, is_kept, is_met, is_opening, is_other, is_past, is_queue, job_finishes, job_nests, joins, keeps_head, meets_ceiling, most_after, nests, one_if, preempts, queued_with}
 use Rattle.msrp_why.specs.FactLines.{is_job_of, units_done}
 use Rattle.msrp_why.specs.Inside.Steps.{IsCountStep}
-use Rattle.msrp_why.specs.Inside.Turns.{finishes_from}
+use Rattle.msrp_why.specs.Inside.Turns.{finishes_from, nests_from}
 use Rattle.msrp_why.specs.NumberedRows.{last_change, queue_rows}
 use Rattle.msrp_why.specs.declared.exercise.ResourceCounts.{ResourceCounts}
 use Rattle.msrp_why.specs.declared.exercise.TurnCounts.{TurnCounts}
@@ -148,14 +148,31 @@ module _ (plan : PlanModel) (rows : List Row) (r : Row) (s : CoreState) (ok : Is
   finishes_by None job = refl
   finishes_by (Some j) job = ap (λ n. ends plan r.kind n j) (sym (done_so j job))
 
-  pub turns_on : (few : length rows < 160000) (old new : TurnCounts) (finished past kept other : Bool) → finished ≡ finishes_from plan s r.kind r.job → past ≡ is_past plan r.tick r.job → kept ≡ is_kept plan s.ceiling s.head → other ≡ is_other s.running r.job
-      → new.finished ≡ one_if old.finished finished → new.late ≡ one_if old.late (finished && past) → new.kept ≡ one_if old.kept kept → new.preempted ≡ one_if old.preempted other
-      → AreTurnCounts plan rows old → AreTurnCounts plan (rows ++ r ∷ []) new
-  turns_on few old new finished past kept other fs ps ks os f l k o was =
-      let ends_so : finishes plan rows r ≡ finished = finishes_by r.job refl ∙ sym fs in
+  nests_by : (o : Option JobId) → r.job ≡ o → job_nests plan rows r o ≡ nests_from plan s r.kind o
+  nests_by None job = refl
+  nests_by (Some j) job = ap (λ n. is_opening r.kind && has_open plan j n) (sym (done_so j job))
+
+  -- what is asked of the row, by the state before it
+  pub record AreTests (finished past at kept met other nested : Bool) : Type 0 where
+    pub finished_is : finished ≡ finishes_from plan s r.kind r.job
+    pub past_is : past ≡ (finished && is_past plan r.tick r.job)
+    pub at_is : at ≡ (finished && is_at plan r.tick r.job)
+    pub kept_is : kept ≡ is_kept plan s.ceiling s.head
+    pub met_is : met ≡ is_met plan s.ceiling s.head
+    pub other_is : other ≡ is_other s.running r.job
+    pub nested_is : nested ≡ nests_from plan s r.kind r.job
+
+  pub turns_on : (few : length rows < 160000) (old new : TurnCounts) (finished past at kept met other nested : Bool) → AreTests finished past at kept met other nested
+      → new.finished ≡ one_if old.finished finished → new.late ≡ one_if old.late past → new.at_deadline ≡ one_if old.at_deadline at → new.kept ≡ one_if old.kept kept → new.at_ceiling ≡ one_if old.at_ceiling met
+      → new.preempted ≡ one_if old.preempted other → new.nested ≡ one_if old.nested nested → AreTurnCounts plan rows old → AreTurnCounts plan (rows ++ r ∷ []) new
+  turns_on few old new finished past at kept met other nested tests f l d k m o n was =
+      let ends_so : finishes plan rows r ≡ finished = finishes_by r.job refl ∙ sym tests.finished_is in
       record {
         finished = one_more_counted (finishes plan) rows r finished old.finished new.finished few ends_so f was.finished;
-        late = one_more_counted (finishes_late plan) rows r (finished && past) old.late new.late few (ap (λ b. b && is_past plan r.tick r.job) ends_so ∙ ap (λ b. finished && b) (sym ps)) l was.late;
-        kept = one_more_counted (keeps_head plan) rows r kept old.kept new.kept few (ap (λ n. is_kept plan n (head plan r.core.0 r.tick rows)) (sym is.ceiling) ∙ (ap (is_kept plan s.ceiling) (sym is.head) ∙ sym ks)) k was.kept;
-        preempted = one_more_counted (preempts plan) rows r other old.preempted new.preempted few (ap (λ x. is_other x r.job) (sym is.running) ∙ sym os) o was.preempted;
+        late = one_more_counted (finishes_late plan) rows r past old.late new.late few (ap (λ b. b && is_past plan r.tick r.job) ends_so ∙ sym tests.past_is) l was.late;
+        at_deadline = one_more_counted (finishes_at_deadline plan) rows r at old.at_deadline new.at_deadline few (ap (λ b. b && is_at plan r.tick r.job) ends_so ∙ sym tests.at_is) d was.at_deadline;
+        kept = one_more_counted (keeps_head plan) rows r kept old.kept new.kept few (ap (λ n. is_kept plan n (head plan r.core.0 r.tick rows)) (sym is.ceiling) ∙ (ap (is_kept plan s.ceiling) (sym is.head) ∙ sym tests.kept_is)) k was.kept;
+        at_ceiling = one_more_counted (meets_ceiling plan) rows r met old.at_ceiling new.at_ceiling few (ap (λ n. is_met plan n (head plan r.core.0 r.tick rows)) (sym is.ceiling) ∙ (ap (is_met plan s.ceiling) (sym is.head) ∙ sym tests.met_is)) m was.at_ceiling;
+        preempted = one_more_counted (preempts plan) rows r other old.preempted new.preempted few (ap (λ x. is_other x r.job) (sym is.running) ∙ sym tests.other_is) o was.preempted;
+        nested = one_more_counted (nests plan) rows r nested old.nested new.nested few (nests_by r.job refl ∙ sym tests.nested_is) n was.nested;
       }

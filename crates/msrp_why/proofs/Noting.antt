@@ -1,20 +1,21 @@
 -- What is noted of the resources stays what the rows say, one row more.
-use Rattle.std.proofs.Common.{◌≡◌, ◌≢◌, ℕ, zero, suc, ◌+◌, ◌-◌, ◌^◌, min, ◌<◌, ◌≤◌, ◌==◌, ◌&&◌, Bool, true, false, cond, List, [], ◌∷◌, ◌++◌, Option, Some, None, refl, ap, sym, ◌∙◌, subst, arith, length, length-append, length-drop, drop, append-nil, is_some, slice_get, slice_set}
+use Rattle.std.proofs.Common.{◌≡◌, ◌≢◌, ℕ, zero, suc, ◌+◌, ◌-◌, ◌^◌, min, ◌<◌, ◌≤◌, ◌==◌, ◌&&◌, Bool, true, false, cond, List, [], ◌∷◌, ◌++◌, Option, Some, None, refl, ap, sym, ◌∙◌, subst, arith, length, length-append, length-drop, drop, append-nil, is_some, map, slice_get, slice_set}
 use Rattle.std.specs.List.{Contains, cons_option, filter, fold}
+use Rattle.std.specs.Option.{option_map}
 use Rattle.std.proofs.Math.Bool.{true≢false}
 use Rattle.std.proofs.Math.Nat.{min-eq_left}
 use Rattle.std.proofs.lemmas.Bool.{and_parts, eq-eqb, eqb-false, eqb-true}
 use Rattle.std.proofs.lemmas.Option.{same_Some}
-use Rattle.std.proofs.lemmas.List.{drop-append-le, drop-drop}
+use Rattle.std.proofs.lemmas.List.{drop-append-le, drop-drop, drop-map, length-map}
 use Rattle.std.proofs.lemmas.List.Elements.{filter-append}
 use Rattle.std.proofs.lemmas.List.Sums.{fold_push, sum_by_push}
 use Rattle.msrp_plan.specs.Plan.{PlanModel}
 use Rattle.msrp_plan.specs.Shape.{has_shape}
 use Rattle.msrp_plan.specs.Levels.{is_global}
 use Rattle.msrp_plan.specs.Ceiling.{resources}
-use Rattle.msrp_plan.specs.Jobs.{done, is_queued}
+use Rattle.msrp_plan.specs.Jobs.{done, holds, is_queued}
 use Rattle.msrp_plan.specs.Actions.{is_global_unit, res_of_unit}
-use Rattle.msrp_plan.specs.Queues.{fifo, is_on, is_release, is_release_of, is_request, requester}
+use Rattle.msrp_plan.specs.Queues.{fifo, is_first, is_on, is_release, is_release_of, is_request, requester}
 use Rattle.msrp_plan.specs.Runs.{EachAfter, IsLegal, IsRunStart}
 use Rattle.msrp_plan.specs.WellFormed.{IsPlan}
 use Rattle.msrp_plan.specs.declared.ids.JobId.{JobId}
@@ -23,6 +24,8 @@ use Rattle.msrp_plan.specs.declared.rows.Kind.{Kind}
 use Rattle.msrp_plan.specs.declared.rows.Kind.TheVariants.{Grant, Idle, Lock, Queue, Release, Run, Spin, Take, Unlock}
 use Rattle.msrp_plan.specs.declared.rows.Row.{Row}
 use Rattle.msrp_plan.specs.declared.units.Op.TheVariants.{Lock as LockUnit}
+use Rattle.msrp_plan.proofs.Holding.Holders.{orderly_at}
+use Rattle.msrp_plan.proofs.Jobs.JobTests.{same_is}
 use Rattle.msrp_plan.proofs.Levels.Ceilings.{in_resources}
 use Rattle.msrp_plan.proofs.Legality.LegalRows.{DoesUnit, legal_turn}
 use Rattle.msrp_plan.proofs.Lists.AnyAll.{places_push}
@@ -31,12 +34,13 @@ use Rattle.msrp_plan.proofs.Lists.Prefixes.{each_at, each_before}
 use Rattle.msrp_plan.proofs.Queues.Fifos.{IsFed, fifo_request, released, requested}
 use Rattle.msrp_plan.proofs.Queues.QueueMembers.{queue_at, queue_short}
 use Rattle.msrp_plan.proofs.TaskUnits.PlanUnits.{units_lock}
+use Rattle.msrp_plan.proofs.TaskUnits.Stands.{holder_stands}
 use Rattle.msrp_plan.proofs.TaskUnits.UnitKinds.{Grants, Locks, Queues, Releases, Runs, Spins, Takes, Unlocks, step_of}
 use Rattle.msrp_sim.proofs.Standing.{get_set_other, get_set_same}
 use Rattle.msrp_why.specs.Exercise.{AreResourceCounts}
 use Rattle.msrp_why.specs.Inside.Steps.{IsCountStep}
 use Rattle.msrp_why.specs.Noted.{IsNoted, last_with, queue_with}
-use Rattle.msrp_why.specs.NumberedRows.{changes, is_change, last_change, last_row, numbered, queue_rows, requests}
+use Rattle.msrp_why.specs.NumberedRows.{changes, is_change, job_of, last_change, last_row, numbered, queue_rows, requests}
 use Rattle.msrp_why.specs.declared.notes.Numbered.{Numbered}
 use Rattle.msrp_why.specs.declared.notes.ResourceNotes.{ResourceNotes}
 use Rattle.msrp_why.proofs.Exercising.{counts_off, counts_on, few_before}
@@ -112,15 +116,34 @@ has_job Take None res s q = absurd (cc)
 has_job Queue None res s q = absurd (cc)
 has_job _ j res s q = absurd (cc)
 
-more : (b : Bool) (o : Option JobId) → (b ≡ true → is_some o ≡ true) → (e : Numbered) (es : List Numbered) (js : List JobId) → length es ≡ length js → length (cond b (e ∷ es) es) ≡ length (cons_option (cond b o None) js)
-more true (Some x) h e es js same = ap (λ n. suc n) same
-more true None h e es js same = absurd (true≢false (sym (h refl)))
-more false o h e es js same = same
+jobs_more : (b : Bool) (o : Option JobId) → (b ≡ true → is_some o ≡ true) → (e : Numbered) (es : List Numbered) (js : List JobId) → e.row.job ≡ o → map job_of es ≡ map (λ j. Some j) js → map job_of (cond b (e ∷ es) es) ≡ map (λ j. Some j) (cons_option (cond b o None) js)
+jobs_more true (Some x) h e es js same all = ap (λ j. j ∷ map job_of es) same ∙ ap (λ (xs : List (Option JobId)). Some x ∷ xs) all
+jobs_more true None h e es js same all = absurd (true≢false (sym (h refl)))
+jobs_more false o h e es js same all = all
+
+-- the jobs of the requests, with their numbers, are those that requested it
+jobs_are : (g n : ℕ) (rows : List Row) → map job_of (filter (requests g) (numbered n rows)) ≡ map (λ j. Some j) (requested g rows)
+jobs_are g n [] = refl
+jobs_are g n (r ∷ rows) =
+    jobs_more (is_on g r.res && is_request r.kind) r.job (λ b. has_job r.kind r.job r.res r.shape (and_parts (is_on g r.res) (is_request r.kind) b).1) (record { number = n + 1; row = r }) (filter (requests g) (numbered (n + 1) rows)) (requested g rows) refl (jobs_are g (n + 1) rows)
 
 as_many : (g n : ℕ) (rows : List Row) → length (filter (requests g) (numbered n rows)) ≡ length (requested g rows)
-as_many g n [] = refl
-as_many g n (r ∷ rows) =
-    more (is_on g r.res && is_request r.kind) r.job (λ b. has_job r.kind r.job r.res r.shape (and_parts (is_on g r.res) (is_request r.kind) b).1) (record { number = n + 1; row = r }) (filter (requests g) (numbered (n + 1) rows)) (requested g rows) (as_many g (n + 1) rows)
+as_many g n rows = sym (length-map (filter (requests g) (numbered n rows)) job_of) ∙ (ap length (jobs_are g n rows) ∙ length-map (requested g rows) (λ j. Some j))
+
+-- who stands in the queue by the rows is who stands in it
+pub queue_jobs : (g : ℕ) (rows : List Row) → map job_of (queue_rows g rows) ≡ map (λ j. Some j) (fifo g rows)
+queue_jobs g rows =
+    sym (drop-map job_of (released g rows) (filter (requests g) (numbered 0 rows))) ∙ (ap (drop (released g rows)) (jobs_are g 0 rows) ∙ drop-map (λ j. Some j) (released g rows) (requested g rows))
+
+first_by : (es : List Numbered) (f : List JobId) (j : JobId) → map job_of es ≡ map (λ i. Some i) f → is_first f (Some j) ≡ true → option_map job_of (slice_get es 0) ≡ Some (Some j)
+first_by es [] j all first = absurd (cc)
+first_by [] (i ∷ is) j all first = absurd (cc)
+first_by (e ∷ es) (i ∷ is) j all first =
+    ap (λ (xs : List (Option JobId)). slice_get xs 0) all ∙ ap (λ k. Some (Some k)) (sym (same_is j i first))
+
+-- who holds a global resource requested it in the first of these rows
+pub first_holds : (plan : PlanModel) (rows : List Row) (g : ℕ) (j : JobId) → IsPlan plan → is_global plan g ≡ true → EachAfter (IsLegal plan) [] rows → holds plan rows g j ≡ true → option_map job_of (slice_get (queue_rows g rows) 0) ≡ Some (Some j)
+first_holds plan rows g j ok global all held = first_by (queue_rows g rows) (fifo g rows) j (queue_jobs g rows) ((orderly_at plan g rows ok global all).first j (holder_stands plan g rows j held))
 
 -- no more releases than requests
 fed_rows : (g : ℕ) (rows : List Row) → IsFed g rows → released g rows ≤ length (filter (requests g) (numbered 0 rows))

@@ -24,3 +24,7 @@ flat_number f n =
 pub wrote-number : {W : Type 0} (contents : W → Option (List ℕ)) (a b c : Sink W) (front : List ℕ) (f : ℕ → List ℕ) (n : ℕ) → Wrote contents a b (front ++ flat_map f (range_with_len 0 n)) → Wrote contents b c (f n) → Wrote contents a c (front ++ flat_map f (range_with_len 0 (n + 1)))
 wrote-number contents a b c front f n before next =
     subst (Wrote contents a c) (append_assoc front (flat_map f (range_with_len 0 n)) (f n) ∙ ap (λ ys. front ++ ys) (sym (flat_number f n))) (wrote-more contents a b c _ _ before next)
+
+-- the same with nothing in front
+pub wrote-part : {W : Type 0} (contents : W → Option (List ℕ)) (a b c : Sink W) (f : ℕ → List ℕ) (n : ℕ) → Wrote contents a b (flat_map f (range_with_len 0 n)) → Wrote contents b c (f n) → Wrote contents a c (flat_map f (range_with_len 0 (n + 1)))
+wrote-part contents a b c f n before next = wrote-number contents a b c [] f n before next

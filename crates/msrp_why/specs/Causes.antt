@@ -1,16 +1,17 @@
 -- The cause of a fault: what the definitions give of the rows before it.
-use Rattle.std.specs.Prelude.{ℕ, List, [], ◌∷◌, ◌++◌, ◌/◌, Option, Some, None, ◌≡◌, ⊤, length}
+use Rattle.std.specs.Prelude.{ℕ, List, [], ◌∷◌, ◌++◌, ◌/◌, Option, Some, None, ◌≡◌, ⊤, length, filter}
+use Rattle.std.specs.List.{range_with_len}
 use Rattle.std.specs.Option.{IsSomeAnd}
 use Rattle.std.specs.declared.result.Result.{Result}
 use Rattle.std.specs.declared.result.Result.TheVariants.{Err}
-use Rattle.msrp_audit.specs.Audits.{answer_of}
+use Rattle.msrp_audit.specs.Audits.{answer_of, has_turn}
 use Rattle.msrp_core.specs.CoreStates.{IsCoreState}
 use Rattle.msrp_core.specs.declared.states.CoreState.{CoreState}
 use Rattle.msrp_plan.specs.Plan.{PlanModel}
 use Rattle.msrp_plan.specs.Verdict.{fault_in, missing}
 use Rattle.msrp_plan.specs.declared.faults.Fault.{Fault}
 use Rattle.msrp_plan.specs.declared.faults.Rule.{Rule}
-use Rattle.msrp_plan.specs.declared.faults.Rule.TheVariants.{A2, A3, A4, A5}
+use Rattle.msrp_plan.specs.declared.faults.Rule.TheVariants.{A1, A2, A3, A4, A5}
 use Rattle.msrp_plan.specs.declared.rows.Row.{Row}
 use Rattle.msrp_sim.specs.Cores.{IsNextRow}
 use Rattle.msrp_why.specs.Noted.{AreNoted}
@@ -35,6 +36,15 @@ IsStateFor plan rows c A4 state = IsSomeAnd state (IsCoreState plan c (length ro
 IsStateFor plan rows c A5 state = IsSomeAnd state (IsCoreState plan c (length rows / plan.cores) rows)
 IsStateFor plan rows c rule state = ⊤
 
+-- the cores that have their turns in the tick that is due still to come
+abbrev pub cores_due : PlanModel → List Row → List ℕ
+cores_due plan rows = filter (has_turn plan rows) (range_with_len 0 plan.cores)
+
+-- where a row isn't in its turn, these are the cores that may have one
+abbrev pub AreTurnsFor : PlanModel → List Row → Rule → List ℕ → Type 0
+AreTurnsFor plan rows A1 turns = turns ≡ cores_due plan rows
+AreTurnsFor plan rows rule turns = ⊤
+
 -- why this row is refused after these, which have no fault
 pub record IsCauseAfter (plan : PlanModel) (rows : List Row) (r : Row) (cause : Cause) : Type 0 where
   pub good : fault_in plan rows ≡ None
@@ -42,6 +52,7 @@ pub record IsCauseAfter (plan : PlanModel) (rows : List Row) (r : Row) (cause : 
   pub row : cause.row ≡ r
   pub due : IsDue plan rows r.core.0 cause.fault.rule cause.due
   pub state : IsStateFor plan rows r.core.0 cause.fault.rule cause.state
+  pub turns : AreTurnsFor plan rows cause.fault.rule cause.turns.items
   pub notes : AreNoted plan rows cause.notes
 
 -- why one of these rows is refused

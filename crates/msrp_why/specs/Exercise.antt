@@ -1,5 +1,5 @@
 -- What a run exercised, in numbers of its rows: a trace in which nothing happens is legal too.
-use Rattle.std.specs.Prelude.{ℕ, List, [], ◌∷◌, ◌++◌, ◌+◌, ◌^◌, ◌-◌, ◌==◌, ◌&&◌, Bool, true, false, not, nat_le, nat_lt, min, max, length, Option, Some, None, ◌≡◌, if◌then◌else◌}
+use Rattle.std.specs.Prelude.{ℕ, List, [], ◌∷◌, ◌++◌, ◌+◌, ◌^◌, ◌-◌, ◌==◌, ◌&&◌, Bool, true, false, not, nat_le, nat_lt, min, max, length, Option, Some, None, ◌≡◌, if◌then◌else◌, count_by, take}
 use Rattle.msrp_plan.specs.Blocking.{count_after}
 use Rattle.msrp_plan.specs.Ceiling.{ceiling}
 use Rattle.msrp_plan.specs.Choice.{head, running}
@@ -11,6 +11,8 @@ use Rattle.msrp_plan.specs.declared.ids.JobId.{JobId}
 use Rattle.msrp_plan.specs.declared.rows.Kind.{Kind}
 use Rattle.msrp_plan.specs.declared.rows.Kind.TheVariants.{Grant, Lock, Queue, Take}
 use Rattle.msrp_plan.specs.declared.rows.Row.{Row}
+use Rattle.msrp_plan.specs.declared.units.Op.{Op}
+use Rattle.msrp_plan.specs.declared.units.Op.TheVariants.{Lock as LockUnit, Unlock as UnlockUnit}
 use Rattle.msrp_why.specs.NumberedRows.{last_change, queue_rows}
 use Rattle.msrp_why.specs.declared.exercise.ResourceCounts.{ResourceCounts}
 use Rattle.msrp_why.specs.declared.exercise.TurnCounts.{TurnCounts}
@@ -87,6 +89,14 @@ is_past plan t (Some j) = nat_lt (key plan j).deadline (t + 1)
 abbrev pub finishes_late : PlanModel → List Row → Row → Bool
 finishes_late plan pre r = finishes plan pre r && is_past plan r.tick r.job
 
+abbrev pub is_at : PlanModel → ℕ → Option JobId → Bool
+is_at plan t None = false
+is_at plan t (Some j) = (key plan j).deadline == t + 1
+
+-- and that in the last tick before its absolute deadline
+abbrev pub finishes_at_deadline : PlanModel → List Row → Row → Bool
+finishes_at_deadline plan pre r = finishes plan pre r && is_at plan r.tick r.job
+
 abbrev pub is_kept : PlanModel → ℕ → Option JobId → Bool
 is_kept plan above None = false
 is_kept plan above (Some h) = nat_le (level plan h.task.0) above
@@ -94,6 +104,14 @@ is_kept plan above (Some h) = nat_le (level plan h.task.0) above
 -- the core has a head, and its level isn't above the core's ceiling: it may not start
 abbrev pub keeps_head : PlanModel → List Row → Row → Bool
 keeps_head plan pre r = is_kept plan (ceiling plan r.core.0 pre) (head plan r.core.0 r.tick pre)
+
+abbrev pub is_met : PlanModel → ℕ → Option JobId → Bool
+is_met plan above None = false
+is_met plan above (Some h) = level plan h.task.0 == above
+
+-- that level is equal to the ceiling
+abbrev pub meets_ceiling : PlanModel → List Row → Row → Bool
+meets_ceiling plan pre r = is_met plan (ceiling plan r.core.0 pre) (head plan r.core.0 r.tick pre)
 
 abbrev pub is_other : Option JobId → Option JobId → Bool
 is_other (Some s) (Some j) = not (same_job s j)
@@ -103,11 +121,40 @@ is_other _ _ = false
 abbrev pub preempts : PlanModel → List Row → Row → Bool
 preempts plan pre r = is_other (running plan r.core.0 pre) r.job
 
+abbrev pub is_lock : Op → Bool
+is_lock (LockUnit g) = true
+is_lock _ = false
+
+abbrev pub is_unlock : Op → Bool
+is_unlock (UnlockUnit g) = true
+is_unlock _ = false
+
+-- the job has a section open once it has done so many units: among them are more locks than unlocks
+abbrev pub has_open : PlanModel → JobId → ℕ → Bool
+has_open plan j n = nat_lt (count_by is_unlock (take n (units plan j))) (count_by is_lock (take n (units plan j)))
+
+abbrev pub is_opening : Kind → Bool
+is_opening Lock = true
+is_opening Take = true
+is_opening Queue = true
+is_opening _ = false
+
+abbrev pub job_nests : PlanModel → List Row → Row → Option JobId → Bool
+job_nests plan pre r None = false
+job_nests plan pre r (Some j) = is_opening r.kind && has_open plan j (done j pre)
+
+-- the row locks or requests a resource while its job has a section open
+abbrev pub nests : PlanModel → List Row → Row → Bool
+nests plan pre r = job_nests plan pre r r.job
+
 pub record AreTurnCounts (plan : PlanModel) (rows : List Row) (n : TurnCounts) : Type 0 where
   pub finished : n.finished ≡ count_after (finishes plan) [] rows
   pub late : n.late ≡ count_after (finishes_late plan) [] rows
+  pub at_deadline : n.at_deadline ≡ count_after (finishes_at_deadline plan) [] rows
   pub kept : n.kept ≡ count_after (keeps_head plan) [] rows
+  pub at_ceiling : n.at_ceiling ≡ count_after (meets_ceiling plan) [] rows
   pub preempted : n.preempted ≡ count_after (preempts plan) [] rows
+  pub nested : n.nested ≡ count_after (nests plan) [] rows
 
 -- ---- one more, if so; none stands for more than there can be
 abbrev pub one_if : ℕ → Bool → ℕ

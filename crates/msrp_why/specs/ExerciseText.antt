@@ -15,7 +15,9 @@ number_text words n = words ++ decimal n
 abbrev pub turns_text : TurnCounts → List ℕ
 turns_text n =
     number_text (codes "jobs finished: ") n.finished ++ (number_text (codes "\njobs finished after their absolute deadline: ") n.late
-    ++ (number_text (codes "\nturns in which the level of the head was not above the ceiling: ") n.kept ++ (number_text (codes "\nturns in which a job preempted another: ") n.preempted ++ codes "\n")))
+    ++ (number_text (codes "\njobs finished in the last tick before it: ") n.at_deadline
+    ++ (number_text (codes "\nturns in which the level of the head was not above the ceiling: ") n.kept ++ (number_text (codes "\nturns in which it was equal to the ceiling: ") n.at_ceiling
+    ++ (number_text (codes "\nturns in which a job preempted another: ") n.preempted ++ (number_text (codes "\nsections opened inside another: ") n.nested ++ codes "\n"))))))
 
 -- what the rows on a resource found
 abbrev pub counts_text : List ℕ → ResourceCounts → List ℕ

@@ -1,5 +1,6 @@
 -- Facts on a row that is refused, as text: a line each.
 use Rattle.std.specs.Prelude.{ℕ, Bool, List, [], ◌++◌, ◌+◌, ◌*◌, ◌/◌, ◌&&◌, nat_lt, length, codes, decimal, Option, Some, None, if◌then◌else◌}
+use Rattle.std.specs.List.{flat_map}
 use Rattle.std.specs.Option.{is_some}
 use Rattle.msrp_core.specs.declared.states.CoreState.{CoreState}
 use Rattle.msrp_plan.specs.Plan.{PlanModel, core_of, key, task_of, units}
@@ -88,9 +89,12 @@ abbrev pub owner_lines : PlanModel → Option JobId → List ℕ
 owner_lines plan None = []
 owner_lines plan (Some j) = if nat_lt j.task.0 (length plan.tasks) then owner_line plan j else []
 
--- the tick that is due after so many rows
-abbrev pub turn_line : PlanModel → ℕ → List ℕ
-turn_line plan n = codes "due here: a row of tick " ++ (decimal (n / plan.cores) ++ codes "\n")
+-- the tick that is due after so many rows, and the cores that have their turns in it still to come
+abbrev pub core_text : ℕ → List ℕ
+core_text c = codes " " ++ decimal c
+
+abbrev pub turn_line : PlanModel → ℕ → List ℕ → List ℕ
+turn_line plan n turns = codes "due here: a row of tick " ++ (decimal (n / plan.cores) ++ (codes ", of one of these cores:" ++ (flat_map core_text turns ++ codes "\n")))
 
 -- how many rows are due
 abbrev pub rows_line : PlanModel → List ℕ

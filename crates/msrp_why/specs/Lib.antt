@@ -6,4 +6,6 @@ pub mod ResourceText
 pub mod WhyText
 pub mod Exercise
 pub mod ExerciseText
+pub mod Misfits
+pub mod RefusalText
 pub mod Inside

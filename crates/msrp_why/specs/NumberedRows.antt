@@ -1,6 +1,7 @@
 -- Rows with their numbers: those of who stands in a queue, and the last change of a resource.
 use Rattle.std.specs.Prelude.{ℕ, List, [], ◌∷◌, Bool, true, false, ◌&&◌, Option, Some, None, ◌+◌, drop, filter, fold, count_by}
 use Rattle.msrp_plan.specs.Queues.{is_on, is_request, is_release_of}
+use Rattle.msrp_plan.specs.declared.ids.JobId.{JobId}
 use Rattle.msrp_plan.specs.declared.rows.Kind.{Kind}
 use Rattle.msrp_plan.specs.declared.rows.Kind.TheVariants.{Lock, Release, Unlock}
 use Rattle.msrp_plan.specs.declared.rows.Row.{Row}
@@ -10,6 +11,10 @@ use Rattle.msrp_why.specs.declared.notes.Numbered.{Numbered}
 abbrev pub numbered : ℕ → List Row → List Numbered
 numbered n [] = []
 numbered n (r ∷ rows) = record { number = n + 1; row = r } ∷ numbered (n + 1) rows
+
+-- the job of a row
+abbrev pub job_of : Numbered → Option JobId
+job_of e = e.row.job
 
 -- a request of the resource
 abbrev pub requests : ℕ → Numbered → Bool

@@ -10,7 +10,7 @@ use Rattle.msrp_why.specs.declared.notes.Notes.{Notes}
 
 -- the facts that a rule needs
 abbrev pub facts_text : PlanModel → Cause → Rule → List ℕ
-facts_text plan cause A1 = turn_line plan (cause.fault.row - 1) ++ before_lines plan cause.notes.last
+facts_text plan cause A1 = turn_line plan (cause.fault.row - 1) cause.turns.items ++ before_lines plan cause.notes.last
 facts_text plan cause A2 = due_lines plan cause.due ++ owner_lines plan cause.row.job
 facts_text plan cause A3 = due_lines plan cause.due ++ (whom_line plan (codes "found: ") cause.row.job ++ (state_text plan cause.row.core.0 cause.state ++ held_text plan cause.row.core.0 cause.notes.resources.items))
 facts_text plan cause A4 = due_lines plan cause.due ++ (job_lines plan cause.row.job ++ (units_lines plan cause.state cause.row.job ++ held_text plan cause.row.core.0 cause.notes.resources.items))

@@ -1,17 +1,23 @@
 //! The cause of a fault, kept as rows are judged.
-ghost use Rattle.std.specs.Prelude.{◌≡◌, ◌++◌, ◌∷◌, [], List, None, IfErr, IfOk};
+ghost use Rattle.std.specs.Prelude.{◌≡◌, ◌<◌, ◌*◌, ◌++◌, ◌∷◌, [], List, None, IfErr, IfOk, false, length, if◌then◌else◌};
 ghost use Rattle.msrp_audit.specs.Audits.{HasFed};
 ghost use Rattle.msrp_plan.specs.Verdict.{fault_in};
 ghost use Rattle.msrp_plan.specs.declared.rows.Row.{Row as TraceRow};
-ghost use Rattle.msrp_why.specs.Causes.{IsCauseAfter};
+ghost use Rattle.msrp_plan.specs.Runs.{is_in_turn};
+ghost use Rattle.msrp_why.specs.Causes.{IsCauseAfter, cores_due};
 ghost use Rattle.msrp_why.specs.Noted.{AreNoted};
 
 use crate::notes::Notes;
+use arrayvec::ArrayVec;
 use msrp_audit::Auditor;
 use msrp_core::CoreState;
 use msrp_levels::Levels;
-use msrp_plan::{Fault, Plan, Row};
+use msrp_plan::limits::MOST_CORES;
+use msrp_plan::{CoreId, Fault, Plan, Row};
 use std::alloc::Global;
+
+/// The most cores that may have a turn.
+pub const MOST_TURNS: usize = MOST_CORES as usize;
 
 /// The first row that breaks a rule, and what was known before it.
 #[derive(Debug, Drop)]
@@ -23,6 +29,8 @@ pub struct Cause {
     pub due: Option<Row>,
     /// What decided before the row who had the turn of its core, where the plan has the core.
     pub state: Option<CoreState>,
+    /// The cores that had their turns in the tick that was due still to come, where the row isn't in its turn.
+    pub turns: ArrayVec<u32, MOST_TURNS>,
     /// What was noted of each resource before the row.
     pub notes: Notes,
 }
@@ -34,6 +42,39 @@ pub enum Ground {
     Row(Cause),
     /// What was noted of all rows, where none has a fault: the run is legal, or rows are missing.
     End(Notes),
+}
+
+// One core more, if it is due.
+fn push_if(found: &mut ArrayVec<u32, MOST_TURNS>, core: u32, is_due: bool)
+    ensures { length found.old.items < MOST_TURNS → found.new.items ≡ if is_due then found.old.items ++ core ∷ [] else found.old.items }
+{
+    if is_due {
+        let _fits = found.try_push(core);
+    }
+}
+
+// The cores that have their turns in the tick that is due still to come.
+fn cores_due(plan: &Plan, auditor: &Auditor<'_>) -> ArrayVec<u32, MOST_TURNS>
+    requires plan { auditor.now.plan ≡ plan.now }
+    ensures { (rows : List TraceRow) → HasFed auditor.now rows → auditor.now.fault ≡ None → length rows < plan.now.cores * plan.now.ticks → result.items ≡ cores_due plan.now rows }
+{
+    let mut found = ArrayVec::new();
+    for core in 0..plan.cores() {
+        push_if(&mut found, core, auditor.has_turn(CoreId(core)));
+    }
+    found
+}
+
+// The same, where the row isn't in its turn.
+fn turns_for(plan: &Plan, auditor: &Auditor<'_>, row: Row) -> ArrayVec<u32, MOST_TURNS>
+    requires plan { auditor.now.plan ≡ plan.now }
+    ensures { (rows : List TraceRow) → HasFed auditor.now rows → auditor.now.fault ≡ None → length rows < plan.now.cores * plan.now.ticks → is_in_turn plan.now rows row ≡ false → result.items ≡ cores_due plan.now rows }
+{
+    if auditor.is_in_turn(row) {
+        ArrayVec::new()
+    } else {
+        cores_due(plan, auditor)
+    }
 }
 
 /// The next row, as the auditor judges it: a fault comes with its cause, which takes the notes away. It takes no memory.
@@ -57,6 +98,7 @@ pub fn feed(
     let _accepted = plan.cores();
     let due = auditor.foresee(row.core);
     let state = auditor.state(row.core);
+    let turns = turns_for(plan, auditor, row);
     match auditor.feed(row) {
         Ok(()) => {
             notes.note(plan, levels, state, row);
@@ -67,6 +109,7 @@ pub fn feed(
             row,
             due,
             state,
+            turns,
             notes: notes.take(alloc),
         }),
     }

@@ -4,15 +4,15 @@ ghost use Rattle.std.specs.Option.{ForSome};
 ghost use Rattle.msrp_core.specs.CoreStates.{IsCoreState};
 ghost use Rattle.msrp_plan.specs.Runs.{IsRunStart};
 ghost use Rattle.msrp_plan.specs.declared.rows.Row.{Row as TraceRow};
-ghost use Rattle.msrp_why.specs.Exercise.{AreTurnCounts, ends, is_entry, is_grant, is_in_tick, is_kept, is_other, is_past, is_queue, one_if};
+ghost use Rattle.msrp_why.specs.Exercise.{AreTurnCounts, ends, has_open, is_at, is_entry, is_grant, is_in_tick, is_kept, is_lock, is_met, is_opening, is_other, is_past, is_queue, is_unlock, one_if};
 ghost use Rattle.msrp_why.specs.FactLines.{is_job_of};
-ghost use Rattle.msrp_why.specs.Inside.Turns.{finishes_from};
+ghost use Rattle.msrp_why.specs.Inside.Turns.{finishes_from, nests_from};
 
 use crate::notes::Numbered;
 use crate::telling::{is_job_of, units_done};
 use msrp_core::CoreState;
 use msrp_levels::Levels;
-use msrp_plan::{JobId, Kind, Plan, Row};
+use msrp_plan::{JobId, Kind, Op, Plan, Row};
 
 /// How often the rows on a resource found what.
 #[derive(Clone, Copy, Debug)]
@@ -36,10 +36,16 @@ pub struct TurnCounts {
     pub finished: u32,
     /// Those that finished after their absolute deadline.
     pub late: u32,
+    /// Those that finished in the last tick before it.
+    pub at_deadline: u32,
     /// The turns in which the level of a core's head was not above its ceiling.
     pub kept: u32,
+    /// Those in which it was equal to the ceiling.
+    pub at_ceiling: u32,
     /// The turns in which a job preempted another.
     pub preempted: u32,
+    /// The rows that locked or requested a resource while their job had a section open.
+    pub nested: u32,
 }
 
 // One more, if so.
@@ -154,6 +160,32 @@ fn is_past(plan: &Plan, tick: u32, job: Option<JobId>) -> bool
     }
 }
 
+// Whether the tick ends at the absolute deadline of the job.
+fn is_at(plan: &Plan, tick: u32, job: Option<JobId>) -> bool
+    ensures { ForSome job (λ j. is_job_of plan.now j ≡ true) → result ≡ is_at plan.now tick job }
+{
+    match job {
+        Some(known) if is_job_of(plan, known) => {
+            plan.job_key(known).deadline == u64::from(tick) + 1
+        }
+        _ => false,
+    }
+}
+
+// Whether the job finishes, and that after its absolute deadline.
+fn is_late(plan: &Plan, finishes: bool, row: Row) -> bool
+    ensures { ForSome row.job (λ j. is_job_of plan.now j ≡ true) → result ≡ (finishes && is_past plan.now row.tick row.job) }
+{
+    finishes && is_past(plan, row.tick, row.job)
+}
+
+// Whether the job finishes, and that in the last tick before it.
+fn is_in_time(plan: &Plan, finishes: bool, row: Row) -> bool
+    ensures { ForSome row.job (λ j. is_job_of plan.now j ≡ true) → result ≡ (finishes && is_at plan.now row.tick row.job) }
+{
+    finishes && is_at(plan, row.tick, row.job)
+}
+
 // Whether the level of the head isn't above the ceiling.
 fn is_kept(plan: &Plan, levels: &Levels<'_>, state: CoreState) -> bool
     requires levels { levels.now ≡ plan.now }
@@ -161,6 +193,71 @@ fn is_kept(plan: &Plan, levels: &Levels<'_>, state: CoreState) -> bool
 {
     match state.head {
         Some(head) if head.task.0 < plan.tasks() => levels.level(head.task) <= state.ceiling,
+        _ => false,
+    }
+}
+
+// Whether the level of the head is equal to the ceiling.
+fn is_met(plan: &Plan, levels: &Levels<'_>, state: CoreState) -> bool
+    requires levels { levels.now ≡ plan.now }
+    ensures { ForSome state.head (λ h. h.task.0 < length plan.now.tasks) → result ≡ is_met plan.now state.ceiling state.head }
+{
+    match state.head {
+        Some(head) if head.task.0 < plan.tasks() => levels.level(head.task) == state.ceiling,
+        _ => false,
+    }
+}
+
+fn is_lock(unit: Op) -> bool
+    ensures { result ≡ is_lock unit }
+{
+    match unit {
+        Op::Lock(_) => true,
+        Op::Run | Op::Unlock(_) => false,
+    }
+}
+
+fn is_unlock(unit: Op) -> bool
+    ensures { result ≡ is_unlock unit }
+{
+    match unit {
+        Op::Unlock(_) => true,
+        Op::Run | Op::Lock(_) => false,
+    }
+}
+
+// Whether the job has a section open once it has done so many units.
+fn has_open(plan: &Plan, job: JobId, done: u32) -> bool
+    requires { job.task.0 < length plan.now.tasks }
+    ensures { result ≡ has_open plan.now job done }
+{
+    let mut locks = 0u32;
+    let mut unlocks = 0u32;
+    for place in 0..done.min(plan.units(job.task)) {
+        let unit = plan.unit(job.task, place);
+        locks = one_if(locks, is_lock(unit));
+        unlocks = one_if(unlocks, is_unlock(unit));
+    }
+    unlocks < locks
+}
+
+fn is_opening(kind: Kind) -> bool
+    ensures { result ≡ is_opening kind }
+{
+    match kind {
+        Kind::Lock | Kind::Take | Kind::Queue => true,
+        _ => false,
+    }
+}
+
+// Whether the row opens a section while its job has one open.
+fn nests(plan: &Plan, state: CoreState, row: Row) -> bool
+    ensures { ForSome row.job (λ j. j.task.0 < length plan.now.tasks) → result ≡ nests_from plan.now state row.kind row.job }
+{
+    match row.job {
+        Some(job) if job.task.0 < plan.tasks() => {
+            is_opening(row.kind) && has_open(plan, job, units_done(state, job))
+        }
         _ => false,
     }
 }
@@ -180,14 +277,20 @@ impl TurnCounts {
     pub(crate) fn new() -> TurnCounts
         ensures finished { result.finished ≡ 0 }
         ensures late { result.late ≡ 0 }
+        ensures at_deadline { result.at_deadline ≡ 0 }
         ensures kept { result.kept ≡ 0 }
+        ensures at_ceiling { result.at_ceiling ≡ 0 }
         ensures preempted { result.preempted ≡ 0 }
+        ensures nested { result.nested ≡ 0 }
     {
         TurnCounts {
             finished: 0,
             late: 0,
+            at_deadline: 0,
             kept: 0,
+            at_ceiling: 0,
             preempted: 0,
+            nested: 0,
         }
     }
 
@@ -199,10 +302,12 @@ impl TurnCounts {
         // Read so that the plan is known to be an accepted one.
         let _accepted = plan.cores();
         let finishes = finishes(plan, state, row);
-        let past = is_past(plan, row.tick, row.job);
         self.finished = one_if(self.finished, finishes);
-        self.late = one_if(self.late, finishes && past);
+        self.late = one_if(self.late, is_late(plan, finishes, row));
+        self.at_deadline = one_if(self.at_deadline, is_in_time(plan, finishes, row));
         self.kept = one_if(self.kept, is_kept(plan, levels, state));
+        self.at_ceiling = one_if(self.at_ceiling, is_met(plan, levels, state));
         self.preempted = one_if(self.preempted, is_other(state.running, row.job));
+        self.nested = one_if(self.nested, nests(plan, state, row));
     }
 }

@@ -31,13 +31,28 @@ fn write_turns<W: Write>(out: &mut Sink<W>, counts: TurnCounts)
     );
     write_count(
         out,
+        b"\njobs finished in the last tick before it: ",
+        u64::from(counts.at_deadline),
+    );
+    write_count(
+        out,
         b"\nturns in which the level of the head was not above the ceiling: ",
         u64::from(counts.kept),
     );
     write_count(
         out,
+        b"\nturns in which it was equal to the ceiling: ",
+        u64::from(counts.at_ceiling),
+    );
+    write_count(
+        out,
         b"\nturns in which a job preempted another: ",
         u64::from(counts.preempted),
+    );
+    write_count(
+        out,
+        b"\nsections opened inside another: ",
+        u64::from(counts.nested),
     );
     out.add(b"\n");
 }

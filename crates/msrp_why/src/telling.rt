@@ -1,11 +1,12 @@
 //! A cause in plain sentences, a line each.
 ghost use Rattle.std.specs.Prelude.{◌≡◌, ◌<◌, ◌-◌, decimal, true, length};
+ghost use Rattle.std.specs.List.{flat_map};
 ghost use Rattle.std.specs.Option.{IsSome};
 ghost use Rattle.msrp_plan.specs.Bytes.{Wrote};
 ghost use Rattle.msrp_plan.specs.Plan.{release_tick};
 ghost use Rattle.msrp_trace.specs.TraceText.{is_named, row_text};
 ghost use Rattle.msrp_why.specs.WhyText.{cause_text, facts_text, missing_text};
-ghost use Rattle.msrp_why.specs.FactLines.{came_line, ceiling_line, due_lines, is_job_of, job_line, job_lines, owner_line, owner_lines, place_line, rows_line, rule_line, state_text, told_row, turn_line, units_done, units_line, units_lines, version_told, whom_line};
+ghost use Rattle.msrp_why.specs.FactLines.{came_line, ceiling_line, core_text, due_lines, is_job_of, job_line, job_lines, owner_line, owner_lines, place_line, rows_line, rule_line, state_text, told_row, turn_line, units_done, units_line, units_lines, version_told, whom_line};
 
 use crate::causes::Cause;
 use crate::notes::Notes;
@@ -237,13 +238,24 @@ fn write_owners<W: Write>(out: &mut Sink<W>, plan: &Plan, job: Option<JobId>)
     }
 }
 
-// The tick that is due at the row of that number.
-fn write_turn<W: Write>(out: &mut Sink<W>, plan: &Plan, number: u32)
-    ensures { Wrote W.contents out.old out.new (turn_line plan.now (number - 1)) }
+fn write_cores<W: Write>(out: &mut Sink<W>, cores: &[u32])
+    ensures { Wrote W.contents out.old out.new (flat_map core_text cores.now) }
+{
+    for i in 0..cores.len() {
+        out.add(b" ");
+        write_number(out, u64::from(cores[i]));
+    }
+}
+
+// The tick that is due at the row of that number, and the cores that may have a turn in it.
+fn write_turn<W: Write>(out: &mut Sink<W>, plan: &Plan, number: u32, turns: &[u32])
+    ensures { Wrote W.contents out.old out.new (turn_line plan.now (number - 1) turns.now) }
 {
     let cores = plan.cores();
     out.add(b"due here: a row of tick ");
     write_number(out, u64::from(number.saturating_sub(1) / cores));
+    out.add(b", of one of these cores:");
+    write_cores(out, turns);
     out.add(b"\n");
 }
 
@@ -262,7 +274,7 @@ fn write_facts<W: Write>(out: &mut Sink<W>, plan: &Plan, levels: &Levels<'_>, ca
 {
     match cause.fault.rule {
         Rule::A1 => {
-            write_turn(out, plan, cause.fault.row);
+            write_turn(out, plan, cause.fault.row, cause.turns.as_slice());
             write_before(out, plan, cause.notes.last);
         }
         Rule::A2 => {

@@ -1,8 +1,17 @@
 use Rattle.msrp_text.specs.Reading.{csv_records}
 use Rattle.msrp_trace.specs.Reading.{rows_of}
-use Rattle.msrp_view_engine.proofs.Explaining.{words-why}
+use Rattle.msrp_trace.proofs.ReadThrough.{opened}
+use Rattle.msrp_view_engine.proofs.Explaining.{refused-explained, unopened-judged}
 use Rattle.msrp_view_engine.proofs.why.explain_all.Goals as goal
 
-pub returns-clause-why : goal.returns-clause-why
-returns-clause-why g c = λ bytes known.
-    words-why c.args.plan.now (rows_of c.args.plan.now (csv_records bytes)) c.in_ok-found.found c.words_on.result (c.in_ok-found.ensures.found bytes known) c.words_on.ensures.found c.words_on.ensures.text c.words_on.ensures.memory
+pub returns-in-Err-clause-explained : goal.returns-in-Err-clause-explained
+returns-in-Err-clause-explained g c = λ bytes known.
+    let records = csv_records bytes in
+    let judged = unopened-judged g.T.Read.remaining c.args.plan.now records c.in-Err.unopened.error (c.in-Err.ensures.opens bytes known) in
+    refused-explained c.args.plan.now records (rows_of c.args.plan.now records) c.in-Err.unopened.error _ c.words_on_refusal.result judged (c.in-Err.ensures.refused bytes known) c.words_on_refusal.ensures.found c.words_on_refusal.ensures.text c.words_on_refusal.ensures.refused c.words_on_refusal.ensures.fault
+
+pub returns-clause-explained : goal.returns-clause-explained
+returns-clause-explained g c = λ bytes known.
+    let records = csv_records bytes in
+    let begun = opened g.T.Read.remaining c.args.plan.now records c.in-Ok.rows (c.in-Ok.ensures.opens bytes known) in
+    c.explain_rows-words.ensures.explained records (rows_of c.args.plan.now records) begun (c.in-Ok.ensures.stands bytes known)

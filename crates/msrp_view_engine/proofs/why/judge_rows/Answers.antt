@@ -1,28 +1,35 @@
-use Rattle.std.proofs.Common.{rules, ◌≡◌, ◌++◌, ◌∷◌, [], ◌+◌, ◌<◌, ◌*◌, Ok, Err, length, refl, ap, sym, subst, ◌∙◌, inr, length-append}
+use Rattle.std.proofs.Common.{rules, ◌≡◌, ◌++◌, ◌∷◌, [], ◌+◌, ◌<◌, ◌*◌, Ok, Err, IfErr, length, refl, ap, sym, subst, ◌∙◌, length-append}
 use Rattle.msrp_audit.specs.Audits.{answer_of}
 use Rattle.msrp_plan.specs.Plan.{PlanModel}
 use Rattle.msrp_plan.specs.Verdict.{fault_in, verdict}
-use Rattle.msrp_faults.specs.Outcomes.{trace_fault_of}
+use Rattle.msrp_trace.specs.Readers.{StandsBehind}
 use Rattle.msrp_trace.proofs.ReadThrough.{none-read, read-row}
-use Rattle.msrp_view_engine.proofs.Explaining.{cause-found, end-found, refusal-why}
-use Rattle.msrp_engine.proofs.Judging.{fewer-left, refusal-found, turn-left}
+use Rattle.msrp_view_engine.proofs.Explaining.{cause-found, end-found, refusal-judged}
+use Rattle.msrp_engine.proofs.Judging.{fewer-left, turn-left}
 use Rattle.msrp_view_engine.proofs.why.judge_rows.Goals as goal
 
 pub loop-notes-init : goal.loop-notes-init
-loop-notes-init g c = ([], c.requires.plan, c.requires.fed, refl, λ told known. none-read told _ known, c.requires.noted)
+loop-notes-init g c = ([], c.requires.plan, c.requires.fed, refl, λ told known. none-read told _ known, c.requires.noted, λ records stands. stands)
 
 pub returns-in_err-row-clause-found : goal.returns-in_err-row-clause-found
 returns-in_err-row-clause-found g c = λ told known.
     let i = c.loop-notes.invariant in
-    let gives : c.from_residual.result ≡ Err (trace_fault_of c.in_err-row.field-0.0) = search rules in
-    refusal-why c.args.plan.now told (trace_fault_of c.in_err-row.field-0.0) c.from_residual.result gives
-    (refusal-found c.args.plan.now told i.0 _ _ c.next_foreseen.result c.in_err-row.field-0.0 _ (i.4 told known) c.next_foreseen.ensures.next (cc) i.3 refl)
+    let gives : c.from_residual.result ≡ Err c.in_err-row.field-0.0 = search rules in
+    refusal-judged c.args.plan.now told i.0 _ _ c.next_foreseen.result c.in_err-row.field-0.0 _ (i.4 told known) c.next_foreseen.ensures.next (cc) i.3 gives
+
+pub returns-in_err-row-clause-stands : goal.returns-in_err-row-clause-stands
+returns-in_err-row-clause-stands g c = λ records stands.
+    let i = c.loop-notes.invariant in
+    let gives : c.from_residual.result ≡ Err c.in_err-row.field-0.0 = search rules in
+    let answered : c.next_foreseen.result ≡ Err c.in_err-row.field-0.0 = cc in
+    let behind = subst (λ r. StandsBehind g.T.Read.remaining records r c.next_foreseen.new.self) answered (c.next_foreseen.ensures.stands records (i.6 records stands)) in
+    subst (λ r. IfErr r (λ error. StandsBehind g.T.Read.remaining records (Err error) c.next_foreseen.new.self)) (sym gives) behind
 
 pub returns-in-Err-clause-found : goal.returns-in-Err-clause-found
 returns-in-Err-clause-found g c = λ told known.
     let i = c.loop-notes.invariant in
     let more = read-row told i.0 _ _ c.next_foreseen.result c.in-Some.row (i.4 told known) c.next_foreseen.ensures.next (c.in_ok-row.was ∙ ap (λ x. Ok x) c.in-Some.is) in
-    inr (inr (cause-found c.args.plan.now told i.0 c.in-Some.row _ c.in-Err.cause more (c.in-Err.ensures.cause i.0 i.2 i.3 i.5)))
+    cause-found c.args.plan.now told i.0 c.in-Some.row _ c.in-Err.cause more (c.in-Err.ensures.cause i.0 i.2 i.3 i.5)
 
 pub loop-notes-smaller : goal.loop-notes-smaller
 loop-notes-smaller g c =
@@ -44,9 +51,10 @@ loop-notes-preserved g c =
       c.in_default-feed.ensures.good i.0 i.2,
       λ told known. read-row told i.0 _ _ c.next_foreseen.result c.in-Some.row (i.4 told known) c.next_foreseen.ensures.next (c.in_ok-row.was ∙ ap (λ x. Ok x) c.in-Some.is),
       c.in_default-feed.ensures.noted i.0 i.2 i.5,
+      λ records stands. subst (λ r. StandsBehind g.T.Read.remaining records r c.next_foreseen.new.self) (c.in_ok-row.was ∙ ap (λ x. Ok x) c.in-Some.is) (c.next_foreseen.ensures.stands records (i.6 records stands)),
     )
 
 pub returns-clause-found : goal.returns-clause-found
 returns-clause-found g c = λ told known.
     let i = c.loop-notes.invariant in
-    inr (inr (end-found c.args.plan.now told i.0 _ _ c.next_foreseen.result c.end.result c.loop-notes.notes (i.4 told known) c.next_foreseen.ensures.next (cc) i.3 (c.end.ensures i.0 i.2 ∙ ap (λ (p : PlanModel). answer_of (verdict p i.0)) i.1) i.5))
+    end-found c.args.plan.now told i.0 _ _ c.next_foreseen.result c.end.result c.loop-notes.notes (i.4 told known) c.next_foreseen.ensures.next (cc) i.3 (c.end.ensures i.0 i.2 ∙ ap (λ (p : PlanModel). answer_of (verdict p i.0)) i.1) i.5

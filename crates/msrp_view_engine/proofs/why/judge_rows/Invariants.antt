@@ -1,9 +1,9 @@
-use Rattle.std.proofs.Common.{◌≡◌, ◌*◌, ◌-◌, List, Some, None}
+use Rattle.std.proofs.Common.{◌≡◌, ◌*◌, ◌-◌, ℕ, List, Some, None}
 use Rattle.msrp_audit.specs.Audits.{HasFed}
 use Rattle.msrp_plan.specs.Verdict.{fault_in}
 use Rattle.msrp_plan.specs.declared.rows.Row.{Row}
 use Rattle.msrp_trace.specs.Reading.{Told}
-use Rattle.msrp_trace.specs.Readers.{told_left}
+use Rattle.msrp_trace.specs.Readers.{StandsIn, told_left}
 use Rattle.msrp_trace.proofs.ReadThrough.{IsReadTo}
 use Rattle.msrp_why.specs.Noted.{AreNoted}
 use Rattle.msrp_view_engine.proofs.why.judge_rows.Given as goal
@@ -16,6 +16,7 @@ invariant-loop-notes g l =
     × (fault_in l.plan rows ≡ None)
     × ((told : Told) → told_left g.T.Read.remaining l.fn.rows ≡ Some told → IsReadTo told rows (told_left g.T.Read.remaining l.rows))
     × AreNoted l.plan rows l.notes
+    × ((records : List (List (List ℕ))) → StandsIn g.T.Read.remaining records l.fn.rows → StandsIn g.T.Read.remaining records l.rows)
 
 abbrev pub decreases-loop-notes : goal.decreases-loop-notes
 decreases-loop-notes g l = l.auditor.plan.cores * l.auditor.plan.ticks - l.auditor.fed

@@ -21,7 +21,7 @@ pub returns-in-A5 : goal.returns-in-A5
 returns-in-A5 g c = subst (λ u. Wrote g.W.Write.contents c.args.out.now c.write_reply.new.out (facts_text c.args.plan.now c.args.cause.now u)) (sym c.in-A5.is) (wrote-more _ _ _ _ _ _ c.write_due-in-A5.ensures c.write_reply.ensures)
 
 pub returns-in-A1 : goal.returns-in-A1
-returns-in-A1 g c = subst (λ u. Wrote g.W.Write.contents c.args.out.now c.write_before.new.out (facts_text c.args.plan.now c.args.cause.now u)) (sym c.in-A1.is) (wrote-more _ _ _ _ _ _ c.write_turn.ensures c.write_before.ensures)
+returns-in-A1 g c = subst (λ u. Wrote g.W.Write.contents c.args.out.now c.write_before.new.out (facts_text c.args.plan.now c.args.cause.now u)) (sym c.in-A1.is) (wrote-more _ _ _ _ _ _ (rw c.as_slice.ensures.value at c.write_turn.ensures) c.write_before.ensures)
 
 pub returns-in-A6 : goal.returns-in-A6
 returns-in-A6 g c =

@@ -2,6 +2,7 @@ use Rattle.std.proofs.Common.{rules, ◌≡◌, ◌+◌, Err}
 use Rattle.msrp_text.proofs.Remaining.{gave-none, gave-one}
 use Rattle.msrp_trace.specs.Reading.{told_after}
 use Rattle.msrp_trace.proofs.Telling.{answers_end, answers_refusal, answers_row, left_rows, rows_left}
+use Rattle.msrp_trace.proofs.Standing.{error_behind, next_stands, refused_stands}
 use Rattle.msrp_trace.proofs.reading.TraceReader.read_next.Goals as goal
 
 pub returns-in-Ok-false-clause-next : goal.returns-in-Ok-false-clause-next
@@ -28,3 +29,18 @@ returns-clause-next g c = λ told h.
     let number : c.in-Some.number ≡ old.number + 1 = search rules in
     let after = rows_left (told_after old.version old.plan.now c.in-Some.number) old.stage _ next.0 c.requires next.2 in
     answers_row old.version old.plan.now old.number c.in-Some.number left.0 next.0 _ told c.numbered_row.result c.in_ok-row.row _ left.2 next.1 c.numbered_row.ensures c.in_ok-row.was number after
+
+pub returns-in_err-row-clause-stands : goal.returns-in_err-row-clause-stands
+returns-in_err-row-clause-stands g c = λ records stands.
+    let old = c.args.self.now in
+    let number : c.in-Some.number ≡ old.number + 1 = search rules in
+    let next = next_stands records old.number c.in-Some.number c.in-Ok-true.field-0 _ _ (c.in-Ok-true.ensures.next _ stands) c.in-Ok-true.field-0-test number in
+    let e : c.from_residual.result ≡ Err c.in_err-row.field-0.0 = search rules in
+    let refused = refused_stands records c.in-Some.number _ _ c.numbered_row.result c.in_err-row.field-0.0 _ c.numbered_row.ensures c.in_err-row.was next.1 in
+    error_behind _ records _ c.in_err-row.field-0.0 _ e refused
+
+pub returns-clause-stands : goal.returns-clause-stands
+returns-clause-stands g c = λ records stands.
+    let old = c.args.self.now in
+    let number : c.in-Some.number ≡ old.number + 1 = search rules in
+    (next_stands records old.number c.in-Some.number c.in-Ok-true.field-0 _ _ (c.in-Ok-true.ensures.next _ stands) c.in-Ok-true.field-0-test number).0

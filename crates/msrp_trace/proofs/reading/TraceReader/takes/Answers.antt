@@ -2,6 +2,7 @@ use Rattle.std.proofs.Common.{◌≡◌, ◌++◌, codes, [], None, sym, ap, ◌
 use Rattle.msrp_trace.specs.declared.line.RowLine.{RowLine}
 use Rattle.msrp_trace.proofs.MetRows.{met_row, row_begins, row_line}
 use Rattle.msrp_trace.proofs.ReadBack.{short_line, whole_line}
+use Rattle.msrp_trace.proofs.Standing.{line_stands}
 use Rattle.msrp_trace.proofs.reading.TraceReader.takes.Goals as goal
 
 pub returns-clause-taken : goal.returns-clause-taken
@@ -43,3 +44,15 @@ returns-then-not-meets-clause-comes g c = λ comes.
       | inl met ↦ inl (sym c.if-not-meets.true ∙ met)
       | inr failed ↦ inr failed
     ]
+
+pub returns-clause-stands : goal.returns-clause-stands
+returns-clause-stands g c = λ records stands.
+    let old = c.args.self.now in
+    let r = c.args.row.now in
+    let none : RowLine = record { row = None; line = []; job = record { job = None; text = [] } } in
+    let texts = c.requires.texts in
+    let rest = c.rest-rest.ensures none _ (texts.line none) in
+    let tick : c.tick-tick.result.now ≡ decimal r.tick = c.tick-tick.ensures ∙ ap decimal texts.tick in
+    let line = row_line old.version old.plan.now r c.tick-tick.result.now c.rest-rest.result.now tick (ap (λ t. t ++ codes "\n") (sym rest)) in
+    let plain = whole_line old.version old.plan.now r (c.tick-tick.result.now ++ c.rest-rest.result.now) c.requires.plan c.requires.whole line in
+    line_stands records old.number c.args.next _ _ _ (c.meets.ensures.taken c.if-not-meets.false plain.0) c.requires.number stands

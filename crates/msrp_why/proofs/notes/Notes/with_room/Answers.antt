@@ -16,5 +16,5 @@ returns c =
     let zero = c.new-2.ensures in
     record {
       resources = record { count = refl; last = refl; size = omega (arith, i.size, c.loop-res-test.false, c.loop-res.auto._res-end, c.resources-count.ensures.value); each = i.each };
-      turns = record { finished = zero.finished; late = zero.late; kept = zero.kept; preempted = zero.preempted };
+      turns = record { finished = zero.finished; late = zero.late; at_deadline = zero.at_deadline; kept = zero.kept; at_ceiling = zero.at_ceiling; preempted = zero.preempted; nested = zero.nested };
     }

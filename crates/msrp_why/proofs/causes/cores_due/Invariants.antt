@@ -1,0 +1,10 @@
+use Rattle.std.proofs.Common.{◌≡◌, ◌<◌, ◌≤◌, ◌*◌, List, None, filter, length}
+use Rattle.std.specs.List.{range_with_len}
+use Rattle.msrp_audit.specs.Audits.{HasFed, has_turn}
+use Rattle.msrp_plan.specs.declared.rows.Row.{Row}
+use Rattle.msrp_why.proofs.causes.cores_due.Given as goal
+
+abbrev pub invariant-loop-core : goal.invariant-loop-core
+invariant-loop-core l =
+    (length l.found.items ≤ l.core)
+    × ((rows : List Row) → HasFed l.auditor rows → l.auditor.fault ≡ None → length rows < l.plan.cores * l.plan.ticks → l.found.items ≡ filter (has_turn l.plan rows) (range_with_len 0 l.core))
