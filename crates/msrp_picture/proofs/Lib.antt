@@ -4,3 +4,4 @@ pub mod Drawing
 pub mod Stretches
 pub mod TaskRows
 pub mod Depths
+pub mod Marking

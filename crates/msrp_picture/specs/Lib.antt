@@ -1,6 +1,7 @@
 pub mod Windows
 pub mod Standings
 pub mod Cells
+pub mod Events
 pub mod Shown
 pub mod Lines
 pub mod Picture

@@ -6,13 +6,14 @@ use Rattle.msrp_plan.specs.Logs.{is_of, log_of}
 use Rattle.msrp_plan.specs.Plan.{PlanModel}
 use Rattle.msrp_plan.specs.declared.rows.Row.{Row}
 use Rattle.msrp_picture.specs.Cells.{mark, no_mark, row_cell, standing_cell, tick_cell}
+use Rattle.msrp_picture.specs.Events.{event_cells}
 use Rattle.msrp_picture.specs.Shown.{goes_on_in}
 use Rattle.msrp_picture.specs.Standings.{standings}
 use Rattle.msrp_picture.specs.Windows.{rows_between}
 use Rattle.msrp_picture.specs.declared.cells.Aspect.{Aspect}
 use Rattle.msrp_picture.specs.declared.cells.Aspect.TheVariants.{Who, What}
 use Rattle.msrp_picture.specs.declared.lines.Line.{Line}
-use Rattle.msrp_picture.specs.declared.lines.Line.TheVariants.{Ticks, Core, Mark, Queue}
+use Rattle.msrp_picture.specs.declared.lines.Line.TheVariants.{Ticks, Core, Mark, Events, Queue}
 use Rattle.msrp_picture.specs.declared.windows.TheConstants.{LINE_TICKS}
 use Rattle.msrp_picture.specs.declared.windows.Window.{Window}
 
@@ -22,10 +23,10 @@ abbrev pub is_marked : PlanModel → List Row → Option Row → Window → ℕ 
 is_marked plan rows None w c = false
 is_marked plan rows (Some r) w c = is_of c r && goes_on_in plan rows w
 
--- such a core has a line more for the mark
+-- such a core has a line more for the mark, right below its rows
 abbrev pub core_lines : PlanModel → List Row → Option Row → Window → ℕ → List Line
 core_lines plan rows broken w c =
-    Core (record { 0 = c }) Who ∷ Core (record { 0 = c }) What ∷ (if is_marked plan rows broken w c then Mark (record { 0 = c }) ∷ [] else [])
+    Core (record { 0 = c }) Who ∷ Core (record { 0 = c }) What ∷ ((if is_marked plan rows broken w c then Mark (record { 0 = c }) ∷ [] else []) ++ (Events (record { 0 = c }) ∷ []))
 
 abbrev pub queue_lines : ℕ → List Line
 queue_lines g = Queue (record { 0 = g }) Who ∷ Queue (record { 0 = g }) What ∷ []
@@ -63,6 +64,7 @@ abbrev pub cells : PlanModel → List Row → Option Row → Window → Line →
 cells plan rows broken w Ticks = tick_cells w
 cells plan rows broken w (Core c aspect) = core_cells plan rows broken w c.0 aspect
 cells plan rows broken w (Mark c) = mark_cells plan rows w c.0
+cells plan rows broken w (Events c) = event_cells plan w c.0
 cells plan rows broken w (Queue g aspect) = queue_cells plan rows w g.0 aspect
 
 -- ---- their labels
@@ -71,5 +73,6 @@ name_of plan Ticks = codes "tick"
 name_of plan (Core c Who) = codes "core " ++ decimal c.0
 name_of plan (Core c What) = []
 name_of plan (Mark c) = []
+name_of plan (Events c) = codes "  released, due"
 name_of plan (Queue g Who) = slice_index_or plan.resources g.0 []
 name_of plan (Queue g What) = codes "  waiting"

@@ -7,6 +7,7 @@ mod arrows;
 mod blocks;
 mod cells;
 mod elements;
+mod events;
 mod figures;
 mod jobs;
 mod lines;

@@ -8,6 +8,7 @@ ghost use Rattle.msrp_picture.specs.Cells.{no_mark, row_cell, standing_cell};
 ghost use Rattle.msrp_picture.specs.Windows.{IsWindow};
 
 use crate::cells::{Aspect, mark, no_mark, row_cell, standing_cell, tick_cell};
+use crate::events::event_cells;
 use crate::queues::{Standing, standings};
 use crate::shown::Shown;
 use crate::windows::{LINE_TICKS, Window, rows_between};
@@ -24,6 +25,8 @@ pub enum Line {
     Core(CoreId, Aspect),
     /// The mark below a core's row that breaks a rule.
     Mark(CoreId),
+    /// The releases and absolute deadlines of a core's jobs.
+    Events(CoreId),
     /// A global resource.
     Queue(ResId, Aspect),
 }
@@ -78,6 +81,7 @@ fn push_core(
     if is_marked(plan, shown, window, core) {
         lines.push(Line::Mark(core))?;
     }
+    lines.push(Line::Events(core))?;
     Ok(())
 }
 
@@ -228,6 +232,7 @@ pub(crate) fn cells_of(
         Line::Ticks => tick_cells(alloc, window),
         Line::Core(core, aspect) => core_cells(alloc, plan, shown, core, aspect, window),
         Line::Mark(core) => mark_cells(alloc, plan, shown, core, window),
+        Line::Events(core) => event_cells(alloc, plan, window, core),
         Line::Queue(res, aspect) => queue_cells(alloc, plan, shown.rows, res, aspect, window),
     }
 }

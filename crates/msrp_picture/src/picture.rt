@@ -27,7 +27,7 @@ fn spaces() -> &'static [u8]
 fn signs() -> &'static [u8]
     ensures { result.now ≡ signs_text }
 {
-    b"= works  ( locks  ) unlocks  [ gets  ] releases  ? joins a queue  ~ spins  . idle  ! breaks a rule\nof a resource: the first in its queue after the tick, and how many wait behind it\n"
+    b"= works  ( locks  ) unlocks  [ gets  ] releases  ? joins a queue  ~ spins\n. idle  ! breaks a rule  ^ a release  v an absolute deadline  X both\nof a resource: the first in its queue after the tick, how many wait behind it\n"
 }
 
 pub(crate) fn add(text: &mut Vec<u8>, part: &[u8]) -> Result<(), Memory>
@@ -149,6 +149,7 @@ fn add_label_of(text: &mut Vec<u8>, plan: &Plan, line: Line) -> Result<(), Memor
             add_label(text, b"core ", digits.format(core.0).as_bytes())
         }
         Line::Core(_, Aspect::What) | Line::Mark(_) => add_label(text, b"", b""),
+        Line::Events(_) => add_label(text, b"  released, due", b""),
         Line::Queue(res, Aspect::Who) => add_label(text, b"", res_name(plan, res)),
         Line::Queue(_, Aspect::What) => add_label(text, b"  waiting", b""),
     }

@@ -21,16 +21,16 @@ const FAULTY: &[u8] =
     b"msrp-trace,1,2,6\n0,0,take,a,0,g\n0,1,queue,b,0,g\n1,0,run,a,0,-\n1,1,grant,b,0,g\n2,0,release,a,0,g\n";
 
 const LEGEND: &str =
-    "\na: a on core 0\nb: b on core 1\n= works  ( locks  ) unlocks  [ gets  ] releases  ? joins a queue  ~ spins  . idle  ! breaks a rule\nof a resource: the first in its queue after the tick, and how many wait behind it\n";
+    "\na: a on core 0\nb: b on core 1\n= works  ( locks  ) unlocks  [ gets  ] releases  ? joins a queue  ~ spins\n. idle  ! breaks a rule  ^ a release  v an absolute deadline  X both\nof a resource: the first in its queue after the tick, how many wait behind it\n";
 
 const WHOLE: &str =
-    "good\nticks 0 to 5 of 6\n\ntick              0----+\ncore 0            aaa...\n                  [=]...\ncore 1            bbbbb.\n                  ?~[=].\ng                 aabb..\n  waiting         11....\n";
+    "good\nticks 0 to 5 of 6\n\ntick              0----+\ncore 0            aaa...\n                  [=]...\n  released, due   ^.....\ncore 1            bbbbb.\n                  ?~[=].\n  released, due   ^.....\ng                 aabb..\n  waiting         11....\n";
 
 const BROKEN: &str =
-    "fault,4,A5\nticks 0 to 5 of 6, the fault in tick 1\n\ntick              0----+\ncore 0            aa\n                  [=\ncore 1            bb\n                  ?[\n                   !\ng                 aa\n  waiting         11\n";
+    "fault,4,A5\nticks 0 to 5 of 6, the fault in tick 1\n\ntick              0----+\ncore 0            aa\n                  [=\n  released, due   ^.....\ncore 1            bb\n                  ?[\n                   !\n  released, due   ^.....\ng                 aa\n  waiting         11\n";
 
 const LATER: &str =
-    "good\nticks 2 to 4 of 6\n\ntick              ---\ncore 0            a..\n                  ]..\ncore 1            bbb\n                  [=]\ng                 bb.\n  waiting         ...\n";
+    "good\nticks 2 to 4 of 6\n\ntick              ---\ncore 0            a..\n                  ]..\n  released, due   ...\ncore 1            bbb\n                  [=]\n  released, due   ...\ng                 bb.\n  waiting         ...\n";
 
 const ALL: Asked = Asked {
     style: Style::Text,
