@@ -5,19 +5,20 @@ use Rattle.std.proofs.Math.Seq.{drop-cons}
 use Rattle.std.proofs.lemmas.List.{drop_all}
 use Rattle.msrp_plan.specs.declared.rows.Row.{Row}
 use Rattle.msrp_picture.specs.Blocks.{goes_on, last_tick}
+use Rattle.msrp_picture.specs.declared.cells.Aspect.{Aspect}
 
 pub drop-at : (rows : List Row) (i : ℕ) (r : Row) → i < length rows → r ≡ slice_index_or rows i r → drop i rows ≡ r ∷ drop (i + 1) rows
 drop-at rows i r within is = drop-cons rows i r within ∙ (ap (λ (x : Row). x ∷ drop (suc i) rows) (sym is) ∙ ap (λ (n : ℕ). r ∷ drop n rows) {x = suc i} {y = i + 1} (omega arith))
 
 -- it goes on with one row more, ends before a row, and ends with the last row
-pub goes-further : (r s : Row) (rest : List Row) (i : ℕ) → i < length rest → s ≡ slice_index_or rest i s → goes_on r s ≡ true → last_tick s (drop (i + 1) rest) ≡ last_tick r (drop i rest)
+pub goes-further : (a : Aspect) (r s : Row) (rest : List Row) (i : ℕ) → i < length rest → s ≡ slice_index_or rest i s → goes_on a r s ≡ true → last_tick a s (drop (i + 1) rest) ≡ last_tick a r (drop i rest)
 unfolding last_tick
-goes-further r s rest i within is e = sym (ap (last_tick r) (drop-at rest i s within is) ∙ ap (λ b. cond b (last_tick s (drop (i + 1) rest)) r.tick) e)
+goes-further a r s rest i within is e = sym (ap (last_tick a r) (drop-at rest i s within is) ∙ ap (λ b. cond b (last_tick a s (drop (i + 1) rest)) r.tick) e)
 
-pub ends-before : (r s : Row) (rest : List Row) (i : ℕ) → i < length rest → s ≡ slice_index_or rest i s → goes_on r s ≡ false → last_tick r (drop i rest) ≡ r.tick
+pub ends-before : (a : Aspect) (r s : Row) (rest : List Row) (i : ℕ) → i < length rest → s ≡ slice_index_or rest i s → goes_on a r s ≡ false → last_tick a r (drop i rest) ≡ r.tick
 unfolding last_tick
-ends-before r s rest i within is e = ap (last_tick r) (drop-at rest i s within is) ∙ ap (λ b. cond b (last_tick s (drop (i + 1) rest)) r.tick) e
+ends-before a r s rest i within is e = ap (last_tick a r) (drop-at rest i s within is) ∙ ap (λ b. cond b (last_tick a s (drop (i + 1) rest)) r.tick) e
 
-pub ends-with : (r : Row) (rest : List Row) (i : ℕ) → length rest ≤ i → last_tick r (drop i rest) ≡ r.tick
+pub ends-with : (a : Aspect) (r : Row) (rest : List Row) (i : ℕ) → length rest ≤ i → last_tick a r (drop i rest) ≡ r.tick
 unfolding last_tick
-ends-with r rest i past = ap (last_tick r) (drop_all i rest past)
+ends-with a r rest i past = ap (last_tick a r) (drop_all i rest past)
