@@ -1,6 +1,6 @@
 pub mod Growing
 pub mod Taking
 pub mod Drawing
-pub mod Stretches
+pub mod Joining
 pub mod TaskRows
 pub mod Depths

@@ -62,7 +62,7 @@ block_head w s =
 -- an area in the colour of a block and in its look, with what it tells and the words in it
 unfoldable pub block_text : PlanModel → Window → Span → List ℕ
 block_text plan w s =
-    block_head w s ++ title_text plan s s.job ++ codes "<rect class=\"" ++ colour s.job s.look ++ codes "\" width=\"100%\" height=\"100%\"/><rect width=\"100%\" height=\"100%\"/><text x=\"2\" y=\"1em\">"
+    block_head w s ++ title_text plan s s.job ++ codes "<rect class=\"" ++ colour s.job s.look ++ codes "\" width=\"100%\" height=\"100%\"/><rect width=\"100%\" height=\"100%\"/><text x=\"1\" y=\"1em\">"
     ++ word_text plan (left_of w s.end - left_of w s.first) s.job s.res s.look ++ codes "</text></svg>\n"
 
 -- ---- arrows

@@ -9,6 +9,7 @@ pub mod Places
 pub mod Titles
 pub mod Elements
 pub mod Seen
+pub mod Stretches
 pub mod Blocks
 pub mod Lives
 pub mod Jobs

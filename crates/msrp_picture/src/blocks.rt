@@ -1,170 +1,118 @@
-//! Blocks: the stretches of rows in which one job does the same, or has the turn.
-ghost use Rattle.std.specs.Prelude.{◌≡◌, ◌<◌, ◌++◌, slice_get, length, OnOk};
-ghost use Rattle.msrp_picture.specs.Blocks.{begins, block_at, blocks, first_block, goes_on, joins, last_tick, look_of, res_of, row_before, span_of};
-ghost use Rattle.msrp_picture.specs.declared.cells.Aspect.TheVariants.{Who};
+//! Blocks: the stretches of rows in which one job has the turn of a core, or does the same.
+ghost use Rattle.std.specs.Prelude.{◌≡◌, ◌++◌, [], filter_map, IfOk, OnOk};
+ghost use Rattle.std.specs.List.{cons_option};
+ghost use Rattle.msrp_picture.specs.Blocks.{blocks, deed_of, look_of, res_of, span_of, turn_of};
 
-use crate::cells::Aspect;
-use crate::seen::push_seen;
+use crate::lives::is_job_of;
 use crate::shapes::{Look, Room, Shape, Span};
+use crate::stretches::push_merged;
 use crate::windows::Window;
-use msrp_plan::{Kind, Memory, ResId, Row};
+use msrp_plan::{CoreId, Memory, ResId, Row, TaskId};
+use std::alloc::Global;
 
-/// The lane of these rows: what it shows of them, and whether they stand before the first that breaks a rule.
+/// Whose rows are drawn in a lane.
+#[derive(Clone, Copy, Debug, PartialEq, Eq)]
+pub enum Owner {
+    /// Of a core, which job has the turn.
+    Core(CoreId),
+    /// Of a task, what its jobs do.
+    Task(TaskId),
+}
+
+/// A lane of rows, which stand before the first that breaks a rule or not.
 #[derive(Clone, Copy, Debug, PartialEq, Eq)]
 pub struct Lane {
+    pub owner: Owner,
     pub room: Room,
-    pub aspect: Aspect,
     pub is_legal: bool,
 }
 
-// Whether one job has the turn in a row and in the next tick.
-fn stays(row: &Row, next: &Row) -> bool
-    ensures { result ≡ goes_on Who row.now next.now }
+fn turn_of(core: CoreId, row: &Row) -> Option<Look>
+    ensures { result ≡ turn_of core.0 row.now }
 {
-    row.job == next.job && next.tick as u64 == row.tick as u64 + 1
-}
-
-// Whether a row goes on from one.
-fn goes_on(aspect: Aspect, row: &Row, next: &Row) -> bool
-    ensures { result ≡ goes_on aspect row.now next.now }
-{
-    match aspect {
-        Aspect::Who => stays(row, next),
-        Aspect::What => stays(row, next) && row.res == next.res && row.kind == next.kind,
-    }
-}
-
-fn joins(aspect: Aspect, row: Option<Row>, next: Option<Row>) -> bool
-    ensures { result ≡ joins aspect row next }
-{
-    match (row, next) {
-        (Some(row), Some(next)) => goes_on(aspect, &row, &next),
-        _ => false,
-    }
-}
-
-fn row_at(log: &[Row], place: usize) -> Option<Row>
-    ensures { result ≡ slice_get log.now place }
-{
-    log.get(place).copied()
-}
-
-fn row_before(log: &[Row], place: usize) -> Option<Row>
-    ensures { result ≡ row_before log.now place }
-{
-    if place == 0 {
-        None
+    if row.core == core && row.job.is_some() {
+        Some(Look::Turn)
     } else {
-        row_at(log, place - 1)
+        None
     }
 }
 
-// Whether a block begins at this place of a log.
-fn begins(aspect: Aspect, log: &[Row], place: usize) -> bool
-    ensures { result ≡ begins aspect log.now place }
+fn deed_of(task: TaskId, row: &Row) -> Option<Look>
+    ensures { result ≡ deed_of task.0 row.now }
 {
-    !joins(aspect, row_before(log, place), row_at(log, place))
-}
-
-// The last tick of the block that begins with a row, where these rows stand behind it.
-fn last_tick(aspect: Aspect, first: &Row, rest: &[Row]) -> u32
-    ensures { result ≡ last_tick aspect first.now rest.now }
-{
-    let mut last = *first;
-    for row in rest {
-        if goes_on(aspect, &last, row) {
-            last = *row;
-        } else {
-            return last.tick;
-        }
-    }
-    last.tick
-}
-
-fn look_of(aspect: Aspect, kind: Kind) -> Look
-    ensures { result ≡ look_of aspect kind }
-{
-    match aspect {
-        Aspect::Who => Look::Turn,
-        Aspect::What => Look::Does(kind),
+    if is_job_of(task, row.job) {
+        Some(Look::Does(row.kind))
+    } else {
+        None
     }
 }
 
-fn res_of(aspect: Aspect, res: Option<ResId>) -> Option<ResId>
-    ensures { result ≡ res_of aspect res }
+// What a lane shows of a row, if anything.
+fn look_of(owner: Owner, row: &Row) -> Option<Look>
+    ensures { result ≡ look_of owner row.now }
 {
-    match aspect {
-        Aspect::Who => None,
-        Aspect::What => res,
+    match owner {
+        Owner::Core(core) => turn_of(core, row),
+        Owner::Task(task) => deed_of(task, row),
     }
 }
 
-// The block that begins with a row and has this last tick.
-fn span_of(lane: Lane, row: &Row, last: u32) -> Span
-    ensures { result ≡ span_of lane row.now last }
+fn res_of(owner: Owner, row: &Row) -> Option<ResId>
+    ensures { result ≡ res_of owner row.now }
 {
-    Span {
-        first: row.tick as u64,
-        end: last as u64 + 1,
-        room: lane.room,
-        look: look_of(lane.aspect, row.kind),
-        is_legal: lane.is_legal,
-        job: row.job,
-        res: res_of(lane.aspect, row.res),
+    match owner {
+        Owner::Core(_) => None,
+        Owner::Task(_) => row.res,
     }
 }
 
-// The block of the first row; nothing where the core is idle.
-fn push_first_block(
+// The span of a row in a lane, if it is drawn there.
+fn span_of(lane: Lane, row: &Row) -> Option<Span>
+    ensures { result ≡ span_of lane row.now }
+{
+    match look_of(lane.owner, row) {
+        Some(look) => Some(Span {
+            first: row.tick as u64,
+            end: row.tick as u64 + 1,
+            room: lane.room,
+            look,
+            is_legal: lane.is_legal,
+            job: row.job,
+            res: res_of(lane.owner, row),
+        }),
+        None => None,
+    }
+}
+
+fn push_some(spans: &mut Vec<Span>, span: Option<Span>) -> Result<(), Memory>
+    ensures { OnOk result (spans.new.items ≡ spans.old.items ++ cons_option span []) }
+{
+    if let Some(span) = span {
+        spans.push(span)?;
+    }
+    Ok(())
+}
+
+fn spans_of(alloc: Global, lane: Lane, rows: &[Row]) -> Result<Vec<Span>, Memory>
+    ensures { IfOk result (λ spans. spans.items ≡ filter_map (span_of lane) rows.now) }
+{
+    let mut spans = Vec::new(alloc);
+    for row in rows {
+        push_some(&mut spans, span_of(lane, row))?;
+    }
+    Ok(spans)
+}
+
+/// Adds the blocks of rows in a lane.
+pub(crate) fn push_blocks(
+    alloc: Global,
     shapes: &mut Vec<Shape>,
     window: Window,
     lane: Lane,
     rows: &[Row],
 ) -> Result<(), Memory>
-    ensures { OnOk result (shapes.new.items ≡ shapes.old.items ++ first_block window lane rows.now) }
+    ensures { OnOk result (shapes.new.items ≡ shapes.old.items ++ blocks window lane rows.now) }
 {
-    match rows {
-        [] => Ok(()),
-        [row, rest @ ..] => {
-            if row.kind == Kind::Idle {
-                Ok(())
-            } else {
-                let last = last_tick(lane.aspect, row, rest);
-                push_seen(shapes, window, span_of(lane, row, last))
-            }
-        }
-    }
-}
-
-// The block that begins at a place, if one does.
-fn push_block_at(
-    shapes: &mut Vec<Shape>,
-    window: Window,
-    lane: Lane,
-    log: &[Row],
-    place: usize,
-) -> Result<(), Memory>
-    requires { place < length log.now }
-    ensures { OnOk result (shapes.new.items ≡ shapes.old.items ++ block_at window lane log.now place) }
-{
-    if begins(lane.aspect, log, place) {
-        push_first_block(shapes, window, lane, &log[place..])
-    } else {
-        Ok(())
-    }
-}
-
-/// Adds the blocks of a core's or a task's rows, where some of them is drawn.
-pub(crate) fn push_blocks(
-    shapes: &mut Vec<Shape>,
-    window: Window,
-    lane: Lane,
-    log: &[Row],
-) -> Result<(), Memory>
-    ensures { OnOk result (shapes.new.items ≡ shapes.old.items ++ blocks window lane log.now) }
-{
-    for place in 0..log.len() {
-        push_block_at(shapes, window, lane, log, place)?;
-    }
-    Ok(())
+    let spans = spans_of(alloc, lane, rows)?;
+    push_merged(shapes, window, &spans)
 }

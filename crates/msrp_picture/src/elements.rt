@@ -98,7 +98,7 @@ fn add_block(text: &mut Vec<u8>, plan: &Plan, window: Window, span: &Span) -> Re
     add_colour(text, span.look, span.job)?;
     add(
         text,
-        b"\" width=\"100%\" height=\"100%\"/><rect width=\"100%\" height=\"100%\"/><text x=\"2\" y=\"1em\">",
+        b"\" width=\"100%\" height=\"100%\"/><rect width=\"100%\" height=\"100%\"/><text x=\"1\" y=\"1em\">",
     )?;
     add_word(text, plan, width, span)?;
     add(text, b"</text></svg>\n")

@@ -20,6 +20,7 @@ mod sections;
 mod seen;
 mod shapes;
 mod shown;
+mod stretches;
 mod styles;
 mod svg;
 mod titles;

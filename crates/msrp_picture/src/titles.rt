@@ -12,10 +12,10 @@ use itoa::Buffer;
 use msrp_plan::{JobId, Kind, Memory, Plan, ResId, Rule, TaskId};
 
 /// The room of a sign in a block.
-pub const SIGN_ROOM: u64 = 10;
+pub const SIGN_ROOM: u64 = 8;
 
 /// The room of a digit.
-pub const DIGIT_WIDTH: u64 = 7;
+pub const DIGIT_WIDTH: u64 = 6;
 
 // The word of a kind.
 #[tactic(auto, unfolding(crate::specs::Kinds::kind_text))]
