@@ -1,12 +1,11 @@
 -- How far a stretch goes.
-use Rattle.std.proofs.Common.{◌≡◌, ℕ, suc, ◌+◌, ◌<◌, ◌≤◌, Bool, true, false, cond, List, [], ◌∷◌, ◌++◌, length, drop, ap, sym, ◌∙◌, append-nil, arith}
+use Rattle.std.proofs.Common.{◌≡◌, ℕ, suc, ◌+◌, ◌<◌, ◌≤◌, true, false, cond, List, ◌∷◌, length, drop, ap, sym, ◌∙◌, append-nil, arith}
 use Rattle.std.specs.Prelude.{slice_index_or}
 use Rattle.std.specs.List.{flat_map}
 use Rattle.std.proofs.Math.Seq.{drop-cons}
 use Rattle.std.proofs.lemmas.List.{drop_all}
 use Rattle.msrp_picture.specs.Seen.{seen}
 use Rattle.msrp_picture.specs.Stretches.{goes_on, joined}
-use Rattle.msrp_picture.specs.declared.shapes.Shape.{Shape}
 use Rattle.msrp_picture.specs.declared.shapes.Span.{Span}
 use Rattle.msrp_picture.specs.declared.windows.Window.{Window}
 

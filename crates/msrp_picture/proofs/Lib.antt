@@ -4,3 +4,5 @@ pub mod Drawing
 pub mod Joining
 pub mod TaskRows
 pub mod Depths
+pub mod Apart
+pub mod Arrows

@@ -18,5 +18,6 @@ pub mod QueueLanes
 pub mod Lanes
 pub mod Marks
 pub mod Svg
+pub mod Laws
 pub mod Styles
 pub mod Inside

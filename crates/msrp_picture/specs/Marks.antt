@@ -1,5 +1,5 @@
 -- The frame of the row that breaks a rule, with the rule's name.
-use Rattle.std.specs.Prelude.{ℕ, List, [], ◌∷◌, ◌++◌, Bool, true, ◌&&◌, Option, Some, None, Ok, Err, if◌then◌else◌, nat_le, nat_lt, ◌+◌, ◌-◌, ⊤}
+use Rattle.std.specs.Prelude.{List, [], ◌∷◌, ◌++◌, Bool, true, ◌&&◌, Option, Some, None, Ok, Err, if◌then◌else◌, nat_le, nat_lt, ◌+◌, ◌-◌, ⊤}
 use Rattle.std.specs.declared.result.Result.{Result}
 use Rattle.msrp_plan.specs.Plan.{PlanModel}
 use Rattle.msrp_plan.specs.declared.faults.Fault.{Fault}

@@ -1,6 +1,6 @@
 -- What a shape tells where one points at it, and the words that stand in a block.
-use Rattle.std.specs.Prelude.{ℕ, List, [], ◌∷◌, ◌++◌, Bool, true, false, Option, Some, None, if◌then◌else◌, codes, decimal, length, nat_eq, nat_le, slice_index_or, ◌+◌, ◌-◌, ◌*◌}
-use Rattle.msrp_plan.specs.Plan.{PlanModel, task_at, task_of}
+use Rattle.std.specs.Prelude.{ℕ, List, [], ◌∷◌, ◌++◌, true, false, Option, Some, None, if◌then◌else◌, codes, decimal, length, nat_eq, nat_le, slice_index_or, ◌+◌, ◌-◌, ◌*◌}
+use Rattle.msrp_plan.specs.Plan.{PlanModel, task_of}
 use Rattle.msrp_plan.specs.declared.ids.JobId.{JobId}
 use Rattle.msrp_plan.specs.declared.ids.ResId.{ResId}
 use Rattle.msrp_plan.specs.declared.rows.Kind.{Kind}

@@ -1,7 +1,8 @@
 //! A trace of a plan as a picture, in text or in SVG.
 //!
 //! A plan, rows and the verdict on them in, and a text out ([`draw`]): `lines` and `picture` draw in text, and `svg` in SVG:
-//! there `lanes`, `blocks`, `jobs`, `sections`, `queue_lanes` and `marks` say which `shapes` there are, and `elements` writes each.
+//! there `lanes`, `blocks`, `jobs`, `sections`, `queue_lanes` and `marks` say which `shapes` there are, and `elements` writes each. [`laws`] are theorems about
+//! that list.
 #![tactic(auto)]
 
 mod blocks;
@@ -9,6 +10,7 @@ mod cells;
 mod elements;
 mod jobs;
 mod lanes;
+pub mod laws;
 mod lines;
 mod lives;
 mod marks;

@@ -1,5 +1,5 @@
 use Rattle.std.proofs.Common.{codes}
-use Rattle.msrp_picture.specs.Elements.{attribute, block_head}
+use Rattle.msrp_picture.specs.Elements.{block_head}
 use Rattle.msrp_picture.proofs.Growing.{grows, grows-last}
 use Rattle.msrp_picture.proofs.elements.add_block_head.Goals as goal
 

@@ -1,5 +1,5 @@
 use Rattle.std.proofs.Common.{codes}
-use Rattle.msrp_picture.specs.Elements.{attribute, note_text}
+use Rattle.msrp_picture.specs.Elements.{note_text}
 use Rattle.msrp_picture.proofs.Growing.{grows, grows-last}
 use Rattle.msrp_picture.proofs.elements.add_note.Goals as goal
 

@@ -1,4 +1,4 @@
-use Rattle.std.proofs.Common.{◌++◌, ◌∷◌, ◌≡◌, ℕ, List, [], ap, ◌∙◌, subst}
+use Rattle.std.proofs.Common.{◌++◌, List, ap, ◌∙◌}
 use Rattle.std.specs.List.{flat_map}
 use Rattle.msrp_picture.specs.QueueLanes.{queue_spans}
 use Rattle.msrp_picture.specs.Seen.{seen}

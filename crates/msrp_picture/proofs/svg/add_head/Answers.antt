@@ -1,5 +1,5 @@
 use Rattle.std.proofs.Common.{codes}
-use Rattle.msrp_picture.specs.Svg.{head_text, size_text}
+use Rattle.msrp_picture.specs.Svg.{head_text}
 use Rattle.msrp_picture.proofs.Growing.{grows, grows-last}
 use Rattle.msrp_picture.proofs.svg.add_head.Goals as goal
 
