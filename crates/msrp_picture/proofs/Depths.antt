@@ -5,7 +5,7 @@ use Rattle.std.proofs.lemmas.List.{drop_all, take_more}
 use Rattle.std.proofs.lemmas.List.Sums.{fold-append}
 use Rattle.msrp_plan.specs.declared.rows.Row.{Row}
 use Rattle.msrp_picture.specs.Sections.{enters, leaves, most_open, open_behind, open_with}
-use Rattle.msrp_picture.proofs.Stretches.{drop-at}
+use Rattle.msrp_picture.proofs.Joining.{drop-at}
 
 -- behind a row one more at most
 pub one-opens : (r : Row) (n : ℕ) → open_with r n ≤ n + 1

@@ -59,3 +59,8 @@ place a t l = omega arith
 
 pub grows-map : {X : Type 0} (f : ℕ → X) (a t : ℕ) (b c : List X) → a ≤ t → b ≡ map f (range_with_len a (t - a)) → c ≡ b ++ f t ∷ [] → c ≡ map f (range_with_len a (t + 1 - a))
 grows-map f a t b c l e h = h ∙ (ap (λ xs. xs ++ f t ∷ []) e ∙ (sym (map-range_with_len_more f a (t - a) t (place a t l)) ∙ ap (λ n. map f (range_with_len a n)) (sym (one-more a t l))))
+
+-- to what is the same
+pub ends-as : {X E : Type 0} (r : Result ⊤ E) (a b c : List X) → OnOk r (a ≡ b) → b ≡ c → OnOk r (a ≡ c)
+ends-as (Ok done) a b c e f = e ∙ f
+ends-as (Err error) a b c e f = e

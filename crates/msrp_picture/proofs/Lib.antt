@@ -1,7 +1,9 @@
 pub mod Growing
 pub mod Taking
 pub mod Drawing
-pub mod Stretches
+pub mod Joining
 pub mod TaskRows
 pub mod Depths
 pub mod Marking
+pub mod Apart
+pub mod Arrows

@@ -1,37 +1,40 @@
--- Blocks: the stretches of a core's rows in which one job does the same.
-use Rattle.std.specs.Prelude.{ℕ, List, [], ◌∷◌, Bool, false, ◌&&◌, ◌==◌, not, nat_eq, nat_lt, nat_le, if◌then◌else◌, Option, Some, None, filter, slice_get, ◌+◌, ◌-◌}
-use Rattle.msrp_picture.specs.Kinds.{same_kind}
-use Rattle.msrp_plan.specs.Actions.{same_res}
+-- Blocks: the stretches of rows in which one job has the turn of a core, or does the same.
+use Rattle.std.specs.Prelude.{ℕ, List, ◌&&◌, if◌then◌else◌, Option, Some, None, filter_map, is_some, option_map, ◌+◌}
+use Rattle.std.specs.List.{flat_map}
 use Rattle.msrp_plan.specs.Logs.{is_of}
-use Rattle.msrp_plan.specs.Runs.{same_choice}
+use Rattle.msrp_plan.specs.declared.ids.ResId.{ResId}
 use Rattle.msrp_plan.specs.declared.rows.Row.{Row}
+use Rattle.msrp_picture.specs.Inside.TaskRows.{is_job_of}
+use Rattle.msrp_picture.specs.Seen.{seen}
+use Rattle.msrp_picture.specs.Stretches.{merged}
+use Rattle.msrp_picture.specs.declared.blocks.Lane.{Lane}
+use Rattle.msrp_picture.specs.declared.blocks.Owner.{Owner}
+use Rattle.msrp_picture.specs.declared.blocks.Owner.TheVariants.{Core, Task}
+use Rattle.msrp_picture.specs.declared.shapes.Look.{Look}
+use Rattle.msrp_picture.specs.declared.shapes.Look.TheVariants.{Does, Turn}
+use Rattle.msrp_picture.specs.declared.shapes.Shape.{Shape}
+use Rattle.msrp_picture.specs.declared.shapes.Span.{Span}
 use Rattle.msrp_picture.specs.declared.windows.Window.{Window}
 
--- the row is of a tick that is drawn
-abbrev pub is_in : Window → Row → Bool
-is_in w r = nat_le w.from r.tick && nat_lt r.tick w.to
+-- of a core, which job has the turn; of a task, what its jobs do
+abbrev pub turn_of : ℕ → Row → Option Look
+turn_of c r = if is_of c r && is_some r.job then Some Turn else None
 
--- the rows of a core in the ticks that are drawn, in their order
-abbrev pub log_in : Window → ℕ → List Row → List Row
-log_in w c rows = filter (λ r. is_of c r && is_in w r) rows
+abbrev pub deed_of : ℕ → Row → Option Look
+deed_of t r = if is_job_of t r.job then Some (Does r.kind) else None
 
--- a row goes on from one: the same job does the same on the same resource, a tick later
-abbrev pub goes_on : Row → Row → Bool
-goes_on r s = same_choice r.job s.job && (same_res r.res s.res && (same_kind r.kind s.kind && (s.tick == r.tick + 1)))
+abbrev pub look_of : Owner → Row → Option Look
+look_of (Core c) r = turn_of c.0 r
+look_of (Task t) r = deed_of t.0 r
 
-abbrev pub joins : Option Row → Option Row → Bool
-joins (Some r) (Some s) = goes_on r s
-joins _ _ = false
+abbrev pub res_of : Owner → Row → Option ResId
+res_of (Core c) r = None
+res_of (Task t) r = r.res
 
--- the row that stands before a place of a log, if one does
-abbrev pub row_before : List Row → ℕ → Option Row
-row_before log i = if nat_eq i 0 then None else slice_get log (i - 1)
+-- the tick of a row, if the row is drawn in the lane
+abbrev pub span_of : Lane → Row → Option Span
+span_of lane r = option_map (λ look. record { first = r.tick; end = r.tick + 1; room = lane.room; look = look; is_legal = lane.is_legal; job = r.job; res = res_of lane.owner r }) (look_of lane.owner r)
 
--- a block begins at this place of a log: the row there doesn't go on from the one before it
-abbrev pub begins : List Row → ℕ → Bool
-begins log i = not (joins (row_before log i) (slice_get log i))
-
--- the last tick of the block that begins with a row, where these rows stand behind it
-unfoldable pub last_tick : Row → List Row → ℕ
-last_tick r [] = r.tick
-last_tick r (s ∷ rest) = if goes_on r s then last_tick s rest else r.tick
+-- a block for each longest stretch of them
+abbrev pub blocks : Window → Lane → List Row → List Shape
+blocks w lane rows = flat_map (seen w) (merged (filter_map (span_of lane) rows))

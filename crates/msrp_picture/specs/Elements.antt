@@ -1,47 +1,108 @@
--- Elements of SVG (W3C 2011), as text. Lengths are in units of the picture.
-use Rattle.std.specs.Prelude.{ℕ, List, ◌++◌, codes, decimal}
-use Rattle.msrp_picture.specs.declared.elements.Area.{Area}
+-- Shapes as elements of SVG (W3C 2011), as text. Lengths are in units of the picture.
+use Rattle.std.specs.Prelude.{ℕ, List, [], ◌∷◌, ◌++◌, Bool, true, false, Option, Some, None, codes, decimal, slice_index_or, ◌-◌, ◌%◌}
+use Rattle.msrp_plan.specs.Plan.{PlanModel, task_at}
+use Rattle.msrp_plan.specs.declared.ids.CoreId.{CoreId}
+use Rattle.msrp_plan.specs.declared.ids.JobId.{JobId}
+use Rattle.msrp_picture.specs.Cells.{letter}
+use Rattle.msrp_picture.specs.Kinds.{kind_text}
+use Rattle.msrp_picture.specs.Picture.{rule_text}
+use Rattle.msrp_picture.specs.Places.{left_of}
+use Rattle.msrp_picture.specs.Titles.{event_title, moment_text, title_text, word_text}
+use Rattle.msrp_picture.specs.declared.elements.TheConstants.{HUES}
+use Rattle.msrp_picture.specs.declared.places.TheConstants.{LEFT}
+use Rattle.msrp_picture.specs.declared.shapes.Event.{Event}
+use Rattle.msrp_picture.specs.declared.shapes.Look.{Look}
+use Rattle.msrp_picture.specs.declared.shapes.Look.TheVariants.{Lane, Does, Turn, Holds, First, Active, Late, Breaks}
+use Rattle.msrp_picture.specs.declared.shapes.Note.{Note}
+use Rattle.msrp_picture.specs.declared.shapes.Shape.{Shape}
+use Rattle.msrp_picture.specs.declared.shapes.Shape.TheVariants.{Block, Arrow, Text}
+use Rattle.msrp_picture.specs.declared.shapes.Span.{Span}
+use Rattle.msrp_picture.specs.declared.shapes.Words.{Words}
+use Rattle.msrp_picture.specs.declared.shapes.Words.TheVariants.{Core, Task, Level, Res, Tick, Broken}
+use Rattle.msrp_picture.specs.declared.windows.Window.{Window}
 
 -- a length by its name
 unfoldable pub attribute : List ℕ → ℕ → List ℕ
 attribute name n = codes " " ++ name ++ codes "=\"" ++ decimal n ++ codes "\""
 
--- a rectangle of a class
-unfoldable pub rect_text : List ℕ → Area → List ℕ
-rect_text class area = codes "<rect class=\"" ++ class ++ codes "\"" ++ attribute (codes "x") area.x ++ attribute (codes "y") area.y ++ attribute (codes "width") area.width ++ attribute (codes "height") area.height ++ codes "/>"
+-- ---- blocks
+-- the class that makes a block look so
+unfoldable pub look_class : Look → List ℕ
+look_class Lane = codes "lane"
+look_class (Does kind) = kind_text kind
+look_class Turn = codes "turn"
+look_class Holds = codes "holds"
+look_class (First n) = codes "first"
+look_class (Active finished) = codes "active"
+look_class Late = codes "late"
+look_class (Breaks rule) = codes "breaks"
 
--- what stands before a text of a class, which begins at a point
-unfoldable pub text_head : List ℕ → ℕ → ℕ → List ℕ
-text_head class x y = codes "<text class=\"" ++ class ++ codes "\"" ++ attribute (codes "x") x ++ attribute (codes "y") y ++ codes ">"
+-- and one more behind a row that breaks a rule
+unfoldable pub shade : Bool → List ℕ
+shade true = []
+shade false = codes " after"
 
--- what stands behind it
-unfoldable pub text_end : List ℕ
-text_end = codes "</text>\n"
+-- the class that gives a job the colour of its task
+abbrev pub hue : Option JobId → List ℕ
+hue None = []
+hue (Some j) = letter (j.task.0 % HUES) ∷ []
 
--- a whole text
-unfoldable pub text_text : List ℕ → ℕ → ℕ → List ℕ → List ℕ
-text_text class x y text = text_head class x y ++ text ++ text_end
+abbrev pub colour : Option JobId → Look → List ℕ
+colour job (Does kind) = hue job
+colour job Turn = hue job
+colour job (First n) = hue job
+colour job (Active finished) = hue job
+colour job _ = []
 
--- what stands before what a symbol of a class tells, at a point
-unfoldable pub use_head : List ℕ → List ℕ → ℕ → ℕ → List ℕ
-use_head symbol class x y = codes "<use href=\"#" ++ symbol ++ codes "\" class=\"" ++ class ++ codes "\"" ++ attribute (codes "x") x ++ attribute (codes "y") y ++ codes ">"
+unfoldable pub block_head : Window → Span → List ℕ
+block_head w s =
+    codes "<svg class=\"" ++ look_class s.look ++ shade s.is_legal ++ codes "\"" ++ attribute (codes "x") (left_of w s.first) ++ attribute (codes "y") s.room.top
+    ++ attribute (codes "width") (left_of w s.end - left_of w s.first) ++ attribute (codes "height") s.room.height ++ codes ">"
 
--- what stands behind it
-unfoldable pub use_end : List ℕ
-use_end = codes "</use>\n"
+-- an area in the colour of a block and in its look, with what it tells and the words in it
+unfoldable pub block_text : PlanModel → Window → Span → List ℕ
+block_text plan w s =
+    block_head w s ++ title_text plan s s.job ++ codes "<rect class=\"" ++ colour s.job s.look ++ codes "\" width=\"100%\" height=\"100%\"/><rect width=\"100%\" height=\"100%\"/><text x=\"1\" y=\"1em\">"
+    ++ word_text plan (left_of w s.end - left_of w s.first) s.job s.res s.look ++ codes "</text></svg>\n"
 
--- what stands before elements that have their place from a point
-unfoldable pub place_head : ℕ → ℕ → List ℕ
-place_head x y = codes "<g transform=\"translate(" ++ decimal x ++ codes "," ++ decimal y ++ codes ")\">\n"
+-- ---- arrows
+unfoldable pub arrow_text : PlanModel → Window → Event → List ℕ
+arrow_text plan w e =
+    codes "<use href=\"#" ++ moment_text e.moment ++ codes "\"" ++ attribute (codes "x") (left_of w e.tick) ++ attribute (codes "y") e.top ++ codes ">" ++ event_title plan e ++ codes "</use>\n"
 
--- what stands before elements that have their place in an area, outside of which nothing of them is drawn
-unfoldable pub clip_head : Area → List ℕ
-clip_head area = codes "<svg" ++ attribute (codes "x") area.x ++ attribute (codes "y") area.y ++ attribute (codes "width") area.width ++ attribute (codes "height") area.height ++ codes ">"
+-- ---- words
+unfoldable pub words_class : Words → List ℕ
+words_class (Tick t) = codes "tick"
+words_class (Broken rule t) = codes "rule"
+words_class (Level c n) = codes "level"
+words_class _ = codes "label"
 
--- what stands behind them
-unfoldable pub clip_end : List ℕ
-clip_end = codes "</svg>\n"
+-- those of a tick stand where it begins, and the others to the left of the lanes
+abbrev pub words_left : Window → Words → ℕ
+words_left w (Tick t) = left_of w t
+words_left w (Broken rule t) = left_of w t
+words_left w _ = LEFT - 8
 
--- what stands behind elements that stand together
-unfoldable pub group_end : List ℕ
-group_end = codes "</g>\n"
+unfoldable pub core_text : CoreId → List ℕ
+core_text c = codes "core " ++ decimal c.0
+
+unfoldable pub level_text : CoreId → ℕ → List ℕ
+level_text c n = core_text c ++ codes ", level " ++ decimal n
+
+abbrev pub words_text : PlanModel → Words → List ℕ
+words_text plan (Core c) = core_text c
+words_text plan (Task t) = (task_at plan t.0).name
+words_text plan (Level c n) = level_text c n
+words_text plan (Res g) = slice_index_or plan.resources g.0 []
+words_text plan (Tick t) = decimal t
+words_text plan (Broken rule t) = rule_text rule
+
+unfoldable pub note_text : PlanModel → Window → Note → List ℕ
+note_text plan w n =
+    codes "<text class=\"" ++ words_class n.words ++ codes "\"" ++ attribute (codes "x") (words_left w n.words) ++ attribute (codes "y") n.line ++ codes ">" ++ words_text plan n.words ++ codes "</text>\n"
+
+-- ---- all
+abbrev pub shape_text : PlanModel → Window → Shape → List ℕ
+shape_text plan w (Block s) = block_text plan w s
+shape_text plan w (Arrow e) = arrow_text plan w e
+shape_text plan w (Text n) = note_text plan w n

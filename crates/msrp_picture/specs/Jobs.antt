@@ -1,18 +1,36 @@
--- What is drawn of each job: its arrows, and the line of its life.
-use Rattle.std.specs.Prelude.{ℕ, List, ◌++◌, length}
+-- What is drawn of each job: the line of its life, red behind its absolute deadline, and arrows at its release and its deadline.
+use Rattle.std.specs.Prelude.{ℕ, List, ◌++◌, Some, None, true, length, ◌+◌}
 use Rattle.std.specs.List.{flat_map, range_with_len}
 use Rattle.msrp_plan.specs.Jobs.{job_at, jobs_of}
 use Rattle.msrp_plan.specs.Plan.{PlanModel}
+use Rattle.msrp_plan.specs.declared.ids.JobId.{JobId}
 use Rattle.msrp_plan.specs.declared.rows.Row.{Row}
-use Rattle.msrp_picture.specs.Arrows.{job_arrows}
-use Rattle.msrp_picture.specs.Lives.{life_of, life_text}
+use Rattle.msrp_picture.specs.Lives.{life_of}
+use Rattle.msrp_picture.specs.Seen.{met, seen}
+use Rattle.msrp_picture.specs.declared.lives.Life.{Life}
+use Rattle.msrp_picture.specs.declared.places.TheConstants.{ACTIVE_HEIGHT, ACTIVE_TOP, LATE_HEIGHT, TASK_HEIGHT}
+use Rattle.msrp_picture.specs.declared.shapes.Event.{Event}
+use Rattle.msrp_picture.specs.declared.shapes.Look.TheVariants.{Active, Late}
+use Rattle.msrp_picture.specs.declared.shapes.Moment.{Moment}
+use Rattle.msrp_picture.specs.declared.shapes.Moment.TheVariants.{Release, Deadline}
+use Rattle.msrp_picture.specs.declared.shapes.Room.{Room}
+use Rattle.msrp_picture.specs.declared.shapes.Shape.{Shape}
+use Rattle.msrp_picture.specs.declared.shapes.Span.{Span}
 use Rattle.msrp_picture.specs.declared.windows.Window.{Window}
 
-abbrev pub job_text : PlanModel → Window → List Row → ℕ → ℕ → List ℕ
-job_text plan w rows t k = job_arrows plan w t k ++ life_text plan w (life_of plan rows (job_at t k))
+-- a line in the lane of its task, under the blocks
+abbrev pub active_span : Room → Life → Span
+active_span room life = record { first = life.release; end = life.end; room = record { top = room.top + ACTIVE_TOP; height = ACTIVE_HEIGHT }; look = Active life.is_finished; is_legal = true; job = Some life.job; res = None }
 
-unfoldable pub task_jobs : PlanModel → Window → List Row → ℕ → List ℕ
-task_jobs plan w rows t = flat_map (job_text plan w rows t) (range_with_len 0 (length (jobs_of plan t)))
+-- and one below that lane
+abbrev pub late_span : Room → Life → Span
+late_span room life = record { first = life.due; end = life.end; room = record { top = room.top + TASK_HEIGHT; height = LATE_HEIGHT }; look = Late; is_legal = true; job = Some life.job; res = None }
 
-abbrev pub jobs_text : PlanModel → Window → List Row → List ℕ
-jobs_text plan w rows = flat_map (task_jobs plan w rows) (range_with_len 0 (length plan.tasks))
+abbrev pub event_of : Room → Moment → ℕ → JobId → Event
+event_of room moment t j = record { tick = t; top = room.top; moment = moment; job = j }
+
+abbrev pub life_shapes : Window → Room → Life → List Shape
+life_shapes w room life = seen w (active_span room life) ++ seen w (late_span room life) ++ met w (event_of room Release life.release life.job) ++ met w (event_of room Deadline life.due life.job)
+
+abbrev pub task_jobs : PlanModel → Window → Room → List Row → ℕ → List Shape
+task_jobs plan w room rows t = flat_map (λ k. life_shapes w room (life_of plan rows (job_at t k))) (range_with_len 0 (length (jobs_of plan t)))

@@ -1,35 +1,56 @@
--- Places in a picture in SVG, in its units: the lanes of the cores, below them those of the global resources, and the legend.
-use Rattle.std.specs.Prelude.{ℕ, length, max, ◌+◌, ◌-◌, ◌*◌, ◌/◌}
-use Rattle.msrp_plan.specs.Plan.{PlanModel}
+-- Places in a picture in SVG, in its units: the cores, each with its own lane and those of its tasks, and below them the lanes of the global resources.
+use Rattle.std.specs.Prelude.{ℕ, Bool, ◌&&◌, ◌||◌, ◌==◌, nat_lt, if◌then◌else◌, Option, Some, None, filter, length, max, min, ◌+◌, ◌-◌, ◌*◌, ◌/◌}
+use Rattle.std.specs.List.{range_with_len}
+use Rattle.msrp_plan.specs.Plan.{PlanModel, task_at}
+use Rattle.msrp_plan.specs.declared.ids.JobId.{JobId}
+use Rattle.msrp_plan.specs.declared.rows.Row.{Row}
 use Rattle.msrp_picture.specs.Lines.{global_resources}
-use Rattle.msrp_picture.specs.declared.elements.Area.{Area}
-use Rattle.msrp_picture.specs.declared.places.TheConstants.{BLOCK_TOP, LANE_PITCH, LEGEND_LINE, RES_PITCH, SECTION_LEVELS, SECTION_ROOM, TICK_WIDTH, TOP}
+use Rattle.msrp_picture.specs.declared.places.TheConstants.{CORE_HEAD, CORE_HEIGHT, CORE_PITCH, LEFT, NARROWEST_TICK, QUEUE_HEAD, QUEUE_HEIGHT, QUEUE_PITCH, SECTION_LEVELS, SECTION_ROOM, TASK_HEIGHT, TASK_PITCH, TOP, WIDEST_TICK, WINDOW_WIDTH}
+use Rattle.msrp_picture.specs.declared.shapes.Room.{Room}
 use Rattle.msrp_picture.specs.declared.windows.Window.{Window}
 
--- how wide so many ticks are
-abbrev pub width_of : ℕ → ℕ
-width_of ticks = ticks * TICK_WIDTH
+-- ---- ticks
+-- as wide as lets the ticks that are drawn fill the window, within bounds
+abbrev pub tick_width : Window → ℕ
+tick_width w = max (min (WINDOW_WIDTH / max (w.to - w.from) 1) WIDEST_TICK) NARROWEST_TICK
 
--- where a tick begins in a lane
-abbrev pub column : Window → ℕ → ℕ
-column w t = width_of (t - w.from)
+-- where a tick begins, or the next edge of the lanes if it isn't drawn
+abbrev pub left_of : Window → ℕ → ℕ
+left_of w t = LEFT + (min (max t w.from) w.to - w.from) * tick_width w
 
--- where the lane of a core begins
-abbrev pub lane_top : ℕ → ℕ
-lane_top c = TOP + c * LANE_PITCH
+-- ---- cores and tasks
+-- the lane of task u lies above that of task t on core c
+abbrev pub is_above : PlanModel → ℕ → ℕ → ℕ → Bool
+is_above plan c t u = nat_lt (task_at plan u).core c || ((task_at plan u).core == c && nat_lt u t)
+
+abbrev pub tasks_above : PlanModel → ℕ → ℕ → ℕ
+tasks_above plan c t = length (filter (is_above plan c t) (range_with_len 0 (length plan.tasks)))
+
+-- a core begins below those before it and all their tasks
+abbrev pub core_top : PlanModel → ℕ → ℕ
+core_top plan c = TOP + c * CORE_PITCH + tasks_above plan c 0 * TASK_PITCH
+
+abbrev pub core_room : PlanModel → ℕ → Room
+core_room plan c = record { top = core_top plan c + CORE_HEAD; height = CORE_HEIGHT }
+
+-- a task lies below its core's own lane and the tasks before it
+abbrev pub task_room : PlanModel → ℕ → Room
+task_room plan t = record { top = TOP + ((task_at plan t).core + 1) * CORE_PITCH + tasks_above plan (task_at plan t).core t * TASK_PITCH; height = TASK_HEIGHT }
+
+-- a row lies in the lane of its task; where the plan has no such one, in that of its core
+abbrev pub row_room : PlanModel → Row → Option JobId → Room
+row_room plan r None = core_room plan r.core.0
+row_room plan r (Some j) = if nat_lt j.task.0 (length plan.tasks) then task_room plan j.task.0 else core_room plan r.core.0
 
 -- how high a section is where so many stand under one another
 abbrev pub section_height : ℕ → ℕ
 section_height levels = SECTION_ROOM / max SECTION_LEVELS levels
 
--- where the lane of a resource begins: below those of the global resources before it
-abbrev pub res_top : PlanModel → ℕ → ℕ
-res_top plan g = lane_top plan.cores + length (global_resources plan g) * RES_PITCH
+-- ---- resources
+-- below all cores, and the global resources before it
+abbrev pub queue_room : PlanModel → ℕ → Room
+queue_room plan g = record { top = core_top plan plan.cores + QUEUE_HEAD + length (global_resources plan g) * QUEUE_PITCH; height = QUEUE_HEIGHT }
 
--- where a line of the legend stands, below all lanes
-abbrev pub legend_top : PlanModel → ℕ → ℕ
-legend_top plan i = res_top plan (length plan.resources) + i * LEGEND_LINE
-
--- so many ticks from one on, in a lane of so much height
-abbrev pub block_area : Window → ℕ → ℕ → ℕ → Area
-block_area w height first ticks = record { x = column w first; y = BLOCK_TOP; width = width_of ticks; height = height - 2 * BLOCK_TOP }
+-- ---- the whole
+abbrev pub bottom : PlanModel → ℕ
+bottom plan = (queue_room plan (length plan.resources)).top + QUEUE_HEAD

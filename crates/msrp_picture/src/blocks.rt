@@ -1,97 +1,118 @@
-//! Blocks: the stretches of a core's rows in which one job does the same.
-ghost use Rattle.std.specs.Prelude.{◌≡◌, ◌&&◌, slice_get, IfOk};
-ghost use Rattle.msrp_plan.specs.Logs.{is_of};
-ghost use Rattle.msrp_picture.specs.Blocks.{begins, goes_on, is_in, joins, last_tick, log_in, row_before};
+//! Blocks: the stretches of rows in which one job has the turn of a core, or does the same.
+ghost use Rattle.std.specs.Prelude.{◌≡◌, ◌++◌, [], filter_map, IfOk, OnOk};
+ghost use Rattle.std.specs.List.{cons_option};
+ghost use Rattle.msrp_picture.specs.Blocks.{blocks, deed_of, look_of, res_of, span_of, turn_of};
 
+use crate::lives::is_job_of;
+use crate::shapes::{Look, Room, Shape, Span};
+use crate::stretches::push_merged;
 use crate::windows::Window;
-use msrp_plan::{CoreId, Memory, Row};
+use msrp_plan::{CoreId, Memory, ResId, Row, TaskId};
 use std::alloc::Global;
 
-/// Whether the row is of a tick that is drawn.
-pub(crate) fn is_in(window: Window, row: &Row) -> bool
-    ensures { result ≡ is_in window row.now }
-{
-    window.from <= row.tick && row.tick < window.to
+/// Whose rows are drawn in a lane.
+#[derive(Clone, Copy, Debug, PartialEq, Eq)]
+pub enum Owner {
+    /// Of a core, which job has the turn.
+    Core(CoreId),
+    /// Of a task, what its jobs do.
+    Task(TaskId),
 }
 
-// Whether the row is one of this core, of a tick that is drawn.
-fn is_drawn(window: Window, core: CoreId, row: &Row) -> bool
-    ensures { result ≡ (is_of core.0 row.now && is_in window row.now) }
-{
-    row.core == core && is_in(window, row)
+/// A lane of rows, which stand before the first that breaks a rule or not.
+#[derive(Clone, Copy, Debug, PartialEq, Eq)]
+pub struct Lane {
+    pub owner: Owner,
+    pub room: Room,
+    pub is_legal: bool,
 }
 
-/// The rows of a core in the ticks that are drawn, in their order.
-pub(crate) fn log_in(
-    alloc: Global,
-    window: Window,
-    core: CoreId,
-    rows: &[Row],
-) -> Result<Vec<Row>, Memory>
-    ensures { IfOk result (λ log. log.items ≡ log_in window core.0 rows.now) }
+fn turn_of(core: CoreId, row: &Row) -> Option<Look>
+    ensures { result ≡ turn_of core.0 row.now }
 {
-    let mut log = Vec::new(alloc);
-    for row in rows {
-        if is_drawn(window, core, row) {
-            log.push(*row)?;
-        }
-    }
-    Ok(log)
-}
-
-// Whether a row goes on from one.
-fn goes_on(row: &Row, next: &Row) -> bool
-    ensures { result ≡ goes_on row.now next.now }
-{
-    row.job == next.job
-        && row.res == next.res
-        && row.kind == next.kind
-        && next.tick as u64 == row.tick as u64 + 1
-}
-
-fn joins(row: Option<Row>, next: Option<Row>) -> bool
-    ensures { result ≡ joins row next }
-{
-    match (row, next) {
-        (Some(row), Some(next)) => goes_on(&row, &next),
-        _ => false,
-    }
-}
-
-fn row_at(log: &[Row], place: usize) -> Option<Row>
-    ensures { result ≡ slice_get log.now place }
-{
-    log.get(place).copied()
-}
-
-fn row_before(log: &[Row], place: usize) -> Option<Row>
-    ensures { result ≡ row_before log.now place }
-{
-    if place == 0 {
-        None
+    if row.core == core && row.job.is_some() {
+        Some(Look::Turn)
     } else {
-        row_at(log, place - 1)
+        None
     }
 }
 
-/// Whether a block begins at this place of a log.
-pub(crate) fn begins(log: &[Row], place: usize) -> bool
-    ensures { result ≡ begins log.now place }
+fn deed_of(task: TaskId, row: &Row) -> Option<Look>
+    ensures { result ≡ deed_of task.0 row.now }
 {
-    !joins(row_before(log, place), row_at(log, place))
+    if is_job_of(task, row.job) {
+        Some(Look::Does(row.kind))
+    } else {
+        None
+    }
 }
 
-/// The last tick of the block that begins with a row, where these rows stand behind it.
-pub(crate) fn last_tick(first: &Row, rest: &[Row]) -> u32
-    ensures { result ≡ last_tick first.now rest.now }
+// What a lane shows of a row, if anything.
+fn look_of(owner: Owner, row: &Row) -> Option<Look>
+    ensures { result ≡ look_of owner row.now }
 {
-    let mut last = *first;
-    for row in rest {
-        if goes_on(&last, row) {
-            last = *row;
-        } else {
-            return last.tick;
-        }
+    match owner {
+        Owner::Core(core) => turn_of(core, row),
+        Owner::Task(task) => deed_of(task, row),
     }
-    last.tick
+}
+
+fn res_of(owner: Owner, row: &Row) -> Option<ResId>
+    ensures { result ≡ res_of owner row.now }
+{
+    match owner {
+        Owner::Core(_) => None,
+        Owner::Task(_) => row.res,
+    }
+}
+
+// The span of a row in a lane, if it is drawn there.
+fn span_of(lane: Lane, row: &Row) -> Option<Span>
+    ensures { result ≡ span_of lane row.now }
+{
+    match look_of(lane.owner, row) {
+        Some(look) => Some(Span {
+            first: row.tick as u64,
+            end: row.tick as u64 + 1,
+            room: lane.room,
+            look,
+            is_legal: lane.is_legal,
+            job: row.job,
+            res: res_of(lane.owner, row),
+        }),
+        None => None,
+    }
+}
+
+fn push_some(spans: &mut Vec<Span>, span: Option<Span>) -> Result<(), Memory>
+    ensures { OnOk result (spans.new.items ≡ spans.old.items ++ cons_option span []) }
+{
+    if let Some(span) = span {
+        spans.push(span)?;
+    }
+    Ok(())
+}
+
+fn spans_of(alloc: Global, lane: Lane, rows: &[Row]) -> Result<Vec<Span>, Memory>
+    ensures { IfOk result (λ spans. spans.items ≡ filter_map (span_of lane) rows.now) }
+{
+    let mut spans = Vec::new(alloc);
+    for row in rows {
+        push_some(&mut spans, span_of(lane, row))?;
+    }
+    Ok(spans)
+}
+
+/// Adds the blocks of rows in a lane.
+pub(crate) fn push_blocks(
+    alloc: Global,
+    shapes: &mut Vec<Shape>,
+    window: Window,
+    lane: Lane,
+    rows: &[Row],
+) -> Result<(), Memory>
+    ensures { OnOk result (shapes.new.items ≡ shapes.old.items ++ blocks window lane rows.now) }
+{
+    let spans = spans_of(alloc, lane, rows)?;
+    push_merged(shapes, window, &spans)
 }

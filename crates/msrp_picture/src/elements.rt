@@ -1,18 +1,18 @@
-//! Elements of SVG, as text.
+//! The one writer of shapes: elements of SVG, as text.
 ghost use Rattle.std.specs.Prelude.{◌≡◌, ◌++◌, OnOk};
-ghost use Rattle.msrp_picture.specs.Elements.{attribute, clip_end, clip_head, group_end, place_head, rect_text, text_end, text_head, text_text, use_end, use_head};
+ghost use Rattle.std.specs.List.{flat_map};
+ghost use Rattle.msrp_picture.specs.Elements.{arrow_text, attribute, block_head, block_text, colour, core_text, hue, level_text, look_class, note_text, shade, shape_text, words_class, words_left, words_text};
 
-use crate::picture::{add, add_number};
-use msrp_plan::Memory;
+use crate::cells::letter;
+use crate::picture::{add, add_number, res_name, rule_word};
+use crate::places::{LEFT, left_of};
+use crate::shapes::{Event, Look, Note, Shape, Span, Words};
+use crate::titles::{add_event_title, add_title, add_word, kind_word, moment_word, task_name};
+use crate::windows::Window;
+use msrp_plan::{CoreId, JobId, Memory, Plan, TaskId};
 
-/// The area of a rectangle, from its left upper corner, in units of the picture.
-#[derive(Clone, Copy, Debug, PartialEq, Eq)]
-pub struct Area {
-    pub x: u64,
-    pub y: u64,
-    pub width: u64,
-    pub height: u64,
-}
+/// So many colours there are for tasks.
+pub const HUES: u32 = 7;
 
 /// Adds a length by its name.
 pub(crate) fn add_attribute(text: &mut Vec<u8>, name: &[u8], length: u64) -> Result<(), Memory>
@@ -25,118 +25,185 @@ pub(crate) fn add_attribute(text: &mut Vec<u8>, name: &[u8], length: u64) -> Res
     add(text, b"\"")
 }
 
-/// Adds a rectangle of a class.
-pub(crate) fn add_rect(text: &mut Vec<u8>, class: &[u8], area: Area) -> Result<(), Memory>
-    ensures { OnOk result (text.new.items ≡ text.old.items ++ rect_text class.now area) }
+// The class that makes a block look so.
+#[tactic(auto, unfolding(crate::specs::Elements::look_class))]
+fn look_class(look: Look) -> &'static [u8]
+    ensures { result.now ≡ look_class look }
 {
-    add(text, b"<rect class=\"")?;
-    add(text, class)?;
-    add(text, b"\"")?;
-    add_attribute(text, b"x", area.x)?;
-    add_attribute(text, b"y", area.y)?;
-    add_attribute(text, b"width", area.width)?;
-    add_attribute(text, b"height", area.height)?;
-    add(text, b"/>")
+    match look {
+        Look::Lane => b"lane",
+        Look::Does(kind) => kind_word(kind),
+        Look::Turn => b"turn",
+        Look::Holds => b"holds",
+        Look::First(_) => b"first",
+        Look::Active(_) => b"active",
+        Look::Late => b"late",
+        Look::Breaks(_) => b"breaks",
+    }
 }
 
-/// Adds what stands before a text of a class, which begins at a point.
-pub(crate) fn begin_text(text: &mut Vec<u8>, class: &[u8], x: u64, y: u64) -> Result<(), Memory>
-    ensures { OnOk result (text.new.items ≡ text.old.items ++ text_head class.now x y) }
+// Behind it, where it stands behind a row that breaks a rule.
+#[tactic(auto, unfolding(crate::specs::Elements::shade))]
+fn shade(is_legal: bool) -> &'static [u8]
+    ensures { result.now ≡ shade is_legal }
 {
-    add(text, b"<text class=\"")?;
-    add(text, class)?;
+    if is_legal { b"" } else { b" after" }
+}
+
+// The class that gives a job the colour of its task.
+fn add_hue(text: &mut Vec<u8>, job: Option<JobId>) -> Result<(), Memory>
+    ensures { OnOk result (text.new.items ≡ text.old.items ++ hue job) }
+{
+    match job {
+        Some(job) => add(text, &[letter(TaskId(job.task.0 % HUES))]),
+        None => Ok(()),
+    }
+}
+
+// The colour of a block: that of its job's task, if nothing else is shown.
+fn add_colour(text: &mut Vec<u8>, look: Look, job: Option<JobId>) -> Result<(), Memory>
+    ensures { OnOk result (text.new.items ≡ text.old.items ++ colour job look) }
+{
+    match look {
+        Look::Does(_) | Look::Turn | Look::First(_) | Look::Active(_) => add_hue(text, job),
+        _ => Ok(()),
+    }
+}
+
+// Where a block begins and how large it is.
+fn add_block_head(text: &mut Vec<u8>, window: Window, span: &Span) -> Result<(), Memory>
+    ensures { OnOk result (text.new.items ≡ text.old.items ++ block_head window span.now) }
+{
+    let left = left_of(window, span.first);
+    let width = left_of(window, span.end).saturating_sub(left);
+    add(text, b"<svg class=\"")?;
+    add(text, look_class(span.look))?;
+    add(text, shade(span.is_legal))?;
     add(text, b"\"")?;
-    add_attribute(text, b"x", x)?;
-    add_attribute(text, b"y", y)?;
+    add_attribute(text, b"x", left)?;
+    add_attribute(text, b"y", span.room.top)?;
+    add_attribute(text, b"width", width)?;
+    add_attribute(text, b"height", span.room.height)?;
     add(text, b">")
 }
 
-/// Adds what stands behind it.
-#[tactic(auto, unfolding(crate::specs::Elements::text_end))]
-pub(crate) fn end_text(text: &mut Vec<u8>) -> Result<(), Memory>
-    ensures { OnOk result (text.new.items ≡ text.old.items ++ text_end) }
+// A block: its area in its colour and in its look, with what stands in it.
+fn add_block(text: &mut Vec<u8>, plan: &Plan, window: Window, span: &Span) -> Result<(), Memory>
+    ensures { OnOk result (text.new.items ≡ text.old.items ++ block_text plan.now window span.now) }
 {
-    add(text, b"</text>\n")
+    let width = left_of(window, span.end).saturating_sub(left_of(window, span.first));
+    add_block_head(text, window, span)?;
+    add_title(text, plan, span)?;
+    add(text, b"<rect class=\"")?;
+    add_colour(text, span.look, span.job)?;
+    add(
+        text,
+        b"\" width=\"100%\" height=\"100%\"/><rect width=\"100%\" height=\"100%\"/><text x=\"1\" y=\"1em\">",
+    )?;
+    add_word(text, plan, width, span)?;
+    add(text, b"</text></svg>\n")
 }
 
-/// Adds a whole text.
-pub(crate) fn add_text(
-    text: &mut Vec<u8>,
-    class: &[u8],
-    x: u64,
-    y: u64,
-    content: &[u8],
-) -> Result<(), Memory>
-    ensures { OnOk result (text.new.items ≡ text.old.items ++ text_text class.now x y content.now) }
-{
-    begin_text(text, class, x, y)?;
-    add(text, content)?;
-    end_text(text)
-}
-
-/// Adds what stands before what a symbol of a class tells, at a point.
-pub(crate) fn begin_use(
-    text: &mut Vec<u8>,
-    symbol: &[u8],
-    class: &[u8],
-    x: u64,
-    y: u64,
-) -> Result<(), Memory>
-    ensures { OnOk result (text.new.items ≡ text.old.items ++ use_head symbol.now class.now x y) }
+// An arrow: a symbol of the head.
+fn add_arrow(text: &mut Vec<u8>, plan: &Plan, window: Window, event: &Event) -> Result<(), Memory>
+    ensures { OnOk result (text.new.items ≡ text.old.items ++ arrow_text plan.now window event.now) }
 {
     add(text, b"<use href=\"#")?;
-    add(text, symbol)?;
-    add(text, b"\" class=\"")?;
-    add(text, class)?;
+    add(text, moment_word(event.moment))?;
     add(text, b"\"")?;
-    add_attribute(text, b"x", x)?;
-    add_attribute(text, b"y", y)?;
-    add(text, b">")
-}
-
-/// Adds what stands behind it.
-#[tactic(auto, unfolding(crate::specs::Elements::use_end))]
-pub(crate) fn end_use(text: &mut Vec<u8>) -> Result<(), Memory>
-    ensures { OnOk result (text.new.items ≡ text.old.items ++ use_end) }
-{
+    add_attribute(text, b"x", left_of(window, event.tick))?;
+    add_attribute(text, b"y", event.top)?;
+    add(text, b">")?;
+    add_event_title(text, plan, event)?;
     add(text, b"</use>\n")
 }
 
-/// Adds what stands before elements that have their place from a point.
-pub(crate) fn begin_place(text: &mut Vec<u8>, x: u64, y: u64) -> Result<(), Memory>
-    ensures { OnOk result (text.new.items ≡ text.old.items ++ place_head x y) }
+#[tactic(auto, unfolding(crate::specs::Elements::words_class))]
+fn words_class(words: Words) -> &'static [u8]
+    ensures { result.now ≡ words_class words }
 {
-    add(text, b"<g transform=\"translate(")?;
-    add_number(text, x)?;
-    add(text, b",")?;
-    add_number(text, y)?;
-    add(text, b")\">\n")
+    match words {
+        Words::Tick(_) => b"tick",
+        Words::Broken(..) => b"rule",
+        Words::Level(..) => b"level",
+        _ => b"label",
+    }
 }
 
-/// Adds what stands before elements that have their place in an area, outside of which nothing of them is drawn.
-pub(crate) fn begin_clip(text: &mut Vec<u8>, area: Area) -> Result<(), Memory>
-    ensures { OnOk result (text.new.items ≡ text.old.items ++ clip_head area) }
+// Where words stand: those of a tick where it begins, and the others to the left of the lanes.
+fn words_left(window: Window, words: Words) -> u64
+    ensures { result ≡ words_left window words }
 {
-    add(text, b"<svg")?;
-    add_attribute(text, b"x", area.x)?;
-    add_attribute(text, b"y", area.y)?;
-    add_attribute(text, b"width", area.width)?;
-    add_attribute(text, b"height", area.height)?;
-    add(text, b">")
+    match words {
+        Words::Tick(tick) | Words::Broken(_, tick) => left_of(window, tick),
+        _ => LEFT - 8,
+    }
 }
 
-/// Adds what stands behind them.
-#[tactic(auto, unfolding(crate::specs::Elements::clip_end))]
-pub(crate) fn end_clip(text: &mut Vec<u8>) -> Result<(), Memory>
-    ensures { OnOk result (text.new.items ≡ text.old.items ++ clip_end) }
+#[tactic(auto, unfolding(crate::specs::Elements::core_text))]
+fn add_core(text: &mut Vec<u8>, core: CoreId) -> Result<(), Memory>
+    ensures { OnOk result (text.new.items ≡ text.old.items ++ core_text core) }
 {
-    add(text, b"</svg>\n")
+    add(text, b"core ")?;
+    add_number(text, core.0 as u64)
 }
 
-/// Adds what stands behind elements that stand together.
-#[tactic(auto, unfolding(crate::specs::Elements::group_end))]
-pub(crate) fn end_group(text: &mut Vec<u8>) -> Result<(), Memory>
-    ensures { OnOk result (text.new.items ≡ text.old.items ++ group_end) }
+#[tactic(auto, unfolding(crate::specs::Elements::level_text))]
+fn add_level(text: &mut Vec<u8>, core: CoreId, level: u32) -> Result<(), Memory>
+    ensures { OnOk result (text.new.items ≡ text.old.items ++ level_text core level) }
 {
-    add(text, b"</g>\n")
+    add_core(text, core)?;
+    add(text, b", level ")?;
+    add_number(text, level as u64)
+}
+
+fn add_words(text: &mut Vec<u8>, plan: &Plan, words: Words) -> Result<(), Memory>
+    ensures { OnOk result (text.new.items ≡ text.old.items ++ words_text plan.now words) }
+{
+    match words {
+        Words::Core(core) => add_core(text, core),
+        Words::Task(task) => add(text, task_name(plan, task)),
+        Words::Level(core, level) => add_level(text, core, level),
+        Words::Res(res) => add(text, res_name(plan, res)),
+        Words::Tick(tick) => add_number(text, tick),
+        Words::Broken(rule, _) => add(text, rule_word(rule)),
+    }
+}
+
+fn add_note(text: &mut Vec<u8>, plan: &Plan, window: Window, note: &Note) -> Result<(), Memory>
+    ensures { OnOk result (text.new.items ≡ text.old.items ++ note_text plan.now window note.now) }
+{
+    add(text, b"<text class=\"")?;
+    add(text, words_class(note.words))?;
+    add(text, b"\"")?;
+    add_attribute(text, b"x", words_left(window, note.words))?;
+    add_attribute(text, b"y", note.line)?;
+    add(text, b">")?;
+    add_words(text, plan, note.words)?;
+    add(text, b"</text>\n")
+}
+
+fn add_shape(text: &mut Vec<u8>, plan: &Plan, window: Window, shape: &Shape) -> Result<(), Memory>
+    ensures { OnOk result (text.new.items ≡ text.old.items ++ shape_text plan.now window shape.now) }
+{
+    match shape {
+        Shape::Block(span) => add_block(text, plan, window, span),
+        Shape::Arrow(event) => add_arrow(text, plan, window, event),
+        Shape::Text(note) => add_note(text, plan, window, note),
+    }
+}
+
+/// Adds these shapes.
+pub(crate) fn add_shapes(
+    text: &mut Vec<u8>,
+    plan: &Plan,
+    window: Window,
+    shapes: &[Shape],
+) -> Result<(), Memory>
+    ensures { OnOk result (text.new.items ≡ text.old.items ++ flat_map (shape_text plan.now window) shapes.now) }
+{
+    for shape in shapes {
+        add_shape(text, plan, window, shape)?;
+    }
+    Ok(())
 }

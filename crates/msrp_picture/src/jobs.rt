@@ -1,63 +1,101 @@
-//! What is drawn of each job: its arrows above the lane of its core, and the line of its life below.
-ghost use Rattle.std.specs.Prelude.{◌≡◌, ◌<◌, ◌++◌, length, IsSome, OnOk};
+//! What is drawn of each job: the line of its life, red behind its absolute deadline, and arrows at its release and its deadline.
+ghost use Rattle.std.specs.Prelude.{◌≡◌, ◌<◌, ◌++◌, ◌^◌, length, IsSome, OnOk};
 ghost use Rattle.msrp_plan.specs.Plan.{release_tick};
 ghost use Rattle.msrp_picture.specs.Inside.TaskRows.{task_rows};
-ghost use Rattle.msrp_picture.specs.Jobs.{job_text, jobs_text, task_jobs};
+ghost use Rattle.msrp_picture.specs.Jobs.{active_span, event_of, late_span, life_shapes, task_jobs};
 
-use crate::arrows::add_job_arrows;
-use crate::lives::{add_life, life_of, task_rows};
+use crate::lives::{Life, life_of};
+use crate::places::{ACTIVE_HEIGHT, ACTIVE_TOP, LATE_HEIGHT, TASK_HEIGHT};
+use crate::seen::{push_met, push_seen};
+use crate::shapes::{Event, Look, Moment, Room, Shape, Span};
 use crate::windows::Window;
 use msrp_plan::{JobId, Memory, Plan, Row, TaskId};
-use std::alloc::Global;
 
-// A job, where these are the rows of its task among the rows that stand.
-fn add_job(
-    text: &mut Vec<u8>,
+// A line in the lane of a job's task, under its blocks.
+fn active_span(room: Room, life: Life) -> Span
+    requires { room.top < 2 ^ 41 }
+    ensures { result ≡ active_span room life }
+{
+    Span {
+        first: life.release,
+        end: life.end,
+        room: Room {
+            top: room.top + ACTIVE_TOP,
+            height: ACTIVE_HEIGHT,
+        },
+        look: Look::Active(life.is_finished),
+        is_legal: true,
+        job: Some(life.job),
+        res: None,
+    }
+}
+
+// A line below that lane.
+fn late_span(room: Room, life: Life) -> Span
+    requires { room.top < 2 ^ 41 }
+    ensures { result ≡ late_span room life }
+{
+    Span {
+        first: life.due,
+        end: life.end,
+        room: Room {
+            top: room.top + TASK_HEIGHT,
+            height: LATE_HEIGHT,
+        },
+        look: Look::Late,
+        is_legal: true,
+        job: Some(life.job),
+        res: None,
+    }
+}
+
+fn event_of(room: Room, moment: Moment, tick: u64, job: JobId) -> Event
+    ensures { result ≡ event_of room moment tick job }
+{
+    Event {
+        tick,
+        top: room.top,
+        moment,
+        job,
+    }
+}
+
+fn push_life(shapes: &mut Vec<Shape>, window: Window, room: Room, life: Life) -> Result<(), Memory>
+    requires { room.top < 2 ^ 41 }
+    ensures { OnOk result (shapes.new.items ≡ shapes.old.items ++ life_shapes window room life) }
+{
+    push_seen(shapes, window, active_span(room, life))?;
+    push_seen(shapes, window, late_span(room, life))?;
+    push_met(
+        shapes,
+        window,
+        event_of(room, Moment::Release, life.release, life.job),
+    )?;
+    push_met(
+        shapes,
+        window,
+        event_of(room, Moment::Deadline, life.due, life.job),
+    )
+}
+
+/// Adds the jobs of a task in its lane, where these are its rows among the rows that stand.
+pub(crate) fn push_jobs(
+    shapes: &mut Vec<Shape>,
     plan: &Plan,
     window: Window,
+    room: Room,
     rows: &[Row],
     own: &[Row],
-    job: JobId,
-) -> Result<(), Memory>
-    requires task { job.task.0 < length plan.now.tasks }
-    requires released { IsSome (release_tick plan.now job) }
-    requires rows { own.now ≡ task_rows job.task.0 rows.now }
-    ensures { OnOk result (text.new.items ≡ text.old.items ++ job_text plan.now window rows.now job.task.0 job.k) }
-{
-    add_job_arrows(text, plan, window, job)?;
-    add_life(text, plan, window, life_of(plan, rows, own, job))
-}
-
-fn add_task_jobs(
-    alloc: Global,
-    text: &mut Vec<u8>,
-    plan: &Plan,
-    window: Window,
-    rows: &[Row],
     task: TaskId,
 ) -> Result<(), Memory>
-    requires { task.0 < length plan.now.tasks }
-    ensures { OnOk result (text.new.items ≡ text.old.items ++ task_jobs plan.now window rows.now task.0) }
+    requires task { task.0 < length plan.now.tasks }
+    requires room { room.top < 2 ^ 41 }
+    requires rows { own.now ≡ task_rows task.0 rows.now }
+    ensures { OnOk result (shapes.new.items ≡ shapes.old.items ++ task_jobs plan.now window room rows.now task.0) }
 {
-    let own = task_rows(alloc, rows, task)?;
     for k in 0..plan.jobs(task) {
-        add_job(text, plan, window, rows, &own, JobId { task, k })?;
-    }
-    Ok(())
-}
-
-/// Adds all jobs.
-pub(crate) fn add_jobs(
-    alloc: Global,
-    text: &mut Vec<u8>,
-    plan: &Plan,
-    window: Window,
-    rows: &[Row],
-) -> Result<(), Memory>
-    ensures { OnOk result (text.new.items ≡ text.old.items ++ jobs_text plan.now window rows.now) }
-{
-    for task in 0..plan.tasks() {
-        add_task_jobs(alloc, text, plan, window, rows, TaskId(task))?;
+        let life = life_of(plan, rows, own, JobId { task, k });
+        push_life(shapes, window, room, life)?;
     }
     Ok(())
 }

@@ -1,25 +1,32 @@
 //! A trace of a plan as a picture, in text or in SVG.
 //!
-//! A plan, rows and the verdict on them in, and a text out ([`draw`]): `lines` and `picture` draw in text, and `blocks` and `svg` in SVG.
+//! A plan, rows and the verdict on them in, and a text out ([`draw`]): `lines` and `picture` draw in text, and `svg` in SVG:
+//! there `lanes`, `blocks`, `jobs`, `sections`, `queue_lanes` and `marks` say which `shapes` there are, and `elements` writes each. [`laws`] are theorems about
+//! that list.
 #![tactic(auto)]
 
-mod arrows;
 mod blocks;
 mod cells;
 mod elements;
 mod events;
-mod figures;
 mod jobs;
+mod lanes;
+pub mod laws;
 mod lines;
 mod lives;
+mod marks;
 mod picture;
 mod places;
+mod queue_lanes;
 mod queues;
-mod resource_lanes;
 mod sections;
+mod seen;
+mod shapes;
 mod shown;
+mod stretches;
 mod styles;
 mod svg;
+mod titles;
 mod windows;
 
 pub use styles::draw;

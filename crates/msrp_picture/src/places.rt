@@ -1,79 +1,99 @@
 //! Places in a picture in SVG, in its units.
-ghost use Rattle.std.specs.Prelude.{◌≡◌, ℕ, ◌<◌, ◌≤◌, ◌*◌, ◌^◌, if◌then◌else◌, length};
+ghost use Rattle.std.specs.Prelude.{◌≡◌, ℕ, ◌<◌, ◌≤◌, ◌*◌, ◌^◌, if◌then◌else◌, filter, length};
+ghost use Rattle.std.specs.List.{range_with_len};
 ghost use Rattle.msrp_picture.specs.Lines.{global_resources};
-ghost use Rattle.msrp_picture.specs.Places.{block_area, column, lane_top, legend_top, res_top, section_height, width_of};
+ghost use Rattle.msrp_picture.specs.Places.{bottom, core_room, core_top, is_above, left_of, queue_room, row_room, section_height, task_room, tasks_above, tick_width};
 
-use crate::elements::Area;
+use crate::shapes::Room;
 use crate::windows::Window;
 use msrp_levels::Levels;
-use msrp_plan::{Plan, ResId};
+use msrp_plan::{CoreId, Plan, ResId, Row, TaskId};
 
-/// The width of a tick.
-pub const TICK_WIDTH: u64 = 12;
+/// The width that the ticks of a window fill, if none is narrower or wider than the next two.
+pub const WINDOW_WIDTH: u64 = 1100;
 
-/// The height of a lane.
-pub const LANE_HEIGHT: u64 = 64;
+/// The least width of a tick.
+pub const NARROWEST_TICK: u64 = 6;
 
-/// From where a lane begins to where the next one does.
-pub const LANE_PITCH: u64 = 108;
-
-/// From where a lane begins to the lines of what is late in it.
-pub const LATE_TOP: u64 = 65;
-
-/// From where a lane begins to the lines of its jobs.
-pub const LIFE_TOP: u64 = 68;
-
-/// From the line of one colour to that of the next.
-pub const LIFE_PITCH: u64 = 3;
-
-/// The height of a line.
-pub const LIFE_HEIGHT: u64 = 2;
-
-/// The height of the lane of a resource.
-pub const RES_HEIGHT: u64 = 40;
-
-/// From where the lane of a resource begins to where the next one does.
-pub const RES_PITCH: u64 = 52;
+/// The greatest width of a tick.
+pub const WIDEST_TICK: u64 = 28;
 
 /// Where the lanes begin, from the left.
 pub const LEFT: u64 = 140;
 
-/// Where the first lane begins, from above.
-pub const TOP: u64 = 90;
+/// Where the first core begins, from above.
+pub const TOP: u64 = 112;
 
-/// Where a block begins in its lane.
-pub const BLOCK_TOP: u64 = 4;
+/// From where a core begins to its lane: the numbers of ticks stand there.
+pub const CORE_HEAD: u64 = 24;
 
-/// From where a lane begins to its sections.
-pub const SECTION_TOP: u64 = 32;
+/// The height of the lane of a core.
+pub const CORE_HEIGHT: u64 = 14;
 
-/// The height of all sections of a lane: a pixel at least for each of a plan's resources.
+/// From where a core begins to where its tasks do.
+pub const CORE_PITCH: u64 = 56;
+
+/// The height of the lane of a task.
+pub const TASK_HEIGHT: u64 = 50;
+
+/// From where the lane of a task begins to where the next one does.
+pub const TASK_PITCH: u64 = 68;
+
+/// From where the lane of a task begins to the lines of its active jobs, and their height.
+pub const ACTIVE_TOP: u64 = 8;
+
+pub const ACTIVE_HEIGHT: u64 = 2;
+
+/// The height of what is late, below the lane of a task.
+pub const LATE_HEIGHT: u64 = 4;
+
+/// From where the lane of a task begins to its sections.
+pub const SECTION_TOP: u64 = 16;
+
+/// The height of all sections of a lane: a unit at least for each of a plan's resources.
 pub const SECTION_ROOM: u64 = 32;
 
 /// So many sections find place under one another without being made lower.
-pub const SECTION_LEVELS: u64 = 4;
+pub const SECTION_LEVELS: u64 = 3;
 
-/// The height of a line of the legend.
-pub const LEGEND_LINE: u64 = 18;
+/// From where the first lane of a resource begins to where the lane of the cores ended.
+pub const QUEUE_HEAD: u64 = 10;
 
-/// The width of the legend.
-pub const LEGEND_WIDTH: u64 = 680;
+/// The height of the lane of a resource.
+pub const QUEUE_HEIGHT: u64 = 18;
 
-/// So many colours there are for tasks.
-pub const HUES: u32 = 7;
+/// From where the lane of a resource begins to where the next one does.
+pub const QUEUE_PITCH: u64 = 26;
 
-/// How wide so many ticks are.
-pub(crate) fn width_of(ticks: u32) -> u64
-    ensures { result ≡ width_of ticks }
+/// From where a core begins to the line on which the numbers of its ticks stand.
+pub const AXIS_LINE: u64 = 20;
+
+/// From where a lane begins to the line on which its name stands, that of a core's name, and that of a task's level.
+pub const NAME_LINE: u64 = 14;
+
+pub const CORE_LINE: u64 = 11;
+
+pub const LEVEL_LINE: u64 = 28;
+
+/// How wide a tick is: as wide as lets the ticks that are drawn fill the window.
+pub(crate) fn tick_width(window: Window) -> u64
+    ensures width { result ≡ tick_width window }
+    ensures small { result ≤ WIDEST_TICK }
 {
-    ticks as u64 * TICK_WIDTH
+    let ticks = window.to.saturating_sub(window.from).max(1) as u64;
+    (WINDOW_WIDTH / ticks).min(WIDEST_TICK).max(NARROWEST_TICK)
 }
 
-/// Where a tick begins in a lane.
-pub(crate) fn column(window: Window, tick: u32) -> u64
-    ensures { result ≡ column window tick }
+/// Where a tick begins, or the next edge of the lanes if it isn't drawn.
+pub(crate) fn left_of(window: Window, tick: u64) -> u64
+    ensures left { result ≡ left_of window tick }
+    ensures small { result < 2 ^ 40 }
 {
-    width_of(tick.saturating_sub(window.from))
+    let ticks = tick
+        .max(window.from as u64)
+        .min(window.to as u64)
+        .saturating_sub(window.from as u64);
+    LEFT + ticks * tick_width(window)
 }
 
 /// The height of a section where so many stand under one another.
@@ -102,43 +122,99 @@ fn globals_below(levels: &Levels<'_>, end: u32) -> u32
     count
 }
 
-/// Where the lane of a core begins.
-pub(crate) fn lane_top(place: u32) -> u64
-    ensures top { result ≡ lane_top place }
+// Whether the lane of a task lies above the lane that this one of a core has or would have.
+fn is_above(plan: &Plan, core: CoreId, task: TaskId, other: TaskId) -> bool
+    requires { other.0 < length plan.now.tasks }
+    ensures { result ≡ is_above plan.now core.0 task.0 other.0 }
+{
+    let at = plan.core_of(other).0;
+    at < core.0 || at == core.0 && other.0 < task.0
+}
+
+// So many lanes of tasks lie above it.
+fn tasks_above(plan: &Plan, core: CoreId, task: TaskId) -> u32
+    ensures { result ≡ tasks_above plan.now core.0 task.0 }
+{
+    let mut count = 0;
+    for other in 0..plan.tasks() {
+        count += counted(is_above(plan, core, task, TaskId(other)));
+    }
+    count
+}
+
+/// Where a core begins: below those before it and their tasks.
+pub(crate) fn core_top(plan: &Plan, core: CoreId) -> u64
+    ensures top { result ≡ core_top plan.now core.0 }
     ensures small { result < 2 ^ 40 }
 {
-    TOP + place as u64 * LANE_PITCH
+    let above = tasks_above(plan, core, TaskId(0)) as u64;
+    TOP + core.0 as u64 * CORE_PITCH + above * TASK_PITCH
 }
 
-/// Where the lane of a resource begins, below those of the cores and of the global resources before it.
-pub(crate) fn res_top(plan: &Plan, levels: &Levels<'_>, res: u32) -> u64
+/// The lane of a core.
+pub(crate) fn core_room(plan: &Plan, core: CoreId) -> Room
+    ensures room { result ≡ core_room plan.now core.0 }
+    ensures small { result.top < 2 ^ 41 }
+{
+    Room {
+        top: core_top(plan, core) + CORE_HEAD,
+        height: CORE_HEIGHT,
+    }
+}
+
+/// The lane of a task, below that of its core.
+pub(crate) fn task_room(plan: &Plan, task: TaskId) -> Room
+    requires { task.0 < length plan.now.tasks }
+    ensures room { result ≡ task_room plan.now task.0 }
+    ensures small { result.top < 2 ^ 41 }
+{
+    let core = plan.core_of(task);
+    let above = tasks_above(plan, core, task) as u64;
+    Room {
+        top: TOP + (core.0 as u64 + 1) * CORE_PITCH + above * TASK_PITCH,
+        height: TASK_HEIGHT,
+    }
+}
+
+/// The lane of a row: that of its task; where the plan has no such one, that of its core.
+pub(crate) fn row_room(plan: &Plan, row: &Row) -> Room
+    ensures room { result ≡ row_room plan.now row.now row.now.job }
+    ensures small { result.top < 2 ^ 41 }
+{
+    match row.job {
+        Some(job) if job.task.0 < plan.tasks() => task_room(plan, job.task),
+        _ => core_room(plan, row.core),
+    }
+}
+
+// Where the lane of a resource begins, below those of the cores and of the global resources before it.
+fn queue_top(plan: &Plan, levels: &Levels<'_>, res: u32) -> u64
     requires levels { levels.now ≡ plan.now }
     requires res { res ≤ length plan.now.resources }
-    ensures top { result ≡ res_top plan.now res }
-    ensures small { result < 2 ^ 41 }
-{
-    lane_top(plan.cores()) + globals_below(levels, res) as u64 * RES_PITCH
-}
-
-/// Where a line of the legend stands, below all lanes.
-pub(crate) fn legend_top(plan: &Plan, levels: &Levels<'_>, line: u32) -> u64
-    requires { levels.now ≡ plan.now }
-    ensures top { result ≡ legend_top plan.now line }
+    ensures top { result ≡ (queue_room plan.now res).top }
     ensures small { result < 2 ^ 42 }
 {
-    res_top(plan, levels, plan.resources()) + line as u64 * LEGEND_LINE
+    let cores = core_top(plan, CoreId(plan.cores()));
+    cores + QUEUE_HEAD + globals_below(levels, res) as u64 * QUEUE_PITCH
 }
 
-/// So many ticks from one on, in a lane of so much height.
-pub(crate) fn block_area(window: Window, height: u64, first: u32, ticks: u64) -> Area
-    requires { ticks ≤ 2 ^ 40 }
-    ensures area { result ≡ block_area window height first ticks }
-    ensures left { result.x < 2 ^ 40 }
+/// The lane of a resource.
+pub(crate) fn queue_room(plan: &Plan, levels: &Levels<'_>, res: ResId) -> Room
+    requires levels { levels.now ≡ plan.now }
+    requires res { res.0 ≤ length plan.now.resources }
+    ensures room { result ≡ queue_room plan.now res.0 }
+    ensures small { result.top < 2 ^ 42 }
 {
-    Area {
-        x: column(window, first),
-        y: BLOCK_TOP,
-        width: ticks * TICK_WIDTH,
-        height: height.saturating_sub(2 * BLOCK_TOP),
+    Room {
+        top: queue_top(plan, levels, res.0),
+        height: QUEUE_HEIGHT,
     }
+}
+
+/// Where the picture ends, below all lanes.
+pub(crate) fn bottom(plan: &Plan, levels: &Levels<'_>) -> u64
+    requires { levels.now ≡ plan.now }
+    ensures { result ≡ bottom plan.now }
+{
+    queue_top(plan, levels, plan.resources()) + QUEUE_HEAD
 }

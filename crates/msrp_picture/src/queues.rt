@@ -1,10 +1,10 @@
 //! The queue of a resource, tick by tick.
-ghost use Rattle.std.specs.Prelude.{◌≡◌, ◌<◌, ◌≤◌, ◌+◌, ◌++◌, ◌∷◌, ℕ, List, [], cond, length, not, slice_get, ◌^◌, OnOk, IfOk};
-ghost use Rattle.std.specs.List.{cons_option, position};
+ghost use Rattle.std.specs.Prelude.{◌≡◌, ◌<◌, ◌≤◌, ◌+◌, ◌++◌, ◌∷◌, ℕ, List, [], cond, length, ◌^◌, OnOk, IfOk};
+ghost use Rattle.std.specs.List.{cons_option};
 ghost use Rattle.msrp_plan.specs.Queues.{fifo, is_release_of, requester};
 ghost use Rattle.msrp_plan.specs.declared.rows.Row.{Row as TraceRow};
 ghost use Rattle.msrp_picture.specs.Inside.Queues.{HasSeen};
-ghost use Rattle.msrp_picture.specs.Standings.{changes, same_standing, same_where, standing_of, standings, stays};
+ghost use Rattle.msrp_picture.specs.Standings.{standing_of, standings};
 ghost use Rattle.msrp_picture.specs.Windows.{IsWindow};
 
 use crate::windows::{Window, begun, rows_between};
@@ -136,53 +136,4 @@ pub(crate) fn standings(
         found.push(standing_of(queue.jobs()))?;
     }
     Ok(found)
-}
-
-fn same_standing(standing: &Standing, next: &Standing) -> bool
-    ensures { result ≡ same_standing standing.now next.now }
-{
-    standing == next
-}
-
-// Whether a queue stands the same at two places, if it does at both.
-fn same_where(before: Option<Standing>, standing: Option<Standing>) -> bool
-    ensures { result ≡ same_where before standing }
-{
-    match (before, standing) {
-        (Some(before), Some(standing)) => same_standing(&before, &standing),
-        _ => false,
-    }
-}
-
-fn standing_at(standings: &[Standing], place: usize) -> Option<Standing>
-    ensures { result ≡ slice_get standings.now place }
-{
-    standings.get(place).copied()
-}
-
-/// Whether a queue stands otherwise before this place.
-pub(crate) fn changes(standings: &[Standing], place: usize) -> bool
-    ensures { result ≡ changes standings.now place }
-{
-    let before = if place == 0 {
-        None
-    } else {
-        standing_at(standings, place - 1)
-    };
-    !same_where(before, standing_at(standings, place))
-}
-
-// The place of the first of these that is another.
-fn first_other(standing: &Standing, rest: &[Standing]) -> Option<usize>
-    ensures { result ≡ position (λ next. not (same_standing standing.now next)) rest.now }
-{
-    rest.iter().position(|next| !same_standing(standing, next))
-}
-
-/// How many of these follow on a standing in its stretch.
-pub(crate) fn stays(standing: &Standing, rest: &[Standing]) -> usize
-    ensures value { result ≡ stays standing.now rest.now }
-    ensures bound { result ≤ length rest.now }
-{
-    first_other(standing, rest).unwrap_or(rest.len())
 }

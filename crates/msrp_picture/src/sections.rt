@@ -1,23 +1,19 @@
-//! The sections of jobs, in the lanes of the cores. A section within another one lies below it.
-ghost use Rattle.std.specs.Prelude.{◌≡◌, ◌<◌, ◌≤◌, ◌++◌, find, length, option_copied, true, IfOk, OnOk};
-ghost use Rattle.msrp_plan.specs.Logs.{log_of};
-ghost use Rattle.msrp_picture.specs.Lives.{is_seen};
-ghost use Rattle.msrp_picture.specs.Sections.{core_sections, ends_section, enters, first_section, held_name, leaves, log_sections, most_open, open_with, section_area, section_end, section_text, seen_section};
+//! The sections of jobs, in the lanes of their tasks. A section within another one lies below it.
+ghost use Rattle.std.specs.Prelude.{◌≡◌, ◌<◌, ◌≤◌, ◌++◌, ◌^◌, find, option_copied, OnOk};
+ghost use Rattle.msrp_picture.specs.Sections.{ends_section, enters, first_section, leaves, most_open, open_with, section_end, section_room, section_span, sections, log_sections};
 
-use crate::elements::{Area, add_text, begin_clip, end_clip};
-use crate::figures::{add_res_told, add_span_told};
-use crate::lives::is_seen;
-use crate::picture::{add, res_name};
-use crate::places::{LEFT, SECTION_TOP, column, lane_top, section_height, width_of};
-use crate::windows::{Window, begun};
-use msrp_plan::{CoreId, Kind, Memory, Plan, ResId, Row};
-use std::alloc::Global;
+use crate::places::{SECTION_TOP, section_height};
+use crate::seen::push_seen;
+use crate::shapes::{Look, Room, Shape, Span};
+use crate::windows::Window;
+use msrp_plan::{Kind, Memory, Row};
 
-/// Where the sections of a core are drawn: in these ticks, where the rows end with a tick, and under one another as many as are
-/// open at once at most.
+/// Where sections are drawn: in a lane, in these ticks, where the rows end with a tick, and under one another as many as are open at
+/// once at most.
 #[derive(Clone, Copy, Debug, PartialEq, Eq)]
 pub struct Strip {
     pub window: Window,
+    pub top: u64,
     pub end: u64,
     pub levels: u64,
 }
@@ -85,96 +81,53 @@ fn most_open(rows: &[Row]) -> u64
     most
 }
 
-// The area of a section that is in the picture, and around which so many are open.
-fn section_area(strip: Strip, row: &Row, depth: u64, end: u64) -> Area
-    requires seen { is_seen strip.window row.now.tick end ≡ true }
+// The room of a section around which so many are open.
+fn section_room(strip: Strip, depth: u64) -> Room
     requires within { depth ≤ strip.levels }
-    ensures { result ≡ section_area strip row.now depth end }
+    requires top { strip.top < 2 ^ 42 }
+    ensures { result ≡ section_room strip depth }
 {
-    let window = strip.window;
-    let first = row.tick.max(window.from);
-    let last = end.min(window.to as u64) as u32;
     let height = section_height(strip.levels);
-    Area {
-        x: LEFT + column(window, first),
-        y: lane_top(row.core.0) + SECTION_TOP + depth * height,
-        width: width_of(last - first),
+    Room {
+        top: strip.top + depth * height,
         height,
     }
 }
 
-// The name of a resource, if there is one.
-fn held_name(plan: &Plan, res: Option<ResId>) -> &[u8]
-    ensures { result.now ≡ held_name plan.now res }
-{
-    match res {
-        Some(res) => res_name(plan, res),
-        None => b"",
-    }
-}
-
-// The section of a row, around which so many are open.
-fn add_section(
-    text: &mut Vec<u8>,
-    plan: &Plan,
-    strip: Strip,
-    row: &Row,
-    depth: u64,
-    end: u64,
-) -> Result<(), Memory>
-    requires seen { is_seen strip.window row.now.tick end ≡ true }
+// The section of a row, up to a tick.
+fn section_span(strip: Strip, row: &Row, depth: u64, end: u64) -> Span
     requires within { depth ≤ strip.levels }
-    ensures { OnOk result (text.new.items ≡ text.old.items ++ section_text plan.now strip row.now depth end) }
+    requires top { strip.top < 2 ^ 42 }
+    ensures { result ≡ section_span strip row.now depth end }
 {
-    let area = section_area(strip, row, depth, end);
-    begin_clip(text, area)?;
-    add_span_told(text, plan, row.tick as u64, end.saturating_sub(1), row.job)?;
-    add(text, b", holds")?;
-    add_res_told(text, plan, row.res)?;
-    add(
-        text,
-        b"</title><rect class=\"section\" width=\"100%\" height=\"100%\"/>",
-    )?;
-    add_text(text, b"name", 2, 7, held_name(plan, row.res))?;
-    end_clip(text)
-}
-
-// A section, if some of it is drawn.
-fn add_seen_section(
-    text: &mut Vec<u8>,
-    plan: &Plan,
-    strip: Strip,
-    row: &Row,
-    depth: u64,
-    end: u64,
-) -> Result<(), Memory>
-    requires { depth ≤ strip.levels }
-    ensures { OnOk result (text.new.items ≡ text.old.items ++ seen_section plan.now strip row.now depth end) }
-{
-    if is_seen(strip.window, row.tick as u64, end) {
-        add_section(text, plan, strip, row, depth, end)
-    } else {
-        Ok(())
+    Span {
+        first: row.tick as u64,
+        end,
+        room: section_room(strip, depth),
+        look: Look::Holds,
+        is_legal: true,
+        job: row.job,
+        res: row.res,
     }
 }
 
 // The section that begins with the first of these rows, if one does.
-fn add_first_section(
-    text: &mut Vec<u8>,
-    plan: &Plan,
+fn push_first_section(
+    shapes: &mut Vec<Shape>,
     strip: Strip,
     depth: u64,
     rows: &[Row],
 ) -> Result<(), Memory>
-    requires { depth ≤ strip.levels }
-    ensures { OnOk result (text.new.items ≡ text.old.items ++ first_section plan.now strip depth rows.now) }
+    requires within { depth ≤ strip.levels }
+    requires top { strip.top < 2 ^ 42 }
+    ensures { OnOk result (shapes.new.items ≡ shapes.old.items ++ first_section strip depth rows.now) }
 {
     match rows {
         [] => Ok(()),
         [row, rest @ ..] => {
             if enters(row.kind) {
                 let end = section_end(strip.end, row, rest);
-                add_seen_section(text, plan, strip, row, depth, end)
+                push_seen(shapes, strip.window, section_span(strip, row, depth, end))
             } else {
                 Ok(())
             }
@@ -182,52 +135,36 @@ fn add_first_section(
     }
 }
 
-fn add_log_sections(
-    text: &mut Vec<u8>,
-    plan: &Plan,
-    strip: Strip,
-    log: &[Row],
-) -> Result<(), Memory>
-    requires { most_open 0 log.now ≤ strip.levels }
-    ensures { OnOk result (text.new.items ≡ text.old.items ++ log_sections plan.now strip log.now) }
+// The sections of a task's rows.
+fn push_all(shapes: &mut Vec<Shape>, strip: Strip, log: &[Row]) -> Result<(), Memory>
+    requires within { most_open 0 log.now ≤ strip.levels }
+    requires top { strip.top < 2 ^ 42 }
+    ensures { OnOk result (shapes.new.items ≡ shapes.old.items ++ log_sections strip log.now) }
 {
     let mut depth = 0;
     for (place, row) in log.iter().enumerate() {
-        add_first_section(text, plan, strip, depth, &log[place..])?;
+        push_first_section(shapes, strip, depth, &log[place..])?;
         depth = open_with(row, depth);
     }
     Ok(())
 }
 
-// The rows of a core, in their order.
-fn log_of(alloc: Global, core: CoreId, rows: &[Row]) -> Result<Vec<Row>, Memory>
-    ensures { IfOk result (λ log. log.items ≡ log_of core.0 rows.now) }
-{
-    let mut log = Vec::new(alloc);
-    for row in rows {
-        if row.core == core {
-            log.push(*row)?;
-        }
-    }
-    Ok(log)
-}
-
-/// Adds the sections of a core.
-pub(crate) fn add_core_sections(
-    alloc: Global,
-    text: &mut Vec<u8>,
-    plan: &Plan,
+/// Adds the sections of a task's rows, in its lane, where all rows end with a tick.
+pub(crate) fn push_sections(
+    shapes: &mut Vec<Shape>,
     window: Window,
-    rows: &[Row],
-    core: CoreId,
+    room: Room,
+    end: u64,
+    log: &[Row],
 ) -> Result<(), Memory>
-    ensures { OnOk result (text.new.items ≡ text.old.items ++ core_sections plan.now window rows.now core.0) }
+    requires { room.top < 2 ^ 41 }
+    ensures { OnOk result (shapes.new.items ≡ shapes.old.items ++ sections window room end log.now) }
 {
-    let log = log_of(alloc, core, rows)?;
     let strip = Strip {
         window,
-        end: begun(plan, rows) as u64,
-        levels: most_open(&log),
+        top: room.top + SECTION_TOP,
+        end,
+        levels: most_open(log),
     };
-    add_log_sections(text, plan, strip, &log)
+    push_all(shapes, strip, log)
 }

@@ -95,25 +95,26 @@ fn has(text: &[u8], part: &str) -> bool {
     (0..text.len()).any(|at| text[at..].starts_with(part.as_bytes()))
 }
 
-// The row that is framed stands in tick 1 of core 1: one tick and one lane from where core 0 begins.
+// The row that is framed stands in tick 1, in the lane of b. Nothing is drawn behind tick 2, the last of which a row stands.
 #[test]
 fn pictures_in_svg(rt: HostRuntime) {
     let asked = Asked {
         style: Style::Svg,
         ..ALL
     };
-    let table: [(&[u8], u8, [&str; 8]); 2] = [
+    let table: [(&[u8], u8, [&str; 9]); 2] = [
         (
             TRACE,
             0,
             [
                 "<svg ",
                 ">good\n",
+                "<title>ticks 0 to 2: a, job 0, has the turn of its core</title>",
                 "<title>ticks 0 to 0: a, job 0, take g</title>",
                 "<title>ticks 1 to 1: b, job 0, spin g</title>",
-                "<title>ticks 0 to 1: a, job 0, first in the queue of g; waiting behind: 1</title>",
+                "<title>ticks 0 to 1: a, job 0, ahead of 1 in the queue of g</title>",
                 "<title>release at 0: b, job 0</title>",
-                "<title>released at 0, finished by 3: a, job 0</title>",
+                "<title>ticks 0 to 2: a, job 0, from its release to its end</title>",
                 "<title>ticks 2 to 4: b, job 0, holds g</title>",
             ],
         ),
@@ -122,12 +123,13 @@ fn pictures_in_svg(rt: HostRuntime) {
             1,
             [
                 ">fault,4,A5\n",
-                "<rect class=\"mark\" x=\"152\" y=\"198\"",
-                ">A5</text>",
-                "<title>ticks 2 to 2: a, job 0, release g</title>",
-                "<title>ticks 0 to 1: a, job 0, first in the queue of g; waiting behind: 1</title>",
-                "<text class=\"label\" x=\"132\" y=\"330\">g</text>",
-                "<title>released at 0, not finished by 2: a, job 0</title>",
+                ">ticks 0 to 2 of 6, the fault in tick 1\n",
+                "<svg class=\"breaks\" x=\"168\" y=\"292\" width=\"28\" height=\"50\"><title>ticks 1 to 1: b, job 0, breaks rule A5 g</title>",
+                "<text class=\"rule\" x=\"168\" y=\"289\">A5</text>",
+                "<svg class=\"release after\" x=\"196\" y=\"168\" width=\"28\" height=\"50\"><title>ticks 2 to 2: a, job 0, release g</title>",
+                "<title>ticks 0 to 1: a, job 0, ahead of 1 in the queue of g</title>",
+                "<text class=\"label\" x=\"132\" y=\"384\">g</text>",
+                "<title>ticks 0 to 1: a, job 0, from its release on, not finished</title>",
                 "<title>ticks 0 to 1: a, job 0, holds g</title>",
             ],
         ),
@@ -155,16 +157,16 @@ fn sections_within_one_another(rt: HostRuntime) {
             b"msrp,1\ncores,1\nticks,4\nresource,a\nresource,b\nresource,c\nresource,d\ntask,t,0,20,20,0\nop,lock,a\nop,lock,d\nop,unlock,d\nop,unlock,a\n",
             b"msrp-trace,1,1,4\n0,0,lock,t,0,a\n1,0,lock,t,0,d\n2,0,unlock,t,0,d\n3,0,unlock,t,0,a\n",
             [
-                "<svg x=\"140\" y=\"122\" width=\"48\" height=\"8\"><title>ticks 0 to 3: t, job 0, holds a</title>",
-                "<svg x=\"152\" y=\"130\" width=\"24\" height=\"8\"><title>ticks 1 to 2: t, job 0, holds d</title>",
+                "<svg class=\"holds\" x=\"140\" y=\"184\" width=\"112\" height=\"10\"><title>ticks 0 to 3: t, job 0, holds a</title>",
+                "<svg class=\"holds\" x=\"168\" y=\"194\" width=\"56\" height=\"10\"><title>ticks 1 to 2: t, job 0, holds d</title>",
             ],
         ),
         (
             b"msrp,1\ncores,1\nticks,10\nresource,a\nresource,b\nresource,c\nresource,d\nresource,e\ntask,t,0,20,20,0\nop,lock,a\nop,lock,b\nop,lock,c\nop,lock,d\nop,lock,e\nop,unlock,e\nop,unlock,d\nop,unlock,c\nop,unlock,b\nop,unlock,a\n",
             b"msrp-trace,1,1,10\n0,0,lock,t,0,a\n1,0,lock,t,0,b\n2,0,lock,t,0,c\n3,0,lock,t,0,d\n4,0,lock,t,0,e\n5,0,unlock,t,0,e\n6,0,unlock,t,0,d\n7,0,unlock,t,0,c\n8,0,unlock,t,0,b\n9,0,unlock,t,0,a\n",
             [
-                "<svg x=\"140\" y=\"122\" width=\"120\" height=\"6\"><title>ticks 0 to 9: t, job 0, holds a</title>",
-                "<svg x=\"188\" y=\"146\" width=\"24\" height=\"6\"><title>ticks 4 to 5: t, job 0, holds e</title>",
+                "<svg class=\"holds\" x=\"140\" y=\"184\" width=\"280\" height=\"6\"><title>ticks 0 to 9: t, job 0, holds a</title>",
+                "<svg class=\"holds\" x=\"252\" y=\"208\" width=\"56\" height=\"6\"><title>ticks 4 to 5: t, job 0, holds e</title>",
             ],
         ),
     ];

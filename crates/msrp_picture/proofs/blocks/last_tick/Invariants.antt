@@ -1,6 +1,0 @@
-use Rattle.std.proofs.Common.{◌≡◌, drop}
-use Rattle.msrp_picture.specs.Blocks.{last_tick}
-use Rattle.msrp_picture.proofs.blocks.last_tick.Given as goal
-
-abbrev pub invariant-loop-row : goal.invariant-loop-row
-invariant-loop-row l = last_tick l.last (drop l.row-index l.rest) ≡ last_tick l.fn.first l.rest

@@ -1,0 +1,7 @@
+use Rattle.std.proofs.Common.{◌≡◌, ◌++◌, take}
+use Rattle.std.specs.List.{flat_map}
+use Rattle.msrp_picture.specs.Elements.{shape_text}
+use Rattle.msrp_picture.proofs.elements.add_shapes.Given as goal
+
+abbrev pub invariant-loop-shape : goal.invariant-loop-shape
+invariant-loop-shape l = l.text.items ≡ l.fn.text.items ++ flat_map (shape_text l.plan l.window) (take l.shape-index l.shapes)

@@ -1,0 +1,7 @@
+use Rattle.std.proofs.Common.{◌≡◌, ℕ, ◌++◌}
+use Rattle.std.specs.List.{flat_map, range_with_len}
+use Rattle.msrp_picture.specs.Lanes.{task_head, task_life}
+use Rattle.msrp_picture.proofs.lanes.push_tasks.Given as goal
+
+abbrev pub invariant-loop-task : goal.invariant-loop-task
+invariant-loop-task l = l.shapes.items ≡ l.fn.shapes.items ++ flat_map (λ (n : ℕ). task_head l.fn.plan l.fn.window (record { 0 = n }) ++ task_life l.fn.plan l.fn.window l.fn.shown.rows.now l.fn.shown.later.now (record { 0 = n })) (range_with_len 0 l.task)

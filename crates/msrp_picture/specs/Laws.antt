@@ -1,0 +1,49 @@
+-- What a picture in SVG promises, in the words of schedules.
+use Rattle.std.specs.Prelude.{◌≡◌, ℕ, List, Bool, true, false, ◌&&◌, ◌==◌, Option, count_by, filter_map, length, map, ◌≤◌, ◌<◌, ◌+◌, ◌-◌, ⊤}
+use Rattle.std.specs.List.{flat_map, range_with_len}
+use Rattle.std.specs.declared.result.Result.{Result}
+use Rattle.msrp_plan.specs.Jobs.{job_at, jobs_of, same_job}
+use Rattle.msrp_plan.specs.Plan.{PlanModel, release}
+use Rattle.msrp_plan.specs.declared.faults.Fault.{Fault}
+use Rattle.msrp_plan.specs.declared.ids.JobId.{JobId}
+use Rattle.msrp_plan.specs.declared.rows.Row.{Row}
+use Rattle.msrp_picture.specs.Blocks.{span_of}
+use Rattle.msrp_picture.specs.Stretches.{merged}
+use Rattle.msrp_picture.specs.Svg.{drawn_shapes}
+use Rattle.msrp_picture.specs.declared.blocks.Lane.{Lane}
+use Rattle.msrp_picture.specs.declared.shapes.Moment.{Moment}
+use Rattle.msrp_picture.specs.declared.shapes.Moment.TheVariants.{Release, Deadline}
+use Rattle.msrp_picture.specs.declared.shapes.Shape.{Shape}
+use Rattle.msrp_picture.specs.declared.shapes.Shape.TheVariants.{Arrow}
+use Rattle.msrp_picture.specs.declared.shapes.Span.{Span}
+use Rattle.msrp_picture.specs.declared.windows.Window.{Window}
+
+-- a block, taken apart into its ticks
+abbrev pub ticks_of : Span → List Span
+ticks_of s = map (λ t. record s { first = t; end = t + 1 }) (range_with_len s.first (s.end - s.first))
+
+-- the rows that a lane shows, each in its tick
+abbrev pub shown_rows : Lane → List Row → List Span
+shown_rows lane rows = filter_map (span_of lane) rows
+
+-- the blocks of a lane, taken apart, are the rows that it shows, in their order: each row lies in exactly one block, which shows of it what it is
+abbrev pub EachRowInOneBlock : Lane → List Row → Type 0
+EachRowInOneBlock lane rows = flat_map ticks_of (merged (shown_rows lane rows)) ≡ shown_rows lane rows
+
+-- ---- arrows
+abbrev pub is_release : Moment → Bool
+is_release Release = true
+is_release Deadline = false
+
+-- the shape is an arrow up at the release of this job
+abbrev pub is_release_of : PlanModel → JobId → Shape → Bool
+is_release_of plan j (Arrow e) = is_release e.moment && (same_job e.job j && e.tick == release plan j)
+is_release_of plan j _ = false
+
+-- a picture has one such arrow of each job that is released in its ticks, or where they end
+abbrev pub OneArrow : PlanModel → Window → ℕ → ℕ → List Shape → Type 0
+OneArrow plan w t k shapes =
+    t < length plan.tasks → k < length (jobs_of plan t) → w.from ≤ release plan (job_at t k) → release plan (job_at t k) ≤ w.to → count_by (is_release_of plan (job_at t k)) shapes ≡ 1
+
+abbrev pub OneArrowForEachRelease : PlanModel → List Row → List Row → Option Row → Result ⊤ Fault → Window → Type 0
+OneArrowForEachRelease plan legal later broken found w = (t k : ℕ) → OneArrow plan w t k (drawn_shapes plan legal later broken found w)

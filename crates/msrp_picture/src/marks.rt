@@ -1,0 +1,90 @@
+//! The frame of the row that breaks a rule, with the rule's name.
+ghost use Rattle.std.specs.Prelude.{◌≡◌, ◌++◌, OnOk};
+ghost use Rattle.msrp_picture.specs.Marks.{broken_shapes, broken_span, drawn_mark, is_in, mark_of, mark_shapes};
+
+use crate::places::row_room;
+use crate::seen::push;
+use crate::shapes::{Look, Note, Room, Shape, Span, Words};
+use crate::windows::Window;
+use msrp_plan::{Fault, Memory, Plan, Row, Rule};
+
+fn is_in(window: Window, row: &Row) -> bool
+    ensures { result ≡ is_in window row.now }
+{
+    window.from <= row.tick && row.tick < window.to
+}
+
+fn broken_span(room: Room, rule: Rule, row: &Row) -> Span
+    ensures { result ≡ broken_span room rule row.now }
+{
+    Span {
+        first: row.tick as u64,
+        end: row.tick as u64 + 1,
+        room,
+        look: Look::Breaks(rule),
+        is_legal: true,
+        job: row.job,
+        res: row.res,
+    }
+}
+
+fn push_mark(shapes: &mut Vec<Shape>, plan: &Plan, rule: Rule, row: &Row) -> Result<(), Memory>
+    ensures { OnOk result (shapes.new.items ≡ shapes.old.items ++ mark_shapes plan.now rule row.now) }
+{
+    let room = row_room(plan, row);
+    let note = Note {
+        line: room.top - 3,
+        words: Words::Broken(rule, row.tick as u64),
+    };
+    push(shapes, Shape::Block(broken_span(room, rule, row)))?;
+    push(shapes, Shape::Text(note))
+}
+
+// The mark of a row, if it is drawn.
+fn push_drawn(
+    shapes: &mut Vec<Shape>,
+    plan: &Plan,
+    window: Window,
+    rule: Rule,
+    row: &Row,
+) -> Result<(), Memory>
+    ensures { OnOk result (shapes.new.items ≡ shapes.old.items ++ drawn_mark plan.now window rule row.now) }
+{
+    if is_in(window, row) {
+        push_mark(shapes, plan, rule, row)
+    } else {
+        Ok(())
+    }
+}
+
+// The same of the row that breaks a rule, if there is one.
+fn push_mark_of(
+    shapes: &mut Vec<Shape>,
+    plan: &Plan,
+    window: Window,
+    rule: Rule,
+    broken: Option<Row>,
+) -> Result<(), Memory>
+    ensures { OnOk result (shapes.new.items ≡ shapes.old.items ++ mark_of plan.now window rule broken) }
+{
+    match broken {
+        Some(row) => push_drawn(shapes, plan, window, rule, &row),
+        None => Ok(()),
+    }
+}
+
+/// Adds the mark of the row that breaks a rule, if there is one and it is drawn.
+pub(crate) fn push_broken(
+    shapes: &mut Vec<Shape>,
+    plan: &Plan,
+    window: Window,
+    found: Result<(), Fault>,
+    broken: Option<Row>,
+) -> Result<(), Memory>
+    ensures { OnOk result (shapes.new.items ≡ shapes.old.items ++ broken_shapes plan.now window broken found) }
+{
+    match found {
+        Ok(()) => Ok(()),
+        Err(fault) => push_mark_of(shapes, plan, window, fault.rule, broken),
+    }
+}

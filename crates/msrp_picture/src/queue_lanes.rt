@@ -1,0 +1,101 @@
+//! A lane for each global resource, with who is first in its queue and how many wait behind.
+ghost use Rattle.std.specs.Prelude.{◌≡◌, ◌<◌, ◌≤◌, ◌++◌, ◌+◌, ◌^◌, length, IfOk, OnOk};
+ghost use Rattle.msrp_picture.specs.QueueLanes.{held_by, queue_shapes, queue_spans, queues_shapes};
+ghost use Rattle.msrp_picture.specs.Windows.{IsWindow};
+
+use crate::places::{NAME_LINE, queue_room};
+use crate::queues::{Standing, standings};
+use crate::seen::{lane_of, note_of, push};
+use crate::shapes::{Look, Room, Shape, Span, Words};
+use crate::stretches::push_merged;
+use crate::windows::{Window, begun};
+use msrp_levels::Levels;
+use msrp_plan::{Memory, Plan, ResId, Row};
+use std::alloc::Global;
+
+// A tick after which the queue of a resource stands so, if someone is first in it.
+fn push_held(
+    spans: &mut Vec<Span>,
+    room: Room,
+    res: ResId,
+    tick: u64,
+    standing: Standing,
+) -> Result<(), Memory>
+    requires { tick ≤ 2 ^ 32 }
+    ensures { OnOk result (spans.new.items ≡ spans.old.items ++ held_by room res tick standing standing.first) }
+{
+    if standing.first.is_some() {
+        spans.push(Span {
+            first: tick,
+            end: tick + 1,
+            room,
+            look: Look::First(standing.behind as u64),
+            is_legal: true,
+            job: standing.first,
+            res: Some(res),
+        })?;
+    }
+    Ok(())
+}
+
+// The same of each tick from one on.
+fn spans_of(
+    alloc: Global,
+    room: Room,
+    res: ResId,
+    from: u32,
+    standings: &[Standing],
+) -> Result<Vec<Span>, Memory>
+    requires { from + length standings.now ≤ 2 ^ 32 }
+    ensures { IfOk result (λ spans. spans.items ≡ queue_spans room res from standings.now) }
+{
+    let mut spans = Vec::new(alloc);
+    for (place, standing) in standings.iter().enumerate() {
+        push_held(&mut spans, room, res, from as u64 + place as u64, *standing)?;
+    }
+    Ok(spans)
+}
+
+// The lane of a resource: its name, what lies under its blocks as far as rows stand, and these.
+fn push_queue(
+    alloc: Global,
+    shapes: &mut Vec<Shape>,
+    plan: &Plan,
+    levels: &Levels<'_>,
+    window: Window,
+    rows: &[Row],
+    res: ResId,
+) -> Result<(), Memory>
+    requires window { IsWindow window }
+    requires levels { levels.now ≡ plan.now }
+    requires res { res.0 < length plan.now.resources }
+    ensures { OnOk result (shapes.new.items ≡ shapes.old.items ++ queue_shapes plan.now window rows.now res.0) }
+{
+    let room = queue_room(plan, levels, res);
+    let found = standings(alloc, plan, rows, res, window)?;
+    let spans = spans_of(alloc, room, res, window.from, &found)?;
+    push(shapes, note_of(room, NAME_LINE, Words::Res(res)))?;
+    push(shapes, lane_of(window, room, begun(plan, rows) as u64))?;
+    push_merged(shapes, window, &spans)
+}
+
+/// Adds the lanes of the global resources.
+pub(crate) fn push_queues(
+    alloc: Global,
+    shapes: &mut Vec<Shape>,
+    plan: &Plan,
+    levels: &Levels<'_>,
+    window: Window,
+    rows: &[Row],
+) -> Result<(), Memory>
+    requires window { IsWindow window }
+    requires levels { levels.now ≡ plan.now }
+    ensures { OnOk result (shapes.new.items ≡ shapes.old.items ++ queues_shapes plan.now window rows.now) }
+{
+    for res in 0..plan.resources() {
+        if levels.is_global(ResId(res)) {
+            push_queue(alloc, shapes, plan, levels, window, rows, ResId(res))?;
+        }
+    }
+    Ok(())
+}
