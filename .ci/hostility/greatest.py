@@ -1,6 +1,7 @@
 """The greatest plans that the limits allow, and the least: every command answers each of them whole.
 
 That memory may run out at any time stands in every contract, so a body that gives up on one input is proved. This shows that none does."""
+import json
 import xml.etree.ElementTree as tree
 
 from .inputs import text
@@ -107,12 +108,23 @@ def whole_pictures(found, name, plan, style):
 
 
 def whole_dump(found, name, plan):
-    """A dump of the whole run, up to the end of its last tick."""
+    """A dump of the whole run, up to the end of its last tick, and its trace events."""
     size, path = Size(plan), kept("plan", plan)
     trace = kept("trace", ask(words_of("sim", path, "")).out)
     answer = ask(["--vcd", str(path), str(trace)], program=VIEWER)
     whole = answer.out.startswith(b"$version ") and answer.out.endswith(b"\n#%d\n" % size.ticks)
     found.judge(answer.status == GOOD and not answer.line and whole, f"{name}, a dump", answer)
+    answer = ask(["--perfetto", str(path), str(trace)], program=VIEWER)
+    found.judge(answer.status == GOOD and not answer.line and are_events(answer.out), f"{name}, trace events", answer)
+
+
+def are_events(text):
+    """Whether this is JSON of trace events in which as many slices end as begin."""
+    try:
+        phases = [event["ph"] for event in json.loads(text)["traceEvents"]]
+        return phases.count("B") == phases.count("E")
+    except ValueError:
+        return False
 
 
 def is_drawn(svg):

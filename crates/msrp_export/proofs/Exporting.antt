@@ -6,11 +6,13 @@ use Rattle.msrp_plan.specs.WellFormed.{IsPlan}
 use Rattle.msrp_plan.specs.declared.rows.Row.{Row}
 use Rattle.msrp_export.specs.Exports.{HasExported, TellsTick, row_text}
 use Rattle.msrp_export.specs.Tells.{Tells}
-use Rattle.msrp_export.specs.Vcd.{begun_text, over, rows_before, rows_in, tick_line, tick_text}
+use Rattle.msrp_export.specs.Changes.{begun_text, tick_begin, tick_text}
+use Rattle.msrp_export.specs.Ticks.{over, rows_before, rows_in}
 use Rattle.msrp_export.specs.declared.exporter.Exporter.{Exporter}
+use Rattle.msrp_export.specs.declared.formats.Format.{Format}
 use Rattle.msrp_export.specs.declared.recent.Recent.{Recent}
 use Rattle.msrp_export.specs.declared.standing.Standing.{Standing}
-use Rattle.msrp_export.proofs.Ticks.{AreOver, all_before, all_in, all_in_push, before_push, earlier_push, ends, goes_on, over_is}
+use Rattle.msrp_export.proofs.Ticks.{AreOver, all_before, all_in, all_in_next, all_in_push, before_push, earlier_push, ends, goes_on, over_is}
 
 pub are_over : (e : Exporter) (rows : List Row) → HasExported e rows → AreOver e.plan.now rows e.tick e.turns
 are_over e rows h = record { size = h.size; few = h.turns }
@@ -38,6 +40,14 @@ next_tick plan rows tick old new over told latest e b l = record {
   earlier = subst (λ (s : Standing). Tells s (rows_before plan rows (tick + 1 - 1))) (sym e) (subst (λ t. Tells old.before (rows_before plan rows t)) (less-one tick) told.before);
   before = subst (λ (s : Standing). Tells s (rows_before plan rows (tick + 1))) (sym b) (subst (Tells old.latest) (sym (all_before plan rows (tick + 1) over)) latest);
   latest = subst (λ (s : Standing). Tells s (rows_in plan rows (tick + 1))) (sym l) (subst (Tells old.latest) (sym (all_in plan rows (tick + 1) 0 over)) latest);
+}
+
+-- a tick is over of which some rows have come
+pub partial_tick : (plan : PlanModel) (rows : List Row) (tick turns : ℕ) (old new : Recent) → AreOver plan rows tick turns → TellsTick plan rows tick old → new.earlier ≡ old.before → new.before ≡ old.latest → new.latest ≡ old.latest → TellsTick plan rows (tick + 1) new
+partial_tick plan rows tick turns old new over told e b l = record {
+  earlier = subst (λ (s : Standing). Tells s (rows_before plan rows (tick + 1 - 1))) (sym e) (subst (λ t. Tells old.before (rows_before plan rows t)) (less-one tick) told.before);
+  before = subst (λ (s : Standing). Tells s (rows_before plan rows (tick + 1))) (sym b) told.latest;
+  latest = subst (λ (s : Standing). Tells s (rows_in plan rows (tick + 1))) (sym l) (subst (Tells old.latest) (sym (all_in_next plan rows tick turns over)) (told_rows plan rows tick turns old over told));
 }
 
 -- ---- exporters
@@ -75,28 +85,28 @@ went old new rows r h other same told tick turns =
 
 -- ---- texts
 -- what the last row of a tick adds, and what another does
-pub ends_text : (plan : PlanModel) (rows : List Row) (r : Row) (tick turns : ℕ) → AreOver plan rows tick turns → turns + 1 ≡ plan.cores → tick_text plan (rows ++ r ∷ []) tick ≡ row_text plan rows r
-ends_text plan rows r tick turns h last =
+pub ends_text : (format : Format) (plan : PlanModel) (rows : List Row) (r : Row) (tick turns : ℕ) → AreOver plan rows tick turns → turns + 1 ≡ plan.cores → tick_text format plan (rows ++ r ∷ []) tick ≡ row_text format plan rows r
+ends_text format plan rows r tick turns h last =
     let was = over_is plan rows tick turns h in
     let now = over_is plan (rows ++ r ∷ []) (tick + 1) 0 (ends plan rows r tick turns h last) in
     let more : nat_lt (over plan rows) (over plan (rows ++ r ∷ [])) ≡ true = lt-ltb (over plan rows) (over plan (rows ++ r ∷ [])) (omega (arith, was, now)) in
-    sym (ap (λ b. cond b (tick_text plan (rows ++ r ∷ []) (over plan rows)) []) more ∙ ap (tick_text plan (rows ++ r ∷ [])) was)
+    sym (ap (λ b. cond b (tick_text format plan (rows ++ r ∷ []) (over plan rows)) []) more ∙ ap (tick_text format plan (rows ++ r ∷ [])) was)
 
-pub goes_text : (plan : PlanModel) (rows : List Row) (r : Row) (tick turns : ℕ) → AreOver plan rows tick turns → turns + 1 ≢ plan.cores → [] ≡ row_text plan rows r
-goes_text plan rows r tick turns h other =
+pub goes_text : (format : Format) (plan : PlanModel) (rows : List Row) (r : Row) (tick turns : ℕ) → AreOver plan rows tick turns → turns + 1 ≢ plan.cores → [] ≡ row_text format plan rows r
+goes_text format plan rows r tick turns h other =
     let was = over_is plan rows tick turns h in
     let now = over_is plan (rows ++ r ∷ []) tick (turns + 1) (goes_on plan rows r tick turns h other) in
-    sym (ap (λ b. cond b (tick_text plan (rows ++ r ∷ []) (over plan rows)) []) (le-ltb (over plan rows) (over plan (rows ++ r ∷ [])) (omega (arith, was, now))))
+    sym (ap (λ b. cond b (tick_text format plan (rows ++ r ∷ []) (over plan rows)) []) (le-ltb (over plan rows) (over plan (rows ++ r ∷ [])) (omega (arith, was, now))))
 
 -- the tick that has begun, with rows in it, and without
-pub some_begun : (plan : PlanModel) (rows : List Row) (tick turns : ℕ) → AreOver plan rows tick turns → 0 < turns → tick_text plan rows tick ≡ begun_text plan rows
-some_begun plan rows tick turns h some =
+pub some_begun : (format : Format) (plan : PlanModel) (rows : List Row) (tick turns : ℕ) → AreOver plan rows tick turns → 0 < turns → tick_text format plan rows tick ≡ begun_text format plan rows
+some_begun format plan rows tick turns h some =
     let size = h.size in
-    sym (ap (λ t. cond (nat_lt (t * plan.cores) (length rows)) (tick_text plan rows t) (tick_line t)) (over_is plan rows tick turns h)
-    ∙ ap (λ b. cond b (tick_text plan rows tick) (tick_line tick)) (lt-ltb (tick * plan.cores) (length rows) (omega (arith, size, some))))
+    sym (ap (λ t. cond (nat_lt (t * plan.cores) (length rows)) (tick_text format plan rows t) (tick_begin format t)) (over_is plan rows tick turns h)
+    ∙ ap (λ b. cond b (tick_text format plan rows tick) (tick_begin format tick)) (lt-ltb (tick * plan.cores) (length rows) (omega (arith, size, some))))
 
-pub none_begun : (plan : PlanModel) (rows : List Row) (tick : ℕ) → AreOver plan rows tick 0 → tick_line tick ≡ begun_text plan rows
-none_begun plan rows tick h =
+pub none_begun : (format : Format) (plan : PlanModel) (rows : List Row) (tick : ℕ) → AreOver plan rows tick 0 → tick_begin format tick ≡ begun_text format plan rows
+none_begun format plan rows tick h =
     let size = h.size in
-    sym (ap (λ t. cond (nat_lt (t * plan.cores) (length rows)) (tick_text plan rows t) (tick_line t)) (over_is plan rows tick 0 h)
-    ∙ ap (λ b. cond b (tick_text plan rows tick) (tick_line tick)) (le-ltb (tick * plan.cores) (length rows) (omega (arith, size))))
+    sym (ap (λ t. cond (nat_lt (t * plan.cores) (length rows)) (tick_text format plan rows t) (tick_begin format t)) (over_is plan rows tick 0 h)
+    ∙ ap (λ b. cond b (tick_text format plan rows tick) (tick_begin format tick)) (le-ltb (tick * plan.cores) (length rows) (omega (arith, size))))

@@ -1,10 +1,11 @@
 -- Ticks of rows, with one row more.
-use Rattle.std.proofs.Common.{◌≡◌, ◌≢◌, ℕ, ◌+◌, ◌-◌, ◌*◌, ◌/◌, ◌<◌, ◌≤◌, List, [], ◌∷◌, ◌++◌, ap, ◌∙◌, arith, length, length-append}
+use Rattle.std.proofs.Common.{◌≡◌, ◌≢◌, ℕ, ◌+◌, ◌-◌, ◌*◌, ◌/◌, ◌<◌, ◌≤◌, cond, nat_lt, List, [], ◌∷◌, ◌++◌, ap, ◌∙◌, arith, length, length-append}
+use Rattle.std.proofs.lemmas.Bool.{le-ltb, lt-ltb}
 use Rattle.std.proofs.lemmas.List.{take-append-le, take_all}
 use Rattle.std.proofs.lemmas.Nat.{div-mul-add}
 use Rattle.msrp_plan.specs.Plan.{PlanModel}
 use Rattle.msrp_plan.specs.declared.rows.Row.{Row}
-use Rattle.msrp_export.specs.Vcd.{over, rows_before, rows_in}
+use Rattle.msrp_export.specs.Ticks.{begun, over, rows_before, rows_in}
 
 -- so many ticks are over, and so many rows have come since
 pub record AreOver (plan : PlanModel) (rows : List Row) (tick turns : ℕ) : Type 0 where
@@ -48,6 +49,22 @@ earlier_push plan rows r tick turns h = take-append-le ((tick - 1) * plan.cores)
 pub all_in : (plan : PlanModel) (rows : List Row) (tick turns : ℕ) → AreOver plan rows tick turns → rows_in plan rows tick ≡ rows
 all_in plan rows tick turns h =
     take_all ((tick + 1) * plan.cores) rows (let size = h.size in let few = h.few in let next = more tick plan.cores in omega (arith, size, few, next))
+
+-- and in those up to the next one
+pub all_in_next : (plan : PlanModel) (rows : List Row) (tick turns : ℕ) → AreOver plan rows tick turns → rows_in plan rows (tick + 1) ≡ rows
+all_in_next plan rows tick turns h =
+    take_all ((tick + 1 + 1) * plan.cores) rows (let size = h.size in let few = h.few in let next = more tick plan.cores in let later = more (tick + 1) plan.cores in omega (arith, size, few, next, later))
+
+-- how many ticks have rows, where some have come since, and where none has
+pub begun_some : (plan : PlanModel) (rows : List Row) (tick turns : ℕ) → AreOver plan rows tick turns → 0 < turns → begun plan rows ≡ tick + 1
+begun_some plan rows tick turns h some =
+    let size = h.size in
+    ap (λ t. cond (nat_lt (t * plan.cores) (length rows)) (t + 1) t) (over_is plan rows tick turns h) ∙ ap (λ b. cond b (tick + 1) tick) (lt-ltb (tick * plan.cores) (length rows) (omega (arith, size, some)))
+
+pub begun_none : (plan : PlanModel) (rows : List Row) (tick : ℕ) → AreOver plan rows tick 0 → begun plan rows ≡ tick
+begun_none plan rows tick h =
+    let size = h.size in
+    ap (λ t. cond (nat_lt (t * plan.cores) (length rows)) (t + 1) t) (over_is plan rows tick 0 h) ∙ ap (λ b. cond b (tick + 1) tick) (le-ltb (tick * plan.cores) (length rows) (omega (arith, size)))
 
 -- the same with one row more
 pub all_in_push : (plan : PlanModel) (rows : List Row) (r : Row) (tick turns : ℕ) → AreOver plan rows tick turns → rows_in plan (rows ++ r ∷ []) tick ≡ rows ++ r ∷ []

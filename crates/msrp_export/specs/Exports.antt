@@ -1,32 +1,34 @@
--- What is written of a trace, row by row.
+-- What is written of a trace in a format, row by row.
 use Rattle.std.specs.Prelude.{◌≡◌, ℕ, ◌<◌, ◌+◌, ◌-◌, ◌*◌, List, [], ◌∷◌, ◌++◌, if◌then◌else◌, length, nat_lt, slice_get, take, Ok, Err, ⊤}
 use Rattle.std.specs.declared.result.Result.{Result}
 use Rattle.msrp_plan.specs.Plan.{PlanModel}
 use Rattle.msrp_plan.specs.WellFormed.{IsPlan}
 use Rattle.msrp_plan.specs.declared.faults.Fault.{Fault}
 use Rattle.msrp_plan.specs.declared.rows.Row.{Row}
+use Rattle.msrp_export.specs.Changes.{end_text, fault_text, head_text, tick_text}
 use Rattle.msrp_export.specs.Tells.{Tells}
-use Rattle.msrp_export.specs.Vcd.{end_text, fault_text, head_text, over, rows_before, rows_in, tick_text}
+use Rattle.msrp_export.specs.Ticks.{over, rows_before, rows_in}
 use Rattle.msrp_export.specs.declared.exporter.Exporter.{Exporter}
+use Rattle.msrp_export.specs.declared.formats.Format.{Format}
 use Rattle.msrp_export.specs.declared.recent.Recent.{Recent}
 
 -- what a row adds behind those before it: with the last row of a tick the tick, and what changes in it
-abbrev pub row_text : PlanModel → List Row → Row → List ℕ
-row_text plan pre r = if nat_lt (over plan pre) (over plan (pre ++ r ∷ [])) then tick_text plan (pre ++ r ∷ []) (over plan pre) else []
+abbrev pub row_text : Format → PlanModel → List Row → Row → List ℕ
+row_text format plan pre r = if nat_lt (over plan pre) (over plan (pre ++ r ∷ [])) then tick_text format plan (pre ++ r ∷ []) (over plan pre) else []
 
 -- the rows that follow pre
-abbrev pub rows_from : PlanModel → List Row → List Row → List ℕ
-rows_from plan pre [] = []
-rows_from plan pre (r ∷ rows) = row_text plan pre r ++ rows_from plan (pre ++ r ∷ []) rows
+abbrev pub rows_from : Format → PlanModel → List Row → List Row → List ℕ
+rows_from format plan pre [] = []
+rows_from format plan pre (r ∷ rows) = row_text format plan pre r ++ rows_from format plan (pre ++ r ∷ []) rows
 
 -- the head, and rows from the first on
-abbrev pub part_text : PlanModel → List Row → List ℕ
-part_text plan rows = head_text plan ++ rows_from plan [] rows
+abbrev pub part_text : Format → PlanModel → List Row → List ℕ
+part_text format plan rows = head_text format plan ++ rows_from format plan [] rows
 
 -- what is written of rows with that verdict: all of a legal run, and else those before the first that breaks a rule, and the fault
-unfoldable pub export_text : PlanModel → List Row → Result ⊤ Fault → List ℕ
-export_text plan rows (Ok good) = part_text plan rows ++ end_text plan
-export_text plan rows (Err f) = part_text plan (take (f.row - 1) rows) ++ fault_text plan (take (f.row - 1) rows) f.rule (slice_get rows (f.row - 1))
+unfoldable pub export_text : Format → PlanModel → List Row → Result ⊤ Fault → List ℕ
+export_text format plan rows (Ok good) = part_text format plan rows ++ end_text format plan rows
+export_text format plan rows (Err f) = part_text format plan (take (f.row - 1) rows) ++ fault_text format plan (take (f.row - 1) rows) f.rule (slice_get rows (f.row - 1))
 
 -- ---- what is kept
 -- of rows with a tick that has this number: those before the tick before, those before it, and those up to it

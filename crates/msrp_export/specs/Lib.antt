@@ -1,5 +1,9 @@
 pub mod Words
 pub mod Signals
+pub mod Keeping
+pub mod Ticks
 pub mod Vcd
+pub mod Perfetto
+pub mod Changes
 pub mod Tells
 pub mod Exports

@@ -3,11 +3,13 @@ use Rattle.std.specs.Prelude.{ℕ, List, Bool, true, false, ◌==◌, ◌&&◌, 
 use Rattle.msrp_plan.specs.Plan.{PlanModel, key, task_at}
 use Rattle.msrp_plan.specs.Jobs.{is_released, is_waiting, job_at}
 use Rattle.msrp_plan.specs.Logs.{log_of}
-use Rattle.msrp_plan.specs.Queues.{is_on}
+use Rattle.msrp_plan.specs.Queues.{fifo, is_on}
 use Rattle.msrp_plan.specs.declared.ids.JobId.{JobId}
 use Rattle.msrp_plan.specs.declared.rows.Kind.{Kind}
 use Rattle.msrp_plan.specs.declared.rows.Kind.TheVariants.{Lock, Unlock, Take, Grant, Release}
 use Rattle.msrp_plan.specs.declared.rows.Row.{Row}
+use Rattle.msrp_export.specs.declared.standing.ResState.{ResState}
+use Rattle.msrp_export.specs.declared.states.Doing.{Doing}
 use Rattle.msrp_export.specs.declared.states.TaskState.{TaskState}
 use Rattle.msrp_export.specs.declared.states.TaskState.TheVariants.{Unreleased, Ready, Running, Holding, Spinning}
 
@@ -73,6 +75,16 @@ task_state plan before rows tick t =
 abbrev pub is_late : PlanModel → List Row → ℕ → ℕ → Bool
 is_late plan before tick t = nat_le (key plan (job_after plan before t)).deadline tick
 
+-- all that a task does in a tick, by the rows before it and by those up to it
+abbrev pub doing_of : PlanModel → List Row → List Row → ℕ → ℕ → Doing
+doing_of plan before rows tick t = record {
+  state = task_state plan before rows tick t;
+  job = job_after plan before t;
+  late = is_late plan before tick t;
+  kind = kind_in tick t (last_row (task_at plan t).core rows);
+  work = work t before;
+}
+
 -- ---- resources
 -- the holder of a resource after a row more
 abbrev pub holder_by : Option JobId → Row → Option JobId
@@ -84,3 +96,7 @@ holder_with g held r = if is_on g r.res then holder_by held r else held
 -- the job that was last given the resource, unless it has given it up
 abbrev pub holder : ℕ → List Row → Option JobId
 holder g rows = fold (holder_with g) None rows
+
+-- the holder, and how many jobs stand in the queue
+abbrev pub res_state : ℕ → List Row → ResState
+res_state g rows = record { holder = holder g rows; queued = length (fifo g rows) }

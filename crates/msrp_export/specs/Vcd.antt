@@ -2,17 +2,17 @@
 -- time is one tick. Of each core it says what it does (k), for which job (j) and on which resource (g); of each task its state (t), and whether it is late (l); of
 -- each resource its holder (h) and how many jobs stand in its queue (q); and the rule that is broken (f), and the row that breaks it (r).
 -- Strings are as GTKWave reads them, and numbers are reals.
-use Rattle.std.specs.Prelude.{ℕ, List, [], ◌++◌, Bool, false, not, nat_eq, nat_lt, ◌==◌, ◌&&◌, codes, decimal, length, take, Option, Some, None, if◌then◌else◌, ◌+◌, ◌-◌, ◌*◌, ◌/◌}
+use Rattle.std.specs.Prelude.{ℕ, List, [], ◌++◌, Bool, not, nat_eq, ◌==◌, ◌&&◌, codes, decimal, length, Option, Some, None, if◌then◌else◌}
 use Rattle.std.specs.List.{flat_map, range_with_len}
 use Rattle.msrp_plan.specs.Plan.{PlanModel}
-use Rattle.msrp_plan.specs.Actions.{same_res}
-use Rattle.msrp_plan.specs.Queues.{fifo}
 use Rattle.msrp_plan.specs.Runs.{same_choice}
 use Rattle.msrp_plan.specs.declared.faults.Rule.{Rule}
 use Rattle.msrp_plan.specs.declared.ids.JobId.{JobId}
 use Rattle.msrp_plan.specs.declared.rows.Row.{Row}
-use Rattle.msrp_export.specs.Signals.{holder, is_late, last_row, task_state}
-use Rattle.msrp_export.specs.Words.{bit_text, dash, job_text, kind_text, res_name, res_text, rule_text, same_bit, same_kind, same_state, state_text, task_name}
+use Rattle.msrp_export.specs.Keeping.{keeps_job, keeps_kind, keeps_res, same_bit, same_state}
+use Rattle.msrp_export.specs.Words.{bit_text, faulty_text, job_text, kind_text, res_name, res_text, rule_text, state_text, task_name}
+use Rattle.msrp_export.specs.declared.standing.ResState.{ResState}
+use Rattle.msrp_export.specs.declared.states.Doing.{Doing}
 use Rattle.msrp_export.specs.declared.states.TaskState.{TaskState}
 
 -- ---- lines
@@ -33,19 +33,6 @@ abbrev pub tick_line : ℕ → List ℕ
 tick_line t = codes "#" ++ decimal t ++ codes "\n"
 
 -- ---- a row
--- the core did the same in its last row, for the same job, on the same resource; it had no row before its first
-abbrev pub keeps_kind : Option Row → Row → Bool
-keeps_kind None r = false
-keeps_kind (Some b) r = same_kind b.kind r.kind
-
-abbrev pub keeps_job : Option Row → Row → Bool
-keeps_job None r = false
-keeps_job (Some b) r = same_choice b.job r.job
-
-abbrev pub keeps_res : Option Row → Row → Bool
-keeps_res None r = false
-keeps_res (Some b) r = same_res b.res r.res
-
 -- of the core's signals those lines whose value changes
 abbrev pub core_lines : PlanModel → Option Row → Row → List ℕ
 core_lines plan before r =
@@ -58,26 +45,7 @@ abbrev pub core_change : PlanModel → Option Row → Option Row → List ℕ
 core_change plan before None = []
 core_change plan before (Some r) = core_lines plan before r
 
--- ---- ticks
--- how many ticks are over
-abbrev pub over : PlanModel → List Row → ℕ
-over plan rows = length rows / plan.cores
-
--- the rows before a tick
-abbrev pub rows_before : PlanModel → List Row → ℕ → List Row
-rows_before plan rows tick = take (tick * plan.cores) rows
-
--- the rows of ticks up to this one
-abbrev pub rows_in : PlanModel → List Row → ℕ → List Row
-rows_in plan rows tick = rows_before plan rows (tick + 1)
-
--- what a task does in a tick, and what it did in the one before
-abbrev pub state_in : PlanModel → List Row → ℕ → ℕ → TaskState
-state_in plan rows t tick = task_state plan (rows_before plan rows tick) (rows_in plan rows tick) tick t
-
-abbrev pub state_before : PlanModel → List Row → ℕ → ℕ → TaskState
-state_before plan rows t tick = task_state plan (rows_before plan rows (tick - 1)) (rows_before plan rows tick) (tick - 1) t
-
+-- ---- tasks and resources
 -- in the first tick each signal has a value, and later where it isn't that of the tick before
 abbrev pub unless_same : ℕ → Bool → List ℕ → List ℕ
 unless_same tick same line = if not (nat_eq tick 0) && same then [] else line
@@ -88,14 +56,8 @@ state_change tick t before now = unless_same tick (same_state before now) (value
 abbrev pub late_change : ℕ → ℕ → Bool → Bool → List ℕ
 late_change tick t before now = unless_same tick (same_bit before now) (bit_line now (codes "l") t)
 
-abbrev pub task_state_change : PlanModel → List Row → ℕ → ℕ → List ℕ
-task_state_change plan rows tick t = state_change tick t (state_before plan rows t tick) (state_in plan rows t tick)
-
-abbrev pub task_late_change : PlanModel → List Row → ℕ → ℕ → List ℕ
-task_late_change plan rows tick t = late_change tick t (is_late plan (rows_before plan rows (tick - 1)) (tick - 1) t) (is_late plan (rows_before plan rows tick) tick t)
-
-abbrev pub task_change : PlanModel → List Row → ℕ → ℕ → List ℕ
-task_change plan rows tick t = task_state_change plan rows tick t ++ task_late_change plan rows tick t
+abbrev pub task_change : ℕ → ℕ → Doing → Doing → List ℕ
+task_change tick t before now = state_change tick t before.state now.state ++ late_change tick t before.late now.late
 
 abbrev pub holder_change : PlanModel → ℕ → ℕ → Option JobId → Option JobId → List ℕ
 holder_change plan tick g before now = unless_same tick (same_choice before now) (value_line (job_text plan now) (codes "h") g)
@@ -103,18 +65,8 @@ holder_change plan tick g before now = unless_same tick (same_choice before now)
 abbrev pub queue_change : ℕ → ℕ → ℕ → ℕ → List ℕ
 queue_change tick g before now = unless_same tick (before == now) (number_line now (codes "q") g)
 
-abbrev pub res_change : PlanModel → List Row → ℕ → ℕ → List ℕ
-res_change plan rows tick g =
-    holder_change plan tick g (holder g (rows_before plan rows tick)) (holder g (rows_in plan rows tick))
-    ++ queue_change tick g (length (fifo g (rows_before plan rows tick))) (length (fifo g (rows_in plan rows tick)))
-
--- a tick, and what changes in it
-unfoldable pub tick_text : PlanModel → List Row → ℕ → List ℕ
-tick_text plan rows tick =
-    tick_line tick
-    ++ flat_map (λ c. core_change plan (last_row c (rows_before plan rows tick)) (last_row c (rows_in plan rows tick))) (range_with_len 0 plan.cores)
-    ++ flat_map (task_change plan rows tick) (range_with_len 0 (length plan.tasks))
-    ++ flat_map (res_change plan rows tick) (range_with_len 0 (length plan.resources))
+abbrev pub res_change : PlanModel → ℕ → ℕ → ResState → ResState → List ℕ
+res_change plan tick g before now = holder_change plan tick g before.holder now.holder ++ queue_change tick g before.queued now.queued
 
 -- ---- head and end
 -- the signals of a core, of a task and of a resource
@@ -139,23 +91,6 @@ head_text plan =
     ++ flat_map (res_head plan) (range_with_len 0 (length plan.resources))
     ++ codes "$upscope $end\n$enddefinitions $end\n"
 
--- the row that breaks the rule, if there is one: core, kind, job and resource
-abbrev pub faulty_text : PlanModel → Option Row → List ℕ
-faulty_text plan None = dash
-faulty_text plan (Some r) = decimal r.core.0 ++ codes "," ++ kind_text r.kind ++ codes "," ++ job_text plan r.job ++ codes "," ++ res_text plan r.res
-
--- the tick behind these rows, with those of them that are in it
-abbrev pub begun_text : PlanModel → List Row → List ℕ
-begun_text plan rows = if nat_lt (over plan rows * plan.cores) (length rows) then tick_text plan rows (over plan rows) else tick_line (over plan rows)
-
 -- the rule that is broken, and by which row
 abbrev pub broken_text : PlanModel → Rule → Option Row → List ℕ
 broken_text plan rule r = value_line (rule_text rule) (codes "f") 0 ++ value_line (faulty_text plan r) (codes "r") 0
-
--- the tick in which a rule is broken behind these rows, which rule it is, and by which row; the tick then ends
-unfoldable pub fault_text : PlanModel → List Row → Rule → Option Row → List ℕ
-fault_text plan rows rule r = begun_text plan rows ++ broken_text plan rule r ++ tick_line (over plan rows + 1)
-
--- the last tick ends
-unfoldable pub end_text : PlanModel → List ℕ
-end_text plan = tick_line plan.ticks

@@ -7,6 +7,7 @@ use Rattle.msrp_plan.specs.declared.ids.JobId.{JobId}
 use Rattle.msrp_plan.specs.declared.ids.ResId.{ResId}
 use Rattle.msrp_plan.specs.declared.rows.Kind.{Kind}
 use Rattle.msrp_plan.specs.declared.rows.Kind.TheVariants.{Idle, Run, Lock, Unlock, Take, Queue, Spin, Grant, Release}
+use Rattle.msrp_plan.specs.declared.rows.Row.{Row}
 use Rattle.msrp_export.specs.declared.states.TaskState.{TaskState}
 use Rattle.msrp_export.specs.declared.states.TaskState.TheVariants.{Unreleased, Ready, Running, Holding, Spinning}
 
@@ -21,18 +22,6 @@ kind_text Queue = codes "queue"
 kind_text Spin = codes "spin"
 kind_text Grant = codes "grant"
 kind_text Release = codes "release"
-
-abbrev pub same_kind : Kind → Kind → Bool
-same_kind Idle Idle = true
-same_kind Run Run = true
-same_kind Lock Lock = true
-same_kind Unlock Unlock = true
-same_kind Take Take = true
-same_kind Queue Queue = true
-same_kind Spin Spin = true
-same_kind Grant Grant = true
-same_kind Release Release = true
-same_kind _ _ = false
 
 -- the code of a rule
 unfoldable pub rule_text : Rule → List ℕ
@@ -52,23 +41,10 @@ state_text Running = codes "running"
 state_text Holding = codes "holding"
 state_text Spinning = codes "spinning"
 
-abbrev pub same_state : TaskState → TaskState → Bool
-same_state Unreleased Unreleased = true
-same_state Ready Ready = true
-same_state Running Running = true
-same_state Holding Holding = true
-same_state Spinning Spinning = true
-same_state _ _ = false
-
 -- a bit
 unfoldable pub bit_text : Bool → List ℕ
 bit_text true = codes "1"
 bit_text false = codes "0"
-
-abbrev pub same_bit : Bool → Bool → Bool
-same_bit true true = true
-same_bit false false = true
-same_bit _ _ = false
 
 -- what stands where there is no job, no resource or no holder
 unfoldable pub dash : List ℕ
@@ -97,3 +73,8 @@ job_text plan (Some j) = task_name plan j.task.0 ++ codes "." ++ decimal j.k
 abbrev pub res_text : PlanModel → Option ResId → List ℕ
 res_text plan None = dash
 res_text plan (Some g) = res_name plan g.0
+
+-- the row that breaks a rule, if there is one: core, kind, job and resource
+abbrev pub faulty_text : PlanModel → Option Row → List ℕ
+faulty_text plan None = dash
+faulty_text plan (Some r) = decimal r.core.0 ++ codes "," ++ kind_text r.kind ++ codes "," ++ job_text plan r.job ++ codes "," ++ res_text plan r.res

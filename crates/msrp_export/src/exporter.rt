@@ -2,12 +2,14 @@
 ghost use Rattle.std.specs.Prelude.{◌≡◌, ◌<◌, ◌+◌, ◌++◌, ◌∷◌, ◌^◌, [], List, length};
 ghost use Rattle.msrp_plan.specs.Bytes.{Wrote};
 ghost use Rattle.msrp_plan.specs.declared.rows.Row.{Row as TraceRow};
+ghost use Rattle.msrp_export.specs.Changes.{begun_text, end_text, fault_text, head_text, tick_text};
 ghost use Rattle.msrp_export.specs.Exports.{HasExported, TellsTick, row_text};
-ghost use Rattle.msrp_export.specs.Vcd.{begun_text, end_text, fault_text, head_text, tick_text};
+ghost use Rattle.msrp_export.specs.Ticks.{begun};
 
+use crate::changes::{add_broken, add_changes, add_ends, add_head, add_tick};
+use crate::formats::Format;
 use crate::recent::Recent;
 use crate::standing::{Standing, next};
-use crate::vcd::{add_broken, add_changes, add_end, add_head, add_tick};
 use msrp_plan::bytes::Sink;
 use msrp_plan::{Plan, Row, Rule};
 use std::io::Write;
@@ -16,6 +18,7 @@ use std::io::Write;
 #[derive(Drop)]
 pub struct Exporter<'a> {
     plan: &'a Plan,
+    format: Format,
     recent: Recent,
     // How many ticks are over, and how many rows have come since.
     tick: u32,
@@ -24,14 +27,16 @@ pub struct Exporter<'a> {
 
 impl<'a> Exporter<'a> {
     /// Before the first row.
-    pub fn new(plan: &'a Plan) -> Exporter<'a>
+    pub fn new(plan: &'a Plan, format: Format) -> Exporter<'a>
         ensures plan { result.plan.now ≡ plan.now }
+        ensures format { result.format ≡ format }
         ensures exported { HasExported result [] }
     {
         let _cores = plan.cores();
         let none = Standing::new();
         Exporter {
             plan,
+            format,
             recent: Recent {
                 earlier: none,
                 before: none,
@@ -44,22 +49,23 @@ impl<'a> Exporter<'a> {
 
     /// Writes what comes before the rows.
     pub fn head<W: Write>(&self, out: &mut Sink<W>)
-        ensures { Wrote W.contents out.old out.new (head_text self.now.plan.now) }
+        ensures { Wrote W.contents out.old out.new (head_text self.now.format self.now.plan.now) }
     {
-        add_head(out, self.plan);
+        add_head(out, self.format, self.plan);
     }
 
-    // Ends a tick of which all rows have come.
+    // Ends a tick, of which all rows have come that will.
     fn end_tick<W: Write>(&mut self, out: &mut Sink<W>)
-        ensures text { (rows : List TraceRow) → TellsTick self.old.plan.now rows self.old.tick self.old.recent → Wrote W.contents out.old out.new (tick_text self.old.plan.now rows self.old.tick) }
+        ensures text { (rows : List TraceRow) → TellsTick self.old.plan.now rows self.old.tick self.old.recent → Wrote W.contents out.old out.new (tick_text self.old.format self.old.plan.now rows self.old.tick) }
         ensures plan { self.new.plan ≡ self.old.plan }
+        ensures format { self.new.format ≡ self.old.format }
         ensures earlier { self.new.recent.earlier ≡ self.old.recent.before }
         ensures before { self.new.recent.before ≡ self.old.recent.latest }
         ensures latest { self.new.recent.latest ≡ self.old.recent.latest }
         ensures tick { self.old.tick + 1 < 2 ^ 32 → self.new.tick ≡ self.old.tick + 1 }
         ensures turns { self.new.turns ≡ 0 }
     {
-        add_changes(out, self.plan, &self.recent, self.tick);
+        add_changes(out, self.format, self.plan, &self.recent, self.tick);
         self.recent.earlier = self.recent.before;
         self.recent.before = self.recent.latest;
         self.tick = next(self.tick);
@@ -69,7 +75,8 @@ impl<'a> Exporter<'a> {
     /// Takes the next row, and with the last row of a tick writes what the tick changes.
     pub fn row<W: Write>(&mut self, out: &mut Sink<W>, row: Row)
         ensures plan { self.new.plan ≡ self.old.plan }
-        ensures text { (rows : List TraceRow) → HasExported self.old rows → length rows + 1 < 2 ^ 32 → Wrote W.contents out.old out.new (row_text self.old.plan.now rows row) }
+        ensures format { self.new.format ≡ self.old.format }
+        ensures text { (rows : List TraceRow) → HasExported self.old rows → length rows + 1 < 2 ^ 32 → Wrote W.contents out.old out.new (row_text self.old.format self.old.plan.now rows row) }
         ensures exported { (rows : List TraceRow) → HasExported self.old rows → length rows + 1 < 2 ^ 32 → HasExported self.new (rows ++ row ∷ []) }
     {
         self.recent.latest.take(row);
@@ -79,30 +86,49 @@ impl<'a> Exporter<'a> {
         }
     }
 
-    // Writes the tick behind the rows, with those of them that are in it.
-    fn begun<W: Write>(&self, out: &mut Sink<W>)
-        ensures { (rows : List TraceRow) → HasExported self.now rows → Wrote W.contents out.old out.new (begun_text self.now.plan.now rows) }
+    // Writes the tick behind the rows, with those of them that are in it, which then is over.
+    fn end_begun<W: Write>(&mut self, out: &mut Sink<W>)
+        ensures text { (rows : List TraceRow) → HasExported self.old rows → Wrote W.contents out.old out.new (begun_text self.old.format self.old.plan.now rows) }
+        ensures plan { self.new.plan ≡ self.old.plan }
+        ensures format { self.new.format ≡ self.old.format }
+        ensures tick { (rows : List TraceRow) → HasExported self.old rows → length rows + 1 < 2 ^ 32 → self.new.tick ≡ begun self.old.plan.now rows }
+        ensures told { (rows : List TraceRow) → HasExported self.old rows → length rows + 1 < 2 ^ 32 → TellsTick self.old.plan.now rows (begun self.old.plan.now rows) self.new.recent }
     {
         if self.turns > 0 {
-            add_changes(out, self.plan, &self.recent, self.tick);
+            self.end_tick(out);
         } else {
-            add_tick(out, self.tick);
+            add_tick(out, self.format, self.tick);
         }
     }
 
-    /// Writes the rule that is broken behind the rows, and by which row, if it is not that one is missing.
-    pub fn fault<W: Write>(&self, out: &mut Sink<W>, rule: Rule, row: Option<Row>)
-        ensures { (rows : List TraceRow) → HasExported self.now rows → length rows + 1 < 2 ^ 32 → Wrote W.contents out.old out.new (fault_text self.now.plan.now rows rule row) }
+    /// Writes the rule that is broken behind the rows, and by which row, if it is not that one is missing. No row is taken after it.
+    pub fn fault<W: Write>(&mut self, out: &mut Sink<W>, rule: Rule, row: Option<Row>)
+        ensures { (rows : List TraceRow) → HasExported self.old rows → length rows + 1 < 2 ^ 32 → Wrote W.contents out.old out.new (fault_text self.old.format self.old.plan.now rows rule row) }
     {
-        self.begun(out);
-        add_broken(out, self.plan, rule, row);
-        add_tick(out, next(self.tick));
+        let tick = self.tick;
+        self.end_begun(out);
+        add_broken(out, self.format, self.plan, tick, rule, row);
+        add_ends(
+            out,
+            self.format,
+            self.plan,
+            &self.recent,
+            self.tick,
+            next(tick),
+        );
     }
 
     /// Writes what comes behind the rows of a whole run.
     pub fn end<W: Write>(&self, out: &mut Sink<W>)
-        ensures { Wrote W.contents out.old out.new (end_text self.now.plan.now) }
+        ensures { (rows : List TraceRow) → HasExported self.now rows → Wrote W.contents out.old out.new (end_text self.now.format self.now.plan.now rows) }
     {
-        add_end(out, self.plan);
+        add_ends(
+            out,
+            self.format,
+            self.plan,
+            &self.recent,
+            self.tick,
+            self.plan.ticks(),
+        );
     }
 }

@@ -1,10 +1,15 @@
-//! Traces in the formats of other tools: a value change dump (VCD, IEEE 1364), as GTKWave opens it.
+//! Traces in the formats of other tools: a value change dump (VCD, IEEE 1364), as GTKWave opens it, and the JSON of trace events, as
+//! Perfetto does.
 //!
-//! An [`Exporter`] takes the rows of a trace as they come, and writes what each tick changes of the signals of cores, tasks and
-//! resources. It keeps no row but the last of each core.
+//! An [`Exporter`] takes the rows of a trace as they come, and writes what each tick changes of cores, tasks and resources. It keeps no
+//! row but the last of each core.
 #![tactic(auto)]
 
+mod changes;
 mod exporter;
+mod formats;
+mod keeping;
+mod perfetto;
 mod recent;
 mod standing;
 mod states;
@@ -12,3 +17,4 @@ mod vcd;
 mod words;
 
 pub use exporter::Exporter;
+pub use formats::Format;

@@ -4,7 +4,7 @@ ghost use Rattle.msrp_plan.specs.Jobs.{is_waiting};
 ghost use Rattle.msrp_plan.specs.Limits.{most_cores, most_resources, most_tasks};
 ghost use Rattle.msrp_plan.specs.Queues.{fifo, is_request};
 ghost use Rattle.msrp_plan.specs.declared.rows.Row.{Row as TraceRow};
-ghost use Rattle.msrp_export.specs.Signals.{acquires, gives_up, holder_by, last_row};
+ghost use Rattle.msrp_export.specs.Signals.{acquires, gives_up, holder_by, last_row, res_state};
 ghost use Rattle.msrp_export.specs.Tells.{Tells, count_of, counted, no_count, no_use, use_of, used};
 
 use msrp_plan::limits::{MOST_CORES, MOST_RESOURCES, MOST_TASKS};
@@ -27,6 +27,14 @@ pub(crate) struct ResUse {
     pub(crate) holder: Option<JobId>,
     pub(crate) requests: u32,
     pub(crate) releases: u32,
+}
+
+/// What a resource is in a tick.
+#[derive(Clone, Copy)]
+pub(crate) struct ResState {
+    pub(crate) holder: Option<JobId>,
+    /// How many jobs stand in its queue.
+    pub(crate) queued: u32,
 }
 
 /// What rows tell of each core, task and resource, by their numbers.
@@ -128,8 +136,8 @@ impl ResUse {
         }
     }
 
-    /// How many jobs stand in its queue.
-    pub(crate) fn queued(self) -> u32
+    // How many jobs stand in its queue.
+    fn queued(self) -> u32
         ensures { (g : ℕ) (rows : List TraceRow) → self ≡ use_of g rows → result ≡ length (fifo g rows) }
     {
         self.requests.saturating_sub(self.releases)
@@ -163,11 +171,23 @@ impl Standing {
         self.tasks[task.0 as usize]
     }
 
-    pub(crate) fn use_of(&self, res: ResId) -> ResUse
+    fn use_of(&self, res: ResId) -> ResUse
         requires { res.0 < most_resources }
         ensures { (rows : List TraceRow) → Tells self.now rows → result ≡ use_of res.0 rows }
     {
         self.uses[res.0 as usize]
+    }
+
+    /// Who holds a resource, and how many stand in its queue.
+    pub(crate) fn res_state(&self, res: ResId) -> ResState
+        requires { res.0 < most_resources }
+        ensures { (rows : List TraceRow) → Tells self.now rows → result ≡ res_state res.0 rows }
+    {
+        let told = self.use_of(res);
+        ResState {
+            holder: told.holder,
+            queued: told.queued(),
+        }
     }
 
     // A row more of its core.

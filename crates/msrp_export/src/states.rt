@@ -1,13 +1,17 @@
 //! What a task does in a tick.
-ghost use Rattle.std.specs.Prelude.{◌≡◌, ◌<◌, ◌≤◌, ◌^◌, ◌*◌, false, List, length, true};
+ghost use Rattle.std.specs.Prelude.{◌≡◌, ◌<◌, ◌≤◌, ◌^◌, ◌*◌, false, if◌then◌else◌, List, length, true};
 ghost use Rattle.msrp_plan.specs.Limits.{longest_time};
 ghost use Rattle.msrp_plan.specs.Plan.{release};
 ghost use Rattle.msrp_plan.specs.Times.{HasRelease};
 ghost use Rattle.msrp_plan.specs.WellFormed.{IsPlan};
 ghost use Rattle.msrp_plan.specs.declared.rows.Row.{Row as TraceRow};
-ghost use Rattle.msrp_export.specs.Signals.{active_state, is_late, job_after, kind_in, task_state, work};
+ghost use Rattle.msrp_export.specs.Exports.{TellsTick};
+ghost use Rattle.msrp_export.specs.Signals.{active_state, doing_of, job_after, kind_in, work};
 ghost use Rattle.msrp_export.specs.Tells.{IsPast, Tells};
+ghost use Rattle.msrp_export.specs.Ticks.{at_rest, doing_before, doing_in};
+ghost use Rattle.msrp_export.specs.declared.states.TaskState.TheVariants.{Unreleased};
 
+use crate::recent::Recent;
 use crate::standing::{Standing, waits};
 use msrp_plan::{JobId, Kind, Plan, Row, TaskId, Times};
 
@@ -24,6 +28,35 @@ pub(crate) enum TaskState {
     Holding,
     /// Its job waits for a global resource.
     Spinning,
+}
+
+/// All that a task does in a tick.
+#[derive(Clone, Copy)]
+pub(crate) struct Doing {
+    pub(crate) state: TaskState,
+    /// The job that it is at when the tick begins.
+    pub(crate) job: JobId,
+    /// Whether that job isn't finished by its absolute deadline.
+    pub(crate) late: bool,
+    /// The kind of its row in the tick, if it has one.
+    pub(crate) kind: Option<Kind>,
+    /// The units that its jobs had done before the tick.
+    pub(crate) work: u32,
+}
+
+impl Doing {
+    // Before the first tick.
+    fn at_rest(task: TaskId) -> Doing
+        ensures { result ≡ at_rest task.0 }
+    {
+        Doing {
+            state: TaskState::Unreleased,
+            job: JobId { task, k: 0 },
+            late: false,
+            kind: None,
+            work: 0,
+        }
+    }
 }
 
 // Whether a task has a release of this number.
@@ -87,34 +120,67 @@ fn active_state(holds: bool, kind: Option<Kind>) -> TaskState
     }
 }
 
+// What a job does, once it is released.
+fn state_of(released: bool, holds: bool, kind: Option<Kind>) -> TaskState
+    ensures { result ≡ if released then active_state holds kind else Unreleased }
+{
+    if released {
+        active_state(holds, kind)
+    } else {
+        TaskState::Unreleased
+    }
+}
+
 /// What a task does in a tick, by what the rows before the tick tell, and what those up to it do.
-pub(crate) fn task_state(
+pub(crate) fn doing_of(
     plan: &Plan,
     before: &Standing,
     now: &Standing,
     tick: u32,
     task: TaskId,
-) -> TaskState
+) -> Doing
     requires plan { IsPlan plan.now }
     requires task { task.0 < length plan.now.tasks }
-    ensures { (earlier rows : List TraceRow) → Tells before.now earlier → Tells now.now rows → result ≡ task_state plan.now earlier rows tick task.0 }
+    ensures { (earlier rows : List TraceRow) → Tells before.now earlier → Tells now.now rows → result ≡ doing_of plan.now earlier rows tick task.0 }
 {
-    let release = release_of(plan, job_after(plan, task, before.task(task).work));
+    let work = before.task(task).work;
+    let job = job_after(plan, task, work);
+    let release = release_of(plan, job);
     let count = now.task(task);
     let last = now.last(plan.core_of(task));
-    if u64::from(tick) < release {
-        TaskState::Unreleased
-    } else {
-        active_state(count.given_up < count.acquired, kind_in(tick, task, last))
+    let kind = kind_in(tick, task, last);
+    let state = state_of(
+        release <= u64::from(tick),
+        count.given_up < count.acquired,
+        kind,
+    );
+    Doing {
+        state,
+        job,
+        late: release + u64::from(plan.deadline(task)) <= u64::from(tick),
+        kind,
+        work,
     }
 }
 
-/// Whether the job that a task is at when the tick begins isn't finished by its absolute deadline.
-pub(crate) fn is_late(plan: &Plan, before: &Standing, tick: u32, task: TaskId) -> bool
+/// What a task does in a tick.
+pub(crate) fn doing_in(plan: &Plan, recent: &Recent, tick: u32, task: TaskId) -> Doing
     requires plan { IsPlan plan.now }
     requires task { task.0 < length plan.now.tasks }
-    ensures { (earlier : List TraceRow) → Tells before.now earlier → result ≡ is_late plan.now earlier tick task.0 }
+    ensures { (rows : List TraceRow) → TellsTick plan.now rows tick recent.now → result ≡ doing_in plan.now rows tick task.0 }
 {
-    let release = release_of(plan, job_after(plan, task, before.task(task).work));
-    release + u64::from(plan.deadline(task)) <= u64::from(tick)
+    doing_of(plan, &recent.before, &recent.latest, tick, task)
+}
+
+/// What a task did in the tick before.
+pub(crate) fn doing_before(plan: &Plan, recent: &Recent, tick: u32, task: TaskId) -> Doing
+    requires plan { IsPlan plan.now }
+    requires task { task.0 < length plan.now.tasks }
+    ensures { (rows : List TraceRow) → TellsTick plan.now rows tick recent.now → result ≡ doing_before plan.now rows tick task.0 }
+{
+    if tick == 0 {
+        Doing::at_rest(task)
+    } else {
+        doing_of(plan, &recent.earlier, &recent.before, tick - 1, task)
+    }
 }

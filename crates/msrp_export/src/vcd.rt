@@ -1,26 +1,20 @@
-//! A value change dump: its head, the lines of a tick, and its end.
-ghost use Rattle.std.specs.Prelude.{◌≡◌, ◌==◌, ◌<◌, ◌&&◌, [], ◌++◌, ℕ, List, codes, if◌then◌else◌, length, nat_eq, nat_lt, not};
+//! A value change dump: its head, the lines of cores, tasks and resources, and what is broken.
+ghost use Rattle.std.specs.Prelude.{◌≡◌, ◌==◌, ◌&&◌, [], ◌++◌, codes, if◌then◌else◌, length, nat_eq, not};
 ghost use Rattle.std.specs.List.{flat_map, range_with_len};
 ghost use Rattle.msrp_plan.specs.Bytes.{Wrote};
-ghost use Rattle.msrp_plan.specs.Limits.{most_cores, most_resources};
-ghost use Rattle.msrp_plan.specs.Runs.{same_choice};
-ghost use Rattle.msrp_plan.specs.WellFormed.{IsPlan};
-ghost use Rattle.msrp_plan.specs.declared.rows.Row.{Row as TraceRow};
-ghost use Rattle.msrp_export.specs.Exports.{TellsTick};
-ghost use Rattle.msrp_export.specs.Signals.{last_row};
-ghost use Rattle.msrp_export.specs.Tells.{Tells};
-ghost use Rattle.msrp_export.specs.Vcd.{bit_line, broken_text, core_change, core_head, core_lines, end_text, faulty_text, head_text, holder_change, keeps_job, keeps_kind, keeps_res, late_change, number_line, queue_change, res_change, res_head, rows_before, rows_in, state_change, task_change, task_head, task_late_change, task_state_change, tick_line, tick_text, value_line};
-ghost use Rattle.msrp_export.specs.Words.{job_text, kind_text, res_text, rule_text, same_bit, same_state};
+ghost use Rattle.msrp_export.specs.Keeping.{keeps_job, keeps_kind, keeps_res};
+ghost use Rattle.msrp_export.specs.Vcd.{bit_line, broken_text, core_change, core_head, core_lines, head_text, holder_change, late_change, number_line, queue_change, res_change, res_head, state_change, task_change, task_head, tick_line, value_line};
+ghost use Rattle.msrp_export.specs.Words.{faulty_text, job_text, kind_text, res_text, rule_text};
 
-use crate::recent::Recent;
-use crate::standing::Standing;
-use crate::states::{TaskState, is_late, task_state};
+use crate::keeping::{keeps_job, keeps_kind, keeps_res, same_bit, same_choice, same_state};
+use crate::standing::ResState;
+use crate::states::{Doing, TaskState};
 use crate::words::{
-    add_job, add_number, bit_word, kind_word, res_or_dash, res_word, rule_word, state_word,
-    task_word,
+    add_faulty, add_job, add_number, bit_word, kind_word, res_or_dash, res_word, rule_word,
+    state_word, task_word,
 };
 use msrp_plan::bytes::Sink;
-use msrp_plan::{CoreId, JobId, Plan, ResId, Row, Rule, TaskId};
+use msrp_plan::{JobId, Plan, ResId, Row, Rule, TaskId};
 use std::io::Write;
 
 /// A tick begins.
@@ -84,33 +78,6 @@ fn add_job_value<W: Write>(
     out.add(b"\n");
 }
 
-fn keeps_kind(before: Option<Row>, row: Row) -> bool
-    ensures { result ≡ keeps_kind before row }
-{
-    match before {
-        None => false,
-        Some(before) => before.kind == row.kind,
-    }
-}
-
-fn keeps_job(before: Option<Row>, row: Row) -> bool
-    ensures { result ≡ keeps_job before row }
-{
-    match before {
-        None => false,
-        Some(before) => before.job == row.job,
-    }
-}
-
-fn keeps_res(before: Option<Row>, row: Row) -> bool
-    ensures { result ≡ keeps_res before row }
-{
-    match before {
-        None => false,
-        Some(before) => before.res == row.res,
-    }
-}
-
 // The kind of a core's row, if it changes.
 fn add_kind_change<W: Write>(out: &mut Sink<W>, before: Option<Row>, row: Row)
     ensures { Wrote W.contents out.old out.new (if keeps_kind before row then [] else value_line (kind_text row.kind) (codes "k") row.core.0) }
@@ -147,31 +114,18 @@ fn add_core<W: Write>(out: &mut Sink<W>, plan: &Plan, before: Option<Row>, row: 
     add_on_change(out, plan, before, row);
 }
 
-// What a core's last row changes, where this was the last one.
-fn add_core_change<W: Write>(out: &mut Sink<W>, plan: &Plan, before: Option<Row>, now: Option<Row>)
+/// What a core's last row changes, where this was the last one.
+pub(crate) fn add_core_change<W: Write>(
+    out: &mut Sink<W>,
+    plan: &Plan,
+    before: Option<Row>,
+    now: Option<Row>,
+)
     ensures { Wrote W.contents out.old out.new (core_change plan.now before now) }
 {
     if let Some(row) = now {
         add_core(out, plan, before, row);
     }
-}
-
-// What a tick changes of the cores.
-fn add_cores<W: Write>(out: &mut Sink<W>, plan: &Plan, before: &Standing, now: &Standing)
-    ensures { (earlier rows : List TraceRow) → Tells before.now earlier → Tells now.now rows
-        → Wrote W.contents out.old out.new (flat_map (λ c. core_change plan.now (last_row c earlier) (last_row c rows)) (range_with_len 0 plan.now.cores)) }
-{
-    for core in 0..plan.cores() {
-        let earlier = before.last(CoreId(core));
-        let last = now.last(CoreId(core));
-        add_core_change(out, plan, earlier, last);
-    }
-}
-
-fn same_state(before: TaskState, now: TaskState) -> bool
-    ensures { result ≡ same_state before now }
-{
-    before == now
 }
 
 fn add_state_change<W: Write>(
@@ -188,35 +142,6 @@ fn add_state_change<W: Write>(
     }
 }
 
-// What a tick changes of a task's state.
-fn add_task_state<W: Write>(
-    out: &mut Sink<W>,
-    plan: &Plan,
-    recent: &Recent,
-    tick: u32,
-    task: TaskId,
-)
-    requires plan { IsPlan plan.now }
-    requires task { task.0 < length plan.now.tasks }
-    ensures { (rows : List TraceRow) → TellsTick plan.now rows tick recent.now → Wrote W.contents out.old out.new (task_state_change plan.now rows tick task.0) }
-{
-    let now = task_state(plan, &recent.before, &recent.latest, tick, task);
-    let before = task_state(
-        plan,
-        &recent.earlier,
-        &recent.before,
-        tick.saturating_sub(1),
-        task,
-    );
-    add_state_change(out, tick, task, before, now);
-}
-
-fn same_bit(before: bool, now: bool) -> bool
-    ensures { result ≡ same_bit before now }
-{
-    before == now
-}
-
 fn add_late_change<W: Write>(out: &mut Sink<W>, tick: u32, task: TaskId, before: bool, now: bool)
     ensures { Wrote W.contents out.old out.new (late_change tick task.0 before now) }
 {
@@ -225,46 +150,18 @@ fn add_late_change<W: Write>(out: &mut Sink<W>, tick: u32, task: TaskId, before:
     }
 }
 
-// Whether a task becomes late in a tick, or isn't late any more.
-fn add_task_late<W: Write>(out: &mut Sink<W>, plan: &Plan, recent: &Recent, tick: u32, task: TaskId)
-    requires plan { IsPlan plan.now }
-    requires task { task.0 < length plan.now.tasks }
-    ensures { (rows : List TraceRow) → TellsTick plan.now rows tick recent.now → Wrote W.contents out.old out.new (task_late_change plan.now rows tick task.0) }
-{
-    let now = is_late(plan, &recent.before, tick, task);
-    let before = is_late(plan, &recent.earlier, tick.saturating_sub(1), task);
-    add_late_change(out, tick, task, before, now);
-}
-
-// What a tick changes of a task.
-fn add_task_change<W: Write>(
+/// What a tick changes of a task.
+pub(crate) fn add_task_change<W: Write>(
     out: &mut Sink<W>,
-    plan: &Plan,
-    recent: &Recent,
     tick: u32,
     task: TaskId,
+    before: Doing,
+    now: Doing,
 )
-    requires plan { IsPlan plan.now }
-    requires task { task.0 < length plan.now.tasks }
-    ensures { (rows : List TraceRow) → TellsTick plan.now rows tick recent.now → Wrote W.contents out.old out.new (task_change plan.now rows tick task.0) }
+    ensures { Wrote W.contents out.old out.new (task_change tick task.0 before now) }
 {
-    add_task_state(out, plan, recent, tick, task);
-    add_task_late(out, plan, recent, tick, task);
-}
-
-// What a tick changes of the tasks.
-fn add_tasks<W: Write>(out: &mut Sink<W>, plan: &Plan, recent: &Recent, tick: u32)
-    ensures { (rows : List TraceRow) → TellsTick plan.now rows tick recent.now → Wrote W.contents out.old out.new (flat_map (task_change plan.now rows tick) (range_with_len 0 (length plan.now.tasks))) }
-{
-    for task in 0..plan.tasks() {
-        add_task_change(out, plan, recent, tick, TaskId(task));
-    }
-}
-
-fn same_choice(before: Option<JobId>, now: Option<JobId>) -> bool
-    ensures { result ≡ same_choice before now }
-{
-    before == now
+    add_state_change(out, tick, task, before.state, now.state);
+    add_late_change(out, tick, task, before.late, now.late);
 }
 
 fn add_holder_change<W: Write>(
@@ -290,35 +187,19 @@ fn add_queue_change<W: Write>(out: &mut Sink<W>, tick: u32, res: ResId, before: 
     }
 }
 
-// What a tick changes of a resource.
-fn add_res_change<W: Write>(out: &mut Sink<W>, plan: &Plan, recent: &Recent, tick: u32, res: ResId)
-    requires { res.0 < most_resources }
-    ensures { (rows : List TraceRow) → TellsTick plan.now rows tick recent.now → Wrote W.contents out.old out.new (res_change plan.now rows tick res.0) }
+/// What a tick changes of a resource.
+pub(crate) fn add_res_change<W: Write>(
+    out: &mut Sink<W>,
+    plan: &Plan,
+    tick: u32,
+    res: ResId,
+    before: ResState,
+    now: ResState,
+)
+    ensures { Wrote W.contents out.old out.new (res_change plan.now tick res.0 before now) }
 {
-    let before = recent.before.use_of(res);
-    let now = recent.latest.use_of(res);
     add_holder_change(out, plan, tick, res, before.holder, now.holder);
-    add_queue_change(out, tick, res, before.queued(), now.queued());
-}
-
-// What a tick changes of the resources.
-fn add_resources<W: Write>(out: &mut Sink<W>, plan: &Plan, recent: &Recent, tick: u32)
-    ensures { (rows : List TraceRow) → TellsTick plan.now rows tick recent.now → Wrote W.contents out.old out.new (flat_map (res_change plan.now rows tick) (range_with_len 0 (length plan.now.resources))) }
-{
-    for res in 0..plan.resources() {
-        add_res_change(out, plan, recent, tick, ResId(res));
-    }
-}
-
-/// Writes a tick, and what changes in it.
-#[tactic(auto, unfolding(crate::specs::Vcd::tick_text))]
-pub(crate) fn add_changes<W: Write>(out: &mut Sink<W>, plan: &Plan, recent: &Recent, tick: u32)
-    ensures { (rows : List TraceRow) → TellsTick plan.now rows tick recent.now → Wrote W.contents out.old out.new (tick_text plan.now rows tick) }
-{
-    add_tick(out, tick);
-    add_cores(out, plan, &recent.before, &recent.latest);
-    add_tasks(out, plan, recent, tick);
-    add_resources(out, plan, recent, tick);
+    add_queue_change(out, tick, res, before.queued, now.queued);
 }
 
 // The signals of a core.
@@ -411,25 +292,6 @@ pub(crate) fn add_head<W: Write>(out: &mut Sink<W>, plan: &Plan)
     out.add(b"$upscope $end\n$enddefinitions $end\n");
 }
 
-// The row that breaks a rule, if there is one.
-#[tactic(auto, unfolding(crate::specs::Words::dash))]
-fn add_faulty<W: Write>(out: &mut Sink<W>, plan: &Plan, row: Option<Row>)
-    ensures { Wrote W.contents out.old out.new (faulty_text plan.now row) }
-{
-    match row {
-        None => out.add(b"-"),
-        Some(row) => {
-            add_number(out, row.core.0);
-            out.add(b",");
-            out.add(kind_word(row.kind));
-            out.add(b",");
-            add_job(out, plan, row.job);
-            out.add(b",");
-            out.add(res_or_dash(plan, row.res));
-        }
-    }
-}
-
 // The signal of the row that breaks a rule.
 fn add_faulty_value<W: Write>(out: &mut Sink<W>, plan: &Plan, row: Option<Row>)
     ensures { Wrote W.contents out.old out.new (value_line (faulty_text plan.now row) (codes "r") 0) }
@@ -448,12 +310,4 @@ pub(crate) fn add_broken<W: Write>(out: &mut Sink<W>, plan: &Plan, rule: Rule, r
 {
     add_value(out, rule_word(rule), b"f", 0);
     add_faulty_value(out, plan, row);
-}
-
-/// Writes the end of the last tick.
-#[tactic(auto, unfolding(crate::specs::Vcd::end_text))]
-pub(crate) fn add_end<W: Write>(out: &mut Sink<W>, plan: &Plan)
-    ensures { Wrote W.contents out.old out.new (end_text plan.now) }
-{
-    add_tick(out, plan.ticks());
 }

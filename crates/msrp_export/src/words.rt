@@ -1,12 +1,12 @@
 //! Words of rows and of rules, and the names of tasks and resources.
 ghost use Rattle.std.specs.Prelude.{◌≡◌, decimal};
 ghost use Rattle.msrp_plan.specs.Bytes.{Wrote};
-ghost use Rattle.msrp_export.specs.Words.{bit_text, job_text, kind_text, res_text, rule_text, state_text, task_name, res_name};
+ghost use Rattle.msrp_export.specs.Words.{bit_text, faulty_text, job_text, kind_text, res_text, rule_text, state_text, task_name, res_name};
 
 use crate::states::TaskState;
 use itoa::Buffer;
 use msrp_plan::bytes::Sink;
-use msrp_plan::{JobId, Kind, Plan, ResId, Rule, TaskId};
+use msrp_plan::{JobId, Kind, Plan, ResId, Row, Rule, TaskId};
 use std::io::Write;
 
 /// The word for a kind of row.
@@ -97,6 +97,14 @@ pub(crate) fn add_number<W: Write>(out: &mut Sink<W>, number: u32)
     out.add(digits.format(number).as_bytes());
 }
 
+/// Writes a number that may be a long one.
+pub(crate) fn add_long<W: Write>(out: &mut Sink<W>, number: u64)
+    ensures { Wrote W.contents out.old out.new (decimal number) }
+{
+    let mut digits = Buffer::new();
+    out.add(digits.format(number).as_bytes());
+}
+
 /// Writes a job, or a dash.
 #[tactic(auto, unfolding(crate::specs::Words::dash))]
 pub(crate) fn add_job<W: Write>(out: &mut Sink<W>, plan: &Plan, job: Option<JobId>)
@@ -120,5 +128,24 @@ pub(crate) fn res_or_dash(plan: &Plan, res: Option<ResId>) -> &[u8]
     match res {
         None => b"-",
         Some(res) => res_word(plan, res),
+    }
+}
+
+/// Writes the row that breaks a rule, or a dash where one is missing.
+#[tactic(auto, unfolding(crate::specs::Words::dash))]
+pub(crate) fn add_faulty<W: Write>(out: &mut Sink<W>, plan: &Plan, row: Option<Row>)
+    ensures { Wrote W.contents out.old out.new (faulty_text plan.now row) }
+{
+    match row {
+        None => out.add(b"-"),
+        Some(row) => {
+            add_number(out, row.core.0);
+            out.add(b",");
+            out.add(kind_word(row.kind));
+            out.add(b",");
+            add_job(out, plan, row.job);
+            out.add(b",");
+            out.add(res_or_dash(plan, row.res));
+        }
     }
 }

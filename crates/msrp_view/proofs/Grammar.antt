@@ -16,10 +16,11 @@ use Rattle.msrp_cli.specs.Arguments.{is_given}
 use Rattle.msrp_faults.specs.declared.faults.CliFault.{CliFault}
 use Rattle.msrp_faults.specs.declared.faults.CliFault.TheVariants.{Memory, Usage}
 use Rattle.msrp_view.specs.declared.cli.Cmd.{Cmd}
-use Rattle.msrp_view.specs.declared.cli.Cmd.TheVariants.{View}
+use Rattle.msrp_view.specs.declared.cli.Cmd.TheVariants.{Export, View}
+use Rattle.msrp_export.specs.declared.formats.Format.{Format}
 use Rattle.msrp_picture.specs.declared.windows.Style.{Style}
 use Rattle.msrp_picture.specs.declared.windows.Asked.{Asked}
-use Rattle.msrp_view.specs.CommandLine.{IsAnswered, IsDrawn, IsExplained, IsExported, IsShown, IsTold, answer_to, asked_by, export_of, grammar, tick_of, view_by, view_of, why_of}
+use Rattle.msrp_view.specs.CommandLine.{IsAnswered, IsDrawn, IsExplained, IsExported, IsShown, IsTold, answer_to, asked_by, export_by, export_of, grammar, says_format, tick_of, view_by, view_of, why_of}
 
 -- one argument more
 pub adds_rule : (old : Command) (arg : Arg) (new : Command) (words : App) (rule : Rule) → AddsArg old arg new → app_of old ≡ words → rule_of arg ≡ rule → arg.global ≡ false → app_of new ≡ with_rule words rule
@@ -107,6 +108,23 @@ all_told (Some p) (Some x) a plan trace told e =
     let both : (plan.now, trace.now) ≡ p = cc in
     (cc, ap (λ q. q.0) both, ap (λ q. q.1) both)
 
+-- what is written for another tool
+pub no_export : (paths : Option (Text × Text)) (format : Option Format) (fault : CliFault) (result : Result Cmd CliFault) → Err fault ≡ ok_or paths Usage → result ≡ Err fault → IsExported (export_by paths format) result
+no_export None format fault result e is = is ∙ ap (λ f. Err f) (cc)
+no_export (Some p) format fault result e is = absurd (cc)
+
+pub no_format : (paths : Option (Text × Text)) (format : Option Format) (p : Text × Text) (fault : CliFault) (result : Result Cmd CliFault) → Ok p ≡ ok_or paths Usage → Err fault ≡ ok_or format Usage → result ≡ Err fault → IsExported (export_by paths format) result
+no_format None format p fault result told e is = absurd (cc)
+no_format (Some q) None p fault result told e is = is ∙ ap (λ f. Err f) (cc)
+no_format (Some q) (Some a) p fault result told e is = absurd (cc)
+
+pub all_exported : (paths : Option (Text × Text)) (format : Option Format) (f : Format) (plan trace : Bor Text) → Ok (plan.now, trace.now) ≡ ok_or paths Usage → Ok f ≡ ok_or format Usage → IsExported (export_by paths format) (Ok (Export f plan trace))
+all_exported None format f plan trace told e = absurd (cc)
+all_exported (Some p) None f plan trace told e = absurd (cc)
+all_exported (Some p) (Some x) f plan trace told e =
+    let both : (plan.now, trace.now) ≡ p = cc in
+    (cc, ap (λ q. q.0) both, ap (λ q. q.1) both)
+
 -- a picture's faults
 drawn_faults : (view : Option (Asked × Text × Text)) (result : Result Cmd CliFault) → IsDrawn view result → IfErr result (λ fault. (fault ≡ Usage) ⊎ (fault ≡ Memory))
 drawn_faults view (Ok command) h = tt
@@ -118,13 +136,13 @@ explained_faults told (Ok command) h = tt
 explained_faults None (Err fault) h = inl (cc)
 explained_faults (Some v) (Err fault) h = absurd h
 
-exported_faults : (paths : Option (Text × Text)) (result : Result Cmd CliFault) → IsExported paths result → IfErr result (λ fault. (fault ≡ Usage) ⊎ (fault ≡ Memory))
-exported_faults paths (Ok command) h = tt
+exported_faults : (told : Option (Format × Text × Text)) (result : Result Cmd CliFault) → IsExported told result → IfErr result (λ fault. (fault ≡ Usage) ⊎ (fault ≡ Memory))
+exported_faults told (Ok command) h = tt
 exported_faults None (Err fault) h = inl (cc)
 exported_faults (Some v) (Err fault) h = absurd h
 
 shown_faults : (rows : List Row) (result : Result Cmd CliFault) → IsShown rows result → IfErr result (λ fault. (fault ≡ Usage) ⊎ (fault ≡ Memory))
-shown_faults rows result h = elim (cases_Bool (is_given (codes "vcd") rows)) [
+shown_faults rows result h = elim (cases_Bool (says_format rows)) [
   | inl given ↦ exported_faults (export_of rows) result (h.0 given)
   | inr absent ↦ drawn_faults (view_of rows) result (h.1 absent)
 ]

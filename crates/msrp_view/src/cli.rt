@@ -8,9 +8,10 @@ ghost use Rattle.msrp_view.specs.CommandLine as line;
 ghost use Rattle.msrp_view.specs.CommandLine.{IsAnswered, IsDrawn, IsExplained, IsExported, IsShown, IsTold, Takes};
 
 use clap::error::ErrorKind;
-use clap::{Arg, ArgMatches, Command};
+use clap::{Arg, ArgAction, ArgMatches, Command};
 use msrp_cli::{PLAN, TRACE, both_paths, fault_of_words, flag, is_given, path, value_of, valued};
 use msrp_engine::CliFault;
+use msrp_export::Format;
 use msrp_picture::{Asked, Style};
 use std::alloc::{AllocError, Global};
 
@@ -28,13 +29,16 @@ pub enum Cmd<'a> {
         plan: &'a str,
         trace: Option<&'a str>,
     },
-    /// Writes a value change dump of a trace of the plan.
+    /// Writes a trace of the plan in a format of another tool.
     Export {
+        format: Format,
         plan: &'a str,
         trace: &'a str,
     },
     /// Prints the help.
     Help,
+    /// Prints the version, and what the release tells of itself.
+    Version,
 }
 
 // The words of arguments, by which they are declared and found again.
@@ -50,6 +54,10 @@ const WHY: &str = "why";
 
 const VCD: &str = "vcd";
 
+const PERFETTO: &str = "perfetto";
+
+const VERSION: &str = "version";
+
 // The program, still without arguments.
 fn program<'a>(alloc: Global) -> Command<'a>
     ensures { Takes line.program result }
@@ -57,6 +65,17 @@ fn program<'a>(alloc: Global) -> Command<'a>
     Command::new(alloc, "msrp_view").about(
         "MSRP 0.1.0, draws a trace of a plan: what each core does in each tick, and who stands in the queue of each global resource",
     )
+}
+
+// The flag that asks for the version, whatever else the words say.
+fn version<'a>(alloc: Global) -> Arg<'a>
+    ensures rule { rule_of result ≡ line.version }
+    ensures own { result.global ≡ false }
+{
+    Arg::new(alloc, VERSION)
+        .long(VERSION)
+        .action(ArgAction::Version)
+        .help("prints the version, and the kit and the commit of the release")
 }
 
 // A path that need not be given.
@@ -96,6 +115,12 @@ fn grammar<'a>(alloc: Global) -> Result<Command<'a>, AllocError>
             VCD,
             "draws nothing, and writes the whole trace as a value change dump, for GTKWave and other viewers of waves",
         ))?
+        .arg(flag(
+            alloc,
+            PERFETTO,
+            "draws nothing, and writes the whole trace as JSON of trace events, for ui.perfetto.dev and other viewers of them",
+        ))?
+        .arg(version(alloc))?
         .arg(path(alloc, PLAN, "the plan's path; - is standard input"))?
         .arg(optional(
             alloc,
@@ -178,11 +203,18 @@ fn says_picture(matches: &ArgMatches<'_>) -> bool
         || is_given(matches, TO)
 }
 
+// Whether the words name a format of another tool.
+fn says_format(matches: &ArgMatches<'_>) -> bool
+    ensures { result ≡ line.says_format (rows_of (found_of matches.now)) }
+{
+    is_given(matches, VCD) || is_given(matches, PERFETTO)
+}
+
 // What is explained: a plan, or a trace of it.
 fn why_of<'a>(matches: &ArgMatches<'a>) -> Result<Cmd<'a>, CliFault>
     ensures { IsExplained (line.why_of (rows_of (found_of matches.now))) result }
 {
-    if says_picture(matches) || is_given(matches, VCD) {
+    if says_picture(matches) || says_format(matches) {
         return Err(CliFault::Usage);
     }
     if value_of(matches, TRACE).is_some() {
@@ -198,22 +230,45 @@ fn why_of<'a>(matches: &ArgMatches<'a>) -> Result<Cmd<'a>, CliFault>
     }
 }
 
-// What is written for another tool.
+// The format, where these flags are given: not both.
+fn format_of(vcd: bool, perfetto: bool) -> Result<Format, CliFault>
+    ensures { result ≡ ok_or (line.format_of vcd perfetto) CliFault.Usage }
+{
+    match (vcd, perfetto) {
+        (true, false) => Ok(Format::Vcd),
+        (false, true) => Ok(Format::Perfetto),
+        _ => Err(CliFault::Usage),
+    }
+}
+
+// What is written for another tool, and in which format.
+fn export_told<'a>(matches: &ArgMatches<'a>) -> Result<Cmd<'a>, CliFault>
+    ensures { IsExported (line.export_told (rows_of (found_of matches.now))) result }
+{
+    let (plan, trace) = both_paths(matches)?;
+    let format = format_of(is_given(matches, VCD), is_given(matches, PERFETTO))?;
+    Ok(Cmd::Export {
+        format,
+        plan,
+        trace,
+    })
+}
+
+// The same, where nothing is said of a picture.
 fn export_of<'a>(matches: &ArgMatches<'a>) -> Result<Cmd<'a>, CliFault>
     ensures { IsExported (line.export_of (rows_of (found_of matches.now))) result }
 {
     if says_picture(matches) {
         return Err(CliFault::Usage);
     }
-    let (plan, trace) = both_paths(matches)?;
-    Ok(Cmd::Export { plan, trace })
+    export_told(matches)
 }
 
 // What is shown: a picture, or what another tool shows.
 fn shown_of<'a>(matches: &ArgMatches<'a>) -> Result<Cmd<'a>, CliFault>
     ensures { IsShown (rows_of (found_of matches.now)) result }
 {
-    if is_given(matches, VCD) {
+    if says_format(matches) {
         export_of(matches)
     } else {
         view_of(matches)
@@ -231,10 +286,19 @@ fn asked_for<'a>(matches: &ArgMatches<'a>) -> Result<Cmd<'a>, CliFault>
     }
 }
 
-// What a fault of the words is answered: the help where it is asked for, which is no fault.
+fn asks_version(kind: ErrorKind) -> bool
+    ensures { result ≡ line.asks_version kind }
+{
+    matches!(kind, ErrorKind::DisplayVersion)
+}
+
+// What a fault of the words is answered: the version or the help where they are asked for, which is no fault.
 fn answer_to<'a>(kind: ErrorKind) -> Result<Cmd<'a>, CliFault>
     ensures { result ≡ line.answer_to kind }
 {
+    if asks_version(kind) {
+        return Ok(Cmd::Version);
+    }
     match fault_of_words(kind) {
         None => Ok(Cmd::Help),
         Some(fault) => Err(fault),

@@ -1,4 +1,4 @@
-//! `msrp_view`: draws a trace of a plan, in text or in SVG, writes it as a value change dump, or says in words what is wrong with either.
+//! `msrp_view`: draws a trace of a plan, in text or in SVG, writes it for another tool, or says in words what is wrong with either.
 //!
 //! `cli` reads the command line, and `main` opens what the words name, prints the line of a fault and gives the exit status. The engines
 //! are `msrp_view_engine`'s.
@@ -7,24 +7,44 @@
 mod cli;
 #[cfg(test)]
 mod tests;
+mod version;
 
 use cli::{Cmd, command_of, help_text};
 use msrp_cli::{open, open_both, words_of, write_help};
 use msrp_engine::{CliFault, exit_of};
 use msrp_plan::bytes::{Sink, Source};
 use msrp_view_engine::{export_text, view_text, why_plan_text, why_text};
-use std::io;
 use std::io::{BufWriter, Write};
 use std::process::ExitCode;
+use std::{env, fs, io};
+use version::write_version;
 
 // Output is gathered into writes of this many bytes.
 const GATHERED: usize = 65_536;
+
+// The file in which a release tells of itself: its kit, its commit, and more.
+const RELEASE: &str = "share/doc/msrp/BUILD-INFO";
+
+// What stands in place of it where the program doesn't lie in a release.
+const NO_RELEASE: &[u8] = b"kit: unknown\ncommit: unknown\n";
+
+// What the release in which the program lies tells of itself.
+fn release_info(rt: &HostRuntime) -> Option<Vec<u8>> {
+    let program = env::current_exe(rt).ok()?;
+    let top = program.parent()?.parent()?;
+    let path = top.join(rt.alloc(), RELEASE).ok()?;
+    fs::read(rt, path.as_path()).ok()
+}
 
 // Does what the command asks for, and answers the exit status.
 fn answer<W: Write>(rt: &HostRuntime, cmd: Cmd<'_>, out: &mut Sink<W>) -> Result<u8, CliFault> {
     let alloc = rt.alloc();
     match cmd {
         Cmd::Help => write_help(out, help_text(alloc)?.as_str()),
+        Cmd::Version => match release_info(rt) {
+            Some(told) => write_version(out, told.as_slice()),
+            None => write_version(out, NO_RELEASE),
+        },
         Cmd::Why { plan, trace: None } => {
             why_plan_text(alloc, &mut Source::new(open(rt, plan)?), out)
         }
@@ -35,9 +55,19 @@ fn answer<W: Write>(rt: &HostRuntime, cmd: Cmd<'_>, out: &mut Sink<W>) -> Result
             let (plan, trace) = open_both(rt, plan, trace)?;
             why_text(alloc, &mut Source::new(plan), &mut Source::new(trace), out)
         }
-        Cmd::Export { plan, trace } => {
+        Cmd::Export {
+            format,
+            plan,
+            trace,
+        } => {
             let (plan, trace) = open_both(rt, plan, trace)?;
-            export_text(alloc, &mut Source::new(plan), &mut Source::new(trace), out)
+            export_text(
+                alloc,
+                &mut Source::new(plan),
+                &mut Source::new(trace),
+                out,
+                format,
+            )
         }
         Cmd::View { asked, plan, trace } => {
             let (plan, trace) = open_both(rt, plan, trace)?;

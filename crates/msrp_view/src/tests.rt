@@ -2,6 +2,7 @@
 
 use crate::cli::{Cmd, command_of};
 use msrp_engine::CliFault;
+use msrp_export::Format;
 use msrp_picture::{Asked, Style};
 use std::alloc::{AllocError, Global};
 use std::test::Fail;
@@ -38,9 +39,13 @@ fn why<'a>(plan: &'a str, trace: Option<&'a str>) -> Cmd<'a> {
     Cmd::Why { plan, trace }
 }
 
-// A dump of these.
-fn export<'a>(plan: &'a str, trace: &'a str) -> Cmd<'a> {
-    Cmd::Export { plan, trace }
+// These in a format of another tool.
+fn export<'a>(format: Format, plan: &'a str, trace: &'a str) -> Cmd<'a> {
+    Cmd::Export {
+        format,
+        plan,
+        trace,
+    }
 }
 
 #[test]
@@ -50,7 +55,7 @@ fn commands(rt: HostRuntime) -> Result<(), Fail> {
         from: Some(3),
         to: Some(20),
     };
-    let table: [(&[&str], Cmd<'_>); 14] = [
+    let table: [(&[&str], Cmd<'_>); 17] = [
         (&["p", "t"], view(Style::Text, "p", "t")),
         (&["--text", "p", "t"], view(Style::Text, "p", "t")),
         (&["--svg", "p", "t"], view(Style::Svg, "p", "t")),
@@ -68,10 +73,19 @@ fn commands(rt: HostRuntime) -> Result<(), Fail> {
         (&["-", "--why"], why("-", None)),
         (&["--why", "p", "-"], why("p", Some("-"))),
         (&["p", "t", "--why"], why("p", Some("t"))),
-        (&["--vcd", "p", "t"], export("p", "t")),
-        (&["-", "t", "--vcd"], export("-", "t")),
+        (&["--vcd", "p", "t"], export(Format::Vcd, "p", "t")),
+        (&["-", "t", "--vcd"], export(Format::Vcd, "-", "t")),
+        (
+            &["--perfetto", "p", "t"],
+            export(Format::Perfetto, "p", "t"),
+        ),
+        (
+            &["p", "-", "--perfetto"],
+            export(Format::Perfetto, "p", "-"),
+        ),
         (&["-h"], Cmd::Help),
         (&["--help"], Cmd::Help),
+        (&["--version"], Cmd::Version),
     ];
     for (words, due) in table {
         let words = words_of(rt.alloc(), words)?;
@@ -82,7 +96,7 @@ fn commands(rt: HostRuntime) -> Result<(), Fail> {
 
 #[test]
 fn no_commands(rt: HostRuntime) -> Result<(), Fail> {
-    let table: [&[&str]; 25] = [
+    let table: [&[&str]; 31] = [
         &[],
         &["--svg", "--text", "p", "t"],
         &["--svg", "--svg", "p", "t"],
@@ -108,6 +122,12 @@ fn no_commands(rt: HostRuntime) -> Result<(), Fail> {
         &["--vcd", "--svg", "p", "t"],
         &["--vcd", "--to", "9", "p", "t"],
         &["--vcd", "--why", "p", "t"],
+        &["--perfetto", "p"],
+        &["--perfetto", "--perfetto", "p", "t"],
+        &["--perfetto", "--vcd", "p", "t"],
+        &["--perfetto", "--text", "p", "t"],
+        &["--perfetto", "--from", "1", "p", "t"],
+        &["--perfetto", "--why", "p", "t"],
     ];
     for words in table {
         let words = words_of(rt.alloc(), words)?;

@@ -8,7 +8,8 @@ use Rattle.std.proofs.Math.Seq.{take-append_seam, take-length}
 use Rattle.std.proofs.lemmas.Option.{slice_get_past}
 use Rattle.msrp_audit.specs.Audits.{answer_of}
 use Rattle.msrp_export.specs.Exports.{export_text, part_text}
-use Rattle.msrp_export.specs.Vcd.{fault_text}
+use Rattle.msrp_export.specs.Changes.{fault_text}
+use Rattle.msrp_export.specs.declared.formats.Format.{Format}
 use Rattle.msrp_plan.specs.Plan.{PlanModel}
 use Rattle.msrp_plan.specs.Verdict.{fault_in, fault_or, missing, refused, verdict}
 use Rattle.msrp_plan.specs.WellFormed.{IsPlan}
@@ -36,21 +37,21 @@ less-one : (n m : ℕ) → n ≡ m + 1 → n - 1 ≡ m
 less-one n m e = omega (arith, e)
 
 -- the text up to a fault, by the rows before it
-up-to : (plan : PlanModel) (all rows : List Row) (f : Fault) (r : Option Row) → take (length rows) all ≡ rows → slice_get all (length rows) ≡ r → f.row - 1 ≡ length rows
-    → part_text plan rows ++ fault_text plan rows f.rule r ≡ part_text plan (take (f.row - 1) all) ++ fault_text plan (take (f.row - 1) all) f.rule (slice_get all (f.row - 1))
-up-to plan all rows f r before at n =
+up-to : (format : Format) (plan : PlanModel) (all rows : List Row) (f : Fault) (r : Option Row) → take (length rows) all ≡ rows → slice_get all (length rows) ≡ r → f.row - 1 ≡ length rows
+    → part_text format plan rows ++ fault_text format plan rows f.rule r ≡ part_text format plan (take (f.row - 1) all) ++ fault_text format plan (take (f.row - 1) all) f.rule (slice_get all (f.row - 1))
+up-to format plan all rows f r before at n =
     let rows_are : take (f.row - 1) all ≡ rows = ap (λ k. take k all) n ∙ before in
     let row_is : slice_get all (f.row - 1) ≡ r = ap (slice_get all) n ∙ at in
-    sym (ap (λ xs. part_text plan xs ++ fault_text plan xs f.rule (slice_get all (f.row - 1))) rows_are ∙ ap (λ o. part_text plan rows ++ fault_text plan rows f.rule o) row_is)
+    sym (ap (λ xs. part_text format plan xs ++ fault_text format plan xs f.rule (slice_get all (f.row - 1))) rows_are ∙ ap (λ o. part_text format plan rows ++ fault_text format plan rows f.rule o) row_is)
 
 -- a faulty row
-pub faulty-text : (plan : PlanModel) (all rows rest : List Row) (r : Row) (f : Fault) → all ≡ (rows ++ r ∷ []) ++ rest → fault_in plan rows ≡ None → fault_in plan (rows ++ r ∷ []) ≡ Some f
-    → part_text plan rows ++ fault_text plan rows f.rule (Some r) ≡ export_text plan all (Err f)
+pub faulty-text : (format : Format) (plan : PlanModel) (all rows rest : List Row) (r : Row) (f : Fault) → all ≡ (rows ++ r ∷ []) ++ rest → fault_in plan rows ≡ None → fault_in plan (rows ++ r ∷ []) ≡ Some f
+    → part_text format plan rows ++ fault_text format plan rows f.rule (Some r) ≡ export_text format plan all (Err f)
 unfolding export_text
-faulty-text plan all rows rest r f whole good is =
+faulty-text format plan all rows rest r f whole good is =
     let seam : all ≡ rows ++ r ∷ rest = whole ∙ append_assoc rows (r ∷ []) rest in
     let n = less-one f.row (length rows) (numbered (refused plan rows r) (length rows + 1) f (sym (fault_push plan rows r good) ∙ is)) in
-    up-to plan all rows f (Some r) (ap (take (length rows)) seam ∙ take-append_seam rows (r ∷ rest)) (ap (λ xs. slice_get xs (length rows)) seam ∙ slice_get-seam rows rest r) n
+    up-to format plan all rows f (Some r) (ap (take (length rows)) seam ∙ take-append_seam rows (r ∷ rest)) (ap (λ xs. slice_get xs (length rows)) seam ∙ slice_get-seam rows rest r) n
 
 -- what is missing is told by the number of the rows
 missing-number : (plan : PlanModel) (rows : List Row) (b : Bool) (f : Fault) → nat_lt (length rows) (plan.cores * plan.ticks) ≡ b → missing plan rows ≡ Some f → f.row ≡ length rows + 1
@@ -63,12 +64,12 @@ missing-number plan rows false f long is =
     absurd (cc)
 
 -- all rows, where none is faulty
-pub ended-text : (plan : PlanModel) (all rows : List Row) (found : Result ⊤ Fault) → all ≡ rows → fault_in plan rows ≡ None → found ≡ answer_of (verdict plan rows)
-    → part_text plan rows ++ end_or_fault plan rows found ≡ export_text plan all found
+pub ended-text : (format : Format) (plan : PlanModel) (all rows : List Row) (found : Result ⊤ Fault) → all ≡ rows → fault_in plan rows ≡ None → found ≡ answer_of (verdict plan rows)
+    → part_text format plan rows ++ end_or_fault format plan rows found ≡ export_text format plan all found
 unfolding export_text
-ended-text plan all rows (Ok good) same none is = ap (λ xs. part_text plan xs ++ end_or_fault plan rows (Ok good)) (sym same)
-ended-text plan all rows (Err f) same none is =
+ended-text format plan all rows (Ok good) same none is = ap (λ xs. part_text format plan xs ++ end_or_fault format plan xs (Ok good)) (sym same)
+ended-text format plan all rows (Err f) same none is =
     let v : verdict plan rows ≡ missing plan rows = ap (λ o. option_or o (missing plan rows)) none in
     let m : missing plan rows ≡ Some f = fault-answer (missing plan rows) f (is ∙ ap answer_of v) in
     let n = less-one f.row (length rows) (missing-number plan rows (nat_lt (length rows) (plan.cores * plan.ticks)) f refl m) in
-    up-to plan all rows f None (ap (take (length rows)) same ∙ take-length rows) (ap (λ xs. slice_get xs (length rows)) same ∙ slice_get_past rows (length rows) (omega arith)) n
+    up-to format plan all rows f None (ap (take (length rows)) same ∙ take-length rows) (ap (λ xs. slice_get xs (length rows)) same ∙ slice_get_past rows (length rows) (omega arith)) n

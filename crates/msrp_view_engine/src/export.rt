@@ -15,7 +15,7 @@ ghost use Rattle.msrp_view_engine.specs.Statuses.{told_status};
 
 use msrp_audit::Auditor;
 use msrp_engine::CliFault;
-use msrp_export::Exporter;
+use msrp_export::{Exporter, Format};
 use msrp_levels::Levels;
 use msrp_plan::bytes::{Sink, Source};
 use msrp_plan::{Fault, Plan};
@@ -25,8 +25,8 @@ use std::alloc::Global;
 use std::io::{Read, Write};
 
 // Writes what comes behind all rows, with the verdict on them.
-fn write_end<W: Write>(exporter: &Exporter<'_>, out: &mut Sink<W>, found: Result<(), Fault>)
-    ensures { (rows : List TraceRow) → HasExported exporter.now rows → length rows + 1 < 2 ^ 32 → Wrote W.contents out.old out.new (end_or_fault exporter.now.plan.now rows found) }
+fn write_end<W: Write>(exporter: &mut Exporter<'_>, out: &mut Sink<W>, found: Result<(), Fault>)
+    ensures { (rows : List TraceRow) → HasExported exporter.old rows → length rows + 1 < 2 ^ 32 → Wrote W.contents out.old out.new (end_or_fault exporter.old.format exporter.old.plan.now rows found) }
 {
     match found {
         Ok(()) => exporter.end(out),
@@ -40,15 +40,16 @@ fn export_rows<T: Read, W: Write>(
     auditor: &mut Auditor<'_>,
     rows: &mut TraceReader<'_, T>,
     out: &mut Sink<W>,
+    format: Format,
 ) -> Result<Result<(), Fault>, CliFault>
     requires plan { auditor.old.plan ≡ plan.now }
     requires fed { HasFed auditor.old [] }
     ensures found { (told : Told) → told_left T.remaining rows.old ≡ Some told
         → (result ≡ Err CliFault.Read) ⊎ (result ≡ Err CliFault.Memory) ⊎ (result ≡ finding plan.now told) }
-    ensures wrote { (told : Told) → told_left T.remaining rows.old ≡ Some told → IfOk result (λ found. Wrote W.contents out.old out.new (export_text plan.now told.rows found)) }
+    ensures wrote { (told : Told) → told_left T.remaining rows.old ≡ Some told → IfOk result (λ found. Wrote W.contents out.old out.new (export_text format plan.now told.rows found)) }
     ensures faults { IfErr result (λ fault. is_trace_fault fault ≡ true) }
 {
-    let mut exporter = Exporter::new(plan);
+    let mut exporter = Exporter::new(plan, format);
     exporter.head(out);
     while let Some(row) = rows.next_foreseen(|core| auditor.foresee(core))? {
         if let Err(fault) = auditor.feed(row) {
@@ -58,7 +59,7 @@ fn export_rows<T: Read, W: Write>(
         exporter.row(out, row);
     }
     let found = auditor.end();
-    write_end(&exporter, out, found);
+    write_end(&mut exporter, out, found);
     Ok(found)
 }
 
@@ -69,17 +70,18 @@ fn export_all<T: Read, W: Write>(
     levels: &Levels<'_>,
     trace: &mut Source<T>,
     out: &mut Sink<W>,
+    format: Format,
 ) -> Result<Result<(), Fault>, CliFault>
     requires levels { levels.now ≡ plan.now }
     ensures found { (bytes : List ℕ) → source_remaining T.remaining trace.old ≡ Some bytes
         → (result ≡ Err CliFault.Read) ⊎ (result ≡ Err CliFault.Memory) ⊎ (result ≡ finding plan.now (rows_of plan.now (csv_records bytes))) }
     ensures wrote { (bytes : List ℕ) → source_remaining T.remaining trace.old ≡ Some bytes
-        → IfOk result (λ found. Wrote W.contents out.old out.new (export_text plan.now (rows_of plan.now (csv_records bytes)).rows found)) }
+        → IfOk result (λ found. Wrote W.contents out.old out.new (export_text format plan.now (rows_of plan.now (csv_records bytes)).rows found)) }
     ensures faults { IfErr result (λ fault. is_trace_fault fault ≡ true) }
 {
     let mut auditor = Auditor::with_room(alloc, plan, levels)?;
     let mut rows = TraceReader::new(alloc, trace, plan)?;
-    let found = export_rows(plan, &mut auditor, &mut rows, out);
+    let found = export_rows(plan, &mut auditor, &mut rows, out, format);
     drop(rows);
     found
 }
@@ -91,16 +93,17 @@ fn export_trace<T: Read, W: Write>(
     levels: &Levels<'_>,
     trace: &mut Source<T>,
     out: &mut Sink<W>,
+    format: Format,
 ) -> Result<Result<(), Fault>, CliFault>
     requires levels { levels.now ≡ plan.now }
     ensures found { (bytes : List ℕ) → source_remaining T.remaining trace.old ≡ Some bytes
         → (result ≡ Err CliFault.Read) ⊎ (result ≡ Err CliFault.Memory) ⊎ (result ≡ finding plan.now (rows_of plan.now (csv_records bytes))) }
     ensures wrote { (bytes : List ℕ) → source_remaining T.remaining trace.old ≡ Some bytes
-        → IfOk result (λ found. Wrote W.contents out.old out.new (export_text plan.now (rows_of plan.now (csv_records bytes)).rows found)) }
+        → IfOk result (λ found. Wrote W.contents out.old out.new (export_text format plan.now (rows_of plan.now (csv_records bytes)).rows found)) }
     ensures faults { IfErr result (λ fault. is_trace_fault fault ≡ true) }
     ensures read { result ≡ Err CliFault.Read → source_failed trace.new ≡ true }
 {
-    match export_all(alloc, plan, levels, trace, out) {
+    match export_all(alloc, plan, levels, trace, out, format) {
         Err(CliFault::Read) if !trace.failed() => Err(CliFault::Memory),
         found => found,
     }
@@ -125,20 +128,21 @@ fn export_plan<T: Read, W: Write>(
     plan: &Plan,
     trace: &mut Source<T>,
     out: &mut Sink<W>,
+    format: Format,
 ) -> Result<u8, CliFault>
     ensures answer { (bytes : List ℕ) → source_remaining T.remaining trace.old ≡ Some bytes
-        → (result ≡ Err CliFault.Read) ⊎ (result ≡ Err CliFault.Memory) ⊎ ExportTold W.contents plan.now (rows_of plan.now (csv_records bytes)) out.old out.new result }
+        → (result ≡ Err CliFault.Read) ⊎ (result ≡ Err CliFault.Memory) ⊎ ExportTold W.contents format plan.now (rows_of plan.now (csv_records bytes)) out.old out.new result }
     ensures good { IfOk result (λ status. ((status ≡ 0) ⊎ (status ≡ 1)) × (sink_failed out.new ≡ false)) }
     ensures faults { IfErr result (λ fault. (is_trace_fault fault ≡ true) ⊎ (fault ≡ CliFault.Write)) }
     ensures read { result ≡ Err CliFault.Read → source_failed trace.new ≡ true }
     ensures write { result ≡ Err CliFault.Write → sink_failed out.new ≡ true }
 {
     let levels = Levels::of(alloc, plan)?;
-    let found = export_trace(alloc, plan, &levels, trace, out)?;
+    let found = export_trace(alloc, plan, &levels, trace, out, format)?;
     status_of(out, found)
 }
 
-/// Reads a plan and a trace of it, whoever made it, and writes a value change dump of the trace: all of a legal run, and else the rows
+/// Reads a plan and a trace of it, whoever made it, and writes the trace in a format: all of a legal run, and else the rows
 /// before the first that breaks a rule, and the fault. The answer is the exit status of an audit, 0 or 1.
 ///
 /// The rows are judged and written as they come, and one is kept at a time. So where a record of the trace is refused, or a read fails,
@@ -148,11 +152,12 @@ pub fn export_text<P: Read, T: Read, W: Write>(
     plan: &mut Source<P>,
     trace: &mut Source<T>,
     out: &mut Sink<W>,
+    format: Format,
 ) -> Result<u8, CliFault>
     // Where the readers tell their bytes, and no read failed and no memory was refused, the answer is that to
     // the plan and the rows that they stand for.
     ensures answer { (plan_bytes trace_bytes : List ℕ) → source_remaining P.remaining plan.old ≡ Some plan_bytes → source_remaining T.remaining trace.old ≡ Some trace_bytes
-        → (result ≡ Err CliFault.Read) ⊎ (result ≡ Err CliFault.Memory) ⊎ ExportAnswers W.contents (plan_of (csv_records plan_bytes)) (csv_records trace_bytes) out.old out.new result }
+        → (result ≡ Err CliFault.Read) ⊎ (result ≡ Err CliFault.Memory) ⊎ ExportAnswers W.contents format (plan_of (csv_records plan_bytes)) (csv_records trace_bytes) out.old out.new result }
 
     // A refused plan is the answer, whatever the trace is read from.
     ensures refused { (bytes : List ℕ) (error : PlanError) → source_remaining P.remaining plan.old ≡ Some bytes → plan_of (csv_records bytes) ≡ Err error
@@ -165,5 +170,5 @@ pub fn export_text<P: Read, T: Read, W: Write>(
     ensures write { result ≡ Err CliFault.Write → sink_failed out.new ≡ true }
 {
     let plan = read_plan(alloc, plan)?;
-    export_plan(alloc, &plan, trace, out)
+    export_plan(alloc, &plan, trace, out, format)
 }

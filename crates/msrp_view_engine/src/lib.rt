@@ -1,6 +1,6 @@
 //! The engines of the second program, from bytes to bytes, over any reader and writer, as those of `msrp_engine` are: a picture of a trace
-//! (`view`), a trace in the format of another tool (`export`), a verdict with what makes it so (`why`), and words on a plan (`why_plan`). They stand in a crate of their own so that the
-//! first program waits for none of their proofs.
+//! (`view`), a trace in the format of another tool (`export`), a verdict with what makes it so (`why`), and words on a plan (`why_plan`).
+//! They stand in a crate of their own so that the first program waits for none of their proofs.
 #![tactic(auto)]
 
 mod export;

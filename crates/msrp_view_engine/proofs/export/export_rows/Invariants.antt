@@ -17,9 +17,10 @@ invariant-loop-row g l =
     × (fault_in l.plan rows ≡ None)
     × ((told : Told) → told_left g.T.Read.remaining l.fn.rows ≡ Some told → IsReadTo told rows (told_left g.T.Read.remaining l.rows))
     × (l.exporter.plan.now ≡ l.plan)
+    × (l.exporter.format ≡ l.fn.format)
     × HasExported l.exporter rows
     × (length rows ≤ l.plan.cores * l.plan.ticks)
-    × Wrote g.W.Write.contents l.fn.out l.out (part_text l.plan rows)
+    × Wrote g.W.Write.contents l.fn.out l.out (part_text l.fn.format l.plan rows)
 
 abbrev pub decreases-loop-row : goal.decreases-loop-row
 decreases-loop-row g l = l.auditor.plan.cores * l.auditor.plan.ticks - l.auditor.fed

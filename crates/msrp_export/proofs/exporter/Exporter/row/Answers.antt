@@ -16,7 +16,7 @@ returns-then-self-cores-clause-text g c = λ rows h few.
     let size = h.size in
     let next : c.next-self.result ≡ e.turns + 1 = c.next-self.ensures (omega (arith, size, few)) in
     let last : e.turns + 1 ≡ e.plan.now.cores = sym next ∙ (c.if-self-cores.true ∙ c.cores.ensures.value) in
-    subst (Wrote g.W.Write.contents c.args.out.now c.end_tick.new.out) (ends_text e.plan.now rows c.args.row e.tick e.turns over last) (c.end_tick.ensures.text (rows ++ c.args.row ∷ []) told)
+    subst (Wrote g.W.Write.contents c.args.out.now c.end_tick.new.out) (ends_text e.format e.plan.now rows c.args.row e.tick e.turns over last) (c.end_tick.ensures.text (rows ++ c.args.row ∷ []) told)
 
 pub returns-then-self-cores-clause-exported : goal.returns-then-self-cores-clause-exported
 returns-then-self-cores-clause-exported g c = λ rows h few.
@@ -38,7 +38,7 @@ returns-else-self-cores-clause-text g c = λ rows h few.
     let size = h.size in
     let next : c.next-self.result ≡ e.turns + 1 = c.next-self.ensures (omega (arith, size, few)) in
     let other : e.turns + 1 ≢ e.plan.now.cores = (λ same. c.if-self-cores.false (next ∙ (same ∙ sym c.cores.ensures.value))) in
-    subst (Wrote g.W.Write.contents c.args.out.now c.args.out.now) (goes_text e.plan.now rows c.args.row e.tick e.turns (are_over e rows h) other) (wrote-nothing g.W.Write.contents c.args.out.now)
+    subst (Wrote g.W.Write.contents c.args.out.now c.args.out.now) (goes_text e.format e.plan.now rows c.args.row e.tick e.turns (are_over e rows h) other) (wrote-nothing g.W.Write.contents c.args.out.now)
 
 pub returns-else-self-cores-clause-exported : goal.returns-else-self-cores-clause-exported
 returns-else-self-cores-clause-exported g c = λ rows h few.

@@ -1,0 +1,19 @@
+use Rattle.std.proofs.Common.{◌≡◌, sym, subst, arith}
+use Rattle.std.specs.List.{flat_map, range_with_len}
+use Rattle.msrp_plan.specs.Bytes.{Wrote}
+use Rattle.msrp_plan.proofs.Lists.Ranges.{flat_more}
+use Rattle.msrp_plan.proofs.Writes.{wrote-more, wrote-nothing}
+use Rattle.msrp_export.specs.Perfetto.{core_track}
+use Rattle.msrp_export.proofs.perfetto.add_core_tracks.Goals as goal
+
+pub loop-core-init : goal.loop-core-init
+loop-core-init g c = wrote-nothing g.W.Write.contents c.args.out.now
+
+pub loop-core-preserved : goal.loop-core-preserved
+loop-core-preserved g c =
+    subst (Wrote g.W.Write.contents c.args.out.now c.add_core_track.new.out) (sym (flat_more core_track c.loop-core.core)) (wrote-more _ _ _ _ _ _ c.loop-core.invariant c.add_core_track.ensures)
+
+pub returns : goal.returns
+returns g c =
+    let all : c.loop-core.core ≡ c.args.plan.now.cores = (let t = c.cores-core-end.ensures.value in let past = c.loop-core-test.false in let end = c.loop-core.auto.core-end in omega (arith, t, past, end)) in
+    subst (λ k. Wrote g.W.Write.contents c.args.out.now c.loop-core.out (flat_map core_track (range_with_len 0 k))) all c.loop-core.invariant

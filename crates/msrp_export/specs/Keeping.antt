@@ -1,0 +1,58 @@
+-- What is the same as in the tick before.
+use Rattle.std.specs.Prelude.{Bool, true, false, ◌&&◌, Option, Some, None}
+use Rattle.msrp_plan.specs.Actions.{same_res}
+use Rattle.msrp_plan.specs.Jobs.{same_job}
+use Rattle.msrp_plan.specs.Runs.{same_choice}
+use Rattle.msrp_plan.specs.declared.rows.Kind.{Kind}
+use Rattle.msrp_plan.specs.declared.rows.Kind.TheVariants.{Idle, Run, Lock, Unlock, Take, Queue, Spin, Grant, Release}
+use Rattle.msrp_plan.specs.declared.rows.Row.{Row}
+use Rattle.msrp_export.specs.declared.states.Doing.{Doing}
+use Rattle.msrp_export.specs.declared.states.TaskState.{TaskState}
+use Rattle.msrp_export.specs.declared.states.TaskState.TheVariants.{Unreleased, Ready, Running, Holding, Spinning}
+
+abbrev pub same_kind : Kind → Kind → Bool
+same_kind Idle Idle = true
+same_kind Run Run = true
+same_kind Lock Lock = true
+same_kind Unlock Unlock = true
+same_kind Take Take = true
+same_kind Queue Queue = true
+same_kind Spin Spin = true
+same_kind Grant Grant = true
+same_kind Release Release = true
+same_kind _ _ = false
+
+-- the core did the same in its last row, for the same job, on the same resource; it had no row before its first
+abbrev pub keeps_kind : Option Row → Row → Bool
+keeps_kind None r = false
+keeps_kind (Some b) r = same_kind b.kind r.kind
+
+abbrev pub keeps_job : Option Row → Row → Bool
+keeps_job None r = false
+keeps_job (Some b) r = same_choice b.job r.job
+
+abbrev pub keeps_res : Option Row → Row → Bool
+keeps_res None r = false
+keeps_res (Some b) r = same_res b.res r.res
+
+-- the core did all the same, or has no row
+abbrev pub keeps_row : Option Row → Option Row → Bool
+keeps_row before None = true
+keeps_row before (Some r) = keeps_kind before r && (keeps_job before r && keeps_res before r)
+
+abbrev pub same_state : TaskState → TaskState → Bool
+same_state Unreleased Unreleased = true
+same_state Ready Ready = true
+same_state Running Running = true
+same_state Holding Holding = true
+same_state Spinning Spinning = true
+same_state _ _ = false
+
+abbrev pub same_bit : Bool → Bool → Bool
+same_bit true true = true
+same_bit false false = true
+same_bit _ _ = false
+
+-- the task is in the same state, with the same job
+abbrev pub same_doing : Doing → Doing → Bool
+same_doing before now = same_state before.state now.state && same_job before.job now.job

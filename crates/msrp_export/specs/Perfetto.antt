@@ -1,0 +1,173 @@
+-- The JSON of trace events, as Perfetto and Chrome read it: slices, arrows and instants on tracks. One microsecond is one tick. A core's
+-- slices are its stretches of rows of one kind, job and resource, a task's those in one state with one job, a resource's those of one
+-- holder. An arrow goes from the row in which a job joins a queue to the one in which it is granted the resource. Its number tells the
+-- task and how much its jobs had done: each request of a task has its own.
+use Rattle.std.specs.Prelude.{ℕ, List, [], ◌++◌, Bool, true, false, not, ◌&&◌, codes, decimal, length, Option, Some, None, is_some, if◌then◌else◌, ◌+◌, ◌*◌}
+use Rattle.std.specs.List.{flat_map, range_with_len}
+use Rattle.msrp_plan.specs.Jobs.{same_job}
+use Rattle.msrp_plan.specs.Plan.{PlanModel, task_at}
+use Rattle.msrp_plan.specs.Runs.{same_choice}
+use Rattle.msrp_plan.specs.declared.faults.Rule.{Rule}
+use Rattle.msrp_plan.specs.declared.ids.JobId.{JobId}
+use Rattle.msrp_plan.specs.declared.rows.Kind.{Kind}
+use Rattle.msrp_plan.specs.declared.rows.Kind.TheVariants.{Grant, Queue}
+use Rattle.msrp_plan.specs.declared.rows.Row.{Row}
+use Rattle.msrp_export.specs.Keeping.{keeps_row, same_doing}
+use Rattle.msrp_export.specs.Signals.{holder, last_row}
+use Rattle.msrp_export.specs.Ticks.{doing_before, rows_before}
+use Rattle.msrp_export.specs.Words.{faulty_text, job_text, kind_text, res_name, res_text, rule_text, state_text, task_name}
+use Rattle.msrp_export.specs.declared.perfetto.Group.{Group}
+use Rattle.msrp_export.specs.declared.perfetto.Group.TheVariants.{Cores, Resources, Tasks, Verdict}
+use Rattle.msrp_export.specs.declared.standing.ResState.{ResState}
+use Rattle.msrp_export.specs.declared.states.Doing.{Doing}
+use Rattle.msrp_export.specs.declared.states.TaskState.{TaskState}
+use Rattle.msrp_export.specs.declared.states.TaskState.TheVariants.{Unreleased}
+
+-- ---- events
+-- tracks are the threads of a process: that of cores, of tasks, of resources, and of the fault
+unfoldable pub pid : Group → List ℕ
+pid Cores = codes "100"
+pid Tasks = codes "200"
+pid Resources = codes "300"
+pid Verdict = codes "400"
+
+-- where an event stands
+abbrev pub place : Group → ℕ → List ℕ
+place group n = codes "\"pid\":" ++ pid group ++ codes ",\"tid\":" ++ decimal (n + 1)
+
+-- an event of a phase begins
+abbrev pub event : List ℕ → Group → ℕ → ℕ → List ℕ
+event phase group n tick = codes ",\n{\"ph\":\"" ++ phase ++ codes "\"," ++ place group n ++ codes ",\"ts\":" ++ decimal tick
+
+-- a slice ends
+abbrev pub end_event : Group → ℕ → ℕ → List ℕ
+end_event group n tick = event (codes "E") group n tick ++ codes "}"
+
+-- behind the name of an event, the job that it tells of
+abbrev pub job_args : PlanModel → JobId → List ℕ
+job_args plan j = codes "\",\"args\":{\"job\":\"" ++ job_text plan (Some j) ++ codes "\"}}"
+
+-- ---- cores
+-- a row of a job has a slice
+abbrev pub works : Option Row → Bool
+works None = false
+works (Some r) = is_some r.job
+
+abbrev pub row_end : ℕ → ℕ → Option Row → List ℕ
+row_end tick c r = if works r then end_event Cores c tick else []
+
+abbrev pub row_event : PlanModel → ℕ → ℕ → Row → List ℕ
+row_event plan tick c r =
+    event (codes "B") Cores c tick ++ codes ",\"name\":\"" ++ job_text plan r.job ++ codes " " ++ kind_text r.kind ++ codes "\",\"args\":{\"job\":\"" ++ job_text plan r.job ++ codes "\",\"kind\":\"" ++ kind_text r.kind
+    ++ codes "\",\"resource\":\"" ++ res_text plan r.res ++ codes "\"}}"
+
+abbrev pub row_begin : PlanModel → ℕ → ℕ → Option Row → List ℕ
+row_begin plan tick c None = []
+row_begin plan tick c (Some r) = if is_some r.job then row_event plan tick c r else []
+
+-- of a core whose last row was one and now is another
+abbrev pub core_change : PlanModel → ℕ → ℕ → Option Row → Option Row → List ℕ
+core_change plan tick c before now = if keeps_row before now then [] else row_end tick c before ++ row_begin plan tick c now
+
+-- ---- tasks
+-- a task has a slice while its job is released
+abbrev pub has_slice : TaskState → Bool
+has_slice Unreleased = false
+has_slice _ = true
+
+abbrev pub task_end : ℕ → ℕ → Doing → List ℕ
+task_end tick t before = if has_slice before.state then end_event Tasks t tick else []
+
+abbrev pub task_event : PlanModel → ℕ → ℕ → Doing → List ℕ
+task_event plan tick t now = event (codes "B") Tasks t tick ++ codes ",\"name\":\"" ++ state_text now.state ++ job_args plan now.job
+
+abbrev pub task_begin : PlanModel → ℕ → ℕ → Doing → List ℕ
+task_begin plan tick t now = if has_slice now.state then task_event plan tick t now else []
+
+abbrev pub task_slices : PlanModel → ℕ → ℕ → Doing → Doing → List ℕ
+task_slices plan tick t before now = if same_doing before now then [] else task_end tick t before ++ task_begin plan tick t now
+
+-- a deadline is missed where the job is late, and wasn't in the tick before
+abbrev pub is_newly_late : Doing → Doing → Bool
+is_newly_late before now = now.late && not (before.late && same_job before.job now.job)
+
+abbrev pub late_event : PlanModel → ℕ → ℕ → Doing → List ℕ
+late_event plan tick t now = event (codes "i") Tasks t tick ++ codes ",\"s\":\"t\",\"name\":\"deadline missed" ++ job_args plan now.job
+
+abbrev pub late_instant : PlanModel → ℕ → ℕ → Doing → Doing → List ℕ
+late_instant plan tick t before now = if is_newly_late before now then late_event plan tick t now else []
+
+-- an end of the arrow of the request that a task makes once it has done this work
+abbrev pub arrow_event : PlanModel → List ℕ → ℕ → ℕ → ℕ → List ℕ
+arrow_event plan phase tick t work = event phase Cores (task_at plan t).core tick ++ codes ",\"id\":" ++ decimal (work * 64 + t) ++ codes ",\"cat\":\"request\",\"name\":\"request\""
+
+-- an arrow begins in the row that joins the queue, and ends in the one that is granted the resource
+abbrev pub arrow_part : PlanModel → ℕ → ℕ → Kind → ℕ → List ℕ
+arrow_part plan tick t Queue work = arrow_event plan (codes "s") tick t work ++ codes "}"
+arrow_part plan tick t Grant work = arrow_event plan (codes "f") tick t work ++ codes ",\"bp\":\"e\"}"
+arrow_part plan tick t _ work = []
+
+abbrev pub arrow : PlanModel → ℕ → ℕ → Option Kind → ℕ → List ℕ
+arrow plan tick t None work = []
+arrow plan tick t (Some kind) work = arrow_part plan tick t kind work
+
+abbrev pub task_change : PlanModel → ℕ → ℕ → Doing → Doing → List ℕ
+task_change plan tick t before now = task_slices plan tick t before now ++ late_instant plan tick t before now ++ arrow plan tick t now.kind now.work
+
+-- ---- resources
+abbrev pub holder_end : ℕ → ℕ → Option JobId → List ℕ
+holder_end tick g before = if is_some before then end_event Resources g tick else []
+
+abbrev pub holder_event : PlanModel → ℕ → ℕ → JobId → List ℕ
+holder_event plan tick g j = event (codes "B") Resources g tick ++ codes ",\"name\":\"" ++ job_text plan (Some j) ++ job_args plan j
+
+abbrev pub holder_begin : PlanModel → ℕ → ℕ → Option JobId → List ℕ
+holder_begin plan tick g None = []
+holder_begin plan tick g (Some j) = holder_event plan tick g j
+
+abbrev pub res_change : PlanModel → ℕ → ℕ → ResState → ResState → List ℕ
+res_change plan tick g before now = if same_choice before.holder now.holder then [] else holder_end tick g before.holder ++ holder_begin plan tick g now.holder
+
+-- ---- head and end
+-- a track has a name, and stands in the order of numbers
+abbrev pub track_begin : Group → ℕ → List ℕ
+track_begin group n = codes ",\n{\"ph\":\"M\"," ++ place group n ++ codes ",\"name\":\"thread_name\",\"args\":{\"name\":\""
+
+abbrev pub track_end : Group → ℕ → List ℕ
+track_end group n = codes "\"}},\n{\"ph\":\"M\"," ++ place group n ++ codes ",\"name\":\"thread_sort_index\",\"args\":{\"sort_index\":" ++ decimal n ++ codes "}}"
+
+abbrev pub core_track : ℕ → List ℕ
+core_track c = track_begin Cores c ++ codes "core " ++ decimal c ++ track_end Cores c
+
+abbrev pub task_track : PlanModel → ℕ → List ℕ
+task_track plan t = track_begin Tasks t ++ task_name plan t ++ track_end Tasks t
+
+abbrev pub res_track : PlanModel → ℕ → List ℕ
+res_track plan g = track_begin Resources g ++ res_name plan g ++ track_end Resources g
+
+unfoldable pub head_text : PlanModel → List ℕ
+head_text plan =
+    codes "{\"displayTimeUnit\":\"ns\",\"otherData\":{\"program\":\"msrp_view\",\"time\":\"one microsecond is one tick\"},\"traceEvents\":[\n{\"ph\":\"M\",\"pid\":100,\"name\":\"process_name\",\"args\":{\"name\":\"cores\"}},\n{\"ph\":\"M\",\"pid\":100,\"name\":\"process_sort_index\",\"args\":{\"sort_index\":1}},\n{\"ph\":\"M\",\"pid\":200,\"name\":\"process_name\",\"args\":{\"name\":\"tasks\"}},\n{\"ph\":\"M\",\"pid\":200,\"name\":\"process_sort_index\",\"args\":{\"sort_index\":2}},\n{\"ph\":\"M\",\"pid\":300,\"name\":\"process_name\",\"args\":{\"name\":\"resources\"}},\n{\"ph\":\"M\",\"pid\":300,\"name\":\"process_sort_index\",\"args\":{\"sort_index\":3}}"
+    ++ flat_map core_track (range_with_len 0 plan.cores)
+    ++ flat_map (task_track plan) (range_with_len 0 (length plan.tasks))
+    ++ flat_map (res_track plan) (range_with_len 0 (length plan.resources))
+
+-- the rule that is broken in a tick, and by which row
+abbrev pub broken_text : PlanModel → ℕ → Rule → Option Row → List ℕ
+broken_text plan tick rule r =
+    codes ",\n{\"ph\":\"M\",\"pid\":400,\"name\":\"process_name\",\"args\":{\"name\":\"verdict\"}}" ++ event (codes "i") Verdict 0 tick ++ codes ",\"s\":\"g\",\"name\":\"fault " ++ rule_text rule
+    ++ codes "\",\"args\":{\"rule\":\"" ++ rule_text rule ++ codes "\",\"row\":\"" ++ faulty_text plan r ++ codes "\"}}"
+
+-- the slices end that are open behind rows; of tasks those of the tick before this one
+abbrev pub core_ends : PlanModel → List Row → ℕ → List ℕ
+core_ends plan rows time = flat_map (λ c. row_end time c (last_row c rows)) (range_with_len 0 plan.cores)
+
+abbrev pub task_ends : PlanModel → List Row → ℕ → ℕ → List ℕ
+task_ends plan rows tick time = flat_map (λ t. task_end time t (doing_before plan rows tick t)) (range_with_len 0 (length plan.tasks))
+
+abbrev pub res_ends : PlanModel → List Row → ℕ → List ℕ
+res_ends plan rows time = flat_map (λ g. holder_end time g (holder g rows)) (range_with_len 0 (length plan.resources))
+
+-- each slice that is open when this tick begins ends at that time, and so does the text
+unfoldable pub ends_text : PlanModel → List Row → ℕ → ℕ → List ℕ
+ends_text plan rows tick time = core_ends plan (rows_before plan rows tick) time ++ task_ends plan rows tick time ++ res_ends plan (rows_before plan rows tick) time ++ codes "\n]}\n"
