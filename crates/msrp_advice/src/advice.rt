@@ -99,6 +99,8 @@ pub enum Advice {
     LockedTwice,
     /// An unlock of what isn't the innermost.
     NotInnermost,
+    /// An unlock by a task that holds nothing.
+    NothingHeld,
     /// A task that ends and holds a resource.
     StillHeld,
     /// A global resource locked while a global one is held.

@@ -4,6 +4,7 @@
 
 mod advice;
 mod choosing;
+mod earlier;
 mod places;
 mod refusals;
 mod sentences;

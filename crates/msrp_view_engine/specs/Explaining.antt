@@ -1,5 +1,5 @@
 -- What is written and answered where words on a plan are asked for.
-use Rattle.std.specs.Prelude.{◌≡◌, ℕ, ◌-◌, List, Option, Some, None, Ok, Err, if◌then◌else◌}
+use Rattle.std.specs.Prelude.{◌≡◌, ℕ, ◌-◌, List, Option, Some, None, Ok, Err, take, if◌then◌else◌}
 use Rattle.std.specs.declared.result.Result.{Result}
 use Rattle.msrp_advice.specs.Refusals.{refusal_text}
 use Rattle.msrp_advice.specs.Warnings.{accepted_text}
@@ -21,7 +21,7 @@ use Rattle.msrp_view_engine.specs.declared.why_plan.Words.{Words}
 -- the words on records that stand for a plan, or of which one is refused, with the refusal
 abbrev pub AreWordsOn : List (List (List ℕ)) → Result PlanModel TextError → Words → Type 0
 AreWordsOn records (Ok plan) words = (words.text.items ≡ accepted_text plan) × (words.refusal ≡ None)
-AreWordsOn records (Err (At fault number)) words = (words.text.items ≡ refusal_text fault number (record_at records (number - 1))) × (words.refusal ≡ Some (record { fault = fault; number = number }))
+AreWordsOn records (Err (At fault number)) words = (words.text.items ≡ refusal_text fault number (take (number - 1) records) (record_at records (number - 1))) × (words.refusal ≡ Some (record { fault = fault; number = number }))
 AreWordsOn records (Err _) words = ⊥
 
 -- the refusal as it is answered, where the sink took all words
@@ -32,7 +32,7 @@ words_status (Some refusal) new = if sink_failed new then Err Write else Err (Pl
 -- ---- written
 -- the words on a refused record are written, and the refusal is answered as ever if the sink took them all
 pub record TellsRefusal {W : Type 0} (contents : W → Option (List ℕ)) (records : List (List (List ℕ))) (fault : PlanFault) (number : ℕ) (old new : Sink W) (result : Result ℕ CliFault) : Type 0 where
-  pub text : Wrote contents old new (refusal_text fault number (record_at records (number - 1)))
+  pub text : Wrote contents old new (refusal_text fault number (take (number - 1) records) (record_at records (number - 1)))
   pub answer : result ≡ if sink_failed new then Err Write else Err (Plan (code_of fault) number)
 
 -- the answer to records that stand for a plan, or of which one is refused
