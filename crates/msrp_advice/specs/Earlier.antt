@@ -1,29 +1,15 @@
 -- The earlier record that a refusal concerns, by its place among the records before the refused one, counted from 0.
-use Rattle.std.specs.Prelude.{ℕ, zero, suc, Bool, false, not, ◌&&◌, ◌+◌, List, [], length, Option, Some, None, codes, drop, unwrap_or, if◌then◌else◌}
-use Rattle.std.specs.List.{list_any}
+use Rattle.std.specs.Prelude.{ℕ, zero, suc, Bool, false, ◌==◌, ◌&&◌, ◌+◌, ◌-◌, ◌/◌, List, [], length, Option, Some, None, codes, min, nat_lt, unwrap_or, if◌then◌else◌}
 use Rattle.csv.specs.Records.{field_at}
-use Rattle.msrp_text.specs.Fields.{has_word, name_at}
-use Rattle.msrp_text.specs.Reading.{record_at}
+use Rattle.msrp_text.specs.Fields.{has_word}
+use Rattle.msrp_text.specs.Reading.{number_told, record_at}
+use Rattle.msrp_advice.specs.Nested.{is_nested}
 use Rattle.msrp_advice.specs.Places.{is_task}
+use Rattle.msrp_advice.specs.Records.{is_left, is_lock, is_resource, is_same}
 use Rattle.msrp_advice.specs.declared.advice.Advice.{Advice}
 use Rattle.msrp_advice.specs.declared.advice.Advice.TheVariants as said
 use Rattle.msrp_advice.specs.declared.earlier.Sought.{Sought}
 use Rattle.msrp_advice.specs.declared.earlier.Sought.TheVariants as sought
-
--- ---- what a record is
-abbrev pub is_resource : List (List ℕ) → Bool
-is_resource fields = has_word fields 0 (codes "resource")
-
-abbrev pub is_lock : List (List ℕ) → Bool
-is_lock fields = has_word fields 0 (codes "op") && has_word fields 1 (codes "lock")
-
--- both have one name at a place
-abbrev pub is_same : ℕ → List (List ℕ) → List (List ℕ) → Bool
-is_same i fields other = has_word other i (name_at fields i)
-
--- a record unlocks the resource of a lock
-abbrev pub is_unlock_of : List (List ℕ) → List (List ℕ) → Bool
-is_unlock_of lock fields = has_word fields 0 (codes "op") && has_word fields 1 (codes "unlock") && is_same 2 lock fields
 
 -- ---- the last one that is sought
 -- the last of the first n places that passes a test
@@ -31,9 +17,10 @@ unfoldable pub last_place : (ℕ → Bool) → ℕ → Option ℕ
 last_place test zero = None
 last_place test (suc n) = if test n then Some n else last_place test n
 
--- a lock behind which no record unlocks its resource: the task holds it still
-abbrev pub is_left : List (List (List ℕ)) → ℕ → Bool
-is_left before i = is_lock (record_at before i) && not (list_any (is_unlock_of (record_at before i)) (drop (i + 1) before))
+-- how many of the records before the refused one are searched: all, but for a nested lock no more than 4096, since each is compared with all others
+abbrev pub searched : Sought → ℕ → ℕ
+searched sought.NestedLock n = min n 4096
+searched _ n = n
 
 -- the record at a place is one that is sought, beside a refused record of these fields
 abbrev pub is_sought : Sought → List (List (List ℕ)) → List (List ℕ) → ℕ → Bool
@@ -45,6 +32,7 @@ is_sought sought.Task before fields i = is_task (record_at before i)
 is_sought sought.Release before fields i = has_word (record_at before i) 0 (codes "release")
 is_sought sought.SameLock before fields i = is_lock (record_at before i) && is_same 2 fields (record_at before i)
 is_sought sought.LeftLock before fields i = is_left before i
+is_sought sought.NestedLock before fields i = is_nested before (searched sought.NestedLock (length before)) i
 
 -- what is sought for each advice
 abbrev pub sought_by : Advice → Sought
@@ -55,18 +43,42 @@ sought_by said.NoSuchCore = sought.Cores
 sought_by said.LockedTwice = sought.SameLock
 sought_by said.NotInnermost = sought.LeftLock
 sought_by said.StillHeld = sought.LeftLock
+sought_by said.NestedGlobal = sought.NestedLock
 sought_by said.NoUnit = sought.Task
 sought_by said.NotRising = sought.Release
 sought_by said.NoRelease = sought.Task
 sought_by _ = sought.Nothing
 
--- the last earlier record that is sought for an advice on a record of these fields
-abbrev pub earlier_of : Advice → List (List (List ℕ)) → List (List ℕ) → Option ℕ
-earlier_of advice before fields = last_place (is_sought (sought_by advice) before fields) (length before)
+-- ---- the task with the most jobs
+-- how many jobs a periodic task releases within so many ticks
+abbrev pub jobs_within : ℕ → List (List ℕ) → ℕ
+jobs_within ticks fields = if number_told fields 3 == 0 then 0 else (ticks - number_told fields 5 + (number_told fields 3 - 1)) / number_told fields 3
 
--- where a task holds nothing, there is no innermost lock
+-- of the record at a place, if it is a periodic task's; the third record has the ticks
+abbrev pub jobs_told : List (List (List ℕ)) → ℕ → ℕ
+jobs_told before i = if has_word (record_at before i) 0 (codes "task") then jobs_within (number_told (record_at before 2) 1) (record_at before i) else 0
+
+-- a number by a place, and 0 where there is none
+abbrev pub number_there : (ℕ → ℕ) → Option ℕ → ℕ
+number_there number None = 0
+number_there number (Some i) = number i
+
+-- of the first n places the first one at which a number is greatest, if it isn't 0
+unfoldable pub greatest_place : (ℕ → ℕ) → ℕ → Option ℕ
+greatest_place number zero = None
+greatest_place number (suc n) = if nat_lt (number_there number (greatest_place number n)) (number n) then Some n else greatest_place number n
+
+-- ---- by advice
+-- the earlier record for an advice on a record of these fields: the task with the most jobs, and else the last one that is sought
+abbrev pub earlier_of : Advice → List (List (List ℕ)) → List (List ℕ) → Option ℕ
+earlier_of said.ManyJobs before fields = greatest_place (jobs_told before) (length before)
+earlier_of advice before fields = last_place (is_sought (sought_by advice) before fields) (searched (sought_by advice) (length before))
+
+-- where a task holds nothing, there is no innermost lock; where the nested lock stands far behind, it isn't told; where no task has a period, none of those has the most jobs
 abbrev pub known_advice : Advice → Option ℕ → Advice
 known_advice said.NotInnermost None = said.NothingHeld
+known_advice said.NestedGlobal None = said.NestedSomewhere
+known_advice said.ManyJobs None = said.ManyReleases
 known_advice advice found = advice
 
 -- ---- what it says

@@ -8,6 +8,7 @@ use Rattle.msrp_plan.specs.declared.faults.PlanFault.{PlanFault}
 use Rattle.msrp_text.specs.Reading.{record_at}
 use Rattle.msrp_advice.specs.Choosing.{advice_of}
 use Rattle.msrp_advice.specs.Earlier.{earlier_of, known_advice, name_told, task_told, up_to}
+use Rattle.msrp_advice.specs.Lines.{line_of}
 use Rattle.msrp_advice.specs.Places.{place_of}
 use Rattle.msrp_advice.specs.Sentences.{sentence}
 use Rattle.msrp_advice.specs.declared.advice.Advice.{Advice}
@@ -39,9 +40,14 @@ shown_fields fields n = flat_map (λ i. shown_field (unwrap_or (field_at fields 
 abbrev pub shown_record : List (List ℕ) → List ℕ
 shown_record fields = if length fields == 0 then codes "the end of the text" else shown_fields fields (min (length fields) most_fields)
 
--- the number of a record, and the record
-abbrev pub record_line : ℕ → List (List ℕ) → List ℕ
-record_line number fields = codes "record " ++ (decimal number ++ (codes ": " ++ (shown_record fields ++ codes "\n")))
+-- the number of a line, where it is known
+abbrev pub line_part : Option ℕ → List ℕ
+line_part None = []
+line_part (Some line) = codes ", line " ++ decimal line
+
+-- the number of a record of a text with its line, and the record
+abbrev pub record_line : List ℕ → ℕ → List (List ℕ) → List ℕ
+record_line text number fields = codes "record " ++ (decimal number ++ (line_part (line_of text number) ++ (codes ": " ++ (shown_record fields ++ codes "\n"))))
 
 -- the field that is wrong, counted from 1, where it is one
 abbrev pub wrong_field : List (List ℕ) → Option ℕ → List ℕ
@@ -69,19 +75,19 @@ abbrev pub said_of : Advice → List (List (List ℕ)) → List (List ℕ) → O
 said_of advice before fields found = wrong_field fields (place_of advice fields) ++ filled before fields found (sentence advice)
 
 -- the earlier record, where there is one
-abbrev pub earlier_line : List (List (List ℕ)) → Option ℕ → List ℕ
-earlier_line before None = []
-earlier_line before (Some i) = record_line (i + 1) (record_at before i)
+abbrev pub earlier_line : List ℕ → List (List (List ℕ)) → Option ℕ → List ℕ
+earlier_line text before None = []
+earlier_line text before (Some i) = record_line text (i + 1) (record_at before i)
 
 -- the records, the refused one first
-abbrev pub record_lines : ℕ → List (List (List ℕ)) → List (List ℕ) → Option ℕ → List ℕ
-record_lines number before fields found = record_line number fields ++ earlier_line before found
+abbrev pub record_lines : List ℕ → ℕ → List (List (List ℕ)) → List (List ℕ) → Option ℕ → List ℕ
+record_lines text number before fields found = record_line text number fields ++ earlier_line text before found
 
 -- what is written where the earlier record is known
-unfoldable pub refusal_with : PlanFault → ℕ → List (List (List ℕ)) → List (List ℕ) → Option ℕ → List ℕ
-refusal_with fault number before fields found =
-    codes "P" ++ (decimal (code_of fault) ++ (codes " at record " ++ (decimal number ++ (codes ": " ++ (said_of (known_advice (advice_of fault number fields) found) before fields found ++ (codes "\n" ++ record_lines number before fields found))))))
+unfoldable pub refusal_with : List ℕ → PlanFault → ℕ → List (List (List ℕ)) → List (List ℕ) → Option ℕ → List ℕ
+refusal_with text fault number before fields found =
+    codes "P" ++ (decimal (code_of fault) ++ (codes " at record " ++ (decimal number ++ (codes ": " ++ (said_of (known_advice (advice_of fault number fields) found) before fields found ++ (codes "\n" ++ record_lines text number before fields found))))))
 
--- what is written of a record of that number which has that fault, given the records before it
-abbrev pub refusal_text : PlanFault → ℕ → List (List (List ℕ)) → List (List ℕ) → List ℕ
-refusal_text fault number before fields = refusal_with fault number before fields (earlier_of (advice_of fault number fields) before fields)
+-- what is written of the record of a text of that number which has that fault, given the records before it
+abbrev pub refusal_text : List ℕ → PlanFault → ℕ → List (List (List ℕ)) → List (List ℕ) → List ℕ
+refusal_text text fault number before fields = refusal_with text fault number before fields (earlier_of (advice_of fault number fields) before fields)

@@ -105,10 +105,14 @@ pub enum Advice {
     StillHeld,
     /// A global resource locked while a global one is held.
     NestedGlobal,
+    /// Such a lock behind the records that are compared with one another.
+    NestedSomewhere,
     /// A task without units.
     NoUnit,
     /// Too many jobs.
     ManyJobs,
+    /// Too many jobs, and no task has a period.
+    ManyReleases,
     /// A release that isn't above the one before it.
     NotRising,
     /// A listed task without a release.

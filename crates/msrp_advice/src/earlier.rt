@@ -1,17 +1,20 @@
 //! The earlier record that a refusal concerns, by its place among the records before the refused one, counted from 0.
-ghost use Rattle.std.specs.Prelude.{◌≡◌, ◌<◌, ◌≤◌, ◌+◌, ◌-◌, ◌^◌, length, map, drop};
-ghost use Rattle.std.specs.List.{list_any};
+ghost use Rattle.std.specs.Prelude.{◌≡◌, ◌<◌, ◌≤◌, ◌+◌, ◌-◌, ◌^◌, length, map};
 ghost use Rattle.std.specs.Option.{IfSome};
 ghost use Rattle.csv.specs.Records.{fields_of};
-ghost use Rattle.msrp_text.specs.Reading.{record_at};
+ghost use Rattle.msrp_text.specs.Reading.{number_told, record_at};
 ghost use Rattle.msrp_advice.specs.Earlier as due;
-ghost use Rattle.msrp_advice.specs.Places.{is_task};
 
 use crate::advice::Advice;
+use crate::nested::is_nested;
 use crate::places::is_task;
+use crate::records::{is_left, is_lock, is_same, number_told};
 use crate::refusals::bytes_of;
 use csv::ByteRecord;
-use msrp_text::fields::{has_word, name_at};
+use msrp_text::fields::has_word;
+
+// The most records that are searched for a nested lock, since each is compared with all others.
+const MOST_COMPARED: usize = 4096;
 
 /// What is sought among the records before a refused one.
 #[derive(Clone, Copy, Debug, PartialEq, Eq)]
@@ -32,6 +35,8 @@ pub enum Sought {
     SameLock,
     /// The last lock that no unlock has let go.
     LeftLock,
+    /// The last lock of a global resource while a global one is held.
+    NestedLock,
 }
 
 // What is sought for each advice.
@@ -45,50 +50,21 @@ fn sought_by(advice: Advice) -> Sought
         Advice::LockedTwice => Sought::SameLock,
         Advice::NotInnermost | Advice::StillHeld => Sought::LeftLock,
         Advice::LateResource | Advice::NoUnit | Advice::NoRelease => Sought::Task,
+        Advice::NestedGlobal => Sought::NestedLock,
         Advice::NotRising => Sought::Release,
         _ => Sought::Nothing,
     }
 }
 
-fn is_lock(row: &ByteRecord) -> bool
-    ensures { result ≡ due.is_lock (fields_of row.now) }
+// How many of the records before the refused one are searched.
+fn searched(sought: Sought, all: usize) -> usize
+    ensures searched { result ≡ due.searched sought all }
+    ensures bound { result ≤ all }
 {
-    has_word(row, 0, b"op") && has_word(row, 1, b"lock")
-}
-
-// Whether both have one name at a place.
-fn is_same(i: usize, row: &ByteRecord, other: &ByteRecord) -> bool
-    ensures { result ≡ due.is_same i (fields_of row.now) (fields_of other.now) }
-{
-    has_word(other, i, name_at(row, i).as_bytes())
-}
-
-// Whether a record unlocks the resource of a lock.
-fn is_unlock_of(lock: &ByteRecord, row: &ByteRecord) -> bool
-    ensures { result ≡ due.is_unlock_of (fields_of lock.now) (fields_of row.now) }
-{
-    has_word(row, 0, b"op") && has_word(row, 1, b"unlock") && is_same(2, lock, row)
-}
-
-// Whether a record behind the lock at a place unlocks its resource.
-fn is_let_go(before: &[ByteRecord], i: usize) -> bool
-    requires { i < length before.now }
-    ensures { result ≡ list_any (due.is_unlock_of (record_at (map fields_of before.now) i)) (drop (i + 1) (map fields_of before.now)) }
-{
-    for later in i + 1..before.len() {
-        if is_unlock_of(&before[i], &before[later]) {
-            return true;
-        }
+    match sought {
+        Sought::NestedLock => all.min(MOST_COMPARED),
+        _ => all,
     }
-    false
-}
-
-// Whether the record at a place is a lock behind which no record unlocks its resource.
-fn is_left(before: &[ByteRecord], i: usize) -> bool
-    requires { i < length before.now }
-    ensures { result ≡ due.is_left (map fields_of before.now) i }
-{
-    is_lock(&before[i]) && !is_let_go(before, i)
 }
 
 // Whether the record at a place is one that is sought.
@@ -105,6 +81,7 @@ fn is_sought(sought: Sought, before: &[ByteRecord], row: &ByteRecord, i: usize) 
         Sought::Release => has_word(&before[i], 0, b"release"),
         Sought::SameLock => is_lock(&before[i]) && is_same(2, row, &before[i]),
         Sought::LeftLock => is_left(before, i),
+        Sought::NestedLock => is_nested(before, searched(sought, before.len()), i),
     }
 }
 
@@ -123,12 +100,77 @@ fn last_place(sought: Sought, before: &[ByteRecord], row: &ByteRecord, n: usize)
     last
 }
 
-/// The last earlier record that an advice on a refused record concerns, if there is one.
+// The last of the records that are searched for what is sought.
+fn last_sought(sought: Sought, before: &[ByteRecord], row: &ByteRecord) -> Option<usize>
+    ensures place { result ≡ due.last_place (due.is_sought sought (map fields_of before.now) (fields_of row.now)) (due.searched sought (length before.now)) }
+    ensures bound { IfSome result (λ i. i < length before.now) }
+{
+    last_place(sought, before, row, searched(sought, before.len()))
+}
+
+// How many jobs a periodic task releases within so many ticks.
+fn jobs_within(ticks: u32, row: &ByteRecord) -> u64
+    ensures { result ≡ due.jobs_within ticks (fields_of row.now) }
+{
+    let period = number_told(row, 3);
+    if period == 0 {
+        return 0;
+    }
+    let left = ticks.saturating_sub(number_told(row, 5));
+    (u64::from(left) + u64::from(period - 1)) / u64::from(period)
+}
+
+// The number of ticks, which the third record has.
+fn ticks_told(before: &[ByteRecord]) -> u32
+    ensures { result ≡ number_told (record_at (map fields_of before.now) 2) 1 }
+{
+    if 2 < before.len() {
+        number_told(&before[2], 1)
+    } else {
+        0
+    }
+}
+
+// How many jobs the record at a place releases, if it is a periodic task's.
+fn jobs_told(before: &[ByteRecord], ticks: u32, i: usize) -> u64
+    requires within { i < length before.now }
+    requires ticks { ticks ≡ number_told (record_at (map fields_of before.now) 2) 1 }
+    ensures { result ≡ due.jobs_told (map fields_of before.now) i }
+{
+    if has_word(&before[i], 0, b"task") {
+        jobs_within(ticks, &before[i])
+    } else {
+        0
+    }
+}
+
+// The first of the periodic tasks that release the most jobs, if one releases any.
+fn busiest(before: &[ByteRecord]) -> Option<usize>
+    ensures place { result ≡ due.greatest_place (due.jobs_told (map fields_of before.now)) (length before.now) }
+    ensures bound { IfSome result (λ i. i < length before.now) }
+{
+    let ticks = ticks_told(before);
+    let mut most = 0;
+    let mut place = None;
+    for i in 0..before.len() {
+        let jobs = jobs_told(before, ticks, i);
+        if most < jobs {
+            most = jobs;
+            place = Some(i);
+        }
+    }
+    place
+}
+
+/// The earlier record that an advice on a refused record concerns, if there is one.
 pub(crate) fn earlier_of(advice: Advice, before: &[ByteRecord], row: &ByteRecord) -> Option<usize>
     ensures place { result ≡ due.earlier_of advice (map fields_of before.now) (fields_of row.now) }
     ensures bound { IfSome result (λ i. i < length before.now) }
 {
-    last_place(sought_by(advice), before, row, before.len())
+    match advice {
+        Advice::ManyJobs => busiest(before),
+        advice => last_sought(sought_by(advice), before, row),
+    }
 }
 
 /// The advice, once the earlier record is known.
@@ -137,6 +179,8 @@ pub(crate) fn known_advice(advice: Advice, found: Option<usize>) -> Advice
 {
     match (advice, found) {
         (Advice::NotInnermost, None) => Advice::NothingHeld,
+        (Advice::NestedGlobal, None) => Advice::NestedSomewhere,
+        (Advice::ManyJobs, None) => Advice::ManyReleases,
         (advice, _) => advice,
     }
 }

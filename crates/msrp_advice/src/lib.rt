@@ -5,7 +5,10 @@
 mod advice;
 mod choosing;
 mod earlier;
+mod lines;
+mod nested;
 mod places;
+mod records;
 mod refusals;
 mod sentences;
 mod warnings;

@@ -4,11 +4,12 @@ ghost use Rattle.std.specs.Option.{IfSome};
 ghost use Rattle.csv.specs.Records.{fields_of};
 ghost use Rattle.msrp_plan.specs.Bytes.{Wrote};
 ghost use Rattle.msrp_advice.specs.Refusals as due;
-ghost use Rattle.msrp_advice.specs.Refusals.{earlier_line, filled, mark_text, record_line, refusal_text, said_of, shown_byte, shown_bytes, shown_field, shown_fields, shown_record, wrong_field};
+ghost use Rattle.msrp_advice.specs.Refusals.{earlier_line, filled, line_part, mark_text, record_line, refusal_text, said_of, shown_byte, shown_bytes, shown_field, shown_fields, shown_record, wrong_field};
 
 use crate::advice::Advice;
 use crate::choosing::advice_of;
 use crate::earlier::{earlier_of, known_advice, name_told, task_told, up_to};
+use crate::lines::line_of;
 use crate::places::place_of;
 use crate::sentences::sentence;
 use csv::ByteRecord;
@@ -90,12 +91,23 @@ fn write_record<W: Write>(out: &mut Sink<W>, row: &ByteRecord)
     }
 }
 
-// The number of a record, and the record.
-fn write_line<W: Write>(out: &mut Sink<W>, number: usize, row: &ByteRecord)
-    ensures { Wrote W.contents out.old out.new (record_line number (fields_of row.now)) }
+// The number of a line, where it is known.
+fn write_line_part<W: Write>(out: &mut Sink<W>, line: Option<usize>)
+    ensures { Wrote W.contents out.old out.new (line_part line) }
+{
+    if let Some(line) = line {
+        out.add(b", line ");
+        write_number(out, line);
+    }
+}
+
+// The number of a record of a text with its line, and the record.
+fn write_line<W: Write>(out: &mut Sink<W>, text: &[u8], number: usize, row: &ByteRecord)
+    ensures { Wrote W.contents out.old out.new (record_line text.now number (fields_of row.now)) }
 {
     out.add(b"record ");
     write_number(out, number);
+    write_line_part(out, line_of(text, number));
     out.add(b": ");
     write_record(out, row);
     out.add(b"\n");
@@ -166,27 +178,33 @@ fn write_said<W: Write>(
 }
 
 // The earlier record, where there is one.
-fn write_earlier<W: Write>(out: &mut Sink<W>, before: &[ByteRecord], found: Option<usize>)
+fn write_earlier<W: Write>(
+    out: &mut Sink<W>,
+    text: &[u8],
+    before: &[ByteRecord],
+    found: Option<usize>,
+)
     requires { IfSome found (λ i. i < length before.now) }
-    ensures { Wrote W.contents out.old out.new (earlier_line (map fields_of before.now) found) }
+    ensures { Wrote W.contents out.old out.new (earlier_line text.now (map fields_of before.now) found) }
 {
     if let Some(i) = found {
-        write_line(out, i + 1, &before[i]);
+        write_line(out, text, i + 1, &before[i]);
     }
 }
 
 /// Writes the code and the number of a refused record with the field that is wrong and a sentence on it, and the record as it stands: the first bytes
 /// of its first fields, each in brackets. A record without fields stands for the end of the text. Where the refusal concerns one of the records before
-/// it, the sentence names that one, and it stands below.
+/// it, the sentence names that one, and it stands below. Each record has the number of its line in the text, if no quote stands before it.
 #[tactic(auto, unfolding(crate::specs::Refusals::refusal_with))]
 pub fn write_refusal<W: Write>(
     out: &mut Sink<W>,
+    text: &[u8],
     fault: PlanFault,
     number: u32,
     before: &[ByteRecord],
     row: &ByteRecord,
 )
-    ensures { Wrote W.contents out.old out.new (refusal_text fault number (map fields_of before.now) (fields_of row.now)) }
+    ensures { Wrote W.contents out.old out.new (refusal_text text.now fault number (map fields_of before.now) (fields_of row.now)) }
 {
     let advice = advice_of(fault, number, row);
     let found = earlier_of(advice, before, row);
@@ -197,6 +215,6 @@ pub fn write_refusal<W: Write>(
     out.add(b": ");
     write_said(out, known_advice(advice, found), before, row, found);
     out.add(b"\n");
-    write_line(out, number as usize, row);
-    write_earlier(out, before, found);
+    write_line(out, text, number as usize, row);
+    write_earlier(out, text, before, found);
 }

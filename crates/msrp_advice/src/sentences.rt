@@ -74,9 +74,13 @@ pub(crate) fn sentence(advice: Advice) -> &'static [u8]
         Advice::NothingHeld => b"task $ holds no resource",
         Advice::StillHeld => b"task $ still holds @, locked in record #: an unlock is missing",
         Advice::NestedGlobal =>
+            b"task $ locks @, in record #, while it holds a global resource: tasks on several cores lock both",
+        Advice::NestedSomewhere =>
             b"a task locks a global resource, which tasks on several cores lock, while it holds a global one",
         Advice::NoUnit => b"task $, in record #, has no op",
-        Advice::ManyJobs => b"the tasks release more than 8192 jobs within the ticks",
+        Advice::ManyJobs =>
+            b"the tasks release more than 8192 jobs within the ticks; of the periodic ones task $, in record #, releases most",
+        Advice::ManyReleases => b"the tasks release more than 8192 jobs within the ticks",
         Advice::NotRising => b"a release is above the one before it, which is @ in record #",
         Advice::NoRelease => b"the listed task $, in record #, has no release",
         Advice::Unread => b"the plan could not be read",

@@ -9,4 +9,4 @@ pub returns-in-Some : goal.returns-in-Some
 returns-in-Some g c =
     let within = rw c.in-Some.is at c.requires in
     let line = rw (record-is c.args.before.now c.in-Some.i c.index-before-i.result within c.index-before-i.is) at c.write_line.ensures in
-    wrote-as _ _ _ _ _ (ap (earlier_line (map fields_of c.args.before.now)) (sym c.in-Some.is)) line
+    wrote-as _ _ _ _ _ (ap (earlier_line c.args.text.now (map fields_of c.args.before.now)) (sym c.in-Some.is)) line

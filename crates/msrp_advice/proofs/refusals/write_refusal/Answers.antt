@@ -17,5 +17,5 @@ returns g c =
     let said = rw (c.known_advice.ensures ∙ ap (λ a. known_advice a found) advice) at c.write_said.ensures in
     let lines = wrote-more _ _ _ _ _ _ c.add-4.ensures (wrote-more _ _ _ _ _ _ c.write_line.ensures c.write_earlier.ensures) in
     let number = wrote-more _ _ _ _ _ _ c.add-2.ensures (wrote-more _ _ _ _ _ _ c.write_number-2.ensures (wrote-more _ _ _ _ _ _ c.add-3.ensures (wrote-more _ _ _ _ _ _ said lines))) in
-    wrote-as _ _ _ _ _ (ap (refusal_with c.args.fault c.args.number before fields) (c.earlier_of-found.ensures.place ∙ ap (λ a. earlier_of a before fields) advice))
+    wrote-as _ _ _ _ _ (ap (refusal_with c.args.text.now c.args.fault c.args.number before fields) (c.earlier_of-found.ensures.place ∙ ap (λ a. earlier_of a before fields) advice))
     (wrote-more _ _ _ _ _ _ c.add.ensures (wrote-more _ _ _ _ _ _ code number))

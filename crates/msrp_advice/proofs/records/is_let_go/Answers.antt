@@ -2,9 +2,9 @@ use Rattle.std.proofs.Common.{◌≡◌, ◌∙◌, ◌<◌, [], true, false, ap
 use Rattle.std.proofs.lemmas.List.{length-map}
 use Rattle.csv.specs.Records.{fields_of}
 use Rattle.msrp_text.specs.Reading.{record_at}
-use Rattle.msrp_advice.specs.Earlier.{is_unlock_of}
+use Rattle.msrp_advice.specs.Records.{is_unlock_of}
 use Rattle.msrp_advice.proofs.Seeking.{any-hit, any-missed, record-is}
-use Rattle.msrp_advice.proofs.earlier.is_let_go.Goals as goal
+use Rattle.msrp_advice.proofs.records.is_let_go.Goals as goal
 
 pub returns-then-is_unlock_of : goal.returns-then-is_unlock_of
 returns-then-is_unlock_of c =
