@@ -1,5 +1,9 @@
 pub mod Choosing
 pub mod Places
+pub mod Records
+pub mod Nested
+pub mod Earlier
+pub mod Lines
 pub mod Sentences
 pub mod Refusals
 pub mod Warnings

@@ -61,5 +61,6 @@ place_of said.Undeclared fields = Some 2
 place_of said.NoSuchCore fields = Some 2
 place_of said.LockedTwice fields = Some 2
 place_of said.NotInnermost fields = Some 2
+place_of said.NothingHeld fields = Some 2
 place_of said.NotRising fields = Some 1
 place_of _ fields = None

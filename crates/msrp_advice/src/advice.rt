@@ -99,14 +99,20 @@ pub enum Advice {
     LockedTwice,
     /// An unlock of what isn't the innermost.
     NotInnermost,
+    /// An unlock by a task that holds nothing.
+    NothingHeld,
     /// A task that ends and holds a resource.
     StillHeld,
     /// A global resource locked while a global one is held.
     NestedGlobal,
+    /// Such a lock behind the records that are compared with one another.
+    NestedSomewhere,
     /// A task without units.
     NoUnit,
     /// Too many jobs.
     ManyJobs,
+    /// Too many jobs, and no task has a period.
+    ManyReleases,
     /// A release that isn't above the one before it.
     NotRising,
     /// A listed task without a release.

@@ -4,7 +4,11 @@
 
 mod advice;
 mod choosing;
+mod earlier;
+mod lines;
+mod nested;
 mod places;
+mod records;
 mod refusals;
 mod sentences;
 mod warnings;

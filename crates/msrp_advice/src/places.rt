@@ -46,8 +46,8 @@ fn task_place(row: &ByteRecord) -> usize
     }
 }
 
-// Whether a record begins a task.
-fn is_task(row: &ByteRecord) -> bool
+/// Whether a record begins a task.
+pub(crate) fn is_task(row: &ByteRecord) -> bool
     ensures { result ≡ due.is_task (fields_of row.now) }
 {
     has_word(row, 0, b"task") || has_word(row, 0, b"listed")
@@ -94,7 +94,8 @@ pub(crate) fn place_of(advice: Advice, row: &ByteRecord) -> Option<usize>
         | Advice::Undeclared
         | Advice::NoSuchCore
         | Advice::LockedTwice
-        | Advice::NotInnermost => Some(2),
+        | Advice::NotInnermost
+        | Advice::NothingHeld => Some(2),
         Advice::PeriodLimit | Advice::ListedDeadlineLimit => Some(3),
         Advice::DeadlineLimit => Some(4),
         Advice::OffsetLimit => Some(5),

@@ -27,7 +27,8 @@ pub(crate) fn sentence(advice: Advice) -> &'static [u8]
         Advice::CutShort => b"the text ends before its record of ticks",
         Advice::CoresDue => b"the second record is cores,M",
         Advice::TicksDue => b"the third record is ticks,H",
-        Advice::LateResource => b"all resources stand before the first task",
+        Advice::LateResource =>
+            b"all resources stand before the first task, and task $ stands before this one, in record #",
         Advice::UnknownStep => b"the field after op is run, lock or unlock",
         Advice::NoTaskYet => b"an op stands after its task",
         Advice::OldVersion => b"listed is known only in a plan that begins with msrp,2",
@@ -47,8 +48,8 @@ pub(crate) fn sentence(advice: Advice) -> &'static [u8]
         Advice::Capitals => b"the name has a capital: a name has only a to z, 0 to 9 and _",
         Advice::Dots => b"the name has a dot: a name has only a to z, 0 to 9 and _",
         Advice::OddName => b"a name begins with one of a to z, and has only a to z, 0 to 9 and _",
-        Advice::TakenResource => b"a resource before it has the same name",
-        Advice::TakenTask => b"a task before it has the same name",
+        Advice::TakenResource => b"a resource has this name already, in record #",
+        Advice::TakenTask => b"a task has this name already, in record #",
         Advice::CoresLimit => b"a plan has 1 to 8 cores",
         Advice::TicksLimit => b"a plan has 1 to 20000 ticks",
         Advice::ResourcesLimit => b"a plan has at most 32 resources",
@@ -65,17 +66,23 @@ pub(crate) fn sentence(advice: Advice) -> &'static [u8]
         Advice::LockLimit =>
             b"a task has at most 4096 units, and holds at most 8 resources at once",
         Advice::Undeclared => b"no resource record before it has this name",
-        Advice::NoSuchCore => b"cores are numbered from 0, and the plan has no core of this number",
-        Advice::LockedTwice => b"the task holds this resource already",
+        Advice::NoSuchCore =>
+            b"cores are numbered from 0, and by record # the number of cores is @",
+        Advice::LockedTwice => b"task $ holds this resource already, locked in record #",
         Advice::NotInnermost =>
-            b"the task doesn't hold this resource, or has locked another one since: unlocks stand in the reverse order of their locks",
-        Advice::StillHeld => b"the task before it still holds a resource: an unlock is missing",
+            b"the innermost resource that task $ holds is @, locked in record #: unlocks stand in the reverse order of their locks",
+        Advice::NothingHeld => b"task $ holds no resource",
+        Advice::StillHeld => b"task $ still holds @, locked in record #: an unlock is missing",
         Advice::NestedGlobal =>
+            b"task $ locks @, in record #, while it holds a global resource: tasks on several cores lock both",
+        Advice::NestedSomewhere =>
             b"a task locks a global resource, which tasks on several cores lock, while it holds a global one",
-        Advice::NoUnit => b"the task before it has no op",
-        Advice::ManyJobs => b"the tasks release more than 8192 jobs within the ticks",
-        Advice::NotRising => b"a release is above the one before it",
-        Advice::NoRelease => b"the listed task before it has no release",
+        Advice::NoUnit => b"task $, in record #, has no op",
+        Advice::ManyJobs =>
+            b"the tasks release more than 8192 jobs within the ticks; of the periodic ones task $, in record #, releases most",
+        Advice::ManyReleases => b"the tasks release more than 8192 jobs within the ticks",
+        Advice::NotRising => b"a release is above the one before it, which is @ in record #",
+        Advice::NoRelease => b"the listed task $, in record #, has no release",
         Advice::Unread => b"the plan could not be read",
     }
 }

@@ -42,7 +42,7 @@ pub extern "C" fn msrp_why(
 
 // The words on a plan.
 fn advised(alloc: Global, plan: &[u8]) -> Result<Words, CliFault>
-    ensures { AreWords (csv_records plan.now) result }
+    ensures { AreWords plan.now result }
 {
     let mut plan = Source::new(plan);
     why_of_plan(alloc, &mut plan)
@@ -88,7 +88,7 @@ pub extern "C" fn msrp_why_plan(
     needed: &mut usize,
     found: &mut MsrpFound,
 ) -> u32
-    ensures { AnswersWords (is_long plan.now) (AreWords (csv_records plan.now)) text.old text.new needed.new found.new result }
+    ensures { AnswersWords (is_long plan.now) (AreWords plan.now) text.old text.new needed.new found.new result }
 {
     if is_long(plan) {
         return hand_words(Err(CliFault::Read), text, needed, found);

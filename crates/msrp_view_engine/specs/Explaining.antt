@@ -1,5 +1,5 @@
 -- What is written and answered where words on a plan are asked for.
-use Rattle.std.specs.Prelude.{◌≡◌, ℕ, ◌-◌, List, Option, Some, None, Ok, Err, if◌then◌else◌}
+use Rattle.std.specs.Prelude.{◌≡◌, ℕ, ◌-◌, List, Option, Some, None, Ok, Err, take, if◌then◌else◌}
 use Rattle.std.specs.declared.result.Result.{Result}
 use Rattle.msrp_advice.specs.Refusals.{refusal_text}
 use Rattle.msrp_advice.specs.Warnings.{accepted_text}
@@ -8,7 +8,7 @@ use Rattle.msrp_plan.specs.Codes.{code_of}
 use Rattle.msrp_plan.specs.Plan.{PlanModel}
 use Rattle.msrp_plan.specs.declared.bytes.Sink.{Sink}
 use Rattle.msrp_plan.specs.declared.faults.PlanFault.{PlanFault}
-use Rattle.msrp_text.specs.Reading.{record_at}
+use Rattle.msrp_text.specs.Reading.{csv_records, record_at}
 use Rattle.msrp_text.specs.declared.reading.TextError.{TextError}
 use Rattle.msrp_text.specs.declared.reading.TextError.TheVariants.{At, Read, Memory}
 use Rattle.msrp_faults.specs.Outcomes.{fault_of, written_status}
@@ -17,12 +17,16 @@ use Rattle.msrp_faults.specs.declared.faults.CliFault.TheVariants.{Plan, Write}
 use Rattle.msrp_view_engine.specs.declared.why_plan.Refusal.{Refusal}
 use Rattle.msrp_view_engine.specs.declared.why_plan.Words.{Words}
 
+-- the words on a refused record of a text
+abbrev pub refused_words : List ℕ → PlanFault → ℕ → List ℕ
+refused_words text fault number = refusal_text text fault number (take (number - 1) (csv_records text)) (record_at (csv_records text) (number - 1))
+
 -- ---- in memory
--- the words on records that stand for a plan, or of which one is refused, with the refusal
-abbrev pub AreWordsOn : List (List (List ℕ)) → Result PlanModel TextError → Words → Type 0
-AreWordsOn records (Ok plan) words = (words.text.items ≡ accepted_text plan) × (words.refusal ≡ None)
-AreWordsOn records (Err (At fault number)) words = (words.text.items ≡ refusal_text fault number (record_at records (number - 1))) × (words.refusal ≡ Some (record { fault = fault; number = number }))
-AreWordsOn records (Err _) words = ⊥
+-- the words on a text that stands for a plan, or of which a record is refused, with the refusal
+abbrev pub AreWordsOn : List ℕ → Result PlanModel TextError → Words → Type 0
+AreWordsOn text (Ok plan) words = (words.text.items ≡ accepted_text plan) × (words.refusal ≡ None)
+AreWordsOn text (Err (At fault number)) words = (words.text.items ≡ refused_words text fault number) × (words.refusal ≡ Some (record { fault = fault; number = number }))
+AreWordsOn text (Err _) words = ⊥
 
 -- the refusal as it is answered, where the sink took all words
 abbrev pub words_status : {W : Type 0} → Option Refusal → Sink W → Result ℕ CliFault
@@ -31,13 +35,13 @@ words_status (Some refusal) new = if sink_failed new then Err Write else Err (Pl
 
 -- ---- written
 -- the words on a refused record are written, and the refusal is answered as ever if the sink took them all
-pub record TellsRefusal {W : Type 0} (contents : W → Option (List ℕ)) (records : List (List (List ℕ))) (fault : PlanFault) (number : ℕ) (old new : Sink W) (result : Result ℕ CliFault) : Type 0 where
-  pub text : Wrote contents old new (refusal_text fault number (record_at records (number - 1)))
+pub record TellsRefusal {W : Type 0} (contents : W → Option (List ℕ)) (plan : List ℕ) (fault : PlanFault) (number : ℕ) (old new : Sink W) (result : Result ℕ CliFault) : Type 0 where
+  pub text : Wrote contents old new (refused_words plan fault number)
   pub answer : result ≡ if sink_failed new then Err Write else Err (Plan (code_of fault) number)
 
--- the answer to records that stand for a plan, or of which one is refused
-abbrev pub WhyPlanAnswers : {W : Type 0} → (W → Option (List ℕ)) → List (List (List ℕ)) → Result PlanModel TextError → Sink W → Sink W → Result ℕ CliFault → Type 0
-WhyPlanAnswers contents records (Ok plan) old new result = Wrote contents old new (accepted_text plan) × (result ≡ written_status new)
-WhyPlanAnswers contents records (Err (At fault number)) old new result = TellsRefusal contents records fault number old new result
-WhyPlanAnswers contents records (Err Read) old new result = result ≡ Err (fault_of Read)
-WhyPlanAnswers contents records (Err Memory) old new result = result ≡ Err (fault_of Memory)
+-- the answer to a text that stands for a plan, or of which a record is refused
+abbrev pub WhyPlanAnswers : {W : Type 0} → (W → Option (List ℕ)) → List ℕ → Result PlanModel TextError → Sink W → Sink W → Result ℕ CliFault → Type 0
+WhyPlanAnswers contents text (Ok plan) old new result = Wrote contents old new (accepted_text plan) × (result ≡ written_status new)
+WhyPlanAnswers contents text (Err (At fault number)) old new result = TellsRefusal contents text fault number old new result
+WhyPlanAnswers contents text (Err Read) old new result = result ≡ Err (fault_of Read)
+WhyPlanAnswers contents text (Err Memory) old new result = result ≡ Err (fault_of Memory)

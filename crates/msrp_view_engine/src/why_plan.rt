@@ -1,5 +1,5 @@
 //! Why a plan is refused, or what is odd in it, in words.
-ghost use Rattle.std.specs.Prelude.{◌≡◌, ◌⊎◌, ◌-◌, ℕ, List, [], true, false, Ok, Some, Err, IfOk, IfErr, OnOk, if◌then◌else◌};
+ghost use Rattle.std.specs.Prelude.{◌≡◌, ◌⊎◌, ◌-◌, ℕ, List, [], true, false, Ok, Some, Err, map, take, IfOk, IfErr, OnOk, if◌then◌else◌};
 ghost use Rattle.csv.specs.Records.{fields_of};
 ghost use Rattle.msrp_advice.specs.Refusals.{refusal_text};
 ghost use Rattle.msrp_advice.specs.Warnings.{accepted_text};
@@ -59,33 +59,61 @@ fn next<'a>(records: &mut RecordReader<&'a [u8]>, row: &mut ByteRecord) -> Resul
     records.read(row).map_err(|_| CliFault::Memory)
 }
 
-// The record of a text by its number, counted from 1. One that isn't there has no field.
-fn record_of(alloc: Global, bytes: &[u8], number: u32) -> Result<ByteRecord, CliFault>
-    ensures record { IfOk result (λ row. fields_of row ≡ record_at (csv_records bytes.now) (number - 1)) }
+// A record of a text, and those before it.
+#[derive(Drop)]
+struct Reached {
+    before: Vec<ByteRecord>,
+    row: ByteRecord,
+}
+
+// The record that is next, without a field where there is none.
+fn next_or_none(alloc: Global, records: &mut RecordReader<&[u8]>) -> Result<ByteRecord, CliFault>
+    ensures record { IfOk result (λ row. (left : List (List (List ℕ))) → records_left (λ s. Some s.now) records.old ≡ Some left → fields_of row ≡ record_at left 0) }
     ensures fault { IfErr result (λ fault. fault ≡ CliFault.Memory) }
 {
-    let mut records = RecordReader::new(alloc, bytes);
     let mut row = ByteRecord::new(alloc);
-    for _at in 1..number {
-        if !next(&mut records, &mut row)? {
-            return Ok(ByteRecord::new(alloc));
-        }
-    }
-    if next(&mut records, &mut row)? {
+    if next(records, &mut row)? {
         Ok(row)
     } else {
         Ok(ByteRecord::new(alloc))
     }
 }
 
+// The record of a text by its number, counted from 1, and those before it. One that isn't there has no field.
+fn reach(alloc: Global, bytes: &[u8], number: u32) -> Result<Reached, CliFault>
+    ensures before { IfOk result (λ reached. map fields_of reached.before.items ≡ take (number - 1) (csv_records bytes.now)) }
+    ensures record { IfOk result (λ reached. fields_of reached.row ≡ record_at (csv_records bytes.now) (number - 1)) }
+    ensures fault { IfErr result (λ fault. fault ≡ CliFault.Memory) }
+{
+    let mut records = RecordReader::new(alloc, bytes);
+    let mut before = Vec::new(alloc);
+    for _at in 1..number {
+        let mut row = ByteRecord::new(alloc);
+        if !next(&mut records, &mut row)? {
+            let row = ByteRecord::new(alloc);
+            return Ok(Reached { before, row });
+        }
+        before.push(row)?;
+    }
+    let row = next_or_none(alloc, &mut records)?;
+    Ok(Reached { before, row })
+}
+
 // The words on a refused record of a text, in memory.
 fn words_on_refusal(alloc: Global, bytes: &[u8], refusal: Refusal) -> Result<Words, CliFault>
-    ensures words { IfOk result (λ words. AreWordsOn (csv_records bytes.now) (Err (TextError.At refusal.fault refusal.number)) words) }
+    ensures words { IfOk result (λ words. AreWordsOn bytes.now (Err (TextError.At refusal.fault refusal.number)) words) }
     ensures memory { IfErr result (λ fault. fault ≡ CliFault.Memory) }
 {
-    let row = record_of(alloc, bytes, refusal.number)?;
+    let reached = reach(alloc, bytes, refusal.number)?;
     let mut text = Sink::new(Vec::new(alloc));
-    write_refusal(&mut text, refusal.fault, refusal.number, &row);
+    write_refusal(
+        &mut text,
+        bytes,
+        refusal.fault,
+        refusal.number,
+        reached.before.as_slice(),
+        &reached.row,
+    );
     if text.outcome().is_err() {
         return Err(CliFault::Memory);
     }
@@ -97,7 +125,7 @@ fn words_on_refusal(alloc: Global, bytes: &[u8], refusal: Refusal) -> Result<Wor
 
 // The words on an accepted plan, in memory.
 fn words_on_plan(alloc: Global, plan: &Plan) -> Result<Words, CliFault>
-    ensures words { (records : List (List (List ℕ))) → IfOk result (λ words. AreWordsOn records (Ok plan.now) words) }
+    ensures words { (bytes : List ℕ) → IfOk result (λ words. AreWordsOn bytes (Ok plan.now) words) }
     ensures memory { IfErr result (λ fault. fault ≡ CliFault.Memory) }
 {
     let levels = Levels::of(alloc, plan)?;
@@ -114,7 +142,7 @@ fn words_on_plan(alloc: Global, plan: &Plan) -> Result<Words, CliFault>
 
 /// The words on a plan, and its refusal if it is refused, as [`why_plan_text`] writes them.
 pub fn why_of_plan<P: Read>(alloc: Global, plan: &mut Source<P>) -> Result<Words, CliFault>
-    ensures words { (bytes : List ℕ) → source_remaining P.remaining plan.old ≡ Some bytes → IfOk result (λ words. AreWordsOn (csv_records bytes) (plan_of (csv_records bytes)) words) }
+    ensures words { (bytes : List ℕ) → source_remaining P.remaining plan.old ≡ Some bytes → IfOk result (λ words. AreWordsOn bytes (plan_of (csv_records bytes)) words) }
     ensures faults { IfErr result (λ fault. (fault ≡ CliFault.Read) ⊎ (fault ≡ CliFault.Memory)) }
     ensures read { result ≡ Err CliFault.Read → source_failed plan.new ≡ true }
     ensures memory { result ≡ Err CliFault.Memory → source_failed plan.new ≡ false }
@@ -154,7 +182,7 @@ fn write_words<W: Write>(
 }
 
 /// Reads a plan, and writes what is wrong with it or odd in it. Of a refused plan: the code and the number of the refused record with
-/// a sentence on it, and the record as it stands. The answer is the refusal, as every engine gives it, and so is the exit status. Of
+/// a sentence on it, the record as it stands, and the earlier record that the refusal concerns, if there is one, both with their lines. The answer is the refusal, as every engine gives it, and so is the exit status. Of
 /// an accepted plan: `good`, and then a line for each thing that is odd.
 ///
 /// All memory is taken before anything is written: so whatever the fault, but a refusal or a write fault, nothing was written.
@@ -164,9 +192,9 @@ pub fn why_plan_text<P: Read, W: Write>(
     out: &mut Sink<W>,
 ) -> Result<u8, CliFault>
     // Where the reader tells its bytes, and no read failed and no memory was refused, the answer is that to
-    // the records that they stand for.
+    // them and to the plan that they stand for.
     ensures answer { (bytes : List ℕ) → source_remaining P.remaining plan.old ≡ Some bytes
-        → (result ≡ Err CliFault.Read) ⊎ (result ≡ Err CliFault.Memory) ⊎ WhyPlanAnswers W.contents (csv_records bytes) (plan_of (csv_records bytes)) out.old out.new result }
+        → (result ≡ Err CliFault.Read) ⊎ (result ≡ Err CliFault.Memory) ⊎ WhyPlanAnswers W.contents bytes (plan_of (csv_records bytes)) out.old out.new result }
 
     // Whatever the reader tells.
     ensures good { IfOk result (λ status. (status ≡ 0) × (sink_failed out.new ≡ false)) }

@@ -7,4 +7,4 @@ pub returns-in-Ok-clause-words : goal.returns-in-Ok-clause-words
 returns-in-Ok-clause-words g c = λ bytes known.
     let all : c.in_ok-bytes.bytes.items ≡ bytes = c.in_ok-bytes.ensures.bytes bytes known in
     let is : plan_of (csv_records bytes) ≡ Ok c.in-Ok.plan = search rules in
-    subst (λ read. IfOk c.words_on_plan.result (AreWordsOn (csv_records bytes) read)) (sym is) (c.words_on_plan.ensures.words (csv_records bytes))
+    subst (λ read. IfOk c.words_on_plan.result (AreWordsOn bytes read)) (sym is) (c.words_on_plan.ensures.words bytes)

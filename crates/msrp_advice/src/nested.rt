@@ -1,0 +1,95 @@
+//! A lock of a global resource while a global one is held, among the first records.
+ghost use Rattle.std.specs.Prelude.{◌≡◌, ◌<◌, ◌≤◌, ◌==◌, ◌&&◌, length, map, not, true, if◌then◌else◌};
+ghost use Rattle.csv.specs.Records.{fields_of};
+ghost use Rattle.msrp_text.specs.Reading.{record_at};
+ghost use Rattle.msrp_advice.specs.Nested as due;
+ghost use Rattle.msrp_advice.specs.Records.{is_lock, is_same};
+
+use crate::places::is_task;
+use crate::records::{is_left, is_lock, is_same, number_told};
+use csv::ByteRecord;
+
+// The core after a record: a task's own.
+fn core_after(row: &ByteRecord, core: u32) -> u32
+    ensures { result ≡ due.core_after (fields_of row.now) core }
+{
+    if is_task(row) {
+        number_told(row, 2)
+    } else {
+        core
+    }
+}
+
+// The core of the last task among the first `n` records.
+fn core_at(before: &[ByteRecord], n: usize) -> u32
+    requires { n ≤ length before.now }
+    ensures { result ≡ due.core_at (map fields_of before.now) n }
+{
+    let mut core = 0;
+    for k in 0..n {
+        core = core_after(&before[k], core);
+    }
+    core
+}
+
+// Whether there is reason for it, or was.
+fn is_or(reason: bool, other: bool) -> bool
+    ensures { result ≡ if reason then true else other }
+{
+    reason || other
+}
+
+// Whether a record locks the resource of a lock, on another core.
+fn is_elsewhere(lock: &ByteRecord, own: u32, row: &ByteRecord, core: u32) -> bool
+    ensures { result ≡ (is_lock (fields_of row.now) && is_same 2 (fields_of lock.now) (fields_of row.now) && not (core == own)) }
+{
+    is_lock(row) && is_same(2, lock, row) && core != own
+}
+
+// Whether among the first `n` records tasks on several cores lock the resource that is locked at a place.
+fn is_shared(before: &[ByteRecord], n: usize, i: usize) -> bool
+    requires all { n ≤ length before.now }
+    requires within { i < length before.now }
+    ensures { result ≡ due.is_shared (map fields_of before.now) n i }
+{
+    let own = core_at(before, i);
+    let mut core = 0;
+    let mut shared = false;
+    for k in 0..n {
+        shared = is_or(is_elsewhere(&before[i], own, &before[k], core), shared);
+        core = core_after(&before[k], core);
+    }
+    shared
+}
+
+// Whether a global resource is locked at a place, and held still at a later one.
+fn is_outer(before: &[ByteRecord], n: usize, i: usize, j: usize) -> bool
+    requires all { n ≤ length before.now }
+    requires within { i < length before.now }
+    requires earlier { j < i }
+    ensures { result ≡ due.is_outer (map fields_of before.now) n i j }
+{
+    is_left(&before[..i], j) && is_shared(before, n, j)
+}
+
+// Whether a global resource is held at a place.
+fn is_within(before: &[ByteRecord], n: usize, i: usize) -> bool
+    requires all { n ≤ length before.now }
+    requires within { i < length before.now }
+    ensures { result ≡ due.any_below (due.is_outer (map fields_of before.now) n i) i }
+{
+    let mut held = false;
+    for j in 0..i {
+        held = is_or(is_outer(before, n, i, j), held);
+    }
+    held
+}
+
+/// Whether a global resource is locked at a place, and a global one is held there. Only the first `n` records tell which are global.
+pub(crate) fn is_nested(before: &[ByteRecord], n: usize, i: usize) -> bool
+    requires all { n ≤ length before.now }
+    requires within { i < length before.now }
+    ensures { result ≡ due.is_nested (map fields_of before.now) n i }
+{
+    is_lock(&before[i]) && is_shared(before, n, i) && is_within(before, n, i)
+}
