@@ -1,6 +1,6 @@
 -- A turn over the lock leaves every machine so that it can go on.
-use Rattle.std.proofs.Common.{◌≡◌, ◌≢◌, ℕ, ◌+◌, ◌≤◌, true, false, Option, Some, None, [], ◌∷◌, ◌++◌, refl, ap, sym, ◌∙◌, subst, arith, length, inl, inr}
-use Rattle.std.proofs.lemmas.Bool.{cases_Bool}
+use Rattle.std.proofs.Common.{◌≡◌, ◌≢◌, ℕ, ◌+◌, ◌<◌, ◌≤◌, cond, true, false, Option, Some, None, [], ◌∷◌, ◌++◌, refl, ap, sym, ◌∙◌, subst, arith, length, inl, inr}
+use Rattle.std.proofs.lemmas.Bool.{cases_Bool, lt-ltb}
 use Rattle.std.proofs.lemmas.Option.{none-some, same_Some}
 use Rattle.msrp_plan.specs.Plan.{PlanModel}
 use Rattle.msrp_plan.specs.Levels.{is_global}
@@ -10,7 +10,8 @@ use Rattle.msrp_plan.proofs.Lists.Ranges.{not_equal}
 use Rattle.msrp_core.specs.CoreJobs.{IsQuiet, MakesCall}
 use Rattle.msrp_core.specs.Machine.{MachineModel, StandsAfter}
 use Rattle.msrp_core.specs.Ports.{PortModel, claim_in}
-use Rattle.msrp_sim.specs.Served.{FifoModel, as_port}
+use Rattle.msrp_plan.specs.declared.units.Phase.TheVariants.{Free}
+use Rattle.msrp_sim.specs.Served.{FifoModel, IsFresh, as_port}
 use Rattle.msrp_sim.proofs.Histories.{claim_other}
 use Rattle.msrp_examples.specs.Lock.{CanGoOn}
 
@@ -70,3 +71,16 @@ other_goes_on m k before after ne can one = record {
   room = let left = can.room in let same = one.rooms m.core ne in omega (arith, left, same);
   resources = one.resources ∙ can.resources;
 }
+
+-- a machine before its first turn, over a lock of which nothing was asked yet
+pub begins : (m : MachineModel) (plan : PlanModel) (port : FifoModel) → m.plan ≡ plan → m.core < plan.cores → m.phase ≡ Free → StandsAfter m [] → IsFresh plan port → CanGoOn m port
+begins m plan port is within free stands fresh =
+    let ticks : m.plan.ticks ≡ plan.ticks = ap (λ (p : PlanModel). p.ticks) is in
+    let rooms : (as_port port).rooms m.core ≡ plan.ticks = fresh.rooms m.core ∙ ap (λ b. cond b plan.ticks 0) (lt-ltb m.core plan.cores within) in
+    record {
+      log = [];
+      stands = stands;
+      claim = ap (claim_in m.core) fresh.calls ∙ sym free;
+      room = omega (arith, ticks, rooms);
+      resources = fresh.resources ∙ ap (λ (p : PlanModel). length p.resources) (sym is);
+    }

@@ -1,8 +1,25 @@
 use Rattle.std.proofs.Common.{◌≢◌, ap, sym, ◌∙◌, subst, arith}
 use Rattle.msrp_core.specs.Machine.{MachineModel}
 use Rattle.msrp_examples.specs.Lock.{CanGoOn}
+use Rattle.msrp_examples.proofs.GoingOn.{begins}
 use Rattle.msrp_examples.proofs.lock.served.Goals.{then-core-eq0, else-core-eq0}
 use Rattle.msrp_examples.proofs.lock.served.Goals as goal
+
+pub loop-core-init : goal.loop-core-init
+loop-core-init c =
+    let one = c.in_ok-first.ensures in
+    let two = c.in_ok-second.ensures in
+    let plan = c.args.plan.now in
+    let cores = c.cores.ensures.value in
+    let both = c.if-cores-eq2.true in
+    let first = one.core in
+    let second = two.core in
+    record {
+      first = first;
+      second = second;
+      first_goes_on = begins c.in_ok-first.first plan c.in_ok-port.port one.plan (omega (arith, first, cores, both)) one.phase one.stands c.in_ok-port.ensures;
+      second_goes_on = begins c.in_ok-second.second plan c.in_ok-port.port two.plan (omega (arith, second, cores, both)) two.phase two.stands c.in_ok-port.ensures;
+    }
 
 pub loop-core-preserved : goal.loop-core-preserved
 loop-core-preserved c =
