@@ -70,7 +70,7 @@ class Size:
 
     def picture_lines(self, ticks):
         parts = -(-ticks // PART)
-        return 2 + parts * (2 + 2 * self.cores + 2 * self.shared) + 1 + self.tasks + 2
+        return 2 + parts * (2 + 3 * self.cores + 2 * self.shared) + 1 + self.tasks + 3
 
 
 def answered(found, name, command, plan, trace, size):
