@@ -9,7 +9,7 @@ ghost use Rattle.msrp_trace.specs.Reading.{Told, rows_of};
 ghost use Rattle.msrp_trace.specs.Readers.{told_left};
 ghost use Rattle.msrp_engine.specs.Findings.{finding};
 ghost use Rattle.msrp_faults.specs.Outcomes.{fault_of, is_trace_fault, is_audit_fault};
-ghost use Rattle.msrp_engine.specs.Reports.{IsReportOf, ReportAnswers, Reports, WritesShown};
+ghost use Rattle.msrp_engine.specs.Reports.{IsReportOf, IsReported, ReportAnswers, Reports, WritesShown};
 
 use crate::audit::write_verdict;
 use crate::made::Made;
@@ -103,6 +103,27 @@ fn made_of(alloc: Global, plan: &Plan, report: &Report) -> Result<Made, CliFault
     })
 }
 
+// The text of the report of a trace of an accepted plan, and the verdict on it. Of rows that are no legal run there is no text.
+fn report_made<T: Read>(
+    alloc: Global,
+    plan: &Plan,
+    trace: &mut Source<T>,
+) -> Result<Made, CliFault>
+    ensures found { (bytes : List ℕ) → source_remaining T.remaining trace.old ≡ Some bytes
+        → (result ≡ Err CliFault.Read) ⊎ (result ≡ Err CliFault.Memory) ⊎ IsReported plan.now (rows_of plan.now (csv_records bytes)) result }
+    ensures faults { IfErr result (λ fault. is_trace_fault fault ≡ true) }
+    ensures read { result ≡ Err CliFault.Read → source_failed trace.new ≡ true }
+    ensures memory { result ≡ Err CliFault.Memory → source_failed trace.new ≡ false }
+{
+    match report_trace(alloc, plan, trace)? {
+        Err(fault) => Ok(Made {
+            text: Vec::new(alloc),
+            found: Err(fault),
+        }),
+        Ok(report) => made_of(alloc, plan, &report),
+    }
+}
+
 /// The text of the report of a trace of a plan, whoever made it; where the trace isn't a legal run, its first fault and no text.
 ///
 /// The rows are judged and counted as they come, and one is kept at a time. A refused plan is told whatever the trace.
@@ -121,13 +142,7 @@ pub fn report_of_texts<P: Read, T: Read>(
     ensures memory { result ≡ Err CliFault.Memory → (source_failed plan.new ≡ false) × ((source_failed trace.new ≡ false) ⊎ (trace.new ≡ trace.old)) }
 {
     let plan = read_plan(alloc, plan)?;
-    match report_trace(alloc, &plan, trace)? {
-        Err(fault) => Ok(Made {
-            text: Vec::new(alloc),
-            found: Err(fault),
-        }),
-        Ok(report) => made_of(alloc, &plan, &report),
-    }
+    report_made(alloc, &plan, trace)
 }
 
 // Writes the text that is shown of rows with that verdict, or the verdict in its place, and answers the status.
