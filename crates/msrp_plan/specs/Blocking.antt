@@ -4,7 +4,7 @@ use Rattle.std.specs.List.{AllByRecursion, Contains}
 use Rattle.msrp_plan.specs.Plan.{PlanModel, task_of, core_of, units, release}
 use Rattle.msrp_plan.specs.Jobs.{jobs, jobs_on, is_row_of, is_released, is_started, is_finished, is_queued, done}
 use Rattle.msrp_plan.specs.Choice.{is_before, least, running}
-use Rattle.msrp_plan.specs.Bounds.{is_inside, opening, out, blocked_bound}
+use Rattle.msrp_plan.specs.Bounds.{in_section, section_start, out, blocked_bound}
 use Rattle.msrp_plan.specs.Runs.{EachAfter}
 use Rattle.msrp_plan.specs.declared.ids.JobId.{JobId}
 use Rattle.msrp_plan.specs.declared.rows.Row.{Row}
@@ -40,11 +40,11 @@ is_by (Some k) r = is_row_of k r
 -- ---- sections
 -- the job stands in an outermost section, after the section's first row: it holds a resource, or is queued for one
 abbrev pub is_amid : PlanModel → List Row → JobId → Bool
-is_amid plan pre k = is_queued pre k || is_inside plan (units plan k) (done k pre)
+is_amid plan pre k = is_queued pre k || in_section plan (units plan k) (done k pre)
 
 -- the unit that begins the section
 abbrev pub section_of : PlanModel → List Row → JobId → ℕ
-section_of plan pre k = opening plan (units plan k) (done k pre)
+section_of plan pre k = section_start plan (units plan k) (done k pre)
 
 -- the row is one of job k in its outermost section that unit a begins, after the section's first row
 abbrev pub continues : PlanModel → JobId → ℕ → List Row → Row → Bool
