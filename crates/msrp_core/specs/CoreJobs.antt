@@ -3,8 +3,8 @@ use Rattle.std.specs.Prelude.{ℕ, List, ◌∷◌, true, false, Option, Some, N
 use Rattle.std.specs.List.{AllByRecursion}
 use Rattle.msrp_plan.specs.Plan.{PlanModel, units}
 use Rattle.msrp_plan.specs.Jobs.{jobs_on, is_job}
-use Rattle.msrp_plan.specs.Levels.{level, is_global}
-use Rattle.msrp_plan.specs.Choice.{is_before}
+use Rattle.msrp_plan.specs.Levels.{level}
+use Rattle.msrp_plan.specs.Choice.{comes_first}
 use Rattle.msrp_plan.specs.Actions.{does_unit_after}
 use Rattle.msrp_plan.specs.Phases.{phase_with}
 use Rattle.msrp_plan.specs.States.{JobState, state_after, state_with}
@@ -39,14 +39,9 @@ pub record AreJobs (jobs : Jobs) : Type 0 where
   pub room : length (jobs_on jobs.plan.now jobs.core.0) ≤ vec_capacity jobs.done
   pub are : AreGoing jobs.plan.now jobs.core.0 jobs.ready.taken jobs.phase (going_in jobs)
 
--- the job comes before who runs, if somebody does
-abbrev pub is_first : PlanModel → JobId → Option JobId → Bool
-is_first plan h None = true
-is_first plan h (Some s) = is_before plan h s
-
 -- it is preferred to who runs: its level is above the ceiling, and it comes first
 abbrev pub is_preferred : PlanModel → ℕ → JobId → Option JobId → Bool
-is_preferred plan above h s = nat_lt above (level plan h.task.0) && is_first plan h s
+is_preferred plan above h s = nat_lt above (level plan h.task.0) && comes_first plan h s
 
 -- the rows of a log leave the jobs of the core so
 abbrev pub AreToldBy : Jobs → List Row → Type 0
