@@ -1,5 +1,5 @@
 -- The jobs of a core as they are stored, and what a turn does to them.
-use Rattle.std.specs.Prelude.{ℕ, List, ◌∷◌, true, false, Option, Some, None, nat_lt, ◌&&◌, ◌||◌, Bool, length, reverse, slice_get, vec_capacity, ◌≡◌, ◌<◌, ◌≤◌}
+use Rattle.std.specs.Prelude.{ℕ, List, ◌∷◌, true, Option, Some, None, nat_lt, ◌&&◌, ◌||◌, Bool, length, reverse, slice_get, vec_capacity, ◌≡◌, ◌<◌, ◌≤◌}
 use Rattle.std.specs.List.{AllByRecursion}
 use Rattle.msrp_plan.specs.Plan.{PlanModel, units}
 use Rattle.msrp_plan.specs.Jobs.{jobs_on, is_job}
@@ -9,14 +9,11 @@ use Rattle.msrp_plan.specs.Actions.{does_unit_after}
 use Rattle.msrp_plan.specs.Phases.{phase_with}
 use Rattle.msrp_plan.specs.States.{JobState, state_after, state_with}
 use Rattle.msrp_plan.specs.WellFormed.{IsPlan}
-use Rattle.msrp_plan.specs.Calls.{kind_of_call, ahead_of_call}
 use Rattle.msrp_plan.specs.declared.ids.JobId.{JobId}
-use Rattle.msrp_plan.specs.declared.ids.ResId.{ResId}
 use Rattle.msrp_plan.specs.declared.rows.Kind.TheVariants.{Idle}
 use Rattle.msrp_plan.specs.declared.rows.Row.{Row}
 use Rattle.msrp_plan.specs.declared.units.Op.{Op}
-use Rattle.msrp_plan.specs.declared.units.Call.{Call}
-use Rattle.msrp_core.specs.Ports.{PortModel, Adds, claim_in}
+use Rattle.msrp_core.specs.Ports.{PortModel, claim_in}
 use Rattle.msrp_core.specs.Going.{Going, going_of, state_in, is_waiting_phase, HoldSo, AreGoing}
 use Rattle.msrp_core.specs.declared.jobs.Jobs.{Jobs}
 
@@ -142,17 +139,3 @@ pub record IsIdle (jobs : Jobs) (tick : ℕ) (r : Row) : Type 0 where
 abbrev pub IsTurnOf : Jobs → Option JobId → ℕ → Row → Type 0
 IsTurnOf jobs None tick r = IsIdle jobs tick r
 IsTurnOf jobs (Some job) tick r = DoesNext jobs job tick r
-
--- the row is the one that a call of its core on its resource makes, which the port has now
-pub record MakesCall (plan : PlanModel) (r : Row) (before after : PortModel) : Type 0 where
-  pub res : ResId
-  pub resource : r.res ≡ Some res
-  pub global : is_global plan res.0 ≡ true
-  pub call : Call
-  pub adds : Adds r.core res call before after
-  pub kind : r.kind ≡ kind_of_call call
-  pub ahead : r.ahead ≡ ahead_of_call call
-
--- the row is on no global resource
-abbrev pub IsQuiet : PlanModel → Row → Type 0
-IsQuiet plan r = (res : ResId) → r.res ≡ Some res → is_global plan res.0 ≡ false
