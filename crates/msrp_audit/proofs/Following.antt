@@ -25,9 +25,8 @@ use Rattle.msrp_plan.specs.declared.units.Op.TheVariants.{Run as RunUnit, Lock a
 use Rattle.msrp_plan.proofs.Legality.LegalRows.{IsTurn, due, turn_of, idle_res, same_res_is, same_choice_is}
 use Rattle.msrp_plan.proofs.Queues.QueueLocks.{own_from_legal, turn_from_log}
 use Rattle.msrp_plan.proofs.Runs.RoundRobin.{log_own}
-use Rattle.msrp_core.specs.CoreJobs.{MakesCall}
 use Rattle.msrp_core.specs.Machine.{MachineModel, StandsAfter}
-use Rattle.msrp_core.specs.Ports.{PortModel}
+use Rattle.msrp_core.specs.Ports.{PortModel, MakesCall}
 use Rattle.msrp_core.specs.declared.port.PortCall.{PortCall}
 use Rattle.msrp_audit.specs.Foresight.{same_action, does_alike, unlike_turn}
 use Rattle.msrp_audit.specs.Inside.Pieces.{broken_action}

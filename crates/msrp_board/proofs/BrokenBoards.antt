@@ -9,6 +9,7 @@ use Rattle.msrp_board.specs.Boards.{IsTied, entries_at}
 use Rattle.msrp_board.specs.Books.{on}
 use Rattle.msrp_board.specs.BrokenBoards.{step, lost_book, shared_ticket, counted_twice, two_holders, invented_grant, old_poll, acted_twice, lost_arrival, invented_stop, early}
 use Rattle.msrp_board.specs.History.{Event, by, IsServed}
+use Rattle.msrp_board.specs.Words.{ticket_word}
 use Rattle.msrp_board.proofs.Unique.{Before, Sorted, history_is}
 
 -- ---- the history of the resource, where there are two cores
@@ -23,10 +24,10 @@ own_entries a b h few p q (suc zero) = q
 own_entries a b h few p q (suc (suc c)) = no_others h (suc (suc c)) few (omega arith)
 
 -- a list in the order of a history, with the entries of two books, is what was served
-served_as : (next serving : ℕ) (a b : Book) (h : List Event) → AllByRecursion (λ s. s.0 < 2) h → by 0 h ≡ on 0 a.entries → by 1 h ≡ on 0 b.entries → Sorted Before h
-    → (k : List Event) × IsServed next serving 0 (entries_at (a ∷ b ∷ [])) k → IsServed next serving 0 (entries_at (a ∷ b ∷ [])) h
-served_as next serving a b h few p q order s =
-    let books : ℕ → List Entry = entries_at (a ∷ b ∷ []) in subst (IsServed next serving 0 books) (history_is 0 books s.0 h s.1.history (own_entries a b h few p q) order) s.1
+served_as : (word : ℕ) (a b : Book) (h : List Event) → AllByRecursion (λ s. s.0 < 2) h → by 0 h ≡ on 0 a.entries → by 1 h ≡ on 0 b.entries → Sorted Before h
+    → (k : List Event) × IsServed word 0 (entries_at (a ∷ b ∷ [])) k → IsServed word 0 (entries_at (a ∷ b ∷ [])) h
+served_as word a b h few p q order s =
+    let books : ℕ → List Entry = entries_at (a ∷ b ∷ []) in subst (IsServed word 0 books) (history_is 0 books s.0 h s.1.history (own_entries a b h few p q) order) s.1
 
 -- ---- each board
 
@@ -36,25 +37,25 @@ lost t = let e : ◌≡◌ {A = ℕ} 1 2 = t.cores in omega (arith, e)
 pub shared : ¬ IsTied shared_ticket
 shared t =
     let h : List Event = (0, step 0 0 (Ask 0)) ∷ (1, step 0 0 (Ask 1)) ∷ [] in
-    let s = served_as 2 0 _ _ h (omega arith, (omega arith, tt)) refl refl ((inr (refl, inr (refl, inr (refl, omega arith))), tt), (tt, tt)) (t.served 0 (omega arith)) in
+    let s = served_as (ticket_word 2 0) _ _ h (omega arith, (omega arith, tt)) refl refl ((inr (refl, inr (refl, inr (refl, omega arith))), tt), (tt, tt)) (t.served 0 (omega arith)) in
     let e : ◌≡◌ {A = ℕ} 0 1 = s.history.placed.1.0 in omega (arith, e)
 
 pub counted : ¬ IsTied counted_twice
 counted t =
     let h : List Event = (0, step 0 0 (Ask 0)) ∷ (0, step 1 1 Leave) ∷ [] in
-    let s = served_as 1 2 _ _ h (omega arith, (omega arith, tt)) refl refl ((inl (omega arith), tt), (tt, tt)) (t.served 0 (omega arith)) in
+    let s = served_as (ticket_word 1 2) _ _ h (omega arith, (omega arith, tt)) refl refl ((inl (omega arith), tt), (tt, tt)) (t.served 0 (omega arith)) in
     let e : ◌≡◌ {A = ℕ} 1 2 = s.releases in omega (arith, e)
 
 pub holders : ¬ IsTied two_holders
 holders t =
     let h : List Event = (0, step 0 0 (Ask 0)) ∷ (1, step 0 1 (Ask 0)) ∷ [] in
-    let s = served_as 2 0 _ _ h (omega arith, (omega arith, tt)) refl refl ((inl (omega arith), tt), (tt, tt)) (t.served 0 (omega arith)) in
+    let s = served_as (ticket_word 2 0) _ _ h (omega arith, (omega arith, tt)) refl refl ((inl (omega arith), tt), (tt, tt)) (t.served 0 (omega arith)) in
     let e : ◌≡◌ {A = ℕ} 0 1 = s.legal.1.0.1 in omega (arith, e)
 
 pub invented : ¬ IsTied invented_grant
 invented t =
     let h : List Event = (0, step 0 0 (Ask 0)) ∷ (1, step 0 1 (Ask 1)) ∷ (1, step 1 2 (Poll true)) ∷ [] in
-    let s = served_as 2 0 _ _ h (omega arith, (omega arith, (omega arith, tt))) refl refl ((inl (omega arith), (inl (omega arith), tt)), ((inl (omega arith), tt), (tt, tt))) (t.served 0 (omega arith)) in
+    let s = served_as (ticket_word 2 0) _ _ h (omega arith, (omega arith, (omega arith, tt))) refl refl ((inl (omega arith), (inl (omega arith), tt)), ((inl (omega arith), tt), (tt, tt))) (t.served 0 (omega arith)) in
     let e : ◌≡◌ {A = ℕ} 0 1 = s.legal.1.1.0.0 in omega (arith, e)
 
 pub old : ¬ IsTied old_poll
@@ -62,7 +63,7 @@ old t =
     let h : List Event = (0, step 0 0 (Ask 0)) ∷ (1, step 0 1 (Ask 1)) ∷ (1, step 2 2 (Poll false)) ∷ (0, step 1 2 Leave) ∷ [] in
     let order : Sorted Before h =
     ((inl (omega arith), (inl (omega arith), (inl (omega arith), tt))), ((inl (omega arith), (inl (omega arith), tt)), ((inr (refl, inl (omega arith)), tt), (tt, tt)))) in
-    let s = served_as 2 1 _ _ h (omega arith, (omega arith, (omega arith, (omega arith, tt)))) refl refl order (t.served 0 (omega arith)) in
+    let s = served_as (ticket_word 2 1) _ _ h (omega arith, (omega arith, (omega arith, (omega arith, tt)))) refl refl order (t.served 0 (omega arith)) in
     let e : 2 ≤ 1 = s.rising.1.1.0 in omega (arith, e)
 
 pub acted : ¬ IsTied acted_twice

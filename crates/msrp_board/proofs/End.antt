@@ -22,7 +22,8 @@ use Rattle.msrp_board.specs.declared.pages.View.{View}
 use Rattle.msrp_board.specs.Books.{IsSize, on, IsKept, reach as book_reach}
 use Rattle.msrp_board.specs.History.{Event, by, IsServed}
 use Rattle.msrp_board.specs.Seats.{BoardModel, SeatModel, book_at, HasAll}
-use Rattle.msrp_board.specs.Boards.{WholeBoard, IsTied, high, low, entries_at, opening_count, abort_count}
+use Rattle.msrp_board.specs.Boards.{WholeBoard, IsTied, entries_at, opening_count, abort_count}
+use Rattle.msrp_board.specs.Words.{high, low}
 use Rattle.msrp_board.specs.Inside.Rule.{empty_page, HasPage, Ruled, IsServedNewest, IsKeptNewest, IsTiedNewest, Gathered, page_reach, arrivals, entry_count}
 use Rattle.msrp_board.specs.Inside.Held.{told, seen_as, page_at, settled_as, IsWhole}
 use Rattle.msrp_board.proofs.CoreStates.{get_or_at, has_page, page_has, page_or_none}
@@ -143,7 +144,7 @@ entries_told [] c = refl
 entries_told (b ∷ bs) zero = refl
 entries_told (b ∷ bs) (suc c) = entries_told bs c
 
-served_seen : (g word : ℕ) (pages : List Page) → entry_count pages ≤ 160000 → IsServedNewest g word pages → (h : List Event) × IsServed (high word) (low word) g (entries_at (map told pages)) h
+served_seen : (g word : ℕ) (pages : List Page) → entry_count pages ≤ 160000 → IsServedNewest g word pages → (h : List Event) × IsServed word g (entries_at (map told pages)) h
 served_seen g word pages small s =
     let log = s.log in
     let own : (c : ℕ) → by c log ≡ on g (slice_index_or pages c empty_page).newest = λ c. elim (cases_lt c (length pages)) [
@@ -188,7 +189,7 @@ tied_told z words pages o limits many tied =
       cores = length-map pages told ∙ tied.cores;
       words = length-take-le z.resources words many;
       limits = limits;
-      served = λ g in_g. subst (λ k. (h : List Event) × IsServed (high k) (low k) g (entries_at (map told pages)) h) (sym (get_or-take z.resources words g 0 in_g)) (served_seen g (slice_index words g) pages few.0 (tied.served g in_g));
+      served = λ g in_g. subst (λ k. (h : List Event) × IsServed k g (entries_at (map told pages)) h) (sym (get_or-take z.resources words g 0 in_g)) (served_seen g (slice_index words g) pages few.0 (tied.served g in_g));
       kept = λ c b e. let r = page_of_book pages c b e in subst (IsKept z) r.2 (kept_told z r.0 (tied.kept c r.0 r.1));
       arrivals = ap low gathered.counts ∙ mod-mul-add (abort_count o) 4294967296 (arrivals pages + opening_count o) small ∙ ap (λ n. n + opening_count o) (arrivals_told pages);
       abort = ap high gathered.counts ∙ div-mul-add (abort_count o) 4294967296 (arrivals pages + opening_count o) small;

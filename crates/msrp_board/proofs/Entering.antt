@@ -7,7 +7,7 @@ use Rattle.msrp_plan.specs.declared.units.Call.TheVariants.{Poll}
 use Rattle.msrp_board.specs.declared.held.Claim.TheVariants.{Waits}
 use Rattle.msrp_board.specs.declared.pages.View.{View}
 use Rattle.msrp_board.specs.declared.words.TicketWord.{TicketWord}
-use Rattle.msrp_board.specs.Boards.{high, low}
+use Rattle.msrp_board.specs.Words.{high, low}
 use Rattle.msrp_board.specs.Inside.Newest.{ticket_of}
 use Rattle.msrp_board.specs.Inside.Rule.{HasEntered, TellsPoll, ViewIsBehind, ViewMayAct, with_pages, page_with_entry, page_with_poll}
 use Rattle.msrp_board.proofs.Seats.{sole_change}

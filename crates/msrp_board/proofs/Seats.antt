@@ -27,7 +27,7 @@ use Rattle.msrp_board.specs.declared.pages.View.{View}
 use Rattle.msrp_board.specs.Books.{IsSize, IsBefore, on, reach_of, phase_by, phase_in, has_acted, lock_of, AreBefore, IsKept}
 use Rattle.msrp_board.specs.Seats.{empty_book, first_seat, BoardModel, SeatModel, IsSeat, IsCoreSeat, MayAct, IsIn}
 use Rattle.msrp_board.specs.Steps.{with_admission, with_stop, book_with_entry, with_entry, with_books, IsBehind}
-use Rattle.msrp_board.specs.Boards.{high, low}
+use Rattle.msrp_board.specs.Words.{high, low}
 use Rattle.msrp_board.specs.Inside.Newest.{claim_of, IsClaimInTurn, TicksNewest}
 use Rattle.msrp_board.specs.Inside.Rule.{page_reach, page_after_look_if, page_after_look, AtStart, empty_page, first_view, HasOnly, IsKeptNewest, HasEntered, page_has_acted, page_with_entry, with_pages, ViewIsBehind}
 use Rattle.msrp_board.specs.Inside.Held.{look_if, look_of, told, phase_of, seen_as, state_of, with_own, AreStates, IsOwn, IsBelow, IsHeld}

@@ -18,7 +18,8 @@ use Rattle.msrp_board.specs.declared.books.BoardSize.{BoardSize}
 use Rattle.msrp_board.specs.Books.{on, IsBefore, reach_of, AreBefore}
 use Rattle.msrp_board.specs.History.{Event, by}
 use Rattle.msrp_board.specs.Inside.Newest.{lock, asks, leaves, asks_after, leaves_after, queue, granted, PlacedNewest, ticket_of, claim_of, IsClaimInTurn, IsRegularNewest, TicksNewest, NoneLater}
-use Rattle.msrp_board.specs.Boards.{opening_count, abort_count, high, low}
+use Rattle.msrp_board.specs.Boards.{opening_count, abort_count}
+use Rattle.msrp_board.specs.Words.{high, low}
 use Rattle.msrp_board.specs.Inside.Rule.{page_has_acted, page_with, arrivals, page_reach, HasConductor, Gathered, HasPage, Owns, Shared, IsTicketWord, IsServedNewest, IsKeptNewest, Ruled, HasOnly, page_with_ask, with_pages, page_with_poll, page_with_leave, ViewIsBehind, TellsAsk, TellsPoll, TellsLeave}
 use Rattle.msrp_board.specs.declared.held.Claim.{Claim}
 use Rattle.msrp_board.specs.declared.held.Claim.TheVariants.{Nothing, Waits, Holds}

@@ -1,5 +1,5 @@
 -- The rule of a board: what holds of its words and of the books of all its seats between any two steps.
-use Rattle.std.specs.Prelude.{◌≡◌, ℕ, ◌+◌, ◌/◌, ◌%◌, ◌<◌, ◌≤◌, List, length, true, slice_index, Some, slice_get, slice_index_or, sum_by}
+use Rattle.std.specs.Prelude.{◌≡◌, ℕ, ◌+◌, ◌<◌, ◌≤◌, List, length, true, slice_index, Some, slice_get, slice_index_or, sum_by}
 use Rattle.msrp_board.specs.declared.books.Entry.{Entry}
 use Rattle.msrp_board.specs.declared.books.Book.{Book}
 use Rattle.msrp_board.specs.declared.books.BoardSize.{BoardSize}
@@ -7,6 +7,7 @@ use Rattle.msrp_board.specs.declared.books.Conductor.{Conductor}
 use Rattle.msrp_board.specs.declared.books.Conductor.TheVariants.{Unopened, Opened, Aborted}
 use Rattle.msrp_board.specs.Books.{IsSize, reach, IsKept}
 use Rattle.msrp_board.specs.History.{Event, IsServed}
+use Rattle.msrp_board.specs.Words.{high, low}
 use Rattle.msrp_board.specs.Seats.{empty_book}
 
 -- a whole board: its ticket words, that of resource 0 first, its barrier word, all its books, that of core 0 first,
@@ -17,18 +18,6 @@ pub record WholeBoard : Type 0 where
   pub barrier : ℕ
   pub books : List Book
   pub conductor : Conductor
-
--- how many numbers half a word has, of 32 bits: one more in the high half adds so much to a word
-abbrev pub half_word : ℕ
-half_word = 4294967296
-
--- the high half of a word
-abbrev pub high : ℕ → ℕ
-high word = word / half_word
-
--- the low half of a word
-abbrev pub low : ℕ → ℕ
-low word = word % half_word
 
 -- the entries of core c
 abbrev pub entries_at : List Book → ℕ → List Entry
@@ -54,7 +43,7 @@ pub record IsTied (s : WholeBoard) : Type 0 where
   pub limits : IsSize s.size
   -- the ticket word of each resource counts its requests, high, and its releases, low, and its one history is that of
   -- a first-in-first-out lock
-  pub served : (g : ℕ) → g < s.size.resources → (h : List Event) × IsServed (high (slice_index s.tickets g)) (low (slice_index s.tickets g)) g (entries_at s.books) h
+  pub served : (g : ℕ) → g < s.size.resources → (h : List Event) × IsServed (slice_index s.tickets g) g (entries_at s.books) h
   pub kept : (c : ℕ) (b : Book) → slice_get s.books c ≡ Some b → IsKept s.size b
   -- the barrier word counts the arrivals and the opening, low, and the abort, high
   pub arrivals : low s.barrier ≡ sum_by (λ b. b.tick) s.books + opening_count s.conductor

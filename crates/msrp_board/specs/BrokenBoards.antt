@@ -1,19 +1,20 @@
 -- Boards of two cores and one resource that break one line of the rule each: the conductor opened, and nobody was stopped but where it is said.
-use Rattle.std.specs.Prelude.{ℕ, ◌+◌, ◌*◌, List, [], ◌∷◌, true, false}
+use Rattle.std.specs.Prelude.{ℕ, List, [], ◌∷◌, true, false}
 use Rattle.msrp_plan.specs.declared.units.Call.{Call}
 use Rattle.msrp_plan.specs.declared.units.Call.TheVariants.{Ask, Poll, Leave}
 use Rattle.msrp_board.specs.declared.books.Book.{Book}
 use Rattle.msrp_board.specs.declared.books.Conductor.TheVariants.{Opened}
 use Rattle.msrp_board.specs.declared.books.Entry.{Entry}
-use Rattle.msrp_board.specs.Boards.{WholeBoard, half_word}
+use Rattle.msrp_board.specs.Boards.{WholeBoard}
+use Rattle.msrp_board.specs.Words.{ticket_word}
 use Rattle.msrp_board.specs.Seats.{empty_book}
 use Rattle.msrp_board.specs.Steps.{book_with_stop}
 
 -- so many requests and releases, and arrivals with the opening
 abbrev board : ℕ → ℕ → ℕ → List Book → WholeBoard
-board next serving arrivals books = record {
+board requests releases arrivals books = record {
   size = record { cores = 2; resources = 1; ticks = 4 };
-  tickets = (next * half_word + serving) ∷ [];
+  tickets = ticket_word requests releases ∷ [];
   barrier = arrivals;
   books = books;
   conductor = Opened;

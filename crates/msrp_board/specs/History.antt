@@ -6,6 +6,7 @@ use Rattle.msrp_plan.specs.FifoLock.{Legal}
 use Rattle.msrp_plan.specs.declared.units.Call.{Call}
 use Rattle.msrp_plan.specs.declared.units.Call.TheVariants.{Ask, Poll, Leave}
 use Rattle.msrp_board.specs.declared.books.Entry.{Entry}
+use Rattle.msrp_board.specs.Words.{high, low}
 use Rattle.msrp_board.specs.Books.{on, IsChain}
 
 -- an entry with the number of its core
@@ -65,11 +66,11 @@ pub record IsHistory (g : ℕ) (books : ℕ → List Entry) (h : List Event) : T
   pub placed : Placed 0 h
   pub polls : IsChain PollsInOrder h
 
--- the history is what the ticket word counts, is answered as a first-in-first-out lock answers, and its ticks never fall
-pub record IsServed (next serving g : ℕ) (books : ℕ → List Entry) (h : List Event) : Type 0 where
+-- the history is what the ticket word counts, requests in its high half and releases in its low one, is answered as a first-in-first-out lock answers, and its ticks never fall
+pub record IsServed (word g : ℕ) (books : ℕ → List Entry) (h : List Event) : Type 0 where
   pub history : IsHistory g books h
-  pub requests : count_by (λ s. is_request s.1.call) h ≡ next
-  pub releases : count_by (λ s. is_release s.1.call) h ≡ serving
+  pub requests : count_by (λ s. is_request s.1.call) h ≡ high word
+  pub releases : count_by (λ s. is_release s.1.call) h ≡ low word
   pub legal : Legal (calls h)
   pub rising : IsChain IsNotLater h
 

@@ -1,3 +1,4 @@
+pub mod Words
 pub mod Books
 pub mod History
 pub mod Seats

@@ -4,7 +4,8 @@ ghost use Rattle.std.specs.Mem.Slots.{slots_items, slots_len, IsFull};
 ghost use Rattle.msrp_board.specs.declared.books.Book.{Book};
 ghost use Rattle.msrp_board.specs.declared.books.Conductor.TheVariants.{Opened};
 ghost use Rattle.msrp_board.specs.Seats.{book_at, HasAll};
-ghost use Rattle.msrp_board.specs.Boards.{high, low, IsTied};
+ghost use Rattle.msrp_board.specs.Boards.{IsTied};
+ghost use Rattle.msrp_board.specs.Words.{high, low};
 
 use crate::board::Board;
 use crate::books::BoardSize;

@@ -1,65 +1,43 @@
 -- What is stored of the jobs of a core: who runs, who is chosen, and a job that starts.
-use Rattle.std.proofs.Common.{◌≡◌, ◌≢◌, ℕ, ◌+◌, ◌<◌, ◌≤◌, ◌==◌, Bool, true, false, cond, not, nat_eq, nat_lt, max, ◌⊎◌, ◌&&◌, ◌||◌, List, [], ◌∷◌, ◌++◌, Option, Some, None, refl, ap, sym, ◌∙◌, subst, arith, length, length-append, map, reverse, inl, inr, get_or, ◌-◌, Vec, Global, vec_capacity, IsSome, unwrap_or}
-use Rattle.std.specs.List.{list_any, filter, AllByRecursion, Contains, IsDistinct, range_with_len}
+use Rattle.std.proofs.Common.{◌≡◌, ◌≢◌, ℕ, ◌+◌, ◌<◌, ◌≤◌, ◌==◌, Bool, true, false, cond, not, nat_eq, nat_lt, max, ◌⊎◌, ◌&&◌, ◌||◌, List, [], ◌∷◌, ◌++◌, Option, Some, None, refl, ap, sym, ◌∙◌, subst, arith, length, length-append, map, reverse, inl, inr, get_or, ◌-◌, Vec, Global, vec_capacity}
+use Rattle.std.specs.List.{list_any, filter, AllByRecursion, Contains, IsDistinct}
 use Rattle.std.specs.Cmp.{IsEquivalence}
 use Rattle.std.proofs.Math.Bool.{true≢false, and-true, or-true, or-false}
 use Rattle.std.proofs.Math.Seq.{get_or-append_seam}
 use Rattle.std.proofs.lemmas.Bool.{cases_Bool, eqb-true, ltb-true, and_parts, false_from_ne_true, not-true, or_parts, eq-eqb}
 use Rattle.std.proofs.lemmas.Map.Made.{length-le_from_is_member}
 use Rattle.std.proofs.lemmas.List.{length-reverse, length-map}
-use Rattle.std.proofs.lemmas.List.Elements.{filter_passes, recursion_from_All, Contains-get_or}
+use Rattle.std.proofs.lemmas.List.Elements.{Contains-get_or}
 use Rattle.std.proofs.lemmas.Option.{none-some, same_Some}
-use Rattle.msrp_plan.specs.Plan.{PlanModel, units, release, release_tick, no_task, core_of}
-use Rattle.msrp_plan.specs.Jobs.{jobs as jobs_all, jobs_of, jobs_on, job_at, same_job, is_job, is_released}
+use Rattle.msrp_plan.specs.Plan.{PlanModel, units, no_task, core_of}
+use Rattle.msrp_plan.specs.Jobs.{jobs as jobs_all, jobs_on, same_job, is_job, is_released}
 use Rattle.msrp_plan.specs.Levels.{level, is_global, local_ceiling, greatest}
 use Rattle.msrp_plan.specs.Levels as levels
 use Rattle.msrp_plan.specs.Ceiling.{resources, raised_with, ceiling_with}
-use Rattle.msrp_plan.specs.Choice.{is_before, first_ready, first_unfinished, chosen, choice}
+use Rattle.msrp_plan.specs.Choice.{is_before, first_ready, first_unfinished, chosen, choice, comes_first}
 use Rattle.msrp_plan.specs.States.{JobState, state_after}
 use Rattle.msrp_plan.specs.WellFormed.{IsPlan}
 use Rattle.msrp_plan.specs.declared.ids.JobId.{JobId}
 use Rattle.msrp_plan.specs.declared.rows.Row.{Row}
 use Rattle.msrp_plan.specs.declared.units.Phase.{Phase}
 use Rattle.msrp_plan.specs.declared.units.Phase.TheVariants.{Free, Queued, Holding}
-use Rattle.msrp_plan.proofs.Lists.AnyAll.{all_weaker, any_in, all_flat}
-use Rattle.msrp_plan.proofs.Lists.Least.{all_filtered}
+use Rattle.msrp_plan.proofs.Lists.AnyAll.{all_weaker, any_in}
 use Rattle.msrp_plan.proofs.Lists.LeastKept.{least_in, least_passes}
 use Rattle.msrp_plan.proofs.Jobs.JobTests.{same_is, same_self, same_symm, same_congr}
-use Rattle.msrp_plan.proofs.Jobs.JobLists.{core_jobs_below}
-use Rattle.msrp_plan.proofs.Jobs.CoreJobs.{on_its_core}
+use Rattle.msrp_plan.proofs.Jobs.CoreJobs.{on_its_core, known_task}
 use Rattle.msrp_plan.proofs.Levels.Ceilings.{top_above}
 use Rattle.msrp_ready.specs.Ready.{ReadyModel, is_among}
 use Rattle.msrp_ready.specs.Ready as ready
 use Rattle.msrp_stack.specs.Stack.{StackModel, StartedJob, CanStart, ComesFirst, newest, current_ceiling}
 use Rattle.msrp_stack.specs.Stack as stack
 use Rattle.msrp_core.specs.Going.{Going, going_of, advanced, started_job, is_going, is_kept, done_in, is_waiting_phase, is_newest, state_in, IsGoing, AreApart, HoldSo, AreGoing}
-use Rattle.msrp_core.specs.CoreJobs.{going_in, state_of, AreJobs, AreToldBy, IsRunning, is_first, is_preferred, started_with}
+use Rattle.msrp_core.specs.CoreJobs.{going_in, state_of, AreJobs, AreToldBy, IsRunning, is_preferred, started_with}
 use Rattle.msrp_core.specs.CoreStates.{IsCoreState}
 use Rattle.msrp_core.specs.declared.jobs.Jobs.{Jobs}
 use Rattle.msrp_core.specs.declared.states.CoreState.{CoreState}
 use Rattle.msrp_core.proofs.Choices.{at_in, ceiling_is, choice_is, current_is, going_left, head_is, kept_raised, running_is, started_jobs, top_is}
 use Rattle.msrp_stack.proofs.Changes.{ends_in, reverse_push}
 use Rattle.msrp_core.proofs.Steps.{clash}
-
--- ---- the jobs of a core
--- each is released before the ticks are over
-before_end : (plan : PlanModel) (c : ℕ) → AllByRecursion (λ j. nat_lt (release plan j) plan.ticks ≡ true) (jobs_on plan c)
-before_end plan c = all_filtered (λ j. nat_lt (release plan j) plan.ticks ≡ true) (λ j. core_of plan j == c) (jobs_all plan)
-    (all_flat (λ j. nat_lt (release plan j) plan.ticks ≡ true) (jobs_of plan) (λ t. recursion_from_All (λ j. nat_lt (release plan j) plan.ticks ≡ true) (jobs_of plan t) (filter_passes (λ j. nat_lt (release plan j) plan.ticks) (map (job_at t) (range_with_len 0 plan.ticks)))) (range_with_len 0 (length plan.tasks)))
-
--- so it is released
-pub known_released : (plan : PlanModel) (c : ℕ) (j : JobId) → Contains (jobs_on plan c) j → IsSome (release_tick plan j)
-known_released plan c j there = by_tick (release_tick plan j) refl
-  where
-    early : release plan j < plan.ticks
-    early = ltb-true (release plan j) plan.ticks (at_in (λ j. nat_lt (release plan j) plan.ticks ≡ true) (jobs_on plan c) j (before_end plan c) there)
-
-    by_tick : (o : Option ℕ) → release_tick plan j ≡ o → IsSome (release_tick plan j)
-    by_tick None e = absurd (let k = ap (λ o. unwrap_or o plan.ticks) e in let l = early in omega (arith, k, l))
-    by_tick (Some t) e = subst IsSome (sym e) refl
-
-pub known_task : (plan : PlanModel) (c : ℕ) (j : JobId) → Contains (jobs_on plan c) j → j.task.0 < length plan.tasks
-known_task plan c j there = at_in (λ j. j.task.0 < length plan.tasks) (jobs_on plan c) j (core_jobs_below plan c) there
 
 -- ---- who runs
 pub same_size : (jobs : Jobs) → length jobs.stack.started ≡ length jobs.done.items → length jobs.stack.started ≡ length (reverse jobs.done.items)
@@ -208,13 +186,13 @@ few_going jobs going known apart =
     omega (arith, k, n)
 
 -- what a stack wants of a job that starts
-pub can_start : (jobs : Jobs) (j : JobId) → AreJobs jobs → Contains (jobs_on jobs.plan.now jobs.core.0) j → is_first jobs.plan.now j (newest jobs.stack.started) ≡ true → CanStart jobs.stack j
+pub can_start : (jobs : Jobs) (j : JobId) → AreJobs jobs → Contains (jobs_on jobs.plan.now jobs.core.0) j → comes_first jobs.plan.now j (newest jobs.stack.started) ≡ true → CanStart jobs.stack j
 can_start jobs j fit there first = record {
   known = subst (λ (p : PlanModel). Contains (jobs_on p jobs.stack.core) j) (sym fit.stack_plan) (subst (λ k. Contains (jobs_on jobs.plan.now k) j) (sym fit.stack_core) there);
   first = subst (λ (p : PlanModel). ComesFirst p jobs.stack.started j) (sym fit.stack_plan) (comes jobs.stack.started first);
 }
   where
-    comes : (started : List StartedJob) → is_first jobs.plan.now j (newest started) ≡ true → ComesFirst jobs.plan.now started j
+    comes : (started : List StartedJob) → comes_first jobs.plan.now j (newest started) ≡ true → ComesFirst jobs.plan.now started j
     comes [] e = tt
     comes (s ∷ below) e = e
 

@@ -1,22 +1,19 @@
 -- The jobs of a core as they are stored, and what a turn does to them.
-use Rattle.std.specs.Prelude.{ℕ, List, ◌∷◌, true, false, Option, Some, None, nat_lt, ◌&&◌, ◌||◌, Bool, length, reverse, slice_get, vec_capacity, ◌≡◌, ◌<◌, ◌≤◌}
+use Rattle.std.specs.Prelude.{ℕ, List, ◌∷◌, true, Option, Some, None, nat_lt, ◌&&◌, ◌||◌, Bool, length, reverse, slice_get, vec_capacity, ◌≡◌, ◌<◌, ◌≤◌}
 use Rattle.std.specs.List.{AllByRecursion}
 use Rattle.msrp_plan.specs.Plan.{PlanModel, units}
 use Rattle.msrp_plan.specs.Jobs.{jobs_on, is_job}
-use Rattle.msrp_plan.specs.Levels.{level, is_global}
-use Rattle.msrp_plan.specs.Choice.{is_before}
+use Rattle.msrp_plan.specs.Levels.{level}
+use Rattle.msrp_plan.specs.Choice.{comes_first}
 use Rattle.msrp_plan.specs.Actions.{does_unit_after}
 use Rattle.msrp_plan.specs.Phases.{phase_with}
 use Rattle.msrp_plan.specs.States.{JobState, state_after, state_with}
 use Rattle.msrp_plan.specs.WellFormed.{IsPlan}
-use Rattle.msrp_plan.specs.Calls.{kind_of_call, ahead_of_call}
 use Rattle.msrp_plan.specs.declared.ids.JobId.{JobId}
-use Rattle.msrp_plan.specs.declared.ids.ResId.{ResId}
 use Rattle.msrp_plan.specs.declared.rows.Kind.TheVariants.{Idle}
 use Rattle.msrp_plan.specs.declared.rows.Row.{Row}
 use Rattle.msrp_plan.specs.declared.units.Op.{Op}
-use Rattle.msrp_plan.specs.declared.units.Call.{Call}
-use Rattle.msrp_core.specs.Ports.{PortModel, Adds, claim_in}
+use Rattle.msrp_core.specs.Ports.{PortModel, claim_in}
 use Rattle.msrp_core.specs.Going.{Going, going_of, state_in, is_waiting_phase, HoldSo, AreGoing}
 use Rattle.msrp_core.specs.declared.jobs.Jobs.{Jobs}
 
@@ -39,14 +36,9 @@ pub record AreJobs (jobs : Jobs) : Type 0 where
   pub room : length (jobs_on jobs.plan.now jobs.core.0) ≤ vec_capacity jobs.done
   pub are : AreGoing jobs.plan.now jobs.core.0 jobs.ready.taken jobs.phase (going_in jobs)
 
--- the job comes before who runs, if somebody does
-abbrev pub is_first : PlanModel → JobId → Option JobId → Bool
-is_first plan h None = true
-is_first plan h (Some s) = is_before plan h s
-
 -- it is preferred to who runs: its level is above the ceiling, and it comes first
 abbrev pub is_preferred : PlanModel → ℕ → JobId → Option JobId → Bool
-is_preferred plan above h s = nat_lt above (level plan h.task.0) && is_first plan h s
+is_preferred plan above h s = nat_lt above (level plan h.task.0) && comes_first plan h s
 
 -- the rows of a log leave the jobs of the core so
 abbrev pub AreToldBy : Jobs → List Row → Type 0
@@ -147,17 +139,3 @@ pub record IsIdle (jobs : Jobs) (tick : ℕ) (r : Row) : Type 0 where
 abbrev pub IsTurnOf : Jobs → Option JobId → ℕ → Row → Type 0
 IsTurnOf jobs None tick r = IsIdle jobs tick r
 IsTurnOf jobs (Some job) tick r = DoesNext jobs job tick r
-
--- the row is the one that a call of its core on its resource makes, which the port has now
-pub record MakesCall (plan : PlanModel) (r : Row) (before after : PortModel) : Type 0 where
-  pub res : ResId
-  pub resource : r.res ≡ Some res
-  pub global : is_global plan res.0 ≡ true
-  pub call : Call
-  pub adds : Adds r.core res call before after
-  pub kind : r.kind ≡ kind_of_call call
-  pub ahead : r.ahead ≡ ahead_of_call call
-
--- the row is on no global resource
-abbrev pub IsQuiet : PlanModel → Row → Type 0
-IsQuiet plan r = (res : ResId) → r.res ≡ Some res → is_global plan res.0 ≡ false

@@ -1,8 +1,11 @@
--- Ports: the calls that were made of a port, and one call more.
-use Rattle.std.specs.Prelude.{ℕ, List, [], ◌∷◌, ◌++◌, ◌==◌, ◌≡◌, ◌≢◌, ◌≤◌, ◌+◌, map, filter, ⊤}
-use Rattle.msrp_plan.specs.Calls.{ResCall, claim_after}
+-- Ports: the calls that were made of a port, one call more, and the row that it makes.
+use Rattle.std.specs.Prelude.{ℕ, List, [], ◌∷◌, ◌++◌, false, true, ◌==◌, Some, ◌≡◌, ◌≢◌, ◌≤◌, ◌+◌, map, filter, ⊤}
+use Rattle.msrp_plan.specs.Plan.{PlanModel}
+use Rattle.msrp_plan.specs.Levels.{is_global}
+use Rattle.msrp_plan.specs.Calls.{ResCall, claim_after, kind_of_call, ahead_of_call}
 use Rattle.msrp_plan.specs.declared.ids.CoreId.{CoreId}
 use Rattle.msrp_plan.specs.declared.ids.ResId.{ResId}
+use Rattle.msrp_plan.specs.declared.rows.Row.{Row}
 use Rattle.msrp_plan.specs.declared.units.Call.{Call}
 use Rattle.msrp_plan.specs.declared.units.Call.TheVariants.{Ask}
 use Rattle.msrp_plan.specs.declared.units.Phase.{Phase}
@@ -51,3 +54,17 @@ pub record Adds (core : CoreId) (res : ResId) (call : Call) (old new : PortModel
   pub room : new.rooms core.0 + 1 ≡ old.rooms core.0
   pub others : (c : ℕ) → c ≢ core.0 → new.rooms c ≡ old.rooms c
   pub resources : new.resources ≡ old.resources
+
+-- the row is the one that a call of its core on its resource makes, which the port has now
+pub record MakesCall (plan : PlanModel) (r : Row) (before after : PortModel) : Type 0 where
+  pub res : ResId
+  pub resource : r.res ≡ Some res
+  pub global : is_global plan res.0 ≡ true
+  pub call : Call
+  pub adds : Adds r.core res call before after
+  pub kind : r.kind ≡ kind_of_call call
+  pub ahead : r.ahead ≡ ahead_of_call call
+
+-- the row is on no global resource
+abbrev pub IsQuiet : PlanModel → Row → Type 0
+IsQuiet plan r = (res : ResId) → r.res ≡ Some res → is_global plan res.0 ≡ false

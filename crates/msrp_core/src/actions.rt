@@ -11,8 +11,8 @@ ghost use Rattle.msrp_plan.specs.declared.ids.ResId.{ResId as Resource};
 ghost use Rattle.msrp_plan.specs.declared.rows.Row.{Row as TraceRow};
 ghost use Rattle.msrp_ready.specs.Ready.{is_among};
 ghost use Rattle.msrp_core.specs.Going.{is_holding_phase, is_waiting_phase};
-ghost use Rattle.msrp_core.specs.Ports.{claim_in};
-ghost use Rattle.msrp_core.specs.CoreJobs.{Acts, ActsFor, AreJobs, AreToldBy, CanAct, CanCall, DoesNext, IsNextUnit, IsQuiet, IsRunning, IsTurnOf, MakesCall};
+ghost use Rattle.msrp_core.specs.Ports.{claim_in, IsQuiet, MakesCall};
+ghost use Rattle.msrp_core.specs.CoreJobs.{Acts, ActsFor, AreJobs, AreToldBy, CanAct, CanCall, DoesNext, IsNextUnit, IsRunning, IsTurnOf};
 
 use crate::jobs::Jobs;
 use crate::port::{Port, Reply};

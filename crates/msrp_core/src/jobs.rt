@@ -4,7 +4,7 @@ ghost use Rattle.std.specs.Option.{ForSome, IfSome, option_or};
 ghost use Rattle.std.specs.List.{Contains};
 ghost use Rattle.msrp_plan.specs.Plan.{units};
 ghost use Rattle.msrp_plan.specs.Jobs.{jobs_on, is_job};
-ghost use Rattle.msrp_plan.specs.Choice.{choice, first_ready};
+ghost use Rattle.msrp_plan.specs.Choice.{choice, first_ready, comes_first};
 ghost use Rattle.msrp_plan.specs.Levels.{is_global};
 ghost use Rattle.msrp_plan.specs.declared.ids.JobId.{JobId as Job};
 ghost use Rattle.msrp_plan.specs.declared.rows.Row.{Row as TraceRow};
@@ -12,7 +12,7 @@ ghost use Rattle.msrp_ready.specs.Ready.{head, is_among};
 ghost use Rattle.msrp_stack.specs.Stack.{current_ceiling, newest, top};
 ghost use Rattle.msrp_core.specs.Going.{Going, advanced, state_in};
 ghost use Rattle.msrp_core.specs.CoreStates.{IsCoreState};
-ghost use Rattle.msrp_core.specs.CoreJobs.{AreJobs, AreToldBy, CanAct, IsRunning, IsSamePlace, IsSameStack, going_in, is_first, is_preferred, started_with, state_of};
+ghost use Rattle.msrp_core.specs.CoreJobs.{AreJobs, AreToldBy, CanAct, IsRunning, IsSamePlace, IsSameStack, going_in, is_preferred, started_with, state_of};
 
 use crate::states::CoreState;
 use msrp_levels::Levels;
@@ -71,7 +71,7 @@ impl<'a> Jobs<'a> {
     fn comes_first(&self, job: JobId, running: Option<JobId>) -> bool
         requires known { Contains (jobs_on self.now.plan.now self.now.core.0) job }
         requires running { ForSome running (Contains (jobs_on self.now.plan.now self.now.core.0)) }
-        ensures { result ≡ is_first self.now.plan.now job running }
+        ensures { result ≡ comes_first self.now.plan.now job running }
     {
         match running {
             None => true,

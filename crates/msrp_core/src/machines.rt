@@ -4,8 +4,7 @@ ghost use Rattle.msrp_plan.specs.Levels.{is_global};
 ghost use Rattle.msrp_plan.specs.Runs.{IsCoreTurn};
 ghost use Rattle.msrp_plan.specs.declared.ids.ResId.{ResId as Resource};
 ghost use Rattle.msrp_plan.specs.declared.rows.Row.{Row as TraceRow};
-ghost use Rattle.msrp_core.specs.Ports.{claim_in};
-ghost use Rattle.msrp_core.specs.CoreJobs.{IsQuiet, MakesCall};
+ghost use Rattle.msrp_core.specs.Ports.{claim_in, IsQuiet, MakesCall};
 ghost use Rattle.msrp_core.specs.CoreStates.{IsCoreState};
 ghost use Rattle.msrp_core.specs.Machine.{RepeatsOnly, StandsAfter};
 

@@ -7,9 +7,8 @@ use Rattle.msrp_plan.specs.Levels.{is_global}
 use Rattle.msrp_plan.specs.declared.ids.ResId.{ResId}
 use Rattle.msrp_plan.specs.declared.rows.Row.{Row}
 use Rattle.msrp_plan.proofs.Lists.Ranges.{not_equal}
-use Rattle.msrp_core.specs.CoreJobs.{IsQuiet, MakesCall}
 use Rattle.msrp_core.specs.Machine.{MachineModel, StandsAfter}
-use Rattle.msrp_core.specs.Ports.{PortModel, claim_in}
+use Rattle.msrp_core.specs.Ports.{PortModel, claim_in, IsQuiet, MakesCall}
 use Rattle.msrp_plan.specs.declared.units.Phase.TheVariants.{Free}
 use Rattle.msrp_sim.specs.Served.{FifoModel, IsFresh, as_port}
 use Rattle.msrp_sim.proofs.Histories.{claim_other}

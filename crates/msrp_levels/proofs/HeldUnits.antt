@@ -10,7 +10,7 @@ use Rattle.msrp_plan.specs.Plan.{PlanModel}
 use Rattle.msrp_plan.specs.Units.{is_lock_of, locks, unlocks, holds_after, held_with, held_after}
 use Rattle.msrp_plan.specs.WellFormed.{IsLocking}
 use Rattle.msrp_plan.specs.Ceiling.{resources}
-use Rattle.msrp_plan.specs.Bounds.{is_inside}
+use Rattle.msrp_plan.specs.Bounds.{in_section}
 use Rattle.msrp_plan.specs.declared.units.Op.{Op}
 use Rattle.msrp_plan.specs.declared.units.Op.TheVariants.{Run, Lock, Unlock}
 use Rattle.msrp_plan.proofs.Levels.Ceilings.{in_resources}
@@ -58,7 +58,7 @@ held_step plan us n held u locking at h =
 
 -- ---- inside a section
 -- nothing is held outside
-pub outside : (plan : PlanModel) (us : List Op) (n : ℕ) → IsHeldAt us n 0 → is_inside plan us n ≡ false
+pub outside : (plan : PlanModel) (us : List Op) (n : ℕ) → IsHeldAt us n 0 → in_section plan us n ≡ false
 outside plan us n h = none (resources plan)
   where
     no_names : (names : List ℕ) → 0 ≡ length names → (g : ℕ) → held_times g names ≡ 0
@@ -73,10 +73,10 @@ outside plan us n h = none (resources plan)
     none (g ∷ gs) = ap (λ b. b || list_any (holds_after (take n us)) gs) (fails g) ∙ none gs
 
 -- something is held inside
-pub inside : (plan : PlanModel) (us : List Op) (n held : ℕ) → IsLocking plan us → 0 < held → IsHeldAt us n held → is_inside plan us n ≡ true
+pub inside : (plan : PlanModel) (us : List Op) (n held : ℕ) → IsLocking plan us → 0 < held → IsHeldAt us n held → in_section plan us n ≡ true
 inside plan us n held locking some h = by_names h.names h.after (omega (arith, some, h.size))
   where
-    by_names : (names : List ℕ) → held_after (take n us) ≡ Some names → 0 < length names → is_inside plan us n ≡ true
+    by_names : (names : List ℕ) → held_after (take n us) ≡ Some names → 0 < length names → in_section plan us n ≡ true
     by_names [] after l = absurd (omega (arith, l))
     by_names (g ∷ names) after l =
         let k = even_after g (take n us) (g ∷ names) after in

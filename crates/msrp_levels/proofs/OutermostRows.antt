@@ -1,73 +1,40 @@
 -- The rows of outermost sections, unit by unit.
-use Rattle.std.proofs.Common.{◌≡◌, ◌≢◌, ℕ, zero, suc, ◌+◌, ◌*◌, ◌<◌, ◌≤◌, ◌==◌, Bool, true, false, cond, not, List, [], ◌∷◌, ◌++◌, map, max, slice_get, Some, refl, ap, sym, subst, ◌∙◌, arith, length, append-nil, eq-eqb}
-use Rattle.std.specs.List.{filter, range_with_len, sum_by}
+use Rattle.std.proofs.Common.{◌≡◌, ◌≢◌, ℕ, zero, suc, ◌+◌, ◌*◌, ◌≤◌, ◌==◌, Bool, true, false, cond, [], map, max, slice_get, Some, refl, ap, sym, subst, ◌∙◌, arith, length, eq-eqb}
+use Rattle.std.specs.List.{range_with_len}
 use Rattle.std.proofs.lemmas.Option.{same_Some}
 use Rattle.msrp_plan.specs.Plan.{PlanModel, TaskModel}
 use Rattle.msrp_plan.specs.Levels.{greatest}
-use Rattle.msrp_plan.specs.Bounds.{is_inside, opening, wait_bound, rows_at}
+use Rattle.msrp_plan.specs.Bounds.{in_section, section_start, wait_bound}
 use Rattle.msrp_plan.specs.WellFormed.{IsLocking}
 use Rattle.msrp_plan.specs.declared.units.Op.{Op}
-use Rattle.msrp_plan.proofs.Lists.AnyAll.{all_weaker}
-use Rattle.msrp_plan.proofs.Lists.Least.{all_filtered}
 use Rattle.msrp_plan.proofs.Lists.Ranges.{not_equal}
 use Rattle.msrp_levels.specs.Outermost.{held_with_unit}
-use Rattle.msrp_levels.proofs.Gathered.{filter_more_range, sum_more_range, range_below, filter_none}
 use Rattle.msrp_levels.proofs.HeldUnits.{IsHeldAt, held_first, held_step, inside, outside}
-use Rattle.msrp_levels.proofs.Longest.{fold_max-le}
 use Rattle.msrp_levels.proofs.Ranges.{range_grows, range_more_zero}
-use Rattle.msrp_plan.proofs.Blocking.Sections.{greatest_push}
-
--- ---- the opening of a unit
-module _ (plan : PlanModel) (us : List Op) where
-  abbrev is_outside : ℕ → Bool
-  is_outside i = not (is_inside plan us i)
-
-  places-le : (n b : ℕ) → n ≤ b + 1 → greatest (filter is_outside (range_with_len 0 n)) ≤ b
-  places-le n b l =
-      fold_max-le b 0 (filter is_outside (range_with_len 0 n)) (omega arith)
-      (all_weaker (λ k. k < n) (λ k. k ≤ b) (λ k below. omega (arith, below, l)) (filter is_outside (range_with_len 0 n)) (all_filtered (λ k. k < n) is_outside (range_with_len 0 n) (range_below 0 n n (omega arith))))
-
-  -- a unit outside of all sections opens its own
-  opening_outside : (n : ℕ) → is_inside plan us n ≡ false → opening plan us n ≡ n
-  opening_outside n e =
-      let more : filter is_outside (range_with_len 0 (n + 1)) ≡ filter is_outside (range_with_len 0 n) ++ n ∷ [] = filter_more_range is_outside n ∙ ap (λ b. filter is_outside (range_with_len 0 n) ++ cond (not b) (n ∷ []) []) e in
-      let split = ap greatest more ∙ greatest_push (filter is_outside (range_with_len 0 n)) n in
-      let below = places-le n n (omega arith) in
-      omega (arith, split, below)
-
-  -- a unit inside is in the section of the unit before it
-  opening_inside : (n m : ℕ) → n ≡ m + 1 → is_inside plan us n ≡ true → opening plan us n ≡ opening plan us m
-  opening_inside n m next e =
-      let more : filter is_outside (range_with_len 0 (n + 1)) ≡ filter is_outside (range_with_len 0 n) = filter_more_range is_outside n ∙ (ap (λ b. filter is_outside (range_with_len 0 n) ++ cond (not b) (n ∷ []) []) e ∙ append-nil (filter is_outside (range_with_len 0 n))) in
-      ap greatest more ∙ ap (λ k. greatest (filter is_outside (range_with_len 0 k))) next
-
-  opening-le : (n : ℕ) → opening plan us n ≤ n
-  opening-le n = places-le (n + 1) n (omega arith)
+use Rattle.msrp_plan.proofs.Blocking.Bound.{spent_none}
+use Rattle.msrp_plan.proofs.Blocking.SectionRows.{spent, rows_at, spent_more}
+use Rattle.msrp_plan.proofs.Blocking.Sections.{start_within, start_outside, start_inside}
 
 -- ---- the rows of a section so far
 module _ (plan : PlanModel) (task : TaskModel) where
-  -- how many rows the first n units add to the section that unit a opens
+  -- how many rows the first n units add to the section that unit a begins
   abbrev rows_below : ℕ → ℕ → ℕ
-  rows_below n a = sum_by (rows_at plan task) (filter (λ m. opening plan task.units m == a) (range_with_len 0 n))
+  rows_below n a = spent plan task a n
 
-  rows_more : (n a : ℕ) → rows_below (n + 1) a ≡ rows_below n a + cond (opening plan task.units n == a) (rows_at plan task n) 0
-  rows_more n a = sum_more_range (rows_at plan task) (λ m. opening plan task.units m == a) n
+  rows_own : (n a : ℕ) → section_start plan task.units n ≡ a → rows_below (n + 1) a ≡ rows_below n a + rows_at plan task n
+  rows_own n a e = spent_more plan task a n ∙ ap (λ b. rows_below n a + cond b (rows_at plan task n) 0) (eq-eqb (section_start plan task.units n) a e)
 
-  rows_own : (n a : ℕ) → opening plan task.units n ≡ a → rows_below (n + 1) a ≡ rows_below n a + rows_at plan task n
-  rows_own n a e = rows_more n a ∙ ap (λ b. rows_below n a + cond b (rows_at plan task n) 0) (eq-eqb (opening plan task.units n) a e)
+  rows_other : (n a : ℕ) → section_start plan task.units n ≢ a → rows_below (n + 1) a ≡ rows_below n a
+  rows_other n a ne = let e = spent_more plan task a n ∙ ap (λ b. rows_below n a + cond b (rows_at plan task n) 0) (not_equal (section_start plan task.units n) a ne) in omega (arith, e)
 
-  rows_other : (n a : ℕ) → opening plan task.units n ≢ a → rows_below (n + 1) a ≡ rows_below n a
-  rows_other n a ne = let e = rows_more n a ∙ ap (λ b. rows_below n a + cond b (rows_at plan task n) 0) (not_equal (opening plan task.units n) a ne) in omega (arith, e)
-
-  -- a unit that was not reached opened none yet
+  -- a unit that was not reached began none yet
   rows_none : (n : ℕ) → rows_below n n ≡ 0
-  rows_none n = ap (sum_by (rows_at plan task)) (filter_none (λ m. opening plan task.units m == n) (range_with_len 0 n)
-      (all_weaker (λ m. m < n) (λ m. opening plan task.units m == n ≡ false) (λ m l. not_equal (opening plan task.units m) n (λ e. let k = opening-le plan task.units m in omega (arith, l, e, k))) (range_with_len 0 n) (range_below 0 n n (omega arith))))
+  rows_none n = spent_none plan task n n (omega arith)
 
   -- what a pass over the first n units has counted
   pub record IsCounted (n held rows longest : ℕ) : Type 0 where
     pub holds : IsHeldAt task.units n held
-    pub current : (m : ℕ) → n ≡ m + 1 → rows ≡ rows_below n (opening plan task.units m)
+    pub current : (m : ℕ) → n ≡ m + 1 → rows ≡ rows_below n (section_start plan task.units m)
     pub most : longest ≡ greatest (map (rows_below n) (range_with_len 0 n))
     pub bound : rows ≤ n * 40000
 
@@ -76,36 +43,37 @@ module _ (plan : PlanModel) (task : TaskModel) where
 
   -- the section of the next unit, with its rows
   section_rows : (n held rows longest w : ℕ) (u : Op) → IsLocking plan task.units → slice_get task.units n ≡ Some u → w ≡ wait_bound plan task.core (Some u) → IsCounted n held rows longest
-      → cond (held == 0) 0 (rows + 1) + w ≡ rows_below (n + 1) (opening plan task.units n)
+      → cond (held == 0) 0 (rows + 1) + w ≡ rows_below (n + 1) (section_start plan task.units n)
   section_rows n held rows longest w u locking at wait h = by_held held refl
     where
-      unit_rows : rows_at plan task n ≡ cond (is_inside plan task.units n) 1 0 + w
-      unit_rows = ap (λ o. cond (is_inside plan task.units n) 1 0 + wait_bound plan task.core o) at ∙ ap (λ k. cond (is_inside plan task.units n) 1 0 + k) (sym wait)
+      unit_rows : rows_at plan task n ≡ cond (in_section plan task.units n) 1 0 + w
+      unit_rows = ap (λ o. cond (in_section plan task.units n) 1 0 + wait_bound plan task.core o) at ∙ ap (λ k. cond (in_section plan task.units n) 1 0 + k) (sym wait)
 
-      by_held : (k : ℕ) → k ≡ held → cond (k == 0) 0 (rows + 1) + w ≡ rows_below (n + 1) (opening plan task.units n)
+      by_held : (k : ℕ) → k ≡ held → cond (k == 0) 0 (rows + 1) + w ≡ rows_below (n + 1) (section_start plan task.units n)
       by_held zero e =
           let off = outside plan task.units n (subst (IsHeldAt task.units n) (sym e) h.holds) in
-          let here = opening_outside plan task.units n off in
+          let here = start_outside plan task.units n off in
           let unit : rows_at plan task n ≡ 0 + w = unit_rows ∙ ap (λ b. cond b 1 0 + w) off in
-          let own = rows_own n (opening plan task.units n) refl in
+          let own = rows_own n (section_start plan task.units n) refl in
           let none = ap (rows_below n) here ∙ rows_none n in
           omega (arith, unit, own, none)
       by_held (suc k) e =
           let on = inside plan task.units n held locking (omega (arith, e)) h.holds in
           let unit : rows_at plan task n ≡ 1 + w = unit_rows ∙ ap (λ b. cond b 1 0 + w) on in
-          let own = rows_own n (opening plan task.units n) refl in
+          let own = rows_own n (section_start plan task.units n) refl in
           let some : (suc k == 0) ≡ false = not_equal (suc k) 0 (λ z. absurd (omega (arith, z))) in
           ap (λ b. cond b 0 (rows + 1) + w) some ∙ by_place n refl on unit own
         where
-          by_place : (p : ℕ) → p ≡ n → is_inside plan task.units n ≡ true → rows_at plan task n ≡ 1 + w → rows_below (n + 1) (opening plan task.units n) ≡ rows_below n (opening plan task.units n) + rows_at plan task n
-              → (rows + 1) + w ≡ rows_below (n + 1) (opening plan task.units n)
+          by_place : (p : ℕ) → p ≡ n → in_section plan task.units n ≡ true → rows_at plan task n ≡ 1 + w → rows_below (n + 1) (section_start plan task.units n) ≡ rows_below n (section_start plan task.units n) + rows_at plan task n
+              → (rows + 1) + w ≡ rows_below (n + 1) (section_start plan task.units n)
           by_place zero z on unit own =
               let first : IsHeldAt task.units 0 held = subst (λ q. IsHeldAt task.units q held) (sym z) h.holds in
               let none = ap length (same_Some [] first.names first.after) in
               absurd (omega (arith, none, first.size, e))
           by_place (suc m) s on unit own =
               let before : n ≡ m + 1 = omega (arith, s) in
-              let same = ap (rows_below n) (opening_inside plan task.units n m before on) in
+              let next : section_start plan task.units n ≡ section_start plan task.units m = ap (section_start plan task.units) before ∙ start_inside plan task.units m (subst (λ k. in_section plan task.units k ≡ true) before on) in
+              let same = ap (rows_below n) next in
               let rest = h.current m before in
               omega (arith, unit, own, same, rest)
 
@@ -113,15 +81,15 @@ module _ (plan : PlanModel) (task : TaskModel) where
   pub counted_step : (n held rows longest w r : ℕ) (u : Op) → IsLocking plan task.units → slice_get task.units n ≡ Some u → w ≡ wait_bound plan task.core (Some u) → w ≤ 32777 → r ≡ cond (held == 0) 0 (rows + 1) + w
       → IsCounted n held rows longest → IsCounted (n + 1) (held_with_unit held u) r (max longest r)
   counted_step n held rows longest w r u locking at wait small is h =
-      let now : r ≡ rows_below (n + 1) (opening plan task.units n) = is ∙ section_rows n held rows longest w u locking at wait h in
-      let within = opening-le plan task.units n in
-      let own = rows_own n (opening plan task.units n) refl in
-      let grown = range_grows (rows_below n) (rows_below (n + 1)) (n + 1) (opening plan task.units n) (omega (arith, within)) (omega (arith, own)) (λ k ne. rows_other n k (λ e. ne (sym e))) in
+      let now : r ≡ rows_below (n + 1) (section_start plan task.units n) = is ∙ section_rows n held rows longest w u locking at wait h in
+      let within = start_within plan task.units n in
+      let own = rows_own n (section_start plan task.units n) refl in
+      let grown = range_grows (rows_below n) (rows_below (n + 1)) (n + 1) (section_start plan task.units n) (omega (arith, within)) (omega (arith, own)) (λ k ne. rows_other n k (λ e. ne (sym e))) in
       let old = range_more_zero (rows_below n) n (rows_none n) in
       record {
         holds = (held_step plan task.units n held u locking at h.holds).1;
-        current = λ m e. now ∙ ap (λ k. rows_below (n + 1) (opening plan task.units k)) (omega (arith, e));
-        most = ap (max longest) now ∙ (ap (λ k. max k (rows_below (n + 1) (opening plan task.units n))) (h.most ∙ sym old) ∙ sym grown);
+        current = λ m e. now ∙ ap (λ k. rows_below (n + 1) (section_start plan task.units k)) (omega (arith, e));
+        most = ap (max longest) now ∙ (ap (λ k. max k (rows_below (n + 1) (section_start plan task.units n))) (h.most ∙ sym old) ∙ sym grown);
         bound = let c = few (held == 0) in omega (arith, is, small, h.bound, c);
       }
     where

@@ -11,6 +11,7 @@ use Rattle.msrp_board.proofs.BrokenBoards.{no_others}
 use Rattle.msrp_board.specs.Boards.{entries_at}
 use Rattle.msrp_board.specs.Books.{on, IsChain}
 use Rattle.msrp_board.specs.History.{Event, by, calls, PollsInOrder, IsNotLater, IsServed}
+use Rattle.msrp_board.specs.Words.{ticket_word}
 use Rattle.msrp_merge.specs.Handover.{logs, books, history}
 use Rattle.msrp_merge.specs.Merging.{log_at, turns_of, AreLogs}
 use Rattle.msrp_merge.specs.Pairs.{Paired}
@@ -75,7 +76,7 @@ legal = ((λ h. h, refl), ((λ h. ⊎_elim apart (λ n. n) h, refl), ((inr (inl 
 rises : IsChain IsNotLater history
 rises = (omega arith, (omega arith, (omega arith, (omega arith, (omega arith, (omega arith, (tt, tt)))))))
 
-pub served : IsServed 2 2 0 (entries_at books) history
+pub served : IsServed (ticket_word 2 2) 0 (entries_at books) history
 served = record {
   history = record { entries = entries_are; placed = (refl, (refl, (refl, (refl, (refl, (refl, (refl, tt))))))); polls = polls_stand };
   requests = refl;

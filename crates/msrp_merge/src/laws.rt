@@ -10,6 +10,7 @@ ghost use Rattle.msrp_plan.specs.declared.rows.Row.{Row};
 ghost use Rattle.msrp_board.specs.Boards.{entries_at};
 ghost use Rattle.msrp_board.specs.Books.{IsChain};
 ghost use Rattle.msrp_board.specs.History.{Event, IsHistory, IsNotLater, IsServed};
+ghost use Rattle.msrp_board.specs.Words.{ticket_word};
 ghost use Rattle.msrp_board.specs.declared.books.Entry.{Entry};
 ghost use Rattle.msrp_merge.specs.Handover.{books, history, logs};
 ghost use Rattle.msrp_merge.specs.Merging.{AreLogs, turns_of};
@@ -61,7 +62,7 @@ pub fn logs_fit_turn_by_turn()
 /// number. Rows that hand it over a tick earlier are no rows of that history.
 pub fn handover()
     ensures logs { AreLogs handover_a_tick_later.plan logs (entries_at books) }
-    ensures history { IsServed 2 2 0 (entries_at books) history }
+    ensures history { IsServed (ticket_word 2 2) 0 (entries_at books) history }
     ensures rows { rows_of (merged (turns_of logs) 2 6) ≡ handover_a_tick_later.rows }
     ensures paired { Paired IsRowOfEvent (filter (is_row_on 0) handover_a_tick_later.rows) history }
     ensures earlier { ¬ Paired IsRowOfEvent (filter (is_row_on 0) handover_within_a_tick.rows) history }

@@ -4,7 +4,7 @@ use Rattle.std.specs.List.{AllByRecursion, Contains}
 use Rattle.msrp_plan.specs.Plan.{PlanModel, task_of, core_of, units, release}
 use Rattle.msrp_plan.specs.Jobs.{jobs, jobs_on, is_row_of, is_released, is_started, is_finished, is_queued, done}
 use Rattle.msrp_plan.specs.Choice.{is_before, least, running}
-use Rattle.msrp_plan.specs.Bounds.{is_inside, opening, out, blocked_bound}
+use Rattle.msrp_plan.specs.Bounds.{in_section, section_start, out, blocked_bound}
 use Rattle.msrp_plan.specs.Runs.{EachAfter}
 use Rattle.msrp_plan.specs.declared.ids.JobId.{JobId}
 use Rattle.msrp_plan.specs.declared.rows.Row.{Row}
@@ -40,11 +40,11 @@ is_by (Some k) r = is_row_of k r
 -- ---- sections
 -- the job stands in an outermost section, after the section's first row: it holds a resource, or is queued for one
 abbrev pub is_amid : PlanModel → List Row → JobId → Bool
-is_amid plan pre k = is_queued pre k || is_inside plan (units plan k) (done k pre)
+is_amid plan pre k = is_queued pre k || in_section plan (units plan k) (done k pre)
 
 -- the unit that begins the section
 abbrev pub section_of : PlanModel → List Row → JobId → ℕ
-section_of plan pre k = opening plan (units plan k) (done k pre)
+section_of plan pre k = section_start plan (units plan k) (done k pre)
 
 -- the row is one of job k in its outermost section that unit a begins, after the section's first row
 abbrev pub continues : PlanModel → JobId → ℕ → List Row → Row → Bool
@@ -94,16 +94,24 @@ BoundedSections plan rows = (k : JobId) (a : ℕ) → count_after (continues pla
 abbrev pub BoundedBlocking : PlanModel → List Row → Type 0
 BoundedBlocking plan rows = (j : JobId) → Contains (jobs plan) j → blocked plan rows j ≤ blocked_bound plan (task_of plan j)
 
--- the rows of the job's core stand before the job's release, or from it on
+-- the row, if it is one of the job's core, stands before the job's release, or from it on
 abbrev pub ComesBefore : PlanModel → JobId → Row → Type 0
 ComesBefore plan j r = r.core.0 ≡ core_of plan j → r.tick < release plan j
 
 abbrev pub ComesAfter : PlanModel → JobId → Row → Type 0
 ComesAfter plan j r = r.core.0 ≡ core_of plan j → release plan j ≤ r.tick
 
+-- of the rows of the job's core all before its release are among the first ones, and all from it on among the rest
+pub record IsSplitAtRelease (plan : PlanModel) (j : JobId) (pre rest : List Row) : Type 0 where
+  pub early : AllByRecursion (ComesBefore plan j) pre
+  pub late : AllByRecursion (ComesAfter plan j) rest
+
+-- the row is of job k, if there is one, and comes before j starts
+abbrev pub delays_start : JobId → Option JobId → List Row → Row → Bool
+delays_start j k before r = not (is_started before j) && is_by k r
+
 -- who blocks a job is known at its release: the first of the later jobs that are started and unfinished then, and each
 -- row that this job makes before the blocked job starts counts
 abbrev pub BlockedSinceRelease : PlanModel → List Row → Type 0
 BlockedSinceRelease plan rows =
-    (j : JobId) (pre rest : List Row) → rows ≡ pre ++ rest → Contains (jobs plan) j → AllByRecursion (ComesBefore plan j) pre → AllByRecursion (ComesAfter plan j) rest
-    → blocked plan rows j ≡ count_after (λ before r. not (is_started before j) && is_by (first_later plan pre j) r) pre rest
+    (j : JobId) (pre rest : List Row) → rows ≡ pre ++ rest → Contains (jobs plan) j → IsSplitAtRelease plan j pre rest → blocked plan rows j ≡ count_after (delays_start j (first_later plan pre j)) pre rest

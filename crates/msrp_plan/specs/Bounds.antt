@@ -1,5 +1,5 @@
 -- Bounds that a plan gives: how long sections are, how often a job spins, and how long it is blocked.
-use Rattle.std.specs.Prelude.{ℕ, List, [], ◌∷◌, Bool, ◌==◌, ◌&&◌, not, nat_lt, if◌then◌else◌, filter, map, max, length, take, slice_get, Option, Some, ◌+◌}
+use Rattle.std.specs.Prelude.{ℕ, List, [], ◌∷◌, Bool, ◌==◌, ◌&&◌, not, nat_lt, if◌then◌else◌, filter, map, max, count_by, length, take, slice_get, Option, Some, ◌+◌}
 use Rattle.std.specs.List.{list_any, range_with_len, sum_by}
 use Rattle.msrp_plan.specs.Plan.{PlanModel, TaskModel}
 use Rattle.msrp_plan.specs.Units.{is_lock_of, is_unlock_of, holds_after}
@@ -35,12 +35,16 @@ spin_bound plan g c = sum_by (λ d. 1 + section plan g d) (filter (λ d. not (d 
 
 -- ---- blocking
 -- a resource is held after the first n units: unit n stands in an outermost section, after the lock that begins it
-abbrev pub is_inside : PlanModel → List Op → ℕ → Bool
-is_inside plan us n = list_any (holds_after (take n us)) (resources plan)
+abbrev pub in_section : PlanModel → List Op → ℕ → Bool
+in_section plan us n = list_any (holds_after (take n us)) (resources plan)
 
 -- the unit that begins the outermost section of unit n: the last one up to n before which nothing is held
-abbrev pub opening : PlanModel → List Op → ℕ → ℕ
-opening plan us n = greatest (filter (λ i. not (is_inside plan us i)) (range_with_len 0 (n + 1)))
+abbrev pub section_start : PlanModel → List Op → ℕ → ℕ
+section_start plan us n = greatest (filter (λ i. not (in_section plan us i)) (range_with_len 0 (n + 1)))
+
+-- the units of the outermost section that unit a begins, in order
+abbrev pub units_of_section : PlanModel → List Op → ℕ → List ℕ
+units_of_section plan us a = filter (λ n. section_start plan us n == a) (range_with_len 0 (length us))
 
 -- how many rows a job waits at a unit, at most: at a request of a global resource one to join the queue, and as many
 -- as it may spin
@@ -48,15 +52,14 @@ abbrev pub wait_bound : PlanModel → ℕ → Option Op → ℕ
 wait_bound plan c (Some (Lock g)) = if is_global plan g.0 then 1 + spin_bound plan g.0 c else 0
 wait_bound plan c _ = 0
 
--- how many rows unit n adds to its outermost section, at most: its waits, and one where it stands after the lock
-abbrev pub rows_at : PlanModel → TaskModel → ℕ → ℕ
-rows_at plan task n = (if is_inside plan task.units n then 1 else 0) + wait_bound plan task.core (slice_get task.units n)
-
--- how many rows the outermost section that unit a begins has after its first, at most; 0 where the unit begins none
+-- how many rows the outermost section that unit a begins has after its first, at most: its units after the lock, and its
+-- waits; 0 where the unit begins none
 abbrev pub rows_from : PlanModel → TaskModel → ℕ → ℕ
-rows_from plan task a = sum_by (rows_at plan task) (filter (λ n. opening plan task.units n == a) (range_with_len 0 (length task.units)))
+rows_from plan task a =
+    let ns = units_of_section plan task.units a in
+    count_by (in_section plan task.units) ns + sum_by (λ n. wait_bound plan task.core (slice_get task.units n)) ns
 
--- the same of the longest outermost section of a task; 0 where it has none
+-- how many rows the longest outermost section of a task has after its first, at most; 0 where the task has none
 abbrev pub out : PlanModel → TaskModel → ℕ
 out plan task = greatest (map (rows_from plan task) (range_with_len 0 (length task.units)))
 

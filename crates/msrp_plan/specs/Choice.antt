@@ -1,6 +1,6 @@
 -- Which job has the turn: earliest deadline first under the Stack Resource Policy (Baker 1991, SRP:
 -- a job starts only where its preemption level is above the current ceiling; once started it never blocks).
-use Rattle.std.specs.Prelude.{ℕ, List, [], ◌∷◌, Bool, ◌&&◌, not, nat_lt, Option, Some, None, if◌then◌else◌, filter}
+use Rattle.std.specs.Prelude.{ℕ, List, [], ◌∷◌, Bool, true, ◌&&◌, not, nat_lt, Option, Some, None, if◌then◌else◌, filter}
 use Rattle.std.specs.List.{best_of}
 use Rattle.std.specs.Ordering.{is_lt, ordering_then, nat_cmp}
 use Rattle.std.specs.declared.cmp.Ordering.{Ordering}
@@ -39,6 +39,11 @@ head plan c t pre = first_ready plan c t (is_started pre)
 -- the least job of the core that is, after these rows, started and unfinished
 abbrev pub running : PlanModel → ℕ → List Row → Option JobId
 running plan c pre = first_unfinished plan c (is_started pre) (is_finished plan pre)
+
+-- the job comes before another, if there is one
+abbrev pub comes_first : PlanModel → JobId → Option JobId → Bool
+comes_first plan h None = true
+comes_first plan h (Some s) = is_before plan h s
 
 -- the head where its level is above the ceiling and it comes before who runs; else who runs
 abbrev pub chosen : PlanModel → ℕ → Option JobId → Option JobId → Option JobId

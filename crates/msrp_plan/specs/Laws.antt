@@ -67,11 +67,14 @@ pub record IsWait (r : Row) (since : List Row) (j : JobId) (g : ℕ) : Type 0 wh
   pub joins : r.kind ≡ Queue
   pub waits : list_any (is_grant_of j g) since ≡ false
 
+-- this holds of each wait of the rows: of the row that begins it, the rows since, the job and the resource
+abbrev pub EachWait : List Row → (Row → List Row → JobId → ℕ → Type 0) → Type 0
+EachWait rows P = (pre : List Row) (r : Row) (since post : List Row) (j : JobId) (g : ℕ) → rows ≡ pre ++ r ∷ (since ++ post) → IsWait r since j g → P r since j g
+
 -- while a job waits for a global resource, others come to hold it at most m - 1 times, on m cores (Gai,
 -- Lipari and Di Natale 2001: requests are granted in their order, and of each core one at most stands)
 abbrev pub BoundedOvertaking : PlanModel → List Row → Type 0
-BoundedOvertaking plan rows =
-    (pre : List Row) (r : Row) (since post : List Row) (j : JobId) (g : ℕ) → rows ≡ pre ++ r ∷ (since ++ post) → IsWait r since j g → count_by (is_admission g) since ≤ plan.cores - 1
+BoundedOvertaking plan rows = EachWait rows (λ r since j g. count_by (is_admission g) since ≤ plan.cores - 1)
 
 -- ---- short queues
 -- the row, if it joins the queue of a resource, finds there at most one request for each other core
@@ -86,8 +89,7 @@ ShortQueues plan rows = EachAfter (FindsShort plan) [] rows
 -- in one wait for a global resource a job spins no more often than the bound of its core: all spins of the job
 -- count, since it spins on nothing else then
 abbrev pub BoundedSpinning : PlanModel → List Row → Type 0
-BoundedSpinning plan rows =
-    (pre : List Row) (r : Row) (since post : List Row) (j : JobId) (g : ℕ) → rows ≡ pre ++ r ∷ (since ++ post) → IsWait r since j g → count_by (is_spin_of j) since ≤ spin_bound plan g r.core.0
+BoundedSpinning plan rows = EachWait rows (λ r since j g. count_by (is_spin_of j) since ≤ spin_bound plan g r.core.0)
 
 -- ---- all of them
 -- a legal run of a well-formed plan, and what the laws say of it

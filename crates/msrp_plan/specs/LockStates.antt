@@ -1,10 +1,12 @@
 -- A global resource as rows leave it, in the words of the one-thread lock: so the two statements of first-in-first-out
 -- can be compared, the queue of jobs that replies to rows, and the lock that answers calls of cores.
-use Rattle.std.specs.Prelude.{ℕ, List, [], ◌∷◌, Bool, false, Some, IfSome, map, length, fold, ◌≡◌, ⊤}
+use Rattle.std.specs.Prelude.{ℕ, List, [], ◌∷◌, ◌++◌, Bool, true, false, Some, IfSome, map, length, fold, ◌≡◌, ⊤}
 use Rattle.msrp_plan.specs.Plan.{PlanModel, core_of}
 use Rattle.msrp_plan.specs.Jobs.{holds}
 use Rattle.msrp_plan.specs.Queues.{fifo}
-use Rattle.msrp_plan.specs.FifoLock.{FifoLock, lock_after}
+use Rattle.msrp_plan.specs.Runs.{IsRunStart, IsCoreTurn, is_fifo_reply}
+use Rattle.msrp_plan.specs.Logs.{log_of}
+use Rattle.msrp_plan.specs.FifoLock.{FifoLock, Answers, lock_after}
 use Rattle.msrp_plan.specs.Calls.{kind_of_call, ahead_of_call}
 use Rattle.msrp_plan.specs.declared.ids.JobId.{JobId}
 use Rattle.msrp_plan.specs.declared.units.Call.{Call}
@@ -36,3 +38,10 @@ abbrev pub Tells : List JobId → Call → Type 0
 Tells queue (Ask ahead) = ahead ≡ length queue
 Tells queue (Poll granted) = ⊤
 Tells queue Leave = ⊤
+
+-- queue and lock agree on a row that such a call makes: as the next turn of its core it has the queue's reply where the lock
+-- answers the call, and the other way round in a legal run; after the row the lock is as after the call
+pub record Agree (plan : PlanModel) (pre : List Row) (r : Row) (g : ℕ) (call : Call) : Type 0 where
+  pub replies : IsRunStart plan pre → IsCoreTurn plan r.core.0 (log_of r.core.0 pre) r → Answers (lock_at plan g pre) r.core.0 call → is_fifo_reply pre r ≡ true
+  pub answers : IsRunStart plan (pre ++ r ∷ []) → Tells (fifo g pre) call → Answers (lock_at plan g pre) r.core.0 call
+  pub next : IsRunStart plan (pre ++ r ∷ []) → Answers (lock_at plan g pre) r.core.0 call → lock_at plan g (pre ++ r ∷ []) ≡ lock_after (lock_at plan g pre) r.core.0 call

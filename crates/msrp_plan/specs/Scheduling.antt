@@ -42,6 +42,11 @@ pub record IsReady (plan : PlanModel) (pre : List Row) (r : Row) (j : JobId) : T
   pub released : release plan j ≤ r.tick
   pub unstarted : is_started pre j ≡ false
 
+-- the head: of the jobs that are ready the first
+pub record IsHead (plan : PlanModel) (pre : List Row) (r : Row) (h : JobId) : Type 0 where
+  pub ready : IsReady plan pre r h
+  pub first : (j : JobId) → IsReady plan pre r j → is_before plan j h ≡ false
+
 -- a job of the row's core that is started and unfinished
 pub record IsOpen (plan : PlanModel) (pre : List Row) (r : Row) (j : JobId) : Type 0 where
   pub on : Contains (jobs_on plan r.core.0) j
@@ -55,11 +60,10 @@ pub record MayStart (plan : PlanModel) (pre : List Row) (r : Row) (x : JobId) : 
   pub preempts : (j : JobId) → IsOpen plan pre r j → is_before plan x j ≡ true
   pub above : ceiling plan r.core.0 pre < level plan x.task.0
 
--- job x may go on: no job that is open comes before it, and of the jobs that are ready the first, if it comes before x,
--- isn't above the core's ceiling
+-- job x may go on: no job that is open comes before it, and the head, if it comes before x, isn't above the core's ceiling
 pub record MayGoOn (plan : PlanModel) (pre : List Row) (r : Row) (x : JobId) : Type 0 where
   pub first : (j : JobId) → IsOpen plan pre r j → is_before plan j x ≡ false
-  pub blocked : (h : JobId) → IsReady plan pre r h → ((j : JobId) → IsReady plan pre r j → is_before plan j h ≡ false) → is_before plan h x ≡ true → level plan h.task.0 ≤ ceiling plan r.core.0 pre
+  pub blocked : (h : JobId) → IsHead plan pre r h → is_before plan h x ≡ true → level plan h.task.0 ≤ ceiling plan r.core.0 pre
 
 -- the row's job, if it has one, starts and may start, or goes on and may go on
 abbrev pub IsOfFirst : PlanModel → List Row → Row → Type 0

@@ -8,13 +8,13 @@ ghost use Rattle.msrp_plan.specs.Plan.{PlanModel};
 ghost use Rattle.msrp_plan.specs.Choice.{choice};
 ghost use Rattle.msrp_plan.specs.Levels.{is_global};
 ghost use Rattle.msrp_plan.specs.Queues.{fifo, is_on};
-ghost use Rattle.msrp_plan.specs.Runs.{CoreRun, IsCoreTurn, IsLegal, IsRun, IsRunStart, is_of_core, is_next_action, is_fifo_reply};
+ghost use Rattle.msrp_plan.specs.Runs.{CoreRun, IsLegal, IsRun, IsRunStart, is_of_core, is_next_action, is_fifo_reply};
 ghost use Rattle.msrp_plan.specs.Logs.{log_of, rows_on, AreApart};
 ghost use Rattle.msrp_plan.specs.Verdict.{verdict, fault_in, broken};
 ghost use Rattle.msrp_plan.specs.Faults.{IsBroken, IsFault, IsOneTooMany};
 ghost use Rattle.msrp_plan.specs.Calls.{IsInTurn, claim_with, kind_of_call};
-ghost use Rattle.msrp_plan.specs.FifoLock.{Answers, free_lock, lock_after};
-ghost use Rattle.msrp_plan.specs.LockStates.{IsRowOfCall, Tells, lock_at};
+ghost use Rattle.msrp_plan.specs.FifoLock.{free_lock};
+ghost use Rattle.msrp_plan.specs.LockStates.{Agree, IsRowOfCall, lock_at};
 ghost use Rattle.msrp_plan.specs.Phases.{phase_with};
 ghost use Rattle.msrp_plan.specs.WellFormed.{IsPlan};
 ghost use Rattle.msrp_plan.specs.declared.faults.Fault.{Fault};
@@ -78,9 +78,7 @@ pub fn commutation()
 /// legal for the lock makes legal replies.
 pub fn queues_are_locks()
     ensures start { (plan : PlanModel) (g : ℕ) → lock_at plan g [] ≡ free_lock }
-    ensures replies { (plan : PlanModel) (pre : List Row) (r : Row) (g : ℕ) (call : Call) → IsPlan plan → IsRunStart plan pre → is_global plan g ≡ true → IsCoreTurn plan r.core.0 (log_of r.core.0 pre) r → IsRowOfCall g r.core.0 call r → Answers (lock_at plan g pre) r.core.0 call → is_fifo_reply pre r ≡ true }
-    ensures answers { (plan : PlanModel) (pre : List Row) (r : Row) (g : ℕ) (call : Call) → IsPlan plan → IsRunStart plan (pre ++ r ∷ []) → is_global plan g ≡ true → IsRowOfCall g r.core.0 call r → Tells (fifo g pre) call → Answers (lock_at plan g pre) r.core.0 call }
-    ensures next { (plan : PlanModel) (pre : List Row) (r : Row) (g : ℕ) (call : Call) → IsPlan plan → IsRunStart plan (pre ++ r ∷ []) → is_global plan g ≡ true → IsRowOfCall g r.core.0 call r → Answers (lock_at plan g pre) r.core.0 call → lock_at plan g (pre ++ r ∷ []) ≡ lock_after (lock_at plan g pre) r.core.0 call }
+    ensures calls { (plan : PlanModel) (pre : List Row) (r : Row) (g : ℕ) (call : Call) → IsPlan plan → is_global plan g ≡ true → IsRowOfCall g r.core.0 call r → Agree plan pre r g call }
     ensures others { (plan : PlanModel) (pre : List Row) (r : Row) (g : ℕ) → IsPlan plan → IsRunStart plan (pre ++ r ∷ []) → is_global plan g ≡ true → is_on g r.res ≡ false → lock_at plan g (pre ++ r ∷ []) ≡ lock_at plan g pre }
 {}
 

@@ -5,14 +5,14 @@ use Rattle.std.proofs.Math.Bool.{true≢false}
 use Rattle.std.proofs.lemmas.Bool.{and_from, and_parts, true_from_ne_false, cases_Bool, eqb-false}
 use Rattle.msrp_plan.specs.Plan.{PlanModel, core_of, task_at, task_of}
 use Rattle.msrp_plan.specs.Jobs.{jobs, jobs_of, jobs_on, job_at, is_job, is_started, is_finished}
-use Rattle.msrp_plan.specs.Choice.{is_before}
+use Rattle.msrp_plan.specs.Choice.{is_before, comes_first}
 use Rattle.msrp_plan.specs.Blocking.{first_later}
 use Rattle.msrp_plan.specs.Runs.{EachAfter, IsLegal}
 use Rattle.msrp_plan.specs.WellFormed.{IsPlan}
 use Rattle.msrp_plan.specs.declared.ids.JobId.{JobId}
 use Rattle.msrp_plan.specs.declared.rows.Row.{Row}
 use Rattle.msrp_plan.proofs.Blocking.Heads.{job_on}
-use Rattle.msrp_plan.proofs.Jobs.CoreJobs.{on_its_core}
+use Rattle.msrp_plan.proofs.Jobs.CoreJobs.{on_its_core, known_task}
 use Rattle.msrp_plan.proofs.Lists.Members.{kept_by}
 use Rattle.msrp_plan.proofs.Blocking.Sound.{before_due, head_ready, sound_at}
 use Rattle.msrp_plan.proofs.Choosing.Live.{live}
@@ -21,12 +21,10 @@ use Rattle.msrp_plan.proofs.Jobs.JobTests.{is_job_is, same_self, some_is}
 use Rattle.msrp_plan.proofs.Jobs.Keys.{before_order, tied}
 use Rattle.msrp_plan.proofs.Legality.LegalRows.{legal_turn, turn_chosen}
 use Rattle.msrp_plan.proofs.Lists.LeastKept.{irrefl, least_in, least_of_those, least_passes, least_some}
-use Rattle.msrp_core.specs.CoreJobs.{is_first}
 use Rattle.msrp_report.specs.Inside.Tallies.{AreTallies, IsFirstOf, IsKnown, NotBefore, is_going, is_later_going}
 use Rattle.msrp_report.specs.declared.tallies.TaskTally.{TaskTally}
 use Rattle.msrp_report.proofs.JobTallies.{in_task, job_known, number_within, of_task}
 use Rattle.msrp_levels.proofs.PlanJobs.{job_in}
-use Rattle.msrp_core.proofs.Running.{known_task}
 
 -- ---- one job of a task is going at most
 -- a live job of the task of whoever has the turn is that job, where it is the one that goes
@@ -59,13 +57,13 @@ first_kept plan rows j n o old here = record { known = old.known; least = λ i l
     by_test i l there p (inr e) = let ne = eqb-false i.task.0 n e in old.least i (omega (arith, l, ne)) there p
 
 -- one task more, whose job is the first
-pub first_new : (plan : PlanModel) (rows : List Row) (j k : JobId) (n : ℕ) (o : Option JobId) → IsFirstOf plan rows j n o → Contains (jobs_on plan (core_of plan j)) k → is_later_going plan rows j k ≡ true → ((i : JobId) → i.task.0 ≡ n → Contains (jobs_on plan (core_of plan j)) i → is_later_going plan rows j i ≡ true → i ≡ k) → is_first plan k o ≡ true → IsFirstOf plan rows j (n + 1) (Some k)
+pub first_new : (plan : PlanModel) (rows : List Row) (j k : JobId) (n : ℕ) (o : Option JobId) → IsFirstOf plan rows j n o → Contains (jobs_on plan (core_of plan j)) k → is_later_going plan rows j k ≡ true → ((i : JobId) → i.task.0 ≡ n → Contains (jobs_on plan (core_of plan j)) i → is_later_going plan rows j i ≡ true → i ≡ k) → comes_first plan k o ≡ true → IsFirstOf plan rows j (n + 1) (Some k)
 first_new plan rows j k n o old there p one before = record {
   known = λ f e. let s : k ≡ f = some_is k f e in subst (λ x. Contains (jobs_on plan (core_of plan j)) x × (is_later_going plan rows j x ≡ true)) s (there, p);
   least = λ i l ini pi. by_test i l ini pi (cases_Bool (i.task.0 == n));
 }
   where
-    above : (i : JobId) (q : Option JobId) → NotBefore plan i q → is_first plan k q ≡ true → is_before plan i k ≡ false
+    above : (i : JobId) (q : Option JobId) → NotBefore plan i q → comes_first plan k q ≡ true → is_before plan i k ≡ false
     above i None h e = absurd h
     above i (Some f) h e = (before_order plan).chain i f k h ((before_order plan).one_way k f e)
 
@@ -114,17 +112,17 @@ step_early plan rows begun tasks x j k n o ok are has goes early old = first_kep
     let same = some_is k i (sym goes ∙ one_going plan rows begun tasks x n i ok are has at (on_plan plan (core_of plan j) i there) both.0) in
     absurd (true≢false (sym both.1 ∙ subst (λ y. is_before plan j y ≡ false) same early)))
 
-pub step_later : (plan : PlanModel) (rows : List Row) (begun : ℕ → ℕ) (tasks : List TaskTally) (x : TaskTally) (j k : JobId) (n : ℕ) (o : Option JobId) → IsPlan plan → AreTallies plan rows begun tasks → slice_get tasks n ≡ Some x → x.going ≡ Some k → is_first plan k o ≡ false → IsFirstOf plan rows j n o → IsFirstOf plan rows j (n + 1) o
+pub step_later : (plan : PlanModel) (rows : List Row) (begun : ℕ → ℕ) (tasks : List TaskTally) (x : TaskTally) (j k : JobId) (n : ℕ) (o : Option JobId) → IsPlan plan → AreTallies plan rows begun tasks → slice_get tasks n ≡ Some x → x.going ≡ Some k → comes_first plan k o ≡ false → IsFirstOf plan rows j n o → IsFirstOf plan rows j (n + 1) o
 step_later plan rows begun tasks x j k n o ok are has goes behind old = first_kept plan rows j n o old (λ i at there p.
     let both = and_parts (is_going plan rows i) (is_before plan j i) p in
     let same = some_is k i (sym goes ∙ one_going plan rows begun tasks x n i ok are has at (on_plan plan (core_of plan j) i there) both.0) in
     subst (λ y. NotBefore plan y o) same (by_first o behind))
   where
-    by_first : (q : Option JobId) → is_first plan k q ≡ false → NotBefore plan k q
+    by_first : (q : Option JobId) → comes_first plan k q ≡ false → NotBefore plan k q
     by_first None e = absurd (true≢false e)
     by_first (Some f) e = e
 
-pub step_new : (plan : PlanModel) (rows : List Row) (begun : ℕ → ℕ) (tasks : List TaskTally) (x : TaskTally) (j k : JobId) (n : ℕ) (o : Option JobId) → IsPlan plan → AreTallies plan rows begun tasks → slice_get tasks n ≡ Some x → n < length plan.tasks → x.going ≡ Some k → (task_at plan n).core ≡ core_of plan j → is_before plan j k ≡ true → is_first plan k o ≡ true
+pub step_new : (plan : PlanModel) (rows : List Row) (begun : ℕ → ℕ) (tasks : List TaskTally) (x : TaskTally) (j k : JobId) (n : ℕ) (o : Option JobId) → IsPlan plan → AreTallies plan rows begun tasks → slice_get tasks n ≡ Some x → n < length plan.tasks → x.going ≡ Some k → (task_at plan n).core ≡ core_of plan j → is_before plan j k ≡ true → comes_first plan k o ≡ true
     → IsFirstOf plan rows j n o → IsFirstOf plan rows j (n + 1) (Some k)
 step_new plan rows begun tasks x j k n o ok are has task goes core later before old =
     let is = are.each n x has in

@@ -19,7 +19,7 @@ use Rattle.msrp_plan.proofs.Jobs.JobLists.{jobs_of_are}
 use Rattle.msrp_plan.proofs.Lists.AnyAll.{all_weaker, all_flat}
 use Rattle.msrp_plan.proofs.Lists.LeastKept.{least_in}
 use Rattle.msrp_plan.proofs.Lists.Members.{kept_by}
-use Rattle.msrp_core.proofs.Running.{known_released, known_task}
+use Rattle.msrp_plan.proofs.Jobs.CoreJobs.{known_released, known_task}
 use Rattle.msrp_report.specs.Inside.Counts.{count_of, HasRoom}
 use Rattle.msrp_report.specs.Lines.{last_tick}
 use Rattle.msrp_report.specs.declared.counts.JobCount.{JobCount}

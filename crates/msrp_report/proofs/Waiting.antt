@@ -60,7 +60,7 @@ waiting_rows j o pre (r ∷ rest) e =
 
 pub since_blocked : (plan : PlanModel) (rows : List Row) (j : JobId) (o : Option JobId) → IsPlan plan → IsRunStart plan rows → Contains (jobs plan) j → is_started rows j ≡ false → (s : IsSinceRelease plan rows j o) → blocked plan rows j ≡ count_by (is_by o) s.since
 since_blocked plan rows j o ok start there fresh s =
-    blocked_since_release plan rows ok start j s.before s.since s.whole there s.early s.late
+    blocked_since_release plan rows ok start j s.before s.since s.whole there (record { early = s.early; late = s.late })
     ∙ (ap (λ p. count_after (λ before r. not (is_started before j) && is_by p r) s.before s.since) s.first
     ∙ waiting_rows j o s.before s.since (ap (λ l. is_started l j) (sym s.whole) ∙ fresh))
 

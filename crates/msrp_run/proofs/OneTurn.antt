@@ -36,8 +36,7 @@ use Rattle.msrp_board.proofs.CoreSeats.{core_is_one, core_changed}
 use Rattle.msrp_board.proofs.SeatPortLemmas.{port_adds}
 use Rattle.msrp_board.proofs.Told.{res_calls_last}
 use Rattle.msrp_core.specs.Machine.{MachineModel, StandsAfter}
-use Rattle.msrp_core.specs.Ports.{PortModel, claim_in}
-use Rattle.msrp_core.specs.CoreJobs.{MakesCall, IsQuiet}
+use Rattle.msrp_core.specs.Ports.{PortModel, claim_in, MakesCall, IsQuiet}
 use Rattle.msrp_core.specs.declared.port.PortCall.{PortCall}
 use Rattle.msrp_merge.specs.declared.logs.Place.{Place}
 use Rattle.msrp_merge.specs.declared.logs.Turn.{Turn}

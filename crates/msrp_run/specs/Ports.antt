@@ -10,8 +10,7 @@ use Rattle.msrp_board.specs.History.{is_poll}
 use Rattle.msrp_board.specs.Seats.{BoardModel, SeatModel}
 use Rattle.msrp_board.specs.SeatPorts.{IsPort, port_calls, port_room}
 use Rattle.msrp_board.specs.Steps.{with_entry}
-use Rattle.msrp_core.specs.CoreJobs.{IsQuiet, MakesCall}
-use Rattle.msrp_core.specs.Ports.{PortModel}
+use Rattle.msrp_core.specs.Ports.{PortModel, IsQuiet, MakesCall}
 use Rattle.msrp_core.specs.declared.port.PortCall.{PortCall}
 use Rattle.msrp_merge.specs.declared.logs.Place.{Place}
 

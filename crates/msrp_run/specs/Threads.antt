@@ -9,7 +9,7 @@ use Rattle.msrp_board.specs.declared.books.Book.{Book}
 use Rattle.msrp_board.specs.declared.books.Conductor.{Conductor}
 use Rattle.msrp_board.specs.declared.books.Conductor.TheVariants.{Unopened, Opened, Aborted}
 use Rattle.msrp_board.specs.declared.books.Entry.{Entry}
-use Rattle.msrp_board.specs.Boards.{WholeBoard, high, low, entries_at}
+use Rattle.msrp_board.specs.Boards.{WholeBoard, entries_at}
 use Rattle.msrp_board.specs.Books.{phase_in}
 use Rattle.msrp_board.specs.History.{Event, IsServed}
 use Rattle.msrp_board.specs.Seats.{BoardModel, SeatModel, book_at, empty_book}
@@ -93,7 +93,7 @@ pub record IsCalledOff (logs : List LogModel) (board : WholeBoard) : Type 0 wher
 -- the rows' steps on resource g are, in their order, its one history on the board: what its ticket word counts, answered as
 -- a first-in-first-out lock answers
 abbrev pub IsServedAs : WholeBoard → ℕ → List Row → Type 0
-IsServedAs board g rows = (h : List Event) × IsServed (high (slice_index board.tickets g)) (low (slice_index board.tickets g)) g (entries_at board.books) h × Paired IsRowOfEvent (filter (is_row_on g) rows) h
+IsServedAs board g rows = (h : List Event) × IsServed (slice_index board.tickets g) g (entries_at board.books) h × Paired IsRowOfEvent (filter (is_row_on g) rows) h
 
 -- the rows are the turns of the cores' logs, whose places are those in the books: they stand by tick, and the turns of a tick by
 -- rank, those without a place first, by core, then the others by resource and place

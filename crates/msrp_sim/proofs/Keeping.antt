@@ -14,7 +14,7 @@ use Rattle.msrp_plan.specs.declared.ids.ResId.{ResId}
 use Rattle.msrp_plan.specs.declared.rows.Row.{Row}
 use Rattle.msrp_plan.specs.WellFormed.{IsPlan}
 use Rattle.msrp_plan.proofs.Levels.GlobalUse.{undeclared_local}
-use Rattle.msrp_core.specs.CoreJobs.{IsQuiet}
+use Rattle.msrp_core.specs.Ports.{IsQuiet}
 use Rattle.msrp_core.specs.Machine.{MachineModel}
 use Rattle.msrp_core.specs.declared.port.PortCall.{PortCall}
 use Rattle.msrp_sim.specs.Cores.{CoresModel, IsMachineOf, AreCores, TakesTurn}

@@ -24,7 +24,7 @@ use Rattle.msrp_plan.proofs.Jobs.States.{state_push}
 use Rattle.msrp_plan.proofs.Runs.RoundRobin.{log_own, log_other}
 use Rattle.msrp_plan.proofs.Queues.QueueLocks.{agree_at, lock_off, tells_from_answers}
 use Rattle.msrp_plan.proofs.Runs.Verdicts.{start_push}
-use Rattle.msrp_core.specs.CoreJobs.{IsQuiet}
+use Rattle.msrp_core.specs.Ports.{IsQuiet}
 use Rattle.msrp_core.specs.Machine.{MachineModel, StandsAfter}
 use Rattle.msrp_core.specs.declared.port.PortCall.{PortCall}
 use Rattle.msrp_sim.specs.Cores.{CoresModel, AreCores, StandFor, IsDueAfter, IsAs, TakesTurn, locks_at, phases_at}

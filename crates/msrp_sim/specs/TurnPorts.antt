@@ -11,9 +11,8 @@ use Rattle.msrp_plan.specs.declared.units.Call.{Call}
 use Rattle.msrp_plan.specs.declared.units.Call.TheVariants.{Ask}
 use Rattle.msrp_plan.specs.declared.units.Phase.{Phase}
 use Rattle.msrp_plan.specs.declared.units.Phase.TheVariants.{Free, Queued, Holding}
-use Rattle.msrp_core.specs.CoreJobs.{IsQuiet}
 use Rattle.msrp_core.specs.Machine.{MachineModel, RepeatsOnly, StandsAfter}
-use Rattle.msrp_core.specs.Ports.{PortModel, claim_in}
+use Rattle.msrp_core.specs.Ports.{PortModel, claim_in, IsQuiet}
 use Rattle.msrp_core.specs.declared.port.PortCall.{PortCall}
 use Rattle.msrp_sim.specs.Serving.{IsTold}
 use Rattle.msrp_sim.specs.declared.tickets.Queues.{Queues}

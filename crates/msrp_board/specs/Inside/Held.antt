@@ -25,7 +25,8 @@ use Rattle.msrp_board.specs.declared.held.Claim.{Claim}
 use Rattle.msrp_board.specs.declared.held.Claim.TheVariants.{Nothing, Waits, Holds}
 use Rattle.msrp_board.specs.Books.{IsSize, lock_of, has_acted}
 use Rattle.msrp_board.specs.Seats.{BoardModel, SeatModel}
-use Rattle.msrp_board.specs.Boards.{WholeBoard, IsTied, high, low}
+use Rattle.msrp_board.specs.Boards.{WholeBoard, IsTied}
+use Rattle.msrp_board.specs.Words.{high, low}
 use Rattle.msrp_board.specs.Inside.Newest.{claim_of}
 use Rattle.msrp_board.specs.Inside.Rule.{HasPage, HasOnly, IsKeptNewest, IsTiedNewest, page_has_acted}
 

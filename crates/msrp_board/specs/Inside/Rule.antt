@@ -15,7 +15,8 @@ use Rattle.msrp_board.specs.declared.held.Claim.{Claim}
 use Rattle.msrp_board.specs.declared.pages.Page.{Page}
 use Rattle.msrp_board.specs.declared.pages.View.{View}
 use Rattle.msrp_board.specs.declared.words.TicketWord.{TicketWord}
-use Rattle.msrp_board.specs.Boards.{high, low, opening_count, abort_count, half_word}
+use Rattle.msrp_board.specs.Boards.{opening_count, abort_count}
+use Rattle.msrp_board.specs.Words.{high, low, half_word}
 use Rattle.msrp_board.specs.Steps.{only_at, none_at, either, together}
 use Rattle.msrp_board.specs.Books.{IsSize, on, reach_of, AreBefore, IsBefore, IsChain}
 use Rattle.msrp_board.specs.History.{Event, by}

@@ -8,7 +8,7 @@ use Rattle.msrp_plan.specs.Plan.{PlanModel, units, release}
 use Rattle.msrp_plan.specs.Jobs.{jobs_on, is_row_of, is_started, is_queued, done}
 use Rattle.msrp_plan.specs.Levels.{level}
 use Rattle.msrp_plan.specs.Choice.{is_before}
-use Rattle.msrp_plan.specs.Bounds.{is_inside}
+use Rattle.msrp_plan.specs.Bounds.{in_section}
 use Rattle.msrp_plan.specs.Blocking.{is_amid, section_of, IsBegun, HasBlockers, BlockedByBegunSections}
 use Rattle.msrp_plan.specs.Runs.{IsLegal, IsRunStart}
 use Rattle.msrp_plan.specs.WellFormed.{IsPlan}
@@ -22,7 +22,7 @@ use Rattle.msrp_plan.proofs.Holding.LocalLocks.{turn_on}
 use Rattle.msrp_plan.proofs.Blocking.Pressing.{press_amid}
 use Rattle.msrp_plan.proofs.Blocking.Sound.{IsSound, sound_push, sound_none, shorter, unstarted}
 use Rattle.msrp_plan.proofs.Blocking.Heads.{held_up, behind_row}
-use Rattle.msrp_plan.proofs.Blocking.Sections.{outside_first, opening_outside, amid_kept, section_kept, section_stays}
+use Rattle.msrp_plan.proofs.Blocking.Sections.{outside_first, start_outside, amid_kept, section_kept, section_stays}
 
 -- ---- the invariant: who stands in a section began it before the release of each earlier job that isn't started
 abbrev pub AreBegun : PlanModel → List Row → Type 0
@@ -44,7 +44,7 @@ begun_more plan pre r k t e old = record {
 -- the first row of the section, before tick t
 begins : (plan : PlanModel) (pre : List Row) (r : Row) (k : JobId) (t : ℕ) → is_row_of k r ≡ true → is_amid plan pre k ≡ false → is_amid plan (pre ++ r ∷ []) k ≡ true → r.tick < t → IsBegun plan (pre ++ r ∷ []) k t
 begins plan pre r k t mine out amid early =
-    let shut = (or_parts (is_queued pre k) (is_inside plan (units plan k) (done k pre)) out).1 in
+    let shut = (or_parts (is_queued pre k) (in_section plan (units plan k) (done k pre)) out).1 in
     record {
       before = pre;
       first = r;
@@ -52,7 +52,7 @@ begins plan pre r k t mine out amid early =
       rows = refl;
       job = is_job_is r.job k mine;
       outside = out;
-      unit = sym (section_stays plan pre r k mine amid ∙ opening_outside plan (units plan k) (done k pre) shut);
+      unit = sym (section_stays plan pre r k mine amid ∙ start_outside plan (units plan k) (done k pre) shut);
       early = early;
     }
 

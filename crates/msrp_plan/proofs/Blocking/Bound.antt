@@ -4,7 +4,7 @@ use Rattle.std.specs.List.{Contains, range_with_len}
 use Rattle.std.proofs.lemmas.Bool.{and_from, and_parts, cases_lt, lt-ltb}
 use Rattle.msrp_plan.specs.Plan.{PlanModel, TaskModel, task_of, core_of}
 use Rattle.msrp_plan.specs.Jobs.{jobs, done}
-use Rattle.msrp_plan.specs.Bounds.{opening, rows_at, rows_from, out, blocked_bound}
+use Rattle.msrp_plan.specs.Bounds.{section_start, rows_from, out, blocked_bound}
 use Rattle.msrp_plan.specs.Blocking.{count_after, blocks, continues, IsBlocker, HasBlockers, BlocksFrom, BoundedSections, BoundedBlocking}
 use Rattle.msrp_plan.specs.Runs.{IsLegal, IsRunStart, EachAfter}
 use Rattle.msrp_plan.specs.WellFormed.{IsPlan}
@@ -18,10 +18,10 @@ use Rattle.msrp_plan.proofs.TaskUnits.PlanUnits.{task_in}
 use Rattle.msrp_plan.proofs.Lists.LeastKept.{greatest_above, greatest_over}
 use Rattle.msrp_plan.proofs.Legality.LegalRows.{legal_turn, turn_core}
 use Rattle.msrp_plan.proofs.Blocking.Heads.{blocking_row}
-use Rattle.msrp_plan.proofs.Blocking.Sections.{opening_within}
+use Rattle.msrp_plan.proofs.Blocking.Sections.{start_within}
 use Rattle.msrp_plan.proofs.Blocking.Begun.{blocked_by_begun_sections}
 use Rattle.msrp_plan.proofs.Blocking.OneSection.{blocked_by_one_section}
-use Rattle.msrp_plan.proofs.Blocking.SectionRows.{spent, spent_more, section_rows}
+use Rattle.msrp_plan.proofs.Blocking.SectionRows.{spent, rows_at, spent_more, section_rows}
 
 -- ---- a section is within the greatest of its task's
 -- no unit before a is of the section that a begins
@@ -30,8 +30,8 @@ spent_none plan task a zero l = refl
 spent_none plan task a (suc n) l =
     let more = spent_more plan task a n in
     let next : spent plan task a (suc n) ≡ spent plan task a (n + 1) = ap (spent plan task a) (sym (add-one n)) in
-    let before = opening_within plan task.units n in
-    let off : cond {A = ℕ} (opening plan task.units n == a) (rows_at plan task n) 0 ≡ 0 = ap (λ b. cond {A = ℕ} b (rows_at plan task n) 0) (not_equal (opening plan task.units n) a (λ e. absurd (omega (arith, e, before, l)))) in
+    let before = start_within plan task.units n in
+    let off : cond {A = ℕ} (section_start plan task.units n == a) (rows_at plan task n) 0 ≡ 0 = ap (λ b. cond {A = ℕ} b (rows_at plan task n) 0) (not_equal (section_start plan task.units n) a (λ e. absurd (omega (arith, e, before, l)))) in
     let rest = spent_none plan task a n (omega (arith, l)) in
     omega (arith, more, next, off, rest)
 

@@ -8,7 +8,7 @@ use Rattle.msrp_plan.specs.Plan.{PlanModel, task_of, core_of, release, units}
 use Rattle.msrp_plan.specs.Jobs.{jobs, jobs_on, is_job, is_row_of, is_released, is_started, is_finished, done}
 use Rattle.msrp_plan.specs.Levels.{level}
 use Rattle.msrp_plan.specs.Choice.{is_before}
-use Rattle.msrp_plan.specs.Blocking.{count_after, is_later, blocks, blocked, first_later, is_by, ComesBefore, ComesAfter, BlockedSinceRelease}
+use Rattle.msrp_plan.specs.Blocking.{count_after, is_later, blocks, blocked, first_later, is_by, delays_start, ComesBefore, ComesAfter, BlockedSinceRelease}
 use Rattle.msrp_plan.specs.Runs.{IsLegal, IsRunStart, EachAfter}
 use Rattle.msrp_plan.specs.WellFormed.{IsPlan}
 use Rattle.msrp_plan.specs.declared.ids.JobId.{JobId}
@@ -140,23 +140,19 @@ early_unblocked plan pre r j early =
 same_counts : {X : Type 0} (p q : List X → X → Bool) (pre : List X) (x : X) (xs : List X) → p pre x ≡ q pre x → count_after p (pre ++ x ∷ []) xs ≡ count_after q (pre ++ x ∷ []) xs → count_after p pre (x ∷ xs) ≡ count_after q pre (x ∷ xs)
 same_counts p q pre x xs e rest = let one : cond {A = ℕ} (p pre x) 1 0 ≡ cond (q pre x) 1 0 = ap (λ b. cond {A = ℕ} b 1 0) e in omega (arith, one, rest)
 
--- what counts from the release on
-abbrev waits_for : JobId → Option JobId → List Row → Row → Bool
-waits_for j o before r = not (is_started before j) && is_by o r
-
 -- once the job is started nothing counts
-started_counts : (plan : PlanModel) (j : JobId) (o : Option JobId) (pre rest : List Row) → IsPlan plan → Contains (jobs plan) j → EachAfter (IsLegal plan) [] pre → EachAfter (IsLegal plan) pre rest → is_started pre j ≡ true → count_after (blocks plan j) pre rest ≡ count_after (waits_for j o) pre rest
+started_counts : (plan : PlanModel) (j : JobId) (o : Option JobId) (pre rest : List Row) → IsPlan plan → Contains (jobs plan) j → EachAfter (IsLegal plan) [] pre → EachAfter (IsLegal plan) pre rest → is_started pre j ≡ true → count_after (blocks plan j) pre rest ≡ count_after (delays_start j o) pre rest
 started_counts plan j o pre [] ok there before all s = refl
 started_counts plan j o pre (r ∷ rest) ok there before all s =
-    same_counts (blocks plan j) (waits_for j o) pre r rest (started_unblocked plan pre r j ok before all.0 there s ∙ sym (ap (λ b. not b && is_by o r) s))
+    same_counts (blocks plan j) (delays_start j o) pre r rest (started_unblocked plan pre r j ok before all.0 there s ∙ sym (ap (λ b. not b && is_by o r) s))
     (started_counts plan j o (pre ++ r ∷ []) rest ok there (each_push (IsLegal plan) [] pre r before all.0) all.1 (any_push (is_row_of j) pre r ∙ ap (λ b. b || is_row_of j r) s))
 
 -- before it the rows of the one job count
-waiting_counts : (plan : PlanModel) (j : JobId) (o : Option JobId) (pre rest : List Row) (s : Bool) → is_started pre j ≡ s → IsPlan plan → Contains (jobs plan) j → EachAfter (IsLegal plan) [] pre → EachAfter (IsLegal plan) pre rest → AllByRecursion (ComesAfter plan j) rest → (is_started pre j ≡ false → IsBlockedBy plan pre j o) → count_after (blocks plan j) pre rest ≡ count_after (waits_for j o) pre rest
+waiting_counts : (plan : PlanModel) (j : JobId) (o : Option JobId) (pre rest : List Row) (s : Bool) → is_started pre j ≡ s → IsPlan plan → Contains (jobs plan) j → EachAfter (IsLegal plan) [] pre → EachAfter (IsLegal plan) pre rest → AllByRecursion (ComesAfter plan j) rest → (is_started pre j ≡ false → IsBlockedBy plan pre j o) → count_after (blocks plan j) pre rest ≡ count_after (delays_start j o) pre rest
 waiting_counts plan j o pre rest true e ok there before all after by = started_counts plan j o pre rest ok there before all e
 waiting_counts plan j o pre [] false e ok there before all after by = refl
 waiting_counts plan j o pre (r ∷ rest) false e ok there before all after by =
-    same_counts (blocks plan j) (waits_for j o) pre r rest (blocks_by plan pre r j o ok before all.0 there after.0 e (by e) ∙ sym (ap (λ b. not b && is_by o r) e))
+    same_counts (blocks plan j) (delays_start j o) pre r rest (blocks_by plan pre r j o ok before all.0 there after.0 e (by e) ∙ sym (ap (λ b. not b && is_by o r) e))
     (waiting_counts plan j o (pre ++ r ∷ []) rest (is_started (pre ++ r ∷ []) j) refl ok there (each_push (IsLegal plan) [] pre r before all.0) all.1 after.1 (λ s. blocked_by_stays plan pre r j o ok before all.0 there after.0 s (by e)))
 
 -- before the release nothing does
@@ -170,7 +166,7 @@ early_counts plan j first (r ∷ pre) rest all =
 
 -- over a whole start
 pub blocked_since_release : (plan : PlanModel) (rows : List Row) → IsPlan plan → IsRunStart plan rows → BlockedSinceRelease plan rows
-blocked_since_release plan rows ok run = λ j pre rest same there before after.
+blocked_since_release plan rows ok run = λ j pre rest same there split.
     let all = subst (EachAfter (IsLegal plan) []) same run.each in
     let first = each_before (IsLegal plan) [] pre rest all in
-    ap (λ ws. blocked plan ws j) same ∙ (early_counts plan j [] pre rest before ∙ waiting_counts plan j (first_later plan pre j) pre rest (is_started pre j) refl ok there first (each_rest (IsLegal plan) [] pre rest all) after (λ s. blocked_by_first plan pre j ok first))
+    ap (λ ws. blocked plan ws j) same ∙ (early_counts plan j [] pre rest split.early ∙ waiting_counts plan j (first_later plan pre j) pre rest (is_started pre j) refl ok there first (each_rest (IsLegal plan) [] pre rest all) split.late (λ s. blocked_by_first plan pre j ok first))

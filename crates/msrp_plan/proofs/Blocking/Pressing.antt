@@ -8,7 +8,7 @@ use Rattle.msrp_plan.specs.Units.{holds_after}
 use Rattle.msrp_plan.specs.Jobs.{jobs_on, is_row_of, is_queued, holds, done}
 use Rattle.msrp_plan.specs.Levels.{is_global, local_ceiling, greatest, top}
 use Rattle.msrp_plan.specs.Ceiling.{resources, is_held_on, is_queued_on, ceiling}
-use Rattle.msrp_plan.specs.Bounds.{is_inside}
+use Rattle.msrp_plan.specs.Bounds.{in_section}
 use Rattle.msrp_plan.specs.Blocking.{is_amid}
 use Rattle.msrp_plan.specs.WellFormed.{IsPlan}
 use Rattle.msrp_plan.specs.declared.ids.JobId.{JobId}
@@ -41,7 +41,7 @@ press_live plan pre i l ok (Global g named glob up) = up_live plan g pre i ok up
 
 -- who holds a resource stands in a section
 holder_amid : (plan : PlanModel) (pre : List Row) (g : ℕ) (i : JobId) → Contains (resources plan) g → holds plan pre g i ≡ true → is_amid plan pre i ≡ true
-holder_amid plan pre g i named held = or_right (is_queued pre i) (is_inside plan (units plan i) (done i pre)) (any_in (holds_after (take (done i pre) (units plan i))) (resources plan) g named held)
+holder_amid plan pre g i named held = or_right (is_queued pre i) (in_section plan (units plan i) (done i pre)) (any_in (holds_after (take (done i pre) (units plan i))) (resources plan) g named held)
 
 -- and so does who presses
 pub press_amid : (plan : PlanModel) (pre : List Row) (i : JobId) (l : ℕ) → Presses plan pre i l → is_amid plan pre i ≡ true
@@ -49,7 +49,7 @@ press_amid plan pre i l (Local g named local held high) = holder_amid plan pre g
 press_amid plan pre i l (Global g named glob up) =
     elim (up_cases plan g pre i up) [
       | inl held ↦ holder_amid plan pre g i named held
-      | inr q ↦ or_left (is_queued pre i) (is_inside plan (units plan i) (done i pre)) q.0
+      | inr q ↦ or_left (is_queued pre i) (in_section plan (units plan i) (done i pre)) q.0
     ]
 
 -- ---- where the ceiling of a core isn't below a level, a job of the core presses on it

@@ -3,14 +3,14 @@ use Rattle.std.proofs.Common.{◌≡◌, ℕ, zero, suc, ◌+◌, ◌-◌, ◌�
 use Rattle.std.specs.List.{count_by, filter, range_with_len, sum_by}
 use Rattle.std.proofs.Math.Bool.{true≢false, and-false}
 use Rattle.std.proofs.lemmas.List.Elements.{filter-append}
-use Rattle.std.proofs.lemmas.List.Sums.{sum_by_push, sum_by-append}
+use Rattle.std.proofs.lemmas.List.Sums.{sum_by_push}
 use Rattle.std.proofs.lemmas.Option.{slice_get_within}
 use Rattle.msrp_plan.specs.Plan.{PlanModel, TaskModel, task_of, core_of, units}
 use Rattle.msrp_plan.specs.Jobs.{is_row_of, is_waiting, is_queued, done}
 use Rattle.msrp_plan.specs.Levels.{is_global}
 use Rattle.msrp_plan.specs.Actions.{is_global_unit, res_of_unit}
 use Rattle.msrp_plan.specs.Queues.{is_on}
-use Rattle.msrp_plan.specs.Bounds.{spin_bound, is_inside, opening, wait_bound, rows_at, rows_from}
+use Rattle.msrp_plan.specs.Bounds.{spin_bound, in_section, section_start, wait_bound, rows_from}
 use Rattle.msrp_plan.specs.Blocking.{count_after, is_amid, section_of, continues}
 use Rattle.msrp_plan.specs.Laws.{IsWait, is_grant, is_grant_of, is_spin, is_spin_of}
 use Rattle.msrp_plan.specs.Runs.{IsLegal, IsRunStart, EachAfter}
@@ -41,23 +41,33 @@ count_after_push p pre (y ∷ xs) x =
     omega (arith, rest, same)
 
 -- ---- what the units below n may take of the section that unit a begins
+-- the rows of these units of a section: one for each unit after the lock, and the waits
+abbrev rows_of : PlanModel → TaskModel → List ℕ → ℕ
+rows_of plan task ns = count_by (in_section plan task.units) ns + sum_by (λ n. wait_bound plan task.core (slice_get task.units n)) ns
+
 abbrev pub spent : PlanModel → TaskModel → ℕ → ℕ → ℕ
-spent plan task a n = sum_by (rows_at plan task) (filter (λ i. opening plan task.units i == a) (range_with_len 0 n))
+spent plan task a n = rows_of plan task (filter (λ i. section_start plan task.units i == a) (range_with_len 0 n))
+
+-- the rows of one unit
+abbrev pub rows_at : PlanModel → TaskModel → ℕ → ℕ
+rows_at plan task n = cond (in_section plan task.units n) 1 0 + wait_bound plan task.core (slice_get task.units n)
 
 -- a unit that may be of the section
-sum_cond : (f : ℕ → ℕ) (n : ℕ) (b : Bool) → sum_by f (cond b (n ∷ []) []) ≡ cond b (f n) 0
-sum_cond f n true = omega arith
-sum_cond f n false = refl
+rows_of_push : (plan : PlanModel) (task : TaskModel) (ns : List ℕ) (n : ℕ) (b : Bool) → rows_of plan task (ns ++ cond b (n ∷ []) []) ≡ rows_of plan task ns + cond b (rows_at plan task n) 0
+rows_of_push plan task ns n true =
+    let counted = sum_by_push (λ v. cond {A = ℕ} (in_section plan task.units v) 1 0) ns n in
+    let waited = sum_by_push (λ v. wait_bound plan task.core (slice_get task.units v)) ns n in
+    omega (arith, counted, waited)
+rows_of_push plan task ns n false = let same = ap (rows_of plan task) (append-nil ns) in omega (arith, same)
 
 -- one unit more
-pub spent_more : (plan : PlanModel) (task : TaskModel) (a n : ℕ) → spent plan task a (n + 1) ≡ spent plan task a n + cond (opening plan task.units n == a) (rows_at plan task n) 0
+pub spent_more : (plan : PlanModel) (task : TaskModel) (a n : ℕ) → spent plan task a (n + 1) ≡ spent plan task a n + cond (section_start plan task.units n == a) (rows_at plan task n) 0
 spent_more plan task a n =
-    let test : ℕ → Bool = λ i. opening plan task.units i == a in
+    let test : ℕ → Bool = λ i. section_start plan task.units i == a in
     let last : 0 + n ≡ n = omega arith in
-    let places : filter (λ i. opening plan task.units i == a) (range_with_len 0 (n + 1)) ≡ filter (λ i. opening plan task.units i == a) (range_with_len 0 n) ++ cond (opening plan task.units n == a) (n ∷ []) [] =
+    let places : filter (λ i. section_start plan task.units i == a) (range_with_len 0 (n + 1)) ≡ filter (λ i. section_start plan task.units i == a) (range_with_len 0 n) ++ cond (section_start plan task.units n == a) (n ∷ []) [] =
     ap (filter test) (range_more 0 n ∙ ap (λ m. range_with_len 0 n ++ m ∷ []) last) ∙ filter-append test (range_with_len 0 n) (n ∷ []) in
-    ap (sum_by (rows_at plan task)) places ∙ (sum_by-append (rows_at plan task) (filter test (range_with_len 0 n)) (cond (opening plan task.units n == a) (n ∷ []) [])
-    ∙ ap (λ m. spent plan task a n + m) (sum_cond (rows_at plan task) n (opening plan task.units n == a)))
+    ap (rows_of plan task) places ∙ rows_of_push plan task (filter test (range_with_len 0 n)) n (section_start plan task.units n == a)
 
 -- so more units take no less
 spent_grows : (plan : PlanModel) (task : TaskModel) (a n d m : ℕ) → n + d ≡ m → spent plan task a n ≤ spent plan task a m
@@ -149,11 +159,11 @@ wait_begins plan pre r k h same job unit glob res kind = record {
 -- ---- the rows of the section so far, against the n units done: q tells whether k is queued there, s how often it has spun
 -- the row counts
 abbrev in_at : PlanModel → JobId → ℕ → ℕ → Bool → ℕ
-in_at plan k a n q = cond ((q || is_inside plan (units plan k) n) && (opening plan (units plan k) n == a)) 1 0
+in_at plan k a n q = cond ((q || in_section plan (units plan k) n) && (section_start plan (units plan k) n == a)) 1 0
 
 -- what the units done may take, and the wait so far
 abbrev waited : PlanModel → JobId → ℕ → ℕ → ℕ → ℕ
-waited plan k a n s = spent plan (task_of plan k) a n + cond (opening plan (units plan k) n == a) (cond (is_inside plan (units plan k) n) 1 0 + s) 0
+waited plan k a n s = spent plan (task_of plan k) a n + cond (section_start plan (units plan k) n == a) (cond (in_section plan (units plan k) n) 1 0 + s) 0
 
 -- m rows are counted
 data IsCounted (plan : PlanModel) (k : JobId) (a : ℕ) (pre : List Row) (m : ℕ) : Type 0 where
@@ -190,7 +200,7 @@ granted_sum m n w s false false l h = omega (arith, l, h)
 counted_joins : (plan : PlanModel) (k : JobId) (a : ℕ) (pre : List Row) (r : Row) (m : ℕ) → is_queued pre k ≡ false → IsCounted plan k a pre m → m + in_at plan k a (done k pre) (is_queued pre k) ≤ waited plan k a (done k pre) 0
 counted_joins plan k a pre r m q (Waiting q2 s w h) = absurd (true≢false (sym q2 ∙ q))
 counted_joins plan k a pre r m q (Doing q2 h) =
-    subst (λ b. m + in_at plan k a (done k pre) b ≤ waited plan k a (done k pre) 0) (sym q) (joins_sum m (spent plan (task_of plan k) a (done k pre)) (is_inside plan (units plan k) (done k pre)) (opening plan (units plan k) (done k pre) == a) h)
+    subst (λ b. m + in_at plan k a (done k pre) b ≤ waited plan k a (done k pre) 0) (sym q) (joins_sum m (spent plan (task_of plan k) a (done k pre)) (in_section plan (units plan k) (done k pre)) (section_start plan (units plan k) (done k pre) == a) h)
 
 -- over one in which it polls in vain
 counted_polls : (plan : PlanModel) (k : JobId) (a : ℕ) (pre : List Row) (r : Row) (m : ℕ) → is_queued pre k ≡ true → IsCounted plan k a pre m → (s : ℕ) × IsInWait plan pre k s × (m + in_at plan k a (done k pre) (is_queued pre k) ≤ waited plan k a (done k pre) (s + 1))
@@ -198,19 +208,19 @@ counted_polls plan k a pre r m q (Doing q2 h) = absurd (true≢false (sym q ∙ 
 counted_polls plan k a pre r m q (Waiting q2 s w h) = (
   s,
   w,
-  subst (λ b. m + in_at plan k a (done k pre) b ≤ waited plan k a (done k pre) (s + 1)) (sym q) (polls_sum m (spent plan (task_of plan k) a (done k pre)) s (is_inside plan (units plan k) (done k pre)) (opening plan (units plan k) (done k pre) == a) h),
+  subst (λ b. m + in_at plan k a (done k pre) b ≤ waited plan k a (done k pre) (s + 1)) (sym q) (polls_sum m (spent plan (task_of plan k) a (done k pre)) s (in_section plan (units plan k) (done k pre)) (section_start plan (units plan k) (done k pre) == a) h),
 )
 
 -- over one in which it does its unit
 counted_does : (plan : PlanModel) (k : JobId) (a : ℕ) (pre : List Row) (m : ℕ) → IsPlan plan → EachAfter (IsLegal plan) [] pre → IsCounted plan k a pre m → m + in_at plan k a (done k pre) (is_queued pre k) ≤ spent plan (task_of plan k) a (done k pre + 1)
 counted_does plan k a pre m ok legal (Doing q h) =
     subst (λ x. m + in_at plan k a (done k pre) (is_queued pre k) ≤ x) (sym (spent_more plan (task_of plan k) a (done k pre)))
-    (subst (λ b. m + in_at plan k a (done k pre) b ≤ spent plan (task_of plan k) a (done k pre) + cond (opening plan (units plan k) (done k pre) == a) (rows_at plan (task_of plan k) (done k pre)) 0) (sym q)
-    (does_sum m (spent plan (task_of plan k) a (done k pre)) (wait_bound plan (core_of plan k) (slice_get (units plan k) (done k pre))) (is_inside plan (units plan k) (done k pre)) (opening plan (units plan k) (done k pre) == a) h))
+    (subst (λ b. m + in_at plan k a (done k pre) b ≤ spent plan (task_of plan k) a (done k pre) + cond (section_start plan (units plan k) (done k pre) == a) (rows_at plan (task_of plan k) (done k pre)) 0) (sym q)
+    (does_sum m (spent plan (task_of plan k) a (done k pre)) (wait_bound plan (core_of plan k) (slice_get (units plan k) (done k pre))) (in_section plan (units plan k) (done k pre)) (section_start plan (units plan k) (done k pre) == a) h))
 counted_does plan k a pre m ok legal (Waiting q s w h) =
     subst (λ x. m + in_at plan k a (done k pre) (is_queued pre k) ≤ x) (sym (spent_more plan (task_of plan k) a (done k pre)))
-    (subst (λ b. m + in_at plan k a (done k pre) b ≤ spent plan (task_of plan k) a (done k pre) + cond (opening plan (units plan k) (done k pre) == a) (rows_at plan (task_of plan k) (done k pre)) 0) (sym q)
-    (granted_sum m (spent plan (task_of plan k) a (done k pre)) (wait_bound plan (core_of plan k) (slice_get (units plan k) (done k pre))) s (is_inside plan (units plan k) (done k pre)) (opening plan (units plan k) (done k pre) == a) (wait_covers plan pre k s ok legal w) h))
+    (subst (λ b. m + in_at plan k a (done k pre) b ≤ spent plan (task_of plan k) a (done k pre) + cond (section_start plan (units plan k) (done k pre) == a) (rows_at plan (task_of plan k) (done k pre)) 0) (sym q)
+    (granted_sum m (spent plan (task_of plan k) a (done k pre)) (wait_bound plan (core_of plan k) (slice_get (units plan k) (done k pre))) s (in_section plan (units plan k) (done k pre)) (section_start plan (units plan k) (done k pre) == a) (wait_covers plan pre k s ok legal w) h))
 
 -- a spin is no grant
 spin_no_grant : (k : JobId) (g : ℕ) (r : Row) → r.kind ≡ Spin → is_grant_of k g r ≡ false

@@ -8,7 +8,7 @@ use Rattle.msrp_plan.specs.Units.{holds_after}
 use Rattle.msrp_plan.specs.Jobs.{is_row_of, is_waiting, is_queued, done}
 use Rattle.msrp_plan.specs.Levels.{greatest}
 use Rattle.msrp_plan.specs.Ceiling.{resources}
-use Rattle.msrp_plan.specs.Bounds.{is_inside, opening}
+use Rattle.msrp_plan.specs.Bounds.{in_section, section_start}
 use Rattle.msrp_plan.specs.Blocking.{is_amid, section_of}
 use Rattle.msrp_plan.specs.States.{JobState}
 use Rattle.msrp_plan.specs.declared.ids.JobId.{JobId}
@@ -40,49 +40,49 @@ none_held : (gs : List ℕ) → list_any (holds_after []) gs ≡ false
 none_held [] = refl
 none_held (g ∷ gs) = none_held gs
 
-pub outside_first : (plan : PlanModel) (us : List Op) → is_inside plan us 0 ≡ false
+pub outside_first : (plan : PlanModel) (us : List Op) → in_section plan us 0 ≡ false
 outside_first plan us = none_held (resources plan)
 
 -- ---- one unit more
 -- the places up to one more at which nothing is held
 abbrev pub outside : PlanModel → List Op → ℕ → List ℕ
-outside plan us n = filter (λ i. not (is_inside plan us i)) (range_with_len 0 n)
+outside plan us n = filter (λ i. not (in_section plan us i)) (range_with_len 0 n)
 
-outside_more : (plan : PlanModel) (us : List Op) (n : ℕ) → outside plan us (n + 1) ≡ outside plan us n ++ cond (not (is_inside plan us n)) (n ∷ []) []
+outside_more : (plan : PlanModel) (us : List Op) (n : ℕ) → outside plan us (n + 1) ≡ outside plan us n ++ cond (not (in_section plan us n)) (n ∷ []) []
 outside_more plan us n =
     let last : 0 + n ≡ n = omega arith in
-    ap (filter (λ i. not (is_inside plan us i))) (range_more 0 n ∙ ap (λ m. range_with_len 0 n ++ m ∷ []) last) ∙ filter-append (λ i. not (is_inside plan us i)) (range_with_len 0 n) (n ∷ [])
+    ap (filter (λ i. not (in_section plan us i))) (range_more 0 n ∙ ap (λ m. range_with_len 0 n ++ m ∷ []) last) ∙ filter-append (λ i. not (in_section plan us i)) (range_with_len 0 n) (n ∷ [])
 
 outside_within : (plan : PlanModel) (us : List Op) (n m : ℕ) → n ≤ m + 1 → greatest (outside plan us n) ≤ m
-outside_within plan us n m l = greatest_within m (outside plan us n) (all_filtered (λ i. i ≤ m) (λ i. not (is_inside plan us i)) (range_with_len 0 n) (range_within 0 n m (omega (arith, l))))
+outside_within plan us n m l = greatest_within m (outside plan us n) (all_filtered (λ i. i ≤ m) (λ i. not (in_section plan us i)) (range_with_len 0 n) (range_within 0 n m (omega (arith, l))))
 
 -- a section begins no later than its units
-pub opening_within : (plan : PlanModel) (us : List Op) (n : ℕ) → opening plan us n ≤ n
-opening_within plan us n = outside_within plan us (n + 1) n (omega arith)
+pub start_within : (plan : PlanModel) (us : List Op) (n : ℕ) → section_start plan us n ≤ n
+start_within plan us n = outside_within plan us (n + 1) n (omega arith)
 
 -- where nothing is held the unit begins its section, if it does begin one
-pub opening_outside : (plan : PlanModel) (us : List Op) (n : ℕ) → is_inside plan us n ≡ false → opening plan us n ≡ n
-opening_outside plan us n h =
-    let e : opening plan us n ≡ max (greatest (outside plan us n)) n = ap greatest (outside_more plan us n ∙ ap (λ b. outside plan us n ++ cond (not b) (n ∷ []) []) h) ∙ greatest_push (outside plan us n) n in
+pub start_outside : (plan : PlanModel) (us : List Op) (n : ℕ) → in_section plan us n ≡ false → section_start plan us n ≡ n
+start_outside plan us n h =
+    let e : section_start plan us n ≡ max (greatest (outside plan us n)) n = ap greatest (outside_more plan us n ∙ ap (λ b. outside plan us n ++ cond (not b) (n ∷ []) []) h) ∙ greatest_push (outside plan us n) n in
     let l = outside_within plan us n n (omega arith) in
     omega (arith, e, l)
 
 -- where something is held the unit is in the section of the one before it
-pub opening_inside : (plan : PlanModel) (us : List Op) (n : ℕ) → is_inside plan us (n + 1) ≡ true → opening plan us (n + 1) ≡ opening plan us n
-opening_inside plan us n h = ap greatest (outside_more plan us (n + 1) ∙ (ap (λ b. outside plan us (n + 1) ++ cond (not b) ((n + 1) ∷ []) []) h ∙ append-nil (outside plan us (n + 1))))
+pub start_inside : (plan : PlanModel) (us : List Op) (n : ℕ) → in_section plan us (n + 1) ≡ true → section_start plan us (n + 1) ≡ section_start plan us n
+start_inside plan us n h = ap greatest (outside_more plan us (n + 1) ∙ (ap (λ b. outside plan us (n + 1) ++ cond (not b) ((n + 1) ∷ []) []) h ∙ append-nil (outside plan us (n + 1))))
 
 -- ---- the section of a job
 -- a row of another job, or of none, leaves it
 pub amid_kept : (plan : PlanModel) (pre : List Row) (r : Row) (k : JobId) → is_row_of k r ≡ false → is_amid plan (pre ++ r ∷ []) k ≡ is_amid plan pre k
-amid_kept plan pre r k e = ap (λ (s : JobState). s.queued || is_inside plan (units plan k) s.done) (state_kept pre r k e)
+amid_kept plan pre r k e = ap (λ (s : JobState). s.queued || in_section plan (units plan k) s.done) (state_kept pre r k e)
 
 pub section_kept : (plan : PlanModel) (pre : List Row) (r : Row) (k : JobId) → is_row_of k r ≡ false → section_of plan (pre ++ r ∷ []) k ≡ section_of plan pre k
-section_kept plan pre r k e = ap (λ (s : JobState). opening plan (units plan k) s.done) (state_kept pre r k e)
+section_kept plan pre r k e = ap (λ (s : JobState). section_start plan (units plan k) s.done) (state_kept pre r k e)
 
 -- by whether the row waits
-stays_go : (plan : PlanModel) (us : List Op) (waits : Bool) (n m : ℕ) → m ≡ n + cond (not waits) 1 0 → (waits || is_inside plan us m) ≡ true → opening plan us m ≡ opening plan us n
-stays_go plan us true n m e h = ap (opening plan us) (omega (arith, e))
-stays_go plan us false n m e h = ap (opening plan us) e ∙ opening_inside plan us n (subst (λ x. is_inside plan us x ≡ true) e h)
+stays_go : (plan : PlanModel) (us : List Op) (waits : Bool) (n m : ℕ) → m ≡ n + cond (not waits) 1 0 → (waits || in_section plan us m) ≡ true → section_start plan us m ≡ section_start plan us n
+stays_go plan us true n m e h = ap (section_start plan us) (omega (arith, e))
+stays_go plan us false n m e h = ap (section_start plan us) e ∙ start_inside plan us n (subst (λ x. in_section plan us x ≡ true) e h)
 
 -- a row of its own that leaves it amid a section is of that section
 pub section_stays : (plan : PlanModel) (pre : List Row) (r : Row) (k : JobId) → is_row_of k r ≡ true → is_amid plan (pre ++ r ∷ []) k ≡ true → section_of plan (pre ++ r ∷ []) k ≡ section_of plan pre k
@@ -90,4 +90,4 @@ section_stays plan pre r k e h =
     let s = state_moved pre r k (is_job_is r.job k e) in
     let q : is_queued (pre ++ r ∷ []) k ≡ is_waiting r.kind = ap (λ (s : JobState). s.queued) s in
     let d : done k (pre ++ r ∷ []) ≡ done k pre + cond (not (is_waiting r.kind)) 1 0 = ap (λ (s : JobState). s.done) s in
-    stays_go plan (units plan k) (is_waiting r.kind) (done k pre) (done k (pre ++ r ∷ [])) d (sym (ap (λ b. b || is_inside plan (units plan k) (done k (pre ++ r ∷ []))) q) ∙ h)
+    stays_go plan (units plan k) (is_waiting r.kind) (done k pre) (done k (pre ++ r ∷ [])) d (sym (ap (λ b. b || in_section plan (units plan k) (done k (pre ++ r ∷ []))) q) ∙ h)

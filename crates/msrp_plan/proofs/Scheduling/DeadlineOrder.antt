@@ -9,7 +9,7 @@ use Rattle.msrp_plan.specs.Levels.{level}
 use Rattle.msrp_plan.specs.Ceiling.{ceiling}
 use Rattle.msrp_plan.specs.Choice.{is_before, head, running, chosen, choice}
 use Rattle.msrp_plan.specs.Runs.{IsLegal, IsRunStart}
-use Rattle.msrp_plan.specs.Scheduling.{IsReady, IsOpen, MayStart, MayGoOn, IsOfFirst, EarliestDeadlineFirst}
+use Rattle.msrp_plan.specs.Scheduling.{IsReady, IsHead, IsOpen, MayStart, MayGoOn, IsOfFirst, EarliestDeadlineFirst}
 use Rattle.msrp_plan.specs.declared.ids.JobId.{JobId}
 use Rattle.msrp_plan.specs.declared.rows.Row.{Row}
 use Rattle.msrp_plan.proofs.Jobs.JobTests.{some_is}
@@ -54,19 +54,19 @@ blocked_go plan n h x true e other b c =
 blocked_go plan n h x false e other b c = ltb-false n (level plan h.task.0) e
 
 -- the first of those that are ready is the head
-first_is_head : (plan : PlanModel) (pre : List Row) (r : Row) (h : JobId) (o : Option JobId) → head plan r.core.0 r.tick pre ≡ o → IsReady plan pre r h → ((j : JobId) → IsReady plan pre r j → is_before plan j h ≡ false) → o ≡ Some h
-first_is_head plan pre r h None e rh first = absurd (least_some (is_before plan) (is_ready plan r.tick pre) (jobs_on plan r.core.0) h e rh.on (ready plan r.tick pre h rh.released rh.unstarted))
-first_is_head plan pre r h (Some g) e rh first =
+first_is_head : (plan : PlanModel) (pre : List Row) (r : Row) (h : JobId) (o : Option JobId) → head plan r.core.0 r.tick pre ≡ o → IsHead plan pre r h → o ≡ Some h
+first_is_head plan pre r h None e is = absurd (least_some (is_before plan) (is_ready plan r.tick pre) (jobs_on plan r.core.0) h e is.ready.on (ready plan r.tick pre h is.ready.released is.ready.unstarted))
+first_is_head plan pre r h (Some g) e is =
     let both = head_ready plan r.core.0 r.tick pre g e in
     let rg : IsReady plan pre r g = record { on = least_in (is_before plan) (is_ready plan r.tick pre) (jobs_on plan r.core.0) g e; released = both.0; unstarted = both.1 } in
-    ap (λ j. Some j) (tied plan g h (first g rg) (head_least plan r.core.0 r.tick pre g h e rh.on rh.released rh.unstarted))
+    ap (λ j. Some j) (tied plan g h (is.first g rg) (head_least plan r.core.0 r.tick pre g h e is.ready.on is.ready.released is.ready.unstarted))
 
-blocked_head : (plan : PlanModel) (pre : List Row) (r : Row) (x h : JobId) → choice plan r.core.0 r.tick pre ≡ Some x → running plan r.core.0 pre ≡ Some x → is_started pre x ≡ true → IsReady plan pre r h → ((j : JobId) → IsReady plan pre r j → is_before plan j h ≡ false) → is_before plan h x ≡ true → level plan h.task.0 ≤ ceiling plan r.core.0 pre
-blocked_head plan pre r x h turn runs started rh first b =
+blocked_head : (plan : PlanModel) (pre : List Row) (r : Row) (x h : JobId) → choice plan r.core.0 r.tick pre ≡ Some x → running plan r.core.0 pre ≡ Some x → is_started pre x ≡ true → IsHead plan pre r h → is_before plan h x ≡ true → level plan h.task.0 ≤ ceiling plan r.core.0 pre
+blocked_head plan pre r x h turn runs started first b =
     let above = ceiling plan r.core.0 pre in
-    let is = first_is_head plan pre r h (head plan r.core.0 r.tick pre) refl rh first in
+    let is = first_is_head plan pre r h (head plan r.core.0 r.tick pre) refl first in
     let has : chosen plan (ceiling plan r.core.0 pre) (Some h) (Some x) ≡ Some x = sym (ap (λ o. chosen plan (ceiling plan r.core.0 pre) o (running plan r.core.0 pre)) is ∙ ap (chosen plan (ceiling plan r.core.0 pre) (Some h)) runs) ∙ turn in
-    blocked_go plan above h x (nat_lt above (level plan h.task.0)) refl (λ e. true≢false (sym started ∙ subst (λ y. is_started pre y ≡ false) e rh.unstarted)) b has
+    blocked_go plan above h x (nat_lt above (level plan h.task.0)) refl (λ e. true≢false (sym started ∙ subst (λ y. is_started pre y ≡ false) e first.ready.unstarted)) b has
 
 may_go_on : (plan : PlanModel) (pre : List Row) (r : Row) (x : JobId) → choice plan r.core.0 r.tick pre ≡ Some x → is_started pre x ≡ true → MayGoOn plan pre r x
 may_go_on plan pre r x turn started =
@@ -74,7 +74,7 @@ may_go_on plan pre r x turn started =
       | inl new ↦ absurd (true≢false (sym started ∙ (head_ready plan r.core.0 r.tick pre x new.first).1))
       | inr runs ↦ record {
         first = λ j o. runs_least plan r.core.0 pre x j runs o.on (open_live plan pre r j o);
-        blocked = λ h rh first b. blocked_head plan pre r x h turn runs started rh first b;
+        blocked = λ h first b. blocked_head plan pre r x h turn runs started first b;
       }
     ]
 

@@ -2,7 +2,7 @@
 
 ghost use Rattle.std.specs.Prelude.{◌≡◌, ◌<◌, ◌+◌, ℕ, List, IfSome, length};
 ghost use Rattle.std.specs.List.{AllByRecursion, Contains};
-ghost use Rattle.msrp_core.specs.CoreJobs.{is_first};
+ghost use Rattle.msrp_plan.specs.Choice.{comes_first};
 ghost use Rattle.msrp_plan.specs.Blocking.{first_later};
 ghost use Rattle.msrp_plan.specs.Jobs.{jobs};
 ghost use Rattle.msrp_plan.specs.WellFormed.{IsPlan};
@@ -16,7 +16,7 @@ use msrp_plan::{JobId, Plan, TaskId};
 fn is_first(plan: &Plan, job: JobId, other: Option<JobId>) -> bool
     requires job { IsKnown plan.now job }
     requires other { IfSome other (IsKnown plan.now) }
-    ensures { result ≡ is_first plan.now job other }
+    ensures { result ≡ comes_first plan.now job other }
 {
     match other {
         None => true,

@@ -8,8 +8,10 @@ use Rattle.msrp_plan.proofs.definitions.queues_are_locks.Goals as goal
 pub returns : goal.returns
 returns c = record {
   start = λ plan g. refl;
-  replies = λ plan pre r g call ok start glob turn row h. reply_at plan g pre r call ok glob start.each (turn_from_log plan pre r (own_from_legal plan [] pre start.each) turn) row h;
-  answers = λ plan pre r g call ok start glob row tells. (agree_at plan g pre r call ok glob (each_before (IsLegal plan) [] pre _ start.each) (start_last plan pre r start) row tells).answers;
-  next = λ plan pre r g call ok start glob row h. (agree_at plan g pre r call ok glob (each_before (IsLegal plan) [] pre _ start.each) (start_last plan pre r start) row (tells_from_answers plan _ _ r.core.0 call h)).next;
+  calls = λ plan pre r g call ok glob row. record {
+    replies = λ start turn h. reply_at plan g pre r call ok glob start.each (turn_from_log plan pre r (own_from_legal plan [] pre start.each) turn) row h;
+    answers = λ start tells. (agree_at plan g pre r call ok glob (each_before (IsLegal plan) [] pre _ start.each) (start_last plan pre r start) row tells).answers;
+    next = λ start h. (agree_at plan g pre r call ok glob (each_before (IsLegal plan) [] pre _ start.each) (start_last plan pre r start) row (tells_from_answers plan _ _ r.core.0 call h)).next;
+  };
   others = λ plan pre r g ok start glob off. lock_off plan g pre r ok glob (each_before (IsLegal plan) [] pre _ start.each) (start_last plan pre r start) off;
 }

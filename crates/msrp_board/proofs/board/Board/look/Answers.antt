@@ -3,7 +3,7 @@ use Rattle.msrp_board.specs.declared.answers.SeatPhase.TheVariants.{Waiting}
 use Rattle.msrp_board.specs.declared.books.BoardSize.{BoardSize}
 use Rattle.msrp_board.specs.declared.held.CoreState.{CoreState}
 use Rattle.msrp_board.specs.Seats.{BoardModel, SeatModel}
-use Rattle.msrp_board.specs.Boards.{high, low}
+use Rattle.msrp_board.specs.Words.{high, low}
 use Rattle.msrp_board.specs.Inside.Rule.{page_after_look}
 use Rattle.msrp_board.specs.Inside.Held.{look_of}
 use Rattle.msrp_board.proofs.Seats.{standing, waiting_page, look_wait, look_go, look_stop, stop_start}

@@ -1,6 +1,7 @@
 use Rattle.std.proofs.Common.{ap, arith, length}
 use Rattle.msrp_plan.specs.Plan.{units}
-use Rattle.msrp_core.proofs.Running.{popped, advanced_push, known_task, running_known}
+use Rattle.msrp_core.proofs.Running.{popped, advanced_push, running_known}
+use Rattle.msrp_plan.proofs.Jobs.CoreJobs.{known_task}
 use Rattle.msrp_core.proofs.jobs.Jobs.count.Goals as goal
 
 pub overflow_add-done : goal.overflow_add-done

@@ -2,7 +2,7 @@ use Rattle.std.proofs.Common.{Some, nat_lt, sym, ◌∙◌}
 use Rattle.std.proofs.lemmas.Bool.{and_parts}
 use Rattle.msrp_plan.specs.Levels.{level}
 use Rattle.msrp_stack.specs.Stack.{current_ceiling}
-use Rattle.msrp_core.specs.CoreJobs.{is_first}
+use Rattle.msrp_plan.specs.Choice.{comes_first}
 use Rattle.msrp_core.proofs.Running.{first_known, free_for, newest_known}
 use Rattle.msrp_core.proofs.Turning.{turn_row}
 use Rattle.msrp_core.proofs.jobs.Jobs.foresee.Goals as goal
@@ -21,7 +21,7 @@ first_row-requires-clause-free c =
     let jobs = c.args.self.now in
     let job = c.in-Some.job in
     let known = first_known jobs c.args.tick job c.requires.jobs (sym c.head_at.ensures ∙ c.in-Some.ensures.head) in
-    free_for jobs job c.requires.jobs known.0 (and_parts (nat_lt (current_ceiling jobs.stack) (level jobs.plan.now job.task.0)) (is_first jobs.plan.now job c.top-running.result) c.in-Some.ensures.next).0
+    free_for jobs job c.requires.jobs known.0 (and_parts (nat_lt (current_ceiling jobs.stack) (level jobs.plan.now job.task.0)) (comes_first jobs.plan.now job c.top-running.result) c.in-Some.ensures.next).0
 
 pub returns-in-Some : goal.returns-in-Some
 returns-in-Some c = λ log told at.

@@ -1,6 +1,6 @@
 use Rattle.std.proofs.Common.{◌<◌, length, subst, sym}
 use Rattle.msrp_plan.specs.Plan.{PlanModel}
-use Rattle.msrp_core.proofs.Running.{known_task}
+use Rattle.msrp_plan.proofs.Jobs.CoreJobs.{known_task}
 use Rattle.msrp_core.proofs.jobs.Jobs.is_next.Goals as goal
 
 pub level-requires : goal.level-requires

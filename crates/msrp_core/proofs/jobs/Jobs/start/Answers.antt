@@ -5,14 +5,14 @@ use Rattle.msrp_plan.specs.Jobs.{is_job}
 use Rattle.msrp_ready.specs.Ready.{is_among}
 use Rattle.msrp_stack.specs.Stack.{current_ceiling, newest}
 use Rattle.msrp_core.specs.Going.{state_in}
-use Rattle.msrp_core.specs.CoreJobs.{is_first}
+use Rattle.msrp_plan.specs.Choice.{comes_first}
 use Rattle.msrp_core.proofs.Running.{ready_known, free_for, can_start, begun_room, begun_fits, begun_in, begun_states}
 use Rattle.msrp_core.proofs.jobs.Jobs.start.Goals as goal
 
 pub start-requires : goal.start-requires
 start-requires c =
     let known = ready_known c.args.self.now c.args.job c.requires.jobs c.requires.head in
-    let parts = and_parts (nat_lt (current_ceiling c.args.self.now.stack) (level c.args.self.now.plan.now c.args.job.task.0)) (is_first c.args.self.now.plan.now c.args.job (newest c.args.self.now.stack.started)) c.requires.next in
+    let parts = and_parts (nat_lt (current_ceiling c.args.self.now.stack) (level c.args.self.now.plan.now c.args.job.task.0)) (comes_first c.args.self.now.plan.now c.args.job (newest c.args.self.now.stack.started)) c.requires.next in
     can_start c.args.self.now c.args.job c.requires.jobs known.0 parts.1
 
 pub push_reserved-requires : goal.push_reserved-requires
@@ -25,7 +25,7 @@ push_reserved-requires c =
 pub returns-clause-jobs : goal.returns-clause-jobs
 returns-clause-jobs c =
     let known = ready_known c.args.self.now c.args.job c.requires.jobs c.requires.head in
-    let parts = and_parts (nat_lt (current_ceiling c.args.self.now.stack) (level c.args.self.now.plan.now c.args.job.task.0)) (is_first c.args.self.now.plan.now c.args.job (newest c.args.self.now.stack.started)) c.requires.next in
+    let parts = and_parts (nat_lt (current_ceiling c.args.self.now.stack) (level c.args.self.now.plan.now c.args.job.task.0)) (comes_first c.args.self.now.plan.now c.args.job (newest c.args.self.now.stack.started)) c.requires.next in
     begun_fits c.args.self.now c.args.job c.take_head.new.self c.start.new.self c.push_reserved.new.self c.requires.jobs known.0 known.1 (free_for c.args.self.now c.args.job c.requires.jobs known.0 parts.0) c.take_head.ensures.rest
     (λ k. c.take_head.ensures.taken k ∙ ap (λ o. is_among c.args.self.now.ready.taken k || is_job o k) (c.take_head.ensures.head ∙ c.requires.head)) c.start.ensures c.push_reserved.ensures.items c.push_reserved.ensures.capacity
 
@@ -35,7 +35,7 @@ returns-clause-running c = record { newest = record { job = c.args.job; held = [
 pub returns-clause-states : goal.returns-clause-states
 returns-clause-states c = λ k.
     let known = ready_known c.args.self.now c.args.job c.requires.jobs c.requires.head in
-    let parts = and_parts (nat_lt (current_ceiling c.args.self.now.stack) (level c.args.self.now.plan.now c.args.job.task.0)) (is_first c.args.self.now.plan.now c.args.job (newest c.args.self.now.stack.started)) c.requires.next in
+    let parts = and_parts (nat_lt (current_ceiling c.args.self.now.stack) (level c.args.self.now.plan.now c.args.job.task.0)) (comes_first c.args.self.now.plan.now c.args.job (newest c.args.self.now.stack.started)) c.requires.next in
     ap (λ g. state_in c.args.self.now.plan.now c.take_head.new.self.taken c.args.self.now.phase g k) (begun_in c.args.self.now c.args.job c.start.new.self c.push_reserved.new.self.items c.start.ensures c.push_reserved.ensures.items)
     ∙ begun_states c.args.self.now c.args.job c.take_head.new.self.taken c.requires.jobs known.0 known.1 (free_for c.args.self.now c.args.job c.requires.jobs known.0 parts.0)
     (λ k. c.take_head.ensures.taken k ∙ ap (λ o. is_among c.args.self.now.ready.taken k || is_job o k) (c.take_head.ensures.head ∙ c.requires.head)) k

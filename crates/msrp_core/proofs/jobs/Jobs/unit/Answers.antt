@@ -1,6 +1,7 @@
 use Rattle.std.proofs.Common.{ap, sym, ◌∙◌, arith, length, slice_get}
 use Rattle.msrp_plan.specs.Plan.{units}
-use Rattle.msrp_core.proofs.Running.{known_task, running_known, running_left, some_done}
+use Rattle.msrp_core.proofs.Running.{running_known, running_left, some_done}
+use Rattle.msrp_plan.proofs.Jobs.CoreJobs.{known_task}
 use Rattle.msrp_core.proofs.jobs.Jobs.unit.Goals as goal
 
 pub progress-requires : goal.progress-requires

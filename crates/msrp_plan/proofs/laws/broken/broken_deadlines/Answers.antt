@@ -42,7 +42,7 @@ hi_first j there =
 
 blocked : ¬ EarliestDeadlineFirst preempts_a_section.plan (take 2 preempts_a_section.without_preemption)
 blocked h =
-    let l : 2 ≤ 1 = ((h.1.0 (job 0 0) refl).1 refl).blocked (job 1 0) (record { on = (1, omega arith, refl); released = omega arith; unstarted = refl }) (λ j ready. hi_first j ready.on) refl in
+    let l : 2 ≤ 1 = ((h.1.0 (job 0 0) refl).1 refl).blocked (job 1 0) (record { ready = record { on = (1, omega arith, refl); released = omega arith; unstarted = refl }; first = λ j ready. hi_first j ready.on }) refl in
     absurd (omega (arith, l))
 
 pub returns : goal.returns
