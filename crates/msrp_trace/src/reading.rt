@@ -314,10 +314,10 @@ impl<'a, R: Read> TraceReader<'a, R> {
         self.core_ahead()
     }
 
-    // The next row, where it is the last row of its core whose texts were made, in another tick. It is met as by `meets`;
-    // where it isn't met nothing is taken.
+    /// The next row, where it is its core's last one again, in another tick, as far as that one is kept. It is met as
+    /// [`TraceReader::meets`] meets a row; where it isn't met nothing is taken.
     #[inline(always)]
-    fn next_alike(&mut self) -> Option<Row>
+    pub fn next_again(&mut self) -> Option<Row>
         ensures taken { IfSome result (λ row. (told : Told) → told_left R.remaining self.old ≡ Some told → GivesNext told (Ok (Some row)) (told_left R.remaining self.new)) }
         ensures kept { result ≡ None → (told : Told) → told_left R.remaining self.old ≡ Some told → told_left R.remaining self.new ≡ Some told }
         ensures same { has_failed self.new ≡ has_failed self.old }
@@ -362,9 +362,29 @@ impl<'a, R: Read> TraceReader<'a, R> {
         ensures trace { IsOfTrace self.old self.new }
         ensures stands { (records : List (List (List ℕ))) → StandsIn R.remaining records self.old → StandsBehind R.remaining records result self.new }
     {
-        if let Some(row) = self.next_alike() {
+        if let Some(row) = self.next_again() {
             return Ok(Some(row));
         }
+        self.next_anew(foresee)
+    }
+
+    /// The same, but it isn't looked first whether the core does its last row again, as [`TraceReader::next_again`] looks.
+    #[inline(always)]
+    pub fn next_anew<F: FnOnce(CoreId) -> Option<Row>>(
+        &mut self,
+        foresee: F,
+    ) -> Result<Option<Row>, TraceError>
+        requires { F.IsAlwaysCallable foresee }
+        ensures next { (told : Told) → told_left R.remaining self.old ≡ Some told → GivesNext told result (told_left R.remaining self.new) }
+        ensures goes { OnOk result (has_failed self.new ≡ false) }
+        ensures fails { OnErr result (has_failed self.new ≡ true) }
+        ensures failed { has_failed self.old ≡ true → result ≡ Err TraceError.Failed }
+        ensures going { has_failed self.old ≡ false → ¬ (result ≡ Err TraceError.Failed) }
+        ensures read { result ≡ Err TraceError.Read → source_failed (source_of self.new) ≡ true }
+        ensures memory { result ≡ Err TraceError.Memory → source_failed (source_of self.new) ≡ false }
+        ensures trace { IsOfTrace self.old self.new }
+        ensures stands { (records : List (List (List ℕ))) → StandsIn R.remaining records self.old → StandsBehind R.remaining records result self.new }
+    {
         if let Some(row) = self.core_ahead().and_then(foresee) {
             let row = told_in(self.version, row);
             if self.meets(&row) {

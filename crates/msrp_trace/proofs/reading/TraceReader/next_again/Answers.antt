@@ -1,6 +1,6 @@
 use Rattle.std.proofs.Common.{◌≡◌, true, sym, ◌∙◌}
 use Rattle.msrp_trace.specs.Laws.{is_short}
-use Rattle.msrp_trace.proofs.reading.TraceReader.next_alike.Goals as goal
+use Rattle.msrp_trace.proofs.reading.TraceReader.next_again.Goals as goal
 
 pub takes-requires-clause-whole : goal.takes-requires-clause-whole
 takes-requires-clause-whole g c =
