@@ -24,6 +24,7 @@ use std::alloc::Global;
 use std::io::{Read, Write};
 
 // What is found in the rows that a reader has left. They are judged as they come, and none is read after a faulty one.
+#[inline(never)]
 fn judge_rows<T: Read>(
     auditor: &mut Auditor<'_>,
     rows: &mut TraceReader<'_, T>,

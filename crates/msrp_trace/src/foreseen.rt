@@ -76,6 +76,7 @@ fn has_told_ahead(version: TextVersion, row: &Row) -> bool
 
 /// Whether a row is read back as it is from its text: it names what the plan has, its numbers have at most nine digits, and
 /// it carries an ahead just where the version tells one.
+#[inline(always)]
 pub(crate) fn is_told_whole(plan: &Plan, version: TextVersion, row: &Row) -> bool
     ensures plan { IsPlan plan.now }
     ensures whole { result ≡ is_told_whole version plan.now row.now }
@@ -83,6 +84,12 @@ pub(crate) fn is_told_whole(plan: &Plan, version: TextVersion, row: &Row) -> boo
     // Read so that the plan is known to be an accepted one.
     let _accepted = plan.tasks();
     is_named(plan, row) && has_short_numbers(row) && has_told_ahead(version, row)
+}
+
+// Whether a core may make such a row twice in a run: it idles, works or waits.
+#[inline(always)]
+fn may_repeat(kind: Kind) -> bool {
+    matches!(kind, Kind::Idle | Kind::Run | Kind::Spin)
 }
 
 // Whether a text has another byte at a place than one that has a byte there.
@@ -154,7 +161,7 @@ impl Foreseen {
         self.tick.show(tick);
     }
 
-    /// The row that the core had last, in the tick that is here.
+    /// The row that the core had last, in the tick that is here, where it's one that may stand again.
     #[inline(always)]
     pub(crate) fn alike(&self, core: CoreId) -> Option<Row>
         ensures text { (version : TextVersion) (plan : PlanModel) → AreTexts version plan self.now → IfSome result (λ row. AreTextsOf version plan row self.now) }
@@ -162,7 +169,7 @@ impl Foreseen {
     {
         let line = &self.lines[(core.0 % MOST_CORES) as usize];
         match line.in_tick(self.tick.number()) {
-            Some(row) if row.core == core => Some(row),
+            Some(row) if row.core == core && may_repeat(row.kind) => Some(row),
             _ => None,
         }
     }

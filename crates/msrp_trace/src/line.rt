@@ -6,11 +6,11 @@ ghost use Rattle.msrp_plan.specs.Plan.{PlanModel};
 ghost use Rattle.msrp_trace.specs.Gathering.{next_field, after_tick};
 ghost use Rattle.msrp_trace.specs.Lines.{IsJobText, IsLine, IsWhole, is_same_place, job_fields};
 ghost use Rattle.msrp_trace.specs.Laws.{is_short, is_told_whole};
-ghost use Rattle.msrp_trace.specs.TraceText.{ahead_fields, dash, head_text, is_named, is_res_of, is_task_of, job_text, res_text, task_text};
+ghost use Rattle.msrp_trace.specs.TraceText.{ahead_fields, dash, head_text, is_named, is_res_of, is_task_of, job_text, kind_text, res_text, task_text};
 
 use crate::job::JobText;
 use crate::text::Text;
-use crate::words::{DASH, TRACE_WORD, kind_word, version_word};
+use crate::words::{DASH, TRACE_WORD, version_word};
 use msrp_plan::{JobId, Kind, Plan, ResId, Row, TextVersion};
 use std::marker::Model;
 
@@ -72,6 +72,27 @@ impl Line {
         ensures size { length self.new ≡ length self.old + 2 }
     {
         self.text.next(DASH);
+    }
+
+    // The word for a kind, of which each is copied by its length.
+    #[inline(always)]
+    #[tactic(auto, unfolding(crate::specs::TraceText::kind_text))]
+    fn next_kind(&mut self, kind: Kind)
+        requires { length self.old + 8 ≤ LINE }
+        ensures text { self.new ≡ self.old ++ next_field (kind_text kind) }
+        ensures size { length self.new ≤ length self.old + 8 }
+    {
+        match kind {
+            Kind::Idle => self.text.next(b"idle"),
+            Kind::Run => self.text.next(b"run"),
+            Kind::Lock => self.text.next(b"lock"),
+            Kind::Unlock => self.text.next(b"unlock"),
+            Kind::Take => self.text.next(b"take"),
+            Kind::Queue => self.text.next(b"queue"),
+            Kind::Spin => self.text.next(b"spin"),
+            Kind::Grant => self.text.next(b"grant"),
+            Kind::Release => self.text.next(b"release"),
+        }
     }
 
     // The two fields of a job: its task's name and its number. They are kept for its next row.
@@ -143,7 +164,7 @@ impl Line {
     {
         self.clear();
         self.text.next_number(row.core.0);
-        self.text.next(kind_word(row.kind));
+        self.next_kind(row.kind);
         self.next_job(plan, job, row.job);
         self.next_resource(plan, row.res);
         self.next_ahead(version, row.ahead);

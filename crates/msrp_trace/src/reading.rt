@@ -58,6 +58,7 @@ pub struct TraceReader<'a, R> {
 }
 
 // A row as a text of the version tells it: version 1 leaves out the ahead.
+#[inline(always)]
 fn told_in(version: TextVersion, row: Row) -> Row
     ensures { result ≡ as_read version row }
 {
@@ -222,6 +223,7 @@ impl<'a, R: Read> TraceReader<'a, R> {
     /// Whether the next row is this one. Its text is compared with the bytes that come next. Where they are the same the row is
     /// taken, as [`TraceReader::next_row`] takes it, and else nothing is. Where no whole line was read ahead, more is read. A
     /// row with quotes in its text isn't met, nor is any once there were such.
+    #[inline(always)]
     pub fn meets(&mut self, row: &Row) -> bool
         ensures taken { result ≡ true → (told : Told) → told_left R.remaining self.old ≡ Some told → GivesNext told (Ok (Some row.now)) (told_left R.remaining self.new) }
         ensures kept { result ≡ false → (told : Told) → told_left R.remaining self.old ≡ Some told → told_left R.remaining self.new ≡ Some told }
@@ -369,7 +371,7 @@ impl<'a, R: Read> TraceReader<'a, R> {
     }
 
     /// The same, but it isn't looked first whether the core does its last row again, as [`TraceReader::next_again`] looks.
-    #[inline(always)]
+    #[inline(never)]
     pub fn next_anew<F: FnOnce(CoreId) -> Option<Row>>(
         &mut self,
         foresee: F,
