@@ -1,7 +1,8 @@
 //! Rows that a caller foresees, as the texts that would tell them.
-ghost use Rattle.std.specs.Prelude.{ℕ, List, ◌+◌, ◌<◌, ◌^◌, ◌%◌, false, slice_index, slice_index_or, ◌≡◌, ◌++◌, codes, decimal, length, true};
+ghost use Rattle.std.specs.Prelude.{ℕ, List, ◌+◌, ◌<◌, ◌^◌, ◌%◌, false, slice_index, slice_index_or, ◌≡◌, ◌++◌, codes, decimal, length, option_map, true, Some};
 ghost use Rattle.std.specs.List.{All};
 ghost use Rattle.std.specs.Option.{IfSome};
+ghost use Rattle.msrp_plan.specs.Stretches.{in_tick};
 ghost use Rattle.msrp_plan.specs.WellFormed.{IsPlan};
 ghost use Rattle.msrp_trace.specs.Gathering.{after_tick};
 ghost use Rattle.msrp_trace.specs.Laws.{has_short_ahead, has_short_job, has_short_numbers, has_told_ahead, is_short, is_told_whole};
@@ -161,9 +162,19 @@ impl Foreseen {
         self.tick.show(tick);
     }
 
-    /// The row that the core had last, in the tick that is here, where it's one that may stand again.
+    /// The row whose text is kept at the core's place, in the tick that is here.
+    #[inline(always)]
+    pub(crate) fn last(&self, core: CoreId) -> Option<Row>
+        ensures { (d : Kept) → result ≡ option_map (in_tick self.now.tick.tick) (slice_index_or self.now.lines (core.0 % MOST_CORES) d).row }
+    {
+        let line = &self.lines[(core.0 % MOST_CORES) as usize];
+        line.in_tick(self.tick.number())
+    }
+
+    /// The row that the core had last, in the tick that is here, where it is one that may stand again.
     #[inline(always)]
     pub(crate) fn alike(&self, core: CoreId) -> Option<Row>
+        ensures last { IfSome result (λ row. (d : Kept) → option_map (in_tick self.now.tick.tick) (slice_index_or self.now.lines (core.0 % MOST_CORES) d).row ≡ Some row) }
         ensures text { (version : TextVersion) (plan : PlanModel) → AreTexts version plan self.now → IfSome result (λ row. AreTextsOf version plan row self.now) }
         ensures whole { (version : TextVersion) (plan : PlanModel) → AreTexts version plan self.now → IfSome result (λ row. is_short row.tick ≡ true → is_told_whole version plan row ≡ true) }
     {

@@ -1,8 +1,9 @@
 //! The text of one record as it is made, and the record that a core had last.
-ghost use Rattle.std.specs.Prelude.{◌≡◌, ◌≤◌, ◌<◌, ◌+◌, ◌++◌, [], codes, decimal, length, true, Some, None, IsSomeAnd};
+ghost use Rattle.std.specs.Prelude.{◌≡◌, ◌≤◌, ◌<◌, ◌+◌, ◌++◌, [], codes, decimal, length, true, Some, None, IsSomeAnd, option_map};
 ghost use Rattle.std.specs.List.{flat_map};
 ghost use Rattle.std.specs.Option.{IfSome};
 ghost use Rattle.msrp_plan.specs.Plan.{PlanModel};
+ghost use Rattle.msrp_plan.specs.Stretches.{in_tick};
 ghost use Rattle.msrp_trace.specs.Gathering.{next_field, after_tick};
 ghost use Rattle.msrp_trace.specs.Lines.{IsJobText, IsLine, IsWhole, is_same_place, job_fields};
 ghost use Rattle.msrp_trace.specs.Laws.{is_short, is_told_whole};
@@ -246,19 +247,13 @@ impl RowLine {
     /// The row that is kept, as it is in another tick.
     #[inline(always)]
     pub(crate) fn in_tick(&self, tick: u32) -> Option<Row>
+        ensures row { result ≡ option_map (in_tick tick) self.now.row }
         ensures tick { IfSome result (λ row. row.tick ≡ tick) }
         ensures whole { (version : TextVersion) (plan : PlanModel) → IsWhole version plan self.now → IfSome result (λ row. is_short row.tick ≡ true → is_told_whole version plan row ≡ true) }
         ensures text { (version : TextVersion) (plan : PlanModel) → IsLine version plan self.now → IfSome result (λ row. self.now.line ≡ after_tick version plan row) }
     {
         match self.row {
-            Some(row) => Some(Row {
-                tick,
-                core: row.core,
-                kind: row.kind,
-                job: row.job,
-                res: row.res,
-                ahead: row.ahead,
-            }),
+            Some(row) => Some(row.in_tick(tick)),
             None => None,
         }
     }

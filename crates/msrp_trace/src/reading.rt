@@ -258,6 +258,7 @@ impl<'a, R: Read> TraceReader<'a, R> {
         ensures taken { result ≡ true → (told : Told) → told_left R.remaining self.old ≡ Some told → GivesNext told (Ok (Some row.now)) (told_left R.remaining self.new) }
         ensures kept { result ≡ false → (told : Told) → told_left R.remaining self.old ≡ Some told → told_left R.remaining self.new ≡ Some told }
         ensures stage { self.new.stage ≡ Stage.Rows }
+        ensures texts { self.new.foreseen ≡ self.old.foreseen }
         ensures finds { CanMeet self.old row.now → result ≡ true }
         ensures comes { ComesNext R.remaining self.old row.now → (result ≡ true) ⊎ (ahead_failed self.new ≡ true) }
         ensures trace { IsOfTrace self.old self.new }
@@ -340,7 +341,8 @@ impl<'a, R: Read> TraceReader<'a, R> {
         // Read so that the plan is known to be an accepted one.
         let _accepted = self.plan.tasks();
         if self.stage == Stage::Rows && is_short(row.tick) && self.takes(&row, next) {
-            return Some(row);
+            // Asked anew, so that the row isn't held while its text is compared.
+            return self.foreseen.last(core);
         }
         None
     }
