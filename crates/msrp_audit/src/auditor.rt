@@ -46,6 +46,7 @@ impl<'a> Model for Auditor<'a> {
 
 // Whether the row after so many stands in that tick, where each tick has a row of each core. A division would take as long
 // as all else that is asked of the row.
+#[inline(always)]
 fn is_in_tick(cores: u32, fed: u32, tick: u32) -> bool
     requires { 0 < cores }
     ensures met { result ≡ true → tick ≡ fed / cores }
@@ -57,6 +58,7 @@ fn is_in_tick(cores: u32, fed: u32, tick: u32) -> bool
 }
 
 // Whether the row stands in the tick that is due, of a core that has not had its turn in it.
+#[inline(always)]
 fn is_due(plan: &Plan, cores: &Cores, fed: u32, row: Row) -> bool
     requires plan { cores.now.plan ≡ plan.now }
     requires left { fed < plan.now.cores * plan.now.ticks }

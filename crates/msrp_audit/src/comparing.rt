@@ -7,6 +7,7 @@ ghost use Rattle.msrp_audit.specs.Foresight.{same_action, same_kind, same_ahead,
 use msrp_plan::{Kind, Row, Rule};
 
 // The kinds are the same but for the answer.
+#[inline(always)]
 fn is_same_action(kind: Kind, due: Kind) -> bool
     ensures { result ≡ same_action kind due }
 {
@@ -17,12 +18,14 @@ fn is_same_action(kind: Kind, due: Kind) -> bool
     }
 }
 
+#[inline(always)]
 fn does_as(row: Row, due: Row) -> bool
     ensures { result ≡ does_alike row due }
 {
     row.res == due.res && is_same_action(row.kind, due.kind)
 }
 
+#[inline(always)]
 fn replied_as(row: Row, due: Row) -> bool
     ensures { result ≡ replied_alike row due }
 {
@@ -30,6 +33,7 @@ fn replied_as(row: Row, due: Row) -> bool
 }
 
 // The lower of the rules on job and action that the row breaks, where the other is the row that is due.
+#[inline(always)]
 pub fn unlike_turn(row: Row, due: Row) -> Option<Rule>
     ensures { result ≡ unlike_turn row due }
 {
@@ -43,6 +47,7 @@ pub fn unlike_turn(row: Row, due: Row) -> Option<Rule>
 }
 
 // The lowest of the rules on job, action and reply that the row breaks, where the other is the row that is due.
+#[inline(always)]
 pub fn unlike_due(row: Row, due: Row) -> Option<Rule>
     ensures { result ≡ unlike row due }
 {

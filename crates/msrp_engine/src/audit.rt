@@ -24,6 +24,7 @@ use std::alloc::Global;
 use std::io::{Read, Write};
 
 // What is found in the rows that a reader has left. They are judged as they come, and none is read after a faulty one.
+#[inline(never)]
 fn judge_rows<T: Read>(
     auditor: &mut Auditor<'_>,
     rows: &mut TraceReader<'_, T>,
@@ -33,12 +34,20 @@ fn judge_rows<T: Read>(
         → (result ≡ Err CliFault.Read) ⊎ (result ≡ Err CliFault.Memory) ⊎ (result ≡ finding auditor.old.plan told) }
     ensures faults { IfErr result (λ fault. is_trace_fault fault ≡ true) }
 {
-    while let Some(row) = rows.next_foreseen(|core| auditor.foresee(core))? {
+    loop {
+        if let Some(row) = rows.next_again() {
+            if let Err(fault) = auditor.feed(row) {
+                return Ok(Err(fault));
+            }
+            continue;
+        }
+        let Some(row) = rows.next_anew(|core| auditor.foresee(core))? else {
+            return Ok(auditor.end());
+        };
         if let Err(fault) = auditor.feed(row) {
             return Ok(Err(fault));
         }
     }
-    Ok(auditor.end())
 }
 
 // What is found in the rows of a trace's text. Whatever ends the reading early may be told as a failed read.

@@ -27,6 +27,7 @@ use std::io::{Read, Write};
 
 // The report of the rows that a reader has left, if they are a legal run, or else what is found in them. They are judged and
 // counted as they come, and none is read after a faulty one.
+#[inline(never)]
 fn report_rows<T: Read>(
     mut reporter: Reporter<'_>,
     rows: &mut TraceReader<'_, T>,
@@ -37,12 +38,20 @@ fn report_rows<T: Read>(
     ensures lines { IfOk result (λ found. IfOk found (λ report. length report.lines.items ≡ length reporter.entry.plan.now.tasks)) }
     ensures faults { IfErr result (λ fault. is_trace_fault fault ≡ true) }
 {
-    while let Some(row) = rows.next_foreseen(|core| reporter.auditor().foresee(core))? {
+    loop {
+        if let Some(row) = rows.next_again() {
+            if let Err(fault) = reporter.feed(row) {
+                return Ok(Err(fault));
+            }
+            continue;
+        }
+        let Some(row) = rows.next_anew(|core| reporter.auditor().foresee(core))? else {
+            return Ok(reporter.end());
+        };
         if let Err(fault) = reporter.feed(row) {
             return Ok(Err(fault));
         }
     }
-    Ok(reporter.end())
 }
 
 // The report of a trace's text. Whatever ends the reading early may be told as a failed read.

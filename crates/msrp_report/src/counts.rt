@@ -44,6 +44,7 @@ impl JobCount {
     };
 
     /// With one row of the job more.
+    #[inline(always)]
     pub(crate) fn with_row(self, row: Row) -> JobCount
         requires rows { self.rows + 1 < 2 ^ 32 }
         requires done { self.done + 1 < 2 ^ 32 }
@@ -51,6 +52,17 @@ impl JobCount {
         requires wait { HasRoom self.wait }
         ensures { result ≡ counted row self }
     {
+        // Most rows are these.
+        if let (Kind::Run, None) = (row.kind, self.wait) {
+            return JobCount {
+                rows: self.rows + 1,
+                done: self.done + 1,
+                last_tick: row.tick,
+                spins: self.spins,
+                wait: None,
+                longest_wait: self.longest_wait,
+            };
+        }
         let waits = matches!(row.kind, Kind::Queue | Kind::Spin);
         let wait = wait_after(row.kind, self.wait);
         JobCount {

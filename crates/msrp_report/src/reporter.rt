@@ -58,6 +58,7 @@ impl<'a> Reporter<'a> {
 
     /// The next row: the fault of the rows so far, if they have one. After a fault it answers that same fault. It takes no
     /// memory.
+    #[inline(always)]
     pub fn feed(&mut self, row: Row) -> Result<(), Fault>
         requires { SomeReported self.old }
         ensures plan { self.new.plan ≡ self.old.plan }

@@ -158,6 +158,7 @@ impl<'a> Cores<'a> {
 
     /// The row that [`Cores::turn`] would make, where the core has a turn left. Whatever rows the cores stand for, it is the next
     /// one of a core that is due after them.
+    #[inline(always)]
     pub fn foresee(&self, core: CoreId) -> Option<Row>
         requires { core.0 < self.now.plan.cores }
         ensures { (rows : List TraceRow) → StandFor self.now rows → IsDueAfter self.now.plan rows core.0 → IsSomeAnd result (IsNextRow self.now.plan rows core.0) }

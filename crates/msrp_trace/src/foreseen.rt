@@ -1,7 +1,8 @@
 //! Rows that a caller foresees, as the texts that would tell them.
-ghost use Rattle.std.specs.Prelude.{ℕ, List, ◌+◌, ◌<◌, ◌^◌, ◌%◌, false, slice_index, slice_index_or, ◌≡◌, ◌++◌, codes, decimal, length, true};
+ghost use Rattle.std.specs.Prelude.{ℕ, List, ◌+◌, ◌<◌, ◌^◌, ◌%◌, false, slice_index, slice_index_or, ◌≡◌, ◌++◌, codes, decimal, length, option_map, true, Some};
 ghost use Rattle.std.specs.List.{All};
 ghost use Rattle.std.specs.Option.{IfSome};
+ghost use Rattle.msrp_plan.specs.Stretches.{in_tick};
 ghost use Rattle.msrp_plan.specs.WellFormed.{IsPlan};
 ghost use Rattle.msrp_trace.specs.Gathering.{after_tick};
 ghost use Rattle.msrp_trace.specs.Laws.{has_short_ahead, has_short_job, has_short_numbers, has_told_ahead, is_short, is_told_whole};
@@ -76,6 +77,7 @@ fn has_told_ahead(version: TextVersion, row: &Row) -> bool
 
 /// Whether a row is read back as it is from its text: it names what the plan has, its numbers have at most nine digits, and
 /// it carries an ahead just where the version tells one.
+#[inline(always)]
 pub(crate) fn is_told_whole(plan: &Plan, version: TextVersion, row: &Row) -> bool
     ensures plan { IsPlan plan.now }
     ensures whole { result ≡ is_told_whole version plan.now row.now }
@@ -83,6 +85,12 @@ pub(crate) fn is_told_whole(plan: &Plan, version: TextVersion, row: &Row) -> boo
     // Read so that the plan is known to be an accepted one.
     let _accepted = plan.tasks();
     is_named(plan, row) && has_short_numbers(row) && has_told_ahead(version, row)
+}
+
+// Whether a core may make such a row twice in a run: it idles, works or waits.
+#[inline(always)]
+fn may_repeat(kind: Kind) -> bool {
+    matches!(kind, Kind::Idle | Kind::Run | Kind::Spin)
 }
 
 // Whether a text has another byte at a place than one that has a byte there.
@@ -154,15 +162,25 @@ impl Foreseen {
         self.tick.show(tick);
     }
 
-    /// The row that the core had last, in the tick that is here.
+    /// The row whose text is kept at the core's place, in the tick that is here.
+    #[inline(always)]
+    pub(crate) fn last(&self, core: CoreId) -> Option<Row>
+        ensures { (d : Kept) → result ≡ option_map (in_tick self.now.tick.tick) (slice_index_or self.now.lines (core.0 % MOST_CORES) d).row }
+    {
+        let line = &self.lines[(core.0 % MOST_CORES) as usize];
+        line.in_tick(self.tick.number())
+    }
+
+    /// The row that the core had last, in the tick that is here, where it is one that may stand again.
     #[inline(always)]
     pub(crate) fn alike(&self, core: CoreId) -> Option<Row>
+        ensures last { IfSome result (λ row. (d : Kept) → option_map (in_tick self.now.tick.tick) (slice_index_or self.now.lines (core.0 % MOST_CORES) d).row ≡ Some row) }
         ensures text { (version : TextVersion) (plan : PlanModel) → AreTexts version plan self.now → IfSome result (λ row. AreTextsOf version plan row self.now) }
         ensures whole { (version : TextVersion) (plan : PlanModel) → AreTexts version plan self.now → IfSome result (λ row. is_short row.tick ≡ true → is_told_whole version plan row ≡ true) }
     {
         let line = &self.lines[(core.0 % MOST_CORES) as usize];
         match line.in_tick(self.tick.number()) {
-            Some(row) if row.core == core => Some(row),
+            Some(row) if row.core == core && may_repeat(row.kind) => Some(row),
             _ => None,
         }
     }

@@ -1,16 +1,17 @@
 //! The text of one record as it is made, and the record that a core had last.
-ghost use Rattle.std.specs.Prelude.{◌≡◌, ◌≤◌, ◌<◌, ◌+◌, ◌++◌, [], codes, decimal, length, true, Some, None, IsSomeAnd};
+ghost use Rattle.std.specs.Prelude.{◌≡◌, ◌≤◌, ◌<◌, ◌+◌, ◌++◌, [], codes, decimal, length, true, Some, None, IsSomeAnd, option_map};
 ghost use Rattle.std.specs.List.{flat_map};
 ghost use Rattle.std.specs.Option.{IfSome};
 ghost use Rattle.msrp_plan.specs.Plan.{PlanModel};
+ghost use Rattle.msrp_plan.specs.Stretches.{in_tick};
 ghost use Rattle.msrp_trace.specs.Gathering.{next_field, after_tick};
 ghost use Rattle.msrp_trace.specs.Lines.{IsJobText, IsLine, IsWhole, is_same_place, job_fields};
 ghost use Rattle.msrp_trace.specs.Laws.{is_short, is_told_whole};
-ghost use Rattle.msrp_trace.specs.TraceText.{ahead_fields, dash, head_text, is_named, is_res_of, is_task_of, job_text, res_text, task_text};
+ghost use Rattle.msrp_trace.specs.TraceText.{ahead_fields, dash, head_text, is_named, is_res_of, is_task_of, job_text, kind_text, res_text, task_text};
 
 use crate::job::JobText;
 use crate::text::Text;
-use crate::words::{DASH, TRACE_WORD, kind_word, version_word};
+use crate::words::{DASH, TRACE_WORD, version_word};
 use msrp_plan::{JobId, Kind, Plan, ResId, Row, TextVersion};
 use std::marker::Model;
 
@@ -72,6 +73,27 @@ impl Line {
         ensures size { length self.new ≡ length self.old + 2 }
     {
         self.text.next(DASH);
+    }
+
+    // The word for a kind, of which each is copied by its length.
+    #[inline(always)]
+    #[tactic(auto, unfolding(crate::specs::TraceText::kind_text))]
+    fn next_kind(&mut self, kind: Kind)
+        requires { length self.old + 8 ≤ LINE }
+        ensures text { self.new ≡ self.old ++ next_field (kind_text kind) }
+        ensures size { length self.new ≤ length self.old + 8 }
+    {
+        match kind {
+            Kind::Idle => self.text.next(b"idle"),
+            Kind::Run => self.text.next(b"run"),
+            Kind::Lock => self.text.next(b"lock"),
+            Kind::Unlock => self.text.next(b"unlock"),
+            Kind::Take => self.text.next(b"take"),
+            Kind::Queue => self.text.next(b"queue"),
+            Kind::Spin => self.text.next(b"spin"),
+            Kind::Grant => self.text.next(b"grant"),
+            Kind::Release => self.text.next(b"release"),
+        }
     }
 
     // The two fields of a job: its task's name and its number. They are kept for its next row.
@@ -143,7 +165,7 @@ impl Line {
     {
         self.clear();
         self.text.next_number(row.core.0);
-        self.text.next(kind_word(row.kind));
+        self.next_kind(row.kind);
         self.next_job(plan, job, row.job);
         self.next_resource(plan, row.res);
         self.next_ahead(version, row.ahead);
@@ -225,19 +247,13 @@ impl RowLine {
     /// The row that is kept, as it is in another tick.
     #[inline(always)]
     pub(crate) fn in_tick(&self, tick: u32) -> Option<Row>
+        ensures row { result ≡ option_map (in_tick tick) self.now.row }
         ensures tick { IfSome result (λ row. row.tick ≡ tick) }
         ensures whole { (version : TextVersion) (plan : PlanModel) → IsWhole version plan self.now → IfSome result (λ row. is_short row.tick ≡ true → is_told_whole version plan row ≡ true) }
         ensures text { (version : TextVersion) (plan : PlanModel) → IsLine version plan self.now → IfSome result (λ row. self.now.line ≡ after_tick version plan row) }
     {
         match self.row {
-            Some(row) => Some(Row {
-                tick,
-                core: row.core,
-                kind: row.kind,
-                job: row.job,
-                res: row.res,
-                ahead: row.ahead,
-            }),
+            Some(row) => Some(row.in_tick(tick)),
             None => None,
         }
     }

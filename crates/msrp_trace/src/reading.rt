@@ -58,6 +58,7 @@ pub struct TraceReader<'a, R> {
 }
 
 // A row as a text of the version tells it: version 1 leaves out the ahead.
+#[inline(always)]
 fn told_in(version: TextVersion, row: Row) -> Row
     ensures { result ≡ as_read version row }
 {
@@ -222,6 +223,7 @@ impl<'a, R: Read> TraceReader<'a, R> {
     /// Whether the next row is this one. Its text is compared with the bytes that come next. Where they are the same the row is
     /// taken, as [`TraceReader::next_row`] takes it, and else nothing is. Where no whole line was read ahead, more is read. A
     /// row with quotes in its text isn't met, nor is any once there were such.
+    #[inline(always)]
     pub fn meets(&mut self, row: &Row) -> bool
         ensures taken { result ≡ true → (told : Told) → told_left R.remaining self.old ≡ Some told → GivesNext told (Ok (Some row.now)) (told_left R.remaining self.new) }
         ensures kept { result ≡ false → (told : Told) → told_left R.remaining self.old ≡ Some told → told_left R.remaining self.new ≡ Some told }
@@ -256,6 +258,7 @@ impl<'a, R: Read> TraceReader<'a, R> {
         ensures taken { result ≡ true → (told : Told) → told_left R.remaining self.old ≡ Some told → GivesNext told (Ok (Some row.now)) (told_left R.remaining self.new) }
         ensures kept { result ≡ false → (told : Told) → told_left R.remaining self.old ≡ Some told → told_left R.remaining self.new ≡ Some told }
         ensures stage { self.new.stage ≡ Stage.Rows }
+        ensures texts { self.new.foreseen ≡ self.old.foreseen }
         ensures finds { CanMeet self.old row.now → result ≡ true }
         ensures comes { ComesNext R.remaining self.old row.now → (result ≡ true) ⊎ (ahead_failed self.new ≡ true) }
         ensures trace { IsOfTrace self.old self.new }
@@ -314,10 +317,10 @@ impl<'a, R: Read> TraceReader<'a, R> {
         self.core_ahead()
     }
 
-    // The next row, where it is the last row of its core whose texts were made, in another tick. It is met as by `meets`;
-    // where it isn't met nothing is taken.
+    /// The next row, where it is its core's last one again, in another tick, as far as that one is kept. It is met as
+    /// [`TraceReader::meets`] meets a row; where it isn't met nothing is taken.
     #[inline(always)]
-    fn next_alike(&mut self) -> Option<Row>
+    pub fn next_again(&mut self) -> Option<Row>
         ensures taken { IfSome result (λ row. (told : Told) → told_left R.remaining self.old ≡ Some told → GivesNext told (Ok (Some row)) (told_left R.remaining self.new)) }
         ensures kept { result ≡ None → (told : Told) → told_left R.remaining self.old ≡ Some told → told_left R.remaining self.new ≡ Some told }
         ensures same { has_failed self.new ≡ has_failed self.old }
@@ -338,7 +341,8 @@ impl<'a, R: Read> TraceReader<'a, R> {
         // Read so that the plan is known to be an accepted one.
         let _accepted = self.plan.tasks();
         if self.stage == Stage::Rows && is_short(row.tick) && self.takes(&row, next) {
-            return Some(row);
+            // Asked anew, so that the row isn't held while its text is compared.
+            return self.foreseen.last(core);
         }
         None
     }
@@ -362,9 +366,29 @@ impl<'a, R: Read> TraceReader<'a, R> {
         ensures trace { IsOfTrace self.old self.new }
         ensures stands { (records : List (List (List ℕ))) → StandsIn R.remaining records self.old → StandsBehind R.remaining records result self.new }
     {
-        if let Some(row) = self.next_alike() {
+        if let Some(row) = self.next_again() {
             return Ok(Some(row));
         }
+        self.next_anew(foresee)
+    }
+
+    /// The same, but it isn't looked first whether the core does its last row again, as [`TraceReader::next_again`] looks.
+    #[inline(never)]
+    pub fn next_anew<F: FnOnce(CoreId) -> Option<Row>>(
+        &mut self,
+        foresee: F,
+    ) -> Result<Option<Row>, TraceError>
+        requires { F.IsAlwaysCallable foresee }
+        ensures next { (told : Told) → told_left R.remaining self.old ≡ Some told → GivesNext told result (told_left R.remaining self.new) }
+        ensures goes { OnOk result (has_failed self.new ≡ false) }
+        ensures fails { OnErr result (has_failed self.new ≡ true) }
+        ensures failed { has_failed self.old ≡ true → result ≡ Err TraceError.Failed }
+        ensures going { has_failed self.old ≡ false → ¬ (result ≡ Err TraceError.Failed) }
+        ensures read { result ≡ Err TraceError.Read → source_failed (source_of self.new) ≡ true }
+        ensures memory { result ≡ Err TraceError.Memory → source_failed (source_of self.new) ≡ false }
+        ensures trace { IsOfTrace self.old self.new }
+        ensures stands { (records : List (List (List ℕ))) → StandsIn R.remaining records self.old → StandsBehind R.remaining records result self.new }
+    {
         if let Some(row) = self.core_ahead().and_then(foresee) {
             let row = told_in(self.version, row);
             if self.meets(&row) {

@@ -76,6 +76,7 @@ impl<const N: usize> Text<N> {
     }
 
     /// Takes some bytes more, for which there is room.
+    #[inline(always)]
     pub(crate) fn add(&mut self, bytes: &[u8])
         requires { length self.old + length bytes.now ≤ N }
         ensures text { self.new ≡ self.old ++ bytes.now }
@@ -112,6 +113,7 @@ impl<const N: usize> Text<N> {
     }
 
     /// Takes a further field of a record, after a comma.
+    #[inline(always)]
     pub(crate) fn next(&mut self, field: &[u8])
         requires { length self.old + length field.now < N }
         ensures text { self.new ≡ self.old ++ next_field field.now }

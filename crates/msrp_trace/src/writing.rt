@@ -148,6 +148,7 @@ impl<'a> TraceWriter<'a> {
 }
 
 /// Whether the row names a task and a resource of the plan, if it names any.
+#[inline]
 pub fn is_named(plan: &Plan, row: &Row) -> bool
     ensures { result ≡ is_named plan.now row.now }
 {

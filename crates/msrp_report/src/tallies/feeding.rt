@@ -17,6 +17,7 @@ fn still_going(job: JobId, done: u32, units: u32) -> Option<JobId>
 
 impl Tallies {
     // Counts a row of a job.
+    #[inline(always)]
     fn count(&mut self, plan: &Plan, job: JobId, row: Row)
         requires plan { IsPlan plan.now }
         requires told { Counts plan.now row self.old }
@@ -35,6 +36,7 @@ impl Tallies {
     }
 
     // Begins the tick of a row, if none of its rows has come.
+    #[inline(always)]
     fn reach(&mut self, plan: &Plan, row: Row)
         requires plan { IsPlan plan.now }
         requires told { GoesOn plan.now row self.old }
@@ -47,6 +49,7 @@ impl Tallies {
     }
 
     /// One row more of a legal run.
+    #[inline(always)]
     pub(crate) fn feed(&mut self, plan: &Plan, row: Row)
         requires plan { IsPlan plan.now }
         requires told { GoesOn plan.now row self.old }

@@ -7,13 +7,13 @@ use Rattle.msrp_trace.specs.Readers.{told_left}
 use Rattle.msrp_trace.proofs.ReadThrough.{IsReadTo}
 use Rattle.msrp_engine.proofs.report.report_rows.Given as goal
 
-abbrev pub invariant-loop-reporter : goal.invariant-loop-reporter
-invariant-loop-reporter g l =
+abbrev pub invariant-loop-row : goal.invariant-loop-row
+invariant-loop-row g l =
     (rows : List Row)
     × (l.reporter.plan.now ≡ l.fn.reporter.plan.now)
     × HasReported l.reporter rows
     × (fault_in l.reporter.plan.now rows ≡ None)
     × ((told : Told) → told_left g.T.Read.remaining l.fn.rows ≡ Some told → IsReadTo told rows (told_left g.T.Read.remaining l.rows))
 
-abbrev pub decreases-loop-reporter : goal.decreases-loop-reporter
-decreases-loop-reporter g l = l.reporter.auditor.plan.cores * l.reporter.auditor.plan.ticks - l.reporter.auditor.fed
+abbrev pub decreases-loop-row : goal.decreases-loop-row
+decreases-loop-row g l = l.reporter.auditor.plan.cores * l.reporter.auditor.plan.ticks - l.reporter.auditor.fed
