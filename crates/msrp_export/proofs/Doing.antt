@@ -5,7 +5,7 @@ use Rattle.msrp_plan.specs.Plan.{PlanModel, release, task_at}
 use Rattle.msrp_plan.specs.declared.ids.JobId.{JobId}
 use Rattle.msrp_plan.specs.declared.rows.Kind.{Kind}
 use Rattle.msrp_plan.specs.declared.rows.Row.{Row}
-use Rattle.msrp_export.specs.Signals.{acquired, active_state, doing_of, given_up, job_after, kind_in, last_row, work}
+use Rattle.msrp_export.specs.Signals.{active_state, doing_of, job_after, kind_in, last_row, work}
 use Rattle.msrp_export.specs.Tells.{count_of}
 use Rattle.msrp_export.specs.declared.standing.TaskCount.{TaskCount}
 use Rattle.msrp_export.specs.declared.states.TaskState.TheVariants.{Unreleased}

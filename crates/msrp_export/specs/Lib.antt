@@ -1,4 +1,5 @@
 pub mod Words
+pub mod Groups
 pub mod Signals
 pub mod Keeping
 pub mod Ticks

@@ -2,8 +2,7 @@
 -- slices are its stretches of rows of one kind, job and resource, a task's those in one state with one job, a resource's those of one
 -- holder. An arrow goes from the row in which a job joins a queue to the one in which it is granted the resource. Its number tells the
 -- task and how much its jobs had done: each request of a task has its own.
-use Rattle.std.specs.Prelude.{ℕ, List, [], ◌++◌, Bool, true, false, not, ◌&&◌, codes, decimal, length, Option, Some, None, is_some, if◌then◌else◌, ◌+◌, ◌*◌}
-use Rattle.std.specs.List.{flat_map, range_with_len}
+use Rattle.std.specs.Prelude.{ℕ, List, [], ◌++◌, Bool, true, false, not, ◌&&◌, codes, decimal, Option, Some, None, is_some, if◌then◌else◌, ◌+◌, ◌*◌}
 use Rattle.msrp_plan.specs.Jobs.{same_job}
 use Rattle.msrp_plan.specs.Plan.{PlanModel, task_at}
 use Rattle.msrp_plan.specs.Runs.{same_choice}
@@ -12,24 +11,24 @@ use Rattle.msrp_plan.specs.declared.ids.JobId.{JobId}
 use Rattle.msrp_plan.specs.declared.rows.Kind.{Kind}
 use Rattle.msrp_plan.specs.declared.rows.Kind.TheVariants.{Grant, Queue}
 use Rattle.msrp_plan.specs.declared.rows.Row.{Row}
+use Rattle.msrp_export.specs.Groups.{each, name_of}
 use Rattle.msrp_export.specs.Keeping.{keeps_row, same_doing}
 use Rattle.msrp_export.specs.Signals.{holder, last_row}
 use Rattle.msrp_export.specs.Ticks.{doing_before, rows_before}
-use Rattle.msrp_export.specs.Words.{faulty_text, job_text, kind_text, res_name, res_text, rule_text, state_text, task_name}
-use Rattle.msrp_export.specs.declared.perfetto.Group.{Group}
-use Rattle.msrp_export.specs.declared.perfetto.Group.TheVariants.{Cores, Resources, Tasks, Verdict}
+use Rattle.msrp_export.specs.Words.{faulty_text, job_text, kind_text, res_text, rule_text, state_text}
+use Rattle.msrp_export.specs.declared.groups.Group.{Group}
+use Rattle.msrp_export.specs.declared.groups.Group.TheVariants.{Cores, Resources, Tasks}
 use Rattle.msrp_export.specs.declared.standing.ResState.{ResState}
 use Rattle.msrp_export.specs.declared.states.Doing.{Doing}
 use Rattle.msrp_export.specs.declared.states.TaskState.{TaskState}
 use Rattle.msrp_export.specs.declared.states.TaskState.TheVariants.{Unreleased}
 
 -- ---- events
--- tracks are the threads of a process: that of cores, of tasks, of resources, and of the fault
+-- tracks are the threads of a process: that of cores, of tasks and of resources
 unfoldable pub pid : Group → List ℕ
 pid Cores = codes "100"
 pid Tasks = codes "200"
 pid Resources = codes "300"
-pid Verdict = codes "400"
 
 -- where an event stands
 abbrev pub place : Group → ℕ → List ℕ
@@ -128,46 +127,31 @@ holder_begin plan tick g (Some j) = holder_event plan tick g j
 abbrev pub res_change : PlanModel → ℕ → ℕ → ResState → ResState → List ℕ
 res_change plan tick g before now = if same_choice before.holder now.holder then [] else holder_end tick g before.holder ++ holder_begin plan tick g now.holder
 
--- ---- head and end
+-- ---- tracks
+-- a core's number needs a word before it
+unfoldable pub title : Group → List ℕ
+title Cores = codes "core "
+title _ = []
+
 -- a track has a name, and stands in the order of numbers
-abbrev pub track_begin : Group → ℕ → List ℕ
-track_begin group n = codes ",\n{\"ph\":\"M\"," ++ place group n ++ codes ",\"name\":\"thread_name\",\"args\":{\"name\":\""
+abbrev pub track : PlanModel → Group → ℕ → List ℕ
+track plan group n =
+    codes ",\n{\"ph\":\"M\"," ++ place group n ++ codes ",\"name\":\"thread_name\",\"args\":{\"name\":\"" ++ title group ++ name_of plan group n ++ codes "\"}},\n{\"ph\":\"M\"," ++ place group n
+    ++ codes ",\"name\":\"thread_sort_index\",\"args\":{\"sort_index\":" ++ decimal n ++ codes "}}"
 
-abbrev pub track_end : Group → ℕ → List ℕ
-track_end group n = codes "\"}},\n{\"ph\":\"M\"," ++ place group n ++ codes ",\"name\":\"thread_sort_index\",\"args\":{\"sort_index\":" ++ decimal n ++ codes "}}"
-
-abbrev pub core_track : ℕ → List ℕ
-core_track c = track_begin Cores c ++ codes "core " ++ decimal c ++ track_end Cores c
-
-abbrev pub task_track : PlanModel → ℕ → List ℕ
-task_track plan t = track_begin Tasks t ++ task_name plan t ++ track_end Tasks t
-
-abbrev pub res_track : PlanModel → ℕ → List ℕ
-res_track plan g = track_begin Resources g ++ res_name plan g ++ track_end Resources g
-
-unfoldable pub head_text : PlanModel → List ℕ
-head_text plan =
-    codes "{\"displayTimeUnit\":\"ns\",\"otherData\":{\"program\":\"msrp_view\",\"time\":\"one microsecond is one tick\"},\"traceEvents\":[\n{\"ph\":\"M\",\"pid\":100,\"name\":\"process_name\",\"args\":{\"name\":\"cores\"}},\n{\"ph\":\"M\",\"pid\":100,\"name\":\"process_sort_index\",\"args\":{\"sort_index\":1}},\n{\"ph\":\"M\",\"pid\":200,\"name\":\"process_name\",\"args\":{\"name\":\"tasks\"}},\n{\"ph\":\"M\",\"pid\":200,\"name\":\"process_sort_index\",\"args\":{\"sort_index\":2}},\n{\"ph\":\"M\",\"pid\":300,\"name\":\"process_name\",\"args\":{\"name\":\"resources\"}},\n{\"ph\":\"M\",\"pid\":300,\"name\":\"process_sort_index\",\"args\":{\"sort_index\":3}}"
-    ++ flat_map core_track (range_with_len 0 plan.cores)
-    ++ flat_map (task_track plan) (range_with_len 0 (length plan.tasks))
-    ++ flat_map (res_track plan) (range_with_len 0 (length plan.resources))
-
--- the rule that is broken in a tick, and by which row
+-- ---- fault and end
+-- the rule that is broken in a tick, and by which row, in a process of its own
 abbrev pub broken_text : PlanModel → ℕ → Rule → Option Row → List ℕ
 broken_text plan tick rule r =
-    codes ",\n{\"ph\":\"M\",\"pid\":400,\"name\":\"process_name\",\"args\":{\"name\":\"verdict\"}}" ++ event (codes "i") Verdict 0 tick ++ codes ",\"s\":\"g\",\"name\":\"fault " ++ rule_text rule
+    codes ",\n{\"ph\":\"M\",\"pid\":400,\"name\":\"process_name\",\"args\":{\"name\":\"verdict\"}},\n{\"ph\":\"i\",\"pid\":400,\"tid\":1,\"ts\":" ++ decimal tick ++ codes ",\"s\":\"g\",\"name\":\"fault " ++ rule_text rule
     ++ codes "\",\"args\":{\"rule\":\"" ++ rule_text rule ++ codes "\",\"row\":\"" ++ faulty_text plan r ++ codes "\"}}"
 
--- the slices end that are open behind rows; of tasks those of the tick before this one
-abbrev pub core_ends : PlanModel → List Row → ℕ → List ℕ
-core_ends plan rows time = flat_map (λ c. row_end time c (last_row c rows)) (range_with_len 0 plan.cores)
+-- the slice that is open when a tick begins ends at a time, if there is one: of a task it is that of the tick before
+abbrev pub slice_end : PlanModel → List Row → ℕ → ℕ → Group → ℕ → List ℕ
+slice_end plan rows tick time Cores c = row_end time c (last_row c (rows_before plan rows tick))
+slice_end plan rows tick time Tasks t = task_end time t (doing_before plan rows tick t)
+slice_end plan rows tick time Resources g = holder_end time g (holder g (rows_before plan rows tick))
 
-abbrev pub task_ends : PlanModel → List Row → ℕ → ℕ → List ℕ
-task_ends plan rows tick time = flat_map (λ t. task_end time t (doing_before plan rows tick t)) (range_with_len 0 (length plan.tasks))
-
-abbrev pub res_ends : PlanModel → List Row → ℕ → List ℕ
-res_ends plan rows time = flat_map (λ g. holder_end time g (holder g rows)) (range_with_len 0 (length plan.resources))
-
--- each slice that is open when this tick begins ends at that time, and so does the text
+-- so do all, and the text
 unfoldable pub ends_text : PlanModel → List Row → ℕ → ℕ → List ℕ
-ends_text plan rows tick time = core_ends plan (rows_before plan rows tick) time ++ task_ends plan rows tick time ++ res_ends plan (rows_before plan rows tick) time ++ codes "\n]}\n"
+ends_text plan rows tick time = each plan (slice_end plan rows tick time) ++ codes "\n]}\n"

@@ -2,15 +2,17 @@
 -- time is one tick. Of each core it says what it does (k), for which job (j) and on which resource (g); of each task its state (t), and whether it is late (l); of
 -- each resource its holder (h) and how many jobs stand in its queue (q); and the rule that is broken (f), and the row that breaks it (r).
 -- Strings are as GTKWave reads them, and numbers are reals.
-use Rattle.std.specs.Prelude.{ℕ, List, [], ◌++◌, Bool, not, nat_eq, ◌==◌, ◌&&◌, codes, decimal, length, Option, Some, None, if◌then◌else◌}
-use Rattle.std.specs.List.{flat_map, range_with_len}
+use Rattle.std.specs.Prelude.{ℕ, List, [], ◌++◌, Bool, not, nat_eq, ◌==◌, ◌&&◌, codes, decimal, Option, Some, None, if◌then◌else◌}
 use Rattle.msrp_plan.specs.Plan.{PlanModel}
 use Rattle.msrp_plan.specs.Runs.{same_choice}
 use Rattle.msrp_plan.specs.declared.faults.Rule.{Rule}
 use Rattle.msrp_plan.specs.declared.ids.JobId.{JobId}
 use Rattle.msrp_plan.specs.declared.rows.Row.{Row}
+use Rattle.msrp_export.specs.Groups.{name_of}
 use Rattle.msrp_export.specs.Keeping.{keeps_job, keeps_kind, keeps_res, same_bit, same_state}
-use Rattle.msrp_export.specs.Words.{bit_text, faulty_text, job_text, kind_text, res_name, res_text, rule_text, state_text, task_name}
+use Rattle.msrp_export.specs.Words.{bit_text, faulty_text, job_text, kind_text, res_text, rule_text, state_text}
+use Rattle.msrp_export.specs.declared.groups.Group.{Group}
+use Rattle.msrp_export.specs.declared.groups.Group.TheVariants.{Cores, Resources, Tasks}
 use Rattle.msrp_export.specs.declared.standing.ResState.{ResState}
 use Rattle.msrp_export.specs.declared.states.Doing.{Doing}
 use Rattle.msrp_export.specs.declared.states.TaskState.{TaskState}
@@ -68,28 +70,22 @@ queue_change tick g before now = unless_same tick (before == now) (number_line n
 abbrev pub res_change : PlanModel → ℕ → ℕ → ResState → ResState → List ℕ
 res_change plan tick g before now = holder_change plan tick g before.holder now.holder ++ queue_change tick g before.queued now.queued
 
--- ---- head and end
+-- ---- signals
+-- what stands before a name
+unfoldable pub prefix : Group → List ℕ
+prefix Cores = codes " core_"
+prefix Tasks = codes " task_"
+prefix Resources = codes " resource_"
+
+-- a signal has a type, a letter with a number, and a name
+abbrev pub signal : PlanModel → List ℕ → List ℕ → Group → ℕ → List ℕ → List ℕ
+signal plan type letter group n end = codes "$var " ++ type ++ codes " " ++ letter ++ decimal n ++ prefix group ++ name_of plan group n ++ end ++ codes " $end\n"
+
 -- the signals of a core, of a task and of a resource
-abbrev pub core_head : ℕ → List ℕ
-core_head c =
-    codes "$var string 1 k" ++ decimal c ++ codes " core_" ++ decimal c ++ codes "_does $end\n$var string 1 j" ++ decimal c ++ codes " core_" ++ decimal c ++ codes "_job $end\n$var string 1 g" ++ decimal c
-    ++ codes " core_" ++ decimal c ++ codes "_resource $end\n"
-
-abbrev pub task_head : PlanModel → ℕ → List ℕ
-task_head plan t =
-    codes "$var string 1 t" ++ decimal t ++ codes " task_" ++ task_name plan t ++ codes " $end\n$var wire 1 l" ++ decimal t ++ codes " task_" ++ task_name plan t ++ codes "_late $end\n"
-
-abbrev pub res_head : PlanModel → ℕ → List ℕ
-res_head plan g =
-    codes "$var string 1 h" ++ decimal g ++ codes " resource_" ++ res_name plan g ++ codes "_holder $end\n$var real 64 q" ++ decimal g ++ codes " resource_" ++ res_name plan g ++ codes "_queue $end\n"
-
-unfoldable pub head_text : PlanModel → List ℕ
-head_text plan =
-    codes "$version msrp $end\n$comment One unit of time is one tick. $end\n$timescale 1 us $end\n$scope module msrp $end\n$var string 1 f0 fault $end\n$var string 1 r0 faulty_row $end\n"
-    ++ flat_map core_head (range_with_len 0 plan.cores)
-    ++ flat_map (task_head plan) (range_with_len 0 (length plan.tasks))
-    ++ flat_map (res_head plan) (range_with_len 0 (length plan.resources))
-    ++ codes "$upscope $end\n$enddefinitions $end\n"
+abbrev pub signals : PlanModel → Group → ℕ → List ℕ
+signals plan Cores n = signal plan (codes "string 1") (codes "k") Cores n (codes "_does") ++ signal plan (codes "string 1") (codes "j") Cores n (codes "_job") ++ signal plan (codes "string 1") (codes "g") Cores n (codes "_resource")
+signals plan Tasks n = signal plan (codes "string 1") (codes "t") Tasks n [] ++ signal plan (codes "wire 1") (codes "l") Tasks n (codes "_late")
+signals plan Resources n = signal plan (codes "string 1") (codes "h") Resources n (codes "_holder") ++ signal plan (codes "real 64") (codes "q") Resources n (codes "_queue")
 
 -- the rule that is broken, and by which row
 abbrev pub broken_text : PlanModel → Rule → Option Row → List ℕ

@@ -1,11 +1,14 @@
-//! What each tick changes, in either format: one walk over cores, tasks and resources.
+//! What is written in either format: a head, what each tick changes, and an end. One walk goes over cores, tasks and resources.
 ghost use Rattle.std.specs.Prelude.{◌≡◌, ◌<◌, List, length};
 ghost use Rattle.msrp_plan.specs.Bytes.{Wrote};
+ghost use Rattle.msrp_plan.specs.WellFormed.{IsPlan};
 ghost use Rattle.msrp_plan.specs.declared.rows.Row.{Row as TraceRow};
-ghost use Rattle.msrp_export.specs.Changes.{broken_text, core_change, core_changes, ends_text, head_text, res_change, res_changes, task_change, task_changes, tick_begin, tick_text};
+ghost use Rattle.msrp_export.specs.Changes.{broken_text, change, core_change, ends_text, head_begin, head_end, head_of, head_text, res_change, task_change, tick_begin, tick_text};
 ghost use Rattle.msrp_export.specs.Exports.{TellsTick};
+ghost use Rattle.msrp_export.specs.Groups.{count_of, each_of};
 
 use crate::formats::Format;
+use crate::groups::{Group, count_of};
 use crate::recent::Recent;
 use crate::standing::ResState;
 use crate::states::{Doing, doing_before, doing_in};
@@ -79,42 +82,52 @@ fn add_res_change<W: Write>(
     }
 }
 
-// What a tick changes of the cores.
-fn add_cores<W: Write>(out: &mut Sink<W>, format: Format, plan: &Plan, recent: &Recent, tick: u32)
-    ensures { (rows : List TraceRow) → TellsTick plan.now rows tick recent.now → Wrote W.contents out.old out.new (core_changes format plan.now rows tick) }
-{
-    for core in 0..plan.cores() {
-        let before = recent.before.last(CoreId(core));
-        let now = recent.latest.last(CoreId(core));
-        add_core_change(out, format, plan, tick, CoreId(core), before, now);
-    }
-}
-
-// What a tick changes of the tasks.
-fn add_tasks<W: Write>(out: &mut Sink<W>, format: Format, plan: &Plan, recent: &Recent, tick: u32)
-    ensures { (rows : List TraceRow) → TellsTick plan.now rows tick recent.now → Wrote W.contents out.old out.new (task_changes format plan.now rows tick) }
-{
-    for task in 0..plan.tasks() {
-        let before = doing_before(plan, recent, tick, TaskId(task));
-        let now = doing_in(plan, recent, tick, TaskId(task));
-        add_task_change(out, format, plan, tick, TaskId(task), before, now);
-    }
-}
-
-// What a tick changes of the resources.
-fn add_resources<W: Write>(
+// What a tick changes of a core, of a task or of a resource.
+fn add_change<W: Write>(
     out: &mut Sink<W>,
     format: Format,
     plan: &Plan,
     recent: &Recent,
     tick: u32,
+    group: Group,
+    number: u32,
 )
-    ensures { (rows : List TraceRow) → TellsTick plan.now rows tick recent.now → Wrote W.contents out.old out.new (res_changes format plan.now rows tick) }
+    requires plan { IsPlan plan.now }
+    requires number { number < count_of plan.now group }
+    ensures { (rows : List TraceRow) → TellsTick plan.now rows tick recent.now → Wrote W.contents out.old out.new (change format plan.now rows tick group number) }
 {
-    for res in 0..plan.resources() {
-        let before = recent.before.res_state(ResId(res));
-        let now = recent.latest.res_state(ResId(res));
-        add_res_change(out, format, plan, tick, ResId(res), before, now);
+    match group {
+        Group::Cores => {
+            let before = recent.before.last(CoreId(number));
+            let now = recent.latest.last(CoreId(number));
+            add_core_change(out, format, plan, tick, CoreId(number), before, now);
+        }
+        Group::Tasks => {
+            let before = doing_before(plan, recent, tick, TaskId(number));
+            let now = doing_in(plan, recent, tick, TaskId(number));
+            add_task_change(out, format, plan, tick, TaskId(number), before, now);
+        }
+        Group::Resources => {
+            let before = recent.before.res_state(ResId(number));
+            let now = recent.latest.res_state(ResId(number));
+            add_res_change(out, format, plan, tick, ResId(number), before, now);
+        }
+    }
+}
+
+// What a tick changes of all of a group.
+fn add_changes_of<W: Write>(
+    out: &mut Sink<W>,
+    format: Format,
+    plan: &Plan,
+    recent: &Recent,
+    tick: u32,
+    group: Group,
+)
+    ensures { (rows : List TraceRow) → TellsTick plan.now rows tick recent.now → Wrote W.contents out.old out.new (each_of plan.now (change format plan.now rows tick) group) }
+{
+    for number in 0..count_of(plan, group) {
+        add_change(out, format, plan, recent, tick, group, number);
     }
 }
 
@@ -130,19 +143,63 @@ pub(crate) fn add_changes<W: Write>(
     ensures { (rows : List TraceRow) → TellsTick plan.now rows tick recent.now → Wrote W.contents out.old out.new (tick_text format plan.now rows tick) }
 {
     add_tick(out, format, tick);
-    add_cores(out, format, plan, recent, tick);
-    add_tasks(out, format, plan, recent, tick);
-    add_resources(out, format, plan, recent, tick);
+    add_changes_of(out, format, plan, recent, tick, Group::Cores);
+    add_changes_of(out, format, plan, recent, tick, Group::Tasks);
+    add_changes_of(out, format, plan, recent, tick, Group::Resources);
+}
+
+#[tactic(auto, unfolding(crate::specs::Changes::head_begin))]
+fn head_begin(format: Format) -> &'static [u8]
+    ensures { result.now ≡ head_begin format }
+{
+    match format {
+        Format::Vcd => {
+            b"$version msrp $end\n$comment One unit of time is one tick. $end\n$timescale 1 us $end\n$scope module msrp $end\n$var string 1 f0 fault $end\n$var string 1 r0 faulty_row $end\n"
+        }
+        Format::Perfetto => {
+            b"{\"displayTimeUnit\":\"ns\",\"otherData\":{\"program\":\"msrp_view\",\"time\":\"one microsecond is one tick\"},\"traceEvents\":[\n{\"ph\":\"M\",\"pid\":100,\"name\":\"process_name\",\"args\":{\"name\":\"cores\"}},\n{\"ph\":\"M\",\"pid\":100,\"name\":\"process_sort_index\",\"args\":{\"sort_index\":1}},\n{\"ph\":\"M\",\"pid\":200,\"name\":\"process_name\",\"args\":{\"name\":\"tasks\"}},\n{\"ph\":\"M\",\"pid\":200,\"name\":\"process_sort_index\",\"args\":{\"sort_index\":2}},\n{\"ph\":\"M\",\"pid\":300,\"name\":\"process_name\",\"args\":{\"name\":\"resources\"}},\n{\"ph\":\"M\",\"pid\":300,\"name\":\"process_sort_index\",\"args\":{\"sort_index\":3}}"
+        }
+    }
+}
+
+#[tactic(auto, unfolding(crate::specs::Changes::head_end))]
+fn head_end(format: Format) -> &'static [u8]
+    ensures { result.now ≡ head_end format }
+{
+    match format {
+        Format::Vcd => b"$upscope $end\n$enddefinitions $end\n",
+        Format::Perfetto => b"",
+    }
+}
+
+// What the head says of a core, of a task or of a resource.
+fn add_head_of<W: Write>(out: &mut Sink<W>, format: Format, plan: &Plan, group: Group, number: u32)
+    ensures { Wrote W.contents out.old out.new (head_of format plan.now group number) }
+{
+    match format {
+        Format::Vcd => vcd::add_signals(out, plan, group, number),
+        Format::Perfetto => perfetto::add_track(out, plan, group, number),
+    }
+}
+
+// What it says of all of a group.
+fn add_heads_of<W: Write>(out: &mut Sink<W>, format: Format, plan: &Plan, group: Group)
+    ensures { Wrote W.contents out.old out.new (each_of plan.now (head_of format plan.now) group) }
+{
+    for number in 0..count_of(plan, group) {
+        add_head_of(out, format, plan, group, number);
+    }
 }
 
 /// Writes what comes before the first tick.
 pub(crate) fn add_head<W: Write>(out: &mut Sink<W>, format: Format, plan: &Plan)
     ensures { Wrote W.contents out.old out.new (head_text format plan.now) }
 {
-    match format {
-        Format::Vcd => vcd::add_head(out, plan),
-        Format::Perfetto => perfetto::add_head(out, plan),
-    }
+    out.add(head_begin(format));
+    add_heads_of(out, format, plan, Group::Cores);
+    add_heads_of(out, format, plan, Group::Tasks);
+    add_heads_of(out, format, plan, Group::Resources);
+    out.add(head_end(format));
 }
 
 /// Writes the rule that is broken in a tick, and by which row, if there is one.

@@ -8,6 +8,7 @@
 mod changes;
 mod exporter;
 mod formats;
+mod groups;
 mod keeping;
 mod perfetto;
 mod recent;

@@ -1,32 +1,23 @@
-//! The JSON of trace events: its head, the events of cores, tasks and resources, and its end.
+//! The JSON of trace events: the tracks and events of cores, tasks and resources, and the end.
 ghost use Rattle.std.specs.Prelude.{◌≡◌, ◌<◌, List, length};
-ghost use Rattle.std.specs.List.{flat_map, range_with_len};
 ghost use Rattle.msrp_plan.specs.Bytes.{Wrote};
+ghost use Rattle.msrp_plan.specs.WellFormed.{IsPlan};
 ghost use Rattle.msrp_plan.specs.declared.rows.Row.{Row as TraceRow};
 ghost use Rattle.msrp_export.specs.Exports.{TellsTick};
-ghost use Rattle.msrp_export.specs.Perfetto.{arrow, arrow_event, arrow_part, broken_text, core_change, core_ends, core_track, end_event, ends_text, event, has_slice, head_text, holder_begin, holder_end, holder_event, is_newly_late, job_args, late_event, late_instant, pid, place, res_change, res_ends, res_track, row_begin, row_end, row_event, task_begin, task_change, task_end, task_ends, task_event, task_slices, task_track, track_begin, track_end, works};
-ghost use Rattle.msrp_export.specs.Tells.{Tells};
+ghost use Rattle.msrp_export.specs.Groups.{count_of, each_of};
+ghost use Rattle.msrp_export.specs.Perfetto.{arrow, arrow_event, arrow_part, broken_text, core_change, end_event, ends_text, event, has_slice, holder_begin, holder_end, holder_event, is_newly_late, job_args, late_event, late_instant, pid, place, res_change, row_begin, row_end, row_event, slice_end, task_begin, task_change, task_end, task_event, task_slices, title, track, works};
 
+use crate::groups::{Group, add_name, count_of};
 use crate::keeping::{keeps_row, same_choice, same_doing, same_job};
 use crate::recent::Recent;
-use crate::standing::{ResState, Standing};
+use crate::standing::ResState;
 use crate::states::{Doing, TaskState, doing_before};
 use crate::words::{
-    add_faulty, add_job, add_long, add_number, kind_word, res_or_dash, res_word, rule_word,
-    state_word, task_word,
+    add_faulty, add_job, add_long, add_number, kind_word, res_or_dash, rule_word, state_word,
 };
 use msrp_plan::bytes::Sink;
 use msrp_plan::{CoreId, JobId, Kind, Plan, ResId, Row, Rule, TaskId};
 use std::io::Write;
-
-// What tracks are of: viewers show those of one kind together, as the threads of a process.
-#[derive(Clone, Copy)]
-enum Group {
-    Cores,
-    Tasks,
-    Resources,
-    Verdict,
-}
 
 // The number of a process.
 #[tactic(auto, unfolding(crate::specs::Perfetto::pid))]
@@ -37,7 +28,6 @@ fn pid_word(group: Group) -> &'static [u8]
         Group::Cores => b"100",
         Group::Tasks => b"200",
         Group::Resources => b"300",
-        Group::Verdict => b"400",
     }
 }
 
@@ -354,31 +344,49 @@ pub(crate) fn add_res_change<W: Write>(
     }
 }
 
-// The slices of all cores end.
-fn add_core_ends<W: Write>(out: &mut Sink<W>, plan: &Plan, now: &Standing, time: u32)
-    ensures { (rows : List TraceRow) → Tells now.now rows → Wrote W.contents out.old out.new (core_ends plan.now rows time) }
+// The slice of a core, of a task or of a resource ends, if one is open when a tick begins.
+fn add_slice_end<W: Write>(
+    out: &mut Sink<W>,
+    plan: &Plan,
+    recent: &Recent,
+    tick: u32,
+    time: u32,
+    group: Group,
+    number: u32,
+)
+    requires plan { IsPlan plan.now }
+    requires number { number < count_of plan.now group }
+    ensures { (rows : List TraceRow) → TellsTick plan.now rows tick recent.now → Wrote W.contents out.old out.new (slice_end plan.now rows tick time group number) }
 {
-    for core in 0..plan.cores() {
-        add_row_end(out, time, CoreId(core), now.last(CoreId(core)));
+    match group {
+        Group::Cores => {
+            let last = recent.before.last(CoreId(number));
+            add_row_end(out, time, CoreId(number), last);
+        }
+        Group::Tasks => {
+            let before = doing_before(plan, recent, tick, TaskId(number));
+            add_task_end(out, time, TaskId(number), before);
+        }
+        Group::Resources => {
+            let holder = recent.before.res_state(ResId(number)).holder;
+            add_holder_end(out, time, ResId(number), holder);
+        }
     }
 }
 
-// The slices of all tasks end, of what they did in the tick before.
-fn add_task_ends<W: Write>(out: &mut Sink<W>, plan: &Plan, recent: &Recent, tick: u32, time: u32)
-    ensures { (rows : List TraceRow) → TellsTick plan.now rows tick recent.now → Wrote W.contents out.old out.new (task_ends plan.now rows tick time) }
+// The slices of all of a group end.
+fn add_slice_ends<W: Write>(
+    out: &mut Sink<W>,
+    plan: &Plan,
+    recent: &Recent,
+    tick: u32,
+    time: u32,
+    group: Group,
+)
+    ensures { (rows : List TraceRow) → TellsTick plan.now rows tick recent.now → Wrote W.contents out.old out.new (each_of plan.now (slice_end plan.now rows tick time) group) }
 {
-    for task in 0..plan.tasks() {
-        let before = doing_before(plan, recent, tick, TaskId(task));
-        add_task_end(out, time, TaskId(task), before);
-    }
-}
-
-// The slices of all resources end.
-fn add_res_ends<W: Write>(out: &mut Sink<W>, plan: &Plan, now: &Standing, time: u32)
-    ensures { (rows : List TraceRow) → Tells now.now rows → Wrote W.contents out.old out.new (res_ends plan.now rows time) }
-{
-    for res in 0..plan.resources() {
-        add_holder_end(out, time, ResId(res), now.res_state(ResId(res)).holder);
+    for number in 0..count_of(plan, group) {
+        add_slice_end(out, plan, recent, tick, time, group, number);
     }
 }
 
@@ -393,95 +401,37 @@ pub(crate) fn add_ends<W: Write>(
 )
     ensures { (rows : List TraceRow) → TellsTick plan.now rows tick recent.now → Wrote W.contents out.old out.new (ends_text plan.now rows tick time) }
 {
-    add_core_ends(out, plan, &recent.before, time);
-    add_task_ends(out, plan, recent, tick, time);
-    add_res_ends(out, plan, &recent.before, time);
+    add_slice_ends(out, plan, recent, tick, time, Group::Cores);
+    add_slice_ends(out, plan, recent, tick, time, Group::Tasks);
+    add_slice_ends(out, plan, recent, tick, time, Group::Resources);
     out.add(b"\n]}\n");
 }
 
-// A track is named.
-fn add_track_begin<W: Write>(out: &mut Sink<W>, group: Group, number: u32)
-    ensures { Wrote W.contents out.old out.new (track_begin group number) }
+// What stands before the name of a track: a core's number needs a word.
+#[tactic(auto, unfolding(crate::specs::Perfetto::title))]
+fn title(group: Group) -> &'static [u8]
+    ensures { result.now ≡ title group }
+{
+    match group {
+        Group::Cores => b"core ",
+        _ => b"",
+    }
+}
+
+/// A track is named, and stands in the order of numbers.
+pub(crate) fn add_track<W: Write>(out: &mut Sink<W>, plan: &Plan, group: Group, number: u32)
+    ensures { Wrote W.contents out.old out.new (track plan.now group number) }
 {
     out.add(b",\n{\"ph\":\"M\",");
     add_place(out, group, number);
     out.add(b",\"name\":\"thread_name\",\"args\":{\"name\":\"");
-}
-
-// It stands in the order of numbers.
-fn add_track_end<W: Write>(out: &mut Sink<W>, group: Group, number: u32)
-    ensures { Wrote W.contents out.old out.new (track_end group number) }
-{
+    out.add(title(group));
+    add_name(out, plan, group, number);
     out.add(b"\"}},\n{\"ph\":\"M\",");
     add_place(out, group, number);
     out.add(b",\"name\":\"thread_sort_index\",\"args\":{\"sort_index\":");
     add_number(out, number);
     out.add(b"}}");
-}
-
-fn add_core_track<W: Write>(out: &mut Sink<W>, core: u32)
-    ensures { Wrote W.contents out.old out.new (core_track core) }
-{
-    add_track_begin(out, Group::Cores, core);
-    out.add(b"core ");
-    add_number(out, core);
-    add_track_end(out, Group::Cores, core);
-}
-
-// The tracks of all cores.
-fn add_core_tracks<W: Write>(out: &mut Sink<W>, plan: &Plan)
-    ensures { Wrote W.contents out.old out.new (flat_map core_track (range_with_len 0 plan.now.cores)) }
-{
-    for core in 0..plan.cores() {
-        add_core_track(out, core);
-    }
-}
-
-fn add_task_track<W: Write>(out: &mut Sink<W>, plan: &Plan, task: TaskId)
-    ensures { Wrote W.contents out.old out.new (task_track plan.now task.0) }
-{
-    add_track_begin(out, Group::Tasks, task.0);
-    out.add(task_word(plan, task));
-    add_track_end(out, Group::Tasks, task.0);
-}
-
-// The tracks of all tasks.
-fn add_task_tracks<W: Write>(out: &mut Sink<W>, plan: &Plan)
-    ensures { Wrote W.contents out.old out.new (flat_map (task_track plan.now) (range_with_len 0 (length plan.now.tasks))) }
-{
-    for task in 0..plan.tasks() {
-        add_task_track(out, plan, TaskId(task));
-    }
-}
-
-fn add_res_track<W: Write>(out: &mut Sink<W>, plan: &Plan, res: ResId)
-    ensures { Wrote W.contents out.old out.new (res_track plan.now res.0) }
-{
-    add_track_begin(out, Group::Resources, res.0);
-    out.add(res_word(plan, res));
-    add_track_end(out, Group::Resources, res.0);
-}
-
-// The tracks of all resources.
-fn add_res_tracks<W: Write>(out: &mut Sink<W>, plan: &Plan)
-    ensures { Wrote W.contents out.old out.new (flat_map (res_track plan.now) (range_with_len 0 (length plan.now.resources))) }
-{
-    for res in 0..plan.resources() {
-        add_res_track(out, plan, ResId(res));
-    }
-}
-
-/// Writes the head: which tracks there are.
-#[tactic(auto, unfolding(crate::specs::Perfetto::head_text))]
-pub(crate) fn add_head<W: Write>(out: &mut Sink<W>, plan: &Plan)
-    ensures { Wrote W.contents out.old out.new (head_text plan.now) }
-{
-    out.add(
-        b"{\"displayTimeUnit\":\"ns\",\"otherData\":{\"program\":\"msrp_view\",\"time\":\"one microsecond is one tick\"},\"traceEvents\":[\n{\"ph\":\"M\",\"pid\":100,\"name\":\"process_name\",\"args\":{\"name\":\"cores\"}},\n{\"ph\":\"M\",\"pid\":100,\"name\":\"process_sort_index\",\"args\":{\"sort_index\":1}},\n{\"ph\":\"M\",\"pid\":200,\"name\":\"process_name\",\"args\":{\"name\":\"tasks\"}},\n{\"ph\":\"M\",\"pid\":200,\"name\":\"process_sort_index\",\"args\":{\"sort_index\":2}},\n{\"ph\":\"M\",\"pid\":300,\"name\":\"process_name\",\"args\":{\"name\":\"resources\"}},\n{\"ph\":\"M\",\"pid\":300,\"name\":\"process_sort_index\",\"args\":{\"sort_index\":3}}",
-    );
-    add_core_tracks(out, plan);
-    add_task_tracks(out, plan);
-    add_res_tracks(out, plan);
 }
 
 /// Writes the rule that is broken in a tick, and by which row, if there is one.
@@ -495,9 +445,9 @@ pub(crate) fn add_broken<W: Write>(
     ensures { Wrote W.contents out.old out.new (broken_text plan.now tick rule row) }
 {
     out.add(
-        b",\n{\"ph\":\"M\",\"pid\":400,\"name\":\"process_name\",\"args\":{\"name\":\"verdict\"}}",
+        b",\n{\"ph\":\"M\",\"pid\":400,\"name\":\"process_name\",\"args\":{\"name\":\"verdict\"}},\n{\"ph\":\"i\",\"pid\":400,\"tid\":1,\"ts\":",
     );
-    add_event(out, b"i", Group::Verdict, 0, tick);
+    add_number(out, tick);
     out.add(b",\"s\":\"g\",\"name\":\"fault ");
     out.add(rule_word(rule));
     out.add(b"\",\"args\":{\"rule\":\"");

@@ -1,17 +1,16 @@
-//! A value change dump: its head, the lines of cores, tasks and resources, and what is broken.
-ghost use Rattle.std.specs.Prelude.{◌≡◌, ◌==◌, ◌&&◌, [], ◌++◌, codes, if◌then◌else◌, length, nat_eq, not};
-ghost use Rattle.std.specs.List.{flat_map, range_with_len};
+//! A value change dump: the signals and lines of cores, tasks and resources, and what is broken.
+ghost use Rattle.std.specs.Prelude.{◌≡◌, ◌==◌, ◌&&◌, [], ◌++◌, codes, if◌then◌else◌, nat_eq, not};
 ghost use Rattle.msrp_plan.specs.Bytes.{Wrote};
 ghost use Rattle.msrp_export.specs.Keeping.{keeps_job, keeps_kind, keeps_res};
-ghost use Rattle.msrp_export.specs.Vcd.{bit_line, broken_text, core_change, core_head, core_lines, head_text, holder_change, late_change, number_line, queue_change, res_change, res_head, state_change, task_change, task_head, tick_line, value_line};
+ghost use Rattle.msrp_export.specs.Vcd.{bit_line, broken_text, core_change, core_lines, holder_change, late_change, number_line, prefix, queue_change, res_change, signal, signals, state_change, task_change, tick_line, value_line};
 ghost use Rattle.msrp_export.specs.Words.{faulty_text, job_text, kind_text, res_text, rule_text};
 
+use crate::groups::{Group, add_name};
 use crate::keeping::{keeps_job, keeps_kind, keeps_res, same_bit, same_choice, same_state};
 use crate::standing::ResState;
 use crate::states::{Doing, TaskState};
 use crate::words::{
-    add_faulty, add_job, add_number, bit_word, kind_word, res_or_dash, res_word, rule_word,
-    state_word, task_word,
+    add_faulty, add_job, add_number, bit_word, kind_word, res_or_dash, rule_word, state_word,
 };
 use msrp_plan::bytes::Sink;
 use msrp_plan::{JobId, Plan, ResId, Row, Rule, TaskId};
@@ -202,94 +201,84 @@ pub(crate) fn add_res_change<W: Write>(
     add_queue_change(out, tick, res, before.queued, now.queued);
 }
 
-// The signals of a core.
-fn add_core_head<W: Write>(out: &mut Sink<W>, core: u32)
-    ensures { Wrote W.contents out.old out.new (core_head core) }
+// What stands before a name.
+#[tactic(auto, unfolding(crate::specs::Vcd::prefix))]
+fn prefix(group: Group) -> &'static [u8]
+    ensures { result.now ≡ prefix group }
 {
-    out.add(b"$var string 1 k");
-    add_number(out, core);
-    out.add(b" core_");
-    add_number(out, core);
-    out.add(b"_does $end\n$var string 1 j");
-    add_number(out, core);
-    out.add(b" core_");
-    add_number(out, core);
-    out.add(b"_job $end\n$var string 1 g");
-    add_number(out, core);
-    out.add(b" core_");
-    add_number(out, core);
-    out.add(b"_resource $end\n");
-}
-
-// The signals of all cores.
-fn add_core_heads<W: Write>(out: &mut Sink<W>, plan: &Plan)
-    ensures { Wrote W.contents out.old out.new (flat_map core_head (range_with_len 0 plan.now.cores)) }
-{
-    for core in 0..plan.cores() {
-        add_core_head(out, core);
+    match group {
+        Group::Cores => b" core_",
+        Group::Tasks => b" task_",
+        Group::Resources => b" resource_",
     }
 }
 
-// The signal of a task.
-fn add_task_head<W: Write>(out: &mut Sink<W>, plan: &Plan, task: TaskId)
-    ensures { Wrote W.contents out.old out.new (task_head plan.now task.0) }
+// A signal of a type, with its letter and its number, and its name.
+fn add_signal<W: Write>(
+    out: &mut Sink<W>,
+    plan: &Plan,
+    kind: &[u8],
+    letter: &[u8],
+    group: Group,
+    number: u32,
+    end: &[u8],
+)
+    ensures { Wrote W.contents out.old out.new (signal plan.now kind.now letter.now group number end.now) }
 {
-    out.add(b"$var string 1 t");
-    add_number(out, task.0);
-    out.add(b" task_");
-    out.add(task_word(plan, task));
-    out.add(b" $end\n$var wire 1 l");
-    add_number(out, task.0);
-    out.add(b" task_");
-    out.add(task_word(plan, task));
-    out.add(b"_late $end\n");
+    out.add(b"$var ");
+    out.add(kind);
+    out.add(b" ");
+    out.add(letter);
+    add_number(out, number);
+    out.add(prefix(group));
+    add_name(out, plan, group, number);
+    out.add(end);
+    out.add(b" $end\n");
 }
 
-// The signals of all tasks.
-fn add_task_heads<W: Write>(out: &mut Sink<W>, plan: &Plan)
-    ensures { Wrote W.contents out.old out.new (flat_map (task_head plan.now) (range_with_len 0 (length plan.now.tasks))) }
+/// The signals of a core, of a task or of a resource.
+pub(crate) fn add_signals<W: Write>(out: &mut Sink<W>, plan: &Plan, group: Group, number: u32)
+    ensures { Wrote W.contents out.old out.new (signals plan.now group number) }
 {
-    for task in 0..plan.tasks() {
-        add_task_head(out, plan, TaskId(task));
+    match group {
+        Group::Cores => {
+            add_signal(out, plan, b"string 1", b"k", Group::Cores, number, b"_does");
+            add_signal(out, plan, b"string 1", b"j", Group::Cores, number, b"_job");
+            add_signal(
+                out,
+                plan,
+                b"string 1",
+                b"g",
+                Group::Cores,
+                number,
+                b"_resource",
+            );
+        }
+        Group::Tasks => {
+            add_signal(out, plan, b"string 1", b"t", Group::Tasks, number, b"");
+            add_signal(out, plan, b"wire 1", b"l", Group::Tasks, number, b"_late");
+        }
+        Group::Resources => {
+            add_signal(
+                out,
+                plan,
+                b"string 1",
+                b"h",
+                Group::Resources,
+                number,
+                b"_holder",
+            );
+            add_signal(
+                out,
+                plan,
+                b"real 64",
+                b"q",
+                Group::Resources,
+                number,
+                b"_queue",
+            );
+        }
     }
-}
-
-// The signals of a resource.
-fn add_res_head<W: Write>(out: &mut Sink<W>, plan: &Plan, res: ResId)
-    ensures { Wrote W.contents out.old out.new (res_head plan.now res.0) }
-{
-    out.add(b"$var string 1 h");
-    add_number(out, res.0);
-    out.add(b" resource_");
-    out.add(res_word(plan, res));
-    out.add(b"_holder $end\n$var real 64 q");
-    add_number(out, res.0);
-    out.add(b" resource_");
-    out.add(res_word(plan, res));
-    out.add(b"_queue $end\n");
-}
-
-// The signals of all resources.
-fn add_res_heads<W: Write>(out: &mut Sink<W>, plan: &Plan)
-    ensures { Wrote W.contents out.old out.new (flat_map (res_head plan.now) (range_with_len 0 (length plan.now.resources))) }
-{
-    for res in 0..plan.resources() {
-        add_res_head(out, plan, ResId(res));
-    }
-}
-
-/// Writes the head: which signals there are.
-#[tactic(auto, unfolding(crate::specs::Vcd::head_text))]
-pub(crate) fn add_head<W: Write>(out: &mut Sink<W>, plan: &Plan)
-    ensures { Wrote W.contents out.old out.new (head_text plan.now) }
-{
-    out.add(
-        b"$version msrp $end\n$comment One unit of time is one tick. $end\n$timescale 1 us $end\n$scope module msrp $end\n$var string 1 f0 fault $end\n$var string 1 r0 faulty_row $end\n",
-    );
-    add_core_heads(out, plan);
-    add_task_heads(out, plan);
-    add_res_heads(out, plan);
-    out.add(b"$upscope $end\n$enddefinitions $end\n");
 }
 
 // The signal of the row that breaks a rule.

@@ -17,7 +17,7 @@ use Rattle.msrp_picture.specs.Laws.{EachRowInOneBlock, shown_rows, ticks_of}
 use Rattle.msrp_picture.specs.Stretches.{goes_on, joined, merged, same_look}
 use Rattle.msrp_picture.specs.declared.blocks.Lane.{Lane}
 use Rattle.msrp_picture.specs.declared.shapes.Look.{Look}
-use Rattle.msrp_picture.specs.declared.shapes.Look.TheVariants.{Does, Turn, First}
+use Rattle.msrp_picture.specs.declared.shapes.Look.TheVariants.{Ceiling, Does, Turn, First}
 use Rattle.msrp_picture.specs.declared.shapes.Room.{Room}
 use Rattle.msrp_picture.specs.declared.shapes.Span.{Span}
 
@@ -38,6 +38,7 @@ same_look_is : (a b : Look) → same_look a b ≡ true → a ≡ b
 same_look_is Turn Turn e = refl
 same_look_is (Does k) (Does l) e = ap Does (same_kind_is k l e)
 same_look_is (First n) (First m) e = ap First (eqb-true n m e)
+same_look_is (Ceiling n) (Ceiling m) e = ap Ceiling (eqb-true n m e)
 same_look_is _ _ e = absurd (cc)
 
 -- ---- one tick of a lane

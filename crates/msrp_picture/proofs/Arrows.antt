@@ -5,6 +5,7 @@ use Rattle.std.specs.List.{flat_map, range_with_len}
 use Rattle.std.proofs.lemmas.Bool.{eqb-true, le-leb}
 use Rattle.std.proofs.lemmas.List.Sums.{sum_by-append}
 use Rattle.msrp_plan.specs.Jobs.{job_at, jobs_of, same_job}
+use Rattle.msrp_plan.specs.Logs.{log_of}
 use Rattle.msrp_plan.specs.Plan.{PlanModel, release}
 use Rattle.msrp_plan.specs.declared.faults.Fault.{Fault}
 use Rattle.msrp_plan.specs.declared.ids.CoreId.{CoreId}
@@ -13,6 +14,7 @@ use Rattle.msrp_plan.specs.declared.rows.Row.{Row}
 use Rattle.msrp_plan.proofs.Jobs.JobTests.{same_self}
 use Rattle.msrp_plan.proofs.Lists.Ranges.{flat_more}
 use Rattle.msrp_picture.specs.Blocks.{blocks, span_of}
+use Rattle.msrp_picture.specs.Ceilings.{ceiling_shapes, ceiling_spans}
 use Rattle.msrp_picture.specs.Inside.TaskRows.{task_rows}
 use Rattle.msrp_picture.specs.Jobs.{active_span, event_of, late_span, life_shapes, task_jobs}
 use Rattle.msrp_picture.specs.Lanes.{axis, core_shapes, cores_shapes, rows_shapes, task_head, task_life, tasks_shapes, tick_note}
@@ -20,7 +22,7 @@ use Rattle.msrp_picture.specs.Laws.{OneArrowForEachRelease, is_release_of}
 use Rattle.msrp_picture.specs.Lines.{global_resources}
 use Rattle.msrp_picture.specs.Lives.{life_of}
 use Rattle.msrp_picture.specs.Marks.{broken_shapes, is_in, mark_shapes}
-use Rattle.msrp_picture.specs.Places.{core_room, core_top, queue_room, task_room}
+use Rattle.msrp_picture.specs.Places.{ceiling_room, core_room, core_top, queue_room, task_room}
 use Rattle.msrp_picture.specs.QueueLanes.{queue_shapes, queue_spans, queues_shapes}
 use Rattle.msrp_picture.specs.Sections.{ends_section, enters, first_section, log_sections, most_open, open_behind, section_at, section_end, section_span, sections}
 use Rattle.msrp_picture.specs.Seen.{is_seen, lane_of, met, note_of, seen}
@@ -31,14 +33,14 @@ use Rattle.msrp_picture.specs.declared.blocks.Lane.{Lane}
 use Rattle.msrp_picture.specs.declared.blocks.Owner.{Owner}
 use Rattle.msrp_picture.specs.declared.blocks.Owner.TheVariants.{Core as OfCore, Task as OfTask}
 use Rattle.msrp_picture.specs.declared.lives.Life.{Life}
-use Rattle.msrp_picture.specs.declared.places.TheConstants.{AXIS_LINE, CORE_LINE, NAME_LINE, SECTION_TOP}
+use Rattle.msrp_picture.specs.declared.places.TheConstants.{AXIS_LINE, CEILING_LINE, CORE_LINE, NAME_LINE, SECTION_TOP}
 use Rattle.msrp_picture.specs.declared.sections.Strip.{Strip}
 use Rattle.msrp_picture.specs.declared.shapes.Moment.TheVariants.{Release, Deadline}
 use Rattle.msrp_picture.specs.declared.shapes.Room.{Room}
 use Rattle.msrp_picture.specs.declared.shapes.Shape.{Shape}
 use Rattle.msrp_picture.specs.declared.shapes.Shape.TheVariants.{Block, Arrow, Text}
 use Rattle.msrp_picture.specs.declared.shapes.Span.{Span}
-use Rattle.msrp_picture.specs.declared.shapes.Words.TheVariants.{Core, Res, Tick}
+use Rattle.msrp_picture.specs.declared.shapes.Words.TheVariants.{Ceiling as CeilingLane, Core, Res, Tick}
 use Rattle.msrp_picture.specs.declared.windows.Window.{Window}
 
 -- ---- counts of joined lists
@@ -126,6 +128,11 @@ no-section plan j strip n (r ∷ rest) = by_test (enters r.kind) (section_span s
 no-sections : (plan : PlanModel) (j : JobId) (strip : Strip) (log : List Row) → count_by (is_release_of plan j) (log_sections strip log) ≡ 0
 no-sections plan j strip log = none-each (is_release_of plan j) (section_at strip log) (λ i. no-section plan j strip (open_behind (take i log)) (drop i log)) (range_with_len 0 (length log))
 
+no-ceilings : (plan : PlanModel) (j : JobId) (w : Window) (room : Room) (c : ℕ) (log : List Row) → count_by (is_release_of plan j) (ceiling_shapes plan w room c log) ≡ 0
+no-ceilings plan j w room c log =
+    let spans = merged (ceiling_spans plan room c log) in
+    none-both (is_release_of plan j) (note_of room CEILING_LINE CeilingLane ∷ [] ++ lane_of w room w.to ∷ []) (flat_map (seen w) spans) refl (no-blocks plan j w spans)
+
 no-core : (plan : PlanModel) (j : JobId) (w : Window) (legal later : List Row) (c : CoreId) → count_by (is_release_of plan j) (core_shapes plan w legal later c) ≡ 0
 no-core plan j w legal later c =
     let p = is_release_of plan j in
@@ -134,7 +141,9 @@ no-core plan j w legal later c =
     let name : List Shape = note_of (core_room plan c.0) CORE_LINE (Core c) ∷ [] in
     let lane : List Shape = lane_of w (core_room plan c.0) w.to ∷ [] in
     let none = none-each p (λ i. tick_note line (w.from + i)) (λ i. no-ticks plan j line (w.from + i)) (range_with_len 0 (w.to - w.from)) in
-    none-both p (ticks ++ name ++ lane) (rows_shapes w legal later (OfCore c) (core_room plan c.0)) (none-both p (ticks ++ name) lane (none-both p ticks name none refl) refl) (no-rows plan j w legal later (OfCore c) (core_room plan c.0))
+    let rows = rows_shapes w legal later (OfCore c) (core_room plan c.0) in
+    let drawn = none-both p (ticks ++ name ++ lane) rows (none-both p (ticks ++ name) lane (none-both p ticks name none refl) refl) (no-rows plan j w legal later (OfCore c) (core_room plan c.0)) in
+    none-both p (ticks ++ name ++ lane ++ rows) (ceiling_shapes plan w (ceiling_room plan c.0) c.0 (log_of c.0 legal)) drawn (no-ceilings plan j w (ceiling_room plan c.0) c.0 (log_of c.0 legal))
 
 no-queue : (plan : PlanModel) (j : JobId) (w : Window) (rows : List Row) (g : ℕ) → count_by (is_release_of plan j) (queue_shapes plan w rows g) ≡ 0
 no-queue plan j w rows g =

@@ -28,7 +28,7 @@ chosen : {X : Type 0} (f : ℕ → List X) (n : ℕ) (b : Bool) → flat_map f (
 chosen f n true = append-nil (f n)
 chosen f n false = refl
 
-some-more : (p : ℕ → Bool) (n : ℕ) → filter p (range_with_len 0 (n + 1)) ≡ filter p (range_with_len 0 n) ++ cond (p n) (n ∷ []) []
+pub some-more : (p : ℕ → Bool) (n : ℕ) → filter p (range_with_len 0 (n + 1)) ≡ filter p (range_with_len 0 n) ++ cond (p n) (n ∷ []) []
 some-more p n = ap (filter p) (range_more 0 n ∙ ap (λ k. range_with_len 0 n ++ k ∷ []) (nothing-plus n)) ∙ filter-append p (range_with_len 0 n) (n ∷ [])
 
 pub grows-some : {X : Type 0} (p : ℕ → Bool) (f : ℕ → List X) (n : ℕ) (a b c : List X) → b ≡ a ++ flat_map f (filter p (range_with_len 0 n)) → c ≡ b ++ cond (p n) (f n) []

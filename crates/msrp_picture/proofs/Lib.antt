@@ -5,5 +5,6 @@ pub mod Joining
 pub mod TaskRows
 pub mod Depths
 pub mod Marking
+pub mod Claims
 pub mod Apart
 pub mod Arrows

@@ -1,22 +1,13 @@
 -- The rows of a job among those of its task.
-use Rattle.std.proofs.Common.{◌≡◌, ℕ, Bool, true, false, cond, List, [], ◌∷◌, Option, Some, None, length, filter, refl, ap, sym, ◌∙◌}
+use Rattle.std.proofs.Common.{◌≡◌, ℕ, Bool, true, false, List, Option, Some, None, refl, ap, ◌∙◌}
 use Rattle.std.specs.Prelude.{fold, not, ◌&&◌, ◌==◌, ◌+◌}
-use Rattle.std.proofs.lemmas.List.Sums.{length-filter}
 use Rattle.msrp_plan.specs.Jobs.{done, is_job, is_row_of, is_waiting}
 use Rattle.msrp_plan.specs.declared.ids.JobId.{JobId}
 use Rattle.msrp_plan.specs.declared.rows.Row.{Row}
+use Rattle.msrp_plan.proofs.Lists.Filters.{all_of, count_within, filter_within}
 use Rattle.msrp_picture.specs.Inside.TaskRows.{is_job_of, task_rows}
 use Rattle.msrp_picture.specs.Lives.{after_last}
 use Rattle.msrp_picture.specs.declared.lives.Life.{Life}
-
-pick : (p : Row → Bool) (b c : Bool) (r : Row) (xs ys : List Row) → (b ≡ true → c ≡ true) → p r ≡ b → filter p xs ≡ ys → filter p (cond c (r ∷ xs) xs) ≡ cond b (r ∷ ys) ys
-pick p true c r xs ys only is h = ap (λ d. filter p (cond d (r ∷ xs) xs)) (only refl) ∙ (ap (λ d. cond d (r ∷ filter p xs) (filter p xs)) is ∙ ap (λ zs. r ∷ zs) h)
-pick p false true r xs ys only is h = ap (λ d. cond d (r ∷ filter p xs) (filter p xs)) is ∙ h
-pick p false false r xs ys only is h = h
-
-within : (p q : Row → Bool) → ((r : Row) → p r ≡ true → q r ≡ true) → (rows : List Row) → filter p (filter q rows) ≡ filter p rows
-within p q only [] = refl
-within p q only (r ∷ rows) = pick p (p r) (q r) r (filter q rows) (filter p rows) (only r) refl (within p q only rows)
 
 left : (a b : Bool) → a && b ≡ true → a ≡ true
 left true b e = refl
@@ -27,13 +18,13 @@ of-task j None e = absurd (cc)
 of-task j (Some i) e = left (i.task.0 == j.task.0) (i.k == j.k) e
 
 last-of-task : (j : JobId) (rows : List Row) → after_last j (task_rows j.task.0 rows) ≡ after_last j rows
-last-of-task j rows = ap (λ (xs : List Row). fold (λ _ r. r.tick + 1) 0 xs) (within (is_row_of j) (λ r. is_job_of j.task.0 r.job) (λ r e. of-task j r.job e) rows)
+last-of-task j rows = ap (λ (xs : List Row). fold (λ _ r. r.tick + 1) 0 xs) (filter_within (is_row_of j) (λ r. is_job_of j.task.0 r.job) rows (all_of (λ r. is_row_of j r ≡ true → is_job_of j.task.0 r.job ≡ true) (λ r e. of-task j r.job e) rows))
 
 done-of-task : (j : JobId) (rows : List Row) → done j (task_rows j.task.0 rows) ≡ done j rows
 done-of-task j rows =
     let p = λ (r : Row). is_row_of j r && not (is_waiting r.kind) in
-    sym (length-filter p (task_rows j.task.0 rows))
-    ∙ (ap (λ (xs : List Row). length xs) (within p (λ r. is_job_of j.task.0 r.job) (λ r e. of-task j r.job (left (is_row_of j r) (not (is_waiting r.kind)) e)) rows) ∙ length-filter p rows)
+    let own = λ (r : Row). is_job_of j.task.0 r.job in
+    count_within p own rows (all_of (λ r. p r ≡ true → own r ≡ true) (λ r e. of-task j r.job (left (is_row_of j r) (not (is_waiting r.kind)) e)) rows)
 
 -- the same, where these are the rows of its task
 pub done_same : (j : JobId) (rows own : List Row) → own ≡ task_rows j.task.0 rows → done j own ≡ done j rows

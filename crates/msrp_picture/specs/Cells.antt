@@ -1,5 +1,5 @@
 -- What one cell of a picture shows: a byte of ASCII.
-use Rattle.std.specs.Prelude.{ℕ, List, Option, Some, None, if◌then◌else◌, codes, decimal, nat_lt, nat_eq, slice_index_or, ◌-◌, ◌%◌}
+use Rattle.std.specs.Prelude.{ℕ, List, Bool, ◌&&◌, not, Option, Some, None, if◌then◌else◌, codes, decimal, nat_lt, nat_eq, slice_index_or, ◌-◌, ◌%◌}
 use Rattle.msrp_plan.specs.declared.ids.JobId.{JobId}
 use Rattle.msrp_plan.specs.declared.rows.Kind.{Kind}
 use Rattle.msrp_plan.specs.declared.rows.Kind.TheVariants.{Idle, Run, Lock, Unlock, Take, Queue, Spin, Grant, Release}
@@ -29,6 +29,18 @@ abbrev pub job_cell : Option JobId → ℕ
 job_cell None = nothing
 job_cell (Some j) = letter j.task.0
 
+-- two jobs of one task
+abbrev pub are_jobs_of_one : JobId → JobId → Bool
+are_jobs_of_one i j = nat_eq i.task.0 j.task.0 && not (nat_eq i.k j.k)
+
+-- a border where it is another job of the task whose job had the turn in the tick before
+abbrev pub border : ℕ
+border = byte (codes "|")
+
+abbrev pub turn_cell : Option JobId → Option JobId → ℕ
+turn_cell (Some i) (Some j) = if are_jobs_of_one i j then border else letter j.task.0
+turn_cell _ job = job_cell job
+
 -- what the job does
 abbrev pub sign : Kind → ℕ
 sign Idle = nothing
@@ -41,10 +53,10 @@ sign Release = byte (codes "]")
 sign Queue = byte (codes "?")
 sign Spin = byte (codes "~")
 
--- who has the turn in a row, or what it does there
-abbrev pub row_cell : Aspect → Row → ℕ
-row_cell Who r = job_cell r.job
-row_cell What r = sign r.kind
+-- who has the turn in a row, by who had it before, or what it does there
+abbrev pub row_cell : Aspect → Option JobId → Row → ℕ
+row_cell Who before r = turn_cell before r.job
+row_cell What before r = sign r.kind
 
 -- below the first row that breaks a rule, and below the rows before it
 abbrev pub mark : ℕ

@@ -12,13 +12,13 @@ use Rattle.msrp_picture.specs.declared.elements.TheConstants.{HUES}
 use Rattle.msrp_picture.specs.declared.places.TheConstants.{LEFT}
 use Rattle.msrp_picture.specs.declared.shapes.Event.{Event}
 use Rattle.msrp_picture.specs.declared.shapes.Look.{Look}
-use Rattle.msrp_picture.specs.declared.shapes.Look.TheVariants.{Lane, Does, Turn, Holds, First, Active, Late, Breaks}
+use Rattle.msrp_picture.specs.declared.shapes.Look.TheVariants.{Lane, Does, Turn, Holds, First, Active, Late, Ceiling, Breaks}
 use Rattle.msrp_picture.specs.declared.shapes.Note.{Note}
 use Rattle.msrp_picture.specs.declared.shapes.Shape.{Shape}
 use Rattle.msrp_picture.specs.declared.shapes.Shape.TheVariants.{Block, Arrow, Text}
 use Rattle.msrp_picture.specs.declared.shapes.Span.{Span}
 use Rattle.msrp_picture.specs.declared.shapes.Words.{Words}
-use Rattle.msrp_picture.specs.declared.shapes.Words.TheVariants.{Core, Task, Level, Res, Tick, Broken}
+use Rattle.msrp_picture.specs.declared.shapes.Words.TheVariants.{Core, Task, Level, Ceiling as CeilingLane, Res, Tick, Broken}
 use Rattle.msrp_picture.specs.declared.windows.Window.{Window}
 
 -- a length by its name
@@ -35,6 +35,7 @@ look_class Holds = codes "holds"
 look_class (First n) = codes "first"
 look_class (Active finished) = codes "active"
 look_class Late = codes "late"
+look_class (Ceiling n) = codes "ceiling"
 look_class (Breaks rule) = codes "breaks"
 
 -- and one more behind a row that breaks a rule
@@ -62,7 +63,7 @@ block_head w s =
 -- an area in the colour of a block and in its look, with what it tells and the words in it
 unfoldable pub block_text : PlanModel → Window → Span → List ℕ
 block_text plan w s =
-    block_head w s ++ title_text plan s s.job ++ codes "<rect class=\"" ++ colour s.job s.look ++ codes "\" width=\"100%\" height=\"100%\"/><rect width=\"100%\" height=\"100%\"/><text x=\"1\" y=\"1em\">"
+    block_head w s ++ title_text plan s s.look ++ codes "<rect class=\"" ++ colour s.job s.look ++ codes "\" width=\"100%\" height=\"100%\"/><rect width=\"100%\" height=\"100%\"/><text x=\"1\" y=\"1em\">"
     ++ word_text plan (left_of w s.end - left_of w s.first) s.job s.res s.look ++ codes "</text></svg>\n"
 
 -- ---- arrows
@@ -75,6 +76,7 @@ unfoldable pub words_class : Words → List ℕ
 words_class (Tick t) = codes "tick"
 words_class (Broken rule t) = codes "rule"
 words_class (Level c n) = codes "level"
+words_class CeilingLane = codes "level"
 words_class _ = codes "label"
 
 -- those of a tick stand where it begins, and the others to the left of the lanes
@@ -93,6 +95,7 @@ abbrev pub words_text : PlanModel → Words → List ℕ
 words_text plan (Core c) = core_text c
 words_text plan (Task t) = (task_at plan t.0).name
 words_text plan (Level c n) = level_text c n
+words_text plan CeilingLane = codes "ceiling"
 words_text plan (Res g) = slice_index_or plan.resources g.0 []
 words_text plan (Tick t) = decimal t
 words_text plan (Broken rule t) = rule_text rule

@@ -1,3 +1,4 @@
+pub mod Claims
 pub mod Queues
 pub mod Drawings
 pub mod TaskRows

@@ -1,5 +1,5 @@
 -- What is drawn of each job: the line of its life, red behind its absolute deadline, and arrows at its release and its deadline.
-use Rattle.std.specs.Prelude.{ℕ, List, ◌++◌, Some, None, true, length, ◌+◌}
+use Rattle.std.specs.Prelude.{ℕ, List, ◌++◌, Some, None, length, ◌+◌}
 use Rattle.std.specs.List.{flat_map, range_with_len}
 use Rattle.msrp_plan.specs.Jobs.{job_at, jobs_of}
 use Rattle.msrp_plan.specs.Plan.{PlanModel}
@@ -7,6 +7,7 @@ use Rattle.msrp_plan.specs.declared.ids.JobId.{JobId}
 use Rattle.msrp_plan.specs.declared.rows.Row.{Row}
 use Rattle.msrp_picture.specs.Lives.{life_of}
 use Rattle.msrp_picture.specs.Seen.{met, seen}
+use Rattle.msrp_picture.specs.Spans.{lasting}
 use Rattle.msrp_picture.specs.declared.lives.Life.{Life}
 use Rattle.msrp_picture.specs.declared.places.TheConstants.{ACTIVE_HEIGHT, ACTIVE_TOP, LATE_HEIGHT, TASK_HEIGHT}
 use Rattle.msrp_picture.specs.declared.shapes.Event.{Event}
@@ -20,11 +21,11 @@ use Rattle.msrp_picture.specs.declared.windows.Window.{Window}
 
 -- a line in the lane of its task, under the blocks
 abbrev pub active_span : Room → Life → Span
-active_span room life = record { first = life.release; end = life.end; room = record { top = room.top + ACTIVE_TOP; height = ACTIVE_HEIGHT }; look = Active life.is_finished; is_legal = true; job = Some life.job; res = None }
+active_span room life = lasting life.release life.end (record { top = room.top + ACTIVE_TOP; height = ACTIVE_HEIGHT }) (Active life.is_finished) (Some life.job) None
 
 -- and one below that lane
 abbrev pub late_span : Room → Life → Span
-late_span room life = record { first = life.due; end = life.end; room = record { top = room.top + TASK_HEIGHT; height = LATE_HEIGHT }; look = Late; is_legal = true; job = Some life.job; res = None }
+late_span room life = lasting life.due life.end (record { top = room.top + TASK_HEIGHT; height = LATE_HEIGHT }) Late (Some life.job) None
 
 abbrev pub event_of : Room → Moment → ℕ → JobId → Event
 event_of room moment t j = record { tick = t; top = room.top; moment = moment; job = j }

@@ -2,14 +2,16 @@
 use Rattle.std.specs.Prelude.{ℕ, List, [], ◌∷◌, ◌++◌, true, false, if◌then◌else◌, length, nat_eq, ◌+◌, ◌-◌, ◌%◌}
 use Rattle.std.specs.List.{flat_map, range_with_len}
 use Rattle.msrp_plan.specs.Levels.{level}
+use Rattle.msrp_plan.specs.Logs.{log_of}
 use Rattle.msrp_plan.specs.Plan.{PlanModel, task_at}
 use Rattle.msrp_plan.specs.declared.ids.CoreId.{CoreId}
 use Rattle.msrp_plan.specs.declared.ids.TaskId.{TaskId}
 use Rattle.msrp_plan.specs.declared.rows.Row.{Row}
 use Rattle.msrp_picture.specs.Blocks.{blocks}
+use Rattle.msrp_picture.specs.Ceilings.{ceiling_shapes}
 use Rattle.msrp_picture.specs.Inside.TaskRows.{task_rows}
 use Rattle.msrp_picture.specs.Jobs.{task_jobs}
-use Rattle.msrp_picture.specs.Places.{core_room, core_top, task_room}
+use Rattle.msrp_picture.specs.Places.{ceiling_room, core_room, core_top, task_room}
 use Rattle.msrp_picture.specs.Sections.{sections}
 use Rattle.msrp_picture.specs.Seen.{lane_of, note_of}
 use Rattle.msrp_picture.specs.Windows.{begun}
@@ -36,11 +38,11 @@ abbrev pub rows_shapes : Window → List Row → List Row → Owner → Room →
 rows_shapes w legal later owner room = blocks w (record { owner = owner; room = room; is_legal = true }) legal ++ blocks w (record { owner = owner; room = room; is_legal = false }) later
 
 -- ---- cores
--- the numbers of ticks, its name, and who has its turn
+-- the numbers of ticks, its name, who has its turn, and its ceiling as far as the rows are legal
 abbrev pub core_shapes : PlanModel → Window → List Row → List Row → CoreId → List Shape
 core_shapes plan w legal later c =
     axis w (core_top plan c.0 + AXIS_LINE) ++ note_of (core_room plan c.0) CORE_LINE (Core c) ∷ [] ++ lane_of w (core_room plan c.0) w.to ∷ []
-    ++ rows_shapes w legal later (OfCore c) (core_room plan c.0)
+    ++ rows_shapes w legal later (OfCore c) (core_room plan c.0) ++ ceiling_shapes plan w (ceiling_room plan c.0) c.0 (log_of c.0 legal)
 
 abbrev pub cores_shapes : PlanModel → Window → List Row → List Row → List Shape
 cores_shapes plan w legal later = flat_map (λ c. core_shapes plan w legal later (record { 0 = c })) (range_with_len 0 plan.cores)

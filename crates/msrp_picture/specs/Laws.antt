@@ -2,12 +2,17 @@
 use Rattle.std.specs.Prelude.{◌≡◌, ℕ, List, Bool, true, false, ◌&&◌, ◌==◌, Option, count_by, filter_map, length, map, ◌≤◌, ◌<◌, ◌+◌, ◌-◌, ⊤}
 use Rattle.std.specs.List.{flat_map, range_with_len}
 use Rattle.std.specs.declared.result.Result.{Result}
+use Rattle.msrp_plan.specs.Ceiling.{ceiling}
 use Rattle.msrp_plan.specs.Jobs.{job_at, jobs_of, same_job}
+use Rattle.msrp_plan.specs.Logs.{log_of}
 use Rattle.msrp_plan.specs.Plan.{PlanModel, release}
+use Rattle.msrp_plan.specs.Runs.{IsRunStart}
+use Rattle.msrp_plan.specs.WellFormed.{IsPlan}
 use Rattle.msrp_plan.specs.declared.faults.Fault.{Fault}
 use Rattle.msrp_plan.specs.declared.ids.JobId.{JobId}
 use Rattle.msrp_plan.specs.declared.rows.Row.{Row}
 use Rattle.msrp_picture.specs.Blocks.{span_of}
+use Rattle.msrp_picture.specs.Ceilings.{told_ceiling}
 use Rattle.msrp_picture.specs.Stretches.{merged}
 use Rattle.msrp_picture.specs.Svg.{drawn_shapes}
 use Rattle.msrp_picture.specs.declared.blocks.Lane.{Lane}
@@ -29,6 +34,11 @@ shown_rows lane rows = filter_map (span_of lane) rows
 -- the blocks of a lane, taken apart, are the rows that it shows, in their order: each row lies in exactly one block, which shows of it what it is
 abbrev pub EachRowInOneBlock : Lane → List Row → Type 0
 EachRowInOneBlock lane rows = flat_map ticks_of (merged (shown_rows lane rows)) ≡ shown_rows lane rows
+
+-- ---- ceilings
+-- after rows with which a legal run starts, the ceiling that a core's rows tell is the policy's
+abbrev pub ShowsTheCeiling : PlanModel → Type 0
+ShowsTheCeiling plan = (c : ℕ) (rows : List Row) → IsPlan plan → IsRunStart plan rows → told_ceiling plan c (log_of c rows) ≡ ceiling plan c rows
 
 -- ---- arrows
 abbrev pub is_release : Moment → Bool

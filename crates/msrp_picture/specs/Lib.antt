@@ -9,6 +9,7 @@ pub mod Kinds
 pub mod Places
 pub mod Titles
 pub mod Elements
+pub mod Spans
 pub mod Seen
 pub mod Stretches
 pub mod Blocks
@@ -16,6 +17,7 @@ pub mod Lives
 pub mod Jobs
 pub mod Sections
 pub mod QueueLanes
+pub mod Ceilings
 pub mod Lanes
 pub mod Marks
 pub mod Svg

@@ -1,9 +1,10 @@
 -- The lines of a picture: each has a label, and a cell for each tick that is drawn.
-use Rattle.std.specs.Prelude.{ℕ, List, [], ◌∷◌, ◌++◌, Bool, false, ◌&&◌, Option, Some, None, if◌then◌else◌, codes, decimal, filter, length, map, slice_index_or, ◌-◌, ◌%◌}
-use Rattle.std.specs.List.{flat_map, range_with_len}
+use Rattle.std.specs.Prelude.{ℕ, List, [], ◌∷◌, ◌++◌, ◌&&◌, Option, Some, None, if◌then◌else◌, codes, decimal, filter, is_some, length, map, slice_index_or, ◌-◌, ◌%◌}
+use Rattle.std.specs.List.{cons_option, flat_map, range_with_len}
 use Rattle.msrp_plan.specs.Levels.{is_global}
 use Rattle.msrp_plan.specs.Logs.{is_of, log_of}
 use Rattle.msrp_plan.specs.Plan.{PlanModel}
+use Rattle.msrp_plan.specs.declared.ids.JobId.{JobId}
 use Rattle.msrp_plan.specs.declared.rows.Row.{Row}
 use Rattle.msrp_picture.specs.Cells.{mark, no_mark, row_cell, standing_cell, tick_cell}
 use Rattle.msrp_picture.specs.Events.{event_cells}
@@ -18,15 +19,15 @@ use Rattle.msrp_picture.specs.declared.windows.TheConstants.{LINE_TICKS}
 use Rattle.msrp_picture.specs.declared.windows.Window.{Window}
 
 -- ---- which lines there are: the axis, then each core, then each global resource
--- the first row that breaks a rule is of this core, and is drawn
-abbrev pub is_marked : PlanModel → List Row → Option Row → Window → ℕ → Bool
-is_marked plan rows None w c = false
-is_marked plan rows (Some r) w c = is_of c r && goes_on_in plan rows w
+-- the first row that breaks a rule, where it is of this core and is drawn
+abbrev pub broken_on : PlanModel → List Row → Option Row → Window → ℕ → Option Row
+broken_on plan rows None w c = None
+broken_on plan rows (Some r) w c = if is_of c r && goes_on_in plan rows w then Some r else None
 
 -- such a core has a line more for the mark, right below its rows
 abbrev pub core_lines : PlanModel → List Row → Option Row → Window → ℕ → List Line
 core_lines plan rows broken w c =
-    Core (record { 0 = c }) Who ∷ Core (record { 0 = c }) What ∷ ((if is_marked plan rows broken w c then Mark (record { 0 = c }) ∷ [] else []) ++ (Events (record { 0 = c }) ∷ []))
+    Core (record { 0 = c }) Who ∷ Core (record { 0 = c }) What ∷ ((if is_some (broken_on plan rows broken w c) then Mark (record { 0 = c }) ∷ [] else []) ++ (Events (record { 0 = c }) ∷ []))
 
 abbrev pub queue_lines : ℕ → List Line
 queue_lines g = Queue (record { 0 = g }) Who ∷ Queue (record { 0 = g }) What ∷ []
@@ -43,18 +44,18 @@ lines_of plan rows broken w = ((Ticks ∷ []) ++ flat_map (core_lines plan rows 
 abbrev pub tick_cells : Window → List ℕ
 tick_cells w = map (λ t. tick_cell (t - (t - w.from) % LINE_TICKS) t) (range_with_len w.from (w.to - w.from))
 
--- the first row that breaks a rule, where it is of this core
-abbrev pub broken_cells : PlanModel → List Row → Option Row → Window → ℕ → Aspect → List ℕ
-broken_cells plan rows None w c aspect = []
-broken_cells plan rows (Some r) w c aspect = if is_of c r && goes_on_in plan rows w then row_cell aspect r ∷ [] else []
+-- the rows of a core in these ticks, in their order, and the row that breaks a rule
+abbrev pub core_rows : PlanModel → List Row → Option Row → Window → ℕ → List Row
+core_rows plan rows broken w c = log_of c (rows_between plan rows w.from w.to) ++ cons_option (broken_on plan rows broken w c) []
 
--- a core: its rows in these ticks, in their order, and the row that breaks a rule
-abbrev pub core_cells : PlanModel → List Row → Option Row → Window → ℕ → Aspect → List ℕ
-core_cells plan rows broken w c aspect = map (row_cell aspect) (log_of c (rows_between plan rows w.from w.to)) ++ broken_cells plan rows broken w c aspect
+-- a cell for each of them, where this job had the turn before them
+unfoldable pub row_cells : Aspect → Option JobId → List Row → List ℕ
+row_cells aspect before [] = []
+row_cells aspect before (r ∷ rows) = row_cell aspect before r ∷ row_cells aspect r.job rows
 
--- the mark of a core: below the row that stands behind its rows in these ticks
-abbrev pub mark_cells : PlanModel → List Row → Window → ℕ → List ℕ
-mark_cells plan rows w c = map (λ _. no_mark) (log_of c (rows_between plan rows w.from w.to)) ++ mark ∷ []
+-- a mark below the last of them
+abbrev pub mark_cells : List Row → List ℕ
+mark_cells rows = map (λ _. no_mark) (range_with_len 0 (length rows - 1)) ++ mark ∷ []
 
 -- a resource: how its queue stands after each of these ticks, as far as rows stand
 abbrev pub queue_cells : PlanModel → List Row → Window → ℕ → Aspect → List ℕ
@@ -62,8 +63,8 @@ queue_cells plan rows w g aspect = map (standing_cell aspect) (standings plan ro
 
 abbrev pub cells : PlanModel → List Row → Option Row → Window → Line → List ℕ
 cells plan rows broken w Ticks = tick_cells w
-cells plan rows broken w (Core c aspect) = core_cells plan rows broken w c.0 aspect
-cells plan rows broken w (Mark c) = mark_cells plan rows w c.0
+cells plan rows broken w (Core c aspect) = row_cells aspect None (core_rows plan rows broken w c.0)
+cells plan rows broken w (Mark c) = mark_cells (core_rows plan rows broken w c.0)
 cells plan rows broken w (Events c) = event_cells plan w c.0
 cells plan rows broken w (Queue g aspect) = queue_cells plan rows w g.0 aspect
 

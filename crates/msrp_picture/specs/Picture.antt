@@ -61,7 +61,7 @@ unfoldable pub task_text : PlanModel → ℕ → List ℕ
 task_text plan t = (letter t ∷ []) ++ codes ": " ++ (task_at plan t).name ++ codes " on core " ++ decimal (task_at plan t).core ++ codes "\n"
 
 unfoldable pub signs_text : List ℕ
-signs_text = codes "= works  ( locks  ) unlocks  [ gets  ] releases  ? joins a queue  ~ spins\n. idle  ! breaks a rule  ^ a release  v an absolute deadline  X both\nof a resource: the first in its queue after the tick, how many wait behind it\n"
+signs_text = codes "= works  ( locks  ) unlocks  [ gets  ] releases  ? joins a queue  ~ spins\n. idle  | next job  ! breaks a rule  ^ release  v absolute deadline  X both\nof a resource: the first in its queue after the tick, how many wait behind it\n"
 
 unfoldable pub legend_text : PlanModel → List ℕ
 legend_text plan = codes "\n" ++ flat_map (task_text plan) (range_with_len 0 (length plan.tasks)) ++ signs_text

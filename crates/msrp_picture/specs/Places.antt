@@ -5,7 +5,7 @@ use Rattle.msrp_plan.specs.Plan.{PlanModel, task_at}
 use Rattle.msrp_plan.specs.declared.ids.JobId.{JobId}
 use Rattle.msrp_plan.specs.declared.rows.Row.{Row}
 use Rattle.msrp_picture.specs.Lines.{global_resources}
-use Rattle.msrp_picture.specs.declared.places.TheConstants.{CORE_HEAD, CORE_HEIGHT, CORE_PITCH, LEFT, NARROWEST_TICK, QUEUE_HEAD, QUEUE_HEIGHT, QUEUE_PITCH, SECTION_LEVELS, SECTION_ROOM, TASK_HEIGHT, TASK_PITCH, TOP, WIDEST_TICK, WINDOW_WIDTH}
+use Rattle.msrp_picture.specs.declared.places.TheConstants.{CEILING_HEIGHT, CORE_HEAD, CORE_HEIGHT, CORE_PITCH, LEFT, NARROWEST_TICK, QUEUE_HEAD, QUEUE_HEIGHT, QUEUE_PITCH, SECTION_LEVELS, SECTION_ROOM, TASK_HEIGHT, TASK_PITCH, TOP, WIDEST_TICK, WINDOW_WIDTH}
 use Rattle.msrp_picture.specs.declared.shapes.Room.{Room}
 use Rattle.msrp_picture.specs.declared.windows.Window.{Window}
 
@@ -32,6 +32,10 @@ core_top plan c = TOP + c * CORE_PITCH + tasks_above plan c 0 * TASK_PITCH
 
 abbrev pub core_room : PlanModel → ℕ → Room
 core_room plan c = record { top = core_top plan c + CORE_HEAD; height = CORE_HEIGHT }
+
+-- right below it its ceilings
+abbrev pub ceiling_room : PlanModel → ℕ → Room
+ceiling_room plan c = record { top = (core_room plan c).top + CORE_HEIGHT; height = CEILING_HEIGHT }
 
 -- a task lies below its core's own lane and the tasks before it
 abbrev pub task_room : PlanModel → ℕ → Room

@@ -1,5 +1,5 @@
 -- A lane for each global resource: a block for each stretch of ticks in which its queue stands the same, of who is first in it.
-use Rattle.std.specs.Prelude.{ℕ, List, [], ◌∷◌, ◌++◌, Option, Some, None, true, length, slice_index_or, ◌+◌}
+use Rattle.std.specs.Prelude.{ℕ, List, [], ◌∷◌, ◌++◌, Option, Some, None, length, slice_index_or, ◌+◌}
 use Rattle.std.specs.List.{flat_map, range_with_len}
 use Rattle.msrp_plan.specs.Plan.{PlanModel}
 use Rattle.msrp_plan.specs.declared.ids.JobId.{JobId}
@@ -8,6 +8,7 @@ use Rattle.msrp_plan.specs.declared.rows.Row.{Row}
 use Rattle.msrp_picture.specs.Lines.{global_resources}
 use Rattle.msrp_picture.specs.Places.{queue_room}
 use Rattle.msrp_picture.specs.Seen.{lane_of, note_of, seen}
+use Rattle.msrp_picture.specs.Spans.{lasting}
 use Rattle.msrp_picture.specs.Standings.{standing_of, standings}
 use Rattle.msrp_picture.specs.Stretches.{merged}
 use Rattle.msrp_picture.specs.Windows.{begun}
@@ -23,7 +24,7 @@ use Rattle.msrp_picture.specs.declared.windows.Window.{Window}
 -- a tick after which the queue of a resource stands so, if someone is first in it
 abbrev pub held_by : Room → ResId → ℕ → Standing → Option JobId → List Span
 held_by room g t s None = []
-held_by room g t s (Some j) = record { first = t; end = t + 1; room = room; look = First s.behind; is_legal = true; job = s.first; res = Some g } ∷ []
+held_by room g t s (Some j) = lasting t (t + 1) room (First s.behind) s.first (Some g) ∷ []
 
 abbrev pub held : Room → ResId → ℕ → Standing → List Span
 held room g t s = held_by room g t s s.first

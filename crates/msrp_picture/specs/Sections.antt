@@ -8,6 +8,7 @@ use Rattle.msrp_plan.specs.declared.rows.Kind.TheVariants.{Lock, Unlock, Take, G
 use Rattle.msrp_plan.specs.declared.rows.Row.{Row}
 use Rattle.msrp_picture.specs.Places.{section_height}
 use Rattle.msrp_picture.specs.Seen.{seen}
+use Rattle.msrp_picture.specs.Spans.{lasting}
 use Rattle.msrp_picture.specs.declared.places.TheConstants.{SECTION_TOP}
 use Rattle.msrp_picture.specs.declared.sections.Strip.{Strip}
 use Rattle.msrp_picture.specs.declared.shapes.Look.TheVariants.{Holds}
@@ -57,7 +58,7 @@ abbrev pub section_room : Strip → ℕ → Room
 section_room strip n = record { top = strip.top + n * section_height strip.levels; height = section_height strip.levels }
 
 abbrev pub section_span : Strip → Row → ℕ → ℕ → Span
-section_span strip r n end = record { first = r.tick; end = end; room = section_room strip n; look = Holds; is_legal = true; job = r.job; res = r.res }
+section_span strip r n end = lasting r.tick end (section_room strip n) Holds r.job r.res
 
 -- the section that begins with the first of these rows, if one does, where so many are open before them
 abbrev pub first_section : Strip → ℕ → List Row → List Shape

@@ -1,5 +1,6 @@
 -- What of a block or an arrow is seen in a window.
-use Rattle.std.specs.Prelude.{ℕ, List, [], ◌∷◌, Bool, true, ◌&&◌, None, if◌then◌else◌, max, min, nat_le, nat_lt, ◌+◌}
+use Rattle.std.specs.Prelude.{ℕ, List, [], ◌∷◌, Bool, ◌&&◌, None, if◌then◌else◌, max, min, nat_le, nat_lt, ◌+◌}
+use Rattle.msrp_picture.specs.Spans.{lasting}
 use Rattle.msrp_picture.specs.declared.shapes.Event.{Event}
 use Rattle.msrp_picture.specs.declared.shapes.Look.TheVariants.{Lane}
 use Rattle.msrp_picture.specs.declared.shapes.Room.{Room}
@@ -23,7 +24,7 @@ met w e = if nat_le w.from e.tick && nat_le e.tick w.to then Arrow e ∷ [] else
 
 -- what lies under the blocks of a lane, up to a tick
 abbrev pub lane_of : Window → Room → ℕ → Shape
-lane_of w room end = Block (record { first = w.from; end = end; room = room; look = Lane; is_legal = true; job = None; res = None })
+lane_of w room end = Block (lasting w.from end room Lane None None)
 
 -- words beside a lane, so far below its upper edge
 abbrev pub note_of : Room → ℕ → Words → Shape

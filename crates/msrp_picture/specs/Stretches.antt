@@ -4,13 +4,14 @@ use Rattle.msrp_plan.specs.Actions.{same_res}
 use Rattle.msrp_plan.specs.Runs.{same_choice}
 use Rattle.msrp_picture.specs.Kinds.{same_kind}
 use Rattle.msrp_picture.specs.declared.shapes.Look.{Look}
-use Rattle.msrp_picture.specs.declared.shapes.Look.TheVariants.{Does, First, Turn}
+use Rattle.msrp_picture.specs.declared.shapes.Look.TheVariants.{Ceiling, Does, First, Turn}
 use Rattle.msrp_picture.specs.declared.shapes.Span.{Span}
 
 abbrev pub same_look : Look → Look → Bool
 same_look Turn Turn = true
 same_look (Does kind) (Does other) = same_kind kind other
 same_look (First n) (First m) = n == m
+same_look (Ceiling n) (Ceiling m) = n == m
 same_look _ _ = false
 
 -- the next one begins where a span ends, and shows the same of the same job and resource

@@ -1,5 +1,5 @@
 -- What a shape tells where one points at it, and the words that stand in a block.
-use Rattle.std.specs.Prelude.{ℕ, List, [], ◌∷◌, ◌++◌, true, false, Option, Some, None, if◌then◌else◌, codes, decimal, length, nat_eq, nat_le, slice_index_or, ◌+◌, ◌-◌, ◌*◌}
+use Rattle.std.specs.Prelude.{ℕ, List, [], ◌∷◌, ◌++◌, true, false, Option, Some, None, if◌then◌else◌, codes, decimal, length, nat_eq, nat_le, slice_index_or, ◌-◌, ◌*◌}
 use Rattle.msrp_plan.specs.Plan.{PlanModel, task_of}
 use Rattle.msrp_plan.specs.declared.ids.JobId.{JobId}
 use Rattle.msrp_plan.specs.declared.ids.ResId.{ResId}
@@ -9,7 +9,7 @@ use Rattle.msrp_picture.specs.Kinds.{kind_text}
 use Rattle.msrp_picture.specs.Picture.{rule_text}
 use Rattle.msrp_picture.specs.declared.shapes.Event.{Event}
 use Rattle.msrp_picture.specs.declared.shapes.Look.{Look}
-use Rattle.msrp_picture.specs.declared.shapes.Look.TheVariants.{Lane, Does, Turn, Holds, First, Active, Late, Breaks}
+use Rattle.msrp_picture.specs.declared.shapes.Look.TheVariants.{Lane, Does, Turn, Holds, First, Active, Late, Ceiling, Breaks}
 use Rattle.msrp_picture.specs.declared.shapes.Moment.{Moment}
 use Rattle.msrp_picture.specs.declared.shapes.Moment.TheVariants.{Release, Deadline}
 use Rattle.msrp_picture.specs.declared.shapes.Span.{Span}
@@ -18,7 +18,11 @@ use Rattle.msrp_picture.specs.declared.titles.TheConstants.{DIGIT_WIDTH, SIGN_RO
 -- ---- what it tells
 -- which job it is
 unfoldable pub job_told : PlanModel → JobId → List ℕ
-job_told plan j = codes ": " ++ (task_of plan j).name ++ codes ", job " ++ decimal j.k
+job_told plan j = (task_of plan j).name ++ codes ", job " ++ decimal j.k
+
+unfoldable pub whose_told : PlanModel → Option JobId → List ℕ
+whose_told plan None = []
+whose_told plan (Some j) = job_told plan j ++ codes ", "
 
 -- on which resource
 unfoldable pub res_told : PlanModel → Option ResId → List ℕ
@@ -34,16 +38,17 @@ look_told (First n) = codes "ahead of " ++ decimal n ++ codes " in the queue of"
 look_told (Active true) = codes "from its release to its end"
 look_told (Active false) = codes "from its release on, not finished"
 look_told Late = codes "behind its absolute deadline"
+look_told (Ceiling n) = codes "ceiling " ++ decimal n
 look_told (Breaks rule) = codes "breaks rule " ++ rule_text rule
 
--- the ticks of a block, its job, and what that does
-unfoldable pub span_title : PlanModel → Span → JobId → List ℕ
-span_title plan s j =
-    codes "<title>ticks " ++ decimal s.first ++ codes " to " ++ decimal (s.end - 1) ++ job_told plan j ++ codes ", " ++ look_told s.look ++ res_told plan s.res ++ codes "</title>"
+-- the ticks of a block, its job if it has one, and what it shows
+unfoldable pub span_title : PlanModel → Span → List ℕ
+span_title plan s =
+    codes "<title>ticks " ++ decimal s.first ++ codes " to " ++ decimal (s.end - 1) ++ codes ": " ++ whose_told plan s.job ++ look_told s.look ++ res_told plan s.res ++ codes "</title>"
 
-abbrev pub title_text : PlanModel → Span → Option JobId → List ℕ
-title_text plan s None = []
-title_text plan s (Some j) = span_title plan s j
+abbrev pub title_text : PlanModel → Span → Look → List ℕ
+title_text plan s Lane = []
+title_text plan s _ = span_title plan s
 
 unfoldable pub moment_text : Moment → List ℕ
 moment_text Release = codes "release"
@@ -51,7 +56,7 @@ moment_text Deadline = codes "deadline"
 
 -- the moment of an arrow, its tick and its job
 unfoldable pub event_title : PlanModel → Event → List ℕ
-event_title plan e = codes "<title>" ++ moment_text e.moment ++ codes " at " ++ decimal e.tick ++ job_told plan e.job ++ codes "</title>"
+event_title plan e = codes "<title>" ++ moment_text e.moment ++ codes " at " ++ decimal e.tick ++ codes ": " ++ job_told plan e.job ++ codes "</title>"
 
 -- ---- words in a block
 abbrev pub job_name : PlanModel → Option JobId → List ℕ
@@ -62,14 +67,14 @@ abbrev pub held_name : PlanModel → Option ResId → List ℕ
 held_name plan None = []
 held_name plan (Some g) = slice_index_or plan.resources g.0 []
 
--- a number behind a sign, where there is room
+-- a number, where there is room
 abbrev pub roomy_text : ℕ → ℕ → List ℕ
-roomy_text width n = if nat_le (SIGN_ROOM + length (decimal n) * DIGIT_WIDTH) width then decimal n else []
+roomy_text width n = if nat_le (length (decimal n) * DIGIT_WIDTH) width then decimal n else []
 
 -- the sign of what a job does, and the job's number
 unfoldable pub deed_text : ℕ → Kind → Option JobId → List ℕ
 deed_text width kind None = sign kind ∷ []
-deed_text width kind (Some j) = (sign kind ∷ []) ++ roomy_text width j.k
+deed_text width kind (Some j) = (sign kind ∷ []) ++ roomy_text (width - SIGN_ROOM) j.k
 
 -- how many stand behind one, if any do, and its name
 unfoldable pub first_text : ℕ → List ℕ → List ℕ
@@ -80,4 +85,5 @@ word_text plan width job res (Does kind) = deed_text width kind job
 word_text plan width job res Turn = job_name plan job
 word_text plan width job res Holds = held_name plan res
 word_text plan width job res (First n) = first_text n (job_name plan job)
+word_text plan width job res (Ceiling n) = roomy_text width n
 word_text plan width job res _ = []

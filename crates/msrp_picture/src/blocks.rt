@@ -1,10 +1,10 @@
 //! Blocks: the stretches of rows in which one job has the turn of a core, or does the same.
 ghost use Rattle.std.specs.Prelude.{◌≡◌, ◌++◌, [], filter_map, IfOk, OnOk};
 ghost use Rattle.std.specs.List.{cons_option};
-ghost use Rattle.msrp_picture.specs.Blocks.{blocks, deed_of, look_of, res_of, span_of, turn_of};
+ghost use Rattle.msrp_picture.specs.Blocks.{blocks, look_of, res_of, span_of};
 
 use crate::lives::is_job_of;
-use crate::shapes::{Look, Room, Shape, Span};
+use crate::shapes::{Look, Room, Shape, Span, lasting};
 use crate::stretches::push_merged;
 use crate::windows::Window;
 use msrp_plan::{CoreId, Memory, ResId, Row, TaskId};
@@ -27,33 +27,14 @@ pub struct Lane {
     pub is_legal: bool,
 }
 
-fn turn_of(core: CoreId, row: &Row) -> Option<Look>
-    ensures { result ≡ turn_of core.0 row.now }
-{
-    if row.core == core && row.job.is_some() {
-        Some(Look::Turn)
-    } else {
-        None
-    }
-}
-
-fn deed_of(task: TaskId, row: &Row) -> Option<Look>
-    ensures { result ≡ deed_of task.0 row.now }
-{
-    if is_job_of(task, row.job) {
-        Some(Look::Does(row.kind))
-    } else {
-        None
-    }
-}
-
 // What a lane shows of a row, if anything.
 fn look_of(owner: Owner, row: &Row) -> Option<Look>
     ensures { result ≡ look_of owner row.now }
 {
     match owner {
-        Owner::Core(core) => turn_of(core, row),
-        Owner::Task(task) => deed_of(task, row),
+        Owner::Core(core) if row.core == core && row.job.is_some() => Some(Look::Turn),
+        Owner::Task(task) if is_job_of(task, row.job) => Some(Look::Does(row.kind)),
+        _ => None,
     }
 }
 
@@ -71,15 +52,13 @@ fn span_of(lane: Lane, row: &Row) -> Option<Span>
     ensures { result ≡ span_of lane row.now }
 {
     match look_of(lane.owner, row) {
-        Some(look) => Some(Span {
-            first: row.tick as u64,
-            end: row.tick as u64 + 1,
-            room: lane.room,
-            look,
-            is_legal: lane.is_legal,
-            job: row.job,
-            res: res_of(lane.owner, row),
-        }),
+        Some(look) => {
+            let (tick, res) = (row.tick as u64, res_of(lane.owner, row));
+            Some(Span {
+                is_legal: lane.is_legal,
+                ..lasting(tick, tick + 1, lane.room, look, row.job, res)
+            })
+        }
         None => None,
     }
 }

@@ -1,6 +1,6 @@
 //! What one cell of a picture shows.
 ghost use Rattle.std.specs.Prelude.{◌≡◌};
-ghost use Rattle.msrp_picture.specs.Cells.{job_cell, letter, letters, mark, no_mark, row_cell, sign, standing_cell, tick_cell, waiting};
+ghost use Rattle.msrp_picture.specs.Cells.{job_cell, letter, letters, mark, no_mark, row_cell, sign, standing_cell, tick_cell, turn_cell, waiting};
 
 use crate::queues::Standing;
 use itoa::Buffer;
@@ -50,6 +50,16 @@ pub(crate) fn job_cell(job: Option<JobId>) -> u8
     }
 }
 
+// Who has the turn, where this job had it in the tick before: a border between two jobs of one task.
+fn turn_cell(before: Option<JobId>, job: Option<JobId>) -> u8
+    ensures { result ≡ turn_cell before job }
+{
+    match (before, job) {
+        (Some(last), Some(next)) if last.task == next.task && last.k != next.k => b'|',
+        _ => job_cell(job),
+    }
+}
+
 pub(crate) fn sign(kind: Kind) -> u8
     ensures { result ≡ sign kind }
 {
@@ -65,12 +75,12 @@ pub(crate) fn sign(kind: Kind) -> u8
     }
 }
 
-/// The cell of a row.
-pub(crate) fn row_cell(aspect: Aspect, row: &Row) -> u8
-    ensures { result ≡ row_cell aspect row.now }
+/// The cell of a row, where this job had the turn before it.
+pub(crate) fn row_cell(aspect: Aspect, before: Option<JobId>, row: &Row) -> u8
+    ensures { result ≡ row_cell aspect before row.now }
 {
     match aspect {
-        Aspect::Who => job_cell(row.job),
+        Aspect::Who => turn_cell(before, row.job),
         Aspect::What => sign(row.kind),
     }
 }

@@ -38,6 +38,7 @@ fn look_class(look: Look) -> &'static [u8]
         Look::First(_) => b"first",
         Look::Active(_) => b"active",
         Look::Late => b"late",
+        Look::Ceiling(_) => b"ceiling",
         Look::Breaks(_) => b"breaks",
     }
 }
@@ -125,7 +126,7 @@ fn words_class(words: Words) -> &'static [u8]
     match words {
         Words::Tick(_) => b"tick",
         Words::Broken(..) => b"rule",
-        Words::Level(..) => b"level",
+        Words::Level(..) | Words::Ceiling => b"level",
         _ => b"label",
     }
 }
@@ -164,6 +165,7 @@ fn add_words(text: &mut Vec<u8>, plan: &Plan, words: Words) -> Result<(), Memory
         Words::Core(core) => add_core(text, core),
         Words::Task(task) => add(text, task_name(plan, task)),
         Words::Level(core, level) => add_level(text, core, level),
+        Words::Ceiling => add(text, b"ceiling"),
         Words::Res(res) => add(text, res_name(plan, res)),
         Words::Tick(tick) => add_number(text, tick),
         Words::Broken(rule, _) => add(text, rule_word(rule)),

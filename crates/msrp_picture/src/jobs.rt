@@ -7,7 +7,7 @@ ghost use Rattle.msrp_picture.specs.Jobs.{active_span, event_of, late_span, life
 use crate::lives::{Life, life_of};
 use crate::places::{ACTIVE_HEIGHT, ACTIVE_TOP, LATE_HEIGHT, TASK_HEIGHT};
 use crate::seen::{push_met, push_seen};
-use crate::shapes::{Event, Look, Moment, Room, Shape, Span};
+use crate::shapes::{Event, Look, Moment, Room, Shape, Span, lasting};
 use crate::windows::Window;
 use msrp_plan::{JobId, Memory, Plan, Row, TaskId};
 
@@ -16,18 +16,12 @@ fn active_span(room: Room, life: Life) -> Span
     requires { room.top < 2 ^ 41 }
     ensures { result ≡ active_span room life }
 {
-    Span {
-        first: life.release,
-        end: life.end,
-        room: Room {
-            top: room.top + ACTIVE_TOP,
-            height: ACTIVE_HEIGHT,
-        },
-        look: Look::Active(life.is_finished),
-        is_legal: true,
-        job: Some(life.job),
-        res: None,
-    }
+    let line = Room {
+        top: room.top + ACTIVE_TOP,
+        height: ACTIVE_HEIGHT,
+    };
+    let look = Look::Active(life.is_finished);
+    lasting(life.release, life.end, line, look, Some(life.job), None)
 }
 
 // A line below that lane.
@@ -35,18 +29,11 @@ fn late_span(room: Room, life: Life) -> Span
     requires { room.top < 2 ^ 41 }
     ensures { result ≡ late_span room life }
 {
-    Span {
-        first: life.due,
-        end: life.end,
-        room: Room {
-            top: room.top + TASK_HEIGHT,
-            height: LATE_HEIGHT,
-        },
-        look: Look::Late,
-        is_legal: true,
-        job: Some(life.job),
-        res: None,
-    }
+    let line = Room {
+        top: room.top + TASK_HEIGHT,
+        height: LATE_HEIGHT,
+    };
+    lasting(life.due, life.end, line, Look::Late, Some(life.job), None)
 }
 
 fn event_of(room: Room, moment: Moment, tick: u64, job: JobId) -> Event

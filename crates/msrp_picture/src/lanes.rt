@@ -4,9 +4,12 @@ ghost use Rattle.msrp_picture.specs.Lanes.{axis, core_shapes, cores_shapes, rows
 ghost use Rattle.msrp_picture.specs.Windows.{IsWindow};
 
 use crate::blocks::{Lane, Owner, push_blocks};
+use crate::ceilings::push_ceilings;
 use crate::jobs::push_jobs;
-use crate::lives::task_rows;
-use crate::places::{AXIS_LINE, CORE_LINE, LEVEL_LINE, NAME_LINE, core_room, core_top, task_room};
+use crate::lives::{log_of, task_rows};
+use crate::places::{
+    AXIS_LINE, CORE_LINE, LEVEL_LINE, NAME_LINE, ceiling_room, core_room, core_top, task_room,
+};
 use crate::sections::push_sections;
 use crate::seen::{lane_of, note_of, push};
 use crate::shapes::{Note, Room, Shape, Words};
@@ -63,23 +66,29 @@ fn push_rows(
     push_blocks(alloc, shapes, window, pale, shown.later)
 }
 
-// A core: the numbers of ticks, its name, and who has its turn.
+// A core: the numbers of ticks, its name, who has its turn, and its ceiling as far as the rows are legal.
 fn push_core(
     alloc: Global,
     shapes: &mut Vec<Shape>,
     plan: &Plan,
+    levels: &Levels<'_>,
     window: Window,
     shown: &Shown<'_>,
     core: CoreId,
 ) -> Result<(), Memory>
-    requires { IsWindow window }
+    requires window { IsWindow window }
+    requires levels { levels.now ≡ plan.now }
+    requires core { core.0 < plan.now.cores }
     ensures { OnOk result (shapes.new.items ≡ shapes.old.items ++ core_shapes plan.now window shown.now.rows.now shown.now.later.now core) }
 {
     let room = core_room(plan, core);
     push_axis(shapes, window, core_top(plan, core) + AXIS_LINE)?;
     push(shapes, note_of(room, CORE_LINE, Words::Core(core)))?;
     push(shapes, lane_of(window, room, window.to as u64))?;
-    push_rows(alloc, shapes, window, shown, Owner::Core(core), room)
+    push_rows(alloc, shapes, window, shown, Owner::Core(core), room)?;
+    let log = log_of(alloc, shown.rows, core)?;
+    let below = ceiling_room(plan, core);
+    push_ceilings(alloc, shapes, plan, levels, window, below, core, &log)
 }
 
 /// Adds the cores.
@@ -87,14 +96,16 @@ pub(crate) fn push_cores(
     alloc: Global,
     shapes: &mut Vec<Shape>,
     plan: &Plan,
+    levels: &Levels<'_>,
     window: Window,
     shown: &Shown<'_>,
 ) -> Result<(), Memory>
-    requires { IsWindow window }
+    requires window { IsWindow window }
+    requires levels { levels.now ≡ plan.now }
     ensures { OnOk result (shapes.new.items ≡ shapes.old.items ++ cores_shapes plan.now window shown.now.rows.now shown.now.later.now) }
 {
     for core in 0..plan.cores() {
-        push_core(alloc, shapes, plan, window, shown, CoreId(core))?;
+        push_core(alloc, shapes, plan, levels, window, shown, CoreId(core))?;
     }
     Ok(())
 }

@@ -4,7 +4,7 @@ ghost use Rattle.std.specs.declared.result.Result.{Result};
 ghost use Rattle.msrp_plan.specs.Plan.{PlanModel};
 ghost use Rattle.msrp_plan.specs.declared.faults.Fault.{Fault};
 ghost use Rattle.msrp_plan.specs.declared.rows.Row.{Row};
-ghost use Rattle.msrp_picture.specs.Laws.{EachRowInOneBlock, OneArrowForEachRelease};
+ghost use Rattle.msrp_picture.specs.Laws.{EachRowInOneBlock, OneArrowForEachRelease, ShowsTheCeiling};
 ghost use Rattle.msrp_picture.specs.declared.blocks.Lane.{Lane};
 ghost use Rattle.msrp_picture.specs.declared.windows.Window.{Window};
 
@@ -12,6 +12,11 @@ ghost use Rattle.msrp_picture.specs.declared.windows.Window.{Window};
 /// drawn where some of its ticks are.
 pub fn each_row_in_one_block()
     ensures { (lane : Lane) (rows : List Row) → EachRowInOneBlock lane rows }
+{}
+
+/// After each tick of a legal run a core's lane shows the current ceiling of the policy.
+pub fn each_ceiling_is_the_policys()
+    ensures { (plan : PlanModel) → ShowsTheCeiling plan }
 {}
 
 /// Each job that is released in the ticks of a picture, or where they end, has exactly one arrow up, at its release.

@@ -1,14 +1,14 @@
 //! The lines of a picture, each over all ticks that are drawn.
-ghost use Rattle.std.specs.Prelude.{◌≡◌, ◌++◌, length, map, IfOk, OnOk};
+ghost use Rattle.std.specs.Prelude.{◌≡◌, ◌++◌, None, length, map, IfOk, OnOk};
 ghost use Rattle.std.specs.List.{AllByRecursion, flat_map, range_with_len};
-ghost use Rattle.msrp_plan.specs.Logs.{log_of};
 ghost use Rattle.msrp_picture.specs.Inside.Drawings.{IsDrawn, line_of};
-ghost use Rattle.msrp_picture.specs.Lines.{cells, core_cells, core_lines, global_resources, is_marked, lines_of, mark_cells, queue_cells, queue_lines, tick_cells};
-ghost use Rattle.msrp_picture.specs.Cells.{no_mark, row_cell, standing_cell};
+ghost use Rattle.msrp_picture.specs.Lines.{broken_on, cells, core_lines, core_rows, global_resources, lines_of, mark_cells, queue_cells, queue_lines, row_cells, tick_cells};
+ghost use Rattle.msrp_picture.specs.Cells.{standing_cell};
 ghost use Rattle.msrp_picture.specs.Windows.{IsWindow};
 
 use crate::cells::{Aspect, mark, no_mark, row_cell, standing_cell, tick_cell};
 use crate::events::event_cells;
+use crate::lives::log_of;
 use crate::queues::{Standing, standings};
 use crate::shown::Shown;
 use crate::windows::{LINE_TICKS, Window, rows_between};
@@ -56,13 +56,13 @@ pub(crate) fn lines_of(
     Ok(lines)
 }
 
-// Whether the row that breaks a rule is of this core, and is drawn.
-fn is_marked(plan: &Plan, shown: &Shown<'_>, window: Window, core: CoreId) -> bool
-    ensures { result ≡ is_marked plan.now shown.now.rows.now shown.now.broken window core.0 }
+// The row that breaks a rule, where it is of this core and is drawn.
+fn broken_on(plan: &Plan, shown: &Shown<'_>, window: Window, core: CoreId) -> Option<Row>
+    ensures { result ≡ broken_on plan.now shown.now.rows.now shown.now.broken window core.0 }
 {
     match shown.broken {
-        Some(row) => row.core == core && shown.breaks_in(plan, window),
-        None => false,
+        Some(row) if row.core == core && shown.breaks_in(plan, window) => Some(row),
+        _ => None,
     }
 }
 
@@ -78,7 +78,7 @@ fn push_core(
 {
     lines.push(Line::Core(core, Aspect::Who))?;
     lines.push(Line::Core(core, Aspect::What))?;
-    if is_marked(plan, shown, window, core) {
+    if broken_on(plan, shown, window, core).is_some() {
         lines.push(Line::Mark(core))?;
     }
     lines.push(Line::Events(core))?;
@@ -126,67 +126,46 @@ fn tick_cells(alloc: Global, window: Window) -> Result<Vec<u8>, Memory>
     Ok(cells)
 }
 
-// The cells of a core's rows, in their order.
-fn row_cells(alloc: Global, rows: &[Row], core: CoreId, aspect: Aspect) -> Result<Vec<u8>, Memory>
-    ensures { IfOk result (λ cells. cells.items ≡ map (row_cell aspect) (log_of core.0 rows.now)) }
-{
-    let mut cells = Vec::new(alloc);
-    for row in rows {
-        if row.core == core {
-            cells.push(row_cell(aspect, row))?;
-        }
-    }
-    Ok(cells)
-}
-
-// The cells of a core: of its rows, and of the first row that breaks a rule, if that is one of them.
-fn core_cells(
-    alloc: Global,
-    plan: &Plan,
-    shown: &Shown<'_>,
-    core: CoreId,
-    aspect: Aspect,
-    window: Window,
-) -> Result<Vec<u8>, Memory>
-    requires { IsWindow window }
-    ensures { IfOk result (λ cells. cells.items ≡ core_cells plan.now shown.now.rows.now shown.now.broken window core.0 aspect) }
-{
-    let rows = rows_between(plan, shown.rows, window.from, window.to);
-    let mut cells = row_cells(alloc, rows, core, aspect)?;
-    if let Some(row) = shown.broken {
-        if row.core == core && shown.breaks_in(plan, window) {
-            cells.push(row_cell(aspect, &row))?;
-        }
-    }
-    Ok(cells)
-}
-
-// Blank below each row of the core.
-fn blank_cells(alloc: Global, rows: &[Row], core: CoreId) -> Result<Vec<u8>, Memory>
-    ensures { IfOk result (λ cells. cells.items ≡ map (λ _. no_mark) (log_of core.0 rows.now)) }
-{
-    let mut cells = Vec::new(alloc);
-    for row in rows {
-        if row.core == core {
-            cells.push(no_mark())?;
-        }
-    }
-    Ok(cells)
-}
-
-// The mark of a core, below the row that stands behind its rows.
-fn mark_cells(
+// The rows of a core in these ticks, in their order, and the row that breaks a rule.
+fn core_rows(
     alloc: Global,
     plan: &Plan,
     shown: &Shown<'_>,
     core: CoreId,
     window: Window,
-) -> Result<Vec<u8>, Memory>
+) -> Result<Vec<Row>, Memory>
     requires { IsWindow window }
-    ensures { IfOk result (λ cells. cells.items ≡ mark_cells plan.now shown.now.rows.now window core.0) }
+    ensures { IfOk result (λ rows. rows.items ≡ core_rows plan.now shown.now.rows.now shown.now.broken window core.0) }
 {
-    let rows = rows_between(plan, shown.rows, window.from, window.to);
-    let mut cells = blank_cells(alloc, rows, core)?;
+    let drawn = rows_between(plan, shown.rows, window.from, window.to);
+    let mut rows = log_of(alloc, drawn, core)?;
+    if let Some(row) = broken_on(plan, shown, window, core) {
+        rows.push(row)?;
+    }
+    Ok(rows)
+}
+
+// A cell for each of a core's rows.
+fn row_cells(alloc: Global, rows: &[Row], aspect: Aspect) -> Result<Vec<u8>, Memory>
+    ensures { IfOk result (λ cells. cells.items ≡ row_cells aspect None rows.now) }
+{
+    let mut cells = Vec::new(alloc);
+    let mut before = None;
+    for row in rows {
+        cells.push(row_cell(aspect, before, row))?;
+        before = row.job;
+    }
+    Ok(cells)
+}
+
+// A mark below the last of a core's rows.
+fn mark_cells(alloc: Global, rows: &[Row]) -> Result<Vec<u8>, Memory>
+    ensures { IfOk result (λ cells. cells.items ≡ mark_cells rows.now) }
+{
+    let mut cells = Vec::new(alloc);
+    for _ in 0..rows.len().saturating_sub(1) {
+        cells.push(no_mark())?;
+    }
     cells.push(mark())?;
     Ok(cells)
 }
@@ -230,8 +209,10 @@ pub(crate) fn cells_of(
 {
     match line {
         Line::Ticks => tick_cells(alloc, window),
-        Line::Core(core, aspect) => core_cells(alloc, plan, shown, core, aspect, window),
-        Line::Mark(core) => mark_cells(alloc, plan, shown, core, window),
+        Line::Core(core, aspect) => {
+            row_cells(alloc, &core_rows(alloc, plan, shown, core, window)?, aspect)
+        }
+        Line::Mark(core) => mark_cells(alloc, &core_rows(alloc, plan, shown, core, window)?),
         Line::Events(core) => event_cells(alloc, plan, window, core),
         Line::Queue(res, aspect) => queue_cells(alloc, plan, shown.rows, res, aspect, window),
     }

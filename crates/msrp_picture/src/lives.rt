@@ -1,13 +1,14 @@
 //! The life of a job: from its release to its end.
 ghost use Rattle.std.specs.Prelude.{◌≡◌, ◌<◌, ◌&&◌, cond, length, not, IfOk, IsSome};
 ghost use Rattle.msrp_plan.specs.Jobs.{done, is_row_of, is_waiting};
+ghost use Rattle.msrp_plan.specs.Logs.{log_of};
 ghost use Rattle.msrp_plan.specs.Plan.{release_tick};
 ghost use Rattle.msrp_picture.specs.Inside.TaskRows.{is_job_of, task_rows};
 ghost use Rattle.msrp_picture.specs.Lives.{after_last, life_of};
 ghost use Rattle.msrp_picture.specs.Windows.{begun};
 
 use crate::windows::begun;
-use msrp_plan::{JobId, Kind, Memory, Plan, Row, TaskId};
+use msrp_plan::{CoreId, JobId, Kind, Memory, Plan, Row, TaskId};
 use std::alloc::Global;
 
 /// The life of a job: when it is released and due, and when it ends. One that isn't finished lives as long as rows stand.
@@ -41,6 +42,19 @@ pub(crate) fn task_rows(alloc: Global, rows: &[Row], task: TaskId) -> Result<Vec
         }
     }
     Ok(found)
+}
+
+/// The rows of a core, in their order.
+pub(crate) fn log_of(alloc: Global, rows: &[Row], core: CoreId) -> Result<Vec<Row>, Memory>
+    ensures { IfOk result (λ log. log.items ≡ log_of core.0 rows.now) }
+{
+    let mut log = Vec::new(alloc);
+    for row in rows {
+        if row.core == core {
+            log.push(*row)?;
+        }
+    }
+    Ok(log)
 }
 
 fn is_row_of(job: JobId, row: &Row) -> bool

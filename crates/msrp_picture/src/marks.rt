@@ -1,10 +1,10 @@
 //! The frame of the row that breaks a rule, with the rule's name.
 ghost use Rattle.std.specs.Prelude.{◌≡◌, ◌++◌, OnOk};
-ghost use Rattle.msrp_picture.specs.Marks.{broken_shapes, broken_span, drawn_mark, is_in, mark_of, mark_shapes};
+ghost use Rattle.msrp_picture.specs.Marks.{broken_shapes, drawn_mark, is_in, mark_shapes};
 
 use crate::places::row_room;
 use crate::seen::push;
-use crate::shapes::{Look, Note, Room, Shape, Span, Words};
+use crate::shapes::{Look, Note, Shape, Words, lasting};
 use crate::windows::Window;
 use msrp_plan::{Fault, Memory, Plan, Row, Rule};
 
@@ -14,29 +14,19 @@ fn is_in(window: Window, row: &Row) -> bool
     window.from <= row.tick && row.tick < window.to
 }
 
-fn broken_span(room: Room, rule: Rule, row: &Row) -> Span
-    ensures { result ≡ broken_span room rule row.now }
-{
-    Span {
-        first: row.tick as u64,
-        end: row.tick as u64 + 1,
-        room,
-        look: Look::Breaks(rule),
-        is_legal: true,
-        job: row.job,
-        res: row.res,
-    }
-}
-
 fn push_mark(shapes: &mut Vec<Shape>, plan: &Plan, rule: Rule, row: &Row) -> Result<(), Memory>
     ensures { OnOk result (shapes.new.items ≡ shapes.old.items ++ mark_shapes plan.now rule row.now) }
 {
-    let room = row_room(plan, row);
+    let (room, tick) = (row_room(plan, row), row.tick as u64);
+    let look = Look::Breaks(rule);
     let note = Note {
         line: room.top - 3,
-        words: Words::Broken(rule, row.tick as u64),
+        words: Words::Broken(rule, tick),
     };
-    push(shapes, Shape::Block(broken_span(room, rule, row)))?;
+    push(
+        shapes,
+        Shape::Block(lasting(tick, tick + 1, room, look, row.job, row.res)),
+    )?;
     push(shapes, Shape::Text(note))
 }
 
@@ -57,22 +47,6 @@ fn push_drawn(
     }
 }
 
-// The same of the row that breaks a rule, if there is one.
-fn push_mark_of(
-    shapes: &mut Vec<Shape>,
-    plan: &Plan,
-    window: Window,
-    rule: Rule,
-    broken: Option<Row>,
-) -> Result<(), Memory>
-    ensures { OnOk result (shapes.new.items ≡ shapes.old.items ++ mark_of plan.now window rule broken) }
-{
-    match broken {
-        Some(row) => push_drawn(shapes, plan, window, rule, &row),
-        None => Ok(()),
-    }
-}
-
 /// Adds the mark of the row that breaks a rule, if there is one and it is drawn.
 pub(crate) fn push_broken(
     shapes: &mut Vec<Shape>,
@@ -85,6 +59,9 @@ pub(crate) fn push_broken(
 {
     match found {
         Ok(()) => Ok(()),
-        Err(fault) => push_mark_of(shapes, plan, window, fault.rule, broken),
+        Err(fault) => match broken {
+            Some(row) => push_drawn(shapes, plan, window, fault.rule, &row),
+            None => Ok(()),
+        },
     }
 }

@@ -27,7 +27,7 @@ fn spaces() -> &'static [u8]
 fn signs() -> &'static [u8]
     ensures { result.now ≡ signs_text }
 {
-    b"= works  ( locks  ) unlocks  [ gets  ] releases  ? joins a queue  ~ spins\n. idle  ! breaks a rule  ^ a release  v an absolute deadline  X both\nof a resource: the first in its queue after the tick, how many wait behind it\n"
+    b"= works  ( locks  ) unlocks  [ gets  ] releases  ? joins a queue  ~ spins\n. idle  | next job  ! breaks a rule  ^ release  v absolute deadline  X both\nof a resource: the first in its queue after the tick, how many wait behind it\n"
 }
 
 pub(crate) fn add(text: &mut Vec<u8>, part: &[u8]) -> Result<(), Memory>

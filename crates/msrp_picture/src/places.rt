@@ -2,7 +2,7 @@
 ghost use Rattle.std.specs.Prelude.{◌≡◌, ℕ, ◌<◌, ◌≤◌, ◌*◌, ◌^◌, if◌then◌else◌, filter, length};
 ghost use Rattle.std.specs.List.{range_with_len};
 ghost use Rattle.msrp_picture.specs.Lines.{global_resources};
-ghost use Rattle.msrp_picture.specs.Places.{bottom, core_room, core_top, is_above, left_of, queue_room, row_room, section_height, task_room, tasks_above, tick_width};
+ghost use Rattle.msrp_picture.specs.Places.{bottom, ceiling_room, core_room, core_top, is_above, left_of, queue_room, row_room, section_height, task_room, tasks_above, tick_width};
 
 use crate::shapes::Room;
 use crate::windows::Window;
@@ -31,7 +31,10 @@ pub const CORE_HEAD: u64 = 24;
 pub const CORE_HEIGHT: u64 = 14;
 
 /// From where a core begins to where its tasks do.
-pub const CORE_PITCH: u64 = 56;
+pub const CORE_PITCH: u64 = 68;
+
+/// The height of the lane of its ceilings, right below it.
+pub const CEILING_HEIGHT: u64 = 12;
 
 /// The height of the lane of a task.
 pub const TASK_HEIGHT: u64 = 50;
@@ -68,12 +71,14 @@ pub const QUEUE_PITCH: u64 = 26;
 /// From where a core begins to the line on which the numbers of its ticks stand.
 pub const AXIS_LINE: u64 = 20;
 
-/// From where a lane begins to the line on which its name stands, that of a core's name, and that of a task's level.
+/// From where a lane begins to the line on which its name stands, that of a core's name, of a task's level, and of a core's ceiling.
 pub const NAME_LINE: u64 = 14;
 
 pub const CORE_LINE: u64 = 11;
 
 pub const LEVEL_LINE: u64 = 28;
+
+pub const CEILING_LINE: u64 = 9;
 
 /// How wide a tick is: as wide as lets the ticks that are drawn fill the window.
 pub(crate) fn tick_width(window: Window) -> u64
@@ -159,6 +164,17 @@ pub(crate) fn core_room(plan: &Plan, core: CoreId) -> Room
     Room {
         top: core_top(plan, core) + CORE_HEAD,
         height: CORE_HEIGHT,
+    }
+}
+
+/// The lane of a core's ceilings, right below its own.
+pub(crate) fn ceiling_room(plan: &Plan, core: CoreId) -> Room
+    ensures room { result ≡ ceiling_room plan.now core.0 }
+    ensures small { result.top < 2 ^ 42 }
+{
+    Room {
+        top: core_room(plan, core).top + CORE_HEIGHT,
+        height: CEILING_HEIGHT,
     }
 }
 

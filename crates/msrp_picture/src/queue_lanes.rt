@@ -6,7 +6,7 @@ ghost use Rattle.msrp_picture.specs.Windows.{IsWindow};
 use crate::places::{NAME_LINE, queue_room};
 use crate::queues::{Standing, standings};
 use crate::seen::{lane_of, note_of, push};
-use crate::shapes::{Look, Room, Shape, Span, Words};
+use crate::shapes::{Look, Room, Shape, Span, Words, lasting};
 use crate::stretches::push_merged;
 use crate::windows::{Window, begun};
 use msrp_levels::Levels;
@@ -25,15 +25,8 @@ fn push_held(
     ensures { OnOk result (spans.new.items ≡ spans.old.items ++ held_by room res tick standing standing.first) }
 {
     if standing.first.is_some() {
-        spans.push(Span {
-            first: tick,
-            end: tick + 1,
-            room,
-            look: Look::First(standing.behind as u64),
-            is_legal: true,
-            job: standing.first,
-            res: Some(res),
-        })?;
+        let look = Look::First(standing.behind as u64);
+        spans.push(lasting(tick, tick + 1, room, look, standing.first, Some(res)))?;
     }
     Ok(())
 }

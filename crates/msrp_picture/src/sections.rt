@@ -4,7 +4,7 @@ ghost use Rattle.msrp_picture.specs.Sections.{ends_section, enters, first_sectio
 
 use crate::places::{SECTION_TOP, section_height};
 use crate::seen::push_seen;
-use crate::shapes::{Look, Room, Shape, Span};
+use crate::shapes::{Look, Room, Shape, Span, lasting};
 use crate::windows::Window;
 use msrp_plan::{Kind, Memory, Row};
 
@@ -24,7 +24,8 @@ fn enters(kind: Kind) -> bool
     matches!(kind, Kind::Lock | Kind::Take | Kind::Grant)
 }
 
-fn leaves(kind: Kind) -> bool
+/// Whether a row of this kind gives its resource back.
+pub(crate) fn leaves(kind: Kind) -> bool
     ensures { result ≡ leaves kind }
 {
     matches!(kind, Kind::Unlock | Kind::Release)
@@ -100,15 +101,8 @@ fn section_span(strip: Strip, row: &Row, depth: u64, end: u64) -> Span
     requires top { strip.top < 2 ^ 42 }
     ensures { result ≡ section_span strip row.now depth end }
 {
-    Span {
-        first: row.tick as u64,
-        end,
-        room: section_room(strip, depth),
-        look: Look::Holds,
-        is_legal: true,
-        job: row.job,
-        res: row.res,
-    }
+    let room = section_room(strip, depth);
+    lasting(row.tick as u64, end, room, Look::Holds, row.job, row.res)
 }
 
 // The section that begins with the first of these rows, if one does.

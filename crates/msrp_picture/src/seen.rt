@@ -2,7 +2,7 @@
 ghost use Rattle.std.specs.Prelude.{◌≡◌, ◌∷◌, ◌++◌, ◌<◌, ◌^◌, [], OnOk};
 ghost use Rattle.msrp_picture.specs.Seen.{is_seen, lane_of, met, note_of, seen};
 
-use crate::shapes::{Event, Look, Note, Room, Shape, Span, Words};
+use crate::shapes::{Event, Look, Note, Room, Shape, Span, Words, lasting};
 use crate::windows::Window;
 use msrp_plan::Memory;
 
@@ -47,15 +47,8 @@ pub(crate) fn push_met(shapes: &mut Vec<Shape>, window: Window, event: Event) ->
 pub(crate) fn lane_of(window: Window, room: Room, end: u64) -> Shape
     ensures { result ≡ lane_of window room end }
 {
-    Shape::Block(Span {
-        first: window.from as u64,
-        end,
-        room,
-        look: Look::Lane,
-        is_legal: true,
-        job: None,
-        res: None,
-    })
+    let first = window.from as u64;
+    Shape::Block(lasting(first, end, room, Look::Lane, None, None))
 }
 
 /// Words beside a lane, so far below its upper edge.

@@ -1,4 +1,7 @@
 //! What a picture in SVG is made of, as data. Times are ticks; heights are units of the picture.
+ghost use Rattle.std.specs.Prelude.{◌≡◌};
+ghost use Rattle.msrp_picture.specs.Spans.{lasting};
+
 use msrp_plan::{CoreId, JobId, Kind, ResId, Rule, TaskId};
 
 /// The upper edge of a lane, or of a part of one, and its height.
@@ -25,6 +28,8 @@ pub enum Look {
     Active(bool),
     /// That a job is active behind its absolute deadline.
     Late,
+    /// The ceiling of a core.
+    Ceiling(u32),
     /// That a row breaks a rule.
     Breaks(Rule),
 }
@@ -40,6 +45,28 @@ pub struct Span {
     pub is_legal: bool,
     pub job: Option<JobId>,
     pub res: Option<ResId>,
+}
+
+/// A block of legal rows, or of none.
+pub(crate) fn lasting(
+    first: u64,
+    end: u64,
+    room: Room,
+    look: Look,
+    job: Option<JobId>,
+    res: Option<ResId>,
+) -> Span
+    ensures { result ≡ lasting first end room look job res }
+{
+    Span {
+        first,
+        end,
+        room,
+        look,
+        is_legal: true,
+        job,
+        res,
+    }
 }
 
 /// What happens to a job at the beginning of a tick.
@@ -69,6 +96,8 @@ pub enum Words {
     Task(TaskId),
     /// The core of a task, and its preemption level.
     Level(CoreId, u32),
+    /// The name of a lane of ceilings.
+    Ceiling,
     /// The name of a resource's lane.
     Res(ResId),
     /// The number of a tick.

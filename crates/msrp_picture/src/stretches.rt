@@ -17,6 +17,7 @@ fn same_look(look: Look, next: Look) -> bool
         (Look::Turn, Look::Turn) => true,
         (Look::Does(kind), Look::Does(other)) => kind == other,
         (Look::First(behind), Look::First(other)) => behind == other,
+        (Look::Ceiling(level), Look::Ceiling(other)) => level == other,
         _ => false,
     }
 }

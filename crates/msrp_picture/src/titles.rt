@@ -3,7 +3,7 @@ ghost use Rattle.std.specs.Prelude.{◌≡◌, ◌++◌, codes, decimal, OnOk};
 ghost use Rattle.msrp_plan.specs.Plan.{task_at};
 ghost use Rattle.msrp_picture.specs.Kinds.{kind_text};
 ghost use Rattle.msrp_picture.specs.Picture.{rule_text};
-ghost use Rattle.msrp_picture.specs.Titles.{deed_text, event_title, first_text, held_name, job_name, job_told, look_told, moment_text, res_told, roomy_text, span_title, title_text, word_text};
+ghost use Rattle.msrp_picture.specs.Titles.{deed_text, event_title, first_text, held_name, job_name, job_told, look_told, moment_text, res_told, roomy_text, span_title, title_text, whose_told, word_text};
 
 use crate::cells::sign;
 use crate::picture::{add, add_number, res_name, rule_word};
@@ -81,10 +81,23 @@ fn held_name(plan: &Plan, res: Option<ResId>) -> &[u8]
 fn add_job_told(text: &mut Vec<u8>, plan: &Plan, job: JobId) -> Result<(), Memory>
     ensures { OnOk result (text.new.items ≡ text.old.items ++ job_told plan.now job) }
 {
-    add(text, b": ")?;
     add(text, task_name(plan, job.task))?;
     add(text, b", job ")?;
     add_number(text, job.k as u64)
+}
+
+// Whose block it is, if it is a job's.
+#[tactic(auto, unfolding(crate::specs::Titles::whose_told))]
+fn add_whose_told(text: &mut Vec<u8>, plan: &Plan, job: Option<JobId>) -> Result<(), Memory>
+    ensures { OnOk result (text.new.items ≡ text.old.items ++ whose_told plan.now job) }
+{
+    match job {
+        Some(job) => {
+            add_job_told(text, plan, job)?;
+            add(text, b", ")
+        }
+        None => Ok(()),
+    }
 }
 
 // On which resource.
@@ -118,7 +131,7 @@ fn add_broken(text: &mut Vec<u8>, rule: Rule) -> Result<(), Memory>
     add(text, rule_word(rule))
 }
 
-// What the job does there.
+// What a block shows.
 #[tactic(auto, unfolding(crate::specs::Titles::look_told))]
 fn add_look_told(text: &mut Vec<u8>, look: Look) -> Result<(), Memory>
     ensures { OnOk result (text.new.items ≡ text.old.items ++ look_told look) }
@@ -132,30 +145,31 @@ fn add_look_told(text: &mut Vec<u8>, look: Look) -> Result<(), Memory>
         Look::Active(true) => add(text, b"from its release to its end"),
         Look::Active(false) => add(text, b"from its release on, not finished"),
         Look::Late => add(text, b"behind its absolute deadline"),
+        Look::Ceiling(level) => add_counted(text, b"ceiling ", level as u64, b""),
         Look::Breaks(rule) => add_broken(text, rule),
     }
 }
 
-// What a block of a job tells.
-fn add_span_title(text: &mut Vec<u8>, plan: &Plan, span: &Span, job: JobId) -> Result<(), Memory>
-    ensures { OnOk result (text.new.items ≡ text.old.items ++ span_title plan.now span.now job) }
+// What a block tells.
+fn add_span_title(text: &mut Vec<u8>, plan: &Plan, span: &Span) -> Result<(), Memory>
+    ensures { OnOk result (text.new.items ≡ text.old.items ++ span_title plan.now span.now) }
 {
     add_counted(text, b"<title>ticks ", span.first, b" to ")?;
     add_number(text, span.end.saturating_sub(1))?;
-    add_job_told(text, plan, job)?;
-    add(text, b", ")?;
+    add(text, b": ")?;
+    add_whose_told(text, plan, span.job)?;
     add_look_told(text, span.look)?;
     add_res_told(text, plan, span.res)?;
     add(text, b"</title>")
 }
 
-/// Adds what a block tells: nothing where it is of no job.
+/// Adds what a block tells: the background of a lane tells nothing.
 pub(crate) fn add_title(text: &mut Vec<u8>, plan: &Plan, span: &Span) -> Result<(), Memory>
-    ensures { OnOk result (text.new.items ≡ text.old.items ++ title_text plan.now span.now span.now.job) }
+    ensures { OnOk result (text.new.items ≡ text.old.items ++ title_text plan.now span.now span.now.look) }
 {
-    match span.job {
-        Some(job) => add_span_title(text, plan, span, job),
-        None => Ok(()),
+    match span.look {
+        Look::Lane => Ok(()),
+        _ => add_span_title(text, plan, span),
     }
 }
 
@@ -168,6 +182,7 @@ pub(crate) fn add_event_title(text: &mut Vec<u8>, plan: &Plan, event: &Event) ->
     add(text, moment_word(event.moment))?;
     add(text, b" at ")?;
     add_number(text, event.tick)?;
+    add(text, b": ")?;
     add_job_told(text, plan, event.job)?;
     add(text, b"</title>")
 }
@@ -179,18 +194,18 @@ fn add_deed(text: &mut Vec<u8>, width: u64, kind: Kind, job: Option<JobId>) -> R
 {
     add(text, &[sign(kind)])?;
     match job {
-        Some(job) => add_roomy(text, width, job.k as u64),
+        Some(job) => add_roomy(text, width.saturating_sub(SIGN_ROOM), job.k as u64),
         None => Ok(()),
     }
 }
 
-// A number behind a sign, where there is room.
+// A number, where there is room.
 fn add_roomy(text: &mut Vec<u8>, width: u64, number: u64) -> Result<(), Memory>
     ensures { OnOk result (text.new.items ≡ text.old.items ++ roomy_text width number) }
 {
     let mut digits = Buffer::new();
     let digits = digits.format(number).as_bytes();
-    if SIGN_ROOM + digits.len() as u64 * DIGIT_WIDTH <= width {
+    if digits.len() as u64 * DIGIT_WIDTH <= width {
         add(text, digits)
     } else {
         Ok(())
@@ -224,6 +239,7 @@ pub(crate) fn add_word(
         Look::Turn => add(text, job_name(plan, span.job)),
         Look::Holds => add(text, held_name(plan, span.res)),
         Look::First(behind) => add_first(text, behind, job_name(plan, span.job)),
+        Look::Ceiling(level) => add_roomy(text, width, level as u64),
         _ => Ok(()),
     }
 }

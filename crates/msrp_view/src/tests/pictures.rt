@@ -21,7 +21,7 @@ const FAULTY: &[u8] =
     b"msrp-trace,1,2,6\n0,0,take,a,0,g\n0,1,queue,b,0,g\n1,0,run,a,0,-\n1,1,grant,b,0,g\n2,0,release,a,0,g\n";
 
 const LEGEND: &str =
-    "\na: a on core 0\nb: b on core 1\n= works  ( locks  ) unlocks  [ gets  ] releases  ? joins a queue  ~ spins\n. idle  ! breaks a rule  ^ a release  v an absolute deadline  X both\nof a resource: the first in its queue after the tick, how many wait behind it\n";
+    "\na: a on core 0\nb: b on core 1\n= works  ( locks  ) unlocks  [ gets  ] releases  ? joins a queue  ~ spins\n. idle  | next job  ! breaks a rule  ^ release  v absolute deadline  X both\nof a resource: the first in its queue after the tick, how many wait behind it\n";
 
 const WHOLE: &str =
     "good\nticks 0 to 5 of 6\n\ntick              0----+\ncore 0            aaa...\n                  [=]...\n  released, due   ^.....\ncore 1            bbbbb.\n                  ?~[=].\n  released, due   ^.....\ng                 aabb..\n  waiting         11....\n";
@@ -102,7 +102,7 @@ fn pictures_in_svg(rt: HostRuntime) {
         style: Style::Svg,
         ..ALL
     };
-    let table: [(&[u8], u8, [&str; 9]); 2] = [
+    let table: [(&[u8], u8, [&str; 10]); 2] = [
         (
             TRACE,
             0,
@@ -116,6 +116,7 @@ fn pictures_in_svg(rt: HostRuntime) {
                 "<title>release at 0: b, job 0</title>",
                 "<title>ticks 0 to 2: a, job 0, from its release to its end</title>",
                 "<title>ticks 2 to 4: b, job 0, holds g</title>",
+                "<title>ticks 0 to 1: ceiling 1</title>",
             ],
         ),
         (
@@ -124,13 +125,14 @@ fn pictures_in_svg(rt: HostRuntime) {
             [
                 ">fault,4,A5\n",
                 ">ticks 0 to 2 of 6, the fault in tick 1\n",
-                "<svg class=\"breaks\" x=\"168\" y=\"292\" width=\"28\" height=\"50\"><title>ticks 1 to 1: b, job 0, breaks rule A5 g</title>",
-                "<text class=\"rule\" x=\"168\" y=\"289\">A5</text>",
-                "<svg class=\"release after\" x=\"196\" y=\"168\" width=\"28\" height=\"50\"><title>ticks 2 to 2: a, job 0, release g</title>",
+                "<svg class=\"breaks\" x=\"168\" y=\"316\" width=\"28\" height=\"50\"><title>ticks 1 to 1: b, job 0, breaks rule A5 g</title>",
+                "<text class=\"rule\" x=\"168\" y=\"313\">A5</text>",
+                "<svg class=\"release after\" x=\"196\" y=\"180\" width=\"28\" height=\"50\"><title>ticks 2 to 2: a, job 0, release g</title>",
                 "<title>ticks 0 to 1: a, job 0, ahead of 1 in the queue of g</title>",
-                "<text class=\"label\" x=\"132\" y=\"384\">g</text>",
+                "<text class=\"label\" x=\"132\" y=\"408\">g</text>",
                 "<title>ticks 0 to 1: a, job 0, from its release on, not finished</title>",
                 "<title>ticks 0 to 1: a, job 0, holds g</title>",
+                "<title>ticks 0 to 0: ceiling 1</title>",
             ],
         ),
     ];
@@ -157,16 +159,16 @@ fn sections_within_one_another(rt: HostRuntime) {
             b"msrp,1\ncores,1\nticks,4\nresource,a\nresource,b\nresource,c\nresource,d\ntask,t,0,20,20,0\nop,lock,a\nop,lock,d\nop,unlock,d\nop,unlock,a\n",
             b"msrp-trace,1,1,4\n0,0,lock,t,0,a\n1,0,lock,t,0,d\n2,0,unlock,t,0,d\n3,0,unlock,t,0,a\n",
             [
-                "<svg class=\"holds\" x=\"140\" y=\"184\" width=\"112\" height=\"10\"><title>ticks 0 to 3: t, job 0, holds a</title>",
-                "<svg class=\"holds\" x=\"168\" y=\"194\" width=\"56\" height=\"10\"><title>ticks 1 to 2: t, job 0, holds d</title>",
+                "<svg class=\"holds\" x=\"140\" y=\"196\" width=\"112\" height=\"10\"><title>ticks 0 to 3: t, job 0, holds a</title>",
+                "<svg class=\"holds\" x=\"168\" y=\"206\" width=\"56\" height=\"10\"><title>ticks 1 to 2: t, job 0, holds d</title>",
             ],
         ),
         (
             b"msrp,1\ncores,1\nticks,10\nresource,a\nresource,b\nresource,c\nresource,d\nresource,e\ntask,t,0,20,20,0\nop,lock,a\nop,lock,b\nop,lock,c\nop,lock,d\nop,lock,e\nop,unlock,e\nop,unlock,d\nop,unlock,c\nop,unlock,b\nop,unlock,a\n",
             b"msrp-trace,1,1,10\n0,0,lock,t,0,a\n1,0,lock,t,0,b\n2,0,lock,t,0,c\n3,0,lock,t,0,d\n4,0,lock,t,0,e\n5,0,unlock,t,0,e\n6,0,unlock,t,0,d\n7,0,unlock,t,0,c\n8,0,unlock,t,0,b\n9,0,unlock,t,0,a\n",
             [
-                "<svg class=\"holds\" x=\"140\" y=\"184\" width=\"280\" height=\"6\"><title>ticks 0 to 9: t, job 0, holds a</title>",
-                "<svg class=\"holds\" x=\"252\" y=\"208\" width=\"56\" height=\"6\"><title>ticks 4 to 5: t, job 0, holds e</title>",
+                "<svg class=\"holds\" x=\"140\" y=\"196\" width=\"280\" height=\"6\"><title>ticks 0 to 9: t, job 0, holds a</title>",
+                "<svg class=\"holds\" x=\"252\" y=\"220\" width=\"56\" height=\"6\"><title>ticks 4 to 5: t, job 0, holds e</title>",
             ],
         ),
     ];

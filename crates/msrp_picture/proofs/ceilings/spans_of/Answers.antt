@@ -1,0 +1,26 @@
+use Rattle.std.proofs.Common.{ℕ, ◌+◌, ◌∷◌, ◌++◌, [], ap, arith, length, sym, take, ◌∙◌}
+use Rattle.std.proofs.lemmas.List.{take_more}
+use Rattle.msrp_plan.specs.declared.rows.Row.{Row}
+use Rattle.msrp_picture.specs.Ceilings.{raised, told_ceiling}
+use Rattle.msrp_picture.specs.Inside.Claims.{claims}
+use Rattle.msrp_picture.proofs.Claims.{claims-size}
+use Rattle.msrp_picture.proofs.Growing.{grows-each}
+use Rattle.msrp_picture.proofs.ceilings.spans_of.Goals as goal
+
+pub loop-tick-init : goal.loop-tick-init
+loop-tick-init c = record { kept = c.in_ok-kept.ensures; spans = c.new-spans.ensures.items }
+
+pub ceiling_of-ceiling-requires-clause-kept : goal.ceiling_of-ceiling-requires-clause-kept
+ceiling_of-ceiling-requires-clause-kept c = ap length c.deref.ensures.value ∙ (c.keep.ensures.size ∙ (ap length c.loop-tick.invariant.kept ∙ claims-size c.args.plan.now (take c.loop-tick.tick c.args.log.now)))
+
+pub loop-tick-preserved : goal.loop-tick-preserved
+loop-tick-preserved c =
+    let plan = c.args.plan.now in
+    let log = c.args.log.now in
+    let at = c.loop-tick.tick in
+    let r = c.index-log-tick.result in
+    let more = take_more log at r (omega arith) ∙ ap (λ (x : Row). take at log ++ x ∷ []) (sym c.index-log-tick.is) in
+    let kept = c.keep.ensures.claims plan (take at log) c.loop-tick.invariant.kept ∙ ap (claims plan) (sym more) in
+    let ceiling = c.ceiling_of-ceiling.ensures (take (at + 1) log) (c.deref.ensures.value ∙ kept) in
+    let each = λ (t : ℕ). raised c.args.room t (told_ceiling plan c.args.core.0 (take (t + 1) log)) in
+    record { kept = kept; spans = grows-each each at [] _ _ c.loop-tick.invariant.spans (c.in_ok-push_raised.ensures ∙ ap (λ n. c.loop-tick.spans.items ++ raised c.args.room at n) ceiling) }
