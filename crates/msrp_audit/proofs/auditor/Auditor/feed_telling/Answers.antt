@@ -4,7 +4,7 @@ use Rattle.msrp_plan.specs.declared.faults.Fault.{Fault}
 use Rattle.msrp_sim.specs.Cores.{StandFor}
 use Rattle.msrp_audit.specs.Audits.{AuditorModel, auditor_view, answer_of}
 use Rattle.msrp_audit.proofs.Judging.{stays_faulty, fed_behind, fault_next, fed_on, fed_bad}
-use Rattle.msrp_audit.proofs.auditor.Auditor.feed.Goals as goal
+use Rattle.msrp_audit.proofs.auditor.Auditor.feed_telling.Goals as goal
 
 pub returns-in-Some-clause-fed : goal.returns-in-Some-clause-fed
 returns-in-Some-clause-fed c = λ rows h. fed_behind c.args.self.now rows c.args.row c.in-Some.fault (sym (ap (λ (a : AuditorModel). a.fault) c.self.view_is) ∙ c.in-Some.is) h
