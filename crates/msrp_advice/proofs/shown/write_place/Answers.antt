@@ -3,8 +3,8 @@ use Rattle.std.specs.Prelude.{unwrap_or}
 use Rattle.csv.specs.Records.{fields_of}
 use Rattle.msrp_plan.proofs.Writes.{wrote-more}
 use Rattle.msrp_text.proofs.Written.{wrote-as}
-use Rattle.msrp_advice.specs.Refusals.{wrong_field}
-use Rattle.msrp_advice.proofs.refusals.write_place.Goals as goal
+use Rattle.msrp_advice.specs.Shown.{wrong_field}
+use Rattle.msrp_advice.proofs.shown.write_place.Goals as goal
 
 pub returns-in-Some : goal.returns-in-Some
 returns-in-Some g c =

@@ -1,9 +1,9 @@
 use Rattle.std.proofs.Common.{◌∙◌, [], ap}
 use Rattle.std.specs.Prelude.{unwrap_or}
 use Rattle.csv.specs.Records.{field_at, fields_of}
-use Rattle.msrp_why.specs.RefusalText.{shown_field}
-use Rattle.msrp_why.proofs.Written.{wrote-part}
-use Rattle.msrp_why.proofs.refusals.write_fields.Goals as goal
+use Rattle.msrp_advice.specs.Shown.{shown_field}
+use Rattle.msrp_advice.proofs.Parts.{wrote-part}
+use Rattle.msrp_advice.proofs.shown.write_fields.Goals as goal
 
 pub loop-i-preserved : goal.loop-i-preserved
 loop-i-preserved g c =
