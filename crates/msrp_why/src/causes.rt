@@ -66,6 +66,7 @@ fn cores_due(plan: &Plan, auditor: &Auditor<'_>) -> ArrayVec<u32, MOST_TURNS>
 }
 
 // The same, where the row isn't in its turn.
+#[inline(always)]
 fn turns_for(plan: &Plan, auditor: &Auditor<'_>, row: Row) -> ArrayVec<u32, MOST_TURNS>
     requires plan { auditor.now.plan ≡ plan.now }
     ensures { (rows : List TraceRow) → HasFed auditor.now rows → auditor.now.fault ≡ None → length rows < plan.now.cores * plan.now.ticks → is_in_turn plan.now rows row ≡ false → result.items ≡ cores_due plan.now rows }
@@ -78,6 +79,7 @@ fn turns_for(plan: &Plan, auditor: &Auditor<'_>, row: Row) -> ArrayVec<u32, MOST
 }
 
 /// The next row, as the auditor judges it: a fault comes with its cause, which takes the notes away. It takes no memory.
+#[inline(always)]
 pub fn feed(
     alloc: Global,
     plan: &Plan,
@@ -96,10 +98,10 @@ pub fn feed(
 {
     // Read so that the plan is known to be an accepted one.
     let _accepted = plan.cores();
-    let due = auditor.foresee(row.core);
     let state = auditor.state(row.core);
     let turns = turns_for(plan, auditor, row);
-    match auditor.feed(row) {
+    let mut due = None;
+    match auditor.feed_telling(row, &mut due) {
         Ok(()) => {
             notes.note(plan, levels, state, row);
             Ok(())

@@ -26,10 +26,10 @@ returns-in-Ok-clause-noted c = λ rows fed noted.
 
 pub returns-in-Err-clause-cause : goal.returns-in-Err-clause-cause
 returns-in-Err-clause-cause c = λ rows fed good noted.
-    let P : PlanModel → Type 0 = λ p. IsCauseAfter p rows c.args.row (record { fault = c.in-Err.fault; row = c.args.row; due = c.foresee-due.result; state = c.state-state.result; turns = c.turns_for-turns.result; notes = c.take.result }) in
+    let P : PlanModel → Type 0 = λ p. IsCauseAfter p rows c.args.row (record { fault = c.in-Err.fault; row = c.args.row; due = c.feed_telling.new.told; state = c.state-state.result; turns = c.turns_for-turns.result; notes = c.take.result }) in
     let a = c.args.auditor.now in
     let turned : (before : List Row) → HasFed a before → a.fault ≡ None → length before < a.plan.cores * a.plan.ticks → is_in_turn a.plan before c.args.row ≡ false → c.turns_for-turns.result.items ≡ cores_due a.plan before =
     λ before. subst (λ (p : PlanModel). HasFed a before → a.fault ≡ None → length before < p.cores * p.ticks → is_in_turn p before c.args.row ≡ false → c.turns_for-turns.result.items ≡ cores_due p before) (sym c.requires.plan) (c.turns_for-turns.ensures before) in
     subst P c.requires.plan
-    (cause_is c.args.auditor.now rows c.args.row c.in-Err.fault c.foresee-due.result c.state-state.result c.turns_for-turns.result c.take.result (subst IsPlan (sym c.requires.plan) c.cores-accepted.ensures.plan)
-    (subst (λ p. AreNoted p rows c.take.result) (sym c.requires.plan) (subst (AreNoted c.args.plan.now rows) (sym c.take.ensures) noted)) fed (subst (λ (p : PlanModel). fault_in p rows ≡ None) (sym c.requires.plan) good) (c.in-Err.ensures.answer rows fed) c.foresee-due.ensures c.state-state.ensures turned)
+    (cause_is c.args.auditor.now rows c.args.row c.in-Err.fault c.feed_telling.new.told c.state-state.result c.turns_for-turns.result c.take.result (subst IsPlan (sym c.requires.plan) c.cores-accepted.ensures.plan)
+    (subst (λ p. AreNoted p rows c.take.result) (sym c.requires.plan) (subst (AreNoted c.args.plan.now rows) (sym c.take.ensures) noted)) fed (subst (λ (p : PlanModel). fault_in p rows ≡ None) (sym c.requires.plan) good) (c.in-Err.ensures.answer rows fed) c.in-Err.ensures.told c.state-state.ensures turned)
