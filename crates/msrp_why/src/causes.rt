@@ -79,7 +79,9 @@ fn turns_for(plan: &Plan, auditor: &Auditor<'_>, row: Row) -> ArrayVec<u32, MOST
 }
 
 /// The next row, as the auditor judges it: a fault comes with its cause, which takes the notes away. It takes no memory.
-#[inline(always)]
+///
+/// It stands apart from the code of its callers, in which the parts of a cause would be cleared for each row.
+#[inline(never)]
 pub fn feed(
     alloc: Global,
     plan: &Plan,
