@@ -1,8 +1,6 @@
 -- What is written of a refused record: its code and number with a sentence, the record as it stands, and the earlier one that it concerns.
-use Rattle.std.specs.Prelude.{ℕ, List, [], ◌∷◌, ◌+◌, ◌++◌, ◌==◌, Option, Some, None, length, codes, decimal, min, slice_index, unwrap_or, if◌then◌else◌}
+use Rattle.std.specs.Prelude.{ℕ, List, [], ◌∷◌, ◌+◌, ◌++◌, ◌==◌, Option, Some, None, length, codes, decimal, min, slice_index, if◌then◌else◌}
 use Rattle.std.specs.List.{flat_map, range_with_len}
-use Rattle.csv.specs.Records.{field_at}
-use Rattle.msrp_plan.specs.Building.{is_within}
 use Rattle.msrp_plan.specs.Codes.{code_of}
 use Rattle.msrp_plan.specs.Limits.{most_cores}
 use Rattle.msrp_plan.specs.declared.faults.PlanFault.{PlanFault}
