@@ -8,6 +8,7 @@ from .sweep import kept
 VIEWER = TOP / "crates/msrp_view/out/msrp_view"
 PIECES = 8
 DUE = b"due here: "
+MORE = b"this trace tells no jobs ahead: one of version 2 is faulted at the wrong request itself, and not later at its victim\n"
 KINDS = ("run", "idle", "lock", "unlock", "take", "queue", "spin", "grant", "release")
 
 
@@ -53,7 +54,7 @@ def ceilings(plan):
 
 
 def facts(plan, before, row):
-    """What stands in the queue of the row's resource, what its core holds or awaits, and the core's ceiling, by the rows before."""
+    """What stands in the queue of the row's resource, what its core holds or awaits with its ceilings, and the core's ceiling, by the rows before."""
     resources, above = ceilings(plan)
     opened = {name: [] for name in resources}
     last = {}
@@ -66,11 +67,12 @@ def facts(plan, before, row):
             last[fields[5]] = (number, text)
     fields = row.decode().rstrip("\n").split(",")
     core, name = int(fields[1]), fields[5]
-    held = [b"held or awaited since row %d: %s" % it[:2] for each in resources for it in opened[each] if it[2] == core]
+    held = [b"held or awaited since row %d, with ceiling %d: %s" % (it[0], above[each, core], it[1]) for each in resources for it in opened[each] if it[2] == core]
     queue = [b"so many stand in its queue: %d\n" % len(opened.get(name, []))] + [b"in its queue since row %d: %s" % it[:2] for it in opened.get(name, [])]
     released = [b"last released in row %d: %s" % last[name]] if name in last else []
+    lacking = [MORE for it in opened.get(name, []) if it[1].split(b",")[2] == b"queue" and it[1].count(b",") < 6][:1]
     top = max([above[each, core] for each in resources for it in opened[each] if it[2] == core], default=0)
-    return {b"A3": [b"ceiling of core %d: %d\n" % (core, top), *held], b"A4": held, b"A5": queue + released}
+    return {b"A3": [b"ceiling of core %d: %d\n" % (core, top), *held], b"A4": held, b"A5": queue + released + lacking}
 
 
 def explained(found, what, plan, trace):
@@ -84,7 +86,7 @@ def explained(found, what, plan, trace):
         number = int(refusal.split()[-1])
         shown = b"".join(b"[%s]" % field for field in trace[number - 1].rstrip(b"\n").split(b","))
         found.counts["refused records in words"] += 1
-        found.judge(why.out.startswith(refusal + b": ") and why.out.endswith(b"\nrecord %d: %s\n" % (number, shown)), f"{what}: the record is another than {shown}", why)
+        found.judge(why.out.startswith(refusal + b": ") and why.out.endswith(b"\nrecord %d, line %d if no line before it is empty: %s\n" % (number, number, shown)), f"{what}: the record is another than {shown}", why)
     due = [line[len(DUE):] for line in why.out.splitlines(keepends=True) if line.startswith(DUE) and not line.startswith(DUE + b"a row")]
     if judged.status == FAULT and due:
         at = row_of(judged)

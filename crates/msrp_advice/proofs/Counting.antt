@@ -4,10 +4,9 @@ use Rattle.std.specs.Prelude.{◌&&◌, ◌==◌, length, nat_le, not, if◌then
 use Rattle.std.proofs.lemmas.Bool.{le-leb}
 use Rattle.std.specs.Option.{IfSome}
 use Rattle.csv.specs.Reading.{strip_bom}
-use Rattle.msrp_advice.specs.Earlier.{last_place}
 use Rattle.msrp_text.specs.Reading.{record_at}
 use Rattle.msrp_advice.specs.Lines.{count_below, has_mark}
-use Rattle.msrp_advice.specs.Nested.{any_below, core_after, core_at, is_elsewhere}
+use Rattle.msrp_advice.specs.Nested.{any_below, core_after, core_at, is_elsewhere, is_on_core, last_place}
 use Rattle.msrp_advice.specs.Records.{is_lock, is_same}
 use Rattle.msrp_advice.proofs.Seeking.{last-more}
 
@@ -77,3 +76,9 @@ elsewhere-is before i k core own lock row l r e o =
     ∙ (ap (λ x. is_lock x && is_same 2 (record_at before i) x && not (core == own)) r
     ∙ (ap (λ x. is_lock (record_at before k) && is_same 2 (record_at before i) (record_at before k) && not (x == own)) e
     ∙ ap (λ x. is_lock (record_at before k) && is_same 2 (record_at before i) (record_at before k) && not (core_at before k == x)) o))
+
+pub on-core-is : (before : List (List (List ℕ))) (i k core c : ℕ) (lock row : List (List ℕ)) → lock ≡ record_at before i → row ≡ record_at before k → core ≡ core_at before k → (is_lock row && is_same 2 lock row && (core == c)) ≡ is_on_core before i c k
+on-core-is before i k core c lock row l r e =
+    ap (λ x. is_lock row && is_same 2 x row && (core == c)) l
+    ∙ (ap (λ x. is_lock x && is_same 2 (record_at before i) x && (core == c)) r
+    ∙ ap (λ x. is_lock (record_at before k) && is_same 2 (record_at before i) (record_at before k) && (x == c)) e)

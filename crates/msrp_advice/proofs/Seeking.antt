@@ -6,7 +6,8 @@ use Rattle.std.specs.Option.{IfSome}
 use Rattle.std.proofs.lemmas.List.{drop_more, get_or-map}
 use Rattle.csv.specs.Records.{Row, fields_of}
 use Rattle.msrp_text.specs.Reading.{record_at}
-use Rattle.msrp_advice.specs.Earlier.{greatest_place, last_place, number_there}
+use Rattle.msrp_advice.specs.Earlier.{greatest_place, number_there}
+use Rattle.msrp_advice.specs.Nested.{last_place}
 
 -- a record by its place
 pub record-is : (before : List Row) (i : ℕ) (row : Row) → i < length before → row ≡ slice_index_or before i row → fields_of row ≡ record_at (map fields_of before) i

@@ -3,7 +3,7 @@ use Rattle.std.specs.Prelude.{ℕ, zero, suc, Bool, false, ◌==◌, ◌&&◌, �
 use Rattle.csv.specs.Records.{field_at}
 use Rattle.msrp_text.specs.Fields.{has_word}
 use Rattle.msrp_text.specs.Reading.{number_told, record_at}
-use Rattle.msrp_advice.specs.Nested.{is_nested}
+use Rattle.msrp_advice.specs.Nested.{is_nested, last_place, outer_of}
 use Rattle.msrp_advice.specs.Places.{is_task}
 use Rattle.msrp_advice.specs.Records.{is_left, is_lock, is_resource, is_same}
 use Rattle.msrp_advice.specs.declared.advice.Advice.{Advice}
@@ -12,11 +12,6 @@ use Rattle.msrp_advice.specs.declared.earlier.Sought.{Sought}
 use Rattle.msrp_advice.specs.declared.earlier.Sought.TheVariants as sought
 
 -- ---- the last one that is sought
--- the last of the first n places that passes a test
-unfoldable pub last_place : (ℕ → Bool) → ℕ → Option ℕ
-last_place test zero = None
-last_place test (suc n) = if test n then Some n else last_place test n
-
 -- how many of the records before the refused one are searched: all, but for a nested lock no more than 4096, since each is compared with all others
 abbrev pub searched : Sought → ℕ → ℕ
 searched sought.NestedLock n = min n 4096
@@ -103,3 +98,8 @@ name_place before (Some i) = if has_word (record_at before i) 0 (codes "op") the
 
 abbrev pub name_told : List (List (List ℕ)) → Option ℕ → List ℕ
 name_told before found = field_told before found (name_place before found)
+
+-- of a lock inside a global resource's section: the lock of that resource
+abbrev pub outer_told : List (List (List ℕ)) → Option ℕ → Option ℕ
+outer_told before None = None
+outer_told before (Some i) = outer_of before (searched sought.NestedLock (length before)) i

@@ -5,5 +5,6 @@ pub mod Nested
 pub mod Earlier
 pub mod Lines
 pub mod Sentences
+pub mod Shown
 pub mod Refusals
 pub mod Warnings

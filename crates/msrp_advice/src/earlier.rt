@@ -4,12 +4,13 @@ ghost use Rattle.std.specs.Option.{IfSome};
 ghost use Rattle.csv.specs.Records.{fields_of};
 ghost use Rattle.msrp_text.specs.Reading.{number_told, record_at};
 ghost use Rattle.msrp_advice.specs.Earlier as due;
+ghost use Rattle.msrp_advice.specs.Nested.{last_place};
 
 use crate::advice::Advice;
-use crate::nested::is_nested;
+use crate::nested::{is_nested, outer_of};
 use crate::places::is_task;
 use crate::records::{is_left, is_lock, is_same, number_told};
-use crate::refusals::bytes_of;
+use crate::shown::bytes_of;
 use csv::ByteRecord;
 use msrp_text::fields::has_word;
 
@@ -56,8 +57,8 @@ fn sought_by(advice: Advice) -> Sought
     }
 }
 
-// How many of the records before the refused one are searched.
-fn searched(sought: Sought, all: usize) -> usize
+/// How many of the records before the refused one are searched.
+pub(crate) fn searched(sought: Sought, all: usize) -> usize
     ensures searched { result ≡ due.searched sought all }
     ensures bound { result ≤ all }
 {
@@ -88,7 +89,7 @@ fn is_sought(sought: Sought, before: &[ByteRecord], row: &ByteRecord, i: usize) 
 // The last of the first `n` places whose record is sought.
 fn last_place(sought: Sought, before: &[ByteRecord], row: &ByteRecord, n: usize) -> Option<usize>
     requires { n ≤ length before.now }
-    ensures place { result ≡ due.last_place (due.is_sought sought (map fields_of before.now) (fields_of row.now)) n }
+    ensures place { result ≡ last_place (due.is_sought sought (map fields_of before.now) (fields_of row.now)) n }
     ensures bound { IfSome result (λ i. i < n) }
 {
     let mut last = None;
@@ -102,7 +103,7 @@ fn last_place(sought: Sought, before: &[ByteRecord], row: &ByteRecord, n: usize)
 
 // The last of the records that are searched for what is sought.
 fn last_sought(sought: Sought, before: &[ByteRecord], row: &ByteRecord) -> Option<usize>
-    ensures place { result ≡ due.last_place (due.is_sought sought (map fields_of before.now) (fields_of row.now)) (due.searched sought (length before.now)) }
+    ensures place { result ≡ last_place (due.is_sought sought (map fields_of before.now) (fields_of row.now)) (due.searched sought (length before.now)) }
     ensures bound { IfSome result (λ i. i < length before.now) }
 {
     last_place(sought, before, row, searched(sought, before.len()))
@@ -237,4 +238,16 @@ pub(crate) fn name_told(before: &[ByteRecord], found: Option<usize>) -> &[u8]
     ensures { result.now ≡ due.name_told (map fields_of before.now) found }
 {
     field_told(before, found, name_place(before, found))
+}
+
+/// Of a lock inside a global resource's section the lock of that resource.
+pub(crate) fn outer_told(before: &[ByteRecord], found: Option<usize>) -> Option<usize>
+    requires { IfSome found (λ i. i < length before.now) }
+    ensures place { result ≡ due.outer_told (map fields_of before.now) found }
+    ensures bound { IfSome result (λ i. i < length before.now) }
+{
+    match found {
+        Some(i) => outer_of(before, searched(Sought::NestedLock, before.len()), i),
+        None => None,
+    }
 }

@@ -2,8 +2,8 @@
 ghost use Rattle.std.specs.Prelude.{◌≡◌, ◌≤◌, ◌<◌, ◌+◌, ◌-◌, ◌^◌, ◌==◌, ◌&&◌, Some, length, option_map, if◌then◌else◌};
 ghost use Rattle.std.specs.Option.{IfSome};
 ghost use Rattle.csv.specs.Reading.{strip_bom};
-ghost use Rattle.msrp_advice.specs.Earlier.{last_place};
 ghost use Rattle.msrp_advice.specs.Lines as due;
+ghost use Rattle.msrp_advice.specs.Nested.{last_place};
 
 // LF or CR.
 fn is_break(byte: u8) -> bool

@@ -1,5 +1,6 @@
 //! A lock of a global resource while a global one is held, among the first records.
 ghost use Rattle.std.specs.Prelude.{◌≡◌, ◌<◌, ◌≤◌, ◌==◌, ◌&&◌, length, map, not, true, if◌then◌else◌};
+ghost use Rattle.std.specs.Option.{IfSome};
 ghost use Rattle.csv.specs.Records.{fields_of};
 ghost use Rattle.msrp_text.specs.Reading.{record_at};
 ghost use Rattle.msrp_advice.specs.Nested as due;
@@ -92,4 +93,42 @@ pub(crate) fn is_nested(before: &[ByteRecord], n: usize, i: usize) -> bool
     ensures { result ≡ due.is_nested (map fields_of before.now) n i }
 {
     is_lock(&before[i]) && is_shared(before, n, i) && is_within(before, n, i)
+}
+
+// Whether a record locks the resource of a lock, on that core.
+fn is_there(lock: &ByteRecord, core: u32, row: &ByteRecord, here: u32) -> bool
+    ensures { result ≡ (is_lock (fields_of row.now) && is_same 2 (fields_of lock.now) (fields_of row.now) && (here == core)) }
+{
+    is_lock(row) && is_same(2, lock, row) && here == core
+}
+
+/// Whether among the first `n` records a task of that core locks the resource that is locked at a place.
+pub(crate) fn is_used_on(before: &[ByteRecord], n: usize, i: usize, core: u32) -> bool
+    requires all { n ≤ length before.now }
+    requires within { i < length before.now }
+    ensures { result ≡ due.is_used_on (map fields_of before.now) n i core }
+{
+    let mut here = 0;
+    let mut used = false;
+    for k in 0..n {
+        used = is_or(is_there(&before[i], core, &before[k], here), used);
+        here = core_after(&before[k], here);
+    }
+    used
+}
+
+/// The last lock of a global resource that is held still at a place. Only the first `n` records tell which are global.
+pub(crate) fn outer_of(before: &[ByteRecord], n: usize, i: usize) -> Option<usize>
+    requires all { n ≤ length before.now }
+    requires within { i < length before.now }
+    ensures place { result ≡ due.outer_of (map fields_of before.now) n i }
+    ensures bound { IfSome result (λ j. j < i) }
+{
+    let mut outer = None;
+    for j in 0..i {
+        if is_outer(before, n, i, j) {
+            outer = Some(j);
+        }
+    }
+    outer
 }

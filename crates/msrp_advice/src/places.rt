@@ -71,7 +71,7 @@ fn number_place(row: &ByteRecord) -> usize
 #[tactic(auto, unfolding(crate::specs::Places::place_of))]
 pub(crate) fn place_of(advice: Advice, row: &ByteRecord) -> Option<usize>
     ensures place { result ≡ place_of advice (fields_of row.now) }
-    ensures bound { IfSome result (λ i. i < 6) }
+    ensures bound { IfSome result (λ i. i < 7) }
 {
     match advice {
         Advice::Blanks => Some(padded_place(row)),

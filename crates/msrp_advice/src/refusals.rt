@@ -1,95 +1,27 @@
 //! What is written of a refused record.
-ghost use Rattle.std.specs.Prelude.{◌≡◌, ◌<◌, ◌++◌, ◌∷◌, [], codes, decimal, length, map, min, option_map, unwrap_or};
+ghost use Rattle.std.specs.Prelude.{◌≡◌, ◌<◌, ◌≤◌, length, map};
+ghost use Rattle.std.specs.List.{flat_map, range_with_len};
 ghost use Rattle.std.specs.Option.{IfSome};
 ghost use Rattle.csv.specs.Records.{fields_of};
 ghost use Rattle.msrp_plan.specs.Bytes.{Wrote};
-ghost use Rattle.msrp_advice.specs.Refusals as due;
-ghost use Rattle.msrp_advice.specs.Refusals.{earlier_line, filled, line_part, mark_text, record_line, refusal_text, said_of, shown_byte, shown_bytes, shown_field, shown_fields, shown_record, wrong_field};
+ghost use Rattle.msrp_plan.specs.Limits.{most_cores};
+ghost use Rattle.msrp_advice.specs.Refusals.{core_text, cores_text, earlier_line, filled, line_part, mark_text, record_line, refusal_text, said_of};
 
 use crate::advice::Advice;
 use crate::choosing::advice_of;
-use crate::earlier::{earlier_of, known_advice, name_told, task_told, up_to};
+use crate::earlier::{
+    Sought, earlier_of, known_advice, name_told, outer_told, searched, task_told, up_to,
+};
 use crate::lines::line_of;
+use crate::nested::is_used_on;
 use crate::places::place_of;
 use crate::sentences::sentence;
+use crate::shown::{write_bytes, write_number, write_place, write_record};
 use csv::ByteRecord;
-use itoa::{Buffer, Integer};
 use msrp_plan::PlanFault;
 use msrp_plan::bytes::Sink;
+use msrp_plan::limits::MOST_CORES;
 use std::io::Write;
-
-// The most fields of a record that are shown.
-const MOST_FIELDS: usize = 16;
-
-// The most bytes of a field that are shown.
-const MOST_SHOWN: usize = 40;
-
-// A number in decimal digits.
-pub(crate) fn write_number<W: Write, I: Integer>(out: &mut Sink<W>, number: I)
-    ensures { Wrote W.contents out.old out.new (I.text number) }
-{
-    let mut digits = Buffer::new();
-    out.add(digits.format(number).as_bytes());
-}
-
-// A byte of printable ASCII as it is, and a question mark in place of another.
-fn shown_byte(byte: u8) -> u8
-    ensures { result ≡ shown_byte byte }
-{
-    if (32..=126).contains(&byte) {
-        byte
-    } else {
-        b'?'
-    }
-}
-
-// The first bytes of a field.
-fn write_bytes<W: Write>(out: &mut Sink<W>, field: &[u8])
-    ensures { Wrote W.contents out.old out.new (shown_bytes field.now (min (length field.now) due.most_shown)) }
-{
-    for i in 0..field.len().min(MOST_SHOWN) {
-        out.add(&[shown_byte(field[i])]);
-    }
-}
-
-// A field in brackets.
-fn write_field<W: Write>(out: &mut Sink<W>, field: &[u8])
-    ensures { Wrote W.contents out.old out.new (shown_field field.now) }
-{
-    out.add(b"[");
-    write_bytes(out, field);
-    out.add(b"]");
-}
-
-/// The bytes of a field; one that isn't there has none.
-pub(crate) fn bytes_of<'a>(field: Option<&'a [u8]>) -> &'a [u8]
-    ensures { result.now ≡ unwrap_or (option_map (λ f. f.now) field.entry) [] }
-{
-    match field {
-        Some(field) => field,
-        None => b"",
-    }
-}
-
-// The first fields of a record.
-fn write_fields<W: Write>(out: &mut Sink<W>, row: &ByteRecord)
-    ensures { Wrote W.contents out.old out.new (shown_fields (fields_of row.now) (min (length (fields_of row.now)) due.most_fields)) }
-{
-    for i in 0..row.len().min(MOST_FIELDS) {
-        write_field(out, bytes_of(row.get(i)));
-    }
-}
-
-// A record as it stands.
-fn write_record<W: Write>(out: &mut Sink<W>, row: &ByteRecord)
-    ensures { Wrote W.contents out.old out.new (shown_record (fields_of row.now)) }
-{
-    if row.len() == 0 {
-        out.add(b"the end of the text");
-    } else {
-        write_fields(out, row);
-    }
-}
 
 // The number of a line, where it is known.
 fn write_line_part<W: Write>(out: &mut Sink<W>, line: Option<usize>)
@@ -113,17 +45,36 @@ fn write_line<W: Write>(out: &mut Sink<W>, text: &[u8], number: usize, row: &Byt
     out.add(b"\n");
 }
 
-// The field that is wrong, counted from 1, where it is one.
-fn write_place<W: Write>(out: &mut Sink<W>, row: &ByteRecord, place: Option<usize>)
-    requires { IfSome place (λ i. i < 6) }
-    ensures { Wrote W.contents out.old out.new (wrong_field (fields_of row.now) place) }
+// A core, if a task of it locks the resource that is locked at a place.
+fn write_core<W: Write>(out: &mut Sink<W>, before: &[ByteRecord], n: usize, i: usize, core: u32)
+    requires all { n ≤ length before.now }
+    requires within { i < length before.now }
+    ensures { Wrote W.contents out.old out.new (core_text (map fields_of before.now) n i core) }
 {
-    if let Some(i) = place {
-        out.add(b"field ");
-        write_number(out, i as u32 + 1);
+    if is_used_on(before, n, i, core) {
         out.add(b" ");
-        write_field(out, bytes_of(row.get(i)));
-        out.add(b": ");
+        write_number(out, core);
+    }
+}
+
+// The cores whose tasks lock the resource that is locked at a place.
+fn write_cores_of<W: Write>(out: &mut Sink<W>, before: &[ByteRecord], n: usize, i: usize)
+    requires all { n ≤ length before.now }
+    requires within { i < length before.now }
+    ensures { Wrote W.contents out.old out.new (flat_map (core_text (map fields_of before.now) n i) (range_with_len 0 most_cores)) }
+{
+    for core in 0..MOST_CORES {
+        write_core(out, before, n, i, core);
+    }
+}
+
+// The same, where there is a lock.
+fn write_cores<W: Write>(out: &mut Sink<W>, before: &[ByteRecord], found: Option<usize>)
+    requires { IfSome found (λ i. i < length before.now) }
+    ensures { Wrote W.contents out.old out.new (cores_text (map fields_of before.now) found) }
+{
+    if let Some(i) = found {
+        write_cores_of(out, before, searched(Sought::NestedLock, before.len()), i);
     }
 }
 
@@ -142,6 +93,10 @@ fn write_mark<W: Write>(
         b'$' => write_bytes(out, task_told(before, row, found)),
         b'@' => write_bytes(out, name_told(before, found)),
         b'#' => write_number(out, up_to(found, 0)),
+        b'&' => write_cores(out, before, found),
+        b'%' => write_bytes(out, name_told(before, outer_told(before, found))),
+        b'^' => write_number(out, up_to(outer_told(before, found), 0)),
+        b'*' => write_cores(out, before, outer_told(before, found)),
         byte => out.add(&[byte]),
     }
 }

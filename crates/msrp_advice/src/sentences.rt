@@ -74,7 +74,7 @@ pub(crate) fn sentence(advice: Advice) -> &'static [u8]
         Advice::NothingHeld => b"task $ holds no resource",
         Advice::StillHeld => b"task $ still holds @, locked in record #: an unlock is missing",
         Advice::NestedGlobal =>
-            b"task $ locks @, in record #, while it holds a global resource: tasks on several cores lock both",
+            b"task $ locks @, in record #, used on cores&, while it holds %, locked in record ^ and used on cores*: both are global",
         Advice::NestedSomewhere =>
             b"a task locks a global resource, which tasks on several cores lock, while it holds a global one",
         Advice::NoUnit => b"task $, in record #, has no op",

@@ -4,7 +4,7 @@ ghost use Rattle.std.specs.List.{list_any, range_with_len};
 ghost use Rattle.msrp_plan.specs.Bytes.{Wrote};
 ghost use Rattle.msrp_advice.specs.Warnings.{accepted_text, core_units, core_warning, core_warnings, deadline_warning, each, is_due, load_warning, no_job_warning, resource_warning, task_warnings, ticks_warning, units_due};
 
-use crate::refusals::write_number;
+use crate::shown::write_number;
 use msrp_levels::Levels;
 use msrp_plan::bytes::Sink;
 use msrp_plan::{CoreId, JobId, Plan, ResId, TaskId};

@@ -219,7 +219,7 @@ module _ (m n : CoresModel) (plan : PlanModel) (rows : List Row) (r s : Row) (sa
   is_due : IsDueAfter plan rows r.core.0
   is_due = due_after plan rows r ok (subst (λ p. IsRunStart p rows) same stands.start) left turn
 
-  is_next : IsNextRow plan rows r.core.0 s
+  pub is_next : IsNextRow plan rows r.core.0 s
   is_next = subst (λ p. IsNextRow p rows r.core.0 s) same (next rows stands (subst (λ p. IsDueAfter p rows r.core.0) (sym same) is_due))
 
   -- a row as the one that is due has a job of its core

@@ -111,15 +111,16 @@ impl<'a> Auditor<'a> {
         })
     }
 
-    // The rule that the next row breaks, if it breaks one; else the cores stand for it too.
+    // The rule that the next row breaks, if it breaks one; else the cores stand for it too. Of a row in its turn it tells the one that was due.
     #[inline(always)]
-    fn judge(&mut self, row: Row) -> Option<Rule>
+    fn judge(&mut self, row: Row, told: &mut Option<Row>) -> Option<Rule>
         ensures plan { self.new.plan ≡ self.old.plan }
         ensures fed { self.new.fed ≡ self.old.fed }
         ensures fault { self.new.fault ≡ self.old.fault }
         ensures left { result ≡ None → self.old.fed < self.old.plan.cores * self.old.plan.ticks }
         ensures rule { (rows : List TraceRow) → StandFor self.old.cores rows → self.old.fed ≡ length rows → result ≡ refused self.old.plan rows row }
         ensures stand { (rows : List TraceRow) → StandFor self.old.cores rows → self.old.fed ≡ length rows → result ≡ None → StandFor self.new.cores (rows ++ row ∷ []) }
+        ensures told { (rows : List TraceRow) → StandFor self.old.cores rows → self.old.fed ≡ length rows → length rows < self.old.plan.cores * self.old.plan.ticks → is_in_turn self.old.plan rows row ≡ true → IsSomeAnd told.new (IsNextRow self.old.plan rows row.core.0) }
     {
         if self.fed == self.plan.cores() * self.plan.ticks() {
             return Some(Rule::A7);
@@ -128,6 +129,7 @@ impl<'a> Auditor<'a> {
             return Some(Rule::A1);
         }
         let due = self.cores.turn(row.core);
+        *told = Some(due);
         let unlike = unlike_due(row, due);
         // A row as the one that is due has a job of its core.
         if unlike.is_some() && !is_own(self.plan, row) {
@@ -192,10 +194,24 @@ impl<'a> Auditor<'a> {
         ensures answer { (rows : List TraceRow) → HasFed self.old rows → result ≡ answer_of (fault_in self.old.plan (rows ++ row ∷ [])) }
         ensures same { (fault : TraceFault) → self.old.fault ≡ Some fault → result ≡ Err fault }
     {
+        let mut told = None;
+        self.feed_telling(row, &mut told)
+    }
+
+    /// The next row, as [`feed`](Auditor::feed) judges it. Of a row in its turn it tells the one that was due, with its ahead: the one legal row
+    /// of the core, whatever the rule that the row breaks.
+    #[inline(always)]
+    pub fn feed_telling(&mut self, row: Row, told: &mut Option<Row>) -> Result<(), Fault>
+        ensures plan { self.new.plan ≡ self.old.plan }
+        ensures fed { (rows : List TraceRow) → HasFed self.old rows → HasFed self.new (rows ++ row ∷ []) }
+        ensures answer { (rows : List TraceRow) → HasFed self.old rows → result ≡ answer_of (fault_in self.old.plan (rows ++ row ∷ [])) }
+        ensures same { (fault : TraceFault) → self.old.fault ≡ Some fault → result ≡ Err fault }
+        ensures told { (rows : List TraceRow) → HasFed self.old rows → self.old.fault ≡ None → length rows < self.old.plan.cores * self.old.plan.ticks → is_in_turn self.old.plan rows row ≡ true → IsSomeAnd told.new (IsNextRow self.old.plan rows row.core.0) }
+    {
         if let Some(fault) = self.fault {
             return Err(fault);
         }
-        match self.judge(row) {
+        match self.judge(row, told) {
             None => {
                 self.fed += 1;
                 Ok(())

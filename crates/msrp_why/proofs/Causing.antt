@@ -1,4 +1,4 @@
--- The cause of a fault, from what the auditor foresaw.
+-- The cause of a fault, from what the auditor tells.
 use Rattle.std.proofs.Common.{◌≡◌, ℕ, ◌+◌, ◌*◌, ◌/◌, ◌<◌, ◌≤◌, ◌++◌, ◌∷◌, [], Bool, true, false, cond, nat_lt, List, Option, Some, None, length, refl, ap, sym, ◌∙◌, subst, arith, append-nil, append_assoc, length-append, ltb-true, filter}
 use Rattle.std.specs.List.{range_with_len}
 use Rattle.std.specs.Option.{IsSomeAnd}
@@ -140,9 +140,9 @@ told_before a rows r state ok fed next told =
     let d = due_after a.plan rows r ok (good_start a.plan rows good) (omega (arith, length-append rows (r ∷ []), whole.size)) legal.turn in
     subst (λ t. IsSomeAnd state (IsCoreState a.plan r.core.0 t rows)) (d.due ∙ sym (legal_due a.plan rows r legal).tick) (told rows fed (fed.fault ∙ good) d.core)
 
--- a fault that the auditor answers, with the row that it foresaw and the state of the core
+-- a fault that the auditor answers, with the row that was due and the state of the core
 pub cause_is : (a : AuditorModel) (rows : List Row) (r : Row) (f : Fault) (due : Option Row) (state : Option CoreState) (turns : ArrayVec ℕ) (notes : Notes) → IsPlan a.plan → AreNoted a.plan rows notes → HasFed a rows → fault_in a.plan rows ≡ None → Err f ≡ answer_of (fault_in a.plan (rows ++ r ∷ []))
-    → ((before : List Row) → HasFed a before → a.fault ≡ None → IsDueAfter a.plan before r.core.0 → IsSomeAnd due (IsNextRow a.plan before r.core.0))
+    → ((before : List Row) → HasFed a before → a.fault ≡ None → length before < a.plan.cores * a.plan.ticks → is_in_turn a.plan before r ≡ true → IsSomeAnd due (IsNextRow a.plan before r.core.0))
     → ((before : List Row) → HasFed a before → a.fault ≡ None → r.core.0 < a.plan.cores → IsSomeAnd state (IsCoreState a.plan r.core.0 (length (log_of r.core.0 before)) before))
     → ((before : List Row) → HasFed a before → a.fault ≡ None → length before < a.plan.cores * a.plan.ticks → is_in_turn a.plan before r ≡ false → turns.items ≡ cores_due a.plan before)
     → IsCauseAfter a.plan rows r (record { fault = f; row = r; due = due; state = state; turns = turns; notes = notes })
@@ -156,7 +156,7 @@ cause_is a rows r f due state turns notes ok noted fed good answer foreseen told
       good = good;
       fault = fault;
       row = refl;
-      due = due_for a.plan rows r.core.0 f.rule due (nat_lt (length rows) (a.plan.cores * a.plan.ticks)) (is_in_turn a.plan rows r) _ (λ left turn. foreseen rows fed none (due_now left turn)) rule;
+      due = due_for a.plan rows r.core.0 f.rule due (nat_lt (length rows) (a.plan.cores * a.plan.ticks)) (is_in_turn a.plan rows r) _ (λ left turn. foreseen rows fed none (ltb-true (length rows) (a.plan.cores * a.plan.ticks) left) turn) rule;
       state = state_for a.plan rows r.core.0 f.rule state (nat_lt (length rows) (a.plan.cores * a.plan.ticks)) (is_in_turn a.plan rows r) _
           (λ left turn. let d = due_now left turn in subst (λ t. IsSomeAnd state (IsCoreState a.plan r.core.0 t rows)) d.due (told rows fed none d.core)) rule;
       turns = turns_for a.plan rows f.rule turns.items (nat_lt (length rows) (a.plan.cores * a.plan.ticks)) (is_in_turn a.plan rows r) (is_of_core a.plan r) (is_chosen a.plan rows r) (is_next_action a.plan rows r) (is_fifo_reply rows r)

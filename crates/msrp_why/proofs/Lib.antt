@@ -1,4 +1,5 @@
 pub mod Causing
 pub mod Exercising
 pub mod Noting
+pub mod Locking
 pub mod Written

@@ -86,7 +86,7 @@ last_push g rows r false h =
     ∙ ap (fold (λ _ e. Some e) None) (append-nil (filter (changes g) (numbered 0 rows))))
 
 -- a row on the resource
-last_on : (g : ℕ) (rows : List Row) (r : Row) (k : Kind) → is_on g r.res ≡ true → r.kind ≡ k → last_change g (rows ++ r ∷ []) ≡ cond (is_change k) (Some (record { number = length rows + 1; row = r })) (last_change g rows)
+pub last_on : (g : ℕ) (rows : List Row) (r : Row) (k : Kind) → is_on g r.res ≡ true → r.kind ≡ k → last_change g (rows ++ r ∷ []) ≡ cond (is_change k) (Some (record { number = length rows + 1; row = r })) (last_change g rows)
 last_on g rows r k on is = last_push g rows r (is_change k) (ap (λ b. b && is_change r.kind) on ∙ ap is_change is)
 
 last_by : (o : Option Numbered) (e : Numbered) (k : Kind) → last_with k o e ≡ cond (is_change k) (Some e) o

@@ -22,9 +22,9 @@ version_told r = if is_some r.ahead then V2 else V1
 abbrev pub told_row : PlanModel → Row → List ℕ
 told_row plan r = if is_named plan r then row_text (version_told r) plan r else codes "?\n"
 
--- which row it is; the first record of a trace is no row
+-- which row it is; the first record of a trace is no row. No field of the records before it goes over the end of a line
 abbrev pub place_line : PlanModel → ℕ → Row → List ℕ
-place_line plan n r = codes "row " ++ (decimal n ++ (codes " is record " ++ (decimal (n + 1) ++ (codes " of the trace: " ++ told_row plan r))))
+place_line plan n r = codes "row " ++ (decimal n ++ (codes " is record " ++ (decimal (n + 1) ++ (codes " of the trace, line " ++ (decimal (n + 1) ++ (codes " if no line before it is empty: " ++ told_row plan r))))))
 
 -- a rule in words
 unfoldable pub rule_line : Rule → List ℕ

@@ -1,5 +1,5 @@
 -- Rows with their numbers: those of who stands in a queue, and the last change of a resource.
-use Rattle.std.specs.Prelude.{ℕ, List, [], ◌∷◌, Bool, true, false, ◌&&◌, Option, Some, None, ◌+◌, drop, filter, fold, count_by}
+use Rattle.std.specs.Prelude.{ℕ, List, [], ◌∷◌, Bool, true, false, ◌&&◌, Option, Some, None, ◌+◌, ◌≡◌, drop, filter, fold, count_by}
 use Rattle.msrp_plan.specs.Queues.{is_on, is_request, is_release_of}
 use Rattle.msrp_plan.specs.declared.ids.JobId.{JobId}
 use Rattle.msrp_plan.specs.declared.rows.Kind.{Kind}
@@ -37,6 +37,10 @@ changes g e = is_on g e.row.res && is_change e.row.kind
 -- the last of them
 abbrev pub last_change : ℕ → List Row → Option Numbered
 last_change g rows = fold (λ _ e. Some e) None (filter (changes g) (numbered 0 rows))
+
+-- a lock of the job
+abbrev pub IsLockBy : JobId → Numbered → Type 0
+IsLockBy j e = (e.row.kind ≡ Lock) × (e.row.job ≡ Some j)
 
 -- the last of the rows
 abbrev pub last_row : List Row → Option Numbered

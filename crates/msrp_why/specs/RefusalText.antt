@@ -1,8 +1,7 @@
 -- What is written of a refused record of a trace: its code and number with a sentence, and the record as it stands.
-use Rattle.std.specs.Prelude.{ℕ, List, [], ◌∷◌, ◌+◌, ◌++◌, ◌==◌, Option, Some, None, length, codes, decimal, min, slice_get, slice_index, unwrap_or, if◌then◌else◌}
+use Rattle.std.specs.Prelude.{ℕ, List, [], ◌++◌, ◌==◌, length, codes, decimal, slice_get, unwrap_or, if◌then◌else◌}
 use Rattle.std.specs.List.{flat_map, range_with_len}
-use Rattle.csv.specs.Records.{field_at}
-use Rattle.msrp_plan.specs.Building.{is_within}
+use Rattle.msrp_advice.specs.Shown.{shown_record, wrong_field}
 use Rattle.msrp_plan.specs.Plan.{PlanModel, task_at}
 use Rattle.msrp_trace.specs.Codes.{code_of}
 use Rattle.msrp_trace.specs.declared.faults.TraceFault.{TraceFault}
@@ -56,41 +55,13 @@ allowed_text plan UnknownResource = flat_map (res_text plan) (range_with_len 0 (
 allowed_text plan _ = []
 
 -- ---- the record
--- the most fields of a record that are shown, and the most bytes of a field
-abbrev pub most_fields : ℕ
-most_fields = 16
+-- the line in which a record begins; no field of those before it goes over the end of a line, and the end of the text has no line
+abbrev pub line_part : ℕ → List (List ℕ) → List ℕ
+line_part number fields = if length fields == 0 then [] else codes ", line " ++ (decimal number ++ codes " if no line before it is empty")
 
-abbrev pub most_shown : ℕ
-most_shown = 40
-
--- a byte of printable ASCII as it is, and a question mark in place of another
-abbrev pub shown_byte : ℕ → ℕ
-shown_byte b = if is_within 32 126 b then b else 63
-
--- the first bytes of a field
-abbrev pub shown_bytes : List ℕ → ℕ → List ℕ
-shown_bytes field n = flat_map (λ i. shown_byte (slice_index field i) ∷ []) (range_with_len 0 n)
-
--- a field in brackets, so that blanks are seen
-abbrev pub shown_field : List ℕ → List ℕ
-shown_field field = codes "[" ++ (shown_bytes field (min (length field) most_shown) ++ codes "]")
-
--- the first fields of a record
-abbrev pub shown_fields : List (List ℕ) → ℕ → List ℕ
-shown_fields fields n = flat_map (λ i. shown_field (unwrap_or (field_at fields i) [])) (range_with_len 0 n)
-
--- a record as it stands; one without fields is the end of the text
-abbrev pub shown_record : List (List ℕ) → List ℕ
-shown_record fields = if length fields == 0 then codes "the end of the text" else shown_fields fields (min (length fields) most_fields)
-
--- the number of a record, and the record
+-- the number of a record and its line, and the record
 abbrev pub record_line : ℕ → List (List ℕ) → List ℕ
-record_line number fields = codes "record " ++ (decimal number ++ (codes ": " ++ (shown_record fields ++ codes "\n")))
-
--- the field that is wrong, counted from 1, where it is one
-abbrev pub wrong_field : List (List ℕ) → Option ℕ → List ℕ
-wrong_field fields None = []
-wrong_field fields (Some i) = codes "field " ++ (decimal (i + 1) ++ (codes " " ++ (shown_field (unwrap_or (field_at fields i) []) ++ codes ": ")))
+record_line number fields = codes "record " ++ (decimal number ++ (line_part number fields ++ (codes ": " ++ (shown_record fields ++ codes "\n"))))
 
 -- ---- both
 -- the field that is wrong, what it should be, and what the plan allows

@@ -1,10 +1,12 @@
 -- What is noted of the resources, as text.
-use Rattle.std.specs.Prelude.{ℕ, List, [], ◌++◌, ◌==◌, length, codes, decimal, slice_get, Option, Some, None, if◌then◌else◌}
-use Rattle.std.specs.List.{flat_map}
+use Rattle.std.specs.Prelude.{ℕ, Bool, List, [], ◌++◌, ◌==◌, ◌&&◌, is_none, length, codes, decimal, nat_lt, slice_get, Option, Some, None, if◌then◌else◌}
+use Rattle.std.specs.List.{flat_map, list_any}
+use Rattle.msrp_levels.specs.Users.{ceiling_at}
 use Rattle.msrp_plan.specs.Plan.{PlanModel}
 use Rattle.msrp_plan.specs.declared.ids.ResId.{ResId}
 use Rattle.msrp_plan.specs.declared.rows.Kind.{Kind}
 use Rattle.msrp_plan.specs.declared.rows.Kind.TheVariants.{Lock}
+use Rattle.msrp_why.specs.Exercise.{is_queue}
 use Rattle.msrp_why.specs.FactLines.{told_row}
 use Rattle.msrp_why.specs.declared.notes.Numbered.{Numbered}
 use Rattle.msrp_why.specs.declared.notes.ResourceNotes.{ResourceNotes}
@@ -19,8 +21,16 @@ before_lines plan None = []
 before_lines plan (Some e) = since_line plan (codes "the row before is row ") e
 
 -- ---- what a core holds or awaits
+-- the ceiling of a resource at the core
+abbrev pub ceiling_part : PlanModel → ℕ → Option ResId → List ℕ
+ceiling_part plan c None = []
+ceiling_part plan c (Some g) = if nat_lt g.0 (length plan.resources) && nat_lt c plan.cores then codes ", with ceiling " ++ decimal (ceiling_at plan g.0 c) else []
+
+abbrev pub hold_line : PlanModel → ℕ → Numbered → List ℕ
+hold_line plan c e = codes "held or awaited since row " ++ (decimal e.number ++ (ceiling_part plan c e.row.res ++ (codes ": " ++ told_row plan e.row)))
+
 abbrev pub own_line : PlanModel → ℕ → Numbered → List ℕ
-own_line plan c e = if e.row.core.0 == c then since_line plan (codes "held or awaited since row ") e else []
+own_line plan c e = if e.row.core.0 == c then hold_line plan c e else []
 
 -- a lock that is the last change of its resource is without its unlock
 abbrev pub lock_line : PlanModel → ℕ → Kind → Numbered → List ℕ
@@ -46,8 +56,16 @@ abbrev pub last_lines : PlanModel → Option Numbered → List ℕ
 last_lines plan None = []
 last_lines plan (Some e) = since_line plan (codes "last released in row ") e
 
+-- a request that joined the queue, of which it isn't told how many were ahead
+abbrev pub lacks_ahead : Numbered → Bool
+lacks_ahead e = is_queue e.row.kind && is_none e.row.ahead
+
+-- where the trace doesn't tell it, one that does is faulted earlier
+abbrev pub ahead_line : List Numbered → List ℕ
+ahead_line queue = if list_any lacks_ahead queue then codes "this trace tells no jobs ahead: one of version 2 is faulted at the wrong request itself, and not later at its victim\n" else []
+
 abbrev pub resource_lines : PlanModel → ResourceNotes → List ℕ
-resource_lines plan n = queue_lines plan n.queue.items ++ last_lines plan n.last
+resource_lines plan n = queue_lines plan n.queue.items ++ (last_lines plan n.last ++ ahead_line n.queue.items)
 
 abbrev pub noted_lines : PlanModel → Option ResourceNotes → List ℕ
 noted_lines plan None = []

@@ -65,7 +65,7 @@ fn is_entry(kind: Kind) -> bool
     }
 }
 
-fn is_queue(kind: Kind) -> bool
+pub(crate) fn is_queue(kind: Kind) -> bool
     ensures { result ≡ is_queue kind }
 {
     match kind {
@@ -128,6 +128,7 @@ impl ResourceCounts {
 }
 
 // Whether the row does the last unit of the job, which had done so many before.
+#[inline(always)]
 fn ends(plan: &Plan, kind: Kind, before: u32, job: JobId) -> bool
     requires { job.task.0 < length plan.now.tasks }
     ensures { result ≡ ends plan.now kind before job }
@@ -139,6 +140,7 @@ fn ends(plan: &Plan, kind: Kind, before: u32, job: JobId) -> bool
 }
 
 // Whether the row does the last unit of its job.
+#[inline(always)]
 fn finishes(plan: &Plan, state: CoreState, row: Row) -> bool
     ensures { ForSome row.job (λ j. j.task.0 < length plan.now.tasks) → result ≡ finishes_from plan.now state row.kind row.job }
 {
@@ -173,6 +175,7 @@ fn is_at(plan: &Plan, tick: u32, job: Option<JobId>) -> bool
 }
 
 // Whether the job finishes, and that after its absolute deadline.
+#[inline(always)]
 fn is_late(plan: &Plan, finishes: bool, row: Row) -> bool
     ensures { ForSome row.job (λ j. is_job_of plan.now j ≡ true) → result ≡ (finishes && is_past plan.now row.tick row.job) }
 {
@@ -180,6 +183,7 @@ fn is_late(plan: &Plan, finishes: bool, row: Row) -> bool
 }
 
 // Whether the job finishes, and that in the last tick before it.
+#[inline(always)]
 fn is_in_time(plan: &Plan, finishes: bool, row: Row) -> bool
     ensures { ForSome row.job (λ j. is_job_of plan.now j ≡ true) → result ≡ (finishes && is_at plan.now row.tick row.job) }
 {
@@ -187,6 +191,7 @@ fn is_in_time(plan: &Plan, finishes: bool, row: Row) -> bool
 }
 
 // Whether the level of the head isn't above the ceiling.
+#[inline(always)]
 fn is_kept(plan: &Plan, levels: &Levels<'_>, state: CoreState) -> bool
     requires levels { levels.now ≡ plan.now }
     ensures { ForSome state.head (λ h. h.task.0 < length plan.now.tasks) → result ≡ is_kept plan.now state.ceiling state.head }
@@ -198,6 +203,7 @@ fn is_kept(plan: &Plan, levels: &Levels<'_>, state: CoreState) -> bool
 }
 
 // Whether the level of the head is equal to the ceiling.
+#[inline(always)]
 fn is_met(plan: &Plan, levels: &Levels<'_>, state: CoreState) -> bool
     requires levels { levels.now ≡ plan.now }
     ensures { ForSome state.head (λ h. h.task.0 < length plan.now.tasks) → result ≡ is_met plan.now state.ceiling state.head }
@@ -241,6 +247,7 @@ fn has_open(plan: &Plan, job: JobId, done: u32) -> bool
     unlocks < locks
 }
 
+#[inline(always)]
 fn is_opening(kind: Kind) -> bool
     ensures { result ≡ is_opening kind }
 {
@@ -251,6 +258,7 @@ fn is_opening(kind: Kind) -> bool
 }
 
 // Whether the row opens a section while its job has one open.
+#[inline(always)]
 fn nests(plan: &Plan, state: CoreState, row: Row) -> bool
     ensures { ForSome row.job (λ j. j.task.0 < length plan.now.tasks) → result ≡ nests_from plan.now state row.kind row.job }
 {
@@ -263,6 +271,7 @@ fn nests(plan: &Plan, state: CoreState, row: Row) -> bool
 }
 
 // Whether another job runs.
+#[inline(always)]
 fn is_other(running: Option<JobId>, job: Option<JobId>) -> bool
     ensures { result ≡ is_other running job }
 {
@@ -295,6 +304,7 @@ impl TurnCounts {
     }
 
     /// After a legal row, where the state of its core before it is told.
+    #[inline(always)]
     pub(crate) fn note(&mut self, plan: &Plan, levels: &Levels<'_>, state: CoreState, row: Row)
         requires levels { levels.now ≡ plan.now }
         ensures { (rows : List TraceRow) → IsRunStart plan.now (rows ++ row ∷ []) → IsCoreState plan.now row.core.0 row.tick rows state → AreTurnCounts plan.now rows self.old → AreTurnCounts plan.now (rows ++ row ∷ []) self.new }
@@ -302,12 +312,18 @@ impl TurnCounts {
         // Read so that the plan is known to be an accepted one.
         let _accepted = plan.cores();
         let finishes = finishes(plan, state, row);
+        let late = is_late(plan, finishes, row);
+        let at_deadline = is_in_time(plan, finishes, row);
+        let kept = is_kept(plan, levels, state);
+        let at_ceiling = is_met(plan, levels, state);
+        let preempts = is_other(state.running, row.job);
+        let nests = nests(plan, state, row);
         self.finished = one_if(self.finished, finishes);
-        self.late = one_if(self.late, is_late(plan, finishes, row));
-        self.at_deadline = one_if(self.at_deadline, is_in_time(plan, finishes, row));
-        self.kept = one_if(self.kept, is_kept(plan, levels, state));
-        self.at_ceiling = one_if(self.at_ceiling, is_met(plan, levels, state));
-        self.preempted = one_if(self.preempted, is_other(state.running, row.job));
-        self.nested = one_if(self.nested, nests(plan, state, row));
+        self.late = one_if(self.late, late);
+        self.at_deadline = one_if(self.at_deadline, at_deadline);
+        self.kept = one_if(self.kept, kept);
+        self.at_ceiling = one_if(self.at_ceiling, at_ceiling);
+        self.preempted = one_if(self.preempted, preempts);
+        self.nested = one_if(self.nested, nests);
     }
 }

@@ -1,5 +1,6 @@
 //! Laws over what is noted of rows. Each function does nothing; its contract is the law.
-ghost use Rattle.std.specs.Prelude.{◌≡◌, ℕ, List, Some, map, option_map, slice_get, true};
+ghost use Rattle.std.specs.Prelude.{◌≡◌, ℕ, List, Some, false, map, option_map, slice_get, true};
+ghost use Rattle.std.specs.Option.{IsSomeAnd};
 ghost use Rattle.msrp_plan.specs.Jobs.{holds};
 ghost use Rattle.msrp_plan.specs.Levels.{is_global};
 ghost use Rattle.msrp_plan.specs.Plan.{PlanModel};
@@ -8,11 +9,16 @@ ghost use Rattle.msrp_plan.specs.Runs.{IsRunStart};
 ghost use Rattle.msrp_plan.specs.WellFormed.{IsPlan};
 ghost use Rattle.msrp_plan.specs.declared.ids.JobId.{JobId};
 ghost use Rattle.msrp_plan.specs.declared.rows.Row.{Row};
-ghost use Rattle.msrp_why.specs.NumberedRows.{job_of, queue_rows};
+ghost use Rattle.msrp_why.specs.NumberedRows.{IsLockBy, job_of, last_change, queue_rows};
 
 /// Who stands in a queue by the rows that are noted is the queue of the policy, in its order, whatever the rows are.
 pub fn queue_is_fifo()
     ensures { (g : ℕ) (rows : List Row) → map job_of (queue_rows g rows) ≡ map (λ j. Some j) (fifo g rows) }
+{}
+
+/// The last change of a local resource that a job holds is that job's lock.
+pub fn holder_locked_last()
+    ensures { (plan : PlanModel) (rows : List Row) (g : ℕ) (j : JobId) → IsPlan plan → is_global plan g ≡ false → IsRunStart plan rows → holds plan rows g j ≡ true → IsSomeAnd (last_change g rows) (IsLockBy j) }
 {}
 
 /// The job that holds a global resource is that of the first row that is noted of its queue: since that row it awaited the resource or held it.

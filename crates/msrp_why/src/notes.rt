@@ -127,6 +127,7 @@ impl Notes {
     }
 
     // What is noted of the resources after one row more, which is legal.
+    #[inline(always)]
     fn note_row(&mut self, plan: &Plan, row: Row)
         ensures turns { self.new.turns ≡ self.old.turns }
         ensures rows { (rows : List TraceRow) → IsRunStart plan.now (rows ++ row ∷ []) → AreRowsNoted plan.now rows self.old → AreRowsNoted plan.now (rows ++ row ∷ []) self.new }
@@ -144,6 +145,7 @@ impl Notes {
     }
 
     /// The notes after one row more, which is legal, where the state of its core before it is told.
+    #[inline(always)]
     pub fn note(&mut self, plan: &Plan, levels: &Levels<'_>, state: Option<CoreState>, row: Row)
         requires levels { levels.now ≡ plan.now }
         ensures { (rows : List TraceRow) → IsRunStart plan.now (rows ++ row ∷ []) → IsSomeAnd state (IsCoreState plan.now row.core.0 row.tick rows) → AreNoted plan.now rows self.old → AreNoted plan.now (rows ++ row ∷ []) self.new }

@@ -1,11 +1,13 @@
 //! What is noted of the resources, in plain sentences.
-ghost use Rattle.std.specs.Prelude.{◌≡◌, length};
-ghost use Rattle.std.specs.List.{flat_map};
+ghost use Rattle.std.specs.Prelude.{◌≡◌, ◌<◌, length};
+ghost use Rattle.std.specs.List.{flat_map, list_any};
 ghost use Rattle.msrp_plan.specs.Bytes.{Wrote};
-ghost use Rattle.msrp_why.specs.ResourceText.{before_lines, held_lines, held_text, last_lines, lock_lines, own_line, queue_lines, reply_text, resource_lines, since_line};
+ghost use Rattle.msrp_why.specs.ResourceText.{ahead_line, before_lines, ceiling_part, held_lines, hold_line, lacks_ahead, held_text, last_lines, lock_lines, own_line, queue_lines, reply_text, resource_lines, since_line};
 
+use crate::exercise::is_queue;
 use crate::notes::{Notes, Numbered, ResourceNotes};
 use crate::telling::{write_number, write_row};
+use msrp_levels::Levels;
 use msrp_plan::bytes::Sink;
 use msrp_plan::{CoreId, Kind, Plan, ResId};
 use std::io::Write;
@@ -29,49 +31,121 @@ pub(crate) fn write_before<W: Write>(out: &mut Sink<W>, plan: &Plan, last: Optio
     }
 }
 
+// The ceiling of a resource at the core.
+fn write_ceiling<W: Write>(
+    out: &mut Sink<W>,
+    plan: &Plan,
+    levels: &Levels<'_>,
+    core: CoreId,
+    res: Option<ResId>,
+)
+    requires levels { levels.now ≡ plan.now }
+    ensures { Wrote W.contents out.old out.new (ceiling_part plan.now core.0 res) }
+{
+    if let Some(known) = res {
+        if known.0 < plan.resources() && core.0 < plan.cores() {
+            out.add(b", with ceiling ");
+            write_number(out, u64::from(levels.ceiling(known, core)));
+        }
+    }
+}
+
+// A row by which the core holds or awaits a resource.
+fn write_hold<W: Write>(
+    out: &mut Sink<W>,
+    plan: &Plan,
+    levels: &Levels<'_>,
+    core: CoreId,
+    row: Numbered,
+)
+    requires levels { levels.now ≡ plan.now }
+    ensures { Wrote W.contents out.old out.new (hold_line plan.now core.0 row) }
+{
+    out.add(b"held or awaited since row ");
+    write_number(out, u64::from(row.number));
+    write_ceiling(out, plan, levels, core, row.row.res);
+    out.add(b": ");
+    write_row(out, plan, row.row);
+}
+
 // A row, if it is one of the core.
-fn write_own<W: Write>(out: &mut Sink<W>, plan: &Plan, core: CoreId, row: Numbered)
+fn write_own<W: Write>(
+    out: &mut Sink<W>,
+    plan: &Plan,
+    levels: &Levels<'_>,
+    core: CoreId,
+    row: Numbered,
+)
+    requires levels { levels.now ≡ plan.now }
     ensures { Wrote W.contents out.old out.new (own_line plan.now core.0 row) }
 {
     if row.row.core == core {
-        write_since(out, plan, b"held or awaited since row ", row);
+        write_hold(out, plan, levels, core, row);
     }
 }
 
 // The last change of a resource, if it is a lock of the core.
-fn write_lock<W: Write>(out: &mut Sink<W>, plan: &Plan, core: CoreId, last: Option<Numbered>)
+fn write_lock<W: Write>(
+    out: &mut Sink<W>,
+    plan: &Plan,
+    levels: &Levels<'_>,
+    core: CoreId,
+    last: Option<Numbered>,
+)
+    requires levels { levels.now ≡ plan.now }
     ensures { Wrote W.contents out.old out.new (lock_lines plan.now core.0 last) }
 {
     if let Some(row) = last {
         if row.row.kind == Kind::Lock {
-            write_own(out, plan, core, row);
+            write_own(out, plan, levels, core, row);
         }
     }
 }
 
 // Those of the rows that are of the core.
-fn write_own_rows<W: Write>(out: &mut Sink<W>, plan: &Plan, core: CoreId, rows: &[Numbered])
+fn write_own_rows<W: Write>(
+    out: &mut Sink<W>,
+    plan: &Plan,
+    levels: &Levels<'_>,
+    core: CoreId,
+    rows: &[Numbered],
+)
+    requires levels { levels.now ≡ plan.now }
     ensures { Wrote W.contents out.old out.new (flat_map (own_line plan.now core.0) rows.now) }
 {
     for i in 0..rows.len() {
-        write_own(out, plan, core, rows[i]);
+        write_own(out, plan, levels, core, rows[i]);
     }
 }
 
 // What the core holds or awaits of a resource.
-fn write_held_of<W: Write>(out: &mut Sink<W>, plan: &Plan, core: CoreId, notes: &ResourceNotes)
+fn write_held_of<W: Write>(
+    out: &mut Sink<W>,
+    plan: &Plan,
+    levels: &Levels<'_>,
+    core: CoreId,
+    notes: &ResourceNotes,
+)
+    requires levels { levels.now ≡ plan.now }
     ensures { Wrote W.contents out.old out.new (held_lines plan.now core.0 notes.now) }
 {
-    write_lock(out, plan, core, notes.last);
-    write_own_rows(out, plan, core, notes.queue.as_slice());
+    write_lock(out, plan, levels, core, notes.last);
+    write_own_rows(out, plan, levels, core, notes.queue.as_slice());
 }
 
 /// What the core holds or awaits.
-pub(crate) fn write_held<W: Write>(out: &mut Sink<W>, plan: &Plan, core: CoreId, notes: &Notes)
+pub(crate) fn write_held<W: Write>(
+    out: &mut Sink<W>,
+    plan: &Plan,
+    levels: &Levels<'_>,
+    core: CoreId,
+    notes: &Notes,
+)
+    requires levels { levels.now ≡ plan.now }
     ensures { Wrote W.contents out.old out.new (held_text plan.now core.0 notes.now.resources.items) }
 {
     for i in 0..notes.resources.len() {
-        write_held_of(out, plan, core, &notes.resources[i]);
+        write_held_of(out, plan, levels, core, &notes.resources[i]);
     }
 }
 
@@ -108,12 +182,38 @@ fn write_last<W: Write>(out: &mut Sink<W>, plan: &Plan, last: Option<Numbered>)
     }
 }
 
+// Whether a request joined the queue, and it isn't told how many were ahead of it.
+fn lacks_ahead(row: Numbered) -> bool
+    ensures { result ≡ lacks_ahead row }
+{
+    is_queue(row.row.kind) && row.row.ahead.is_none()
+}
+
+// Whether one of them is such a request.
+fn is_any_lacking(rows: &[Numbered]) -> bool
+    ensures { result ≡ list_any lacks_ahead rows.now }
+{
+    rows.iter().any(|row| lacks_ahead(*row))
+}
+
+// Where the trace doesn't tell the jobs ahead, that one that does is faulted earlier.
+fn write_ahead<W: Write>(out: &mut Sink<W>, rows: &[Numbered])
+    ensures { Wrote W.contents out.old out.new (ahead_line rows.now) }
+{
+    if is_any_lacking(rows) {
+        out.add(
+            b"this trace tells no jobs ahead: one of version 2 is faulted at the wrong request itself, and not later at its victim\n",
+        );
+    }
+}
+
 // Who stands in the queue of a resource, and its last release.
 fn write_noted<W: Write>(out: &mut Sink<W>, plan: &Plan, notes: &ResourceNotes)
     ensures { Wrote W.contents out.old out.new (resource_lines plan.now notes.now) }
 {
     write_queue(out, plan, notes);
     write_last(out, plan, notes.last);
+    write_ahead(out, notes.queue.as_slice());
 }
 
 /// What a queue answers from: who stands in it, and its last release.

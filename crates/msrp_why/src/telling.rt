@@ -63,7 +63,9 @@ fn write_place<W: Write>(out: &mut Sink<W>, plan: &Plan, number: u32, row: Row)
     write_number(out, u64::from(number));
     out.add(b" is record ");
     write_number(out, u64::from(number) + 1);
-    out.add(b" of the trace: ");
+    out.add(b" of the trace, line ");
+    write_number(out, u64::from(number) + 1);
+    out.add(b" if no line before it is empty: ");
     write_row(out, plan, row);
 }
 
@@ -180,6 +182,7 @@ fn write_state<W: Write>(
 }
 
 /// How many of its units the job has done.
+#[inline(always)]
 pub(crate) fn units_done(state: CoreState, job: JobId) -> u32
     ensures { result ≡ units_done state job }
 {
@@ -285,13 +288,13 @@ fn write_facts<W: Write>(out: &mut Sink<W>, plan: &Plan, levels: &Levels<'_>, ca
             write_due(out, plan, cause.due);
             write_whom(out, plan, levels, b"found: ", cause.row.job);
             write_state(out, plan, levels, cause.row.core, cause.state);
-            write_held(out, plan, cause.row.core, &cause.notes);
+            write_held(out, plan, levels, cause.row.core, &cause.notes);
         }
         Rule::A4 => {
             write_due(out, plan, cause.due);
             write_job(out, plan, levels, cause.row.job);
             write_units(out, plan, cause.state, cause.row.job);
-            write_held(out, plan, cause.row.core, &cause.notes);
+            write_held(out, plan, levels, cause.row.core, &cause.notes);
         }
         Rule::A5 => {
             write_due(out, plan, cause.due);

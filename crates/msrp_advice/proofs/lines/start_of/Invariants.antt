@@ -1,7 +1,7 @@
 use Rattle.std.proofs.Common.{◌≡◌, ◌<◌, ◌≤◌}
 use Rattle.std.specs.Option.{IfSome}
-use Rattle.msrp_advice.specs.Earlier.{last_place}
 use Rattle.msrp_advice.specs.Lines.{begins_line, count_below, is_quote, is_start}
+use Rattle.msrp_advice.specs.Nested.{last_place}
 use Rattle.msrp_advice.proofs.lines.start_of.Given as goal
 
 abbrev pub invariant-loop-i : goal.invariant-loop-i

@@ -1,10 +1,11 @@
-use Rattle.std.proofs.Common.{◌≡◌, ◌≢◌, ℕ, ◌++◌, ◌∷◌, [], ◌*◌, ◌<◌, ◌≤◌, List, Option, Some, None, false, length, refl, ap, sym, ◌∙◌, subst, arith}
+use Rattle.std.proofs.Common.{◌≡◌, ◌≢◌, ℕ, ◌++◌, ◌∷◌, [], ◌*◌, ◌<◌, ◌≤◌, List, Option, Some, None, false, true, length, refl, ap, sym, ◌∙◌, subst, arith}
 use Rattle.std.specs.Option.{is_some}
+use Rattle.msrp_plan.specs.Runs.{is_in_turn}
 use Rattle.msrp_plan.specs.Verdict.{refused}
 use Rattle.msrp_plan.specs.declared.rows.Row.{Row as TraceRow}
 use Rattle.msrp_audit.specs.Audits.{AuditorModel, auditor_view}
-use Rattle.msrp_sim.specs.Cores.{StandFor}
-use Rattle.msrp_audit.proofs.Judging.{judged, judged_good, stands_on}
+use Rattle.msrp_sim.specs.Cores.{IsNextRow, StandFor}
+use Rattle.msrp_audit.proofs.Judging.{is_next, judged, judged_good, stands_on}
 use Rattle.msrp_audit.proofs.auditor.Auditor.judge.Goals.{else-is_some-via-then-is_some+else-not-is_own, else-is_some-via-else-is_some}
 use Rattle.msrp_audit.proofs.auditor.Auditor.judge.Goals as goal
 
@@ -45,3 +46,15 @@ returns-clause-stand c =
     let P : AuditorModel → Type 0 = λ b. (rows : List TraceRow) → StandFor b.cores rows → b.fed ≡ length rows → c.unlike_due-unlike.result ≡ None → StandFor c.turn-due.new.self (rows ++ c.args.row ∷ []) in
     subst P c.self.view_is (λ rows stands count none. stands_on a.cores c.turn-due.new.self plan rows c.args.row c.turn-due.result c.self.invariant.same c.cores.ensures.plan (subst (λ n. n < plan.cores * plan.ticks) count left) stands
     (sym (c.is_due.ensures.turn rows stands count) ∙ c.if-not-is_due.false) c.turn-due.ensures.next c.turn-due.ensures.stand (sym c.unlike_due-unlike.ensures ∙ none))
+
+pub returns-then-not-is_own-clause-told : goal.returns-then-not-is_own-clause-told
+returns-then-not-is_own-clause-told c =
+    let a = auditor_view c.self.inside in
+    let P : AuditorModel → Type 0 = λ b. (rows : List TraceRow) → StandFor b.cores rows → b.fed ≡ length rows → length rows < b.plan.cores * b.plan.ticks → is_in_turn b.plan rows c.args.row ≡ true → IsNextRow b.plan rows c.args.row.core.0 c.turn-due.result in
+    subst P c.self.view_is (λ rows stands count left turn. is_next a.cores c.turn-due.new.self c.self.inside.plan.now rows c.args.row c.turn-due.result c.self.invariant.same c.cores.ensures.plan left stands turn c.turn-due.ensures.next)
+
+pub returns-clause-told : goal.returns-clause-told
+returns-clause-told c =
+    let a = auditor_view c.self.inside in
+    let P : AuditorModel → Type 0 = λ b. (rows : List TraceRow) → StandFor b.cores rows → b.fed ≡ length rows → length rows < b.plan.cores * b.plan.ticks → is_in_turn b.plan rows c.args.row ≡ true → IsNextRow b.plan rows c.args.row.core.0 c.turn-due.result in
+    subst P c.self.view_is (λ rows stands count left turn. is_next a.cores c.turn-due.new.self c.self.inside.plan.now rows c.args.row c.turn-due.result c.self.invariant.same c.cores.ensures.plan left stands turn c.turn-due.ensures.next)

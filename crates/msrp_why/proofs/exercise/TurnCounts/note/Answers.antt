@@ -14,14 +14,14 @@ returns c = λ rows start is was.
     let job = job_below plan rows r s ok legal is in
     let known = job_known plan rows r s ok legal is in
     let first = head_below plan rows r s ok legal is in
-    turns_on plan rows r s ok legal is (few_before plan rows r ok start) c.args.self.now _ c.finishes-finishes.result c.is_late.result c.is_in_time.result c.is_kept.result c.is_met.result c.is_other.result c.nests.result
+    turns_on plan rows r s ok legal is (few_before plan rows r ok start) c.args.self.now _ c.finishes-finishes.result c.is_late-late.result c.is_in_time-at_deadline.result c.is_kept-kept.result c.is_met-at_ceiling.result c.is_other-preempts.result c.nests-nests.result
     (record {
       finished_is = c.finishes-finishes.ensures job;
-      past_is = c.is_late.ensures known;
-      at_is = c.is_in_time.ensures known;
-      kept_is = c.is_kept.ensures first;
-      met_is = c.is_met.ensures first;
-      other_is = c.is_other.ensures;
-      nested_is = c.nests.ensures job;
+      past_is = c.is_late-late.ensures known;
+      at_is = c.is_in_time-at_deadline.ensures known;
+      kept_is = c.is_kept-kept.ensures first;
+      met_is = c.is_met-at_ceiling.ensures first;
+      other_is = c.is_other-preempts.ensures;
+      nested_is = c.nests-nests.ensures job;
     })
     c.one_if-self.ensures c.one_if-self-2.ensures c.one_if-self-3.ensures c.one_if-self-4.ensures c.one_if-self-5.ensures c.one_if-self-6.ensures c.one_if-self-7.ensures was

@@ -1,6 +1,0 @@
-use Rattle.msrp_plan.specs.Bytes.{Wrote}
-use Rattle.msrp_why.specs.RefusalText.{shown_bytes}
-use Rattle.msrp_why.proofs.refusals.write_bytes.Given as goal
-
-abbrev pub invariant-loop-i : goal.invariant-loop-i
-invariant-loop-i g l = Wrote g.W.Write.contents l.fn.out l.out (shown_bytes l.field l.i)
