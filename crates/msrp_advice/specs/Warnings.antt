@@ -49,12 +49,12 @@ abbrev pub core_warnings : PlanModel → ℕ → List ℕ
 core_warnings plan c = core_warning plan c ++ load_warning plan c
 
 -- a task has a job, and the first of them has its deadline by the end of the ticks
-abbrev pub is_due : PlanModel → ℕ → Bool
-is_due plan t = nat_lt 0 (length (jobs_of plan t)) && nat_le (key plan (job_at t 0)).deadline plan.ticks
+abbrev pub has_deadline : PlanModel → ℕ → Bool
+has_deadline plan t = nat_lt 0 (length (jobs_of plan t)) && nat_le (key plan (job_at t 0)).deadline plan.ticks
 
 -- ticks that end before the first deadline
 abbrev pub ticks_warning : PlanModel → List ℕ
-ticks_warning plan = warn_if (not (list_any (is_due plan) (range_with_len 0 (length plan.tasks)))) (codes "no job has its deadline within the " ++ (decimal plan.ticks ++ codes " ticks\n"))
+ticks_warning plan = warn_if (not (list_any (has_deadline plan) (range_with_len 0 (length plan.tasks)))) (codes "no job has its deadline within the " ++ (decimal plan.ticks ++ codes " ticks\n"))
 
 -- a text for each number below n
 abbrev pub each : (ℕ → List ℕ) → ℕ → List ℕ

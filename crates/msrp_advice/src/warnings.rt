@@ -2,7 +2,7 @@
 ghost use Rattle.std.specs.Prelude.{◌≡◌, ◌<◌, ◌||◌, length};
 ghost use Rattle.std.specs.List.{list_any, range_with_len};
 ghost use Rattle.msrp_plan.specs.Bytes.{Wrote};
-ghost use Rattle.msrp_advice.specs.Warnings.{accepted_text, core_units, core_warning, core_warnings, deadline_warning, each, is_due, load_warning, no_job_warning, resource_warning, task_warnings, ticks_warning, units_due};
+ghost use Rattle.msrp_advice.specs.Warnings.{accepted_text, core_units, core_warning, core_warnings, deadline_warning, each, has_deadline, load_warning, no_job_warning, resource_warning, task_warnings, ticks_warning, units_due};
 
 use crate::shown::write_number;
 use msrp_levels::Levels;
@@ -111,28 +111,28 @@ fn warn_of_load<W: Write>(out: &mut Sink<W>, plan: &Plan, core: CoreId)
 }
 
 // Whether a task has a job whose deadline comes by the end of the ticks: then its first job is one.
-fn is_due(plan: &Plan, task: TaskId) -> bool
+fn has_deadline(plan: &Plan, task: TaskId) -> bool
     requires { task.0 < length plan.now.tasks }
-    ensures { result ≡ is_due plan.now task.0 }
+    ensures { result ≡ has_deadline plan.now task.0 }
 {
     0 < plan.jobs(task) && plan.job_key(JobId { task, k: 0 }).deadline <= u64::from(plan.ticks())
 }
 
 // Whether that is so of a task before, or of this one.
-fn is_due_or(before: bool, plan: &Plan, task: TaskId) -> bool
+fn has_deadline_or(before: bool, plan: &Plan, task: TaskId) -> bool
     requires { task.0 < length plan.now.tasks }
-    ensures { result ≡ (before || is_due plan.now task.0) }
+    ensures { result ≡ (before || has_deadline plan.now task.0) }
 {
-    before || is_due(plan, task)
+    before || has_deadline(plan, task)
 }
 
 // Whether a job has its deadline by the end of the ticks.
 fn is_any_due(plan: &Plan) -> bool
-    ensures { result ≡ list_any (is_due plan.now) (range_with_len 0 (length plan.now.tasks)) }
+    ensures { result ≡ list_any (has_deadline plan.now) (range_with_len 0 (length plan.now.tasks)) }
 {
     let mut any = false;
     for task in 0..plan.tasks() {
-        any = is_due_or(any, plan, TaskId(task));
+        any = has_deadline_or(any, plan, TaskId(task));
     }
     any
 }

@@ -76,7 +76,7 @@ fn is_due(plan: &Plan, cores: &Cores, fed: u32, row: Row) -> bool
 }
 
 // Whether the row's job, if it has one, is a job of the row's core.
-pub fn is_own(plan: &Plan, row: Row) -> bool
+pub(crate) fn is_own(plan: &Plan, row: Row) -> bool
     ensures { result ≡ is_of_core plan.now row }
 {
     let Some(job) = row.job else {

@@ -34,7 +34,7 @@ fn replied_as(row: Row, due: Row) -> bool
 
 // The lower of the rules on job and action that the row breaks, where the other is the row that is due.
 #[inline(always)]
-pub fn unlike_turn(row: Row, due: Row) -> Option<Rule>
+pub(crate) fn unlike_turn(row: Row, due: Row) -> Option<Rule>
     ensures { result ≡ unlike_turn row due }
 {
     if row.job != due.job {
@@ -48,7 +48,7 @@ pub fn unlike_turn(row: Row, due: Row) -> Option<Rule>
 
 // The lowest of the rules on job, action and reply that the row breaks, where the other is the row that is due.
 #[inline(always)]
-pub fn unlike_due(row: Row, due: Row) -> Option<Rule>
+pub(crate) fn unlike_due(row: Row, due: Row) -> Option<Rule>
     ensures { result ≡ unlike row due }
 {
     match unlike_turn(row, due) {

@@ -4,13 +4,13 @@
 #![tactic(auto)]
 
 mod auditor;
-mod blocks;
 mod comparing;
-mod followed;
+mod core_rows;
 mod parallel;
 mod pieces;
 mod queues;
 mod replies;
+mod turns;
 mod verdicts;
 
 pub use auditor::Auditor;

@@ -3,9 +3,9 @@ ghost use Rattle.std.specs.Prelude.{◌≡◌, ◌≤◌, ◌<◌, ◌*◌, IfOk
 ghost use Rattle.msrp_plan.specs.WellFormed.{IsPlan};
 ghost use Rattle.msrp_audit.specs.Inside.Pieces.{broken_in, parts, piece_with, pieces_of, TellsFirst};
 
-use crate::blocks::{TICKS_A_PIECE, judge_turns};
-use crate::followed::judge_core;
+use crate::core_rows::judge_core;
 use crate::queues::judge_resource;
+use crate::turns::{TICKS_A_PIECE, judge_turns};
 use msrp_levels::Levels;
 use msrp_plan::{CoreId, Fault, Memory, Plan, ResId, Row};
 use std::alloc::Global;
@@ -29,7 +29,7 @@ fn parts(plan: &Plan) -> u32
 }
 
 /// The number of pieces of a plan's audit.
-pub fn pieces(plan: &Plan) -> u32
+pub(crate) fn pieces(plan: &Plan) -> u32
     ensures number { result ≡ pieces_of plan.now }
     ensures accepted { IsPlan plan.now }
 {
@@ -53,7 +53,7 @@ fn piece_at(plan: &Plan, number: u32) -> Piece
 }
 
 /// The first fault that the piece of that number finds in the rows, which are not more than the plan has turns.
-pub fn judge(
+pub(crate) fn judge(
     alloc: Global,
     plan: &Plan,
     levels: &Levels,

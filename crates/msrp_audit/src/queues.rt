@@ -128,7 +128,7 @@ fn is_reply(queue: &[JobId], row: Row) -> bool
 ///
 /// More jobs than cores never stand in the queue of a legal run: where they do, an earlier row breaks a rule, and the
 /// piece has no more to say.
-pub fn judge_resource(
+pub(crate) fn judge_resource(
     alloc: Global,
     plan: &Plan,
     levels: &Levels,

@@ -122,7 +122,7 @@ fn turn_over<B: Script>(plan: &Plan, machine: &mut Machine<'_>, row: Row) -> Row
 
 /// The machine's turn, where a global resource answers as the row says: where the row does the same as the core, it has
 /// the same answer.
-pub fn turn_as(plan: &Plan, machine: &mut Machine<'_>, row: Row) -> Row
+pub(crate) fn turn_as(plan: &Plan, machine: &mut Machine<'_>, row: Row) -> Row
     requires plan { machine.old.plan ≡ plan.now }
     requires tick { machine.old.tick < machine.old.plan.ticks }
     ensures plan { machine.new.plan ≡ machine.old.plan }

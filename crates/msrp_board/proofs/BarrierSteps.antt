@@ -12,10 +12,10 @@ use Rattle.msrp_board.specs.declared.pages.View.{View}
 use Rattle.msrp_board.specs.declared.books.BoardSize.{BoardSize}
 use Rattle.msrp_board.specs.declared.books.Conductor.{Conductor}
 use Rattle.msrp_board.specs.declared.books.Conductor.TheVariants.{Unopened, Opened, Aborted}
-use Rattle.msrp_board.specs.Books.{on, reach_of}
-use Rattle.msrp_board.specs.History.{by}
+use Rattle.msrp_board.specs.Books.{on_resource, admissions_of}
+use Rattle.msrp_board.specs.History.{by_core}
 use Rattle.msrp_board.specs.Boards.{opening_count, abort_count}
-use Rattle.msrp_board.specs.Inside.Rule.{arrivals, page_reach, HasConductor, Gathered, IsServedNewest, IsKeptNewest, Ruled, HasOnly, with_pages, page_with_arrival, TellsArrival, page_after_look_if, page_after_look, TellsLook}
+use Rattle.msrp_board.specs.Inside.Rule.{arrivals, page_admissions, HasConductor, Gathered, IsServedNewest, IsKeptNewest, Ruled, HasOnly, with_pages, page_with_arrival, TellsArrival, page_after_look_if, page_after_look, TellsLook}
 use Rattle.msrp_board.proofs.Sharing.{same_shared}
 use Rattle.msrp_board.proofs.Counts.{arrivals_set, total_same}
 use Rattle.msrp_board.proofs.TicketSteps.{shared_step}
@@ -29,7 +29,7 @@ served_same g n c books b d has same s =
       log = s.log;
       history = record {
         entries = λ x y q. ⊎_elim
-            (λ (t : (x ≡ c) × (d ≡ y)). subst (λ k. by k s.log ≡ on g y.newest) (sym t.0) (hist.entries c b has ∙ ap (on g) (sym same) ∙ ap (λ (k : Page). on g k.newest) t.1))
+            (λ (t : (x ≡ c) × (d ≡ y)). subst (λ k. by_core k s.log ≡ on_resource g y.newest) (sym t.0) (hist.entries c b has ∙ ap (on_resource g) (sym same) ∙ ap (λ (k : Page). on_resource g k.newest) t.1))
             (λ (t : (x ≢ c) × (get_elem? books x ≡ some y)). hist.entries x y t.1)
             (at_set books c x d y q);
         none_past = λ x far. let w = length-set books c d in hist.none_past x (omega (arith, w, far));
@@ -42,22 +42,22 @@ served_same g n c books b d has same s =
       polls = s.polls;
     }
 
-pub reach_high : (b : Page) → b.tick ≤ page_reach b
+pub reach_high : (b : Page) → b.tick ≤ page_admissions b
 reach_high b = of b.admitted
   where
-    of : (a : Bool) → b.tick ≤ reach_of a b.tick
+    of : (a : Bool) → b.tick ≤ admissions_of a b.tick
     of true = omega arith
     of false = omega arith
 
-reach_low : (b : Page) → page_reach b ≤ suc b.tick
+reach_low : (b : Page) → page_admissions b ≤ suc b.tick
 reach_low b = of b.admitted
   where
-    of : (a : Bool) → reach_of a b.tick ≤ suc b.tick
+    of : (a : Bool) → admissions_of a b.tick ≤ suc b.tick
     of true = omega arith
     of false = omega arith
 
 gathered_step : (n m c : ℕ) (books : List Page) (b d : Page) (o : Conductor) → get_elem? books c ≡ some b → b.tick ≤ d.tick → (d.stopped ≡ true → o ≡ Aborted)
-    → (0 < page_reach d → (o ≡ Opened) × ((x : ℕ) (e : Page) → get_elem? books x ≡ some e → page_reach d ≤ suc e.tick))
+    → (0 < page_admissions d → (o ≡ Opened) × ((x : ℕ) (e : Page) → get_elem? books x ≡ some e → page_admissions d ≤ suc e.tick))
     → m ≡ abort_count o * 4294967296 + (arrivals (set books c d) + opening_count o) → Gathered n books o → Gathered m (set books c d) o
 gathered_step n m c books b d o has up stop may word g = record {
   counts = word;
@@ -66,8 +66,8 @@ gathered_step n m c books b d o has up stop may word g = record {
       (λ (t : (x ≢ c) × (get_elem? books x ≡ some y)). g.told x y t.1 s)
       (at_set books c x d y h);
   met = λ x y h p. ⊎_elim
-      (λ (t : (x ≡ c) × (d ≡ y)). let rs = ap page_reach t.1 in let k = may (omega (arith, p, rs)) in (k.0, λ w e j. all (page_reach y) (λ z f at. let l = k.1 z f at in omega (arith, l, rs)) (let l = reach_low d in omega (arith, l, rs)) w e j))
-      (λ (t : (x ≢ c) × (get_elem? books x ≡ some y)). let k = g.met x y t.1 p in (k.0, all (page_reach y) k.1 (let l = k.1 c b has in omega (arith, l, up))))
+      (λ (t : (x ≡ c) × (d ≡ y)). let rs = ap page_admissions t.1 in let k = may (omega (arith, p, rs)) in (k.0, λ w e j. all (page_admissions y) (λ z f at. let l = k.1 z f at in omega (arith, l, rs)) (let l = reach_low d in omega (arith, l, rs)) w e j))
+      (λ (t : (x ≢ c) × (get_elem? books x ≡ some y)). let k = g.met x y t.1 p in (k.0, all (page_admissions y) k.1 (let l = k.1 c b has in omega (arith, l, up))))
       (at_set books c x d y h);
 }
   where
@@ -113,7 +113,7 @@ arrive_allowed z slots id me c b sole in_tick s r _ at_id fits =
     let m = (n + 1) % 2 ^ 64 in
     let books = r.pages in
     let has : get_elem? books c ≡ some b = r.shared.true_of id c b (me.0, at_id, sole.page) in
-    let rs : page_reach b ≡ suc b.tick = ap (λ k. reach_of k b.tick) in_tick in
+    let rs : page_admissions b ≡ suc b.tick = ap (λ k. admissions_of k b.tick) in_tick in
     let d = page_with_arrival b in
     let k = r.tied.kept c b has in
     let g = r.tied.gathered in
@@ -179,7 +179,7 @@ let_in books n t o g enough =
     (omega (arith, enough, sum, mul)) in
     (is_open o a.0, λ x e at. a.1 x e.tick (at_list books x e at))
   where
-    step_le : (p q : Page) (x y : ℕ) → p.tick ≡ x → q.tick ≡ y → p.tick ≤ page_reach p → page_reach p ≤ suc q.tick → x ≤ suc y
+    step_le : (p q : Page) (x y : ℕ) → p.tick ≡ x → q.tick ≡ y → p.tick ≤ page_admissions p → page_admissions p ≤ suc q.tick → x ≤ suc y
     step_le p q x y a b h l = omega (arith, a, b, h, l)
 
 looks : (z : BoardSize) (s : State (Unit {0}) View) (id n c : ℕ) (v : View) (b : Page) (f : Page → Page) (r : Ruled z s) (h q : Bool) → get_elem? s.views id ≡ some v → HasOnly v c b → b.admitted ≡ false → b.tick < z.ticks → f b ≡ page_after_look_if h q b → n ≡ slice_index s.words z.resources
@@ -228,9 +228,9 @@ look_allowed z slots id me c b sole out room s r _ at_id fits =
   where
     -- after an abort nobody is or was admitted
     at_start : (e : Page) (x : ℕ) → get_elem? r.pages x ≡ some e → r.conductor ≡ Aborted → e.tick ≡ 0
-    at_start e x at off = by_reach (page_reach e) refl
+    at_start e x at off = by_reach (page_admissions e) refl
       where
-        by_reach : (k : ℕ) → page_reach e ≡ k → e.tick ≡ 0
+        by_reach : (k : ℕ) → page_admissions e ≡ k → e.tick ≡ 0
         by_reach zero is = let l = reach_high e in omega (arith, l, is)
         by_reach (suc k) is = absurd (clash (sym (r.tied.gathered.met x e at (omega (arith, is))).0 ∙ off))
           where

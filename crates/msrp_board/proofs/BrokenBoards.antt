@@ -6,25 +6,25 @@ use Rattle.msrp_board.specs.declared.books.Book.{Book}
 use Rattle.msrp_board.specs.declared.books.Conductor.TheVariants.{Opened, Aborted}
 use Rattle.msrp_board.specs.declared.books.Entry.{Entry}
 use Rattle.msrp_board.specs.Boards.{IsTied, entries_at}
-use Rattle.msrp_board.specs.Books.{on}
+use Rattle.msrp_board.specs.Books.{on_resource}
 use Rattle.msrp_board.specs.BrokenBoards.{step, lost_book, shared_ticket, counted_twice, two_holders, invented_grant, old_poll, acted_twice, lost_arrival, invented_stop, early}
-use Rattle.msrp_board.specs.History.{Event, by, IsServed}
+use Rattle.msrp_board.specs.History.{Event, by_core, IsServed}
 use Rattle.msrp_board.specs.Words.{ticket_word}
 use Rattle.msrp_board.proofs.Unique.{Before, Sorted, history_is}
 
 -- ---- the history of the resource, where there are two cores
 
-pub no_others : (h : List Event) (c : ℕ) → AllByRecursion (λ s. s.0 < 2) h → 2 ≤ c → by c h ≡ []
+pub no_others : (h : List Event) (c : ℕ) → AllByRecursion (λ s. s.0 < 2) h → 2 ≤ c → by_core c h ≡ []
 no_others [] c all past = refl
-no_others (s ∷ h) c all past = let low = all.0 in ap (λ k. cond k (s.1 ∷ by c h) (by c h)) (ne_eqb s.0 c (λ e. absurd (omega (arith, e, low, past)))) ∙ no_others h c all.1 past
+no_others (s ∷ h) c all past = let low = all.0 in ap (λ k. cond k (s.1 ∷ by_core c h) (by_core c h)) (ne_eqb s.0 c (λ e. absurd (omega (arith, e, low, past)))) ∙ no_others h c all.1 past
 
-own_entries : (a b : Book) (h : List Event) → AllByRecursion (λ s. s.0 < 2) h → by 0 h ≡ on 0 a.entries → by 1 h ≡ on 0 b.entries → (c : ℕ) → by c h ≡ on 0 (entries_at (a ∷ b ∷ []) c)
+own_entries : (a b : Book) (h : List Event) → AllByRecursion (λ s. s.0 < 2) h → by_core 0 h ≡ on_resource 0 a.entries → by_core 1 h ≡ on_resource 0 b.entries → (c : ℕ) → by_core c h ≡ on_resource 0 (entries_at (a ∷ b ∷ []) c)
 own_entries a b h few p q zero = p
 own_entries a b h few p q (suc zero) = q
 own_entries a b h few p q (suc (suc c)) = no_others h (suc (suc c)) few (omega arith)
 
 -- a list in the order of a history, with the entries of two books, is what was served
-served_as : (word : ℕ) (a b : Book) (h : List Event) → AllByRecursion (λ s. s.0 < 2) h → by 0 h ≡ on 0 a.entries → by 1 h ≡ on 0 b.entries → Sorted Before h
+served_as : (word : ℕ) (a b : Book) (h : List Event) → AllByRecursion (λ s. s.0 < 2) h → by_core 0 h ≡ on_resource 0 a.entries → by_core 1 h ≡ on_resource 0 b.entries → Sorted Before h
     → (k : List Event) × IsServed word 0 (entries_at (a ∷ b ∷ [])) k → IsServed word 0 (entries_at (a ∷ b ∷ [])) h
 served_as word a b h few p q order s =
     let books : ℕ → List Entry = entries_at (a ∷ b ∷ []) in subst (IsServed word 0 books) (history_is 0 books s.0 h s.1.history (own_entries a b h few p q) order) s.1

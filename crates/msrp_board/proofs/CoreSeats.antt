@@ -14,7 +14,7 @@ use Rattle.msrp_board.specs.declared.answers.SeatPhase.TheVariants.{Waiting}
 use Rattle.msrp_board.specs.declared.books.Entry.{Entry}
 use Rattle.msrp_board.specs.declared.books.Book.{Book}
 use Rattle.msrp_board.specs.declared.books.BoardSize.{BoardSize}
-use Rattle.msrp_board.specs.Books.{phase_by, phase_in, has_acted, lock_of, reach_of, IsKept}
+use Rattle.msrp_board.specs.Books.{phase_by, phase_in, has_acted, lock_of, admissions_of, IsKept}
 use Rattle.msrp_board.specs.Seats.{BoardModel, SeatModel, book_at, IsSeat, IsCoreSeat, IsCoreSeatOn, HasCore, IsIn, IsFresh, MayAct}
 use Rattle.msrp_board.specs.Steps.{with_books, book_with_admission, with_admission, with_stop, only_at, alone}
 use Rattle.msrp_board.proofs.SeatBooks.{at-only_other, book_at-alone}
@@ -88,7 +88,7 @@ none_before t [] zero_is past = refl
 none_before t (e ∷ es) zero_is past = absurd (let h = past.0 in omega (arith, h, zero_is))
 
 entries_past : (size : BoardSize) (b : Book) → IsKept size b → b.admitted ≡ false → AllByRecursion (λ e. e.tick < b.tick) b.entries
-entries_past size b kept out = subst (λ r. AllByRecursion (λ e. e.tick < r) b.entries) (ap (λ a. reach_of a b.tick) out) kept.past
+entries_past size b kept out = subst (λ r. AllByRecursion (λ e. e.tick < r) b.entries) (ap (λ a. admissions_of a b.tick) out) kept.past
 
 -- a core that is in no tick has not acted in the one that it waits for
 pub not_acted : (size : BoardSize) (b : Book) → IsKept size b → b.admitted ≡ false → has_acted b ≡ false

@@ -8,7 +8,7 @@ use Rattle.msrp_plan.specs.declared.units.Call.{Call}
 use Rattle.msrp_plan.specs.declared.units.Call.TheVariants.{Ask, Poll, Leave}
 use Rattle.msrp_board.specs.declared.books.Entry.{Entry}
 use Rattle.msrp_board.specs.declared.pages.Page.{Page}
-use Rattle.msrp_board.specs.Books.{on}
+use Rattle.msrp_board.specs.Books.{on_resource}
 use Rattle.msrp_board.specs.Inside.Newest.{ticket_at, ticket_of, claim_with_call, claim_of, IsClaimInTurn, IsRegularNewest, TicksNewest}
 use Rattle.msrp_board.specs.Inside.Rule.{entry_count, page_with, arrivals}
 use Rattle.msrp_board.specs.declared.held.Claim.{Claim}
@@ -47,17 +47,17 @@ other_after l m g r p (Poll true) e is ok = is ∙ ap (at g) ok.1 ∙ pick_other
 other_after l m g r p (Poll false) e is ok = is
 other_after l m g r p Leave e is ok = is ∙ ap (at g) ok.1 ∙ pick_other r g (Holds r ok.0) e
 
-pub on_same : (g : ℕ) (e : Entry) (es : List Entry) → e.res.0 ≡ g → on g (e ∷ es) ≡ e ∷ on g es
-on_same g e es q = ap (λ b. cond b (e ∷ on g es) (on g es)) (eq-eqb e.res.0 g q)
+pub on_same : (g : ℕ) (e : Entry) (es : List Entry) → e.res.0 ≡ g → on_resource g (e ∷ es) ≡ e ∷ on_resource g es
+on_same g e es q = ap (λ b. cond b (e ∷ on_resource g es) (on_resource g es)) (eq-eqb e.res.0 g q)
 
-pub on_other : (g : ℕ) (e : Entry) (es : List Entry) → e.res.0 ≢ g → on g (e ∷ es) ≡ on g es
-on_other g e es q = ap (λ b. cond b (e ∷ on g es) (on g es)) (ne_eqb e.res.0 g q)
+pub on_other : (g : ℕ) (e : Entry) (es : List Entry) → e.res.0 ≢ g → on_resource g (e ∷ es) ≡ on_resource g es
+on_other g e es q = ap (λ b. cond b (e ∷ on_resource g es) (on_resource g es)) (ne_eqb e.res.0 g q)
 
-pub claim_on : (g : ℕ) (es : List Entry) → IsRegularNewest es → claim_of (on g es) ≡ at g (claim_of es)
+pub claim_on : (g : ℕ) (es : List Entry) → IsRegularNewest es → claim_of (on_resource g es) ≡ at g (claim_of es)
 claim_on g [] o = refl
 claim_on g (e ∷ es) o = dite (ℕ_discrete e.res.0 g)
-    (λ q. ap claim_of (on_same g e es q) ∙ same_after (claim_of es) (claim_of (on g es)) g e.res.0 e.place e.call q (claim_on g es o.0) o.1)
-    (λ n. ap claim_of (on_other g e es n) ∙ other_after (claim_of es) (claim_of (on g es)) g e.res.0 e.place e.call n (claim_on g es o.0) o.1)
+    (λ q. ap claim_of (on_same g e es q) ∙ same_after (claim_of es) (claim_of (on_resource g es)) g e.res.0 e.place e.call q (claim_on g es o.0) o.1)
+    (λ n. ap claim_of (on_other g e es n) ∙ other_after (claim_of es) (claim_of (on_resource g es)) g e.res.0 e.place e.call n (claim_on g es o.0) o.1)
 
 pub total_more : (books : List Page) (c : ℕ) (b : Page) (e : Entry) → get_elem? books c ≡ some b → entry_count (set books c (page_with e b)) ≡ suc (entry_count books)
 total_more [] c b e h = absurd (some-ne-none b (sym h))

@@ -19,12 +19,12 @@ use Rattle.msrp_board.specs.declared.books.Conductor.{Conductor}
 use Rattle.msrp_board.specs.declared.books.Conductor.TheVariants.{Unopened, Opened, Aborted}
 use Rattle.msrp_board.specs.declared.pages.Page.{Page}
 use Rattle.msrp_board.specs.declared.pages.View.{View}
-use Rattle.msrp_board.specs.Books.{IsSize, on, IsKept, reach as book_reach}
-use Rattle.msrp_board.specs.History.{Event, by, IsServed}
+use Rattle.msrp_board.specs.Books.{IsSize, on_resource, IsKept, admissions as book_admissions}
+use Rattle.msrp_board.specs.History.{Event, by_core, IsServed}
 use Rattle.msrp_board.specs.Seats.{BoardModel, SeatModel, book_at, HasAll}
 use Rattle.msrp_board.specs.Boards.{WholeBoard, IsTied, entries_at, opening_count, abort_count}
 use Rattle.msrp_board.specs.Words.{high, low}
-use Rattle.msrp_board.specs.Inside.Rule.{empty_page, HasPage, Ruled, IsServedNewest, IsKeptNewest, IsTiedNewest, Gathered, page_reach, arrivals, entry_count}
+use Rattle.msrp_board.specs.Inside.Rule.{empty_page, HasPage, Ruled, IsServedNewest, IsKeptNewest, IsTiedNewest, Gathered, page_admissions, arrivals, entry_count}
 use Rattle.msrp_board.specs.Inside.Held.{told, seen_as, page_at, settled_as, IsWhole}
 use Rattle.msrp_board.proofs.CoreStates.{get_or_at, has_page, page_has, page_or_none}
 use Rattle.msrp_board.proofs.Counts.{total_bound, ticks_length}
@@ -147,15 +147,15 @@ entries_told (b ∷ bs) (suc c) = entries_told bs c
 served_seen : (g word : ℕ) (pages : List Page) → entry_count pages ≤ 160000 → IsServedNewest g word pages → (h : List Event) × IsServed word g (entries_at (map told pages)) h
 served_seen g word pages small s =
     let log = s.log in
-    let own : (c : ℕ) → by c log ≡ on g (slice_index_or pages c empty_page).newest = λ c. elim (cases_lt c (length pages)) [
+    let own : (c : ℕ) → by_core c log ≡ on_resource g (slice_index_or pages c empty_page).newest = λ c. elim (cases_lt c (length pages)) [
       | inl l ↦ s.history.entries c (slice_index_or pages c empty_page) (page_within pages c l)
-      | inr k ↦ s.history.none_past c k ∙ ap (λ (b : Page). on g b.newest) (sym (page_past pages c k))
+      | inr k ↦ s.history.none_past c k ∙ ap (λ (b : Page). on_resource g b.newest) (sym (page_past pages c k))
     ] in
     let h = history_reversed g (λ c. (slice_index_or pages c empty_page).newest) log own s.history.placed s.polls in
     let parts = split_word word log s.counts (let a = steps_length log in let b = s.short in omega (arith, a, b, small)) in (
       reverse log,
       record {
-        history = record { entries = λ c. h.entries c ∙ ap (on g) (entries_told pages c); placed = h.placed; polls = h.polls };
+        history = record { entries = λ c. h.entries c ∙ ap (on_resource g) (entries_told pages c); placed = h.placed; polls = h.polls };
         requests = requests_reversed log ∙ sym parts.0;
         releases = releases_reversed log ∙ sym parts.1;
         legal = legal_reversed log s.legal;
@@ -169,7 +169,7 @@ arrivals_told (b ∷ bs) = ap (λ n. b.tick + n) (arrivals_told bs) ∙ sym (sum
 
 few_steps : (z : BoardSize) (pages : List Page) → length pages ≡ z.cores → z.cores ≤ 8 → z.ticks ≤ 20000 → ((c : ℕ) (b : Page) → get_elem? pages c ≡ some b → IsKeptNewest z b) → (entry_count pages ≤ 160000) × (arrivals pages ≤ 160000)
 few_steps z pages len small short kept =
-    let t = total_bound pages z.ticks (λ c b e. let k = kept c b e in let l = ticks_length (page_reach b) b.newest k.ticks in let r = k.within in omega (arith, l, r)) in
+    let t = total_bound pages z.ticks (λ c b e. let k = kept c b e in let l = ticks_length (page_admissions b) b.newest k.ticks in let r = k.within in omega (arith, l, r)) in
     let a = arrivals_bound pages z.ticks (λ c b e. let k = (kept c b e).within in let l = reach_high b in omega (arith, k, l)) in
     let m = mul-le (length pages) z.ticks 8 20000 (omega (arith, len, small)) short in (omega (arith, t, m), omega (arith, a, m))
 
@@ -195,7 +195,7 @@ tied_told z words pages o limits many tied =
       abort = ap high gathered.counts ∙ div-mul-add (abort_count o) 4294967296 (arrivals pages + opening_count o) small;
       told = λ c b e off. let r = page_of_book pages c b e in gathered.told c r.0 r.1 (ap (λ (x : Book). x.stopped) r.2 ∙ off);
       met = λ c t b e in_t. let r = page_of_book pages c b e in
-          let same : page_reach r.0 ≡ book_reach b = ap (λ (x : Book). book_reach x) r.2 in
+          let same : page_admissions r.0 ≡ book_admissions b = ap (λ (x : Book). book_admissions x) r.2 in
           let m = gathered.met c r.0 r.1 (omega (arith, in_t, same)) in
           (m.0, λ d x f. let q = page_of_book pages d x f in let l = m.1 d q.0 q.1 in let tick = ap (λ (y : Book). y.tick) q.2 in omega (arith, l, in_t, same, tick));
     }

@@ -9,7 +9,7 @@ use Rattle.atomic_table.proofs.Lists.{at_longer, at_last}
 use Rattle.msrp_plan.specs.declared.units.Call.{Call}
 use Rattle.msrp_plan.specs.declared.units.Call.TheVariants.{Ask, Poll, Leave}
 use Rattle.msrp_board.specs.declared.books.Entry.{Entry}
-use Rattle.msrp_board.specs.History.{Event, by}
+use Rattle.msrp_board.specs.History.{Event, by_core}
 use Rattle.msrp_board.specs.Inside.Newest.{ticket_at, lock, asks, leaves, queue, granted, LegalNewest, PlacedNewest, ticket_of, claim_of}
 use Rattle.msrp_board.specs.declared.held.Claim.{Claim}
 use Rattle.msrp_board.specs.declared.held.Claim.TheVariants.{Nothing, Waits, Holds}
@@ -27,20 +27,20 @@ held (Holds g t) = true
 
 pub record Coupled (h : List Event) : Type 0 where
   pub counted : asks h ≡ leaves h + length (queue h)
-  pub tickets : (c i : ℕ) → get_elem? (queue h) i ≡ some c → ticket (claim_of (by c h)) ≡ some ((leaves h + i))
-  pub stands : (c t : ℕ) → ticket (claim_of (by c h)) ≡ some t → (i : ℕ) × (get_elem? (queue h) i ≡ some c) × (t ≡ (leaves h + i))
-  pub holds : (c : ℕ) → held (claim_of (by c h)) ≡ true → (granted h ≡ true) × (get_elem? (queue h) 0 ≡ some c)
-  pub holder : granted h ≡ true → (c : ℕ) × (get_elem? (queue h) 0 ≡ some c) × (held (claim_of (by c h)) ≡ true)
+  pub tickets : (c i : ℕ) → get_elem? (queue h) i ≡ some c → ticket (claim_of (by_core c h)) ≡ some ((leaves h + i))
+  pub stands : (c t : ℕ) → ticket (claim_of (by_core c h)) ≡ some t → (i : ℕ) × (get_elem? (queue h) i ≡ some c) × (t ≡ (leaves h + i))
+  pub holds : (c : ℕ) → held (claim_of (by_core c h)) ≡ true → (granted h ≡ true) × (get_elem? (queue h) 0 ≡ some c)
+  pub holder : granted h ≡ true → (c : ℕ) × (get_elem? (queue h) 0 ≡ some c) × (held (claim_of (by_core c h)) ≡ true)
 
-pub by_same : (c : ℕ) (e : Entry) (h : List Event) → by c ((c, e) ∷ h) ≡ e ∷ by c h
-by_same c e h = ap (λ b. cond b (e ∷ by c h) (by c h)) (eq-eqb c c refl)
+pub by_same : (c : ℕ) (e : Entry) (h : List Event) → by_core c ((c, e) ∷ h) ≡ e ∷ by_core c h
+by_same c e h = ap (λ b. cond b (e ∷ by_core c h) (by_core c h)) (eq-eqb c c refl)
 
-pub by_other : (d c : ℕ) (e : Entry) (h : List Event) → d ≢ c → by c ((d, e) ∷ h) ≡ by c h
-by_other d c e h n = ap (λ b. cond b (e ∷ by c h) (by c h)) (ne_eqb d c n)
+pub by_other : (d c : ℕ) (e : Entry) (h : List Event) → d ≢ c → by_core c ((d, e) ∷ h) ≡ by_core c h
+by_other d c e h n = ap (λ b. cond b (e ∷ by_core c h) (by_core c h)) (ne_eqb d c n)
 
 -- a fact about the entries of c after one more entry of d
-pub by_cases : (d c : ℕ) (e : Entry) (h : List Event) (F : List Entry → Type 0) → (d ≡ c → F (e ∷ by c h)) → (d ≢ c → F (by c h)) → F (by c ((d, e) ∷ h))
-by_cases d c e h F same other = dite (ℕ_discrete d c) (λ q. subst (λ b. F (cond b (e ∷ by c h) (by c h))) (sym (eq-eqb d c q)) (same q)) (λ n. subst (λ b. F (cond b (e ∷ by c h) (by c h))) (sym (ne_eqb d c n)) (other n))
+pub by_cases : (d c : ℕ) (e : Entry) (h : List Event) (F : List Entry → Type 0) → (d ≡ c → F (e ∷ by_core c h)) → (d ≢ c → F (by_core c h)) → F (by_core c ((d, e) ∷ h))
+by_cases d c e h F same other = dite (ℕ_discrete d c) (λ q. subst (λ b. F (cond b (e ∷ by_core c h) (by_core c h))) (sym (eq-eqb d c q)) (same q)) (λ n. subst (λ b. F (cond b (e ∷ by_core c h) (by_core c h))) (sym (ne_eqb d c n)) (other n))
 
 abbrev entry : ℕ → ℕ → ℕ → Call → Entry
 entry t g p k = record { tick = t; res = record { 0 = g }; place = p; call = k }
@@ -69,8 +69,8 @@ polled_no c0 t g p h k = record {
   holder = λ e. let x = k.holder e in (x.0, x.1, subst (λ l. held l ≡ true) (sym (same x.0)) x.2);
 }
   where
-    same : (c : ℕ) → claim_of (by c ((c0, entry t g p (Poll false)) ∷ h)) ≡ claim_of (by c h)
-    same c = by_cases c0 c (entry t g p (Poll false)) h (λ l. claim_of l ≡ claim_of (by c h)) (λ _. refl) (λ _. refl)
+    same : (c : ℕ) → claim_of (by_core c ((c0, entry t g p (Poll false)) ∷ h)) ≡ claim_of (by_core c h)
+    same c = by_cases c0 c (entry t g p (Poll false)) h (λ l. claim_of l ≡ claim_of (by_core c h)) (λ _. refl) (λ _. refl)
 
 ticket_some : (l : Claim) (t : ℕ) → ticket l ≡ some t → ticket_of l ≡ t
 ticket_some Nothing t e = absurd (some-ne-none t (sym e))
@@ -82,10 +82,10 @@ polled_yes : (c0 t g p : ℕ) (h : List Event) → Coupled h → get_elem? (queu
 polled_yes c0 t g p h k first free = record {
   counted = k.counted;
   tickets = λ c i e. by_cases c0 c new h (λ l. ticket (claim_of l) ≡ some ((leaves h + i)))
-      (λ q. ap some (ticket_some (claim_of (by c h)) ((leaves h + i)) (k.tickets c i e)))
+      (λ q. ap some (ticket_some (claim_of (by_core c h)) ((leaves h + i)) (k.tickets c i e)))
       (λ _. k.tickets c i e);
   stands = λ c u. by_cases c0 c new h (λ l. ticket (claim_of l) ≡ some u → (i : ℕ) × (get_elem? (queue h) i ≡ some c) × (u ≡ (leaves h + i)))
-      (λ q e. (0, first ∙ ap some q, sym (some-injective (ticket_of (claim_of (by c h))) u e) ∙ ticket_some (claim_of (by c h)) ((leaves h + 0)) (k.tickets c 0 (first ∙ ap some q))))
+      (λ q e. (0, first ∙ ap some q, sym (some-injective (ticket_of (claim_of (by_core c h))) u e) ∙ ticket_some (claim_of (by_core c h)) ((leaves h + 0)) (k.tickets c 0 (first ∙ ap some q))))
       (λ _ e. k.stands c u e);
   holds = λ c. by_cases c0 c new h (λ l. held (claim_of l) ≡ true → (true ≡ true) × (get_elem? (queue h) 0 ≡ some c))
       (λ q e. (refl, first ∙ ap some q))
@@ -104,7 +104,7 @@ ticket_found place ahead n e = ap (λ k. k / 2) (e ∙ twice n) ∙ div-mul-add 
     twice k = omega arith
 
 -- an ask, which answers how many stand there
-asked_one : (c0 t g p a : ℕ) (k : Call) (h : List Event) → Coupled h → ((i : ℕ) → ¬ (get_elem? (queue h) i ≡ some c0)) → p ≡ asks h + leaves h → k ≡ Ask a → a ≡ length (queue h) → ticket (claim_of (by c0 ((c0, entry t g p (Ask a)) ∷ h))) ≡ some ((leaves h + length (queue h)))
+asked_one : (c0 t g p a : ℕ) (k : Call) (h : List Event) → Coupled h → ((i : ℕ) → ¬ (get_elem? (queue h) i ≡ some c0)) → p ≡ asks h + leaves h → k ≡ Ask a → a ≡ length (queue h) → ticket (claim_of (by_core c0 ((c0, entry t g p (Ask a)) ∷ h))) ≡ some ((leaves h + length (queue h)))
 asked_one c0 t g p zero k h c out is _ n = subst (λ l. ticket (claim_of l) ≡ some ((leaves h + length (queue h)))) (sym (by_same c0 (entry t g p (Ask zero)) h)) (ap some (ticket_found p 0 (leaves h + length (queue h)) (let x = c.counted in omega (arith, x, is, n))))
 asked_one c0 t g p (suc a) k h c out is _ n = subst (λ l. ticket (claim_of l) ≡ some ((leaves h + length (queue h)))) (sym (by_same c0 (entry t g p (Ask (suc a))) h)) (ap some (ticket_found p (suc a) (leaves h + length (queue h)) (let x = c.counted in omega (arith, x, is, n))))
 
@@ -113,15 +113,15 @@ empty_queue [] e = refl
 empty_queue (x ∷ xs) e = absurd (omega (arith, e))
 
 -- what the claim of the asker holds, and who was granted before
-asked_held : (c0 t g p a : ℕ) (h : List Event) → Coupled h → a ≡ length (queue h) → held (claim_of (by c0 ((c0, entry t g p (Ask a)) ∷ h))) ≡ true → (granted_after (granted h) (Ask a) ≡ true) × (get_elem? (queue h ++ c0 ∷ []) 0 ≡ some c0)
+asked_held : (c0 t g p a : ℕ) (h : List Event) → Coupled h → a ≡ length (queue h) → held (claim_of (by_core c0 ((c0, entry t g p (Ask a)) ∷ h))) ≡ true → (granted_after (granted h) (Ask a) ≡ true) × (get_elem? (queue h ++ c0 ∷ []) 0 ≡ some c0)
 asked_held c0 t g p zero h c n e = (refl, subst (λ q. get_elem? (q ++ c0 ∷ []) 0 ≡ some c0) (sym (empty_queue (queue h) n)) refl)
 asked_held c0 t g p (suc a) h c n e = no (subst (λ l. held (claim_of l) ≡ true) (by_same c0 (entry t g p (Ask (suc a))) h) e)
 
-asked_kept : (c0 c t g p a : ℕ) (h : List Event) → Coupled h → a ≡ length (queue h) → held (claim_of (by c h)) ≡ true → (granted_after (granted h) (Ask a) ≡ true) × (get_elem? (queue h ++ c0 ∷ []) 0 ≡ some c)
+asked_kept : (c0 c t g p a : ℕ) (h : List Event) → Coupled h → a ≡ length (queue h) → held (claim_of (by_core c h)) ≡ true → (granted_after (granted h) (Ask a) ≡ true) × (get_elem? (queue h ++ c0 ∷ []) 0 ≡ some c)
 asked_kept c0 c t g p zero h k n e = let x = in_range (queue h) 0 c (k.holds c e).1 in absurd (omega (arith, x, n))
 asked_kept c0 c t g p (suc a) h k n e = let x = k.holds c e in (x.0, at_longer (queue h) (c0 ∷ []) 0 c x.1)
 
-asked_holder : (c0 t g p a : ℕ) (h : List Event) → Coupled h → ((i : ℕ) → ¬ (get_elem? (queue h) i ≡ some c0)) → a ≡ length (queue h) → granted_after (granted h) (Ask a) ≡ true → (c : ℕ) × (get_elem? (queue h ++ c0 ∷ []) 0 ≡ some c) × (held (claim_of (by c ((c0, entry t g p (Ask a)) ∷ h))) ≡ true)
+asked_holder : (c0 t g p a : ℕ) (h : List Event) → Coupled h → ((i : ℕ) → ¬ (get_elem? (queue h) i ≡ some c0)) → a ≡ length (queue h) → granted_after (granted h) (Ask a) ≡ true → (c : ℕ) × (get_elem? (queue h ++ c0 ∷ []) 0 ≡ some c) × (held (claim_of (by_core c ((c0, entry t g p (Ask a)) ∷ h))) ≡ true)
 asked_holder c0 t g p zero h k out n e = (c0, subst (λ q. get_elem? (q ++ c0 ∷ []) 0 ≡ some c0) (sym (empty_queue (queue h) n)) refl, subst (λ l. held (claim_of l) ≡ true) (sym (by_same c0 (entry t g p (Ask zero)) h)) refl)
 asked_holder c0 t g p (suc a) h k out n e = let x = k.holder e in (x.0, at_longer (queue h) (c0 ∷ []) 0 x.0 x.1, subst (λ l. held (claim_of l) ≡ true) (sym (by_other c0 x.0 (entry t g p (Ask (suc a))) h (λ q. out 0 (x.1 ∙ ap some (sym q))))) x.2)
 
@@ -130,13 +130,13 @@ asked c0 t g p a h k out n is = record {
   counted = let x = k.counted in let y = length-append (queue h) (c0 ∷ []) in omega (arith, x, y);
   tickets = λ c i e. ⊎_elim
       (λ old. subst (λ l. ticket (claim_of l) ≡ some ((leaves h + i))) (sym (by_other c0 c new h (λ q. out i (old ∙ ap some (sym q))))) (k.tickets c i old))
-      (λ last. subst (λ d. ticket (claim_of (by d (((c0, new) ∷ h)))) ≡ some ((leaves h + i))) last.1 (subst (λ j. ticket (claim_of (by c0 ((c0, new) ∷ h))) ≡ some ((leaves h + j))) (sym last.0) mine))
+      (λ last. subst (λ d. ticket (claim_of (by_core d (((c0, new) ∷ h)))) ≡ some ((leaves h + i))) last.1 (subst (λ j. ticket (claim_of (by_core c0 ((c0, new) ∷ h))) ≡ some ((leaves h + j))) (sym last.0) mine))
       (at_snoc_i (queue h) c0 c i e);
   stands = λ c u e. dite (ℕ_discrete c0 c)
-      (λ q. (length (queue h), at_last (queue h) c0 (length (queue h)) refl ∙ ap some q, some-injective u ((leaves h + length (queue h))) (sym (subst (λ d. ticket (claim_of (by d ((c0, new) ∷ h))) ≡ some u) (sym q) e) ∙ mine)))
+      (λ q. (length (queue h), at_last (queue h) c0 (length (queue h)) refl ∙ ap some q, some-injective u ((leaves h + length (queue h))) (sym (subst (λ d. ticket (claim_of (by_core d ((c0, new) ∷ h))) ≡ some u) (sym q) e) ∙ mine)))
       (λ ne. let x = k.stands c u (subst (λ l. ticket (claim_of l) ≡ some u) (by_other c0 c new h ne) e) in (x.0, at_longer (queue h) (c0 ∷ []) x.0 c x.1, x.2));
   holds = λ c e. dite (ℕ_discrete c0 c)
-      (λ q. let x = asked_held c0 t g p a h k n (subst (λ d. held (claim_of (by d ((c0, new) ∷ h))) ≡ true) (sym q) e) in (x.0, x.1 ∙ ap some q))
+      (λ q. let x = asked_held c0 t g p a h k n (subst (λ d. held (claim_of (by_core d ((c0, new) ∷ h))) ≡ true) (sym q) e) in (x.0, x.1 ∙ ap some q))
       (λ ne. asked_kept c0 c t g p a h k n (subst (λ l. held (claim_of l) ≡ true) (by_other c0 c new h ne) e));
   holder = asked_holder c0 t g p a h k out n;
 }
@@ -144,7 +144,7 @@ asked c0 t g p a h k out n is = record {
     new : Entry
     new = entry t g p (Ask a)
 
-    mine : ticket (claim_of (by c0 ((c0, new) ∷ h))) ≡ some ((leaves h + length (queue h)))
+    mine : ticket (claim_of (by_core c0 ((c0, new) ∷ h))) ≡ some ((leaves h + length (queue h)))
     mine = asked_one c0 t g p a (Ask a) h k out is refl n
 
 tail_at : (l : List ℕ) (i : ℕ) → get_elem? (without_first l) i ≡ get_elem? l (suc i)

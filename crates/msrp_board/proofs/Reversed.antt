@@ -11,9 +11,9 @@ use Rattle.msrp_plan.specs.declared.units.Phase.{Phase}
 use Rattle.msrp_plan.specs.declared.units.Phase.TheVariants.{Free}
 use Rattle.msrp_board.specs.declared.books.Entry.{Entry}
 use Rattle.msrp_board.specs.declared.held.Claim.{Claim}
-use Rattle.msrp_board.specs.Books.{on, res_calls, ToNext, IsChain}
-use Rattle.msrp_plan.specs.Calls.{ResCall, claim_with, IsInTurn, IsRegularFrom, IsRegular}
-use Rattle.msrp_board.specs.History.{Event, by, calls, is_request, is_poll, is_release, place_after, Placed, PollsInOrder, IsNotLater, IsHistory}
+use Rattle.msrp_board.specs.Books.{on_resource, res_calls, ToNext, IsChain}
+use Rattle.msrp_plan.specs.Calls.{ResCall, claim_with, IsDueCall, IsRegularFrom, IsRegular}
+use Rattle.msrp_board.specs.History.{Event, by_core, calls, is_request, is_poll, is_release, place_after, Placed, PollsInOrder, IsNotLater, IsHistory}
 use Rattle.msrp_board.specs.Inside.Newest.{asks_after, leaves_after, asks, leaves, lock, LegalNewest, PlacedNewest, RisingNewest, NoneLater, are_polls, IsPollAfter, PollsNewest, claim_of, IsClaimInTurn, IsRegularNewest, TicksNewest}
 use Rattle.msrp_board.specs.Inside.Held.{phase_of}
 use Rattle.msrp_board.proofs.Lists.{reverse_cons, fold_last, all_reversed, filter_reversed, chain_reversed}
@@ -127,20 +127,20 @@ by_go : (x : Event) (b : Bool) (l m : List Entry) → cond b (x.1 ∷ (l ++ m)) 
 by_go x true l m = refl
 by_go x false l m = refl
 
-by_append : (c : ℕ) (xs ys : List Event) → by c (xs ++ ys) ≡ by c xs ++ by c ys
+by_append : (c : ℕ) (xs ys : List Event) → by_core c (xs ++ ys) ≡ by_core c xs ++ by_core c ys
 by_append c [] ys = refl
-by_append c (x ∷ xs) ys = ap (λ l. cond (x.0 == c) (x.1 ∷ l) l) (by_append c xs ys) ∙ by_go x (x.0 == c) (by c xs) (by c ys)
+by_append c (x ∷ xs) ys = ap (λ l. cond (x.0 == c) (x.1 ∷ l) l) (by_append c xs ys) ∙ by_go x (x.0 == c) (by_core c xs) (by_core c ys)
 
 by_last : (x : Event) (b : Bool) (l : List Entry) → reverse l ++ cond b (x.1 ∷ []) [] ≡ reverse (cond b (x.1 ∷ l) l)
 by_last x true l = sym (reverse_cons x.1 l)
 by_last x false l = append-nil (reverse l)
 
-pub by_reversed : (c : ℕ) (h : List Event) → by c (reverse h) ≡ reverse (by c h)
+pub by_reversed : (c : ℕ) (h : List Event) → by_core c (reverse h) ≡ reverse (by_core c h)
 by_reversed c [] = refl
-by_reversed c (x ∷ h) = ap (by c) (reverse_cons x h) ∙ by_append c (reverse h) (x ∷ []) ∙ ap (λ l. l ++ cond (x.0 == c) (x.1 ∷ []) []) (by_reversed c h) ∙ by_last x (x.0 == c) (by c h)
+by_reversed c (x ∷ h) = ap (by_core c) (reverse_cons x h) ∙ by_append c (reverse h) (x ∷ []) ∙ ap (λ l. l ++ cond (x.0 == c) (x.1 ∷ []) []) (by_reversed c h) ∙ by_last x (x.0 == c) (by_core c h)
 
 -- the history that a board keeps, oldest first
-pub history_reversed : (g : ℕ) (books : ℕ → List Entry) (h : List Event) → ((c : ℕ) → by c h ≡ on g (books c)) → PlacedNewest h → PollsNewest h → IsHistory g (λ c. reverse (books c)) (reverse h)
+pub history_reversed : (g : ℕ) (books : ℕ → List Entry) (h : List Event) → ((c : ℕ) → by_core c h ≡ on_resource g (books c)) → PlacedNewest h → PollsNewest h → IsHistory g (λ c. reverse (books c)) (reverse h)
 history_reversed g books h entries placed tidy = record {
   entries = λ c. by_reversed c h ∙ ap reverse (entries c) ∙ sym (filter_reversed (λ e. e.res.0 == g) (books c));
   placed = placed_reversed h placed;
@@ -167,15 +167,15 @@ ticks_reversed r es k = chain_reversed (λ (e f : Entry). e.tick < f.tick) es (n
     newest q [] k = tt
     newest q (f ∷ fs) k = (next_is f fs k.1, newest f.tick fs k.1)
 
-turn_is : (l : Claim) (g : ℕ) (k : Call) → IsClaimInTurn l g k → IsInTurn (phase_of l) (record { 0 = g }) k
+turn_is : (l : Claim) (g : ℕ) (k : Call) → IsClaimInTurn l g k → IsDueCall (phase_of l) (record { 0 = g }) k
 turn_is l g (Ask n) t = ap phase_of t
 turn_is l g (Poll b) t = ap phase_of t.1
 turn_is l g Leave t = ap phase_of t.1
 
-regular_last : (phase : Phase) (calls : List ResCall) (s : ResCall) → IsRegularFrom phase calls → IsInTurn (fold (λ (p : Phase) (x : ResCall). claim_with p x.0 x.1) phase calls) s.0 s.1 → IsRegularFrom phase (calls ++ s ∷ [])
+regular_last : (phase : Phase) (calls : List ResCall) (s : ResCall) → IsRegularFrom phase calls → IsDueCall (fold (λ (p : Phase) (x : ResCall). claim_with p x.0 x.1) phase calls) s.0 s.1 → IsRegularFrom phase (calls ++ s ∷ [])
 regular_last phase [] s regular in_turn = (in_turn, tt)
 regular_last phase (x ∷ calls) s regular in_turn = (regular.0, regular_last (claim_with phase x.0 x.1) calls s regular.1 in_turn)
 
 pub regular_reversed : (es : List Entry) → IsRegularNewest es → IsRegular (res_calls (reverse es))
 regular_reversed [] r = tt
-regular_reversed (e ∷ es) r = subst IsRegular (sym (res_calls_newest e es)) (regular_last Free (res_calls (reverse es)) (e.res, e.call) (regular_reversed es r.0) (subst (λ p. IsInTurn p e.res e.call) (sym (lock_newest es)) (turn_is (claim_of es) e.res.0 e.call r.1)))
+regular_reversed (e ∷ es) r = subst IsRegular (sym (res_calls_newest e es)) (regular_last Free (res_calls (reverse es)) (e.res, e.call) (regular_reversed es r.0) (subst (λ p. IsDueCall p e.res e.call) (sym (lock_newest es)) (turn_is (claim_of es) e.res.0 e.call r.1)))

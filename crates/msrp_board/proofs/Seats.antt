@@ -24,12 +24,12 @@ use Rattle.msrp_board.specs.declared.held.CoreState.{CoreState}
 use Rattle.msrp_board.specs.declared.states.States.{States}
 use Rattle.msrp_board.specs.declared.pages.Page.{Page}
 use Rattle.msrp_board.specs.declared.pages.View.{View}
-use Rattle.msrp_board.specs.Books.{IsSize, IsBefore, on, reach_of, phase_by, phase_in, has_acted, lock_of, AreBefore, IsKept}
+use Rattle.msrp_board.specs.Books.{IsSize, IsBefore, on_resource, admissions_of, phase_by, phase_in, has_acted, lock_of, AreBefore, IsKept}
 use Rattle.msrp_board.specs.Seats.{empty_book, first_seat, BoardModel, SeatModel, IsSeat, IsCoreSeat, MayAct, IsIn}
 use Rattle.msrp_board.specs.Steps.{with_admission, with_stop, book_with_entry, with_entry, with_books, IsBehind}
 use Rattle.msrp_board.specs.Words.{high, low}
 use Rattle.msrp_board.specs.Inside.Newest.{claim_of, IsClaimInTurn, TicksNewest}
-use Rattle.msrp_board.specs.Inside.Rule.{page_reach, page_after_look_if, page_after_look, AtStart, empty_page, first_view, HasOnly, IsKeptNewest, HasEntered, page_has_acted, page_with_entry, with_pages, ViewIsBehind}
+use Rattle.msrp_board.specs.Inside.Rule.{page_admissions, page_after_look_if, page_after_look, AtStart, empty_page, first_view, HasOnly, IsKeptNewest, HasEntered, page_has_acted, page_with_entry, with_pages, ViewIsBehind}
 use Rattle.msrp_board.specs.Inside.Held.{look_if, look_of, told, phase_of, seen_as, state_of, with_own, AreStates, IsOwn, IsBelow, IsHeld}
 use Rattle.msrp_board.proofs.Start.{first_page}
 use Rattle.msrp_board.proofs.Lists.{reverse_cons, all_reversed, filter_reversed}
@@ -163,8 +163,8 @@ change_seen board v f h same = ap (λ (l : List (Option Book)). seat l) (map_tol
 pub behind_seen : (board : BoardModel) (v : View) (g p : ℕ) → ViewIsBehind v g p → IsBehind g p (seen_as board v)
 behind_seen board v g p behind c a is =
     let r = page_of v.pages c a is in
-    subst (λ (x : Book). AreBefore p (on g x.entries)) r.2
-    (subst (AreBefore p) (sym (filter_reversed (λ e. e.res.0 == g) r.0.newest)) (all_reversed (λ e. IsBefore e.call e.place p) (on g r.0.newest) (behind c r.0 r.1)))
+    subst (λ (x : Book). AreBefore p (on_resource g x.entries)) r.2
+    (subst (AreBefore p) (sym (filter_reversed (λ e. e.res.0 == g) r.0.newest)) (all_reversed (λ e. IsBefore e.call e.place p) (on_resource g r.0.newest) (behind c r.0 r.1)))
 
 -- ---- a core's only page decides how a change goes
 
@@ -255,10 +255,10 @@ pub record Arriving (b : Page) : Type 0 where
 
 pub arriving : (z : BoardSize) (held : States) (v : View) → IsSize z → (s : Standing z held v Admitted) → Arriving s.page
 arriving z held v limits s =
-    let reach : page_reach s.page ≡ suc s.page.tick = ap (λ a. reach_of a s.page.tick) (admitted_page z held v s) in
+    let admissions : page_admissions s.page ≡ suc s.page.tick = ap (λ a. admissions_of a s.page.tick) (admitted_page z held v s) in
     let within = s.kept.within in
     let few = limits.ticks.1 in
-    record { tick = omega (arith, reach, within, few); ticks = subst (λ r. TicksNewest r s.page.newest) reach s.kept.ticks }
+    record { tick = omega (arith, admissions, within, few); ticks = subst (λ r. TicksNewest r s.page.newest) admissions s.kept.ticks }
 
 abbrev let_in : Page → Page
 let_in b = record { newest = b.newest; tick = b.tick; admitted = true; stopped = b.stopped }

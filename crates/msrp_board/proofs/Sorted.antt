@@ -5,7 +5,7 @@ use native.Mathlib.Decide.{ℕ_discrete}
 use Rattle.msrp_plan.specs.declared.units.Call.{Call}
 use Rattle.msrp_plan.specs.declared.units.Call.TheVariants.{Ask, Poll, Leave}
 use Rattle.std.specs.Bool.{OnTrue}
-use Rattle.msrp_board.specs.History.{Event, by}
+use Rattle.msrp_board.specs.History.{Event, by_core}
 use Rattle.msrp_board.specs.Inside.Newest.{asks, leaves, queue, granted, LegalNewest, PlacedNewest, NoneLater, RisingNewest, are_polls, IsPollAfter, PollsNewest}
 use Rattle.msrp_plan.specs.FifoLock.{granted_after, Answers}
 use Rattle.msrp_board.proofs.Queue.{by_other}
@@ -22,7 +22,7 @@ insert r [] = r ∷ []
 insert r (x ∷ h) = choose (jumps r x) r x h (insert r h)
 
 pub record Inserted (r : Event) (h l : List Event) : Type 0 where
-  pub same : (d : ℕ) → by d l ≡ by d (r ∷ h)
+  pub same : (d : ℕ) → by_core d l ≡ by_core d (r ∷ h)
   pub ask_count : asks l ≡ asks (r ∷ h)
   pub leave_count : leaves l ≡ leaves (r ∷ h)
   pub in_queue : queue l ≡ queue (r ∷ h)
@@ -68,10 +68,10 @@ grant_swap b true true = refl
 grant_swap b true false = refl
 grant_swap b false k = refl
 
-by_swap : (r x : Event) (l h : List Event) → r.0 ≢ x.0 → ((d : ℕ) → by d l ≡ by d (r ∷ h)) → (d : ℕ) → by d (x ∷ l) ≡ by d (r ∷ x ∷ h)
+by_swap : (r x : Event) (l h : List Event) → r.0 ≢ x.0 → ((d : ℕ) → by_core d l ≡ by_core d (r ∷ h)) → (d : ℕ) → by_core d (x ∷ l) ≡ by_core d (r ∷ x ∷ h)
 by_swap r x l h n same d = dite (ℕ_discrete x.0 d)
-    (λ e. ap (λ b. cond b (x.1 ∷ by d l) (by d l)) (eq-eqb x.0 d e) ∙ ap (λ k. x.1 ∷ k) (same d ∙ by_other r.0 d r.1 h (λ q. n (q ∙ sym e))) ∙ sym (by_other r.0 d r.1 (x ∷ h) (λ q. n (q ∙ sym e)) ∙ ap (λ b. cond b (x.1 ∷ by d h) (by d h)) (eq-eqb x.0 d e)))
-    (λ m. ap (λ b. cond b (x.1 ∷ by d l) (by d l)) (ne_eqb x.0 d m) ∙ same d ∙ ap (λ k. cond (eqb r.0 d) (r.1 ∷ k) k) (sym (ap (λ b. cond b (x.1 ∷ by d h) (by d h)) (ne_eqb x.0 d m))))
+    (λ e. ap (λ b. cond b (x.1 ∷ by_core d l) (by_core d l)) (eq-eqb x.0 d e) ∙ ap (λ k. x.1 ∷ k) (same d ∙ by_other r.0 d r.1 h (λ q. n (q ∙ sym e))) ∙ sym (by_other r.0 d r.1 (x ∷ h) (λ q. n (q ∙ sym e)) ∙ ap (λ b. cond b (x.1 ∷ by_core d h) (by_core d h)) (eq-eqb x.0 d e)))
+    (λ m. ap (λ b. cond b (x.1 ∷ by_core d l) (by_core d l)) (ne_eqb x.0 d m) ∙ same d ∙ ap (λ k. cond (eqb r.0 d) (r.1 ∷ k) k) (sym (ap (λ b. cond b (x.1 ∷ by_core d h) (by_core d h)) (ne_eqb x.0 d m))))
 
 -- one poll moved behind another
 past : (c t g p : ℕ) (b : Bool) (c' t' g' p' : ℕ) (b' : Bool) (h l : List Event) → t ≡ t' → c < c' → LegalNewest (row c t g p b ∷ row c' t' g' p' b' ∷ h) → PlacedNewest (row c t g p b ∷ row c' t' g' p' b' ∷ h) → RisingNewest (row c t g p b ∷ row c' t' g' p' b' ∷ h) → PollsNewest (row c' t' g' p' b' ∷ h)

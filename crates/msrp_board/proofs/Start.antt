@@ -10,9 +10,9 @@ use Rattle.msrp_board.specs.declared.pages.Page.{Page}
 use Rattle.msrp_board.specs.declared.pages.View.{View}
 use Rattle.msrp_board.specs.declared.books.BoardSize.{BoardSize}
 use Rattle.msrp_board.specs.declared.states.States.{States}
-use Rattle.msrp_board.specs.Books.{IsSize, on}
+use Rattle.msrp_board.specs.Books.{IsSize, on_resource}
 use Rattle.msrp_board.specs.Inside.Held.{AreStates, kept_of, state_of, state_at}
-use Rattle.msrp_board.specs.Inside.Rule.{HasPage, Ruled, IsKeptNewest, empty_page, first_view, arrivals, page_reach}
+use Rattle.msrp_board.specs.Inside.Rule.{HasPage, Ruled, IsKeptNewest, empty_page, first_view, arrivals, page_admissions}
 use Rattle.msrp_board.specs.declared.books.Conductor.TheVariants.{Unopened}
 use Rattle.msrp_board.proofs.Kept.{kept_empty}
 use native.Mathlib.Decide.{dec_lt}
@@ -85,7 +85,7 @@ begins z words zeros len limits = record {
     cores = length_rep z.cores empty_page;
     served = λ g in_g. record {
       log = [];
-      history = record { entries = λ c b e. subst (λ (x : Page). [] ≡ on g x.newest) (same_back z.cores c b e).1 refl; none_past = λ c far. refl; placed = tt };
+      history = record { entries = λ c b e. subst (λ (x : Page). [] ≡ on_resource g x.newest) (same_back z.cores c b e).1 refl; none_past = λ c far. refl; placed = tt };
       legal = tt;
       counts = zeros g;
       short = omega arith;
@@ -96,7 +96,7 @@ begins z words zeros len limits = record {
     gathered = record {
       counts = let w = zeros z.resources in let a = zero_arrivals z.cores in omega (arith, w, a);
       told = λ c b e h. absurd (true≢false (sym h ∙ sym (ap (λ (x : Page). x.stopped) (same_back z.cores c b e).1)));
-      met = λ c b e h. absurd (let r = ap page_reach (same_back z.cores c b e).1 in omega (arith, h, r));
+      met = λ c b e h. absurd (let r = ap page_admissions (same_back z.cores c b e).1 in omega (arith, h, r));
     };
   };
   limits = limits;

@@ -15,12 +15,12 @@ use Rattle.msrp_board.specs.declared.books.Entry.{Entry}
 use Rattle.msrp_board.specs.declared.pages.Page.{Page}
 use Rattle.msrp_board.specs.declared.pages.View.{View}
 use Rattle.msrp_board.specs.declared.books.BoardSize.{BoardSize}
-use Rattle.msrp_board.specs.Books.{on, IsBefore, reach_of, AreBefore}
-use Rattle.msrp_board.specs.History.{Event, by}
+use Rattle.msrp_board.specs.Books.{on_resource, IsBefore, admissions_of, AreBefore}
+use Rattle.msrp_board.specs.History.{Event, by_core}
 use Rattle.msrp_board.specs.Inside.Newest.{lock, asks, leaves, asks_after, leaves_after, queue, granted, PlacedNewest, ticket_of, claim_of, IsClaimInTurn, IsRegularNewest, TicksNewest, NoneLater}
 use Rattle.msrp_board.specs.Boards.{opening_count, abort_count}
 use Rattle.msrp_board.specs.Words.{high, low}
-use Rattle.msrp_board.specs.Inside.Rule.{page_has_acted, page_with, arrivals, page_reach, HasConductor, Gathered, HasPage, Owns, Shared, IsTicketWord, IsServedNewest, IsKeptNewest, Ruled, HasOnly, page_with_ask, with_pages, page_with_poll, page_with_leave, ViewIsBehind, TellsAsk, TellsPoll, TellsLeave}
+use Rattle.msrp_board.specs.Inside.Rule.{page_has_acted, page_with, arrivals, page_admissions, HasConductor, Gathered, HasPage, Owns, Shared, IsTicketWord, IsServedNewest, IsKeptNewest, Ruled, HasOnly, page_with_ask, with_pages, page_with_poll, page_with_leave, ViewIsBehind, TellsAsk, TellsPoll, TellsLeave}
 use Rattle.msrp_board.specs.declared.held.Claim.{Claim}
 use Rattle.msrp_board.specs.declared.held.Claim.TheVariants.{Nothing, Waits, Holds}
 use Rattle.msrp_plan.specs.FifoLock.{Answers, IsAmong, IsFirst}
@@ -52,7 +52,7 @@ served_more g n m c books b e has res s place ok word later =
       log = insert (c, e) log;
       history = record {
         entries = λ d x q. ⊎_elim
-            (λ (t : (d ≡ c) × (page_with e b ≡ x)). subst (λ y. by y (insert (c, e) log) ≡ on g x.newest) (sym t.0) (i.same c ∙ by_same c e log ∙ ap (λ es. e ∷ es) (hist.entries c b has) ∙ sym (on_same g e b.newest res) ∙ ap (λ (y : Page). on g y.newest) t.1))
+            (λ (t : (d ≡ c) × (page_with e b ≡ x)). subst (λ y. by_core y (insert (c, e) log) ≡ on_resource g x.newest) (sym t.0) (i.same c ∙ by_same c e log ∙ ap (λ es. e ∷ es) (hist.entries c b has) ∙ sym (on_same g e b.newest res) ∙ ap (λ (y : Page). on_resource g y.newest) t.1))
             (λ (t : (d ≢ c) × (get_elem? books d ≡ some x)). i.same d ∙ by_other c d e log (λ k. t.0 (sym k)) ∙ hist.entries d x t.1)
             (at_set books c d (page_with e b) x q);
         none_past = λ d far. let l = in_range books c b has in let w = length-set books c (page_with e b) in i.same d ∙ by_other c d e log (λ k. omega (arith, k, l, w, far)) ∙ hist.none_past d (omega (arith, w, far));
@@ -72,7 +72,7 @@ served_else g n c books b e has res s =
       log = s.log;
       history = record {
         entries = λ d x q. ⊎_elim
-            (λ (t : (d ≡ c) × (page_with e b ≡ x)). subst (λ y. by y s.log ≡ on g x.newest) (sym t.0) (hist.entries c b has ∙ sym (on_other g e b.newest res) ∙ ap (λ (y : Page). on g y.newest) t.1))
+            (λ (t : (d ≡ c) × (page_with e b ≡ x)). subst (λ y. by_core y s.log ≡ on_resource g x.newest) (sym t.0) (hist.entries c b has ∙ sym (on_other g e b.newest res) ∙ ap (λ (y : Page). on_resource g y.newest) t.1))
             (λ (t : (d ≢ c) × (get_elem? books d ≡ some x)). hist.entries d x t.1)
             (at_set books c d (page_with e b) x q);
         none_past = λ d far. let w = length-set books c (page_with e b) in hist.none_past d (omega (arith, w, far));
@@ -86,7 +86,7 @@ served_else g n c books b e has res s =
     }
 
 -- the core's claim state, read from the history of g
-stand : (g n c : ℕ) (books : List Page) (b : Page) → get_elem? books c ≡ some b → IsRegularNewest b.newest → (s : IsServedNewest g n books) → claim_of (by c s.log) ≡ at g (claim_of b.newest)
+stand : (g n c : ℕ) (books : List Page) (b : Page) → get_elem? books c ≡ some b → IsRegularNewest b.newest → (s : IsServedNewest g n books) → claim_of (by_core c s.log) ≡ at g (claim_of b.newest)
 stand g n c books b has ok s = ap claim_of (s.history.entries c b has) ∙ claim_on g b.newest ok
 
 -- the seat's only book has changed
@@ -146,7 +146,7 @@ kept_step z books c b e kept all d x q = ⊎_elim
     (λ (t : (d ≢ c) × (get_elem? books d ≡ some x)). all d x t.1)
     (at_set books c d (page_with e b) x q)
 
--- the barrier's part, where a book keeps its tick and its reach
+-- the barrier's part, where a book keeps its tick and its admissions
 gathered_same : (n c : ℕ) (books : List Page) (b d : Page) (o : Conductor) → get_elem? books c ≡ some b → d.tick ≡ b.tick → d.admitted ≡ b.admitted → d.stopped ≡ b.stopped → Gathered n books o → Gathered n (set books c d) o
 gathered_same n c books b d o has tick adm stop g = record {
   counts = g.counts ∙ (let q = arrivals_set books c b d has in let same : arrivals books ≡ arrivals (set books c d) = omega (arith, q, tick) in ap (λ k. abort_count o * 4294967296 + (k + opening_count o)) same);
@@ -155,9 +155,9 @@ gathered_same n c books b d o has tick adm stop g = record {
 }
   where
     -- the book as it was: its place, tick, admission and stop
-    was : (x : ℕ) (y : Page) → get_elem? (set books c d) x ≡ some y → (u : Page) × (get_elem? books x ≡ some u) × (y.tick ≡ u.tick) × (page_reach y ≡ page_reach u) × (u.stopped ≡ y.stopped)
+    was : (x : ℕ) (y : Page) → get_elem? (set books c d) x ≡ some y → (u : Page) × (get_elem? books x ≡ some u) × (y.tick ≡ u.tick) × (page_admissions y ≡ page_admissions u) × (u.stopped ≡ y.stopped)
     was x y h = ⊎_elim
-        (λ (t : (x ≡ c) × (d ≡ y)). (b, ap (get_elem? books) t.0 ∙ has, subst (λ (k : Page). k.tick ≡ b.tick) t.1 tick, subst (λ (k : Page). page_reach k ≡ page_reach b) t.1 (ap (λ a. reach_of a d.tick) adm ∙ ap (reach_of b.admitted) tick), subst (λ (k : Page). b.stopped ≡ k.stopped) t.1 (sym stop)))
+        (λ (t : (x ≡ c) × (d ≡ y)). (b, ap (get_elem? books) t.0 ∙ has, subst (λ (k : Page). k.tick ≡ b.tick) t.1 tick, subst (λ (k : Page). page_admissions k ≡ page_admissions b) t.1 (ap (λ a. admissions_of a d.tick) adm ∙ ap (admissions_of b.admitted) tick), subst (λ (k : Page). b.stopped ≡ k.stopped) t.1 (sym stop)))
         (λ (t : (x ≢ c) × (get_elem? books x ≡ some y)). (y, t.1, refl, refl, refl))
         (at_set books c x d y h)
 
@@ -166,35 +166,35 @@ EachUpTo t [] = Unit {0}
 EachUpTo t (e ∷ es) = (e.tick ≤ t) × EachUpTo t es
 
 -- no entry of g is later than the tick to which a core is admitted
-ticks_on : (t r g : ℕ) (es : List Entry) → TicksNewest r es → r ≤ suc t → EachUpTo t (on g es)
+ticks_on : (t r g : ℕ) (es : List Entry) → TicksNewest r es → r ≤ suc t → EachUpTo t (on_resource g es)
 ticks_on t r g [] k le = tt
 ticks_on t r g (e ∷ es) k le = let h = k.0 in dite (ℕ_discrete e.res.0 g)
     (λ q. subst (EachUpTo t) (sym (on_same g e es q)) (omega (arith, h, le), ticks_on t e.tick g es k.1 (omega (arith, h, le))))
     (λ n. subst (EachUpTo t) (sym (on_other g e es n)) (ticks_on t e.tick g es k.1 (omega (arith, h, le))))
 
-from_by : (t : ℕ) (h : List Event) → ((d : ℕ) → EachUpTo t (by d h)) → NoneLater t h
+from_by : (t : ℕ) (h : List Event) → ((d : ℕ) → EachUpTo t (by_core d h)) → NoneLater t h
 from_by t [] k = tt
-from_by t (r ∷ h) k = ((subst (EachUpTo t) (by_same r.0 r.1 h) (k r.0)).0, from_by t h (λ d. by_cases r.0 d r.1 h (λ l. EachUpTo t l → EachUpTo t (by d h)) (λ _ x. x.1) (λ _ x. x) (k d)))
+from_by t (r ∷ h) k = ((subst (EachUpTo t) (by_same r.0 r.1 h) (k r.0)).0, from_by t h (λ d. by_cases r.0 d r.1 h (λ l. EachUpTo t l → EachUpTo t (by_core d h)) (λ _ x. x.1) (λ _ x. x) (k d)))
 
 none_later : (z : BoardSize) (g n c : ℕ) (books : List Page) (b : Page) (o : Conductor) (w : ℕ) → get_elem? books c ≡ some b → ((d : ℕ) (x : Page) → get_elem? books d ≡ some x → IsKeptNewest z x) → Gathered w books o → (s : IsServedNewest g n books) → NoneLater b.tick s.log
 none_later z g n c books b o w has all gat s = from_by b.tick s.log (λ d. each d (dec_lt d (length books)))
   where
-    each : (d : ℕ) → Dec (d < length books) → EachUpTo b.tick (by d s.log)
+    each : (d : ℕ) → Dec (d < length books) → EachUpTo b.tick (by_core d s.log)
     each d (no far) = subst (EachUpTo b.tick) (sym (s.history.none_past d (omega (arith, far)))) tt
-    each d (yes h) = let x = there books d h in subst (EachUpTo b.tick) (sym (s.history.entries d x.0 x.1)) (bounded x.0 d x.1 (page_reach x.0) refl)
+    each d (yes h) = let x = there books d h in subst (EachUpTo b.tick) (sym (s.history.entries d x.0 x.1)) (bounded x.0 d x.1 (page_admissions x.0) refl)
       where
         there : (l : List Page) (i : ℕ) → i < length l → (y : Page) × (get_elem? l i ≡ some y)
         there [] i h = absurd (omega (arith, h))
         there (y ∷ ys) zero h = (y, refl)
         there (y ∷ ys) (suc i) h = there ys i (omega (arith, h))
 
-        bounded : (x : Page) (d : ℕ) → get_elem? books d ≡ some x → (r : ℕ) → page_reach x ≡ r → EachUpTo b.tick (on g x.newest)
-        bounded x d at zero is = ticks_on b.tick (page_reach x) g x.newest (all d x at).ticks (omega (arith, is))
-        bounded x d at (suc r) is = ticks_on b.tick (page_reach x) g x.newest (all d x at).ticks ((gat.met d x at (omega (arith, is))).1 c b has)
+        bounded : (x : Page) (d : ℕ) → get_elem? books d ≡ some x → (r : ℕ) → page_admissions x ≡ r → EachUpTo b.tick (on_resource g x.newest)
+        bounded x d at zero is = ticks_on b.tick (page_admissions x) g x.newest (all d x at).ticks (omega (arith, is))
+        bounded x d at (suc r) is = ticks_on b.tick (page_admissions x) g x.newest (all d x at).ticks ((gat.met d x at (omega (arith, is))).1 c b has)
 
 -- the rule after one more entry of the core of a seat
 acts : (z : BoardSize) (s : State (Unit {0}) View) (id g m c : ℕ) (v : View) (b : Page) (e : Entry) (f : Page → Page) (r : Ruled z s) → get_elem? s.views id ≡ some v → g < z.resources → HasOnly v c b → b.admitted ≡ true → TicksNewest b.tick b.newest
-    → f b ≡ page_with e b → e.res.0 ≡ g → e.tick ≡ b.tick → IsClaimInTurn (claim_of b.newest) e.res.0 e.call → AreBefore e.place (on g b.newest)
+    → f b ≡ page_with e b → e.res.0 ≡ g → e.tick ≡ b.tick → IsClaimInTurn (claim_of b.newest) e.res.0 e.call → AreBefore e.place (on_resource g b.newest)
     → ((sv : IsServedNewest g (slice_index s.words g) r.pages) → (e.place ≡ asks sv.log + leaves sv.log) × Answers (lock sv.log) c e.call × IsTicketWord m ((c, e) ∷ sv.log))
     → Ruled z (stepped s g m id [] (with_pages f v) keeps)
 acts z s id g m c v b e f r at_id in_g sole in_tick fresh is res now ok before fits =
@@ -212,7 +212,7 @@ acts z s id g m c v b e f r at_id in_g sole in_tick fresh is res now ok before f
             (λ q. let sv = tied.served g in_g in let x = fits sv in subst (λ k. IsServedNewest k (slice_index (set s.words g m) k) (set books c (page_with e b))) (sym q)
             (subst (λ k. IsServedNewest g k (set books c (page_with e b))) (sym (get_or-set_same s.words g m 0 (let l = r.words in omega (arith, l, in_g)))) (served_more g (slice_index s.words g) m c books b e has res sv x.0 x.1 x.2 (subst (λ t. NoneLater t sv.log) (sym now) (none_later z g (slice_index s.words g) c books b r.conductor (slice_index s.words z.resources) has tied.kept tied.gathered sv)))))
             (λ n. subst (λ k. IsServedNewest h k (set books c (page_with e b))) (sym (get_or-set_other s.words g h m 0 n)) (served_else h (slice_index s.words h) c books b e has (λ q. n (sym q ∙ res)) (tied.served h in_h)));
-        kept = kept_step z books c b e (kept_more z b e (tied.kept c b has) (subst (λ k. k < z.resources) (sym res) in_g) (subst (λ k. AreBefore e.place (on k b.newest)) (sym res) before) ok in_tick fresh now) tied.kept;
+        kept = kept_step z books c b e (kept_more z b e (tied.kept c b has) (subst (λ k. k < z.resources) (sym res) in_g) (subst (λ k. AreBefore e.place (on_resource k b.newest)) (sym res) before) ok in_tick fresh now) tied.kept;
         gathered = subst (λ k. Gathered k (set books c (page_with e b)) r.conductor) (sym (get_or-set_other s.words g z.resources m 0 (λ q. omega (arith, q, in_g)))) (gathered_same (slice_index s.words z.resources) c books b (page_with e b) r.conductor has refl refl refl tied.gathered);
       };
       limits = r.limits;
@@ -228,11 +228,11 @@ before_more p q (e ∷ es) h a = (one e.place e.call a.0, before_more p q es h a
     one x (Poll n) b = omega (arith, b, h)
     one x Leave b = omega (arith, b, h)
 
-before_one : (h : List Event) (c t g p : ℕ) (k : Call) → p ≡ asks h + leaves h → ((d : ℕ) → AreBefore (asks h + leaves h) (by d h))
-    → (d : ℕ) → AreBefore (asks_after (asks h) k + leaves_after (leaves h) k) (by d ((c, record { tick = t; res = record { 0 = g }; place = p; call = k }) ∷ h))
+before_one : (h : List Event) (c t g p : ℕ) (k : Call) → p ≡ asks h + leaves h → ((d : ℕ) → AreBefore (asks h + leaves h) (by_core d h))
+    → (d : ℕ) → AreBefore (asks_after (asks h) k + leaves_after (leaves h) k) (by_core d ((c, record { tick = t; res = record { 0 = g }; place = p; call = k }) ∷ h))
 before_one h c t g p k is old d = by_cases c d new h (AreBefore now)
-    (λ _. ((up k).1, before_more (asks h + leaves h) now (by d h) (up k).0 (old d)))
-    (λ _. before_more (asks h + leaves h) now (by d h) (up k).0 (old d))
+    (λ _. ((up k).1, before_more (asks h + leaves h) now (by_core d h) (up k).0 (old d)))
+    (λ _. before_more (asks h + leaves h) now (by_core d h) (up k).0 (old d))
   where
     new : Entry
     new = record { tick = t; res = record { 0 = g }; place = p; call = k }
@@ -246,7 +246,7 @@ before_one h c t g p k is old d = by_cases c d new h (AreBefore now)
     up Leave = (omega arith, omega (arith, is))
 
 -- every entry stands before the place that is found next
-pub all_before : (h : List Event) → PlacedNewest h → (d : ℕ) → AreBefore (asks h + leaves h) (by d h)
+pub all_before : (h : List Event) → PlacedNewest h → (d : ℕ) → AreBefore (asks h + leaves h) (by_core d h)
 all_before [] p d = tt
 all_before (r ∷ h) p d = before_one h r.0 r.1.tick r.1.res.0 r.1.place r.1.call p.1 (all_before h p.0) d
 
@@ -256,8 +256,8 @@ pub record Found (z : BoardSize) (s : State (Unit {0}) View) (id g c : ℕ) (b :
   pub serving_is : low (slice_index s.words g) ≡ leaves sv.log
   pub queue_of : Coupled sv.log
   pub small : asks sv.log + leaves sv.log < 160000
-  pub stands : claim_of (by c sv.log) ≡ at g (claim_of b.newest)
-  pub before : AreBefore (asks sv.log + leaves sv.log) (on g b.newest)
+  pub stands : claim_of (by_core c sv.log) ≡ at g (claim_of b.newest)
+  pub before : AreBefore (asks sv.log + leaves sv.log) (on_resource g b.newest)
 
 found : (z : BoardSize) (s : State (Unit {0}) View) (id g c : ℕ) (v : View) (b : Page) (r : Ruled z s) (sv : IsServedNewest g (slice_index s.words g) r.pages) → get_elem? s.views id ≡ some v → HasOnly v c b → b.admitted ≡ true → TicksNewest b.tick b.newest → Found z s id g c b r sv
 found z s id g c v b r sv at_id sole in_tick fresh = record {
@@ -278,8 +278,8 @@ found z s id g c v b r sv at_id sole in_tick fresh = record {
         let t = total_more r.pages c b new has in
         let full = (r.tied.kept c b has).within in
         let fl = ticks_length b.tick b.newest fresh in
-        let rs : page_reach b ≡ suc b.tick = ap (λ k. reach_of k b.tick) in_tick in
-        let m = total_bound (set r.pages c (page_with new b)) z.ticks (λ d x q. ⊎_elim (λ (t : (d ≡ c) × (page_with new b ≡ x)). subst (λ (y : Page). length y.newest ≤ z.ticks) t.1 (omega (arith, full, fl, rs))) (λ (t : (d ≢ c) × (get_elem? r.pages d ≡ some x)). let u = (r.tied.kept d x t.1) in let l = ticks_length (page_reach x) x.newest u.ticks in let le = u.within in omega (arith, l, le)) (at_set r.pages c d (page_with new b) x q)) in
+        let rs : page_admissions b ≡ suc b.tick = ap (λ k. admissions_of k b.tick) in_tick in
+        let m = total_bound (set r.pages c (page_with new b)) z.ticks (λ d x q. ⊎_elim (λ (t : (d ≡ c) × (page_with new b ≡ x)). subst (λ (y : Page). length y.newest ≤ z.ticks) t.1 (omega (arith, full, fl, rs))) (λ (t : (d ≢ c) × (get_elem? r.pages d ≡ some x)). let u = (r.tied.kept d x t.1) in let l = ticks_length (page_admissions x) x.newest u.ticks in let le = u.within in omega (arith, l, le)) (at_set r.pages c d (page_with new b) x q)) in
         let n = length-set r.pages c (page_with new b) in
         let y = mul-le (length (set r.pages c (page_with new b))) z.ticks 8 20000 (let x = r.limits.cores.1 in let w = r.tied.cores in omega (arith, n, x, w)) r.limits.ticks.1 in
         let l = steps_length sv.log in let o = sv.short in omega (arith, t, m, y, l, o)
@@ -293,8 +293,8 @@ tells z s id g c v b r sv sole k =
     let n = k.next_is in let m = k.serving_is in let q = k.queue_of.counted in let l = k.small in (
       omega (arith, n, m, q),
       omega (arith, n, m, l),
-      λ d x h. subst (λ p. AreBefore p (on g x.newest)) (let sum : asks sv.log + leaves sv.log ≡ high (slice_index s.words g) + low (slice_index s.words g) = omega (arith, n, m) in sum)
-          (subst (λ (y : Page). AreBefore (asks sv.log + leaves sv.log) (on g y.newest)) (same x d h) k.before),
+      λ d x h. subst (λ p. AreBefore p (on_resource g x.newest)) (let sum : asks sv.log + leaves sv.log ≡ high (slice_index s.words g) + low (slice_index s.words g) = omega (arith, n, m) in sum)
+          (subst (λ (y : Page). AreBefore (asks sv.log + leaves sv.log) (on_resource g y.newest)) (same x d h) k.before),
     )
   where
     same : (x : Page) (d : ℕ) → HasPage v d x → b ≡ x
@@ -333,9 +333,9 @@ poll_answers q b c x t same other = dite (ℕ_discrete x t)
     (λ e. subst (λ k. Answers (record { queue = q; granted = b }) c (Poll k)) (sym (eq-eqb x t e)) (let r = same (sym e) in (at_first q c r.0, r.1)))
     (λ n. subst (λ k. Answers (record { queue = q; granted = b }) c (Poll k)) (sym (ne_eqb x t n)) (let r = other (λ e. n (sym e)) in (among q c r.0, not_first q c r.1)))
 
-not_held : (h : List Event) (c g t : ℕ) → Coupled h → claim_of (by c h) ≡ Waits g t → get_elem? (queue h) 0 ≡ some c → (x : Bool) → granted h ≡ x → x ≡ false
+not_held : (h : List Event) (c g t : ℕ) → Coupled h → claim_of (by_core c h) ≡ Waits g t → get_elem? (queue h) 0 ≡ some c → (x : Bool) → granted h ≡ x → x ≡ false
 not_held h c g t k is first false e = refl
-not_held h c g t k is first true e = let y = k.holder e in absurd (true≢false (sym y.2 ∙ ap (λ d. held (claim_of (by d h))) (some-injective y.0 c (sym y.1 ∙ first)) ∙ ap held is))
+not_held h c g t k is first true e = let y = k.holder e in absurd (true≢false (sym y.2 ∙ ap (λ d. held (claim_of (by_core d h))) (some-injective y.0 c (sym y.1 ∙ first)) ∙ ap held is))
 
 pub polls_allowed : (z : BoardSize) (slots id : ℕ) (me : Me (Unit {0}) View) (g c t : ℕ) (b : Page) → g < z.resources → HasOnly me.0 c b → b.admitted ≡ true → page_has_acted b ≡ false → claim_of b.newest ≡ Waits g t
     → Allows (Ruled z) slots id me g (λ n. n) (TellsPoll (step slots g 0 0 none) me)
@@ -357,8 +357,8 @@ polls_allowed z slots id me g c t b in_g sole room quiet waits s r _ at_id fits 
       sv.counts,
     )
       where
-        mine : claim_of (by c sv.log) ≡ Waits g t
-        mine = at_own (claim_of (by c sv.log)) g (claim_of b.newest) k.stands (inl (t, waits)) ∙ waits
+        mine : claim_of (by_core c sv.log) ≡ Waits g t
+        mine = at_own (claim_of (by_core c sv.log)) g (claim_of b.newest) k.stands (inl (t, waits)) ∙ waits
 
         where_is : (i : ℕ) × (get_elem? (queue sv.log) i ≡ some c) × (t ≡ (leaves sv.log + i))
         where_is = k.queue_of.stands c t (ap ticket mine)
@@ -375,5 +375,5 @@ leaves_allowed z slots id me g c t b in_g sole room quiet holds s r _ at_id fits
     step_ok : (sv : IsServedNewest g (slice_index s.words g) r.pages) → Found z s id g c b r sv → (high (slice_index s.words g) + low (slice_index s.words g) ≡ asks sv.log + leaves sv.log)
         × (IsFirst (queue sv.log) c × (granted sv.log ≡ true))
         × ((slice_index s.words g + 1) % 2 ^ 64 ≡ asks sv.log * 4294967296 + suc (leaves sv.log))
-    step_ok sv k = let a = k.next_is in let d = k.serving_is in let l = k.small in let w = sv.counts in let h = k.queue_of.holds c (ap held (at_own (claim_of (by c sv.log)) g (claim_of b.newest) k.stands (inr (t, holds)) ∙ holds)) in
+    step_ok sv k = let a = k.next_is in let d = k.serving_is in let l = k.small in let w = sv.counts in let h = k.queue_of.holds c (ap held (at_own (claim_of (by_core c sv.log)) g (claim_of b.newest) k.stands (inr (t, holds)) ∙ holds)) in
         (omega (arith, a, d), (at_first (queue sv.log) c h.1, h.0), omega (arith, w, l))

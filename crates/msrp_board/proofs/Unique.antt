@@ -6,8 +6,8 @@ use native.Mathlib.Decide.{ℕ_discrete}
 use Rattle.msrp_plan.specs.declared.units.Call.{Call}
 use Rattle.msrp_plan.specs.declared.units.Call.TheVariants.{Ask, Poll, Leave}
 use Rattle.msrp_board.specs.declared.books.Entry.{Entry}
-use Rattle.msrp_board.specs.Books.{on, IsChain}
-use Rattle.msrp_board.specs.History.{Event, by, is_poll, place_after, Placed, PollsInOrder, IsHistory}
+use Rattle.msrp_board.specs.Books.{on_resource, IsChain}
+use Rattle.msrp_board.specs.History.{Event, by_core, is_poll, place_after, Placed, PollsInOrder, IsHistory}
 use Rattle.msrp_plan.proofs.Lists.AnyAll.{all_weaker}
 
 -- ---- an order by parts
@@ -71,11 +71,11 @@ sorted_history n (s ∷ x ∷ h) p o =
 
 -- ---- there is but one list
 
-by_same : (c d : ℕ) (x : Entry) (xs : List Event) → d ≡ c → by c ((d, x) ∷ xs) ≡ x ∷ by c xs
-by_same c d x xs e = ap (λ b. cond b (x ∷ by c xs) (by c xs)) (eq-eqb d c e)
+by_same : (c d : ℕ) (x : Entry) (xs : List Event) → d ≡ c → by_core c ((d, x) ∷ xs) ≡ x ∷ by_core c xs
+by_same c d x xs e = ap (λ b. cond b (x ∷ by_core c xs) (by_core c xs)) (eq-eqb d c e)
 
-by_other : (c d : ℕ) (x : Entry) (xs : List Event) → d ≢ c → by c ((d, x) ∷ xs) ≡ by c xs
-by_other c d x xs n = ap (λ b. cond b (x ∷ by c xs) (by c xs)) (ne_eqb d c n)
+by_other : (c d : ℕ) (x : Entry) (xs : List Event) → d ≢ c → by_core c ((d, x) ∷ xs) ≡ by_core c xs
+by_other c d x xs n = ap (λ b. cond b (x ∷ by_core c xs) (by_core c xs)) (ne_eqb d c n)
 
 head_is : (x y : Entry) (xs ys : List Entry) → x ∷ xs ≡ y ∷ ys → x ≡ y
 head_is x y xs ys e = cc
@@ -87,36 +87,36 @@ not_nil : (x : Entry) (xs : List Entry) → x ∷ xs ≡ [] → ⊥
 not_nil x xs e = cc
 
 -- what holds of all holds of the first under c
-first_by : (P : Event → Type 0) (c : ℕ) (x : Entry) (rest : List Entry) (ys : List Event) → AllByRecursion P ys → by c ys ≡ x ∷ rest → P (c, x)
+first_by : (P : Event → Type 0) (c : ℕ) (x : Entry) (rest : List Entry) (ys : List Event) → AllByRecursion P ys → by_core c ys ≡ x ∷ rest → P (c, x)
 first_by P c x rest [] all e = absurd (not_nil x rest (sym e))
 first_by P c x rest (y ∷ ys) all e = dite (ℕ_discrete y.0 c)
-    (λ q. let h = head_is y.1 x (by c ys) rest (sym (by_same c y.0 y.1 ys q) ∙ e) in subst (λ d. P (d, x)) q (subst (λ z. P (y.0, z)) h all.0))
+    (λ q. let h = head_is y.1 x (by_core c ys) rest (sym (by_same c y.0 y.1 ys q) ∙ e) in subst (λ d. P (d, x)) q (subst (λ z. P (y.0, z)) h all.0))
     (λ n. first_by P c x rest ys all.1 (sym (by_other c y.0 y.1 ys n) ∙ e))
 
-unique : (R : Event → Event → Type 0) → ((x y : Event) → R x y → R y x → x.0 ≡ y.0) → (xs ys : List Event) → ((c : ℕ) → by c xs ≡ by c ys) → Sorted R xs → Sorted R ys → xs ≡ ys
+unique : (R : Event → Event → Type 0) → ((x y : Event) → R x y → R y x → x.0 ≡ y.0) → (xs ys : List Event) → ((c : ℕ) → by_core c xs ≡ by_core c ys) → Sorted R xs → Sorted R ys → xs ≡ ys
 unique R anti [] [] same a b = refl
-unique R anti [] (y ∷ ys) same a b = absurd (not_nil y.1 (by y.0 ys) (sym (by_same y.0 y.0 y.1 ys refl) ∙ sym (same y.0)))
-unique R anti (x ∷ xs) [] same a b = absurd (not_nil x.1 (by x.0 xs) (sym (by_same x.0 x.0 x.1 xs refl) ∙ same x.0))
+unique R anti [] (y ∷ ys) same a b = absurd (not_nil y.1 (by_core y.0 ys) (sym (by_same y.0 y.0 y.1 ys refl) ∙ sym (same y.0)))
+unique R anti (x ∷ xs) [] same a b = absurd (not_nil x.1 (by_core x.0 xs) (sym (by_same x.0 x.0 x.1 xs refl) ∙ same x.0))
 unique R anti (x ∷ xs) (y ∷ ys) same a b = dite (ℕ_discrete y.0 x.0)
     (λ q.
-    let both : x.1 ∷ by x.0 xs ≡ y.1 ∷ by x.0 ys = sym (by_same x.0 x.0 x.1 xs refl) ∙ (same x.0 ∙ by_same x.0 y.0 y.1 ys q) in
-    let here : x ≡ y = pair_same x y (sym q) (head_is x.1 y.1 (by x.0 xs) (by x.0 ys) both) in
-    ap (λ z. z ∷ xs) here ∙ ap (λ zs. y ∷ zs) (unique R anti xs ys (rest q (tail_is x.1 y.1 (by x.0 xs) (by x.0 ys) both)) a.1 b.1))
+    let both : x.1 ∷ by_core x.0 xs ≡ y.1 ∷ by_core x.0 ys = sym (by_same x.0 x.0 x.1 xs refl) ∙ (same x.0 ∙ by_same x.0 y.0 y.1 ys q) in
+    let here : x ≡ y = pair_same x y (sym q) (head_is x.1 y.1 (by_core x.0 xs) (by_core x.0 ys) both) in
+    ap (λ z. z ∷ xs) here ∙ ap (λ zs. y ∷ zs) (unique R anti xs ys (rest q (tail_is x.1 y.1 (by_core x.0 xs) (by_core x.0 ys) both)) a.1 b.1))
     (λ n.
     let e = sym (by_same x.0 x.0 x.1 xs refl) ∙ (same x.0 ∙ by_other x.0 y.0 y.1 ys n) in
     let f = sym (by_same y.0 y.0 y.1 ys refl) ∙ (sym (same y.0) ∙ by_other y.0 x.0 x.1 xs (λ q. n (sym q))) in
-    absurd (n (anti y x (first_by (R y) x.0 x.1 (by x.0 xs) ys b.0 (sym e)) (first_by (R x) y.0 y.1 (by y.0 ys) xs a.0 (sym f)))))
+    absurd (n (anti y x (first_by (R y) x.0 x.1 (by_core x.0 xs) ys b.0 (sym e)) (first_by (R x) y.0 y.1 (by_core y.0 ys) xs a.0 (sym f)))))
   where
     pair_same : (x y : Event) → x.0 ≡ y.0 → x.1 ≡ y.1 → x ≡ y
     pair_same x y e f = ap (λ a. (a, x.1)) e ∙ ap (λ b. (y.0, b)) f
 
-    rest : y.0 ≡ x.0 → by x.0 xs ≡ by x.0 ys → (c : ℕ) → by c xs ≡ by c ys
+    rest : y.0 ≡ x.0 → by_core x.0 xs ≡ by_core x.0 ys → (c : ℕ) → by_core c xs ≡ by_core c ys
     rest q t c = dite (ℕ_discrete x.0 c)
-        (λ e. subst (λ d. by d xs ≡ by d ys) e t)
+        (λ e. subst (λ d. by_core d xs ≡ by_core d ys) e t)
         (λ n. sym (by_other c x.0 x.1 xs n) ∙ (same c ∙ by_other c y.0 y.1 ys (λ e. n (sym q ∙ e))))
 
 -- a list in that order with the entries of a history is the history
-pub history_is : (g : ℕ) (books : ℕ → List Entry) (h k : List Event) → IsHistory g books h → ((c : ℕ) → by c k ≡ on g (books c)) → Sorted Before k → h ≡ k
+pub history_is : (g : ℕ) (books : ℕ → List Entry) (h k : List Event) → IsHistory g books h → ((c : ℕ) → by_core c k ≡ on_resource g (books c)) → Sorted Before k → h ≡ k
 history_is g books h k a entries order = unique Before before_both h k (λ c. a.entries c ∙ sym (entries c)) (sorted_history 0 h a.placed a.polls) order
 
 pub history_unique : (g : ℕ) (books : ℕ → List Entry) (h k : List Event) → IsHistory g books h → IsHistory g books k → h ≡ k

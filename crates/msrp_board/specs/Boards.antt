@@ -5,7 +5,7 @@ use Rattle.msrp_board.specs.declared.books.Book.{Book}
 use Rattle.msrp_board.specs.declared.books.BoardSize.{BoardSize}
 use Rattle.msrp_board.specs.declared.books.Conductor.{Conductor}
 use Rattle.msrp_board.specs.declared.books.Conductor.TheVariants.{Unopened, Opened, Aborted}
-use Rattle.msrp_board.specs.Books.{IsSize, reach, IsKept}
+use Rattle.msrp_board.specs.Books.{IsSize, admissions, IsKept}
 use Rattle.msrp_board.specs.History.{Event, IsServed}
 use Rattle.msrp_board.specs.Words.{high, low}
 use Rattle.msrp_board.specs.Seats.{empty_book}
@@ -51,4 +51,4 @@ pub record IsTied (s : WholeBoard) : Type 0 where
   -- a core was told to stop only after an abort
   pub told : (c : ℕ) (b : Book) → slice_get s.books c ≡ Some b → b.stopped ≡ true → s.conductor ≡ Aborted
   -- whoever is or was admitted to tick t met all who left the ticks below t
-  pub met : (c t : ℕ) (b : Book) → slice_get s.books c ≡ Some b → t < reach b → (s.conductor ≡ Opened) × ((d : ℕ) (e : Book) → slice_get s.books d ≡ Some e → t ≤ e.tick)
+  pub met : (c t : ℕ) (b : Book) → slice_get s.books c ≡ Some b → t < admissions b → (s.conductor ≡ Opened) × ((d : ℕ) (e : Book) → slice_get s.books d ≡ Some e → t ≤ e.tick)

@@ -21,8 +21,8 @@ pub record IsSize (size : BoardSize) : Type 0 where
 -- ---- what a book says of its core
 
 -- the entries of one resource, in order
-abbrev pub on : ℕ → List Entry → List Entry
-on g entries = filter (λ e. e.res.0 == g) entries
+abbrev pub on_resource : ℕ → List Entry → List Entry
+on_resource g entries = filter (λ e. e.res.0 == g) entries
 
 -- the calls of a core, each with its resource
 abbrev pub res_calls : List Entry → List ResCall
@@ -48,12 +48,12 @@ abbrev pub phase_in : ℕ → Book → SeatPhase
 phase_in ticks b = phase_by b.stopped b.admitted (nat_lt b.tick ticks)
 
 -- the tick, and 1 where the core is let into it
-abbrev pub reach_of : Bool → ℕ → ℕ
-reach_of admitted tick = if admitted then suc tick else tick
+abbrev pub admissions_of : Bool → ℕ → ℕ
+admissions_of admitted tick = if admitted then suc tick else tick
 
 -- the ticks below it are those to which the core is or was admitted
-abbrev pub reach : Book → ℕ
-reach b = reach_of b.admitted b.tick
+abbrev pub admissions : Book → ℕ
+admissions b = admissions_of b.admitted b.tick
 
 -- ---- what every book keeps
 
@@ -81,14 +81,14 @@ IsChain R (x ∷ xs) = ToNext R x xs × IsChain R xs
 -- what every book keeps on a board of this size
 pub record IsKept (size : BoardSize) (b : Book) : Type 0 where
   -- the core is in no tick past the last
-  pub within : reach b ≤ size.ticks
+  pub within : admissions b ≤ size.ticks
   -- each entry is of a resource of the board
   pub declared : AllByRecursion (λ e. e.res.0 < size.resources) b.entries
   -- no entry is of a tick to which the core was not admitted
-  pub past : AllByRecursion (λ e. e.tick < reach b) b.entries
+  pub past : AllByRecursion (λ e. e.tick < admissions b) b.entries
   -- at most one entry a tick
   pub one_a_tick : IsChain (λ e f. e.tick < f.tick) b.entries
   -- places of one resource never fall, and rise after a request or a release
-  pub places : (g : ℕ) → IsChain (λ e f. IsBefore e.call e.place f.place) (on g b.entries)
+  pub places : (g : ℕ) → IsChain (λ e f. IsBefore e.call e.place f.place) (on_resource g b.entries)
   -- the core requests where it is free, polls what it awaits, and releases what it holds
   pub regular : IsRegular (res_calls b.entries)

@@ -7,16 +7,16 @@ use Rattle.msrp_plan.specs.declared.units.Call.{Call}
 use Rattle.msrp_plan.specs.declared.units.Call.TheVariants.{Ask, Poll, Leave}
 use Rattle.msrp_board.specs.declared.books.Entry.{Entry}
 use Rattle.msrp_board.specs.Words.{high, low}
-use Rattle.msrp_board.specs.Books.{on, IsChain}
+use Rattle.msrp_board.specs.Books.{on_resource, IsChain}
 
 -- an entry with the number of its core
 abbrev pub Event : Type 0
 Event = ℕ × Entry
 
 -- what stands under the number c, in order
-abbrev pub by : {X : Type 0} → ℕ → List (ℕ × X) → List X
-by c [] = []
-by c (x ∷ xs) = if x.0 == c then x.1 ∷ by c xs else by c xs
+abbrev pub by_core : {X : Type 0} → ℕ → List (ℕ × X) → List X
+by_core c [] = []
+by_core c (x ∷ xs) = if x.0 == c then x.1 ∷ by_core c xs else by_core c xs
 
 -- the calls of these events, each with its core
 abbrev pub calls : List Event → List (ℕ × Call)
@@ -62,7 +62,7 @@ IsNotLater s x = s.1.tick ≤ x.1.tick
 -- h is the history of resource g by these books: it has the entries of each core's book on g, in order; requests
 -- and releases stand by place, from 0 on, each place once, and a poll directly before the step of the place it read
 pub record IsHistory (g : ℕ) (books : ℕ → List Entry) (h : List Event) : Type 0 where
-  pub entries : (c : ℕ) → by c h ≡ on g (books c)
+  pub entries : (c : ℕ) → by_core c h ≡ on_resource g (books c)
   pub placed : Placed 0 h
   pub polls : IsChain PollsInOrder h
 

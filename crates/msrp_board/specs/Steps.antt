@@ -6,7 +6,7 @@ use Rattle.msrp_plan.specs.declared.ids.ResId.{ResId}
 use Rattle.msrp_plan.specs.declared.units.Call.{Call}
 use Rattle.msrp_board.specs.declared.books.Book.{Book}
 use Rattle.msrp_board.specs.declared.books.Conductor.{Conductor}
-use Rattle.msrp_board.specs.Books.{on, AreBefore}
+use Rattle.msrp_board.specs.Books.{on_resource, AreBefore}
 use Rattle.msrp_board.specs.Seats.{SeatModel, book_at}
 
 -- ---- a request, a poll, a release
@@ -25,7 +25,7 @@ with_entry g place call seat = with_books (book_with_entry g place call) seat
 
 -- the place stands behind all that the seat's books have of resource g
 abbrev pub IsBehind : ℕ → ℕ → SeatModel → Type 0
-IsBehind g place seat = (c : ℕ) (b : Book) → book_at seat c ≡ Some b → AreBefore place (on g b.entries)
+IsBehind g place seat = (c : ℕ) (b : Book) → book_at seat c ≡ Some b → AreBefore place (on_resource g b.entries)
 
 -- ---- the barrier
 

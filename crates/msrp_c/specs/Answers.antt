@@ -104,6 +104,6 @@ pub record Gives {A : Type 0} (what_in : Result A CliFault → Result (Result �
   pub hands : HandsOver (what_in (told_as long made)) (text_in (told_as long made)) old new needed found status
   pub too_long : (status ≡ 5) ↔ (long ≡ true)
 
--- the same of a text with what was found in its rows
+-- a call hands over a text, with what was found in its rows
 abbrev pub Answers : Bool → (Result Made CliFault → Type 0) → List ℕ → List ℕ → ℕ → MsrpFound → ℕ → Type 0
 Answers long IsMade old new needed found status = Gives found_in text_in long IsMade old new needed found status

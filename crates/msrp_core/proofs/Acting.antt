@@ -21,38 +21,38 @@ use Rattle.msrp_plan.specs.declared.units.Op.TheVariants.{Run as RunUnit, Lock a
 use Rattle.msrp_plan.specs.declared.units.Phase.{Phase}
 use Rattle.msrp_plan.specs.declared.units.Phase.TheVariants.{Free, Queued, Holding}
 use Rattle.msrp_stack.specs.Stack.{StackModel, StartedJob, HasRoom, IsInnermost, with_held, without_held, without_first}
-use Rattle.msrp_core.specs.Going.{Going, going_of, advanced, done_in, is_newest, is_waiting_phase, is_holding_phase, state_in, HoldSo, AreGoing}
-use Rattle.msrp_core.specs.CoreJobs.{going_in, state_of, AreJobs, IsRunning, CanAct, Acts, IsNextUnit, DoesNext}
+use Rattle.msrp_core.specs.Active.{ActiveJob, active_of, advanced, done_in, is_newest, is_waiting_phase, is_holding_phase, state_in, HoldSo, AreActive}
+use Rattle.msrp_core.specs.CoreJobs.{active_in, state_of, AreJobs, IsRunning, CanAct, Acts, IsNextUnit, DoesNext}
 use Rattle.msrp_core.specs.declared.jobs.Jobs.{Jobs}
 use Rattle.msrp_core.proofs.Running.{begun, begun_holds, running_done, running_queued}
-use Rattle.msrp_core.proofs.Steps.{CanUnlock, IsStep, advance_going, advance_states, grant_step, last_free, lock_room, lock_step, release_phase, release_step, request_room, take_step, unlock_room, unlock_step, work_step}
+use Rattle.msrp_core.proofs.Steps.{CanUnlock, IsStep, advance_active, advance_states, grant_step, last_free, lock_room, lock_step, release_phase, release_step, request_room, take_step, unlock_room, unlock_step, work_step}
 
 -- ---- the newest with one resource more, and without the innermost
-abbrev pub kept_with : ℕ → List Going → List Going
+abbrev pub kept_with : ℕ → List ActiveJob → List ActiveJob
 kept_with g [] = []
 kept_with g (s ∷ below) = record s { held = g ∷ s.held } ∷ below
 
-abbrev pub kept_less : List Going → List Going
+abbrev pub kept_less : List ActiveJob → List ActiveJob
 kept_less [] = []
 kept_less (s ∷ below) = record s { held = without_first s.held } ∷ below
 
-pub going_with : (started : List StartedJob) (done : List ℕ) (g : ℕ) → going_of (with_held started g) done ≡ kept_with g (going_of started done)
-going_with [] done g = refl
-going_with (s ∷ started) [] g = refl
-going_with (s ∷ started) (n ∷ done) g = refl
+pub active_with : (started : List StartedJob) (done : List ℕ) (g : ℕ) → active_of (with_held started g) done ≡ kept_with g (active_of started done)
+active_with [] done g = refl
+active_with (s ∷ started) [] g = refl
+active_with (s ∷ started) (n ∷ done) g = refl
 
-pub going_less : (started : List StartedJob) (done : List ℕ) → going_of (without_held started) done ≡ kept_less (going_of started done)
-going_less [] done = refl
-going_less (s ∷ started) [] = refl
-going_less (s ∷ started) (n ∷ done) = refl
+pub active_less : (started : List StartedJob) (done : List ℕ) → active_of (without_held started) done ≡ kept_less (active_of started done)
+active_less [] done = refl
+active_less (s ∷ started) [] = refl
+active_less (s ∷ started) (n ∷ done) = refl
 
 -- what the stack wants of its top
-pub room_of : (started : List StartedJob) (done : List ℕ) (s : Going) (below : List Going) (g : ℕ) → going_of started done ≡ s ∷ below → length s.held < 8 → list_any (nat_eq g) s.held ≡ false → HasRoom started 8 g
+pub room_of : (started : List StartedJob) (done : List ℕ) (s : ActiveJob) (below : List ActiveJob) (g : ℕ) → active_of started done ≡ s ∷ below → length s.held < 8 → list_any (nat_eq g) s.held ≡ false → HasRoom started 8 g
 room_of [] done s below g e few fresh = absurd (cc)
 room_of (x ∷ started) [] s below g e few fresh = absurd (cc)
 room_of (x ∷ started) (n ∷ done) s below g e few fresh = let h : x.held ≡ s.held = cc in (let l = ap length h in omega (arith, l, few), ap (list_any (nat_eq g)) h ∙ fresh)
 
-pub innermost_of : (started : List StartedJob) (done : List ℕ) (s : Going) (below : List Going) (g : ℕ) (rest : List ℕ) → going_of started done ≡ s ∷ below → s.held ≡ g ∷ rest → IsInnermost started g
+pub innermost_of : (started : List StartedJob) (done : List ℕ) (s : ActiveJob) (below : List ActiveJob) (g : ℕ) (rest : List ℕ) → active_of started done ≡ s ∷ below → s.held ≡ g ∷ rest → IsInnermost started g
 innermost_of [] done s below g rest e held = absurd (cc)
 innermost_of (x ∷ started) [] s below g rest e held = absurd (cc)
 innermost_of (x ∷ started) (n ∷ done) s below g rest e held = let h : x.held ≡ s.held = cc in (rest, h ∙ held)
@@ -63,44 +63,44 @@ module _ (jobs : Jobs) (job : JobId) (op : Op) (can : CanAct jobs job op) where
   unit_at = ap (λ j. slice_get (units jobs.plan.now j) can.newest.done) can.same ∙ can.unit
 
   pub holds_at : HoldSo jobs.plan.now jobs.phase (can.newest ∷ can.below)
-  holds_at = subst (HoldSo jobs.plan.now jobs.phase) can.going can.jobs_fit.are.holds
+  holds_at = subst (HoldSo jobs.plan.now jobs.phase) can.active can.jobs_fit.are.holds
 
-  pub going_at : AreGoing jobs.plan.now jobs.core.0 jobs.ready.taken jobs.phase (can.newest ∷ can.below)
-  going_at = subst (AreGoing jobs.plan.now jobs.core.0 jobs.ready.taken jobs.phase) can.going can.jobs_fit.are
+  pub active_at : AreActive jobs.plan.now jobs.core.0 jobs.ready.taken jobs.phase (can.newest ∷ can.below)
+  active_at = subst (AreActive jobs.plan.now jobs.core.0 jobs.ready.taken jobs.phase) can.active can.jobs_fit.are
 
   -- where the stack's newest holds one resource more, and where it holds all but the innermost
-  pub going_locked : (m : StackModel) (g : ℕ) → m ≡ record jobs.stack { started = with_held jobs.stack.started g } → going_of m.started (reverse jobs.done.items) ≡ record can.newest { held = g ∷ can.newest.held } ∷ can.below
-  going_locked m g e = ap (λ (n : StackModel). going_of n.started (reverse jobs.done.items)) e ∙ (going_with jobs.stack.started (reverse jobs.done.items) g ∙ ap (kept_with g) can.going)
+  pub active_locked : (m : StackModel) (g : ℕ) → m ≡ record jobs.stack { started = with_held jobs.stack.started g } → active_of m.started (reverse jobs.done.items) ≡ record can.newest { held = g ∷ can.newest.held } ∷ can.below
+  active_locked m g e = ap (λ (n : StackModel). active_of n.started (reverse jobs.done.items)) e ∙ (active_with jobs.stack.started (reverse jobs.done.items) g ∙ ap (kept_with g) can.active)
 
-  pub going_unlocked : (m : StackModel) (g : ℕ) (rest : List ℕ) → m ≡ record jobs.stack { started = without_held jobs.stack.started } → can.newest.held ≡ g ∷ rest → going_of m.started (reverse jobs.done.items) ≡ record can.newest { held = rest } ∷ can.below
-  going_unlocked m g rest e held = ap (λ (n : StackModel). going_of n.started (reverse jobs.done.items)) e ∙ (going_less jobs.stack.started (reverse jobs.done.items) ∙ (ap kept_less can.going ∙ ap (λ hs. record can.newest { held = without_first hs } ∷ can.below) held))
+  pub active_unlocked : (m : StackModel) (g : ℕ) (rest : List ℕ) → m ≡ record jobs.stack { started = without_held jobs.stack.started } → can.newest.held ≡ g ∷ rest → active_of m.started (reverse jobs.done.items) ≡ record can.newest { held = rest } ∷ can.below
+  active_unlocked m g rest e held = ap (λ (n : StackModel). active_of n.started (reverse jobs.done.items)) e ∙ (active_less jobs.stack.started (reverse jobs.done.items) ∙ (ap kept_less can.active ∙ ap (λ hs. record can.newest { held = without_first hs } ∷ can.below) held))
 
   -- the newest, with what it holds now, is still the running job
-  pub still_running : (mid : Jobs) (held : List ℕ) → going_in mid ≡ record can.newest { held = held } ∷ can.below → IsRunning mid job
-  still_running mid held e = record { newest = record can.newest { held = held }; below = can.below; going = e; same = can.same }
+  pub still_running : (mid : Jobs) (held : List ℕ) → active_in mid ≡ record can.newest { held = held } ∷ can.below → IsRunning mid job
+  still_running mid held e = record { newest = record can.newest { held = held }; below = can.below; active = e; same = can.same }
 
 -- ---- the running job in its action
 -- a unit of the running job changes the stack to m and the phase to q, with which it holds so much
 pub record IsActing (jobs : Jobs) (job : JobId) (op : Op) (can : CanAct jobs job op) (q : Phase) (m : StackModel) (held : List ℕ) : Type 0 where
   pub step : IsStep jobs.plan.now can.newest can.below q held
-  pub going : going_of m.started (reverse jobs.done.items) ≡ record can.newest { held = held } ∷ can.below
+  pub active : active_of m.started (reverse jobs.done.items) ≡ record can.newest { held = held } ∷ can.below
   pub same_plan : m.plan ≡ jobs.stack.plan
   pub same_core : m.core ≡ jobs.stack.core
 
 -- its last unit leaves it with nothing
 pub last_by : (jobs : Jobs) (job : JobId) (op : Op) (can : CanAct jobs job op) (q : Phase) (m : StackModel) (held : List ℕ) → IsActing jobs job op can q m held
-    → (s : Going) (below : List Going) → going_of m.started (reverse jobs.done.items) ≡ s ∷ below → s.done + 1 ≡ length (units jobs.plan.now job) → s.held ≡ []
+    → (s : ActiveJob) (below : List ActiveJob) → active_of m.started (reverse jobs.done.items) ≡ s ∷ below → s.done + 1 ≡ length (units jobs.plan.now job) → s.held ≡ []
 last_by jobs job op can q m held acting s below k last =
-    let both : record can.newest { held = held } ∷ can.below ≡ s ∷ below = sym acting.going ∙ k in
+    let both : record can.newest { held = held } ∷ can.below ≡ s ∷ below = sym acting.active ∙ k in
     let h : s.held ≡ held = cc in
     let d : can.newest.done ≡ s.done = cc in
-    h ∙ last_free jobs.plan.now can.jobs_fit.accepted jobs.core.0 jobs.ready.taken can.newest can.below jobs.phase (going_at jobs job op can) q held acting.step (ap (λ n. n + 1) d ∙ (last ∙ sym (ap (λ j. length (units jobs.plan.now j)) can.same)))
+    h ∙ last_free jobs.plan.now can.jobs_fit.accepted jobs.core.0 jobs.ready.taken can.newest can.below jobs.phase (active_at jobs job op can) q held acting.step (ap (λ n. n + 1) d ∙ (last ∙ sym (ap (λ j. length (units jobs.plan.now j)) can.same)))
 
 -- a unit of work, a lock and an unlock of a local resource
 pub working : (jobs : Jobs) (job : JobId) (can : CanAct jobs job RunUnit) → IsActing jobs job RunUnit can jobs.phase jobs.stack can.newest.held
 working jobs job can = record {
   step = work_step jobs.plan.now can.jobs_fit.accepted can.newest can.below jobs.phase (holds_at jobs job RunUnit can) (unit_at jobs job RunUnit can);
-  going = can.going;
+  active = can.active;
   same_plan = refl;
   same_core = refl;
 }
@@ -110,7 +110,7 @@ locked_by : (jobs : Jobs) (job : JobId) (res : ResId) (can : CanAct jobs job (Lo
     → IsStep jobs.plan.now can.newest can.below q (res.0 ∷ can.newest.held) → IsActing jobs job (LockUnit res) can q m (res.0 ∷ can.newest.held)
 locked_by jobs job res can q m e step = record {
   step = step;
-  going = going_locked jobs job (LockUnit res) can m res.0 e;
+  active = active_locked jobs job (LockUnit res) can m res.0 e;
   same_plan = ap (λ (n : StackModel). n.plan) e;
   same_core = ap (λ (n : StackModel). n.core) e;
 }
@@ -128,7 +128,7 @@ module _ (jobs : Jobs) (job : JobId) (res : ResId) (can : CanAct jobs job (LockU
 pub granting : (jobs : Jobs) (job : JobId) (res : ResId) (can : CanAct jobs job (LockUnit res)) → jobs.phase ≡ Queued res → IsActing jobs job (LockUnit res) can (Holding res) jobs.stack can.newest.held
 granting jobs job res can awaits = record {
   step = grant_step jobs.plan.now can.jobs_fit.accepted can.newest can.below res (subst (λ p. HoldSo jobs.plan.now p (can.newest ∷ can.below)) awaits (holds_at jobs job (LockUnit res) can));
-  going = can.going;
+  active = can.active;
   same_plan = refl;
   same_core = refl;
 }
@@ -137,12 +137,12 @@ granting jobs job res can awaits = record {
 pub lock_fits : (jobs : Jobs) (job : JobId) (res : ResId) (can : CanAct jobs job (LockUnit res)) → is_global jobs.plan.now res.0 ≡ false → HasRoom jobs.stack.started 8 res.0
 lock_fits jobs job res can local =
     let room = lock_room jobs.plan.now can.jobs_fit.accepted can.newest can.below jobs.phase res (holds_at jobs job (LockUnit res) can) (unit_at jobs job (LockUnit res) can) local in
-    room_of jobs.stack.started (reverse jobs.done.items) can.newest can.below res.0 can.going room.few room.fresh
+    room_of jobs.stack.started (reverse jobs.done.items) can.newest can.below res.0 can.active room.few room.fresh
 
 pub request_fits : (jobs : Jobs) (job : JobId) (res : ResId) (can : CanAct jobs job (LockUnit res)) → jobs.phase ≡ Free → HasRoom jobs.stack.started 8 res.0
 request_fits jobs job res can free =
     let room = request_room jobs.plan.now can.jobs_fit.accepted can.newest can.below res (subst (λ p. HoldSo jobs.plan.now p (can.newest ∷ can.below)) free (holds_at jobs job (LockUnit res) can)) (unit_at jobs job (LockUnit res) can) in
-    room_of jobs.stack.started (reverse jobs.done.items) can.newest can.below res.0 can.going room.few room.fresh
+    room_of jobs.stack.started (reverse jobs.done.items) can.newest can.below res.0 can.active room.few room.fresh
 
 -- ---- an unlock
 module _ (jobs : Jobs) (job : JobId) (res : ResId) (can : CanAct jobs job (UnlockUnit res)) where
@@ -150,12 +150,12 @@ module _ (jobs : Jobs) (job : JobId) (res : ResId) (can : CanAct jobs job (Unloc
   unlocks = unlock_room jobs.plan.now can.jobs_fit.accepted can.newest can.below jobs.phase res (holds_at jobs job (UnlockUnit res) can) (unit_at jobs job (UnlockUnit res) can)
 
   pub is_innermost : IsInnermost jobs.stack.started res.0
-  is_innermost = innermost_of jobs.stack.started (reverse jobs.done.items) can.newest can.below res.0 unlocks.rest can.going unlocks.held
+  is_innermost = innermost_of jobs.stack.started (reverse jobs.done.items) can.newest can.below res.0 unlocks.rest can.active unlocks.held
 
   unlocked_by : (q : Phase) (m : StackModel) → m ≡ record jobs.stack { started = without_held jobs.stack.started } → IsStep jobs.plan.now can.newest can.below q unlocks.rest → IsActing jobs job (UnlockUnit res) can q m unlocks.rest
   unlocked_by q m e step = record {
     step = step;
-    going = going_unlocked jobs job (UnlockUnit res) can m res.0 unlocks.rest e unlocks.held;
+    active = active_unlocked jobs job (UnlockUnit res) can m res.0 unlocks.rest e unlocks.held;
     same_plan = ap (λ (n : StackModel). n.plan) e;
     same_core = ap (λ (n : StackModel). n.core) e;
   }
@@ -184,8 +184,8 @@ pub record IsRow (r : Row) (tick : ℕ) (jobs : Jobs) (job : JobId) (k : Kind) (
   pub kind_is : r.kind ≡ k
   pub res_is : r.res ≡ res
 
--- the jobs after the action, with these going
-pub record IsLeft (old new : Jobs) (q : Phase) (going : List Going) : Type 0 where
+-- the jobs after the action, with these active
+pub record IsLeft (old new : Jobs) (q : Phase) (active : List ActiveJob) : Type 0 where
   pub plan_is : new.plan ≡ old.plan
   pub levels_is : new.levels ≡ old.levels
   pub core_is : new.core ≡ old.core
@@ -195,12 +195,12 @@ pub record IsLeft (old new : Jobs) (q : Phase) (going : List Going) : Type 0 whe
   pub stack_core : new.stack.core ≡ old.stack.core
   pub size : length new.stack.started ≡ length new.done.items
   pub room : vec_capacity new.done ≡ vec_capacity old.done
-  pub going_is : going_in new ≡ going
+  pub active_is : active_in new ≡ active
 
 -- as `advance` leaves them
-pub left_by : (old new : Jobs) (q : Phase) (m : StackModel) (going : List Going) → m.plan ≡ old.stack.plan → m.core ≡ old.stack.core → new ≡ record old { phase = q; stack = new.stack; done = new.done }
-    → new.stack.plan ≡ m.plan → new.stack.core ≡ m.core → length new.stack.started ≡ length new.done.items → vec_capacity new.done ≡ vec_capacity old.done → going_in new ≡ going → IsLeft old new q going
-left_by old new q m going mp mc others np nc size room e = record {
+pub left_by : (old new : Jobs) (q : Phase) (m : StackModel) (active : List ActiveJob) → m.plan ≡ old.stack.plan → m.core ≡ old.stack.core → new ≡ record old { phase = q; stack = new.stack; done = new.done }
+    → new.stack.plan ≡ m.plan → new.stack.core ≡ m.core → length new.stack.started ≡ length new.done.items → vec_capacity new.done ≡ vec_capacity old.done → active_in new ≡ active → IsLeft old new q active
+left_by old new q m active mp mc others np nc size room e = record {
   plan_is = ap (λ (j : Jobs). j.plan) others;
   levels_is = ap (λ (j : Jobs). j.levels) others;
   core_is = ap (λ (j : Jobs). j.core) others;
@@ -210,12 +210,12 @@ left_by old new q m going mp mc others np nc size room e = record {
   stack_core = nc ∙ mc;
   size = size;
   room = room;
-  going_is = e;
+  active_is = e;
 }
 
 -- such jobs fit together
-left_fits : (old new : Jobs) (q : Phase) (going : List Going) → AreJobs old → AreGoing old.plan.now old.core.0 old.ready.taken q going → IsLeft old new q going → AreJobs new
-left_fits old new q going fit are l =
+left_fits : (old new : Jobs) (q : Phase) (active : List ActiveJob) → AreJobs old → AreActive old.plan.now old.core.0 old.ready.taken q active → IsLeft old new q active → AreJobs new
+left_fits old new q active fit are l =
     let plan = ap (λ p. p.now) l.plan_is in
     record {
       accepted = subst IsPlan (sym plan) fit.accepted;
@@ -227,19 +227,19 @@ left_fits old new q going fit are l =
       size = l.size;
       room = subst (λ p. length (jobs_on p new.core.0) ≤ vec_capacity new.done) (sym plan) (subst (λ (c : CoreId). length (jobs_on old.plan.now c.0) ≤ vec_capacity new.done) (sym l.core_is) (let r = fit.room in let e = l.room in omega (arith, r, e)));
       are =
-          subst (λ p. AreGoing p new.core.0 new.ready.taken new.phase (going_in new)) (sym plan)
-          (subst (λ (c : CoreId). AreGoing old.plan.now c.0 new.ready.taken new.phase (going_in new)) (sym l.core_is)
-          (subst (λ (m : ReadyModel). AreGoing old.plan.now old.core.0 m.taken new.phase (going_in new)) (sym l.ready_is)
-          (subst (λ p. AreGoing old.plan.now old.core.0 old.ready.taken p (going_in new)) (sym l.phase_is) (subst (AreGoing old.plan.now old.core.0 old.ready.taken q) (sym l.going_is) are))));
+          subst (λ p. AreActive p new.core.0 new.ready.taken new.phase (active_in new)) (sym plan)
+          (subst (λ (c : CoreId). AreActive old.plan.now c.0 new.ready.taken new.phase (active_in new)) (sym l.core_is)
+          (subst (λ (m : ReadyModel). AreActive old.plan.now old.core.0 m.taken new.phase (active_in new)) (sym l.ready_is)
+          (subst (λ p. AreActive old.plan.now old.core.0 old.ready.taken p (active_in new)) (sym l.phase_is) (subst (AreActive old.plan.now old.core.0 old.ready.taken q) (sym l.active_is) are))));
     }
 
 -- and their states are told by what is left
-left_states : (old new : Jobs) (q : Phase) (going : List Going) (j : JobId) → IsLeft old new q going → state_of new j ≡ state_in old.plan.now old.ready.taken q going j
-left_states old new q going j l =
-    ap (λ p. state_in p new.ready.taken new.phase (going_in new) j) (ap (λ p. p.now) l.plan_is)
-    ∙ (ap (λ (m : ReadyModel). state_in old.plan.now m.taken new.phase (going_in new) j) l.ready_is
-    ∙ (ap (λ p. state_in old.plan.now old.ready.taken p (going_in new) j) l.phase_is
-    ∙ ap (λ g. state_in old.plan.now old.ready.taken q g j) l.going_is))
+left_states : (old new : Jobs) (q : Phase) (active : List ActiveJob) (j : JobId) → IsLeft old new q active → state_of new j ≡ state_in old.plan.now old.ready.taken q active j
+left_states old new q active j l =
+    ap (λ p. state_in p new.ready.taken new.phase (active_in new) j) (ap (λ p. p.now) l.plan_is)
+    ∙ (ap (λ (m : ReadyModel). state_in old.plan.now m.taken new.phase (active_in new) j) l.ready_is
+    ∙ (ap (λ p. state_in old.plan.now old.ready.taken p (active_in new) j) l.phase_is
+    ∙ ap (λ g. state_in old.plan.now old.ready.taken q g j) l.active_is))
 
 -- what a unit or a wait needs to be an action
 module _ (old new : Jobs) (job : JobId) (op : Op) (tick : ℕ) (r : Row) (q : Phase) (k : Kind) (res : Option ResId) (can : CanAct old job op) (row : IsRow r tick old job k res)
@@ -247,18 +247,18 @@ module _ (old new : Jobs) (job : JobId) (op : Op) (tick : ℕ) (r : Row) (q : Ph
   row_job_is : r.job ≡ Some can.newest.job
   row_job_is = row.job_is ∙ ap (λ j. Some j) (sym can.same)
 
-  action_at : (s : Going) (below : List Going) → going_in old ≡ s ∷ below → does_unit_after old.plan.now job (is_waiting_phase old.phase) s.done r ≡ true
+  action_at : (s : ActiveJob) (below : List ActiveJob) → active_in old ≡ s ∷ below → does_unit_after old.plan.now job (is_waiting_phase old.phase) s.done r ≡ true
   action_at s below e =
-      let both : can.newest ∷ can.below ≡ s ∷ below = sym can.going ∙ e in
+      let both : can.newest ∷ can.below ≡ s ∷ below = sym can.active ∙ e in
       let d : s.done ≡ can.newest.done = cc in
       ap (λ n. does_unit old.plan.now (is_waiting_phase old.phase) r (slice_get (units old.plan.now job) n)) d ∙ (ap (does_unit old.plan.now (is_waiting_phase old.phase) r) can.unit ∙ does)
 
   phase_at : new.phase ≡ q → new.phase ≡ phase_with old.phase r.kind r.res
   phase_at e = e ∙ (phase ∙ (ap (λ x. phase_with old.phase x res) (sym row.kind_is) ∙ ap (phase_with old.phase r.kind) (sym row.res_is)))
 
-  acts_by : (going : List Going) → AreGoing old.plan.now old.core.0 old.ready.taken q going → IsLeft old new q going → ((j : JobId) → state_in old.plan.now old.ready.taken q going j ≡ state_with r (state_in old.plan.now old.ready.taken old.phase (can.newest ∷ can.below) j)) → Acts old new job tick r
-  acts_by going are left states = record {
-    jobs_fit = left_fits old new q going can.jobs_fit are left;
+  acts_by : (active : List ActiveJob) → AreActive old.plan.now old.core.0 old.ready.taken q active → IsLeft old new q active → ((j : JobId) → state_in old.plan.now old.ready.taken q active j ≡ state_with r (state_in old.plan.now old.ready.taken old.phase (can.newest ∷ can.below) j)) → Acts old new job tick r
+  acts_by active are left states = record {
+    jobs_fit = left_fits old new q active can.jobs_fit are left;
     plan = ap (λ p. p.now) left.plan_is;
     core = left.core_is;
     ready = left.ready_is;
@@ -266,7 +266,7 @@ module _ (old new : Jobs) (job : JobId) (op : Op) (tick : ℕ) (r : Row) (q : Ph
     row_core = row.core_is;
     row_job = row.job_is;
     action = action_at;
-    states = λ j. left_states old new q going j left ∙ (states j ∙ ap (λ g. state_with r (state_in old.plan.now old.ready.taken old.phase g j)) (sym can.going));
+    states = λ j. left_states old new q active j left ∙ (states j ∙ ap (λ g. state_with r (state_in old.plan.now old.ready.taken old.phase g j)) (sym can.active));
     phase = phase_at left.phase_is;
   }
 
@@ -274,12 +274,12 @@ module _ (old new : Jobs) (job : JobId) (op : Op) (tick : ℕ) (r : Row) (q : Ph
   pub acts_unit : (held : List ℕ) → IsStep old.plan.now can.newest can.below q held → is_waiting k ≡ false → IsLeft old new q (advanced old.plan.now (record can.newest { held = held } ∷ can.below)) → Acts old new job tick r
   acts_unit held step acts left =
       acts_by (advanced old.plan.now (record can.newest { held = held } ∷ can.below))
-      (advance_going old.plan.now can.jobs_fit.accepted old.core.0 old.ready.taken can.newest can.below old.phase (going_at old job op can) q held step) left
-      (advance_states old.plan.now can.jobs_fit.accepted old.core.0 old.ready.taken can.newest can.below old.phase (going_at old job op can) q held r row_job_is (ap is_waiting row.kind_is ∙ acts) step.calm)
+      (advance_active old.plan.now can.jobs_fit.accepted old.core.0 old.ready.taken can.newest can.below old.phase (active_at old job op can) q held step) left
+      (advance_states old.plan.now can.jobs_fit.accepted old.core.0 old.ready.taken can.newest can.below old.phase (active_at old job op can) q held r row_job_is (ap is_waiting row.kind_is ∙ acts) step.calm)
 
 -- the jobs as `advance` leaves them, from these
 pub record IsAdvanced (mid new : Jobs) : Type 0 where
-  pub going : going_in new ≡ advanced mid.plan.now (going_in mid)
+  pub active : active_in new ≡ advanced mid.plan.now (active_in mid)
   pub size : length new.stack.started ≡ length new.done.items
   pub room : vec_capacity new.done ≡ vec_capacity mid.done
   pub stack_plan : new.stack.plan ≡ mid.stack.plan
@@ -291,7 +291,7 @@ pub unit_acts : (old new : Jobs) (job : JobId) (op : Op) (tick : ℕ) (r : Row) 
     → IsActing old job op can q m held → IsAdvanced (record old { phase = q; stack = m }) new → IsRow r tick new job k res
     → same_res res (res_of_unit op) ≡ true → allows (is_global_unit old.plan.now op) (is_waiting_phase old.phase) op k ≡ true → q ≡ phase_with old.phase k res → is_waiting k ≡ false → Acts old new job tick r
 unit_acts old new job op tick r q k res m held can acting done row same may phase acts =
-    let left = left_by old new q m (advanced old.plan.now (record can.newest { held = held } ∷ can.below)) acting.same_plan acting.same_core done.others done.stack_plan done.stack_core done.size done.room (done.going ∙ ap (advanced old.plan.now) acting.going) in
+    let left = left_by old new q m (advanced old.plan.now (record can.newest { held = held } ∷ can.below)) acting.same_plan acting.same_core done.others done.stack_plan done.stack_core done.size done.room (done.active ∙ ap (advanced old.plan.now) acting.active) in
     acts_unit old new job op tick r q k res can (record { tick_is = row.tick_is; core_is = row.core_is ∙ ap (λ (j : Jobs). j.core) done.others; job_is = row.job_is; kind_is = row.kind_is; res_is = row.res_is })
     (does_by old.plan.now (is_waiting_phase old.phase) r op k res row.res_is row.kind_is same may) phase held acting.step acts left
 
@@ -300,14 +300,14 @@ pub holding_self : (r : ResId) → is_holding_phase r (Holding r) ≡ true
 holding_self r = eq-eqb r.0 r.0 refl
 
 -- what the core awaits is a global resource
-pub waiting_global : (plan : PlanModel) (p : Phase) (s : Going) (below : List Going) (r : ResId) → p ≡ Queued r → HoldSo plan p (s ∷ below) → is_global plan r.0 ≡ true
+pub waiting_global : (plan : PlanModel) (p : Phase) (s : ActiveJob) (below : List ActiveJob) (r : ResId) → p ≡ Queued r → HoldSo plan p (s ∷ below) → is_global plan r.0 ≡ true
 waiting_global plan p s below r e h = (subst (λ p. HoldSo plan p (s ∷ below)) e h).0.global
 
 -- ---- the next unit of a job
 -- of the running job
 pub next_unit : (jobs : Jobs) (job : JobId) (op : Op) → CanAct jobs job op → IsNextUnit jobs job op
 next_unit jobs job op can =
-    let run : IsRunning jobs job = record { newest = can.newest; below = can.below; going = can.going; same = can.same } in
+    let run : IsRunning jobs job = record { newest = can.newest; below = can.below; active = can.active; same = can.same } in
     record {
       accepted = can.jobs_fit.accepted;
       levels = can.jobs_fit.levels;
@@ -326,12 +326,12 @@ first_unit jobs job op fit fresh free unit = record {
   accepted = fit.accepted;
   levels = fit.levels;
   newest = begun job;
-  below = going_in jobs;
+  below = active_in jobs;
   same = refl;
   holds = begun_holds jobs job fit free;
   unit = unit;
-  queued = ap (λ p. is_waiting_phase p && is_newest (going_in jobs) job) free ∙ sym (ap is_waiting_phase free);
-  done = ap (λ b. cond b (done_in jobs.plan.now (going_in jobs) job) 0) fresh;
+  queued = ap (λ p. is_waiting_phase p && is_newest (active_in jobs) job) free ∙ sym (ap is_waiting_phase free);
+  done = ap (λ b. cond b (done_in jobs.plan.now (active_in jobs) job) 0) fresh;
 }
 
 module _ (jobs : Jobs) (job : JobId) (op : Op) (next : IsNextUnit jobs job op) where

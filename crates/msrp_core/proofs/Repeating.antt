@@ -24,13 +24,13 @@ use Rattle.msrp_plan.proofs.Legality.SameRow.{parts, same_row}
 use Rattle.msrp_plan.proofs.Lists.AnyAll.{any_in}
 use Rattle.msrp_plan.proofs.Scheduling.Stretches.{stays_again, turns_by_states}
 use Rattle.msrp_ready.specs.Ready.{ReadyModel, has_come, is_due}
-use Rattle.msrp_core.specs.Going.{advanced, is_waiting_phase}
-use Rattle.msrp_core.specs.CoreJobs.{going_in, state_of, AreJobs, AreToldBy, IsRunning, CanAct, ActsFor, IsSamePlace, started_with}
+use Rattle.msrp_core.specs.Active.{advanced, is_waiting_phase}
+use Rattle.msrp_core.specs.CoreJobs.{active_in, state_of, AreJobs, AreToldBy, IsRunning, CanAct, ActsFor, IsSamePlace, started_with}
 use Rattle.msrp_core.specs.Machine.{RepeatsOnly, StandsAfter}
 use Rattle.msrp_core.specs.MachineView.{machine_view, Repeats, IsMachineView}
 use Rattle.msrp_core.specs.Repeats.{CanRepeat, HasWorkLeft, kind_again, row_again}
 use Rattle.msrp_core.specs.declared.jobs.Jobs.{Jobs}
-use Rattle.msrp_core.specs.declared.machines.Machine.TheInside.{Inside}
+use Rattle.msrp_core.specs.declared.machine.Machine.TheInside.{Inside}
 use Rattle.msrp_core.proofs.Acting.{working}
 use Rattle.msrp_core.proofs.Choices.{at_in}
 use Rattle.msrp_core.proofs.Running.{running_done, running_known, running_queued, running_states}
@@ -86,8 +86,8 @@ can_kind jobs kind None k can = can
 can_kind jobs kind (Some j) k can = can.0
 
 -- ---- one unit of work more, of those that the job has left
-pub work_left : (old new : Jobs) (job : JobId) (k : ℕ) → HasWorkLeft old job (k + 1) → going_in new ≡ advanced old.plan.now (going_in old) → new.plan.now ≡ old.plan.now → HasWorkLeft new job k
-work_left old new job k has going plan =
+pub work_left : (old new : Jobs) (job : JobId) (k : ℕ) → HasWorkLeft old job (k + 1) → active_in new ≡ advanced old.plan.now (active_in old) → new.plan.now ≡ old.plan.now → HasWorkLeft new job k
+work_left old new job k has active plan =
     let s = has.running.newest in
     let off : (s.done + 1 == length (units old.plan.now s.job)) ≡ false = false_from_ne_true _ (λ t.
     let e = eqb-true _ _ t in
@@ -98,7 +98,7 @@ work_left old new job k has going plan =
       running = record {
         newest = record s { done = s.done + 1 };
         below = has.running.below;
-        going = going ∙ (ap (advanced old.plan.now) has.running.going ∙ ap (λ b. cond b has.running.below (record s { done = s.done + 1 } ∷ has.running.below)) off);
+        active = active ∙ (ap (advanced old.plan.now) has.running.active ∙ ap (λ b. cond b has.running.below (record s { done = s.done + 1 } ∷ has.running.below)) off);
         same = has.running.same;
       };
       work = subst (λ p. (i : ℕ) → s.done + 1 ≤ i → i < s.done + 1 + k → slice_get (units p job) i ≡ Some Run) (sym plan) (λ i a b. has.work i (omega (arith, a)) (omega (arith, b)));
@@ -115,7 +115,7 @@ next_work jobs job k l fit has = record {
   jobs_fit = fit;
   newest = has.running.newest;
   below = has.running.below;
-  going = has.running.going;
+  active = has.running.active;
   same = has.running.same;
   unit = has.work has.running.newest.done (omega arith) (omega (arith, l));
 }

@@ -1,4 +1,4 @@
--- The going jobs of a core after one action of the newest.
+-- The active jobs of a core after one action of the newest.
 use Rattle.std.proofs.Common.{◌≡◌, ℕ, ◌+◌, ◌<◌, ◌==◌, ◌⊎◌, Bool, true, false, cond, not, nat_eq, ◌&&◌, ◌||◌, List, [], ◌∷◌, Option, Some, refl, ap, sym, ◌∙◌, subst, arith, length, take, slice_get, inl, inr}
 use Rattle.std.specs.List.{list_any}
 use Rattle.std.proofs.Math.Bool.{true≢false, or-true, and-false}
@@ -21,12 +21,12 @@ use Rattle.msrp_plan.proofs.Jobs.JobLists.{core_jobs_below}
 use Rattle.msrp_plan.proofs.TaskUnits.PlanUnits.{units_lock, units_flat}
 use Rattle.msrp_plan.proofs.TaskUnits.UnitCounts.{held_unlock}
 use Rattle.msrp_ready.specs.Ready.{is_among}
-use Rattle.msrp_core.specs.Going.{Going, done_in, is_waiting_phase, is_newest, state_in, advanced, AreLocal, HoldsSo, HoldSo, AreGoing, is_holding_phase}
+use Rattle.msrp_core.specs.Active.{ActiveJob, done_in, is_waiting_phase, is_newest, state_in, advanced, AreLocal, HoldsSo, HoldSo, AreActive, is_holding_phase}
 use Rattle.msrp_core.proofs.HeldUnits.{held_test, next_held, locked, unlocked, whole_free}
 use Rattle.msrp_core.proofs.Choices.{at_in, others_done}
 
 -- an action of the newest that is one unit, after which it holds these, and the core holds or awaits that
-pub record IsStep (plan : PlanModel) (s : Going) (below : List Going) (after : Phase) (held : List ℕ) : Type 0 where
+pub record IsStep (plan : PlanModel) (s : ActiveJob) (below : List ActiveJob) (after : Phase) (held : List ℕ) : Type 0 where
   pub now : held_after (take (s.done + 1) (units plan s.job)) ≡ Some held
   pub calm : is_waiting_phase after ≡ false
   pub holds : HoldSo plan after (record s { held = held; done = s.done + 1 } ∷ below)
@@ -61,7 +61,7 @@ no_lock_of_run a o e h = let k : Some (Lock a) ≡ Some Run = sym e ∙ h in cc
 pub clash : {P : Type 0} (b : Bool) → b ≡ true → b ≡ false → P
 clash b t f = absurd (true≢false (sym t ∙ f))
 
-module _ (plan : PlanModel) (ok : IsPlan plan) (s : Going) (below : List Going) where
+module _ (plan : PlanModel) (ok : IsPlan plan) (s : ActiveJob) (below : List ActiveJob) where
   -- ---- a unit of work
   pub work_step : (p : Phase) → HoldSo plan p (s ∷ below) → slice_get (units plan s.job) s.done ≡ Some Run → IsStep plan s below p s.held
   work_step Free h at =
@@ -242,8 +242,8 @@ module _ (plan : PlanModel) (ok : IsPlan plan) (s : Going) (below : List Going) 
         );
       }
 
--- ---- the going jobs after a unit
-module _ (plan : PlanModel) (ok : IsPlan plan) (c : ℕ) (taken : List JobId) (s : Going) (below : List Going) (p : Phase) (are : AreGoing plan c taken p (s ∷ below)) where
+-- ---- the active jobs after a unit
+module _ (plan : PlanModel) (ok : IsPlan plan) (c : ℕ) (taken : List JobId) (s : ActiveJob) (below : List ActiveJob) (p : Phase) (are : AreActive plan c taken p (s ∷ below)) where
   -- who has done its last unit holds nothing
   pub last_free : (q : Phase) (held : List ℕ) → IsStep plan s below q held → s.done + 1 ≡ length (units plan s.job) → held ≡ []
   last_free q held step last =
@@ -255,7 +255,7 @@ module _ (plan : PlanModel) (ok : IsPlan plan) (c : ℕ) (taken : List JobId) (s
   holds_after_last (Queued g) held none calm h = absurd (true≢false calm)
   holds_after_last (Holding g) held none calm h = absurd (true≢false (sym h.0.has ∙ ap (list_any (nat_eq g.0)) none))
 
-  advance_cases : (q : Phase) (held : List ℕ) (b : Bool) → (s.done + 1 == length (units plan s.job)) ≡ b → IsStep plan s below q held → AreGoing plan c taken q (cond b below (record s { held = held; done = s.done + 1 } ∷ below))
+  advance_cases : (q : Phase) (held : List ℕ) (b : Bool) → (s.done + 1 == length (units plan s.job)) ≡ b → IsStep plan s below q held → AreActive plan c taken q (cond b below (record s { held = held; done = s.done + 1 } ∷ below))
   advance_cases q held true last step = record {
     each = are.each.1;
     apart = are.apart.1;
@@ -267,8 +267,8 @@ module _ (plan : PlanModel) (ok : IsPlan plan) (c : ℕ) (taken : List JobId) (s
     holds = step.holds;
   }
 
-  pub advance_going : (q : Phase) (held : List ℕ) → IsStep plan s below q held → AreGoing plan c taken q (advanced plan (record s { held = held } ∷ below))
-  advance_going q held step = advance_cases q held (s.done + 1 == length (units plan s.job)) refl step
+  pub advance_active : (q : Phase) (held : List ℕ) → IsStep plan s below q held → AreActive plan c taken q (advanced plan (record s { held = held } ∷ below))
+  advance_active q held step = advance_cases q held (s.done + 1 == length (units plan s.job)) refl step
 
   -- ---- how far the jobs are then
   same_swap : (i j : JobId) → same_job i j ≡ same_job j i

@@ -21,7 +21,7 @@ use Rattle.msrp_plan.specs.declared.units.Phase.TheVariants.{Free}
 use Rattle.msrp_plan.proofs.Jobs.States.{state_push}
 use Rattle.msrp_plan.proofs.Jobs.JobTests.{same_self}
 use Rattle.msrp_plan.proofs.Lists.AnyAll.{any_in}
-use Rattle.msrp_core.specs.Going.{is_waiting_phase}
+use Rattle.msrp_core.specs.Active.{is_waiting_phase}
 use Rattle.msrp_core.specs.CoreJobs.{state_of, AreJobs, AreToldBy, IsRunning, IsSamePlace, ActsFor, IsTurnOf, started_with}
 use Rattle.msrp_core.specs.declared.jobs.Jobs.{Jobs}
 use Rattle.msrp_core.proofs.Choices.{at_in}
@@ -155,7 +155,7 @@ module _ (old mid : Jobs) (fit : AreJobs mid) (same : IsSamePlace old mid) where
         action =
             ap (λ b. does_unit_after old.plan.now job b (state_of old job).done r) (sym (ap (λ (s : JobState). s.queued) (states job)) ∙ running_queued mid job run)
             ∙ (ap (λ n. does_unit_after old.plan.now job (is_waiting_phase mid.phase) n r) (sym (ap (λ (s : JobState). s.done) (states job)) ∙ running_done mid job fit run)
-            ∙ (ap (λ p. does_unit_after p job (is_waiting_phase mid.phase) run.newest.done r) (sym plan_before) ∙ acts.action run.newest run.below run.going));
+            ∙ (ap (λ p. does_unit_after p job (is_waiting_phase mid.phase) run.newest.done r) (sym plan_before) ∙ acts.action run.newest run.below run.active));
       }
 
 -- the row of whoever is chosen is the core's next

@@ -14,15 +14,15 @@ use Rattle.msrp_plan.specs.declared.rows.Kind.TheVariants.{Idle}
 use Rattle.msrp_plan.specs.declared.rows.Row.{Row}
 use Rattle.msrp_plan.specs.declared.units.Op.{Op}
 use Rattle.msrp_core.specs.Ports.{PortModel, claim_in}
-use Rattle.msrp_core.specs.Going.{Going, going_of, state_in, is_waiting_phase, HoldSo, AreGoing}
+use Rattle.msrp_core.specs.Active.{ActiveJob, active_of, state_in, is_waiting_phase, HoldSo, AreActive}
 use Rattle.msrp_core.specs.declared.jobs.Jobs.{Jobs}
 
--- the going jobs, the newest first
-abbrev pub going_in : Jobs → List Going
-going_in jobs = going_of jobs.stack.started (reverse jobs.done.items)
+-- the active jobs, the newest first
+abbrev pub active_in : Jobs → List ActiveJob
+active_in jobs = active_of jobs.stack.started (reverse jobs.done.items)
 
 abbrev pub state_of : Jobs → JobId → JobState
-state_of jobs j = state_in jobs.plan.now jobs.ready.taken jobs.phase (going_in jobs) j
+state_of jobs j = state_in jobs.plan.now jobs.ready.taken jobs.phase (active_in jobs) j
 
 -- what is stored of the jobs of a core fits together, with room for all of them
 pub record AreJobs (jobs : Jobs) : Type 0 where
@@ -34,7 +34,7 @@ pub record AreJobs (jobs : Jobs) : Type 0 where
   pub stack_core : jobs.stack.core ≡ jobs.core.0
   pub size : length jobs.stack.started ≡ length jobs.done.items
   pub room : length (jobs_on jobs.plan.now jobs.core.0) ≤ vec_capacity jobs.done
-  pub are : AreGoing jobs.plan.now jobs.core.0 jobs.ready.taken jobs.phase (going_in jobs)
+  pub are : AreActive jobs.plan.now jobs.core.0 jobs.ready.taken jobs.phase (active_in jobs)
 
 -- it is preferred to who runs: its level is above the ceiling, and it comes first
 abbrev pub is_preferred : PlanModel → ℕ → JobId → Option JobId → Bool
@@ -60,19 +60,19 @@ pub record IsSameStack (old new : Jobs) : Type 0 where
   pub plan : new.stack.plan ≡ old.stack.plan
   pub core : new.stack.core ≡ old.stack.core
 
--- the job is the newest of those that are going
+-- the job is the newest of those that are active
 pub record IsRunning (jobs : Jobs) (job : JobId) : Type 0 where
-  pub newest : Going
-  pub below : List Going
-  pub going : going_in jobs ≡ newest ∷ below
+  pub newest : ActiveJob
+  pub below : List ActiveJob
+  pub active : active_in jobs ≡ newest ∷ below
   pub same : newest.job ≡ job
 
 -- and this is its next unit
 pub record CanAct (jobs : Jobs) (job : JobId) (op : Op) : Type 0 where
   pub jobs_fit : AreJobs jobs
-  pub newest : Going
-  pub below : List Going
-  pub going : going_in jobs ≡ newest ∷ below
+  pub newest : ActiveJob
+  pub below : List ActiveJob
+  pub active : active_in jobs ≡ newest ∷ below
   pub same : newest.job ≡ job
   pub unit : slice_get (units jobs.plan.now job) newest.done ≡ Some op
 
@@ -92,7 +92,7 @@ pub record Acts (old new : Jobs) (job : JobId) (tick : ℕ) (r : Row) : Type 0 w
   pub row_tick : r.tick ≡ tick
   pub row_core : r.core ≡ old.core
   pub row_job : r.job ≡ Some job
-  pub action : (s : Going) (below : List Going) → going_in old ≡ s ∷ below → does_unit_after old.plan.now job (is_waiting_phase old.phase) s.done r ≡ true
+  pub action : (s : ActiveJob) (below : List ActiveJob) → active_in old ≡ s ∷ below → does_unit_after old.plan.now job (is_waiting_phase old.phase) s.done r ≡ true
   pub states : (j : JobId) → state_of new j ≡ state_with r (state_of old j)
   pub phase : new.phase ≡ phase_with old.phase r.kind r.res
 
@@ -109,12 +109,12 @@ abbrev pub ActsFor : Jobs → Jobs → Option JobId → ℕ → Row → Type 0
 ActsFor old new None tick r = Idles old new tick r
 ActsFor old new (Some job) tick r = Acts old new job tick r
 
--- this is the job's next unit; it is then the newest that is going, with so much held and so many units done
+-- this is the job's next unit; it is then the newest that is active, with so much held and so many units done
 pub record IsNextUnit (jobs : Jobs) (job : JobId) (op : Op) : Type 0 where
   pub accepted : IsPlan jobs.plan.now
   pub levels : jobs.levels.now ≡ jobs.plan.now
-  pub newest : Going
-  pub below : List Going
+  pub newest : ActiveJob
+  pub below : List ActiveJob
   pub same : newest.job ≡ job
   pub holds : HoldSo jobs.plan.now jobs.phase (newest ∷ below)
   pub unit : slice_get (units jobs.plan.now job) newest.done ≡ Some op

@@ -1,5 +1,5 @@
 pub mod Ports
-pub mod Going
+pub mod Active
 pub mod CoreJobs
 pub mod Machine
 pub mod Repeats

@@ -8,7 +8,7 @@ use Rattle.msrp_ready.specs.Ready.{is_due}
 use Rattle.msrp_core.specs.Machine.{MachineModel, StandsAfter}
 use Rattle.msrp_core.specs.CoreJobs.{AreJobs, state_of}
 use Rattle.msrp_core.specs.Repeats.{CanRepeat, row_again}
-use Rattle.msrp_core.specs.declared.machines.Machine.TheInside.{Inside}
+use Rattle.msrp_core.specs.declared.machine.Machine.TheInside.{Inside}
 
 abbrev pub machine_view : Inside → MachineModel
 machine_view m =

@@ -10,7 +10,7 @@ ghost use Rattle.msrp_plan.specs.Shape.{has_shape};
 ghost use Rattle.msrp_plan.specs.declared.ids.ResId.{ResId as Resource};
 ghost use Rattle.msrp_plan.specs.declared.rows.Row.{Row as TraceRow};
 ghost use Rattle.msrp_ready.specs.Ready.{is_among};
-ghost use Rattle.msrp_core.specs.Going.{is_holding_phase, is_waiting_phase};
+ghost use Rattle.msrp_core.specs.Active.{is_holding_phase, is_waiting_phase};
 ghost use Rattle.msrp_core.specs.Ports.{claim_in, IsQuiet, MakesCall};
 ghost use Rattle.msrp_core.specs.CoreJobs.{Acts, ActsFor, AreJobs, AreToldBy, CanAct, CanCall, DoesNext, IsNextUnit, IsRunning, IsTurnOf};
 
@@ -315,7 +315,7 @@ impl<'a> Jobs<'a> {
         }
     }
 
-    // That of a job's first unit, as it starts, apart from the code of the ticks in which none does.
+    // The row of a job's first unit, as it starts, apart from the code of the ticks in which none does.
     #[inline(never)]
     fn first_row(&self, tick: u32, job: JobId) -> Row
         requires jobs { AreJobs self.now }
@@ -327,7 +327,7 @@ impl<'a> Jobs<'a> {
         self.unit_row(tick, job, self.plan.unit(job.task, 0))
     }
 
-    // That of the next unit of who runs, and an idle row where nobody does.
+    // The row of the next unit of who runs, and an idle row where nobody does.
     #[inline(always)]
     fn row_of(&self, tick: u32, running: Option<JobId>) -> Row
         requires jobs { AreJobs self.now }

@@ -10,9 +10,9 @@ ghost use Rattle.msrp_plan.specs.declared.ids.JobId.{JobId as Job};
 ghost use Rattle.msrp_plan.specs.declared.rows.Row.{Row as TraceRow};
 ghost use Rattle.msrp_ready.specs.Ready.{head, is_among};
 ghost use Rattle.msrp_stack.specs.Stack.{current_ceiling, newest, top};
-ghost use Rattle.msrp_core.specs.Going.{Going, advanced, state_in};
+ghost use Rattle.msrp_core.specs.Active.{ActiveJob, advanced, state_in};
 ghost use Rattle.msrp_core.specs.CoreStates.{IsCoreState};
-ghost use Rattle.msrp_core.specs.CoreJobs.{AreJobs, AreToldBy, CanAct, IsRunning, IsSamePlace, IsSameStack, going_in, is_preferred, started_with, state_of};
+ghost use Rattle.msrp_core.specs.CoreJobs.{AreJobs, AreToldBy, CanAct, IsRunning, IsSamePlace, IsSameStack, active_in, is_preferred, started_with, state_of};
 
 use crate::states::CoreState;
 use msrp_levels::Levels;
@@ -149,7 +149,7 @@ impl<'a> Jobs<'a> {
     // How many units the newest job has done.
     pub(crate) fn progress(&self) -> u32
         requires { 0 < length self.now.done.items }
-        ensures { (s : Going) (below : List Going) → going_in self.now ≡ s ∷ below → result ≡ s.done }
+        ensures { (s : ActiveJob) (below : List ActiveJob) → active_in self.now ≡ s ∷ below → result ≡ s.done }
     {
         self.done[self.done.len() - 1]
     }
@@ -186,9 +186,9 @@ impl<'a> Jobs<'a> {
         requires running { IsRunning self.old job }
         requires size { length self.old.stack.started ≡ length self.old.done.items }
         requires known { job.task.0 < length self.old.plan.now.tasks }
-        requires done { (s : Going) (below : List Going) → going_in self.old ≡ s ∷ below → s.done < length (units self.old.plan.now job) }
-        requires last { (s : Going) (below : List Going) → going_in self.old ≡ s ∷ below → s.done + 1 ≡ length (units self.old.plan.now job) → s.held ≡ [] }
-        ensures going { going_in self.new ≡ advanced self.old.plan.now (going_in self.old) }
+        requires done { (s : ActiveJob) (below : List ActiveJob) → active_in self.old ≡ s ∷ below → s.done < length (units self.old.plan.now job) }
+        requires last { (s : ActiveJob) (below : List ActiveJob) → active_in self.old ≡ s ∷ below → s.done + 1 ≡ length (units self.old.plan.now job) → s.held ≡ [] }
+        ensures active { active_in self.new ≡ advanced self.old.plan.now (active_in self.old) }
         ensures size { length self.new.stack.started ≡ length self.new.done.items }
         ensures room { vec_capacity self.new.done ≡ vec_capacity self.old.done }
         ensures stack { IsSameStack self.old self.new }

@@ -6,11 +6,11 @@
 
 mod actions;
 mod jobs;
-mod machines;
+mod machine;
 mod port;
 mod repeats;
 mod states;
 
-pub use machines::Machine;
+pub use machine::Machine;
 pub use port::{Port, PortCall, Reply};
 pub use states::CoreState;

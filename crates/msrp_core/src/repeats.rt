@@ -4,8 +4,8 @@ ghost use Rattle.std.specs.Option.{ForSome};
 ghost use Rattle.msrp_plan.specs.Plan.{units};
 ghost use Rattle.msrp_plan.specs.Stretches.{HasWork};
 ghost use Rattle.msrp_ready.specs.Ready.{is_due};
-ghost use Rattle.msrp_core.specs.Going.{Going, advanced};
-ghost use Rattle.msrp_core.specs.CoreJobs.{ActsFor, AreJobs, CanAct, Acts, IsRunning, going_in};
+ghost use Rattle.msrp_core.specs.Active.{ActiveJob, advanced};
+ghost use Rattle.msrp_core.specs.CoreJobs.{ActsFor, AreJobs, CanAct, Acts, IsRunning, active_in};
 ghost use Rattle.msrp_core.specs.Repeats.{CanRepeat, HasWorkLeft, kind_again};
 
 use crate::actions::{idle_row, row_on};
@@ -58,8 +58,8 @@ impl<'a> Jobs<'a> {
     fn count(&mut self, job: JobId)
         requires running { IsRunning self.old job }
         requires jobs { AreJobs self.old }
-        requires more { (s : Going) (below : List Going) → going_in self.old ≡ s ∷ below → s.done + 1 < length (units self.old.plan.now job) }
-        ensures going { going_in self.new ≡ advanced self.old.plan.now (going_in self.old) }
+        requires more { (s : ActiveJob) (below : List ActiveJob) → active_in self.old ≡ s ∷ below → s.done + 1 < length (units self.old.plan.now job) }
+        ensures active { active_in self.new ≡ advanced self.old.plan.now (active_in self.old) }
         ensures size { length self.new.stack.started ≡ length self.new.done.items }
         ensures room { vec_capacity self.new.done ≡ vec_capacity self.old.done }
         ensures stack { self.new.stack ≡ self.old.stack }
@@ -73,7 +73,7 @@ impl<'a> Jobs<'a> {
     // A unit of work that isn't the last one of the running job.
     fn work_on(&mut self, tick: u32, job: JobId) -> Row
         requires can { CanAct self.old job Op.Run }
-        requires more { (s : Going) (below : List Going) → going_in self.old ≡ s ∷ below → s.done + 1 < length (units self.old.plan.now job) }
+        requires more { (s : ActiveJob) (below : List ActiveJob) → active_in self.old ≡ s ∷ below → s.done + 1 < length (units self.old.plan.now job) }
         ensures acts { Acts self.old self.new job tick result }
         ensures res { result.res ≡ None }
         ensures kind { result.kind ≡ Kind.Run }

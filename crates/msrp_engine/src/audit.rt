@@ -118,7 +118,10 @@ pub fn add_verdict<W: Write>(out: &mut Sink<W>, found: Result<(), Fault>)
 }
 
 /// Writes a verdict, and answers its status.
-pub fn write_verdict<W: Write>(out: &mut Sink<W>, found: Result<(), Fault>) -> Result<u8, CliFault>
+pub(crate) fn write_verdict<W: Write>(
+    out: &mut Sink<W>,
+    found: Result<(), Fault>,
+) -> Result<u8, CliFault>
     ensures { TellsVerdict W.contents found out.old out.new result }
 {
     add_verdict(out, found);

@@ -118,7 +118,7 @@ fn gathered(alloc: Global, plan: &Plan) -> Result<Vec<u8>, CliFault>
     Ok(text.into_inner())
 }
 
-// That of the plan that a source's text stands for.
+// The text of the levels and ceilings of the plan that a source's text stands for.
 fn text_of_source<P: Read>(alloc: Global, plan: &mut Source<P>) -> Result<Vec<u8>, CliFault>
     ensures text { (bytes : List ℕ) → source_remaining P.remaining plan.old ≡ Some bytes → IfOk result (λ text. IsTextOf check_text (plan_of (csv_records bytes)) text.items) }
     ensures refused { (bytes : List ℕ) → source_remaining P.remaining plan.old ≡ Some bytes → IfErr result (λ fault. (fault ≡ CliFault.Read) ⊎ (fault ≡ CliFault.Memory) ⊎ WhyNoText (plan_of (csv_records bytes)) fault) }

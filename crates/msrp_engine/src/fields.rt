@@ -7,7 +7,7 @@ use msrp_plan::bytes::Sink;
 use std::io::Write;
 
 /// A field that is not the first of its record.
-pub fn next_field<W: Write>(out: &mut Sink<W>, text: &[u8])
+pub(crate) fn next_field<W: Write>(out: &mut Sink<W>, text: &[u8])
     ensures { Wrote W.contents out.old out.new (codes "," ++ text.now) }
 {
     out.add(b",");
@@ -15,7 +15,7 @@ pub fn next_field<W: Write>(out: &mut Sink<W>, text: &[u8])
 }
 
 /// A number as a field that is not the first of its record.
-pub fn next_number<W: Write>(out: &mut Sink<W>, number: u32)
+pub(crate) fn next_number<W: Write>(out: &mut Sink<W>, number: u32)
     ensures { Wrote W.contents out.old out.new (codes "," ++ decimal number) }
 {
     let mut digits = Buffer::new();

@@ -113,11 +113,7 @@ fn made_of(alloc: Global, plan: &Plan, report: &Report) -> Result<Made, CliFault
 }
 
 // The text of the report of a trace of an accepted plan, and the verdict on it. Of rows that are no legal run there is no text.
-fn report_made<T: Read>(
-    alloc: Global,
-    plan: &Plan,
-    trace: &mut Source<T>,
-) -> Result<Made, CliFault>
+fn report_made<T: Read>(alloc: Global, plan: &Plan, trace: &mut Source<T>) -> Result<Made, CliFault>
     ensures found { (bytes : List ℕ) → source_remaining T.remaining trace.old ≡ Some bytes
         → (result ≡ Err CliFault.Read) ⊎ (result ≡ Err CliFault.Memory) ⊎ IsReported plan.now (rows_of plan.now (csv_records bytes)) result }
     ensures faults { IfErr result (λ fault. is_trace_fault fault ≡ true) }

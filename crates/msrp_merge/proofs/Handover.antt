@@ -9,8 +9,8 @@ use Rattle.msrp_plan.proofs.Runs.CoreRuns.{core_run}
 use Rattle.msrp_plan.proofs.Runs.Verdicts.{good_is_run}
 use Rattle.msrp_board.proofs.BrokenBoards.{no_others}
 use Rattle.msrp_board.specs.Boards.{entries_at}
-use Rattle.msrp_board.specs.Books.{on, IsChain}
-use Rattle.msrp_board.specs.History.{Event, by, calls, PollsInOrder, IsNotLater, IsServed}
+use Rattle.msrp_board.specs.Books.{on_resource, IsChain}
+use Rattle.msrp_board.specs.History.{Event, by_core, calls, PollsInOrder, IsNotLater, IsServed}
 use Rattle.msrp_board.specs.Words.{ticket_word}
 use Rattle.msrp_merge.specs.Handover.{logs, books, history}
 use Rattle.msrp_merge.specs.Merging.{log_at, turns_of, AreLogs}
@@ -56,7 +56,7 @@ logs_fit = record {
 two_cores : AllByRecursion (λ (s : Event). s.0 < 2) history
 two_cores = (omega arith, (omega arith, (omega arith, (omega arith, (omega arith, (omega arith, (omega arith, tt)))))))
 
-entries_are : (c : ℕ) → by c history ≡ on 0 (entries_at books c)
+entries_are : (c : ℕ) → by_core c history ≡ on_resource 0 (entries_at books c)
 entries_are zero = refl
 entries_are (suc zero) = refl
 entries_are (suc (suc c)) = no_others history (suc (suc c)) two_cores (omega arith)

@@ -12,7 +12,7 @@ use Rattle.msrp_plan.specs.Queues.{is_on}
 use Rattle.msrp_plan.specs.declared.ids.ResId.{ResId}
 use Rattle.msrp_plan.proofs.Lists.AnyAll.{all_weaker, all_both}
 use Rattle.msrp_board.specs.declared.books.Entry.{Entry}
-use Rattle.msrp_board.specs.Books.{on, IsChain}
+use Rattle.msrp_board.specs.Books.{on_resource, IsChain}
 use Rattle.msrp_board.specs.History.{Event, is_poll, IsNotLater, IsHistory}
 use Rattle.msrp_board.proofs.Unique.{Lex, step_of, Before, Sorted as SortedEvents, sorted_history}
 use Rattle.msrp_merge.specs.declared.logs.Place.{Place}
@@ -146,9 +146,9 @@ one_core g x z s t a b order stands =
     values_meet s.1.tick t.1.tick s.1.res.0 t.1.res.0 s.1.place t.1.place (core_of x) (core_of z) (is_poll s.1.call) (is_poll t.1.call) (a.pair.on ∙ sym b.pair.on) o6 stands.0 later
 
 -- what a core did on g, by its turns and by its book
-own_steps : (g c : ℕ) (turns : List Turn) (entries : List Entry) → Paired IsTurnOf (filter has_place (filter (is_by c) turns)) entries → Paired (IsTurnOn g) (filter (is_by c) (filter (is_step_on g) turns)) (on g entries)
+own_steps : (g c : ℕ) (turns : List Turn) (entries : List Entry) → Paired IsTurnOf (filter has_place (filter (is_by c) turns)) entries → Paired (IsTurnOn g) (filter (is_by c) (filter (is_step_on g) turns)) (on_resource g entries)
 own_steps g c turns entries fits =
-    subst (λ l. Paired (IsTurnOn g) l (on g entries)) (sym (filters_swap (is_by c) has_place (λ x. is_on g x.row.res) turns))
+    subst (λ l. Paired (IsTurnOn g) l (on_resource g entries)) (sym (filters_swap (is_by c) has_place (λ x. is_on g x.row.res) turns))
     (paired_filter IsTurnOf (IsTurnOn g) (λ x. is_on g x.row.res) (λ e. e.res.0 == g) (λ x e h. ap (is_on g) h.row.resource) (λ x e h o. record { step = h; on = eqb-true e.res.0 g o }) (filter has_place (filter (is_by c) turns)) entries fits)
 
 -- the turns on g are its history

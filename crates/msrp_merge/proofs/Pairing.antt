@@ -2,7 +2,7 @@
 use Rattle.std.proofs.Common.{◌≡◌, ◌≢◌, ℕ, ◌==◌, Bool, true, false, cond, ◌&&◌, List, [], ◌∷◌, refl, ap, sym, ◌∙◌, subst, inl, inr, eq-eqb, ne_eqb}
 use Rattle.std.specs.List.{AllByRecursion, filter}
 use Rattle.std.proofs.lemmas.Bool.{cases_eq}
-use Rattle.msrp_board.specs.History.{by}
+use Rattle.msrp_board.specs.History.{by_core}
 use Rattle.msrp_merge.specs.Order.{Sorted}
 use Rattle.msrp_merge.specs.Pairs.{Paired}
 
@@ -54,11 +54,11 @@ module _ {X Y : Type 0} (R S : X → Y → Type 0) where
 abbrev keyed : {X : Type 0} → (X → ℕ) → ℕ → X → Bool
 keyed key c x = key x == c
 
-by_same : {Y : Type 0} (c : ℕ) (s : ℕ × Y) (h : List (ℕ × Y)) → s.0 ≡ c → by c (s ∷ h) ≡ s.1 ∷ by c h
-by_same c s h e = ap (λ b. cond b (s.1 ∷ by c h) (by c h)) (eq-eqb s.0 c e)
+by_same : {Y : Type 0} (c : ℕ) (s : ℕ × Y) (h : List (ℕ × Y)) → s.0 ≡ c → by_core c (s ∷ h) ≡ s.1 ∷ by_core c h
+by_same c s h e = ap (λ b. cond b (s.1 ∷ by_core c h) (by_core c h)) (eq-eqb s.0 c e)
 
-by_other : {Y : Type 0} (c : ℕ) (s : ℕ × Y) (h : List (ℕ × Y)) → s.0 ≢ c → by c (s ∷ h) ≡ by c h
-by_other c s h n = ap (λ b. cond b (s.1 ∷ by c h) (by c h)) (ne_eqb s.0 c n)
+by_other : {Y : Type 0} (c : ℕ) (s : ℕ × Y) (h : List (ℕ × Y)) → s.0 ≢ c → by_core c (s ∷ h) ≡ by_core c h
+by_other c s h n = ap (λ b. cond b (s.1 ∷ by_core c h) (by_core c h)) (ne_eqb s.0 c n)
 
 kept_same : {X : Type 0} (key : X → ℕ) (c : ℕ) (x : X) (xs : List X) → key x ≡ c → filter (keyed key c) (x ∷ xs) ≡ x ∷ filter (keyed key c) xs
 kept_same key c x xs e = ap (λ b. cond b (x ∷ filter (keyed key c) xs) (filter (keyed key c) xs)) (eq-eqb (key x) c e)
@@ -73,7 +73,7 @@ module _ {X Y : Type 0} (key : X → ℕ) (R : X → Y → Type 0) where
     pub pair : R x s.1
 
   -- one of the events that belongs to x, and of which P holds, as it does of all
-  first_event : (P : ℕ × Y → Type 0) (c : ℕ) (x : X) (xs : List X) (h : List (ℕ × Y)) → AllByRecursion P h → Paired R (x ∷ xs) (by c h) → (y : Y) × R x y × P (c, y)
+  first_event : (P : ℕ × Y → Type 0) (c : ℕ) (x : X) (xs : List X) (h : List (ℕ × Y)) → AllByRecursion P h → Paired R (x ∷ xs) (by_core c h) → (y : Y) × R x y × P (c, y)
   first_event P c x xs [] all pairs = absurd pairs
   first_event P c x xs (s ∷ h) all pairs = elim (cases_eq s.0 c) [
     | inl e ↦ (s.1, (subst (Paired R (x ∷ xs)) (by_same c s h e) pairs).0, subst (λ d. P (d, s.1)) e all.0)
@@ -90,25 +90,25 @@ module _ {X Y : Type 0} (key : X → ℕ) (R : X → Y → Type 0) where
 
   module _ (RX : X → X → Type 0) (RY : ℕ × Y → ℕ × Y → Type 0) (one : (x z : X) (s t : ℕ × Y) → Match x s → Match z t → RX x z → RY t s → key x ≡ key z) where
     -- the rest, where the first belong together
-    rest_paired : (x : X) (xs : List X) (s : ℕ × Y) (h : List (ℕ × Y)) → s.0 ≡ key x → ((c : ℕ) → Paired R (filter (keyed key c) (x ∷ xs)) (by c (s ∷ h))) → (c : ℕ) → Paired R (filter (keyed key c) xs) (by c h)
+    rest_paired : (x : X) (xs : List X) (s : ℕ × Y) (h : List (ℕ × Y)) → s.0 ≡ key x → ((c : ℕ) → Paired R (filter (keyed key c) (x ∷ xs)) (by_core c (s ∷ h))) → (c : ℕ) → Paired R (filter (keyed key c) xs) (by_core c h)
     rest_paired x xs s h e pairs c = elim (cases_eq (key x) c) [
-      | inl k ↦ (subst (Paired R (x ∷ filter (keyed key c) xs)) (by_same c s h (e ∙ k)) (subst (λ l. Paired R l (by c (s ∷ h))) (kept_same key c x xs k) (pairs c))).1
-      | inr n ↦ subst (Paired R (filter (keyed key c) xs)) (by_other c s h (λ k. n (sym e ∙ k))) (subst (λ l. Paired R l (by c (s ∷ h))) (kept_other key c x xs n) (pairs c))
+      | inl k ↦ (subst (Paired R (x ∷ filter (keyed key c) xs)) (by_same c s h (e ∙ k)) (subst (λ l. Paired R l (by_core c (s ∷ h))) (kept_same key c x xs k) (pairs c))).1
+      | inr n ↦ subst (Paired R (filter (keyed key c) xs)) (by_other c s h (λ k. n (sym e ∙ k))) (subst (λ l. Paired R l (by_core c (s ∷ h))) (kept_other key c x xs n) (pairs c))
     ]
 
     -- two lists that belong together under each number, and both stand in order, belong together
-    pub paired_whole : (xs : List X) (h : List (ℕ × Y)) → ((c : ℕ) → Paired R (filter (keyed key c) xs) (by c h)) → Sorted RX xs → Sorted RY h → Paired Match xs h
+    pub paired_whole : (xs : List X) (h : List (ℕ × Y)) → ((c : ℕ) → Paired R (filter (keyed key c) xs) (by_core c h)) → Sorted RX xs → Sorted RY h → Paired Match xs h
     paired_whole [] [] pairs a b = tt
     paired_whole [] (s ∷ h) pairs a b = absurd (subst (Paired R []) (by_same s.0 s h refl) (pairs s.0))
     paired_whole (x ∷ xs) [] pairs a b = absurd (subst (λ l. Paired R l []) (kept_same key (key x) x xs refl) (pairs (key x)))
     paired_whole (x ∷ xs) (s ∷ h) pairs a b = elim (cases_eq s.0 (key x)) [
       | inl e ↦
-          let both : Paired R (x ∷ filter (keyed key (key x)) xs) (s.1 ∷ by (key x) h) = subst (Paired R (x ∷ filter (keyed key (key x)) xs)) (by_same (key x) s h e) (subst (λ l. Paired R l (by (key x) (s ∷ h))) (kept_same key (key x) x xs refl) (pairs (key x))) in
+          let both : Paired R (x ∷ filter (keyed key (key x)) xs) (s.1 ∷ by_core (key x) h) = subst (Paired R (x ∷ filter (keyed key (key x)) xs)) (by_same (key x) s h e) (subst (λ l. Paired R l (by_core (key x) (s ∷ h))) (kept_same key (key x) x xs refl) (pairs (key x))) in
           (record { number = sym e; pair = both.0 }, paired_whole xs h (rest_paired x xs s h e pairs) a.1 b.1)
       | inr n ↦
-          let mine : Paired R (x ∷ filter (keyed key (key x)) xs) (by (key x) h) = subst (Paired R (x ∷ filter (keyed key (key x)) xs)) (by_other (key x) s h n) (subst (λ l. Paired R l (by (key x) (s ∷ h))) (kept_same key (key x) x xs refl) (pairs (key x))) in
-          let its : Paired R (filter (keyed key s.0) xs) (s.1 ∷ by s.0 h) = subst (Paired R (filter (keyed key s.0) xs)) (by_same s.0 s h refl) (subst (λ l. Paired R l (by s.0 (s ∷ h))) (kept_other key s.0 x xs (λ k. n (sym k))) (pairs s.0)) in
+          let mine : Paired R (x ∷ filter (keyed key (key x)) xs) (by_core (key x) h) = subst (Paired R (x ∷ filter (keyed key (key x)) xs)) (by_other (key x) s h n) (subst (λ l. Paired R l (by_core (key x) (s ∷ h))) (kept_same key (key x) x xs refl) (pairs (key x))) in
+          let its : Paired R (filter (keyed key s.0) xs) (s.1 ∷ by_core s.0 h) = subst (Paired R (filter (keyed key s.0) xs)) (by_same s.0 s h refl) (subst (λ l. Paired R l (by_core s.0 (s ∷ h))) (kept_other key s.0 x xs (λ k. n (sym k))) (pairs s.0)) in
           let f = first_event (RY s) (key x) x (filter (keyed key (key x)) xs) h b.0 mine in
-          let g = first_element (RX x) s.0 s.1 (by s.0 h) xs a.0 its in
+          let g = first_element (RX x) s.0 s.1 (by_core s.0 h) xs a.0 its in
           absurd (n (sym (one x g.0 (key x, f.0) s (record { number = refl; pair = f.1 }) (record { number = g.1; pair = g.2 }) g.3 f.2 ∙ g.1)))
     ]

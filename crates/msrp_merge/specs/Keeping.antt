@@ -74,7 +74,7 @@ turn_of core tick e = record {
   place = place_of_touch e.touch e.number;
 }
 
--- those of a core, tick by tick from this one on
+-- the turns of a core, tick by tick from this one on
 abbrev pub turns_from : ℕ → ℕ → List Kept → List Turn
 turns_from core tick [] = []
 turns_from core tick (e ∷ kept) = turn_of core tick e ∷ turns_from core (suc tick) kept

@@ -79,7 +79,7 @@ words_class (Level c n) = codes "level"
 words_class CeilingLane = codes "level"
 words_class _ = codes "label"
 
--- those of a tick stand where it begins, and the others to the left of the lanes
+-- words of a tick stand where it begins, and the others to the left of the lanes
 abbrev pub words_left : Window → Words → ℕ
 words_left w (Tick t) = left_of w t
 words_left w (Broken rule t) = left_of w t

@@ -13,8 +13,8 @@ use Rattle.msrp_picture.specs.Standings.{standings}
 use Rattle.msrp_picture.specs.Windows.{rows_between}
 use Rattle.msrp_picture.specs.declared.cells.Aspect.{Aspect}
 use Rattle.msrp_picture.specs.declared.cells.Aspect.TheVariants.{Who, What}
-use Rattle.msrp_picture.specs.declared.lines.Line.{Line}
-use Rattle.msrp_picture.specs.declared.lines.Line.TheVariants.{Ticks, Core, Mark, Events, Queue}
+use Rattle.msrp_picture.specs.declared.lines.PictureLine.{PictureLine}
+use Rattle.msrp_picture.specs.declared.lines.PictureLine.TheVariants.{Ticks, Core, Mark, Events, Queue}
 use Rattle.msrp_picture.specs.declared.windows.TheConstants.{LINE_TICKS}
 use Rattle.msrp_picture.specs.declared.windows.Window.{Window}
 
@@ -25,18 +25,18 @@ broken_on plan rows None w c = None
 broken_on plan rows (Some r) w c = if is_of c r && goes_on_in plan rows w then Some r else None
 
 -- such a core has a line more for the mark, right below its rows
-abbrev pub core_lines : PlanModel → List Row → Option Row → Window → ℕ → List Line
+abbrev pub core_lines : PlanModel → List Row → Option Row → Window → ℕ → List PictureLine
 core_lines plan rows broken w c =
     Core (record { 0 = c }) Who ∷ Core (record { 0 = c }) What ∷ ((if is_some (broken_on plan rows broken w c) then Mark (record { 0 = c }) ∷ [] else []) ++ (Events (record { 0 = c }) ∷ []))
 
-abbrev pub queue_lines : ℕ → List Line
+abbrev pub queue_lines : ℕ → List PictureLine
 queue_lines g = Queue (record { 0 = g }) Who ∷ Queue (record { 0 = g }) What ∷ []
 
 -- the global ones of the first n resources
 abbrev pub global_resources : PlanModel → ℕ → List ℕ
 global_resources plan n = filter (is_global plan) (range_with_len 0 n)
 
-abbrev pub lines_of : PlanModel → List Row → Option Row → Window → List Line
+abbrev pub lines_of : PlanModel → List Row → Option Row → Window → List PictureLine
 lines_of plan rows broken w = ((Ticks ∷ []) ++ flat_map (core_lines plan rows broken w) (range_with_len 0 plan.cores)) ++ flat_map queue_lines (global_resources plan (length plan.resources))
 
 -- ---- their cells
@@ -61,7 +61,7 @@ mark_cells rows = map (λ _. no_mark) (range_with_len 0 (length rows - 1)) ++ ma
 abbrev pub queue_cells : PlanModel → List Row → Window → ℕ → Aspect → List ℕ
 queue_cells plan rows w g aspect = map (standing_cell aspect) (standings plan rows w g)
 
-abbrev pub cells : PlanModel → List Row → Option Row → Window → Line → List ℕ
+abbrev pub cells : PlanModel → List Row → Option Row → Window → PictureLine → List ℕ
 cells plan rows broken w Ticks = tick_cells w
 cells plan rows broken w (Core c aspect) = row_cells aspect None (core_rows plan rows broken w c.0)
 cells plan rows broken w (Mark c) = mark_cells (core_rows plan rows broken w c.0)
@@ -69,7 +69,7 @@ cells plan rows broken w (Events c) = event_cells plan w c.0
 cells plan rows broken w (Queue g aspect) = queue_cells plan rows w g.0 aspect
 
 -- ---- their labels
-abbrev pub name_of : PlanModel → Line → List ℕ
+abbrev pub name_of : PlanModel → PictureLine → List ℕ
 name_of plan Ticks = codes "tick"
 name_of plan (Core c Who) = codes "core " ++ decimal c.0
 name_of plan (Core c What) = []

@@ -12,7 +12,7 @@ use Rattle.msrp_picture.specs.Cells.{letter}
 use Rattle.msrp_picture.specs.Lines.{cells, lines_of, name_of}
 use Rattle.msrp_picture.specs.Shown.{broken_row, legal_rows}
 use Rattle.msrp_picture.specs.Windows.{due_in, parts}
-use Rattle.msrp_picture.specs.declared.lines.Line.{Line}
+use Rattle.msrp_picture.specs.declared.lines.PictureLine.{PictureLine}
 use Rattle.msrp_picture.specs.declared.windows.TheConstants.{LINE_TICKS}
 use Rattle.msrp_picture.specs.declared.windows.Window.{Window}
 
@@ -49,7 +49,7 @@ abbrev pub label : List ℕ → List ℕ
 label name = name ++ drop (length name) spaces
 
 -- what stands of a line in this part
-unfoldable pub line_text : PlanModel → ℕ → Line → List ℕ → List ℕ
+unfoldable pub line_text : PlanModel → ℕ → PictureLine → List ℕ → List ℕ
 line_text plan i line cs = label (name_of plan line) ++ slice_range cs (i * LINE_TICKS) ((i + 1) * LINE_TICKS) ++ codes "\n"
 
 -- an empty line, and what stands of all lines

@@ -29,7 +29,7 @@ held_by room g t s (Some j) = lasting t (t + 1) room (First s.behind) s.first (S
 abbrev pub held : Room → ResId → ℕ → Standing → List Span
 held room g t s = held_by room g t s s.first
 
--- the same of each tick from one on
+-- the spans of a queue's standings, tick by tick from one on
 abbrev pub queue_spans : Room → ResId → ℕ → List Standing → List Span
 queue_spans room g from list = flat_map (λ i. held room g (from + i) (slice_index_or list i (standing_of []))) (range_with_len 0 (length list))
 

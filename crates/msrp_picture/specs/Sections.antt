@@ -71,6 +71,6 @@ section_at strip log i = first_section strip (open_behind (take i log)) (drop i 
 abbrev pub log_sections : Strip → List Row → List Shape
 log_sections strip log = flat_map (section_at strip log) (range_with_len 0 (length log))
 
--- those of a task's rows in its lane, where all rows end with a tick
+-- the sections of a task's rows in its lane, where all rows end with a tick
 abbrev pub sections : Window → Room → ℕ → List Row → List Shape
 sections w room end log = log_sections (record { window = w; top = room.top + SECTION_TOP; end = end; levels = most_open 0 log }) log

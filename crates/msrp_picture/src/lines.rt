@@ -18,7 +18,7 @@ use std::alloc::Global;
 
 /// A line of a picture.
 #[derive(Clone, Copy, Debug, PartialEq, Eq)]
-pub enum Line {
+pub enum PictureLine {
     /// The axis.
     Ticks,
     /// A core.
@@ -34,7 +34,7 @@ pub enum Line {
 /// A line with its cells, one for each tick that is drawn.
 #[derive(Drop)]
 pub(crate) struct Drawn {
-    pub(crate) line: Line,
+    pub(crate) line: PictureLine,
     pub(crate) cells: Vec<u8>,
 }
 
@@ -45,12 +45,12 @@ pub(crate) fn lines_of(
     levels: &Levels<'_>,
     shown: &Shown<'_>,
     window: Window,
-) -> Result<Vec<Line>, Memory>
+) -> Result<Vec<PictureLine>, Memory>
     requires { levels.now ≡ plan.now }
     ensures { IfOk result (λ lines. lines.items ≡ lines_of plan.now shown.now.rows.now shown.now.broken window) }
 {
     let mut lines = Vec::new(alloc);
-    lines.push(Line::Ticks)?;
+    lines.push(PictureLine::Ticks)?;
     push_cores(&mut lines, plan, shown, window)?;
     push_queues(&mut lines, plan, levels)?;
     Ok(lines)
@@ -68,7 +68,7 @@ fn broken_on(plan: &Plan, shown: &Shown<'_>, window: Window, core: CoreId) -> Op
 
 // The lines of a core.
 fn push_core(
-    lines: &mut Vec<Line>,
+    lines: &mut Vec<PictureLine>,
     plan: &Plan,
     shown: &Shown<'_>,
     window: Window,
@@ -76,18 +76,18 @@ fn push_core(
 ) -> Result<(), Memory>
     ensures { OnOk result (lines.new.items ≡ lines.old.items ++ core_lines plan.now shown.now.rows.now shown.now.broken window core.0) }
 {
-    lines.push(Line::Core(core, Aspect::Who))?;
-    lines.push(Line::Core(core, Aspect::What))?;
+    lines.push(PictureLine::Core(core, Aspect::Who))?;
+    lines.push(PictureLine::Core(core, Aspect::What))?;
     if broken_on(plan, shown, window, core).is_some() {
-        lines.push(Line::Mark(core))?;
+        lines.push(PictureLine::Mark(core))?;
     }
-    lines.push(Line::Events(core))?;
+    lines.push(PictureLine::Events(core))?;
     Ok(())
 }
 
 // The lines of the cores.
 fn push_cores(
-    lines: &mut Vec<Line>,
+    lines: &mut Vec<PictureLine>,
     plan: &Plan,
     shown: &Shown<'_>,
     window: Window,
@@ -101,14 +101,14 @@ fn push_cores(
 }
 
 // The lines of the global resources.
-fn push_queues(lines: &mut Vec<Line>, plan: &Plan, levels: &Levels<'_>) -> Result<(), Memory>
+fn push_queues(lines: &mut Vec<PictureLine>, plan: &Plan, levels: &Levels<'_>) -> Result<(), Memory>
     requires { levels.now ≡ plan.now }
     ensures { OnOk result (lines.new.items ≡ lines.old.items ++ flat_map queue_lines (global_resources plan.now (length plan.now.resources))) }
 {
     for res in 0..plan.resources() {
         if levels.is_global(ResId(res)) {
-            lines.push(Line::Queue(ResId(res), Aspect::Who))?;
-            lines.push(Line::Queue(ResId(res), Aspect::What))?;
+            lines.push(PictureLine::Queue(ResId(res), Aspect::Who))?;
+            lines.push(PictureLine::Queue(ResId(res), Aspect::What))?;
         }
     }
     Ok(())
@@ -202,19 +202,21 @@ pub(crate) fn cells_of(
     plan: &Plan,
     shown: &Shown<'_>,
     window: Window,
-    line: Line,
+    line: PictureLine,
 ) -> Result<Vec<u8>, Memory>
     requires { IsWindow window }
     ensures { IfOk result (λ found. found.items ≡ cells plan.now shown.now.rows.now shown.now.broken window line) }
 {
     match line {
-        Line::Ticks => tick_cells(alloc, window),
-        Line::Core(core, aspect) => {
+        PictureLine::Ticks => tick_cells(alloc, window),
+        PictureLine::Core(core, aspect) => {
             row_cells(alloc, &core_rows(alloc, plan, shown, core, window)?, aspect)
         }
-        Line::Mark(core) => mark_cells(alloc, &core_rows(alloc, plan, shown, core, window)?),
-        Line::Events(core) => event_cells(alloc, plan, window, core),
-        Line::Queue(res, aspect) => queue_cells(alloc, plan, shown.rows, res, aspect, window),
+        PictureLine::Mark(core) => mark_cells(alloc, &core_rows(alloc, plan, shown, core, window)?),
+        PictureLine::Events(core) => event_cells(alloc, plan, window, core),
+        PictureLine::Queue(res, aspect) => queue_cells(
+            alloc, plan, shown.rows, res, aspect, window,
+        ),
     }
 }
 
@@ -224,7 +226,7 @@ fn draw_line(
     plan: &Plan,
     shown: &Shown<'_>,
     window: Window,
-    line: Line,
+    line: PictureLine,
 ) -> Result<Drawn, Memory>
     requires { IsWindow window }
     ensures line { IfOk result (λ drawn. drawn.line ≡ line) }

@@ -7,7 +7,7 @@ ghost use Rattle.msrp_picture.specs.Picture.{drawn_picture, fault_place, label, 
 ghost use Rattle.msrp_picture.specs.Windows.{IsWindow, parts};
 
 use crate::cells::{Aspect, letter};
-use crate::lines::{Drawn, Line, draw_lines};
+use crate::lines::{Drawn, PictureLine, draw_lines};
 use crate::shown::Shown;
 use crate::windows::{LINE_TICKS, Window, due_in};
 use itoa::Buffer;
@@ -139,19 +139,19 @@ fn add_label(text: &mut Vec<u8>, word: &[u8], name: &[u8]) -> Result<(), Memory>
     add(text, filling(word.len() + name.len()))
 }
 
-fn add_label_of(text: &mut Vec<u8>, plan: &Plan, line: Line) -> Result<(), Memory>
+fn add_label_of(text: &mut Vec<u8>, plan: &Plan, line: PictureLine) -> Result<(), Memory>
     ensures { OnOk result (text.new.items ≡ text.old.items ++ label (name_of plan.now line)) }
 {
     let mut digits = Buffer::new();
     match line {
-        Line::Ticks => add_label(text, b"tick", b""),
-        Line::Core(core, Aspect::Who) => {
+        PictureLine::Ticks => add_label(text, b"tick", b""),
+        PictureLine::Core(core, Aspect::Who) => {
             add_label(text, b"core ", digits.format(core.0).as_bytes())
         }
-        Line::Core(_, Aspect::What) | Line::Mark(_) => add_label(text, b"", b""),
-        Line::Events(_) => add_label(text, b"  released, due", b""),
-        Line::Queue(res, Aspect::Who) => add_label(text, b"", res_name(plan, res)),
-        Line::Queue(_, Aspect::What) => add_label(text, b"  waiting", b""),
+        PictureLine::Core(_, Aspect::What) | PictureLine::Mark(_) => add_label(text, b"", b""),
+        PictureLine::Events(_) => add_label(text, b"  released, due", b""),
+        PictureLine::Queue(res, Aspect::Who) => add_label(text, b"", res_name(plan, res)),
+        PictureLine::Queue(_, Aspect::What) => add_label(text, b"  waiting", b""),
     }
 }
 

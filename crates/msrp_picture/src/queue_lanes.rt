@@ -31,7 +31,7 @@ fn push_held(
     Ok(())
 }
 
-// The same of each tick from one on.
+// The spans of a queue's standings, tick by tick from one on.
 fn spans_of(
     alloc: Global,
     room: Room,

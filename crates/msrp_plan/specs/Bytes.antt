@@ -3,22 +3,22 @@ use Rattle.std.specs.Prelude.{◌≡◌, ℕ, Bool, true, false, ◌||◌, not, 
 use Rattle.std.specs.Io.KnownBytes.{Appends}
 use Rattle.msrp_plan.specs.Limits.{most_bytes, most_calls}
 use Rattle.msrp_plan.specs.declared.bytes.Source.{Source}
-use Rattle.msrp_plan.specs.declared.bytes.Stage.{Stage}
-use Rattle.msrp_plan.specs.declared.bytes.Stage.TheVariants.{Ended, Failed}
+use Rattle.msrp_plan.specs.declared.bytes.SourceState.{SourceState}
+use Rattle.msrp_plan.specs.declared.bytes.SourceState.TheVariants.{Ended, Failed}
 use Rattle.msrp_plan.specs.declared.bytes.Sink.{Sink}
 
--- the stage of a source that has failed
-abbrev pub is_failed : Stage → Bool
+-- the state of a source that has failed
+abbrev pub is_failed : SourceState → Bool
 is_failed Failed = true
 is_failed _ = false
 
--- the stage of a source that has met the end
-abbrev pub is_ended : Stage → Bool
+-- the state of a source that has met the end
+abbrev pub is_ended : SourceState → Bool
 is_ended Ended = true
 is_ended _ = false
 
 -- nothing is left once the end was met; before it what the reader has left, where that is known
-abbrev pub left_at : Stage → Option (List ℕ) → Option (List ℕ)
+abbrev pub left_at : SourceState → Option (List ℕ) → Option (List ℕ)
 left_at Ended known = Some []
 left_at _ known = known
 
@@ -28,11 +28,11 @@ source_inner s = s.inner
 
 -- a read of the source failed, as each further one does
 abbrev pub source_failed : {R : Type 0} → Source R → Bool
-source_failed s = is_failed s.stage
+source_failed s = is_failed s.state
 
 -- a read of the source met the end, as each further one does
 abbrev pub source_ended : {R : Type 0} → Source R → Bool
-source_ended s = is_ended s.stage
+source_ended s = is_ended s.state
 
 -- no read of the source failed or met the end
 abbrev pub is_open : {R : Type 0} → Source R → Bool
@@ -52,7 +52,7 @@ is_spent s = nat_le most_bytes s.given || nat_le most_calls s.calls
 
 -- the bytes that a source has left, where what its reader has left is known
 abbrev pub source_remaining : {R : Type 0} → (R → Option (List ℕ)) → Source R → Option (List ℕ)
-source_remaining remaining s = left_at s.stage (remaining s.inner)
+source_remaining remaining s = left_at s.state (remaining s.inner)
 
 -- the writer under a sink
 abbrev pub sink_inner : {W : Type 0} → Sink W → W

@@ -35,14 +35,14 @@ abbrev pub MutualExclusion : PlanModel → List Row → Type 0
 MutualExclusion plan rows = (pre post : List Row) (g : ℕ) → rows ≡ pre ++ post → IsHeldByOne plan pre g
 
 -- ---- bounded overtaking
-abbrev pub is_admitting : Kind → Bool
-is_admitting Take = true
-is_admitting Grant = true
-is_admitting _ = false
+abbrev pub is_acquiring : Kind → Bool
+is_acquiring Take = true
+is_acquiring Grant = true
+is_acquiring _ = false
 
 -- a row in which a job comes to hold the resource, at once or after a wait
-abbrev pub is_admission : ℕ → Row → Bool
-is_admission g r = is_on g r.res && is_admitting r.kind
+abbrev pub is_acquisition : ℕ → Row → Bool
+is_acquisition g r = is_on g r.res && is_acquiring r.kind
 
 abbrev pub is_grant : Kind → Bool
 is_grant Grant = true
@@ -74,7 +74,7 @@ EachWait rows P = (pre : List Row) (r : Row) (since post : List Row) (j : JobId)
 -- while a job waits for a global resource, others come to hold it at most m - 1 times, on m cores (Gai,
 -- Lipari and Di Natale 2001: requests are granted in their order, and of each core one at most stands)
 abbrev pub BoundedOvertaking : PlanModel → List Row → Type 0
-BoundedOvertaking plan rows = EachWait rows (λ r since j g. count_by (is_admission g) since ≤ plan.cores - 1)
+BoundedOvertaking plan rows = EachWait rows (λ r since j g. count_by (is_acquisition g) since ≤ plan.cores - 1)
 
 -- ---- short queues
 -- the row, if it joins the queue of a resource, finds there at most one request for each other core

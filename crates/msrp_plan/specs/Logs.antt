@@ -32,7 +32,7 @@ abbrev pub ascending : ℕ → ℕ → List ℕ
 ascending cores ticks = flat_map (λ t. range_with_len 0 cores) (range_with_len 0 ticks)
 
 -- the row is the next one of a core that is due: it has had one turn in each full tick
-pub record IsDueTurn (plan : PlanModel) (pre : List Row) (r : Row) : Type 0 where
+pub record IsNextTurn (plan : PlanModel) (pre : List Row) (r : Row) : Type 0 where
   pub core : r.core.0 < plan.cores
   pub due : length (log_of r.core.0 pre) ≡ length pre / plan.cores
   pub turn : IsCoreTurn plan r.core.0 (log_of r.core.0 pre) r

@@ -48,7 +48,7 @@ pub record IsHead (plan : PlanModel) (pre : List Row) (r : Row) (h : JobId) : Ty
   pub first : (j : JobId) → IsReady plan pre r j → is_before plan j h ≡ false
 
 -- a job of the row's core that is started and unfinished
-pub record IsOpen (plan : PlanModel) (pre : List Row) (r : Row) (j : JobId) : Type 0 where
+pub record IsActive (plan : PlanModel) (pre : List Row) (r : Row) (j : JobId) : Type 0 where
   pub on : Contains (jobs_on plan r.core.0) j
   pub started : is_started pre j ≡ true
   pub unfinished : is_finished plan pre j ≡ false
@@ -57,12 +57,12 @@ pub record IsOpen (plan : PlanModel) (pre : List Row) (r : Row) (j : JobId) : Ty
 -- above the core's ceiling
 pub record MayStart (plan : PlanModel) (pre : List Row) (r : Row) (x : JobId) : Type 0 where
   pub first : (j : JobId) → IsReady plan pre r j → j ≢ x → is_before plan x j ≡ true
-  pub preempts : (j : JobId) → IsOpen plan pre r j → is_before plan x j ≡ true
+  pub preempts : (j : JobId) → IsActive plan pre r j → is_before plan x j ≡ true
   pub above : ceiling plan r.core.0 pre < level plan x.task.0
 
 -- job x may go on: no job that is open comes before it, and the head, if it comes before x, isn't above the core's ceiling
 pub record MayGoOn (plan : PlanModel) (pre : List Row) (r : Row) (x : JobId) : Type 0 where
-  pub first : (j : JobId) → IsOpen plan pre r j → is_before plan j x ≡ false
+  pub first : (j : JobId) → IsActive plan pre r j → is_before plan j x ≡ false
   pub blocked : (h : JobId) → IsHead plan pre r h → is_before plan h x ≡ true → level plan h.task.0 ≤ ceiling plan r.core.0 pre
 
 -- the row's job, if it has one, starts and may start, or goes on and may go on

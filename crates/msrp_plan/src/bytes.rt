@@ -24,7 +24,7 @@ pub const CALL_LIMIT: u32 = 33_554_432;
 
 // How far a source is.
 #[derive(Clone, Copy, Debug, PartialEq, Eq)]
-enum Stage {
+enum SourceState {
     Open,
     Ended,
     Failed,
@@ -42,7 +42,7 @@ pub struct Source<R> {
     inner: R,
     given: u32,
     calls: u32,
-    stage: Stage,
+    state: SourceState,
 }
 
 impl<R: Read> Source<R> {
@@ -59,7 +59,7 @@ impl<R: Read> Source<R> {
             inner,
             given: 0,
             calls: 0,
-            stage: Stage::Open,
+            state: SourceState::Open,
         }
     }
 
@@ -67,15 +67,15 @@ impl<R: Read> Source<R> {
     pub fn failed(&self) -> bool
         ensures { result ≡ source_failed self.now }
     {
-        matches!(self.stage, Stage::Failed)
+        matches!(self.state, SourceState::Failed)
     }
 
     // A read that fails.
     fn fail(&mut self) -> io::Error
         ensures kind { error_kind result ≡ ErrorKind.Other }
-        ensures failed { self.new ≡ record self.old { stage = Stage.Failed } }
+        ensures failed { self.new ≡ record self.old { state = SourceState.Failed } }
     {
-        self.stage = Stage::Failed;
+        self.state = SourceState::Failed;
         io::Error::from(ErrorKind::Other)
     }
 
@@ -97,7 +97,7 @@ impl<R: Read> Source<R> {
         let most = buf.len().min((BYTE_LIMIT - self.given) as usize);
         match self.inner.read(&mut buf[..most]) {
             Ok(0) if most > 0 => {
-                self.stage = Stage::Ended;
+                self.state = SourceState::Ended;
                 Ok(0)
             }
             Ok(count) => {
@@ -132,10 +132,10 @@ impl<R: Read> Read for Source<R> {
         ensures limit { source_given self.old ≤ most_bytes → source_given self.new ≤ most_bytes }
         ensures met { is_open self.old ≡ true → IfOk result (λ n. (source_ended self.new ≡ true) ↔ ((n ≡ 0) × (0 < length buf.new))) }
     {
-        match self.stage {
-            Stage::Failed => Err(io::Error::from(ErrorKind::Other)),
-            Stage::Ended => Ok(0),
-            Stage::Open => {
+        match self.state {
+            SourceState::Failed => Err(io::Error::from(ErrorKind::Other)),
+            SourceState::Ended => Ok(0),
+            SourceState::Open => {
                 if self.given >= BYTE_LIMIT || self.calls >= CALL_LIMIT {
                     return Err(self.fail());
                 }

@@ -12,7 +12,7 @@ ghost use Rattle.msrp_plan.specs.Runs.{CoreRun, IsLegal, IsRun, IsRunStart, is_o
 ghost use Rattle.msrp_plan.specs.Logs.{log_of, rows_on, AreApart};
 ghost use Rattle.msrp_plan.specs.Verdict.{verdict, fault_in, broken};
 ghost use Rattle.msrp_plan.specs.Faults.{IsBroken, IsFault, IsOneTooMany};
-ghost use Rattle.msrp_plan.specs.Calls.{IsInTurn, claim_with, kind_of_call};
+ghost use Rattle.msrp_plan.specs.Calls.{IsDueCall, claim_with, kind_of_call};
 ghost use Rattle.msrp_plan.specs.FifoLock.{free_lock};
 ghost use Rattle.msrp_plan.specs.LockStates.{Agree, IsRowOfCall, lock_at};
 ghost use Rattle.msrp_plan.specs.Phases.{phase_with};
@@ -63,7 +63,7 @@ pub fn core_runs()
 /// The calls that a core makes of global resources and the rows that they make agree on what it holds or
 /// awaits: a call in its turn leaves it as a row of the call's kind does.
 pub fn calls()
-    ensures { (claim : Phase) (g : ResId) (call : Call) → IsInTurn claim g call → phase_with claim (kind_of_call call) (Some g) ≡ claim_with claim g call }
+    ensures { (claim : Phase) (g : ResId) (call : Call) → IsDueCall claim g call → phase_with claim (kind_of_call call) (Some g) ≡ claim_with claim g call }
 {}
 
 /// Turns commute where they share neither core nor resource: two of them that stand next to each other in

@@ -7,7 +7,7 @@ ghost use Rattle.msrp_plan.specs.Runs.{IsRunStart, IsRun};
 ghost use Rattle.msrp_plan.specs.WellFormed.{IsPlan};
 ghost use Rattle.msrp_plan.specs.Jobs.{holds};
 ghost use Rattle.msrp_plan.specs.Queues.{fifo};
-ghost use Rattle.msrp_plan.specs.Laws.{NoLocalBlocking, MutualExclusion, BoundedOvertaking, ShortQueues, BoundedSpinning, IsWait, is_admission, is_spin_of, KeepsLaws};
+ghost use Rattle.msrp_plan.specs.Laws.{NoLocalBlocking, MutualExclusion, BoundedOvertaking, ShortQueues, BoundedSpinning, IsWait, is_acquisition, is_spin_of, KeepsLaws};
 ghost use Rattle.msrp_plan.specs.Bounds.{spin_bound};
 ghost use Rattle.msrp_plan.specs.Logs.{core_order};
 ghost use Rattle.msrp_plan.specs.Examples.Notation.{job, queue};
@@ -96,7 +96,7 @@ pub fn every_other_core_ahead()
     ensures ahead { length (fifo 0 (take 2 three_in_a_queue.rows)) ≡ three_in_a_queue.plan.cores - 1 }
     ensures wait { IsWait (queue 0 0 (job 0 0) 0) (take 11 (drop 3 three_in_a_queue.rows)) (job 0 0) 0 }
     ensures place { three_in_a_queue.rows ≡ take 2 three_in_a_queue.rows ++ queue 0 0 (job 0 0) 0 ∷ (take 11 (drop 3 three_in_a_queue.rows) ++ drop 14 three_in_a_queue.rows) }
-    ensures others { count_by (is_admission 0) (take 11 (drop 3 three_in_a_queue.rows)) ≡ 1 }
+    ensures others { count_by (is_acquisition 0) (take 11 (drop 3 three_in_a_queue.rows)) ≡ 1 }
 {}
 
 /// A worked run in which, during one wait, others come to hold the resource as often as the law allows: one
@@ -105,7 +105,7 @@ pub fn overtaken_as_often_as_can_be()
     ensures laws { KeepsLaws requested_again.plan requested_again.rows }
     ensures wait { IsWait (queue 2 0 (job 0 0) 0) (take 2 (drop 5 requested_again.rows)) (job 0 0) 0 }
     ensures place { requested_again.rows ≡ take 4 requested_again.rows ++ queue 2 0 (job 0 0) 0 ∷ (take 2 (drop 5 requested_again.rows) ++ drop 7 requested_again.rows) }
-    ensures others { count_by (is_admission 0) (take 2 (drop 5 requested_again.rows)) ≡ requested_again.plan.cores - 1 }
+    ensures others { count_by (is_acquisition 0) (take 2 (drop 5 requested_again.rows)) ≡ requested_again.plan.cores - 1 }
 {}
 
 /// A worked run in which a job spins twice, where the bound is 3: the other core's section, and a turn more.

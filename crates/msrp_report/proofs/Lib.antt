@@ -3,7 +3,7 @@ pub mod Waits
 pub mod Waiting
 pub mod JobTallies
 pub mod LineJobs
-pub mod Going
+pub mod Active
 pub mod TallySteps
 pub mod RowSteps
 pub mod Starting

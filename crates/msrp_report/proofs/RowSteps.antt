@@ -25,12 +25,12 @@ use Rattle.msrp_plan.proofs.Lists.Prefixes.{each_at, each_before}
 use Rattle.msrp_plan.proofs.Scheduling.Released.{runs_released}
 use Rattle.msrp_sim.proofs.Standing.{get_set_same, get_set_other}
 use Rattle.msrp_report.specs.Inside.Counts.{counted, count_of}
-use Rattle.msrp_report.specs.Inside.Tallies.{AreTallies, HaveBegun, IsJobTally, IsNextOf, IsTaskTally, ToldOf, due_tick, is_going}
+use Rattle.msrp_report.specs.Inside.Tallies.{AreTallies, HaveBegun, IsJobTally, IsNextOf, IsTaskTally, ToldOf, release_or_end, is_active}
 use Rattle.msrp_report.specs.declared.counts.JobCount.{JobCount}
 use Rattle.msrp_report.specs.declared.tallies.Blocking.TheVariants.{Over}
 use Rattle.msrp_report.specs.declared.tallies.JobTally.{JobTally}
 use Rattle.msrp_report.specs.declared.tallies.TaskTally.{TaskTally}
-use Rattle.msrp_report.proofs.Going.{sole}
+use Rattle.msrp_report.proofs.Active.{sole}
 use Rattle.msrp_report.proofs.JobCounts.{count_push, done_is}
 use Rattle.msrp_report.proofs.JobTallies.{in_task, of_task}
 use Rattle.msrp_levels.proofs.PlanJobs.{job_in}
@@ -114,7 +114,7 @@ task_other plan rows r begun t x ok task next none is = record {
       let l : k < length (jobs_of plan t) = (let w = slice_get_within x.jobs.items k s has in let size = is.size in omega (arith, w, size)) in
       job_other plan rows r (nat_lt k x.released) (job_at t k) s (timely plan rows r begun t k x ok task is next l) (none (job_at t k) refl) (is.each k s has);
   known = is.known;
-  going = λ j there. is.going j there ∙ sym (live_kept plan rows r j (none j (of_task plan t j ok there).0));
+  active = λ j there. is.active j there ∙ sym (live_kept plan rows r j (none j (of_task plan t j ok there).0));
 }
 
 -- ---- a row of a job of the task
@@ -123,7 +123,7 @@ pub record IsCounted (plan : PlanModel) (old new : TaskTally) (r : Row) (i : Job
   pub jobs_set : new.jobs.items ≡ slice_set old.jobs.items i.k (record { count = counted r s.count; blocking = Over n })
   pub released : new.released ≡ old.released
   pub due : new.due ≡ old.due
-  pub going : new.going ≡ cond ((counted r s.count).done == length (units plan i)) None (Some i)
+  pub active : new.active ≡ cond ((counted r s.count).done == length (units plan i)) None (Some i)
 
 task_counted : (plan : PlanModel) (rows : List Row) (r : Row) (begun : ℕ) (i : JobId) (old new : TaskTally) (s : JobTally) (n : ℕ) → IsPlan plan → i.task.0 < length plan.tasks → IsNextOf plan rows r begun → r.job ≡ Some i → IsTaskTally plan rows begun i.task.0 old → IsCounted plan old new r i s n → n ≡ blocked plan rows i
     → IsTaskTally plan (rows ++ r ∷ []) begun i.task.0 new
@@ -131,11 +131,11 @@ task_counted plan rows r begun i old new s n ok task next job is set told = reco
   size = ap length set.jobs_set ∙ (length-set old.jobs.items i.k (record { count = counted r s.count; blocking = Over n }) ∙ is.size);
   fits = subst (λ m. m ≤ length (jobs_of plan i.task.0)) (sym set.released) is.fits;
   past = λ k h. is.past k (subst (λ m. k < m) set.released h);
-  due = set.due ∙ (is.due ∙ ap (due_tick plan i.task.0) (sym set.released));
+  due = set.due ∙ (is.due ∙ ap (release_or_end plan i.task.0) (sym set.released));
   later = subst (λ m. begun ≤ m) (sym set.due) is.later;
   each = λ k y has. by_place k y has (cases_Bool (k == i.k));
-  known = subst (λ g. IfSome g (Contains (jobs_of plan i.task.0))) (sym set.going) (known ((counted r s.count).done == length (units plan i)));
-  going = λ j there. ap (λ g. is_job g j) set.going ∙ (ap (λ b. is_job (cond b None (Some i)) j) finished ∙ by_job j there (cases_Bool (same_job i j)));
+  known = subst (λ g. IfSome g (Contains (jobs_of plan i.task.0))) (sym set.active) (known ((counted r s.count).done == length (units plan i)));
+  active = λ j there. ap (λ g. is_job g j) set.active ∙ (ap (λ b. is_job (cond b None (Some i)) j) finished ∙ by_job j there (cases_Bool (same_job i j)));
 }
   where
     here : i.k < length (jobs_of plan i.task.0)
@@ -189,9 +189,9 @@ task_counted plan rows r begun i old new s n ok task next job is set told = reco
     others j true e = refl
     others j false e = e
 
-    by_job : (j : JobId) → Contains (jobs_of plan i.task.0) j → ((same_job i j) ≡ true) ⊎ ((same_job i j) ≡ false) → is_job (cond (is_finished plan (rows ++ r ∷ []) i) None (Some i)) j ≡ is_going plan (rows ++ r ∷ []) j
+    by_job : (j : JobId) → Contains (jobs_of plan i.task.0) j → ((same_job i j) ≡ true) ⊎ ((same_job i j) ≡ false) → is_job (cond (is_finished plan (rows ++ r ∷ []) i) None (Some i)) j ≡ is_active plan (rows ++ r ∷ []) j
     by_job j there (inl e) =
-        subst (λ x. is_job (cond (is_finished plan (rows ++ r ∷ []) i) None (Some i)) x ≡ is_going plan (rows ++ r ∷ []) x) (same_is i j e)
+        subst (λ x. is_job (cond (is_finished plan (rows ++ r ∷ []) i) None (Some i)) x ≡ is_active plan (rows ++ r ∷ []) x) (same_is i j e)
         (own (is_finished plan (rows ++ r ∷ []) i) refl ∙ ap (λ b. b && not (is_finished plan (rows ++ r ∷ []) i)) (sym (started_push rows r i mine)))
     by_job j there (inr e) =
         let other : is_row_of j r ≡ false = ap (λ o. is_job o j) job ∙ e in
@@ -199,8 +199,8 @@ task_counted plan rows r begun i old new s n ok task next job is set told = reco
         let in_plan : Contains (jobs plan) j = subst (Contains (jobs plan)) (ap (λ n. job_at n j.k) (sym of.0)) (job_in plan i.task.0 j.k ok task of.1) in
         let core : r.core.0 ≡ core_of plan j = sym (turn_core plan rows r i (legal_turn plan rows r legal) job) ∙ ap (λ n. (task_at plan n).core) (sym of.0) in
         let ne : i ≢ j = λ s. true≢false (sym (same_self i) ∙ (ap (same_job i) s ∙ e)) in
-        let idle : is_going plan rows j ≡ false = false_from_ne_true (is_going plan rows j) (λ g.
-        sole plan rows r i j old.going ok (each_before (IsLegal plan) [] rows (r ∷ []) next.start.each) legal job (job_on plan r.core.0 j in_plan core) (sym of.0) (is.going i (in_task plan i.task.0 i.k ok here)) (is.going j there) g ne) in
+        let idle : is_active plan rows j ≡ false = false_from_ne_true (is_active plan rows j) (λ g.
+        sole plan rows r i j old.active ok (each_before (IsLegal plan) [] rows (r ∷ []) next.start.each) legal job (job_on plan r.core.0 j in_plan core) (sym of.0) (is.active i (in_task plan i.task.0 i.k ok here)) (is.active j there) g ne) in
         others j (is_finished plan (rows ++ r ∷ []) i) e ∙ sym (live_kept plan rows r j other ∙ idle)
 
 -- ---- all tasks

@@ -9,7 +9,7 @@ use Rattle.msrp_plan.specs.WellFormed.{IsPlan}
 use Rattle.std.proofs.lemmas.Nat.{div_below}
 use Rattle.msrp_plan.specs.declared.ids.JobId.{JobId}
 use Rattle.msrp_report.specs.Inside.Counts.{uncounted, count_of}
-use Rattle.msrp_report.specs.Inside.Tallies.{HasTallied, IsJobTally, IsTaskTally, due_tick}
+use Rattle.msrp_report.specs.Inside.Tallies.{HasTallied, IsJobTally, IsTaskTally, release_or_end}
 use Rattle.msrp_report.specs.declared.tallies.Blocking.TheVariants.{Over}
 use Rattle.msrp_report.specs.declared.tallies.JobTally.{JobTally}
 use Rattle.msrp_report.specs.declared.tallies.TaskTally.{TaskTally}
@@ -23,16 +23,16 @@ pub job_untold : (plan : PlanModel) (j : JobId) → IsJobTally plan [] false j u
 unfolding count_of
 job_untold plan j = record { count = refl; blocking = record { count = refl; ahead = λ _. (refl, refl); nobody = λ e. absurd (true≢false (sym e)) } }
 
-pub task_untold : (plan : PlanModel) (t : ℕ) (x : TaskTally) → length x.jobs.items ≡ length (jobs_of plan t) → x.released ≡ 0 → x.due ≡ due_tick plan t 0 → x.going ≡ None → ((k : ℕ) (s : JobTally) → slice_get x.jobs.items k ≡ Some s → s ≡ untold) → IsTaskTally plan [] 0 t x
-task_untold plan t x size released due going each = record {
+pub task_untold : (plan : PlanModel) (t : ℕ) (x : TaskTally) → length x.jobs.items ≡ length (jobs_of plan t) → x.released ≡ 0 → x.due ≡ release_or_end plan t 0 → x.active ≡ None → ((k : ℕ) (s : JobTally) → slice_get x.jobs.items k ≡ Some s → s ≡ untold) → IsTaskTally plan [] 0 t x
+task_untold plan t x size released due active each = record {
   size = size;
   fits = omega (arith, released);
   past = λ k h. absurd (omega (arith, h, released));
-  due = due ∙ ap (due_tick plan t) (sym released);
+  due = due ∙ ap (release_or_end plan t) (sym released);
   later = omega arith;
   each = λ k s has. subst (IsJobTally plan [] (nat_lt k x.released) (job_at t k)) (sym (each k s has)) (subst (λ b. IsJobTally plan [] b (job_at t k) untold) (sym (le-ltb k x.released (omega (arith, released)))) (job_untold plan (job_at t k)));
-  known = subst (λ g. IfSome g (Contains (jobs_of plan t))) (sym going) tt;
-  going = λ j there. ap (λ g. is_job g j) going;
+  known = subst (λ g. IfSome g (Contains (jobs_of plan t))) (sym active) tt;
+  active = λ j there. ap (λ g. is_job g j) active;
 }
 
 pub tallies_untold : (plan : PlanModel) (t : Tallies) → IsPlan plan → t.begun ≡ 0 → t.next ≡ 0 → length t.tasks.items ≡ length plan.tasks → ((k : ℕ) (x : TaskTally) → slice_get t.tasks.items k ≡ Some x → IsTaskTally plan [] 0 k x) → HasTallied plan [] t

@@ -13,7 +13,7 @@ use Rattle.msrp_plan.specs.declared.ids.JobId.{JobId}
 use Rattle.msrp_plan.specs.declared.rows.Row.{Row}
 use Rattle.msrp_plan.proofs.Jobs.Releases.{releases_rise, task_times}
 use Rattle.msrp_sim.proofs.Standing.{get_set_same, get_set_other}
-use Rattle.msrp_report.specs.Inside.Tallies.{AreTallies, IsBlocking, IsJobTally, IsOver, IsQuiet, IsQuietTask, IsTaskTally, begun_below, blocking_by, due_tick}
+use Rattle.msrp_report.specs.Inside.Tallies.{AreTallies, IsBlocking, IsJobTally, IsOver, NoneReleased, NoJobReleased, IsTaskTally, begun_below, blocking_by, release_or_end}
 use Rattle.msrp_report.specs.declared.tallies.Blocking.{Blocking}
 use Rattle.msrp_report.specs.declared.tallies.Blocking.TheVariants.{Over, By}
 use Rattle.msrp_report.specs.declared.tallies.JobTally.{JobTally}
@@ -37,10 +37,10 @@ release_rises plan t a b ok task l h =
     releases_rise (task_at plan t).times (task_times plan ok.draft t) a b (release plan (job_at t a)) (release plan (job_at t b)) l at_a at_b
 
 -- the first job that isn't released is due
-due_first : (plan : PlanModel) (t k : ℕ) → k < length (jobs_of plan t) → due_tick plan t k ≡ release plan (job_at t k)
+due_first : (plan : PlanModel) (t k : ℕ) → k < length (jobs_of plan t) → release_or_end plan t k ≡ release plan (job_at t k)
 due_first plan t k l = ap (λ b. cond b (release plan (job_at t k)) plan.ticks) (lt-ltb k (length (jobs_of plan t)) l)
 
-due_none : (plan : PlanModel) (t k : ℕ) → length (jobs_of plan t) ≤ k → due_tick plan t k ≡ plan.ticks
+due_none : (plan : PlanModel) (t k : ℕ) → length (jobs_of plan t) ≤ k → release_or_end plan t k ≡ plan.ticks
 due_none plan t k l = ap (λ b. cond b (release plan (job_at t k)) plan.ticks) (le-ltb k (length (jobs_of plan t)) l)
 
 -- so none of the others is released before
@@ -59,7 +59,7 @@ pub due_before : (plan : PlanModel) (rows : List Row) (begun t k : ℕ) (x : Tas
 due_before plan rows begun t k x ok task is from l = let least = due_least plan rows begun t k x ok task is from l in let later = is.later in omega (arith, least, later)
 
 -- no job of the task is released from the last tick that has begun to its due tick
-task_quiet : (plan : PlanModel) (rows : List Row) (begun t : ℕ) (x : TaskTally) → IsPlan plan → t < length plan.tasks → IsTaskTally plan rows begun t x → IsQuietTask plan t begun x.due
+task_quiet : (plan : PlanModel) (rows : List Row) (begun t : ℕ) (x : TaskTally) → IsPlan plan → t < length plan.tasks → IsTaskTally plan rows begun t x → NoJobReleased plan t begun x.due
 task_quiet plan rows begun t x ok task is k l from = elim (cases_lt k x.released) [
   | inl come ↦ let past = is.past k come in absurd (omega (arith, past, from))
   | inr left ↦ due_least plan rows begun t k x ok task is left l
@@ -72,7 +72,7 @@ pub record IsReleased (old new : TaskTally) (k : ℕ) (s : JobTally) (b : Blocki
   pub number : k ≡ old.released
   pub jobs_set : new.jobs.items ≡ slice_set old.jobs.items k (record s { blocking = b })
   pub next : new.released ≡ k + 1
-  pub going : new.going ≡ old.going
+  pub active : new.active ≡ old.active
 
 -- there is such a job
 pub due_job : (plan : PlanModel) (rows : List Row) (begun t : ℕ) (x : TaskTally) → IsTaskTally plan rows begun t x → x.due ≤ begun → begun < plan.ticks → x.released < length (jobs_of plan t)
@@ -93,7 +93,7 @@ lt_next k n ne = elim (cases_lt k n) [
 ]
 
 pub task_released : (plan : PlanModel) (rows : List Row) (begun t : ℕ) (old new : TaskTally) (k : ℕ) (s : JobTally) (o : Option JobId) → IsPlan plan → t < length plan.tasks → IsTaskTally plan rows begun t old → old.due ≤ begun → begun < plan.ticks → AllByRecursion (λ r. r.tick < begun) rows
-    → first_later plan rows (job_at t k) ≡ o → IsReleased old new k s (blocking_by rows o) → new.due ≡ due_tick plan t (k + 1) → IsTaskTally plan rows (begun + 1) t new
+    → first_later plan rows (job_at t k) ≡ o → IsReleased old new k s (blocking_by rows o) → new.due ≡ release_or_end plan t (k + 1) → IsTaskTally plan rows (begun + 1) t new
 task_released plan rows begun t old new k s o ok task is due left early first set new_due =
     let within = due_job plan rows begun t old is due left in
     let number = set.number in
@@ -107,11 +107,11 @@ task_released plan rows begun t old new k s o ok task is due left early first se
       size = length_set ∙ size;
       fits = omega (arith, next, l);
       past = λ m h. past m h now;
-      due = new_due ∙ ap (due_tick plan t) (sym next);
+      due = new_due ∙ ap (release_or_end plan t) (sym next);
       later = later now;
       each = λ m x has. by_place m x has now (cases_Bool (m == k));
-      known = subst (λ g. IfSome g (Contains (jobs_of plan t))) (sym set.going) is.known;
-      going = λ j there. ap (λ g. is_job g j) set.going ∙ is.going j there;
+      known = subst (λ g. IfSome g (Contains (jobs_of plan t))) (sym set.active) is.known;
+      active = λ j there. ap (λ g. is_job g j) set.active ∙ is.active j there;
     }
   where
     past : (m : ℕ) → m < new.released → release plan (job_at t k) ≡ begun → release plan (job_at t m) < begun + 1
@@ -156,7 +156,7 @@ task_waits plan rows begun t x is due = record {
   later = omega (arith, due);
   each = is.each;
   known = is.known;
-  going = is.going;
+  active = is.active;
 }
 
 -- ---- all tasks
@@ -218,19 +218,19 @@ due_within plan rows begun n tasks x y are task ix iy due left =
 
 -- ---- ticks without a release
 -- with the due tick of one task more
-pub quiet_more : (plan : PlanModel) (rows : List Row) (begun n to : ℕ) (tasks : List TaskTally) (x : TaskTally) → IsPlan plan → n < length plan.tasks → AreTallies plan rows (begun_below begun (n + 1)) tasks → x ≡ get_or tasks n x → IsQuiet plan n (begun + 1) to → IsQuiet plan (n + 1) (begun + 1) (min to x.due)
+pub quiet_more : (plan : PlanModel) (rows : List Row) (begun n to : ℕ) (tasks : List TaskTally) (x : TaskTally) → IsPlan plan → n < length plan.tasks → AreTallies plan rows (begun_below begun (n + 1)) tasks → x ≡ get_or tasks n x → NoneReleased plan n (begun + 1) to → NoneReleased plan (n + 1) (begun + 1) (min to x.due)
 quiet_more plan rows begun n to tasks x ok task are is quiet t l k within from =
     let here = are.each n x (read_task plan rows (begun_below begun (n + 1)) n tasks x are task is) in
     elim (cases_lt t n) [
       | inl below ↦ let far = quiet t below k within from in omega (arith, far)
       | inr past ↦
-          let own : IsQuietTask plan n (begun + 1) x.due = task_quiet plan rows (begun + 1) n x ok task (subst (λ b. IsTaskTally plan rows b n x) (below_then begun n) here) in
-          let far = subst (λ m. IsQuietTask plan m (begun + 1) x.due) (let e : n ≡ t = omega (arith, l, past) in e) own k within from in
+          let own : NoJobReleased plan n (begun + 1) x.due = task_quiet plan rows (begun + 1) n x ok task (subst (λ b. IsTaskTally plan rows b n x) (below_then begun n) here) in
+          let far = subst (λ m. NoJobReleased plan m (begun + 1) x.due) (let e : n ≡ t = omega (arith, l, past) in e) own k within from in
           omega (arith, far)
     ]
 
 -- in a tick before the next release all tasks wait
-quiet_waits : (plan : PlanModel) (rows : List Row) (begun to t : ℕ) (x : TaskTally) → IsQuietTask plan t begun to → begun < to → begun < plan.ticks → IsTaskTally plan rows begun t x → begun < x.due
+quiet_waits : (plan : PlanModel) (rows : List Row) (begun to t : ℕ) (x : TaskTally) → NoJobReleased plan t begun to → begun < to → begun < plan.ticks → IsTaskTally plan rows begun t x → begun < x.due
 quiet_waits plan rows begun to t x quiet ahead left is =
     let due = is.due in
     let later = is.later in
@@ -239,7 +239,7 @@ quiet_waits plan rows begun to t x quiet ahead left is =
       | inr past ↦ let none = due_none plan t x.released past in omega (arith, none, due, left)
     ]
 
-pub all_wait : (plan : PlanModel) (rows : List Row) (begun to : ℕ) (tasks : List TaskTally) → IsQuiet plan (length plan.tasks) begun to → begun < to → begun < plan.ticks → AreTallies plan rows (begun_below begun 0) tasks → AreTallies plan rows (λ _. begun + 1) tasks
+pub all_wait : (plan : PlanModel) (rows : List Row) (begun to : ℕ) (tasks : List TaskTally) → NoneReleased plan (length plan.tasks) begun to → begun < to → begun < plan.ticks → AreTallies plan rows (begun_below begun 0) tasks → AreTallies plan rows (λ _. begun + 1) tasks
 all_wait plan rows begun to tasks quiet ahead left are = record {
   start = are.start;
   size = are.size;

@@ -20,8 +20,8 @@ abbrev pub last_tick : JobId → List Row → ℕ
 last_tick j rows = fold (λ _ r. r.tick) 0 (filter (is_row_of j) rows)
 
 -- the tick in which the job would have to be finished: its absolute deadline
-abbrev pub due_tick : PlanModel → JobId → ℕ
-due_tick plan j = (key plan j).deadline
+abbrev pub absolute_deadline : PlanModel → JobId → ℕ
+absolute_deadline plan j = (key plan j).deadline
 
 -- from the job's release to the end of its last action; 0 where it isn't finished
 abbrev pub response : PlanModel → List Row → JobId → ℕ
@@ -29,7 +29,7 @@ response plan rows j = if is_finished plan rows j then (last_tick j rows + 1) - 
 
 -- the job finished after its absolute deadline; or it isn't finished, and its absolute deadline isn't after the last tick
 abbrev pub is_late : PlanModel → List Row → JobId → Bool
-is_late plan rows j = if is_finished plan rows j then nat_lt (due_tick plan j) (last_tick j rows + 1) else nat_le (due_tick plan j) plan.ticks
+is_late plan rows j = if is_finished plan rows j then nat_lt (absolute_deadline plan j) (last_tick j rows + 1) else nat_le (absolute_deadline plan j) plan.ticks
 
 -- ---- spinning
 -- the row in which the job joins a queue, and the one in which it is granted what it waits for

@@ -42,7 +42,7 @@ pub(crate) struct TaskTally {
     /// No further one is released before this tick.
     pub(crate) due: u64,
     /// The one that is started and unfinished.
-    pub(crate) going: Option<JobId>,
+    pub(crate) active: Option<JobId>,
 }
 
 /// What they tell of all jobs of a plan, task by task.

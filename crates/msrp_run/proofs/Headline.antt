@@ -9,7 +9,7 @@ use Rattle.msrp_board.specs.declared.answers.SeatPhase.TheVariants.{Done, Stoppe
 use Rattle.msrp_board.specs.declared.books.Book.{Book}
 use Rattle.msrp_board.specs.declared.books.BoardSize.{BoardSize}
 use Rattle.msrp_board.specs.declared.books.Conductor.TheVariants.{Opened, Aborted}
-use Rattle.msrp_board.specs.Books.{phase_by, phase_in, reach, reach_of}
+use Rattle.msrp_board.specs.Books.{phase_by, phase_in, admissions, admissions_of}
 use Rattle.msrp_board.specs.Boards.{WholeBoard, IsTied, entries_at}
 use Rattle.msrp_board.specs.History.{Event, IsHistory}
 use Rattle.msrp_board.specs.Seats.{BoardModel, SeatModel, HasAll, book_at, empty_book}
@@ -17,7 +17,7 @@ use Rattle.msrp_merge.specs.Merging.{log_at, turns_of, size_of}
 use Rattle.msrp_merge.specs.Pairs.{Paired}
 use Rattle.msrp_merge.specs.Steps.{is_row_on, IsRowOfEvent}
 use Rattle.msrp_merge.specs.Turns.{LogModel, Fits}
-use Rattle.msrp_run.specs.declared.crew.Ended.{Ended}
+use Rattle.msrp_run.specs.declared.workers.Ended.{Ended}
 use Rattle.msrp_run.specs.Threads.{AllWorked, HasEnded, HasRun, IsCalledOff, IsServedAs, ordered}
 use Rattle.msrp_run.specs.Work.{IsWhole, IsWorked}
 use Rattle.msrp_run.proofs.Working.{none_left}
@@ -33,10 +33,10 @@ below_or c n = by_test (nat_lt c n) refl
 has_arrived_from_all : (ticks : ℕ) (b : Book) → phase_in ticks b ≡ Done → ticks ≤ b.tick
 has_arrived_from_all ticks b done = ltb-false b.tick ticks (none_left b.stopped b.admitted (nat_lt b.tick ticks) done)
 
-reach_is_tick : (b : Book) → b.tick ≤ reach b
+reach_is_tick : (b : Book) → b.tick ≤ admissions b
 reach_is_tick b = by_admission b.admitted b.tick
   where
-    by_admission : (admitted : Bool) (tick : ℕ) → tick ≤ reach_of admitted tick
+    by_admission : (admitted : Bool) (tick : ℕ) → tick ≤ admissions_of admitted tick
     by_admission true tick = omega arith
     by_admission false tick = omega arith
 

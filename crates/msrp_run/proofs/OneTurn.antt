@@ -6,7 +6,7 @@ use Rattle.std.proofs.lemmas.List.Sums.{fold_push}
 use Rattle.msrp_plan.specs.Plan.{PlanModel}
 use Rattle.msrp_plan.specs.Levels.{is_global}
 use Rattle.msrp_plan.specs.Actions.{is_global_unit, res_of_unit}
-use Rattle.msrp_plan.specs.Calls.{ResCall, claim_with, claim_after, IsInTurn, kind_of_call, ahead_of_call}
+use Rattle.msrp_plan.specs.Calls.{ResCall, claim_with, claim_after, IsDueCall, kind_of_call, ahead_of_call}
 use Rattle.msrp_plan.specs.Phases.{phase_with, phase_after}
 use Rattle.msrp_plan.specs.Runs.{IsCoreTurn, CoreRun}
 use Rattle.msrp_plan.specs.Shape.{is_queue}
@@ -27,7 +27,7 @@ use Rattle.msrp_board.specs.declared.answers.SeatPhase.TheVariants.{Admitted}
 use Rattle.msrp_board.specs.declared.books.Book.{Book}
 use Rattle.msrp_board.specs.declared.books.BoardSize.{BoardSize}
 use Rattle.msrp_board.specs.declared.books.Entry.{Entry}
-use Rattle.msrp_board.specs.Books.{phase_by, phase_in, reach_of, has_acted, lock_of, res_calls, IsKept}
+use Rattle.msrp_board.specs.Books.{phase_by, phase_in, admissions_of, has_acted, lock_of, res_calls, IsKept}
 use Rattle.msrp_board.specs.History.{is_poll}
 use Rattle.msrp_board.specs.Seats.{BoardModel, SeatModel, IsSeat, IsCoreSeat}
 use Rattle.msrp_board.specs.SeatPorts.{calls_in, port_calls, port_room, room_in, room_by, AddsCall}
@@ -56,7 +56,7 @@ admitted_is false false false e = absurd (cc)
 -- a core that is let into its tick has it left
 admitted_left : (size : BoardSize) (b : Book) → IsKept size b → phase_in size.ticks b ≡ Admitted → b.tick < size.ticks
 admitted_left size b kept stands =
-    let most : reach_of true b.tick ≤ size.ticks = subst (λ a. reach_of a b.tick ≤ size.ticks) (admitted_is b.stopped b.admitted (nat_lt b.tick size.ticks) stands) kept.within in
+    let most : admissions_of true b.tick ≤ size.ticks = subst (λ a. admissions_of a b.tick ≤ size.ticks) (admitted_is b.stopped b.admitted (nat_lt b.tick size.ticks) stands) kept.within in
     omega (arith, most)
 
 pub tick_left : (board : BoardModel) (m : MachineModel) (log : LogModel) (seat : SeatModel) → MayTurn board m log seat → IsSeat seat → m.tick < m.plan.ticks
@@ -160,7 +160,7 @@ asked_on plan r c core at seat back one two row asked =
 -- what was logged and what was done are one: no step and no place, or the step that the place is of
 pub data Told (board : BoardModel) (m : MachineModel) (seat back : SeatModel) (book : Book) (row : Row) (place : Option Place) : Type 0 where
   Quiet : place ≡ None → back ≡ seat → is_step row.kind ≡ false → Told board m seat back book row place
-  Step : (res : ResId) (p : Place) (call : Call) → place ≡ Some p → p.polled ≡ is_poll call → back ≡ with_entry res p.number call seat → IsInTurn (claim_after (port_calls seat m.core)) res call → row.res ≡ Some res → row.kind ≡ kind_of_call call → row.ahead ≡ ahead_of_call call → Told board m seat back book row place
+  Step : (res : ResId) (p : Place) (call : Call) → place ≡ Some p → p.polled ≡ is_poll call → back ≡ with_entry res p.number call seat → IsDueCall (claim_after (port_calls seat m.core)) res call → row.res ≡ Some res → row.kind ≡ kind_of_call call → row.ahead ≡ ahead_of_call call → Told board m seat back book row place
 
 told_by : (board : BoardModel) (m : MachineModel) (log : LogModel) (seat back : SeatModel) (row : Row) (place : Option Place) → (may : MayTurn board m log seat) → IsCoreTurn m.plan m.core (rows_of log.turns) row
     → IsStepSince m.core seat place back → HasAsked m.plan row (port_of row.core seat) (port_of row.core back) → Told board m seat back may.book row place
@@ -176,7 +176,7 @@ told_by board m log seat back row (Some p) may is since (inr quiet) =
     absurd (omega (arith, none, one, same))
 told_by board m log seat back row (Some p) may is since (inl makes) =
     Step makes.res p makes.call refl (since.2 ∙ ap is_poll call_same) (since.3 ∙ (ap (λ r. with_entry r p.number since.1 seat) res_same ∙ ap (λ k. with_entry makes.res p.number k seat) call_same))
-    (subst (λ r. IsInTurn (claim_after (port_calls seat m.core)) r makes.call) res_same (subst (λ k. IsInTurn (claim_after (port_calls seat m.core)) since.0 k) call_same since.5))
+    (subst (λ r. IsDueCall (claim_after (port_calls seat m.core)) r makes.call) res_same (subst (λ k. IsDueCall (claim_after (port_calls seat m.core)) since.0 k) call_same since.5))
     makes.resource makes.kind makes.ahead
   where
     added : AddsCall m.core since.0 since.1 seat back
@@ -269,7 +269,7 @@ after_told board m next log seat back row place may t (Step res p call at polled
     phase =
         t.stands.phase ∙ (fold_push (λ phase r. phase_with phase r.kind r.res) Free (rows_of log.turns) row
         ∙ (ap (λ k. phase_with (phase_after (rows_of log.turns)) k row.res) kind ∙ (ap (λ o. phase_with (phase_after (rows_of log.turns)) (kind_of_call call) o) resource
-        ∙ (ap (λ f. phase_with f (kind_of_call call) (Some res)) (sym before) ∙ call_as_row (lock_of may.book) res call (subst (λ l. IsInTurn l res call) own turn)))))
+        ∙ (ap (λ f. phase_with f (kind_of_call call) (Some res)) (sym before) ∙ call_as_row (lock_of may.book) res call (subst (λ l. IsDueCall l res call) own turn)))))
 
     told : IsTurnOf (record { row = row; place = place }) entry
     told = record {

@@ -2,7 +2,7 @@
 use Rattle.std.proofs.Common.{◌==◌, ◌≡◌, ◌<◌, ◌≤◌, ℕ, List, [], ◌∷◌, ◌++◌, map, cond, Bool, true, false, Option, Some, None, refl, sym, ap, ◌∙◌, subst, arith, eq-eqb}
 use Rattle.std.specs.List.{filter}
 use Rattle.std.proofs.lemmas.List.{map-append}
-use Rattle.msrp_plan.specs.Calls.{ResCall, claim_after, IsInTurn}
+use Rattle.msrp_plan.specs.Calls.{ResCall, claim_after, IsDueCall}
 use Rattle.msrp_plan.specs.declared.ids.CoreId.{CoreId}
 use Rattle.msrp_plan.specs.declared.ids.ResId.{ResId}
 use Rattle.msrp_plan.specs.declared.units.Call.{Call}
@@ -61,7 +61,7 @@ untouched c k first seat (Some p) same room since = let none = ap (port_room sea
 
 -- a step through the seat adds one call of its core
 pub seat_adds : (c : ℕ) (first : SeatModel) (board : BoardModel) (core k : CoreId) (place : Option Place) (old new : SeatModel) (res : ResId) (number : ℕ) (call : Call) → IsSeatPort c first board core place old
-    → 0 < port_room old k.0 → IsInTurn (claim_in k.0 (calls_by core (port_calls old core.0))) res call → new ≡ with_entry res number call old
+    → 0 < port_room old k.0 → IsDueCall (claim_in k.0 (calls_by core (port_calls old core.0))) res call → new ≡ with_entry res number call old
     → Adds k res call (port_of core old) (port_of core new) × IsSeatPort c first board core (Some record { number = number; polled = is_poll call }) new
 seat_adds c first board core k place old new res number call p room turn is = (
   record {
@@ -96,5 +96,5 @@ seat_adds c first board core k place old new res number call p room turn is = (
     none_left : port_room new c ≡ 0
     none_left = let low = room_in_low old.board.size.ticks (book_at old k.0) in let e = added.room in let same = ap (port_room new) mine in omega (arith, low, e, same)
 
-    in_turn : IsInTurn (claim_after (port_calls first c)) res call
-    in_turn = subst (λ l. IsInTurn l res call) (claim_is core k old at ∙ (ap (λ s. claim_after (port_calls s core.0)) first_is ∙ ap (λ n. claim_after (port_calls first n)) p.of_core)) turn
+    in_turn : IsDueCall (claim_after (port_calls first c)) res call
+    in_turn = subst (λ l. IsDueCall l res call) (claim_is core k old at ∙ (ap (λ s. claim_after (port_calls s core.0)) first_is ∙ ap (λ n. claim_after (port_calls first n)) p.of_core)) turn

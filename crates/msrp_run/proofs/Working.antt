@@ -12,7 +12,7 @@ use Rattle.msrp_board.specs.declared.answers.SeatPhase.TheVariants.{Waiting, Adm
 use Rattle.msrp_board.specs.declared.books.Book.{Book}
 use Rattle.msrp_board.specs.declared.books.BoardSize.{BoardSize}
 use Rattle.msrp_board.specs.declared.books.Entry.{Entry}
-use Rattle.msrp_board.specs.Books.{phase_by, phase_in, reach_of, lock_of}
+use Rattle.msrp_board.specs.Books.{phase_by, phase_in, admissions_of, lock_of}
 use Rattle.msrp_board.specs.Seats.{BoardModel, SeatModel, IsSeat, IsCoreSeat}
 use Rattle.msrp_board.specs.Steps.{book_with_admission, with_admission, book_with_stop, with_stop, book_with_arrival, with_arrival}
 use Rattle.msrp_board.proofs.CoreSeats.{core_changed, waiting_book, not_acted}
@@ -202,7 +202,7 @@ has_done board plan c m log seat phase a reads kept is = record {
     whole : length log.turns ≡ plan.ticks
     whole =
         let over = ltb-false a.book.tick seat.board.size.ticks (none_left a.book.stopped a.book.admitted (nat_lt a.book.tick seat.board.size.ticks) done) in
-        let within : reach_of false a.book.tick ≤ seat.board.size.ticks = subst (λ x. reach_of x a.book.tick ≤ seat.board.size.ticks) a.out (kept.kept c a.book a.of_core.book).within in
+        let within : admissions_of false a.book.tick ≤ seat.board.size.ticks = subst (λ x. admissions_of x a.book.tick ≤ seat.board.size.ticks) a.out (kept.kept c a.book a.of_core.book).within in
         let b = a.tick in
         let e = a.stands.tick in
         let f = length_rows log.turns in

@@ -1,6 +1,6 @@
 -- A core's seat as the port of its machine: what the port tells of the seat, and the one step that is made through it.
 use Rattle.std.specs.Prelude.{◌≡◌, ℕ, ◌⊎◌, List, [], Option, Some, None, map}
-use Rattle.msrp_plan.specs.Calls.{ResCall, claim_after, IsInTurn}
+use Rattle.msrp_plan.specs.Calls.{ResCall, claim_after, IsDueCall}
 use Rattle.msrp_plan.specs.Plan.{PlanModel}
 use Rattle.msrp_plan.specs.declared.rows.Row.{Row}
 use Rattle.msrp_plan.specs.declared.ids.CoreId.{CoreId}
@@ -26,7 +26,7 @@ port_of core seat = record { calls = calls_by core (port_calls seat core.0); roo
 -- its turn, at this place, after which there is no room
 abbrev pub IsStepSince : ℕ → SeatModel → Option Place → SeatModel → Type 0
 IsStepSince c first None seat = seat ≡ first
-IsStepSince c first (Some p) seat = (res : ResId) × (call : Call) × (p.polled ≡ is_poll call) × (seat ≡ with_entry res p.number call first) × (port_room seat c ≡ 0) × IsInTurn (claim_after (port_calls first c)) res call
+IsStepSince c first (Some p) seat = (res : ResId) × (call : Call) × (p.polled ≡ is_poll call) × (seat ≡ with_entry res p.number call first) × (port_room seat c ≡ 0) × IsDueCall (claim_after (port_calls first c)) res call
 
 -- what a seat port keeps: its seat is that of its core, let into its tick, and has made at most one step
 pub record IsSeatPort (c : ℕ) (first : SeatModel) (board : BoardModel) (core : CoreId) (place : Option Place) (seat : SeatModel) : Type 0 where

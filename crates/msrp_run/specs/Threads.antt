@@ -20,24 +20,24 @@ use Rattle.msrp_merge.specs.Pairs.{Paired}
 use Rattle.msrp_merge.specs.Sorting.{IsMerged}
 use Rattle.msrp_merge.specs.Steps.{is_row_on, IsRowOfEvent}
 use Rattle.msrp_merge.specs.Turns.{LogModel, rows_of}
-use Rattle.msrp_run.specs.declared.crew.Ended.{Ended}
-use Rattle.msrp_run.specs.declared.crew.Kit.{Kit}
-use Rattle.msrp_run.specs.declared.crew.WorkOf.{WorkOf}
+use Rattle.msrp_run.specs.declared.workers.Ended.{Ended}
+use Rattle.msrp_run.specs.declared.workers.CoreParts.{CoreParts}
+use Rattle.msrp_run.specs.declared.workers.WorkPromise.{WorkPromise}
 use Rattle.msrp_run.specs.Work.{IsWorked}
 
 -- a machine of core c before its first turn, and an empty log
-pub record IsKit (plan : PlanModel) (c : ℕ) (kit : Kit) : Type 0 where
-  pub plan_is : kit.machine.plan ≡ plan
-  pub core : kit.machine.core ≡ c
-  pub new : StandsAfter kit.machine []
-  pub log : kit.log ≡ record { core = c; ticks = plan.ticks; turns = [] }
+pub record AreNewParts (plan : PlanModel) (c : ℕ) (parts : CoreParts) : Type 0 where
+  pub plan_is : parts.machine.plan ≡ plan
+  pub core : parts.machine.core ≡ c
+  pub new : StandsAfter parts.machine []
+  pub log : parts.log ≡ record { core = c; ticks = plan.ticks; turns = [] }
 
 -- one for each core, cores rising
-abbrev pub AreKits : PlanModel → List Kit → Type 0
-AreKits plan kits = (k : ℕ) (d : Kit) → k < length kits → IsKit plan k (slice_index_or kits k d)
+abbrev pub AllAreNew : PlanModel → List CoreParts → Type 0
+AllAreNew plan all_parts = (k : ℕ) (d : CoreParts) → k < length all_parts → AreNewParts plan k (slice_index_or all_parts k d)
 
 -- the conductor's seat while the seats of the first n cores are out: it holds the empty books of the others
-pub record IsBench (board : BoardModel) (n : ℕ) (seat : SeatModel) : Type 0 where
+pub record HasOthers (board : BoardModel) (n : ℕ) (seat : SeatModel) : Type 0 where
   pub on : seat.board ≡ board
   pub books : (c : ℕ) → n ≤ c → c < board.size.cores → book_at seat c ≡ Some empty_book
   pub conductor : seat.conductor ≡ Some Unopened
@@ -54,13 +54,13 @@ pub record HasRest (board : BoardModel) (n : ℕ) (did : Conductor) (seat : Seat
   pub conductor : seat.conductor ≡ Some did
 
 -- the promise of the thread of core c
-pub record IsPromise (board : BoardModel) (plan : PlanModel) (c : ℕ) (p : WorkOf) : Type 0 where
+pub record IsPromise (board : BoardModel) (plan : PlanModel) (c : ℕ) (p : WorkPromise) : Type 0 where
   pub core : p.core.0 ≡ c
   pub on : p.seat.value.board ≡ board
   pub plan_is : p.plan.value ≡ plan
 
 -- the promises of the threads of the cores, rising
-abbrev pub ArePromised : {T : Type 0} → BoardModel → PlanModel → List (PromisedHandle T WorkOf) → Type 0
+abbrev pub ArePromised : {T : Type 0} → BoardModel → PlanModel → List (PromisedHandle T WorkPromise) → Type 0
 ArePromised board plan handles = (k : ℕ) (d : _) → k < length handles → IsPromise board plan k (slice_index_or handles k d).promise
 
 -- the logs of the first cores are what their workers give back, with their books in the seat

@@ -3,13 +3,13 @@
 //! [`turn_on`] is one core's turn on a board. A [`Stage`] makes the turns of all cores, each on the thread of its core.
 #![tactic(auto)]
 
-mod crew;
 mod hire;
 pub mod laws;
 mod port;
 mod threads;
 mod turns;
 mod work;
+mod workers;
 
 pub use hire::{Hire, HireAll, RunError};
 pub use threads::{run_logged_if, run_threads, run_threads_if};

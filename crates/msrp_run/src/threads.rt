@@ -8,13 +8,13 @@ ghost use Rattle.msrp_board.specs.declared.books.Conductor.TheVariants.{Opened, 
 ghost use Rattle.msrp_board.specs.Boards.{IsTied, entries_at};
 ghost use Rattle.msrp_merge.specs.Merging.{AreLogs, size_of, turns_of};
 ghost use Rattle.msrp_merge.specs.Turns.{rows_of};
-ghost use Rattle.msrp_run.specs.Threads.{AreDone, AreKits, ArePromised, HasEnded, HasRest, HasRun, IsBench, IsCalledOff, IsInOrder, IsKit, IsPromise, IsServedAs, ordered};
+ghost use Rattle.msrp_run.specs.Threads.{AreDone, AllAreNew, ArePromised, HasEnded, HasRest, HasRun, HasOthers, IsCalledOff, IsInOrder, AreNewParts, IsPromise, IsServedAs, ordered};
 ghost use Rattle.msrp_run.specs.Work.{HasWorked, IsNew};
 
-use crate::crew::{Ended, Handle, Kit, Started, WorkOf};
 use crate::hire::{Hire, HireAll, RunError};
 use crate::turns::Stage;
 use crate::work::worker;
+use crate::workers::{CoreParts, Ended, Handle, Started, WorkPromise};
 use msrp_board::{Board, BoardSeat, Settled};
 use msrp_core::Machine;
 use msrp_levels::Levels;
@@ -26,34 +26,34 @@ use std::sync::Wait;
 use std::thread;
 use std::thread::{Promise, Scope, Threads};
 
-impl Promise<(CoreLog, BoardSeat)> for WorkOf {
+impl Promise<(CoreLog, BoardSeat)> for WorkPromise {
     ghost kept_by = { λ p r. HasWorked p.seat.value.board p.plan.value p.core.0 r.0 r.1 };
 }
 
 // A machine and an empty log for each core, cores rising.
-fn kits_of<'a>(
+fn parts_of<'a>(
     alloc: Global,
     plan: &'a Plan,
     levels: &'a Levels<'a>,
-) -> Result<Vec<Kit<'a>>, Memory>
+) -> Result<Vec<CoreParts<'a>>, Memory>
     requires { levels.now ≡ plan.now }
-    ensures count { IfOk result (λ kits. vec_len kits ≡ plan.now.cores) }
-    ensures each { IfOk result (λ kits. AreKits plan.now kits.items) }
+    ensures count { IfOk result (λ all_parts. vec_len all_parts ≡ plan.now.cores) }
+    ensures each { IfOk result (λ all_parts. AllAreNew plan.now all_parts.items) }
 {
-    let mut kits = Vec::with_capacity(alloc, plan.cores() as usize)?;
+    let mut all_parts = Vec::with_capacity(alloc, plan.cores() as usize)?;
     for c in 0..plan.cores() {
         let machine = Machine::with_room(alloc, plan, levels, CoreId(c))?;
         let log = CoreLog::with_room(alloc, CoreId(c), plan.ticks())?;
-        kits.push_reserved(Kit { machine, log });
+        all_parts.push_reserved(CoreParts { machine, log });
     }
-    Ok(kits)
+    Ok(all_parts)
 }
 
-impl WorkOf {
-    fn of(core: CoreId, seat: &BoardSeat, plan: &Plan) -> WorkOf
+impl WorkPromise {
+    fn of(core: CoreId, seat: &BoardSeat, plan: &Plan) -> WorkPromise
         ensures { (result.core ≡ core) × (result.seat.value ≡ seat.now) × (result.plan.value ≡ plan.now) }
     {
-        WorkOf {
+        WorkPromise {
             core,
             seat: Snapshot::of(seat),
             plan: Snapshot::of(plan),
@@ -99,7 +99,7 @@ impl CoreWork for Machine<'_> {
 // The work of a core, as its thread promises it.
 fn work_as<R: Wait, S: Stage, W: CoreWork>(
     rt: &R,
-    given: WorkOf,
+    given: WorkPromise,
     machine: W,
     log: CoreLog,
     seat: BoardSeat,
@@ -124,28 +124,28 @@ fn start<'s, E, R: Wait + Sync, S: Stage + Sync, W: CoreWork + 's>(
     log: CoreLog,
     seat: BoardSeat,
     board: &'s Board,
-    mut bench: BoardSeat,
+    mut others: BoardSeat,
     stage: &'s S,
 ) -> Result<(Handle, BoardSeat), BoardSeat>
     requires plan { (W.machine machine).plan ≡ plan.now }
     requires core { (W.machine machine).core ≡ core.0 }
     requires new { IsNew board.now (W.machine machine) log seat }
-    requires bench { IsBench board.now (core.0 + 1) bench }
-    ensures started { IfOk result (λ r. IsPromise board.now plan.now core.0 r.0.promise × (r.1 ≡ bench)) }
+    requires others { HasOthers board.now (core.0 + 1) others }
+    ensures started { IfOk result (λ r. IsPromise board.now plan.now core.0 r.0.promise × (r.1 ≡ others)) }
     ensures refused { IfErr result (λ seat. HasRest board.now core.0 Aborted seat) }
 {
-    let promise = WorkOf::of(core, &seat, plan);
-    let given = WorkOf::of(core, &seat, plan);
+    let promise = WorkPromise::of(core, &seat, plan);
+    let given = WorkPromise::of(core, &seat, plan);
     let work = move || -> (CoreLog, BoardSeat)
         requires { IsNew board.now (W.machine machine) log seat × IsPromise board.now (W.machine machine).plan (W.machine machine).core given }
         ensures { HasWorked given.seat.value.board given.plan.value given.core.0 result.0 result.1 }
     { work_as(rt, given, machine, log, seat, board, stage) };
     match scope.spawn_with(promise, work) {
-        Ok(handle) => Ok((handle, bench)),
+        Ok(handle) => Ok((handle, others)),
         Err(refused) => {
-            board.abort(&mut bench);
+            board.abort(&mut others);
             let (_, seat) = (refused.value)();
-            Err(board.join(seat, bench))
+            Err(board.join(seat, others))
         }
     }
 }
@@ -155,26 +155,26 @@ fn start_next<'s, E, R: Wait + Sync, S: Stage + Sync, H: Hire>(
     scope: &'s Scope<'s, E>,
     rt: &'s R,
     plan: &'s Plan,
-    kit: Kit<'s>,
+    parts: CoreParts<'s>,
     board: &'s Board,
-    mut bench: BoardSeat,
+    mut others: BoardSeat,
     stage: &'s S,
     hire: &H,
 ) -> Result<(Handle, BoardSeat), BoardSeat>
-    requires kit { IsKit plan.now kit.machine.core kit }
+    requires parts { AreNewParts plan.now parts.machine.core parts }
     requires size { board.now.size ≡ size_of plan.now }
-    requires core { kit.machine.core < board.now.size.cores }
-    requires bench { IsBench board.now kit.machine.core bench }
-    ensures started { IfOk result (λ r. IsPromise board.now plan.now kit.entry.machine.core r.0.promise × IsBench board.now (kit.entry.machine.core + 1) r.1) }
-    ensures refused { IfErr result (λ seat. HasRest board.now kit.entry.machine.core Aborted seat) }
+    requires core { parts.machine.core < board.now.size.cores }
+    requires others { HasOthers board.now parts.machine.core others }
+    ensures started { IfOk result (λ r. IsPromise board.now plan.now parts.entry.machine.core r.0.promise × HasOthers board.now (parts.entry.machine.core + 1) r.1) }
+    ensures refused { IfErr result (λ seat. HasRest board.now parts.entry.machine.core Aborted seat) }
 {
-    let core = kit.machine.core();
+    let core = parts.machine.core();
     if !hire.may_start(core) {
-        board.abort(&mut bench);
-        return Err(bench);
+        board.abort(&mut others);
+        return Err(others);
     }
-    let (seat, rest) = board.split(bench, core);
-    let Kit { machine, log } = kit;
+    let (seat, rest) = board.split(others, core);
+    let CoreParts { machine, log } = parts;
     start(
         scope, rt, plan, core, machine, log, seat, board, rest, stage,
     )
@@ -185,43 +185,43 @@ fn start_all<'s, E, R: Wait + Sync, S: Stage + Sync, H: Hire>(
     scope: &'s Scope<'s, E>,
     rt: &'s R,
     plan: &'s Plan,
-    kits: Vec<Kit<'s>>,
+    all_parts: Vec<CoreParts<'s>>,
     board: &'s Board,
-    mut bench: BoardSeat,
+    mut others: BoardSeat,
     stage: &'s S,
     hire: &H,
     mut handles: Vec<Handle>,
 ) -> Started
-    requires kits { AreKits plan.now kits.items }
+    requires all_parts { AllAreNew plan.now all_parts.items }
     requires size { board.now.size ≡ size_of plan.now }
-    requires count { vec_len kits ≡ plan.now.cores }
-    requires bench { IsBench board.now 0 bench }
+    requires count { vec_len all_parts ≡ plan.now.cores }
+    requires others { HasOthers board.now 0 others }
     requires none { handles.items ≡ [] }
-    requires room { vec_len kits ≤ vec_capacity handles }
+    requires room { vec_len all_parts ≤ vec_capacity handles }
     ensures promised { ArePromised board.now plan.now result.handles.items }
     ensures count { vec_len result.handles ≤ plan.now.cores }
     ensures all { IsTrue result.all → vec_len result.handles ≡ plan.now.cores }
-    ensures rest { HasRest board.now (vec_len result.handles) (ordered result.all) result.bench }
+    ensures rest { HasRest board.now (vec_len result.handles) (ordered result.all) result.others }
 {
-    for kit in kits {
-        match start_next(scope, rt, plan, kit, board, bench, stage, hire) {
+    for parts in all_parts {
+        match start_next(scope, rt, plan, parts, board, others, stage, hire) {
             Ok((handle, rest)) => {
-                bench = rest;
+                others = rest;
                 handles.push_reserved(handle);
             }
             Err(rest) => {
                 return Started {
                     handles,
-                    bench: rest,
+                    others: rest,
                     all: false,
                 };
             }
         }
     }
-    board.open(&mut bench);
+    board.open(&mut others);
     Started {
         handles,
-        bench,
+        others,
         all: true,
     }
 }
@@ -237,24 +237,24 @@ fn join_all<R: Threads>(
     requires promised { ArePromised board.now _plan.now started.handles.items }
     requires count { vec_len started.handles ≤ _plan.now.cores }
     requires all { IsTrue started.all → vec_len started.handles ≡ _plan.now.cores }
-    requires rest { HasRest board.now (vec_len started.handles) (ordered started.all) started.bench }
+    requires rest { HasRest board.now (vec_len started.handles) (ordered started.all) started.others }
     requires none { logs.items ≡ [] }
     requires room { vec_len started.handles ≤ vec_capacity logs }
     ensures { HasEnded board.now _plan.now result }
 {
     let Started {
         handles,
-        mut bench,
+        mut others,
         all,
     } = started;
     for handle in handles {
         let (log, seat) = handle.join(rt);
-        bench = board.join(seat, bench);
+        others = board.join(seat, others);
         logs.push_reserved(log);
     }
     Ended {
         logs,
-        seat: bench,
+        seat: others,
         all,
     }
 }
@@ -267,19 +267,21 @@ fn conduct<'s, E, R: Threads + Wait + Sync, S: Stage + Sync, H: Hire, L: PlanLev
     plan: &'s Plan,
     levels: &'s L,
     board: &'s Board,
-    bench: BoardSeat,
+    others: BoardSeat,
     stage: &'s S,
     hire: &H,
 ) -> Result<Ended, Memory>
     requires levels { L.plan levels.now ≡ plan.now }
     requires size { board.now.size ≡ size_of plan.now }
-    requires bench { IsBench board.now 0 bench }
+    requires others { HasOthers board.now 0 others }
     ensures { IfOk result (λ ended. HasEnded board.now plan.now ended) }
 {
-    let kits = kits_of(alloc, plan, levels.levels())?;
-    let handles = Vec::with_capacity(alloc, kits.len())?;
-    let logs = Vec::with_capacity(alloc, kits.len())?;
-    let started = start_all(scope, rt, plan, kits, board, bench, stage, hire, handles);
+    let all_parts = parts_of(alloc, plan, levels.levels())?;
+    let handles = Vec::with_capacity(alloc, all_parts.len())?;
+    let logs = Vec::with_capacity(alloc, all_parts.len())?;
+    let started = start_all(
+        scope, rt, plan, all_parts, board, others, stage, hire, handles,
+    );
     Ok(join_all(rt, plan, board, started, logs))
 }
 
@@ -308,22 +310,22 @@ fn on_threads<R: Threads + Wait + Sync, S: Stage + Sync, H: Hire, L: PlanLevels>
     plan: &Plan,
     levels: &L,
     board: &Board,
-    bench: BoardSeat,
+    others: BoardSeat,
     stage: &S,
     hire: &H,
 ) -> Result<Ended, Memory>
     requires levels { L.plan levels.now ≡ plan.now }
     requires size { board.now.size ≡ size_of plan.now }
-    requires bench { IsBench board.now 0 bench }
+    requires others { HasOthers board.now 0 others }
     ensures { IfOk result (λ ended. HasEnded board.now plan.now ended) }
 {
     thread::scope(
         thread::scope_env(),
         rt,
         move |scope| -> Result<Ended, Memory>
-            requires { (L.plan levels.now ≡ plan.now) × (board.now.size ≡ size_of plan.now) × IsBench board.now 0 bench }
+            requires { (L.plan levels.now ≡ plan.now) × (board.now.size ≡ size_of plan.now) × HasOthers board.now 0 others }
             ensures { IfOk result (λ ended. HasEnded board.entry.now plan.entry.now ended) }
-        { conduct(scope, rt, alloc, plan, levels, board, bench, stage, hire) },
+        { conduct(scope, rt, alloc, plan, levels, board, others, stage, hire) },
     )
 }
 
@@ -344,11 +346,11 @@ fn settled_run<R: Threads + Wait + Sync, S: Stage + Sync, H: Hire>(
     ensures plan { IfOk result (λ _. IsPlan plan.now) }
 {
     let levels = Levels::of(alloc, plan)?;
-    let Ok((board, bench)) = Board::new(alloc, plan.cores(), plan.resources(), plan.ticks()) else {
+    let Ok((board, others)) = Board::new(alloc, plan.cores(), plan.resources(), plan.ticks()) else {
         return Err(Memory);
     };
     let Ended { logs, seat, all } = on_threads(
-        rt, alloc, plan, &levels, &board, bench, stage, hire,
+        rt, alloc, plan, &levels, &board, others, stage, hire,
     )?;
     Ok((logs, board.settle(seat), all))
 }

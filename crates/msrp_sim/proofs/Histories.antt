@@ -7,7 +7,7 @@ use Rattle.std.proofs.lemmas.List.Elements.{filter-append}
 use Rattle.std.proofs.lemmas.List.Sums.{fold_push}
 use Rattle.msrp_plan.specs.FifoLock.{FifoLock, free_lock, IsAmong, IsFirst, Answers, without_first, lock_after, Legal}
 use Rattle.msrp_plan.specs.LockStates.{lock_from}
-use Rattle.msrp_plan.specs.Calls.{ResCall, claim_with, claim_after, IsInTurn}
+use Rattle.msrp_plan.specs.Calls.{ResCall, claim_with, claim_after, IsDueCall}
 use Rattle.msrp_plan.specs.declared.ids.ResId.{ResId}
 use Rattle.msrp_plan.specs.declared.units.Call.{Call}
 use Rattle.msrp_plan.specs.declared.units.Call.TheVariants.{Ask, Poll, Leave}
@@ -108,7 +108,7 @@ stance_own lock c (Poll false) once answers = (answers.0, λ f. absurd (answers.
 stance_own lock c Leave once answers = once answers.0
 
 -- so says its claim
-stance_here : (claim : Phase) (res : ResId) (call : Call) → IsInTurn claim res call → stance_of res.0 (claim_with claim res call) ≡ stance_after call
+stance_here : (claim : Phase) (res : ResId) (call : Call) → IsDueCall claim res call → stance_of res.0 (claim_with claim res call) ≡ stance_after call
 stance_here claim res (Ask zero) turn = ap (λ b. cond b Holds Out) (eq-eqb res.0 res.0 refl)
 stance_here claim res (Ask (suc n)) turn = ap (λ b. cond b Waits Out) (eq-eqb res.0 res.0 refl)
 stance_here claim res (Poll true) turn = ap (λ b. cond b Holds Out) (eq-eqb res.0 res.0 refl)
@@ -116,7 +116,7 @@ stance_here claim res (Poll false) turn = ap (stance_of res.0) turn ∙ ap (λ b
 stance_here claim res Leave turn = refl
 
 -- and to other resources it stands as before
-stance_there : (claim : Phase) (res : ResId) (call : Call) (g : ℕ) → (res.0 == g) ≡ false → IsInTurn claim res call → stance_of g (claim_with claim res call) ≡ stance_of g claim
+stance_there : (claim : Phase) (res : ResId) (call : Call) (g : ℕ) → (res.0 == g) ≡ false → IsDueCall claim res call → stance_of g (claim_with claim res call) ≡ stance_of g claim
 stance_there claim res (Ask zero) g off turn = ap (λ b. cond b Holds Out) off ∙ sym (ap (stance_of g) turn)
 stance_there claim res (Ask (suc n)) g off turn = ap (λ b. cond b Waits Out) off ∙ sym (ap (stance_of g) turn)
 stance_there claim res (Poll true) g off turn = ap (λ b. cond b Holds Out) off ∙ sym (ap (stance_of g) turn ∙ ap (λ b. cond b Waits Out) off)
@@ -124,7 +124,7 @@ stance_there claim res (Poll false) g off turn = refl
 stance_there claim res Leave g off turn = sym (ap (stance_of g) turn ∙ ap (λ b. cond b Holds Out) off)
 
 -- ---- what the cores hold or await after one call more
-module _ (e : PortCall) (locks after : ℕ → FifoLock) (claims newer : ℕ → Phase) (moves : MovesBy e locks after claims newer) (answers : Answers (locks e.res.0) e.core.0 e.call) (turn : IsInTurn (claims e.core.0) e.res e.call) (once : IsOnce (locks e.res.0).queue e.core.0) where
+module _ (e : PortCall) (locks after : ℕ → FifoLock) (claims newer : ℕ → Phase) (moves : MovesBy e locks after claims newer) (answers : Answers (locks e.res.0) e.core.0 e.call) (turn : IsDueCall (claims e.core.0) e.res e.call) (once : IsOnce (locks e.res.0).queue e.core.0) where
   own_here : (g : ℕ) → e.res.0 ≡ g → IsStance (after g) e.core.0 (stance_of g (newer e.core.0))
   own_here g at =
       let s : stance_of g (newer e.core.0) ≡ stance_after e.call = ap (stance_of g) moves.claim ∙ subst (λ h. stance_of h (claim_with (claims e.core.0) e.res e.call) ≡ stance_after e.call) at (stance_here (claims e.core.0) e.res e.call turn) in

@@ -8,7 +8,7 @@ use Rattle.std.proofs.lemmas.Option.{none-some}
 use Rattle.std.proofs.lemmas.List.Elements.{recursion_from_All}
 use Rattle.msrp_plan.specs.FifoLock.{FifoLock, free_lock, IsAmong, Answers, lock_after}
 use Rattle.msrp_plan.specs.LockStates.{lock_from}
-use Rattle.msrp_plan.specs.Calls.{IsInTurn}
+use Rattle.msrp_plan.specs.Calls.{IsDueCall}
 use Rattle.msrp_plan.specs.declared.ids.ResId.{ResId}
 use Rattle.msrp_plan.specs.declared.units.Call.{Call}
 use Rattle.msrp_plan.specs.declared.units.Call.TheVariants.{Ask, Poll, Leave}
@@ -57,7 +57,7 @@ known_by calls c g bound all among = elim (cases_lt g bound) [
 ]
 
 -- a request of a free core is made in its turn, whatever the reply
-pub asked_in_turn : (claim : Phase) (res : ResId) (reply : Reply) → claim ≡ Free → IsInTurn claim res (asked reply)
+pub asked_in_turn : (claim : Phase) (res : ResId) (reply : Reply) → claim ≡ Free → IsDueCall claim res (asked reply)
 asked_in_turn claim res Taken free = free
 asked_in_turn claim res (Replied n) free = free
 
@@ -73,7 +73,7 @@ module _ (locks : ℕ → FifoLock) (claims : ℕ → Phase) (q : Queues) (servi
       let w = waits_at locks c (claims c) (serving.stances c) res queued in
       (w.0, λ first. eqb-false _ _ (sym is) (ticket_of_first _ _ _ _ c (serving.tickets res.0) first))
 
-  pub told_answers : (call : Call) → IsInTurn (claims c) res call → IsTold q c res.0 call → Answers (locks res.0) c call
+  pub told_answers : (call : Call) → IsDueCall (claims c) res call → IsTold q c res.0 call → Answers (locks res.0) c call
   told_answers (Ask ahead) turn told = (out_of locks c (claims c) (serving.stances c) turn res.0, let n = (serving.tickets res.0).size in omega (arith, n, told))
   told_answers (Poll granted) turn told = poll_answers granted turn told
   told_answers Leave turn told = holds_at locks c (claims c) (serving.stances c) res turn
@@ -95,7 +95,7 @@ by_resource e locks after claims newer q moves own others g = elim (cases_Bool (
   | inr off ↦ subst (λ (l : FifoLock). IsTicketed l.queue (queue_of q g).next (queue_of q g).serving (ticket_of q)) (sym (moves.other_locks g off)) (others g (λ h. eqb-false e.res.0 g off (sym h)))
 ]
 
-serving_push : (e : PortCall) (locks after : ℕ → FifoLock) (claims newer : ℕ → Phase) (old new : Queues) → IsServing locks claims old → MovesBy e locks after claims newer → Answers (locks e.res.0) e.core.0 e.call → IsInTurn (claims e.core.0) e.res e.call
+serving_push : (e : PortCall) (locks after : ℕ → FifoLock) (claims newer : ℕ → Phase) (old new : Queues) → IsServing locks claims old → MovesBy e locks after claims newer → Answers (locks e.res.0) e.core.0 e.call → IsDueCall (claims e.core.0) e.res e.call
     → ((g : ℕ) → IsTicketed (after g).queue (queue_of new g).next (queue_of new g).serving (ticket_of new)) → IsServing after newer new
 serving_push e locks after claims newer old new s moves answers turn tickets = record {
   stances = claims_push e locks after claims newer moves answers turn (once_by_ticket _ _ _ _ e.core.0 (s.tickets e.res.0)) s.stances;

@@ -2,7 +2,7 @@
 use Rattle.std.proofs.Common.{◌≡◌, ℕ, ◌+◌, ◌<◌, ◌==◌, ◌&&◌, Bool, true, false, cond, List, [], ◌∷◌, ◌++◌, Option, Some, None, is_none, refl, ap, sym, ◌∙◌, subst, arith, append-nil, eqb-true}
 use Rattle.std.proofs.Math.Bool.{true≢false}
 use Rattle.std.proofs.lemmas.Option.{same_Some}
-use Rattle.msrp_plan.specs.Calls.{IsInTurn}
+use Rattle.msrp_plan.specs.Calls.{IsDueCall}
 use Rattle.msrp_plan.specs.declared.ids.CoreId.{CoreId}
 use Rattle.msrp_plan.specs.declared.ids.ResId.{ResId}
 use Rattle.msrp_plan.specs.declared.units.Call.{Call}
@@ -29,13 +29,13 @@ call_with core res call = Some (record { core = core; res = res; call = call })
 
 -- a call in its turn, answered as the tickets stand, is the call of the turn
 pub port_adds : (before : List PortCall) (first queues : Queues) (core k : CoreId) (resources : ℕ) (res : ResId) (made : Call) (call : Option PortCall) → IsTurnPort before first queues call → 0 < (port_after before core resources call).rooms k.0
-    → IsInTurn (claim_in k.0 (before ++ as_calls call)) res made → IsTold queues k.0 res.0 made
+    → IsDueCall (claim_in k.0 (before ++ as_calls call)) res made → IsTold queues k.0 res.0 made
     → Adds k res made (port_after before core resources call) (port_after before core resources (call_with k res made)) × IsTurnPort before first queues (call_with k res made)
 port_adds before first queues core k resources res made call port room turn told =
     let e : PortCall = record { core = k; res = res; call = made } in
     let parts = one_room (k.0 == core.0) (is_none call) room in
     let none : call ≡ None = no_call call parts.1 in
-    let first_turn : IsInTurn (claim_in k.0 before) res made = subst (λ l. IsInTurn (claim_in k.0 l) res made) (ap (λ o. before ++ as_calls o) none ∙ append-nil before) turn in (
+    let first_turn : IsDueCall (claim_in k.0 before) res made = subst (λ l. IsDueCall (claim_in k.0 l) res made) (ap (λ o. before ++ as_calls o) none ∙ append-nil before) turn in (
       record {
         calls = sym (ap (λ o. (before ++ as_calls o) ++ e ∷ []) none ∙ ap (λ l. l ++ e ∷ []) (append-nil before));
         room = room_taken (k.0 == core.0) (is_none call) parts.0 parts.1;

@@ -14,7 +14,7 @@ use Rattle.msrp_plan.specs.Runs.{IsCoreTurn, had_turn, is_in_turn, is_fifo_reply
 use Rattle.msrp_plan.specs.Logs.{log_of}
 use Rattle.msrp_plan.specs.FifoLock.{free_lock, Answers}
 use Rattle.msrp_plan.specs.LockStates.{lock_at}
-use Rattle.msrp_plan.specs.Calls.{IsInTurn, kind_of_call, ahead_of_call}
+use Rattle.msrp_plan.specs.Calls.{IsDueCall, kind_of_call, ahead_of_call}
 use Rattle.msrp_plan.specs.declared.ids.JobId.{JobId}
 use Rattle.msrp_plan.specs.declared.ids.ResId.{ResId}
 use Rattle.msrp_plan.specs.declared.rows.Kind.{Kind}
@@ -102,8 +102,8 @@ module _ (old new : CoresModel) (c : ℕ) (r : Row) (rows : List Row) (cores : A
   is_turn = turn_of old.plan rows r turn_row.own (chosen_local old.plan c rows r are_own turn_row) (action_local old.plan c rows r are_own turn_row)
 
   -- the call of the turn, if it makes one, is made in its turn, and answered as the lock answers it
-  pub in_phase : (mc : MakesCallOf old.queues t.before t.after r t.call) → IsInTurn (phases_at rows r.core.0) mc.res mc.call
-  in_phase mc = subst (λ p. IsInTurn p mc.res mc.call) ((stands.logs c t.before t.has).phase ∙ ap (phases_at rows) (sym turn_row.core)) mc.turn
+  pub in_phase : (mc : MakesCallOf old.queues t.before t.after r t.call) → IsDueCall (phases_at rows r.core.0) mc.res mc.call
+  in_phase mc = subst (λ p. IsDueCall p mc.res mc.call) ((stands.logs c t.before t.has).phase ∙ ap (phases_at rows) (sym turn_row.core)) mc.turn
 
   pub answers_at : (mc : MakesCallOf old.queues t.before t.after r t.call) → Answers (locks_at old.plan rows mc.res.0) r.core.0 mc.call
   answers_at mc = told_answers (locks_at old.plan rows) (phases_at rows) old.queues stands.serving r.core.0 mc.res mc.call (in_phase mc) mc.told

@@ -1,6 +1,6 @@
 -- What a clause sees of the cores of a plan, and what their fields keep.
 use Rattle.msrp_sim.specs.Cores.{CoresModel, AreCores}
-use Rattle.msrp_sim.specs.declared.machines.Cores.TheInside.{Inside}
+use Rattle.msrp_sim.specs.declared.cores.Cores.TheInside.{Inside}
 
 abbrev pub cores_view : Inside → CoresModel
 cores_view c = record { plan = c.plan.now; machines = c.machines.items; queues = c.queues }

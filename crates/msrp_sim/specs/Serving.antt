@@ -1,6 +1,6 @@
 -- How the tickets of the queues stand for the locks of the resources, and what one call more does to them.
 use Rattle.std.specs.Prelude.{ℕ, List, Bool, false, ◌==◌, ◌≡◌, ◌≤◌, ◌+◌, ◌-◌, slice_index_or, ⊤}
-use Rattle.msrp_plan.specs.Calls.{claim_with, IsInTurn}
+use Rattle.msrp_plan.specs.Calls.{claim_with, IsDueCall}
 use Rattle.msrp_plan.specs.FifoLock.{FifoLock, Answers, lock_after}
 use Rattle.msrp_plan.specs.declared.units.Call.{Call}
 use Rattle.msrp_plan.specs.declared.units.Call.TheVariants.{Ask, Poll, Leave}
@@ -54,5 +54,5 @@ pub record MovesBy (e : PortCall) (locks after : ℕ → FifoLock) (claims newer
 -- the queues after one call more: whatever locks they stood for, they stand for those that a call leaves which is made in
 -- its turn and answered as its lock answers
 pub record Notes (e : PortCall) (old new : Queues) : Type 0 where
-  pub serving : (locks after : ℕ → FifoLock) (claims newer : ℕ → Phase) → IsServing locks claims old → MovesBy e locks after claims newer → Answers (locks e.res.0) e.core.0 e.call → IsInTurn (claims e.core.0) e.res e.call → IsServing after newer new
+  pub serving : (locks after : ℕ → FifoLock) (claims newer : ℕ → Phase) → IsServing locks claims old → MovesBy e locks after claims newer → Answers (locks e.res.0) e.core.0 e.call → IsDueCall (claims e.core.0) e.res e.call → IsServing after newer new
   pub drawn : (n : ℕ) → AreDrawn old n → AreDrawn new (n + 1)

@@ -5,7 +5,7 @@ use Rattle.msrp_plan.specs.WellFormed.{IsPlan}
 use Rattle.msrp_plan.specs.declared.rows.Row.{Row}
 use Rattle.msrp_sim.specs.Orders.{cores_of}
 use Rattle.msrp_sim.specs.Simulated.{SimModel, HasMade}
-use Rattle.msrp_sim.specs.declared.stepping.Simulation.TheInside.{Inside}
+use Rattle.msrp_sim.specs.declared.simulation.Simulation.TheInside.{Inside}
 
 abbrev pub sim_view : Inside → SimModel
 sim_view s = record { plan = s.plan.now; order = cores_of s.order.now s.plan.now; turn = s.at.tick * s.plan.now.cores + s.at.place; cores = s.cores }

@@ -3,7 +3,7 @@ use Rattle.std.specs.Prelude.{ℕ, List, [], ◌∷◌, ◌++◌, true, ◌==◌
 use Rattle.std.specs.Option.{ForSome}
 use Rattle.msrp_plan.specs.Levels.{is_global}
 use Rattle.msrp_plan.specs.Runs.{IsCoreTurn}
-use Rattle.msrp_plan.specs.Calls.{claim_with, IsInTurn, kind_of_call, ahead_of_call}
+use Rattle.msrp_plan.specs.Calls.{claim_with, IsDueCall, kind_of_call, ahead_of_call}
 use Rattle.msrp_plan.specs.declared.ids.CoreId.{CoreId}
 use Rattle.msrp_plan.specs.declared.ids.ResId.{ResId}
 use Rattle.msrp_plan.specs.declared.rows.Row.{Row}
@@ -40,7 +40,7 @@ pub record TurnPortModel : Type 0 where
 
 -- a call that is made in its turn after the others, and answered as the tickets stand
 pub record IsCallAfter (before : List PortCall) (q : Queues) (e : PortCall) : Type 0 where
-  pub turn : IsInTurn (claim_in e.core.0 before) e.res e.call
+  pub turn : IsDueCall (claim_in e.core.0 before) e.res e.call
   pub told : IsTold q e.core.0 e.res.0 e.call
 
 -- the queues are those from before the turn, and so is the call of it
@@ -61,7 +61,7 @@ pub record MakesCallOf (q : Queues) (old new : MachineModel) (r : Row) (made : O
   pub is : made ≡ Some (record { core = r.core; res = res; call = call })
   pub kind : r.kind ≡ kind_of_call call
   pub ahead : r.ahead ≡ ahead_of_call call
-  pub turn : IsInTurn old.phase res call
+  pub turn : IsDueCall old.phase res call
   pub told : IsTold q r.core.0 res.0 call
   pub claim : new.phase ≡ claim_with old.phase res call
 

@@ -57,7 +57,7 @@ fn rooms_of(cores: u32, ticks: u32) -> [u32; MOST_CORES as usize]
 
 impl FifoPort {
     ghost use Rattle.std.specs.Prelude.{IfOk};
-    ghost use Rattle.msrp_plan.specs.Calls.{IsInTurn};
+    ghost use Rattle.msrp_plan.specs.Calls.{IsDueCall};
     ghost use Rattle.msrp_plan.specs.FifoLock.{Answers};
     ghost use Rattle.msrp_core.specs.Ports.{Adds, asked, claim_in};
     ghost use Rattle.msrp_sim.specs.Served.{AreFifo, IsFresh, as_port, lock_after_calls};
@@ -102,7 +102,7 @@ impl FifoPort {
     fn serve(&mut self, call: PortCall)
         requires room { 0 < (as_port self.old).rooms call.core.0 }
         requires resource { call.res.0 < self.old.resources }
-        requires turn { IsInTurn (claim_in call.core.0 self.old.calls) call.res call.call }
+        requires turn { IsDueCall (claim_in call.core.0 self.old.calls) call.res call.call }
         requires answers { Answers (lock_after_calls self.old.calls call.res.0) call.core.0 call.call }
         ensures { Adds call.core call.res call.call (as_port self.old) (as_port self.new) }
     {

@@ -5,15 +5,15 @@
 //! [`worked`] has examples of orders.
 #![tactic(auto)]
 
+mod cores;
 mod fifo;
-mod machines;
 mod orders;
-mod stepping;
+mod simulation;
 mod tickets;
-mod turning;
+mod turn_port;
 pub mod worked;
 
+pub use cores::Cores;
 pub use fifo::FifoPort;
-pub use machines::Cores;
 pub use orders::{Order, orders_of_turns};
-pub use stepping::{SimError, Simulation, simulate};
+pub use simulation::{SimError, Simulation, simulate};

@@ -26,7 +26,7 @@ pub struct Queues {
 }
 
 // The request with this answer.
-pub fn request(reply: Reply) -> Call
+pub(crate) fn request(reply: Reply) -> Call
     ensures { result ≡ asked reply }
 {
     match reply {

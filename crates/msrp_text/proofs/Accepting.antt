@@ -20,8 +20,8 @@ use Rattle.msrp_plan.specs.declared.rows.TextVersion.{TextVersion}
 use Rattle.msrp_text.specs.Fields.{text_of}
 use Rattle.msrp_text.specs.PlanText.{resource_record}
 use Rattle.msrp_text.specs.Reading.{body_fault, with_record}
-use Rattle.msrp_text.specs.Stages.{numbered, stage_fault, stage_plan, stage_with}
-use Rattle.msrp_text.specs.declared.stages.Stage.TheVariants.{Body}
+use Rattle.msrp_text.specs.Positions.{numbered, position_fault, position_plan, position_with}
+use Rattle.msrp_text.specs.declared.positions.Position.TheVariants.{Body}
 use Rattle.msrp_text.proofs.Folding.{plan_from}
 
 -- ---- one record after the other
@@ -53,7 +53,7 @@ tells_then version plan next after (row ∷ a) b t u =
 
 -- read to the end they give the plan that they tell
 pub plan_of_told : (version : TextVersion) (plan after : PlanModel) (rows : List (List (List ℕ))) (number : ℕ) → Tells version plan rows after → finish_fault after ≡ None → plan_from (Body version plan) number rows ≡ Ok after
-unfolding plan_from stage_fault stage_with stage_plan
+unfolding plan_from position_fault position_with position_plan
 plan_of_told version plan after [] number t e = ap (λ f. numbered f number plan) (ap finish_fault t.1 ∙ e) ∙ ap (λ (p : PlanModel). Ok p) t.1
 plan_of_told version plan after (row ∷ rows) number t e = rw t.0.0 (plan_of_told version (with_record plan row) after rows (number + 1) (t.0.1, t.1) e)
 

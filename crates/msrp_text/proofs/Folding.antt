@@ -10,71 +10,71 @@ use Rattle.msrp_plan.specs.Plan.{PlanModel}
 use Rattle.msrp_plan.specs.declared.faults.PlanFault.{PlanFault}
 use Rattle.msrp_plan.specs.declared.faults.PlanFault.TheVariants as want
 use Rattle.msrp_text.specs.Reading.{Answers, fault_after, first_or, number_told, plan_of, plan_told, refusal_at, version_told, with_record}
-use Rattle.msrp_text.specs.Stages.{Advances, IsTaken, IsTakenAt, next_due, numbered, refusal, stage_fault, stage_plan, stage_with}
+use Rattle.msrp_text.specs.Positions.{Advances, IsTaken, IsTakenAt, next_due, numbered, refusal, position_fault, position_plan, position_with}
 use Rattle.msrp_text.specs.Records.{GivesNext}
 use Rattle.msrp_text.specs.declared.reading.Progress.{Progress}
 use Rattle.msrp_text.specs.declared.reading.Progress.TheVariants.{More, Whole}
 use Rattle.msrp_text.proofs.Remaining.{gave-none, gave-one}
-use Rattle.msrp_text.specs.declared.stages.Stage.{Stage}
-use Rattle.msrp_text.specs.declared.stages.Stage.TheVariants.{Version, Cores, Ticks, Body}
+use Rattle.msrp_text.specs.declared.positions.Position.{Position}
+use Rattle.msrp_text.specs.declared.positions.Position.TheVariants.{Version, Cores, Ticks, Body}
 use Rattle.msrp_text.specs.declared.reading.TextError.{TextError}
 use Rattle.msrp_text.specs.declared.reading.TextError.TheVariants.{At, Memory, Read}
 
-abbrev pub going : Result Stage TextError → (Stage → Result PlanModel TextError) → Result PlanModel TextError
-going (Ok stage) next = next stage
+abbrev pub going : Result Position TextError → (Position → Result PlanModel TextError) → Result PlanModel TextError
+going (Ok position) next = next position
 going (Err e) next = Err e
 
--- the plan of the records that are left at a stage, or the first refusal of one of them
-unfoldable pub plan_from : Stage → ℕ → List (List (List ℕ)) → Result PlanModel TextError
-plan_from stage number [] = numbered (stage_fault stage None) number (stage_plan stage)
-plan_from stage number (row ∷ rest) = going (numbered (stage_fault stage (Some row)) number (stage_with stage row)) (λ next. plan_from next (number + 1) rest)
+-- the plan of the records that are left at a position, or the first refusal of one of them
+unfoldable pub plan_from : Position → ℕ → List (List (List ℕ)) → Result PlanModel TextError
+plan_from position number [] = numbered (position_fault position None) number (position_plan position)
+plan_from position number (row ∷ rest) = going (numbered (position_fault position (Some row)) number (position_with position row)) (λ next. plan_from next (number + 1) rest)
 
--- the stage after these records, if none is refused
-unfoldable stage_of : List (List (List ℕ)) → Stage
-stage_of [] = Version
-stage_of (version ∷ []) = Cores (version_told version)
-stage_of (version ∷ cores ∷ []) = Ticks (version_told version) (number_told cores 1)
-stage_of (version ∷ cores ∷ ticks ∷ rest) = Body (version_told version) (plan_told (version ∷ cores ∷ ticks ∷ rest))
+-- the position after these records, if none is refused
+unfoldable position_of : List (List (List ℕ)) → Position
+position_of [] = Version
+position_of (version ∷ []) = Cores (version_told version)
+position_of (version ∷ cores ∷ []) = Ticks (version_told version) (number_told cores 1)
+position_of (version ∷ cores ∷ ticks ∷ rest) = Body (version_told version) (plan_told (version ∷ cores ∷ ticks ∷ rest))
 
--- the rule that is broken after these records is the one broken at their stage
-fault-at : (before : List (List (List ℕ))) (next : Option (List (List ℕ))) → fault_after before next ≡ stage_fault (stage_of before) next
-unfolding fault_after stage_fault stage_of
+-- the rule that is broken after these records is the one broken at their position
+fault-at : (before : List (List (List ℕ))) (next : Option (List (List ℕ))) → fault_after before next ≡ position_fault (position_of before) next
+unfolding fault_after position_fault position_of
 fault-at [] next = refl
 fault-at (version ∷ []) next = refl
 fault-at (version ∷ cores ∷ []) next = refl
 fault-at (version ∷ cores ∷ ticks ∷ rest) next = refl
 
 -- one more record
-stage-more : (before : List (List (List ℕ))) (row : List (List ℕ)) → stage_of (before ++ (row ∷ [])) ≡ stage_with (stage_of before) row
-unfolding stage_of stage_with plan_told
-stage-more [] row = refl
-stage-more (version ∷ []) row = refl
-stage-more (version ∷ cores ∷ []) row = refl
-stage-more (version ∷ cores ∷ ticks ∷ rest) row = ap (λ (plan : PlanModel). Body (version_told version) plan) (fold-append with_record (empty_plan (number_told cores 1) (number_told ticks 1)) rest (row ∷ []))
+position-more : (before : List (List (List ℕ))) (row : List (List ℕ)) → position_of (before ++ (row ∷ [])) ≡ position_with (position_of before) row
+unfolding position_of position_with plan_told
+position-more [] row = refl
+position-more (version ∷ []) row = refl
+position-more (version ∷ cores ∷ []) row = refl
+position-more (version ∷ cores ∷ ticks ∷ rest) row = ap (λ (plan : PlanModel). Body (version_told version) plan) (fold-append with_record (empty_plan (number_told cores 1) (number_told ticks 1)) rest (row ∷ []))
 
 pub slice_get-seam : {X : Type 0} (xs ys : List X) (y : X) → slice_get (xs ++ (y ∷ ys)) (length xs) ≡ Some y
 slice_get-seam [] ys y = refl
 slice_get-seam (x ∷ xs) ys y = slice_get-seam xs ys y
 
 -- the refusal of the record that follows these
-refusal-seam : (before : List (List (List ℕ))) (row : List (List ℕ)) (rest : List (List (List ℕ))) (f : Option PlanFault) → stage_fault (stage_of before) (Some row) ≡ f
+refusal-seam : (before : List (List (List ℕ))) (row : List (List ℕ)) (rest : List (List (List ℕ))) (f : Option PlanFault) → position_fault (position_of before) (Some row) ≡ f
     → fault_after (take (length before) (before ++ (row ∷ rest))) (slice_get (before ++ (row ∷ rest)) (length before)) ≡ f
 refusal-seam before row rest f e = rw (take-append_seam before (row ∷ rest), slice_get-seam before rest row) (fault-at before (Some row) ∙ e)
 
 -- the refusal of the end
-refusal-end : (before : List (List (List ℕ))) (f : Option PlanFault) → stage_fault (stage_of before) None ≡ f
+refusal-end : (before : List (List (List ℕ))) (f : Option PlanFault) → position_fault (position_of before) None ≡ f
     → fault_after (take (length before) before) (slice_get before (length before)) ≡ f
 refusal-end before f e = rw (take_all (length before) before (omega arith), slice_get_past before (length before) (omega arith)) (fault-at before None ∙ e)
 
-end-plan : (before : List (List (List ℕ))) → stage_fault (stage_of before) None ≡ None → stage_plan (stage_of before) ≡ plan_told before
-unfolding stage_fault stage_of stage_plan
+end-plan : (before : List (List (List ℕ))) → position_fault (position_of before) None ≡ None → position_plan (position_of before) ≡ plan_told before
+unfolding position_fault position_of position_plan
 end-plan [] e = cc
 end-plan (version ∷ []) e = cc
 end-plan (version ∷ cores ∷ []) e = cc
 end-plan (version ∷ cores ∷ ticks ∷ rest) e = refl
 
-end-law : (before : List (List (List ℕ))) (f : Option PlanFault) → stage_fault (stage_of before) None ≡ f
-    → first_or (filter_map (refusal_at before) (length before ∷ [])) (plan_told before) ≡ numbered (stage_fault (stage_of before) None) (length before + 1) (stage_plan (stage_of before))
+end-law : (before : List (List (List ℕ))) (f : Option PlanFault) → position_fault (position_of before) None ≡ f
+    → first_or (filter_map (refusal_at before) (length before ∷ [])) (plan_told before) ≡ numbered (position_fault (position_of before) None) (length before + 1) (position_plan (position_of before))
 end-law before None e = rw (refusal-end before None e, e) (ap (λ (plan : PlanModel). Ok plan) (sym (end-plan before e)))
 end-law before (Some fault) e = rw (refusal-end before (Some fault) e, e) refl
 
@@ -86,36 +86,36 @@ first_from : List (List (List ℕ)) → List (List (List ℕ)) → Result PlanMo
 first_from before left = first_or (filter_map (refusal_at (before ++ left)) (range_with_len (length before) (length left + 1))) (plan_told (before ++ left))
 
 -- a record that isn't refused stands among those before
-first-next : (before : List (List (List ℕ))) (row : List (List ℕ)) (rest : List (List (List ℕ))) → stage_fault (stage_of before) (Some row) ≡ None → first_from before (row ∷ rest) ≡ first_from (before ++ (row ∷ [])) rest
+first-next : (before : List (List (List ℕ))) (row : List (List ℕ)) (rest : List (List (List ℕ))) → position_fault (position_of before) (Some row) ≡ None → first_from before (row ∷ rest) ≡ first_from (before ++ (row ∷ [])) rest
 unfolding first_from
 first-next before row rest e =
     let size : length (before ++ (row ∷ [])) ≡ length before + 1 = length-append before (row ∷ []) in
     rw (range-more (length before) (length rest), refusal-seam before row rest None e, append_assoc before (row ∷ []) rest, size) refl
 
 -- a record that is refused
-first-refused : (before : List (List (List ℕ))) (row : List (List ℕ)) (rest : List (List (List ℕ))) (fault : PlanFault) → stage_fault (stage_of before) (Some row) ≡ Some fault
+first-refused : (before : List (List (List ℕ))) (row : List (List ℕ)) (rest : List (List (List ℕ))) (fault : PlanFault) → position_fault (position_of before) (Some row) ≡ Some fault
     → first_from before (row ∷ rest) ≡ Err (At fault (length before + 1))
 unfolding first_from
 first-refused before row rest fault e = rw (range-more (length before) (length rest), refusal-seam before row rest (Some fault) e) refl
 
-next-law : (before : List (List (List ℕ))) (row : List (List ℕ)) (rest : List (List (List ℕ))) (f : Option PlanFault) → stage_fault (stage_of before) (Some row) ≡ f
-    → first_from (before ++ (row ∷ [])) rest ≡ plan_from (stage_of (before ++ (row ∷ []))) (length (before ++ (row ∷ [])) + 1) rest
-    → first_from before (row ∷ rest) ≡ plan_from (stage_of before) (length before + 1) (row ∷ rest)
+next-law : (before : List (List (List ℕ))) (row : List (List ℕ)) (rest : List (List (List ℕ))) (f : Option PlanFault) → position_fault (position_of before) (Some row) ≡ f
+    → first_from (before ++ (row ∷ [])) rest ≡ plan_from (position_of (before ++ (row ∷ []))) (length (before ++ (row ∷ [])) + 1) rest
+    → first_from before (row ∷ rest) ≡ plan_from (position_of before) (length before + 1) (row ∷ rest)
 unfolding plan_from
 next-law before row rest None e later =
     let size : length (before ++ (row ∷ [])) ≡ length before + 1 = length-append before (row ∷ []) in
-    first-next before row rest e ∙ later ∙ rw (stage-more before row, size, e) refl
+    first-next before row rest e ∙ later ∙ rw (position-more before row, size, e) refl
 next-law before row rest (Some fault) e later = first-refused before row rest fault e ∙ rw e refl
 
 -- the first refusal from the record after these on is the one that a reader of the records meets
-plan-law : (before left : List (List (List ℕ))) → first_from before left ≡ plan_from (stage_of before) (length before + 1) left
+plan-law : (before left : List (List (List ℕ))) → first_from before left ≡ plan_from (position_of before) (length before + 1) left
 unfolding plan_from first_from
 plan-law before [] = rw (append-nil before) (end-law before _ refl)
 plan-law before (row ∷ rest) = next-law before row rest _ refl (plan-law (before ++ (row ∷ [])) rest)
 
 -- the plan of all records is read from the first one on
 pub plan-begins : (records : List (List (List ℕ))) → plan_of records ≡ plan_from Version 1 records
-unfolding plan_of first_from stage_of
+unfolding plan_of first_from position_of
 plan-begins records = plan-law [] records
 
 -- what is told of a record is what is due, but for want of memory
@@ -123,7 +123,7 @@ refusal-is : (fault : PlanFault) (number : ℕ) → (refusal fault number ≡ Me
 refusal-is want.Memory number = inl refl
 refusal-is _ number = inr refl
 
--- a stage that is taken, and one that is refused
+-- a position that is taken, and one that is refused
 pub taken-ok : {A : Type 0} (o : Option PlanFault) (number : ℕ) (next x : A) → IsTaken o next (Ok x) → IsTakenAt o number next (Ok x)
 taken-ok None number next x (inl h) = absurd (cc)
 taken-ok None number next x (inr h) = inr (ap (λ n. Ok n) (let e : x ≡ next = cc in e))
@@ -134,7 +134,7 @@ taken-refused None number next fault (inl h) = let e : fault ≡ want.Memory = c
 taken-refused None number next fault (inr h) = absurd (cc)
 taken-refused (Some due) number next fault h = let e : fault ≡ due = cc in ap (λ f. Err (refusal f number)) e
 
--- what comes of a stage that is taken, and of one that is refused
+-- what comes of a position that is taken, and of one that is refused
 numbered-ok : {A B : Type 0} (f : A → B) (o : Option PlanFault) (number : ℕ) (due x : A) (s : Result A TextError) → IsTakenAt o number due s → s ≡ Ok x → Ok (f x) ≡ numbered o number (f due)
 numbered-ok f None number due x s (inl h) e = cc
 numbered-ok f None number due x s (inr h) e = let same : x ≡ due = cc in rw same refl
@@ -148,46 +148,46 @@ numbered-err f (Some fault) number due s e h k = let same : e ≡ refusal fault 
   | inr r ↦ inr (ap (λ x. Err x) (same ∙ r))
 ]
 
-refused-due : (stage : Stage) (number : ℕ) (left : List (List (List ℕ))) (after : Option (List (List (List ℕ)))) (e : TextError)
-    → (e ≡ Memory) ⊎ (Err e ≡ next_due stage number left) → Advances stage number left after (Err e)
-refused-due stage number left after e (inl memory) = record { due = inr (inl (rw memory refl)); rest = λ next is. cc }
-refused-due stage number left after e (inr due) = record { due = inr (inr due); rest = λ next is. cc }
+refused-due : (position : Position) (number : ℕ) (left : List (List (List ℕ))) (after : Option (List (List (List ℕ)))) (e : TextError)
+    → (e ≡ Memory) ⊎ (Err e ≡ next_due position number left) → Advances position number left after (Err e)
+refused-due position number left after e (inl memory) = record { due = inr (inl (rw memory refl)); rest = λ next is. cc }
+refused-due position number left after e (inr due) = record { due = inr (inr due); rest = λ next is. cc }
 
--- a read at a stage that gave a record
-pub advances-more : (stage next : Stage) (number : ℕ) (left : List (List (List ℕ))) (found : Bool) (row : List (List ℕ)) (after : Option (List (List (List ℕ)))) (s : Result Stage TextError)
-    → GivesNext left found row after → found ≡ true → IsTakenAt (stage_fault stage (Some row)) number (stage_with stage row) s → s ≡ Ok next → Advances stage number left after (Ok (More next))
-advances-more stage next number left found row after s gives is taken e =
+-- a read at a position that gave a record
+pub advances-more : (position next : Position) (number : ℕ) (left : List (List (List ℕ))) (found : Bool) (row : List (List ℕ)) (after : Option (List (List (List ℕ)))) (s : Result Position TextError)
+    → GivesNext left found row after → found ≡ true → IsTakenAt (position_fault position (Some row)) number (position_with position row) s → s ≡ Ok next → Advances position number left after (Ok (More next))
+advances-more position next number left found row after s gives is taken e =
     let one = gave-one left found row after gives is in
     record { due = inr (inr (rw one.1 (numbered-ok (λ x. More x) _ number _ next s taken e))); rest = λ other same. (row, one.0, one.1, one.2) }
 
-pub advances-refused : (stage : Stage) (number : ℕ) (left : List (List (List ℕ))) (found : Bool) (row : List (List ℕ)) (after : Option (List (List (List ℕ)))) (s : Result Stage TextError) (e : TextError)
-    → GivesNext left found row after → found ≡ true → IsTakenAt (stage_fault stage (Some row)) number (stage_with stage row) s → s ≡ Err e → Advances stage number left after (Err e)
-advances-refused stage number left found row after s e gives is taken k =
+pub advances-refused : (position : Position) (number : ℕ) (left : List (List (List ℕ))) (found : Bool) (row : List (List ℕ)) (after : Option (List (List (List ℕ)))) (s : Result Position TextError) (e : TextError)
+    → GivesNext left found row after → found ≡ true → IsTakenAt (position_fault position (Some row)) number (position_with position row) s → s ≡ Err e → Advances position number left after (Err e)
+advances-refused position number left found row after s e gives is taken k =
     let one = gave-one left found row after gives is in
-    refused-due stage number left after e (rw one.1 (numbered-err (λ x. More x) _ number _ s e taken k))
+    refused-due position number left after e (rw one.1 (numbered-err (λ x. More x) _ number _ s e taken k))
 
--- a read at a stage that came to the end
-pub advances-whole : (stage : Stage) (number : ℕ) (left : List (List (List ℕ))) (found : Bool) (row : List (List ℕ)) (after : Option (List (List (List ℕ)))) (s : Result PlanModel TextError) (plan : PlanModel)
-    → GivesNext left found row after → found ≡ false → IsTakenAt (stage_fault stage None) number (stage_plan stage) s → s ≡ Ok plan → Advances stage number left after (Ok (Whole plan))
-advances-whole stage number left found row after s plan gives is taken e =
+-- a read at a position that came to the end
+pub advances-whole : (position : Position) (number : ℕ) (left : List (List (List ℕ))) (found : Bool) (row : List (List ℕ)) (after : Option (List (List (List ℕ)))) (s : Result PlanModel TextError) (plan : PlanModel)
+    → GivesNext left found row after → found ≡ false → IsTakenAt (position_fault position None) number (position_plan position) s → s ≡ Ok plan → Advances position number left after (Ok (Whole plan))
+advances-whole position number left found row after s plan gives is taken e =
     record { due = inr (inr (rw (gave-none left found row after gives is) (numbered-ok (λ x. Whole x) _ number _ plan s taken e))); rest = λ next same. cc }
 
-pub advances-ended : (stage : Stage) (number : ℕ) (left : List (List (List ℕ))) (found : Bool) (row : List (List ℕ)) (after : Option (List (List (List ℕ)))) (s : Result PlanModel TextError) (e : TextError)
-    → GivesNext left found row after → found ≡ false → IsTakenAt (stage_fault stage None) number (stage_plan stage) s → s ≡ Err e → Advances stage number left after (Err e)
-advances-ended stage number left found row after s e gives is taken k = refused-due stage number left after e (rw (gave-none left found row after gives is) (numbered-err (λ x. Whole x) _ number _ s e taken k))
+pub advances-ended : (position : Position) (number : ℕ) (left : List (List (List ℕ))) (found : Bool) (row : List (List ℕ)) (after : Option (List (List (List ℕ)))) (s : Result PlanModel TextError) (e : TextError)
+    → GivesNext left found row after → found ≡ false → IsTakenAt (position_fault position None) number (position_plan position) s → s ≡ Err e → Advances position number left after (Err e)
+advances-ended position number left found row after s e gives is taken k = refused-due position number left after e (rw (gave-none left found row after gives is) (numbered-err (λ x. Whole x) _ number _ s e taken k))
 
--- the records from a stage on, where a read of the next one gave a further stage
-numbered-more : (o : Option PlanFault) (number : ℕ) (due next : Stage) (rest : Stage → Result PlanModel TextError) → Ok (More next) ≡ numbered o number (More due) → going (numbered o number due) rest ≡ rest next
+-- the records from a position on, where a read of the next one gave a further position
+numbered-more : (o : Option PlanFault) (number : ℕ) (due next : Position) (rest : Position → Result PlanModel TextError) → Ok (More next) ≡ numbered o number (More due) → going (numbered o number due) rest ≡ rest next
 numbered-more None number due next rest e = let same : due ≡ next = cc in rw same refl
 numbered-more (Some fault) number due next rest e = cc
 
-pub plan-goes : (stage next : Stage) (number : ℕ) (left : List (List (List ℕ))) (after : Option (List (List (List ℕ)))) (answer : Result Progress TextError) (all : Result PlanModel TextError)
-    → plan_from stage number left ≡ all → Advances stage number left after answer → answer ≡ Ok (More next)
+pub plan-goes : (position next : Position) (number : ℕ) (left : List (List (List ℕ))) (after : Option (List (List (List ℕ)))) (answer : Result Progress TextError) (all : Result PlanModel TextError)
+    → plan_from position number left ≡ all → Advances position number left after answer → answer ≡ Ok (More next)
     → (others : List (List (List ℕ))) × (after ≡ Some others) × (plan_from next (number + 1) others ≡ all) × (length left ≡ length others + 1)
 unfolding plan_from
-plan-goes stage next number left after answer all h advances e =
+plan-goes position next number left after answer all h advances e =
     let split = advances.rest next e in
-    let due : Ok (More next) ≡ next_due stage number (split.0 ∷ split.1) = elim advances.due [
+    let due : Ok (More next) ≡ next_due position number (split.0 ∷ split.1) = elim advances.due [
       | inl read ↦ cc
       | inr (inl memory) ↦ cc
       | inr (inr is) ↦ sym e ∙ (rw split.2 at is)
@@ -199,36 +199,36 @@ numbered-whole : (o : Option PlanFault) (number : ℕ) (due plan : PlanModel) �
 numbered-whole None number due plan e = let same : plan ≡ due = cc in rw same refl
 numbered-whole (Some fault) number due plan e = cc
 
-whole-at : (stage : Stage) (number : ℕ) (left : List (List (List ℕ))) (plan : PlanModel) → Ok (Whole plan) ≡ next_due stage number left → Ok plan ≡ plan_from stage number left
+whole-at : (position : Position) (number : ℕ) (left : List (List (List ℕ))) (plan : PlanModel) → Ok (Whole plan) ≡ next_due position number left → Ok plan ≡ plan_from position number left
 unfolding plan_from
-whole-at stage number [] plan e = numbered-whole _ number _ plan e
-whole-at stage number (fields ∷ rest) plan e = absurd (more-whole (stage_fault stage (Some fields)) number (stage_with stage fields) plan e)
+whole-at position number [] plan e = numbered-whole _ number _ plan e
+whole-at position number (fields ∷ rest) plan e = absurd (more-whole (position_fault position (Some fields)) number (position_with position fields) plan e)
   where
-    more-whole : (o : Option PlanFault) (number : ℕ) (due : Stage) (plan : PlanModel) → Ok (Whole plan) ≡ numbered o number (More due) → ⊥
+    more-whole : (o : Option PlanFault) (number : ℕ) (due : Position) (plan : PlanModel) → Ok (Whole plan) ≡ numbered o number (More due) → ⊥
     more-whole None number due plan e = cc
     more-whole (Some fault) number due plan e = cc
 
-pub plan-whole : (stage : Stage) (number : ℕ) (left : List (List (List ℕ))) (after : Option (List (List (List ℕ)))) (answer : Result Progress TextError) (plan : PlanModel) (all : Result PlanModel TextError)
-    → plan_from stage number left ≡ all → Advances stage number left after answer → answer ≡ Ok (Whole plan) → Answers (Ok plan) all
-plan-whole stage number left after answer plan all h advances e = elim advances.due [
+pub plan-whole : (position : Position) (number : ℕ) (left : List (List (List ℕ))) (after : Option (List (List (List ℕ)))) (answer : Result Progress TextError) (plan : PlanModel) (all : Result PlanModel TextError)
+    → plan_from position number left ≡ all → Advances position number left after answer → answer ≡ Ok (Whole plan) → Answers (Ok plan) all
+plan-whole position number left after answer plan all h advances e = elim advances.due [
   | inl read ↦ cc
   | inr (inl memory) ↦ cc
-  | inr (inr is) ↦ inr (inr (whole-at stage number left plan (sym e ∙ is) ∙ h))
+  | inr (inr is) ↦ inr (inr (whole-at position number left plan (sym e ∙ is) ∙ h))
 ]
 
 numbered-refused : {A B : Type 0} (o : Option PlanFault) (number : ℕ) (due : A) (other : B) (e : TextError) → Err e ≡ numbered o number due → Err e ≡ numbered o number other
 numbered-refused None number due other e h = cc
 numbered-refused (Some fault) number due other e h = ap (λ x. Err x) (let same : e ≡ At fault number = cc in same)
 
-refused-at : (stage : Stage) (number : ℕ) (left : List (List (List ℕ))) (e : TextError) → Err e ≡ next_due stage number left → Err e ≡ plan_from stage number left
+refused-at : (position : Position) (number : ℕ) (left : List (List (List ℕ))) (e : TextError) → Err e ≡ next_due position number left → Err e ≡ plan_from position number left
 unfolding plan_from
-refused-at stage number [] e h = numbered-refused _ number _ (stage_plan stage) e h
-refused-at stage number (fields ∷ rest) e h = rw (sym (numbered-refused _ number _ (stage_with stage fields) e h)) refl
+refused-at position number [] e h = numbered-refused _ number _ (position_plan position) e h
+refused-at position number (fields ∷ rest) e h = rw (sym (numbered-refused _ number _ (position_with position fields) e h)) refl
 
-pub plan-refused : (stage : Stage) (number : ℕ) (left : List (List (List ℕ))) (after : Option (List (List (List ℕ)))) (answer : Result Progress TextError) (e : TextError) (all : Result PlanModel TextError)
-    → plan_from stage number left ≡ all → Advances stage number left after answer → answer ≡ Err e → Answers (Err e) all
-plan-refused stage number left after answer e all h advances k = elim advances.due [
+pub plan-refused : (position : Position) (number : ℕ) (left : List (List (List ℕ))) (after : Option (List (List (List ℕ)))) (answer : Result Progress TextError) (e : TextError) (all : Result PlanModel TextError)
+    → plan_from position number left ≡ all → Advances position number left after answer → answer ≡ Err e → Answers (Err e) all
+plan-refused position number left after answer e all h advances k = elim advances.due [
   | inl read ↦ inl (ap (λ x. Err x) (let same : e ≡ Read = cc in same))
   | inr (inl memory) ↦ inr (inl (ap (λ x. Err x) (let same : e ≡ Memory = cc in same)))
-  | inr (inr is) ↦ inr (inr (refused-at stage number left e (sym k ∙ is) ∙ h))
+  | inr (inr is) ↦ inr (inr (refused-at position number left e (sym k ∙ is) ∙ h))
 ]

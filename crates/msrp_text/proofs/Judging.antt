@@ -8,11 +8,11 @@ use Rattle.msrp_plan.specs.declared.faults.PlanFault.{PlanFault}
 use Rattle.msrp_plan.specs.declared.faults.PlanFault.TheVariants.{Memory}
 use Rattle.msrp_text.specs.Fields.{name_at, number_at}
 use Rattle.msrp_text.specs.Reading.{body_fault, lacks_number, listed_record_fault, task_record_fault, task_told}
-use Rattle.msrp_text.specs.Stages.{IsTaken, stage_fault, stage_with, task_numbers}
-use Rattle.msrp_text.specs.declared.stages.Stage.{Stage}
-use Rattle.msrp_text.specs.declared.stages.Stage.TheVariants.{Body}
+use Rattle.msrp_text.specs.Positions.{IsTaken, position_fault, position_with, task_numbers}
+use Rattle.msrp_text.specs.declared.positions.Position.{Position}
+use Rattle.msrp_text.specs.declared.positions.Position.TheVariants.{Body}
 use Rattle.msrp_plan.specs.declared.rows.TextVersion.{TextVersion}
-use Rattle.msrp_text.specs.declared.stages.TaskNumbers.{TaskNumbers}
+use Rattle.msrp_text.specs.declared.positions.TaskNumbers.{TaskNumbers}
 
 -- a call that is judged, and an answer that is handed on
 pub judged-err : {A : Type 0} (B : Type 0) (f : Option PlanFault) (r : Result A PlanFault) (e : PlanFault) → IsJudged f r → r ≡ Err e → IsJudged {A = B} f (Err e)
@@ -42,13 +42,13 @@ pub listed-judged : {A : Type 0} (plan : PlanModel) (fields : List (List ℕ)) (
     → IsJudged (task_fault plan (new_task name core (Listed []) deadline)) r → IsJudged (listed_record_fault plan fields) r
 listed-judged plan fields name core deadline r four first second named h = rw (four, first, second) (rw named at h)
 
--- a record that is refused at the stage of resources and tasks
+-- a record that is refused at the position of resources and tasks
 taken-err : {A B : Type 0} (f : Option PlanFault) (next : B) (r : Result A PlanFault) (e : PlanFault) → IsJudged f r → r ≡ Err e → IsTaken f next (Err e)
 taken-err (Some fault) next r e h k = let same : e ≡ fault = cc in rw same refl
 taken-err None next r e (inl ok) k = absurd (false≢true (rw k at ok))
 taken-err None next r e (inr memory) k = let same : e ≡ Memory = cc in inl (rw same refl)
 
-pub body-refused : {A : Type 0} (stage : Stage) (version : TextVersion) (plan : PlanModel) (fields : List (List ℕ)) (r : Result A PlanFault) (e : PlanFault)
-    → stage ≡ Body version plan → IsJudged (body_fault version plan (Some fields)) r → r ≡ Err e → IsTaken (stage_fault stage (Some fields)) (stage_with stage fields) (Err e)
-unfolding stage_fault stage_with
-body-refused stage version plan fields r e is h k = rw is (taken-err _ _ r e h k)
+pub body-refused : {A : Type 0} (position : Position) (version : TextVersion) (plan : PlanModel) (fields : List (List ℕ)) (r : Result A PlanFault) (e : PlanFault)
+    → position ≡ Body version plan → IsJudged (body_fault version plan (Some fields)) r → r ≡ Err e → IsTaken (position_fault position (Some fields)) (position_with position fields) (Err e)
+unfolding position_fault position_with
+body-refused position version plan fields r e is h k = rw is (taken-err _ _ r e h k)

@@ -28,9 +28,9 @@ use Rattle.msrp_plan.proofs.TaskUnits.Nesting.{even_after, held_times}
 use Rattle.msrp_text.specs.PlanText.{declaration, head_records, plan_records, plan_text, release_record, resource_record, step_record, steps_of, task_records, version_of, version_record, version_text}
 use Rattle.msrp_text.specs.Reading.{cores_fault, number_told, plan_of, ticks_fault, version_fault, version_told}
 use Rattle.msrp_text.specs.Records.{csv_records, records_at}
-use Rattle.msrp_text.specs.Stages.{stage_fault, stage_with}
-use Rattle.msrp_text.specs.declared.stages.Stage.{Stage}
-use Rattle.msrp_text.specs.declared.stages.Stage.TheVariants.{Version, Cores, Ticks, Body}
+use Rattle.msrp_text.specs.Positions.{position_fault, position_with}
+use Rattle.msrp_text.specs.declared.positions.Position.{Position}
+use Rattle.msrp_text.specs.declared.positions.Position.TheVariants.{Version, Cores, Ticks, Body}
 use Rattle.msrp_text.proofs.Accepting.{plan_of_told, resources_told, tells_then, with_names}
 use Rattle.msrp_text.proofs.AcceptedTasks.{IsGood, tasks_told_by}
 use Rattle.msrp_text.proofs.AcceptedUnits.{all_units, units_again}
@@ -105,9 +105,9 @@ finish_none plan ok end =
     rw (end, nests, few) refl
 
 -- ---- the first three records
-plan_step : (stage next : Stage) (number : ℕ) (row : List (List ℕ)) (rest : List (List (List ℕ))) → stage_fault stage (Some row) ≡ None → stage_with stage row ≡ next → plan_from stage number (row ∷ rest) ≡ plan_from next (number + 1) rest
+plan_step : (position next : Position) (number : ℕ) (row : List (List ℕ)) (rest : List (List (List ℕ))) → position_fault position (Some row) ≡ None → position_with position row ≡ next → plan_from position number (row ∷ rest) ≡ plan_from next (number + 1) rest
 unfolding plan_from
-plan_step stage next number row rest e same = rw e (ap (λ s. plan_from s (number + 1) rest) same)
+plan_step position next number row rest e same = rw e (ap (λ s. plan_from s (number + 1) rest) same)
 
 version_taken : (v : TextVersion) → (version_fault (Some (version_record v)) ≡ None) × (version_told (version_record v) ≡ v)
 unfolding field_at
@@ -130,7 +130,7 @@ ticks_taken m n h k =
     (rw (again, cores, ticks) refl, rw again refl)
 
 head_read : (plan : PlanModel) (rest : List (List (List ℕ))) → IsPlan plan → plan_from Version 1 (head_records plan ++ rest) ≡ plan_from (Body (version_of plan) (empty_plan plan.cores plan.ticks)) 4 rest
-unfolding stage_fault stage_with
+unfolding position_fault position_with
 head_read plan rest ok =
     let v : TextVersion = version_of plan in
     let a = version_taken v in

@@ -4,7 +4,7 @@ pub mod Ahead
 pub mod Records
 pub mod Fields
 pub mod Reading
-pub mod Stages
+pub mod Positions
 pub mod Examples
 pub mod Laws
 pub mod PlanText

@@ -9,9 +9,9 @@ pub mod fields;
 mod front;
 pub mod laws;
 mod lines;
+mod positions;
 pub mod reading;
 pub mod records;
-mod stages;
 pub mod worked;
 mod writing;
 

@@ -4,10 +4,10 @@ ghost use Rattle.csv.specs.Records.{fields_of};
 ghost use Rattle.msrp_plan.specs.Bytes.{source_failed, source_remaining};
 ghost use Rattle.msrp_text.specs.Reading.{Answers, csv_records, plan_of};
 ghost use Rattle.msrp_text.specs.Records.{records_left};
-ghost use Rattle.msrp_text.specs.Stages.{Advances, IsTakenAt, ReadsAs, refusal, stage_fault, stage_plan, stage_with};
+ghost use Rattle.msrp_text.specs.Positions.{Advances, IsTakenAt, ReadsAs, refusal, position_fault, position_plan, position_with};
 
+use crate::positions::{Position, plan_at_end, position_after};
 use crate::records::{RecordReader, Stopped};
-use crate::stages::{Stage, plan_at_end, stage_after};
 use csv::ByteRecord;
 use msrp_plan::bytes::Source;
 use msrp_plan::{Plan, PlanFault};
@@ -62,62 +62,67 @@ fn refused(fault: PlanFault, number: u32) -> TextError
 }
 
 // One more record, by its number.
-fn step(alloc: Global, stage: Stage, row: &ByteRecord, number: u32) -> Result<Stage, TextError>
-    ensures { IsTakenAt (stage_fault stage (Some (fields_of row.now))) number (stage_with stage (fields_of row.now)) result }
+fn step(
+    alloc: Global,
+    position: Position,
+    row: &ByteRecord,
+    number: u32,
+) -> Result<Position, TextError>
+    ensures { IsTakenAt (position_fault position (Some (fields_of row.now))) number (position_with position (fields_of row.now)) result }
 {
-    match stage_after(alloc, stage, row) {
+    match position_after(alloc, position, row) {
         Ok(next) => Ok(next),
         Err(fault) => Err(refused(fault, number)),
     }
 }
 
 // The end of the records, which counts as one more.
-fn end(stage: Stage, number: u32) -> Result<Plan, TextError>
-    ensures { IsTakenAt (stage_fault stage None) number (stage_plan stage) result }
+fn end(position: Position, number: u32) -> Result<Plan, TextError>
+    ensures { IsTakenAt (position_fault position None) number (position_plan position) result }
 {
-    match plan_at_end(stage) {
+    match plan_at_end(position) {
         Ok(plan) => Ok(plan),
         Err(fault) => Err(refused(fault, number)),
     }
 }
 
-// What one more read brings: the stage after a record, or the plan at the end.
+// What one more read brings: the position after a record, or the plan at the end.
 #[derive(Drop)]
 enum Progress {
-    More(Stage),
+    More(Position),
     Whole(Plan),
 }
 
-// One more read at a stage, by the number of what it comes to. A failed read is told as it was.
+// One more read at a position, by the number of what it comes to. A failed read is told as it was.
 fn advance<R: Read>(
     alloc: Global,
     records: &mut RecordReader<R>,
     row: &mut ByteRecord,
-    stage: Stage,
+    position: Position,
     number: u32,
 ) -> Result<Progress, TextError>
-    ensures { (left : List (List (List ℕ))) → records_left R.remaining records.old ≡ Some left → Advances stage number left (records_left R.remaining records.new) result }
+    ensures { (left : List (List (List ℕ))) → records_left R.remaining records.old ≡ Some left → Advances position number left (records_left R.remaining records.new) result }
 {
     match records.read(row) {
-        Ok(true) => Ok(Progress::More(step(alloc, stage, row, number)?)),
-        Ok(false) => Ok(Progress::Whole(end(stage, number)?)),
+        Ok(true) => Ok(Progress::More(step(alloc, position, row, number)?)),
+        Ok(false) => Ok(Progress::Whole(end(position, number)?)),
         Err(Stopped::Read) => Err(TextError::Read),
         Err(Stopped::Memory) => Err(TextError::Memory),
     }
 }
 
-// The plan of the records that are left, from the first stage on.
-fn read_stages<R: Read>(
+// The plan of the records that are left, from the first position on.
+fn read_positions<R: Read>(
     alloc: Global,
     records: &mut RecordReader<R>,
     row: &mut ByteRecord,
 ) -> Result<Plan, Unread>
     ensures { (left : List (List (List ℕ))) → records_left R.remaining records.old ≡ Some left → ReadsAs left result }
 {
-    let mut stage = Stage::Version;
+    let mut position = Position::Version;
     for number in 1..=MOST_RECORDS {
-        match advance(alloc, records, row, stage, number)? {
-            Progress::More(next) => stage = next,
+        match advance(alloc, records, row, position, number)? {
+            Progress::More(next) => position = next,
             Progress::Whole(plan) => return Ok(plan),
         }
     }
@@ -130,7 +135,7 @@ fn read_records<R: Read>(alloc: Global, source: &mut Source<R>) -> Result<Plan, 
 {
     let mut records = RecordReader::new(alloc, source);
     let mut row = ByteRecord::new(alloc);
-    read_stages(alloc, &mut records, &mut row)
+    read_positions(alloc, &mut records, &mut row)
 }
 
 /// The plan of a text, or its first refusal.

@@ -15,8 +15,8 @@ use Rattle.msrp_trace.specs.Readers.{GivesNext, left_at}
 use Rattle.msrp_trace.specs.RowParts.{ReadsAt}
 use Rattle.msrp_trace.specs.Rows.{row_fault, row_told}
 use Rattle.msrp_trace.specs.TraceText.{row_fields, row_text}
-use Rattle.msrp_trace.specs.declared.reading.Stage.{Stage}
-use Rattle.msrp_trace.specs.declared.reading.Stage.TheVariants.{Rows}
+use Rattle.msrp_trace.specs.declared.reading.ReaderState.{ReaderState}
+use Rattle.msrp_trace.specs.declared.reading.ReaderState.TheVariants.{Rows}
 use Rattle.msrp_trace.proofs.ReadBack.{whole_line, whole_read}
 use Rattle.msrp_trace.proofs.Records.{row-is}
 use Rattle.msrp_trace.proofs.Telling.{answers_row, gives_next, left_rows, rows_left}
@@ -30,17 +30,17 @@ reads_whole : (number : ℕ) (version : TextVersion) (plan : PlanModel) (r : Row
 reads_whole number version plan r ok whole = let read = whole_read version plan r ok whole in rw (read.0) read.1
 
 -- where it was taken as a line, its row was the next one
-pub met_row : (version : TextVersion) (plan : PlanModel) (n number : ℕ) (r : Row) (line : List ℕ) (old new : Option (List (List (List ℕ)))) (stage : Stage) (told : Told)
-    → IsPlan plan → is_told_whole version plan r ≡ true → line ++ (10 ∷ []) ≡ row_text version plan r → (is_plain line ≡ true → GivesLine old (split_commas line) new) → number ≡ n + 1 → stage ≡ Rows
-    → left_at stage (option_map (told_after version plan n) old) ≡ Some told → GivesNext told (Ok (Some r)) (left_at stage (option_map (told_after version plan number) new))
-met_row version plan n number r line old new stage told ok whole text gives count s h =
+pub met_row : (version : TextVersion) (plan : PlanModel) (n number : ℕ) (r : Row) (line : List ℕ) (old new : Option (List (List (List ℕ)))) (state : ReaderState) (told : Told)
+    → IsPlan plan → is_told_whole version plan r ≡ true → line ++ (10 ∷ []) ≡ row_text version plan r → (is_plain line ≡ true → GivesLine old (split_commas line) new) → number ≡ n + 1 → state ≡ Rows
+    → left_at state (option_map (told_after version plan n) old) ≡ Some told → GivesNext told (Ok (Some r)) (left_at state (option_map (told_after version plan number) new))
+met_row version plan n number r line old new state told ok whole text gives count s h =
     let plain = whole_line version plan r line ok whole text in
-    let left = left_rows (told_after version plan n) stage old told s h in
+    let left = left_rows (told_after version plan n) state old told s h in
     let next = gave-one left.0 true (split_commas line) new (gives plain.0 left.0 left.1) refl in
     let first : left.0 ≡ row_fields version plan r ∷ next.0 = next.1 ∙ ap (λ (fields : List (List ℕ)). fields ∷ next.0) plain.1 in
-    let after = rows_left (told_after version plan number) stage new next.0 s next.2 in
+    let after = rows_left (told_after version plan number) state new next.0 s next.2 in
     let due = answers_row version plan n number left.0 next.0 (row_fields version plan r) told (Ok r) r _ left.2 first (reads_whole number version plan r ok whole) refl count after in
-    let given = gives_next told (Ok (Some r)) stage (option_map (told_after version plan number) new) s due in
+    let given = gives_next told (Ok (Some r)) state (option_map (told_after version plan number) new) s due in
     rw s given
 
 -- its text in two parts is the line that comes next

@@ -8,16 +8,16 @@ use Rattle.msrp_plan.specs.declared.rows.Row.{Row}
 use Rattle.msrp_plan.specs.declared.rows.TextVersion.{TextVersion}
 use Rattle.msrp_text.specs.Records.{KeepsRecords}
 use Rattle.msrp_trace.specs.Reading.{Told, is_row, refusal_at, rows_of, told_after, told_by, version_of}
-use Rattle.msrp_trace.specs.Readers.{GivesFirst, GivesFirstOr, GivesNext, IsDue, Opens, left_at, nothing_left, stage_after, told_left}
+use Rattle.msrp_trace.specs.Readers.{GivesFirst, GivesFirstOr, GivesNext, HoldsUnlessFailed, Opens, left_at, nothing_left, state_after, told_left}
 use Rattle.msrp_trace.specs.RowParts.{ReadsAt}
 use Rattle.msrp_trace.specs.Rows.{row_fault, row_told, version_told}
 use Rattle.msrp_trace.specs.declared.faults.TraceError.{TraceError}
 use Rattle.msrp_trace.specs.declared.faults.TraceError.TheVariants.{At}
 use Rattle.msrp_trace.specs.declared.faults.TraceFault.{TraceFault}
 use Rattle.msrp_trace.specs.declared.faults.TraceFault.TheVariants.{Head}
-use Rattle.msrp_trace.specs.declared.reading.Stage.{Stage}
+use Rattle.msrp_trace.specs.declared.reading.ReaderState.{ReaderState}
 use Rattle.msrp_trace.specs.declared.reading.TraceReader.{TraceReader}
-use Rattle.msrp_trace.specs.declared.reading.Stage.TheVariants.{Rows, Ended, Failed}
+use Rattle.msrp_trace.specs.declared.reading.ReaderState.TheVariants.{Rows, Ended, Failed}
 
 -- ---- the first record
 pub version_none : (plan : PlanModel) → version_of plan [] ≡ None
@@ -85,31 +85,31 @@ pub read_gives : (number : ℕ) (o : Option TraceFault) (told : Option Row) (r :
 read_gives number None told r h = (refl, h)
 read_gives number (Some fault) told r h = absurd (cc)
 
--- ---- what is left at a stage
-pub left_rows : {A : Type 0} (f : A → Told) (stage : Stage) (o : Option A) (told : Told) → stage ≡ Rows → left_at stage (option_map f o) ≡ Some told → (left : A) × (o ≡ Some left) × (told ≡ f left)
-left_rows {A = A} f stage o told s h = by_left o (sym (ap (λ t. left_at t (option_map f o)) s) ∙ h)
+-- ---- what is left at a state
+pub left_rows : {A : Type 0} (f : A → Told) (state : ReaderState) (o : Option A) (told : Told) → state ≡ Rows → left_at state (option_map f o) ≡ Some told → (left : A) × (o ≡ Some left) × (told ≡ f left)
+left_rows {A = A} f state o told s h = by_left o (sym (ap (λ t. left_at t (option_map f o)) s) ∙ h)
   where
     by_left : (o : Option A) → option_map f o ≡ Some told → (left : A) × (o ≡ Some left) × (told ≡ f left)
     by_left None h = absurd (cc)
     by_left (Some left) h = (left, refl, cc)
 
-pub rows_left : {A : Type 0} (f : A → Told) (stage : Stage) (o : Option A) (left : A) → stage ≡ Rows → o ≡ Some left → left_at stage (option_map f o) ≡ Some (f left)
-rows_left f stage o left s h = ap (λ t. left_at t (option_map f o)) s ∙ ap (option_map f) h
+pub rows_left : {A : Type 0} (f : A → Told) (state : ReaderState) (o : Option A) (left : A) → state ≡ Rows → o ≡ Some left → left_at state (option_map f o) ≡ Some (f left)
+rows_left f state o left s h = ap (λ t. left_at t (option_map f o)) s ∙ ap (option_map f) h
 
 -- records that are left still tell the same
-pub keeps_told : (f : List (List (List ℕ)) → Told) (stage : Stage) (old new : Option (List (List (List ℕ)))) (told : Told) → stage ≡ Rows → KeepsRecords old new → left_at stage (option_map f old) ≡ Some told → left_at stage (option_map f new) ≡ Some told
-keeps_told f stage old new told s keeps h =
-    let left = left_rows f stage old told s h in
-    rows_left f stage new left.0 s (keeps left.0 left.1) ∙ ap (λ (t : Told). Some t) (sym left.2)
+pub keeps_told : (f : List (List (List ℕ)) → Told) (state : ReaderState) (old new : Option (List (List (List ℕ)))) (told : Told) → state ≡ Rows → KeepsRecords old new → left_at state (option_map f old) ≡ Some told → left_at state (option_map f new) ≡ Some told
+keeps_told f state old new told s keeps h =
+    let left = left_rows f state old told s h in
+    rows_left f state new left.0 s (keeps left.0 left.1) ∙ ap (λ (t : Told). Some t) (sym left.2)
 
-pub gives_next : (told : Told) (answer : Result (Option Row) TraceError) (stage : Stage) (o : Option Told) → stage ≡ Rows → IsDue answer (GivesFirstOr told.rows told.refusal answer (left_at stage o)) → GivesNext told answer (left_at (stage_after answer) o)
-gives_next told answer stage o s (inl h) = inl h
-gives_next told answer stage o s (inr (inl h)) = inr (inl h)
-gives_next told answer stage o s (inr (inr h)) = inr (inr (by_rows told.rows told.refusal h))
+pub gives_next : (told : Told) (answer : Result (Option Row) TraceError) (state : ReaderState) (o : Option Told) → state ≡ Rows → HoldsUnlessFailed answer (GivesFirstOr told.rows told.refusal answer (left_at state o)) → GivesNext told answer (left_at (state_after answer) o)
+gives_next told answer state o s (inl h) = inl h
+gives_next told answer state o s (inr (inl h)) = inr (inl h)
+gives_next told answer state o s (inr (inr h)) = inr (inr (by_rows told.rows told.refusal h))
   where
-    by_rows : (rows : List Row) (refusal : Option TraceError) → GivesFirstOr rows refusal answer (left_at stage o) → GivesFirst rows refusal answer (left_at (stage_after answer) o)
-    by_rows (r ∷ rows) refusal h = (h.0, ap (λ a. left_at (stage_after a) o) h.0 ∙ (sym (ap (λ t. left_at t o) s) ∙ h.1))
-    by_rows [] None h = (h, ap (λ a. left_at (stage_after a) o) h)
+    by_rows : (rows : List Row) (refusal : Option TraceError) → GivesFirstOr rows refusal answer (left_at state o) → GivesFirst rows refusal answer (left_at (state_after answer) o)
+    by_rows (r ∷ rows) refusal h = (h.0, ap (λ a. left_at (state_after a) o) h.0 ∙ (sym (ap (λ t. left_at t o) s) ∙ h.1))
+    by_rows [] None h = (h, ap (λ a. left_at (state_after a) o) h)
     by_rows [] (Some refusal) h = h
 
 -- ---- answers
@@ -128,7 +128,7 @@ opens_none remaining plan records e = rw e (inr (inr refl))
 -- the refusal of the next record
 pub answers_refusal : (version : TextVersion) (plan : PlanModel) (n number : ℕ) (left rest : List (List (List ℕ))) (fields : List (List ℕ)) (told : Told) (read : Result Row TraceError) (e : TraceError) (answer : Result (Option Row) TraceError) (after : Option Told)
     → told ≡ told_after version plan n left → left ≡ fields ∷ rest → ReadsAt number (row_fault version plan fields) (row_told version plan fields) read → read ≡ Err e → number ≡ n + 1 → answer ≡ Err e
-    → IsDue answer (GivesFirstOr told.rows told.refusal answer after)
+    → HoldsUnlessFailed answer (GivesFirstOr told.rows told.refusal answer after)
 answers_refusal version plan n number left rest fields told read e answer after t l reads is at a =
     let refused = read_refuses number (row_fault version plan fields) (row_told version plan fields) e (subst (ReadsAt number (row_fault version plan fields) (row_told version plan fields)) is reads) in
     let all : told ≡ record { rows = []; refusal = Some (At refused.0 (n + 1)) } = t ∙ (ap (told_after version plan n) l ∙ told_refused version plan n fields rest refused.0 refused.1) in
@@ -139,7 +139,7 @@ answers_refusal version plan n number left rest fields told read e answer after 
 -- the row of the next record
 pub answers_row : (version : TextVersion) (plan : PlanModel) (n number : ℕ) (left rest : List (List (List ℕ))) (fields : List (List ℕ)) (told : Told) (read : Result Row TraceError) (r : Row) (after : Option Told)
     → told ≡ told_after version plan n left → left ≡ fields ∷ rest → ReadsAt number (row_fault version plan fields) (row_told version plan fields) read → read ≡ Ok r → number ≡ n + 1 → after ≡ Some (told_after version plan number rest)
-    → IsDue (Ok (Some r)) (GivesFirstOr told.rows told.refusal (Ok (Some r)) after)
+    → HoldsUnlessFailed (Ok (Some r)) (GivesFirstOr told.rows told.refusal (Ok (Some r)) after)
 answers_row version plan n number left rest fields told read r after t l reads is at a =
     let gives = read_gives number (row_fault version plan fields) (row_told version plan fields) r (subst (ReadsAt number (row_fault version plan fields) (row_told version plan fields)) is reads) in
     let next = told_after version plan (n + 1) rest in
@@ -148,20 +148,20 @@ answers_row version plan n number left rest fields told read r after t l reads i
     inr (inr (subst P (sym all) (refl, a ∙ ap (λ k. Some (told_after version plan k rest)) at)))
 
 -- the end
-pub answers_end : (version : TextVersion) (plan : PlanModel) (n : ℕ) (left : List (List (List ℕ))) (told : Told) (after : Option Told) → told ≡ told_after version plan n left → left ≡ [] → IsDue {A = Option Row} (Ok None) (GivesFirstOr told.rows told.refusal (Ok None) after)
+pub answers_end : (version : TextVersion) (plan : PlanModel) (n : ℕ) (left : List (List (List ℕ))) (told : Told) (after : Option Told) → told ≡ told_after version plan n left → left ≡ [] → HoldsUnlessFailed {A = Option Row} (Ok None) (GivesFirstOr told.rows told.refusal (Ok None) after)
 answers_end version plan n left told after t l =
     let all : told ≡ nothing_left = t ∙ (ap (told_after version plan n) l ∙ told_end version plan n) in
     let P : Told → Type 0 = λ x. GivesFirstOr x.rows x.refusal (Ok None) after in
     inr (inr (subst P (sym all) refl))
 
 -- the end again
-pub ended_again : (told : Told) (answer : Result (Option Row) TraceError) (stage new : Stage) (o p : Option Told) → stage ≡ Ended → left_at stage o ≡ Some told → answer ≡ Ok None → new ≡ stage_after answer → GivesNext told answer (left_at new p)
-ended_again told answer stage new o p s h a n =
+pub ended_again : (told : Told) (answer : Result (Option Row) TraceError) (state new : ReaderState) (o p : Option Told) → state ≡ Ended → left_at state o ≡ Some told → answer ≡ Ok None → new ≡ state_after answer → GivesNext told answer (left_at new p)
+ended_again told answer state new o p s h a n =
     let all : told ≡ nothing_left = let e : Some nothing_left ≡ Some told = sym (ap (λ t. left_at t o) s) ∙ h in cc in
-    let after : left_at new p ≡ Some nothing_left = ap (λ t. left_at t p) (n ∙ ap stage_after a) in
+    let after : left_at new p ≡ Some nothing_left = ap (λ t. left_at t p) (n ∙ ap state_after a) in
     let P : Told → Type 0 = λ x. GivesFirst x.rows x.refusal answer (left_at new p) in
     inr (inr (subst P (sym all) (a, after)))
 
 -- nothing is left of a reader that has refused
-pub failed_left : (told : Told) (stage : Stage) (o : Option Told) → stage ≡ Failed → left_at stage o ≡ Some told → ⊥
-failed_left told stage o s h = let e : None ≡ Some told = sym (ap (λ t. left_at t o) s) ∙ h in cc
+pub failed_left : (told : Told) (state : ReaderState) (o : Option Told) → state ≡ Failed → left_at state o ≡ Some told → ⊥
+failed_left told state o s h = let e : None ≡ Some told = sym (ap (λ t. left_at t o) s) ∙ h in cc

@@ -17,8 +17,8 @@ use Rattle.msrp_trace.specs.Texts.{TextsModel, text_of_core}
 use Rattle.msrp_trace.specs.declared.faults.TraceError.{TraceError}
 use Rattle.msrp_trace.specs.declared.faults.TraceError.TheVariants.{At, Read, Memory}
 use Rattle.msrp_trace.specs.declared.faults.TraceFault.TheVariants.{Head}
-use Rattle.msrp_trace.specs.declared.reading.Stage.{Stage}
-use Rattle.msrp_trace.specs.declared.reading.Stage.TheVariants.{Rows, Ended, Failed}
+use Rattle.msrp_trace.specs.declared.reading.ReaderState.{ReaderState}
+use Rattle.msrp_trace.specs.declared.reading.ReaderState.TheVariants.{Rows, Ended, Failed}
 use Rattle.msrp_trace.specs.declared.reading.TraceReader.{TraceReader}
 use Rattle.msrp_trace.specs.declared.reading.Unopened.{Unopened}
 
@@ -26,25 +26,25 @@ use Rattle.msrp_trace.specs.declared.reading.Unopened.{Unopened}
 abbrev pub nothing_left : Told
 nothing_left = record { rows = []; refusal = None }
 
--- what is left at a stage, where the records tell that
-abbrev pub left_at : Stage → Option Told → Option Told
+-- what is left at a state, where the records tell that
+abbrev pub left_at : ReaderState → Option Told → Option Told
 left_at Rows told = told
 left_at Ended told = Some nothing_left
 left_at Failed told = None
 
--- the stage after an answer
-abbrev pub stage_after : Result (Option Row) TraceError → Stage
-stage_after (Ok (Some r)) = Rows
-stage_after (Ok None) = Ended
-stage_after (Err e) = Failed
+-- the state after an answer
+abbrev pub state_after : Result (Option Row) TraceError → ReaderState
+state_after (Ok (Some r)) = Rows
+state_after (Ok None) = Ended
+state_after (Err e) = Failed
 
 -- the rows that a reader has left, and the refusal after them, where the reader underneath tells its bytes
 abbrev pub told_left : {R : Type 0} → (R → Option (List ℕ)) → TraceReader R → Option Told
-told_left remaining t = left_at t.stage (option_map (told_after t.version t.plan.now t.number) (records_left (λ s. source_remaining remaining s.now) t.records))
+told_left remaining t = left_at t.state (option_map (told_after t.version t.plan.now t.number) (records_left (λ s. source_remaining remaining s.now) t.records))
 
 -- the line is the text of a row, which is read as it is, and a further row may come
 pub record IsLineOf {R : Type 0} (t : TraceReader R) (r : Row) (line : List ℕ) : Type 0 where
-  pub stage : t.stage ≡ Rows
+  pub state : t.state ≡ Rows
   pub number : t.number + 1 < 2 ^ 32
   pub whole : is_told_whole t.version t.plan.now r ≡ true
   pub text : line ++ codes "\n" ≡ row_text t.version t.plan.now r
@@ -65,21 +65,21 @@ IsOfTrace old new = (new.version ≡ old.version) × (new.plan.now ≡ old.plan.
 abbrev pub ahead_failed : {R : Type 0} → TraceReader R → Bool
 ahead_failed t = read_failed t.records
 
-abbrev pub is_failed : Stage → Bool
+abbrev pub is_failed : ReaderState → Bool
 is_failed Failed = true
 is_failed _ = false
 
 -- the reader has refused, and refuses from then on
 abbrev pub has_failed : {R : Type 0} → TraceReader R → Bool
-has_failed t = is_failed t.stage
+has_failed t = is_failed t.state
 
 -- the source that a reader reads
 abbrev pub source_of : {R : Type 0} → TraceReader R → Source R
 source_of t = (reader_under t.records).now
 
 -- the answer is as due, but for a read that failed and for memory
-abbrev pub IsDue : {A : Type 0} → Result A TraceError → Type 0 → Type 0
-IsDue result due = (result ≡ Err Read) ⊎ (result ≡ Err Memory) ⊎ due
+abbrev pub HoldsUnlessFailed : {A : Type 0} → Result A TraceError → Type 0 → Type 0
+HoldsUnlessFailed result due = (result ≡ Err Read) ⊎ (result ≡ Err Memory) ⊎ due
 
 -- a reader opens where the first record tells a version, and then has left what the records tell
 abbrev pub OpensBy : {R : Type 0} → (R → Option (List ℕ)) → Option TextVersion → Told → Result (TraceReader R) TraceError → Type 0
@@ -87,7 +87,7 @@ OpensBy remaining None told result = result ≡ Err (At Head 1)
 OpensBy remaining (Some version) told result = IsOkAnd result (λ reader. told_left remaining reader ≡ Some told)
 
 abbrev pub Opens : {R : Type 0} → (R → Option (List ℕ)) → PlanModel → List (List (List ℕ)) → Result (TraceReader R) TraceError → Type 0
-Opens remaining plan records result = IsDue result (OpensBy remaining (version_of plan records) (rows_of plan records) result)
+Opens remaining plan records result = HoldsUnlessFailed result (OpensBy remaining (version_of plan records) (rows_of plan records) result)
 
 -- the next row, and the rest is left; or at the end none, and then none again; or the refusal
 abbrev pub GivesFirst : List Row → Option TraceError → Result (Option Row) TraceError → Option Told → Type 0
@@ -102,7 +102,7 @@ GivesFirstOr [] None result after = result ≡ Ok None
 GivesFirstOr [] (Some refusal) result after = result ≡ Err refusal
 
 abbrev pub GivesNext : Told → Result (Option Row) TraceError → Option Told → Type 0
-GivesNext told result after = IsDue result (GivesFirst told.rows told.refusal result after)
+GivesNext told result after = HoldsUnlessFailed result (GivesFirst told.rows told.refusal result after)
 
 -- in that tick the core's text is that of a row, which the reader gives as it is
 pub record IsTextOf {R : Type 0} (t : TraceReader R) (texts : TextsModel) (n core : ℕ) (r : Row) : Type 0 where

@@ -20,11 +20,11 @@ pub(crate) const LINE: usize = 80;
 
 /// The text of a record, as far as it is made.
 #[derive(Drop)]
-pub(crate) struct Line {
+pub(crate) struct LineText {
     text: Text<LINE>,
 }
 
-impl Model for Line {
+impl Model for LineText {
     ghost use Rattle.std.specs.Prelude.{ℕ, List};
 
     ghost Value = { List ℕ };
@@ -43,12 +43,12 @@ fn res_field(plan: &Plan, res: ResId) -> &[u8]
     plan.res_name(res).as_bytes()
 }
 
-impl Line {
+impl LineText {
     /// A record of which nothing is made.
-    pub(crate) fn new() -> Line
+    pub(crate) fn new() -> LineText
         ensures { result ≡ [] }
     {
-        Line { text: Text::new() }
+        LineText { text: Text::new() }
     }
 
     /// The text.
@@ -178,7 +178,7 @@ impl Line {
 #[derive(Drop)]
 pub(crate) struct RowLine {
     row: Option<Row>,
-    line: Line,
+    line: LineText,
     // The job that the core ran last.
     job: JobText,
 }
@@ -204,7 +204,7 @@ impl RowLine {
     {
         RowLine {
             row: None,
-            line: Line::new(),
+            line: LineText::new(),
             job: JobText::new(),
         }
     }

@@ -27,7 +27,7 @@ use std::io::Read;
 
 // Where a reader stands.
 #[derive(Clone, Copy, Debug, PartialEq, Eq)]
-enum Stage {
+enum ReaderState {
     // Further rows may come.
     Rows,
     // The text is at its end.
@@ -53,7 +53,7 @@ pub struct TraceReader<'a, R> {
     foreseen: Foreseen,
     version: TextVersion,
     number: u32,
-    stage: Stage,
+    state: ReaderState,
     ghost texts: { AreTexts version plan.now foreseen } by { Prim.hlevel props },
 }
 
@@ -108,17 +108,17 @@ fn stopped<R: Read>(records: &RecordReader<&mut Source<R>>) -> TraceError
     }
 }
 
-impl Stage {
-    ghost use Rattle.msrp_trace.specs.Readers.{stage_after};
+impl ReaderState {
+    ghost use Rattle.msrp_trace.specs.Readers.{state_after};
 
-    // The stage after an answer.
-    fn after(answer: &Result<Option<Row>, TraceError>) -> Stage
-        ensures { result ≡ stage_after answer.now }
+    // The state after an answer.
+    fn after(answer: &Result<Option<Row>, TraceError>) -> ReaderState
+        ensures { result ≡ state_after answer.now }
     {
         match answer {
-            Ok(Some(_)) => Stage::Rows,
-            Ok(None) => Stage::Ended,
-            Err(_) => Stage::Failed,
+            Ok(Some(_)) => ReaderState::Rows,
+            Ok(None) => ReaderState::Ended,
+            Err(_) => ReaderState::Failed,
         }
     }
 }
@@ -143,7 +143,7 @@ fn numbered_row(
 }
 
 impl<'a, R: Read> TraceReader<'a, R> {
-    ghost use Rattle.msrp_trace.specs.Readers.{CanMeet, ComesNext, GivesFirstOr, GivesNext, IsDue, IsOfTrace, IsRecordOf, IsTextOf, Opens, StandsBehind, StandsIn, ahead_failed, error_of, has_failed, record_read, source_of, told_left};
+    ghost use Rattle.msrp_trace.specs.Readers.{CanMeet, ComesNext, GivesFirstOr, GivesNext, HoldsUnlessFailed, IsOfTrace, IsRecordOf, IsTextOf, Opens, StandsBehind, StandsIn, ahead_failed, error_of, has_failed, record_read, source_of, told_left};
 
     /// The rows of all that a source has left, for a trace of the plan. R1 is refused here.
     pub fn new(
@@ -160,7 +160,7 @@ impl<'a, R: Read> TraceReader<'a, R> {
         }
     }
 
-    /// The same. A first record that is refused is given back with its refusal.
+    /// A reader of the rows, as by `new`. A first record that is refused is given back with its refusal.
     pub fn open(
         alloc: Global,
         source: &'a mut Source<R>,
@@ -192,7 +192,7 @@ impl<'a, R: Read> TraceReader<'a, R> {
                 foreseen: Foreseen::new(),
                 version,
                 number: 1,
-                stage: Stage::Rows,
+                state: ReaderState::Rows,
             }),
             None => Err(no_head(fields)),
         }
@@ -237,7 +237,7 @@ impl<'a, R: Read> TraceReader<'a, R> {
         let Some(next) = self.number.checked_add(1) else {
             return false;
         };
-        if self.stage != Stage::Rows {
+        if self.state != ReaderState::Rows {
             return false;
         }
         if !is_told_whole(self.plan, self.version, row) {
@@ -251,13 +251,13 @@ impl<'a, R: Read> TraceReader<'a, R> {
     #[inline(always)]
     fn takes(&mut self, row: &Row, next: u32) -> bool
         requires plan { IsPlan self.old.plan.now }
-        requires stage { self.old.stage ≡ Stage.Rows }
+        requires state { self.old.state ≡ ReaderState.Rows }
         requires number { next ≡ self.old.number + 1 }
         requires whole { is_told_whole self.old.version self.old.plan.now row.now ≡ true }
         requires texts { AreTextsOf self.old.version self.old.plan.now row.now self.old.foreseen }
         ensures taken { result ≡ true → (told : Told) → told_left R.remaining self.old ≡ Some told → GivesNext told (Ok (Some row.now)) (told_left R.remaining self.new) }
         ensures kept { result ≡ false → (told : Told) → told_left R.remaining self.old ≡ Some told → told_left R.remaining self.new ≡ Some told }
-        ensures stage { self.new.stage ≡ Stage.Rows }
+        ensures state { self.new.state ≡ ReaderState.Rows }
         ensures texts { self.new.foreseen ≡ self.old.foreseen }
         ensures finds { CanMeet self.old row.now → result ≡ true }
         ensures comes { ComesNext R.remaining self.old row.now → (result ≡ true) ⊎ (ahead_failed self.new ≡ true) }
@@ -290,7 +290,7 @@ impl<'a, R: Read> TraceReader<'a, R> {
         ensures trace { IsOfTrace self.old self.new }
         ensures finds { (row : Row) → IsTextOf self.old texts.now tick core.0 row → CanMeet self.old row → result ≡ true }
     {
-        let (Some(next_number), Stage::Rows) = (self.number.checked_add(1), self.stage) else {
+        let (Some(next_number), ReaderState::Rows) = (self.number.checked_add(1), self.state) else {
             return false;
         };
         // Read so that the plan is known to be an accepted one.
@@ -340,7 +340,7 @@ impl<'a, R: Read> TraceReader<'a, R> {
         };
         // Read so that the plan is known to be an accepted one.
         let _accepted = self.plan.tasks();
-        if self.stage == Stage::Rows && is_short(row.tick) && self.takes(&row, next) {
+        if self.state == ReaderState::Rows && is_short(row.tick) && self.takes(&row, next) {
             // Asked anew, so that the row isn't held while its text is compared.
             return self.foreseen.last(core);
         }
@@ -421,20 +421,20 @@ impl<'a, R: Read> TraceReader<'a, R> {
         ensures trace { IsOfTrace self.old self.new }
         ensures stands { (records : List (List (List ℕ))) → StandsIn R.remaining records self.old → StandsBehind R.remaining records result self.new }
     {
-        let answer = match self.stage {
-            Stage::Rows => self.read_next(),
-            Stage::Ended => Ok(None),
-            Stage::Failed => Err(TraceError::Failed),
+        let answer = match self.state {
+            ReaderState::Rows => self.read_next(),
+            ReaderState::Ended => Ok(None),
+            ReaderState::Failed => Err(TraceError::Failed),
         };
-        self.stage = Stage::after(&answer);
+        self.state = ReaderState::after(&answer);
         answer
     }
 
     // The next row where further rows may come. Its texts are kept for the next row of its core.
     fn read_next(&mut self) -> Result<Option<Row>, TraceError>
-        requires { self.old.stage ≡ Stage.Rows }
-        ensures next { (told : Told) → told_left R.remaining self.old ≡ Some told → IsDue result (GivesFirstOr told.rows told.refusal result (told_left R.remaining self.new)) }
-        ensures stage { self.new.stage ≡ Stage.Rows }
+        requires { self.old.state ≡ ReaderState.Rows }
+        ensures next { (told : Told) → told_left R.remaining self.old ≡ Some told → HoldsUnlessFailed result (GivesFirstOr told.rows told.refusal result (told_left R.remaining self.new)) }
+        ensures state { self.new.state ≡ ReaderState.Rows }
         ensures going { ¬ (result ≡ Err TraceError.Failed) }
         ensures read { result ≡ Err TraceError.Read → source_failed (source_of self.new) ≡ true }
         ensures memory { result ≡ Err TraceError.Memory → source_failed (source_of self.new) ≡ false }

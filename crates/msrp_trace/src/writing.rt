@@ -10,7 +10,7 @@ ghost use Rattle.msrp_trace.specs.declared.line.RowLine.{RowLine as Kept};
 ghost use Rattle.msrp_trace.specs.Texts.{text_of_core, texts_of};
 ghost use Rattle.msrp_trace.specs.TraceText.{head_text, is_named, is_res_of, is_task_of, row_text, trace_text};
 
-use crate::line::{Line, RowLine};
+use crate::line::{LineText, RowLine};
 use crate::page::Page;
 use crate::texts::RowTexts;
 use crate::tick::Tick;
@@ -99,7 +99,7 @@ impl<'a> TraceWriter<'a> {
         ensures text { Gathers W.contents self.old.text out.old self.new.text out.new (head_text self.old.version self.old.plan) }
         ensures same { self.new ≡ record self.old { text = self.new.text } }
     {
-        let mut line = Line::new();
+        let mut line = LineText::new();
         line.head(self.plan, self.version);
         self.page.add(out, line.text());
     }

@@ -254,7 +254,7 @@ fn export_told<'a>(matches: &ArgMatches<'a>) -> Result<Cmd<'a>, CliFault>
     })
 }
 
-// The same, where nothing is said of a picture.
+// An export, where nothing is said of a picture.
 fn export_of<'a>(matches: &ArgMatches<'a>) -> Result<Cmd<'a>, CliFault>
     ensures { IsExported (line.export_of (rows_of (found_of matches.now))) result }
 {

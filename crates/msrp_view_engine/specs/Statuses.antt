@@ -9,7 +9,7 @@ use Rattle.msrp_faults.specs.declared.faults.CliFault.{CliFault}
 use Rattle.msrp_faults.specs.Outcomes.{is_trace_code}
 use Rattle.msrp_faults.specs.declared.faults.CliFault.TheVariants.{Trace, Write}
 
--- that of the verdict, or a write fault where the sink failed
+-- the status of the verdict, or a write fault where the sink failed
 abbrev pub told_status : {W : Type 0} → Result ⊤ Fault → Sink W → Result ℕ CliFault
 told_status found new = if sink_failed new then Err Write else Ok (verdict_status found)
 
@@ -18,7 +18,7 @@ abbrev pub is_record_fault : CliFault → Bool
 is_record_fault (Trace code number) = is_trace_code code
 is_record_fault _ = false
 
--- that of what is found in a trace: a refusal is answered as it is, but for a write fault
+-- the status of what is found in a trace: a refusal is answered as it is, but for a write fault
 abbrev pub found_status : {W : Type 0} → Result (Result ⊤ Fault) CliFault → Sink W → Result ℕ CliFault
 found_status (Ok found) new = told_status found new
 found_status (Err fault) new = if sink_failed new then Err Write else Err fault

@@ -23,7 +23,7 @@ use Rattle.msrp_plan.proofs.Lists.Ranges.{range_more}
 use Rattle.msrp_sim.specs.Cores.{IsDueAfter, IsNextRow}
 use Rattle.msrp_audit.specs.Audits.{AuditorModel, HasFed, answer_of, has_turn}
 use Rattle.msrp_audit.proofs.Judging.{due_after}
-use Rattle.msrp_why.specs.Causes.{AreTurnsFor, IsCauseAfter, IsDue, IsStateFor, cores_due}
+use Rattle.msrp_why.specs.Causes.{AreTurnsFor, IsCauseAfter, IsDueRow, IsStateFor, cores_due}
 use Rattle.arrayvec.specs.ArrayVec.{ArrayVec}
 use Rattle.msrp_why.specs.Noted.{AreNoted}
 use Rattle.msrp_why.specs.declared.notes.Notes.{Notes}
@@ -46,7 +46,7 @@ pub good_start : (plan : PlanModel) (rows : List Row) → fault_in plan rows ≡
 good_start plan rows h = let all = legal_after plan [] rows (omega arith) h in record { size = all.1; each = all.0 }
 
 -- what is due, whatever the rule
-due_by : (plan : PlanModel) (rows : List Row) (c : ℕ) (rule : Rule) (due : Option Row) → IsSomeAnd due (IsNextRow plan rows c) → IsDue plan rows c rule due
+due_by : (plan : PlanModel) (rows : List Row) (c : ℕ) (rule : Rule) (due : Option Row) → IsSomeAnd due (IsNextRow plan rows c) → IsDueRow plan rows c rule due
 due_by plan rows c A1 due d = tt
 due_by plan rows c A2 due d = d
 due_by plan rows c A3 due d = d
@@ -66,10 +66,10 @@ state_by plan rows c A7 state d = tt
 
 -- by whether a row is left, and whether the core is in its turn
 due_for : (plan : PlanModel) (rows : List Row) (c : ℕ) (rule : Rule) (due : Option Row) (left turn : Bool) (rest : Option Rule)
-    → (left ≡ true → turn ≡ true → IsSomeAnd due (IsNextRow plan rows c)) → cond left (cond turn rest (Some A1)) (Some A7) ≡ Some rule → IsDue plan rows c rule due
+    → (left ≡ true → turn ≡ true → IsSomeAnd due (IsNextRow plan rows c)) → cond left (cond turn rest (Some A1)) (Some A7) ≡ Some rule → IsDueRow plan rows c rule due
 due_for plan rows c rule due true true rest d h = due_by plan rows c rule due (d refl refl)
-due_for plan rows c rule due true false rest d h = let same : A1 ≡ rule = cc in subst (λ u. IsDue plan rows c u due) same tt
-due_for plan rows c rule due false turn rest d h = let same : A7 ≡ rule = cc in subst (λ u. IsDue plan rows c u due) same tt
+due_for plan rows c rule due true false rest d h = let same : A1 ≡ rule = cc in subst (λ u. IsDueRow plan rows c u due) same tt
+due_for plan rows c rule due false turn rest d h = let same : A7 ≡ rule = cc in subst (λ u. IsDueRow plan rows c u due) same tt
 
 state_for : (plan : PlanModel) (rows : List Row) (c : ℕ) (rule : Rule) (state : Option CoreState) (left turn : Bool) (rest : Option Rule)
     → (left ≡ true → turn ≡ true → IsSomeAnd state (IsCoreState plan c (length rows / plan.cores) rows)) → cond left (cond turn rest (Some A1)) (Some A7) ≡ Some rule → IsStateFor plan rows c rule state

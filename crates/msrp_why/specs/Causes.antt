@@ -21,12 +21,12 @@ use Rattle.msrp_why.specs.declared.causes.Ground.TheVariants.{End, Row as AtRow}
 
 -- where a core in its turn breaks a rule, the row that is due is the one legal row of that core after the rows before, with
 -- its ahead; where no row of the core is due nothing is said
-abbrev pub IsDue : PlanModel → List Row → ℕ → Rule → Option Row → Type 0
-IsDue plan rows c A2 due = IsSomeAnd due (IsNextRow plan rows c)
-IsDue plan rows c A3 due = IsSomeAnd due (IsNextRow plan rows c)
-IsDue plan rows c A4 due = IsSomeAnd due (IsNextRow plan rows c)
-IsDue plan rows c A5 due = IsSomeAnd due (IsNextRow plan rows c)
-IsDue plan rows c rule due = ⊤
+abbrev pub IsDueRow : PlanModel → List Row → ℕ → Rule → Option Row → Type 0
+IsDueRow plan rows c A2 due = IsSomeAnd due (IsNextRow plan rows c)
+IsDueRow plan rows c A3 due = IsSomeAnd due (IsNextRow plan rows c)
+IsDueRow plan rows c A4 due = IsSomeAnd due (IsNextRow plan rows c)
+IsDueRow plan rows c A5 due = IsSomeAnd due (IsNextRow plan rows c)
+IsDueRow plan rows c rule due = ⊤
 
 -- there, too, the state of the core is the one that these rows leave it in, in the tick that is due
 abbrev pub IsStateFor : PlanModel → List Row → ℕ → Rule → Option CoreState → Type 0
@@ -50,7 +50,7 @@ pub record IsCauseAfter (plan : PlanModel) (rows : List Row) (r : Row) (cause : 
   pub good : fault_in plan rows ≡ None
   pub fault : fault_in plan (rows ++ r ∷ []) ≡ Some cause.fault
   pub row : cause.row ≡ r
-  pub due : IsDue plan rows r.core.0 cause.fault.rule cause.due
+  pub due : IsDueRow plan rows r.core.0 cause.fault.rule cause.due
   pub state : IsStateFor plan rows r.core.0 cause.fault.rule cause.state
   pub turns : AreTurnsFor plan rows cause.fault.rule cause.turns.items
   pub notes : AreNoted plan rows cause.notes

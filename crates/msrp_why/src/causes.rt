@@ -65,7 +65,7 @@ fn cores_due(plan: &Plan, auditor: &Auditor<'_>) -> ArrayVec<u32, MOST_TURNS>
     found
 }
 
-// The same, where the row isn't in its turn.
+// The cores that have their turns still to come, where the row isn't in its turn.
 #[inline(always)]
 fn turns_for(plan: &Plan, auditor: &Auditor<'_>, row: Row) -> ArrayVec<u32, MOST_TURNS>
     requires plan { auditor.now.plan ≡ plan.now }

@@ -102,7 +102,7 @@ fn write_lock<W: Write>(
     }
 }
 
-// Those of the rows that are of the core.
+// The lines of those rows that are of the core.
 fn write_own_rows<W: Write>(
     out: &mut Sink<W>,
     plan: &Plan,

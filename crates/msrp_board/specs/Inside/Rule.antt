@@ -18,8 +18,8 @@ use Rattle.msrp_board.specs.declared.words.TicketWord.{TicketWord}
 use Rattle.msrp_board.specs.Boards.{opening_count, abort_count}
 use Rattle.msrp_board.specs.Words.{high, low, half_word}
 use Rattle.msrp_board.specs.Steps.{only_at, none_at, either, together}
-use Rattle.msrp_board.specs.Books.{IsSize, on, reach_of, AreBefore, IsBefore, IsChain}
-use Rattle.msrp_board.specs.History.{Event, by}
+use Rattle.msrp_board.specs.Books.{IsSize, on_resource, admissions_of, AreBefore, IsBefore, IsChain}
+use Rattle.msrp_board.specs.History.{Event, by_core}
 use Rattle.msrp_board.specs.Inside.Newest.{asks, leaves, LegalNewest, PlacedNewest, IsRegularNewest, claim_of, ticket_of, TicksNewest, RisingNewest, PollsNewest}
 
 -- the page of a core that did nothing yet
@@ -61,8 +61,8 @@ abbrev pub SharedConductor : List View → Conductor → Type 0
 SharedConductor views o = SharedBy HasConductor views (λ k x. (k ≡ 0) × (o ≡ x))
 
 -- the ticks below it are those to which the core is or was admitted
-abbrev pub page_reach : Page → ℕ
-page_reach b = reach_of b.admitted b.tick
+abbrev pub page_admissions : Page → ℕ
+page_admissions b = admissions_of b.admitted b.tick
 
 -- how many arrivals there are
 abbrev pub arrivals : List Page → ℕ
@@ -76,12 +76,12 @@ pub record Gathered (word : ℕ) (books : List Page) (o : Conductor) : Type 0 wh
   -- a core was told of an abort that was made
   pub told : (c : ℕ) (b : Page) → get_elem? books c ≡ some b → b.stopped ≡ true → o ≡ Aborted
   -- whoever is or was admitted to a tick met all who left the ticks below
-  pub met : (c : ℕ) (b : Page) → get_elem? books c ≡ some b → 0 < page_reach b → (o ≡ Opened) × ((d : ℕ) (e : Page) → get_elem? books d ≡ some e → page_reach b ≤ suc e.tick)
+  pub met : (c : ℕ) (b : Page) → get_elem? books c ≡ some b → 0 < page_admissions b → (o ≡ Opened) × ((d : ℕ) (e : Page) → get_elem? books d ≡ some e → page_admissions b ≤ suc e.tick)
 
 -- the history of g by these pages
 pub record IsHistoryNewest (g : ℕ) (books : List Page) (log : List Event) : Type 0 where
-  pub entries : (c : ℕ) (b : Page) → get_elem? books c ≡ some b → by c log ≡ on g b.newest
-  pub none_past : (c : ℕ) → length books ≤ c → by c log ≡ []
+  pub entries : (c : ℕ) (b : Page) → get_elem? books c ≡ some b → by_core c log ≡ on_resource g b.newest
+  pub none_past : (c : ℕ) → length books ≤ c → by_core c log ≡ []
   pub placed : PlacedNewest log
 
 -- the word counts the requests of the history, high, and its releases, low
@@ -105,10 +105,10 @@ pub record IsServedNewest (g word : ℕ) (books : List Page) : Type 0 where
 
 -- what every page keeps on a board of this size
 pub record IsKeptNewest (z : BoardSize) (b : Page) : Type 0 where
-  pub within : page_reach b ≤ z.ticks
+  pub within : page_admissions b ≤ z.ticks
   pub declared : AllByRecursion (λ e. e.res.0 < z.resources) b.newest
-  pub ticks : TicksNewest (page_reach b) b.newest
-  pub places : (g : ℕ) → IsChain (λ e f. IsBefore f.call f.place e.place) (on g b.newest)
+  pub ticks : TicksNewest (page_admissions b) b.newest
+  pub places : (g : ℕ) → IsChain (λ e f. IsBefore f.call f.place e.place) (on_resource g b.newest)
   pub regular : IsRegularNewest b.newest
 
 -- the rule of the words and of the pages of all seats
@@ -182,7 +182,7 @@ with_pages f v = record { pages = map (option_map f) v.pages; conductor = v.cond
 
 -- an answer's place is behind all that the books have of the resource
 abbrev pub ViewIsBehind : View → ℕ → ℕ → Type 0
-ViewIsBehind v g p = (c : ℕ) (b : Page) → HasPage v c b → AreBefore p (on g b.newest)
+ViewIsBehind v g p = (c : ℕ) (b : Page) → HasPage v c b → AreBefore p (on_resource g b.newest)
 
 -- a poll of g that found the word n: granted where the ticket is served
 abbrev pub page_with_poll : ℕ → ℕ → Page → Page

@@ -5,10 +5,10 @@ use Rattle.msrp_plan.specs.declared.rows.Row.{Row}
 use Rattle.msrp_picture.specs.Lines.{cells}
 use Rattle.msrp_picture.specs.Picture.{line_text}
 use Rattle.msrp_picture.specs.declared.lines.Drawn.{Drawn}
-use Rattle.msrp_picture.specs.declared.lines.Line.{Line}
+use Rattle.msrp_picture.specs.declared.lines.PictureLine.{PictureLine}
 use Rattle.msrp_picture.specs.declared.windows.Window.{Window}
 
-abbrev pub line_of : Drawn → Line
+abbrev pub line_of : Drawn → PictureLine
 line_of drawn = drawn.line
 
 -- the cells are those of the line

@@ -83,7 +83,7 @@ first_few p falls a zero = refl
 first_few p falls a (suc n) = first_cases a (p a) (filter p (range_with_len (a + 1) n)) (λ e. none_later p falls (a + 1) n (falls a e)) (first_few p falls (a + 1) n)
 
 -- ---- the jobs of a task
--- those of its releases that come before the last tick has passed, by their numbers
+-- the releases of a task that come before the last tick has passed, by their numbers
 numbered : (plan : PlanModel) (t : ℕ) → jobs_of plan t ≡ map (job_at t) (filter (comes_before (task_at plan t).times plan.ticks) (range_with_len 0 plan.ticks))
 numbered plan t =
     let before = comes_before (task_at plan t).times plan.ticks in

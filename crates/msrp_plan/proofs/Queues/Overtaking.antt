@@ -13,7 +13,7 @@ use Rattle.msrp_plan.specs.Actions.{is_global_unit, res_of_unit}
 use Rattle.msrp_plan.specs.Queues.{fifo, is_first, is_on, is_free}
 use Rattle.msrp_plan.specs.Runs.{IsLegal, IsRunStart, EachAfter}
 use Rattle.msrp_plan.specs.WellFormed.{IsPlan}
-use Rattle.msrp_plan.specs.Laws.{is_admission, is_admitting, is_grant_of, is_grant, BoundedOvertaking}
+use Rattle.msrp_plan.specs.Laws.{is_acquisition, is_acquiring, is_grant_of, is_grant, BoundedOvertaking}
 use Rattle.msrp_plan.specs.declared.ids.JobId.{JobId}
 use Rattle.msrp_plan.specs.declared.rows.Kind.{Kind}
 use Rattle.msrp_plan.specs.declared.rows.Kind.TheVariants.{Run, Lock, Unlock, Take, Queue, Spin, Grant, Release}
@@ -72,19 +72,19 @@ not_free [] zs x f e h = true≢false (sym h ∙ ap is_free e)
 not_free (y ∷ ys) zs x f e h = true≢false (sym h ∙ ap is_free e)
 
 -- ---- which rows count
-not_counted : (g : ℕ) (r : Row) → is_on g r.res ≡ false → is_admission g r ≡ false
-not_counted g r e = ap (λ b. b && is_admitting r.kind) e
+not_counted : (g : ℕ) (r : Row) → is_on g r.res ≡ false → is_acquisition g r ≡ false
+not_counted g r e = ap (λ b. b && is_acquiring r.kind) e
 
 -- a row on it counts by its kind
-counted : (g : ℕ) (r : Row) (k : Kind) (b : Bool) → is_on g r.res ≡ true → r.kind ≡ k → is_admitting k ≡ b → is_admission g r ≡ b
-counted g r k b on ek e = ap (λ c. c && is_admitting r.kind) on ∙ (ap is_admitting ek ∙ e)
+counted : (g : ℕ) (r : Row) (k : Kind) (b : Bool) → is_on g r.res ≡ true → r.kind ≡ k → is_acquiring k ≡ b → is_acquisition g r ≡ b
+counted g r k b on ek e = ap (λ c. c && is_acquiring r.kind) on ∙ (ap is_acquiring ek ∙ e)
 
 -- a row that doesn't count, and after which as many hold it
-behind_same : (plan : PlanModel) (g : ℕ) (x : JobId) (pre : List Row) (r : Row) (n : ℕ) (more : List JobId) → (old : IsBehind plan g x pre n) → is_admission g r ≡ false → fifo g (pre ++ r ∷ []) ≡ fifo g pre ++ more → stand plan g (pre ++ r ∷ []) x ≡ Waits
-    → ((j : JobId) → is_holds (stand plan g (pre ++ r ∷ []) j) ≡ is_holds (stand plan g pre j)) → IsBehind plan g x (pre ++ r ∷ []) (n + cond (is_admission g r) 1 0)
+behind_same : (plan : PlanModel) (g : ℕ) (x : JobId) (pre : List Row) (r : Row) (n : ℕ) (more : List JobId) → (old : IsBehind plan g x pre n) → is_acquisition g r ≡ false → fifo g (pre ++ r ∷ []) ≡ fifo g pre ++ more → stand plan g (pre ++ r ∷ []) x ≡ Waits
+    → ((j : JobId) → is_holds (stand plan g (pre ++ r ∷ []) j) ≡ is_holds (stand plan g pre j)) → IsBehind plan g x (pre ++ r ∷ []) (n + cond (is_acquisition g r) 1 0)
 behind_same plan g x pre r n more old off fs w st =
     let b = busy_same plan g pre r old.ahead st in
-    let c : cond {A = ℕ} (is_admission g r) 1 0 ≡ 0 = ap (λ v. cond v 1 0) off in
+    let c : cond {A = ℕ} (is_acquisition g r) 1 0 ≡ 0 = ap (λ v. cond v 1 0) off in
     let few : n + length old.ahead + 1 ≤ plan.cores + cond (is_busy plan g (pre ++ r ∷ []) old.ahead) 1 0 = subst (λ v. n + length old.ahead + 1 ≤ plan.cores + cond v 1 0) (sym b) old.few in
     record {
       ahead = old.ahead;
@@ -111,7 +111,7 @@ not_mine x g r on k non =
 
 -- the first of those ahead is granted it
 got_at : (plan : PlanModel) (g : ℕ) (x : JobId) (pre : List Row) (r : Row) (n : ℕ) (z : JobId) (ahead behind : List JobId) → fifo g pre ≡ ahead ++ x ∷ behind → stand plan g pre x ≡ Waits → n + length ahead + 1 ≤ plan.cores + cond (is_busy plan g pre ahead) 1 0
-    → IsMove plan g pre r z Grant Waits Holds → is_first (fifo g pre) (Some z) ≡ true → fifo g (pre ++ r ∷ []) ≡ fifo g pre → is_row_of x r ≡ false → IsBehind plan g x (pre ++ r ∷ []) (n + cond (is_admission g r) 1 0)
+    → IsMove plan g pre r z Grant Waits Holds → is_first (fifo g pre) (Some z) ≡ true → fifo g (pre ++ r ∷ []) ≡ fifo g pre → is_row_of x r ≡ false → IsBehind plan g x (pre ++ r ∷ []) (n + cond (is_acquisition g r) 1 0)
 got_at plan g x pre r n z [] behind q w few m first fs other =
     let s : z ≡ x = same_is z x (sym (ap (λ f. is_first f (Some z)) q) ∙ first) in
     absurd (true≢false (sym (row_of_job r z m.job) ∙ subst (λ v. is_row_of v r ≡ false) (sym s) other))
@@ -120,24 +120,24 @@ got_at plan g x pre r n z (y ∷ ahead) behind q w few m first fs other =
     let before : is_holds (stand plan g pre y) ≡ false = ap is_holds (subst (λ v. stand plan g pre v ≡ Waits) s m.before) in
     let after : is_holds (stand plan g (pre ++ r ∷ []) y) ≡ true = ap is_holds (subst (λ v. stand plan g (pre ++ r ∷ []) v ≡ Holds) s m.after) in
     let few0 : n + length (y ∷ ahead) + 1 ≤ plan.cores + 0 = subst (λ v. n + length (y ∷ ahead) + 1 ≤ plan.cores + cond v 1 0) before few in
-    let c : cond {A = ℕ} (is_admission g r) 1 0 ≡ 1 = ap (λ v. cond v 1 0) (counted g r Grant true m.on m.kind refl) in
-    let few1 : (n + cond (is_admission g r) 1 0) + length (y ∷ ahead) + 1 ≤ plan.cores + 1 = omega (arith, few0, c) in
+    let c : cond {A = ℕ} (is_acquisition g r) 1 0 ≡ 1 = ap (λ v. cond v 1 0) (counted g r Grant true m.on m.kind refl) in
+    let few1 : (n + cond (is_acquisition g r) 1 0) + length (y ∷ ahead) + 1 ≤ plan.cores + 1 = omega (arith, few0, c) in
     record {
       ahead = y ∷ ahead;
       behind = behind;
       queue = fs ∙ q;
       waits = m.others x other ∙ w;
-      few = subst (λ v. (n + cond (is_admission g r) 1 0) + length (y ∷ ahead) + 1 ≤ plan.cores + cond v 1 0) (sym after) few1;
+      few = subst (λ v. (n + cond (is_acquisition g r) 1 0) + length (y ∷ ahead) + 1 ≤ plan.cores + cond v 1 0) (sym after) few1;
     }
 
 -- it releases it, and there is one less ahead
 left_at : (plan : PlanModel) (g : ℕ) (x : JobId) (pre : List Row) (r : Row) (n : ℕ) (z : JobId) (ahead behind : List JobId) → fifo g pre ≡ ahead ++ x ∷ behind → stand plan g pre x ≡ Waits → n + length ahead + 1 ≤ plan.cores + cond (is_busy plan g pre ahead) 1 0
-    → IsMove plan g pre r z Release Holds Out → is_first (fifo g pre) (Some z) ≡ true → fifo g (pre ++ r ∷ []) ≡ drop 1 (fifo g pre) → IsBehind plan g x (pre ++ r ∷ []) (n + cond (is_admission g r) 1 0)
+    → IsMove plan g pre r z Release Holds Out → is_first (fifo g pre) (Some z) ≡ true → fifo g (pre ++ r ∷ []) ≡ drop 1 (fifo g pre) → IsBehind plan g x (pre ++ r ∷ []) (n + cond (is_acquisition g r) 1 0)
 left_at plan g x pre r n z [] behind q w few m first fs =
     let s : z ≡ x = same_is z x (sym (ap (λ f. is_first f (Some z)) q) ∙ first) in
     absurd (holds_waits (sym (subst (λ v. stand plan g pre v ≡ Holds) s m.before) ∙ w))
 left_at plan g x pre r n z (y ∷ ahead) behind q w few m first fs =
-    let c : cond {A = ℕ} (is_admission g r) 1 0 ≡ 0 = ap (λ v. cond v 1 0) (counted g r Release false m.on m.kind refl) in
+    let c : cond {A = ℕ} (is_acquisition g r) 1 0 ≡ 0 = ap (λ v. cond v 1 0) (counted g r Release false m.on m.kind refl) in
     let b = one_at_most (is_busy plan g pre (y ∷ ahead)) in
     record {
       ahead = ahead;
@@ -148,7 +148,7 @@ left_at plan g x pre r n z (y ∷ ahead) behind q w few m first fs =
     }
 
 -- each effect but a grant to x keeps it
-behind_by : (plan : PlanModel) (g : ℕ) (x : JobId) (pre : List Row) (r : Row) (n : ℕ) → IsOrderly plan g pre → IsBehind plan g x pre n → is_grant_of x g r ≡ false → Effect plan g pre r → IsBehind plan g x (pre ++ r ∷ []) (n + cond (is_admission g r) 1 0)
+behind_by : (plan : PlanModel) (g : ℕ) (x : JobId) (pre : List Row) (r : Row) (n : ℕ) → IsOrderly plan g pre → IsBehind plan g x pre n → is_grant_of x g r ≡ false → Effect plan g pre r → IsBehind plan g x (pre ++ r ∷ []) (n + cond (is_acquisition g r) 1 0)
 behind_by plan g x pre r n ord old non e =
     elim e [
       | Quiet off fs st ↦ behind_same plan g x pre r n [] old (not_counted g r off) (same_queue (fifo g pre) (fifo g (pre ++ r ∷ [])) fs) (st x ∙ old.waits) (λ j. ap is_holds (st j))
@@ -165,13 +165,13 @@ few_now plan g pre n [] few = omega (arith, few)
 few_now plan g pre n (y ∷ ahead) few = let b = one_at_most (is_busy plan g pre (y ∷ ahead)) in omega (arith, few, b)
 
 -- along the wait
-few_from : (plan : PlanModel) (g : ℕ) (x : JobId) (pre mid : List Row) (n : ℕ) → IsPlan plan → is_global plan g ≡ true → IsOrderly plan g pre → IsBehind plan g x pre n → EachAfter (IsLegal plan) pre mid → list_any (is_grant_of x g) mid ≡ false → n + count_by (is_admission g) mid < plan.cores
+few_from : (plan : PlanModel) (g : ℕ) (x : JobId) (pre mid : List Row) (n : ℕ) → IsPlan plan → is_global plan g ≡ true → IsOrderly plan g pre → IsBehind plan g x pre n → EachAfter (IsLegal plan) pre mid → list_any (is_grant_of x g) mid ≡ false → n + count_by (is_acquisition g) mid < plan.cores
 few_from plan g x pre [] n ok glob ord old all non = let k = few_now plan g pre n old.ahead old.few in omega (arith, k)
 few_from plan g x pre (w ∷ mid) n ok glob ord old all non =
     let both = or_parts (is_grant_of x g w) (list_any (is_grant_of x g) mid) non in
     let e = effect plan g pre w ok glob ord.fed all.0 in
-    let ih = few_from plan g x (pre ++ w ∷ []) mid (n + cond (is_admission g w) 1 0) ok glob (orderly_push plan g ok glob pre w ord all.0) (behind_by plan g x pre w n ord old both.0 e) all.1 both.1 in
-    let k = sum_by-cons (λ v. cond (is_admission g v) 1 0) w mid in
+    let ih = few_from plan g x (pre ++ w ∷ []) mid (n + cond (is_acquisition g w) 1 0) ok glob (orderly_push plan g ok glob pre w ord all.0) (behind_by plan g x pre w n ord old both.0 e) all.1 both.1 in
+    let k = sum_by-cons (λ v. cond (is_acquisition g v) 1 0) w mid in
     omega (arith, ih, k)
 
 -- ---- the row in which the job joins the queue

@@ -4,7 +4,7 @@ use Rattle.std.specs.List.{AllByRecursion}
 use Rattle.std.proofs.lemmas.List.Elements.{filter-append}
 use Rattle.msrp_plan.specs.Plan.{PlanModel}
 use Rattle.msrp_plan.specs.Runs.{EachAfter, IsLegal, IsRun, IsCoreTurn, CoreRun, is_fifo_reply}
-use Rattle.msrp_plan.specs.Logs.{is_of, log_of, IsDueTurn, AreInterleaved}
+use Rattle.msrp_plan.specs.Logs.{is_of, log_of, IsNextTurn, AreInterleaved}
 use Rattle.msrp_plan.specs.declared.rows.Row.{Row}
 use Rattle.msrp_plan.proofs.Lists.Prefixes.{each_at, each_push}
 use Rattle.msrp_plan.proofs.Runs.RoundRobin.{due_rows_legal}
@@ -25,18 +25,18 @@ abbrev pub AreAnswered : PlanModel → List Row → Type 0
 AreAnswered plan rows = (pre : List Row) (r : Row) (post : List Row) → rows ≡ pre ++ r ∷ post → EachAfter (IsLegal plan) [] pre → IsCoreTurn plan r.core.0 (log_of r.core.0 pre) r → is_fifo_reply pre r ≡ true
 
 -- each of them is then the next row of a due core
-due_at : (plan : PlanModel) (rows : List Row) → AreInterleaved plan rows → AreAnswered plan rows → (pre : List Row) (r : Row) (post : List Row) → rows ≡ pre ++ r ∷ post → EachAfter (IsDueTurn plan) [] pre → IsDueTurn plan pre r
+due_at : (plan : PlanModel) (rows : List Row) → AreInterleaved plan rows → AreAnswered plan rows → (pre : List Row) (r : Row) (post : List Row) → rows ≡ pre ++ r ∷ post → EachAfter (IsNextTurn plan) [] pre → IsNextTurn plan pre r
 due_at plan rows h answered pre r post e dues =
     let low : r.core.0 < plan.cores = all_mid (λ r. r.core.0 < plan.cores) pre r post (subst (AllByRecursion (λ r. r.core.0 < plan.cores)) e h.cores) in
     let turn = turn_at plan rows h pre r post e low in
     let tick : r.tick ≡ length pre / plan.cores = each_at (λ pre r. r.tick ≡ length pre / plan.cores) [] pre r post (subst (EachAfter (λ pre r. r.tick ≡ length pre / plan.cores) []) e h.ticks) in
     record { core = low; due = sym turn.tick ∙ tick; turn = turn; reply = answered pre r post e (due_rows_legal plan pre dues) turn }
 
-dues_from : (plan : PlanModel) (rows : List Row) → AreInterleaved plan rows → AreAnswered plan rows → (pre rest : List Row) → rows ≡ pre ++ rest → EachAfter (IsDueTurn plan) [] pre → EachAfter (IsDueTurn plan) pre rest
+dues_from : (plan : PlanModel) (rows : List Row) → AreInterleaved plan rows → AreAnswered plan rows → (pre rest : List Row) → rows ≡ pre ++ rest → EachAfter (IsNextTurn plan) [] pre → EachAfter (IsNextTurn plan) pre rest
 dues_from plan rows h answered pre [] e dues = tt
 dues_from plan rows h answered pre (r ∷ rest) e dues =
     let due = due_at plan rows h answered pre r rest e dues in
-    (due, dues_from plan rows h answered (pre ++ r ∷ []) rest (e ∙ sym (append_assoc pre (r ∷ []) rest)) (each_push (IsDueTurn plan) [] pre r dues due))
+    (due, dues_from plan rows h answered (pre ++ r ∷ []) rest (e ∙ sym (append_assoc pre (r ∷ []) rest)) (each_push (IsNextTurn plan) [] pre r dues due))
 
 -- such rows are legal
 pub interleaved_legal : (plan : PlanModel) (rows : List Row) → AreInterleaved plan rows → AreAnswered plan rows → EachAfter (IsLegal plan) [] rows

@@ -8,7 +8,7 @@ use Rattle.std.proofs.lemmas.List.FromFn.{length-range_with_len}
 use Rattle.std.proofs.lemmas.Bool.{lt-ltb, eqb-true}
 use Rattle.msrp_plan.specs.Plan.{PlanModel}
 use Rattle.msrp_plan.specs.Runs.{EachAfter, IsLegal, is_of_core, had_turn, replies_on}
-use Rattle.msrp_plan.specs.Logs.{is_of, log_of, ascending, IsDueTurn}
+use Rattle.msrp_plan.specs.Logs.{is_of, log_of, ascending, IsNextTurn}
 use Rattle.msrp_plan.specs.declared.ids.ResId.{ResId}
 use Rattle.msrp_plan.specs.declared.rows.Row.{Row}
 use Rattle.msrp_plan.proofs.Lists.AnyAll.{all_weaker, all_push}
@@ -56,7 +56,7 @@ pub in_turn_of : (tick due : ℕ) (low had : Bool) → tick ≡ due → low ≡ 
 in_turn_of tick due low had e l h = ap (λ b. b && (low && not had)) (eq-eqb tick due e) ∙ (ap (λ b. b && not had) l ∙ ap not h)
 
 -- the next row of a due core is legal after all rows
-pub due_legal : (plan : PlanModel) (pre : List Row) (r : Row) → IsFront plan pre → IsDueTurn plan pre r → IsLegal plan pre r
+pub due_legal : (plan : PlanModel) (pre : List Row) (r : Row) → IsFront plan pre → IsNextTurn plan pre r → IsLegal plan pre r
 due_legal plan pre r front due = record {
   turn = in_turn_of r.tick (length pre / plan.cores) (nat_lt r.core.0 plan.cores) (had_turn r.core.0 r.tick pre) (due.turn.tick ∙ due.due) (lt-ltb r.core.0 plan.cores due.core) (first_turn plan pre r.tick r.core.0 front (sym due.turn.tick));
   own = due.turn.own;
@@ -66,7 +66,7 @@ due_legal plan pre r front due = record {
 }
 
 -- one row more of a due core
-front_push : (plan : PlanModel) (pre : List Row) (r : Row) → IsFront plan pre → IsDueTurn plan pre r → IsFront plan (pre ++ r ∷ [])
+front_push : (plan : PlanModel) (pre : List Row) (r : Row) → IsFront plan pre → IsNextTurn plan pre r → IsFront plan (pre ++ r ∷ [])
 front_push plan pre r front due = record {
   own = all_push (λ w. is_of_core plan w ≡ true) pre r front.own due.turn.own;
   past = all_push (λ w. w.tick < length (log_of w.core.0 (pre ++ r ∷ []))) pre r
@@ -75,8 +75,8 @@ front_push plan pre r front due = record {
 }
 
 -- rows of due turns are legal, whatever the order of the cores in a tick
-pub due_rows_legal : (plan : PlanModel) (rows : List Row) → EachAfter (IsDueTurn plan) [] rows → EachAfter (IsLegal plan) [] rows
-due_rows_legal plan rows all = each_along (IsFront plan) (IsDueTurn plan) (IsLegal plan) (front_push plan) (due_legal plan) [] rows (record { own = tt; past = tt }) all
+pub due_rows_legal : (plan : PlanModel) (rows : List Row) → EachAfter (IsNextTurn plan) [] rows → EachAfter (IsLegal plan) [] rows
+due_rows_legal plan rows all = each_along (IsFront plan) (IsNextTurn plan) (IsLegal plan) (front_push plan) (due_legal plan) [] rows (record { own = tt; past = tt }) all
 
 -- ---- the cores in rising order, tick by tick
 -- the order of so many ticks has one place for each core and tick

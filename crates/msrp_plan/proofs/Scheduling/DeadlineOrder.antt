@@ -9,7 +9,7 @@ use Rattle.msrp_plan.specs.Levels.{level}
 use Rattle.msrp_plan.specs.Ceiling.{ceiling}
 use Rattle.msrp_plan.specs.Choice.{is_before, head, running, chosen, choice}
 use Rattle.msrp_plan.specs.Runs.{IsLegal, IsRunStart}
-use Rattle.msrp_plan.specs.Scheduling.{IsReady, IsHead, IsOpen, MayStart, MayGoOn, IsOfFirst, EarliestDeadlineFirst}
+use Rattle.msrp_plan.specs.Scheduling.{IsReady, IsHead, IsActive, MayStart, MayGoOn, IsOfFirst, EarliestDeadlineFirst}
 use Rattle.msrp_plan.specs.declared.ids.JobId.{JobId}
 use Rattle.msrp_plan.specs.declared.rows.Row.{Row}
 use Rattle.msrp_plan.proofs.Jobs.JobTests.{some_is}
@@ -26,11 +26,11 @@ other_before : (plan : PlanModel) (x j : JobId) → j ≢ x → is_before plan j
 other_before plan x j other b = true_from_ne_false (is_before plan x j) (λ e. other (tied plan j x b e))
 
 -- ---- whoever starts
-open_live : (plan : PlanModel) (pre : List Row) (r : Row) (j : JobId) → IsOpen plan pre r j → is_live plan pre j ≡ true
+open_live : (plan : PlanModel) (pre : List Row) (r : Row) (j : JobId) → IsActive plan pre r j → is_live plan pre j ≡ true
 open_live plan pre r j o = live plan pre j o.started o.unfinished
 
 -- comes before whoever is open
-preempts : (plan : PlanModel) (pre : List Row) (r : Row) (x j : JobId) → is_started pre x ≡ false → choice plan r.core.0 r.tick pre ≡ Some x → IsOpen plan pre r j → is_before plan x j ≡ true
+preempts : (plan : PlanModel) (pre : List Row) (r : Row) (x j : JobId) → is_started pre x ≡ false → choice plan r.core.0 r.tick pre ≡ Some x → IsActive plan pre r j → is_before plan x j ≡ true
 preempts plan pre r x j fresh turn o =
     other_before plan x j (λ e. true≢false (sym o.started ∙ subst (λ y. is_started pre y ≡ false) (sym e) fresh)) (turn_least plan r.core.0 r.tick pre x j turn o.on (open_live plan pre r j o))
 

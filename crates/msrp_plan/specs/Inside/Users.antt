@@ -21,7 +21,7 @@ AreOn on Nobody = (c : ℕ) → on c ≡ false
 AreOn on (OneCore only) = (c : ℕ) → on c ≡ (only.0 == c)
 AreOn on Cores = (c : ℕ) × (d : ℕ) × (on c ≡ true) × (on d ≡ true) × ((c == d) ≡ false)
 
--- the same of each resource
+-- the users of each resource are on the cores that are told of it
 abbrev pub EachIsOn : (ℕ → ℕ → Bool) → List Users → Type 0
 EachIsOn on users = (g : ℕ) → g < most_resources → AreOn (on g) (slice_index_or users g Nobody)
 

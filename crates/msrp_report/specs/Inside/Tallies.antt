@@ -50,23 +50,23 @@ pub record IsJobTally (plan : PlanModel) (rows : List Row) (released : Bool) (j 
   pub blocking : IsBlocking plan rows released j s.blocking
 
 -- the job is started and unfinished
-abbrev pub is_going : PlanModel → List Row → JobId → Bool
-is_going plan rows j = is_started rows j && not (is_finished plan rows j)
+abbrev pub is_active : PlanModel → List Row → JobId → Bool
+is_active plan rows j = is_started rows j && not (is_finished plan rows j)
 
 -- the tick of the k-th release of a task, or the plan's end where it has no such job
-abbrev pub due_tick : PlanModel → ℕ → ℕ → ℕ
-due_tick plan t k = if nat_lt k (length (jobs_of plan t)) then release plan (job_at t k) else plan.ticks
+abbrev pub release_or_end : PlanModel → ℕ → ℕ → ℕ
+release_or_end plan t k = if nat_lt k (length (jobs_of plan t)) then release plan (job_at t k) else plan.ticks
 
 -- what is kept of task t, where so many ticks have begun for it: its first jobs are released, and of the others the first is due
 pub record IsTaskTally (plan : PlanModel) (rows : List Row) (begun t : ℕ) (x : TaskTally) : Type 0 where
   pub size : length x.jobs.items ≡ length (jobs_of plan t)
   pub fits : x.released ≤ length (jobs_of plan t)
   pub past : (k : ℕ) → k < x.released → release plan (job_at t k) < begun
-  pub due : x.due ≡ due_tick plan t x.released
+  pub due : x.due ≡ release_or_end plan t x.released
   pub later : begun ≤ x.due
   pub each : (k : ℕ) (s : JobTally) → slice_get x.jobs.items k ≡ Some s → IsJobTally plan rows (nat_lt k x.released) (job_at t k) s
-  pub known : IfSome x.going (Contains (jobs_of plan t))
-  pub going : (j : JobId) → Contains (jobs_of plan t) j → is_job x.going j ≡ is_going plan rows j
+  pub known : IfSome x.active (Contains (jobs_of plan t))
+  pub active : (j : JobId) → Contains (jobs_of plan t) j → is_job x.active j ≡ is_active plan rows j
 
 -- what is kept of all tasks, where ticks have begun for each task on its own
 pub record AreTallies (plan : PlanModel) (rows : List Row) (begun : ℕ → ℕ) (tasks : List TaskTally) : Type 0 where
@@ -81,16 +81,16 @@ pub record HaveBegun (plan : PlanModel) (rows : List Row) (begun : ℕ) : Type 0
   pub most : begun ≤ length rows / plan.cores + 1
 
 -- no job of a task is released from one tick on and before another; the same of the first n tasks
-abbrev pub IsQuietTask : PlanModel → ℕ → ℕ → ℕ → Type 0
-IsQuietTask plan t from to = (k : ℕ) → k < length (jobs_of plan t) → from ≤ release plan (job_at t k) → to ≤ release plan (job_at t k)
+abbrev pub NoJobReleased : PlanModel → ℕ → ℕ → ℕ → Type 0
+NoJobReleased plan t from to = (k : ℕ) → k < length (jobs_of plan t) → from ≤ release plan (job_at t k) → to ≤ release plan (job_at t k)
 
-abbrev pub IsQuiet : PlanModel → ℕ → ℕ → ℕ → Type 0
-IsQuiet plan n from to = (t : ℕ) → t < n → IsQuietTask plan t from to
+abbrev pub NoneReleased : PlanModel → ℕ → ℕ → ℕ → Type 0
+NoneReleased plan n from to = (t : ℕ) → t < n → NoJobReleased plan t from to
 
 -- what is kept is what these rows tell
 pub record HasTallied (plan : PlanModel) (rows : List Row) (t : Tallies) : Type 0 where
   pub begun : HaveBegun plan rows t.begun
-  pub quiet : IsQuiet plan (length plan.tasks) t.begun t.next
+  pub quiet : NoneReleased plan (length plan.tasks) t.begun t.next
   pub tallies : AreTallies plan rows (λ _. t.begun) t.tasks.items
 
 -- ---- one job
@@ -125,9 +125,9 @@ abbrev pub blocking_by : List Row → Option JobId → Blocking
 blocking_by rows None = Over 0
 blocking_by rows (Some k) = By k (count_of rows k).rows
 
--- ---- the first of the later jobs that are going
-abbrev pub is_later_going : PlanModel → List Row → JobId → JobId → Bool
-is_later_going plan rows j k = is_going plan rows k && is_before plan j k
+-- ---- the first of the later jobs that are active
+abbrev pub is_later_active : PlanModel → List Row → JobId → JobId → Bool
+is_later_active plan rows j k = is_active plan rows k && is_before plan j k
 
 -- the job isn't before this one, of which there is one
 abbrev pub NotBefore : PlanModel → JobId → Option JobId → Type 0
@@ -136,8 +136,8 @@ NotBefore plan i (Some f) = is_before plan i f ≡ false
 
 -- of the jobs of the first n tasks
 pub record IsFirstOf (plan : PlanModel) (rows : List Row) (j : JobId) (n : ℕ) (o : Option JobId) : Type 0 where
-  pub known : (f : JobId) → o ≡ Some f → Contains (jobs_on plan (core_of plan j)) f × (is_later_going plan rows j f ≡ true)
-  pub least : (i : JobId) → i.task.0 < n → Contains (jobs_on plan (core_of plan j)) i → is_later_going plan rows j i ≡ true → NotBefore plan i o
+  pub known : (f : JobId) → o ≡ Some f → Contains (jobs_on plan (core_of plan j)) f × (is_later_active plan rows j f ≡ true)
+  pub least : (i : JobId) → i.task.0 < n → Contains (jobs_on plan (core_of plan j)) i → is_later_active plan rows j i ≡ true → NotBefore plan i o
 
 -- ---- the releases of a tick
 -- the next tick has begun for the tasks below the n-th
@@ -165,7 +165,7 @@ Counts plan r t = (rows : List Row) × AreTallies plan rows (λ _. t.begun) t.ta
 -- they are told with the row's tick begun
 pub record StandsAt (plan : PlanModel) (rows : List Row) (r : Row) (t : Tallies) : Type 0 where
   pub early : AllByRecursion (λ x. x.tick < t.begun) rows
-  pub quiet : IsQuiet plan (length plan.tasks) t.begun t.next
+  pub quiet : NoneReleased plan (length plan.tasks) t.begun t.next
   pub tallies : AreTallies plan rows (λ _. t.begun) t.tasks.items
   pub next : IsNextOf plan rows r t.begun
 

@@ -9,7 +9,7 @@ use super::{Blocking, Tallies};
 use msrp_plan::{JobId, Plan, Row};
 
 // The job, if it has units left.
-fn still_going(job: JobId, done: u32, units: u32) -> Option<JobId>
+fn still_active(job: JobId, done: u32, units: u32) -> Option<JobId>
     ensures { result ≡ cond (done == units) None (Some job) }
 {
     if done == units { None } else { Some(job) }
@@ -32,7 +32,7 @@ impl Tallies {
         let tally = &mut task.jobs[job.k as usize];
         tally.count = tally.count.with_row(row);
         tally.blocking = Blocking::Over(blocked);
-        task.going = still_going(job, tally.count.done, units);
+        task.active = still_active(job, tally.count.done, units);
     }
 
     // Begins the tick of a row, if none of its rows has come.

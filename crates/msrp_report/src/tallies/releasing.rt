@@ -7,7 +7,7 @@ ghost use Rattle.msrp_plan.specs.Blocking.{first_later};
 ghost use Rattle.msrp_plan.specs.Jobs.{jobs};
 ghost use Rattle.msrp_plan.specs.WellFormed.{IsPlan};
 ghost use Rattle.msrp_plan.specs.declared.rows.Row.{Row as TraceRow};
-ghost use Rattle.msrp_report.specs.Inside.Tallies.{AreTallies, HasReleased, IsFirstOf, IsKnown, IsQuiet, ReleasesNext, ToldBy, begun_below, blocking_by, due_tick};
+ghost use Rattle.msrp_report.specs.Inside.Tallies.{AreTallies, HasReleased, IsFirstOf, IsKnown, NoneReleased, ReleasesNext, ToldBy, begun_below, blocking_by, release_or_end};
 
 use super::{Blocking, Tallies};
 use msrp_plan::{JobId, Plan, TaskId};
@@ -25,9 +25,9 @@ fn is_first(plan: &Plan, job: JobId, other: Option<JobId>) -> bool
 }
 
 /// The tick of a task's k-th release, or the plan's end where it has no such job.
-pub(super) fn due_tick(plan: &Plan, task: TaskId, k: u32) -> u64
+pub(super) fn release_or_end(plan: &Plan, task: TaskId, k: u32) -> u64
     requires { task.0 < length plan.now.tasks }
-    ensures { result ≡ due_tick plan.now task.0 k }
+    ensures { result ≡ release_or_end plan.now task.0 k }
 {
     if k < plan.jobs(task) {
         plan.release(JobId { task, k })
@@ -37,7 +37,7 @@ pub(super) fn due_tick(plan: &Plan, task: TaskId, k: u32) -> u64
 }
 
 impl Tallies {
-    // The first of two: a job that comes first so far, if there is one, and the task's going job, if that is a later one of the
+    // The first of two: a job that comes first so far, if there is one, and the task's active job, if that is a later one of the
     // job's core.
     fn first_with(
         &self,
@@ -54,7 +54,7 @@ impl Tallies {
         ensures known { IfSome result (IsKnown plan.now) }
         ensures first { (rows : List TraceRow) (begun : ℕ → ℕ) → AreTallies plan.now rows begun self.now.tasks.items → IsFirstOf plan.now rows job task.0 first → IsFirstOf plan.now rows job (task.0 + 1) result }
     {
-        let Some(other) = self.tasks[task.0 as usize].going else {
+        let Some(other) = self.tasks[task.0 as usize].active else {
             return first;
         };
         if plan.core_of(task) != plan.core_of(job.task) {
@@ -116,7 +116,7 @@ impl Tallies {
         let tally = &mut self.tasks[at];
         tally.jobs[k as usize].blocking = blocking;
         tally.released = k + 1;
-        tally.due = due_tick(plan, task, k + 1);
+        tally.due = release_or_end(plan, task, k + 1);
     }
 
     // Releases each job that is released in the tick that begins, and looks for the tick of the next release.
@@ -124,7 +124,7 @@ impl Tallies {
         requires told { ReleasesNext plan.now 0 self.old }
         requires left { self.old.begun < plan.now.ticks }
         ensures begun { self.new.begun ≡ self.old.begun }
-        ensures next { IsQuiet plan.now (length plan.now.tasks) (self.old.begun + 1) self.new.next }
+        ensures next { NoneReleased plan.now (length plan.now.tasks) (self.old.begun + 1) self.new.next }
         ensures told { (rows : List TraceRow) → HasReleased plan.now rows 0 self.old → HasReleased plan.now rows (length plan.now.tasks) self.new }
     {
         let mut next = u64::from(plan.ticks());
@@ -139,10 +139,10 @@ impl Tallies {
     pub(super) fn begin(&mut self, plan: &Plan)
         requires plan { IsPlan plan.now }
         requires told { ReleasesNext plan.now 0 self.old }
-        requires next { IsQuiet plan.now (length plan.now.tasks) self.old.begun self.old.next }
+        requires next { NoneReleased plan.now (length plan.now.tasks) self.old.begun self.old.next }
         requires left { self.old.begun < plan.now.ticks }
         ensures begun { self.new.begun ≡ self.old.begun + 1 }
-        ensures next { IsQuiet plan.now (length plan.now.tasks) self.new.begun self.new.next }
+        ensures next { NoneReleased plan.now (length plan.now.tasks) self.new.begun self.new.next }
         ensures told { (rows : List TraceRow) → HasReleased plan.now rows 0 self.old → AreTallies plan.now rows (λ _. self.new.begun) self.new.tasks.items }
     {
         if self.next <= u64::from(self.begun) {

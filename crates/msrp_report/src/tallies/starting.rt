@@ -3,7 +3,7 @@
 ghost use Rattle.std.specs.Prelude.{◌≡◌, ◌<◌, [], IfOk, length};
 ghost use Rattle.msrp_report.specs.Inside.Tallies.{HasTallied, IsTaskTally};
 
-use super::releasing::due_tick;
+use super::releasing::release_or_end;
 use super::{Blocking, JobTally, Tallies, TaskTally};
 use crate::counts::JobCount;
 use msrp_plan::{Memory, Plan, TaskId};
@@ -28,8 +28,8 @@ fn untold(alloc: Global, plan: &Plan, task: TaskId) -> Result<TaskTally, Memory>
     Ok(TaskTally {
         jobs,
         released: 0,
-        due: due_tick(plan, task, 0),
-        going: None,
+        due: release_or_end(plan, task, 0),
+        active: None,
     })
 }
 

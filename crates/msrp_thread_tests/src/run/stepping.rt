@@ -3,7 +3,7 @@
 ghost use Rattle.std.specs.Prelude.{◌≡◌, ◌+◌, ◌<◌, ℕ, IfOk, Some};
 ghost use Rattle.msrp_board.specs.declared.books.Conductor.TheVariants.{Opened};
 ghost use Rattle.msrp_merge.specs.Merging.{size_of};
-ghost use Rattle.msrp_run.specs.Threads.{HasRest, IsBench};
+ghost use Rattle.msrp_run.specs.Threads.{HasRest, HasOthers};
 ghost use Rattle.msrp_run.specs.Work.{HasWorked, IsAtWork};
 
 use super::plans::{G, two_sections};
@@ -35,19 +35,19 @@ impl<'a> Core<'a> {
         plan: &'a Plan,
         levels: &'a Levels<'a>,
         board: &Board,
-        bench: BoardSeat,
+        others: BoardSeat,
         core: CoreId,
     ) -> Result<(Core<'a>, BoardSeat), Memory>
         requires levels { levels.now ≡ plan.now }
         requires size { board.now.size ≡ size_of plan.now }
         requires core { core.0 < plan.now.cores }
-        requires bench { IsBench board.now core.0 bench }
+        requires others { HasOthers board.now core.0 others }
         ensures ready { IfOk result (λ r. IsAtWork board.now plan.now core.0 r.0.machine r.0.log r.0.seat) }
-        ensures rest { IfOk result (λ r. IsBench board.now (core.0 + 1) r.1) }
+        ensures rest { IfOk result (λ r. HasOthers board.now (core.0 + 1) r.1) }
     {
         let machine = Machine::with_room(alloc, plan, levels, core)?;
         let log = CoreLog::with_room(alloc, core, plan.ticks())?;
-        let (seat, rest) = board.split(bench, core);
+        let (seat, rest) = board.split(others, core);
         Ok((Core { machine, log, seat }, rest))
     }
 
@@ -68,7 +68,7 @@ impl<'a> Core<'a> {
         Core { machine, log, seat }
     }
 
-    // The same, and it was the last.
+    // The core's last turn: it gives back its log and its seat.
     fn ended(self, rt: &impl Abort, board: &Board) -> (CoreLog, BoardSeat)
         requires { IsAtWork board.now self.machine.plan self.machine.core self.machine self.log self.seat }
         ensures { HasWorked board.now self.entry.machine.plan self.entry.machine.core result.0 result.1 }
@@ -92,17 +92,17 @@ fn begun<'a>(
     plan: &'a Plan,
     levels: &'a Levels<'a>,
     board: &Board,
-    bench: BoardSeat,
+    others: BoardSeat,
 ) -> Result<(Core<'a>, Core<'a>, BoardSeat), Memory>
     requires cores { plan.now.cores ≡ 2 }
     requires levels { levels.now ≡ plan.now }
     requires size { board.now.size ≡ size_of plan.now }
-    requires bench { IsBench board.now 0 bench }
+    requires others { HasOthers board.now 0 others }
     ensures zero { IfOk result (λ r. IsAtWork board.now plan.now 0 r.0.machine r.0.log r.0.seat) }
     ensures one { IfOk result (λ r. IsAtWork board.now plan.now 1 r.1.machine r.1.log r.1.seat) }
     ensures rest { IfOk result (λ r. HasRest board.now 2 Opened r.2) }
 {
-    let (zero, rest) = Core::parted(alloc, plan, levels, board, bench, CoreId(0))?;
+    let (zero, rest) = Core::parted(alloc, plan, levels, board, others, CoreId(0))?;
     let (one, mut rest) = Core::parted(alloc, plan, levels, board, rest, CoreId(1))?;
     board.open(&mut rest);
     Ok((zero, one, rest))
@@ -138,21 +138,21 @@ fn merged(
     alloc: Global,
     plan: &Plan,
     board: Board,
-    bench: BoardSeat,
+    others: BoardSeat,
     zero: (CoreLog, BoardSeat),
     one: (CoreLog, BoardSeat),
 ) -> Result<(Trace, [CoreLog; 2], Settled), Memory>
     requires cores { plan.now.cores ≡ 2 }
     requires size { board.size ≡ size_of plan.now }
-    requires rest { HasRest board 2 Opened bench }
+    requires rest { HasRest board 2 Opened others }
     requires zero { HasWorked board plan.now 0 zero.0 zero.1 }
     requires one { HasWorked board plan.now 1 one.0 one.1 }
 {
     let (first, seat) = zero;
-    let bench = board.join(seat, bench);
+    let others = board.join(seat, others);
     let (second, seat) = one;
-    let bench = board.join(seat, bench);
-    let settled = board.settle(bench);
+    let others = board.join(seat, others);
+    let settled = board.settle(others);
     let logs = [first, second];
     let trace = merge(alloc, plan, &logs, &settled)?;
     Ok((trace, logs, settled))
@@ -167,10 +167,10 @@ fn stepped(
     requires { plan.now.cores ≡ 2 }
 {
     let levels = Levels::of(alloc, plan)?;
-    let Ok((board, bench)) = Board::new(alloc, plan.cores(), plan.resources(), plan.ticks()) else {
+    let Ok((board, others)) = Board::new(alloc, plan.cores(), plan.resources(), plan.ticks()) else {
         return Err(Memory);
     };
-    let (zero, one, rest) = begun(alloc, plan, &levels, &board, bench)?;
+    let (zero, one, rest) = begun(alloc, plan, &levels, &board, others)?;
     let (zero, one) = driven(rt, plan, &board, zero, one);
     merged(alloc, plan, board, rest, zero, one)
 }

@@ -1,8 +1,8 @@
 use Rattle.std.proofs.Common.{◌∙◌, ap, sym}
 use Rattle.std.specs.Prelude.{◌||◌}
-use Rattle.msrp_advice.specs.Warnings.{is_due}
+use Rattle.msrp_advice.specs.Warnings.{has_deadline}
 use Rattle.msrp_advice.proofs.Parts.{any-more}
 use Rattle.msrp_advice.proofs.warnings.is_any_due.Goals as goal
 
 pub loop-task-preserved : goal.loop-task-preserved
-loop-task-preserved c = c.is_due_or-any.ensures ∙ (ap (λ b. b || is_due c.args.plan.now c.loop-task.task) c.loop-task.invariant ∙ sym (any-more (is_due c.args.plan.now) c.loop-task.task))
+loop-task-preserved c = c.has_deadline_or-any.ensures ∙ (ap (λ b. b || has_deadline c.args.plan.now c.loop-task.task) c.loop-task.invariant ∙ sym (any-more (has_deadline c.args.plan.now) c.loop-task.task))

@@ -2,12 +2,12 @@ use Rattle.std.proofs.Common.{◌≡◌, ◌∙◌, true, ap, length, sym}
 use Rattle.std.specs.Prelude.{not}
 use Rattle.std.specs.List.{list_any, range_with_len}
 use Rattle.msrp_plan.proofs.Writes.{wrote-more}
-use Rattle.msrp_advice.specs.Warnings.{is_due}
+use Rattle.msrp_advice.specs.Warnings.{has_deadline}
 use Rattle.msrp_advice.proofs.Parts.{warned}
 use Rattle.msrp_advice.proofs.warnings.warn_of_ticks.Goals as goal
 
 pub returns-then-not-is_any_due : goal.returns-then-not-is_any_due
 returns-then-not-is_any_due g c =
     let ticks = rw c.ticks.ensures.value at c.write_number.ensures in
-    let reason : not (list_any (is_due c.args.plan.now) (range_with_len 0 (length c.args.plan.now.tasks))) ≡ true = ap not (sym c.is_any_due.ensures ∙ c.if-not-is_any_due.true) in
+    let reason : not (list_any (has_deadline c.args.plan.now) (range_with_len 0 (length c.args.plan.now.tasks))) ≡ true = ap not (sym c.is_any_due.ensures ∙ c.if-not-is_any_due.true) in
     warned _ _ _ _ _ reason (wrote-more _ _ _ _ _ _ c.add.ensures (wrote-more _ _ _ _ _ _ ticks c.add-then-not-is_any_due.ensures))

@@ -13,16 +13,16 @@ loop-handle-preserved g c =
     let logs = vec_items c.loop-handle.logs in
     let log = c.join-log.result.0 in
     let seat = c.join-log.result.1 in
-    let bench = c.loop-handle.bench in
+    let others = c.loop-handle.others in
     let first = was.1 0 c.in-Some.handle in
     let is : IsPromise c.args.board.now c.args._plan.now (length logs) c.in-Some.handle.promise = grind rules in
-    let more = joined_more c.args.board.now c.args._plan.now logs log seat bench c.in-Some.handle.promise was.2 is c.join-log.ensures in
+    let more = joined_more c.args.board.now c.args._plan.now logs log seat others c.in-Some.handle.promise was.2 is c.join-log.ensures in
     let some : 0 < into_iter_len c.loop-handle.handle-iterator = omega (arith, step.1) in
     let count = was.0 in
     let done : length logs ≡ vec_len c.loop-handle.logs = grind rules in (
       search rules,
       (λ k d low. let h = was.1 (k + 1) d in grind rules),
-      subst (λ s. AllWorked c.args._plan.now (vec_items c.push_reserved.new.self) s) (sym c.join-bench.ensures) (subst (λ l. AllWorked c.args._plan.now l (both seat bench)) (sym c.push_reserved.ensures.items) more.0),
+      subst (λ s. AllWorked c.args._plan.now (vec_items c.push_reserved.new.self) s) (sym c.join-others.ensures) (subst (λ l. AllWorked c.args._plan.now l (both seat others)) (sym c.push_reserved.ensures.items) more.0),
       search rules,
-      rest_joined _ _ _ seat bench c.join-bench.result was.4 more.1 c.join-bench.ensures (ap (λ (s : SeatModel). s.conductor) c.join-bench.ensures ∙ more.2) (λ k from. more.3 k (omega (arith, from, some, count, done))),
+      rest_joined _ _ _ seat others c.join-others.result was.4 more.1 c.join-others.ensures (ap (λ (s : SeatModel). s.conductor) c.join-others.ensures ∙ more.2) (λ k from. more.3 k (omega (arith, from, some, count, done))),
     )

@@ -10,5 +10,5 @@ invariant-loop-handle g l =
     let rest = l.handle-iterator in
     (done + into_iter_len rest ≡ vec_len l.fn.started.handles)
     × ((k : ℕ) (d : _) → k < into_iter_len rest → IsPromise l.board l._plan (done + k) (slice_index_or (into_iter_items rest) k d).promise)
-    × AllWorked l._plan (vec_items l.logs) l.bench × (vec_len l.fn.started.handles ≤ vec_capacity l.logs)
-    × HasRest l.board (vec_len l.fn.started.handles) (ordered l.fn.started.all) l.bench
+    × AllWorked l._plan (vec_items l.logs) l.others × (vec_len l.fn.started.handles ≤ vec_capacity l.logs)
+    × HasRest l.board (vec_len l.fn.started.handles) (ordered l.fn.started.all) l.others

@@ -2,23 +2,23 @@ use Rattle.std.proofs.Common.{◌+◌, IfOk, IfErr, subst, sym}
 use Rattle.std.specs.Prelude.{Ok, Err}
 use Rattle.std.specs.declared.result.Result.{Result}
 use Rattle.msrp_board.specs.declared.books.Conductor.TheVariants.{Aborted}
-use Rattle.msrp_run.specs.Threads.{HasRest, IsBench, IsPromise}
-use Rattle.msrp_run.proofs.Threading.{has_next, next_seat, bench_less, kit_is_new}
+use Rattle.msrp_run.specs.Threads.{HasRest, HasOthers, IsPromise}
+use Rattle.msrp_run.proofs.Threading.{has_next, next_seat, others_less, parts_are_new}
 use Rattle.msrp_run.proofs.threads.start_next.Goals as goal
 
 pub split-seat-requires-clause-book : goal.split-seat-requires-clause-book
-split-seat-requires-clause-book g c = has_next c.args.board.now c.args.kit.machine.core c.core-core.result.0 c.args.bench c.requires.bench c.core-core.ensures c.requires.core
+split-seat-requires-clause-book g c = has_next c.args.board.now c.args.parts.machine.core c.core-core.result.0 c.args.others c.requires.others c.core-core.ensures c.requires.core
 
 pub start-requires-clause-new : goal.start-requires-clause-new
 start-requires-clause-new g c =
-    let n = c.args.kit.machine.core in
-    let own = next_seat c.args.board.now n c.core-core.result.0 c.args.bench c.split-seat.result.0 c.requires.bench c.core-core.ensures c.requires.core c.split-seat.ensures.core in
-    λ κs outlive. kit_is_new c.args.board.now c.args.plan.now n c.args.kit c.split-seat.result.0 c.requires.kit c.requires.size own.1 own.0
+    let n = c.args.parts.machine.core in
+    let own = next_seat c.args.board.now n c.core-core.result.0 c.args.others c.split-seat.result.0 c.requires.others c.core-core.ensures c.requires.core c.split-seat.ensures.core in
+    λ κs outlive. parts_are_new c.args.board.now c.args.plan.now n c.args.parts c.split-seat.result.0 c.requires.parts c.requires.size own.1 own.0
 
-pub start-requires-clause-bench : goal.start-requires-clause-bench
-start-requires-clause-bench g c =
-    let less = bench_less c.args.board.now c.args.kit.machine.core c.core-core.result.0 c.args.bench c.split-seat.result.1 c.requires.bench c.core-core.ensures c.split-seat.ensures.rest in
-    λ κs outlive. subst (λ n. IsBench c.args.board.now (n + 1) c.split-seat.result.1) (sym c.core-core.ensures) less
+pub start-requires-clause-others : goal.start-requires-clause-others
+start-requires-clause-others g c =
+    let less = others_less c.args.board.now c.args.parts.machine.core c.core-core.result.0 c.args.others c.split-seat.result.1 c.requires.others c.core-core.ensures c.split-seat.ensures.rest in
+    λ κs outlive. subst (λ n. HasOthers c.args.board.now (n + 1) c.split-seat.result.1) (sym c.core-core.ensures) less
 
 -- what a good answer says, said in other words
 in_words : {T E : Type 0} (r : Result T E) (P Q : T → Type 0) → IfOk r P → ((v : T) → P v → Q v) → IfOk r Q
@@ -28,9 +28,9 @@ in_words (Err e) P Q h f = tt
 pub returns-clause-started : goal.returns-clause-started
 returns-clause-started g c =
     let board = c.args.board.now in
-    let n = c.args.kit.machine.core in
-    let less = bench_less board n c.core-core.result.0 c.args.bench c.split-seat.result.1 c.requires.bench c.core-core.ensures c.split-seat.ensures.rest in
-    in_words c.start.result _ _ c.start.ensures.started (λ r h. (subst (λ k. IsPromise board c.args.plan.now k r.0.promise) c.core-core.ensures h.0, subst (IsBench board (n + 1)) (sym h.1) less))
+    let n = c.args.parts.machine.core in
+    let less = others_less board n c.core-core.result.0 c.args.others c.split-seat.result.1 c.requires.others c.core-core.ensures c.split-seat.ensures.rest in
+    in_words c.start.result _ _ c.start.ensures.started (λ r h. (subst (λ k. IsPromise board c.args.plan.now k r.0.promise) c.core-core.ensures h.0, subst (HasOthers board (n + 1)) (sym h.1) less))
 
 pub returns-clause-refused : goal.returns-clause-refused
 returns-clause-refused g c = subst (λ n. IfErr c.start.result (λ seat. HasRest c.args.board.now n Aborted seat)) c.core-core.ensures c.start.ensures.refused

@@ -4,7 +4,7 @@ use Rattle.msrp_plan.specs.Actions.{allows}
 use Rattle.msrp_plan.specs.Levels.{is_global}
 use Rattle.msrp_plan.specs.declared.rows.Kind.TheVariants.{Take, Grant, Lock}
 use Rattle.msrp_plan.specs.declared.units.Op.TheVariants.{Lock as LockUnit}
-use Rattle.msrp_core.specs.Going.{is_waiting_phase}
+use Rattle.msrp_core.specs.Active.{is_waiting_phase}
 use Rattle.msrp_core.proofs.Steps.{awaited_global}
 use Rattle.msrp_core.proofs.Acting.{next_at}
 use Rattle.msrp_core.proofs.jobs.Jobs.kind_of_lock.Goals as goal

@@ -3,7 +3,7 @@ use Rattle.msrp_plan.specs.Actions.{allows}
 use Rattle.msrp_plan.specs.declared.ids.ResId.{ResId}
 use Rattle.msrp_plan.specs.declared.rows.Kind.TheVariants.{Release, Unlock}
 use Rattle.msrp_plan.specs.declared.units.Op.TheVariants.{Unlock as UnlockUnit}
-use Rattle.msrp_core.specs.Going.{is_waiting_phase}
+use Rattle.msrp_core.specs.Active.{is_waiting_phase}
 use Rattle.msrp_core.proofs.Steps.{held_global}
 use Rattle.msrp_core.proofs.Acting.{unlock_local}
 use Rattle.msrp_core.proofs.jobs.Jobs.kind_of_unlock.Goals as goal

@@ -4,7 +4,7 @@ use Rattle.msrp_plan.specs.Levels.{level}
 use Rattle.msrp_plan.specs.Jobs.{is_job}
 use Rattle.msrp_ready.specs.Ready.{is_among}
 use Rattle.msrp_stack.specs.Stack.{current_ceiling, newest}
-use Rattle.msrp_core.specs.Going.{state_in}
+use Rattle.msrp_core.specs.Active.{state_in}
 use Rattle.msrp_plan.specs.Choice.{comes_first}
 use Rattle.msrp_core.proofs.Running.{ready_known, free_for, can_start, begun_room, begun_fits, begun_in, begun_states}
 use Rattle.msrp_core.proofs.jobs.Jobs.start.Goals as goal
@@ -30,7 +30,7 @@ returns-clause-jobs c =
     (λ k. c.take_head.ensures.taken k ∙ ap (λ o. is_among c.args.self.now.ready.taken k || is_job o k) (c.take_head.ensures.head ∙ c.requires.head)) c.start.ensures c.push_reserved.ensures.items c.push_reserved.ensures.capacity
 
 pub returns-clause-running : goal.returns-clause-running
-returns-clause-running c = record { newest = record { job = c.args.job; held = []; done = 0 }; below = _; going = begun_in c.args.self.now c.args.job c.start.new.self c.push_reserved.new.self.items c.start.ensures c.push_reserved.ensures.items; same = refl }
+returns-clause-running c = record { newest = record { job = c.args.job; held = []; done = 0 }; below = _; active = begun_in c.args.self.now c.args.job c.start.new.self c.push_reserved.new.self.items c.start.ensures c.push_reserved.ensures.items; same = refl }
 
 pub returns-clause-states : goal.returns-clause-states
 returns-clause-states c = λ k.

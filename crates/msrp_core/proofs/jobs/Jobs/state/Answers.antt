@@ -9,7 +9,7 @@ returns-in-Some c = λ log told.
     state_told jobs c.args.tick log (record { running = c.top-running.result; head = c.head_at.result; ceiling = c.ceiling.result; done = c.progress.result }) c.requires.jobs c.top-running.ensures.first c.head_at.ensures c.ceiling.ensures
     (λ j e.
     let run = running_of jobs j c.requires.jobs.size (sym c.top-running.ensures.newest ∙ e) in
-    (running_done jobs j c.requires.jobs run ∙ sym (c.progress.ensures run.newest run.below run.going), (running_known jobs j c.requires.jobs run).0)) told
+    (running_done jobs j c.requires.jobs run ∙ sym (c.progress.ensures run.newest run.below run.active), (running_known jobs j c.requires.jobs run).0)) told
 
 pub returns-in-None : goal.returns-in-None
 returns-in-None c = λ log told.

@@ -2,7 +2,7 @@ use Rattle.std.proofs.Common.{ap, refl, Some}
 use Rattle.msrp_plan.specs.Actions.{allows}
 use Rattle.msrp_plan.specs.declared.rows.Kind.TheVariants.{Unlock}
 use Rattle.msrp_plan.specs.declared.units.Op.TheVariants.{Unlock as UnlockUnit}
-use Rattle.msrp_core.specs.Going.{is_waiting_phase}
+use Rattle.msrp_core.specs.Active.{is_waiting_phase}
 use Rattle.msrp_core.proofs.Acting.{is_innermost, last_by, same_here, still_running, unit_acts, unlocking, unlocks}
 use Rattle.msrp_core.proofs.jobs.Jobs.unlock.Goals as goal
 
@@ -10,7 +10,7 @@ pub unlock-requires-clause-innermost : goal.unlock-requires-clause-innermost
 unlock-requires-clause-innermost c = is_innermost c.args.self.now c.args.job c.args.res c.requires.can
 
 pub advance-requires-clause-running : goal.advance-requires-clause-running
-advance-requires-clause-running c = still_running c.args.self.now c.args.job (UnlockUnit c.args.res) c.requires.can _ (unlocks c.args.self.now c.args.job c.args.res c.requires.can).rest (unlocking c.args.self.now c.args.job c.args.res c.requires.can c.unlock.new.self c.unlock.ensures c.requires.local).going
+advance-requires-clause-running c = still_running c.args.self.now c.args.job (UnlockUnit c.args.res) c.requires.can _ (unlocks c.args.self.now c.args.job c.args.res c.requires.can).rest (unlocking c.args.self.now c.args.job c.args.res c.requires.can c.unlock.new.self c.unlock.ensures c.requires.local).active
 
 pub advance-requires-clause-last : goal.advance-requires-clause-last
 advance-requires-clause-last c = last_by c.args.self.now c.args.job (UnlockUnit c.args.res) c.requires.can c.args.self.now.phase c.unlock.new.self (unlocks c.args.self.now c.args.job c.args.res c.requires.can).rest (unlocking c.args.self.now c.args.job c.args.res c.requires.can c.unlock.new.self c.unlock.ensures c.requires.local)
@@ -18,6 +18,6 @@ advance-requires-clause-last c = last_by c.args.self.now c.args.job (UnlockUnit 
 pub returns-clause-acts : goal.returns-clause-acts
 returns-clause-acts c =
     unit_acts c.args.self.now c.advance.new.self c.args.job (UnlockUnit c.args.res) c.args.tick c.row_on.result c.args.self.now.phase Unlock (Some c.args.res) c.unlock.new.self (unlocks c.args.self.now c.args.job c.args.res c.requires.can).rest c.requires.can (unlocking c.args.self.now c.args.job c.args.res c.requires.can c.unlock.new.self c.unlock.ensures c.requires.local)
-    (record { going = c.advance.ensures.going; size = c.advance.ensures.size; room = c.advance.ensures.room; stack_plan = c.advance.ensures.stack.plan; stack_core = c.advance.ensures.stack.core; others = c.advance.ensures.others })
+    (record { active = c.advance.ensures.active; size = c.advance.ensures.size; room = c.advance.ensures.room; stack_plan = c.advance.ensures.stack.plan; stack_core = c.advance.ensures.stack.core; others = c.advance.ensures.others })
     (record { tick_is = c.row_on.ensures.tick; core_is = c.row_on.ensures.core; job_is = c.row_on.ensures.job; kind_is = c.row_on.ensures.kind; res_is = c.row_on.ensures.res })
     (same_here c.args.res) (ap (λ b. allows b (is_waiting_phase c.args.self.now.phase) (UnlockUnit c.args.res) Unlock) c.requires.local) refl refl

@@ -2,7 +2,7 @@ use Rattle.std.proofs.Common.{ap, sym, ◌∙◌}
 use Rattle.msrp_report.specs.Inside.Tallies.{blocking_by}
 use Rattle.msrp_report.specs.declared.counts.JobCount.{JobCount}
 use Rattle.msrp_report.specs.declared.tallies.Blocking.TheVariants.{By}
-use Rattle.msrp_report.proofs.Going.{later_known}
+use Rattle.msrp_report.proofs.Active.{later_known}
 use Rattle.msrp_report.proofs.tallies.Tallies.blocking_of.Goals as goal
 
 pub count_of-requires : goal.count_of-requires

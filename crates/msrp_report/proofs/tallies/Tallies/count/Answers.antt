@@ -64,13 +64,13 @@ returns-clause-told c = λ rows are next.
     let n = c.blocked-blocked.result in
     let counted_is = c.with_row-tally.ensures in
     tallies_counted plan rows c.args.row c.args.self.now.begun tasks _ c.args.job c.index_mut-task.result.now
-    (record { jobs = with_item c.index_mut-task.result.now.jobs c.args.job.k (record { count = c.with_row-tally.result; blocking = Over n }); released = c.index_mut-task.result.now.released; due = c.index_mut-task.result.now.due; going = c.still_going-task.result })
+    (record { jobs = with_item c.index_mut-task.result.now.jobs c.args.job.k (record { count = c.with_row-tally.result; blocking = Over n }); released = c.index_mut-task.result.now.released; due = c.index_mut-task.result.now.due; active = c.still_active-task.result })
     c.index_mut-tally.result.now n c.requires.plan c.requires.job next are of_task refl
     (record {
       was = of_job;
       jobs_set = ap (λ (x : JobCount). slice_set c.index_mut-task.result.now.jobs.items c.args.job.k (record { count = x; blocking = Over n })) counted_is;
       released = refl;
       due = refl;
-      going = c.still_going-task.ensures ∙ (ap (λ (x : JobCount). cond (x.done == c.units-units.result) None (Some c.args.job)) counted_is ∙ ap (λ u. cond ((counted c.args.row c.index_mut-tally.result.now.count).done == u) None (Some c.args.job)) c.units-units.ensures);
+      active = c.still_active-task.ensures ∙ (ap (λ (x : JobCount). cond (x.done == c.units-units.result) None (Some c.args.job)) counted_is ∙ ap (λ u. cond ((counted c.args.row c.index_mut-tally.result.now.count).done == u) None (Some c.args.job)) c.units-units.ensures);
     })
     (c.blocked-blocked.ensures plan rows (λ _. c.args.self.now.begun) c.requires.plan are (row_in plan rows c.args.row c.args.job next.start c.requires.job))

@@ -1,5 +1,5 @@
 use Rattle.std.proofs.Common.{◌++◌, ◌∷◌, [], length, sym, subst, arith}
-use Rattle.msrp_report.specs.Inside.Tallies.{AreTallies, HaveBegun, IsQuiet}
+use Rattle.msrp_report.specs.Inside.Tallies.{AreTallies, HaveBegun, NoneReleased}
 use Rattle.msrp_report.proofs.RowSteps.{begun_push, tallies_idle}
 use Rattle.msrp_report.proofs.tallies.Tallies.feed.Goals as goal
 
@@ -22,6 +22,6 @@ returns c = λ rows told start.
     let same = c.count.ensures.begun in
     record {
       begun = subst (HaveBegun plan (rows ++ c.args.row ∷ [])) (sym same) (begun_push plan rows c.args.row n n c.requires.plan s.early (omega arith) s.next);
-      quiet = subst (λ b. IsQuiet plan (length plan.tasks) b c.count.new.self.next) (sym same) (subst (λ b. IsQuiet plan (length plan.tasks) n b) (sym c.count.ensures.next) s.quiet);
+      quiet = subst (λ b. NoneReleased plan (length plan.tasks) b c.count.new.self.next) (sym same) (subst (λ b. NoneReleased plan (length plan.tasks) n b) (sym c.count.ensures.next) s.quiet);
       tallies = subst (λ b. AreTallies plan (rows ++ c.args.row ∷ []) (λ _. b) c.count.new.self.tasks.items) (sym same) (c.count.ensures.told rows s.tallies s.next);
     }

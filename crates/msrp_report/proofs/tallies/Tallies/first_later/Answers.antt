@@ -1,5 +1,5 @@
 use Rattle.std.proofs.Common.{◌≡◌, length, arith}
-use Rattle.msrp_report.proofs.Going.{first_of_all}
+use Rattle.msrp_report.proofs.Active.{first_of_all}
 use Rattle.msrp_report.proofs.tallies.Tallies.first_later.Goals as goal
 
 pub loop-task-preserved : goal.loop-task-preserved

@@ -1,5 +1,5 @@
 use Rattle.std.proofs.Common.{◌≡◌, ◌+◌, length, subst, sym, ◌∙◌, arith}
-use Rattle.msrp_report.specs.Inside.Tallies.{AreTallies, HasReleased, IsQuiet, begun_below}
+use Rattle.msrp_report.specs.Inside.Tallies.{AreTallies, HasReleased, NoneReleased, begun_below}
 use Rattle.msrp_report.proofs.TallySteps.{quiet_more}
 use Rattle.msrp_report.proofs.tallies.Tallies.release_all.Goals as goal
 
@@ -17,7 +17,7 @@ loop-task-preserved c =
     let end = c.tasks-task-end.ensures.value in
     record {
       begun = same;
-      next = subst (λ tick. IsQuiet plan (n + 1) (before + 1) tick) (sym c.min-next.ensures) (quiet_more plan t.0 before n c.loop-task.next after.tasks.items c.index.result.now c.tasks-task-end.ensures.plan (omega (arith, task, end)) are c.index.ensures i.next);
+      next = subst (λ tick. NoneReleased plan (n + 1) (before + 1) tick) (sym c.min-next.ensures) (quiet_more plan t.0 before n c.loop-task.next after.tasks.items c.index.result.now c.tasks-task-end.ensures.plan (omega (arith, task, end)) are c.index.ensures i.next);
       told = λ rows h. c.release.ensures.told rows (i.told rows h);
     }
 

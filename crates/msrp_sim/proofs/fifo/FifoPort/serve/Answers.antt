@@ -1,6 +1,6 @@
 use Rattle.std.proofs.Common.{◌≡◌, ◌<◌, ◌+◌, ◌++◌, ◌∷◌, [], subst, sym, length, length-append, get_or}
 use Rattle.std.proofs.lemmas.List.Elements.{All-push}
-use Rattle.msrp_plan.specs.Calls.{IsInTurn}
+use Rattle.msrp_plan.specs.Calls.{IsDueCall}
 use Rattle.msrp_plan.specs.FifoLock.{Answers}
 use Rattle.msrp_core.specs.Ports.{claim_in}
 use Rattle.msrp_sim.specs.Served.{FifoModel, lock_after_calls}
@@ -15,7 +15,7 @@ invariant_of-self c =
     let i = c.self.invariant in
     let e = c.args.call in
     let calls = p.calls.items in
-    let turn = subst (λ (m : FifoModel). IsInTurn (claim_in e.core.0 m.calls) e.res e.call) (sym c.self.view_is) c.requires.turn in
+    let turn = subst (λ (m : FifoModel). IsDueCall (claim_in e.core.0 m.calls) e.res e.call) (sym c.self.view_is) c.requires.turn in
     let answers = subst (λ (m : FifoModel). Answers (lock_after_calls m.calls e.res.0) e.core.0 e.call) (sym c.self.view_is) c.requires.answers in
     let known : e.res.0 < p.resources = subst (λ (m : FifoModel). e.res.0 < m.resources) (sym c.self.view_is) c.requires.resource in
     let left : 0 < get_or p.rooms e.core.0 0 = subst (λ (m : FifoModel). 0 < get_or m.rooms e.core.0 0) (sym c.self.view_is) c.requires.room in

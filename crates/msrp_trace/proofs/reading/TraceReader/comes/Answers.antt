@@ -20,10 +20,10 @@ returns-then-met-clause-taken g c = λ yes row told is h.
     let tick : c.tick-tick.result.now ≡ decimal row.tick = c.tick-tick.ensures ∙ ap decimal (c.to_tick.ensures.tick ∙ sym is.tick) in
     let line = row_line old.version old.plan.now row c.tick-tick.result.now c.rest_of-rest.result.now tick (ap (λ (t : List ℕ). t ++ codes "\n") (sym rest)) in
     let number : c.in-Some-Rows.next_number ≡ old.number + 1 = search rules in
-    met_row old.version old.plan.now old.number c.in-Some-Rows.next_number row _ _ _ old.stage told c.tasks-accepted.ensures.plan is.whole line (c.meets-met.ensures.taken c.if-met.true) number c.in-Some-Rows.is-1 h
+    met_row old.version old.plan.now old.number c.in-Some-Rows.next_number row _ _ _ old.state told c.tasks-accepted.ensures.plan is.whole line (c.meets-met.ensures.taken c.if-met.true) number c.in-Some-Rows.is-1 h
 
 pub returns-else-met-clause-kept : goal.returns-else-met-clause-kept
-returns-else-met-clause-kept g c = λ no told h. let old = c.args.self.now in keeps_told (told_after old.version old.plan.now old.number) old.stage _ _ told c.in-Some-Rows.is-1 (c.meets-met.ensures.kept no) h
+returns-else-met-clause-kept g c = λ no told h. let old = c.args.self.now in keeps_told (told_after old.version old.plan.now old.number) old.state _ _ told c.in-Some-Rows.is-1 (c.meets-met.ensures.kept no) h
 
 pub returns-else-met-clause-finds : goal.returns-else-met-clause-finds
 returns-else-met-clause-finds g c = λ row is can.

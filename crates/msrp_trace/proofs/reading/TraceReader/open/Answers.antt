@@ -6,7 +6,7 @@ use Rattle.msrp_text.specs.Records.{csv_records}
 use Rattle.msrp_trace.specs.Reading.{told_after, version_of}
 use Rattle.msrp_trace.specs.Readers.{Opens}
 use Rattle.msrp_trace.specs.Rows.{version_told}
-use Rattle.msrp_trace.specs.declared.reading.Stage.TheVariants.{Rows}
+use Rattle.msrp_trace.specs.declared.reading.ReaderState.TheVariants.{Rows}
 use Rattle.msrp_trace.proofs.Standing.{head_refused, stopped_stands}
 use Rattle.msrp_trace.proofs.Telling.{opens_none, opens_some, rows_left, version_first, version_none}
 use Rattle.msrp_trace.proofs.reading.TraceReader.open.Goals as goal

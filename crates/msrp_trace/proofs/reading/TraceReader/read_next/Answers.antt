@@ -8,14 +8,14 @@ use Rattle.msrp_trace.proofs.reading.TraceReader.read_next.Goals as goal
 pub returns-in-Ok-false-clause-next : goal.returns-in-Ok-false-clause-next
 returns-in-Ok-false-clause-next g c = λ told h.
     let old = c.args.self.now in
-    let left = left_rows (told_after old.version old.plan.now old.number) old.stage _ told c.requires h in
+    let left = left_rows (told_after old.version old.plan.now old.number) old.state _ told c.requires h in
     let none = gave-none _ _ _ _ (c.in-Ok-false.ensures.next left.0 left.1) c.in-Ok-false.field-0-test in
     answers_end old.version old.plan.now old.number left.0 told _ left.2 none
 
 pub returns-in_err-row-clause-next : goal.returns-in_err-row-clause-next
 returns-in_err-row-clause-next g c = λ told h.
     let old = c.args.self.now in
-    let left = left_rows (told_after old.version old.plan.now old.number) old.stage _ told c.requires h in
+    let left = left_rows (told_after old.version old.plan.now old.number) old.state _ told c.requires h in
     let next = gave-one _ _ _ _ (c.in-Ok-true.ensures.next left.0 left.1) c.in-Ok-true.field-0-test in
     let number : c.in-Some.number ≡ old.number + 1 = search rules in
     let e : c.from_residual.result ≡ Err c.in_err-row.field-0.0 = search rules in
@@ -24,10 +24,10 @@ returns-in_err-row-clause-next g c = λ told h.
 pub returns-clause-next : goal.returns-clause-next
 returns-clause-next g c = λ told h.
     let old = c.args.self.now in
-    let left = left_rows (told_after old.version old.plan.now old.number) old.stage _ told c.requires h in
+    let left = left_rows (told_after old.version old.plan.now old.number) old.state _ told c.requires h in
     let next = gave-one _ _ _ _ (c.in-Ok-true.ensures.next left.0 left.1) c.in-Ok-true.field-0-test in
     let number : c.in-Some.number ≡ old.number + 1 = search rules in
-    let after = rows_left (told_after old.version old.plan.now c.in-Some.number) old.stage _ next.0 c.requires next.2 in
+    let after = rows_left (told_after old.version old.plan.now c.in-Some.number) old.state _ next.0 c.requires next.2 in
     answers_row old.version old.plan.now old.number c.in-Some.number left.0 next.0 _ told c.numbered_row.result c.in_ok-row.row _ left.2 next.1 c.numbered_row.ensures c.in_ok-row.was number after
 
 pub returns-in_err-row-clause-stands : goal.returns-in_err-row-clause-stands

@@ -14,7 +14,7 @@ returns-clause-taken g c = λ yes told h.
     let rest = c.rest-rest.ensures none _ (texts.line none) in
     let tick : c.tick-tick.result.now ≡ decimal r.tick = c.tick-tick.ensures ∙ ap decimal texts.tick in
     let line = row_line old.version old.plan.now r c.tick-tick.result.now c.rest-rest.result.now tick (ap (λ t. t ++ codes "\n") (sym rest)) in
-    met_row old.version old.plan.now old.number c.args.next r _ _ _ old.stage told c.requires.plan c.requires.whole line (c.meets.ensures.taken c.if-not-meets.false) c.requires.number c.requires.stage h
+    met_row old.version old.plan.now old.number c.args.next r _ _ _ old.state told c.requires.plan c.requires.whole line (c.meets.ensures.taken c.if-not-meets.false) c.requires.number c.requires.state h
 
 pub returns-then-not-meets-clause-finds : goal.returns-then-not-meets-clause-finds
 returns-then-not-meets-clause-finds g c = λ can.

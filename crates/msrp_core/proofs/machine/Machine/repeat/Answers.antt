@@ -1,0 +1,57 @@
+use Rattle.std.proofs.Common.{◌<◌, ◌+◌, ◌-◌, ◌++◌, ◌∷◌, [], ◌≡◌, Some, sym, ◌∙◌, subst, arith}
+use Rattle.msrp_plan.specs.Runs.{IsCoreTurn}
+use Rattle.msrp_core.specs.Machine.{StandsAfter, MachineModel}
+use Rattle.msrp_core.specs.MachineView.{machine_view}
+use Rattle.msrp_core.proofs.Repeating.{can_less, known_row, repeats_only, row_next, stands_next, view_next}
+use Rattle.msrp_core.proofs.Turning.{acts_core, acts_job, acts_tick, core_after}
+use Rattle.msrp_core.proofs.machine.Machine.repeat.Goals as goal
+
+pub overflow_add-self : goal.overflow_add-self
+overflow_add-self c =
+    let some : 0 < c.self.inside.again = let n = c.if-self-eq0.false in omega (arith, n) in
+    let left = (c.self.invariant.repeats some).left in
+    let few = c.self.invariant.jobs_fit.accepted.draft.ticks.1 in
+    omega (arith, some, left, few)
+
+pub act_again-requires-clause-can : goal.act_again-requires-clause-can
+act_again-requires-clause-can c =
+    let some : 0 < c.self.inside.again = let n = c.if-self-eq0.false in omega (arith, n) in
+    let r = c.self.invariant.repeats some in
+    can_less c.self.inside.jobs r.row.kind c.self.inside.job c.self.inside.again 1 (omega (arith, some)) r.can
+
+pub invariant_of-self : goal.invariant_of-self
+invariant_of-self c =
+    let some : 0 < c.self.inside.again = let n = c.if-self-eq0.false in omega (arith, n) in
+    view_next c.self.inside c.self.invariant.jobs_fit (c.self.invariant.repeats some) some c.act_again.new.self c.act_again.result c.act_again.ensures.acts c.act_again.ensures.kind c.act_again.ensures.left
+
+pub returns-clause-row : goal.returns-clause-row
+returns-clause-row c = λ log.
+    let some : 0 < c.self.inside.again = let n = c.if-self-eq0.false in omega (arith, n) in
+    subst (λ (m : MachineModel). StandsAfter m log → IsCoreTurn m.plan m.core log c.act_again.result) c.self.view_is
+    (row_next c.self.inside c.self.invariant.jobs_fit (c.self.invariant.repeats some) some c.act_again.new.self c.act_again.result c.act_again.ensures.acts log)
+
+pub returns-clause-stands : goal.returns-clause-stands
+returns-clause-stands c = λ log.
+    let some : 0 < c.self.inside.again = let n = c.if-self-eq0.false in omega (arith, n) in
+    let P : MachineModel → Type 0 = λ m. StandsAfter m log → StandsAfter (machine_view (record { tick = c.self.inside.tick + 1; jobs = c.act_again.new.self; again = c.self.inside.again - 1; job = c.self.inside.job })) (log ++ c.act_again.result ∷ []) in
+    subst P c.self.view_is
+    (stands_next c.self.inside c.self.invariant.jobs_fit (c.self.invariant.repeats some) some c.act_again.new.self c.act_again.result c.act_again.ensures.acts log)
+
+pub returns-clause-known : goal.returns-clause-known
+returns-clause-known c =
+    let some : 0 < c.self.inside.again = let n = c.if-self-eq0.false in omega (arith, n) in
+    let m = c.self.inside in
+    let new = c.act_again.new.self in
+    let row = c.act_again.result in
+    let acts = c.act_again.ensures.acts in
+    subst (λ (x : MachineModel). Some row ≡ x.again) c.self.view_is
+    (known_row m row some (acts_tick m.jobs new m.job m.tick row acts) (acts_core m.jobs new m.job m.tick row acts) c.act_again.ensures.kind (acts_job m.jobs new m.job m.tick row acts))
+
+pub returns-clause-again : goal.returns-clause-again
+returns-clause-again c =
+    let m = c.self.inside in
+    let new = c.act_again.new.self in
+    let row = c.act_again.result in
+    let acts = c.act_again.ensures.acts in
+    let core = acts_core m.jobs new m.job m.tick row acts ∙ sym (core_after m.jobs new m.job m.tick row acts) in
+    repeats_only (record { tick = m.tick + 1; jobs = new; again = m.again - 1; job = m.job }) row (λ some. c.act_again.ensures.kind) core (acts_job m.jobs new m.job m.tick row acts)

@@ -1,0 +1,14 @@
+use Rattle.std.proofs.Common.{length, subst}
+use Rattle.msrp_plan.specs.Jobs.{jobs_on}
+use Rattle.msrp_plan.specs.States.{state_after}
+use Rattle.msrp_core.specs.CoreJobs.{state_of}
+use Rattle.msrp_core.specs.CoreStates.{IsCoreState}
+use Rattle.msrp_core.specs.Machine.{MachineModel, StandsAfter}
+use Rattle.msrp_core.proofs.Turning.{told_from}
+use Rattle.msrp_core.proofs.machine.Machine.state.Goals as goal
+
+pub returns : goal.returns
+returns c = λ log.
+    let jobs = c.self.inside.jobs in
+    subst (λ (m : MachineModel). StandsAfter m log → IsCoreState m.plan m.core (length log) log c.state.result) c.self.view_is
+    (λ stands. subst (λ t. IsCoreState jobs.plan.now jobs.core.0 t log c.state.result) stands.tick (c.state.ensures log (told_from (state_of jobs) (state_after log) (jobs_on jobs.plan.now jobs.core.0) stands.states)))

@@ -1,0 +1,23 @@
+use Rattle.std.proofs.Common.{◌≡◌, [], map, refl, sym, subst, arith, rules}
+use Rattle.msrp_plan.specs.Jobs.{jobs_on}
+use Rattle.msrp_plan.specs.States.{state_after}
+use Rattle.msrp_ready.specs.Ready.{ReadyModel}
+use Rattle.msrp_core.specs.Active.{state_in}
+use Rattle.msrp_core.specs.CoreJobs.{active_in}
+use Rattle.msrp_core.proofs.machine.Machine.with_room.Goals as goal
+
+pub invariant_of-result : goal.invariant_of-result
+invariant_of-result c =
+    let jobs = c.in_ok-jobs.jobs in
+    let js = jobs_on jobs.plan.now jobs.core.0 in
+    record {
+      jobs_fit = c.in_ok-jobs.ensures.jobs;
+      released = search rules;
+      log = [];
+      stands = record {
+        tick = refl;
+        phase = c.in_ok-jobs.ensures.phase;
+        states = subst (λ (r : ReadyModel). map (state_in jobs.plan.now r.taken jobs.phase (active_in jobs)) js ≡ map (state_after []) js) (sym c.in_ok-jobs.ensures.ready) (subst (λ p. map (state_in jobs.plan.now [] p (active_in jobs)) js ≡ map (state_after []) js) (sym c.in_ok-jobs.ensures.phase) refl);
+      };
+      repeats = λ some. absurd (omega (arith, some));
+    }

@@ -1,0 +1,122 @@
+-- The jobs of a core between two of its turns: which are active, that is started and not finished, what each of these
+-- holds, and how many of its units it has done.
+use Rattle.std.specs.Prelude.{ℕ, List, [], ◌∷◌, Bool, true, false, nat_eq, ◌==◌, ◌&&◌, Some, length, take, slice_get, ◌≡◌, ◌<◌, ◌+◌, ⊤, if◌then◌else◌}
+use Rattle.std.specs.List.{list_any, AllByRecursion, Contains}
+use Rattle.msrp_plan.specs.Plan.{PlanModel, units}
+use Rattle.msrp_plan.specs.Units.{held_after}
+use Rattle.msrp_plan.specs.Jobs.{jobs_on, same_job}
+use Rattle.msrp_plan.specs.Levels.{is_global}
+use Rattle.msrp_plan.specs.States.{JobState}
+use Rattle.msrp_plan.specs.declared.ids.JobId.{JobId}
+use Rattle.msrp_plan.specs.declared.ids.ResId.{ResId}
+use Rattle.msrp_plan.specs.declared.units.Op.TheVariants.{Lock}
+use Rattle.msrp_plan.specs.declared.units.Phase.{Phase}
+use Rattle.msrp_plan.specs.declared.units.Phase.TheVariants.{Free, Queued, Holding}
+use Rattle.msrp_ready.specs.Ready.{is_among}
+use Rattle.msrp_stack.specs.Stack.{StartedJob}
+
+-- a job that is active, the resources that it holds or awaits, the innermost first, and how many units it has done
+pub record ActiveJob : Type 0 where
+  pub job : JobId
+  pub held : List ℕ
+  pub done : ℕ
+
+-- the started jobs, the newest first, with the units that each has done
+abbrev pub active_of : List StartedJob → List ℕ → List ActiveJob
+active_of [] done = []
+active_of (s ∷ started) [] = []
+active_of (s ∷ started) (n ∷ done) = record { job = s.job; held = s.held; done = n } ∷ active_of started done
+
+abbrev pub started_job : ActiveJob → StartedJob
+started_job s = record { job = s.job; held = s.held }
+
+abbrev pub is_active : List ActiveJob → JobId → Bool
+is_active active j = list_any (λ s. same_job j s.job) active
+
+-- one of them holds the resource, or awaits it
+abbrev pub is_kept : List ActiveJob → ℕ → Bool
+is_kept active g = list_any (λ s. list_any (nat_eq g) s.held) active
+
+-- the units that a started job has done: all of them where it isn't active
+abbrev pub done_in : PlanModel → List ActiveJob → JobId → ℕ
+done_in plan [] j = length (units plan j)
+done_in plan (s ∷ active) j = if same_job j s.job then s.done else done_in plan active j
+
+abbrev pub is_waiting_phase : Phase → Bool
+is_waiting_phase Free = false
+is_waiting_phase (Queued g) = true
+is_waiting_phase (Holding g) = false
+
+abbrev pub is_holding_phase : ResId → Phase → Bool
+is_holding_phase g Free = false
+is_holding_phase g (Queued h) = false
+is_holding_phase g (Holding h) = h.0 == g.0
+
+abbrev pub is_newest : List ActiveJob → JobId → Bool
+is_newest [] j = false
+is_newest (s ∷ below) j = same_job j s.job
+
+-- how far a job is, by the jobs that were taken to be started, by what the core holds or awaits, and by those that are
+-- active, of which the newest alone waits
+abbrev pub state_in : PlanModel → List JobId → Phase → List ActiveJob → JobId → JobState
+state_in plan taken phase active j =
+    record { job = j; started = is_among taken j; queued = is_waiting_phase phase && is_newest active j; done = if is_among taken j then done_in plan active j else 0 }
+
+-- the newest with one unit more behind it: with its last it goes no more
+abbrev pub advanced : PlanModel → List ActiveJob → List ActiveJob
+advanced plan [] = []
+advanced plan (s ∷ below) = if s.done + 1 == length (units plan s.job) then below else record s { done = s.done + 1 } ∷ below
+
+-- ---- what is kept between turns
+-- a job of the core that was taken, and has a unit left
+pub record IsActiveJob (plan : PlanModel) (c : ℕ) (taken : List JobId) (s : ActiveJob) : Type 0 where
+  pub known : Contains (jobs_on plan c) s.job
+  pub started : is_among taken s.job ≡ true
+  pub left : s.done < length (units plan s.job)
+
+-- no job is active twice
+abbrev pub AreDistinct : List ActiveJob → Type 0
+AreDistinct [] = ⊤
+AreDistinct (s ∷ below) = (is_active below s.job ≡ false) × AreDistinct below
+
+-- none of the resources is global
+abbrev pub AreLocal : PlanModel → List ℕ → Type 0
+AreLocal plan held = (g : ℕ) → list_any (nat_eq g) held ≡ true → is_global plan g ≡ false
+
+-- what it holds is what its units hold so far
+abbrev pub HoldsSo : PlanModel → ActiveJob → Type 0
+HoldsSo plan s = held_after (take s.done (units plan s.job)) ≡ Some s.held
+
+pub record HoldsLocal (plan : PlanModel) (s : ActiveJob) : Type 0 where
+  pub now : HoldsSo plan s
+  pub locals : AreLocal plan s.held
+
+-- it holds this global resource and no other
+pub record HoldsGlobal (plan : PlanModel) (g : ResId) (s : ActiveJob) : Type 0 where
+  pub now : HoldsSo plan s
+  pub global : is_global plan g.0 ≡ true
+  pub has : list_any (nat_eq g.0) s.held ≡ true
+  pub one : (h : ℕ) → list_any (nat_eq h) s.held ≡ true → is_global plan h ≡ true → h ≡ g.0
+
+-- its next unit locks this global resource, which counts as held already; the others that it holds are local
+pub record AwaitsGlobal (plan : PlanModel) (g : ResId) (s : ActiveJob) : Type 0 where
+  pub unit : slice_get (units plan s.job) s.done ≡ Some (Lock g)
+  pub global : is_global plan g.0 ≡ true
+  pub rest : List ℕ
+  pub held : s.held ≡ g.0 ∷ rest
+  pub now : held_after (take s.done (units plan s.job)) ≡ Some rest
+  pub locals : AreLocal plan rest
+
+-- what they hold, by what the core holds or awaits: the newest alone may hold or await a global resource
+abbrev pub HoldSo : PlanModel → Phase → List ActiveJob → Type 0
+HoldSo plan Free active = AllByRecursion (HoldsLocal plan) active
+HoldSo plan (Queued g) [] = ⊥
+HoldSo plan (Queued g) (s ∷ below) = AwaitsGlobal plan g s × AllByRecursion (HoldsLocal plan) below
+HoldSo plan (Holding g) [] = ⊥
+HoldSo plan (Holding g) (s ∷ below) = HoldsGlobal plan g s × AllByRecursion (HoldsLocal plan) below
+
+-- the active jobs of a core
+pub record AreActive (plan : PlanModel) (c : ℕ) (taken : List JobId) (phase : Phase) (active : List ActiveJob) : Type 0 where
+  pub each : AllByRecursion (IsActiveJob plan c taken) active
+  pub apart : AreDistinct active
+  pub holds : HoldSo plan phase active

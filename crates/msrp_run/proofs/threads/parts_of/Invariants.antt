@@ -1,0 +1,7 @@
+use Rattle.std.proofs.Common.{◌≡◌, ◌≤◌, vec_len, vec_items}
+use Rattle.std.specs.Prelude.{vec_capacity}
+use Rattle.msrp_run.specs.Threads.{AllAreNew}
+use Rattle.msrp_run.proofs.threads.parts_of.Given as goal
+
+abbrev pub invariant-loop-c : goal.invariant-loop-c
+invariant-loop-c l = (vec_len l.all_parts ≡ l.c) × AllAreNew l.plan (vec_items l.all_parts) × (l.plan.cores ≤ vec_capacity l.all_parts)

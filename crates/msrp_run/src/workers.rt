@@ -1,0 +1,43 @@
+//! What the threads of a run are given, and what they promise.
+
+use msrp_board::BoardSeat;
+use msrp_core::Machine;
+use msrp_merge::CoreLog;
+use msrp_plan::{CoreId, Plan};
+use std::snapshot::Snapshot;
+use std::thread::PromisedHandle;
+
+/// The parts of a core before its first turn: what its thread is given beside its seat.
+#[derive(Drop)]
+pub(crate) struct CoreParts<'a> {
+    pub(crate) machine: Machine<'a>,
+    pub(crate) log: CoreLog,
+}
+
+/// That the thread of a core gives back what its worker does: the core, its seat at the start, and the plan.
+#[derive(Drop)]
+pub(crate) struct WorkPromise {
+    pub(crate) core: CoreId,
+    pub(crate) seat: Snapshot<BoardSeat>,
+    pub(crate) plan: Snapshot<Plan>,
+}
+
+/// The thread of a core.
+pub(crate) type Handle = PromisedHandle<(CoreLog, BoardSeat), WorkPromise>;
+
+/// The threads that were started, the seat with the other books, and whether all were started: then the cores are let in, and
+/// else the run is called off.
+#[derive(Drop)]
+pub(crate) struct Started {
+    pub(crate) handles: Vec<Handle>,
+    pub(crate) others: BoardSeat,
+    pub(crate) all: bool,
+}
+
+/// What the threads left that were started: their logs, the seat with all books, and whether all were started.
+#[derive(Drop)]
+pub(crate) struct Ended {
+    pub(crate) logs: Vec<CoreLog>,
+    pub(crate) seat: BoardSeat,
+    pub(crate) all: bool,
+}

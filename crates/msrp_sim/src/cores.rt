@@ -1,0 +1,204 @@
+//! All cores of a plan, and the queues of its global resources.
+ghost use Rattle.std.specs.Prelude.{◌≡◌, ◌<◌, ◌++◌, ◌∷◌, [], true, ℕ, List, IfOk, IfNone, IfSome, None, Some, length, slice_get};
+ghost use Rattle.std.specs.Option.{ForSome, IsSomeAnd, option_map};
+ghost use Rattle.msrp_plan.specs.Limits.{most_cores, most_resources, most_rows};
+ghost use Rattle.msrp_plan.specs.Logs.{log_of};
+ghost use Rattle.msrp_plan.specs.Runs.{IsLegal};
+ghost use Rattle.msrp_plan.specs.Calls.{kind_of_call, ahead_of_call};
+ghost use Rattle.msrp_plan.specs.Shape.{has_shape, may_carry};
+ghost use Rattle.msrp_plan.specs.WellFormed.{IsPlan};
+ghost use Rattle.msrp_plan.specs.declared.rows.Row.{Row as TraceRow};
+ghost use Rattle.msrp_core.specs.CoreStates.{IsCoreState};
+ghost use Rattle.msrp_core.specs.Machine.{MachineModel};
+ghost use Rattle.msrp_sim.specs.Cores.{AreNew, StandFor, IsDueAfter, IsNextRow, IsAs, IsAnswered, IsRowWith, Leaves, known_row};
+ghost use Rattle.msrp_sim.specs.Serving.{AreDrawn, Notes, waiting};
+
+use crate::tickets::Queues;
+use crate::turn_port::turn_by;
+use msrp_core::{CoreState, Machine, PortCall, Reply};
+use msrp_levels::Levels;
+use msrp_plan::{Call, CoreId, Kind, Memory, Plan, ResId, Row};
+use std::alloc::Global;
+use std::marker::Model;
+
+/// The machine of each core of a plan, and the queues of its global resources: after the start of a legal run it tells
+/// the one row that each core may make next. It keeps no list of the calls.
+#[derive(Drop)]
+pub struct Cores<'a> {
+    plan: &'a Plan,
+    machines: Vec<Machine<'a>>,
+    queues: Queues,
+}
+
+impl<'a> Model for Cores<'a> {
+    ghost use Rattle.msrp_sim.specs.Cores.{CoresModel};
+
+    ghost Value = { CoresModel };
+
+    ghost use Rattle.msrp_sim.specs.CoresView.{cores_view, AreCoresView};
+
+    ghost view = { cores_view };
+
+    ghost invariant = { AreCoresView };
+}
+
+// The row with this kind and ahead.
+fn with_answer(row: Row, kind: Kind, ahead: Option<u32>) -> Row
+    requires shape { has_shape kind row.job row.res ≡ true }
+    requires carrier { may_carry kind ahead ≡ true }
+    ensures { IsRowWith kind ahead row result }
+{
+    Row {
+        tick: row.tick,
+        core: row.core,
+        kind,
+        job: row.job,
+        res: row.res,
+        ahead,
+    }
+}
+
+// The row of a request of the resource, with the reply that it gets now.
+fn requested(queues: &Queues, row: Row, res: ResId) -> Row
+    requires { has_shape Kind.Take row.job row.res ≡ true }
+    ensures { IsRowWith (kind_of_call (Call.Ask (waiting queues.now res.0))) (ahead_of_call (Call.Ask (waiting queues.now res.0))) row result }
+{
+    match queues.reply(res) {
+        Reply::Taken => with_answer(row, Kind::Take, None),
+        Reply::Queued(ahead) => with_answer(row, Kind::Queue, Some(ahead)),
+    }
+}
+
+// The row with the answer that the queues give now, where it asks them.
+fn answered(queues: &Queues, row: Row) -> Row
+    ensures { IsAnswered queues.now row result }
+{
+    match (row.kind, row.res) {
+        (Kind::Take | Kind::Queue, Some(res)) => requested(queues, row, res),
+        (Kind::Grant | Kind::Spin, Some(res)) => {
+            if queues.grants(row.core, res) {
+                with_answer(row, Kind::Grant, None)
+            } else {
+                with_answer(row, Kind::Spin, None)
+            }
+        }
+        _ => row,
+    }
+}
+
+// The queues after a turn that made this call, if it made one.
+#[inline(always)]
+fn note_turn(queues: &mut Queues, call: Option<PortCall>)
+    requires core { ForSome call (λ e. e.core.0 < most_cores) }
+    requires resource { ForSome call (λ e. e.res.0 < most_resources) }
+    requires drawn { AreDrawn queues.old most_rows }
+    ensures none { call ≡ None → queues.new ≡ queues.old }
+    ensures noted { ForSome call (λ e. Notes e queues.old queues.new) }
+{
+    if let Some(made) = call {
+        queues.note(made);
+    }
+}
+
+// A machine for each core, before its first turn.
+fn machines_of<'a>(
+    alloc: Global,
+    plan: &'a Plan,
+    levels: &'a Levels<'a>,
+) -> Result<Vec<Machine<'a>>, Memory>
+    requires { levels.now ≡ plan.now }
+    ensures { IfOk result (λ machines. AreNew plan.now plan.now.cores machines.items) }
+{
+    let cores = plan.cores();
+    let mut machines = Vec::with_capacity(alloc, cores as usize)?;
+    for core in 0..cores {
+        machines.push_reserved(Machine::with_room(alloc, plan, levels, CoreId(core))?);
+    }
+    Ok(machines)
+}
+
+impl<'a> Cores<'a> {
+    /// The cores before the first tick. All memory that they ever need is taken here: it is [`Memory`] only where that
+    /// was refused. The levels are those of the plan.
+    pub fn with_room(
+        alloc: Global,
+        plan: &'a Plan,
+        levels: &'a Levels<'a>,
+    ) -> Result<Cores<'a>, Memory>
+        requires levels { levels.now ≡ plan.now }
+        ensures accepted { IfOk result (λ cores. IsPlan cores.plan) }
+        ensures plan { IfOk result (λ cores. cores.plan ≡ plan.now) }
+        ensures stand { IfOk result (λ cores. StandFor cores []) }
+        ensures known { IfOk result (λ cores. (c : ℕ) → known_row cores c ≡ None) }
+    {
+        // Read so that the plan is known to be an accepted one.
+        let _accepted = plan.cores();
+        Ok(Cores {
+            plan,
+            machines: machines_of(alloc, plan, levels)?,
+            queues: Queues::new(),
+        })
+    }
+
+    /// How many turns the core has had.
+    pub fn tick(&self, core: CoreId) -> u32
+        requires { core.0 < self.now.plan.cores }
+        ensures { option_map (λ x. x.tick) (slice_get self.now.machines core.0) ≡ Some result }
+    {
+        self.machines[core.0 as usize].tick()
+    }
+
+    /// What decides who has the core's next turn.
+    pub fn state(&self, core: CoreId) -> CoreState
+        requires { core.0 < self.now.plan.cores }
+        ensures { (rows : List TraceRow) → StandFor self.now rows → IsCoreState self.now.plan core.0 (length (log_of core.0 rows)) rows result }
+    {
+        self.machines[core.0 as usize].state()
+    }
+
+    /// The row that [`Cores::turn`] would make, where the core has a turn left. Whatever rows the cores stand for, it is the next
+    /// one of a core that is due after them.
+    #[inline(always)]
+    pub fn foresee(&self, core: CoreId) -> Option<Row>
+        requires { core.0 < self.now.plan.cores }
+        ensures { (rows : List TraceRow) → StandFor self.now rows → IsDueAfter self.now.plan rows core.0 → IsSomeAnd result (IsNextRow self.now.plan rows core.0) }
+    {
+        let row = self.machines[core.0 as usize].foresee()?;
+        Some(answered(&self.queues, row))
+    }
+
+    /// The core's next turn, where it is known from its last one: its row is that one in the next tick. That takes no choice,
+    /// and no queue is asked. Elsewhere it is none, and nothing changes.
+    #[inline(always)]
+    pub fn repeat(&mut self, core: CoreId) -> Option<Row>
+        requires core { core.0 < self.old.plan.cores }
+        requires tick { (x : MachineModel) → slice_get self.old.machines core.0 ≡ Some x → x.tick < self.old.plan.ticks }
+        ensures none { IfNone result (self.new ≡ self.old) }
+        ensures known { result ≡ known_row self.old core.0 }
+        ensures plan { self.new.plan ≡ self.old.plan }
+        ensures leaves { IfSome result (Leaves self.old self.new) }
+        ensures next { IfSome result (λ due. (rows : List TraceRow) → StandFor self.old rows → IsDueAfter self.old.plan rows core.0 → IsNextRow self.old.plan rows core.0 due) }
+        ensures stand { IfSome result (λ due. (rows : List TraceRow) (row : TraceRow) → StandFor self.old rows → IsDueAfter self.old.plan rows core.0 → IsAs due row → IsLegal self.old.plan rows row → StandFor self.new (rows ++ row ∷ [])) }
+    {
+        let machine = &mut self.machines[core.0 as usize];
+        machine.repeat()
+    }
+
+    /// The core's next turn. Whatever rows the cores stand for, the row is the next one of that core after them, and
+    /// the cores then stand for them and this row, with its ahead or without.
+    #[inline(always)]
+    pub fn turn(&mut self, core: CoreId) -> Row
+        requires core { core.0 < self.old.plan.cores }
+        requires tick { (x : MachineModel) → slice_get self.old.machines core.0 ≡ Some x → x.tick < self.old.plan.ticks }
+        ensures plan { self.new.plan ≡ self.old.plan }
+        ensures leaves { Leaves self.old self.new result }
+        ensures next { (rows : List TraceRow) → StandFor self.old rows → IsDueAfter self.old.plan rows core.0 → IsNextRow self.old.plan rows core.0 result }
+        ensures stand { (rows : List TraceRow) (row : TraceRow) → StandFor self.old rows → IsDueAfter self.old.plan rows core.0 → IsAs result row → IsLegal self.old.plan rows row → StandFor self.new (rows ++ row ∷ []) }
+    {
+        let resources = self.plan.resources();
+        let machine = &mut self.machines[core.0 as usize];
+        let turned = turn_by(&self.queues, resources, machine);
+        note_turn(&mut self.queues, turned.call);
+        turned.row
+    }
+}

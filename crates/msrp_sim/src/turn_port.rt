@@ -1,0 +1,125 @@
+//! One turn of a machine over the queues, which it only reads: its call is handed on.
+ghost use Rattle.std.specs.Prelude.{◌≡◌, ◌<◌, length};
+ghost use Rattle.msrp_core.specs.Ports.{claim_in};
+ghost use Rattle.msrp_sim.specs.TurnPorts.{HasTurned, IsTurnPort, TurnPortModel, port_after};
+
+use crate::tickets::{Queues, request};
+use msrp_core::{Machine, Port, PortCall, Reply};
+use msrp_plan::{Call, CoreId, ResId, Row};
+use std::marker::{Brand, Model, PhantomData};
+
+// Names what was called before the turn, and the queues that stand then.
+trait Before {
+    ghost use Rattle.std.specs.Prelude.{List};
+    ghost use Rattle.msrp_core.specs.declared.port.PortCall.{PortCall as CoreCall};
+    ghost use Rattle.msrp_sim.specs.declared.tickets.Queues.{Queues as TurnQueues};
+
+    ghost calls: { List CoreCall };
+
+    ghost queues: { TurnQueues };
+}
+
+impl Before for Brand {
+    ghost use Rattle.std.specs.Prelude.{[]};
+    ghost use Rattle.msrp_sim.specs.TurnPorts.{no_queues};
+
+    ghost calls = { [] };
+
+    ghost queues = { no_queues };
+}
+
+// A port for one turn of one core: it answers as the queues stand.
+#[derive(Drop)]
+struct TurnPort<'a, B: Before> {
+    queues: &'a Queues,
+    core: CoreId,
+    resources: u32,
+    call: Option<PortCall>,
+    before: PhantomData<B>,
+}
+
+impl<'a, B: Before> Model for TurnPort<'a, B> {
+    ghost Value = { TurnPortModel };
+
+    ghost view = { λ p. record { core = p.core; resources = p.resources; call = p.call } };
+
+    ghost invariant = { λ p. IsTurnPort B.calls B.queues p.queues.now p.call };
+}
+
+impl<'a, B: Before> Port for TurnPort<'a, B> {
+    ghost port = { λ p. port_after B.calls p.core p.resources p.call };
+
+    fn ask(&mut self, core: CoreId, res: ResId) -> Reply {
+        let reply = self.queues.reply(res);
+        let call = request(reply);
+        self.call = Some(PortCall { core, res, call });
+        reply
+    }
+
+    fn poll(&mut self, core: CoreId, res: ResId) -> bool {
+        let granted = self.queues.grants(core, res);
+        let call = Call::Poll(granted);
+        self.call = Some(PortCall { core, res, call });
+        granted
+    }
+
+    fn leave(&mut self, core: CoreId, res: ResId) {
+        let call = Call::Leave;
+        self.call = Some(PortCall { core, res, call });
+    }
+
+    fn room(&self, core: CoreId) -> u32 {
+        if core == self.core && self.call.is_none() {
+            1
+        } else {
+            0
+        }
+    }
+
+    fn resources(&self) -> u32 {
+        self.resources
+    }
+}
+
+// The row of a turn, and its call, if it made one.
+#[derive(Drop)]
+pub struct Turned {
+    pub row: Row,
+    pub call: Option<PortCall>,
+}
+
+// The machine's turn over such a port.
+#[inline(always)]
+fn turn_over<B: Before>(queues: &Queues, resources: u32, machine: &mut Machine<'_>) -> Turned
+    requires tick { machine.old.tick < machine.old.plan.ticks }
+    requires resources { resources ≡ length machine.old.plan.resources }
+    requires calls { claim_in machine.old.core B.calls ≡ machine.old.phase }
+    requires queues { queues.now ≡ B.queues }
+    ensures { HasTurned queues.now machine.old machine.new result.row result.call }
+{
+    let mut port = TurnPort::<B> {
+        queues,
+        core: machine.core(),
+        resources,
+        call: None,
+        before: PhantomData,
+    };
+    let row = machine.turn(&mut port);
+    Turned {
+        row,
+        call: port.call,
+    }
+}
+
+// The machine's turn, where a global resource answers as its queue stands. A row that stands again needs no port.
+#[inline(always)]
+pub(crate) fn turn_by(queues: &Queues, resources: u32, machine: &mut Machine<'_>) -> Turned
+    requires tick { machine.old.tick < machine.old.plan.ticks }
+    requires resources { resources ≡ length machine.old.plan.resources }
+    ensures { HasTurned queues.now machine.old machine.new result.row result.call }
+{
+    match machine.repeat() {
+        Some(row) => Turned { row, call: None },
+        None => turn_over::<Brand>(queues, resources, machine),
+    }
+}
