@@ -78,47 +78,6 @@ fn turns_for(plan: &Plan, auditor: &Auditor<'_>, row: Row) -> ArrayVec<u32, MOST
     }
 }
 
-// What was known before a row.
-#[derive(Drop)]
-struct Before {
-    due: Option<Row>,
-    state: Option<CoreState>,
-    turns: ArrayVec<u32, MOST_TURNS>,
-}
-
-// The next row, as the auditor judges it, with what was known before it. It stands apart, and hands back little: the parts of a cause would
-// be cleared for each row.
-#[inline(never)]
-fn step(
-    plan: &Plan,
-    levels: &Levels<'_>,
-    auditor: &mut Auditor<'_>,
-    notes: &mut Notes,
-    row: Row,
-    before: &mut Before,
-) -> Result<(), Fault>
-    requires plan { auditor.old.plan ≡ plan.now }
-    requires levels { levels.now ≡ plan.now }
-    ensures plan { auditor.new.plan ≡ auditor.old.plan }
-    ensures fed { (rows : List TraceRow) → HasFed auditor.old rows → HasFed auditor.new (rows ++ row ∷ []) }
-    ensures good { (rows : List TraceRow) → HasFed auditor.old rows → IfOk result (λ _. fault_in plan.now (rows ++ row ∷ []) ≡ None) }
-    ensures noted { (rows : List TraceRow) → HasFed auditor.old rows → AreNoted plan.now rows notes.old → IfOk result (λ _. AreNoted plan.now (rows ++ row ∷ []) notes.new) }
-    ensures cause { (rows : List TraceRow) → HasFed auditor.old rows → fault_in plan.now rows ≡ None → AreNoted plan.now rows notes.old → IfErr result (λ fault. IsCauseAfter plan.now rows row (record { fault = fault; row = row; due = before.new.due; state = before.new.state; turns = before.new.turns; notes = notes.new })) }
-{
-    // Read so that the plan is known to be an accepted one.
-    let _accepted = plan.cores();
-    let state = auditor.state(row.core);
-    before.state = state;
-    before.turns = turns_for(plan, auditor, row);
-    match auditor.feed_telling(row, &mut before.due) {
-        Ok(()) => {
-            notes.note(plan, levels, state, row);
-            Ok(())
-        }
-        Err(fault) => Err(fault),
-    }
-}
-
 /// The next row, as the auditor judges it: a fault comes with its cause, which takes the notes away. It takes no memory.
 #[inline(always)]
 pub fn feed(
@@ -137,19 +96,22 @@ pub fn feed(
     ensures noted { (rows : List TraceRow) → HasFed auditor.old rows → AreNoted plan.now rows notes.old → IfOk result (λ _. AreNoted plan.now (rows ++ row ∷ []) notes.new) }
     ensures cause { (rows : List TraceRow) → HasFed auditor.old rows → fault_in plan.now rows ≡ None → AreNoted plan.now rows notes.old → IfErr result (IsCauseAfter plan.now rows row) }
 {
-    let mut before = Before {
-        due: None,
-        state: None,
-        turns: ArrayVec::new(),
-    };
-    match step(plan, levels, auditor, notes, row, &mut before) {
-        Ok(()) => Ok(()),
+    // Read so that the plan is known to be an accepted one.
+    let _accepted = plan.cores();
+    let state = auditor.state(row.core);
+    let turns = turns_for(plan, auditor, row);
+    let mut due = None;
+    match auditor.feed_telling(row, &mut due) {
+        Ok(()) => {
+            notes.note(plan, levels, state, row);
+            Ok(())
+        }
         Err(fault) => Err(Cause {
             fault,
             row,
-            due: before.due,
-            state: before.state,
-            turns: before.turns,
+            due,
+            state,
+            turns,
             notes: notes.take(alloc),
         }),
     }

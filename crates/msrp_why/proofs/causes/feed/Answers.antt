@@ -11,7 +11,7 @@ use Rattle.std.specs.Prelude.{◌≡◌, None}
 use Rattle.msrp_why.specs.Causes.{IsCauseAfter, cores_due}
 use Rattle.msrp_why.specs.Noted.{AreNoted}
 use Rattle.msrp_why.proofs.Causing.{cause_is, good_answer, good_start, told_before}
-use Rattle.msrp_why.proofs.causes.step.Goals as goal
+use Rattle.msrp_why.proofs.causes.feed.Goals as goal
 
 pub returns-in-Ok-clause-good : goal.returns-in-Ok-clause-good
 returns-in-Ok-clause-good c = λ rows fed. subst (λ (p : PlanModel). fault_in p (rows ++ c.args.row ∷ []) ≡ None) c.requires.plan (good_answer _ c.in-Ok.field-0 (c.in-Ok.ensures.answer rows fed))
@@ -26,10 +26,10 @@ returns-in-Ok-clause-noted c = λ rows fed noted.
 
 pub returns-in-Err-clause-cause : goal.returns-in-Err-clause-cause
 returns-in-Err-clause-cause c = λ rows fed good noted.
-    let P : PlanModel → Type 0 = λ p. IsCauseAfter p rows c.args.row (record { fault = c.in-Err.fault; row = c.args.row; due = c.feed_telling.new.told; state = c.state-state.result; turns = c.turns_for-before.result; notes = c.args.notes.now }) in
+    let P : PlanModel → Type 0 = λ p. IsCauseAfter p rows c.args.row (record { fault = c.in-Err.fault; row = c.args.row; due = c.feed_telling.new.told; state = c.state-state.result; turns = c.turns_for-turns.result; notes = c.take.result }) in
     let a = c.args.auditor.now in
-    let turned : (before : List Row) → HasFed a before → a.fault ≡ None → length before < a.plan.cores * a.plan.ticks → is_in_turn a.plan before c.args.row ≡ false → c.turns_for-before.result.items ≡ cores_due a.plan before =
-    λ before. subst (λ (p : PlanModel). HasFed a before → a.fault ≡ None → length before < p.cores * p.ticks → is_in_turn p before c.args.row ≡ false → c.turns_for-before.result.items ≡ cores_due p before) (sym c.requires.plan) (c.turns_for-before.ensures before) in
+    let turned : (before : List Row) → HasFed a before → a.fault ≡ None → length before < a.plan.cores * a.plan.ticks → is_in_turn a.plan before c.args.row ≡ false → c.turns_for-turns.result.items ≡ cores_due a.plan before =
+    λ before. subst (λ (p : PlanModel). HasFed a before → a.fault ≡ None → length before < p.cores * p.ticks → is_in_turn p before c.args.row ≡ false → c.turns_for-turns.result.items ≡ cores_due p before) (sym c.requires.plan) (c.turns_for-turns.ensures before) in
     subst P c.requires.plan
-    (cause_is c.args.auditor.now rows c.args.row c.in-Err.fault c.feed_telling.new.told c.state-state.result c.turns_for-before.result c.args.notes.now (subst IsPlan (sym c.requires.plan) c.cores-accepted.ensures.plan)
-    (subst (λ p. AreNoted p rows c.args.notes.now) (sym c.requires.plan) noted) fed (subst (λ (p : PlanModel). fault_in p rows ≡ None) (sym c.requires.plan) good) (c.in-Err.ensures.answer rows fed) c.in-Err.ensures.told c.state-state.ensures turned)
+    (cause_is c.args.auditor.now rows c.args.row c.in-Err.fault c.feed_telling.new.told c.state-state.result c.turns_for-turns.result c.take.result (subst IsPlan (sym c.requires.plan) c.cores-accepted.ensures.plan)
+    (subst (λ p. AreNoted p rows c.take.result) (sym c.requires.plan) (subst (AreNoted c.args.plan.now rows) (sym c.take.ensures) noted)) fed (subst (λ (p : PlanModel). fault_in p rows ≡ None) (sym c.requires.plan) good) (c.in-Err.ensures.answer rows fed) c.in-Err.ensures.told c.state-state.ensures turned)
