@@ -68,7 +68,7 @@ fn write_cores_of<W: Write>(out: &mut Sink<W>, before: &[ByteRecord], n: usize, 
     }
 }
 
-// The same, where there is a lock.
+// The cores whose tasks lock the resource of a lock, where there is one.
 fn write_cores<W: Write>(out: &mut Sink<W>, before: &[ByteRecord], found: Option<usize>)
     requires { IfSome found (λ i. i < length before.now) }
     ensures { Wrote W.contents out.old out.new (cores_text (map fields_of before.now) found) }

@@ -62,7 +62,7 @@ abbrev pub state_in : PlanModel → List JobId → Phase → List ActiveJob → 
 state_in plan taken phase active j =
     record { job = j; started = is_among taken j; queued = is_waiting_phase phase && is_newest active j; done = if is_among taken j then done_in plan active j else 0 }
 
--- the newest with one unit more behind it: with its last it goes no more
+-- the newest with one unit more behind it: with its last it is active no more
 abbrev pub advanced : PlanModel → List ActiveJob → List ActiveJob
 advanced plan [] = []
 advanced plan (s ∷ below) = if s.done + 1 == length (units plan s.job) then below else record s { done = s.done + 1 } ∷ below

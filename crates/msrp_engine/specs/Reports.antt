@@ -41,7 +41,7 @@ pub record IsReported (plan : PlanModel) (told : Told) (answer : Result Made Cli
   pub found : found_in answer ≡ finding plan told
   pub text : IfOk answer (λ made. made.text.items ≡ report_shown plan told.rows made.found)
 
--- the answer of a text that stands for a plan, or of one that is refused, and of the records of a trace's text
+-- the answer to a text that stands for a plan, or to one that is refused, and to the records of a trace's text
 abbrev pub IsReportOf : Result PlanModel TextError → List (List (List ℕ)) → Result Made CliFault → Type 0
 IsReportOf (Ok plan) records answer = IsReported plan (rows_of plan records) answer
 IsReportOf (Err error) records answer = answer ≡ Err (fault_of error)

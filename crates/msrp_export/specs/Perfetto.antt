@@ -152,6 +152,6 @@ slice_end plan rows tick time Cores c = row_end time c (last_row c (rows_before 
 slice_end plan rows tick time Tasks t = task_end time t (doing_before plan rows tick t)
 slice_end plan rows tick time Resources g = holder_end time g (holder g (rows_before plan rows tick))
 
--- so do all, and the text
+-- all slices that are open end so, and so does the text
 unfoldable pub ends_text : PlanModel → List Row → ℕ → ℕ → List ℕ
 ends_text plan rows tick time = each plan (slice_end plan rows tick time) ++ codes "\n]}\n"

@@ -182,7 +182,7 @@ fn add_head_of<W: Write>(out: &mut Sink<W>, format: Format, plan: &Plan, group: 
     }
 }
 
-// What it says of all of a group.
+// What the head says of all of a group.
 fn add_heads_of<W: Write>(out: &mut Sink<W>, format: Format, plan: &Plan, group: Group)
     ensures { Wrote W.contents out.old out.new (each_of plan.now (head_of format plan.now) group) }
 {

@@ -22,7 +22,7 @@ abbrev pub mark_shapes : PlanModel → Rule → Row → List Shape
 mark_shapes plan rule r =
     Block (lasting r.tick (r.tick + 1) (row_room plan r r.job) (Breaks rule) r.job r.res) ∷ [] ++ Text (record { line = (row_room plan r r.job).top - 3; words = Broken rule r.tick }) ∷ []
 
--- the same if it is drawn
+-- its mark, if it is drawn
 abbrev pub drawn_mark : PlanModel → Window → Rule → Row → List Shape
 drawn_mark plan w rule r = if is_in w r then mark_shapes plan rule r else []
 

@@ -1,4 +1,4 @@
--- Places in a picture in SVG, in its units: the cores, each with its own lane and those of its tasks, and below them the lanes of the global resources.
+-- Places in a picture in SVG, in its units: the cores, each with its own lane and those of its ceilings and its tasks, and below them the lanes of the global resources.
 use Rattle.std.specs.Prelude.{ℕ, Bool, ◌&&◌, ◌||◌, ◌==◌, nat_lt, if◌then◌else◌, Option, Some, None, filter, length, max, min, ◌+◌, ◌-◌, ◌*◌, ◌/◌}
 use Rattle.std.specs.List.{range_with_len}
 use Rattle.msrp_plan.specs.Plan.{PlanModel, task_at}

@@ -1,5 +1,5 @@
--- A picture of a trace in SVG: the verdict, a lane for each core with who has its turn, below it a lane for each of its tasks with what that does, a lane for each
--- global resource with its queue, and the first row that breaks a rule.
+-- A picture of a trace in SVG: the verdict, a lane for each core with who has its turn, one with its ceiling, below them a lane for each of its tasks with what
+-- that does, a lane for each global resource with its queue, and the first row that breaks a rule.
 use Rattle.std.specs.Prelude.{ℕ, List, ◌++◌, Option, Ok, Err, codes, decimal, max, min, ◌+◌, ⊤}
 use Rattle.std.specs.List.{flat_map}
 use Rattle.std.specs.declared.result.Result.{Result}

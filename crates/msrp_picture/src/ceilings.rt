@@ -72,7 +72,7 @@ fn push_raised(spans: &mut Vec<Span>, room: Room, tick: u64, ceiling: u32) -> Re
     Ok(())
 }
 
-// The same after the tick of each of the core's rows.
+// The ticks of the core's rows after which a ceiling above 0 stands, each with it.
 fn spans_of(
     alloc: Global,
     plan: &Plan,

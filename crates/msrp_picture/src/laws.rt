@@ -14,7 +14,7 @@ pub fn each_row_in_one_block()
     ensures { (lane : Lane) (rows : List Row) → EachRowInOneBlock lane rows }
 {}
 
-/// After each tick of a legal run a core's lane shows the current ceiling of the policy.
+/// After rows with which a legal run starts, the ceiling that a core's rows tell is the current ceiling of the policy.
 pub fn each_ceiling_is_the_policys()
     ensures { (plan : PlanModel) → ShowsTheCeiling plan }
 {}

@@ -26,13 +26,13 @@ claim_with claim g Leave = Free
 abbrev pub claim_after : List ResCall → Phase
 claim_after calls = fold (λ claim s. claim_with claim s.0 s.1) Free calls
 
--- a core requests where it is free, polls what it awaits, and releases what it holds
+-- the call is due: a core requests where it is free, polls what it awaits, and releases what it holds
 abbrev pub IsDueCall : Phase → ResId → Call → Type 0
 IsDueCall claim g (Ask n) = claim ≡ Free
 IsDueCall claim g (Poll granted) = claim ≡ Queued g
 IsDueCall claim g Leave = claim ≡ Holding g
 
--- each call is made in its turn
+-- each call was due when it was made
 abbrev pub IsRegularFrom : Phase → List ResCall → Type 0
 IsRegularFrom claim [] = ⊤
 IsRegularFrom claim (s ∷ calls) = IsDueCall claim s.0 s.1 × IsRegularFrom (claim_with claim s.0 s.1) calls

@@ -61,7 +61,7 @@ pub fn core_runs()
 {}
 
 /// The calls that a core makes of global resources and the rows that they make agree on what it holds or
-/// awaits: a call in its turn leaves it as a row of the call's kind does.
+/// awaits: a call that is due leaves it as a row of the call's kind does.
 pub fn calls()
     ensures { (claim : Phase) (g : ResId) (call : Call) → IsDueCall claim g call → phase_with claim (kind_of_call call) (Some g) ≡ claim_with claim g call }
 {}

@@ -58,7 +58,7 @@ due_least plan rows begun t k x ok task is from l =
 pub due_before : (plan : PlanModel) (rows : List Row) (begun t k : ℕ) (x : TaskTally) → IsPlan plan → t < length plan.tasks → IsTaskTally plan rows begun t x → x.released ≤ k → k < length (jobs_of plan t) → begun ≤ release plan (job_at t k)
 due_before plan rows begun t k x ok task is from l = let least = due_least plan rows begun t k x ok task is from l in let later = is.later in omega (arith, least, later)
 
--- no job of the task is released from the last tick that has begun to its due tick
+-- no job of the task is released from the ticks that have begun to its next release
 task_quiet : (plan : PlanModel) (rows : List Row) (begun t : ℕ) (x : TaskTally) → IsPlan plan → t < length plan.tasks → IsTaskTally plan rows begun t x → NoJobReleased plan t begun x.due
 task_quiet plan rows begun t x ok task is k l from = elim (cases_lt k x.released) [
   | inl come ↦ let past = is.past k come in absurd (omega (arith, past, from))
@@ -217,7 +217,7 @@ due_within plan rows begun n tasks x y are task ix iy due left =
     omega (arith, within, same)
 
 -- ---- ticks without a release
--- with the due tick of one task more
+-- with the next release of one task more
 pub quiet_more : (plan : PlanModel) (rows : List Row) (begun n to : ℕ) (tasks : List TaskTally) (x : TaskTally) → IsPlan plan → n < length plan.tasks → AreTallies plan rows (begun_below begun (n + 1)) tasks → x ≡ get_or tasks n x → NoneReleased plan n (begun + 1) to → NoneReleased plan (n + 1) (begun + 1) (min to x.due)
 quiet_more plan rows begun n to tasks x ok task are is quiet t l k within from =
     let here = are.each n x (read_task plan rows (begun_below begun (n + 1)) n tasks x are task is) in

@@ -19,7 +19,7 @@ use Rattle.msrp_report.specs.declared.lines.Line.{Line}
 abbrev pub last_tick : JobId → List Row → ℕ
 last_tick j rows = fold (λ _ r. r.tick) 0 (filter (is_row_of j) rows)
 
--- the tick in which the job would have to be finished: its absolute deadline
+-- the absolute deadline of the job: by then it would have to be finished
 abbrev pub absolute_deadline : PlanModel → JobId → ℕ
 absolute_deadline plan j = (key plan j).deadline
 

@@ -56,13 +56,13 @@ known_by calls c g bound all among = elim (cases_lt g bound) [
   | inr past ↦ absurd (subst (λ h. IsAmong (lock_from free_lock h).queue c) (none_on calls g bound past (recursion_from_All (λ e. e.res.0 < bound) calls all)) among)
 ]
 
--- a request of a free core is made in its turn, whatever the reply
+-- a request of a free core is due, whatever the reply
 pub asked_in_turn : (claim : Phase) (res : ResId) (reply : Reply) → claim ≡ Free → IsDueCall claim res (asked reply)
 asked_in_turn claim res Taken free = free
 asked_in_turn claim res (Replied n) free = free
 
 -- ---- what the tickets answer
--- a call in its turn that is answered as the tickets stand is answered as its lock answers
+-- a call that is due, and answered as the tickets stand, is answered as its lock answers
 module _ (locks : ℕ → FifoLock) (claims : ℕ → Phase) (q : Queues) (serving : IsServing locks claims q) (c : ℕ) (res : ResId) where
   poll_answers : (granted : Bool) → claims c ≡ Queued res → granted ≡ (ticket_of q c == (queue_of q res.0).serving) → Answers (locks res.0) c (Poll granted)
   poll_answers true queued is =

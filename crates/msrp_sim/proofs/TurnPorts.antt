@@ -27,7 +27,7 @@ no_call (Some e) h = absurd (true≢false (sym h))
 abbrev pub call_with : CoreId → ResId → Call → Option PortCall
 call_with core res call = Some (record { core = core; res = res; call = call })
 
--- a call in its turn, answered as the tickets stand, is the call of the turn
+-- a call that is due, answered as the tickets stand, is the call of the turn
 pub port_adds : (before : List PortCall) (first queues : Queues) (core k : CoreId) (resources : ℕ) (res : ResId) (made : Call) (call : Option PortCall) → IsTurnPort before first queues call → 0 < (port_after before core resources call).rooms k.0
     → IsDueCall (claim_in k.0 (before ++ as_calls call)) res made → IsTold queues k.0 res.0 made
     → Adds k res made (port_after before core resources call) (port_after before core resources (call_with k res made)) × IsTurnPort before first queues (call_with k res made)

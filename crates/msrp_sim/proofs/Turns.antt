@@ -101,7 +101,7 @@ module _ (old new : CoresModel) (c : ℕ) (r : Row) (rows : List Row) (cores : A
   is_turn : IsTurn old.plan rows r
   is_turn = turn_of old.plan rows r turn_row.own (chosen_local old.plan c rows r are_own turn_row) (action_local old.plan c rows r are_own turn_row)
 
-  -- the call of the turn, if it makes one, is made in its turn, and answered as the lock answers it
+  -- the call of the turn, if it makes one, is due, and answered as the lock answers it
   pub in_phase : (mc : MakesCallOf old.queues t.before t.after r t.call) → IsDueCall (phases_at rows r.core.0) mc.res mc.call
   in_phase mc = subst (λ p. IsDueCall p mc.res mc.call) ((stands.logs c t.before t.has).phase ∙ ap (phases_at rows) (sym turn_row.core)) mc.turn
 

@@ -38,7 +38,7 @@ pub record TurnPortModel : Type 0 where
   pub resources : ℕ
   pub call : Option PortCall
 
--- a call that is made in its turn after the others, and answered as the tickets stand
+-- a call that is due after the others, and answered as the tickets stand
 pub record IsCallAfter (before : List PortCall) (q : Queues) (e : PortCall) : Type 0 where
   pub turn : IsDueCall (claim_in e.core.0 before) e.res e.call
   pub told : IsTold q e.core.0 e.res.0 e.call
@@ -52,7 +52,7 @@ pub record IsTurnPort (before : List PortCall) (first queues : Queues) (call : O
 abbrev pub no_queues : Queues
 no_queues = record { queues = []; tickets = [] }
 
--- the call of a turn: the row is the one that it makes, and it is made in its turn and answered as the tickets stand
+-- the call of a turn: the row is the one that it makes, and it is due and answered as the tickets stand
 pub record MakesCallOf (q : Queues) (old new : MachineModel) (r : Row) (made : Option PortCall) : Type 0 where
   pub res : ResId
   pub resource : r.res ≡ Some res

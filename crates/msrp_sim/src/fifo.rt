@@ -98,7 +98,7 @@ impl FifoPort {
         self.queues.grants(core, res)
     }
 
-    // A call that is made in its turn, and answered as the lock answers it.
+    // A call that is due, and answered as the lock answers it.
     fn serve(&mut self, call: PortCall)
         requires room { 0 < (as_port self.old).rooms call.core.0 }
         requires resource { call.res.0 < self.old.resources }

@@ -39,7 +39,7 @@ position_plan (Cores version) = empty_plan 0 0
 position_plan (Ticks version cores) = empty_plan cores 0
 position_plan (Body version plan) = plan
 
--- a position is refused with its fault if it has one, else it goes on as it should but for want of memory
+-- a record is refused with its position's fault if that has one, else its position goes on as it should but for want of memory
 abbrev pub IsTaken : {A : Type 0} → Option PlanFault → A → Result A PlanFault → Type 0
 IsTaken (Some fault) next r = r ≡ Err fault
 IsTaken None next r = (r ≡ Err Memory) ⊎ (r ≡ Ok next)

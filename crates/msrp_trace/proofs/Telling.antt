@@ -85,7 +85,7 @@ pub read_gives : (number : ℕ) (o : Option TraceFault) (told : Option Row) (r :
 read_gives number None told r h = (refl, h)
 read_gives number (Some fault) told r h = absurd (cc)
 
--- ---- what is left at a state
+-- ---- what is left in a state
 pub left_rows : {A : Type 0} (f : A → Told) (state : ReaderState) (o : Option A) (told : Told) → state ≡ Rows → left_at state (option_map f o) ≡ Some told → (left : A) × (o ≡ Some left) × (told ≡ f left)
 left_rows {A = A} f state o told s h = by_left o (sym (ap (λ t. left_at t (option_map f o)) s) ∙ h)
   where

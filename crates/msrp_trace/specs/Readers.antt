@@ -26,7 +26,7 @@ use Rattle.msrp_trace.specs.declared.reading.Unopened.{Unopened}
 abbrev pub nothing_left : Told
 nothing_left = record { rows = []; refusal = None }
 
--- what is left at a state, where the records tell that
+-- what is left in a state, where the records tell that
 abbrev pub left_at : ReaderState → Option Told → Option Told
 left_at Rows told = told
 left_at Ended told = Some nothing_left

@@ -372,7 +372,8 @@ impl<'a, R: Read> TraceReader<'a, R> {
         self.next_anew(foresee)
     }
 
-    /// The same, but it isn't looked first whether the core does its last row again, as [`TraceReader::next_again`] looks.
+    /// The next row, as by [`TraceReader::next_foreseen`], but it isn't looked first whether the core does its last row again: that is for
+    /// [`TraceReader::next_again`].
     #[inline(never)]
     pub fn next_anew<F: FnOnce(CoreId) -> Option<Row>>(
         &mut self,

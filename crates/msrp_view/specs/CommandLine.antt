@@ -108,7 +108,7 @@ export_by _ _ = None
 abbrev pub export_told : List Row → Option (Format × Text × Text)
 export_told rows = export_by (paths_of rows) (format_of (is_given (codes "vcd") rows) (is_given (codes "perfetto") rows))
 
--- the same, where nothing is said of a picture
+-- an export, where nothing is said of a picture
 abbrev pub export_of : List Row → Option (Format × Text × Text)
 export_of rows = if says_picture rows then None else export_told rows
 

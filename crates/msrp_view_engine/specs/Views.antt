@@ -62,7 +62,7 @@ abbrev pub IsPictureIn : Asked → PlanModel → Told → Option Window → Resu
 IsPictureIn asked plan told (Some w) answer = IsPictureTold asked plan told.rows told.refusal w answer
 IsPictureIn asked plan told None answer = answer ≡ Err Usage
 
--- the answer of a text that stands for a plan, or of one that is refused, and of the records of a trace's text
+-- the answer to a text that stands for a plan, or to one that is refused, and to the records of a trace's text
 abbrev pub IsPictureOf : Result PlanModel TextError → List (List (List ℕ)) → Asked → Result Made CliFault → Type 0
 IsPictureOf (Ok plan) records asked answer = IsPictureIn asked plan (rows_of plan records) (window_of plan asked) answer
 IsPictureOf (Err error) records asked answer = answer ≡ Err (fault_of error)

@@ -68,7 +68,7 @@ pub record IsWhy (plan : PlanModel) (told : Told) (answer : Result Made CliFault
   pub found : found_in answer ≡ finding plan told
   pub words : IfOk answer (λ made. AreWords plan told.rows made.found made.text.items)
 
--- the answer of a text that stands for a plan, or of one that is refused, and of the records of a trace's text
+-- the answer to a text that stands for a plan, or to one that is refused, and to the records of a trace's text
 abbrev pub IsWhyOf : Result PlanModel TextError → List (List (List ℕ)) → Result Made CliFault → Type 0
 IsWhyOf (Ok plan) records answer = IsWhy plan (rows_of plan records) answer
 IsWhyOf (Err error) records answer = answer ≡ Err (fault_of error)

@@ -25,7 +25,7 @@ pub struct Cause {
     pub fault: Fault,
     /// The row that breaks the rule.
     pub row: Row,
-    /// The row that was due of its core, where the core had a turn left.
+    /// The row that was due of its core, where the row is in its turn.
     pub due: Option<Row>,
     /// What decided before the row who had the turn of its core, where the plan has the core.
     pub state: Option<CoreState>,

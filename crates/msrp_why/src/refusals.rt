@@ -47,8 +47,8 @@ fn write_said<W: Write>(out: &mut Sink<W>, plan: &Plan, misfit: Misfit, row: &By
     write_allowed(out, plan, misfit);
 }
 
-/// Writes the code and the number of a refused record of a trace with the field that is wrong and what it should be, and the record as it stands: the first
-/// bytes of its first fields, each in brackets. A record without fields stands for the end of the text.
+/// Writes the code and the number of a refused record of a trace with the field that is wrong and what it should be, and the record as it stands, with its line: the
+/// first bytes of its first fields, each in brackets. A record without fields stands for the end of the text.
 pub fn write_refused<W: Write>(
     out: &mut Sink<W>,
     plan: &Plan,

@@ -196,7 +196,7 @@ fn is_any_lacking(rows: &[Numbered]) -> bool
     rows.iter().any(|row| lacks_ahead(*row))
 }
 
-// Where the trace doesn't tell the jobs ahead, that one that does is faulted earlier.
+// That a trace which tells the jobs ahead is faulted earlier, where this one doesn't tell them.
 fn write_ahead<W: Write>(out: &mut Sink<W>, rows: &[Numbered])
     ensures { Wrote W.contents out.old out.new (ahead_line rows.now) }
 {
@@ -207,7 +207,7 @@ fn write_ahead<W: Write>(out: &mut Sink<W>, rows: &[Numbered])
     }
 }
 
-// Who stands in the queue of a resource, and its last release.
+// Who stands in the queue of a resource, its last release, and the line on jobs ahead that aren't told.
 fn write_noted<W: Write>(out: &mut Sink<W>, plan: &Plan, notes: &ResourceNotes)
     ensures { Wrote W.contents out.old out.new (resource_lines plan.now notes.now) }
 {

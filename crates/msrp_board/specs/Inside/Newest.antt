@@ -118,7 +118,7 @@ IsClaimInTurn l g (Ask a) = l ≡ Nothing
 IsClaimInTurn l g (Poll p) = (t : ℕ) × (l ≡ Waits g t)
 IsClaimInTurn l g Leave = (t : ℕ) × (l ≡ Holds g t)
 
--- each call is made in its turn
+-- each call was due when it was made
 abbrev pub IsRegularNewest : List Entry → Type 0
 IsRegularNewest [] = ⊤
 IsRegularNewest (e ∷ es) = IsRegularNewest es × IsClaimInTurn (claim_of es) e.res.0 e.call

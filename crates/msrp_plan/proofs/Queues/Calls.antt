@@ -7,7 +7,7 @@ use Rattle.msrp_plan.specs.declared.units.Call.{Call}
 use Rattle.msrp_plan.specs.declared.units.Call.TheVariants.{Ask, Poll, Leave}
 use Rattle.msrp_plan.specs.declared.units.Phase.{Phase}
 
--- a call that is made in its turn, and the row of its kind
+-- a call that is due, and the row of its kind
 pub call_as_row : (claim : Phase) (g : ResId) (call : Call) → IsDueCall claim g call → phase_with claim (kind_of_call call) (Some g) ≡ claim_with claim g call
 call_as_row claim g (Ask zero) turn = refl
 call_as_row claim g (Ask (suc n)) turn = refl

@@ -39,7 +39,7 @@ abbrev pub is_busy : PlanModel → ℕ → List Row → List JobId → Bool
 is_busy plan g pre [] = false
 is_busy plan g pre (y ∷ ys) = is_holds (stand plan g pre y)
 
--- ---- the invariant: x waits behind others, and n admissions came since it queued
+-- ---- the invariant: x waits behind others, and n acquisitions came since it queued
 pub record IsBehind (plan : PlanModel) (g : ℕ) (x : JobId) (pre : List Row) (n : ℕ) : Type 0 where
   pub ahead : List JobId
   pub behind : List JobId
@@ -215,7 +215,7 @@ queued_for plan pre r x g ok d on kind =
       | Releases h eo ek eg ↦ absurd (let k : Release ≡ Queue = sym ek ∙ kind in cc)
     ]
 
--- at most m - 1 admissions of others while a job waits
+-- at most m - 1 acquisitions by others while a job waits
 pub bounded_overtaking : (plan : PlanModel) (rows : List Row) → IsPlan plan → IsRunStart plan rows → BoundedOvertaking plan rows
 bounded_overtaking plan rows ok run = λ pre r since post j g e w.
     let all : EachAfter (IsLegal plan) [] (pre ++ r ∷ (since ++ post)) = subst (EachAfter (IsLegal plan) []) e run.each in

@@ -29,7 +29,7 @@ other_before plan x j other b = true_from_ne_false (is_before plan x j) (λ e. o
 open_live : (plan : PlanModel) (pre : List Row) (r : Row) (j : JobId) → IsActive plan pre r j → is_live plan pre j ≡ true
 open_live plan pre r j o = live plan pre j o.started o.unfinished
 
--- comes before whoever is open
+-- comes before whoever is active
 preempts : (plan : PlanModel) (pre : List Row) (r : Row) (x j : JobId) → is_started pre x ≡ false → choice plan r.core.0 r.tick pre ≡ Some x → IsActive plan pre r j → is_before plan x j ≡ true
 preempts plan pre r x j fresh turn o =
     other_before plan x j (λ e. true≢false (sym o.started ∙ subst (λ y. is_started pre y ≡ false) (sym e) fresh)) (turn_least plan r.core.0 r.tick pre x j turn o.on (open_live plan pre r j o))
