@@ -6,7 +6,7 @@ import subprocess
 from collections import Counter
 from pathlib import Path
 
-from .inputs import HANDOVER_WITHIN_A_TICK, WORK_THEN_IDLE
+from .inputs import HANDOVER_A_TICK_LATER, HANDOVER_WITHIN_A_TICK, WORK_THEN_IDLE
 from .program import BROKEN, COMMANDS, GOOD, MEMORY, PICTURES, PROGRAM, READ_FAULT, THREADS, TOP, WANT, WRITE_FAULT, Answer, ask, fault_of, is_whole, judges, program_of, varies, words_of
 from .sweep import kept
 
@@ -252,12 +252,13 @@ def pieces(inputs, preloaded, place):
     """All pieces of work of these sweeps, by the sweep's name."""
     few = (WORK_THEN_IDLE, HANDOVER_WITHIN_A_TICK)
     empty = WORK_THEN_IDLE._replace(name="no row", trace=WORK_THEN_IDLE.trace.splitlines(True)[0])
+    read = [(given, command) for given in few for command in (*COMMANDS, *PICTURES)] + [(HANDOVER_A_TICK_LATER, command) for command in filter(judges, COMMANDS)]
     written = [(given, command) for given in few for command in (*COMMANDS, *PICTURES)] + [(empty, command) for command in filter(judges, COMMANDS)]
     everything = {
         "growths refused": [(growths, preloaded, command, given, lasting) for given in inputs for command in COMMANDS for lasting in (False, True)],
         "threads refused": [(threads, preloaded, command, given, lasting) for given in inputs for command in COMMANDS for lasting in (False, True)],
         "single calls refused": [(calls_refused, preloaded, word, call, lasting) for word in ("board", "run") for call in ("growth", "thread") for lasting in (False, True)],
-        "reads failing": [(reads, preloaded, command, given, how) for given in few for command in (*COMMANDS, *PICTURES) for how in ("error", "interrupt")],
+        "reads failing": [(reads, preloaded, command, given, how) for given, command in read for how in ("error", "interrupt")],
         "writes failing": [(writes, preloaded, command, given, how) for given, command in written for how in ("error", "none", "interrupt")[: 2 if command in PICTURES else 3]],
         "one byte a call": [(short_calls, preloaded, command, given) for given in inputs for command in COMMANDS],
     }
