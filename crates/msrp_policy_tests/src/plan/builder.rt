@@ -71,11 +71,6 @@ fn finished(builder: PlanBuilder) -> Result<Plan, Fail> {
     }
 }
 
-// The plan of two tasks.
-fn planned(alloc: Global) -> Result<Plan, Fail> {
-    finished(two_tasks(alloc)?)
-}
-
 // The builder, where its end is refused, with the fault.
 fn unfinished(builder: PlanBuilder) -> Result<(PlanBuilder, PlanFault), Fail> {
     match builder.finish() {
@@ -118,28 +113,10 @@ fn numbers_of(plan: &Plan) -> Option<[u32; 6]> {
     ])
 }
 
-#[test]
-fn numbers_are_read_back(rt: HostRuntime) -> Result<(), Fail> {
-    let plan = planned(rt.alloc())?;
-    assert_eq!(rt; numbers_of(&plan), Some([2, 10, 1, 3, 3, 2]));
-    Ok(())
-}
-
 // When the last task is released.
 fn times_of(plan: &Plan) -> Option<Times> {
     let last = plan.tasks().checked_sub(1)?;
     Some(plan.times(TaskId(last)))
-}
-
-#[test]
-fn times_are_read_back(rt: HostRuntime) -> Result<(), Fail> {
-    let plan = planned(rt.alloc())?;
-    let due = Times::Every {
-        period: 7,
-        offset: 2,
-    };
-    assert_eq!(rt; times_of(&plan), Some(due));
-    Ok(())
 }
 
 // Whether the names of a plan of two resources are these, and name what they are to.
@@ -154,13 +131,6 @@ fn is_named(plan: &Plan) -> bool {
         && plan.res_of("h") == Some(ResId(1))
 }
 
-#[test]
-fn names_are_read_back(rt: HostRuntime) -> Result<(), Fail> {
-    let plan = planned(rt.alloc())?;
-    assert!(rt; is_named(&plan));
-    Ok(())
-}
-
 // Units of the first task, if it has four: the first, the third and the last.
 fn units_of(plan: &Plan) -> Option<[Op; 3]> {
     let task = TaskId(0);
@@ -168,14 +138,6 @@ fn units_of(plan: &Plan) -> Option<[Op; 3]> {
         return None;
     }
     Some([plan.unit(task, 0), plan.unit(task, 2), plan.unit(task, 3)])
-}
-
-#[test]
-fn units_are_read_back(rt: HostRuntime) -> Result<(), Fail> {
-    let plan = planned(rt.alloc())?;
-    let due = [Op::Lock(ResId(1)), Op::Run, Op::Unlock(ResId(1))];
-    assert_eq!(rt; units_of(&plan), Some(due));
-    Ok(())
 }
 
 // When the third job of the first task is released, and its key.
@@ -190,16 +152,50 @@ fn job_of(plan: &Plan) -> Option<(u64, JobKey)> {
     Some((plan.release(job), plan.job_key(job)))
 }
 
+// All that is read of the plan of two tasks.
+#[derive(Clone, Copy)]
+struct ReadBack {
+    numbers: Option<[u32; 6]>,
+    times: Option<Times>,
+    named: bool,
+    units: Option<[Op; 3]>,
+    job: Option<(u64, JobKey)>,
+}
+
+fn read_back(plan: &Plan) -> ReadBack {
+    ReadBack {
+        numbers: numbers_of(plan),
+        times: times_of(plan),
+        named: is_named(plan),
+        units: units_of(plan),
+        job: job_of(plan),
+    }
+}
+
+fn all_read_back(alloc: Global) -> Result<ReadBack, Fail> {
+    let plan = finished(two_tasks(alloc)?)?;
+    Ok(read_back(&plan))
+}
+
 #[test]
-fn jobs_are_read_back(rt: HostRuntime) -> Result<(), Fail> {
-    let plan = planned(rt.alloc())?;
+fn a_plan_is_read_back(rt: HostRuntime) -> Result<(), Fail> {
+    let found = all_read_back(rt.alloc())?;
+    let times = Times::Every {
+        period: 7,
+        offset: 2,
+    };
+    let units = [Op::Lock(ResId(1)), Op::Run, Op::Unlock(ResId(1))];
     let key = JobKey {
         deadline: 14,
         release: 9,
         task: 0,
         k: 2,
     };
-    assert_eq!(rt; job_of(&plan), Some((9, key)));
+    assert_eq!(rt; found.numbers, Some([2, 10, 1, 3, 3, 2]));
+    assert_eq!(rt; found.times, Some(times));
+    assert!(rt; found.named);
+    assert_eq!(rt; found.units, Some(units));
+    assert_eq!(rt; found.job, Some((9, key)));
     Ok(())
 }
 
@@ -214,12 +210,10 @@ fn listed(builder: &mut PlanBuilder, ticks: &[u32]) -> Result<(), PlanFault> {
     Ok(())
 }
 
-// The plan of five ticks with a listed task of one unit.
-fn listing(alloc: Global) -> Result<Plan, Fail> {
-    let mut builder = PlanBuilder::new(alloc, 1, 5)?;
-    listed(&mut builder, &[1, 4, 1_000_000])?;
-    told(&mut builder, &[Step::Run(1)])?;
-    finished(builder)
+// Tells a listed task of one unit.
+fn listing(builder: &mut PlanBuilder) -> Result<(), PlanFault> {
+    listed(builder, &[1, 4, 1_000_000])?;
+    told(builder, &[Step::Run(1)])
 }
 
 // The tick of each release of the only task, if it has three.
@@ -238,7 +232,9 @@ fn releases(plan: &Plan) -> Option<[u64; 3]> {
 
 #[test]
 fn listed_releases_are_read_back(rt: HostRuntime) -> Result<(), Fail> {
-    let plan = listing(rt.alloc())?;
+    let mut builder = PlanBuilder::new(rt.alloc(), 1, 5)?;
+    listing(&mut builder)?;
+    let plan = finished(builder)?;
     assert_eq!(rt; releases(&plan), Some([1, 4, 1_000_000]));
     Ok(())
 }
@@ -293,20 +289,6 @@ fn mended(builder: &mut PlanBuilder) -> Result<ResId, PlanFault> {
     Ok(added)
 }
 
-// What is refused to a builder that holds g, its end too, and the plan that it then makes.
-fn gone_on(alloc: Global) -> Result<([Option<PlanFault>; 3], ResId, Plan), Fail> {
-    let mut builder = started(alloc, &[Step::Lock(ResId(0))])?;
-    let [taken, nesting] = refused(&mut builder);
-    let (builder, fault) = unfinished(builder)?;
-    let (added, plan) = gone_to_the_end(builder)?;
-    Ok(([taken, nesting, Some(fault)], added, plan))
-}
-
-fn gone_to_the_end(mut builder: PlanBuilder) -> Result<(ResId, Plan), Fail> {
-    let added = mended(&mut builder)?;
-    Ok((added, finished(builder)?))
-}
-
 // How many resources a plan has, and how many units its only task has.
 fn sizes(plan: &Plan) -> Option<[u32; 2]> {
     if plan.tasks() != 1 {
@@ -315,12 +297,30 @@ fn sizes(plan: &Plan) -> Option<[u32; 2]> {
     Some([plan.resources(), plan.units(TaskId(0))])
 }
 
+// Of a builder that was mended: the resource that was added, and the sizes of the plan.
+fn gone_to_the_end(mut builder: PlanBuilder) -> Result<(ResId, Option<[u32; 2]>), Fail> {
+    let added = mended(&mut builder)?;
+    let plan = finished(builder)?;
+    Ok((added, sizes(&plan)))
+}
+
+// What is refused to a builder that holds g, its end too, and what it then makes.
+type GoneOn = ([Option<PlanFault>; 3], ResId, Option<[u32; 2]>);
+
+fn gone_on(alloc: Global) -> Result<GoneOn, Fail> {
+    let mut builder = started(alloc, &[Step::Lock(ResId(0))])?;
+    let [taken, nesting] = refused(&mut builder);
+    let (builder, fault) = unfinished(builder)?;
+    let (added, made) = gone_to_the_end(builder)?;
+    Ok(([taken, nesting, Some(fault)], added, made))
+}
+
 #[test]
 fn a_refused_builder_goes_on(rt: HostRuntime) -> Result<(), Fail> {
-    let (faults, added, plan) = gone_on(rt.alloc())?;
+    let (faults, added, made) = gone_on(rt.alloc())?;
     let due = [PlanFault::Taken, PlanFault::Nesting, PlanFault::Nesting].map(Some);
     assert_eq!(rt; faults, due);
     assert_eq!(rt; added, ResId(2));
-    assert_eq!(rt; sizes(&plan), Some([3, 2]));
+    assert_eq!(rt; made, Some([3, 2]));
     Ok(())
 }
