@@ -7,9 +7,10 @@ ghost use Rattle.msrp_plan.specs.declared.ids.ResId.{ResId as Resource};
 use crate::plans::plan_of;
 use msrp_audit::Auditor;
 use msrp_levels::Levels;
-use msrp_plan::{CoreId, Fault, JobId, Kind, ResId, Row, Rule, TaskId};
+use msrp_plan::{CoreId, Fault, JobId, Kind, Plan, ResId, Row, Rule, TaskId, Trace};
 use msrp_sim::{Order, simulate};
-use std::test::*;
+use std::alloc::Global;
+use std::test::Fail;
 
 const G: ResId = ResId(0);
 
@@ -79,68 +80,120 @@ fn handover() -> [Row; 12] {
     ]
 }
 
-// A task on each of eight cores, which want one resource, in the longest run of the most cores.
-const CROWD: &[u8] =
-    b"msrp,1\ncores,8\nticks,20000\nresource,g\ntask,a,0,20,8,0\nop,lock,g\nop,run,1\nop,unlock,g\ntask,b,1,20,8,0\nop,lock,g\nop,run,1\nop,unlock,g\ntask,c,2,20,8,0\nop,lock,g\nop,run,1\nop,unlock,g\ntask,d,3,20,8,0\nop,lock,g\nop,run,1\nop,unlock,g\ntask,e,4,20,8,0\nop,lock,g\nop,run,1\nop,unlock,g\ntask,f,5,20,8,0\nop,lock,g\nop,run,1\nop,unlock,g\ntask,g,6,20,8,0\nop,lock,g\nop,run,1\nop,unlock,g\ntask,h,7,20,8,0\nop,lock,g\nop,run,1\nop,unlock,g\n";
+// What an auditor is told, and what it is to answer.
+#[derive(Clone, Copy)]
+enum Told {
+    Feed(Row, Result<(), Fault>),
+    End(Result<(), Fault>),
+}
 
-// A row is foreseen in each turn, also where a job of its core is released, in each twentieth, or starts; and none after the last.
-#[test]
-fn each_row_is_foreseen(rt: HostRuntime) -> Result<(), Fail> {
-    let plan = plan_of(rt.alloc(), CROWD)?;
-    let levels = Levels::of(rt.alloc(), &plan)?;
-    let Ok(trace) = simulate(rt.alloc(), &plan, &Order::Rot) else {
-        return Err(Fail::from("memory"));
-    };
-    let mut auditor = Auditor::with_room(rt.alloc(), &plan, &levels)?;
-    for row in &trace.rows {
-        assert_eq!(&rt; auditor.foresee(row.core), Some(*row));
-        assert_eq!(&rt; auditor.feed(*row), Ok(()));
+use Told::{End, Feed};
+
+fn answers(auditor: &mut Auditor<'_>, told: Told) -> bool {
+    match told {
+        Feed(row, due) => auditor.feed(row) == due,
+        End(due) => auditor.end() == due,
     }
-    for core in 0..9 {
-        assert_eq!(&rt; auditor.foresee(CoreId(core)), None);
+}
+
+// The first that isn't answered so, by its place.
+fn first_wrong(auditor: &mut Auditor<'_>, all: &[Told]) -> Option<usize> {
+    for (at, told) in all.iter().enumerate() {
+        if !answers(auditor, *told) {
+            return Some(at);
+        }
     }
-    Ok(())
+    None
+}
+
+fn wrong(alloc: Global, all: &[Told]) -> Result<Option<usize>, Fail> {
+    let plan = plan_of(alloc, PLAN)?;
+    let levels = Levels::of(alloc, &plan)?;
+    let mut auditor = Auditor::with_room(alloc, &plan, &levels)?;
+    Ok(first_wrong(&mut auditor, all))
+}
+
+fn fault(row: u32, rule: Rule) -> Result<(), Fault> {
+    Err(Fault { row, rule })
 }
 
 #[test]
 fn a_fault_stays(rt: HostRuntime) -> Result<(), Fail> {
-    let plan = plan_of(rt.alloc(), PLAN)?;
-    let levels = Levels::of(rt.alloc(), &plan)?;
-    let mut auditor = Auditor::with_room(rt.alloc(), &plan, &levels)?;
-    let missing = Fault {
-        row: 6,
-        rule: Rule::A6,
-    };
-    let spun = Fault {
-        row: 6,
-        rule: Rule::A5,
-    };
-    let rows = handover();
-    for row in &rows[..5] {
-        assert_eq!(&rt; auditor.feed(*row), Ok(()));
-    }
-    assert_eq!(&rt; auditor.end(), Err(missing));
-    assert_eq!(&rt; auditor.feed(on(2, 1, Kind::Spin, 1)), Err(spun));
-    for row in &rows[6..] {
-        assert_eq!(&rt; auditor.feed(*row), Err(spun));
-    }
-    assert_eq!(&rt; auditor.end(), Err(spun));
+    let [a, b, c, d, e, _, g, h, i, j, k, l] = handover();
+    let spun = fault(6, Rule::A5);
+    let all = [
+        Feed(a, Ok(())),
+        Feed(b, Ok(())),
+        Feed(c, Ok(())),
+        Feed(d, Ok(())),
+        Feed(e, Ok(())),
+        End(fault(6, Rule::A6)),
+        Feed(on(2, 1, Kind::Spin, 1), spun),
+        Feed(g, spun),
+        Feed(h, spun),
+        Feed(i, spun),
+        Feed(j, spun),
+        Feed(k, spun),
+        Feed(l, spun),
+        End(spun),
+    ];
+    assert_eq!(rt; wrong(rt.alloc(), &all)?, None);
     Ok(())
 }
 
 #[test]
 fn a_row_too_many_is_told(rt: HostRuntime) -> Result<(), Fail> {
-    let plan = plan_of(rt.alloc(), PLAN)?;
-    let levels = Levels::of(rt.alloc(), &plan)?;
-    let mut auditor = Auditor::with_room(rt.alloc(), &plan, &levels)?;
-    for row in handover() {
-        assert_eq!(&rt; auditor.feed(row), Ok(()));
+    let [a, b, c, d, e, f, g, h, i, j, k, l] = handover().map(|row| Feed(row, Ok(())));
+    let extra = Feed(idle(5, 1), fault(13, Rule::A7));
+    let all = [a, b, c, d, e, f, g, h, i, j, k, l, End(Ok(())), extra];
+    assert_eq!(rt; wrong(rt.alloc(), &all)?, None);
+    Ok(())
+}
+
+// A task on each of eight cores, which want one resource, in the longest run of the most cores.
+const CROWD: &[u8] =
+    b"msrp,1\ncores,8\nticks,20000\nresource,g\ntask,a,0,20,8,0\nop,lock,g\nop,run,1\nop,unlock,g\ntask,b,1,20,8,0\nop,lock,g\nop,run,1\nop,unlock,g\ntask,c,2,20,8,0\nop,lock,g\nop,run,1\nop,unlock,g\ntask,d,3,20,8,0\nop,lock,g\nop,run,1\nop,unlock,g\ntask,e,4,20,8,0\nop,lock,g\nop,run,1\nop,unlock,g\ntask,f,5,20,8,0\nop,lock,g\nop,run,1\nop,unlock,g\ntask,g,6,20,8,0\nop,lock,g\nop,run,1\nop,unlock,g\ntask,h,7,20,8,0\nop,lock,g\nop,run,1\nop,unlock,g\n";
+
+fn run_of(alloc: Global, plan: &Plan) -> Result<Trace, Fail> {
+    match simulate(alloc, plan, &Order::Rot) {
+        Ok(trace) => Ok(trace),
+        Err(_) => Err(Fail::from("memory")),
     }
-    assert_eq!(&rt; auditor.end(), Ok(()));
-    let extra = Fault {
-        row: 13,
-        rule: Rule::A7,
-    };
-    assert_eq!(&rt; auditor.feed(idle(5, 1)), Err(extra));
+}
+
+// The first row that isn't foreseen, or isn't good, by its place.
+fn first_unforeseen(auditor: &mut Auditor<'_>, rows: &[Row]) -> Option<usize> {
+    for (at, row) in rows.iter().enumerate() {
+        if auditor.foresee(row.core) != Some(*row) || auditor.feed(*row) != Ok(()) {
+            return Some(at);
+        }
+    }
+    None
+}
+
+// Whether a row is foreseen of any of nine cores.
+fn foresees_more(auditor: &Auditor<'_>) -> bool {
+    for core in 0..9u32 {
+        if auditor.foresee(CoreId(core)).is_some() {
+            return true;
+        }
+    }
+    false
+}
+
+// The first row of the longest run that isn't foreseen, and whether one is foreseen after the last.
+fn unforeseen(alloc: Global) -> Result<(Option<usize>, bool), Fail> {
+    let plan = plan_of(alloc, CROWD)?;
+    let levels = Levels::of(alloc, &plan)?;
+    let trace = run_of(alloc, &plan)?;
+    let mut auditor = Auditor::with_room(alloc, &plan, &levels)?;
+    let first = first_unforeseen(&mut auditor, trace.rows.as_slice());
+    Ok((first, foresees_more(&auditor)))
+}
+
+// A row is foreseen in each turn, also where a job of its core is released, in each twentieth, or starts; and none after the last.
+#[test]
+fn each_row_is_foreseen(rt: HostRuntime) -> Result<(), Fail> {
+    assert_eq!(rt; unforeseen(rt.alloc())?, (None, false));
     Ok(())
 }
