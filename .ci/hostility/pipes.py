@@ -5,13 +5,15 @@ import signal
 import subprocess
 import time
 
-from .inputs import HANDOVER_WITHIN_A_TICK, WORK_THEN_IDLE, text
+from .inputs import HANDOVER_WITHIN_A_TICK, WORK_THEN_IDLE, Input, text
 from .program import BROKEN, COMMANDS, GOOD, PROGRAM, READ_FAULT, REFUSED, SECONDS, WRITE_FAULT, Answer, ask, judges, makes_trace, varies, words_of
 from .sweep import kept
 
 # A plan whose trace is longer than a pipe holds: 8 cores and 20,000 ticks.
 LONG_PLAN = text("msrp,1 cores,8 ticks,20000 " + " ".join(f"task,t{core},{core},100,100,0 op,run,5" for core in range(8)))
 LONG_ROWS = 160_001
+# One whose trace takes more than one write, and how much of it a file takes: about as much as is gathered for one.
+PAGES, SIZES = Input("many pages", text("msrp,1 cores,8 ticks,999"), b""), (0, 1, 8191, 8192, 8193, 20000, 100000)
 REST = 0.3  # seconds
 LONG_COMMANDS = tuple(command for command in COMMANDS if makes_trace(command))
 
@@ -71,11 +73,11 @@ def closed_streams(found, command):
     found.judge(answer == Answer(REFUSED, b"", b""), f"{command}, refused with standard error closed", answer)
 
 
-def full_file(found, command):
+def full_file(found, command, given=HANDOVER_WITHIN_A_TICK, sizes=None):
     """A file that may not grow past n bytes holds the first n bytes of the answer."""
-    plan, trace = kept("plan", HANDOVER_WITHIN_A_TICK.plan), kept("trace", HANDOVER_WITHIN_A_TICK.trace)
+    plan, trace = kept("plan", given.plan), kept("trace", given.trace)
     usual = ask(words_of(command, plan, trace)).out
-    for most in range(len(usual) + 1):
+    for most in sizes or range(len(usual) + 1):
         def begin():
             signal.signal(signal.SIGXFSZ, signal.SIG_IGN)
             resource.setrlimit(resource.RLIMIT_FSIZE, (most, most))
@@ -175,5 +177,6 @@ def pieces():
         "pipes, streams, files, signals": [(check, command) for command in COMMANDS for check in checks]
         + [(closed_while_writing, command, ignored) for command in LONG_COMMANDS for ignored in (False, True)]
         + [(stopped_reader, command, goes_on) for command in LONG_COMMANDS for goes_on in (True, False)]
+        + [(full_file, "sim", PAGES, SIZES)]
         + [(ended_while_it_runs, command) for command in COMMANDS if command == "run"],
     }

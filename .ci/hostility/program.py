@@ -6,10 +6,12 @@ from typing import NamedTuple
 
 TOP = Path(__file__).resolve().parent.parent.parent
 PROGRAM = TOP / "crates" / "msrp" / "out" / "msrp"
+VIEWER = TOP / "crates" / "msrp_view" / "out" / "msrp_view"
 SECONDS = 60  # a command that takes longer hangs: `run` on eight threads has few processors where sweeps go side by side
 
 # The commands that the program has: every sweep goes over these. A command that comes later is added here alone.
 COMMANDS = ("sim", "sim --order desc", "sim --order rot --ahead", "run", "run --ahead", "audit", "audit --parallel", "report", "check", "check --text")
+PICTURES = ("--text",)  # the command of the second program whose reads and writes fail in turn
 
 GOOD, FAULT, REFUSED, USAGE, WANT, BROKEN = range(6)  # the statuses
 USAGE_FAULT, MEMORY, THREADS, READ_FAULT, WRITE_FAULT = (b"msrp: %s\n" % what for what in (b"usage", b"memory", b"threads", b"read fault", b"write fault"))
@@ -46,7 +48,7 @@ class Answer(NamedTuple):
 
 def judges(command):
     """Whether the command reads a trace too."""
-    return command.split()[0] in ("audit", "report")
+    return command.split()[0] in ("audit", "report", *PICTURES)
 
 
 def makes_trace(command):
@@ -56,6 +58,15 @@ def makes_trace(command):
 def varies(command):
     """Whether the answer may differ from run to run."""
     return command.split()[0] == "run"
+
+
+def program_of(command):
+    return VIEWER if command in PICTURES else PROGRAM
+
+
+def fault_of(command, line):
+    """The line of a fault, as the command's program tells it."""
+    return line.replace(PROGRAM.name.encode(), program_of(command).name.encode(), 1)
 
 
 def words_of(command, plan, trace):

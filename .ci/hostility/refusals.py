@@ -6,8 +6,8 @@ import subprocess
 from collections import Counter
 from pathlib import Path
 
-from .inputs import HANDOVER_WITHIN_A_TICK, WORK_THEN_IDLE
-from .program import BROKEN, COMMANDS, GOOD, MEMORY, PROGRAM, READ_FAULT, THREADS, TOP, WANT, WRITE_FAULT, Answer, ask, is_whole, judges, varies, words_of
+from .inputs import HANDOVER_A_TICK_LATER, HANDOVER_WITHIN_A_TICK, WORK_THEN_IDLE
+from .program import BROKEN, COMMANDS, GOOD, MEMORY, PICTURES, PROGRAM, READ_FAULT, THREADS, TOP, WANT, WRITE_FAULT, Answer, ask, fault_of, is_whole, judges, program_of, varies, words_of
 from .sweep import kept
 
 HERE = Path(__file__).resolve().parent
@@ -165,10 +165,10 @@ def calls_refused(found, preloaded, word, call, lasting):
 def reads(found, preloaded, command, given, how):
     """Each read of one byte fails in turn: a read fault, and nothing was written."""
     words = words_of(command, *paths_of(given))
-    ample = ask(words)
+    ample = ask(words, program_of(command))
     for number in range(1, MOST_CALLS):
-        answer, told = ask_refusing(preloaded, words, "read", number, how=how, short=True)
-        due = answer == Answer(BROKEN, b"", READ_FAULT) if told else is_ample(command, words, ample, answer)
+        answer, told = ask_refusing(preloaded, words, "read", number, how=how, short=True, program=program_of(command))
+        due = answer == Answer(BROKEN, b"", fault_of(command, READ_FAULT)) if told else is_ample(command, words, ample, answer)
         found.judge(due, f"{given.name}, {command}, read {number} by {how}", answer)
         if not told:
             break
@@ -178,13 +178,15 @@ def reads(found, preloaded, command, given, how):
 
 
 def writes(found, preloaded, command, given, how):
-    """Each write fails in turn, of one byte each: a write fault, and what was written is all before it."""
+    """Each write fails in turn, of one byte each: a write fault, and what was written is all before it; of the second program, which tries what it has
+    gathered once more as it ends, and an interrupted write at once, a first part."""
     words = words_of(command, *paths_of(given))
-    ample = ask(words)
+    ample = ask(words, program_of(command))
     for number in range(1, MOST_CALLS):
-        answer, told = ask_refusing(preloaded, words, "write", number, how=how, short=True)
+        answer, told = ask_refusing(preloaded, words, "write", number, how=how, short=True, program=program_of(command))
         part = len(answer.out) == number - 1 if varies(command) else answer.out == ample.out[:number - 1]
-        due = part and answer[0::2] == (BROKEN, WRITE_FAULT) if told else is_ample(command, words, ample, answer)
+        part = part or command in PICTURES and ample.out.startswith(answer.out)
+        due = part and answer[0::2] == (BROKEN, fault_of(command, WRITE_FAULT)) if told else is_ample(command, words, ample, answer)
         found.judge(due, f"{given.name}, {command}, write {number} by {how}", answer)
         if not told:
             break
@@ -249,12 +251,15 @@ def processes(found, given, cores, place):
 def pieces(inputs, preloaded, place):
     """All pieces of work of these sweeps, by the sweep's name."""
     few = (WORK_THEN_IDLE, HANDOVER_WITHIN_A_TICK)
+    empty = WORK_THEN_IDLE._replace(name="no row", trace=WORK_THEN_IDLE.trace.splitlines(True)[0])
+    read = [(given, command) for given in few for command in (*COMMANDS, *PICTURES)] + [(HANDOVER_A_TICK_LATER, command) for command in filter(judges, COMMANDS)]
+    written = [(given, command) for given in few for command in (*COMMANDS, *PICTURES)] + [(empty, command) for command in filter(judges, COMMANDS)]
     everything = {
         "growths refused": [(growths, preloaded, command, given, lasting) for given in inputs for command in COMMANDS for lasting in (False, True)],
         "threads refused": [(threads, preloaded, command, given, lasting) for given in inputs for command in COMMANDS for lasting in (False, True)],
         "single calls refused": [(calls_refused, preloaded, word, call, lasting) for word in ("board", "run") for call in ("growth", "thread") for lasting in (False, True)],
-        "reads failing": [(reads, preloaded, command, given, how) for given in few for command in COMMANDS for how in ("error", "interrupt")],
-        "writes failing": [(writes, preloaded, command, given, how) for given in few for command in COMMANDS for how in ("error", "interrupt", "none")],
+        "reads failing": [(reads, preloaded, command, given, how) for given, command in read for how in ("error", "interrupt")],
+        "writes failing": [(writes, preloaded, command, given, how) for given, command in written for how in ("error", "none", "interrupt")[: 2 if command in PICTURES else 3]],
         "one byte a call": [(short_calls, preloaded, command, given) for given in inputs for command in COMMANDS],
     }
     if "run" in COMMANDS:

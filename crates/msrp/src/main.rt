@@ -7,19 +7,15 @@
 
 ghost use Rattle.std.specs.Prelude.{◌≡◌, if◌then◌else◌};
 
-#[cfg(test)]
-mod tests;
-
 use msrp_cli::{Input, open, open_both, words_of, write_help};
-pub use msrp_engine::{
+use msrp_engine::{
     CliFault, audit_parallel_text, audit_text, check_text, exit_of, plan_text, report_text,
-    run_text, run_text_if, sim_text,
+    run_text, sim_text,
 };
 use msrp_plan::TextVersion;
 use msrp_plan::bytes::{Sink, Source};
 use msrp_sim::Order;
-pub use msrp_words::command_of;
-use msrp_words::{Cmd, TurnOrder, help_text};
+use msrp_words::{Cmd, TurnOrder, command_of, help_text};
 use std::io;
 use std::io::Write;
 use std::process::ExitCode;

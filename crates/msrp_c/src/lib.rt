@@ -10,8 +10,6 @@ mod audits;
 mod orders;
 mod pictures;
 mod plans;
-#[cfg(test)]
-mod tests;
 mod turns;
 mod whys;
 

@@ -1,18 +1,16 @@
-//! The handover of a global resource between two cores within one tick, and each rule broken in turn.
+//! An auditor that is fed row by row: the handover of a global resource between two cores within one tick.
 ghost use Rattle.std.specs.Prelude.{◌≡◌, Some, true};
 ghost use Rattle.msrp_plan.specs.Shape.{has_shape};
 ghost use Rattle.msrp_plan.specs.declared.ids.JobId.{JobId as Job};
 ghost use Rattle.msrp_plan.specs.declared.ids.ResId.{ResId as Resource};
 
 use crate::plans::plan_of;
-use msrp_audit::{Auditor, audit, audit_parallel};
+use msrp_audit::Auditor;
 use msrp_levels::Levels;
-use msrp_plan::{CoreId, Fault, JobId, Kind, Memory, Plan, ResId, Row, Rule, TaskId, Trace};
+use msrp_plan::{CoreId, Fault, JobId, Kind, Plan, ResId, Row, Rule, TaskId, Trace};
 use msrp_sim::{Order, simulate};
 use std::alloc::Global;
-use std::process::Abort;
-use std::test::*;
-use std::thread::Threads;
+use std::test::Fail;
 
 const G: ResId = ResId(0);
 
@@ -82,88 +80,73 @@ fn handover() -> [Row; 12] {
     ]
 }
 
-// Both auditors answer so.
-fn expect_audit<R: Abort + Threads + Sync>(
-    rt: &R,
-    alloc: Global,
-    plan: &Plan,
-    rows: &[Row],
-    expected: Result<(), Fault>,
-) -> Result<(), Fail> {
-    let mut trace = Trace {
-        rows: Vec::new(alloc),
-    };
-    for row in rows {
-        trace.rows.push(*row)?;
+// What an auditor is told, and what it is to answer.
+#[derive(Clone, Copy)]
+enum Told {
+    Feed(Row, Result<(), Fault>),
+    End(Result<(), Fault>),
+}
+
+use Told::{End, Feed};
+
+fn answers(auditor: &mut Auditor<'_>, told: Told) -> bool {
+    match told {
+        Feed(row, due) => auditor.feed(row) == due,
+        End(due) => auditor.end() == due,
     }
-    let answer: Result<Result<(), Fault>, Memory> = audit(alloc, plan, &trace);
-    assert_eq!(rt; answer, Ok(expected));
-    let answer: Result<Result<(), Fault>, Memory> = audit_parallel(rt, alloc, plan, &trace);
-    assert_eq!(rt; answer, Ok(expected));
-    Ok(())
 }
 
-#[test]
-fn whole_traces_are_good(rt: HostRuntime) -> Result<(), Fail> {
-    let plan = plan_of(rt.alloc(), PLAN)?;
-    let rows = handover();
-    expect_audit(&rt, rt.alloc(), &plan, &rows, Ok(()))?;
-    let missing = Fault {
-        row: 12,
-        rule: Rule::A6,
-    };
-    expect_audit(&rt, rt.alloc(), &plan, &rows[..11], Err(missing))
-}
-
-#[test]
-fn idle_cores_are_judged(rt: HostRuntime) -> Result<(), Fail> {
-    let plan = plan_of(rt.alloc(), b"msrp,1\ncores,2\nticks,2\n")?;
-    let rows = [idle(0, 1), idle(0, 0), idle(1, 0), idle(1, 1)];
-    expect_audit(&rt, rt.alloc(), &plan, &rows, Ok(()))?;
-    let missing = Fault {
-        row: 4,
-        rule: Rule::A6,
-    };
-    expect_audit(&rt, rt.alloc(), &plan, &rows[..3], Err(missing))
-}
-
-#[test]
-fn rules_of_a_row_are_told(rt: HostRuntime) -> Result<(), Fail> {
-    let plan = plan_of(rt.alloc(), PLAN)?;
-    let changes = [
-        (0, on(0, 2, Kind::Take, 0), Rule::A1),
-        (0, on(0, 0, Kind::Queue, 0), Rule::A5),
-        (1, on(0, 0, Kind::Queue, 1), Rule::A1),
-        (2, run(1, 0, job(1, 0)), Rule::A2),
-        (2, run(1, 0, job(0, 1)), Rule::A2),
-        (2, idle(1, 0), Rule::A3),
-        (2, on(1, 0, Kind::Release, 0), Rule::A4),
-        (5, on(2, 1, Kind::Spin, 1), Rule::A5),
-    ];
-    for (place, row, rule) in changes {
-        let mut rows = handover();
-        let number: u32 = place;
-        if let Some(changed) = rows.get_mut(number as usize) {
-            *changed = row;
+// The first that isn't answered so, by its place.
+fn first_wrong(auditor: &mut Auditor<'_>, all: &[Told]) -> Option<usize> {
+    for (at, told) in all.iter().enumerate() {
+        if !answers(auditor, *told) {
+            return Some(at);
         }
-        let fault = Fault {
-            row: number + 1,
-            rule,
-        };
-        expect_audit(&rt, rt.alloc(), &plan, &rows, Err(fault))?;
     }
+    None
+}
+
+fn wrong(alloc: Global, all: &[Told]) -> Result<Option<usize>, Fail> {
+    let plan = plan_of(alloc, PLAN)?;
+    let levels = Levels::of(alloc, &plan)?;
+    let mut auditor = Auditor::with_room(alloc, &plan, &levels)?;
+    Ok(first_wrong(&mut auditor, all))
+}
+
+fn fault(row: u32, rule: Rule) -> Result<(), Fault> {
+    Err(Fault { row, rule })
+}
+
+#[test]
+fn a_fault_stays(rt: HostRuntime) -> Result<(), Fail> {
+    let [a, b, c, d, e, _, g, h, i, j, k, l] = handover();
+    let spun = fault(6, Rule::A5);
+    let all = [
+        Feed(a, Ok(())),
+        Feed(b, Ok(())),
+        Feed(c, Ok(())),
+        Feed(d, Ok(())),
+        Feed(e, Ok(())),
+        End(fault(6, Rule::A6)),
+        Feed(on(2, 1, Kind::Spin, 1), spun),
+        Feed(g, spun),
+        Feed(h, spun),
+        Feed(i, spun),
+        Feed(j, spun),
+        Feed(k, spun),
+        Feed(l, spun),
+        End(spun),
+    ];
+    assert_eq!(rt; wrong(rt.alloc(), &all)?, None);
     Ok(())
 }
 
 #[test]
-fn the_earliest_row_and_its_lowest_rule_count(rt: HostRuntime) -> Result<(), Fail> {
-    let plan = plan_of(rt.alloc(), PLAN)?;
-    let mut rows = handover();
-    rows[5] = on(2, 1, Kind::Spin, 1);
-    for (row, rule) in [(idle(1, 0), Rule::A3), (on(1, 0, Kind::Spin, 1), Rule::A2)] {
-        rows[2] = row;
-        expect_audit(&rt, rt.alloc(), &plan, &rows, Err(Fault { row: 3, rule }))?;
-    }
+fn a_row_too_many_is_told(rt: HostRuntime) -> Result<(), Fail> {
+    let [a, b, c, d, e, f, g, h, i, j, k, l] = handover().map(|row| Feed(row, Ok(())));
+    let extra = Feed(idle(5, 1), fault(13, Rule::A7));
+    let all = [a, b, c, d, e, f, g, h, i, j, k, l, End(Ok(())), extra];
+    assert_eq!(rt; wrong(rt.alloc(), &all)?, None);
     Ok(())
 }
 
@@ -171,81 +154,46 @@ fn the_earliest_row_and_its_lowest_rule_count(rt: HostRuntime) -> Result<(), Fai
 const CROWD: &[u8] =
     b"msrp,1\ncores,8\nticks,20000\nresource,g\ntask,a,0,20,8,0\nop,lock,g\nop,run,1\nop,unlock,g\ntask,b,1,20,8,0\nop,lock,g\nop,run,1\nop,unlock,g\ntask,c,2,20,8,0\nop,lock,g\nop,run,1\nop,unlock,g\ntask,d,3,20,8,0\nop,lock,g\nop,run,1\nop,unlock,g\ntask,e,4,20,8,0\nop,lock,g\nop,run,1\nop,unlock,g\ntask,f,5,20,8,0\nop,lock,g\nop,run,1\nop,unlock,g\ntask,g,6,20,8,0\nop,lock,g\nop,run,1\nop,unlock,g\ntask,h,7,20,8,0\nop,lock,g\nop,run,1\nop,unlock,g\n";
 
-#[test]
-fn many_cores_are_judged_alike(rt: HostRuntime) -> Result<(), Fail> {
-    let plan = plan_of(rt.alloc(), CROWD)?;
-    let Ok(mut trace) = simulate(rt.alloc(), &plan, &Order::Rot) else {
-        return Err(Fail::from("memory"));
-    };
-    assert_eq!(&rt; trace.rows.len(), 160_000);
-    expect_audit(&rt, rt.alloc(), &plan, &trace.rows, Ok(()))?;
-    let late = idle(19_000, 9);
-    trace.rows[152_003] = late;
-    let fault = Fault {
-        row: 152_004,
-        rule: Rule::A1,
-    };
-    expect_audit(&rt, rt.alloc(), &plan, &trace.rows, Err(fault))
+fn run_of(alloc: Global, plan: &Plan) -> Result<Trace, Fail> {
+    match simulate(alloc, plan, &Order::Rot) {
+        Ok(trace) => Ok(trace),
+        Err(_) => Err(Fail::from("memory")),
+    }
+}
+
+// The first row that isn't foreseen, or isn't good, by its place.
+fn first_unforeseen(auditor: &mut Auditor<'_>, rows: &[Row]) -> Option<usize> {
+    for (at, row) in rows.iter().enumerate() {
+        if auditor.foresee(row.core) != Some(*row) || auditor.feed(*row) != Ok(()) {
+            return Some(at);
+        }
+    }
+    None
+}
+
+// Whether a row is foreseen of any of nine cores.
+fn foresees_more(auditor: &Auditor<'_>) -> bool {
+    for core in 0..9u32 {
+        if auditor.foresee(CoreId(core)).is_some() {
+            return true;
+        }
+    }
+    false
+}
+
+// The first row of the longest run that isn't foreseen, and whether one is foreseen after the last.
+fn unforeseen(alloc: Global) -> Result<(Option<usize>, bool), Fail> {
+    let plan = plan_of(alloc, CROWD)?;
+    let levels = Levels::of(alloc, &plan)?;
+    let trace = run_of(alloc, &plan)?;
+    let mut auditor = Auditor::with_room(alloc, &plan, &levels)?;
+    let first = first_unforeseen(&mut auditor, trace.rows.as_slice());
+    Ok((first, foresees_more(&auditor)))
 }
 
 // A row is foreseen in each turn, also where a job of its core is released, in each twentieth, or starts; and none after the last.
 #[test]
 fn each_row_is_foreseen(rt: HostRuntime) -> Result<(), Fail> {
-    let plan = plan_of(rt.alloc(), CROWD)?;
-    let levels = Levels::of(rt.alloc(), &plan)?;
-    let Ok(trace) = simulate(rt.alloc(), &plan, &Order::Rot) else {
-        return Err(Fail::from("memory"));
-    };
-    let mut auditor = Auditor::with_room(rt.alloc(), &plan, &levels)?;
-    for row in &trace.rows {
-        assert_eq!(&rt; auditor.foresee(row.core), Some(*row));
-        assert_eq!(&rt; auditor.feed(*row), Ok(()));
-    }
-    for core in 0..9 {
-        assert_eq!(&rt; auditor.foresee(CoreId(core)), None);
-    }
-    Ok(())
-}
-
-#[test]
-fn a_fault_stays(rt: HostRuntime) -> Result<(), Fail> {
-    let plan = plan_of(rt.alloc(), PLAN)?;
-    let levels = Levels::of(rt.alloc(), &plan)?;
-    let mut auditor = Auditor::with_room(rt.alloc(), &plan, &levels)?;
-    let missing = Fault {
-        row: 6,
-        rule: Rule::A6,
-    };
-    let spun = Fault {
-        row: 6,
-        rule: Rule::A5,
-    };
-    let rows = handover();
-    for row in &rows[..5] {
-        assert_eq!(&rt; auditor.feed(*row), Ok(()));
-    }
-    assert_eq!(&rt; auditor.end(), Err(missing));
-    assert_eq!(&rt; auditor.feed(on(2, 1, Kind::Spin, 1)), Err(spun));
-    for row in &rows[6..] {
-        assert_eq!(&rt; auditor.feed(*row), Err(spun));
-    }
-    assert_eq!(&rt; auditor.end(), Err(spun));
-    Ok(())
-}
-
-#[test]
-fn a_row_too_many_is_told(rt: HostRuntime) -> Result<(), Fail> {
-    let plan = plan_of(rt.alloc(), PLAN)?;
-    let levels = Levels::of(rt.alloc(), &plan)?;
-    let mut auditor = Auditor::with_room(rt.alloc(), &plan, &levels)?;
-    for row in handover() {
-        assert_eq!(&rt; auditor.feed(row), Ok(()));
-    }
-    assert_eq!(&rt; auditor.end(), Ok(()));
-    let extra = Fault {
-        row: 13,
-        rule: Rule::A7,
-    };
-    assert_eq!(&rt; auditor.feed(idle(5, 1)), Err(extra));
+    assert_eq!(rt; unforeseen(rt.alloc())?, (None, false));
     Ok(())
 }

@@ -4,6 +4,7 @@ ghost use Rattle.std.specs.Prelude.{◌≡◌};
 use crate::plans::plan_of;
 use msrp_levels::Levels;
 use msrp_plan::{CoreId, Plan, ResId, TaskId};
+use std::alloc::Global;
 use std::process::Abort;
 use std::test::*;
 
@@ -74,17 +75,52 @@ fn expect_cores(
     }
 }
 
+// Of a resource: whether it is global, its users, and at each core its ceiling, its longest section, and the bound on spinning.
+#[derive(Clone, Copy)]
+struct Due<'a> {
+    res: ResId,
+    global: bool,
+    users: &'a [TaskId],
+    cores: &'a [(u32, u32, u32)],
+}
+
+fn expect_resources(rt: &impl Abort, plan: &Plan, levels: &Levels, expected: &[Due<'_>])
+    requires { levels.now ≡ plan.now }
+{
+    for due in expected {
+        expect_users(rt, plan, levels, due.res, due.global, due.users);
+        expect_cores(rt, plan, levels, due.res, due.cores);
+    }
+}
+
+// What the levels of a plan are to be: of its tasks, of its cores, and of its resources.
+fn expect(
+    rt: &impl Abort,
+    alloc: Global,
+    text: &[u8],
+    tasks: &[(u32, u32)],
+    tops: &[u32],
+    resources: &[Due<'_>],
+) -> Result<(), Fail> {
+    let plan = plan_of(alloc, text)?;
+    let levels = Levels::of(alloc, &plan)?;
+    expect_tasks(rt, &plan, &levels, tasks);
+    expect_tops(rt, &plan, &levels, tops);
+    expect_resources(rt, &plan, &levels, resources);
+    Ok(())
+}
+
 #[test]
 fn two_levels_on_a_local_resource(rt: HostRuntime) -> Result<(), Fail> {
     let text =
         b"msrp,1\ncores,1\nticks,9\nresource,r\ntask,lo,0,20,10,0\nop,lock,r\nop,run,3\nop,unlock,r\ntask,hi,0,20,5,0\nop,lock,r\nop,run,1\nop,unlock,r\n";
-    let plan = plan_of(rt.alloc(), text)?;
-    let levels = Levels::of(rt.alloc(), &plan)?;
-    expect_tasks(&rt, &plan, &levels, &[(1, 4), (2, 2)]);
-    expect_tops(&rt, &plan, &levels, &[2]);
-    expect_users(&rt, &plan, &levels, R, false, &[TaskId(0), TaskId(1)]);
-    expect_cores(&rt, &plan, &levels, R, &[(2, 4, 0)]);
-    Ok(())
+    let local = Due {
+        res: R,
+        global: false,
+        users: &[TaskId(0), TaskId(1)],
+        cores: &[(2, 4, 0)],
+    };
+    expect(&rt, rt.alloc(), text, &[(1, 4), (2, 2)], &[2], &[local])
 }
 
 // A job of lo spends one row to join the queue, two to spin at most, and four after the lock.
@@ -92,24 +128,32 @@ fn two_levels_on_a_local_resource(rt: HostRuntime) -> Result<(), Fail> {
 fn a_global_resource_on_two_cores(rt: HostRuntime) -> Result<(), Fail> {
     let text =
         b"msrp,1\ncores,2\nticks,9\nresource,g\ntask,lo,0,20,10,0\nop,lock,g\nop,run,3\nop,unlock,g\ntask,hi,0,20,6,0\nop,run,1\ntask,other,1,20,10,0\nop,lock,g\nop,unlock,g\n";
-    let plan = plan_of(rt.alloc(), text)?;
-    let levels = Levels::of(rt.alloc(), &plan)?;
-    expect_tasks(&rt, &plan, &levels, &[(1, 7), (2, 0), (1, 7)]);
-    expect_tops(&rt, &plan, &levels, &[2, 1]);
-    expect_users(&rt, &plan, &levels, R, true, &[TaskId(0), TaskId(2)]);
-    expect_cores(&rt, &plan, &levels, R, &[(2, 4, 2), (1, 1, 5)]);
-    Ok(())
+    let global = Due {
+        res: R,
+        global: true,
+        users: &[TaskId(0), TaskId(2)],
+        cores: &[(2, 4, 2), (1, 1, 5)],
+    };
+    let tasks = [(1, 7), (2, 0), (1, 7)];
+    expect(&rt, rt.alloc(), text, &tasks, &[2, 1], &[global])
 }
 
 #[test]
 fn a_local_resource_inside_a_global_one(rt: HostRuntime) -> Result<(), Fail> {
     let text =
         b"msrp,1\ncores,2\nticks,9\nresource,g\nresource,h\ntask,a,0,20,10,0\nop,lock,g\nop,lock,h\nop,unlock,h\nop,unlock,g\ntask,b,1,20,10,0\nop,lock,g\nop,unlock,g\n";
-    let plan = plan_of(rt.alloc(), text)?;
-    let levels = Levels::of(rt.alloc(), &plan)?;
-    expect_tasks(&rt, &plan, &levels, &[(1, 6), (1, 6)]);
-    expect_users(&rt, &plan, &levels, Q, false, &[TaskId(0)]);
-    expect_cores(&rt, &plan, &levels, R, &[(1, 3, 2), (1, 1, 4)]);
-    expect_cores(&rt, &plan, &levels, Q, &[(1, 1, 0), (1, 0, 2)]);
-    Ok(())
+    let outer = Due {
+        res: R,
+        global: true,
+        users: &[TaskId(0), TaskId(1)],
+        cores: &[(1, 3, 2), (1, 1, 4)],
+    };
+    let inner = Due {
+        res: Q,
+        global: false,
+        users: &[TaskId(0)],
+        cores: &[(1, 1, 0), (1, 0, 2)],
+    };
+    let tasks = [(1, 6), (1, 6)];
+    expect(&rt, rt.alloc(), text, &tasks, &[1, 1], &[outer, inner])
 }

@@ -1,4 +1,4 @@
-//! Tests of the crates that know the policy: plans, levels, the parts of a core, the simulator, the auditor and the report.
+//! Tests of the crates that know the policy: plans, levels, the parts of a core, and an auditor that is fed row by row.
 //!
 //! They stand above those crates, which are proved once, without them.
 #![tactic(auto)]
@@ -15,9 +15,5 @@ mod plan;
 mod plans;
 #[cfg(test)]
 mod ready;
-#[cfg(test)]
-mod report;
-#[cfg(test)]
-mod sim;
 #[cfg(test)]
 mod stack;

@@ -110,69 +110,66 @@ fn expect(rt: &impl Abort, stack: &CeilingStack, top: JobId, ceiling: u32) {
     assert_eq!(rt; stack.ceiling(), ceiling);
 }
 
-#[test]
-fn a_new_stack_is_empty(rt: HostRuntime) -> Result<(), Fail> {
-    let plan = plan_of(rt.alloc(), PLAN)?;
-    let levels = Levels::of(rt.alloc(), &plan)?;
+// No job is on top of a new stack.
+fn is_new(rt: &impl Abort, alloc: Global, plan: &Plan, levels: &Levels) -> Result<(), Fail>
+    requires { levels.now ≡ plan.now }
+{
     assert!(rt; plan.cores() > 0);
-    let stack = CeilingStack::with_room(rt.alloc(), &plan, &levels, CORE)?;
+    let stack = CeilingStack::with_room(alloc, plan, levels, CORE)?;
     assert!(rt; stack.top().is_none());
     assert_eq!(rt; stack.ceiling(), 0);
     Ok(())
 }
 
 // Each lock keeps the ceiling from before, and its unlock puts it back.
-#[test]
-fn nested_locks_raise_the_ceiling(rt: HostRuntime) -> Result<(), Fail> {
-    let plan = plan_of(rt.alloc(), PLAN)?;
-    let levels = Levels::of(rt.alloc(), &plan)?;
+fn nests(rt: &impl Abort, alloc: Global, plan: &Plan, levels: &Levels) -> Result<(), Fail>
+    requires { levels.now ≡ plan.now }
+{
     let late = first_job(0);
-    assert!(rt; is_own(&plan, late));
-    assert!(rt; has_resource(&plan, &levels, OWN, false));
-    assert!(rt; has_resource(&plan, &levels, BOTH, false));
-    let mut stack = started(rt.alloc(), &plan, &levels, late)?;
-    expect(&rt, &stack, late, 0);
+    assert!(rt; is_own(plan, late));
+    assert!(rt; has_resource(plan, levels, OWN, false));
+    assert!(rt; has_resource(plan, levels, BOTH, false));
+    let mut stack = started(alloc, plan, levels, late)?;
+    expect(rt, &stack, late, 0);
     stack.lock(OWN);
-    expect(&rt, &stack, late, 1);
+    expect(rt, &stack, late, 1);
     stack.lock(BOTH);
-    expect(&rt, &stack, late, 2);
+    expect(rt, &stack, late, 2);
     stack.unlock(BOTH);
-    expect(&rt, &stack, late, 1);
+    expect(rt, &stack, late, 1);
     stack.unlock(OWN);
-    expect(&rt, &stack, late, 0);
+    expect(rt, &stack, late, 0);
     Ok(())
 }
 
 // A request of a global resource raises the ceiling to the core's highest level, though only a task of a lower one uses it there.
-#[test]
-fn a_global_request_raises_to_the_highest_level(rt: HostRuntime) -> Result<(), Fail> {
-    let plan = plan_of(rt.alloc(), PLAN)?;
-    let levels = Levels::of(rt.alloc(), &plan)?;
+fn requests(rt: &impl Abort, alloc: Global, plan: &Plan, levels: &Levels) -> Result<(), Fail>
+    requires { levels.now ≡ plan.now }
+{
     let late = first_job(0);
-    assert!(rt; is_own(&plan, late));
-    assert!(rt; has_resource(&plan, &levels, SHARED, true));
-    let mut stack = started(rt.alloc(), &plan, &levels, late)?;
+    assert!(rt; is_own(plan, late));
+    assert!(rt; has_resource(plan, levels, SHARED, true));
+    let mut stack = started(alloc, plan, levels, late)?;
     stack.raise_global(SHARED);
-    expect(&rt, &stack, late, 2);
+    expect(rt, &stack, late, 2);
     stack.drop_global(SHARED);
-    expect(&rt, &stack, late, 0);
+    expect(rt, &stack, late, 0);
     Ok(())
 }
 
 // A job that is started while another holds a resource stands on top until it is finished, and leaves the ceiling to the other.
-#[test]
-fn a_second_job_stands_on_the_first(rt: HostRuntime) -> Result<(), Fail> {
-    let plan = plan_of(rt.alloc(), PLAN)?;
-    let levels = Levels::of(rt.alloc(), &plan)?;
+fn stands_on(rt: &impl Abort, alloc: Global, plan: &Plan, levels: &Levels) -> Result<(), Fail>
+    requires { levels.now ≡ plan.now }
+{
     let (late, early) = (first_job(0), first_job(1));
-    assert!(rt; is_own(&plan, late));
-    assert!(rt; has_resource(&plan, &levels, OWN, false));
-    let mut stack = started(rt.alloc(), &plan, &levels, late)?;
+    assert!(rt; is_own(plan, late));
+    assert!(rt; has_resource(plan, levels, OWN, false));
+    let mut stack = started(alloc, plan, levels, late)?;
     stack.lock(OWN);
-    start_over(&rt, &plan, &mut stack, early, late);
-    expect(&rt, &stack, early, 1);
+    start_over(rt, plan, &mut stack, early, late);
+    expect(rt, &stack, early, 1);
     stack.finish();
-    expect(&rt, &stack, late, 1);
+    expect(rt, &stack, late, 1);
     Ok(())
 }
 
@@ -204,14 +201,60 @@ fn unlock_eight(rt: &impl Abort, plan: &Plan, levels: &Levels, stack: &mut Ceili
 }
 
 // A job may hold eight resources at once.
+fn holds_eight(rt: &impl Abort, alloc: Global, plan: &Plan, levels: &Levels) -> Result<(), Fail>
+    requires { levels.now ≡ plan.now }
+{
+    let deep = first_job(0);
+    assert!(rt; is_own(plan, deep));
+    let mut stack = started(alloc, plan, levels, deep)?;
+    lock_eight(rt, plan, levels, &mut stack, deep);
+    unlock_eight(rt, plan, levels, &mut stack, deep);
+    Ok(())
+}
+
+#[derive(Clone, Copy)]
+enum Case {
+    New,
+    Nested,
+    Global,
+    Second,
+    Eight,
+}
+
+// One of these, over a plan.
+fn over(rt: &impl Abort, alloc: Global, text: &[u8], case: Case) -> Result<(), Fail> {
+    let plan = plan_of(alloc, text)?;
+    let levels = Levels::of(alloc, &plan)?;
+    match case {
+        Case::New => is_new(rt, alloc, &plan, &levels),
+        Case::Nested => nests(rt, alloc, &plan, &levels),
+        Case::Global => requests(rt, alloc, &plan, &levels),
+        Case::Second => stands_on(rt, alloc, &plan, &levels),
+        Case::Eight => holds_eight(rt, alloc, &plan, &levels),
+    }
+}
+
+#[test]
+fn a_new_stack_is_empty(rt: HostRuntime) -> Result<(), Fail> {
+    over(&rt, rt.alloc(), PLAN, Case::New)
+}
+
+#[test]
+fn nested_locks_raise_the_ceiling(rt: HostRuntime) -> Result<(), Fail> {
+    over(&rt, rt.alloc(), PLAN, Case::Nested)
+}
+
+#[test]
+fn a_global_request_raises_to_the_highest_level(rt: HostRuntime) -> Result<(), Fail> {
+    over(&rt, rt.alloc(), PLAN, Case::Global)
+}
+
+#[test]
+fn a_second_job_stands_on_the_first(rt: HostRuntime) -> Result<(), Fail> {
+    over(&rt, rt.alloc(), PLAN, Case::Second)
+}
+
 #[test]
 fn eight_resources_are_held_at_once(rt: HostRuntime) -> Result<(), Fail> {
-    let plan = plan_of(rt.alloc(), DEEP_PLAN)?;
-    let levels = Levels::of(rt.alloc(), &plan)?;
-    let deep = first_job(0);
-    assert!(rt; is_own(&plan, deep));
-    let mut stack = started(rt.alloc(), &plan, &levels, deep)?;
-    lock_eight(&rt, &plan, &levels, &mut stack, deep);
-    unlock_eight(&rt, &plan, &levels, &mut stack, deep);
-    Ok(())
+    over(&rt, rt.alloc(), DEEP_PLAN, Case::Eight)
 }

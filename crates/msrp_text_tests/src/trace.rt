@@ -1,13 +1,11 @@
-//! Tests on texts: worked traces, the codes of refusals, and readers and writers that fail.
+//! Tests on texts: worked traces, rows that are foreseen, and readers that have ended.
 
 use msrp_plan::bytes::{Sink, Source};
 use msrp_plan::{Plan, Row, TextVersion, Trace};
 use msrp_text::read_plan;
 use msrp_trace::{TraceError, TraceFault, TraceReader, are_named, write_trace};
 use std::alloc::Global;
-use std::io;
-use std::io::{ErrorKind, Read, Write};
-use std::process::Abort;
+use std::io::{Read, Write};
 use std::test::Fail;
 
 // ---- the plan
@@ -200,113 +198,6 @@ fn version_one_has_no_aheads_to_write(rt: HostRuntime) -> Result<(), Fail> {
     Ok(())
 }
 
-// ---- refusals
-
-// Whether the record of that number is refused with that fault.
-fn refuses(alloc: Global, text: &[u8], plan: &Plan, fault: TraceFault, number: u32) -> bool {
-    match read_text(alloc, text, plan) {
-        Err(error) => error == TraceError::At { fault, number },
-        Ok(_) => false,
-    }
-}
-
-// First records that are refused.
-const HEADS: [&[u8]; 12] = [
-    b"",
-    b"\n\r\n",
-    b"msrp-trace,1,2\n",
-    b"msrp-trace,1,2,6,\n",
-    b"msrp-trace,3,2,6\n",
-    b"msrp-trace,01,2,6\n",
-    b"msrp-trace,1,3,6\n",
-    b"msrp-trace,1,2,5\n",
-    b"msrp-trace,1,02,6\n",
-    b"msrp-trace,1,2,+6\n",
-    b"msrp,1,2,6\n",
-    b" msrp-trace,1,2,6\n",
-];
-
-#[test]
-fn first_records(rt: HostRuntime) -> Result<(), Fail> {
-    let alloc = rt.alloc();
-    let plan = handover(alloc)?;
-    for text in HEADS {
-        assert!(rt; refuses(alloc, text, &plan, TraceFault::Head, 1));
-    }
-    Ok(())
-}
-
-// A text of a first record and one row.
-fn with_row(alloc: Global, head: &[u8], row: &[u8]) -> Result<Vec<u8>, Fail> {
-    let mut text = Vec::from_slice(alloc, head)?;
-    text.extend_from_slice(row)?;
-    Ok(text)
-}
-
-fn rows_refused(
-    rt: &impl Abort,
-    alloc: Global,
-    head: &[u8],
-    table: &[(&[u8], TraceFault)],
-) -> Result<(), Fail> {
-    let plan = handover(alloc)?;
-    for (row, fault) in table {
-        let text = with_row(alloc, head, row)?;
-        assert!(rt;
-            refuses(alloc, text.as_slice(), &plan, *fault, 2),
-            "{fault:?}"
-        );
-    }
-    Ok(())
-}
-
-// Rows of version 1, and their faults.
-const ONES: [(&[u8], TraceFault); 22] = [
-    (b"0,0,idle,-,-\n", TraceFault::FieldCount),
-    (b"0,0,idle,-,-,-,-\n", TraceFault::FieldCount),
-    (b"5,1,id\n", TraceFault::FieldCount),
-    (b"00,0,idle,-,-,-\n", TraceFault::Number),
-    (b"0,-,idle,-,-,-\n", TraceFault::Number),
-    (b"1000000000,0,idle,-,-,-\n", TraceFault::Number),
-    (b"0,0,run,a,,-\n", TraceFault::Number),
-    (b"x,0,walk,a,0,-\n", TraceFault::Number),
-    (b"0,0,walk,-,0,-\n", TraceFault::Kind),
-    (b"0,0,Run,a,0,-\n", TraceFault::Kind),
-    (b"0,0,,a,0,-\n", TraceFault::Kind),
-    (b"0,0,idle,a,0,-\n", TraceFault::Shape),
-    (b"0,0,idle,-,-,z\n", TraceFault::Shape),
-    (b"0,0,run,a,-,-\n", TraceFault::Shape),
-    (b"0,0,run,-,0,-\n", TraceFault::Shape),
-    (b"0,0,run,z,0,g\n", TraceFault::Shape),
-    (b"0,0,run,a,0,\n", TraceFault::Shape),
-    (b"0,0,take,a,0,-\n", TraceFault::Shape),
-    (b"0,0,run,z,0,-\n", TraceFault::Name),
-    (b"0,0,run,,0,-\n", TraceFault::Name),
-    (b"0,0,take,a,0,h\n", TraceFault::Name),
-    (b"0,0,run,\xff,0,-\n", TraceFault::Name),
-];
-
-#[test]
-fn rows_of_version_one(rt: HostRuntime) -> Result<(), Fail> {
-    rows_refused(&rt, rt.alloc(), b"msrp-trace,1,2,6\n", &ONES)
-}
-
-// Rows of version 2, and their faults.
-const TWOS: [(&[u8], TraceFault); 7] = [
-    (b"0,0,idle,-,-,-\n", TraceFault::FieldCount),
-    (b"0,0,take,a,0,g,\n", TraceFault::Number),
-    (b"0,1,queue,b,0,g,01\n", TraceFault::Number),
-    (b"0,1,queue,b,0,g,-\n", TraceFault::Shape),
-    (b"0,0,take,a,0,g,0\n", TraceFault::Shape),
-    (b"0,0,idle,-,-,-,0\n", TraceFault::Shape),
-    (b"0,1,queue,z,0,g,1\n", TraceFault::Name),
-];
-
-#[test]
-fn rows_of_version_two(rt: HostRuntime) -> Result<(), Fail> {
-    rows_refused(&rt, rt.alloc(), b"msrp-trace,2,2,6\n", &TWOS)
-}
-
 #[test]
 fn faults_have_their_codes(rt: HostRuntime) {
     let table = [
@@ -357,111 +248,5 @@ fn an_ended_reader_stays_ended(rt: HostRuntime) -> Result<(), Fail> {
     assert!(rt; matches!(answers[0], Ok(Some(_))));
     assert!(rt; answers[1] == Ok(None));
     assert!(rt; answers[2] == Ok(None));
-    Ok(())
-}
-
-// ---- readers and writers that fail
-
-// Gives a text one byte a call, and fails at one call.
-#[derive(Drop)]
-struct Halting<'a> {
-    text: &'a [u8],
-    calls: usize,
-    fails_at: usize,
-}
-
-impl Read for Halting<'_> {
-    fn read(&mut self, buf: &mut [u8]) -> io::Result<usize> {
-        let at = self.calls;
-        self.calls = self.calls.saturating_add(1);
-        if at == self.fails_at {
-            return Err(io::Error::from(ErrorKind::Other));
-        }
-        if buf.is_empty() || at >= self.text.len() {
-            return Ok(0);
-        }
-        buf[0] = self.text[at];
-        Ok(1)
-    }
-}
-
-// The answer for VERSION_TWO where one read fails, and whether its source says so.
-fn halted(alloc: Global, plan: &Plan, fails_at: usize) -> (Result<Trace, TraceError>, bool) {
-    let mut source = Source::new(Halting {
-        text: VERSION_TWO,
-        calls: 0,
-        fails_at,
-    });
-    let answer = read_all(alloc, &mut source, plan);
-    let failed = source.failed();
-    (answer, failed)
-}
-
-// Each byte is one read, and the end is one more. Wherever a read fails, the reading ends with that fault.
-#[test]
-fn each_read_fails_in_turn(rt: HostRuntime) -> Result<(), Fail> {
-    let alloc = rt.alloc();
-    let plan = handover(alloc)?;
-    for fails_at in 0..=VERSION_TWO.len() {
-        let (answer, failed) = halted(alloc, &plan, fails_at);
-        assert!(rt;
-            failed && matches!(answer, Err(TraceError::Read)),
-            "{fails_at}"
-        );
-    }
-    Ok(())
-}
-
-// Takes so many bytes, and then fails.
-#[derive(Drop)]
-struct Narrow {
-    got: Vec<u8>,
-    room: usize,
-}
-
-impl Write for Narrow {
-    fn write(&mut self, buf: &[u8]) -> io::Result<usize> {
-        let taken = buf.len().min(self.room.saturating_sub(self.got.len()));
-        if taken == 0 {
-            return Err(io::Error::from(ErrorKind::Other));
-        }
-        match self.got.extend_from_slice(&buf[..taken]) {
-            Ok(()) => Ok(taken),
-            Err(_) => Err(io::Error::from(ErrorKind::Other)),
-        }
-    }
-
-    fn flush(&mut self) -> io::Result<()> {
-        Ok(())
-    }
-}
-
-// The writer of so much room after a trace was written to it, if the sink says that a write failed.
-fn narrowed(alloc: Global, plan: &Plan, trace: &Trace, room: usize) -> Option<Narrow> {
-    let mut sink = Sink::new(Narrow {
-        got: Vec::new(alloc),
-        room,
-    });
-    let written = write_all(&mut sink, plan, trace, TextVersion::V2);
-    if written || !sink.failed() {
-        return None;
-    }
-    Some(sink.into_inner())
-}
-
-// Wherever a write fails, a first part of the text was written.
-#[test]
-fn each_write_fails_in_turn(rt: HostRuntime) -> Result<(), Fail> {
-    let alloc = rt.alloc();
-    let plan = handover(alloc)?;
-    let Ok(trace) = read_text(alloc, VERSION_TWO, &plan) else {
-        return Err(Fail::new("refused"));
-    };
-    for room in 0..VERSION_TWO.len() {
-        let Some(writer) = narrowed(alloc, &plan, &trace, room) else {
-            return Err(Fail::new("no write failed"));
-        };
-        assert!(rt; writer.got.as_slice() == &VERSION_TWO[..room]);
-    }
     Ok(())
 }

@@ -5,8 +5,6 @@
 #![tactic(auto)]
 
 mod cli;
-#[cfg(test)]
-mod tests;
 mod version;
 
 use cli::{Cmd, command_of, help_text};

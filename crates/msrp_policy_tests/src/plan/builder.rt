@@ -1,4 +1,4 @@
-//! Calls to a builder: what was told is read back from the plan, and what is refused, with which fault.
+//! Calls to a builder: what was told is read back from the plan, and a builder that refused goes on.
 
 use msrp_plan::{
     CoreId, JobId, JobKey, Op, Plan, PlanBuilder, PlanFault, ResId, Step, TaskId, Times,
@@ -6,11 +6,8 @@ use msrp_plan::{
 use std::alloc::Global;
 use std::test::Fail;
 
-// The calls as they are, so that a test relies on what it sees and not on their contracts.
-
-fn new(alloc: Global, cores: u32, ticks: u32) -> Result<PlanBuilder, PlanFault> {
-    PlanBuilder::new(alloc, cores, ticks)
-}
+// The calls as they are, so that a test relies on what it sees and not on their contracts. Who owns a builder or a plan does little
+// beside: each way out of a body drops it, and is proved to.
 
 fn resource(builder: &mut PlanBuilder, name: &str) -> Result<ResId, PlanFault> {
     builder.resource(name)
@@ -26,10 +23,6 @@ fn task(
     builder.task(name, CoreId(core), period, deadline, offset)
 }
 
-fn finish(builder: PlanBuilder) -> Result<Plan, (PlanBuilder, PlanFault)> {
-    builder.finish()
-}
-
 // Tells the steps to a builder, up to the first that is refused.
 fn told(builder: &mut PlanBuilder, steps: &[Step]) -> Result<(), PlanFault> {
     for step in steps {
@@ -40,17 +33,228 @@ fn told(builder: &mut PlanBuilder, steps: &[Step]) -> Result<(), PlanFault> {
     Ok(())
 }
 
+// Tells the resources g and h and the task a, which has these units.
+fn begun(builder: &mut PlanBuilder, steps: &[Step]) -> Result<(), PlanFault> {
+    resource(builder, "g")?;
+    resource(builder, "h")?;
+    task(builder, "a", 0, [4, 5, 1])?;
+    told(builder, steps)
+}
+
+// Tells another task.
+fn another(builder: &mut PlanBuilder) -> Result<(), PlanFault> {
+    task(builder, "b", 1, [7, 3, 2])?;
+    told(builder, &[Step::Run(1)])
+}
+
+const UNITS: [Step; 3] = [Step::Lock(ResId(1)), Step::Run(2), Step::Unlock(ResId(1))];
+
 // A builder of two cores and ten ticks, with the resources g and h and the task a, which has these units.
 fn started(alloc: Global, steps: &[Step]) -> Result<PlanBuilder, PlanFault> {
-    let mut builder = new(alloc, 2, 10)?;
-    resource(&mut builder, "g")?;
-    resource(&mut builder, "h")?;
-    task(&mut builder, "a", 0, [4, 5, 1])?;
-    told(&mut builder, steps)?;
+    let mut builder = PlanBuilder::new(alloc, 2, 10)?;
+    begun(&mut builder, steps)?;
     Ok(builder)
 }
 
-// The fault of one more step, after these.
+// A builder of two tasks.
+fn two_tasks(alloc: Global) -> Result<PlanBuilder, PlanFault> {
+    let mut builder = started(alloc, &UNITS)?;
+    another(&mut builder)?;
+    Ok(builder)
+}
+
+// The plan of a builder.
+fn finished(builder: PlanBuilder) -> Result<Plan, Fail> {
+    match builder.finish() {
+        Ok(plan) => Ok(plan),
+        Err(_) => Err(Fail::from("the plan is refused")),
+    }
+}
+
+// The builder, where its end is refused, with the fault.
+fn unfinished(builder: PlanBuilder) -> Result<(PlanBuilder, PlanFault), Fail> {
+    match builder.finish() {
+        Ok(_) => Err(Fail::from("the plan is accepted")),
+        Err(refused) => Ok(refused),
+    }
+}
+
+// What names name in a builder, how many tasks it has, and the number of one more.
+type Read = ([Option<ResId>; 2], u32, Option<u32>);
+
+fn read(builder: &mut PlanBuilder) -> Read {
+    let found = [builder.res_of("h"), builder.res_of("a")];
+    let tasks = builder.tasks();
+    let newest = task(builder, "c", 1, [7, 3, 2]);
+    (found, tasks, newest.ok().map(|task| task.0))
+}
+
+#[test]
+fn a_builder_is_read(rt: HostRuntime) -> Result<(), Fail> {
+    let mut builder = two_tasks(rt.alloc())?;
+    let due = ([Some(ResId(1)), None], 2, Some(2));
+    assert!(rt; read(&mut builder) == due);
+    Ok(())
+}
+
+// Of a plan: its cores and ticks, the second task's core and deadline, and how many jobs each task has.
+fn numbers_of(plan: &Plan) -> Option<[u32; 6]> {
+    if plan.tasks() != 2 {
+        return None;
+    }
+    let (a, b) = (TaskId(0), TaskId(1));
+    Some([
+        plan.cores(),
+        plan.ticks(),
+        plan.core_of(b).0,
+        plan.deadline(b),
+        plan.jobs(a),
+        plan.jobs(b),
+    ])
+}
+
+// When the last task is released.
+fn times_of(plan: &Plan) -> Option<Times> {
+    let last = plan.tasks().checked_sub(1)?;
+    Some(plan.times(TaskId(last)))
+}
+
+// Whether the names of a plan of two resources are these, and name what they are to.
+fn is_named(plan: &Plan) -> bool {
+    if plan.tasks() == 0 || plan.resources() != 2 {
+        return false;
+    }
+    plan.task_name(TaskId(0)) == "a"
+        && plan.res_name(ResId(1)) == "h"
+        && plan.task_of("a") == Some(TaskId(0))
+        && plan.task_of("g").is_none()
+        && plan.res_of("h") == Some(ResId(1))
+}
+
+// Units of the first task, if it has four: the first, the third and the last.
+fn units_of(plan: &Plan) -> Option<[Op; 3]> {
+    let task = TaskId(0);
+    if plan.tasks() == 0 || plan.units(task) != 4 {
+        return None;
+    }
+    Some([plan.unit(task, 0), plan.unit(task, 2), plan.unit(task, 3)])
+}
+
+// When the third job of the first task is released, and its key.
+fn job_of(plan: &Plan) -> Option<(u64, JobKey)> {
+    let job = JobId {
+        task: TaskId(0),
+        k: 2,
+    };
+    if plan.tasks() == 0 || plan.jobs(job.task) != 3 {
+        return None;
+    }
+    Some((plan.release(job), plan.job_key(job)))
+}
+
+// All that is read of the plan of two tasks.
+#[derive(Clone, Copy)]
+struct ReadBack {
+    numbers: Option<[u32; 6]>,
+    times: Option<Times>,
+    named: bool,
+    units: Option<[Op; 3]>,
+    job: Option<(u64, JobKey)>,
+}
+
+fn read_back(plan: &Plan) -> ReadBack {
+    ReadBack {
+        numbers: numbers_of(plan),
+        times: times_of(plan),
+        named: is_named(plan),
+        units: units_of(plan),
+        job: job_of(plan),
+    }
+}
+
+fn all_read_back(alloc: Global) -> Result<ReadBack, Fail> {
+    let plan = finished(two_tasks(alloc)?)?;
+    Ok(read_back(&plan))
+}
+
+#[test]
+fn a_plan_is_read_back(rt: HostRuntime) -> Result<(), Fail> {
+    let found = all_read_back(rt.alloc())?;
+    let times = Times::Every {
+        period: 7,
+        offset: 2,
+    };
+    let units = [Op::Lock(ResId(1)), Op::Run, Op::Unlock(ResId(1))];
+    let key = JobKey {
+        deadline: 14,
+        release: 9,
+        task: 0,
+        k: 2,
+    };
+    assert_eq!(rt; found.numbers, Some([2, 10, 1, 3, 3, 2]));
+    assert_eq!(rt; found.times, Some(times));
+    assert!(rt; found.named);
+    assert_eq!(rt; found.units, Some(units));
+    assert_eq!(rt; found.job, Some((9, key)));
+    Ok(())
+}
+
+// Tells a listed task of these ticks.
+fn listed(builder: &mut PlanBuilder, ticks: &[u32]) -> Result<(), PlanFault> {
+    builder.listed("a", CoreId(0), 4)?;
+    for tick in ticks {
+        if builder.takes_releases() {
+            builder.release(*tick)?;
+        }
+    }
+    Ok(())
+}
+
+// Tells a listed task of one unit.
+fn listing(builder: &mut PlanBuilder) -> Result<(), PlanFault> {
+    listed(builder, &[1, 4, 1_000_000])?;
+    told(builder, &[Step::Run(1)])
+}
+
+// The tick of each release of the only task, if it has three.
+fn releases(plan: &Plan) -> Option<[u64; 3]> {
+    let task = TaskId(0);
+    if plan.tasks() != 1 || plan.times(task) != (Times::Listed { count: 3 }) {
+        return None;
+    }
+    let job = |k| JobId { task, k };
+    Some([
+        plan.release(job(0)),
+        plan.release(job(1)),
+        plan.release(job(2)),
+    ])
+}
+
+#[test]
+fn listed_releases_are_read_back(rt: HostRuntime) -> Result<(), Fail> {
+    let mut builder = PlanBuilder::new(rt.alloc(), 1, 5)?;
+    listing(&mut builder)?;
+    let plan = finished(builder)?;
+    assert_eq!(rt; releases(&plan), Some([1, 4, 1_000_000]));
+    Ok(())
+}
+
+// Whether a listed task takes releases, before its first unit and after it.
+fn takes(builder: &mut PlanBuilder) -> Result<[bool; 2], PlanFault> {
+    listed(builder, &[1])?;
+    let before = builder.takes_releases();
+    told(builder, &[Step::Run(1)])?;
+    Ok([before, builder.takes_releases()])
+}
+
+#[test]
+fn releases_end_with_the_first_unit(rt: HostRuntime) -> Result<(), Fail> {
+    let mut builder = PlanBuilder::new(rt.alloc(), 1, 5)?;
+    assert_eq!(rt; takes(&mut builder), Ok([true, false]));
+    Ok(())
+}
+
+// The fault of a step after the task a with these units.
 fn step_fault(alloc: Global, steps: &[Step], step: Step) -> Option<PlanFault> {
     match started(alloc, steps) {
         Ok(mut builder) => told(&mut builder, &[step]).err(),
@@ -58,400 +262,65 @@ fn step_fault(alloc: Global, steps: &[Step], step: Step) -> Option<PlanFault> {
     }
 }
 
-// The fault of one more task, after the task a with these units.
-fn task_fault(
-    alloc: Global,
-    steps: &[Step],
-    name: &str,
-    core: u32,
-    times: [u32; 3],
-) -> Option<PlanFault> {
-    match started(alloc, steps) {
-        Ok(mut builder) => task(&mut builder, name, core, times).err(),
-        Err(fault) => Some(fault),
-    }
-}
-
-// The fault of the end, after these steps.
-fn end_fault(alloc: Global, steps: &[Step]) -> Option<PlanFault> {
-    match started(alloc, steps) {
-        Ok(builder) => match finish(builder) {
-            Ok(_) => None,
-            Err((_, fault)) => Some(fault),
-        },
-        Err(fault) => Some(fault),
-    }
-}
-
-// A builder with so many resources, r0 and up.
-fn with_resources(alloc: Global, count: u32) -> Result<PlanBuilder, PlanFault> {
-    let mut builder = new(alloc, 1, 1)?;
-    for number in 0..count {
-        resource(&mut builder, format!(in alloc; "r{number}")?.as_str())?;
-    }
-    Ok(builder)
-}
-
-// A builder with so many tasks of one unit, t0 and up.
-fn with_tasks(alloc: Global, count: u32) -> Result<PlanBuilder, PlanFault> {
-    let mut builder = new(alloc, 1, 1)?;
-    for number in 0..count {
-        task(
-            &mut builder,
-            format!(in alloc; "t{number}")?.as_str(),
-            0,
-            [1, 1, 0],
-        )?;
-        told(&mut builder, &[Step::Run(1)])?;
-    }
-    Ok(builder)
-}
-
-// The fault of a plan of so many ticks with a task on each of two cores, which both do `nested` inside a section on g.
-fn global_fault(alloc: Global, nested: Step, ticks: u32) -> Result<Option<PlanFault>, PlanFault> {
-    let mut builder = new(alloc, 2, ticks)?;
-    resource(&mut builder, "g")?;
-    resource(&mut builder, "h")?;
-    for (name, core) in [("a", 0u32), ("b", 1)] {
-        task(&mut builder, name, core, [1, 1, 0])?;
-        let steps = [
-            Step::Lock(ResId(0)),
-            nested,
-            Step::Run(1),
-            Step::Unlock(ResId(1)),
-            Step::Unlock(ResId(0)),
-        ];
-        told(&mut builder, &steps)?;
-    }
-    match finish(builder) {
-        Ok(_) => Ok(None),
-        Err((_, fault)) => Ok(Some(fault)),
-    }
-}
-
-// A builder of two tasks.
-fn two_tasks(alloc: Global) -> Result<PlanBuilder, PlanFault> {
-    let steps = [Step::Lock(ResId(1)), Step::Run(2), Step::Unlock(ResId(1))];
-    let mut builder = started(alloc, &steps)?;
-    task(&mut builder, "b", 1, [7, 3, 2])?;
-    told(&mut builder, &[Step::Run(1)])?;
-    Ok(builder)
-}
-
+// Numbers that no text has.
 #[test]
-fn a_builder_is_read(rt: HostRuntime) -> Result<(), Fail> {
-    let mut builder = two_tasks(rt.alloc())?;
-    let found = [builder.res_of("h"), builder.res_of("a")];
-    assert_eq!(rt; found, [Some(ResId(1)), None]);
-    let tasks = builder.tasks();
-    let newest = task(&mut builder, "c", 1, [7, 3, 2])?;
-    assert_eq!(rt; [tasks, newest.0], [2, 2]);
-    Ok(())
-}
-
-#[test]
-fn numbers_are_read_back(rt: HostRuntime) -> Result<(), Fail> {
-    let Ok(plan) = finish(two_tasks(rt.alloc())?) else {
-        return Err(Fail::from("the plan is refused"));
-    };
-    assert!(rt; plan.tasks() == 2);
-    let core = plan.core_of(TaskId(1));
-    let deadline = plan.deadline(TaskId(1));
-    assert_eq!(rt;
-        [plan.cores(), plan.ticks(), core.0, deadline],
-        [2, 10, 1, 3]
-    );
-    Ok(())
-}
-
-#[test]
-fn times_are_read_back(rt: HostRuntime) -> Result<(), Fail> {
-    let Ok(plan) = finish(two_tasks(rt.alloc())?) else {
-        return Err(Fail::from("the plan is refused"));
-    };
-    assert!(rt; plan.tasks() == 2);
-    let times = Times::Every {
-        period: 7,
-        offset: 2,
-    };
-    assert_eq!(rt; plan.times(TaskId(1)), times);
-    assert_eq!(rt; [plan.jobs(TaskId(0)), plan.jobs(TaskId(1))], [3, 2]);
-    Ok(())
-}
-
-#[test]
-fn names_and_units_are_read_back(rt: HostRuntime) -> Result<(), Fail> {
-    let steps = [Step::Lock(ResId(1)), Step::Run(2), Step::Unlock(ResId(1))];
-    let Ok(plan) = finish(started(rt.alloc(), &steps)?) else {
-        return Err(Fail::from("the plan is refused"));
-    };
-    assert!(rt; plan.tasks() == 1 && plan.resources() == 2);
-    assert_eq!(rt;
-        [plan.task_name(TaskId(0)), plan.res_name(ResId(1))],
-        ["a", "h"]
-    );
-    assert_eq!(rt;
-        [plan.task_of("a"), plan.task_of("g")],
-        [Some(TaskId(0)), None]
-    );
-    assert_eq!(rt; plan.res_of("h"), Some(ResId(1)));
-    let task = TaskId(0);
-    assert!(rt; plan.units(task) == 4);
-    let units = [plan.unit(task, 0), plan.unit(task, 2), plan.unit(task, 3)];
-    let told = [Op::Lock(ResId(1)), Op::Run, Op::Unlock(ResId(1))];
-    assert_eq!(rt; units, told);
-    Ok(())
-}
-
-#[test]
-fn jobs_are_read_back(rt: HostRuntime) -> Result<(), Fail> {
-    let Ok(plan) = finish(started(rt.alloc(), &[Step::Run(1)])?) else {
-        return Err(Fail::from("the plan is refused"));
-    };
-    assert!(rt; plan.tasks() == 1 && plan.jobs(TaskId(0)) == 3);
-    let job = JobId {
-        task: TaskId(0),
-        k: 2,
-    };
-    let key = JobKey {
-        deadline: 14,
-        release: 9,
-        task: 0,
-        k: 2,
-    };
-    assert_eq!(rt; plan.release(job), 9);
-    assert_eq!(rt; plan.job_key(job), key);
-    Ok(())
-}
-
-// A builder of five ticks with a listed task of these ticks.
-fn listed(alloc: Global, ticks: &[u32]) -> Result<PlanBuilder, PlanFault> {
-    let mut builder = new(alloc, 1, 5)?;
-    builder.listed("a", CoreId(0), 4)?;
-    for tick in ticks {
-        if builder.takes_releases() {
-            builder.release(*tick)?;
-        }
-    }
-    Ok(builder)
-}
-
-// The tick of each release of the only task.
-fn releases(plan: &Plan, tick: &mut [u64; 3]) {
-    if plan.tasks() != 1 {
-        return;
-    }
-    let task = TaskId(0);
-    if let Times::Listed { count } = plan.times(task) {
-        for k in 0..count.min(3) {
-            tick[k as usize] = plan.release(JobId { task, k });
-        }
-    }
-}
-
-#[test]
-fn listed_releases_are_read_back(rt: HostRuntime) -> Result<(), Fail> {
-    let mut builder = listed(rt.alloc(), &[1, 4, 1_000_000])?;
-    told(&mut builder, &[Step::Run(1)])?;
-    assert!(rt; !builder.takes_releases());
-    let Ok(plan) = finish(builder) else {
-        return Err(Fail::from("the plan is refused"));
-    };
-    assert!(rt; plan.tasks() == 1 && plan.jobs(TaskId(0)) == 2);
-    assert_eq!(rt; plan.times(TaskId(0)), Times::Listed { count: 3 });
-    let mut ticks = [0u64; 3];
-    releases(&plan, &mut ticks);
-    assert_eq!(rt; ticks, [1, 4, 1_000_000]);
-    Ok(())
-}
-
-#[test]
-fn releases_are_refused(rt: HostRuntime) -> Result<(), Fail> {
-    let alloc = rt.alloc();
-    for (ticks, fault) in [
-        ([5u32, 5], PlanFault::Releases),
-        ([5, 4], PlanFault::Releases),
-        ([1_000_001, 0], PlanFault::Limit),
-        ([5, 1_000_001], PlanFault::Limit),
-    ] {
-        assert_eq!(rt; listed(alloc, &ticks).err(), Some(fault));
-    }
-    Ok(())
-}
-
-// A listed task without a release takes no unit, no task comes after it, and the plan doesn't end.
-#[test]
-fn no_release_is_refused(rt: HostRuntime) -> Result<(), Fail> {
-    let mut bare = listed(rt.alloc(), &[])?;
-    let unit = told(&mut bare, &[Step::Run(0)]).err();
-    let next = task(&mut bare, "B", 9, [0, 0, 0]).err();
-    let end = finish(bare).err().map(|refused| refused.1);
-    assert_eq!(rt; [unit, next, end], [Some(PlanFault::Releases); 3]);
-    Ok(())
-}
-
-#[test]
-fn releases_are_limited(rt: HostRuntime) -> Result<(), Fail> {
-    let mut full = listed(rt.alloc(), &[])?;
-    for tick in 0..8_192u32 {
-        if full.takes_releases() {
-            full.release(tick)?;
-        }
-    }
-    assert!(rt; full.takes_releases());
-    assert_eq!(rt; full.release(0).err(), Some(PlanFault::Limit));
-    Ok(())
-}
-
-#[test]
-fn plans_are_refused(rt: HostRuntime) -> Result<(), Fail> {
-    let alloc = rt.alloc();
-    for (cores, ticks) in [(0u32, 1u32), (9, 1), (1, 0), (1, 20_001)] {
-        assert_eq!(rt; new(alloc, cores, ticks).err(), Some(PlanFault::Limit));
-    }
-    assert!(rt; new(alloc, 8, 20_000).is_ok());
-    Ok(())
-}
-
-#[test]
-fn resources_are_refused(rt: HostRuntime) -> Result<(), Fail> {
-    let alloc = rt.alloc();
-    let rows = [
-        (32u32, "", PlanFault::Name),
-        (32, "R", PlanFault::Name),
-        (32, "r1", PlanFault::Taken),
-        (32, "fresh", PlanFault::Limit),
-        (0, "1a", PlanFault::Name),
-        (0, "_a", PlanFault::Name),
-        (0, "a b", PlanFault::Name),
-        (0, "seventeen_letters", PlanFault::Name),
-    ];
-    for (count, name, fault) in rows {
-        let mut builder = with_resources(alloc, count)?;
-        assert_eq!(rt; resource(&mut builder, name).err(), Some(fault), "{name}");
-    }
-    for name in ["a_9", "sixteen_letters_"] {
-        let mut builder = with_resources(alloc, 31)?;
-        assert_eq!(rt; resource(&mut builder, name)?, ResId(31));
-    }
-    Ok(())
-}
-
-#[test]
-fn tasks_are_refused(rt: HostRuntime) -> Result<(), Fail> {
-    let alloc = rt.alloc();
-    let holding = [Step::Run(1), Step::Lock(ResId(0))];
-    let rows = [
-        (0usize, "B", 9u32, [0u32, 0, 0], PlanFault::NoUnit),
-        (2, "B", 9, [0, 0, 0], PlanFault::Nesting),
-        (1, "B", 9, [0, 0, 0], PlanFault::Name),
-        (1, "a", 9, [0, 0, 0], PlanFault::Taken),
-        (1, "b", 2, [0, 0, 0], PlanFault::Core),
-        (1, "b", 1, [0, 1, 0], PlanFault::Limit),
-        (1, "b", 1, [1, 0, 0], PlanFault::Limit),
-        (1, "b", 1, [1_000_001, 1, 0], PlanFault::Limit),
-        (1, "b", 1, [1, 1_000_001, 0], PlanFault::Limit),
-        (1, "b", 1, [1, 1, 1_000_001], PlanFault::Limit),
-    ];
-    for (count, name, core, times, fault) in rows {
-        let steps = &holding[..count.min(2)];
-        assert_eq!(rt;
-            task_fault(alloc, steps, name, core, times),
-            Some(fault),
-            "{name}"
-        );
-    }
-    let greatest = [1_000_000, 1_000_000, 1_000_000];
-    assert_eq!(rt; task_fault(alloc, &holding[..1], "g", 1, greatest), None);
-    for (name, core, fault) in [
-        ("t1", 9u32, PlanFault::Taken),
-        ("t64", 9, PlanFault::Core),
-        ("t64", 0, PlanFault::Limit),
-    ] {
-        let mut full = with_tasks(alloc, 64)?;
-        assert_eq!(rt; task(&mut full, name, core, [1, 1, 0]).err(), Some(fault));
-    }
-    Ok(())
-}
-
-#[test]
-fn steps_are_refused(rt: HostRuntime) -> Result<(), Fail> {
-    let alloc = rt.alloc();
-    let both = [Step::Lock(ResId(0)), Step::Lock(ResId(1)), Step::Run(4_094)];
-    let rows = [
-        (0usize, Step::Lock(ResId(2)), PlanFault::Undeclared),
-        (3, Step::Unlock(ResId(u32::MAX)), PlanFault::Undeclared),
-        (1, Step::Lock(ResId(0)), PlanFault::Nesting),
-        (0, Step::Unlock(ResId(0)), PlanFault::Nesting),
-        (2, Step::Unlock(ResId(0)), PlanFault::Nesting),
-        (3, Step::Lock(ResId(1)), PlanFault::Nesting),
-        (3, Step::Unlock(ResId(1)), PlanFault::Limit),
-        (3, Step::Run(1), PlanFault::Limit),
-        (0, Step::Run(0), PlanFault::Limit),
-        (0, Step::Run(4_097), PlanFault::Limit),
-        (0, Step::Run(u32::MAX), PlanFault::Limit),
-    ];
-    for (count, step, fault) in rows {
-        assert_eq!(rt;
-            step_fault(alloc, &both[..count.min(3)], step),
-            Some(fault),
-            "{step:?}"
-        );
-    }
-    assert_eq!(rt; step_fault(alloc, &[], Step::Run(4_096)), None);
+fn strange_numbers_are_refused(rt: HostRuntime) {
     for (step, fault) in [
-        (Step::Lock(ResId(7)), PlanFault::Nesting),
-        (Step::Lock(ResId(8)), PlanFault::Limit),
+        (Step::Lock(ResId(2)), PlanFault::Undeclared),
+        (Step::Unlock(ResId(u32::MAX)), PlanFault::Undeclared),
+        (Step::Run(u32::MAX), PlanFault::Limit),
     ] {
-        let mut builder = with_resources(alloc, 9)?;
-        task(&mut builder, "a", 0, [1, 1, 0])?;
-        for number in 0..8u32 {
-            told(&mut builder, &[Step::Lock(ResId(number))])?;
-        }
-        assert_eq!(rt; told(&mut builder, &[step]).err(), Some(fault));
+        let found = step_fault(rt.alloc(), &[], step);
+        assert_eq!(rt; found, Some(fault));
     }
-    Ok(())
 }
 
-#[test]
-fn ends_are_refused(rt: HostRuntime) -> Result<(), Fail> {
-    let alloc = rt.alloc();
-    let nested = Step::Lock(ResId(1));
-    let local = [end_fault(alloc, &[]), end_fault(alloc, &[nested])];
-    assert_eq!(rt; local, [Some(PlanFault::NoUnit), Some(PlanFault::Nesting)]);
-    for ticks in [1u32, 20_000] {
-        let fault = global_fault(alloc, nested, ticks)?;
-        assert_eq!(rt; fault, Some(PlanFault::NestedGlobal));
+// What a builder that holds g refuses: its name once more, and an unlock of h.
+fn refused(builder: &mut PlanBuilder) -> [Option<PlanFault>; 2] {
+    let taken = resource(builder, "g").err();
+    let nesting = told(builder, &[Step::Unlock(ResId(1))]).err();
+    [taken, nesting]
+}
+
+// Tells one more resource, and the unlock of g that is missing.
+fn mended(builder: &mut PlanBuilder) -> Result<ResId, PlanFault> {
+    let added = resource(builder, "i")?;
+    told(builder, &[Step::Unlock(ResId(0))])?;
+    Ok(added)
+}
+
+// How many resources a plan has, and how many units its only task has.
+fn sizes(plan: &Plan) -> Option<[u32; 2]> {
+    if plan.tasks() != 1 {
+        return None;
     }
-    for (ticks, fault) in [(8_192u32, None), (8_193, Some(PlanFault::Jobs))] {
-        let mut builder = new(alloc, 1, ticks)?;
-        task(&mut builder, "a", 0, [1, 1, 0])?;
-        told(&mut builder, &[Step::Run(1)])?;
-        assert_eq!(rt; finish(builder).err().map(|refused| refused.1), fault);
-    }
-    Ok(())
+    Some([plan.resources(), plan.units(TaskId(0))])
+}
+
+// Of a builder that was mended: the resource that was added, and the sizes of the plan.
+fn gone_to_the_end(mut builder: PlanBuilder) -> Result<(ResId, Option<[u32; 2]>), Fail> {
+    let added = mended(&mut builder)?;
+    let plan = finished(builder)?;
+    Ok((added, sizes(&plan)))
+}
+
+// What is refused to a builder that holds g, its end too, and what it then makes.
+type GoneOn = ([Option<PlanFault>; 3], ResId, Option<[u32; 2]>);
+
+fn gone_on(alloc: Global) -> Result<GoneOn, Fail> {
+    let mut builder = started(alloc, &[Step::Lock(ResId(0))])?;
+    let [taken, nesting] = refused(&mut builder);
+    let (builder, fault) = unfinished(builder)?;
+    let (added, made) = gone_to_the_end(builder)?;
+    Ok(([taken, nesting, Some(fault)], added, made))
 }
 
 #[test]
 fn a_refused_builder_goes_on(rt: HostRuntime) -> Result<(), Fail> {
-    let mut builder = started(rt.alloc(), &[Step::Lock(ResId(0))])?;
-    let taken = resource(&mut builder, "g").err();
-    let nesting = told(&mut builder, &[Step::Unlock(ResId(1))]).err();
-    let Err((mut builder, fault)) = finish(builder) else {
-        return Err(Fail::from("the plan is accepted"));
-    };
-    let faults = [
-        Some(PlanFault::Taken),
-        Some(PlanFault::Nesting),
-        Some(PlanFault::Nesting),
-    ];
-    assert_eq!(rt; [taken, nesting, Some(fault)], faults);
-    assert_eq!(rt; resource(&mut builder, "i")?, ResId(2));
-    told(&mut builder, &[Step::Unlock(ResId(0))])?;
-    let Ok(plan) = finish(builder) else {
-        return Err(Fail::from("the plan is refused"));
-    };
-    assert!(rt; plan.tasks() == 1);
-    assert_eq!(rt; [plan.resources(), plan.units(TaskId(0))], [3, 2]);
+    let (faults, added, made) = gone_on(rt.alloc())?;
+    let due = [PlanFault::Taken, PlanFault::Nesting, PlanFault::Nesting].map(Some);
+    assert_eq!(rt; faults, due);
+    assert_eq!(rt; added, ResId(2));
+    assert_eq!(rt; made, Some([3, 2]));
     Ok(())
 }

@@ -3,7 +3,10 @@
 
 use super::plans::{hot, two_sections};
 use super::stages::Counting;
-use msrp_plan::CoreId;
+use super::texts::PLAN;
+use msrp_engine::{CliFault, exit_of, run_text_if};
+use msrp_plan::bytes::{Sink, Source};
+use msrp_plan::{CoreId, TextVersion};
 use msrp_run::{Hire, RunError, run_threads, run_threads_if};
 use std::sync::atomic::{AtomicU64, Ordering};
 use std::test::*;
@@ -57,6 +60,28 @@ fn a_refused_thread_stops_the_run(rt: HostRuntime) -> Result<(), Fail> {
         assert_eq!(rt; hire.asked(), u64::from(cores));
     }
     Ok(())
+}
+
+// The engine tells it, and nothing is written.
+#[test]
+fn a_refused_thread_is_told(rt: HostRuntime) {
+    for core in 0..2 {
+        let mut written = Vec::new(rt.alloc());
+        let mut source = Source::new(PLAN);
+        let mut out = Sink::new(&mut written);
+        let hire = AllBut::of(core);
+        let answer = run_text_if(
+            &rt,
+            rt.alloc(),
+            &mut source,
+            &mut out,
+            TextVersion::V1,
+            &hire,
+        );
+        assert!(rt; answer == Err(CliFault::Threads));
+        assert_eq!(rt; exit_of(&answer), 4);
+        assert!(rt; written.is_empty());
+    }
 }
 
 // The turns that were made fit the answer: all of them with a trace, none where a thread was refused, all or none where memory was.

@@ -13,7 +13,7 @@ use std::io::Read;
 use std::test::*;
 
 // The text of `two_sections`.
-const PLAN: &[u8] =
+pub const PLAN: &[u8] =
     b"msrp,1\ncores,2\nticks,6\nresource,g\ntask,a,0,20,8,0\nop,lock,g\nop,run,1\nop,unlock,g\ntask,b,1,20,8,0\nop,lock,g\nop,run,1\nop,unlock,g\n";
 
 // Whoever has its turn first takes the resource, and works in tick 1 while the other spins.
