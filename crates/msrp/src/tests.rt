@@ -4,7 +4,7 @@ use crate::{CliFault, command_of, plan_text, sim_text};
 use msrp_plan::TextVersion;
 use msrp_plan::bytes::{Sink, Source};
 use msrp_sim::Order;
-use msrp_words::{Cmd, TurnOrder};
+use msrp_words::Cmd;
 use std::alloc::{AllocError, Global};
 use std::io;
 use std::io::{ErrorKind, Read, Write};
@@ -509,10 +509,15 @@ fn words_of(alloc: Global, words: &[&str]) -> Result<Vec<String>, AllocError> {
 // The plain simulation of a plan.
 fn sim(plan: &str) -> Cmd<'_> {
     Cmd::Sim {
-        order: TurnOrder::Asc,
-        ahead: false,
+        order: Order::Asc,
+        version: TextVersion::V1,
         plan,
     }
+}
+
+// What words ask for, as text.
+fn shown(alloc: Global, told: &Result<Cmd<'_>, CliFault>) -> Result<String, AllocError> {
+    format!(in alloc; "{told:?}")
 }
 
 #[test]
@@ -529,37 +534,37 @@ fn commands(rt: HostRuntime) -> Result<(), Fail> {
         (
             &["sim", "--order=desc", "p"],
             Cmd::Sim {
-                order: TurnOrder::Desc,
-                ahead: false,
+                order: Order::Desc,
+                version: TextVersion::V1,
                 plan: "p",
             },
         ),
         (
             &["sim", "p", "--order", "rot", "--ahead"],
             Cmd::Sim {
-                order: TurnOrder::Rot,
-                ahead: true,
+                order: Order::Rot,
+                version: TextVersion::V2,
                 plan: "p",
             },
         ),
         (
             &["run"],
             Cmd::Run {
-                ahead: false,
+                version: TextVersion::V1,
                 plan: "-",
             },
         ),
         (
             &["run", "p"],
             Cmd::Run {
-                ahead: false,
+                version: TextVersion::V1,
                 plan: "p",
             },
         ),
         (
             &["run", "--ahead", "p"],
             Cmd::Run {
-                ahead: true,
+                version: TextVersion::V2,
                 plan: "p",
             },
         ),
@@ -620,7 +625,8 @@ fn commands(rt: HostRuntime) -> Result<(), Fail> {
     ];
     for (words, due) in table {
         let words = words_of(rt.alloc(), words)?;
-        assert!(rt; command_of(rt.alloc(), words.as_slice()) == Ok(due));
+        let told = command_of(rt.alloc(), words.as_slice());
+        assert!(rt; shown(rt.alloc(), &told)? == shown(rt.alloc(), &Ok(due))?);
     }
     Ok(())
 }
@@ -655,7 +661,12 @@ fn no_commands(rt: HostRuntime) -> Result<(), Fail> {
     ];
     for words in table {
         let words = words_of(rt.alloc(), words)?;
-        assert!(rt; command_of(rt.alloc(), words.as_slice()) == Err(CliFault::Usage));
+        assert!(rt;
+            matches!(
+                command_of(rt.alloc(), words.as_slice()),
+                Err(CliFault::Usage)
+            )
+        );
     }
     Ok(())
 }
