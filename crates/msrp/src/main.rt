@@ -5,46 +5,21 @@
 //! engines, which turn bytes into bytes, are `msrp_engine`'s.
 #![tactic(auto)]
 
-ghost use Rattle.std.specs.Prelude.{◌≡◌, if◌then◌else◌};
-
 use msrp_cli::{Input, open, open_both, words_of, write_help};
-use msrp_engine::{
+pub use msrp_engine::{
     CliFault, audit_parallel_text, audit_text, check_text, exit_of, plan_text, report_text,
-    run_text, sim_text,
+    run_text, run_text_if, sim_text,
 };
 use msrp_plan::TextVersion;
 use msrp_plan::bytes::{Sink, Source};
 use msrp_sim::Order;
-use msrp_words::{Cmd, TurnOrder, command_of, help_text};
+pub use msrp_words::command_of;
+use msrp_words::{Cmd, help_text};
 use std::io;
 use std::io::Write;
 use std::process::ExitCode;
 use std::sync::Wait;
 use std::thread::Threads;
-
-// The order of turns of a command.
-fn order_of(order: TurnOrder) -> Order
-    ensures asc { order ≡ TurnOrder.Asc → result ≡ Order.Asc }
-    ensures desc { order ≡ TurnOrder.Desc → result ≡ Order.Desc }
-    ensures rot { order ≡ TurnOrder.Rot → result ≡ Order.Rot }
-{
-    match order {
-        TurnOrder::Asc => Order::Asc,
-        TurnOrder::Desc => Order::Desc,
-        TurnOrder::Rot => Order::Rot,
-    }
-}
-
-// The version of a trace: the second tells aheads.
-fn version_of(ahead: bool) -> TextVersion
-    ensures { result ≡ (if ahead then TextVersion.V2 else TextVersion.V1) }
-{
-    if ahead {
-        TextVersion::V2
-    } else {
-        TextVersion::V1
-    }
-}
 
 // The sources of a plan and a trace.
 fn sources(
@@ -60,12 +35,12 @@ fn sources(
 fn simulate<W: Write>(
     rt: &HostRuntime,
     out: &mut Sink<W>,
-    order: TurnOrder,
+    order: &Order,
     version: TextVersion,
     plan: &str,
 ) -> Result<u8, CliFault> {
     let mut plan = Source::new(open(rt, plan)?);
-    sim_text(rt.alloc(), &mut plan, out, &order_of(order), version)
+    sim_text(rt.alloc(), &mut plan, out, order, version)
 }
 
 // Runs it on threads.
@@ -129,10 +104,12 @@ fn run<T: Threads + Wait + Sync>(rt: &HostRuntime, threads: &T) -> Result<u8, Cl
     let mut out = Sink::new(io::writer(rt));
     match command_of(alloc, words.as_slice())? {
         Cmd::Help => write_help(&mut out, help_text(alloc, words.as_slice())?.as_str()),
-        Cmd::Sim { order, ahead, plan } => {
-            simulate(rt, &mut out, order, version_of(ahead), plan)
-        }
-        Cmd::Run { ahead, plan } => run_plan(rt, threads, &mut out, version_of(ahead), plan),
+        Cmd::Sim {
+            order,
+            version,
+            plan,
+        } => simulate(rt, &mut out, &order, version, plan),
+        Cmd::Run { version, plan } => run_plan(rt, threads, &mut out, version, plan),
         Cmd::CheckText { plan } => check(rt, &mut out, true, plan),
         Cmd::Check { plan } => check(rt, &mut out, false, plan),
         Cmd::Audit {

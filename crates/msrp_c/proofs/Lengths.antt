@@ -10,7 +10,8 @@ use Rattle.msrp_faults.specs.declared.faults.CliFault.{CliFault}
 use Rattle.msrp_faults.specs.declared.faults.CliFault.TheVariants.{Plan, Trace, Usage, Memory, Threads, Read, Write}
 use Rattle.msrp_engine.specs.declared.made.Made.{Made}
 use Rattle.msrp_plan.specs.declared.faults.Fault.{Fault}
-use Rattle.msrp_c.specs.Answers.{Answers, Gives, Hands, HandsOver, Judges, OrUnread, Tells, status_told, text_in, unfailed}
+use Rattle.msrp_engine.specs.Answered.{OrUnread}
+use Rattle.msrp_c.specs.Answers.{Answers, Gives, Hands, HandsOver, Judges, Tells, status_told, text_in, unfailed}
 use Rattle.msrp_c.specs.Whys.{AnswersWords, HandsWords, refusal_in, refusal_told, words_in}
 use Rattle.msrp_view_engine.specs.declared.why_plan.Refusal.{Refusal}
 use Rattle.msrp_view_engine.specs.declared.why_plan.Words.{Words}

@@ -1,7 +1,8 @@
 -- What a call tells: its status, the numbers of what was found, and a text in the caller's buffer.
-use Rattle.std.specs.Prelude.{◌≡◌, ◌⊎◌, ◌↔◌, ◌<◌, ◌≤◌, ◌++◌, ℕ, Bool, true, false, nat_le, List, [], length, drop, ⊤}
+use Rattle.std.specs.Prelude.{◌≡◌, ◌↔◌, ◌<◌, ◌≤◌, ◌++◌, ℕ, Bool, true, false, nat_le, List, [], length, drop, ⊤}
 use Rattle.std.specs.declared.result.Result.{Result}
 use Rattle.std.specs.declared.result.Result.TheVariants.{Ok, Err}
+use Rattle.msrp_engine.specs.Answered.{OrUnread}
 use Rattle.msrp_engine.specs.AuditText.{verdict_status}
 use Rattle.msrp_engine.specs.MadeTexts.{found_in}
 use Rattle.msrp_faults.specs.Outcomes.{status_of}
@@ -61,10 +62,6 @@ unfailed made = made
 abbrev pub told_as : {A : Type 0} → Bool → Result A CliFault → Result A CliFault
 told_as true made = Err Read
 told_as false made = unfailed made
-
--- a read failed, or memory was refused; else this holds
-abbrev pub OrUnread : {A : Type 0} → Result A CliFault → Type 0 → Type 0
-OrUnread made Holds = (made ≡ Err Read) ⊎ (made ≡ Err Memory) ⊎ Holds
 
 -- what is due was found in rows and is told, with status 5 exactly where a text is too long
 pub record Judges (long : Bool) (due : Result (Result ⊤ Fault) CliFault) (found : MsrpFound) (status : ℕ) : Type 0 where

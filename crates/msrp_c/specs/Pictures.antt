@@ -9,7 +9,7 @@ use Rattle.msrp_engine.specs.declared.made.Made.{Made}
 use Rattle.msrp_picture.specs.declared.windows.Style.{Style}
 use Rattle.msrp_plan.specs.Plan.{PlanModel}
 use Rattle.msrp_text.specs.declared.reading.TextError.{TextError}
-use Rattle.msrp_c.specs.Answers.{OrUnread}
+use Rattle.msrp_engine.specs.Answered.{OrUnread}
 use Rattle.msrp_c.specs.Numbers.{ticks_asked}
 
 -- the picture of these ticks in that style; where the number names no style, whatever the texts, it is wrong usage

@@ -9,7 +9,8 @@ use Rattle.msrp_text.specs.Reading.{csv_records, plan_of}
 use Rattle.msrp_view_engine.specs.Explaining.{AreWordsOn}
 use Rattle.msrp_view_engine.specs.declared.why_plan.Refusal.{Refusal}
 use Rattle.msrp_view_engine.specs.declared.why_plan.Words.{Words}
-use Rattle.msrp_c.specs.Answers.{Gives, HandsOver, OrUnread}
+use Rattle.msrp_engine.specs.Answered.{OrUnread}
+use Rattle.msrp_c.specs.Answers.{Gives, HandsOver}
 use Rattle.msrp_c.specs.declared.answers.MsrpFound.{MsrpFound}
 
 -- the plan's refusal, if there is one

@@ -4,7 +4,8 @@ ghost use Rattle.msrp_engine.specs.Findings.{finding_of};
 ghost use Rattle.msrp_engine.specs.Reports.{IsReportOf};
 ghost use Rattle.msrp_faults.specs.declared.faults.CliFault.{CliFault};
 ghost use Rattle.msrp_text.specs.Reading.{csv_records, plan_of};
-ghost use Rattle.msrp_c.specs.Answers.{Answers, Judges, OrUnread, is_long};
+ghost use Rattle.msrp_engine.specs.Answered.{OrUnread};
+ghost use Rattle.msrp_c.specs.Answers.{Answers, Judges, is_long};
 ghost use Rattle.msrp_c.specs.Turns.{finding_of_turns};
 
 use crate::answers::{MsrpFound, are_long, hand_over, is_long, tell, unfailed};

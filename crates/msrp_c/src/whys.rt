@@ -2,7 +2,8 @@
 ghost use Rattle.std.specs.Prelude.{◌≡◌, ◌⊎◌, ◌||◌, Ok, Err};
 ghost use Rattle.msrp_text.specs.Reading.{csv_records, plan_of};
 ghost use Rattle.msrp_view_engine.specs.Whys.{IsWhyOf};
-ghost use Rattle.msrp_c.specs.Answers.{Answers, OrUnread, is_long};
+ghost use Rattle.msrp_engine.specs.Answered.{OrUnread};
+ghost use Rattle.msrp_c.specs.Answers.{Answers, is_long};
 ghost use Rattle.msrp_c.specs.Whys.{AnswersWords, AreWords, HandsWords, refusal_told};
 
 use crate::answers::{MsrpFound, are_long, hand_over, hand_text, is_long, unfailed};

@@ -1,3 +1,4 @@
+pub mod Answered
 pub mod CheckRecords
 pub mod Judging
 pub mod NamedRows

@@ -1,3 +1,4 @@
+pub mod Answered
 pub mod Simulation
 pub mod CheckText
 pub mod Running

@@ -30,12 +30,6 @@ pub record WritesSomeRun {W : Type 0} (contents : W → Option (List ℕ)) (vers
   pub is_order : IsOrder plan (cores_of order plan)
   pub writes : WritesRun contents version plan (cores_of order plan) old new
 
--- the text of some well-formed plan
-pub record IsSomeText (text_of : PlanModel → List ℕ) (text : List ℕ) : Type 0 where
-  pub plan : PlanModel
-  pub well_formed : IsPlan plan
-  pub text_is : text ≡ text_of plan
-
 -- the text of the plan that a text stands for; one that is refused has none
 abbrev pub IsTextOf : (PlanModel → List ℕ) → Result PlanModel TextError → List ℕ → Type 0
 IsTextOf text_of (Ok plan) text = text ≡ text_of plan

@@ -1,18 +1,16 @@
 //! The audit of a trace's text, row by row.
-ghost use Rattle.std.specs.Prelude.{◌≡◌, ◌⊎◌, ℕ, List, [], true, false, Some, Err, IfOk, IfErr};
+ghost use Rattle.std.specs.Prelude.{◌≡◌, ◌⊎◌, [], true, Some, Err, IfErr};
 ghost use Rattle.msrp_audit.specs.Audits.{HasFed};
-ghost use Rattle.msrp_plan.specs.Bytes.{Wrote, sink_failed, source_failed, source_remaining};
+ghost use Rattle.msrp_plan.specs.Bytes.{Wrote};
 ghost use Rattle.msrp_text.specs.PlanText.{record_text};
-ghost use Rattle.msrp_text.specs.Reading.{csv_records, plan_of};
-ghost use Rattle.msrp_text.specs.declared.reading.TextError.{TextError as PlanError};
 ghost use Rattle.msrp_trace.specs.Reading.{Told, rows_of};
 ghost use Rattle.msrp_trace.specs.Readers.{told_left};
+ghost use Rattle.msrp_engine.specs.Answered.{Answered, OfText, OfTexts, ReadsBoth};
 ghost use Rattle.msrp_engine.specs.AuditText.{AuditAnswers, TellsVerdict, rule_text, verdict_fields};
 ghost use Rattle.msrp_engine.specs.Findings.{finding, finding_of};
-ghost use Rattle.msrp_faults.specs.Outcomes.{fault_of, is_trace_fault, is_audit_fault};
+ghost use Rattle.msrp_faults.specs.Outcomes.{is_trace_fault, is_audit_fault};
 
-use crate::fields::{next_field, next_number};
-use crate::reading::ending_of;
+use crate::reading::settled;
 use msrp_audit::Auditor;
 use msrp_faults::CliFault;
 use msrp_levels::Levels;
@@ -56,8 +54,7 @@ fn judge_all<T: Read>(
     plan: &Plan,
     trace: &mut Source<T>,
 ) -> Result<Result<(), Fault>, CliFault>
-    ensures found { (bytes : List ℕ) → source_remaining T.remaining trace.old ≡ Some bytes
-        → (result ≡ Err CliFault.Read) ⊎ (result ≡ Err CliFault.Memory) ⊎ (result ≡ finding plan.now (rows_of plan.now (csv_records bytes))) }
+    ensures found { OfText T.remaining trace.old result (λ records. result ≡ finding plan.now (rows_of plan.now records)) }
     ensures faults { IfErr result (λ fault. is_trace_fault fault ≡ true) }
 {
     let levels = Levels::of(alloc, plan)?;
@@ -66,24 +63,6 @@ fn judge_all<T: Read>(
     let found = judge_rows(&mut auditor, &mut rows);
     drop(rows);
     found
-}
-
-// What is found in a trace's text. One row is kept at a time.
-fn judge_text<T: Read>(
-    alloc: Global,
-    plan: &Plan,
-    trace: &mut Source<T>,
-) -> Result<Result<(), Fault>, CliFault>
-    ensures found { (bytes : List ℕ) → source_remaining T.remaining trace.old ≡ Some bytes
-        → (result ≡ Err CliFault.Read) ⊎ (result ≡ Err CliFault.Memory) ⊎ (result ≡ finding plan.now (rows_of plan.now (csv_records bytes))) }
-    ensures faults { IfErr result (λ fault. is_trace_fault fault ≡ true) }
-    ensures read { result ≡ Err CliFault.Read → source_failed trace.new ≡ true }
-    ensures memory { result ≡ Err CliFault.Memory → source_failed trace.new ≡ false }
-{
-    match judge_all(alloc, plan, trace) {
-        Err(CliFault::Read | CliFault::Memory) => Err(ending_of(trace)),
-        found => found,
-    }
 }
 
 // The code of a rule.
@@ -110,8 +89,8 @@ pub fn add_verdict<W: Write>(out: &mut Sink<W>, found: Result<(), Fault>)
         Ok(()) => out.add(b"good\n"),
         Err(fault) => {
             out.add(b"fault");
-            next_number(out, fault.row);
-            next_field(out, rule_word(fault.rule));
+            out.number(u64::from(fault.row));
+            out.field(rule_word(fault.rule));
             out.add(b"\n");
         }
     }
@@ -142,17 +121,14 @@ pub fn judge_texts<P: Read, T: Read>(
     plan: &mut Source<P>,
     trace: &mut Source<T>,
 ) -> Result<Result<(), Fault>, CliFault>
-    ensures found { (plan_bytes trace_bytes : List ℕ) → source_remaining P.remaining plan.old ≡ Some plan_bytes → source_remaining T.remaining trace.old ≡ Some trace_bytes
-        → (result ≡ Err CliFault.Read) ⊎ (result ≡ Err CliFault.Memory) ⊎ (result ≡ finding_of (plan_of (csv_records plan_bytes)) (csv_records trace_bytes)) }
-    ensures refused { (bytes : List ℕ) (error : PlanError) → source_remaining P.remaining plan.old ≡ Some bytes → plan_of (csv_records bytes) ≡ Err error
-        → (result ≡ Err CliFault.Read) ⊎ (result ≡ Err CliFault.Memory) ⊎ (result ≡ Err (fault_of error)) }
+    ensures found { OfTexts P.remaining T.remaining plan.old trace.old result (λ plan records. result ≡ finding_of plan records) }
+    ensures reads { ReadsBoth P.remaining plan.old plan.new trace.old trace.new result }
     ensures faults { IfErr result (λ fault. is_audit_fault fault ≡ true) }
     ensures unwritten { ¬ (result ≡ Err CliFault.Write) }
-    ensures read { result ≡ Err CliFault.Read → (source_failed plan.new ≡ true) ⊎ (source_failed trace.new ≡ true) }
-    ensures memory { result ≡ Err CliFault.Memory → (source_failed plan.new ≡ false) × ((source_failed trace.new ≡ false) ⊎ (trace.new ≡ trace.old)) }
 {
     let plan = read_plan(alloc, plan)?;
-    judge_text(alloc, &plan, trace)
+    let found = judge_all(alloc, &plan, trace);
+    settled(found, trace)
 }
 
 /// Reads a plan and a trace of it, whoever made it, and writes the verdict: `good` for a legal run, and else
@@ -169,20 +145,10 @@ pub fn audit_text<P: Read, T: Read, W: Write>(
 ) -> Result<u8, CliFault>
     // Where the readers tell their bytes, and no read failed and no memory was refused, the answer is that to
     // the plan and the rows that they stand for.
-    ensures answer { (plan_bytes trace_bytes : List ℕ) → source_remaining P.remaining plan.old ≡ Some plan_bytes → source_remaining T.remaining trace.old ≡ Some trace_bytes
-        → (result ≡ Err CliFault.Read) ⊎ (result ≡ Err CliFault.Memory) ⊎ AuditAnswers W.contents (finding_of (plan_of (csv_records plan_bytes)) (csv_records trace_bytes)) out.old out.new result }
-
-    // A refused plan is the answer, whatever the trace is read from.
-    ensures refused { (bytes : List ℕ) (error : PlanError) → source_remaining P.remaining plan.old ≡ Some bytes → plan_of (csv_records bytes) ≡ Err error
-        → (result ≡ Err CliFault.Read) ⊎ (result ≡ Err CliFault.Memory) ⊎ (result ≡ Err (fault_of error)) }
+    ensures answer { OfTexts P.remaining T.remaining plan.old trace.old result (λ plan records. AuditAnswers W.contents (finding_of plan records) out.old out.new result) }
 
     // Whatever the readers tell.
-    ensures good { IfOk result (λ status. ((status ≡ 0) ⊎ (status ≡ 1)) × (sink_failed out.new ≡ false)) }
-    ensures faults { IfErr result (λ fault. is_audit_fault fault ≡ true) }
-    ensures read { result ≡ Err CliFault.Read → (source_failed plan.new ≡ true) ⊎ (source_failed trace.new ≡ true) }
-    ensures memory { result ≡ Err CliFault.Memory → (source_failed plan.new ≡ false) × ((source_failed trace.new ≡ false) ⊎ (trace.new ≡ trace.old)) }
-    ensures write { result ≡ Err CliFault.Write → sink_failed out.new ≡ true }
-    ensures silent { IfErr result (λ fault. (fault ≡ CliFault.Write) ⊎ (out.new ≡ out.old)) }
+    ensures always { Answered P.remaining (λ fault. is_audit_fault fault ≡ true) plan.old plan.new trace.old trace.new out.old out.new result }
 {
     let found = judge_texts(alloc, plan, trace)?;
     write_verdict(out, found)

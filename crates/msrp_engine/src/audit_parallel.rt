@@ -1,17 +1,15 @@
 //! The audit of a trace's text in pieces: the rows are gathered, and then judged side by side.
-ghost use Rattle.std.specs.Prelude.{◌≡◌, ◌⊎◌, ℕ, List, [], true, false, Some, Err, IfOk, IfErr};
-ghost use Rattle.msrp_plan.specs.Bytes.{sink_failed, source_failed, source_remaining};
-ghost use Rattle.msrp_text.specs.Reading.{csv_records, plan_of};
-ghost use Rattle.msrp_text.specs.declared.reading.TextError.{TextError as PlanError};
+ghost use Rattle.std.specs.Prelude.{◌≡◌, [], true, Some, Err, IfErr};
 ghost use Rattle.msrp_trace.specs.Reading.{Told, rows_of};
 ghost use Rattle.msrp_trace.specs.Readers.{told_left};
+ghost use Rattle.msrp_engine.specs.Answered.{Answered, OfText, OfTexts, ReadsBoth};
 ghost use Rattle.msrp_engine.specs.AuditText.{AuditAnswers};
 ghost use Rattle.msrp_engine.specs.Findings.{finding, finding_of};
 ghost use Rattle.msrp_engine.specs.Inside.Gathered.{IsGathered, found_in, is_missing};
-ghost use Rattle.msrp_faults.specs.Outcomes.{fault_of, is_trace_fault, is_audit_fault};
+ghost use Rattle.msrp_faults.specs.Outcomes.{is_trace_fault, is_audit_fault};
 
 use crate::audit::write_verdict;
-use crate::reading::ending_of;
+use crate::reading::settled;
 use msrp_audit::audit_parallel;
 use msrp_faults::CliFault;
 use msrp_plan::bytes::{Sink, Source};
@@ -79,8 +77,7 @@ fn judge_all<T: Read>(
     plan: &Plan,
     trace: &mut Source<T>,
 ) -> Result<Result<(), Fault>, CliFault>
-    ensures found { (bytes : List ℕ) → source_remaining T.remaining trace.old ≡ Some bytes
-        → (result ≡ Err CliFault.Read) ⊎ (result ≡ Err CliFault.Memory) ⊎ (result ≡ finding plan.now (rows_of plan.now (csv_records bytes))) }
+    ensures found { OfText T.remaining trace.old result (λ records. result ≡ finding plan.now (rows_of plan.now records)) }
     ensures faults { IfErr result (λ fault. is_trace_fault fault ≡ true) }
 {
     // One row more than are due is a fault, whatever stands behind it.
@@ -93,23 +90,21 @@ fn judge_all<T: Read>(
     found_in(judged, ended)
 }
 
-// What is found in a trace's text, where a failed read is told only if the source has failed, and want of memory only if it hasn't.
-fn judge_text<T: Read>(
+// The verdict on a trace of a plan, whoever made it.
+fn judge_texts<P: Read, T: Read>(
     rt: &(impl Threads + Sync),
     alloc: Global,
-    plan: &Plan,
+    plan: &mut Source<P>,
     trace: &mut Source<T>,
 ) -> Result<Result<(), Fault>, CliFault>
-    ensures found { (bytes : List ℕ) → source_remaining T.remaining trace.old ≡ Some bytes
-        → (result ≡ Err CliFault.Read) ⊎ (result ≡ Err CliFault.Memory) ⊎ (result ≡ finding plan.now (rows_of plan.now (csv_records bytes))) }
-    ensures faults { IfErr result (λ fault. is_trace_fault fault ≡ true) }
-    ensures read { result ≡ Err CliFault.Read → source_failed trace.new ≡ true }
-    ensures memory { result ≡ Err CliFault.Memory → source_failed trace.new ≡ false }
+    ensures found { OfTexts P.remaining T.remaining plan.old trace.old result (λ plan records. result ≡ finding_of plan records) }
+    ensures reads { ReadsBoth P.remaining plan.old plan.new trace.old trace.new result }
+    ensures faults { IfErr result (λ fault. is_audit_fault fault ≡ true) }
+    ensures unwritten { ¬ (result ≡ Err CliFault.Write) }
 {
-    match judge_all(rt, alloc, plan, trace) {
-        Err(CliFault::Read | CliFault::Memory) => Err(ending_of(trace)),
-        found => found,
-    }
+    let plan = read_plan(alloc, plan)?;
+    let found = judge_all(rt, alloc, &plan, trace);
+    settled(found, trace)
 }
 
 /// Reads a plan and a trace of it, whoever made it, and writes the verdict, as [`audit_text`](crate::audit::audit_text) does,
@@ -126,22 +121,11 @@ pub fn audit_parallel_text<P: Read, T: Read, W: Write>(
 ) -> Result<u8, CliFault>
     // Where the readers tell their bytes, and no read failed and no memory was refused, the answer is that to
     // the plan and the rows that they stand for.
-    ensures answer { (plan_bytes trace_bytes : List ℕ) → source_remaining P.remaining plan.old ≡ Some plan_bytes → source_remaining T.remaining trace.old ≡ Some trace_bytes
-        → (result ≡ Err CliFault.Read) ⊎ (result ≡ Err CliFault.Memory) ⊎ AuditAnswers W.contents (finding_of (plan_of (csv_records plan_bytes)) (csv_records trace_bytes)) out.old out.new result }
-
-    // A refused plan is the answer, whatever the trace is read from.
-    ensures refused { (bytes : List ℕ) (error : PlanError) → source_remaining P.remaining plan.old ≡ Some bytes → plan_of (csv_records bytes) ≡ Err error
-        → (result ≡ Err CliFault.Read) ⊎ (result ≡ Err CliFault.Memory) ⊎ (result ≡ Err (fault_of error)) }
+    ensures answer { OfTexts P.remaining T.remaining plan.old trace.old result (λ plan records. AuditAnswers W.contents (finding_of plan records) out.old out.new result) }
 
     // Whatever the readers tell.
-    ensures good { IfOk result (λ status. ((status ≡ 0) ⊎ (status ≡ 1)) × (sink_failed out.new ≡ false)) }
-    ensures faults { IfErr result (λ fault. is_audit_fault fault ≡ true) }
-    ensures read { result ≡ Err CliFault.Read → (source_failed plan.new ≡ true) ⊎ (source_failed trace.new ≡ true) }
-    ensures memory { result ≡ Err CliFault.Memory → (source_failed plan.new ≡ false) × ((source_failed trace.new ≡ false) ⊎ (trace.new ≡ trace.old)) }
-    ensures write { result ≡ Err CliFault.Write → sink_failed out.new ≡ true }
-    ensures silent { IfErr result (λ fault. (fault ≡ CliFault.Write) ⊎ (out.new ≡ out.old)) }
+    ensures always { Answered P.remaining (λ fault. is_audit_fault fault ≡ true) plan.old plan.new trace.old trace.new out.old out.new result }
 {
-    let plan = read_plan(alloc, plan)?;
-    let found = judge_text(rt, alloc, &plan, trace)?;
+    let found = judge_texts(rt, alloc, plan, trace)?;
     write_verdict(out, found)
 }

@@ -1,15 +1,15 @@
 //! What a plan says before it runs: levels, ceilings and tops, from a plan's text to a text.
 
-ghost use Rattle.std.specs.Prelude.{◌≡◌, ◌<◌, ◌⊎◌, ◌↔◌, ◌++◌, ℕ, List, length, codes, decimal, true, false, Some, Err, IfOk, IfErr, OnOk, OnErr};
-ghost use Rattle.msrp_plan.specs.Bytes.{Wrote, sink_failed, source_failed, source_remaining};
+ghost use Rattle.std.specs.Prelude.{◌≡◌, ◌<◌, length, true, false, IfOk, IfErr, OnOk, OnErr};
+ghost use Rattle.msrp_plan.specs.Bytes.{Wrote, sink_failed};
 ghost use Rattle.msrp_plan.specs.WellFormed.{IsPlan};
 ghost use Rattle.msrp_text.specs.PlanText.{record_text};
-ghost use Rattle.msrp_text.specs.Reading.{csv_records, plan_of};
+ghost use Rattle.msrp_text.specs.Reading.{plan_of};
 ghost use Rattle.msrp_engine.specs.CheckText.{ceiling_record, check_text, level_record, told_each, top_record};
-ghost use Rattle.msrp_faults.specs.Outcomes.{is_plan_fault, is_sim_fault};
-ghost use Rattle.msrp_engine.specs.Simulation.{WhyNoText, IsSomeText, IsTextOf, TextAnswers, WritesSomeText};
+ghost use Rattle.msrp_faults.specs.Outcomes.{is_sim_fault};
+ghost use Rattle.msrp_engine.specs.Answered.{AnsweredPlan, OfText};
+ghost use Rattle.msrp_engine.specs.Simulation.{TextAnswers, WritesSomeText};
 
-use crate::fields::{next_field, next_number};
 use crate::whole::write_whole;
 use msrp_faults::CliFault;
 use msrp_levels::Levels;
@@ -25,8 +25,8 @@ fn write_level<W: Write>(out: &mut Sink<W>, plan: &Plan, levels: &Levels<'_>, ta
     ensures { Wrote W.contents out.old out.new (record_text (level_record plan.now task.0)) }
 {
     out.add(b"level");
-    next_field(out, plan.task_name(task).as_bytes());
-    next_number(out, levels.level(task));
+    out.field(plan.task_name(task).as_bytes());
+    out.number(u64::from(levels.level(task)));
     out.add(b"\n");
 }
 
@@ -37,13 +37,13 @@ fn write_ceiling<W: Write>(out: &mut Sink<W>, plan: &Plan, levels: &Levels<'_>, 
     ensures { Wrote W.contents out.old out.new (record_text (ceiling_record plan.now res.0)) }
 {
     out.add(b"ceiling");
-    next_field(out, plan.res_name(res).as_bytes());
+    out.field(plan.res_name(res).as_bytes());
     if levels.is_global(res) {
         out.add(b",global,-\n");
     } else {
-        next_field(out, b"local");
+        out.field(b"local");
         // The ceiling of a local resource is the same at each core.
-        next_number(out, levels.ceiling(res, CoreId(0)));
+        out.number(u64::from(levels.ceiling(res, CoreId(0))));
         out.add(b"\n");
     }
 }
@@ -53,8 +53,8 @@ fn write_top<W: Write>(out: &mut Sink<W>, levels: &Levels<'_>, core: CoreId)
     ensures { Wrote W.contents out.old out.new (record_text (top_record levels.now core.0)) }
 {
     out.add(b"top");
-    next_number(out, core.0);
-    next_number(out, levels.top(core));
+    out.number(u64::from(core.0));
+    out.number(u64::from(levels.top(core)));
     out.add(b"\n");
 }
 
@@ -118,18 +118,6 @@ fn gathered(alloc: Global, plan: &Plan) -> Result<Vec<u8>, CliFault>
     Ok(text.into_inner())
 }
 
-// The text of the levels and ceilings of the plan that a source's text stands for.
-fn text_of_source<P: Read>(alloc: Global, plan: &mut Source<P>) -> Result<Vec<u8>, CliFault>
-    ensures text { (bytes : List ℕ) → source_remaining P.remaining plan.old ≡ Some bytes → IfOk result (λ text. IsTextOf check_text (plan_of (csv_records bytes)) text.items) }
-    ensures refused { (bytes : List ℕ) → source_remaining P.remaining plan.old ≡ Some bytes → IfErr result (λ fault. (fault ≡ CliFault.Read) ⊎ (fault ≡ CliFault.Memory) ⊎ WhyNoText (plan_of (csv_records bytes)) fault) }
-    ensures some { IfOk result (λ text. IsSomeText check_text text.items) }
-    ensures faults { IfErr result (λ fault. is_plan_fault fault ≡ true) }
-    ensures read { (result ≡ Err CliFault.Read) ↔ (source_failed plan.new ≡ true) }
-{
-    let plan = read_plan(alloc, plan)?;
-    gathered(alloc, &plan)
-}
-
 /// Reads a plan, and writes its levels and ceilings: `level,NAME,N` for each task, `ceiling,NAME,local,N` or
 /// `ceiling,NAME,global,-` for each resource, and `top,CORE,N` for each core, the highest level of its tasks (Baker 1991;
 /// Gai, Lipari and Di Natale 2001).
@@ -143,17 +131,13 @@ pub fn check_text<P: Read, W: Write>(
 ) -> Result<u8, CliFault>
     // Where the reader tells its bytes, and no read failed and no memory was refused, the answer is that to
     // the plan that they stand for.
-    ensures answer { (bytes : List ℕ) → source_remaining P.remaining plan.old ≡ Some bytes
-        → (result ≡ Err CliFault.Read) ⊎ (result ≡ Err CliFault.Memory) ⊎ TextAnswers W.contents check_text (plan_of (csv_records bytes)) out.old out.new result }
+    ensures answer { OfText P.remaining plan.old result (λ records. TextAnswers W.contents check_text (plan_of records) out.old out.new result) }
 
     // Whatever the reader tells.
-    ensures good { IfOk result (λ status. (status ≡ 0) × (sink_failed out.new ≡ false)) }
     ensures written { OnOk result (WritesSomeText W.contents check_text out.old out.new) }
-    ensures faults { IfErr result (λ fault. is_sim_fault fault ≡ true) }
-    ensures read { (result ≡ Err CliFault.Read) ↔ (source_failed plan.new ≡ true) }
-    ensures write { result ≡ Err CliFault.Write → sink_failed out.new ≡ true }
-    ensures silent { IfErr result (λ fault. (fault ≡ CliFault.Write) ⊎ (out.new ≡ out.old)) }
+    ensures always { AnsweredPlan (λ fault. is_sim_fault fault ≡ true) plan.new out.old out.new result }
 {
-    let text = text_of_source(alloc, plan)?;
+    let plan = read_plan(alloc, plan)?;
+    let text = gathered(alloc, &plan)?;
     write_whole(out, text.as_slice())
 }

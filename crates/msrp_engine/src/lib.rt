@@ -8,7 +8,6 @@
 mod audit;
 mod audit_parallel;
 mod check;
-mod fields;
 mod made;
 mod own_text;
 mod reading;
@@ -23,7 +22,7 @@ pub use check::check_text;
 pub use made::Made;
 pub use msrp_faults::{CliFault, exit_of};
 pub use own_text::plan_text;
-pub use reading::ending_of;
+pub use reading::{ending_of, settled};
 pub use report::{report_of_texts, report_text};
 pub use run::{run_text, run_text_by, run_text_if};
 pub use sim::sim_text;

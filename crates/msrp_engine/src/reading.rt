@@ -1,6 +1,7 @@
 //! What ends the reading of a text.
-ghost use Rattle.std.specs.Prelude.{◌≡◌, true, false};
+ghost use Rattle.std.specs.Prelude.{◌≡◌, true, false, OnOk};
 ghost use Rattle.msrp_plan.specs.Bytes.{source_failed};
+ghost use Rattle.msrp_engine.specs.Answered.{OrUnread};
 
 use msrp_faults::CliFault;
 use msrp_plan::bytes::Source;
@@ -15,5 +16,20 @@ pub fn ending_of<T: Read>(source: &Source<T>) -> CliFault
         CliFault::Read
     } else {
         CliFault::Memory
+    }
+}
+
+/// What was made of a text. Whoever lends a source to a reader can't tell what ended the reading early; asked behind it, the source can. So a
+/// failed read is answered only where the source has failed, and want of memory only where it hasn't.
+pub fn settled<A, T: Read>(made: Result<A, CliFault>, source: &Source<T>) -> Result<A, CliFault>
+    ensures same { OrUnread result (result ≡ made) }
+    ensures made { OnOk made (result ≡ made) }
+    ensures read { result ≡ Err CliFault.Read → source_failed source.now ≡ true }
+    ensures memory { result ≡ Err CliFault.Memory → source_failed source.now ≡ false }
+{
+    match made {
+        Ok(made) => Ok(made),
+        Err(CliFault::Read | CliFault::Memory) => Err(ending_of(source)),
+        Err(fault) => Err(fault),
     }
 }

@@ -1,19 +1,17 @@
 //! The report of a trace's text.
-ghost use Rattle.std.specs.Prelude.{◌≡◌, ◌⊎◌, ℕ, List, [], true, false, Some, Ok, Err, IfOk, IfErr, OnOk, length};
-ghost use Rattle.msrp_plan.specs.Bytes.{sink_failed, source_failed, source_remaining};
+ghost use Rattle.std.specs.Prelude.{◌≡◌, ◌⊎◌, [], true, false, Some, Ok, Err, IfOk, IfErr, length};
+ghost use Rattle.msrp_plan.specs.Bytes.{sink_failed};
 ghost use Rattle.msrp_report.specs.Reports.{HasReported};
 ghost use Rattle.msrp_report.specs.ReportText.{report_text};
-ghost use Rattle.msrp_text.specs.Reading.{csv_records, plan_of};
-ghost use Rattle.msrp_text.specs.declared.reading.TextError.{TextError as PlanError};
 ghost use Rattle.msrp_trace.specs.Reading.{Told, rows_of};
 ghost use Rattle.msrp_trace.specs.Readers.{told_left};
-ghost use Rattle.msrp_engine.specs.Findings.{finding};
-ghost use Rattle.msrp_faults.specs.Outcomes.{fault_of, is_trace_fault, is_audit_fault};
+ghost use Rattle.msrp_engine.specs.Answered.{Answered, OfText, OfTexts, ReadsBoth};
+ghost use Rattle.msrp_faults.specs.Outcomes.{is_trace_fault, is_audit_fault};
 ghost use Rattle.msrp_engine.specs.Reports.{IsReportOf, IsReported, ReportAnswers, Reports, WritesShown};
 
 use crate::audit::write_verdict;
 use crate::made::Made;
-use crate::reading::ending_of;
+use crate::reading::settled;
 use crate::whole::write_whole;
 use msrp_faults::CliFault;
 use msrp_levels::Levels;
@@ -54,14 +52,13 @@ fn report_rows<T: Read>(
     }
 }
 
-// The report of a trace's text. Whatever ends the reading early may be told as a failed read.
+// The report of a trace's text. One row is kept at a time. Whatever ends the reading early may be told as a failed read.
 fn report_all<T: Read>(
     alloc: Global,
     plan: &Plan,
     trace: &mut Source<T>,
 ) -> Result<Result<Report, Fault>, CliFault>
-    ensures found { (bytes : List ℕ) → source_remaining T.remaining trace.old ≡ Some bytes
-        → (result ≡ Err CliFault.Read) ⊎ (result ≡ Err CliFault.Memory) ⊎ Reports plan.now (rows_of plan.now (csv_records bytes)) result }
+    ensures found { OfText T.remaining trace.old result (λ records. Reports plan.now (rows_of plan.now records) result) }
     ensures lines { IfOk result (λ found. IfOk found (λ report. length report.lines.items ≡ length plan.now.tasks)) }
     ensures faults { IfErr result (λ fault. is_trace_fault fault ≡ true) }
 {
@@ -71,28 +68,6 @@ fn report_all<T: Read>(
     let found = report_rows(reporter, &mut rows);
     drop(rows);
     found
-}
-
-// The report of a trace's text, where a failed read is told only if the source has failed, and want of memory or a report only if it hasn't.
-// One row is kept at a time.
-fn report_trace<T: Read>(
-    alloc: Global,
-    plan: &Plan,
-    trace: &mut Source<T>,
-) -> Result<Result<Report, Fault>, CliFault>
-    ensures found { (bytes : List ℕ) → source_remaining T.remaining trace.old ≡ Some bytes
-        → (result ≡ Err CliFault.Read) ⊎ (result ≡ Err CliFault.Memory) ⊎ Reports plan.now (rows_of plan.now (csv_records bytes)) result }
-    ensures lines { IfOk result (λ found. IfOk found (λ report. length report.lines.items ≡ length plan.now.tasks)) }
-    ensures faults { IfErr result (λ fault. is_trace_fault fault ≡ true) }
-    ensures read { result ≡ Err CliFault.Read → source_failed trace.new ≡ true }
-    ensures memory { result ≡ Err CliFault.Memory → source_failed trace.new ≡ false }
-    ensures whole { IfOk result (λ found. OnOk found (source_failed trace.new ≡ false)) }
-{
-    match report_all(alloc, plan, trace) {
-        Err(CliFault::Read | CliFault::Memory) => Err(ending_of(trace)),
-        Ok(Ok(_)) if trace.failed() => Err(CliFault::Read),
-        found => found,
-    }
 }
 
 // The text of a report, in memory.
@@ -114,13 +89,10 @@ fn made_of(alloc: Global, plan: &Plan, report: &Report) -> Result<Made, CliFault
 
 // The text of the report of a trace of an accepted plan, and the verdict on it. Of rows that are no legal run there is no text.
 fn report_made<T: Read>(alloc: Global, plan: &Plan, trace: &mut Source<T>) -> Result<Made, CliFault>
-    ensures found { (bytes : List ℕ) → source_remaining T.remaining trace.old ≡ Some bytes
-        → (result ≡ Err CliFault.Read) ⊎ (result ≡ Err CliFault.Memory) ⊎ IsReported plan.now (rows_of plan.now (csv_records bytes)) result }
+    ensures found { OfText T.remaining trace.old result (λ records. IsReported plan.now (rows_of plan.now records) result) }
     ensures faults { IfErr result (λ fault. is_trace_fault fault ≡ true) }
-    ensures read { result ≡ Err CliFault.Read → source_failed trace.new ≡ true }
-    ensures memory { result ≡ Err CliFault.Memory → source_failed trace.new ≡ false }
 {
-    match report_trace(alloc, plan, trace)? {
+    match report_all(alloc, plan, trace)? {
         Err(fault) => Ok(Made {
             text: Vec::new(alloc),
             found: Err(fault),
@@ -137,17 +109,14 @@ pub fn report_of_texts<P: Read, T: Read>(
     plan: &mut Source<P>,
     trace: &mut Source<T>,
 ) -> Result<Made, CliFault>
-    ensures found { (plan_bytes trace_bytes : List ℕ) → source_remaining P.remaining plan.old ≡ Some plan_bytes → source_remaining T.remaining trace.old ≡ Some trace_bytes
-        → (result ≡ Err CliFault.Read) ⊎ (result ≡ Err CliFault.Memory) ⊎ IsReportOf (plan_of (csv_records plan_bytes)) (csv_records trace_bytes) result }
-    ensures refused { (bytes : List ℕ) (error : PlanError) → source_remaining P.remaining plan.old ≡ Some bytes → plan_of (csv_records bytes) ≡ Err error
-        → (result ≡ Err CliFault.Read) ⊎ (result ≡ Err CliFault.Memory) ⊎ (result ≡ Err (fault_of error)) }
+    ensures found { OfTexts P.remaining T.remaining plan.old trace.old result (λ plan records. IsReportOf plan records result) }
+    ensures reads { ReadsBoth P.remaining plan.old plan.new trace.old trace.new result }
     ensures faults { IfErr result (λ fault. is_audit_fault fault ≡ true) }
     ensures unwritten { ¬ (result ≡ Err CliFault.Write) }
-    ensures read { result ≡ Err CliFault.Read → (source_failed plan.new ≡ true) ⊎ (source_failed trace.new ≡ true) }
-    ensures memory { result ≡ Err CliFault.Memory → (source_failed plan.new ≡ false) × ((source_failed trace.new ≡ false) ⊎ (trace.new ≡ trace.old)) }
 {
     let plan = read_plan(alloc, plan)?;
-    report_made(alloc, &plan, trace)
+    let made = report_made(alloc, &plan, trace);
+    settled(made, trace)
 }
 
 // Writes the text that is shown of rows with that verdict, or the verdict in its place, and answers the status.
@@ -179,20 +148,10 @@ pub fn report_text<P: Read, T: Read, W: Write>(
 ) -> Result<u8, CliFault>
     // Where the readers tell their bytes, and no read failed and no memory was refused, the answer is that to
     // the plan and the rows that they stand for.
-    ensures answer { (plan_bytes trace_bytes : List ℕ) → source_remaining P.remaining plan.old ≡ Some plan_bytes → source_remaining T.remaining trace.old ≡ Some trace_bytes
-        → (result ≡ Err CliFault.Read) ⊎ (result ≡ Err CliFault.Memory) ⊎ ReportAnswers W.contents (plan_of (csv_records plan_bytes)) (csv_records trace_bytes) out.old out.new result }
-
-    // A refused plan is the answer, whatever the trace is read from.
-    ensures refused { (bytes : List ℕ) (error : PlanError) → source_remaining P.remaining plan.old ≡ Some bytes → plan_of (csv_records bytes) ≡ Err error
-        → (result ≡ Err CliFault.Read) ⊎ (result ≡ Err CliFault.Memory) ⊎ (result ≡ Err (fault_of error)) }
+    ensures answer { OfTexts P.remaining T.remaining plan.old trace.old result (λ plan records. ReportAnswers W.contents plan records out.old out.new result) }
 
     // Whatever the readers tell.
-    ensures good { IfOk result (λ status. ((status ≡ 0) ⊎ (status ≡ 1)) × (sink_failed out.new ≡ false)) }
-    ensures faults { IfErr result (λ fault. is_audit_fault fault ≡ true) }
-    ensures read { result ≡ Err CliFault.Read → (source_failed plan.new ≡ true) ⊎ (source_failed trace.new ≡ true) }
-    ensures memory { result ≡ Err CliFault.Memory → (source_failed plan.new ≡ false) × ((source_failed trace.new ≡ false) ⊎ (trace.new ≡ trace.old)) }
-    ensures write { result ≡ Err CliFault.Write → sink_failed out.new ≡ true }
-    ensures silent { IfErr result (λ fault. (fault ≡ CliFault.Write) ⊎ (out.new ≡ out.old)) }
+    ensures always { Answered P.remaining (λ fault. is_audit_fault fault ≡ true) plan.old plan.new trace.old trace.new out.old out.new result }
 {
     let made = report_of_texts(alloc, plan, trace)?;
     write_shown(out, made.text.as_slice(), made.found)

@@ -1,12 +1,13 @@
 //! A plan on threads: from a plan's text to the text of what its cores did.
 
-ghost use Rattle.std.specs.Prelude.{◌≡◌, ◌⊎◌, ◌↔◌, ℕ, List, true, false, Some, Err, IfOk, IfErr, OnOk, OnErr};
+ghost use Rattle.std.specs.Prelude.{◌≡◌, ◌⊎◌, true, false, Err, OnOk, OnErr};
 ghost use Rattle.msrp_plan.specs.Aheads.{carries_ahead};
-ghost use Rattle.msrp_plan.specs.Bytes.{sink_failed, source_failed, source_remaining};
+ghost use Rattle.msrp_plan.specs.Bytes.{sink_failed};
 ghost use Rattle.msrp_plan.specs.Runs.{IsRun};
 ghost use Rattle.msrp_plan.specs.WellFormed.{IsPlan};
-ghost use Rattle.msrp_text.specs.Reading.{csv_records, plan_of};
+ghost use Rattle.msrp_text.specs.Reading.{plan_of};
 ghost use Rattle.msrp_faults.specs.Outcomes.{written_status, is_sim_fault};
+ghost use Rattle.msrp_engine.specs.Answered.{AnsweredPlan, OfText};
 ghost use Rattle.msrp_engine.specs.Running.{RunAnswers, WritesLegalRun, WritesSomeLegalRun};
 
 use msrp_faults::CliFault;
@@ -79,16 +80,11 @@ pub fn run_text_by<T: Threads + Wait + Sync, P: Read, W: Write, S: Stage + Sync,
 ) -> Result<u8, CliFault>
     // Where the reader tells its bytes, and no read failed and no memory and no thread was refused, the answer is that to
     // the plan that they stand for: a legal run of it.
-    ensures answer { (bytes : List ℕ) → source_remaining P.remaining plan.old ≡ Some bytes
-        → (result ≡ Err CliFault.Read) ⊎ (result ≡ Err CliFault.Memory) ⊎ (result ≡ Err CliFault.Threads) ⊎ RunAnswers W.contents version (plan_of (csv_records bytes)) out.old out.new result }
+    ensures answer { OfText P.remaining plan.old result (λ records. (result ≡ Err CliFault.Threads) ⊎ RunAnswers W.contents version (plan_of records) out.old out.new result) }
 
     // Whatever the reader tells.
-    ensures good { IfOk result (λ status. (status ≡ 0) × (sink_failed out.new ≡ false)) }
     ensures written { OnOk result (WritesSomeLegalRun W.contents version out.old out.new) }
-    ensures faults { IfErr result (λ fault. (fault ≡ CliFault.Threads) ⊎ (is_sim_fault fault ≡ true)) }
-    ensures read { (result ≡ Err CliFault.Read) ↔ (source_failed plan.new ≡ true) }
-    ensures write { result ≡ Err CliFault.Write → sink_failed out.new ≡ true }
-    ensures silent { IfErr result (λ fault. (fault ≡ CliFault.Write) ⊎ (out.new ≡ out.old)) }
+    ensures always { AnsweredPlan (λ fault. (fault ≡ CliFault.Threads) ⊎ (is_sim_fault fault ≡ true)) plan.new out.old out.new result }
 {
     let plan = read_plan(alloc, plan)?;
     write_run(rt, alloc, &plan, out, version, stage, hire)
@@ -104,14 +100,9 @@ pub fn run_text_if<T: Threads + Wait + Sync, P: Read, W: Write, H: Hire>(
     version: TextVersion,
     hire: &H,
 ) -> Result<u8, CliFault>
-    ensures answer { (bytes : List ℕ) → source_remaining P.remaining plan.old ≡ Some bytes
-        → (result ≡ Err CliFault.Read) ⊎ (result ≡ Err CliFault.Memory) ⊎ (result ≡ Err CliFault.Threads) ⊎ RunAnswers W.contents version (plan_of (csv_records bytes)) out.old out.new result }
-    ensures good { IfOk result (λ status. (status ≡ 0) × (sink_failed out.new ≡ false)) }
+    ensures answer { OfText P.remaining plan.old result (λ records. (result ≡ Err CliFault.Threads) ⊎ RunAnswers W.contents version (plan_of records) out.old out.new result) }
     ensures written { OnOk result (WritesSomeLegalRun W.contents version out.old out.new) }
-    ensures faults { IfErr result (λ fault. (fault ≡ CliFault.Threads) ⊎ (is_sim_fault fault ≡ true)) }
-    ensures read { (result ≡ Err CliFault.Read) ↔ (source_failed plan.new ≡ true) }
-    ensures write { result ≡ Err CliFault.Write → sink_failed out.new ≡ true }
-    ensures silent { IfErr result (λ fault. (fault ≡ CliFault.Write) ⊎ (out.new ≡ out.old)) }
+    ensures always { AnsweredPlan (λ fault. (fault ≡ CliFault.Threads) ⊎ (is_sim_fault fault ≡ true)) plan.new out.old out.new result }
 {
     run_text_by(rt, alloc, plan, out, version, &Plain, hire)
 }
@@ -125,14 +116,9 @@ pub fn run_text<T: Threads + Wait + Sync, P: Read, W: Write>(
     out: &mut Sink<W>,
     version: TextVersion,
 ) -> Result<u8, CliFault>
-    ensures answer { (bytes : List ℕ) → source_remaining P.remaining plan.old ≡ Some bytes
-        → (result ≡ Err CliFault.Read) ⊎ (result ≡ Err CliFault.Memory) ⊎ (result ≡ Err CliFault.Threads) ⊎ RunAnswers W.contents version (plan_of (csv_records bytes)) out.old out.new result }
-    ensures good { IfOk result (λ status. (status ≡ 0) × (sink_failed out.new ≡ false)) }
+    ensures answer { OfText P.remaining plan.old result (λ records. (result ≡ Err CliFault.Threads) ⊎ RunAnswers W.contents version (plan_of records) out.old out.new result) }
     ensures written { OnOk result (WritesSomeLegalRun W.contents version out.old out.new) }
-    ensures faults { IfErr result (λ fault. (fault ≡ CliFault.Threads) ⊎ (is_sim_fault fault ≡ true)) }
-    ensures read { (result ≡ Err CliFault.Read) ↔ (source_failed plan.new ≡ true) }
-    ensures write { result ≡ Err CliFault.Write → sink_failed out.new ≡ true }
-    ensures silent { IfErr result (λ fault. (fault ≡ CliFault.Write) ⊎ (out.new ≡ out.old)) }
+    ensures always { AnsweredPlan (λ fault. (fault ≡ CliFault.Threads) ⊎ (is_sim_fault fault ≡ true)) plan.new out.old out.new result }
 {
     run_text_if(rt, alloc, plan, out, version, &HireAll)
 }

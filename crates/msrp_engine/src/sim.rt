@@ -1,17 +1,18 @@
 //! The simulation of a plan: from its text to the text of its run on one thread.
 
-ghost use Rattle.std.specs.Prelude.{◌≡◌, ◌<◌, ◌+◌, ◌*◌, ◌++◌, ◌∷◌, ◌⊎◌, ◌↔◌, ℕ, List, [], true, false, Some, None, Err, IfOk, IfErr, OnOk, OnErr};
-ghost use Rattle.msrp_plan.specs.Bytes.{Wrote, sink_failed, source_failed, source_remaining};
+ghost use Rattle.std.specs.Prelude.{◌≡◌, ◌<◌, ◌+◌, ◌*◌, ◌++◌, ◌∷◌, ◌⊎◌, ℕ, List, [], true, false, None, Err, OnOk, OnErr};
+ghost use Rattle.msrp_plan.specs.Bytes.{sink_failed};
 ghost use Rattle.msrp_plan.specs.Scheduling.{IsOrder};
 ghost use Rattle.msrp_plan.specs.WellFormed.{IsPlan};
 ghost use Rattle.msrp_plan.specs.declared.rows.Row.{Row as TraceRow};
 ghost use Rattle.msrp_sim.specs.Cores.{known_row};
 ghost use Rattle.msrp_sim.specs.Orders.{cores_of};
 ghost use Rattle.msrp_sim.specs.Simulated.{HasMade};
-ghost use Rattle.msrp_text.specs.Reading.{csv_records, plan_of};
+ghost use Rattle.msrp_text.specs.Reading.{plan_of};
 ghost use Rattle.msrp_faults.specs.Outcomes.{written_status, is_sim_fault};
 ghost use Rattle.msrp_trace.specs.Gathering.{after_tick};
 ghost use Rattle.msrp_trace.specs.Texts.{text_of_core};
+ghost use Rattle.msrp_engine.specs.Answered.{AnsweredPlan, Ends, IsDone, IsSilent, OfText};
 ghost use Rattle.msrp_engine.specs.Inside.Known.{HasMadeSome, KeepKnown};
 ghost use Rattle.msrp_engine.specs.Simulation.{SimAnswers, WritesRun, WritesSomeRun};
 
@@ -88,7 +89,10 @@ fn write_sim<W: Write>(
     version: TextVersion,
 ) -> Result<u8, CliFault>
     requires order { IsOrder plan.now (cores_of order.now plan.now) }
-    ensures { ((result ≡ Err CliFault.Memory) × (out.new ≡ out.old)) ⊎ (IsPlan plan.now × WritesRun W.contents version plan.now (cores_of order.now plan.now) out.old out.new × (result ≡ written_status out.new)) }
+    ensures run { ((result ≡ Err CliFault.Memory) × (out.new ≡ out.old)) ⊎ (IsPlan plan.now × WritesRun W.contents version plan.now (cores_of order.now plan.now) out.old out.new × (result ≡ written_status out.new)) }
+    ensures unread { ¬ (result ≡ Err CliFault.Read) }
+    ensures ends { Ends IsDone (λ fault. (fault ≡ CliFault.Usage) ⊎ (is_sim_fault fault ≡ true)) out.new result }
+    ensures silent { IsSilent out.old out.new result }
 {
     let levels = Levels::of(alloc, plan)?;
     let mut simulation = Simulation::with_room(alloc, plan, &levels, order)?;
@@ -111,16 +115,11 @@ pub fn sim_text<P: Read, W: Write>(
 ) -> Result<u8, CliFault>
     // Where the reader tells its bytes, and no read failed and no memory was refused, the answer is that to
     // the plan that they stand for.
-    ensures answer { (bytes : List ℕ) → source_remaining P.remaining plan.old ≡ Some bytes
-        → (result ≡ Err CliFault.Read) ⊎ (result ≡ Err CliFault.Memory) ⊎ SimAnswers W.contents version order.now (plan_of (csv_records bytes)) out.old out.new result }
+    ensures answer { OfText P.remaining plan.old result (λ records. SimAnswers W.contents version order.now (plan_of records) out.old out.new result) }
 
     // Whatever the reader tells.
-    ensures good { IfOk result (λ status. (status ≡ 0) × (sink_failed out.new ≡ false)) }
     ensures written { OnOk result (WritesSomeRun W.contents version order.now out.old out.new) }
-    ensures faults { IfErr result (λ fault. (fault ≡ CliFault.Usage) ⊎ (is_sim_fault fault ≡ true)) }
-    ensures read { (result ≡ Err CliFault.Read) ↔ (source_failed plan.new ≡ true) }
-    ensures write { result ≡ Err CliFault.Write → sink_failed out.new ≡ true }
-    ensures silent { IfErr result (λ fault. (fault ≡ CliFault.Write) ⊎ (out.new ≡ out.old)) }
+    ensures always { AnsweredPlan (λ fault. (fault ≡ CliFault.Usage) ⊎ (is_sim_fault fault ≡ true)) plan.new out.old out.new result }
 {
     let plan = read_plan(alloc, plan)?;
     if !order.is_of(&plan) {

@@ -21,16 +21,17 @@ use Rattle.msrp_why.specs.RefusalText.{refused_text}
 use Rattle.msrp_why.specs.declared.causes.Cause.{Cause}
 use Rattle.msrp_why.specs.declared.causes.Ground.TheVariants.{End, Row as AtRow}
 use Rattle.msrp_why.specs.declared.notes.Notes.{Notes}
+use Rattle.msrp_engine.specs.Answered.{OrUnread}
 use Rattle.msrp_engine.specs.Findings.{finding}
 use Rattle.msrp_engine.specs.MadeTexts.{found_in}
 use Rattle.msrp_engine.specs.declared.made.Made.{Made}
 use Rattle.msrp_engine.proofs.Judging as judging
-use Rattle.msrp_faults.specs.Outcomes.{trace_fault_of}
+use Rattle.msrp_faults.specs.Outcomes.{fault_of, trace_fault_of}
 use Rattle.msrp_faults.specs.declared.faults.CliFault.{CliFault}
 use Rattle.msrp_faults.specs.declared.faults.CliFault.TheVariants.{Read as ReadFault, Memory as NoMemory}
 use Rattle.msrp_view_engine.specs.Inside.Readings.{error_words}
 use Rattle.msrp_view_engine.specs.Statuses.{is_record_fault}
-use Rattle.msrp_view_engine.specs.Whys.{AreWords, AreWordsFor, IsExplained, IsJudged, IsWhy, IsWhyOf, found_text, refusal_words}
+use Rattle.msrp_view_engine.specs.Whys.{AreWords, AreWordsFor, IsExplained, IsExplainedOf, IsJudged, IsWhy, IsWhyOf, found_text, refusal_words}
 use Rattle.msrp_view_engine.specs.declared.why.Explained.{Explained}
 use Rattle.msrp_view_engine.specs.declared.why.Judged.{Judged}
 
@@ -109,6 +110,12 @@ unopened-judged remaining plan records error h = elim (unopened remaining plan r
   | inr k ↦ elim k [ inl same ↦ inr (inl same) | inr told ↦ inr (inr (ap (finding plan) told, ap (λ (t : Told). t.refusal) told)) ]
 ]
 
+-- words, or a read that failed or want of memory
+pub words-or : (plan : PlanModel) (records : List (List (List ℕ))) (answer : Result Explained CliFault) → OrUnread answer (IfOk answer (IsExplained plan records (rows_of plan records))) → IfErr answer (λ fault. (fault ≡ NoMemory) ⊎ (fault ≡ ReadFault))
+    → OrUnread answer (IsExplainedOf (Ok plan) records answer)
+words-or plan records (Ok words) explained fault = explained
+words-or plan records (Err f) explained fault = elim fault [ inl memory ↦ inr (inl (ap (λ x. Err x) memory)) | inr read ↦ inl (ap (λ x. Err x) read) ]
+
 -- ---- the text alone
 pub made-why : (plan : PlanModel) (records : List (List (List ℕ))) (told : Told) (words : Explained) (answer : Result Made CliFault) → IsExplained plan records told words → found_in answer ≡ words.found → IfOk answer (λ made. made.text ≡ words.text) → IsWhy plan told answer
 made-why plan records told words (Ok made) is found text =
@@ -119,13 +126,31 @@ made-why plan records told words (Ok made) is found text =
     }
 made-why plan records told words (Err fault) is found text = record { found = found ∙ is.found; words = tt }
 
--- the answer to a text that stands for a plan
-pub explained-why : (read : Result PlanModel TextError) (plan : PlanModel) (records : List (List (List ℕ))) (words : Explained) (answer : Result Made CliFault) → read ≡ Ok plan → IsExplainedOr plan records (rows_of plan records) (Ok words)
-    → found_in answer ≡ words.found → IfOk answer (λ made. made.text ≡ words.text) → (answer ≡ Err ReadFault) ⊎ (answer ≡ Err NoMemory) ⊎ IsWhyOf read records answer
-explained-why read plan records words answer is explained found text = elim explained [
+-- the answer to a text that stands for a plan, or to one that is refused
+why-of : (read : Result PlanModel TextError) (records : List (List (List ℕ))) (words : Explained) (answer : Result Made CliFault) → IsExplainedOf read records (Ok words) → found_in answer ≡ words.found → IfOk answer (λ made. made.text ≡ words.text) → IsWhyOf read records answer
+why-of (Ok plan) records words answer is found text = made-why plan records (rows_of plan records) words answer is found text
+why-of (Err error) records words answer is found text = absurd (cc)
+
+pub explained-why : (read : Result PlanModel TextError) (records : List (List (List ℕ))) (words : Explained) (answer : Result Made CliFault) → OrUnread {A = Explained} (Ok words) (IsExplainedOf read records (Ok words))
+    → found_in answer ≡ words.found → IfOk answer (λ made. made.text ≡ words.text) → OrUnread answer (IsWhyOf read records answer)
+explained-why read records words answer explained found text = elim explained [
   | inl e ↦ absurd (cc)
   | inr k ↦ elim k [
     | inl e ↦ absurd (cc)
-    | inr e ↦ inr (inr (subst (λ r. IsWhyOf r records answer) (sym is) (made-why plan records (rows_of plan records) words answer e found text)))
+    | inr e ↦ inr (inr (why-of read records words answer e found text))
+  ]
+]
+
+-- where there are none
+unexplained : (read : Result PlanModel TextError) (records : List (List (List ℕ))) (fault : CliFault) (answer : Result Made CliFault) → IsExplainedOf read records (Err fault) → answer ≡ Err fault → IsWhyOf read records answer
+unexplained (Ok plan) records fault answer is gives = absurd is
+unexplained (Err error) records fault answer is gives = let same : fault ≡ fault_of error = cc in gives ∙ ap (λ f. Err f) same
+
+pub unexplained-why : (read : Result PlanModel TextError) (records : List (List (List ℕ))) (fault : CliFault) (answer : Result Made CliFault) → OrUnread {A = Explained} (Err fault) (IsExplainedOf read records (Err fault)) → answer ≡ Err fault → OrUnread answer (IsWhyOf read records answer)
+unexplained-why read records fault answer explained gives = elim explained [
+  | inl e ↦ let same : fault ≡ ReadFault = cc in inl (gives ∙ ap (λ f. Err f) same)
+  | inr k ↦ elim k [
+    | inl e ↦ let same : fault ≡ NoMemory = cc in inr (inl (gives ∙ ap (λ f. Err f) same))
+    | inr is ↦ inr (inr (unexplained read records fault answer is gives))
   ]
 ]

@@ -1,5 +1,5 @@
 -- Why a trace is no legal run: what is found, and what is written of it.
-use Rattle.std.specs.Prelude.{◌≡◌, ◌⊎◌, ◌-◌, ℕ, List, [], ◌++◌, Option, Some, Ok, Err, IfOk, ⊤}
+use Rattle.std.specs.Prelude.{◌≡◌, ◌⊎◌, ◌-◌, ℕ, List, [], ◌++◌, Option, Some, Ok, Err, IfOk, IsOkAnd, ⊤}
 use Rattle.std.specs.declared.result.Result.{Result}
 use Rattle.msrp_plan.specs.Bytes.{Wrote}
 use Rattle.msrp_plan.specs.Plan.{PlanModel}
@@ -62,6 +62,11 @@ AreWordsFor plan records told (Err fault) text = text ≡ refusal_words plan rec
 pub record IsExplained (plan : PlanModel) (records : List (List (List ℕ))) (told : Told) (words : Explained) : Type 0 where
   pub found : words.found ≡ finding plan told
   pub text : AreWordsFor plan records told words.found words.text.items
+
+-- the answer to a text that stands for a plan, or to one that is refused, and to the records of a trace's text
+abbrev pub IsExplainedOf : Result PlanModel TextError → List (List (List ℕ)) → Result Explained CliFault → Type 0
+IsExplainedOf (Ok plan) records answer = IsOkAnd answer (IsExplained plan records (rows_of plan records))
+IsExplainedOf (Err error) records answer = answer ≡ Err (fault_of error)
 
 -- the answer is what is found in the rows that are told, with the words on it
 pub record IsWhy (plan : PlanModel) (told : Told) (answer : Result Made CliFault) : Type 0 where

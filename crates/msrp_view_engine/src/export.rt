@@ -1,20 +1,20 @@
 //! A trace in the format of another tool.
 ghost use Rattle.std.specs.Prelude.{◌≡◌, ◌⊎◌, ◌+◌, ◌<◌, ◌^◌, ℕ, List, [], length, true, false, Some, Err, IfOk, IfErr};
 ghost use Rattle.msrp_audit.specs.Audits.{HasFed};
-ghost use Rattle.msrp_plan.specs.Bytes.{Wrote, sink_failed, source_failed, source_remaining};
+ghost use Rattle.msrp_plan.specs.Bytes.{Wrote, sink_failed, source_remaining};
 ghost use Rattle.msrp_plan.specs.declared.rows.Row.{Row as TraceRow};
-ghost use Rattle.msrp_text.specs.Reading.{csv_records, plan_of};
-ghost use Rattle.msrp_text.specs.declared.reading.TextError.{TextError as PlanError};
+ghost use Rattle.msrp_text.specs.Reading.{csv_records};
 ghost use Rattle.msrp_trace.specs.Reading.{Told, rows_of};
 ghost use Rattle.msrp_trace.specs.Readers.{told_left};
+ghost use Rattle.msrp_engine.specs.Answered.{Ends, IsVerdict, OfText, OfTexts, ReadsBoth};
 ghost use Rattle.msrp_engine.specs.Findings.{finding};
 ghost use Rattle.msrp_export.specs.Exports.{HasExported, export_text};
-ghost use Rattle.msrp_faults.specs.Outcomes.{fault_of, is_audit_fault, is_trace_fault};
+ghost use Rattle.msrp_faults.specs.Outcomes.{is_audit_fault, is_trace_fault};
 ghost use Rattle.msrp_view_engine.specs.Exporting.{ExportAnswers, ExportTold, end_or_fault};
 ghost use Rattle.msrp_view_engine.specs.Statuses.{told_status};
 
 use msrp_audit::Auditor;
-use msrp_engine::CliFault;
+use msrp_engine::{CliFault, settled};
 use msrp_export::{Exporter, Format};
 use msrp_levels::Levels;
 use msrp_plan::bytes::{Sink, Source};
@@ -73,8 +73,7 @@ fn export_all<T: Read, W: Write>(
     format: Format,
 ) -> Result<Result<(), Fault>, CliFault>
     requires levels { levels.now ≡ plan.now }
-    ensures found { (bytes : List ℕ) → source_remaining T.remaining trace.old ≡ Some bytes
-        → (result ≡ Err CliFault.Read) ⊎ (result ≡ Err CliFault.Memory) ⊎ (result ≡ finding plan.now (rows_of plan.now (csv_records bytes))) }
+    ensures found { OfText T.remaining trace.old result (λ records. result ≡ finding plan.now (rows_of plan.now records)) }
     ensures wrote { (bytes : List ℕ) → source_remaining T.remaining trace.old ≡ Some bytes
         → IfOk result (λ found. Wrote W.contents out.old out.new (export_text format plan.now (rows_of plan.now (csv_records bytes)).rows found)) }
     ensures faults { IfErr result (λ fault. is_trace_fault fault ≡ true) }
@@ -84,29 +83,6 @@ fn export_all<T: Read, W: Write>(
     let found = export_rows(plan, &mut auditor, &mut rows, out, format);
     drop(rows);
     found
-}
-
-// Writes the rows of a trace's text, and what is found in them; a failed read is told only if the source has failed.
-fn export_trace<T: Read, W: Write>(
-    alloc: Global,
-    plan: &Plan,
-    levels: &Levels<'_>,
-    trace: &mut Source<T>,
-    out: &mut Sink<W>,
-    format: Format,
-) -> Result<Result<(), Fault>, CliFault>
-    requires levels { levels.now ≡ plan.now }
-    ensures found { (bytes : List ℕ) → source_remaining T.remaining trace.old ≡ Some bytes
-        → (result ≡ Err CliFault.Read) ⊎ (result ≡ Err CliFault.Memory) ⊎ (result ≡ finding plan.now (rows_of plan.now (csv_records bytes))) }
-    ensures wrote { (bytes : List ℕ) → source_remaining T.remaining trace.old ≡ Some bytes
-        → IfOk result (λ found. Wrote W.contents out.old out.new (export_text format plan.now (rows_of plan.now (csv_records bytes)).rows found)) }
-    ensures faults { IfErr result (λ fault. is_trace_fault fault ≡ true) }
-    ensures read { result ≡ Err CliFault.Read → source_failed trace.new ≡ true }
-{
-    match export_all(alloc, plan, levels, trace, out, format) {
-        Err(CliFault::Read) if !trace.failed() => Err(CliFault::Memory),
-        found => found,
-    }
 }
 
 // The status of a verdict that was written.
@@ -122,7 +98,7 @@ fn status_of<W: Write>(out: &Sink<W>, found: Result<(), Fault>) -> Result<u8, Cl
     }
 }
 
-// Writes a trace of an accepted plan, and answers the status of its verdict.
+// Writes a trace of an accepted plan, and answers the status of its verdict. Whatever ends the reading early may be told as a failed read.
 fn export_plan<T: Read, W: Write>(
     alloc: Global,
     plan: &Plan,
@@ -130,15 +106,11 @@ fn export_plan<T: Read, W: Write>(
     out: &mut Sink<W>,
     format: Format,
 ) -> Result<u8, CliFault>
-    ensures answer { (bytes : List ℕ) → source_remaining T.remaining trace.old ≡ Some bytes
-        → (result ≡ Err CliFault.Read) ⊎ (result ≡ Err CliFault.Memory) ⊎ ExportTold W.contents format plan.now (rows_of plan.now (csv_records bytes)) out.old out.new result }
-    ensures good { IfOk result (λ status. ((status ≡ 0) ⊎ (status ≡ 1)) × (sink_failed out.new ≡ false)) }
-    ensures faults { IfErr result (λ fault. (is_trace_fault fault ≡ true) ⊎ (fault ≡ CliFault.Write)) }
-    ensures read { result ≡ Err CliFault.Read → source_failed trace.new ≡ true }
-    ensures write { result ≡ Err CliFault.Write → sink_failed out.new ≡ true }
+    ensures answer { OfText T.remaining trace.old result (λ records. ExportTold W.contents format plan.now (rows_of plan.now records) out.old out.new result) }
+    ensures ends { Ends IsVerdict (λ fault. (is_trace_fault fault ≡ true) ⊎ (fault ≡ CliFault.Write)) out.new result }
 {
     let levels = Levels::of(alloc, plan)?;
-    let found = export_trace(alloc, plan, &levels, trace, out, format)?;
+    let found = export_all(alloc, plan, &levels, trace, out, format)?;
     status_of(out, found)
 }
 
@@ -156,19 +128,13 @@ pub fn export_text<P: Read, T: Read, W: Write>(
 ) -> Result<u8, CliFault>
     // Where the readers tell their bytes, and no read failed and no memory was refused, the answer is that to
     // the plan and the rows that they stand for.
-    ensures answer { (plan_bytes trace_bytes : List ℕ) → source_remaining P.remaining plan.old ≡ Some plan_bytes → source_remaining T.remaining trace.old ≡ Some trace_bytes
-        → (result ≡ Err CliFault.Read) ⊎ (result ≡ Err CliFault.Memory) ⊎ ExportAnswers W.contents format (plan_of (csv_records plan_bytes)) (csv_records trace_bytes) out.old out.new result }
-
-    // A refused plan is the answer, whatever the trace is read from.
-    ensures refused { (bytes : List ℕ) (error : PlanError) → source_remaining P.remaining plan.old ≡ Some bytes → plan_of (csv_records bytes) ≡ Err error
-        → (result ≡ Err CliFault.Read) ⊎ (result ≡ Err CliFault.Memory) ⊎ (result ≡ Err (fault_of error)) }
+    ensures answer { OfTexts P.remaining T.remaining plan.old trace.old result (λ plan records. ExportAnswers W.contents format plan records out.old out.new result) }
 
     // Whatever the readers tell.
-    ensures good { IfOk result (λ status. ((status ≡ 0) ⊎ (status ≡ 1)) × (sink_failed out.new ≡ false)) }
-    ensures faults { IfErr result (λ fault. is_audit_fault fault ≡ true) }
-    ensures read { result ≡ Err CliFault.Read → (source_failed plan.new ≡ true) ⊎ (source_failed trace.new ≡ true) }
-    ensures write { result ≡ Err CliFault.Write → sink_failed out.new ≡ true }
+    ensures reads { ReadsBoth P.remaining plan.old plan.new trace.old trace.new result }
+    ensures ends { Ends IsVerdict (λ fault. is_audit_fault fault ≡ true) out.new result }
 {
     let plan = read_plan(alloc, plan)?;
-    export_plan(alloc, &plan, trace, out, format)
+    let answer = export_plan(alloc, &plan, trace, out, format);
+    settled(answer, trace)
 }

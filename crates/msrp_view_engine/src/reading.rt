@@ -1,13 +1,13 @@
 //! The rows of a trace's text.
-ghost use Rattle.std.specs.Prelude.{◌≡◌, ℕ, List, [], Some, Err, IfErr, OnOk, true, false};
-ghost use Rattle.msrp_plan.specs.Bytes.{source_failed, source_remaining};
+ghost use Rattle.std.specs.Prelude.{◌≡◌, ℕ, List, [], Some, IfErr, true};
+ghost use Rattle.msrp_plan.specs.Bytes.{source_remaining};
 ghost use Rattle.msrp_text.specs.Records.{csv_records};
 ghost use Rattle.msrp_trace.specs.Reading.{Told, rows_of};
 ghost use Rattle.msrp_trace.specs.Readers.{told_left};
 ghost use Rattle.msrp_view_engine.specs.Inside.Readings.{Reads};
 ghost use Rattle.msrp_faults.specs.Outcomes.{is_trace_fault};
 
-use msrp_engine::{CliFault, ending_of};
+use msrp_engine::CliFault;
 use msrp_plan::bytes::Source;
 use msrp_plan::{Plan, Row, Trace};
 use msrp_trace::TraceReader;
@@ -32,18 +32,7 @@ fn gather_rows<T: Read>(
     Err(CliFault::Memory)
 }
 
-// All rows of a trace's text. Whatever ends the reading early may be told as a failed read.
-fn gather_all<T: Read>(alloc: Global, plan: &Plan, trace: &mut Source<T>) -> Result<Trace, CliFault>
-    ensures rows { (bytes : List ℕ) → source_remaining T.remaining trace.old ≡ Some bytes → Reads (rows_of plan.now (csv_records bytes)) result }
-    ensures faults { IfErr result (λ fault. is_trace_fault fault ≡ true) }
-{
-    let mut rows = TraceReader::new(alloc, trace, plan)?;
-    let answer = gather_rows(&mut rows, Vec::new(alloc));
-    drop(rows);
-    answer
-}
-
-/// All rows of a trace's text, where a failed read is told only if the source has failed, and want of memory or rows only if it hasn't.
+/// All rows of a trace's text. Whatever ends the reading early may be told as a failed read.
 pub(crate) fn read_rows<T: Read>(
     alloc: Global,
     plan: &Plan,
@@ -51,13 +40,9 @@ pub(crate) fn read_rows<T: Read>(
 ) -> Result<Trace, CliFault>
     ensures rows { (bytes : List ℕ) → source_remaining T.remaining trace.old ≡ Some bytes → Reads (rows_of plan.now (csv_records bytes)) result }
     ensures faults { IfErr result (λ fault. is_trace_fault fault ≡ true) }
-    ensures read { result ≡ Err CliFault.Read → source_failed trace.new ≡ true }
-    ensures memory { result ≡ Err CliFault.Memory → source_failed trace.new ≡ false }
-    ensures whole { OnOk result (source_failed trace.new ≡ false) }
 {
-    match gather_all(alloc, plan, trace) {
-        Err(CliFault::Read | CliFault::Memory) => Err(ending_of(trace)),
-        Ok(_) if trace.failed() => Err(CliFault::Read),
-        answer => answer,
-    }
+    let mut rows = TraceReader::new(alloc, trace, plan)?;
+    let answer = gather_rows(&mut rows, Vec::new(alloc));
+    drop(rows);
+    answer
 }

@@ -1,21 +1,20 @@
 //! The picture of a trace's text.
 
-ghost use Rattle.std.specs.Prelude.{◌≡◌, ◌⊎◌, ℕ, List, true, false, Some, Ok, Err, IfOk, IfErr};
-ghost use Rattle.msrp_plan.specs.Bytes.{sink_failed, source_failed, source_remaining};
-ghost use Rattle.msrp_text.specs.Reading.{csv_records, plan_of};
-ghost use Rattle.msrp_text.specs.declared.reading.TextError.{TextError as PlanError};
+ghost use Rattle.std.specs.Prelude.{◌≡◌, ◌⊎◌, true, Ok, Err, IfOk, IfErr};
 ghost use Rattle.msrp_audit.specs.Audits.{answer_of};
 ghost use Rattle.msrp_plan.specs.Verdict.{verdict};
-ghost use Rattle.msrp_faults.specs.Outcomes.{fault_of, is_view_fault};
+ghost use Rattle.msrp_faults.specs.Outcomes.{is_trace_fault, is_view_fault};
 ghost use Rattle.msrp_picture.specs.Windows.{IsWindow};
+ghost use Rattle.msrp_trace.specs.Reading.{rows_of};
+ghost use Rattle.msrp_engine.specs.Answered.{Answered, OfText, OfTexts, ReadsBoth};
 ghost use Rattle.msrp_engine.specs.MadeTexts.{found_in};
-ghost use Rattle.msrp_view_engine.specs.Views.{IsPictureOf, ViewAnswers};
+ghost use Rattle.msrp_view_engine.specs.Views.{IsPictureOf, IsPictureTold, ViewAnswers};
 ghost use Rattle.msrp_picture.specs.Styles.{drawing};
 
 use crate::reading::read_rows;
 use crate::told::write_told;
 use msrp_audit::audit;
-use msrp_engine::{CliFault, Made};
+use msrp_engine::{CliFault, Made, settled};
 use msrp_picture::{Asked, Window, draw, window_of};
 use msrp_plan::bytes::{Sink, Source};
 use msrp_plan::{Plan, Trace};
@@ -41,6 +40,22 @@ fn pictured(
     Ok(Made { text, found })
 }
 
+// The picture of a trace of an accepted plan, in memory. Whatever ends the reading early may be told as a failed read.
+fn picture_of<T: Read>(
+    alloc: Global,
+    plan: &Plan,
+    trace: &mut Source<T>,
+    asked: Asked,
+    window: Window,
+) -> Result<Made, CliFault>
+    requires { IsWindow window }
+    ensures found { OfText T.remaining trace.old result (λ records. IsPictureTold asked plan.now (rows_of plan.now records).rows (rows_of plan.now records).refusal window result) }
+    ensures faults { IfErr result (λ fault. is_trace_fault fault ≡ true) }
+{
+    let trace = read_rows(alloc, plan, trace)?;
+    pictured(alloc, plan, &trace, asked, window)
+}
+
 /// The picture of a trace of a plan, whoever made it, with the verdict on its rows, as [`view_text`] writes it.
 pub fn picture_of_texts<P: Read, T: Read>(
     alloc: Global,
@@ -48,21 +63,17 @@ pub fn picture_of_texts<P: Read, T: Read>(
     trace: &mut Source<T>,
     asked: Asked,
 ) -> Result<Made, CliFault>
-    ensures found { (plan_bytes trace_bytes : List ℕ) → source_remaining P.remaining plan.old ≡ Some plan_bytes → source_remaining T.remaining trace.old ≡ Some trace_bytes
-        → (result ≡ Err CliFault.Read) ⊎ (result ≡ Err CliFault.Memory) ⊎ IsPictureOf (plan_of (csv_records plan_bytes)) (csv_records trace_bytes) asked result }
-    ensures refused { (bytes : List ℕ) (error : PlanError) → source_remaining P.remaining plan.old ≡ Some bytes → plan_of (csv_records bytes) ≡ Err error
-        → (result ≡ Err CliFault.Read) ⊎ (result ≡ Err CliFault.Memory) ⊎ (result ≡ Err (fault_of error)) }
+    ensures found { OfTexts P.remaining T.remaining plan.old trace.old result (λ plan records. IsPictureOf plan records asked result) }
+    ensures reads { ReadsBoth P.remaining plan.old plan.new trace.old trace.new result }
     ensures faults { IfErr result (λ fault. is_view_fault fault ≡ true) }
     ensures unwritten { ¬ (result ≡ Err CliFault.Write) }
-    ensures read { result ≡ Err CliFault.Read → (source_failed plan.new ≡ true) ⊎ (source_failed trace.new ≡ true) }
-    ensures memory { result ≡ Err CliFault.Memory → (source_failed plan.new ≡ false) × ((source_failed trace.new ≡ false) ⊎ (trace.new ≡ trace.old)) }
 {
     let plan = read_plan(alloc, plan)?;
     let Some(window) = window_of(&plan, asked) else {
         return Err(CliFault::Usage);
     };
-    let trace = read_rows(alloc, &plan, trace)?;
-    pictured(alloc, &plan, &trace, asked, window)
+    let made = picture_of(alloc, &plan, trace, asked, window);
+    settled(made, trace)
 }
 
 /// Reads a plan and a trace of it, whoever made it, and writes a picture of the ticks that are asked for. The answer is the exit
@@ -80,20 +91,10 @@ pub fn view_text<P: Read, T: Read, W: Write>(
 ) -> Result<u8, CliFault>
     // Where the readers tell their bytes, and no read failed and no memory was refused, the answer is that to
     // the plan and the rows that they stand for.
-    ensures answer { (plan_bytes trace_bytes : List ℕ) → source_remaining P.remaining plan.old ≡ Some plan_bytes → source_remaining T.remaining trace.old ≡ Some trace_bytes
-        → (result ≡ Err CliFault.Read) ⊎ (result ≡ Err CliFault.Memory) ⊎ ViewAnswers W.contents (plan_of (csv_records plan_bytes)) (csv_records trace_bytes) asked out.old out.new result }
-
-    // A refused plan is the answer, whatever the trace is read from.
-    ensures refused { (bytes : List ℕ) (error : PlanError) → source_remaining P.remaining plan.old ≡ Some bytes → plan_of (csv_records bytes) ≡ Err error
-        → (result ≡ Err CliFault.Read) ⊎ (result ≡ Err CliFault.Memory) ⊎ (result ≡ Err (fault_of error)) }
+    ensures answer { OfTexts P.remaining T.remaining plan.old trace.old result (λ plan records. ViewAnswers W.contents plan records asked out.old out.new result) }
 
     // Whatever the readers tell.
-    ensures good { IfOk result (λ status. ((status ≡ 0) ⊎ (status ≡ 1)) × (sink_failed out.new ≡ false)) }
-    ensures faults { IfErr result (λ fault. is_view_fault fault ≡ true) }
-    ensures read { result ≡ Err CliFault.Read → (source_failed plan.new ≡ true) ⊎ (source_failed trace.new ≡ true) }
-    ensures memory { result ≡ Err CliFault.Memory → (source_failed plan.new ≡ false) × ((source_failed trace.new ≡ false) ⊎ (trace.new ≡ trace.old)) }
-    ensures write { result ≡ Err CliFault.Write → sink_failed out.new ≡ true }
-    ensures silent { IfErr result (λ fault. (fault ≡ CliFault.Write) ⊎ (out.new ≡ out.old)) }
+    ensures always { Answered P.remaining (λ fault. is_view_fault fault ≡ true) plan.old plan.new trace.old trace.new out.old out.new result }
 {
     let made = picture_of_texts(alloc, plan, trace, asked)?;
     write_told(out, made.text.as_slice(), made.found)

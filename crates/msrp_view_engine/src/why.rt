@@ -1,23 +1,22 @@
 //! Why a trace is no legal run: the verdict, the row that breaks a rule, and what was due.
-ghost use Rattle.std.specs.Prelude.{◌≡◌, ◌⊎◌, ℕ, List, [], true, false, Ok, Some, Err, IfOk, IfErr};
+ghost use Rattle.std.specs.Prelude.{◌≡◌, ◌⊎◌, ℕ, List, [], true, Ok, Some, Err, IfOk, IfErr};
 ghost use Rattle.csv.specs.Records.{fields_of};
 ghost use Rattle.msrp_audit.specs.Audits.{HasFed};
-ghost use Rattle.msrp_plan.specs.Bytes.{Wrote, sink_failed, source_failed, source_remaining};
-ghost use Rattle.msrp_text.specs.Reading.{csv_records, plan_of};
-ghost use Rattle.msrp_text.specs.declared.reading.TextError.{TextError as PlanError};
+ghost use Rattle.msrp_plan.specs.Bytes.{Wrote};
 ghost use Rattle.msrp_trace.specs.Reading.{Told, rows_of};
 ghost use Rattle.msrp_trace.specs.Readers.{StandsBehind, StandsIn, told_left};
+ghost use Rattle.msrp_engine.specs.Answered.{Ends, IsVerdict, OfText, OfTexts, ReadsBoth};
 ghost use Rattle.msrp_engine.specs.MadeTexts.{found_in};
-ghost use Rattle.msrp_faults.specs.Outcomes.{fault_of, is_audit_fault, trace_fault_of};
+ghost use Rattle.msrp_faults.specs.Outcomes.{is_audit_fault, is_plan_fault, trace_fault_of};
 ghost use Rattle.msrp_why.specs.Noted.{AreNoted};
 ghost use Rattle.msrp_view_engine.specs.Statuses.{is_record_fault};
 ghost use Rattle.msrp_view_engine.specs.Inside.Readings.{error_words};
-ghost use Rattle.msrp_view_engine.specs.Whys.{IsExplained, IsJudged, IsWhyOf, WhyAnswers, behind_text, found_text};
+ghost use Rattle.msrp_view_engine.specs.Whys.{IsExplained, IsExplainedOf, IsJudged, IsWhyOf, WhyAnswers, behind_text, found_text};
 
 use crate::told::write_found;
 use csv::ByteRecord;
 use msrp_audit::Auditor;
-use msrp_engine::{CliFault, Made, add_verdict, ending_of};
+use msrp_engine::{CliFault, Made, add_verdict, settled};
 use msrp_levels::Levels;
 use msrp_plan::bytes::{Sink, Source};
 use msrp_plan::{Fault, Plan};
@@ -166,8 +165,7 @@ fn explain_all<T: Read>(
     plan: &Plan,
     trace: &mut Source<T>,
 ) -> Result<Explained, CliFault>
-    ensures explained { (bytes : List ℕ) → source_remaining T.remaining trace.old ≡ Some bytes
-        → (result ≡ Err CliFault.Read) ⊎ (result ≡ Err CliFault.Memory) ⊎ IfOk result (IsExplained plan.now (csv_records bytes) (rows_of plan.now (csv_records bytes))) }
+    ensures explained { OfText T.remaining trace.old result (λ records. IfOk result (IsExplained plan.now records (rows_of plan.now records))) }
     ensures refused { IfOk result (λ words. IfErr words.found (λ fault. is_record_fault fault ≡ true)) }
     ensures faults { IfErr result (λ fault. (fault ≡ CliFault.Memory) ⊎ (fault ≡ CliFault.Read)) }
 {
@@ -183,23 +181,20 @@ fn explain_all<T: Read>(
     words
 }
 
-// The words on a trace of an accepted plan, where a failed read is told only if the source has failed, and want of memory only if it hasn't.
-fn explain<T: Read>(
+// The words on a trace of a plan, whoever made it.
+fn explain<P: Read, T: Read>(
     alloc: Global,
-    plan: &Plan,
+    plan: &mut Source<P>,
     trace: &mut Source<T>,
 ) -> Result<Explained, CliFault>
-    ensures explained { (bytes : List ℕ) → source_remaining T.remaining trace.old ≡ Some bytes
-        → (result ≡ Err CliFault.Read) ⊎ (result ≡ Err CliFault.Memory) ⊎ IfOk result (IsExplained plan.now (csv_records bytes) (rows_of plan.now (csv_records bytes))) }
+    ensures explained { OfTexts P.remaining T.remaining plan.old trace.old result (λ plan records. IsExplainedOf plan records result) }
     ensures refused { IfOk result (λ words. IfErr words.found (λ fault. is_record_fault fault ≡ true)) }
-    ensures faults { IfErr result (λ fault. (fault ≡ CliFault.Memory) ⊎ (fault ≡ CliFault.Read)) }
-    ensures read { result ≡ Err CliFault.Read → source_failed trace.new ≡ true }
-    ensures memory { result ≡ Err CliFault.Memory → source_failed trace.new ≡ false }
+    ensures reads { ReadsBoth P.remaining plan.old plan.new trace.old trace.new result }
+    ensures faults { IfErr result (λ fault. is_plan_fault fault ≡ true) }
 {
-    match explain_all(alloc, plan, trace) {
-        Err(_) => Err(ending_of(trace)),
-        words => words,
-    }
+    let plan = read_plan(alloc, plan)?;
+    let words = explain_all(alloc, &plan, trace);
+    settled(words, trace)
 }
 
 // The words on a verdict; of a refusal there are none.
@@ -222,17 +217,12 @@ pub fn why_of_texts<P: Read, T: Read>(
     plan: &mut Source<P>,
     trace: &mut Source<T>,
 ) -> Result<Made, CliFault>
-    ensures why { (plan_bytes trace_bytes : List ℕ) → source_remaining P.remaining plan.old ≡ Some plan_bytes → source_remaining T.remaining trace.old ≡ Some trace_bytes
-        → (result ≡ Err CliFault.Read) ⊎ (result ≡ Err CliFault.Memory) ⊎ IsWhyOf (plan_of (csv_records plan_bytes)) (csv_records trace_bytes) result }
-    ensures refused { (bytes : List ℕ) (error : PlanError) → source_remaining P.remaining plan.old ≡ Some bytes → plan_of (csv_records bytes) ≡ Err error
-        → (result ≡ Err CliFault.Read) ⊎ (result ≡ Err CliFault.Memory) ⊎ (result ≡ Err (fault_of error)) }
+    ensures why { OfTexts P.remaining T.remaining plan.old trace.old result (λ plan records. IsWhyOf plan records result) }
+    ensures reads { ReadsBoth P.remaining plan.old plan.new trace.old trace.new result }
     ensures faults { IfErr result (λ fault. is_audit_fault fault ≡ true) }
     ensures unwritten { ¬ (result ≡ Err CliFault.Write) }
-    ensures read { result ≡ Err CliFault.Read → (source_failed plan.new ≡ true) ⊎ (source_failed trace.new ≡ true) }
-    ensures memory { result ≡ Err CliFault.Memory → (source_failed plan.new ≡ false) × ((source_failed trace.new ≡ false) ⊎ (trace.new ≡ trace.old)) }
 {
-    let plan = read_plan(alloc, plan)?;
-    let words = explain(alloc, &plan, trace)?;
+    let words = explain(alloc, plan, trace)?;
     made_of(words)
 }
 
@@ -251,22 +241,13 @@ pub fn why_text<P: Read, T: Read, W: Write>(
 ) -> Result<u8, CliFault>
     // Where the readers tell their bytes, and no read failed and no memory was refused, the answer is that to
     // the plan and the rows that they stand for.
-    ensures answer { (plan_bytes trace_bytes : List ℕ) → source_remaining P.remaining plan.old ≡ Some plan_bytes → source_remaining T.remaining trace.old ≡ Some trace_bytes
-        → (result ≡ Err CliFault.Read) ⊎ (result ≡ Err CliFault.Memory) ⊎ WhyAnswers W.contents (plan_of (csv_records plan_bytes)) (csv_records trace_bytes) out.old out.new result }
-
-    // A refused plan is the answer, whatever the trace is read from.
-    ensures refused { (bytes : List ℕ) (error : PlanError) → source_remaining P.remaining plan.old ≡ Some bytes → plan_of (csv_records bytes) ≡ Err error
-        → (result ≡ Err CliFault.Read) ⊎ (result ≡ Err CliFault.Memory) ⊎ (result ≡ Err (fault_of error)) }
+    ensures answer { OfTexts P.remaining T.remaining plan.old trace.old result (λ plan records. WhyAnswers W.contents plan records out.old out.new result) }
 
     // Whatever the readers tell.
-    ensures good { IfOk result (λ status. ((status ≡ 0) ⊎ (status ≡ 1)) × (sink_failed out.new ≡ false)) }
-    ensures faults { IfErr result (λ fault. is_audit_fault fault ≡ true) }
-    ensures read { result ≡ Err CliFault.Read → (source_failed plan.new ≡ true) ⊎ (source_failed trace.new ≡ true) }
-    ensures memory { result ≡ Err CliFault.Memory → (source_failed plan.new ≡ false) × ((source_failed trace.new ≡ false) ⊎ (trace.new ≡ trace.old)) }
-    ensures write { result ≡ Err CliFault.Write → sink_failed out.new ≡ true }
+    ensures reads { ReadsBoth P.remaining plan.old plan.new trace.old trace.new result }
+    ensures ends { Ends IsVerdict (λ fault. is_audit_fault fault ≡ true) out.new result }
     ensures silent { IfErr result (λ fault. (fault ≡ CliFault.Write) ⊎ (is_record_fault fault ≡ true) ⊎ (out.new ≡ out.old)) }
 {
-    let plan = read_plan(alloc, plan)?;
-    let words = explain(alloc, &plan, trace)?;
+    let words = explain(alloc, plan, trace)?;
     write_found(out, words.text.as_slice(), words.found)
 }

@@ -3,11 +3,12 @@ ghost use Rattle.std.specs.Prelude.{◌≡◌, ◌⊎◌, ◌-◌, ℕ, List, []
 ghost use Rattle.csv.specs.Records.{fields_of};
 ghost use Rattle.msrp_advice.specs.Refusals.{refusal_text};
 ghost use Rattle.msrp_advice.specs.Warnings.{accepted_text};
-ghost use Rattle.msrp_plan.specs.Bytes.{Wrote, sink_failed, source_failed, source_remaining};
+ghost use Rattle.msrp_plan.specs.Bytes.{Wrote, source_failed, source_remaining};
 ghost use Rattle.msrp_plan.specs.Codes.{code_of};
 ghost use Rattle.msrp_text.specs.Reading.{csv_records, plan_of, record_at};
 ghost use Rattle.msrp_text.specs.Records.{GivesNext, records_left};
 ghost use Rattle.msrp_text.specs.declared.reading.TextError.{TextError};
+ghost use Rattle.msrp_engine.specs.Answered.{Ends, IsDone, OrUnread};
 ghost use Rattle.msrp_view_engine.specs.Explaining.{AreWordsOn, WhyPlanAnswers, words_status};
 ghost use Rattle.msrp_faults.specs.Outcomes.{is_sim_fault};
 
@@ -165,10 +166,8 @@ fn write_words<W: Write>(
 ) -> Result<u8, CliFault>
     ensures wrote { Wrote W.contents out.old out.new text.now }
     ensures status { result ≡ words_status refusal out.new }
-    ensures good { IfOk result (λ status. (status ≡ 0) × (sink_failed out.new ≡ false)) }
-    ensures faults { IfErr result (λ fault. is_sim_fault fault ≡ true) }
+    ensures ends { Ends IsDone (λ fault. is_sim_fault fault ≡ true) out.new result }
     ensures known { ¬ (result ≡ Err CliFault.Read) × ¬ (result ≡ Err CliFault.Memory) }
-    ensures write { result ≡ Err CliFault.Write → sink_failed out.new ≡ true }
 {
     out.add(text);
     out.outcome()?;
@@ -193,15 +192,12 @@ pub fn why_plan_text<P: Read, W: Write>(
 ) -> Result<u8, CliFault>
     // Where the reader tells its bytes, and no read failed and no memory was refused, the answer is that to
     // them and to the plan that they stand for.
-    ensures answer { (bytes : List ℕ) → source_remaining P.remaining plan.old ≡ Some bytes
-        → (result ≡ Err CliFault.Read) ⊎ (result ≡ Err CliFault.Memory) ⊎ WhyPlanAnswers W.contents bytes (plan_of (csv_records bytes)) out.old out.new result }
+    ensures answer { (bytes : List ℕ) → source_remaining P.remaining plan.old ≡ Some bytes → OrUnread result (WhyPlanAnswers W.contents bytes (plan_of (csv_records bytes)) out.old out.new result) }
 
     // Whatever the reader tells.
-    ensures good { IfOk result (λ status. (status ≡ 0) × (sink_failed out.new ≡ false)) }
-    ensures faults { IfErr result (λ fault. is_sim_fault fault ≡ true) }
     ensures read { result ≡ Err CliFault.Read → source_failed plan.new ≡ true }
     ensures memory { result ≡ Err CliFault.Memory → source_failed plan.new ≡ false }
-    ensures write { result ≡ Err CliFault.Write → sink_failed out.new ≡ true }
+    ensures ends { Ends IsDone (λ fault. is_sim_fault fault ≡ true) out.new result }
     ensures silent { (result ≡ Err CliFault.Memory) ⊎ (result ≡ Err CliFault.Read) → out.new ≡ out.old }
 {
     let words = why_of_plan(alloc, plan)?;

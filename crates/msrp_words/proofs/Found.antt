@@ -26,8 +26,8 @@ differ one other apart same = let bad : true ≡ false = sym ((bytes_eq-Decides 
 
 -- other words ask for other commands
 no_sim : (rows : List Row) → order_of (first_of (codes "order") rows) ≡ None → (command : Cmd) → IsCommand (codes "sim") rows command → ⊥
-no_sim rows none (Sim order ahead plan) h = none_some _ order none h.1.0
-no_sim rows none (Run ahead plan) h = differ (codes "run") (codes "sim") refl h.0
+no_sim rows none (Sim order version plan) h = none_some _ order none h.1.0
+no_sim rows none (Run version plan) h = differ (codes "run") (codes "sim") refl h.0
 no_sim rows none (Audit parallel plan trace) h = differ (codes "audit") (codes "sim") refl h.0
 no_sim rows none (Report plan trace) h = differ (codes "report") (codes "sim") refl h.0
 no_sim rows none (Check plan) h = differ (codes "check") (codes "sim") refl h.0
@@ -35,8 +35,8 @@ no_sim rows none (CheckText plan) h = differ (codes "check") (codes "sim") refl 
 no_sim rows none Help h = h.1
 
 no_audit : (rows : List Row) → paths_of rows ≡ None → (command : Cmd) → IsCommand (codes "audit") rows command → ⊥
-no_audit rows none (Sim order ahead plan) h = differ (codes "sim") (codes "audit") refl h.0
-no_audit rows none (Run ahead plan) h = differ (codes "run") (codes "audit") refl h.0
+no_audit rows none (Sim order version plan) h = differ (codes "sim") (codes "audit") refl h.0
+no_audit rows none (Run version plan) h = differ (codes "run") (codes "audit") refl h.0
 no_audit rows none (Audit parallel plan trace) h = none_some _ (plan.now, trace.now) none h.1.1
 no_audit rows none (Report plan trace) h = differ (codes "report") (codes "audit") refl h.0
 no_audit rows none (Check plan) h = differ (codes "check") (codes "audit") refl h.0
@@ -44,8 +44,8 @@ no_audit rows none (CheckText plan) h = differ (codes "check") (codes "audit") r
 no_audit rows none Help h = h.1
 
 no_report : (rows : List Row) → paths_of rows ≡ None → (command : Cmd) → IsCommand (codes "report") rows command → ⊥
-no_report rows none (Sim order ahead plan) h = differ (codes "sim") (codes "report") refl h.0
-no_report rows none (Run ahead plan) h = differ (codes "run") (codes "report") refl h.0
+no_report rows none (Sim order version plan) h = differ (codes "sim") (codes "report") refl h.0
+no_report rows none (Run version plan) h = differ (codes "run") (codes "report") refl h.0
 no_report rows none (Audit parallel plan trace) h = differ (codes "audit") (codes "report") refl h.0
 no_report rows none (Report plan trace) h = none_some _ (plan.now, trace.now) none h.1
 no_report rows none (Check plan) h = differ (codes "check") (codes "report") refl h.0

@@ -4,7 +4,7 @@ ghost use Rattle.std.specs.Prelude.{◌≡◌, ◌⊎◌, codes, false, map, ok_
 ghost use Rattle.clap.specs.Words.{App, fault_of, found_of, rows_of, rule_of, subcommand_of, subcommand_rows_of};
 ghost use Rattle.msrp_words.specs.CommandLine as line;
 ghost use Rattle.msrp_words.specs.CommandLine.{IsAnswered, IsChosen, Takes};
-ghost use Rattle.msrp_words.specs.Words.{IsAsked, IsCommand, order_of, plan_path};
+ghost use Rattle.msrp_words.specs.Words.{IsAsked, IsCommand, order_of, plan_path, version_of};
 
 use clap::error::ErrorKind;
 use clap::{Arg, ArgMatches, Command, Error};
@@ -12,31 +12,22 @@ use msrp_cli::{
     PLAN, STANDARD, TRACE, both_paths, fault_of_words, flag, is_given, path, value_of, valued,
 };
 use msrp_faults::CliFault;
+use msrp_plan::TextVersion;
+use msrp_sim::Order;
 use std::alloc::{AllocError, Global};
 
-/// The order of the cores in each tick of a simulation.
-#[derive(Clone, Copy, Debug, PartialEq, Eq)]
-pub enum TurnOrder {
-    /// Rising.
-    Asc,
-    /// Falling.
-    Desc,
-    /// In tick t from core t mod m on, and round.
-    Rot,
-}
-
 /// A command, with its words. A path `-` is standard input.
-#[derive(Clone, Copy, Debug, PartialEq, Eq)]
+#[derive(Debug, Drop)]
 pub enum Cmd<'a> {
-    /// Simulates the plan on one thread; with `ahead` its trace tells the lengths of queues.
+    /// Simulates the plan on one thread.
     Sim {
-        order: TurnOrder,
-        ahead: bool,
+        order: Order,
+        version: TextVersion,
         plan: &'a str,
     },
     /// Runs the plan on a thread for each core.
     Run {
-        ahead: bool,
+        version: TextVersion,
         plan: &'a str,
     },
     /// Judges a trace of the plan.
@@ -219,14 +210,25 @@ fn plan_of<'a>(matches: &ArgMatches<'a>) -> &'a str
 }
 
 // The order of a word; rising where there is none.
-fn order_of(word: Option<&str>) -> Result<TurnOrder, CliFault>
+fn order_of(word: Option<&str>) -> Result<Order, CliFault>
     ensures { result ≡ ok_or (order_of (option_map (λ word. word.now) word.entry)) CliFault.Usage }
 {
     match word {
-        None | Some("asc") => Ok(TurnOrder::Asc),
-        Some("desc") => Ok(TurnOrder::Desc),
-        Some("rot") => Ok(TurnOrder::Rot),
+        None | Some("asc") => Ok(Order::Asc),
+        Some("desc") => Ok(Order::Desc),
+        Some("rot") => Ok(Order::Rot),
         Some(_) => Err(CliFault::Usage),
+    }
+}
+
+// The version of a trace: the second tells aheads.
+fn version_of(matches: &ArgMatches<'_>) -> TextVersion
+    ensures { result ≡ version_of (rows_of (found_of matches.now)) }
+{
+    if is_given(matches, AHEAD) {
+        TextVersion::V2
+    } else {
+        TextVersion::V1
     }
 }
 
@@ -235,7 +237,7 @@ fn sim_of<'a>(matches: &ArgMatches<'a>) -> Result<Cmd<'a>, CliFault>
 {
     Ok(Cmd::Sim {
         order: order_of(value_of(matches, ORDER))?,
-        ahead: is_given(matches, AHEAD),
+        version: version_of(matches),
         plan: plan_of(matches),
     })
 }
@@ -244,7 +246,7 @@ fn run_of<'a>(matches: &ArgMatches<'a>) -> Cmd<'a>
     ensures { IsCommand (codes "run") (rows_of (found_of matches.now)) result }
 {
     Cmd::Run {
-        ahead: is_given(matches, AHEAD),
+        version: version_of(matches),
         plan: plan_of(matches),
     }
 }
@@ -299,8 +301,8 @@ fn chosen<'a>(matches: &ArgMatches<'a>) -> Result<Cmd<'a>, CliFault>
     match matches.subcommand() {
         Some((word, words)) => command_named(word, words),
         None => Ok(Cmd::Sim {
-            order: TurnOrder::Asc,
-            ahead: false,
+            order: Order::Asc,
+            version: TextVersion::V1,
             plan: STANDARD,
         }),
     }

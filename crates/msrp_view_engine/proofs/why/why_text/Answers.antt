@@ -1,10 +1,15 @@
-use Rattle.std.proofs.Common.{rules, ◌≡◌, Ok}
+use Rattle.std.proofs.Common.{rules, ◌≡◌, Err}
 use Rattle.msrp_text.specs.Reading.{csv_records, plan_of}
-use Rattle.msrp_view_engine.proofs.WhyWritten.{told-answers}
+use Rattle.msrp_view_engine.proofs.WhyWritten.{told-answers, untold-answers}
 use Rattle.msrp_view_engine.proofs.why.why_text.Goals as goal
+
+pub returns-in_err-words-clause-answer : goal.returns-in_err-words-clause-answer
+returns-in_err-words-clause-answer g c = λ plan_bytes trace_bytes plan trace.
+    let fault = c.in_err-words.field-0.0 in
+    let gives : c.from_residual.result ≡ Err fault = search rules in
+    untold-answers g.W.Write.contents (plan_of (csv_records plan_bytes)) (csv_records trace_bytes) fault c.args.out.now c.from_residual.result (c.in_err-words.ensures.explained plan_bytes trace_bytes plan trace) gives
 
 pub returns-clause-answer : goal.returns-clause-answer
 returns-clause-answer g c = λ plan_bytes trace_bytes plan trace.
-    let is : plan_of (csv_records plan_bytes) ≡ Ok c.in_ok-plan.plan = search rules in
-    told-answers g.W.Write.contents (plan_of (csv_records plan_bytes)) c.in_ok-plan.plan (csv_records trace_bytes) c.in_ok-words.words c.args.out.now c.write_found.new.out c.write_found.result is
-    (c.in_ok-words.ensures.explained trace_bytes trace) (rw c.as_slice.ensures.value at c.write_found.ensures.wrote) c.write_found.ensures.status
+    told-answers g.W.Write.contents (plan_of (csv_records plan_bytes)) (csv_records trace_bytes) c.in_ok-words.words c.args.out.now c.write_found.new.out c.write_found.result
+    (c.in_ok-words.ensures.explained plan_bytes trace_bytes plan trace) (rw c.as_slice.ensures.value at c.write_found.ensures.wrote) c.write_found.ensures.status

@@ -16,4 +16,4 @@ returns-in_err-order_of c =
 pub returns : goal.returns
 returns c =
     let order : Ok c.in_ok-order_of.field-0 ≡ ok_or (order_of (first_of (codes "order") (rows_of (found_of c.args.matches.now)))) Usage = search rules in
-    (refl, (a_value _ c.in_ok-order_of.field-0 order, c.is_given.ensures, c.plan_of.ensures))
+    (refl, (a_value _ c.in_ok-order_of.field-0 order, c.version_of.ensures, c.plan_of.ensures))

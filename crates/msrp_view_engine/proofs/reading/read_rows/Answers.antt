@@ -3,7 +3,7 @@ use Rattle.msrp_text.specs.Records.{csv_records}
 use Rattle.msrp_faults.specs.Outcomes.{trace_fault_of}
 use Rattle.msrp_trace.proofs.ReadThrough.{opened}
 use Rattle.msrp_view_engine.proofs.ReadThrough.{unopened-read}
-use Rattle.msrp_view_engine.proofs.reading.gather_all.Goals as goal
+use Rattle.msrp_view_engine.proofs.reading.read_rows.Goals as goal
 
 pub returns-in_err-rows-clause-rows : goal.returns-in_err-rows-clause-rows
 returns-in_err-rows-clause-rows g c = λ bytes known.
