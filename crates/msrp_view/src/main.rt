@@ -87,11 +87,15 @@ fn run(rt: &HostRuntime) -> Result<u8, CliFault> {
         return Err(CliFault::Memory);
     };
     let mut out = Sink::new(writer);
-    let status = answer(rt, cmd, &mut out)?;
-    match out.into_inner().flush() {
-        Ok(()) => Ok(status),
-        Err(_) => Err(CliFault::Write),
+    let outcome = answer(rt, cmd, &mut out);
+    let failed = out.outcome().is_err();
+    let mut writer = out.into_inner();
+    if !failed && writer.flush().is_ok() {
+        return outcome;
     }
+    // What a failed write left isn't tried again, as it would be where the writer ends with it.
+    let _unwritten = writer.into_parts();
+    Err(CliFault::Write)
 }
 
 fn main(rt: HostRuntime) -> ExitCode {
