@@ -178,14 +178,12 @@ def reads(found, preloaded, command, given, how):
 
 
 def writes(found, preloaded, command, given, how):
-    """Each write fails in turn, of one byte each: a write fault, and what was written is all before it; of the second program, which tries what it has
-    gathered once more as it ends, and an interrupted write at once, a first part."""
+    """Each write fails in turn, of one byte each: a write fault, and what was written is all before it. The second program tries an interrupted write again."""
     words = words_of(command, *paths_of(given))
     ample = ask(words, program_of(command))
     for number in range(1, MOST_CALLS):
         answer, told = ask_refusing(preloaded, words, "write", number, how=how, short=True, program=program_of(command))
         part = len(answer.out) == number - 1 if varies(command) else answer.out == ample.out[:number - 1]
-        part = part or command in PICTURES and ample.out.startswith(answer.out)
         due = part and answer[0::2] == (BROKEN, fault_of(command, WRITE_FAULT)) if told else is_ample(command, words, ample, answer)
         found.judge(due, f"{given.name}, {command}, write {number} by {how}", answer)
         if not told:
