@@ -96,10 +96,9 @@ def is_ample(command, words, ample, answer):
     return answer.status == GOOD and not answer.line and is_whole(command, answer.out) and is_audited(words[-1], answer.out)
 
 
-def is_want(command, ample, answer, lines=(MEMORY,)):
-    """Whether this tells of want by one of these lines, and no more than a first part was written; nothing of a run."""
-    part = not answer.out if varies(command) else ample.out.startswith(answer.out)
-    return answer.status == WANT and part and answer.line in lines
+def is_want(answer, lines=(MEMORY,)):
+    """Whether this tells of want by one of these lines, and nothing was written."""
+    return answer.status == WANT and not answer.out and answer.line in lines
 
 
 def paths_of(given):
@@ -107,9 +106,11 @@ def paths_of(given):
 
 
 def want_of(command, call, number, starts):
-    """The lines that may tell of want where this call is refused: that threads are wanting is told of a run alone, and where a thread's start was refused."""
-    is_start = command in STARTS_THREADS and (call == "thread" or number in starts)
-    return (THREADS,) if is_start else (MEMORY,)
+    """The lines that may tell of want where this call is refused: that threads are wanting is told of a run alone, and where a thread's start was refused.
+    An audit does without threads."""
+    if command in STARTS_THREADS and (call == "thread" or number in starts):
+        return (THREADS,)
+    return () if call == "thread" else (MEMORY,)
 
 
 def refused_in_turn(found, preloaded, command, given, call, lasting):
@@ -121,7 +122,7 @@ def refused_in_turn(found, preloaded, command, given, call, lasting):
     for number in range(1, MOST_CALLS):
         answer, told = ask_refusing(preloaded, words, call, number, EVER_AFTER if lasting else number)
         what = f"{given.name}, {command}, {call} {number}{' and all after it' if lasting else ''} refused"
-        wants = told and is_want(command, ample, answer, want_of(command, call, number, starts))
+        wants = told and is_want(answer, want_of(command, call, number, starts))
         found.judge(is_ample(command, words, ample, answer) or wants, what, answer)
         if not told:
             break
@@ -222,7 +223,7 @@ def address_space(found, given):
     while room < MOST_MEMORY:
         answer = limited(words, AS=room)
         whole = is_ample("run", words, ample, answer)
-        found.judge(whole or is_want("run", ample, answer, (MEMORY, THREADS)), f"{given.name}, run in {room} bytes of address space", answer)
+        found.judge(whole or is_want(answer, (MEMORY, THREADS)), f"{given.name}, run in {room} bytes of address space", answer)
         found.counts["refused"] += not whole
         if whole:
             break
