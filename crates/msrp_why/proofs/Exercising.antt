@@ -4,13 +4,14 @@ use Rattle.std.specs.List.{Contains}
 use Rattle.std.specs.Option.{ForSome}
 use Rattle.std.proofs.Math.Nat.{max-zero, mul-le-mul_left}
 use Rattle.std.proofs.lemmas.Bool.{and_parts, not-true}
+use Rattle.std.proofs.lemmas.Option.{slice_get_within}
 use Rattle.std.proofs.lemmas.List.Elements.{All-contains, All-from_recursion}
 use Rattle.msrp_core.specs.CoreStates.{IsCoreState}
 use Rattle.msrp_core.specs.declared.states.CoreState.{CoreState}
 use Rattle.msrp_plan.specs.Blocking.{count_after}
 use Rattle.msrp_plan.specs.Choice.{head, is_before}
 use Rattle.msrp_plan.specs.Jobs.{done, is_job, is_released, is_started, jobs_of, jobs_on}
-use Rattle.msrp_plan.specs.Plan.{PlanModel}
+use Rattle.msrp_plan.specs.Plan.{PlanModel, units}
 use Rattle.msrp_plan.specs.Queues.{is_on}
 use Rattle.msrp_plan.specs.Runs.{IsLegal, IsRunStart}
 use Rattle.msrp_plan.specs.WellFormed.{IsPlan}
@@ -143,6 +144,10 @@ module _ (plan : PlanModel) (rows : List Row) (r : Row) (s : CoreState) (ok : Is
     | inl new ↦ (let passes = and_parts (is_released plan r.tick j) (not (is_started rows j)) (least_passes (is_before plan) (λ i. is_released plan r.tick i && not (is_started rows i)) (jobs_on plan r.core.0) j new.first) in new_so j (nothing_done rows j (not-true (is_started rows j) passes.1)) (is_job s.running j) refl)
     | inr runs ↦ ap (λ o. cond (is_job o j) s.done 0) (is.running ∙ runs) ∙ (ap (λ b. cond b s.done 0) (same_self j) ∙ runs_so j (is.running ∙ runs))
   ]
+
+  -- and it has a unit left
+  pub units_left : ForSome r.job (λ j. units_done s j < length (units plan j))
+  units_left = λ j job. subst (λ n. n < length (units plan j)) (sym (done_so j job)) (slice_get_within (units plan j) (done j rows) (turn.does j job).op (turn.does j job).unit)
 
   finishes_by : (o : Option JobId) → r.job ≡ o → job_finishes plan rows r o ≡ finishes_from plan s r.kind o
   finishes_by None job = refl
