@@ -69,6 +69,16 @@ fn plan_path<'a>(alloc: Global) -> Arg<'a>
     Arg::new(alloc, PLAN).help("the plan's path; - is standard input, as where none is given")
 }
 
+// The command, if it could be made, with one argument more.
+fn with_arg<'a>(
+    made: Result<Command<'a>, AllocError>,
+    arg: Arg<'a>,
+) -> Result<Command<'a>, AllocError>
+    ensures { (words : App) (rule : Rule) → IfOk made.entry (Takes words) → Declares rule arg.entry → IfOk result (Takes (with_rule words rule)) }
+{
+    made?.arg(arg)
+}
+
 // A command with two arguments.
 fn command_with<'a>(
     alloc: Global,
@@ -79,10 +89,8 @@ fn command_with<'a>(
 ) -> Result<Command<'a>, AllocError>
     ensures { (one two : Rule) → Declares one first.entry → Declares two second.entry → IfOk result (Takes (with_rule (with_rule (new_app name.now) one) two)) }
 {
-    Command::new(alloc, name)
-        .about(about)
-        .arg(first)?
-        .arg(second)
+    let command = Command::new(alloc, name).about(about);
+    with_arg(with_arg(Ok(command), first), second)
 }
 
 // A command that judges a trace of a plan.
@@ -126,14 +134,14 @@ fn ahead_arg<'a>(alloc: Global) -> Arg<'a>
 fn sim<'a>(alloc: Global) -> Result<Command<'a>, AllocError>
     ensures { IfOk result (Takes line.sim) }
 {
-    command_with(
+    let made = command_with(
         alloc,
         "sim",
         "writes the trace of the plan's run on one thread",
         order_arg(alloc),
         ahead_arg(alloc),
-    )?
-    .arg(plan_path(alloc))
+    );
+    with_arg(made, plan_path(alloc))
 }
 
 fn run<'a>(alloc: Global) -> Result<Command<'a>, AllocError>
@@ -173,21 +181,25 @@ fn report<'a>(alloc: Global) -> Result<Command<'a>, AllocError>
 fn audit<'a>(alloc: Global) -> Result<Command<'a>, AllocError>
     ensures { IfOk result (Takes line.audit) }
 {
-    judge(alloc, "audit", "judges a trace: good, or its first fault")?.arg(flag(
-        alloc,
-        PARALLEL,
-        "judges the parts of the trace side by side",
-    ))
+    let made = judge(alloc, "audit", "judges a trace: good, or its first fault");
+    with_arg(
+        made,
+        flag(
+            alloc,
+            PARALLEL,
+            "judges the parts of the trace side by side",
+        ),
+    )
 }
 
-// The program's words, with one command more, if that could be made.
+// The program's words, with one command more, if both could be made.
 fn with_command<'a>(
-    program: Command<'a>,
+    program: Result<Command<'a>, AllocError>,
     made: Result<Command<'a>, AllocError>,
 ) -> Result<Command<'a>, AllocError>
-    ensures { (words more : App) → Takes words program.entry → IfOk made.entry (Takes more) → more.top.is_plain ≡ true → IfOk result (Takes (with_subcommand words more.top)) }
+    ensures { (words more : App) → IfOk program.entry (Takes words) → IfOk made.entry (Takes more) → more.top.is_plain ≡ true → IfOk result (Takes (with_subcommand words more.top)) }
 {
-    program.subcommand(made?)
+    program?.subcommand(made?)
 }
 
 // The commands that make traces, those that judge them, and the plan's own.
@@ -197,10 +209,10 @@ fn grammar<'a>(alloc: Global) -> Result<Command<'a>, AllocError>
     let program = Command::new(alloc, "msrp").about(
         "MSRP 0.1.0, the Multiprocessor Stack Resource Policy: runs, audits, reports; without a command as sim -",
     );
-    let program = with_command(program, sim(alloc))?;
-    let program = with_command(program, run(alloc))?;
-    let program = with_command(program, audit(alloc))?;
-    let program = with_command(program, report(alloc))?;
+    let program = with_command(Ok(program), sim(alloc));
+    let program = with_command(program, run(alloc));
+    let program = with_command(program, audit(alloc));
+    let program = with_command(program, report(alloc));
     with_command(program, check(alloc))
 }
 
