@@ -1,12 +1,11 @@
 -- What the parser was told, command by command.
 use Rattle.std.proofs.Common.{◌≡◌, ◌∙◌, ◌&&◌, Bool, true, false, not, List, [], ◌∷◌, Option, Some, None, Result, option_map, refl, ap, ap₂, sym}
 use Rattle.clap.proofs.OnLiterals.{clap_on_literals}
-use Rattle.clap.specs.Words.{AddsArg, AddsSubcommand, App, IsAmong, Kinds, Row, Rule, Text, app_of, found_of, is_simple, is_simple_and_free, rows_of, subcommand_name_of, subcommand_rows_of, with_rule, with_subcommand}
-use Rattle.clap.specs.declared.builder.arg.Arg.{Arg}
+use Rattle.clap.specs.Words.{AddsSubcommand, App, IsAmong, Kinds, Row, Text, app_of, found_of, is_simple, is_simple_and_free, rows_of, subcommand_name_of, subcommand_rows_of, with_subcommand}
 use Rattle.clap.specs.declared.builder.command.Command.{Command}
 use Rattle.clap.specs.declared.error.kind.ErrorKind.{ErrorKind}
 use Rattle.clap.specs.declared.parser.matches.ArgMatches.{ArgMatches}
-use Rattle.msrp_words.specs.CommandLine.{Declares, IsAnswered, IsChosen, answer_to, grammar}
+use Rattle.msrp_words.specs.CommandLine.{IsAnswered, IsChosen, answer_to, grammar}
 use Rattle.msrp_words.specs.Words.{IsAsked}
 use Rattle.msrp_words.specs.declared.cli.Cmd.{Cmd}
 use Rattle.msrp_faults.specs.declared.faults.CliFault.{CliFault}
@@ -24,10 +23,6 @@ own_args false b true d e = sym e
 pub adds_command : (old sub new : Command) (words more : App) → AddsSubcommand old sub new → app_of old ≡ words → app_of sub ≡ more → more.top.is_plain ≡ true → app_of new ≡ with_subcommand words more.top
 adds_command old sub new words more h told is plain =
     h.shape (own_args _ _ _ _ (ap (λ (a : App). a.top.is_plain) is ∙ plain)) ∙ ap₂ with_subcommand told (ap (λ (a : App). a.top) is)
-
--- one argument more
-pub adds_rule : (old : Command) (arg : Arg) (new : Command) (words : App) (rule : Rule) → AddsArg old arg new → app_of old ≡ words → Declares rule arg → app_of new ≡ with_rule words rule
-adds_rule old arg new words rule h told is = h.shape is.1 ∙ ap₂ with_rule told is.0
 
 -- the parser can tell of all words what it gives for them
 pub grammar_simple : is_simple grammar ≡ true

@@ -10,6 +10,7 @@ use clap::error::ErrorKind;
 use clap::{Arg, ArgMatches, Command, Error};
 use msrp_cli::{
     PLAN, STANDARD, TRACE, both_paths, fault_of_words, flag, is_given, path, value_of, valued,
+    with_arg,
 };
 use msrp_faults::CliFault;
 use msrp_plan::TextVersion;
@@ -67,16 +68,6 @@ fn plan_path<'a>(alloc: Global) -> Arg<'a>
     ensures own { result.global ≡ false }
 {
     Arg::new(alloc, PLAN).help("the plan's path; - is standard input, as where none is given")
-}
-
-// The command, if it could be made, with one argument more.
-fn with_arg<'a>(
-    made: Result<Command<'a>, AllocError>,
-    arg: Arg<'a>,
-) -> Result<Command<'a>, AllocError>
-    ensures { (words : App) (rule : Rule) → IfOk made.entry (Takes words) → Declares rule arg.entry → IfOk result (Takes (with_rule words rule)) }
-{
-    made?.arg(arg)
 }
 
 // A command with two arguments.
