@@ -207,15 +207,12 @@ fn grammar<'a>(alloc: Global) -> Result<Command<'a>, AllocError>
     with_command(program, check(alloc))
 }
 
-fn help_of(mut command: Command<'_>) -> Result<String, AllocError> {
-    command.render_help()
-}
-
 // The text of the program's help.
 fn program_help(alloc: Global) -> Result<String, CliFault>
     ensures { IfErr result (λ fault. fault ≡ CliFault.Memory) }
 {
-    Ok(help_of(grammar(alloc)?)?)
+    let mut command = grammar(alloc)?;
+    Ok(command.render_help()?)
 }
 
 // The help that an answer of the parser is, or else that of the program.
