@@ -93,7 +93,7 @@ fn program<'a>(alloc: Global) -> Command<'a>
     )
 }
 
-// The flag that asks for the version, whatever else the words say.
+// The flag that asks for the version.
 fn version<'a>(alloc: Global) -> Arg<'a>
     ensures rule { rule_of result ≡ line.version }
     ensures own { result.global ≡ false }
