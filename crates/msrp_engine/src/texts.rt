@@ -1,9 +1,10 @@
 //! The texts of a plan: a plan is read, a text of it is gathered in memory, and then written.
 
-ghost use Rattle.std.specs.Prelude.{◌≡◌, true, IfOk, IfErr, OnOk};
+ghost use Rattle.std.specs.Prelude.{◌≡◌, ◌⊎◌, true, Err, IfOk, IfErr, OnOk};
+ghost use Rattle.msrp_plan.specs.Bytes.{Wrote};
 ghost use Rattle.msrp_plan.specs.WellFormed.{IsPlan};
 ghost use Rattle.msrp_text.specs.Reading.{plan_of};
-ghost use Rattle.msrp_faults.specs.Outcomes.{is_sim_fault};
+ghost use Rattle.msrp_faults.specs.Outcomes.{is_sim_fault, written_status};
 ghost use Rattle.msrp_engine.specs.Answered.{AnsweredPlan, OfText};
 ghost use Rattle.msrp_engine.specs.Inside.Texts.{text_of};
 ghost use Rattle.msrp_engine.specs.Simulation.{TextAnswers, WritesSomeText};
@@ -39,6 +40,19 @@ fn gathered(alloc: Global, plan: &Plan, which: PlanText) -> Result<Vec<u8>, CliF
     }
 }
 
+// Gathers it, and writes it.
+fn write_gathered<W: Write>(
+    alloc: Global,
+    plan: &Plan,
+    out: &mut Sink<W>,
+    which: PlanText,
+) -> Result<u8, CliFault>
+    ensures { ((result ≡ Err CliFault.Memory) × (out.new ≡ out.old)) ⊎ (IsPlan plan.now × Wrote W.contents out.old out.new (text_of which plan.now) × (result ≡ written_status out.new)) }
+{
+    let text = gathered(alloc, plan, which)?;
+    write_whole(out, text.as_slice())
+}
+
 /// Reads a plan, and writes the text of it that is asked for. The whole plan is read before anything is written, and all memory is taken before:
 /// so whatever the fault, but a write fault, nothing was written.
 pub(crate) fn write_text<P: Read, W: Write>(
@@ -52,6 +66,5 @@ pub(crate) fn write_text<P: Read, W: Write>(
     ensures always { AnsweredPlan (λ fault. is_sim_fault fault ≡ true) plan.new out.old out.new result }
 {
     let plan = read_plan(alloc, plan)?;
-    let text = gathered(alloc, &plan, which)?;
-    write_whole(out, text.as_slice())
+    write_gathered(alloc, &plan, out, which)
 }
