@@ -1,15 +1,12 @@
 -- What decides who has the turn of a core is told by the rows of the core alone, and so by its machine.
-use Rattle.std.proofs.Common.{◌≡◌, ℕ, ◌&&◌, ◌==◌, true, not, List, [], Some, ap, sym, ◌∙◌, subst, length, slice_get}
-use Rattle.std.proofs.lemmas.Bool.{eqb-true}
+use Rattle.std.proofs.Common.{◌≡◌, ℕ, ◌&&◌, not, List, [], Some, ap, sym, ◌∙◌, subst, length, slice_get}
 use Rattle.std.proofs.lemmas.List.Elements.{All-contains, All-from_recursion}
-use Rattle.msrp_plan.specs.Plan.{PlanModel, core_of, units}
-use Rattle.msrp_plan.specs.Jobs.{done, is_finished, is_released, is_started, jobs_on}
-use Rattle.msrp_plan.specs.Choice.{head, is_before, least, running}
+use Rattle.msrp_plan.specs.Plan.{PlanModel}
+use Rattle.msrp_plan.specs.Jobs.{done, is_finished, is_started, jobs_on}
+use Rattle.msrp_plan.specs.Choice.{head, is_before, running}
 use Rattle.msrp_plan.specs.Logs.{log_of}
 use Rattle.msrp_plan.specs.States.{JobState, state_after}
 use Rattle.msrp_plan.specs.declared.rows.Row.{Row}
-use Rattle.msrp_plan.proofs.Lists.AnyAll.{all_weaker}
-use Rattle.msrp_plan.proofs.Lists.Filters.{filter_same}
 use Rattle.msrp_plan.proofs.Lists.LeastKept.{least_in}
 use Rattle.msrp_plan.proofs.Legality.Locality.{AreOwn, ceiling_same, head_same, running_same, states_local}
 use Rattle.msrp_plan.proofs.Queues.QueueLocks.{own_from_legal}

@@ -16,7 +16,7 @@ use Rattle.msrp_plan.specs.declared.faults.Fault.{Fault}
 use Rattle.msrp_plan.specs.declared.faults.Rule.{Rule}
 use Rattle.msrp_plan.specs.declared.faults.Rule.TheVariants.{A1, A2, A3, A4, A5, A6, A7}
 use Rattle.msrp_plan.specs.declared.rows.Row.{Row}
-use Rattle.msrp_plan.proofs.Runs.Verdicts.{fault_push, fault_stays, unbroken_is_legal}
+use Rattle.msrp_plan.proofs.Runs.Verdicts.{fault_push, unbroken_is_legal}
 use Rattle.msrp_plan.proofs.Lists.Ranges.{range_more}
 use Rattle.msrp_sim.specs.Cores.{IsDueAfter, IsNextRow}
 use Rattle.msrp_audit.specs.Audits.{AuditorModel, HasFed, answer_of, has_turn}
@@ -121,11 +121,6 @@ fault_answer (Some g) f h = cc
 pub good_answer : (o : Option Fault) (good : ⊤) → Ok good ≡ answer_of o → o ≡ None
 good_answer None good h = refl
 good_answer (Some f) good h = absurd (cc)
-
--- rows before one without a fault have none
-good_before : (plan : PlanModel) (rows : List Row) (r : Row) (o : Option Fault) → fault_in plan rows ≡ o → fault_in plan (rows ++ r ∷ []) ≡ None → fault_in plan rows ≡ None
-good_before plan rows r None is good = is
-good_before plan rows r (Some f) is good = let stays = fault_stays plan rows (r ∷ []) f is in absurd (cc)
 
 -- a fault that the auditor answers, with the row that was due and the state of the core
 pub cause_is : (a : AuditorModel) (rows : List Row) (r : Row) (f : Fault) (due : Option Row) (state : Option CoreState) (turns : ArrayVec ℕ) (notes : Notes) → IsPlan a.plan → AreNoted a.plan rows notes → HasFed a rows → fault_in a.plan rows ≡ None → Err f ≡ answer_of (fault_in a.plan (rows ++ r ∷ []))

@@ -23,7 +23,7 @@ use Rattle.msrp_plan.proofs.Choosing.Turns.{has_turn}
 use Rattle.msrp_plan.proofs.Jobs.JobLists.{core_jobs_below}
 use Rattle.msrp_plan.proofs.Jobs.JobTests.{is_job_is, same_self}
 use Rattle.msrp_plan.proofs.Legality.LegalRows.{IsTurn, legal_turn, turn_chosen, turn_core}
-use Rattle.msrp_plan.proofs.Lists.LeastKept.{least_in, least_passes}
+use Rattle.msrp_plan.proofs.Lists.LeastKept.{least_passes}
 use Rattle.msrp_audit.proofs.Judging.{own_is}
 use Rattle.msrp_why.specs.Exercise.{AreResourceCounts, AreTurnCounts, ends, enters, finishes, finishes_at_deadline, finishes_late, has_open, is_at, is_entry, is_grant, is_granted_at_once, is_granted_later, is_in_tick, is_kept, is_met, is_opening, is_other, is_past, is_queue, job_finishes, job_nests, joins, keeps_head, meets_ceiling, most_after, nests, one_if, preempts, queued_with}
 use Rattle.msrp_why.specs.FactLines.{is_job_of, units_done}
@@ -127,9 +127,6 @@ module _ (plan : PlanModel) (rows : List Row) (r : Row) (s : CoreState) (ok : Is
       let low = below j (turn.known j job) in
       let k : nat_lt j.k (length (jobs_of plan j.task.0)) ≡ true = own_is plan r j ok job low (turn_core plan rows r j turn job) ∙ legal.own in
       ap (λ b. b && nat_lt j.k (length (jobs_of plan j.task.0))) (lt-ltb j.task.0 (length plan.tasks) low) ∙ k
-
-  pub head_below : ForSome s.head (λ h. h.task.0 < length plan.tasks)
-  head_below = λ h first. below h (least_in (is_before plan) (λ j. is_released plan r.tick j && not (is_started rows j)) (jobs_on plan r.core.0) h (sym is.head ∙ first))
 
   -- how many units the row's job has done
   runs_so : (j : JobId) → s.running ≡ Some j → s.done ≡ done j rows

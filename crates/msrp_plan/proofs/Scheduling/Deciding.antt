@@ -1,8 +1,6 @@
 -- What decides a core's choice (who runs, the head, the ceiling) in the tick after a row that works on, idles or polls in
 -- vain, where nobody is released.
-use Rattle.std.proofs.Common.{◌≡◌, ◌≢◌, ℕ, ◌+◌, Bool, true, false, not, ◌&&◌, ◌==◌, cond, List, [], ◌∷◌, ◌++◌, Option, Some, None, refl, ap, sym, ◌∙◌, subst, arith, length, slice_get}
-use Rattle.std.specs.List.{Contains}
-use Rattle.std.proofs.Math.Bool.{true≢false}
+use Rattle.std.proofs.Common.{◌≡◌, ◌≢◌, ◌+◌, Bool, true, false, not, ◌&&◌, cond, List, [], ◌∷◌, ◌++◌, Option, Some, None, refl, ap, sym, ◌∙◌, subst, length, slice_get}
 use Rattle.std.proofs.lemmas.Bool.{eqb-true, false_from_ne_true}
 use Rattle.msrp_plan.specs.Plan.{PlanModel, units}
 use Rattle.msrp_plan.specs.Jobs.{done, is_finished, is_queued, is_released, is_row_of, is_started, is_waiting, jobs_on}
@@ -14,8 +12,8 @@ use Rattle.msrp_plan.specs.Stretches.{NoneReleased}
 use Rattle.msrp_plan.specs.WellFormed.{IsPlan}
 use Rattle.msrp_plan.specs.Runs.{EachAfter, IsLegal}
 use Rattle.msrp_plan.specs.declared.ids.JobId.{JobId}
-use Rattle.msrp_plan.specs.declared.units.Op.TheVariants.{Lock, Run as RunUnit}
-use Rattle.msrp_plan.specs.declared.rows.Kind.TheVariants.{Idle, Run, Spin}
+use Rattle.msrp_plan.specs.declared.units.Op.TheVariants.{Run as RunUnit}
+use Rattle.msrp_plan.specs.declared.rows.Kind.TheVariants.{Run, Spin}
 use Rattle.msrp_plan.specs.declared.rows.Row.{Row}
 use Rattle.msrp_plan.proofs.Lists.Filters.{all_of, filter_same}
 use Rattle.msrp_plan.proofs.Jobs.JobTests.{is_job_is, some_is}
@@ -93,8 +91,8 @@ work_alike plan pre r j ok all turn k e runs more quiet =
       record {
         running = work_runs plan c pre r j (running plan c (pre ++ r ∷ [])) w left refl ∙ sym runs;
         head = head_later plan c r.tick (pre ++ r ∷ []) quiet
-        ∙ ap (least (is_before plan)) (filter_same (λ i. is_released plan r.tick i && not (is_started (pre ++ r ∷ []) i)) (λ i. is_released plan r.tick i && not (is_started pre i)) (jobs_on plan c)
-        (all_of (λ i. (is_released plan r.tick i && not (is_started (pre ++ r ∷ []) i)) ≡ (is_released plan r.tick i && not (is_started pre i))) (λ i. ap (λ b. is_released plan r.tick i && not b) (started_cases pre r j i (is_row_of i r) refl k e live.0)) (jobs_on plan c)));
+            ∙ ap (least (is_before plan)) (filter_same (λ i. is_released plan r.tick i && not (is_started (pre ++ r ∷ []) i)) (λ i. is_released plan r.tick i && not (is_started pre i)) (jobs_on plan c)
+            (all_of (λ i. (is_released plan r.tick i && not (is_started (pre ++ r ∷ []) i)) ≡ (is_released plan r.tick i && not (is_started pre i))) (λ i. ap (λ b. is_released plan r.tick i && not b) (started_cases pre r j i (is_row_of i r) refl k e live.0)) (jobs_on plan c)));
         ceiling = work_ceiling plan c pre r j w;
       },
       after.2,
