@@ -9,7 +9,7 @@ PROGRAM = TOP / "crates" / "msrp" / "out" / "msrp"
 VIEWER = TOP / "crates" / "msrp_view" / "out" / "msrp_view"
 SECONDS = 60  # a command that takes longer hangs: `run` on eight threads has few processors where sweeps go side by side
 
-# The commands that the program has: every sweep goes over these. A command that comes later is added here alone.
+# The commands that the program has: most sweeps go over these. A command that comes later is added here alone.
 COMMANDS = ("sim", "sim --order desc", "sim --order rot --ahead", "run", "run --ahead", "audit", "audit --parallel", "report", "check", "check --text")
 PICTURES = ("--text",)  # the command of the second program whose reads and writes fail in turn
 

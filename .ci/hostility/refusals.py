@@ -215,7 +215,7 @@ def limited(words, program=PROGRAM, **limits):
 
 
 def address_space(found, given):
-    """Less and less room for threads, from where a simulation has its room: threads or memory are refused, or the run is whole."""
+    """Too little room for threads, from where a simulation has its room: threads or memory are refused, or the run is whole."""
     plan, _ = paths_of(given)
     room = next(room for room in range(BIT_OF_MEMORY, MOST_MEMORY, BIT_OF_MEMORY) if limited(["sim", str(plan)], AS=room).status == GOOD)
     words = words_of("run", plan, "")

@@ -1,4 +1,4 @@
-"""What `msrp_view --why` says of traces in which one row was changed at random, and of plans that are refused."""
+"""What `msrp_view --why` says of traces in which one row was changed at random."""
 import random
 
 from .inputs import EXAMPLES

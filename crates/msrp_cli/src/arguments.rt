@@ -1,17 +1,17 @@
 //! The arguments of a command line: how they are declared, and what the words give them.
 
-ghost use Rattle.std.specs.Prelude.{◌≡◌, false, ok_or, option_map, Some};
+ghost use Rattle.std.specs.Prelude.{◌≡◌, false, ok_or, option_map, IfOk, Some};
 ghost use Rattle.std.specs.Result.{result_map_both};
-ghost use Rattle.clap.specs.Words.{first_of, found_of, rows_of, rule_of};
+ghost use Rattle.clap.specs.Words.{App, Rule, app_of, first_of, found_of, rows_of, rule_of, with_rule};
 ghost use Rattle.msrp_cli.specs.Arguments as argument;
 ghost use Rattle.msrp_cli.specs.Arguments.{fault_of_words, paths_of};
 
 use crate::input::STANDARD;
 use clap::error::ErrorKind;
 use clap::parser::ValueSource;
-use clap::{Arg, ArgAction, ArgMatches};
+use clap::{Arg, ArgAction, ArgMatches, Command};
 use msrp_faults::CliFault;
-use std::alloc::Global;
+use std::alloc::{AllocError, Global};
 
 /// The name of the argument that is a plan's path.
 pub const PLAN: &str = "PLAN";
@@ -50,6 +50,16 @@ pub fn path<'a>(alloc: Global, name: &'a str, help: &'a str) -> Arg<'a>
     ensures text { result.help ≡ Some help.entry }
 {
     Arg::new(alloc, name).required(true).help(help)
+}
+
+/// The command, if it could be made, with one argument more. So a chain of arguments has one way out.
+pub fn with_arg<'a>(
+    made: Result<Command<'a>, AllocError>,
+    arg: Arg<'a>,
+) -> Result<Command<'a>, AllocError>
+    ensures { (words : App) (rule : Rule) → IfOk made.entry (λ command. app_of command ≡ words) → rule_of arg.entry ≡ rule → arg.entry.global ≡ false → IfOk result (λ command. app_of command ≡ with_rule words rule) }
+{
+    made?.arg(arg)
 }
 
 /// Whether an argument is given in the words.

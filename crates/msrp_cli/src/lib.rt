@@ -8,7 +8,7 @@ mod input;
 mod words;
 
 pub use arguments::{
-    PLAN, TRACE, both_paths, fault_of_words, flag, is_given, path, value_of, valued,
+    PLAN, TRACE, both_paths, fault_of_words, flag, is_given, path, value_of, valued, with_arg,
 };
 pub use help::write_help;
 pub use input::{Input, STANDARD, open, open_both};

@@ -9,7 +9,7 @@ use Rattle.std.proofs.lemmas.Map.Made.{length-le_from_is_member}
 use Rattle.std.proofs.lemmas.List.{length-reverse, length-map}
 use Rattle.std.proofs.lemmas.List.Elements.{Contains-get_or}
 use Rattle.std.proofs.lemmas.Option.{none-some, same_Some}
-use Rattle.msrp_plan.specs.Plan.{PlanModel, units, no_task, core_of}
+use Rattle.msrp_plan.specs.Plan.{PlanModel, units, no_task, core_of, release}
 use Rattle.msrp_plan.specs.Jobs.{jobs as jobs_all, jobs_on, same_job, is_job, is_released}
 use Rattle.msrp_plan.specs.Levels.{level, is_global, local_ceiling, greatest}
 use Rattle.msrp_plan.specs.Levels as levels
@@ -378,8 +378,9 @@ advanced_push jobs front n s below done items e more pushed =
 
 -- what decides the choice, as it is stored
 pub state_told : (jobs : Jobs) (tick : ℕ) (log : List Row) (s : CoreState) → AreJobs jobs → s.running ≡ stack.top jobs.stack → s.head ≡ first_ready jobs.ready.plan jobs.ready.core tick (is_among jobs.ready.taken) → s.ceiling ≡ current_ceiling jobs.stack
-    → ((j : JobId) → s.running ≡ Some j → (state_of jobs j).done ≡ s.done × Contains (jobs_on jobs.plan.now jobs.core.0) j) → AreToldBy jobs log → IsCoreState jobs.plan.now jobs.core.0 tick log s
-state_told jobs tick log s fit running head above count told =
+    → ((j : JobId) → s.running ≡ Some j → (state_of jobs j).done ≡ s.done × Contains (jobs_on jobs.plan.now jobs.core.0) j) → ((j : JobId) → Contains (jobs_on jobs.ready.plan jobs.ready.core) j → tick < release jobs.ready.plan j → s.until ≤ release jobs.ready.plan j)
+    → AreToldBy jobs log → IsCoreState jobs.plan.now jobs.core.0 tick log s
+state_told jobs tick log s fit running head above count quiet told =
     let plan = jobs.plan.now in
     let c = jobs.core.0 in
     let taken = jobs.ready.taken in
@@ -388,4 +389,6 @@ state_told jobs tick log s fit running head above count told =
       head = head ∙ (ap (λ p. first_ready p jobs.ready.core tick (is_among taken)) fit.ready_plan ∙ (ap (λ k. first_ready plan k tick (is_among taken)) fit.ready_core ∙ sym (head_is plan c log taken jobs.phase (active_in jobs) fit.accepted fit.are told tick)));
       ceiling = above ∙ sym (ceiling_is plan c log taken jobs.phase (active_in jobs) fit.accepted fit.are told ∙ ceiling_of jobs fit);
       done = λ j e. let own = count j e in sym (ap (λ (k : JobState). k.done) (at_in (λ j. state_after log j ≡ state_of jobs j) (jobs_on plan c) j told own.1) ∙ own.0);
+      until = subst (λ k. (j : JobId) → Contains (jobs_on plan k) j → tick < release plan j → s.until ≤ release plan j) fit.ready_core
+          (subst (λ p. (j : JobId) → Contains (jobs_on p jobs.ready.core) j → tick < release p j → s.until ≤ release p j) fit.ready_plan quiet);
     }

@@ -2,7 +2,7 @@
 ghost use Rattle.std.specs.Prelude.{◌≡◌, ◌<◌, ◌≤◌, ◌+◌, ◌||◌, [], ◌∷◌, ℕ, List, Some, None, true, false, length, reverse, IfOk, slice_get, vec_capacity};
 ghost use Rattle.std.specs.Option.{ForSome, IfSome, option_or};
 ghost use Rattle.std.specs.List.{Contains};
-ghost use Rattle.msrp_plan.specs.Plan.{units};
+ghost use Rattle.msrp_plan.specs.Plan.{release, units};
 ghost use Rattle.msrp_plan.specs.Jobs.{jobs_on, is_job};
 ghost use Rattle.msrp_plan.specs.Choice.{choice, first_ready, comes_first};
 ghost use Rattle.msrp_plan.specs.Levels.{is_global};
@@ -154,7 +154,19 @@ impl<'a> Jobs<'a> {
         self.done[self.done.len() - 1]
     }
 
+    // A tick before which no job of the core is released after this one.
+    fn quiet_until(&self, tick: u32) -> u64
+        requires { ForSome self.now.ready.tick (λ before. before ≤ tick) }
+        ensures { (job : Job) → Contains (jobs_on self.now.ready.plan self.now.ready.core) job → tick < release self.now.ready.plan job → result ≤ release self.now.ready.plan job }
+    {
+        match self.ready.next_release() {
+            Some(next) => next.max(u64::from(tick) + 1),
+            None => u64::MAX,
+        }
+    }
+
     /// What decides who has the turn in this tick. No job is released by that.
+    #[inline(always)]
     pub(crate) fn state(&self, tick: u32) -> CoreState
         requires jobs { AreJobs self.now }
         requires tick { ForSome self.now.ready.tick (λ before. before ≤ tick) }
@@ -165,6 +177,7 @@ impl<'a> Jobs<'a> {
             running,
             head: self.ready.head_at(tick),
             ceiling: self.stack.ceiling(),
+            until: self.quiet_until(tick),
             done: match running {
                 Some(_) => self.progress(),
                 None => 0,

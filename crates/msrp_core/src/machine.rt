@@ -91,6 +91,7 @@ impl<'a> Machine<'a> {
     }
 
     /// What decides who has the core's next turn.
+    #[inline(always)]
     pub fn state(&self) -> CoreState
         ensures { (log : List TraceRow) → StandsAfter self.now log → IsCoreState self.now.plan self.now.core (length log) log result }
     {

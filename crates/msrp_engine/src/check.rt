@@ -10,12 +10,11 @@ ghost use Rattle.msrp_faults.specs.Outcomes.{is_sim_fault};
 ghost use Rattle.msrp_engine.specs.Answered.{AnsweredPlan, OfText};
 ghost use Rattle.msrp_engine.specs.Simulation.{TextAnswers, WritesSomeText};
 
-use crate::whole::write_whole;
+use crate::texts::{PlanText, write_text};
 use msrp_faults::CliFault;
 use msrp_levels::Levels;
 use msrp_plan::bytes::{Sink, Source};
 use msrp_plan::{CoreId, Plan, ResId, TaskId, WriteFault};
-use msrp_text::read_plan;
 use std::alloc::Global;
 use std::io::{Read, Write};
 
@@ -104,8 +103,8 @@ fn write_check<W: Write>(
     out.outcome()
 }
 
-// The text of a plan's levels and ceilings, in memory.
-fn gathered(alloc: Global, plan: &Plan) -> Result<Vec<u8>, CliFault>
+/// The text of a plan's levels and ceilings, in memory.
+pub(crate) fn levels_text(alloc: Global, plan: &Plan) -> Result<Vec<u8>, CliFault>
     ensures plan { OnOk result (IsPlan plan.now) }
     ensures text { IfOk result (λ text. text.items ≡ check_text plan.now) }
     ensures memory { IfErr result (λ fault. fault ≡ CliFault.Memory) }
@@ -137,7 +136,5 @@ pub fn check_text<P: Read, W: Write>(
     ensures written { OnOk result (WritesSomeText W.contents check_text out.old out.new) }
     ensures always { AnsweredPlan (λ fault. is_sim_fault fault ≡ true) plan.new out.old out.new result }
 {
-    let plan = read_plan(alloc, plan)?;
-    let text = gathered(alloc, &plan)?;
-    write_whole(out, text.as_slice())
+    write_text(alloc, plan, out, PlanText::Levels)
 }

@@ -14,6 +14,7 @@ mod reading;
 mod report;
 mod run;
 mod sim;
+mod texts;
 mod whole;
 
 pub use audit::{add_verdict, audit_text, judge_texts};

@@ -8,16 +8,16 @@ ghost use Rattle.msrp_faults.specs.Outcomes.{is_sim_fault};
 ghost use Rattle.msrp_engine.specs.Answered.{AnsweredPlan, OfText};
 ghost use Rattle.msrp_engine.specs.Simulation.{TextAnswers, WritesSomeText};
 
-use crate::whole::write_whole;
+use crate::texts::{PlanText, write_text};
 use msrp_faults::CliFault;
 use msrp_plan::Plan;
 use msrp_plan::bytes::{Sink, Source};
-use msrp_text::{read_plan, write_plan};
+use msrp_text::write_plan;
 use std::alloc::Global;
 use std::io::{Read, Write};
 
-// A plan's own text, in memory.
-fn gathered(alloc: Global, plan: &Plan) -> Result<Vec<u8>, CliFault>
+/// A plan's own text, in memory.
+pub(crate) fn own_text(alloc: Global, plan: &Plan) -> Result<Vec<u8>, CliFault>
     ensures plan { IsPlan plan.now }
     ensures text { IfOk result (λ text. text.items ≡ plan_text plan.now) }
     ensures memory { IfErr result (λ fault. fault ≡ CliFault.Memory) }
@@ -44,7 +44,5 @@ pub fn plan_text<P: Read, W: Write>(
     ensures written { OnOk result (WritesSomeText W.contents plan_text out.old out.new) }
     ensures always { AnsweredPlan (λ fault. is_sim_fault fault ≡ true) plan.new out.old out.new result }
 {
-    let plan = read_plan(alloc, plan)?;
-    let text = gathered(alloc, &plan)?;
-    write_whole(out, text.as_slice())
+    write_text(alloc, plan, out, PlanText::Own)
 }

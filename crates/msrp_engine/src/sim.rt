@@ -14,7 +14,7 @@ ghost use Rattle.msrp_trace.specs.Gathering.{after_tick};
 ghost use Rattle.msrp_trace.specs.Texts.{text_of_core};
 ghost use Rattle.msrp_engine.specs.Answered.{AnsweredPlan, Ends, IsDone, IsSilent, OfText};
 ghost use Rattle.msrp_engine.specs.Inside.Known.{HasMadeSome, KeepKnown};
-ghost use Rattle.msrp_engine.specs.Simulation.{SimAnswers, WritesRun, WritesSomeRun};
+ghost use Rattle.msrp_engine.specs.Simulation.{SimAnswers, SimAnswersPlan, WritesRun, WritesSomeRun};
 
 use msrp_faults::CliFault;
 use msrp_levels::Levels;
@@ -100,6 +100,26 @@ fn write_sim<W: Write>(
     Ok(0)
 }
 
+// Runs it so where the order is one of the plan.
+fn write_in_order<W: Write>(
+    alloc: Global,
+    plan: &Plan,
+    out: &mut Sink<W>,
+    order: &Order,
+    version: TextVersion,
+) -> Result<u8, CliFault>
+    ensures answer { ((result ≡ Err CliFault.Memory) × (out.new ≡ out.old)) ⊎ SimAnswersPlan W.contents version plan.now (cores_of order.now plan.now) out.old out.new result }
+    ensures written { OnOk result (WritesSomeRun W.contents version order.now out.old out.new) }
+    ensures unread { ¬ (result ≡ Err CliFault.Read) }
+    ensures ends { Ends IsDone (λ fault. (fault ≡ CliFault.Usage) ⊎ (is_sim_fault fault ≡ true)) out.new result }
+    ensures silent { IsSilent out.old out.new result }
+{
+    if !order.is_of(plan) {
+        return Err(CliFault::Usage);
+    }
+    write_sim(alloc, plan, out, order, version)
+}
+
 /// Reads a plan, and writes the trace of its run on one thread in which the cores have their turns in this order, as text of
 /// this version. It is [`CliFault::Usage`] where the order is a list that doesn't name each core of the plan once in each
 /// tick.
@@ -122,8 +142,5 @@ pub fn sim_text<P: Read, W: Write>(
     ensures always { AnsweredPlan (λ fault. (fault ≡ CliFault.Usage) ⊎ (is_sim_fault fault ≡ true)) plan.new out.old out.new result }
 {
     let plan = read_plan(alloc, plan)?;
-    if !order.is_of(&plan) {
-        return Err(CliFault::Usage);
-    }
-    write_sim(alloc, &plan, out, order, version)
+    write_in_order(alloc, &plan, out, order, version)
 }

@@ -2,7 +2,7 @@
 //! Perfetto does.
 //!
 //! An [`Exporter`] takes the rows of a trace as they come, and writes what each tick changes of cores, tasks and resources. It keeps no
-//! row but the last of each core.
+//! list of rows.
 #![tactic(auto)]
 
 mod changes;

@@ -7,3 +7,4 @@ pub mod Waiters
 pub mod NextRow
 pub mod Orders
 pub mod Stretches
+pub mod Deciding

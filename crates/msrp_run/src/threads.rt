@@ -396,7 +396,7 @@ pub fn run_threads_if<R: Threads + Wait + Sync, S: Stage + Sync, H: Hire>(
     ensures run { IfOk result (λ r. IsRun plan.now r.0.rows.items) }
 
     // So it keeps the laws of legal runs: each resource has one holder at most, others come to hold it at most m - 1 times
-    // while a job waits for it, on m cores, no started job waits for a local resource, and spinning and blocking are bounded.
+    // while a job waits for it, on m cores, a local one is locked only where no other job holds it, and spinning and blocking are bounded.
     ensures laws { IfOk result (λ r. KeepsLaws plan.now r.0.rows.items) }
 
     // The steps on each resource are its one history on the board, in order.

@@ -1,35 +1,19 @@
 -- What decides who has the turn of a core is told by the rows of the core alone, and so by its machine.
-use Rattle.std.proofs.Common.{◌≡◌, ℕ, ◌&&◌, ◌==◌, true, not, List, [], Some, ap, sym, ◌∙◌, subst, length, slice_get}
-use Rattle.std.proofs.lemmas.Bool.{eqb-true}
+use Rattle.std.proofs.Common.{◌≡◌, ℕ, ◌&&◌, not, List, [], Some, ap, sym, ◌∙◌, subst, length, slice_get}
 use Rattle.std.proofs.lemmas.List.Elements.{All-contains, All-from_recursion}
-use Rattle.msrp_plan.specs.Plan.{PlanModel, core_of, units}
-use Rattle.msrp_plan.specs.Jobs.{done, is_finished, is_released, is_started, jobs_on}
-use Rattle.msrp_plan.specs.Choice.{head, is_before, least, running}
+use Rattle.msrp_plan.specs.Plan.{PlanModel}
+use Rattle.msrp_plan.specs.Jobs.{done, is_finished, is_started, jobs_on}
+use Rattle.msrp_plan.specs.Choice.{head, is_before, running}
 use Rattle.msrp_plan.specs.Logs.{log_of}
 use Rattle.msrp_plan.specs.States.{JobState, state_after}
 use Rattle.msrp_plan.specs.declared.rows.Row.{Row}
-use Rattle.msrp_plan.proofs.Lists.AnyAll.{all_weaker}
-use Rattle.msrp_plan.proofs.Lists.Filters.{filter_same}
 use Rattle.msrp_plan.proofs.Lists.LeastKept.{least_in}
-use Rattle.msrp_plan.proofs.Legality.Locality.{AreOwn, SameStates, ceiling_same, on_core, state_local}
+use Rattle.msrp_plan.proofs.Legality.Locality.{AreOwn, ceiling_same, head_same, running_same, states_local}
 use Rattle.msrp_plan.proofs.Queues.QueueLocks.{own_from_legal}
 use Rattle.msrp_core.specs.CoreStates.{IsCoreState}
 use Rattle.msrp_core.specs.Machine.{MachineModel, StandsAfter}
 use Rattle.msrp_core.specs.declared.states.CoreState.{CoreState}
 use Rattle.msrp_sim.specs.Cores.{AreCores, CoresModel, StandFor}
-
--- the head, and who runs, by the states of the core's jobs
-head_same : (plan : PlanModel) (c t : ℕ) (pre other : List Row) → SameStates plan c pre other → head plan c t pre ≡ head plan c t other
-head_same plan c t pre other same = ap (least (is_before plan)) (filter_same (λ j. is_released plan t j && not (is_started pre j)) (λ j. is_released plan t j && not (is_started other j)) (jobs_on plan c)
-    (all_weaker (λ j. state_after pre j ≡ state_after other j) (λ j. (is_released plan t j && not (is_started pre j)) ≡ (is_released plan t j && not (is_started other j))) (λ j h. ap (λ (s : JobState). is_released plan t j && not s.started) h) (jobs_on plan c) same))
-
-running_same : (plan : PlanModel) (c : ℕ) (pre other : List Row) → SameStates plan c pre other → running plan c pre ≡ running plan c other
-running_same plan c pre other same = ap (least (is_before plan)) (filter_same (λ j. is_started pre j && not (is_finished plan pre j)) (λ j. is_started other j && not (is_finished plan other j)) (jobs_on plan c)
-    (all_weaker (λ j. state_after pre j ≡ state_after other j) (λ j. (is_started pre j && not (is_finished plan pre j)) ≡ (is_started other j && not (is_finished plan other j))) (λ j h. ap (λ (s : JobState). s.started && not (s.done == length (units plan j))) h) (jobs_on plan c) same))
-
--- the log of a core tells the states of its jobs
-states_local : (plan : PlanModel) (c : ℕ) (rows : List Row) → AreOwn plan rows → SameStates plan c (log_of c rows) rows
-states_local plan c rows own = all_weaker (λ j. (core_of plan j == c) ≡ true) (λ j. state_after (log_of c rows) j ≡ state_after rows j) (λ j h. state_local plan c rows j own (eqb-true (core_of plan j) c h)) (jobs_on plan c) (on_core plan c)
 
 -- so what holds after the log holds after all rows
 state_local_too : (plan : PlanModel) (c t : ℕ) (rows : List Row) (s : CoreState) → AreOwn plan rows → IsCoreState plan c t (log_of c rows) s → IsCoreState plan c t rows s
@@ -44,6 +28,7 @@ state_local_too plan c t rows s own told =
           let there = least_in (is_before plan) (λ i. is_started log i && not (is_finished plan log i)) (jobs_on plan c) j (sym told.running ∙ e) in
           let states : state_after log j ≡ state_after rows j = All-contains (λ i. state_after log i ≡ state_after rows i) (jobs_on plan c) j (All-from_recursion (λ i. state_after log i ≡ state_after rows i) (jobs_on plan c) same) there in
           told.done j e ∙ ap (λ (k : JobState). k.done) states;
+      until = told.until;
     }
 
 -- what the machine of a core tells

@@ -149,6 +149,7 @@ impl<'a> Cores<'a> {
     }
 
     /// What decides who has the core's next turn.
+    #[inline(always)]
     pub fn state(&self, core: CoreId) -> CoreState
         requires { core.0 < self.now.plan.cores }
         ensures { (rows : List TraceRow) → StandFor self.now rows → IsCoreState self.now.plan core.0 (length (log_of core.0 rows)) rows result }

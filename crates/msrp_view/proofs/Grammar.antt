@@ -1,5 +1,5 @@
 -- What the parser was told, and what is made of what it found.
-use Rattle.std.proofs.Common.{◌≡◌, ◌∙◌, ◌⊎◌, ◌&&◌, ◌<◌, ◌^◌, ℕ, true, false, List, [], ◌∷◌, length, Option, Some, None, Result, Ok, Err, IfErr, OkIff, MatchResult, ok_or, refl, ap, ap₂, sym, inl, inr, codes}
+use Rattle.std.proofs.Common.{◌≡◌, ◌∙◌, ◌⊎◌, ◌&&◌, ◌<◌, ◌^◌, ℕ, true, false, List, [], ◌∷◌, length, Option, Some, None, Result, Ok, Err, IfErr, OkIff, MatchResult, ok_or, refl, ap, sym, inl, inr, codes}
 use Rattle.std.specs.Borrow.{Bor}
 use Rattle.std.specs.Char.{is_ascii_digit}
 use Rattle.std.specs.List.{list_all}
@@ -8,9 +8,7 @@ use Rattle.std.specs.Str.Parse.{ParsesUnsigned, digits_value}
 use Rattle.std.proofs.lemmas.Bool.{cases_Bool, cases_lt, le-ltb, lt-ltb}
 use Rattle.std.proofs.lemmas.Str.Parse.{numerals_by_value, parse_digits, tells_all_ascii_digits}
 use Rattle.clap.proofs.OnLiterals.{clap_on_literals}
-use Rattle.clap.specs.Words.{AddsArg, App, IsAmong, Kinds, Row, Rule, Text, app_of, is_simple, is_simple_and_free, rule_of, with_rule}
-use Rattle.clap.specs.declared.builder.arg.Arg.{Arg}
-use Rattle.clap.specs.declared.builder.command.Command.{Command}
+use Rattle.clap.specs.Words.{IsAmong, Kinds, Row, Text, is_simple, is_simple_and_free}
 use Rattle.clap.specs.declared.error.kind.ErrorKind.{ErrorKind}
 use Rattle.msrp_cli.specs.Arguments.{is_given}
 use Rattle.msrp_faults.specs.declared.faults.CliFault.{CliFault}
@@ -21,10 +19,6 @@ use Rattle.msrp_export.specs.declared.formats.Format.{Format}
 use Rattle.msrp_picture.specs.declared.windows.Style.{Style}
 use Rattle.msrp_picture.specs.declared.windows.Asked.{Asked}
 use Rattle.msrp_view.specs.CommandLine.{IsAnswered, IsDrawn, IsExplained, IsExported, IsShown, IsTold, answer_to, asked_by, export_by, export_of, grammar, says_format, tick_of, view_by, view_of, why_of}
-
--- one argument more
-pub adds_rule : (old : Command) (arg : Arg) (new : Command) (words : App) (rule : Rule) → AddsArg old arg new → app_of old ≡ words → rule_of arg ≡ rule → arg.global ≡ false → app_of new ≡ with_rule words rule
-adds_rule old arg new words rule h told is own = h.shape own ∙ ap₂ with_rule told is
 
 -- the parser can tell of all words what it gives for them
 pub grammar_simple : is_simple grammar ≡ true

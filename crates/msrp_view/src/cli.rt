@@ -9,7 +9,9 @@ ghost use Rattle.msrp_view.specs.CommandLine.{IsAnswered, IsDrawn, IsExplained, 
 
 use clap::error::ErrorKind;
 use clap::{Arg, ArgAction, ArgMatches, Command};
-use msrp_cli::{PLAN, TRACE, both_paths, fault_of_words, flag, is_given, path, value_of, valued};
+use msrp_cli::{
+    PLAN, TRACE, both_paths, fault_of_words, flag, is_given, path, value_of, valued, with_arg,
+};
 use msrp_engine::CliFault;
 use msrp_export::Format;
 use msrp_picture::{Asked, Style};
@@ -58,6 +60,30 @@ const PERFETTO: &str = "perfetto";
 
 const VERSION: &str = "version";
 
+// What the help says of each.
+const TEXT_HELP: &str = "draws in plain text, as without it";
+
+const SVG_HELP: &str = "draws in SVG, for a browser or a document";
+
+const FROM_HELP: &str =
+    "the first tick that is drawn; 0 where none is given, but round a fault where neither is";
+
+const TO_HELP: &str =
+    "the tick up to which is drawn, itself left out; where none is given the end, after at most 200 ticks";
+
+const WHY_HELP: &str =
+    "draws nothing, and says in words why the plan is refused or what is odd in it; with a trace, what was due in place of its first faulty row";
+
+const VCD_HELP: &str =
+    "draws nothing, and writes the whole trace as a value change dump, for GTKWave and other viewers of waves";
+
+const PERFETTO_HELP: &str =
+    "draws nothing, and writes the whole trace as JSON of trace events, for ui.perfetto.dev and other viewers of them";
+
+const PLAN_HELP: &str = "the plan's path; - is standard input";
+
+const TRACE_HELP: &str = "the trace's path; - is standard input; only --why goes without it";
+
 // The program, still without arguments.
 fn program<'a>(alloc: Global) -> Command<'a>
     ensures { Takes line.program result }
@@ -67,7 +93,7 @@ fn program<'a>(alloc: Global) -> Command<'a>
     )
 }
 
-// The flag that asks for the version, whatever else the words say.
+// The flag that asks for the version.
 fn version<'a>(alloc: Global) -> Arg<'a>
     ensures rule { rule_of result ≡ line.version }
     ensures own { result.global ≡ false }
@@ -90,43 +116,17 @@ fn optional<'a>(alloc: Global, name: &'a str, help: &'a str) -> Arg<'a>
 fn grammar<'a>(alloc: Global) -> Result<Command<'a>, AllocError>
     ensures { IfOk result (Takes line.grammar) }
 {
-    program(alloc)
-        .arg(flag(alloc, TEXT, "draws in plain text, as without it"))?
-        .arg(flag(alloc, SVG, "draws in SVG, for a browser or a document"))?
-        .arg(valued(
-            alloc,
-            FROM,
-            "T",
-            "the first tick that is drawn; 0 where none is given, but round a fault where neither is",
-        ))?
-        .arg(valued(
-            alloc,
-            TO,
-            "T",
-            "the tick up to which is drawn, itself left out; where none is given the end, after at most 200 ticks",
-        ))?
-        .arg(flag(
-            alloc,
-            WHY,
-            "draws nothing, and says in words why the plan is refused or what is odd in it; with a trace, what was due in place of its first faulty row",
-        ))?
-        .arg(flag(
-            alloc,
-            VCD,
-            "draws nothing, and writes the whole trace as a value change dump, for GTKWave and other viewers of waves",
-        ))?
-        .arg(flag(
-            alloc,
-            PERFETTO,
-            "draws nothing, and writes the whole trace as JSON of trace events, for ui.perfetto.dev and other viewers of them",
-        ))?
-        .arg(version(alloc))?
-        .arg(path(alloc, PLAN, "the plan's path; - is standard input"))?
-        .arg(optional(
-            alloc,
-            TRACE,
-            "the trace's path; - is standard input; only --why goes without it",
-        ))
+    let made = Ok(program(alloc));
+    let made = with_arg(made, flag(alloc, TEXT, TEXT_HELP));
+    let made = with_arg(made, flag(alloc, SVG, SVG_HELP));
+    let made = with_arg(made, valued(alloc, FROM, "T", FROM_HELP));
+    let made = with_arg(made, valued(alloc, TO, "T", TO_HELP));
+    let made = with_arg(made, flag(alloc, WHY, WHY_HELP));
+    let made = with_arg(made, flag(alloc, VCD, VCD_HELP));
+    let made = with_arg(made, flag(alloc, PERFETTO, PERFETTO_HELP));
+    let made = with_arg(made, version(alloc));
+    let made = with_arg(made, path(alloc, PLAN, PLAN_HELP));
+    with_arg(made, optional(alloc, TRACE, TRACE_HELP))
 }
 
 /// The text of the help.

@@ -117,7 +117,7 @@ fn export_plan<T: Read, W: Write>(
 /// Reads a plan and a trace of it, whoever made it, and writes the trace in a format: all of a legal run, and else the rows
 /// before the first that breaks a rule, and the fault. The answer is the exit status of an audit, 0 or 1.
 ///
-/// The rows are judged and written as they come, and one is kept at a time. So where a record of the trace is refused, or a read fails,
+/// The rows are judged as they come and written a tick at a time, and no list of them is kept. So where a record of the trace is refused, or a read fails,
 /// the rows before it may have been written. Of a refused plan nothing is.
 pub fn export_text<P: Read, T: Read, W: Write>(
     alloc: Global,

@@ -152,7 +152,7 @@ fn explain_rows<T: Read>(
     ensures faults { IfErr result (λ fault. (fault ≡ CliFault.Memory) ⊎ (fault ≡ CliFault.Read)) }
 {
     let mut auditor = Auditor::with_room(alloc, plan, levels)?;
-    let notes = Notes::with_room(alloc, plan)?;
+    let notes = Notes::with_room(alloc, plan, levels, &auditor)?;
     match judge_rows(alloc, plan, levels, &mut auditor, notes, rows) {
         Ok(judged) => words_on(alloc, plan, levels, judged),
         Err(error) => words_on_refusal(alloc, plan, error, rows.record()),

@@ -16,9 +16,7 @@ use Rattle.msrp_plan.specs.declared.faults.Fault.{Fault}
 use Rattle.msrp_plan.specs.declared.faults.Rule.{Rule}
 use Rattle.msrp_plan.specs.declared.faults.Rule.TheVariants.{A1, A2, A3, A4, A5, A6, A7}
 use Rattle.msrp_plan.specs.declared.rows.Row.{Row}
-use Rattle.msrp_plan.proofs.Runs.Verdicts.{fault_push, fault_stays, unbroken_is_legal}
-use Rattle.msrp_plan.proofs.Legality.LegalRows.{legal_due}
-use Rattle.msrp_plan.proofs.Lists.Prefixes.{each_at}
+use Rattle.msrp_plan.proofs.Runs.Verdicts.{fault_push, unbroken_is_legal}
 use Rattle.msrp_plan.proofs.Lists.Ranges.{range_more}
 use Rattle.msrp_sim.specs.Cores.{IsDueAfter, IsNextRow}
 use Rattle.msrp_audit.specs.Audits.{AuditorModel, HasFed, answer_of, has_turn}
@@ -124,26 +122,10 @@ pub good_answer : (o : Option Fault) (good : ⊤) → Ok good ≡ answer_of o �
 good_answer None good h = refl
 good_answer (Some f) good h = absurd (cc)
 
--- rows before one without a fault have none
-good_before : (plan : PlanModel) (rows : List Row) (r : Row) (o : Option Fault) → fault_in plan rows ≡ o → fault_in plan (rows ++ r ∷ []) ≡ None → fault_in plan rows ≡ None
-good_before plan rows r None is good = is
-good_before plan rows r (Some f) is good = let stays = fault_stays plan rows (r ∷ []) f is in absurd (cc)
-
--- the state that the auditor told before a row that is good
-pub told_before : (a : AuditorModel) (rows : List Row) (r : Row) (state : Option CoreState) → IsPlan a.plan → HasFed a rows → fault_in a.plan (rows ++ r ∷ []) ≡ None
-    → ((before : List Row) → HasFed a before → a.fault ≡ None → r.core.0 < a.plan.cores → IsSomeAnd state (IsCoreState a.plan r.core.0 (length (log_of r.core.0 before)) before))
-    → IsSomeAnd state (IsCoreState a.plan r.core.0 r.tick rows)
-told_before a rows r state ok fed next told =
-    let good = good_before a.plan rows r (fault_in a.plan rows) refl next in
-    let whole = good_start a.plan (rows ++ r ∷ []) next in
-    let legal = each_at (IsLegal a.plan) [] rows r [] whole.each in
-    let d = due_after a.plan rows r ok (good_start a.plan rows good) (omega (arith, length-append rows (r ∷ []), whole.size)) legal.turn in
-    subst (λ t. IsSomeAnd state (IsCoreState a.plan r.core.0 t rows)) (d.due ∙ sym (legal_due a.plan rows r legal).tick) (told rows fed (fed.fault ∙ good) d.core)
-
 -- a fault that the auditor answers, with the row that was due and the state of the core
 pub cause_is : (a : AuditorModel) (rows : List Row) (r : Row) (f : Fault) (due : Option Row) (state : Option CoreState) (turns : ArrayVec ℕ) (notes : Notes) → IsPlan a.plan → AreNoted a.plan rows notes → HasFed a rows → fault_in a.plan rows ≡ None → Err f ≡ answer_of (fault_in a.plan (rows ++ r ∷ []))
     → ((before : List Row) → HasFed a before → a.fault ≡ None → length before < a.plan.cores * a.plan.ticks → is_in_turn a.plan before r ≡ true → IsSomeAnd due (IsNextRow a.plan before r.core.0))
-    → ((before : List Row) → HasFed a before → a.fault ≡ None → r.core.0 < a.plan.cores → IsSomeAnd state (IsCoreState a.plan r.core.0 (length (log_of r.core.0 before)) before))
+    → (r.core.0 < a.plan.cores → IsSomeAnd state (IsCoreState a.plan r.core.0 (length (log_of r.core.0 rows)) rows))
     → ((before : List Row) → HasFed a before → a.fault ≡ None → length before < a.plan.cores * a.plan.ticks → is_in_turn a.plan before r ≡ false → turns.items ≡ cores_due a.plan before)
     → IsCauseAfter a.plan rows r (record { fault = f; row = r; due = due; state = state; turns = turns; notes = notes })
 cause_is a rows r f due state turns notes ok noted fed good answer foreseen told turned =
@@ -158,7 +140,7 @@ cause_is a rows r f due state turns notes ok noted fed good answer foreseen told
       row = refl;
       due = due_for a.plan rows r.core.0 f.rule due (nat_lt (length rows) (a.plan.cores * a.plan.ticks)) (is_in_turn a.plan rows r) _ (λ left turn. foreseen rows fed none (ltb-true (length rows) (a.plan.cores * a.plan.ticks) left) turn) rule;
       state = state_for a.plan rows r.core.0 f.rule state (nat_lt (length rows) (a.plan.cores * a.plan.ticks)) (is_in_turn a.plan rows r) _
-          (λ left turn. let d = due_now left turn in subst (λ t. IsSomeAnd state (IsCoreState a.plan r.core.0 t rows)) d.due (told rows fed none d.core)) rule;
+          (λ left turn. let d = due_now left turn in subst (λ t. IsSomeAnd state (IsCoreState a.plan r.core.0 t rows)) d.due (told d.core)) rule;
       turns = turns_for a.plan rows f.rule turns.items (nat_lt (length rows) (a.plan.cores * a.plan.ticks)) (is_in_turn a.plan rows r) (is_of_core a.plan r) (is_chosen a.plan rows r) (is_next_action a.plan rows r) (is_fifo_reply rows r)
           (λ left turn. turned rows fed none (ltb-true (length rows) (a.plan.cores * a.plan.ticks) left) turn) rule;
       notes = noted;

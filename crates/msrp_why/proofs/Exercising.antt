@@ -4,13 +4,14 @@ use Rattle.std.specs.List.{Contains}
 use Rattle.std.specs.Option.{ForSome}
 use Rattle.std.proofs.Math.Nat.{max-zero, mul-le-mul_left}
 use Rattle.std.proofs.lemmas.Bool.{and_parts, not-true}
+use Rattle.std.proofs.lemmas.Option.{slice_get_within}
 use Rattle.std.proofs.lemmas.List.Elements.{All-contains, All-from_recursion}
 use Rattle.msrp_core.specs.CoreStates.{IsCoreState}
 use Rattle.msrp_core.specs.declared.states.CoreState.{CoreState}
 use Rattle.msrp_plan.specs.Blocking.{count_after}
 use Rattle.msrp_plan.specs.Choice.{head, is_before}
 use Rattle.msrp_plan.specs.Jobs.{done, is_job, is_released, is_started, jobs_of, jobs_on}
-use Rattle.msrp_plan.specs.Plan.{PlanModel}
+use Rattle.msrp_plan.specs.Plan.{PlanModel, units}
 use Rattle.msrp_plan.specs.Queues.{is_on}
 use Rattle.msrp_plan.specs.Runs.{IsLegal, IsRunStart}
 use Rattle.msrp_plan.specs.WellFormed.{IsPlan}
@@ -22,7 +23,7 @@ use Rattle.msrp_plan.proofs.Choosing.Turns.{has_turn}
 use Rattle.msrp_plan.proofs.Jobs.JobLists.{core_jobs_below}
 use Rattle.msrp_plan.proofs.Jobs.JobTests.{is_job_is, same_self}
 use Rattle.msrp_plan.proofs.Legality.LegalRows.{IsTurn, legal_turn, turn_chosen, turn_core}
-use Rattle.msrp_plan.proofs.Lists.LeastKept.{least_in, least_passes}
+use Rattle.msrp_plan.proofs.Lists.LeastKept.{least_passes}
 use Rattle.msrp_audit.proofs.Judging.{own_is}
 use Rattle.msrp_why.specs.Exercise.{AreResourceCounts, AreTurnCounts, ends, enters, finishes, finishes_at_deadline, finishes_late, has_open, is_at, is_entry, is_grant, is_granted_at_once, is_granted_later, is_in_tick, is_kept, is_met, is_opening, is_other, is_past, is_queue, job_finishes, job_nests, joins, keeps_head, meets_ceiling, most_after, nests, one_if, preempts, queued_with}
 use Rattle.msrp_why.specs.FactLines.{is_job_of, units_done}
@@ -127,9 +128,6 @@ module _ (plan : PlanModel) (rows : List Row) (r : Row) (s : CoreState) (ok : Is
       let k : nat_lt j.k (length (jobs_of plan j.task.0)) ≡ true = own_is plan r j ok job low (turn_core plan rows r j turn job) ∙ legal.own in
       ap (λ b. b && nat_lt j.k (length (jobs_of plan j.task.0))) (lt-ltb j.task.0 (length plan.tasks) low) ∙ k
 
-  pub head_below : ForSome s.head (λ h. h.task.0 < length plan.tasks)
-  head_below = λ h first. below h (least_in (is_before plan) (λ j. is_released plan r.tick j && not (is_started rows j)) (jobs_on plan r.core.0) h (sym is.head ∙ first))
-
   -- how many units the row's job has done
   runs_so : (j : JobId) → s.running ≡ Some j → s.done ≡ done j rows
   runs_so j runs = is.done j runs
@@ -143,6 +141,10 @@ module _ (plan : PlanModel) (rows : List Row) (r : Row) (s : CoreState) (ok : Is
     | inl new ↦ (let passes = and_parts (is_released plan r.tick j) (not (is_started rows j)) (least_passes (is_before plan) (λ i. is_released plan r.tick i && not (is_started rows i)) (jobs_on plan r.core.0) j new.first) in new_so j (nothing_done rows j (not-true (is_started rows j) passes.1)) (is_job s.running j) refl)
     | inr runs ↦ ap (λ o. cond (is_job o j) s.done 0) (is.running ∙ runs) ∙ (ap (λ b. cond b s.done 0) (same_self j) ∙ runs_so j (is.running ∙ runs))
   ]
+
+  -- and it has a unit left
+  pub units_left : ForSome r.job (λ j. units_done s j < length (units plan j))
+  units_left = λ j job. subst (λ n. n < length (units plan j)) (sym (done_so j job)) (slice_get_within (units plan j) (done j rows) (turn.does j job).op (turn.does j job).unit)
 
   finishes_by : (o : Option JobId) → r.job ≡ o → job_finishes plan rows r o ≡ finishes_from plan s r.kind o
   finishes_by None job = refl

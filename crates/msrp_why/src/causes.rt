@@ -98,19 +98,18 @@ pub fn feed(
 {
     // Read so that the plan is known to be an accepted one.
     let _accepted = plan.cores();
-    let state = auditor.state(row.core);
     let turns = turns_for(plan, auditor, row);
     let mut due = None;
     match auditor.feed_telling(row, &mut due) {
         Ok(()) => {
-            notes.note(plan, levels, state, row);
+            notes.note(plan, levels, auditor, row);
             Ok(())
         }
         Err(fault) => Err(Cause {
             fault,
             row,
             due,
-            state,
+            state: notes.state(row.core),
             turns,
             notes: notes.take(alloc),
         }),

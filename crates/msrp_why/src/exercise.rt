@@ -1,18 +1,22 @@
 //! What a run exercised, counted as its rows are judged.
 ghost use Rattle.std.specs.Prelude.{◌≡◌, ◌&&◌, ◌<◌, ◌++◌, ◌∷◌, [], List, length, not, true};
 ghost use Rattle.std.specs.Option.{ForSome};
-ghost use Rattle.msrp_core.specs.CoreStates.{IsCoreState};
 ghost use Rattle.msrp_plan.specs.Runs.{IsRunStart};
 ghost use Rattle.msrp_plan.specs.declared.rows.Row.{Row as TraceRow};
-ghost use Rattle.msrp_why.specs.Exercise.{AreTurnCounts, ends, has_open, is_at, is_entry, is_grant, is_in_tick, is_kept, is_lock, is_met, is_opening, is_other, is_past, is_queue, is_unlock, one_if};
-ghost use Rattle.msrp_why.specs.FactLines.{is_job_of};
+ghost use Rattle.msrp_why.specs.Exercise.{AreTurnCounts, ends, is_at, is_entry, is_grant, is_in_tick, is_kept, is_met, is_opening, is_other, is_past, is_queue, one_if};
+ghost use Rattle.msrp_why.specs.FactLines.{is_job_of, units_done};
+ghost use Rattle.msrp_plan.specs.Plan.{PlanModel, units};
 ghost use Rattle.msrp_why.specs.Inside.Turns.{finishes_from, nests_from};
+ghost use Rattle.msrp_why.specs.Noted.{IsCoreNoted};
+ghost use Rattle.msrp_why.specs.Inside.Sections.{AreSections};
 
+use crate::cores::CoreNotes;
 use crate::notes::Numbered;
+use crate::sections::Sections;
 use crate::telling::{is_job_of, units_done};
 use msrp_core::CoreState;
 use msrp_levels::Levels;
-use msrp_plan::{JobId, Kind, Op, Plan, Row};
+use msrp_plan::{JobId, Kind, Plan, Row};
 
 /// How often the rows on a resource found what.
 #[derive(Clone, Copy, Debug)]
@@ -50,7 +54,7 @@ pub struct TurnCounts {
 
 // One more, if so.
 #[inline(always)]
-fn one_if(count: u32, so: bool) -> u32
+pub(crate) fn one_if(count: u32, so: bool) -> u32
     ensures { result ≡ one_if count so }
 {
     if so { count.saturating_add(1) } else { count }
@@ -192,7 +196,7 @@ fn is_in_time(plan: &Plan, finishes: bool, row: Row) -> bool
 
 // Whether the level of the head isn't above the ceiling.
 #[inline(always)]
-fn is_kept(plan: &Plan, levels: &Levels<'_>, state: CoreState) -> bool
+pub(crate) fn is_kept(plan: &Plan, levels: &Levels<'_>, state: CoreState) -> bool
     requires levels { levels.now ≡ plan.now }
     ensures { ForSome state.head (λ h. h.task.0 < length plan.now.tasks) → result ≡ is_kept plan.now state.ceiling state.head }
 {
@@ -204,7 +208,7 @@ fn is_kept(plan: &Plan, levels: &Levels<'_>, state: CoreState) -> bool
 
 // Whether the level of the head is equal to the ceiling.
 #[inline(always)]
-fn is_met(plan: &Plan, levels: &Levels<'_>, state: CoreState) -> bool
+pub(crate) fn is_met(plan: &Plan, levels: &Levels<'_>, state: CoreState) -> bool
     requires levels { levels.now ≡ plan.now }
     ensures { ForSome state.head (λ h. h.task.0 < length plan.now.tasks) → result ≡ is_met plan.now state.ceiling state.head }
 {
@@ -212,39 +216,6 @@ fn is_met(plan: &Plan, levels: &Levels<'_>, state: CoreState) -> bool
         Some(head) if head.task.0 < plan.tasks() => levels.level(head.task) == state.ceiling,
         _ => false,
     }
-}
-
-fn is_lock(unit: Op) -> bool
-    ensures { result ≡ is_lock unit }
-{
-    match unit {
-        Op::Lock(_) => true,
-        Op::Run | Op::Unlock(_) => false,
-    }
-}
-
-fn is_unlock(unit: Op) -> bool
-    ensures { result ≡ is_unlock unit }
-{
-    match unit {
-        Op::Unlock(_) => true,
-        Op::Run | Op::Lock(_) => false,
-    }
-}
-
-// Whether the job has a section open once it has done so many units.
-fn has_open(plan: &Plan, job: JobId, done: u32) -> bool
-    requires { job.task.0 < length plan.now.tasks }
-    ensures { result ≡ has_open plan.now job done }
-{
-    let mut locks = 0u32;
-    let mut unlocks = 0u32;
-    for place in 0..done.min(plan.units(job.task)) {
-        let unit = plan.unit(job.task, place);
-        locks = one_if(locks, is_lock(unit));
-        unlocks = one_if(unlocks, is_unlock(unit));
-    }
-    unlocks < locks
 }
 
 #[inline(always)]
@@ -258,15 +229,12 @@ fn is_opening(kind: Kind) -> bool
 }
 
 // Whether the row opens a section while its job has one open.
-#[inline(always)]
-fn nests(plan: &Plan, state: CoreState, row: Row) -> bool
-    ensures { ForSome row.job (λ j. j.task.0 < length plan.now.tasks) → result ≡ nests_from plan.now state row.kind row.job }
+fn nests(sections: &Sections, state: CoreState, row: Row) -> bool
+    ensures { (plan : PlanModel) → AreSections plan sections.now → ForSome row.job (λ j. units_done state j < length (units plan j)) → ForSome row.job (λ j. j.task.0 < length plan.tasks) → result ≡ nests_from plan state row.kind row.job }
 {
     match row.job {
-        Some(job) if job.task.0 < plan.tasks() => {
-            is_opening(row.kind) && has_open(plan, job, units_done(state, job))
-        }
-        _ => false,
+        Some(job) => is_opening(row.kind) && sections.is_open(job, units_done(state, job)),
+        None => false,
     }
 }
 
@@ -303,26 +271,31 @@ impl TurnCounts {
         }
     }
 
-    /// After a legal row, where the state of its core before it is told.
+    /// After a turn in which the head was kept or not, and so on, and nothing else was met.
     #[inline(always)]
-    pub(crate) fn note(&mut self, plan: &Plan, levels: &Levels<'_>, state: CoreState, row: Row)
-        requires levels { levels.now ≡ plan.now }
-        ensures { (rows : List TraceRow) → IsRunStart plan.now (rows ++ row ∷ []) → IsCoreState plan.now row.core.0 row.tick rows state → AreTurnCounts plan.now rows self.old → AreTurnCounts plan.now (rows ++ row ∷ []) self.new }
+    pub(crate) fn note_again(&mut self, kept: bool, at_ceiling: bool)
+        ensures { self.new ≡ record self.old { kept = one_if self.old.kept kept; at_ceiling = one_if self.old.at_ceiling at_ceiling } }
+    {
+        self.kept = one_if(self.kept, kept);
+        self.at_ceiling = one_if(self.at_ceiling, at_ceiling);
+    }
+
+    /// After a legal row, where it is noted what decided it.
+    pub(crate) fn note(&mut self, plan: &Plan, sections: &Sections, core: &CoreNotes, row: Row)
+        ensures { (rows : List TraceRow) → IsRunStart plan.now (rows ++ row ∷ []) → AreSections plan.now sections.now → IsCoreNoted plan.now rows row.core.0 core.now → AreTurnCounts plan.now rows self.old → AreTurnCounts plan.now (rows ++ row ∷ []) self.new }
     {
         // Read so that the plan is known to be an accepted one.
         let _accepted = plan.cores();
+        let state = core.state;
         let finishes = finishes(plan, state, row);
         let late = is_late(plan, finishes, row);
         let at_deadline = is_in_time(plan, finishes, row);
-        let kept = is_kept(plan, levels, state);
-        let at_ceiling = is_met(plan, levels, state);
         let preempts = is_other(state.running, row.job);
-        let nests = nests(plan, state, row);
+        let nests = nests(sections, state, row);
+        self.note_again(core.is_kept, core.is_at_ceiling);
         self.finished = one_if(self.finished, finishes);
         self.late = one_if(self.late, late);
         self.at_deadline = one_if(self.at_deadline, at_deadline);
-        self.kept = one_if(self.kept, kept);
-        self.at_ceiling = one_if(self.at_ceiling, at_ceiling);
         self.preempted = one_if(self.preempted, preempts);
         self.nested = one_if(self.nested, nests);
     }

@@ -5,6 +5,7 @@
 #![tactic(auto)]
 
 mod causes;
+mod cores;
 mod exercise;
 mod exercised;
 pub mod laws;
@@ -12,13 +13,16 @@ mod misfits;
 mod notes;
 mod refusals;
 mod resources;
+mod sections;
 mod sentences;
 mod telling;
 
 pub use causes::{Cause, Ground, feed};
+pub use cores::CoreNotes;
 pub use exercise::{ResourceCounts, TurnCounts};
 pub use exercised::write_exercise;
 pub use misfits::Misfit;
 pub use notes::{Notes, Numbered, ResourceNotes};
 pub use refusals::write_refused;
+pub use sections::Sections;
 pub use telling::{write_cause, write_missing};

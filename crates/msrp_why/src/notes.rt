@@ -1,15 +1,21 @@
 //! What is noted of each resource as rows are judged: since which row who stands in its queue, and its last change.
-ghost use Rattle.std.specs.Option.{IsSomeAnd};
-ghost use Rattle.std.specs.Prelude.{◌≡◌, ◌<◌, ◌++◌, ◌∷◌, [], List, IfOk, length, true};
+ghost use Rattle.std.specs.Option.{ForSome, IsSomeAnd};
+ghost use Rattle.std.specs.Prelude.{◌≡◌, ◌<◌, ◌++◌, ◌∷◌, [], List, IfOk, None, length, true, vec_capacity};
 ghost use Rattle.msrp_plan.specs.Queues.{is_request};
 ghost use Rattle.msrp_plan.specs.Runs.{IsRunStart};
 ghost use Rattle.msrp_plan.specs.declared.rows.Row.{Row as TraceRow};
+ghost use Rattle.msrp_plan.specs.Logs.{log_of};
+ghost use Rattle.msrp_plan.specs.Plan.{PlanModel};
+ghost use Rattle.msrp_audit.specs.Audits.{HasFed};
 ghost use Rattle.msrp_core.specs.CoreStates.{IsCoreState};
-ghost use Rattle.msrp_why.specs.Inside.Steps.{IsCountStep};
-ghost use Rattle.msrp_why.specs.Noted.{AreNoted, AreRowsNoted, last_with, queue_with};
+ghost use Rattle.msrp_why.specs.Inside.Steps.{AreEmptyOf, IsCountStep};
+ghost use Rattle.msrp_why.specs.Noted.{AreCoresNoted, AreNoted, AreRowsNoted, last_with, queue_with};
 
+use crate::cores::{CoreNotes, note_turn};
 use crate::exercise::{ResourceCounts, TurnCounts};
+use crate::sections::Sections;
 use arrayvec::ArrayVec;
+use msrp_audit::Auditor;
 use msrp_core::CoreState;
 use msrp_levels::Levels;
 use msrp_plan::limits::MOST_CORES;
@@ -87,29 +93,82 @@ pub struct Notes {
     pub last: Option<Numbered>,
     /// What the turns of the cores met.
     pub turns: TurnCounts,
+    /// What decides the next turn of each core, by its number.
+    pub cores: Vec<CoreNotes>,
     /// The notes of each resource, by its number.
     pub resources: Vec<ResourceNotes>,
+    /// Where the jobs of each task have a section open.
+    pub sections: Sections,
+}
+
+// One core more, if it is known.
+fn push_known(cores: &mut Vec<CoreNotes>, known: Option<CoreNotes>)
+    requires { length cores.old.items < vec_capacity cores.old }
+    ensures added { ForSome known (λ n. cores.new.items ≡ cores.old.items ++ n ∷ []) }
+    ensures room { vec_capacity cores.new ≡ vec_capacity cores.old }
+{
+    if let Some(core) = known {
+        cores.push_reserved(core);
+    }
+}
+
+// What is noted of each core before the first row.
+fn cores_of(
+    alloc: Global,
+    plan: &Plan,
+    levels: &Levels<'_>,
+    auditor: &Auditor<'_>,
+) -> Result<Vec<CoreNotes>, Memory>
+    requires plan { auditor.now.plan ≡ plan.now }
+    requires levels { levels.now ≡ plan.now }
+    requires fed { HasFed auditor.now [] }
+    ensures { IfOk result (λ cores. AreCoresNoted plan.now [] cores.items) }
+{
+    let count = plan.cores();
+    let mut cores = Vec::with_capacity(alloc, count as usize)?;
+    for core in 0..count {
+        let known = CoreNotes::before_turn(plan, levels, auditor, CoreId(core));
+        push_known(&mut cores, known);
+    }
+    Ok(cores)
+}
+
+// What is noted of each resource before the first row.
+fn resources_of(alloc: Global, plan: &Plan) -> Result<Vec<ResourceNotes>, Memory>
+    ensures { IfOk result (λ resources. AreEmptyOf plan.now resources.items) }
+{
+    let count = plan.resources();
+    let mut resources = Vec::with_capacity(alloc, count as usize)?;
+    for _res in 0..count {
+        resources.push_reserved(ResourceNotes {
+            queue: ArrayVec::new(),
+            last: None,
+            counts: ResourceCounts::new(),
+        });
+    }
+    Ok(resources)
 }
 
 impl Notes {
-    /// The notes before the first row. All memory that they ever need is taken here.
-    pub fn with_room(alloc: Global, plan: &Plan) -> Result<Notes, Memory>
+    /// The notes before the first row, where the auditor judges the rows. All memory that they ever need is taken here.
+    pub fn with_room(
+        alloc: Global,
+        plan: &Plan,
+        levels: &Levels<'_>,
+        auditor: &Auditor<'_>,
+    ) -> Result<Notes, Memory>
+        requires plan { auditor.now.plan ≡ plan.now }
+        requires levels { levels.now ≡ plan.now }
+        requires fed { HasFed auditor.now [] }
         ensures { IfOk result (AreNoted plan.now []) }
     {
-        let count = plan.resources();
-        let mut resources = Vec::with_capacity(alloc, count as usize)?;
-        for _res in 0..count {
-            resources.push_reserved(ResourceNotes {
-                queue: ArrayVec::new(),
-                last: None,
-                counts: ResourceCounts::new(),
-            });
-        }
         Ok(Notes {
             rows: 0,
             last: None,
             turns: TurnCounts::new(),
-            resources,
+            cores: cores_of(alloc, plan, levels, auditor)?,
+            resources: resources_of(alloc, plan)?,
+            sections: Sections::of(alloc, plan)?,
         })
     }
 
@@ -121,7 +180,9 @@ impl Notes {
             rows: 0,
             last: None,
             turns: TurnCounts::new(),
+            cores: Vec::new(alloc),
             resources: Vec::new(alloc),
+            sections: Sections::none(alloc),
         };
         mem::replace(self, empty)
     }
@@ -130,6 +191,8 @@ impl Notes {
     #[inline(always)]
     fn note_row(&mut self, plan: &Plan, row: Row)
         ensures turns { self.new.turns ≡ self.old.turns }
+        ensures cores { self.new.cores ≡ self.old.cores }
+        ensures sections { self.new.sections ≡ self.old.sections }
         ensures rows { (rows : List TraceRow) → IsRunStart plan.now (rows ++ row ∷ []) → AreRowsNoted plan.now rows self.old → AreRowsNoted plan.now (rows ++ row ∷ []) self.new }
     {
         // Read so that the plan is known to be an accepted one.
@@ -144,15 +207,33 @@ impl Notes {
         }
     }
 
-    /// The notes after one row more, which is legal, where the state of its core before it is told.
+    /// The notes after one row more, which is legal and was fed to the auditor.
     #[inline(always)]
-    pub fn note(&mut self, plan: &Plan, levels: &Levels<'_>, state: Option<CoreState>, row: Row)
+    pub fn note(&mut self, plan: &Plan, levels: &Levels<'_>, auditor: &Auditor<'_>, row: Row)
+        requires plan { auditor.now.plan ≡ plan.now }
         requires levels { levels.now ≡ plan.now }
-        ensures { (rows : List TraceRow) → IsRunStart plan.now (rows ++ row ∷ []) → IsSomeAnd state (IsCoreState plan.now row.core.0 row.tick rows) → AreNoted plan.now rows self.old → AreNoted plan.now (rows ++ row ∷ []) self.new }
+        ensures { (rows : List TraceRow) → IsRunStart plan.now (rows ++ row ∷ []) → HasFed auditor.now (rows ++ row ∷ []) → auditor.now.fault ≡ None → AreNoted plan.now rows self.old → AreNoted plan.now (rows ++ row ∷ []) self.new }
     {
-        if let Some(before) = state {
-            self.turns.note(plan, levels, before, row);
+        let core = row.core.0 as usize;
+        if core < self.cores.len() {
+            note_turn(
+                plan,
+                levels,
+                auditor,
+                &self.sections,
+                &mut self.turns,
+                &mut self.cores[core],
+                row,
+            );
             self.note_row(plan, row);
         }
+    }
+
+    /// What decides the core's next turn; none of a core that the plan hasn't.
+    pub(crate) fn state(&self, core: CoreId) -> Option<CoreState>
+        ensures { (plan : PlanModel) (rows : List TraceRow) → AreNoted plan rows self.now → core.0 < plan.cores → IsSomeAnd result (IsCoreState plan core.0 (length (log_of core.0 rows)) rows) }
+    {
+        let known = self.cores.get(core.0 as usize)?;
+        Some(known.state)
     }
 }

@@ -1,7 +1,8 @@
 -- The words that the program takes, as the parser is told of them, and what is answered.
-use Rattle.std.specs.Prelude.{◌≡◌, List, [], ◌∷◌, Option, Some, None, codes, IsOkAnd}
+use Rattle.std.specs.Prelude.{◌≡◌, false, List, [], ◌∷◌, Option, Some, None, codes, IsOkAnd}
 use Rattle.std.specs.declared.result.Result.{Result}
-use Rattle.clap.specs.Words.{App, IsAmong, Kinds, Row, Rule, Text, app_of, new_app, new_rule, with_rule, with_subcommand}
+use Rattle.clap.specs.Words.{App, IsAmong, Kinds, Row, Rule, Text, app_of, new_app, new_rule, rule_of, with_rule, with_subcommand}
+use Rattle.clap.specs.declared.builder.arg.Arg.{Arg}
 use Rattle.clap.specs.declared.builder.command.Command.{Command}
 use Rattle.clap.specs.declared.error.kind.ErrorKind.{ErrorKind}
 use Rattle.msrp_words.specs.Words.{IsAsked, IsCommand}
@@ -53,6 +54,10 @@ grammar = with_subcommand (with_judges (with_runs (new_app (codes "msrp")))) che
 -- the parser was told of these words
 abbrev pub Takes : App → Command → Type 0
 Takes words command = app_of command ≡ words
+
+-- the parser is told so of this argument, which only its command takes
+abbrev pub Declares : Rule → Arg → Type 0
+Declares rule arg = (rule_of arg ≡ rule) × (arg.global ≡ false)
 
 -- ---- answers
 -- what a fault of the words is answered: the help where it is asked for, which is no fault

@@ -1,15 +1,16 @@
 //! The command line: the words of a command, and what they ask for.
 
-ghost use Rattle.std.specs.Prelude.{◌≡◌, ◌⊎◌, codes, false, map, ok_or, option_map, string_bytes, Err, IfErr, IfOk};
-ghost use Rattle.clap.specs.Words.{App, fault_of, found_of, rows_of, rule_of, subcommand_of, subcommand_rows_of};
+ghost use Rattle.std.specs.Prelude.{◌≡◌, ◌⊎◌, codes, false, map, ok_or, option_map, string_bytes, true, Err, IfErr, IfOk};
+ghost use Rattle.clap.specs.Words.{App, Rule, fault_of, found_of, new_app, rows_of, rule_of, subcommand_of, subcommand_rows_of, with_rule, with_subcommand};
 ghost use Rattle.msrp_words.specs.CommandLine as line;
-ghost use Rattle.msrp_words.specs.CommandLine.{IsAnswered, IsChosen, Takes};
+ghost use Rattle.msrp_words.specs.CommandLine.{Declares, IsAnswered, IsChosen, Takes};
 ghost use Rattle.msrp_words.specs.Words.{IsAsked, IsCommand, order_of, plan_path, version_of};
 
 use clap::error::ErrorKind;
 use clap::{Arg, ArgMatches, Command, Error};
 use msrp_cli::{
     PLAN, STANDARD, TRACE, both_paths, fault_of_words, flag, is_given, path, value_of, valued,
+    with_arg,
 };
 use msrp_faults::CliFault;
 use msrp_plan::TextVersion;
@@ -69,14 +70,31 @@ fn plan_path<'a>(alloc: Global) -> Arg<'a>
     Arg::new(alloc, PLAN).help("the plan's path; - is standard input, as where none is given")
 }
 
+// A command with two arguments.
+fn command_with<'a>(
+    alloc: Global,
+    name: &'a str,
+    about: &'a str,
+    first: Arg<'a>,
+    second: Arg<'a>,
+) -> Result<Command<'a>, AllocError>
+    ensures { (one two : Rule) → Declares one first.entry → Declares two second.entry → IfOk result (Takes (with_rule (with_rule (new_app name.now) one) two)) }
+{
+    let command = Command::new(alloc, name).about(about);
+    with_arg(with_arg(Ok(command), first), second)
+}
+
 // A command that judges a trace of a plan.
 fn judge<'a>(alloc: Global, name: &'a str, about: &'a str) -> Result<Command<'a>, AllocError>
     ensures { IfOk result (Takes (line.judge name.now)) }
 {
-    Command::new(alloc, name)
-        .about(about)
-        .arg(path(alloc, PLAN, "the plan's path; - is standard input"))?
-        .arg(path(alloc, TRACE, "the trace's path; - is standard input"))
+    command_with(
+        alloc,
+        name,
+        about,
+        path(alloc, PLAN, "the plan's path; - is standard input"),
+        path(alloc, TRACE, "the trace's path; - is standard input"),
+    )
 }
 
 // The order of the cores.
@@ -107,66 +125,86 @@ fn ahead_arg<'a>(alloc: Global) -> Arg<'a>
 fn sim<'a>(alloc: Global) -> Result<Command<'a>, AllocError>
     ensures { IfOk result (Takes line.sim) }
 {
-    Command::new(alloc, "sim")
-        .about("writes the trace of the plan's run on one thread")
-        .arg(order_arg(alloc))?
-        .arg(ahead_arg(alloc))?
-        .arg(plan_path(alloc))
+    let made = command_with(
+        alloc,
+        "sim",
+        "writes the trace of the plan's run on one thread",
+        order_arg(alloc),
+        ahead_arg(alloc),
+    );
+    with_arg(made, plan_path(alloc))
 }
 
 fn run<'a>(alloc: Global) -> Result<Command<'a>, AllocError>
     ensures { IfOk result (Takes line.run) }
 {
-    Command::new(alloc, "run")
-        .about("writes the trace of the plan's run on one thread for each core")
-        .arg(ahead_arg(alloc))?
-        .arg(plan_path(alloc))
+    command_with(
+        alloc,
+        "run",
+        "writes the trace of the plan's run on one thread for each core",
+        ahead_arg(alloc),
+        plan_path(alloc),
+    )
 }
 
 fn check<'a>(alloc: Global) -> Result<Command<'a>, AllocError>
     ensures { IfOk result (Takes line.check) }
 {
-    Command::new(alloc, "check")
-        .about("writes the plan's preemption levels and ceilings")
-        .arg(flag(alloc, TEXT, "writes the plan's own text"))?
-        .arg(plan_path(alloc))
+    command_with(
+        alloc,
+        "check",
+        "writes the plan's preemption levels and ceilings",
+        flag(alloc, TEXT, "writes the plan's own text"),
+        plan_path(alloc),
+    )
+}
+
+fn report<'a>(alloc: Global) -> Result<Command<'a>, AllocError>
+    ensures { IfOk result (Takes (line.judge (codes "report"))) }
+{
+    judge(
+        alloc,
+        "report",
+        "counts what each task met in a legal trace, beside what it can meet at most",
+    )
 }
 
 fn audit<'a>(alloc: Global) -> Result<Command<'a>, AllocError>
     ensures { IfOk result (Takes line.audit) }
 {
-    judge(alloc, "audit", "judges a trace: good, or its first fault")?.arg(flag(
-        alloc,
-        PARALLEL,
-        "judges the parts of the trace side by side",
-    ))
+    let made = judge(alloc, "audit", "judges a trace: good, or its first fault");
+    with_arg(
+        made,
+        flag(
+            alloc,
+            PARALLEL,
+            "judges the parts of the trace side by side",
+        ),
+    )
 }
 
-// The commands that make traces.
-fn with_runs<'a>(alloc: Global, command: Command<'a>) -> Result<Command<'a>, AllocError>
-    ensures { (words : App) → Takes words command.entry → IfOk result (Takes (line.with_runs words)) }
+// The program's words, with one command more, if both could be made.
+fn with_command<'a>(
+    program: Result<Command<'a>, AllocError>,
+    made: Result<Command<'a>, AllocError>,
+) -> Result<Command<'a>, AllocError>
+    ensures { (words more : App) → IfOk program.entry (Takes words) → IfOk made.entry (Takes more) → more.top.is_plain ≡ true → IfOk result (Takes (with_subcommand words more.top)) }
 {
-    command.subcommand(sim(alloc)?)?.subcommand(run(alloc)?)
+    program?.subcommand(made?)
 }
 
-// The commands that judge traces.
-fn with_judges<'a>(alloc: Global, command: Command<'a>) -> Result<Command<'a>, AllocError>
-    ensures { (words : App) → Takes words command.entry → IfOk result (Takes (line.with_judges words)) }
-{
-    command.subcommand(audit(alloc)?)?.subcommand(judge(
-        alloc,
-        "report",
-        "counts what each task met in a legal trace, beside what it can meet at most",
-    )?)
-}
-
+// The commands that make traces, those that judge them, and the plan's own.
 fn grammar<'a>(alloc: Global) -> Result<Command<'a>, AllocError>
     ensures { IfOk result (Takes line.grammar) }
 {
-    let command = Command::new(alloc, "msrp").about(
+    let program = Command::new(alloc, "msrp").about(
         "MSRP 0.1.0, the Multiprocessor Stack Resource Policy: runs, audits, reports; without a command as sim -",
     );
-    with_judges(alloc, with_runs(alloc, command)?)?.subcommand(check(alloc)?)
+    let program = with_command(Ok(program), sim(alloc));
+    let program = with_command(program, run(alloc));
+    let program = with_command(program, audit(alloc));
+    let program = with_command(program, report(alloc));
+    with_command(program, check(alloc))
 }
 
 // The text of the program's help.

@@ -80,12 +80,12 @@ ceiling_same plan c pre other same =
     ∙ ap (λ b. max (greatest (map (local_ceiling plan) (filter (λ g. not (is_global plan g) && is_held_on plan c other g) (resources plan)))) (cond b (top plan c) 0)) (raised_same plan c pre other same)
 
 -- the head
-head_same : (plan : PlanModel) (c t : ℕ) (pre other : List Row) → SameStates plan c pre other → head plan c t pre ≡ head plan c t other
+pub head_same : (plan : PlanModel) (c t : ℕ) (pre other : List Row) → SameStates plan c pre other → head plan c t pre ≡ head plan c t other
 head_same plan c t pre other same = ap (least (is_before plan)) (filter_same (λ j. is_released plan t j && not (is_started pre j)) (λ j. is_released plan t j && not (is_started other j)) (jobs_on plan c)
     (all_weaker (λ j. state_after pre j ≡ state_after other j) (λ j. (is_released plan t j && not (is_started pre j)) ≡ (is_released plan t j && not (is_started other j))) (λ j h. ap (λ (s : JobState). is_released plan t j && not s.started) h) (jobs_on plan c) same))
 
 -- who runs
-running_same : (plan : PlanModel) (c : ℕ) (pre other : List Row) → SameStates plan c pre other → running plan c pre ≡ running plan c other
+pub running_same : (plan : PlanModel) (c : ℕ) (pre other : List Row) → SameStates plan c pre other → running plan c pre ≡ running plan c other
 running_same plan c pre other same = ap (least (is_before plan)) (filter_same (λ j. is_started pre j && not (is_finished plan pre j)) (λ j. is_started other j && not (is_finished plan other j)) (jobs_on plan c)
     (all_weaker (λ j. state_after pre j ≡ state_after other j) (λ j. (is_started pre j && not (is_finished plan pre j)) ≡ (is_started other j && not (is_finished plan other j))) (λ j h. ap (λ (s : JobState). s.started && not (s.done == length (units plan j))) h) (jobs_on plan c) same))
 
@@ -97,7 +97,7 @@ choice_same plan c t pre other same =
     ∙ ap (chosen plan (ceiling plan c other) (head plan c t other)) (running_same plan c pre other same))
 
 -- ---- so a core's log says as much as all rows
-states_local : (plan : PlanModel) (c : ℕ) (pre : List Row) → AreOwn plan pre → SameStates plan c (log_of c pre) pre
+pub states_local : (plan : PlanModel) (c : ℕ) (pre : List Row) → AreOwn plan pre → SameStates plan c (log_of c pre) pre
 states_local plan c pre own = all_weaker (λ j. (core_of plan j == c) ≡ true) (λ j. state_after (log_of c pre) j ≡ state_after pre j) (λ j h. state_local plan c pre j own (eqb-true (core_of plan j) c h)) (jobs_on plan c) (on_core plan c)
 
 -- the log of a core tells which of its jobs has the turn

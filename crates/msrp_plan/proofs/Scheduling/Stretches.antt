@@ -56,7 +56,7 @@ released_same plan t j none = same_tests _ _
     (λ h. let l = leb-true (release plan j) t h in le-leb (release plan j) (t + 1) (omega (arith, l)))
 
 -- so the head is the same
-head_later : (plan : PlanModel) (c t : ℕ) (pre : List Row) → NoneReleased plan c (t + 1) 1 → head plan c (t + 1) pre ≡ head plan c t pre
+pub head_later : (plan : PlanModel) (c t : ℕ) (pre : List Row) → NoneReleased plan c (t + 1) 1 → head plan c (t + 1) pre ≡ head plan c t pre
 head_later plan c t pre none = ap (least (is_before plan)) (filter_same (λ j. is_released plan (t + 1) j && not (is_started pre j)) (λ j. is_released plan t j && not (is_started pre j)) (jobs_on plan c)
     (all_weaker (Contains (jobs_on plan c)) (λ j. (is_released plan (t + 1) j && not (is_started pre j)) ≡ (is_released plan t j && not (is_started pre j))) (λ j on. ap (λ b. b && not (is_started pre j)) (released_same plan t j (none j on))) (jobs_on plan c) (members (jobs_on plan c))))
 
@@ -77,7 +77,7 @@ still_cases : (pre : List Row) (r : Row) (j : JobId) (mine : Bool) → is_row_of
 still_cases pre r j true e own = own (is_job_is r.job j e)
 still_cases pre r j false e own = state_kept pre r j e
 
-still : (plan : PlanModel) (c : ℕ) (pre : List Row) (r : Row) → ((j : JobId) → r.job ≡ Some j → state_after (pre ++ r ∷ []) j ≡ state_after pre j) → SameStates plan c (pre ++ r ∷ []) pre
+pub still : (plan : PlanModel) (c : ℕ) (pre : List Row) (r : Row) → ((j : JobId) → r.job ≡ Some j → state_after (pre ++ r ∷ []) j ≡ state_after pre j) → SameStates plan c (pre ++ r ∷ []) pre
 still plan c pre r own = all_of (λ j. state_after (pre ++ r ∷ []) j ≡ state_after pre j) (λ j. still_cases pre r j (is_row_of j r) refl (own j)) (jobs_on plan c)
 
 -- leave the choice
@@ -92,7 +92,7 @@ idle_chosen : (plan : PlanModel) (c : ℕ) (pre : List Row) (r : Row) → IsCore
 idle_chosen plan c pre r h k = still_chosen plan c pre r h (λ j e. absurd (none_is_some j r.job (idle_job r k) e))
 
 -- a poll in vain
-spin_waits : (global queued : Bool) (op : Op) → allows global queued op Spin ≡ true → queued ≡ true
+pub spin_waits : (global queued : Bool) (op : Op) → allows global queued op Spin ≡ true → queued ≡ true
 spin_waits global queued op e = elim (step_of global queued op Spin e) [
   | Runs eo ek ↦ absurd (cc)
   | Locks h eo ek eg ↦ absurd (cc)
@@ -109,7 +109,7 @@ spin_queued plan c pre r j h k e =
     let d = (core_turn plan c pre r h).does j e in
     spin_waits (is_global_unit plan d.op) (is_queued pre j) d.op (subst (λ kind. allows (is_global_unit plan d.op) (is_queued pre j) d.op kind ≡ true) k d.kind)
 
-spin_state : (j : JobId) (started queued waits : Bool) (n m : ℕ) → started ≡ true → queued ≡ true → waits ≡ true → m ≡ n + cond (not waits) 1 0 → (s z : JobState) → s ≡ record { job = j; started = true; queued = waits; done = m } → z ≡ record { job = j; started = started; queued = queued; done = n } → s ≡ z
+pub spin_state : (j : JobId) (started queued waits : Bool) (n m : ℕ) → started ≡ true → queued ≡ true → waits ≡ true → m ≡ n + cond (not waits) 1 0 → (s z : JobState) → s ≡ record { job = j; started = true; queued = waits; done = m } → z ≡ record { job = j; started = started; queued = queued; done = n } → s ≡ z
 spin_state j started queued waits n m s q w e a b es ez =
     let k : n + cond (not waits) 1 0 ≡ n = ap (λ b. n + cond (not b) 1 0) w ∙ omega arith in
     let same : m ≡ n = e ∙ k in cc
@@ -129,7 +129,7 @@ ceiling_by plan c pre other queued held =
     ap (λ gs. max (greatest (map (local_ceiling plan) gs)) (cond (is_raised plan c pre) (top plan c) 0)) (filter_agree (λ g. not (is_global plan g) && is_held_on plan c pre g) (λ g. not (is_global plan g) && is_held_on plan c other g) (λ g. ap (λ b. not (is_global plan g) && b) (held g)) (resources plan))
     ∙ ap (λ b. max (greatest (map (local_ceiling plan) (filter (λ g. not (is_global plan g) && is_held_on plan c other g) (resources plan)))) (cond b (top plan c) 0)) raised
 
-run_unit : (global queued : Bool) (op : Op) → allows global queued op Run ≡ true → op ≡ RunUnit
+pub run_unit : (global queued : Bool) (op : Op) → allows global queued op Run ≡ true → op ≡ RunUnit
 run_unit global queued op e = elim (step_of global queued op Run e) [
   | Runs eo ek ↦ eo
   | Locks h eo ek eg ↦ absurd (cc)
@@ -142,13 +142,13 @@ run_unit global queued op e = elim (step_of global queued op Run e) [
 ]
 
 -- a row that works, of job j
-record Works (plan : PlanModel) (c : ℕ) (pre : List Row) (r : Row) (j : JobId) : Type 0 where
-  job : r.job ≡ Some j
-  on : Contains (jobs_on plan c) j
-  chosen : choice plan c r.tick pre ≡ Some j
-  unit : slice_get (units plan j) (done j pre) ≡ Some RunUnit
-  ready : is_queued pre j ≡ false
-  kind : r.kind ≡ Run
+pub record Works (plan : PlanModel) (c : ℕ) (pre : List Row) (r : Row) (j : JobId) : Type 0 where
+  pub job : r.job ≡ Some j
+  pub on : Contains (jobs_on plan c) j
+  pub chosen : choice plan c r.tick pre ≡ Some j
+  pub unit : slice_get (units plan j) (done j pre) ≡ Some RunUnit
+  pub ready : is_queued pre j ≡ false
+  pub kind : r.kind ≡ Run
 
 run_unit_of : (plan : PlanModel) (c : ℕ) (pre : List Row) (r : Row) (j : JobId) → IsCoreTurn plan c pre r → r.kind ≡ Run → r.job ≡ Some j → slice_get (units plan j) (done j pre) ≡ Some RunUnit
 run_unit_of plan c pre r j h k e =
@@ -166,7 +166,7 @@ works plan c pre r j h k e q = record {
 }
 
 -- its job has done a unit more, and doesn't wait
-work_state : (pre : List Row) (r : Row) (j : JobId) → r.kind ≡ Run → r.job ≡ Some j → (is_started (pre ++ r ∷ []) j ≡ true) × (is_queued (pre ++ r ∷ []) j ≡ false) × (done j (pre ++ r ∷ []) ≡ done j pre + 1)
+pub work_state : (pre : List Row) (r : Row) (j : JobId) → r.kind ≡ Run → r.job ≡ Some j → (is_started (pre ++ r ∷ []) j ≡ true) × (is_queued (pre ++ r ∷ []) j ≡ false) × (done j (pre ++ r ∷ []) ≡ done j pre + 1)
 work_state pre r j k e =
     let s = state_moved pre r j e in (
       ap (λ (s : JobState). s.started) s,
@@ -188,7 +188,7 @@ work_queued plan c pre r j w i true e =
     let s : i ≡ j = some_is i j (sym (is_job_is r.job i e) ∙ w.job) in
     subst (λ x. is_queued (pre ++ r ∷ []) x ≡ is_queued pre x) (sym s) ((work_state pre r j w.kind w.job).1 ∙ sym w.ready)
 
-work_ceiling : (plan : PlanModel) (c : ℕ) (pre : List Row) (r : Row) (j : JobId) → Works plan c pre r j → ceiling plan c (pre ++ r ∷ []) ≡ ceiling plan c pre
+pub work_ceiling : (plan : PlanModel) (c : ℕ) (pre : List Row) (r : Row) (j : JobId) → Works plan c pre r j → ceiling plan c (pre ++ r ∷ []) ≡ ceiling plan c pre
 work_ceiling plan c pre r j w = ceiling_by plan c (pre ++ r ∷ []) pre
     (any_same (is_queued (pre ++ r ∷ [])) (is_queued pre) (jobs_on plan c) (all_of (λ i. is_queued (pre ++ r ∷ []) i ≡ is_queued pre i) (λ i. work_queued plan c pre r j w i (is_row_of i r) refl) (jobs_on plan c)))
     (λ g. any_same (holds plan (pre ++ r ∷ []) g) (holds plan pre g) (jobs_on plan c) (all_of (λ i. holds plan (pre ++ r ∷ []) g i ≡ holds plan pre g i) (λ i. work_holds plan c pre r j w g i (is_row_of i r) refl) (jobs_on plan c)))
@@ -198,7 +198,7 @@ work_least : (plan : PlanModel) (c : ℕ) (pre : List Row) (r : Row) (j i : JobI
 work_least plan c pre r j i true w e on l = subst (λ x. is_before plan x j ≡ false) (sym (some_is i j (sym (is_job_is r.job i e) ∙ w.job))) (irrefl (is_before plan) (before_order plan) j)
 work_least plan c pre r j i false w e on l = turn_least plan c r.tick pre j i w.chosen on (sym (live_kept plan pre r i e) ∙ l)
 
-work_runs : (plan : PlanModel) (c : ℕ) (pre : List Row) (r : Row) (j : JobId) (o : Option JobId) → Works plan c pre r j → is_finished plan (pre ++ r ∷ []) j ≡ false → running plan c (pre ++ r ∷ []) ≡ o → o ≡ Some j
+pub work_runs : (plan : PlanModel) (c : ℕ) (pre : List Row) (r : Row) (j : JobId) (o : Option JobId) → Works plan c pre r j → is_finished plan (pre ++ r ∷ []) j ≡ false → running plan c (pre ++ r ∷ []) ≡ o → o ≡ Some j
 work_runs plan c pre r j None w left e =
     absurd (least_some (is_before plan) (is_live plan (pre ++ r ∷ [])) (jobs_on plan c) j e w.on (live plan (pre ++ r ∷ []) j (work_state pre r j w.kind w.job).0 left))
 work_runs plan c pre r j (Some i) w left e =

@@ -1,7 +1,9 @@
 -- What is noted of a resource, one row more on it.
-use Rattle.std.specs.Prelude.{◌≡◌, ◌&&◌, length, max, not}
+use Rattle.std.specs.Prelude.{ℕ, List, [], Some, ◌≡◌, ◌&&◌, length, max, not, slice_get}
+use Rattle.msrp_plan.specs.Plan.{PlanModel}
 use Rattle.msrp_plan.specs.declared.rows.Row.{Row}
 use Rattle.msrp_why.specs.Exercise.{is_entry, is_grant, is_in_tick, is_queue, one_if}
+use Rattle.msrp_why.specs.Noted.{IsNoted}
 use Rattle.msrp_why.specs.declared.notes.ResourceNotes.{ResourceNotes}
 
 pub record IsCountStep (r : Row) (old new : ResourceNotes) : Type 0 where
@@ -10,3 +12,8 @@ pub record IsCountStep (r : Row) (old new : ResourceNotes) : Type 0 where
   pub at_once : new.counts.at_once ≡ one_if old.counts.at_once (is_grant r.kind && is_in_tick r.tick old.last)
   pub later : new.counts.later ≡ one_if old.counts.later (is_grant r.kind && not (is_in_tick r.tick old.last))
   pub longest : new.counts.longest ≡ max old.counts.longest (length new.queue.items)
+
+-- nothing is noted of the resources before the first row
+pub record AreEmptyOf (plan : PlanModel) (notes : List ResourceNotes) : Type 0 where
+  pub size : length notes ≡ length plan.resources
+  pub each : (g : ℕ) (n : ResourceNotes) → slice_get notes g ≡ Some n → IsNoted [] g n

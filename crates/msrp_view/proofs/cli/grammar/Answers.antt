@@ -1,18 +1,16 @@
-use Rattle.std.proofs.lemmas.Result.{IfOk-weaker}
 use Rattle.msrp_view.specs.CommandLine.{grammar}
-use Rattle.msrp_view.proofs.Grammar.{adds_rule}
 use Rattle.msrp_view.proofs.cli.grammar.Goals as goal
 
 pub returns : goal.returns
 unfolding grammar
 returns c =
-    let text = adds_rule c.program.result c.flag.result c.in_ok-arg.field-0 _ _ c.in_ok-arg.ensures c.program.ensures c.flag.ensures.rule c.flag.ensures.own in
-    let svg = adds_rule c.in_ok-arg.field-0 c.flag-2.result c.in_ok-arg-2.field-0 _ _ c.in_ok-arg-2.ensures text c.flag-2.ensures.rule c.flag-2.ensures.own in
-    let from = adds_rule c.in_ok-arg-2.field-0 c.valued.result c.in_ok-arg-3.field-0 _ _ c.in_ok-arg-3.ensures svg c.valued.ensures.rule c.valued.ensures.own in
-    let to = adds_rule c.in_ok-arg-3.field-0 c.valued-2.result c.in_ok-arg-4.field-0 _ _ c.in_ok-arg-4.ensures from c.valued-2.ensures.rule c.valued-2.ensures.own in
-    let why = adds_rule c.in_ok-arg-4.field-0 c.flag-3.result c.in_ok-arg-5.field-0 _ _ c.in_ok-arg-5.ensures to c.flag-3.ensures.rule c.flag-3.ensures.own in
-    let vcd = adds_rule c.in_ok-arg-5.field-0 c.flag-4.result c.in_ok-arg-6.field-0 _ _ c.in_ok-arg-6.ensures why c.flag-4.ensures.rule c.flag-4.ensures.own in
-    let perfetto = adds_rule c.in_ok-arg-6.field-0 c.flag-5.result c.in_ok-arg-7.field-0 _ _ c.in_ok-arg-7.ensures vcd c.flag-5.ensures.rule c.flag-5.ensures.own in
-    let version = adds_rule c.in_ok-arg-7.field-0 c.version.result c.in_ok-arg-8.field-0 _ _ c.in_ok-arg-8.ensures perfetto c.version.ensures.rule c.version.ensures.own in
-    let plan = adds_rule c.in_ok-arg-8.field-0 c.path.result c.in_ok-arg-9.field-0 _ _ c.in_ok-arg-9.ensures version c.path.ensures.rule c.path.ensures.own in
-    IfOk-weaker c.arg-10.result _ _ (λ new h. adds_rule c.in_ok-arg-9.field-0 c.optional.result new _ _ h plan c.optional.ensures.rule c.optional.ensures.own) c.arg-10.ensures
+    let text = c.with_arg-made.ensures _ _ c.program.ensures c.flag.ensures.rule c.flag.ensures.own in
+    let svg = c.with_arg-made-2.ensures _ _ text c.flag-2.ensures.rule c.flag-2.ensures.own in
+    let from = c.with_arg-made-3.ensures _ _ svg c.valued.ensures.rule c.valued.ensures.own in
+    let to = c.with_arg-made-4.ensures _ _ from c.valued-2.ensures.rule c.valued-2.ensures.own in
+    let why = c.with_arg-made-5.ensures _ _ to c.flag-3.ensures.rule c.flag-3.ensures.own in
+    let vcd = c.with_arg-made-6.ensures _ _ why c.flag-4.ensures.rule c.flag-4.ensures.own in
+    let perfetto = c.with_arg-made-7.ensures _ _ vcd c.flag-5.ensures.rule c.flag-5.ensures.own in
+    let version = c.with_arg-made-8.ensures _ _ perfetto c.version.ensures.rule c.version.ensures.own in
+    let plan = c.with_arg-made-9.ensures _ _ version c.path.ensures.rule c.path.ensures.own in
+    c.with_arg.ensures _ _ plan c.optional.ensures.rule c.optional.ensures.own

@@ -1,14 +1,14 @@
 use Rattle.std.proofs.Common.{rules, ◌≡◌, refl, codes}
-use Rattle.std.proofs.lemmas.Result.{IfOk-weaker}
 use Rattle.clap.specs.Words.{app_of, new_app}
 use Rattle.msrp_words.specs.CommandLine.{grammar}
-use Rattle.msrp_words.proofs.Grammar.{adds_command}
 use Rattle.msrp_words.proofs.cli.grammar.Goals as goal
 
 pub returns : goal.returns
 unfolding grammar
 returns c =
-    let top : app_of c.about-command.result ≡ new_app (codes "msrp") = search rules in
-    let runs = c.in_ok-with_runs.ensures _ top in
-    let judges = c.in_ok-with_judges.ensures _ runs in
-    IfOk-weaker c.subcommand.result _ _ (λ new h. adds_command c.in_ok-with_judges.field-0 c.in_ok-check.field-0 new _ _ h judges c.in_ok-check.ensures refl) c.subcommand.ensures
+    let top : app_of c.about-program.result ≡ new_app (codes "msrp") = search rules in
+    let sim = c.with_command-program.ensures _ _ top c.sim.ensures refl in
+    let run = c.with_command-program-2.ensures _ _ sim c.run.ensures refl in
+    let audit = c.with_command-program-3.ensures _ _ run c.audit.ensures refl in
+    let report = c.with_command-program-4.ensures _ _ audit c.report.ensures refl in
+    c.with_command.ensures _ _ report c.check.ensures refl

@@ -1,7 +1,7 @@
 use Rattle.std.proofs.Common.{◌+◌, None, refl, sym, subst, arith}
 use Rattle.std.proofs.lemmas.Grind.{common_steps}
 use Rattle.msrp_why.proofs.Noting.{AreEmpty, empty_more}
-use Rattle.msrp_why.proofs.notes.Notes.with_room.Goals as goal
+use Rattle.msrp_why.proofs.notes.resources_of.Goals as goal
 
 pub loop-res-preserved : goal.loop-res-preserved
 loop-res-preserved c = (
@@ -13,8 +13,4 @@ loop-res-preserved c = (
 pub returns : goal.returns
 returns c =
     let i = c.loop-res.invariant.0 in
-    let zero = c.new-2.ensures in
-    record {
-      resources = record { count = refl; last = refl; size = omega (arith, i.size, c.loop-res-test.false, c.loop-res.auto._res-end, c.resources-count.ensures.value); each = i.each };
-      turns = record { finished = zero.finished; late = zero.late; at_deadline = zero.at_deadline; kept = zero.kept; at_ceiling = zero.at_ceiling; preempted = zero.preempted; nested = zero.nested };
-    }
+    record { size = omega (arith, i.size, c.loop-res-test.false, c.loop-res.auto._res-end, c.resources-count.ensures.value); each = i.each }

@@ -1,0 +1,12 @@
+-- The texts of a plan.
+use Rattle.std.specs.Prelude.{ℕ, List}
+use Rattle.msrp_plan.specs.Plan.{PlanModel}
+use Rattle.msrp_text.specs.PlanText.{plan_text}
+use Rattle.msrp_engine.specs.CheckText.{check_text}
+use Rattle.msrp_engine.specs.declared.texts.PlanText.{PlanText}
+use Rattle.msrp_engine.specs.declared.texts.PlanText.TheVariants.{Own, Levels}
+
+-- the text that is asked for
+abbrev pub text_of : PlanText → PlanModel → List ℕ
+text_of Own = plan_text
+text_of Levels = check_text

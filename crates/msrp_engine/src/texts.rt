@@ -1,0 +1,70 @@
+//! The texts of a plan: a plan is read, a text of it is gathered in memory, and then written.
+
+ghost use Rattle.std.specs.Prelude.{◌≡◌, ◌⊎◌, true, Err, IfOk, IfErr, OnOk};
+ghost use Rattle.msrp_plan.specs.Bytes.{Wrote};
+ghost use Rattle.msrp_plan.specs.WellFormed.{IsPlan};
+ghost use Rattle.msrp_text.specs.Reading.{plan_of};
+ghost use Rattle.msrp_faults.specs.Outcomes.{is_sim_fault, written_status};
+ghost use Rattle.msrp_engine.specs.Answered.{AnsweredPlan, OfText};
+ghost use Rattle.msrp_engine.specs.Inside.Texts.{text_of};
+ghost use Rattle.msrp_engine.specs.Simulation.{TextAnswers, WritesSomeText};
+
+use crate::check::levels_text;
+use crate::own_text::own_text;
+use crate::whole::write_whole;
+use msrp_faults::CliFault;
+use msrp_plan::Plan;
+use msrp_plan::bytes::{Sink, Source};
+use msrp_text::read_plan;
+use std::alloc::Global;
+use std::io::{Read, Write};
+
+/// Which text of a plan.
+#[derive(Clone, Copy)]
+pub(crate) enum PlanText {
+    /// Its own, which reads as the same plan.
+    Own,
+    /// Its levels and ceilings.
+    Levels,
+}
+
+// The text that is asked for, in memory.
+fn gathered(alloc: Global, plan: &Plan, which: PlanText) -> Result<Vec<u8>, CliFault>
+    ensures plan { OnOk result (IsPlan plan.now) }
+    ensures text { IfOk result (λ text. text.items ≡ text_of which plan.now) }
+    ensures memory { IfErr result (λ fault. fault ≡ CliFault.Memory) }
+{
+    match which {
+        PlanText::Own => own_text(alloc, plan),
+        PlanText::Levels => levels_text(alloc, plan),
+    }
+}
+
+// Gathers it, and writes it.
+fn write_gathered<W: Write>(
+    alloc: Global,
+    plan: &Plan,
+    out: &mut Sink<W>,
+    which: PlanText,
+) -> Result<u8, CliFault>
+    ensures { ((result ≡ Err CliFault.Memory) × (out.new ≡ out.old)) ⊎ (IsPlan plan.now × Wrote W.contents out.old out.new (text_of which plan.now) × (result ≡ written_status out.new)) }
+{
+    let text = gathered(alloc, plan, which)?;
+    write_whole(out, text.as_slice())
+}
+
+/// Reads a plan, and writes the text of it that is asked for. The whole plan is read before anything is written, and all memory is taken before:
+/// so whatever the fault, but a write fault, nothing was written.
+pub(crate) fn write_text<P: Read, W: Write>(
+    alloc: Global,
+    plan: &mut Source<P>,
+    out: &mut Sink<W>,
+    which: PlanText,
+) -> Result<u8, CliFault>
+    ensures answer { OfText P.remaining plan.old result (λ records. TextAnswers W.contents (text_of which) (plan_of records) out.old out.new result) }
+    ensures written { OnOk result (WritesSomeText W.contents (text_of which) out.old out.new) }
+    ensures always { AnsweredPlan (λ fault. is_sim_fault fault ≡ true) plan.new out.old out.new result }
+{
+    let plan = read_plan(alloc, plan)?;
+    write_gathered(alloc, &plan, out, which)
+}
