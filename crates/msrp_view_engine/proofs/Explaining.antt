@@ -1,5 +1,6 @@
 -- What is found in rows that are judged as they come, with the cause of a fault or the refusal behind them, and the words on it.
 use Rattle.std.proofs.Common.{◌≡◌, ◌⊎◌, ◌++◌, ◌∷◌, [], ℕ, true, List, Option, Some, None, IfOk, IfErr, refl, ap, sym, subst, ◌∙◌, inl, inr, append_assoc}
+use Rattle.std.proofs.lemmas.Option.{same_Some}
 use Rattle.std.specs.Prelude.{⊤}
 use Rattle.std.specs.Option.{option_or}
 use Rattle.std.specs.declared.result.Result.{Result}
@@ -47,11 +48,11 @@ refusal-judged plan told rows left after result error answer is next e good give
 ])
 
 -- a faulty row, with its cause
-pub cause-found : (plan : PlanModel) (told : Told) (rows : List Row) (r : Row) (left : Option Told) (cause : Cause) → IsReadTo told (rows ++ r ∷ []) left → IsCauseAfter plan rows r cause
-    → IsJudged plan told (Ok (record { verdict = Err cause.fault; ground = AtRow cause }))
-cause-found plan told rows r left cause more is = (
-  judging.fault-found plan told (rows ++ r ∷ []) more.rest cause.fault more.whole is.fault,
-  (refl, record { before = rows; row = r; behind = more.rest; place = more.whole ∙ append_assoc rows (r ∷ []) more.rest; is = is }),
+pub cause-found : (plan : PlanModel) (told : Told) (rows : List Row) (r : Row) (left : Option Told) (fault : Fault) (cause : Cause) → IsReadTo told (rows ++ r ∷ []) left → fault_in plan (rows ++ r ∷ []) ≡ Some fault → IsCauseAfter plan rows r cause
+    → IsJudged plan told (Ok (record { verdict = Err fault; ground = AtRow cause }))
+cause-found plan told rows r left fault cause more broken is = (
+  judging.fault-found plan told (rows ++ r ∷ []) more.rest fault more.whole broken,
+  (ap (λ f. Err f) (same_Some fault cause.fault (sym broken ∙ is.fault)), record { before = rows; row = r; behind = more.rest; place = more.whole ∙ append_assoc rows (r ∷ []) more.rest; is = is }),
 )
 
 -- rows without a fault, at the end

@@ -22,7 +22,9 @@ use msrp_plan::bytes::{Sink, Source};
 use msrp_plan::{Fault, Plan};
 use msrp_text::read_plan;
 use msrp_trace::{TraceError, TraceReader};
-use msrp_why::{Ground, Notes, feed, write_cause, write_exercise, write_missing, write_refused};
+use msrp_why::{
+    Due, Ground, Notes, cause_of, feed, write_cause, write_exercise, write_missing, write_refused,
+};
 use std::alloc::Global;
 use std::io::{Read, Write};
 
@@ -42,7 +44,6 @@ struct Explained {
 
 // What is found in the rows that a reader has left. They are judged as they come, and none is read after a faulty one.
 fn judge_rows<T: Read>(
-    alloc: Global,
     plan: &Plan,
     levels: &Levels<'_>,
     auditor: &mut Auditor<'_>,
@@ -56,11 +57,12 @@ fn judge_rows<T: Read>(
     ensures found { (told : Told) → told_left T.remaining rows.old ≡ Some told → IsJudged plan.now told result }
     ensures stands { (records : List (List (List ℕ))) → StandsIn T.remaining records rows.old → IfErr result (λ error. StandsBehind T.remaining records (Err error) rows.new) }
 {
+    let mut due = Due::new();
     while let Some(row) = rows.next_foreseen(|core| auditor.foresee(core))? {
-        if let Err(cause) = feed(alloc, plan, levels, auditor, &mut notes, row) {
+        if let Err(fault) = feed(plan, levels, auditor, &mut notes, &mut due, row) {
             return Ok(Judged {
-                verdict: Err(cause.fault),
-                ground: Ground::Row(cause),
+                verdict: Err(fault),
+                ground: Ground::Row(cause_of(plan, notes, due, row, fault)),
             });
         }
     }
@@ -153,7 +155,7 @@ fn explain_rows<T: Read>(
 {
     let mut auditor = Auditor::with_room(alloc, plan, levels)?;
     let notes = Notes::with_room(alloc, plan, levels, &auditor)?;
-    match judge_rows(alloc, plan, levels, &mut auditor, notes, rows) {
+    match judge_rows(plan, levels, &mut auditor, notes, rows) {
         Ok(judged) => words_on(alloc, plan, levels, judged),
         Err(error) => words_on_refusal(alloc, plan, error, rows.record()),
     }

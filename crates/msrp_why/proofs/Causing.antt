@@ -18,11 +18,11 @@ use Rattle.msrp_plan.specs.declared.faults.Rule.TheVariants.{A1, A2, A3, A4, A5,
 use Rattle.msrp_plan.specs.declared.rows.Row.{Row}
 use Rattle.msrp_plan.proofs.Runs.Verdicts.{fault_push, unbroken_is_legal}
 use Rattle.msrp_plan.proofs.Lists.Ranges.{range_more}
-use Rattle.msrp_sim.specs.Cores.{IsDueAfter, IsNextRow}
+use Rattle.msrp_sim.specs.Cores.{IsNextRow}
 use Rattle.msrp_audit.specs.Audits.{AuditorModel, HasFed, answer_of, has_turn}
 use Rattle.msrp_audit.proofs.Judging.{due_after}
-use Rattle.msrp_why.specs.Causes.{AreTurnsFor, IsCauseAfter, IsDueRow, IsStateFor, cores_due}
-use Rattle.arrayvec.specs.ArrayVec.{ArrayVec}
+use Rattle.msrp_why.specs.Causes.{AreTurnsFor, IsBrokenBy, IsCauseAfter, IsDueRow, IsStateFor, cores_due}
+use Rattle.msrp_why.specs.declared.causes.Due.{Due}
 use Rattle.msrp_why.specs.Noted.{AreNoted}
 use Rattle.msrp_why.specs.declared.notes.Notes.{Notes}
 
@@ -122,26 +122,38 @@ pub good_answer : (o : Option Fault) (good : ⊤) → Ok good ≡ answer_of o �
 good_answer None good h = refl
 good_answer (Some f) good h = absurd (cc)
 
--- a fault that the auditor answers, with the row that was due and the state of the core
-pub cause_is : (a : AuditorModel) (rows : List Row) (r : Row) (f : Fault) (due : Option Row) (state : Option CoreState) (turns : ArrayVec ℕ) (notes : Notes) → IsPlan a.plan → AreNoted a.plan rows notes → HasFed a rows → fault_in a.plan rows ≡ None → Err f ≡ answer_of (fault_in a.plan (rows ++ r ∷ []))
-    → ((before : List Row) → HasFed a before → a.fault ≡ None → length before < a.plan.cores * a.plan.ticks → is_in_turn a.plan before r ≡ true → IsSomeAnd due (IsNextRow a.plan before r.core.0))
-    → (r.core.0 < a.plan.cores → IsSomeAnd state (IsCoreState a.plan r.core.0 (length (log_of r.core.0 rows)) rows))
-    → ((before : List Row) → HasFed a before → a.fault ≡ None → length before < a.plan.cores * a.plan.ticks → is_in_turn a.plan before r ≡ false → turns.items ≡ cores_due a.plan before)
-    → IsCauseAfter a.plan rows r (record { fault = f; row = r; due = due; state = state; turns = turns; notes = notes })
-cause_is a rows r f due state turns notes ok noted fed good answer foreseen told turned =
+-- a fault that the auditor answers, with what was due
+pub broken_by : (a : AuditorModel) (rows : List Row) (r : Row) (f : Fault) (due : Due) → IsPlan a.plan → HasFed a rows → fault_in a.plan rows ≡ None → Err f ≡ answer_of (fault_in a.plan (rows ++ r ∷ []))
+    → ((before : List Row) → HasFed a before → a.fault ≡ None → length before < a.plan.cores * a.plan.ticks → is_in_turn a.plan before r ≡ true → IsSomeAnd due.row (IsNextRow a.plan before r.core.0))
+    → ((before : List Row) → HasFed a before → a.fault ≡ None → length before < a.plan.cores * a.plan.ticks → is_in_turn a.plan before r ≡ false → due.cores.items ≡ cores_due a.plan before)
+    → IsBrokenBy a.plan rows r f due
+broken_by a rows r f due ok fed good answer foreseen turned =
     let fault = fault_answer (fault_in a.plan (rows ++ r ∷ [])) f answer in
     let rule = rule_of (refused a.plan rows r) (length rows + 1) f (sym (fault_push a.plan rows r good) ∙ fault) in
-    let start = good_start a.plan rows good in
     let none = fed.fault ∙ good in
-    let due_now : nat_lt (length rows) (a.plan.cores * a.plan.ticks) ≡ true → is_in_turn a.plan rows r ≡ true → IsDueAfter a.plan rows r.core.0 = λ left turn. due_after a.plan rows r ok start (ltb-true (length rows) (a.plan.cores * a.plan.ticks) left) turn in
     record {
       good = good;
       fault = fault;
-      row = refl;
-      due = due_for a.plan rows r.core.0 f.rule due (nat_lt (length rows) (a.plan.cores * a.plan.ticks)) (is_in_turn a.plan rows r) _ (λ left turn. foreseen rows fed none (ltb-true (length rows) (a.plan.cores * a.plan.ticks) left) turn) rule;
-      state = state_for a.plan rows r.core.0 f.rule state (nat_lt (length rows) (a.plan.cores * a.plan.ticks)) (is_in_turn a.plan rows r) _
-          (λ left turn. let d = due_now left turn in subst (λ t. IsSomeAnd state (IsCoreState a.plan r.core.0 t rows)) d.due (told d.core)) rule;
-      turns = turns_for a.plan rows f.rule turns.items (nat_lt (length rows) (a.plan.cores * a.plan.ticks)) (is_in_turn a.plan rows r) (is_of_core a.plan r) (is_chosen a.plan rows r) (is_next_action a.plan rows r) (is_fifo_reply rows r)
+      due = due_for a.plan rows r.core.0 f.rule due.row (nat_lt (length rows) (a.plan.cores * a.plan.ticks)) (is_in_turn a.plan rows r) _ (λ left turn. foreseen rows fed none (ltb-true (length rows) (a.plan.cores * a.plan.ticks) left) turn) rule;
+      turns = turns_for a.plan rows f.rule due.cores.items (nat_lt (length rows) (a.plan.cores * a.plan.ticks)) (is_in_turn a.plan rows r) (is_of_core a.plan r) (is_chosen a.plan rows r) (is_next_action a.plan rows r) (is_fifo_reply rows r)
           (λ left turn. turned rows fed none (ltb-true (length rows) (a.plan.cores * a.plan.ticks) left) turn) rule;
+    }
+
+-- its cause, with what was noted before the row
+pub cause_is : (plan : PlanModel) (rows : List Row) (r : Row) (f : Fault) (due : Due) (state : Option CoreState) (notes : Notes) → IsPlan plan → IsBrokenBy plan rows r f due → AreNoted plan rows notes
+    → (r.core.0 < plan.cores → IsSomeAnd state (IsCoreState plan r.core.0 (length (log_of r.core.0 rows)) rows)) → IsCauseAfter plan rows r (record { fault = f; row = r; due = due.row; state = state; turns = due.cores; notes = notes })
+cause_is plan rows r f due state notes ok broken noted told =
+    let rule = rule_of (refused plan rows r) (length rows + 1) f (sym (fault_push plan rows r broken.good) ∙ broken.fault) in
+    let start = good_start plan rows broken.good in
+    record {
+      good = broken.good;
+      fault = broken.fault;
+      row = refl;
+      due = broken.due;
+      state = state_for plan rows r.core.0 f.rule state (nat_lt (length rows) (plan.cores * plan.ticks)) (is_in_turn plan rows r) _
+          (λ left turn.
+          let d = due_after plan rows r ok start (ltb-true (length rows) (plan.cores * plan.ticks) left) turn in
+          subst (λ t. IsSomeAnd state (IsCoreState plan r.core.0 t rows)) d.due (told d.core)) rule;
+      turns = broken.turns;
       notes = noted;
     }

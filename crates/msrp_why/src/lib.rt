@@ -1,6 +1,6 @@
 //! Why a row of a trace is refused: the row, the rule, the row that was due in its place, and what makes it so.
 //!
-//! [`feed`] judges a row, and keeps with a fault what was due before it. [`write_cause`] tells it in plain sentences, and [`write_exercise`] what a legal run exercised; [`write_refused`] tells what is wrong with a record that tells no row. [`laws`]
+//! [`feed`] judges a row, and tells of one that breaks a rule what was due; [`cause_of`] keeps it as a cause. [`write_cause`] tells it in plain sentences, and [`write_exercise`] what a legal run exercised; [`write_refused`] tells what is wrong with a record that tells no row. [`laws`]
 //! are theorems about what is noted.
 #![tactic(auto)]
 
@@ -17,7 +17,7 @@ mod sections;
 mod sentences;
 mod telling;
 
-pub use causes::{Cause, Ground, feed};
+pub use causes::{Cause, Due, Ground, cause_of, feed};
 pub use cores::CoreNotes;
 pub use exercise::{ResourceCounts, TurnCounts};
 pub use exercised::write_exercise;

@@ -21,7 +21,6 @@ use msrp_levels::Levels;
 use msrp_plan::limits::MOST_CORES;
 use msrp_plan::{CoreId, Kind, Memory, Plan, Row};
 use std::alloc::Global;
-use std::mem;
 
 /// The most requests in a queue: each core has one at most.
 pub const MOST_QUEUED: usize = MOST_CORES as usize;
@@ -170,21 +169,6 @@ impl Notes {
             resources: resources_of(alloc, plan)?,
             sections: Sections::of(alloc, plan)?,
         })
-    }
-
-    // The notes, which are then empty.
-    pub(crate) fn take(&mut self, alloc: Global) -> Notes
-        ensures { result ≡ self.old }
-    {
-        let empty = Notes {
-            rows: 0,
-            last: None,
-            turns: TurnCounts::new(),
-            cores: Vec::new(alloc),
-            resources: Vec::new(alloc),
-            sections: Sections::none(alloc),
-        };
-        mem::replace(self, empty)
     }
 
     // What is noted of the resources after one row more, which is legal.

@@ -64,13 +64,6 @@ impl Sections {
         Ok(Sections { places })
     }
 
-    /// None.
-    pub(crate) fn none(alloc: Global) -> Sections {
-        Sections {
-            places: Vec::new(alloc),
-        }
-    }
-
     /// Whether a job that has done so many units, and not all, has a section open.
     pub(crate) fn is_open(&self, job: JobId, done: u32) -> bool
         ensures { (plan : PlanModel) → AreSections plan self.now → job.task.0 < length plan.tasks → done < length (units plan job) → result ≡ has_open plan job done }

@@ -4,6 +4,7 @@ use Rattle.msrp_plan.specs.Plan.{PlanModel}
 use Rattle.msrp_plan.specs.Verdict.{fault_in, verdict}
 use Rattle.msrp_trace.specs.Readers.{StandsBehind}
 use Rattle.msrp_trace.proofs.ReadThrough.{none-read, read-row}
+use Rattle.msrp_why.specs.Noted.{AreNoted}
 use Rattle.msrp_view_engine.proofs.Explaining.{cause-found, end-found, refusal-judged}
 use Rattle.msrp_engine.proofs.Judging.{fewer-left, turn-left}
 use Rattle.msrp_view_engine.proofs.why.judge_rows.Goals as goal
@@ -29,7 +30,8 @@ pub returns-in-Err-clause-found : goal.returns-in-Err-clause-found
 returns-in-Err-clause-found g c = λ told known.
     let i = c.loop-notes.invariant in
     let more = read-row told i.0 _ _ c.next_foreseen.result c.in-Some.row (i.4 told known) c.next_foreseen.ensures.next (c.in_ok-row.was ∙ ap (λ x. Ok x) c.in-Some.is) in
-    cause-found c.args.plan.now told i.0 c.in-Some.row _ c.in-Err.cause more (c.in-Err.ensures.cause i.0 i.2 i.3 i.5)
+    let broken = c.in-Err.ensures.broken i.0 i.2 i.3 in
+    cause-found c.args.plan.now told i.0 c.in-Some.row _ c.in-Err.fault c.cause_of.result more broken.fault (c.cause_of.ensures i.0 broken (subst (AreNoted c.args.plan.now i.0) (sym c.in-Err.ensures.kept) i.5))
 
 pub loop-notes-smaller : goal.loop-notes-smaller
 loop-notes-smaller g c =
