@@ -73,14 +73,17 @@ fn cores_due(plan: &Plan, auditor: &Auditor<'_>) -> ArrayVec<u32, MOST_TURNS>
     found
 }
 
-// Finds the cores that have their turns still to come, where the row isn't in its turn.
+// Finds the cores that have their turns still to come, where the row isn't in its turn; then no row of its core is due.
 #[inline(always)]
-fn find_turns(plan: &Plan, auditor: &Auditor<'_>, row: Row, cores: &mut ArrayVec<u32, MOST_TURNS>)
+fn find_turns(plan: &Plan, auditor: &Auditor<'_>, row: Row, due: &mut Due)
     requires plan { auditor.now.plan ≡ plan.now }
-    ensures { (rows : List TraceRow) → HasFed auditor.now rows → auditor.now.fault ≡ None → length rows < plan.now.cores * plan.now.ticks → is_in_turn plan.now rows row ≡ false → cores.new.items ≡ cores_due plan.now rows }
+    ensures { (rows : List TraceRow) → HasFed auditor.now rows → auditor.now.fault ≡ None → length rows < plan.now.cores * plan.now.ticks → is_in_turn plan.now rows row ≡ false → due.new.cores.items ≡ cores_due plan.now rows }
 {
     if !auditor.is_in_turn(row) {
-        *cores = cores_due(plan, auditor);
+        *due = Due {
+            row: None,
+            cores: cores_due(plan, auditor),
+        };
     }
 }
 
@@ -115,7 +118,7 @@ pub fn feed(
 {
     // Read so that the plan is known to be an accepted one.
     let _accepted = plan.cores();
-    find_turns(plan, auditor, row, &mut due.cores);
+    find_turns(plan, auditor, row, due);
     match auditor.feed_telling(row, &mut due.row) {
         Ok(()) => {
             notes.note(plan, levels, auditor, row);

@@ -271,7 +271,7 @@ impl TurnCounts {
         }
     }
 
-    /// After a turn in which the head was kept or not, and so on, and nothing else was met.
+    /// After a turn that met no more than what its head met.
     #[inline(always)]
     pub(crate) fn note_again(&mut self, kept: bool, at_ceiling: bool)
         ensures { self.new ≡ record self.old { kept = one_if self.old.kept kept; at_ceiling = one_if self.old.at_ceiling at_ceiling } }

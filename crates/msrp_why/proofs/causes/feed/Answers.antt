@@ -25,7 +25,7 @@ returns-in-Ok-clause-noted c = λ rows fed noted.
 pub returns-in-Err-clause-broken : goal.returns-in-Err-clause-broken
 returns-in-Err-clause-broken c = λ rows fed good.
     let a = c.args.auditor.now in
-    let due : Due = record { row = c.feed_telling.new.told; cores = c.find_turns.new.cores } in
+    let due : Due = record { row = c.feed_telling.new.told; cores = c.find_turns.new.due.cores } in
     let turned : (before : List Row) → HasFed a before → a.fault ≡ None → length before < a.plan.cores * a.plan.ticks → is_in_turn a.plan before c.args.row ≡ false → due.cores.items ≡ cores_due a.plan before =
     λ before. subst (λ (p : PlanModel). HasFed a before → a.fault ≡ None → length before < p.cores * p.ticks → is_in_turn p before c.args.row ≡ false → due.cores.items ≡ cores_due p before) (sym c.requires.plan) (c.find_turns.ensures before) in
     subst (λ p. IsBrokenBy p rows c.args.row c.in-Err.fault due) c.requires.plan
