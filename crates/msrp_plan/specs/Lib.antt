@@ -28,6 +28,7 @@ pub mod Scheduling
 pub mod Stretches
 pub mod Building
 pub mod Codes
+pub mod Words
 pub mod Times
 pub mod Bytes
 pub mod Inside

@@ -1,6 +1,7 @@
 //! Why a plan is refused, which rule of a legal run a row breaks, and the answers of calls that want memory or write.
 ghost use Rattle.std.specs.Prelude.{◌≡◌};
 ghost use Rattle.msrp_plan.specs.Codes.{code_of};
+ghost use Rattle.msrp_plan.specs.Words.{rule_text};
 ghost use Rattle.msrp_plan.specs.declared.faults.PlanFault.TheVariants as codes;
 
 use std::alloc::{AllocError, AllocFailed};
@@ -142,6 +143,24 @@ pub enum Rule {
     A6,
     /// The trace goes on after each core had each of its turns.
     A7,
+}
+
+impl Rule {
+    /// The code that texts tell the rule by.
+    #[tactic(auto, unfolding(crate::specs::Words::rule_text))]
+    pub fn code(self) -> &'static [u8]
+        ensures { result.now ≡ rule_text self }
+    {
+        match self {
+            Rule::A1 => b"A1",
+            Rule::A2 => b"A2",
+            Rule::A3 => b"A3",
+            Rule::A4 => b"A4",
+            Rule::A5 => b"A5",
+            Rule::A6 => b"A6",
+            Rule::A7 => b"A7",
+        }
+    }
 }
 
 impl fmt::Display for Rule {

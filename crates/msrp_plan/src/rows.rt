@@ -1,6 +1,7 @@
 //! Rows of a trace: each is one turn of one core in one tick.
-ghost use Rattle.std.specs.Prelude.{◌≡◌, true};
+ghost use Rattle.std.specs.Prelude.{◌≡◌, ◌≤◌, length, true};
 ghost use Rattle.msrp_plan.specs.Shape.{has_shape, may_carry};
+ghost use Rattle.msrp_plan.specs.Words.{kind_text};
 
 use crate::ids::{CoreId, JobId, ResId};
 
@@ -25,6 +26,27 @@ pub enum Kind {
     Grant,
     /// A release of a global resource.
     Release,
+}
+
+impl Kind {
+    /// The word that texts tell the kind by.
+    #[tactic(auto, unfolding(crate::specs::Words::kind_text))]
+    pub fn word(self) -> &'static [u8]
+        ensures word { result.now ≡ kind_text self }
+        ensures short { length result.now ≤ 7 }
+    {
+        match self {
+            Kind::Idle => b"idle",
+            Kind::Run => b"run",
+            Kind::Lock => b"lock",
+            Kind::Unlock => b"unlock",
+            Kind::Take => b"take",
+            Kind::Queue => b"queue",
+            Kind::Spin => b"spin",
+            Kind::Grant => b"grant",
+            Kind::Release => b"release",
+        }
+    }
 }
 
 /// One turn of one core in one tick. An idle row has neither job nor resource, a row of work has a job
