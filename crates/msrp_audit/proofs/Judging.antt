@@ -1,8 +1,8 @@
 -- What an auditor's tests say of a row: whether it is in its turn, and whether its job is one of its core.
 use Rattle.std.proofs.Common.{◌≡◌, ◌≢◌, ℕ, zero, suc, ◌+◌, ◌*◌, ◌/◌, ◌<◌, ◌≤◌, ◌==◌, ◌&&◌, ◌||◌, Bool, true, false, not, cond, nat_lt, List, [], ◌∷◌, ◌++◌, Option, Some, None, refl, ap, sym, ◌∙◌, subst, arith, length, length-append, map, inl, inr, eq-eqb, eqb-true, slice_get}
 use Rattle.std.specs.List.{list_any, flat_map, range_with_len, AllByRecursion}
-use Rattle.std.specs.Option.{option_map}
-use Rattle.std.proofs.Math.Bool.{true≢false, or-true}
+use Rattle.std.specs.Option.{option_map, is_some}
+use Rattle.std.proofs.Math.Bool.{true≢false, or-true, and-false}
 use Rattle.std.proofs.lemmas.Bool.{cases_Bool, cases_lt, lt-ltb, le-ltb, false_from_ne_true, eqb-false}
 use Rattle.std.proofs.lemmas.List.Elements.{All-contains, All-from_recursion}
 use Rattle.std.proofs.lemmas.List.Folds.{list_any-append}
@@ -10,14 +10,14 @@ use Rattle.std.proofs.lemmas.Option.{same_Some}
 use Rattle.std.proofs.lemmas.Map.Views.{Contains-from_any}
 use Rattle.msrp_plan.specs.Plan.{PlanModel, core_of}
 use Rattle.msrp_plan.specs.Jobs.{job_at, jobs_of, jobs, jobs_on, same_job}
-use Rattle.msrp_plan.specs.Runs.{IsLegal, IsRunStart, EachAfter, had_turn, is_in_turn, is_on_core, is_of_core}
+use Rattle.msrp_plan.specs.Runs.{IsLegal, IsRunStart, EachAfter, had_turn, is_in_turn, is_on_core, is_of_core, is_chosen, is_next_action, is_fifo_reply}
 use Rattle.msrp_plan.specs.Logs.{log_of}
 use Rattle.msrp_plan.specs.WellFormed.{IsPlan}
 use Rattle.msrp_plan.specs.Verdict.{broken, refused, fault_in, fault_or}
 use Rattle.msrp_plan.specs.declared.ids.JobId.{JobId}
 use Rattle.msrp_plan.specs.declared.faults.Fault.{Fault}
 use Rattle.msrp_plan.specs.declared.faults.Rule.{Rule}
-use Rattle.msrp_plan.specs.declared.faults.Rule.TheVariants.{A7}
+use Rattle.msrp_plan.specs.declared.faults.Rule.TheVariants.{A1, A2, A7}
 use Rattle.msrp_plan.specs.declared.rows.Row.{Row}
 use Rattle.msrp_plan.proofs.Lists.AnyAll.{any_in, all_joined}
 use Rattle.msrp_plan.proofs.Lists.Ranges.{not_equal}
@@ -31,7 +31,14 @@ use Rattle.msrp_plan.proofs.Scheduling.NextRow.{next_row}
 use Rattle.msrp_plan.proofs.Runs.Verdicts.{fault_push, fault_stays, unbroken_is_legal}
 use Rattle.msrp_core.specs.Machine.{MachineModel}
 use Rattle.msrp_sim.specs.Cores.{CoresModel, StandFor, IsDueAfter, IsNextRow}
-use Rattle.msrp_audit.specs.Audits.{AuditorModel, HasFed, has_turn}
+use Rattle.msrp_audit.specs.Audits.{AuditorModel, HasFed, IsCoreDue, Awaits, has_turn, auditor_view, IsAuditorView}
+use Rattle.msrp_audit.specs.declared.auditor.Auditor.TheInside.{Inside}
+use Rattle.std.proofs.Math.Nat.{mul-le-mul_left}
+use Rattle.std.proofs.lemmas.Nat.{div-mul-add}
+use Rattle.msrp_sim.proofs.Rounds.{before_last}
+use Rattle.msrp_plan.specs.declared.rows.Kind.{Kind}
+use Rattle.msrp_plan.specs.declared.rows.Kind.TheVariants.{Idle, Run, Lock, Unlock, Take, Queue, Spin, Grant, Release}
+use Rattle.msrp_plan.specs.declared.ids.ResId.{ResId}
 use Rattle.msrp_plan.specs.Actions.{same_res}
 use Rattle.msrp_plan.specs.Runs.{same_choice}
 use Rattle.msrp_plan.specs.declared.faults.Rule.TheVariants.{A3, A4, A5}
@@ -40,6 +47,10 @@ use Rattle.std.proofs.lemmas.Bool.{and_parts}
 use Rattle.msrp_sim.specs.Cores.{IsAs}
 use Rattle.msrp_audit.specs.Foresight.{unlike, does_alike, replied_alike, same_action, same_kind, same_ahead}
 use Rattle.msrp_audit.proofs.Foresight.{broken_is, same_kind_is}
+
+pub none_of : {A : Type 0} (o : Option A) → is_some o ≡ false → o ≡ None
+none_of None e = refl
+none_of (Some a) e = absurd (cc)
 
 -- ---- A1
 -- a core that had no turn in the tick that is due has as many turns as ticks are full
@@ -71,24 +82,36 @@ turn_by_tick plan rows r t ok all now low turns =
     ∙ sym (ap (λ b. b && (nat_lt r.core.0 plan.cores && not (had_turn r.core.0 r.tick rows))) (eq-eqb r.tick (length rows / plan.cores) now)
     ∙ ap (λ b. b && not (had_turn r.core.0 r.tick rows)) (lt-ltb r.core.0 plan.cores low)))))
 
-pub in_turn_is : (m : CoresModel) (plan : PlanModel) (rows : List Row) (r : Row) (fed t : ℕ) → m.plan ≡ plan → IsPlan plan → StandFor m rows → fed ≡ length rows → r.tick ≡ fed / plan.cores → r.core.0 < plan.cores
-    → option_map (λ (x : MachineModel). x.tick) (slice_get m.machines r.core.0) ≡ Some t → (t == r.tick) ≡ is_in_turn plan rows r
-in_turn_is m plan rows r fed t same ok stands count tick low has =
-    let start : IsRunStart plan rows = subst (λ p. IsRunStart p rows) same stands.start in
-    turn_by_tick plan rows r t ok start.each (tick ∙ ap (λ n. n / plan.cores) count) low (machine_tick m rows r.core.0 t stands has)
-
 -- and it tells whether the core has its turn still to come
-pub has_turn_is : (m : CoresModel) (plan : PlanModel) (rows : List Row) (c fed t : ℕ) → m.plan ≡ plan → IsPlan plan → StandFor m rows → fed ≡ length rows → c < plan.cores
-    → option_map (λ (x : MachineModel). x.tick) (slice_get m.machines c) ≡ Some t → (t == fed / plan.cores) ≡ has_turn plan rows c
-has_turn_is m plan rows c fed t same ok stands count low has =
+pub has_turn_is : (m : CoresModel) (plan : PlanModel) (rows : List Row) (c now t : ℕ) → m.plan ≡ plan → IsPlan plan → StandFor m rows → now ≡ length rows / plan.cores → c < plan.cores
+    → option_map (λ (x : MachineModel). x.tick) (slice_get m.machines c) ≡ Some t → (t == now) ≡ has_turn plan rows c
+has_turn_is m plan rows c now t same ok stands is low has =
     let start : IsRunStart plan rows = subst (λ p. IsRunStart p rows) same stands.start in
-    ap (λ n. n == fed / plan.cores) (machine_tick m rows c t stands has)
-    ∙ (ap (λ n. length (log_of c rows) == n / plan.cores) count
+    ap (λ n. n == now) (machine_tick m rows c t stands has)
+    ∙ (ap (λ n. length (log_of c rows) == n) is
     ∙ (tick_tells plan rows c ok start.each low (had_turn c (length rows / plan.cores) rows) refl
     ∙ sym (ap (λ b. b && not (had_turn c (length rows / plan.cores) rows)) (lt-ltb c plan.cores low))))
 
 pub no_core_has : (plan : PlanModel) (rows : List Row) (c : ℕ) → plan.cores ≤ c → false ≡ has_turn plan rows c
 no_core_has plan rows c past = sym (ap (λ b. b && not (had_turn c (length rows / plan.cores) rows)) (le-ltb c plan.cores past))
+
+-- a row is in its turn where it is in the tick that is due and its core has its turn still to come
+pub in_turn_is : (plan : PlanModel) (rows : List Row) (r : Row) (now : ℕ) (b : Bool) → now ≡ length rows / plan.cores → b ≡ has_turn plan rows r.core.0 → ((r.tick == now) && b) ≡ is_in_turn plan rows r
+in_turn_is plan rows r now b is has = by_tick (r.tick == length rows / plan.cores) refl
+  where
+    by_tick : (same : Bool) → (r.tick == length rows / plan.cores) ≡ same → ((r.tick == now) && b) ≡ is_in_turn plan rows r
+    by_tick true e =
+        ap (λ n. (r.tick == n) && b) is ∙ (ap (λ a. (r.tick == length rows / plan.cores) && a) has
+        ∙ ap (λ n. (r.tick == length rows / plan.cores) && (nat_lt r.core.0 plan.cores && not (had_turn r.core.0 n rows))) (sym (eqb-true r.tick (length rows / plan.cores) e)))
+    by_tick false e =
+        ap (λ n. (r.tick == n) && b) is ∙ (ap (λ a. a && b) e
+        ∙ sym (ap (λ a. a && (nat_lt r.core.0 plan.cores && not (had_turn r.core.0 r.tick rows))) e))
+
+pub other_tick : (plan : PlanModel) (rows : List Row) (r : Row) (now : ℕ) → now ≡ length rows / plan.cores → r.tick ≢ now → is_in_turn plan rows r ≡ false
+other_tick plan rows r now is ne = sym (in_turn_is plan rows r now (has_turn plan rows r.core.0) is refl) ∙ ap (λ b. b && has_turn plan rows r.core.0) (not_equal r.tick now ne)
+
+pub no_turn_left : (plan : PlanModel) (rows : List Row) (r : Row) (now : ℕ) → now ≡ length rows / plan.cores → false ≡ has_turn plan rows r.core.0 → is_in_turn plan rows r ≡ false
+no_turn_left plan rows r now is has = sym (in_turn_is plan rows r now false is has) ∙ and-false (r.tick == now)
 
 -- a row in its turn is of a core that is due
 pub due_after : (plan : PlanModel) (rows : List Row) (r : Row) → IsPlan plan → IsRunStart plan rows → length rows < plan.cores * plan.ticks → is_in_turn plan rows r ≡ true → IsDueAfter plan rows r.core.0
@@ -183,61 +206,166 @@ as_due r s core h =
     let replied = and_parts (same_kind r.kind s.kind) (same_ahead r.ahead s.ahead) all.2 in
     record { core = core; kind = same_kind_is r.kind s.kind replied.0; job = same_choice_is r.job s.job all.0; res = same_res_is r.res s.res does.0; ahead = ahead_is r.ahead s.ahead replied.1 }
 
+-- and the other way round
+alike_res : (o : Option ResId) → same_res o o ≡ true
+alike_res None = refl
+alike_res (Some g) = eq-eqb g.0 g.0 refl
+
+alike_choice : (o : Option JobId) → same_choice o o ≡ true
+alike_choice None = refl
+alike_choice (Some j) = same_self j
+
+alike_kind : (k : Kind) → (same_action k k ≡ true) × (same_kind k k ≡ true)
+alike_kind Idle = (refl, refl)
+alike_kind Run = (refl, refl)
+alike_kind Lock = (refl, refl)
+alike_kind Unlock = (refl, refl)
+alike_kind Take = (refl, refl)
+alike_kind Queue = (refl, refl)
+alike_kind Spin = (refl, refl)
+alike_kind Grant = (refl, refl)
+alike_kind Release = (refl, refl)
+
+alike_ahead : (o p : Option ℕ) → IfSome o (λ n. p ≡ Some n) → same_ahead o p ≡ true
+alike_ahead None p h = refl
+alike_ahead (Some n) p h = ap (same_ahead (Some n)) h ∙ eq-eqb n n refl
+
+alike : (r s : Row) → IsAs s r → unlike r s ≡ None
+alike r s is =
+    let job : same_choice r.job s.job ≡ true = ap (λ o. same_choice o s.job) is.job ∙ alike_choice s.job in
+    let does : does_alike r s ≡ true = ap (λ o. same_res o s.res && same_action r.kind s.kind) is.res ∙ (ap (λ b. b && same_action r.kind s.kind) (alike_res s.res) ∙ (ap (λ k. same_action k s.kind) is.kind ∙ (alike_kind s.kind).0)) in
+    let replied : replied_alike r s ≡ true = ap (λ k. same_kind k s.kind && same_ahead r.ahead s.ahead) is.kind ∙ (ap (λ b. b && same_ahead r.ahead s.ahead) (alike_kind s.kind).1 ∙ alike_ahead r.ahead s.ahead is.ahead) in
+    ap (λ b. cond b (cond (does_alike r s) (cond (replied_alike r s) None (Some A5)) (Some A4)) (Some A3)) job
+    ∙ (ap (λ b. cond b (cond (replied_alike r s) None (Some A5)) (Some A4)) does ∙ ap (λ b. cond b None (Some A5)) replied)
+
+-- a row that is not unlike has a job of its core
+own_as : (plan : PlanModel) (rows : List Row) (r s : Row) → IsNextRow plan rows r.core.0 s → unlike r s ≡ None → is_of_core plan r ≡ true
+own_as plan rows r s next none =
+    let is = as_due r s (sym next.core) none in
+    ap (is_on_core plan r.core.0) is.job ∙ (ap (λ c. is_on_core plan c s.job) (sym next.core) ∙ next.legal.own)
+
+-- and breaks no rule
+pub unrefused : (plan : PlanModel) (rows : List Row) (r s : Row) → length rows < plan.cores * plan.ticks → is_in_turn plan rows r ≡ true → IsNextRow plan rows r.core.0 s → unlike r s ≡ None → None ≡ refused plan rows r
+unrefused plan rows r s left turn next none = sym none ∙ refused_is plan rows r s left turn (own_as plan rows r s next none) next
+
+-- it is in its turn where the other is, in the same tick and of the same core
+in_turn_as : (plan : PlanModel) (rows : List Row) (r s : Row) → r.tick ≡ s.tick → r.core.0 ≡ s.core.0 → is_in_turn plan rows s ≡ true → is_in_turn plan rows r ≡ true
+in_turn_as plan rows r s tick core h =
+    ap (λ t. (t == length rows / plan.cores) && (nat_lt r.core.0 plan.cores && not (had_turn r.core.0 t rows))) tick
+    ∙ (ap (λ c. (s.tick == length rows / plan.cores) && (nat_lt c plan.cores && not (had_turn c s.tick rows))) core ∙ h)
+
 -- ---- one row more that is fed
+-- the fault of the rows with it, where those before have none
+pub fault_next : (plan : PlanModel) (rows : List Row) (r : Row) (o : Option Rule) (fed : ℕ) → fault_in plan rows ≡ None → fed ≡ length rows → o ≡ refused plan rows r → fault_in plan (rows ++ r ∷ []) ≡ fault_or o (fed + 1) None
+fault_next plan rows r o fed good count is = fault_push plan rows r good ∙ (ap (λ p. fault_or p (length rows + 1) None) (sym is) ∙ ap (λ n. fault_or o (n + 1) None) (sym count))
+
 -- behind a fault
 pub stays_faulty : (a : AuditorModel) (rows : List Row) (r : Row) (f : Fault) → a.fault ≡ Some f → HasFed a rows → fault_in a.plan (rows ++ r ∷ []) ≡ Some f
 stays_faulty a rows r f is h = fault_stays a.plan rows (r ∷ []) f (sym h.fault ∙ is)
 
-pub fed_behind : (a : AuditorModel) (rows : List Row) (r : Row) (f : Fault) → a.fault ≡ Some f → HasFed a rows → HasFed a (rows ++ r ∷ [])
-fed_behind a rows r f is h = record {
-  fault = is ∙ sym (stays_faulty a rows r f is h);
+pub faulty : (a : AuditorModel) (rows : List Row) (f : Fault) → a.fault ≡ Some f → fault_in a.plan rows ≡ Some f → HasFed a rows
+faulty a rows f is h = record {
+  fault = is ∙ sym h;
   stand = λ none. let no : None ≡ Some f = sym none ∙ is in absurd (cc);
   count = λ none. let no : None ≡ Some f = sym none ∙ is in absurd (cc);
 }
 
--- its fault, where the rows before have none
-pub fault_next : (a : AuditorModel) (rows : List Row) (r : Row) (o : Option Rule) → a.fault ≡ None → HasFed a rows → o ≡ refused a.plan rows r → fault_in a.plan (rows ++ r ∷ []) ≡ fault_or o (a.fed + 1) None
-fault_next a rows r o none h is = fault_push a.plan rows r (sym h.fault ∙ none) ∙ (ap (λ p. fault_or p (length rows + 1) None) (sym is) ∙ ap (λ n. fault_or o (n + 1) None) (sym (h.count none)))
+-- a row that breaks a rule, where those before break none
+pub fed_bad : (a b : AuditorModel) (f : Fault) (rows : List Row) (r : Row) (rule : Rule) → fault_in a.plan rows ≡ None → a.fed ≡ length rows → Some rule ≡ refused a.plan rows r
+    → b ≡ record a { fault = Some f } → f ≡ record { row = a.fed + 1; rule = rule } → HasFed b (rows ++ r ∷ []) × (fault_in a.plan (rows ++ r ∷ []) ≡ Some f)
+fed_bad a b f rows r rule good count is same told =
+    let now : fault_in a.plan (rows ++ r ∷ []) ≡ Some f = fault_next a.plan rows r (Some rule) a.fed good count is ∙ ap (λ g. Some g) (sym told) in
+    (subst (λ (x : AuditorModel). HasFed x (rows ++ r ∷ [])) (sym same) (faulty (record a { fault = Some f }) (rows ++ r ∷ []) f refl now), now)
 
-pub fed_on : (a b : AuditorModel) (rows : List Row) (r : Row) → a.fault ≡ None → HasFed a rows → None ≡ refused a.plan rows r → b.plan ≡ a.plan → b.fault ≡ None → b.fed ≡ a.fed + 1 → StandFor b.cores (rows ++ r ∷ []) → HasFed b (rows ++ r ∷ [])
-fed_on a b rows r none h is plan fault fed stands = record {
-  fault = fault ∙ sym (ap (λ p. fault_in p (rows ++ r ∷ [])) plan ∙ fault_next a rows r None none h is);
-  stand = λ e. stands;
-  count = λ e. fed ∙ (ap (λ n. n + 1) (h.count none) ∙ sym (length-append rows (r ∷ [])));
-}
+-- it is one too many, or out of its turn
+pub one_too_many : (plan : PlanModel) (rows : List Row) (r : Row) → plan.cores * plan.ticks ≤ length rows → Some A7 ≡ refused plan rows r
+one_too_many plan rows r past = sym (ap (λ b. cond b (broken plan rows r) (Some A7)) (le-ltb (length rows) (plan.cores * plan.ticks) past))
 
-pub fed_bad : (a b : AuditorModel) (rows : List Row) (r : Row) (rule : Rule) → a.fault ≡ None → HasFed a rows → Some rule ≡ refused a.plan rows r → b.plan ≡ a.plan → b.fault ≡ Some (record { row = a.fed + 1; rule = rule }) → HasFed b (rows ++ r ∷ [])
-fed_bad a b rows r rule none h is plan fault = record {
-  fault = fault ∙ sym (ap (λ p. fault_in p (rows ++ r ∷ [])) plan ∙ fault_next a rows r (Some rule) none h is);
-  stand = λ e. let no : None ≡ Some (record { row = a.fed + 1; rule = rule }) = sym e ∙ fault in absurd (cc);
-  count = λ e. let no : None ≡ Some (record { row = a.fed + 1; rule = rule }) = sym e ∙ fault in absurd (cc);
-}
+pub out_of_turn : (plan : PlanModel) (rows : List Row) (r : Row) → length rows < plan.cores * plan.ticks → is_in_turn plan rows r ≡ false → Some A1 ≡ refused plan rows r
+out_of_turn plan rows r left out =
+    sym (ap (λ b. cond b (broken plan rows r) (Some A7)) (lt-ltb (length rows) (plan.cores * plan.ticks) left)
+    ∙ ap (λ b. cond b (cond (is_of_core plan r) (cond (is_chosen plan rows r) (cond (is_next_action plan rows r) (cond (is_fifo_reply rows r) None (Some A5)) (Some A4)) (Some A3)) (Some A2)) (Some A1)) out)
 
--- ---- the turn of a row's core
-module _ (m n : CoresModel) (plan : PlanModel) (rows : List Row) (r s : Row) (same : m.plan ≡ plan) (ok : IsPlan plan) (left : length rows < plan.cores * plan.ticks) (stands : StandFor m rows) (turn : is_in_turn plan rows r ≡ true)
-    (next : (before : List Row) → StandFor m before → IsDueAfter m.plan before r.core.0 → IsNextRow m.plan before r.core.0 s) where
-  is_due : IsDueAfter plan rows r.core.0
-  is_due = due_after plan rows r ok (subst (λ p. IsRunStart p rows) same stands.start) left turn
+-- ---- the turn of a core
+-- the tick that is due, and whether it is one of the plan's
+pub tick_now : (tick cores place fed : ℕ) → place < cores → tick * cores + place ≡ fed → tick ≡ fed / cores
+tick_now tick cores place fed low is = sym (div-mul-add tick cores place low) ∙ ap (λ n. n / cores) is
 
-  pub is_next : IsNextRow plan rows r.core.0 s
-  is_next = subst (λ p. IsNextRow p rows r.core.0 s) same (next rows stands (subst (λ p. IsDueAfter p rows r.core.0) (sym same) is_due))
+pub left_in : (tick cores place ticks : ℕ) → place < cores → tick < ticks → tick * cores + place < cores * ticks
+left_in tick cores place ticks low l = let a = mul-le-mul_left {m = tick + 1} {n = ticks} cores (omega (arith, l)) in omega (arith, low, a)
 
-  -- a row as the one that is due has a job of its core
-  own_as : unlike r s ≡ None → is_of_core plan r ≡ true
-  own_as none =
-      let same_row = as_due r s (sym is_next.core) none in
-      ap (is_on_core plan r.core.0) same_row.job ∙ (ap (λ c. is_on_core plan c s.job) (sym is_next.core) ∙ is_next.legal.own)
+pub full_in : (tick cores place ticks : ℕ) → ticks ≤ tick → cores * ticks ≤ tick * cores + place
+full_in tick cores place ticks l = let a = mul-le-mul_left {m = ticks} {n = tick} cores l in omega (arith, a)
 
-  -- a row of its core breaks the rule that the comparison names
-  pub judged : is_of_core plan r ≡ true → unlike r s ≡ refused plan rows r
-  judged own = refused_is plan rows r s left turn own is_next
+-- the same of an auditor that was fed rows without a fault
+module _ (i : Inside) (a : AuditorModel) (rows : List Row) (keeps : IsAuditorView i) (is : auditor_view i ≡ a) (fed : HasFed a rows) (none : a.fault ≡ None) where
+  size_is : i.at.tick * i.plan.now.cores + i.at.place ≡ length rows
+  size_is = ap (λ (b : AuditorModel). b.fed) is ∙ fed.count none
 
-  -- and any row where it names none
-  pub judged_good : unlike r s ≡ None → None ≡ refused plan rows r
-  judged_good none = sym none ∙ judged (own_as none)
+  pub tick_is : i.at.tick ≡ length rows / a.plan.cores
+  tick_is = subst (λ (b : AuditorModel). i.at.tick ≡ length rows / b.plan.cores) is (tick_now i.at.tick i.plan.now.cores i.at.place (length rows) keeps.place size_is)
 
-  -- and where it names none the cores stand for the row too
-  pub stands_on : ((before : List Row) (row : Row) → StandFor m before → IsDueAfter m.plan before r.core.0 → IsAs s row → IsLegal m.plan before row → StandFor n (before ++ row ∷ [])) → unlike r s ≡ None → StandFor n (rows ++ r ∷ [])
-  stands_on stand none =
-      let legal : IsLegal plan rows r = unbroken_is_legal plan rows r (broken_is plan rows r s is_next.legal is_next.carries turn (own_as none) (sym is_next.core) ∙ none) in
-      stand rows r stands (subst (λ p. IsDueAfter p rows r.core.0) (sym same) is_due) (as_due r s (sym is_next.core) none) (subst (λ p. IsLegal p rows r) (sym same) legal)
+  pub left_is : i.at.tick < i.plan.now.ticks → length rows < a.plan.cores * a.plan.ticks
+  left_is l = subst (λ (b : AuditorModel). length rows < b.plan.cores * b.plan.ticks) is (subst (λ n. n < i.plan.now.cores * i.plan.now.ticks) size_is (left_in i.at.tick i.plan.now.cores i.at.place i.plan.now.ticks keeps.place l))
+
+  pub full_is : i.plan.now.ticks ≤ i.at.tick → a.plan.cores * a.plan.ticks ≤ length rows
+  full_is l = subst (λ (b : AuditorModel). b.plan.cores * b.plan.ticks ≤ length rows) is (subst (λ n. i.plan.now.cores * i.plan.now.ticks ≤ n) size_is (full_in i.at.tick i.plan.now.cores i.at.place i.plan.now.ticks l))
+
+-- a core that is due now is due after the rows
+due_now : (a : AuditorModel) (rows : List Row) (c : ℕ) → IsCoreDue a c → HasFed a rows → IsDueAfter a.plan rows c
+due_now a rows c is_due fed =
+    let count = fed.count is_due.fault in
+    record {
+      core = is_due.core;
+      left = subst (λ n. n < a.plan.cores * a.plan.ticks) count is_due.left;
+      due = sym (machine_tick a.cores rows c (a.fed / a.plan.cores) (fed.stand is_due.fault) is_due.tick) ∙ ap (λ n. n / a.plan.cores) count;
+    }
+
+pub ticks_left : (a : AuditorModel) (c : ℕ) (x : MachineModel) → IsCoreDue a c → slice_get a.cores.machines c ≡ Some x → x.tick < a.plan.ticks
+ticks_left a c x is_due e =
+    let is : x.tick ≡ a.fed / a.plan.cores = sym (same_Some (a.fed / a.plan.cores) x.tick (sym is_due.tick ∙ ap (option_map (λ (y : MachineModel). y.tick)) e)) in
+    subst (λ n. n < a.plan.ticks) (sym is) (before_last a.plan.cores a.plan.ticks a.fed is_due.left)
+
+-- its turn makes the row that is awaited
+pub awaited : (a : AuditorModel) (n : CoresModel) (rows : List Row) (c : ℕ) (due : Row) → IsCoreDue a c → a.cores.plan ≡ a.plan → HasFed a rows
+    → ((before : List Row) → StandFor a.cores before → IsDueAfter a.cores.plan before c → IsNextRow a.cores.plan before c due)
+    → ((before : List Row) (row : Row) → StandFor a.cores before → IsDueAfter a.cores.plan before c → IsAs due row → IsLegal a.cores.plan before row → StandFor n (before ++ row ∷ []))
+    → Awaits (record a { cores = n }) rows c due
+awaited a n rows c due is_due same fed next stand =
+    let stands = fed.stand is_due.fault in
+    let is : IsDueAfter a.cores.plan rows c = subst (λ p. IsDueAfter p rows c) (sym same) (due_now a rows c is_due fed) in
+    let row : IsNextRow a.plan rows c due = subst (λ p. IsNextRow p rows c due) same (next rows stands is) in
+    record {
+      fault = is_due.fault;
+      good = sym fed.fault ∙ is_due.fault;
+      count = fed.count is_due.fault;
+      next = row;
+      tick = (legal_due a.plan rows due row.legal).tick;
+      stand = λ r likewise legal. stand rows r stands is likewise (subst (λ p. IsLegal p rows r) (sym same) legal);
+    }
+
+pub awaited_if : (a : AuditorModel) (n : CoresModel) (c : ℕ) (o : Option Row) → IsCoreDue a c → a.cores.plan ≡ a.plan
+    → IfSome o (λ due. (before : List Row) → StandFor a.cores before → IsDueAfter a.cores.plan before c → IsNextRow a.cores.plan before c due)
+    → IfSome o (λ due. (before : List Row) (row : Row) → StandFor a.cores before → IsDueAfter a.cores.plan before c → IsAs due row → IsLegal a.cores.plan before row → StandFor n (before ++ row ∷ []))
+    → IfSome o (λ due. (rows : List Row) → HasFed a rows → Awaits (record a { cores = n }) rows c due)
+awaited_if a n c None is_due same next stand = tt
+awaited_if a n c (Some due) is_due same next stand = λ rows fed. awaited a n rows c due is_due same fed next stand
+
+-- the row that came in the turn of the one that is awaited: it is in its turn
+pub came_in_turn : (a : AuditorModel) (rows : List Row) (due r : Row) → Awaits a rows r.core.0 due → r.tick ≡ due.tick → is_in_turn a.plan rows r ≡ true
+came_in_turn a rows due r is tick = in_turn_as a.plan rows r due tick (sym is.next.core) is.next.legal.turn
+
+-- and if it is as that one it is fed
+pub came : (a : AuditorModel) (rows : List Row) (c : ℕ) (due r : Row) → Awaits a rows c due → a.fed < a.plan.cores * a.plan.ticks → r.tick ≡ due.tick → IsAs due r → HasFed (record a { fed = a.fed + 1 }) (rows ++ r ∷ [])
+came a rows c due r is more tick likewise =
+    let left : length rows < a.plan.cores * a.plan.ticks = subst (λ n. n < a.plan.cores * a.plan.ticks) is.count more in
+    let turn = in_turn_as a.plan rows r due tick likewise.core is.next.legal.turn in
+    let next : IsNextRow a.plan rows r.core.0 due = record { core = sym likewise.core; legal = is.next.legal; carries = is.next.carries } in
+    let none = alike r due likewise in
+    let own = own_as a.plan rows r due next none in
+    let legal : IsLegal a.plan rows r = unbroken_is_legal a.plan rows r (broken_is a.plan rows r due is.next.legal is.next.carries turn own likewise.core ∙ none) in
+    record {
+      fault = is.fault ∙ sym (fault_next a.plan rows r None a.fed is.good is.count (unrefused a.plan rows r due left turn next none));
+      stand = λ e. is.stand r likewise legal;
+      count = λ e. ap (λ n. n + 1) is.count ∙ sym (length-append rows (r ∷ []));
+    }

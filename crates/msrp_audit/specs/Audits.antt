@@ -1,12 +1,14 @@
 -- An auditor, and the rows that it was fed.
-use Rattle.std.specs.Prelude.{ℕ, List, Bool, not, nat_lt, ◌&&◌, ◌/◌, Option, Some, None, Result, Ok, Err, length, ◌≡◌, ◌≤◌, ◌*◌, ⊤}
+use Rattle.std.specs.Prelude.{ℕ, List, [], ◌∷◌, ◌++◌, Bool, not, nat_lt, ◌&&◌, ◌/◌, Option, Some, None, Result, Ok, Err, length, slice_get, ◌≡◌, ◌<◌, ◌≤◌, ◌+◌, ◌*◌, ⊤}
+use Rattle.std.specs.Option.{option_map}
+use Rattle.msrp_core.specs.Machine.{MachineModel}
 use Rattle.msrp_plan.specs.Plan.{PlanModel}
-use Rattle.msrp_plan.specs.Runs.{had_turn}
+use Rattle.msrp_plan.specs.Runs.{IsLegal, had_turn}
 use Rattle.msrp_plan.specs.Verdict.{fault_in}
 use Rattle.msrp_plan.specs.WellFormed.{IsPlan}
 use Rattle.msrp_plan.specs.declared.faults.Fault.{Fault}
 use Rattle.msrp_plan.specs.declared.rows.Row.{Row}
-use Rattle.msrp_sim.specs.Cores.{CoresModel, StandFor}
+use Rattle.msrp_sim.specs.Cores.{CoresModel, StandFor, IsNextRow, IsAs}
 use Rattle.msrp_audit.specs.declared.auditor.Auditor.TheInside.{Inside}
 
 -- the cores as the rows without a fault leave them, how many these are, and the fault behind them, if one came
@@ -22,6 +24,22 @@ pub record HasFed (a : AuditorModel) (rows : List Row) : Type 0 where
   pub stand : a.fault ≡ None → StandFor a.cores rows
   pub count : a.fault ≡ None → a.fed ≡ length rows
 
+-- the core may have its turn now: no row so far has a fault, rows are left, and its turn in the tick that is due is still to come
+pub record IsCoreDue (a : AuditorModel) (c : ℕ) : Type 0 where
+  pub fault : a.fault ≡ None
+  pub core : c < a.plan.cores
+  pub left : a.fed < a.plan.cores * a.plan.ticks
+  pub tick : option_map (λ (x : MachineModel). x.tick) (slice_get a.cores.machines c) ≡ Some (a.fed / a.plan.cores)
+
+-- these rows were fed and have no fault, and the core had its turn, which made the one legal row: once that row comes the cores stand for it too
+pub record Awaits (a : AuditorModel) (rows : List Row) (c : ℕ) (due : Row) : Type 0 where
+  pub fault : a.fault ≡ None
+  pub good : fault_in a.plan rows ≡ None
+  pub count : a.fed ≡ length rows
+  pub next : IsNextRow a.plan rows c due
+  pub tick : due.tick ≡ length rows / a.plan.cores
+  pub stand : (row : Row) → IsAs due row → IsLegal a.plan rows row → StandFor a.cores (rows ++ row ∷ [])
+
 -- a fault as an answer: none is good
 abbrev pub answer_of : Option Fault → Result ⊤ Fault
 answer_of None = Ok tt
@@ -33,9 +51,10 @@ has_turn plan rows c = nat_lt c plan.cores && not (had_turn c (length rows / pla
 
 -- ---- the fields
 abbrev pub auditor_view : Inside → AuditorModel
-auditor_view a = record { plan = a.plan.now; cores = a.cores; fed = a.fed; fault = a.fault }
+auditor_view a = record { plan = a.plan.now; cores = a.cores; fed = a.at.tick * a.plan.now.cores + a.at.place; fault = a.fault }
 
 pub record IsAuditorView (a : Inside) : Type 0 where
   pub accepted : IsPlan a.plan.now
   pub same : a.cores.plan ≡ a.plan.now
-  pub fits : a.fed ≤ a.plan.now.cores * a.plan.now.ticks
+  pub place : a.at.place < a.plan.now.cores
+  pub fits : a.at.tick * a.plan.now.cores + a.at.place ≤ a.plan.now.cores * a.plan.now.ticks

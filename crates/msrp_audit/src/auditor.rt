@@ -1,21 +1,20 @@
 //! The auditor, row by row.
-ghost use Rattle.std.specs.Prelude.{◌≡◌, ◌≢◌, ◌<◌, ◌*◌, ◌/◌, ◌++◌, ◌∷◌, [], List, IfOk, Some, None, Err, length, true, false, slice_get};
+ghost use Rattle.std.specs.Prelude.{◌≡◌, ◌<◌, ◌+◌, ◌*◌, ◌/◌, ◌++◌, ◌∷◌, [], ℕ, List, IfOk, IfNone, IfSome, Some, None, Err, length, true};
 ghost use Rattle.std.specs.Option.{IsSomeAnd};
 ghost use Rattle.msrp_core.specs.CoreStates.{IsCoreState};
-ghost use Rattle.msrp_core.specs.Machine.{MachineModel};
 ghost use Rattle.msrp_plan.specs.Logs.{log_of};
 ghost use Rattle.msrp_plan.specs.Runs.{is_of_core, is_in_turn};
 ghost use Rattle.msrp_plan.specs.Verdict.{fault_in, verdict, refused};
 ghost use Rattle.msrp_plan.specs.declared.faults.Fault.{Fault as TraceFault};
 ghost use Rattle.msrp_plan.specs.declared.rows.Row.{Row as TraceRow};
-ghost use Rattle.msrp_sim.specs.Cores.{StandFor, IsDueAfter, IsNextRow};
-ghost use Rattle.msrp_audit.specs.Audits.{HasFed, answer_of, has_turn};
+ghost use Rattle.msrp_sim.specs.Cores.{IsDueAfter, IsNextRow, IsAs, Leaves, known_row};
+ghost use Rattle.msrp_audit.specs.Audits.{HasFed, IsCoreDue, Awaits, answer_of, has_turn};
 
 use crate::comparing::unlike_due;
 use msrp_core::CoreState;
 use msrp_levels::Levels;
 use msrp_plan::{CoreId, Fault, Memory, Plan, Row, Rule};
-use msrp_sim::Cores;
+use msrp_sim::{Cores, TickPlace};
 use std::alloc::Global;
 use std::marker::Model;
 
@@ -27,8 +26,8 @@ use std::marker::Model;
 pub struct Auditor<'a> {
     plan: &'a Plan,
     cores: Cores<'a>,
-    // How many rows came before the first fault.
-    fed: u32,
+    // Where the row after those that came before the first fault stands.
+    at: TickPlace,
     fault: Option<Fault>,
 }
 
@@ -42,37 +41,6 @@ impl<'a> Model for Auditor<'a> {
     ghost view = { auditor_view };
 
     ghost invariant = { IsAuditorView };
-}
-
-// Whether the row after so many stands in that tick, where each tick has a row of each core. A division would take as long
-// as all else that is asked of the row.
-#[inline(always)]
-fn is_in_tick(cores: u32, fed: u32, tick: u32) -> bool
-    requires { 0 < cores }
-    ensures met { result ≡ true → tick ≡ fed / cores }
-    ensures missed { result ≡ false → tick ≢ fed / cores }
-{
-    let before = u64::from(tick) * u64::from(cores);
-    let fed = u64::from(fed);
-    before <= fed && fed - before < u64::from(cores)
-}
-
-// Whether the row stands in the tick that is due, of a core that has not had its turn in it.
-#[inline(always)]
-fn is_due(plan: &Plan, cores: &Cores, fed: u32, row: Row) -> bool
-    requires plan { cores.now.plan ≡ plan.now }
-    requires left { fed < plan.now.cores * plan.now.ticks }
-    ensures turn { (rows : List TraceRow) → StandFor cores.now rows → fed ≡ length rows → result ≡ is_in_turn plan.now rows row }
-    ensures core { result ≡ true → row.core.0 < plan.now.cores }
-    ensures tick { result ≡ true → (x : MachineModel) → slice_get cores.now.machines row.core.0 ≡ Some x → x.tick < plan.now.ticks }
-{
-    if !is_in_tick(plan.cores(), fed, row.tick) {
-        return false;
-    }
-    if row.core.0 >= plan.cores() {
-        return false;
-    }
-    cores.tick(row.core) == row.tick
 }
 
 // Whether the row's job, if it has one, is a job of the row's core.
@@ -91,6 +59,20 @@ pub(crate) fn is_own(plan: &Plan, row: Row) -> bool
     job.k < plan.jobs(job.task)
 }
 
+// The lowest of the rules on job, action and reply that a row in its turn breaks, against the one that was due.
+#[inline(always)]
+fn broken_by(plan: &Plan, row: Row, due: Row) -> Option<Rule>
+    ensures rule { (rows : List TraceRow) → length rows < plan.now.cores * plan.now.ticks → is_in_turn plan.now rows row ≡ true → IsNextRow plan.now rows row.core.0 due → result ≡ refused plan.now rows row }
+    ensures as_due { result ≡ None → row.core.0 ≡ due.core.0 → IsAs due row }
+{
+    let unlike = unlike_due(row, due);
+    // A row as the one that is due has a job of its core.
+    if unlike.is_some() && !is_own(plan, row) {
+        return Some(Rule::A2);
+    }
+    unlike
+}
+
 impl<'a> Auditor<'a> {
     /// An auditor before the first row. All memory that it ever needs is taken here: it is [`Memory`] only where that
     /// was refused. The levels are those of the plan.
@@ -106,36 +88,113 @@ impl<'a> Auditor<'a> {
         Ok(Auditor {
             plan,
             cores: Cores::with_room(alloc, plan, levels)?,
-            fed: 0,
+            at: TickPlace { tick: 0, place: 0 },
             fault: None,
         })
     }
 
-    // The rule that the next row breaks, if it breaks one; else the cores stand for it too. Of a row in its turn it tells the one that was due.
+    // How many rows came before the first fault.
     #[inline(always)]
-    fn judge(&mut self, row: Row, told: &mut Option<Row>) -> Option<Rule>
+    fn fed(&self) -> u32
+        ensures { result ≡ self.now.fed }
+    {
+        self.at.tick * self.plan.cores() + self.at.place
+    }
+
+    // The next row breaks this rule.
+    fn fail(&mut self, rule: Rule) -> Fault
+        ensures fault { result ≡ record { row = self.old.fed + 1; rule = rule } }
+        ensures same { self.new ≡ record self.old { fault = Some result } }
+    {
+        let fault = Fault {
+            row: self.fed() + 1,
+            rule,
+        };
+        self.fault = Some(fault);
+        fault
+    }
+
+    /// The tick that is due, while the rows so far have no fault. After the last row it is the number of ticks.
+    #[inline(always)]
+    pub fn tick(&self) -> u32
+        ensures { (rows : List TraceRow) → HasFed self.now rows → self.now.fault ≡ None → result ≡ length rows / self.now.plan.cores }
+    {
+        self.at.tick
+    }
+
+    /// Whether a core may have its turn now: its turn in the tick that is due is still to come. It is false after a fault, and where no rows
+    /// are left.
+    #[inline(always)]
+    pub fn is_due(&self, core: CoreId) -> bool
+        ensures due { result ≡ true → IsCoreDue self.now core.0 }
+        ensures answer { (rows : List TraceRow) → HasFed self.now rows → self.now.fault ≡ None → length rows < self.now.plan.cores * self.now.plan.ticks → result ≡ has_turn self.now.plan rows core.0 }
+    {
+        if self.fault.is_some() {
+            return false;
+        }
+        if self.at.tick >= self.plan.ticks() {
+            return false;
+        }
+        if core.0 >= self.plan.cores() {
+            return false;
+        }
+        self.cores.tick(core) == self.at.tick
+    }
+
+    /// The core's turn, where it is known from its last one: its row is that one in the next tick. Elsewhere it is none, and nothing
+    /// changes. What came is told by [`accept`](Auditor::accept) or [`judge`](Auditor::judge).
+    #[inline(always)]
+    pub fn repeat(&mut self, core: CoreId) -> Option<Row>
+        requires { IsCoreDue self.old core.0 }
+        ensures none { IfNone result (self.new ≡ self.old) }
+        ensures known { result ≡ known_row self.old.cores core.0 }
         ensures plan { self.new.plan ≡ self.old.plan }
         ensures fed { self.new.fed ≡ self.old.fed }
-        ensures fault { self.new.fault ≡ self.old.fault }
-        ensures left { result ≡ None → self.old.fed < self.old.plan.cores * self.old.plan.ticks }
-        ensures rule { (rows : List TraceRow) → StandFor self.old.cores rows → self.old.fed ≡ length rows → result ≡ refused self.old.plan rows row }
-        ensures stand { (rows : List TraceRow) → StandFor self.old.cores rows → self.old.fed ≡ length rows → result ≡ None → StandFor self.new.cores (rows ++ row ∷ []) }
-        ensures told { (rows : List TraceRow) → StandFor self.old.cores rows → self.old.fed ≡ length rows → length rows < self.old.plan.cores * self.old.plan.ticks → is_in_turn self.old.plan rows row ≡ true → IsSomeAnd told.new (IsNextRow self.old.plan rows row.core.0) }
+        ensures leaves { IfSome result (Leaves self.old.cores self.new.cores) }
+        ensures awaits { IfSome result (λ due. (rows : List TraceRow) → HasFed self.old rows → Awaits self.new rows core.0 due) }
     {
-        if self.fed == self.plan.cores() * self.plan.ticks() {
-            return Some(Rule::A7);
+        self.cores.repeat(core)
+    }
+
+    /// The core's turn: the row that is due of it, with its ahead. What came is told by [`accept`](Auditor::accept) or
+    /// [`judge`](Auditor::judge).
+    #[inline(always)]
+    pub fn turn(&mut self, core: CoreId) -> Row
+        requires { IsCoreDue self.old core.0 }
+        ensures plan { self.new.plan ≡ self.old.plan }
+        ensures fed { self.new.fed ≡ self.old.fed }
+        ensures leaves { Leaves self.old.cores self.new.cores result }
+        ensures awaits { (rows : List TraceRow) → HasFed self.old rows → Awaits self.new rows core.0 result }
+    {
+        self.cores.turn(core)
+    }
+
+    /// The row that came is the one that was due of the core that had its turn, with its ahead or without.
+    #[inline(always)]
+    pub fn accept(&mut self)
+        requires { self.old.fed < self.old.plan.cores * self.old.plan.ticks }
+        ensures same { self.new ≡ record self.old { fed = self.old.fed + 1 } }
+        ensures fed { (rows : List TraceRow) (c : ℕ) (due : TraceRow) (row : TraceRow) → Awaits self.old rows c due → row.tick ≡ due.tick → IsAs due row → HasFed self.new (rows ++ row ∷ []) }
+    {
+        self.at.advance(self.plan.cores());
+    }
+
+    /// The row that came, in the tick and of the core of the one that was due, against that: the fault of the rows so far, if they have one.
+    #[inline(always)]
+    pub fn judge(&mut self, due: Row, row: Row) -> Result<(), Fault>
+        requires { self.old.fed < self.old.plan.cores * self.old.plan.ticks }
+        ensures plan { self.new.plan ≡ self.old.plan }
+        ensures cores { self.new.cores ≡ self.old.cores }
+        ensures fed { (rows : List TraceRow) → Awaits self.old rows row.core.0 due → row.tick ≡ due.tick → HasFed self.new (rows ++ row ∷ []) }
+        ensures answer { (rows : List TraceRow) → Awaits self.old rows row.core.0 due → row.tick ≡ due.tick → result ≡ answer_of (fault_in self.old.plan (rows ++ row ∷ [])) }
+    {
+        match broken_by(self.plan, row, due) {
+            None => {
+                self.accept();
+                Ok(())
+            }
+            Some(rule) => Err(self.fail(rule)),
         }
-        if !is_due(self.plan, &self.cores, self.fed, row) {
-            return Some(Rule::A1);
-        }
-        let due = self.cores.turn(row.core);
-        *told = Some(due);
-        let unlike = unlike_due(row, due);
-        // A row as the one that is due has a job of its core.
-        if unlike.is_some() && !is_own(self.plan, row) {
-            return Some(Rule::A2);
-        }
-        unlike
     }
 
     /// The core's next row, with its ahead: while the rows so far have no fault, the one legal row of a core that is due.
@@ -158,20 +217,14 @@ impl<'a> Auditor<'a> {
     pub fn is_in_turn(&self, row: Row) -> bool
         ensures { (rows : List TraceRow) → HasFed self.now rows → self.now.fault ≡ None → length rows < self.now.plan.cores * self.now.plan.ticks → result ≡ is_in_turn self.now.plan rows row }
     {
-        if self.fed == self.plan.cores() * self.plan.ticks() {
-            return false;
-        }
-        is_due(self.plan, &self.cores, self.fed, row)
+        row.tick == self.at.tick && self.is_due(row.core)
     }
 
     /// Whether a core has its turn still to come in the tick that is due, while the rows so far have no fault and rows are left.
     pub fn has_turn(&self, core: CoreId) -> bool
         ensures { (rows : List TraceRow) → HasFed self.now rows → self.now.fault ≡ None → length rows < self.now.plan.cores * self.now.plan.ticks → result ≡ has_turn self.now.plan rows core.0 }
     {
-        if core.0 >= self.plan.cores() {
-            return false;
-        }
-        self.cores.tick(core) == self.fed / self.plan.cores()
+        self.is_due(core)
     }
 
     /// What decides who has the core's next turn, while the rows so far have no fault; none of a core that the plan hasn't.
@@ -211,20 +264,18 @@ impl<'a> Auditor<'a> {
         if let Some(fault) = self.fault {
             return Err(fault);
         }
-        match self.judge(row, told) {
-            None => {
-                self.fed += 1;
-                Ok(())
-            }
-            Some(rule) => {
-                let fault = Fault {
-                    row: self.fed + 1,
-                    rule,
-                };
-                self.fault = Some(fault);
-                Err(fault)
-            }
+        if self.at.tick >= self.plan.ticks() {
+            return Err(self.fail(Rule::A7));
         }
+        if row.tick != self.at.tick {
+            return Err(self.fail(Rule::A1));
+        }
+        if !self.is_due(row.core) {
+            return Err(self.fail(Rule::A1));
+        }
+        let due = self.turn(row.core);
+        *told = Some(due);
+        self.judge(due, row)
     }
 
     /// The verdict on the rows so far as a whole trace: their fault, else the first missing row. It changes nothing,
@@ -235,9 +286,9 @@ impl<'a> Auditor<'a> {
         if let Some(fault) = self.fault {
             return Err(fault);
         }
-        if self.fed < self.plan.cores() * self.plan.ticks() {
+        if self.at.tick < self.plan.ticks() {
             return Err(Fault {
-                row: self.fed + 1,
+                row: self.fed() + 1,
                 rule: Rule::A6,
             });
         }

@@ -15,5 +15,5 @@ pub mod worked;
 
 pub use cores::Cores;
 pub use fifo::FifoPort;
-pub use orders::{Order, orders_of_turns};
+pub use orders::{Order, TickPlace, orders_of_turns};
 pub use simulation::{SimError, Simulation, simulate};

@@ -10,14 +10,17 @@ use msrp_plan::{CoreId, Plan};
 
 /// Where a turn stands: its tick, and its place among the turns of that tick, both counted from 0.
 #[derive(Clone, Copy, Debug)]
-pub(crate) struct TickPlace {
-    pub(crate) tick: u32,
-    pub(crate) place: u32,
+pub struct TickPlace {
+    /// The tick.
+    pub tick: u32,
+    /// The place in it.
+    pub place: u32,
 }
 
 impl TickPlace {
     /// Goes on to the next turn, if each tick has so many.
-    pub(crate) fn advance(&mut self, cores: u32)
+    #[inline(always)]
+    pub fn advance(&mut self, cores: u32)
         requires place { self.old.place < cores }
         requires tick { self.old.tick + 1 < 2 ^ 32 }
         ensures place { self.new.place < cores }
