@@ -35,7 +35,6 @@ use Rattle.msrp_audit.specs.Audits.{AuditorModel, HasFed, IsCoreDue, Awaits, has
 use Rattle.msrp_audit.specs.declared.auditor.Auditor.TheInside.{Inside}
 use Rattle.std.proofs.Math.Nat.{mul-le-mul_left}
 use Rattle.std.proofs.lemmas.Nat.{div-mul-add}
-use Rattle.msrp_sim.proofs.Rounds.{before_last}
 use Rattle.msrp_plan.specs.declared.rows.Kind.{Kind}
 use Rattle.msrp_plan.specs.declared.rows.Kind.TheVariants.{Idle, Run, Lock, Unlock, Take, Queue, Spin, Grant, Release}
 use Rattle.msrp_plan.specs.declared.ids.ResId.{ResId}
@@ -91,9 +90,6 @@ has_turn_is m plan rows c now t same ok stands is low has =
     ∙ (ap (λ n. length (log_of c rows) == n) is
     ∙ (tick_tells plan rows c ok start.each low (had_turn c (length rows / plan.cores) rows) refl
     ∙ sym (ap (λ b. b && not (had_turn c (length rows / plan.cores) rows)) (lt-ltb c plan.cores low))))
-
-pub no_core_has : (plan : PlanModel) (rows : List Row) (c : ℕ) → plan.cores ≤ c → false ≡ has_turn plan rows c
-no_core_has plan rows c past = sym (ap (λ b. b && not (had_turn c (length rows / plan.cores) rows)) (le-ltb c plan.cores past))
 
 -- a row is in its turn where it is in the tick that is due and its core has its turn still to come
 pub in_turn_is : (plan : PlanModel) (rows : List Row) (r : Row) (now : ℕ) (b : Bool) → now ≡ length rows / plan.cores → b ≡ has_turn plan rows r.core.0 → ((r.tick == now) && b) ≡ is_in_turn plan rows r
@@ -320,11 +316,6 @@ due_now a rows c is_due fed =
       left = subst (λ n. n < a.plan.cores * a.plan.ticks) count is_due.left;
       due = sym (machine_tick a.cores rows c (a.fed / a.plan.cores) (fed.stand is_due.fault) is_due.tick) ∙ ap (λ n. n / a.plan.cores) count;
     }
-
-pub ticks_left : (a : AuditorModel) (c : ℕ) (x : MachineModel) → IsCoreDue a c → slice_get a.cores.machines c ≡ Some x → x.tick < a.plan.ticks
-ticks_left a c x is_due e =
-    let is : x.tick ≡ a.fed / a.plan.cores = sym (same_Some (a.fed / a.plan.cores) x.tick (sym is_due.tick ∙ ap (option_map (λ (y : MachineModel). y.tick)) e)) in
-    subst (λ n. n < a.plan.ticks) (sym is) (before_last a.plan.cores a.plan.ticks a.fed is_due.left)
 
 -- its turn makes the row that is awaited
 pub awaited : (a : AuditorModel) (n : CoresModel) (rows : List Row) (c : ℕ) (due : Row) → IsCoreDue a c → a.cores.plan ≡ a.plan → HasFed a rows

@@ -1,5 +1,5 @@
 use Rattle.std.proofs.Common.{sym, subst}
-use Rattle.msrp_audit.specs.Audits.{AuditorModel, HasFed, IsCoreDue, Awaits, auditor_view}
+use Rattle.msrp_audit.specs.Audits.{AuditorModel, HasFed, IsCoreDue, auditor_view}
 use Rattle.msrp_audit.proofs.Judging.{awaited}
 use Rattle.msrp_audit.proofs.auditor.Auditor.turn.Goals as goal
 
