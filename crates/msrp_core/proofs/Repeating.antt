@@ -1,10 +1,10 @@
 -- A core whose last row stands again.
 use Rattle.std.proofs.Common.{◌≡◌, ℕ, ◌+◌, ◌-◌, ◌<◌, ◌≤◌, ◌==◌, ◌&&◌, Some, None, Option, slice_get, Bool, false, not, cond, List, [], ◌∷◌, ◌++◌, nat_le, refl, ap, sym, ◌∙◌, subst, arith, length, length-append, true, IfSome}
 use Rattle.std.specs.List.{Contains}
-use Rattle.std.specs.Option.{ForSome}
+use Rattle.std.specs.Option.{ForSome, option_or}
 use Rattle.std.proofs.Math.Bool.{true≢false, and-true}
 use Rattle.std.proofs.lemmas.Bool.{eqb-true, eqb-false, leb-false, le-leb, lt-leb, false_from_ne_true}
-use Rattle.std.proofs.lemmas.Option.{same_Some}
+use Rattle.std.proofs.lemmas.Option.{none-some, same_Some}
 use Rattle.msrp_plan.specs.Plan.{PlanModel, units, release}
 use Rattle.msrp_plan.specs.Jobs.{jobs_on, is_queued, done}
 use Rattle.msrp_plan.specs.Choice.{choice}
@@ -12,27 +12,30 @@ use Rattle.msrp_plan.specs.Phases.{phase_with}
 use Rattle.msrp_plan.specs.Runs.{IsCoreTurn}
 use Rattle.msrp_plan.specs.Shape.{has_shape, may_carry}
 use Rattle.msrp_plan.specs.States.{JobState, state_after}
-use Rattle.msrp_plan.specs.Stretches.{in_tick, NoneReleased, Stays, Works as StayWorks, Idles as StayIdles}
+use Rattle.msrp_plan.specs.Stretches.{in_tick, NoneReleased, Stays, Works as StayWorks, Idles as StayIdles, Polls as StayPolls}
 use Rattle.msrp_plan.specs.declared.ids.JobId.{JobId}
 use Rattle.msrp_plan.specs.declared.ids.CoreId.{CoreId}
 use Rattle.msrp_plan.specs.declared.ids.ResId.{ResId}
 use Rattle.msrp_plan.specs.declared.rows.Kind.{Kind}
 use Rattle.msrp_plan.specs.declared.rows.Kind.TheVariants as kinds
 use Rattle.msrp_plan.specs.declared.rows.Row.{Row}
-use Rattle.msrp_plan.specs.declared.units.Op.TheVariants.{Run}
+use Rattle.msrp_plan.specs.declared.units.Op.TheVariants.{Lock, Run}
+use Rattle.msrp_plan.specs.declared.units.Phase.TheVariants.{Queued}
+use Rattle.msrp_plan.specs.Levels.{is_global}
 use Rattle.msrp_plan.proofs.Legality.LegalRows as legal
 use Rattle.msrp_plan.proofs.Legality.SameRow.{parts, same_row}
 use Rattle.msrp_plan.proofs.Lists.AnyAll.{any_in}
 use Rattle.msrp_plan.proofs.Scheduling.Stretches.{stays_again, turns_by_states}
 use Rattle.msrp_ready.specs.Ready.{ReadyModel, has_come, is_due}
-use Rattle.msrp_core.specs.Active.{advanced, is_waiting_phase}
-use Rattle.msrp_core.specs.CoreJobs.{active_in, state_of, AreJobs, AreToldBy, IsRunning, CanAct, ActsFor, IsSamePlace, started_with}
+use Rattle.msrp_core.specs.Active.{HoldSo, advanced, is_waiting_phase}
+use Rattle.msrp_core.specs.CoreJobs.{active_in, state_of, AreJobs, AreToldBy, IsRunning, CanAct, Acts, ActsFor, IsSamePlace, started_with}
 use Rattle.msrp_core.specs.Machine.{RepeatsOnly, StandsAfter}
-use Rattle.msrp_core.specs.MachineView.{machine_view, Repeats, IsMachineView}
-use Rattle.msrp_core.specs.Repeats.{CanRepeat, HasWorkLeft, kind_again, row_again}
+use Rattle.msrp_core.specs.MachineView.{machine_view, Repeats, Spins, IsMachineView}
+use Rattle.msrp_core.specs.Repeats.{CanRepeat, HasWorkLeft, Polls, kind_again, row_again, spin_again, spin_of}
 use Rattle.msrp_core.specs.declared.jobs.Jobs.{Jobs}
 use Rattle.msrp_core.specs.declared.machine.Machine.TheInside.{Inside}
-use Rattle.msrp_core.proofs.Acting.{working}
+use Rattle.msrp_core.specs.declared.repeats.Poll.{Poll}
+use Rattle.msrp_core.proofs.Acting.{waiting_global, working}
 use Rattle.msrp_core.proofs.Choices.{at_in}
 use Rattle.msrp_core.proofs.Running.{running_done, running_known, running_queued, running_states}
 use Rattle.msrp_core.proofs.Turning.{acts_job, chosen_known, core_after, plan_after, ready_after, fits_after, told_from, turn_of, turn_row, turn_told, turn_phase, phase_after_turn}
@@ -65,6 +68,14 @@ is_again r t core o tick c kind job =
     by_job None k j g a = same_row r (row_again t core None) (same_parts r (row_again t core None) tick c k j g a)
     by_job (Some i) k j g a = same_row r (row_again t core (Some i)) (same_parts r (row_again t core (Some i)) tick c k j g a)
 
+-- a poll in vain carries no ahead
+no_spin_ahead : (ahead : Option ℕ) → may_carry kinds.Spin ahead ≡ true → ahead ≡ None
+no_spin_ahead None h = refl
+no_spin_ahead (Some n) h = absurd (cc)
+
+pub is_spin : (r : Row) (t : ℕ) (core : CoreId) (p : Poll) → r.tick ≡ t → r.core ≡ core → r.kind ≡ kinds.Spin → r.job ≡ Some p.job → r.res ≡ Some p.res → r ≡ spin_of t core p
+is_spin r t core p tick c kind job res = same_row r (spin_of t core p) (same_parts r (spin_of t core p) tick c kind job res (no_spin_ahead r.ahead (subst (λ k. may_carry k r.ahead ≡ true) kind r.carrier)))
+
 -- where a machine's last row stands again, its next one is known
 pub known_row : (m : Inside) (r : Row) → 0 < m.again → r.tick ≡ m.tick → r.core ≡ m.jobs.core → r.kind ≡ kind_again m.job → r.job ≡ m.job → Some r ≡ (machine_view m).again
 known_row m r some tick core kind job = by_flag (m.again == 0) refl
@@ -74,12 +85,22 @@ known_row m r some tick core kind job = by_flag (m.again == 0) refl
     by_flag false e = ap (λ x. Some x) (is_again r m.tick m.jobs.core m.job tick core kind job)
 
 -- and it is the last one in the next tick
-pub repeats_only : (m : Inside) (r : Row) → (0 < m.again → r.kind ≡ kind_again m.job) → r.core ≡ m.jobs.core → r.job ≡ m.job → RepeatsOnly (machine_view m) r
-repeats_only m r kind core job = by_flag (m.again == 0) refl
+pub repeats_only : (m : Inside) (r : Row) → (0 < m.again → (r.kind ≡ kind_again m.job) × (r.job ≡ m.job)) → ForSome m.poll (Polls m.jobs r) → r.core ≡ m.jobs.core → RepeatsOnly (machine_view m) r
+repeats_only m r works polls core = by_flag (m.again == 0) refl
   where
-    by_flag : (b : Bool) → (m.again == 0) ≡ b → IfSome (cond b None (Some (row_again m.tick m.jobs.core m.job))) (λ next. next ≡ in_tick m.tick r)
-    by_flag true e = tt
-    by_flag false e = let some = eqb-false m.again 0 e in sym (is_again (in_tick m.tick r) m.tick m.jobs.core m.job refl core (kind (omega (arith, some))) job)
+    by_poll : (o : Option Poll) → m.poll ≡ o → IfSome (spin_again m.tick m.jobs.core o) (λ next. next ≡ in_tick m.tick r)
+    by_poll None e = tt
+    by_poll (Some p) e = let w = polls p e in sym (is_spin (in_tick m.tick r) m.tick m.jobs.core p refl core w.kind w.job w.res)
+
+    by_flag : (b : Bool) → (m.again == 0) ≡ b → IfSome (option_or (cond b None (Some (row_again m.tick m.jobs.core m.job))) (spin_again m.tick m.jobs.core m.poll)) (λ next. next ≡ in_tick m.tick r)
+    by_flag true e = by_poll m.poll refl
+    by_flag false e = let some = eqb-false m.again 0 e in let w = works (omega (arith, some)) in sym (is_again (in_tick m.tick r) m.tick m.jobs.core m.job refl core w.0 w.1)
+
+-- a row that polls isn't one of these
+pub apart_by : (jobs : Jobs) (r : Row) (o : Option JobId) (poll : Option Poll) → ForSome poll (Polls jobs r) → r.kind ≡ kind_again o → poll ≡ None
+apart_by jobs r o None polls kind = refl
+apart_by jobs r None (Some p) polls kind = let k = (polls p refl).kind in absurd (cc)
+apart_by jobs r (Some j) (Some p) polls kind = let k = (polls p refl).kind in absurd (cc)
 
 -- the kind of a row that stands again
 pub can_kind : (jobs : Jobs) (kind : Kind) (o : Option JobId) (k : ℕ) → CanRepeat jobs kind o k → kind ≡ kind_again o
@@ -157,8 +178,8 @@ module _ (m : Inside) (mid new : Jobs) (chosen : Option JobId) (row : Row) (fit 
   pub row_by : (log : List Row) → StandsAfter (machine_view m) log → chosen ≡ choice m.jobs.plan.now m.jobs.core.0 m.tick log → IsCoreTurn m.jobs.plan.now m.jobs.core.0 log row
   row_by log stands is = turn_row m.jobs chosen m.tick row log (chosen_known m.jobs mid fit same chosen runs) (turn_of m.jobs mid fit same new chosen m.tick row runs states acts) (told_by log stands) stands.tick is
 
-  pub stands_by : (again : ℕ) (job : Option JobId) (log : List Row) → StandsAfter (machine_view m) log → StandsAfter (machine_view (record { tick = m.tick + 1; jobs = new; again = again; job = job })) (log ++ row ∷ [])
-  stands_by again job log stands = record {
+  pub stands_by : (again : ℕ) (job : Option JobId) (poll : Option Poll) (log : List Row) → StandsAfter (machine_view m) log → StandsAfter (machine_view (record { tick = m.tick + 1; jobs = new; again = again; job = job; poll = poll })) (log ++ row ∷ [])
+  stands_by again job poll log stands = record {
     tick = let n = stands.tick in omega (arith, n, length-append log (row ∷ []));
     phase = turn_phase m.jobs mid new chosen m.tick row log fit same states acts (told_by log stands) stands.tick stands.phase;
     states = turn_told m.jobs mid new chosen m.tick row log fit same states acts (told_by log stands) stands.tick;
@@ -180,12 +201,12 @@ module _ (m : Inside) (mid new : Jobs) (chosen : Option JobId) (row : Row) (fit 
       ∙ (running_queued mid j (runs j c) ∙ (ap is_waiting_phase (sym phase) ∙ calm new j k some (fits_after mid new chosen m.tick row fit acts) has)))
 
   -- the row stands again so often
-  pub repeats_by : (k since : ℕ) (log : List Row) → StandsAfter (machine_view m) log → chosen ≡ choice m.jobs.plan.now m.jobs.core.0 m.tick log → mid.ready.tick ≡ Some since → since ≤ m.tick
-      → 0 < k → CanRepeat new row.kind row.job k → m.tick + 1 + k ≤ new.plan.now.ticks → ((t : ℕ) → t < m.tick + 1 + k → is_due new.ready t ≡ false) → Repeats (record { tick = m.tick + 1; jobs = new; again = k; job = row.job })
-  repeats_by k since log stands is at before some can within quiet = record {
+  pub repeats_by : (k since : ℕ) (poll : Option Poll) (log : List Row) → StandsAfter (machine_view m) log → chosen ≡ choice m.jobs.plan.now m.jobs.core.0 m.tick log → mid.ready.tick ≡ Some since → since ≤ m.tick
+      → 0 < k → CanRepeat new row.kind row.job k → m.tick + 1 + k ≤ new.plan.now.ticks → ((t : ℕ) → t < m.tick + 1 + k → is_due new.ready t ≡ false) → Repeats (record { tick = m.tick + 1; jobs = new; again = k; job = row.job; poll = poll })
+  repeats_by k since poll log stands is at before some can within quiet = record {
     pre = log;
     row = row;
-    stands = stands_by k row.job log stands;
+    stands = stands_by k row.job poll log stands;
     turn = turn_after log (row_by log stands is);
     job = refl;
     can = can;
@@ -196,6 +217,44 @@ module _ (m : Inside) (mid new : Jobs) (chosen : Option JobId) (row : Row) (fit 
     before = omega (arith, before);
     quiet = quiet;
   }
+
+  -- the row polled in vain
+  pub spins_by : (k : ℕ) (left : Option JobId) (poll : Option Poll) (p : Poll) (log : List Row) → StandsAfter (machine_view m) log → chosen ≡ choice m.jobs.plan.now m.jobs.core.0 m.tick log → Polls new row p → Spins (record { tick = m.tick + 1; jobs = new; again = k; job = left; poll = poll }) p
+  spins_by k left poll p log stands is polls = record {
+    pre = log;
+    row = row;
+    stands = stands_by k left poll log stands;
+    turn = turn_after log (row_by log stands is);
+    polls = polls;
+    awaits = phase_after_turn mid new chosen m.tick row acts ∙ (ap (λ k. phase_with mid.phase k row.res) polls.kind ∙ ap (phase_with mid.phase kinds.Spin) polls.res);
+  }
+
+-- ---- a machine after its last row
+next_tick : (m : Inside) (pre : List Row) (r : Row) → StandsAfter (machine_view m) (pre ++ r ∷ []) → IsCoreTurn m.jobs.plan.now m.jobs.core.0 pre r → r.tick + 1 ≡ m.tick
+next_tick m pre r stands turn = let a = turn.tick in let b = stands.tick in let l = length-append pre (r ∷ []) in omega (arith, a, b, l)
+
+same_place : (jobs : Jobs) → IsSamePlace jobs jobs
+same_place jobs = record { plan = refl; levels = refl; core = refl; phase = refl }
+
+-- where that row stays, its choice is that of the next turn, whatever log the machine stands after
+module _ (m : Inside) (fit : AreJobs m.jobs) (o : Option JobId) (runs : ForSome o (IsRunning m.jobs)) (pre : List Row) (r : Row) (after : StandsAfter (machine_view m) (pre ++ r ∷ [])) (turn : IsCoreTurn m.jobs.plan.now m.jobs.core.0 pre r) (job : r.job ≡ o) (stays : Stays m.jobs.plan.now m.jobs.core.0 pre r 1) where
+  chosen_on : (log : List Row) → StandsAfter (machine_view m) log → o ≡ choice m.jobs.plan.now m.jobs.core.0 m.tick log
+  chosen_on log stands =
+      let plan = m.jobs.plan.now in
+      let s = in_tick (r.tick + 1) r in
+      let next = (stays_again plan m.jobs.core.0 0 pre r turn stays).0 in
+      let here : IsCoreTurn plan m.jobs.core.0 log s = turns_by_states plan m.jobs.core.0 (pre ++ r ∷ []) log s (sym after.tick ∙ stands.tick) (sym after.states ∙ stands.states) next in
+      subst (λ t. o ≡ choice plan m.jobs.core.0 t log) (next_tick m pre r after turn) (subst (λ d. o ≡ choice plan d s.tick log) here.core (sym job ∙ (legal.turn_of plan log s here.own here.chosen here.action).job))
+
+  states_on : (j : JobId) → state_of m.jobs j ≡ started_with o (state_of m.jobs j)
+  states_on = running_states m.jobs m.jobs.ready o refl (λ x e. (running_known m.jobs x fit (runs x e)).1)
+
+  module _ (new : Jobs) (row : Row) (acts : ActsFor m.jobs new o m.tick row) where
+    row_on : (log : List Row) → StandsAfter (machine_view m) log → IsCoreTurn m.jobs.plan.now m.jobs.core.0 log row
+    row_on log stands = row_by m m.jobs new o row fit (same_place m.jobs) runs states_on acts log stands (chosen_on log stands)
+
+    stands_on : (again : ℕ) (left : Option JobId) (poll : Option Poll) (log : List Row) → StandsAfter (machine_view m) log → StandsAfter (machine_view (record { tick = m.tick + 1; jobs = new; again = again; job = left; poll = poll })) (log ++ row ∷ [])
+    stands_on = stands_by m m.jobs new o row fit (same_place m.jobs) runs states_on acts
 
 -- ---- a machine whose last row stands again
 module _ (m : Inside) (fit : AreJobs m.jobs) (r : Repeats m) (some : 0 < m.again) where
@@ -211,54 +270,38 @@ module _ (m : Inside) (fit : AreJobs m.jobs) (r : Repeats m) (some : 0 < m.again
   told_last : AreToldBy m.jobs last
   told_last = told_from (state_of m.jobs) (state_after last) (jobs_on plan c) r.stands.states
 
-  next_tick : r.row.tick + 1 ≡ m.tick
-  next_tick = let a = r.turn.tick in let b = r.stands.tick in let l = length-append r.pre (r.row ∷ []) in omega (arith, a, b, l)
-
-  quiet_next : NoneReleased plan c m.tick 1
+  quiet_next : NoneReleased plan c (r.row.tick + 1) 1
   quiet_next =
-      subst (λ p. NoneReleased p c m.tick 1) fit.ready_plan (subst (λ k. NoneReleased m.jobs.ready.plan k m.tick 1) fit.ready_core
-      (none_released m.jobs.ready r.since m.tick r.released r.before (r.quiet m.tick (omega (arith, some)))))
+      subst (λ t. NoneReleased plan c t 1) (sym (next_tick m r.pre r.row r.stands r.turn))
+      (subst (λ p. NoneReleased p c m.tick 1) fit.ready_plan (subst (λ k. NoneReleased m.jobs.ready.plan k m.tick 1) fit.ready_core
+      (none_released m.jobs.ready r.since m.tick r.released r.before (r.quiet m.tick (omega (arith, some))))))
 
   -- the job of the row, where it has one
-  runs : (j : JobId) → m.job ≡ Some j → (m.jobs.plan.now ≡ m.jobs.plan.now) × HasWorkLeft m.jobs j m.again
-  runs j e = (refl, (subst (λ o. CanRepeat m.jobs r.row.kind o m.again) e r.can).1)
+  left_of : (j : JobId) → m.job ≡ Some j → HasWorkLeft m.jobs j m.again
+  left_of j e = (subst (λ o. CanRepeat m.jobs r.row.kind o m.again) e r.can).1
 
   state_last : (j : JobId) → m.job ≡ Some j → state_after last j ≡ state_of m.jobs j
-  state_last j e = at_in (λ j. state_after last j ≡ state_of m.jobs j) (jobs_on plan c) j told_last (running_known m.jobs j fit (runs j e).1.running).0
+  state_last j e = at_in (λ j. state_after last j ≡ state_of m.jobs j) (jobs_on plan c) j told_last (running_known m.jobs j fit (left_of j e).running).0
 
   stays : (o : Option JobId) → m.job ≡ o → Stays plan c r.pre r.row 1
-  stays None e = StayIdles (subst (λ o. CanRepeat m.jobs r.row.kind o m.again) e r.can) (subst (λ t. NoneReleased plan c t 1) (sym next_tick) quiet_next)
+  stays None e = StayIdles (subst (λ o. CanRepeat m.jobs r.row.kind o m.again) e r.can) quiet_next
   stays (Some j) e =
-      let has = (runs j e).1 in
+      let has = left_of j e in
       let d : done j last ≡ has.running.newest.done = ap (λ (s : JobState). s.done) (state_last j e) ∙ running_done m.jobs j fit has.running in
-      StayWorks j (subst (λ o. CanRepeat m.jobs r.row.kind o m.again) e r.can).0 (r.job ∙ e) (r.ready j e) (λ i a b. has.work i (omega (arith, a, d)) (omega (arith, b, d, some))) (subst (λ t. NoneReleased plan c t 1) (sym next_tick) quiet_next)
-
-  -- its choice is that of the next turn, whatever log the machine stands after
-  pub chosen_again : (log : List Row) → StandsAfter (machine_view m) log → choice plan c m.tick log ≡ m.job
-  chosen_again log stands =
-      let s = in_tick (r.row.tick + 1) r.row in
-      let next = (stays_again plan c 0 r.pre r.row r.turn (stays m.job refl)).0 in
-      let here : IsCoreTurn plan c log s = turns_by_states plan c last log s (sym r.stands.tick ∙ stands.tick) (sym r.stands.states ∙ stands.states) next in
-      subst (λ t. choice plan c t log ≡ m.job) next_tick (subst (λ d. choice plan d s.tick log ≡ m.job) here.core (sym (legal.turn_of plan log s here.own here.chosen here.action).job ∙ r.job))
+      StayWorks j (subst (λ o. CanRepeat m.jobs r.row.kind o m.again) e r.can).0 (r.job ∙ e) (r.ready j e) (λ i a b. has.work i (omega (arith, a, d)) (omega (arith, b, d, some))) quiet_next
 
   running_now : ForSome m.job (IsRunning m.jobs)
-  running_now j e = (runs j e).1.running
-
-  same_place : IsSamePlace m.jobs m.jobs
-  same_place = record { plan = refl; levels = refl; core = refl; phase = refl }
-
-  states_now : (j : JobId) → state_of m.jobs j ≡ started_with m.job (state_of m.jobs j)
-  states_now = running_states m.jobs m.jobs.ready m.job refl (λ x e. (running_known m.jobs x fit (running_now x e)).1)
+  running_now j e = (left_of j e).running
 
   module _ (new : Jobs) (row : Row) (acts : ActsFor m.jobs new m.job m.tick row) where
     pub row_next : (log : List Row) → StandsAfter (machine_view m) log → IsCoreTurn plan c log row
-    row_next log stands = row_by m m.jobs new m.job row fit same_place running_now states_now acts log stands (sym (chosen_again log stands))
+    row_next = row_on m fit m.job running_now r.pre r.row r.stands r.turn r.job (stays m.job refl) new row acts
 
-    pub stands_next : (log : List Row) → StandsAfter (machine_view m) log → StandsAfter (machine_view (record { tick = m.tick + 1; jobs = new; again = m.again - 1; job = m.job })) (log ++ row ∷ [])
-    stands_next log stands = stands_by m m.jobs new m.job row fit same_place running_now states_now acts (m.again - 1) m.job log stands
+    pub stands_next : (log : List Row) → StandsAfter (machine_view m) log → StandsAfter (machine_view (record { tick = m.tick + 1; jobs = new; again = m.again - 1; job = m.job; poll = m.poll })) (log ++ row ∷ [])
+    stands_next = stands_on m fit m.job running_now r.pre r.row r.stands r.turn r.job (stays m.job refl) new row acts (m.again - 1) m.job m.poll
 
-    pub view_next : row.kind ≡ kind_again m.job → ((k : ℕ) → CanRepeat m.jobs (kind_again m.job) m.job (k + 1) → CanRepeat new (kind_again m.job) m.job k) → IsMachineView (record { tick = m.tick + 1; jobs = new; again = m.again - 1; job = m.job })
-    view_next kind left = record {
+    pub view_next : m.poll ≡ None → row.kind ≡ kind_again m.job → ((k : ℕ) → CanRepeat m.jobs (kind_again m.job) m.job (k + 1) → CanRepeat new (kind_again m.job) m.job k) → IsMachineView (record { tick = m.tick + 1; jobs = new; again = m.again - 1; job = m.job; poll = m.poll })
+    view_next none kind left = record {
       jobs_fit = fits_after m.jobs new m.job m.tick row fit acts;
       released = λ x e. let b = r.before in let s : r.since ≡ x = same_Some r.since x (sym (ap (λ (x : ReadyModel). x.tick) (ready_after m.jobs new m.job m.tick row acts) ∙ r.released) ∙ e) in omega (arith, b, s);
       log = last ++ row ∷ [];
@@ -266,9 +309,48 @@ module _ (m : Inside) (fit : AreJobs m.jobs) (r : Repeats m) (some : 0 < m.again
       repeats = λ more.
           let can = left (m.again - 1) (can_less m.jobs r.row.kind m.job m.again (m.again - 1 + 1) (omega (arith, some)) r.can) in
           let job = acts_job m.jobs new m.job m.tick row acts in
-          subst (λ o. Repeats (record { tick = m.tick + 1; jobs = new; again = m.again - 1; job = o })) job
-          (repeats_by m m.jobs new m.job row fit same_place running_now states_now acts (m.again - 1) r.since last r.stands (sym (chosen_again last r.stands)) r.released (let b = r.before in omega (arith, b)) more
+          subst (λ o. Repeats (record { tick = m.tick + 1; jobs = new; again = m.again - 1; job = o; poll = m.poll })) job
+          (repeats_by m m.jobs new m.job row fit (same_place m.jobs) running_now (states_on m fit m.job running_now r.pre r.row r.stands r.turn r.job (stays m.job refl)) acts (m.again - 1) r.since m.poll last r.stands (chosen_on m fit m.job running_now r.pre r.row r.stands r.turn r.job (stays m.job refl) last r.stands) r.released (let b = r.before in omega (arith, b)) more
           (subst (λ o. CanRepeat new row.kind o (m.again - 1)) (sym job) (subst (λ k. CanRepeat new k m.job (m.again - 1)) (sym kind) can))
           (subst (λ (p : PlanModel). m.tick + 1 + (m.again - 1) ≤ p.ticks) (sym (plan_after m.jobs new m.job m.tick row acts)) (let l = r.left in omega (arith, l, some)))
           (λ t l. ap (λ x. is_due x t) (ready_after m.jobs new m.job m.tick row acts) ∙ r.quiet t (omega (arith, l, some))));
+      spins = λ p e. absurd (none-some p (sym none ∙ e));
+      apart = λ more. none;
+    }
+
+-- ---- a machine whose last row polled in vain
+module _ (m : Inside) (fit : AreJobs m.jobs) (p : Poll) (s : Spins m p) where
+  pub can_spin : CanAct m.jobs p.job (Lock p.res)
+  can_spin =
+      let run = s.polls.running in
+      let holds = subst (HoldSo m.jobs.plan.now (Queued p.res)) run.active (subst (λ q. HoldSo m.jobs.plan.now q (active_in m.jobs)) s.awaits fit.are.holds) in
+      record { jobs_fit = fit; newest = run.newest; below = run.below; active = run.active; same = run.same; unit = subst (λ j. slice_get (units m.jobs.plan.now j) run.newest.done ≡ Some (Lock p.res)) run.same holds.0.unit }
+
+  pub awaits_global : is_global m.jobs.plan.now p.res.0 ≡ true
+  awaits_global = waiting_global m.jobs.plan.now m.jobs.phase s.polls.running.newest s.polls.running.below p.res s.awaits (subst (HoldSo m.jobs.plan.now m.jobs.phase) s.polls.running.active fit.are.holds)
+
+  runs_poll : ForSome (Some p.job) (IsRunning m.jobs)
+  runs_poll j e = subst (IsRunning m.jobs) (same_Some p.job j e) s.polls.running
+
+  module _ (row : Row) (acts : Acts m.jobs m.jobs p.job m.tick row) where
+    pub row_spins : (log : List Row) → StandsAfter (machine_view m) log → IsCoreTurn m.jobs.plan.now m.jobs.core.0 log row
+    row_spins = row_on m fit (Some p.job) runs_poll s.pre s.row s.stands s.turn s.polls.job (StayPolls s.polls.kind) m.jobs row acts
+
+    pub stands_spins : (log : List Row) → StandsAfter (machine_view m) log → StandsAfter (machine_view (record { tick = m.tick + 1; jobs = m.jobs; again = m.again; job = m.job; poll = m.poll })) (log ++ row ∷ [])
+    stands_spins = stands_on m fit (Some p.job) runs_poll s.pre s.row s.stands s.turn s.polls.job (StayPolls s.polls.kind) m.jobs row acts m.again m.job m.poll
+
+    pub polls_on : row.kind ≡ kinds.Spin → row.res ≡ Some p.res → Polls m.jobs row p
+    polls_on kind res = record { kind = kind; job = acts.row_job; res = res; running = s.polls.running }
+
+    pub view_spins : m.poll ≡ Some p → row.kind ≡ kinds.Spin → row.res ≡ Some p.res → ForSome m.jobs.ready.tick (λ before. before ≤ m.tick) → (0 < m.again → m.poll ≡ None) → IsMachineView (record { tick = m.tick + 1; jobs = m.jobs; again = m.again; job = m.job; poll = m.poll })
+    view_spins is kind res released apart = record {
+      jobs_fit = fit;
+      released = λ x e. let b = released x e in omega (arith, b);
+      log = (s.pre ++ s.row ∷ []) ++ row ∷ [];
+      stands = stands_spins (s.pre ++ s.row ∷ []) s.stands;
+      repeats = λ some. absurd (none-some p (sym (apart some) ∙ is));
+      spins = λ q e. subst (Spins (record { tick = m.tick + 1; jobs = m.jobs; again = m.again; job = m.job; poll = m.poll })) (same_Some p q (sym is ∙ e))
+          (spins_by m m.jobs m.jobs (Some p.job) row fit (same_place m.jobs) runs_poll (states_on m fit (Some p.job) runs_poll s.pre s.row s.stands s.turn s.polls.job (StayPolls s.polls.kind)) acts m.again m.job m.poll p (s.pre ++ s.row ∷ []) s.stands
+          (chosen_on m fit (Some p.job) runs_poll s.pre s.row s.stands s.turn s.polls.job (StayPolls s.polls.kind) (s.pre ++ s.row ∷ []) s.stands) (polls_on kind res));
+      apart = apart;
     }

@@ -1,15 +1,21 @@
 -- The machine of one core, and the logs that it stands after.
-use Rattle.std.specs.Prelude.{ℕ, List, Option, IfSome, map, length, ◌≡◌}
+use Rattle.std.specs.Prelude.{ℕ, List, Option, Some, None, IfSome, true, map, length, ◌≡◌}
+use Rattle.std.specs.Option.{option_or}
 use Rattle.msrp_plan.specs.Plan.{PlanModel}
 use Rattle.msrp_plan.specs.Jobs.{jobs_on}
+use Rattle.msrp_plan.specs.Levels.{is_global}
 use Rattle.msrp_plan.specs.Phases.{phase_after}
 use Rattle.msrp_plan.specs.States.{JobState, state_after}
 use Rattle.msrp_plan.specs.Stretches.{in_tick}
+use Rattle.msrp_plan.specs.declared.ids.ResId.{ResId}
+use Rattle.msrp_plan.specs.declared.rows.Kind.TheVariants.{Spin}
 use Rattle.msrp_plan.specs.declared.rows.Row.{Row}
 use Rattle.msrp_plan.specs.declared.units.Phase.{Phase}
+use Rattle.msrp_plan.specs.declared.units.Phase.TheVariants.{Queued}
 
 -- one core of a plan between two turns: the tick of the next one, what the core has to do with the global
--- resources, how far each of its jobs is, and the row of the next turn, where that is known before it is chosen
+-- resources, how far each of its jobs is, and the row of the next turn, where that is known before it is chosen: whatever
+-- a port answers, or where its poll is refused again
 pub record MachineModel : Type 0 where
   pub plan : PlanModel
   pub core : ℕ
@@ -17,13 +23,28 @@ pub record MachineModel : Type 0 where
   pub phase : Phase
   pub states : List JobState
   pub again : Option Row
+  pub spin : Option Row
+
+-- the row that is known so
+abbrev pub next_known : MachineModel → Option Row
+next_known m = option_or m.again m.spin
 
 -- where the row of the next turn is known, it is this one in the next tick
 abbrev pub RepeatsOnly : MachineModel → Row → Type 0
-RepeatsOnly m r = IfSome m.again (λ next. next ≡ in_tick m.tick r)
+RepeatsOnly m r = IfSome (next_known m) (λ next. next ≡ in_tick m.tick r)
 
 -- the rows of this log leave the core as the machine is
 pub record StandsAfter (m : MachineModel) (log : List Row) : Type 0 where
   pub tick : m.tick ≡ length log
   pub phase : m.phase ≡ phase_after log
   pub states : m.states ≡ map (state_after log) (jobs_on m.plan m.core)
+
+-- the row is a poll in vain of the resource that the core awaits
+pub record IsRefused (m : MachineModel) (r : Row) : Type 0 where
+  pub core : r.core.0 ≡ m.core
+  pub res : ResId
+  pub awaits : m.phase ≡ Queued res
+  pub global : is_global m.plan res.0 ≡ true
+  pub resource : r.res ≡ Some res
+  pub kind : r.kind ≡ Spin
+  pub ahead : r.ahead ≡ None

@@ -7,12 +7,14 @@ use Rattle.msrp_plan.specs.declared.rows.Row.{Row}
 use Rattle.msrp_ready.specs.Ready.{is_due}
 use Rattle.msrp_core.specs.Machine.{MachineModel, StandsAfter}
 use Rattle.msrp_core.specs.CoreJobs.{AreJobs, state_of}
-use Rattle.msrp_core.specs.Repeats.{CanRepeat, row_again}
+use Rattle.msrp_core.specs.Repeats.{CanRepeat, Polls, row_again, spin_again}
+use Rattle.msrp_plan.specs.declared.units.Phase.TheVariants.{Queued}
 use Rattle.msrp_core.specs.declared.machine.Machine.TheInside.{Inside}
+use Rattle.msrp_core.specs.declared.repeats.Poll.{Poll}
 
 abbrev pub machine_view : Inside → MachineModel
 machine_view m =
-    record { plan = m.jobs.plan.now; core = m.jobs.core.0; tick = m.tick; phase = m.jobs.phase; states = map (state_of m.jobs) (jobs_on m.jobs.plan.now m.jobs.core.0); again = if m.again == 0 then None else Some (row_again m.tick m.jobs.core m.job) }
+    record { plan = m.jobs.plan.now; core = m.jobs.core.0; tick = m.tick; phase = m.jobs.phase; states = map (state_of m.jobs) (jobs_on m.jobs.plan.now m.jobs.core.0); again = if m.again == 0 then None else Some (row_again m.tick m.jobs.core m.job); spin = spin_again m.tick m.jobs.core m.poll }
 
 -- the last row, which came after pre, stands again so often: nobody is released by then, and its job goes on, which wasn't queued
 pub record Repeats (m : Inside) : Type 0 where
@@ -29,6 +31,15 @@ pub record Repeats (m : Inside) : Type 0 where
   pub before : since < m.tick
   pub quiet : (t : ℕ) → t < m.tick + m.again → is_due m.jobs.ready t ≡ false
 
+-- the last row, which came after pre, polled in vain
+pub record Spins (m : Inside) (poll : Poll) : Type 0 where
+  pub pre : List Row
+  pub row : Row
+  pub stands : StandsAfter (machine_view m) (pre ++ row ∷ [])
+  pub turn : IsCoreTurn m.jobs.plan.now m.jobs.core.0 pre row
+  pub polls : Polls m.jobs row poll
+  pub awaits : m.jobs.phase ≡ Queued poll.res
+
 -- no job is released yet that comes in a later tick
 pub record IsMachineView (m : Inside) : Type 0 where
   pub jobs_fit : AreJobs m.jobs
@@ -36,3 +47,5 @@ pub record IsMachineView (m : Inside) : Type 0 where
   pub log : List Row
   pub stands : StandsAfter (machine_view m) log
   pub repeats : 0 < m.again → Repeats m
+  pub spins : ForSome m.poll (Spins m)
+  pub apart : 0 < m.again → m.poll ≡ None

@@ -1,14 +1,16 @@
 -- A core whose last row stands again, as it is stored.
 use Rattle.std.specs.Prelude.{ℕ, Option, Some, None, length, ◌≡◌, ◌<◌, ◌+◌, refl}
+use Rattle.std.specs.Option.{option_map}
 use Rattle.msrp_plan.specs.Plan.{units}
 use Rattle.msrp_plan.specs.Stretches.{HasWork}
 use Rattle.msrp_plan.specs.declared.ids.CoreId.{CoreId}
 use Rattle.msrp_plan.specs.declared.ids.JobId.{JobId}
 use Rattle.msrp_plan.specs.declared.rows.Kind.{Kind}
-use Rattle.msrp_plan.specs.declared.rows.Kind.TheVariants.{Idle, Run}
+use Rattle.msrp_plan.specs.declared.rows.Kind.TheVariants.{Idle, Run, Spin}
 use Rattle.msrp_plan.specs.declared.rows.Row.{Row}
 use Rattle.msrp_core.specs.CoreJobs.{IsRunning}
 use Rattle.msrp_core.specs.declared.jobs.Jobs.{Jobs}
+use Rattle.msrp_core.specs.declared.repeats.Poll.{Poll}
 
 -- the running job has so many units of work next, none of them its last unit
 pub record HasWorkLeft (jobs : Jobs) (job : JobId) (k : ℕ) : Type 0 where
@@ -30,3 +32,17 @@ row_again t core (Some job) = record { tick = t; core = core; kind = Run; job = 
 abbrev pub CanRepeat : Jobs → Kind → Option JobId → ℕ → Type 0
 CanRepeat jobs kind None k = kind ≡ Idle
 CanRepeat jobs kind (Some job) k = (kind ≡ Run) × HasWorkLeft jobs job k
+
+-- the row polled in vain, and its job awaits the resource still
+pub record Polls (jobs : Jobs) (r : Row) (poll : Poll) : Type 0 where
+  pub kind : r.kind ≡ Spin
+  pub job : r.job ≡ Some poll.job
+  pub res : r.res ≡ Some poll.res
+  pub running : IsRunning jobs poll.job
+
+-- the row of the poll, where it is in vain again
+abbrev pub spin_of : ℕ → CoreId → Poll → Row
+spin_of t core poll = record { tick = t; core = core; kind = Spin; job = Some poll.job; res = Some poll.res; ahead = None; shape = refl; carrier = refl }
+
+abbrev pub spin_again : ℕ → CoreId → Option Poll → Option Row
+spin_again t core poll = option_map (spin_of t core) poll

@@ -184,7 +184,7 @@ impl<'a> Jobs<'a> {
     }
 
     // A poll that is answered no: the job waits on.
-    fn spin(&self, tick: u32, job: JobId, res: ResId) -> Row
+    pub(crate) fn spin(&self, tick: u32, job: JobId, res: ResId) -> Row
         requires can { CanAct self.now job (Op.Lock res) }
         requires awaits { self.now.phase ≡ Phase.Queued res }
         ensures acts { Acts self.now self.now job tick result }

@@ -1,18 +1,20 @@
 //! The machine of one core, which makes the rows of its turns.
 ghost use Rattle.std.specs.Prelude.{◌≡◌, ◌<◌, ◌≤◌, ◌+◌, ◌++◌, ◌∷◌, [], List, Some, None, IfOk, IfSome, IfNone, length, true};
+ghost use Rattle.std.specs.Option.{IsSomeAnd};
 ghost use Rattle.msrp_plan.specs.Levels.{is_global};
 ghost use Rattle.msrp_plan.specs.Runs.{IsCoreTurn};
 ghost use Rattle.msrp_plan.specs.declared.ids.ResId.{ResId as Resource};
 ghost use Rattle.msrp_plan.specs.declared.rows.Row.{Row as TraceRow};
 ghost use Rattle.msrp_core.specs.Ports.{claim_in, IsQuiet, MakesCall};
 ghost use Rattle.msrp_core.specs.CoreStates.{IsCoreState};
-ghost use Rattle.msrp_core.specs.Machine.{RepeatsOnly, StandsAfter};
+ghost use Rattle.msrp_core.specs.Machine.{IsRefused, RepeatsOnly, StandsAfter};
 
 use crate::jobs::Jobs;
 use crate::port::Port;
+use crate::repeats::Poll;
 use crate::states::CoreState;
 use msrp_levels::Levels;
-use msrp_plan::{CoreId, JobId, Memory, Phase, Plan, Row};
+use msrp_plan::{CoreId, JobId, Kind, Memory, Phase, Plan, ResId, Row};
 use std::alloc::Global;
 use std::marker::Model;
 
@@ -29,6 +31,8 @@ pub struct Machine<'a> {
     // How often the row of the last turn stands again, and of which job it is.
     again: u32,
     job: Option<JobId>,
+    // The poll of the last turn, if that was in vain.
+    poll: Option<Poll>,
 }
 
 impl<'a> Model for Machine<'a> {
@@ -59,6 +63,7 @@ impl<'a> Machine<'a> {
         ensures phase { IfOk result (λ machine. machine.phase ≡ Phase.Free) }
         ensures stands { IfOk result (λ machine. StandsAfter machine []) }
         ensures again { IfOk result (λ machine. machine.again ≡ None) }
+        ensures spin { IfOk result (λ machine. machine.spin ≡ None) }
     {
         let jobs = Jobs::with_room(alloc, plan, levels, core)?;
         Ok(Machine {
@@ -66,6 +71,7 @@ impl<'a> Machine<'a> {
             jobs,
             again: 0,
             job: None,
+            poll: None,
         })
     }
 
@@ -138,6 +144,41 @@ impl<'a> Machine<'a> {
         Some(self.jobs.act_again(tick, self.job))
     }
 
+    /// The resource that the core polled in vain in its last turn, where it did. It polls it again in its next one.
+    #[inline(always)]
+    pub fn polled(&self) -> Option<ResId>
+        ensures none { IfNone result (self.now.spin ≡ None) }
+        ensures poll { IfSome result (λ res. IsSomeAnd self.now.spin (λ row. (row.kind ≡ Kind.Spin) × (row.res ≡ Some res))) }
+    {
+        match self.poll {
+            Some(poll) => Some(poll.res),
+            None => None,
+        }
+    }
+
+    /// The core's next turn, where its last one was a poll in vain and so is this one: its row is that one in the next tick.
+    /// That takes no choice, whoever is released. Whoever calls it has asked the resource, which refuses. Elsewhere it is none,
+    /// and nothing changes.
+    #[inline(always)]
+    pub fn spin_on(&mut self) -> Option<Row>
+        requires tick { self.old.tick < self.old.plan.ticks }
+        ensures none { IfNone result (self.new ≡ self.old) }
+        ensures known { result ≡ self.old.spin }
+        ensures again { IfSome result (RepeatsOnly self.new) }
+        ensures plan { self.new.plan ≡ self.old.plan }
+        ensures core { self.new.core ≡ self.old.core }
+        ensures phase { self.new.phase ≡ self.old.phase }
+        ensures tick { IfSome result (λ _. self.new.tick ≡ self.old.tick + 1) }
+        ensures spin { IfSome result (IsRefused self.old) }
+        ensures row { IfSome result (λ row. (log : List TraceRow) → StandsAfter self.old log → IsCoreTurn self.old.plan self.old.core log row) }
+        ensures stands { IfSome result (λ row. (log : List TraceRow) → StandsAfter self.old log → StandsAfter self.new (log ++ row ∷ [])) }
+    {
+        let poll = self.poll?;
+        let now = self.tick;
+        self.tick = now + 1;
+        Some(self.jobs.spin(now, poll.job, poll.res))
+    }
+
     // A turn that is chosen anew: then it is known how often its row stands again.
     #[inline(always)]
     fn turn_anew<P: Port>(&mut self, port: &mut P) -> Row
@@ -161,6 +202,7 @@ impl<'a> Machine<'a> {
         let row = self.jobs.act_chosen(port, tick, chosen);
         self.job = row.job;
         self.again = self.jobs.repeats(self.tick, row.kind, row.job);
+        self.poll = self.jobs.poll_of(&row);
         row
     }
 

@@ -6,11 +6,18 @@ ghost use Rattle.msrp_plan.specs.Stretches.{HasWork};
 ghost use Rattle.msrp_ready.specs.Ready.{is_due};
 ghost use Rattle.msrp_core.specs.Active.{ActiveJob, advanced};
 ghost use Rattle.msrp_core.specs.CoreJobs.{ActsFor, AreJobs, CanAct, Acts, IsRunning, active_in};
-ghost use Rattle.msrp_core.specs.Repeats.{CanRepeat, HasWorkLeft, kind_again};
+ghost use Rattle.msrp_core.specs.Repeats.{CanRepeat, HasWorkLeft, Polls, kind_again};
 
 use crate::actions::{idle_row, row_on};
 use crate::jobs::Jobs;
-use msrp_plan::{JobId, Kind, Op, Row};
+use msrp_plan::{JobId, Kind, Op, ResId, Row};
+
+/// A job that polled a resource in vain.
+#[derive(Clone, Copy)]
+pub(crate) struct Poll {
+    pub(crate) job: JobId,
+    pub(crate) res: ResId,
+}
 
 impl<'a> Jobs<'a> {
     // How many ticks from this one on pass before a job of the core is released, as far as is known.
@@ -51,6 +58,19 @@ impl<'a> Jobs<'a> {
                 self.work_left(working, self.quiet_ticks(tick))
             }
             _ => 0,
+        }
+    }
+
+    /// The poll of this row, where it was in vain: its job is the one that runs.
+    pub(crate) fn poll_of(&self, row: &Row) -> Option<Poll>
+        requires { AreJobs self.now }
+        ensures { ForSome result (Polls self.now row.now) }
+    {
+        match (row.kind, row.job, row.res) {
+            (Kind::Spin, Some(job), Some(res)) if self.stack.top() == row.job => {
+                Some(Poll { job, res })
+            }
+            _ => None,
         }
     }
 

@@ -1,4 +1,5 @@
 use Rattle.std.proofs.Common.{◌<◌, ◌+◌, ◌-◌, ◌++◌, ◌∷◌, [], ◌≡◌, Some, sym, ◌∙◌, subst, arith}
+use Rattle.std.proofs.lemmas.Option.{none-some}
 use Rattle.msrp_plan.specs.Runs.{IsCoreTurn}
 use Rattle.msrp_core.specs.Machine.{StandsAfter, MachineModel}
 use Rattle.msrp_core.specs.MachineView.{machine_view}
@@ -22,7 +23,7 @@ act_again-requires-clause-can c =
 pub invariant_of-self : goal.invariant_of-self
 invariant_of-self c =
     let some : 0 < c.self.inside.again = let n = c.if-self-eq0.false in omega (arith, n) in
-    view_next c.self.inside c.self.invariant.jobs_fit (c.self.invariant.repeats some) some c.act_again.new.self c.act_again.result c.act_again.ensures.acts c.act_again.ensures.kind c.act_again.ensures.left
+    view_next c.self.inside c.self.invariant.jobs_fit (c.self.invariant.repeats some) some c.act_again.new.self c.act_again.result c.act_again.ensures.acts (c.self.invariant.apart some) c.act_again.ensures.kind c.act_again.ensures.left
 
 pub returns-clause-row : goal.returns-clause-row
 returns-clause-row c = λ log.
@@ -33,7 +34,7 @@ returns-clause-row c = λ log.
 pub returns-clause-stands : goal.returns-clause-stands
 returns-clause-stands c = λ log.
     let some : 0 < c.self.inside.again = let n = c.if-self-eq0.false in omega (arith, n) in
-    let P : MachineModel → Type 0 = λ m. StandsAfter m log → StandsAfter (machine_view (record { tick = c.self.inside.tick + 1; jobs = c.act_again.new.self; again = c.self.inside.again - 1; job = c.self.inside.job })) (log ++ c.act_again.result ∷ []) in
+    let P : MachineModel → Type 0 = λ m. StandsAfter m log → StandsAfter (machine_view (record { tick = c.self.inside.tick + 1; jobs = c.act_again.new.self; again = c.self.inside.again - 1; job = c.self.inside.job; poll = c.self.inside.poll })) (log ++ c.act_again.result ∷ []) in
     subst P c.self.view_is
     (stands_next c.self.inside c.self.invariant.jobs_fit (c.self.invariant.repeats some) some c.act_again.new.self c.act_again.result c.act_again.ensures.acts log)
 
@@ -54,4 +55,5 @@ returns-clause-again c =
     let row = c.act_again.result in
     let acts = c.act_again.ensures.acts in
     let core = acts_core m.jobs new m.job m.tick row acts ∙ sym (core_after m.jobs new m.job m.tick row acts) in
-    repeats_only (record { tick = m.tick + 1; jobs = new; again = m.again - 1; job = m.job }) row (λ some. c.act_again.ensures.kind) core (acts_job m.jobs new m.job m.tick row acts)
+    let some : 0 < m.again = let n = c.if-self-eq0.false in omega (arith, n) in
+    repeats_only (record { tick = m.tick + 1; jobs = new; again = m.again - 1; job = m.job; poll = m.poll }) row (λ _. (c.act_again.ensures.kind, acts_job m.jobs new m.job m.tick row acts)) (λ p e. absurd (none-some p (sym (c.self.invariant.apart some) ∙ e))) core

@@ -20,4 +20,6 @@ invariant_of-result c =
         states = subst (λ (r : ReadyModel). map (state_in jobs.plan.now r.taken jobs.phase (active_in jobs)) js ≡ map (state_after []) js) (sym c.in_ok-jobs.ensures.ready) (subst (λ p. map (state_in jobs.plan.now [] p (active_in jobs)) js ≡ map (state_after []) js) (sym c.in_ok-jobs.ensures.phase) refl);
       };
       repeats = λ some. absurd (omega (arith, some));
+      spins = search rules;
+      apart = λ _. refl;
     }
