@@ -1,15 +1,16 @@
 -- A core's turn that is known from its last one, and what a turn leaves known.
-use Rattle.std.proofs.Common.{◌≡◌, ℕ, ◌+◌, ◌<◌, ◌++◌, ◌∷◌, [], List, Option, Some, None, IfSome, IfNone, set, slice_get, slice_set, refl, ap, sym, ◌∙◌, subst}
+use Rattle.std.proofs.Common.{◌≡◌, ℕ, ◌<◌, ◌++◌, ◌∷◌, [], Bool, true, false, cond, List, Option, Some, None, IfSome, IfNone, set, slice_get, slice_set, refl, ap, sym, ◌∙◌, subst}
 use Rattle.std.proofs.lemmas.List.{set-get_or}
 use Rattle.std.proofs.lemmas.Option.{get_or_from_slice_get, none-some}
-use Rattle.msrp_plan.specs.Runs.{IsCoreTurn, IsLegal}
+use Rattle.msrp_plan.specs.Runs.{IsLegal}
 use Rattle.msrp_plan.specs.Stretches.{in_tick}
 use Rattle.msrp_plan.specs.declared.rows.Row.{Row}
-use Rattle.msrp_core.specs.Machine.{MachineModel, RepeatsOnly, StandsAfter}
+use Rattle.msrp_core.specs.Machine.{MachineModel, next_known}
 use Rattle.msrp_sim.specs.Cores.{CoresModel, AreCores, StandFor, IsDueAfter, IsNextRow, IsAs, TakesTurn, Leaves, again_of, known_row}
-use Rattle.msrp_sim.specs.TurnPorts.{HasTurned}
+use Rattle.msrp_sim.specs.TurnPorts.{HasRepeated, is_granted, unless_granted}
 use Rattle.msrp_sim.specs.declared.tickets.Queues.{Queues}
 use Rattle.msrp_sim.proofs.Keeping.{cores_kept}
+use Rattle.msrp_sim.proofs.Serving.{notes_poll}
 use Rattle.msrp_sim.proofs.Standing.{get_set_same, get_set_other, stand_push}
 use Rattle.msrp_sim.proofs.Turns.{next_legal}
 
@@ -22,45 +23,31 @@ module _ (old new : CoresModel) (c : ℕ) (r : Row) (cores : AreCores old) (t : 
   at_core : r.core.0 ≡ c
   at_core = let its = cores.each c t.before t.has in (t.turned.row its.log its.stands).core ∙ its.core
 
-  own_next : known_row new c ≡ t.after.again
+  own_next : known_row new c ≡ next_known t.after
   own_next = ap again_of (ap (λ ms. slice_get ms c) t.machines ∙ get_set_same old.machines c t.before t.after t.has)
 
   pub leaves : Leaves old new r
   leaves = record {
-    own = subst (λ o. IfSome o (λ next. next ≡ in_tick next.tick r)) (sym (ap (known_row new) at_core ∙ own_next)) (in_own_tick t.after.again t.after.tick r t.turned.again);
+    own = subst (λ o. IfSome o (λ next. next ≡ in_tick next.tick r)) (sym (ap (known_row new) at_core ∙ own_next)) (in_own_tick (next_known t.after) t.after.tick r t.turned.again);
     others = λ d ne. ap again_of (ap (λ ms. slice_get ms d) t.machines ∙ get_set_other old.machines c d t.after (λ e. ne (e ∙ sym at_core)));
   }
 
+-- what is made again is what is known
+pub known_by : (q : Queues) (c : ℕ) (o : Option Row) (r : Row) → unless_granted q c o ≡ Some r → o ≡ Some r
+known_by q c None r e = absurd (none-some r e)
+known_by q c (Some s) r e = by_flag (is_granted q c s.res s.kind) e
+  where
+    by_flag : (b : Bool) → cond b None (Some s) ≡ Some r → Some s ≡ Some r
+    by_flag true e = absurd (none-some r e)
+    by_flag false e = e
+
 -- ---- a machine that makes its last row again, if it is known that it does
-pub record Repeated (x y : MachineModel) (o : Option Row) : Type 0 where
-  pub none : IfNone o (y ≡ x)
-  pub again : IfSome o (RepeatsOnly y)
-  pub plan : y.plan ≡ x.plan
-  pub core : y.core ≡ x.core
-  pub phase : y.phase ≡ x.phase
-  pub tick : IfSome o (λ _. y.tick ≡ x.tick + 1)
-  pub res : IfSome o (λ row. row.res ≡ None)
-  pub row : IfSome o (λ row. (log : List Row) → StandsAfter x log → IsCoreTurn x.plan x.core log row)
-  pub stands : IfSome o (λ row. (log : List Row) → StandsAfter x log → StandsAfter y (log ++ row ∷ []))
-
-turned : (q : Queues) (x y : MachineModel) (r : Row) → Repeated x y (Some r) → HasTurned q x y r None
-turned q x y r t = record {
-  plan = t.plan;
-  core = t.core;
-  tick = t.tick;
-  row = t.row;
-  stands = t.stands;
-  again = t.again;
-  call = λ res e global. absurd (none-some res (sym t.res ∙ e));
-  quiet = λ q. (refl, t.phase);
-}
-
 -- the cores then
 abbrev pub with_machine : CoresModel → ℕ → MachineModel → CoresModel
 with_machine m c y = record { plan = m.plan; machines = slice_set m.machines c y; queues = m.queues }
 
-abbrev takes : (m : CoresModel) (c : ℕ) (x y : MachineModel) (r : Row) → slice_get m.machines c ≡ Some x → Repeated x y (Some r) → TakesTurn m (with_machine m c y) c r
-takes m c x y r has t = record { plan = refl; before = x; after = y; call = None; has = has; machines = refl; turned = turned m.queues x y r t; same = λ _. refl; noted = λ e h. absurd (none-some e h) }
+abbrev takes : (m : CoresModel) (c : ℕ) (x y : MachineModel) (r : Row) → slice_get m.machines c ≡ Some x → HasRepeated m.queues x y r → TakesTurn m (with_machine m c y) c r
+takes m c x y r has t = record { plan = refl; before = x; after = y; call = t.call; has = has; machines = refl; turned = t.turned; same = λ _. refl; noted = λ e h. notes_poll e false m.queues (t.vain e h) }
 
 -- nothing changes where the machine doesn't
 same_cores : (m : CoresModel) (c : ℕ) (x y : MachineModel) → slice_get m.machines c ≡ Some x → y ≡ x → with_machine m c y ≡ m
@@ -68,24 +55,24 @@ same_cores m c x y has e =
     let same : set m.machines c y ≡ m.machines = subst (λ z. set m.machines c z ≡ m.machines) (get_or_from_slice_get m.machines c x x has ∙ sym e) (set-get_or m.machines c x) in
     ap (λ ms. record { plan = m.plan; machines = ms; queues = m.queues }) same
 
-pub none_if : (m : CoresModel) (c : ℕ) (x y : MachineModel) (o : Option Row) → slice_get m.machines c ≡ Some x → Repeated x y o → IfNone o (with_machine m c y ≡ m)
-none_if m c x y None has t = same_cores m c x y has t.none
+pub none_if : (m : CoresModel) (c : ℕ) (x y : MachineModel) (o : Option Row) → slice_get m.machines c ≡ Some x → IfNone o (y ≡ x) → IfNone o (with_machine m c y ≡ m)
+none_if m c x y None has t = same_cores m c x y has t
 none_if m c x y (Some r) has t = tt
 
-pub kept_if : (m : CoresModel) (c : ℕ) (x y : MachineModel) (o : Option Row) → AreCores m → slice_get m.machines c ≡ Some x → x.tick < m.plan.ticks → Repeated x y o → AreCores (with_machine m c y)
-kept_if m c x y None cores has left t = subst AreCores (sym (same_cores m c x y has t.none)) cores
-kept_if m c x y (Some r) cores has left t = cores_kept m (with_machine m c y) c r cores (takes m c x y r has t) left
+pub kept_if : (m : CoresModel) (c : ℕ) (x y : MachineModel) (o : Option Row) → AreCores m → slice_get m.machines c ≡ Some x → x.tick < m.plan.ticks → IfNone o (y ≡ x) → IfSome o (HasRepeated m.queues x y) → AreCores (with_machine m c y)
+kept_if m c x y None cores has left none t = subst AreCores (sym (same_cores m c x y has none)) cores
+kept_if m c x y (Some r) cores has left none t = cores_kept m (with_machine m c y) c r cores (takes m c x y r has t) left
 
-pub leaves_if : (m : CoresModel) (c : ℕ) (x y : MachineModel) (o : Option Row) → AreCores m → slice_get m.machines c ≡ Some x → Repeated x y o → IfSome o (Leaves m (with_machine m c y))
+pub leaves_if : (m : CoresModel) (c : ℕ) (x y : MachineModel) (o : Option Row) → AreCores m → slice_get m.machines c ≡ Some x → IfSome o (HasRepeated m.queues x y) → IfSome o (Leaves m (with_machine m c y))
 leaves_if m c x y None cores has t = tt
 leaves_if m c x y (Some r) cores has t = leaves m (with_machine m c y) c r cores (takes m c x y r has t)
 
-pub next_if : (m : CoresModel) (c : ℕ) (x y : MachineModel) (o : Option Row) → AreCores m → slice_get m.machines c ≡ Some x → Repeated x y o
+pub next_if : (m : CoresModel) (c : ℕ) (x y : MachineModel) (o : Option Row) → AreCores m → slice_get m.machines c ≡ Some x → IfSome o (HasRepeated m.queues x y)
     → IfSome o (λ due. (rows : List Row) → StandFor m rows → IsDueAfter m.plan rows c → IsNextRow m.plan rows c due)
 next_if m c x y None cores has t = tt
 next_if m c x y (Some r) cores has t = λ rows stands due. next_legal m (with_machine m c y) c r rows cores stands due (takes m c x y r has t)
 
-pub stand_if : (m : CoresModel) (c : ℕ) (x y : MachineModel) (o : Option Row) → AreCores m → slice_get m.machines c ≡ Some x → Repeated x y o
+pub stand_if : (m : CoresModel) (c : ℕ) (x y : MachineModel) (o : Option Row) → AreCores m → slice_get m.machines c ≡ Some x → IfSome o (HasRepeated m.queues x y)
     → IfSome o (λ due. (rows : List Row) (row : Row) → StandFor m rows → IsDueAfter m.plan rows c → IsAs due row → IsLegal m.plan rows row → StandFor (with_machine m c y) (rows ++ row ∷ []))
 stand_if m c x y None cores has t = tt
 stand_if m c x y (Some r) cores has t = λ rows row stands due like legal. stand_push m (with_machine m c y) c r row rows cores stands due (takes m c x y r has t) like legal

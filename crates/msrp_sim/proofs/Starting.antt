@@ -43,4 +43,4 @@ none_known m n new c = by_place (slice_get m.machines c) refl
   where
     by_place : (o : Option MachineModel) → slice_get m.machines c ≡ o → again_of o ≡ None
     by_place None e = refl
-    by_place (Some x) e = (new.each c x e).again
+    by_place (Some x) e = (new.each c x e).known

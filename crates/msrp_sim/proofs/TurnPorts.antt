@@ -1,16 +1,23 @@
 -- A port for one turn takes one call.
-use Rattle.std.proofs.Common.{◌≡◌, ℕ, ◌+◌, ◌<◌, ◌==◌, ◌&&◌, Bool, true, false, cond, List, [], ◌∷◌, ◌++◌, Option, Some, None, is_none, refl, ap, sym, ◌∙◌, subst, arith, append-nil, eqb-true}
+use Rattle.std.proofs.Common.{◌≡◌, ℕ, ◌+◌, ◌<◌, ◌==◌, ◌&&◌, Bool, true, false, cond, List, [], ◌∷◌, ◌++◌, Option, Some, None, IfSome, is_none, refl, ap, sym, ◌∙◌, subst, arith, append-nil, eqb-true}
 use Rattle.std.proofs.Math.Bool.{true≢false}
 use Rattle.std.proofs.lemmas.Option.{same_Some}
+use Rattle.std.specs.Option.{IsSomeAnd}
 use Rattle.msrp_plan.specs.Calls.{IsDueCall}
+use Rattle.msrp_plan.specs.Runs.{IsCoreTurn}
 use Rattle.msrp_plan.specs.declared.ids.CoreId.{CoreId}
 use Rattle.msrp_plan.specs.declared.ids.ResId.{ResId}
+use Rattle.msrp_plan.specs.declared.rows.Kind.TheVariants.{Spin}
+use Rattle.msrp_plan.specs.declared.rows.Row.{Row}
 use Rattle.msrp_plan.specs.declared.units.Call.{Call}
+use Rattle.msrp_plan.specs.declared.units.Call.TheVariants.{Poll}
+use Rattle.msrp_plan.specs.declared.units.Phase.TheVariants.{Queued}
 use Rattle.msrp_plan.proofs.Lists.Ranges.{not_equal}
+use Rattle.msrp_core.specs.Machine.{IsRefused, MachineModel, RepeatsOnly, StandsAfter}
 use Rattle.msrp_core.specs.Ports.{Adds, claim_in}
 use Rattle.msrp_core.specs.declared.port.PortCall.{PortCall}
-use Rattle.msrp_sim.specs.Serving.{IsTold}
-use Rattle.msrp_sim.specs.TurnPorts.{as_calls, port_after, IsCallAfter, IsTurnPort}
+use Rattle.msrp_sim.specs.Serving.{IsTold, is_served}
+use Rattle.msrp_sim.specs.TurnPorts.{as_calls, port_after, HasRepeated, IsCallAfter, IsTurnPort}
 use Rattle.msrp_sim.specs.declared.tickets.Queues.{Queues}
 
 -- whoever has room is the core of the port, and has made no call
@@ -49,3 +56,43 @@ port_adds before first queues core k resources res made call port room turn told
     room_taken true true h i = refl
     room_taken true false h i = absurd (true≢false (sym i))
     room_taken false b h i = absurd (true≢false (sym h))
+
+-- ---- a poll that is known to come next, of this resource
+module _ (q : Queues) (x : MachineModel) (g : ResId) where
+  abbrev pub IsPollOf : Row → Type 0
+  IsPollOf r = (r.kind ≡ Spin) × (r.res ≡ Some g)
+
+  -- the row that polls in vain, and its call
+  pub poll_made : (y : MachineModel) (o : Option Row) → IsSomeAnd o IsPollOf → false ≡ is_served q x.core g.0 → IfSome o (IsRefused x) → y.plan ≡ x.plan → y.core ≡ x.core → y.phase ≡ x.phase → IfSome o (λ _. y.tick ≡ x.tick + 1)
+      → IfSome o (λ r. (log : List Row) → StandsAfter x log → IsCoreTurn x.plan x.core log r) → IfSome o (λ r. (log : List Row) → StandsAfter x log → StandsAfter y (log ++ r ∷ [])) → IfSome o (RepeatsOnly y) → IfSome o (HasRepeated q x y)
+  poll_made y None is refused ref plan core phase tick row stands again = tt
+  poll_made y (Some r) is refused ref plan core phase tick row stands again =
+      let same : ref.res ≡ g = same_Some ref.res g (sym ref.resource ∙ is.1) in
+      let told : false ≡ is_served q r.core.0 ref.res.0 = refused ∙ sym (ap (λ c. is_served q c ref.res.0) ref.core ∙ ap (λ (h : ResId). is_served q x.core h.0) same) in
+      record {
+        call = call_with r.core ref.res (Poll false);
+        turned = record {
+          plan = plan;
+          core = core;
+          tick = tick;
+          row = row;
+          stands = stands;
+          again = again;
+          call = λ res e global.
+              let own : ref.res ≡ res = same_Some ref.res res (sym ref.resource ∙ e) in
+              record {
+                res = res;
+                resource = e;
+                global = global;
+                call = Poll false;
+                is = ap (λ h. call_with r.core h (Poll false)) own;
+                kind = ref.kind;
+                ahead = ref.ahead;
+                turn = ref.awaits ∙ ap Queued own;
+                told = subst (λ (h : ResId). false ≡ is_served q r.core.0 h.0) own told;
+                claim = phase;
+              };
+          quiet = λ calm. absurd (true≢false (sym ref.global ∙ calm ref.res ref.resource));
+        };
+        vain = λ e h. ap (λ (k : PortCall). k.call) (sym (same_Some (record { core = r.core; res = ref.res; call = Poll false }) e h));
+      }

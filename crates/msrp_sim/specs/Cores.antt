@@ -18,7 +18,7 @@ use Rattle.msrp_plan.specs.declared.rows.Kind.TheVariants.{Take, Queue, Grant, S
 use Rattle.msrp_plan.specs.declared.rows.Row.{Row}
 use Rattle.msrp_plan.specs.declared.units.Call.TheVariants.{Ask, Poll}
 use Rattle.msrp_plan.specs.declared.units.Phase.{Phase}
-use Rattle.msrp_core.specs.Machine.{MachineModel, StandsAfter}
+use Rattle.msrp_core.specs.Machine.{MachineModel, StandsAfter, next_known}
 use Rattle.msrp_core.specs.declared.port.PortCall.{PortCall}
 use Rattle.msrp_sim.specs.Serving.{AreDrawn, IsServing, Notes, waiting, is_served}
 use Rattle.msrp_sim.specs.TurnPorts.{HasTurned}
@@ -83,9 +83,9 @@ pub record IsAs (due r : Row) : Type 0 where
 -- ---- a row that stands again
 abbrev pub again_of : Option MachineModel → Option Row
 again_of None = None
-again_of (Some x) = x.again
+again_of (Some x) = next_known x
 
--- the row that a core is known to make in its next turn
+-- the row that a core is known to make in its next turn, unless that is a poll that is granted
 abbrev pub known_row : CoresModel → ℕ → Option Row
 known_row m c = again_of (slice_get m.machines c)
 
@@ -128,7 +128,7 @@ pub record IsNew (plan : PlanModel) (c : ℕ) (x : MachineModel) : Type 0 where
   pub plan_is : x.plan ≡ plan
   pub core : x.core ≡ c
   pub stands : StandsAfter x []
-  pub again : x.again ≡ None
+  pub known : next_known x ≡ None
 
 -- the machines of the first n cores, in order, before their first turns
 pub record AreNew (plan : PlanModel) (n : ℕ) (machines : List MachineModel) : Type 0 where

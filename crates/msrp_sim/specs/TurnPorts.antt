@@ -1,20 +1,22 @@
 -- A port for one turn of one core, and what the turn makes.
-use Rattle.std.specs.Prelude.{ℕ, List, [], ◌∷◌, ◌++◌, true, ◌==◌, ◌&&◌, is_none, Option, Some, None, ◌≡◌, ◌+◌, if◌then◌else◌}
+use Rattle.std.specs.Prelude.{ℕ, List, [], ◌∷◌, ◌++◌, Bool, true, false, ◌==◌, ◌&&◌, is_none, Option, Some, None, ◌≡◌, ◌+◌, if◌then◌else◌}
 use Rattle.std.specs.Option.{ForSome}
 use Rattle.msrp_plan.specs.Levels.{is_global}
 use Rattle.msrp_plan.specs.Runs.{IsCoreTurn}
 use Rattle.msrp_plan.specs.Calls.{claim_with, IsDueCall, kind_of_call, ahead_of_call}
+use Rattle.msrp_plan.specs.declared.rows.Kind.{Kind}
+use Rattle.msrp_plan.specs.declared.rows.Kind.TheVariants.{Spin}
 use Rattle.msrp_plan.specs.declared.ids.CoreId.{CoreId}
 use Rattle.msrp_plan.specs.declared.ids.ResId.{ResId}
 use Rattle.msrp_plan.specs.declared.rows.Row.{Row}
 use Rattle.msrp_plan.specs.declared.units.Call.{Call}
-use Rattle.msrp_plan.specs.declared.units.Call.TheVariants.{Ask}
+use Rattle.msrp_plan.specs.declared.units.Call.TheVariants.{Ask, Poll}
 use Rattle.msrp_plan.specs.declared.units.Phase.{Phase}
 use Rattle.msrp_plan.specs.declared.units.Phase.TheVariants.{Free, Queued, Holding}
 use Rattle.msrp_core.specs.Machine.{MachineModel, RepeatsOnly, StandsAfter}
 use Rattle.msrp_core.specs.Ports.{PortModel, claim_in, IsQuiet}
 use Rattle.msrp_core.specs.declared.port.PortCall.{PortCall}
-use Rattle.msrp_sim.specs.Serving.{IsTold}
+use Rattle.msrp_sim.specs.Serving.{IsTold, is_served}
 use Rattle.msrp_sim.specs.declared.tickets.Queues.{Queues}
 
 -- a call of a core that leaves it so, if it needs one
@@ -75,3 +77,21 @@ pub record HasTurned (q : Queues) (old new : MachineModel) (r : Row) (made : Opt
   pub again : RepeatsOnly new r
   pub call : (res : ResId) → r.res ≡ Some res → is_global old.plan res.0 ≡ true → MakesCallOf q old new r made
   pub quiet : IsQuiet old.plan r → (made ≡ None) × (new.phase ≡ old.phase)
+
+-- ---- a turn without a choice
+-- the queues grant now what a row of this kind polls
+abbrev pub is_granted : Queues → ℕ → Option ResId → Kind → Bool
+is_granted q c None kind = false
+is_granted q c (Some g) Spin = is_served q c g.0
+is_granted q c (Some g) kind = false
+
+-- the row that is known of a core, and none where it is a poll that the queues grant now
+abbrev pub unless_granted : Queues → ℕ → Option Row → Option Row
+unless_granted q c None = None
+unless_granted q c (Some r) = if is_granted q c r.res r.kind then None else Some r
+
+-- the machine's turn made the row, and no call but a poll in vain
+pub record HasRepeated (q : Queues) (old new : MachineModel) (r : Row) : Type 0 where
+  pub call : Option PortCall
+  pub turned : HasTurned q old new r call
+  pub vain : ForSome call (λ e. e.call ≡ Poll false)

@@ -12,9 +12,10 @@ ghost use Rattle.msrp_core.specs.CoreStates.{IsCoreState};
 ghost use Rattle.msrp_core.specs.Machine.{MachineModel};
 ghost use Rattle.msrp_sim.specs.Cores.{AreNew, StandFor, IsDueAfter, IsNextRow, IsAs, IsAnswered, IsRowWith, Leaves, known_row};
 ghost use Rattle.msrp_sim.specs.Serving.{AreDrawn, Notes, waiting};
+ghost use Rattle.msrp_sim.specs.TurnPorts.{unless_granted};
 
 use crate::tickets::Queues;
-use crate::turn_port::turn_by;
+use crate::turn_port::{repeat_by, turn_by};
 use msrp_core::{CoreState, Machine, PortCall, Reply};
 use msrp_levels::Levels;
 use msrp_plan::{Call, CoreId, Kind, Memory, Plan, ResId, Row};
@@ -169,20 +170,38 @@ impl<'a> Cores<'a> {
     }
 
     /// The core's next turn, where it is known from its last one: its row is that one in the next tick. That takes no choice,
-    /// and no queue is asked. Elsewhere it is none, and nothing changes.
+    /// and a queue is asked only where the core polled in vain: it does so again, unless its poll is granted. Elsewhere it is none,
+    /// and nothing changes.
     #[inline(always)]
     pub fn repeat(&mut self, core: CoreId) -> Option<Row>
         requires core { core.0 < self.old.plan.cores }
         requires tick { (x : MachineModel) → slice_get self.old.machines core.0 ≡ Some x → x.tick < self.old.plan.ticks }
         ensures none { IfNone result (self.new ≡ self.old) }
-        ensures known { result ≡ known_row self.old core.0 }
+        ensures known { result ≡ unless_granted self.old.queues core.0 (known_row self.old core.0) }
         ensures plan { self.new.plan ≡ self.old.plan }
         ensures leaves { IfSome result (Leaves self.old self.new) }
         ensures next { IfSome result (λ due. (rows : List TraceRow) → StandFor self.old rows → IsDueAfter self.old.plan rows core.0 → IsNextRow self.old.plan rows core.0 due) }
         ensures stand { IfSome result (λ due. (rows : List TraceRow) (row : TraceRow) → StandFor self.old rows → IsDueAfter self.old.plan rows core.0 → IsAs due row → IsLegal self.old.plan rows row → StandFor self.new (rows ++ row ∷ [])) }
     {
         let machine = &mut self.machines[core.0 as usize];
-        machine.repeat()
+        repeat_by(&self.queues, machine)
+    }
+
+    // A turn that is chosen anew.
+    #[inline(always)]
+    fn turn_anew(&mut self, core: CoreId) -> Row
+        requires core { core.0 < self.old.plan.cores }
+        requires tick { (x : MachineModel) → slice_get self.old.machines core.0 ≡ Some x → x.tick < self.old.plan.ticks }
+        ensures plan { self.new.plan ≡ self.old.plan }
+        ensures leaves { Leaves self.old self.new result }
+        ensures next { (rows : List TraceRow) → StandFor self.old rows → IsDueAfter self.old.plan rows core.0 → IsNextRow self.old.plan rows core.0 result }
+        ensures stand { (rows : List TraceRow) (row : TraceRow) → StandFor self.old rows → IsDueAfter self.old.plan rows core.0 → IsAs result row → IsLegal self.old.plan rows row → StandFor self.new (rows ++ row ∷ []) }
+    {
+        let resources = self.plan.resources();
+        let machine = &mut self.machines[core.0 as usize];
+        let turned = turn_by(&self.queues, resources, machine);
+        note_turn(&mut self.queues, turned.call);
+        turned.row
     }
 
     /// The core's next turn. Whatever rows the cores stand for, the row is the next one of that core after them, and
@@ -196,10 +215,9 @@ impl<'a> Cores<'a> {
         ensures next { (rows : List TraceRow) → StandFor self.old rows → IsDueAfter self.old.plan rows core.0 → IsNextRow self.old.plan rows core.0 result }
         ensures stand { (rows : List TraceRow) (row : TraceRow) → StandFor self.old rows → IsDueAfter self.old.plan rows core.0 → IsAs result row → IsLegal self.old.plan rows row → StandFor self.new (rows ++ row ∷ []) }
     {
-        let resources = self.plan.resources();
-        let machine = &mut self.machines[core.0 as usize];
-        let turned = turn_by(&self.queues, resources, machine);
-        note_turn(&mut self.queues, turned.call);
-        turned.row
+        match self.repeat(core) {
+            Some(row) => row,
+            None => self.turn_anew(core),
+        }
     }
 }

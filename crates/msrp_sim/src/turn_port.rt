@@ -1,7 +1,8 @@
 //! One turn of a machine over the queues, which it only reads: its call is handed on.
-ghost use Rattle.std.specs.Prelude.{◌≡◌, ◌<◌, length};
+ghost use Rattle.std.specs.Prelude.{◌≡◌, ◌<◌, IfNone, IfSome, length};
+ghost use Rattle.msrp_core.specs.Machine.{next_known};
 ghost use Rattle.msrp_core.specs.Ports.{claim_in};
-ghost use Rattle.msrp_sim.specs.TurnPorts.{HasTurned, IsTurnPort, TurnPortModel, port_after};
+ghost use Rattle.msrp_sim.specs.TurnPorts.{HasRepeated, HasTurned, IsTurnPort, TurnPortModel, port_after, unless_granted};
 
 use crate::tickets::{Queues, request};
 use msrp_core::{Machine, Port, PortCall, Reply};
@@ -111,15 +112,42 @@ fn turn_over<B: Before>(queues: &Queues, resources: u32, machine: &mut Machine<'
     }
 }
 
-// The machine's turn, where a global resource answers as its queue stands. A row that stands again needs no port.
+// The machine's turn, where its last one was a poll in vain and so is this one.
+#[inline(always)]
+fn spin_by(queues: &Queues, machine: &mut Machine<'_>) -> Option<Row>
+    requires { machine.old.tick < machine.old.plan.ticks }
+    ensures none { IfNone result (machine.new ≡ machine.old) }
+    ensures known { result ≡ unless_granted queues.now machine.old.core machine.old.spin }
+    ensures repeated { IfSome result (HasRepeated queues.now machine.old machine.new) }
+{
+    let res = machine.polled()?;
+    if queues.grants(machine.core(), res) {
+        None
+    } else {
+        machine.spin_on()
+    }
+}
+
+// The machine's turn, where its row is known from its last one. That needs no port.
+#[inline(always)]
+pub(crate) fn repeat_by(queues: &Queues, machine: &mut Machine<'_>) -> Option<Row>
+    requires { machine.old.tick < machine.old.plan.ticks }
+    ensures none { IfNone result (machine.new ≡ machine.old) }
+    ensures known { result ≡ unless_granted queues.now machine.old.core (next_known machine.old) }
+    ensures repeated { IfSome result (HasRepeated queues.now machine.old machine.new) }
+{
+    match machine.repeat() {
+        Some(row) => Some(row),
+        None => spin_by(queues, machine),
+    }
+}
+
+// The machine's turn, where a global resource answers as its queue stands.
 #[inline(always)]
 pub(crate) fn turn_by(queues: &Queues, resources: u32, machine: &mut Machine<'_>) -> Turned
     requires tick { machine.old.tick < machine.old.plan.ticks }
     requires resources { resources ≡ length machine.old.plan.resources }
     ensures { HasTurned queues.now machine.old machine.new result.row result.call }
 {
-    match machine.repeat() {
-        Some(row) => Turned { row, call: None },
-        None => turn_over::<Brand>(queues, resources, machine),
-    }
+    turn_over::<Brand>(queues, resources, machine)
 }

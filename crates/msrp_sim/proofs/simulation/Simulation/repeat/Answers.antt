@@ -4,6 +4,7 @@ use Rattle.msrp_sim.specs.Simulated.{SimModel, HasMade}
 use Rattle.msrp_sim.specs.SimView.{sim_view}
 use Rattle.msrp_sim.proofs.Rounds.{tick_within}
 use Rattle.msrp_sim.proofs.NextTurn.{is_due, low_core, made_turn, tick_left}
+use Rattle.msrp_sim.proofs.Repeating.{known_by}
 use Rattle.msrp_sim.proofs.simulation.Simulation.repeat.Goals as goal
 
 if_none : {A P : Type 0} (o : Option A) → P → IfNone o P
@@ -54,8 +55,8 @@ returns-clause-known c =
     let i = c.self.invariant in
     let l : (sim_view c.self.inside).turn < c.self.inside.plan.now.cores * c.self.inside.plan.now.ticks = subst (λ (s : SimModel). s.turn < s.plan.cores * s.plan.ticks) (sym c.self.view_is) c.requires in
     let row = c.in_ok-row.ensures.next i.rows i.made.stands (is_due (sim_view c.self.inside) i.rows c.core_at-core.result.0 i.order l c.core_at-core.ensures i.made) in
-    let known = sym (c.in_ok-row.was) ∙ c.repeat.ensures.known in
-    subst (λ (s : SimModel). known_row s.cores c.in_ok-row.row.core.0 ≡ Some c.in_ok-row.row) c.self.view_is (ap (known_row c.self.inside.cores) row.core ∙ sym known)
+    let known = known_by c.self.inside.cores.queues c.core_at-core.result.0 (known_row c.self.inside.cores c.core_at-core.result.0) c.in_ok-row.row (sym c.repeat.ensures.known ∙ c.in_ok-row.was) in
+    subst (λ (s : SimModel). known_row s.cores c.in_ok-row.row.core.0 ≡ Some c.in_ok-row.row) c.self.view_is (ap (known_row c.self.inside.cores) row.core ∙ known)
 
 pub returns-clause-leaves : goal.returns-clause-leaves
 returns-clause-leaves c = subst (λ (s : SimModel). Leaves s.cores c.repeat.new.self c.in_ok-row.row) c.self.view_is c.in_ok-row.ensures.leaves

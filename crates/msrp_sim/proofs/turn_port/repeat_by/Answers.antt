@@ -1,0 +1,31 @@
+use Rattle.std.proofs.Common.{◌≡◌, Option, Some, None, IfSome, refl, ap, sym, ◌∙◌, subst, cond}
+use Rattle.std.specs.Option.{option_or}
+use Rattle.std.proofs.lemmas.Option.{none-some}
+use Rattle.msrp_plan.specs.declared.rows.Row.{Row}
+use Rattle.msrp_core.specs.Machine.{MachineModel, next_known}
+use Rattle.msrp_sim.specs.TurnPorts.{HasRepeated, is_granted, unless_granted}
+use Rattle.msrp_sim.proofs.turn_port.repeat_by.Goals as goal
+
+-- a row on no resource is no poll
+pub returns-in-Some-clause-known : goal.returns-in-Some-clause-known
+returns-in-Some-clause-known c =
+    let x = c.args.machine.now in
+    let r = c.in-Some.row in
+    let is : next_known x ≡ Some r = ap (λ o. option_or o x.spin) (sym c.repeat.ensures.known ∙ c.in-Some.is) in
+    sym (ap (unless_granted c.args.queues.now x.core) is ∙ ap (λ g. cond (is_granted c.args.queues.now x.core g r.kind) None (Some r)) c.in-Some.ensures.res)
+
+pub returns-in-Some-clause-repeated : goal.returns-in-Some-clause-repeated
+returns-in-Some-clause-repeated c = record {
+  call = None;
+  turned = record {
+    plan = c.repeat.ensures.plan;
+    core = c.repeat.ensures.core;
+    tick = c.in-Some.ensures.tick;
+    row = c.in-Some.ensures.row;
+    stands = c.in-Some.ensures.stands;
+    again = c.in-Some.ensures.again;
+    call = λ res e global. absurd (none-some res (sym c.in-Some.ensures.res ∙ e));
+    quiet = λ q. (refl, c.repeat.ensures.phase);
+  };
+  vain = λ e h. absurd (none-some e h);
+}
