@@ -108,9 +108,9 @@ impl Order {
         self.core_at(plan, &at)
     }
 
-    /// The core that has the turn which stands here. Nothing is divided where the cores rise or fall.
-    #[inline(always)]
-    pub(crate) fn core_at(&self, plan: &Plan, at: &TickPlace) -> CoreId
+    // The core that has the turn which stands here, in whatever order. Nothing is divided where the cores rise or fall.
+    #[inline(never)]
+    fn core_in_order(&self, plan: &Plan, at: &TickPlace) -> CoreId
         requires place { at.now.place < plan.now.cores }
         requires tick { at.now.tick < plan.now.ticks }
         requires order { IsOrder plan.now (cores_of self.now plan.now) }
@@ -123,5 +123,19 @@ impl Order {
             Order::Rot => (at.tick + at.place) % cores,
             Order::Given(list) => listed(list.as_slice(), cores, at),
         })
+    }
+
+    /// The core that has the turn which stands here: its place, where the cores rise.
+    #[inline(always)]
+    pub(crate) fn core_at(&self, plan: &Plan, at: &TickPlace) -> CoreId
+        requires place { at.now.place < plan.now.cores }
+        requires tick { at.now.tick < plan.now.ticks }
+        requires order { IsOrder plan.now (cores_of self.now plan.now) }
+        ensures { result.0 ≡ slice_index_or (cores_of self.now plan.now) (at.now.tick * plan.now.cores + at.now.place) 0 }
+    {
+        match self {
+            Order::Asc => CoreId(at.place),
+            _ => self.core_in_order(plan, at),
+        }
     }
 }

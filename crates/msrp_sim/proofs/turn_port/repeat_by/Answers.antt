@@ -1,9 +1,8 @@
-use Rattle.std.proofs.Common.{◌≡◌, Option, Some, None, IfSome, refl, ap, sym, ◌∙◌, subst, cond}
+use Rattle.std.proofs.Common.{◌≡◌, Some, None, refl, ap, sym, ◌∙◌, cond}
 use Rattle.std.specs.Option.{option_or}
 use Rattle.std.proofs.lemmas.Option.{none-some}
-use Rattle.msrp_plan.specs.declared.rows.Row.{Row}
-use Rattle.msrp_core.specs.Machine.{MachineModel, next_known}
-use Rattle.msrp_sim.specs.TurnPorts.{HasRepeated, is_granted, unless_granted}
+use Rattle.msrp_core.specs.Machine.{next_known}
+use Rattle.msrp_sim.specs.TurnPorts.{is_granted, unless_granted}
 use Rattle.msrp_sim.proofs.turn_port.repeat_by.Goals as goal
 
 -- a row on no resource is no poll

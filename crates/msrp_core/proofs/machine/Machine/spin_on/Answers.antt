@@ -1,4 +1,4 @@
-use Rattle.std.proofs.Common.{◌+◌, ◌++◌, ◌∷◌, [], ◌≡◌, Some, ap, sym, ◌∙◌, subst, refl}
+use Rattle.std.proofs.Common.{◌+◌, ◌++◌, ◌∷◌, [], ◌≡◌, Some, ap, sym, ◌∙◌, subst}
 use Rattle.std.proofs.lemmas.Option.{none-some, same_Some}
 use Rattle.msrp_plan.specs.Runs.{IsCoreTurn}
 use Rattle.msrp_plan.specs.declared.ids.CoreId.{CoreId}
