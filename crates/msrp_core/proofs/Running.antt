@@ -1,9 +1,9 @@
 -- What is stored of the jobs of a core: who runs, who is chosen, and a job that starts.
-use Rattle.std.proofs.Common.{◌≡◌, ◌≢◌, ℕ, ◌+◌, ◌<◌, ◌≤◌, ◌==◌, Bool, true, false, cond, not, nat_eq, nat_lt, max, ◌⊎◌, ◌&&◌, ◌||◌, List, [], ◌∷◌, ◌++◌, Option, Some, None, refl, ap, sym, ◌∙◌, subst, arith, length, length-append, map, reverse, inl, inr, get_or, ◌-◌, Vec, Global, vec_capacity}
+use Rattle.std.proofs.Common.{◌≡◌, ◌≢◌, ℕ, ◌+◌, ◌<◌, ◌≤◌, ◌==◌, Bool, true, false, cond, not, nat_eq, nat_lt, max, ◌⊎◌, ◌&&◌, ◌||◌, List, [], ◌∷◌, ◌++◌, Option, Some, None, refl, ap, sym, ◌∙◌, subst, arith, length, length-append, map, reverse, inl, inr, get_or, ◌-◌, Vec, Global, vec_capacity, set}
 use Rattle.std.specs.List.{list_any, filter, AllByRecursion, Contains, IsDistinct}
 use Rattle.std.specs.Cmp.{IsEquivalence}
 use Rattle.std.proofs.Math.Bool.{true≢false, and-true, or-true, or-false}
-use Rattle.std.proofs.Math.Seq.{get_or-append_seam}
+use Rattle.std.proofs.Math.Seq.{get_or-append_seam, set-append_seam}
 use Rattle.std.proofs.lemmas.Bool.{cases_Bool, eqb-true, ltb-true, and_parts, false_from_ne_true, not-true, or_parts, eq-eqb}
 use Rattle.std.proofs.lemmas.Map.Made.{length-le_from_is_member}
 use Rattle.std.proofs.lemmas.List.{length-reverse, length-map}
@@ -375,6 +375,16 @@ advanced_push jobs front n s below done items e more pushed =
     ∙ (ap (λ k. mk s.job s.held (k + 1) (active_of x.1 (reverse front))) (sym p.0)
     ∙ (ap (mk s.job s.held (s.done + 1)) x.5
     ∙ sym (ap (advanced jobs.plan.now) e ∙ ap (λ b. cond b below (record s { done = s.done + 1 } ∷ below)) off))))))
+
+pub advanced_last : (jobs : Jobs) (s : ActiveJob) (below : List ActiveJob) (at n : ℕ) → length jobs.stack.started ≡ length jobs.done.items → active_in jobs ≡ s ∷ below → s.done + 1 ≢ length (units jobs.plan.now s.job) → at ≡ length jobs.done.items - 1 → n ≡ s.done + 1
+    → active_of jobs.stack.started (reverse (set jobs.done.items at n)) ≡ advanced jobs.plan.now (active_in jobs)
+advanced_last jobs s below at n size e more last next =
+    let x = ends_in jobs.done.items (some_done jobs s below size e) in
+    let d = (popped jobs x.front x.last s below x.is e).0 in
+    let place : at ≡ length x.front = let l = ap length x.is in let m = length-append x.front (x.last ∷ []) in omega (arith, l, m, last) in
+    let put : set jobs.done.items at n ≡ x.front ++ (x.last + 1) ∷ [] =
+    ap (λ l. set l at n) x.is ∙ (ap (λ k. set (x.front ++ x.last ∷ []) k n) place ∙ (set-append_seam x.front x.last [] n ∙ ap (λ k. x.front ++ k ∷ []) (next ∙ ap (λ k. k + 1) d))) in
+    advanced_push jobs x.front x.last s below (set jobs.done.items at n) x.is e (λ h. more (ap (λ k. k + 1) d ∙ h)) put
 
 -- what decides the choice, as it is stored
 pub state_told : (jobs : Jobs) (tick : ℕ) (log : List Row) (s : CoreState) → AreJobs jobs → s.running ≡ stack.top jobs.stack → s.head ≡ first_ready jobs.ready.plan jobs.ready.core tick (is_among jobs.ready.taken) → s.ceiling ≡ current_ceiling jobs.stack

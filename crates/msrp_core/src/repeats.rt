@@ -85,9 +85,8 @@ impl<'a> Jobs<'a> {
         ensures stack { self.new.stack ≡ self.old.stack }
         ensures others { self.new ≡ record self.old { stack = self.new.stack; done = self.new.done } }
     {
-        if let Some(done) = self.done.pop() {
-            self.done.push_reserved(done + 1);
-        }
+        let newest = self.done.len() - 1;
+        self.done[newest] += 1;
     }
 
     // A unit of work that isn't the last one of the running job.
