@@ -2,7 +2,7 @@
 use Rattle.std.proofs.Common.{◌≡◌, ◌≢◌, ℕ, ◌<◌, ◌+◌, ◌==◌, true, false, not, List, [], Option, Some, None, IfSome, refl, ap, sym, ◌∙◌, subst, arith, ◌⊎◌, inl, inr, eqb-true, length, slice_get}
 use Rattle.std.specs.List.{Contains}
 use Rattle.std.proofs.Math.Bool.{true≢false}
-use Rattle.std.proofs.lemmas.Bool.{and_from, and_parts, true_from_ne_false, cases_Bool, eqb-false}
+use Rattle.std.proofs.lemmas.Bool.{and_from, and_parts, true_from_ne_false, cases_Bool, cases_lt, eqb-false}
 use Rattle.msrp_plan.specs.Plan.{PlanModel, core_of, task_at, task_of}
 use Rattle.msrp_plan.specs.Jobs.{jobs, jobs_of, jobs_on, job_at, is_job, is_started, is_finished}
 use Rattle.msrp_plan.specs.Choice.{is_before, comes_first}
@@ -21,7 +21,7 @@ use Rattle.msrp_plan.proofs.Jobs.JobTests.{is_job_is, same_self, some_is}
 use Rattle.msrp_plan.proofs.Jobs.Keys.{before_order, tied}
 use Rattle.msrp_plan.proofs.Legality.LegalRows.{legal_turn, turn_chosen}
 use Rattle.msrp_plan.proofs.Lists.LeastKept.{irrefl, least_in, least_of_those, least_passes, least_some}
-use Rattle.msrp_report.specs.Inside.Tallies.{AreTallies, IsFirstOf, IsKnown, NotBefore, is_active, is_later_active}
+use Rattle.msrp_report.specs.Inside.Tallies.{AreTallies, IsFirstOf, IsKnown, NotBefore, is_active, is_later_active, IsTaskFrom}
 use Rattle.msrp_report.specs.declared.tallies.TaskTally.{TaskTally}
 use Rattle.msrp_report.proofs.JobTallies.{in_task, job_known, number_within, of_task}
 use Rattle.msrp_levels.proofs.PlanJobs.{job_in}
@@ -46,6 +46,13 @@ sole plan pre r i j active ok all legal job there task gi gj live_j other =
           let l = runs_live plan r.core.0 pre i runs in
           other (some_is i j (sym (is_job_is active i (gi ∙ live plan pre i l.0 l.1)) ∙ is_job_is active j (gj ∙ live_j)))
     ]
+
+-- whoever has the turn and is started is active
+pub turn_active : (plan : PlanModel) (pre : List Row) (r : Row) (i : JobId) → IsLegal plan pre r → r.job ≡ Some i → is_started pre i ≡ true → is_active plan pre i ≡ true
+turn_active plan pre r i legal job started = elim (has_turn plan r.core.0 r.tick pre i (turn_chosen plan pre r i (legal_turn plan pre r legal) job)) [
+  | inl new ↦ absurd (true≢false (sym started ∙ (head_ready plan r.core.0 r.tick pre i new.first).1))
+  | inr runs ↦ let l = runs_live plan r.core.0 pre i runs in live plan pre i l.0 l.1
+]
 
 -- ---- the first of the later jobs that are active
 -- one task more, whose job isn't the first
@@ -103,8 +110,19 @@ pub step_none : (plan : PlanModel) (rows : List Row) (begun : ℕ → ℕ) (task
 step_none plan rows begun tasks x j n o ok are has none old = first_kept plan rows j n o old (λ i at there p.
     absurd (none_some i (sym none ∙ one_active plan rows begun tasks x n i ok are has at (on_plan plan (core_of plan j) i there) (and_parts (is_active plan rows i) (is_before plan j i) p).0)))
 
-pub step_core : (plan : PlanModel) (rows : List Row) (j : JobId) (n : ℕ) (o : Option JobId) → (task_at plan n).core ≢ core_of plan j → IsFirstOf plan rows j n o → IsFirstOf plan rows j (n + 1) o
-step_core plan rows j n o ne old = first_kept plan rows j n o old (λ i at there p. absurd (ne (ap (λ t. (task_at plan t).core) (sym at) ∙ on_its_core plan (core_of plan j) i there)))
+-- of no task there is none
+pub first_none : (plan : PlanModel) (rows : List Row) (j : JobId) → IsFirstOf plan rows j 0 None
+first_none plan rows j = record { known = λ f e. absurd (none_some f e); least = λ i l there p. absurd (omega (arith, l)) }
+
+-- up to the next task of the core
+pub step_core : (plan : PlanModel) (rows : List Row) (j : JobId) (n t : ℕ) (o : Option JobId) → IsTaskFrom plan (core_of plan j) n t → IsFirstOf plan rows j n o → IsFirstOf plan rows j t o
+step_core plan rows j n t o from old = record {
+  known = old.known;
+  least = λ i l there p. elim (cases_lt i.task.0 n) [
+    | inl below ↦ old.least i below there p
+    | inr past ↦ absurd (from.others i.task.0 past l (on_its_core plan (core_of plan j) i there))
+  ];
+}
 
 pub step_early : (plan : PlanModel) (rows : List Row) (begun : ℕ → ℕ) (tasks : List TaskTally) (x : TaskTally) (j k : JobId) (n : ℕ) (o : Option JobId) → IsPlan plan → AreTallies plan rows begun tasks → slice_get tasks n ≡ Some x → x.active ≡ Some k → is_before plan j k ≡ false → IsFirstOf plan rows j n o → IsFirstOf plan rows j (n + 1) o
 step_early plan rows begun tasks x j k n o ok are has goes early old = first_kept plan rows j n o old (λ i at there p.

@@ -1,11 +1,12 @@
 -- What is counted of a job, row by row, is what the rows tell of it.
-use Rattle.std.proofs.Common.{◌≡◌, ℕ, ◌≤◌, ◌+◌, Bool, true, false, not, ◌&&◌, cond, List, [], ◌∷◌, ◌++◌, Option, Some, None, refl, ap, sym, ◌∙◌, arith, length, count_by, fold, max, unwrap_or, add_assoc, zero-add, add-zero, append-nil}
+use Rattle.std.proofs.Common.{◌≡◌, ◌≢◌, ℕ, ◌≤◌, ◌+◌, Bool, true, false, not, ◌&&◌, cond, List, [], ◌∷◌, ◌++◌, Option, Some, None, refl, ap, sym, ◌∙◌, arith, length, count_by, fold, max, unwrap_or, add_assoc, zero-add, add-zero, append-nil}
 use Rattle.std.specs.List.{filter}
+use Rattle.std.proofs.lemmas.Bool.{or_parts, true_from_ne_false}
 use Rattle.std.proofs.lemmas.List.Sums.{sum_by-cons, fold_push, count_by-le-length}
 use Rattle.std.proofs.lemmas.List.Folds.{fold_along}
 use Rattle.std.proofs.lemmas.List.Elements.{filter-append}
 use Rattle.msrp_plan.specs.Shape.{is_queue}
-use Rattle.msrp_plan.specs.Jobs.{is_row_of, is_waiting, done}
+use Rattle.msrp_plan.specs.Jobs.{is_row_of, is_started, is_waiting, done}
 use Rattle.msrp_plan.specs.Laws.{is_grant, is_spin, is_spin_of}
 use Rattle.msrp_plan.specs.declared.ids.JobId.{JobId}
 use Rattle.msrp_plan.specs.declared.rows.Kind.{Kind}
@@ -120,6 +121,33 @@ few_from j c (r ∷ rows) h = by_test (λ d k. few_from j d rows k) (is_row_of j
         → unwrap_or (fold (λ c r. counted r c) c (cond b (r ∷ filter (is_row_of j) rows) (filter (is_row_of j) rows))).wait 0 ≤ (fold (λ c r. counted r c) c (cond b (r ∷ filter (is_row_of j) rows) (filter (is_row_of j) rows))).spins
     by_test ih true = ih (counted r c) (wait_few r.kind c.wait c.spins h)
     by_test ih false = ih c h
+
+-- no wait is longer than the longest
+within_from : (j : JobId) (c : JobCount) (rows : List Row) → unwrap_or c.wait 0 ≤ c.longest_wait → unwrap_or (after j c rows).wait 0 ≤ (after j c rows).longest_wait
+within_from j c [] h = h
+within_from j c (r ∷ rows) h = by_test (λ d k. within_from j d rows k) (is_row_of j r)
+  where
+    by_test : ((d : JobCount) → unwrap_or d.wait 0 ≤ d.longest_wait → unwrap_or (after j d rows).wait 0 ≤ (after j d rows).longest_wait) → (b : Bool)
+        → unwrap_or (fold (λ c r. counted r c) c (cond b (r ∷ filter (is_row_of j) rows) (filter (is_row_of j) rows))).wait 0 ≤ (fold (λ c r. counted r c) c (cond b (r ∷ filter (is_row_of j) rows) (filter (is_row_of j) rows))).longest_wait
+    by_test ih true = ih (counted r c) (omega arith)
+    by_test ih false = ih c h
+
+pub wait_within : (rows : List Row) (j : JobId) → unwrap_or (count_of rows j).wait 0 ≤ (count_of rows j).longest_wait
+unfolding count_of
+wait_within rows j = within_from j uncounted rows (omega arith)
+
+-- a job that has a row is started
+fresh_rows : (rows : List Row) (j : JobId) → is_started rows j ≡ false → count_by (is_row_of j) rows ≡ 0
+fresh_rows [] j e = refl
+fresh_rows (r ∷ rows) j e =
+    let parts = or_parts (is_row_of j r) (is_started rows j) e in
+    let more = fresh_rows rows j parts.1 in
+    let one : cond {A = ℕ} (is_row_of j r) 1 0 ≡ 0 = ap (λ b. cond {A = ℕ} b 1 0) parts.0 in
+    let sum : count_by (is_row_of j) (r ∷ rows) ≡ cond (is_row_of j r) 1 0 + count_by (is_row_of j) rows = sum_by-cons (λ x. cond (is_row_of j x) 1 0) r rows in
+    omega (arith, one, more, sum)
+
+pub rows_started : (rows : List Row) (j : JobId) (n : ℕ) → n ≡ (count_of rows j).rows → n ≢ 0 → is_started rows j ≡ true
+rows_started rows j n is some = true_from_ne_false (is_started rows j) (λ e. some (is ∙ (rows_is rows j ∙ fresh_rows rows j e)))
 
 -- no count is greater than the number of rows
 pub record AreFew (n : ℕ) (c : JobCount) : Type 0 where

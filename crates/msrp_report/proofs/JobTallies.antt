@@ -24,7 +24,7 @@ use Rattle.msrp_report.specs.Inside.Counts.{count_of, HasRoom}
 use Rattle.msrp_report.specs.Lines.{last_tick}
 use Rattle.msrp_report.specs.declared.counts.JobCount.{JobCount}
 use Rattle.msrp_report.specs.declared.tallies.Tallies.{Tallies}
-use Rattle.msrp_report.proofs.JobCounts.{AreFew, counts_few, last_is}
+use Rattle.msrp_report.proofs.JobCounts.{AreFew, counts_few, last_is, wait_within}
 use Rattle.msrp_report.specs.Inside.Tallies.{AreTallies, HasTallied, IsBlocking, IsJobTally, IsKnown, IsTallyOf, ToldOf, WaitsFor}
 use Rattle.msrp_report.specs.declared.numbers.JobNumbers.{JobNumbers}
 use Rattle.msrp_report.specs.declared.tallies.Blocking.TheVariants.{Over, By}
@@ -112,6 +112,7 @@ pub record CanCount (c : JobCount) : Type 0 where
   pub done : c.done + 1 < 2 ^ 32
   pub spins : c.spins + 1 < 2 ^ 32
   pub wait : HasRoom c.wait
+  pub longest : unwrap_or c.wait 0 ≤ c.longest_wait
 
 pub can_count : (plan : PlanModel) (rows : List Row) (j : JobId) (c : JobCount) → IsPlan plan → IsRunStart plan rows → c ≡ count_of rows j → CanCount c
 can_count plan rows j c ok start is =
@@ -120,7 +121,7 @@ can_count plan rows j c ok start is =
     let r = few.rows in
     let d = few.done in
     let s = few.spins in
-    record { rows = omega (arith, r, size); done = omega (arith, d, size); spins = omega (arith, s, size); wait = room c.wait few.wait }
+    record { rows = omega (arith, r, size); done = omega (arith, d, size); spins = omega (arith, s, size); wait = room c.wait few.wait; longest = subst (λ (x : JobCount). unwrap_or x.wait 0 ≤ x.longest_wait) (sym is) (wait_within rows j) }
   where
     room : (w : Option ℕ) → unwrap_or w 0 ≤ length rows → HasRoom w
     room None h = tt

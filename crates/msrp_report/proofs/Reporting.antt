@@ -15,10 +15,10 @@ use Rattle.msrp_plan.specs.declared.faults.Fault.{Fault}
 use Rattle.msrp_plan.specs.declared.faults.Rule.{Rule}
 use Rattle.msrp_plan.specs.declared.faults.Rule.TheVariants.{A7}
 use Rattle.msrp_plan.specs.declared.rows.Row.{Row}
-use Rattle.msrp_plan.proofs.Runs.Verdicts.{early_is, fault_push, fault_stays, good_is_run, start_is_good, start_push, unbroken_is_legal}
+use Rattle.msrp_plan.proofs.Runs.Verdicts.{fault_push, fault_stays, good_is_run, run_before, start_is_good, start_push, unbroken_is_legal}
 use Rattle.msrp_report.specs.Inside.Tallies.{HasTallied}
 use Rattle.msrp_report.specs.Lines.{line_of}
-use Rattle.msrp_report.specs.Reports.{HasReported}
+use Rattle.msrp_report.specs.Reports.{HasCounted, HasReported}
 use Rattle.msrp_report.specs.declared.lines.Line.{Line}
 use Rattle.msrp_report.specs.declared.reporter.Reporter.{Reporter}
 use Rattle.msrp_report.proofs.LineJobs.{all_blocked_kept, run_starts, spins_kept}
@@ -51,41 +51,33 @@ none_before plan rows r (Some f) e good = absurd (cc_none (sym (fault_stays plan
     cc_none : Some f ≡ None → ⊥
     cc_none h = cc
 
--- so they are tallied
-pub told_before : (r : Reporter) (rows : List Row) (row : Row) → HasReported r rows → fault_in r.plan.now (rows ++ row ∷ []) ≡ None → HasTallied r.plan.now rows r.tallies
-told_before r rows row is good = is.told (is.fed.fault ∙ none_before r.auditor.plan rows row (fault_in r.auditor.plan rows) refl (ap (λ p. fault_in p (rows ++ row ∷ [])) is.plan ∙ good))
+-- so they are counted
+pub counted_before : (r : Reporter) (rows : List Row) (row : Row) → HasReported r rows → fault_in r.plan.now (rows ++ row ∷ []) ≡ None → HasCounted r.counter rows
+counted_before r rows row is good = is.counted (is.fed.fault ∙ none_before r.auditor.plan rows row (fault_in r.auditor.plan rows) refl (ap (λ p. fault_in p (rows ++ row ∷ [])) is.plan ∙ good))
 
 pub good_row : (r : Reporter) (rows : List Row) (row : Row) (good : ⊤) → HasReported r rows → Ok good ≡ answer_of (fault_in r.auditor.plan (rows ++ row ∷ [])) → fault_in r.plan.now (rows ++ row ∷ []) ≡ None
 good_row r rows row good is e = ap (λ p. fault_in p (rows ++ row ∷ [])) (sym is.plan) ∙ good_told _ good e
 
--- the reporter with the row
-pub fed_good : (old new : Reporter) (rows : List Row) (row : Row) → HasReported old rows → new.plan ≡ old.plan → new.levels ≡ old.levels → new.lines ≡ old.lines → new.auditor.plan ≡ old.auditor.plan → HasFed new.auditor (rows ++ row ∷ []) → HasTallied old.plan.now (rows ++ row ∷ []) new.tallies → HasReported new (rows ++ row ∷ [])
-fed_good old new rows row is plan levels lines same fed told = record {
-  accepted = subst (λ p. IsPlan p.now) (sym plan) is.accepted;
-  levels = ap (λ l. l.now) levels ∙ (is.levels ∙ ap (λ p. p.now) (sym plan));
-  plan = same ∙ (is.plan ∙ ap (λ p. p.now) (sym plan));
-  fed = fed;
-  told = λ _. subst (λ p. HasTallied p.now (rows ++ row ∷ []) new.tallies) (sym plan) told;
-  lines = ap (λ l. l.items) lines ∙ is.lines;
-  room = subst (λ p. length p.now.tasks ≤ vec_capacity new.lines) (sym plan) (subst (λ l. length old.plan.now.tasks ≤ vec_capacity l) (sym lines) is.room);
-}
+-- a row may be counted after rows that are counted, if it is without a fault
+pub counter_good : (r : Reporter) (rows : List Row) (row : Row) → HasReported r rows → fault_in r.plan.now (rows ++ row ∷ []) ≡ None → fault_in r.counter.plan.now (rows ++ row ∷ []) ≡ None
+counter_good r rows row is good = ap (λ p. fault_in p (rows ++ row ∷ [])) is.counted_plan ∙ good
 
 -- ---- at the end
 pub ends_good : (r : Reporter) (rows : List Row) (good : ⊤) → HasReported r rows → Ok good ≡ answer_of (verdict r.auditor.plan rows) → IsRun r.plan.now rows
 ends_good r rows good is e = good_is_run r.plan.now rows (ap (λ p. verdict p rows) (sym is.plan) ∙ good_told _ good e)
 
--- a legal run has no fault, so it is tallied
-pub run_told : (r : Reporter) (rows : List Row) → HasReported r rows → IsRun r.plan.now rows → HasTallied r.plan.now rows r.tallies
-run_told r rows is run = is.told (is.fed.fault ∙ (ap (λ p. fault_in p rows) is.plan ∙ start_is_good r.plan.now rows (run_starts r.plan.now rows run)))
+-- a legal run has no fault, so it is counted
+pub run_counted : (r : Reporter) (rows : List Row) → HasReported r rows → IsRun r.plan.now rows → HasCounted r.counter rows
+run_counted r rows is run = is.counted (is.fed.fault ∙ (ap (λ p. fault_in p rows) is.plan ∙ start_is_good r.plan.now rows (run_starts r.plan.now rows run)))
 
--- the lines of a run keep the bounds
-pub spins_bounded : (plan : PlanModel) (rows : List Row) (lines : List Line) (n : ℕ) → IsPlan plan → IsRun plan rows → n ≡ length plan.tasks → lines ≡ map (line_of plan rows) (range_with_len 0 n) → All (λ (l : Line). l.worst_spin ≤ l.spin_bound) lines
-spins_bounded plan rows lines n ok run all e =
-    subst (All (λ (l : Line). l.worst_spin ≤ l.spin_bound)) (sym (e ∙ ap (λ k. map (line_of plan rows) (range_with_len 0 k)) all)) (All-from_recursion (λ (l : Line). l.worst_spin ≤ l.spin_bound) _ (spins_kept plan rows ok (run_starts plan rows run)))
+-- the lines of rows without a fault keep the bounds
+pub spins_bounded : (plan : PlanModel) (rows : List Row) (lines : List Line) (n : ℕ) → IsPlan plan → IsRunStart plan rows → n ≡ length plan.tasks → lines ≡ map (line_of plan rows) (range_with_len 0 n) → All (λ (l : Line). l.worst_spin ≤ l.spin_bound) lines
+spins_bounded plan rows lines n ok start all e =
+    subst (All (λ (l : Line). l.worst_spin ≤ l.spin_bound)) (sym (e ∙ ap (λ k. map (line_of plan rows) (range_with_len 0 k)) all)) (All-from_recursion (λ (l : Line). l.worst_spin ≤ l.spin_bound) _ (spins_kept plan rows ok start))
 
-pub blocked_bounded : (plan : PlanModel) (rows : List Row) (lines : List Line) (n : ℕ) → IsPlan plan → IsRun plan rows → n ≡ length plan.tasks → lines ≡ map (line_of plan rows) (range_with_len 0 n) → All (λ (l : Line). l.worst_blocked ≤ l.blocked_bound) lines
-blocked_bounded plan rows lines n ok run all e =
-    subst (All (λ (l : Line). l.worst_blocked ≤ l.blocked_bound)) (sym (e ∙ ap (λ k. map (line_of plan rows) (range_with_len 0 k)) all)) (All-from_recursion (λ (l : Line). l.worst_blocked ≤ l.blocked_bound) _ (all_blocked_kept plan rows ok (run_starts plan rows run)))
+pub blocked_bounded : (plan : PlanModel) (rows : List Row) (lines : List Line) (n : ℕ) → IsPlan plan → IsRunStart plan rows → n ≡ length plan.tasks → lines ≡ map (line_of plan rows) (range_with_len 0 n) → All (λ (l : Line). l.worst_blocked ≤ l.blocked_bound) lines
+blocked_bounded plan rows lines n ok start all e =
+    subst (All (λ (l : Line). l.worst_blocked ≤ l.blocked_bound)) (sym (e ∙ ap (λ k. map (line_of plan rows) (range_with_len 0 k)) all)) (All-from_recursion (λ (l : Line). l.worst_blocked ≤ l.blocked_bound) _ (all_blocked_kept plan rows ok start))
 
 -- ---- the rows of a trace, in turn
 -- one more
@@ -94,8 +86,6 @@ one_more rows items i r same l is =
     let P : List Row → Type 0 = λ xs. take (i + 1) xs ≡ take i xs ++ r ∷ [] in
     subst P same (take_more items i r l ∙ ap (λ x. take i items ++ x ∷ []) (sym is))
 
--- a fault of the first rows is the verdict
-pub found_early : (plan own : PlanModel) (rows part : List Row) (n : ℕ) (f : Fault) → own ≡ plan → take n rows ≡ part → Err f ≡ answer_of (fault_in own part) → verdict plan rows ≡ Some f
-found_early plan own rows part n f same is h =
-    let now : fault_in plan (take n rows) ≡ Some f = fault_told (fault_in plan (take n rows)) f (h ∙ ap answer_of (ap (λ p. fault_in p part) same ∙ ap (fault_in plan) (sym is))) in
-    early_is plan rows f (subst (λ l. fault_in plan l ≡ Some f) (take-append-drop n rows) (fault_stays plan (take n rows) (drop n rows) f now))
+-- rows of a run have no fault with the next one
+pub part_good : (plan : PlanModel) (rows part : List Row) (n : ℕ) → IsRun plan rows → take n rows ≡ part → fault_in plan part ≡ None
+part_good plan rows part n run is = start_is_good plan part (subst (IsRunStart plan) is (run_before plan (take n rows) (drop n rows) (subst (IsRun plan) (sym (take-append-drop n rows)) run)))

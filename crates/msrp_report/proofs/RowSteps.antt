@@ -7,7 +7,7 @@ use Rattle.std.proofs.lemmas.List.{length-set}
 use Rattle.std.proofs.lemmas.Nat.{div_below, le-div}
 use Rattle.std.proofs.lemmas.Option.{slice_get_within, same_Some}
 use Rattle.msrp_plan.specs.Plan.{PlanModel, task_at, core_of, units}
-use Rattle.msrp_plan.specs.Jobs.{jobs, jobs_of, job_at, is_job, is_row_of, same_job, is_finished}
+use Rattle.msrp_plan.specs.Jobs.{jobs, jobs_of, job_at, is_job, is_row_of, same_job, is_started, is_finished}
 use Rattle.msrp_plan.specs.Blocking.{blocked}
 use Rattle.msrp_plan.specs.Runs.{IsLegal, IsRunStart}
 use Rattle.msrp_plan.specs.Scheduling.{IsOfReleased}
@@ -17,7 +17,7 @@ use Rattle.msrp_plan.specs.declared.rows.Row.{Row}
 use Rattle.msrp_plan.proofs.Blocking.Heads.{job_on}
 use Rattle.msrp_plan.proofs.Blocking.OneSection.{tick_grows}
 use Rattle.msrp_plan.proofs.Choosing.Live.{live_kept}
-use Rattle.msrp_plan.proofs.Jobs.JobTests.{row_of_job, same_is, same_self}
+use Rattle.msrp_plan.proofs.Jobs.JobTests.{is_job_is, row_of_job, same_is, same_self}
 use Rattle.msrp_plan.proofs.Legality.LegalRows.{legal_due, legal_turn, turn_core}
 use Rattle.msrp_plan.proofs.Lists.AnyAll.{all_push, all_weaker}
 use Rattle.msrp_plan.proofs.Lists.Members.{kept_by}
@@ -25,17 +25,17 @@ use Rattle.msrp_plan.proofs.Lists.Prefixes.{each_at, each_before}
 use Rattle.msrp_plan.proofs.Scheduling.Released.{runs_released}
 use Rattle.msrp_sim.proofs.Standing.{get_set_same, get_set_other}
 use Rattle.msrp_report.specs.Inside.Counts.{counted, count_of}
-use Rattle.msrp_report.specs.Inside.Tallies.{AreTallies, HaveBegun, IsJobTally, IsNextOf, IsTaskTally, ToldOf, release_or_end, is_active}
+use Rattle.msrp_report.specs.Inside.Tallies.{AreFacts, AreTallies, HaveBegun, IsJobTally, IsNextOf, IsTaskTally, ToldOf, release_or_end, is_active}
 use Rattle.msrp_report.specs.declared.counts.JobCount.{JobCount}
 use Rattle.msrp_report.specs.declared.tallies.Blocking.TheVariants.{Over}
 use Rattle.msrp_report.specs.declared.tallies.JobTally.{JobTally}
 use Rattle.msrp_report.specs.declared.tallies.TaskTally.{TaskTally}
-use Rattle.msrp_report.proofs.Active.{sole}
+use Rattle.msrp_report.proofs.Active.{sole, turn_active}
 use Rattle.msrp_report.proofs.JobCounts.{count_push, done_is}
 use Rattle.msrp_report.proofs.JobTallies.{in_task, of_task}
 use Rattle.msrp_levels.proofs.PlanJobs.{job_in}
 use Rattle.msrp_report.proofs.TallySteps.{due_before}
-use Rattle.msrp_report.proofs.Waiting.{IsTimely, blocking_more, own_over, started_push}
+use Rattle.msrp_report.proofs.Waiting.{IsTimely, blocking_more, own_over, started_over, started_push}
 use Rattle.msrp_plan.proofs.Runs.Verdicts.{start_last}
 
 -- ---- ticks
@@ -106,6 +106,7 @@ job_other plan rows r released j s time other is = record {
 task_other : (plan : PlanModel) (rows : List Row) (r : Row) (begun t : ℕ) (x : TaskTally) → IsPlan plan → t < length plan.tasks → IsNextOf plan rows r begun → ((j : JobId) → j.task.0 ≡ t → is_row_of j r ≡ false) → IsTaskTally plan rows begun t x → IsTaskTally plan (rows ++ r ∷ []) begun t x
 task_other plan rows r begun t x ok task next none is = record {
   size = is.size;
+  facts = is.facts;
   fits = is.fits;
   past = is.past;
   due = is.due;
@@ -121,6 +122,7 @@ task_other plan rows r begun t x ok task next none is = record {
 pub record IsCounted (plan : PlanModel) (old new : TaskTally) (r : Row) (i : JobId) (s : JobTally) (n : ℕ) : Type 0 where
   pub was : slice_get old.jobs.items i.k ≡ Some s
   pub jobs_set : new.jobs.items ≡ slice_set old.jobs.items i.k (record { count = counted r s.count; blocking = Over n })
+  pub facts : new.facts ≡ old.facts
   pub released : new.released ≡ old.released
   pub due : new.due ≡ old.due
   pub active : new.active ≡ cond ((counted r s.count).done == length (units plan i)) None (Some i)
@@ -129,6 +131,7 @@ task_counted : (plan : PlanModel) (rows : List Row) (r : Row) (begun : ℕ) (i :
     → IsTaskTally plan (rows ++ r ∷ []) begun i.task.0 new
 task_counted plan rows r begun i old new s n ok task next job is set told = record {
   size = ap length set.jobs_set ∙ (length-set old.jobs.items i.k (record { count = counted r s.count; blocking = Over n }) ∙ is.size);
+  facts = subst (AreFacts plan i.task.0) (sym set.facts) is.facts;
   fits = subst (λ m. m ≤ length (jobs_of plan i.task.0)) (sym set.released) is.fits;
   past = λ k h. is.past k (subst (λ m. k < m) set.released h);
   due = set.due ∙ (is.due ∙ ap (release_or_end plan i.task.0) (sym set.released));
@@ -203,6 +206,29 @@ task_counted plan rows r begun i old new s n ok task next job is set told = reco
         sole plan rows r i j old.active ok (each_before (IsLegal plan) [] rows (r ∷ []) next.start.each) legal job (job_on plan r.core.0 j in_plan core) (sym of.0) (is.active i (in_task plan i.task.0 i.k ok here)) (is.active j there) g ne) in
         others j (is_finished plan (rows ++ r ∷ []) i) e ∙ sym (live_kept plan rows r j other ∙ idle)
 
+-- ---- a row of a job of the task that is started
+pub record IsGrown (old new : TaskTally) (r : Row) (i : JobId) (s : JobTally) : Type 0 where
+  pub was : slice_get old.jobs.items i.k ≡ Some s
+  pub jobs_set : new.jobs.items ≡ slice_set old.jobs.items i.k (record s { count = counted r s.count })
+  pub facts : new.facts ≡ old.facts
+  pub released : new.released ≡ old.released
+  pub due : new.due ≡ old.due
+  pub active : new.active ≡ cond ((counted r s.count).done == old.facts.units) None old.active
+
+grown_is_counted : (plan : PlanModel) (rows : List Row) (r : Row) (begun : ℕ) (i : JobId) (old new : TaskTally) (s : JobTally) → IsPlan plan → IsNextOf plan rows r begun → r.job ≡ Some i → IsTaskTally plan rows begun i.task.0 old → is_started rows i ≡ true → IsGrown old new r i s → IsCounted plan old new r i s (blocked plan rows i)
+grown_is_counted plan rows r begun i old new s ok next job is started set =
+    let here : i.k < length (jobs_of plan i.task.0) = (let w = slice_get_within old.jobs.items i.k s set.was in let size = is.size in omega (arith, w, size)) in
+    let over = started_over plan rows (nat_lt i.k old.released) i s.blocking started (is.each i.k s set.was).blocking in
+    let active : old.active ≡ Some i = is_job_is old.active i (is.active i (in_task plan i.task.0 i.k ok here) ∙ turn_active plan rows r i (start_last plan rows r next.start) job started) in
+    record {
+      was = set.was;
+      jobs_set = set.jobs_set ∙ ap (λ b. slice_set old.jobs.items i.k (record { count = counted r s.count; blocking = b })) over;
+      facts = set.facts;
+      released = set.released;
+      due = set.due;
+      active = set.active ∙ (ap (λ u. cond ((counted r s.count).done == u) None old.active) is.facts.units ∙ ap (λ o. cond ((counted r s.count).done == length (units plan i)) None o) active);
+    }
+
 -- ---- all tasks
 pub tallies_idle : (plan : PlanModel) (rows : List Row) (r : Row) (begun : ℕ) (tasks : List TaskTally) → IsPlan plan → r.job ≡ None → IsNextOf plan rows r begun → AreTallies plan rows (λ _. begun) tasks → AreTallies plan (rows ++ r ∷ []) (λ _. begun) tasks
 tallies_idle plan rows r begun tasks ok job next are = record {
@@ -230,3 +256,8 @@ tallies_counted plan rows r begun tasks after i old new s n ok job next are was 
         let old_has : slice_get tasks t ≡ Some x = sym (get_set_other tasks i.task.0 t new ne) ∙ (ap (λ l. slice_get l t) (sym set) ∙ has) in
         let none : (j : JobId) → j.task.0 ≡ t → is_row_of j r ≡ false = λ j at. ap (λ o. is_job o j) job ∙ false_from_ne_true (same_job i j) (λ h. ne (sym at ∙ ap (λ (y : JobId). y.task.0) (sym (same_is i j h)))) in
         task_other plan rows r begun t x ok (let l = slice_get_within tasks t x old_has in let size = are.size in omega (arith, l, size)) next none (are.each t x old_has)
+
+pub tallies_grown : (plan : PlanModel) (rows : List Row) (r : Row) (begun : ℕ) (tasks after : List TaskTally) (i : JobId) (old new : TaskTally) (s : JobTally) → IsPlan plan → r.job ≡ Some i → IsNextOf plan rows r begun → AreTallies plan rows (λ _. begun) tasks
+    → slice_get tasks i.task.0 ≡ Some old → after ≡ slice_set tasks i.task.0 new → is_started rows i ≡ true → IsGrown old new r i s → AreTallies plan (rows ++ r ∷ []) (λ _. begun) after
+tallies_grown plan rows r begun tasks after i old new s ok job next are was set started grown =
+    tallies_counted plan rows r begun tasks after i old new s (blocked plan rows i) ok job next are was set (grown_is_counted plan rows r begun i old new s ok next job (are.each i.task.0 old was) started grown) refl

@@ -9,7 +9,7 @@ use Rattle.msrp_plan.specs.WellFormed.{IsPlan}
 use Rattle.std.proofs.lemmas.Nat.{div_below}
 use Rattle.msrp_plan.specs.declared.ids.JobId.{JobId}
 use Rattle.msrp_report.specs.Inside.Counts.{uncounted, count_of}
-use Rattle.msrp_report.specs.Inside.Tallies.{HasTallied, IsJobTally, IsTaskTally, release_or_end}
+use Rattle.msrp_report.specs.Inside.Tallies.{AreFacts, HasTallied, IsJobTally, IsTaskTally, release_or_end}
 use Rattle.msrp_report.specs.declared.tallies.Blocking.TheVariants.{Over}
 use Rattle.msrp_report.specs.declared.tallies.JobTally.{JobTally}
 use Rattle.msrp_report.specs.declared.tallies.TaskTally.{TaskTally}
@@ -23,9 +23,10 @@ pub job_untold : (plan : PlanModel) (j : JobId) → IsJobTally plan [] false j u
 unfolding count_of
 job_untold plan j = record { count = refl; blocking = record { count = refl; ahead = λ _. (refl, refl); nobody = λ e. absurd (true≢false (sym e)) } }
 
-pub task_untold : (plan : PlanModel) (t : ℕ) (x : TaskTally) → length x.jobs.items ≡ length (jobs_of plan t) → x.released ≡ 0 → x.due ≡ release_or_end plan t 0 → x.active ≡ None → ((k : ℕ) (s : JobTally) → slice_get x.jobs.items k ≡ Some s → s ≡ untold) → IsTaskTally plan [] 0 t x
-task_untold plan t x size released due active each = record {
+pub task_untold : (plan : PlanModel) (t : ℕ) (x : TaskTally) → length x.jobs.items ≡ length (jobs_of plan t) → AreFacts plan t x.facts → x.released ≡ 0 → x.due ≡ release_or_end plan t 0 → x.active ≡ None → ((k : ℕ) (s : JobTally) → slice_get x.jobs.items k ≡ Some s → s ≡ untold) → IsTaskTally plan [] 0 t x
+task_untold plan t x size facts released due active each = record {
   size = size;
+  facts = facts;
   fits = omega (arith, released);
   past = λ k h. absurd (omega (arith, h, released));
   due = due ∙ ap (release_or_end plan t) (sym released);

@@ -13,7 +13,7 @@ use Rattle.msrp_plan.specs.declared.ids.JobId.{JobId}
 use Rattle.msrp_plan.specs.declared.rows.Row.{Row}
 use Rattle.msrp_plan.proofs.Jobs.Releases.{releases_rise, task_times}
 use Rattle.msrp_sim.proofs.Standing.{get_set_same, get_set_other}
-use Rattle.msrp_report.specs.Inside.Tallies.{AreTallies, IsBlocking, IsJobTally, IsOver, NoneReleased, NoJobReleased, IsTaskTally, begun_below, blocking_by, release_or_end}
+use Rattle.msrp_report.specs.Inside.Tallies.{AreFacts, AreTallies, IsBlocking, IsJobTally, IsOver, NoneReleased, NoJobReleased, IsTaskTally, begun_below, blocking_by, release_or_end}
 use Rattle.msrp_report.specs.declared.tallies.Blocking.{Blocking}
 use Rattle.msrp_report.specs.declared.tallies.Blocking.TheVariants.{Over, By}
 use Rattle.msrp_report.specs.declared.tallies.JobTally.{JobTally}
@@ -71,6 +71,7 @@ pub record IsReleased (old new : TaskTally) (k : ℕ) (s : JobTally) (b : Blocki
   pub was : slice_get old.jobs.items k ≡ Some s
   pub number : k ≡ old.released
   pub jobs_set : new.jobs.items ≡ slice_set old.jobs.items k (record s { blocking = b })
+  pub facts : new.facts ≡ old.facts
   pub next : new.released ≡ k + 1
   pub active : new.active ≡ old.active
 
@@ -105,6 +106,7 @@ task_released plan rows begun t old new k s o ok task is due left early first se
     let length_set : length new.jobs.items ≡ length old.jobs.items = ap length set.jobs_set ∙ length-set old.jobs.items k (record s { blocking = blocking_by rows o }) in
     record {
       size = length_set ∙ size;
+      facts = subst (AreFacts plan t) (sym set.facts) is.facts;
       fits = omega (arith, next, l);
       past = λ m h. past m h now;
       due = new_due ∙ ap (release_or_end plan t) (sym next);
@@ -150,6 +152,7 @@ task_released plan rows begun t old new k s o ok task is due left early first se
 pub task_waits : (plan : PlanModel) (rows : List Row) (begun t : ℕ) (x : TaskTally) → IsTaskTally plan rows begun t x → begun < x.due → IsTaskTally plan rows (begun + 1) t x
 task_waits plan rows begun t x is due = record {
   size = is.size;
+  facts = is.facts;
   fits = is.fits;
   past = λ k h. let p = is.past k h in omega (arith, p);
   due = is.due;
@@ -206,6 +209,9 @@ at_task plan rows begun n tasks x are at = subst (λ b. IsTaskTally plan rows b 
 
 pub read_task : (plan : PlanModel) (rows : List Row) (begun : ℕ → ℕ) (n : ℕ) (tasks : List TaskTally) (x : TaskTally) → AreTallies plan rows begun tasks → n < length plan.tasks → x ≡ get_or tasks n x → slice_get tasks n ≡ Some x
 read_task plan rows begun n tasks x are task is = slice_get_read tasks (length tasks) n x refl (let size = are.size in omega (arith, task, size)) is
+
+pub facts_read : (plan : PlanModel) (rows : List Row) (begun : ℕ → ℕ) (n : ℕ) (tasks : List TaskTally) (x : TaskTally) → AreTallies plan rows begun tasks → n < length plan.tasks → x ≡ get_or tasks n x → AreFacts plan n x.facts
+facts_read plan rows begun n tasks x are task is = (are.each n x (read_task plan rows begun n tasks x are task is)).facts
 
 pub same_task : (plan : PlanModel) (rows : List Row) (begun : ℕ → ℕ) (n : ℕ) (tasks : List TaskTally) (x y : TaskTally) → AreTallies plan rows begun tasks → n < length plan.tasks → x ≡ get_or tasks n x → y ≡ get_or tasks n y → x ≡ y
 same_task plan rows begun n tasks x y are task ix iy = same_Some x y (sym (read_task plan rows begun n tasks x are task ix) ∙ read_task plan rows begun n tasks y are task iy)

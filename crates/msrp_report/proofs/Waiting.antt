@@ -154,6 +154,11 @@ own_over plan rows r released j n job mine come old = record {
   nobody = λ e fresh. absurd (true≢false (sym (started_push rows r j mine) ∙ fresh));
 }
 
+-- a job that is started is blocked by no later row
+pub started_over : (plan : PlanModel) (rows : List Row) (released : Bool) (j : JobId) (b : Blocking) → is_started rows j ≡ true → IsBlocking plan rows released j b → b ≡ Over (blocked plan rows j)
+started_over plan rows released j (Over n) s over = ap (λ m. Over m) (sym over.count)
+started_over plan rows released j (By k n) s w = absurd (true≢false (sym s ∙ w.unstarted))
+
 -- ---- at the release
 pub released_by : (plan : PlanModel) (rows : List Row) (j : JobId) → IsOver plan rows false j 0 → AllByRecursion (λ r. r.tick < release plan j) rows → (o : Option JobId) → first_later plan rows j ≡ o → IsBlocking plan rows true j (blocking_by rows o)
 released_by plan rows j old early o first = by_job o first

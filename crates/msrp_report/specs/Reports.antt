@@ -1,20 +1,35 @@
 -- A report while the rows come.
-use Rattle.std.specs.Prelude.{List, None, length, vec_capacity, ◌≡◌, ◌≤◌, []}
+use Rattle.std.specs.Prelude.{List, None, length, vec_capacity, ◌≡◌, ◌≤◌, ◌++◌, ◌∷◌, []}
 use Rattle.msrp_audit.specs.Audits.{HasFed}
+use Rattle.msrp_plan.specs.Verdict.{fault_in}
 use Rattle.msrp_plan.specs.declared.rows.Row.{Row}
 use Rattle.msrp_plan.specs.WellFormed.{IsPlan}
 use Rattle.msrp_report.specs.Inside.Tallies.{HasTallied}
+use Rattle.msrp_report.specs.declared.counter.Counter.{Counter}
 use Rattle.msrp_report.specs.declared.reporter.Reporter.{Reporter}
 
--- these rows were fed: the auditor has judged them, and while they have no fault what they tell of each job is kept
+-- these rows were counted, which have no fault: what they tell of each job is kept
+pub record HasCounted (c : Counter) (rows : List Row) : Type 0 where
+  pub accepted : IsPlan c.plan.now
+  pub levels : c.levels.now ≡ c.plan.now
+  pub told : HasTallied c.plan.now rows c.tallies
+  pub lines : c.lines.items ≡ []
+  pub room : length c.plan.now.tasks ≤ vec_capacity c.lines
+
+-- some rows were
+abbrev pub SomeCounted : Counter → Type 0
+SomeCounted c = (rows : List Row) × HasCounted c rows
+
+-- some rows were, and with this one more they have no fault
+abbrev pub MayCount : Counter → Row → Type 0
+MayCount c r = (rows : List Row) × HasCounted c rows × (fault_in c.plan.now (rows ++ r ∷ []) ≡ None)
+
+-- these rows were fed: the auditor has judged them, and while they have no fault they are counted
 pub record HasReported (r : Reporter) (rows : List Row) : Type 0 where
-  pub accepted : IsPlan r.plan.now
-  pub levels : r.levels.now ≡ r.plan.now
   pub plan : r.auditor.plan ≡ r.plan.now
+  pub counted_plan : r.counter.plan.now ≡ r.plan.now
   pub fed : HasFed r.auditor rows
-  pub told : r.auditor.fault ≡ None → HasTallied r.plan.now rows r.tallies
-  pub lines : r.lines.items ≡ []
-  pub room : length r.plan.now.tasks ≤ vec_capacity r.lines
+  pub counted : r.auditor.fault ≡ None → HasCounted r.counter rows
 
 -- some rows were
 abbrev pub SomeReported : Reporter → Type 0

@@ -1,6 +1,6 @@
 //! What the rows tell of one job, row by row.
-ghost use Rattle.std.specs.Prelude.{◌≡◌, ◌<◌, ◌+◌, ◌^◌};
-ghost use Rattle.msrp_report.specs.Inside.Counts.{counted, wait_with, HasRoom};
+ghost use Rattle.std.specs.Prelude.{◌≡◌, ◌<◌, ◌≤◌, ◌+◌, ◌^◌, unwrap_or};
+ghost use Rattle.msrp_report.specs.Inside.Counts.{counted, spun, HasRoom};
 
 use msrp_plan::{Kind, Row};
 
@@ -19,19 +19,6 @@ pub(crate) struct JobCount {
     pub(crate) longest_wait: u32,
 }
 
-// The spins of an open wait, after a row of this kind: a wait begins, goes on or ends.
-fn wait_after(kind: Kind, wait: Option<u32>) -> Option<u32>
-    requires { HasRoom wait }
-    ensures { result ≡ wait_with kind wait }
-{
-    match (kind, wait) {
-        (Kind::Queue, None) => Some(0),
-        (Kind::Spin, Some(spins)) => Some(spins + 1),
-        (Kind::Grant, _) => None,
-        _ => wait,
-    }
-}
-
 impl JobCount {
     /// A job without a row.
     pub(crate) const NONE: JobCount = JobCount {
@@ -43,39 +30,41 @@ impl JobCount {
         longest_wait: 0,
     };
 
-    /// With one row of the job more.
+    // One spin more.
     #[inline(always)]
-    pub(crate) fn with_row(self, row: Row) -> JobCount
-        requires rows { self.rows + 1 < 2 ^ 32 }
-        requires done { self.done + 1 < 2 ^ 32 }
-        requires spins { self.spins + 1 < 2 ^ 32 }
-        requires wait { HasRoom self.wait }
-        ensures { result ≡ counted row self }
+    fn spin(&mut self)
+        requires spins { self.old.spins + 1 < 2 ^ 32 }
+        requires wait { HasRoom self.old.wait }
+        requires longest { unwrap_or self.old.wait 0 ≤ self.old.longest_wait }
+        ensures { self.new ≡ spun self.old }
     {
-        // Most rows are these.
-        if let (Kind::Run, None) = (row.kind, self.wait) {
-            return JobCount {
-                rows: self.rows + 1,
-                done: self.done + 1,
-                last_tick: row.tick,
-                spins: self.spins,
-                wait: None,
-                longest_wait: self.longest_wait,
-            };
+        self.spins += 1;
+        if let Some(spins) = self.wait {
+            self.wait = Some(spins + 1);
+            self.longest_wait = self.longest_wait.max(spins + 1);
         }
-        let waits = matches!(row.kind, Kind::Queue | Kind::Spin);
-        let wait = wait_after(row.kind, self.wait);
-        JobCount {
-            rows: self.rows + 1,
-            done: if waits { self.done } else { self.done + 1 },
-            last_tick: row.tick,
-            spins: if row.kind == Kind::Spin {
-                self.spins + 1
-            } else {
-                self.spins
-            },
-            wait,
-            longest_wait: self.longest_wait.max(wait.unwrap_or(0)),
+    }
+
+    /// One row of the job more. Only what the row changes is written.
+    #[inline(always)]
+    pub(crate) fn add(&mut self, row: Row)
+        requires rows { self.old.rows + 1 < 2 ^ 32 }
+        requires done { self.old.done + 1 < 2 ^ 32 }
+        requires spins { self.old.spins + 1 < 2 ^ 32 }
+        requires wait { HasRoom self.old.wait }
+        requires longest { unwrap_or self.old.wait 0 ≤ self.old.longest_wait }
+        ensures { self.new ≡ counted row self.old }
+    {
+        self.rows += 1;
+        self.last_tick = row.tick;
+        match row.kind {
+            Kind::Queue => self.wait = Some(self.wait.unwrap_or(0)),
+            Kind::Spin => self.spin(),
+            Kind::Grant => {
+                self.done += 1;
+                self.wait = None;
+            }
+            _ => self.done += 1,
         }
     }
 }

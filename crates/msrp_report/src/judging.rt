@@ -5,10 +5,11 @@ ghost use Rattle.msrp_plan.specs.Runs.{IsRun};
 ghost use Rattle.msrp_plan.specs.Verdict.{verdict};
 ghost use Rattle.msrp_plan.specs.declared.faults.Fault.{Fault as TraceFault};
 ghost use Rattle.msrp_report.specs.Lines.{lines_of};
-ghost use Rattle.msrp_report.specs.Reports.{HasReported};
+ghost use Rattle.msrp_report.specs.Reports.{HasCounted};
 
+use crate::counter::Counter;
 use crate::lines::Report;
-use crate::reporter::Reporter;
+use msrp_audit::audit;
 use msrp_levels::Levels;
 use msrp_plan::{Fault, Memory, Plan, Row, Trace};
 use std::alloc::Global;
@@ -35,19 +36,16 @@ impl From<Memory> for ReportError {
     }
 }
 
-// Judges and counts all rows of a trace, up to the first fault.
-fn feed_all(reporter: &mut Reporter<'_>, rows: &[Row]) -> Result<(), Fault>
-    requires { HasReported reporter.old [] }
-    ensures plan { reporter.new.plan.now ≡ reporter.old.plan.now }
-    ensures fed { IfOk result (λ done. HasReported reporter.new rows.now) }
-    ensures fault { (fault : TraceFault) → result ≡ Err fault → verdict reporter.old.plan.now rows.now ≡ Some fault }
+// Counts all rows of a legal run.
+fn count_all(counter: &mut Counter<'_>, rows: &[Row])
+    requires counted { HasCounted counter.old [] }
+    requires run { IsRun counter.old.plan.now rows.now }
+    ensures plan { counter.new.plan ≡ counter.old.plan }
+    ensures counted { HasCounted counter.new rows.now }
 {
     for row in rows {
-        if let Err(fault) = reporter.feed(*row) {
-            return Err(fault);
-        }
+        counter.count(*row);
     }
-    Ok(())
 }
 
 /// The report of a trace, whoever made it. The trace is audited first: one that isn't a legal run of the plan is
@@ -62,13 +60,11 @@ pub fn report(alloc: Global, plan: &Plan, trace: &Trace) -> Result<Report, Repor
     ensures spinning { IfOk result (λ report. All (λ line. line.worst_spin ≤ line.spin_bound) report.lines.items) }
     ensures blocking { IfOk result (λ report. All (λ line. line.worst_blocked ≤ line.blocked_bound) report.lines.items) }
 {
-    let levels = Levels::of(alloc, plan)?;
-    let mut reporter = Reporter::with_room(alloc, plan, &levels)?;
-    if let Err(fault) = feed_all(&mut reporter, trace.rows.as_slice()) {
+    if let Err(fault) = audit(alloc, plan, trace)? {
         return Err(ReportError::G1(fault));
     }
-    match reporter.end() {
-        Ok(report) => Ok(report),
-        Err(fault) => Err(ReportError::G1(fault)),
-    }
+    let levels = Levels::of(alloc, plan)?;
+    let mut counter = Counter::with_room(alloc, plan, &levels)?;
+    count_all(&mut counter, trace.rows.as_slice());
+    Ok(counter.end())
 }

@@ -1,10 +1,11 @@
 //! What happened to each task in a trace, beside what can happen in any run: response times, spin delay, blocking.
 //!
-//! [`report`] judges a whole trace and makes its [`Report`], with a [`Line`] for each task. A [`Reporter`] does so with rows as they come,
-//! and [`write_report`] writes a report as text. [`worked`] has examples.
+//! [`report`] judges a whole trace and makes its [`Report`], with a [`Line`] for each task. A [`Counter`] counts rows as they come that
+//! somebody else judges, a [`Reporter`] judges them too, and [`write_report`] writes a report as text. [`worked`] has examples.
 #![tactic(auto)]
 
 mod bounds;
+mod counter;
 mod counts;
 mod judging;
 mod lines;
@@ -15,6 +16,7 @@ mod totals;
 pub mod worked;
 mod writing;
 
+pub use counter::Counter;
 pub use judging::{ReportError, report};
 pub use lines::{Line, Report};
 pub use reporter::Reporter;

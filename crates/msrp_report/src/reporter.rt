@@ -9,22 +9,19 @@ ghost use Rattle.msrp_plan.specs.declared.faults.Fault.{Fault as TraceFault};
 ghost use Rattle.msrp_plan.specs.declared.rows.Row.{Row as TraceRow};
 ghost use Rattle.msrp_report.specs.Lines.{lines_of};
 
-use crate::lines::{Line, Report};
-use crate::tallies::Tallies;
-use crate::totals::task_line;
+use crate::counter::Counter;
+use crate::lines::Report;
 use msrp_audit::Auditor;
 use msrp_levels::Levels;
-use msrp_plan::{Fault, Memory, Plan, Row, TaskId};
+use msrp_plan::{Fault, Memory, Plan, Row};
 use std::alloc::Global;
 
 /// Judges the rows of a trace as they come, whoever made them, and counts what each task meets in them. No row is kept.
 #[derive(Drop)]
 pub struct Reporter<'a> {
     plan: &'a Plan,
-    levels: &'a Levels<'a>,
     auditor: Auditor<'a>,
-    tallies: Tallies,
-    lines: Vec<Line>,
+    counter: Counter<'a>,
 }
 
 impl<'a> Reporter<'a> {
@@ -43,10 +40,8 @@ impl<'a> Reporter<'a> {
     {
         Ok(Reporter {
             plan,
-            levels,
             auditor: Auditor::with_room(alloc, plan, levels)?,
-            tallies: Tallies::with_room(alloc, plan)?,
-            lines: Vec::with_capacity(alloc, plan.tasks() as usize)?,
+            counter: Counter::with_room(alloc, plan, levels)?,
         })
     }
 
@@ -68,7 +63,7 @@ impl<'a> Reporter<'a> {
         if let Err(fault) = self.auditor.feed(row) {
             return Err(fault);
         }
-        self.tallies.feed(self.plan, row);
+        self.counter.count(row);
         Ok(())
     }
 
@@ -85,19 +80,9 @@ impl<'a> Reporter<'a> {
         ensures spinning { IfOk result (λ report. All (λ line. line.worst_spin ≤ line.spin_bound) report.lines.items) }
         ensures blocking { IfOk result (λ report. All (λ line. line.worst_blocked ≤ line.blocked_bound) report.lines.items) }
     {
-        let Reporter {
-            plan,
-            levels,
-            auditor,
-            tallies,
-            mut lines,
-        } = self;
-        if let Err(fault) = auditor.end() {
+        if let Err(fault) = self.auditor.end() {
             return Err(fault);
         }
-        for task in 0..plan.tasks() {
-            lines.push_reserved(task_line(plan, levels, &tallies, TaskId(task)));
-        }
-        Ok(Report { lines })
+        Ok(self.counter.end())
     }
 }

@@ -33,10 +33,20 @@ pub(crate) struct JobTally {
     pub(crate) blocking: Blocking,
 }
 
+/// What no row changes of one task. A release looks at the tasks of its core alone.
+#[derive(Clone, Copy)]
+pub(crate) struct TaskFacts {
+    pub(crate) units: u32,
+    /// The first task of its core, and the next one behind it: the number of tasks, where there is none.
+    pub(crate) first: u32,
+    pub(crate) next: u32,
+}
+
 /// What they tell of the jobs of one task.
 #[derive(Drop)]
 pub(crate) struct TaskTally {
     pub(crate) jobs: Vec<JobTally>,
+    pub(crate) facts: TaskFacts,
     /// How many of them are released.
     pub(crate) released: u32,
     /// No further one is released before this tick.
@@ -57,6 +67,7 @@ pub(crate) struct Tallies {
 
 impl Tallies {
     // What the rows tell of a job.
+    #[inline(always)]
     fn tally_of(&self, job: JobId) -> JobTally
         requires { ToldOf self.now.tasks.items job }
         ensures { IsTallyOf self.now.tasks.items job result }
@@ -65,6 +76,7 @@ impl Tallies {
     }
 
     /// What the job's own rows tell of it.
+    #[inline(always)]
     pub(crate) fn count_of(&self, job: JobId) -> JobCount
         requires { ToldOf self.now.tasks.items job }
         ensures { (plan : PlanModel) (rows : List TraceRow) (begun : ℕ → ℕ) → AreTallies plan rows begun self.now.tasks.items → result ≡ count_of rows job }

@@ -24,6 +24,10 @@ HasRoom (Some n) = n + 1 < 2 ^ 32
 abbrev pub uncounted : JobCount
 uncounted = record { rows = 0; done = 0; last_tick = 0; spins = 0; wait = None; longest_wait = 0 }
 
+-- one spin more
+abbrev pub spun : JobCount → JobCount
+spun c = record c { spins = c.spins + 1; wait = wait_with Spin c.wait; longest_wait = max c.longest_wait (unwrap_or (wait_with Spin c.wait) 0) }
+
 -- one row of the job more
 abbrev pub counted : Row → JobCount → JobCount
 counted r c = record {

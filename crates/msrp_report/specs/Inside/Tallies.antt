@@ -1,7 +1,7 @@
 -- What is kept of each job while the rows come, and what it says of the rows so far.
-use Rattle.std.specs.Prelude.{ℕ, List, ◌∷◌, [], ◌++◌, Bool, true, false, not, ◌&&◌, nat_lt, Option, Some, None, IfSome, IsSome, length, slice_get, ◌≡◌, ◌<◌, ◌≤◌, ◌+◌, ◌/◌, if◌then◌else◌}
+use Rattle.std.specs.Prelude.{ℕ, List, ◌∷◌, [], ◌++◌, Bool, true, false, not, ◌&&◌, nat_lt, Option, Some, None, IfSome, IsSome, length, slice_get, ◌≡◌, ◌≢◌, ◌<◌, ◌≤◌, ◌+◌, ◌/◌, if◌then◌else◌}
 use Rattle.std.specs.List.{AllByRecursion, Contains}
-use Rattle.msrp_plan.specs.Plan.{PlanModel, core_of, release, release_tick}
+use Rattle.msrp_plan.specs.Plan.{PlanModel, core_of, task_at, release, release_tick}
 use Rattle.msrp_plan.specs.Choice.{is_before}
 use Rattle.msrp_plan.specs.Jobs.{jobs, job_at, jobs_of, jobs_on, is_job, is_started, is_finished}
 use Rattle.msrp_plan.specs.Blocking.{blocked, first_later, ComesBefore, ComesAfter}
@@ -13,6 +13,7 @@ use Rattle.msrp_report.specs.Inside.Counts.{count_of}
 use Rattle.msrp_report.specs.declared.tallies.Blocking.{Blocking}
 use Rattle.msrp_report.specs.declared.tallies.Blocking.TheVariants.{Over, By}
 use Rattle.msrp_report.specs.declared.tallies.JobTally.{JobTally}
+use Rattle.msrp_report.specs.declared.tallies.TaskFacts.{TaskFacts}
 use Rattle.msrp_report.specs.declared.tallies.TaskTally.{TaskTally}
 use Rattle.msrp_report.specs.declared.tallies.Tallies.{Tallies}
 
@@ -57,9 +58,23 @@ is_active plan rows j = is_started rows j && not (is_finished plan rows j)
 abbrev pub release_or_end : PlanModel → ℕ → ℕ → ℕ
 release_or_end plan t k = if nat_lt k (length (jobs_of plan t)) then release plan (job_at t k) else plan.ticks
 
+-- from the n-th task on the first of the core is this one; none is, where it is the number of tasks
+pub record IsTaskFrom (plan : PlanModel) (c n t : ℕ) : Type 0 where
+  pub from : n ≤ t
+  pub within : t ≤ length plan.tasks
+  pub own : t < length plan.tasks → (task_at plan t).core ≡ c
+  pub others : (k : ℕ) → n ≤ k → k < t → (task_at plan k).core ≢ c
+
+-- what no row changes of task t: how many units its jobs have, the first task of its core, and the next one behind it
+pub record AreFacts (plan : PlanModel) (t : ℕ) (f : TaskFacts) : Type 0 where
+  pub units : f.units ≡ length (task_at plan t).units
+  pub first : IsTaskFrom plan (task_at plan t).core 0 f.first
+  pub next : IsTaskFrom plan (task_at plan t).core (t + 1) f.next
+
 -- what is kept of task t, where so many ticks have begun for it: its first jobs are released, and of the others the first is due
 pub record IsTaskTally (plan : PlanModel) (rows : List Row) (begun t : ℕ) (x : TaskTally) : Type 0 where
   pub size : length x.jobs.items ≡ length (jobs_of plan t)
+  pub facts : AreFacts plan t x.facts
   pub fits : x.released ≤ length (jobs_of plan t)
   pub past : (k : ℕ) → k < x.released → release plan (job_at t k) < begun
   pub due : x.due ≡ release_or_end plan t x.released

@@ -1,22 +1,51 @@
 //! One row more.
-ghost use Rattle.std.specs.Prelude.{◌≡◌, ◌==◌, ◌++◌, ◌∷◌, [], List, None, Some, cond};
+ghost use Rattle.std.specs.Prelude.{◌≡◌, ◌==◌, ◌++◌, ◌∷◌, [], ℕ, List, None, Some, true, false, cond};
+ghost use Rattle.msrp_plan.specs.Jobs.{is_started};
+ghost use Rattle.msrp_plan.specs.Plan.{PlanModel};
 ghost use Rattle.msrp_plan.specs.Runs.{IsRunStart};
 ghost use Rattle.msrp_plan.specs.WellFormed.{IsPlan};
 ghost use Rattle.msrp_plan.specs.declared.rows.Row.{Row as TraceRow};
-ghost use Rattle.msrp_report.specs.Inside.Tallies.{AreTallies, Counts, GoesOn, HasTallied, IsNextOf, StandsAt};
+ghost use Rattle.msrp_report.specs.Inside.Tallies.{AreTallies, Counts, GoesOn, HasTallied, IsNextOf, StandsAt, ToldOf};
 
 use super::{Blocking, Tallies};
 use msrp_plan::{JobId, Plan, Row};
 
-// The job, if it has units left.
-fn still_active(job: JobId, done: u32, units: u32) -> Option<JobId>
-    ensures { result ≡ cond (done == units) None (Some job) }
+// The active job of a task, if it has units left.
+#[inline(always)]
+fn still_active(active: Option<JobId>, done: u32, units: u32) -> Option<JobId>
+    ensures { result ≡ cond (done == units) None active }
 {
-    if done == units { None } else { Some(job) }
+    if done == units { None } else { active }
 }
 
 impl Tallies {
-    // Counts a row of a job.
+    // Whether the job has no row.
+    #[inline(always)]
+    fn is_unstarted(&self, job: JobId) -> bool
+        requires { ToldOf self.now.tasks.items job }
+        ensures { (plan : PlanModel) (rows : List TraceRow) (begun : ℕ → ℕ) → AreTallies plan rows begun self.now.tasks.items → result ≡ false → is_started rows job ≡ true }
+    {
+        self.count_of(job).rows == 0
+    }
+
+    // Counts the first row of a job: from here on no row blocks it.
+    fn count_first(&mut self, plan: &Plan, job: JobId, row: Row)
+        requires plan { IsPlan plan.now }
+        requires told { Counts plan.now row self.old }
+        requires job { row.job ≡ Some job }
+        ensures begun { self.new.begun ≡ self.old.begun }
+        ensures next { self.new.next ≡ self.old.next }
+        ensures told { (rows : List TraceRow) → AreTallies plan.now rows (λ _. self.old.begun) self.old.tasks.items → IsNextOf plan.now rows row self.old.begun → AreTallies plan.now (rows ++ row ∷ []) (λ _. self.old.begun) self.new.tasks.items }
+    {
+        let blocked = self.blocked(job);
+        let task = &mut self.tasks[job.task.0 as usize];
+        let tally = &mut task.jobs[job.k as usize];
+        tally.count.add(row);
+        tally.blocking = Blocking::Over(blocked);
+        task.active = still_active(Some(job), tally.count.done, task.facts.units);
+    }
+
+    // Counts a row of a job. Most are no first ones: what is kept of how their job is blocked stays as it is.
     #[inline(always)]
     fn count(&mut self, plan: &Plan, job: JobId, row: Row)
         requires plan { IsPlan plan.now }
@@ -26,13 +55,14 @@ impl Tallies {
         ensures next { self.new.next ≡ self.old.next }
         ensures told { (rows : List TraceRow) → AreTallies plan.now rows (λ _. self.old.begun) self.old.tasks.items → IsNextOf plan.now rows row self.old.begun → AreTallies plan.now (rows ++ row ∷ []) (λ _. self.old.begun) self.new.tasks.items }
     {
-        let blocked = self.blocked(job);
-        let units = plan.units(job.task);
+        if self.is_unstarted(job) {
+            self.count_first(plan, job, row);
+            return;
+        }
         let task = &mut self.tasks[job.task.0 as usize];
         let tally = &mut task.jobs[job.k as usize];
-        tally.count = tally.count.with_row(row);
-        tally.blocking = Blocking::Over(blocked);
-        task.active = still_active(job, tally.count.done, units);
+        tally.count.add(row);
+        task.active = still_active(task.active, tally.count.done, task.facts.units);
     }
 
     // Begins the tick of a row, if none of its rows has come.

@@ -5,6 +5,7 @@ ghost use Rattle.std.specs.List.{AllByRecursion, Contains};
 ghost use Rattle.msrp_plan.specs.Choice.{comes_first};
 ghost use Rattle.msrp_plan.specs.Blocking.{first_later};
 ghost use Rattle.msrp_plan.specs.Jobs.{jobs};
+ghost use Rattle.msrp_plan.specs.Plan.{core_of, task_at};
 ghost use Rattle.msrp_plan.specs.WellFormed.{IsPlan};
 ghost use Rattle.msrp_plan.specs.declared.rows.Row.{Row as TraceRow};
 ghost use Rattle.msrp_report.specs.Inside.Tallies.{AreTallies, HasReleased, IsFirstOf, IsKnown, NoneReleased, ReleasesNext, ToldBy, begun_below, blocking_by, release_or_end};
@@ -37,8 +38,9 @@ pub(super) fn release_or_end(plan: &Plan, task: TaskId, k: u32) -> u64
 }
 
 impl Tallies {
-    // The first of two: a job that comes first so far, if there is one, and the task's active job, if that is a later one of the
-    // job's core.
+    // The first of two: a job that comes first so far, if there is one, and the active job of a task of the job's core, if that
+    // is a later one.
+    #[inline(always)]
     fn first_with(
         &self,
         plan: &Plan,
@@ -50,6 +52,7 @@ impl Tallies {
         requires plan { IsPlan plan.now }
         requires job { Contains (jobs plan.now) job }
         requires task { task.0 < length plan.now.tasks }
+        requires core { (task_at plan.now task.0).core ≡ core_of plan.now job }
         requires first { IfSome first (IsKnown plan.now) }
         ensures known { IfSome result (IsKnown plan.now) }
         ensures first { (rows : List TraceRow) (begun : ℕ → ℕ) → AreTallies plan.now rows begun self.now.tasks.items → IsFirstOf plan.now rows job task.0 first → IsFirstOf plan.now rows job (task.0 + 1) result }
@@ -57,9 +60,6 @@ impl Tallies {
         let Some(other) = self.tasks[task.0 as usize].active else {
             return first;
         };
-        if plan.core_of(task) != plan.core_of(job.task) {
-            return first;
-        }
         if !is_first(plan, job, Some(other)) {
             return first;
         }
@@ -71,13 +71,16 @@ impl Tallies {
 
     // The first of the later jobs of a job's core that are started and unfinished.
     fn first_later(&self, plan: &Plan, job: JobId) -> Option<JobId>
+        requires plan { IsPlan plan.now }
         requires told { ToldBy plan.now self.now.tasks.items }
         requires job { Contains (jobs plan.now) job }
         ensures { (rows : List TraceRow) (begun : ℕ → ℕ) → AreTallies plan.now rows begun self.now.tasks.items → result ≡ first_later plan.now rows job }
     {
         let mut first = None;
-        for task in 0..plan.tasks() {
+        let mut task = self.tasks[job.task.0 as usize].facts.first;
+        while task < plan.tasks() {
             first = self.first_with(plan, job, TaskId(task), first);
+            task = self.tasks[task as usize].facts.next;
         }
         first
     }
@@ -99,6 +102,7 @@ impl Tallies {
     }
 
     // Releases the next job of a task, if it is released in the tick that begins.
+    #[inline(always)]
     fn release(&mut self, plan: &Plan, task: TaskId)
         requires plan { IsPlan plan.now }
         requires told { ReleasesNext plan.now task.0 self.old }

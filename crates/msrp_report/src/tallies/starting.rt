@@ -1,12 +1,13 @@
 //! Before the first row.
 
-ghost use Rattle.std.specs.Prelude.{◌≡◌, ◌<◌, [], IfOk, length};
-ghost use Rattle.msrp_report.specs.Inside.Tallies.{HasTallied, IsTaskTally};
+ghost use Rattle.std.specs.Prelude.{◌≡◌, ◌<◌, ◌≤◌, [], IfOk, length};
+ghost use Rattle.msrp_plan.specs.WellFormed.{IsPlan};
+ghost use Rattle.msrp_report.specs.Inside.Tallies.{AreFacts, HasTallied, IsTaskFrom, IsTaskTally};
 
 use super::releasing::release_or_end;
-use super::{Blocking, JobTally, Tallies, TaskTally};
+use super::{Blocking, JobTally, Tallies, TaskFacts, TaskTally};
 use crate::counts::JobCount;
-use msrp_plan::{Memory, Plan, TaskId};
+use msrp_plan::{CoreId, Memory, Plan, TaskId};
 use std::alloc::Global;
 
 // A job that isn't released.
@@ -15,9 +16,37 @@ const UNTOLD: JobTally = JobTally {
     blocking: Blocking::Over(0),
 };
 
+// The first task of a core from this number on, or the number of tasks.
+fn task_from(plan: &Plan, core: CoreId, from: u32) -> u32
+    requires { from ≤ length plan.now.tasks }
+    ensures { IsTaskFrom plan.now core.0 from result }
+{
+    for task in from..plan.tasks() {
+        if plan.core_of(TaskId(task)) == core {
+            return task;
+        }
+    }
+    plan.tasks()
+}
+
+// What no row changes of a task.
+fn facts_of(plan: &Plan, task: TaskId) -> TaskFacts
+    requires plan { IsPlan plan.now }
+    requires task { task.0 < length plan.now.tasks }
+    ensures { AreFacts plan.now task.0 result }
+{
+    let core = plan.core_of(task);
+    TaskFacts {
+        units: plan.units(task),
+        first: task_from(plan, core, 0),
+        next: task_from(plan, core, task.0 + 1),
+    }
+}
+
 // The jobs of a task, none of them released.
 fn untold(alloc: Global, plan: &Plan, task: TaskId) -> Result<TaskTally, Memory>
-    requires { task.0 < length plan.now.tasks }
+    requires plan { IsPlan plan.now }
+    requires task { task.0 < length plan.now.tasks }
     ensures { IfOk result (λ tally. IsTaskTally plan.now [] 0 task.0 tally) }
 {
     let count = plan.jobs(task);
@@ -27,6 +56,7 @@ fn untold(alloc: Global, plan: &Plan, task: TaskId) -> Result<TaskTally, Memory>
     }
     Ok(TaskTally {
         jobs,
+        facts: facts_of(plan, task),
         released: 0,
         due: release_or_end(plan, task, 0),
         active: None,

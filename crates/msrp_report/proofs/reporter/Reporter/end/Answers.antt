@@ -1,44 +1,14 @@
-use Rattle.std.proofs.Common.{◌≡◌, ◌+◌, ◌≤◌, ◌++◌, ◌∷◌, [], List, map, length, length-append, sym, ap, subst, ◌∙◌, arith}
-use Rattle.std.specs.List.{range_with_len}
-use Rattle.msrp_report.specs.Lines.{line_of}
-use Rattle.msrp_report.specs.declared.lines.Line.{Line}
-use Rattle.msrp_report.proofs.LineJobs.{map_next}
-use Rattle.msrp_report.proofs.Reporting.{blocked_bounded, ends_good, run_told, spins_bounded}
+use Rattle.std.proofs.Common.{ap, ◌∙◌, length}
+use Rattle.msrp_plan.specs.Plan.{PlanModel}
+use Rattle.msrp_report.specs.Lines.{lines_of}
+use Rattle.msrp_report.proofs.Reporting.{ends_good, run_counted}
 use Rattle.msrp_report.proofs.reporter.Reporter.end.Goals as goal
 
-pub loop-task-preserved : goal.loop-task-preserved
-loop-task-preserved c =
-    let plan = c.args.self.plan.now in
-    let n = c.loop-task.task in
-    let i = c.loop-task.invariant in
-    let items = c.push_reserved.ensures.items in
-    record {
-      lines = λ rows told. items ∙ (ap (λ (l : List Line). l ++ c.task_line.result ∷ []) (i.lines rows told) ∙ (ap (λ (x : Line). map (line_of plan rows) (range_with_len 0 n) ++ x ∷ []) (c.task_line.ensures rows told) ∙ sym (map_next (line_of plan rows) n)));
-      size = ap length items ∙ (length-append c.loop-task.lines.items (c.task_line.result ∷ []) ∙ ap (λ k. k + 1) i.size);
-      room = subst (λ k. length plan.tasks ≤ k) (sym c.push_reserved.ensures.capacity) i.room;
-    }
+pub end-requires-2 : goal.end-requires-2
+end-requires-2 c = let t = c.requires in (t.0, run_counted c.args.self t.0 t.1 (ends_good c.args.self t.0 c.in_default.field-0 t.1 (c.in_default.ensures t.0 t.1.fed)))
 
 pub returns-clause-lines : goal.returns-clause-lines
-returns-clause-lines c = λ rows is.
-    let plan = c.args.self.plan.now in
-    let all : c.loop-task.task ≡ length plan.tasks = (let t = c.tasks-task-end.ensures.value in let past = c.loop-task-test.false in let end = c.loop-task.auto.task-end in omega (arith, t, past, end)) in
-    let run = ends_good c.args.self rows c.in_default.field-0 is (c.in_default.ensures rows is.fed) in
-    c.loop-task.invariant.lines rows (run_told c.args.self rows is run) ∙ ap (λ k. map (line_of plan rows) (range_with_len 0 k)) all
+returns-clause-lines c = λ rows is. c.end-2.ensures.lines rows (run_counted c.args.self rows is (ends_good c.args.self rows c.in_default.field-0 is (c.in_default.ensures rows is.fed))) ∙ ap (λ p. lines_of p rows) is.counted_plan
 
-pub returns-clause-spinning : goal.returns-clause-spinning
-returns-clause-spinning c =
-    let plan = c.args.self.plan.now in
-    let rows = c.requires.0 in
-    let is = c.requires.1 in
-    let all : c.loop-task.task ≡ length plan.tasks = (let t = c.tasks-task-end.ensures.value in let past = c.loop-task-test.false in let end = c.loop-task.auto.task-end in omega (arith, t, past, end)) in
-    let run = ends_good c.args.self rows c.in_default.field-0 is (c.in_default.ensures rows is.fed) in
-    spins_bounded plan rows c.loop-task.lines.items c.loop-task.task c.tasks-task-end.ensures.plan run all (c.loop-task.invariant.lines rows (run_told c.args.self rows is run))
-
-pub returns-clause-blocking : goal.returns-clause-blocking
-returns-clause-blocking c =
-    let plan = c.args.self.plan.now in
-    let rows = c.requires.0 in
-    let is = c.requires.1 in
-    let all : c.loop-task.task ≡ length plan.tasks = (let t = c.tasks-task-end.ensures.value in let past = c.loop-task-test.false in let end = c.loop-task.auto.task-end in omega (arith, t, past, end)) in
-    let run = ends_good c.args.self rows c.in_default.field-0 is (c.in_default.ensures rows is.fed) in
-    blocked_bounded plan rows c.loop-task.lines.items c.loop-task.task c.tasks-task-end.ensures.plan run all (c.loop-task.invariant.lines rows (run_told c.args.self rows is run))
+pub returns-clause-tasks : goal.returns-clause-tasks
+returns-clause-tasks c = c.end-2.ensures.tasks ∙ ap (λ (p : PlanModel). length p.tasks) c.requires.1.counted_plan

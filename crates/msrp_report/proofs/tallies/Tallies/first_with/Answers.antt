@@ -1,20 +1,12 @@
-use Rattle.std.proofs.Common.{length, refl, sym, ◌∙◌, arith, eq-eqb, eqb-true}
+use Rattle.std.proofs.Common.{length, refl, sym, ◌∙◌, arith}
 use Rattle.std.proofs.lemmas.Option.{slice_get_read}
-use Rattle.msrp_report.proofs.Active.{active_known, step_core, step_early, step_later, step_new, step_none}
+use Rattle.msrp_report.proofs.Active.{active_known, step_early, step_later, step_new, step_none}
 use Rattle.msrp_report.proofs.JobTallies.{job_known}
 use Rattle.msrp_report.proofs.tallies.Tallies.first_with.Goals as goal
-use Rattle.msrp_plan.proofs.Tests.{not_held, held}
 
 pub returns-in_default-clause-first : goal.returns-in_default-clause-first
 returns-in_default-clause-first c = λ rows begun are old.
     step_none c.args.plan.now rows begun c.args.self.now.tasks.items c.index.result.now c.args.job c.args.task.0 c.args.first c.requires.plan are (slice_get_read c.args.self.now.tasks.items (length c.args.self.now.tasks.items) c.args.task.0 c.index.result.now refl (let size = are.size in let l = c.requires.task in omega (arith, size, l)) c.index.ensures) c.in_default.is old
-
-pub core_of-requires-2 : goal.core_of-requires-2
-core_of-requires-2 c = (job_known c.args.plan.now c.args.job c.requires.job).task
-
-pub returns-then-ne-clause-first : goal.returns-then-ne-clause-first
-returns-then-ne-clause-first c = λ rows begun are old.
-    step_core c.args.plan.now rows c.args.job c.args.task.0 c.args.first (λ e. not_held _ c.if-ne.ensures (eq-eqb c.core_of.result.0 c.core_of-2.result.0 (c.core_of.ensures ∙ (e ∙ sym c.core_of-2.ensures)))) old
 
 pub is_first-requires-clause-job : goal.is_first-requires-clause-job
 is_first-requires-clause-job c = job_known c.args.plan.now c.args.job c.requires.job
@@ -39,4 +31,4 @@ returns-clause-known c = let t = c.requires.told in active_known c.args.plan.now
 pub returns-clause-first : goal.returns-clause-first
 returns-clause-first c = λ rows begun are old.
     step_new c.args.plan.now rows begun c.args.self.now.tasks.items c.index.result.now c.args.job c.in-Some.other c.args.task.0 c.args.first c.requires.plan are (slice_get_read c.args.self.now.tasks.items (length c.args.self.now.tasks.items) c.args.task.0 c.index.result.now refl (let size = are.size in let l = c.requires.task in omega (arith, size, l)) c.index.ensures) c.requires.task c.in-Some.is
-    (sym c.core_of.ensures ∙ (eqb-true c.core_of.result.0 c.core_of-2.result.0 (held _ c.if-ne.ensures) ∙ c.core_of-2.ensures)) (sym c.is_first.ensures ∙ c.if-not-is_first.false) (sym c.is_first-2.ensures ∙ c.if-not-is_first-2.false) old
+    c.requires.core (sym c.is_first.ensures ∙ c.if-not-is_first.false) (sym c.is_first-2.ensures ∙ c.if-not-is_first-2.false) old

@@ -74,7 +74,7 @@ returns-clause-told c = λ rows h.
     let k = c.index-2.result.now.released in
     let s = c.index_mut.result.now in
     let b = c.blocking_of-blocking.result in
-    let new : TaskTally = record { jobs = with_item z.jobs k (record { count = s.count; blocking = b }); released = k + 1; due = c.release_or_end-tally.result; active = z.active } in
+    let new : TaskTally = record { jobs = with_item z.jobs k (record { count = s.count; blocking = b }); facts = z.facts; released = k + 1; due = c.release_or_end-tally.result; active = z.active } in
     let at = read_task plan rows (begun_below begun n) n tasks z h.tallies c.requires.task c.index_mut-tally.ensures.value in
     let is = at_task plan rows begun n tasks z h.tallies at in
     let same_x = same_task plan rows (begun_below begun n) n tasks x z h.tallies c.requires.task c.index.ensures c.index_mut-tally.ensures.value in
@@ -91,6 +91,6 @@ returns-clause-told c = λ rows h.
       early = h.early;
       tallies = next_task plan rows begun n tasks (slice_set tasks n new) new h.tallies (length-set tasks n new) (get_set_same tasks n z new at) (λ t ne. get_set_other tasks n t new ne)
           (task_released plan rows begun n z new k s (first_later plan rows (job_at n k)) c.requires.plan c.requires.task is due c.requires.left h.early refl
-          (record { was = was; number = ap (λ (y : TaskTally). y.released) same_y; jobs_set = ap (λ (y : Blocking). slice_set z.jobs.items k (record { count = s.count; blocking = y })) blocks; next = refl; active = refl })
+          (record { was = was; number = ap (λ (y : TaskTally). y.released) same_y; jobs_set = ap (λ (y : Blocking). slice_set z.jobs.items k (record { count = s.count; blocking = y })) blocks; facts = refl; next = refl; active = refl })
           c.release_or_end-tally.ensures);
     }

@@ -1,0 +1,26 @@
+use Rattle.std.proofs.Common.{◌≡◌, ◌+◌, ◌++◌, ◌∷◌, [], None, take, refl, ap, sym, ◌∙◌, subst}
+use Rattle.msrp_plan.specs.Runs.{IsRun}
+use Rattle.msrp_report.specs.Reports.{HasCounted}
+use Rattle.msrp_report.proofs.Reporting.{one_more, part_good}
+use Rattle.msrp_report.proofs.judging.count_all.Goals as goal
+
+pub count-requires : goal.count-requires
+count-requires c =
+    let rows = c.args.rows.now in
+    let n = c.loop-row.row-index in
+    let i = c.loop-row.invariant in
+    let more = one_more rows rows n c.row-item.result refl c.loop-row-test.true c.row-item.is in
+    let run = subst (λ p. IsRun p.now rows) (sym i.plan) c.requires.run in
+    (take n rows, i.counted, part_good c.loop-row.counter.plan.now rows (take n rows ++ c.row-item.result ∷ []) (n + 1) run more)
+
+pub loop-row-preserved : goal.loop-row-preserved
+loop-row-preserved c =
+    let rows = c.args.rows.now in
+    let n = c.loop-row.row-index in
+    let i = c.loop-row.invariant in
+    let more = one_more rows rows n c.row-item.result refl c.loop-row-test.true c.row-item.is in
+    let run = subst (λ p. IsRun p.now rows) (sym i.plan) c.requires.run in
+    record {
+      plan = c.count.ensures.plan ∙ i.plan;
+      counted = subst (HasCounted c.count.new.self) (sym more) (c.count.ensures.counted (take n rows) i.counted (part_good c.loop-row.counter.plan.now rows (take n rows ++ c.row-item.result ∷ []) (n + 1) run more));
+    }

@@ -1,0 +1,82 @@
+use Rattle.std.proofs.Common.{◌==◌, cond, None, Some, slice_set, refl, ap, ◌∙◌, arith}
+use Rattle.std.specs.Vec.{with_item}
+use Rattle.msrp_report.specs.Inside.Counts.{counted}
+use Rattle.msrp_report.specs.declared.counts.JobCount.{JobCount}
+use Rattle.msrp_report.specs.declared.tallies.Blocking.TheVariants.{Over}
+use Rattle.msrp_report.proofs.JobTallies.{job_read, room_read, task_read, told_number, told_task}
+use Rattle.msrp_report.proofs.RowSteps.{row_in, row_told, tallies_counted}
+use Rattle.msrp_report.proofs.tallies.Tallies.count_first.Goals as goal
+
+pub blocked-blocked-requires : goal.blocked-blocked-requires
+blocked-blocked-requires c = let t = c.requires.told in row_told c.args.plan.now t.0 c.args.row c.args.job c.args.self.now.begun c.args.self.now.tasks.items c.requires.plan t.1 t.2.start c.requires.job
+
+pub index_mut-task-requires : goal.index_mut-task-requires
+index_mut-task-requires c =
+    let t = c.requires.told in
+    let told = row_told c.args.plan.now t.0 c.args.row c.args.job c.args.self.now.begun c.args.self.now.tasks.items c.requires.plan t.1 t.2.start c.requires.job in
+    let l = told_task c.args.self.now.tasks.items c.args.job told in
+    let n = c.args.self.now.tasks.ok.0 in
+    omega (arith, l, n)
+
+pub index_mut-tally-requires : goal.index_mut-tally-requires
+index_mut-tally-requires c =
+    let t = c.requires.told in
+    let told = row_told c.args.plan.now t.0 c.args.row c.args.job c.args.self.now.begun c.args.self.now.tasks.items c.requires.plan t.1 t.2.start c.requires.job in
+    let at = task_read c.args.self.now.tasks.items c.args.job c.index_mut-task.result.now told c.index_mut-task.ensures.value in
+    let l = told_number c.args.self.now.tasks.items c.args.job c.index_mut-task.result.now told at in
+    let n = c.index_mut-task.result.now.jobs.ok.0 in
+    omega (arith, l, n)
+
+pub add-requires-clause-rows : goal.add-requires-clause-rows
+add-requires-clause-rows c =
+    let t = c.requires.told in
+    let told = row_told c.args.plan.now t.0 c.args.row c.args.job c.args.self.now.begun c.args.self.now.tasks.items c.requires.plan t.1 t.2.start c.requires.job in
+    (room_read c.args.self.now.tasks.items c.args.job c.index_mut-task.result.now c.index_mut-tally.result.now told c.index_mut-task.ensures.value c.index_mut-tally.ensures.value).rows
+
+pub add-requires-clause-done : goal.add-requires-clause-done
+add-requires-clause-done c =
+    let t = c.requires.told in
+    let told = row_told c.args.plan.now t.0 c.args.row c.args.job c.args.self.now.begun c.args.self.now.tasks.items c.requires.plan t.1 t.2.start c.requires.job in
+    (room_read c.args.self.now.tasks.items c.args.job c.index_mut-task.result.now c.index_mut-tally.result.now told c.index_mut-task.ensures.value c.index_mut-tally.ensures.value).done
+
+pub add-requires-clause-spins : goal.add-requires-clause-spins
+add-requires-clause-spins c =
+    let t = c.requires.told in
+    let told = row_told c.args.plan.now t.0 c.args.row c.args.job c.args.self.now.begun c.args.self.now.tasks.items c.requires.plan t.1 t.2.start c.requires.job in
+    (room_read c.args.self.now.tasks.items c.args.job c.index_mut-task.result.now c.index_mut-tally.result.now told c.index_mut-task.ensures.value c.index_mut-tally.ensures.value).spins
+
+pub add-requires-clause-wait : goal.add-requires-clause-wait
+add-requires-clause-wait c =
+    let t = c.requires.told in
+    let told = row_told c.args.plan.now t.0 c.args.row c.args.job c.args.self.now.begun c.args.self.now.tasks.items c.requires.plan t.1 t.2.start c.requires.job in
+    (room_read c.args.self.now.tasks.items c.args.job c.index_mut-task.result.now c.index_mut-tally.result.now told c.index_mut-task.ensures.value c.index_mut-tally.ensures.value).wait
+
+pub add-requires-clause-longest : goal.add-requires-clause-longest
+add-requires-clause-longest c =
+    let t = c.requires.told in
+    let told = row_told c.args.plan.now t.0 c.args.row c.args.job c.args.self.now.begun c.args.self.now.tasks.items c.requires.plan t.1 t.2.start c.requires.job in
+    (room_read c.args.self.now.tasks.items c.args.job c.index_mut-task.result.now c.index_mut-tally.result.now told c.index_mut-task.ensures.value c.index_mut-tally.ensures.value).longest
+
+pub returns-clause-told : goal.returns-clause-told
+returns-clause-told c = λ rows are next.
+    let plan = c.args.plan.now in
+    let tasks = c.args.self.now.tasks.items in
+    let x = c.index_mut-task.result.now in
+    let s = c.index_mut-tally.result.now in
+    let told = row_told plan rows c.args.row c.args.job c.args.self.now.begun tasks c.requires.plan are next.start c.requires.job in
+    let of_task = task_read tasks c.args.job x told c.index_mut-task.ensures.value in
+    let of_job = job_read tasks c.args.job x s told c.index_mut-task.ensures.value c.index_mut-tally.ensures.value in
+    let n = c.blocked-blocked.result in
+    let counted_is = c.add.ensures in
+    tallies_counted plan rows c.args.row c.args.self.now.begun tasks _ c.args.job x
+    (record { jobs = with_item x.jobs c.args.job.k (record { count = c.add.new.self; blocking = Over n }); facts = x.facts; released = x.released; due = x.due; active = c.still_active-task.result })
+    s n c.requires.plan c.requires.job next are of_task refl
+    (record {
+      was = of_job;
+      jobs_set = ap (λ (y : JobCount). slice_set x.jobs.items c.args.job.k (record { count = y; blocking = Over n })) counted_is;
+      facts = refl;
+      released = refl;
+      due = refl;
+      active = c.still_active-task.ensures ∙ (ap (λ (y : JobCount). cond (y.done == x.facts.units) None (Some c.args.job)) counted_is ∙ ap (λ u. cond ((counted c.args.row s.count).done == u) None (Some c.args.job)) (are.each c.args.job.task.0 x of_task).facts.units);
+    })
+    (c.blocked-blocked.ensures plan rows (λ _. c.args.self.now.begun) c.requires.plan are (row_in plan rows c.args.row c.args.job next.start c.requires.job))
