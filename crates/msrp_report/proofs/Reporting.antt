@@ -1,12 +1,12 @@
 -- A report while the rows come, and at their end.
-use Rattle.std.proofs.Common.{◌≡◌, ℕ, ◌<◌, ◌≤◌, ◌+◌, ◌*◌, Bool, true, false, cond, List, [], ◌∷◌, ◌++◌, Option, Some, None, refl, ap, sym, ◌∙◌, subst, length, map, nat_lt, vec_capacity, take, drop, get_or}
+use Rattle.std.proofs.Common.{◌≡◌, ℕ, ◌<◌, ◌≤◌, ◌+◌, ◌*◌, Bool, true, false, cond, List, [], ◌∷◌, ◌++◌, Option, Some, None, refl, ap, sym, ◌∙◌, subst, length, map, nat_lt, take, drop, get_or}
 use Rattle.std.specs.Prelude.{⊤}
 use Rattle.std.specs.List.{All, range_with_len}
 use Rattle.std.specs.declared.result.Result.TheVariants.{Ok, Err}
 use Rattle.std.proofs.lemmas.Bool.{ltb-true}
 use Rattle.std.proofs.lemmas.List.{take-append-drop, take_more}
 use Rattle.std.proofs.lemmas.List.Elements.{All-from_recursion}
-use Rattle.msrp_audit.specs.Audits.{HasFed, answer_of}
+use Rattle.msrp_audit.specs.Audits.{answer_of}
 use Rattle.msrp_plan.specs.Plan.{PlanModel}
 use Rattle.msrp_plan.specs.Runs.{IsRun, IsRunStart}
 use Rattle.msrp_plan.specs.Verdict.{broken, fault_in, fault_or, verdict}
@@ -16,7 +16,6 @@ use Rattle.msrp_plan.specs.declared.faults.Rule.{Rule}
 use Rattle.msrp_plan.specs.declared.faults.Rule.TheVariants.{A7}
 use Rattle.msrp_plan.specs.declared.rows.Row.{Row}
 use Rattle.msrp_plan.proofs.Runs.Verdicts.{fault_push, fault_stays, good_is_run, run_before, start_is_good, start_push, unbroken_is_legal}
-use Rattle.msrp_report.specs.Inside.Tallies.{HasTallied}
 use Rattle.msrp_report.specs.Lines.{line_of}
 use Rattle.msrp_report.specs.Reports.{HasCounted, HasReported}
 use Rattle.msrp_report.specs.declared.lines.Line.{Line}

@@ -1,4 +1,4 @@
-use Rattle.std.proofs.Common.{◌≡◌, ◌+◌, ◌++◌, ◌∷◌, [], None, take, refl, ap, sym, ◌∙◌, subst}
+use Rattle.std.proofs.Common.{◌+◌, ◌++◌, ◌∷◌, [], take, refl, sym, ◌∙◌, subst}
 use Rattle.msrp_plan.specs.Runs.{IsRun}
 use Rattle.msrp_report.specs.Reports.{HasCounted}
 use Rattle.msrp_report.proofs.Reporting.{one_more, part_good}
