@@ -1,12 +1,12 @@
 -- The line at the front of a text, as far as it was looked at.
-use Rattle.std.proofs.Common.{◌≡◌, ◌≤◌, ◌<◌, ◌+◌, ◌-◌, ◌==◌, ◌&&◌, ◌||◌, ◌⊎◌, ◌++◌, ◌∷◌, ◌∙◌, [], ℕ, List, Bool, true, false, length, slice_index, subst, Option, Some, take, take-append-drop, drop, refl, sym, ap, inl, inr, append_assoc, eq-eqb, ne_eqb, length-append, length-take-le, arith}
+use Rattle.std.proofs.Common.{◌≡◌, ◌≤◌, ◌<◌, ◌+◌, ◌-◌, ◌==◌, ◌&&◌, ◌||◌, ◌⊎◌, ◌++◌, ◌∷◌, ◌∙◌, [], ℕ, List, Bool, true, false, length, slice_index, subst, Option, Some, take, take-append-drop, drop, refl, sym, ap, inl, inr, append_assoc, eq-eqb, ne_eqb, length-append, length-drop, length-take-le, arith}
 use Rattle.std.proofs.Math.ListN.{get_or-append}
 use Rattle.std.proofs.Math.Nat.{eq-or-lt_of_le}
 use Rattle.std.proofs.Math.Seq.{get_or-append_seam}
 use Rattle.std.proofs.lemmas.Bool.{not-true, and_parts, and_right, eqb-true, or_cases, or_from, or_parts}
 use Rattle.std.proofs.lemmas.List.Folds.{list_any-append}
 use Rattle.std.specs.List.{list_any}
-use Rattle.std.proofs.lemmas.List.{append-nil, drop-append-le, nil_from_length, take_at, take_more}
+use Rattle.std.proofs.lemmas.List.{append-nil, drop-append-le, drop_at, nil_from_length, take_all, take_at, take_more}
 use mathlib.Core.Bool.{true≢false}
 use Rattle.msrp_text.specs.Records.{bytes_ahead, bytes_left}
 use Rattle.msrp_text.specs.declared.records.RecordReader.{RecordReader}
@@ -153,6 +153,14 @@ pub begins-parts : (front rest text : List ℕ) → BeginsWith (front ++ rest) t
 begins-parts front rest text begins =
     let after = after-ended (front ++ rest) begins.0 begins.1 text begins.2 begins.3 in
     (after.0, after.1 ∙ append_assoc front rest after.0, after.2)
+
+-- what comes behind a front
+pub front-behind : (text front : List ℕ) → ((after : List ℕ) × (text ≡ front ++ after)) → text ≡ front ++ take (length text - length front) (drop (length front) text)
+front-behind text front h =
+    let behind = drop (length front) text in
+    let all : take (length text - length front) behind ≡ behind = take_all (length text - length front) behind (omega (arith, length-drop (length front) text)) in
+    let same : behind ≡ h.0 = ap (λ (t : List ℕ). drop (length front) t) h.1 ∙ drop_at front h.0 (length front) refl in
+    h.1 ∙ ap (λ (t : List ℕ). front ++ t) (sym (all ∙ same))
 
 -- ---- a text of which more may come
 -- of two texts that begin the same one, the one begins with the other

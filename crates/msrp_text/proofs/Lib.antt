@@ -2,6 +2,7 @@ pub mod Remaining
 pub mod PlainLines
 pub mod AheadBytes
 pub mod Fronts
+pub mod FirstFields
 pub mod Digits
 pub mod Texts
 pub mod Judging

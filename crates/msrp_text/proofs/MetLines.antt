@@ -1,15 +1,15 @@
 -- The line of a record of a number and plain fields, as it stands in a text.
-use Rattle.std.proofs.Common.{◌==◌, ◌^◌, decimal, ◌≡◌, ◌≤◌, ◌<◌, ◌++◌, ◌∷◌, ◌∙◌, [], ℕ, List, true, false, not, length, refl, sym, ap, append_assoc, append-nil, arith}
+use Rattle.std.proofs.Common.{◌==◌, ◌^◌, decimal, ◌≡◌, ◌≤◌, ◌<◌, ◌++◌, ◌∷◌, ◌∙◌, [], ℕ, Bool, List, true, false, not, length, refl, sym, ap, append_assoc, append-nil, arith}
 use Rattle.std.specs.Char.{is_ascii_digit}
 use Rattle.std.specs.List.{AllByRecursion, list_all, list_any}
-use Rattle.std.proofs.lemmas.Bool.{and_from, and_parts, or_parts}
+use Rattle.std.proofs.lemmas.Bool.{and_from, and_parts, or_from, or_parts}
 use Rattle.std.proofs.lemmas.Bool.Decides.{nat_tests}
 use Rattle.std.proofs.lemmas.Fmt.{decimal_nonempty}
 use Rattle.std.proofs.lemmas.List.{append_cancel_right}
 use Rattle.std.proofs.lemmas.List.Folds.{list_any-append}
 use Rattle.csv.specs.Writing.{default_writer, needs_byte}
 use Rattle.csv.specs.declared.parser.State.TheVariants as st
-use Rattle.msrp_text.specs.Plain.{is_mark, is_plain, split_commas}
+use Rattle.msrp_text.specs.Plain.{is_mark, is_plain, is_plain_field, split_commas}
 use Rattle.msrp_text.specs.PlanText.{next_fields, record_text}
 use Rattle.msrp_text.specs.Records.{records_at}
 use Rattle.msrp_text.proofs.Numerals.{all_digits, plain_decimal}
@@ -49,6 +49,29 @@ begun-plain (b ∷ bs) rest some digits none = and_from _ _ (ap not (digit-plain
 -- the line of a record of plain fields, a number first
 line-is : (n : ℕ) (fields : List (List ℕ)) (line : List ℕ) → line ++ (10 ∷ []) ≡ record_text (decimal n ∷ fields) → line ≡ decimal n ++ commas fields
 line-is n fields line e = append_cancel_right line (decimal n ++ commas fields) (10 ∷ []) (e ∙ ap (λ (t : List ℕ). decimal n ++ t) (commas-fed fields) ∙ sym (append_assoc (decimal n) (commas fields) (10 ∷ [])))
+
+-- no digit is such a byte
+digits-none : (p : ℕ → Bool) → ((b : ℕ) → is_ascii_digit b ≡ true → p b ≡ false) → (digits : List ℕ) → list_all is_ascii_digit digits ≡ true → list_any p digits ≡ false
+digits-none p h [] all = refl
+digits-none p h (b ∷ rest) all = or_from _ _ (h b (and_parts _ _ all).0) (digits-none p h rest (and_parts _ _ all).1)
+
+digit-mark : (b : ℕ) → is_ascii_digit b ≡ true → is_mark b ≡ false
+digit-mark b h = grind (arith, nat_tests, h)
+
+digit-comma : (b : ℕ) → is_ascii_digit b ≡ true → (b == 44) ≡ false
+digit-comma b h = grind (arith, nat_tests, h)
+
+digits-field : (digits : List ℕ) → 0 < length digits → list_all is_ascii_digit digits ≡ true → is_plain_field digits ≡ true
+digits-field [] some all = absurd (omega (arith, some))
+digits-field (b ∷ rest) some all =
+    let first = digit-plain b (and_parts _ _ all).0 in
+    let mark = digits-none is_mark digit-mark (b ∷ rest) all in
+    let comma = digits-none (λ n. n == 44) digit-comma (b ∷ rest) all in
+    and_from _ _ (and_from _ _ (ap not first) (ap not mark)) (ap not comma)
+
+-- a number is a plain field
+pub decimal-field : (n : ℕ) → n < 2 ^ 64 → is_plain_field (decimal n) ≡ true
+decimal-field n fits = digits-field (decimal n) (decimal_nonempty n fits) (all_digits n fits)
 
 -- it is plain
 line-plain : (n : ℕ) (fields : List (List ℕ)) (line : List ℕ) → n < 2 ^ 64 → AllByRecursion IsPlain fields → line ≡ decimal n ++ commas fields → is_plain line ≡ true

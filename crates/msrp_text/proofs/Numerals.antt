@@ -30,6 +30,10 @@ tells_decimal n h = decimal_by_steps Tells tells_one tells_more n h
 pub all_digits : (n : ℕ) → n < 2 ^ 64 → list_all is_ascii_digit (decimal n) ≡ true
 all_digits n h = (tells_decimal n h).0
 
+-- what the digits of a number stand for
+pub decimal_value : (n : ℕ) → n < 2 ^ 64 → digits_value (decimal n) ≡ n
+decimal_value n h = (tells_decimal n h).1
+
 -- it doesn't begin with 0 unless it is 0
 begins : (n : ℕ) → n < 2 ^ 64 → ((length (decimal n) == 1) || not (get_or (decimal n) 0 0 == 48)) ≡ true
 begins n h = elim (cases_eq n 0) [

@@ -20,19 +20,19 @@ unfolding next_record
 start-same fields field c tail n = rw n refl
 
 -- a byte that ends no record starts one as it starts a field
-record-same : (fields : List (List ℕ)) (field : List ℕ) (c : ℕ) (tail : List ℕ) → (c == 13) ≡ false → (c == 10) ≡ false
+pub record-same : (fields : List (List ℕ)) (field : List ℕ) (c : ℕ) (tail : List ℕ) → (c == 13) ≡ false → (c == 10) ≡ false
     → next_record default_config st.StartRecord fields field (c ∷ tail) ≡ next_record default_config st.StartField fields field (c ∷ tail)
 unfolding next_record
 record-same fields field c tail r n = rw (r, n) refl
 
 -- a line at the start of a field
-start-line : (end : ℕ) (fields : List (List ℕ)) (line tail : List ℕ) → (end == 34) ≡ false → list_any is_mark line ≡ false
+pub start-line : (end : ℕ) (fields : List (List ℕ)) (line tail : List ℕ) → (end == 34) ≡ false → list_any is_mark line ≡ false
     → next_record default_config st.StartField fields [] (line ++ (end ∷ tail)) ≡ next_record default_config st.InField fields [] (line ++ (end ∷ tail))
 start-line end fields [] tail q e = start-same fields [] end tail q
 start-line end fields (b ∷ rest) tail q e = start-same fields [] b _ (or_parts _ _ (or_parts _ _ e).0).0
 
 -- a comma ends a field
-comma-ends : (fields : List (List ℕ)) (field tail : List ℕ)
+pub comma-ends : (fields : List (List ℕ)) (field tail : List ℕ)
     → next_record default_config st.InField fields field (44 ∷ tail) ≡ next_record default_config st.StartField (fields ++ (field ∷ [])) [] tail
 unfolding next_record
 comma-ends fields field tail = refl
@@ -50,7 +50,7 @@ unfolding next_record
 return-ends tail fields field = refl
 
 -- any other byte joins the field
-byte-joins : (fields : List (List ℕ)) (field : List ℕ) (b : ℕ) (tail : List ℕ) → (b == 44) ≡ false → is_mark b ≡ false
+pub byte-joins : (fields : List (List ℕ)) (field : List ℕ) (b : ℕ) (tail : List ℕ) → (b == 44) ≡ false → is_mark b ≡ false
     → next_record default_config st.InField fields field (b ∷ tail) ≡ next_record default_config st.InField fields (field ++ (b ∷ [])) tail
 unfolding next_record
 byte-joins fields field b tail c m =
@@ -174,7 +174,7 @@ split-ends fields field xs h = ap split_commas (sym (append-nil xs)) ∙ h []
 
 -- ---- the records that are left
 -- a text that doesn't begin as a byte order mark does
-begins : (begun : Bool) (rest : List ℕ) (b : ℕ) → not (b == 239) ≡ true → records_of begun (b ∷ rest) ≡ records_at st.StartRecord (b ∷ rest)
+pub begins : (begun : Bool) (rest : List ℕ) (b : ℕ) → not (b == 239) ≡ true → records_of begun (b ∷ rest) ≡ records_at st.StartRecord (b ∷ rest)
 begins true rest b h = refl
 begins false rest b h = rw (no-bom b rest (not-true _ h)) refl
 

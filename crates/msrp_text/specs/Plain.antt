@@ -1,5 +1,6 @@
 -- Plain lines, whose fields stand between commas.
 use Rattle.std.specs.Prelude.{◌≡◌, ◌⊎◌, ◌≤◌, ◌<◌, ℕ, Bool, true, false, not, List, [], ◌∷◌, ◌++◌, length, take, Option, MatchOption, ◌==◌, ◌&&◌, ◌||◌, if◌then◌else◌}
+use Rattle.std.specs.Char.{is_ascii_digit}
 use Rattle.std.specs.List.{list_any}
 use Rattle.msrp_text.specs.declared.front.Front.{Front}
 use Rattle.msrp_text.specs.declared.front.Front.TheVariants as front
@@ -57,3 +58,11 @@ Stands text row front.Other = NoLine LONGEST text
 -- the plain line of these fields at the front of a text, or none where none stands there that is short enough
 abbrev pub IsPeeked : List ℕ → List (List ℕ) → Option PlainLine → Type 0
 IsPeeked text row found = MatchOption found (NoLine LONGEST text) (λ line. IsFront text line row)
+
+-- a text begins with a field, and then a field of one digit, each with a comma after it
+abbrev pub BeginsWithDigit : List ℕ → ℕ → List ℕ → Type 0
+BeginsWithDigit first digit text = (is_ascii_digit digit ≡ true) × ((after : List ℕ) × (text ≡ first ++ (44 ∷ digit ∷ 44 ∷ after)))
+
+-- a plain line without a comma: one field of it
+abbrev pub is_plain_field : List ℕ → Bool
+is_plain_field field = is_plain field && not (list_any (λ b. b == 44) field)

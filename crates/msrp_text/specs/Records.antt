@@ -1,5 +1,5 @@
 -- The records of a text, and those that a reader of records has left.
-use Rattle.std.specs.Prelude.{◌≡◌, ◌+◌, ℕ, Bool, true, false, List, [], ◌∷◌, length, Option, Some, None, option_map, if◌then◌else◌}
+use Rattle.std.specs.Prelude.{◌≡◌, ◌+◌, ◌++◌, ℕ, Bool, true, false, List, [], ◌∷◌, length, Option, Some, None, option_map, if◌then◌else◌}
 use Rattle.csv.specs.Reading.{default_config, records, reader_source, records_from, source_of, strip_bom, reader_state}
 use Rattle.csv.specs.declared.parser.State.{State}
 use Rattle.csv.specs.declared.parser.State.TheVariants as st
@@ -107,3 +107,8 @@ KeepsRecords old new = (left : List (List (List ℕ))) → old ≡ Some left →
 -- no record was left, where those that were are known
 abbrev pub HasNone : Option (List (List (List ℕ))) → Type 0
 HasNone known = (left : List (List (List ℕ))) → known ≡ Some left → left ≡ []
+
+-- the first of these records begins with these fields
+abbrev pub FirstBegins : List (List ℕ) → List (List (List ℕ)) → Type 0
+FirstBegins fields [] = ⊥
+FirstBegins fields (r ∷ rest) = (more : List (List ℕ)) × (r ≡ fields ++ more)

@@ -1,9 +1,9 @@
 //! Plain lines, whose fields stand between commas: a plain line isn't empty, has no quote, doesn't begin as a byte order mark does, is
 //! shorter than [`LONGEST`], and ends with LF, CR or CRLF.
-ghost use Rattle.std.specs.Prelude.{◌≡◌, ◌==◌, ◌&&◌, ◌||◌, ◌≤◌, ◌<◌, ◌⊎◌, ◌++◌, ◌∷◌, ℕ, List, [], IfOk, IsSome, true, false, slice_index, length, take, drop};
+ghost use Rattle.std.specs.Prelude.{◌≡◌, ◌==◌, ◌&&◌, ◌||◌, ◌≤◌, ◌<◌, ◌⊎◌, ◌++◌, ◌∷◌, ℕ, List, [], Some, IfOk, IsSome, true, false, slice_index, length, take, drop};
 ghost use Rattle.std.specs.Option.{IfSome};
 ghost use Rattle.csv.specs.Records.{fields_of, partial_of};
-ghost use Rattle.msrp_text.specs.Plain.{BeginsWith, EndsLine, Stands, is_plain, split_commas, split_from};
+ghost use Rattle.msrp_text.specs.Plain.{BeginsWith, BeginsWithDigit, EndsLine, Stands, is_plain, split_commas, split_from};
 
 use csv::ByteRecord;
 use std::alloc::AllocError;
@@ -124,7 +124,21 @@ pub(crate) fn line_met(text: &[u8], front: &[u8], rest: &[u8]) -> Option<usize>
     ensures line { IfSome result (λ taken. (0 < taken) × (taken ≤ length text.now) × EndsLine (front.now ++ rest.now) (take taken text.now)) }
     ensures finds { BeginsWith (front.now ++ rest.now) text.now → IsSome result }
 {
-    let end = text.strip_prefix(front)?.strip_prefix(rest)?;
+    if !text.starts_with(front) {
+        return None;
+    }
+    rest_met(text, front, rest)
+}
+
+/// The same, where the text is known to begin with the first part.
+#[inline(always)]
+pub(crate) fn rest_met(text: &[u8], front: &[u8], rest: &[u8]) -> Option<usize>
+    requires { (after : List ℕ) × (text.now ≡ front.now ++ after) }
+    ensures line { IfSome result (λ taken. (0 < taken) × (taken ≤ length text.now) × EndsLine (front.now ++ rest.now) (take taken text.now)) }
+    ensures finds { BeginsWith (front.now ++ rest.now) text.now → IsSome result }
+{
+    let middle = &text[front.len()..];
+    let end = middle.strip_prefix(rest)?;
     let length = front.len() + rest.len();
     if end.starts_with(b"\n") {
         return Some(length + 1);
@@ -134,6 +148,19 @@ pub(crate) fn line_met(text: &[u8], front: &[u8], rest: &[u8]) -> Option<usize>
     }
     if end.starts_with(b"\r") {
         return Some(length + 1);
+    }
+    None
+}
+
+/// The digit that is the second field of a text, where the first is that one and both have a comma after them.
+#[inline(always)]
+pub(crate) fn digit_after(text: &[u8], first: &[u8]) -> Option<u8>
+    ensures digit { IfSome result (λ digit. BeginsWithDigit first.now digit text.now) }
+    ensures finds { (digit : ℕ) → BeginsWithDigit first.now digit text.now → result ≡ Some digit }
+{
+    let rest = text.strip_prefix(first)?;
+    if rest.len() >= 3 && rest[0] == b',' && rest[1].is_ascii_digit() && rest[2] == b',' {
+        return Some(rest[1]);
     }
     None
 }

@@ -1,15 +1,16 @@
 //! The records of a text, read in turn.
-ghost use Rattle.std.specs.Prelude.{◌≡◌, ◌==◌, ◌⊎◌, ◌≤◌, ◌<◌, ◌+◌, ◌++◌, [], ℕ, List, Some, None, Err, IfOk, IfErr, OnOk, OnErr, IsSome, option_map, length, take, true, false};
+ghost use Rattle.std.specs.Prelude.{◌≡◌, ◌==◌, ◌⊎◌, ◌≤◌, ◌<◌, ◌+◌, ◌++◌, ◌∷◌, [], ℕ, List, Some, None, Err, IfOk, IfErr, OnOk, OnErr, IsSome, option_map, length, take, true, false};
 ghost use Rattle.std.specs.List.{list_any};
+ghost use Rattle.std.specs.Option.{IfSome};
 ghost use Rattle.csv.specs.Records.{fields_of};
 ghost use Rattle.msrp_text.specs.declared.front.TheConstants.{LONGEST};
 ghost use Rattle.msrp_text.specs.declared.lines.TheConstants.{ROOM};
 ghost use Rattle.std.specs.Io.KnownBytes.{Keeps};
-ghost use Rattle.msrp_text.specs.Plain.{BeginsWith, EndsLine, IsPeeked, NoLine, is_plain, split_commas};
-ghost use Rattle.msrp_text.specs.Records.{GivesLine, GivesNext, HasNone, KeepsRecords, bytes_ahead, bytes_left, csv_records, is_csv, left_at, read_failed, reader_under, reads_csv, records_left, stop_at, stop_of};
+ghost use Rattle.msrp_text.specs.Plain.{BeginsWith, BeginsWithDigit, EndsLine, IsPeeked, NoLine, is_plain, is_plain_field, split_commas};
+ghost use Rattle.msrp_text.specs.Records.{FirstBegins, GivesLine, GivesNext, HasNone, KeepsRecords, bytes_ahead, bytes_left, csv_records, is_csv, left_at, read_failed, reader_under, reads_csv, records_left, stop_at, stop_of};
 
 use crate::csv_records::CsvRecords;
-use crate::front::{LONGEST, PlainLine, line_met};
+use crate::front::{LONGEST, PlainLine, digit_after, line_met, rest_met};
 use crate::lines::Lines;
 use core::mem;
 use csv::ByteRecord;
@@ -108,6 +109,41 @@ impl<R: Read> RecordReader<R> {
             }
             None => false,
         }
+    }
+
+    /// The same, where the first text is known to come next, as from [`RecordReader::digit_after`]: it isn't compared again, and no more is
+    /// read.
+    #[inline(always)]
+    pub fn meets_behind(&mut self, front: &[u8], rest: &[u8]) -> bool
+        requires { (after : List ℕ) × (bytes_ahead self.old ≡ front.now ++ after) }
+        ensures taken { result ≡ true → is_plain (front.now ++ rest.now) ≡ true → GivesLine (records_left R.remaining self.old) (split_commas (front.now ++ rest.now)) (records_left R.remaining self.new) }
+        ensures kept { result ≡ false → KeepsRecords (records_left R.remaining self.old) (records_left R.remaining self.new) }
+        ensures stop { stop_of self.new ≡ stop_of self.old }
+        ensures ahead { BeginsWith (front.now ++ rest.now) (bytes_ahead self.old) → result ≡ true }
+    {
+        match rest_met(self.ahead(), front, rest) {
+            Some(taken) => {
+                self.take_line(taken);
+                true
+            }
+            None => false,
+        }
+    }
+
+    /// The second field of the next record, where it is one digit, the first field is that text, and both stand as they are at the front
+    /// of what was read ahead; else none, and nothing is known. More is read first, as in [`RecordReader::meets`].
+    #[inline(always)]
+    pub fn digit_after(&mut self, first: &[u8]) -> Option<u8>
+        ensures next { IfSome result (λ digit. is_plain_field first.now ≡ true → (left : List (List (List ℕ))) → records_left R.remaining self.new ≡ Some left → FirstBegins (first.now ∷ (digit ∷ []) ∷ []) left) }
+        ensures ahead { IfSome result (λ digit. BeginsWithDigit first.now digit (bytes_ahead self.new)) }
+        ensures finds { (digit : ℕ) → BeginsWithDigit first.now digit (bytes_ahead self.new) → result ≡ Some digit }
+        ensures same { KeepsRecords (records_left R.remaining self.old) (records_left R.remaining self.new) }
+        ensures stop { stop_of self.new ≡ stop_of self.old }
+    {
+        if self.ahead().len() <= LONGEST {
+            self.read_line_ahead();
+        }
+        digit_after(self.ahead(), first)
     }
 
     // Reads ahead until a whole line is there, or as many bytes as the longest has, or no more come.
