@@ -1,6 +1,7 @@
 pub mod Names
 pub mod Fields
 pub mod Telling
+pub mod FirstRows
 pub mod Gathered
 pub mod Shown
 pub mod Records

@@ -1,9 +1,10 @@
 -- What a reader of rows has left, and what each call gives.
-use Rattle.std.specs.Prelude.{◌++◌, ◌+◌, ◌^◌, ◌<◌, codes, ◌≡◌, ◌⊎◌, ℕ, Bool, true, false, List, [], ◌∷◌, Option, Some, None, Result, Ok, Err, option_map, IsOkAnd, ⊤, drop, ◌-◌}
+use Rattle.std.specs.Prelude.{◌++◌, ◌+◌, ◌^◌, ◌<◌, codes, decimal, ◌≡◌, ◌⊎◌, ℕ, Bool, true, false, List, [], ◌∷◌, Option, Some, None, Result, Ok, Err, option_map, IsSome, IsOkAnd, ⊤, drop, ◌-◌}
 use Rattle.csv.specs.Records.{fields_of}
 use Rattle.msrp_plan.specs.Bytes.{source_remaining}
 use Rattle.msrp_plan.specs.declared.bytes.Source.{Source}
 use Rattle.msrp_plan.specs.Plan.{PlanModel}
+use Rattle.msrp_plan.specs.declared.ids.CoreId.{CoreId}
 use Rattle.msrp_plan.specs.declared.rows.Row.{Row}
 use Rattle.msrp_plan.specs.declared.rows.TextVersion.{TextVersion}
 use Rattle.msrp_text.specs.Plain.{BeginsWith}
@@ -110,6 +111,11 @@ pub record IsTextOf {R : Type 0} (t : TraceReader R) (texts : TextsModel) (n cor
   pub whole : is_told_whole t.version t.plan.now r ≡ true
   pub text : text_of_core texts core ≡ after_tick t.version t.plan.now r
 
+-- the bytes that were read ahead begin with the text of the tick, and a further row may come
+pub record IsAtTick {R : Type 0} (n : ℕ) (t : TraceReader R) : Type 0 where
+  pub state : t.state ≡ Rows
+  pub text : (after : List ℕ) × (bytes_ahead t.records ≡ decimal n ++ after)
+
 -- ---- the record that is refused
 -- the record that a reader has read last, field by field
 abbrev pub record_read : {R : Type 0} → TraceReader R → List (List ℕ)
@@ -134,3 +140,12 @@ StandsBehind remaining records (Err error) t = IsRecordOf records error (record_
 abbrev pub error_of : {R : Type 0} → Result (TraceReader R) Unopened → Result (TraceReader R) TraceError
 error_of (Ok reader) = Ok reader
 error_of (Err unopened) = Err unopened.error
+
+-- ---- the row that is next
+abbrev pub RowsBeginAt : ℕ → CoreId → List Row → Option TraceError → Type 0
+RowsBeginAt tick core (r ∷ rows) refusal = (r.tick ≡ tick) × (r.core ≡ core)
+RowsBeginAt tick core [] refusal = IsSome refusal
+
+-- the next row is of that tick and that core, or its record is refused
+abbrev pub BeginsAt : ℕ → CoreId → Told → Type 0
+BeginsAt tick core told = RowsBeginAt tick core told.rows told.refusal

@@ -3,21 +3,20 @@ ghost use Rattle.std.specs.Prelude.{ℕ, List, ◌+◌, ◌<◌, ◌^◌, ◌%�
 ghost use Rattle.std.specs.List.{All};
 ghost use Rattle.std.specs.Option.{IfSome};
 ghost use Rattle.msrp_plan.specs.Stretches.{in_tick};
-ghost use Rattle.msrp_plan.specs.WellFormed.{IsPlan};
 ghost use Rattle.msrp_trace.specs.Gathering.{after_tick};
-ghost use Rattle.msrp_trace.specs.Laws.{has_short_ahead, has_short_job, has_short_numbers, has_told_ahead, is_short, is_told_whole};
+ghost use Rattle.msrp_trace.specs.Laws.{is_short, is_told_whole};
 ghost use Rattle.msrp_trace.specs.Lines.{IsLine};
 ghost use Rattle.msrp_plan.specs.Plan.{PlanModel};
 ghost use Rattle.msrp_plan.specs.declared.rows.TextVersion.{TextVersion};
-ghost use Rattle.msrp_trace.specs.TraceText.{is_named};
 ghost use Rattle.msrp_trace.specs.declared.line.RowLine.{RowLine as Kept};
 
 use crate::line::RowLine;
 use crate::texts::rest_of;
 use crate::tick::Tick;
-use crate::writing::{is_named, show_line};
+use crate::whole::is_told_whole;
+use crate::writing::show_line;
 use msrp_plan::limits::MOST_CORES;
-use msrp_plan::{CoreId, JobId, Kind, Plan, Row, TextVersion};
+use msrp_plan::{CoreId, Kind, Plan, Row, TextVersion};
 use std::array;
 
 /// The texts of the rows that were foreseen last: that of the tick, and for each core what stands after it.
@@ -25,66 +24,6 @@ use std::array;
 pub(crate) struct Foreseen {
     tick: Tick,
     lines: [RowLine; MOST_CORES as usize],
-}
-
-// The least number of ten digits.
-const LONG: u32 = 1_000_000_000;
-
-/// Whether a number has at most nine digits.
-pub(crate) fn is_short(number: u32) -> bool
-    ensures { result ≡ is_short number }
-{
-    number < LONG
-}
-
-fn has_short_job(job: Option<JobId>) -> bool
-    ensures { result ≡ has_short_job job }
-{
-    match job {
-        Some(job) => is_short(job.k),
-        None => true,
-    }
-}
-
-fn has_short_ahead(ahead: Option<u32>) -> bool
-    ensures { result ≡ has_short_ahead ahead }
-{
-    match ahead {
-        Some(ahead) => is_short(ahead),
-        None => true,
-    }
-}
-
-// Whether each number of the row has at most nine digits.
-fn has_short_numbers(row: &Row) -> bool
-    ensures { result ≡ has_short_numbers row.now }
-{
-    is_short(row.tick)
-        && is_short(row.core.0)
-        && has_short_job(row.job)
-        && has_short_ahead(row.ahead)
-}
-
-// Whether the row has an ahead just where a text of the version tells one.
-fn has_told_ahead(version: TextVersion, row: &Row) -> bool
-    ensures { result ≡ has_told_ahead version row.now }
-{
-    match version {
-        TextVersion::V1 => row.ahead.is_none(),
-        TextVersion::V2 => row.kind != Kind::Queue || row.ahead.is_some(),
-    }
-}
-
-/// Whether a row is read back as it is from its text: it names what the plan has, its numbers have at most nine digits, and
-/// it carries an ahead just where the version tells one.
-#[inline(always)]
-pub(crate) fn is_told_whole(plan: &Plan, version: TextVersion, row: &Row) -> bool
-    ensures plan { IsPlan plan.now }
-    ensures whole { result ≡ is_told_whole version plan.now row.now }
-{
-    // Read so that the plan is known to be an accepted one.
-    let _accepted = plan.tasks();
-    is_named(plan, row) && has_short_numbers(row) && has_told_ahead(version, row)
 }
 
 // Whether a core may make such a row twice in a run: it idles, works or waits.

@@ -17,6 +17,7 @@ mod rows;
 mod text;
 mod texts;
 mod tick;
+mod whole;
 mod words;
 mod writing;
 

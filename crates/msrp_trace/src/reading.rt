@@ -1,10 +1,11 @@
 //! Trace text, read.
 ghost use Rattle.std.proofs.Props.{props};
 ghost use Rattle.std.specs.Option.{IfSome};
-ghost use Rattle.std.specs.Prelude.{◌+◌, ◌≡◌, ◌⊎◌, ◌↔◌, ℕ, List, Some, None, Ok, Err, IfOk, IfErr, OnOk, OnErr, true, false};
+ghost use Rattle.std.specs.Prelude.{◌+◌, ◌≡◌, ◌⊎◌, ◌↔◌, decimal, ℕ, List, Some, None, Ok, Err, IfOk, IfErr, OnOk, OnErr, true, false};
 ghost use Rattle.msrp_plan.specs.Bytes.{source_failed, source_remaining};
 ghost use Rattle.csv.specs.Records.{fields_of};
-ghost use Rattle.msrp_text.specs.Records.{csv_records, reader_under};
+ghost use Rattle.msrp_text.specs.Plain.{BeginsWithDigit};
+ghost use Rattle.msrp_text.specs.Records.{bytes_ahead, csv_records, reader_under};
 ghost use Rattle.msrp_plan.specs.WellFormed.{IsPlan};
 ghost use Rattle.msrp_trace.specs.Foreseen.{AreTexts, AreTextsOf};
 ghost use Rattle.msrp_trace.specs.Laws.{as_read, is_told_whole};
@@ -13,10 +14,11 @@ ghost use Rattle.msrp_trace.specs.RowParts.{ReadsAt};
 ghost use Rattle.msrp_trace.specs.Rows.{row_fault, row_told};
 
 use crate::faults::{TraceError, TraceFault};
-use crate::foreseen::{Foreseen, is_short, is_told_whole};
+use crate::foreseen::Foreseen;
 use crate::guesses::Guesses;
 use crate::rows::{read_row, version_told};
 use crate::texts::{RowTexts, rest_of};
+use crate::whole::{is_short, is_told_whole};
 use csv::ByteRecord;
 use msrp_plan::bytes::Source;
 use msrp_plan::limits::MOST_CORES;
@@ -55,24 +57,6 @@ pub struct TraceReader<'a, R> {
     number: u32,
     state: ReaderState,
     ghost texts: { AreTexts version plan.now foreseen } by { Prim.hlevel props },
-}
-
-// A row as a text of the version tells it: version 1 leaves out the ahead.
-#[inline(always)]
-fn told_in(version: TextVersion, row: Row) -> Row
-    ensures { result ≡ as_read version row }
-{
-    match version {
-        TextVersion::V1 => Row {
-            tick: row.tick,
-            core: row.core,
-            kind: row.kind,
-            job: row.job,
-            res: row.res,
-            ahead: None,
-        },
-        TextVersion::V2 => row,
-    }
 }
 
 /// Why no reader of a trace's rows could be opened, and the first record, if one was read.
@@ -143,7 +127,7 @@ fn numbered_row(
 }
 
 impl<'a, R: Read> TraceReader<'a, R> {
-    ghost use Rattle.msrp_trace.specs.Readers.{CanMeet, ComesNext, GivesFirstOr, GivesNext, HoldsUnlessFailed, IsOfTrace, IsRecordOf, IsTextOf, Opens, StandsBehind, StandsIn, ahead_failed, error_of, has_failed, record_read, source_of, told_left};
+    ghost use Rattle.msrp_trace.specs.Readers.{BeginsAt, CanMeet, ComesNext, GivesFirstOr, GivesNext, HoldsUnlessFailed, IsAtTick, IsOfTrace, IsRecordOf, IsTextOf, Opens, StandsBehind, StandsIn, ahead_failed, error_of, has_failed, record_read, source_of, told_left};
 
     /// The rows of all that a source has left, for a trace of the plan. R1 is refused here.
     pub fn new(
@@ -279,6 +263,17 @@ impl<'a, R: Read> TraceReader<'a, R> {
         self.version
     }
 
+    /// A row as the trace tells it: version 1 leaves out the ahead.
+    #[inline(always)]
+    pub fn as_read(&self, row: Row) -> Row
+        ensures { result ≡ as_read self.now.version row }
+    {
+        match self.version {
+            TextVersion::V1 => row.without_ahead(),
+            TextVersion::V2 => row,
+        }
+    }
+
     /// Whether the next row is one of the core in that tick, with the text that is kept of it. The text is compared with the bytes that come
     /// next, as [`TraceReader::meets`] compares the text of a row.
     #[inline(always)]
@@ -289,6 +284,8 @@ impl<'a, R: Read> TraceReader<'a, R> {
         ensures going { result ≡ true → has_failed self.old ≡ false }
         ensures trace { IsOfTrace self.old self.new }
         ensures finds { (row : Row) → IsTextOf self.old texts.now tick core.0 row → CanMeet self.old row → result ≡ true }
+        ensures stands { (row : Row) (records : List (List (List ℕ))) → IsTextOf self.old texts.now tick core.0 row → StandsIn R.remaining records self.old → StandsIn R.remaining records self.new }
+        ensures still { result ≡ false → (records : List (List (List ℕ))) → StandsIn R.remaining records self.old → StandsIn R.remaining records self.new }
     {
         let (Some(next_number), ReaderState::Rows) = (self.number.checked_add(1), self.state) else {
             return false;
@@ -305,6 +302,56 @@ impl<'a, R: Read> TraceReader<'a, R> {
         met
     }
 
+    /// The same behind [`TraceReader::core_ahead`] of that tick: the text of the tick isn't compared again, and no more is read.
+    #[inline(always)]
+    pub fn comes_behind(&mut self, tick: u32, texts: &RowTexts<'_>, core: CoreId) -> bool
+        requires { IsAtTick tick self.old }
+        ensures taken { result ≡ true → (row : Row) (told : Told) → IsTextOf self.old texts.now tick core.0 row → told_left R.remaining self.old ≡ Some told → GivesNext told (Ok (Some row)) (told_left R.remaining self.new) }
+        ensures kept { result ≡ false → (told : Told) → told_left R.remaining self.old ≡ Some told → told_left R.remaining self.new ≡ Some told }
+        ensures same { has_failed self.new ≡ has_failed self.old }
+        ensures trace { IsOfTrace self.old self.new }
+        ensures finds { (row : Row) → IsTextOf self.old texts.now tick core.0 row → CanMeet self.old row → result ≡ true }
+        ensures stands { (row : Row) (records : List (List (List ℕ))) → IsTextOf self.old texts.now tick core.0 row → StandsIn R.remaining records self.old → StandsIn R.remaining records self.new }
+        ensures still { result ≡ false → (records : List (List (List ℕ))) → StandsIn R.remaining records self.old → StandsIn R.remaining records self.new }
+    {
+        let Some(after) = self.number.checked_add(1) else {
+            return false;
+        };
+        // Read so that the plan is known to be an accepted one.
+        let _accepted = self.plan.tasks();
+        self.foreseen.to_tick(tick);
+        let core = (core.0 % MOST_CORES) as usize;
+        let (tick, rest) = (self.foreseen.tick(), rest_of(&texts.lines, core));
+        let met = self.records.meets_behind(tick, rest);
+        if met {
+            self.number = after;
+        }
+        met
+    }
+
+    /// The core of the next row, where its text begins with this tick and a core of one digit, as rows are written; else none, and nothing
+    /// is known. Nothing is taken.
+    #[inline(always)]
+    pub fn core_ahead(&mut self, tick: u32) -> Option<CoreId>
+        ensures next { (told : Told) → told_left R.remaining self.old ≡ Some told → IfSome result (λ core. BeginsAt tick core told) }
+        ensures kept { (told : Told) → told_left R.remaining self.old ≡ Some told → told_left R.remaining self.new ≡ Some told }
+        ensures same { has_failed self.new ≡ has_failed self.old }
+        ensures going { ¬ (result ≡ None) → has_failed self.old ≡ false }
+        ensures trace { IsOfTrace self.old self.new }
+        ensures stands { (records : List (List (List ℕ))) → StandsIn R.remaining records self.old → StandsIn R.remaining records self.new }
+        ensures here { ¬ (result ≡ None) → IsAtTick tick self.new }
+        ensures finds { self.old.state ≡ ReaderState.Rows → (core : CoreId) → BeginsWithDigit (decimal tick) (48 + core.0) (bytes_ahead self.new.records) → result ≡ Some core }
+    {
+        let ReaderState::Rows = self.state else {
+            return None;
+        };
+        self.foreseen.to_tick(tick);
+        match self.records.digit_after(self.foreseen.tick()) {
+            Some(digit) => Some(CoreId(u32::from(digit - b'0'))),
+            None => None,
+        }
+    }
+
     /// The core of the next row, if it is one of that tick, guessed from the bytes that were read ahead. Nothing rests on it: there may be
     /// none, or another.
     #[inline(always)]
@@ -314,7 +361,7 @@ impl<'a, R: Read> TraceReader<'a, R> {
         ensures trace { IsOfTrace self.old self.new }
     {
         self.foreseen.to_tick(tick);
-        self.core_ahead()
+        self.core_guessed()
     }
 
     /// The next row, where it is its core's last one again, in another tick, as far as that one is kept. It is met as
@@ -332,7 +379,7 @@ impl<'a, R: Read> TraceReader<'a, R> {
             return None;
         };
         self.foreseen.turn_to(self.records.ahead());
-        let Some(core) = self.core_ahead() else {
+        let Some(core) = self.core_guessed() else {
             return None;
         };
         let Some(row) = self.foreseen.alike(core) else {
@@ -390,8 +437,8 @@ impl<'a, R: Read> TraceReader<'a, R> {
         ensures trace { IsOfTrace self.old self.new }
         ensures stands { (records : List (List (List ℕ))) → StandsIn R.remaining records self.old → StandsBehind R.remaining records result self.new }
     {
-        if let Some(row) = self.core_ahead().and_then(foresee) {
-            let row = told_in(self.version, row);
+        if let Some(row) = self.core_guessed().and_then(foresee) {
+            let row = self.as_read(row);
             if self.meets(&row) {
                 return Ok(Some(row));
             }
@@ -402,7 +449,7 @@ impl<'a, R: Read> TraceReader<'a, R> {
     /// The core of the next row, guessed from the bytes that were read ahead. Nothing rests on it: there may be none, or
     /// another.
     #[inline(always)]
-    fn core_ahead(&self) -> Option<CoreId> {
+    fn core_guessed(&self) -> Option<CoreId> {
         let last = self.foreseen.tick().len();
         match self.records.ahead().get(last + 1) {
             Some(digit) if digit.is_ascii_digit() => Some(CoreId(u32::from(*digit - b'0'))),

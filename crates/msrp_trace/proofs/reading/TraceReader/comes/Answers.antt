@@ -1,7 +1,9 @@
 use Rattle.std.proofs.Common.{rules, ◌≡◌, ◌+◌, ◌++◌, ◌%◌, codes, List, ℕ, sym, ap, ◌∙◌, decimal, slice_index_or, true}
 use Rattle.msrp_trace.specs.Gathering.{after_tick}
 use Rattle.msrp_trace.proofs.MetRows.{met_row, row_begins, row_line}
+use Rattle.msrp_trace.proofs.ReadBack.{whole_line}
 use Rattle.msrp_trace.proofs.Shown.{line_text, no_line}
+use Rattle.msrp_trace.proofs.Standing.{line_stands}
 use Rattle.msrp_trace.proofs.Telling.{keeps_told}
 use Rattle.msrp_trace.specs.Reading.{told_after}
 use Rattle.msrp_trace.proofs.reading.TraceReader.comes.Goals as goal
@@ -33,3 +35,20 @@ returns-else-met-clause-finds g c = λ row is can.
     let tick : c.tick-tick.result.now ≡ decimal row.tick = c.tick-tick.ensures ∙ ap decimal (c.to_tick.ensures.tick ∙ sym is.tick) in
     let line = row_line old.version old.plan.now row c.tick-tick.result.now c.rest_of-rest.result.now tick (ap (λ (t : List ℕ). t ++ codes "\n") (sym rest)) in
     c.meets-met.ensures.ahead (row_begins can.0 c.tick-tick.result.now c.rest_of-rest.result.now _ _ line can.1.text can.2)
+
+pub returns-then-met-clause-stands : goal.returns-then-met-clause-stands
+returns-then-met-clause-stands g c = λ row records is stands.
+    let old = c.args.self.now in
+    let text : (slice_index_or c.texts.inside.lines (c.args.core.0 % 8) no_line).line ≡ after_tick old.version old.plan.now row = line_text c.args.texts.now c.texts.inside c.args.core.0 c.texts.view_is ∙ is.text in
+    let rest = c.rest_of-rest.ensures no_line _ text in
+    let tick : c.tick-tick.result.now ≡ decimal row.tick = c.tick-tick.ensures ∙ ap decimal (c.to_tick.ensures.tick ∙ sym is.tick) in
+    let line = row_line old.version old.plan.now row c.tick-tick.result.now c.rest_of-rest.result.now tick (ap (λ (t : List ℕ). t ++ codes "\n") (sym rest)) in
+    let number : c.in-Some-Rows.next_number ≡ old.number + 1 = search rules in
+    let plain = whole_line old.version old.plan.now row (c.tick-tick.result.now ++ c.rest_of-rest.result.now) c.tasks-accepted.ensures.plan is.whole line in
+    line_stands records old.number c.in-Some-Rows.next_number _ _ _ (c.meets-met.ensures.taken c.if-met.true plain.0) number stands
+
+pub returns-else-met-clause-stands : goal.returns-else-met-clause-stands
+returns-else-met-clause-stands g c = λ row records is stands. c.meets-met.ensures.kept c.if-met.false _ stands
+
+pub returns-else-met-clause-still : goal.returns-else-met-clause-still
+returns-else-met-clause-still g c = λ no records stands. c.meets-met.ensures.kept no _ stands

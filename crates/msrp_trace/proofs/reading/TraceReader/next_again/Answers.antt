@@ -26,14 +26,14 @@ invariant_of-self g c = let old = c.args.self.now in record { texts = c.turn_to.
 -- the row that is asked for anew is the one that was met
 pub returns-then-takes-clause-taken : goal.returns-then-takes-clause-taken
 returns-then-takes-clause-taken g c =
-    let here : Foreseen → Option Row = λ f. option_map (in_tick f.tick.tick) (slice_index_or f.lines (c.in-Some-core_ahead.core.0 % 8) no_line).row in
+    let here : Foreseen → Option Row = λ f. option_map (in_tick f.tick.tick) (slice_index_or f.lines (c.in-Some-core_guessed.core.0 % 8) no_line).row in
     let same : c.last.result ≡ Some c.in-Some-alike.row = c.last.ensures no_line ∙ (ap here c.takes.ensures.texts ∙ c.in-Some-alike.ensures.last no_line) in
     let P : Option Row → Type 0 = λ o. IfSome o (λ r. (told : Told) → told_left g.R.Read.remaining c.args.self.now ≡ Some told → GivesNext told (Ok (Some r)) (told_left g.R.Read.remaining c.takes.new.self)) in
     subst P (sym same) (c.takes.ensures.taken c.if-takes.true)
 
 pub returns-then-takes-clause-kept : goal.returns-then-takes-clause-kept
 returns-then-takes-clause-kept g c = λ none.
-    let here : Foreseen → Option Row = λ f. option_map (in_tick f.tick.tick) (slice_index_or f.lines (c.in-Some-core_ahead.core.0 % 8) no_line).row in
+    let here : Foreseen → Option Row = λ f. option_map (in_tick f.tick.tick) (slice_index_or f.lines (c.in-Some-core_guessed.core.0 % 8) no_line).row in
     let same : c.last.result ≡ Some c.in-Some-alike.row = c.last.ensures no_line ∙ (ap here c.takes.ensures.texts ∙ c.in-Some-alike.ensures.last no_line) in
     let no : None ≡ Some c.in-Some-alike.row = sym none ∙ same in
     absurd (cc)
