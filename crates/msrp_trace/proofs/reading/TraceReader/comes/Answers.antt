@@ -1,4 +1,4 @@
-use Rattle.std.proofs.Common.{rules, ◌≡◌, ◌+◌, ◌++◌, ◌%◌, codes, List, ℕ, sym, ap, ◌∙◌, decimal, slice_index_or, true}
+use Rattle.std.proofs.Common.{rules, ◌≡◌, ◌+◌, ◌++◌, ◌%◌, codes, List, ℕ, sym, ap, ◌∙◌, decimal, slice_index_or}
 use Rattle.msrp_trace.specs.Gathering.{after_tick}
 use Rattle.msrp_trace.proofs.MetRows.{met_row, row_begins, row_line}
 use Rattle.msrp_trace.proofs.ReadBack.{whole_line}
