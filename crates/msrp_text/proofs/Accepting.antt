@@ -20,9 +20,9 @@ use Rattle.msrp_plan.specs.declared.rows.TextVersion.{TextVersion}
 use Rattle.msrp_text.specs.Fields.{text_of}
 use Rattle.msrp_text.specs.PlanText.{resource_record}
 use Rattle.msrp_text.specs.Reading.{body_fault, with_record}
-use Rattle.msrp_text.specs.Positions.{numbered, position_fault, position_plan, position_with}
+use Rattle.msrp_text.specs.Positions.{position_fault, position_plan, position_with}
 use Rattle.msrp_text.specs.declared.positions.Position.TheVariants.{Body}
-use Rattle.msrp_text.proofs.Folding.{plan_from}
+use Rattle.msrp_text.proofs.Folding.{numbered, plan_from}
 
 -- ---- one record after the other
 -- the plan after the records

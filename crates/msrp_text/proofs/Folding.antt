@@ -1,5 +1,6 @@
 -- The plan of a list of records, record by record.
 use Rattle.std.proofs.Common.{◌≡◌, ◌⊎◌, ℕ, Bool, true, false, ◌+◌, List, [], ◌∷◌, ◌++◌, Option, Some, None, Result, Ok, Err, length, take, refl, sym, ◌∙◌, ap, inl, inr, arith, append_assoc, append-nil, length-append, suc}
+use Rattle.std.specs.Result.{result_and}
 use Rattle.std.specs.List.{filter_map, range_with_len, slice_get}
 use Rattle.std.proofs.Math.Seq.{take-append_seam}
 use Rattle.std.proofs.lemmas.List.{take_all}
@@ -10,15 +11,18 @@ use Rattle.msrp_plan.specs.Plan.{PlanModel}
 use Rattle.msrp_plan.specs.declared.faults.PlanFault.{PlanFault}
 use Rattle.msrp_plan.specs.declared.faults.PlanFault.TheVariants as want
 use Rattle.msrp_text.specs.Reading.{Answers, fault_after, first_or, number_told, plan_of, plan_told, refusal_at, version_told, with_record}
-use Rattle.msrp_text.specs.Positions.{Advances, IsTaken, IsTakenAt, next_due, numbered, refusal, position_fault, position_plan, position_with}
+use Rattle.msrp_text.specs.Positions.{IsTaken, IsTakenAt, refusal, position_fault, position_plan, position_with}
 use Rattle.msrp_text.specs.Records.{GivesNext}
-use Rattle.msrp_text.specs.declared.reading.Progress.{Progress}
-use Rattle.msrp_text.specs.declared.reading.Progress.TheVariants.{More, Whole}
 use Rattle.msrp_text.proofs.Remaining.{gave-none, gave-one}
 use Rattle.msrp_text.specs.declared.positions.Position.{Position}
 use Rattle.msrp_text.specs.declared.positions.Position.TheVariants.{Version, Cores, Ticks, Body}
 use Rattle.msrp_text.specs.declared.reading.TextError.{TextError}
-use Rattle.msrp_text.specs.declared.reading.TextError.TheVariants.{At, Memory, Read}
+use Rattle.msrp_text.specs.declared.reading.TextError.TheVariants.{At, Memory}
+
+-- what is due at a record of that number: its refusal, or what comes of it
+abbrev pub numbered : {A : Type 0} → Option PlanFault → ℕ → A → Result A TextError
+numbered None number next = Ok next
+numbered (Some fault) number next = Err (At fault number)
 
 abbrev pub going : Result Position TextError → (Position → Result PlanModel TextError) → Result PlanModel TextError
 going (Ok position) next = next position
@@ -134,101 +138,54 @@ taken-refused None number next fault (inl h) = let e : fault ≡ want.Memory = c
 taken-refused None number next fault (inr h) = absurd (cc)
 taken-refused (Some due) number next fault h = let e : fault ≡ due = cc in ap (λ f. Err (refusal f number)) e
 
--- what comes of a position that is taken, and of one that is refused
-numbered-ok : {A B : Type 0} (f : A → B) (o : Option PlanFault) (number : ℕ) (due x : A) (s : Result A TextError) → IsTakenAt o number due s → s ≡ Ok x → Ok (f x) ≡ numbered o number (f due)
-numbered-ok f None number due x s (inl h) e = cc
-numbered-ok f None number due x s (inr h) e = let same : x ≡ due = cc in rw same refl
-numbered-ok f (Some fault) number due x s h e = cc
+-- a record that is taken or refused, as it is told with the position after it
+pub taken-on : {A U : Type 0} (o : Option PlanFault) (number : ℕ) (next new : A) (r : Result U TextError) (u : U) → IsTakenAt o number next (result_and r (Ok new)) → r ≡ Ok u → IsTakenAt o number next (Ok new)
+taken-on o number next new r u h e = rw e at h
 
-numbered-err : {A B : Type 0} (f : A → B) (o : Option PlanFault) (number : ℕ) (due : A) (s : Result A TextError) (e : TextError) → IsTakenAt o number due s → s ≡ Err e → (e ≡ Memory) ⊎ (Err e ≡ numbered o number (f due))
-numbered-err f None number due s e (inl h) k = inl (cc)
-numbered-err f None number due s e (inr h) k = cc
-numbered-err f (Some fault) number due s e h k = let same : e ≡ refusal fault number = cc in elim (refusal-is fault number) [
-  | inl r ↦ inl (same ∙ r)
-  | inr r ↦ inr (ap (λ x. Err x) (same ∙ r))
+pub refused-on : {A U : Type 0} (o : Option PlanFault) (number : ℕ) (next new : A) (r : Result U TextError) (e : TextError) → IsTakenAt o number next (result_and r (Ok new)) → r ≡ Err e → IsTakenAt o number next (Err e)
+refused-on o number next new r e h k = rw k at h
+
+-- the plan from a position on, where its next record is taken, and where it is refused
+going-on : (o : Option PlanFault) (number : ℕ) (due next : Position) (rest : Position → Result PlanModel TextError) → IsTakenAt o number due (Ok next) → going (numbered o number due) rest ≡ rest next
+going-on None number due next rest (inl memory) = cc
+going-on None number due next rest (inr is) = let same : next ≡ due = cc in rw same refl
+going-on (Some fault) number due next rest h = cc
+
+going-refused : (o : Option PlanFault) (number : ℕ) (due : Position) (e : TextError) (rest : Position → Result PlanModel TextError) → IsTakenAt o number due (Err e) → Answers (Err e) (going (numbered o number due) rest)
+going-refused None number due e rest (inl memory) = let same : e ≡ Memory = cc in inr (inl (ap (λ x. Err x) same))
+going-refused None number due e rest (inr is) = cc
+going-refused (Some fault) number due e rest h = let same : e ≡ refusal fault number = cc in elim (refusal-is fault number) [
+  | inl memory ↦ inr (inl (ap (λ x. Err x) (same ∙ memory)))
+  | inr is ↦ inr (inr (ap (λ x. Err x) (same ∙ is)))
 ]
 
-refused-due : (position : Position) (number : ℕ) (left : List (List (List ℕ))) (after : Option (List (List (List ℕ)))) (e : TextError)
-    → (e ≡ Memory) ⊎ (Err e ≡ next_due position number left) → Advances position number left after (Err e)
-refused-due position number left after e (inl memory) = record { due = inr (inl (rw memory refl)); rest = λ next is. cc }
-refused-due position number left after e (inr due) = record { due = inr (inr due); rest = λ next is. cc }
-
--- a read at a position that gave a record
-pub advances-more : (position next : Position) (number : ℕ) (left : List (List (List ℕ))) (found : Bool) (row : List (List ℕ)) (after : Option (List (List (List ℕ)))) (s : Result Position TextError)
-    → GivesNext left found row after → found ≡ true → IsTakenAt (position_fault position (Some row)) number (position_with position row) s → s ≡ Ok next → Advances position number left after (Ok (More next))
-advances-more position next number left found row after s gives is taken e =
-    let one = gave-one left found row after gives is in
-    record { due = inr (inr (rw one.1 (numbered-ok (λ x. More x) _ number _ next s taken e))); rest = λ other same. (row, one.0, one.1, one.2) }
-
-pub advances-refused : (position : Position) (number : ℕ) (left : List (List (List ℕ))) (found : Bool) (row : List (List ℕ)) (after : Option (List (List (List ℕ)))) (s : Result Position TextError) (e : TextError)
-    → GivesNext left found row after → found ≡ true → IsTakenAt (position_fault position (Some row)) number (position_with position row) s → s ≡ Err e → Advances position number left after (Err e)
-advances-refused position number left found row after s e gives is taken k =
-    let one = gave-one left found row after gives is in
-    refused-due position number left after e (rw one.1 (numbered-err (λ x. More x) _ number _ s e taken k))
-
--- a read at a position that came to the end
-pub advances-whole : (position : Position) (number : ℕ) (left : List (List (List ℕ))) (found : Bool) (row : List (List ℕ)) (after : Option (List (List (List ℕ)))) (s : Result PlanModel TextError) (plan : PlanModel)
-    → GivesNext left found row after → found ≡ false → IsTakenAt (position_fault position None) number (position_plan position) s → s ≡ Ok plan → Advances position number left after (Ok (Whole plan))
-advances-whole position number left found row after s plan gives is taken e =
-    record { due = inr (inr (rw (gave-none left found row after gives is) (numbered-ok (λ x. Whole x) _ number _ plan s taken e))); rest = λ next same. cc }
-
-pub advances-ended : (position : Position) (number : ℕ) (left : List (List (List ℕ))) (found : Bool) (row : List (List ℕ)) (after : Option (List (List (List ℕ)))) (s : Result PlanModel TextError) (e : TextError)
-    → GivesNext left found row after → found ≡ false → IsTakenAt (position_fault position None) number (position_plan position) s → s ≡ Err e → Advances position number left after (Err e)
-advances-ended position number left found row after s e gives is taken k = refused-due position number left after e (rw (gave-none left found row after gives is) (numbered-err (λ x. Whole x) _ number _ s e taken k))
-
--- the records from a position on, where a read of the next one gave a further position
-numbered-more : (o : Option PlanFault) (number : ℕ) (due next : Position) (rest : Position → Result PlanModel TextError) → Ok (More next) ≡ numbered o number (More due) → going (numbered o number due) rest ≡ rest next
-numbered-more None number due next rest e = let same : due ≡ next = cc in rw same refl
-numbered-more (Some fault) number due next rest e = cc
-
-pub plan-goes : (position next : Position) (number : ℕ) (left : List (List (List ℕ))) (after : Option (List (List (List ℕ)))) (answer : Result Progress TextError) (all : Result PlanModel TextError)
-    → plan_from position number left ≡ all → Advances position number left after answer → answer ≡ Ok (More next)
+pub plan-goes : (position next : Position) (number : ℕ) (left : List (List (List ℕ))) (found : Bool) (row : List (List ℕ)) (after : Option (List (List (List ℕ)))) (all : Result PlanModel TextError)
+    → plan_from position number left ≡ all → GivesNext left found row after → found ≡ true → IsTakenAt (position_fault position (Some row)) number (position_with position row) (Ok next)
     → (others : List (List (List ℕ))) × (after ≡ Some others) × (plan_from next (number + 1) others ≡ all) × (length left ≡ length others + 1)
 unfolding plan_from
-plan-goes position next number left after answer all h advances e =
-    let split = advances.rest next e in
-    let due : Ok (More next) ≡ next_due position number (split.0 ∷ split.1) = elim advances.due [
-      | inl read ↦ cc
-      | inr (inl memory) ↦ cc
-      | inr (inr is) ↦ sym e ∙ (rw split.2 at is)
-    ] in
-    (split.1, split.3, sym (numbered-more _ number _ next (λ x. plan_from x (number + 1) split.1) due) ∙ (rw split.2 at h), rw split.2 (omega arith))
+plan-goes position next number left found row after all h gives is taken =
+    let one = gave-one left found row after gives is in
+    let size = ap length one.1 in
+    (one.0, one.2, sym (going-on _ number _ next (λ x. plan_from x (number + 1) one.0) taken) ∙ (rw one.1 at h), omega (arith, size))
 
--- the end of the records, and a refusal, where that is what a read of the next one gave
-numbered-whole : (o : Option PlanFault) (number : ℕ) (due plan : PlanModel) → Ok (Whole plan) ≡ numbered o number (Whole due) → Ok plan ≡ numbered o number due
-numbered-whole None number due plan e = let same : plan ≡ due = cc in rw same refl
-numbered-whole (Some fault) number due plan e = cc
-
-whole-at : (position : Position) (number : ℕ) (left : List (List (List ℕ))) (plan : PlanModel) → Ok (Whole plan) ≡ next_due position number left → Ok plan ≡ plan_from position number left
+pub plan-refused : (position : Position) (number : ℕ) (left : List (List (List ℕ))) (found : Bool) (row : List (List ℕ)) (after : Option (List (List (List ℕ)))) (e : TextError) (all : Result PlanModel TextError)
+    → plan_from position number left ≡ all → GivesNext left found row after → found ≡ true → IsTakenAt (position_fault position (Some row)) number (position_with position row) (Err e) → Answers (Err e) all
 unfolding plan_from
-whole-at position number [] plan e = numbered-whole _ number _ plan e
-whole-at position number (fields ∷ rest) plan e = absurd (more-whole (position_fault position (Some fields)) number (position_with position fields) plan e)
-  where
-    more-whole : (o : Option PlanFault) (number : ℕ) (due : Position) (plan : PlanModel) → Ok (Whole plan) ≡ numbered o number (More due) → ⊥
-    more-whole None number due plan e = cc
-    more-whole (Some fault) number due plan e = cc
+plan-refused position number left found row after e all h gives is taken =
+    let one = gave-one left found row after gives is in
+    rw (sym (rw one.1 at h)) (going-refused _ number _ e (λ x. plan_from x (number + 1) one.0) taken)
 
-pub plan-whole : (position : Position) (number : ℕ) (left : List (List (List ℕ))) (after : Option (List (List (List ℕ)))) (answer : Result Progress TextError) (plan : PlanModel) (all : Result PlanModel TextError)
-    → plan_from position number left ≡ all → Advances position number left after answer → answer ≡ Ok (Whole plan) → Answers (Ok plan) all
-plan-whole position number left after answer plan all h advances e = elim advances.due [
-  | inl read ↦ cc
-  | inr (inl memory) ↦ cc
-  | inr (inr is) ↦ inr (inr (whole-at position number left plan (sym e ∙ is) ∙ h))
+-- the end of the records
+taken-answers : (o : Option PlanFault) (number : ℕ) (due : PlanModel) (r : Result PlanModel TextError) → IsTakenAt o number due r → Answers r (numbered o number due)
+taken-answers None number due r (inl memory) = inr (inl memory)
+taken-answers None number due r (inr is) = inr (inr is)
+taken-answers (Some fault) number due r h = elim (refusal-is fault number) [
+  | inl memory ↦ inr (inl (h ∙ ap (λ x. Err x) memory))
+  | inr is ↦ inr (inr (h ∙ ap (λ x. Err x) is))
 ]
 
-numbered-refused : {A B : Type 0} (o : Option PlanFault) (number : ℕ) (due : A) (other : B) (e : TextError) → Err e ≡ numbered o number due → Err e ≡ numbered o number other
-numbered-refused None number due other e h = cc
-numbered-refused (Some fault) number due other e h = ap (λ x. Err x) (let same : e ≡ At fault number = cc in same)
-
-refused-at : (position : Position) (number : ℕ) (left : List (List (List ℕ))) (e : TextError) → Err e ≡ next_due position number left → Err e ≡ plan_from position number left
+pub plan-ends : (position : Position) (number : ℕ) (left : List (List (List ℕ))) (found : Bool) (row : List (List ℕ)) (after : Option (List (List (List ℕ)))) (r s : Result PlanModel TextError) (all : Result PlanModel TextError)
+    → plan_from position number left ≡ all → GivesNext left found row after → found ≡ false → IsTakenAt (position_fault position None) number (position_plan position) r → r ≡ s → Answers s all
 unfolding plan_from
-refused-at position number [] e h = numbered-refused _ number _ (position_plan position) e h
-refused-at position number (fields ∷ rest) e h = rw (sym (numbered-refused _ number _ (position_with position fields) e h)) refl
-
-pub plan-refused : (position : Position) (number : ℕ) (left : List (List (List ℕ))) (after : Option (List (List (List ℕ)))) (answer : Result Progress TextError) (e : TextError) (all : Result PlanModel TextError)
-    → plan_from position number left ≡ all → Advances position number left after answer → answer ≡ Err e → Answers (Err e) all
-plan-refused position number left after answer e all h advances k = elim advances.due [
-  | inl read ↦ inl (ap (λ x. Err x) (let same : e ≡ Read = cc in same))
-  | inr (inl memory) ↦ inr (inl (ap (λ x. Err x) (let same : e ≡ Memory = cc in same)))
-  | inr (inr is) ↦ inr (inr (refused-at position number left e (sym k ∙ is) ∙ h))
-]
+plan-ends position number left found row after r s all h gives is taken e =
+    rw (← e, sym (rw (gave-none left found row after gives is) at h)) (taken-answers _ number _ r taken)

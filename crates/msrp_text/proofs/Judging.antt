@@ -7,11 +7,8 @@ use Rattle.msrp_plan.specs.ReleaseTimes.{Every, Listed}
 use Rattle.msrp_plan.specs.declared.faults.PlanFault.{PlanFault}
 use Rattle.msrp_plan.specs.declared.faults.PlanFault.TheVariants.{Memory}
 use Rattle.msrp_text.specs.Fields.{name_at, number_at}
-use Rattle.msrp_text.specs.Reading.{body_fault, lacks_number, listed_record_fault, task_record_fault, task_told}
-use Rattle.msrp_text.specs.Positions.{IsTaken, position_fault, position_with, task_numbers}
-use Rattle.msrp_text.specs.declared.positions.Position.{Position}
-use Rattle.msrp_text.specs.declared.positions.Position.TheVariants.{Body}
-use Rattle.msrp_plan.specs.declared.rows.TextVersion.{TextVersion}
+use Rattle.msrp_text.specs.Reading.{lacks_number, listed_record_fault, task_record_fault, task_told}
+use Rattle.msrp_text.specs.Positions.{task_numbers}
 use Rattle.msrp_text.specs.declared.positions.TaskNumbers.{TaskNumbers}
 
 -- a call that is judged, and an answer that is handed on
@@ -41,14 +38,3 @@ task-added plan new fields name n numbers named h = let told = told-some (lacks_
 pub listed-judged : {A : Type 0} (plan : PlanModel) (fields : List (List ℕ)) (name : List ℕ) (core deadline : ℕ) (r : Result A PlanFault) → length fields ≡ 4 → number_at fields 2 ≡ Some core → number_at fields 3 ≡ Some deadline → name ≡ name_at fields 1
     → IsJudged (task_fault plan (new_task name core (Listed []) deadline)) r → IsJudged (listed_record_fault plan fields) r
 listed-judged plan fields name core deadline r four first second named h = rw (four, first, second) (rw named at h)
-
--- a record that is refused at the position of resources and tasks
-taken-err : {A B : Type 0} (f : Option PlanFault) (next : B) (r : Result A PlanFault) (e : PlanFault) → IsJudged f r → r ≡ Err e → IsTaken f next (Err e)
-taken-err (Some fault) next r e h k = let same : e ≡ fault = cc in rw same refl
-taken-err None next r e (inl ok) k = absurd (false≢true (rw k at ok))
-taken-err None next r e (inr memory) k = let same : e ≡ Memory = cc in inl (rw same refl)
-
-pub body-refused : {A : Type 0} (position : Position) (version : TextVersion) (plan : PlanModel) (fields : List (List ℕ)) (r : Result A PlanFault) (e : PlanFault)
-    → position ≡ Body version plan → IsJudged (body_fault version plan (Some fields)) r → r ≡ Err e → IsTaken (position_fault position (Some fields)) (position_with position fields) (Err e)
-unfolding position_fault position_with
-body-refused position version plan fields r e is h k = rw is (taken-err _ _ r e h k)

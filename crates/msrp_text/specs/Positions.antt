@@ -1,5 +1,5 @@
 -- Where a reader of a plan stands between two records: what is to be read next, and the plan so far.
-use Rattle.std.specs.Prelude.{ℕ, List, [], ◌∷◌, Option, Some, None, Result, Ok, Err, codes, is_none, length, ◌≡◌, ◌⊎◌, ◌&&◌, ◌≤◌, if◌then◌else◌}
+use Rattle.std.specs.Prelude.{ℕ, List, Option, Some, None, Result, Ok, Err, codes, is_none, length, ◌≡◌, ◌⊎◌, ◌&&◌, ◌≤◌, if◌then◌else◌}
 use Rattle.msrp_plan.specs.Building.{empty_plan}
 use Rattle.msrp_plan.specs.Plan.{PlanModel}
 use Rattle.msrp_plan.specs.declared.faults.PlanFault.{PlanFault}
@@ -13,8 +13,8 @@ use Rattle.msrp_text.specs.declared.positions.TaskNumbers.{TaskNumbers}
 use Rattle.msrp_text.specs.declared.reading.TextError.{TextError}
 use Rattle.msrp_text.specs.declared.reading.TextError.TheVariants.{At}
 use Rattle.msrp_text.specs.declared.reading.TextError.TheVariants as text
-use Rattle.msrp_text.specs.declared.reading.Progress.{Progress}
-use Rattle.msrp_text.specs.declared.reading.Progress.TheVariants.{More, Whole}
+use Rattle.msrp_text.specs.declared.records.Stopped.{Stopped}
+use Rattle.msrp_text.specs.declared.records.Stopped.TheVariants as stop
 use Rattle.msrp_text.specs.declared.reading.Unread.{Unread}
 use Rattle.msrp_text.specs.declared.reading.Unread.TheVariants.{Told, TooMany}
 
@@ -44,11 +44,6 @@ abbrev pub IsTaken : {A : Type 0} → Option PlanFault → A → Result A PlanFa
 IsTaken (Some fault) next r = r ≡ Err fault
 IsTaken None next r = (r ≡ Err Memory) ⊎ (r ≡ Ok next)
 
--- what is due at a record of that number: its refusal, or what comes of it
-abbrev pub numbered : {A : Type 0} → Option PlanFault → ℕ → A → Result A TextError
-numbered None number next = Ok next
-numbered (Some fault) number next = Err (At fault number)
-
 -- the four numbers of a `task` record, if all are there
 abbrev pub task_numbers : List (List ℕ) → Option TaskNumbers
 task_numbers fields =
@@ -69,16 +64,10 @@ abbrev pub IsTakenAt : {A : Type 0} → Option PlanFault → ℕ → A → Resul
 IsTakenAt (Some fault) number next r = r ≡ Err (refusal fault number)
 IsTakenAt None number next r = (r ≡ Err text.Memory) ⊎ (r ≡ Ok next)
 
--- what is due of one more read at a position, where these records are left: the position after the first of them, or at the end the plan
-abbrev pub next_due : Position → ℕ → List (List (List ℕ)) → Result Progress TextError
-next_due position number [] = numbered (position_fault position None) number (Whole (position_plan position))
-next_due position number (fields ∷ rest) = numbered (position_fault position (Some fields)) number (More (position_with position fields))
-
--- a read at a position brings what is due, but for a read that failed and for memory; where it brings a further position, the records
--- after the first are left
-pub record Advances (position : Position) (number : ℕ) (left : List (List (List ℕ))) (after : Option (List (List (List ℕ)))) (answer : Result Progress TextError) : Type 0 where
-  pub due : (answer ≡ Err text.Read) ⊎ (answer ≡ Err text.Memory) ⊎ (answer ≡ next_due position number left)
-  pub rest : (next : Position) → answer ≡ Ok (More next) → (fields : List (List ℕ)) × (others : List (List (List ℕ))) × (left ≡ fields ∷ others) × (after ≡ Some others)
+-- why a text is unread where a read stopped
+abbrev pub unread_at : Stopped → Unread
+unread_at stop.Read = Told text.Read
+unread_at stop.Memory = Told text.Memory
 
 -- the number of records that can be numbered
 abbrev pub most_records : ℕ

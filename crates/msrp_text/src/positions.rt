@@ -1,5 +1,6 @@
 //! Plan text, record by record.
-ghost use Rattle.std.specs.Prelude.{◌≡◌, Some, None, OnOk, true};
+ghost use Rattle.std.specs.Prelude.{◌≡◌, Some, None, Ok, OnOk, true};
+ghost use Rattle.std.specs.Result.{result_and};
 ghost use Rattle.csv.specs.Records.{fields_of};
 ghost use Rattle.msrp_plan.specs.Building.{IsJudged, empty_plan, units_of, with_release, with_resource, with_task, with_units};
 ghost use Rattle.msrp_text.specs.Fields.{name_at};
@@ -270,24 +271,23 @@ fn read_record(
     }
 }
 
-/// The position after one more record.
+/// One more record: the position goes on in place, so that no plan is moved. What a refused record leaves isn't said.
 #[tactic(auto, unfolding(crate::specs::Positions::position_fault, crate::specs::Positions::position_with))]
-pub(crate) fn position_after(
+pub(crate) fn advance(
     alloc: Global,
-    position: Position,
+    position: &mut Position,
     row: &ByteRecord,
-) -> Result<Position, PlanFault>
-    ensures { IsTaken (position_fault position (Some (fields_of row.now))) (position_with position (fields_of row.now)) result }
+) -> Result<(), PlanFault>
+    ensures { IsTaken (position_fault position.old (Some (fields_of row.now))) (position_with position.old (fields_of row.now)) (result_and result (Ok position.new)) }
 {
-    match position {
-        Position::Version => read_version(row),
-        Position::Cores(version) => read_cores(version, row),
-        Position::Ticks(version, cores) => read_ticks(alloc, version, cores, row),
-        Position::Body(version, mut builder) => {
-            read_record(version, &mut builder, row)?;
-            Ok(Position::Body(version, builder))
-        }
-    }
+    let next = match position {
+        Position::Version => read_version(row)?,
+        Position::Cores(version) => read_cores(*version, row)?,
+        Position::Ticks(version, cores) => read_ticks(alloc, *version, *cores, row)?,
+        Position::Body(version, builder) => return read_record(*version, builder, row),
+    };
+    *position = next;
+    Ok(())
 }
 
 /// The plan at the end of the records.

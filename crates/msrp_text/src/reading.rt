@@ -1,12 +1,13 @@
 //! Plan text, read.
-ghost use Rattle.std.specs.Prelude.{◌≡◌, ◌↔◌, ℕ, List, Some, None, Err, true};
+ghost use Rattle.std.specs.Prelude.{◌≡◌, ◌↔◌, ℕ, List, Some, None, Ok, Err, true};
+ghost use Rattle.std.specs.Result.{result_and};
 ghost use Rattle.csv.specs.Records.{fields_of};
 ghost use Rattle.msrp_plan.specs.Bytes.{source_failed, source_remaining};
 ghost use Rattle.msrp_text.specs.Reading.{Answers, csv_records, plan_of};
 ghost use Rattle.msrp_text.specs.Records.{records_left};
-ghost use Rattle.msrp_text.specs.Positions.{Advances, IsTakenAt, ReadsAs, refusal, position_fault, position_plan, position_with};
+ghost use Rattle.msrp_text.specs.Positions.{IsTakenAt, ReadsAs, refusal, position_fault, position_plan, position_with};
 
-use crate::positions::{Position, plan_at_end, position_after};
+use crate::positions::{Position, advance, plan_at_end};
 use crate::records::{RecordReader, Stopped};
 use csv::ByteRecord;
 use msrp_plan::bytes::Source;
@@ -51,6 +52,19 @@ impl From<TextError> for Unread {
     }
 }
 
+impl From<Stopped> for Unread {
+    ghost use Rattle.msrp_text.specs.Positions.{unread_at};
+
+    ghost from_gives = { λ why unread. unread ≡ unread_at why };
+
+    fn from(why: Stopped) -> Unread {
+        match why {
+            Stopped::Read => Unread::Told(TextError::Read),
+            Stopped::Memory => Unread::Told(TextError::Memory),
+        }
+    }
+}
+
 // The refusal of a record by its number. Want of memory is no refusal.
 fn refused(fault: PlanFault, number: u32) -> TextError
     ensures { result ≡ refusal fault number }
@@ -64,14 +78,14 @@ fn refused(fault: PlanFault, number: u32) -> TextError
 // One more record, by its number.
 fn step(
     alloc: Global,
-    position: Position,
+    position: &mut Position,
     row: &ByteRecord,
     number: u32,
-) -> Result<Position, TextError>
-    ensures { IsTakenAt (position_fault position (Some (fields_of row.now))) number (position_with position (fields_of row.now)) result }
+) -> Result<(), TextError>
+    ensures { IsTakenAt (position_fault position.old (Some (fields_of row.now))) number (position_with position.old (fields_of row.now)) (result_and result (Ok position.new)) }
 {
-    match position_after(alloc, position, row) {
-        Ok(next) => Ok(next),
+    match advance(alloc, position, row) {
+        Ok(()) => Ok(()),
         Err(fault) => Err(refused(fault, number)),
     }
 }
@@ -86,31 +100,6 @@ fn end(position: Position, number: u32) -> Result<Plan, TextError>
     }
 }
 
-// What one more read brings: the position after a record, or the plan at the end.
-#[derive(Drop)]
-enum Progress {
-    More(Position),
-    Whole(Plan),
-}
-
-// One more read at a position, by the number of what it comes to. A failed read is told as it was.
-fn advance<R: Read>(
-    alloc: Global,
-    records: &mut RecordReader<R>,
-    row: &mut ByteRecord,
-    position: Position,
-    number: u32,
-) -> Result<Progress, TextError>
-    ensures { (left : List (List (List ℕ))) → records_left R.remaining records.old ≡ Some left → Advances position number left (records_left R.remaining records.new) result }
-{
-    match records.read(row) {
-        Ok(true) => Ok(Progress::More(step(alloc, position, row, number)?)),
-        Ok(false) => Ok(Progress::Whole(end(position, number)?)),
-        Err(Stopped::Read) => Err(TextError::Read),
-        Err(Stopped::Memory) => Err(TextError::Memory),
-    }
-}
-
 // The plan of the records that are left, from the first position on.
 fn read_positions<R: Read>(
     alloc: Global,
@@ -121,10 +110,10 @@ fn read_positions<R: Read>(
 {
     let mut position = Position::Version;
     for number in 1..=MOST_RECORDS {
-        match advance(alloc, records, row, position, number)? {
-            Progress::More(next) => position = next,
-            Progress::Whole(plan) => return Ok(plan),
+        if !records.read(row)? {
+            return Ok(end(position, number)?);
         }
+        step(alloc, &mut position, row, number)?;
     }
     Err(Unread::TooMany)
 }
