@@ -1,4 +1,5 @@
 pub mod Tests
+pub mod SameKinds
 pub mod Lists
 pub mod Writes
 pub mod Jobs

@@ -1,4 +1,5 @@
 pub mod Shape
+pub mod Kinds
 pub mod Limits
 pub mod ReleaseTimes
 pub mod Aheads
@@ -11,6 +12,7 @@ pub mod Ceiling
 pub mod Choice
 pub mod Actions
 pub mod Queues
+pub mod Requests
 pub mod Runs
 pub mod Logs
 pub mod Phases

@@ -1,5 +1,7 @@
--- The words that texts tell kinds of rows and rules by.
-use Rattle.std.specs.Prelude.{ℕ, List, codes}
+-- The words that texts tell kinds of rows, rules and verdicts by.
+use Rattle.std.specs.Prelude.{ℕ, List, ◌++◌, Ok, Err, codes, decimal, ⊤}
+use Rattle.std.specs.declared.result.Result.{Result}
+use Rattle.msrp_plan.specs.declared.faults.Fault.{Fault}
 use Rattle.msrp_plan.specs.declared.faults.Rule.{Rule}
 use Rattle.msrp_plan.specs.declared.faults.Rule.TheVariants.{A1, A2, A3, A4, A5, A6, A7}
 use Rattle.msrp_plan.specs.declared.rows.Kind.{Kind}
@@ -26,3 +28,8 @@ rule_text A4 = codes "A4"
 rule_text A5 = codes "A5"
 rule_text A6 = codes "A6"
 rule_text A7 = codes "A7"
+
+-- the record of a verdict: of a good trace, or of the first row that breaks a rule
+abbrev pub verdict_text : Result ⊤ Fault → List ℕ
+verdict_text (Ok good) = codes "good\n"
+verdict_text (Err fault) = codes "fault," ++ decimal fault.row ++ codes "," ++ rule_text fault.rule ++ codes "\n"

@@ -10,8 +10,9 @@ ghost use Rattle.std.specs.Io.KnownBytes.{Appends, ReadConsumes};
 ghost use Rattle.std.specs.IoError.{error_kind};
 ghost use Rattle.msrp_plan.specs.Limits.{most_bytes};
 ghost use Rattle.msrp_plan.specs.Bytes.{sink_failed, sink_inner, source_failed, source_ended, source_inner, source_given, source_calls, source_remaining, is_open, is_spent, AppendsPrefix, Wrote};
+ghost use Rattle.msrp_plan.specs.Words.{verdict_text};
 
-use crate::faults::WriteFault;
+use crate::faults::{Fault, WriteFault};
 use itoa::Buffer;
 use std::io;
 use std::io::{ErrorKind, Read, Write};
@@ -218,6 +219,21 @@ impl<W: Write> Sink<W> {
     {
         let mut digits = Buffer::new();
         self.field(digits.format(number).as_bytes());
+    }
+
+    /// Adds the record of a verdict.
+    pub fn verdict(&mut self, found: Result<(), Fault>)
+        ensures { Wrote W.contents self.old self.new (verdict_text found) }
+    {
+        match found {
+            Ok(()) => self.add(b"good\n"),
+            Err(fault) => {
+                self.add(b"fault");
+                self.number(u64::from(fault.row));
+                self.field(fault.rule.code());
+                self.add(b"\n");
+            }
+        }
     }
 
     /// How the writes went.

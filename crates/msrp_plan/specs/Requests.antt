@@ -1,0 +1,11 @@
+-- The queue of a resource, as it is kept row by row.
+use Rattle.std.specs.Prelude.{◌≡◌, ℕ, List, count_by, filter_map, min, ◌-◌, ◌^◌}
+use Rattle.msrp_plan.specs.Queues.{is_release_of, requester}
+use Rattle.msrp_plan.specs.declared.requests.Requests.{Requests}
+use Rattle.msrp_plan.specs.declared.rows.Row.{Row}
+
+-- what is kept is what these rows tell of the resource: no list is longer than the greatest number of releases that is told apart
+pub record HasTaken (kept : Requests) (g : ℕ) (rows : List Row) : Type 0 where
+  pub resource : kept.res.0 ≡ g
+  pub jobs : kept.jobs.items ≡ filter_map (requester g) rows
+  pub releases : kept.releases ≡ min (count_by (is_release_of g) rows) (2 ^ 64 - 1)
