@@ -6,13 +6,11 @@ use Rattle.std.proofs.lemmas.Bool.{and_parts, eqb-true}
 use Rattle.std.proofs.lemmas.List.{map-append}
 use Rattle.msrp_plan.specs.declared.ids.JobId.{JobId}
 use Rattle.msrp_plan.specs.declared.ids.ResId.{ResId}
-use Rattle.msrp_plan.specs.declared.rows.Kind.{Kind}
-use Rattle.msrp_plan.specs.declared.rows.Kind.TheVariants.{Idle, Run, Lock, Unlock, Take, Queue, Spin, Grant, Release}
 use Rattle.msrp_plan.specs.declared.rows.Row.{Row}
+use Rattle.msrp_plan.proofs.SameKinds.{same_kind_is}
 use Rattle.msrp_plan.proofs.Legality.LegalRows.{same_choice_is, same_res_is}
 use Rattle.msrp_plan.proofs.Lists.Ranges.{range_more}
 use Rattle.msrp_picture.specs.Blocks.{look_of, res_of}
-use Rattle.msrp_picture.specs.Kinds.{same_kind}
 use Rattle.msrp_picture.specs.Laws.{EachRowInOneBlock, shown_rows, ticks_of}
 use Rattle.msrp_picture.specs.Stretches.{goes_on, joined, merged, same_look}
 use Rattle.msrp_picture.specs.declared.blocks.Lane.{Lane}
@@ -22,18 +20,6 @@ use Rattle.msrp_picture.specs.declared.shapes.Room.{Room}
 use Rattle.msrp_picture.specs.declared.shapes.Span.{Span}
 
 -- ---- what shows the same
-same_kind_is : (k l : Kind) → same_kind k l ≡ true → k ≡ l
-same_kind_is Idle Idle e = refl
-same_kind_is Run Run e = refl
-same_kind_is Lock Lock e = refl
-same_kind_is Unlock Unlock e = refl
-same_kind_is Take Take e = refl
-same_kind_is Queue Queue e = refl
-same_kind_is Spin Spin e = refl
-same_kind_is Grant Grant e = refl
-same_kind_is Release Release e = refl
-same_kind_is _ _ e = absurd (cc)
-
 same_look_is : (a b : Look) → same_look a b ≡ true → a ≡ b
 same_look_is Turn Turn e = refl
 same_look_is (Does k) (Does l) e = ap Does (same_kind_is k l e)

@@ -1,22 +1,10 @@
--- Rows of a resource that are taken one by one, and tick by tick.
-use Rattle.std.proofs.Common.{◌≡◌, ℕ, ◌+◌, ◌-◌, ◌*◌, ◌≤◌, cond, List, [], ◌∷◌, ◌++◌, ap, sym, ◌∙◌, arith, take, drop, take-append-drop}
-use Rattle.std.specs.List.{cons_option, slice_range}
+-- Rows that are taken tick by tick.
+use Rattle.std.proofs.Common.{◌≡◌, ℕ, ◌+◌, ◌-◌, ◌*◌, ◌≤◌, List, ◌++◌, ap, sym, ◌∙◌, arith, take, drop, take-append-drop}
+use Rattle.std.specs.List.{slice_range}
 use Rattle.std.proofs.lemmas.List.{drop-take, take-take}
-use Rattle.std.proofs.lemmas.List.Elements.{filter_map-append}
-use Rattle.std.proofs.lemmas.List.Sums.{sum_by_push}
 use Rattle.msrp_plan.specs.Plan.{PlanModel}
-use Rattle.msrp_plan.specs.Queues.{is_release_of, requester}
 use Rattle.msrp_plan.specs.declared.rows.Row.{Row}
-use Rattle.msrp_picture.specs.Inside.Queues.{HasSeen}
 use Rattle.msrp_picture.specs.Windows.{rows_between}
-use Rattle.msrp_picture.specs.declared.queues.Queue.{Queue}
-
--- one row more
-pub taken : (g : ℕ) (r : Row) (old new : Queue) (rows : List Row) → new.requests.items ≡ old.requests.items ++ cons_option (requester g r) [] → new.releases ≡ old.releases + cond (is_release_of g r) 1 0 → HasSeen old g rows → HasSeen new g (rows ++ r ∷ [])
-taken g r old new rows e f h = record {
-  requests = e ∙ (ap (λ xs. xs ++ cons_option (requester g r) []) h.requests ∙ sym (filter_map-append (requester g) rows (r ∷ [])));
-  releases = f ∙ (ap (λ n. n + cond (is_release_of g r) 1 0) h.releases ∙ sym (sum_by_push (λ w. cond (is_release_of g w) 1 0) rows r));
-}
 
 none : (n : ℕ) → 0 * n ≡ 0
 none n = grind arith

@@ -1,11 +1,10 @@
 -- Shapes as elements of SVG (W3C 2011), as text. Lengths are in units of the picture.
 use Rattle.std.specs.Prelude.{ℕ, List, [], ◌∷◌, ◌++◌, Bool, true, false, Option, Some, None, codes, decimal, slice_index_or, ◌-◌, ◌%◌}
 use Rattle.msrp_plan.specs.Plan.{PlanModel, task_at}
+use Rattle.msrp_plan.specs.Words.{kind_text, rule_text}
 use Rattle.msrp_plan.specs.declared.ids.CoreId.{CoreId}
 use Rattle.msrp_plan.specs.declared.ids.JobId.{JobId}
 use Rattle.msrp_picture.specs.Cells.{letter}
-use Rattle.msrp_picture.specs.Kinds.{kind_text}
-use Rattle.msrp_picture.specs.Picture.{rule_text}
 use Rattle.msrp_picture.specs.Places.{left_of}
 use Rattle.msrp_picture.specs.Titles.{event_title, moment_text, title_text, word_text}
 use Rattle.msrp_picture.specs.declared.elements.TheConstants.{HUES}

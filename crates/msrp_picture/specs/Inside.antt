@@ -1,4 +1,3 @@
 pub mod Claims
-pub mod Queues
 pub mod Drawings
 pub mod TaskRows

@@ -5,7 +5,6 @@ pub mod Events
 pub mod Shown
 pub mod Lines
 pub mod Picture
-pub mod Kinds
 pub mod Places
 pub mod Titles
 pub mod Elements

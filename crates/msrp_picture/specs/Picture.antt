@@ -4,9 +4,8 @@ use Rattle.std.specs.Prelude.{ℕ, List, [], ◌∷◌, ◌++◌, Option, Ok, Er
 use Rattle.std.specs.List.{flat_map, range_with_len}
 use Rattle.std.specs.declared.result.Result.{Result}
 use Rattle.msrp_plan.specs.Plan.{PlanModel, task_at}
+use Rattle.msrp_plan.specs.Words.{verdict_text}
 use Rattle.msrp_plan.specs.declared.faults.Fault.{Fault}
-use Rattle.msrp_plan.specs.declared.faults.Rule.{Rule}
-use Rattle.msrp_plan.specs.declared.faults.Rule.TheVariants.{A1, A2, A3, A4, A5, A6, A7}
 use Rattle.msrp_plan.specs.declared.rows.Row.{Row}
 use Rattle.msrp_picture.specs.Cells.{letter}
 use Rattle.msrp_picture.specs.Lines.{cells, lines_of, name_of}
@@ -17,20 +16,6 @@ use Rattle.msrp_picture.specs.declared.windows.TheConstants.{LINE_TICKS}
 use Rattle.msrp_picture.specs.declared.windows.Window.{Window}
 
 -- ---- the head
-unfoldable pub rule_text : Rule → List ℕ
-rule_text A1 = codes "A1"
-rule_text A2 = codes "A2"
-rule_text A3 = codes "A3"
-rule_text A4 = codes "A4"
-rule_text A5 = codes "A5"
-rule_text A6 = codes "A6"
-rule_text A7 = codes "A7"
-
--- the verdict, as an audit tells it
-unfoldable pub verdict_text : Result ⊤ Fault → List ℕ
-verdict_text (Ok good) = codes "good\n"
-verdict_text (Err fault) = codes "fault," ++ decimal fault.row ++ codes "," ++ rule_text fault.rule ++ codes "\n"
-
 -- in which tick the row is due that breaks a rule
 unfoldable pub fault_place : PlanModel → Result ⊤ Fault → List ℕ
 fault_place plan (Ok good) = []

@@ -1,8 +1,8 @@
 -- Stretches: spans that follow on one another and show the same are one block.
 use Rattle.std.specs.Prelude.{List, [], ◌∷◌, Bool, true, false, ◌&&◌, ◌==◌, if◌then◌else◌}
 use Rattle.msrp_plan.specs.Actions.{same_res}
+use Rattle.msrp_plan.specs.Kinds.{same_kind}
 use Rattle.msrp_plan.specs.Runs.{same_choice}
-use Rattle.msrp_picture.specs.Kinds.{same_kind}
 use Rattle.msrp_picture.specs.declared.shapes.Look.{Look}
 use Rattle.msrp_picture.specs.declared.shapes.Look.TheVariants.{Ceiling, Does, First, Turn}
 use Rattle.msrp_picture.specs.declared.shapes.Span.{Span}

@@ -4,12 +4,13 @@ use Rattle.std.specs.Prelude.{ℕ, List, ◌++◌, Option, Ok, Err, codes, decim
 use Rattle.std.specs.List.{flat_map}
 use Rattle.std.specs.declared.result.Result.{Result}
 use Rattle.msrp_plan.specs.Plan.{PlanModel}
+use Rattle.msrp_plan.specs.Words.{verdict_text}
 use Rattle.msrp_plan.specs.declared.faults.Fault.{Fault}
 use Rattle.msrp_plan.specs.declared.rows.Row.{Row}
 use Rattle.msrp_picture.specs.Elements.{attribute, shape_text}
 use Rattle.msrp_picture.specs.Lanes.{cores_shapes, tasks_shapes}
 use Rattle.msrp_picture.specs.Marks.{broken_shapes}
-use Rattle.msrp_picture.specs.Picture.{verdict_text, window_text}
+use Rattle.msrp_picture.specs.Picture.{window_text}
 use Rattle.msrp_picture.specs.Places.{bottom, left_of, tick_width}
 use Rattle.msrp_picture.specs.QueueLanes.{queues_shapes}
 use Rattle.msrp_picture.specs.Shown.{broken_row, later_rows, legal_rows}

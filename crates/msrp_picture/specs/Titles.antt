@@ -1,12 +1,11 @@
 -- What a shape tells where one points at it, and the words that stand in a block.
 use Rattle.std.specs.Prelude.{ℕ, List, [], ◌∷◌, ◌++◌, true, false, Option, Some, None, if◌then◌else◌, codes, decimal, length, nat_eq, nat_le, slice_index_or, ◌-◌, ◌*◌}
 use Rattle.msrp_plan.specs.Plan.{PlanModel, task_of}
+use Rattle.msrp_plan.specs.Words.{kind_text, rule_text}
 use Rattle.msrp_plan.specs.declared.ids.JobId.{JobId}
 use Rattle.msrp_plan.specs.declared.ids.ResId.{ResId}
 use Rattle.msrp_plan.specs.declared.rows.Kind.{Kind}
 use Rattle.msrp_picture.specs.Cells.{sign}
-use Rattle.msrp_picture.specs.Kinds.{kind_text}
-use Rattle.msrp_picture.specs.Picture.{rule_text}
 use Rattle.msrp_picture.specs.declared.shapes.Event.{Event}
 use Rattle.msrp_picture.specs.declared.shapes.Look.{Look}
 use Rattle.msrp_picture.specs.declared.shapes.Look.TheVariants.{Lane, Does, Turn, Holds, First, Active, Late, Ceiling, Breaks}

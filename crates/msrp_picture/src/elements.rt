@@ -4,10 +4,10 @@ ghost use Rattle.std.specs.List.{flat_map};
 ghost use Rattle.msrp_picture.specs.Elements.{arrow_text, attribute, block_head, block_text, colour, core_text, hue, level_text, look_class, note_text, shade, shape_text, words_class, words_left, words_text};
 
 use crate::cells::letter;
-use crate::picture::{add, add_number, res_name, rule_word};
+use crate::picture::{add, add_number, res_name};
 use crate::places::{LEFT, left_of};
 use crate::shapes::{Event, Look, Note, Shape, Span, Words};
-use crate::titles::{add_event_title, add_title, add_word, kind_word, moment_word, task_name};
+use crate::titles::{add_event_title, add_title, add_word, moment_word, task_name};
 use crate::windows::Window;
 use msrp_plan::{CoreId, JobId, Memory, Plan, TaskId};
 
@@ -32,7 +32,7 @@ fn look_class(look: Look) -> &'static [u8]
 {
     match look {
         Look::Lane => b"lane",
-        Look::Does(kind) => kind_word(kind),
+        Look::Does(kind) => kind.word(),
         Look::Turn => b"turn",
         Look::Holds => b"holds",
         Look::First(_) => b"first",
@@ -168,7 +168,7 @@ fn add_words(text: &mut Vec<u8>, plan: &Plan, words: Words) -> Result<(), Memory
         Words::Ceiling => add(text, b"ceiling"),
         Words::Res(res) => add(text, res_name(plan, res)),
         Words::Tick(tick) => add_number(text, tick),
-        Words::Broken(rule, _) => add(text, rule_word(rule)),
+        Words::Broken(rule, _) => add(text, rule.code()),
     }
 }
 

@@ -1,9 +1,10 @@
 //! A picture of a trace, as text.
 ghost use Rattle.std.specs.Prelude.{◌≡◌, ◌<◌, ◌≤◌, ◌+◌, ◌++◌, codes, decimal, drop, length, slice_index_or, slice_range, [], ◌*◌, IfOk, OnOk};
 ghost use Rattle.std.specs.List.{flat_map, range_with_len};
+ghost use Rattle.msrp_plan.specs.Words.{verdict_text};
 ghost use Rattle.msrp_picture.specs.Inside.Drawings.{drawn_text};
 ghost use Rattle.msrp_picture.specs.Lines.{name_of};
-ghost use Rattle.msrp_picture.specs.Picture.{drawn_picture, fault_place, label, legend_text, picture_text, rule_text, signs_text, spaces, task_text, verdict_text, window_text};
+ghost use Rattle.msrp_picture.specs.Picture.{drawn_picture, fault_place, label, legend_text, picture_text, signs_text, spaces, task_text, window_text};
 ghost use Rattle.msrp_picture.specs.Windows.{IsWindow, parts};
 
 use crate::cells::{Aspect, letter};
@@ -11,7 +12,8 @@ use crate::lines::{Drawn, PictureLine, draw_lines};
 use crate::shown::Shown;
 use crate::windows::{LINE_TICKS, Window, due_in};
 use itoa::Buffer;
-use msrp_plan::{Fault, Memory, Plan, ResId, Row, Rule, TaskId};
+use msrp_plan::bytes::Sink;
+use msrp_plan::{Fault, Memory, Plan, ResId, Row, TaskId};
 use std::alloc::Global;
 
 // As many as a label is filled up to.
@@ -44,35 +46,15 @@ pub(crate) fn add_number(text: &mut Vec<u8>, number: u64) -> Result<(), Memory>
     add(text, digits.format(number).as_bytes())
 }
 
-// The code of a rule.
-#[tactic(auto, unfolding(crate::specs::Picture::rule_text))]
-pub(crate) fn rule_word(rule: Rule) -> &'static [u8]
-    ensures { result.now ≡ rule_text rule }
+// The record of the verdict.
+pub(crate) fn verdict(alloc: Global, found: Result<(), Fault>) -> Result<Vec<u8>, Memory>
+    ensures { IfOk result (λ text. text.items ≡ verdict_text found) }
 {
-    match rule {
-        Rule::A1 => b"A1",
-        Rule::A2 => b"A2",
-        Rule::A3 => b"A3",
-        Rule::A4 => b"A4",
-        Rule::A5 => b"A5",
-        Rule::A6 => b"A6",
-        Rule::A7 => b"A7",
-    }
-}
-
-// The verdict.
-pub(crate) fn add_verdict(text: &mut Vec<u8>, found: Result<(), Fault>) -> Result<(), Memory>
-    ensures { OnOk result (text.new.items ≡ text.old.items ++ verdict_text found) }
-{
-    match found {
-        Ok(()) => add(text, b"good\n"),
-        Err(fault) => {
-            add(text, b"fault,")?;
-            add_number(text, fault.row as u64)?;
-            add(text, b",")?;
-            add(text, rule_word(fault.rule))?;
-            add(text, b"\n")
-        }
+    let mut text = Sink::new(Vec::new(alloc));
+    text.verdict(found);
+    match text.outcome() {
+        Ok(()) => Ok(text.into_inner()),
+        Err(_) => Err(Memory),
     }
 }
 
@@ -234,8 +216,7 @@ fn picture_of(
     ensures { IfOk result (λ text. text.items ≡ drawn_picture plan.now shown.now.rows.now shown.now.broken shown.now.found window) }
 {
     let drawn = draw_lines(alloc, plan, shown, window)?;
-    let mut text = Vec::new(alloc);
-    add_verdict(&mut text, shown.found)?;
+    let mut text = verdict(alloc, shown.found)?;
     add_window(&mut text, plan, shown.found, window)?;
     add_parts(&mut text, plan, &drawn, window)?;
     add_legend(&mut text, plan)?;

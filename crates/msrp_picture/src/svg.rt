@@ -6,7 +6,7 @@ ghost use Rattle.msrp_picture.specs.Windows.{IsWindow};
 use crate::elements::{add_attribute, add_shapes};
 use crate::lanes::{push_cores, push_tasks};
 use crate::marks::push_broken;
-use crate::picture::{add, add_number, add_verdict, add_window};
+use crate::picture::{add, add_number, add_window, verdict};
 use crate::places::{bottom, left_of, tick_width};
 use crate::queue_lanes::push_queues;
 use crate::shapes::Shape;
@@ -70,6 +70,7 @@ fn add_head(
 // The verdict, and which ticks are drawn.
 #[tactic(auto, unfolding(crate::specs::Svg::caption_text))]
 fn add_caption(
+    alloc: Global,
     text: &mut Vec<u8>,
     plan: &Plan,
     found: Result<(), Fault>,
@@ -79,7 +80,7 @@ fn add_caption(
     ensures { OnOk result (text.new.items ≡ text.old.items ++ caption_text plan.now found window) }
 {
     add(text, b"<text class=\"caption\" x=\"20\" y=\"24\">")?;
-    add_verdict(text, found)?;
+    add(text, &verdict(alloc, found)?)?;
     add(text, b"</text>\n<text class=\"caption\" x=\"20\" y=\"42\">")?;
     add_window(text, plan, found, window)?;
     add(text, b"</text>\n")
@@ -114,7 +115,7 @@ fn svg_of(alloc: Global, plan: &Plan, shown: &Shown<'_>, window: Window) -> Resu
     let shapes = shapes_of(alloc, plan, &levels, shown, window)?;
     let mut text = Vec::new(alloc);
     add_head(&mut text, plan, &levels, window)?;
-    add_caption(&mut text, plan, shown.found, window)?;
+    add_caption(alloc, &mut text, plan, shown.found, window)?;
     add_shapes(&mut text, plan, window, &shapes)?;
     add(&mut text, b"</svg>\n")?;
     Ok(text)

@@ -1,12 +1,11 @@
 //! What a shape tells where one points at it, and the words that stand in a block.
 ghost use Rattle.std.specs.Prelude.{◌≡◌, ◌++◌, codes, decimal, OnOk};
 ghost use Rattle.msrp_plan.specs.Plan.{task_at};
-ghost use Rattle.msrp_picture.specs.Kinds.{kind_text};
-ghost use Rattle.msrp_picture.specs.Picture.{rule_text};
+ghost use Rattle.msrp_plan.specs.Words.{rule_text};
 ghost use Rattle.msrp_picture.specs.Titles.{deed_text, event_title, first_text, held_name, job_name, job_told, look_told, moment_text, res_told, roomy_text, span_title, title_text, whose_told, word_text};
 
 use crate::cells::sign;
-use crate::picture::{add, add_number, res_name, rule_word};
+use crate::picture::{add, add_number, res_name};
 use crate::shapes::{Event, Look, Moment, Span};
 use itoa::Buffer;
 use msrp_plan::{JobId, Kind, Memory, Plan, ResId, Rule, TaskId};
@@ -16,24 +15,6 @@ pub const SIGN_ROOM: u64 = 8;
 
 /// The room of a digit.
 pub const DIGIT_WIDTH: u64 = 6;
-
-// The word of a kind.
-#[tactic(auto, unfolding(crate::specs::Kinds::kind_text))]
-pub(crate) fn kind_word(kind: Kind) -> &'static [u8]
-    ensures { result.now ≡ kind_text kind }
-{
-    match kind {
-        Kind::Idle => b"idle",
-        Kind::Run => b"run",
-        Kind::Lock => b"lock",
-        Kind::Unlock => b"unlock",
-        Kind::Take => b"take",
-        Kind::Queue => b"queue",
-        Kind::Spin => b"spin",
-        Kind::Grant => b"grant",
-        Kind::Release => b"release",
-    }
-}
 
 #[tactic(auto, unfolding(crate::specs::Titles::moment_text))]
 pub(crate) fn moment_word(moment: Moment) -> &'static [u8]
@@ -128,7 +109,7 @@ fn add_broken(text: &mut Vec<u8>, rule: Rule) -> Result<(), Memory>
     ensures { OnOk result (text.new.items ≡ text.old.items ++ (codes "breaks rule " ++ rule_text rule)) }
 {
     add(text, b"breaks rule ")?;
-    add(text, rule_word(rule))
+    add(text, rule.code())
 }
 
 // What a block shows.
@@ -138,7 +119,7 @@ fn add_look_told(text: &mut Vec<u8>, look: Look) -> Result<(), Memory>
 {
     match look {
         Look::Lane => Ok(()),
-        Look::Does(kind) => add(text, kind_word(kind)),
+        Look::Does(kind) => add(text, kind.word()),
         Look::Turn => add(text, b"has the turn of its core"),
         Look::Holds => add(text, b"holds"),
         Look::First(behind) => add_counted(text, b"ahead of ", behind, b" in the queue of"),
