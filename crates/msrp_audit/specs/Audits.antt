@@ -1,9 +1,9 @@
 -- An auditor, and the rows that it was fed.
-use Rattle.std.specs.Prelude.{ℕ, List, [], ◌∷◌, ◌++◌, Bool, not, nat_lt, ◌&&◌, ◌/◌, Option, Some, None, Result, Ok, Err, length, slice_get, ◌≡◌, ◌<◌, ◌≤◌, ◌+◌, ◌*◌, ⊤}
+use Rattle.std.specs.Prelude.{ℕ, false, List, [], ◌∷◌, ◌++◌, Bool, not, nat_lt, ◌&&◌, ◌/◌, Option, Some, None, Result, Ok, Err, length, slice_get, ◌≡◌, ◌<◌, ◌≤◌, ◌+◌, ◌*◌, ⊤}
 use Rattle.std.specs.Option.{option_map}
 use Rattle.msrp_core.specs.Machine.{MachineModel}
 use Rattle.msrp_plan.specs.Plan.{PlanModel}
-use Rattle.msrp_plan.specs.Runs.{IsLegal, had_turn}
+use Rattle.msrp_plan.specs.Runs.{IsLegal, had_turn, is_in_turn}
 use Rattle.msrp_plan.specs.Verdict.{fault_in}
 use Rattle.msrp_plan.specs.WellFormed.{IsPlan}
 use Rattle.msrp_plan.specs.declared.faults.Fault.{Fault}
@@ -30,6 +30,10 @@ pub record IsCoreDue (a : AuditorModel) (c : ℕ) : Type 0 where
   pub core : c < a.plan.cores
   pub left : a.fed < a.plan.cores * a.plan.ticks
   pub tick : option_map (λ (x : MachineModel). x.tick) (slice_get a.cores.machines c) ≡ Some (a.fed / a.plan.cores)
+
+-- the row isn't in its turn after these, or all turns were had
+abbrev pub IsOutOfTurn : PlanModel → List Row → Row → Type 0
+IsOutOfTurn plan rows r = length rows < plan.cores * plan.ticks → is_in_turn plan rows r ≡ false
 
 -- these rows were fed and have no fault, and the core had its turn, which made the one legal row: once that row comes the cores stand for it too
 pub record Awaits (a : AuditorModel) (rows : List Row) (c : ℕ) (due : Row) : Type 0 where

@@ -1,14 +1,16 @@
 //! The auditor, row by row.
-ghost use Rattle.std.specs.Prelude.{◌≡◌, ◌<◌, ◌+◌, ◌*◌, ◌/◌, ◌++◌, ◌∷◌, [], ℕ, List, IfOk, IfNone, IfSome, Some, None, Err, length, true};
+ghost use Rattle.std.specs.Prelude.{◌≡◌, ◌≤◌, ◌<◌, ◌+◌, ◌*◌, ◌/◌, ◌++◌, ◌∷◌, [], ℕ, List, IfOk, IfNone, IfSome, Some, None, Err, length, true};
 ghost use Rattle.std.specs.Option.{IsSomeAnd};
 ghost use Rattle.msrp_core.specs.CoreStates.{IsCoreState};
+ghost use Rattle.msrp_plan.specs.Limits.{most_rows};
 ghost use Rattle.msrp_plan.specs.Logs.{log_of};
 ghost use Rattle.msrp_plan.specs.Runs.{is_of_core, is_in_turn};
 ghost use Rattle.msrp_plan.specs.Verdict.{fault_in, verdict, refused};
+ghost use Rattle.msrp_plan.specs.WellFormed.{IsPlan};
 ghost use Rattle.msrp_plan.specs.declared.faults.Fault.{Fault as TraceFault};
 ghost use Rattle.msrp_plan.specs.declared.rows.Row.{Row as TraceRow};
 ghost use Rattle.msrp_sim.specs.Cores.{IsDueAfter, IsNextRow, IsAs, Leaves, known_row};
-ghost use Rattle.msrp_audit.specs.Audits.{HasFed, IsCoreDue, Awaits, answer_of, has_turn};
+ghost use Rattle.msrp_audit.specs.Audits.{HasFed, IsCoreDue, IsOutOfTurn, Awaits, answer_of, has_turn};
 
 use crate::comparing::unlike_due;
 use msrp_core::CoreState;
@@ -96,7 +98,8 @@ impl<'a> Auditor<'a> {
     // How many rows came before the first fault.
     #[inline(always)]
     fn fed(&self) -> u32
-        ensures { result ≡ self.now.fed }
+        ensures fed { result ≡ self.now.fed }
+        ensures few { result ≤ most_rows }
     {
         self.at.tick * self.plan.cores() + self.at.place
     }
@@ -117,7 +120,9 @@ impl<'a> Auditor<'a> {
     /// The tick that is due, while the rows so far have no fault. After the last row it is the number of ticks.
     #[inline(always)]
     pub fn tick(&self) -> u32
-        ensures { (rows : List TraceRow) → HasFed self.now rows → self.now.fault ≡ None → result ≡ length rows / self.now.plan.cores }
+        ensures tick { (rows : List TraceRow) → HasFed self.now rows → self.now.fault ≡ None → result ≡ length rows / self.now.plan.cores }
+        ensures most { result ≤ self.now.plan.ticks }
+        ensures accepted { IsPlan self.now.plan }
     {
         self.at.tick
     }
@@ -147,9 +152,10 @@ impl<'a> Auditor<'a> {
     pub fn repeat(&mut self, core: CoreId) -> Option<Row>
         requires { IsCoreDue self.old core.0 }
         ensures none { IfNone result (self.new ≡ self.old) }
-        ensures known { result ≡ known_row self.old.cores core.0 }
+        ensures known { IfSome result (λ due. known_row self.old.cores core.0 ≡ Some due) }
         ensures plan { self.new.plan ≡ self.old.plan }
         ensures fed { self.new.fed ≡ self.old.fed }
+        ensures core { IfSome result (λ due. due.core.0 ≡ core.0) }
         ensures leaves { IfSome result (Leaves self.old.cores self.new.cores) }
         ensures awaits { IfSome result (λ due. (rows : List TraceRow) → HasFed self.old rows → Awaits self.new rows core.0 due) }
     {
@@ -163,6 +169,7 @@ impl<'a> Auditor<'a> {
         requires { IsCoreDue self.old core.0 }
         ensures plan { self.new.plan ≡ self.old.plan }
         ensures fed { self.new.fed ≡ self.old.fed }
+        ensures core { result.core.0 ≡ core.0 }
         ensures leaves { Leaves self.old.cores self.new.cores result }
         ensures awaits { (rows : List TraceRow) → HasFed self.old rows → Awaits self.new rows core.0 result }
     {
@@ -215,9 +222,32 @@ impl<'a> Auditor<'a> {
     /// no fault and rows are left, a row that isn't is A1.
     #[inline(always)]
     pub fn is_in_turn(&self, row: Row) -> bool
-        ensures { (rows : List TraceRow) → HasFed self.now rows → self.now.fault ≡ None → length rows < self.now.plan.cores * self.now.plan.ticks → result ≡ is_in_turn self.now.plan rows row }
+        ensures turn { (rows : List TraceRow) → HasFed self.now rows → self.now.fault ≡ None → length rows < self.now.plan.cores * self.now.plan.ticks → result ≡ is_in_turn self.now.plan rows row }
+        ensures due { result ≡ true → IsCoreDue self.now row.core.0 }
+        ensures tick { result ≡ true → (rows : List TraceRow) → HasFed self.now rows → row.tick ≡ length rows / self.now.plan.cores }
     {
         row.tick == self.at.tick && self.is_due(row.core)
+    }
+
+    // The rule that a row breaks that isn't in its turn.
+    fn rule_out_of_turn(&self) -> Rule
+        ensures { (rows : List TraceRow) (row : TraceRow) → HasFed self.now rows → self.now.fault ≡ None → IsOutOfTurn self.now.plan rows row → Some result ≡ refused self.now.plan rows row }
+    {
+        if self.at.tick < self.plan.ticks() {
+            Rule::A1
+        } else {
+            Rule::A7
+        }
+    }
+
+    /// The fault of a row that isn't in its turn, behind rows without one.
+    pub fn fault_out_of_turn(&self) -> Fault
+        ensures { (rows : List TraceRow) (row : TraceRow) → HasFed self.now rows → self.now.fault ≡ None → IsOutOfTurn self.now.plan rows row → fault_in self.now.plan (rows ++ row ∷ []) ≡ Some result }
+    {
+        Fault {
+            row: self.fed() + 1,
+            rule: self.rule_out_of_turn(),
+        }
     }
 
     /// Whether a core has its turn still to come in the tick that is due, while the rows so far have no fault and rows are left.
@@ -264,14 +294,10 @@ impl<'a> Auditor<'a> {
         if let Some(fault) = self.fault {
             return Err(fault);
         }
-        if self.at.tick >= self.plan.ticks() {
-            return Err(self.fail(Rule::A7));
-        }
-        if row.tick != self.at.tick {
-            return Err(self.fail(Rule::A1));
-        }
-        if !self.is_due(row.core) {
-            return Err(self.fail(Rule::A1));
+        if !self.is_in_turn(row) {
+            let fault = self.fault_out_of_turn();
+            self.fault = Some(fault);
+            return Err(fault);
         }
         let due = self.turn(row.core);
         *told = Some(due);

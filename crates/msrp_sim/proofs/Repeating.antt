@@ -20,7 +20,7 @@ in_own_tick None t r h = tt
 in_own_tick (Some next) t r h = let e : next.tick ≡ t = ap (λ (x : Row). x.tick) h in subst (λ k. next ≡ in_tick k r) (sym e) h
 
 module _ (old new : CoresModel) (c : ℕ) (r : Row) (cores : AreCores old) (t : TakesTurn old new c r) where
-  at_core : r.core.0 ≡ c
+  pub at_core : r.core.0 ≡ c
   at_core = let its = cores.each c t.before t.has in (t.turned.row its.log its.stands).core ∙ its.core
 
   own_next : known_row new c ≡ next_known t.after
@@ -40,6 +40,10 @@ known_by q c (Some s) r e = by_flag (is_granted q c s.res s.kind) e
     by_flag : (b : Bool) → cond b None (Some s) ≡ Some r → Some s ≡ Some r
     by_flag true e = absurd (none-some r e)
     by_flag false e = e
+
+pub known_if : (q : Queues) (c : ℕ) (o known : Option Row) → o ≡ unless_granted q c known → IfSome o (λ due. known ≡ Some due)
+known_if q c None known e = tt
+known_if q c (Some r) known e = known_by q c known r (sym e)
 
 -- ---- a machine that makes its last row again, if it is known that it does
 -- the cores then
@@ -62,6 +66,10 @@ none_if m c x y (Some r) has t = tt
 pub kept_if : (m : CoresModel) (c : ℕ) (x y : MachineModel) (o : Option Row) → AreCores m → slice_get m.machines c ≡ Some x → x.tick < m.plan.ticks → IfNone o (y ≡ x) → IfSome o (HasRepeated m.queues x y) → AreCores (with_machine m c y)
 kept_if m c x y None cores has left none t = subst AreCores (sym (same_cores m c x y has none)) cores
 kept_if m c x y (Some r) cores has left none t = cores_kept m (with_machine m c y) c r cores (takes m c x y r has t) left
+
+pub core_if : (m : CoresModel) (c : ℕ) (x y : MachineModel) (o : Option Row) → AreCores m → slice_get m.machines c ≡ Some x → IfSome o (HasRepeated m.queues x y) → IfSome o (λ due. due.core.0 ≡ c)
+core_if m c x y None cores has t = tt
+core_if m c x y (Some r) cores has t = at_core m (with_machine m c y) c r cores (takes m c x y r has t)
 
 pub leaves_if : (m : CoresModel) (c : ℕ) (x y : MachineModel) (o : Option Row) → AreCores m → slice_get m.machines c ≡ Some x → IfSome o (HasRepeated m.queues x y) → IfSome o (Leaves m (with_machine m c y))
 leaves_if m c x y None cores has t = tt

@@ -179,6 +179,7 @@ impl<'a> Cores<'a> {
         ensures none { IfNone result (self.new ≡ self.old) }
         ensures known { result ≡ unless_granted self.old.queues core.0 (known_row self.old core.0) }
         ensures plan { self.new.plan ≡ self.old.plan }
+        ensures core { IfSome result (λ due. due.core.0 ≡ core.0) }
         ensures leaves { IfSome result (Leaves self.old self.new) }
         ensures next { IfSome result (λ due. (rows : List TraceRow) → StandFor self.old rows → IsDueAfter self.old.plan rows core.0 → IsNextRow self.old.plan rows core.0 due) }
         ensures stand { IfSome result (λ due. (rows : List TraceRow) (row : TraceRow) → StandFor self.old rows → IsDueAfter self.old.plan rows core.0 → IsAs due row → IsLegal self.old.plan rows row → StandFor self.new (rows ++ row ∷ [])) }
@@ -193,6 +194,7 @@ impl<'a> Cores<'a> {
         requires core { core.0 < self.old.plan.cores }
         requires tick { (x : MachineModel) → slice_get self.old.machines core.0 ≡ Some x → x.tick < self.old.plan.ticks }
         ensures plan { self.new.plan ≡ self.old.plan }
+        ensures core { result.core.0 ≡ core.0 }
         ensures leaves { Leaves self.old self.new result }
         ensures next { (rows : List TraceRow) → StandFor self.old rows → IsDueAfter self.old.plan rows core.0 → IsNextRow self.old.plan rows core.0 result }
         ensures stand { (rows : List TraceRow) (row : TraceRow) → StandFor self.old rows → IsDueAfter self.old.plan rows core.0 → IsAs result row → IsLegal self.old.plan rows row → StandFor self.new (rows ++ row ∷ []) }
@@ -211,6 +213,7 @@ impl<'a> Cores<'a> {
         requires core { core.0 < self.old.plan.cores }
         requires tick { (x : MachineModel) → slice_get self.old.machines core.0 ≡ Some x → x.tick < self.old.plan.ticks }
         ensures plan { self.new.plan ≡ self.old.plan }
+        ensures core { result.core.0 ≡ core.0 }
         ensures leaves { Leaves self.old self.new result }
         ensures next { (rows : List TraceRow) → StandFor self.old rows → IsDueAfter self.old.plan rows core.0 → IsNextRow self.old.plan rows core.0 result }
         ensures stand { (rows : List TraceRow) (row : TraceRow) → StandFor self.old rows → IsDueAfter self.old.plan rows core.0 → IsAs result row → IsLegal self.old.plan rows row → StandFor self.new (rows ++ row ∷ []) }

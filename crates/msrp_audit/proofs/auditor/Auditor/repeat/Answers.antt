@@ -1,6 +1,8 @@
-use Rattle.std.proofs.Common.{List, IfSome, sym, subst}
+use Rattle.std.proofs.Common.{◌≡◌, List, Some, IfSome, sym, subst}
 use Rattle.msrp_plan.specs.declared.rows.Row.{Row as TraceRow}
 use Rattle.msrp_audit.specs.Audits.{AuditorModel, HasFed, IsCoreDue, Awaits, auditor_view}
+use Rattle.msrp_sim.specs.Cores.{known_row}
+use Rattle.msrp_sim.proofs.Repeating.{known_if}
 use Rattle.msrp_audit.proofs.Judging.{awaited_if}
 use Rattle.msrp_audit.proofs.auditor.Auditor.repeat.Goals as goal
 
@@ -10,3 +12,8 @@ returns-clause-awaits c =
     let is_due : IsCoreDue a c.args.core.0 = subst (λ (b : AuditorModel). IsCoreDue b c.args.core.0) (sym c.self.view_is) c.requires in
     let P : AuditorModel → Type 0 = λ b. IfSome c.repeat.result (λ due. (rows : List TraceRow) → HasFed b rows → Awaits (record a { cores = c.repeat.new.self }) rows c.args.core.0 due) in
     subst P c.self.view_is (awaited_if a c.repeat.new.self c.args.core.0 c.repeat.result is_due c.self.invariant.same c.repeat.ensures.next c.repeat.ensures.stand)
+
+pub returns-clause-known : goal.returns-clause-known
+returns-clause-known c =
+    let a = auditor_view c.self.inside in
+    subst (λ (b : AuditorModel). IfSome c.repeat.result (λ due. known_row b.cores c.args.core.0 ≡ Some due)) c.self.view_is (known_if a.cores.queues c.args.core.0 c.repeat.result (known_row a.cores c.args.core.0) c.repeat.ensures.known)

@@ -7,7 +7,7 @@ use Rattle.msrp_core.specs.Machine.{next_known}
 use Rattle.msrp_sim.specs.CoresView.{cores_view}
 use Rattle.msrp_sim.specs.TurnPorts.{unless_granted}
 use Rattle.msrp_sim.proofs.Foreseeing.{has_machine, left}
-use Rattle.msrp_sim.proofs.Repeating.{with_machine, none_if, kept_if, leaves_if, next_if, stand_if}
+use Rattle.msrp_sim.proofs.Repeating.{core_if, with_machine, none_if, kept_if, leaves_if, next_if, stand_if}
 use Rattle.msrp_sim.proofs.cores.Cores.repeat.Goals as goal
 
 pub repeat_by-requires : goal.repeat_by-requires
@@ -69,3 +69,10 @@ returns-clause-stand c =
     let has = has_machine m c.args.core.0 x c.args.self.now c.self.invariant c.self.view_is c.requires.core c.index_mut-machine.ensures.value in
     let P : CoresModel → Type 0 = λ o. IfSome c.repeat_by.result (λ due. (rows : List TraceRow) (row : TraceRow) → StandFor o rows → IsDueAfter o.plan rows c.args.core.0 → IsAs due row → IsLegal o.plan rows row → StandFor (with_machine m c.args.core.0 c.repeat_by.new.machine) (rows ++ row ∷ [])) in
     subst P c.self.view_is (stand_if m c.args.core.0 x c.repeat_by.new.machine c.repeat_by.result c.self.invariant has e.repeated)
+
+pub returns-clause-core : goal.returns-clause-core
+returns-clause-core c =
+    let m = cores_view c.self.inside in
+    let x = c.index_mut-machine.result.now in
+    let has = has_machine m c.args.core.0 x c.args.self.now c.self.invariant c.self.view_is c.requires.core c.index_mut-machine.ensures.value in
+    core_if m c.args.core.0 x c.repeat_by.new.machine c.repeat_by.result c.self.invariant has c.repeat_by.ensures.repeated
