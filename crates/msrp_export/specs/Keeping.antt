@@ -2,25 +2,12 @@
 use Rattle.std.specs.Prelude.{Bool, true, false, ◌&&◌, Option, Some, None}
 use Rattle.msrp_plan.specs.Actions.{same_res}
 use Rattle.msrp_plan.specs.Jobs.{same_job}
+use Rattle.msrp_plan.specs.Kinds.{same_kind}
 use Rattle.msrp_plan.specs.Runs.{same_choice}
-use Rattle.msrp_plan.specs.declared.rows.Kind.{Kind}
-use Rattle.msrp_plan.specs.declared.rows.Kind.TheVariants.{Idle, Run, Lock, Unlock, Take, Queue, Spin, Grant, Release}
 use Rattle.msrp_plan.specs.declared.rows.Row.{Row}
 use Rattle.msrp_export.specs.declared.states.Doing.{Doing}
 use Rattle.msrp_export.specs.declared.states.TaskState.{TaskState}
 use Rattle.msrp_export.specs.declared.states.TaskState.TheVariants.{Unreleased, Ready, Running, Holding, Spinning}
-
-abbrev pub same_kind : Kind → Kind → Bool
-same_kind Idle Idle = true
-same_kind Run Run = true
-same_kind Lock Lock = true
-same_kind Unlock Unlock = true
-same_kind Take Take = true
-same_kind Queue Queue = true
-same_kind Spin Spin = true
-same_kind Grant Grant = true
-same_kind Release Release = true
-same_kind _ _ = false
 
 -- the core did the same in its last row, for the same job, on the same resource; it had no row before its first
 abbrev pub keeps_kind : Option Row → Row → Bool

@@ -6,6 +6,7 @@ use Rattle.std.specs.Prelude.{ℕ, List, [], ◌++◌, Bool, true, false, not, �
 use Rattle.msrp_plan.specs.Jobs.{same_job}
 use Rattle.msrp_plan.specs.Plan.{PlanModel, task_at}
 use Rattle.msrp_plan.specs.Runs.{same_choice}
+use Rattle.msrp_plan.specs.Words.{kind_text, rule_text}
 use Rattle.msrp_plan.specs.declared.faults.Rule.{Rule}
 use Rattle.msrp_plan.specs.declared.ids.JobId.{JobId}
 use Rattle.msrp_plan.specs.declared.rows.Kind.{Kind}
@@ -15,7 +16,7 @@ use Rattle.msrp_export.specs.Groups.{each, name_of}
 use Rattle.msrp_export.specs.Keeping.{keeps_row, same_doing}
 use Rattle.msrp_export.specs.Signals.{holder, last_row}
 use Rattle.msrp_export.specs.Ticks.{doing_before, rows_before}
-use Rattle.msrp_export.specs.Words.{faulty_text, job_text, kind_text, res_text, rule_text, state_text}
+use Rattle.msrp_export.specs.Words.{faulty_text, job_text, res_text, state_text}
 use Rattle.msrp_export.specs.declared.groups.Group.{Group}
 use Rattle.msrp_export.specs.declared.groups.Group.TheVariants.{Cores, Resources, Tasks}
 use Rattle.msrp_export.specs.declared.standing.ResState.{ResState}

@@ -5,12 +5,13 @@
 use Rattle.std.specs.Prelude.{ℕ, List, [], ◌++◌, Bool, not, nat_eq, ◌==◌, ◌&&◌, codes, decimal, Option, Some, None, if◌then◌else◌}
 use Rattle.msrp_plan.specs.Plan.{PlanModel}
 use Rattle.msrp_plan.specs.Runs.{same_choice}
+use Rattle.msrp_plan.specs.Words.{kind_text, rule_text}
 use Rattle.msrp_plan.specs.declared.faults.Rule.{Rule}
 use Rattle.msrp_plan.specs.declared.ids.JobId.{JobId}
 use Rattle.msrp_plan.specs.declared.rows.Row.{Row}
 use Rattle.msrp_export.specs.Groups.{name_of}
 use Rattle.msrp_export.specs.Keeping.{keeps_job, keeps_kind, keeps_res, same_bit, same_state}
-use Rattle.msrp_export.specs.Words.{bit_text, faulty_text, job_text, kind_text, res_text, rule_text, state_text}
+use Rattle.msrp_export.specs.Words.{bit_text, faulty_text, job_text, res_text, state_text}
 use Rattle.msrp_export.specs.declared.groups.Group.{Group}
 use Rattle.msrp_export.specs.declared.groups.Group.TheVariants.{Cores, Resources, Tasks}
 use Rattle.msrp_export.specs.declared.standing.ResState.{ResState}

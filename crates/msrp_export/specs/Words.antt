@@ -1,37 +1,12 @@
--- Words of rows and of rules, and the names of tasks and resources.
+-- Words for what tasks do, and the names of tasks and resources.
 use Rattle.std.specs.Prelude.{ℕ, List, Bool, true, false, ◌++◌, codes, decimal, Option, Some, None, slice_get}
 use Rattle.msrp_plan.specs.Plan.{PlanModel, TaskModel}
-use Rattle.msrp_plan.specs.declared.faults.Rule.{Rule}
-use Rattle.msrp_plan.specs.declared.faults.Rule.TheVariants.{A1, A2, A3, A4, A5, A6, A7}
+use Rattle.msrp_plan.specs.Words.{kind_text}
 use Rattle.msrp_plan.specs.declared.ids.JobId.{JobId}
 use Rattle.msrp_plan.specs.declared.ids.ResId.{ResId}
-use Rattle.msrp_plan.specs.declared.rows.Kind.{Kind}
-use Rattle.msrp_plan.specs.declared.rows.Kind.TheVariants.{Idle, Run, Lock, Unlock, Take, Queue, Spin, Grant, Release}
 use Rattle.msrp_plan.specs.declared.rows.Row.{Row}
 use Rattle.msrp_export.specs.declared.states.TaskState.{TaskState}
 use Rattle.msrp_export.specs.declared.states.TaskState.TheVariants.{Unreleased, Ready, Running, Holding, Spinning}
-
--- the word for a kind of row
-unfoldable pub kind_text : Kind → List ℕ
-kind_text Idle = codes "idle"
-kind_text Run = codes "run"
-kind_text Lock = codes "lock"
-kind_text Unlock = codes "unlock"
-kind_text Take = codes "take"
-kind_text Queue = codes "queue"
-kind_text Spin = codes "spin"
-kind_text Grant = codes "grant"
-kind_text Release = codes "release"
-
--- the code of a rule
-unfoldable pub rule_text : Rule → List ℕ
-rule_text A1 = codes "A1"
-rule_text A2 = codes "A2"
-rule_text A3 = codes "A3"
-rule_text A4 = codes "A4"
-rule_text A5 = codes "A5"
-rule_text A6 = codes "A6"
-rule_text A7 = codes "A7"
 
 -- the word for what a task does
 unfoldable pub state_text : TaskState → List ℕ

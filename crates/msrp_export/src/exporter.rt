@@ -32,7 +32,8 @@ impl<'a> Exporter<'a> {
         ensures format { result.format ≡ format }
         ensures exported { HasExported result [] }
     {
-        let _cores = plan.cores();
+        // Read so that the plan is known to be an accepted one, which has a core.
+        let _accepted = plan.cores();
         let none = Standing::new();
         Exporter {
             plan,

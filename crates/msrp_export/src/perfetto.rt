@@ -12,9 +12,7 @@ use crate::keeping::{keeps_row, same_choice, same_doing, same_job};
 use crate::recent::Recent;
 use crate::standing::ResState;
 use crate::states::{Doing, TaskState, doing_before};
-use crate::words::{
-    add_faulty, add_job, add_long, add_number, kind_word, res_or_dash, rule_word, state_word,
-};
+use crate::words::{add_faulty, add_job, add_long, add_number, res_or_dash, state_word};
 use msrp_plan::bytes::Sink;
 use msrp_plan::{CoreId, JobId, Kind, Plan, ResId, Row, Rule, TaskId};
 use std::io::Write;
@@ -97,11 +95,11 @@ fn add_row_event<W: Write>(out: &mut Sink<W>, plan: &Plan, tick: u32, core: Core
     out.add(b",\"name\":\"");
     add_job(out, plan, row.job);
     out.add(b" ");
-    out.add(kind_word(row.kind));
+    out.add(row.kind.word());
     out.add(b"\",\"args\":{\"job\":\"");
     add_job(out, plan, row.job);
     out.add(b"\",\"kind\":\"");
-    out.add(kind_word(row.kind));
+    out.add(row.kind.word());
     out.add(b"\",\"resource\":\"");
     out.add(res_or_dash(plan, row.res));
     out.add(b"\"}}");
@@ -449,9 +447,9 @@ pub(crate) fn add_broken<W: Write>(
     );
     add_number(out, tick);
     out.add(b",\"s\":\"g\",\"name\":\"fault ");
-    out.add(rule_word(rule));
+    out.add(rule.code());
     out.add(b"\",\"args\":{\"rule\":\"");
-    out.add(rule_word(rule));
+    out.add(rule.code());
     out.add(b"\",\"row\":\"");
     add_faulty(out, plan, row);
     out.add(b"\"}}");

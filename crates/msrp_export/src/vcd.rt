@@ -1,17 +1,16 @@
 //! A value change dump: the signals and lines of cores, tasks and resources, and what is broken.
 ghost use Rattle.std.specs.Prelude.{◌≡◌, ◌==◌, ◌&&◌, [], ◌++◌, codes, if◌then◌else◌, nat_eq, not};
 ghost use Rattle.msrp_plan.specs.Bytes.{Wrote};
+ghost use Rattle.msrp_plan.specs.Words.{kind_text};
 ghost use Rattle.msrp_export.specs.Keeping.{keeps_job, keeps_kind, keeps_res};
 ghost use Rattle.msrp_export.specs.Vcd.{bit_line, broken_text, core_change, core_lines, holder_change, late_change, number_line, prefix, queue_change, res_change, signal, signals, state_change, task_change, tick_line, value_line};
-ghost use Rattle.msrp_export.specs.Words.{faulty_text, job_text, kind_text, res_text, rule_text};
+ghost use Rattle.msrp_export.specs.Words.{faulty_text, job_text, res_text};
 
 use crate::groups::{Group, add_name};
 use crate::keeping::{keeps_job, keeps_kind, keeps_res, same_bit, same_choice, same_state};
 use crate::standing::ResState;
 use crate::states::{Doing, TaskState};
-use crate::words::{
-    add_faulty, add_job, add_number, bit_word, kind_word, res_or_dash, rule_word, state_word,
-};
+use crate::words::{add_faulty, add_job, add_number, bit_word, res_or_dash, state_word};
 use msrp_plan::bytes::Sink;
 use msrp_plan::{JobId, Plan, ResId, Row, Rule, TaskId};
 use std::io::Write;
@@ -82,7 +81,7 @@ fn add_kind_change<W: Write>(out: &mut Sink<W>, before: Option<Row>, row: Row)
     ensures { Wrote W.contents out.old out.new (if keeps_kind before row then [] else value_line (kind_text row.kind) (codes "k") row.core.0) }
 {
     if !keeps_kind(before, row) {
-        add_value(out, kind_word(row.kind), b"k", row.core.0);
+        add_value(out, row.kind.word(), b"k", row.core.0);
     }
 }
 
@@ -297,6 +296,6 @@ fn add_faulty_value<W: Write>(out: &mut Sink<W>, plan: &Plan, row: Option<Row>)
 pub(crate) fn add_broken<W: Write>(out: &mut Sink<W>, plan: &Plan, rule: Rule, row: Option<Row>)
     ensures { Wrote W.contents out.old out.new (broken_text plan.now rule row) }
 {
-    add_value(out, rule_word(rule), b"f", 0);
+    add_value(out, rule.code(), b"f", 0);
     add_faulty_value(out, plan, row);
 }

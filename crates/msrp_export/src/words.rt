@@ -1,47 +1,13 @@
-//! Words of rows and of rules, and the names of tasks and resources.
+//! Words for what tasks do, and the names of tasks and resources.
 ghost use Rattle.std.specs.Prelude.{◌≡◌, decimal};
 ghost use Rattle.msrp_plan.specs.Bytes.{Wrote};
-ghost use Rattle.msrp_export.specs.Words.{bit_text, faulty_text, job_text, kind_text, res_text, rule_text, state_text, task_name, res_name};
+ghost use Rattle.msrp_export.specs.Words.{bit_text, faulty_text, job_text, res_text, state_text, task_name, res_name};
 
 use crate::states::TaskState;
 use itoa::Buffer;
 use msrp_plan::bytes::Sink;
-use msrp_plan::{JobId, Kind, Plan, ResId, Row, Rule, TaskId};
+use msrp_plan::{JobId, Plan, ResId, Row, TaskId};
 use std::io::Write;
-
-/// The word for a kind of row.
-#[tactic(auto, unfolding(crate::specs::Words::kind_text))]
-pub(crate) fn kind_word(kind: Kind) -> &'static [u8]
-    ensures { result.now ≡ kind_text kind }
-{
-    match kind {
-        Kind::Idle => b"idle",
-        Kind::Run => b"run",
-        Kind::Lock => b"lock",
-        Kind::Unlock => b"unlock",
-        Kind::Take => b"take",
-        Kind::Queue => b"queue",
-        Kind::Spin => b"spin",
-        Kind::Grant => b"grant",
-        Kind::Release => b"release",
-    }
-}
-
-/// The code of a rule.
-#[tactic(auto, unfolding(crate::specs::Words::rule_text))]
-pub(crate) fn rule_word(rule: Rule) -> &'static [u8]
-    ensures { result.now ≡ rule_text rule }
-{
-    match rule {
-        Rule::A1 => b"A1",
-        Rule::A2 => b"A2",
-        Rule::A3 => b"A3",
-        Rule::A4 => b"A4",
-        Rule::A5 => b"A5",
-        Rule::A6 => b"A6",
-        Rule::A7 => b"A7",
-    }
-}
 
 /// The word for what a task does.
 #[tactic(auto, unfolding(crate::specs::Words::state_text))]
@@ -141,7 +107,7 @@ pub(crate) fn add_faulty<W: Write>(out: &mut Sink<W>, plan: &Plan, row: Option<R
         Some(row) => {
             add_number(out, row.core.0);
             out.add(b",");
-            out.add(kind_word(row.kind));
+            out.add(row.kind.word());
             out.add(b",");
             add_job(out, plan, row.job);
             out.add(b",");
