@@ -233,7 +233,8 @@ impl<'a> Auditor<'a> {
     fn rule_out_of_turn(&self) -> Rule
         ensures { (rows : List TraceRow) (row : TraceRow) → HasFed self.now rows → self.now.fault ≡ None → IsOutOfTurn self.now.plan rows row → Some result ≡ refused self.now.plan rows row }
     {
-        if self.at.tick < self.plan.ticks() {
+        let ticks = self.plan.ticks();
+        if self.at.tick < ticks {
             Rule::A1
         } else {
             Rule::A7
@@ -295,9 +296,9 @@ impl<'a> Auditor<'a> {
             return Err(fault);
         }
         if !self.is_in_turn(row) {
-            let fault = self.fault_out_of_turn();
-            self.fault = Some(fault);
-            return Err(fault);
+            let out = self.fault_out_of_turn();
+            self.fault = Some(out);
+            return Err(out);
         }
         let due = self.turn(row.core);
         *told = Some(due);

@@ -1,29 +1,12 @@
 -- What an audit writes and answers.
-use Rattle.std.specs.Prelude.{◌≡◌, ℕ, List, [], ◌∷◌, codes, decimal, if◌then◌else◌, Option, Ok, Err, ⊤}
+use Rattle.std.specs.Prelude.{◌≡◌, ℕ, List, if◌then◌else◌, Option, Ok, Err, ⊤}
 use Rattle.std.specs.declared.result.Result.{Result}
 use Rattle.msrp_plan.specs.Bytes.{Wrote, sink_failed}
+use Rattle.msrp_plan.specs.Words.{verdict_text}
 use Rattle.msrp_plan.specs.declared.bytes.Sink.{Sink}
 use Rattle.msrp_plan.specs.declared.faults.Fault.{Fault}
-use Rattle.msrp_plan.specs.declared.faults.Rule.{Rule}
-use Rattle.msrp_plan.specs.declared.faults.Rule.TheVariants.{A1, A2, A3, A4, A5, A6, A7}
-use Rattle.msrp_text.specs.PlanText.{record_text}
 use Rattle.msrp_faults.specs.declared.faults.CliFault.{CliFault}
 use Rattle.msrp_faults.specs.declared.faults.CliFault.TheVariants.{Write}
-
--- the code of a rule
-unfoldable pub rule_text : Rule → List ℕ
-rule_text A1 = codes "A1"
-rule_text A2 = codes "A2"
-rule_text A3 = codes "A3"
-rule_text A4 = codes "A4"
-rule_text A5 = codes "A5"
-rule_text A6 = codes "A6"
-rule_text A7 = codes "A7"
-
--- a good trace, or the first row that breaks a rule, with the rule
-abbrev pub verdict_fields : Result ⊤ Fault → List (List ℕ)
-verdict_fields (Ok good) = codes "good" ∷ []
-verdict_fields (Err fault) = codes "fault" ∷ decimal fault.row ∷ rule_text fault.rule ∷ []
 
 -- the exit status of a verdict
 abbrev pub verdict_status : Result ⊤ Fault → ℕ
@@ -32,7 +15,7 @@ verdict_status (Err fault) = 1
 
 -- the verdict is written, and its status is answered if the sink took it all
 pub record TellsVerdict {W : Type 0} (contents : W → Option (List ℕ)) (found : Result ⊤ Fault) (old new : Sink W) (result : Result ℕ CliFault) : Type 0 where
-  pub text : Wrote contents old new (record_text (verdict_fields found))
+  pub text : Wrote contents old new (verdict_text found)
   pub status : result ≡ if sink_failed new then Err Write else Ok (verdict_status found)
 
 -- the answer where that is found: a verdict is written, and of a refusal nothing is

@@ -1,12 +1,10 @@
 //! The audit of a trace's text, row by row.
 ghost use Rattle.std.specs.Prelude.{◌≡◌, ◌⊎◌, [], true, Some, Err, IfErr};
 ghost use Rattle.msrp_audit.specs.Audits.{HasFed};
-ghost use Rattle.msrp_plan.specs.Bytes.{Wrote};
-ghost use Rattle.msrp_text.specs.PlanText.{record_text};
 ghost use Rattle.msrp_trace.specs.Reading.{Told, rows_of};
 ghost use Rattle.msrp_trace.specs.Readers.{told_left};
 ghost use Rattle.msrp_engine.specs.Answered.{Answered, OfText, OfTexts, ReadsBoth};
-ghost use Rattle.msrp_engine.specs.AuditText.{AuditAnswers, TellsVerdict, rule_text, verdict_fields};
+ghost use Rattle.msrp_engine.specs.AuditText.{AuditAnswers, TellsVerdict};
 ghost use Rattle.msrp_engine.specs.Findings.{finding, finding_of};
 ghost use Rattle.msrp_faults.specs.Outcomes.{is_trace_fault, is_audit_fault};
 
@@ -15,7 +13,7 @@ use msrp_audit::Auditor;
 use msrp_faults::CliFault;
 use msrp_levels::Levels;
 use msrp_plan::bytes::{Sink, Source};
-use msrp_plan::{Fault, Plan, Rule};
+use msrp_plan::{Fault, Plan};
 use msrp_text::read_plan;
 use msrp_trace::TraceReader;
 use std::alloc::Global;
@@ -65,37 +63,6 @@ fn judge_all<T: Read>(
     found
 }
 
-// The code of a rule.
-#[tactic(auto, unfolding(crate::specs::AuditText::rule_text))]
-fn rule_word(rule: Rule) -> &'static [u8]
-    ensures { result.now ≡ rule_text rule }
-{
-    match rule {
-        Rule::A1 => b"A1",
-        Rule::A2 => b"A2",
-        Rule::A3 => b"A3",
-        Rule::A4 => b"A4",
-        Rule::A5 => b"A5",
-        Rule::A6 => b"A6",
-        Rule::A7 => b"A7",
-    }
-}
-
-/// Writes the record of a verdict.
-pub fn add_verdict<W: Write>(out: &mut Sink<W>, found: Result<(), Fault>)
-    ensures { Wrote W.contents out.old out.new (record_text (verdict_fields found)) }
-{
-    match found {
-        Ok(()) => out.add(b"good\n"),
-        Err(fault) => {
-            out.add(b"fault");
-            out.number(u64::from(fault.row));
-            out.field(rule_word(fault.rule));
-            out.add(b"\n");
-        }
-    }
-}
-
 /// Writes a verdict, and answers its status.
 pub(crate) fn write_verdict<W: Write>(
     out: &mut Sink<W>,
@@ -103,7 +70,7 @@ pub(crate) fn write_verdict<W: Write>(
 ) -> Result<u8, CliFault>
     ensures { TellsVerdict W.contents found out.old out.new result }
 {
-    add_verdict(out, found);
+    out.verdict(found);
     out.outcome()?;
     match found {
         Ok(()) => Ok(0),

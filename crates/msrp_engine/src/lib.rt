@@ -17,7 +17,7 @@ mod sim;
 mod texts;
 mod whole;
 
-pub use audit::{add_verdict, audit_text, judge_texts};
+pub use audit::{audit_text, judge_texts};
 pub use audit_parallel::audit_parallel_text;
 pub use check::check_text;
 pub use made::Made;

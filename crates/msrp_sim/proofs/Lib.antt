@@ -5,7 +5,7 @@ pub mod TurnPorts
 pub mod Turns
 pub mod Standing
 pub mod Keeping
-mod Repeating
+pub mod Repeating
 pub mod Starting
 pub mod Rounds
 pub mod Given

@@ -19,6 +19,7 @@ use Rattle.msrp_plan.specs.Plan.{PlanModel, TaskModel, no_task, task_at, task_of
 use Rattle.msrp_plan.specs.Shape.{has_shape, is_queue, may_carry}
 use Rattle.msrp_plan.specs.Runs.{IsRunStart}
 use Rattle.msrp_plan.specs.WellFormed.{IsPlan}
+use Rattle.msrp_plan.specs.Words.{kind_text}
 use Rattle.msrp_plan.specs.declared.ids.JobId.{JobId}
 use Rattle.msrp_plan.specs.declared.ids.ResId.{ResId}
 use Rattle.msrp_plan.specs.declared.rows.Kind.{Kind}
@@ -37,7 +38,7 @@ use Rattle.msrp_text.proofs.ReadBack.{all_made}
 use Rattle.msrp_trace.specs.Laws.{as_read, has_short_ahead, has_short_job, has_short_numbers, has_told_ahead, is_short, is_told_whole}
 use Rattle.msrp_trace.specs.Reading.{Told, rows_of, told_after}
 use Rattle.msrp_trace.specs.Rows.{ahead_told, field_count, has_its_ahead, has_parts, is_dash, is_shaped, job_told, job_with, kind_named, kind_told, lacks_name, lacks_number, res_named, res_told, row_fault, row_told, task_named, task_told, version_told}
-use Rattle.msrp_trace.specs.TraceText.{ahead_fields, ahead_text, dash, head_fields, head_text, is_named, is_res_of, is_task_of, job_text, kind_text, res_text, row_fields, row_text, task_text, trace_text, trace_word}
+use Rattle.msrp_trace.specs.TraceText.{ahead_fields, ahead_text, dash, head_fields, head_text, is_named, is_res_of, is_task_of, job_text, res_text, row_fields, row_text, task_text, trace_text, trace_word}
 use Rattle.msrp_trace.proofs.Fields.{shape_known, told_row}
 use Rattle.msrp_trace.proofs.NamedRows.{run_named, run_short}
 use Rattle.msrp_trace.proofs.Names.{same_bytes, task_found, res_found}

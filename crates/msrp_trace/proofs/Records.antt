@@ -4,6 +4,7 @@ use Rattle.std.proofs.lemmas.Grind.{flat_map-append}
 use Rattle.std.proofs.lemmas.List.{take_all, take_more}
 use Rattle.std.specs.List.{flat_map}
 use Rattle.msrp_plan.specs.Plan.{PlanModel}
+use Rattle.msrp_plan.specs.Words.{kind_text}
 use Rattle.msrp_plan.specs.declared.ids.JobId.{JobId}
 use Rattle.msrp_plan.specs.declared.ids.ResId.{ResId}
 use Rattle.msrp_plan.specs.declared.rows.Row.{Row}
@@ -11,7 +12,7 @@ use Rattle.msrp_plan.specs.declared.rows.TextVersion.{TextVersion}
 use Rattle.msrp_plan.specs.declared.rows.TextVersion.TheVariants.{V1, V2}
 use Rattle.msrp_text.specs.PlanText.{version_text}
 use Rattle.msrp_trace.specs.Gathering.{after_tick, next_field}
-use Rattle.msrp_trace.specs.TraceText.{ahead_text, head_text, is_named, is_res_of, is_task_of, job_text, kind_text, res_text, row_text, task_text, trace_text, trace_word}
+use Rattle.msrp_trace.specs.TraceText.{ahead_text, head_text, is_named, is_res_of, is_task_of, job_text, res_text, row_text, task_text, trace_text, trace_word}
 
 pub comma_next : (s text : List ℕ) → (s ++ codes ",") ++ text ≡ s ++ next_field text
 unfolding next_field

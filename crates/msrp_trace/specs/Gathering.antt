@@ -2,9 +2,10 @@
 use Rattle.std.specs.Prelude.{◌≡◌, ℕ, List, ◌++◌, codes, decimal, Option}
 use Rattle.std.specs.List.{flat_map}
 use Rattle.msrp_plan.specs.Plan.{PlanModel}
+use Rattle.msrp_plan.specs.Words.{kind_text}
 use Rattle.msrp_plan.specs.declared.rows.Row.{Row}
 use Rattle.msrp_plan.specs.declared.rows.TextVersion.{TextVersion}
-use Rattle.msrp_trace.specs.TraceText.{ahead_fields, job_text, kind_text, res_text, task_text}
+use Rattle.msrp_trace.specs.TraceText.{ahead_fields, job_text, res_text, task_text}
 use Rattle.msrp_plan.specs.Bytes.{Wrote}
 use Rattle.msrp_plan.specs.declared.bytes.Sink.{Sink}
 

@@ -7,6 +7,7 @@ use Rattle.csv.specs.Records.{field_at}
 use Rattle.msrp_plan.specs.Names.{name_position}
 use Rattle.msrp_plan.specs.Plan.{PlanModel}
 use Rattle.msrp_plan.specs.Shape.{has_shape, may_carry}
+use Rattle.msrp_plan.specs.Words.{kind_text}
 use Rattle.msrp_plan.specs.declared.ids.JobId.{JobId}
 use Rattle.msrp_plan.specs.declared.ids.ResId.{ResId}
 use Rattle.msrp_plan.specs.declared.ids.TaskId.{TaskId}
@@ -17,7 +18,7 @@ use Rattle.msrp_plan.specs.declared.rows.TextVersion.{TextVersion}
 use Rattle.msrp_plan.specs.declared.rows.TextVersion.TheVariants.{V1, V2}
 use Rattle.msrp_text.specs.Fields.{has_word, number_at, number_of}
 use Rattle.msrp_text.specs.PlanText.{version_text}
-use Rattle.msrp_trace.specs.TraceText.{dash, kind_text, trace_word}
+use Rattle.msrp_trace.specs.TraceText.{dash, trace_word}
 use Rattle.msrp_trace.specs.declared.faults.TraceFault.{TraceFault}
 use Rattle.msrp_trace.specs.declared.faults.TraceFault.TheVariants.{FieldCount, Number, Kind as UnknownKind, Name, Shape}
 

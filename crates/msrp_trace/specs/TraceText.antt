@@ -2,26 +2,13 @@
 use Rattle.std.specs.Prelude.{ℕ, Bool, true, ◌&&◌, nat_lt, List, [], ◌∷◌, ◌++◌, length, slice_index_or, codes, decimal, Option, Some, None}
 use Rattle.std.specs.List.{flat_map}
 use Rattle.msrp_plan.specs.Plan.{PlanModel, task_of}
+use Rattle.msrp_plan.specs.Words.{kind_text}
 use Rattle.msrp_plan.specs.declared.ids.JobId.{JobId}
 use Rattle.msrp_plan.specs.declared.ids.ResId.{ResId}
-use Rattle.msrp_plan.specs.declared.rows.Kind.{Kind}
-use Rattle.msrp_plan.specs.declared.rows.Kind.TheVariants.{Idle, Run, Lock, Unlock, Take, Queue, Spin, Grant, Release}
 use Rattle.msrp_plan.specs.declared.rows.Row.{Row}
 use Rattle.msrp_plan.specs.declared.rows.TextVersion.{TextVersion}
 use Rattle.msrp_plan.specs.declared.rows.TextVersion.TheVariants.{V1, V2}
 use Rattle.msrp_text.specs.PlanText.{record_text, version_text}
-
--- the word for a kind of row
-unfoldable pub kind_text : Kind → List ℕ
-kind_text Idle = codes "idle"
-kind_text Run = codes "run"
-kind_text Lock = codes "lock"
-kind_text Unlock = codes "unlock"
-kind_text Take = codes "take"
-kind_text Queue = codes "queue"
-kind_text Spin = codes "spin"
-kind_text Grant = codes "grant"
-kind_text Release = codes "release"
 
 -- the word that a trace's text begins with
 unfoldable pub trace_word : List ℕ

@@ -4,10 +4,11 @@ ghost use Rattle.std.specs.List.{flat_map};
 ghost use Rattle.std.specs.Option.{IfSome};
 ghost use Rattle.msrp_plan.specs.Plan.{PlanModel};
 ghost use Rattle.msrp_plan.specs.Stretches.{in_tick};
+ghost use Rattle.msrp_plan.specs.Words.{kind_text};
 ghost use Rattle.msrp_trace.specs.Gathering.{next_field, after_tick};
 ghost use Rattle.msrp_trace.specs.Lines.{IsJobText, IsLine, IsWhole, is_same_place, job_fields};
 ghost use Rattle.msrp_trace.specs.Laws.{is_short, is_told_whole};
-ghost use Rattle.msrp_trace.specs.TraceText.{ahead_fields, dash, head_text, is_named, is_res_of, is_task_of, job_text, kind_text, res_text, task_text};
+ghost use Rattle.msrp_trace.specs.TraceText.{ahead_fields, dash, head_text, is_named, is_res_of, is_task_of, job_text, res_text, task_text};
 
 use crate::job::JobText;
 use crate::text::Text;
@@ -77,7 +78,7 @@ impl LineText {
 
     // The word for a kind, of which each is copied by its length.
     #[inline(always)]
-    #[tactic(auto, unfolding(crate::specs::TraceText::kind_text))]
+    #[tactic(auto, unfolding(msrp_plan::specs::Words::kind_text))]
     fn next_kind(&mut self, kind: Kind)
         requires { length self.old + 8 ≤ LINE }
         ensures text { self.new ≡ self.old ++ next_field (kind_text kind) }

@@ -137,6 +137,7 @@ impl<'a, R: Read> TraceReader<'a, R> {
     ) -> Result<TraceReader<'a, R>, TraceError>
         ensures opens { (bytes : List ℕ) → source_remaining R.remaining source.old ≡ Some bytes → Opens R.remaining plan.now (csv_records bytes) result }
         ensures goes { IfOk result (λ reader. has_failed reader ≡ false) }
+        ensures plan { IfOk result (λ reader. reader.plan.now ≡ plan.now) }
     {
         match TraceReader::open(alloc, source, plan) {
             Ok(reader) => Ok(reader),
@@ -152,6 +153,7 @@ impl<'a, R: Read> TraceReader<'a, R> {
     ) -> Result<TraceReader<'a, R>, Unopened>
         ensures opens { (bytes : List ℕ) → source_remaining R.remaining source.old ≡ Some bytes → Opens R.remaining plan.now (csv_records bytes) (error_of result) }
         ensures goes { IfOk result (λ reader. has_failed reader ≡ false) }
+        ensures plan { IfOk result (λ reader. reader.plan.now ≡ plan.now) }
         ensures stands { (bytes : List ℕ) → source_remaining R.remaining source.old ≡ Some bytes → IfOk result (StandsIn R.remaining (csv_records bytes)) }
         ensures refused { (bytes : List ℕ) → source_remaining R.remaining source.old ≡ Some bytes → IfErr result (λ unopened. IsRecordOf (csv_records bytes) unopened.error (fields_of unopened.first)) }
     {

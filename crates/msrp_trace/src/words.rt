@@ -2,7 +2,6 @@
 ghost use Rattle.std.specs.Prelude.{◌≡◌, ◌≤◌, length};
 ghost use Rattle.msrp_trace.specs.Rows.{kind_named};
 ghost use Rattle.msrp_text.specs.PlanText.{version_text};
-ghost use Rattle.msrp_trace.specs.TraceText.{kind_text};
 
 use msrp_plan::{Kind, TextVersion};
 
@@ -12,47 +11,28 @@ pub(crate) const TRACE_WORD: &[u8] = b"msrp-trace";
 /// What stands where a row has no job, no resource or no ahead.
 pub(crate) const DASH: &[u8] = b"-";
 
-/// The word for a kind of row.
-#[tactic(auto, unfolding(crate::specs::TraceText::kind_text))]
-pub(crate) fn kind_word(kind: Kind) -> &'static [u8]
-    ensures word { result.now ≡ kind_text kind }
-    ensures short { length result.now ≤ 7 }
-{
-    match kind {
-        Kind::Idle => b"idle",
-        Kind::Run => b"run",
-        Kind::Lock => b"lock",
-        Kind::Unlock => b"unlock",
-        Kind::Take => b"take",
-        Kind::Queue => b"queue",
-        Kind::Spin => b"spin",
-        Kind::Grant => b"grant",
-        Kind::Release => b"release",
-    }
-}
-
 /// The kind of a word.
 #[tactic(auto, unfolding(crate::specs::Rows::kind_named))]
 pub(crate) fn kind_named(word: &[u8]) -> Option<Kind>
     ensures { result ≡ kind_named word.now }
 {
-    if word == kind_word(Kind::Idle) {
+    if word == Kind::Idle.word() {
         Some(Kind::Idle)
-    } else if word == kind_word(Kind::Run) {
+    } else if word == Kind::Run.word() {
         Some(Kind::Run)
-    } else if word == kind_word(Kind::Lock) {
+    } else if word == Kind::Lock.word() {
         Some(Kind::Lock)
-    } else if word == kind_word(Kind::Unlock) {
+    } else if word == Kind::Unlock.word() {
         Some(Kind::Unlock)
-    } else if word == kind_word(Kind::Take) {
+    } else if word == Kind::Take.word() {
         Some(Kind::Take)
-    } else if word == kind_word(Kind::Queue) {
+    } else if word == Kind::Queue.word() {
         Some(Kind::Queue)
-    } else if word == kind_word(Kind::Spin) {
+    } else if word == Kind::Spin.word() {
         Some(Kind::Spin)
-    } else if word == kind_word(Kind::Grant) {
+    } else if word == Kind::Grant.word() {
         Some(Kind::Grant)
-    } else if word == kind_word(Kind::Release) {
+    } else if word == Kind::Release.word() {
         Some(Kind::Release)
     } else {
         None

@@ -3,10 +3,10 @@ use Rattle.std.specs.Prelude.{◌≡◌, ◌⊎◌, ◌-◌, ℕ, List, [], ◌+
 use Rattle.std.specs.declared.result.Result.{Result}
 use Rattle.msrp_plan.specs.Bytes.{Wrote}
 use Rattle.msrp_plan.specs.Plan.{PlanModel}
+use Rattle.msrp_plan.specs.Words.{verdict_text}
 use Rattle.msrp_plan.specs.declared.bytes.Sink.{Sink}
 use Rattle.msrp_plan.specs.declared.faults.Fault.{Fault}
 use Rattle.msrp_plan.specs.declared.rows.Row.{Row}
-use Rattle.msrp_text.specs.PlanText.{record_text}
 use Rattle.msrp_text.specs.declared.reading.TextError.{TextError}
 use Rattle.msrp_text.specs.Reading.{record_at}
 use Rattle.msrp_trace.specs.Reading.{Told, rows_of}
@@ -18,7 +18,6 @@ use Rattle.msrp_why.specs.RefusalText.{refused_text}
 use Rattle.msrp_why.specs.WhyText.{cause_text, missing_text}
 use Rattle.msrp_why.specs.declared.causes.Ground.{Ground}
 use Rattle.msrp_why.specs.declared.causes.Ground.TheVariants.{End, Row as AtRow}
-use Rattle.msrp_engine.specs.AuditText.{verdict_fields}
 use Rattle.msrp_engine.specs.Findings.{finding}
 use Rattle.msrp_engine.specs.MadeTexts.{found_in}
 use Rattle.msrp_engine.specs.declared.made.Made.{Made}
@@ -40,7 +39,7 @@ behind_text plan (Ok good) (End notes) = exercise_text plan notes
 behind_text plan (Err fault) (End notes) = missing_text plan notes
 
 abbrev pub found_text : PlanModel → Result ⊤ Fault → Ground → List ℕ
-found_text plan found cause = record_text (verdict_fields found) ++ behind_text plan found cause
+found_text plan found cause = verdict_text found ++ behind_text plan found cause
 
 -- what is told of a refusal behind the rows of these records
 abbrev pub refusal_words : PlanModel → List (List (List ℕ)) → Option TraceError → List ℕ

@@ -16,7 +16,7 @@ ghost use Rattle.msrp_view_engine.specs.Whys.{IsExplained, IsExplainedOf, IsJudg
 use crate::told::write_found;
 use csv::ByteRecord;
 use msrp_audit::Auditor;
-use msrp_engine::{CliFault, Made, add_verdict, settled};
+use msrp_engine::{CliFault, Made, settled};
 use msrp_levels::Levels;
 use msrp_plan::bytes::{Sink, Source};
 use msrp_plan::{Fault, Plan};
@@ -103,7 +103,7 @@ fn words_on(
     ensures memory { IfErr result (λ fault. fault ≡ CliFault.Memory) }
 {
     let mut text = Sink::new(Vec::new(alloc));
-    add_verdict(&mut text, judged.verdict);
+    text.verdict(judged.verdict);
     write_behind(&mut text, plan, levels, judged.verdict, &judged.ground);
     if text.outcome().is_err() {
         return Err(CliFault::Memory);
