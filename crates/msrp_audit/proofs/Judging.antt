@@ -2,7 +2,7 @@
 use Rattle.std.proofs.Common.{◌≡◌, ◌≢◌, ℕ, zero, suc, ◌+◌, ◌*◌, ◌/◌, ◌<◌, ◌≤◌, ◌==◌, ◌&&◌, ◌||◌, Bool, true, false, not, cond, nat_lt, List, [], ◌∷◌, ◌++◌, Option, Some, None, refl, ap, sym, ◌∙◌, subst, arith, length, length-append, map, inl, inr, eq-eqb, eqb-true, slice_get}
 use Rattle.std.specs.List.{list_any, flat_map, range_with_len, AllByRecursion}
 use Rattle.std.specs.Option.{option_map, is_some}
-use Rattle.std.proofs.Math.Bool.{true≢false, or-true, and-false}
+use Rattle.std.proofs.Math.Bool.{true≢false, or-true}
 use Rattle.std.proofs.lemmas.Bool.{cases_Bool, cases_lt, lt-ltb, le-ltb, false_from_ne_true, eqb-false}
 use Rattle.std.proofs.lemmas.List.Elements.{All-contains, All-from_recursion}
 use Rattle.std.proofs.lemmas.List.Folds.{list_any-append}
@@ -102,12 +102,6 @@ in_turn_is plan rows r now b is has = by_tick (r.tick == length rows / plan.core
     by_tick false e =
         ap (λ n. (r.tick == n) && b) is ∙ (ap (λ a. a && b) e
         ∙ sym (ap (λ a. a && (nat_lt r.core.0 plan.cores && not (had_turn r.core.0 r.tick rows))) e))
-
-pub other_tick : (plan : PlanModel) (rows : List Row) (r : Row) (now : ℕ) → now ≡ length rows / plan.cores → r.tick ≢ now → is_in_turn plan rows r ≡ false
-other_tick plan rows r now is ne = sym (in_turn_is plan rows r now (has_turn plan rows r.core.0) is refl) ∙ ap (λ b. b && has_turn plan rows r.core.0) (not_equal r.tick now ne)
-
-pub no_turn_left : (plan : PlanModel) (rows : List Row) (r : Row) (now : ℕ) → now ≡ length rows / plan.cores → false ≡ has_turn plan rows r.core.0 → is_in_turn plan rows r ≡ false
-no_turn_left plan rows r now is has = sym (in_turn_is plan rows r now false is has) ∙ and-false (r.tick == now)
 
 -- a row in its turn is of a core that is due
 pub due_after : (plan : PlanModel) (rows : List Row) (r : Row) → IsPlan plan → IsRunStart plan rows → length rows < plan.cores * plan.ticks → is_in_turn plan rows r ≡ true → IsDueAfter plan rows r.core.0

@@ -1,6 +1,5 @@
-use Rattle.std.proofs.Common.{◌≡◌, ◌≤◌, ◌*◌, ◌+◌, ℕ, sym, subst, arith}
+use Rattle.std.proofs.Common.{◌≤◌, ◌*◌, ◌+◌, ℕ, sym, subst, arith}
 use Rattle.std.proofs.Math.Nat.{mul-le-mul_left}
-use Rattle.msrp_audit.specs.Audits.{AuditorModel}
 use Rattle.msrp_audit.proofs.auditor.Auditor.fed.Goals as goal
 
 -- what the rows of a plan number

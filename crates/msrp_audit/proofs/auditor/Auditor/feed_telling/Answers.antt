@@ -1,9 +1,7 @@
-use Rattle.std.proofs.Common.{◌≡◌, ◌/◌, ◌++◌, ◌∷◌, [], None, length, ap, sym, ◌∙◌, subst}
-use Rattle.std.proofs.Math.Bool.{true≢false}
+use Rattle.std.proofs.Common.{◌++◌, ◌∷◌, [], ap, sym, ◌∙◌, subst}
 use Rattle.msrp_plan.specs.Plan.{PlanModel}
-use Rattle.msrp_plan.specs.Verdict.{fault_in}
 use Rattle.msrp_sim.specs.Cores.{IsNextRow}
-use Rattle.msrp_audit.specs.Audits.{AuditorModel, IsOutOfTurn, answer_of}
+use Rattle.msrp_audit.specs.Audits.{AuditorModel, answer_of}
 use Rattle.msrp_audit.proofs.Judging.{faulty, stays_faulty}
 use Rattle.msrp_audit.proofs.auditor.Auditor.feed_telling.Goals as goal
 
