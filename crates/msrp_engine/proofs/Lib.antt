@@ -3,6 +3,8 @@ pub mod CheckRecords
 pub mod Judging
 pub mod NamedRows
 mod KnownTexts
+mod KeptTexts
+mod NextRows
 pub mod SimAnswers
 pub mod Reporting
 pub mod Gathering

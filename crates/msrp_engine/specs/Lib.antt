@@ -3,6 +3,7 @@ pub mod Simulation
 pub mod CheckText
 pub mod Running
 pub mod Findings
+pub mod Judging
 pub mod AuditText
 pub mod MadeTexts
 pub mod Reports

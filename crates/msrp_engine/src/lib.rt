@@ -8,6 +8,7 @@
 mod audit;
 mod audit_parallel;
 mod check;
+mod judged;
 mod made;
 mod own_text;
 mod reading;
@@ -20,6 +21,7 @@ mod whole;
 pub use audit::{audit_text, judge_texts};
 pub use audit_parallel::audit_parallel_text;
 pub use check::check_text;
+pub use judged::{JudgedRows, Judgement};
 pub use made::Made;
 pub use msrp_faults::{CliFault, exit_of};
 pub use own_text::plan_text;
