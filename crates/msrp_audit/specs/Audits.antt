@@ -1,6 +1,6 @@
 -- An auditor, and the rows that it was fed.
-use Rattle.std.specs.Prelude.{ℕ, false, List, [], ◌∷◌, ◌++◌, Bool, not, nat_lt, ◌&&◌, ◌/◌, Option, Some, None, Result, Ok, Err, length, slice_get, ◌≡◌, ◌<◌, ◌≤◌, ◌+◌, ◌*◌, ⊤}
-use Rattle.std.specs.Option.{option_map}
+use Rattle.std.specs.Prelude.{ℕ, true, false, List, [], ◌∷◌, ◌++◌, Bool, not, nat_lt, ◌&&◌, ◌/◌, Option, Some, None, Result, Ok, Err, length, slice_get, ◌≡◌, ◌<◌, ◌≤◌, ◌+◌, ◌*◌, ⊤}
+use Rattle.std.specs.Option.{IsSomeAnd, option_map}
 use Rattle.msrp_core.specs.Machine.{MachineModel}
 use Rattle.msrp_plan.specs.Plan.{PlanModel}
 use Rattle.msrp_plan.specs.Runs.{IsLegal, had_turn, is_in_turn}
@@ -43,6 +43,13 @@ pub record Awaits (a : AuditorModel) (rows : List Row) (c : ℕ) (due : Row) : T
   pub next : IsNextRow a.plan rows c due
   pub tick : due.tick ≡ length rows / a.plan.cores
   pub stand : (row : Row) → IsAs due row → IsLegal a.plan rows row → StandFor a.cores (rows ++ row ∷ [])
+
+-- the row breaks that rule after these rows, which have no fault; where it is in its turn, this row was due of its core, and else the auditor
+-- stands before it
+pub record IsBroken (plan : PlanModel) (rows : List Row) (row : Row) (f : Fault) (due : Option Row) (a : AuditorModel) : Type 0 where
+  pub fault : fault_in plan (rows ++ row ∷ []) ≡ Some f
+  pub turn : length rows < plan.cores * plan.ticks → is_in_turn plan rows row ≡ true → IsSomeAnd due (IsNextRow plan rows row.core.0)
+  pub out : IsOutOfTurn plan rows row → HasFed a rows × (a.fault ≡ None)
 
 -- a fault as an answer: none is good
 abbrev pub answer_of : Option Fault → Result ⊤ Fault

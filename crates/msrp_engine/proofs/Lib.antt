@@ -1,6 +1,7 @@
 pub mod Answered
 pub mod CheckRecords
 pub mod Judging
+pub mod RowsJudged
 pub mod NamedRows
 mod KnownTexts
 mod KeptTexts

@@ -1,13 +1,8 @@
 -- The rows of a trace's text, judged as they come.
-use Rattle.std.specs.Prelude.{ℕ, List, [], ◌∷◌, ◌++◌, true, length, Option, Some, None, Result, Ok, Err, ◌≡◌, ◌<◌, ◌*◌, ⊤}
-use Rattle.std.specs.Option.{IsSomeAnd}
-use Rattle.msrp_audit.specs.Audits.{HasFed, IsOutOfTurn}
+use Rattle.std.specs.Prelude.{ℕ, List, [], ◌∷◌, ◌++◌, Option, Some, None, Result, Ok, Err, ◌≡◌, ⊤}
+use Rattle.msrp_audit.specs.Audits.{HasFed, IsBroken}
 use Rattle.msrp_plan.specs.Plan.{PlanModel}
-use Rattle.msrp_plan.specs.Runs.{is_in_turn}
-use Rattle.msrp_plan.specs.Verdict.{fault_in}
-use Rattle.msrp_plan.specs.declared.faults.Fault.{Fault}
 use Rattle.msrp_plan.specs.declared.rows.Row.{Row}
-use Rattle.msrp_sim.specs.Cores.{IsNextRow}
 use Rattle.msrp_trace.specs.Reading.{Told}
 use Rattle.msrp_trace.specs.Readers.{told_left}
 use Rattle.msrp_trace.specs.declared.faults.TraceError.{TraceError}
@@ -26,15 +21,9 @@ row_told (Ok (Broken row fault)) = Ok (Some row)
 row_told (Ok End) = Ok None
 row_told (Err error) = Err error
 
--- the row breaks that rule after these rows; where it is in its turn, this row was due, and else the auditor stands before it
-pub record IsBroken {T : Type 0} (plan : PlanModel) (rows : List Row) (row : Row) (f : Fault) (j : JudgedRows T) : Type 0 where
-  pub fault : fault_in plan (rows ++ row ∷ []) ≡ Some f
-  pub due : length rows < plan.cores * plan.ticks → is_in_turn plan rows row ≡ true → IsSomeAnd j.due (IsNextRow plan rows row.core.0)
-  pub out : IsOutOfTurn plan rows row → HasFed j.auditor rows × (j.auditor.fault ≡ None)
-
 -- after these rows, which have no fault, what comes next is judged so
 abbrev pub IsJudged : {T : Type 0} → PlanModel → List Row → Result Judgement TraceError → JudgedRows T → Type 0
 IsJudged plan rows (Ok (Legal row)) j = HasFed j.auditor (rows ++ row ∷ []) × (j.auditor.fault ≡ None)
-IsJudged plan rows (Ok (Broken row fault)) j = IsBroken plan rows row fault j
+IsJudged plan rows (Ok (Broken row fault)) j = IsBroken plan rows row fault j.due j.auditor
 IsJudged plan rows (Ok End) j = HasFed j.auditor rows × (j.auditor.fault ≡ None)
 IsJudged plan rows (Err error) j = ⊤

@@ -1,17 +1,19 @@
 //! The audit of a trace's text in pieces: the rows are gathered, and then judged side by side.
 ghost use Rattle.std.specs.Prelude.{◌≡◌, [], true, Some, Err, IfErr};
 ghost use Rattle.msrp_trace.specs.Reading.{Told, rows_of};
-ghost use Rattle.msrp_trace.specs.Readers.{told_left};
 ghost use Rattle.msrp_engine.specs.Answered.{Answered, OfText, OfTexts, ReadsBoth};
 ghost use Rattle.msrp_engine.specs.AuditText.{AuditAnswers};
 ghost use Rattle.msrp_engine.specs.Findings.{finding, finding_of};
+ghost use Rattle.msrp_engine.specs.Judging.{rows_left};
 ghost use Rattle.msrp_engine.specs.Inside.Gathered.{IsGathered, found_in, is_missing};
 ghost use Rattle.msrp_faults.specs.Outcomes.{is_trace_fault, is_audit_fault};
 
 use crate::audit::write_verdict;
+use crate::judged::JudgedRows;
 use crate::reading::settled;
-use msrp_audit::audit_parallel;
+use msrp_audit::{Auditor, audit_parallel};
 use msrp_faults::CliFault;
+use msrp_levels::Levels;
 use msrp_plan::bytes::{Sink, Source};
 use msrp_plan::{Fault, Plan, Row, Rule, Trace};
 use msrp_text::read_plan;
@@ -20,18 +22,18 @@ use std::alloc::Global;
 use std::io::{Read, Write};
 use std::thread::Threads;
 
-// Gathers the rows that a reader has left, at most so many, and tells what ended the reading before.
+// Gathers the rows that are left, at most so many, and tells what ended the reading before.
 fn gather_rows<T: Read>(
-    rows: &mut TraceReader<'_, T>,
+    rows: &mut JudgedRows<'_, '_, T>,
     gathered: &mut Vec<Row>,
     most: usize,
 ) -> Result<(), CliFault>
     requires { gathered.old.items ≡ [] }
-    ensures gathered { (told : Told) → told_left T.remaining rows.old ≡ Some told → IsGathered most told gathered.new.items result }
+    ensures gathered { (told : Told) → rows_left T.remaining rows.old ≡ Some told → IsGathered most told gathered.new.items result }
     ensures faults { IfErr result (λ fault. is_trace_fault fault ≡ true) }
 {
     for _row in 0..most {
-        match rows.next_row()? {
+        match rows.next_row()?.row() {
             Some(row) => gathered.push(row)?,
             None => return Ok(()),
         }
@@ -83,7 +85,10 @@ fn judge_all<T: Read>(
     // One row more than are due is a fault, whatever stands behind it.
     let most = plan.cores() as usize * plan.ticks() as usize + 1;
     let mut gathered = Vec::with_capacity(alloc, most)?;
-    let mut rows = TraceReader::new(alloc, trace, plan)?;
+    let levels = Levels::of(alloc, plan)?;
+    let auditor = Auditor::with_room(alloc, plan, &levels)?;
+    let reader = TraceReader::new(alloc, trace, plan)?;
+    let mut rows = JudgedRows::new(plan, auditor, reader);
     let ended = gather_rows(&mut rows, &mut gathered, most);
     drop(rows);
     let judged = audit_parallel(rt, alloc, plan, &Trace { rows: gathered })?;

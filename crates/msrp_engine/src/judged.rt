@@ -27,6 +27,20 @@ pub enum Judgement {
     End,
 }
 
+impl Judgement {
+    ghost use Rattle.msrp_engine.specs.Judging.{row_told};
+
+    /// The row that came, whatever it was found to be.
+    pub fn row(self) -> Option<Row>
+        ensures { row_told (Ok self) ≡ Ok result }
+    {
+        match self {
+            Judgement::Legal(row) | Judgement::Broken(row, _) => Some(row),
+            Judgement::End => None,
+        }
+    }
+}
+
 /// The rows of a trace's text, each judged as it comes.
 ///
 /// The text tells first which core the next row is of. That core has its turn, so its one legal row is known, and the text of that is compared

@@ -5,16 +5,16 @@ ghost use Rattle.msrp_plan.specs.Bytes.{Wrote, sink_failed, source_remaining};
 ghost use Rattle.msrp_plan.specs.declared.rows.Row.{Row as TraceRow};
 ghost use Rattle.msrp_text.specs.Reading.{csv_records};
 ghost use Rattle.msrp_trace.specs.Reading.{Told, rows_of};
-ghost use Rattle.msrp_trace.specs.Readers.{told_left};
 ghost use Rattle.msrp_engine.specs.Answered.{Ends, IsVerdict, OfText, OfTexts, ReadsBoth};
 ghost use Rattle.msrp_engine.specs.Findings.{finding};
+ghost use Rattle.msrp_engine.specs.Judging.{rows_left};
 ghost use Rattle.msrp_export.specs.Exports.{HasExported, export_text};
 ghost use Rattle.msrp_faults.specs.Outcomes.{is_audit_fault, is_trace_fault};
 ghost use Rattle.msrp_view_engine.specs.Exporting.{ExportAnswers, ExportTold, end_or_fault};
 ghost use Rattle.msrp_view_engine.specs.Statuses.{told_status};
 
 use msrp_audit::Auditor;
-use msrp_engine::{CliFault, settled};
+use msrp_engine::{CliFault, JudgedRows, Judgement, settled};
 use msrp_export::{Exporter, Format};
 use msrp_levels::Levels;
 use msrp_plan::bytes::{Sink, Source};
@@ -34,33 +34,36 @@ fn write_end<W: Write>(exporter: &mut Exporter<'_>, out: &mut Sink<W>, found: Re
     }
 }
 
-// Writes the rows that a reader has left as they are judged, and answers the verdict. None is read after a faulty one.
+// Writes the rows that are left, and answers the verdict. None is read after a faulty one.
 fn export_rows<T: Read, W: Write>(
     plan: &Plan,
-    auditor: &mut Auditor<'_>,
-    rows: &mut TraceReader<'_, T>,
+    rows: &mut JudgedRows<'_, '_, T>,
     out: &mut Sink<W>,
     format: Format,
 ) -> Result<Result<(), Fault>, CliFault>
-    requires plan { auditor.old.plan ≡ plan.now }
-    requires fed { HasFed auditor.old [] }
-    ensures found { (told : Told) → told_left T.remaining rows.old ≡ Some told
+    requires plan { rows.old.auditor.plan ≡ plan.now }
+    requires fed { HasFed rows.old.auditor [] }
+    ensures found { (told : Told) → rows_left T.remaining rows.old ≡ Some told
         → (result ≡ Err CliFault.Read) ⊎ (result ≡ Err CliFault.Memory) ⊎ (result ≡ finding plan.now told) }
-    ensures wrote { (told : Told) → told_left T.remaining rows.old ≡ Some told → IfOk result (λ found. Wrote W.contents out.old out.new (export_text format plan.now told.rows found)) }
+    ensures wrote { (told : Told) → rows_left T.remaining rows.old ≡ Some told → IfOk result (λ found. Wrote W.contents out.old out.new (export_text format plan.now told.rows found)) }
     ensures faults { IfErr result (λ fault. is_trace_fault fault ≡ true) }
 {
     let mut exporter = Exporter::new(plan, format);
     exporter.head(out);
-    while let Some(row) = rows.next_foreseen(|core| auditor.foresee(core))? {
-        if let Err(fault) = auditor.feed(row) {
-            exporter.fault(out, fault.rule, Some(row));
-            return Ok(Err(fault));
+    loop {
+        match rows.next_row()? {
+            Judgement::Legal(row) => exporter.row(out, row),
+            Judgement::Broken(row, fault) => {
+                exporter.fault(out, fault.rule, Some(row));
+                return Ok(Err(fault));
+            }
+            Judgement::End => {
+                let found = rows.auditor().end();
+                write_end(&mut exporter, out, found);
+                return Ok(found);
+            }
         }
-        exporter.row(out, row);
     }
-    let found = auditor.end();
-    write_end(&mut exporter, out, found);
-    Ok(found)
 }
 
 // Writes the rows of a trace's text, and what is found in them. Whatever ends the reading early may be told as a failed read.
@@ -78,11 +81,10 @@ fn export_all<T: Read, W: Write>(
         → IfOk result (λ found. Wrote W.contents out.old out.new (export_text format plan.now (rows_of plan.now (csv_records bytes)).rows found)) }
     ensures faults { IfErr result (λ fault. is_trace_fault fault ≡ true) }
 {
-    let mut auditor = Auditor::with_room(alloc, plan, levels)?;
-    let mut rows = TraceReader::new(alloc, trace, plan)?;
-    let found = export_rows(plan, &mut auditor, &mut rows, out, format);
-    drop(rows);
-    found
+    let auditor = Auditor::with_room(alloc, plan, levels)?;
+    let reader = TraceReader::new(alloc, trace, plan)?;
+    let mut rows = JudgedRows::new(plan, auditor, reader);
+    export_rows(plan, &mut rows, out, format)
 }
 
 // The status of a verdict that was written.

@@ -6,6 +6,7 @@ ghost use Rattle.msrp_plan.specs.Bytes.{Wrote};
 ghost use Rattle.msrp_trace.specs.Reading.{Told, rows_of};
 ghost use Rattle.msrp_trace.specs.Readers.{StandsBehind, StandsIn, told_left};
 ghost use Rattle.msrp_engine.specs.Answered.{Ends, IsVerdict, OfText, OfTexts, ReadsBoth};
+ghost use Rattle.msrp_engine.specs.Judging.{rows_left};
 ghost use Rattle.msrp_engine.specs.MadeTexts.{found_in};
 ghost use Rattle.msrp_faults.specs.Outcomes.{is_audit_fault, is_plan_fault, trace_fault_of};
 ghost use Rattle.msrp_why.specs.Noted.{AreNoted};
@@ -16,14 +17,14 @@ ghost use Rattle.msrp_view_engine.specs.Whys.{IsExplained, IsExplainedOf, IsJudg
 use crate::told::write_found;
 use csv::ByteRecord;
 use msrp_audit::Auditor;
-use msrp_engine::{CliFault, Made, settled};
+use msrp_engine::{CliFault, JudgedRows, Judgement, Made, settled};
 use msrp_levels::Levels;
 use msrp_plan::bytes::{Sink, Source};
 use msrp_plan::{Fault, Plan};
 use msrp_text::read_plan;
 use msrp_trace::{TraceError, TraceReader};
 use msrp_why::{
-    Due, Ground, Notes, cause_of, feed, write_cause, write_exercise, write_missing, write_refused,
+    Ground, Notes, cause_of, write_cause, write_exercise, write_missing, write_refused,
 };
 use std::alloc::Global;
 use std::io::{Read, Write};
@@ -42,34 +43,38 @@ struct Explained {
     found: Result<Result<(), Fault>, CliFault>,
 }
 
-// What is found in the rows that a reader has left. They are judged as they come, and none is read after a faulty one.
+// What is found in the rows that are left. None is read after a faulty one.
 fn judge_rows<T: Read>(
     plan: &Plan,
     levels: &Levels<'_>,
-    auditor: &mut Auditor<'_>,
     mut notes: Notes,
-    rows: &mut TraceReader<'_, T>,
+    rows: &mut JudgedRows<'_, '_, T>,
 ) -> Result<Judged, TraceError>
-    requires plan { auditor.old.plan ≡ plan.now }
+    requires plan { rows.old.auditor.plan ≡ plan.now }
     requires levels { levels.now ≡ plan.now }
-    requires fed { HasFed auditor.old [] }
+    requires fed { HasFed rows.old.auditor [] }
     requires noted { AreNoted plan.now [] notes }
-    ensures found { (told : Told) → told_left T.remaining rows.old ≡ Some told → IsJudged plan.now told result }
-    ensures stands { (records : List (List (List ℕ))) → StandsIn T.remaining records rows.old → IfErr result (λ error. StandsBehind T.remaining records (Err error) rows.new) }
+    ensures found { (told : Told) → rows_left T.remaining rows.old ≡ Some told → IsJudged plan.now told result }
+    ensures stands { (records : List (List (List ℕ))) → StandsIn T.remaining records rows.old.rows → IfErr result (λ error. StandsBehind T.remaining records (Err error) rows.new.rows) }
 {
-    let mut due = Due::new();
-    while let Some(row) = rows.next_foreseen(|core| auditor.foresee(core))? {
-        if let Err(fault) = feed(plan, levels, auditor, &mut notes, &mut due, row) {
-            return Ok(Judged {
-                verdict: Err(fault),
-                ground: Ground::Row(cause_of(plan, notes, due, row, fault)),
-            });
+    loop {
+        match rows.next_row()? {
+            Judgement::Legal(row) => notes.note(plan, levels, rows.auditor(), row),
+            Judgement::Broken(row, fault) => {
+                let cause = cause_of(plan, rows.auditor(), notes, rows.due(), row, fault);
+                return Ok(Judged {
+                    verdict: Err(fault),
+                    ground: Ground::Row(cause),
+                });
+            }
+            Judgement::End => {
+                return Ok(Judged {
+                    verdict: rows.auditor().end(),
+                    ground: Ground::End(notes),
+                });
+            }
         }
     }
-    Ok(Judged {
-        verdict: auditor.end(),
-        ground: Ground::End(notes),
-    })
 }
 
 // Tells what makes the verdict so, behind its record.
@@ -145,19 +150,21 @@ fn explain_rows<T: Read>(
     alloc: Global,
     plan: &Plan,
     levels: &Levels<'_>,
-    rows: &mut TraceReader<'_, T>,
+    reader: TraceReader<'_, T>,
 ) -> Result<Explained, CliFault>
     requires levels { levels.now ≡ plan.now }
-    ensures explained { (records : List (List (List ℕ))) (told : Told) → told_left T.remaining rows.old ≡ Some told → StandsIn T.remaining records rows.old
+    requires plan { reader.plan.now ≡ plan.now }
+    ensures explained { (records : List (List (List ℕ))) (told : Told) → told_left T.remaining reader.entry ≡ Some told → StandsIn T.remaining records reader.entry
         → (result ≡ Err CliFault.Read) ⊎ (result ≡ Err CliFault.Memory) ⊎ IfOk result (IsExplained plan.now records told) }
     ensures refused { IfOk result (λ words. IfErr words.found (λ fault. is_record_fault fault ≡ true)) }
     ensures faults { IfErr result (λ fault. (fault ≡ CliFault.Memory) ⊎ (fault ≡ CliFault.Read)) }
 {
-    let mut auditor = Auditor::with_room(alloc, plan, levels)?;
+    let auditor = Auditor::with_room(alloc, plan, levels)?;
     let notes = Notes::with_room(alloc, plan, levels, &auditor)?;
-    match judge_rows(plan, levels, &mut auditor, notes, rows) {
+    let mut rows = JudgedRows::new(plan, auditor, reader);
+    match judge_rows(plan, levels, notes, &mut rows) {
         Ok(judged) => words_on(alloc, plan, levels, judged),
-        Err(error) => words_on_refusal(alloc, plan, error, rows.record()),
+        Err(error) => words_on_refusal(alloc, plan, error, rows.reader().record()),
     }
 }
 
@@ -172,15 +179,10 @@ fn explain_all<T: Read>(
     ensures faults { IfErr result (λ fault. (fault ≡ CliFault.Memory) ⊎ (fault ≡ CliFault.Read)) }
 {
     let levels = Levels::of(alloc, plan)?;
-    let mut rows = match TraceReader::open(alloc, trace, plan) {
-        Ok(rows) => rows,
-        Err(unopened) => {
-            return words_on_refusal(alloc, plan, unopened.error, &unopened.first);
-        }
-    };
-    let words = explain_rows(alloc, plan, &levels, &mut rows);
-    drop(rows);
-    words
+    match TraceReader::open(alloc, trace, plan) {
+        Ok(reader) => explain_rows(alloc, plan, &levels, reader),
+        Err(unopened) => words_on_refusal(alloc, plan, unopened.error, &unopened.first),
+    }
 }
 
 // The words on a trace of a plan, whoever made it.

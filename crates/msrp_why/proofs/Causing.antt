@@ -3,7 +3,6 @@ use Rattle.std.proofs.Common.{◌≡◌, ℕ, ◌+◌, ◌*◌, ◌/◌, ◌<◌
 use Rattle.std.specs.List.{range_with_len}
 use Rattle.std.specs.Option.{IsSomeAnd}
 use Rattle.std.proofs.lemmas.List.Elements.{filter-append}
-use Rattle.std.specs.declared.result.Result.TheVariants.{Ok, Err}
 use Rattle.std.specs.Prelude.{⊤}
 use Rattle.msrp_core.specs.CoreStates.{IsCoreState}
 use Rattle.msrp_core.specs.declared.states.CoreState.{CoreState}
@@ -19,12 +18,11 @@ use Rattle.msrp_plan.specs.declared.rows.Row.{Row}
 use Rattle.msrp_plan.proofs.Runs.Verdicts.{fault_push, unbroken_is_legal}
 use Rattle.msrp_plan.proofs.Lists.Ranges.{range_more}
 use Rattle.msrp_sim.specs.Cores.{IsNextRow}
-use Rattle.msrp_audit.specs.Audits.{AuditorModel, HasFed, answer_of, has_turn}
+use Rattle.msrp_audit.specs.Audits.{AuditorModel, HasFed, IsBroken, has_turn}
 use Rattle.msrp_audit.proofs.Judging.{due_after}
-use Rattle.msrp_why.specs.Causes.{AreTurnsFor, IsBrokenBy, IsCauseAfter, IsDueRow, IsStateFor, cores_due}
-use Rattle.msrp_why.specs.declared.causes.Due.{Due}
+use Rattle.msrp_why.specs.Causes.{AreTurnsFor, IsCauseAfter, IsDueRow, IsStateFor, cores_due}
 use Rattle.msrp_why.specs.Noted.{AreNoted}
-use Rattle.msrp_why.specs.declared.notes.Notes.{Notes}
+use Rattle.msrp_why.specs.declared.causes.Cause.{Cause}
 
 -- a row without a fault is due, and breaks no rule
 good_next : (n : ℕ) (later : Option Fault) (due : Bool) (o : Option Rule) → fault_or (cond due o (Some A7)) n later ≡ None → (due ≡ true) × (o ≡ None) × (later ≡ None)
@@ -114,46 +112,26 @@ rule_of (Some rule) n f h =
     let same : record { row = n; rule = rule } ≡ f = cc in
     ap (λ (g : Fault). Some g.rule) same
 
-fault_answer : (o : Option Fault) (f : Fault) → Err f ≡ answer_of o → o ≡ Some f
-fault_answer None f h = absurd (cc)
-fault_answer (Some g) f h = cc
-
-pub good_answer : (o : Option Fault) (good : ⊤) → Ok good ≡ answer_of o → o ≡ None
-good_answer None good h = refl
-good_answer (Some f) good h = absurd (cc)
-
--- a fault that the auditor answers, with what was due
-pub broken_by : (a : AuditorModel) (rows : List Row) (r : Row) (f : Fault) (due : Due) → IsPlan a.plan → HasFed a rows → fault_in a.plan rows ≡ None → Err f ≡ answer_of (fault_in a.plan (rows ++ r ∷ []))
-    → ((before : List Row) → HasFed a before → a.fault ≡ None → length before < a.plan.cores * a.plan.ticks → is_in_turn a.plan before r ≡ true → IsSomeAnd due.row (IsNextRow a.plan before r.core.0))
-    → ((before : List Row) → HasFed a before → a.fault ≡ None → length before < a.plan.cores * a.plan.ticks → is_in_turn a.plan before r ≡ false → due.cores.items ≡ cores_due a.plan before)
-    → IsBrokenBy a.plan rows r f due
-broken_by a rows r f due ok fed good answer foreseen turned =
-    let fault = fault_answer (fault_in a.plan (rows ++ r ∷ [])) f answer in
-    let rule = rule_of (refused a.plan rows r) (length rows + 1) f (sym (fault_push a.plan rows r good) ∙ fault) in
-    let none = fed.fault ∙ good in
+-- the cause of the fault of a row, with what was noted before it
+pub cause_is : (plan : PlanModel) (a : AuditorModel) (rows : List Row) (cause : Cause) → IsPlan plan → fault_in plan rows ≡ None → IsBroken plan rows cause.row cause.fault cause.due a → AreNoted plan rows cause.notes
+    → (HasFed a rows → a.fault ≡ None → length rows < plan.cores * plan.ticks → cause.turns.items ≡ cores_due plan rows)
+    → (cause.row.core.0 < plan.cores → IsSomeAnd cause.state (IsCoreState plan cause.row.core.0 (length (log_of cause.row.core.0 rows)) rows)) → IsCauseAfter plan rows cause.row cause
+cause_is plan a rows cause ok good broken noted turned told =
+    let r = cause.row in
+    let rule = rule_of (refused plan rows r) (length rows + 1) cause.fault (sym (fault_push plan rows r good) ∙ broken.fault) in
+    let start = good_start plan rows good in
+    let left = nat_lt (length rows) (plan.cores * plan.ticks) in
+    let turn = is_in_turn plan rows r in
     record {
       good = good;
-      fault = fault;
-      due = due_for a.plan rows r.core.0 f.rule due.row (nat_lt (length rows) (a.plan.cores * a.plan.ticks)) (is_in_turn a.plan rows r) _ (λ left turn. foreseen rows fed none (ltb-true (length rows) (a.plan.cores * a.plan.ticks) left) turn) rule;
-      turns = turns_for a.plan rows f.rule due.cores.items (nat_lt (length rows) (a.plan.cores * a.plan.ticks)) (is_in_turn a.plan rows r) (is_of_core a.plan r) (is_chosen a.plan rows r) (is_next_action a.plan rows r) (is_fifo_reply rows r)
-          (λ left turn. turned rows fed none (ltb-true (length rows) (a.plan.cores * a.plan.ticks) left) turn) rule;
-    }
-
--- its cause, with what was noted before the row
-pub cause_is : (plan : PlanModel) (rows : List Row) (r : Row) (f : Fault) (due : Due) (state : Option CoreState) (notes : Notes) → IsPlan plan → IsBrokenBy plan rows r f due → AreNoted plan rows notes
-    → (r.core.0 < plan.cores → IsSomeAnd state (IsCoreState plan r.core.0 (length (log_of r.core.0 rows)) rows)) → IsCauseAfter plan rows r (record { fault = f; row = r; due = due.row; state = state; turns = due.cores; notes = notes })
-cause_is plan rows r f due state notes ok broken noted told =
-    let rule = rule_of (refused plan rows r) (length rows + 1) f (sym (fault_push plan rows r broken.good) ∙ broken.fault) in
-    let start = good_start plan rows broken.good in
-    record {
-      good = broken.good;
       fault = broken.fault;
       row = refl;
-      due = broken.due;
-      state = state_for plan rows r.core.0 f.rule state (nat_lt (length rows) (plan.cores * plan.ticks)) (is_in_turn plan rows r) _
-          (λ left turn.
-          let d = due_after plan rows r ok start (ltb-true (length rows) (plan.cores * plan.ticks) left) turn in
-          subst (λ t. IsSomeAnd state (IsCoreState plan r.core.0 t rows)) d.due (told d.core)) rule;
-      turns = broken.turns;
+      due = due_for plan rows r.core.0 cause.fault.rule cause.due left turn _ (λ less is. broken.turn (ltb-true (length rows) (plan.cores * plan.ticks) less) is) rule;
+      state = state_for plan rows r.core.0 cause.fault.rule cause.state left turn _
+          (λ less is.
+          let d = due_after plan rows r ok start (ltb-true (length rows) (plan.cores * plan.ticks) less) is in
+          subst (λ t. IsSomeAnd cause.state (IsCoreState plan r.core.0 t rows)) d.due (told d.core)) rule;
+      turns = turns_for plan rows cause.fault.rule cause.turns.items left turn (is_of_core plan r) (is_chosen plan rows r) (is_next_action plan rows r) (is_fifo_reply rows r)
+          (λ less is. let out = broken.out (λ few. is) in turned out.0 out.1 (ltb-true (length rows) (plan.cores * plan.ticks) less)) rule;
       notes = noted;
     }

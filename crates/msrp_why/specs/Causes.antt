@@ -16,7 +16,6 @@ use Rattle.msrp_plan.specs.declared.rows.Row.{Row}
 use Rattle.msrp_sim.specs.Cores.{IsNextRow}
 use Rattle.msrp_why.specs.Noted.{AreNoted}
 use Rattle.msrp_why.specs.declared.causes.Cause.{Cause}
-use Rattle.msrp_why.specs.declared.causes.Due.{Due}
 use Rattle.msrp_why.specs.declared.causes.Ground.{Ground}
 use Rattle.msrp_why.specs.declared.causes.Ground.TheVariants.{End, Row as AtRow}
 
@@ -45,13 +44,6 @@ cores_due plan rows = filter (has_turn plan rows) (range_with_len 0 plan.cores)
 abbrev pub AreTurnsFor : PlanModel → List Row → Rule → List ℕ → Type 0
 AreTurnsFor plan rows A1 turns = turns ≡ cores_due plan rows
 AreTurnsFor plan rows rule turns = ⊤
-
--- this row breaks a rule after these, which have no fault, and this was due
-pub record IsBrokenBy (plan : PlanModel) (rows : List Row) (r : Row) (f : Fault) (d : Due) : Type 0 where
-  pub good : fault_in plan rows ≡ None
-  pub fault : fault_in plan (rows ++ r ∷ []) ≡ Some f
-  pub due : IsDueRow plan rows r.core.0 f.rule d.row
-  pub turns : AreTurnsFor plan rows f.rule d.cores.items
 
 -- why this row is refused after these, which have no fault
 pub record IsCauseAfter (plan : PlanModel) (rows : List Row) (r : Row) (cause : Cause) : Type 0 where

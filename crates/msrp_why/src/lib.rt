@@ -17,7 +17,7 @@ mod sections;
 mod sentences;
 mod telling;
 
-pub use causes::{Cause, Due, Ground, cause_of, feed};
+pub use causes::{Cause, Ground, cause_of};
 pub use cores::CoreNotes;
 pub use exercise::{ResourceCounts, TurnCounts};
 pub use exercised::write_exercise;

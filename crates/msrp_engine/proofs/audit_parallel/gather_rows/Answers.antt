@@ -1,6 +1,6 @@
 use Rattle.std.proofs.Common.{rules, ◌≡◌, ◌++◌, ◌∷◌, ◌+◌, [], List, Ok, Err, length, length-append, arith, ap, subst, sym, ◌∙◌}
 use Rattle.msrp_plan.specs.declared.rows.Row.{Row}
-use Rattle.msrp_trace.specs.Readers.{told_left}
+use Rattle.msrp_engine.specs.Judging.{row_told, rows_left}
 use Rattle.msrp_engine.specs.Inside.Gathered.{IsGathered}
 use Rattle.msrp_faults.specs.Outcomes.{trace_fault_of}
 use Rattle.msrp_faults.specs.declared.faults.CliFault.TheVariants.{Memory}
@@ -11,7 +11,7 @@ use Rattle.msrp_engine.proofs.audit_parallel.gather_rows.Goals as goal
 pub loop-row-init : goal.loop-row-init
 loop-row-init g c = record {
   count = ap length c.requires;
-  read = λ told known. subst (λ (rows : List Row). IsReadTo told rows (told_left g.T.Read.remaining c.args.rows.now)) (sym c.requires) (none-read told _ known);
+  read = λ told known. subst (λ (rows : List Row). IsReadTo told rows (rows_left g.T.Read.remaining c.args.rows.now)) (sym c.requires) (none-read told _ known);
 }
 
 pub loop-row-preserved : goal.loop-row-preserved
@@ -21,20 +21,20 @@ loop-row-preserved g c =
     let pushed : c.push.new.self.items ≡ rows ++ c.in-Some.row ∷ [] = search rules in
     record {
       count = ap length pushed ∙ (length-append rows (c.in-Some.row ∷ []) ∙ ap (λ n. n + 1) i.count);
-      read = λ told known. subst (λ (l : List Row). IsReadTo told l (told_left g.T.Read.remaining c.next_row.new.self)) (sym pushed)
-          (read-row told rows _ _ c.next_row.result c.in-Some.row (i.read told known) c.next_row.ensures.next (c.in_ok-row.was ∙ ap (λ x. Ok x) c.in-Some.is));
+      read = λ told known. subst (λ (l : List Row). IsReadTo told l (rows_left g.T.Read.remaining c.next_row.new.self)) (sym pushed)
+          (read-row told rows _ _ (row_told c.next_row.result) c.in-Some.row (i.read told known) c.next_row.ensures.gives (ap row_told c.in_ok-next_row.was ∙ (c.row.ensures ∙ ap (λ x. Ok x) c.in-Some.is)));
     }
 
-pub returns-in_err-row-clause-gathered : goal.returns-in_err-row-clause-gathered
-returns-in_err-row-clause-gathered g c = λ told known.
+pub returns-in_err-next_row-clause-gathered : goal.returns-in_err-next_row-clause-gathered
+returns-in_err-next_row-clause-gathered g c = λ told known.
     let rows = c.loop-row.gathered.items in
-    let gives : c.from_residual.result ≡ Err (trace_fault_of c.in_err-row.field-0.0) = search rules in
+    let gives : c.from_residual.result ≡ Err (trace_fault_of c.in_err-next_row.field-0.0) = search rules in
     subst (IsGathered c.args.most told rows) (sym gives)
-    (gathered-refused c.args.most told rows _ _ c.next_row.result c.in_err-row.field-0.0 (c.loop-row.invariant.read told known) c.next_row.ensures.next (cc))
+    (gathered-refused c.args.most told rows _ _ (row_told c.next_row.result) c.in_err-next_row.field-0.0 (c.loop-row.invariant.read told known) c.next_row.ensures.gives (ap row_told c.in_err-next_row.was))
 
 pub returns-in-None-clause-gathered : goal.returns-in-None-clause-gathered
 returns-in-None-clause-gathered g c = λ told known.
-    gathered-all c.args.most told c.loop-row.gathered.items _ _ c.next_row.result (c.loop-row.invariant.read told known) c.next_row.ensures.next (cc)
+    gathered-all c.args.most told c.loop-row.gathered.items _ _ (row_told c.next_row.result) (c.loop-row.invariant.read told known) c.next_row.ensures.gives (ap row_told c.in_ok-next_row.was ∙ (c.row.ensures ∙ ap (λ x. Ok x) c.in-None.is))
 
 pub returns-clause-gathered : goal.returns-clause-gathered
 returns-clause-gathered g c = λ told known.

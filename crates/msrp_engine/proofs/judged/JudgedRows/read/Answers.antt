@@ -12,6 +12,6 @@ returns-clause-judged g c = λ rows fed none.
     let out : IsOutOfTurn c.args.self.now.auditor.plan rows c.in-Some.row = λ left. sym (c.is_in_turn.ensures.turn rows fed none left) ∙ c.if-is_in_turn.false in
     record {
       fault = c.fault_out_of_turn.ensures rows c.in-Some.row fed none out;
-      due = λ left turn. absurd (true≢false (sym turn ∙ out left));
+      turn = λ left turn. absurd (true≢false (sym turn ∙ out left));
       out = λ _. (fed, none);
     }
