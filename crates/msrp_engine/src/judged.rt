@@ -175,6 +175,47 @@ impl<'p, 't, T: Read> JudgedRows<'p, 't, T> {
         }
     }
 
+    // The next row, where its core had its turn and this one is due. Its text is compared, where it is kept.
+    #[inline(always)]
+    fn next_due(&mut self, tick: u32, core: CoreId, due: Row) -> Result<Judgement, TraceError>
+        requires accepted { IsPlan self.old.auditor.plan }
+        requires left { self.old.auditor.fed < self.old.auditor.plan.cores * self.old.auditor.plan.ticks }
+        requires core { core.0 < self.old.auditor.plan.cores }
+        requires kept { slice_index_or self.old.whole core.0 false ≡ true → IsKept self.old.rows.version self.old.auditor.plan (text_of_core self.old.texts core.0) due }
+        requires short { is_short tick ≡ true }
+        requires here { IsAtTick tick self.old.rows }
+        ensures plan { self.new.auditor.plan ≡ self.old.auditor.plan }
+        ensures trace { IsOfTrace self.old.rows self.new.rows }
+        ensures gives { (told : Told) → rows_left T.remaining self.old ≡ Some told → GivesNext told (row_told result) (rows_left T.remaining self.new) }
+        ensures judged { (rows : List TraceRow) → Awaits self.old.auditor rows core.0 due → tick ≡ due.tick → IsJudged self.old.auditor.plan rows result self.new }
+        ensures read { (told : Told) (rows : List TraceRow) → rows_left T.remaining self.old ≡ Some told → BeginsAt tick core told → Awaits self.old.auditor rows core.0 due → tick ≡ due.tick → result ≡ Err TraceError.Read → source_failed (source_of self.new.rows) ≡ true }
+        ensures stands { (records : List (List (List ℕ))) → StandsIn T.remaining records self.old.rows → StandsBehind T.remaining records (row_told result) self.new.rows }
+    {
+        if self.whole[core.0 as usize] && self.rows.comes_behind(tick, &self.texts, core) {
+            self.auditor.accept();
+            return Ok(Judgement::Legal(self.rows.as_read(due).in_tick(tick)));
+        }
+        self.read_due(due)
+    }
+
+    // The next row, of a core whose turn isn't known from its last one, apart from the code of those that are.
+    #[inline(never)]
+    fn next_anew(&mut self, tick: u32, core: CoreId) -> Result<Judgement, TraceError>
+        requires accepted { IsPlan self.old.auditor.plan }
+        requires due { IsCoreDue self.old.auditor core.0 }
+        requires short { is_short tick ≡ true }
+        requires here { IsAtTick tick self.old.rows }
+        ensures plan { self.new.auditor.plan ≡ self.old.auditor.plan }
+        ensures trace { IsOfTrace self.old.rows self.new.rows }
+        ensures gives { (told : Told) → rows_left T.remaining self.old ≡ Some told → GivesNext told (row_told result) (rows_left T.remaining self.new) }
+        ensures judged { (rows : List TraceRow) → HasFed self.old.auditor rows → tick ≡ length rows / self.old.auditor.plan.cores → IsJudged self.old.auditor.plan rows result self.new }
+        ensures read { (told : Told) (rows : List TraceRow) → rows_left T.remaining self.old ≡ Some told → BeginsAt tick core told → HasFed self.old.auditor rows → tick ≡ length rows / self.old.auditor.plan.cores → result ≡ Err TraceError.Read → source_failed (source_of self.new.rows) ≡ true }
+        ensures stands { (records : List (List (List ℕ))) → StandsIn T.remaining records self.old.rows → StandsBehind T.remaining records (row_told result) self.new.rows }
+    {
+        let due = self.turn_anew(core);
+        self.next_due(tick, core, due)
+    }
+
     // The next row, of a core whose turn it is.
     #[inline(always)]
     fn next_of(&mut self, tick: u32, core: CoreId) -> Result<Judgement, TraceError>
@@ -189,12 +230,10 @@ impl<'p, 't, T: Read> JudgedRows<'p, 't, T> {
         ensures read { (told : Told) (rows : List TraceRow) → rows_left T.remaining self.old ≡ Some told → BeginsAt tick core told → HasFed self.old.auditor rows → tick ≡ length rows / self.old.auditor.plan.cores → result ≡ Err TraceError.Read → source_failed (source_of self.new.rows) ≡ true }
         ensures stands { (records : List (List (List ℕ))) → StandsIn T.remaining records self.old.rows → StandsBehind T.remaining records (row_told result) self.new.rows }
     {
-        let due = self.turn(core);
-        if self.whole[core.0 as usize] && self.rows.comes_behind(tick, &self.texts, core) {
-            self.auditor.accept();
-            return Ok(Judgement::Legal(self.rows.as_read(due).in_tick(tick)));
+        match self.auditor.repeat(core) {
+            Some(due) => self.next_due(tick, core, due),
+            None => self.next_anew(tick, core),
         }
-        self.read_due(due)
     }
 
     // The next row, read field by field.

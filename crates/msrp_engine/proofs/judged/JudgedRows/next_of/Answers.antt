@@ -1,48 +1,31 @@
-use Rattle.std.proofs.Common.{◌≡◌, ◌/◌, length, Some, sym, ap, ◌∙◌, subst}
-use Rattle.msrp_audit.specs.Audits.{AuditorModel}
+use Rattle.std.proofs.Common.{◌≡◌, ◌/◌, length, ap, sym, ◌∙◌, subst}
 use Rattle.msrp_plan.specs.Plan.{PlanModel}
-use Rattle.msrp_plan.specs.declared.rows.Row.{Row}
-use Rattle.msrp_trace.specs.Readers.{BeginsAt, told_left}
-use Rattle.msrp_trace.specs.declared.reading.TraceReader.{TraceReader}
-use Rattle.msrp_engine.specs.Inside.Kept.{KeepsKnown}
-use Rattle.msrp_engine.specs.Judging.{rows_left}
-use Rattle.msrp_engine.specs.declared.judged.JudgedRows.{JudgedRows}
-use Rattle.msrp_engine.proofs.KeptTexts.{as_due, keeps_same}
-use Rattle.msrp_engine.proofs.judged.JudgedRows.next_of.Goals.{else-self-core-via-then-self-core+else-comes_behind, else-self-core-via-else-self-core}
+use Rattle.msrp_trace.specs.Texts.{text_of_core}
+use Rattle.msrp_engine.specs.Inside.Kept.{IsKept, KeepsKnown}
+use Rattle.msrp_engine.specs.Judging.{IsJudged}
+use Rattle.msrp_engine.proofs.KeptTexts.{cores_if, keeps_if}
 use Rattle.msrp_engine.proofs.judged.JudgedRows.next_of.Goals as goal
 
 pub invariant_of-self-clause-known : goal.invariant_of-self-clause-known
 invariant_of-self-clause-known g c =
-    let j = c.turn-due.new.self in
-    let same = c.accept.ensures.same in
-    subst (λ v. KeepsKnown v c.accept.new.self.plan c.accept.new.self.cores j.texts j.whole) (sym c.comes_behind.ensures.trace.0)
-    (keeps_same j.rows.version j.auditor.plan c.accept.new.self.plan j.auditor.cores c.accept.new.self.cores j.texts j.whole (ap (λ (a : AuditorModel). a.plan) same) (ap (λ (a : AuditorModel). a.cores) same) j.known)
+    let j = c.args.self.now in
+    let e = c.repeat.ensures in
+    let none = cores_if c.repeat.result j.auditor c.repeat.new.self e.none in
+    subst (λ p. KeepsKnown j.rows.version p c.repeat.new.self.cores j.texts j.whole) (sym e.plan)
+    (keeps_if j.rows.version j.auditor.plan j.auditor.cores c.repeat.new.self.cores j.texts j.whole c.args.core.0 c.repeat.result c.requires.accepted.draft.cores.1 c.requires.due.core none e.known e.core e.leaves j.known)
 
-pub invariant_of-self-else-comes_behind-clause-known : goal.invariant_of-self-else-comes_behind-clause-known
-invariant_of-self-else-comes_behind-clause-known g c =
-    let j = c.turn-due.new.self in
-    subst (λ v. KeepsKnown v j.auditor.plan j.auditor.cores j.texts j.whole) (sym c.comes_behind.ensures.trace.0) j.known
+pub next_due-requires-clause-kept : goal.next_due-requires-clause-kept
+next_due-requires-clause-kept g c = λ flag.
+    let j = c.args.self.now in
+    subst (λ p. IsKept j.rows.version p (text_of_core j.texts c.args.core.0) c.in-Some.due) (sym c.repeat.ensures.plan) (j.known c.args.core.0 c.requires.due.core flag c.in-Some.due c.in-Some.ensures.known)
 
-pub returns-then-comes_behind-clause-judged : goal.returns-then-comes_behind-clause-judged
-returns-then-comes_behind-clause-judged g c = λ rows fed now.
-    let awaits = c.turn-due.ensures.awaits rows fed in
-    let row = c.in_tick.result in
-    let tick : row.tick ≡ c.turn-due.result.tick = ap (λ (r : Row). r.tick) c.in_tick.ensures ∙ (now ∙ (ap (λ (p : PlanModel). length rows / p.cores) (sym c.turn-due.ensures.plan) ∙ sym awaits.tick)) in
-    let same = c.accept.ensures.same in (
-      c.accept.ensures.fed rows c.args.core.0 c.turn-due.result row awaits tick (as_due _ c.args.tick c.turn-due.result c.as_read.result row c.as_read.ensures c.in_tick.ensures),
-      ap (λ (a : AuditorModel). a.fault) same ∙ awaits.fault,
-    )
+pub returns-in-Some-clause-judged : goal.returns-in-Some-clause-judged
+returns-in-Some-clause-judged g c = λ rows fed now.
+    let awaits = c.in-Some.ensures.awaits rows fed in
+    let plan = c.repeat.ensures.plan in
+    subst (λ p. IsJudged p rows c.next_due.result c.next_due.new.self) plan (c.next_due.ensures.judged rows awaits (now ∙ (ap (λ (p : PlanModel). length rows / p.cores) (sym plan) ∙ sym awaits.tick)))
 
-pub returns-clause-read : goal.returns-clause-read
-returns-clause-read g c = λ told rows known begins fed now e.
-    let awaits = c.turn-due.ensures.awaits rows fed in
-    let due = c.turn-due.result in
-    let tick : c.args.tick ≡ due.tick = now ∙ (ap (λ (p : PlanModel). length rows / p.cores) (sym c.turn-due.ensures.plan) ∙ sym awaits.tick) in
-    let core : c.args.core ≡ due.core = ap (λ n. record { 0 = n }) (sym awaits.next.core) in
-    let here : BeginsAt due.tick due.core told = subst (λ k. BeginsAt due.tick k told) core (subst (λ t. BeginsAt t c.args.core told) tick begins) in
-    let before : rows_left g.T.Read.remaining c.turn-due.new.self ≡ Some told = subst (λ (r : TraceReader g.row.T.Denot). told_left g.T.Read.remaining r ≡ Some told) (sym c.turn-due.ensures.rows) known in
-    let left : rows_left g.T.Read.remaining c.else-self-core.self ≡ Some told = elim c.else-self-core.branch [
-      | else-self-core-via-then-self-core+else-comes_behind w ↦ subst (λ (j : JudgedRows g.row.T.Denot). rows_left g.T.Read.remaining j ≡ Some told) (sym w.self-is) (w.comes_behind.ensures.kept w.if-comes_behind.false told before)
-      | else-self-core-via-else-self-core w ↦ subst (λ (j : JudgedRows g.row.T.Denot). rows_left g.T.Read.remaining j ≡ Some told) (sym w.self-is) before
-    ] in
-    c.read_due.ensures.read told left here e
+pub returns-in-Some-clause-read : goal.returns-in-Some-clause-read
+returns-in-Some-clause-read g c = λ told rows known begins fed now error.
+    let awaits = c.in-Some.ensures.awaits rows fed in
+    c.next_due.ensures.read told rows known begins awaits (now ∙ (ap (λ (p : PlanModel). length rows / p.cores) (sym c.repeat.ensures.plan) ∙ sym awaits.tick)) error
