@@ -140,9 +140,9 @@ broken_by a rows r f due ok fed good answer foreseen turned =
     }
 
 -- its cause, with what was noted before the row
-pub cause_is : (plan : PlanModel) (rows : List Row) (r : Row) (f : Fault) (due : Due) (state : Option CoreState) (notes : Notes) → IsPlan plan → IsBrokenBy plan rows r f due → AreNoted plan rows notes
-    → (r.core.0 < plan.cores → IsSomeAnd state (IsCoreState plan r.core.0 (length (log_of r.core.0 rows)) rows)) → IsCauseAfter plan rows r (record { fault = f; row = r; due = due.row; state = state; turns = due.cores; notes = notes })
-cause_is plan rows r f due state notes ok broken noted told =
+pub cause_is : (plan : PlanModel) (rows : List Row) (r : Row) (line : Option ℕ) (f : Fault) (due : Due) (state : Option CoreState) (notes : Notes) → IsPlan plan → IsBrokenBy plan rows r f due → AreNoted plan rows notes
+    → (r.core.0 < plan.cores → IsSomeAnd state (IsCoreState plan r.core.0 (length (log_of r.core.0 rows)) rows)) → IsCauseAfter plan rows r (record { fault = f; row = r; line = line; due = due.row; state = state; turns = due.cores; notes = notes })
+cause_is plan rows r line f due state notes ok broken noted told =
     let rule = rule_of (refused plan rows r) (length rows + 1) f (sym (fault_push plan rows r broken.good) ∙ broken.fault) in
     let start = good_start plan rows broken.good in
     record {

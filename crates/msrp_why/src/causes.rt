@@ -33,6 +33,8 @@ pub struct Cause {
     pub fault: Fault,
     /// The row that breaks the rule.
     pub row: Row,
+    /// The line in which its record begins, where that is known.
+    pub line: Option<u64>,
     /// The row that was due of its core, where the row is in its turn.
     pub due: Option<Row>,
     /// What decided before the row who had the turn of its core, where the plan has the core.
@@ -128,9 +130,18 @@ pub fn feed(
     }
 }
 
-/// The cause of the fault that [`feed`] answered to a row, from what it told and from the notes before the row.
-pub fn cause_of(plan: &Plan, notes: Notes, due: Due, row: Row, fault: Fault) -> Cause
-    ensures { (rows : List TraceRow) → IsBrokenBy plan.now rows row fault due → AreNoted plan.now rows notes → IsCauseAfter plan.now rows row result }
+/// The cause of the fault that [`feed`] answered to a row, from what it told and from the notes before the row, with the line in which the row's record
+/// begins, where that is known.
+pub fn cause_of(
+    plan: &Plan,
+    notes: Notes,
+    due: Due,
+    row: Row,
+    line: Option<u64>,
+    fault: Fault,
+) -> Cause
+    ensures cause { (rows : List TraceRow) → IsBrokenBy plan.now rows row fault due → AreNoted plan.now rows notes → IsCauseAfter plan.now rows row result }
+    ensures line { result.line ≡ line }
 {
     // Read so that the plan is known to be an accepted one.
     let _accepted = plan.cores();
@@ -138,6 +149,7 @@ pub fn cause_of(plan: &Plan, notes: Notes, due: Due, row: Row, fault: Fault) -> 
     Cause {
         fault,
         row,
+        line,
         due: due.row,
         state,
         turns: due.cores,
