@@ -30,8 +30,8 @@ abbrev pub begins_record : List ℕ → Bool
 begins_record [] = false
 begins_record (b ∷ rest) = not (is_break b)
 
--- the record of that number begins in that line. There the text is cut in two: from there on the records are read from that one on, and in what
--- stands before as many lines end as stand before
+-- the record of that number begins in that line: the text is cut in two where a record begins. What stands behind is read as the records from that one
+-- on, and all lines before that one end in what stands before
 pub record BeginsIn (text : List ℕ) (number line : ℕ) : Type 0 where
   pub before : List ℕ
   pub rest : List ℕ
