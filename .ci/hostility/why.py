@@ -86,7 +86,7 @@ def explained(found, what, plan, trace):
         number = int(refusal.split()[-1])
         shown = b"".join(b"[%s]" % field for field in trace[number - 1].rstrip(b"\n").split(b","))
         found.counts["refused records in words"] += 1
-        found.judge(why.out.startswith(refusal + b": ") and why.out.endswith(b"\nrecord %d, line %d if no line before it is empty: %s\n" % (number, number, shown)), f"{what}: the record is another than {shown}", why)
+        found.judge(why.out.startswith(refusal + b": ") and why.out.endswith(b"\nrecord %d, line %d: %s\n" % (number, number, shown)), f"{what}: the record is another than {shown}", why)
     due = [line[len(DUE):] for line in why.out.splitlines(keepends=True) if line.startswith(DUE) and not line.startswith(DUE + b"a row")]
     if judged.status == FAULT and due:
         at = row_of(judged)

@@ -1,6 +1,6 @@
 -- The bytes that are left, with some of them read ahead.
-use Rattle.std.proofs.Common.{◌≡◌, ◌++◌, ◌∷◌, ◌∙◌, ◌≤◌, ◌<◌, ◌+◌, ◌-◌, [], ℕ, List, Option, Some, None, Result, length, drop, take, suc, refl, sym, ap, append_assoc, append-nil, arith, length-drop, set, take-append-drop}
-use Rattle.std.proofs.lemmas.List.{drop-take, drop_at, length-take-le, take-take, drop-drop, take-append-le, take_all, drop-set}
+use Rattle.std.proofs.Common.{subst, slice_index, Bool, true, false, if◌then◌else◌, ◌≡◌, ◌++◌, ◌∷◌, ◌∙◌, ◌≤◌, ◌<◌, ◌+◌, ◌-◌, [], ℕ, List, Option, Some, None, Result, length, drop, take, suc, refl, sym, ap, append_assoc, append-nil, arith, length-drop, set, take-append-drop}
+use Rattle.std.proofs.lemmas.List.{drop-append-le, drop_more, get_or-take, drop-take, drop_at, length-take-le, take-take, drop-drop, take-append-le, take_all, drop-set}
 use Rattle.std.proofs.lemmas.List.Edits.{take-paste}
 use Rattle.std.proofs.lemmas.Option.{none-some, same_Some}
 use Rattle.std.specs.Io.KnownBytes.{Consumes, Keeps, ReadConsumes, prepend_known}
@@ -57,7 +57,7 @@ take-past (x ∷ p) q m n e =
     rw k (ap (λ (t : List ℕ). x ∷ t) (take-past p q m (length p + m) refl))
 
 -- a read behind a front that was moved down
-pub filled-front : (xs d buf : List ℕ) (at end front k more : ℕ) → at ≤ end → end ≤ length xs → front ≤ at → d ≡ copy_within xs at end front → more ≤ length buf
+filled-front : (xs d buf : List ℕ) (at end front k more : ℕ) → at ≤ end → end ≤ length xs → front ≤ at → d ≡ copy_within xs at end front → more ≤ length buf
     → drop front (take (front + (end - at) + more) (put_mid (front + (end - at)) k d buf)) ≡ drop at (take end xs) ++ take more buf
 filled-front xs d buf at end front k more h w f e m =
     let ahead = drop at (take end xs) in
@@ -68,12 +68,51 @@ filled-front xs d buf at end front k more h w f e m =
     rw (a, drop-take front (end - at + more), moved, append_assoc (take front xs) ahead, after-front xs _ front l)
     (take-past ahead _ more (end - at + more) (omega arith) ∙ ap (λ (t : List ℕ). ahead ++ t) (take-append-le more buf _ m))
 
--- a failed read behind a front that was moved down
-pub kept-front : (xs d buf : List ℕ) (at end front k : ℕ) → at ≤ end → end ≤ length xs → front ≤ at → d ≡ copy_within xs at end front
-    → drop front (take (front + (end - at)) (put_mid (front + (end - at)) k d buf)) ≡ drop at (take end xs)
-kept-front xs d buf at end front k h w f e =
-    let z : front + (end - at) ≡ front + (end - at) + 0 = omega arith in
-    ap (λ n. drop front (take n (put_mid (front + (end - at)) k d buf))) z ∙ filled-front xs d buf at end front k 0 h w f e (omega arith) ∙ append-nil _
+-- the first of the bytes from a place to another
+pub ahead-first : (xs : List ℕ) (at end : ℕ) → at < end → end ≤ length xs → drop at (take end xs) ≡ slice_index xs at ∷ drop (at + 1) (take end xs)
+ahead-first xs at end h w =
+    let within : at < length (take end xs) = omega (arith, h, length-take-le end xs w) in
+    drop_more (take end xs) at 0 within ∙ ap (λ b. b ∷ drop (at + 1) (take end xs)) (get_or-take end xs at 0 h)
+
+-- a read behind bytes that were moved to the front of the buffer, from one before the next on
+moved-whole : (xs d buf : List ℕ) (start end k more : ℕ) → start ≤ end → end ≤ length xs → d ≡ copy_within xs start end 0 → more ≤ length buf
+    → take (end - start + more) (put_mid (end - start) k d buf) ≡ drop start (take end xs) ++ take more buf
+moved-whole xs d buf start end k more h w e m =
+    let none : 0 + (end - start) ≡ end - start = omega arith in
+    subst (λ n. take (n + more) (put_mid n k d buf) ≡ drop start (take end xs) ++ take more buf) none (filled-front xs d buf start end 0 k more h w (omega arith) e m)
+
+pub filled-behind : (xs d buf : List ℕ) (at end front start k more : ℕ) → start + front ≡ at → at ≤ end → end ≤ length xs → d ≡ copy_within xs start end 0 → more ≤ length buf
+    → drop front (take (end - start + more) (put_mid (end - start) k d buf)) ≡ drop at (take end xs) ++ take more buf
+filled-behind xs d buf at end front start k more p h w e m =
+    let size : length (drop start (take end xs)) ≡ end - start = omega (arith, length-drop start (take end xs), length-take-le end xs w) in
+    ap (λ (t : List ℕ). drop front t) (moved-whole xs d buf start end k more (omega (arith, p, h)) w e m)
+    ∙ drop-append-le front (drop start (take end xs)) (take more buf) (omega (arith, p, h, size))
+    ∙ ap (λ (t : List ℕ). t ++ take more buf) (drop-drop front start (take end xs) ∙ ap (λ n. drop n (take end xs)) p)
+
+-- where it failed
+pub kept-behind : (xs d buf : List ℕ) (at end front start k : ℕ) → start + front ≡ at → at ≤ end → end ≤ length xs → d ≡ copy_within xs start end 0
+    → drop front (take (end - start) (put_mid (end - start) k d buf)) ≡ drop at (take end xs)
+kept-behind xs d buf at end front start k p h w e =
+    let z : end - start ≡ end - start + 0 = omega arith in
+    ap (λ n. drop front (take n (put_mid (end - start) k d buf))) z ∙ filled-behind xs d buf at end front start k 0 p h w e (omega arith) ∙ append-nil _
+
+-- the byte before the next one is kept
+pub before-kept : (xs d buf : List ℕ) (at end front start k : ℕ) → front ≡ 1 → start + front ≡ at → at ≤ end → end ≤ length xs → d ≡ copy_within xs start end 0
+    → slice_index (put_mid (end - start) k d buf) (front - 1) ≡ slice_index xs (at - 1)
+before-kept xs d buf at end front start k one p h w e =
+    let new = put_mid (end - start) k d buf in
+    let some : start < end = omega (arith, one, p, h) in
+    let first : front - 1 ≡ 0 = omega (arith, one) in
+    let last : start ≡ at - 1 = omega (arith, one, p) in
+    let front_is = moved-whole xs d buf start end k 0 (omega (arith, some)) w e (omega arith) in
+    ap (slice_index new) first
+    ∙ sym (get_or-take (end - start + 0) new 0 0 (omega (arith, some)))
+    ∙ ap (λ (t : List ℕ). slice_index t 0) (front_is ∙ ap (λ (t : List ℕ). t ++ take 0 buf) (ahead-first xs start end some w))
+    ∙ ap (slice_index xs) last
+
+pub before-same : (begun : Bool) (x y : ℕ) → (begun ≡ true → x ≡ y) → (if begun then x else 0) ≡ (if begun then y else 0)
+before-same true x y h = h refl
+before-same false x y h = refl
 
 -- a read of the reader underneath, where nothing is read ahead
 pub read-through : {E : Type 0} (old new : Option (List ℕ)) (ahead buf : List ℕ) (r : Result ℕ E) → ahead ≡ [] → ReadConsumes old new r buf → ReadConsumes (prepend_known ahead old) (prepend_known ahead new) r buf
@@ -115,8 +154,14 @@ kept-known None new bytes h e = absurd (none-some bytes e)
 kept-known (Some xs) None bytes h e = absurd h
 kept-known (Some xs) (Some ys) bytes h e = rw h e
 
+pub keeps-keeps : (a b c : Option (List ℕ)) → Keeps a b → Keeps b c → Keeps a c
+keeps-keeps None b c h k = tt
+keeps-keeps (Some x) None c h k = absurd h
+keeps-keeps (Some x) (Some y) None h k = absurd k
+keeps-keeps (Some x) (Some y) (Some z) h k = k ∙ h
+
 -- the known bytes begin with those that were read ahead
-known-ahead : (ahead : List ℕ) (known : Option (List ℕ)) (bytes : List ℕ) → prepend_known ahead known ≡ Some bytes → (more : List ℕ) × (bytes ≡ ahead ++ more)
+pub known-ahead : (ahead : List ℕ) (known : Option (List ℕ)) (bytes : List ℕ) → prepend_known ahead known ≡ Some bytes → (more : List ℕ) × (bytes ≡ ahead ++ more)
 known-ahead ahead None bytes e = absurd (none-some bytes e)
 known-ahead ahead (Some more) bytes e = (more, sym (same_Some (ahead ++ more) bytes e))
 

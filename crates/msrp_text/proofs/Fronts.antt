@@ -3,6 +3,7 @@ use Rattle.std.proofs.Common.{◌≡◌, ◌≤◌, ◌<◌, ◌+◌, ◌-◌, �
 use Rattle.std.proofs.Math.ListN.{get_or-append}
 use Rattle.std.proofs.Math.Nat.{eq-or-lt_of_le}
 use Rattle.std.proofs.Math.Seq.{get_or-append_seam}
+use Rattle.std.proofs.lemmas.Bool.Decides.{nat_tests}
 use Rattle.std.proofs.lemmas.Bool.{not-true, and_parts, and_right, eqb-true, or_cases, or_from, or_parts}
 use Rattle.std.proofs.lemmas.List.Folds.{list_any-append}
 use Rattle.std.specs.List.{list_any}
@@ -10,6 +11,7 @@ use Rattle.std.proofs.lemmas.List.{append-nil, drop-append-le, drop_at, nil_from
 use mathlib.Core.Bool.{true≢false}
 use Rattle.msrp_text.specs.Records.{bytes_ahead, bytes_left}
 use Rattle.msrp_text.specs.declared.records.RecordReader.{RecordReader}
+use Rattle.msrp_text.specs.Lines.{is_break}
 use Rattle.msrp_text.specs.Plain.{BeginsWith, EndsLine, IsInLine, NoLine, is_mark, is_plain}
 use Rattle.msrp_text.proofs.AheadBytes.{between-bytes, bytes-ahead, none-left}
 use Rattle.msrp_text.proofs.PlainLines.{IsSplit, plain-byte, plain-first, plain-more, split-joins, split-parts}
@@ -115,6 +117,16 @@ bom-none : (text : List ℕ) (most : ℕ) → (slice_index text 0 == 239) ≡ tr
 bom-none text most mark = λ line begins plain few.
     let first = plain-first line plain in
     true≢false (sym mark ∙ ap (λ b. b == 239) ((begun-text line text begins).inside 0 first.0) ∙ first.1)
+
+-- a line end is in none
+break-mark : (b : ℕ) → is_break b ≡ true → is_mark b ≡ true
+break-mark b h = grind (arith, nat_tests, h)
+
+pub break-none : (text rest : List ℕ) (b most : ℕ) → text ≡ b ∷ rest → is_break b ≡ true → NoLine most text
+break-none text rest b most e is = λ line begins plain few.
+    let some = (plain-first line plain).0 in
+    let same : slice_index line 0 ≡ b = sym ((begun-text line text begins).inside 0 some) ∙ ap (λ (t : List ℕ). slice_index t 0) e in
+    true≢false (sym (break-mark b is) ∙ ap is_mark (sym same) ∙ plain-byte line 0 plain some)
 
 pub other-none : (text : List ℕ) (at most : ℕ) → is_other (slice_index text at) at ≡ true → IsInLine at text → NoLine most text
 other-none text at most other before = elim (or_cases (slice_index text at == 34) _ other) [

@@ -1,6 +1,7 @@
 pub mod Remaining
 pub mod PlainLines
 pub mod AheadBytes
+pub mod LineEnds
 pub mod Fronts
 pub mod FirstFields
 pub mod Digits

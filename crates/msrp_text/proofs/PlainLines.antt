@@ -116,6 +116,14 @@ records-line line tail e = records-unfold st.StartRecord (line ++ (10 ∷ tail))
 pub records-empty : (tail : List ℕ) → records_at st.StartRecord (10 ∷ tail) ≡ records_at st.StartRecord tail
 records-empty tail = records-unfold st.StartRecord (10 ∷ tail) _ (next-empty tail) ∙ sym (records-unfold st.StartRecord tail _ refl)
 
+-- nor is one that ends with a carriage return
+next-only : (tail : List ℕ) → next_record default_config st.StartRecord [] [] (13 ∷ tail) ≡ next_record default_config st.StartRecord [] [] tail
+unfolding next_record
+next-only tail = refl
+
+pub records-only : (tail : List ℕ) → records_at st.StartRecord (13 ∷ tail) ≡ records_at st.StartRecord tail
+records-only tail = records-unfold st.StartRecord (13 ∷ tail) _ (next-only tail) ∙ sym (records-unfold st.StartRecord tail _ refl)
+
 -- the records of a text that goes on with a plain line, ended by a carriage return
 pub records-return : (line tail : List ℕ) → is_plain line ≡ true → records_at st.StartRecord (line ++ (13 ∷ tail)) ≡ split_commas line ∷ records_at st.StartRecord tail
 records-return line tail e =
@@ -185,7 +193,7 @@ marked-first begun (b ∷ line) mark text rest e plain =
     ap (λ (t : List ℕ). records_of begun (t ++ rest)) e ∙ begins begun ((line ++ mark) ++ rest) b (and_parts _ _ plain).0 ∙ ap (records_at st.StartRecord) (append_assoc (b ∷ line) mark rest)
 
 -- a plain line with its end is the first record
-ended-first : (begun : Bool) (line text rest : List ℕ) → EndsLine line text → is_plain line ≡ true → records_of begun (text ++ rest) ≡ split_commas line ∷ records_at st.StartRecord rest
+pub ended-first : (begun : Bool) (line text rest : List ℕ) → EndsLine line text → is_plain line ≡ true → records_of begun (text ++ rest) ≡ split_commas line ∷ records_at st.StartRecord rest
 ended-first begun line text rest (inl e) plain = marked-first begun line (10 ∷ []) text rest e plain ∙ records-line line rest plain
 ended-first begun line text rest (inr (inl e)) plain = marked-first begun line (13 ∷ []) text rest e plain ∙ records-return line rest plain
 ended-first begun line text rest (inr (inr e)) plain =
@@ -207,16 +215,8 @@ kept-records begun still None new h e left known = cc known
 kept-records begun still (Some xs) None h e left known = absurd h
 kept-records begun still (Some xs) (Some ys) h e left known = rw (e, h) known
 
--- a line feed that was taken was no record
-pub taken-feed : (begun : Bool) (old new : Option (List ℕ)) → Consumes old new (10 ∷ []) → KeepsRecords (option_map (records_of begun) old) (option_map (records_of true) new)
-taken-feed begun None new h left known = cc known
-taken-feed begun (Some xs) None h left known = absurd h
-taken-feed begun (Some xs) (Some ys) h left known =
-    let from : records_of begun xs ≡ left = cc in
-    ap (λ (rs : List (List (List ℕ))). Some rs) (sym (records-empty ys) ∙ sym (begins begun ys 10 refl) ∙ sym (ap (records_of begun) h) ∙ from)
-
 -- the records of a text are those from its start
-csv-start : (bytes : List ℕ) → csv_records bytes ≡ records_of false bytes
+pub csv-start : (bytes : List ℕ) → csv_records bytes ≡ records_of false bytes
 unfolding records_at
 csv-start bytes = refl
 

@@ -2,6 +2,7 @@ pub mod Settings
 pub mod Plain
 pub mod Ahead
 pub mod Records
+pub mod Lines
 pub mod Fields
 pub mod Reading
 pub mod Positions

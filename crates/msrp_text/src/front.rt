@@ -12,7 +12,7 @@ use std::alloc::AllocError;
 pub(crate) const LONGEST: usize = 256;
 
 // The first byte of a byte order mark. A line that begins with it is left to `csv`.
-const MARK: u8 = 0xEF;
+pub(crate) const MARK: u8 = 0xEF;
 
 /// Where a plain line stands at the front of a text.
 #[derive(Clone, Copy, Debug, PartialEq, Eq)]

@@ -4,6 +4,7 @@
 //! about texts, and [`worked`] are examples of them.
 #![tactic(auto)]
 
+mod breaks;
 mod csv_records;
 pub mod fields;
 mod front;

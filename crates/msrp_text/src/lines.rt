@@ -1,5 +1,5 @@
 //! The bytes of a text, some of them read ahead, and the plain lines at their front.
-ghost use Rattle.std.specs.Prelude.{◌≡◌, ◌≤◌, ◌<◌, ◌+◌, ◌++◌, ◌⊎◌, ℕ, List, [], None, IfOk, true, false, length, take};
+ghost use Rattle.std.specs.Prelude.{◌^◌, IsSome, ◌≡◌, ◌≤◌, ◌<◌, ◌+◌, ◌++◌, ◌⊎◌, ◌==◌, ◌&&◌, not, ℕ, List, [], Some, None, IfOk, true, false, length, take};
 ghost use Rattle.msrp_text.specs.declared.front.TheConstants.{LONGEST};
 ghost use Rattle.msrp_text.specs.declared.lines.TheConstants.{ROOM};
 ghost use Rattle.std.specs.Io.{ReadsAtMost};
@@ -7,6 +7,7 @@ ghost use Rattle.std.specs.Io.KnownBytes.{IsAtEnd, Keeps, ReadConsumes};
 ghost use Rattle.csv.specs.Records.{fields_of};
 ghost use Rattle.msrp_text.specs.Plain.{EndsLine, IsPeeked, NoLine, is_plain, split_commas};
 
+use crate::breaks::{begins_record, counted, is_break};
 use crate::csv_records::CsvRecords;
 use crate::front::{Front, PlainLine, front_of};
 use csv::ByteRecord;
@@ -24,8 +25,10 @@ pub(crate) struct Lines<R> {
     buffer: [u8; ROOM],
     at: usize,
     end: usize,
-    // A line was taken, so what is left isn't the start of the text.
+    // A line was taken, so what is left isn't the start of the text. The byte that was taken last stands before `at`.
     begun: bool,
+    // How many empty lines were passed over, as long as they can be counted.
+    passed: Option<u32>,
     // Why a read ahead failed, if one did.
     failed: Option<ErrorKind>,
     ghost front: { begun ≡ true → 1 ≤ at },
@@ -36,12 +39,14 @@ pub(crate) struct Lines<R> {
 
 impl<R: Read> Lines<R> {
     ghost use Rattle.msrp_text.specs.Ahead.{buffered, has_failed, lines_ahead, unread};
+    ghost use Rattle.msrp_text.specs.Lines.{BeginsIn, HasTaken, byte_before, ends_line};
     ghost use Rattle.msrp_text.specs.Records.{GivesLine, HasNone, KeepsRecords, csv_left, records_ahead};
 
     /// The bytes that a reader has left.
     pub(crate) fn new(source: R) -> Lines<R>
         ensures bytes { unread R.remaining result ≡ R.remaining source }
         ensures begun { result.begun ≡ false }
+        ensures passed { result.passed ≡ Some 0 }
     {
         Lines {
             source,
@@ -49,6 +54,7 @@ impl<R: Read> Lines<R> {
             at: 1,
             end: 1,
             begun: false,
+            passed: Some(0),
             failed: None,
         }
     }
@@ -71,24 +77,64 @@ impl<R: Read> Lines<R> {
     pub(crate) fn take(&mut self, count: usize)
         requires count { count ≤ length (lines_ahead self.old) }
         requires some { 0 < count }
-        ensures { (line : List ℕ) → EndsLine line (take count (lines_ahead self.old)) → is_plain line ≡ true → GivesLine (records_ahead R.remaining self.old) (split_commas line) (records_ahead R.remaining self.new) }
+        ensures gives { (line : List ℕ) → EndsLine line (take count (lines_ahead self.old)) → is_plain line ≡ true → GivesLine (records_ahead R.remaining self.old) (split_commas line) (records_ahead R.remaining self.new) }
+        ensures taken { (line bytes : List ℕ) (number : ℕ) → EndsLine line (take count (lines_ahead self.old)) → is_plain line ≡ true → HasTaken R.remaining bytes number self.old → HasTaken R.remaining bytes (number + 1) self.new }
+        ensures begins { (line bytes : List ℕ) (number empty : ℕ) → EndsLine line (take count (lines_ahead self.old)) → is_plain line ≡ true → HasTaken R.remaining bytes number self.old → self.new.passed ≡ Some empty → BeginsIn bytes (number + 1) (number + 1 + empty) }
     {
         self.at += count;
         self.begun = true;
     }
 
-    // Passes over a line feed that comes next: an empty line is no record. It may be what is left of the end of the line before,
-    // whose carriage return was the last byte that was there.
-    fn pass_feed(&mut self)
-        ensures none { NoLine LONGEST (lines_ahead self.new) → NoLine LONGEST (lines_ahead self.old) }
-        ensures same { KeepsRecords (records_ahead R.remaining self.old) (records_ahead R.remaining self.new) }
+    // Whether a line ends at that byte, which comes next: not at a line feed behind a carriage return, since the two are one end.
+    fn ends_line(&self, byte: u8) -> bool
+        ensures { result ≡ ends_line (byte_before self.now) byte }
+    {
+        byte == b'\r' || (byte == b'\n' && !(self.begun && self.buffer[self.at - 1] == b'\r'))
+    }
+
+    // Reads more ahead where no byte is there.
+    fn look(&mut self)
+        ensures kept { Keeps (unread R.remaining self.old) (unread R.remaining self.new) }
+        ensures begun { self.new.begun ≡ self.old.begun }
+        ensures before { byte_before self.new ≡ byte_before self.old }
+        ensures passed { self.new.passed ≡ self.old.passed }
+        ensures grows { (more : List ℕ) × (lines_ahead self.new ≡ lines_ahead self.old ++ more) }
     {
         if self.at == self.end {
             self.fetch();
         }
-        if self.ahead().starts_with(b"\n") {
-            self.at += 1;
-            self.begun = true;
+    }
+
+    // Passes over a line end that comes next, or a part of one, and whether there was one. A line that ends there is empty.
+    fn pass_end(&mut self) -> bool
+        ensures none { NoLine LONGEST (lines_ahead self.new) → NoLine LONGEST (lines_ahead self.old) }
+        ensures same { KeepsRecords (records_ahead R.remaining self.old) (records_ahead R.remaining self.new) }
+        ensures taken { (bytes : List ℕ) (number : ℕ) → HasTaken R.remaining bytes number self.old → HasTaken R.remaining bytes number self.new }
+    {
+        self.look();
+        if self.at == self.end {
+            return false;
+        }
+        let byte = self.buffer[self.at];
+        if !is_break(byte) {
+            return false;
+        }
+        self.passed = counted(self.passed, self.ends_line(byte));
+        self.at += 1;
+        self.begun = true;
+        true
+    }
+
+    // Passes over the line ends that come next: an empty line is no record.
+    fn pass_ends(&mut self)
+        ensures none { NoLine LONGEST (lines_ahead self.new) → NoLine LONGEST (lines_ahead self.old) }
+        ensures same { KeepsRecords (records_ahead R.remaining self.old) (records_ahead R.remaining self.new) }
+        ensures taken { (bytes : List ℕ) (number : ℕ) → HasTaken R.remaining bytes number self.old → HasTaken R.remaining bytes number self.new }
+    {
+        for _passed in 0..u64::MAX {
+            if !self.pass_end() {
+                return;
+            }
         }
     }
 
@@ -97,8 +143,9 @@ impl<R: Read> Lines<R> {
         ensures line { IfOk result (λ found. IsPeeked (lines_ahead self.new) (fields_of row.new) found) }
         ensures none { NoLine LONGEST (lines_ahead self.new) → NoLine LONGEST (lines_ahead self.old) }
         ensures same { KeepsRecords (records_ahead R.remaining self.old) (records_ahead R.remaining self.new) }
+        ensures taken { (bytes : List ℕ) (number : ℕ) → HasTaken R.remaining bytes number self.old → HasTaken R.remaining bytes number self.new }
     {
-        self.pass_feed();
+        self.pass_ends();
         loop {
             match front_of(self.ahead(), row)? {
                 Front::Line(line) => return Ok(Some(line)),
@@ -114,6 +161,8 @@ impl<R: Read> Lines<R> {
     pub(crate) fn fetch(&mut self) -> bool
         ensures kept { Keeps (unread R.remaining self.old) (unread R.remaining self.new) }
         ensures begun { self.new.begun ≡ self.old.begun }
+        ensures before { byte_before self.new ≡ byte_before self.old }
+        ensures passed { self.new.passed ≡ self.old.passed }
         ensures grows { (more : List ℕ) × (lines_ahead self.new ≡ lines_ahead self.old ++ more) × (result ≡ false → more ≡ []) }
         ensures more { result ≡ true → buffered self.old < buffered self.new }
         ensures end { result ≡ false → length (lines_ahead self.new) + 1 < ROOM → (has_failed self.new ≡ true) ⊎ IsAtEnd (R.remaining self.new.source) }
@@ -121,11 +170,12 @@ impl<R: Read> Lines<R> {
         if self.failed.is_some() {
             return false;
         }
+        // The byte before the next one is kept.
         let front = self.at.min(1);
-        let count = self.end - self.at;
-        self.buffer.copy_within(self.at..self.end, front);
+        let start = self.at - front;
+        self.buffer.copy_within(start..self.end, 0);
         self.at = front;
-        self.end = front + count;
+        self.end -= start;
         match self.source.read(&mut self.buffer[self.end..]) {
             Ok(more) => {
                 self.end += more;
@@ -142,11 +192,29 @@ impl<R: Read> Lines<R> {
     pub(crate) fn is_at_end(&mut self) -> bool
         ensures same { KeepsRecords (records_ahead R.remaining self.old) (records_ahead R.remaining self.new) }
         ensures none { result ≡ true → HasNone (records_ahead R.remaining self.new) }
+        ensures taken { (bytes : List ℕ) (number : ℕ) → HasTaken R.remaining bytes number self.old → HasTaken R.remaining bytes number self.new }
     {
         if self.at < self.end {
             return false;
         }
         !self.fetch() && self.failed.is_none()
+    }
+
+    /// How many empty lines were passed over, as long as they can be counted.
+    pub(crate) fn passed(&self) -> Option<u32>
+        ensures { result ≡ self.now.passed }
+    {
+        self.passed
+    }
+
+    /// How many empty lines stand before the next record, where one begins with the next byte.
+    pub(crate) fn empty_before(&self) -> Option<u32>
+        ensures { (bytes : List ℕ) (number empty : ℕ) → HasTaken R.remaining bytes number self.now → result ≡ Some empty → BeginsIn bytes (number + 1) (number + 1 + empty) }
+    {
+        if self.at < self.end && begins_record(self.buffer[self.at]) {
+            return self.passed;
+        }
+        None
     }
 
     /// The records that are left, read by `csv`.

@@ -1,11 +1,12 @@
 //! The records of a text, read in turn.
-ghost use Rattle.std.specs.Prelude.{◌≡◌, ◌==◌, ◌⊎◌, ◌≤◌, ◌<◌, ◌+◌, ◌++◌, ◌∷◌, [], ℕ, List, Some, None, Err, IfOk, IfErr, OnOk, OnErr, IsSome, option_map, length, take, true, false};
+ghost use Rattle.std.specs.Prelude.{◌≡◌, ◌==◌, ◌⊎◌, ◌≤◌, ◌<◌, ◌+◌, ◌++◌, ◌∷◌, [], ℕ, List, Some, None, Err, IfOk, IfErr, OnOk, OnErr, Ok, IsSome, ◌^◌, option_map, length, take, true, false};
 ghost use Rattle.std.specs.List.{list_any};
 ghost use Rattle.std.specs.Option.{IfSome};
 ghost use Rattle.csv.specs.Records.{fields_of};
 ghost use Rattle.msrp_text.specs.declared.front.TheConstants.{LONGEST};
 ghost use Rattle.msrp_text.specs.declared.lines.TheConstants.{ROOM};
 ghost use Rattle.std.specs.Io.KnownBytes.{Keeps};
+ghost use Rattle.msrp_text.specs.Lines.{BeginsIn, HasRead, HasTakenBy, empty_at, empty_before};
 ghost use Rattle.msrp_text.specs.Plain.{BeginsWith, BeginsWithDigit, EndsLine, IsPeeked, NoLine, is_plain, is_plain_field, split_commas};
 ghost use Rattle.msrp_text.specs.Records.{FirstBegins, GivesLine, GivesNext, HasNone, KeepsRecords, bytes_ahead, bytes_left, csv_records, is_csv, left_at, read_failed, reader_under, reads_csv, records_left, stop_at, stop_of};
 
@@ -54,6 +55,8 @@ fn by_csv<R: Read>(way: Way<R>, alloc: Global) -> (Way<R>, ())
 pub struct RecordReader<R> {
     alloc: Global,
     way: Way<R>,
+    // How many empty lines stand before the record that `csv` has read last, where that is known: it can be of the first.
+    first: Option<u32>,
 }
 
 impl<R: Read> RecordReader<R> {
@@ -61,10 +64,12 @@ impl<R: Read> RecordReader<R> {
     pub fn new(alloc: Global, text: R) -> RecordReader<R>
         ensures left { records_left R.remaining result ≡ option_map csv_records (R.remaining text) }
         ensures goes { stop_of result ≡ None }
+        ensures start { (bytes : List ℕ) → R.remaining text ≡ Some bytes → HasRead R.remaining bytes 0 result }
     {
         RecordReader {
             alloc,
             way: Way::Lines(Lines::new(text)),
+            first: None,
         }
     }
 
@@ -75,6 +80,19 @@ impl<R: Read> RecordReader<R> {
         match &self.way {
             Way::Lines(lines) => lines.source(),
             Way::Csv(records) => records.reader().source(),
+        }
+    }
+
+    /// How many empty lines stand before the record that was read last. It is known as long as `csv` reads none, and of the first that it reads
+    /// mostly; each record before took one line then.
+    pub fn empty_lines(&self) -> Option<u32>
+        ensures value { result ≡ empty_before self.now }
+        ensures line { (bytes : List ℕ) (number empty : ℕ) → HasRead R.remaining bytes number self.now → 1 ≤ number → result ≡ Some empty → BeginsIn bytes number (number + empty) }
+        ensures known { (bytes : List ℕ) (number : ℕ) → HasRead R.remaining bytes number self.now → length bytes < 2 ^ 32 → reads_csv self.now ≡ false → IsSome result }
+    {
+        match &self.way {
+            Way::Lines(lines) => lines.passed(),
+            Way::Csv(_) => self.first,
         }
     }
 
@@ -98,6 +116,8 @@ impl<R: Read> RecordReader<R> {
         ensures ahead { BeginsWith (front.now ++ rest.now) (bytes_ahead self.old) → result ≡ true }
         ensures begins { result ≡ true → (bytes : List ℕ) → bytes_left R.remaining self.old ≡ Some bytes → BeginsWith (front.now ++ rest.now) bytes }
         ensures finds { (bytes : List ℕ) → bytes_left R.remaining self.old ≡ Some bytes → length (front.now ++ rest.now) < LONGEST → is_plain (front.now ++ rest.now) ≡ true → BeginsWith (front.now ++ rest.now) bytes → (result ≡ true) ⊎ (read_failed self.new ≡ true) }
+        ensures line { result ≡ true → is_plain (front.now ++ rest.now) ≡ true → (bytes : List ℕ) (number : ℕ) → HasRead R.remaining bytes number self.old → HasRead R.remaining bytes (number + 1) self.new }
+        ensures still { result ≡ false → (bytes : List ℕ) (number : ℕ) → HasRead R.remaining bytes number self.old → HasRead R.remaining bytes number self.new }
     {
         if self.ahead().len() <= LONGEST {
             self.read_line_ahead();
@@ -120,6 +140,8 @@ impl<R: Read> RecordReader<R> {
         ensures kept { result ≡ false → KeepsRecords (records_left R.remaining self.old) (records_left R.remaining self.new) }
         ensures stop { stop_of self.new ≡ stop_of self.old }
         ensures ahead { BeginsWith (front.now ++ rest.now) (bytes_ahead self.old) → result ≡ true }
+        ensures line { result ≡ true → is_plain (front.now ++ rest.now) ≡ true → (bytes : List ℕ) (number : ℕ) → HasRead R.remaining bytes number self.old → HasRead R.remaining bytes (number + 1) self.new }
+        ensures still { result ≡ false → (bytes : List ℕ) (number : ℕ) → HasRead R.remaining bytes number self.old → HasRead R.remaining bytes number self.new }
     {
         match rest_met(self.ahead(), front, rest) {
             Some(taken) => {
@@ -139,6 +161,7 @@ impl<R: Read> RecordReader<R> {
         ensures finds { (digit : ℕ) → BeginsWithDigit first.now digit (bytes_ahead self.new) → result ≡ Some digit }
         ensures same { KeepsRecords (records_left R.remaining self.old) (records_left R.remaining self.new) }
         ensures stop { stop_of self.new ≡ stop_of self.old }
+        ensures still { (bytes : List ℕ) (number : ℕ) → HasRead R.remaining bytes number self.old → HasRead R.remaining bytes number self.new }
     {
         if self.ahead().len() <= LONGEST {
             self.read_line_ahead();
@@ -152,6 +175,7 @@ impl<R: Read> RecordReader<R> {
         ensures same { KeepsRecords (records_left R.remaining self.old) (records_left R.remaining self.new) }
         ensures bytes { Keeps (bytes_left R.remaining self.old) (bytes_left R.remaining self.new) }
         ensures stop { stop_of self.new ≡ stop_of self.old }
+        ensures still { (bytes : List ℕ) (number : ℕ) → HasRead R.remaining bytes number self.old → HasRead R.remaining bytes number self.new }
         ensures grows { (more : List ℕ) × (bytes_ahead self.new ≡ bytes_ahead self.old ++ more) }
         ensures line { (bytes : List ℕ) → bytes_left R.remaining self.new ≡ Some bytes → (list_any (λ byte. byte == 10) (bytes_ahead self.new) ≡ true) ⊎ (LONGEST < length (bytes_ahead self.new)) ⊎ (read_failed self.new ≡ true) ⊎ (bytes ≡ bytes_ahead self.new) }
     {
@@ -166,6 +190,7 @@ impl<R: Read> RecordReader<R> {
         ensures same { KeepsRecords (records_left R.remaining self.old) (records_left R.remaining self.new) }
         ensures bytes { Keeps (bytes_left R.remaining self.old) (bytes_left R.remaining self.new) }
         ensures stop { stop_of self.new ≡ stop_of self.old }
+        ensures still { (bytes : List ℕ) (number : ℕ) → HasRead R.remaining bytes number self.old → HasRead R.remaining bytes number self.new }
         ensures grows { (more : List ℕ) × (bytes_ahead self.new ≡ bytes_ahead self.old ++ more) × (result ≡ false → more ≡ []) }
         ensures more { result ≡ true → length (bytes_ahead self.old) < length (bytes_ahead self.new) }
         ensures end { result ≡ false → (bytes : List ℕ) → bytes_left R.remaining self.new ≡ Some bytes → length (bytes_ahead self.new) + 1 < ROOM → (read_failed self.new ≡ true) ⊎ (bytes ≡ bytes_ahead self.new) }
@@ -184,6 +209,7 @@ impl<R: Read> RecordReader<R> {
         ensures next { (line : List ℕ) → EndsLine line (take count (bytes_ahead self.old)) → is_plain line ≡ true → GivesLine (records_left R.remaining self.old) (split_commas line) (records_left R.remaining self.new) }
         ensures stop { stop_of self.new ≡ stop_of self.old }
         ensures way { reads_csv self.new ≡ reads_csv self.old }
+        ensures line { (line bytes : List ℕ) (number : ℕ) → EndsLine line (take count (bytes_ahead self.old)) → is_plain line ≡ true → HasTakenBy R.remaining bytes number self.old.way → HasRead R.remaining bytes (number + 1) self.new }
     {
         if let Way::Lines(lines) = &mut self.way {
             lines.take(count);
@@ -200,6 +226,7 @@ impl<R: Read> RecordReader<R> {
         ensures way { reads_csv self.new ≡ reads_csv self.old }
         ensures found { IfOk result (λ found. IsSome found → stop_of self.new ≡ None) }
         ensures refused { OnErr result (stop_of self.new ≡ None) }
+        ensures taken { (bytes : List ℕ) (number : ℕ) → HasTakenBy R.remaining bytes number self.old.way → HasTakenBy R.remaining bytes number self.new.way }
     {
         match &mut self.way {
             Way::Lines(lines) => lines.peek(row),
@@ -214,6 +241,7 @@ impl<R: Read> RecordReader<R> {
         ensures stop { stop_of self.new ≡ stop_of self.old }
         ensures goes { result ≡ true → stop_of self.new ≡ None }
         ensures way { reads_csv self.new ≡ reads_csv self.old }
+        ensures taken { (bytes : List ℕ) (number : ℕ) → HasTakenBy R.remaining bytes number self.old.way → HasTakenBy R.remaining bytes number self.new.way }
     {
         match &mut self.way {
             Way::Lines(lines) => lines.is_at_end(),
@@ -229,6 +257,7 @@ impl<R: Read> RecordReader<R> {
         ensures stops { IfErr result (λ why. stop_of self.new ≡ Some why) }
         ensures stopped { (why : Stopped) → stop_of self.old ≡ Some why → result ≡ Err why }
         ensures finds { OnOk result (reads_csv self.new ≡ true → NoLine LONGEST (bytes_ahead self.old)) }
+        ensures line { result ≡ Ok true → (bytes : List ℕ) (number : ℕ) → HasRead R.remaining bytes number self.old → HasRead R.remaining bytes (number + 1) self.new }
     {
         match self.peek_line(row) {
             Ok(Some(line)) => {
@@ -247,12 +276,24 @@ impl<R: Read> RecordReader<R> {
         }
     }
 
+    // How many empty lines stand before the next record, where one begins with the next byte. That isn't known once `csv` reads.
+    fn empty_ahead(&self) -> Option<u32>
+        ensures { (bytes : List ℕ) (number empty : ℕ) → HasTakenBy R.remaining bytes number self.now.way → result ≡ Some empty → BeginsIn bytes (number + 1) (number + 1 + empty) }
+    {
+        match &self.way {
+            Way::Lines(lines) => lines.empty_before(),
+            Way::Csv(_) => None,
+        }
+    }
+
     // From here on `csv` reads.
     fn turn(&mut self)
         ensures same { KeepsRecords (records_left R.remaining self.old) (records_left R.remaining self.new) }
         ensures stop { stop_of self.new ≡ stop_of self.old }
         ensures csv { reads_csv self.new ≡ true }
+        ensures line { (bytes : List ℕ) (number empty : ℕ) → HasTakenBy R.remaining bytes number self.old.way → self.new.first ≡ Some empty → BeginsIn bytes (number + 1) (number + 1 + empty) }
     {
+        self.first = self.empty_ahead();
         if matches!(self.way, Way::Lines(_)) {
             mem::replace_with(&mut self.way, self.alloc, by_csv);
         }
@@ -265,6 +306,8 @@ impl<R: Read> RecordReader<R> {
         ensures goes { OnOk result (stop_of self.new ≡ None) }
         ensures stops { IfErr result (λ why. stop_of self.new ≡ Some why) }
         ensures stopped { (why : Stopped) → stop_of self.old ≡ Some why → result ≡ Err why }
+        ensures csv { reads_csv self.new ≡ true }
+        ensures first { self.new.first ≡ self.old.first }
     {
         match &mut self.way {
             Way::Csv(records) => records.read(row),

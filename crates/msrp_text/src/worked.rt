@@ -1,6 +1,7 @@
 //! Worked examples, computed from the definitions alone: texts, byte by byte, with the plan that they tell or
 //! the refusal. Each function does nothing; its contract is the example.
 ghost use Rattle.std.specs.Prelude.{◌≡◌, ◌++◌, codes, Ok};
+ghost use Rattle.msrp_text.specs.Lines.{BeginsIn};
 ghost use Rattle.msrp_text.specs.Reading.{csv_records, plan_of};
 ghost use Rattle.msrp_text.specs.Examples.{bare_list, head, listed_head, listed_plan, locking_plan, offset_plan, one_task_plan, refused};
 ghost use Rattle.msrp_plan.specs.declared.faults.PlanFault.TheVariants.{Version, OutOfPlace, FieldCount, Number, Name, Taken, Limit, Undeclared, Core, NoUnit, Releases};
@@ -78,4 +79,14 @@ pub fn units()
     ensures unknown_word { plan_of (csv_records (head ++ codes "task,a,0,3,3,0\nop,foo\n")) ≡ refused OutOfPlace 5 }
     ensures run_of_none { plan_of (csv_records (head ++ codes "task,a,0,3,3,0\nop,run,0\n")) ≡ refused Limit 5 }
     ensures no_such_resource { plan_of (csv_records (head ++ codes "task,a,0,3,3,0\nop,lock,r\n")) ≡ refused Undeclared 5 }
+{}
+
+/// Lines in which records begin: behind lines that end with LF, CR or CRLF, empty ones too, and behind a field that goes over the end of a line.
+pub fn record_lines()
+    ensures first { BeginsIn (codes "a\nb\n") 1 1 }
+    ensures second { BeginsIn (codes "a\nb\n") 2 2 }
+    ensures returns { BeginsIn (codes "a\r\rb") 2 3 }
+    ensures both { BeginsIn (codes "a\r\n\r\nb") 2 3 }
+    ensures front { BeginsIn (codes "\n\na") 1 3 }
+    ensures in_quotes { BeginsIn (codes "\"a\n\"\nb") 2 3 }
 {}

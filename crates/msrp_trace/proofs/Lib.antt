@@ -12,3 +12,4 @@ pub mod Kept
 pub mod ReadThrough
 pub mod Counting
 pub mod Standing
+pub mod Lining

@@ -7,6 +7,7 @@ use Rattle.msrp_plan.specs.Plan.{PlanModel}
 use Rattle.msrp_plan.specs.declared.ids.CoreId.{CoreId}
 use Rattle.msrp_plan.specs.declared.rows.Row.{Row}
 use Rattle.msrp_plan.specs.declared.rows.TextVersion.{TextVersion}
+use Rattle.msrp_text.specs.Lines.{HasRead}
 use Rattle.msrp_text.specs.Plain.{BeginsWith}
 use Rattle.msrp_text.specs.Reading.{record_at}
 use Rattle.msrp_text.specs.Records.{bytes_ahead, bytes_left, read_failed, reader_under, records_left}
@@ -135,6 +136,22 @@ abbrev pub StandsBehind : {R : Type 0} → (R → Option (List ℕ)) → List (L
 StandsBehind remaining records (Ok (Some r)) t = StandsIn remaining records t
 StandsBehind remaining records (Ok None) t = ⊤
 StandsBehind remaining records (Err error) t = IsRecordOf records error (record_read t)
+
+-- ---- the line of a record
+-- a reader has read as many records of a text as it has counted, and knows in which line the last of them begins, where that can be known
+abbrev pub HasReadIn : {R : Type 0} → (R → Option (List ℕ)) → List ℕ → TraceReader R → Type 0
+HasReadIn remaining text t = HasRead (λ s. source_remaining remaining s.now) text t.number t.records
+
+-- the last of them is the record of that number
+abbrev pub HasReadTo : {R : Type 0} → (R → Option (List ℕ)) → List ℕ → ℕ → TraceReader R → Type 0
+HasReadTo remaining text number t = HasReadIn remaining text t × (t.number ≡ number)
+
+-- behind a row the reader has read it, and behind a refusal the refused record
+abbrev pub HasReadBehind : {R : Type 0} → (R → Option (List ℕ)) → List ℕ → Result (Option Row) TraceError → TraceReader R → Type 0
+HasReadBehind remaining text (Ok (Some r)) t = HasReadIn remaining text t
+HasReadBehind remaining text (Ok None) t = ⊤
+HasReadBehind remaining text (Err (At fault number)) t = HasReadTo remaining text number t
+HasReadBehind remaining text (Err error) t = ⊤
 
 -- no reader was opened, by this error
 abbrev pub error_of : {R : Type 0} → Result (TraceReader R) Unopened → Result (TraceReader R) TraceError

@@ -1,11 +1,12 @@
 //! Trace text, read.
 ghost use Rattle.std.proofs.Props.{props};
 ghost use Rattle.std.specs.Option.{IfSome};
-ghost use Rattle.std.specs.Prelude.{◌+◌, ◌≡◌, ◌⊎◌, ◌↔◌, decimal, ℕ, List, Some, None, Ok, Err, IfOk, IfErr, OnOk, OnErr, true, false};
+ghost use Rattle.std.specs.Prelude.{◌+◌, ◌^◌, ◌<◌, ◌≤◌, length, IsSome, ◌≡◌, ◌⊎◌, ◌↔◌, decimal, ℕ, List, Some, None, Ok, Err, IfOk, IfErr, OnOk, OnErr, true, false};
 ghost use Rattle.msrp_plan.specs.Bytes.{source_failed, source_remaining};
 ghost use Rattle.csv.specs.Records.{fields_of};
 ghost use Rattle.msrp_text.specs.Plain.{BeginsWithDigit};
-ghost use Rattle.msrp_text.specs.Records.{bytes_ahead, csv_records, reader_under};
+ghost use Rattle.msrp_text.specs.Lines.{BeginsIn, HasRead};
+ghost use Rattle.msrp_text.specs.Records.{bytes_ahead, csv_records, reader_under, reads_csv};
 ghost use Rattle.msrp_plan.specs.WellFormed.{IsPlan};
 ghost use Rattle.msrp_trace.specs.Foreseen.{AreTexts, AreTextsOf};
 ghost use Rattle.msrp_trace.specs.Laws.{as_read, is_told_whole};
@@ -59,17 +60,19 @@ pub struct TraceReader<'a, R> {
     ghost texts: { AreTexts version plan.now foreseen } by { Prim.hlevel props },
 }
 
-/// Why no reader of a trace's rows could be opened, and the first record, if one was read.
+/// Why no reader of a trace's rows could be opened, and the first record, if one was read, with the line in which it begins, where that is known.
 #[derive(Drop)]
 pub struct Unopened {
     pub error: TraceError,
     pub first: ByteRecord,
+    pub line: Option<u64>,
 }
 
 // The refusal of the first record.
-fn no_head(first: ByteRecord) -> Unopened
+fn no_head(first: ByteRecord, line: Option<u64>) -> Unopened
     ensures error { result.error ≡ TraceError.At TraceFault.Head 1 }
     ensures first { result.first ≡ first }
+    ensures line { result.line ≡ line }
 {
     Unopened {
         error: TraceError::At {
@@ -77,7 +80,18 @@ fn no_head(first: ByteRecord) -> Unopened
             number: 1,
         },
         first,
+        line,
     }
+}
+
+// The line in which the record of that number begins, of which so many were read, where that is known.
+fn line_in<R: Read>(records: &RecordReader<R>, number: u32) -> Option<u64>
+    requires { 1 ≤ number }
+    ensures line { (text : List ℕ) → HasRead R.remaining text number records.now → IfSome result (BeginsIn text number) }
+    ensures known { (text : List ℕ) → HasRead R.remaining text number records.now → length text < 2 ^ 32 → reads_csv records.now ≡ false → IsSome result }
+{
+    let empty = records.empty_lines()?;
+    Some(u64::from(number) + u64::from(empty))
 }
 
 // Why no further record can be had: a read failed, or else memory was refused.
@@ -127,7 +141,7 @@ fn numbered_row(
 }
 
 impl<'a, R: Read> TraceReader<'a, R> {
-    ghost use Rattle.msrp_trace.specs.Readers.{BeginsAt, CanMeet, ComesNext, GivesFirstOr, GivesNext, HoldsUnlessFailed, IsAtTick, IsOfTrace, IsRecordOf, IsTextOf, Opens, StandsBehind, StandsIn, ahead_failed, error_of, has_failed, record_read, source_of, told_left};
+    ghost use Rattle.msrp_trace.specs.Readers.{BeginsAt, CanMeet, ComesNext, GivesFirstOr, GivesNext, HasReadBehind, HasReadIn, HasReadTo, HoldsUnlessFailed, IsAtTick, IsOfTrace, IsRecordOf, IsTextOf, Opens, StandsBehind, StandsIn, ahead_failed, error_of, has_failed, record_read, source_of, told_left};
 
     /// The rows of all that a source has left, for a trace of the plan. R1 is refused here.
     pub fn new(
@@ -155,17 +169,20 @@ impl<'a, R: Read> TraceReader<'a, R> {
         ensures goes { IfOk result (λ reader. has_failed reader ≡ false) }
         ensures plan { IfOk result (λ reader. reader.plan.now ≡ plan.now) }
         ensures stands { (bytes : List ℕ) → source_remaining R.remaining source.old ≡ Some bytes → IfOk result (StandsIn R.remaining (csv_records bytes)) }
+        ensures lines { (bytes : List ℕ) → source_remaining R.remaining source.old ≡ Some bytes → IfOk result (HasReadIn R.remaining bytes) }
         ensures refused { (bytes : List ℕ) → source_remaining R.remaining source.old ≡ Some bytes → IfErr result (λ unopened. IsRecordOf (csv_records bytes) unopened.error (fields_of unopened.first)) }
+        ensures refused_line { (bytes : List ℕ) → source_remaining R.remaining source.old ≡ Some bytes → IfErr result (λ unopened. IfSome unopened.line (BeginsIn bytes 1)) }
     {
         let mut records = RecordReader::new(alloc, source);
         let mut fields = ByteRecord::new(alloc);
         match records.read(&mut fields) {
             Ok(true) => {}
-            Ok(false) => return Err(no_head(ByteRecord::new(alloc))),
+            Ok(false) => return Err(no_head(ByteRecord::new(alloc), None)),
             Err(_) => {
                 return Err(Unopened {
                     error: stopped(&records),
                     first: fields,
+                    line: None,
                 });
             }
         }
@@ -180,7 +197,7 @@ impl<'a, R: Read> TraceReader<'a, R> {
                 number: 1,
                 state: ReaderState::Rows,
             }),
-            None => Err(no_head(fields)),
+            None => Err(no_head(fields, line_in(&records, 1))),
         }
     }
 
@@ -189,6 +206,18 @@ impl<'a, R: Read> TraceReader<'a, R> {
         ensures { fields_of result.now ≡ record_read self.now }
     {
         &self.fields
+    }
+
+    /// The line in which the record of that number begins, counted from 1. It is told of the record that was read last, which after a refusal is the refused
+    /// one, where it is known, as [`RecordReader::empty_lines`] says.
+    pub fn line_of(&self, number: u32) -> Option<u64>
+        ensures line { (text : List ℕ) → HasReadIn R.remaining text self.now → IfSome result (BeginsIn text number) }
+        ensures known { (text : List ℕ) → HasReadTo R.remaining text number self.now → 1 ≤ number → length text < 2 ^ 32 → reads_csv self.now.records ≡ false → IsSome result }
+    {
+        if number != self.number || number == 0 {
+            return None;
+        }
+        line_in(&self.records, number)
     }
 
     /// The next row, and none at the end of the text. After a refusal the reader answers [`TraceError::Failed`].
@@ -202,6 +231,7 @@ impl<'a, R: Read> TraceReader<'a, R> {
         ensures memory { result ≡ Err TraceError.Memory → source_failed (source_of self.new) ≡ false }
         ensures trace { IsOfTrace self.old self.new }
         ensures stands { (records : List (List (List ℕ))) → StandsIn R.remaining records self.old → StandsBehind R.remaining records result self.new }
+        ensures lines { (text : List ℕ) → HasReadIn R.remaining text self.old → HasReadBehind R.remaining text result self.new }
     {
         self.next_foreseen(|_core| None)
     }
@@ -219,6 +249,7 @@ impl<'a, R: Read> TraceReader<'a, R> {
         ensures comes { ComesNext R.remaining self.old row.now → (result ≡ true) ⊎ (ahead_failed self.new ≡ true) }
         ensures trace { IsOfTrace self.old self.new }
         ensures stands { (records : List (List (List ℕ))) → StandsIn R.remaining records self.old → StandsIn R.remaining records self.new }
+        ensures lines { (text : List ℕ) → HasReadIn R.remaining text self.old → HasReadIn R.remaining text self.new }
     {
         let Some(next) = self.number.checked_add(1) else {
             return false;
@@ -249,6 +280,7 @@ impl<'a, R: Read> TraceReader<'a, R> {
         ensures comes { ComesNext R.remaining self.old row.now → (result ≡ true) ⊎ (ahead_failed self.new ≡ true) }
         ensures trace { IsOfTrace self.old self.new }
         ensures stands { (records : List (List (List ℕ))) → StandsIn R.remaining records self.old → StandsIn R.remaining records self.new }
+        ensures lines { (text : List ℕ) → HasReadIn R.remaining text self.old → HasReadIn R.remaining text self.new }
     {
         let (tick, rest) = (self.foreseen.tick(), self.foreseen.rest(row.core));
         if !self.records.meets(tick, rest) {
@@ -288,6 +320,8 @@ impl<'a, R: Read> TraceReader<'a, R> {
         ensures finds { (row : Row) → IsTextOf self.old texts.now tick core.0 row → CanMeet self.old row → result ≡ true }
         ensures stands { (row : Row) (records : List (List (List ℕ))) → IsTextOf self.old texts.now tick core.0 row → StandsIn R.remaining records self.old → StandsIn R.remaining records self.new }
         ensures still { result ≡ false → (records : List (List (List ℕ))) → StandsIn R.remaining records self.old → StandsIn R.remaining records self.new }
+        ensures lines { (row : Row) (text : List ℕ) → IsTextOf self.old texts.now tick core.0 row → HasReadIn R.remaining text self.old → HasReadIn R.remaining text self.new }
+        ensures lines_still { result ≡ false → (text : List ℕ) → HasReadIn R.remaining text self.old → HasReadIn R.remaining text self.new }
     {
         let (Some(next_number), ReaderState::Rows) = (self.number.checked_add(1), self.state) else {
             return false;
@@ -315,6 +349,8 @@ impl<'a, R: Read> TraceReader<'a, R> {
         ensures finds { (row : Row) → IsTextOf self.old texts.now tick core.0 row → CanMeet self.old row → result ≡ true }
         ensures stands { (row : Row) (records : List (List (List ℕ))) → IsTextOf self.old texts.now tick core.0 row → StandsIn R.remaining records self.old → StandsIn R.remaining records self.new }
         ensures still { result ≡ false → (records : List (List (List ℕ))) → StandsIn R.remaining records self.old → StandsIn R.remaining records self.new }
+        ensures lines { (row : Row) (text : List ℕ) → IsTextOf self.old texts.now tick core.0 row → HasReadIn R.remaining text self.old → HasReadIn R.remaining text self.new }
+        ensures lines_still { result ≡ false → (text : List ℕ) → HasReadIn R.remaining text self.old → HasReadIn R.remaining text self.new }
     {
         let Some(after) = self.number.checked_add(1) else {
             return false;
@@ -341,6 +377,7 @@ impl<'a, R: Read> TraceReader<'a, R> {
         ensures going { ¬ (result ≡ None) → has_failed self.old ≡ false }
         ensures trace { IsOfTrace self.old self.new }
         ensures stands { (records : List (List (List ℕ))) → StandsIn R.remaining records self.old → StandsIn R.remaining records self.new }
+        ensures lines { (text : List ℕ) → HasReadIn R.remaining text self.old → HasReadIn R.remaining text self.new }
         ensures here { ¬ (result ≡ None) → IsAtTick tick self.new }
         ensures finds { self.old.state ≡ ReaderState.Rows → (core : CoreId) → BeginsWithDigit (decimal tick) (48 + core.0) (bytes_ahead self.new.records) → result ≡ Some core }
     {
@@ -361,6 +398,8 @@ impl<'a, R: Read> TraceReader<'a, R> {
         ensures kept { (told : Told) → told_left R.remaining self.old ≡ Some told → told_left R.remaining self.new ≡ Some told }
         ensures same { has_failed self.new ≡ has_failed self.old }
         ensures trace { IsOfTrace self.old self.new }
+        ensures stands { (records : List (List (List ℕ))) → StandsIn R.remaining records self.old → StandsIn R.remaining records self.new }
+        ensures lines { (text : List ℕ) → HasReadIn R.remaining text self.old → HasReadIn R.remaining text self.new }
     {
         self.foreseen.to_tick(tick);
         self.core_guessed()
@@ -376,6 +415,7 @@ impl<'a, R: Read> TraceReader<'a, R> {
         ensures going { ¬ (result ≡ None) → has_failed self.old ≡ false }
         ensures trace { IsOfTrace self.old self.new }
         ensures stands { (records : List (List (List ℕ))) → StandsIn R.remaining records self.old → StandsIn R.remaining records self.new }
+        ensures lines { (text : List ℕ) → HasReadIn R.remaining text self.old → HasReadIn R.remaining text self.new }
     {
         let Some(next) = self.number.checked_add(1) else {
             return None;
@@ -414,6 +454,7 @@ impl<'a, R: Read> TraceReader<'a, R> {
         ensures memory { result ≡ Err TraceError.Memory → source_failed (source_of self.new) ≡ false }
         ensures trace { IsOfTrace self.old self.new }
         ensures stands { (records : List (List (List ℕ))) → StandsIn R.remaining records self.old → StandsBehind R.remaining records result self.new }
+        ensures lines { (text : List ℕ) → HasReadIn R.remaining text self.old → HasReadBehind R.remaining text result self.new }
     {
         if let Some(row) = self.next_again() {
             return Ok(Some(row));
@@ -438,6 +479,7 @@ impl<'a, R: Read> TraceReader<'a, R> {
         ensures memory { result ≡ Err TraceError.Memory → source_failed (source_of self.new) ≡ false }
         ensures trace { IsOfTrace self.old self.new }
         ensures stands { (records : List (List (List ℕ))) → StandsIn R.remaining records self.old → StandsBehind R.remaining records result self.new }
+        ensures lines { (text : List ℕ) → HasReadIn R.remaining text self.old → HasReadBehind R.remaining text result self.new }
     {
         if let Some(row) = self.core_guessed().and_then(foresee) {
             let row = self.as_read(row);
@@ -470,6 +512,7 @@ impl<'a, R: Read> TraceReader<'a, R> {
         ensures memory { result ≡ Err TraceError.Memory → source_failed (source_of self.new) ≡ false }
         ensures trace { IsOfTrace self.old self.new }
         ensures stands { (records : List (List (List ℕ))) → StandsIn R.remaining records self.old → StandsBehind R.remaining records result self.new }
+        ensures lines { (text : List ℕ) → HasReadIn R.remaining text self.old → HasReadBehind R.remaining text result self.new }
     {
         let answer = match self.state {
             ReaderState::Rows => self.read_next(),
@@ -490,6 +533,7 @@ impl<'a, R: Read> TraceReader<'a, R> {
         ensures memory { result ≡ Err TraceError.Memory → source_failed (source_of self.new) ≡ false }
         ensures trace { IsOfTrace self.old self.new }
         ensures stands { (records : List (List (List ℕ))) → StandsIn R.remaining records self.old → StandsBehind R.remaining records result self.new }
+        ensures lines { (text : List ℕ) → HasReadIn R.remaining text self.old → HasReadBehind R.remaining text result self.new }
     {
         let Some(number) = self.number.checked_add(1) else {
             // A source gives far fewer bytes than so many records take.
@@ -500,6 +544,7 @@ impl<'a, R: Read> TraceReader<'a, R> {
             Ok(false) => return Ok(None),
             Err(_) => return Err(stopped(&self.records)),
         }
+        self.number = number;
         let row = numbered_row(
             self.plan,
             self.version,
@@ -507,7 +552,6 @@ impl<'a, R: Read> TraceReader<'a, R> {
             &self.fields,
             number,
         )?;
-        self.number = number;
         self.foreseen.keep(self.plan, self.version, &row);
         Ok(Some(row))
     }

@@ -2,6 +2,7 @@
 use Rattle.std.specs.Prelude.{ℕ, Bool, List, [], ◌++◌, ◌+◌, ◌*◌, ◌/◌, ◌&&◌, nat_lt, length, codes, decimal, Option, Some, None, if◌then◌else◌}
 use Rattle.std.specs.List.{flat_map}
 use Rattle.std.specs.Option.{is_some}
+use Rattle.msrp_advice.specs.Refusals.{line_part}
 use Rattle.msrp_core.specs.declared.states.CoreState.{CoreState}
 use Rattle.msrp_plan.specs.Plan.{PlanModel, core_of, key, task_of, units}
 use Rattle.msrp_plan.specs.Jobs.{is_job, jobs_of}
@@ -22,9 +23,9 @@ version_told r = if is_some r.ahead then V2 else V1
 abbrev pub told_row : PlanModel → Row → List ℕ
 told_row plan r = if is_named plan r then row_text (version_told r) plan r else codes "?\n"
 
--- which row it is; the first record of a trace is no row. No field of the records before it goes over the end of a line
-abbrev pub place_line : PlanModel → ℕ → Row → List ℕ
-place_line plan n r = codes "row " ++ (decimal n ++ (codes " is record " ++ (decimal (n + 1) ++ (codes " of the trace, line " ++ (decimal (n + 1) ++ (codes " if no line before it is empty: " ++ told_row plan r))))))
+-- which row it is, and its line, where that is known; the first record of a trace is no row
+abbrev pub place_line : PlanModel → Option ℕ → ℕ → Row → List ℕ
+place_line plan line n r = codes "row " ++ (decimal n ++ (codes " is record " ++ (decimal (n + 1) ++ (codes " of the trace" ++ (line_part line ++ (codes ": " ++ told_row plan r))))))
 
 -- a rule in words
 unfoldable pub rule_line : Rule → List ℕ

@@ -1,6 +1,7 @@
 -- What is written of a refused record of a trace: its code and number with a sentence, and the record as it stands.
-use Rattle.std.specs.Prelude.{ℕ, List, [], ◌++◌, ◌==◌, length, codes, decimal, slice_get, unwrap_or, if◌then◌else◌}
+use Rattle.std.specs.Prelude.{ℕ, List, [], ◌++◌, Option, length, codes, decimal, slice_get, unwrap_or}
 use Rattle.std.specs.List.{flat_map, range_with_len}
+use Rattle.msrp_advice.specs.Refusals.{line_part}
 use Rattle.msrp_advice.specs.Shown.{shown_record, wrong_field}
 use Rattle.msrp_plan.specs.Plan.{PlanModel, task_at}
 use Rattle.msrp_trace.specs.Codes.{code_of}
@@ -55,20 +56,16 @@ allowed_text plan UnknownResource = flat_map (res_text plan) (range_with_len 0 (
 allowed_text plan _ = []
 
 -- ---- the record
--- the line in which a record begins; no field of those before it goes over the end of a line, and the end of the text has no line
-abbrev pub line_part : ℕ → List (List ℕ) → List ℕ
-line_part number fields = if length fields == 0 then [] else codes ", line " ++ (decimal number ++ codes " if no line before it is empty")
-
--- the number of a record and its line, and the record
-abbrev pub record_line : ℕ → List (List ℕ) → List ℕ
-record_line number fields = codes "record " ++ (decimal number ++ (line_part number fields ++ (codes ": " ++ (shown_record fields ++ codes "\n"))))
+-- the number of a record and its line, where that is known, and the record
+abbrev pub record_line : ℕ → Option ℕ → List (List ℕ) → List ℕ
+record_line number line fields = codes "record " ++ (decimal number ++ (line_part line ++ (codes ": " ++ (shown_record fields ++ codes "\n"))))
 
 -- ---- both
 -- the field that is wrong, what it should be, and what the plan allows
 abbrev pub said_of : PlanModel → Misfit → List (List ℕ) → List ℕ
 said_of plan misfit fields = wrong_field fields (place_of misfit fields) ++ (words misfit ++ allowed_text plan misfit)
 
--- what is written of a record of that number which has that fault
-abbrev pub refused_text : PlanModel → TraceFault → ℕ → List (List ℕ) → List ℕ
-refused_text plan fault number fields =
-    codes "R" ++ (decimal (code_of fault) ++ (codes " at record " ++ (decimal number ++ (codes ": " ++ (said_of plan (misfit_of plan fault fields) fields ++ (codes "\n" ++ record_line number fields))))))
+-- what is written of a record of that number, which begins in that line and has that fault
+abbrev pub refused_text : PlanModel → TraceFault → ℕ → Option ℕ → List (List ℕ) → List ℕ
+refused_text plan fault number line fields =
+    codes "R" ++ (decimal (code_of fault) ++ (codes " at record " ++ (decimal number ++ (codes ": " ++ (said_of plan (misfit_of plan fault fields) fields ++ (codes "\n" ++ record_line number line fields))))))

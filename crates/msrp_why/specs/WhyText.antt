@@ -20,7 +20,7 @@ facts_text plan cause A7 = rows_line plan ++ before_lines plan cause.notes.last
 
 -- the row, the rule, and the facts
 abbrev pub cause_text : PlanModel → Cause → List ℕ
-cause_text plan cause = place_line plan cause.fault.row cause.row ++ (rule_line cause.fault.rule ++ facts_text plan cause cause.fault.rule)
+cause_text plan cause = place_line plan cause.line cause.fault.row cause.row ++ (rule_line cause.fault.rule ++ facts_text plan cause cause.fault.rule)
 
 -- of rows that are missing: how many are due, how many came, and the last of them
 abbrev pub missing_text : PlanModel → Notes → List ℕ

@@ -23,6 +23,8 @@ pub struct Cause {
     pub fault: Fault,
     /// The row that breaks the rule.
     pub row: Row,
+    /// The line in which its record begins, where that is known.
+    pub line: Option<u64>,
     /// The row that was due of its core, where the row is in its turn.
     pub due: Option<Row>,
     /// What decided before the row who had the turn of its core, where the plan has the core.
@@ -64,24 +66,27 @@ fn cores_due(plan: &Plan, auditor: &Auditor<'_>) -> ArrayVec<u32, MOST_TURNS>
     found
 }
 
-/// The cause of the fault of a row, which an auditor has judged: `due` is the row that was due of its core, where the row is in its turn, and the
-/// notes are those of the rows before it.
+/// The cause of the fault of a row, which an auditor has judged: `due` is the row that was due of its core, where the row is in its turn, the
+/// notes are those of the rows before it, and `line` is the line in which its record begins, where that is known.
 pub fn cause_of(
     plan: &Plan,
     auditor: &Auditor<'_>,
     notes: Notes,
     due: Option<Row>,
     row: Row,
+    line: Option<u64>,
     fault: Fault,
 ) -> Cause
     requires plan { auditor.now.plan ≡ plan.now }
-    ensures { (rows : List TraceRow) → fault_in plan.now rows ≡ None → IsBroken plan.now rows row fault due auditor.now → AreNoted plan.now rows notes → IsCauseAfter plan.now rows row result }
+    ensures cause { (rows : List TraceRow) → fault_in plan.now rows ≡ None → IsBroken plan.now rows row fault due auditor.now → AreNoted plan.now rows notes → IsCauseAfter plan.now rows row result }
+    ensures line { result.line ≡ line }
 {
     let turns = cores_due(plan, auditor);
     let state = notes.state(row.core);
     Cause {
         fault,
         row,
+        line,
         due,
         state,
         turns,

@@ -2,6 +2,7 @@
 ghost use Rattle.std.specs.Prelude.{◌≡◌, ◌<◌, ◌-◌, decimal, true, length};
 ghost use Rattle.std.specs.List.{flat_map};
 ghost use Rattle.std.specs.Option.{IsSome};
+ghost use Rattle.msrp_advice.specs.Refusals.{line_part};
 ghost use Rattle.msrp_plan.specs.Bytes.{Wrote};
 ghost use Rattle.msrp_plan.specs.Plan.{release_tick};
 ghost use Rattle.msrp_trace.specs.TraceText.{is_named, row_text};
@@ -56,16 +57,26 @@ pub(crate) fn write_row<W: Write>(out: &mut Sink<W>, plan: &Plan, row: Row)
     }
 }
 
-fn write_place<W: Write>(out: &mut Sink<W>, plan: &Plan, number: u32, row: Row)
-    ensures { Wrote W.contents out.old out.new (place_line plan.now number row) }
+// The number of a line, where it is known.
+pub(crate) fn write_line_part<W: Write>(out: &mut Sink<W>, line: Option<u64>)
+    ensures { Wrote W.contents out.old out.new (line_part line) }
+{
+    if let Some(known) = line {
+        out.add(b", line ");
+        write_number(out, known);
+    }
+}
+
+fn write_place<W: Write>(out: &mut Sink<W>, plan: &Plan, line: Option<u64>, number: u32, row: Row)
+    ensures { Wrote W.contents out.old out.new (place_line plan.now line number row) }
 {
     out.add(b"row ");
     write_number(out, u64::from(number));
     out.add(b" is record ");
     write_number(out, u64::from(number) + 1);
-    out.add(b" of the trace, line ");
-    write_number(out, u64::from(number) + 1);
-    out.add(b" if no line before it is empty: ");
+    out.add(b" of the trace");
+    write_line_part(out, line);
+    out.add(b": ");
     write_row(out, plan, row);
 }
 
@@ -312,7 +323,7 @@ pub fn write_cause<W: Write>(out: &mut Sink<W>, plan: &Plan, levels: &Levels<'_>
     requires levels { levels.now ≡ plan.now }
     ensures { Wrote W.contents out.old out.new (cause_text plan.now cause.now) }
 {
-    write_place(out, plan, cause.fault.row, cause.row);
+    write_place(out, plan, cause.line, cause.fault.row, cause.row);
     out.add(rule_words(cause.fault.rule));
     write_facts(out, plan, levels, cause);
 }

@@ -1,6 +1,7 @@
 use Rattle.std.proofs.Common.{◌≡◌, ◌==◌, ◌⊎◌, ◌<◌, ◌++◌, ℕ, List, Some, true, length, inl, inr, sym, subst, arith}
 use Rattle.std.specs.List.{list_any}
 use mathlib.Core.Bool.{true≢false}
+use Rattle.msrp_text.specs.Lines.{HasRead}
 use Rattle.msrp_text.specs.Plain.{BeginsWith}
 use Rattle.msrp_text.specs.Records.{bytes_ahead, bytes_left, read_failed}
 use Rattle.msrp_text.specs.declared.front.TheConstants.{LONGEST}
@@ -19,6 +20,23 @@ returns-in-Some-clause-begins g c = λ yes bytes known.
     ] in
     let met = rw c.ahead-2.ensures at c.in-Some.ensures.line in
     begins-known g.R.Read.remaining reader bytes line here (begins-taken line (bytes_ahead reader) c.in-Some.taken met.2)
+
+pub returns-in-Some-clause-line : goal.returns-in-Some-clause-line
+returns-in-Some-clause-line g c = λ yes plain bytes number read.
+    let line = c.args.front.now ++ c.args.rest.now in
+    let reader = c.if-ahead-le-LONGEST.self in
+    let here : HasRead g.R.Read.remaining bytes number reader = elim c.if-ahead-le-LONGEST.branch [
+      | then-ahead-le-LONGEST w ↦ rw w.self-is (w.read_line_ahead.ensures.still bytes number read)
+      | else-ahead-le-LONGEST w ↦ rw w.self-is read
+    ] in
+    let met = rw c.ahead-2.ensures at c.in-Some.ensures.line in
+    c.take_line.ensures.line line bytes number met.2 plain here.taken
+
+pub returns-in-None-clause-still : goal.returns-in-None-clause-still
+returns-in-None-clause-still g c = λ no bytes number read. elim c.if-ahead-le-LONGEST.branch [
+  | then-ahead-le-LONGEST w ↦ rw w.self-is (w.read_line_ahead.ensures.still bytes number read)
+  | else-ahead-le-LONGEST w ↦ rw w.self-is read
+]
 
 pub returns-in-None-clause-finds : goal.returns-in-None-clause-finds
 returns-in-None-clause-finds g c = λ bytes known few plain begins.

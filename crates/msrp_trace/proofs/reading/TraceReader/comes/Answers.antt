@@ -6,6 +6,7 @@ use Rattle.msrp_trace.proofs.Shown.{line_text, no_line}
 use Rattle.msrp_trace.proofs.Standing.{line_stands}
 use Rattle.msrp_trace.proofs.Telling.{keeps_told}
 use Rattle.msrp_trace.specs.Reading.{told_after}
+use Rattle.msrp_trace.proofs.Lining.{record_more}
 use Rattle.msrp_trace.proofs.reading.TraceReader.comes.Goals as goal
 
 pub invariant_of-self : goal.invariant_of-self
@@ -52,3 +53,20 @@ returns-else-met-clause-stands g c = λ row records is stands. c.meets-met.ensur
 
 pub returns-else-met-clause-still : goal.returns-else-met-clause-still
 returns-else-met-clause-still g c = λ no records stands. c.meets-met.ensures.kept no _ stands
+
+pub returns-then-met-clause-lines : goal.returns-then-met-clause-lines
+returns-then-met-clause-lines g c = λ row bytes is read.
+    let old = c.args.self.now in
+    let text : (slice_index_or c.texts.inside.lines (c.args.core.0 % 8) no_line).line ≡ after_tick old.version old.plan.now row = line_text c.args.texts.now c.texts.inside c.args.core.0 c.texts.view_is ∙ is.text in
+    let rest = c.rest_of-rest.ensures no_line _ text in
+    let tick : c.tick-tick.result.now ≡ decimal row.tick = c.tick-tick.ensures ∙ ap decimal (c.to_tick.ensures.tick ∙ sym is.tick) in
+    let line = row_line old.version old.plan.now row c.tick-tick.result.now c.rest_of-rest.result.now tick (ap (λ (t : List ℕ). t ++ codes "\n") (sym rest)) in
+    let number : c.in-Some-Rows.next_number ≡ old.number + 1 = search rules in
+    let plain = whole_line old.version old.plan.now row (c.tick-tick.result.now ++ c.rest_of-rest.result.now) c.tasks-accepted.ensures.plan is.whole line in
+    record_more _ bytes old.number c.in-Some-Rows.next_number _ number (c.meets-met.ensures.line c.if-met.true plain.0 bytes old.number read)
+
+pub returns-else-met-clause-lines : goal.returns-else-met-clause-lines
+returns-else-met-clause-lines g c = λ row bytes is read. c.meets-met.ensures.still c.if-met.false bytes _ read
+
+pub returns-else-met-clause-lines_still : goal.returns-else-met-clause-lines_still
+returns-else-met-clause-lines_still g c = λ no bytes read. c.meets-met.ensures.still no bytes _ read

@@ -20,3 +20,9 @@ pub returns-in-None-clause-finds : goal.returns-in-None-clause-finds
 returns-in-None-clause-finds g c = λ rows core begins.
     let there = digit_behind c.digit_after.result c.tick.result.now c.args.tick core.0 _ (c.tick.ensures ∙ ap decimal c.to_tick.ensures.tick) c.digit_after.ensures.finds begins in
     absurd (none-some (48 + core.0) (sym c.in-None.is ∙ there))
+
+pub returns-in-Some-clause-lines : goal.returns-in-Some-clause-lines
+returns-in-Some-clause-lines g c = λ bytes read. c.digit_after.ensures.still bytes _ read
+
+pub returns-in-None-clause-lines : goal.returns-in-None-clause-lines
+returns-in-None-clause-lines g c = λ bytes read. c.digit_after.ensures.still bytes _ read

@@ -7,6 +7,7 @@ use Rattle.msrp_trace.specs.Reading.{Told}
 use Rattle.msrp_trace.specs.Readers.{GivesNext, told_left}
 use Rattle.msrp_trace.specs.declared.foreseen.Foreseen.{Foreseen}
 use Rattle.msrp_trace.proofs.Shown.{no_line}
+use Rattle.msrp_trace.proofs.reading.TraceReader.next_again.Goals.{else-eq-via-then-eq+then-is_short+else-takes, else-eq-via-then-eq+else-is_short, else-eq-via-else-eq}
 use Rattle.msrp_trace.proofs.reading.TraceReader.next_again.Goals as goal
 
 pub takes-requires-clause-whole : goal.takes-requires-clause-whole
@@ -37,3 +38,10 @@ returns-then-takes-clause-kept g c = λ none.
     let same : c.last.result ≡ Some c.in-Some-alike.row = c.last.ensures no_line ∙ (ap here c.takes.ensures.texts ∙ c.in-Some-alike.ensures.last no_line) in
     let no : None ≡ Some c.in-Some-alike.row = sym none ∙ same in
     absurd (cc)
+
+pub returns-clause-lines : goal.returns-clause-lines
+returns-clause-lines g c = λ bytes read. elim c.else-eq.branch [
+  | else-eq-via-then-eq+then-is_short+else-takes w ↦ rw w.self-is (w.takes.ensures.lines bytes read)
+  | else-eq-via-then-eq+else-is_short w ↦ rw w.self-is read
+  | else-eq-via-else-eq w ↦ rw w.self-is read
+]

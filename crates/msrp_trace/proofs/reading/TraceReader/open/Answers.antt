@@ -1,4 +1,4 @@
-use Rattle.std.proofs.Common.{◌≡◌, ℕ, refl, sym, ◌∙◌, ap, subst, List, Some, None, Err, drop}
+use Rattle.std.proofs.Common.{◌≡◌, ℕ, refl, sym, ◌∙◌, ap, subst, List, Some, None, Err, drop, Ok}
 use Rattle.csv.specs.Records.{fields_of}
 use Rattle.msrp_text.proofs.Remaining.{gave-none, gave-one}
 use Rattle.msrp_text.specs.Reading.{record_at}
@@ -9,6 +9,8 @@ use Rattle.msrp_trace.specs.Rows.{version_told}
 use Rattle.msrp_trace.specs.declared.reading.ReaderState.TheVariants.{Rows}
 use Rattle.msrp_trace.proofs.Standing.{head_refused, stopped_stands}
 use Rattle.msrp_trace.proofs.Telling.{opens_none, opens_some, rows_left, version_first, version_none}
+use Rattle.std.specs.Option.{IfSome}
+use Rattle.msrp_text.specs.Lines.{BeginsIn}
 use Rattle.msrp_trace.proofs.reading.TraceReader.open.Goals as goal
 
 pub returns-in-Ok-false-clause-opens : goal.returns-in-Ok-false-clause-opens
@@ -48,3 +50,11 @@ returns-clause-refused g c = λ bytes known.
 
 pub invariant_of-result : goal.invariant_of-result
 invariant_of-result g c = record { texts = c.new-in-Some-2.ensures c.in-Some.version c.args.plan.now }
+
+pub returns-in-Some-clause-lines : goal.returns-in-Some-clause-lines
+returns-in-Some-clause-lines g c = λ bytes known. c.in-Ok-true.ensures.line (ap (λ b. Ok b) c.in-Ok-true.field-0-test) bytes 0 (c.new-records.ensures.start bytes known)
+
+pub returns-clause-refused_line : goal.returns-clause-refused_line
+returns-clause-refused_line g c = λ bytes known.
+    let read = c.in-Ok-true.ensures.line (ap (λ b. Ok b) c.in-Ok-true.field-0-test) bytes 0 (c.new-records.ensures.start bytes known) in
+    subst (λ o. IfSome o (BeginsIn bytes 1)) (sym c.no_head-in-None.ensures.line) (c.line_in.ensures.line bytes read)

@@ -1,8 +1,9 @@
-use Rattle.std.proofs.Common.{rules, ◌≡◌, ◌+◌, Err}
+use Rattle.std.proofs.Common.{rules, ◌≡◌, ◌+◌, Err, Ok, ap, refl}
 use Rattle.msrp_text.proofs.Remaining.{gave-none, gave-one}
 use Rattle.msrp_trace.specs.Reading.{told_after}
 use Rattle.msrp_trace.proofs.Telling.{answers_end, answers_refusal, answers_row, left_rows, rows_left}
 use Rattle.msrp_trace.proofs.Standing.{error_behind, next_stands, refused_stands}
+use Rattle.msrp_trace.proofs.Lining.{record_more, refused_lines}
 use Rattle.msrp_trace.proofs.reading.TraceReader.read_next.Goals as goal
 
 pub returns-in-Ok-false-clause-next : goal.returns-in-Ok-false-clause-next
@@ -44,3 +45,17 @@ returns-clause-stands g c = λ records stands.
     let old = c.args.self.now in
     let number : c.in-Some.number ≡ old.number + 1 = search rules in
     (next_stands records old.number c.in-Some.number c.in-Ok-true.field-0 _ _ (c.in-Ok-true.ensures.next _ stands) c.in-Ok-true.field-0-test number).0
+
+pub returns-in_err-row-clause-lines : goal.returns-in_err-row-clause-lines
+returns-in_err-row-clause-lines g c = λ bytes read.
+    let old = c.args.self.now in
+    let number : c.in-Some.number ≡ old.number + 1 = search rules in
+    let e : c.from_residual.result ≡ Err c.in_err-row.field-0.0 = search rules in
+    let next = record_more _ bytes old.number c.in-Some.number _ number (c.in-Ok-true.ensures.line (ap (λ b. Ok b) c.in-Ok-true.field-0-test) bytes old.number read) in
+    refused_lines g.R.Read.remaining bytes c.in-Some.number _ _ c.numbered_row.result c.in_err-row.field-0.0 _ _ c.numbered_row.ensures c.in_err-row.was e (next, refl)
+
+pub returns-clause-lines : goal.returns-clause-lines
+returns-clause-lines g c = λ bytes read.
+    let old = c.args.self.now in
+    let number : c.in-Some.number ≡ old.number + 1 = search rules in
+    record_more _ bytes old.number c.in-Some.number _ number (c.in-Ok-true.ensures.line (ap (λ b. Ok b) c.in-Ok-true.field-0-test) bytes old.number read)

@@ -3,6 +3,7 @@ use Rattle.msrp_trace.specs.declared.line.RowLine.{RowLine}
 use Rattle.msrp_trace.proofs.MetRows.{met_row, row_begins, row_line}
 use Rattle.msrp_trace.proofs.ReadBack.{short_line, whole_line}
 use Rattle.msrp_trace.proofs.Standing.{line_stands}
+use Rattle.msrp_trace.proofs.Lining.{record_more}
 use Rattle.msrp_trace.proofs.reading.TraceReader.takes.Goals as goal
 
 pub returns-clause-taken : goal.returns-clause-taken
@@ -56,3 +57,18 @@ returns-clause-stands g c = λ records stands.
     let line = row_line old.version old.plan.now r c.tick-tick.result.now c.rest-rest.result.now tick (ap (λ t. t ++ codes "\n") (sym rest)) in
     let plain = whole_line old.version old.plan.now r (c.tick-tick.result.now ++ c.rest-rest.result.now) c.requires.plan c.requires.whole line in
     line_stands records old.number c.args.next _ _ _ (c.meets.ensures.taken c.if-not-meets.false plain.0) c.requires.number stands
+
+pub returns-then-not-meets-clause-lines : goal.returns-then-not-meets-clause-lines
+returns-then-not-meets-clause-lines g c = λ bytes read. c.meets.ensures.still c.if-not-meets.true bytes _ read
+
+pub returns-clause-lines : goal.returns-clause-lines
+returns-clause-lines g c = λ bytes read.
+    let old = c.args.self.now in
+    let r = c.args.row.now in
+    let none : RowLine = record { row = None; line = []; job = record { job = None; text = [] } } in
+    let texts = c.requires.texts in
+    let rest = c.rest-rest.ensures none _ (texts.line none) in
+    let tick : c.tick-tick.result.now ≡ decimal r.tick = c.tick-tick.ensures ∙ ap decimal texts.tick in
+    let line = row_line old.version old.plan.now r c.tick-tick.result.now c.rest-rest.result.now tick (ap (λ t. t ++ codes "\n") (sym rest)) in
+    let plain = whole_line old.version old.plan.now r (c.tick-tick.result.now ++ c.rest-rest.result.now) c.requires.plan c.requires.whole line in
+    record_more _ bytes old.number c.args.next _ c.requires.number (c.meets.ensures.line c.if-not-meets.false plain.0 bytes old.number read)

@@ -1,0 +1,28 @@
+//! Bytes that end lines, and how many empty lines they make.
+ghost use Rattle.std.specs.Prelude.{◌^◌, IsSome, ◌≡◌, ◌<◌, ◌+◌, ◌==◌, ℕ, Some, true, false, if◌then◌else◌};
+ghost use Rattle.msrp_text.specs.Lines as due;
+
+use crate::front::MARK;
+
+/// LF or CR.
+pub(crate) fn is_break(byte: u8) -> bool
+    ensures { result ≡ due.is_break byte }
+{
+    byte == b'\n' || byte == b'\r'
+}
+
+/// So many empty lines, and one more where one ends, as long as they can be counted.
+pub(crate) fn counted(passed: Option<u32>, ends: bool) -> Option<u32>
+    ensures value { (now : ℕ) → result ≡ Some now → (before : ℕ) × (passed ≡ Some before) × (now ≡ if ends then before + 1 else before) }
+    ensures counts { (before : ℕ) → passed ≡ Some before → before + 1 < 2 ^ 32 → IsSome result }
+{
+    if ends { passed?.checked_add(1) } else { passed }
+}
+
+/// Whether a record begins with that byte, and no byte order mark does.
+pub(crate) fn begins_record(byte: u8) -> bool
+    ensures record { result ≡ true → due.is_break byte ≡ false }
+    ensures mark { result ≡ true → (byte == 239) ≡ false }
+{
+    !is_break(byte) && byte != MARK
+}
