@@ -6,7 +6,7 @@ ghost use Rattle.msrp_plan.specs.WellFormed.{IsPlan};
 ghost use Rattle.msrp_plan.specs.declared.rows.Row.{Row as TraceRow};
 ghost use Rattle.msrp_trace.specs.Laws.{is_short};
 ghost use Rattle.msrp_trace.specs.Reading.{Told};
-ghost use Rattle.msrp_trace.specs.Readers.{BeginsAt, GivesNext, IsAtTick, IsOfTrace, StandsBehind, StandsIn, source_of};
+ghost use Rattle.msrp_trace.specs.Readers.{BeginsAt, GivesNext, HasReadBehind, HasReadIn, IsAtTick, IsOfTrace, StandsBehind, StandsIn, source_of};
 ghost use Rattle.msrp_trace.specs.Texts.{text_of_core};
 ghost use Rattle.msrp_engine.specs.Inside.Kept.{IsKept, KeepsKnown};
 
@@ -167,6 +167,7 @@ impl<'p, 't, T: Read> JudgedRows<'p, 't, T> {
         ensures judged { (rows : List TraceRow) → Awaits self.old.auditor rows due.core.0 due → IsJudged self.old.auditor.plan rows result self.new }
         ensures read { (told : Told) → rows_left T.remaining self.old ≡ Some told → BeginsAt due.tick due.core told → result ≡ Err TraceError.Read → source_failed (source_of self.new.rows) ≡ true }
         ensures stands { (records : List (List (List ℕ))) → StandsIn T.remaining records self.old.rows → StandsBehind T.remaining records (row_told result) self.new.rows }
+        ensures lines { (text : List ℕ) → HasReadIn T.remaining text self.old.rows → HasReadBehind T.remaining text (row_told result) self.new.rows }
     {
         match self.rows.next_row()? {
             Some(row) if row.tick == due.tick && row.core == due.core => Ok(self.judge(due, row)),
@@ -190,6 +191,7 @@ impl<'p, 't, T: Read> JudgedRows<'p, 't, T> {
         ensures judged { (rows : List TraceRow) → Awaits self.old.auditor rows core.0 due → tick ≡ due.tick → IsJudged self.old.auditor.plan rows result self.new }
         ensures read { (told : Told) (rows : List TraceRow) → rows_left T.remaining self.old ≡ Some told → BeginsAt tick core told → Awaits self.old.auditor rows core.0 due → tick ≡ due.tick → result ≡ Err TraceError.Read → source_failed (source_of self.new.rows) ≡ true }
         ensures stands { (records : List (List (List ℕ))) → StandsIn T.remaining records self.old.rows → StandsBehind T.remaining records (row_told result) self.new.rows }
+        ensures lines { (text : List ℕ) → HasReadIn T.remaining text self.old.rows → HasReadBehind T.remaining text (row_told result) self.new.rows }
     {
         if self.whole[core.0 as usize] && self.rows.comes_behind(tick, &self.texts, core) {
             self.auditor.accept();
@@ -211,6 +213,7 @@ impl<'p, 't, T: Read> JudgedRows<'p, 't, T> {
         ensures judged { (rows : List TraceRow) → HasFed self.old.auditor rows → tick ≡ length rows / self.old.auditor.plan.cores → IsJudged self.old.auditor.plan rows result self.new }
         ensures read { (told : Told) (rows : List TraceRow) → rows_left T.remaining self.old ≡ Some told → BeginsAt tick core told → HasFed self.old.auditor rows → tick ≡ length rows / self.old.auditor.plan.cores → result ≡ Err TraceError.Read → source_failed (source_of self.new.rows) ≡ true }
         ensures stands { (records : List (List (List ℕ))) → StandsIn T.remaining records self.old.rows → StandsBehind T.remaining records (row_told result) self.new.rows }
+        ensures lines { (text : List ℕ) → HasReadIn T.remaining text self.old.rows → HasReadBehind T.remaining text (row_told result) self.new.rows }
     {
         let due = self.turn_anew(core);
         self.next_due(tick, core, due)
@@ -229,6 +232,7 @@ impl<'p, 't, T: Read> JudgedRows<'p, 't, T> {
         ensures judged { (rows : List TraceRow) → HasFed self.old.auditor rows → tick ≡ length rows / self.old.auditor.plan.cores → IsJudged self.old.auditor.plan rows result self.new }
         ensures read { (told : Told) (rows : List TraceRow) → rows_left T.remaining self.old ≡ Some told → BeginsAt tick core told → HasFed self.old.auditor rows → tick ≡ length rows / self.old.auditor.plan.cores → result ≡ Err TraceError.Read → source_failed (source_of self.new.rows) ≡ true }
         ensures stands { (records : List (List (List ℕ))) → StandsIn T.remaining records self.old.rows → StandsBehind T.remaining records (row_told result) self.new.rows }
+        ensures lines { (text : List ℕ) → HasReadIn T.remaining text self.old.rows → HasReadBehind T.remaining text (row_told result) self.new.rows }
     {
         match self.auditor.repeat(core) {
             Some(due) => self.next_due(tick, core, due),
@@ -246,6 +250,7 @@ impl<'p, 't, T: Read> JudgedRows<'p, 't, T> {
         ensures judged { (rows : List TraceRow) → HasFed self.old.auditor rows → self.old.auditor.fault ≡ None → IsJudged self.old.auditor.plan rows result self.new }
         ensures read { (told : Told) (rows : List TraceRow) → rows_left T.remaining self.old ≡ Some told → HasFed self.old.auditor rows → self.old.auditor.fault ≡ None → result ≡ Err TraceError.Read → source_failed (source_of self.new.rows) ≡ true }
         ensures stands { (records : List (List (List ℕ))) → StandsIn T.remaining records self.old.rows → StandsBehind T.remaining records (row_told result) self.new.rows }
+        ensures lines { (text : List ℕ) → HasReadIn T.remaining text self.old.rows → HasReadBehind T.remaining text (row_told result) self.new.rows }
     {
         let Some(row) = self.rows.next_row()? else {
             return Ok(Judgement::End);
@@ -266,6 +271,7 @@ impl<'p, 't, T: Read> JudgedRows<'p, 't, T> {
         ensures judged { (rows : List TraceRow) → HasFed self.old.auditor rows → self.old.auditor.fault ≡ None → IsJudged self.old.auditor.plan rows result self.new }
         ensures read { (told : Told) (rows : List TraceRow) → rows_left T.remaining self.old ≡ Some told → HasFed self.old.auditor rows → self.old.auditor.fault ≡ None → result ≡ Err TraceError.Read → source_failed (source_of self.new.rows) ≡ true }
         ensures stands { (records : List (List (List ℕ))) → StandsIn T.remaining records self.old.rows → StandsBehind T.remaining records (row_told result) self.new.rows }
+        ensures lines { (text : List ℕ) → HasReadIn T.remaining text self.old.rows → HasReadBehind T.remaining text (row_told result) self.new.rows }
     {
         let tick = self.auditor.tick();
         match self.rows.core_ahead(tick) {
