@@ -9,6 +9,7 @@ use Rattle.msrp_plan.specs.Aheads.{carries_its_ahead}
 use Rattle.msrp_plan.specs.Jobs.{is_queued, is_job}
 use Rattle.msrp_plan.specs.Choice.{choice}
 use Rattle.msrp_plan.specs.Actions.{same_res, is_global_unit, allows, is_idle, does_unit, does_next}
+use Rattle.msrp_plan.specs.Kinds.{same_kind}
 use Rattle.msrp_plan.specs.Queues.{fifo, replies, counts, is_free, is_first, is_reply_of}
 use Rattle.msrp_plan.specs.Runs.{IsLegal, is_in_turn, is_of_core, is_chosen, is_next_action, is_fifo_reply, replies_on, same_choice}
 use Rattle.msrp_plan.specs.Verdict.{broken}
@@ -20,8 +21,9 @@ use Rattle.msrp_plan.specs.declared.units.Op.TheVariants.{Run as RunUnit, Lock a
 use Rattle.msrp_plan.specs.declared.rows.Kind.{Kind}
 use Rattle.msrp_plan.specs.declared.rows.Kind.TheVariants.{Idle, Run, Lock, Unlock, Take, Queue, Spin, Grant, Release}
 use Rattle.msrp_plan.specs.declared.rows.Row.{Row}
+use Rattle.msrp_plan.proofs.SameKinds.{same_kind_is}
 use Rattle.msrp_plan.proofs.Legality.LegalRows.{IsTurn, same_res_is, same_choice_is, due, legal_turn, legal_due, idle_res}
-use Rattle.msrp_audit.specs.Foresight.{same_kind, same_action, same_ahead, does_alike, replied_alike, unlike}
+use Rattle.msrp_audit.specs.Foresight.{same_action, same_ahead, does_alike, replied_alike, unlike}
 
 -- ---- A3
 -- the job that is due is that of the core's turn
@@ -140,19 +142,6 @@ replies_alike q j Lock Lock a h = refl
 replies_alike q j Unlock Unlock a h = refl
 replies_alike q j Release Release a h = refl
 replies_alike q j _ _ a h = absurd (cc)
-
--- kinds that pass the test are equal
-pub same_kind_is : (a b : Kind) → same_kind a b ≡ true → a ≡ b
-same_kind_is Idle Idle h = refl
-same_kind_is Run Run h = refl
-same_kind_is Lock Lock h = refl
-same_kind_is Unlock Unlock h = refl
-same_kind_is Take Take h = refl
-same_kind_is Queue Queue h = refl
-same_kind_is Spin Spin h = refl
-same_kind_is Grant Grant h = refl
-same_kind_is Release Release h = refl
-same_kind_is _ _ h = absurd (cc)
 
 -- the aheads of two rows of one kind, of which the one that is due carries its own
 counts_alike : (q : List JobId) (k : Kind) (o due : Option ℕ) → may_carry k o ≡ true → (not (is_queue k) || is_some due) ≡ true → counts q due ≡ true → counts q o ≡ same_ahead o due

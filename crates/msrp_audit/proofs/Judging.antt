@@ -27,6 +27,7 @@ use Rattle.msrp_plan.proofs.Lists.Members.{kept_by, in_filter}
 use Rattle.msrp_plan.proofs.Jobs.CoreJobs.{on_its_core, job_on_core}
 use Rattle.msrp_plan.proofs.Runs.CoreRuns.{due_by_log, reached_tick}
 use Rattle.msrp_plan.proofs.Legality.LegalRows.{due, legal_due, same_res_is, same_choice_is}
+use Rattle.msrp_plan.proofs.SameKinds.{same_kind_is}
 use Rattle.msrp_plan.proofs.Scheduling.NextRow.{next_row}
 use Rattle.msrp_plan.proofs.Runs.Verdicts.{fault_push, fault_stays, unbroken_is_legal}
 use Rattle.msrp_core.specs.Machine.{MachineModel}
@@ -39,13 +40,14 @@ use Rattle.msrp_plan.specs.declared.rows.Kind.{Kind}
 use Rattle.msrp_plan.specs.declared.rows.Kind.TheVariants.{Idle, Run, Lock, Unlock, Take, Queue, Spin, Grant, Release}
 use Rattle.msrp_plan.specs.declared.ids.ResId.{ResId}
 use Rattle.msrp_plan.specs.Actions.{same_res}
+use Rattle.msrp_plan.specs.Kinds.{same_kind}
 use Rattle.msrp_plan.specs.Runs.{same_choice}
 use Rattle.msrp_plan.specs.declared.faults.Rule.TheVariants.{A3, A4, A5}
 use Rattle.std.proofs.Common.{IfSome}
 use Rattle.std.proofs.lemmas.Bool.{and_parts}
 use Rattle.msrp_sim.specs.Cores.{IsAs}
-use Rattle.msrp_audit.specs.Foresight.{unlike, does_alike, replied_alike, same_action, same_kind, same_ahead}
-use Rattle.msrp_audit.proofs.Foresight.{broken_is, same_kind_is}
+use Rattle.msrp_audit.specs.Foresight.{unlike, does_alike, replied_alike, same_action, same_ahead}
+use Rattle.msrp_audit.proofs.Foresight.{broken_is}
 
 pub none_of : {A : Type 0} (o : Option A) → is_some o ≡ false → o ≡ None
 none_of None e = refl
