@@ -68,7 +68,7 @@ fn cores_due(plan: &Plan, auditor: &Auditor<'_>) -> ArrayVec<u32, MOST_TURNS>
 {
     let mut found = ArrayVec::new();
     for core in 0..plan.cores() {
-        push_if(&mut found, core, auditor.has_turn(CoreId(core)));
+        push_if(&mut found, core, auditor.is_due(CoreId(core)));
     }
     found
 }

@@ -11,10 +11,10 @@ loop-core-preserved c =
     let low = c.loop-core-test.true in
     let fits : length c.loop-core.found.items < 8 = omega (arith, low, i.0, c.loop-core.auto.core-end, c.cores-core-end.ensures.value, c.cores-core-end.ensures.plan.draft.cores.1) in
     let step = c.push_if.ensures fits in (
-      due_few c.has_turn.result c.loop-core.core c.loop-core.found.items c.push_if.new.found.items step i.0,
+      due_few c.is_due.result c.loop-core.core c.loop-core.found.items c.push_if.new.found.items step i.0,
       λ rows fed none left.
-          due_more c.args.plan.now rows c.loop-core.core c.has_turn.result c.loop-core.found.items c.push_if.new.found.items
-          (subst (λ (p : PlanModel). c.has_turn.result ≡ has_turn p rows c.loop-core.core) c.requires.plan (c.has_turn.ensures rows fed none (subst (λ (p : PlanModel). length rows < p.cores * p.ticks) (sym c.requires.plan) left))) step
+          due_more c.args.plan.now rows c.loop-core.core c.is_due.result c.loop-core.found.items c.push_if.new.found.items
+          (subst (λ (p : PlanModel). c.is_due.result ≡ has_turn p rows c.loop-core.core) c.requires.plan (c.is_due.ensures.answer rows fed none (subst (λ (p : PlanModel). length rows < p.cores * p.ticks) (sym c.requires.plan) left))) step
           (i.1 rows fed none left),
     )
 
