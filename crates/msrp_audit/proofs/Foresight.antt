@@ -1,6 +1,7 @@
 -- A row against the legal one of its core: it breaks the rules that the comparison names.
 use Rattle.std.proofs.Common.{◌≡◌, ℕ, Bool, true, false, cond, not, ◌&&◌, ◌||◌, ◌==◌, List, Option, Some, None, is_some, length, refl, ap, sym, ◌∙◌, subst, eqb-true}
 use Rattle.std.specs.List.{list_any}
+use Rattle.std.specs.Option.{option_or}
 use Rattle.std.proofs.Math.Bool.{true≢false, and-false}
 use Rattle.std.proofs.lemmas.Bool.{and_parts, not-true}
 use Rattle.msrp_plan.specs.Plan.{PlanModel}
@@ -15,6 +16,7 @@ use Rattle.msrp_plan.specs.Runs.{IsLegal, is_in_turn, is_of_core, is_chosen, is_
 use Rattle.msrp_plan.specs.Verdict.{broken}
 use Rattle.msrp_plan.specs.declared.ids.JobId.{JobId}
 use Rattle.msrp_plan.specs.declared.ids.ResId.{ResId}
+use Rattle.msrp_plan.specs.declared.faults.Rule.{Rule}
 use Rattle.msrp_plan.specs.declared.faults.Rule.TheVariants.{A1, A2, A3, A4, A5}
 use Rattle.msrp_plan.specs.declared.units.Op.{Op}
 use Rattle.msrp_plan.specs.declared.units.Op.TheVariants.{Run as RunUnit, Lock as LockUnit, Unlock as UnlockUnit}
@@ -98,16 +100,7 @@ idle_alike : (k : Kind) (job : Option JobId) (res : Option ResId) → has_shape 
 idle_alike Idle None None h = refl
 idle_alike Idle None (Some g) h = absurd (cc)
 idle_alike Idle (Some j) res h = absurd (cc)
-idle_alike Run job res h = no_more (same_res res None)
-  where
-    no_more : (b : Bool) → false ≡ (b && false)
-    no_more true = refl
-    no_more false = refl
-idle_alike _ job res h = no_more (same_res res None)
-  where
-    no_more : (b : Bool) → false ≡ (b && false)
-    no_more true = refl
-    no_more false = refl
+idle_alike _ job res h = sym (and-false (same_res res None))
 
 -- what the job does next is what the core's turn does
 action_by : (plan : PlanModel) (pre : List Row) (r s : Row) (o : Option JobId) → IsTurn plan pre s → r.job ≡ o → s.job ≡ o → does_next plan pre o r ≡ does_alike r s
@@ -204,9 +197,15 @@ by_choice plan pre r s legal c turn core false e =
     let tick : r.tick ≡ s.tick = (due plan pre r turn).tick ∙ sym (legal_due plan pre s legal).tick in
     ap (λ b. cond b (cond (is_next_action plan pre r) (cond (is_fifo_reply pre r) None (Some A5)) (Some A4)) (Some A3)) (chosen_alike plan pre r s (legal_turn plan pre s legal) tick core ∙ e)
 
+-- the reply counts where job and action are right
+by_reply : (a b : Bool) (o : Option Rule) → cond a (cond b o (Some A4)) (Some A3) ≡ option_or (cond a (cond b None (Some A4)) (Some A3)) o
+by_reply true true o = refl
+by_reply true false o = refl
+by_reply false b o = refl
+
 -- a row that is in its turn, of a job of its core, breaks what it breaks against the legal row of that core
 pub broken_is : (plan : PlanModel) (pre : List Row) (r s : Row) → IsLegal plan pre s → carries_its_ahead s ≡ true → is_in_turn plan pre r ≡ true → is_of_core plan r ≡ true → r.core.0 ≡ s.core.0 → broken plan pre r ≡ unlike r s
 broken_is plan pre r s legal c turn own core =
     ap (λ b. cond b (cond (is_of_core plan r) (cond (is_chosen plan pre r) (cond (is_next_action plan pre r) (cond (is_fifo_reply pre r) None (Some A5)) (Some A4)) (Some A3)) (Some A2)) (Some A1)) turn
     ∙ (ap (λ b. cond b (cond (is_chosen plan pre r) (cond (is_next_action plan pre r) (cond (is_fifo_reply pre r) None (Some A5)) (Some A4)) (Some A3)) (Some A2)) own
-    ∙ by_choice plan pre r s legal c turn core (same_choice r.job s.job) refl)
+    ∙ (by_choice plan pre r s legal c turn core (same_choice r.job s.job) refl ∙ by_reply (same_choice r.job s.job) (does_alike r s) (cond (replied_alike r s) None (Some A5))))

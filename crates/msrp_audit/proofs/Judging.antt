@@ -1,7 +1,7 @@
 -- What an auditor's tests say of a row: whether it is in its turn, and whether its job is one of its core.
 use Rattle.std.proofs.Common.{◌≡◌, ◌≢◌, ℕ, zero, suc, ◌+◌, ◌*◌, ◌/◌, ◌<◌, ◌≤◌, ◌==◌, ◌&&◌, ◌||◌, Bool, true, false, not, cond, nat_lt, List, [], ◌∷◌, ◌++◌, Option, Some, None, refl, ap, sym, ◌∙◌, subst, arith, length, length-append, map, inl, inr, eq-eqb, eqb-true, slice_get}
 use Rattle.std.specs.List.{list_any, flat_map, range_with_len, AllByRecursion}
-use Rattle.std.specs.Option.{option_map, is_some}
+use Rattle.std.specs.Option.{option_map, option_or, is_some}
 use Rattle.std.proofs.Math.Bool.{true≢false, or-true}
 use Rattle.std.proofs.lemmas.Bool.{cases_Bool, cases_lt, lt-ltb, le-ltb, false_from_ne_true, eqb-false}
 use Rattle.std.proofs.lemmas.List.Elements.{All-contains, All-from_recursion}
@@ -180,7 +180,7 @@ refused_is plan rows r s left turn own next =
     sym (ap (λ b. cond b (broken plan rows r) (Some A7)) (lt-ltb (length rows) (plan.cores * plan.ticks) left) ∙ broken_is plan rows r s next.legal next.carries turn own (sym next.core))
 
 -- a row that breaks none of these rules is as the one that is due
-unbroken : (a b d : Bool) → cond a (cond b (cond d None (Some A5)) (Some A4)) (Some A3) ≡ None → (a ≡ true) × (b ≡ true) × (d ≡ true)
+unbroken : (a b d : Bool) → option_or (cond a (cond b None (Some A4)) (Some A3)) (cond d None (Some A5)) ≡ None → (a ≡ true) × (b ≡ true) × (d ≡ true)
 unbroken true true true h = (refl, refl, refl)
 unbroken true true false h = absurd (cc)
 unbroken true false d h = absurd (cc)
@@ -227,8 +227,8 @@ alike r s is =
     let job : same_choice r.job s.job ≡ true = ap (λ o. same_choice o s.job) is.job ∙ alike_choice s.job in
     let does : does_alike r s ≡ true = ap (λ o. same_res o s.res && same_action r.kind s.kind) is.res ∙ (ap (λ b. b && same_action r.kind s.kind) (alike_res s.res) ∙ (ap (λ k. same_action k s.kind) is.kind ∙ (alike_kind s.kind).0)) in
     let replied : replied_alike r s ≡ true = ap (λ k. same_kind k s.kind && same_ahead r.ahead s.ahead) is.kind ∙ (ap (λ b. b && same_ahead r.ahead s.ahead) (alike_kind s.kind).1 ∙ alike_ahead r.ahead s.ahead is.ahead) in
-    ap (λ b. cond b (cond (does_alike r s) (cond (replied_alike r s) None (Some A5)) (Some A4)) (Some A3)) job
-    ∙ (ap (λ b. cond b (cond (replied_alike r s) None (Some A5)) (Some A4)) does ∙ ap (λ b. cond b None (Some A5)) replied)
+    ap (λ b. option_or (cond b (cond (does_alike r s) None (Some A4)) (Some A3)) (cond (replied_alike r s) None (Some A5))) job
+    ∙ (ap (λ b. option_or (cond b None (Some A4)) (cond (replied_alike r s) None (Some A5))) does ∙ ap (λ b. cond b None (Some A5)) replied)
 
 -- a row that is not unlike has a job of its core
 own_as : (plan : PlanModel) (rows : List Row) (r s : Row) → IsNextRow plan rows r.core.0 s → unlike r s ≡ None → is_of_core plan r ≡ true

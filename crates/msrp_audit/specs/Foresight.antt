@@ -1,5 +1,6 @@
 -- A row against the one that its core was due to make: what the first rule is that it breaks.
 use Rattle.std.specs.Prelude.{ℕ, Bool, true, false, ◌==◌, ◌&&◌, Option, Some, None, if◌then◌else◌}
+use Rattle.std.specs.Option.{option_or}
 use Rattle.msrp_plan.specs.Actions.{same_res}
 use Rattle.msrp_plan.specs.Kinds.{same_kind}
 use Rattle.msrp_plan.specs.Runs.{same_choice}
@@ -37,4 +38,4 @@ unlike_turn r due = if same_choice r.job due.job then (if does_alike r due then 
 
 -- the lowest of the rules on job, action and reply that the row breaks, where this one is the row that is due
 abbrev pub unlike : Row → Row → Option Rule
-unlike r due = if same_choice r.job due.job then (if does_alike r due then (if replied_alike r due then None else Some A5) else Some A4) else Some A3
+unlike r due = option_or (unlike_turn r due) (if replied_alike r due then None else Some A5)
