@@ -36,63 +36,39 @@ chosen_alike plan pre r s turn tick core =
 
 -- ---- A4
 -- a unit allows the kinds that are the same action as one that it allows
-allows_run : (global queued : Bool) (k : Kind) → allows global queued RunUnit k ≡ same_action k Run
-allows_run true true Run = refl
-allows_run true false Run = refl
-allows_run false true Run = refl
-allows_run false false Run = refl
-allows_run true true _ = refl
-allows_run true false _ = refl
-allows_run false true _ = refl
-allows_run false false _ = refl
-
-allows_lock : (queued : Bool) (g : ResId) (k : Kind) → allows false queued (LockUnit g) k ≡ same_action k Lock
-allows_lock true g Lock = refl
-allows_lock false g Lock = refl
-allows_lock true g _ = refl
-allows_lock false g _ = refl
-
-allows_unlock : (queued : Bool) (g : ResId) (k : Kind) → allows false queued (UnlockUnit g) k ≡ same_action k Unlock
-allows_unlock true g Unlock = refl
-allows_unlock false g Unlock = refl
-allows_unlock true g _ = refl
-allows_unlock false g _ = refl
-
-allows_take : (g : ResId) (k : Kind) → allows true false (LockUnit g) k ≡ same_action k Take
-allows_take g Take = refl
-allows_take g Queue = refl
-allows_take g _ = refl
-
-allows_queue : (g : ResId) (k : Kind) → allows true false (LockUnit g) k ≡ same_action k Queue
-allows_queue g Take = refl
-allows_queue g Queue = refl
-allows_queue g _ = refl
-
-allows_grant : (g : ResId) (k : Kind) → allows true true (LockUnit g) k ≡ same_action k Grant
-allows_grant g Grant = refl
-allows_grant g Spin = refl
-allows_grant g _ = refl
-
-allows_spin : (g : ResId) (k : Kind) → allows true true (LockUnit g) k ≡ same_action k Spin
-allows_spin g Grant = refl
-allows_spin g Spin = refl
-allows_spin g _ = refl
-
-allows_release : (queued : Bool) (g : ResId) (k : Kind) → allows true queued (UnlockUnit g) k ≡ same_action k Release
-allows_release true g Release = refl
-allows_release false g Release = refl
-allows_release true g _ = refl
-allows_release false g _ = refl
-
 allows_alike : (global queued : Bool) (op : Op) (due k : Kind) → allows global queued op due ≡ true → allows global queued op k ≡ same_action k due
-allows_alike global queued RunUnit Run k h = allows_run global queued k
-allows_alike false queued (LockUnit g) Lock k h = allows_lock queued g k
-allows_alike false queued (UnlockUnit g) Unlock k h = allows_unlock queued g k
-allows_alike true false (LockUnit g) Take k h = allows_take g k
-allows_alike true false (LockUnit g) Queue k h = allows_queue g k
-allows_alike true true (LockUnit g) Grant k h = allows_grant g k
-allows_alike true true (LockUnit g) Spin k h = allows_spin g k
-allows_alike true queued (UnlockUnit g) Release k h = allows_release queued g k
+allows_alike true true RunUnit Run Run h = refl
+allows_alike true true RunUnit Run _ h = refl
+allows_alike true false RunUnit Run Run h = refl
+allows_alike true false RunUnit Run _ h = refl
+allows_alike false true RunUnit Run Run h = refl
+allows_alike false true RunUnit Run _ h = refl
+allows_alike false false RunUnit Run Run h = refl
+allows_alike false false RunUnit Run _ h = refl
+allows_alike false true (LockUnit g) Lock Lock h = refl
+allows_alike false true (LockUnit g) Lock _ h = refl
+allows_alike false false (LockUnit g) Lock Lock h = refl
+allows_alike false false (LockUnit g) Lock _ h = refl
+allows_alike false true (UnlockUnit g) Unlock Unlock h = refl
+allows_alike false true (UnlockUnit g) Unlock _ h = refl
+allows_alike false false (UnlockUnit g) Unlock Unlock h = refl
+allows_alike false false (UnlockUnit g) Unlock _ h = refl
+allows_alike true false (LockUnit g) Take Take h = refl
+allows_alike true false (LockUnit g) Take Queue h = refl
+allows_alike true false (LockUnit g) Take _ h = refl
+allows_alike true false (LockUnit g) Queue Take h = refl
+allows_alike true false (LockUnit g) Queue Queue h = refl
+allows_alike true false (LockUnit g) Queue _ h = refl
+allows_alike true true (LockUnit g) Grant Grant h = refl
+allows_alike true true (LockUnit g) Grant Spin h = refl
+allows_alike true true (LockUnit g) Grant _ h = refl
+allows_alike true true (LockUnit g) Spin Grant h = refl
+allows_alike true true (LockUnit g) Spin Spin h = refl
+allows_alike true true (LockUnit g) Spin _ h = refl
+allows_alike true true (UnlockUnit g) Release Release h = refl
+allows_alike true true (UnlockUnit g) Release _ h = refl
+allows_alike true false (UnlockUnit g) Release Release h = refl
+allows_alike true false (UnlockUnit g) Release _ h = refl
 allows_alike _ _ _ _ k h = absurd (cc)
 
 -- idle rows have no resource, and do alike
@@ -158,13 +134,8 @@ reply_by_queue q r s false e job a h n c =
 plain_kind : (k due : Kind) (job : Option JobId) (o : Option ℕ) → has_shape due job None ≡ true → may_carry k o ≡ true → same_action k due ≡ true → (b : Option ℕ) → true ≡ (same_kind k due && same_ahead o b)
 plain_kind Idle Idle job None h m a b = refl
 plain_kind Run Run job None h m a b = refl
-plain_kind Idle Idle job (Some n) h m a b = absurd (cc)
-plain_kind Run Run job (Some n) h m a b = absurd (cc)
-plain_kind Run Idle job o h m a b = absurd (cc)
-plain_kind _ Idle job o h m a b = absurd (cc)
-plain_kind Idle Run job o h m a b = absurd (cc)
-plain_kind _ Run job o h m a b = absurd (cc)
-plain_kind k Lock job o h m a b = absurd (true≢false (sym h ∙ and-false (is_some job)))
+plain_kind _ Idle job _ h m a b = absurd (cc)
+plain_kind _ Run job _ h m a b = absurd (cc)
 plain_kind k _ job o h m a b = absurd (true≢false (sym h ∙ and-false (is_some job)))
 
 reply_by : (pre : List Row) (r s : Row) (o : Option ResId) → r.res ≡ o → s.res ≡ o → r.job ≡ s.job → same_action r.kind s.kind ≡ true → replies_on pre o s ≡ true → carries_its_ahead s ≡ true → replies_on pre o r ≡ replied_alike r s
