@@ -1,6 +1,8 @@
 -- What an auditor's tests say of a row: whether it is in its turn, and whether its job is one of its core.
 use Rattle.std.proofs.Common.{◌≡◌, ◌≢◌, ℕ, zero, suc, ◌+◌, ◌*◌, ◌/◌, ◌<◌, ◌≤◌, ◌==◌, ◌&&◌, ◌||◌, Bool, true, false, not, cond, nat_lt, List, [], ◌∷◌, ◌++◌, Option, Some, None, refl, ap, sym, ◌∙◌, subst, arith, length, length-append, map, inl, inr, eq-eqb, eqb-true, slice_get}
 use Rattle.std.specs.List.{list_any, flat_map, range_with_len, AllByRecursion}
+use Rattle.std.specs.Prelude.{⊤}
+use Rattle.std.specs.declared.result.Result.TheVariants.{Ok, Err}
 use Rattle.std.specs.Option.{option_map, option_or, is_some}
 use Rattle.std.proofs.Math.Bool.{true≢false, or-true}
 use Rattle.std.proofs.lemmas.Bool.{cases_Bool, cases_lt, lt-ltb, le-ltb, false_from_ne_true, eqb-false}
@@ -32,7 +34,7 @@ use Rattle.msrp_plan.proofs.Scheduling.NextRow.{next_row}
 use Rattle.msrp_plan.proofs.Runs.Verdicts.{fault_push, fault_stays, unbroken_is_legal}
 use Rattle.msrp_core.specs.Machine.{MachineModel}
 use Rattle.msrp_sim.specs.Cores.{CoresModel, StandFor, IsDueAfter, IsNextRow}
-use Rattle.msrp_audit.specs.Audits.{AuditorModel, HasFed, IsCoreDue, Awaits, has_turn, auditor_view, IsAuditorView}
+use Rattle.msrp_audit.specs.Audits.{AuditorModel, HasFed, IsCoreDue, Awaits, answer_of, has_turn, auditor_view, IsAuditorView}
 use Rattle.msrp_audit.specs.declared.auditor.Auditor.TheInside.{Inside}
 use Rattle.std.proofs.Math.Nat.{mul-le-mul_left}
 use Rattle.std.proofs.lemmas.Nat.{div-mul-add}
@@ -52,6 +54,15 @@ use Rattle.msrp_audit.proofs.Foresight.{broken_is}
 pub none_of : {A : Type 0} (o : Option A) → is_some o ≡ false → o ≡ None
 none_of None e = refl
 none_of (Some a) e = absurd (cc)
+
+-- ---- an answer that tells a fault, and one that tells none
+pub fault_told : (o : Option Fault) (f : Fault) → Err f ≡ answer_of o → o ≡ Some f
+fault_told None f h = absurd (cc)
+fault_told (Some g) f h = cc
+
+pub good_told : (o : Option Fault) (good : ⊤) → Ok good ≡ answer_of o → o ≡ None
+good_told None good h = refl
+good_told (Some f) good h = absurd (cc)
 
 -- ---- A1
 -- a core that had no turn in the tick that is due has as many turns as ticks are full

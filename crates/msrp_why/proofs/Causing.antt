@@ -3,8 +3,7 @@ use Rattle.std.proofs.Common.{◌≡◌, ℕ, ◌+◌, ◌*◌, ◌/◌, ◌<◌
 use Rattle.std.specs.List.{range_with_len}
 use Rattle.std.specs.Option.{IsSomeAnd}
 use Rattle.std.proofs.lemmas.List.Elements.{filter-append}
-use Rattle.std.specs.declared.result.Result.TheVariants.{Ok, Err}
-use Rattle.std.specs.Prelude.{⊤}
+use Rattle.std.specs.declared.result.Result.TheVariants.{Err}
 use Rattle.msrp_core.specs.CoreStates.{IsCoreState}
 use Rattle.msrp_core.specs.declared.states.CoreState.{CoreState}
 use Rattle.msrp_plan.specs.Logs.{log_of}
@@ -20,7 +19,7 @@ use Rattle.msrp_plan.proofs.Runs.Verdicts.{fault_push, unbroken_is_legal}
 use Rattle.msrp_plan.proofs.Lists.Ranges.{range_more}
 use Rattle.msrp_sim.specs.Cores.{IsNextRow}
 use Rattle.msrp_audit.specs.Audits.{AuditorModel, HasFed, answer_of, has_turn}
-use Rattle.msrp_audit.proofs.Judging.{due_after}
+use Rattle.msrp_audit.proofs.Judging.{due_after, fault_told}
 use Rattle.msrp_why.specs.Causes.{AreTurnsFor, IsBrokenBy, IsCauseAfter, IsDueRow, IsStateFor, cores_due}
 use Rattle.msrp_why.specs.declared.causes.Due.{Due}
 use Rattle.msrp_why.specs.Noted.{AreNoted}
@@ -114,21 +113,13 @@ rule_of (Some rule) n f h =
     let same : record { row = n; rule = rule } ≡ f = cc in
     ap (λ (g : Fault). Some g.rule) same
 
-fault_answer : (o : Option Fault) (f : Fault) → Err f ≡ answer_of o → o ≡ Some f
-fault_answer None f h = absurd (cc)
-fault_answer (Some g) f h = cc
-
-pub good_answer : (o : Option Fault) (good : ⊤) → Ok good ≡ answer_of o → o ≡ None
-good_answer None good h = refl
-good_answer (Some f) good h = absurd (cc)
-
 -- a fault that the auditor answers, with what was due
 pub broken_by : (a : AuditorModel) (rows : List Row) (r : Row) (f : Fault) (due : Due) → IsPlan a.plan → HasFed a rows → fault_in a.plan rows ≡ None → Err f ≡ answer_of (fault_in a.plan (rows ++ r ∷ []))
     → ((before : List Row) → HasFed a before → a.fault ≡ None → length before < a.plan.cores * a.plan.ticks → is_in_turn a.plan before r ≡ true → IsSomeAnd due.row (IsNextRow a.plan before r.core.0))
     → ((before : List Row) → HasFed a before → a.fault ≡ None → length before < a.plan.cores * a.plan.ticks → is_in_turn a.plan before r ≡ false → due.cores.items ≡ cores_due a.plan before)
     → IsBrokenBy a.plan rows r f due
 broken_by a rows r f due ok fed good answer foreseen turned =
-    let fault = fault_answer (fault_in a.plan (rows ++ r ∷ [])) f answer in
+    let fault = fault_told (fault_in a.plan (rows ++ r ∷ [])) f answer in
     let rule = rule_of (refused a.plan rows r) (length rows + 1) f (sym (fault_push a.plan rows r good) ∙ fault) in
     let none = fed.fault ∙ good in
     record {

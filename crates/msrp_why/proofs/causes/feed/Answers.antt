@@ -8,16 +8,17 @@ use Rattle.msrp_plan.specs.WellFormed.{IsPlan}
 use Rattle.std.specs.Prelude.{◌≡◌, None}
 use Rattle.msrp_why.specs.Causes.{IsBrokenBy, cores_due}
 use Rattle.msrp_why.specs.declared.causes.Due.{Due}
-use Rattle.msrp_why.proofs.Causing.{broken_by, good_answer, good_start}
+use Rattle.msrp_audit.proofs.Judging.{good_told}
+use Rattle.msrp_why.proofs.Causing.{broken_by, good_start}
 use Rattle.msrp_why.proofs.causes.feed.Goals as goal
 
 pub returns-in-Ok-clause-good : goal.returns-in-Ok-clause-good
-returns-in-Ok-clause-good c = λ rows fed. subst (λ (p : PlanModel). fault_in p (rows ++ c.args.row ∷ []) ≡ None) c.requires.plan (good_answer _ c.in-Ok.field-0 (c.in-Ok.ensures.answer rows fed))
+returns-in-Ok-clause-good c = λ rows fed. subst (λ (p : PlanModel). fault_in p (rows ++ c.args.row ∷ []) ≡ None) c.requires.plan (good_told _ c.in-Ok.field-0 (c.in-Ok.ensures.answer rows fed))
 
 pub returns-in-Ok-clause-noted : goal.returns-in-Ok-clause-noted
 returns-in-Ok-clause-noted c = λ rows fed noted.
     let r = c.args.row in
-    let good = good_answer _ c.in-Ok.field-0 (c.in-Ok.ensures.answer rows fed) in
+    let good = good_told _ c.in-Ok.field-0 (c.in-Ok.ensures.answer rows fed) in
     let next = c.feed_telling.ensures.fed rows fed in
     c.note.ensures rows (good_start c.args.plan.now (rows ++ r ∷ []) (subst (λ (p : PlanModel). fault_in p (rows ++ r ∷ []) ≡ None) c.requires.plan good)) next
     (next.fault ∙ (ap (λ (p : PlanModel). fault_in p (rows ++ r ∷ [])) c.feed_telling.ensures.plan ∙ good)) noted
