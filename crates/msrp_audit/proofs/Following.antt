@@ -56,15 +56,7 @@ plain_same Run Run p h = refl
 plain_same Lock Lock p h = refl
 plain_same Unlock Unlock p h = refl
 plain_same Release Release p h = refl
-plain_same Idle _ p h = absurd (cc)
-plain_same Run _ p h = absurd (cc)
-plain_same Lock _ p h = absurd (cc)
-plain_same Unlock _ p h = absurd (cc)
-plain_same Release _ p h = absurd (cc)
-plain_same Take _ p h = absurd (cc)
-plain_same Queue _ p h = absurd (cc)
-plain_same Grant _ p h = absurd (cc)
-plain_same Spin _ p h = absurd (cc)
+plain_same _ _ p h = absurd (cc)
 
 call_same : (k : Kind) (call : Call) → is_answered (is_yes k) call ≡ true → same_action k (kind_of_call call) ≡ true → k ≡ kind_of_call call
 call_same Take (Ask zero) a h = refl

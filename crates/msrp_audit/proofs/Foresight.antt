@@ -1,6 +1,7 @@
 -- A row against the legal one of its core: it breaks the rules that the comparison names.
 use Rattle.std.proofs.Common.{◌≡◌, ℕ, Bool, true, false, cond, not, ◌&&◌, ◌||◌, ◌==◌, List, Option, Some, None, is_some, length, refl, ap, sym, ◌∙◌, subst, eqb-true}
 use Rattle.std.specs.List.{list_any}
+use Rattle.std.specs.Option.{option_or}
 use Rattle.std.proofs.Math.Bool.{true≢false, and-false}
 use Rattle.std.proofs.lemmas.Bool.{and_parts, not-true}
 use Rattle.msrp_plan.specs.Plan.{PlanModel}
@@ -9,19 +10,22 @@ use Rattle.msrp_plan.specs.Aheads.{carries_its_ahead}
 use Rattle.msrp_plan.specs.Jobs.{is_queued, is_job}
 use Rattle.msrp_plan.specs.Choice.{choice}
 use Rattle.msrp_plan.specs.Actions.{same_res, is_global_unit, allows, is_idle, does_unit, does_next}
+use Rattle.msrp_plan.specs.Kinds.{same_kind}
 use Rattle.msrp_plan.specs.Queues.{fifo, replies, counts, is_free, is_first, is_reply_of}
 use Rattle.msrp_plan.specs.Runs.{IsLegal, is_in_turn, is_of_core, is_chosen, is_next_action, is_fifo_reply, replies_on, same_choice}
 use Rattle.msrp_plan.specs.Verdict.{broken}
 use Rattle.msrp_plan.specs.declared.ids.JobId.{JobId}
 use Rattle.msrp_plan.specs.declared.ids.ResId.{ResId}
+use Rattle.msrp_plan.specs.declared.faults.Rule.{Rule}
 use Rattle.msrp_plan.specs.declared.faults.Rule.TheVariants.{A1, A2, A3, A4, A5}
 use Rattle.msrp_plan.specs.declared.units.Op.{Op}
 use Rattle.msrp_plan.specs.declared.units.Op.TheVariants.{Run as RunUnit, Lock as LockUnit, Unlock as UnlockUnit}
 use Rattle.msrp_plan.specs.declared.rows.Kind.{Kind}
 use Rattle.msrp_plan.specs.declared.rows.Kind.TheVariants.{Idle, Run, Lock, Unlock, Take, Queue, Spin, Grant, Release}
 use Rattle.msrp_plan.specs.declared.rows.Row.{Row}
+use Rattle.msrp_plan.proofs.SameKinds.{same_kind_is}
 use Rattle.msrp_plan.proofs.Legality.LegalRows.{IsTurn, same_res_is, same_choice_is, due, legal_turn, legal_due, idle_res}
-use Rattle.msrp_audit.specs.Foresight.{same_kind, same_action, same_ahead, does_alike, replied_alike, unlike}
+use Rattle.msrp_audit.specs.Foresight.{same_action, same_ahead, does_alike, replied_alike, unlike}
 
 -- ---- A3
 -- the job that is due is that of the core's turn
@@ -32,63 +36,39 @@ chosen_alike plan pre r s turn tick core =
 
 -- ---- A4
 -- a unit allows the kinds that are the same action as one that it allows
-allows_run : (global queued : Bool) (k : Kind) → allows global queued RunUnit k ≡ same_action k Run
-allows_run true true Run = refl
-allows_run true false Run = refl
-allows_run false true Run = refl
-allows_run false false Run = refl
-allows_run true true _ = refl
-allows_run true false _ = refl
-allows_run false true _ = refl
-allows_run false false _ = refl
-
-allows_lock : (queued : Bool) (g : ResId) (k : Kind) → allows false queued (LockUnit g) k ≡ same_action k Lock
-allows_lock true g Lock = refl
-allows_lock false g Lock = refl
-allows_lock true g _ = refl
-allows_lock false g _ = refl
-
-allows_unlock : (queued : Bool) (g : ResId) (k : Kind) → allows false queued (UnlockUnit g) k ≡ same_action k Unlock
-allows_unlock true g Unlock = refl
-allows_unlock false g Unlock = refl
-allows_unlock true g _ = refl
-allows_unlock false g _ = refl
-
-allows_take : (g : ResId) (k : Kind) → allows true false (LockUnit g) k ≡ same_action k Take
-allows_take g Take = refl
-allows_take g Queue = refl
-allows_take g _ = refl
-
-allows_queue : (g : ResId) (k : Kind) → allows true false (LockUnit g) k ≡ same_action k Queue
-allows_queue g Take = refl
-allows_queue g Queue = refl
-allows_queue g _ = refl
-
-allows_grant : (g : ResId) (k : Kind) → allows true true (LockUnit g) k ≡ same_action k Grant
-allows_grant g Grant = refl
-allows_grant g Spin = refl
-allows_grant g _ = refl
-
-allows_spin : (g : ResId) (k : Kind) → allows true true (LockUnit g) k ≡ same_action k Spin
-allows_spin g Grant = refl
-allows_spin g Spin = refl
-allows_spin g _ = refl
-
-allows_release : (queued : Bool) (g : ResId) (k : Kind) → allows true queued (UnlockUnit g) k ≡ same_action k Release
-allows_release true g Release = refl
-allows_release false g Release = refl
-allows_release true g _ = refl
-allows_release false g _ = refl
-
 allows_alike : (global queued : Bool) (op : Op) (due k : Kind) → allows global queued op due ≡ true → allows global queued op k ≡ same_action k due
-allows_alike global queued RunUnit Run k h = allows_run global queued k
-allows_alike false queued (LockUnit g) Lock k h = allows_lock queued g k
-allows_alike false queued (UnlockUnit g) Unlock k h = allows_unlock queued g k
-allows_alike true false (LockUnit g) Take k h = allows_take g k
-allows_alike true false (LockUnit g) Queue k h = allows_queue g k
-allows_alike true true (LockUnit g) Grant k h = allows_grant g k
-allows_alike true true (LockUnit g) Spin k h = allows_spin g k
-allows_alike true queued (UnlockUnit g) Release k h = allows_release queued g k
+allows_alike true true RunUnit Run Run h = refl
+allows_alike true true RunUnit Run _ h = refl
+allows_alike true false RunUnit Run Run h = refl
+allows_alike true false RunUnit Run _ h = refl
+allows_alike false true RunUnit Run Run h = refl
+allows_alike false true RunUnit Run _ h = refl
+allows_alike false false RunUnit Run Run h = refl
+allows_alike false false RunUnit Run _ h = refl
+allows_alike false true (LockUnit g) Lock Lock h = refl
+allows_alike false true (LockUnit g) Lock _ h = refl
+allows_alike false false (LockUnit g) Lock Lock h = refl
+allows_alike false false (LockUnit g) Lock _ h = refl
+allows_alike false true (UnlockUnit g) Unlock Unlock h = refl
+allows_alike false true (UnlockUnit g) Unlock _ h = refl
+allows_alike false false (UnlockUnit g) Unlock Unlock h = refl
+allows_alike false false (UnlockUnit g) Unlock _ h = refl
+allows_alike true false (LockUnit g) Take Take h = refl
+allows_alike true false (LockUnit g) Take Queue h = refl
+allows_alike true false (LockUnit g) Take _ h = refl
+allows_alike true false (LockUnit g) Queue Take h = refl
+allows_alike true false (LockUnit g) Queue Queue h = refl
+allows_alike true false (LockUnit g) Queue _ h = refl
+allows_alike true true (LockUnit g) Grant Grant h = refl
+allows_alike true true (LockUnit g) Grant Spin h = refl
+allows_alike true true (LockUnit g) Grant _ h = refl
+allows_alike true true (LockUnit g) Spin Grant h = refl
+allows_alike true true (LockUnit g) Spin Spin h = refl
+allows_alike true true (LockUnit g) Spin _ h = refl
+allows_alike true true (UnlockUnit g) Release Release h = refl
+allows_alike true true (UnlockUnit g) Release _ h = refl
+allows_alike true false (UnlockUnit g) Release Release h = refl
+allows_alike true false (UnlockUnit g) Release _ h = refl
 allows_alike _ _ _ _ k h = absurd (cc)
 
 -- idle rows have no resource, and do alike
@@ -96,16 +76,7 @@ idle_alike : (k : Kind) (job : Option JobId) (res : Option ResId) → has_shape 
 idle_alike Idle None None h = refl
 idle_alike Idle None (Some g) h = absurd (cc)
 idle_alike Idle (Some j) res h = absurd (cc)
-idle_alike Run job res h = no_more (same_res res None)
-  where
-    no_more : (b : Bool) → false ≡ (b && false)
-    no_more true = refl
-    no_more false = refl
-idle_alike _ job res h = no_more (same_res res None)
-  where
-    no_more : (b : Bool) → false ≡ (b && false)
-    no_more true = refl
-    no_more false = refl
+idle_alike _ job res h = sym (and-false (same_res res None))
 
 -- what the job does next is what the core's turn does
 action_by : (plan : PlanModel) (pre : List Row) (r s : Row) (o : Option JobId) → IsTurn plan pre s → r.job ≡ o → s.job ≡ o → does_next plan pre o r ≡ does_alike r s
@@ -141,19 +112,6 @@ replies_alike q j Unlock Unlock a h = refl
 replies_alike q j Release Release a h = refl
 replies_alike q j _ _ a h = absurd (cc)
 
--- kinds that pass the test are equal
-pub same_kind_is : (a b : Kind) → same_kind a b ≡ true → a ≡ b
-same_kind_is Idle Idle h = refl
-same_kind_is Run Run h = refl
-same_kind_is Lock Lock h = refl
-same_kind_is Unlock Unlock h = refl
-same_kind_is Take Take h = refl
-same_kind_is Queue Queue h = refl
-same_kind_is Spin Spin h = refl
-same_kind_is Grant Grant h = refl
-same_kind_is Release Release h = refl
-same_kind_is _ _ h = absurd (cc)
-
 -- the aheads of two rows of one kind, of which the one that is due carries its own
 counts_alike : (q : List JobId) (k : Kind) (o due : Option ℕ) → may_carry k o ≡ true → (not (is_queue k) || is_some due) ≡ true → counts q due ≡ true → counts q o ≡ same_ahead o due
 counts_alike q k None due m c h = refl
@@ -176,13 +134,8 @@ reply_by_queue q r s false e job a h n c =
 plain_kind : (k due : Kind) (job : Option JobId) (o : Option ℕ) → has_shape due job None ≡ true → may_carry k o ≡ true → same_action k due ≡ true → (b : Option ℕ) → true ≡ (same_kind k due && same_ahead o b)
 plain_kind Idle Idle job None h m a b = refl
 plain_kind Run Run job None h m a b = refl
-plain_kind Idle Idle job (Some n) h m a b = absurd (cc)
-plain_kind Run Run job (Some n) h m a b = absurd (cc)
-plain_kind Run Idle job o h m a b = absurd (cc)
-plain_kind _ Idle job o h m a b = absurd (cc)
-plain_kind Idle Run job o h m a b = absurd (cc)
-plain_kind _ Run job o h m a b = absurd (cc)
-plain_kind k Lock job o h m a b = absurd (true≢false (sym h ∙ and-false (is_some job)))
+plain_kind _ Idle job _ h m a b = absurd (cc)
+plain_kind _ Run job _ h m a b = absurd (cc)
 plain_kind k _ job o h m a b = absurd (true≢false (sym h ∙ and-false (is_some job)))
 
 reply_by : (pre : List Row) (r s : Row) (o : Option ResId) → r.res ≡ o → s.res ≡ o → r.job ≡ s.job → same_action r.kind s.kind ≡ true → replies_on pre o s ≡ true → carries_its_ahead s ≡ true → replies_on pre o r ≡ replied_alike r s
@@ -215,9 +168,15 @@ by_choice plan pre r s legal c turn core false e =
     let tick : r.tick ≡ s.tick = (due plan pre r turn).tick ∙ sym (legal_due plan pre s legal).tick in
     ap (λ b. cond b (cond (is_next_action plan pre r) (cond (is_fifo_reply pre r) None (Some A5)) (Some A4)) (Some A3)) (chosen_alike plan pre r s (legal_turn plan pre s legal) tick core ∙ e)
 
+-- the reply counts where job and action are right
+by_reply : (a b : Bool) (o : Option Rule) → cond a (cond b o (Some A4)) (Some A3) ≡ option_or (cond a (cond b None (Some A4)) (Some A3)) o
+by_reply true true o = refl
+by_reply true false o = refl
+by_reply false b o = refl
+
 -- a row that is in its turn, of a job of its core, breaks what it breaks against the legal row of that core
 pub broken_is : (plan : PlanModel) (pre : List Row) (r s : Row) → IsLegal plan pre s → carries_its_ahead s ≡ true → is_in_turn plan pre r ≡ true → is_of_core plan r ≡ true → r.core.0 ≡ s.core.0 → broken plan pre r ≡ unlike r s
 broken_is plan pre r s legal c turn own core =
     ap (λ b. cond b (cond (is_of_core plan r) (cond (is_chosen plan pre r) (cond (is_next_action plan pre r) (cond (is_fifo_reply pre r) None (Some A5)) (Some A4)) (Some A3)) (Some A2)) (Some A1)) turn
     ∙ (ap (λ b. cond b (cond (is_chosen plan pre r) (cond (is_next_action plan pre r) (cond (is_fifo_reply pre r) None (Some A5)) (Some A4)) (Some A3)) (Some A2)) own
-    ∙ by_choice plan pre r s legal c turn core (same_choice r.job s.job) refl)
+    ∙ (by_choice plan pre r s legal c turn core (same_choice r.job s.job) refl ∙ by_reply (same_choice r.job s.job) (does_alike r s) (cond (replied_alike r s) None (Some A5))))

@@ -1,7 +1,9 @@
 -- What an auditor's tests say of a row: whether it is in its turn, and whether its job is one of its core.
 use Rattle.std.proofs.Common.{◌≡◌, ◌≢◌, ℕ, zero, suc, ◌+◌, ◌*◌, ◌/◌, ◌<◌, ◌≤◌, ◌==◌, ◌&&◌, ◌||◌, Bool, true, false, not, cond, nat_lt, List, [], ◌∷◌, ◌++◌, Option, Some, None, refl, ap, sym, ◌∙◌, subst, arith, length, length-append, map, inl, inr, eq-eqb, eqb-true, slice_get}
 use Rattle.std.specs.List.{list_any, flat_map, range_with_len, AllByRecursion}
-use Rattle.std.specs.Option.{option_map, is_some}
+use Rattle.std.specs.Prelude.{⊤}
+use Rattle.std.specs.declared.result.Result.TheVariants.{Ok, Err}
+use Rattle.std.specs.Option.{option_map, option_or, is_some}
 use Rattle.std.proofs.Math.Bool.{true≢false, or-true}
 use Rattle.std.proofs.lemmas.Bool.{cases_Bool, cases_lt, lt-ltb, le-ltb, false_from_ne_true, eqb-false}
 use Rattle.std.proofs.lemmas.List.Elements.{All-contains, All-from_recursion}
@@ -27,11 +29,12 @@ use Rattle.msrp_plan.proofs.Lists.Members.{kept_by, in_filter}
 use Rattle.msrp_plan.proofs.Jobs.CoreJobs.{on_its_core, job_on_core}
 use Rattle.msrp_plan.proofs.Runs.CoreRuns.{due_by_log, reached_tick}
 use Rattle.msrp_plan.proofs.Legality.LegalRows.{due, legal_due, same_res_is, same_choice_is}
+use Rattle.msrp_plan.proofs.SameKinds.{same_kind_is}
 use Rattle.msrp_plan.proofs.Scheduling.NextRow.{next_row}
 use Rattle.msrp_plan.proofs.Runs.Verdicts.{fault_push, fault_stays, unbroken_is_legal}
 use Rattle.msrp_core.specs.Machine.{MachineModel}
 use Rattle.msrp_sim.specs.Cores.{CoresModel, StandFor, IsDueAfter, IsNextRow}
-use Rattle.msrp_audit.specs.Audits.{AuditorModel, HasFed, IsCoreDue, Awaits, has_turn, auditor_view, IsAuditorView}
+use Rattle.msrp_audit.specs.Audits.{AuditorModel, HasFed, IsCoreDue, Awaits, answer_of, has_turn, auditor_view, IsAuditorView}
 use Rattle.msrp_audit.specs.declared.auditor.Auditor.TheInside.{Inside}
 use Rattle.std.proofs.Math.Nat.{mul-le-mul_left}
 use Rattle.std.proofs.lemmas.Nat.{div-mul-add}
@@ -39,17 +42,27 @@ use Rattle.msrp_plan.specs.declared.rows.Kind.{Kind}
 use Rattle.msrp_plan.specs.declared.rows.Kind.TheVariants.{Idle, Run, Lock, Unlock, Take, Queue, Spin, Grant, Release}
 use Rattle.msrp_plan.specs.declared.ids.ResId.{ResId}
 use Rattle.msrp_plan.specs.Actions.{same_res}
+use Rattle.msrp_plan.specs.Kinds.{same_kind}
 use Rattle.msrp_plan.specs.Runs.{same_choice}
 use Rattle.msrp_plan.specs.declared.faults.Rule.TheVariants.{A3, A4, A5}
 use Rattle.std.proofs.Common.{IfSome}
 use Rattle.std.proofs.lemmas.Bool.{and_parts}
 use Rattle.msrp_sim.specs.Cores.{IsAs}
-use Rattle.msrp_audit.specs.Foresight.{unlike, does_alike, replied_alike, same_action, same_kind, same_ahead}
-use Rattle.msrp_audit.proofs.Foresight.{broken_is, same_kind_is}
+use Rattle.msrp_audit.specs.Foresight.{unlike, does_alike, replied_alike, same_action, same_ahead}
+use Rattle.msrp_audit.proofs.Foresight.{broken_is}
 
 pub none_of : {A : Type 0} (o : Option A) → is_some o ≡ false → o ≡ None
 none_of None e = refl
 none_of (Some a) e = absurd (cc)
+
+-- ---- an answer that tells a fault, and one that tells none
+pub fault_told : (o : Option Fault) (f : Fault) → Err f ≡ answer_of o → o ≡ Some f
+fault_told None f h = absurd (cc)
+fault_told (Some g) f h = cc
+
+pub good_told : (o : Option Fault) (good : ⊤) → Ok good ≡ answer_of o → o ≡ None
+good_told None good h = refl
+good_told (Some f) good h = absurd (cc)
 
 -- ---- A1
 -- a core that had no turn in the tick that is due has as many turns as ticks are full
@@ -178,7 +191,7 @@ refused_is plan rows r s left turn own next =
     sym (ap (λ b. cond b (broken plan rows r) (Some A7)) (lt-ltb (length rows) (plan.cores * plan.ticks) left) ∙ broken_is plan rows r s next.legal next.carries turn own (sym next.core))
 
 -- a row that breaks none of these rules is as the one that is due
-unbroken : (a b d : Bool) → cond a (cond b (cond d None (Some A5)) (Some A4)) (Some A3) ≡ None → (a ≡ true) × (b ≡ true) × (d ≡ true)
+unbroken : (a b d : Bool) → option_or (cond a (cond b None (Some A4)) (Some A3)) (cond d None (Some A5)) ≡ None → (a ≡ true) × (b ≡ true) × (d ≡ true)
 unbroken true true true h = (refl, refl, refl)
 unbroken true true false h = absurd (cc)
 unbroken true false d h = absurd (cc)
@@ -225,8 +238,8 @@ alike r s is =
     let job : same_choice r.job s.job ≡ true = ap (λ o. same_choice o s.job) is.job ∙ alike_choice s.job in
     let does : does_alike r s ≡ true = ap (λ o. same_res o s.res && same_action r.kind s.kind) is.res ∙ (ap (λ b. b && same_action r.kind s.kind) (alike_res s.res) ∙ (ap (λ k. same_action k s.kind) is.kind ∙ (alike_kind s.kind).0)) in
     let replied : replied_alike r s ≡ true = ap (λ k. same_kind k s.kind && same_ahead r.ahead s.ahead) is.kind ∙ (ap (λ b. b && same_ahead r.ahead s.ahead) (alike_kind s.kind).1 ∙ alike_ahead r.ahead s.ahead is.ahead) in
-    ap (λ b. cond b (cond (does_alike r s) (cond (replied_alike r s) None (Some A5)) (Some A4)) (Some A3)) job
-    ∙ (ap (λ b. cond b (cond (replied_alike r s) None (Some A5)) (Some A4)) does ∙ ap (λ b. cond b None (Some A5)) replied)
+    ap (λ b. option_or (cond b (cond (does_alike r s) None (Some A4)) (Some A3)) (cond (replied_alike r s) None (Some A5))) job
+    ∙ (ap (λ b. option_or (cond b None (Some A4)) (cond (replied_alike r s) None (Some A5))) does ∙ ap (λ b. cond b None (Some A5)) replied)
 
 -- a row that is not unlike has a job of its core
 own_as : (plan : PlanModel) (rows : List Row) (r s : Row) → IsNextRow plan rows r.core.0 s → unlike r s ≡ None → is_of_core plan r ≡ true

@@ -1,7 +1,6 @@
 -- The piece of a core goes over the rows: those of the core, and the others.
 use Rattle.std.proofs.Common.{◌≡◌, ◌≢◌, ℕ, ◌+◌, ◌<◌, ◌&&◌, Bool, true, false, cond, List, [], ◌∷◌, ◌++◌, Option, Some, None, refl, ap, sym, ◌∙◌, subst, length, take, get_or, eq-eqb}
 use Rattle.std.proofs.Math.Bool.{true≢false}
-use Rattle.std.proofs.lemmas.List.{take_more}
 use Rattle.msrp_plan.specs.Plan.{PlanModel}
 use Rattle.msrp_plan.specs.Logs.{log_of}
 use Rattle.msrp_plan.specs.Runs.{IsRunStart, is_in_turn}
@@ -14,13 +13,10 @@ use Rattle.msrp_plan.proofs.Runs.Verdicts.{start_before}
 use Rattle.msrp_core.specs.Machine.{MachineModel, StandsAfter}
 use Rattle.msrp_audit.specs.Inside.Pieces.{broken_action, broken_on_core, TellsFirst}
 use Rattle.msrp_audit.specs.declared.pieces.Piece.TheVariants.{Core}
-use Rattle.msrp_audit.proofs.Scanning.{PassesTo, passes_more, ends_at, finds_at}
+use Rattle.msrp_audit.proofs.Scanning.{PassesTo, one_more, passes_more, ends_at, finds_at}
 use Rattle.msrp_audit.proofs.Merging.{sound}
 
 module _ (plan : PlanModel) (core : CoreId) (rows : List Row) (i : ℕ) (x : Row) (within : i < length rows) (at : x ≡ get_or rows i x) (passes : PassesTo plan (broken_on_core plan core.0) rows i) where
-  one_more : take (i + 1) rows ≡ take i rows ++ x ∷ []
-  one_more = take_more rows i x within ∙ ap (λ y. take i rows ++ y ∷ []) (sym at)
-
   by_turn : (b : Bool) (o : Option Rule) → x.core.0 ≡ core.0 → is_in_turn plan (take i rows) x ≡ b → broken_action plan (take i rows) x ≡ o → broken_on_core plan core.0 (take i rows) x ≡ cond b o None
   by_turn b o own turn action =
       ap (λ c. cond (c && is_in_turn plan (take i rows) x) (broken_action plan (take i rows) x) None) (eq-eqb x.core.0 core.0 own)
@@ -39,10 +35,10 @@ module _ (plan : PlanModel) (core : CoreId) (rows : List Row) (i : ℕ) (x : Row
   passes_here own turn action = passes_more plan (broken_on_core plan core.0) rows i x passes at (λ start. by_turn true None own (turn start) (action start))
 
   start_here : IsRunStart plan (take (i + 1) rows) → IsRunStart plan (take i rows)
-  start_here start = start_before plan (take i rows) (x ∷ []) (subst (IsRunStart plan) one_more start)
+  start_here start = start_before plan (take i rows) (x ∷ []) (subst (IsRunStart plan) (one_more rows i x within at) start)
 
   pub stands_here : (m : MachineModel) → (IsRunStart plan (take i rows) → StandsAfter m (log_of core.0 (take i rows ++ x ∷ []))) → IsRunStart plan (take (i + 1) rows) → StandsAfter m (log_of core.0 (take (i + 1) rows))
-  stands_here m stands start = subst (λ l. StandsAfter m (log_of core.0 l)) (sym one_more) (stands (start_here start))
+  stands_here m stands start = subst (λ l. StandsAfter m (log_of core.0 l)) (sym (one_more rows i x within at)) (stands (start_here start))
 
   -- and a row of another core
   pub passes_by : x.core.0 ≢ core.0 → PassesTo plan (broken_on_core plan core.0) rows (i + 1)

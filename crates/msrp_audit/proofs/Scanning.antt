@@ -15,12 +15,16 @@ use Rattle.msrp_audit.specs.Inside.Pieces.{TellsFirst}
 pub split_length : {X : Type 0} (xs pre post : List X) (x : X) → xs ≡ pre ++ x ∷ post → length xs ≡ length pre + suc (length post)
 split_length xs pre post x is = ap length is ∙ length-append pre (x ∷ post)
 
+-- the rows up to a place, and the one that stands there
+pub one_more : (rows : List Row) (i : ℕ) (x : Row) → i < length rows → x ≡ get_or rows i x → take (i + 1) rows ≡ take i rows ++ x ∷ []
+one_more rows i x within at = take_more rows i x within ∙ ap (λ y. take i rows ++ y ∷ []) (sym at)
+
 -- where the rows before a place are the start of a legal run, so are they up to each place before it
 pub start_at : (plan : PlanModel) (rows pre post : List Row) (r x : Row) (i : ℕ) → rows ≡ pre ++ r ∷ post → IsRunStart plan pre → i < length pre → x ≡ get_or rows i x → IsRunStart plan (take i rows ++ x ∷ [])
 start_at plan rows pre post r x i is start low at =
     let size = split_length rows pre post r is in
     let same : take (i + 1) rows ≡ take (i + 1) pre = ap (take (i + 1)) is ∙ take-append-le (i + 1) pre (r ∷ post) (omega (arith, low)) in
-    let more : take (i + 1) rows ≡ take i rows ++ x ∷ [] = take_more rows i x (omega (arith, low, size)) ∙ ap (λ y. take i rows ++ y ∷ []) (sym at) in
+    let more = one_more rows i x (omega (arith, low, size)) at in
     let part : IsRunStart plan (take (i + 1) pre) = start_before plan (take (i + 1) pre) (drop (i + 1) pre) (subst (IsRunStart plan) (sym (take-append-drop (i + 1) pre)) start) in
     subst (IsRunStart plan) (sym same ∙ more) part
 

@@ -1,24 +1,14 @@
 -- A row against the one that its core was due to make: what the first rule is that it breaks.
 use Rattle.std.specs.Prelude.{ℕ, Bool, true, false, ◌==◌, ◌&&◌, Option, Some, None, if◌then◌else◌}
+use Rattle.std.specs.Option.{option_or}
 use Rattle.msrp_plan.specs.Actions.{same_res}
+use Rattle.msrp_plan.specs.Kinds.{same_kind}
 use Rattle.msrp_plan.specs.Runs.{same_choice}
 use Rattle.msrp_plan.specs.declared.faults.Rule.{Rule}
 use Rattle.msrp_plan.specs.declared.faults.Rule.TheVariants.{A3, A4, A5}
 use Rattle.msrp_plan.specs.declared.rows.Kind.{Kind}
-use Rattle.msrp_plan.specs.declared.rows.Kind.TheVariants.{Idle, Run, Lock, Unlock, Take, Queue, Spin, Grant, Release}
+use Rattle.msrp_plan.specs.declared.rows.Kind.TheVariants.{Take, Queue, Spin, Grant}
 use Rattle.msrp_plan.specs.declared.rows.Row.{Row}
-
-abbrev pub same_kind : Kind → Kind → Bool
-same_kind Idle Idle = true
-same_kind Run Run = true
-same_kind Lock Lock = true
-same_kind Unlock Unlock = true
-same_kind Take Take = true
-same_kind Queue Queue = true
-same_kind Spin Spin = true
-same_kind Grant Grant = true
-same_kind Release Release = true
-same_kind _ _ = false
 
 -- the kinds are the same but for the answer: a request is taken or queued, a poll granted or left spinning
 abbrev pub same_action : Kind → Kind → Bool
@@ -48,4 +38,4 @@ unlike_turn r due = if same_choice r.job due.job then (if does_alike r due then 
 
 -- the lowest of the rules on job, action and reply that the row breaks, where this one is the row that is due
 abbrev pub unlike : Row → Row → Option Rule
-unlike r due = if same_choice r.job due.job then (if does_alike r due then (if replied_alike r due then None else Some A5) else Some A4) else Some A3
+unlike r due = option_or (unlike_turn r due) (if replied_alike r due then None else Some A5)

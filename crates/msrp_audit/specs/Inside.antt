@@ -1,4 +1,3 @@
 -- Words of the audit in pieces. No public contract speaks of them.
 pub mod Pieces
 pub mod Replies
-pub mod Requests

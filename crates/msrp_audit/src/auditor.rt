@@ -251,13 +251,6 @@ impl<'a> Auditor<'a> {
         }
     }
 
-    /// Whether a core has its turn still to come in the tick that is due, while the rows so far have no fault and rows are left.
-    pub fn has_turn(&self, core: CoreId) -> bool
-        ensures { (rows : List TraceRow) → HasFed self.now rows → self.now.fault ≡ None → length rows < self.now.plan.cores * self.now.plan.ticks → result ≡ has_turn self.now.plan rows core.0 }
-    {
-        self.is_due(core)
-    }
-
     /// What decides who has the core's next turn, while the rows so far have no fault; none of a core that the plan hasn't.
     pub fn state(&self, core: CoreId) -> Option<CoreState>
         ensures { (rows : List TraceRow) → HasFed self.now rows → self.now.fault ≡ None → core.0 < self.now.plan.cores → IsSomeAnd result (IsCoreState self.now.plan core.0 (length (log_of core.0 rows)) rows) }

@@ -2,7 +2,8 @@
 ghost use Rattle.std.specs.Prelude.{◌≡◌};
 ghost use Rattle.msrp_plan.specs.Runs.{same_choice};
 ghost use Rattle.msrp_plan.specs.Actions.{same_res};
-ghost use Rattle.msrp_audit.specs.Foresight.{same_action, same_kind, same_ahead, does_alike, replied_alike, unlike, unlike_turn};
+ghost use Rattle.msrp_plan.specs.Kinds.{same_kind};
+ghost use Rattle.msrp_audit.specs.Foresight.{same_action, same_ahead, does_alike, replied_alike, unlike, unlike_turn};
 
 use msrp_plan::{Kind, Row, Rule};
 

@@ -1,74 +1,18 @@
 //! The queue of one resource: A5.
-ghost use Rattle.std.specs.Prelude.{ℕ, ◌≡◌, ◌<◌, ◌≤◌, ◌+◌, ◌*◌, ◌++◌, ◌∷◌, [], List, IfOk, drop, length, Some, true};
-ghost use Rattle.msrp_plan.specs.Limits.{most_rows};
-ghost use Rattle.msrp_plan.specs.Queues.{counts, is_behind, is_first, is_on, is_release, is_reply_of, is_request, replies};
+ghost use Rattle.std.specs.Prelude.{◌≡◌, ◌<◌, ◌≤◌, ◌*◌, IfOk, length};
+ghost use Rattle.msrp_plan.specs.Queues.{counts, is_behind, is_first, is_on, is_reply_of, replies};
 ghost use Rattle.std.specs.List.{list_any};
 ghost use Rattle.msrp_plan.specs.Jobs.{same_job};
-ghost use Rattle.msrp_plan.specs.declared.rows.Row.{Row as TraceRow};
 ghost use Rattle.msrp_audit.specs.Inside.Pieces.{broken_reply, TellsFirst};
-ghost use Rattle.msrp_audit.specs.Inside.Requests.{HasRequests};
 
 use msrp_levels::Levels;
-use msrp_plan::{Fault, JobId, Kind, Memory, Plan, ResId, Row, Rule};
+use msrp_plan::{Fault, JobId, Kind, Memory, Plan, Requests, ResId, Row, Rule};
 use std::alloc::Global;
-
-// The requests of a resource so far, in order, and how many releases came.
-#[derive(Drop)]
-struct Requests {
-    jobs: Vec<JobId>,
-    released: usize,
-}
-
-impl Requests {
-    // The jobs that stand in the queue, the first in front.
-    fn queue(&self) -> &[JobId]
-        ensures { result.now ≡ drop self.now.released self.now.jobs.items }
-    {
-        &self.jobs[self.released.min(self.jobs.len())..]
-    }
-
-    // One row on the resource more.
-    fn add(&mut self, row: Row) -> Result<(), Memory>
-        requires { self.old.released < most_rows }
-        ensures requests { IfOk result (λ _. (g : ℕ) (rows : List TraceRow) → is_on g row.res ≡ true → HasRequests g rows self.old.jobs.items self.old.released → HasRequests g (rows ++ row ∷ []) self.new.jobs.items self.new.released) }
-        ensures released { self.new.released ≤ self.old.released + 1 }
-    {
-        if is_release(row.kind) {
-            self.released += 1;
-            return Ok(());
-        }
-        if !is_request(row.kind) {
-            return Ok(());
-        }
-        match row.job {
-            Some(job) => match self.jobs.push(job) {
-                Ok(()) => Ok(()),
-                Err(_) => Err(Memory),
-            },
-            None => Ok(()),
-        }
-    }
-}
 
 fn is_on(row: Row, res: ResId) -> bool
     ensures { result ≡ is_on res.0 row.res }
 {
-    match row.res {
-        Some(own) => own == res,
-        None => false,
-    }
-}
-
-fn is_release(kind: Kind) -> bool
-    ensures { result ≡ is_release kind }
-{
-    matches!(kind, Kind::Release)
-}
-
-fn is_request(kind: Kind) -> bool
-    ensures { result ≡ is_request kind }
-{
-    matches!(kind, Kind::Take | Kind::Queue)
+    row.res == Some(res)
 }
 
 fn is_first(queue: &[JobId], job: Option<JobId>) -> bool
@@ -143,10 +87,7 @@ pub(crate) fn judge_resource(
     if !levels.is_global(res) {
         return Ok(None);
     }
-    let mut requests = Requests {
-        jobs: Vec::new(alloc),
-        released: 0,
-    };
+    let mut requests = Requests::of(alloc, res);
     for index in 0..rows.len() {
         let row = rows[index];
         if is_on(row, res) {
@@ -160,7 +101,7 @@ pub(crate) fn judge_resource(
                     rule: Rule::A5,
                 }));
             }
-            requests.add(row)?;
+            requests.take(&row)?;
         }
     }
     Ok(None)

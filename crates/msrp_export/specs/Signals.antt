@@ -61,15 +61,15 @@ kind_in tick t (Some r) = if (r.tick == tick) && is_row_of_task t r then Some r.
 
 -- a released job spins where its row in the tick is one in which it waits; else it holds a resource, though another may run; else it
 -- runs where it has a row in the tick
-abbrev pub active_state : Bool → Option Kind → TaskState
-active_state holds None = if holds then Holding else Ready
-active_state holds (Some kind) = if is_waiting kind then Spinning else (if holds then Holding else Running)
+abbrev pub released_state : Bool → Option Kind → TaskState
+released_state holds None = if holds then Holding else Ready
+released_state holds (Some kind) = if is_waiting kind then Spinning else (if holds then Holding else Running)
 
 -- by the job that the task is at when the tick begins
 abbrev pub task_state : PlanModel → List Row → List Row → ℕ → ℕ → TaskState
 task_state plan before rows tick t =
     if is_released plan tick (job_after plan before t) then
-    active_state (nat_lt (given_up t rows) (acquired t rows)) (kind_in tick t (last_row (task_at plan t).core rows)) else Unreleased
+    released_state (nat_lt (given_up t rows) (acquired t rows)) (kind_in tick t (last_row (task_at plan t).core rows)) else Unreleased
 
 -- that job is not finished by its absolute deadline
 abbrev pub is_late : PlanModel → List Row → ℕ → ℕ → Bool

@@ -6,7 +6,7 @@ ghost use Rattle.msrp_plan.specs.Times.{HasRelease};
 ghost use Rattle.msrp_plan.specs.WellFormed.{IsPlan};
 ghost use Rattle.msrp_plan.specs.declared.rows.Row.{Row as TraceRow};
 ghost use Rattle.msrp_export.specs.Exports.{TellsTick};
-ghost use Rattle.msrp_export.specs.Signals.{active_state, doing_of, job_after, kind_in, work};
+ghost use Rattle.msrp_export.specs.Signals.{doing_of, job_after, kind_in, released_state, work};
 ghost use Rattle.msrp_export.specs.Tells.{IsPast, Tells};
 ghost use Rattle.msrp_export.specs.Ticks.{at_rest, doing_before, doing_in};
 ghost use Rattle.msrp_export.specs.declared.states.TaskState.TheVariants.{Unreleased};
@@ -109,8 +109,8 @@ fn kind_in(tick: u32, task: TaskId, row: Option<Row>) -> Option<Kind>
 }
 
 // What a released job does.
-fn active_state(holds: bool, kind: Option<Kind>) -> TaskState
-    ensures { result ≡ active_state holds kind }
+fn released_state(holds: bool, kind: Option<Kind>) -> TaskState
+    ensures { result ≡ released_state holds kind }
 {
     match kind {
         Some(kind) if waits(kind) => TaskState::Spinning,
@@ -122,10 +122,10 @@ fn active_state(holds: bool, kind: Option<Kind>) -> TaskState
 
 // What a job does, once it is released.
 fn state_of(released: bool, holds: bool, kind: Option<Kind>) -> TaskState
-    ensures { result ≡ if released then active_state holds kind else Unreleased }
+    ensures { result ≡ if released then released_state holds kind else Unreleased }
 {
     if released {
-        active_state(holds, kind)
+        released_state(holds, kind)
     } else {
         TaskState::Unreleased
     }

@@ -16,7 +16,7 @@ use Rattle.msrp_plan.proofs.Lists.Ranges.{flat_more}
 use Rattle.msrp_picture.specs.Blocks.{blocks, span_of}
 use Rattle.msrp_picture.specs.Ceilings.{ceiling_shapes, ceiling_spans}
 use Rattle.msrp_picture.specs.Inside.TaskRows.{task_rows}
-use Rattle.msrp_picture.specs.Jobs.{active_span, event_of, late_span, life_shapes, task_jobs}
+use Rattle.msrp_picture.specs.Jobs.{event_of, late_span, life_shapes, life_span, task_jobs}
 use Rattle.msrp_picture.specs.Lanes.{axis, core_shapes, cores_shapes, rows_shapes, task_head, task_life, tasks_shapes, tick_note}
 use Rattle.msrp_picture.specs.Laws.{OneArrowForEachRelease, is_release_of}
 use Rattle.msrp_picture.specs.Lines.{global_resources}
@@ -185,9 +185,9 @@ one-own plan j w room within =
 life-arrows : (plan : PlanModel) (j : JobId) (w : Window) (room : Room) (life : Life) (n : ℕ) → count_by (is_release_of plan j) (met w (event_of room Release life.release life.job)) ≡ n → count_by (is_release_of plan j) (life_shapes w room life) ≡ n
 life-arrows plan j w room life n e =
     let p = is_release_of plan j in
-    let whole = both p (seen w (active_span room life) ++ seen w (late_span room life) ++ met w (event_of room Release life.release life.job)) (met w (event_of room Deadline life.due life.job)) in
-    let front = both p (seen w (active_span room life) ++ seen w (late_span room life)) (met w (event_of room Release life.release life.job)) in
-    let spans = none-both p (seen w (active_span room life)) (seen w (late_span room life)) (no-seen plan j w (active_span room life)) (no-seen plan j w (late_span room life)) in
+    let whole = both p (seen w (life_span room life) ++ seen w (late_span room life) ++ met w (event_of room Release life.release life.job)) (met w (event_of room Deadline life.due life.job)) in
+    let front = both p (seen w (life_span room life) ++ seen w (late_span room life)) (met w (event_of room Release life.release life.job)) in
+    let spans = none-both p (seen w (life_span room life)) (seen w (late_span room life)) (no-seen plan j w (life_span room life)) (no-seen plan j w (late_span room life)) in
     let down = no-deadline plan j w room life.due life.job in
     omega (arith, whole, front, spans, down, e)
 

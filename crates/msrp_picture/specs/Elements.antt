@@ -11,7 +11,7 @@ use Rattle.msrp_picture.specs.declared.elements.TheConstants.{HUES}
 use Rattle.msrp_picture.specs.declared.places.TheConstants.{LEFT}
 use Rattle.msrp_picture.specs.declared.shapes.Event.{Event}
 use Rattle.msrp_picture.specs.declared.shapes.Look.{Look}
-use Rattle.msrp_picture.specs.declared.shapes.Look.TheVariants.{Lane, Does, Turn, Holds, First, Active, Late, Ceiling, Breaks}
+use Rattle.msrp_picture.specs.declared.shapes.Look.TheVariants.{Lane, Does, Turn, Holds, First, Life, Late, Ceiling, Breaks}
 use Rattle.msrp_picture.specs.declared.shapes.Note.{Note}
 use Rattle.msrp_picture.specs.declared.shapes.Shape.{Shape}
 use Rattle.msrp_picture.specs.declared.shapes.Shape.TheVariants.{Block, Arrow, Text}
@@ -32,7 +32,7 @@ look_class (Does kind) = kind_text kind
 look_class Turn = codes "turn"
 look_class Holds = codes "holds"
 look_class (First n) = codes "first"
-look_class (Active finished) = codes "active"
+look_class (Life finished) = codes "life"
 look_class Late = codes "late"
 look_class (Ceiling n) = codes "ceiling"
 look_class (Breaks rule) = codes "breaks"
@@ -51,7 +51,7 @@ abbrev pub colour : Option JobId → Look → List ℕ
 colour job (Does kind) = hue job
 colour job Turn = hue job
 colour job (First n) = hue job
-colour job (Active finished) = hue job
+colour job (Life finished) = hue job
 colour job _ = []
 
 unfoldable pub block_head : Window → Span → List ℕ

@@ -31,7 +31,7 @@ svg_window plan rows (Err fault) w = record { from = w.from; to = max (min w.to 
 
 -- ---- head
 unfoldable pub style_text : List ℕ
-style_text = codes "<style>text{font:11px monospace}.label{text-anchor:end;font-weight:bold}.level{text-anchor:end;font-size:9px;fill:#555}.tick{font-size:9px;fill:#555;text-anchor:middle}.caption{font-size:13px}.key{font-size:10px;fill:#333}.rule{fill:#b00;font-weight:bold;stroke:#fff;stroke-width:3;paint-order:stroke}rect{fill:none}.a{fill:#EEBC4D}.b{fill:#89CBF0}.c{fill:#4DBB9D}.d{fill:#F4EC7B}.e{fill:#4D9CC9}.f{fill:#E28E4D}.g{fill:#DBA1C1}rect+rect{stroke:#333}.lane rect+rect{fill:url(#ticks);stroke:#999}.active rect{fill:#555}.late rect{fill:#b00}.ceiling rect{fill:#ddd}.active rect+rect,.late rect+rect{stroke:none}.queue rect+rect,.spin rect+rect{fill:url(#hatch)}.holds rect+rect{fill:#fff;stroke-width:.7}svg svg text{font-size:9px}.holds text{font-size:8px}.after{opacity:.35}.breaks rect+rect{stroke:#b00;stroke-width:3}use{fill:none;stroke:#000;stroke-width:1.4;fill-opacity:0;pointer-events:all}</style><defs><path id='release' d='M0 0V-13M-3 -9L0 -13L3 -9'/><path id='deadline' d='M0 -13V0M-3 -4L0 0L3 -4'/><pattern id='hatch' width='5' height='5' patternUnits='userSpaceOnUse' patternTransform='rotate(45)'><path d='M1 0V5' stroke='#fff' stroke-width='2'/></pattern></defs><rect width='100%' height='100%' style='fill:#fff'/><text class='key' x='20' y='62'>= works  ( locks  ) unlocks  [ gets  ] releases  ? joins a queue  ~ spins (hatched); behind it the number of the job</text><text class='key' x='20' y='76'>white: from where a job gets a resource to where it gives it back; arrow up: a release; arrow down: an absolute deadline</text><text class='key' x='20' y='90'>thin line: from a job's release to its end; red: behind its absolute deadline; grey: the ceiling of a core after the tick</text><text class='key' x='20' y='104'>of a core: who has the turn; of a resource: the first in its queue after the tick, and how many wait behind it</text>\n"
+style_text = codes "<style>text{font:11px monospace}.label{text-anchor:end;font-weight:bold}.level{text-anchor:end;font-size:9px;fill:#555}.tick{font-size:9px;fill:#555;text-anchor:middle}.caption{font-size:13px}.key{font-size:10px;fill:#333}.rule{fill:#b00;font-weight:bold;stroke:#fff;stroke-width:3;paint-order:stroke}rect{fill:none}.a{fill:#EEBC4D}.b{fill:#89CBF0}.c{fill:#4DBB9D}.d{fill:#F4EC7B}.e{fill:#4D9CC9}.f{fill:#E28E4D}.g{fill:#DBA1C1}rect+rect{stroke:#333}.lane rect+rect{fill:url(#ticks);stroke:#999}.life rect{fill:#555}.late rect{fill:#b00}.ceiling rect{fill:#ddd}.life rect+rect,.late rect+rect{stroke:none}.queue rect+rect,.spin rect+rect{fill:url(#hatch)}.holds rect+rect{fill:#fff;stroke-width:.7}svg svg text{font-size:9px}.holds text{font-size:8px}.after{opacity:.35}.breaks rect+rect{stroke:#b00;stroke-width:3}use{fill:none;stroke:#000;stroke-width:1.4;fill-opacity:0;pointer-events:all}</style><defs><path id='release' d='M0 0V-13M-3 -9L0 -13L3 -9'/><path id='deadline' d='M0 -13V0M-3 -4L0 0L3 -4'/><pattern id='hatch' width='5' height='5' patternUnits='userSpaceOnUse' patternTransform='rotate(45)'><path d='M1 0V5' stroke='#fff' stroke-width='2'/></pattern></defs><rect width='100%' height='100%' style='fill:#fff'/><text class='key' x='20' y='62'>= works  ( locks  ) unlocks  [ gets  ] releases  ? joins a queue  ~ spins (hatched); behind it the number of the job</text><text class='key' x='20' y='76'>white: from where a job gets a resource to where it gives it back; arrow up: a release; arrow down: an absolute deadline</text><text class='key' x='20' y='90'>thin line: from a job's release to its end; red: behind its absolute deadline; grey: the ceiling of a core after the tick</text><text class='key' x='20' y='104'>of a core: who has the turn; of a resource: the first in its queue after the tick, and how many wait behind it</text>\n"
 
 abbrev pub picture_width : Window → ℕ
 picture_width w = max (left_of w w.to + 20) LEAST_WIDTH

@@ -8,7 +8,7 @@ use Rattle.msrp_plan.specs.declared.rows.Kind.{Kind}
 use Rattle.msrp_picture.specs.Cells.{sign}
 use Rattle.msrp_picture.specs.declared.shapes.Event.{Event}
 use Rattle.msrp_picture.specs.declared.shapes.Look.{Look}
-use Rattle.msrp_picture.specs.declared.shapes.Look.TheVariants.{Lane, Does, Turn, Holds, First, Active, Late, Ceiling, Breaks}
+use Rattle.msrp_picture.specs.declared.shapes.Look.TheVariants.{Lane, Does, Turn, Holds, First, Life, Late, Ceiling, Breaks}
 use Rattle.msrp_picture.specs.declared.shapes.Moment.{Moment}
 use Rattle.msrp_picture.specs.declared.shapes.Moment.TheVariants.{Release, Deadline}
 use Rattle.msrp_picture.specs.declared.shapes.Span.{Span}
@@ -34,8 +34,8 @@ look_told (Does kind) = kind_text kind
 look_told Turn = codes "has the turn of its core"
 look_told Holds = codes "holds"
 look_told (First n) = codes "ahead of " ++ decimal n ++ codes " in the queue of"
-look_told (Active true) = codes "from its release to its end"
-look_told (Active false) = codes "from its release on, not finished"
+look_told (Life true) = codes "from its release to its end"
+look_told (Life false) = codes "from its release on, not finished"
 look_told Late = codes "behind its absolute deadline"
 look_told (Ceiling n) = codes "ceiling " ++ decimal n
 look_told (Breaks rule) = codes "breaks rule " ++ rule_text rule

@@ -36,7 +36,7 @@ fn look_class(look: Look) -> &'static [u8]
         Look::Turn => b"turn",
         Look::Holds => b"holds",
         Look::First(_) => b"first",
-        Look::Active(_) => b"active",
+        Look::Life(_) => b"life",
         Look::Late => b"late",
         Look::Ceiling(_) => b"ceiling",
         Look::Breaks(_) => b"breaks",
@@ -66,7 +66,7 @@ fn add_colour(text: &mut Vec<u8>, look: Look, job: Option<JobId>) -> Result<(), 
     ensures { OnOk result (text.new.items ≡ text.old.items ++ colour job look) }
 {
     match look {
-        Look::Does(_) | Look::Turn | Look::First(_) | Look::Active(_) => add_hue(text, job),
+        Look::Does(_) | Look::Turn | Look::First(_) | Look::Life(_) => add_hue(text, job),
         _ => Ok(()),
     }
 }

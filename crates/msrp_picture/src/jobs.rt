@@ -2,25 +2,25 @@
 ghost use Rattle.std.specs.Prelude.{◌≡◌, ◌<◌, ◌++◌, ◌^◌, length, IsSome, OnOk};
 ghost use Rattle.msrp_plan.specs.Plan.{release_tick};
 ghost use Rattle.msrp_picture.specs.Inside.TaskRows.{task_rows};
-ghost use Rattle.msrp_picture.specs.Jobs.{active_span, event_of, late_span, life_shapes, task_jobs};
+ghost use Rattle.msrp_picture.specs.Jobs.{event_of, late_span, life_shapes, life_span, task_jobs};
 
 use crate::lives::{Life, life_of};
-use crate::places::{ACTIVE_HEIGHT, ACTIVE_TOP, LATE_HEIGHT, TASK_HEIGHT};
+use crate::places::{LATE_HEIGHT, LIFE_HEIGHT, LIFE_TOP, TASK_HEIGHT};
 use crate::seen::{push_met, push_seen};
 use crate::shapes::{Event, Look, Moment, Room, Shape, Span, lasting};
 use crate::windows::Window;
 use msrp_plan::{JobId, Memory, Plan, Row, TaskId};
 
 // A line in the lane of a job's task, under its blocks.
-fn active_span(room: Room, life: Life) -> Span
+fn life_span(room: Room, life: Life) -> Span
     requires { room.top < 2 ^ 41 }
-    ensures { result ≡ active_span room life }
+    ensures { result ≡ life_span room life }
 {
     let line = Room {
-        top: room.top + ACTIVE_TOP,
-        height: ACTIVE_HEIGHT,
+        top: room.top + LIFE_TOP,
+        height: LIFE_HEIGHT,
     };
-    let look = Look::Active(life.is_finished);
+    let look = Look::Life(life.is_finished);
     lasting(life.release, life.end, line, look, Some(life.job), None)
 }
 
@@ -51,7 +51,7 @@ fn push_life(shapes: &mut Vec<Shape>, window: Window, room: Room, life: Life) ->
     requires { room.top < 2 ^ 41 }
     ensures { OnOk result (shapes.new.items ≡ shapes.old.items ++ life_shapes window room life) }
 {
-    push_seen(shapes, window, active_span(room, life))?;
+    push_seen(shapes, window, life_span(room, life))?;
     push_seen(shapes, window, late_span(room, life))?;
     push_met(
         shapes,

@@ -42,10 +42,10 @@ pub const TASK_HEIGHT: u64 = 50;
 /// From where the lane of a task begins to where the next one does.
 pub const TASK_PITCH: u64 = 68;
 
-/// From where the lane of a task begins to the lines of its active jobs, and their height.
-pub const ACTIVE_TOP: u64 = 8;
+/// From where the lane of a task begins to the lines of its jobs' lives, and their height.
+pub const LIFE_TOP: u64 = 8;
 
-pub const ACTIVE_HEIGHT: u64 = 2;
+pub const LIFE_HEIGHT: u64 = 2;
 
 /// The height of what is late, below the lane of a task.
 pub const LATE_HEIGHT: u64 = 4;

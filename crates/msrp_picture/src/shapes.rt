@@ -24,9 +24,9 @@ pub enum Look {
     Holds,
     /// That a job is first in the queue of a resource, with so many behind it.
     First(u64),
-    /// That a job is active: from its release to its end, by which it is finished or not.
-    Active(bool),
-    /// That a job is active behind its absolute deadline.
+    /// The life of a job: from its release to its end, by which it is finished or not.
+    Life(bool),
+    /// Its part behind the job's absolute deadline.
     Late,
     /// The ceiling of a core.
     Ceiling(u32),

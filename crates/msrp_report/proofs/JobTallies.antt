@@ -1,5 +1,5 @@
 -- Where the jobs of a plan stand among what is kept of them.
-use Rattle.std.proofs.Common.{◌≡◌, ℕ, zero, suc, ◌<◌, ◌≤◌, ◌+◌, ◌==◌, ◌&&◌, not, Bool, true, false, List, [], ◌∷◌, ◌++◌, Option, Some, None, refl, ap, sym, ◌∙◌, subst, arith, length, map, slice_get, get_or, nat_lt, ◌*◌, ◌^◌, cond, fold, filter, unwrap_or, mul_comm}
+use Rattle.std.proofs.Common.{◌≡◌, ℕ, zero, suc, ◌<◌, ◌≤◌, ◌+◌, ◌==◌, ◌&&◌, not, Bool, true, false, List, [], ◌∷◌, ◌++◌, Option, Some, None, refl, ap, sym, ◌∙◌, subst, arith, length, map, slice_get, get_or, nat_lt, ◌*◌, cond, fold, filter, unwrap_or, mul_comm}
 use Rattle.std.specs.List.{AllByRecursion, Contains, range_with_len}
 use Rattle.std.proofs.lemmas.List.Elements.{All-contains, All-from_recursion}
 use Rattle.std.proofs.lemmas.List.FromFn.{length-map-range_with_len, get_or-map-range_with_len}
@@ -20,7 +20,7 @@ use Rattle.msrp_plan.proofs.Lists.AnyAll.{all_weaker, all_flat}
 use Rattle.msrp_plan.proofs.Lists.LeastKept.{least_in}
 use Rattle.msrp_plan.proofs.Lists.Members.{kept_by}
 use Rattle.msrp_plan.proofs.Jobs.CoreJobs.{known_released, known_task}
-use Rattle.msrp_report.specs.Inside.Counts.{count_of, HasRoom}
+use Rattle.msrp_report.specs.Inside.Counts.{CanCount, count_of, HasRoom}
 use Rattle.msrp_report.specs.Lines.{last_tick}
 use Rattle.msrp_report.specs.declared.counts.JobCount.{JobCount}
 use Rattle.msrp_report.specs.declared.tallies.Tallies.{Tallies}
@@ -107,13 +107,6 @@ few_rows plan rows ok start =
     omega (arith, size, x, y)
 
 -- one row more can be counted
-pub record CanCount (c : JobCount) : Type 0 where
-  pub rows : c.rows + 1 < 2 ^ 32
-  pub done : c.done + 1 < 2 ^ 32
-  pub spins : c.spins + 1 < 2 ^ 32
-  pub wait : HasRoom c.wait
-  pub longest : unwrap_or c.wait 0 ≤ c.longest_wait
-
 pub can_count : (plan : PlanModel) (rows : List Row) (j : JobId) (c : JobCount) → IsPlan plan → IsRunStart plan rows → c ≡ count_of rows j → CanCount c
 can_count plan rows j c ok start is =
     let few = subst (AreFew (length rows)) (sym is) (counts_few rows j) in

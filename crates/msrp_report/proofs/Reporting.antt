@@ -1,12 +1,13 @@
 -- A report while the rows come, and at their end.
-use Rattle.std.proofs.Common.{◌≡◌, ℕ, ◌<◌, ◌≤◌, ◌+◌, ◌*◌, Bool, true, false, cond, List, [], ◌∷◌, ◌++◌, Option, Some, None, refl, ap, sym, ◌∙◌, subst, length, map, nat_lt, take, drop, get_or}
+use Rattle.std.proofs.Common.{◌≡◌, ℕ, ◌≤◌, ◌+◌, ◌*◌, Bool, true, false, cond, List, [], ◌∷◌, ◌++◌, Option, Some, None, refl, ap, sym, ◌∙◌, subst, length, map, nat_lt, take, drop}
 use Rattle.std.specs.Prelude.{⊤}
 use Rattle.std.specs.List.{All, range_with_len}
-use Rattle.std.specs.declared.result.Result.TheVariants.{Ok, Err}
+use Rattle.std.specs.declared.result.Result.TheVariants.{Ok}
 use Rattle.std.proofs.lemmas.Bool.{ltb-true}
-use Rattle.std.proofs.lemmas.List.{take-append-drop, take_more}
+use Rattle.std.proofs.lemmas.List.{take-append-drop}
 use Rattle.std.proofs.lemmas.List.Elements.{All-from_recursion}
 use Rattle.msrp_audit.specs.Audits.{answer_of}
+use Rattle.msrp_audit.proofs.Judging.{good_told}
 use Rattle.msrp_plan.specs.Plan.{PlanModel}
 use Rattle.msrp_plan.specs.Runs.{IsRun, IsRunStart}
 use Rattle.msrp_plan.specs.Verdict.{broken, fault_in, fault_or, verdict}
@@ -32,15 +33,6 @@ pub goes_on : (plan : PlanModel) (rows : List Row) (r : Row) → IsRunStart plan
 goes_on plan rows r start good =
     let both = unfaulty (nat_lt (length rows) (plan.cores * plan.ticks)) (broken plan rows r) (length rows + 1) (sym (fault_push plan rows r (start_is_good plan rows start)) ∙ good) in
     start_push plan rows r start (ltb-true (length rows) (plan.cores * plan.ticks) both.0) (unbroken_is_legal plan rows r both.1)
-
--- answers
-pub good_told : (o : Option Fault) (good : ⊤) → Ok good ≡ answer_of o → o ≡ None
-good_told None good h = refl
-good_told (Some f) good h = absurd (cc)
-
-pub fault_told : (o : Option Fault) (f : Fault) → Err f ≡ answer_of o → o ≡ Some f
-fault_told None f h = absurd (cc)
-fault_told (Some g) f h = cc
 
 -- rows before rows without a fault have none
 none_before : (plan : PlanModel) (rows : List Row) (r : Row) (o : Option Fault) → fault_in plan rows ≡ o → fault_in plan (rows ++ r ∷ []) ≡ None → o ≡ None
@@ -77,13 +69,6 @@ spins_bounded plan rows lines n ok start all e =
 pub blocked_bounded : (plan : PlanModel) (rows : List Row) (lines : List Line) (n : ℕ) → IsPlan plan → IsRunStart plan rows → n ≡ length plan.tasks → lines ≡ map (line_of plan rows) (range_with_len 0 n) → All (λ (l : Line). l.worst_blocked ≤ l.blocked_bound) lines
 blocked_bounded plan rows lines n ok start all e =
     subst (All (λ (l : Line). l.worst_blocked ≤ l.blocked_bound)) (sym (e ∙ ap (λ k. map (line_of plan rows) (range_with_len 0 k)) all)) (All-from_recursion (λ (l : Line). l.worst_blocked ≤ l.blocked_bound) _ (all_blocked_kept plan rows ok start))
-
--- ---- the rows of a trace, in turn
--- one more
-pub one_more : (rows items : List Row) (i : ℕ) (r : Row) → items ≡ rows → i < length items → r ≡ get_or items i r → take (i + 1) rows ≡ take i rows ++ r ∷ []
-one_more rows items i r same l is =
-    let P : List Row → Type 0 = λ xs. take (i + 1) xs ≡ take i xs ++ r ∷ [] in
-    subst P same (take_more items i r l ∙ ap (λ x. take i items ++ x ∷ []) (sym is))
 
 -- rows of a run have no fault with the next one
 pub part_good : (plan : PlanModel) (rows part : List Row) (n : ℕ) → IsRun plan rows → take n rows ≡ part → fault_in plan part ≡ None

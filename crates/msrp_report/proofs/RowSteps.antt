@@ -25,10 +25,11 @@ use Rattle.msrp_plan.proofs.Lists.Prefixes.{each_at, each_before}
 use Rattle.msrp_plan.proofs.Scheduling.Released.{runs_released}
 use Rattle.msrp_sim.proofs.Standing.{get_set_same, get_set_other}
 use Rattle.msrp_report.specs.Inside.Counts.{counted, count_of}
-use Rattle.msrp_report.specs.Inside.Tallies.{AreFacts, AreTallies, HaveBegun, IsJobTally, IsNextOf, IsTaskTally, ToldOf, release_or_end, is_active}
+use Rattle.msrp_report.specs.Inside.Tallies.{AreFacts, AreTallies, Counts, HaveBegun, IsJobTally, IsNextOf, IsTaskTally, ToldOf, release_or_end, is_active}
 use Rattle.msrp_report.specs.declared.counts.JobCount.{JobCount}
 use Rattle.msrp_report.specs.declared.tallies.Blocking.TheVariants.{Over}
 use Rattle.msrp_report.specs.declared.tallies.JobTally.{JobTally}
+use Rattle.msrp_report.specs.declared.tallies.Tallies.{Tallies}
 use Rattle.msrp_report.specs.declared.tallies.TaskTally.{TaskTally}
 use Rattle.msrp_report.proofs.Active.{sole, turn_active}
 use Rattle.msrp_report.proofs.JobCounts.{count_push, done_is}
@@ -43,8 +44,8 @@ use Rattle.msrp_plan.proofs.Runs.Verdicts.{start_last}
 pub row_in : (plan : PlanModel) (rows : List Row) (r : Row) (j : JobId) → IsRunStart plan (rows ++ r ∷ []) → r.job ≡ Some j → Contains (jobs plan) j
 row_in plan rows r j start job = (kept_by (λ i. core_of plan i == r.core.0) (jobs plan) j ((legal_turn plan rows r (start_last plan rows r start)).known j job)).0
 
-pub row_told : (plan : PlanModel) (rows : List Row) (r : Row) (j : JobId) (begun : ℕ) (tasks : List TaskTally) → IsPlan plan → AreTallies plan rows (λ _. begun) tasks → IsRunStart plan (rows ++ r ∷ []) → r.job ≡ Some j → ToldOf tasks j
-row_told plan rows r j begun tasks ok are start job = record { plan = plan; rows = rows; begun = λ _. begun; accepted = ok; tallies = are; known = row_in plan rows r j start job }
+pub row_told : (plan : PlanModel) (r : Row) (j : JobId) (t : Tallies) → IsPlan plan → Counts plan r t → r.job ≡ Some j → ToldOf t.tasks.items j
+row_told plan r j t ok counts job = record { plan = plan; rows = counts.0; begun = λ _. t.begun; accepted = ok; tallies = counts.1; known = row_in plan counts.0 r j counts.2.start job }
 
 -- the next row stands in a tick of the plan
 pub tick_left : (plan : PlanModel) (rows : List Row) (r : Row) → IsPlan plan → IsRunStart plan (rows ++ r ∷ []) → r.tick < plan.ticks

@@ -1,6 +1,6 @@
 //! What the rows tell of one job, row by row.
 ghost use Rattle.std.specs.Prelude.{◌≡◌, ◌<◌, ◌≤◌, ◌+◌, ◌^◌, unwrap_or};
-ghost use Rattle.msrp_report.specs.Inside.Counts.{counted, spun, HasRoom};
+ghost use Rattle.msrp_report.specs.Inside.Counts.{CanCount, counted, spun, HasRoom};
 
 use msrp_plan::{Kind, Row};
 
@@ -48,11 +48,7 @@ impl JobCount {
     /// One row of the job more. Only what the row changes is written.
     #[inline(always)]
     pub(crate) fn add(&mut self, row: Row)
-        requires rows { self.old.rows + 1 < 2 ^ 32 }
-        requires done { self.old.done + 1 < 2 ^ 32 }
-        requires spins { self.old.spins + 1 < 2 ^ 32 }
-        requires wait { HasRoom self.old.wait }
-        requires longest { unwrap_or self.old.wait 0 ≤ self.old.longest_wait }
+        requires { CanCount self.old }
         ensures { self.new ≡ counted row self.old }
     {
         self.rows += 1;

@@ -1,5 +1,5 @@
 -- What the rows tell of one job, row by row.
-use Rattle.std.specs.Prelude.{ℕ, List, Option, Some, None, not, filter, fold, max, unwrap_or, ◌+◌, ◌^◌, ◌<◌, ⊤, if◌then◌else◌}
+use Rattle.std.specs.Prelude.{ℕ, List, Option, Some, None, not, filter, fold, max, unwrap_or, ◌+◌, ◌^◌, ◌<◌, ◌≤◌, ⊤, if◌then◌else◌}
 use Rattle.msrp_plan.specs.Jobs.{is_row_of, is_waiting}
 use Rattle.msrp_plan.specs.Laws.{is_spin}
 use Rattle.msrp_plan.specs.declared.ids.JobId.{JobId}
@@ -19,6 +19,14 @@ wait_with _ wait = wait
 abbrev pub HasRoom : Option ℕ → Type 0
 HasRoom None = ⊤
 HasRoom (Some n) = n + 1 < 2 ^ 32
+
+-- one row more can be counted
+pub record CanCount (c : JobCount) : Type 0 where
+  pub rows : c.rows + 1 < 2 ^ 32
+  pub done : c.done + 1 < 2 ^ 32
+  pub spins : c.spins + 1 < 2 ^ 32
+  pub wait : HasRoom c.wait
+  pub longest : unwrap_or c.wait 0 ≤ c.longest_wait
 
 -- a job without a row
 abbrev pub uncounted : JobCount

@@ -120,7 +120,7 @@ impl Tallies {
         let tally = &mut self.tasks[at];
         tally.jobs[k as usize].blocking = blocking;
         tally.released = k + 1;
-        tally.due = release_or_end(plan, task, k + 1);
+        tally.due = release_or_end(plan, task, tally.released);
     }
 
     // Releases each job that is released in the tick that begins, and looks for the tick of the next release.

@@ -1,28 +1,19 @@
-use Rattle.std.proofs.Common.{◌≡◌, ℕ, ◌+◌, ◌<◌, ◌++◌, ◌∷◌, [], List, Option, None, Some, Err, length, take, drop, get_or, refl, ap, sym, ◌∙◌, subst}
-use Rattle.std.proofs.lemmas.List.{take-append-drop, take_more}
+use Rattle.std.proofs.Common.{◌≡◌, ℕ, ◌+◌, ◌++◌, ◌∷◌, [], List, Some, Err, take, drop, ap, sym, ◌∙◌, subst}
+use Rattle.std.proofs.lemmas.List.{take-append-drop}
 use Rattle.msrp_plan.specs.Plan.{PlanModel}
 use Rattle.msrp_plan.specs.Verdict.{fault_in, verdict}
 use Rattle.msrp_plan.specs.declared.faults.Fault.{Fault}
 use Rattle.msrp_plan.specs.declared.rows.Row.{Row as TraceRow}
 use Rattle.msrp_plan.proofs.Runs.Verdicts.{fault_stays, early_is}
 use Rattle.msrp_audit.specs.Audits.{HasFed, answer_of}
+use Rattle.msrp_audit.proofs.Judging.{fault_told}
+use Rattle.msrp_audit.proofs.Scanning.{one_more}
 use Rattle.msrp_audit.proofs.verdicts.feed_all.Goals as goal
-
--- the rows up to one more
-one_more : (rows items : List TraceRow) (i : ℕ) (r : TraceRow) → items ≡ rows → i < length items → r ≡ get_or items i r → take (i + 1) rows ≡ take i rows ++ r ∷ []
-one_more rows items i r same l is =
-    let P : List TraceRow → Type 0 = λ xs. take (i + 1) xs ≡ take i xs ++ r ∷ [] in
-    subst P same (take_more items i r l ∙ ap (λ x. take i items ++ x ∷ []) (sym is))
-
--- the fault that an answer tells
-told : (o : Option Fault) (f : Fault) → Err f ≡ answer_of o → o ≡ Some f
-told None f h = absurd (cc)
-told (Some g) f h = cc
 
 -- a fault of the first rows is the verdict
 found : (plan own : PlanModel) (rows part : List TraceRow) (n : ℕ) (f : Fault) → own ≡ plan → take n rows ≡ part → Err f ≡ answer_of (fault_in own part) → Err f ≡ answer_of (verdict plan rows)
 found plan own rows part n f same is h =
-    let now : fault_in plan (take n rows) ≡ Some f = told (fault_in plan (take n rows)) f (h ∙ ap answer_of (ap (λ p. fault_in p part) same ∙ ap (fault_in plan) (sym is))) in
+    let now : fault_in plan (take n rows) ≡ Some f = fault_told (fault_in plan (take n rows)) f (h ∙ ap answer_of (ap (λ p. fault_in p part) same ∙ ap (fault_in plan) (sym is))) in
     sym (ap answer_of (early_is plan rows f (subst (λ l. fault_in plan l ≡ Some f) (take-append-drop n rows) (fault_stays plan (take n rows) (drop n rows) f now))))
 
 pub returns-in-Err-clause-fault : goal.returns-in-Err-clause-fault
@@ -30,14 +21,14 @@ returns-in-Err-clause-fault c = λ fault e.
     let rows = c.args.rows.now in
     let i = c.loop-row.invariant in
     let same : c.in-Err.fault ≡ fault = cc in
-    let more = one_more rows rows c.loop-row.row-index c.row-item.result refl c.loop-row-test.true c.row-item.is in
+    let more = one_more rows c.loop-row.row-index c.row-item.result c.loop-row-test.true c.row-item.is in
     ap (λ f. Err f) (sym same) ∙ found c.args.auditor.now.plan c.loop-row.auditor.plan rows (take c.loop-row.row-index rows ++ c.row-item.result ∷ []) (c.loop-row.row-index + 1) c.in-Err.fault i.plan more (c.in-Err.ensures.answer (take c.loop-row.row-index rows) i.fed)
 
 pub loop-row-preserved : goal.loop-row-preserved
 loop-row-preserved c =
     let rows = c.args.rows.now in
     let i = c.loop-row.invariant in
-    let more = one_more rows rows c.loop-row.row-index c.row-item.result refl c.loop-row-test.true c.row-item.is in
+    let more = one_more rows c.loop-row.row-index c.row-item.result c.loop-row-test.true c.row-item.is in
     record {
       plan = c.feed.ensures.plan ∙ i.plan;
       fed = subst (HasFed c.feed.new.self) (sym more) (c.feed.ensures.fed (take c.loop-row.row-index rows) i.fed);

@@ -1,7 +1,8 @@
-use Rattle.std.proofs.Common.{◌+◌, ◌++◌, ◌∷◌, [], take, refl, sym, ◌∙◌, subst}
+use Rattle.std.proofs.Common.{◌+◌, ◌++◌, ◌∷◌, [], take, sym, ◌∙◌, subst}
 use Rattle.msrp_plan.specs.Runs.{IsRun}
 use Rattle.msrp_report.specs.Reports.{HasCounted}
-use Rattle.msrp_report.proofs.Reporting.{one_more, part_good}
+use Rattle.msrp_audit.proofs.Scanning.{one_more}
+use Rattle.msrp_report.proofs.Reporting.{part_good}
 use Rattle.msrp_report.proofs.judging.count_all.Goals as goal
 
 pub count-requires : goal.count-requires
@@ -9,7 +10,7 @@ count-requires c =
     let rows = c.args.rows.now in
     let n = c.loop-row.row-index in
     let i = c.loop-row.invariant in
-    let more = one_more rows rows n c.row-item.result refl c.loop-row-test.true c.row-item.is in
+    let more = one_more rows n c.row-item.result c.loop-row-test.true c.row-item.is in
     let run = subst (λ p. IsRun p.now rows) (sym i.plan) c.requires.run in
     (take n rows, i.counted, part_good c.loop-row.counter.plan.now rows (take n rows ++ c.row-item.result ∷ []) (n + 1) run more)
 
@@ -18,7 +19,7 @@ loop-row-preserved c =
     let rows = c.args.rows.now in
     let n = c.loop-row.row-index in
     let i = c.loop-row.invariant in
-    let more = one_more rows rows n c.row-item.result refl c.loop-row-test.true c.row-item.is in
+    let more = one_more rows n c.row-item.result c.loop-row-test.true c.row-item.is in
     let run = subst (λ p. IsRun p.now rows) (sym i.plan) c.requires.run in
     record {
       plan = c.count.ensures.plan ∙ i.plan;

@@ -5,7 +5,7 @@ use Rattle.msrp_plan.specs.Verdict.{verdict}
 use Rattle.msrp_plan.proofs.Runs.Verdicts.{good_is_run}
 use Rattle.msrp_report.specs.Lines.{lines_of}
 use Rattle.msrp_report.specs.Reports.{HasCounted}
-use Rattle.msrp_report.proofs.Reporting.{fault_told, good_told}
+use Rattle.msrp_audit.proofs.Judging.{fault_told, good_told}
 use Rattle.msrp_report.proofs.judging.report.Goals as goal
 
 pub count_all-requires-clause-run : goal.count_all-requires-clause-run

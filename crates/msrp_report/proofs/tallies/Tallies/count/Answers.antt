@@ -6,54 +6,18 @@ use Rattle.msrp_report.proofs.RowSteps.{row_told, tallies_grown}
 use Rattle.msrp_report.proofs.tallies.Tallies.count.Goals as goal
 
 pub is_unstarted-requires : goal.is_unstarted-requires
-is_unstarted-requires c = let t = c.requires.told in row_told c.args.plan.now t.0 c.args.row c.args.job c.args.self.now.begun c.args.self.now.tasks.items c.requires.plan t.1 t.2.start c.requires.job
+is_unstarted-requires c = row_told c.args.plan.now c.args.row c.args.job c.args.self.now c.requires.plan c.requires.told c.requires.job
 
 pub index_mut-task-requires : goal.index_mut-task-requires
-index_mut-task-requires c =
-    let t = c.requires.told in
-    let told = row_told c.args.plan.now t.0 c.args.row c.args.job c.args.self.now.begun c.args.self.now.tasks.items c.requires.plan t.1 t.2.start c.requires.job in
-    let l = told_task c.args.self.now.tasks.items c.args.job told in
-    let n = c.args.self.now.tasks.ok.0 in
-    omega (arith, l, n)
+index_mut-task-requires c = omega (arith, told_task c.args.self.now.tasks.items c.args.job (row_told c.args.plan.now c.args.row c.args.job c.args.self.now c.requires.plan c.requires.told c.requires.job))
 
 pub index_mut-tally-requires : goal.index_mut-tally-requires
 index_mut-tally-requires c =
-    let t = c.requires.told in
-    let told = row_told c.args.plan.now t.0 c.args.row c.args.job c.args.self.now.begun c.args.self.now.tasks.items c.requires.plan t.1 t.2.start c.requires.job in
-    let at = task_read c.args.self.now.tasks.items c.args.job c.index_mut-task.result.now told c.index_mut-task.ensures.value in
-    let l = told_number c.args.self.now.tasks.items c.args.job c.index_mut-task.result.now told at in
-    let n = c.index_mut-task.result.now.jobs.ok.0 in
-    omega (arith, l, n)
+    let told = row_told c.args.plan.now c.args.row c.args.job c.args.self.now c.requires.plan c.requires.told c.requires.job in
+    omega (arith, told_number c.args.self.now.tasks.items c.args.job c.index_mut-task.result.now told (task_read c.args.self.now.tasks.items c.args.job c.index_mut-task.result.now told c.index_mut-task.ensures.value))
 
-pub add-requires-clause-rows : goal.add-requires-clause-rows
-add-requires-clause-rows c =
-    let t = c.requires.told in
-    let told = row_told c.args.plan.now t.0 c.args.row c.args.job c.args.self.now.begun c.args.self.now.tasks.items c.requires.plan t.1 t.2.start c.requires.job in
-    (room_read c.args.self.now.tasks.items c.args.job c.index_mut-task.result.now c.index_mut-tally.result.now told c.index_mut-task.ensures.value c.index_mut-tally.ensures.value).rows
-
-pub add-requires-clause-done : goal.add-requires-clause-done
-add-requires-clause-done c =
-    let t = c.requires.told in
-    let told = row_told c.args.plan.now t.0 c.args.row c.args.job c.args.self.now.begun c.args.self.now.tasks.items c.requires.plan t.1 t.2.start c.requires.job in
-    (room_read c.args.self.now.tasks.items c.args.job c.index_mut-task.result.now c.index_mut-tally.result.now told c.index_mut-task.ensures.value c.index_mut-tally.ensures.value).done
-
-pub add-requires-clause-spins : goal.add-requires-clause-spins
-add-requires-clause-spins c =
-    let t = c.requires.told in
-    let told = row_told c.args.plan.now t.0 c.args.row c.args.job c.args.self.now.begun c.args.self.now.tasks.items c.requires.plan t.1 t.2.start c.requires.job in
-    (room_read c.args.self.now.tasks.items c.args.job c.index_mut-task.result.now c.index_mut-tally.result.now told c.index_mut-task.ensures.value c.index_mut-tally.ensures.value).spins
-
-pub add-requires-clause-wait : goal.add-requires-clause-wait
-add-requires-clause-wait c =
-    let t = c.requires.told in
-    let told = row_told c.args.plan.now t.0 c.args.row c.args.job c.args.self.now.begun c.args.self.now.tasks.items c.requires.plan t.1 t.2.start c.requires.job in
-    (room_read c.args.self.now.tasks.items c.args.job c.index_mut-task.result.now c.index_mut-tally.result.now told c.index_mut-task.ensures.value c.index_mut-tally.ensures.value).wait
-
-pub add-requires-clause-longest : goal.add-requires-clause-longest
-add-requires-clause-longest c =
-    let t = c.requires.told in
-    let told = row_told c.args.plan.now t.0 c.args.row c.args.job c.args.self.now.begun c.args.self.now.tasks.items c.requires.plan t.1 t.2.start c.requires.job in
-    (room_read c.args.self.now.tasks.items c.args.job c.index_mut-task.result.now c.index_mut-tally.result.now told c.index_mut-task.ensures.value c.index_mut-tally.ensures.value).longest
+pub add-requires : goal.add-requires
+add-requires c = room_read c.args.self.now.tasks.items c.args.job c.index_mut-task.result.now c.index_mut-tally.result.now (row_told c.args.plan.now c.args.row c.args.job c.args.self.now c.requires.plan c.requires.told c.requires.job) c.index_mut-task.ensures.value c.index_mut-tally.ensures.value
 
 pub returns-clause-told : goal.returns-clause-told
 returns-clause-told c = λ rows are next.
@@ -61,7 +25,7 @@ returns-clause-told c = λ rows are next.
     let tasks = c.args.self.now.tasks.items in
     let x = c.index_mut-task.result.now in
     let s = c.index_mut-tally.result.now in
-    let told = row_told plan rows c.args.row c.args.job c.args.self.now.begun tasks c.requires.plan are next.start c.requires.job in
+    let told = row_told plan c.args.row c.args.job c.args.self.now c.requires.plan c.requires.told c.requires.job in
     let of_task = task_read tasks c.args.job x told c.index_mut-task.ensures.value in
     let of_job = job_read tasks c.args.job x s told c.index_mut-task.ensures.value c.index_mut-tally.ensures.value in
     let counted_is = c.add.ensures in

@@ -53,16 +53,6 @@ overflow_add-tally c =
     let ticks = c.requires.plan.draft.ticks in
     omega (arith, within, few, ticks)
 
-pub overflow_add-k : goal.overflow_add-k
-overflow_add-k c =
-    let t = c.requires.told in
-    let due = c.if-from-index.false in
-    let from = c.from.ensures in
-    let within = due_within c.args.plan.now t.0 c.args.self.now.begun c.args.task.0 c.args.self.now.tasks.items c.index.result.now c.index-2.result.now t.1.tallies c.requires.task c.index.ensures c.index-2.ensures (omega (arith, due, from)) c.requires.left in
-    let few = jobs_few c.args.plan.now c.args.task.0 in
-    let ticks = c.requires.plan.draft.ticks in
-    omega (arith, within, few, ticks)
-
 pub returns-clause-told : goal.returns-clause-told
 returns-clause-told c = λ rows h.
     let plan = c.args.plan.now in
