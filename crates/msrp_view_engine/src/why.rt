@@ -61,7 +61,8 @@ fn judge_rows<T: Read>(
         match rows.next_row()? {
             Judgement::Legal(row) => notes.note(plan, levels, rows.auditor(), row),
             Judgement::Broken(row, fault) => {
-                let cause = cause_of(plan, rows.auditor(), notes, rows.due(), row, fault);
+                let line = rows.reader().line_of(fault.row + 1);
+                let cause = cause_of(plan, rows.auditor(), notes, rows.due(), row, line, fault);
                 return Ok(Judged {
                     verdict: Err(fault),
                     ground: Ground::Row(cause),
