@@ -13,3 +13,9 @@ returns-in-Some-clause-read g c = λ told rows known fed none e.
 
 pub returns-in_default-clause-read : goal.returns-in_default-clause-read
 returns-in_default-clause-read g c = λ told rows known fed none e. c.read.ensures.read told rows (c.core_ahead.ensures.kept told known) fed none e
+
+pub returns-in-Some-clause-lines : goal.returns-in-Some-clause-lines
+returns-in-Some-clause-lines g c = λ text read. c.next_of.ensures.lines text (c.core_ahead.ensures.lines text read)
+
+pub returns-in_default-clause-lines : goal.returns-in_default-clause-lines
+returns-in_default-clause-lines g c = λ text read. c.read.ensures.lines text (c.core_ahead.ensures.lines text read)

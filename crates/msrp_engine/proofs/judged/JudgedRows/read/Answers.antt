@@ -1,6 +1,7 @@
-use Rattle.std.proofs.Common.{sym, ◌∙◌, subst}
+use Rattle.std.proofs.Common.{Ok, ap, sym, ◌∙◌, subst}
 use Rattle.std.proofs.Math.Bool.{true≢false}
 use Rattle.msrp_audit.specs.Audits.{IsOutOfTurn}
+use Rattle.msrp_trace.specs.Readers.{HasReadBehind}
 use Rattle.msrp_engine.specs.Inside.Kept.{KeepsKnown}
 use Rattle.msrp_engine.proofs.judged.JudgedRows.read.Goals as goal
 
@@ -15,3 +16,7 @@ returns-clause-judged g c = λ rows fed none.
       turn = λ left turn. absurd (true≢false (sym turn ∙ out left));
       out = λ _. (fed, none);
     }
+
+pub returns-clause-lines : goal.returns-clause-lines
+returns-clause-lines g c = λ text read.
+    subst (λ x. HasReadBehind g.T.Read.remaining text x c.next_row.new.self) (c.in_ok-row.was ∙ ap (λ x. Ok x) c.in-Some.is) (c.next_row.ensures.lines text read)
