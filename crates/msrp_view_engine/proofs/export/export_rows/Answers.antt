@@ -1,4 +1,4 @@
-use Rattle.std.proofs.Common.{rules, ◌≡◌, ◌++◌, ◌∷◌, [], ◌+◌, Ok, Err, Some, None, length, ap, sym, subst, ◌∙◌, inr, arith, length-append, append-nil}
+use Rattle.std.proofs.Common.{rules, ◌≡◌, ◌++◌, ◌∷◌, [], Ok, Err, Some, None, ap, sym, subst, ◌∙◌, inr, arith, length-append, append-nil}
 use Rattle.msrp_audit.specs.Audits.{answer_of}
 use Rattle.msrp_export.specs.Exports.{part_text, row_text}
 use Rattle.msrp_export.specs.Changes.{fault_text, head_text}

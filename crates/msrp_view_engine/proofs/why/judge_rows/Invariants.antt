@@ -1,4 +1,4 @@
-use Rattle.std.proofs.Common.{◌*◌, ◌-◌, ◌≡◌, ℕ, List}
+use Rattle.std.proofs.Common.{◌*◌, ◌-◌, ℕ, List}
 use Rattle.msrp_plan.specs.declared.rows.Row.{Row}
 use Rattle.msrp_trace.specs.Readers.{HasReadIn, StandsIn}
 use Rattle.msrp_why.specs.Noted.{AreNoted}
