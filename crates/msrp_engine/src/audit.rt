@@ -51,7 +51,7 @@ fn judge_all<T: Read>(
     let levels = Levels::of(alloc, plan)?;
     let auditor = Auditor::with_room(alloc, plan, &levels)?;
     let reader = TraceReader::new(alloc, trace, plan)?;
-    let mut rows = JudgedRows::new(plan, auditor, reader);
+    let mut rows = JudgedRows::new(auditor, reader);
     let found = judge_rows(&mut rows);
     drop(rows);
     found

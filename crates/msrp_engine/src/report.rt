@@ -69,7 +69,7 @@ fn report_all<T: Read>(
     let auditor = Auditor::with_room(alloc, plan, &levels)?;
     let counter = Counter::with_room(alloc, plan, &levels)?;
     let reader = TraceReader::new(alloc, trace, plan)?;
-    let mut rows = JudgedRows::new(plan, auditor, reader);
+    let mut rows = JudgedRows::new(auditor, reader);
     let found = report_rows(counter, &mut rows);
     drop(rows);
     found
