@@ -4,6 +4,7 @@ pub mod Judging
 pub mod RowsJudged
 pub mod NamedRows
 mod KnownTexts
+mod KeptTexts
 mod NextRows
 pub mod SimAnswers
 pub mod Reporting

@@ -88,7 +88,7 @@ fn judge_all<T: Read>(
     let levels = Levels::of(alloc, plan)?;
     let auditor = Auditor::with_room(alloc, plan, &levels)?;
     let reader = TraceReader::new(alloc, trace, plan)?;
-    let mut rows = JudgedRows::new(auditor, reader);
+    let mut rows = JudgedRows::new(plan, auditor, reader);
     let ended = gather_rows(&mut rows, &mut gathered, most);
     drop(rows);
     let judged = audit_parallel(rt, alloc, plan, &Trace { rows: gathered })?;

@@ -1,17 +1,20 @@
-use Rattle.std.proofs.Common.{IfSome, subst}
-use Rattle.msrp_trace.specs.Readers.{BeginsAt}
+use Rattle.std.proofs.Common.{◌≡◌, ◌/◌, length, Some, ap, sym, ◌∙◌, subst}
+use Rattle.msrp_plan.specs.Plan.{PlanModel}
+use Rattle.msrp_trace.specs.Readers.{told_left}
+use Rattle.msrp_engine.specs.Judging.{IsJudged}
 use Rattle.msrp_engine.proofs.judged.JudgedRows.next_anew.Goals as goal
 
-pub returns-in-Some-clause-read : goal.returns-in-Some-clause-read
-returns-in-Some-clause-read g c = λ told rows known fed none error.
-    let begins = subst (λ o. IfSome o (λ core. BeginsAt c.tick-tick.result core told)) c.in-Some.is (c.core_ahead.ensures.next told known) in
-    c.next_of.ensures.read told rows (c.core_ahead.ensures.kept told known) (subst (λ t. BeginsAt t c.in-Some.core told) (c.tick-tick.ensures.tick rows fed none) begins) fed error
+pub next_due-requires-clause-kept : goal.next_due-requires-clause-kept
+next_due-requires-clause-kept g c = c.turn_anew-due.ensures.kept
 
-pub returns-in-Some-clause-lines : goal.returns-in-Some-clause-lines
-returns-in-Some-clause-lines g c = λ text read. c.next_of.ensures.lines text (c.core_ahead.ensures.lines text read)
+pub returns-clause-judged : goal.returns-clause-judged
+returns-clause-judged g c = λ rows fed now.
+    let e = c.turn_anew-due.ensures in
+    let awaits = e.awaits rows fed in
+    subst (λ p. IsJudged p rows c.next_due.result c.next_due.new.self) e.plan (c.next_due.ensures.judged rows awaits (now ∙ (ap (λ (p : PlanModel). length rows / p.cores) (sym e.plan) ∙ sym awaits.tick)))
 
-pub returns-in_default-clause-read : goal.returns-in_default-clause-read
-returns-in_default-clause-read g c = λ told rows known fed none error. c.read.ensures.read told rows (c.core_ahead.ensures.kept told known) fed none error
-
-pub returns-in_default-clause-lines : goal.returns-in_default-clause-lines
-returns-in_default-clause-lines g c = λ text read. c.read.ensures.lines text (c.core_ahead.ensures.lines text read)
+pub returns-clause-read : goal.returns-clause-read
+returns-clause-read g c = λ told rows known begins fed now error.
+    let e = c.turn_anew-due.ensures in
+    let awaits = e.awaits rows fed in
+    c.next_due.ensures.read told rows (subst (λ r. told_left g.T.Read.remaining r ≡ Some told) (sym e.rows) known) begins awaits (now ∙ (ap (λ (p : PlanModel). length rows / p.cores) (sym e.plan) ∙ sym awaits.tick)) error

@@ -1,34 +1,31 @@
 use Rattle.std.proofs.Common.{◌≡◌, ◌/◌, length, ap, sym, ◌∙◌, subst}
-use Rattle.msrp_audit.specs.Audits.{AuditorModel, Awaits}
 use Rattle.msrp_plan.specs.Plan.{PlanModel}
-use Rattle.msrp_trace.specs.Readers.{BeginsAt}
+use Rattle.msrp_trace.specs.Texts.{text_of_core}
+use Rattle.msrp_engine.specs.Inside.Kept.{IsKept, KeepsKnown}
 use Rattle.msrp_engine.specs.Judging.{IsJudged}
-use Rattle.msrp_engine.proofs.NextRows.{told-as}
+use Rattle.msrp_engine.proofs.KeptTexts.{cores_if, keeps_if}
 use Rattle.msrp_engine.proofs.judged.JudgedRows.next_of.Goals as goal
 
-pub returns-then-meets-clause-judged : goal.returns-then-meets-clause-judged
-returns-then-meets-clause-judged g c = λ rows fed.
-    let awaits = c.turn-due.ensures.awaits rows fed in
-    let told = told-as _ c.turn-due.result c.as_read-told.result c.as_read-told.ensures in
-    let same = c.accept.ensures.same in (
-      c.accept.ensures.fed rows c.args.core.0 c.turn-due.result c.as_read-told.result awaits told.0 told.1,
-      ap (λ (a : AuditorModel). a.fault) same ∙ awaits.fault,
-    )
+pub invariant_of-self-clause-known : goal.invariant_of-self-clause-known
+invariant_of-self-clause-known g c =
+    let j = c.args.self.now in
+    let e = c.repeat.ensures in
+    let none = cores_if c.repeat.result j.auditor c.repeat.new.self e.none in
+    subst (λ p. KeepsKnown j.rows.version p c.repeat.new.self.cores j.texts j.whole) (sym e.plan)
+    (keeps_if j.rows.version j.auditor.plan j.auditor.cores c.repeat.new.self.cores j.texts j.whole c.args.core.0 c.repeat.result c.requires.accepted.draft.cores.1 c.requires.due.core none e.known e.core e.leaves j.known)
 
-pub returns-clause-judged : goal.returns-clause-judged
-returns-clause-judged g c = λ rows fed.
-    let awaits = c.turn-due.ensures.awaits rows fed in
-    subst (λ p. IsJudged p rows c.read_due.result c.read_due.new.self) c.turn-due.ensures.plan
-    (c.read_due.ensures.judged rows (subst (λ k. Awaits c.turn-due.new.self rows k c.turn-due.result) (sym awaits.next.core) awaits))
+pub next_due-requires-clause-kept : goal.next_due-requires-clause-kept
+next_due-requires-clause-kept g c = λ flag.
+    let j = c.args.self.now in
+    subst (λ p. IsKept j.rows.version p (text_of_core j.texts c.args.core.0) c.in-Some.due) (sym c.repeat.ensures.plan) (j.known c.args.core.0 c.requires.due.core flag c.in-Some.due c.in-Some.ensures.known)
 
-pub returns-clause-lines : goal.returns-clause-lines
-returns-clause-lines g c = λ text read. c.read_due.ensures.lines text (c.meets.ensures.lines text read)
+pub returns-in-Some-clause-judged : goal.returns-in-Some-clause-judged
+returns-in-Some-clause-judged g c = λ rows fed now.
+    let awaits = c.in-Some.ensures.awaits rows fed in
+    let plan = c.repeat.ensures.plan in
+    subst (λ p. IsJudged p rows c.next_due.result c.next_due.new.self) plan (c.next_due.ensures.judged rows awaits (now ∙ (ap (λ (p : PlanModel). length rows / p.cores) (sym plan) ∙ sym awaits.tick)))
 
-pub returns-clause-read : goal.returns-clause-read
-returns-clause-read g c = λ told rows known begins fed error.
-    let awaits = c.turn-due.ensures.awaits rows fed in
-    let due = c.turn-due.result in
-    let core : c.args.core ≡ due.core = ap (λ n. record { 0 = n }) (sym awaits.next.core) in
-    let tick = ap (λ (p : PlanModel). length rows / p.cores) (sym c.turn-due.ensures.plan) ∙ sym awaits.tick in
-    let here : BeginsAt due.tick due.core told = subst (λ k. BeginsAt due.tick k told) core (subst (λ t. BeginsAt t c.args.core told) tick begins) in
-    c.read_due.ensures.read told (c.meets.ensures.kept c.if-meets.false told known) here error
+pub returns-in-Some-clause-read : goal.returns-in-Some-clause-read
+returns-in-Some-clause-read g c = λ told rows known begins fed now error.
+    let awaits = c.in-Some.ensures.awaits rows fed in
+    c.next_due.ensures.read told rows known begins awaits (now ∙ (ap (λ (p : PlanModel). length rows / p.cores) (sym c.repeat.ensures.plan) ∙ sym awaits.tick)) error

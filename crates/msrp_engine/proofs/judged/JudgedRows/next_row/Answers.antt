@@ -1,18 +1,21 @@
-use Rattle.std.proofs.Common.{rules, ◌≡◌, Err, subst, sym}
-use Rattle.msrp_trace.specs.Readers.{HasReadBehind}
-use Rattle.msrp_engine.specs.Judging.{row_told}
-use Rattle.msrp_engine.proofs.NextRows.{read-behind}
+use Rattle.std.proofs.Common.{IfSome, sym, subst}
+use Rattle.msrp_trace.specs.Readers.{BeginsAt}
+use Rattle.msrp_engine.specs.Inside.Kept.{KeepsKnown}
 use Rattle.msrp_engine.proofs.judged.JudgedRows.next_row.Goals as goal
 
+pub invariant_of-self-clause-known : goal.invariant_of-self-clause-known
+invariant_of-self-clause-known g c = let j = c.args.self.now in subst (λ v. KeepsKnown v j.auditor.plan j.auditor.cores j.texts j.whole) (sym c.core_ahead.ensures.trace.0) j.known
+
+pub returns-in-Some-clause-read : goal.returns-in-Some-clause-read
+returns-in-Some-clause-read g c = λ told rows known fed none e.
+    let begins = subst (λ o. IfSome o (λ core. BeginsAt c.tick-tick.result core told)) c.in-Some.is (c.core_ahead.ensures.next told known) in
+    c.next_of.ensures.read told rows (c.core_ahead.ensures.kept told known) begins fed (c.tick-tick.ensures.tick rows fed none) e
+
+pub returns-in_default-clause-read : goal.returns-in_default-clause-read
+returns-in_default-clause-read g c = λ told rows known fed none e. c.read.ensures.read told rows (c.core_ahead.ensures.kept told known) fed none e
+
 pub returns-in-Some-clause-lines : goal.returns-in-Some-clause-lines
-returns-in-Some-clause-lines g c = λ text read. read-behind g.T.Read.remaining text c.in-Some.judgement c.next_again.new.self.rows (c.next_again.ensures.lines text read)
+returns-in-Some-clause-lines g c = λ text read. c.next_of.ensures.lines text (c.core_ahead.ensures.lines text read)
 
-pub returns-in_err-judgement-clause-lines : goal.returns-in_err-judgement-clause-lines
-returns-in_err-judgement-clause-lines g c = λ text read.
-    let gives : c.from_residual.result ≡ Err c.in_err-judgement.field-0.0 = search rules in
-    let behind = subst (λ x. HasReadBehind g.T.Read.remaining text (row_told x) c.next_anew.new.self.rows) c.in_err-judgement.was (c.next_anew.ensures.lines text (c.next_again.ensures.lines text read)) in
-    subst (λ x. HasReadBehind g.T.Read.remaining text (row_told x) c.next_anew.new.self.rows) (sym gives) behind
-
-pub returns-clause-lines : goal.returns-clause-lines
-returns-clause-lines g c = λ text read.
-    subst (λ x. HasReadBehind g.T.Read.remaining text (row_told x) c.next_anew.new.self.rows) c.in_ok-judgement.was (c.next_anew.ensures.lines text (c.next_again.ensures.lines text read))
+pub returns-in_default-clause-lines : goal.returns-in_default-clause-lines
+returns-in_default-clause-lines g c = λ text read. c.read.ensures.lines text (c.core_ahead.ensures.lines text read)

@@ -1,0 +1,139 @@
+-- The texts that are kept of the rows that cores are known to make, as rows are judged.
+use Rattle.std.proofs.Common.{◌≡◌, ◌≢◌, ℕ, zero, suc, ◌<◌, ◌≤◌, ◌%◌, ◌==◌, Bool, true, false, List, [], ◌∷◌, Option, Some, None, IfSome, IfNone, ap, sym, ◌∙◌, subst, arith, eqb-true, slice_index_or, slice_set, refl}
+use Rattle.std.proofs.Math.Nat.{mod-eq_of_lt}
+use Rattle.std.proofs.lemmas.Bool.{and_from, and_parts, eqb-false}
+use Rattle.std.proofs.lemmas.List.{get_or-set_other}
+use Rattle.msrp_plan.specs.Plan.{PlanModel}
+use Rattle.msrp_plan.specs.Stretches.{in_tick}
+use Rattle.msrp_plan.specs.declared.rows.Row.{Row}
+use Rattle.msrp_plan.specs.declared.rows.TextVersion.{TextVersion}
+use Rattle.msrp_plan.specs.declared.rows.TextVersion.TheVariants.{V1, V2}
+use Rattle.msrp_audit.specs.Audits.{AuditorModel}
+use Rattle.msrp_sim.specs.Cores.{CoresModel, IsAs, Leaves, known_row}
+use Rattle.msrp_trace.specs.Gathering.{after_tick}
+use Rattle.msrp_trace.specs.Laws.{as_read, has_told_ahead, is_short, is_told_whole}
+use Rattle.msrp_trace.specs.Texts.{TextsModel, text_of_core}
+use Rattle.msrp_engine.specs.Inside.Kept.{IsKept, KeepsKnown}
+use Rattle.msrp_engine.proofs.KnownTexts.{other_text}
+
+-- ---- a text and its row
+told_in_tick : (version : TextVersion) (t : ℕ) (r : Row) → has_told_ahead version r ≡ true → has_told_ahead version (in_tick t r) ≡ true
+told_in_tick V1 t r h = h
+told_in_tick V2 t r h = h
+
+whole_in_tick : (version : TextVersion) (plan : PlanModel) (r : Row) → is_told_whole version plan r ≡ true → (t : ℕ) → is_short t ≡ true → is_told_whole version plan (in_tick t r) ≡ true
+whole_in_tick version plan r h t short =
+    let parts = and_parts _ _ h in
+    let told = and_parts _ _ parts.1 in
+    and_from _ _ parts.0 (and_from _ _ (and_from _ _ short (and_parts _ _ told.0).1) (told_in_tick version t r told.1))
+
+-- a text that was made
+pub made_kept : (version : TextVersion) (plan : PlanModel) (text : List ℕ) (r : Row) → is_told_whole version plan (as_read version r) ≡ true → text ≡ after_tick version plan (as_read version r) → IsKept version plan text r
+made_kept version plan text r whole is = record { is = is; whole = whole_in_tick version plan (as_read version r) whole }
+
+-- a text doesn't tell the tick
+same_text : (version : TextVersion) (plan : PlanModel) (t : ℕ) (r : Row) → after_tick version plan (as_read version r) ≡ after_tick version plan (as_read version (in_tick t r))
+same_text V1 plan t r = refl
+same_text V2 plan t r = refl
+
+same_read : (version : TextVersion) (t n : ℕ) (r : Row) → in_tick n (as_read version r) ≡ in_tick n (as_read version (in_tick t r))
+same_read V1 t n r = refl
+same_read V2 t n r = refl
+
+kept_in_tick : (version : TextVersion) (plan : PlanModel) (text : List ℕ) (t : ℕ) (r : Row) → IsKept version plan text r → IsKept version plan text (in_tick t r)
+kept_in_tick version plan text t r kept = record {
+  is = kept.is ∙ same_text version plan t r;
+  whole = λ n short. subst (λ s. is_told_whole version plan s ≡ true) (same_read version t n r) (kept.whole n short);
+}
+
+-- ---- one turn more, whose text is kept
+module _ (version : TextVersion) (plan : PlanModel) (old new : CoresModel) (before after : TextsModel) (was now : List Bool) (r : Row) (k : ℕ) (few : plan.cores ≤ 8) (low : k < plan.cores) (at : r.core.0 ≡ k) (leaves : Leaves old new r)
+    (own : slice_index_or now k false ≡ true → IsKept version plan (text_of_core after k) r) (others : (c : ℕ) → c % 8 ≢ k % 8 → text_of_core after c ≡ text_of_core before c) (flags : (c : ℕ) → c ≢ k → slice_index_or now c false ≡ slice_index_or was c false)
+    (keeps : KeepsKnown version plan old before was) where
+  by_core : (c : ℕ) → c < plan.cores → slice_index_or now c false ≡ true → (s : Row) → known_row new c ≡ Some s → (b : Bool) → (c == k) ≡ b → IsKept version plan (text_of_core after c) s
+  by_core c l flag s is true e =
+      let here : c ≡ k = eqb-true c k e in
+      let next : IfSome (known_row new k) (λ next. next ≡ in_tick next.tick r) = subst (λ n. IfSome (known_row new n) (λ next. next ≡ in_tick next.tick r)) at leaves.own in
+      let same : s ≡ in_tick s.tick r = subst (λ o. IfSome o (λ next. next ≡ in_tick next.tick r)) (ap (known_row new) (sym here) ∙ is) next in
+      let kept = own (subst (λ n. slice_index_or now n false ≡ true) here flag) in
+      subst (λ n. IsKept version plan (text_of_core after n) s) (sym here) (subst (IsKept version plan (text_of_core after k)) (sym same) (kept_in_tick version plan (text_of_core after k) s.tick r kept))
+  by_core c l flag s is false e =
+      let ne : c ≢ k = eqb-false c k e in
+      let apart : c % 8 ≢ k % 8 = λ h. ne (sym (mod-eq_of_lt (omega (arith, l, few))) ∙ (h ∙ mod-eq_of_lt (omega (arith, low, few)))) in
+      subst (λ t. IsKept version plan t s) (sym (others c apart)) (keeps c l (sym (flags c ne) ∙ flag) s (sym (leaves.others c (λ h. ne (h ∙ at))) ∙ is))
+
+  pub keeps_on : KeepsKnown version plan new after now
+  keeps_on c l flag s is = by_core c l flag s is (c == k) refl
+
+-- what is known of the cores is what was
+pub keeps_same : (version : TextVersion) (plan other : PlanModel) (old new : CoresModel) (texts : TextsModel) (whole : List Bool) → other ≡ plan → new ≡ old → KeepsKnown version plan old texts whole → KeepsKnown version other new texts whole
+keeps_same version plan other old new texts whole p e keeps = subst (λ q. KeepsKnown version q new texts whole) (sym p) (subst (λ m. KeepsKnown version plan m texts whole) (sym e) keeps)
+
+-- a turn that is known, if it is
+pub keeps_if : (version : TextVersion) (plan : PlanModel) (old new : CoresModel) (texts : TextsModel) (whole : List Bool) (k : ℕ) (o : Option Row) → plan.cores ≤ 8 → k < plan.cores → IfNone o (new ≡ old) → IfSome o (λ due. known_row old k ≡ Some due)
+    → IfSome o (λ due. due.core.0 ≡ k) → IfSome o (Leaves old new) → KeepsKnown version plan old texts whole → KeepsKnown version plan new texts whole
+keeps_if version plan old new texts whole k None few low none known at leaves keeps = keeps_same version plan plan old new texts whole refl none keeps
+keeps_if version plan old new texts whole k (Some due) few low none known at leaves keeps =
+    keeps_on version plan old new texts texts whole whole due k few low at leaves (λ flag. keeps k low flag due known) (λ c ne. refl) (λ c ne. refl) keeps
+
+-- no turn changes no core
+pub cores_if : (o : Option Row) (old : AuditorModel) (new : AuditorModel) → IfNone o (new ≡ old) → IfNone o (new.cores ≡ old.cores)
+cores_if None old new e = ap (λ (a : AuditorModel). a.cores) e
+cores_if (Some due) old new e = tt
+
+-- the due row, as it is read in its tick, is as it is due
+read_as : (version : TextVersion) (t : ℕ) (due : Row) → IsAs due (in_tick t (as_read version due))
+read_as V1 t due = record { core = refl; kind = refl; job = refl; res = refl; ahead = tt }
+read_as V2 t due = record { core = refl; kind = refl; job = refl; res = refl; ahead = some_is due.ahead }
+  where
+    some_is : (o : Option ℕ) → IfSome o (λ n. o ≡ Some n)
+    some_is None = tt
+    some_is (Some n) = refl
+
+pub as_due : (version : TextVersion) (t : ℕ) (due told r : Row) → told ≡ as_read version due → r ≡ in_tick t told → IsAs due r
+as_due version t due told r read is = subst (IsAs due) (sym (is ∙ ap (in_tick t) read)) (read_as version t due)
+
+-- ---- a turn whose text is made
+core_read : (version : TextVersion) (r : Row) → (as_read version r).core.0 ≡ r.core.0
+core_read V1 r = refl
+core_read V2 r = refl
+
+set_flag : (w : List Bool) (k : ℕ) (b : Bool) → slice_index_or (slice_set w k b) k false ≡ true → b ≡ true
+set_flag [] k b h = absurd (cc)
+set_flag (x ∷ xs) zero b h = h
+set_flag (x ∷ xs) (suc k) b h = set_flag xs k b h
+
+shown : (b : Bool) (before after : TextsModel) (ts : List (List ℕ)) → (b ≡ true → after ≡ record before { texts = ts }) → (b ≡ false → after ≡ before) → (after.plan ≡ before.plan) × (after.version ≡ before.version)
+shown true before after ts made kept = let e = made refl in (ap (λ (t : TextsModel). t.plan) e, ap (λ (t : TextsModel). t.version) e)
+shown false before after ts made kept = let e = kept refl in (ap (λ (t : TextsModel). t.plan) e, ap (λ (t : TextsModel). t.version) e)
+
+module _ (version : TextVersion) (plan : PlanModel) (before after : TextsModel) (was : List Bool) (k : ℕ) (b : Bool) (due told : Row) (v : before.version ≡ version) (p : before.plan ≡ plan) (read : told ≡ as_read version due) (at : due.core.0 ≡ k)
+    (whole : b ≡ is_told_whole before.version before.plan told) (made : b ≡ true → after ≡ record before { texts = slice_set before.texts (told.core.0 % 8) (after_tick before.version before.plan told) })
+    (here : b ≡ true → text_of_core after told.core.0 ≡ after_tick before.version before.plan told) (kept : b ≡ false → after ≡ before) where
+  at_told : told.core.0 ≡ k
+  at_told = ap (λ (r : Row). r.core.0) read ∙ (core_read version due ∙ at)
+
+  pub shown_plan : after.plan ≡ plan
+  shown_plan = (shown b before after _ made kept).0 ∙ p
+
+  pub shown_version : after.version ≡ version
+  shown_version = (shown b before after _ made kept).1 ∙ v
+
+  pub shown_own : slice_index_or (slice_set was k b) k false ≡ true → IsKept version plan (text_of_core after k) due
+  shown_own flag =
+      let yes = set_flag was k b flag in
+      let told_whole : is_told_whole version plan (as_read version due) ≡ true =
+      subst (λ r. is_told_whole version plan r ≡ true) read (subst (λ q. is_told_whole version q told ≡ true) p (subst (λ w. is_told_whole w before.plan told ≡ true) v (sym whole ∙ yes))) in
+      let text : text_of_core after k ≡ after_tick version plan (as_read version due) =
+      subst (λ r. text_of_core after k ≡ after_tick version plan r) read (subst (λ q. text_of_core after k ≡ after_tick version q told) p (subst (λ w. text_of_core after k ≡ after_tick w before.plan told) v (subst (λ n. text_of_core after n ≡ after_tick before.version before.plan told) at_told (here yes)))) in
+      made_kept version plan (text_of_core after k) due told_whole text
+
+  others_by : (c : ℕ) → c % 8 ≢ k % 8 → (f : Bool) → b ≡ f → text_of_core after c ≡ text_of_core before c
+  others_by c ne true e =
+      let is = made e in
+      ap (λ (t : TextsModel). text_of_core t c) is ∙ other_text before _ told.core.0 (after_tick before.version before.plan told) refl c (λ h. ne (h ∙ ap (λ n. n % 8) at_told))
+  others_by c ne false e = ap (λ (t : TextsModel). text_of_core t c) (kept e)
+
+  pub shown_keeps : (old new : CoresModel) → plan.cores ≤ 8 → k < plan.cores → Leaves old new due → KeepsKnown version plan old before was → KeepsKnown version plan new after (slice_set was k b)
+  shown_keeps old new few low leaves keeps =
+      keeps_on version plan old new before after was (slice_set was k b) due k few low at leaves shown_own (λ c ne. others_by c ne b refl) (λ c ne. get_or-set_other was k c b false ne) keeps
