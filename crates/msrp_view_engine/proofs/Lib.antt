@@ -1,3 +1,4 @@
+pub mod Judged
 pub mod Explaining
 pub mod ReadThrough
 pub mod Recounting

@@ -1,4 +1,5 @@
 pub mod Statuses
+pub mod Answered
 pub mod Views
 pub mod Explaining
 pub mod Whys

@@ -70,21 +70,22 @@ fn export_rows<T: Read, W: Write>(
 fn export_all<T: Read, W: Write>(
     alloc: Global,
     plan: &Plan,
-    levels: &Levels<'_>,
     trace: &mut Source<T>,
     out: &mut Sink<W>,
     format: Format,
 ) -> Result<Result<(), Fault>, CliFault>
-    requires levels { levels.now ≡ plan.now }
     ensures found { OfText T.remaining trace.old result (λ records. result ≡ finding plan.now (rows_of plan.now records)) }
     ensures wrote { (bytes : List ℕ) → source_remaining T.remaining trace.old ≡ Some bytes
         → IfOk result (λ found. Wrote W.contents out.old out.new (export_text format plan.now (rows_of plan.now (csv_records bytes)).rows found)) }
     ensures faults { IfErr result (λ fault. is_trace_fault fault ≡ true) }
 {
-    let auditor = Auditor::with_room(alloc, plan, levels)?;
+    let levels = Levels::of(alloc, plan)?;
+    let auditor = Auditor::with_room(alloc, plan, &levels)?;
     let reader = TraceReader::new(alloc, trace, plan)?;
     let mut rows = JudgedRows::new(plan, auditor, reader);
-    export_rows(plan, &mut rows, out, format)
+    let found = export_rows(plan, &mut rows, out, format);
+    drop(rows);
+    found
 }
 
 // The status of a verdict that was written.
@@ -111,8 +112,7 @@ fn export_plan<T: Read, W: Write>(
     ensures answer { OfText T.remaining trace.old result (λ records. ExportTold W.contents format plan.now (rows_of plan.now records) out.old out.new result) }
     ensures ends { Ends IsVerdict (λ fault. (is_trace_fault fault ≡ true) ⊎ (fault ≡ CliFault.Write)) out.new result }
 {
-    let levels = Levels::of(alloc, plan)?;
-    let found = export_all(alloc, plan, &levels, trace, out, format)?;
+    let found = export_all(alloc, plan, trace, out, format)?;
     status_of(out, found)
 }
 

@@ -1,18 +1,21 @@
 //! Why a trace is no legal run: the verdict, the row that breaks a rule, and what was due.
-ghost use Rattle.std.specs.Prelude.{◌≡◌, ◌⊎◌, ℕ, List, [], true, Ok, Some, Err, IfOk, IfErr};
+ghost use Rattle.std.specs.Prelude.{◌≡◌, ◌⊎◌, ◌+◌, ℕ, List, [], true, Ok, Some, Err, IfOk, IfErr, IfSome};
 ghost use Rattle.csv.specs.Records.{fields_of};
 ghost use Rattle.msrp_audit.specs.Audits.{HasFed};
 ghost use Rattle.msrp_plan.specs.Bytes.{Wrote};
+ghost use Rattle.msrp_text.specs.Lines.{BeginsIn};
+ghost use Rattle.msrp_text.specs.Reading.{csv_records};
 ghost use Rattle.msrp_trace.specs.Reading.{Told, rows_of};
-ghost use Rattle.msrp_trace.specs.Readers.{StandsBehind, StandsIn, told_left};
-ghost use Rattle.msrp_engine.specs.Answered.{Ends, IsVerdict, OfText, OfTexts, ReadsBoth};
+ghost use Rattle.msrp_trace.specs.Readers.{HasReadBehind, HasReadIn, StandsBehind, StandsIn};
+ghost use Rattle.msrp_engine.specs.Answered.{Ends, IsVerdict, ReadsBoth};
 ghost use Rattle.msrp_engine.specs.Judging.{rows_left};
 ghost use Rattle.msrp_engine.specs.MadeTexts.{found_in};
 ghost use Rattle.msrp_faults.specs.Outcomes.{is_audit_fault, is_plan_fault, trace_fault_of};
 ghost use Rattle.msrp_why.specs.Noted.{AreNoted};
 ghost use Rattle.msrp_view_engine.specs.Statuses.{is_record_fault};
+ghost use Rattle.msrp_view_engine.specs.Answered.{OfBothBytes, OfBytes};
 ghost use Rattle.msrp_view_engine.specs.Inside.Readings.{error_words};
-ghost use Rattle.msrp_view_engine.specs.Whys.{IsExplained, IsExplainedOf, IsJudged, IsWhyOf, WhyAnswers, behind_text, found_text};
+ghost use Rattle.msrp_view_engine.specs.Whys.{BeginsRefused, BeginsRow, IsExplained, IsExplainedOf, IsJudged, IsWhyOf, WhyAnswers, behind_text, found_text};
 
 use crate::told::write_found;
 use csv::ByteRecord;
@@ -43,6 +46,24 @@ struct Explained {
     found: Result<Result<(), Fault>, CliFault>,
 }
 
+// The line in which the record of a faulty row begins, where it is known. The record before that of the first row is the head.
+fn line_of_row<T: Read>(reader: &TraceReader<'_, T>, fault: Fault) -> Option<u64>
+    ensures { (bytes : List ℕ) → HasReadIn T.remaining bytes reader.now → IfSome result (BeginsIn bytes (fault.row + 1)) }
+{
+    let number = fault.row.checked_add(1)?;
+    reader.line_of(number)
+}
+
+// The line in which the record begins that a reader has refused, where it is known.
+fn line_of_refused<T: Read>(reader: &TraceReader<'_, T>, error: TraceError) -> Option<u64>
+    ensures { (bytes : List ℕ) → HasReadBehind T.remaining bytes (Err error) reader.now → BeginsRefused bytes error result }
+{
+    match error {
+        TraceError::At { number, .. } => reader.line_of(number),
+        _ => None,
+    }
+}
+
 // What is found in the rows that are left. None is read after a faulty one.
 fn judge_rows<T: Read>(
     plan: &Plan,
@@ -56,12 +77,14 @@ fn judge_rows<T: Read>(
     requires noted { AreNoted plan.now [] notes }
     ensures found { (told : Told) → rows_left T.remaining rows.old ≡ Some told → IsJudged plan.now told result }
     ensures stands { (records : List (List (List ℕ))) → StandsIn T.remaining records rows.old.rows → IfErr result (λ error. StandsBehind T.remaining records (Err error) rows.new.rows) }
+    ensures line { (bytes : List ℕ) → HasReadIn T.remaining bytes rows.old.rows → IfOk result (λ judged. BeginsRow bytes judged.ground) }
+    ensures read { (bytes : List ℕ) → HasReadIn T.remaining bytes rows.old.rows → IfErr result (λ error. HasReadBehind T.remaining bytes (Err error) rows.new.rows) }
 {
     loop {
         match rows.next_row()? {
             Judgement::Legal(row) => notes.note(plan, levels, rows.auditor(), row),
             Judgement::Broken(row, fault) => {
-                let line = rows.reader().line_of(fault.row + 1);
+                let line = line_of_row(rows.reader(), fault);
                 let cause = cause_of(plan, rows.auditor(), notes, rows.due(), row, line, fault);
                 return Ok(Judged {
                     verdict: Err(fault),
@@ -125,10 +148,11 @@ fn words_on_refusal(
     alloc: Global,
     plan: &Plan,
     error: TraceError,
+    line: Option<u64>,
     row: &ByteRecord,
 ) -> Result<Explained, CliFault>
     ensures found { IfOk result (λ words. words.found ≡ Err (trace_fault_of error)) }
-    ensures text { IfOk result (λ words. words.text.items ≡ error_words plan.now error (fields_of row.now)) }
+    ensures text { IfOk result (λ words. words.text.items ≡ error_words plan.now error line (fields_of row.now)) }
     ensures refused { IfOk result (λ words. IfErr words.found (λ fault. is_record_fault fault ≡ true)) }
     ensures fault { IfErr result (λ fault. (fault ≡ CliFault.Memory) ⊎ (fault ≡ CliFault.Read)) }
 {
@@ -136,7 +160,7 @@ fn words_on_refusal(
         return Err(CliFault::from(error));
     };
     let mut text = Sink::new(Vec::new(alloc));
-    write_refused(&mut text, plan, fault, number, row);
+    write_refused(&mut text, plan, fault, number, line, row);
     if text.outcome().is_err() {
         return Err(CliFault::Memory);
     }
@@ -146,26 +170,30 @@ fn words_on_refusal(
     })
 }
 
-// The words on the rows that a reader has left.
+// The words on the rows that are left.
 fn explain_rows<T: Read>(
     alloc: Global,
     plan: &Plan,
     levels: &Levels<'_>,
-    reader: TraceReader<'_, T>,
+    notes: Notes,
+    rows: &mut JudgedRows<'_, '_, T>,
 ) -> Result<Explained, CliFault>
+    requires plan { rows.old.auditor.plan ≡ plan.now }
     requires levels { levels.now ≡ plan.now }
-    requires plan { reader.plan.now ≡ plan.now }
-    ensures explained { (records : List (List (List ℕ))) (told : Told) → told_left T.remaining reader.entry ≡ Some told → StandsIn T.remaining records reader.entry
-        → (result ≡ Err CliFault.Read) ⊎ (result ≡ Err CliFault.Memory) ⊎ IfOk result (IsExplained plan.now records told) }
+    requires fed { HasFed rows.old.auditor [] }
+    requires noted { AreNoted plan.now [] notes }
+    ensures explained { (bytes : List ℕ) (told : Told) → rows_left T.remaining rows.old ≡ Some told → StandsIn T.remaining (csv_records bytes) rows.old.rows → HasReadIn T.remaining bytes rows.old.rows
+        → (result ≡ Err CliFault.Read) ⊎ (result ≡ Err CliFault.Memory) ⊎ IfOk result (IsExplained plan.now bytes told) }
     ensures refused { IfOk result (λ words. IfErr words.found (λ fault. is_record_fault fault ≡ true)) }
     ensures faults { IfErr result (λ fault. (fault ≡ CliFault.Memory) ⊎ (fault ≡ CliFault.Read)) }
 {
-    let auditor = Auditor::with_room(alloc, plan, levels)?;
-    let notes = Notes::with_room(alloc, plan, levels, &auditor)?;
-    let mut rows = JudgedRows::new(plan, auditor, reader);
-    match judge_rows(plan, levels, notes, &mut rows) {
+    match judge_rows(plan, levels, notes, rows) {
         Ok(judged) => words_on(alloc, plan, levels, judged),
-        Err(error) => words_on_refusal(alloc, plan, error, rows.reader().record()),
+        Err(error) => {
+            let reader = rows.reader();
+            let line = line_of_refused(reader, error);
+            words_on_refusal(alloc, plan, error, line, reader.record())
+        }
     }
 }
 
@@ -175,14 +203,27 @@ fn explain_all<T: Read>(
     plan: &Plan,
     trace: &mut Source<T>,
 ) -> Result<Explained, CliFault>
-    ensures explained { OfText T.remaining trace.old result (λ records. IfOk result (IsExplained plan.now records (rows_of plan.now records))) }
+    ensures explained { OfBytes T.remaining trace.old result (λ bytes. IfOk result (IsExplained plan.now bytes (rows_of plan.now (csv_records bytes)))) }
     ensures refused { IfOk result (λ words. IfErr words.found (λ fault. is_record_fault fault ≡ true)) }
     ensures faults { IfErr result (λ fault. (fault ≡ CliFault.Memory) ⊎ (fault ≡ CliFault.Read)) }
 {
     let levels = Levels::of(alloc, plan)?;
+    let auditor = Auditor::with_room(alloc, plan, &levels)?;
+    let notes = Notes::with_room(alloc, plan, &levels, &auditor)?;
     match TraceReader::open(alloc, trace, plan) {
-        Ok(reader) => explain_rows(alloc, plan, &levels, reader),
-        Err(unopened) => words_on_refusal(alloc, plan, unopened.error, &unopened.first),
+        Ok(reader) => {
+            let mut rows = JudgedRows::new(plan, auditor, reader);
+            let words = explain_rows(alloc, plan, &levels, notes, &mut rows);
+            drop(rows);
+            words
+        }
+        Err(unopened) => words_on_refusal(
+            alloc,
+            plan,
+            unopened.error,
+            unopened.line,
+            &unopened.first,
+        ),
     }
 }
 
@@ -192,7 +233,7 @@ fn explain<P: Read, T: Read>(
     plan: &mut Source<P>,
     trace: &mut Source<T>,
 ) -> Result<Explained, CliFault>
-    ensures explained { OfTexts P.remaining T.remaining plan.old trace.old result (λ plan records. IsExplainedOf plan records result) }
+    ensures explained { OfBothBytes P.remaining T.remaining plan.old trace.old result (λ plan bytes. IsExplainedOf plan bytes result) }
     ensures refused { IfOk result (λ words. IfErr words.found (λ fault. is_record_fault fault ≡ true)) }
     ensures reads { ReadsBoth P.remaining plan.old plan.new trace.old trace.new result }
     ensures faults { IfErr result (λ fault. is_plan_fault fault ≡ true) }
@@ -222,7 +263,7 @@ pub fn why_of_texts<P: Read, T: Read>(
     plan: &mut Source<P>,
     trace: &mut Source<T>,
 ) -> Result<Made, CliFault>
-    ensures why { OfTexts P.remaining T.remaining plan.old trace.old result (λ plan records. IsWhyOf plan records result) }
+    ensures why { OfBothBytes P.remaining T.remaining plan.old trace.old result (λ plan bytes. IsWhyOf plan bytes result) }
     ensures reads { ReadsBoth P.remaining plan.old plan.new trace.old trace.new result }
     ensures faults { IfErr result (λ fault. is_audit_fault fault ≡ true) }
     ensures unwritten { ¬ (result ≡ Err CliFault.Write) }
@@ -234,7 +275,8 @@ pub fn why_of_texts<P: Read, T: Read>(
 /// Reads a plan and a trace of it, whoever made it, and writes the verdict as [`audit_text`](crate::audit_text) does, and behind
 /// it, in plain sentences, what makes it so: the first row that breaks a rule, the rule, the row that was due in its place, and
 /// the facts that the rule needs; of a legal trace, what its run exercised. The answer is the exit status, 0 or 1. Of a trace with a
-/// refused record it writes the code, the field that is wrong, what it should be, and the record as it stands; the answer is the refusal.
+/// refused record it writes the code, the field that is wrong, what it should be, and the record as it stands; the answer is the refusal. Of a row
+/// and of a refused record it tells the line in which its record begins, where that is known.
 ///
 /// The rows are judged as they come, and one is kept at a time. All memory is taken before anything is written. Of a refused plan nothing is
 /// written.
@@ -245,8 +287,8 @@ pub fn why_text<P: Read, T: Read, W: Write>(
     out: &mut Sink<W>,
 ) -> Result<u8, CliFault>
     // Where the readers tell their bytes, and no read failed and no memory was refused, the answer is that to
-    // the plan and the rows that they stand for.
-    ensures answer { OfTexts P.remaining T.remaining plan.old trace.old result (λ plan records. WhyAnswers W.contents plan records out.old out.new result) }
+    // the plan and the rows that they stand for, and a line that is told is the one in which the record begins.
+    ensures answer { OfBothBytes P.remaining T.remaining plan.old trace.old result (λ plan bytes. WhyAnswers W.contents plan bytes out.old out.new result) }
 
     // Whatever the readers tell.
     ensures reads { ReadsBoth P.remaining plan.old plan.new trace.old trace.new result }

@@ -21,7 +21,7 @@ ReadsTold rows (Some error) result = result ≡ Err (trace_fault_of error)
 abbrev pub Reads : Told → Result Trace CliFault → Type 0
 Reads told result = (result ≡ Err Read) ⊎ (result ≡ Err Memory) ⊎ ReadsTold told.rows told.refusal result
 
--- what is told of a record that is refused
-abbrev pub error_words : PlanModel → TraceError → List (List ℕ) → List ℕ
-error_words plan (At fault number) fields = refused_text plan fault number fields
-error_words plan _ fields = []
+-- what is told of a record that is refused, which begins in that line
+abbrev pub error_words : PlanModel → TraceError → Option ℕ → List (List ℕ) → List ℕ
+error_words plan (At fault number) line fields = refused_text plan fault number line fields
+error_words plan _ line fields = []

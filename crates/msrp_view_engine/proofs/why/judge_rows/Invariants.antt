@@ -1,6 +1,6 @@
 use Rattle.std.proofs.Common.{◌*◌, ◌-◌, ◌≡◌, ℕ, List}
 use Rattle.msrp_plan.specs.declared.rows.Row.{Row}
-use Rattle.msrp_trace.specs.Readers.{StandsIn}
+use Rattle.msrp_trace.specs.Readers.{HasReadIn, StandsIn}
 use Rattle.msrp_why.specs.Noted.{AreNoted}
 use Rattle.msrp_engine.proofs.RowsJudged.{HaveCome}
 use Rattle.msrp_view_engine.proofs.why.judge_rows.Given as goal
@@ -11,6 +11,7 @@ invariant-loop-notes g l =
     × HaveCome g.T.Read.remaining l.fn.rows l.rows rows
     × AreNoted l.plan rows l.notes
     × ((records : List (List (List ℕ))) → StandsIn g.T.Read.remaining records l.fn.rows.rows → StandsIn g.T.Read.remaining records l.rows.rows)
+    × ((bytes : List ℕ) → HasReadIn g.T.Read.remaining bytes l.fn.rows.rows → HasReadIn g.T.Read.remaining bytes l.rows.rows)
 
 abbrev pub decreases-loop-notes : goal.decreases-loop-notes
 decreases-loop-notes g l = l.rows.auditor.plan.cores * l.rows.auditor.plan.ticks - l.rows.auditor.fed

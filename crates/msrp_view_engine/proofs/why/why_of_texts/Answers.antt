@@ -7,8 +7,8 @@ pub returns-in_err-words-clause-why : goal.returns-in_err-words-clause-why
 returns-in_err-words-clause-why g c = λ plan_bytes trace_bytes plan trace.
     let fault = c.in_err-words.field-0.0 in
     let gives : c.from_residual.result ≡ Err fault = search rules in
-    unexplained-why (plan_of (csv_records plan_bytes)) (csv_records trace_bytes) fault c.from_residual.result (c.in_err-words.ensures.explained plan_bytes trace_bytes plan trace) gives
+    unexplained-why (plan_of (csv_records plan_bytes)) trace_bytes fault c.from_residual.result (c.in_err-words.ensures.explained plan_bytes trace_bytes plan trace) gives
 
 pub returns-clause-why : goal.returns-clause-why
 returns-clause-why g c = λ plan_bytes trace_bytes plan trace.
-    explained-why (plan_of (csv_records plan_bytes)) (csv_records trace_bytes) c.in_ok-words.words c.made_of.result (c.in_ok-words.ensures.explained plan_bytes trace_bytes plan trace) c.made_of.ensures.found c.made_of.ensures.text
+    explained-why (plan_of (csv_records plan_bytes)) trace_bytes c.in_ok-words.words c.made_of.result (c.in_ok-words.ensures.explained plan_bytes trace_bytes plan trace) c.made_of.ensures.found c.made_of.ensures.text
