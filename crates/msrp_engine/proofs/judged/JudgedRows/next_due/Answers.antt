@@ -1,12 +1,10 @@
-use Rattle.std.proofs.Common.{◌≡◌, ◌/◌, length, Some, refl, sym, ap, ◌∙◌, subst}
+use Rattle.std.proofs.Common.{◌≡◌, Some, refl, sym, ap, ◌∙◌, subst}
 use Rattle.msrp_audit.specs.Audits.{AuditorModel}
-use Rattle.msrp_plan.specs.Plan.{PlanModel}
 use Rattle.msrp_plan.specs.declared.rows.Row.{Row}
 use Rattle.msrp_plan.specs.Stretches.{in_tick}
 use Rattle.msrp_trace.specs.Laws.{as_read}
-use Rattle.msrp_trace.specs.Readers.{BeginsAt, HasReadIn, told_left}
+use Rattle.msrp_trace.specs.Readers.{BeginsAt, HasReadIn}
 use Rattle.msrp_trace.specs.Texts.{text_of_core}
-use Rattle.msrp_trace.specs.declared.reading.TraceReader.{TraceReader}
 use Rattle.msrp_engine.specs.Inside.Kept.{IsKept, KeepsKnown}
 use Rattle.msrp_engine.specs.Judging.{rows_left}
 use Rattle.msrp_engine.specs.declared.judged.JudgedRows.{JudgedRows}

@@ -1,4 +1,4 @@
-use Rattle.std.proofs.Common.{◌≡◌, ◌/◌, length, ap, sym, ◌∙◌, subst}
+use Rattle.std.proofs.Common.{◌/◌, length, ap, sym, ◌∙◌, subst}
 use Rattle.msrp_plan.specs.Plan.{PlanModel}
 use Rattle.msrp_trace.specs.Texts.{text_of_core}
 use Rattle.msrp_engine.specs.Inside.Kept.{IsKept, KeepsKnown}
