@@ -6,9 +6,8 @@ ghost use Rattle.msrp_plan.specs.Bytes.{Wrote};
 ghost use Rattle.msrp_text.specs.Lines.{BeginsIn};
 ghost use Rattle.msrp_text.specs.Reading.{csv_records};
 ghost use Rattle.msrp_trace.specs.Reading.{Told, rows_of};
-ghost use Rattle.msrp_trace.specs.Readers.{HasReadBehind, HasReadIn, StandsBehind, StandsIn};
+ghost use Rattle.msrp_trace.specs.Readers.{HasReadBehind, HasReadIn, StandsBehind, StandsIn, told_left};
 ghost use Rattle.msrp_engine.specs.Answered.{Ends, IsVerdict, ReadsBoth};
-ghost use Rattle.msrp_engine.specs.Judging.{rows_left};
 ghost use Rattle.msrp_engine.specs.MadeTexts.{found_in};
 ghost use Rattle.msrp_faults.specs.Outcomes.{is_audit_fault, is_plan_fault, trace_fault_of};
 ghost use Rattle.msrp_why.specs.Noted.{AreNoted};
@@ -20,7 +19,7 @@ ghost use Rattle.msrp_view_engine.specs.Whys.{BeginsRefused, BeginsRow, IsExplai
 use crate::told::write_found;
 use csv::ByteRecord;
 use msrp_audit::Auditor;
-use msrp_engine::{CliFault, JudgedRows, Judgement, Made, settled};
+use msrp_engine::{CliFault, Made, settled};
 use msrp_levels::Levels;
 use msrp_plan::bytes::{Sink, Source};
 use msrp_plan::{Fault, Plan};
@@ -64,41 +63,46 @@ fn line_of_refused<T: Read>(reader: &TraceReader<'_, T>, error: TraceError) -> O
     }
 }
 
-// What is found in the rows that are left. None is read after a faulty one.
+// What is found in the rows that a reader has left. They are judged as they come, and none is read after a faulty one.
 fn judge_rows<T: Read>(
     plan: &Plan,
     levels: &Levels<'_>,
+    auditor: &mut Auditor<'_>,
     mut notes: Notes,
-    rows: &mut JudgedRows<'_, '_, T>,
+    rows: &mut TraceReader<'_, T>,
 ) -> Result<Judged, TraceError>
-    requires plan { rows.old.auditor.plan ≡ plan.now }
+    requires plan { auditor.old.plan ≡ plan.now }
     requires levels { levels.now ≡ plan.now }
-    requires fed { HasFed rows.old.auditor [] }
+    requires fed { HasFed auditor.old [] }
     requires noted { AreNoted plan.now [] notes }
-    ensures found { (told : Told) → rows_left T.remaining rows.old ≡ Some told → IsJudged plan.now told result }
-    ensures stands { (records : List (List (List ℕ))) → StandsIn T.remaining records rows.old.rows → IfErr result (λ error. StandsBehind T.remaining records (Err error) rows.new.rows) }
-    ensures line { (bytes : List ℕ) → HasReadIn T.remaining bytes rows.old.rows → IfOk result (λ judged. BeginsRow bytes judged.ground) }
-    ensures read { (bytes : List ℕ) → HasReadIn T.remaining bytes rows.old.rows → IfErr result (λ error. HasReadBehind T.remaining bytes (Err error) rows.new.rows) }
+    ensures found { (told : Told) → told_left T.remaining rows.old ≡ Some told → IsJudged plan.now told result }
+    ensures stands { (records : List (List (List ℕ))) → StandsIn T.remaining records rows.old → IfErr result (λ error. StandsBehind T.remaining records (Err error) rows.new) }
+    ensures line { (bytes : List ℕ) → HasReadIn T.remaining bytes rows.old → IfOk result (λ judged. BeginsRow bytes judged.ground) }
+    ensures read { (bytes : List ℕ) → HasReadIn T.remaining bytes rows.old → IfErr result (λ error. HasReadBehind T.remaining bytes (Err error) rows.new) }
 {
-    loop {
-        match rows.next_row()? {
-            Judgement::Legal(row) => notes.note(plan, levels, rows.auditor(), row),
-            Judgement::Broken(row, fault) => {
-                let line = line_of_row(rows.reader(), fault);
-                let cause = cause_of(plan, rows.auditor(), notes, rows.due(), row, line, fault);
-                return Ok(Judged {
-                    verdict: Err(fault),
-                    ground: Ground::Row(cause),
-                });
-            }
-            Judgement::End => {
-                return Ok(Judged {
-                    verdict: rows.auditor().end(),
-                    ground: Ground::End(notes),
-                });
-            }
+    while let Some(row) = rows.next_foreseen(|core| auditor.foresee(core))? {
+        if !auditor.is_in_turn(row) {
+            let fault = auditor.fault_out_of_turn();
+            let line = line_of_row(rows, fault);
+            return Ok(Judged {
+                verdict: Err(fault),
+                ground: Ground::Row(cause_of(plan, auditor, notes, None, row, line, fault)),
+            });
         }
+        let due = auditor.turn(row.core);
+        if let Err(fault) = auditor.judge(due, row) {
+            let line = line_of_row(rows, fault);
+            return Ok(Judged {
+                verdict: Err(fault),
+                ground: Ground::Row(cause_of(plan, auditor, notes, Some(due), row, line, fault)),
+            });
+        }
+        notes.note(plan, levels, auditor, row);
     }
+    Ok(Judged {
+        verdict: auditor.end(),
+        ground: Ground::End(notes),
+    })
 }
 
 // Tells what makes the verdict so, behind its record.
@@ -170,29 +174,26 @@ fn words_on_refusal(
     })
 }
 
-// The words on the rows that are left.
+// The words on the rows that a reader has left.
 fn explain_rows<T: Read>(
     alloc: Global,
     plan: &Plan,
     levels: &Levels<'_>,
-    notes: Notes,
-    rows: &mut JudgedRows<'_, '_, T>,
+    rows: &mut TraceReader<'_, T>,
 ) -> Result<Explained, CliFault>
-    requires plan { rows.old.auditor.plan ≡ plan.now }
     requires levels { levels.now ≡ plan.now }
-    requires fed { HasFed rows.old.auditor [] }
-    requires noted { AreNoted plan.now [] notes }
-    ensures explained { (bytes : List ℕ) (told : Told) → rows_left T.remaining rows.old ≡ Some told → StandsIn T.remaining (csv_records bytes) rows.old.rows → HasReadIn T.remaining bytes rows.old.rows
+    ensures explained { (bytes : List ℕ) (told : Told) → told_left T.remaining rows.old ≡ Some told → StandsIn T.remaining (csv_records bytes) rows.old → HasReadIn T.remaining bytes rows.old
         → (result ≡ Err CliFault.Read) ⊎ (result ≡ Err CliFault.Memory) ⊎ IfOk result (IsExplained plan.now bytes told) }
     ensures refused { IfOk result (λ words. IfErr words.found (λ fault. is_record_fault fault ≡ true)) }
     ensures faults { IfErr result (λ fault. (fault ≡ CliFault.Memory) ⊎ (fault ≡ CliFault.Read)) }
 {
-    match judge_rows(plan, levels, notes, rows) {
+    let mut auditor = Auditor::with_room(alloc, plan, levels)?;
+    let notes = Notes::with_room(alloc, plan, levels, &auditor)?;
+    match judge_rows(plan, levels, &mut auditor, notes, rows) {
         Ok(judged) => words_on(alloc, plan, levels, judged),
         Err(error) => {
-            let reader = rows.reader();
-            let line = line_of_refused(reader, error);
-            words_on_refusal(alloc, plan, error, line, reader.record())
+            let line = line_of_refused(rows, error);
+            words_on_refusal(alloc, plan, error, line, rows.record())
         }
     }
 }
@@ -208,23 +209,21 @@ fn explain_all<T: Read>(
     ensures faults { IfErr result (λ fault. (fault ≡ CliFault.Memory) ⊎ (fault ≡ CliFault.Read)) }
 {
     let levels = Levels::of(alloc, plan)?;
-    let auditor = Auditor::with_room(alloc, plan, &levels)?;
-    let notes = Notes::with_room(alloc, plan, &levels, &auditor)?;
-    match TraceReader::open(alloc, trace, plan) {
-        Ok(reader) => {
-            let mut rows = JudgedRows::new(plan, auditor, reader);
-            let words = explain_rows(alloc, plan, &levels, notes, &mut rows);
-            drop(rows);
-            words
+    let mut rows = match TraceReader::open(alloc, trace, plan) {
+        Ok(rows) => rows,
+        Err(unopened) => {
+            return words_on_refusal(
+                alloc,
+                plan,
+                unopened.error,
+                unopened.line,
+                &unopened.first,
+            );
         }
-        Err(unopened) => words_on_refusal(
-            alloc,
-            plan,
-            unopened.error,
-            unopened.line,
-            &unopened.first,
-        ),
-    }
+    };
+    let words = explain_rows(alloc, plan, &levels, &mut rows);
+    drop(rows);
+    words
 }
 
 // The words on a trace of a plan, whoever made it.

@@ -1,13 +1,11 @@
-use Rattle.std.proofs.Common.{◌≡◌, Some, sym, subst}
 use Rattle.msrp_text.specs.Reading.{csv_records}
 use Rattle.msrp_trace.specs.Reading.{rows_of}
-use Rattle.msrp_trace.specs.Readers.{HasReadIn, StandsIn, told_left}
 use Rattle.msrp_trace.proofs.ReadThrough.{opened}
 use Rattle.msrp_view_engine.proofs.Explaining.{refused-explained, unopened-judged, unopened-line}
 use Rattle.msrp_view_engine.proofs.why.explain_all.Goals as goal
 
-pub returns-clause-explained : goal.returns-clause-explained
-returns-clause-explained g c = λ bytes known.
+pub returns-in-Err-clause-explained : goal.returns-in-Err-clause-explained
+returns-in-Err-clause-explained g c = λ bytes known.
     let records = csv_records bytes in
     let opens = c.in-Err.ensures.opens bytes known in
     let error = c.in-Err.unopened.error in
@@ -15,11 +13,8 @@ returns-clause-explained g c = λ bytes known.
     let begins = unopened-line g.T.Read.remaining c.args.plan.now records error bytes c.in-Err.unopened.line opens (c.in-Err.ensures.refused_line bytes known) in
     refused-explained c.args.plan.now bytes (rows_of c.args.plan.now records) error c.in-Err.unopened.line _ c.words_on_refusal.result judged (c.in-Err.ensures.refused bytes known) begins c.words_on_refusal.ensures.found c.words_on_refusal.ensures.text c.words_on_refusal.ensures.refused c.words_on_refusal.ensures.fault
 
-pub returns-in-Ok-clause-explained : goal.returns-in-Ok-clause-explained
-returns-in-Ok-clause-explained g c = λ bytes known.
+pub returns-clause-explained : goal.returns-clause-explained
+returns-clause-explained g c = λ bytes known.
     let records = csv_records bytes in
-    let told = rows_of c.args.plan.now records in
-    let same = sym c.new-rows.ensures.rows in
-    let begun = opened g.T.Read.remaining c.args.plan.now records c.in-Ok.reader (c.in-Ok.ensures.opens bytes known) in
-    c.explain_rows-words.ensures.explained bytes told (subst (λ r. told_left g.T.Read.remaining r ≡ Some told) same begun)
-    (subst (StandsIn g.T.Read.remaining records) same (c.in-Ok.ensures.stands bytes known)) (subst (HasReadIn g.T.Read.remaining bytes) same (c.in-Ok.ensures.lines bytes known))
+    let begun = opened g.T.Read.remaining c.args.plan.now records c.in-Ok.rows (c.in-Ok.ensures.opens bytes known) in
+    c.explain_rows-words.ensures.explained bytes (rows_of c.args.plan.now records) begun (c.in-Ok.ensures.stands bytes known) (c.in-Ok.ensures.lines bytes known)

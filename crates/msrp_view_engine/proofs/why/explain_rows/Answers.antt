@@ -11,12 +11,12 @@ returns-in-Ok-clause-explained g c = λ bytes told known stands read.
     let begins = subst (λ r. IfOk r (λ judged. BeginsRow bytes judged.ground)) c.in-Ok.is (c.judge_rows.ensures.line bytes read) in
     judged-explained c.args.plan.now bytes told c.in-Ok.judged c.words_on.result judged begins c.words_on.ensures.found c.words_on.ensures.text c.words_on.ensures.memory
 
-pub returns-in-Err-clause-explained : goal.returns-in-Err-clause-explained
-returns-in-Err-clause-explained g c = λ bytes told known stands read.
+pub returns-clause-explained : goal.returns-clause-explained
+returns-clause-explained g c = λ bytes told known stands read.
     let records = csv_records bytes in
     let judged = subst (IsJudged c.args.plan.now told) c.in-Err.is (c.judge_rows.ensures.found told known) in
-    let behind = subst (λ r. IfErr r (λ error. StandsBehind g.T.Read.remaining records (Err error) c.judge_rows.new.rows.rows)) c.in-Err.is (c.judge_rows.ensures.stands records stands) in
-    let last = subst (IsRecordOf records c.in-Err.error) (sym (c.record.ensures ∙ ap record_read c.reader-reader.ensures)) behind in
-    let was = subst (λ r. IfErr r (λ error. HasReadBehind g.T.Read.remaining bytes (Err error) c.judge_rows.new.rows.rows)) c.in-Err.is (c.judge_rows.ensures.read bytes read) in
-    let begins = c.line_of_refused-line.ensures bytes (subst (HasReadBehind g.T.Read.remaining bytes (Err c.in-Err.error)) (sym c.reader-reader.ensures) was) in
+    let behind = subst (λ r. IfErr r (λ error. StandsBehind g.T.Read.remaining records (Err error) c.judge_rows.new.rows)) c.in-Err.is (c.judge_rows.ensures.stands records stands) in
+    let last = subst (IsRecordOf records c.in-Err.error) (sym c.record.ensures) behind in
+    let was = subst (λ r. IfErr r (λ error. HasReadBehind g.T.Read.remaining bytes (Err error) c.judge_rows.new.rows)) c.in-Err.is (c.judge_rows.ensures.read bytes read) in
+    let begins = c.line_of_refused-line.ensures bytes was in
     refused-explained c.args.plan.now bytes told c.in-Err.error c.line_of_refused-line.result _ c.words_on_refusal.result judged last begins c.words_on_refusal.ensures.found c.words_on_refusal.ensures.text c.words_on_refusal.ensures.refused c.words_on_refusal.ensures.fault

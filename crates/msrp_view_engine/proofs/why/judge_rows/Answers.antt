@@ -1,92 +1,151 @@
-use Rattle.std.proofs.Common.{rules, ◌≡◌, ◌++◌, ◌∷◌, [], None, Ok, Err, IfErr, ap, sym, subst, ◌∙◌}
-use Rattle.msrp_audit.specs.Audits.{answer_of}
+use Rattle.std.proofs.Common.{rules, ◌≡◌, ◌++◌, ◌∷◌, [], ◌+◌, ◌<◌, ◌*◌, ◌/◌, true, false, None, Some, Ok, Err, IfErr, length, refl, ap, sym, subst, ◌∙◌, length-append}
+use Rattle.std.proofs.Math.Bool.{true≢false}
+use Rattle.msrp_audit.specs.Audits.{AuditorModel, HasFed, IsBroken, IsOutOfTurn, answer_of}
+use Rattle.msrp_audit.proofs.Judging.{fault_told, good_told}
 use Rattle.msrp_plan.specs.Plan.{PlanModel}
+use Rattle.msrp_plan.specs.Runs.{is_in_turn}
 use Rattle.msrp_plan.specs.Verdict.{fault_in, verdict}
-use Rattle.msrp_trace.specs.Readers.{HasReadBehind, HasReadIn, StandsBehind}
-use Rattle.msrp_engine.specs.Judging.{row_told}
-use Rattle.msrp_engine.proofs.RowsJudged as rows
+use Rattle.msrp_trace.specs.Readers.{HasReadBehind, StandsBehind}
+use Rattle.msrp_trace.proofs.ReadThrough.{none-read, read-row}
 use Rattle.msrp_why.proofs.Causing.{good_start}
+use Rattle.msrp_engine.proofs.Judging.{fewer-left}
 use Rattle.msrp_view_engine.proofs.Explaining.{cause-found, end-found, line-found, refusal-judged}
-use Rattle.msrp_view_engine.proofs.Judged.{broken-is, broken-read}
 use Rattle.msrp_view_engine.proofs.why.judge_rows.Goals as goal
 
 pub loop-notes-init : goal.loop-notes-init
-loop-notes-init g c = ([], rows.none-came g.T.Read.remaining c.args.rows.now c.requires.fed, c.requires.noted, λ records stands. stands, λ bytes read. read)
+loop-notes-init g c = ([], c.requires.plan, c.requires.fed, c.requires.fed.fault, λ told known. none-read told _ known, c.requires.noted, λ records stands. stands, λ bytes read. read)
 
-pub loop-notes-smaller : goal.loop-notes-smaller
-loop-notes-smaller g c =
+-- ---- a row that isn't in its turn
+pub returns-then-not-is_in_turn-clause-found : goal.returns-then-not-is_in_turn-clause-found
+returns-then-not-is_in_turn-clause-found g c = λ told known.
     let i = c.loop-notes.invariant in
-    let e = c.next_row.ensures in
-    rows.fewer-turns g.T.Read.remaining _ _ _ i.0 c.next_row.result c.in-Legal.row i.1 (record { plan = e.plan; answers = e.gives; judged = e.judged i.0 i.1.fed i.1.fault }) (c.in_ok-row.was ∙ ap (λ x. Ok x) c.in-Legal.is)
+    let row = c.in-Some.row in
+    let good = subst (λ (p : PlanModel). fault_in p i.0 ≡ None) i.1 (sym i.2.fault ∙ i.3) in
+    let not : c.is_in_turn.result ≡ false = cc in
+    let out : IsOutOfTurn c.loop-notes.auditor.plan i.0 row = λ left. sym (c.is_in_turn.ensures.turn i.0 i.2 i.3 left) ∙ not in
+    let broken : IsBroken c.loop-notes.auditor.plan i.0 row c.fault_out_of_turn-fault.result None c.loop-notes.auditor =
+    record { fault = c.fault_out_of_turn-fault.ensures i.0 row i.2 i.3 out; turn = λ left turn. absurd (true≢false (sym turn ∙ out left)); out = λ _. (i.2, i.3) } in
+    let told_so = subst (λ (p : PlanModel). IsBroken p i.0 row c.fault_out_of_turn-fault.result None c.loop-notes.auditor) i.1 broken in
+    let more = read-row told i.0 _ _ c.next_foreseen.result row (i.4 told known) c.next_foreseen.ensures.next (c.in_ok-row.was ∙ ap (λ x. Ok x) c.in-Some.is) in
+    cause-found c.args.plan.now told i.0 row _ c.fault_out_of_turn-fault.result c.cause_of.result more told_so.fault (c.cause_of.ensures.cause i.0 good told_so i.5)
 
-pub loop-notes-preserved : goal.loop-notes-preserved
-loop-notes-preserved g c =
+pub returns-then-not-is_in_turn-clause-line : goal.returns-then-not-is_in_turn-clause-line
+returns-then-not-is_in_turn-clause-line g c = λ bytes read.
     let i = c.loop-notes.invariant in
-    let e = c.next_row.ensures in
-    let r = c.in-Legal.row in
-    let is = c.in_ok-row.was ∙ ap (λ x. Ok x) c.in-Legal.is in
-    let more = rows.row-came g.T.Read.remaining _ _ _ i.0 c.next_row.result r i.1 (record { plan = e.plan; answers = e.gives; judged = e.judged i.0 i.1.fed i.1.fault }) is in
-    let good = subst (λ (p : PlanModel). fault_in p (i.0 ++ r ∷ []) ≡ None) c.requires.plan (rows.came-good g.T.Read.remaining _ _ (i.0 ++ r ∷ []) more) in (
-      i.0 ++ r ∷ [],
-      more,
-      (rw c.auditor.ensures at (c.note.ensures i.0 (good_start c.args.plan.now (i.0 ++ r ∷ []) good))) more.fed more.fault i.2,
-      λ records stands. subst (λ x. StandsBehind g.T.Read.remaining records (row_told x) c.next_row.new.self.rows) is (e.stands records (i.3 records stands)),
-      λ bytes read. subst (λ x. HasReadBehind g.T.Read.remaining bytes (row_told x) c.next_row.new.self.rows) is (e.lines bytes (i.4 bytes read)),
-    )
+    let row = c.in-Some.row in
+    let good = subst (λ (p : PlanModel). fault_in p i.0 ≡ None) i.1 (sym i.2.fault ∙ i.3) in
+    let not : c.is_in_turn.result ≡ false = cc in
+    let out : IsOutOfTurn c.loop-notes.auditor.plan i.0 row = λ left. sym (c.is_in_turn.ensures.turn i.0 i.2 i.3 left) ∙ not in
+    let broken : IsBroken c.loop-notes.auditor.plan i.0 row c.fault_out_of_turn-fault.result None c.loop-notes.auditor =
+    record { fault = c.fault_out_of_turn-fault.ensures i.0 row i.2 i.3 out; turn = λ left turn. absurd (true≢false (sym turn ∙ out left)); out = λ _. (i.2, i.3) } in
+    let told_so = subst (λ (p : PlanModel). IsBroken p i.0 row c.fault_out_of_turn-fault.result None c.loop-notes.auditor) i.1 broken in
+    let behind = subst (λ r. HasReadBehind g.T.Read.remaining bytes r c.next_foreseen.new.self) (c.in_ok-row.was ∙ ap (λ x. Ok x) c.in-Some.is) (c.next_foreseen.ensures.lines bytes (i.7 bytes read)) in
+    line-found c.args.plan.now i.0 row c.fault_out_of_turn-fault.result c.cause_of.result bytes _ told_so.fault (c.cause_of.ensures.cause i.0 good told_so i.5) c.cause_of.ensures.line (c.line_of_row-line.ensures bytes behind)
 
+-- ---- the end, and an error of the reader
 pub returns-in_err-row-clause-found : goal.returns-in_err-row-clause-found
 returns-in_err-row-clause-found g c = λ told known.
     let i = c.loop-notes.invariant in
-    let e = c.next_row.ensures in
+    let good = subst (λ (p : PlanModel). fault_in p i.0 ≡ None) i.1 (sym i.2.fault ∙ i.3) in
     let gives : c.from_residual.result ≡ Err c.in_err-row.field-0.0 = search rules in
-    let good = subst (λ (p : PlanModel). fault_in p i.0 ≡ None) c.requires.plan (rows.came-good g.T.Read.remaining _ _ i.0 i.1) in
-    refusal-judged c.args.plan.now told i.0 _ _ (row_told c.next_row.result) c.in_err-row.field-0.0 _ (i.1.read told known) e.gives (ap row_told c.in_err-row.was) good gives
+    refusal-judged c.args.plan.now told i.0 _ _ c.next_foreseen.result c.in_err-row.field-0.0 _ (i.4 told known) c.next_foreseen.ensures.next c.in_err-row.was good gives
 
 pub returns-in_err-row-clause-stands : goal.returns-in_err-row-clause-stands
 returns-in_err-row-clause-stands g c = λ records stands.
     let i = c.loop-notes.invariant in
     let gives : c.from_residual.result ≡ Err c.in_err-row.field-0.0 = search rules in
-    let behind = subst (λ x. StandsBehind g.T.Read.remaining records (row_told x) c.next_row.new.self.rows) c.in_err-row.was (c.next_row.ensures.stands records (i.3 records stands)) in
-    subst (λ r. IfErr r (λ error. StandsBehind g.T.Read.remaining records (Err error) c.next_row.new.self.rows)) (sym gives) behind
+    let behind = subst (λ r. StandsBehind g.T.Read.remaining records r c.next_foreseen.new.self) c.in_err-row.was (c.next_foreseen.ensures.stands records (i.6 records stands)) in
+    subst (λ r. IfErr r (λ error. StandsBehind g.T.Read.remaining records (Err error) c.next_foreseen.new.self)) (sym gives) behind
 
 pub returns-in_err-row-clause-read : goal.returns-in_err-row-clause-read
 returns-in_err-row-clause-read g c = λ bytes read.
     let i = c.loop-notes.invariant in
     let gives : c.from_residual.result ≡ Err c.in_err-row.field-0.0 = search rules in
-    let behind = subst (λ x. HasReadBehind g.T.Read.remaining bytes (row_told x) c.next_row.new.self.rows) c.in_err-row.was (c.next_row.ensures.lines bytes (i.4 bytes read)) in
-    subst (λ r. IfErr r (λ error. HasReadBehind g.T.Read.remaining bytes (Err error) c.next_row.new.self.rows)) (sym gives) behind
+    let behind = subst (λ r. HasReadBehind g.T.Read.remaining bytes r c.next_foreseen.new.self) c.in_err-row.was (c.next_foreseen.ensures.lines bytes (i.7 bytes read)) in
+    subst (λ r. IfErr r (λ error. HasReadBehind g.T.Read.remaining bytes (Err error) c.next_foreseen.new.self)) (sym gives) behind
 
-pub returns-in-Broken-clause-found : goal.returns-in-Broken-clause-found
-returns-in-Broken-clause-found g c = λ told known.
+pub returns-clause-found : goal.returns-clause-found
+returns-clause-found g c = λ told known.
     let i = c.loop-notes.invariant in
-    let e = c.next_row.ensures in
-    let next : rows.Gives g.T.Read.remaining c.loop-notes.rows c.next_row.new.self i.0 c.next_row.result = record { plan = e.plan; answers = e.gives; judged = e.judged i.0 i.1.fed i.1.fault } in
-    let is = c.in_ok-row.was ∙ ap (λ x. Ok x) c.in-Broken.is in
-    let good = subst (λ (p : PlanModel). fault_in p i.0 ≡ None) c.requires.plan (rows.came-good g.T.Read.remaining _ _ i.0 i.1) in
-    let broken = broken-is g.T.Read.remaining _ _ _ i.0 c.next_row.result c.in-Broken.row c.in-Broken.fault c.args.plan.now i.1 next is c.requires.plan in
-    let cause = (rw (c.auditor-in-Broken.ensures, c.due.ensures) at (c.cause_of-cause.ensures.cause i.0 good)) broken i.2 in
-    cause-found c.args.plan.now told i.0 c.in-Broken.row _ c.in-Broken.fault c.cause_of-cause.result (broken-read g.T.Read.remaining _ _ _ i.0 c.next_row.result c.in-Broken.row c.in-Broken.fault told i.1 next is known) broken.fault cause
+    let good = subst (λ (p : PlanModel). fault_in p i.0 ≡ None) i.1 (sym i.2.fault ∙ i.3) in
+    end-found c.args.plan.now told i.0 _ _ c.next_foreseen.result c.end.result c.loop-notes.notes (i.4 told known) c.next_foreseen.ensures.next (c.in_ok-row.was ∙ ap (λ x. Ok x) c.in_default.is) good
+    (c.end.ensures i.0 i.2 ∙ ap (λ (p : PlanModel). answer_of (verdict p i.0)) i.1) i.5
 
-pub returns-in-Broken-clause-line : goal.returns-in-Broken-clause-line
-returns-in-Broken-clause-line g c = λ bytes read.
+-- ---- a row in its turn that breaks another rule
+pub returns-in-Err-clause-found : goal.returns-in-Err-clause-found
+returns-in-Err-clause-found g c = λ told known.
     let i = c.loop-notes.invariant in
-    let e = c.next_row.ensures in
-    let next : rows.Gives g.T.Read.remaining c.loop-notes.rows c.next_row.new.self i.0 c.next_row.result = record { plan = e.plan; answers = e.gives; judged = e.judged i.0 i.1.fed i.1.fault } in
-    let is = c.in_ok-row.was ∙ ap (λ x. Ok x) c.in-Broken.is in
-    let good = subst (λ (p : PlanModel). fault_in p i.0 ≡ None) c.requires.plan (rows.came-good g.T.Read.remaining _ _ i.0 i.1) in
-    let broken = broken-is g.T.Read.remaining _ _ _ i.0 c.next_row.result c.in-Broken.row c.in-Broken.fault c.args.plan.now i.1 next is c.requires.plan in
-    let cause = (rw (c.auditor-in-Broken.ensures, c.due.ensures) at (c.cause_of-cause.ensures.cause i.0 good)) broken i.2 in
-    let behind = subst (λ x. HasReadBehind g.T.Read.remaining bytes (row_told x) c.next_row.new.self.rows) is (e.lines bytes (i.4 bytes read)) in
-    let begins = c.line_of_row-line.ensures bytes (subst (HasReadIn g.T.Read.remaining bytes) (sym c.reader.ensures) behind) in
-    line-found c.args.plan.now i.0 c.in-Broken.row c.in-Broken.fault c.cause_of-cause.result bytes _ broken.fault cause c.cause_of-cause.ensures.line begins
+    let row = c.in-Some.row in
+    let p = c.loop-notes.auditor.plan in
+    let good = subst (λ (p : PlanModel). fault_in p i.0 ≡ None) i.1 (sym i.2.fault ∙ i.3) in
+    let turned : c.is_in_turn.result ≡ true = cc in
+    let awaits = c.turn-due.ensures.awaits i.0 i.2 in
+    let tick = c.is_in_turn.ensures.tick turned i.0 i.2 ∙ (ap (λ (p : PlanModel). length i.0 / p.cores) (sym c.turn-due.ensures.plan) ∙ sym awaits.tick) in
+    let left : length i.0 < p.cores * p.ticks = subst (λ n. n < p.cores * p.ticks) (i.2.count i.3) (c.is_in_turn.ensures.due turned).left in
+    let turn : is_in_turn p i.0 row ≡ true = sym (c.is_in_turn.ensures.turn i.0 i.2 i.3 left) ∙ turned in
+    let fault = fault_told _ c.in-Err.fault (sym c.in-Err.is ∙ c.judge.ensures.answer i.0 awaits tick) in
+    let at : IsBroken c.turn-due.new.self.plan i.0 row c.in-Err.fault (Some c.turn-due.result) c.judge.new.self = record {
+      fault = fault;
+      turn = λ _ _. awaits.next;
+      out = λ o. absurd (true≢false (sym (subst (λ p. is_in_turn p i.0 row ≡ true) (sym c.turn-due.ensures.plan) turn) ∙ o (subst (λ (p : PlanModel). length i.0 < p.cores * p.ticks) (sym c.turn-due.ensures.plan) left)));
+    } in
+    let broken = subst (λ (p : PlanModel). IsBroken p i.0 row c.in-Err.fault (Some c.turn-due.result) c.judge.new.self) (c.turn-due.ensures.plan ∙ i.1) at in
+    let more = read-row told i.0 _ _ c.next_foreseen.result row (i.4 told known) c.next_foreseen.ensures.next (c.in_ok-row.was ∙ ap (λ x. Ok x) c.in-Some.is) in
+    cause-found c.args.plan.now told i.0 row _ c.in-Err.fault c.cause_of-in-Err.result more broken.fault (c.cause_of-in-Err.ensures.cause i.0 good broken i.5)
 
-pub returns-in-End-clause-found : goal.returns-in-End-clause-found
-returns-in-End-clause-found g c = λ told known.
+pub returns-in-Err-clause-line : goal.returns-in-Err-clause-line
+returns-in-Err-clause-line g c = λ bytes read.
     let i = c.loop-notes.invariant in
-    let e = c.next_row.ensures in
-    let is = c.in_ok-row.was ∙ ap (λ x. Ok x) c.in-End.is in
-    let good = subst (λ (p : PlanModel). fault_in p i.0 ≡ None) c.requires.plan (rows.came-good g.T.Read.remaining _ _ i.0 i.1) in
-    let whole = rows.end-found g.T.Read.remaining _ _ _ i.0 c.next_row.result told i.1 (record { plan = e.plan; answers = e.gives; judged = e.judged i.0 i.1.fed i.1.fault }) is known in
-    let same = e.plan ∙ (i.1.plan ∙ c.requires.plan) in
-    let found = (rw c.auditor-in-End.ensures at c.end.ensures) i.0 whole.0 in
-    end-found c.args.plan.now told i.0 _ _ (row_told c.next_row.result) _ _ (i.1.read told known) e.gives (ap row_told is) good (found ∙ ap (λ (p : PlanModel). answer_of (verdict p i.0)) same) i.2
+    let row = c.in-Some.row in
+    let p = c.loop-notes.auditor.plan in
+    let good = subst (λ (p : PlanModel). fault_in p i.0 ≡ None) i.1 (sym i.2.fault ∙ i.3) in
+    let turned : c.is_in_turn.result ≡ true = cc in
+    let awaits = c.turn-due.ensures.awaits i.0 i.2 in
+    let tick = c.is_in_turn.ensures.tick turned i.0 i.2 ∙ (ap (λ (p : PlanModel). length i.0 / p.cores) (sym c.turn-due.ensures.plan) ∙ sym awaits.tick) in
+    let left : length i.0 < p.cores * p.ticks = subst (λ n. n < p.cores * p.ticks) (i.2.count i.3) (c.is_in_turn.ensures.due turned).left in
+    let turn : is_in_turn p i.0 row ≡ true = sym (c.is_in_turn.ensures.turn i.0 i.2 i.3 left) ∙ turned in
+    let fault = fault_told _ c.in-Err.fault (sym c.in-Err.is ∙ c.judge.ensures.answer i.0 awaits tick) in
+    let at : IsBroken c.turn-due.new.self.plan i.0 row c.in-Err.fault (Some c.turn-due.result) c.judge.new.self = record {
+      fault = fault;
+      turn = λ _ _. awaits.next;
+      out = λ o. absurd (true≢false (sym (subst (λ p. is_in_turn p i.0 row ≡ true) (sym c.turn-due.ensures.plan) turn) ∙ o (subst (λ (p : PlanModel). length i.0 < p.cores * p.ticks) (sym c.turn-due.ensures.plan) left)));
+    } in
+    let broken = subst (λ (p : PlanModel). IsBroken p i.0 row c.in-Err.fault (Some c.turn-due.result) c.judge.new.self) (c.turn-due.ensures.plan ∙ i.1) at in
+    let behind = subst (λ r. HasReadBehind g.T.Read.remaining bytes r c.next_foreseen.new.self) (c.in_ok-row.was ∙ ap (λ x. Ok x) c.in-Some.is) (c.next_foreseen.ensures.lines bytes (i.7 bytes read)) in
+    line-found c.args.plan.now i.0 row c.in-Err.fault c.cause_of-in-Err.result bytes _ broken.fault (c.cause_of-in-Err.ensures.cause i.0 good broken i.5) c.cause_of-in-Err.ensures.line (c.line_of_row-line-in-Err.ensures bytes behind)
+
+-- ---- a legal row
+pub loop-notes-smaller : goal.loop-notes-smaller
+loop-notes-smaller g c =
+    let i = c.loop-notes.invariant in
+    let row = c.in-Some.row in
+    let turned : c.is_in_turn.result ≡ true = cc in
+    let awaits = c.turn-due.ensures.awaits i.0 i.2 in
+    let tick = c.is_in_turn.ensures.tick turned i.0 i.2 ∙ (ap (λ (p : PlanModel). length i.0 / p.cores) (sym c.turn-due.ensures.plan) ∙ sym awaits.tick) in
+    let fed = c.judge.ensures.fed i.0 awaits tick in
+    let good = good_told _ c.in_default-judge.field-0 (sym c.in_default-judge.is ∙ c.judge.ensures.answer i.0 awaits tick) in
+    let now = fed.count (fed.fault ∙ (ap (λ p. fault_in p (i.0 ++ row ∷ [])) c.judge.ensures.plan ∙ good)) in
+    fewer-left c.loop-notes.auditor.plan c.judge.new.self.plan c.loop-notes.auditor.fed c.judge.new.self.fed (c.judge.ensures.plan ∙ c.turn-due.ensures.plan)
+    (now ∙ (length-append i.0 (row ∷ []) ∙ ap (λ n. n + 1) (sym (i.2.count i.3)))) (c.is_in_turn.ensures.due turned).left
+
+pub loop-notes-preserved : goal.loop-notes-preserved
+loop-notes-preserved g c =
+    let i = c.loop-notes.invariant in
+    let row = c.in-Some.row in
+    let turned : c.is_in_turn.result ≡ true = cc in
+    let awaits = c.turn-due.ensures.awaits i.0 i.2 in
+    let tick = c.is_in_turn.ensures.tick turned i.0 i.2 ∙ (ap (λ (p : PlanModel). length i.0 / p.cores) (sym c.turn-due.ensures.plan) ∙ sym awaits.tick) in
+    let fed = c.judge.ensures.fed i.0 awaits tick in
+    let good = good_told _ c.in_default-judge.field-0 (sym c.in_default-judge.is ∙ c.judge.ensures.answer i.0 awaits tick) in
+    let none = fed.fault ∙ (ap (λ p. fault_in p (i.0 ++ row ∷ [])) c.judge.ensures.plan ∙ good) in
+    let start = good_start c.args.plan.now (i.0 ++ row ∷ []) (subst (λ (p : PlanModel). fault_in p (i.0 ++ row ∷ []) ≡ None) (c.turn-due.ensures.plan ∙ i.1) good) in
+    let is = c.in_ok-row.was ∙ ap (λ x. Ok x) c.in-Some.is in (
+      i.0 ++ row ∷ [],
+      c.judge.ensures.plan ∙ (c.turn-due.ensures.plan ∙ i.1),
+      fed,
+      none,
+      λ told known. read-row told i.0 _ _ c.next_foreseen.result row (i.4 told known) c.next_foreseen.ensures.next is,
+      c.note.ensures i.0 start fed none i.5,
+      λ records stands. subst (λ r. StandsBehind g.T.Read.remaining records r c.next_foreseen.new.self) is (c.next_foreseen.ensures.stands records (i.6 records stands)),
+      λ bytes read. subst (λ r. HasReadBehind g.T.Read.remaining bytes r c.next_foreseen.new.self) is (c.next_foreseen.ensures.lines bytes (i.7 bytes read)),
+    )
