@@ -1,6 +1,6 @@
-use Rattle.std.proofs.Common.{Err, IfErr, IfOk, ap, sym, subst, ◌∙◌}
+use Rattle.std.proofs.Common.{Err, IfErr, IfOk, sym, subst}
 use Rattle.msrp_text.specs.Reading.{csv_records}
-use Rattle.msrp_trace.specs.Readers.{HasReadBehind, IsRecordOf, StandsBehind, record_read}
+use Rattle.msrp_trace.specs.Readers.{HasReadBehind, IsRecordOf, StandsBehind}
 use Rattle.msrp_view_engine.specs.Whys.{BeginsRow, IsJudged}
 use Rattle.msrp_view_engine.proofs.Explaining.{judged-explained, refused-explained}
 use Rattle.msrp_view_engine.proofs.why.explain_rows.Goals as goal

@@ -1,6 +1,6 @@
-use Rattle.std.proofs.Common.{rules, ◌≡◌, ◌++◌, ◌∷◌, [], ◌+◌, ◌<◌, ◌*◌, ◌/◌, true, false, None, Some, Ok, Err, IfErr, length, refl, ap, sym, subst, ◌∙◌, length-append}
+use Rattle.std.proofs.Common.{rules, ◌≡◌, ◌++◌, ◌∷◌, [], ◌+◌, ◌<◌, ◌*◌, ◌/◌, true, false, None, Some, Ok, Err, IfErr, length, ap, sym, subst, ◌∙◌, length-append}
 use Rattle.std.proofs.Math.Bool.{true≢false}
-use Rattle.msrp_audit.specs.Audits.{AuditorModel, HasFed, IsBroken, IsOutOfTurn, answer_of}
+use Rattle.msrp_audit.specs.Audits.{IsBroken, IsOutOfTurn, answer_of}
 use Rattle.msrp_audit.proofs.Judging.{fault_told, good_told}
 use Rattle.msrp_plan.specs.Plan.{PlanModel}
 use Rattle.msrp_plan.specs.Runs.{is_in_turn}
