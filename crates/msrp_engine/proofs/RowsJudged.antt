@@ -57,7 +57,7 @@ fewer-turns remaining begun old new rows result row came next is =
     let was : old.auditor.fed ≡ length rows = came.fed.count came.fault in
     let now : new.auditor.fed ≡ length (rows ++ row ∷ []) = more.fed.count more.fault in
     let left = turn-left old.auditor.plan rows row (no-fault remaining begun old rows came)
-        (subst (λ (p : PlanModel). fault_in p (rows ++ row ∷ []) ≡ None) next.plan (no-fault remaining begun new (rows ++ row ∷ []) more)) in
+    (subst (λ (p : PlanModel). fault_in p (rows ++ row ∷ []) ≡ None) next.plan (no-fault remaining begun new (rows ++ row ∷ []) more)) in
     fewer-left old.auditor.plan new.auditor.plan old.auditor.fed new.auditor.fed next.plan (now ∙ (length-append rows (row ∷ []) ∙ ap (λ n. n + 1) (sym was)))
     (subst (λ n. n < old.auditor.plan.cores * old.auditor.plan.ticks) (sym was) left)
 

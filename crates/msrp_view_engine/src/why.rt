@@ -212,13 +212,7 @@ fn explain_all<T: Read>(
     let mut rows = match TraceReader::open(alloc, trace, plan) {
         Ok(rows) => rows,
         Err(unopened) => {
-            return words_on_refusal(
-                alloc,
-                plan,
-                unopened.error,
-                unopened.line,
-                &unopened.first,
-            );
+            return words_on_refusal(alloc, plan, unopened.error, unopened.line, &unopened.first);
         }
     };
     let words = explain_rows(alloc, plan, &levels, &mut rows);
