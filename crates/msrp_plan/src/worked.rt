@@ -91,7 +91,8 @@ pub fn equal_deadlines()
     ensures preempted { verdict equal_deadlines.plan equal_deadlines.preempted ≡ fault 3 A3 }
 {}
 
-/// The same with the tasks in the other order: the release is compared before the task's number.
+/// Two jobs of equal absolute deadlines, of which the one of the higher task number is released first: the release is compared before
+/// the task's number.
 pub fn equal_deadlines_reversed()
     ensures run { IsRun equal_deadlines_reversed.plan equal_deadlines_reversed.rows }
     ensures by_task_number { verdict equal_deadlines_reversed.plan equal_deadlines_reversed.by_task_number ≡ fault 3 A3 }
@@ -127,7 +128,7 @@ pub fn handover_within_a_tick()
     ensures doubled { verdict handover_within_a_tick.plan handover_within_a_tick.doubled ≡ fault 13 A7 }
 {}
 
-/// The same plan in another order of the cores: a later handover, and a legal run too.
+/// A global resource is released in a tick in which the core that waits for it had its turn before: it is granted in the next tick.
 pub fn handover_a_tick_later()
     ensures run { IsRun handover_a_tick_later.plan handover_a_tick_later.rows }
     ensures before_the_release { verdict handover_a_tick_later.plan handover_a_tick_later.before_the_release ≡ fault 5 A5 }

@@ -103,7 +103,7 @@ fn texts_are_read_and_written_again(rt: HostRuntime) -> Result<(), Fail> {
     Ok(())
 }
 
-// The same row past the plan's ticks.
+// A row as it would be in tick 7, which is past the plan's ticks.
 fn at_another_tick(row: &Row) -> Row {
     Row {
         tick: 7,
