@@ -37,6 +37,7 @@ fn last_field(text: &[u8]) -> Option<PlainLine>
 }
 
 // The number that stands behind these words, and the bytes of the line.
+#[inline(always)]
 fn number_behind(text: &[u8], front: &[u8]) -> Option<(u32, usize)>
     ensures { IfSome result (λ found. (field : List ℕ) × StandsBehind text.now front.now field (found.1) × (number_of field ≡ Some (found.0))) }
 {
@@ -47,6 +48,7 @@ fn number_behind(text: &[u8], front: &[u8]) -> Option<(u32, usize)>
 }
 
 // The resource whose name stands behind these words, and the bytes of the line.
+#[inline(always)]
 fn resource_behind(builder: &PlanBuilder, text: &[u8], front: &[u8]) -> Option<(ResId, usize)>
     ensures { IfSome result (λ found. (field : List ℕ) × StandsBehind text.now front.now field (found.1) × (found.0 ≡ resource_told builder.now (text_of field))) }
 {
@@ -56,18 +58,28 @@ fn resource_behind(builder: &PlanBuilder, text: &[u8], front: &[u8]) -> Option<(
     Some((res, front.len() + field.taken))
 }
 
-// The units that the line at the front of a text tells, and its bytes.
+// The units that the line at the front of a text tells, and its bytes. The fourth byte says which of the three it can be.
 fn step_ahead(builder: &PlanBuilder, text: &[u8]) -> Option<(Step, usize)>
     ensures { IfSome result (λ found. TellsStep builder.now text.now (found.0) (found.1)) }
 {
-    if let Some((count, taken)) = number_behind(text, b"op,run,") {
-        return Some((Step::Run(count), taken));
+    if text.len() < 4 {
+        return None;
     }
-    if let Some((res, taken)) = resource_behind(builder, text, b"op,lock,") {
-        return Some((Step::Lock(res), taken));
+    match text[3] {
+        b'r' => {
+            let (count, taken) = number_behind(text, b"op,run,")?;
+            Some((Step::Run(count), taken))
+        }
+        b'l' => {
+            let (res, taken) = resource_behind(builder, text, b"op,lock,")?;
+            Some((Step::Lock(res), taken))
+        }
+        b'u' => {
+            let (res, taken) = resource_behind(builder, text, b"op,unlock,")?;
+            Some((Step::Unlock(res), taken))
+        }
+        _ => None,
     }
-    let (res, taken) = resource_behind(builder, text, b"op,unlock,")?;
-    Some((Step::Unlock(res), taken))
 }
 
 // Adds the release that the line at the front of a text of version 2 tells, as the next function does.
