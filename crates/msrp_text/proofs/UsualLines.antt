@@ -5,7 +5,6 @@ use Rattle.std.specs.List.{list_any}
 use Rattle.std.proofs.Math.Seq.{take-append-add}
 use Rattle.std.proofs.lemmas.Bool.{or_from, or_parts}
 use Rattle.std.proofs.lemmas.List.{take_more}
-use Rattle.std.proofs.lemmas.List.Folds.{list_any_more}
 use Rattle.std.proofs.lemmas.Bool.Decides.{nat_tests}
 use Rattle.csv.specs.Records.{field_at}
 use Rattle.msrp_plan.specs.Building.{IsJudged, op_fault, release_fault, takes_releases, units_of, with_release, with_units}
@@ -160,15 +159,5 @@ release-line plan new text n r taken takes tells judged added =
     added-line V2 plan new _ text (codes "release,") (tells.0) _ _ r taken stands (release-plain (tells.0) stands.inside) (release-split (tells.0) stands.inside) (release-fault plan (tells.0) n takes tells.2) (release-added plan (tells.0) n tells.2) judged added
 
 -- ---- the end of a line
-pub low-on : (text : List ℕ) (at : ℕ) → at < length text → 44 < slice_index text at → list_any is_low (take at text) ≡ false → list_any is_low (take (at + 1) text) ≡ false
-low-on text at within high before =
-    let here : is_low (slice_index text at) ≡ false = grind (arith, nat_tests, high) in
-    list_any_more is_low text at 0 within ∙ or_from _ _ before here
-
 pub feed-ends : (text : List ℕ) (at end : ℕ) → at < length text → slice_index text at ≡ end → take (at + 1) text ≡ take at text ++ (end ∷ [])
 feed-ends text at end within e = take_more text at 0 within ∙ ap (λ (b : ℕ). take at text ++ (b ∷ [])) e
-
-pub fed-ends : (text : List ℕ) (at : ℕ) → at + 1 < length text → slice_index text at ≡ 13 → slice_index text (at + 1) ≡ 10 → take (at + 2) text ≡ take at text ++ (13 ∷ 10 ∷ [])
-fed-ends text at within e f =
-    let two : at + 2 ≡ at + 1 + 1 = omega arith in
-    ap (λ (n : ℕ). take n text) two ∙ feed-ends text (at + 1) 10 within f ∙ ap (λ (xs : List ℕ). xs ++ (10 ∷ [])) (feed-ends text at 13 (omega (arith, within)) e) ∙ append_assoc (take at text) (13 ∷ []) (10 ∷ [])
