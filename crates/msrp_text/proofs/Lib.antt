@@ -9,6 +9,8 @@ pub mod Texts
 pub mod Judging
 pub mod Folding
 pub mod Firsts
+pub mod UsualLines
+pub mod UsualRecords
 pub mod Written
 pub mod Numerals
 pub mod Plain

@@ -6,6 +6,7 @@ pub mod Lines
 pub mod Fields
 pub mod Reading
 pub mod Positions
+pub mod Usual
 pub mod Examples
 pub mod Laws
 pub mod PlanText

@@ -39,8 +39,8 @@ pub fn name_at(row: &ByteRecord, i: usize) -> &str
     }
 }
 
-// The text of a field, empty where it is not UTF-8.
-fn text_of(field: &[u8]) -> &str
+/// The text of a field, empty where it is not UTF-8.
+pub(crate) fn text_of(field: &[u8]) -> &str
     ensures { result.now ≡ text_of field.now }
 {
     match str::from_utf8(field) {

@@ -13,6 +13,7 @@ mod lines;
 mod positions;
 pub mod reading;
 pub mod records;
+mod usual;
 pub mod worked;
 mod writing;
 

@@ -138,8 +138,8 @@ fn read_task(builder: &mut PlanBuilder, row: &ByteRecord) -> Result<(), PlanFaul
     }
 }
 
-// The resource of a name. One that was not declared gets the greatest number, which the builder refuses.
-fn resource_told(builder: &PlanBuilder, name: &str) -> ResId
+/// The resource of a name. One that was not declared gets the greatest number, which the builder refuses.
+pub(crate) fn resource_told(builder: &PlanBuilder, name: &str) -> ResId
     ensures { result ≡ resource_told builder.now name.now }
 {
     builder.res_of(name).unwrap_or(ResId(u32::MAX))

@@ -6,9 +6,11 @@ ghost use Rattle.msrp_plan.specs.Bytes.{source_failed, source_remaining};
 ghost use Rattle.msrp_text.specs.Reading.{Answers, csv_records, plan_of};
 ghost use Rattle.msrp_text.specs.Records.{records_left};
 ghost use Rattle.msrp_text.specs.Positions.{IsTakenAt, ReadsAs, refusal, position_fault, position_plan, position_with};
+ghost use Rattle.msrp_text.specs.Usual.{MayTake};
 
 use crate::positions::{Position, advance, plan_at_end};
 use crate::records::{RecordReader, Stopped};
+use crate::usual::add_ahead;
 use csv::ByteRecord;
 use msrp_plan::bytes::Source;
 use msrp_plan::{Plan, PlanFault};
@@ -76,6 +78,7 @@ fn refused(fault: PlanFault, number: u32) -> TextError
 }
 
 // One more record, by its number.
+#[inline(never)]
 fn step(
     alloc: Global,
     position: &mut Position,
@@ -100,6 +103,28 @@ fn end(position: Position, number: u32) -> Result<Plan, TextError>
     }
 }
 
+// One more record, where the line that was read ahead tells it and it has its place among the resources and tasks; else none is taken. Whether
+// one was.
+fn take_usual<R: Read>(
+    position: &mut Position,
+    records: &mut RecordReader<R>,
+    number: u32,
+) -> Result<bool, TextError>
+    ensures { MayTake (records_left R.remaining records.old) position.old number result position.new (records_left R.remaining records.new) }
+{
+    let Position::Body(version, builder) = position else {
+        return Ok(false);
+    };
+    let Some((judged, taken)) = add_ahead(*version, builder, records.ahead()) else {
+        return Ok(false);
+    };
+    records.take_line(taken);
+    match judged {
+        Ok(()) => Ok(true),
+        Err(fault) => Err(refused(fault, number)),
+    }
+}
+
 // The plan of the records that are left, from the first position on.
 fn read_positions<R: Read>(
     alloc: Global,
@@ -110,6 +135,9 @@ fn read_positions<R: Read>(
 {
     let mut position = Position::Version;
     for number in 1..=MOST_RECORDS {
+        if take_usual(&mut position, records, number)? {
+            continue;
+        }
         if !records.read(row)? {
             return Ok(end(position, number)?);
         }

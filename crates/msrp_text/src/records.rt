@@ -201,9 +201,9 @@ impl<R: Read> RecordReader<R> {
         }
     }
 
-    // Takes so many of the bytes that were read ahead: a plain line with its end. Its fields were the next record.
+    /// Takes so many of the bytes that were read ahead: a plain line with its end. Its fields were the next record.
     #[inline]
-    fn take_line(&mut self, count: usize)
+    pub(crate) fn take_line(&mut self, count: usize)
         requires count { count ≤ length (bytes_ahead self.old) }
         requires some { 0 < count }
         ensures next { (line : List ℕ) → EndsLine line (take count (bytes_ahead self.old)) → is_plain line ≡ true → GivesLine (records_left R.remaining self.old) (split_commas line) (records_left R.remaining self.new) }

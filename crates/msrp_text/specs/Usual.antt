@@ -1,0 +1,59 @@
+-- Lines that a plan mostly consists of: words that are known, and one more field.
+use Rattle.std.specs.Prelude.{ℕ, Bool, true, false, List, ◌++◌, length, take, Option, Some, Result, Ok, Err, OnOk, codes, nat_le, ◌≡◌, ◌≤◌, ◌<◌}
+use Rattle.std.specs.List.{list_any}
+use Rattle.msrp_plan.specs.Building.{IsJudged}
+use Rattle.msrp_plan.specs.Plan.{PlanModel}
+use Rattle.msrp_plan.specs.declared.faults.PlanFault.{PlanFault}
+use Rattle.msrp_plan.specs.declared.rows.TextVersion.{TextVersion}
+use Rattle.msrp_plan.specs.declared.units.Step.{Step}
+use Rattle.msrp_plan.specs.declared.units.Step.TheVariants.{Run, Lock, Unlock}
+use Rattle.msrp_text.specs.Fields.{number_of, text_of}
+use Rattle.msrp_text.specs.Plain.{EndsLine, is_plain, split_commas}
+use Rattle.msrp_text.specs.Positions.{IsTakenAt, position_fault, position_with}
+use Rattle.msrp_text.specs.Reading.{body_fault, resource_told, with_record}
+use Rattle.msrp_text.specs.Records.{GivesLine}
+use Rattle.msrp_text.specs.declared.front.PlainLine.{PlainLine}
+use Rattle.msrp_text.specs.declared.positions.Position.{Position}
+use Rattle.msrp_text.specs.declared.reading.TextError.{TextError}
+
+-- a byte up to the comma: each that ends a field or a line is one, and a quote
+abbrev pub is_low : ℕ → Bool
+is_low b = nat_le b 44
+
+-- a text begins with a field of higher bytes, and the end of the line
+pub record IsLast (text : List ℕ) (field : PlainLine) : Type 0 where
+  pub longer : field.length < field.taken
+  pub within : field.taken ≤ length text
+  pub ended : EndsLine (take field.length text) (take field.taken text)
+  pub inside : list_any is_low (take field.length text) ≡ false
+
+-- a text begins with some words, such a field and the end of the line: so many bytes
+pub record StandsBehind (text front field : List ℕ) (taken : ℕ) : Type 0 where
+  pub some : 0 < taken
+  pub within : taken ≤ length text
+  pub ended : EndsLine (front ++ field) (take taken text)
+  pub inside : list_any is_low field ≡ false
+
+-- the first line of a text, of so many bytes with its end, is plain, and its record is taken or refused by a plan
+pub record IsAdded (version : TextVersion) (old new : PlanModel) (text : List ℕ) (judged : Result (Unit {0}) PlanFault) (taken : ℕ) : Type 0 where
+  pub line : List ℕ
+  pub some : 0 < taken
+  pub within : taken ≤ length text
+  pub ended : EndsLine line (take taken text)
+  pub plain : is_plain line ≡ true
+  pub is_judged : IsJudged (body_fault version old (Some (split_commas line))) judged
+  pub added : OnOk judged (new ≡ with_record old (split_commas line))
+
+-- one more record is taken at a position or refused, or else nothing is
+abbrev pub MayTake : Option (List (List (List ℕ))) → Position → ℕ → Result Bool TextError → Position → Option (List (List (List ℕ))) → Type 0
+MayTake old position number (Ok false) next new = (next ≡ position) × (new ≡ old)
+MayTake old position number (Ok true) next new =
+    (fields : List (List ℕ)) × GivesLine old fields new × IsTakenAt (position_fault position (Some fields)) number (position_with position fields) (Ok next)
+MayTake old position number (Err error) next new =
+    (fields : List (List ℕ)) × GivesLine old fields new × IsTakenAt {A = Position} (position_fault position (Some fields)) number (position_with position fields) (Err error)
+
+-- the first line of a text, of so many bytes with its end, tells these units of a plan's newest task
+abbrev pub TellsStep : PlanModel → List ℕ → Step → ℕ → Type 0
+TellsStep plan text (Run n) taken = (field : List ℕ) × StandsBehind text (codes "op,run,") field taken × (number_of field ≡ Some n)
+TellsStep plan text (Lock res) taken = (field : List ℕ) × StandsBehind text (codes "op,lock,") field taken × (res ≡ resource_told plan (text_of field))
+TellsStep plan text (Unlock res) taken = (field : List ℕ) × StandsBehind text (codes "op,unlock,") field taken × (res ≡ resource_told plan (text_of field))
