@@ -11,6 +11,7 @@ use Rattle.msrp_trace.specs.Gathering.{after_tick, next_field}
 use Rattle.msrp_trace.specs.TraceText.{job_text, task_text}
 use Rattle.msrp_trace.specs.declared.job.JobText.{JobText}
 use Rattle.msrp_trace.specs.Laws.{is_told_whole}
+use Rattle.msrp_trace.specs.declared.line.CoreText.{CoreText}
 use Rattle.msrp_trace.specs.declared.line.RowLine.{RowLine}
 
 -- two rows of the same core, job and resource, without aheads
@@ -25,10 +26,14 @@ job_fields plan job = next_field (task_text plan job) ++ next_field (job_text jo
 abbrev pub IsJobText : PlanModel → JobText → Type 0
 IsJobText plan kept = IfSome kept.job (λ j. kept.text ≡ job_fields plan (Some j))
 
--- the texts are those of the row, and of the job that the core ran last
-pub record IsLine (version : TextVersion) (plan : PlanModel) (kept : RowLine) : Type 0 where
-  pub fits : IfSome kept.row (λ r. kept.line ≡ after_tick version plan r)
+-- what is kept of a core is the text of the job that it ran last
+pub record IsCoreText (plan : PlanModel) (kept : CoreText) : Type 0 where
   pub job : IsJobText plan kept.job
+
+-- the text is that of the row
+pub record IsLine (version : TextVersion) (plan : PlanModel) (kept : RowLine) : Type 0 where
+  pub fits : IfSome kept.row (λ r. kept.text.line ≡ after_tick version plan r)
+  pub text : IsCoreText plan kept.text
 
 -- the row is read as it was written
 pub record IsWhole (version : TextVersion) (plan : PlanModel) (kept : RowLine) : Type 0 where

@@ -1,4 +1,4 @@
-//! The text of one record as it is made, and the record that a core had last.
+//! The text of one record as it is made, and what is kept of a core's last one.
 ghost use Rattle.std.specs.Prelude.{◌≡◌, ◌≤◌, ◌<◌, ◌+◌, ◌++◌, [], codes, decimal, length, true, Some, None, IsSomeAnd, option_map};
 ghost use Rattle.std.specs.List.{flat_map};
 ghost use Rattle.std.specs.Option.{IfSome};
@@ -6,7 +6,7 @@ ghost use Rattle.msrp_plan.specs.Plan.{PlanModel};
 ghost use Rattle.msrp_plan.specs.Stretches.{in_tick};
 ghost use Rattle.msrp_plan.specs.Words.{kind_text};
 ghost use Rattle.msrp_trace.specs.Gathering.{next_field, after_tick};
-ghost use Rattle.msrp_trace.specs.Lines.{IsJobText, IsLine, IsWhole, is_same_place, job_fields};
+ghost use Rattle.msrp_trace.specs.Lines.{IsCoreText, IsJobText, IsLine, IsWhole, is_same_place, job_fields};
 ghost use Rattle.msrp_trace.specs.Laws.{is_short, is_told_whole};
 ghost use Rattle.msrp_trace.specs.TraceText.{ahead_fields, dash, head_text, is_named, is_res_of, is_task_of, job_text, res_text, task_text};
 
@@ -157,7 +157,7 @@ impl LineText {
     }
 
     // Makes the record of a row but for its tick.
-    #[inline(never)]
+    #[inline(always)]
     fn make(&mut self, plan: &Plan, version: TextVersion, row: &Row, job: &mut JobText)
         requires named { is_named plan.now row.now ≡ true }
         requires before { IsJobText plan.now job.old }
@@ -174,14 +174,49 @@ impl LineText {
     }
 }
 
-/// A row that was written, and the text of its record after the tick. As long as a core does the same, its next rows
-/// differ in the tick alone.
+/// The text of a core's record after the tick, and what the next one is made from.
 #[derive(Drop)]
-pub(crate) struct RowLine {
-    row: Option<Row>,
+pub(crate) struct CoreText {
     line: LineText,
     // The job that the core ran last.
     job: JobText,
+}
+
+impl CoreText {
+    /// No record.
+    pub(crate) fn new() -> CoreText
+        ensures job { result.job.job ≡ None }
+    {
+        CoreText {
+            line: LineText::new(),
+            job: JobText::new(),
+        }
+    }
+
+    /// Makes the record of a row but for its tick.
+    #[inline(never)]
+    pub(crate) fn make(&mut self, plan: &Plan, version: TextVersion, row: &Row)
+        requires named { is_named plan.now row.now ≡ true }
+        requires before { IsCoreText plan.now self.old }
+        ensures after { IsCoreText plan.now self.new }
+        ensures text { self.new.line ≡ after_tick version plan.now row.now }
+    {
+        self.line.make(plan, version, row, &mut self.job);
+    }
+
+    /// The text of the record after the tick.
+    pub(crate) fn text(&self) -> &Text<LINE>
+        ensures { result.now ≡ self.now.line }
+    {
+        self.line.text()
+    }
+}
+
+/// A row that was written, and its text. As long as a core does the same, its next rows differ in the tick alone.
+#[derive(Drop)]
+pub(crate) struct RowLine {
+    row: Option<Row>,
+    text: CoreText,
 }
 
 fn is_same_kind(a: Kind, b: Kind) -> bool
@@ -201,12 +236,11 @@ impl RowLine {
     /// No row.
     pub(crate) fn new() -> RowLine
         ensures row { result.row ≡ None }
-        ensures job { result.job.job ≡ None }
+        ensures job { result.text.job.job ≡ None }
     {
         RowLine {
             row: None,
-            line: LineText::new(),
-            job: JobText::new(),
+            text: CoreText::new(),
         }
     }
 
@@ -227,7 +261,7 @@ impl RowLine {
         requires named { is_named plan.now row.now ≡ true }
         requires before { IsLine version plan.now self.old }
         ensures after { IsLine version plan.now self.new }
-        ensures text { self.new.line ≡ after_tick version plan.now row.now }
+        ensures text { self.new.text.line ≡ after_tick version plan.now row.now }
         ensures whole { IsWhole version plan.now self.old → is_told_whole version plan.now row.now ≡ true → IsWhole version plan.now self.new }
     {
         if !self.is_of(row) {
@@ -240,7 +274,7 @@ impl RowLine {
                 res: row.res,
                 ahead: row.ahead,
             };
-            self.line.make(plan, version, &made, &mut self.job);
+            self.text.make(plan, version, &made);
             self.row = Some(made);
         }
     }
@@ -251,7 +285,7 @@ impl RowLine {
         ensures row { result ≡ option_map (in_tick tick) self.now.row }
         ensures tick { IfSome result (λ row. row.tick ≡ tick) }
         ensures whole { (version : TextVersion) (plan : PlanModel) → IsWhole version plan self.now → IfSome result (λ row. is_short row.tick ≡ true → is_told_whole version plan row ≡ true) }
-        ensures text { (version : TextVersion) (plan : PlanModel) → IsLine version plan self.now → IfSome result (λ row. self.now.line ≡ after_tick version plan row) }
+        ensures text { (version : TextVersion) (plan : PlanModel) → IsLine version plan self.now → IfSome result (λ row. self.now.text.line ≡ after_tick version plan row) }
     {
         match self.row {
             Some(row) => Some(row.in_tick(tick)),
@@ -261,8 +295,8 @@ impl RowLine {
 
     /// The text of the record after the tick.
     pub(crate) fn text(&self) -> &Text<LINE>
-        ensures { result.now ≡ self.now.line }
+        ensures { result.now ≡ self.now.text.line }
     {
-        self.line.text()
+        self.text.text()
     }
 }
