@@ -6,11 +6,12 @@ ghost use Rattle.msrp_plan.specs.Plan.{PlanModel};
 ghost use Rattle.msrp_plan.specs.Stretches.{in_tick};
 ghost use Rattle.msrp_plan.specs.Words.{kind_text};
 ghost use Rattle.msrp_trace.specs.Gathering.{next_field, after_tick};
-ghost use Rattle.msrp_trace.specs.Lines.{IsCoreText, IsJobText, IsLine, IsWhole, is_same_place, job_fields};
+ghost use Rattle.msrp_trace.specs.Lines.{IsCoreText, IsJobText, IsLine, IsResText, IsWhole, is_same_place, job_fields};
 ghost use Rattle.msrp_trace.specs.Laws.{is_short, is_told_whole};
 ghost use Rattle.msrp_trace.specs.TraceText.{ahead_fields, dash, head_text, is_named, is_res_of, is_task_of, job_text, res_text, task_text};
 
 use crate::job::JobText;
+use crate::res::ResText;
 use crate::text::Text;
 use crate::words::{DASH, TRACE_WORD, version_word};
 use msrp_plan::{JobId, Kind, Plan, ResId, Row, TextVersion};
@@ -31,17 +32,6 @@ impl Model for LineText {
     ghost Value = { List ℕ };
 
     ghost view = { λ l. l.text };
-}
-
-// The name of a resource.
-fn res_field(plan: &Plan, res: ResId) -> &[u8]
-    requires { res.0 < length plan.now.resources }
-    ensures name { result.now ≡ res_text plan.now (Some res) }
-    ensures short { length result.now ≤ 16 }
-{
-    // Read so that the plan is known to be an accepted one.
-    let _accepted = plan.resources();
-    plan.res_name(res).as_bytes()
 }
 
 impl LineText {
@@ -119,14 +109,21 @@ impl LineText {
         }
     }
 
-    fn next_resource(&mut self, plan: &Plan, res: Option<ResId>)
+    // The field of a resource. It is kept for the next row on it.
+    #[inline(always)]
+    fn next_resource(&mut self, plan: &Plan, kept: &mut ResText, res: Option<ResId>)
         requires res { is_res_of plan.now res ≡ true }
-        requires room { length self.old + 17 ≤ LINE }
+        requires room { length self.old + 24 ≤ LINE }
+        requires before { IsResText plan.now kept.old }
+        ensures after { IsResText plan.now kept.new }
         ensures text { self.new ≡ self.old ++ next_field (res_text plan.now res) }
         ensures size { length self.new ≤ length self.old + 17 }
     {
         match res {
-            Some(res) => self.text.next(res_field(plan, res)),
+            Some(res) => {
+                kept.show(plan, res);
+                self.text.add_text(kept.text());
+            }
             None => self.next_dash(),
         }
     }
@@ -158,17 +155,26 @@ impl LineText {
 
     // Makes the record of a row but for its tick.
     #[inline(always)]
-    fn make(&mut self, plan: &Plan, version: TextVersion, row: &Row, job: &mut JobText)
+    fn make(
+        &mut self,
+        plan: &Plan,
+        version: TextVersion,
+        row: &Row,
+        job: &mut JobText,
+        res: &mut ResText,
+    )
         requires named { is_named plan.now row.now ≡ true }
-        requires before { IsJobText plan.now job.old }
-        ensures after { IsJobText plan.now job.new }
+        requires job_before { IsJobText plan.now job.old }
+        requires res_before { IsResText plan.now res.old }
+        ensures job_after { IsJobText plan.now job.new }
+        ensures res_after { IsResText plan.now res.new }
         ensures text { self.new ≡ after_tick version plan.now row.now }
     {
         self.clear();
         self.text.next_number(row.core.0);
         self.next_kind(row.kind);
         self.next_job(plan, job, row.job);
-        self.next_resource(plan, row.res);
+        self.next_resource(plan, res, row.res);
         self.next_ahead(version, row.ahead);
         self.text.add(b"\n");
     }
@@ -180,16 +186,20 @@ pub(crate) struct CoreText {
     line: LineText,
     // The job that the core ran last.
     job: JobText,
+    // The resource that it named last.
+    res: ResText,
 }
 
 impl CoreText {
     /// No record.
     pub(crate) fn new() -> CoreText
         ensures job { result.job.job ≡ None }
+        ensures res { result.res.res ≡ None }
     {
         CoreText {
             line: LineText::new(),
             job: JobText::new(),
+            res: ResText::new(),
         }
     }
 
@@ -201,7 +211,8 @@ impl CoreText {
         ensures after { IsCoreText plan.now self.new }
         ensures text { self.new.line ≡ after_tick version plan.now row.now }
     {
-        self.line.make(plan, version, row, &mut self.job);
+        self.line
+            .make(plan, version, row, &mut self.job, &mut self.res);
     }
 
     /// The text of the record after the tick.
@@ -237,6 +248,7 @@ impl RowLine {
     pub(crate) fn new() -> RowLine
         ensures row { result.row ≡ None }
         ensures job { result.text.job.job ≡ None }
+        ensures res { result.text.res.res ≡ None }
     {
         RowLine {
             row: None,

@@ -92,6 +92,7 @@ impl<const N: usize> Text<N> {
         requires { length self.old + M ≤ N }
         ensures text { self.new ≡ self.old ++ text.now }
         ensures size { length self.new ≤ length self.old + M }
+        ensures length { length self.new ≡ length self.old + length text.now }
     {
         lay(&mut self.bytes, self.len, &text.bytes);
         self.len += text.len;
