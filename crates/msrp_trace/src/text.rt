@@ -98,7 +98,19 @@ impl<const N: usize> Text<N> {
         self.len += text.len;
     }
 
-    /// Takes a number.
+    // Takes a number, however many digits it has.
+    #[inline(never)]
+    fn digits(&mut self, number: u32)
+        requires { length self.old + 10 ≤ N }
+        ensures text { self.new ≡ self.old ++ decimal number }
+        ensures size { length self.new ≤ length self.old + 10 }
+    {
+        let mut digits = Buffer::new();
+        self.add(digits.format(number).as_bytes());
+    }
+
+    /// Takes a number. One of one digit, as most are, is laid down in place.
+    #[inline(always)]
     #[tactic(auto, using(std::proofs::lemmas::Fmt::decimal_digit))]
     pub(crate) fn number(&mut self, number: u32)
         requires { length self.old + 10 ≤ N }
@@ -108,8 +120,7 @@ impl<const N: usize> Text<N> {
         if number < 10 {
             self.add(&[b'0' + number as u8]);
         } else {
-            let mut digits = Buffer::new();
-            self.add(digits.format(number).as_bytes());
+            self.digits(number);
         }
     }
 
@@ -125,6 +136,7 @@ impl<const N: usize> Text<N> {
     }
 
     /// Takes a further field that is a number.
+    #[inline(always)]
     pub(crate) fn next_number(&mut self, number: u32)
         requires { length self.old + 11 ≤ N }
         ensures text { self.new ≡ self.old ++ next_field (decimal number) }
