@@ -34,6 +34,25 @@ impl Model for LineText {
     ghost view = { λ l. l.text };
 }
 
+// The field of a kind. Each is laid down with what fills it up, so that the copy is always of the same length.
+#[inline(always)]
+#[tactic(auto, unfolding(msrp_plan::specs::Words::kind_text, crate::specs::Gathering::next_field))]
+fn kind_field(kind: Kind) -> Text<8>
+    ensures { result ≡ next_field (kind_text kind) }
+{
+    match kind {
+        Kind::Idle => Text::first(b",idle   ", 5),
+        Kind::Run => Text::first(b",run    ", 4),
+        Kind::Lock => Text::first(b",lock   ", 5),
+        Kind::Unlock => Text::first(b",unlock ", 7),
+        Kind::Take => Text::first(b",take   ", 5),
+        Kind::Queue => Text::first(b",queue  ", 6),
+        Kind::Spin => Text::first(b",spin   ", 5),
+        Kind::Grant => Text::first(b",grant  ", 6),
+        Kind::Release => Text::first(b",release", 8),
+    }
+}
+
 impl LineText {
     /// A record of which nothing is made.
     pub(crate) fn new() -> LineText
@@ -66,25 +85,14 @@ impl LineText {
         self.text.next(DASH);
     }
 
-    // The word for a kind, of which each is copied by its length.
+    // The word for a kind.
     #[inline(always)]
-    #[tactic(auto, unfolding(msrp_plan::specs::Words::kind_text))]
     fn next_kind(&mut self, kind: Kind)
         requires { length self.old + 8 ≤ LINE }
         ensures text { self.new ≡ self.old ++ next_field (kind_text kind) }
         ensures size { length self.new ≤ length self.old + 8 }
     {
-        match kind {
-            Kind::Idle => self.text.next(b"idle"),
-            Kind::Run => self.text.next(b"run"),
-            Kind::Lock => self.text.next(b"lock"),
-            Kind::Unlock => self.text.next(b"unlock"),
-            Kind::Take => self.text.next(b"take"),
-            Kind::Queue => self.text.next(b"queue"),
-            Kind::Spin => self.text.next(b"spin"),
-            Kind::Grant => self.text.next(b"grant"),
-            Kind::Release => self.text.next(b"release"),
-        }
+        self.text.add_text(&kind_field(kind));
     }
 
     // The two fields of a job: its task's name and its number. They are kept for its next row.

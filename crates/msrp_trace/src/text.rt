@@ -45,6 +45,15 @@ impl<const N: usize> Text<N> {
         }
     }
 
+    /// The first bytes of these.
+    #[inline(always)]
+    pub(crate) fn first(bytes: &[u8; N], len: usize) -> Text<N>
+        requires { len ≤ N }
+        ensures { result ≡ take len bytes.now }
+    {
+        Text { bytes: *bytes, len }
+    }
+
     /// The text.
     pub(crate) fn as_bytes(&self) -> &[u8]
         ensures { result.now ≡ self.now }
