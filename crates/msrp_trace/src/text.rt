@@ -91,8 +91,9 @@ impl<const N: usize> Text<N> {
         ensures text { self.new ≡ self.old ++ bytes.now }
         ensures size { length self.new ≡ length self.old + length bytes.now }
     {
-        lay(&mut self.bytes, self.len, bytes);
-        self.len += bytes.len();
+        let len = self.len;
+        lay(&mut self.bytes, len, bytes);
+        self.len = len + bytes.len();
     }
 
     /// Takes another text, where there is room for the longest of its type: so the copy is always of the same length.
@@ -103,8 +104,9 @@ impl<const N: usize> Text<N> {
         ensures size { length self.new ≤ length self.old + M }
         ensures length { length self.new ≡ length self.old + length text.now }
     {
-        lay(&mut self.bytes, self.len, &text.bytes);
-        self.len += text.len;
+        let len = self.len;
+        lay(&mut self.bytes, len, &text.bytes);
+        self.len = len + text.len;
     }
 
     // Takes a number, however many digits it has.
