@@ -23,4 +23,4 @@ AreTexts version plan foreseen = All (IsLine version plan) foreseen.lines × All
 -- the text of the tick, and that of its core, are those of the row
 pub record AreTextsOf (version : TextVersion) (plan : PlanModel) (r : Row) (foreseen : Foreseen) : Type 0 where
   pub tick : foreseen.tick.tick ≡ r.tick
-  pub line : (d : RowLine) → (slice_index_or foreseen.lines (r.core.0 % 8) d).line ≡ after_tick version plan r
+  pub line : (d : RowLine) → (slice_index_or foreseen.lines (r.core.0 % 8) d).text.line ≡ after_tick version plan r

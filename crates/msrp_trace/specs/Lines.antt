@@ -1,5 +1,5 @@
 -- The record that a core had last, but for its tick.
-use Rattle.std.specs.Prelude.{◌≡◌, ◌++◌, ℕ, List, Option, Some, Bool, true, ◌&&◌, ◌==◌, is_none}
+use Rattle.std.specs.Prelude.{◌≡◌, ◌≤◌, ◌++◌, length, ℕ, List, Option, Some, Bool, true, ◌&&◌, ◌==◌, is_none}
 use Rattle.std.specs.Option.{IfSome}
 use Rattle.msrp_plan.specs.Actions.{same_res}
 use Rattle.msrp_plan.specs.Plan.{PlanModel}
@@ -8,10 +8,12 @@ use Rattle.msrp_plan.specs.declared.rows.Row.{Row}
 use Rattle.msrp_plan.specs.declared.rows.TextVersion.{TextVersion}
 use Rattle.msrp_plan.specs.declared.ids.JobId.{JobId}
 use Rattle.msrp_trace.specs.Gathering.{after_tick, next_field}
-use Rattle.msrp_trace.specs.TraceText.{job_text, task_text}
+use Rattle.msrp_trace.specs.TraceText.{job_text, res_text, task_text}
 use Rattle.msrp_trace.specs.declared.job.JobText.{JobText}
 use Rattle.msrp_trace.specs.Laws.{is_told_whole}
+use Rattle.msrp_trace.specs.declared.line.CoreText.{CoreText}
 use Rattle.msrp_trace.specs.declared.line.RowLine.{RowLine}
+use Rattle.msrp_trace.specs.declared.res.ResText.{ResText}
 
 -- two rows of the same core, job and resource, without aheads
 abbrev pub is_same_place : Row → Row → Bool
@@ -25,10 +27,19 @@ job_fields plan job = next_field (task_text plan job) ++ next_field (job_text jo
 abbrev pub IsJobText : PlanModel → JobText → Type 0
 IsJobText plan kept = IfSome kept.job (λ j. kept.text ≡ job_fields plan (Some j))
 
--- the texts are those of the row, and of the job that the core ran last
-pub record IsLine (version : TextVersion) (plan : PlanModel) (kept : RowLine) : Type 0 where
-  pub fits : IfSome kept.row (λ r. kept.line ≡ after_tick version plan r)
+-- the text is that of the resource, a comma and a name
+abbrev pub IsResText : PlanModel → ResText → Type 0
+IsResText plan kept = IfSome kept.res (λ g. (kept.text ≡ next_field (res_text plan (Some g))) × (length kept.text ≤ 17))
+
+-- what is kept of a core are the texts of the job that it ran and of the resource that it named last
+pub record IsCoreText (plan : PlanModel) (kept : CoreText) : Type 0 where
   pub job : IsJobText plan kept.job
+  pub res : IsResText plan kept.res
+
+-- the text is that of the row
+pub record IsLine (version : TextVersion) (plan : PlanModel) (kept : RowLine) : Type 0 where
+  pub fits : IfSome kept.row (λ r. kept.text.line ≡ after_tick version plan r)
+  pub text : IsCoreText plan kept.text
 
 -- the row is read as it was written
 pub record IsWhole (version : TextVersion) (plan : PlanModel) (kept : RowLine) : Type 0 where

@@ -3,8 +3,8 @@ use Rattle.std.specs.Prelude.{ℕ, List, [], ◌%◌, slice_index_or, map}
 use Rattle.std.specs.List.{All}
 use Rattle.msrp_plan.specs.Plan.{PlanModel}
 use Rattle.msrp_plan.specs.declared.rows.TextVersion.{TextVersion}
-use Rattle.msrp_trace.specs.Lines.{IsLine}
-use Rattle.msrp_trace.specs.declared.line.RowLine.{RowLine}
+use Rattle.msrp_trace.specs.Lines.{IsCoreText}
+use Rattle.msrp_trace.specs.declared.line.CoreText.{CoreText}
 use Rattle.msrp_trace.specs.declared.texts.RowTexts.TheInside.{Inside}
 
 -- the plan and the version, and for each core what stands in its record after the tick
@@ -17,12 +17,12 @@ pub record TextsModel : Type 0 where
 abbrev pub text_of_core : TextsModel → ℕ → List ℕ
 text_of_core texts core = slice_index_or texts.texts (core % 8) []
 
-abbrev pub texts_of : List RowLine → List (List ℕ)
+abbrev pub texts_of : List CoreText → List (List ℕ)
 texts_of lines = map (λ kept. kept.line) lines
 
 abbrev pub texts_view : Inside → TextsModel
 texts_view t = record { plan = t.plan.now; version = t.version; texts = texts_of t.lines }
 
--- what is kept of each core's row is the text of that row
+-- what the texts are made from is as it is kept of each core
 pub record AreTextsView (t : Inside) : Type 0 where
-  pub lines : All (IsLine t.version t.plan.now) t.lines
+  pub lines : All (IsCoreText t.plan.now) t.lines

@@ -133,8 +133,8 @@ impl Foreseen {
 
     /// The text of a row after its tick, without its end.
     pub(crate) fn rest(&self, core: CoreId) -> &[u8]
-        ensures { (d : Kept) (text : List ℕ) → (slice_index_or self.now.lines (core.0 % MOST_CORES) d).line ≡ text ++ codes "\n" → result.now ≡ text }
+        ensures { (d : Kept) (text : List ℕ) → (slice_index_or self.now.lines (core.0 % MOST_CORES) d).text.line ≡ text ++ codes "\n" → result.now ≡ text }
     {
-        rest_of(&self.lines, (core.0 % MOST_CORES) as usize)
+        rest_of(self.lines[(core.0 % MOST_CORES) as usize].text())
     }
 }

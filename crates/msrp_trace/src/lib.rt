@@ -13,6 +13,7 @@ pub mod laws;
 mod line;
 mod page;
 mod reading;
+mod res;
 mod rows;
 mod text;
 mod texts;

@@ -1,4 +1,4 @@
-//! The text of one record as it is made, and the record that a core had last.
+//! The text of one record as it is made, and what is kept of a core's last one.
 ghost use Rattle.std.specs.Prelude.{◌≡◌, ◌≤◌, ◌<◌, ◌+◌, ◌++◌, [], codes, decimal, length, true, Some, None, IsSomeAnd, option_map};
 ghost use Rattle.std.specs.List.{flat_map};
 ghost use Rattle.std.specs.Option.{IfSome};
@@ -6,11 +6,12 @@ ghost use Rattle.msrp_plan.specs.Plan.{PlanModel};
 ghost use Rattle.msrp_plan.specs.Stretches.{in_tick};
 ghost use Rattle.msrp_plan.specs.Words.{kind_text};
 ghost use Rattle.msrp_trace.specs.Gathering.{next_field, after_tick};
-ghost use Rattle.msrp_trace.specs.Lines.{IsJobText, IsLine, IsWhole, is_same_place, job_fields};
+ghost use Rattle.msrp_trace.specs.Lines.{IsCoreText, IsJobText, IsLine, IsResText, IsWhole, is_same_place, job_fields};
 ghost use Rattle.msrp_trace.specs.Laws.{is_short, is_told_whole};
 ghost use Rattle.msrp_trace.specs.TraceText.{ahead_fields, dash, head_text, is_named, is_res_of, is_task_of, job_text, res_text, task_text};
 
 use crate::job::JobText;
+use crate::res::ResText;
 use crate::text::Text;
 use crate::words::{DASH, TRACE_WORD, version_word};
 use msrp_plan::{JobId, Kind, Plan, ResId, Row, TextVersion};
@@ -33,15 +34,23 @@ impl Model for LineText {
     ghost view = { λ l. l.text };
 }
 
-// The name of a resource.
-fn res_field(plan: &Plan, res: ResId) -> &[u8]
-    requires { res.0 < length plan.now.resources }
-    ensures name { result.now ≡ res_text plan.now (Some res) }
-    ensures short { length result.now ≤ 16 }
+// The field of a kind. Each is laid down with what fills it up, so that the copy is always of the same length.
+#[inline(always)]
+#[tactic(auto, unfolding(msrp_plan::specs::Words::kind_text, crate::specs::Gathering::next_field))]
+fn kind_field(kind: Kind) -> Text<8>
+    ensures { result ≡ next_field (kind_text kind) }
 {
-    // Read so that the plan is known to be an accepted one.
-    let _accepted = plan.resources();
-    plan.res_name(res).as_bytes()
+    match kind {
+        Kind::Idle => Text::first(b",idle   ", 5),
+        Kind::Run => Text::first(b",run    ", 4),
+        Kind::Lock => Text::first(b",lock   ", 5),
+        Kind::Unlock => Text::first(b",unlock ", 7),
+        Kind::Take => Text::first(b",take   ", 5),
+        Kind::Queue => Text::first(b",queue  ", 6),
+        Kind::Spin => Text::first(b",spin   ", 5),
+        Kind::Grant => Text::first(b",grant  ", 6),
+        Kind::Release => Text::first(b",release", 8),
+    }
 }
 
 impl LineText {
@@ -76,25 +85,14 @@ impl LineText {
         self.text.next(DASH);
     }
 
-    // The word for a kind, of which each is copied by its length.
+    // The word for a kind.
     #[inline(always)]
-    #[tactic(auto, unfolding(msrp_plan::specs::Words::kind_text))]
     fn next_kind(&mut self, kind: Kind)
         requires { length self.old + 8 ≤ LINE }
         ensures text { self.new ≡ self.old ++ next_field (kind_text kind) }
         ensures size { length self.new ≤ length self.old + 8 }
     {
-        match kind {
-            Kind::Idle => self.text.next(b"idle"),
-            Kind::Run => self.text.next(b"run"),
-            Kind::Lock => self.text.next(b"lock"),
-            Kind::Unlock => self.text.next(b"unlock"),
-            Kind::Take => self.text.next(b"take"),
-            Kind::Queue => self.text.next(b"queue"),
-            Kind::Spin => self.text.next(b"spin"),
-            Kind::Grant => self.text.next(b"grant"),
-            Kind::Release => self.text.next(b"release"),
-        }
+        self.text.add_text(&kind_field(kind));
     }
 
     // The two fields of a job: its task's name and its number. They are kept for its next row.
@@ -119,14 +117,21 @@ impl LineText {
         }
     }
 
-    fn next_resource(&mut self, plan: &Plan, res: Option<ResId>)
+    // The field of a resource. It is kept for the next row on it.
+    #[inline(always)]
+    fn next_resource(&mut self, plan: &Plan, kept: &mut ResText, res: Option<ResId>)
         requires res { is_res_of plan.now res ≡ true }
-        requires room { length self.old + 17 ≤ LINE }
+        requires room { length self.old + 24 ≤ LINE }
+        requires before { IsResText plan.now kept.old }
+        ensures after { IsResText plan.now kept.new }
         ensures text { self.new ≡ self.old ++ next_field (res_text plan.now res) }
         ensures size { length self.new ≤ length self.old + 17 }
     {
         match res {
-            Some(res) => self.text.next(res_field(plan, res)),
+            Some(res) => {
+                kept.show(plan, res);
+                self.text.add_text(kept.text());
+            }
             None => self.next_dash(),
         }
     }
@@ -157,31 +162,80 @@ impl LineText {
     }
 
     // Makes the record of a row but for its tick.
-    #[inline(never)]
-    fn make(&mut self, plan: &Plan, version: TextVersion, row: &Row, job: &mut JobText)
+    #[inline(always)]
+    fn make(
+        &mut self,
+        plan: &Plan,
+        version: TextVersion,
+        row: &Row,
+        job: &mut JobText,
+        res: &mut ResText,
+    )
         requires named { is_named plan.now row.now ≡ true }
-        requires before { IsJobText plan.now job.old }
-        ensures after { IsJobText plan.now job.new }
+        requires job_before { IsJobText plan.now job.old }
+        requires res_before { IsResText plan.now res.old }
+        ensures job_after { IsJobText plan.now job.new }
+        ensures res_after { IsResText plan.now res.new }
         ensures text { self.new ≡ after_tick version plan.now row.now }
     {
         self.clear();
         self.text.next_number(row.core.0);
         self.next_kind(row.kind);
         self.next_job(plan, job, row.job);
-        self.next_resource(plan, row.res);
+        self.next_resource(plan, res, row.res);
         self.next_ahead(version, row.ahead);
         self.text.add(b"\n");
     }
 }
 
-/// A row that was written, and the text of its record after the tick. As long as a core does the same, its next rows
-/// differ in the tick alone.
+/// The text of a core's record after the tick, and what the next one is made from.
 #[derive(Drop)]
-pub(crate) struct RowLine {
-    row: Option<Row>,
+pub(crate) struct CoreText {
     line: LineText,
     // The job that the core ran last.
     job: JobText,
+    // The resource that it named last.
+    res: ResText,
+}
+
+impl CoreText {
+    /// No record.
+    pub(crate) fn new() -> CoreText
+        ensures job { result.job.job ≡ None }
+        ensures res { result.res.res ≡ None }
+    {
+        CoreText {
+            line: LineText::new(),
+            job: JobText::new(),
+            res: ResText::new(),
+        }
+    }
+
+    /// Makes the record of a row but for its tick.
+    #[inline(never)]
+    pub(crate) fn make(&mut self, plan: &Plan, version: TextVersion, row: &Row)
+        requires named { is_named plan.now row.now ≡ true }
+        requires before { IsCoreText plan.now self.old }
+        ensures after { IsCoreText plan.now self.new }
+        ensures text { self.new.line ≡ after_tick version plan.now row.now }
+    {
+        self.line
+            .make(plan, version, row, &mut self.job, &mut self.res);
+    }
+
+    /// The text of the record after the tick.
+    pub(crate) fn text(&self) -> &Text<LINE>
+        ensures { result.now ≡ self.now.line }
+    {
+        self.line.text()
+    }
+}
+
+/// A row that was written, and its text. As long as a core does the same, its next rows differ in the tick alone.
+#[derive(Drop)]
+pub(crate) struct RowLine {
+    row: Option<Row>,
+    text: CoreText,
 }
 
 fn is_same_kind(a: Kind, b: Kind) -> bool
@@ -201,12 +255,12 @@ impl RowLine {
     /// No row.
     pub(crate) fn new() -> RowLine
         ensures row { result.row ≡ None }
-        ensures job { result.job.job ≡ None }
+        ensures job { result.text.job.job ≡ None }
+        ensures res { result.text.res.res ≡ None }
     {
         RowLine {
             row: None,
-            line: LineText::new(),
-            job: JobText::new(),
+            text: CoreText::new(),
         }
     }
 
@@ -227,7 +281,7 @@ impl RowLine {
         requires named { is_named plan.now row.now ≡ true }
         requires before { IsLine version plan.now self.old }
         ensures after { IsLine version plan.now self.new }
-        ensures text { self.new.line ≡ after_tick version plan.now row.now }
+        ensures text { self.new.text.line ≡ after_tick version plan.now row.now }
         ensures whole { IsWhole version plan.now self.old → is_told_whole version plan.now row.now ≡ true → IsWhole version plan.now self.new }
     {
         if !self.is_of(row) {
@@ -240,7 +294,7 @@ impl RowLine {
                 res: row.res,
                 ahead: row.ahead,
             };
-            self.line.make(plan, version, &made, &mut self.job);
+            self.text.make(plan, version, &made);
             self.row = Some(made);
         }
     }
@@ -251,7 +305,7 @@ impl RowLine {
         ensures row { result ≡ option_map (in_tick tick) self.now.row }
         ensures tick { IfSome result (λ row. row.tick ≡ tick) }
         ensures whole { (version : TextVersion) (plan : PlanModel) → IsWhole version plan self.now → IfSome result (λ row. is_short row.tick ≡ true → is_told_whole version plan row ≡ true) }
-        ensures text { (version : TextVersion) (plan : PlanModel) → IsLine version plan self.now → IfSome result (λ row. self.now.line ≡ after_tick version plan row) }
+        ensures text { (version : TextVersion) (plan : PlanModel) → IsLine version plan self.now → IfSome result (λ row. self.now.text.line ≡ after_tick version plan row) }
     {
         match self.row {
             Some(row) => Some(row.in_tick(tick)),
@@ -261,8 +315,8 @@ impl RowLine {
 
     /// The text of the record after the tick.
     pub(crate) fn text(&self) -> &Text<LINE>
-        ensures { result.now ≡ self.now.line }
+        ensures { result.now ≡ self.now.text.line }
     {
-        self.line.text()
+        self.text.text()
     }
 }

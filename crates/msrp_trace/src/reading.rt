@@ -18,7 +18,7 @@ use crate::faults::{TraceError, TraceFault};
 use crate::foreseen::Foreseen;
 use crate::guesses::Guesses;
 use crate::rows::{read_row, version_told};
-use crate::texts::{RowTexts, rest_of};
+use crate::texts::{RowTexts, rest_of, text_of};
 use crate::whole::{is_short, is_told_whole};
 use csv::ByteRecord;
 use msrp_plan::bytes::Source;
@@ -330,7 +330,8 @@ impl<'a, R: Read> TraceReader<'a, R> {
         let _accepted = self.plan.tasks();
         self.foreseen.to_tick(tick);
         let core = (core.0 % MOST_CORES) as usize;
-        let (tick, rest) = (self.foreseen.tick(), rest_of(&texts.lines, core));
+        let line = text_of(&texts.lines, core);
+        let (tick, rest) = (self.foreseen.tick(), rest_of(line));
         let met = self.records.meets(tick, rest);
         if met {
             self.number = next_number;
@@ -359,7 +360,8 @@ impl<'a, R: Read> TraceReader<'a, R> {
         let _accepted = self.plan.tasks();
         self.foreseen.to_tick(tick);
         let core = (core.0 % MOST_CORES) as usize;
-        let (tick, rest) = (self.foreseen.tick(), rest_of(&texts.lines, core));
+        let line = text_of(&texts.lines, core);
+        let (tick, rest) = (self.foreseen.tick(), rest_of(line));
         let met = self.records.meets_behind(tick, rest);
         if met {
             self.number = after;

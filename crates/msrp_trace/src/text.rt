@@ -45,6 +45,15 @@ impl<const N: usize> Text<N> {
         }
     }
 
+    /// The first bytes of these.
+    #[inline(always)]
+    pub(crate) fn first(bytes: &[u8; N], len: usize) -> Text<N>
+        requires { len ≤ N }
+        ensures { result ≡ take len bytes.now }
+    {
+        Text { bytes: *bytes, len }
+    }
+
     /// The text.
     pub(crate) fn as_bytes(&self) -> &[u8]
         ensures { result.now ≡ self.now }
@@ -82,8 +91,9 @@ impl<const N: usize> Text<N> {
         ensures text { self.new ≡ self.old ++ bytes.now }
         ensures size { length self.new ≡ length self.old + length bytes.now }
     {
-        lay(&mut self.bytes, self.len, bytes);
-        self.len += bytes.len();
+        let len = self.len;
+        lay(&mut self.bytes, len, bytes);
+        self.len = len + bytes.len();
     }
 
     /// Takes another text, where there is room for the longest of its type: so the copy is always of the same length.
@@ -92,12 +102,26 @@ impl<const N: usize> Text<N> {
         requires { length self.old + M ≤ N }
         ensures text { self.new ≡ self.old ++ text.now }
         ensures size { length self.new ≤ length self.old + M }
+        ensures length { length self.new ≡ length self.old + length text.now }
     {
-        lay(&mut self.bytes, self.len, &text.bytes);
-        self.len += text.len;
+        let len = self.len;
+        lay(&mut self.bytes, len, &text.bytes);
+        self.len = len + text.len;
     }
 
-    /// Takes a number.
+    // Takes a number, however many digits it has.
+    #[inline(never)]
+    fn digits(&mut self, number: u32)
+        requires { length self.old + 10 ≤ N }
+        ensures text { self.new ≡ self.old ++ decimal number }
+        ensures size { length self.new ≤ length self.old + 10 }
+    {
+        let mut digits = Buffer::new();
+        self.add(digits.format(number).as_bytes());
+    }
+
+    /// Takes a number. One of one digit, as most are, is laid down in place.
+    #[inline(always)]
     #[tactic(auto, using(std::proofs::lemmas::Fmt::decimal_digit))]
     pub(crate) fn number(&mut self, number: u32)
         requires { length self.old + 10 ≤ N }
@@ -107,8 +131,7 @@ impl<const N: usize> Text<N> {
         if number < 10 {
             self.add(&[b'0' + number as u8]);
         } else {
-            let mut digits = Buffer::new();
-            self.add(digits.format(number).as_bytes());
+            self.digits(number);
         }
     }
 
@@ -124,6 +147,7 @@ impl<const N: usize> Text<N> {
     }
 
     /// Takes a further field that is a number.
+    #[inline(always)]
     pub(crate) fn next_number(&mut self, number: u32)
         requires { length self.old + 11 ≤ N }
         ensures text { self.new ≡ self.old ++ next_field (decimal number) }

@@ -1,14 +1,16 @@
 //! The texts of the cores' rows, kept as long as the cores do the same.
-ghost use Rattle.std.specs.Prelude.{◌≡◌, ◌<◌, ◌++◌, ◌%◌, ℕ, List, codes, length, slice_index_or, slice_set, true, false};
+ghost use Rattle.std.specs.List.{All};
+ghost use Rattle.std.specs.Prelude.{◌≡◌, ◌<◌, ◌++◌, ◌%◌, ℕ, List, [], codes, length, slice_index_or, slice_set, true, false};
 ghost use Rattle.msrp_trace.specs.Gathering.{after_tick};
 ghost use Rattle.msrp_trace.specs.Laws.{is_told_whole};
-ghost use Rattle.msrp_trace.specs.Texts.{text_of_core};
+ghost use Rattle.msrp_trace.specs.Lines.{IsCoreText};
+ghost use Rattle.msrp_trace.specs.Texts.{text_of_core, texts_of};
 ghost use Rattle.msrp_trace.specs.TraceText.{is_named};
-ghost use Rattle.msrp_trace.specs.declared.line.RowLine.{RowLine as Kept};
+ghost use Rattle.msrp_trace.specs.declared.line.CoreText.{CoreText as Kept};
 
-use crate::line::RowLine;
+use crate::line::{CoreText, LINE};
+use crate::text::Text;
 use crate::whole::is_told_whole;
-use crate::writing::show_line;
 use msrp_plan::limits::MOST_CORES;
 use msrp_plan::{Plan, Row, TextVersion};
 use std::array;
@@ -20,7 +22,7 @@ use std::marker::Model;
 pub struct RowTexts<'a> {
     plan: &'a Plan,
     version: TextVersion,
-    pub(crate) lines: [RowLine; MOST_CORES as usize],
+    pub(crate) lines: [CoreText; MOST_CORES as usize],
 }
 
 impl<'a> Model for RowTexts<'a> {
@@ -35,13 +37,34 @@ impl<'a> Model for RowTexts<'a> {
     ghost invariant = { AreTextsView };
 }
 
-// The text of a core, without the end of the line.
+// Makes the text of a core's row.
 #[inline(always)]
-pub(crate) fn rest_of(lines: &[RowLine], core: usize) -> &[u8]
-    requires { core < length lines.now }
-    ensures { (d : Kept) (text : List ℕ) → (slice_index_or lines.now core d).line ≡ text ++ codes "\n" → result.now ≡ text }
+fn make_text(lines: &mut [CoreText], core: usize, plan: &Plan, version: TextVersion, row: &Row)
+    requires core { core < length lines.old }
+    requires named { is_named plan.now row.now ≡ true }
+    requires before { All (IsCoreText plan.now) lines.old }
+    ensures after { All (IsCoreText plan.now) lines.new }
+    ensures text { (d : Kept) → (slice_index_or lines.new core d).line ≡ after_tick version plan.now row.now }
+    ensures texts { texts_of lines.new ≡ slice_set (texts_of lines.old) core (after_tick version plan.now row.now) }
 {
-    let text = lines[core].text().as_bytes();
+    lines[core].make(plan, version, row);
+}
+
+/// What stands in a core's record after the tick.
+#[inline(always)]
+pub(crate) fn text_of(lines: &[CoreText], core: usize) -> &Text<LINE>
+    requires { core < length lines.now }
+    ensures { result.now ≡ slice_index_or (texts_of lines.now) core [] }
+{
+    lines[core].text()
+}
+
+/// The text of a record, without the end of the line.
+#[inline(always)]
+pub(crate) fn rest_of(line: &Text<LINE>) -> &[u8]
+    ensures { (text : List ℕ) → line.now ≡ text ++ codes "\n" → result.now ≡ text }
+{
+    let text = line.as_bytes();
     &text[..text.len().saturating_sub(1)]
 }
 
@@ -54,7 +77,7 @@ impl<'a> RowTexts<'a> {
         RowTexts {
             plan,
             version,
-            lines: array::from_fn(|_| RowLine::new()),
+            lines: array::from_fn(|_| CoreText::new()),
         }
     }
 
@@ -68,7 +91,7 @@ impl<'a> RowTexts<'a> {
         let core = (row.core.0 % MOST_CORES) as usize;
         let plan = self.plan;
         let version = self.version;
-        show_line(&mut self.lines, core, plan, version, row);
+        make_text(&mut self.lines, core, plan, version, row);
     }
 
     /// Makes the text of a row, if the row is read back from it as it is: it names what the plan has, its numbers have at most nine digits,

@@ -1,5 +1,5 @@
 //! Trace text, written.
-ghost use Rattle.std.specs.Prelude.{◌≡◌, ◌<◌, ◌++◌, [], decimal, length, slice_index_or, slice_set, true, false, OnOk, OnErr};
+ghost use Rattle.std.specs.Prelude.{◌≡◌, ◌<◌, ◌++◌, [], decimal, length, slice_index_or, true, false, OnOk, OnErr};
 ghost use Rattle.std.specs.List.{All, list_all};
 ghost use Rattle.msrp_plan.specs.Aheads.{carries_ahead};
 ghost use Rattle.msrp_plan.specs.Bytes.{Wrote, sink_failed};
@@ -7,12 +7,12 @@ ghost use Rattle.msrp_trace.specs.Gathering.{Gathers, after_tick};
 ghost use Rattle.msrp_trace.specs.Laws.{is_told_whole};
 ghost use Rattle.msrp_trace.specs.Lines.{IsLine, IsWhole};
 ghost use Rattle.msrp_trace.specs.declared.line.RowLine.{RowLine as Kept};
-ghost use Rattle.msrp_trace.specs.Texts.{text_of_core, texts_of};
+ghost use Rattle.msrp_trace.specs.Texts.{text_of_core};
 ghost use Rattle.msrp_trace.specs.TraceText.{head_text, is_named, is_res_of, is_task_of, row_text, trace_text};
 
 use crate::line::{LineText, RowLine};
 use crate::page::Page;
-use crate::texts::RowTexts;
+use crate::texts::{RowTexts, text_of};
 use crate::tick::Tick;
 use msrp_plan::bytes::Sink;
 use msrp_plan::limits::MOST_CORES;
@@ -58,8 +58,7 @@ pub(crate) fn show_line(
     requires named { is_named plan.now row.now ≡ true }
     requires before { All (IsLine version plan.now) lines.old }
     ensures after { All (IsLine version plan.now) lines.new }
-    ensures text { (d : Kept) → (slice_index_or lines.new core d).line ≡ after_tick version plan.now row.now }
-    ensures texts { texts_of lines.new ≡ slice_set (texts_of lines.old) core (after_tick version plan.now row.now) }
+    ensures text { (d : Kept) → (slice_index_or lines.new core d).text.line ≡ after_tick version plan.now row.now }
     ensures whole { All (IsWhole version plan.now) lines.old → is_told_whole version plan.now row.now ≡ true → All (IsWhole version plan.now) lines.new }
 {
     lines[core].show(plan, version, row);
@@ -75,7 +74,7 @@ fn add_record<W: Write>(
     core: usize,
 )
     requires { core < length lines.now }
-    ensures { (d : Kept) → Gathers W.contents page.old out.old page.new out.new (decimal tick.now.tick ++ (slice_index_or lines.now core d).line) }
+    ensures { (d : Kept) → Gathers W.contents page.old out.old page.new out.new (decimal tick.now.tick ++ (slice_index_or lines.now core d).text.line) }
 {
     page.add_both(out, tick.text(), lines[core].text());
 }
@@ -133,7 +132,8 @@ impl<'a> TraceWriter<'a> {
     {
         self.tick.show(tick);
         let core = (core.0 % MOST_CORES) as usize;
-        add_record(&mut self.page, out, &self.tick, &texts.lines, core);
+        let line = text_of(&texts.lines, core);
+        self.page.add_both(out, self.tick.text(), line);
     }
 
     /// Writes what is still gathered, and tells how the writes went.

@@ -1,11 +1,10 @@
-use Rattle.std.proofs.Common.{rules, ◌≡◌, ◌+◌, ◌++◌, ◌%◌, codes, List, ℕ, sym, ap, ◌∙◌, decimal, slice_index_or}
-use Rattle.msrp_trace.specs.Gathering.{after_tick}
+use Rattle.std.proofs.Common.{rules, ◌≡◌, ◌+◌, ◌++◌, codes, List, ℕ, sym, ap, ◌∙◌, decimal}
 use Rattle.msrp_trace.proofs.MetRows.{met_row, row_begins, row_line}
 use Rattle.msrp_trace.proofs.ReadBack.{whole_line}
-use Rattle.msrp_trace.proofs.Shown.{line_text, no_line}
 use Rattle.msrp_trace.proofs.Standing.{line_stands}
 use Rattle.msrp_trace.proofs.Telling.{keeps_told}
 use Rattle.msrp_trace.specs.Reading.{told_after}
+use Rattle.msrp_trace.specs.Texts.{TextsModel, text_of_core}
 use Rattle.msrp_trace.proofs.Lining.{record_more}
 use Rattle.msrp_trace.proofs.reading.TraceReader.comes_behind.Goals as goal
 
@@ -21,8 +20,8 @@ meets_behind-met-requires g c = (c.requires.text.0, c.requires.text.1 ∙ ap (λ
 pub returns-then-met-clause-taken : goal.returns-then-met-clause-taken
 returns-then-met-clause-taken g c = λ yes row told is h.
     let old = c.args.self.now in
-    let text : (slice_index_or c.texts.inside.lines (c.args.core.0 % 8) no_line).line ≡ after_tick old.version old.plan.now row = line_text c.args.texts.now c.texts.inside c.args.core.0 c.texts.view_is ∙ is.text in
-    let rest = c.rest_of-rest.ensures no_line _ text in
+    let text = c.text_of-line.ensures ∙ (ap (λ (t : TextsModel). text_of_core t c.args.core.0) c.texts.view_is ∙ is.text) in
+    let rest = c.rest_of-rest.ensures _ text in
     let tick : c.tick-tick.result.now ≡ decimal row.tick = c.tick-tick.ensures ∙ ap decimal (c.to_tick.ensures.tick ∙ sym is.tick) in
     let line = row_line old.version old.plan.now row c.tick-tick.result.now c.rest_of-rest.result.now tick (ap (λ (t : List ℕ). t ++ codes "\n") (sym rest)) in
     let number : c.in-Some.after ≡ old.number + 1 = search rules in
@@ -34,8 +33,8 @@ returns-else-met-clause-kept g c = λ no told h. let old = c.args.self.now in ke
 pub returns-else-met-clause-finds : goal.returns-else-met-clause-finds
 returns-else-met-clause-finds g c = λ row is can.
     let old = c.args.self.now in
-    let text : (slice_index_or c.texts.inside.lines (c.args.core.0 % 8) no_line).line ≡ after_tick old.version old.plan.now row = line_text c.args.texts.now c.texts.inside c.args.core.0 c.texts.view_is ∙ is.text in
-    let rest = c.rest_of-rest.ensures no_line _ text in
+    let text = c.text_of-line.ensures ∙ (ap (λ (t : TextsModel). text_of_core t c.args.core.0) c.texts.view_is ∙ is.text) in
+    let rest = c.rest_of-rest.ensures _ text in
     let tick : c.tick-tick.result.now ≡ decimal row.tick = c.tick-tick.ensures ∙ ap decimal (c.to_tick.ensures.tick ∙ sym is.tick) in
     let line = row_line old.version old.plan.now row c.tick-tick.result.now c.rest_of-rest.result.now tick (ap (λ (t : List ℕ). t ++ codes "\n") (sym rest)) in
     c.meets_behind-met.ensures.ahead (row_begins can.0 c.tick-tick.result.now c.rest_of-rest.result.now _ _ line can.1.text can.2)
@@ -43,8 +42,8 @@ returns-else-met-clause-finds g c = λ row is can.
 pub returns-then-met-clause-stands : goal.returns-then-met-clause-stands
 returns-then-met-clause-stands g c = λ row records is stands.
     let old = c.args.self.now in
-    let text : (slice_index_or c.texts.inside.lines (c.args.core.0 % 8) no_line).line ≡ after_tick old.version old.plan.now row = line_text c.args.texts.now c.texts.inside c.args.core.0 c.texts.view_is ∙ is.text in
-    let rest = c.rest_of-rest.ensures no_line _ text in
+    let text = c.text_of-line.ensures ∙ (ap (λ (t : TextsModel). text_of_core t c.args.core.0) c.texts.view_is ∙ is.text) in
+    let rest = c.rest_of-rest.ensures _ text in
     let tick : c.tick-tick.result.now ≡ decimal row.tick = c.tick-tick.ensures ∙ ap decimal (c.to_tick.ensures.tick ∙ sym is.tick) in
     let line = row_line old.version old.plan.now row c.tick-tick.result.now c.rest_of-rest.result.now tick (ap (λ (t : List ℕ). t ++ codes "\n") (sym rest)) in
     let number : c.in-Some.after ≡ old.number + 1 = search rules in
@@ -60,8 +59,8 @@ returns-else-met-clause-still g c = λ no records stands. c.meets_behind-met.ens
 pub returns-then-met-clause-lines : goal.returns-then-met-clause-lines
 returns-then-met-clause-lines g c = λ row bytes is read.
     let old = c.args.self.now in
-    let text : (slice_index_or c.texts.inside.lines (c.args.core.0 % 8) no_line).line ≡ after_tick old.version old.plan.now row = line_text c.args.texts.now c.texts.inside c.args.core.0 c.texts.view_is ∙ is.text in
-    let rest = c.rest_of-rest.ensures no_line _ text in
+    let text = c.text_of-line.ensures ∙ (ap (λ (t : TextsModel). text_of_core t c.args.core.0) c.texts.view_is ∙ is.text) in
+    let rest = c.rest_of-rest.ensures _ text in
     let tick : c.tick-tick.result.now ≡ decimal row.tick = c.tick-tick.ensures ∙ ap decimal (c.to_tick.ensures.tick ∙ sym is.tick) in
     let line = row_line old.version old.plan.now row c.tick-tick.result.now c.rest_of-rest.result.now tick (ap (λ (t : List ℕ). t ++ codes "\n") (sym rest)) in
     let number : c.in-Some.after ≡ old.number + 1 = search rules in

@@ -1,7 +1,7 @@
-use Rattle.std.proofs.Common.{◌≡◌, ◌++◌, codes, [], None, sym, ap, ◌∙◌, decimal, inl, inr}
-use Rattle.msrp_trace.specs.declared.line.RowLine.{RowLine}
+use Rattle.std.proofs.Common.{◌≡◌, ◌++◌, codes, sym, ap, ◌∙◌, decimal, inl, inr}
 use Rattle.msrp_trace.proofs.MetRows.{met_row, row_begins, row_line}
 use Rattle.msrp_trace.proofs.ReadBack.{short_line, whole_line}
+use Rattle.msrp_trace.proofs.Shown.{no_line}
 use Rattle.msrp_trace.proofs.Standing.{line_stands}
 use Rattle.msrp_trace.proofs.Lining.{record_more}
 use Rattle.msrp_trace.proofs.reading.TraceReader.takes.Goals as goal
@@ -10,9 +10,8 @@ pub returns-clause-taken : goal.returns-clause-taken
 returns-clause-taken g c = λ yes told h.
     let old = c.args.self.now in
     let r = c.args.row.now in
-    let none : RowLine = record { row = None; line = []; job = record { job = None; text = [] } } in
     let texts = c.requires.texts in
-    let rest = c.rest-rest.ensures none _ (texts.line none) in
+    let rest = c.rest-rest.ensures no_line _ (texts.line no_line) in
     let tick : c.tick-tick.result.now ≡ decimal r.tick = c.tick-tick.ensures ∙ ap decimal texts.tick in
     let line = row_line old.version old.plan.now r c.tick-tick.result.now c.rest-rest.result.now tick (ap (λ t. t ++ codes "\n") (sym rest)) in
     met_row old.version old.plan.now old.number c.args.next r _ _ _ old.state told c.requires.plan c.requires.whole line (c.meets.ensures.taken c.if-not-meets.false) c.requires.number c.requires.state h
@@ -21,9 +20,8 @@ pub returns-then-not-meets-clause-finds : goal.returns-then-not-meets-clause-fin
 returns-then-not-meets-clause-finds g c = λ can.
     let old = c.args.self.now in
     let r = c.args.row.now in
-    let none : RowLine = record { row = None; line = []; job = record { job = None; text = [] } } in
     let texts = c.requires.texts in
-    let rest = c.rest-rest.ensures none _ (texts.line none) in
+    let rest = c.rest-rest.ensures no_line _ (texts.line no_line) in
     let tick : c.tick-tick.result.now ≡ decimal r.tick = c.tick-tick.ensures ∙ ap decimal texts.tick in
     let line = row_line old.version old.plan.now r c.tick-tick.result.now c.rest-rest.result.now tick (ap (λ t. t ++ codes "\n") (sym rest)) in
     let met = c.meets.ensures.ahead (row_begins can.0 c.tick-tick.result.now c.rest-rest.result.now _ _ line can.1.text can.2) in
@@ -33,9 +31,8 @@ pub returns-then-not-meets-clause-comes : goal.returns-then-not-meets-clause-com
 returns-then-not-meets-clause-comes g c = λ comes.
     let old = c.args.self.now in
     let r = c.args.row.now in
-    let none : RowLine = record { row = None; line = []; job = record { job = None; text = [] } } in
     let texts = c.requires.texts in
-    let rest = c.rest-rest.ensures none _ (texts.line none) in
+    let rest = c.rest-rest.ensures no_line _ (texts.line no_line) in
     let tick : c.tick-tick.result.now ≡ decimal r.tick = c.tick-tick.ensures ∙ ap decimal texts.tick in
     let line = row_line old.version old.plan.now r c.tick-tick.result.now c.rest-rest.result.now tick (ap (λ t. t ++ codes "\n") (sym rest)) in
     let begins = row_begins comes.0 c.tick-tick.result.now c.rest-rest.result.now _ _ line comes.2.text comes.4 in
@@ -50,9 +47,8 @@ pub returns-clause-stands : goal.returns-clause-stands
 returns-clause-stands g c = λ records stands.
     let old = c.args.self.now in
     let r = c.args.row.now in
-    let none : RowLine = record { row = None; line = []; job = record { job = None; text = [] } } in
     let texts = c.requires.texts in
-    let rest = c.rest-rest.ensures none _ (texts.line none) in
+    let rest = c.rest-rest.ensures no_line _ (texts.line no_line) in
     let tick : c.tick-tick.result.now ≡ decimal r.tick = c.tick-tick.ensures ∙ ap decimal texts.tick in
     let line = row_line old.version old.plan.now r c.tick-tick.result.now c.rest-rest.result.now tick (ap (λ t. t ++ codes "\n") (sym rest)) in
     let plain = whole_line old.version old.plan.now r (c.tick-tick.result.now ++ c.rest-rest.result.now) c.requires.plan c.requires.whole line in
@@ -65,9 +61,8 @@ pub returns-clause-lines : goal.returns-clause-lines
 returns-clause-lines g c = λ bytes read.
     let old = c.args.self.now in
     let r = c.args.row.now in
-    let none : RowLine = record { row = None; line = []; job = record { job = None; text = [] } } in
     let texts = c.requires.texts in
-    let rest = c.rest-rest.ensures none _ (texts.line none) in
+    let rest = c.rest-rest.ensures no_line _ (texts.line no_line) in
     let tick : c.tick-tick.result.now ≡ decimal r.tick = c.tick-tick.ensures ∙ ap decimal texts.tick in
     let line = row_line old.version old.plan.now r c.tick-tick.result.now c.rest-rest.result.now tick (ap (λ t. t ++ codes "\n") (sym rest)) in
     let plain = whole_line old.version old.plan.now r (c.tick-tick.result.now ++ c.rest-rest.result.now) c.requires.plan c.requires.whole line in
