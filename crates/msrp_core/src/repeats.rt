@@ -46,6 +46,7 @@ impl<'a> Jobs<'a> {
     }
 
     /// How many turns more, from this tick on, the row of the last turn stands again, where it was of this kind and job.
+    #[inline(always)]
     pub(crate) fn repeats(&self, tick: u32, kind: Kind, job: Option<JobId>) -> u32
         requires { AreJobs self.now }
         ensures quiet { (t : ℕ) → 0 < result → t < tick + result → is_due self.now.ready t ≡ false }

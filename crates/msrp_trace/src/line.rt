@@ -212,7 +212,7 @@ impl CoreText {
     }
 
     /// Makes the record of a row but for its tick.
-    #[inline(never)]
+    #[inline(always)]
     pub(crate) fn make(&mut self, plan: &Plan, version: TextVersion, row: &Row)
         requires named { is_named plan.now row.now ≡ true }
         requires before { IsCoreText plan.now self.old }
@@ -221,6 +221,17 @@ impl CoreText {
     {
         self.line
             .make(plan, version, row, &mut self.job, &mut self.res);
+    }
+
+    /// Makes it apart from the code of its caller, which seldom needs it.
+    #[inline(never)]
+    pub(crate) fn make_apart(&mut self, plan: &Plan, version: TextVersion, row: &Row)
+        requires named { is_named plan.now row.now ≡ true }
+        requires before { IsCoreText plan.now self.old }
+        ensures after { IsCoreText plan.now self.new }
+        ensures text { self.new.line ≡ after_tick version plan.now row.now }
+    {
+        self.make(plan, version, row);
     }
 
     /// The text of the record after the tick.
@@ -294,7 +305,7 @@ impl RowLine {
                 res: row.res,
                 ahead: row.ahead,
             };
-            self.text.make(plan, version, &made);
+            self.text.make_apart(plan, version, &made);
             self.row = Some(made);
         }
     }
