@@ -5,7 +5,7 @@ use Rattle.std.proofs.lemmas.List.{length-map}
 use Rattle.std.proofs.lemmas.Option.{same_Some, slice_get_read}
 use Rattle.msrp_plan.specs.Plan.{PlanModel, core_of}
 use Rattle.msrp_plan.specs.Shape.{is_queue}
-use Rattle.msrp_plan.specs.Aheads.{carries_its_ahead}
+use Rattle.msrp_plan.specs.Aheads.{HasReply, carries_its_ahead}
 use Rattle.msrp_plan.specs.Jobs.{same_job, is_queued}
 use Rattle.msrp_plan.specs.Levels.{is_global}
 use Rattle.msrp_plan.specs.Choice.{choice}
@@ -35,7 +35,7 @@ use Rattle.msrp_plan.proofs.Runs.RoundRobin.{in_turn_of, quiet_reply}
 use Rattle.msrp_plan.proofs.Scheduling.NextRow.{next_row}
 use Rattle.msrp_plan.proofs.Scheduling.Waiters.{stands_in}
 use Rattle.msrp_core.specs.Machine.{MachineModel, StandsAfter}
-use Rattle.msrp_sim.specs.Cores.{CoresModel, AreCores, StandFor, IsDueAfter, IsNextRow, IsAnswered, IsRowWith, kind_told, ahead_told}
+use Rattle.msrp_sim.specs.Cores.{CoresModel, AreCores, StandFor, IsDueAfter, IsNextRow, IsAnswered, kind_told, ahead_told}
 use Rattle.msrp_sim.specs.Served.{IsTicketed}
 use Rattle.msrp_sim.specs.Serving.{queue_of, ticket_of, waiting, is_served}
 use Rattle.msrp_sim.specs.declared.tickets.Queues.{Queues}
@@ -233,7 +233,7 @@ module _ (m : CoresModel) (rows : List Row) (c : ℕ) (asks r : Row) (ok : IsPla
       }
 
 -- a request that somebody is ahead of is queued
-pub queued_with : (asks r : Row) (n : ℕ) → 1 ≤ n → IsRowWith Queue (Some n) asks r → IsRowWith (kind_of_call (Ask n)) (ahead_of_call (Ask n)) asks r
+pub queued_with : (asks r : Row) (n : ℕ) → 1 ≤ n → HasReply Queue (Some n) asks r → HasReply (kind_of_call (Ask n)) (ahead_of_call (Ask n)) asks r
 queued_with asks r zero some with_it = absurd (omega (arith, some))
 queued_with asks r (suc n) some with_it = with_it
 

@@ -3,7 +3,7 @@ use Rattle.std.specs.Prelude.{ℕ, List, [], true, Option, Some, None, IfSome, l
 use Rattle.std.specs.Option.{ForSome}
 use Rattle.msrp_plan.specs.Plan.{PlanModel}
 use Rattle.msrp_plan.specs.Levels.{is_global}
-use Rattle.msrp_plan.specs.Aheads.{carries_its_ahead}
+use Rattle.msrp_plan.specs.Aheads.{HasReply, carries_its_ahead}
 use Rattle.msrp_plan.specs.Runs.{IsRunStart, IsLegal}
 use Rattle.msrp_plan.specs.Logs.{log_of}
 use Rattle.msrp_plan.specs.FifoLock.{FifoLock, free_lock}
@@ -109,18 +109,9 @@ ahead_told q Take (Some g) = ahead_of_call (Ask (waiting q g.0))
 ahead_told q Queue (Some g) = ahead_of_call (Ask (waiting q g.0))
 ahead_told q kind res = None
 
--- the row as another, but of this kind and with this ahead
-pub record IsRowWith (kind : Kind) (ahead : Option ℕ) (asks r : Row) : Type 0 where
-  pub tick : r.tick ≡ asks.tick
-  pub core : r.core ≡ asks.core
-  pub job : r.job ≡ asks.job
-  pub res : r.res ≡ asks.res
-  pub kind_is : r.kind ≡ kind
-  pub ahead_is : r.ahead ≡ ahead
-
 -- the row as another, but with the answer that the queues give now
 abbrev pub IsAnswered : Queues → Row → Row → Type 0
-IsAnswered q asks r = IsRowWith (kind_told q asks.core.0 asks.kind asks.res) (ahead_told q asks.kind asks.res) asks r
+IsAnswered q asks r = HasReply (kind_told q asks.core.0 asks.kind asks.res) (ahead_told q asks.kind asks.res) asks r
 
 -- ---- before the first turn, and one turn more
 -- a machine before its first turn

@@ -1,21 +1,22 @@
 //! All cores of a plan, and the queues of its global resources.
 ghost use Rattle.std.specs.Prelude.{◌≡◌, ◌<◌, ◌++◌, ◌∷◌, [], true, ℕ, List, IfOk, IfNone, IfSome, None, Some, length, slice_get};
-ghost use Rattle.std.specs.Option.{ForSome, IsSomeAnd, option_map};
+ghost use Rattle.std.specs.Option.{ForSome, IsSomeAnd, is_some, option_map};
+ghost use Rattle.msrp_plan.specs.Aheads.{HasReply};
 ghost use Rattle.msrp_plan.specs.Limits.{most_cores, most_resources, most_rows};
 ghost use Rattle.msrp_plan.specs.Logs.{log_of};
 ghost use Rattle.msrp_plan.specs.Runs.{IsLegal};
 ghost use Rattle.msrp_plan.specs.Calls.{kind_of_call, ahead_of_call};
-ghost use Rattle.msrp_plan.specs.Shape.{has_shape, may_carry};
+ghost use Rattle.msrp_plan.specs.Shape.{has_shape};
 ghost use Rattle.msrp_plan.specs.WellFormed.{IsPlan};
 ghost use Rattle.msrp_plan.specs.declared.rows.Row.{Row as TraceRow};
 ghost use Rattle.msrp_core.specs.CoreStates.{IsCoreState};
 ghost use Rattle.msrp_core.specs.Machine.{MachineModel};
-ghost use Rattle.msrp_sim.specs.Cores.{AreNew, StandFor, IsDueAfter, IsNextRow, IsAs, IsAnswered, IsRowWith, Leaves, known_row};
+ghost use Rattle.msrp_sim.specs.Cores.{AreNew, StandFor, IsDueAfter, IsNextRow, IsAs, IsAnswered, Leaves, known_row};
 ghost use Rattle.msrp_sim.specs.Serving.{AreDrawn, Notes, waiting};
 ghost use Rattle.msrp_sim.specs.TurnPorts.{unless_granted};
 
 use crate::tickets::Queues;
-use crate::turn_port::{repeat_by, turn_by};
+use crate::turn_port::{repeat_by, repeats_by, turn_by};
 use msrp_core::{CoreState, Machine, PortCall, Reply};
 use msrp_levels::Levels;
 use msrp_plan::{Call, CoreId, Kind, Memory, Plan, ResId, Row};
@@ -43,30 +44,14 @@ impl<'a> Model for Cores<'a> {
     ghost invariant = { AreCoresView };
 }
 
-// The row with this kind and ahead.
-fn with_answer(row: Row, kind: Kind, ahead: Option<u32>) -> Row
-    requires shape { has_shape kind row.job row.res ≡ true }
-    requires carrier { may_carry kind ahead ≡ true }
-    ensures { IsRowWith kind ahead row result }
-{
-    Row {
-        tick: row.tick,
-        core: row.core,
-        kind,
-        job: row.job,
-        res: row.res,
-        ahead,
-    }
-}
-
 // The row of a request of the resource, with the reply that it gets now.
 fn requested(queues: &Queues, row: Row, res: ResId) -> Row
     requires { has_shape Kind.Take row.job row.res ≡ true }
-    ensures { IsRowWith (kind_of_call (Call.Ask (waiting queues.now res.0))) (ahead_of_call (Call.Ask (waiting queues.now res.0))) row result }
+    ensures { HasReply (kind_of_call (Call.Ask (waiting queues.now res.0))) (ahead_of_call (Call.Ask (waiting queues.now res.0))) row result }
 {
     match queues.reply(res) {
-        Reply::Taken => with_answer(row, Kind::Take, None),
-        Reply::Queued(ahead) => with_answer(row, Kind::Queue, Some(ahead)),
+        Reply::Taken => row.with_reply(Kind::Take, None),
+        Reply::Queued(ahead) => row.with_reply(Kind::Queue, Some(ahead)),
     }
 }
 
@@ -78,9 +63,9 @@ fn answered(queues: &Queues, row: Row) -> Row
         (Kind::Take | Kind::Queue, Some(res)) => requested(queues, row, res),
         (Kind::Grant | Kind::Spin, Some(res)) => {
             if queues.grants(row.core, res) {
-                with_answer(row, Kind::Grant, None)
+                row.with_reply(Kind::Grant, None)
             } else {
-                with_answer(row, Kind::Spin, None)
+                row.with_reply(Kind::Spin, None)
             }
         }
         _ => row,
@@ -167,6 +152,15 @@ impl<'a> Cores<'a> {
     {
         let row = self.machines[core.0 as usize].foresee()?;
         Some(answered(&self.queues, row))
+    }
+
+    /// Whether [`Cores::repeat`] makes the core's next turn.
+    #[inline(always)]
+    pub fn repeats(&self, core: CoreId) -> bool
+        requires { core.0 < self.now.plan.cores }
+        ensures { result ≡ is_some (unless_granted self.now.queues core.0 (known_row self.now core.0)) }
+    {
+        repeats_by(&self.queues, &self.machines[core.0 as usize])
     }
 
     /// The core's next turn, where it is known from its last one: its row is that one in the next tick. That takes no choice,
