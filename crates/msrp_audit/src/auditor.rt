@@ -1,6 +1,6 @@
 //! The auditor, row by row.
 ghost use Rattle.std.specs.Prelude.{◌≡◌, ◌≤◌, ◌<◌, ◌+◌, ◌*◌, ◌/◌, ◌++◌, ◌∷◌, [], ℕ, List, IfOk, IfNone, IfSome, Some, None, Err, length, true};
-ghost use Rattle.std.specs.Option.{IsSomeAnd};
+ghost use Rattle.std.specs.Option.{IsSomeAnd, is_some};
 ghost use Rattle.msrp_core.specs.CoreStates.{IsCoreState};
 ghost use Rattle.msrp_plan.specs.Limits.{most_rows};
 ghost use Rattle.msrp_plan.specs.Logs.{log_of};
@@ -10,6 +10,7 @@ ghost use Rattle.msrp_plan.specs.WellFormed.{IsPlan};
 ghost use Rattle.msrp_plan.specs.declared.faults.Fault.{Fault as TraceFault};
 ghost use Rattle.msrp_plan.specs.declared.rows.Row.{Row as TraceRow};
 ghost use Rattle.msrp_sim.specs.Cores.{IsDueAfter, IsNextRow, IsAs, Leaves, known_row};
+ghost use Rattle.msrp_sim.specs.TurnPorts.{unless_granted};
 ghost use Rattle.msrp_audit.specs.Audits.{HasFed, IsCoreDue, IsOutOfTurn, Awaits, answer_of, has_turn};
 
 use crate::comparing::unlike_due;
@@ -146,6 +147,15 @@ impl<'a> Auditor<'a> {
         self.cores.tick(core) == self.at.tick
     }
 
+    /// Whether [`Auditor::repeat`] gives the core its turn.
+    #[inline(always)]
+    pub fn repeats(&self, core: CoreId) -> bool
+        requires { IsCoreDue self.now core.0 }
+        ensures { result ≡ is_some (unless_granted self.now.cores.queues core.0 (known_row self.now.cores core.0)) }
+    {
+        self.cores.repeats(core)
+    }
+
     /// The core's turn, where it is known from its last one: its row is that one in the next tick. Elsewhere it is none, and nothing
     /// changes. What came is told by [`accept`](Auditor::accept) or [`judge`](Auditor::judge).
     #[inline(always)]
@@ -153,6 +163,7 @@ impl<'a> Auditor<'a> {
         requires { IsCoreDue self.old core.0 }
         ensures none { IfNone result (self.new ≡ self.old) }
         ensures known { IfSome result (λ due. known_row self.old.cores core.0 ≡ Some due) }
+        ensures repeats { result ≡ unless_granted self.old.cores.queues core.0 (known_row self.old.cores core.0) }
         ensures plan { self.new.plan ≡ self.old.plan }
         ensures fed { self.new.fed ≡ self.old.fed }
         ensures core { IfSome result (λ due. due.core.0 ≡ core.0) }
@@ -271,20 +282,6 @@ impl<'a> Auditor<'a> {
         ensures answer { (rows : List TraceRow) → HasFed self.old rows → result ≡ answer_of (fault_in self.old.plan (rows ++ row ∷ [])) }
         ensures same { (fault : TraceFault) → self.old.fault ≡ Some fault → result ≡ Err fault }
     {
-        let mut told = None;
-        self.feed_telling(row, &mut told)
-    }
-
-    /// The next row, as [`feed`](Auditor::feed) judges it. Of a row in its turn it tells the one that was due, with its ahead: the one legal row
-    /// of the core, whatever the rule that the row breaks.
-    #[inline(always)]
-    pub fn feed_telling(&mut self, row: Row, told: &mut Option<Row>) -> Result<(), Fault>
-        ensures plan { self.new.plan ≡ self.old.plan }
-        ensures fed { (rows : List TraceRow) → HasFed self.old rows → HasFed self.new (rows ++ row ∷ []) }
-        ensures answer { (rows : List TraceRow) → HasFed self.old rows → result ≡ answer_of (fault_in self.old.plan (rows ++ row ∷ [])) }
-        ensures same { (fault : TraceFault) → self.old.fault ≡ Some fault → result ≡ Err fault }
-        ensures told { (rows : List TraceRow) → HasFed self.old rows → self.old.fault ≡ None → length rows < self.old.plan.cores * self.old.plan.ticks → is_in_turn self.old.plan rows row ≡ true → IsSomeAnd told.new (IsNextRow self.old.plan rows row.core.0) }
-    {
         if let Some(fault) = self.fault {
             return Err(fault);
         }
@@ -294,7 +291,6 @@ impl<'a> Auditor<'a> {
             return Err(out);
         }
         let due = self.turn(row.core);
-        *told = Some(due);
         self.judge(due, row)
     }
 

@@ -1,9 +1,7 @@
-use Rattle.std.proofs.Common.{◌++◌, ◌∷◌, [], ap, sym, ◌∙◌, subst}
-use Rattle.msrp_plan.specs.Plan.{PlanModel}
-use Rattle.msrp_sim.specs.Cores.{IsNextRow}
+use Rattle.std.proofs.Common.{◌++◌, ◌∷◌, [], ap, sym, ◌∙◌}
 use Rattle.msrp_audit.specs.Audits.{AuditorModel, answer_of}
 use Rattle.msrp_audit.proofs.Judging.{faulty, stays_faulty}
-use Rattle.msrp_audit.proofs.auditor.Auditor.feed_telling.Goals as goal
+use Rattle.msrp_audit.proofs.auditor.Auditor.feed.Goals as goal
 
 pub returns-in-Some-clause-fed : goal.returns-in-Some-clause-fed
 returns-in-Some-clause-fed c = λ rows h.
@@ -12,6 +10,3 @@ returns-in-Some-clause-fed c = λ rows h.
 
 pub returns-in-Some-clause-answer : goal.returns-in-Some-clause-answer
 returns-in-Some-clause-answer c = λ rows h. sym (ap answer_of (stays_faulty c.args.self.now rows c.args.row c.in-Some.fault (sym (ap (λ (a : AuditorModel). a.fault) c.self.view_is) ∙ c.in-Some.is) h))
-
-pub returns-clause-told : goal.returns-clause-told
-returns-clause-told c = λ rows h none left turn. subst (λ (p : PlanModel). IsNextRow p rows c.args.row.core.0 c.turn-due.result) c.turn-due.ensures.plan (c.turn-due.ensures.awaits rows h).next
