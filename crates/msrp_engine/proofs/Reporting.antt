@@ -1,16 +1,11 @@
 -- The rows of a trace's text, counted as they are judged.
-use Rattle.std.proofs.Common.{◌≡◌, ◌⊎◌, ℕ, List, Option, Some, IfOk, OnOk, refl, ap, sym, subst, ◌∙◌, inl, inr}
+use Rattle.std.proofs.Common.{◌≡◌, ◌⊎◌, ℕ, List, Option, IfOk, ap, sym, subst, ◌∙◌, inl, inr}
 use Rattle.std.specs.Prelude.{⊤}
 use Rattle.std.specs.declared.result.Result.{Result}
 use Rattle.std.specs.declared.result.Result.TheVariants.{Ok, Err}
-use Rattle.msrp_audit.specs.Audits.{answer_of}
 use Rattle.msrp_plan.specs.Plan.{PlanModel}
 use Rattle.msrp_plan.specs.declared.bytes.Sink.{Sink}
-use Rattle.msrp_plan.specs.Runs.{IsRun}
-use Rattle.msrp_plan.specs.Verdict.{verdict}
 use Rattle.msrp_plan.specs.declared.faults.Fault.{Fault}
-use Rattle.msrp_plan.specs.declared.rows.Row.{Row}
-use Rattle.msrp_plan.proofs.Runs.Verdicts.{run_is_good}
 use Rattle.msrp_report.specs.Lines.{lines_of}
 use Rattle.msrp_report.specs.declared.lines.Report.{Report}
 use Rattle.msrp_text.specs.declared.reading.TextError.{TextError}
@@ -18,7 +13,7 @@ use Rattle.msrp_trace.specs.Reading.{Told, rows_of}
 use Rattle.msrp_engine.specs.Findings.{finding}
 use Rattle.msrp_faults.specs.Outcomes.{fault_of}
 use Rattle.msrp_engine.specs.Reports as reports
-use Rattle.msrp_engine.specs.Reports.{IsReportOf, ReportAnswers, Reports, TellsReport, WritesShown, report_shown}
+use Rattle.msrp_engine.specs.Reports.{IsReportOf, ReportAnswers, Reports, TellsReport, WritesShown, report_shown, verdict_told}
 use Rattle.msrp_faults.specs.declared.faults.CliFault.{CliFault}
 use Rattle.msrp_faults.specs.declared.faults.CliFault.TheVariants.{Read as ReadFault, Memory as NoMemory}
 use Rattle.msrp_engine.specs.declared.made.Made.{Made}
@@ -41,9 +36,8 @@ reported-error plan told fault h = elim h [
 ]
 
 -- the rows of a whole trace
-pub reported-end : (plan : PlanModel) (told : Told) (rows : List Row) (result : Result Report Fault) → finding plan told ≡ Ok (answer_of (verdict plan rows)) → OnOk result (IsRun plan rows) → ((f : Fault) → result ≡ Err f → verdict plan rows ≡ Some f) → IfOk result (λ report. report.lines.items ≡ lines_of plan rows) → rows ≡ told.rows → IsReported plan told (Ok result)
-reported-end plan told rows (Ok report) found run fault lines same = inr (inr (record { found = sym (found ∙ ap (λ o. Ok (answer_of o)) (run_is_good plan rows run)); lines = lines ∙ ap (lines_of plan) same }))
-reported-end plan told rows (Err f) found run fault lines same = inr (inr (record { found = sym (found ∙ ap (λ o. Ok (answer_of o)) (fault f refl)); lines = tt }))
+pub reported-end : (plan : PlanModel) (told : Told) (found : Result ⊤ Fault) (result : Result Report Fault) → finding plan told ≡ Ok found → verdict_told (Ok result) ≡ Ok found → IfOk result (λ report. report.lines.items ≡ lines_of plan told.rows) → IsReported plan told (Ok result)
+reported-end plan told found result e same lines = inr (inr (record { found = same ∙ sym e; lines = lines }))
 
 -- ---- the answer
 -- what is answered where a report was asked for in memory: it is written, and of a fault nothing is

@@ -3,7 +3,7 @@ use Rattle.std.proofs.Common.{◌≡◌, ◌++◌, ◌∷◌, [], ◌+◌, ◌-�
 use Rattle.std.specs.Prelude.{⊤}
 use Rattle.std.specs.declared.result.Result.{Result}
 use Rattle.std.specs.declared.result.Result.TheVariants.{Ok, Err}
-use Rattle.msrp_audit.specs.Audits.{HasFed, IsBroken, answer_of}
+use Rattle.msrp_audit.specs.Audits.{AuditorModel, HasFed, answer_of}
 use Rattle.msrp_plan.specs.Plan.{PlanModel}
 use Rattle.msrp_plan.specs.Verdict.{fault_in, verdict}
 use Rattle.msrp_plan.specs.declared.faults.Fault.{Fault}
@@ -32,6 +32,16 @@ pub record Gives {T : Type 0} (remaining : T → Option (List ℕ)) (old new : J
   pub plan : new.auditor.plan ≡ old.auditor.plan
   pub answers : Answers (rows_left remaining old) (row_told result) (rows_left remaining new)
   pub judged : IsJudged old.auditor.plan rows result new
+
+-- no row came
+pub none-again : {T : Type 0} (remaining : T → Option (List ℕ)) (begun old new : JudgedRows T) (rows : List Row)
+    → HaveCome remaining begun old rows → new.auditor ≡ old.auditor → ((told : Told) → rows_left remaining old ≡ Some told → rows_left remaining new ≡ Some told) → HaveCome remaining begun new rows
+none-again remaining begun old new rows came same kept = record {
+  plan = ap (λ (a : AuditorModel). a.plan) same ∙ came.plan;
+  fed = subst (λ (a : AuditorModel). HasFed a rows) (sym same) came.fed;
+  fault = ap (λ (a : AuditorModel). a.fault) same ∙ came.fault;
+  read = λ told known. let is = came.read told known in record { rest = is.rest; whole = is.whole; unread = kept _ is.unread };
+}
 
 pub none-came : {T : Type 0} (remaining : T → Option (List ℕ)) (j : JudgedRows T) → HasFed j.auditor [] → HaveCome remaining j j []
 none-came remaining j fed = record { plan = refl; fed = fed; fault = fed.fault; read = λ told known. none-read told _ known }
@@ -66,9 +76,9 @@ pub broken-found : {T : Type 0} (remaining : T → Option (List ℕ)) (begun old
     → HaveCome remaining begun old rows → Gives remaining old new rows result → result ≡ Ok (Broken row fault) → rows_left remaining begun ≡ Some told
     → finding begun.auditor.plan told ≡ Ok (Err fault)
 broken-found remaining begun old new rows result row fault told came next is known =
-    let judged : IsBroken old.auditor.plan rows row fault new.due new.auditor = subst (λ r. IsJudged old.auditor.plan rows r new) is next.judged in
+    let judged : fault_in old.auditor.plan (rows ++ row ∷ []) ≡ Some fault = subst (λ r. IsJudged old.auditor.plan rows r new) is next.judged in
     let more = read-row told rows _ _ (row_told result) row (came.read told known) next.answers (ap row_told is) in
-    subst (λ (p : PlanModel). finding p told ≡ Ok (Err fault)) came.plan (fault-found old.auditor.plan told (rows ++ row ∷ []) more.rest fault more.whole judged.fault)
+    subst (λ (p : PlanModel). finding p told ≡ Ok (Err fault)) came.plan (fault-found old.auditor.plan told (rows ++ row ∷ []) more.rest fault more.whole judged)
 
 -- at the end the verdict on all rows is
 pub end-found : {T : Type 0} (remaining : T → Option (List ℕ)) (begun old new : JudgedRows T) (rows : List Row) (result : Result Judgement TraceError) (told : Told)

@@ -1,7 +1,8 @@
 -- The rows of a trace's text, judged as they come.
 use Rattle.std.specs.Prelude.{ℕ, List, [], ◌∷◌, ◌++◌, Option, Some, None, Result, Ok, Err, ◌≡◌, ⊤}
-use Rattle.msrp_audit.specs.Audits.{HasFed, IsBroken}
+use Rattle.msrp_audit.specs.Audits.{HasFed}
 use Rattle.msrp_plan.specs.Plan.{PlanModel}
+use Rattle.msrp_plan.specs.Verdict.{fault_in}
 use Rattle.msrp_plan.specs.declared.rows.Row.{Row}
 use Rattle.msrp_trace.specs.Reading.{Told}
 use Rattle.msrp_trace.specs.Readers.{told_left}
@@ -24,6 +25,6 @@ row_told (Err error) = Err error
 -- after these rows, which have no fault, what comes next is judged so
 abbrev pub IsJudged : {T : Type 0} → PlanModel → List Row → Result Judgement TraceError → JudgedRows T → Type 0
 IsJudged plan rows (Ok (Legal row)) j = HasFed j.auditor (rows ++ row ∷ []) × (j.auditor.fault ≡ None)
-IsJudged plan rows (Ok (Broken row fault)) j = IsBroken plan rows row fault j.due j.auditor
+IsJudged plan rows (Ok (Broken row fault)) j = fault_in plan (rows ++ row ∷ []) ≡ Some fault
 IsJudged plan rows (Ok End) j = HasFed j.auditor rows × (j.auditor.fault ≡ None)
 IsJudged plan rows (Err error) j = ⊤

@@ -2,12 +2,13 @@
 ghost use Rattle.std.specs.Prelude.{◌≡◌, ◌⊎◌, [], true, Some, Err, IfErr};
 ghost use Rattle.msrp_audit.specs.Audits.{HasFed};
 ghost use Rattle.msrp_trace.specs.Reading.{Told, rows_of};
-ghost use Rattle.msrp_trace.specs.Readers.{told_left};
 ghost use Rattle.msrp_engine.specs.Answered.{Answered, OfText, OfTexts, ReadsBoth};
 ghost use Rattle.msrp_engine.specs.AuditText.{AuditAnswers, TellsVerdict};
 ghost use Rattle.msrp_engine.specs.Findings.{finding, finding_of};
+ghost use Rattle.msrp_engine.specs.Judging.{rows_left};
 ghost use Rattle.msrp_faults.specs.Outcomes.{is_trace_fault, is_audit_fault};
 
+use crate::judged::{JudgedRows, Judgement};
 use crate::reading::settled;
 use msrp_audit::Auditor;
 use msrp_faults::CliFault;
@@ -19,29 +20,22 @@ use msrp_trace::TraceReader;
 use std::alloc::Global;
 use std::io::{Read, Write};
 
-// What is found in the rows that a reader has left. They are judged as they come, and none is read after a faulty one.
+// What is found in the rows that are left. They are judged as they come, and none is read after a faulty one.
 #[inline(never)]
-fn judge_rows<T: Read>(
-    auditor: &mut Auditor<'_>,
-    rows: &mut TraceReader<'_, T>,
-) -> Result<Result<(), Fault>, CliFault>
-    requires fed { HasFed auditor.old [] }
-    ensures found { (told : Told) → told_left T.remaining rows.old ≡ Some told
-        → (result ≡ Err CliFault.Read) ⊎ (result ≡ Err CliFault.Memory) ⊎ (result ≡ finding auditor.old.plan told) }
+fn judge_rows<T: Read>(rows: &mut JudgedRows<'_, '_, T>) -> Result<Result<(), Fault>, CliFault>
+    requires fed { HasFed rows.old.auditor [] }
+    ensures found { (told : Told) → rows_left T.remaining rows.old ≡ Some told
+        → (result ≡ Err CliFault.Read) ⊎ (result ≡ Err CliFault.Memory) ⊎ (result ≡ finding rows.old.auditor.plan told) }
     ensures faults { IfErr result (λ fault. is_trace_fault fault ≡ true) }
 {
     loop {
-        if let Some(row) = rows.next_again() {
-            if let Err(fault) = auditor.feed(row) {
-                return Ok(Err(fault));
-            }
+        if let Some(_row) = rows.next_again() {
             continue;
         }
-        let Some(row) = rows.next_anew(|core| auditor.foresee(core))? else {
-            return Ok(auditor.end());
-        };
-        if let Err(fault) = auditor.feed(row) {
-            return Ok(Err(fault));
+        match rows.next_anew()? {
+            Judgement::Legal(_row) => {}
+            Judgement::Broken(_row, fault) => return Ok(Err(fault)),
+            Judgement::End => return Ok(rows.auditor().end()),
         }
     }
 }
@@ -56,9 +50,10 @@ fn judge_all<T: Read>(
     ensures faults { IfErr result (λ fault. is_trace_fault fault ≡ true) }
 {
     let levels = Levels::of(alloc, plan)?;
-    let mut auditor = Auditor::with_room(alloc, plan, &levels)?;
-    let mut rows = TraceReader::new(alloc, trace, plan)?;
-    let found = judge_rows(&mut auditor, &mut rows);
+    let auditor = Auditor::with_room(alloc, plan, &levels)?;
+    let reader = TraceReader::new(alloc, trace, plan)?;
+    let mut rows = JudgedRows::new(plan, auditor, reader);
+    let found = judge_rows(&mut rows);
     drop(rows);
     found
 }

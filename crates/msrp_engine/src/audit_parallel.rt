@@ -33,7 +33,11 @@ fn gather_rows<T: Read>(
     ensures faults { IfErr result (λ fault. is_trace_fault fault ≡ true) }
 {
     for _row in 0..most {
-        match rows.next_row()?.row() {
+        if let Some(row) = rows.next_again() {
+            gathered.push(row)?;
+            continue;
+        }
+        match rows.next_anew()?.row() {
             Some(row) => gathered.push(row)?,
             None => return Ok(()),
         }

@@ -1,12 +1,12 @@
 //! The rows of a trace's text, each judged as it comes.
-ghost use Rattle.std.specs.Prelude.{◌≡◌, ◌<◌, ◌*◌, ◌/◌, ℕ, List, Some, None, Ok, Err, true, false, length, slice_index_or};
+ghost use Rattle.std.specs.Prelude.{◌≡◌, ◌<◌, ◌*◌, ◌/◌, ℕ, List, ◌++◌, ◌∷◌, [], IfSome, Some, None, Ok, Err, true, false, length, slice_index_or};
 ghost use Rattle.msrp_audit.specs.Audits.{Awaits, HasFed, IsCoreDue};
 ghost use Rattle.msrp_plan.specs.Bytes.{source_failed};
 ghost use Rattle.msrp_plan.specs.WellFormed.{IsPlan};
 ghost use Rattle.msrp_plan.specs.declared.rows.Row.{Row as TraceRow};
 ghost use Rattle.msrp_trace.specs.Laws.{is_short};
 ghost use Rattle.msrp_trace.specs.Reading.{Told};
-ghost use Rattle.msrp_trace.specs.Readers.{BeginsAt, GivesNext, HasReadBehind, HasReadIn, IsAtTick, IsOfTrace, StandsBehind, StandsIn, source_of};
+ghost use Rattle.msrp_trace.specs.Readers.{BeginsAt, GivesNext, IsAtTick, source_of};
 ghost use Rattle.msrp_trace.specs.Texts.{text_of_core};
 ghost use Rattle.msrp_engine.specs.Inside.Kept.{IsKept, KeepsKnown};
 
@@ -53,8 +53,6 @@ pub struct JudgedRows<'p, 't, T> {
     texts: RowTexts<'p>,
     // Of which cores the text that is kept is read as the row that it is the text of.
     whole: [bool; MOST_CORES as usize],
-    // The row that was due in place of one that breaks a rule.
-    due: Option<Row>,
     ghost plan: { rows.plan.now ≡ auditor.plan },
     ghost texts_plan: { texts.plan ≡ auditor.plan },
     ghost version: { texts.version ≡ rows.version },
@@ -81,7 +79,6 @@ impl<'p, 't, T: Read> JudgedRows<'p, 't, T> {
             rows,
             texts,
             whole: [false; MOST_CORES as usize],
-            due: None,
         }
     }
 
@@ -90,20 +87,6 @@ impl<'p, 't, T: Read> JudgedRows<'p, 't, T> {
         ensures { result.now ≡ self.now.auditor }
     {
         &self.auditor
-    }
-
-    /// The row that was due of its core in place of the one that breaks a rule, with its ahead; none where that one isn't in its turn.
-    pub fn due(&self) -> Option<Row>
-        ensures { result ≡ self.now.due }
-    {
-        self.due
-    }
-
-    /// The reader, which has left what wasn't read.
-    pub fn reader(&self) -> &TraceReader<'t, T>
-        ensures { result.now ≡ self.now.rows }
-    {
-        &self.rows
     }
 
     // The turn of a core that isn't known from its last one. Its text is made.
@@ -150,10 +133,7 @@ impl<'p, 't, T: Read> JudgedRows<'p, 't, T> {
     {
         match self.auditor.judge(due, row) {
             Ok(()) => Judgement::Legal(row),
-            Err(fault) => {
-                self.due = Some(due);
-                Judgement::Broken(row, fault)
-            }
+            Err(fault) => Judgement::Broken(row, fault),
         }
     }
 
@@ -162,12 +142,9 @@ impl<'p, 't, T: Read> JudgedRows<'p, 't, T> {
     fn read_due(&mut self, due: Row) -> Result<Judgement, TraceError>
         requires left { self.old.auditor.fed < self.old.auditor.plan.cores * self.old.auditor.plan.ticks }
         ensures plan { self.new.auditor.plan ≡ self.old.auditor.plan }
-        ensures trace { IsOfTrace self.old.rows self.new.rows }
         ensures gives { (told : Told) → rows_left T.remaining self.old ≡ Some told → GivesNext told (row_told result) (rows_left T.remaining self.new) }
         ensures judged { (rows : List TraceRow) → Awaits self.old.auditor rows due.core.0 due → IsJudged self.old.auditor.plan rows result self.new }
         ensures read { (told : Told) → rows_left T.remaining self.old ≡ Some told → BeginsAt due.tick due.core told → result ≡ Err TraceError.Read → source_failed (source_of self.new.rows) ≡ true }
-        ensures stands { (records : List (List (List ℕ))) → StandsIn T.remaining records self.old.rows → StandsBehind T.remaining records (row_told result) self.new.rows }
-        ensures lines { (text : List ℕ) → HasReadIn T.remaining text self.old.rows → HasReadBehind T.remaining text (row_told result) self.new.rows }
     {
         match self.rows.next_row()? {
             Some(row) if row.tick == due.tick && row.core == due.core => Ok(self.judge(due, row)),
@@ -186,12 +163,9 @@ impl<'p, 't, T: Read> JudgedRows<'p, 't, T> {
         requires short { is_short tick ≡ true }
         requires here { IsAtTick tick self.old.rows }
         ensures plan { self.new.auditor.plan ≡ self.old.auditor.plan }
-        ensures trace { IsOfTrace self.old.rows self.new.rows }
         ensures gives { (told : Told) → rows_left T.remaining self.old ≡ Some told → GivesNext told (row_told result) (rows_left T.remaining self.new) }
         ensures judged { (rows : List TraceRow) → Awaits self.old.auditor rows core.0 due → tick ≡ due.tick → IsJudged self.old.auditor.plan rows result self.new }
         ensures read { (told : Told) (rows : List TraceRow) → rows_left T.remaining self.old ≡ Some told → BeginsAt tick core told → Awaits self.old.auditor rows core.0 due → tick ≡ due.tick → result ≡ Err TraceError.Read → source_failed (source_of self.new.rows) ≡ true }
-        ensures stands { (records : List (List (List ℕ))) → StandsIn T.remaining records self.old.rows → StandsBehind T.remaining records (row_told result) self.new.rows }
-        ensures lines { (text : List ℕ) → HasReadIn T.remaining text self.old.rows → HasReadBehind T.remaining text (row_told result) self.new.rows }
     {
         if self.whole[core.0 as usize] && self.rows.comes_behind(tick, &self.texts, core) {
             self.auditor.accept();
@@ -200,57 +174,14 @@ impl<'p, 't, T: Read> JudgedRows<'p, 't, T> {
         self.read_due(due)
     }
 
-    // The next row, of a core whose turn isn't known from its last one, apart from the code of those that are.
-    #[inline(never)]
-    fn next_anew(&mut self, tick: u32, core: CoreId) -> Result<Judgement, TraceError>
-        requires accepted { IsPlan self.old.auditor.plan }
-        requires due { IsCoreDue self.old.auditor core.0 }
-        requires short { is_short tick ≡ true }
-        requires here { IsAtTick tick self.old.rows }
-        ensures plan { self.new.auditor.plan ≡ self.old.auditor.plan }
-        ensures trace { IsOfTrace self.old.rows self.new.rows }
-        ensures gives { (told : Told) → rows_left T.remaining self.old ≡ Some told → GivesNext told (row_told result) (rows_left T.remaining self.new) }
-        ensures judged { (rows : List TraceRow) → HasFed self.old.auditor rows → tick ≡ length rows / self.old.auditor.plan.cores → IsJudged self.old.auditor.plan rows result self.new }
-        ensures read { (told : Told) (rows : List TraceRow) → rows_left T.remaining self.old ≡ Some told → BeginsAt tick core told → HasFed self.old.auditor rows → tick ≡ length rows / self.old.auditor.plan.cores → result ≡ Err TraceError.Read → source_failed (source_of self.new.rows) ≡ true }
-        ensures stands { (records : List (List (List ℕ))) → StandsIn T.remaining records self.old.rows → StandsBehind T.remaining records (row_told result) self.new.rows }
-        ensures lines { (text : List ℕ) → HasReadIn T.remaining text self.old.rows → HasReadBehind T.remaining text (row_told result) self.new.rows }
-    {
-        let due = self.turn_anew(core);
-        self.next_due(tick, core, due)
-    }
-
-    // The next row, of a core whose turn it is.
-    #[inline(always)]
-    fn next_of(&mut self, tick: u32, core: CoreId) -> Result<Judgement, TraceError>
-        requires accepted { IsPlan self.old.auditor.plan }
-        requires due { IsCoreDue self.old.auditor core.0 }
-        requires short { is_short tick ≡ true }
-        requires here { IsAtTick tick self.old.rows }
-        ensures plan { self.new.auditor.plan ≡ self.old.auditor.plan }
-        ensures trace { IsOfTrace self.old.rows self.new.rows }
-        ensures gives { (told : Told) → rows_left T.remaining self.old ≡ Some told → GivesNext told (row_told result) (rows_left T.remaining self.new) }
-        ensures judged { (rows : List TraceRow) → HasFed self.old.auditor rows → tick ≡ length rows / self.old.auditor.plan.cores → IsJudged self.old.auditor.plan rows result self.new }
-        ensures read { (told : Told) (rows : List TraceRow) → rows_left T.remaining self.old ≡ Some told → BeginsAt tick core told → HasFed self.old.auditor rows → tick ≡ length rows / self.old.auditor.plan.cores → result ≡ Err TraceError.Read → source_failed (source_of self.new.rows) ≡ true }
-        ensures stands { (records : List (List (List ℕ))) → StandsIn T.remaining records self.old.rows → StandsBehind T.remaining records (row_told result) self.new.rows }
-        ensures lines { (text : List ℕ) → HasReadIn T.remaining text self.old.rows → HasReadBehind T.remaining text (row_told result) self.new.rows }
-    {
-        match self.auditor.repeat(core) {
-            Some(due) => self.next_due(tick, core, due),
-            None => self.next_anew(tick, core),
-        }
-    }
-
     // The next row, read field by field.
     #[inline(never)]
     fn read(&mut self) -> Result<Judgement, TraceError>
         requires { IsPlan self.old.auditor.plan }
         ensures plan { self.new.auditor.plan ≡ self.old.auditor.plan }
-        ensures trace { IsOfTrace self.old.rows self.new.rows }
         ensures gives { (told : Told) → rows_left T.remaining self.old ≡ Some told → GivesNext told (row_told result) (rows_left T.remaining self.new) }
         ensures judged { (rows : List TraceRow) → HasFed self.old.auditor rows → self.old.auditor.fault ≡ None → IsJudged self.old.auditor.plan rows result self.new }
         ensures read { (told : Told) (rows : List TraceRow) → rows_left T.remaining self.old ≡ Some told → HasFed self.old.auditor rows → self.old.auditor.fault ≡ None → result ≡ Err TraceError.Read → source_failed (source_of self.new.rows) ≡ true }
-        ensures stands { (records : List (List (List ℕ))) → StandsIn T.remaining records self.old.rows → StandsBehind T.remaining records (row_told result) self.new.rows }
-        ensures lines { (text : List ℕ) → HasReadIn T.remaining text self.old.rows → HasReadBehind T.remaining text (row_told result) self.new.rows }
     {
         let Some(row) = self.rows.next_row()? else {
             return Ok(Judgement::End);
@@ -262,21 +193,63 @@ impl<'p, 't, T: Read> JudgedRows<'p, 't, T> {
         Ok(Judgement::Broken(row, self.auditor.fault_out_of_turn()))
     }
 
+    /// The next row, where it is its core's last one again: its core's turn is known from that one, and the row is met by the text that is kept. It is legal
+    /// then, as long as none has broken a rule. Elsewhere it is none, and nothing is taken.
+    #[inline(always)]
+    pub fn next_again(&mut self) -> Option<Row>
+        ensures plan { self.new.auditor.plan ≡ self.old.auditor.plan }
+        ensures gives { IfSome result (λ row. (told : Told) → rows_left T.remaining self.old ≡ Some told → GivesNext told (Ok (Some row)) (rows_left T.remaining self.new)) }
+        ensures kept { result ≡ None → (told : Told) → rows_left T.remaining self.old ≡ Some told → rows_left T.remaining self.new ≡ Some told }
+        ensures same { result ≡ None → self.new.auditor ≡ self.old.auditor }
+        ensures judged { IfSome result (λ row. (rows : List TraceRow) → HasFed self.old.auditor rows → self.old.auditor.fault ≡ None → HasFed self.new.auditor (rows ++ row ∷ []) × (self.new.auditor.fault ≡ None)) }
+    {
+        let tick = self.auditor.tick();
+        let Some(core) = self.rows.core_in(tick) else {
+            return None;
+        };
+        if !self.auditor.is_due(core) || !self.auditor.repeats(core) {
+            return None;
+        }
+        if !self.whole[core.0 as usize] || !self.rows.comes(tick, &self.texts, core) {
+            return None;
+        }
+        let Some(due) = self.auditor.repeat(core) else {
+            return None;
+        };
+        self.auditor.accept();
+        Some(self.rows.as_read(due).in_tick(tick))
+    }
+
+    /// The next row, as by [`JudgedRows::next_row`], but it isn't looked first whether its core's last one comes again: that is for
+    /// [`JudgedRows::next_again`].
+    #[inline(never)]
+    pub fn next_anew(&mut self) -> Result<Judgement, TraceError>
+        ensures plan { self.new.auditor.plan ≡ self.old.auditor.plan }
+        ensures gives { (told : Told) → rows_left T.remaining self.old ≡ Some told → GivesNext told (row_told result) (rows_left T.remaining self.new) }
+        ensures judged { (rows : List TraceRow) → HasFed self.old.auditor rows → self.old.auditor.fault ≡ None → IsJudged self.old.auditor.plan rows result self.new }
+        ensures read { (told : Told) (rows : List TraceRow) → rows_left T.remaining self.old ≡ Some told → HasFed self.old.auditor rows → self.old.auditor.fault ≡ None → result ≡ Err TraceError.Read → source_failed (source_of self.new.rows) ≡ true }
+    {
+        let tick = self.auditor.tick();
+        match self.rows.core_ahead(tick) {
+            Some(core) if self.auditor.is_due(core) => {
+                let due = self.turn(core);
+                self.next_due(tick, core, due)
+            }
+            _ => self.read(),
+        }
+    }
+
     /// The next row, and how it is judged, as long as none has broken a rule.
     #[inline(always)]
     pub fn next_row(&mut self) -> Result<Judgement, TraceError>
         ensures plan { self.new.auditor.plan ≡ self.old.auditor.plan }
-        ensures trace { IsOfTrace self.old.rows self.new.rows }
         ensures gives { (told : Told) → rows_left T.remaining self.old ≡ Some told → GivesNext told (row_told result) (rows_left T.remaining self.new) }
         ensures judged { (rows : List TraceRow) → HasFed self.old.auditor rows → self.old.auditor.fault ≡ None → IsJudged self.old.auditor.plan rows result self.new }
         ensures read { (told : Told) (rows : List TraceRow) → rows_left T.remaining self.old ≡ Some told → HasFed self.old.auditor rows → self.old.auditor.fault ≡ None → result ≡ Err TraceError.Read → source_failed (source_of self.new.rows) ≡ true }
-        ensures stands { (records : List (List (List ℕ))) → StandsIn T.remaining records self.old.rows → StandsBehind T.remaining records (row_told result) self.new.rows }
-        ensures lines { (text : List ℕ) → HasReadIn T.remaining text self.old.rows → HasReadBehind T.remaining text (row_told result) self.new.rows }
     {
-        let tick = self.auditor.tick();
-        match self.rows.core_ahead(tick) {
-            Some(core) if self.auditor.is_due(core) => self.next_of(tick, core),
-            _ => self.read(),
+        match self.next_again() {
+            Some(row) => Ok(Judgement::Legal(row)),
+            None => self.next_anew(),
         }
     }
 }

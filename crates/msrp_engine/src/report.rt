@@ -1,53 +1,68 @@
 //! The report of a trace's text.
-ghost use Rattle.std.specs.Prelude.{◌≡◌, ◌⊎◌, [], true, false, Some, Ok, Err, IfOk, IfErr, length};
+ghost use Rattle.std.specs.Prelude.{◌≡◌, ◌⊎◌, List, [], true, false, Some, Ok, Err, IfOk, IfErr, length};
 ghost use Rattle.msrp_plan.specs.Bytes.{sink_failed};
-ghost use Rattle.msrp_report.specs.Reports.{HasReported};
+ghost use Rattle.msrp_audit.specs.Audits.{HasFed};
+ghost use Rattle.msrp_plan.specs.declared.rows.Row.{Row as TraceRow};
+ghost use Rattle.msrp_report.specs.Lines.{lines_of};
+ghost use Rattle.msrp_report.specs.Reports.{HasCounted, SomeCounted};
 ghost use Rattle.msrp_report.specs.ReportText.{report_text};
 ghost use Rattle.msrp_trace.specs.Reading.{Told, rows_of};
-ghost use Rattle.msrp_trace.specs.Readers.{told_left};
+ghost use Rattle.msrp_engine.specs.Judging.{rows_left};
 ghost use Rattle.msrp_engine.specs.Answered.{Answered, OfText, OfTexts, ReadsBoth};
 ghost use Rattle.msrp_faults.specs.Outcomes.{is_trace_fault, is_audit_fault};
-ghost use Rattle.msrp_engine.specs.Reports.{IsReportOf, IsReported, ReportAnswers, Reports, WritesShown};
+ghost use Rattle.msrp_engine.specs.Reports.{IsReportOf, IsReported, ReportAnswers, Reports, WritesShown, verdict_told};
 
 use crate::audit::write_verdict;
+use crate::judged::{JudgedRows, Judgement};
 use crate::made::Made;
 use crate::reading::settled;
 use crate::whole::write_whole;
+use msrp_audit::Auditor;
 use msrp_faults::CliFault;
 use msrp_levels::Levels;
 use msrp_plan::bytes::{Sink, Source};
 use msrp_plan::{Fault, Plan};
-use msrp_report::{Report, Reporter, write_report};
+use msrp_report::{Counter, Report, write_report};
 use msrp_text::read_plan;
 use msrp_trace::TraceReader;
 use std::alloc::Global;
 use std::io::{Read, Write};
 
-// The report of the rows that a reader has left, if they are a legal run, or else what is found in them. They are judged and
-// counted as they come, and none is read after a faulty one.
+// The report of the rows that were counted, where that is found in them at their end; of a fault there is none.
+fn ended(counter: Counter<'_>, found: Result<(), Fault>) -> Result<Report, Fault>
+    requires { SomeCounted counter }
+    ensures found { verdict_told (Ok result) ≡ Ok found }
+    ensures lines { (rows : List TraceRow) → HasCounted counter.entry rows → IfOk result (λ report. report.lines.items ≡ lines_of counter.entry.plan.now rows) }
+    ensures tasks { IfOk result (λ report. length report.lines.items ≡ length counter.entry.plan.now.tasks) }
+{
+    found?;
+    Ok(counter.end())
+}
+
+// The report of the rows that are left, if they are a legal run, or else what is found in them. They are judged and counted as they come,
+// and none is read after a faulty one.
 #[inline(never)]
 fn report_rows<T: Read>(
-    mut reporter: Reporter<'_>,
-    rows: &mut TraceReader<'_, T>,
+    mut counter: Counter<'_>,
+    rows: &mut JudgedRows<'_, '_, T>,
 ) -> Result<Result<Report, Fault>, CliFault>
-    requires fed { HasReported reporter [] }
-    ensures found { (told : Told) → told_left T.remaining rows.old ≡ Some told
-        → (result ≡ Err CliFault.Read) ⊎ (result ≡ Err CliFault.Memory) ⊎ Reports reporter.entry.plan.now told result }
-    ensures lines { IfOk result (λ found. IfOk found (λ report. length report.lines.items ≡ length reporter.entry.plan.now.tasks)) }
+    requires plan { rows.old.auditor.plan ≡ counter.plan.now }
+    requires fed { HasFed rows.old.auditor [] }
+    requires counted { HasCounted counter [] }
+    ensures found { (told : Told) → rows_left T.remaining rows.old ≡ Some told
+        → (result ≡ Err CliFault.Read) ⊎ (result ≡ Err CliFault.Memory) ⊎ Reports counter.entry.plan.now told result }
+    ensures lines { IfOk result (λ found. IfOk found (λ report. length report.lines.items ≡ length counter.entry.plan.now.tasks)) }
     ensures faults { IfErr result (λ fault. is_trace_fault fault ≡ true) }
 {
     loop {
         if let Some(row) = rows.next_again() {
-            if let Err(fault) = reporter.feed(row) {
-                return Ok(Err(fault));
-            }
+            counter.count(row);
             continue;
         }
-        let Some(row) = rows.next_anew(|core| reporter.auditor().foresee(core))? else {
-            return Ok(reporter.end());
-        };
-        if let Err(fault) = reporter.feed(row) {
-            return Ok(Err(fault));
+        match rows.next_anew()? {
+            Judgement::Legal(row) => counter.count(row),
+            Judgement::Broken(_row, fault) => return Ok(Err(fault)),
+            Judgement::End => return Ok(ended(counter, rows.auditor().end())),
         }
     }
 }
@@ -63,9 +78,11 @@ fn report_all<T: Read>(
     ensures faults { IfErr result (λ fault. is_trace_fault fault ≡ true) }
 {
     let levels = Levels::of(alloc, plan)?;
-    let reporter = Reporter::with_room(alloc, plan, &levels)?;
-    let mut rows = TraceReader::new(alloc, trace, plan)?;
-    let found = report_rows(reporter, &mut rows);
+    let auditor = Auditor::with_room(alloc, plan, &levels)?;
+    let counter = Counter::with_room(alloc, plan, &levels)?;
+    let reader = TraceReader::new(alloc, trace, plan)?;
+    let mut rows = JudgedRows::new(plan, auditor, reader);
+    let found = report_rows(counter, &mut rows);
     drop(rows);
     found
 }

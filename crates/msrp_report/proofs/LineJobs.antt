@@ -12,7 +12,7 @@ use Rattle.msrp_plan.specs.Jobs.{job_at, jobs_of, is_finished}
 use Rattle.msrp_plan.specs.Levels.{greatest, uses}
 use Rattle.msrp_plan.specs.Bounds.{blocked_bound}
 use Rattle.msrp_plan.specs.Blocking.{blocked}
-use Rattle.msrp_plan.specs.Runs.{IsRun, IsRunStart}
+use Rattle.msrp_plan.specs.Runs.{IsRunStart}
 use Rattle.msrp_plan.specs.WellFormed.{IsPlan}
 use Rattle.msrp_plan.specs.declared.ids.JobId.{JobId}
 use Rattle.msrp_plan.specs.declared.ids.TaskId.{TaskId}
@@ -121,6 +121,3 @@ user_is plan g t us l e =
 -- ---- in loops
 pub map_next : {X : Type 0} (f : ℕ → X) (n : ℕ) → map f (range_with_len 0 (n + 1)) ≡ map f (range_with_len 0 n) ++ f n ∷ []
 map_next f n = ap (map f) (range_next n) ∙ map-append f (range_with_len 0 n) (n ∷ [])
-
-pub run_starts : (plan : PlanModel) (rows : List Row) → IsRun plan rows → IsRunStart plan rows
-run_starts plan rows run = let size = run.size in record { size = omega (arith, size); each = run.each }

@@ -1,27 +1,20 @@
 -- A report while the rows come, and at their end.
 use Rattle.std.proofs.Common.{◌≡◌, ℕ, ◌≤◌, ◌+◌, ◌*◌, Bool, true, false, cond, List, [], ◌∷◌, ◌++◌, Option, Some, None, refl, ap, sym, ◌∙◌, subst, length, map, nat_lt, take, drop}
-use Rattle.std.specs.Prelude.{⊤}
 use Rattle.std.specs.List.{All, range_with_len}
-use Rattle.std.specs.declared.result.Result.TheVariants.{Ok}
 use Rattle.std.proofs.lemmas.Bool.{ltb-true}
 use Rattle.std.proofs.lemmas.List.{take-append-drop}
 use Rattle.std.proofs.lemmas.List.Elements.{All-from_recursion}
-use Rattle.msrp_audit.specs.Audits.{answer_of}
-use Rattle.msrp_audit.proofs.Judging.{good_told}
 use Rattle.msrp_plan.specs.Plan.{PlanModel}
 use Rattle.msrp_plan.specs.Runs.{IsRun, IsRunStart}
-use Rattle.msrp_plan.specs.Verdict.{broken, fault_in, fault_or, verdict}
+use Rattle.msrp_plan.specs.Verdict.{broken, fault_in, fault_or}
 use Rattle.msrp_plan.specs.WellFormed.{IsPlan}
-use Rattle.msrp_plan.specs.declared.faults.Fault.{Fault}
 use Rattle.msrp_plan.specs.declared.faults.Rule.{Rule}
 use Rattle.msrp_plan.specs.declared.faults.Rule.TheVariants.{A7}
 use Rattle.msrp_plan.specs.declared.rows.Row.{Row}
-use Rattle.msrp_plan.proofs.Runs.Verdicts.{fault_push, fault_stays, good_is_run, run_before, start_is_good, start_push, unbroken_is_legal}
+use Rattle.msrp_plan.proofs.Runs.Verdicts.{fault_push, run_before, start_is_good, start_push, unbroken_is_legal}
 use Rattle.msrp_report.specs.Lines.{line_of}
-use Rattle.msrp_report.specs.Reports.{HasCounted, HasReported}
 use Rattle.msrp_report.specs.declared.lines.Line.{Line}
-use Rattle.msrp_report.specs.declared.reporter.Reporter.{Reporter}
-use Rattle.msrp_report.proofs.LineJobs.{all_blocked_kept, run_starts, spins_kept}
+use Rattle.msrp_report.proofs.LineJobs.{all_blocked_kept, spins_kept}
 
 -- ---- a row without a fault goes on with the rows
 unfaulty : (b : Bool) (o : Option Rule) (n : ℕ) → fault_or (cond b o (Some A7)) n None ≡ None → (b ≡ true) × (o ≡ None)
@@ -34,33 +27,7 @@ goes_on plan rows r start good =
     let both = unfaulty (nat_lt (length rows) (plan.cores * plan.ticks)) (broken plan rows r) (length rows + 1) (sym (fault_push plan rows r (start_is_good plan rows start)) ∙ good) in
     start_push plan rows r start (ltb-true (length rows) (plan.cores * plan.ticks) both.0) (unbroken_is_legal plan rows r both.1)
 
--- rows before rows without a fault have none
-none_before : (plan : PlanModel) (rows : List Row) (r : Row) (o : Option Fault) → fault_in plan rows ≡ o → fault_in plan (rows ++ r ∷ []) ≡ None → o ≡ None
-none_before plan rows r None e good = refl
-none_before plan rows r (Some f) e good = absurd (cc_none (sym (fault_stays plan rows (r ∷ []) f e) ∙ good))
-  where
-    cc_none : Some f ≡ None → ⊥
-    cc_none h = cc
-
--- so they are counted
-pub counted_before : (r : Reporter) (rows : List Row) (row : Row) → HasReported r rows → fault_in r.plan.now (rows ++ row ∷ []) ≡ None → HasCounted r.counter rows
-counted_before r rows row is good = is.counted (is.fed.fault ∙ none_before r.auditor.plan rows row (fault_in r.auditor.plan rows) refl (ap (λ p. fault_in p (rows ++ row ∷ [])) is.plan ∙ good))
-
-pub good_row : (r : Reporter) (rows : List Row) (row : Row) (good : ⊤) → HasReported r rows → Ok good ≡ answer_of (fault_in r.auditor.plan (rows ++ row ∷ [])) → fault_in r.plan.now (rows ++ row ∷ []) ≡ None
-good_row r rows row good is e = ap (λ p. fault_in p (rows ++ row ∷ [])) (sym is.plan) ∙ good_told _ good e
-
--- a row may be counted after rows that are counted, if it is without a fault
-pub counter_good : (r : Reporter) (rows : List Row) (row : Row) → HasReported r rows → fault_in r.plan.now (rows ++ row ∷ []) ≡ None → fault_in r.counter.plan.now (rows ++ row ∷ []) ≡ None
-counter_good r rows row is good = ap (λ p. fault_in p (rows ++ row ∷ [])) is.counted_plan ∙ good
-
 -- ---- at the end
-pub ends_good : (r : Reporter) (rows : List Row) (good : ⊤) → HasReported r rows → Ok good ≡ answer_of (verdict r.auditor.plan rows) → IsRun r.plan.now rows
-ends_good r rows good is e = good_is_run r.plan.now rows (ap (λ p. verdict p rows) (sym is.plan) ∙ good_told _ good e)
-
--- a legal run has no fault, so it is counted
-pub run_counted : (r : Reporter) (rows : List Row) → HasReported r rows → IsRun r.plan.now rows → HasCounted r.counter rows
-run_counted r rows is run = is.counted (is.fed.fault ∙ (ap (λ p. fault_in p rows) is.plan ∙ start_is_good r.plan.now rows (run_starts r.plan.now rows run)))
-
 -- the lines of rows without a fault keep the bounds
 pub spins_bounded : (plan : PlanModel) (rows : List Row) (lines : List Line) (n : ℕ) → IsPlan plan → IsRunStart plan rows → n ≡ length plan.tasks → lines ≡ map (line_of plan rows) (range_with_len 0 n) → All (λ (l : Line). l.worst_spin ≤ l.spin_bound) lines
 spins_bounded plan rows lines n ok start all e =

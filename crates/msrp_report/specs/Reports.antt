@@ -1,12 +1,10 @@
 -- A report while the rows come.
 use Rattle.std.specs.Prelude.{List, None, length, vec_capacity, ◌≡◌, ◌≤◌, ◌++◌, ◌∷◌, []}
-use Rattle.msrp_audit.specs.Audits.{HasFed}
 use Rattle.msrp_plan.specs.Verdict.{fault_in}
 use Rattle.msrp_plan.specs.declared.rows.Row.{Row}
 use Rattle.msrp_plan.specs.WellFormed.{IsPlan}
 use Rattle.msrp_report.specs.Inside.Tallies.{HasTallied}
 use Rattle.msrp_report.specs.declared.counter.Counter.{Counter}
-use Rattle.msrp_report.specs.declared.reporter.Reporter.{Reporter}
 
 -- these rows were counted, which have no fault: what they tell of each job is kept
 pub record HasCounted (c : Counter) (rows : List Row) : Type 0 where
@@ -23,14 +21,3 @@ SomeCounted c = (rows : List Row) × HasCounted c rows
 -- some rows were, and with this one more they have no fault
 abbrev pub MayCount : Counter → Row → Type 0
 MayCount c r = (rows : List Row) × HasCounted c rows × (fault_in c.plan.now (rows ++ r ∷ []) ≡ None)
-
--- these rows were fed: the auditor has judged them, and while they have no fault they are counted
-pub record HasReported (r : Reporter) (rows : List Row) : Type 0 where
-  pub plan : r.auditor.plan ≡ r.plan.now
-  pub counted_plan : r.counter.plan.now ≡ r.plan.now
-  pub fed : HasFed r.auditor rows
-  pub counted : r.auditor.fault ≡ None → HasCounted r.counter rows
-
--- some rows were
-abbrev pub SomeReported : Reporter → Type 0
-SomeReported r = (rows : List Row) × HasReported r rows

@@ -1,7 +1,7 @@
 //! What happened to each task in a trace, beside what can happen in any run: response times, spin delay, blocking.
 //!
 //! [`report`] judges a whole trace and makes its [`Report`], with a [`Line`] for each task. A [`Counter`] counts rows as they come that
-//! somebody else judges, a [`Reporter`] judges them too, and [`write_report`] writes a report as text. [`worked`] has examples.
+//! somebody else judges, and [`write_report`] writes a report as text. [`worked`] has examples.
 #![tactic(auto)]
 
 mod bounds;
@@ -10,7 +10,6 @@ mod counts;
 mod judging;
 mod lines;
 mod numbers;
-mod reporter;
 mod tallies;
 mod totals;
 pub mod worked;
@@ -19,5 +18,4 @@ mod writing;
 pub use counter::Counter;
 pub use judging::{ReportError, report};
 pub use lines::{Line, Report};
-pub use reporter::Reporter;
 pub use writing::write_report;

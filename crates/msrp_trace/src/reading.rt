@@ -339,7 +339,8 @@ impl<'a, R: Read> TraceReader<'a, R> {
         met
     }
 
-    /// The same behind [`TraceReader::core_ahead`] of that tick: the text of the tick isn't compared again, and no more is read.
+    /// Whether the next row is one of the core in that tick, with the text that is kept of it, where [`TraceReader::core_ahead`] has told a core in
+    /// that tick: the text of the tick isn't compared again, and no more is read.
     #[inline(always)]
     pub fn comes_behind(&mut self, tick: u32, texts: &RowTexts<'_>, core: CoreId) -> bool
         requires { IsAtTick tick self.old }
@@ -407,10 +408,10 @@ impl<'a, R: Read> TraceReader<'a, R> {
         self.core_guessed()
     }
 
-    /// The next row, where it is its core's last one again, in another tick, as far as that one is kept. It is met as
-    /// [`TraceReader::meets`] meets a row; where it isn't met nothing is taken.
+    // The next row, where it is its core's last one again, in another tick, as far as that one is kept. It is met as
+    // `meets` meets a row; where it isn't met nothing is taken.
     #[inline(always)]
-    pub fn next_again(&mut self) -> Option<Row>
+    fn next_again(&mut self) -> Option<Row>
         ensures taken { IfSome result (λ row. (told : Told) → told_left R.remaining self.old ≡ Some told → GivesNext told (Ok (Some row)) (told_left R.remaining self.new)) }
         ensures kept { result ≡ None → (told : Told) → told_left R.remaining self.old ≡ Some told → told_left R.remaining self.new ≡ Some told }
         ensures same { has_failed self.new ≡ has_failed self.old }
@@ -464,10 +465,9 @@ impl<'a, R: Read> TraceReader<'a, R> {
         self.next_anew(foresee)
     }
 
-    /// The next row, as by [`TraceReader::next_foreseen`], but it isn't looked first whether the core does its last row again: that is for
-    /// [`TraceReader::next_again`].
+    // The next row, as by `next_foreseen`, but it isn't looked first whether the core does its last row again.
     #[inline(never)]
-    pub fn next_anew<F: FnOnce(CoreId) -> Option<Row>>(
+    fn next_anew<F: FnOnce(CoreId) -> Option<Row>>(
         &mut self,
         foresee: F,
     ) -> Result<Option<Row>, TraceError>

@@ -2,8 +2,8 @@
 use Rattle.std.proofs.Common.{◌≡◌, ◌++◌, ◌∷◌, [], ℕ, List, Option, Some, ap, subst, ◌∙◌}
 use Rattle.std.specs.declared.result.Result.{Result}
 use Rattle.std.specs.declared.result.Result.TheVariants.{Ok}
-use Rattle.msrp_audit.specs.Audits.{IsBroken}
 use Rattle.msrp_plan.specs.Plan.{PlanModel}
+use Rattle.msrp_plan.specs.Verdict.{fault_in}
 use Rattle.msrp_plan.specs.declared.faults.Fault.{Fault}
 use Rattle.msrp_plan.specs.declared.rows.Row.{Row}
 use Rattle.msrp_trace.specs.Reading.{Told}
@@ -22,7 +22,7 @@ broken-read remaining begun old new rows result row fault told came next is know
 
 -- it breaks that rule after them
 pub broken-is : {T : Type 0} (remaining : T → Option (List ℕ)) (begun old new : JudgedRows T) (rows : List Row) (result : Result Judgement TraceError) (row : Row) (fault : Fault) (plan : PlanModel)
-    → HaveCome remaining begun old rows → Gives remaining old new rows result → result ≡ Ok (Broken row fault) → begun.auditor.plan ≡ plan → IsBroken plan rows row fault new.due new.auditor
+    → HaveCome remaining begun old rows → Gives remaining old new rows result → result ≡ Ok (Broken row fault) → begun.auditor.plan ≡ plan → fault_in plan (rows ++ row ∷ []) ≡ Some fault
 broken-is remaining begun old new rows result row fault plan came next is same =
-    let judged : IsBroken old.auditor.plan rows row fault new.due new.auditor = subst (λ r. IsJudged old.auditor.plan rows r new) is next.judged in
-    subst (λ (p : PlanModel). IsBroken p rows row fault new.due new.auditor) (came.plan ∙ same) judged
+    let judged : fault_in old.auditor.plan (rows ++ row ∷ []) ≡ Some fault = subst (λ r. IsJudged old.auditor.plan rows r new) is next.judged in
+    subst (λ (p : PlanModel). fault_in p (rows ++ row ∷ []) ≡ Some fault) (came.plan ∙ same) judged

@@ -1,24 +1,25 @@
-use Rattle.std.proofs.Common.{rules, ◌≡◌, Err, refl, sym, subst}
+use Rattle.std.proofs.Common.{rules, ◌≡◌, Err, Some, refl, sym, subst}
 use Rattle.msrp_plan.specs.Plan.{PlanModel}
 use Rattle.msrp_text.specs.Reading.{csv_records}
 use Rattle.msrp_trace.specs.Reading.{rows_of}
+use Rattle.msrp_trace.specs.Readers.{told_left}
 use Rattle.msrp_faults.specs.Outcomes.{trace_fault_of}
 use Rattle.msrp_trace.proofs.ReadThrough.{opened}
 use Rattle.msrp_engine.proofs.Judging.{unopened-found}
 use Rattle.msrp_engine.proofs.Reporting.{IsReported, reported-error}
 use Rattle.msrp_engine.proofs.report.report_all.Goals as goal
 
-pub returns-in_err-rows-clause-found : goal.returns-in_err-rows-clause-found
-returns-in_err-rows-clause-found g c = λ bytes known.
+pub returns-in_err-reader-clause-found : goal.returns-in_err-reader-clause-found
+returns-in_err-reader-clause-found g c = λ bytes known.
     let plan = c.args.plan.now in
     let told = rows_of plan (csv_records bytes) in
-    let error = c.in_err-rows.field-0.0 in
-    let gives : c.from_residual-in_err-rows.result ≡ Err (trace_fault_of error) = search rules in
-    let found = unopened-found g.T.Read.remaining plan (csv_records bytes) error (Err (trace_fault_of error)) (c.in_err-rows.ensures.opens bytes known) refl in
+    let error = c.in_err-reader.field-0.0 in
+    let gives : c.from_residual-in_err-reader.result ≡ Err (trace_fault_of error) = search rules in
+    let found = unopened-found g.T.Read.remaining plan (csv_records bytes) error (Err (trace_fault_of error)) (c.in_err-reader.ensures.opens bytes known) refl in
     subst (IsReported plan told) (sym gives) (reported-error plan told (trace_fault_of error) found)
 
 pub returns-clause-found : goal.returns-clause-found
 returns-clause-found g c = λ bytes known.
     let told = rows_of c.args.plan.now (csv_records bytes) in
-    let begun = opened g.T.Read.remaining c.args.plan.now (csv_records bytes) c.in_ok-rows.rows (c.in_ok-rows.ensures.opens bytes known) in
-    subst (λ (p : PlanModel). IsReported p told c.report_rows-found.result) c.in_ok-reporter.ensures.plan (c.report_rows-found.ensures.found told begun)
+    let begun = opened g.T.Read.remaining c.args.plan.now (csv_records bytes) c.in_ok-reader.reader (c.in_ok-reader.ensures.opens bytes known) in
+    subst (λ (p : PlanModel). IsReported p told c.report_rows-found.result) c.in_ok-counter.ensures.plan (c.report_rows-found.ensures.found told (subst (λ r. told_left g.T.Read.remaining r ≡ Some told) (sym c.new-rows.ensures.rows) begun))

@@ -1,95 +1,88 @@
-use Rattle.std.proofs.Common.{rules, ◌≡◌, ◌++◌, ◌∷◌, [], ◌+◌, ◌<◌, ◌*◌, Ok, Err, Some, length, refl, ap, sym, subst, ◌∙◌, length-append}
+use Rattle.std.proofs.Common.{rules, ◌≡◌, ◌++◌, ◌∷◌, [], ◌*◌, ◌-◌, ◌<◌, List, Ok, Err, IfOk, None, refl, ap, sym, subst, ◌∙◌}
+use Rattle.msrp_audit.specs.Audits.{AuditorModel}
 use Rattle.msrp_plan.specs.Plan.{PlanModel}
 use Rattle.msrp_plan.specs.Verdict.{fault_in}
+use Rattle.msrp_plan.specs.declared.rows.Row.{Row}
 use Rattle.msrp_faults.specs.Outcomes.{trace_fault_of}
-use Rattle.msrp_trace.proofs.ReadThrough.{none-read, read-row, read-whole}
-use Rattle.msrp_engine.proofs.Judging.{fault-answer, fault-found, fewer-left, good-answer, refusal-found, turn-left, verdict-found}
+use Rattle.msrp_report.specs.Lines.{lines_of}
+use Rattle.msrp_report.specs.declared.lines.Report.{Report}
+use Rattle.msrp_engine.specs.declared.judged.Judgement.TheVariants.{Legal}
 use Rattle.msrp_engine.proofs.Reporting.{IsReported, reported-end, reported-error, reported-fault}
+use Rattle.msrp_engine.proofs.RowsJudged.{Gives, broken-found, came-good, end-found, error-found, fewer-turns, none-again, none-came, row-came}
 use Rattle.msrp_engine.proofs.report.report_rows.Goals as goal
 
 pub loop-row-init : goal.loop-row-init
-loop-row-init g c = ([], refl, c.requires.fed, refl, λ told known. none-read told _ known)
+loop-row-init g c = ([], none-came g.T.Read.remaining c.args.rows.now c.requires.fed, refl, c.requires.counted)
 
 -- ---- a row that its core makes again
-pub returns-in-Err-clause-found : goal.returns-in-Err-clause-found
-returns-in-Err-clause-found g c = λ told known.
+pub count-requires : goal.count-requires
+count-requires g c =
     let i = c.loop-row.invariant in
-    let more = read-row told i.0 _ _ (Ok (Some c.in-Some.row)) c.in-Some.row (i.4 told known) c.in-Some.ensures.taken refl in
-    let fault = fault-answer _ c.in-Err.fault (c.in-Err.ensures.answer i.0 i.2) in
-    subst (λ (p : PlanModel). IsReported p told (Ok (Err c.in-Err.fault))) i.1 (reported-fault c.loop-row.reporter.plan.now told c.in-Err.fault (fault-found c.loop-row.reporter.plan.now told (i.0 ++ c.in-Some.row ∷ []) _ c.in-Err.fault more.whole fault))
+    let next : Gives g.T.Read.remaining c.loop-row.rows c.next_again.new.self i.0 (Ok (Legal c.in-Some.row)) = record { plan = c.next_again.ensures.plan; answers = c.in-Some.ensures.gives; judged = c.in-Some.ensures.judged i.0 i.1.fed i.1.fault } in
+    let more = row-came g.T.Read.remaining c.args.rows.now c.loop-row.rows c.next_again.new.self i.0 (Ok (Legal c.in-Some.row)) c.in-Some.row i.1 next refl in
+    (i.0, i.3, subst (λ (p : PlanModel). fault_in p (i.0 ++ c.in-Some.row ∷ []) ≡ None) (c.requires.plan ∙ sym i.2) (came-good g.T.Read.remaining _ _ _ more))
 
 pub loop-row-smaller-in-Some : goal.loop-row-smaller-in-Some
 loop-row-smaller-in-Some g c =
     let i = c.loop-row.invariant in
-    let old = i.2 in
-    let new = c.feed.ensures.fed i.0 i.2 in
-    let good = good-answer _ c.in_default-feed.field-0 (c.in_default-feed.ensures.answer i.0 i.2) in
-    let left = turn-left c.loop-row.reporter.plan.now i.0 c.in-Some.row i.3 good in
-    let same : c.feed.new.self.plan.now ≡ c.loop-row.reporter.plan.now = ap (λ p. p.now) c.feed.ensures.plan in
-    let was : c.loop-row.reporter.auditor.fed ≡ length i.0 = old.fed.count (old.fed.fault ∙ (ap (λ p. fault_in p i.0) old.plan ∙ i.3)) in
-    let now : c.feed.new.self.auditor.fed ≡ length (i.0 ++ c.in-Some.row ∷ []) = new.fed.count (new.fed.fault ∙ (ap (λ p. fault_in p (i.0 ++ c.in-Some.row ∷ [])) (new.plan ∙ same) ∙ good)) in
-    fewer-left c.loop-row.reporter.auditor.plan c.feed.new.self.auditor.plan c.loop-row.reporter.auditor.fed c.feed.new.self.auditor.fed (new.plan ∙ (same ∙ sym old.plan)) (now ∙ (length-append i.0 (c.in-Some.row ∷ []) ∙ ap (λ n. n + 1) (sym was)))
-    (subst (λ n. n < c.loop-row.reporter.auditor.plan.cores * c.loop-row.reporter.auditor.plan.ticks) (sym was) (subst (λ (p : PlanModel). length i.0 < p.cores * p.ticks) (sym old.plan) left))
+    let next : Gives g.T.Read.remaining c.loop-row.rows c.next_again.new.self i.0 (Ok (Legal c.in-Some.row)) = record { plan = c.next_again.ensures.plan; answers = c.in-Some.ensures.gives; judged = c.in-Some.ensures.judged i.0 i.1.fed i.1.fault } in
+    fewer-turns g.T.Read.remaining c.args.rows.now c.loop-row.rows c.next_again.new.self i.0 (Ok (Legal c.in-Some.row)) c.in-Some.row i.1 next refl
 
 pub loop-row-preserved-in-Some : goal.loop-row-preserved-in-Some
 loop-row-preserved-in-Some g c =
     let i = c.loop-row.invariant in
-    let good = good-answer _ c.in_default-feed.field-0 (c.in_default-feed.ensures.answer i.0 i.2) in (
-      i.0 ++ c.in-Some.row ∷ [],
-      ap (λ p. p.now) c.feed.ensures.plan ∙ i.1,
-      c.feed.ensures.fed i.0 i.2,
-      ap (λ p. fault_in p.now (i.0 ++ c.in-Some.row ∷ [])) c.feed.ensures.plan ∙ good,
-      λ told known. read-row told i.0 _ _ (Ok (Some c.in-Some.row)) c.in-Some.row (i.4 told known) c.in-Some.ensures.taken refl,
-    )
+    let next : Gives g.T.Read.remaining c.loop-row.rows c.next_again.new.self i.0 (Ok (Legal c.in-Some.row)) = record { plan = c.next_again.ensures.plan; answers = c.in-Some.ensures.gives; judged = c.in-Some.ensures.judged i.0 i.1.fed i.1.fault } in
+    let more = row-came g.T.Read.remaining c.args.rows.now c.loop-row.rows c.next_again.new.self i.0 (Ok (Legal c.in-Some.row)) c.in-Some.row i.1 next refl in
+    let good = subst (λ (p : PlanModel). fault_in p (i.0 ++ c.in-Some.row ∷ []) ≡ None) (c.requires.plan ∙ sym i.2) (came-good g.T.Read.remaining _ _ _ more) in
+    (i.0 ++ c.in-Some.row ∷ [], more, ap (λ p. p.now) c.count.ensures.plan ∙ i.2, c.count.ensures.counted i.0 i.3 good)
 
 -- ---- any other
-pub returns-in_err-row-clause-found : goal.returns-in_err-row-clause-found
-returns-in_err-row-clause-found g c = λ told known.
-    let i = c.loop-row.invariant in
-    let error = c.in_err-row.field-0.0 in
-    let gives : c.from_residual.result ≡ Err (trace_fault_of error) = search rules in
-    let found = refusal-found c.loop-row.reporter.plan.now told i.0 _ _ c.next_anew.result error (Err (trace_fault_of error)) (i.4 told known) (λ t h. c.next_anew.ensures.next t (c.next_again.ensures.kept c.in_default.is t h)) (cc) i.3 refl in
-    subst (λ (p : PlanModel). IsReported p told c.from_residual.result) i.1 (subst (IsReported c.loop-row.reporter.plan.now told) (sym gives) (reported-error c.loop-row.reporter.plan.now told (trace_fault_of error) found))
-
-pub returns-in_default-2-clause-found : goal.returns-in_default-2-clause-found
-returns-in_default-2-clause-found g c = λ told known.
-    let i = c.loop-row.invariant in
-    let whole = verdict-found c.loop-row.reporter.plan.now told i.0 _ _ c.next_anew.result (i.4 told known) (λ t h. c.next_anew.ensures.next t (c.next_again.ensures.kept c.in_default.is t h)) (cc) i.3 in
-    let read = sym (read-whole told i.0 _ _ c.next_anew.result (i.4 told known) (λ t h. c.next_anew.ensures.next t (c.next_again.ensures.kept c.in_default.is t h)) (cc)).0 in
-    subst (λ (p : PlanModel). IsReported p told (Ok c.end.result)) i.1 (reported-end c.loop-row.reporter.plan.now told i.0 c.end.result whole (c.end.ensures.run i.0 i.2) (λ f. c.end.ensures.fault i.0 f i.2) (c.end.ensures.lines i.0 i.2) read)
-
-pub returns-in-Err-feed-clause-found : goal.returns-in-Err-feed-clause-found
-returns-in-Err-feed-clause-found g c = λ told known.
-    let i = c.loop-row.invariant in
-    let row = c.in-Some-2.row in
-    let more = read-row told i.0 _ _ c.next_anew.result row (i.4 told known) (λ t h. c.next_anew.ensures.next t (c.next_again.ensures.kept c.in_default.is t h)) (c.in_ok-row.was ∙ ap (λ x. Ok x) c.in-Some-2.is) in
-    let fault = fault-answer _ c.in-Err-feed.fault (c.in-Err-feed.ensures.answer i.0 i.2) in
-    subst (λ (p : PlanModel). IsReported p told (Ok (Err c.in-Err-feed.fault))) i.1 (reported-fault c.loop-row.reporter.plan.now told c.in-Err-feed.fault (fault-found c.loop-row.reporter.plan.now told (i.0 ++ row ∷ []) _ c.in-Err-feed.fault more.whole fault))
-
 pub loop-row-smaller : goal.loop-row-smaller
 loop-row-smaller g c =
     let i = c.loop-row.invariant in
-    let row = c.in-Some-2.row in
-    let feed = c.feed-in-loop-row in
-    let old = i.2 in
-    let new = feed.ensures.fed i.0 i.2 in
-    let good = good-answer _ c.in_default-feed-2.field-0 (c.in_default-feed-2.ensures.answer i.0 i.2) in
-    let left = turn-left c.loop-row.reporter.plan.now i.0 row i.3 good in
-    let same : feed.new.self.plan.now ≡ c.loop-row.reporter.plan.now = ap (λ p. p.now) feed.ensures.plan in
-    let was : c.loop-row.reporter.auditor.fed ≡ length i.0 = old.fed.count (old.fed.fault ∙ (ap (λ p. fault_in p i.0) old.plan ∙ i.3)) in
-    let now : feed.new.self.auditor.fed ≡ length (i.0 ++ row ∷ []) = new.fed.count (new.fed.fault ∙ (ap (λ p. fault_in p (i.0 ++ row ∷ [])) (new.plan ∙ same) ∙ good)) in
-    fewer-left c.loop-row.reporter.auditor.plan feed.new.self.auditor.plan c.loop-row.reporter.auditor.fed feed.new.self.auditor.fed (new.plan ∙ (same ∙ sym old.plan)) (now ∙ (length-append i.0 (row ∷ []) ∙ ap (λ n. n + 1) (sym was)))
-    (subst (λ n. n < c.loop-row.reporter.auditor.plan.cores * c.loop-row.reporter.auditor.plan.ticks) (sym was) (subst (λ (p : PlanModel). length i.0 < p.cores * p.ticks) (sym old.plan) left))
+    let e = c.next_anew.ensures in
+    let came = none-again g.T.Read.remaining c.args.rows.now c.loop-row.rows c.next_again.new.self i.0 i.1 (c.next_again.ensures.same c.in_default.is) (c.next_again.ensures.kept c.in_default.is) in
+    let fewer = fewer-turns g.T.Read.remaining _ _ _ i.0 c.next_anew.result c.in-Legal.row came (record { plan = e.plan; answers = e.gives; judged = e.judged i.0 came.fed came.fault }) (c.in_ok-row.was ∙ ap (λ x. Ok x) c.in-Legal.is) in
+    subst (λ (a : AuditorModel). c.next_anew.new.self.auditor.plan.cores * c.next_anew.new.self.auditor.plan.ticks - c.next_anew.new.self.auditor.fed < a.plan.cores * a.plan.ticks - a.fed) (c.next_again.ensures.same c.in_default.is) fewer
 
 pub loop-row-preserved : goal.loop-row-preserved
 loop-row-preserved g c =
     let i = c.loop-row.invariant in
-    let row = c.in-Some-2.row in
-    let feed = c.feed-in-loop-row in
-    let good = good-answer _ c.in_default-feed-2.field-0 (c.in_default-feed-2.ensures.answer i.0 i.2) in (
-      i.0 ++ row ∷ [],
-      ap (λ p. p.now) feed.ensures.plan ∙ i.1,
-      feed.ensures.fed i.0 i.2,
-      ap (λ p. fault_in p.now (i.0 ++ row ∷ [])) feed.ensures.plan ∙ good,
-      λ told known. read-row told i.0 _ _ c.next_anew.result row (i.4 told known) (λ t h. c.next_anew.ensures.next t (c.next_again.ensures.kept c.in_default.is t h)) (c.in_ok-row.was ∙ ap (λ x. Ok x) c.in-Some-2.is),
-    )
+    let e = c.next_anew.ensures in
+    let came = none-again g.T.Read.remaining c.args.rows.now c.loop-row.rows c.next_again.new.self i.0 i.1 (c.next_again.ensures.same c.in_default.is) (c.next_again.ensures.kept c.in_default.is) in
+    let more = row-came g.T.Read.remaining _ _ _ i.0 c.next_anew.result c.in-Legal.row came (record { plan = e.plan; answers = e.gives; judged = e.judged i.0 came.fed came.fault }) (c.in_ok-row.was ∙ ap (λ x. Ok x) c.in-Legal.is) in
+    let good = subst (λ (p : PlanModel). fault_in p (i.0 ++ c.in-Legal.row ∷ []) ≡ None) (c.requires.plan ∙ sym i.2) (came-good g.T.Read.remaining _ _ _ more) in
+    (i.0 ++ c.in-Legal.row ∷ [], more, ap (λ p. p.now) c.count-in-Legal.ensures.plan ∙ i.2, c.count-in-Legal.ensures.counted i.0 i.3 good)
+
+pub returns-in_err-row-clause-found : goal.returns-in_err-row-clause-found
+returns-in_err-row-clause-found g c = λ told known.
+    let i = c.loop-row.invariant in
+    let e = c.next_anew.ensures in
+    let error = c.in_err-row.field-0.0 in
+    let came = none-again g.T.Read.remaining c.args.rows.now c.loop-row.rows c.next_again.new.self i.0 i.1 (c.next_again.ensures.same c.in_default.is) (c.next_again.ensures.kept c.in_default.is) in
+    let gives : c.from_residual.result ≡ Err (trace_fault_of error) = search rules in
+    let found = error-found g.T.Read.remaining _ _ _ i.0 c.next_anew.result error (Err (trace_fault_of error)) told came (record { plan = e.plan; answers = e.gives; judged = e.judged i.0 came.fed came.fault }) (cc) known refl in
+    subst (λ (p : PlanModel). IsReported p told c.from_residual.result) c.requires.plan (subst (IsReported c.args.rows.now.auditor.plan told) (sym gives) (reported-error c.args.rows.now.auditor.plan told (trace_fault_of error) found))
+
+pub returns-in-Broken-clause-found : goal.returns-in-Broken-clause-found
+returns-in-Broken-clause-found g c = λ told known.
+    let i = c.loop-row.invariant in
+    let e = c.next_anew.ensures in
+    let came = none-again g.T.Read.remaining c.args.rows.now c.loop-row.rows c.next_again.new.self i.0 i.1 (c.next_again.ensures.same c.in_default.is) (c.next_again.ensures.kept c.in_default.is) in
+    let found = broken-found g.T.Read.remaining _ _ _ i.0 c.next_anew.result c.in-Broken._row c.in-Broken.fault told came (record { plan = e.plan; answers = e.gives; judged = e.judged i.0 came.fed came.fault }) (c.in_ok-row.was ∙ ap (λ x. Ok x) c.in-Broken.is) known in
+    subst (λ (p : PlanModel). IsReported p told (Ok (Err c.in-Broken.fault))) c.requires.plan (reported-fault c.args.rows.now.auditor.plan told c.in-Broken.fault found)
+
+pub ended-requires : goal.ended-requires
+ended-requires g c = (c.loop-row.invariant.0, c.loop-row.invariant.3)
+
+pub returns-in-End-clause-found : goal.returns-in-End-clause-found
+returns-in-End-clause-found g c = λ told known.
+    let i = c.loop-row.invariant in
+    let e = c.next_anew.ensures in
+    let came = none-again g.T.Read.remaining c.args.rows.now c.loop-row.rows c.next_again.new.self i.0 i.1 (c.next_again.ensures.same c.in_default.is) (c.next_again.ensures.kept c.in_default.is) in
+    let whole = end-found g.T.Read.remaining _ _ _ i.0 c.next_anew.result told came (record { plan = e.plan; answers = e.gives; judged = e.judged i.0 came.fed came.fault }) (c.in_ok-row.was ∙ ap (λ x. Ok x) c.in-End.is) known in
+    let found = whole.2 ∙ ap (λ x. Ok x) (sym (rw c.auditor.ensures at c.end.ensures i.0 whole.0)) in
+    let lines : IfOk c.ended.result (λ (report : Report). report.lines.items ≡ lines_of c.args.rows.now.auditor.plan told.rows) =
+    subst (λ (p : PlanModel). IfOk c.ended.result (λ (report : Report). report.lines.items ≡ lines_of p told.rows)) (i.2 ∙ sym c.requires.plan)
+    (subst (λ (xs : List Row). IfOk c.ended.result (λ (report : Report). report.lines.items ≡ lines_of c.loop-row.counter.plan.now xs)) (sym whole.1) (c.ended.ensures.lines i.0 i.3)) in
+    subst (λ (p : PlanModel). IsReported p told (Ok c.ended.result)) c.requires.plan (reported-end c.args.rows.now.auditor.plan told c.end.result c.ended.result found c.ended.ensures.found lines)

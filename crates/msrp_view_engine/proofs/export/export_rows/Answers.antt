@@ -53,7 +53,7 @@ returns-in-Broken-clause-wrote g c = λ told known.
     let few = few-rows plan i.0 (subst (λ (p : PlanModel). IsPlan p) i.2 i.4.plan) i.5 in
     let last = subst (λ x. Wrote g.W.Write.contents c.loop-row.out c.fault.new.out (fault_text x plan i.0 f.rule (Some r))) i.3
     (subst (λ (p : PlanModel). Wrote g.W.Write.contents c.loop-row.out c.fault.new.out (fault_text c.loop-row.exporter.format p i.0 f.rule (Some r))) i.2 (c.fault.ensures i.0 i.4 few)) in
-    subst (Wrote g.W.Write.contents c.args.out.now c.fault.new.out) (faulty-text c.args.format plan told.rows i.0 more.rest r f more.whole good broken.fault) (wrote-more _ _ _ _ _ _ i.6 last)
+    subst (Wrote g.W.Write.contents c.args.out.now c.fault.new.out) (faulty-text c.args.format plan told.rows i.0 more.rest r f more.whole good broken) (wrote-more _ _ _ _ _ _ i.6 last)
 
 pub loop-row-smaller : goal.loop-row-smaller
 loop-row-smaller g c =

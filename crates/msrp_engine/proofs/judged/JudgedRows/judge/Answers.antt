@@ -5,8 +5,3 @@ pub invariant_of-self-clause-known : goal.invariant_of-self-clause-known
 invariant_of-self-clause-known g c =
     let j = c.args.self.now in
     keeps_same j.rows.version j.auditor.plan c.judge.new.self.plan j.auditor.cores c.judge.new.self.cores j.texts j.whole c.judge.ensures.plan c.judge.ensures.cores j.known
-
-pub invariant_of-self-in-Err-clause-known : goal.invariant_of-self-in-Err-clause-known
-invariant_of-self-in-Err-clause-known g c =
-    let j = c.args.self.now in
-    keeps_same j.rows.version j.auditor.plan c.judge.new.self.plan j.auditor.cores c.judge.new.self.cores j.texts j.whole c.judge.ensures.plan c.judge.ensures.cores j.known

@@ -1,11 +1,10 @@
-use Rattle.std.proofs.Common.{◌≡◌, Some, refl, sym, ap, ◌∙◌, subst}
+use Rattle.std.proofs.Common.{◌≡◌, Some, sym, ap, ◌∙◌, subst}
 use Rattle.msrp_audit.specs.Audits.{AuditorModel}
 use Rattle.msrp_plan.specs.declared.rows.Row.{Row}
 use Rattle.msrp_plan.specs.Stretches.{in_tick}
 use Rattle.msrp_trace.specs.Laws.{as_read}
-use Rattle.msrp_trace.specs.Readers.{BeginsAt, HasReadIn}
-use Rattle.msrp_trace.specs.Texts.{text_of_core}
-use Rattle.msrp_engine.specs.Inside.Kept.{IsKept, KeepsKnown}
+use Rattle.msrp_trace.specs.Readers.{BeginsAt}
+use Rattle.msrp_engine.specs.Inside.Kept.{KeepsKnown}
 use Rattle.msrp_engine.specs.Judging.{rows_left}
 use Rattle.msrp_engine.specs.declared.judged.JudgedRows.{JudgedRows}
 use Rattle.msrp_engine.proofs.KeptTexts.{as_due, keeps_same}
@@ -43,17 +42,3 @@ returns-clause-read g c = λ told rows known begins awaits now e.
       | else-self-core-via-else-self-core w ↦ subst (λ (j : JudgedRows g.row.T.Denot). rows_left g.T.Read.remaining j ≡ Some told) (sym w.self-is) known
     ] in
     c.read_due.ensures.read told left here e
-
-pub returns-then-comes_behind-clause-lines : goal.returns-then-comes_behind-clause-lines
-returns-then-comes_behind-clause-lines g c = λ text read.
-    let j = c.args.self.now in
-    let kept = subst (λ p. IsKept j.rows.version p (text_of_core j.texts c.args.core.0) c.args.due) (sym j.plan) (c.requires.kept c.if-self-core.true) in
-    c.comes_behind.ensures.lines (in_tick c.args.tick (as_read j.rows.version c.args.due)) text (record { tick = refl; whole = kept.whole c.args.tick c.requires.short; text = kept.is }) read
-
-pub returns-clause-lines : goal.returns-clause-lines
-returns-clause-lines g c = λ text read.
-    let left : HasReadIn g.T.Read.remaining text c.else-self-core.self.rows = elim c.else-self-core.branch [
-      | else-self-core-via-then-self-core+else-comes_behind w ↦ subst (λ (j : JudgedRows g.row.T.Denot). HasReadIn g.T.Read.remaining text j.rows) (sym w.self-is) (w.comes_behind.ensures.lines_still w.if-comes_behind.false text read)
-      | else-self-core-via-else-self-core w ↦ subst (λ (j : JudgedRows g.row.T.Denot). HasReadIn g.T.Read.remaining text j.rows) (sym w.self-is) read
-    ] in
-    c.read_due.ensures.lines text left

@@ -1,7 +1,5 @@
-use Rattle.std.proofs.Common.{Ok, ap, sym, ◌∙◌, subst}
-use Rattle.std.proofs.Math.Bool.{true≢false}
+use Rattle.std.proofs.Common.{sym, ◌∙◌, subst}
 use Rattle.msrp_audit.specs.Audits.{IsOutOfTurn}
-use Rattle.msrp_trace.specs.Readers.{HasReadBehind}
 use Rattle.msrp_engine.specs.Inside.Kept.{KeepsKnown}
 use Rattle.msrp_engine.proofs.judged.JudgedRows.read.Goals as goal
 
@@ -11,12 +9,4 @@ invariant_of-self-clause-known g c = let j = c.args.self.now in subst (λ v. Kee
 pub returns-clause-judged : goal.returns-clause-judged
 returns-clause-judged g c = λ rows fed none.
     let out : IsOutOfTurn c.args.self.now.auditor.plan rows c.in-Some.row = λ left. sym (c.is_in_turn.ensures.turn rows fed none left) ∙ c.if-is_in_turn.false in
-    record {
-      fault = c.fault_out_of_turn.ensures rows c.in-Some.row fed none out;
-      turn = λ left turn. absurd (true≢false (sym turn ∙ out left));
-      out = λ _. (fed, none);
-    }
-
-pub returns-clause-lines : goal.returns-clause-lines
-returns-clause-lines g c = λ text read.
-    subst (λ x. HasReadBehind g.T.Read.remaining text x c.next_row.new.self) (c.in_ok-row.was ∙ ap (λ x. Ok x) c.in-Some.is) (c.next_row.ensures.lines text read)
+    c.fault_out_of_turn.ensures rows c.in-Some.row fed none out
