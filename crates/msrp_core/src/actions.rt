@@ -75,6 +75,7 @@ impl<'a> Jobs<'a> {
     }
 
     // A unit of work.
+    #[inline(always)]
     fn work(&mut self, tick: u32, job: JobId) -> Row
         requires { CanAct self.old job Op.Run }
         ensures acts { Acts self.old self.new job tick result }
@@ -86,6 +87,7 @@ impl<'a> Jobs<'a> {
     }
 
     // A lock of a local resource.
+    #[inline(always)]
     fn lock(&mut self, tick: u32, job: JobId, res: ResId) -> Row
         requires can { CanAct self.old job (Op.Lock res) }
         requires local { is_global self.old.plan.now res.0 ≡ false }
@@ -99,6 +101,7 @@ impl<'a> Jobs<'a> {
     }
 
     // An unlock of a local resource.
+    #[inline(always)]
     fn unlock(&mut self, tick: u32, job: JobId, res: ResId) -> Row
         requires can { CanAct self.old job (Op.Unlock res) }
         requires local { is_global self.old.plan.now res.0 ≡ false }
@@ -112,6 +115,7 @@ impl<'a> Jobs<'a> {
     }
 
     // A request that is granted at once.
+    #[inline(always)]
     fn take(&mut self, tick: u32, job: JobId, res: ResId) -> Row
         requires can { CanAct self.old job (Op.Lock res) }
         requires global { is_global self.old.plan.now res.0 ≡ true }
@@ -129,6 +133,7 @@ impl<'a> Jobs<'a> {
     }
 
     // A request that joins the queue: the job waits.
+    #[inline(always)]
     fn wait(&mut self, tick: u32, job: JobId, res: ResId, ahead: u32) -> Row
         requires can { CanAct self.old job (Op.Lock res) }
         requires global { is_global self.old.plan.now res.0 ≡ true }
@@ -169,6 +174,7 @@ impl<'a> Jobs<'a> {
     }
 
     // A poll that is answered yes: the job holds the resource.
+    #[inline(always)]
     fn granted(&mut self, tick: u32, job: JobId, res: ResId) -> Row
         requires can { CanAct self.old job (Op.Lock res) }
         requires awaits { self.old.phase ≡ Phase.Queued res }
@@ -184,6 +190,7 @@ impl<'a> Jobs<'a> {
     }
 
     // A poll that is answered no: the job waits on.
+    #[inline(always)]
     pub(crate) fn spin(&self, tick: u32, job: JobId, res: ResId) -> Row
         requires can { CanAct self.now job (Op.Lock res) }
         requires awaits { self.now.phase ≡ Phase.Queued res }
@@ -196,6 +203,7 @@ impl<'a> Jobs<'a> {
     }
 
     // A poll of the global resource that the job awaits.
+    #[inline(always)]
     fn poll<P: Port>(&mut self, port: &mut P, tick: u32, job: JobId, res: ResId) -> Row
         requires can { CanAct self.old job (Op.Lock res) }
         requires global { is_global self.old.plan.now res.0 ≡ true }
@@ -213,6 +221,7 @@ impl<'a> Jobs<'a> {
     }
 
     // The release of the global resource that the job holds.
+    #[inline(always)]
     fn drop_held(&mut self, tick: u32, job: JobId, res: ResId) -> Row
         requires can { CanAct self.old job (Op.Unlock res) }
         requires global { is_global self.old.plan.now res.0 ≡ true }
@@ -229,6 +238,7 @@ impl<'a> Jobs<'a> {
     }
 
     // A release of a global resource, which the port is told.
+    #[inline(always)]
     fn release<P: Port>(&mut self, port: &mut P, tick: u32, job: JobId, res: ResId) -> Row
         requires can { CanAct self.old job (Op.Unlock res) }
         requires global { is_global self.old.plan.now res.0 ≡ true }

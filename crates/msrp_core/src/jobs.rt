@@ -68,6 +68,7 @@ impl<'a> Jobs<'a> {
     }
 
     // Whether a job comes before who runs, if somebody does.
+    #[inline(always)]
     fn comes_first(&self, job: JobId, running: Option<JobId>) -> bool
         requires known { Contains (jobs_on self.now.plan.now self.now.core.0) job }
         requires running { ForSome running (Contains (jobs_on self.now.plan.now self.now.core.0)) }
@@ -80,6 +81,7 @@ impl<'a> Jobs<'a> {
     }
 
     // Whether the head is preferred to who runs: its level is above the ceiling, and it comes before who runs.
+    #[inline(always)]
     fn is_next(&self, job: JobId, running: Option<JobId>) -> bool
         requires jobs { AreJobs self.now }
         requires known { Contains (jobs_on self.now.plan.now self.now.core.0) job }
@@ -195,6 +197,7 @@ impl<'a> Jobs<'a> {
     }
 
     /// One unit more for the running job, which is finished with its last.
+    #[inline(always)]
     pub(crate) fn advance(&mut self, job: JobId)
         requires running { IsRunning self.old job }
         requires size { length self.old.stack.started ≡ length self.old.done.items }
