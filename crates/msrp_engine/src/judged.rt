@@ -171,7 +171,9 @@ impl<'p, 't, T: Read> JudgedRows<'p, 't, T> {
             self.auditor.accept();
             return Ok(Judgement::Legal(self.rows.as_read(due).in_tick(tick)));
         }
-        self.read_due(due)
+        // The row is made anew for that, so that one that is met is never laid down in memory as a whole.
+        let handed = due.in_tick(due.tick);
+        self.read_due(handed)
     }
 
     // The next row, read field by field.
@@ -222,7 +224,7 @@ impl<'p, 't, T: Read> JudgedRows<'p, 't, T> {
 
     /// The next row, as by [`JudgedRows::next_row`], but it isn't looked first whether its core's last one comes again: that is for
     /// [`JudgedRows::next_again`].
-    #[inline(never)]
+    #[inline(always)]
     pub fn next_anew(&mut self) -> Result<Judgement, TraceError>
         ensures plan { self.new.auditor.plan ≡ self.old.auditor.plan }
         ensures gives { (told : Told) → rows_left T.remaining self.old ≡ Some told → GivesNext told (row_told result) (rows_left T.remaining self.new) }
