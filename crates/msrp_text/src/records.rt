@@ -17,13 +17,16 @@ use core::mem;
 use csv::ByteRecord;
 use std::alloc::{AllocError, Global};
 use std::io::Read;
+use thiserror::Error;
 
 /// Why no further record can be had.
-#[derive(Clone, Copy, Debug, PartialEq, Eq)]
+#[derive(Clone, Copy, Debug, Error, PartialEq, Eq)]
 pub enum Stopped {
     /// A read failed.
+    #[error("a read failed")]
     Read,
     /// Memory was refused.
+    #[error("memory was refused")]
     Memory,
 }
 
