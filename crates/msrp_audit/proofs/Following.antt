@@ -10,7 +10,7 @@ use Rattle.msrp_plan.specs.Levels.{is_global}
 use Rattle.msrp_plan.specs.Actions.{allows, same_res}
 use Rattle.msrp_plan.specs.Logs.{log_of}
 use Rattle.msrp_plan.specs.Calls.{kind_of_call}
-use Rattle.msrp_plan.specs.Runs.{IsRunStart, IsCoreTurn, had_turn, is_in_turn, is_of_core, is_chosen, is_next_action, same_choice}
+use Rattle.msrp_plan.specs.Runs.{IsRunStart, IsCoreTurn, had_turn, is_in_turn, is_of_core, is_on_core, is_chosen, is_next_action, same_choice}
 use Rattle.msrp_plan.specs.WellFormed.{IsPlan}
 use Rattle.msrp_plan.specs.declared.faults.Rule.TheVariants.{A2, A3, A4}
 use Rattle.msrp_plan.specs.declared.ids.JobId.{JobId}
@@ -114,6 +114,12 @@ kinds_same plan c log r s old new turn call answered same = by_res s.res refl
       | inr loc ↦ plain_same r.kind s.kind (local_turn_asks plan log s res s.job refl (turn_of plan log s turn.own turn.chosen turn.action) e loc) same
     ]
 
+-- the row names the same job, and does the same
+none_broken : (a b : Bool) → cond a (cond b None (Some A4)) (Some A3) ≡ None → (a ≡ true) × (b ≡ true)
+none_broken true true h = (refl, refl)
+none_broken true false h = absurd (cc)
+none_broken false b h = absurd (cc)
+
 -- ---- the row against the turn
 module _ (plan : PlanModel) (rows : List Row) (r s : Row) (ok : IsPlan plan) (start : IsRunStart plan rows) (turn : is_in_turn plan rows r ≡ true) (made : IsCoreTurn plan r.core.0 (log_of r.core.0 rows) s) where
   is_turn : IsTurn plan rows s
@@ -134,12 +140,13 @@ module _ (plan : PlanModel) (rows : List Row) (r s : Row) (ok : IsPlan plan) (st
       ∙ (ap (λ b. cond b (cond (is_next_action plan rows r) None (Some A4)) (Some A3)) (sym (chosen_alike plan rows r s is_turn tick (sym made.core)))
       ∙ ap (λ b. cond b (cond (is_chosen plan rows r) (cond (is_next_action plan rows r) None (Some A4)) (Some A3)) (Some A2)) (sym own))
 
--- a row that breaks none of these rules leaves the machine as its turn did
-none_broken : (a b : Bool) → cond a (cond b None (Some A4)) (Some A3) ≡ None → (a ≡ true) × (b ≡ true)
-none_broken true true h = (refl, refl)
-none_broken true false h = absurd (cc)
-none_broken false b h = absurd (cc)
+  -- a row as the turn has a job of its core
+  pub own_by : unlike_turn r s ≡ None → is_of_core plan r ≡ true
+  own_by none =
+      let job = same_choice_is r.job s.job (none_broken (same_choice r.job s.job) (does_alike r s) none).0 in
+      ap (is_on_core plan r.core.0) job ∙ (ap (λ c. is_on_core plan c s.job) (sym made.core) ∙ made.own)
 
+-- a row that breaks none of these rules leaves the machine as its turn did
 pub stands_on : (x : MachineModel) (rows : List Row) (r s : Row) → unlike_turn r s ≡ None → (same_action r.kind s.kind ≡ true → r.kind ≡ s.kind) → StandsAfter x (log_of r.core.0 rows ++ s ∷ []) → StandsAfter x (log_of r.core.0 (rows ++ r ∷ []))
 stands_on x rows r s none kinds stands =
     let both = none_broken (same_choice r.job s.job) (does_alike r s) none in

@@ -36,11 +36,13 @@ fn follow(plan: &Plan, machine: &mut Machine<'_>, row: Row) -> Option<Rule>
     ensures rule { IsPlan plan.now → (pre : List TraceRow) → IsRunStart plan.now pre → StandsAfter machine.old (log_of row.core.0 pre) → is_in_turn plan.now pre row ≡ true → result ≡ broken_action plan.now pre row }
     ensures stands { (pre : List TraceRow) → IsRunStart plan.now pre → StandsAfter machine.old (log_of row.core.0 pre) → is_in_turn plan.now pre row ≡ true → result ≡ None → StandsAfter machine.new (log_of row.core.0 (pre ++ row ∷ [])) }
 {
-    if !is_own(plan, row) {
+    let due = turn_as(plan, machine, row);
+    let unlike = unlike_turn(row, due);
+    // A row as the one that is due has a job of its core.
+    if unlike.is_some() && !is_own(plan, row) {
         return Some(Rule::A2);
     }
-    let due = turn_as(plan, machine, row);
-    unlike_turn(row, due)
+    unlike
 }
 
 /// The first row of the core whose job, choice or action breaks a rule. A row that is not in its turn ends the piece:
