@@ -1,16 +1,22 @@
--- A turn by the rows of its tick alone.
-use Rattle.std.proofs.Common.{◌≡◌, ℕ, ◌+◌, ◌*◌, ◌/◌, ◌<◌, ◌==◌, ◌&&◌, ◌||◌, Bool, false, not, nat_lt, List, [], ◌∷◌, refl, ap, sym, ◌∙◌, subst, arith, length, take, drop, eq-eqb}
-use Rattle.std.specs.List.{list_any}
-use Rattle.std.proofs.lemmas.Bool.{lt-ltb}
-use Rattle.std.proofs.lemmas.Nat.{div-add-mod', div-mul-add}
-use Rattle.std.proofs.lemmas.List.{take-append-drop, length-take-le}
-use Rattle.std.proofs.lemmas.List.Folds.{list_any-append}
+-- How many turns each core had, by the number of rows and by the tick of its last one.
+use Rattle.std.proofs.Common.{◌≡◌, ℕ, ◌+◌, ◌*◌, ◌/◌, ◌<◌, ◌≤◌, ◌==◌, false, List, [], ◌∷◌, ◌++◌, refl, ap, sym, ◌∙◌, subst, arith, length, length-append, take, replicate, get_or, set, get_or-set_other, inl, inr}
+use Rattle.std.proofs.lemmas.Bool.{cases_eq}
+use Rattle.std.proofs.lemmas.Grind.{get_or-set_at}
+use Rattle.std.proofs.lemmas.Nat.{div-mul-add}
+use Rattle.std.proofs.lemmas.List.{get_or-replicate, length-take-le}
 use Rattle.msrp_plan.specs.Plan.{PlanModel}
-use Rattle.msrp_plan.specs.Runs.{IsLegal, IsRunStart, EachAfter, had_turn, is_in_turn}
+use Rattle.msrp_plan.specs.Logs.{log_of}
+use Rattle.msrp_plan.specs.Runs.{IsLegal, IsRunStart, EachAfter, had_turn}
+use Rattle.msrp_plan.specs.WellFormed.{IsPlan}
 use Rattle.msrp_plan.specs.declared.rows.Row.{Row}
 use Rattle.msrp_plan.proofs.Lists.Prefixes.{along}
+use Rattle.msrp_plan.proofs.Runs.CoreRuns.{reached_tick}
+use Rattle.msrp_plan.proofs.Runs.RoundRobin.{log_own, log_other}
 use Rattle.msrp_plan.proofs.Runs.Ticks.{IsTick, AnyTick, rows_in, any_both, tick_is, tick_none, fresh, any_tick_push}
-use Rattle.msrp_plan.proofs.Runs.Verdicts.{start_before}
+use Rattle.msrp_plan.proofs.Runs.Verdicts.{start_before, start_last}
+use Rattle.msrp_audit.specs.Inside.Walks.{AreNextTurns}
+use Rattle.msrp_audit.proofs.Judging.{reached}
+use Rattle.msrp_audit.proofs.Scanning.{one_more}
 
 none_left : (xs : List Row) (a : ℕ) → a ≡ a + length xs → xs ≡ []
 none_left [] a h = refl
@@ -26,20 +32,35 @@ none_turned plan pre t c some all size =
     let empty : rows_in t pre ≡ [] = none_left (rows_in t pre) (t * plan.cores) (sym size ∙ at.count) in
     any_both (λ w. w.tick == t) (λ w. w.core.0 == c) pre ∙ fresh t pre c empty
 
--- so the rows of the tick that is due tell whether a core had its turn in it
-pub turned_in : (plan : PlanModel) (pre : List Row) (c t : ℕ) → 0 < plan.cores → IsRunStart plan pre → t ≡ length pre / plan.cores → had_turn c t (drop (t * plan.cores) pre) ≡ had_turn c t pre
-turned_in plan pre c t some start is =
-    let n = t * plan.cores in
-    let whole = div-add-mod' (length pre) plan.cores in
-    let same : t * plan.cores ≡ length pre / plan.cores * plan.cores = ap (λ k. k * plan.cores) is in
-    let front : IsRunStart plan (take n pre) = start_before plan (take n pre) (drop n pre) (subst (IsRunStart plan) (sym (take-append-drop n pre)) start) in
-    let size : length (take n pre) ≡ n = length-take-le n pre (omega (arith, whole, same)) in
-    let test : Row → Bool = λ r. (r.tick == t) && (r.core.0 == c) in
-    sym (ap (list_any test) (sym (take-append-drop n pre))
-    ∙ (list_any-append test (take n pre) (drop n pre) ∙ ap (λ b. b || list_any test (drop n pre)) (none_turned plan (take n pre) t c some front.each size)))
+-- so each core had its turn in each of these
+pub turns_full : (plan : PlanModel) (pre : List Row) (t c : ℕ) → IsPlan plan → IsRunStart plan pre → length pre ≡ t * plan.cores → c < plan.cores → length (log_of c pre) ≡ t
+turns_full plan pre t c ok start size low =
+    let some = ok.draft.cores.0 in
+    let now : length pre / plan.cores ≡ t = ap (λ n. n / plan.cores) (let e : length pre ≡ t * plan.cores + 0 = omega (arith, size) in e) ∙ div-mul-add t plan.cores 0 some in
+    reached plan pre c ok start.each low (ap (λ n. had_turn c n pre) now ∙ none_turned plan pre t c some start.each size) ∙ now
 
-pub by_turned : (plan : PlanModel) (pre : List Row) (r : Row) → 0 < plan.cores → IsRunStart plan pre → r.tick ≡ length pre / plan.cores → r.core.0 < plan.cores → not (had_turn r.core.0 r.tick (drop (r.tick * plan.cores) pre)) ≡ is_in_turn plan pre r
-by_turned plan pre r some start is low =
-    ap not (turned_in plan pre r.core.0 r.tick some start is)
-    ∙ sym (ap (λ b. b && (nat_lt r.core.0 plan.cores && not (had_turn r.core.0 r.tick pre))) (eq-eqb r.tick (length pre / plan.cores) is)
-    ∙ ap (λ b. b && not (had_turn r.core.0 r.tick pre)) (lt-ltb r.core.0 plan.cores low))
+-- and before a part of the ticks in each tick before it
+pub next_at : (plan : PlanModel) (rows : List Row) (part cores n : ℕ) → IsPlan plan → cores ≡ plan.cores → n ≡ part * (cores * 1250) → n ≤ length rows → IsRunStart plan (take n rows) → AreNextTurns plan (replicate 8 (part * 1250)) (take n rows)
+next_at plan rows part cores n ok same is within start c low =
+    let few = ok.draft.cores.1 in
+    let turns : part * (plan.cores * 1250) ≡ part * 1250 * plan.cores = grind arith in
+    get_or-replicate 8 c (part * 1250) 0 (omega (arith, low, few))
+    ∙ sym (turns_full plan (take n rows) (part * 1250) c ok start (length-take-le n rows within ∙ (is ∙ (ap (λ m. part * (m * 1250)) same ∙ turns))) low)
+
+-- after one row more the next turn of its core is in the tick behind it
+pub next_more : (plan : PlanModel) (next : List ℕ) (rows : List Row) (i : ℕ) (r : Row) → IsPlan plan → length next ≡ 8 → r.core.0 < plan.cores → i < length rows → r ≡ get_or rows i r
+    → (IsRunStart plan (take i rows) → AreNextTurns plan next (take i rows)) → IsRunStart plan (take (i + 1) rows) → AreNextTurns plan (set next r.core.0 (r.tick + 1)) (take (i + 1) rows)
+next_more plan next rows i r ok size known within at turns start c low =
+    let pre = take i rows in
+    let more = one_more rows i r within at in
+    let whole : IsRunStart plan (pre ++ r ∷ []) = subst (IsRunStart plan) more start in
+    let before = start_before plan pre (r ∷ []) whole in
+    let few = ok.draft.cores.1 in
+    elim (cases_eq c r.core.0) [
+      | inl same ↦
+          let tick : r.tick ≡ length (log_of r.core.0 pre) = reached_tick plan pre r before.each (start_last plan pre r whole) in
+          let log : length (log_of c (take (i + 1) rows)) ≡ length (log_of c pre) + 1 = ap (λ l. length (log_of c l)) more ∙ (ap length (log_own pre r c (sym same)) ∙ length-append (log_of c pre) (r ∷ [])) in
+          get_or-set_at next r.core.0 c (r.tick + 1) 0 same (omega (arith, known, few, size)) ∙ (ap (λ n. n + 1) (tick ∙ ap (λ k. length (log_of k pre)) (sym same)) ∙ sym log)
+      | inr other ↦
+          get_or-set_other next r.core.0 c (r.tick + 1) 0 other ∙ (turns before c low ∙ ap length (sym (ap (log_of c) more ∙ log_other pre r c (λ e. other (sym e)))))
+    ]

@@ -1,34 +1,38 @@
 //! The turns of some ticks: A1.
-ghost use Rattle.std.specs.Prelude.{◌≡◌, ◌≤◌, ◌*◌, length};
-ghost use Rattle.msrp_plan.specs.Runs.{IsRunStart, had_turn, is_in_turn};
+ghost use Rattle.std.specs.Prelude.{List, ◌≡◌, ◌≤◌, ◌<◌, ◌*◌, ◌/◌, ◌==◌, length, true};
+ghost use Rattle.msrp_plan.specs.Runs.{IsRunStart, is_in_turn};
+ghost use Rattle.msrp_plan.specs.WellFormed.{IsPlan};
+ghost use Rattle.msrp_plan.specs.declared.rows.Row.{Row as TraceRow};
 ghost use Rattle.msrp_audit.specs.Inside.Pieces.{broken_turn, TellsFirst};
+ghost use Rattle.msrp_audit.specs.Inside.Walks.{AreNextTurns};
 
+use msrp_plan::limits::MOST_CORES;
 use msrp_plan::{Fault, Plan, Row, Rule};
 
 /// The ticks whose rows are one piece.
 pub(crate) const TICKS_A_PIECE: u32 = 1_250;
 
-// Whether the core of the row has a row of its tick among these.
-fn had_turn(rows: &[Row], row: Row) -> bool
-    ensures { result ≡ had_turn row.core.0 row.tick rows.now }
+// Whether the tick is due at the row of that index, where each tick has so many rows.
+#[inline(always)]
+fn is_due_at(cores: u32, tick: u32, index: usize) -> bool
+    ensures { 0 < cores → result ≡ (tick == index / cores) }
 {
-    rows.iter().any(|earlier| earlier.tick == row.tick && earlier.core == row.core)
+    let first = tick as usize * cores as usize;
+    first <= index && index < first + cores as usize
 }
 
-// Whether the row after these stands in the tick that is due, of a core that had no turn in it.
-fn is_turn(plan: &Plan, before: &[Row], row: Row) -> bool
-    ensures { IsRunStart plan.now before.now → result ≡ is_in_turn plan.now before.now row }
+// Whether the row of that index stands in the tick that is due, of a core that has its next turn in it.
+#[inline(always)]
+fn is_turn(plan: &Plan, next: &[usize], row: Row, index: usize) -> bool
+    requires next { length next.now ≡ 8 }
+    ensures turn { (pre : List TraceRow) → index ≡ length pre → IsRunStart plan.now pre → AreNextTurns plan.now next.now pre → result ≡ is_in_turn plan.now pre row }
+    ensures core { result ≡ true → row.core.0 < plan.now.cores }
+    ensures accepted { IsPlan plan.now }
 {
-    let cores = plan.cores() as usize;
-    let tick = before.len() / cores;
-    if row.tick as usize != tick {
-        return false;
-    }
-    if row.core.0 >= plan.cores() {
-        return false;
-    }
-    let block = &before[tick * cores..];
-    !had_turn(block, row)
+    let cores = plan.cores();
+    is_due_at(cores, row.tick, index)
+        && row.core.0 < cores
+        && next[row.core.0 as usize] == row.tick as usize
 }
 
 /// The first row of that part of the ticks that is not in its turn.
@@ -39,13 +43,17 @@ pub(crate) fn judge_turns(plan: &Plan, rows: &[Row], part: u32) -> Option<Fault>
     let size = plan.cores() as usize * TICKS_A_PIECE as usize;
     let start = part as usize * size;
     let end = rows.len().min(start + size);
+    // The tick of each core's next turn.
+    let mut next = [part as usize * TICKS_A_PIECE as usize; MOST_CORES as usize];
     for index in start..end {
-        if !is_turn(plan, &rows[..index], rows[index]) {
+        let row = rows[index];
+        if !is_turn(plan, &next, row, index) {
             return Some(Fault {
                 row: index as u32 + 1,
                 rule: Rule::A1,
             });
         }
+        next[row.core.0 as usize] = row.tick as usize + 1;
     }
     None
 }
