@@ -7,3 +7,4 @@ pub mod OwnRows
 pub mod Following
 pub mod Queueing
 pub mod Turned
+pub mod Places

@@ -4,8 +4,10 @@ ghost use Rattle.msrp_plan.specs.Limits.{most_rows};
 ghost use Rattle.msrp_plan.specs.Verdict.{fault_in, verdict};
 ghost use Rattle.msrp_audit.specs.Audits.{answer_of};
 ghost use Rattle.msrp_audit.specs.Inside.Pieces.{broken_in, earlier_of, earliest_of, fault_order, length_fault_of, piece_with, pieces_of, rule_number, TellsFirst};
+ghost use Rattle.msrp_audit.specs.Inside.Walks.{naming_places};
 
 use crate::pieces::{judge, pieces};
+use crate::queues::naming_places;
 use msrp_levels::Levels;
 use msrp_plan::{Fault, Memory, Plan, Row, Rule, Trace};
 use rayon::prelude::*;
@@ -68,14 +70,17 @@ fn first_fault(
     requires rows { length rows.now ≤ plan.now.cores * plan.now.ticks }
     ensures { IfOk result (λ fault. fault ≡ fault_in plan.now rows.now) }
 {
-    let faults = (0..pieces(plan))
+    let count = pieces(plan);
+    let named = naming_places(alloc, rows)?;
+    let places = named.as_slice();
+    let faults = (0..count)
         .into_par_iter()
         .with_min_len(1)
         .map(
             |number: u32| -> Result<Option<Fault>, Memory>
-                requires { (number < pieces_of plan.now) × (levels.now ≡ plan.now) × (length rows.now ≤ plan.now.cores * plan.now.ticks) }
+                requires { (number < pieces_of plan.now) × (levels.now ≡ plan.now) × (length rows.now ≤ plan.now.cores * plan.now.ticks) × (places.now ≡ naming_places 0 rows.now) }
                 ensures { IfOk result (TellsFirst plan.entry.now (broken_in plan.entry.now (piece_with plan.entry.now number)) rows.entry.now) }
-            { judge(alloc, plan, levels, rows, number) },
+            { judge(alloc, plan, levels, rows, places, number) },
         )
         .collect::<Result<Vec<Option<Fault>>, Memory>>(rt, alloc);
     match faults {

@@ -3,7 +3,9 @@ ghost use Rattle.std.specs.Prelude.{◌≡◌, ◌<◌, ◌≤◌, ◌*◌, IfOk
 ghost use Rattle.msrp_plan.specs.Queues.{counts, is_behind, is_first, is_on, is_reply_of, replies};
 ghost use Rattle.std.specs.List.{list_any};
 ghost use Rattle.msrp_plan.specs.Jobs.{same_job};
+ghost use Rattle.msrp_plan.specs.Limits.{most_rows};
 ghost use Rattle.msrp_audit.specs.Inside.Pieces.{broken_reply, TellsFirst};
+ghost use Rattle.msrp_audit.specs.Inside.Walks.{naming_places};
 
 use msrp_levels::Levels;
 use msrp_plan::{Fault, JobId, Kind, Memory, Plan, Requests, ResId, Row, Rule};
@@ -68,7 +70,21 @@ fn is_reply(queue: &[JobId], row: Row) -> bool
     replies(queue, row) && counts(queue, row)
 }
 
-/// The first row on a global resource that has not its queue's reply.
+/// The places of the rows that name a resource, in rising order.
+pub(crate) fn naming_places(alloc: Global, rows: &[Row]) -> Result<Vec<u32>, Memory>
+    requires { length rows.now ≤ most_rows }
+    ensures { IfOk result (λ places. places.items ≡ naming_places 0 rows.now) }
+{
+    let mut places = Vec::new(alloc);
+    for place in 0..rows.len() {
+        if rows[place].res.is_some() {
+            places.push(place as u32)?;
+        }
+    }
+    Ok(places)
+}
+
+/// The first row on a global resource that has not its queue's reply. Only the rows that name a resource are looked at.
 ///
 /// More jobs than cores never stand in the queue of a legal run: where they do, an earlier row breaks a rule, and the
 /// piece has no more to say.
@@ -77,10 +93,12 @@ pub(crate) fn judge_resource(
     plan: &Plan,
     levels: &Levels,
     rows: &[Row],
+    places: &[u32],
     res: ResId,
 ) -> Result<Option<Fault>, Memory>
     requires levels { levels.now ≡ plan.now }
     requires rows { length rows.now ≤ plan.now.cores * plan.now.ticks }
+    requires places { places.now ≡ naming_places 0 rows.now }
     requires resource { res.0 < length plan.now.resources }
     ensures { IfOk result (TellsFirst plan.now (broken_reply plan.now res.0) rows.now) }
 {
@@ -88,8 +106,8 @@ pub(crate) fn judge_resource(
         return Ok(None);
     }
     let mut requests = Requests::of(alloc, res);
-    for index in 0..rows.len() {
-        let row = rows[index];
+    for place in places {
+        let row = rows[*place as usize];
         if is_on(row, res) {
             let queue = requests.queue();
             if queue.len() > plan.cores() as usize {
@@ -97,7 +115,7 @@ pub(crate) fn judge_resource(
             }
             if !is_reply(queue, row) {
                 return Ok(Some(Fault {
-                    row: index as u32 + 1,
+                    row: *place + 1,
                     rule: Rule::A5,
                 }));
             }
