@@ -1,5 +1,5 @@
 //! The rows of one core: A2 to A4.
-ghost use Rattle.std.specs.Prelude.{◌≡◌, ◌<◌, ◌≤◌, ◌*◌, ◌+◌, ◌++◌, ◌∷◌, [], List, IfOk, None, length, true};
+ghost use Rattle.std.specs.Prelude.{◌≡◌, ◌<◌, ◌≤◌, ◌*◌, ◌+◌, ◌/◌, ◌++◌, ◌∷◌, [], List, IfOk, None, length, true};
 ghost use Rattle.msrp_plan.specs.Logs.{log_of};
 ghost use Rattle.msrp_plan.specs.Runs.{IsRunStart, is_in_turn};
 ghost use Rattle.msrp_plan.specs.WellFormed.{IsPlan};
@@ -21,6 +21,7 @@ fn is_due(plan: &Plan, machine: &Machine, row: Row, index: usize) -> bool
     requires core { row.core.0 < plan.now.cores }
     ensures turn { (pre : List TraceRow) → index ≡ length pre → IsRunStart plan.now pre → StandsAfter machine.now (log_of row.core.0 pre) → result ≡ is_in_turn plan.now pre row }
     ensures tick { result ≡ true → machine.now.tick < plan.now.ticks }
+    ensures due { result ≡ true → row.tick ≡ index / plan.now.cores }
     ensures accepted { IsPlan plan.now }
 {
     row.tick as usize == index / plan.cores() as usize && machine.tick() == row.tick
@@ -60,7 +61,8 @@ pub(crate) fn judge_core(
     ensures { IfOk result (TellsFirst plan.now (broken_on_core plan.now core.0) rows.now) }
 {
     let mut machine = Machine::with_room(alloc, plan, levels, core)?;
-    for index in 0..rows.len() {
+    let mut index = 0;
+    while index < rows.len() {
         let row = rows[index];
         if row.core == core {
             if !is_due(plan, &machine, row, index) {
@@ -72,6 +74,10 @@ pub(crate) fn judge_core(
                     rule,
                 }));
             }
+            // No other row of the core is in its turn in this tick.
+            index = (row.tick as usize + 1) * plan.cores() as usize;
+        } else {
+            index += 1;
         }
     }
     Ok(None)

@@ -1,4 +1,4 @@
-use Rattle.std.proofs.Common.{◌≡◌, take}
+use Rattle.std.proofs.Common.{◌≡◌, ◌-◌, ℕ, length, take}
 use Rattle.msrp_plan.specs.Logs.{log_of}
 use Rattle.msrp_plan.specs.Runs.{IsRunStart}
 use Rattle.msrp_core.specs.Machine.{StandsAfter}
@@ -13,3 +13,6 @@ invariant-loop-index l = record {
   stands : IsRunStart l.plan (take l.index l.rows) → StandsAfter l.machine (log_of l.core.0 (take l.index l.rows));
   passes : PassesTo l.plan (broken_on_core l.plan l.core.0) l.rows l.index;
 }
+
+abbrev pub decreases-loop-index : goal.decreases-loop-index
+decreases-loop-index l = length l.rows - l.index
