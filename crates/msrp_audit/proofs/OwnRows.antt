@@ -19,7 +19,7 @@ use Rattle.msrp_core.specs.Machine.{MachineModel, StandsAfter}
 use Rattle.msrp_plan.specs.Logs.{is_of}
 use Rattle.msrp_audit.specs.Inside.Pieces.{broken_action, broken_on_core, TellsFirst}
 use Rattle.msrp_audit.specs.declared.pieces.Piece.TheVariants.{Core}
-use Rattle.msrp_audit.proofs.Scanning.{PassesTo, one_more, split_length, start_at, passes_more, ends_at, finds_at}
+use Rattle.msrp_audit.proofs.Scanning.{PassesTo, one_more, start_at, passes_more, ends_at, finds_at}
 use Rattle.msrp_audit.proofs.Merging.{sound}
 use Rattle.msrp_audit.proofs.Judging.{tick_now}
 

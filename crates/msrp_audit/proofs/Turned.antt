@@ -1,5 +1,5 @@
 -- How many turns each core had, by the number of rows and by the tick of its last one.
-use Rattle.std.proofs.Common.{◌≡◌, ℕ, ◌+◌, ◌*◌, ◌/◌, ◌<◌, ◌≤◌, ◌==◌, false, List, [], ◌∷◌, ◌++◌, refl, ap, sym, ◌∙◌, subst, arith, length, length-append, take, replicate, get_or, set, get_or-set_other, inl, inr}
+use Rattle.std.proofs.Common.{◌≡◌, ℕ, ◌+◌, ◌*◌, ◌/◌, ◌<◌, ◌≤◌, ◌==◌, Bool, true, false, List, [], ◌∷◌, ◌++◌, refl, ap, sym, ◌∙◌, subst, arith, length, length-append, eqb-true, take, replicate, get_or, set, get_or-set_other, inl, inr}
 use Rattle.std.proofs.lemmas.Bool.{cases_eq}
 use Rattle.std.proofs.lemmas.Grind.{get_or-set_at}
 use Rattle.std.proofs.lemmas.Nat.{div-mul-add}
@@ -64,3 +64,9 @@ next_more plan next rows i r ok size known within at turns start c low =
       | inr other ↦
           get_or-set_other next r.core.0 c (r.tick + 1) 0 other ∙ (turns before c low ∙ ap length (sym (ap (log_of c) more ∙ log_other pre r c (λ e. other (sym e)))))
     ]
+
+-- the tick that the test finds due is that of the next row
+pub due_tick : (plan : PlanModel) (pre : List Row) (tick i cores : ℕ) (b : Bool) → IsPlan plan → cores ≡ plan.cores → (0 < cores → b ≡ (tick == i / cores)) → b ≡ true → i ≡ length pre → tick ≡ length pre / plan.cores
+due_tick plan pre tick i cores b ok same test holds size =
+    let some = ok.draft.cores.0 in
+    eqb-true tick (i / cores) (sym (test (omega (arith, some, same))) ∙ holds) ∙ (ap (λ n. i / n) same ∙ ap (λ n. n / plan.cores) size)

@@ -10,6 +10,7 @@ ghost use Rattle.msrp_audit.specs.Inside.Pieces.{broken_action, broken_on_core, 
 use crate::auditor::is_own;
 use crate::comparing::unlike_turn;
 use crate::replies::turn_as;
+use crate::turns::is_due_at;
 use msrp_core::Machine;
 use msrp_levels::Levels;
 use msrp_plan::{CoreId, Fault, Memory, Plan, Row, Rule};
@@ -24,7 +25,7 @@ fn is_due(plan: &Plan, machine: &Machine, row: Row, index: usize) -> bool
     ensures due { result ≡ true → row.tick ≡ index / plan.now.cores }
     ensures accepted { IsPlan plan.now }
 {
-    row.tick as usize == index / plan.cores() as usize && machine.tick() == row.tick
+    is_due_at(plan.cores(), row.tick, index) && machine.tick() == row.tick
 }
 
 // The lowest of the rules A2 to A4 that the row breaks; else the machine stands for it too.

@@ -12,9 +12,9 @@ use msrp_plan::{Fault, Plan, Row, Rule};
 /// The ticks whose rows are one piece.
 pub(crate) const TICKS_A_PIECE: u32 = 1_250;
 
-// Whether the tick is due at the row of that index, where each tick has so many rows.
+/// Whether the tick is due at the row of that index, where each tick has so many rows.
 #[inline(always)]
-fn is_due_at(cores: u32, tick: u32, index: usize) -> bool
+pub(crate) fn is_due_at(cores: u32, tick: u32, index: usize) -> bool
     ensures { 0 < cores → result ≡ (tick == index / cores) }
 {
     let first = tick as usize * cores as usize;

@@ -1,8 +1,8 @@
-use Rattle.std.proofs.Common.{◌≡◌, ◌+◌, ◌≤◌, [], true, take, drop, length, get_or, refl, ap, sym, ◌∙◌, subst, arith}
+use Rattle.std.proofs.Common.{◌≡◌, ◌+◌, true, take, drop, get_or, refl, sym, ◌∙◌, subst, arith}
 use Rattle.std.proofs.lemmas.List.{drop_more, drop_all}
 use Rattle.msrp_plan.specs.Levels.{is_global}
 use Rattle.msrp_plan.specs.Requests.{HasTaken}
-use Rattle.msrp_audit.proofs.Places.{IsAtPlace, IsOver, at_place, at_end, to_next}
+use Rattle.msrp_audit.proofs.Places.{at_place, at_end, to_next}
 use Rattle.msrp_audit.proofs.Queueing.{off_taken, off_passes, reply_passes, reply_found, too_long}
 use Rattle.msrp_audit.proofs.Scanning.{one_more}
 use Rattle.msrp_audit.proofs.queues.judge_resource.Goals as goal

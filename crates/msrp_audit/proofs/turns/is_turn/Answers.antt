@@ -1,5 +1,6 @@
-use Rattle.std.proofs.Common.{◌≡◌, ◌/◌, ◌<◌, ◌==◌, length, sym, ap, ◌∙◌, arith, eqb-true}
+use Rattle.std.proofs.Common.{◌<◌, arith}
 use Rattle.msrp_audit.proofs.Judging.{turn_by_tick}
+use Rattle.msrp_audit.proofs.Turned.{due_tick}
 use Rattle.msrp_audit.proofs.turns.is_turn.Goals as goal
 use Rattle.msrp_audit.proofs.turns.is_turn.Goals.{then-is_due_at, else-is_due_at}
 
@@ -13,8 +14,7 @@ returns-then-row-cores-clause-turn c = λ pre size start ticks.
     elim c.if-is_due_at.branch [
       | then-is_due_at w ↦
           let low : r.core.0 < plan.cores = omega (arith, now, cores) in
-          let some = ok.draft.cores.0 in
-          let due : r.tick ≡ length pre / plan.cores = eqb-true r.tick (c.args.index / c.cores-cores.result) (sym (c.is_due_at.ensures (omega (arith, some, cores))) ∙ w.if-is_due_at.true) ∙ (ap (λ n. c.args.index / n) cores ∙ ap (λ n. n / plan.cores) size) in
+          let due = due_tick plan pre r.tick c.args.index c.cores-cores.result c.is_due_at.result ok cores c.is_due_at.ensures w.if-is_due_at.true size in
           turn_by_tick plan pre r _ ok start.each due low (ticks r.core.0 low)
       | else-is_due_at w ↦ let is = w.t-7-is in absurd (cc)
     ]
