@@ -1,17 +1,22 @@
 -- Lists that are gathered number by number, and what is asked of their images.
-use Rattle.std.proofs.Common.{◌≡◌, ℕ, zero, suc, ◌+◌, ◌<◌, Bool, true, false, cond, List, [], ◌∷◌, ◌++◌, map, refl, ap, sym, ◌∙◌, arith, append-nil}
-use Rattle.std.specs.List.{AllByRecursion, filter, list_any, range_with_len, sum_by}
+use Rattle.std.proofs.Common.{◌≡◌, ℕ, zero, suc, ◌+◌, ◌<◌, Bool, true, false, cond, List, [], ◌∷◌, ◌++◌, map, replicate, refl, ap, sym, ◌∙◌, arith, append-nil}
+use Rattle.std.specs.List.{AllByRecursion, filter, range_with_len, sum_by}
 use Rattle.std.proofs.lemmas.List.Elements.{filter-append}
 use Rattle.std.proofs.lemmas.List.Sums.{sum_by-append, sum_by-cons}
 use Rattle.std.proofs.lemmas.Simd.{map-map}
 use Rattle.msrp_plan.specs.Levels.{greatest}
-use Rattle.msrp_plan.proofs.Lists.Filters.{all_of, any_map, any_same, filter_map_same}
+use Rattle.msrp_plan.proofs.Lists.Filters.{all_of, filter_map_same}
 use Rattle.msrp_plan.proofs.Lists.Ranges.{range_more}
 
 -- the numbers of a range are below its end
 pub range_below : (a n m : ℕ) → a + n ≡ m → AllByRecursion (λ k. k < m) (range_with_len a n)
 range_below a zero m e = tt
 range_below a (suc n) m e = (omega (arith, e), range_below (a + 1) n m (omega (arith, e)))
+
+-- a function that is the same everywhere has as many equal images
+pub map_constant : {X : Type 0} (f : ℕ → X) (x : X) → ((k : ℕ) → f k ≡ x) → (a n : ℕ) → map f (range_with_len a n) ≡ replicate n x
+map_constant f x each a zero = refl
+map_constant f x each a (suc n) = ap (λ y. y ∷ map f (range_with_len (a + 1) n)) (each a) ∙ ap (λ ys. x ∷ ys) (map_constant f x each (a + 1) n)
 
 -- functions that agree on a list have the same images
 pub map_agree : {X Y : Type 0} (f g : X → Y) (xs : List X) → AllByRecursion (λ x. f x ≡ g x) xs → map f xs ≡ map g xs
@@ -45,10 +50,6 @@ pub greatest_image : {X Y : Type 0} (k : X → Y) (h : Y → ℕ) (q : Y → Boo
 greatest_image k h q m p tests values xs =
     ap (λ ys. greatest (map h ys)) (filter_map_same k p q (λ x. p x ≡ p x) (λ x _. tests x) xs (all_of (λ x. p x ≡ p x) (λ x. refl) xs))
     ∙ ap greatest (map-map h k (filter p xs) ∙ map_agree (λ x. h (k x)) m (filter p xs) (all_of (λ x. h (k x) ≡ m x) values (filter p xs)))
-
--- whether an image passes, told by the elements
-pub any_image : {X Y : Type 0} (k : X → Y) (q : Y → Bool) (p : X → Bool) → ((x : X) → q (k x) ≡ p x) → (xs : List X) → list_any q (map k xs) ≡ list_any p xs
-any_image k q p tests xs = any_map k q xs ∙ any_same (λ x. q (k x)) p xs (all_of (λ x. q (k x) ≡ p x) tests xs)
 
 -- the numbers that pass, gathered: one more that passes
 pub gather_yes : (p : ℕ → Bool) (n : ℕ) (old new : List ℕ) → p n ≡ true → old ≡ filter p (range_with_len 0 n) → new ≡ old ++ n ∷ [] → new ≡ filter p (range_with_len 0 (n + 1))

@@ -2,6 +2,7 @@ pub mod DistinctDeadlines
 pub mod PassedUnits
 pub mod Gathered
 pub mod Longest
+pub mod FirstTasks
 pub mod Spins
 pub mod TaskUses
 pub mod Stored

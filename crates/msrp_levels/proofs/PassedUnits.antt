@@ -1,6 +1,6 @@
 -- The units of a task, passed from the last one back.
-use Rattle.std.proofs.Common.{◌≡◌, ◌≢◌, ℕ, zero, suc, ◌+◌, ◌-◌, ◌^◌, ◌<◌, ◌≤◌, ◌==◌, Bool, true, false, cond, ◌||◌, List, [], ◌∷◌, map, max, drop, take, set, replicate, slice_get, get_or, Some, refl, ap, sym, ◌∙◌, inl, inr, arith, length, eqb-true, eq-eqb}
-use Rattle.std.specs.List.{list_any, range_with_len}
+use Rattle.std.proofs.Common.{◌≡◌, ◌≢◌, ℕ, ◌+◌, ◌-◌, ◌^◌, ◌<◌, ◌≤◌, ◌==◌, Bool, true, false, cond, ◌||◌, List, [], ◌∷◌, max, drop, take, set, replicate, slice_get, get_or, Some, refl, ap, sym, ◌∙◌, inl, inr, arith, length, eqb-true, eq-eqb}
+use Rattle.std.specs.List.{list_any}
 use Rattle.std.proofs.Math.Bool.{true≢false}
 use Rattle.std.proofs.lemmas.Bool.{cases_eq, true_from_ne_false}
 use Rattle.std.proofs.lemmas.List.{ext_get_or, length-set, get_or-set_same, get_or-set_other, drop_more, drop_all}
@@ -19,6 +19,7 @@ use Rattle.msrp_plan.proofs.Lists.Ranges.{not_equal}
 use Rattle.msrp_plan.specs.declared.ids.ResId.{ResId}
 use Rattle.msrp_plan.proofs.Levels.GlobalUse.{passing_place}
 use Rattle.msrp_levels.specs.declared.footprints.Use.{Use}
+use Rattle.msrp_levels.proofs.Gathered.{map_constant}
 use Rattle.msrp_levels.specs.Footprints.{use_from, uses_from, with_lock, with_unlock, unused, use_at, passed, CanPass}
 
 -- ---- the resource of a unit is declared
@@ -86,16 +87,12 @@ get_or-uses_from us n g d l = get_or-map-range_with_len (use_from us n) 0 32 g g
 -- behind the last unit nothing is used
 pub uses_behind : (us : List Op) (n : ℕ) → n ≡ length us → replicate 32 (let x : Use = record { locked = false; longest = 0; past_unlock = n } in x) ≡ uses_from us n
 unfolding uses_from
-uses_behind us n e = sym (map-constant (use_from us n) _ (λ g. last g) 0 32)
+uses_behind us n e = sym (map_constant (use_from us n) _ last 0 32)
   where
     last : (g : ℕ) → use_from us n g ≡ record { locked = false; longest = 0; past_unlock = n }
     last g = let none : drop n us ≡ [] = drop_all n us (omega (arith, e)) in let z : n + 0 ≡ n = omega arith in
         ap (λ xs. let x : Use = record { locked = list_any (is_lock_of g) xs; longest = longest_section g xs; past_unlock = n + to_unlock g xs } in x) none
         ∙ ap (λ k. let x : Use = record { locked = false; longest = 0; past_unlock = k } in x) z
-
-    map-constant : {X : Type 0} (f : ℕ → X) (x : X) → ((k : ℕ) → f k ≡ x) → (a m : ℕ) → map f (range_with_len a m) ≡ replicate m x
-    map-constant f x each a zero = refl
-    map-constant f x each a (suc m) = ap (λ y. y ∷ map f (range_with_len (a + 1) m)) (each a) ∙ ap (λ ys. x ∷ ys) (map-constant f x each (a + 1) m)
 
 -- a write at one resource, which alone the unit names
 written : (us : List Op) (n r : ℕ) (u : Op) (new : Use) → slice_get us n ≡ Some u → r < 32

@@ -1,5 +1,5 @@
 -- What a task does with each resource.
-use Rattle.std.specs.Prelude.{ℕ, List, [], Bool, true, false, map, max, drop, set, length, slice_index_or, ◌+◌, ◌-◌, ◌^◌, ◌<◌, ⊤}
+use Rattle.std.specs.Prelude.{ℕ, List, Bool, true, false, map, max, drop, set, length, slice_index_or, ◌+◌, ◌-◌, ◌^◌, ◌<◌, ⊤}
 use Rattle.std.specs.List.{list_any, range_with_len}
 use Rattle.msrp_plan.specs.Plan.{PlanModel, TaskModel}
 use Rattle.msrp_plan.specs.Units.{is_lock_of}
@@ -40,10 +40,6 @@ locks_in g f = (use_at f.uses g).locked
 -- its longest section on the resource
 abbrev pub longest_in : ℕ → Footprint → ℕ
 longest_in g f = (use_at f.uses g).longest
-
--- a task by its number
-abbrev pub footprint_at : List Footprint → ℕ → Footprint
-footprint_at tasks t = slice_index_or tasks t (record { core = record { 0 = 0 }; level = 0; uses = [] })
 
 -- ---- one unit more in front
 -- with a lock at the place a section begins

@@ -1,27 +1,17 @@
--- How a plan uses one resource, as it is told by its tasks.
-use Rattle.std.specs.Prelude.{ℕ, List, Bool, map, filter, not, length, slice_index_or, ◌==◌, ◌&&◌, ◌+◌, ◌<◌, ◌≤◌, ◌≡◌, false}
-use Rattle.std.specs.List.{list_any, range_with_len, sum_by}
+-- How a plan uses one resource.
+use Rattle.std.specs.Prelude.{ℕ, List, Bool, map, max, filter, not, length, slice_index_or, ◌==◌, ◌&&◌, ◌+◌, ◌<◌, ◌≤◌, ◌≡◌, false, true}
+use Rattle.std.specs.List.{range_with_len, sum_by}
 use Rattle.msrp_plan.specs.Plan.{PlanModel}
-use Rattle.msrp_plan.specs.Levels.{greatest, local_ceiling}
+use Rattle.msrp_plan.specs.Levels.{local_ceiling}
 use Rattle.msrp_plan.specs.Bounds.{section, spin_bound}
 use Rattle.msrp_plan.specs.Limits.{most_units}
 use Rattle.msrp_levels.specs.Users.{users}
-use Rattle.msrp_levels.specs.Footprints.{locks_in, longest_in}
-use Rattle.msrp_levels.specs.declared.footprints.Footprint.{Footprint}
 use Rattle.msrp_levels.specs.declared.usage.CoreUse.{CoreUse}
 use Rattle.msrp_levels.specs.declared.usage.Usage.{Usage}
 
--- a task of the core uses the resource
-abbrev pub is_used_among : List Footprint → ℕ → ℕ → Bool
-is_used_among tasks g c = list_any (λ f. (f.core.0 == c) && locks_in g f) tasks
-
--- the longest section on the resource of the tasks of a core
-abbrev pub section_among : List Footprint → ℕ → ℕ → ℕ
-section_among tasks g c = greatest (map (longest_in g) (filter (λ f. f.core.0 == c) tasks))
-
--- how the tasks of a core use the resource
-abbrev pub core_use : List Footprint → ℕ → ℕ → CoreUse
-core_use tasks g c = record { used = is_used_among tasks g c; section = section_among tasks g c }
+-- with one user more, whose longest section is this one
+abbrev pub with_user : ℕ → CoreUse → CoreUse
+with_user n u = record { used = true; section = max u.section n }
 
 abbrev pub core_use_at : List CoreUse → ℕ → CoreUse
 core_use_at cores d = slice_index_or cores d (record { used = false; section = 0 })

@@ -3,8 +3,8 @@ ghost use Rattle.std.specs.Prelude.{◌≡◌, ◌==◌, ◌<◌, ◌≤◌, ◌
 ghost use Rattle.std.specs.List.{All, range_with_len};
 ghost use Rattle.msrp_plan.specs.Levels.{greatest, top};
 ghost use Rattle.msrp_plan.specs.Limits.{most_cores, most_resources};
-ghost use Rattle.msrp_levels.specs.Footprints.{footprint_of, locks_in, footprint_at};
-ghost use Rattle.msrp_levels.specs.Usage.{is_used_among, section_among, spin_among, core_use, AreUsages, IsUsage, IsShort};
+ghost use Rattle.msrp_levels.specs.Footprints.{footprint_of};
+ghost use Rattle.msrp_levels.specs.Usage.{spin_among, with_user, AreUsages, IsUsage, IsShort};
 
 use crate::footprints::Footprint;
 use msrp_plan::{CoreId, Memory, Plan, ResId, TaskId};
@@ -19,6 +19,24 @@ pub(crate) struct CoreUse {
     pub(crate) section: u32,
 }
 
+impl CoreUse {
+    // Of a core whose tasks don't use the resource.
+    const NONE: CoreUse = CoreUse {
+        used: false,
+        section: 0,
+    };
+
+    // With one user more on the core, whose longest section is this one.
+    fn with_user(self, section: u32) -> CoreUse
+        ensures { result ≡ with_user section self }
+    {
+        CoreUse {
+            used: true,
+            section: self.section.max(section),
+        }
+    }
+}
+
 /// How a plan uses one resource.
 #[derive(Drop)]
 pub(crate) struct Usage {
@@ -29,35 +47,6 @@ pub(crate) struct Usage {
     pub(crate) cores: Vec<CoreUse>,
     /// By core: how often a job of it spins in one wait for the resource, at most.
     pub(crate) spins: Vec<u32>,
-}
-
-// The users of a resource, in rising order.
-fn users_of(alloc: Global, tasks: &[Footprint], res: ResId) -> Result<Vec<TaskId>, Memory>
-    requires res { res.0 < most_resources }
-    requires few { length tasks.now < 2 ^ 32 }
-    ensures { IfOk result (λ users. map (λ t. t.0) users.items ≡ filter (λ t. locks_in res.0 (footprint_at tasks.now t)) (range_with_len 0 (length tasks.now))) }
-{
-    let mut users = Vec::new(alloc);
-    for (t, task) in tasks.iter().enumerate() {
-        if task.locks(res) {
-            users.push(TaskId(t as u32))?;
-        }
-    }
-    Ok(users)
-}
-
-// The highest level of the tasks that use a resource.
-fn ceiling_of(tasks: &[Footprint], res: ResId) -> u32
-    requires { res.0 < most_resources }
-    ensures { result ≡ greatest (map (λ f. f.level) (filter (locks_in res.0) tasks.now)) }
-{
-    let mut highest = 0;
-    for task in tasks {
-        if task.locks(res) {
-            highest = highest.max(task.level);
-        }
-    }
-    highest
 }
 
 // The highest level of the tasks of a core.
@@ -83,58 +72,6 @@ pub(crate) fn tops_of(alloc: Global, plan: &Plan, tasks: &[Footprint]) -> Result
         tops.push_reserved(top_of(tasks, CoreId(c)));
     }
     Ok(tops)
-}
-
-// The longest section on a resource of the tasks of a core.
-fn section_of(tasks: &[Footprint], res: ResId, core: CoreId) -> u32
-    requires { res.0 < most_resources }
-    ensures { result ≡ section_among tasks.now res.0 core.0 }
-{
-    let mut longest = 0;
-    for task in tasks {
-        if task.core == core {
-            longest = longest.max(task.longest(res));
-        }
-    }
-    longest
-}
-
-// Whether a task of a core uses a resource.
-fn is_used_on(tasks: &[Footprint], res: ResId, core: CoreId) -> bool
-    requires { res.0 < most_resources }
-    ensures { result ≡ is_used_among tasks.now res.0 core.0 }
-{
-    tasks
-        .iter()
-        .any(|task| task.core == core && task.locks(res))
-}
-
-// How the tasks of a core use a resource.
-fn core_use(tasks: &[Footprint], res: ResId, core: CoreId) -> CoreUse
-    requires { res.0 < most_resources }
-    ensures { result ≡ core_use tasks.now res.0 core.0 }
-{
-    CoreUse {
-        used: is_used_on(tasks, res, core),
-        section: section_of(tasks, res, core),
-    }
-}
-
-// How the tasks of each core use a resource.
-fn core_uses(
-    alloc: Global,
-    cores: u32,
-    tasks: &[Footprint],
-    res: ResId,
-) -> Result<Vec<CoreUse>, Memory>
-    requires { res.0 < most_resources }
-    ensures { IfOk result (λ uses. uses.items ≡ map (core_use tasks.now res.0) (range_with_len 0 cores)) }
-{
-    let mut uses = Vec::with_capacity(alloc, cores as usize)?;
-    for c in 0..cores {
-        uses.push_reserved(core_use(tasks, res, CoreId(c)));
-    }
-    Ok(uses)
 }
 
 // How often a job of a core spins in one wait, at most: for each other core that uses the resource, one
@@ -178,11 +115,21 @@ impl Usage {
         requires res { res.0 < length plan.now.resources }
         ensures { IfOk result (IsUsage plan.now res.0) }
     {
-        let cores = core_uses(alloc, plan.cores(), tasks, res)?;
+        let mut users = Vec::with_capacity(alloc, tasks.len())?;
+        let mut ceiling = 0;
+        let mut cores = vec![in alloc; CoreUse::NONE; plan.cores() as usize]?;
+        for (t, task) in tasks.iter().enumerate() {
+            if task.locks(res) {
+                users.push_reserved(TaskId(t as u32));
+                ceiling = ceiling.max(task.level);
+                let core = task.core.0 as usize;
+                cores[core] = cores[core].with_user(task.longest(res));
+            }
+        }
         let spins = spins_among(alloc, &cores)?;
         Ok(Usage {
-            users: users_of(alloc, tasks, res)?,
-            ceiling: ceiling_of(tasks, res),
+            users,
+            ceiling,
             cores,
             spins,
         })
