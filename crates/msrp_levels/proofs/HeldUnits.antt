@@ -2,7 +2,7 @@
 use Rattle.std.proofs.Common.{◌≡◌, ℕ, ◌+◌, ◌-◌, ◌<◌, ◌≤◌, ◌==◌, nat_eq, Bool, true, false, cond, ◌||◌, List, [], ◌∷◌, ◌++◌, take, slice_get, Some, None, refl, ap, sym, ◌∙◌, arith, length, eq-eqb}
 use Rattle.std.specs.List.{list_any}
 use Rattle.std.proofs.lemmas.Bool.{lt-ltb, le-ltb}
-use Rattle.std.proofs.lemmas.List.{take_more}
+use Rattle.std.proofs.lemmas.List.{take_all, take_more}
 use Rattle.std.proofs.lemmas.List.Sums.{sum_by-cons, sum_by-take-le, length-filter}
 use Rattle.std.proofs.lemmas.Option.{same_Some, none-some, slice_get_within, get_or_from_slice_get}
 use Rattle.std.proofs.lemmas.Bool.{true_from_ne_false}
@@ -55,6 +55,19 @@ held_step plan us n held u locking at h =
     let step : held_with h.names u ≡ Some next.0 = sym (held_push (take n us) u h.names h.after) ∙ (sym (ap held_after more) ∙ next.1) in
     let sized = step_size h.names next.0 held u h.size few step in
     (sized.0, record { names = next.0; after = next.1; size = sized.1 })
+
+-- none at last, where all that was locked is unlocked again
+pub held_last : (us : List Op) (n held : ℕ) → n ≡ length us → ((g : ℕ) → unlocks g us ≡ locks g us) → IsHeldAt us n held → held ≡ 0
+held_last us n held end balanced h = by_names h.names h.after h.size
+  where
+    by_names : (names : List ℕ) → held_after (take n us) ≡ Some names → held ≡ length names → held ≡ 0
+    by_names [] after size = size
+    by_names (g ∷ names) after size =
+        let k = even_after g (take n us) (g ∷ names) after in
+        let first : held_times g (g ∷ names) ≡ cond {A = ℕ} (g == g) 1 0 + held_times g names = sum_by-cons (λ x. cond (x == g) 1 0) g names in
+        let one : cond {A = ℕ} (g == g) 1 0 ≡ 1 = ap (λ b. cond b 1 0) (eq-eqb g g refl) in
+        let same : unlocks g (take n us) ≡ locks g (take n us) = let all = take_all n us (omega (arith, end)) in ap (unlocks g) all ∙ (balanced g ∙ ap (locks g) (sym all)) in
+        absurd (omega (arith, k.even, first, one, same))
 
 -- ---- inside a section
 -- nothing is held outside

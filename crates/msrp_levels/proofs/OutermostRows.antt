@@ -1,5 +1,5 @@
 -- The rows of outermost sections, unit by unit.
-use Rattle.std.proofs.Common.{◌≡◌, ◌≢◌, ℕ, zero, suc, ◌+◌, ◌*◌, ◌≤◌, ◌==◌, Bool, true, false, cond, [], map, max, slice_get, Some, refl, ap, sym, subst, ◌∙◌, arith, length, eq-eqb}
+use Rattle.std.proofs.Common.{◌≡◌, ◌≢◌, ℕ, zero, suc, ◌+◌, ◌-◌, ◌*◌, ◌<◌, ◌≤◌, ◌==◌, Bool, true, false, cond, [], map, max, slice_get, Some, refl, ap, sym, subst, ◌∙◌, arith, length, eq-eqb}
 use Rattle.std.specs.List.{range_with_len}
 use Rattle.std.proofs.lemmas.Option.{same_Some}
 use Rattle.msrp_plan.specs.Plan.{PlanModel, TaskModel}
@@ -7,6 +7,7 @@ use Rattle.msrp_plan.specs.Levels.{greatest}
 use Rattle.msrp_plan.specs.Bounds.{in_section, section_start, wait_bound}
 use Rattle.msrp_plan.specs.WellFormed.{IsLocking}
 use Rattle.msrp_plan.specs.declared.units.Op.{Op}
+use Rattle.msrp_plan.specs.declared.units.Op.TheVariants.{Run}
 use Rattle.msrp_plan.proofs.Lists.Ranges.{not_equal}
 use Rattle.msrp_levels.specs.Outermost.{held_with_unit}
 use Rattle.msrp_levels.proofs.HeldUnits.{IsHeldAt, held_first, held_step, inside, outside}
@@ -96,3 +97,60 @@ module _ (plan : PlanModel) (task : TaskModel) where
       few : (b : Bool) → cond b 0 (rows + 1) ≤ rows + 1
       few true = omega arith
       few false = omega arith
+
+  -- ---- work in between
+  -- what a pass that counts at locks and unlocks alone has counted, the last of which was this one
+  pub record IsPassed (n held rows last longest : ℕ) : Type 0 where
+    pub all : ℕ
+    pub most : ℕ
+    pub counted : IsCounted n held all most
+    pub closed : held ≡ 0 → most ≡ longest
+    pub opened : 0 < held → (last < n) × (all + last + 1 ≡ rows + n) × (most ≡ max longest all)
+
+  pub passed_first : IsPassed 0 0 0 0 0
+  passed_first = record { all = 0; most = 0; counted = counted_first; closed = λ e. refl; opened = λ l. absurd (omega (arith, l)) }
+
+  -- one unit of work more
+  pub passed_work : (n held rows last longest : ℕ) → IsLocking plan task.units → slice_get task.units n ≡ Some Run → IsPassed n held rows last longest → IsPassed (n + 1) held rows last longest
+  passed_work n held rows last longest locking at h =
+      let next = cond (held == 0) 0 (h.all + 1) in
+      let step = counted_step n held h.all h.most 0 (next + 0) Run locking at refl (omega arith) refl h.counted in
+      record {
+        all = next + 0;
+        most = max h.most (next + 0);
+        counted = step;
+        closed = λ e. let none : next ≡ 0 = ap (λ b. cond b 0 (h.all + 1)) (eq-eqb held 0 e) in let same = h.closed e in omega (arith, none, same);
+        opened = λ l.
+            let one : next ≡ h.all + 1 = ap (λ b. cond b 0 (h.all + 1)) (not_equal held 0 (λ z. absurd (omega (arith, z, l)))) in
+            let before = h.opened l in
+            (omega (arith, before.0), omega (arith, one, before.1), omega (arith, one, before.2));
+      }
+
+  -- a lock or an unlock more
+  pub passed_step : (n held rows last longest w r : ℕ) (u : Op) → IsLocking plan task.units → slice_get task.units n ≡ Some u → w ≡ wait_bound plan task.core (Some u) → w ≤ 32777 → r ≡ cond (held == 0) 0 (rows + (n - last)) + w
+      → IsPassed n held rows last longest → IsPassed (n + 1) (held_with_unit held u) r n (max longest r)
+  passed_step n held rows last longest w r u locking at wait small is h =
+      let next = cond (held == 0) 0 (h.all + 1) + w in
+      let step = counted_step n held h.all h.most w next u locking at wait small refl h.counted in
+      let same = by_held held refl in
+      record {
+        all = next;
+        most = max h.most next;
+        counted = step;
+        closed = λ e. same.1;
+        opened = λ l. (omega arith, omega (arith, same.0), omega (arith, same.0, same.1));
+      }
+    where
+      by_held : (k : ℕ) → k ≡ held → (r ≡ cond (held == 0) 0 (h.all + 1) + w) × (max h.most (cond (held == 0) 0 (h.all + 1) + w) ≡ max longest r)
+      by_held zero e =
+          let none : (held == 0) ≡ true = eq-eqb held 0 (sym e) in
+          let old = is ∙ ap (λ b. cond b 0 (rows + (n - last)) + w) none in
+          let new : cond (held == 0) 0 (h.all + 1) + w ≡ 0 + w = ap (λ b. cond b 0 (h.all + 1) + w) none in
+          let same = h.closed (sym e) in
+          (omega (arith, old, new), omega (arith, old, new, same))
+      by_held (suc k) e =
+          let some : (held == 0) ≡ false = not_equal held 0 (λ z. absurd (omega (arith, z, e))) in
+          let old = is ∙ ap (λ b. cond b 0 (rows + (n - last)) + w) some in
+          let new : cond (held == 0) 0 (h.all + 1) + w ≡ (h.all + 1) + w = ap (λ b. cond b 0 (h.all + 1) + w) some in
+          let before = h.opened (omega (arith, e)) in
+          (omega (arith, old, new, before.0, before.1), omega (arith, old, new, before.0, before.1, before.2))

@@ -52,13 +52,21 @@ fn out_of(plan: &Plan, usages: &[Usage], task: TaskId) -> u32
     let core = plan.core_of(task);
     let mut held = 0;
     let mut rows = 0;
+    // The place of the last lock or unlock.
+    let mut last = 0;
     let mut longest = 0u32;
     for place in 0..plan.units(task) {
         let unit = plan.unit(task, place);
+        // Work is a row of the section that is open, if one is: the section's next lock or unlock counts it.
+        if unit == Op::Run {
+            continue;
+        }
         // The rows of the outermost section so far; outside of all, one begins here if one does.
-        rows = if held == 0 { 0 } else { rows + 1 } + wait_of(plan, usages, core, unit);
+        rows = if held == 0 { 0 } else { rows + (place - last) }
+            + wait_of(plan, usages, core, unit);
         longest = longest.max(rows);
         held = held_with(held, unit);
+        last = place;
     }
     longest
 }

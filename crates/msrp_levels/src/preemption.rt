@@ -27,7 +27,13 @@ fn level_among(deadlines: &[u32], deadline: u32) -> u32
     requires { length deadlines.now ≤ most_tasks }
     ensures { result ≡ count_by (nat_lt deadline) deadlines.now + 1 }
 {
-    deadlines.iter().filter(|other| deadline < **other).count() as u32 + 1
+    let mut level = 1;
+    for other in deadlines {
+        if deadline < *other {
+            level += 1;
+        }
+    }
+    level
 }
 
 /// The levels of the tasks, in their order.
