@@ -26,14 +26,12 @@ impl CoreUse {
         section: 0,
     };
 
-    // With one user more on the core, whose longest section is this one.
-    fn with_user(self, section: u32) -> CoreUse
-        ensures { result ≡ with_user section self }
+    // One user more on the core, whose longest section is this one.
+    fn add_user(&mut self, section: u32)
+        ensures { self.new ≡ with_user section self.old }
     {
-        CoreUse {
-            used: true,
-            section: self.section.max(section),
-        }
+        self.used = true;
+        self.section = self.section.max(section);
     }
 }
 
@@ -122,8 +120,7 @@ impl Usage {
             if task.locks(res) {
                 users.push_reserved(TaskId(t as u32));
                 ceiling = ceiling.max(task.level);
-                let core = task.core.0 as usize;
-                cores[core] = cores[core].with_user(task.longest(res));
+                cores[task.core.0 as usize].add_user(task.longest(res));
             }
         }
         let spins = spins_among(alloc, &cores)?;

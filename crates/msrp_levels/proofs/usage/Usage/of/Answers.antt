@@ -37,10 +37,10 @@ used : (plan : PlanModel) (g : ℕ) (f : Footprint) (t : ℕ) (b c : Bool) → g
 used plan g f t b c l is locks e = sym (locks_same plan g l (task_at plan t)) ∙ (sym (ap (locks_in g) is) ∙ (sym locks ∙ e))
 
 -- its core is there
-core_stored : (plan : PlanModel) (f : Footprint) (t : ℕ) (us : List TaskId) (k : ℕ) (cores : List CoreUse) (g : ℕ) → IsPlan plan → t < length plan.tasks → f ≡ footprint_of plan (task_at plan t) → AreTold plan g t us k cores → f.core.0 < length cores
-core_stored plan f t us k cores g ok l is told =
-    let known = (ok.draft.each t l).core in
-    let at = ap (λ (x : Footprint). x.core.0) is in
+core_stored : (plan : PlanModel) (tasks : List Footprint) (t : ℕ) (us : List TaskId) (k : ℕ) (cores : List CoreUse) (g : ℕ) → IsPlan plan → tasks ≡ footprints plan → t < length tasks → AreTold plan g t us k cores → (get_or tasks t nobody).core.0 < length cores
+core_stored plan tasks t us k cores g ok same l told =
+    let known = (ok.draft.each t (within plan tasks t same l)).core in
+    let at = ap (λ (f : Footprint). f.core.0) (seen plan tasks t nobody same l) in
     let size = ap length told.cores ∙ length-map-range_with_len (core_use (take t plan.tasks) g) 0 plan.cores in
     omega (arith, known, at, size)
 
@@ -54,22 +54,10 @@ loop-t-init c =
       few = omega (arith, ap length c.in_ok-users.ensures.items);
     }
 
-pub index-requires : goal.index-requires
-index-requires c =
-    let plan = c.args.plan.now in
-    let t = c.loop-t.t in
-    let many : vec_len c.loop-t.cores ≡ length c.loop-t.cores.items = search rules in
-    let known = core_stored plan (get_or c.args.tasks.now t nobody) t c.loop-t.users.items c.loop-t.ceiling c.loop-t.cores.items c.args.res.0 c.cores.ensures.plan (within plan c.args.tasks.now t c.requires.tasks c.loop-t-test.true)
-    (seen plan c.args.tasks.now t nobody c.requires.tasks c.loop-t-test.true) c.loop-t.invariant.told in
-    omega (arith, many, known)
-
 pub index_mut-requires : goal.index_mut-requires
 index_mut-requires c =
-    let plan = c.args.plan.now in
-    let t = c.loop-t.t in
     let many : vec_len c.loop-t.cores ≡ length c.loop-t.cores.items = search rules in
-    let known = core_stored plan (get_or c.args.tasks.now t nobody) t c.loop-t.users.items c.loop-t.ceiling c.loop-t.cores.items c.args.res.0 c.cores.ensures.plan (within plan c.args.tasks.now t c.requires.tasks c.loop-t-test.true)
-    (seen plan c.args.tasks.now t nobody c.requires.tasks c.loop-t-test.true) c.loop-t.invariant.told in
+    let known = core_stored c.args.plan.now c.args.tasks.now c.loop-t.t c.loop-t.users.items c.loop-t.ceiling c.loop-t.cores.items c.args.res.0 c.cores.ensures.plan c.requires.tasks c.loop-t-test.true c.loop-t.invariant.told in
     omega (arith, many, known)
 
 pub loop-t-preserved : goal.loop-t-preserved
@@ -86,16 +74,16 @@ loop-t-preserved c =
       | then-locks w ↦
           let task = task_at plan t in
           let old = c.loop-t.cores.items in
-          let told = told_user plan g t c.loop-t.users.items c.loop-t.ceiling old w.index.result.now l (ok.draft.each t l).core (used plan g f t c.locks.result true small is c.locks.ensures w.if-locks.true) c.loop-t.invariant.told in
+          let told = told_user plan g t c.loop-t.users.items c.loop-t.ceiling old w.index_mut.result.now l (ok.draft.each t l).core (used plan g f t c.locks.result true small is c.locks.ensures w.if-locks.true) c.loop-t.invariant.told in
           let users : c.if-locks.users.items ≡ c.loop-t.users.items ++ (record { 0 = t }) ∷ [] = ap (λ v. v.items) w.users-is ∙ w.push_reserved.ensures.items in
           let longest = w.longest.ensures ∙ (ap (longest_in g) is ∙ longest_same plan g small task) in
-          let new : w.with_user.result ≡ with_user (longest_section g task.units) (get_or old f.core.0 w.index.result.now) = w.with_user.ensures ∙ (ap (λ n. with_user n w.index.result.now) longest ∙ ap (with_user (longest_section g task.units)) w.index.ensures) in
-          let cores : c.if-locks.cores.items ≡ set old f.core.0 w.with_user.result = ap (λ v. v.items) w.cores-is in
+          let new : w.add_user.new.self ≡ with_user (longest_section g task.units) (get_or old f.core.0 w.index_mut.result.now) = w.add_user.ensures ∙ (ap (λ n. with_user n w.index_mut.result.now) longest ∙ ap (with_user (longest_section g task.units)) w.index_mut.ensures.value) in
+          let cores : c.if-locks.cores.items ≡ set old f.core.0 w.add_user.new.self = ap (λ v. v.items) w.cores-is in
           let highest : w.max-ceiling.result ≡ max c.loop-t.ceiling f.level = search rules in
           record {
             told = told_same plan g (t + 1) _ c.if-locks.users.items _ c.if-locks.ceiling _ c.if-locks.cores.items users
                 (w.ceiling-is ∙ (highest ∙ ap (λ (x : Footprint). max c.loop-t.ceiling x.level) is))
-                (cores ∙ (ap (set old f.core.0) new ∙ ap (λ (x : Footprint). set old x.core.0 (with_user (longest_section g task.units) (get_or old x.core.0 w.index.result.now))) is)) told;
+                (cores ∙ (ap (set old f.core.0) new ∙ ap (λ (x : Footprint). set old x.core.0 (with_user (longest_section g task.units) (get_or old x.core.0 w.index_mut.result.now))) is)) told;
             room = ap vec_capacity w.users-is ∙ (w.push_reserved.ensures.capacity ∙ c.loop-t.invariant.room);
             few = let size = ap length users ∙ length_push c.loop-t.users.items (record { 0 = t }) in omega (arith, size, c.loop-t.invariant.few);
           }
