@@ -1,5 +1,5 @@
 //! The ceiling of a core after each of its ticks, as the core's rows tell it.
-ghost use Rattle.std.specs.Prelude.{◌≡◌, ◌<◌, ◌-◌, ◌^◌, ◌∷◌, ◌++◌, [], ℕ, List, length, max, IfOk, OnOk};
+ghost use Rattle.std.specs.Prelude.{◌≡◌, ◌<◌, ◌-◌, ◌^◌, ◌∷◌, ◌++◌, [], List, length, max, IfOk, OnOk};
 ghost use Rattle.msrp_plan.specs.Plan.{PlanModel};
 ghost use Rattle.msrp_plan.specs.declared.rows.Row.{Row as TraceRow};
 ghost use Rattle.msrp_picture.specs.Ceilings.{ceiling_shapes, ceiling_spans, raised, told_ceiling};
@@ -20,11 +20,7 @@ use std::alloc::Global;
 fn no_claims(alloc: Global, plan: &Plan) -> Result<Vec<bool>, Memory>
     ensures { IfOk result (λ kept. kept.items ≡ claims plan.now []) }
 {
-    let mut kept = Vec::new(alloc);
-    for _ in 0..plan.resources() {
-        kept.push(false)?;
-    }
-    Ok(kept)
+    Ok((0..plan.resources()).map(|_| false).collect(alloc)?)
 }
 
 // Keeps of the resource of a row whether the row claims it or gives it back.
