@@ -10,7 +10,7 @@ use Rattle.msrp_plan.specs.declared.faults.PlanFault.TheVariants as fault
 use Rattle.msrp_text.specs.Fields.{has_word, name_at}
 use Rattle.msrp_text.specs.Reading.{is_op_word, number_told}
 use Rattle.msrp_advice.specs.declared.advice.Advice.{Advice}
-use Rattle.msrp_advice.specs.declared.advice.Advice.TheVariants.{NoRecord, Comment, Zeros, Semicolons, SpareCommas, OpenQuote, Blanks, TraceGiven, UnknownVersion, NoVersion, CutShort, CoresDue, TicksDue, LateResource, UnknownStep, NoTaskYet, OldVersion, StrayRelease, FirstThree, UnknownRecord, TwoFields, SixFields, FourFields, ThreeFields, NotNumber, NoName, LongName, Capitals, Dots, OddName, TakenResource, TakenTask, CoresLimit, TicksLimit, ResourcesLimit, PeriodLimit, DeadlineLimit, ListedDeadlineLimit, OffsetLimit, TasksLimit, ReleaseLimits, EmptyRun, RunLimit, LockLimit, Undeclared, NoSuchCore, LockedTwice, NotInnermost, StillHeld, NestedGlobal, NoUnit, ManyJobs, NotRising, NoRelease, Unread}
+use Rattle.msrp_advice.specs.declared.advice.Advice.TheVariants.{NoRecord, Comment, Zeros, Semicolons, SpareCommas, OpenQuote, Blanks, TraceGiven, UnknownVersion, NoVersion, CutShort, SecondIsCores, ThirdIsTicks, LateResource, UnknownStep, NoTaskYet, OldVersion, StrayRelease, FirstThree, UnknownRecord, TwoFields, SixFields, FourFields, ThreeFields, NotNumber, NoName, LongName, Capitals, Dots, OddName, TakenResource, TakenTask, CoresLimit, TicksLimit, ResourcesLimit, PeriodLimit, DeadlineLimit, ListedDeadlineLimit, OffsetLimit, TasksLimit, ReleaseLimits, EmptyRun, RunLimit, LockLimit, Undeclared, NoSuchCore, LockedTwice, NotInnermost, StillHeld, NestedGlobal, NoUnit, ManyJobs, NotRising, NoRelease, Unread}
 
 -- ---- what a field has
 -- the field is there and has that byte
@@ -87,8 +87,8 @@ body_advice fields =
 abbrev pub place_advice : ℕ → List (List ℕ) → Advice
 place_advice number fields =
     if length fields == 0 then CutShort
-    else if number == 2 then CoresDue
-    else if number == 3 then TicksDue
+    else if number == 2 then SecondIsCores
+    else if number == 3 then ThirdIsTicks
     else body_advice fields
 
 -- P3

@@ -32,12 +32,12 @@ abbrev pub core_warning : PlanModel → ℕ → List ℕ
 core_warning plan c = warn_if (top plan c == 0) (codes "core " ++ (decimal c ++ codes " has no task\n"))
 
 -- how many units the jobs of a task have, where it is a task of that core
-abbrev pub units_due : PlanModel → ℕ → ℕ → ℕ
-units_due plan c t = if (task_at plan t).core == c then length (jobs_of plan t) * length (task_at plan t).units else 0
+abbrev pub units_of : PlanModel → ℕ → ℕ → ℕ
+units_of plan c t = if (task_at plan t).core == c then length (jobs_of plan t) * length (task_at plan t).units else 0
 
 -- how many units the jobs of a core have
 abbrev pub core_units : PlanModel → ℕ → ℕ
-core_units plan c = sum_by (units_due plan c) (range_with_len 0 (length plan.tasks))
+core_units plan c = sum_by (units_of plan c) (range_with_len 0 (length plan.tasks))
 
 -- a core whose jobs have more units than there are ticks
 abbrev pub load_warning : PlanModel → ℕ → List ℕ

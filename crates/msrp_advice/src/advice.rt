@@ -17,7 +17,7 @@ pub enum Advice {
     OpenQuote,
     /// A field begins or ends with a blank.
     Blanks,
-    /// A trace where a plan is due.
+    /// A trace where a plan is wanted.
     TraceGiven,
     /// A version that isn't known.
     UnknownVersion,
@@ -25,10 +25,10 @@ pub enum Advice {
     NoVersion,
     /// The text ends before its ticks.
     CutShort,
-    /// The cores are due.
-    CoresDue,
-    /// The ticks are due.
-    TicksDue,
+    /// The second record has not the cores.
+    SecondIsCores,
+    /// The third record has not the ticks.
+    ThirdIsTicks,
     /// A resource after a task.
     LateResource,
     /// An operation that isn't known.

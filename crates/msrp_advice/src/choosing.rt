@@ -4,7 +4,7 @@ ghost use Rattle.std.specs.Char.{is_ascii_uppercase};
 ghost use Rattle.std.specs.List.{list_any};
 ghost use Rattle.csv.specs.Records.{fields_of};
 ghost use Rattle.msrp_text.specs.Reading.{is_op_word};
-ghost use Rattle.msrp_advice.specs.Choosing as due;
+ghost use Rattle.msrp_advice.specs.Choosing as spec;
 ghost use Rattle.msrp_advice.specs.Choosing.{advice_of, written_or};
 
 use crate::advice::Advice;
@@ -15,7 +15,7 @@ use msrp_text::fields::{has_word, name_at, number_at};
 
 // Whether a field is there and has that byte.
 fn has_byte(field: Option<&[u8]>, byte: u8) -> bool
-    ensures { result ≡ due.has_byte byte (option_map (λ f. f.now) field.entry) }
+    ensures { result ≡ spec.has_byte byte (option_map (λ f. f.now) field.entry) }
 {
     match field {
         Some(field) => field.contains(&byte),
@@ -32,7 +32,7 @@ fn is_any_capital(field: &[u8]) -> bool
 
 // Whether a field is there and has a capital.
 fn has_capital(field: Option<&[u8]>) -> bool
-    ensures { result ≡ due.has_capital (option_map (λ f. f.now) field.entry) }
+    ensures { result ≡ spec.has_capital (option_map (λ f. f.now) field.entry) }
 {
     match field {
         Some(field) => is_any_capital(field),
@@ -42,14 +42,14 @@ fn has_capital(field: Option<&[u8]>) -> bool
 
 // A blank or a tab.
 fn is_blank(byte: u8) -> bool
-    ensures { result ≡ due.is_blank byte }
+    ensures { result ≡ spec.is_blank byte }
 {
     byte == b' ' || byte == b'\t'
 }
 
 /// Whether a field is there, and begins or ends with a blank.
 pub(crate) fn is_padded(field: Option<&[u8]>) -> bool
-    ensures { result ≡ due.is_padded (option_map (λ f. f.now) field.entry) }
+    ensures { result ≡ spec.is_padded (option_map (λ f. f.now) field.entry) }
 {
     match field {
         Some(field) => {
@@ -61,7 +61,7 @@ pub(crate) fn is_padded(field: Option<&[u8]>) -> bool
 
 // Whether a field is there and begins with that byte.
 fn begins_with(field: Option<&[u8]>, byte: u8) -> bool
-    ensures { result ≡ due.begins_with byte (option_map (λ f. f.now) field.entry) }
+    ensures { result ≡ spec.begins_with byte (option_map (λ f. f.now) field.entry) }
 {
     match field {
         Some(field) => 0 < field.len() && field[0] == byte,
@@ -71,7 +71,7 @@ fn begins_with(field: Option<&[u8]>, byte: u8) -> bool
 
 // Whether one of the first six fields begins or ends with a blank.
 fn has_blanks(row: &ByteRecord) -> bool
-    ensures { result ≡ due.has_blanks (fields_of row.now) }
+    ensures { result ≡ spec.has_blanks (fields_of row.now) }
 {
     is_padded(row.get(0))
         || is_padded(row.get(1))
@@ -83,14 +83,14 @@ fn has_blanks(row: &ByteRecord) -> bool
 
 // Whether the last of several fields is empty.
 fn ends_in_comma(row: &ByteRecord) -> bool
-    ensures { result ≡ due.ends_in_comma (fields_of row.now) }
+    ensures { result ≡ spec.ends_in_comma (fields_of row.now) }
 {
     1 < row.len() && has_word(row, row.len() - 1, b"")
 }
 
 // Whether the last field has the end of a line in it.
 fn goes_over_lines(row: &ByteRecord) -> bool
-    ensures { result ≡ due.goes_over_lines (fields_of row.now) }
+    ensures { result ≡ spec.goes_over_lines (fields_of row.now) }
 {
     0 < row.len()
         && (has_byte(row.get(row.len() - 1), b'\n') || has_byte(row.get(row.len() - 1), b'\r'))
@@ -119,7 +119,7 @@ fn written_or(row: &ByteRecord, advice: Advice) -> Advice
 
 // P1.
 fn version_advice(row: &ByteRecord) -> Advice
-    ensures { result ≡ due.version_advice (fields_of row.now) }
+    ensures { result ≡ spec.version_advice (fields_of row.now) }
 {
     if row.len() == 0 {
         Advice::NoRecord
@@ -141,7 +141,7 @@ fn is_op_word(row: &ByteRecord) -> bool
 
 // P2, of an operation's record.
 fn op_advice(row: &ByteRecord) -> Advice
-    ensures { result ≡ due.op_advice (fields_of row.now) }
+    ensures { result ≡ spec.op_advice (fields_of row.now) }
 {
     if row.len() <= 1 || is_op_word(row) {
         Advice::NoTaskYet
@@ -152,14 +152,14 @@ fn op_advice(row: &ByteRecord) -> Advice
 
 // Whether it is one of the first three records.
 fn is_head(row: &ByteRecord) -> bool
-    ensures { result ≡ due.is_head (fields_of row.now) }
+    ensures { result ≡ spec.is_head (fields_of row.now) }
 {
     has_word(row, 0, b"msrp") || has_word(row, 0, b"cores") || has_word(row, 0, b"ticks")
 }
 
 // P2, of a record after the first three.
 fn body_advice(row: &ByteRecord) -> Advice
-    ensures { result ≡ due.body_advice (fields_of row.now) }
+    ensures { result ≡ spec.body_advice (fields_of row.now) }
 {
     if has_word(row, 0, b"resource") {
         Advice::LateResource
@@ -178,14 +178,14 @@ fn body_advice(row: &ByteRecord) -> Advice
 
 // P2.
 fn place_advice(number: u32, row: &ByteRecord) -> Advice
-    ensures { result ≡ due.place_advice number (fields_of row.now) }
+    ensures { result ≡ spec.place_advice number (fields_of row.now) }
 {
     if row.len() == 0 {
         Advice::CutShort
     } else if number == 2 {
-        Advice::CoresDue
+        Advice::SecondIsCores
     } else if number == 3 {
-        Advice::TicksDue
+        Advice::ThirdIsTicks
     } else {
         body_advice(row)
     }
@@ -193,7 +193,7 @@ fn place_advice(number: u32, row: &ByteRecord) -> Advice
 
 // P3.
 fn count_advice(row: &ByteRecord) -> Advice
-    ensures { result ≡ due.count_advice (fields_of row.now) }
+    ensures { result ≡ spec.count_advice (fields_of row.now) }
 {
     if has_word(row, 0, b"task") {
         Advice::SixFields
@@ -208,7 +208,7 @@ fn count_advice(row: &ByteRecord) -> Advice
 
 // P5.
 fn name_advice(row: &ByteRecord) -> Advice
-    ensures { result ≡ due.name_advice (fields_of row.now) }
+    ensures { result ≡ spec.name_advice (fields_of row.now) }
 {
     if name_at(row, 1).len() == 0 {
         Advice::NoName
@@ -227,7 +227,7 @@ fn name_advice(row: &ByteRecord) -> Advice
 
 // P6.
 fn taken_advice(row: &ByteRecord) -> Advice
-    ensures { result ≡ due.taken_advice (fields_of row.now) }
+    ensures { result ≡ spec.taken_advice (fields_of row.now) }
 {
     if has_word(row, 0, b"resource") {
         Advice::TakenResource
@@ -238,7 +238,7 @@ fn taken_advice(row: &ByteRecord) -> Advice
 
 // Whether the number at a place is below the least or above the longest time.
 fn is_out(least: u32, row: &ByteRecord, i: usize) -> bool
-    ensures { result ≡ due.is_out least (fields_of row.now) i }
+    ensures { result ≡ spec.is_out least (fields_of row.now) i }
 {
     let number = number_at(row, i).unwrap_or(0);
     !(least <= number && number <= LONGEST_TIME)
@@ -246,7 +246,7 @@ fn is_out(least: u32, row: &ByteRecord, i: usize) -> bool
 
 // P7, of a task's record.
 fn task_advice(row: &ByteRecord) -> Advice
-    ensures { result ≡ due.task_advice (fields_of row.now) }
+    ensures { result ≡ spec.task_advice (fields_of row.now) }
 {
     if is_out(1, row, 3) {
         Advice::PeriodLimit
@@ -261,7 +261,7 @@ fn task_advice(row: &ByteRecord) -> Advice
 
 // P7, of a listed task's record.
 fn listed_advice(row: &ByteRecord) -> Advice
-    ensures { result ≡ due.listed_advice (fields_of row.now) }
+    ensures { result ≡ spec.listed_advice (fields_of row.now) }
 {
     if is_out(1, row, 3) {
         Advice::ListedDeadlineLimit
@@ -272,7 +272,7 @@ fn listed_advice(row: &ByteRecord) -> Advice
 
 // P7, of a run.
 fn run_advice(row: &ByteRecord) -> Advice
-    ensures { result ≡ due.run_advice (fields_of row.now) }
+    ensures { result ≡ spec.run_advice (fields_of row.now) }
 {
     if number_at(row, 2).unwrap_or(0) == 0 {
         Advice::EmptyRun
@@ -283,7 +283,7 @@ fn run_advice(row: &ByteRecord) -> Advice
 
 // P7.
 fn limit_advice(number: u32, row: &ByteRecord) -> Advice
-    ensures { result ≡ due.limit_advice number (fields_of row.now) }
+    ensures { result ≡ spec.limit_advice number (fields_of row.now) }
 {
     if number == 2 {
         Advice::CoresLimit
@@ -306,7 +306,7 @@ fn limit_advice(number: u32, row: &ByteRecord) -> Advice
 
 // P10.
 fn nesting_advice(row: &ByteRecord) -> Advice
-    ensures { result ≡ due.nesting_advice (fields_of row.now) }
+    ensures { result ≡ spec.nesting_advice (fields_of row.now) }
 {
     if !has_word(row, 0, b"op") {
         Advice::StillHeld
@@ -319,7 +319,7 @@ fn nesting_advice(row: &ByteRecord) -> Advice
 
 // P14.
 fn release_advice(row: &ByteRecord) -> Advice
-    ensures { result ≡ due.release_advice (fields_of row.now) }
+    ensures { result ≡ spec.release_advice (fields_of row.now) }
 {
     if has_word(row, 0, b"release") {
         Advice::NotRising

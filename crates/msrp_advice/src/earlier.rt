@@ -3,7 +3,7 @@ ghost use Rattle.std.specs.Prelude.{◌≡◌, ◌<◌, ◌≤◌, ◌+◌, ◌-
 ghost use Rattle.std.specs.Option.{IfSome};
 ghost use Rattle.csv.specs.Records.{fields_of};
 ghost use Rattle.msrp_text.specs.Reading.{number_told, record_at};
-ghost use Rattle.msrp_advice.specs.Earlier as due;
+ghost use Rattle.msrp_advice.specs.Earlier as spec;
 ghost use Rattle.msrp_advice.specs.Nested.{last_place};
 
 use crate::advice::Advice;
@@ -42,7 +42,7 @@ pub enum Sought {
 
 // What is sought for each advice.
 fn sought_by(advice: Advice) -> Sought
-    ensures { result ≡ due.sought_by advice }
+    ensures { result ≡ spec.sought_by advice }
 {
     match advice {
         Advice::TakenResource => Sought::SameResource,
@@ -59,7 +59,7 @@ fn sought_by(advice: Advice) -> Sought
 
 /// How many of the records before the refused one are searched.
 pub(crate) fn searched(sought: Sought, all: usize) -> usize
-    ensures searched { result ≡ due.searched sought all }
+    ensures searched { result ≡ spec.searched sought all }
     ensures bound { result ≤ all }
 {
     match sought {
@@ -71,7 +71,7 @@ pub(crate) fn searched(sought: Sought, all: usize) -> usize
 // Whether the record at a place is one that is sought.
 fn is_sought(sought: Sought, before: &[ByteRecord], row: &ByteRecord, i: usize) -> bool
     requires { i < length before.now }
-    ensures { result ≡ due.is_sought sought (map fields_of before.now) (fields_of row.now) i }
+    ensures { result ≡ spec.is_sought sought (map fields_of before.now) (fields_of row.now) i }
 {
     match sought {
         Sought::Nothing => false,
@@ -89,7 +89,7 @@ fn is_sought(sought: Sought, before: &[ByteRecord], row: &ByteRecord, i: usize) 
 // The last of the first `n` places whose record is sought.
 fn last_place(sought: Sought, before: &[ByteRecord], row: &ByteRecord, n: usize) -> Option<usize>
     requires { n ≤ length before.now }
-    ensures place { result ≡ last_place (due.is_sought sought (map fields_of before.now) (fields_of row.now)) n }
+    ensures place { result ≡ last_place (spec.is_sought sought (map fields_of before.now) (fields_of row.now)) n }
     ensures bound { IfSome result (λ i. i < n) }
 {
     let mut last = None;
@@ -103,7 +103,7 @@ fn last_place(sought: Sought, before: &[ByteRecord], row: &ByteRecord, n: usize)
 
 // The last of the records that are searched for what is sought.
 fn last_sought(sought: Sought, before: &[ByteRecord], row: &ByteRecord) -> Option<usize>
-    ensures place { result ≡ last_place (due.is_sought sought (map fields_of before.now) (fields_of row.now)) (due.searched sought (length before.now)) }
+    ensures place { result ≡ last_place (spec.is_sought sought (map fields_of before.now) (fields_of row.now)) (spec.searched sought (length before.now)) }
     ensures bound { IfSome result (λ i. i < length before.now) }
 {
     last_place(sought, before, row, searched(sought, before.len()))
@@ -111,7 +111,7 @@ fn last_sought(sought: Sought, before: &[ByteRecord], row: &ByteRecord) -> Optio
 
 // How many jobs a periodic task releases within so many ticks.
 fn jobs_within(ticks: u32, row: &ByteRecord) -> u64
-    ensures { result ≡ due.jobs_within ticks (fields_of row.now) }
+    ensures { result ≡ spec.jobs_within ticks (fields_of row.now) }
 {
     let period = number_told(row, 3);
     if period == 0 {
@@ -136,7 +136,7 @@ fn ticks_told(before: &[ByteRecord]) -> u32
 fn jobs_told(before: &[ByteRecord], ticks: u32, i: usize) -> u64
     requires within { i < length before.now }
     requires ticks { ticks ≡ number_told (record_at (map fields_of before.now) 2) 1 }
-    ensures { result ≡ due.jobs_told (map fields_of before.now) i }
+    ensures { result ≡ spec.jobs_told (map fields_of before.now) i }
 {
     if has_word(&before[i], 0, b"task") {
         jobs_within(ticks, &before[i])
@@ -147,7 +147,7 @@ fn jobs_told(before: &[ByteRecord], ticks: u32, i: usize) -> u64
 
 // The first of the periodic tasks that release the most jobs, if one releases any.
 fn busiest(before: &[ByteRecord]) -> Option<usize>
-    ensures place { result ≡ due.greatest_place (due.jobs_told (map fields_of before.now)) (length before.now) }
+    ensures place { result ≡ spec.greatest_place (spec.jobs_told (map fields_of before.now)) (length before.now) }
     ensures bound { IfSome result (λ i. i < length before.now) }
 {
     let ticks = ticks_told(before);
@@ -165,7 +165,7 @@ fn busiest(before: &[ByteRecord]) -> Option<usize>
 
 /// The earlier record that an advice on a refused record concerns, if there is one.
 pub(crate) fn earlier_of(advice: Advice, before: &[ByteRecord], row: &ByteRecord) -> Option<usize>
-    ensures place { result ≡ due.earlier_of advice (map fields_of before.now) (fields_of row.now) }
+    ensures place { result ≡ spec.earlier_of advice (map fields_of before.now) (fields_of row.now) }
     ensures bound { IfSome result (λ i. i < length before.now) }
 {
     match advice {
@@ -176,7 +176,7 @@ pub(crate) fn earlier_of(advice: Advice, before: &[ByteRecord], row: &ByteRecord
 
 /// The advice, once the earlier record is known.
 pub(crate) fn known_advice(advice: Advice, found: Option<usize>) -> Advice
-    ensures { result ≡ due.known_advice advice found }
+    ensures { result ≡ spec.known_advice advice found }
 {
     match (advice, found) {
         (Advice::NotInnermost, None) => Advice::NothingHeld,
@@ -189,7 +189,7 @@ pub(crate) fn known_advice(advice: Advice, found: Option<usize>) -> Advice
 // A field of the record at a place, empty where there is none.
 fn field_told(before: &[ByteRecord], place: Option<usize>, field: usize) -> &[u8]
     requires { IfSome place (λ i. i < length before.now) }
-    ensures { result.now ≡ due.field_told (map fields_of before.now) place field }
+    ensures { result.now ≡ spec.field_told (map fields_of before.now) place field }
 {
     match place {
         Some(i) => bytes_of(before[i].get(field)),
@@ -200,7 +200,7 @@ fn field_told(before: &[ByteRecord], place: Option<usize>, field: usize) -> &[u8
 /// How many records there are up to that one, or all.
 pub(crate) fn up_to(found: Option<usize>, all: usize) -> usize
     requires { IfSome found (λ i. i < 2 ^ 64 - 1) }
-    ensures { result ≡ due.up_to found all }
+    ensures { result ≡ spec.up_to found all }
 {
     match found {
         Some(i) => i + 1,
@@ -215,7 +215,7 @@ pub(crate) fn task_told<'a>(
     found: Option<usize>,
 ) -> &'a [u8]
     requires { IfSome found (λ i. i < length before.now) }
-    ensures { result.now ≡ due.task_told (map fields_of before.now) (fields_of row.now) found }
+    ensures { result.now ≡ spec.task_told (map fields_of before.now) (fields_of row.now) found }
 {
     let task = last_place(Sought::Task, before, row, up_to(found, before.len()));
     field_told(before, task, 1)
@@ -224,7 +224,7 @@ pub(crate) fn task_told<'a>(
 // The place of what a record names.
 fn name_place(before: &[ByteRecord], found: Option<usize>) -> usize
     requires { IfSome found (λ i. i < length before.now) }
-    ensures { result ≡ due.name_place (map fields_of before.now) found }
+    ensures { result ≡ spec.name_place (map fields_of before.now) found }
 {
     match found {
         Some(i) if has_word(&before[i], 0, b"op") => 2,
@@ -235,7 +235,7 @@ fn name_place(before: &[ByteRecord], found: Option<usize>) -> usize
 /// What a record names.
 pub(crate) fn name_told(before: &[ByteRecord], found: Option<usize>) -> &[u8]
     requires { IfSome found (λ i. i < length before.now) }
-    ensures { result.now ≡ due.name_told (map fields_of before.now) found }
+    ensures { result.now ≡ spec.name_told (map fields_of before.now) found }
 {
     field_told(before, found, name_place(before, found))
 }
@@ -243,7 +243,7 @@ pub(crate) fn name_told(before: &[ByteRecord], found: Option<usize>) -> &[u8]
 /// Of a lock inside a global resource's section the lock of that resource.
 pub(crate) fn outer_told(before: &[ByteRecord], found: Option<usize>) -> Option<usize>
     requires { IfSome found (λ i. i < length before.now) }
-    ensures place { result ≡ due.outer_told (map fields_of before.now) found }
+    ensures place { result ≡ spec.outer_told (map fields_of before.now) found }
     ensures bound { IfSome result (λ i. i < length before.now) }
 {
     match found {

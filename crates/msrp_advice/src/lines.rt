@@ -2,12 +2,12 @@
 ghost use Rattle.std.specs.Prelude.{◌≡◌, ◌≤◌, ◌<◌, ◌+◌, ◌-◌, ◌^◌, ◌==◌, ◌&&◌, Some, length, option_map, if◌then◌else◌};
 ghost use Rattle.std.specs.Option.{IfSome};
 ghost use Rattle.csv.specs.Reading.{strip_bom};
-ghost use Rattle.msrp_advice.specs.Lines as due;
+ghost use Rattle.msrp_advice.specs.Lines as spec;
 ghost use Rattle.msrp_advice.specs.Nested.{last_place};
 
 // LF or CR.
 fn is_break(byte: u8) -> bool
-    ensures { result ≡ due.is_break byte }
+    ensures { result ≡ spec.is_break byte }
 {
     byte == b'\n' || byte == b'\r'
 }
@@ -15,7 +15,7 @@ fn is_break(byte: u8) -> bool
 // Whether an LF stands behind a byte.
 fn is_before_feed(text: &[u8], i: usize) -> bool
     requires { i < length text.now }
-    ensures { result ≡ due.is_before_feed text.now i }
+    ensures { result ≡ spec.is_before_feed text.now i }
 {
     i + 1 < text.len() && text[i + 1] == b'\n'
 }
@@ -23,7 +23,7 @@ fn is_before_feed(text: &[u8], i: usize) -> bool
 // Whether a line ends at a byte: LF, or CR that no LF follows.
 fn ends_line(text: &[u8], i: usize) -> bool
     requires { i < length text.now }
-    ensures { result ≡ due.ends_line text.now i }
+    ensures { result ≡ spec.ends_line text.now i }
 {
     text[i] == b'\n' || (text[i] == b'\r' && !is_before_feed(text, i))
 }
@@ -31,14 +31,14 @@ fn ends_line(text: &[u8], i: usize) -> bool
 // Whether a line that isn't empty begins at a byte.
 fn begins_line(text: &[u8], i: usize) -> bool
     requires { i < length text.now }
-    ensures { result ≡ due.begins_line text.now i }
+    ensures { result ≡ spec.begins_line text.now i }
 {
     !is_break(text[i]) && (i == 0 || is_break(text[i - 1]))
 }
 
 fn is_quote(text: &[u8], i: usize) -> bool
     requires { i < length text.now }
-    ensures { result ≡ due.is_quote text.now i }
+    ensures { result ≡ spec.is_quote text.now i }
 {
     text[i] == b'"'
 }
@@ -69,7 +69,7 @@ fn place_if(reason: bool, i: usize, other: Option<usize>) -> Option<usize>
 // How many lines end within the first `n` bytes.
 fn ends_before(text: &[u8], n: usize) -> usize
     requires { n ≤ length text.now }
-    ensures count { result ≡ due.count_below (due.ends_line text.now) n }
+    ensures count { result ≡ spec.count_below (spec.ends_line text.now) n }
     ensures bound { result ≤ n }
 {
     let mut ends = 0;
@@ -81,7 +81,7 @@ fn ends_before(text: &[u8], n: usize) -> usize
 
 // Where the record of that number begins, if no quote stands before it.
 fn start_of(text: &[u8], number: usize) -> Option<usize>
-    ensures place { result ≡ last_place (due.is_start text.now number) (length text.now) }
+    ensures place { result ≡ last_place (spec.is_start text.now number) (length text.now) }
     ensures bound { IfSome result (λ i. i < length text.now) }
 {
     let mut lines = 0;
@@ -98,7 +98,7 @@ fn start_of(text: &[u8], number: usize) -> Option<usize>
 
 // Whether a text begins with a byte order mark.
 fn has_mark(text: &[u8]) -> bool
-    ensures { result ≡ due.has_mark text.now }
+    ensures { result ≡ spec.has_mark text.now }
 {
     3 <= text.len() && text[0] == 0xef && text[1] == 0xbb && text[2] == 0xbf
 }
@@ -112,7 +112,7 @@ fn after_mark(text: &[u8]) -> &[u8]
 
 // The line in which the record of that number begins, in a text without a byte order mark.
 fn line_in(text: &[u8], number: usize) -> Option<usize>
-    ensures { result ≡ due.line_in text.now number }
+    ensures { result ≡ spec.line_in text.now number }
 {
     match start_of(text, number) {
         Some(i) => Some(ends_before(text, i) + 1),
@@ -122,7 +122,7 @@ fn line_in(text: &[u8], number: usize) -> Option<usize>
 
 /// The line in which the record of that number begins, if no quote stands before it.
 pub(crate) fn line_of(text: &[u8], number: usize) -> Option<usize>
-    ensures { result ≡ due.line_of text.now number }
+    ensures { result ≡ spec.line_of text.now number }
 {
     line_in(after_mark(text), number)
 }

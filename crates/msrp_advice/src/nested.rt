@@ -3,7 +3,7 @@ ghost use Rattle.std.specs.Prelude.{◌≡◌, ◌<◌, ◌≤◌, ◌==◌, ◌
 ghost use Rattle.std.specs.Option.{IfSome};
 ghost use Rattle.csv.specs.Records.{fields_of};
 ghost use Rattle.msrp_text.specs.Reading.{record_at};
-ghost use Rattle.msrp_advice.specs.Nested as due;
+ghost use Rattle.msrp_advice.specs.Nested as spec;
 ghost use Rattle.msrp_advice.specs.Records.{is_lock, is_same};
 
 use crate::places::is_task;
@@ -12,7 +12,7 @@ use csv::ByteRecord;
 
 // The core after a record: a task's own.
 fn core_after(row: &ByteRecord, core: u32) -> u32
-    ensures { result ≡ due.core_after (fields_of row.now) core }
+    ensures { result ≡ spec.core_after (fields_of row.now) core }
 {
     if is_task(row) {
         number_told(row, 2)
@@ -24,7 +24,7 @@ fn core_after(row: &ByteRecord, core: u32) -> u32
 // The core of the last task among the first `n` records.
 fn core_at(before: &[ByteRecord], n: usize) -> u32
     requires { n ≤ length before.now }
-    ensures { result ≡ due.core_at (map fields_of before.now) n }
+    ensures { result ≡ spec.core_at (map fields_of before.now) n }
 {
     let mut core = 0;
     for k in 0..n {
@@ -51,7 +51,7 @@ fn is_elsewhere(lock: &ByteRecord, own: u32, row: &ByteRecord, core: u32) -> boo
 fn is_shared(before: &[ByteRecord], n: usize, i: usize) -> bool
     requires all { n ≤ length before.now }
     requires within { i < length before.now }
-    ensures { result ≡ due.is_shared (map fields_of before.now) n i }
+    ensures { result ≡ spec.is_shared (map fields_of before.now) n i }
 {
     let own = core_at(before, i);
     let mut core = 0;
@@ -68,7 +68,7 @@ fn is_outer(before: &[ByteRecord], n: usize, i: usize, j: usize) -> bool
     requires all { n ≤ length before.now }
     requires within { i < length before.now }
     requires earlier { j < i }
-    ensures { result ≡ due.is_outer (map fields_of before.now) n i j }
+    ensures { result ≡ spec.is_outer (map fields_of before.now) n i j }
 {
     is_left(&before[..i], j) && is_shared(before, n, j)
 }
@@ -77,7 +77,7 @@ fn is_outer(before: &[ByteRecord], n: usize, i: usize, j: usize) -> bool
 fn is_within(before: &[ByteRecord], n: usize, i: usize) -> bool
     requires all { n ≤ length before.now }
     requires within { i < length before.now }
-    ensures { result ≡ due.any_below (due.is_outer (map fields_of before.now) n i) i }
+    ensures { result ≡ spec.any_below (spec.is_outer (map fields_of before.now) n i) i }
 {
     let mut held = false;
     for j in 0..i {
@@ -90,7 +90,7 @@ fn is_within(before: &[ByteRecord], n: usize, i: usize) -> bool
 pub(crate) fn is_nested(before: &[ByteRecord], n: usize, i: usize) -> bool
     requires all { n ≤ length before.now }
     requires within { i < length before.now }
-    ensures { result ≡ due.is_nested (map fields_of before.now) n i }
+    ensures { result ≡ spec.is_nested (map fields_of before.now) n i }
 {
     is_lock(&before[i]) && is_shared(before, n, i) && is_within(before, n, i)
 }
@@ -106,7 +106,7 @@ fn is_there(lock: &ByteRecord, core: u32, row: &ByteRecord, here: u32) -> bool
 pub(crate) fn is_used_on(before: &[ByteRecord], n: usize, i: usize, core: u32) -> bool
     requires all { n ≤ length before.now }
     requires within { i < length before.now }
-    ensures { result ≡ due.is_used_on (map fields_of before.now) n i core }
+    ensures { result ≡ spec.is_used_on (map fields_of before.now) n i core }
 {
     let mut here = 0;
     let mut used = false;
@@ -121,7 +121,7 @@ pub(crate) fn is_used_on(before: &[ByteRecord], n: usize, i: usize, core: u32) -
 pub(crate) fn outer_of(before: &[ByteRecord], n: usize, i: usize) -> Option<usize>
     requires all { n ≤ length before.now }
     requires within { i < length before.now }
-    ensures place { result ≡ due.outer_of (map fields_of before.now) n i }
+    ensures place { result ≡ spec.outer_of (map fields_of before.now) n i }
     ensures bound { IfSome result (λ j. j < i) }
 {
     let mut outer = None;

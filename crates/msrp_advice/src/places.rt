@@ -2,7 +2,7 @@
 ghost use Rattle.std.specs.Prelude.{◌≡◌, ◌<◌};
 ghost use Rattle.std.specs.Option.{IfSome};
 ghost use Rattle.csv.specs.Records.{fields_of};
-ghost use Rattle.msrp_advice.specs.Places as due;
+ghost use Rattle.msrp_advice.specs.Places as spec;
 ghost use Rattle.msrp_advice.specs.Places.{place_of};
 
 use crate::advice::Advice;
@@ -12,7 +12,7 @@ use msrp_text::fields::{has_word, number_at};
 
 // The first of the first six fields that begins or ends with a blank.
 fn padded_place(row: &ByteRecord) -> usize
-    ensures place { result ≡ due.padded_place (fields_of row.now) }
+    ensures place { result ≡ spec.padded_place (fields_of row.now) }
     ensures bound { result < 6 }
 {
     if is_padded(row.get(0)) {
@@ -32,7 +32,7 @@ fn padded_place(row: &ByteRecord) -> usize
 
 // The first number of a task's record that is none.
 fn task_place(row: &ByteRecord) -> usize
-    ensures place { result ≡ due.task_place (fields_of row.now) }
+    ensures place { result ≡ spec.task_place (fields_of row.now) }
     ensures bound { result < 6 }
 {
     if number_at(row, 2).is_none() {
@@ -48,14 +48,14 @@ fn task_place(row: &ByteRecord) -> usize
 
 /// Whether a record begins a task.
 pub(crate) fn is_task(row: &ByteRecord) -> bool
-    ensures { result ≡ due.is_task (fields_of row.now) }
+    ensures { result ≡ spec.is_task (fields_of row.now) }
 {
     has_word(row, 0, b"task") || has_word(row, 0, b"listed")
 }
 
 // The first number of a record that is none.
 fn number_place(row: &ByteRecord) -> usize
-    ensures place { result ≡ due.number_place (fields_of row.now) }
+    ensures place { result ≡ spec.number_place (fields_of row.now) }
     ensures bound { result < 6 }
 {
     if is_task(row) {

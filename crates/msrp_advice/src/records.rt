@@ -3,7 +3,7 @@ ghost use Rattle.std.specs.Prelude.{◌≡◌, ◌<◌, ◌+◌, length, map, dr
 ghost use Rattle.std.specs.List.{list_any};
 ghost use Rattle.csv.specs.Records.{fields_of};
 ghost use Rattle.msrp_text.specs.Reading.{number_told, record_at};
-ghost use Rattle.msrp_advice.specs.Records as due;
+ghost use Rattle.msrp_advice.specs.Records as spec;
 
 use csv::ByteRecord;
 use msrp_text::fields::{has_word, name_at, number_at};
@@ -17,21 +17,21 @@ pub(crate) fn number_told(row: &ByteRecord, i: usize) -> u32
 
 /// Whether a record is a lock.
 pub(crate) fn is_lock(row: &ByteRecord) -> bool
-    ensures { result ≡ due.is_lock (fields_of row.now) }
+    ensures { result ≡ spec.is_lock (fields_of row.now) }
 {
     has_word(row, 0, b"op") && has_word(row, 1, b"lock")
 }
 
 /// Whether both have one name at a place.
 pub(crate) fn is_same(i: usize, row: &ByteRecord, other: &ByteRecord) -> bool
-    ensures { result ≡ due.is_same i (fields_of row.now) (fields_of other.now) }
+    ensures { result ≡ spec.is_same i (fields_of row.now) (fields_of other.now) }
 {
     has_word(other, i, name_at(row, i).as_bytes())
 }
 
 // Whether a record unlocks the resource of a lock.
 fn is_unlock_of(lock: &ByteRecord, row: &ByteRecord) -> bool
-    ensures { result ≡ due.is_unlock_of (fields_of lock.now) (fields_of row.now) }
+    ensures { result ≡ spec.is_unlock_of (fields_of lock.now) (fields_of row.now) }
 {
     has_word(row, 0, b"op") && has_word(row, 1, b"unlock") && is_same(2, lock, row)
 }
@@ -39,7 +39,7 @@ fn is_unlock_of(lock: &ByteRecord, row: &ByteRecord) -> bool
 // Whether a record behind the lock at a place unlocks its resource.
 fn is_let_go(before: &[ByteRecord], i: usize) -> bool
     requires { i < length before.now }
-    ensures { result ≡ list_any (due.is_unlock_of (record_at (map fields_of before.now) i)) (drop (i + 1) (map fields_of before.now)) }
+    ensures { result ≡ list_any (spec.is_unlock_of (record_at (map fields_of before.now) i)) (drop (i + 1) (map fields_of before.now)) }
 {
     for later in i + 1..before.len() {
         if is_unlock_of(&before[i], &before[later]) {
@@ -52,7 +52,7 @@ fn is_let_go(before: &[ByteRecord], i: usize) -> bool
 /// Whether the record at a place is a lock behind which no record unlocks its resource.
 pub(crate) fn is_left(before: &[ByteRecord], i: usize) -> bool
     requires { i < length before.now }
-    ensures { result ≡ due.is_left (map fields_of before.now) i }
+    ensures { result ≡ spec.is_left (map fields_of before.now) i }
 {
     is_lock(&before[i]) && !is_let_go(before, i)
 }

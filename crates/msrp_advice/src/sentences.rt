@@ -25,8 +25,8 @@ pub(crate) fn sentence(advice: Advice) -> &'static [u8]
         Advice::NoVersion =>
             b"a plan begins with msrp,1 or msrp,2, and nothing stands before that, no header and no comment",
         Advice::CutShort => b"the text ends before its record of ticks",
-        Advice::CoresDue => b"the second record is cores,M",
-        Advice::TicksDue => b"the third record is ticks,H",
+        Advice::SecondIsCores => b"the second record is cores,M",
+        Advice::ThirdIsTicks => b"the third record is ticks,H",
         Advice::LateResource =>
             b"all resources stand before the first task, and task $ stands before this one, in record #",
         Advice::UnknownStep => b"the field after op is run, lock or unlock",

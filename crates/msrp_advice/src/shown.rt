@@ -3,7 +3,7 @@ ghost use Rattle.std.specs.Prelude.{◌≡◌, ◌<◌, [], length, min, option_
 ghost use Rattle.std.specs.Option.{IfSome};
 ghost use Rattle.csv.specs.Records.{fields_of};
 ghost use Rattle.msrp_plan.specs.Bytes.{Wrote};
-ghost use Rattle.msrp_advice.specs.Shown as due;
+ghost use Rattle.msrp_advice.specs.Shown as spec;
 ghost use Rattle.msrp_advice.specs.Shown.{shown_byte, shown_bytes, shown_field, shown_fields, shown_record, wrong_field};
 
 use csv::ByteRecord;
@@ -38,7 +38,7 @@ fn shown_byte(byte: u8) -> u8
 
 /// The first bytes of a field.
 pub(crate) fn write_bytes<W: Write>(out: &mut Sink<W>, field: &[u8])
-    ensures { Wrote W.contents out.old out.new (shown_bytes field.now (min (length field.now) due.most_shown)) }
+    ensures { Wrote W.contents out.old out.new (shown_bytes field.now (min (length field.now) spec.most_shown)) }
 {
     for i in 0..field.len().min(MOST_SHOWN) {
         out.add(&[shown_byte(field[i])]);
@@ -66,7 +66,7 @@ pub(crate) fn bytes_of<'a>(field: Option<&'a [u8]>) -> &'a [u8]
 
 // The first fields of a record.
 fn write_fields<W: Write>(out: &mut Sink<W>, row: &ByteRecord)
-    ensures { Wrote W.contents out.old out.new (shown_fields (fields_of row.now) (min (length (fields_of row.now)) due.most_fields)) }
+    ensures { Wrote W.contents out.old out.new (shown_fields (fields_of row.now) (min (length (fields_of row.now)) spec.most_fields)) }
 {
     for i in 0..row.len().min(MOST_FIELDS) {
         write_field(out, bytes_of(row.get(i)));

@@ -2,7 +2,7 @@
 ghost use Rattle.std.specs.Prelude.{◌≡◌, ◌<◌, ◌||◌, length};
 ghost use Rattle.std.specs.List.{list_any, range_with_len};
 ghost use Rattle.msrp_plan.specs.Bytes.{Wrote};
-ghost use Rattle.msrp_advice.specs.Warnings.{accepted_text, core_units, core_warning, core_warnings, deadline_warning, each, has_deadline, load_warning, no_job_warning, resource_warning, task_warnings, ticks_warning, units_due};
+ghost use Rattle.msrp_advice.specs.Warnings.{accepted_text, core_units, core_warning, core_warnings, deadline_warning, each, has_deadline, load_warning, no_job_warning, resource_warning, task_warnings, ticks_warning, units_of};
 
 use crate::shown::write_number;
 use msrp_levels::Levels;
@@ -72,9 +72,9 @@ fn warn_of_core<W: Write>(out: &mut Sink<W>, levels: &Levels<'_>, core: CoreId)
 }
 
 // How many units the jobs of a task have, where it is a task of that core.
-fn units_due(plan: &Plan, core: CoreId, task: TaskId) -> u64
+fn units_of(plan: &Plan, core: CoreId, task: TaskId) -> u64
     requires { task.0 < length plan.now.tasks }
-    ensures { result ≡ units_due plan.now core.0 task.0 }
+    ensures { result ≡ units_of plan.now core.0 task.0 }
 {
     if plan.core_of(task) == core {
         u64::from(plan.jobs(task)) * u64::from(plan.units(task))
@@ -89,7 +89,7 @@ fn core_units(plan: &Plan, core: CoreId) -> u128
 {
     let mut sum = 0u128;
     for task in 0..plan.tasks() {
-        sum += u128::from(units_due(plan, core, TaskId(task)));
+        sum += u128::from(units_of(plan, core, TaskId(task)));
     }
     sum
 }
@@ -127,7 +127,7 @@ fn has_deadline_or(before: bool, plan: &Plan, task: TaskId) -> bool
 }
 
 // Whether a job has its deadline by the end of the ticks.
-fn is_any_due(plan: &Plan) -> bool
+fn any_has_deadline(plan: &Plan) -> bool
     ensures { result ≡ list_any (has_deadline plan.now) (range_with_len 0 (length plan.now.tasks)) }
 {
     let mut any = false;
@@ -141,7 +141,7 @@ fn is_any_due(plan: &Plan) -> bool
 fn warn_of_ticks<W: Write>(out: &mut Sink<W>, plan: &Plan)
     ensures { Wrote W.contents out.old out.new (ticks_warning plan.now) }
 {
-    if !is_any_due(plan) {
+    if !any_has_deadline(plan) {
         out.add(b"no job has its deadline within the ");
         write_number(out, plan.ticks());
         out.add(b" ticks\n");

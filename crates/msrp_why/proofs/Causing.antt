@@ -19,7 +19,7 @@ use Rattle.msrp_plan.proofs.Lists.Ranges.{range_more}
 use Rattle.msrp_sim.specs.Cores.{IsNextRow}
 use Rattle.msrp_audit.specs.Audits.{AuditorModel, HasFed, IsBroken, has_turn}
 use Rattle.msrp_audit.proofs.Judging.{due_after}
-use Rattle.msrp_why.specs.Causes.{AreTurnsFor, IsCauseAfter, IsDueRow, IsStateFor, cores_due}
+use Rattle.msrp_why.specs.Causes.{AreTurnsFor, IsCauseAfter, IsDueRow, IsStateFor, cores_with_turn}
 use Rattle.msrp_why.specs.Noted.{AreNoted}
 use Rattle.msrp_why.specs.declared.causes.Cause.{Cause}
 
@@ -80,29 +80,29 @@ later_turns plan rows rule turns true true false reply h = let same : A4 ≡ rul
 later_turns plan rows rule turns true true true false h = let same : A5 ≡ rule = cc in subst (λ u. AreTurnsFor plan rows u turns) same tt
 later_turns plan rows rule turns true true true true h = absurd (cc)
 
-turns_for : (plan : PlanModel) (rows : List Row) (rule : Rule) (turns : List ℕ) (left turn own chosen action reply : Bool) → (left ≡ true → turn ≡ false → turns ≡ cores_due plan rows)
+turns_for : (plan : PlanModel) (rows : List Row) (rule : Rule) (turns : List ℕ) (left turn own chosen action reply : Bool) → (left ≡ true → turn ≡ false → turns ≡ cores_with_turn plan rows)
     → cond left (cond turn (cond own (cond chosen (cond action (cond reply None (Some A5)) (Some A4)) (Some A3)) (Some A2)) (Some A1)) (Some A7) ≡ Some rule → AreTurnsFor plan rows rule turns
 turns_for plan rows rule turns true true own chosen action reply d h = later_turns plan rows rule turns own chosen action reply h
 turns_for plan rows rule turns true false own chosen action reply d h = let same : A1 ≡ rule = cc in subst (λ u. AreTurnsFor plan rows u turns) same (d refl refl)
 turns_for plan rows rule turns false turn own chosen action reply d h = let same : A7 ≡ rule = cc in subst (λ u. AreTurnsFor plan rows u turns) same tt
 
--- the cores that are due, one more
+-- the cores that have a turn, one more
 append_if : (b : Bool) (xs : List ℕ) (x : ℕ) → cond b (xs ++ x ∷ []) xs ≡ xs ++ cond b (x ∷ []) []
 append_if true xs x = refl
 append_if false xs x = sym (append-nil xs)
 
-pub due_more : (plan : PlanModel) (rows : List Row) (n : ℕ) (b : Bool) (old new : List ℕ) → b ≡ has_turn plan rows n → new ≡ cond b (old ++ n ∷ []) old → old ≡ filter (has_turn plan rows) (range_with_len 0 n)
+pub turns_more : (plan : PlanModel) (rows : List Row) (n : ℕ) (b : Bool) (old new : List ℕ) → b ≡ has_turn plan rows n → new ≡ cond b (old ++ n ∷ []) old → old ≡ filter (has_turn plan rows) (range_with_len 0 n)
     → new ≡ filter (has_turn plan rows) (range_with_len 0 (n + 1))
-due_more plan rows n b old new is step was =
+turns_more plan rows n b old new is step was =
     let p = has_turn plan rows in
     let at : 0 + n ≡ n = omega arith in
     let whole : filter p (range_with_len 0 (n + 1)) ≡ filter p (range_with_len 0 n) ++ cond (p n) (n ∷ []) [] =
     ap (filter p) (range_more 0 n) ∙ (filter-append p (range_with_len 0 n) ((0 + n) ∷ []) ∙ ap (λ k. filter p (range_with_len 0 n) ++ cond (p k) (k ∷ []) []) at) in
     step ∙ (append_if b old n ∙ (ap (λ xs. xs ++ cond b (n ∷ []) []) was ∙ (ap (λ c. filter p (range_with_len 0 n) ++ cond c (n ∷ []) []) is ∙ sym whole)))
 
-pub due_few : (b : Bool) (n : ℕ) (old new : List ℕ) → new ≡ cond b (old ++ n ∷ []) old → length old ≤ n → length new ≤ n + 1
-due_few true n old new step few = let l = ap length step in omega (arith, l, length-append old (n ∷ []), few)
-due_few false n old new step few = let l = ap length step in omega (arith, l, few)
+pub turns_few : (b : Bool) (n : ℕ) (old new : List ℕ) → new ≡ cond b (old ++ n ∷ []) old → length old ≤ n → length new ≤ n + 1
+turns_few true n old new step few = let l = ap length step in omega (arith, l, length-append old (n ∷ []), few)
+turns_few false n old new step few = let l = ap length step in omega (arith, l, few)
 
 -- the rule of a fault at the last row
 rule_of : (o : Option Rule) (n : ℕ) (f : Fault) → fault_or o n None ≡ Some f → o ≡ Some f.rule
@@ -113,7 +113,7 @@ rule_of (Some rule) n f h =
 
 -- the cause of the fault of a row, with what was noted before it
 pub cause_is : (plan : PlanModel) (a : AuditorModel) (rows : List Row) (cause : Cause) → IsPlan plan → fault_in plan rows ≡ None → IsBroken plan rows cause.row cause.fault cause.due a → AreNoted plan rows cause.notes
-    → (HasFed a rows → a.fault ≡ None → length rows < plan.cores * plan.ticks → cause.turns.items ≡ cores_due plan rows)
+    → (HasFed a rows → a.fault ≡ None → length rows < plan.cores * plan.ticks → cause.turns.items ≡ cores_with_turn plan rows)
     → (cause.row.core.0 < plan.cores → IsSomeAnd cause.state (IsCoreState plan cause.row.core.0 (length (log_of cause.row.core.0 rows)) rows)) → IsCauseAfter plan rows cause.row cause
 cause_is plan a rows cause ok good broken noted turned told =
     let r = cause.row in

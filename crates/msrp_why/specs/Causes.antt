@@ -37,12 +37,12 @@ IsStateFor plan rows c A5 state = IsSomeAnd state (IsCoreState plan c (length ro
 IsStateFor plan rows c rule state = ⊤
 
 -- the cores that have their turns in the tick that is due still to come
-abbrev pub cores_due : PlanModel → List Row → List ℕ
-cores_due plan rows = filter (has_turn plan rows) (range_with_len 0 plan.cores)
+abbrev pub cores_with_turn : PlanModel → List Row → List ℕ
+cores_with_turn plan rows = filter (has_turn plan rows) (range_with_len 0 plan.cores)
 
 -- where a row isn't in its turn, these are the cores that may have one
 abbrev pub AreTurnsFor : PlanModel → List Row → Rule → List ℕ → Type 0
-AreTurnsFor plan rows A1 turns = turns ≡ cores_due plan rows
+AreTurnsFor plan rows A1 turns = turns ≡ cores_with_turn plan rows
 AreTurnsFor plan rows rule turns = ⊤
 
 -- why this row is refused after these, which have no fault

@@ -4,7 +4,7 @@ ghost use Rattle.msrp_audit.specs.Audits.{HasFed, IsBroken};
 ghost use Rattle.msrp_plan.specs.Verdict.{fault_in};
 ghost use Rattle.msrp_plan.specs.declared.rows.Row.{Row as TraceRow};
 ghost use Rattle.msrp_plan.specs.WellFormed.{IsPlan};
-ghost use Rattle.msrp_why.specs.Causes.{IsCauseAfter, cores_due};
+ghost use Rattle.msrp_why.specs.Causes.{IsCauseAfter, cores_with_turn};
 ghost use Rattle.msrp_why.specs.Noted.{AreNoted};
 
 use crate::notes::Notes;
@@ -44,19 +44,19 @@ pub enum Ground {
     End(Notes),
 }
 
-// One core more, if it is due.
-fn push_if(found: &mut ArrayVec<u32, MOST_TURNS>, core: u32, is_due: bool)
-    ensures { length found.old.items < MOST_TURNS → found.new.items ≡ if is_due then found.old.items ++ core ∷ [] else found.old.items }
+// One core more, if it has a turn.
+fn push_if(found: &mut ArrayVec<u32, MOST_TURNS>, core: u32, has_turn: bool)
+    ensures { length found.old.items < MOST_TURNS → found.new.items ≡ if has_turn then found.old.items ++ core ∷ [] else found.old.items }
 {
-    if is_due {
+    if has_turn {
         let _fits = found.try_push(core);
     }
 }
 
 // The cores that have their turns in the tick that is due still to come.
-fn cores_due(plan: &Plan, auditor: &Auditor<'_>) -> ArrayVec<u32, MOST_TURNS>
+fn cores_with_turn(plan: &Plan, auditor: &Auditor<'_>) -> ArrayVec<u32, MOST_TURNS>
     requires plan { auditor.now.plan ≡ plan.now }
-    ensures due { (rows : List TraceRow) → HasFed auditor.now rows → auditor.now.fault ≡ None → length rows < plan.now.cores * plan.now.ticks → result.items ≡ cores_due plan.now rows }
+    ensures turns { (rows : List TraceRow) → HasFed auditor.now rows → auditor.now.fault ≡ None → length rows < plan.now.cores * plan.now.ticks → result.items ≡ cores_with_turn plan.now rows }
     ensures accepted { IsPlan plan.now }
 {
     let mut found = ArrayVec::new();
@@ -81,7 +81,7 @@ pub fn cause_of(
     ensures cause { (rows : List TraceRow) → fault_in plan.now rows ≡ None → IsBroken plan.now rows row fault due auditor.now → AreNoted plan.now rows notes → IsCauseAfter plan.now rows row result }
     ensures line { result.line ≡ line }
 {
-    let turns = cores_due(plan, auditor);
+    let turns = cores_with_turn(plan, auditor);
     let state = notes.state(row.core);
     Cause {
         fault,

@@ -4,7 +4,7 @@ ghost use Rattle.std.specs.Option.{IfSome};
 ghost use Rattle.csv.specs.Records.{fields_of};
 ghost use Rattle.msrp_trace.specs.Rows.{is_number};
 ghost use Rattle.msrp_text.specs.Fields.{number_at};
-ghost use Rattle.msrp_why.specs.Misfits as due;
+ghost use Rattle.msrp_why.specs.Misfits as spec;
 ghost use Rattle.msrp_why.specs.Misfits.{head_misfit, is_none_at, is_task_named, misfit_of, name_misfit, number_misfit, place_of, shape_misfit};
 
 use csv::ByteRecord;
@@ -131,26 +131,26 @@ fn name_misfit(plan: &Plan, row: &ByteRecord) -> Misfit
 }
 
 fn has_none(row: &ByteRecord) -> bool
-    ensures { result ≡ due.has_none (fields_of row.now) }
+    ensures { result ≡ spec.has_none (fields_of row.now) }
 {
     is_none_at(row, 3) && is_none_at(row, 4) && is_none_at(row, 5)
 }
 
 fn has_job_alone(row: &ByteRecord) -> bool
-    ensures { result ≡ due.has_job_alone (fields_of row.now) }
+    ensures { result ≡ spec.has_job_alone (fields_of row.now) }
 {
     !is_none_at(row, 3) && !is_none_at(row, 4) && is_none_at(row, 5)
 }
 
 fn has_all(row: &ByteRecord) -> bool
-    ensures { result ≡ due.has_all (fields_of row.now) }
+    ensures { result ≡ spec.has_all (fields_of row.now) }
 {
     !is_none_at(row, 3) && !is_none_at(row, 4) && !is_none_at(row, 5)
 }
 
 // The number of jobs ahead of a row that has a task, a job and a resource.
 fn ahead_misfit(row: &ByteRecord) -> Misfit
-    ensures { result ≡ due.ahead_misfit (fields_of row.now) }
+    ensures { result ≡ spec.ahead_misfit (fields_of row.now) }
 {
     if has_word(row, 2, b"queue") {
         Misfit::LacksAhead
@@ -199,7 +199,7 @@ pub(crate) fn misfit_of(plan: &Plan, fault: TraceFault, row: &ByteRecord) -> Mis
 }
 
 fn idle_place(row: &ByteRecord) -> usize
-    ensures place { result ≡ due.idle_place (fields_of row.now) }
+    ensures place { result ≡ spec.idle_place (fields_of row.now) }
     ensures bound { result < 7 }
 {
     if !is_none_at(row, 3) {
@@ -212,7 +212,7 @@ fn idle_place(row: &ByteRecord) -> usize
 }
 
 fn run_place(row: &ByteRecord) -> usize
-    ensures place { result ≡ due.run_place (fields_of row.now) }
+    ensures place { result ≡ spec.run_place (fields_of row.now) }
     ensures bound { result < 7 }
 {
     if is_none_at(row, 3) {

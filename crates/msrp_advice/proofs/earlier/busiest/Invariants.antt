@@ -1,12 +1,12 @@
 use Rattle.std.proofs.Common.{◌≡◌, ◌<◌, map}
 use Rattle.std.specs.Option.{IfSome}
 use Rattle.csv.specs.Records.{fields_of}
-use Rattle.msrp_advice.specs.Earlier as due
+use Rattle.msrp_advice.specs.Earlier as spec
 use Rattle.msrp_advice.proofs.earlier.busiest.Given as goal
 
 abbrev pub invariant-loop-i : goal.invariant-loop-i
 invariant-loop-i l = record {
-  place : l.place ≡ due.greatest_place (due.jobs_told (map fields_of l.before)) l.i;
-  most : l.most ≡ due.number_there (due.jobs_told (map fields_of l.before)) l.place;
+  place : l.place ≡ spec.greatest_place (spec.jobs_told (map fields_of l.before)) l.i;
+  most : l.most ≡ spec.number_there (spec.jobs_told (map fields_of l.before)) l.place;
   bound : IfSome l.place (λ k. k < l.i);
 }

@@ -1,12 +1,12 @@
 use Rattle.std.proofs.Common.{◌≡◌, ◌<◌, map}
 use Rattle.std.specs.Option.{IfSome}
 use Rattle.csv.specs.Records.{fields_of}
-use Rattle.msrp_advice.specs.Earlier as due
+use Rattle.msrp_advice.specs.Earlier as spec
 use Rattle.msrp_advice.specs.Nested.{last_place}
 use Rattle.msrp_advice.proofs.earlier.last_place.Given as goal
 
 abbrev pub invariant-loop-i : goal.invariant-loop-i
 invariant-loop-i l = record {
-  place : l.last ≡ last_place (due.is_sought l.sought (map fields_of l.before) (fields_of l.row)) l.i;
+  place : l.last ≡ last_place (spec.is_sought l.sought (map fields_of l.before) (fields_of l.row)) l.i;
   bound : IfSome l.last (λ k. k < l.i);
 }

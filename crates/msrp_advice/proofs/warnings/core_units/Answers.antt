@@ -1,14 +1,14 @@
 use Rattle.std.proofs.Common.{rules, ◌∙◌, ◌+◌, ◌<◌, ap, arith, sym}
 use Rattle.std.specs.List.{range_with_len, sum_by}
-use Rattle.msrp_advice.specs.Warnings.{units_due}
+use Rattle.msrp_advice.specs.Warnings.{units_of}
 use Rattle.msrp_advice.proofs.Parts.{sum-more}
 use Rattle.msrp_advice.proofs.warnings.core_units.Goals as goal
 
 pub loop-task-preserved : goal.loop-task-preserved
 loop-task-preserved c =
-    let due = units_due c.args.plan.now c.args.core.0 in
+    let units = units_of c.args.plan.now c.args.core.0 in
     let told = c.from-sum.ensures in
-    let added = told ∙ c.units_due.ensures in
-    let small : c.units_due.result < 18446744073709551616 = search rules in
-    let sum = ap (λ s. s + c.from-sum.result) c.loop-task.invariant.0 ∙ (ap (λ n. sum_by due (range_with_len 0 c.loop-task.task) + n) added ∙ sym (sum-more due c.loop-task.task)) in
+    let added = told ∙ c.units_of.ensures in
+    let small : c.units_of.result < 18446744073709551616 = search rules in
+    let sum = ap (λ s. s + c.from-sum.result) c.loop-task.invariant.0 ∙ (ap (λ n. sum_by units (range_with_len 0 c.loop-task.task) + n) added ∙ sym (sum-more units c.loop-task.task)) in
     (sum, omega (arith, c.loop-task.invariant.1, small, told))

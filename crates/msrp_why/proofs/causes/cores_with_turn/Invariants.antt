@@ -2,7 +2,7 @@ use Rattle.std.proofs.Common.{◌≡◌, ◌<◌, ◌≤◌, ◌*◌, List, None
 use Rattle.std.specs.List.{range_with_len}
 use Rattle.msrp_audit.specs.Audits.{HasFed, has_turn}
 use Rattle.msrp_plan.specs.declared.rows.Row.{Row}
-use Rattle.msrp_why.proofs.causes.cores_due.Given as goal
+use Rattle.msrp_why.proofs.causes.cores_with_turn.Given as goal
 
 abbrev pub invariant-loop-core : goal.invariant-loop-core
 invariant-loop-core l =

@@ -2,8 +2,8 @@ use Rattle.std.proofs.Common.{◌≡◌, ◌<◌, ◌*◌, arith, filter, length
 use Rattle.std.specs.List.{range_with_len}
 use Rattle.msrp_audit.specs.Audits.{has_turn}
 use Rattle.msrp_plan.specs.Plan.{PlanModel}
-use Rattle.msrp_why.proofs.Causing.{due_few, due_more}
-use Rattle.msrp_why.proofs.causes.cores_due.Goals as goal
+use Rattle.msrp_why.proofs.Causing.{turns_few, turns_more}
+use Rattle.msrp_why.proofs.causes.cores_with_turn.Goals as goal
 
 pub loop-core-preserved : goal.loop-core-preserved
 loop-core-preserved c =
@@ -11,15 +11,15 @@ loop-core-preserved c =
     let low = c.loop-core-test.true in
     let fits : length c.loop-core.found.items < 8 = omega (arith, low, i.0, c.loop-core.auto.core-end, c.cores-core-end.ensures.value, c.cores-core-end.ensures.plan.draft.cores.1) in
     let step = c.push_if.ensures fits in (
-      due_few c.is_due.result c.loop-core.core c.loop-core.found.items c.push_if.new.found.items step i.0,
+      turns_few c.is_due.result c.loop-core.core c.loop-core.found.items c.push_if.new.found.items step i.0,
       λ rows fed none left.
-          due_more c.args.plan.now rows c.loop-core.core c.is_due.result c.loop-core.found.items c.push_if.new.found.items
+          turns_more c.args.plan.now rows c.loop-core.core c.is_due.result c.loop-core.found.items c.push_if.new.found.items
           (subst (λ (p : PlanModel). c.is_due.result ≡ has_turn p rows c.loop-core.core) c.requires.plan (c.is_due.ensures.answer rows fed none (subst (λ (p : PlanModel). length rows < p.cores * p.ticks) (sym c.requires.plan) left))) step
           (i.1 rows fed none left),
     )
 
-pub returns-clause-due : goal.returns-clause-due
-returns-clause-due c = λ rows fed none left.
+pub returns-clause-turns : goal.returns-clause-turns
+returns-clause-turns c = λ rows fed none left.
     let i = c.loop-core.invariant in
     let all : c.loop-core.core ≡ c.args.plan.now.cores = omega (arith, c.loop-core-test.false, c.loop-core.auto.core-end, c.cores-core-end.ensures.value) in
     subst (λ n. c.loop-core.found.items ≡ filter (has_turn c.args.plan.now rows) (range_with_len 0 n)) all (i.1 rows fed none left)
