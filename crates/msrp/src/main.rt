@@ -5,7 +5,8 @@
 //! engines, which turn bytes into bytes, are `msrp_engine`'s.
 #![tactic(auto)]
 
-use msrp_cli::{Input, open, open_both, words_of, write_help};
+use msrp_cli::{Input, open, open_both, words_of};
+use msrp_engine::write_answer;
 pub use msrp_engine::{
     CliFault, audit_parallel_text, audit_text, check_text, exit_of, plan_text, report_text,
     run_text, run_text_if, sim_text,
@@ -103,7 +104,10 @@ fn run<T: Threads + Wait + Sync>(rt: &HostRuntime, threads: &T) -> Result<u8, Cl
     let words = words_of(rt)?;
     let mut out = Sink::new(io::writer(rt));
     match command_of(alloc, words.as_slice())? {
-        Cmd::Help => write_help(&mut out, help_text(alloc, words.as_slice())?.as_str()),
+        Cmd::Help => {
+            let help = help_text(alloc, words.as_slice())?;
+            write_answer(&mut out, help.as_bytes(), Ok(0))
+        }
         Cmd::Sim {
             order,
             version,

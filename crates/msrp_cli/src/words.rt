@@ -27,7 +27,7 @@ fn words_had(alloc: Global, args: io::Result<Args>) -> Result<Vec<String>, CliFa
     ensures usage { IfErr result (λ fault. (fault ≡ CliFault.Memory) ⊎ (fault ≡ CliFault.Usage)) }
 {
     match args {
-        Ok(args) => args.collect(alloc).map_err(|_| CliFault::Memory),
+        Ok(args) => Ok(args.collect(alloc)?),
         Err(error) => Err(unread_words(error.kind())),
     }
 }

@@ -1,7 +1,7 @@
 //! What a plan says before it runs: levels, ceilings and tops, from a plan's text to a text.
 
-ghost use Rattle.std.specs.Prelude.{◌≡◌, ◌<◌, length, true, false, IfOk, IfErr, OnOk, OnErr};
-ghost use Rattle.msrp_plan.specs.Bytes.{Wrote, sink_failed};
+ghost use Rattle.std.specs.Prelude.{◌≡◌, ◌<◌, length, true, IfOk, IfErr, OnOk};
+ghost use Rattle.msrp_plan.specs.Bytes.{Wrote};
 ghost use Rattle.msrp_plan.specs.WellFormed.{IsPlan};
 ghost use Rattle.msrp_text.specs.PlanText.{record_text};
 ghost use Rattle.msrp_text.specs.Reading.{plan_of};
@@ -11,10 +11,10 @@ ghost use Rattle.msrp_engine.specs.Answered.{AnsweredPlan, OfText};
 ghost use Rattle.msrp_engine.specs.Simulation.{TextAnswers, WritesSomeText};
 
 use crate::texts::{PlanText, write_text};
-use msrp_faults::CliFault;
+use msrp_faults::{CliFault, gathered_text};
 use msrp_levels::Levels;
 use msrp_plan::bytes::{Sink, Source};
-use msrp_plan::{CoreId, Plan, ResId, TaskId, WriteFault};
+use msrp_plan::{CoreId, Plan, ResId, TaskId};
 use std::alloc::Global;
 use std::io::{Read, Write};
 
@@ -85,22 +85,14 @@ fn write_tops<W: Write>(out: &mut Sink<W>, plan: &Plan, levels: &Levels<'_>)
     }
 }
 
-// All of it. After a failed write nothing more is written.
-fn write_check<W: Write>(
-    out: &mut Sink<W>,
-    plan: &Plan,
-    levels: &Levels<'_>,
-) -> Result<(), WriteFault>
+fn write_check<W: Write>(out: &mut Sink<W>, plan: &Plan, levels: &Levels<'_>)
     requires { levels.now ≡ plan.now }
     ensures plan { IsPlan plan.now }
     ensures wrote { Wrote W.contents out.old out.new (check_text plan.now) }
-    ensures good { OnOk result (sink_failed out.new ≡ false) }
-    ensures fault { OnErr result (sink_failed out.new ≡ true) }
 {
     write_levels(out, plan, levels);
     write_ceilings(out, plan, levels);
     write_tops(out, plan, levels);
-    out.outcome()
 }
 
 /// The text of a plan's levels and ceilings, in memory.
@@ -111,10 +103,8 @@ pub(crate) fn levels_text(alloc: Global, plan: &Plan) -> Result<Vec<u8>, CliFaul
 {
     let levels = Levels::of(alloc, plan)?;
     let mut text = Sink::new(Vec::new(alloc));
-    if write_check(&mut text, plan, &levels).is_err() {
-        return Err(CliFault::Memory);
-    }
-    Ok(text.into_inner())
+    write_check(&mut text, plan, &levels);
+    gathered_text(text)
 }
 
 /// Reads a plan, and writes its levels and ceilings: `level,NAME,N` for each task, `ceiling,NAME,local,N` or

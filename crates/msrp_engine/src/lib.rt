@@ -23,7 +23,7 @@ pub use audit_parallel::audit_parallel_text;
 pub use check::check_text;
 pub use judged::{JudgedRows, Judgement};
 pub use made::Made;
-pub use msrp_faults::{CliFault, exit_of};
+pub use msrp_faults::{CliFault, exit_of, gathered_text, write_answer};
 pub use own_text::plan_text;
 pub use reading::{ending_of, settled};
 pub use report::{report_of_texts, report_text};

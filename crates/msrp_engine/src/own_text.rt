@@ -9,7 +9,7 @@ ghost use Rattle.msrp_engine.specs.Answered.{AnsweredPlan, OfText};
 ghost use Rattle.msrp_engine.specs.Simulation.{TextAnswers, WritesSomeText};
 
 use crate::texts::{PlanText, write_text};
-use msrp_faults::CliFault;
+use msrp_faults::{CliFault, gathered_text};
 use msrp_plan::Plan;
 use msrp_plan::bytes::{Sink, Source};
 use msrp_text::write_plan;
@@ -23,10 +23,8 @@ pub(crate) fn own_text(alloc: Global, plan: &Plan) -> Result<Vec<u8>, CliFault>
     ensures memory { IfErr result (λ fault. fault ≡ CliFault.Memory) }
 {
     let mut text = Sink::new(Vec::new(alloc));
-    if write_plan(&mut text, plan).is_err() {
-        return Err(CliFault::Memory);
-    }
-    Ok(text.into_inner())
+    let _ = write_plan(&mut text, plan);
+    gathered_text(text)
 }
 
 /// Reads a plan, and writes the plan's own text, which reads as the same plan. The whole plan is read before anything is

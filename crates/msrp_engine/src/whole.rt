@@ -3,7 +3,7 @@ ghost use Rattle.std.specs.Prelude.{◌≡◌};
 ghost use Rattle.msrp_plan.specs.Bytes.{Wrote};
 ghost use Rattle.msrp_faults.specs.Outcomes.{written_status};
 
-use msrp_faults::CliFault;
+use msrp_faults::{CliFault, write_answer};
 use msrp_plan::bytes::Sink;
 use std::io::Write;
 
@@ -12,7 +12,5 @@ pub(crate) fn write_whole<W: Write>(out: &mut Sink<W>, text: &[u8]) -> Result<u8
     ensures wrote { Wrote W.contents out.old out.new text.now }
     ensures status { result ≡ written_status out.new }
 {
-    out.add(text);
-    out.outcome()?;
-    Ok(0)
+    write_answer(out, text, Ok(0))
 }

@@ -80,6 +80,10 @@ is_view_fault Usage = true
 is_view_fault Write = true
 is_view_fault fault = is_plan_fault fault || is_trace_fault fault
 
--- the outcome of a text that was written: status 0, or a write fault where the sink failed
+-- what is answered to a text that was written, or a write fault where the sink failed
+abbrev pub answered : {W : Type 0} → Result ℕ CliFault → Sink W → Result ℕ CliFault
+answered answer new = if sink_failed new then Err Write else answer
+
+-- status 0 as the answer
 abbrev pub written_status : {W : Type 0} → Sink W → Result ℕ CliFault
-written_status new = if sink_failed new then Err Write else Ok 0
+written_status new = answered (Ok 0) new

@@ -133,10 +133,8 @@ fn grammar<'a>(alloc: Global) -> Result<Command<'a>, AllocError>
 pub fn help_text(alloc: Global) -> Result<String, CliFault>
     ensures { IfErr result (λ fault. fault ≡ CliFault.Memory) }
 {
-    let Ok(mut command) = grammar(alloc) else {
-        return Err(CliFault::Memory);
-    };
-    command.render_help().map_err(|_| CliFault::Memory)
+    let mut command = grammar(alloc)?;
+    Ok(command.render_help()?)
 }
 
 // Whether each byte is a decimal digit.

@@ -8,8 +8,8 @@ mod cli;
 mod version;
 
 use cli::{Cmd, command_of, help_text};
-use msrp_cli::{open, open_both, words_of, write_help};
-use msrp_engine::{CliFault, exit_of};
+use msrp_cli::{open, open_both, words_of};
+use msrp_engine::{CliFault, exit_of, write_answer};
 use msrp_plan::bytes::{Sink, Source};
 use msrp_view_engine::{export_text, view_text, why_plan_text, why_text};
 use std::io::{BufWriter, Write};
@@ -38,7 +38,7 @@ fn release_info(rt: &HostRuntime) -> Option<Vec<u8>> {
 fn answer<W: Write>(rt: &HostRuntime, cmd: Cmd<'_>, out: &mut Sink<W>) -> Result<u8, CliFault> {
     let alloc = rt.alloc();
     match cmd {
-        Cmd::Help => write_help(out, help_text(alloc)?.as_str()),
+        Cmd::Help => write_answer(out, help_text(alloc)?.as_bytes(), Ok(0)),
         Cmd::Version => match release_info(rt) {
             Some(told) => write_version(out, told.as_slice()),
             None => write_version(out, NO_RELEASE),
@@ -88,7 +88,7 @@ fn run(rt: &HostRuntime) -> Result<u8, CliFault> {
     };
     let mut out = Sink::new(writer);
     let outcome = answer(rt, cmd, &mut out);
-    let failed = out.outcome().is_err();
+    let failed = out.failed();
     let mut writer = out.into_inner();
     if !failed && writer.flush().is_ok() {
         return outcome;

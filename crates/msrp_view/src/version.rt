@@ -4,7 +4,7 @@ ghost use Rattle.msrp_faults.specs.Outcomes.{written_status};
 ghost use Rattle.msrp_plan.specs.Bytes.{Wrote};
 ghost use Rattle.msrp_view.specs.Version.{version_text};
 
-use msrp_engine::CliFault;
+use msrp_engine::{CliFault, write_answer};
 use msrp_plan::bytes::Sink;
 use std::io::Write;
 
@@ -14,7 +14,5 @@ pub(crate) fn write_version<W: Write>(out: &mut Sink<W>, told: &[u8]) -> Result<
     ensures status { result ≡ written_status out.new }
 {
     out.add(b"msrp_view 0.1.0\n");
-    out.add(told);
-    out.outcome()?;
-    Ok(0)
+    write_answer(out, told, Ok(0))
 }

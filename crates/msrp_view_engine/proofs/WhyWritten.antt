@@ -9,15 +9,15 @@ use Rattle.msrp_text.specs.Reading.{csv_records}
 use Rattle.msrp_text.specs.declared.reading.TextError.{TextError}
 use Rattle.msrp_trace.specs.Reading.{Told, rows_of}
 use Rattle.msrp_engine.specs.Answered.{OrUnread}
-use Rattle.msrp_faults.specs.Outcomes.{fault_of}
+use Rattle.msrp_faults.specs.Outcomes.{answered, fault_of}
 use Rattle.msrp_faults.specs.declared.faults.CliFault.{CliFault}
 use Rattle.msrp_faults.specs.declared.faults.CliFault.TheVariants.{Memory, Read}
-use Rattle.msrp_view_engine.specs.Statuses.{found_status}
+use Rattle.msrp_view_engine.specs.Statuses.{answer_to}
 use Rattle.msrp_view_engine.specs.Whys.{AreWordsFor, IsExplained, IsExplainedOf, WhyAnswers, WhyFound, WhyTold}
 use Rattle.msrp_view_engine.specs.declared.why.Explained.{Explained}
 
 told_by : {W : Type 0} (contents : W → Option (List ℕ)) (plan : PlanModel) (bytes : List ℕ) (told : Told) (found : Result (Result ⊤ Fault) CliFault) (text : List ℕ) (old new : Sink W) (result : Result ℕ CliFault)
-    → AreWordsFor plan bytes told found text → Wrote contents old new text → result ≡ found_status found new → WhyFound contents plan bytes told found old new result
+    → AreWordsFor plan bytes told found text → Wrote contents old new text → result ≡ answered (answer_to found) new → WhyFound contents plan bytes told found old new result
 told_by contents plan bytes told (Ok found) text old new result words wrote status = record {
   cause = words.cause;
   is = words.is;
@@ -34,18 +34,18 @@ told_by contents plan bytes told (Err fault) text old new result words wrote sta
 
 -- what is told of the words that were made
 words-told : {W : Type 0} (contents : W → Option (List ℕ)) (plan : PlanModel) (bytes : List ℕ) (told : Told) (words : Explained) (old new : Sink W) (result : Result ℕ CliFault)
-    → IsExplained plan bytes told words → Wrote contents old new words.text.items → result ≡ found_status words.found new → WhyTold contents plan bytes told old new result
+    → IsExplained plan bytes told words → Wrote contents old new words.text.items → result ≡ answered (answer_to words.found) new → WhyTold contents plan bytes told old new result
 words-told contents plan bytes told words old new result is wrote status =
     subst (λ f. WhyFound contents plan bytes told f old new result) is.found (told_by contents plan bytes told words.found words.text.items old new result is.text wrote status)
 
 -- the answer to a text that stands for a plan, or to one that is refused, where the words were written
 told-of : {W : Type 0} (contents : W → Option (List ℕ)) (read : Result PlanModel TextError) (bytes : List ℕ) (words : Explained) (old new : Sink W) (result : Result ℕ CliFault)
-    → IsExplainedOf read bytes (Ok words) → Wrote contents old new words.text.items → result ≡ found_status words.found new → WhyAnswers contents read bytes old new result
+    → IsExplainedOf read bytes (Ok words) → Wrote contents old new words.text.items → result ≡ answered (answer_to words.found) new → WhyAnswers contents read bytes old new result
 told-of contents (Ok plan) bytes words old new result is wrote status = words-told contents plan bytes (rows_of plan (csv_records bytes)) words old new result is wrote status
 told-of contents (Err error) bytes words old new result is wrote status = absurd (cc)
 
 pub told-answers : {W : Type 0} (contents : W → Option (List ℕ)) (read : Result PlanModel TextError) (bytes : List ℕ) (words : Explained) (old new : Sink W) (result : Result ℕ CliFault)
-    → OrUnread {A = Explained} (Ok words) (IsExplainedOf read bytes (Ok words)) → Wrote contents old new words.text.items → result ≡ found_status words.found new → OrUnread result (WhyAnswers contents read bytes old new result)
+    → OrUnread {A = Explained} (Ok words) (IsExplainedOf read bytes (Ok words)) → Wrote contents old new words.text.items → result ≡ answered (answer_to words.found) new → OrUnread result (WhyAnswers contents read bytes old new result)
 told-answers contents read bytes words old new result explained wrote status = elim explained [
   | inl e ↦ absurd (cc)
   | inr k ↦ elim k [

@@ -1,9 +1,9 @@
 -- What is written and answered where words on a plan are asked for.
-use Rattle.std.specs.Prelude.{◌≡◌, ℕ, ◌-◌, List, Option, Some, None, Ok, Err, take, if◌then◌else◌}
+use Rattle.std.specs.Prelude.{◌≡◌, ℕ, ◌-◌, List, Option, Some, None, Ok, Err, take}
 use Rattle.std.specs.declared.result.Result.{Result}
 use Rattle.msrp_advice.specs.Refusals.{refusal_text}
 use Rattle.msrp_advice.specs.Warnings.{accepted_text}
-use Rattle.msrp_plan.specs.Bytes.{Wrote, sink_failed}
+use Rattle.msrp_plan.specs.Bytes.{Wrote}
 use Rattle.msrp_plan.specs.Codes.{code_of}
 use Rattle.msrp_plan.specs.Plan.{PlanModel}
 use Rattle.msrp_plan.specs.declared.bytes.Sink.{Sink}
@@ -11,9 +11,9 @@ use Rattle.msrp_plan.specs.declared.faults.PlanFault.{PlanFault}
 use Rattle.msrp_text.specs.Reading.{csv_records, record_at}
 use Rattle.msrp_text.specs.declared.reading.TextError.{TextError}
 use Rattle.msrp_text.specs.declared.reading.TextError.TheVariants.{At, Read, Memory}
-use Rattle.msrp_faults.specs.Outcomes.{fault_of, written_status}
+use Rattle.msrp_faults.specs.Outcomes.{answered, fault_of, written_status}
 use Rattle.msrp_faults.specs.declared.faults.CliFault.{CliFault}
-use Rattle.msrp_faults.specs.declared.faults.CliFault.TheVariants.{Plan, Write}
+use Rattle.msrp_faults.specs.declared.faults.CliFault.TheVariants.{Plan}
 use Rattle.msrp_view_engine.specs.declared.why_plan.Refusal.{Refusal}
 use Rattle.msrp_view_engine.specs.declared.why_plan.Words.{Words}
 
@@ -31,13 +31,13 @@ AreWordsOn text (Err _) words = ⊥
 -- the refusal as it is answered, where the sink took all words
 abbrev pub words_status : {W : Type 0} → Option Refusal → Sink W → Result ℕ CliFault
 words_status None new = written_status new
-words_status (Some refusal) new = if sink_failed new then Err Write else Err (Plan (code_of refusal.fault) refusal.number)
+words_status (Some refusal) new = answered (Err (Plan (code_of refusal.fault) refusal.number)) new
 
 -- ---- written
 -- the words on a refused record are written, and the refusal is answered as ever if the sink took them all
 pub record TellsRefusal {W : Type 0} (contents : W → Option (List ℕ)) (plan : List ℕ) (fault : PlanFault) (number : ℕ) (old new : Sink W) (result : Result ℕ CliFault) : Type 0 where
   pub text : Wrote contents old new (refused_words plan fault number)
-  pub answer : result ≡ if sink_failed new then Err Write else Err (Plan (code_of fault) number)
+  pub answer : result ≡ answered (Err (Plan (code_of fault) number)) new
 
 -- the answer to a text that stands for a plan, or of which a record is refused
 abbrev pub WhyPlanAnswers : {W : Type 0} → (W → Option (List ℕ)) → List ℕ → Result PlanModel TextError → Sink W → Sink W → Result ℕ CliFault → Type 0

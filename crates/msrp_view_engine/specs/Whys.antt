@@ -22,9 +22,9 @@ use Rattle.msrp_why.specs.declared.causes.Ground.TheVariants.{End, Row as AtRow}
 use Rattle.msrp_engine.specs.Findings.{finding}
 use Rattle.msrp_engine.specs.MadeTexts.{found_in}
 use Rattle.msrp_engine.specs.declared.made.Made.{Made}
-use Rattle.msrp_faults.specs.Outcomes.{fault_of, trace_fault_of}
+use Rattle.msrp_faults.specs.Outcomes.{answered, fault_of, trace_fault_of}
 use Rattle.msrp_faults.specs.declared.faults.CliFault.{CliFault}
-use Rattle.msrp_view_engine.specs.Statuses.{found_status, told_status}
+use Rattle.msrp_view_engine.specs.Statuses.{told_status}
 use Rattle.msrp_view_engine.specs.declared.why.Explained.{Explained}
 use Rattle.msrp_view_engine.specs.declared.why.Judged.{Judged}
 
@@ -110,7 +110,7 @@ pub record TellsRefused {W : Type 0} (contents : W → Option (List ℕ)) (plan 
   pub line : Option ℕ
   pub begins : IfSome told.refusal (λ error. BeginsRefused bytes error line)
   pub text : Wrote contents old new (refusal_words plan (csv_records bytes) told.refusal line)
-  pub answer : result ≡ found_status (Err fault) new
+  pub answer : result ≡ answered (Err fault) new
 
 -- the answer where that is found
 abbrev pub WhyFound : {W : Type 0} → (W → Option (List ℕ)) → PlanModel → List ℕ → Told → Result (Result ⊤ Fault) CliFault → Sink W → Sink W → Result ℕ CliFault → Type 0

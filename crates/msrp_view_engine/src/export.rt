@@ -1,7 +1,7 @@
 //! A trace in the format of another tool.
-ghost use Rattle.std.specs.Prelude.{◌≡◌, ◌⊎◌, ◌+◌, ◌<◌, ◌^◌, ℕ, List, [], length, true, false, Some, Err, IfOk, IfErr};
+ghost use Rattle.std.specs.Prelude.{◌≡◌, ◌⊎◌, ◌+◌, ◌<◌, ◌^◌, ℕ, List, [], length, true, Some, Err, IfOk, IfErr};
 ghost use Rattle.msrp_audit.specs.Audits.{HasFed};
-ghost use Rattle.msrp_plan.specs.Bytes.{Wrote, sink_failed, source_remaining};
+ghost use Rattle.msrp_plan.specs.Bytes.{Wrote, source_remaining};
 ghost use Rattle.msrp_plan.specs.declared.rows.Row.{Row as TraceRow};
 ghost use Rattle.msrp_text.specs.Reading.{csv_records};
 ghost use Rattle.msrp_trace.specs.Reading.{Told, rows_of};
@@ -11,8 +11,8 @@ ghost use Rattle.msrp_engine.specs.Judging.{rows_left};
 ghost use Rattle.msrp_export.specs.Exports.{HasExported, export_text};
 ghost use Rattle.msrp_faults.specs.Outcomes.{is_audit_fault, is_trace_fault};
 ghost use Rattle.msrp_view_engine.specs.Exporting.{ExportAnswers, ExportTold, end_or_fault};
-ghost use Rattle.msrp_view_engine.specs.Statuses.{told_status};
 
+use crate::statuses::answer_to;
 use msrp_audit::Auditor;
 use msrp_engine::{CliFault, JudgedRows, Judgement, settled};
 use msrp_export::{Exporter, Format};
@@ -88,19 +88,6 @@ fn export_all<T: Read, W: Write>(
     found
 }
 
-// The status of a verdict that was written.
-fn status_of<W: Write>(out: &Sink<W>, found: Result<(), Fault>) -> Result<u8, CliFault>
-    ensures status { result ≡ told_status found out.now }
-    ensures good { IfOk result (λ status. ((status ≡ 0) ⊎ (status ≡ 1)) × (sink_failed out.now ≡ false)) }
-    ensures fault { IfErr result (λ fault. (fault ≡ CliFault.Write) × (sink_failed out.now ≡ true)) }
-{
-    out.outcome()?;
-    match found {
-        Ok(()) => Ok(0),
-        Err(_) => Ok(1),
-    }
-}
-
 // Writes a trace of an accepted plan, and answers the status of its verdict. Whatever ends the reading early may be told as a failed read.
 fn export_plan<T: Read, W: Write>(
     alloc: Global,
@@ -113,7 +100,8 @@ fn export_plan<T: Read, W: Write>(
     ensures ends { Ends IsVerdict (λ fault. (is_trace_fault fault ≡ true) ⊎ (fault ≡ CliFault.Write)) out.new result }
 {
     let found = export_all(alloc, plan, trace, out, format)?;
-    status_of(out, found)
+    out.outcome()?;
+    answer_to(Ok(found))
 }
 
 /// Reads a plan and a trace of it, whoever made it, and writes the trace in a format: all of a legal run, and else the rows

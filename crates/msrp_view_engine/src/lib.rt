@@ -5,7 +5,7 @@
 
 mod export;
 mod reading;
-mod told;
+mod statuses;
 mod view;
 mod why;
 mod why_plan;

@@ -12,9 +12,9 @@ ghost use Rattle.msrp_view_engine.specs.Views.{IsPictureOf, IsPictureTold, ViewA
 ghost use Rattle.msrp_picture.specs.Styles.{drawing};
 
 use crate::reading::read_rows;
-use crate::told::write_told;
+use crate::statuses::answer_to;
 use msrp_audit::audit;
-use msrp_engine::{CliFault, Made, settled};
+use msrp_engine::{CliFault, Made, settled, write_answer};
 use msrp_picture::{Asked, Window, draw, window_of};
 use msrp_plan::bytes::{Sink, Source};
 use msrp_plan::{Plan, Trace};
@@ -97,5 +97,5 @@ pub fn view_text<P: Read, T: Read, W: Write>(
     ensures always { Answered P.remaining (λ fault. is_view_fault fault ≡ true) plan.old plan.new trace.old trace.new out.old out.new result }
 {
     let made = picture_of_texts(alloc, plan, trace, asked)?;
-    write_told(out, made.text.as_slice(), made.found)
+    write_answer(out, made.text.as_slice(), answer_to(Ok(made.found)))
 }

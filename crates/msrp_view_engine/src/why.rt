@@ -16,10 +16,10 @@ ghost use Rattle.msrp_view_engine.specs.Answered.{OfBothBytes, OfBytes};
 ghost use Rattle.msrp_view_engine.specs.Inside.Readings.{error_words};
 ghost use Rattle.msrp_view_engine.specs.Whys.{BeginsRefused, BeginsRow, IsExplained, IsExplainedOf, IsJudged, IsWhyOf, WhyAnswers, behind_text, found_text};
 
-use crate::told::write_found;
+use crate::statuses::answer_to;
 use csv::ByteRecord;
 use msrp_audit::Auditor;
-use msrp_engine::{CliFault, Made, settled};
+use msrp_engine::{CliFault, Made, gathered_text, settled, write_answer};
 use msrp_levels::Levels;
 use msrp_plan::bytes::{Sink, Source};
 use msrp_plan::{Fault, Plan};
@@ -138,11 +138,8 @@ fn words_on(
     let mut text = Sink::new(Vec::new(alloc));
     text.verdict(judged.verdict);
     write_behind(&mut text, plan, levels, judged.verdict, &judged.ground);
-    if text.outcome().is_err() {
-        return Err(CliFault::Memory);
-    }
     Ok(Explained {
-        text: text.into_inner(),
+        text: gathered_text(text)?,
         found: Ok(judged.verdict),
     })
 }
@@ -165,11 +162,8 @@ fn words_on_refusal(
     };
     let mut text = Sink::new(Vec::new(alloc));
     write_refused(&mut text, plan, fault, number, line, row);
-    if text.outcome().is_err() {
-        return Err(CliFault::Memory);
-    }
     Ok(Explained {
-        text: text.into_inner(),
+        text: gathered_text(text)?,
         found: Err(CliFault::from(error)),
     })
 }
@@ -289,5 +283,5 @@ pub fn why_text<P: Read, T: Read, W: Write>(
     ensures silent { IfErr result (λ fault. (fault ≡ CliFault.Write) ⊎ (is_record_fault fault ≡ true) ⊎ (out.new ≡ out.old)) }
 {
     let words = explain(alloc, plan, trace)?;
-    write_found(out, words.text.as_slice(), words.found)
+    write_answer(out, words.text.as_slice(), answer_to(words.found))
 }

@@ -14,7 +14,7 @@ ghost use Rattle.msrp_faults.specs.Outcomes.{is_sim_fault};
 
 use csv::ByteRecord;
 use msrp_advice::{write_accepted, write_refusal};
-use msrp_engine::{CliFault, ending_of};
+use msrp_engine::{CliFault, ending_of, gathered_text, write_answer};
 use msrp_levels::Levels;
 use msrp_plan::bytes::{Sink, Source};
 use msrp_plan::{Plan, PlanFault};
@@ -115,11 +115,8 @@ fn words_on_refusal(alloc: Global, bytes: &[u8], refusal: Refusal) -> Result<Wor
         reached.before.as_slice(),
         &reached.row,
     );
-    if text.outcome().is_err() {
-        return Err(CliFault::Memory);
-    }
     Ok(Words {
-        text: text.into_inner(),
+        text: gathered_text(text)?,
         refusal: Some(refusal),
     })
 }
@@ -132,11 +129,8 @@ fn words_on_plan(alloc: Global, plan: &Plan) -> Result<Words, CliFault>
     let levels = Levels::of(alloc, plan)?;
     let mut text = Sink::new(Vec::new(alloc));
     write_accepted(&mut text, plan, &levels);
-    if text.outcome().is_err() {
-        return Err(CliFault::Memory);
-    }
     Ok(Words {
-        text: text.into_inner(),
+        text: gathered_text(text)?,
         refusal: None,
     })
 }
@@ -169,15 +163,11 @@ fn write_words<W: Write>(
     ensures ends { Ends IsDone (λ fault. is_sim_fault fault ≡ true) out.new result }
     ensures known { ¬ (result ≡ Err CliFault.Read) × ¬ (result ≡ Err CliFault.Memory) }
 {
-    out.add(text);
-    out.outcome()?;
-    match refusal {
+    let answer = match refusal {
         None => Ok(0),
-        Some(refusal) => Err(CliFault::Plan {
-            code: refusal.fault.code(),
-            number: refusal.number,
-        }),
-    }
+        Some(Refusal { fault, number }) => Err(CliFault::from(TextError::At { fault, number })),
+    };
+    write_answer(out, text, answer)
 }
 
 /// Reads a plan, and writes what is wrong with it or odd in it. Of a refused plan: the code and the number of the refused record with

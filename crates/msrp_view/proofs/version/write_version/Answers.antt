@@ -1,8 +1,5 @@
 use Rattle.msrp_plan.proofs.Writes.{wrote-more}
 use Rattle.msrp_view.proofs.version.write_version.Goals as goal
 
-pub returns-in_err-outcome-clause-wrote : goal.returns-in_err-outcome-clause-wrote
-returns-in_err-outcome-clause-wrote g c = wrote-more _ _ _ _ _ _ c.add.ensures c.add-2.ensures
-
 pub returns-clause-wrote : goal.returns-clause-wrote
-returns-clause-wrote g c = wrote-more _ _ _ _ _ _ c.add.ensures c.add-2.ensures
+returns-clause-wrote g c = wrote-more _ _ _ _ _ _ c.add.ensures c.write_answer.ensures.wrote

@@ -1,4 +1,5 @@
-use Rattle.std.proofs.Common.{rules, ◌≡◌, Ok, Err, refl}
+use Rattle.std.proofs.Common.{rules, ◌≡◌, ◌∙◌, Ok, Err, ap, refl}
+use Rattle.msrp_faults.specs.Outcomes.{answered}
 use Rattle.msrp_text.specs.Reading.{csv_records, plan_of}
 use Rattle.msrp_view_engine.proofs.Picturing.{view-answers}
 use Rattle.msrp_view_engine.proofs.view.view_text.Goals as goal
@@ -12,5 +13,5 @@ returns-in_err-made-clause-answer g c = λ plan_bytes trace_bytes plan trace.
 
 pub returns-clause-answer : goal.returns-clause-answer
 returns-clause-answer g c = λ plan_bytes trace_bytes plan trace.
-    view-answers g.W.Write.contents (plan_of (csv_records plan_bytes)) (csv_records trace_bytes) c.args.asked (Ok c.in_ok-made.made) c.args.out.now c.write_told.new.out c.write_told.result
-    (c.in_ok-made.ensures.found plan_bytes trace_bytes plan trace) (rw c.as_slice.ensures.value at c.write_told.ensures.wrote, c.write_told.ensures.status)
+    view-answers g.W.Write.contents (plan_of (csv_records plan_bytes)) (csv_records trace_bytes) c.args.asked (Ok c.in_ok-made.made) c.args.out.now c.write_answer.new.out c.write_answer.result
+    (c.in_ok-made.ensures.found plan_bytes trace_bytes plan trace) (rw c.as_slice.ensures.value at c.write_answer.ensures.wrote, c.write_answer.ensures.answer ∙ ap (λ a. answered a c.write_answer.new.out) c.answer_to.ensures)

@@ -1,4 +1,5 @@
-use Rattle.std.proofs.Common.{rules, ◌≡◌, Err}
+use Rattle.std.proofs.Common.{rules, ◌≡◌, ◌∙◌, Err, ap}
+use Rattle.msrp_faults.specs.Outcomes.{answered}
 use Rattle.msrp_text.specs.Reading.{csv_records, plan_of}
 use Rattle.msrp_view_engine.proofs.WhyWritten.{told-answers, untold-answers}
 use Rattle.msrp_view_engine.proofs.why.why_text.Goals as goal
@@ -11,5 +12,5 @@ returns-in_err-words-clause-answer g c = λ plan_bytes trace_bytes plan trace.
 
 pub returns-clause-answer : goal.returns-clause-answer
 returns-clause-answer g c = λ plan_bytes trace_bytes plan trace.
-    told-answers g.W.Write.contents (plan_of (csv_records plan_bytes)) trace_bytes c.in_ok-words.words c.args.out.now c.write_found.new.out c.write_found.result
-    (c.in_ok-words.ensures.explained plan_bytes trace_bytes plan trace) (rw c.as_slice.ensures.value at c.write_found.ensures.wrote) c.write_found.ensures.status
+    told-answers g.W.Write.contents (plan_of (csv_records plan_bytes)) trace_bytes c.in_ok-words.words c.args.out.now c.write_answer.new.out c.write_answer.result
+    (c.in_ok-words.ensures.explained plan_bytes trace_bytes plan trace) (rw c.as_slice.ensures.value at c.write_answer.ensures.wrote) (c.write_answer.ensures.answer ∙ ap (λ a. answered a c.write_answer.new.out) c.answer_to.ensures)
