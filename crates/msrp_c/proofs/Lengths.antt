@@ -31,13 +31,7 @@ not-five (Err Write) e = absurd (cc)
 
 found-unfailed : (made : Result Made CliFault) → found_in (unfailed made) ≡ unfailed (found_in made)
 found-unfailed (Ok made) = refl
-found-unfailed (Err (Plan c n)) = refl
-found-unfailed (Err (Trace c n)) = refl
-found-unfailed (Err Usage) = refl
-found-unfailed (Err Memory) = refl
-found-unfailed (Err Threads) = refl
-found-unfailed (Err Read) = refl
-found-unfailed (Err Write) = refl
+found-unfailed (Err fault) = refl
 
 six : (status : ℕ) → status ≡ 6 → status ≡ 5 → ⊥
 six status h e = absurd (cc)
@@ -48,13 +42,7 @@ refused-unfailed (Some refusal) = refl
 
 words-unfailed : (words : Result Words CliFault) → refusal_in (unfailed words) ≡ unfailed (refusal_in words)
 words-unfailed (Ok words) = refused-unfailed words.refusal
-words-unfailed (Err (Plan c n)) = refl
-words-unfailed (Err (Trace c n)) = refl
-words-unfailed (Err Usage) = refl
-words-unfailed (Err Memory) = refl
-words-unfailed (Err Threads) = refl
-words-unfailed (Err Read) = refl
-words-unfailed (Err Write) = refl
+words-unfailed (Err fault) = refl
 
 hands-five : (what : Result (Result ⊤ Fault) CliFault) (text old new : List ℕ) (needed : ℕ) (found : MsrpFound) (status : ℕ) → HandsOver (unfailed what) text old new needed found status → status ≡ 5 → ⊥
 hands-five what text old new needed found status h e = elim (cases_lt (length old) (length text)) [
@@ -63,16 +51,16 @@ hands-five what text old new needed found status h e = elim (cases_lt (length ol
 ]
 
 -- ---- what calls answer
-pub long-judged : (long : Bool) (due : Result (Result ⊤ Fault) CliFault) (found : MsrpFound) (status : ℕ) → long ≡ true → Tells (Err Read) found status → Judges long due found status
-long-judged long due found status is h = record {
+pub long-judged : (long : Bool) (expected : Result (Result ⊤ Fault) CliFault) (found : MsrpFound) (status : ℕ) → long ≡ true → Tells (Err Read) found status → Judges long expected found status
+long-judged long expected found status is h = record {
   what = Err Read;
   is = λ no. absurd (true≢false (sym is ∙ no));
   tells = rw is h;
   too_long = ((λ _. is), (λ _. h.status_is));
 }
 
-pub short-judged : (long : Bool) (due what : Result (Result ⊤ Fault) CliFault) (found : MsrpFound) (status : ℕ) → long ≡ false → OrUnread what (what ≡ due) → Tells (unfailed what) found status → Judges long due found status
-short-judged long due what found status is good h = record {
+pub short-judged : (long : Bool) (expected what : Result (Result ⊤ Fault) CliFault) (found : MsrpFound) (status : ℕ) → long ≡ false → OrUnread what (what ≡ expected) → Tells (unfailed what) found status → Judges long expected found status
+short-judged long expected what found status is good h = record {
   what = what;
   is = λ _. good;
   tells = rw is h;

@@ -53,20 +53,24 @@ abbrev pub is_long : List ℕ → Bool
 is_long text = nat_le most_bytes (length text)
 
 -- want of memory in place of a read or a write that failed
+abbrev pub or_memory : CliFault → CliFault
+or_memory Read = Memory
+or_memory Write = Memory
+or_memory fault = fault
+
 abbrev pub unfailed : {A : Type 0} → Result A CliFault → Result A CliFault
-unfailed (Err Read) = Err Memory
-unfailed (Err Write) = Err Memory
-unfailed made = made
+unfailed (Ok made) = Ok made
+unfailed (Err fault) = Err (or_memory fault)
 
 -- where a text is too long a read fails, whatever is in it, and else none does
 abbrev pub told_as : {A : Type 0} → Bool → Result A CliFault → Result A CliFault
 told_as true made = Err Read
 told_as false made = unfailed made
 
--- what is due was found in rows and is told, with status 5 exactly where a text is too long
-pub record Judges (long : Bool) (due : Result (Result ⊤ Fault) CliFault) (found : MsrpFound) (status : ℕ) : Type 0 where
+-- what was expected was found in rows and is told, with status 5 exactly where a text is too long
+pub record Judges (long : Bool) (expected : Result (Result ⊤ Fault) CliFault) (found : MsrpFound) (status : ℕ) : Type 0 where
   pub what : Result (Result ⊤ Fault) CliFault
-  pub is : long ≡ false → OrUnread what (what ≡ due)
+  pub is : long ≡ false → OrUnread what (what ≡ expected)
   pub tells : Tells (told_as long what) found status
   pub too_long : (status ≡ 5) ↔ (long ≡ true)
 

@@ -1,6 +1,6 @@
 //! What a call tells: its status, the numbers of what was found, and a text.
 ghost use Rattle.std.specs.Prelude.{◌≡◌, ◌≤◌, ◌<◌, ◌++◌, ◌||◌, length, drop, true, false};
-ghost use Rattle.msrp_c.specs.Answers.{Hands, HandsOver, Puts, Tells, is_long, numbers_of, rule_number, status_told, unfailed};
+ghost use Rattle.msrp_c.specs.Answers.{Hands, HandsOver, Puts, Tells, is_long, numbers_of, or_memory, rule_number, status_told, unfailed};
 
 use msrp_audit::{Fault, Rule};
 use msrp_engine::{CliFault, Made, exit_of};
@@ -34,18 +34,11 @@ const NOTHING: MsrpFound = MsrpFound {
 // The status where a text doesn't fit into the buffer.
 const ROOM: u32 = 6;
 
+// The rules are declared by their numbers.
 fn rule_number(rule: Rule) -> u32
     ensures { result ≡ rule_number rule }
 {
-    match rule {
-        Rule::A1 => 1,
-        Rule::A2 => 2,
-        Rule::A3 => 3,
-        Rule::A4 => 4,
-        Rule::A5 => 5,
-        Rule::A6 => 6,
-        Rule::A7 => 7,
-    }
+    rule as u32 + 1
 }
 
 // The exit status of what was found.
@@ -105,20 +98,24 @@ pub(crate) fn are_long(plan: &[u8], trace: &[u8]) -> bool
     is_long(plan) || is_long(trace)
 }
 
-/// What is told where no text is too long. Then no read of one fails, and a vector takes each text that there is memory for; were
-/// either to fail, want of memory would be told.
+/// What is told of a fault where no text is too long. Then no read of one fails, and a vector takes each text that there is memory for;
+/// were either to fail, want of memory would be told.
+pub(crate) fn or_memory(fault: CliFault) -> CliFault
+    ensures { result ≡ or_memory fault }
+{
+    match fault {
+        CliFault::Read | CliFault::Write => CliFault::Memory,
+        fault => fault,
+    }
+}
+
+/// What is told where no text is too long.
 pub(crate) fn unfailed<T>(made: Result<T, CliFault>) -> Result<T, CliFault>
     ensures { result ≡ unfailed made }
 {
     match made {
         Ok(made) => Ok(made),
-        Err(CliFault::Read) => Err(CliFault::Memory),
-        Err(CliFault::Write) => Err(CliFault::Memory),
-        Err(CliFault::Plan { code, number }) => Err(CliFault::Plan { code, number }),
-        Err(CliFault::Trace { code, number }) => Err(CliFault::Trace { code, number }),
-        Err(CliFault::Usage) => Err(CliFault::Usage),
-        Err(CliFault::Memory) => Err(CliFault::Memory),
-        Err(CliFault::Threads) => Err(CliFault::Threads),
+        Err(fault) => Err(or_memory(fault)),
     }
 }
 

@@ -9,7 +9,7 @@ ghost use Rattle.msrp_c.specs.Answers.{Answers, is_long};
 ghost use Rattle.msrp_c.specs.Numbers.{turns_named, version_named};
 ghost use Rattle.msrp_c.specs.Texts.{IsRunOf, IsSimulated, Makes, WhyNoRun};
 
-use crate::answers::{MsrpFound, hand_over, is_long, unfailed};
+use crate::answers::{MsrpFound, hand_over, is_long, or_memory, unfailed};
 use crate::orders::{order_of, version_of};
 use msrp_engine::{CliFault, Made, check_text, plan_text, sim_text};
 use msrp_plan::TextVersion;
@@ -28,9 +28,7 @@ fn run_of(alloc: Global, plan: &[u8], order: &Order, version: TextVersion) -> Re
             text: out.into_inner(),
             found: Ok(()),
         }),
-        // A vector takes each text where memory isn't refused.
-        Err(CliFault::Write) => Err(CliFault::Memory),
-        Err(fault) => Err(fault),
+        Err(fault) => Err(or_memory(fault)),
     }
 }
 
@@ -64,8 +62,7 @@ fn checked(alloc: Global, plan: &[u8]) -> Result<Made, CliFault>
             text: out.into_inner(),
             found: Ok(()),
         }),
-        Err(CliFault::Write) => Err(CliFault::Memory),
-        Err(fault) => Err(fault),
+        Err(fault) => Err(or_memory(fault)),
     }
 }
 
@@ -80,8 +77,7 @@ fn own_text(alloc: Global, plan: &[u8]) -> Result<Made, CliFault>
             text: out.into_inner(),
             found: Ok(()),
         }),
-        Err(CliFault::Write) => Err(CliFault::Memory),
-        Err(fault) => Err(fault),
+        Err(fault) => Err(or_memory(fault)),
     }
 }
 

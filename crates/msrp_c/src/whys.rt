@@ -10,6 +10,7 @@ use crate::answers::{MsrpFound, are_long, hand_over, hand_text, is_long, unfaile
 use msrp_audit::Fault;
 use msrp_engine::{CliFault, Made};
 use msrp_plan::bytes::Source;
+use msrp_text::TextError;
 use msrp_view_engine::{Refusal, Words, why_of_plan, why_of_texts};
 use std::alloc::Global;
 
@@ -55,10 +56,7 @@ fn refusal_told(refusal: Option<Refusal>) -> Result<Result<(), Fault>, CliFault>
 {
     match refusal {
         None => Ok(Ok(())),
-        Some(refusal) => Err(CliFault::Plan {
-            code: refusal.fault.code(),
-            number: refusal.number,
-        }),
+        Some(Refusal { fault, number }) => Err(CliFault::from(TextError::At { fault, number })),
     }
 }
 
