@@ -1,14 +1,13 @@
 //! The ceiling of a core after each of its ticks, as the core's rows tell it.
-ghost use Rattle.std.specs.Prelude.{◌≡◌, ◌<◌, ◌-◌, ◌^◌, ◌∷◌, ◌++◌, [], List, length, max, IfOk, OnOk};
+ghost use Rattle.std.specs.Prelude.{◌≡◌, ◌<◌, ◌-◌, ◌^◌, ◌∷◌, ◌++◌, [], ℕ, List, length, max, IfOk, OnOk};
 ghost use Rattle.msrp_plan.specs.Plan.{PlanModel};
 ghost use Rattle.msrp_plan.specs.declared.rows.Row.{Row as TraceRow};
 ghost use Rattle.msrp_picture.specs.Ceilings.{ceiling_shapes, ceiling_spans, raised, told_ceiling};
 ghost use Rattle.msrp_picture.specs.Inside.Claims.{claims};
 
-use crate::names::push_names;
-use crate::places::{CEILING_ABOVE, CEILING_LINE};
+use crate::places::CEILING_LINE;
 use crate::sections::leaves;
-use crate::seen::{lane_of, push};
+use crate::seen::{lane_of, note_of, push};
 use crate::shapes::{Look, Room, Shape, Span, Words, lasting};
 use crate::stretches::push_merged;
 use crate::windows::Window;
@@ -20,7 +19,11 @@ use std::alloc::Global;
 fn no_claims(alloc: Global, plan: &Plan) -> Result<Vec<bool>, Memory>
     ensures { IfOk result (λ kept. kept.items ≡ claims plan.now []) }
 {
-    Ok((0..plan.resources()).map(|_| false).collect(alloc)?)
+    let mut kept = Vec::new(alloc);
+    for _ in 0..plan.resources() {
+        kept.push(false)?;
+    }
+    Ok(kept)
 }
 
 // Keeps of the resource of a row whether the row claims it or gives it back.
@@ -109,14 +112,7 @@ pub(crate) fn push_ceilings(
     ensures { OnOk result (shapes.new.items ≡ shapes.old.items ++ ceiling_shapes plan.now window room core.0 log.now) }
 {
     let spans = spans_of(alloc, plan, levels, room, core, log)?;
-    push_names(
-        shapes,
-        window,
-        room,
-        CEILING_LINE,
-        CEILING_ABOVE,
-        Words::Ceiling,
-    )?;
+    push(shapes, note_of(room, CEILING_LINE, Words::Ceiling))?;
     push(shapes, lane_of(window, room, window.to as u64))?;
     push_merged(shapes, window, &spans)
 }

@@ -35,16 +35,26 @@ pub(crate) fn is_job_of(task: TaskId, job: Option<JobId>) -> bool
 pub(crate) fn task_rows(alloc: Global, rows: &[Row], task: TaskId) -> Result<Vec<Row>, Memory>
     ensures { IfOk result (λ found. found.items ≡ task_rows task.0 rows.now) }
 {
-    let own = rows.iter().copied().filter(|row| is_job_of(task, row.job));
-    Ok(own.collect(alloc)?)
+    let mut found = Vec::new(alloc);
+    for row in rows {
+        if is_job_of(task, row.job) {
+            found.push(*row)?;
+        }
+    }
+    Ok(found)
 }
 
 /// The rows of a core, in their order.
 pub(crate) fn log_of(alloc: Global, rows: &[Row], core: CoreId) -> Result<Vec<Row>, Memory>
     ensures { IfOk result (λ log. log.items ≡ log_of core.0 rows.now) }
 {
-    let log = rows.iter().copied().filter(|row| row.core == core);
-    Ok(log.collect(alloc)?)
+    let mut log = Vec::new(alloc);
+    for row in rows {
+        if row.core == core {
+            log.push(*row)?;
+        }
+    }
+    Ok(log)
 }
 
 fn is_row_of(job: JobId, row: &Row) -> bool
@@ -71,8 +81,13 @@ fn done(job: JobId, rows: &[Row]) -> usize
 fn after_last(job: JobId, rows: &[Row]) -> u64
     ensures { result ≡ after_last job rows.now }
 {
-    let own = rows.iter().filter(|row| is_row_of(job, row));
-    own.fold(0, |_, row| row.tick as u64 + 1)
+    let mut end = 0;
+    for row in rows {
+        if is_row_of(job, row) {
+            end = row.tick as u64 + 1;
+        }
+    }
+    end
 }
 
 // Where a job ends: behind its last row if it is finished, and else where the rows end.

@@ -1,5 +1,6 @@
 //! Places in a picture in SVG, in its units.
-ghost use Rattle.std.specs.Prelude.{◌≡◌, ℕ, ◌<◌, ◌≤◌, ◌*◌, ◌^◌, length};
+ghost use Rattle.std.specs.Prelude.{◌≡◌, ℕ, ◌<◌, ◌≤◌, ◌*◌, ◌^◌, if◌then◌else◌, filter, length};
+ghost use Rattle.std.specs.List.{range_with_len};
 ghost use Rattle.msrp_picture.specs.Lines.{global_resources};
 ghost use Rattle.msrp_picture.specs.Places.{bottom, ceiling_room, core_room, core_top, is_above, left_of, queue_room, row_room, section_height, task_room, tasks_above, tick_width};
 
@@ -79,13 +80,6 @@ pub const LEVEL_LINE: u64 = 28;
 
 pub const CEILING_LINE: u64 = 9;
 
-/// From the line on which the name of a lane stands again to the lane, of a core, and of its ceilings: those two stand above the axis.
-pub const NAME_ABOVE: u64 = 1;
-
-pub const CORE_ABOVE: u64 = 24;
-
-pub const CEILING_ABOVE: u64 = 28;
-
 /// How wide a tick is: as wide as lets the ticks that are drawn fill the window.
 pub(crate) fn tick_width(window: Window) -> u64
     ensures width { result ≡ tick_width window }
@@ -115,13 +109,22 @@ pub(crate) fn section_height(levels: u64) -> u64
     SECTION_ROOM / SECTION_LEVELS.max(levels)
 }
 
+fn counted(is: bool) -> u32
+    ensures { result ≡ (if is then 1 else 0) }
+{
+    if is { 1 } else { 0 }
+}
+
 // So many of the resources below a number are global.
 fn globals_below(levels: &Levels<'_>, end: u32) -> u32
     requires { end ≤ length levels.now.resources }
     ensures { result ≡ length (global_resources levels.now end) }
 {
-    let global = (0..end).filter(|res| levels.is_global(ResId(*res)));
-    global.count() as u32
+    let mut count = 0;
+    for res in 0..end {
+        count += counted(levels.is_global(ResId(res)));
+    }
+    count
 }
 
 // Whether the lane of a task lies above the lane that this one of a core has or would have.
@@ -137,8 +140,11 @@ fn is_above(plan: &Plan, core: CoreId, task: TaskId, other: TaskId) -> bool
 fn tasks_above(plan: &Plan, core: CoreId, task: TaskId) -> u32
     ensures { result ≡ tasks_above plan.now core.0 task.0 }
 {
-    let above = (0..plan.tasks()).filter(|other| is_above(plan, core, task, TaskId(*other)));
-    above.count() as u32
+    let mut count = 0;
+    for other in 0..plan.tasks() {
+        count += counted(is_above(plan, core, task, TaskId(other)));
+    }
+    count
 }
 
 /// Where a core begins: below those before it and their tasks.
@@ -197,16 +203,26 @@ pub(crate) fn row_room(plan: &Plan, row: &Row) -> Room
     }
 }
 
-/// The lane of a resource, below those of the cores and of the global resources before it.
+// Where the lane of a resource begins, below those of the cores and of the global resources before it.
+fn queue_top(plan: &Plan, levels: &Levels<'_>, res: u32) -> u64
+    requires levels { levels.now ≡ plan.now }
+    requires res { res ≤ length plan.now.resources }
+    ensures top { result ≡ (queue_room plan.now res).top }
+    ensures small { result < 2 ^ 42 }
+{
+    let cores = core_top(plan, CoreId(plan.cores()));
+    cores + QUEUE_HEAD + globals_below(levels, res) as u64 * QUEUE_PITCH
+}
+
+/// The lane of a resource.
 pub(crate) fn queue_room(plan: &Plan, levels: &Levels<'_>, res: ResId) -> Room
     requires levels { levels.now ≡ plan.now }
     requires res { res.0 ≤ length plan.now.resources }
     ensures room { result ≡ queue_room plan.now res.0 }
     ensures small { result.top < 2 ^ 42 }
 {
-    let cores = core_top(plan, CoreId(plan.cores()));
     Room {
-        top: cores + QUEUE_HEAD + globals_below(levels, res.0) as u64 * QUEUE_PITCH,
+        top: queue_top(plan, levels, res.0),
         height: QUEUE_HEIGHT,
     }
 }
@@ -216,5 +232,5 @@ pub(crate) fn bottom(plan: &Plan, levels: &Levels<'_>) -> u64
     requires { levels.now ≡ plan.now }
     ensures { result ≡ bottom plan.now }
 {
-    queue_room(plan, levels, ResId(plan.resources())).top + QUEUE_HEAD
+    queue_top(plan, levels, plan.resources()) + QUEUE_HEAD
 }

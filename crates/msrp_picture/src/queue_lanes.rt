@@ -1,12 +1,11 @@
 //! A lane for each global resource, with who is first in its queue and how many wait behind.
 ghost use Rattle.std.specs.Prelude.{◌≡◌, ◌<◌, ◌≤◌, ◌++◌, ◌+◌, ◌^◌, length, IfOk, OnOk};
-ghost use Rattle.msrp_picture.specs.QueueLanes.{held, queue_shapes, queue_spans, queues_shapes};
+ghost use Rattle.msrp_picture.specs.QueueLanes.{held_by, queue_shapes, queue_spans, queues_shapes};
 ghost use Rattle.msrp_picture.specs.Windows.{IsWindow};
 
-use crate::names::push_names;
-use crate::places::{NAME_ABOVE, NAME_LINE, queue_room};
+use crate::places::{NAME_LINE, queue_room};
 use crate::queues::{Standing, standings};
-use crate::seen::{lane_of, push};
+use crate::seen::{lane_of, note_of, push};
 use crate::shapes::{Look, Room, Shape, Span, Words, lasting};
 use crate::stretches::push_merged;
 use crate::windows::{Window, begun};
@@ -14,14 +13,22 @@ use msrp_levels::Levels;
 use msrp_plan::{Memory, Plan, ResId, Row};
 use std::alloc::Global;
 
-// The tick after which the queue of a resource stands so, if someone is first in it.
-fn held(room: Room, res: ResId, tick: u64, standing: &Standing) -> Option<Span>
+// A tick after which the queue of a resource stands so, if someone is first in it.
+fn push_held(
+    spans: &mut Vec<Span>,
+    room: Room,
+    res: ResId,
+    tick: u64,
+    standing: Standing,
+) -> Result<(), Memory>
     requires { tick ≤ 2 ^ 32 }
-    ensures { result ≡ held room res tick standing.now }
+    ensures { OnOk result (spans.new.items ≡ spans.old.items ++ held_by room res tick standing standing.first) }
 {
-    let first = standing.first?;
-    let look = Look::First(standing.behind as u64);
-    Some(lasting(tick, tick + 1, room, look, Some(first), Some(res)))
+    if standing.first.is_some() {
+        let look = Look::First(standing.behind as u64);
+        spans.push(lasting(tick, tick + 1, room, look, standing.first, Some(res)))?;
+    }
+    Ok(())
 }
 
 // The spans of a queue's standings, tick by tick from one on.
@@ -35,10 +42,11 @@ fn spans_of(
     requires { from + length standings.now ≤ 2 ^ 32 }
     ensures { IfOk result (λ spans. spans.items ≡ queue_spans room res from standings.now) }
 {
-    let spans = standings.iter().enumerate().filter_map(|(place, standing)| {
-        held(room, res, from as u64 + place as u64, standing)
-    });
-    Ok(spans.collect(alloc)?)
+    let mut spans = Vec::new(alloc);
+    for (place, standing) in standings.iter().enumerate() {
+        push_held(&mut spans, room, res, from as u64 + place as u64, *standing)?;
+    }
+    Ok(spans)
 }
 
 // The lane of a resource: its name, what lies under its blocks as far as rows stand, and these.
@@ -59,7 +67,7 @@ fn push_queue(
     let room = queue_room(plan, levels, res);
     let found = standings(alloc, plan, rows, res, window)?;
     let spans = spans_of(alloc, room, res, window.from, &found)?;
-    push_names(shapes, window, room, NAME_LINE, NAME_ABOVE, Words::Res(res))?;
+    push(shapes, note_of(room, NAME_LINE, Words::Res(res)))?;
     push(shapes, lane_of(window, room, begun(plan, rows) as u64))?;
     push_merged(shapes, window, &spans)
 }

@@ -102,14 +102,13 @@ pub enum Words {
     Res(ResId),
     /// The number of a tick.
     Tick(u64),
-    /// The rule that a row breaks.
-    Broken(Rule),
+    /// The rule that a row of a tick breaks.
+    Broken(Rule, u64),
 }
 
-/// Words, with where they stand on which line.
+/// Words, with the line that they stand on.
 #[derive(Clone, Copy, Debug, PartialEq, Eq)]
 pub struct Note {
-    pub left: u64,
     pub line: u64,
     pub words: Words,
 }
