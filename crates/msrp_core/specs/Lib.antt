@@ -1,5 +1,6 @@
 pub mod Ports
 pub mod Active
+pub mod Actions
 pub mod CoreJobs
 pub mod Machine
 pub mod Repeats

@@ -1,5 +1,5 @@
 //! What the running job does in its turn: its next unit, or the wait for it.
-ghost use Rattle.std.specs.Prelude.{◌≡◌, ◌≤◌, List, Some, None, true, false, length};
+ghost use Rattle.std.specs.Prelude.{◌≡◌, ◌≤◌, ℕ, List, Some, None, true, false, length};
 ghost use Rattle.std.specs.List.{Contains};
 ghost use Rattle.std.specs.Option.{ForSome};
 ghost use Rattle.msrp_plan.specs.Actions.{allows};
@@ -12,11 +12,52 @@ ghost use Rattle.msrp_plan.specs.declared.rows.Row.{Row as TraceRow};
 ghost use Rattle.msrp_ready.specs.Ready.{is_among};
 ghost use Rattle.msrp_core.specs.Active.{is_holding_phase, is_waiting_phase};
 ghost use Rattle.msrp_core.specs.Ports.{claim_in, IsQuiet, MakesCall};
-ghost use Rattle.msrp_core.specs.CoreJobs.{Acts, ActsFor, AreJobs, AreToldBy, CanAct, CanCall, DoesNext, IsNextUnit, IsRunning, IsTurnOf};
+ghost use Rattle.msrp_core.specs.Actions.{row_of};
+ghost use Rattle.msrp_core.specs.CoreJobs.{Acts, ActsFor, AreJobs, AreToldBy, CanAct, CanCall, Does, DoesNext, IsNextUnit, IsRunning, IsTurnOf};
 
 use crate::jobs::Jobs;
 use crate::port::{Port, Reply};
 use msrp_plan::{CoreId, JobId, Kind, Op, Phase, ResId, Row};
+
+/// What a job does in its turn: what its row says beside the tick, the core and the job.
+#[derive(Clone, Copy)]
+pub(crate) enum Action {
+    Run,
+    Lock(ResId),
+    Unlock(ResId),
+    Take(ResId),
+    /// A request that joins the queue, behind so many.
+    Queue(ResId, u32),
+    Spin(ResId),
+    Grant(ResId),
+    Release(ResId),
+}
+
+impl Action {
+    // The row of the turn in which the job does it.
+    #[inline(always)]
+    fn row(self, core: CoreId, tick: u32, job: JobId) -> Row
+        ensures { result ≡ row_of tick core job self }
+    {
+        match self {
+            Action::Run => row_on(core, tick, Kind::Run, job, None),
+            Action::Lock(res) => row_on(core, tick, Kind::Lock, job, Some(res)),
+            Action::Unlock(res) => row_on(core, tick, Kind::Unlock, job, Some(res)),
+            Action::Take(res) => row_on(core, tick, Kind::Take, job, Some(res)),
+            Action::Queue(res, ahead) => Row {
+                tick,
+                core,
+                kind: Kind::Queue,
+                job: Some(job),
+                res: Some(res),
+                ahead: Some(ahead),
+            },
+            Action::Spin(res) => row_on(core, tick, Kind::Spin, job, Some(res)),
+            Action::Grant(res) => row_on(core, tick, Kind::Grant, job, Some(res)),
+            Action::Release(res) => row_on(core, tick, Kind::Release, job, Some(res)),
+        }
+    }
+}
 
 // A row of a job.
 pub(crate) fn row_on(core: CoreId, tick: u32, kind: Kind, job: JobId, res: Option<ResId>) -> Row
@@ -76,117 +117,104 @@ impl<'a> Jobs<'a> {
 
     // A unit of work.
     #[inline(always)]
-    fn work(&mut self, tick: u32, job: JobId) -> Row
+    fn work(&mut self, job: JobId) -> Action
         requires { CanAct self.old job Op.Run }
-        ensures acts { Acts self.old self.new job tick result }
-        ensures none { result.res ≡ None }
+        ensures action { result ≡ Action.Run }
+        ensures does { Does self.old self.new job result }
         ensures phase { self.new.phase ≡ self.old.phase }
     {
         self.advance(job);
-        row_on(self.core, tick, Kind::Run, job, None)
+        Action::Run
     }
 
     // A lock of a local resource.
     #[inline(always)]
-    fn lock(&mut self, tick: u32, job: JobId, res: ResId) -> Row
+    fn lock(&mut self, job: JobId, res: ResId) -> Action
         requires can { CanAct self.old job (Op.Lock res) }
         requires local { is_global self.old.plan.now res.0 ≡ false }
-        ensures acts { Acts self.old self.new job tick result }
-        ensures res { result.res ≡ Some res }
+        ensures action { result ≡ Action.Lock res }
+        ensures does { Does self.old self.new job result }
         ensures phase { self.new.phase ≡ self.old.phase }
     {
         self.stack.lock(res);
         self.advance(job);
-        row_on(self.core, tick, Kind::Lock, job, Some(res))
+        Action::Lock(res)
     }
 
     // An unlock of a local resource.
     #[inline(always)]
-    fn unlock(&mut self, tick: u32, job: JobId, res: ResId) -> Row
+    fn unlock(&mut self, job: JobId, res: ResId) -> Action
         requires can { CanAct self.old job (Op.Unlock res) }
         requires local { is_global self.old.plan.now res.0 ≡ false }
-        ensures acts { Acts self.old self.new job tick result }
-        ensures res { result.res ≡ Some res }
+        ensures action { result ≡ Action.Unlock res }
+        ensures does { Does self.old self.new job result }
         ensures phase { self.new.phase ≡ self.old.phase }
     {
         self.stack.unlock(res);
         self.advance(job);
-        row_on(self.core, tick, Kind::Unlock, job, Some(res))
+        Action::Unlock(res)
     }
 
     // A request that is granted at once.
     #[inline(always)]
-    fn take(&mut self, tick: u32, job: JobId, res: ResId) -> Row
+    fn take(&mut self, job: JobId, res: ResId) -> Action
         requires can { CanAct self.old job (Op.Lock res) }
         requires global { is_global self.old.plan.now res.0 ≡ true }
         requires free { self.old.phase ≡ Phase.Free }
-        ensures acts { Acts self.old self.new job tick result }
+        ensures action { result ≡ Action.Take res }
+        ensures does { Does self.old self.new job result }
         ensures phase { self.new.phase ≡ Phase.Holding res }
-        ensures res { result.res ≡ Some res }
-        ensures kind { result.kind ≡ Kind.Take }
-        ensures ahead { result.ahead ≡ None }
     {
         self.stack.raise_global(res);
         self.phase = Phase::Holding(res);
         self.advance(job);
-        row_on(self.core, tick, Kind::Take, job, Some(res))
+        Action::Take(res)
     }
 
     // A request that joins the queue: the job waits.
     #[inline(always)]
-    fn wait(&mut self, tick: u32, job: JobId, res: ResId, ahead: u32) -> Row
+    fn wait(&mut self, job: JobId, res: ResId, ahead: u32) -> Action
         requires can { CanAct self.old job (Op.Lock res) }
         requires global { is_global self.old.plan.now res.0 ≡ true }
         requires free { self.old.phase ≡ Phase.Free }
-        ensures acts { Acts self.old self.new job tick result }
+        ensures action { result ≡ Action.Queue res ahead }
+        ensures does { Does self.old self.new job result }
         ensures phase { self.new.phase ≡ Phase.Queued res }
-        ensures res { result.res ≡ Some res }
-        ensures kind { result.kind ≡ Kind.Queue }
-        ensures ahead { result.ahead ≡ Some ahead }
     {
         self.stack.raise_global(res);
         self.phase = Phase::Queued(res);
-        Row {
-            tick,
-            core: self.core,
-            kind: Kind::Queue,
-            job: Some(job),
-            res: Some(res),
-            ahead: Some(ahead),
-        }
+        Action::Queue(res, ahead)
     }
 
     // A request of a global resource. In place, so that a port of one turn needs no memory.
     #[inline(always)]
-    fn request<P: Port>(&mut self, port: &mut P, tick: u32, job: JobId, res: ResId) -> Row
+    fn request<P: Port>(&mut self, port: &mut P, job: JobId, res: ResId) -> Action
         requires can { CanAct self.old job (Op.Lock res) }
         requires global { is_global self.old.plan.now res.0 ≡ true }
         requires free { self.old.phase ≡ Phase.Free }
         requires call { CanCall self.old (P.port port.old) }
-        ensures acts { Acts self.old self.new job tick result }
-        ensures call { MakesCall self.old.plan.now result (P.port port.old) (P.port port.new) }
+        ensures does { Does self.old self.new job result }
+        ensures call { (tick : ℕ) → MakesCall self.old.plan.now (row_of tick self.old.core job result) (P.port port.old) (P.port port.new) }
         ensures claim { claim_in self.old.core.0 (P.port port.new).calls ≡ self.new.phase }
     {
         match port.ask(self.core, res) {
-            Reply::Taken => self.take(tick, job, res),
-            Reply::Queued(ahead) => self.wait(tick, job, res, ahead),
+            Reply::Taken => self.take(job, res),
+            Reply::Queued(ahead) => self.wait(job, res, ahead),
         }
     }
 
     // A poll that is answered yes: the job holds the resource.
     #[inline(always)]
-    fn granted(&mut self, tick: u32, job: JobId, res: ResId) -> Row
+    fn granted(&mut self, job: JobId, res: ResId) -> Action
         requires can { CanAct self.old job (Op.Lock res) }
         requires awaits { self.old.phase ≡ Phase.Queued res }
-        ensures acts { Acts self.old self.new job tick result }
+        ensures action { result ≡ Action.Grant res }
+        ensures does { Does self.old self.new job result }
         ensures phase { self.new.phase ≡ Phase.Holding res }
-        ensures res { result.res ≡ Some res }
-        ensures kind { result.kind ≡ Kind.Grant }
-        ensures ahead { result.ahead ≡ None }
     {
         self.phase = Phase::Holding(res);
         self.advance(job);
-        row_on(self.core, tick, Kind::Grant, job, Some(res))
+        Action::Grant(res)
     }
 
     // A poll that is answered no: the job waits on.
@@ -204,78 +232,76 @@ impl<'a> Jobs<'a> {
 
     // A poll of the global resource that the job awaits.
     #[inline(always)]
-    fn poll<P: Port>(&mut self, port: &mut P, tick: u32, job: JobId, res: ResId) -> Row
+    fn poll<P: Port>(&mut self, port: &mut P, job: JobId, res: ResId) -> Action
         requires can { CanAct self.old job (Op.Lock res) }
         requires global { is_global self.old.plan.now res.0 ≡ true }
         requires awaits { self.old.phase ≡ Phase.Queued res }
         requires call { CanCall self.old (P.port port.old) }
-        ensures acts { Acts self.old self.new job tick result }
-        ensures call { MakesCall self.old.plan.now result (P.port port.old) (P.port port.new) }
+        ensures does { Does self.old self.new job result }
+        ensures call { (tick : ℕ) → MakesCall self.old.plan.now (row_of tick self.old.core job result) (P.port port.old) (P.port port.new) }
         ensures claim { claim_in self.old.core.0 (P.port port.new).calls ≡ self.new.phase }
     {
         if port.poll(self.core, res) {
-            self.granted(tick, job, res)
+            self.granted(job, res)
         } else {
-            self.spin(tick, job, res)
+            Action::Spin(res)
         }
     }
 
     // The release of the global resource that the job holds.
     #[inline(always)]
-    fn drop_held(&mut self, tick: u32, job: JobId, res: ResId) -> Row
+    fn drop_held(&mut self, job: JobId, res: ResId) -> Action
         requires can { CanAct self.old job (Op.Unlock res) }
         requires global { is_global self.old.plan.now res.0 ≡ true }
-        ensures acts { Acts self.old self.new job tick result }
+        ensures action { result ≡ Action.Release res }
+        ensures does { Does self.old self.new job result }
         ensures phase { self.new.phase ≡ Phase.Free }
-        ensures res { result.res ≡ Some res }
-        ensures kind { result.kind ≡ Kind.Release }
-        ensures ahead { result.ahead ≡ None }
     {
         self.stack.drop_global(res);
         self.phase = Phase::Free;
         self.advance(job);
-        row_on(self.core, tick, Kind::Release, job, Some(res))
+        Action::Release(res)
     }
 
     // A release of a global resource, which the port is told.
     #[inline(always)]
-    fn release<P: Port>(&mut self, port: &mut P, tick: u32, job: JobId, res: ResId) -> Row
+    fn release<P: Port>(&mut self, port: &mut P, job: JobId, res: ResId) -> Action
         requires can { CanAct self.old job (Op.Unlock res) }
         requires global { is_global self.old.plan.now res.0 ≡ true }
         requires holding { self.old.phase ≡ Phase.Holding res }
         requires call { CanCall self.old (P.port port.old) }
-        ensures acts { Acts self.old self.new job tick result }
-        ensures call { MakesCall self.old.plan.now result (P.port port.old) (P.port port.new) }
+        ensures does { Does self.old self.new job result }
+        ensures call { (tick : ℕ) → MakesCall self.old.plan.now (row_of tick self.old.core job result) (P.port port.old) (P.port port.new) }
         ensures claim { claim_in self.old.core.0 (P.port port.new).calls ≡ self.new.phase }
     {
         port.leave(self.core, res);
-        self.drop_held(tick, job, res)
+        self.drop_held(job, res)
     }
 
-    /// The next action of the running job: its next unit, or one more tick of the wait for it.
+    // The next action of the running job: its next unit, or one more tick of the wait for it.
     #[inline(always)]
-    pub(crate) fn act<P: Port>(&mut self, port: &mut P, tick: u32, job: JobId) -> Row
+    fn act<P: Port>(&mut self, port: &mut P, job: JobId) -> Action
         requires jobs { AreJobs self.old }
         requires running { IsRunning self.old job }
         requires call { CanCall self.old (P.port port.old) }
-        ensures acts { Acts self.old self.new job tick result }
-        ensures call { (res : Resource) → result.res ≡ Some res → is_global self.old.plan.now res.0 ≡ true → MakesCall self.old.plan.now result (P.port port.old) (P.port port.new) }
-        ensures quiet { IsQuiet self.old.plan.now result → port.new ≡ port.old }
+        ensures does { Does self.old self.new job result }
+        ensures call { (tick : ℕ) (res : Resource) → (row_of tick self.old.core job result).res ≡ Some res → is_global self.old.plan.now res.0 ≡ true → MakesCall self.old.plan.now (row_of tick self.old.core job result) (P.port port.old) (P.port port.new) }
+        ensures quiet { (tick : ℕ) → IsQuiet self.old.plan.now (row_of tick self.old.core job result) → port.new ≡ port.old }
         ensures claim { claim_in self.old.core.0 (P.port port.new).calls ≡ self.new.phase }
     {
         match self.unit(job) {
-            Op::Run => self.work(tick, job),
+            Op::Run => self.work(job),
             Op::Lock(res) => if self.is_waiting() {
-                self.poll(port, tick, job, res)
+                self.poll(port, job, res)
             } else if self.levels.is_global(res) {
-                self.request(port, tick, job, res)
+                self.request(port, job, res)
             } else {
-                self.lock(tick, job, res)
+                self.lock(job, res)
             },
             Op::Unlock(res) => if self.is_holding(res) {
-                self.release(port, tick, job, res)
+                self.release(port, job, res)
             } else {
-                self.unlock(tick, job, res)
+                self.unlock(job, res)
             },
         }
     }
@@ -381,9 +407,10 @@ impl<'a> Jobs<'a> {
         ensures quiet { IsQuiet self.old.plan.now result → port.new ≡ port.old }
         ensures claim { claim_in self.old.core.0 (P.port port.new).calls ≡ self.new.phase }
     {
+        let core = self.core;
         match chosen {
-            None => idle_row(self.core, tick),
-            Some(job) => self.act(port, tick, job),
+            None => idle_row(core, tick),
+            Some(job) => self.act(port, job).row(core, tick, job),
         }
     }
 }

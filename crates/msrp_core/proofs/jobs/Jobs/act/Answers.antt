@@ -5,6 +5,7 @@ use Rattle.msrp_plan.specs.Plan.{PlanModel}
 use Rattle.msrp_plan.specs.Levels.{is_global}
 use Rattle.msrp_plan.specs.declared.ids.ResId.{ResId}
 use Rattle.msrp_plan.specs.declared.units.Op.TheVariants.{Lock as LockUnit, Unlock as UnlockUnit}
+use Rattle.msrp_core.specs.Actions.{row_of}
 use Rattle.msrp_core.proofs.Steps.{request_phase}
 use Rattle.msrp_core.proofs.Acting.{next_unit, unit_at, holds_at, unlock_local}
 use Rattle.msrp_core.proofs.jobs.Jobs.act.Goals as goal
@@ -19,7 +20,7 @@ pub unlock-requires-clause-local : goal.unlock-requires-clause-local
 unlock-requires-clause-local g c = unlock_local c.args.self.now c.args.job c.in-Unlock.res (next_unit c.args.self.now c.args.job (UnlockUnit c.in-Unlock.res) c.in-Unlock.ensures) (sym c.is_holding.ensures ∙ c.if-is_holding.false)
 
 pub returns-else-is_holding-clause-call : goal.returns-else-is_holding-clause-call
-returns-else-is_holding-clause-call g c = λ r e glob.
-    let same : r ≡ c.in-Unlock.res = same_Some r c.in-Unlock.res (sym e ∙ c.unlock.ensures.res) in
+returns-else-is_holding-clause-call g c = λ tick r e glob.
+    let same : r ≡ c.in-Unlock.res = same_Some r c.in-Unlock.res (sym e ∙ ap (λ a. (row_of tick c.args.self.now.core c.args.job a).res) c.unlock.ensures.action) in
     let t : is_global c.args.self.now.plan.now c.in-Unlock.res.0 ≡ true = ap (λ (x : ResId). is_global c.args.self.now.plan.now x.0) (sym same) ∙ glob in
     absurd (true≢false (sym t ∙ unlock_local c.args.self.now c.args.job c.in-Unlock.res (next_unit c.args.self.now c.args.job (UnlockUnit c.in-Unlock.res) c.in-Unlock.ensures) (sym c.is_holding.ensures ∙ c.if-is_holding.false)))

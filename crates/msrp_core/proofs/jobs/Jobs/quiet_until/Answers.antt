@@ -1,4 +1,4 @@
-use Rattle.std.proofs.Common.{◌≤◌, max, sym, ◌∙◌, arith, inl, inr}
+use Rattle.std.proofs.Common.{◌≤◌, sym, ◌∙◌, arith, inl, inr}
 use Rattle.std.proofs.Math.Bool.{true≢false}
 use Rattle.std.proofs.lemmas.Bool.{cases_lt}
 use Rattle.msrp_plan.specs.Plan.{release}
