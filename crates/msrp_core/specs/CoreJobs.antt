@@ -14,9 +14,7 @@ use Rattle.msrp_plan.specs.declared.rows.Kind.TheVariants.{Idle}
 use Rattle.msrp_plan.specs.declared.rows.Row.{Row}
 use Rattle.msrp_plan.specs.declared.units.Op.{Op}
 use Rattle.msrp_core.specs.Ports.{PortModel, claim_in}
-use Rattle.msrp_core.specs.Actions.{row_of}
 use Rattle.msrp_core.specs.Active.{ActiveJob, active_of, state_in, is_waiting_phase, HoldSo, AreActive}
-use Rattle.msrp_core.specs.declared.actions.Action.{Action}
 use Rattle.msrp_core.specs.declared.jobs.Jobs.{Jobs}
 
 -- the active jobs, the newest first
@@ -97,10 +95,6 @@ pub record Acts (old new : Jobs) (job : JobId) (tick : ℕ) (r : Row) : Type 0 w
   pub action : (s : ActiveJob) (below : List ActiveJob) → active_in old ≡ s ∷ below → does_unit_after old.plan.now job (is_waiting_phase old.phase) s.done r ≡ true
   pub states : (j : JobId) → state_of new j ≡ state_with r (state_of old j)
   pub phase : new.phase ≡ phase_with old.phase r.kind r.res
-
--- the newest job did its next unit, or waits for it: this is its action, in whatever tick
-abbrev pub Does : Jobs → Jobs → JobId → Action → Type 0
-Does old new job action = (tick : ℕ) → Acts old new job tick (row_of tick old.core job action)
 
 -- nobody has the turn: the row is idle, and all stays
 pub record Idles (old new : Jobs) (tick : ℕ) (r : Row) : Type 0 where

@@ -6,56 +6,55 @@ ghost use Rattle.msrp_plan.specs.Actions.{allows};
 ghost use Rattle.msrp_plan.specs.Jobs.{jobs_on};
 ghost use Rattle.msrp_plan.specs.Levels.{is_global};
 ghost use Rattle.msrp_plan.specs.Runs.{IsCoreTurn};
-ghost use Rattle.msrp_plan.specs.Shape.{has_shape};
+ghost use Rattle.msrp_plan.specs.Shape.{has_shape, may_carry};
 ghost use Rattle.msrp_plan.specs.declared.ids.ResId.{ResId as Resource};
 ghost use Rattle.msrp_plan.specs.declared.rows.Row.{Row as TraceRow};
 ghost use Rattle.msrp_ready.specs.Ready.{is_among};
 ghost use Rattle.msrp_core.specs.Active.{is_holding_phase, is_waiting_phase};
 ghost use Rattle.msrp_core.specs.Ports.{claim_in, IsQuiet, MakesCall};
-ghost use Rattle.msrp_core.specs.Actions.{row_of};
-ghost use Rattle.msrp_core.specs.CoreJobs.{Acts, ActsFor, AreJobs, AreToldBy, CanAct, CanCall, Does, DoesNext, IsNextUnit, IsRunning, IsTurnOf};
+ghost use Rattle.msrp_core.specs.Actions.{EachRowOf, IsRowOf};
+ghost use Rattle.msrp_core.specs.CoreJobs.{Acts, ActsFor, AreJobs, AreToldBy, CanAct, CanCall, DoesNext, IsNextUnit, IsRunning, IsTurnOf};
 
 use crate::jobs::Jobs;
 use crate::port::{Port, Reply};
 use msrp_plan::{CoreId, JobId, Kind, Op, Phase, ResId, Row};
 
-/// What a job does in its turn: what its row says beside the tick, the core and the job.
+// What is done in a turn: what its row says beside the tick, the core and the job.
 #[derive(Clone, Copy)]
-pub(crate) enum Action {
-    Run,
-    Lock(ResId),
-    Unlock(ResId),
-    Take(ResId),
-    /// A request that joins the queue, behind so many.
-    Queue(ResId, u32),
-    Spin(ResId),
-    Grant(ResId),
-    Release(ResId),
+struct Action {
+    kind: Kind,
+    res: Option<ResId>,
+    ahead: Option<u32>,
 }
 
-impl Action {
-    // The row of the turn in which the job does it.
-    #[inline(always)]
-    fn row(self, core: CoreId, tick: u32, job: JobId) -> Row
-        ensures { result ≡ row_of tick core job self }
-    {
-        match self {
-            Action::Run => row_on(core, tick, Kind::Run, job, None),
-            Action::Lock(res) => row_on(core, tick, Kind::Lock, job, Some(res)),
-            Action::Unlock(res) => row_on(core, tick, Kind::Unlock, job, Some(res)),
-            Action::Take(res) => row_on(core, tick, Kind::Take, job, Some(res)),
-            Action::Queue(res, ahead) => Row {
-                tick,
-                core,
-                kind: Kind::Queue,
-                job: Some(job),
-                res: Some(res),
-                ahead: Some(ahead),
-            },
-            Action::Spin(res) => row_on(core, tick, Kind::Spin, job, Some(res)),
-            Action::Grant(res) => row_on(core, tick, Kind::Grant, job, Some(res)),
-            Action::Release(res) => row_on(core, tick, Kind::Release, job, Some(res)),
-        }
+// The row of a turn in which this was done.
+#[inline(always)]
+fn row_of(core: CoreId, tick: u32, job: Option<JobId>, action: Action) -> Row
+    requires shape { has_shape action.kind job action.res ≡ true }
+    requires carrier { may_carry action.kind action.ahead ≡ true }
+    ensures { IsRowOf tick core job action result }
+{
+    Row {
+        tick,
+        core,
+        kind: action.kind,
+        job,
+        res: action.res,
+        ahead: action.ahead,
+    }
+}
+
+// What is done to a resource, with nobody ahead.
+#[inline(always)]
+fn action_on(kind: Kind, res: ResId) -> Action
+    ensures kind { result.kind ≡ kind }
+    ensures res { result.res ≡ Some res }
+    ensures ahead { result.ahead ≡ None }
+{
+    Action {
+        kind,
+        res: Some(res),
+        ahead: None,
     }
 }
 
@@ -119,12 +118,18 @@ impl<'a> Jobs<'a> {
     #[inline(always)]
     fn work(&mut self, job: JobId) -> Action
         requires { CanAct self.old job Op.Run }
-        ensures action { result ≡ Action.Run }
-        ensures does { Does self.old self.new job result }
+        ensures kind { result.kind ≡ Kind.Run }
+        ensures res { result.res ≡ None }
+        ensures ahead { result.ahead ≡ None }
+        ensures acts { EachRowOf self.old.core (Some job) result (Acts self.old self.new job) }
         ensures phase { self.new.phase ≡ self.old.phase }
     {
         self.advance(job);
-        Action::Run
+        Action {
+            kind: Kind::Run,
+            res: None,
+            ahead: None,
+        }
     }
 
     // A lock of a local resource.
@@ -132,13 +137,15 @@ impl<'a> Jobs<'a> {
     fn lock(&mut self, job: JobId, res: ResId) -> Action
         requires can { CanAct self.old job (Op.Lock res) }
         requires local { is_global self.old.plan.now res.0 ≡ false }
-        ensures action { result ≡ Action.Lock res }
-        ensures does { Does self.old self.new job result }
+        ensures kind { result.kind ≡ Kind.Lock }
+        ensures res { result.res ≡ Some res }
+        ensures ahead { result.ahead ≡ None }
+        ensures acts { EachRowOf self.old.core (Some job) result (Acts self.old self.new job) }
         ensures phase { self.new.phase ≡ self.old.phase }
     {
         self.stack.lock(res);
         self.advance(job);
-        Action::Lock(res)
+        action_on(Kind::Lock, res)
     }
 
     // An unlock of a local resource.
@@ -146,13 +153,15 @@ impl<'a> Jobs<'a> {
     fn unlock(&mut self, job: JobId, res: ResId) -> Action
         requires can { CanAct self.old job (Op.Unlock res) }
         requires local { is_global self.old.plan.now res.0 ≡ false }
-        ensures action { result ≡ Action.Unlock res }
-        ensures does { Does self.old self.new job result }
+        ensures kind { result.kind ≡ Kind.Unlock }
+        ensures res { result.res ≡ Some res }
+        ensures ahead { result.ahead ≡ None }
+        ensures acts { EachRowOf self.old.core (Some job) result (Acts self.old self.new job) }
         ensures phase { self.new.phase ≡ self.old.phase }
     {
         self.stack.unlock(res);
         self.advance(job);
-        Action::Unlock(res)
+        action_on(Kind::Unlock, res)
     }
 
     // A request that is granted at once.
@@ -161,14 +170,16 @@ impl<'a> Jobs<'a> {
         requires can { CanAct self.old job (Op.Lock res) }
         requires global { is_global self.old.plan.now res.0 ≡ true }
         requires free { self.old.phase ≡ Phase.Free }
-        ensures action { result ≡ Action.Take res }
-        ensures does { Does self.old self.new job result }
+        ensures kind { result.kind ≡ Kind.Take }
+        ensures res { result.res ≡ Some res }
+        ensures ahead { result.ahead ≡ None }
+        ensures acts { EachRowOf self.old.core (Some job) result (Acts self.old self.new job) }
         ensures phase { self.new.phase ≡ Phase.Holding res }
     {
         self.stack.raise_global(res);
         self.phase = Phase::Holding(res);
         self.advance(job);
-        Action::Take(res)
+        action_on(Kind::Take, res)
     }
 
     // A request that joins the queue: the job waits.
@@ -177,13 +188,19 @@ impl<'a> Jobs<'a> {
         requires can { CanAct self.old job (Op.Lock res) }
         requires global { is_global self.old.plan.now res.0 ≡ true }
         requires free { self.old.phase ≡ Phase.Free }
-        ensures action { result ≡ Action.Queue res ahead }
-        ensures does { Does self.old self.new job result }
+        ensures kind { result.kind ≡ Kind.Queue }
+        ensures res { result.res ≡ Some res }
+        ensures ahead { result.ahead ≡ Some ahead }
+        ensures acts { EachRowOf self.old.core (Some job) result (Acts self.old self.new job) }
         ensures phase { self.new.phase ≡ Phase.Queued res }
     {
         self.stack.raise_global(res);
         self.phase = Phase::Queued(res);
-        Action::Queue(res, ahead)
+        Action {
+            kind: Kind::Queue,
+            res: Some(res),
+            ahead: Some(ahead),
+        }
     }
 
     // A request of a global resource. In place, so that a port of one turn needs no memory.
@@ -193,8 +210,10 @@ impl<'a> Jobs<'a> {
         requires global { is_global self.old.plan.now res.0 ≡ true }
         requires free { self.old.phase ≡ Phase.Free }
         requires call { CanCall self.old (P.port port.old) }
-        ensures does { Does self.old self.new job result }
-        ensures call { (tick : ℕ) → MakesCall self.old.plan.now (row_of tick self.old.core job result) (P.port port.old) (P.port port.new) }
+        ensures shape { has_shape result.kind (Some job) result.res ≡ true }
+        ensures carrier { may_carry result.kind result.ahead ≡ true }
+        ensures acts { EachRowOf self.old.core (Some job) result (Acts self.old self.new job) }
+        ensures call { EachRowOf self.old.core (Some job) result (λ _ r. MakesCall self.old.plan.now r (P.port port.old) (P.port port.new)) }
         ensures claim { claim_in self.old.core.0 (P.port port.new).calls ≡ self.new.phase }
     {
         match port.ask(self.core, res) {
@@ -208,13 +227,15 @@ impl<'a> Jobs<'a> {
     fn granted(&mut self, job: JobId, res: ResId) -> Action
         requires can { CanAct self.old job (Op.Lock res) }
         requires awaits { self.old.phase ≡ Phase.Queued res }
-        ensures action { result ≡ Action.Grant res }
-        ensures does { Does self.old self.new job result }
+        ensures kind { result.kind ≡ Kind.Grant }
+        ensures res { result.res ≡ Some res }
+        ensures ahead { result.ahead ≡ None }
+        ensures acts { EachRowOf self.old.core (Some job) result (Acts self.old self.new job) }
         ensures phase { self.new.phase ≡ Phase.Holding res }
     {
         self.phase = Phase::Holding(res);
         self.advance(job);
-        Action::Grant(res)
+        action_on(Kind::Grant, res)
     }
 
     // A poll that is answered no: the job waits on.
@@ -237,14 +258,16 @@ impl<'a> Jobs<'a> {
         requires global { is_global self.old.plan.now res.0 ≡ true }
         requires awaits { self.old.phase ≡ Phase.Queued res }
         requires call { CanCall self.old (P.port port.old) }
-        ensures does { Does self.old self.new job result }
-        ensures call { (tick : ℕ) → MakesCall self.old.plan.now (row_of tick self.old.core job result) (P.port port.old) (P.port port.new) }
+        ensures shape { has_shape result.kind (Some job) result.res ≡ true }
+        ensures carrier { may_carry result.kind result.ahead ≡ true }
+        ensures acts { EachRowOf self.old.core (Some job) result (Acts self.old self.new job) }
+        ensures call { EachRowOf self.old.core (Some job) result (λ _ r. MakesCall self.old.plan.now r (P.port port.old) (P.port port.new)) }
         ensures claim { claim_in self.old.core.0 (P.port port.new).calls ≡ self.new.phase }
     {
         if port.poll(self.core, res) {
             self.granted(job, res)
         } else {
-            Action::Spin(res)
+            action_on(Kind::Spin, res)
         }
     }
 
@@ -253,14 +276,16 @@ impl<'a> Jobs<'a> {
     fn drop_held(&mut self, job: JobId, res: ResId) -> Action
         requires can { CanAct self.old job (Op.Unlock res) }
         requires global { is_global self.old.plan.now res.0 ≡ true }
-        ensures action { result ≡ Action.Release res }
-        ensures does { Does self.old self.new job result }
+        ensures kind { result.kind ≡ Kind.Release }
+        ensures res { result.res ≡ Some res }
+        ensures ahead { result.ahead ≡ None }
+        ensures acts { EachRowOf self.old.core (Some job) result (Acts self.old self.new job) }
         ensures phase { self.new.phase ≡ Phase.Free }
     {
         self.stack.drop_global(res);
         self.phase = Phase::Free;
         self.advance(job);
-        Action::Release(res)
+        action_on(Kind::Release, res)
     }
 
     // A release of a global resource, which the port is told.
@@ -270,8 +295,10 @@ impl<'a> Jobs<'a> {
         requires global { is_global self.old.plan.now res.0 ≡ true }
         requires holding { self.old.phase ≡ Phase.Holding res }
         requires call { CanCall self.old (P.port port.old) }
-        ensures does { Does self.old self.new job result }
-        ensures call { (tick : ℕ) → MakesCall self.old.plan.now (row_of tick self.old.core job result) (P.port port.old) (P.port port.new) }
+        ensures shape { has_shape result.kind (Some job) result.res ≡ true }
+        ensures carrier { may_carry result.kind result.ahead ≡ true }
+        ensures acts { EachRowOf self.old.core (Some job) result (Acts self.old self.new job) }
+        ensures call { EachRowOf self.old.core (Some job) result (λ _ r. MakesCall self.old.plan.now r (P.port port.old) (P.port port.new)) }
         ensures claim { claim_in self.old.core.0 (P.port port.new).calls ≡ self.new.phase }
     {
         port.leave(self.core, res);
@@ -284,9 +311,11 @@ impl<'a> Jobs<'a> {
         requires jobs { AreJobs self.old }
         requires running { IsRunning self.old job }
         requires call { CanCall self.old (P.port port.old) }
-        ensures does { Does self.old self.new job result }
-        ensures call { (tick : ℕ) (res : Resource) → (row_of tick self.old.core job result).res ≡ Some res → is_global self.old.plan.now res.0 ≡ true → MakesCall self.old.plan.now (row_of tick self.old.core job result) (P.port port.old) (P.port port.new) }
-        ensures quiet { (tick : ℕ) → IsQuiet self.old.plan.now (row_of tick self.old.core job result) → port.new ≡ port.old }
+        ensures shape { has_shape result.kind (Some job) result.res ≡ true }
+        ensures carrier { may_carry result.kind result.ahead ≡ true }
+        ensures acts { EachRowOf self.old.core (Some job) result (Acts self.old self.new job) }
+        ensures call { EachRowOf self.old.core (Some job) result (λ _ r. (res : Resource) → r.res ≡ Some res → is_global self.old.plan.now res.0 ≡ true → MakesCall self.old.plan.now r (P.port port.old) (P.port port.new)) }
+        ensures quiet { EachRowOf self.old.core (Some job) result (λ _ r. IsQuiet self.old.plan.now r → port.new ≡ port.old) }
         ensures claim { claim_in self.old.core.0 (P.port port.new).calls ≡ self.new.phase }
     {
         match self.unit(job) {
@@ -391,6 +420,29 @@ impl<'a> Jobs<'a> {
         }
     }
 
+    // What who was chosen does, or nobody: then the core idles.
+    #[inline(always)]
+    fn action_of<P: Port>(&mut self, port: &mut P, chosen: Option<JobId>) -> Action
+        requires jobs { AreJobs self.old }
+        requires running { ForSome chosen (IsRunning self.old) }
+        requires call { CanCall self.old (P.port port.old) }
+        ensures shape { has_shape result.kind chosen result.res ≡ true }
+        ensures carrier { may_carry result.kind result.ahead ≡ true }
+        ensures acts { EachRowOf self.old.core chosen result (ActsFor self.old self.new chosen) }
+        ensures call { EachRowOf self.old.core chosen result (λ _ r. (res : Resource) → r.res ≡ Some res → is_global self.old.plan.now res.0 ≡ true → MakesCall self.old.plan.now r (P.port port.old) (P.port port.new)) }
+        ensures quiet { EachRowOf self.old.core chosen result (λ _ r. IsQuiet self.old.plan.now r → port.new ≡ port.old) }
+        ensures claim { claim_in self.old.core.0 (P.port port.new).calls ≡ self.new.phase }
+    {
+        match chosen {
+            None => Action {
+                kind: Kind::Idle,
+                res: None,
+                ahead: None,
+            },
+            Some(job) => self.act(port, job),
+        }
+    }
+
     /// The turn of who was chosen, or of nobody: then the core idles.
     #[inline(always)]
     pub(crate) fn act_chosen<P: Port>(
@@ -408,9 +460,7 @@ impl<'a> Jobs<'a> {
         ensures claim { claim_in self.old.core.0 (P.port port.new).calls ≡ self.new.phase }
     {
         let core = self.core;
-        match chosen {
-            None => idle_row(core, tick),
-            Some(job) => self.act(port, job).row(core, tick, job),
-        }
+        let action = self.action_of(port, chosen);
+        row_of(core, tick, chosen, action)
     }
 }
