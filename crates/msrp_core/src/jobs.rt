@@ -211,12 +211,13 @@ impl<'a> Jobs<'a> {
         ensures others { self.new ≡ record self.old { stack = self.new.stack; done = self.new.done } }
     {
         let units = self.plan.units(job.task);
-        if let Some(done) = self.done.pop() {
-            if done + 1 == units {
-                self.stack.finish();
-            } else {
-                self.done.push_reserved(done + 1);
-            }
+        let done = self.progress() + 1;
+        if done == units {
+            self.done.pop();
+            self.stack.finish();
+        } else {
+            let newest = self.done.len() - 1;
+            self.done[newest] = done;
         }
     }
 }
