@@ -3,6 +3,7 @@ pub mod PlainLines
 pub mod AheadBytes
 pub mod LineEnds
 pub mod Fronts
+pub mod Chunks
 pub mod FirstFields
 pub mod Digits
 pub mod Texts

@@ -118,13 +118,29 @@ pub(crate) fn front_of(text: &[u8], row: &mut ByteRecord) -> Result<Front, Alloc
     }
 }
 
+// Whether a text begins with another. One of four to eight bytes, as that of most ticks, is compared by its first four and its last
+// four, for which nothing is called.
+#[inline(always)]
+fn begins_with(text: &[u8], front: &[u8]) -> bool
+    ensures begins { result ≡ true → (after : List ℕ) × (text.now ≡ front.now ++ after) }
+    ensures finds { (after : List ℕ) → text.now ≡ front.now ++ after → result ≡ true }
+{
+    let count = front.len();
+    if count < 4 || count > 8 || text.len() < count {
+        return text.starts_with(front);
+    }
+    let text = &text[..count];
+    text.first_chunk::<4>() == front.first_chunk::<4>()
+        && text.last_chunk::<4>() == front.last_chunk::<4>()
+}
+
 /// How many bytes a line takes with its end, where a text begins with it. The line is given in two parts.
 #[inline]
 pub(crate) fn line_met(text: &[u8], front: &[u8], rest: &[u8]) -> Option<usize>
     ensures line { IfSome result (λ taken. (0 < taken) × (taken ≤ length text.now) × EndsLine (front.now ++ rest.now) (take taken text.now)) }
     ensures finds { BeginsWith (front.now ++ rest.now) text.now → IsSome result }
 {
-    if !text.starts_with(front) {
+    if !begins_with(text, front) {
         return None;
     }
     rest_met(text, front, rest)
@@ -158,7 +174,10 @@ pub(crate) fn digit_after(text: &[u8], first: &[u8]) -> Option<u8>
     ensures digit { IfSome result (λ digit. BeginsWithDigit first.now digit text.now) }
     ensures finds { (digit : ℕ) → BeginsWithDigit first.now digit text.now → result ≡ Some digit }
 {
-    let rest = text.strip_prefix(first)?;
+    if !begins_with(text, first) {
+        return None;
+    }
+    let rest = &text[first.len()..];
     if rest.len() >= 3 && rest[0] == b',' && rest[1].is_ascii_digit() && rest[2] == b',' {
         return Some(rest[1]);
     }
