@@ -1,9 +1,9 @@
 -- Texts that are compared by the bytes at their ends.
-use Rattle.std.proofs.Common.{◌≡◌, ◌≤◌, ◌<◌, ◌+◌, ◌-◌, ◌++◌, ◌∙◌, ℕ, List, Option, Some, None, Bor, true, length, take, drop, take-append-drop, sym, ap, arith}
+use Rattle.std.proofs.Common.{◌≡◌, ◌≤◌, ◌<◌, ◌+◌, ◌-◌, ◌++◌, ◌∙◌, ℕ, List, Option, Some, None, Bor, true, length, take, drop, take-append-drop, refl, sym, ap, arith}
 use Rattle.std.specs.Array.{IsFirstChunk, IsWholeChunk}
 use Rattle.std.specs.Option.{MatchOption, option_eq}
 use Rattle.std.specs.Str.{bytes_eq}
-use Rattle.std.proofs.lemmas.List.{take-take}
+use Rattle.std.proofs.lemmas.List.{take-take, take_at}
 use Rattle.std.proofs.lemmas.Slice.Eq.{bytes_eq-Decides}
 
 -- two lists of one length, which is twice that of a chunk at most, are the same where their first and their last chunks are
@@ -27,3 +27,10 @@ pub last-same : (n : ℕ) (a b : List ℕ) (x y : Option (Bor (List ℕ))) → n
 last-same n a b None y size h k e = absurd (omega (arith, size, h))
 last-same n a b (Some c) None size h k e = cc
 last-same n a b (Some c) (Some d) size h k e = sym h.1.same ∙ (bytes_eq-Decides c.now d.now).0 (sym e) ∙ k.1.same
+
+-- a text whose first bytes are those of another begins with it
+pub front-met : (text front : List ℕ) → take (length front) text ≡ front → (after : List ℕ) × (text ≡ front ++ after)
+front-met text front same = (drop (length front) text, sym (take-append-drop (length front) text) ∙ ap (λ (t : List ℕ). t ++ drop (length front) text) same)
+
+pub front-same : (text front after : List ℕ) → text ≡ front ++ after → take (length front) text ≡ front
+front-same text front after is = ap (take (length front)) is ∙ take_at front after (length front) refl

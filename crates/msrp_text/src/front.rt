@@ -1,6 +1,6 @@
 //! Plain lines, whose fields stand between commas: a plain line isn't empty, has no quote, doesn't begin as a byte order mark does, is
 //! shorter than [`LONGEST`], and ends with LF, CR or CRLF.
-ghost use Rattle.std.specs.Prelude.{◌≡◌, ◌==◌, ◌&&◌, ◌||◌, ◌≤◌, ◌<◌, ◌⊎◌, ◌++◌, ◌∷◌, ℕ, List, [], Some, IfOk, IsSome, true, false, slice_index, length, take, drop};
+ghost use Rattle.std.specs.Prelude.{◌≡◌, ◌==◌, ◌&&◌, ◌||◌, ◌≤◌, ◌<◌, ◌+◌, ◌⊎◌, ◌++◌, ◌∷◌, ℕ, List, [], Some, IfOk, IsSome, true, false, slice_index, length, take, drop};
 ghost use Rattle.std.specs.Option.{IfSome};
 ghost use Rattle.csv.specs.Records.{fields_of, partial_of};
 ghost use Rattle.msrp_text.specs.Plain.{BeginsWith, BeginsWithDigit, EndsLine, Stands, is_plain, split_commas, split_from};
@@ -118,8 +118,21 @@ pub(crate) fn front_of(text: &[u8], row: &mut ByteRecord) -> Result<Front, Alloc
     }
 }
 
-// Whether a text begins with another. One of four to eight bytes, as that of most ticks, is compared by its first four and its last
-// four, for which nothing is called.
+// Whether two texts of one length, which is that of one chunk or of two or lies between, are the same: by their first and their last chunk, each
+// of which is compared by one instruction.
+#[inline(always)]
+fn is_same<const CHUNK: usize>(text: &[u8], other: &[u8]) -> bool
+    requires length { length text.now ≡ length other.now }
+    requires one { CHUNK ≤ length text.now }
+    requires two { length text.now ≤ CHUNK + CHUNK }
+    ensures same { result ≡ true → text.now ≡ other.now }
+    ensures finds { text.now ≡ other.now → result ≡ true }
+{
+    text.first_chunk::<CHUNK>() == other.first_chunk::<CHUNK>()
+        && text.last_chunk::<CHUNK>() == other.last_chunk::<CHUNK>()
+}
+
+// Whether a text begins with another. For one of four to eight bytes, as that of most ticks, nothing is called.
 #[inline(always)]
 fn begins_with(text: &[u8], front: &[u8]) -> bool
     ensures begins { result ≡ true → (after : List ℕ) × (text.now ≡ front.now ++ after) }
@@ -129,9 +142,25 @@ fn begins_with(text: &[u8], front: &[u8]) -> bool
     if count < 4 || count > 8 || text.len() < count {
         return text.starts_with(front);
     }
+    is_same::<4>(&text[..count], front)
+}
+
+// The same, for one that mostly has eight to 32 bytes, as what stands behind a tick.
+#[inline(never)]
+fn begins_with_long(text: &[u8], front: &[u8]) -> bool
+    ensures begins { result ≡ true → (after : List ℕ) × (text.now ≡ front.now ++ after) }
+    ensures finds { (after : List ℕ) → text.now ≡ front.now ++ after → result ≡ true }
+{
+    let count = front.len();
+    if count < 8 || count > 32 || text.len() < count {
+        return text.starts_with(front);
+    }
     let text = &text[..count];
-    text.first_chunk::<4>() == front.first_chunk::<4>()
-        && text.last_chunk::<4>() == front.last_chunk::<4>()
+    if count <= 16 {
+        return is_same::<8>(text, front);
+    }
+    let last = count - 16;
+    is_same::<8>(&text[..16], &front[..16]) && is_same::<8>(&text[last..], &front[last..])
 }
 
 /// How many bytes a line takes with its end, where a text begins with it. The line is given in two parts.
@@ -154,7 +183,10 @@ pub(crate) fn rest_met(text: &[u8], front: &[u8], rest: &[u8]) -> Option<usize>
     ensures finds { BeginsWith (front.now ++ rest.now) text.now → IsSome result }
 {
     let middle = &text[front.len()..];
-    let end = middle.strip_prefix(rest)?;
+    if !begins_with_long(middle, rest) {
+        return None;
+    }
+    let end = &middle[rest.len()..];
     let length = front.len() + rest.len();
     if end.starts_with(b"\n") {
         return Some(length + 1);
