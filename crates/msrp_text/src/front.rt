@@ -160,7 +160,8 @@ fn begins_with_long(text: &[u8], front: &[u8]) -> bool
         return is_same::<8>(text, front);
     }
     let last = count - 16;
-    is_same::<8>(&text[..16], &front[..16]) && is_same::<8>(&text[last..], &front[last..])
+    // The last sixteen come first: if both ways began with the same chunk, the compiler would compare it once for both, byte by byte.
+    is_same::<8>(&text[last..], &front[last..]) && is_same::<8>(&text[..16], &front[..16])
 }
 
 /// How many bytes a line takes with its end, where a text begins with it. The line is given in two parts.

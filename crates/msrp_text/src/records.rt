@@ -111,7 +111,7 @@ impl<R: Read> RecordReader<R> {
 
     /// Whether the text goes on with these two texts and the end of a line (LF, CR or CRLF). Where it does, that line is taken; else
     /// nothing is. Where no whole line was read ahead, more is read; a line of [`LONGEST`] bytes or more may not be met there.
-    #[inline]
+    #[inline(always)]
     pub fn meets(&mut self, front: &[u8], rest: &[u8]) -> bool
         ensures taken { result ≡ true → is_plain (front.now ++ rest.now) ≡ true → GivesLine (records_left R.remaining self.old) (split_commas (front.now ++ rest.now)) (records_left R.remaining self.new) }
         ensures kept { result ≡ false → KeepsRecords (records_left R.remaining self.old) (records_left R.remaining self.new) }

@@ -17,8 +17,8 @@ returns-then-count-le16-clause-begins c = λ yes. front-met c.args.text.now c.ar
 pub returns-then-count-le16-clause-finds : goal.returns-then-count-le16-clause-finds
 returns-then-count-le16-clause-finds c = λ after is. c.is_same.ensures.finds (front-same c.args.text.now c.args.front.now after is)
 
-pub is_same-requires-2-clause-length : goal.is_same-requires-2-clause-length
-is_same-requires-2-clause-length c =
+pub is_same-requires-then-is_same-clause-length : goal.is_same-requires-then-is_same-clause-length
+is_same-requires-then-is_same-clause-length c =
     let front = c.args.front.now in
     let text = take (length front) c.args.text.now in
     let size : length text ≡ length front = length-take-le (length front) c.args.text.now (omega arith) in
@@ -29,8 +29,8 @@ returns-then-is_same-clause-begins c = λ yes.
     let front = c.args.front.now in
     let text = take (length front) c.args.text.now in
     let size : length text ≡ length front = length-take-le (length front) c.args.text.now (omega arith) in
-    let last = sym (take_rest text (length front - 16)) ∙ c.is_same-then-is_same.ensures.same yes ∙ take_rest front (length front - 16) in
-    front-met c.args.text.now front (ends-same 16 text front size (omega (arith, size)) (c.is_same-2.ensures.same c.if-is_same.true) (ap (λ n. drop (n - 16) text) size ∙ last))
+    let last = sym (take_rest text (length front - 16)) ∙ c.is_same-2.ensures.same c.if-is_same.true ∙ take_rest front (length front - 16) in
+    front-met c.args.text.now front (ends-same 16 text front size (omega (arith, size)) (c.is_same-then-is_same.ensures.same yes) (ap (λ n. drop (n - 16) text) size ∙ last))
 
-pub returns-else-is_same-clause-finds : goal.returns-else-is_same-clause-finds
-returns-else-is_same-clause-finds c = λ after is. c.is_same-2.ensures.finds (ap (take 16) (front-same c.args.text.now c.args.front.now after is))
+pub returns-then-is_same-clause-finds : goal.returns-then-is_same-clause-finds
+returns-then-is_same-clause-finds c = λ after is. c.is_same-then-is_same.ensures.finds (ap (take 16) (front-same c.args.text.now c.args.front.now after is))
