@@ -1,6 +1,6 @@
 //! The auditor, row by row.
 ghost use Rattle.std.specs.Prelude.{◌≡◌, ◌≤◌, ◌<◌, ◌+◌, ◌*◌, ◌/◌, ◌++◌, ◌∷◌, [], ℕ, List, IfOk, IfNone, IfSome, Some, None, Err, length, true};
-ghost use Rattle.std.specs.Option.{IsSomeAnd, is_some};
+ghost use Rattle.std.specs.Option.{IsSomeAnd};
 ghost use Rattle.msrp_core.specs.CoreStates.{IsCoreState};
 ghost use Rattle.msrp_plan.specs.Limits.{most_rows};
 ghost use Rattle.msrp_plan.specs.Logs.{log_of};
@@ -147,15 +147,6 @@ impl<'a> Auditor<'a> {
         self.cores.tick(core) == self.at.tick
     }
 
-    /// Whether [`Auditor::repeat`] gives the core its turn.
-    #[inline(always)]
-    pub fn repeats(&self, core: CoreId) -> bool
-        requires { IsCoreDue self.now core.0 }
-        ensures { result ≡ is_some (unless_granted self.now.cores.queues core.0 (known_row self.now.cores core.0)) }
-    {
-        self.cores.repeats(core)
-    }
-
     /// The core's turn, where it is known from its last one: its row is that one in the next tick. Elsewhere it is none, and nothing
     /// changes. What came is told by [`accept`](Auditor::accept) or [`judge`](Auditor::judge).
     #[inline(always)]
@@ -173,6 +164,20 @@ impl<'a> Auditor<'a> {
         self.cores.repeat(core)
     }
 
+    /// The core's turn, as by [`turn`](Auditor::turn), but it isn't looked first whether its row is known from the last one: that is for
+    /// [`repeat`](Auditor::repeat).
+    #[inline(always)]
+    pub fn turn_anew(&mut self, core: CoreId) -> Row
+        requires { IsCoreDue self.old core.0 }
+        ensures plan { self.new.plan ≡ self.old.plan }
+        ensures fed { self.new.fed ≡ self.old.fed }
+        ensures core { result.core.0 ≡ core.0 }
+        ensures leaves { Leaves self.old.cores self.new.cores result }
+        ensures awaits { (rows : List TraceRow) → HasFed self.old rows → Awaits self.new rows core.0 result }
+    {
+        self.cores.turn(core)
+    }
+
     /// The core's turn: the row that is due of it, with its ahead. What came is told by [`accept`](Auditor::accept) or
     /// [`judge`](Auditor::judge).
     #[inline(always)]
@@ -184,7 +189,10 @@ impl<'a> Auditor<'a> {
         ensures leaves { Leaves self.old.cores self.new.cores result }
         ensures awaits { (rows : List TraceRow) → HasFed self.old rows → Awaits self.new rows core.0 result }
     {
-        self.cores.turn(core)
+        match self.repeat(core) {
+            Some(due) => due,
+            None => self.turn_anew(core),
+        }
     }
 
     /// The row that came is the one that was due of the core that had its turn, with its ahead or without.

@@ -33,16 +33,6 @@ pub record Gives {T : Type 0} (remaining : T → Option (List ℕ)) (old new : J
   pub answers : Answers (rows_left remaining old) (row_told result) (rows_left remaining new)
   pub judged : IsJudged old.auditor.plan rows result new
 
--- no row came
-pub none-again : {T : Type 0} (remaining : T → Option (List ℕ)) (begun old new : JudgedRows T) (rows : List Row)
-    → HaveCome remaining begun old rows → new.auditor ≡ old.auditor → ((told : Told) → rows_left remaining old ≡ Some told → rows_left remaining new ≡ Some told) → HaveCome remaining begun new rows
-none-again remaining begun old new rows came same kept = record {
-  plan = ap (λ (a : AuditorModel). a.plan) same ∙ came.plan;
-  fed = subst (λ (a : AuditorModel). HasFed a rows) (sym same) came.fed;
-  fault = ap (λ (a : AuditorModel). a.fault) same ∙ came.fault;
-  read = λ told known. let is = came.read told known in record { rest = is.rest; whole = is.whole; unread = kept _ is.unread };
-}
-
 pub none-came : {T : Type 0} (remaining : T → Option (List ℕ)) (j : JudgedRows T) → HasFed j.auditor [] → HaveCome remaining j j []
 none-came remaining j fed = record { plan = refl; fed = fed; fault = fed.fault; read = λ told known. none-read told _ known }
 

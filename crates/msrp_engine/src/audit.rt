@@ -29,10 +29,7 @@ fn judge_rows<T: Read>(rows: &mut JudgedRows<'_, '_, T>) -> Result<Result<(), Fa
     ensures faults { IfErr result (λ fault. is_trace_fault fault ≡ true) }
 {
     loop {
-        if let Some(_row) = rows.next_again() {
-            continue;
-        }
-        match rows.next_anew()? {
+        match rows.next_row()? {
             Judgement::Legal(_row) => {}
             Judgement::Broken(_row, fault) => return Ok(Err(fault)),
             Judgement::End => return Ok(rows.auditor().end()),

@@ -33,11 +33,7 @@ fn gather_rows<T: Read>(
     ensures faults { IfErr result (λ fault. is_trace_fault fault ≡ true) }
 {
     for _row in 0..most {
-        if let Some(row) = rows.next_again() {
-            gathered.push(row)?;
-            continue;
-        }
-        match rows.next_anew()?.row() {
+        match rows.next_row()?.row() {
             Some(row) => gathered.push(row)?,
             None => return Ok(()),
         }

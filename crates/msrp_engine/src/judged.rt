@@ -195,49 +195,38 @@ impl<'p, 't, T: Read> JudgedRows<'p, 't, T> {
         Ok(Judgement::Broken(row, self.auditor.fault_out_of_turn()))
     }
 
-    /// The next row, where it is its core's last one again: its core's turn is known from that one, and the row is met by the text that is kept. It is legal
-    /// then, as long as none has broken a rule. Elsewhere it is none, and nothing is taken.
-    #[inline(always)]
-    pub fn next_again(&mut self) -> Option<Row>
-        ensures plan { self.new.auditor.plan ≡ self.old.auditor.plan }
-        ensures gives { IfSome result (λ row. (told : Told) → rows_left T.remaining self.old ≡ Some told → GivesNext told (Ok (Some row)) (rows_left T.remaining self.new)) }
-        ensures kept { result ≡ None → (told : Told) → rows_left T.remaining self.old ≡ Some told → rows_left T.remaining self.new ≡ Some told }
-        ensures same { result ≡ None → self.new.auditor ≡ self.old.auditor }
-        ensures judged { IfSome result (λ row. (rows : List TraceRow) → HasFed self.old.auditor rows → self.old.auditor.fault ≡ None → HasFed self.new.auditor (rows ++ row ∷ []) × (self.new.auditor.fault ≡ None)) }
-    {
-        let tick = self.auditor.tick();
-        let Some(core) = self.rows.core_in(tick) else {
-            return None;
-        };
-        if !self.auditor.is_due(core) || !self.auditor.repeats(core) {
-            return None;
-        }
-        if !self.whole[core.0 as usize] || !self.rows.comes(tick, &self.texts, core) {
-            return None;
-        }
-        let Some(due) = self.auditor.repeat(core) else {
-            return None;
-        };
-        self.auditor.accept();
-        Some(self.rows.as_read(due).in_tick(tick))
-    }
-
-    /// The next row, as by [`JudgedRows::next_row`], but it isn't looked first whether its core's last one comes again: that is for
-    /// [`JudgedRows::next_again`].
-    #[inline(always)]
-    pub fn next_anew(&mut self) -> Result<Judgement, TraceError>
+    // The next row, where its core isn't known to make its last one again: the core has its turn, and the row is met by the text that is made for it.
+    // It stands apart, so that the way of the rows that are known stays short.
+    #[inline(never)]
+    fn next_anew(&mut self, tick: u32, core: CoreId) -> Result<Judgement, TraceError>
+        requires accepted { IsPlan self.old.auditor.plan }
+        requires due { IsCoreDue self.old.auditor core.0 }
+        requires short { is_short tick ≡ true }
+        requires here { IsAtTick tick self.old.rows }
         ensures plan { self.new.auditor.plan ≡ self.old.auditor.plan }
         ensures gives { (told : Told) → rows_left T.remaining self.old ≡ Some told → GivesNext told (row_told result) (rows_left T.remaining self.new) }
-        ensures judged { (rows : List TraceRow) → HasFed self.old.auditor rows → self.old.auditor.fault ≡ None → IsJudged self.old.auditor.plan rows result self.new }
-        ensures read { (told : Told) (rows : List TraceRow) → rows_left T.remaining self.old ≡ Some told → HasFed self.old.auditor rows → self.old.auditor.fault ≡ None → result ≡ Err TraceError.Read → source_failed (source_of self.new.rows) ≡ true }
+        ensures judged { (rows : List TraceRow) → HasFed self.old.auditor rows → tick ≡ length rows / self.old.auditor.plan.cores → IsJudged self.old.auditor.plan rows result self.new }
+        ensures read { (told : Told) (rows : List TraceRow) → rows_left T.remaining self.old ≡ Some told → BeginsAt tick core told → HasFed self.old.auditor rows → tick ≡ length rows / self.old.auditor.plan.cores → result ≡ Err TraceError.Read → source_failed (source_of self.new.rows) ≡ true }
     {
-        let tick = self.auditor.tick();
-        match self.rows.core_ahead(tick) {
-            Some(core) if self.auditor.is_due(core) => {
-                let due = self.turn(core);
-                self.next_due(tick, core, due)
-            }
-            _ => self.read(),
+        let due = self.turn_anew(core);
+        self.next_due(tick, core, due)
+    }
+
+    // The next row, whose text is known to begin with that tick and core, which has its turn now.
+    #[inline(always)]
+    fn next_of(&mut self, tick: u32, core: CoreId) -> Result<Judgement, TraceError>
+        requires accepted { IsPlan self.old.auditor.plan }
+        requires due { IsCoreDue self.old.auditor core.0 }
+        requires short { is_short tick ≡ true }
+        requires here { IsAtTick tick self.old.rows }
+        ensures plan { self.new.auditor.plan ≡ self.old.auditor.plan }
+        ensures gives { (told : Told) → rows_left T.remaining self.old ≡ Some told → GivesNext told (row_told result) (rows_left T.remaining self.new) }
+        ensures judged { (rows : List TraceRow) → HasFed self.old.auditor rows → tick ≡ length rows / self.old.auditor.plan.cores → IsJudged self.old.auditor.plan rows result self.new }
+        ensures read { (told : Told) (rows : List TraceRow) → rows_left T.remaining self.old ≡ Some told → BeginsAt tick core told → HasFed self.old.auditor rows → tick ≡ length rows / self.old.auditor.plan.cores → result ≡ Err TraceError.Read → source_failed (source_of self.new.rows) ≡ true }
+    {
+        match self.auditor.repeat(core) {
+            Some(due) => self.next_due(tick, core, due),
+            None => self.next_anew(tick, core),
         }
     }
 
@@ -249,9 +238,10 @@ impl<'p, 't, T: Read> JudgedRows<'p, 't, T> {
         ensures judged { (rows : List TraceRow) → HasFed self.old.auditor rows → self.old.auditor.fault ≡ None → IsJudged self.old.auditor.plan rows result self.new }
         ensures read { (told : Told) (rows : List TraceRow) → rows_left T.remaining self.old ≡ Some told → HasFed self.old.auditor rows → self.old.auditor.fault ≡ None → result ≡ Err TraceError.Read → source_failed (source_of self.new.rows) ≡ true }
     {
-        match self.next_again() {
-            Some(row) => Ok(Judgement::Legal(row)),
-            None => self.next_anew(),
+        let tick = self.auditor.tick();
+        match self.rows.core_ahead(tick) {
+            Some(core) if self.auditor.is_due(core) => self.next_of(tick, core),
+            _ => self.read(),
         }
     }
 }

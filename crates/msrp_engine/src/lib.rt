@@ -16,7 +16,6 @@ mod report;
 mod run;
 mod sim;
 mod texts;
-mod whole;
 
 pub use audit::{audit_text, judge_texts};
 pub use audit_parallel::audit_parallel_text;

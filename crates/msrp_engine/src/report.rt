@@ -16,9 +16,8 @@ use crate::audit::write_verdict;
 use crate::judged::{JudgedRows, Judgement};
 use crate::made::Made;
 use crate::reading::settled;
-use crate::whole::write_whole;
 use msrp_audit::Auditor;
-use msrp_faults::CliFault;
+use msrp_faults::{CliFault, gathered_text, write_answer};
 use msrp_levels::Levels;
 use msrp_plan::bytes::{Sink, Source};
 use msrp_plan::{Fault, Plan};
@@ -55,11 +54,7 @@ fn report_rows<T: Read>(
     ensures faults { IfErr result (λ fault. is_trace_fault fault ≡ true) }
 {
     loop {
-        if let Some(row) = rows.next_again() {
-            counter.count(row);
-            continue;
-        }
-        match rows.next_anew()? {
+        match rows.next_row()? {
             Judgement::Legal(row) => counter.count(row),
             Judgement::Broken(_row, fault) => return Ok(Err(fault)),
             Judgement::End => return Ok(ended(counter, rows.auditor().end())),
@@ -95,11 +90,9 @@ fn made_of(alloc: Global, plan: &Plan, report: &Report) -> Result<Made, CliFault
     ensures memory { IfErr result (λ fault. fault ≡ CliFault.Memory) }
 {
     let mut text = Sink::new(Vec::new(alloc));
-    if write_report(&mut text, plan, report).is_err() {
-        return Err(CliFault::Memory);
-    }
+    let _written = write_report(&mut text, plan, report);
     Ok(Made {
-        text: text.into_inner(),
+        text: gathered_text(text)?,
         found: Ok(()),
     })
 }
@@ -148,7 +141,7 @@ fn write_shown<W: Write>(
 {
     match found {
         Err(fault) => write_verdict(out, Err(fault)),
-        Ok(()) => write_whole(out, text),
+        Ok(()) => write_answer(out, text, Ok(0)),
     }
 }
 

@@ -11,8 +11,7 @@ ghost use Rattle.msrp_engine.specs.Simulation.{TextAnswers, WritesSomeText};
 
 use crate::check::levels_text;
 use crate::own_text::own_text;
-use crate::whole::write_whole;
-use msrp_faults::CliFault;
+use msrp_faults::{CliFault, write_answer};
 use msrp_plan::Plan;
 use msrp_plan::bytes::{Sink, Source};
 use msrp_text::read_plan;
@@ -50,7 +49,7 @@ fn write_gathered<W: Write>(
     ensures { ((result ≡ Err CliFault.Memory) × (out.new ≡ out.old)) ⊎ (IsPlan plan.now × Wrote W.contents out.old out.new (text_of which plan.now) × (result ≡ written_status out.new)) }
 {
     let text = gathered(alloc, plan, which)?;
-    write_whole(out, text.as_slice())
+    write_answer(out, text.as_slice(), Ok(0))
 }
 
 /// Reads a plan, and writes the text of it that is asked for. The whole plan is read before anything is written, and all memory is taken before:

@@ -1,6 +1,6 @@
 //! All cores of a plan, and the queues of its global resources.
 ghost use Rattle.std.specs.Prelude.{◌≡◌, ◌<◌, ◌++◌, ◌∷◌, [], true, ℕ, List, IfOk, IfNone, IfSome, None, Some, length, slice_get};
-ghost use Rattle.std.specs.Option.{ForSome, IsSomeAnd, is_some, option_map};
+ghost use Rattle.std.specs.Option.{ForSome, IsSomeAnd, option_map};
 ghost use Rattle.msrp_plan.specs.Aheads.{HasReply};
 ghost use Rattle.msrp_plan.specs.Limits.{most_cores, most_resources, most_rows};
 ghost use Rattle.msrp_plan.specs.Logs.{log_of};
@@ -16,7 +16,7 @@ ghost use Rattle.msrp_sim.specs.Serving.{AreDrawn, Notes, waiting};
 ghost use Rattle.msrp_sim.specs.TurnPorts.{unless_granted};
 
 use crate::tickets::Queues;
-use crate::turn_port::{repeat_by, repeats_by, turn_by};
+use crate::turn_port::{repeat_by, turn_by};
 use msrp_core::{CoreState, Machine, PortCall, Reply};
 use msrp_levels::Levels;
 use msrp_plan::{Call, CoreId, Kind, Memory, Plan, ResId, Row};
@@ -154,15 +154,6 @@ impl<'a> Cores<'a> {
         Some(answered(&self.queues, row))
     }
 
-    /// Whether [`Cores::repeat`] makes the core's next turn.
-    #[inline(always)]
-    pub fn repeats(&self, core: CoreId) -> bool
-        requires { core.0 < self.now.plan.cores }
-        ensures { result ≡ is_some (unless_granted self.now.queues core.0 (known_row self.now core.0)) }
-    {
-        repeats_by(&self.queues, &self.machines[core.0 as usize])
-    }
-
     /// The core's next turn, where it is known from its last one: its row is that one in the next tick. That takes no choice,
     /// and a queue is asked only where the core polled in vain: it does so again, unless its poll is granted. Elsewhere it is none,
     /// and nothing changes.
@@ -182,9 +173,11 @@ impl<'a> Cores<'a> {
         repeat_by(&self.queues, machine)
     }
 
-    // A turn that is chosen anew.
+    /// The core's next turn, chosen anew. Whatever rows the cores stand for, the row is the next one of that core after them, and
+    /// the cores then stand for them and this row, with its ahead or without. Where the row is known from the last one,
+    /// [`Cores::repeat`] makes it by a shorter way.
     #[inline(always)]
-    fn turn_anew(&mut self, core: CoreId) -> Row
+    pub fn turn(&mut self, core: CoreId) -> Row
         requires core { core.0 < self.old.plan.cores }
         requires tick { (x : MachineModel) → slice_get self.old.machines core.0 ≡ Some x → x.tick < self.old.plan.ticks }
         ensures plan { self.new.plan ≡ self.old.plan }
@@ -198,23 +191,5 @@ impl<'a> Cores<'a> {
         let turned = turn_by(&self.queues, resources, machine);
         note_turn(&mut self.queues, turned.call);
         turned.row
-    }
-
-    /// The core's next turn. Whatever rows the cores stand for, the row is the next one of that core after them, and
-    /// the cores then stand for them and this row, with its ahead or without.
-    #[inline(always)]
-    pub fn turn(&mut self, core: CoreId) -> Row
-        requires core { core.0 < self.old.plan.cores }
-        requires tick { (x : MachineModel) → slice_get self.old.machines core.0 ≡ Some x → x.tick < self.old.plan.ticks }
-        ensures plan { self.new.plan ≡ self.old.plan }
-        ensures core { result.core.0 ≡ core.0 }
-        ensures leaves { Leaves self.old self.new result }
-        ensures next { (rows : List TraceRow) → StandFor self.old rows → IsDueAfter self.old.plan rows core.0 → IsNextRow self.old.plan rows core.0 result }
-        ensures stand { (rows : List TraceRow) (row : TraceRow) → StandFor self.old rows → IsDueAfter self.old.plan rows core.0 → IsAs result row → IsLegal self.old.plan rows row → StandFor self.new (rows ++ row ∷ []) }
-    {
-        match self.repeat(core) {
-            Some(row) => row,
-            None => self.turn_anew(core),
-        }
     }
 }

@@ -1,4 +1,4 @@
-use Rattle.std.proofs.Common.{rules, ◌≡◌, ◌++◌, ◌∷◌, ◌+◌, [], List, Some, Ok, Err, refl, length, length-append, arith, ap, subst, sym, ◌∙◌}
+use Rattle.std.proofs.Common.{rules, ◌≡◌, ◌++◌, ◌∷◌, ◌+◌, [], List, Ok, Err, length, length-append, arith, ap, subst, sym, ◌∙◌}
 use Rattle.msrp_plan.specs.declared.rows.Row.{Row}
 use Rattle.msrp_engine.specs.Judging.{row_told, rows_left}
 use Rattle.msrp_engine.specs.Inside.Gathered.{IsGathered}
@@ -14,58 +14,37 @@ loop-row-init g c = record {
   read = λ told known. subst (λ (rows : List Row). IsReadTo told rows (rows_left g.T.Read.remaining c.args.rows.now)) (sym c.requires) (none-read told _ known);
 }
 
--- ---- a row that its core makes again
-pub loop-row-preserved-in-Some : goal.loop-row-preserved-in-Some
-loop-row-preserved-in-Some g c =
-    let i = c.loop-row.invariant in
-    let rows = c.loop-row.gathered.items in
-    let pushed : c.push.new.self.items ≡ rows ++ c.in-Some.row ∷ [] = search rules in
-    record {
-      count = ap length pushed ∙ (length-append rows (c.in-Some.row ∷ []) ∙ ap (λ n. n + 1) i.count);
-      read = λ told known. subst (λ (l : List Row). IsReadTo told l (rows_left g.T.Read.remaining c.next_again.new.self)) (sym pushed)
-          (read-row told rows _ _ (Ok (Some c.in-Some.row)) c.in-Some.row (i.read told known) c.in-Some.ensures.gives refl);
-    }
-
--- ---- any other
 pub loop-row-preserved : goal.loop-row-preserved
 loop-row-preserved g c =
     let i = c.loop-row.invariant in
     let rows = c.loop-row.gathered.items in
-    let row = c.in-Some-row.row in
-    let pushed : c.push-in-Some-row.new.self.items ≡ rows ++ row ∷ [] = search rules in
+    let row = c.in-Some.row in
+    let pushed : c.push.new.self.items ≡ rows ++ row ∷ [] = search rules in
     record {
       count = ap length pushed ∙ (length-append rows (row ∷ []) ∙ ap (λ n. n + 1) i.count);
-      read = λ told known. subst (λ (l : List Row). IsReadTo told l (rows_left g.T.Read.remaining c.next_anew.new.self)) (sym pushed)
-          (read-row told rows _ _ (row_told c.next_anew.result) row (i.read told known) (λ t h. c.next_anew.ensures.gives t (c.next_again.ensures.kept c.in_default.is t h)) (ap row_told c.in_ok-next_anew.was ∙ (c.row.ensures ∙ ap (λ x. Ok x) c.in-Some-row.is)));
+      read = λ told known. subst (λ (l : List Row). IsReadTo told l (rows_left g.T.Read.remaining c.next_row.new.self)) (sym pushed)
+          (read-row told rows _ _ (row_told c.next_row.result) row (i.read told known) c.next_row.ensures.gives (ap row_told c.in_ok-next_row.was ∙ (c.row.ensures ∙ ap (λ x. Ok x) c.in-Some.is)));
     }
 
-pub returns-in_err-next_anew-clause-gathered : goal.returns-in_err-next_anew-clause-gathered
-returns-in_err-next_anew-clause-gathered g c = λ told known.
+pub returns-in_err-next_row-clause-gathered : goal.returns-in_err-next_row-clause-gathered
+returns-in_err-next_row-clause-gathered g c = λ told known.
     let rows = c.loop-row.gathered.items in
-    let gives : c.from_residual-in_err-next_anew.result ≡ Err (trace_fault_of c.in_err-next_anew.field-0.0) = search rules in
+    let gives : c.from_residual.result ≡ Err (trace_fault_of c.in_err-next_row.field-0.0) = search rules in
     subst (IsGathered c.args.most told rows) (sym gives)
-    (gathered-refused c.args.most told rows _ _ (row_told c.next_anew.result) c.in_err-next_anew.field-0.0 (c.loop-row.invariant.read told known) (λ t h. c.next_anew.ensures.gives t (c.next_again.ensures.kept c.in_default.is t h)) (ap row_told c.in_err-next_anew.was))
+    (gathered-refused c.args.most told rows _ _ (row_told c.next_row.result) c.in_err-next_row.field-0.0 (c.loop-row.invariant.read told known) c.next_row.ensures.gives (ap row_told c.in_err-next_row.was))
 
 pub returns-in-None-clause-gathered : goal.returns-in-None-clause-gathered
 returns-in-None-clause-gathered g c = λ told known.
-    gathered-all c.args.most told c.loop-row.gathered.items _ _ (row_told c.next_anew.result) (c.loop-row.invariant.read told known) (λ t h. c.next_anew.ensures.gives t (c.next_again.ensures.kept c.in_default.is t h)) (ap row_told c.in_ok-next_anew.was ∙ (c.row.ensures ∙ ap (λ x. Ok x) c.in-None.is))
+    gathered-all c.args.most told c.loop-row.gathered.items _ _ (row_told c.next_row.result) (c.loop-row.invariant.read told known) c.next_row.ensures.gives (ap row_told c.in_ok-next_row.was ∙ (c.row.ensures ∙ ap (λ x. Ok x) c.in-None.is))
 
 pub returns-clause-gathered : goal.returns-clause-gathered
 returns-clause-gathered g c = λ told known.
     gathered-full c.args.most told c.loop-row.gathered.items _ (c.loop-row.invariant.read told known) (omega (arith, c.loop-row.invariant.count))
 
-pub returns-in_err-push-clause-gathered : goal.returns-in_err-push-clause-gathered
-returns-in_err-push-clause-gathered g c = λ told known.
+pub returns-in_err-push-in-Some-clause-gathered : goal.returns-in_err-push-in-Some-clause-gathered
+returns-in_err-push-in-Some-clause-gathered g c = λ told known.
     let rows = c.loop-row.gathered.items in
-    let gives : c.from_residual.result ≡ Err Memory = search rules in
+    let gives : c.from_residual-in_err-push-in-Some.result ≡ Err Memory = search rules in
     let kept : c.push.new.self.items ≡ rows = search rules in
-    subst (λ (l : List Row). IsGathered c.args.most told l c.from_residual.result) (sym kept)
-    (subst (IsGathered c.args.most told rows) (sym gives) (gathered-unkept c.args.most told rows _ (c.loop-row.invariant.read told known)))
-
-pub returns-in_err-push-in-Some-row-clause-gathered : goal.returns-in_err-push-in-Some-row-clause-gathered
-returns-in_err-push-in-Some-row-clause-gathered g c = λ told known.
-    let rows = c.loop-row.gathered.items in
-    let gives : c.from_residual-in_err-push-in-Some-row.result ≡ Err Memory = search rules in
-    let kept : c.push-in-Some-row.new.self.items ≡ rows = search rules in
-    subst (λ (l : List Row). IsGathered c.args.most told l c.from_residual-in_err-push-in-Some-row.result) (sym kept)
+    subst (λ (l : List Row). IsGathered c.args.most told l c.from_residual-in_err-push-in-Some.result) (sym kept)
     (subst (IsGathered c.args.most told rows) (sym gives) (gathered-unkept c.args.most told rows _ (c.loop-row.invariant.read told known)))

@@ -1,8 +1,15 @@
-use Rattle.std.proofs.Common.{ap, sym, ◌∙◌, subst}
-use Rattle.msrp_audit.specs.Audits.{AuditorModel, HasFed}
+use Rattle.std.proofs.Common.{◌≡◌, IfSome, Some, sym, subst}
+use Rattle.msrp_trace.specs.Readers.{BeginsAt}
+use Rattle.msrp_engine.specs.Inside.Kept.{KeepsKnown}
 use Rattle.msrp_engine.proofs.judged.JudgedRows.next_row.Goals as goal
 
-pub returns-in-None-clause-read : goal.returns-in-None-clause-read
-returns-in-None-clause-read g c = λ told rows known fed none e.
-    let same = c.next_again.ensures.same c.in-None.is in
-    c.next_anew.ensures.read told rows (c.next_again.ensures.kept c.in-None.is told known) (subst (λ (a : AuditorModel). HasFed a rows) (sym same) fed) (ap (λ (a : AuditorModel). a.fault) same ∙ none) e
+pub invariant_of-self-clause-known : goal.invariant_of-self-clause-known
+invariant_of-self-clause-known g c = let j = c.args.self.now in subst (λ v. KeepsKnown v j.auditor.plan j.auditor.cores j.texts j.whole) (sym c.core_ahead.ensures.trace.0) j.known
+
+pub returns-in-Some-clause-read : goal.returns-in-Some-clause-read
+returns-in-Some-clause-read g c = λ told rows known fed none e.
+    let begins = subst (λ o. IfSome o (λ core. BeginsAt c.tick-tick.result core told)) c.in-Some.is (c.core_ahead.ensures.next told known) in
+    c.next_of.ensures.read told rows (c.core_ahead.ensures.kept told known) begins fed (c.tick-tick.ensures.tick rows fed none) e
+
+pub returns-in_default-clause-read : goal.returns-in_default-clause-read
+returns-in_default-clause-read g c = λ told rows known fed none e. c.read.ensures.read told rows (c.core_ahead.ensures.kept told known) fed none e

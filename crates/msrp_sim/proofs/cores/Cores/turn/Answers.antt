@@ -1,13 +1,93 @@
-use Rattle.std.proofs.Common.{◌++◌, ◌∷◌, [], List, subst}
+use Rattle.std.proofs.Common.{◌<◌, ◌++◌, ◌∷◌, [], List, length, refl, ap, sym, ◌∙◌, subst}
+use Rattle.std.specs.Vec.{with_item}
+use Rattle.msrp_plan.specs.Plan.{PlanModel}
 use Rattle.msrp_plan.specs.Runs.{IsLegal}
 use Rattle.msrp_plan.specs.declared.rows.Row.{Row as TraceRow}
-use Rattle.msrp_sim.specs.Cores.{CoresModel, IsAs, IsDueAfter, IsNextRow, StandFor}
+use Rattle.msrp_sim.specs.Cores.{CoresModel, StandFor, IsDueAfter, IsNextRow, IsAs, Leaves, TakesTurn}
+use Rattle.msrp_sim.specs.CoresView.{cores_view}
+use Rattle.msrp_sim.proofs.Foreseeing.{has_machine, left}
+use Rattle.msrp_sim.proofs.Repeating.{at_core, leaves}
+use Rattle.msrp_sim.proofs.Turns.{next_legal}
+use Rattle.msrp_sim.proofs.Standing.{stand_push}
+use Rattle.msrp_sim.proofs.Keeping.{call_core, call_resource, cores_kept, few_drawn}
 use Rattle.msrp_sim.proofs.cores.Cores.turn.Goals as goal
 
-pub returns-in-None-clause-next : goal.returns-in-None-clause-next
-returns-in-None-clause-next c =
-    subst (λ (o : CoresModel). (rows : List TraceRow) → StandFor o rows → IsDueAfter o.plan rows c.args.core.0 → IsNextRow o.plan rows c.args.core.0 c.turn_anew.result) c.in-None.ensures.none c.turn_anew.ensures.next
+pub turn_by-turned-requires-clause-tick : goal.turn_by-turned-requires-clause-tick
+turn_by-turned-requires-clause-tick c =
+    let m = cores_view c.self.inside in
+    let x = c.index_mut-machine.result.now in
+    let has = has_machine m c.args.core.0 x c.args.self.now c.self.invariant c.self.view_is c.requires.core c.index_mut-machine.ensures.value in
+    let own = c.self.invariant.each c.args.core.0 x has in
+    subst (λ (p : PlanModel). x.tick < p.ticks) (sym own.same_plan) (left m c.args.core.0 x c.args.self.now c.self.invariant c.self.view_is c.requires.core c.index_mut-machine.ensures.value c.requires.tick)
 
-pub returns-in-None-clause-stand : goal.returns-in-None-clause-stand
-returns-in-None-clause-stand c =
-    subst (λ (o : CoresModel). (rows : List TraceRow) (row : TraceRow) → StandFor o rows → IsDueAfter o.plan rows c.args.core.0 → IsAs c.turn_anew.result row → IsLegal o.plan rows row → StandFor c.turn_anew.new.self (rows ++ row ∷ [])) c.in-None.ensures.none c.turn_anew.ensures.stand
+pub turn_by-turned-requires-clause-resources : goal.turn_by-turned-requires-clause-resources
+turn_by-turned-requires-clause-resources c =
+    let m = cores_view c.self.inside in
+    let x = c.index_mut-machine.result.now in
+    let has = has_machine m c.args.core.0 x c.args.self.now c.self.invariant c.self.view_is c.requires.core c.index_mut-machine.ensures.value in
+    let own = c.self.invariant.each c.args.core.0 x has in
+    c.resources-resources.ensures.value ∙ ap (λ (p : PlanModel). length p.resources) (sym own.same_plan)
+
+pub note_turn-requires-clause-core : goal.note_turn-requires-clause-core
+note_turn-requires-clause-core c =
+    let m = cores_view c.self.inside in
+    let x = c.index_mut-machine.result.now in
+    let has = has_machine m c.args.core.0 x c.args.self.now c.self.invariant c.self.view_is c.requires.core c.index_mut-machine.ensures.value in
+    call_core m c.args.core.0 x c.turn_by-turned.new.machine c.turn_by-turned.result.row c.turn_by-turned.result.call c.self.invariant has c.turn_by-turned.ensures
+
+pub note_turn-requires-clause-resource : goal.note_turn-requires-clause-resource
+note_turn-requires-clause-resource c =
+    let m = cores_view c.self.inside in
+    let x = c.index_mut-machine.result.now in
+    let has = has_machine m c.args.core.0 x c.args.self.now c.self.invariant c.self.view_is c.requires.core c.index_mut-machine.ensures.value in
+    call_resource m c.args.core.0 x c.turn_by-turned.new.machine c.turn_by-turned.result.row c.turn_by-turned.result.call c.self.invariant has c.turn_by-turned.ensures
+
+pub note_turn-requires-clause-drawn : goal.note_turn-requires-clause-drawn
+note_turn-requires-clause-drawn c = few_drawn (cores_view c.self.inside) c.self.invariant
+
+pub invariant_of-self : goal.invariant_of-self
+invariant_of-self c =
+    let m = cores_view c.self.inside in
+    let x = c.index_mut-machine.result.now in
+    let has = has_machine m c.args.core.0 x c.args.self.now c.self.invariant c.self.view_is c.requires.core c.index_mut-machine.ensures.value in
+    let n = cores_view (record { plan = c.self.inside.plan; machines = with_item c.self.inside.machines c.args.core.0 c.turn_by-turned.new.machine; queues = c.note_turn.new.queues }) in
+    let t : TakesTurn m n c.args.core.0 c.turn_by-turned.result.row = record { plan = refl; before = x; after = c.turn_by-turned.new.machine; call = c.turn_by-turned.result.call; has = has; machines = refl; turned = c.turn_by-turned.ensures; same = c.note_turn.ensures.none; noted = c.note_turn.ensures.noted } in
+    cores_kept m n c.args.core.0 c.turn_by-turned.result.row c.self.invariant t (left m c.args.core.0 x c.args.self.now c.self.invariant c.self.view_is c.requires.core c.index_mut-machine.ensures.value c.requires.tick)
+
+pub returns-clause-next : goal.returns-clause-next
+returns-clause-next c =
+    let m = cores_view c.self.inside in
+    let x = c.index_mut-machine.result.now in
+    let has = has_machine m c.args.core.0 x c.args.self.now c.self.invariant c.self.view_is c.requires.core c.index_mut-machine.ensures.value in
+    let n = cores_view (record { plan = c.self.inside.plan; machines = with_item c.self.inside.machines c.args.core.0 c.turn_by-turned.new.machine; queues = c.note_turn.new.queues }) in
+    let t : TakesTurn m n c.args.core.0 c.turn_by-turned.result.row = record { plan = refl; before = x; after = c.turn_by-turned.new.machine; call = c.turn_by-turned.result.call; has = has; machines = refl; turned = c.turn_by-turned.ensures; same = c.note_turn.ensures.none; noted = c.note_turn.ensures.noted } in
+    let P : CoresModel → Type 0 = λ o. (rows : List TraceRow) → StandFor o rows → IsDueAfter o.plan rows c.args.core.0 → IsNextRow o.plan rows c.args.core.0 c.turn_by-turned.result.row in
+    subst P c.self.view_is (λ rows stands due. next_legal m n c.args.core.0 c.turn_by-turned.result.row rows c.self.invariant stands due t)
+
+pub returns-clause-stand : goal.returns-clause-stand
+returns-clause-stand c =
+    let m = cores_view c.self.inside in
+    let x = c.index_mut-machine.result.now in
+    let has = has_machine m c.args.core.0 x c.args.self.now c.self.invariant c.self.view_is c.requires.core c.index_mut-machine.ensures.value in
+    let n = cores_view (record { plan = c.self.inside.plan; machines = with_item c.self.inside.machines c.args.core.0 c.turn_by-turned.new.machine; queues = c.note_turn.new.queues }) in
+    let t : TakesTurn m n c.args.core.0 c.turn_by-turned.result.row = record { plan = refl; before = x; after = c.turn_by-turned.new.machine; call = c.turn_by-turned.result.call; has = has; machines = refl; turned = c.turn_by-turned.ensures; same = c.note_turn.ensures.none; noted = c.note_turn.ensures.noted } in
+    let P : CoresModel → Type 0 = λ o. (rows : List TraceRow) (row : TraceRow) → StandFor o rows → IsDueAfter o.plan rows c.args.core.0 → IsAs c.turn_by-turned.result.row row → IsLegal o.plan rows row → StandFor n (rows ++ row ∷ []) in
+    subst P c.self.view_is (λ rows row stands due like legal. stand_push m n c.args.core.0 c.turn_by-turned.result.row row rows c.self.invariant stands due t like legal)
+
+pub returns-clause-leaves : goal.returns-clause-leaves
+returns-clause-leaves c =
+    let m = cores_view c.self.inside in
+    let x = c.index_mut-machine.result.now in
+    let has = has_machine m c.args.core.0 x c.args.self.now c.self.invariant c.self.view_is c.requires.core c.index_mut-machine.ensures.value in
+    let n = cores_view (record { plan = c.self.inside.plan; machines = with_item c.self.inside.machines c.args.core.0 c.turn_by-turned.new.machine; queues = c.note_turn.new.queues }) in
+    let t : TakesTurn m n c.args.core.0 c.turn_by-turned.result.row = record { plan = refl; before = x; after = c.turn_by-turned.new.machine; call = c.turn_by-turned.result.call; has = has; machines = refl; turned = c.turn_by-turned.ensures; same = c.note_turn.ensures.none; noted = c.note_turn.ensures.noted } in
+    subst (λ (o : CoresModel). Leaves o n c.turn_by-turned.result.row) c.self.view_is (leaves m n c.args.core.0 c.turn_by-turned.result.row c.self.invariant t)
+
+pub returns-clause-core : goal.returns-clause-core
+returns-clause-core c =
+    let m = cores_view c.self.inside in
+    let x = c.index_mut-machine.result.now in
+    let has = has_machine m c.args.core.0 x c.args.self.now c.self.invariant c.self.view_is c.requires.core c.index_mut-machine.ensures.value in
+    let n = cores_view (record { plan = c.self.inside.plan; machines = with_item c.self.inside.machines c.args.core.0 c.turn_by-turned.new.machine; queues = c.note_turn.new.queues }) in
+    let t : TakesTurn m n c.args.core.0 c.turn_by-turned.result.row = record { plan = refl; before = x; after = c.turn_by-turned.new.machine; call = c.turn_by-turned.result.call; has = has; machines = refl; turned = c.turn_by-turned.ensures; same = c.note_turn.ensures.none; noted = c.note_turn.ensures.noted } in
+    at_core m n c.args.core.0 c.turn_by-turned.result.row c.self.invariant t

@@ -1,7 +1,7 @@
 use Rattle.std.proofs.Common.{sym, subst}
 use Rattle.msrp_audit.specs.Audits.{AuditorModel, HasFed, IsCoreDue, auditor_view}
 use Rattle.msrp_audit.proofs.Judging.{awaited}
-use Rattle.msrp_audit.proofs.auditor.Auditor.turn.Goals as goal
+use Rattle.msrp_audit.proofs.auditor.Auditor.turn_anew.Goals as goal
 
 pub returns-clause-awaits : goal.returns-clause-awaits
 returns-clause-awaits c = λ rows fed.
