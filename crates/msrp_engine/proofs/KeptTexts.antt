@@ -89,7 +89,7 @@ cores_if None old new e = ap (λ (a : AuditorModel). a.cores) e
 cores_if (Some due) old new e = tt
 
 -- the due row, as it is read in its tick, is as it is due
-read_as : (version : TextVersion) (t : ℕ) (due : Row) → IsAs due (in_tick t (as_read version due))
+pub read_as : (version : TextVersion) (t : ℕ) (due : Row) → IsAs due (in_tick t (as_read version due))
 read_as V1 t due = record { core = refl; kind = refl; job = refl; res = refl; ahead = tt }
 read_as V2 t due = record { core = refl; kind = refl; job = refl; res = refl; ahead = some_is due.ahead }
   where
@@ -97,8 +97,9 @@ read_as V2 t due = record { core = refl; kind = refl; job = refl; res = refl; ah
     some_is None = tt
     some_is (Some n) = refl
 
-pub as_due : (version : TextVersion) (t : ℕ) (due told r : Row) → told ≡ as_read version due → r ≡ in_tick t told → IsAs due r
-as_due version t due told r read is = subst (IsAs due) (sym (is ∙ ap (in_tick t) read)) (read_as version t due)
+-- the same row of the same version
+pub same_row : (a b : TextVersion) (d e : Row) (P : Row → Type 0) (t : ℕ) → a ≡ b → d ≡ e → P (in_tick t (as_read b e)) → P (in_tick t (as_read a d))
+same_row a b d e P t version row h = subst (λ v. P (in_tick t (as_read v d))) (sym version) (subst (λ r. P (in_tick t (as_read b r))) (sym row) h)
 
 -- ---- a turn whose text is made
 core_read : (version : TextVersion) (r : Row) → (as_read version r).core.0 ≡ r.core.0

@@ -3,7 +3,7 @@ use Rattle.std.proofs.Common.{◌≡◌, ◌++◌, ◌∷◌, [], ◌+◌, ◌-�
 use Rattle.std.specs.Prelude.{⊤}
 use Rattle.std.specs.declared.result.Result.{Result}
 use Rattle.std.specs.declared.result.Result.TheVariants.{Ok, Err}
-use Rattle.msrp_audit.specs.Audits.{AuditorModel, HasFed, answer_of}
+use Rattle.msrp_audit.specs.Audits.{HasFed, answer_of}
 use Rattle.msrp_plan.specs.Plan.{PlanModel}
 use Rattle.msrp_plan.specs.Verdict.{fault_in, verdict}
 use Rattle.msrp_plan.specs.declared.faults.Fault.{Fault}
@@ -12,7 +12,11 @@ use Rattle.msrp_trace.specs.Reading.{Told}
 use Rattle.msrp_trace.specs.declared.faults.TraceError.{TraceError}
 use Rattle.msrp_trace.proofs.ReadThrough.{Answers, IsReadTo, none-read, read-row, read-whole}
 use Rattle.msrp_engine.specs.Findings.{finding}
+use Rattle.msrp_trace.specs.Readers.{GivesNext}
+use Rattle.msrp_engine.specs.Inside.Ahead.{IsAhead, LooksAhead}
 use Rattle.msrp_engine.specs.Judging.{IsJudged, row_told, rows_left}
+use Rattle.msrp_engine.specs.declared.judged.Ahead.{Ahead}
+use Rattle.msrp_engine.specs.declared.judged.Ahead.TheVariants.{Met}
 use Rattle.msrp_engine.specs.declared.judged.Judgement.{Judgement}
 use Rattle.msrp_engine.specs.declared.judged.Judgement.TheVariants.{Legal, Broken, End}
 use Rattle.msrp_engine.specs.declared.judged.JudgedRows.{JudgedRows}
@@ -32,6 +36,27 @@ pub record Gives {T : Type 0} (remaining : T → Option (List ℕ)) (old new : J
   pub plan : new.auditor.plan ≡ old.auditor.plan
   pub answers : Answers (rows_left remaining old) (row_told result) (rows_left remaining new)
   pub judged : IsJudged old.auditor.plan rows result new
+
+-- a row that is met ahead is legal
+pub met-gives : {T : Type 0} (remaining : T → Option (List ℕ)) (old new : JudgedRows T) (rows : List Row) (ahead : Ahead) (row : Row)
+    → ahead ≡ Met row → new.auditor.plan ≡ old.auditor.plan → ((told : Told) → rows_left remaining old ≡ Some told → LooksAhead told ahead (rows_left remaining new)) → IsAhead rows ahead new.auditor
+    → Gives remaining old new rows (Ok (Legal row))
+met-gives remaining old new rows ahead row is plan looks judged = record {
+  plan = plan;
+  answers = λ told known. subst (λ a. LooksAhead told a (rows_left remaining new)) is (looks told known);
+  judged = subst (λ a. IsAhead rows a new.auditor) is judged;
+}
+
+-- and any other is told from there
+pub told-gives : {T : Type 0} (remaining : T → Option (List ℕ)) (old mid new : JudgedRows T) (rows : List Row) (ahead : Ahead) (result : Result Judgement TraceError)
+    → mid.auditor.plan ≡ old.auditor.plan → ((told : Told) → rows_left remaining old ≡ Some told → LooksAhead told ahead (rows_left remaining mid)) → IsAhead rows ahead mid.auditor
+    → new.auditor.plan ≡ mid.auditor.plan → ((told : Told) → LooksAhead told ahead (rows_left remaining mid) → GivesNext told (row_told result) (rows_left remaining new))
+    → ((rows : List Row) → IsAhead rows ahead mid.auditor → IsJudged mid.auditor.plan rows result new) → Gives remaining old new rows result
+told-gives remaining old mid new rows ahead result plan looks is next gives judged = record {
+  plan = next ∙ plan;
+  answers = λ told known. gives told (looks told known);
+  judged = subst (λ (p : PlanModel). IsJudged p rows result new) plan (judged rows is);
+}
 
 pub none-came : {T : Type 0} (remaining : T → Option (List ℕ)) (j : JudgedRows T) → HasFed j.auditor [] → HaveCome remaining j j []
 none-came remaining j fed = record { plan = refl; fed = fed; fault = fed.fault; read = λ told known. none-read told _ known }

@@ -8,7 +8,7 @@ ghost use Rattle.msrp_engine.specs.Findings.{finding, finding_of};
 ghost use Rattle.msrp_engine.specs.Judging.{rows_left};
 ghost use Rattle.msrp_faults.specs.Outcomes.{is_trace_fault, is_audit_fault};
 
-use crate::judged::{JudgedRows, Judgement};
+use crate::judged::{Ahead, JudgedRows, Judgement};
 use crate::reading::settled;
 use msrp_audit::Auditor;
 use msrp_faults::CliFault;
@@ -29,7 +29,11 @@ fn judge_rows<T: Read>(rows: &mut JudgedRows<'_, '_, T>) -> Result<Result<(), Fa
     ensures faults { IfErr result (λ fault. is_trace_fault fault ≡ true) }
 {
     loop {
-        match rows.next_row()? {
+        let ahead = rows.next_ahead();
+        if let Ahead::Met(_row) = ahead {
+            continue;
+        }
+        match rows.told(ahead)? {
             Judgement::Legal(_row) => {}
             Judgement::Broken(_row, fault) => return Ok(Err(fault)),
             Judgement::End => return Ok(rows.auditor().end()),

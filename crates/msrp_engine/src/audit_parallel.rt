@@ -9,7 +9,7 @@ ghost use Rattle.msrp_engine.specs.Inside.Gathered.{IsGathered, found_in, is_mis
 ghost use Rattle.msrp_faults.specs.Outcomes.{is_trace_fault, is_audit_fault};
 
 use crate::audit::write_verdict;
-use crate::judged::JudgedRows;
+use crate::judged::{Ahead, JudgedRows};
 use crate::reading::settled;
 use msrp_audit::{Auditor, audit_parallel};
 use msrp_faults::CliFault;
@@ -33,7 +33,12 @@ fn gather_rows<T: Read>(
     ensures faults { IfErr result (λ fault. is_trace_fault fault ≡ true) }
 {
     for _row in 0..most {
-        match rows.next_row()?.row() {
+        let ahead = rows.next_ahead();
+        if let Ahead::Met(row) = ahead {
+            gathered.push(row)?;
+            continue;
+        }
+        match rows.told(ahead)?.row() {
             Some(row) => gathered.push(row)?,
             None => return Ok(()),
         }

@@ -4,15 +4,16 @@ ghost use Rattle.msrp_audit.specs.Audits.{Awaits, HasFed, IsCoreDue};
 ghost use Rattle.msrp_plan.specs.Bytes.{source_failed};
 ghost use Rattle.msrp_plan.specs.WellFormed.{IsPlan};
 ghost use Rattle.msrp_plan.specs.declared.rows.Row.{Row as TraceRow};
-ghost use Rattle.msrp_trace.specs.Laws.{is_short};
+ghost use Rattle.msrp_plan.specs.Stretches.{in_tick};
+ghost use Rattle.msrp_trace.specs.Laws.{as_read, is_short};
 ghost use Rattle.msrp_trace.specs.Reading.{Told};
 ghost use Rattle.msrp_trace.specs.Readers.{BeginsAt, GivesNext, IsAtTick, source_of};
-ghost use Rattle.msrp_trace.specs.Texts.{text_of_core};
-ghost use Rattle.msrp_engine.specs.Inside.Kept.{IsKept, KeepsKnown};
+ghost use Rattle.msrp_engine.specs.Inside.Ahead.{BeginsDue, HasRoom, IsAhead, LooksAhead};
+ghost use Rattle.msrp_engine.specs.Inside.Kept.{KeepsKnown, KeepsRow};
 
 use msrp_audit::Auditor;
 use msrp_plan::limits::MOST_CORES;
-use msrp_plan::{CoreId, Fault, Plan, Row};
+use msrp_plan::{CoreId, Fault, Kind, Plan, Row};
 use msrp_trace::{RowTexts, TraceError, TraceReader};
 use std::io::Read;
 
@@ -41,6 +42,27 @@ impl Judgement {
     }
 }
 
+/// What is known of the next row before one is read field by field.
+#[derive(Clone, Copy, Debug)]
+pub(crate) enum Ahead {
+    /// It came as it was due, so it keeps each rule.
+    Met(Row),
+    /// Its core had its turn, and this row is due. Another text comes.
+    Due(Row),
+    /// Nothing.
+    Unknown,
+}
+
+// What stands in place of the row of a turn before the first one.
+const NO_ROW: Row = Row {
+    tick: 0,
+    core: CoreId(0),
+    kind: Kind::Idle,
+    job: None,
+    res: None,
+    ahead: None,
+};
+
 /// The rows of a trace's text, each judged as it comes.
 ///
 /// The text tells first which core the next row is of. That core has its turn, so its one legal row is known, and the text of that is compared
@@ -53,6 +75,8 @@ pub struct JudgedRows<'p, 't, T> {
     texts: RowTexts<'p>,
     // Of which cores the text that is kept is read as the row that it is the text of.
     whole: [bool; MOST_CORES as usize],
+    // The row of the last turn that was chosen anew.
+    due: Row,
     ghost plan: { rows.plan.now ≡ auditor.plan },
     ghost texts_plan: { texts.plan ≡ auditor.plan },
     ghost version: { texts.version ≡ rows.version },
@@ -79,6 +103,7 @@ impl<'p, 't, T: Read> JudgedRows<'p, 't, T> {
             rows,
             texts,
             whole: [false; MOST_CORES as usize],
+            due: NO_ROW,
         }
     }
 
@@ -98,7 +123,7 @@ impl<'p, 't, T: Read> JudgedRows<'p, 't, T> {
         ensures fed { self.new.auditor.fed ≡ self.old.auditor.fed }
         ensures awaits { (rows : List TraceRow) → HasFed self.old.auditor rows → Awaits self.new.auditor rows core.0 result }
         ensures rows { self.new.rows ≡ self.old.rows }
-        ensures kept { slice_index_or self.new.whole core.0 false ≡ true → IsKept self.new.rows.version self.new.auditor.plan (text_of_core self.new.texts core.0) result }
+        ensures kept { KeepsRow self.new.rows.version self.new.auditor.plan self.new.texts self.new.whole core.0 result }
     {
         let due = self.auditor.turn(core);
         let told = self.rows.as_read(due);
@@ -115,7 +140,7 @@ impl<'p, 't, T: Read> JudgedRows<'p, 't, T> {
         ensures fed { self.new.auditor.fed ≡ self.old.auditor.fed }
         ensures awaits { (rows : List TraceRow) → HasFed self.old.auditor rows → Awaits self.new.auditor rows core.0 result }
         ensures rows { self.new.rows ≡ self.old.rows }
-        ensures kept { slice_index_or self.new.whole core.0 false ≡ true → IsKept self.new.rows.version self.new.auditor.plan (text_of_core self.new.texts core.0) result }
+        ensures kept { KeepsRow self.new.rows.version self.new.auditor.plan self.new.texts self.new.whole core.0 result }
     {
         match self.auditor.repeat(core) {
             Some(due) => due,
@@ -153,27 +178,49 @@ impl<'p, 't, T: Read> JudgedRows<'p, 't, T> {
         }
     }
 
-    // The next row, where its core had its turn and this one is due. Its text is compared, where it is kept.
+    // Whether the next row, which is known to be of that tick and core, comes as the text that is kept of the core. It is accepted then, and else
+    // nothing is taken.
     #[inline(always)]
-    fn next_due(&mut self, tick: u32, core: CoreId, due: Row) -> Result<Judgement, TraceError>
+    fn meets(&mut self, tick: u32, core: CoreId) -> bool
         requires accepted { IsPlan self.old.auditor.plan }
         requires left { self.old.auditor.fed < self.old.auditor.plan.cores * self.old.auditor.plan.ticks }
         requires core { core.0 < self.old.auditor.plan.cores }
-        requires kept { slice_index_or self.old.whole core.0 false ≡ true → IsKept self.old.rows.version self.old.auditor.plan (text_of_core self.old.texts core.0) due }
         requires short { is_short tick ≡ true }
         requires here { IsAtTick tick self.old.rows }
         ensures plan { self.new.auditor.plan ≡ self.old.auditor.plan }
-        ensures gives { (told : Told) → rows_left T.remaining self.old ≡ Some told → GivesNext told (row_told result) (rows_left T.remaining self.new) }
-        ensures judged { (rows : List TraceRow) → Awaits self.old.auditor rows core.0 due → tick ≡ due.tick → IsJudged self.old.auditor.plan rows result self.new }
-        ensures read { (told : Told) (rows : List TraceRow) → rows_left T.remaining self.old ≡ Some told → BeginsAt tick core told → Awaits self.old.auditor rows core.0 due → tick ≡ due.tick → result ≡ Err TraceError.Read → source_failed (source_of self.new.rows) ≡ true }
+        ensures version { self.new.rows.version ≡ self.old.rows.version }
+        ensures due { self.new.due ≡ self.old.due }
+        ensures gives { result ≡ true → (due : TraceRow) (told : Told) → KeepsRow self.old.rows.version self.old.auditor.plan self.old.texts self.old.whole core.0 due → rows_left T.remaining self.old ≡ Some told → GivesNext told (Ok (Some (in_tick tick (as_read self.old.rows.version due)))) (rows_left T.remaining self.new) }
+        ensures fed { result ≡ true → (due : TraceRow) (rows : List TraceRow) → Awaits self.old.auditor rows core.0 due → tick ≡ due.tick → HasFed self.new.auditor (rows ++ in_tick tick (as_read self.old.rows.version due) ∷ []) × (self.new.auditor.fault ≡ None) }
+        ensures kept { result ≡ false → (told : Told) → rows_left T.remaining self.old ≡ Some told → rows_left T.remaining self.new ≡ Some told }
+        ensures same { result ≡ false → self.new.auditor ≡ self.old.auditor }
     {
         if self.whole[core.0 as usize] && self.rows.comes_behind(tick, &self.texts, core) {
             self.auditor.accept();
-            return Ok(Judgement::Legal(self.rows.as_read(due).in_tick(tick)));
+            return true;
         }
-        // The row is made anew for that, so that one that is met is never laid down in memory as a whole.
-        let handed = due.in_tick(due.tick);
-        self.read_due(handed)
+        false
+    }
+
+    // The turn of a core that isn't known to make its last row again, and whether its row comes so. The row is left in `due`. It stands apart, and
+    // answers no row, so that the way of the rows that are known stays short.
+    #[inline(never)]
+    fn meets_anew(&mut self, tick: u32, core: CoreId) -> bool
+        requires accepted { IsPlan self.old.auditor.plan }
+        requires due { IsCoreDue self.old.auditor core.0 }
+        requires short { is_short tick ≡ true }
+        requires here { IsAtTick tick self.old.rows }
+        ensures plan { self.new.auditor.plan ≡ self.old.auditor.plan }
+        ensures version { self.new.rows.version ≡ self.old.rows.version }
+        ensures gives { result ≡ true → (told : Told) → rows_left T.remaining self.old ≡ Some told → GivesNext told (Ok (Some (in_tick tick (as_read self.new.rows.version self.new.due)))) (rows_left T.remaining self.new) }
+        ensures fed { result ≡ true → (rows : List TraceRow) → HasFed self.old.auditor rows → tick ≡ length rows / self.old.auditor.plan.cores → HasFed self.new.auditor (rows ++ in_tick tick (as_read self.new.rows.version self.new.due) ∷ []) × (self.new.auditor.fault ≡ None) }
+        ensures kept { result ≡ false → (told : Told) → rows_left T.remaining self.old ≡ Some told → rows_left T.remaining self.new ≡ Some told }
+        ensures left { result ≡ false → self.new.auditor.fed ≡ self.old.auditor.fed }
+        ensures awaits { result ≡ false → (rows : List TraceRow) → HasFed self.old.auditor rows → Awaits self.new.auditor rows core.0 self.new.due }
+    {
+        let due = self.turn_anew(core);
+        self.due = due;
+        self.meets(tick, core)
     }
 
     // The next row, read field by field.
@@ -195,38 +242,67 @@ impl<'p, 't, T: Read> JudgedRows<'p, 't, T> {
         Ok(Judgement::Broken(row, self.auditor.fault_out_of_turn()))
     }
 
-    // The next row, where its core isn't known to make its last one again: the core has its turn, and the row is met by the text that is made for it.
-    // It stands apart, so that the way of the rows that are known stays short.
-    #[inline(never)]
-    fn next_anew(&mut self, tick: u32, core: CoreId) -> Result<Judgement, TraceError>
-        requires accepted { IsPlan self.old.auditor.plan }
-        requires due { IsCoreDue self.old.auditor core.0 }
-        requires short { is_short tick ≡ true }
-        requires here { IsAtTick tick self.old.rows }
-        ensures plan { self.new.auditor.plan ≡ self.old.auditor.plan }
-        ensures gives { (told : Told) → rows_left T.remaining self.old ≡ Some told → GivesNext told (row_told result) (rows_left T.remaining self.new) }
-        ensures judged { (rows : List TraceRow) → HasFed self.old.auditor rows → tick ≡ length rows / self.old.auditor.plan.cores → IsJudged self.old.auditor.plan rows result self.new }
-        ensures read { (told : Told) (rows : List TraceRow) → rows_left T.remaining self.old ≡ Some told → BeginsAt tick core told → HasFed self.old.auditor rows → tick ≡ length rows / self.old.auditor.plan.cores → result ≡ Err TraceError.Read → source_failed (source_of self.new.rows) ≡ true }
-    {
-        let due = self.turn_anew(core);
-        self.next_due(tick, core, due)
-    }
-
-    // The next row, whose text is known to begin with that tick and core, which has its turn now.
+    // What is known ahead of the next row, whose text is known to begin with that tick and core, where the core has its turn.
     #[inline(always)]
-    fn next_of(&mut self, tick: u32, core: CoreId) -> Result<Judgement, TraceError>
+    fn ahead_of(&mut self, tick: u32, core: CoreId) -> Ahead
         requires accepted { IsPlan self.old.auditor.plan }
         requires due { IsCoreDue self.old.auditor core.0 }
         requires short { is_short tick ≡ true }
         requires here { IsAtTick tick self.old.rows }
         ensures plan { self.new.auditor.plan ≡ self.old.auditor.plan }
-        ensures gives { (told : Told) → rows_left T.remaining self.old ≡ Some told → GivesNext told (row_told result) (rows_left T.remaining self.new) }
-        ensures judged { (rows : List TraceRow) → HasFed self.old.auditor rows → tick ≡ length rows / self.old.auditor.plan.cores → IsJudged self.old.auditor.plan rows result self.new }
-        ensures read { (told : Told) (rows : List TraceRow) → rows_left T.remaining self.old ≡ Some told → BeginsAt tick core told → HasFed self.old.auditor rows → tick ≡ length rows / self.old.auditor.plan.cores → result ≡ Err TraceError.Read → source_failed (source_of self.new.rows) ≡ true }
+        ensures looks { (told : Told) → rows_left T.remaining self.old ≡ Some told → LooksAhead told result (rows_left T.remaining self.new) }
+        ensures ahead { (rows : List TraceRow) → HasFed self.old.auditor rows → tick ≡ length rows / self.old.auditor.plan.cores → IsAhead rows result self.new.auditor }
+        ensures room { HasRoom result self.new.auditor }
+        ensures begins { (told : Told) (rows : List TraceRow) → BeginsAt tick core told → HasFed self.old.auditor rows → tick ≡ length rows / self.old.auditor.plan.cores → BeginsDue told result }
     {
         match self.auditor.repeat(core) {
-            Some(due) => self.next_due(tick, core, due),
-            None => self.next_anew(tick, core),
+            Some(due) => {
+                if self.meets(tick, core) {
+                    return Ahead::Met(self.rows.as_read(due).in_tick(tick));
+                }
+                Ahead::Due(due)
+            }
+            None => {
+                if self.meets_anew(tick, core) {
+                    return Ahead::Met(self.rows.as_read(self.due).in_tick(tick));
+                }
+                Ahead::Due(self.due)
+            }
+        }
+    }
+
+    /// What is known ahead of the next row. One that comes as it is due is taken; else nothing is.
+    #[inline(always)]
+    pub(crate) fn next_ahead(&mut self) -> Ahead
+        ensures plan { self.new.auditor.plan ≡ self.old.auditor.plan }
+        ensures accepted { IsPlan self.old.auditor.plan }
+        ensures looks { (told : Told) → rows_left T.remaining self.old ≡ Some told → LooksAhead told result (rows_left T.remaining self.new) }
+        ensures ahead { (rows : List TraceRow) → HasFed self.old.auditor rows → self.old.auditor.fault ≡ None → IsAhead rows result self.new.auditor }
+        ensures room { HasRoom result self.new.auditor }
+        ensures begins { (told : Told) (rows : List TraceRow) → rows_left T.remaining self.old ≡ Some told → HasFed self.old.auditor rows → self.old.auditor.fault ≡ None → BeginsDue told result }
+    {
+        let tick = self.auditor.tick();
+        match self.rows.core_ahead(tick) {
+            Some(core) if self.auditor.is_due(core) => self.ahead_of(tick, core),
+            _ => Ahead::Unknown,
+        }
+    }
+
+    /// The next row, of which that is known ahead, and how it is judged.
+    #[inline(always)]
+    pub(crate) fn told(&mut self, ahead: Ahead) -> Result<Judgement, TraceError>
+        requires accepted { IsPlan self.old.auditor.plan }
+        requires room { HasRoom ahead self.old.auditor }
+        ensures plan { self.new.auditor.plan ≡ self.old.auditor.plan }
+        ensures gives { (told : Told) → LooksAhead told ahead (rows_left T.remaining self.old) → GivesNext told (row_told result) (rows_left T.remaining self.new) }
+        ensures judged { (rows : List TraceRow) → IsAhead rows ahead self.old.auditor → IsJudged self.old.auditor.plan rows result self.new }
+        ensures read { (told : Told) (rows : List TraceRow) → LooksAhead told ahead (rows_left T.remaining self.old) → IsAhead rows ahead self.old.auditor → BeginsDue told ahead → result ≡ Err TraceError.Read → source_failed (source_of self.new.rows) ≡ true }
+    {
+        match ahead {
+            Ahead::Met(row) => Ok(Judgement::Legal(row)),
+            // The row is made anew for that, so that one that is met is never laid down in memory as a whole.
+            Ahead::Due(due) => self.read_due(due.in_tick(due.tick)),
+            Ahead::Unknown => self.read(),
         }
     }
 
@@ -238,10 +314,7 @@ impl<'p, 't, T: Read> JudgedRows<'p, 't, T> {
         ensures judged { (rows : List TraceRow) → HasFed self.old.auditor rows → self.old.auditor.fault ≡ None → IsJudged self.old.auditor.plan rows result self.new }
         ensures read { (told : Told) (rows : List TraceRow) → rows_left T.remaining self.old ≡ Some told → HasFed self.old.auditor rows → self.old.auditor.fault ≡ None → result ≡ Err TraceError.Read → source_failed (source_of self.new.rows) ≡ true }
     {
-        let tick = self.auditor.tick();
-        match self.rows.core_ahead(tick) {
-            Some(core) if self.auditor.is_due(core) => self.next_of(tick, core),
-            _ => self.read(),
-        }
+        let ahead = self.next_ahead();
+        self.told(ahead)
     }
 }

@@ -13,7 +13,7 @@ ghost use Rattle.msrp_faults.specs.Outcomes.{is_trace_fault, is_audit_fault};
 ghost use Rattle.msrp_engine.specs.Reports.{IsReportOf, IsReported, ReportAnswers, Reports, WritesShown, verdict_told};
 
 use crate::audit::write_verdict;
-use crate::judged::{JudgedRows, Judgement};
+use crate::judged::{Ahead, JudgedRows, Judgement};
 use crate::made::Made;
 use crate::reading::settled;
 use msrp_audit::Auditor;
@@ -54,7 +54,12 @@ fn report_rows<T: Read>(
     ensures faults { IfErr result (λ fault. is_trace_fault fault ≡ true) }
 {
     loop {
-        match rows.next_row()? {
+        let ahead = rows.next_ahead();
+        if let Ahead::Met(row) = ahead {
+            counter.count(row);
+            continue;
+        }
+        match rows.told(ahead)? {
             Judgement::Legal(row) => counter.count(row),
             Judgement::Broken(_row, fault) => return Ok(Err(fault)),
             Judgement::End => return Ok(ended(counter, rows.auditor().end())),

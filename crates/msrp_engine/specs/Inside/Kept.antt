@@ -17,3 +17,7 @@ pub record IsKept (version : TextVersion) (plan : PlanModel) (text : List ℕ) (
 -- where the next row of a core is known, its text is kept, if what is kept of the core is whole
 abbrev pub KeepsKnown : TextVersion → PlanModel → CoresModel → TextsModel → List Bool → Type 0
 KeepsKnown version plan cores texts whole = (c : ℕ) → c < plan.cores → slice_index_or whole c false ≡ true → (r : Row) → known_row cores c ≡ Some r → IsKept version plan (text_of_core texts c) r
+
+-- what is kept of the core is the text of the row, if it is whole
+abbrev pub KeepsRow : TextVersion → PlanModel → TextsModel → List Bool → ℕ → Row → Type 0
+KeepsRow version plan texts whole c r = slice_index_or whole c false ≡ true → IsKept version plan (text_of_core texts c) r
