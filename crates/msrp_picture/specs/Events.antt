@@ -5,12 +5,12 @@ use Rattle.msrp_plan.specs.Jobs.{jobs_on}
 use Rattle.msrp_plan.specs.Plan.{PlanModel, key, release}
 use Rattle.msrp_plan.specs.declared.ids.JobId.{JobId}
 use Rattle.msrp_picture.specs.Cells.{byte, nothing}
-use Rattle.msrp_picture.specs.declared.events.Event.{Event}
-use Rattle.msrp_picture.specs.declared.events.Event.TheVariants.{Release, Deadline}
+use Rattle.msrp_picture.specs.declared.shapes.Moment.{Moment}
+use Rattle.msrp_picture.specs.declared.shapes.Moment.TheVariants.{Release, Deadline}
 use Rattle.msrp_picture.specs.declared.windows.Window.{Window}
 
 -- the tick in which a job is released, or at whose beginning its absolute deadline is
-abbrev pub tick_of : PlanModel → Event → JobId → ℕ
+abbrev pub tick_of : PlanModel → Moment → JobId → ℕ
 tick_of plan Release j = release plan j
 tick_of plan Deadline j = (key plan j).deadline
 
@@ -19,8 +19,8 @@ abbrev pub are_in : Window → List ℕ → List Bool
 are_in w ticks = map (λ t. list_any (λ e. e == t) ticks) (range_with_len w.from (w.to - w.from))
 
 -- the ticks in which a core's jobs are released, or have their absolute deadlines
-abbrev pub event_ticks : PlanModel → ℕ → Event → List ℕ
-event_ticks plan c event = map (tick_of plan event) (jobs_on plan c)
+abbrev pub moment_ticks : PlanModel → ℕ → Moment → List ℕ
+moment_ticks plan c moment = map (tick_of plan moment) (jobs_on plan c)
 
 -- where jobs are released, where some have their deadlines, and where both is so
 abbrev pub event_cell : Bool → Bool → ℕ
@@ -31,4 +31,4 @@ event_cell false false = nothing
 
 -- a cell for each of these ticks
 abbrev pub event_cells : PlanModel → Window → ℕ → List ℕ
-event_cells plan w c = map (λ t. event_cell (list_any (λ e. e == t) (event_ticks plan c Release)) (list_any (λ e. e == t) (event_ticks plan c Deadline))) (range_with_len w.from (w.to - w.from))
+event_cells plan w c = map (λ t. event_cell (list_any (λ e. e == t) (moment_ticks plan c Release)) (list_any (λ e. e == t) (moment_ticks plan c Deadline))) (range_with_len w.from (w.to - w.from))

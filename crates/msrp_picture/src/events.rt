@@ -2,31 +2,23 @@
 ghost use Rattle.std.specs.Prelude.{◌≡◌, ◌<◌, ◌==◌, ◌∷◌, ◌++◌, [], ℕ, List, if◌then◌else◌, length, map, IfOk, IsSome};
 ghost use Rattle.msrp_plan.specs.Jobs.{jobs_of};
 ghost use Rattle.msrp_plan.specs.Plan.{release_tick, task_at};
-ghost use Rattle.msrp_picture.specs.Events.{are_in, event_cell, event_cells, event_ticks, tick_of};
+ghost use Rattle.msrp_picture.specs.Events.{are_in, event_cell, event_cells, moment_ticks, tick_of};
 ghost use Rattle.msrp_picture.specs.Windows.{IsWindow};
 
+use crate::shapes::Moment;
 use crate::windows::Window;
 use msrp_plan::{CoreId, JobId, Memory, Plan, TaskId};
 use std::alloc::Global;
 
-/// What a job has in a tick.
-#[derive(Clone, Copy, Debug, PartialEq, Eq)]
-pub enum Event {
-    /// Its release.
-    Release,
-    /// Its absolute deadline, at the beginning of the tick.
-    Deadline,
-}
-
 // The tick in which a job has its release, or its absolute deadline.
-fn tick_of(plan: &Plan, event: Event, job: JobId) -> u64
+fn tick_of(plan: &Plan, moment: Moment, job: JobId) -> u64
     requires task { job.task.0 < length plan.now.tasks }
     requires released { IsSome (release_tick plan.now job) }
-    ensures { result ≡ tick_of plan.now event job }
+    ensures { result ≡ tick_of plan.now moment job }
 {
-    match event {
-        Event::Release => plan.release(job),
-        Event::Deadline => plan.job_key(job).deadline,
+    match moment {
+        Moment::Release => plan.release(job),
+        Moment::Deadline => plan.job_key(job).deadline,
     }
 }
 
@@ -41,12 +33,12 @@ fn mark(marks: &mut Vec<bool>, window: Window, tick: u64)
 }
 
 // Notes those of all jobs of a task.
-fn mark_task(marks: &mut Vec<bool>, plan: &Plan, window: Window, event: Event, task: TaskId)
+fn mark_task(marks: &mut Vec<bool>, plan: &Plan, window: Window, moment: Moment, task: TaskId)
     requires { task.0 < length plan.now.tasks }
-    ensures { (ticks : List ℕ) → marks.old.items ≡ are_in window ticks → marks.new.items ≡ are_in window (ticks ++ map (tick_of plan.now event) (jobs_of plan.now task.0)) }
+    ensures { (ticks : List ℕ) → marks.old.items ≡ are_in window ticks → marks.new.items ≡ are_in window (ticks ++ map (tick_of plan.now moment) (jobs_of plan.now task.0)) }
 {
     for k in 0..plan.jobs(task) {
-        mark(marks, window, tick_of(plan, event, JobId { task, k }));
+        mark(marks, window, tick_of(plan, moment, JobId { task, k }));
     }
 }
 
@@ -55,15 +47,15 @@ fn mark_task_on(
     marks: &mut Vec<bool>,
     plan: &Plan,
     window: Window,
-    event: Event,
+    moment: Moment,
     core: CoreId,
     task: TaskId,
 )
     requires { task.0 < length plan.now.tasks }
-    ensures { (ticks : List ℕ) → marks.old.items ≡ are_in window ticks → marks.new.items ≡ are_in window (ticks ++ map (tick_of plan.now event) (if (task_at plan.now task.0).core == core.0 then jobs_of plan.now task.0 else [])) }
+    ensures { (ticks : List ℕ) → marks.old.items ≡ are_in window ticks → marks.new.items ≡ are_in window (ticks ++ map (tick_of plan.now moment) (if (task_at plan.now task.0).core == core.0 then jobs_of plan.now task.0 else [])) }
 {
     if plan.core_of(task) == core {
-        mark_task(marks, plan, window, event, task);
+        mark_task(marks, plan, window, moment, task);
     }
 }
 
@@ -84,15 +76,15 @@ fn marks_of(
     alloc: Global,
     plan: &Plan,
     window: Window,
-    event: Event,
+    moment: Moment,
     core: CoreId,
 ) -> Result<Vec<bool>, Memory>
     requires { IsWindow window }
-    ensures { IfOk result (λ marks. marks.items ≡ are_in window (event_ticks plan.now core.0 event)) }
+    ensures { IfOk result (λ marks. marks.items ≡ are_in window (moment_ticks plan.now core.0 moment)) }
 {
     let mut marks = no_marks(alloc, window)?;
     for task in 0..plan.tasks() {
-        mark_task_on(&mut marks, plan, window, event, core, TaskId(task));
+        mark_task_on(&mut marks, plan, window, moment, core, TaskId(task));
     }
     Ok(marks)
 }
@@ -118,8 +110,8 @@ pub(crate) fn event_cells(
     requires { IsWindow window }
     ensures { IfOk result (λ cells. cells.items ≡ event_cells plan.now window core.0) }
 {
-    let releases = marks_of(alloc, plan, window, Event::Release, core)?;
-    let deadlines = marks_of(alloc, plan, window, Event::Deadline, core)?;
+    let releases = marks_of(alloc, plan, window, Moment::Release, core)?;
+    let deadlines = marks_of(alloc, plan, window, Moment::Deadline, core)?;
     let mut cells = Vec::new(alloc);
     for tick in window.from..window.to {
         let place = (tick - window.from) as usize;

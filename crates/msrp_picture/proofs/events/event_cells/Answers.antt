@@ -1,8 +1,8 @@
 use Rattle.std.proofs.Common.{◌≡◌, ◌<◌, ◌-◌, ◌+◌, ◌++◌, ◌∷◌, [], ap, map, rules, arith, ◌∙◌, length, slice_index_or}
 use Rattle.std.specs.List.{range_with_len}
 use Rattle.std.proofs.lemmas.List.FromFn.{get_or-map-range_with_len, length-map-range_with_len}
-use Rattle.msrp_picture.specs.Events.{event_cell, event_ticks}
-use Rattle.msrp_picture.specs.declared.events.Event.TheVariants.{Release, Deadline}
+use Rattle.msrp_picture.specs.Events.{event_cell, moment_ticks}
+use Rattle.msrp_picture.specs.declared.shapes.Moment.TheVariants.{Release, Deadline}
 use Rattle.msrp_picture.proofs.Growing.{grows-map}
 use Rattle.msrp_picture.proofs.Marking.{is_among}
 use Rattle.msrp_picture.proofs.events.event_cells.Goals as goal
@@ -10,7 +10,7 @@ use Rattle.msrp_picture.proofs.events.event_cells.Goals as goal
 pub index-requires : goal.index-requires
 index-requires c =
     let w = c.args.window in
-    let many = ap length c.in_ok-releases.ensures ∙ length-map-range_with_len (is_among (event_ticks c.args.plan.now c.args.core.0 Release)) w.from (w.to - w.from) in
+    let many = ap length c.in_ok-releases.ensures ∙ length-map-range_with_len (is_among (moment_ticks c.args.plan.now c.args.core.0 Release)) w.from (w.to - w.from) in
     let first = c.loop-tick.auto.tick in
     let last = c.loop-tick-test.true in
     omega (arith, many, first, last)
@@ -18,7 +18,7 @@ index-requires c =
 pub index-requires-in-loop-tick : goal.index-requires-in-loop-tick
 index-requires-in-loop-tick c =
     let w = c.args.window in
-    let many = ap length c.in_ok-deadlines.ensures ∙ length-map-range_with_len (is_among (event_ticks c.args.plan.now c.args.core.0 Deadline)) w.from (w.to - w.from) in
+    let many = ap length c.in_ok-deadlines.ensures ∙ length-map-range_with_len (is_among (moment_ticks c.args.plan.now c.args.core.0 Deadline)) w.from (w.to - w.from) in
     let first = c.loop-tick.auto.tick in
     let last = c.loop-tick-test.true in
     omega (arith, many, first, last)
@@ -26,8 +26,8 @@ index-requires-in-loop-tick c =
 pub loop-tick-preserved : goal.loop-tick-preserved
 loop-tick-preserved c =
     let w = c.args.window in
-    let released = is_among (event_ticks c.args.plan.now c.args.core.0 Release) in
-    let due = is_among (event_ticks c.args.plan.now c.args.core.0 Deadline) in
+    let released = is_among (moment_ticks c.args.plan.now c.args.core.0 Release) in
+    let due = is_among (moment_ticks c.args.plan.now c.args.core.0 Deadline) in
     let first = c.loop-tick.auto.tick in
     let last = c.loop-tick-test.true in
     let place = c.loop-tick.tick - w.from in
@@ -42,7 +42,7 @@ loop-tick-preserved c =
 pub returns : goal.returns
 returns c =
     let from = c.args.window.from in
-    let released = is_among (event_ticks c.args.plan.now c.args.core.0 Release) in
-    let due = is_among (event_ticks c.args.plan.now c.args.core.0 Deadline) in
+    let released = is_among (moment_ticks c.args.plan.now c.args.core.0 Release) in
+    let due = is_among (moment_ticks c.args.plan.now c.args.core.0 Deadline) in
     let last : c.loop-tick.tick ≡ c.args.window.to = omega arith in
     c.loop-tick.invariant ∙ ap (λ n. map (λ t. event_cell (released t) (due t)) (range_with_len from (n - from))) last

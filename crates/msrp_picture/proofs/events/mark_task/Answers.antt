@@ -11,7 +11,7 @@ loop-k-init c = λ ticks e. e ∙ ap (are_in c.args.window) (sym (append-nil tic
 
 pub loop-k-preserved : goal.loop-k-preserved
 loop-k-preserved c = λ ticks e.
-    let told = λ (k : ℕ). tick_of c.args.plan.now c.args.event (job_at c.args.task.0 k) in
+    let told = λ (k : ℕ). tick_of c.args.plan.now c.args.moment (job_at c.args.task.0 k) in
     let earlier = map told (range_with_len 0 c.loop-k.k) in
     let noted = c.mark.ensures (ticks ++ earlier) (c.loop-k.invariant ticks e) in
     let place : 0 + c.loop-k.k ≡ c.loop-k.k = omega arith in
@@ -22,8 +22,8 @@ loop-k-preserved c = λ ticks e.
 
 pub returns : goal.returns
 returns c = λ ticks e.
-    let told = λ (k : ℕ). tick_of c.args.plan.now c.args.event (job_at c.args.task.0 k) in
+    let told = λ (k : ℕ). tick_of c.args.plan.now c.args.moment (job_at c.args.task.0 k) in
     let all : c.loop-k.k ≡ c.jobs-k-end.result = omega arith in
     c.loop-k.invariant ticks e
     ∙ ap (λ n. are_in c.args.window (ticks ++ map told (range_with_len 0 n))) all
-    ∙ ap (λ ts. are_in c.args.window (ticks ++ ts)) (sym (ap (map (tick_of c.args.plan.now c.args.event)) c.jobs-k-end.ensures.numbered ∙ map-map (tick_of c.args.plan.now c.args.event) (job_at c.args.task.0) (range_with_len 0 c.jobs-k-end.result)))
+    ∙ ap (λ ts. are_in c.args.window (ticks ++ ts)) (sym (ap (map (tick_of c.args.plan.now c.args.moment)) c.jobs-k-end.ensures.numbered ∙ map-map (tick_of c.args.plan.now c.args.moment) (job_at c.args.task.0) (range_with_len 0 c.jobs-k-end.result)))

@@ -10,7 +10,7 @@ use Rattle.msrp_picture.proofs.events.marks_of.Goals as goal
 pub loop-task-preserved : goal.loop-task-preserved
 loop-task-preserved c =
     let plan = c.args.plan.now in
-    let told = tick_of plan c.args.event in
+    let told = tick_of plan c.args.moment in
     let earlier = jobs_among plan c.args.core.0 (range_with_len 0 c.loop-task.task) in
     let more = cond ((task_at plan c.loop-task.task).core == c.args.core.0) (jobs_of plan c.loop-task.task) [] in
     c.mark_task_on.ensures (map told earlier) c.loop-task.invariant
@@ -21,4 +21,4 @@ pub returns : goal.returns
 returns c =
     let plan = c.args.plan.now in
     let all : c.loop-task.task ≡ length plan.tasks = omega arith in
-    c.loop-task.invariant ∙ ap (λ n. are_in c.args.window (map (tick_of plan c.args.event) (jobs_among plan c.args.core.0 (range_with_len 0 n)))) all
+    c.loop-task.invariant ∙ ap (λ n. are_in c.args.window (map (tick_of plan c.args.moment) (jobs_among plan c.args.core.0 (range_with_len 0 n)))) all
