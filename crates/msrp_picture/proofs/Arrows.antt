@@ -6,7 +6,8 @@ use Rattle.std.proofs.lemmas.Bool.{eqb-true, le-leb}
 use Rattle.std.proofs.lemmas.List.Sums.{sum_by-append}
 use Rattle.msrp_plan.specs.Jobs.{job_at, jobs_of, same_job}
 use Rattle.msrp_plan.specs.Logs.{log_of}
-use Rattle.msrp_plan.specs.Plan.{PlanModel, release}
+use Rattle.msrp_plan.specs.Levels.{level}
+use Rattle.msrp_plan.specs.Plan.{PlanModel, release, task_at}
 use Rattle.msrp_plan.specs.declared.faults.Fault.{Fault}
 use Rattle.msrp_plan.specs.declared.ids.CoreId.{CoreId}
 use Rattle.msrp_plan.specs.declared.ids.JobId.{JobId}
@@ -22,10 +23,11 @@ use Rattle.msrp_picture.specs.Laws.{OneArrowForEachRelease, is_release_of}
 use Rattle.msrp_picture.specs.Lines.{global_resources}
 use Rattle.msrp_picture.specs.Lives.{life_of}
 use Rattle.msrp_picture.specs.Marks.{broken_shapes, is_in, mark_shapes}
-use Rattle.msrp_picture.specs.Places.{ceiling_room, core_room, core_top, queue_room, task_room}
+use Rattle.msrp_picture.specs.Names.{again, names, note_of, repeats}
+use Rattle.msrp_picture.specs.Places.{ceiling_room, core_room, core_top, left_of, queue_room, task_room}
 use Rattle.msrp_picture.specs.QueueLanes.{queue_shapes, queue_spans, queues_shapes}
 use Rattle.msrp_picture.specs.Sections.{ends_section, enters, first_section, log_sections, most_open, open_behind, section_at, section_end, section_span, sections}
-use Rattle.msrp_picture.specs.Seen.{is_seen, lane_of, met, note_of, seen}
+use Rattle.msrp_picture.specs.Seen.{is_seen, lane_of, met, seen}
 use Rattle.msrp_picture.specs.Standings.{standings}
 use Rattle.msrp_picture.specs.Stretches.{merged}
 use Rattle.msrp_picture.specs.Windows.{begun}
@@ -33,14 +35,15 @@ use Rattle.msrp_picture.specs.declared.blocks.Lane.{Lane}
 use Rattle.msrp_picture.specs.declared.blocks.Owner.{Owner}
 use Rattle.msrp_picture.specs.declared.blocks.Owner.TheVariants.{Core as OfCore, Task as OfTask}
 use Rattle.msrp_picture.specs.declared.lives.Life.{Life}
-use Rattle.msrp_picture.specs.declared.places.TheConstants.{AXIS_LINE, CEILING_LINE, CORE_LINE, NAME_LINE, SECTION_TOP}
+use Rattle.msrp_picture.specs.declared.places.TheConstants.{AXIS_LINE, CEILING_ABOVE, CEILING_LINE, CORE_ABOVE, CORE_LINE, LEVEL_LINE, NAME_ABOVE, NAME_LINE, SECTION_TOP}
 use Rattle.msrp_picture.specs.declared.sections.Strip.{Strip}
 use Rattle.msrp_picture.specs.declared.shapes.Moment.TheVariants.{Release, Deadline}
 use Rattle.msrp_picture.specs.declared.shapes.Room.{Room}
 use Rattle.msrp_picture.specs.declared.shapes.Shape.{Shape}
 use Rattle.msrp_picture.specs.declared.shapes.Shape.TheVariants.{Block, Arrow, Text}
 use Rattle.msrp_picture.specs.declared.shapes.Span.{Span}
-use Rattle.msrp_picture.specs.declared.shapes.Words.TheVariants.{Ceiling as CeilingLane, Core, Res, Tick}
+use Rattle.msrp_picture.specs.declared.shapes.Words.{Words}
+use Rattle.msrp_picture.specs.declared.shapes.Words.TheVariants.{Ceiling as CeilingLane, Core, Level, Res, Task, Tick}
 use Rattle.msrp_picture.specs.declared.windows.Window.{Window}
 
 -- ---- counts of joined lists
@@ -101,12 +104,15 @@ no-seen plan j w s = by_test (is_seen w s.first s.end)
     by_test true = refl
     by_test false = refl
 
-no-ticks : (plan : PlanModel) (j : JobId) (line t : ℕ) → count_by (is_release_of plan j) (tick_note line t) ≡ 0
-no-ticks plan j line t = by_test (nat_eq (t % 5) 0)
+no-ticks : (plan : PlanModel) (j : JobId) (w : Window) (line t : ℕ) → count_by (is_release_of plan j) (tick_note w line t) ≡ 0
+no-ticks plan j w line t = by_test (nat_eq (t % 5) 0)
   where
-    by_test : (b : Bool) → count_by (is_release_of plan j) (cond b (Text (record { line = line; words = Tick t }) ∷ []) []) ≡ 0
+    by_test : (b : Bool) → count_by (is_release_of plan j) (cond b (Text (record { left = left_of w t; line = line; words = Tick t }) ∷ []) []) ≡ 0
     by_test true = refl
     by_test false = refl
+
+no-names : (plan : PlanModel) (j : JobId) (w : Window) (room : Room) (below above : ℕ) (words : Words) → count_by (is_release_of plan j) (names w room below above words) ≡ 0
+no-names plan j w room below above words = none-each (is_release_of plan j) (λ i. again room above words (i + 1) ∷ []) (λ i. refl) (range_with_len 0 (repeats w))
 
 no-blocks : (plan : PlanModel) (j : JobId) (w : Window) (spans : List Span) → count_by (is_release_of plan j) (flat_map (seen w) spans) ≡ 0
 no-blocks plan j w spans = none-each (is_release_of plan j) (seen w) (no-seen plan j w) spans
@@ -131,34 +137,37 @@ no-sections plan j strip log = none-each (is_release_of plan j) (section_at stri
 no-ceilings : (plan : PlanModel) (j : JobId) (w : Window) (room : Room) (c : ℕ) (log : List Row) → count_by (is_release_of plan j) (ceiling_shapes plan w room c log) ≡ 0
 no-ceilings plan j w room c log =
     let spans = merged (ceiling_spans plan room c log) in
-    none-both (is_release_of plan j) (note_of room CEILING_LINE CeilingLane ∷ [] ++ lane_of w room w.to ∷ []) (flat_map (seen w) spans) refl (no-blocks plan j w spans)
+    let p = is_release_of plan j in
+    let name = names w room CEILING_LINE CEILING_ABOVE CeilingLane in
+    let lane : List Shape = lane_of w room w.to ∷ [] in
+    none-both p (name ++ lane) (flat_map (seen w) spans) (none-both p name lane (no-names plan j w room CEILING_LINE CEILING_ABOVE CeilingLane) refl) (no-blocks plan j w spans)
 
 no-core : (plan : PlanModel) (j : JobId) (w : Window) (legal later : List Row) (c : CoreId) → count_by (is_release_of plan j) (core_shapes plan w legal later c) ≡ 0
 no-core plan j w legal later c =
     let p = is_release_of plan j in
     let line = core_top plan c.0 + AXIS_LINE in
     let ticks = axis w line in
-    let name : List Shape = note_of (core_room plan c.0) CORE_LINE (Core c) ∷ [] in
+    let name = names w (core_room plan c.0) CORE_LINE CORE_ABOVE (Core c) in
     let lane : List Shape = lane_of w (core_room plan c.0) w.to ∷ [] in
-    let none = none-each p (λ i. tick_note line (w.from + i)) (λ i. no-ticks plan j line (w.from + i)) (range_with_len 0 (w.to - w.from)) in
+    let none = none-each p (λ i. tick_note w line (w.from + i)) (λ i. no-ticks plan j w line (w.from + i)) (range_with_len 0 (w.to - w.from)) in
     let rows = rows_shapes w legal later (OfCore c) (core_room plan c.0) in
-    let drawn = none-both p (ticks ++ name ++ lane) rows (none-both p (ticks ++ name) lane (none-both p ticks name none refl) refl) (no-rows plan j w legal later (OfCore c) (core_room plan c.0)) in
+    let drawn = none-both p (ticks ++ name ++ lane) rows (none-both p (ticks ++ name) lane (none-both p ticks name none (no-names plan j w (core_room plan c.0) CORE_LINE CORE_ABOVE (Core c))) refl) (no-rows plan j w legal later (OfCore c) (core_room plan c.0)) in
     none-both p (ticks ++ name ++ lane ++ rows) (ceiling_shapes plan w (ceiling_room plan c.0) c.0 (log_of c.0 legal)) drawn (no-ceilings plan j w (ceiling_room plan c.0) c.0 (log_of c.0 legal))
 
 no-queue : (plan : PlanModel) (j : JobId) (w : Window) (rows : List Row) (g : ℕ) → count_by (is_release_of plan j) (queue_shapes plan w rows g) ≡ 0
 no-queue plan j w rows g =
     let p = is_release_of plan j in
-    let name : List Shape = note_of (queue_room plan g) NAME_LINE (Res (record { 0 = g })) ∷ [] in
+    let name = names w (queue_room plan g) NAME_LINE NAME_ABOVE (Res (record { 0 = g })) in
     let lane : List Shape = lane_of w (queue_room plan g) (begun plan rows) ∷ [] in
     let spans = merged (queue_spans (queue_room plan g) (record { 0 = g }) w.from (standings plan rows w g)) in
-    none-both p (name ++ lane) (flat_map (seen w) spans) refl (no-blocks plan j w spans)
+    none-both p (name ++ lane) (flat_map (seen w) spans) (none-both p name lane (no-names plan j w (queue_room plan g) NAME_LINE NAME_ABOVE (Res (record { 0 = g }))) refl) (no-blocks plan j w spans)
 
 no-mark : (plan : PlanModel) (j : JobId) (w : Window) (broken : Option Row) (found : Result ⊤ Fault) → count_by (is_release_of plan j) (broken_shapes plan w broken found) ≡ 0
 no-mark plan j w broken (Ok good) = refl
 no-mark plan j w None (Err fault) = refl
 no-mark plan j w (Some r) (Err fault) = by_test (is_in w r)
   where
-    by_test : (b : Bool) → count_by (is_release_of plan j) (cond b (mark_shapes plan fault.rule r) []) ≡ 0
+    by_test : (b : Bool) → count_by (is_release_of plan j) (cond b (mark_shapes plan w fault.rule r) []) ≡ 0
     by_test true = refl
     by_test false = refl
 
@@ -195,6 +204,15 @@ life-arrows plan j w room life n e =
 is-within : (a b c : ℕ) → a ≤ b → b ≤ c → nat_le a b && nat_le b c ≡ true
 is-within a b c low high = ap (λ x. x && nat_le b c) (le-leb a b low) ∙ le-leb b c high
 
+no-head : (plan : PlanModel) (j : JobId) (w : Window) (t : ℕ) → count_by (is_release_of plan j) (task_head plan w (record { 0 = t })) ≡ 0
+no-head plan j w t =
+    let p = is_release_of plan j in
+    let room = task_room plan t in
+    let name = names w room NAME_LINE NAME_ABOVE (Task (record { 0 = t })) in
+    let level : List Shape = note_of room LEVEL_LINE (Level (record { 0 = (task_at plan t).core }) (level plan t)) ∷ [] in
+    let lane : List Shape = lane_of w room w.to ∷ [] in
+    none-both p (name ++ level) lane (none-both p name level (no-names plan j w room NAME_LINE NAME_ABOVE (Task (record { 0 = t }))) refl) refl
+
 head-and-life : (plan : PlanModel) (j : JobId) (w : Window) (legal later : List Row) (t n : ℕ) → count_by (is_release_of plan j) (task_jobs plan w (task_room plan t) legal t) ≡ n
     → count_by (is_release_of plan j) (task_head plan w (record { 0 = t }) ++ task_life plan w legal later (record { 0 = t })) ≡ n
 head-and-life plan j w legal later t n e =
@@ -205,7 +223,7 @@ head-and-life plan j w legal later t n e =
     let inner = both p (task_jobs plan w room legal t) (rows_shapes w legal later (OfTask (record { 0 = t })) room) in
     let outer = both p (task_jobs plan w room legal t ++ rows_shapes w legal later (OfTask (record { 0 = t })) room) (sections w room (begun plan legal) (task_rows t legal)) in
     let whole = both p (task_head plan w (record { 0 = t })) (task_life plan w legal later (record { 0 = t })) in
-    let head : count_by p (task_head plan w (record { 0 = t })) ≡ 0 = refl in
+    let head = no-head plan j w t in
     omega (arith, e, rows, held, inner, outer, whole, head)
 
 other-task : (t k u l : ℕ) → u ≢ t → same_job (job_at u l) (job_at t k) ≡ false

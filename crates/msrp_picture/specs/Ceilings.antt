@@ -7,11 +7,12 @@ use Rattle.msrp_plan.specs.Logs.{rows_on}
 use Rattle.msrp_plan.specs.Plan.{PlanModel}
 use Rattle.msrp_plan.specs.declared.rows.Row.{Row}
 use Rattle.msrp_levels.specs.Users.{ceiling_at}
+use Rattle.msrp_picture.specs.Names.{names}
 use Rattle.msrp_picture.specs.Sections.{leaves}
-use Rattle.msrp_picture.specs.Seen.{lane_of, note_of, seen}
+use Rattle.msrp_picture.specs.Seen.{lane_of, seen}
 use Rattle.msrp_picture.specs.Spans.{lasting}
 use Rattle.msrp_picture.specs.Stretches.{merged}
-use Rattle.msrp_picture.specs.declared.places.TheConstants.{CEILING_LINE}
+use Rattle.msrp_picture.specs.declared.places.TheConstants.{CEILING_ABOVE, CEILING_LINE}
 use Rattle.msrp_picture.specs.declared.shapes.Look.TheVariants.{Ceiling as OfCeiling}
 use Rattle.msrp_picture.specs.declared.shapes.Room.{Room}
 use Rattle.msrp_picture.specs.declared.shapes.Shape.{Shape}
@@ -38,4 +39,4 @@ ceiling_spans plan room c log = flat_map (λ t. raised room t (told_ceiling plan
 
 -- a lane of its own: a block for each longest stretch of ticks in which it is the same
 abbrev pub ceiling_shapes : PlanModel → Window → Room → ℕ → List Row → List Shape
-ceiling_shapes plan w room c log = note_of room CEILING_LINE Ceiling ∷ [] ++ lane_of w room w.to ∷ [] ++ flat_map (seen w) (merged (ceiling_spans plan room c log))
+ceiling_shapes plan w room c log = names w room CEILING_LINE CEILING_ABOVE Ceiling ++ lane_of w room w.to ∷ [] ++ flat_map (seen w) (merged (ceiling_spans plan room c log))

@@ -8,7 +8,6 @@ use Rattle.msrp_picture.specs.Cells.{letter}
 use Rattle.msrp_picture.specs.Places.{left_of}
 use Rattle.msrp_picture.specs.Titles.{event_title, moment_text, title_text, word_text}
 use Rattle.msrp_picture.specs.declared.elements.TheConstants.{HUES}
-use Rattle.msrp_picture.specs.declared.places.TheConstants.{LEFT}
 use Rattle.msrp_picture.specs.declared.shapes.Event.{Event}
 use Rattle.msrp_picture.specs.declared.shapes.Look.{Look}
 use Rattle.msrp_picture.specs.declared.shapes.Look.TheVariants.{Lane, Does, Turn, Holds, First, Life, Late, Ceiling, Breaks}
@@ -73,16 +72,10 @@ arrow_text plan w e =
 -- ---- words
 unfoldable pub words_class : Words → List ℕ
 words_class (Tick t) = codes "tick"
-words_class (Broken rule t) = codes "rule"
+words_class (Broken rule) = codes "rule"
 words_class (Level c n) = codes "level"
 words_class CeilingLane = codes "level"
 words_class _ = codes "label"
-
--- words of a tick stand where it begins, and the others to the left of the lanes
-abbrev pub words_left : Window → Words → ℕ
-words_left w (Tick t) = left_of w t
-words_left w (Broken rule t) = left_of w t
-words_left w _ = LEFT - 8
 
 unfoldable pub core_text : CoreId → List ℕ
 core_text c = codes "core " ++ decimal c.0
@@ -97,14 +90,14 @@ words_text plan (Level c n) = level_text c n
 words_text plan CeilingLane = codes "ceiling"
 words_text plan (Res g) = slice_index_or plan.resources g.0 []
 words_text plan (Tick t) = decimal t
-words_text plan (Broken rule t) = rule_text rule
+words_text plan (Broken rule) = rule_text rule
 
-unfoldable pub note_text : PlanModel → Window → Note → List ℕ
-note_text plan w n =
-    codes "<text class=\"" ++ words_class n.words ++ codes "\"" ++ attribute (codes "x") (words_left w n.words) ++ attribute (codes "y") n.line ++ codes ">" ++ words_text plan n.words ++ codes "</text>\n"
+unfoldable pub note_text : PlanModel → Note → List ℕ
+note_text plan n =
+    codes "<text class=\"" ++ words_class n.words ++ codes "\"" ++ attribute (codes "x") n.left ++ attribute (codes "y") n.line ++ codes ">" ++ words_text plan n.words ++ codes "</text>\n"
 
 -- ---- all
 abbrev pub shape_text : PlanModel → Window → Shape → List ℕ
 shape_text plan w (Block s) = block_text plan w s
 shape_text plan w (Arrow e) = arrow_text plan w e
-shape_text plan w (Text n) = note_text plan w n
+shape_text plan w (Text n) = note_text plan n

@@ -10,6 +10,7 @@ pub mod Titles
 pub mod Elements
 pub mod Spans
 pub mod Seen
+pub mod Names
 pub mod Stretches
 pub mod Blocks
 pub mod Lives

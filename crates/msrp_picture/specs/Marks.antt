@@ -5,7 +5,7 @@ use Rattle.msrp_plan.specs.Plan.{PlanModel}
 use Rattle.msrp_plan.specs.declared.faults.Fault.{Fault}
 use Rattle.msrp_plan.specs.declared.faults.Rule.{Rule}
 use Rattle.msrp_plan.specs.declared.rows.Row.{Row}
-use Rattle.msrp_picture.specs.Places.{row_room}
+use Rattle.msrp_picture.specs.Places.{left_of, row_room}
 use Rattle.msrp_picture.specs.Spans.{lasting}
 use Rattle.msrp_picture.specs.declared.shapes.Look.TheVariants.{Breaks}
 use Rattle.msrp_picture.specs.declared.shapes.Shape.{Shape}
@@ -18,13 +18,13 @@ abbrev pub is_in : Window → Row → Bool
 is_in w r = nat_le w.from r.tick && nat_lt r.tick w.to
 
 -- a frame round it, and above that the rule's name
-abbrev pub mark_shapes : PlanModel → Rule → Row → List Shape
-mark_shapes plan rule r =
-    Block (lasting r.tick (r.tick + 1) (row_room plan r r.job) (Breaks rule) r.job r.res) ∷ [] ++ Text (record { line = (row_room plan r r.job).top - 3; words = Broken rule r.tick }) ∷ []
+abbrev pub mark_shapes : PlanModel → Window → Rule → Row → List Shape
+mark_shapes plan w rule r =
+    Block (lasting r.tick (r.tick + 1) (row_room plan r r.job) (Breaks rule) r.job r.res) ∷ [] ++ Text (record { left = left_of w r.tick; line = (row_room plan r r.job).top - 3; words = Broken rule }) ∷ []
 
 -- its mark, if it is drawn
 abbrev pub drawn_mark : PlanModel → Window → Rule → Row → List Shape
-drawn_mark plan w rule r = if is_in w r then mark_shapes plan rule r else []
+drawn_mark plan w rule r = if is_in w r then mark_shapes plan w rule r else []
 
 -- the mark of the row that breaks a rule, if there is one and it is drawn
 abbrev pub broken_shapes : PlanModel → Window → Option Row → Result ⊤ Fault → List Shape

@@ -6,13 +6,14 @@ use Rattle.msrp_plan.specs.declared.ids.JobId.{JobId}
 use Rattle.msrp_plan.specs.declared.ids.ResId.{ResId}
 use Rattle.msrp_plan.specs.declared.rows.Row.{Row}
 use Rattle.msrp_picture.specs.Lines.{global_resources}
+use Rattle.msrp_picture.specs.Names.{names}
 use Rattle.msrp_picture.specs.Places.{queue_room}
-use Rattle.msrp_picture.specs.Seen.{lane_of, note_of, seen}
+use Rattle.msrp_picture.specs.Seen.{lane_of, seen}
 use Rattle.msrp_picture.specs.Spans.{lasting}
 use Rattle.msrp_picture.specs.Standings.{standing_of, standings}
 use Rattle.msrp_picture.specs.Stretches.{merged}
 use Rattle.msrp_picture.specs.Windows.{begun}
-use Rattle.msrp_picture.specs.declared.places.TheConstants.{NAME_LINE}
+use Rattle.msrp_picture.specs.declared.places.TheConstants.{NAME_ABOVE, NAME_LINE}
 use Rattle.msrp_picture.specs.declared.queues.Standing.{Standing}
 use Rattle.msrp_picture.specs.declared.shapes.Look.TheVariants.{First}
 use Rattle.msrp_picture.specs.declared.shapes.Room.{Room}
@@ -36,7 +37,7 @@ queue_spans room g from list = flat_map (λ i. held room g (from + i) (slice_ind
 -- its name, what lies under its blocks as far as rows stand, and these
 abbrev pub queue_shapes : PlanModel → Window → List Row → ℕ → List Shape
 queue_shapes plan w rows g =
-    note_of (queue_room plan g) NAME_LINE (Res (record { 0 = g })) ∷ [] ++ lane_of w (queue_room plan g) (begun plan rows) ∷ []
+    names w (queue_room plan g) NAME_LINE NAME_ABOVE (Res (record { 0 = g })) ++ lane_of w (queue_room plan g) (begun plan rows) ∷ []
     ++ flat_map (seen w) (merged (queue_spans (queue_room plan g) (record { 0 = g }) w.from (standings plan rows w g)))
 
 abbrev pub queues_shapes : PlanModel → Window → List Row → List Shape

@@ -1,13 +1,12 @@
 -- What of a block or an arrow is seen in a window.
-use Rattle.std.specs.Prelude.{ℕ, List, [], ◌∷◌, Bool, ◌&&◌, None, if◌then◌else◌, max, min, nat_le, nat_lt, ◌+◌}
+use Rattle.std.specs.Prelude.{ℕ, List, [], ◌∷◌, Bool, ◌&&◌, None, if◌then◌else◌, max, min, nat_le, nat_lt}
 use Rattle.msrp_picture.specs.Spans.{lasting}
 use Rattle.msrp_picture.specs.declared.shapes.Event.{Event}
 use Rattle.msrp_picture.specs.declared.shapes.Look.TheVariants.{Lane}
 use Rattle.msrp_picture.specs.declared.shapes.Room.{Room}
 use Rattle.msrp_picture.specs.declared.shapes.Shape.{Shape}
-use Rattle.msrp_picture.specs.declared.shapes.Shape.TheVariants.{Block, Arrow, Text}
+use Rattle.msrp_picture.specs.declared.shapes.Shape.TheVariants.{Block, Arrow}
 use Rattle.msrp_picture.specs.declared.shapes.Span.{Span}
-use Rattle.msrp_picture.specs.declared.shapes.Words.{Words}
 use Rattle.msrp_picture.specs.declared.windows.Window.{Window}
 
 -- some of the ticks from one on and up to another are drawn
@@ -25,7 +24,3 @@ met w e = if nat_le w.from e.tick && nat_le e.tick w.to then Arrow e ∷ [] else
 -- what lies under the blocks of a lane, up to a tick
 abbrev pub lane_of : Window → Room → ℕ → Shape
 lane_of w room end = Block (lasting w.from end room Lane None None)
-
--- words beside a lane, so far below its upper edge
-abbrev pub note_of : Room → ℕ → Words → Shape
-note_of room below words = Text (record { line = room.top + below; words = words })

@@ -5,9 +5,10 @@ ghost use Rattle.msrp_plan.specs.declared.rows.Row.{Row as TraceRow};
 ghost use Rattle.msrp_picture.specs.Ceilings.{ceiling_shapes, ceiling_spans, raised, told_ceiling};
 ghost use Rattle.msrp_picture.specs.Inside.Claims.{claims};
 
-use crate::places::CEILING_LINE;
+use crate::names::push_names;
+use crate::places::{CEILING_ABOVE, CEILING_LINE};
 use crate::sections::leaves;
-use crate::seen::{lane_of, note_of, push};
+use crate::seen::{lane_of, push};
 use crate::shapes::{Look, Room, Shape, Span, Words, lasting};
 use crate::stretches::push_merged;
 use crate::windows::Window;
@@ -112,7 +113,14 @@ pub(crate) fn push_ceilings(
     ensures { OnOk result (shapes.new.items ≡ shapes.old.items ++ ceiling_shapes plan.now window room core.0 log.now) }
 {
     let spans = spans_of(alloc, plan, levels, room, core, log)?;
-    push(shapes, note_of(room, CEILING_LINE, Words::Ceiling))?;
+    push_names(
+        shapes,
+        window,
+        room,
+        CEILING_LINE,
+        CEILING_ABOVE,
+        Words::Ceiling,
+    )?;
     push(shapes, lane_of(window, room, window.to as u64))?;
     push_merged(shapes, window, &spans)
 }

@@ -1,11 +1,11 @@
 //! The one writer of shapes: elements of SVG, as text.
 ghost use Rattle.std.specs.Prelude.{◌≡◌, ◌++◌, OnOk};
 ghost use Rattle.std.specs.List.{flat_map};
-ghost use Rattle.msrp_picture.specs.Elements.{arrow_text, attribute, block_head, block_text, colour, core_text, hue, level_text, look_class, note_text, shade, shape_text, words_class, words_left, words_text};
+ghost use Rattle.msrp_picture.specs.Elements.{arrow_text, attribute, block_head, block_text, colour, core_text, hue, level_text, look_class, note_text, shade, shape_text, words_class, words_text};
 
 use crate::cells::letter;
 use crate::picture::{add, add_number, res_name};
-use crate::places::{LEFT, left_of};
+use crate::places::left_of;
 use crate::shapes::{Event, Look, Note, Shape, Span, Words};
 use crate::titles::{add_event_title, add_title, add_word, moment_word, task_name};
 use crate::windows::Window;
@@ -125,19 +125,9 @@ fn words_class(words: Words) -> &'static [u8]
 {
     match words {
         Words::Tick(_) => b"tick",
-        Words::Broken(..) => b"rule",
+        Words::Broken(_) => b"rule",
         Words::Level(..) | Words::Ceiling => b"level",
         _ => b"label",
-    }
-}
-
-// Where words stand: those of a tick where it begins, and the others to the left of the lanes.
-fn words_left(window: Window, words: Words) -> u64
-    ensures { result ≡ words_left window words }
-{
-    match words {
-        Words::Tick(tick) | Words::Broken(_, tick) => left_of(window, tick),
-        _ => LEFT - 8,
     }
 }
 
@@ -168,17 +158,17 @@ fn add_words(text: &mut Vec<u8>, plan: &Plan, words: Words) -> Result<(), Memory
         Words::Ceiling => add(text, b"ceiling"),
         Words::Res(res) => add(text, res_name(plan, res)),
         Words::Tick(tick) => add_number(text, tick),
-        Words::Broken(rule, _) => add(text, rule.code()),
+        Words::Broken(rule) => add(text, rule.code()),
     }
 }
 
-fn add_note(text: &mut Vec<u8>, plan: &Plan, window: Window, note: &Note) -> Result<(), Memory>
-    ensures { OnOk result (text.new.items ≡ text.old.items ++ note_text plan.now window note.now) }
+fn add_note(text: &mut Vec<u8>, plan: &Plan, note: &Note) -> Result<(), Memory>
+    ensures { OnOk result (text.new.items ≡ text.old.items ++ note_text plan.now note.now) }
 {
     add(text, b"<text class=\"")?;
     add(text, words_class(note.words))?;
     add(text, b"\"")?;
-    add_attribute(text, b"x", words_left(window, note.words))?;
+    add_attribute(text, b"x", note.left)?;
     add_attribute(text, b"y", note.line)?;
     add(text, b">")?;
     add_words(text, plan, note.words)?;
@@ -191,7 +181,7 @@ fn add_shape(text: &mut Vec<u8>, plan: &Plan, window: Window, shape: &Shape) -> 
     match shape {
         Shape::Block(span) => add_block(text, plan, window, span),
         Shape::Arrow(event) => add_arrow(text, plan, window, event),
-        Shape::Text(note) => add_note(text, plan, window, note),
+        Shape::Text(note) => add_note(text, plan, note),
     }
 }
 

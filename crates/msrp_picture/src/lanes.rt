@@ -7,11 +7,13 @@ use crate::blocks::{Lane, Owner, push_blocks};
 use crate::ceilings::push_ceilings;
 use crate::jobs::push_jobs;
 use crate::lives::{log_of, task_rows};
+use crate::names::{note_of, push_names};
 use crate::places::{
-    AXIS_LINE, CORE_LINE, LEVEL_LINE, NAME_LINE, ceiling_room, core_room, core_top, task_room,
+    AXIS_LINE, CORE_ABOVE, CORE_LINE, LEVEL_LINE, NAME_ABOVE, NAME_LINE, ceiling_room, core_room,
+    core_top, left_of, task_room,
 };
 use crate::sections::push_sections;
-use crate::seen::{lane_of, note_of, push};
+use crate::seen::{lane_of, push};
 use crate::shapes::{Note, Room, Shape, Words};
 use crate::shown::Shown;
 use crate::windows::{Window, begun};
@@ -20,12 +22,12 @@ use msrp_plan::{CoreId, Memory, Plan, TaskId};
 use std::alloc::Global;
 
 // The number of a tick, if it is one of each fifth.
-fn push_tick(shapes: &mut Vec<Shape>, line: u64, tick: u32) -> Result<(), Memory>
-    ensures { OnOk result (shapes.new.items ≡ shapes.old.items ++ tick_note line tick) }
+fn push_tick(shapes: &mut Vec<Shape>, window: Window, line: u64, tick: u64) -> Result<(), Memory>
+    ensures { OnOk result (shapes.new.items ≡ shapes.old.items ++ tick_note window line tick) }
 {
     if tick % 5 == 0 {
-        let words = Words::Tick(tick as u64);
-        push(shapes, Shape::Text(Note { line, words }))
+        let (left, words) = (left_of(window, tick), Words::Tick(tick));
+        push(shapes, Shape::Text(Note { left, line, words }))
     } else {
         Ok(())
     }
@@ -36,7 +38,7 @@ fn push_axis(shapes: &mut Vec<Shape>, window: Window, line: u64) -> Result<(), M
     ensures { OnOk result (shapes.new.items ≡ shapes.old.items ++ axis window line) }
 {
     for place in 0..window.to - window.from {
-        push_tick(shapes, line, window.from + place)?;
+        push_tick(shapes, window, line, (window.from + place) as u64)?;
     }
     Ok(())
 }
@@ -83,7 +85,14 @@ fn push_core(
 {
     let room = core_room(plan, core);
     push_axis(shapes, window, core_top(plan, core) + AXIS_LINE)?;
-    push(shapes, note_of(room, CORE_LINE, Words::Core(core)))?;
+    push_names(
+        shapes,
+        window,
+        room,
+        CORE_LINE,
+        CORE_ABOVE,
+        Words::Core(core),
+    )?;
     push(shapes, lane_of(window, room, window.to as u64))?;
     push_rows(alloc, shapes, window, shown, Owner::Core(core), room)?;
     let log = log_of(alloc, shown.rows, core)?;
@@ -124,7 +133,14 @@ fn push_task_head(
 {
     let room = task_room(plan, task);
     let level = Words::Level(plan.core_of(task), levels.level(task));
-    push(shapes, note_of(room, NAME_LINE, Words::Task(task)))?;
+    push_names(
+        shapes,
+        window,
+        room,
+        NAME_LINE,
+        NAME_ABOVE,
+        Words::Task(task),
+    )?;
     push(shapes, note_of(room, LEVEL_LINE, level))?;
     push(shapes, lane_of(window, room, window.to as u64))
 }

@@ -16,6 +16,7 @@ pub mod laws;
 mod lines;
 mod lives;
 mod marks;
+mod names;
 mod picture;
 mod places;
 mod queue_lanes;

@@ -2,7 +2,7 @@
 ghost use Rattle.std.specs.Prelude.{◌≡◌, ◌++◌, OnOk};
 ghost use Rattle.msrp_picture.specs.Marks.{broken_shapes, drawn_mark, is_in, mark_shapes};
 
-use crate::places::row_room;
+use crate::places::{left_of, row_room};
 use crate::seen::push;
 use crate::shapes::{Look, Note, Shape, Words, lasting};
 use crate::windows::Window;
@@ -14,14 +14,21 @@ fn is_in(window: Window, row: &Row) -> bool
     window.from <= row.tick && row.tick < window.to
 }
 
-fn push_mark(shapes: &mut Vec<Shape>, plan: &Plan, rule: Rule, row: &Row) -> Result<(), Memory>
-    ensures { OnOk result (shapes.new.items ≡ shapes.old.items ++ mark_shapes plan.now rule row.now) }
+fn push_mark(
+    shapes: &mut Vec<Shape>,
+    plan: &Plan,
+    window: Window,
+    rule: Rule,
+    row: &Row,
+) -> Result<(), Memory>
+    ensures { OnOk result (shapes.new.items ≡ shapes.old.items ++ mark_shapes plan.now window rule row.now) }
 {
     let (room, tick) = (row_room(plan, row), row.tick as u64);
     let look = Look::Breaks(rule);
     let note = Note {
+        left: left_of(window, tick),
         line: room.top - 3,
-        words: Words::Broken(rule, tick),
+        words: Words::Broken(rule),
     };
     push(
         shapes,
@@ -41,7 +48,7 @@ fn push_drawn(
     ensures { OnOk result (shapes.new.items ≡ shapes.old.items ++ drawn_mark plan.now window rule row.now) }
 {
     if is_in(window, row) {
-        push_mark(shapes, plan, rule, row)
+        push_mark(shapes, plan, window, rule, row)
     } else {
         Ok(())
     }

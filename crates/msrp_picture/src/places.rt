@@ -80,6 +80,13 @@ pub const LEVEL_LINE: u64 = 28;
 
 pub const CEILING_LINE: u64 = 9;
 
+/// From the line on which the name of a lane stands again to the lane, of a core, and of its ceilings: those two stand above the axis.
+pub const NAME_ABOVE: u64 = 2;
+
+pub const CORE_ABOVE: u64 = 24;
+
+pub const CEILING_ABOVE: u64 = 28;
+
 /// How wide a tick is: as wide as lets the ticks that are drawn fill the window.
 pub(crate) fn tick_width(window: Window) -> u64
     ensures width { result ≡ tick_width window }

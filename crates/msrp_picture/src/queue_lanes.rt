@@ -3,9 +3,10 @@ ghost use Rattle.std.specs.Prelude.{◌≡◌, ◌<◌, ◌≤◌, ◌++◌, ◌
 ghost use Rattle.msrp_picture.specs.QueueLanes.{held_by, queue_shapes, queue_spans, queues_shapes};
 ghost use Rattle.msrp_picture.specs.Windows.{IsWindow};
 
-use crate::places::{NAME_LINE, queue_room};
+use crate::names::push_names;
+use crate::places::{NAME_ABOVE, NAME_LINE, queue_room};
 use crate::queues::{Standing, standings};
-use crate::seen::{lane_of, note_of, push};
+use crate::seen::{lane_of, push};
 use crate::shapes::{Look, Room, Shape, Span, Words, lasting};
 use crate::stretches::push_merged;
 use crate::windows::{Window, begun};
@@ -67,7 +68,7 @@ fn push_queue(
     let room = queue_room(plan, levels, res);
     let found = standings(alloc, plan, rows, res, window)?;
     let spans = spans_of(alloc, room, res, window.from, &found)?;
-    push(shapes, note_of(room, NAME_LINE, Words::Res(res)))?;
+    push_names(shapes, window, room, NAME_LINE, NAME_ABOVE, Words::Res(res))?;
     push(shapes, lane_of(window, room, begun(plan, rows) as u64))?;
     push_merged(shapes, window, &spans)
 }

@@ -1,8 +1,8 @@
 //! Shapes that are drawn only where they are seen in a window.
-ghost use Rattle.std.specs.Prelude.{◌≡◌, ◌∷◌, ◌++◌, ◌<◌, ◌^◌, [], OnOk};
-ghost use Rattle.msrp_picture.specs.Seen.{is_seen, lane_of, met, note_of, seen};
+ghost use Rattle.std.specs.Prelude.{◌≡◌, ◌∷◌, ◌++◌, [], OnOk};
+ghost use Rattle.msrp_picture.specs.Seen.{is_seen, lane_of, met, seen};
 
-use crate::shapes::{Event, Look, Note, Room, Shape, Span, Words, lasting};
+use crate::shapes::{Event, Look, Room, Shape, Span, lasting};
 use crate::windows::Window;
 use msrp_plan::Memory;
 
@@ -49,15 +49,4 @@ pub(crate) fn lane_of(window: Window, room: Room, end: u64) -> Shape
 {
     let first = window.from as u64;
     Shape::Block(lasting(first, end, room, Look::Lane, None, None))
-}
-
-/// Words beside a lane, so far below its upper edge.
-pub(crate) fn note_of(room: Room, below: u64, words: Words) -> Shape
-    requires { room.top < 2 ^ 42 × below < 2 ^ 40 }
-    ensures { result ≡ note_of room below words }
-{
-    Shape::Text(Note {
-        line: room.top + below,
-        words,
-    })
 }

@@ -102,13 +102,14 @@ pub enum Words {
     Res(ResId),
     /// The number of a tick.
     Tick(u64),
-    /// The rule that a row of a tick breaks.
-    Broken(Rule, u64),
+    /// The rule that a row breaks.
+    Broken(Rule),
 }
 
-/// Words, with the line that they stand on.
+/// Words, with where they stand on which line.
 #[derive(Clone, Copy, Debug, PartialEq, Eq)]
 pub struct Note {
+    pub left: u64,
     pub line: u64,
     pub words: Words,
 }

@@ -1,0 +1,26 @@
+-- The names of lanes: beside them, and in wide windows again above them, where no block lies.
+use Rattle.std.specs.Prelude.{ℕ, List, [], ◌∷◌, ◌++◌, ◌+◌, ◌-◌, ◌*◌, ◌/◌}
+use Rattle.std.specs.List.{flat_map, range_with_len}
+use Rattle.msrp_picture.specs.Places.{left_of}
+use Rattle.msrp_picture.specs.declared.names.TheConstants.{NAME_END, NAME_PITCH}
+use Rattle.msrp_picture.specs.declared.places.TheConstants.{LEFT}
+use Rattle.msrp_picture.specs.declared.shapes.Room.{Room}
+use Rattle.msrp_picture.specs.declared.shapes.Shape.{Shape}
+use Rattle.msrp_picture.specs.declared.shapes.Shape.TheVariants.{Text}
+use Rattle.msrp_picture.specs.declared.shapes.Words.{Words}
+use Rattle.msrp_picture.specs.declared.windows.Window.{Window}
+
+-- words beside a lane, so far below its upper edge
+abbrev pub note_of : Room → ℕ → Words → Shape
+note_of room below words = Text (record { left = NAME_END; line = room.top + below; words = words })
+
+-- so often names stand again: as often as that leaves as much of the lanes behind them as stands before the lanes
+abbrev pub repeats : Window → ℕ
+repeats w = (left_of w w.to - 2 * LEFT) / NAME_PITCH
+
+-- so far above the lane, and so many times as far to the right
+abbrev pub again : Room → ℕ → Words → ℕ → Shape
+again room above words n = Text (record { left = NAME_END + n * NAME_PITCH; line = room.top - above; words = words })
+
+abbrev pub names : Window → Room → ℕ → ℕ → Words → List Shape
+names w room below above words = note_of room below words ∷ [] ++ flat_map (λ i. again room above words (i + 1) ∷ []) (range_with_len 0 (repeats w))
