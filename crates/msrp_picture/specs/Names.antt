@@ -14,13 +14,14 @@ use Rattle.msrp_picture.specs.declared.windows.Window.{Window}
 abbrev pub note_of : Room → ℕ → Words → Shape
 note_of room below words = Text (record { left = NAME_END; line = room.top + below; words = words })
 
--- so often names stand again: as often as that leaves as much of the lanes behind them as stands before the lanes
+-- how often names stand again: each time as much of the lanes follows as the first names have room
 abbrev pub repeats : Window → ℕ
 repeats w = (left_of w w.to - 2 * LEFT) / NAME_PITCH
 
--- so far above the lane, and so many times as far to the right
+-- a name so many pitches behind the first, so far above the lane
 abbrev pub again : Room → ℕ → Words → ℕ → Shape
 again room above words n = Text (record { left = NAME_END + n * NAME_PITCH; line = room.top - above; words = words })
 
+-- the name of a lane: beside it, and then above it
 abbrev pub names : Window → Room → ℕ → ℕ → Words → List Shape
 names w room below above words = note_of room below words ∷ [] ++ flat_map (λ i. again room above words (i + 1) ∷ []) (range_with_len 0 (repeats w))

@@ -8,13 +8,13 @@ use crate::shapes::{Note, Room, Shape, Words};
 use crate::windows::Window;
 use msrp_plan::Memory;
 
-/// Where the names beside the lanes end.
+/// Where the names beside the lanes end, on the right.
 pub const NAME_END: u64 = LEFT - 8;
 
-/// From where names end to where they end again.
+/// From where names end to where they stand again.
 pub const NAME_PITCH: u64 = 1000;
 
-// So often names stand again: as often as that leaves as much of the lanes behind them as stands before the lanes.
+// How often names stand again: each time as much of the lanes follows as the first names have room.
 fn repeats(window: Window) -> u64
     ensures count { result ≡ repeats window }
     ensures small { result < 2 ^ 40 }
@@ -34,13 +34,13 @@ pub(crate) fn note_of(room: Room, below: u64, words: Words) -> Shape
     })
 }
 
-// A name that stands again for this time, so far above the lane.
-fn again(room: Room, above: u64, words: Words, time: u64) -> Shape
-    requires { time < 2 ^ 42 }
-    ensures { result ≡ again room above words time }
+// A name so many pitches behind the first, so far above the lane.
+fn again(room: Room, above: u64, words: Words, pitches: u64) -> Shape
+    requires { pitches < 2 ^ 42 }
+    ensures { result ≡ again room above words pitches }
 {
     Shape::Text(Note {
-        left: NAME_END + time * NAME_PITCH,
+        left: NAME_END + pitches * NAME_PITCH,
         line: room.top.saturating_sub(above),
         words,
     })

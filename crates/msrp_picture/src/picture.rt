@@ -4,7 +4,7 @@ ghost use Rattle.std.specs.List.{flat_map, range_with_len};
 ghost use Rattle.msrp_plan.specs.Words.{verdict_text};
 ghost use Rattle.msrp_picture.specs.Inside.Drawings.{drawn_text};
 ghost use Rattle.msrp_picture.specs.Lines.{name_of};
-ghost use Rattle.msrp_picture.specs.Picture.{drawn_picture, fault_place, label, legend_text, picture_text, signs_text, spaces, task_text, window_text};
+ghost use Rattle.msrp_picture.specs.Picture.{drawn_picture, fault_place, label, legend_text, signs_text, spaces, task_text, window_text};
 ghost use Rattle.msrp_picture.specs.Windows.{IsWindow, parts};
 
 use crate::cells::{Aspect, letter};
@@ -13,7 +13,7 @@ use crate::shown::Shown;
 use crate::windows::{LINE_TICKS, Window, due_in};
 use itoa::Buffer;
 use msrp_plan::bytes::Sink;
-use msrp_plan::{Fault, Memory, Plan, ResId, Row, TaskId};
+use msrp_plan::{Fault, Memory, Plan, ResId, TaskId};
 use std::alloc::Global;
 
 // As many as a label is filled up to.
@@ -205,8 +205,8 @@ fn add_legend(text: &mut Vec<u8>, plan: &Plan) -> Result<(), Memory>
     add(text, signs())
 }
 
-// A picture of these ticks of what is shown of a trace of the plan.
-fn picture_of(
+/// A picture of these ticks of what is shown of a trace of the plan.
+pub(crate) fn picture(
     alloc: Global,
     plan: &Plan,
     shown: &Shown<'_>,
@@ -221,19 +221,4 @@ fn picture_of(
     add_parts(&mut text, plan, &drawn, window)?;
     add_legend(&mut text, plan)?;
     Ok(text)
-}
-
-/// A picture of these ticks of rows of the plan, on which that is the verdict.
-pub(crate) fn picture(
-    alloc: Global,
-    plan: &Plan,
-    rows: &[Row],
-    found: Result<(), Fault>,
-    window: Window,
-) -> Result<Vec<u8>, Memory>
-    requires { IsWindow window }
-    ensures { IfOk result (λ text. text.items ≡ picture_text plan.now rows.now found window) }
-{
-    let shown = Shown::of(rows, found);
-    picture_of(alloc, plan, &shown, window)
 }

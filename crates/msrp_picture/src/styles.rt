@@ -4,7 +4,8 @@ ghost use Rattle.msrp_picture.specs.Styles.{drawing};
 ghost use Rattle.msrp_picture.specs.Windows.{IsWindow};
 
 use crate::picture::picture;
-use crate::svg::svg;
+use crate::shown::Shown;
+use crate::svg::{svg, svg_window};
 use crate::windows::{Asked, Style, Window, shown_window};
 use msrp_plan::{Fault, Memory, Plan, Row};
 use std::alloc::Global;
@@ -23,8 +24,9 @@ pub fn draw(
     ensures { IfOk result (λ text. text.items ≡ drawing asked plan.now rows.now found window) }
 {
     let window = shown_window(plan, asked, window, found);
+    let shown = Shown::of(rows, found);
     match asked.style {
-        Style::Text => picture(alloc, plan, rows, found, window),
-        Style::Svg => svg(alloc, plan, rows, found, window),
+        Style::Text => picture(alloc, plan, &shown, window),
+        Style::Svg => svg(alloc, plan, &shown, svg_window(plan, rows, found, window)),
     }
 }

@@ -1,6 +1,6 @@
 //! A picture of a trace in SVG.
 ghost use Rattle.std.specs.Prelude.{◌≡◌, ◌++◌, IfOk, OnOk};
-ghost use Rattle.msrp_picture.specs.Svg.{caption_text, drawn_shapes, drawn_svg, head_text, picture_width, size_text, style_text, svg_text, svg_window};
+ghost use Rattle.msrp_picture.specs.Svg.{caption_text, drawn_shapes, drawn_svg, head_text, picture_width, size_text, style_text, svg_window};
 ghost use Rattle.msrp_picture.specs.Windows.{IsWindow};
 
 use crate::elements::{add_attribute, add_shapes};
@@ -106,8 +106,13 @@ fn shapes_of(
     Ok(shapes)
 }
 
-// A picture of these ticks of what is shown of a trace of the plan.
-fn svg_of(alloc: Global, plan: &Plan, shown: &Shown<'_>, window: Window) -> Result<Vec<u8>, Memory>
+/// A picture in SVG of these ticks of what is shown of a trace of the plan.
+pub(crate) fn svg(
+    alloc: Global,
+    plan: &Plan,
+    shown: &Shown<'_>,
+    window: Window,
+) -> Result<Vec<u8>, Memory>
     requires { IsWindow window }
     ensures { IfOk result (λ text. text.items ≡ drawn_svg plan.now shown.now.rows.now shown.now.later.now shown.now.broken shown.now.found window) }
 {
@@ -121,8 +126,13 @@ fn svg_of(alloc: Global, plan: &Plan, shown: &Shown<'_>, window: Window) -> Resu
     Ok(text)
 }
 
-// The ticks of a window of which some are to be seen: where a rule is broken, none behind the last row.
-fn svg_window(plan: &Plan, rows: &[Row], found: Result<(), Fault>, window: Window) -> Window
+/// The ticks of a window of which some are to be seen: where a rule is broken, none behind the last row.
+pub(crate) fn svg_window(
+    plan: &Plan,
+    rows: &[Row],
+    found: Result<(), Fault>,
+    window: Window,
+) -> Window
     requires { IsWindow window }
     ensures window { result ≡ svg_window plan.now rows.now found window }
     ensures some { IsWindow result }
@@ -137,19 +147,4 @@ fn svg_window(plan: &Plan, rows: &[Row], found: Result<(), Fault>, window: Windo
             }
         }
     }
-}
-
-/// A picture in SVG of these ticks of rows of the plan, on which that is the verdict.
-pub(crate) fn svg(
-    alloc: Global,
-    plan: &Plan,
-    rows: &[Row],
-    found: Result<(), Fault>,
-    window: Window,
-) -> Result<Vec<u8>, Memory>
-    requires { IsWindow window }
-    ensures { IfOk result (λ text. text.items ≡ svg_text plan.now rows.now found window) }
-{
-    let shown = Shown::of(rows, found);
-    svg_of(alloc, plan, &shown, svg_window(plan, rows, found, window))
 }
