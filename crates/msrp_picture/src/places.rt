@@ -81,7 +81,7 @@ pub const LEVEL_LINE: u64 = 28;
 pub const CEILING_LINE: u64 = 9;
 
 /// From the line on which the name of a lane stands again to the lane, of a core, and of its ceilings: those two stand above the axis.
-pub const NAME_ABOVE: u64 = 2;
+pub const NAME_ABOVE: u64 = 1;
 
 pub const CORE_ABOVE: u64 = 24;
 
