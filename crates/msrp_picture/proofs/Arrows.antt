@@ -22,7 +22,7 @@ use Rattle.msrp_picture.specs.Lanes.{axis, core_shapes, cores_shapes, rows_shape
 use Rattle.msrp_picture.specs.Laws.{OneArrowForEachRelease, is_release_of}
 use Rattle.msrp_picture.specs.Lines.{global_resources}
 use Rattle.msrp_picture.specs.Lives.{life_of}
-use Rattle.msrp_picture.specs.Marks.{broken_shapes, is_in, mark_shapes}
+use Rattle.msrp_picture.specs.Marks.{broken_shapes, mark_shapes}
 use Rattle.msrp_picture.specs.Names.{again, names, note_of, repeats}
 use Rattle.msrp_picture.specs.Places.{ceiling_room, core_room, core_top, left_of, queue_room, task_room}
 use Rattle.msrp_picture.specs.QueueLanes.{queue_shapes, queue_spans, queues_shapes}
@@ -165,7 +165,7 @@ no-queue plan j w rows g =
 no-mark : (plan : PlanModel) (j : JobId) (w : Window) (broken : Option Row) (found : Result ⊤ Fault) → count_by (is_release_of plan j) (broken_shapes plan w broken found) ≡ 0
 no-mark plan j w broken (Ok good) = refl
 no-mark plan j w None (Err fault) = refl
-no-mark plan j w (Some r) (Err fault) = by_test (is_in w r)
+no-mark plan j w (Some r) (Err fault) = by_test (is_seen w r.tick (r.tick + 1))
   where
     by_test : (b : Bool) → count_by (is_release_of plan j) (cond b (mark_shapes plan w fault.rule r) []) ≡ 0
     by_test true = refl

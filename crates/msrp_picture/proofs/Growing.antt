@@ -1,5 +1,5 @@
 -- Lists that grow part by part.
-use Rattle.std.proofs.Common.{◌≡◌, ℕ, ◌+◌, Bool, true, false, cond, List, [], ◌∷◌, ◌++◌, Result, Ok, Err, OnOk, refl, ap, sym, ◌∙◌, append_assoc, append-nil, length, length-append, arith, map, ◌-◌, ◌≤◌}
+use Rattle.std.proofs.Common.{◌≡◌, ℕ, ◌+◌, Bool, true, false, cond, List, [], ◌∷◌, ◌++◌, Result, Ok, Err, OnOk, refl, ap, sym, ◌∙◌, append_assoc, append-nil, arith, map, ◌-◌, ◌≤◌}
 use Rattle.std.specs.Prelude.{⊤}
 use Rattle.std.specs.List.{filter, flat_map, range_with_len}
 use Rattle.std.proofs.lemmas.Grind.{flat_map-append}
@@ -36,19 +36,6 @@ pub grows-some : {X : Type 0} (p : ℕ → Bool) (f : ℕ → List X) (n : ℕ) 
 grows-some p f n a b c e h =
     let whole = ap (flat_map f) (some-more p n) ∙ (flat_map-append f (filter p (range_with_len 0 n)) (cond (p n) (n ∷ []) []) ∙ ap (λ t. flat_map f (filter p (range_with_len 0 n)) ++ t) (chosen f n (p n))) in
     grows a b c _ _ e h ∙ ap (λ t. a ++ t) (sym whole)
-
--- so many pass a test, with one number more
-one-counted : (n : ℕ) (b : Bool) → length (cond b (n ∷ []) []) ≡ cond b 1 0
-one-counted n true = refl
-one-counted n false = refl
-
-pub counts-some : (p : ℕ → Bool) (n : ℕ) → length (filter p (range_with_len 0 (n + 1))) ≡ length (filter p (range_with_len 0 n)) + cond (p n) 1 0
-counts-some p n = ap length (some-more p n) ∙ (length-append (filter p (range_with_len 0 n)) (cond (p n) (n ∷ []) []) ∙ ap (λ k. length (filter p (range_with_len 0 n)) + k) (one-counted n (p n)))
-
--- one more at most is counted
-pub counts-within : (k n : ℕ) (b : Bool) → k ≤ n → k + cond b 1 0 ≤ n + 1
-counts-within k n true l = omega arith
-counts-within k n false l = omega arith
 
 -- by the image of one number more
 one-more : (a t : ℕ) → a ≤ t → t + 1 - a ≡ (t - a) + 1

@@ -49,8 +49,3 @@ apart n a r ticks out = others-same (is_among ticks) (is_among (ticks ++ r ∷ [
 -- and sets its own
 pub set_mark : (i n a r : ℕ) (ticks : List ℕ) → a + i ≡ r → i < n → slice_set (map (is_among ticks) (range_with_len a n)) i true ≡ map (is_among (ticks ++ r ∷ [])) (range_with_len a n)
 set_mark i n a r ticks e l = one-set (is_among ticks) (is_among (ticks ++ r ∷ [])) i n a r true (λ t ne. sym (other ticks r t ne)) (sym (same ticks r)) e l
-
--- no mark is set where there is no tick
-pub unmarked : (n a : ℕ) → map (is_among []) (range_with_len a n) ≡ map (λ _. false) (range_with_len a n)
-unmarked zero a = refl
-unmarked (suc n) a = ap (λ bs. false ∷ bs) (unmarked n (a + 1))

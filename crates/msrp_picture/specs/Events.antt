@@ -1,6 +1,6 @@
 -- The releases and the absolute deadlines of a core's jobs: a sign for each tick that is drawn.
 use Rattle.std.specs.Prelude.{ℕ, List, Bool, true, false, ◌==◌, codes, map, ◌-◌}
-use Rattle.std.specs.List.{list_any, range_with_len}
+use Rattle.std.specs.List.{list_any, range_with_len, zip}
 use Rattle.msrp_plan.specs.Jobs.{jobs_on}
 use Rattle.msrp_plan.specs.Plan.{PlanModel, key, release}
 use Rattle.msrp_plan.specs.declared.ids.JobId.{JobId}
@@ -31,4 +31,4 @@ event_cell false false = nothing
 
 -- a cell for each of these ticks
 abbrev pub event_cells : PlanModel → Window → ℕ → List ℕ
-event_cells plan w c = map (λ t. event_cell (list_any (λ e. e == t) (moment_ticks plan c Release)) (list_any (λ e. e == t) (moment_ticks plan c Deadline))) (range_with_len w.from (w.to - w.from))
+event_cells plan w c = map (λ has. event_cell has.0 has.1) (zip (are_in w (moment_ticks plan c Release)) (are_in w (moment_ticks plan c Deadline)))

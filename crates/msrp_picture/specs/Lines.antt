@@ -1,5 +1,5 @@
 -- The lines of a picture: each has a label, and a cell for each tick that is drawn.
-use Rattle.std.specs.Prelude.{ℕ, List, [], ◌∷◌, ◌++◌, ◌&&◌, Option, Some, None, if◌then◌else◌, codes, decimal, filter, is_some, length, map, slice_index_or, ◌-◌, ◌%◌}
+use Rattle.std.specs.Prelude.{ℕ, List, [], ◌∷◌, ◌++◌, ◌&&◌, Option, Some, None, if◌then◌else◌, codes, decimal, filter, is_some, length, map, replicate, slice_index_or, ◌-◌, ◌%◌}
 use Rattle.std.specs.List.{cons_option, flat_map, range_with_len}
 use Rattle.msrp_plan.specs.Levels.{is_global}
 use Rattle.msrp_plan.specs.Logs.{is_of, log_of}
@@ -55,7 +55,7 @@ row_cells aspect before (r ∷ rows) = row_cell aspect before r ∷ row_cells as
 
 -- a mark below the last of them
 abbrev pub mark_cells : List Row → List ℕ
-mark_cells rows = map (λ _. no_mark) (range_with_len 0 (length rows - 1)) ++ mark ∷ []
+mark_cells rows = replicate (length rows - 1) no_mark ++ mark ∷ []
 
 -- a resource: how its queue stands after each of these ticks, as far as rows stand
 abbrev pub queue_cells : PlanModel → List Row → Window → ℕ → Aspect → List ℕ

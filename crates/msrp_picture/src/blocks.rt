@@ -1,8 +1,8 @@
 //! Blocks: the stretches of rows in which one job has the turn of a core, or does the same.
-ghost use Rattle.std.specs.Prelude.{◌≡◌, ◌++◌, [], filter_map, IfOk, OnOk};
-ghost use Rattle.std.specs.List.{cons_option};
+ghost use Rattle.std.specs.Prelude.{◌≡◌, ◌++◌, filter_map, IfOk, OnOk};
 ghost use Rattle.msrp_picture.specs.Blocks.{blocks, look_of, res_of, span_of};
 
+use crate::gathering::gathered;
 use crate::lives::is_job_of;
 use crate::shapes::{Look, Room, Shape, Span, lasting};
 use crate::stretches::push_merged;
@@ -63,23 +63,11 @@ fn span_of(lane: Lane, row: &Row) -> Option<Span>
     }
 }
 
-fn push_some(spans: &mut Vec<Span>, span: Option<Span>) -> Result<(), Memory>
-    ensures { OnOk result (spans.new.items ≡ spans.old.items ++ cons_option span []) }
-{
-    if let Some(span) = span {
-        spans.push(span)?;
-    }
-    Ok(())
-}
-
 fn spans_of(alloc: Global, lane: Lane, rows: &[Row]) -> Result<Vec<Span>, Memory>
     ensures { IfOk result (λ spans. spans.items ≡ filter_map (span_of lane) rows.now) }
 {
-    let mut spans = Vec::new(alloc);
-    for row in rows {
-        push_some(&mut spans, span_of(lane, row))?;
-    }
-    Ok(spans)
+    let spans = rows.iter().filter_map(|row| span_of(lane, row));
+    gathered(spans, alloc)
 }
 
 /// Adds the blocks of rows in a lane.

@@ -1,10 +1,11 @@
 //! The ceiling of a core after each of its ticks, as the core's rows tell it.
-ghost use Rattle.std.specs.Prelude.{◌≡◌, ◌<◌, ◌-◌, ◌^◌, ◌∷◌, ◌++◌, [], ℕ, List, length, max, IfOk, OnOk};
+ghost use Rattle.std.specs.Prelude.{◌≡◌, ◌<◌, ◌-◌, ◌^◌, ◌∷◌, ◌++◌, [], List, length, max, IfOk, OnOk};
 ghost use Rattle.msrp_plan.specs.Plan.{PlanModel};
 ghost use Rattle.msrp_plan.specs.declared.rows.Row.{Row as TraceRow};
 ghost use Rattle.msrp_picture.specs.Ceilings.{ceiling_shapes, ceiling_spans, raised, told_ceiling};
 ghost use Rattle.msrp_picture.specs.Inside.Claims.{claims};
 
+use crate::gathering::gathered;
 use crate::names::push_names;
 use crate::places::{CEILING_ABOVE, CEILING_LINE};
 use crate::sections::leaves;
@@ -20,11 +21,7 @@ use std::alloc::Global;
 fn no_claims(alloc: Global, plan: &Plan) -> Result<Vec<bool>, Memory>
     ensures { IfOk result (λ kept. kept.items ≡ claims plan.now []) }
 {
-    let mut kept = Vec::new(alloc);
-    for _ in 0..plan.resources() {
-        kept.push(false)?;
-    }
-    Ok(kept)
+    gathered((0..plan.resources()).map(|_| false), alloc)
 }
 
 // Keeps of the resource of a row whether the row claims it or gives it back.

@@ -5,6 +5,7 @@ ghost use Rattle.msrp_plan.specs.Plan.{release_tick, task_at};
 ghost use Rattle.msrp_picture.specs.Events.{are_in, event_cell, event_cells, moment_ticks, tick_of};
 ghost use Rattle.msrp_picture.specs.Windows.{IsWindow};
 
+use crate::gathering::gathered;
 use crate::shapes::Moment;
 use crate::windows::Window;
 use msrp_plan::{CoreId, JobId, Memory, Plan, TaskId};
@@ -64,11 +65,7 @@ fn no_marks(alloc: Global, window: Window) -> Result<Vec<bool>, Memory>
     requires { IsWindow window }
     ensures { IfOk result (λ marks. marks.items ≡ are_in window []) }
 {
-    let mut marks = Vec::new(alloc);
-    for _ in window.from..window.to {
-        marks.push(false)?;
-    }
-    Ok(marks)
+    gathered((window.from..window.to).map(|_| false), alloc)
 }
 
 // Of each tick that is drawn, whether a job of the core has this in it.
@@ -112,10 +109,7 @@ pub(crate) fn event_cells(
 {
     let releases = marks_of(alloc, plan, window, Moment::Release, core)?;
     let deadlines = marks_of(alloc, plan, window, Moment::Deadline, core)?;
-    let mut cells = Vec::new(alloc);
-    for tick in window.from..window.to {
-        let place = (tick - window.from) as usize;
-        cells.push(event_cell(releases[place], deadlines[place]))?;
-    }
-    Ok(cells)
+    let both = releases.iter().zip(deadlines.iter());
+    let cells = both.map(|(released, due)| event_cell(*released, *due));
+    gathered(cells, alloc)
 }

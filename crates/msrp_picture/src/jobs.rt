@@ -1,6 +1,5 @@
 //! What is drawn of each job: the line of its life, red behind its absolute deadline, and arrows at its release and its deadline.
-ghost use Rattle.std.specs.Prelude.{◌≡◌, ◌<◌, ◌++◌, ◌^◌, length, IsSome, OnOk};
-ghost use Rattle.msrp_plan.specs.Plan.{release_tick};
+ghost use Rattle.std.specs.Prelude.{◌≡◌, ◌<◌, ◌++◌, ◌^◌, length, OnOk};
 ghost use Rattle.msrp_picture.specs.Inside.TaskRows.{task_rows};
 ghost use Rattle.msrp_picture.specs.Jobs.{event_of, late_span, life_shapes, life_span, task_jobs};
 

@@ -1,7 +1,7 @@
 //! A trace of a plan as a picture, in text or in SVG.
 //!
 //! A plan, rows and the verdict on them in, and a text out ([`draw`]): `lines` and `picture` draw in text, and `svg` in SVG:
-//! there `lanes`, `blocks`, `ceilings`, `jobs`, `sections`, `queue_lanes` and `marks` say which `shapes` there are, and `elements` writes each. [`laws`] are theorems about
+//! there `lanes`, `names`, `blocks`, `ceilings`, `jobs`, `sections`, `queue_lanes` and `marks` say which `shapes` there are, and `elements` writes each. [`laws`] are theorems about
 //! that list.
 #![tactic(auto)]
 
@@ -10,6 +10,7 @@ mod ceilings;
 mod cells;
 mod elements;
 mod events;
+mod gathering;
 mod jobs;
 mod lanes;
 pub mod laws;

@@ -3,13 +3,13 @@ ghost use Rattle.std.specs.Prelude.{◌≡◌, ◌++◌, None, length, map, IfOk
 ghost use Rattle.std.specs.List.{AllByRecursion, flat_map, range_with_len};
 ghost use Rattle.msrp_picture.specs.Inside.Drawings.{IsDrawn, line_of};
 ghost use Rattle.msrp_picture.specs.Lines.{broken_on, cells, core_lines, core_rows, global_resources, lines_of, mark_cells, queue_cells, queue_lines, row_cells, tick_cells};
-ghost use Rattle.msrp_picture.specs.Cells.{standing_cell};
 ghost use Rattle.msrp_picture.specs.Windows.{IsWindow};
 
 use crate::cells::{Aspect, mark, no_mark, row_cell, standing_cell, tick_cell};
 use crate::events::event_cells;
+use crate::gathering::gathered;
 use crate::lives::log_of;
-use crate::queues::{Standing, standings};
+use crate::queues::standings;
 use crate::shown::Shown;
 use crate::windows::{LINE_TICKS, Window, rows_between};
 use msrp_levels::Levels;
@@ -118,12 +118,11 @@ fn tick_cells(alloc: Global, window: Window) -> Result<Vec<u8>, Memory>
     requires { IsWindow window }
     ensures { IfOk result (λ cells. cells.items ≡ tick_cells window) }
 {
-    let mut cells = Vec::new(alloc);
-    for tick in window.from..window.to {
-        let start = tick - (tick - window.from) % LINE_TICKS;
-        cells.push(tick_cell(start, tick))?;
-    }
-    Ok(cells)
+    let cells = (window.from..window.to).map(|tick| {
+        let place = tick.saturating_sub(window.from) % LINE_TICKS;
+        tick_cell(tick.saturating_sub(place), tick)
+    });
+    gathered(cells, alloc)
 }
 
 // The rows of a core in these ticks, in their order, and the row that breaks a rule.
@@ -162,21 +161,8 @@ fn row_cells(alloc: Global, rows: &[Row], aspect: Aspect) -> Result<Vec<u8>, Mem
 fn mark_cells(alloc: Global, rows: &[Row]) -> Result<Vec<u8>, Memory>
     ensures { IfOk result (λ cells. cells.items ≡ mark_cells rows.now) }
 {
-    let mut cells = Vec::new(alloc);
-    for _ in 0..rows.len().saturating_sub(1) {
-        cells.push(no_mark())?;
-    }
+    let mut cells = vec![in alloc; no_mark(); rows.len().saturating_sub(1)]?;
     cells.push(mark())?;
-    Ok(cells)
-}
-
-fn standing_cells(alloc: Global, standings: &[Standing], aspect: Aspect) -> Result<Vec<u8>, Memory>
-    ensures { IfOk result (λ cells. cells.items ≡ map (standing_cell aspect) standings.now) }
-{
-    let mut cells = Vec::new(alloc);
-    for standing in standings {
-        cells.push(standing_cell(aspect, standing))?;
-    }
     Ok(cells)
 }
 
@@ -193,7 +179,8 @@ fn queue_cells(
     ensures { IfOk result (λ cells. cells.items ≡ queue_cells plan.now rows.now window res.0 aspect) }
 {
     let standings = standings(alloc, plan, rows, res, window)?;
-    standing_cells(alloc, &standings, aspect)
+    let cells = standings.iter().map(|one| standing_cell(aspect, one));
+    gathered(cells, alloc)
 }
 
 /// The cells of a line.

@@ -7,6 +7,7 @@ ghost use Rattle.msrp_picture.specs.Inside.TaskRows.{is_job_of, task_rows};
 ghost use Rattle.msrp_picture.specs.Lives.{after_last, life_of};
 ghost use Rattle.msrp_picture.specs.Windows.{begun};
 
+use crate::gathering::gathered;
 use crate::windows::begun;
 use msrp_plan::{CoreId, JobId, Kind, Memory, Plan, Row, TaskId};
 use std::alloc::Global;
@@ -35,26 +36,16 @@ pub(crate) fn is_job_of(task: TaskId, job: Option<JobId>) -> bool
 pub(crate) fn task_rows(alloc: Global, rows: &[Row], task: TaskId) -> Result<Vec<Row>, Memory>
     ensures { IfOk result (λ found. found.items ≡ task_rows task.0 rows.now) }
 {
-    let mut found = Vec::new(alloc);
-    for row in rows {
-        if is_job_of(task, row.job) {
-            found.push(*row)?;
-        }
-    }
-    Ok(found)
+    let own = rows.iter().copied().filter(|row| is_job_of(task, row.job));
+    gathered(own, alloc)
 }
 
 /// The rows of a core, in their order.
 pub(crate) fn log_of(alloc: Global, rows: &[Row], core: CoreId) -> Result<Vec<Row>, Memory>
     ensures { IfOk result (λ log. log.items ≡ log_of core.0 rows.now) }
 {
-    let mut log = Vec::new(alloc);
-    for row in rows {
-        if row.core == core {
-            log.push(*row)?;
-        }
-    }
-    Ok(log)
+    let log = rows.iter().copied().filter(|row| row.core == core);
+    gathered(log, alloc)
 }
 
 fn is_row_of(job: JobId, row: &Row) -> bool
@@ -81,13 +72,8 @@ fn done(job: JobId, rows: &[Row]) -> usize
 fn after_last(job: JobId, rows: &[Row]) -> u64
     ensures { result ≡ after_last job rows.now }
 {
-    let mut end = 0;
-    for row in rows {
-        if is_row_of(job, row) {
-            end = row.tick as u64 + 1;
-        }
-    }
-    end
+    let own = rows.iter().filter(|row| is_row_of(job, row));
+    own.fold(0, |_, row| row.tick as u64 + 1)
 }
 
 // Where a job ends: behind its last row if it is finished, and else where the rows end.

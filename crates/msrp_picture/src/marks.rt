@@ -1,18 +1,12 @@
 //! The frame of the row that breaks a rule, with the rule's name.
 ghost use Rattle.std.specs.Prelude.{◌≡◌, ◌++◌, OnOk};
-ghost use Rattle.msrp_picture.specs.Marks.{broken_shapes, drawn_mark, is_in, mark_shapes};
+ghost use Rattle.msrp_picture.specs.Marks.{broken_shapes, drawn_mark, mark_shapes};
 
 use crate::places::{left_of, row_room};
-use crate::seen::push;
+use crate::seen::{is_seen, push};
 use crate::shapes::{Look, Note, Shape, Words, lasting};
 use crate::windows::Window;
 use msrp_plan::{Fault, Memory, Plan, Row, Rule};
-
-fn is_in(window: Window, row: &Row) -> bool
-    ensures { result ≡ is_in window row.now }
-{
-    window.from <= row.tick && row.tick < window.to
-}
 
 fn push_mark(
     shapes: &mut Vec<Shape>,
@@ -47,7 +41,8 @@ fn push_drawn(
 ) -> Result<(), Memory>
     ensures { OnOk result (shapes.new.items ≡ shapes.old.items ++ drawn_mark plan.now window rule row.now) }
 {
-    if is_in(window, row) {
+    let tick = row.tick as u64;
+    if is_seen(window, tick, tick + 1) {
         push_mark(shapes, plan, window, rule, row)
     } else {
         Ok(())
@@ -64,11 +59,8 @@ pub(crate) fn push_broken(
 ) -> Result<(), Memory>
     ensures { OnOk result (shapes.new.items ≡ shapes.old.items ++ broken_shapes plan.now window broken found) }
 {
-    match found {
-        Ok(()) => Ok(()),
-        Err(fault) => match broken {
-            Some(row) => push_drawn(shapes, plan, window, fault.rule, &row),
-            None => Ok(()),
-        },
+    match (found, broken) {
+        (Err(fault), Some(row)) => push_drawn(shapes, plan, window, fault.rule, &row),
+        _ => Ok(()),
     }
 }

@@ -1,6 +1,5 @@
 //! Places in a picture in SVG, in its units.
-ghost use Rattle.std.specs.Prelude.{◌≡◌, ℕ, ◌<◌, ◌≤◌, ◌*◌, ◌^◌, if◌then◌else◌, filter, length};
-ghost use Rattle.std.specs.List.{range_with_len};
+ghost use Rattle.std.specs.Prelude.{◌≡◌, ℕ, ◌<◌, ◌≤◌, ◌*◌, ◌^◌, length};
 ghost use Rattle.msrp_picture.specs.Lines.{global_resources};
 ghost use Rattle.msrp_picture.specs.Places.{bottom, ceiling_room, core_room, core_top, is_above, left_of, queue_room, row_room, section_height, task_room, tasks_above, tick_width};
 
@@ -116,22 +115,13 @@ pub(crate) fn section_height(levels: u64) -> u64
     SECTION_ROOM / SECTION_LEVELS.max(levels)
 }
 
-fn counted(is: bool) -> u32
-    ensures { result ≡ (if is then 1 else 0) }
-{
-    if is { 1 } else { 0 }
-}
-
 // So many of the resources below a number are global.
 fn globals_below(levels: &Levels<'_>, end: u32) -> u32
     requires { end ≤ length levels.now.resources }
     ensures { result ≡ length (global_resources levels.now end) }
 {
-    let mut count = 0;
-    for res in 0..end {
-        count += counted(levels.is_global(ResId(res)));
-    }
-    count
+    let global = (0..end).filter(|res| levels.is_global(ResId(*res)));
+    global.count() as u32
 }
 
 // Whether the lane of a task lies above the lane that this one of a core has or would have.
@@ -147,11 +137,8 @@ fn is_above(plan: &Plan, core: CoreId, task: TaskId, other: TaskId) -> bool
 fn tasks_above(plan: &Plan, core: CoreId, task: TaskId) -> u32
     ensures { result ≡ tasks_above plan.now core.0 task.0 }
 {
-    let mut count = 0;
-    for other in 0..plan.tasks() {
-        count += counted(is_above(plan, core, task, TaskId(other)));
-    }
-    count
+    let above = (0..plan.tasks()).filter(|other| is_above(plan, core, task, TaskId(*other)));
+    above.count() as u32
 }
 
 /// Where a core begins: below those before it and their tasks.
@@ -210,26 +197,16 @@ pub(crate) fn row_room(plan: &Plan, row: &Row) -> Room
     }
 }
 
-// Where the lane of a resource begins, below those of the cores and of the global resources before it.
-fn queue_top(plan: &Plan, levels: &Levels<'_>, res: u32) -> u64
-    requires levels { levels.now ≡ plan.now }
-    requires res { res ≤ length plan.now.resources }
-    ensures top { result ≡ (queue_room plan.now res).top }
-    ensures small { result < 2 ^ 42 }
-{
-    let cores = core_top(plan, CoreId(plan.cores()));
-    cores + QUEUE_HEAD + globals_below(levels, res) as u64 * QUEUE_PITCH
-}
-
-/// The lane of a resource.
+/// The lane of a resource, below those of the cores and of the global resources before it.
 pub(crate) fn queue_room(plan: &Plan, levels: &Levels<'_>, res: ResId) -> Room
     requires levels { levels.now ≡ plan.now }
     requires res { res.0 ≤ length plan.now.resources }
     ensures room { result ≡ queue_room plan.now res.0 }
     ensures small { result.top < 2 ^ 42 }
 {
+    let cores = core_top(plan, CoreId(plan.cores()));
     Room {
-        top: queue_top(plan, levels, res.0),
+        top: cores + QUEUE_HEAD + globals_below(levels, res.0) as u64 * QUEUE_PITCH,
         height: QUEUE_HEIGHT,
     }
 }
@@ -239,5 +216,5 @@ pub(crate) fn bottom(plan: &Plan, levels: &Levels<'_>) -> u64
     requires { levels.now ≡ plan.now }
     ensures { result ≡ bottom plan.now }
 {
-    queue_top(plan, levels, plan.resources()) + QUEUE_HEAD
+    queue_room(plan, levels, ResId(plan.resources())).top + QUEUE_HEAD
 }

@@ -1,8 +1,9 @@
 //! A lane for each global resource, with who is first in its queue and how many wait behind.
 ghost use Rattle.std.specs.Prelude.{◌≡◌, ◌<◌, ◌≤◌, ◌++◌, ◌+◌, ◌^◌, length, IfOk, OnOk};
-ghost use Rattle.msrp_picture.specs.QueueLanes.{held_by, queue_shapes, queue_spans, queues_shapes};
+ghost use Rattle.msrp_picture.specs.QueueLanes.{held, queue_shapes, queue_spans, queues_shapes};
 ghost use Rattle.msrp_picture.specs.Windows.{IsWindow};
 
+use crate::gathering::gathered;
 use crate::names::push_names;
 use crate::places::{NAME_ABOVE, NAME_LINE, queue_room};
 use crate::queues::{Standing, standings};
@@ -14,22 +15,14 @@ use msrp_levels::Levels;
 use msrp_plan::{Memory, Plan, ResId, Row};
 use std::alloc::Global;
 
-// A tick after which the queue of a resource stands so, if someone is first in it.
-fn push_held(
-    spans: &mut Vec<Span>,
-    room: Room,
-    res: ResId,
-    tick: u64,
-    standing: Standing,
-) -> Result<(), Memory>
+// The tick after which the queue of a resource stands so, if someone is first in it.
+fn held(room: Room, res: ResId, tick: u64, standing: &Standing) -> Option<Span>
     requires { tick ≤ 2 ^ 32 }
-    ensures { OnOk result (spans.new.items ≡ spans.old.items ++ held_by room res tick standing standing.first) }
+    ensures { result ≡ held room res tick standing.now }
 {
-    if standing.first.is_some() {
-        let look = Look::First(standing.behind as u64);
-        spans.push(lasting(tick, tick + 1, room, look, standing.first, Some(res)))?;
-    }
-    Ok(())
+    let first = standing.first?;
+    let look = Look::First(standing.behind as u64);
+    Some(lasting(tick, tick + 1, room, look, Some(first), Some(res)))
 }
 
 // The spans of a queue's standings, tick by tick from one on.
@@ -43,11 +36,10 @@ fn spans_of(
     requires { from + length standings.now ≤ 2 ^ 32 }
     ensures { IfOk result (λ spans. spans.items ≡ queue_spans room res from standings.now) }
 {
-    let mut spans = Vec::new(alloc);
-    for (place, standing) in standings.iter().enumerate() {
-        push_held(&mut spans, room, res, from as u64 + place as u64, *standing)?;
-    }
-    Ok(spans)
+    let spans = standings.iter().enumerate().filter_map(|(place, standing)| {
+        held(room, res, from as u64 + place as u64, standing)
+    });
+    gathered(spans, alloc)
 }
 
 // The lane of a resource: its name, what lies under its blocks as far as rows stand, and these.

@@ -14,8 +14,8 @@ pub(crate) fn push(shapes: &mut Vec<Shape>, shape: Shape) -> Result<(), Memory>
     Ok(())
 }
 
-// Whether some of the ticks from one on and up to another are drawn.
-fn is_seen(window: Window, first: u64, end: u64) -> bool
+/// Whether some of the ticks from one on and up to another are drawn.
+pub(crate) fn is_seen(window: Window, first: u64, end: u64) -> bool
     ensures { result ≡ is_seen window first end }
 {
     first.max(window.from as u64) < end.min(window.to as u64)

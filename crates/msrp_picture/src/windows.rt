@@ -1,6 +1,5 @@
 //! The ticks that are drawn.
-ghost use Rattle.std.specs.Prelude.{◌≡◌, ◌<◌, ◌≤◌, ◌+◌, ◌*◌, length, Some, None, IfSome};
-ghost use Rattle.msrp_plan.specs.WellFormed.{IsPlan};
+ghost use Rattle.std.specs.Prelude.{◌≡◌, ◌<◌, ◌≤◌, ◌+◌, ◌*◌};
 ghost use Rattle.msrp_picture.specs.Windows.{begun, due_in, parts, round, rows_between, shown_window, window_of, IsWindow};
 
 use msrp_plan::{Fault, Plan, Row};

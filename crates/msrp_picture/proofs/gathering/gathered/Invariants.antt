@@ -1,0 +1,9 @@
+use Rattle.std.proofs.Common.{◌≡◌, length}
+use Rattle.std.specs.Vec.{vec_len}
+use Rattle.msrp_picture.proofs.gathering.gathered.Given as goal
+
+abbrev pub invariant-loop-item : goal.invariant-loop-item
+invariant-loop-item g l = record {
+  items : l.all.items ≡ l.yielded;
+  len : vec_len l.all ≡ length l.yielded;
+}
