@@ -1,5 +1,5 @@
 //! What the running job does in its turn: its next unit, or the wait for it.
-ghost use Rattle.std.specs.Prelude.{◌≡◌, ◌≤◌, ℕ, List, Some, None, true, false, length};
+ghost use Rattle.std.specs.Prelude.{◌≡◌, ◌≤◌, List, Some, None, true, false, length};
 ghost use Rattle.std.specs.List.{Contains};
 ghost use Rattle.std.specs.Option.{ForSome};
 ghost use Rattle.msrp_plan.specs.Actions.{allows};
@@ -29,7 +29,7 @@ struct Action {
 
 // The row of a turn in which this was done.
 #[inline(always)]
-fn row_of(core: CoreId, tick: u32, job: Option<JobId>, action: Action) -> Row
+fn row_doing(core: CoreId, tick: u32, job: Option<JobId>, action: Action) -> Row
     requires shape { has_shape action.kind job action.res ≡ true }
     requires carrier { may_carry action.kind action.ahead ≡ true }
     ensures { IsRowOf tick core job action result }
@@ -461,6 +461,6 @@ impl<'a> Jobs<'a> {
     {
         let core = self.core;
         let action = self.action_of(port, chosen);
-        row_of(core, tick, chosen, action)
+        row_doing(core, tick, chosen, action)
     }
 }
