@@ -308,37 +308,6 @@ impl<'a, R: Read> TraceReader<'a, R> {
         }
     }
 
-    /// Whether the next row is one of the core in that tick, with the text that is kept of it. The text is compared with the bytes that come
-    /// next, as [`TraceReader::meets`] compares the text of a row.
-    #[inline(always)]
-    pub fn comes(&mut self, tick: u32, texts: &RowTexts<'_>, core: CoreId) -> bool
-        ensures taken { result ≡ true → (row : Row) (told : Told) → IsTextOf self.old texts.now tick core.0 row → told_left R.remaining self.old ≡ Some told → GivesNext told (Ok (Some row)) (told_left R.remaining self.new) }
-        ensures kept { result ≡ false → (told : Told) → told_left R.remaining self.old ≡ Some told → told_left R.remaining self.new ≡ Some told }
-        ensures same { has_failed self.new ≡ has_failed self.old }
-        ensures going { result ≡ true → has_failed self.old ≡ false }
-        ensures trace { IsOfTrace self.old self.new }
-        ensures finds { (row : Row) → IsTextOf self.old texts.now tick core.0 row → CanMeet self.old row → result ≡ true }
-        ensures stands { (row : Row) (records : List (List (List ℕ))) → IsTextOf self.old texts.now tick core.0 row → StandsIn R.remaining records self.old → StandsIn R.remaining records self.new }
-        ensures still { result ≡ false → (records : List (List (List ℕ))) → StandsIn R.remaining records self.old → StandsIn R.remaining records self.new }
-        ensures lines { (row : Row) (text : List ℕ) → IsTextOf self.old texts.now tick core.0 row → HasReadIn R.remaining text self.old → HasReadIn R.remaining text self.new }
-        ensures lines_still { result ≡ false → (text : List ℕ) → HasReadIn R.remaining text self.old → HasReadIn R.remaining text self.new }
-    {
-        let (Some(next_number), ReaderState::Rows) = (self.number.checked_add(1), self.state) else {
-            return false;
-        };
-        // Read so that the plan is known to be an accepted one.
-        let _accepted = self.plan.tasks();
-        self.foreseen.to_tick(tick);
-        let core = (core.0 % MOST_CORES) as usize;
-        let line = text_of(&texts.lines, core);
-        let (tick, rest) = (self.foreseen.tick(), rest_of(line));
-        let met = self.records.meets(tick, rest);
-        if met {
-            self.number = next_number;
-        }
-        met
-    }
-
     /// Whether the next row is one of the core in that tick, with the text that is kept of it, where [`TraceReader::core_ahead`] has told a core in
     /// that tick: the text of the tick isn't compared again, and no more is read.
     #[inline(always)]
@@ -392,20 +361,6 @@ impl<'a, R: Read> TraceReader<'a, R> {
             Some(digit) => Some(CoreId(u32::from(digit - b'0'))),
             None => None,
         }
-    }
-
-    /// The core of the next row, if it is one of that tick, guessed from the bytes that were read ahead. Nothing rests on it: there may be
-    /// none, or another.
-    #[inline(always)]
-    pub fn core_in(&mut self, tick: u32) -> Option<CoreId>
-        ensures kept { (told : Told) → told_left R.remaining self.old ≡ Some told → told_left R.remaining self.new ≡ Some told }
-        ensures same { has_failed self.new ≡ has_failed self.old }
-        ensures trace { IsOfTrace self.old self.new }
-        ensures stands { (records : List (List (List ℕ))) → StandsIn R.remaining records self.old → StandsIn R.remaining records self.new }
-        ensures lines { (text : List ℕ) → HasReadIn R.remaining text self.old → HasReadIn R.remaining text self.new }
-    {
-        self.foreseen.to_tick(tick);
-        self.core_guessed()
     }
 
     // The next row, where it is its core's last one again, in another tick, as far as that one is kept. It is met as
