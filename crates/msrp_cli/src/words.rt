@@ -20,6 +20,17 @@ fn unread_words(kind: ErrorKind) -> CliFault
     }
 }
 
+// Words in a list. Each is pushed: `collect` goes on where the room that it asks for first is refused.
+fn gathered(alloc: Global, args: Args) -> Result<Vec<String>, CliFault>
+    ensures { IfErr result (λ fault. fault ≡ CliFault.Memory) }
+{
+    let mut words = Vec::new(alloc);
+    for word in args {
+        words.push(word)?;
+    }
+    Ok(words)
+}
+
 // The words that were had of the command line, or why none were.
 fn words_had(alloc: Global, args: io::Result<Args>) -> Result<Vec<String>, CliFault>
     ensures had { IfOk args (λ _. IfErr result (λ fault. fault ≡ CliFault.Memory)) }
@@ -27,7 +38,7 @@ fn words_had(alloc: Global, args: io::Result<Args>) -> Result<Vec<String>, CliFa
     ensures usage { IfErr result (λ fault. (fault ≡ CliFault.Memory) ⊎ (fault ≡ CliFault.Usage)) }
 {
     match args {
-        Ok(args) => Ok(args.collect(alloc)?),
+        Ok(args) => gathered(alloc, args),
         Err(error) => Err(unread_words(error.kind())),
     }
 }

@@ -1,11 +1,10 @@
 -- The texts that are kept of the rows that cores are known to make, as rows are judged.
 use Rattle.std.proofs.Common.{◌≡◌, ◌≢◌, ℕ, zero, suc, ◌<◌, ◌≤◌, ◌%◌, ◌==◌, Bool, true, false, List, [], ◌∷◌, Option, Some, None, IfSome, IfNone, ap, sym, ◌∙◌, subst, arith, eqb-true, slice_index_or, slice_set, refl}
 use Rattle.std.proofs.Math.Nat.{mod-eq_of_lt}
-use Rattle.std.proofs.lemmas.Bool.{and_from, and_parts, eqb-false, lt-ltb}
+use Rattle.std.proofs.lemmas.Bool.{and_from, and_parts, eqb-false}
 use Rattle.std.proofs.lemmas.List.{get_or-set_other}
 use Rattle.msrp_plan.specs.Plan.{PlanModel}
 use Rattle.msrp_plan.specs.Stretches.{in_tick}
-use Rattle.msrp_plan.specs.WellFormed.{IsPlan}
 use Rattle.msrp_plan.specs.declared.rows.Row.{Row}
 use Rattle.msrp_plan.specs.declared.rows.TextVersion.{TextVersion}
 use Rattle.msrp_plan.specs.declared.rows.TextVersion.TheVariants.{V1, V2}
@@ -27,12 +26,6 @@ whole_in_tick version plan r h t short =
     let parts = and_parts _ _ h in
     let told = and_parts _ _ parts.1 in
     and_from _ _ parts.0 (and_from _ _ (and_from _ _ short (and_parts _ _ told.0).1) (told_in_tick version t r told.1))
-
--- a tick of a plan has few digits
-pub short_tick : (plan : PlanModel) (t : ℕ) → IsPlan plan → t ≤ plan.ticks → is_short t ≡ true
-short_tick plan t ok l =
-    let most : plan.ticks ≤ 20000 = ok.draft.ticks.1 in
-    lt-ltb t 1000000000 (omega (arith, l, most))
 
 -- a text that was made
 pub made_kept : (version : TextVersion) (plan : PlanModel) (text : List ℕ) (r : Row) → is_told_whole version plan (as_read version r) ≡ true → text ≡ after_tick version plan (as_read version r) → IsKept version plan text r
