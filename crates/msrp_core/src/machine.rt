@@ -179,9 +179,10 @@ impl<'a> Machine<'a> {
         Some(self.jobs.spin(now, poll.job, poll.res))
     }
 
-    // A turn that is chosen anew: then it is known how often its row stands again.
+    /// The core's next turn, as by [`Machine::turn`], but it isn't looked first whether its row is known from the last one. Then it is known
+    /// how often its row stands again.
     #[inline(always)]
-    fn turn_anew<P: Port>(&mut self, port: &mut P) -> Row
+    pub fn turn_anew<P: Port>(&mut self, port: &mut P) -> Row
         requires tick { self.old.tick < self.old.plan.ticks }
         requires claim { claim_in self.old.core (P.port port.old).calls ≡ self.old.phase }
         requires room { 0 < (P.port port.old).rooms self.old.core }

@@ -125,7 +125,7 @@ impl<'p, 't, T: Read> JudgedRows<'p, 't, T> {
         ensures rows { self.new.rows ≡ self.old.rows }
         ensures kept { KeepsRow self.new.rows.version self.new.auditor.plan self.new.texts self.new.whole core.0 result }
     {
-        let due = self.auditor.turn(core);
+        let due = self.auditor.turn_anew(core);
         let told = self.rows.as_read(due);
         self.whole[core.0 as usize] = self.texts.show_whole(&told);
         due
@@ -219,7 +219,8 @@ impl<'p, 't, T: Read> JudgedRows<'p, 't, T> {
         ensures awaits { result ≡ false → (rows : List TraceRow) → HasFed self.old.auditor rows → Awaits self.new.auditor rows core.0 self.new.due }
     {
         let due = self.turn_anew(core);
-        self.due = due;
+        // Made anew as a whole, so that no part of it is laid down before.
+        self.due = due.in_tick(due.tick);
         self.meets(tick, core)
     }
 

@@ -105,7 +105,7 @@ fn turn_over<B: Before>(queues: &Queues, resources: u32, machine: &mut Machine<'
         call: None,
         before: PhantomData,
     };
-    let row = machine.turn(&mut port);
+    let row = machine.turn_anew(&mut port);
     Turned {
         row,
         call: port.call,

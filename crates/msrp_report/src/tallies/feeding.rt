@@ -56,7 +56,8 @@ impl Tallies {
         ensures told { (rows : List TraceRow) → AreTallies plan.now rows (λ _. self.old.begun) self.old.tasks.items → IsNextOf plan.now rows row self.old.begun → AreTallies plan.now (rows ++ row ∷ []) (λ _. self.old.begun) self.new.tasks.items }
     {
         if self.is_unstarted(job) {
-            self.count_first(plan, job, row);
+            // The row is made anew for that, so that the others are never laid down in memory as a whole.
+            self.count_first(plan, job, row.in_tick(row.tick));
             return;
         }
         let task = &mut self.tasks[job.task.0 as usize];
