@@ -12,7 +12,7 @@ returns-clause-gives g c = λ yes told known.
     let e = c.turn_anew-due.ensures in
     let m = c.meets.ensures in
     let left = subst (λ r. told_left g.T.Read.remaining r ≡ Some told) (sym e.rows) known in
-    same_row _ _ _ _ (λ (r : Row). GivesNext told (Ok (Some r)) (rows_left g.T.Read.remaining c.meets.new.self)) c.args.tick m.version (m.due ∙ c.in_tick.ensures) (m.gives yes c.turn_anew-due.result told e.kept left)
+    same_row _ _ _ _ (λ (r : Row). GivesNext told (Ok (Some r)) (rows_left g.T.Read.remaining c.meets.new.self)) c.args.tick m.version (m.due ∙ c.in_tick-self.ensures) (m.gives yes c.turn_anew-due.result told e.kept left)
 
 pub returns-clause-fed : goal.returns-clause-fed
 returns-clause-fed g c = λ yes rows fed here.
@@ -20,10 +20,10 @@ returns-clause-fed g c = λ yes rows fed here.
     let m = c.meets.ensures in
     let awaits = e.awaits rows fed in
     let now = here ∙ (ap (λ (p : PlanModel). length rows / p.cores) (sym e.plan) ∙ sym awaits.tick) in
-    same_row _ _ _ _ (λ (r : Row). HasFed c.meets.new.self.auditor (rows ++ r ∷ []) × (c.meets.new.self.auditor.fault ≡ None)) c.args.tick m.version (m.due ∙ c.in_tick.ensures) (m.fed yes c.turn_anew-due.result rows awaits now)
+    same_row _ _ _ _ (λ (r : Row). HasFed c.meets.new.self.auditor (rows ++ r ∷ []) × (c.meets.new.self.auditor.fault ≡ None)) c.args.tick m.version (m.due ∙ c.in_tick-self.ensures) (m.fed yes c.turn_anew-due.result rows awaits now)
 
 pub returns-clause-awaits : goal.returns-clause-awaits
 returns-clause-awaits g c = λ no rows fed.
     let e = c.turn_anew-due.ensures in
     let m = c.meets.ensures in
-    subst (λ (a : AuditorModel). Awaits a rows c.args.core.0 c.meets.new.self.due) (sym (m.same no)) (subst (λ (d : Row). Awaits c.turn_anew-due.new.self.auditor rows c.args.core.0 d) (sym (m.due ∙ c.in_tick.ensures)) (e.awaits rows fed))
+    subst (λ (a : AuditorModel). Awaits a rows c.args.core.0 c.meets.new.self.due) (sym (m.same no)) (subst (λ (d : Row). Awaits c.turn_anew-due.new.self.auditor rows c.args.core.0 d) (sym (m.due ∙ c.in_tick-self.ensures)) (e.awaits rows fed))
