@@ -53,6 +53,16 @@ pub(crate) enum Ahead {
     Unknown,
 }
 
+impl Ahead {
+    // A row that is due. It is made anew for that, so that one that is met is never laid down in memory as a whole.
+    #[inline(always)]
+    fn due(row: Row) -> Ahead
+        ensures { result ≡ Ahead.Due row }
+    {
+        Ahead::Due(row.in_tick(row.tick))
+    }
+}
+
 // What stands in place of the row of a turn before the first one.
 const NO_ROW: Row = Row {
     tick: 0,
@@ -261,13 +271,13 @@ impl<'p, 't, T: Read> JudgedRows<'p, 't, T> {
                 if self.meets(tick, core) {
                     return Ahead::Met(self.rows.as_read(due).in_tick(tick));
                 }
-                Ahead::Due(due)
+                Ahead::due(due)
             }
             None => {
                 if self.meets_anew(tick, core) {
                     return Ahead::Met(self.rows.as_read(self.due).in_tick(tick));
                 }
-                Ahead::Due(self.due)
+                Ahead::due(self.due)
             }
         }
     }
@@ -301,8 +311,7 @@ impl<'p, 't, T: Read> JudgedRows<'p, 't, T> {
     {
         match ahead {
             Ahead::Met(row) => Ok(Judgement::Legal(row)),
-            // The row is made anew for that, so that one that is met is never laid down in memory as a whole.
-            Ahead::Due(due) => self.read_due(due.in_tick(due.tick)),
+            Ahead::Due(due) => self.read_due(due),
             Ahead::Unknown => self.read(),
         }
     }
