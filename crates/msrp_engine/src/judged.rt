@@ -311,7 +311,8 @@ impl<'p, 't, T: Read> JudgedRows<'p, 't, T> {
     {
         match ahead {
             Ahead::Met(row) => Ok(Judgement::Legal(row)),
-            Ahead::Due(due) => self.read_due(due),
+            // Made anew once more: else the answer itself would be laid down.
+            Ahead::Due(due) => self.read_due(due.in_tick(due.tick)),
             Ahead::Unknown => self.read(),
         }
     }
