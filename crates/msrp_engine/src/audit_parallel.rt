@@ -35,7 +35,8 @@ fn gather_rows<T: Read>(
     for _row in 0..most {
         let ahead = rows.next_ahead();
         if let Ahead::Met(row) = ahead {
-            gathered.push(row)?;
+            // Made anew in its place, so that it isn't laid down before.
+            gathered.push(row.in_tick(row.tick))?;
             continue;
         }
         match rows.told(ahead)?.row() {

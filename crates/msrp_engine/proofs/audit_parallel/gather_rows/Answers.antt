@@ -20,7 +20,8 @@ pub loop-row-preserved-in-Met : goal.loop-row-preserved-in-Met
 loop-row-preserved-in-Met g c =
     let i = c.loop-row.invariant in
     let rows = c.loop-row.gathered.items in
-    let pushed : c.push.new.self.items ≡ rows ++ c.in-Met.row ∷ [] = search rules in
+    let made : c.push.new.self.items ≡ rows ++ c.in_tick.result ∷ [] = search rules in
+    let pushed : c.push.new.self.items ≡ rows ++ c.in-Met.row ∷ [] = made ∙ ap (λ (r : Row). rows ++ r ∷ []) c.in_tick.ensures in
     record {
       count = ap length pushed ∙ (length-append rows (c.in-Met.row ∷ []) ∙ ap (λ n. n + 1) i.count);
       read = λ told known. subst (λ (l : List Row). IsReadTo told l (rows_left g.T.Read.remaining c.next_ahead-ahead.new.self)) (sym pushed)
