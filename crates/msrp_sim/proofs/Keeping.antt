@@ -17,12 +17,13 @@ use Rattle.msrp_plan.proofs.Levels.GlobalUse.{undeclared_local}
 use Rattle.msrp_core.specs.Ports.{IsQuiet}
 use Rattle.msrp_core.specs.Machine.{MachineModel}
 use Rattle.msrp_core.specs.declared.port.PortCall.{PortCall}
-use Rattle.msrp_sim.specs.Cores.{CoresModel, IsMachineOf, AreCores, TakesTurn}
+use Rattle.msrp_sim.specs.Cores.{CoresModel, IsMachineOf, AreCores, IsSomeTurn, TakesTurn}
 use Rattle.msrp_sim.specs.Serving.{AreDrawn}
 use Rattle.msrp_sim.specs.TurnPorts.{HasTurned, MakesCallOf}
 use Rattle.msrp_sim.specs.declared.tickets.Queues.{Queues}
 use Rattle.msrp_sim.proofs.Serving.{drawn_more}
 use Rattle.msrp_sim.proofs.Standing.{get_set_same, get_set_other}
+use Rattle.msrp_sim.proofs.Turns.{carries, few_ahead, turn_after}
 
 abbrev pub ticks_of : List MachineModel → ℕ
 ticks_of machines = sum_by (λ x. x.tick) machines
@@ -98,6 +99,14 @@ module _ (old new : CoresModel) (c : ℕ) (r : Row) (cores : AreCores old) (t : 
     stands = t.turned.stands its.log its.stands;
     left = let d = t.turned.tick in let e : new.plan.ticks ≡ old.plan.ticks = ap (λ (p : PlanModel). p.ticks) t.plan in omega (arith, d, e, left);
   }
+
+  -- and the row of the turn
+  pub some_turn : IsSomeTurn old.plan c r
+  some_turn =
+      let turn = turn_after old new c r cores t its.log its.stands in
+      let a = turn.tick in
+      let b = its.stands.tick in
+      record { log = its.log; turn = turn; left = omega (arith, a, b, left); ahead = few_ahead old new c r cores t most_rows (few_drawn old cores); carries = carries old new c r cores t }
 
   -- another
   some_machine : (d : ℕ) (y : MachineModel) → slice_get new.machines d ≡ Some y → (b : Bool) → (d == c) ≡ b → IsMachineOf new.plan d y

@@ -1,5 +1,5 @@
 -- A turn of a core makes the next legal row, and leaves the cores as that row does.
-use Rattle.std.proofs.Common.{◌≡◌, ℕ, zero, suc, ◌/◌, ◌&&◌, ◌||◌, Bool, true, false, cond, not, List, [], Option, Some, None, IfSome, is_some, refl, ap, sym, ◌∙◌, subst, length, nat_lt, inl, inr}
+use Rattle.std.proofs.Common.{◌≡◌, ℕ, zero, suc, ◌≤◌, ◌/◌, ◌&&◌, ◌||◌, ◌⊎◌, Bool, true, false, cond, not, List, [], Option, Some, None, IfSome, is_some, refl, ap, sym, ◌∙◌, subst, arith, length, nat_lt, inl, inr}
 use Rattle.std.proofs.Math.Bool.{true≢false, and-false}
 use Rattle.std.proofs.lemmas.Bool.{cases_Bool, lt-ltb}
 use Rattle.std.proofs.lemmas.Option.{same_Some}
@@ -29,8 +29,11 @@ use Rattle.msrp_plan.proofs.Runs.RoundRobin.{in_turn_of, quiet_reply}
 use Rattle.msrp_plan.proofs.Runs.CoreRuns.{due_by_log}
 use Rattle.msrp_plan.proofs.Legality.LegalRows.{IsTurn, turn_of, idle_res}
 use Rattle.msrp_plan.proofs.Queues.QueueLocks.{reply_at, own_from_legal}
-use Rattle.msrp_sim.specs.Cores.{CoresModel, AreCores, StandFor, IsDueAfter, IsNextRow, TakesTurn, locks_at, phases_at}
+use Rattle.msrp_core.specs.Machine.{StandsAfter}
+use Rattle.msrp_sim.specs.Cores.{CoresModel, AreCores, IsMachineOf, StandFor, IsDueAfter, IsNextRow, TakesTurn, locks_at, phases_at}
+use Rattle.msrp_sim.specs.Serving.{AreDrawn, IsTold}
 use Rattle.msrp_sim.specs.TurnPorts.{MakesCallOf}
+use Rattle.msrp_sim.specs.declared.tickets.Queues.{Queues}
 use Rattle.msrp_sim.proofs.Serving.{told_answers}
 
 -- ---- the row is legal
@@ -58,12 +61,15 @@ local_passes q j queued (LockUnit g) Lock h = (refl, refl)
 local_passes q j queued (UnlockUnit g) Unlock h = (refl, refl)
 local_passes q j _ _ _ h = absurd (cc)
 
-pub counts_plain : (q : List JobId) (r : Row) → is_queue r.kind ≡ false → counts q r.ahead ≡ true
-counts_plain q r e = by_ahead r.ahead r.carrier
+no_ahead : (r : Row) → is_queue r.kind ≡ false → r.ahead ≡ None
+no_ahead r e = by_ahead r.ahead r.carrier
   where
-    by_ahead : (o : Option ℕ) → may_carry r.kind o ≡ true → counts q o ≡ true
+    by_ahead : (o : Option ℕ) → may_carry r.kind o ≡ true → o ≡ None
     by_ahead None h = refl
     by_ahead (Some n) h = absurd (true≢false (sym h ∙ e))
+
+pub counts_plain : (q : List JobId) (r : Row) → is_queue r.kind ≡ false → counts q r.ahead ≡ true
+counts_plain q r e = ap (counts q) (no_ahead r e)
 
 -- the unit of such a row is on a local resource
 pub local_unit : (plan : PlanModel) (op : Op) (res : ResId) → Some res ≡ res_of_unit op → is_global plan res.0 ≡ false → is_global_unit plan op ≡ false
@@ -81,19 +87,48 @@ local_turn plan pre r res (Some x) job turn e l q =
 pub lock_of_global : (plan : PlanModel) (rows : List Row) (g : ℕ) → is_global plan g ≡ true → locks_at plan rows g ≡ lock_at plan g rows
 lock_of_global plan rows g glob = ap (λ b. cond b (lock_at plan g rows) free_lock) glob
 
--- ---- the row of a turn, by its resource
-record Passes (pre : List Row) (r : Row) : Type 0 where
-  reply : is_fifo_reply pre r ≡ true
-  carries : carries_its_ahead r ≡ true
+-- ---- the row of a turn, whatever rows came before
+-- no more are ahead than tickets were drawn
+few_told : (q : Queues) (c g : ℕ) (call : Call) (n : ℕ) → AreDrawn q n → IsTold q c g call → IfSome (ahead_of_call call) (λ k. k ≤ n)
+few_told q c g (Ask zero) n drawn told = tt
+few_told q c g (Ask (suc k)) n drawn told = let most = (drawn g).0 in omega (arith, told, most)
+few_told q c g (Poll granted) n drawn told = tt
+few_told q c g Leave n drawn told = tt
 
+module _ (old new : CoresModel) (c : ℕ) (r : Row) (cores : AreCores old) (t : TakesTurn old new c r) where
+  its : IsMachineOf old.plan c t.before
+  its = cores.each c t.before t.has
+
+  pub turn_after : (log : List Row) → StandsAfter t.before log → IsCoreTurn old.plan c log r
+  turn_after log stands = subst (λ p. IsCoreTurn p c log r) its.same_plan (subst (λ k. IsCoreTurn t.before.plan k log r) its.core (t.turned.row log stands))
+
+  -- it is that of a call, or no queue row
+  by_res : (o : Option ResId) → r.res ≡ o → MakesCallOf old.queues t.before t.after r t.call ⊎ (is_queue r.kind ≡ false)
+  by_res None e = inr (none_joins r.kind r.job (subst (λ g. has_shape r.kind r.job g ≡ true) e r.shape))
+  by_res (Some res) e = elim (cases_Bool (is_global old.plan res.0)) [
+    | inl glob ↦ inl (t.turned.call res e (ap (λ p. is_global p res.0) its.same_plan ∙ glob))
+    | inr loc ↦ let turn = turn_after its.log its.stands in inr (local_turn old.plan its.log r res r.job refl (turn_of old.plan its.log r turn.own turn.chosen turn.action) e loc []).1
+  ]
+
+  pub carries : carries_its_ahead r ≡ true
+  carries = elim (by_res r.res refl) [
+    | inl mc ↦ ap (λ k. not (is_queue k) || is_some r.ahead) mc.kind ∙ (ap (λ o. not (is_queue (kind_of_call mc.call)) || is_some o) mc.ahead ∙ carries_call mc.call)
+    | inr plain ↦ carries_plain r plain
+  ]
+
+  pub few_ahead : (n : ℕ) → AreDrawn old.queues n → IfSome r.ahead (λ k. k ≤ n)
+  few_ahead n drawn = elim (by_res r.res refl) [
+    | inl mc ↦ subst (λ o. IfSome o (λ k. k ≤ n)) (sym mc.ahead) (few_told old.queues r.core.0 mc.res.0 mc.call n drawn mc.told)
+    | inr plain ↦ subst (λ o. IfSome o (λ k. k ≤ n)) (sym (no_ahead r plain)) tt
+  ]
+
+-- ---- the row of a turn, by its resource
 pub both_pass : (a b : Bool) → a ≡ true → b ≡ true → (a && b) ≡ true
 both_pass a b h k = ap (λ c. c && b) h ∙ k
 
 module _ (old new : CoresModel) (c : ℕ) (r : Row) (rows : List Row) (cores : AreCores old) (stands : StandFor old rows) (due : IsDueAfter old.plan rows c) (t : TakesTurn old new c r) where
   pub turn_row : IsCoreTurn old.plan c (log_of c rows) r
-  turn_row =
-      let x = cores.each c t.before t.has in
-      subst (λ p. IsCoreTurn p c (log_of c rows) r) x.same_plan (subst (λ k. IsCoreTurn t.before.plan k (log_of c rows) r) x.core (t.turned.row (log_of c rows) (stands.logs c t.before t.has)))
+  turn_row = turn_after old new c r cores t (log_of c rows) (stands.logs c t.before t.has)
 
   are_own : AreOwn old.plan rows
   are_own = own_from_legal old.plan [] rows stands.start.each
@@ -117,26 +152,20 @@ module _ (old new : CoresModel) (c : ℕ) (r : Row) (rows : List Row) (cores : A
   pub lock_answers : (mc : MakesCallOf old.queues t.before t.after r t.call) → Answers (lock_at old.plan mc.res.0 rows) r.core.0 mc.call
   lock_answers mc = subst (λ l. Answers l r.core.0 mc.call) (lock_of_global old.plan rows mc.res.0 (on_global mc)) (answers_at mc)
 
-  call_passes : MakesCallOf old.queues t.before t.after r t.call → Passes rows r
-  call_passes mc = record {
-    reply = reply_at old.plan mc.res.0 rows r mc.call cores.accepted (on_global mc) stands.start.each is_turn (record { core = refl; resource = mc.resource; kind = mc.kind; ahead = told r.ahead mc.ahead }) (lock_answers mc);
-    carries = ap (λ k. not (is_queue k) || is_some r.ahead) mc.kind ∙ (ap (λ o. not (is_queue (kind_of_call mc.call)) || is_some o) mc.ahead ∙ carries_call mc.call);
-  }
+  call_passes : MakesCallOf old.queues t.before t.after r t.call → is_fifo_reply rows r ≡ true
+  call_passes mc = reply_at old.plan mc.res.0 rows r mc.call cores.accepted (on_global mc) stands.start.each is_turn (record { core = refl; resource = mc.resource; kind = mc.kind; ahead = told r.ahead mc.ahead }) (lock_answers mc)
     where
       told : (o : Option ℕ) → o ≡ ahead_of_call mc.call → IfSome o (λ n. ahead_of_call mc.call ≡ Some n)
       told None e = tt
       told (Some n) e = sym e
 
-  passes_by : (o : Option ResId) → r.res ≡ o → Passes rows r
-  passes_by None e = record { reply = quiet_reply rows r r.res e; carries = carries_plain r (none_joins r.kind r.job (subst (λ g. has_shape r.kind r.job g ≡ true) e r.shape)) }
+  passes_by : (o : Option ResId) → r.res ≡ o → is_fifo_reply rows r ≡ true
+  passes_by None e = quiet_reply rows r r.res e
   passes_by (Some res) e = elim (cases_Bool (is_global old.plan res.0)) [
     | inl glob ↦ call_passes (t.turned.call res e (ap (λ p. is_global p res.0) same_plan ∙ glob))
     | inr loc ↦
         let local = local_turn old.plan rows r res r.job refl is_turn e loc (fifo res.0 rows) in
-        record {
-          reply = ap (λ o. replies_on rows o r) e ∙ both_pass (replies (fifo res.0 rows) r.job r.kind) (counts (fifo res.0 rows) r.ahead) local.0 (counts_plain (fifo res.0 rows) r local.1);
-          carries = carries_plain r local.1;
-        }
+        ap (λ o. replies_on rows o r) e ∙ both_pass (replies (fifo res.0 rows) r.job r.kind) (counts (fifo res.0 rows) r.ahead) local.0 (counts_plain (fifo res.0 rows) r local.1)
   ]
 
   in_turn : is_in_turn old.plan rows r ≡ true
@@ -149,10 +178,8 @@ module _ (old new : CoresModel) (c : ℕ) (r : Row) (rows : List Row) (cores : A
 
   -- the row of a due core is the next legal one
   pub next_legal : IsNextRow old.plan rows c r
-  next_legal =
-      let passes = passes_by r.res refl in
-      record {
-        core = turn_row.core;
-        legal = record { turn = in_turn; own = turn_row.own; chosen = chosen_local old.plan c rows r are_own turn_row; action = action_local old.plan c rows r are_own turn_row; reply = passes.reply };
-        carries = passes.carries;
-      }
+  next_legal = record {
+    core = turn_row.core;
+    legal = record { turn = in_turn; own = turn_row.own; chosen = chosen_local old.plan c rows r are_own turn_row; action = action_local old.plan c rows r are_own turn_row; reply = passes_by r.res refl };
+    carries = carries old new c r cores t;
+  }

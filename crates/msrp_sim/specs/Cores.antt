@@ -4,7 +4,8 @@ use Rattle.std.specs.Option.{ForSome}
 use Rattle.msrp_plan.specs.Plan.{PlanModel}
 use Rattle.msrp_plan.specs.Levels.{is_global}
 use Rattle.msrp_plan.specs.Aheads.{HasReply, carries_its_ahead}
-use Rattle.msrp_plan.specs.Runs.{IsRunStart, IsLegal}
+use Rattle.msrp_plan.specs.Limits.{most_rows}
+use Rattle.msrp_plan.specs.Runs.{IsCoreTurn, IsRunStart, IsLegal}
 use Rattle.msrp_plan.specs.Logs.{log_of}
 use Rattle.msrp_plan.specs.FifoLock.{FifoLock, free_lock}
 use Rattle.msrp_plan.specs.LockStates.{lock_at}
@@ -70,6 +71,14 @@ pub record IsDueAfter (plan : PlanModel) (rows : List Row) (c : ℕ) : Type 0 wh
 pub record IsNextRow (plan : PlanModel) (rows : List Row) (c : ℕ) (r : Row) : Type 0 where
   pub core : r.core.0 ≡ c
   pub legal : IsLegal plan rows r
+  pub carries : carries_its_ahead r ≡ true
+
+-- after some log the row is the next one of core c, in a tick of the plan; it carries its ahead, and no more are ahead of it than a run has rows
+pub record IsSomeTurn (plan : PlanModel) (c : ℕ) (r : Row) : Type 0 where
+  pub log : List Row
+  pub turn : IsCoreTurn plan c log r
+  pub left : r.tick < plan.ticks
+  pub ahead : IfSome r.ahead (λ n. n ≤ most_rows)
   pub carries : carries_its_ahead r ≡ true
 
 -- a row as another, which may leave the ahead out

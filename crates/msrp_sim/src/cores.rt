@@ -11,7 +11,7 @@ ghost use Rattle.msrp_plan.specs.WellFormed.{IsPlan};
 ghost use Rattle.msrp_plan.specs.declared.rows.Row.{Row as TraceRow};
 ghost use Rattle.msrp_core.specs.CoreStates.{IsCoreState};
 ghost use Rattle.msrp_core.specs.Machine.{MachineModel};
-ghost use Rattle.msrp_sim.specs.Cores.{AreNew, StandFor, IsDueAfter, IsNextRow, IsAs, IsAnswered, Leaves, known_row};
+ghost use Rattle.msrp_sim.specs.Cores.{AreNew, StandFor, IsDueAfter, IsNextRow, IsSomeTurn, IsAs, IsAnswered, Leaves, known_row};
 ghost use Rattle.msrp_sim.specs.Serving.{AreDrawn, Notes, waiting};
 ghost use Rattle.msrp_sim.specs.TurnPorts.{unless_granted};
 
@@ -182,6 +182,7 @@ impl<'a> Cores<'a> {
         requires tick { (x : MachineModel) → slice_get self.old.machines core.0 ≡ Some x → x.tick < self.old.plan.ticks }
         ensures plan { self.new.plan ≡ self.old.plan }
         ensures core { result.core.0 ≡ core.0 }
+        ensures turn { IsSomeTurn self.old.plan core.0 result }
         ensures leaves { Leaves self.old self.new result }
         ensures next { (rows : List TraceRow) → StandFor self.old rows → IsDueAfter self.old.plan rows core.0 → IsNextRow self.old.plan rows core.0 result }
         ensures stand { (rows : List TraceRow) (row : TraceRow) → StandFor self.old rows → IsDueAfter self.old.plan rows core.0 → IsAs result row → IsLegal self.old.plan rows row → StandFor self.new (rows ++ row ∷ []) }

@@ -3,13 +3,13 @@ use Rattle.std.specs.Vec.{with_item}
 use Rattle.msrp_plan.specs.Plan.{PlanModel}
 use Rattle.msrp_plan.specs.Runs.{IsLegal}
 use Rattle.msrp_plan.specs.declared.rows.Row.{Row as TraceRow}
-use Rattle.msrp_sim.specs.Cores.{CoresModel, StandFor, IsDueAfter, IsNextRow, IsAs, Leaves, TakesTurn}
+use Rattle.msrp_sim.specs.Cores.{CoresModel, StandFor, IsDueAfter, IsNextRow, IsSomeTurn, IsAs, Leaves, TakesTurn}
 use Rattle.msrp_sim.specs.CoresView.{cores_view}
 use Rattle.msrp_sim.proofs.Foreseeing.{has_machine, left}
 use Rattle.msrp_sim.proofs.Repeating.{at_core, leaves}
 use Rattle.msrp_sim.proofs.Turns.{next_legal}
 use Rattle.msrp_sim.proofs.Standing.{stand_push}
-use Rattle.msrp_sim.proofs.Keeping.{call_core, call_resource, cores_kept, few_drawn}
+use Rattle.msrp_sim.proofs.Keeping.{call_core, call_resource, cores_kept, few_drawn, some_turn}
 use Rattle.msrp_sim.proofs.cores.Cores.turn.Goals as goal
 
 pub turn_by-turned-requires-clause-tick : goal.turn_by-turned-requires-clause-tick
@@ -91,3 +91,13 @@ returns-clause-core c =
     let n = cores_view (record { plan = c.self.inside.plan; machines = with_item c.self.inside.machines c.args.core.0 c.turn_by-turned.new.machine; queues = c.note_turn.new.queues }) in
     let t : TakesTurn m n c.args.core.0 c.turn_by-turned.result.row = record { plan = refl; before = x; after = c.turn_by-turned.new.machine; call = c.turn_by-turned.result.call; has = has; machines = refl; turned = c.turn_by-turned.ensures; same = c.note_turn.ensures.none; noted = c.note_turn.ensures.noted } in
     at_core m n c.args.core.0 c.turn_by-turned.result.row c.self.invariant t
+
+pub returns-clause-turn : goal.returns-clause-turn
+returns-clause-turn c =
+    let m = cores_view c.self.inside in
+    let x = c.index_mut-machine.result.now in
+    let has = has_machine m c.args.core.0 x c.args.self.now c.self.invariant c.self.view_is c.requires.core c.index_mut-machine.ensures.value in
+    let n = cores_view (record { plan = c.self.inside.plan; machines = with_item c.self.inside.machines c.args.core.0 c.turn_by-turned.new.machine; queues = c.note_turn.new.queues }) in
+    let t : TakesTurn m n c.args.core.0 c.turn_by-turned.result.row = record { plan = refl; before = x; after = c.turn_by-turned.new.machine; call = c.turn_by-turned.result.call; has = has; machines = refl; turned = c.turn_by-turned.ensures; same = c.note_turn.ensures.none; noted = c.note_turn.ensures.noted } in
+    subst (λ (o : CoresModel). IsSomeTurn o.plan c.args.core.0 c.turn_by-turned.result.row) c.self.view_is
+    (some_turn m n c.args.core.0 c.turn_by-turned.result.row c.self.invariant t (left m c.args.core.0 x c.args.self.now c.self.invariant c.self.view_is c.requires.core c.index_mut-machine.ensures.value c.requires.tick))
