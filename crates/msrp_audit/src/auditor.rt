@@ -9,7 +9,7 @@ ghost use Rattle.msrp_plan.specs.Verdict.{fault_in, verdict, refused};
 ghost use Rattle.msrp_plan.specs.WellFormed.{IsPlan};
 ghost use Rattle.msrp_plan.specs.declared.faults.Fault.{Fault as TraceFault};
 ghost use Rattle.msrp_plan.specs.declared.rows.Row.{Row as TraceRow};
-ghost use Rattle.msrp_sim.specs.Cores.{IsDueAfter, IsNextRow, IsAs, Leaves, known_row};
+ghost use Rattle.msrp_sim.specs.Cores.{IsDueAfter, IsNextRow, IsSomeTurn, IsAs, Leaves, known_row};
 ghost use Rattle.msrp_sim.specs.TurnPorts.{unless_granted};
 ghost use Rattle.msrp_audit.specs.Audits.{HasFed, IsCoreDue, IsOutOfTurn, Awaits, answer_of, has_turn};
 
@@ -172,6 +172,7 @@ impl<'a> Auditor<'a> {
         ensures plan { self.new.plan ≡ self.old.plan }
         ensures fed { self.new.fed ≡ self.old.fed }
         ensures core { result.core.0 ≡ core.0 }
+        ensures turn { IsSomeTurn self.old.plan core.0 result }
         ensures leaves { Leaves self.old.cores self.new.cores result }
         ensures awaits { (rows : List TraceRow) → HasFed self.old rows → Awaits self.new rows core.0 result }
     {
