@@ -1,5 +1,5 @@
 -- The rows of a legal run name what the plan has, and their numbers are short.
-use Rattle.std.proofs.Common.{◌≡◌, ℕ, zero, suc, ◌+◌, ◌*◌, ◌<◌, ◌≤◌, true, List, [], ◌∷◌, ◌++◌, map, Option, Some, None, IfSome, length, refl, sym, subst, arith, slice_get, length-append, lt-ltb, nat_lt, count_by}
+use Rattle.std.proofs.Common.{◌≡◌, ℕ, zero, suc, ◌+◌, ◌*◌, ◌<◌, ◌≤◌, ◌&&◌, Bool, true, List, [], ◌∷◌, ◌++◌, map, Option, Some, None, IfSome, length, refl, sym, subst, arith, slice_get, length-append, lt-ltb, nat_lt, count_by}
 use Rattle.std.proofs.Math.Nat.{div-le_self, mul-le-mul_left, mul-le-mul_right}
 use Rattle.std.specs.List.{AllByRecursion, cons_option, filter_map, list_all, range_with_len}
 use Rattle.std.proofs.lemmas.Bool.{and_from}
@@ -8,6 +8,7 @@ use Rattle.std.proofs.lemmas.List.Elements.{All-contains, All-from_recursion}
 use Rattle.msrp_plan.specs.Plan.{PlanModel, release, task_at, units}
 use Rattle.msrp_plan.specs.Jobs.{job_at, jobs, jobs_of, jobs_on}
 use Rattle.msrp_plan.specs.Actions.{res_of_unit}
+use Rattle.msrp_plan.specs.Aheads.{carries_its_ahead}
 use Rattle.msrp_plan.specs.Queues.{fifo, is_release_of, requester}
 use Rattle.msrp_plan.specs.Runs.{EachAfter, IsLegal, IsRunStart}
 use Rattle.msrp_plan.specs.Shape.{has_shape, is_queue, may_carry}
@@ -17,6 +18,8 @@ use Rattle.msrp_plan.specs.declared.ids.ResId.{ResId}
 use Rattle.msrp_plan.specs.declared.rows.Kind.{Kind}
 use Rattle.msrp_plan.specs.declared.rows.Kind.TheVariants.{Queue}
 use Rattle.msrp_plan.specs.declared.rows.Row.{Row}
+use Rattle.msrp_plan.specs.declared.rows.TextVersion.{TextVersion}
+use Rattle.msrp_plan.specs.declared.rows.TextVersion.TheVariants.{V1, V2}
 use Rattle.msrp_plan.specs.declared.units.Op.{Op}
 use Rattle.msrp_plan.specs.declared.units.Op.TheVariants.{Run, Lock, Unlock}
 use Rattle.msrp_plan.proofs.Legality.Aheads.{ahead_is}
@@ -25,7 +28,7 @@ use Rattle.msrp_plan.proofs.Lists.Least.{all_filtered}
 use Rattle.msrp_plan.proofs.Legality.LegalRows.{IsTurn, idle_res, legal_due, legal_turn}
 use Rattle.msrp_text.proofs.ReadBack.{all_gathered}
 use Rattle.msrp_text.proofs.Written.{named_unit}
-use Rattle.msrp_trace.specs.Laws.{has_short_ahead, has_short_job, has_short_numbers, is_short}
+use Rattle.msrp_trace.specs.Laws.{as_read, has_short_ahead, has_short_job, has_short_numbers, is_short, is_told_whole}
 use Rattle.msrp_trace.specs.TraceText.{is_named}
 use Rattle.msrp_trace.proofs.Records.{named-from}
 
@@ -117,12 +120,26 @@ ahead_short plan pre r (Some n) h few e = by r.res refl
         let short = queue_fewer g.0 pre in
         short_below n (length pre) (omega (arith, is, short)) few
 
+-- each number of a turn is short, if its ahead is
+turn_short : (plan : PlanModel) (pre : List Row) (r : Row) (ahead : Bool) → IsPlan plan → IsTurn plan pre r → r.core.0 < plan.cores → r.tick ≤ 160000 → ahead ≡ true → (is_short r.tick && (is_short r.core.0 && (has_short_job r.job && ahead))) ≡ true
+turn_short plan pre r ahead ok turn low early is =
+    let core : r.core.0 ≤ 8 = let most = ok.draft.cores.1 in omega (arith, low, most) in
+    and_from _ _ (short_below r.tick 160000 early (omega arith)) (and_from _ _ (short_below r.core.0 8 core (omega arith)) (and_from _ _ (job_short plan pre r r.job ok turn refl) is))
+
+few_short : (o : Option ℕ) → IfSome o (λ n. n ≤ 160000) → has_short_ahead o ≡ true
+few_short None few = refl
+few_short (Some n) few = short_below n 160000 few (omega arith)
+
+-- a row that is a turn of its core, and carries its ahead, is told whole
+pub turn_whole : (version : TextVersion) (plan : PlanModel) (pre : List Row) (r : Row) → IsPlan plan → IsTurn plan pre r → r.core.0 < plan.cores → r.tick ≤ 160000 → IfSome r.ahead (λ n. n ≤ 160000) → carries_its_ahead r ≡ true → is_told_whole version plan (as_read version r) ≡ true
+turn_whole V1 plan pre r ok turn low early few carries = and_from _ _ (turn_named plan pre r ok turn) (and_from _ _ (turn_short plan pre r true ok turn low early refl) refl)
+turn_whole V2 plan pre r ok turn low early few carries = and_from _ _ (turn_named plan pre r ok turn) (and_from _ _ (turn_short plan pre r (has_short_ahead r.ahead) ok turn low early (few_short r.ahead few)) carries)
+
 legal_short : (plan : PlanModel) (pre : List Row) (r : Row) → IsPlan plan → IsLegal plan pre r → length pre ≤ 160000 → has_short_numbers r ≡ true
 legal_short plan pre r ok h few =
     let due = legal_due plan pre r h in
-    let tick : r.tick ≤ length pre = let is = due.tick in let less = div-le_self (length pre) plan.cores in omega (arith, is, less) in
-    let core : r.core.0 ≤ 8 = let below = due.core in let most = ok.draft.cores.1 in omega (arith, below, most) in
-    and_from _ _ (short_below r.tick (length pre) tick few) (and_from _ _ (short_below r.core.0 8 core (omega arith)) (and_from _ _ (job_short plan pre r r.job ok (legal_turn plan pre r h) refl) (ahead_short plan pre r r.ahead h few refl)))
+    let tick : r.tick ≤ 160000 = let is = due.tick in let less = div-le_self (length pre) plan.cores in omega (arith, is, less, few) in
+    turn_short plan pre r (has_short_ahead r.ahead) ok (legal_turn plan pre r h) due.core tick (ahead_short plan pre r r.ahead h few refl)
 
 -- ---- the rows of a run
 pub legal_named : (plan : PlanModel) (pre rows : List Row) → IsPlan plan → EachAfter (IsLegal plan) pre rows → list_all (is_named plan) rows ≡ true
