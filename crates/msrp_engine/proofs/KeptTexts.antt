@@ -1,18 +1,22 @@
 -- The texts that are kept of the rows that cores are known to make, as rows are judged.
-use Rattle.std.proofs.Common.{◌≡◌, ◌≢◌, ℕ, zero, suc, ◌<◌, ◌≤◌, ◌%◌, ◌==◌, Bool, true, false, List, [], ◌∷◌, Option, Some, None, IfSome, IfNone, ap, sym, ◌∙◌, subst, arith, eqb-true, slice_index_or, slice_set, refl}
+use Rattle.std.proofs.Common.{◌≡◌, ◌≢◌, ℕ, ◌<◌, ◌≤◌, ◌%◌, ◌==◌, Bool, true, false, List, Option, Some, None, IfSome, IfNone, ap, sym, ◌∙◌, subst, arith, eqb-true, slice_index_or, slice_set, refl}
 use Rattle.std.proofs.Math.Nat.{mod-eq_of_lt}
 use Rattle.std.proofs.lemmas.Bool.{and_from, and_parts, eqb-false}
 use Rattle.std.proofs.lemmas.List.{get_or-set_other}
 use Rattle.msrp_plan.specs.Plan.{PlanModel}
 use Rattle.msrp_plan.specs.Stretches.{in_tick}
+use Rattle.msrp_plan.specs.WellFormed.{IsPlan}
 use Rattle.msrp_plan.specs.declared.rows.Row.{Row}
 use Rattle.msrp_plan.specs.declared.rows.TextVersion.{TextVersion}
 use Rattle.msrp_plan.specs.declared.rows.TextVersion.TheVariants.{V1, V2}
+use Rattle.msrp_plan.proofs.Legality.LegalRows.{turn_of}
 use Rattle.msrp_audit.specs.Audits.{AuditorModel}
-use Rattle.msrp_sim.specs.Cores.{CoresModel, IsAs, Leaves, known_row}
+use Rattle.msrp_sim.specs.Cores.{CoresModel, IsAs, IsSomeTurn, Leaves, known_row}
 use Rattle.msrp_trace.specs.Gathering.{after_tick}
 use Rattle.msrp_trace.specs.Laws.{as_read, has_told_ahead, is_short, is_told_whole}
 use Rattle.msrp_trace.specs.Texts.{TextsModel, text_of_core}
+use Rattle.msrp_trace.specs.TraceText.{is_named}
+use Rattle.msrp_trace.proofs.NamedRows.{turn_whole}
 use Rattle.msrp_engine.specs.Inside.Kept.{IsKept, KeepsKnown}
 use Rattle.msrp_engine.proofs.KnownTexts.{other_text}
 
@@ -95,46 +99,34 @@ pub same_row : (a b : TextVersion) (d e : Row) (P : Row → Type 0) (t : ℕ) �
 same_row a b d e P t version row h = subst (λ v. P (in_tick t (as_read v d))) (sym version) (subst (λ r. P (in_tick t (as_read b r))) (sym row) h)
 
 -- ---- a turn whose text is made
+-- it tells the row whole
+pub turn_told : (version : TextVersion) (plan : PlanModel) (c : ℕ) (r : Row) → IsPlan plan → c < plan.cores → IsSomeTurn plan c r → is_told_whole version plan (as_read version r) ≡ true
+turn_told version plan c r ok low some =
+    let core = some.turn.core in
+    let left = some.left in
+    let most = ok.draft.ticks.1 in
+    turn_whole version plan some.log r ok (turn_of plan some.log r some.turn.own some.turn.chosen some.turn.action) (omega (arith, core, low)) (omega (arith, left, most)) some.ahead some.carries
+
 core_read : (version : TextVersion) (r : Row) → (as_read version r).core.0 ≡ r.core.0
 core_read V1 r = refl
 core_read V2 r = refl
 
-set_flag : (w : List Bool) (k : ℕ) (b : Bool) → slice_index_or (slice_set w k b) k false ≡ true → b ≡ true
-set_flag [] k b h = absurd (cc)
-set_flag (x ∷ xs) zero b h = h
-set_flag (x ∷ xs) (suc k) b h = set_flag xs k b h
+module _ (version : TextVersion) (plan : PlanModel) (before after : TextsModel) (k : ℕ) (due told : Row) (v : before.version ≡ version) (p : before.plan ≡ plan) (read : told ≡ as_read version due) (at : due.core.0 ≡ k)
+    (whole : is_told_whole version plan (as_read version due) ≡ true) where
+  pub told_named : is_named before.plan told ≡ true
+  told_named = subst (λ q. is_named q told ≡ true) (sym p) (subst (λ r. is_named plan r ≡ true) (sym read) (and_parts _ _ whole).0)
 
-shown : (b : Bool) (before after : TextsModel) (ts : List (List ℕ)) → (b ≡ true → after ≡ record before { texts = ts }) → (b ≡ false → after ≡ before) → (after.plan ≡ before.plan) × (after.version ≡ before.version)
-shown true before after ts made kept = let e = made refl in (ap (λ (t : TextsModel). t.plan) e, ap (λ (t : TextsModel). t.version) e)
-shown false before after ts made kept = let e = kept refl in (ap (λ (t : TextsModel). t.plan) e, ap (λ (t : TextsModel). t.version) e)
-
-module _ (version : TextVersion) (plan : PlanModel) (before after : TextsModel) (was : List Bool) (k : ℕ) (b : Bool) (due told : Row) (v : before.version ≡ version) (p : before.plan ≡ plan) (read : told ≡ as_read version due) (at : due.core.0 ≡ k)
-    (whole : b ≡ is_told_whole before.version before.plan told) (made : b ≡ true → after ≡ record before { texts = slice_set before.texts (told.core.0 % 8) (after_tick before.version before.plan told) })
-    (here : b ≡ true → text_of_core after told.core.0 ≡ after_tick before.version before.plan told) (kept : b ≡ false → after ≡ before) where
   at_told : told.core.0 ≡ k
   at_told = ap (λ (r : Row). r.core.0) read ∙ (core_read version due ∙ at)
 
-  pub shown_plan : after.plan ≡ plan
-  shown_plan = (shown b before after _ made kept).0 ∙ p
+  pub shown_own : text_of_core after told.core.0 ≡ after_tick before.version before.plan told → IsKept version plan (text_of_core after k) due
+  shown_own here =
+      made_kept version plan (text_of_core after k) due whole
+      (subst (λ r. text_of_core after k ≡ after_tick version plan r) read (subst (λ q. text_of_core after k ≡ after_tick version q told) p (subst (λ w. text_of_core after k ≡ after_tick w before.plan told) v (subst (λ n. text_of_core after n ≡ after_tick before.version before.plan told) at_told here))))
 
-  pub shown_version : after.version ≡ version
-  shown_version = (shown b before after _ made kept).1 ∙ v
-
-  pub shown_own : slice_index_or (slice_set was k b) k false ≡ true → IsKept version plan (text_of_core after k) due
-  shown_own flag =
-      let yes = set_flag was k b flag in
-      let told_whole : is_told_whole version plan (as_read version due) ≡ true =
-      subst (λ r. is_told_whole version plan r ≡ true) read (subst (λ q. is_told_whole version q told ≡ true) p (subst (λ w. is_told_whole w before.plan told ≡ true) v (sym whole ∙ yes))) in
-      let text : text_of_core after k ≡ after_tick version plan (as_read version due) =
-      subst (λ r. text_of_core after k ≡ after_tick version plan r) read (subst (λ q. text_of_core after k ≡ after_tick version q told) p (subst (λ w. text_of_core after k ≡ after_tick w before.plan told) v (subst (λ n. text_of_core after n ≡ after_tick before.version before.plan told) at_told (here yes)))) in
-      made_kept version plan (text_of_core after k) due told_whole text
-
-  others_by : (c : ℕ) → c % 8 ≢ k % 8 → (f : Bool) → b ≡ f → text_of_core after c ≡ text_of_core before c
-  others_by c ne true e =
-      let is = made e in
-      ap (λ (t : TextsModel). text_of_core t c) is ∙ other_text before _ told.core.0 (after_tick before.version before.plan told) refl c (λ h. ne (h ∙ ap (λ n. n % 8) at_told))
-  others_by c ne false e = ap (λ (t : TextsModel). text_of_core t c) (kept e)
-
-  pub shown_keeps : (old new : CoresModel) → plan.cores ≤ 8 → k < plan.cores → Leaves old new due → KeepsKnown version plan old before was → KeepsKnown version plan new after (slice_set was k b)
-  shown_keeps old new few low leaves keeps =
-      keeps_on version plan old new before after was (slice_set was k b) due k few low at leaves shown_own (λ c ne. others_by c ne b refl) (λ c ne. get_or-set_other was k c b false ne) keeps
+  pub shown_keeps : (was : List Bool) (old new : CoresModel) → plan.cores ≤ 8 → k < plan.cores → Leaves old new due → after ≡ record before { texts = slice_set before.texts (told.core.0 % 8) (after_tick before.version before.plan told) } → text_of_core after told.core.0 ≡ after_tick before.version before.plan told
+      → KeepsKnown version plan old before was → KeepsKnown version plan new after (slice_set was k true)
+  shown_keeps was old new few low leaves made here keeps =
+      keeps_on version plan old new before after was (slice_set was k true) due k few low at leaves (λ flag. shown_own here)
+      (λ c ne. ap (λ (t : TextsModel). text_of_core t c) made ∙ other_text before _ told.core.0 (after_tick before.version before.plan told) refl c (λ h. ne (h ∙ ap (λ n. n % 8) at_told)))
+      (λ c ne. get_or-set_other was k c true false ne) keeps

@@ -83,7 +83,7 @@ pub struct JudgedRows<'p, 't, T> {
     auditor: Auditor<'p>,
     rows: TraceReader<'t, T>,
     texts: RowTexts<'p>,
-    // Of which cores the text that is kept is read as the row that it is the text of.
+    // Of which cores a text is kept. It is read as the row that it is the text of.
     whole: [bool; MOST_CORES as usize],
     // The row of the last turn that was chosen anew.
     due: Row,
@@ -137,7 +137,8 @@ impl<'p, 't, T: Read> JudgedRows<'p, 't, T> {
     {
         let due = self.auditor.turn_anew(core);
         let told = self.rows.as_read(due);
-        self.whole[core.0 as usize] = self.texts.show_whole(&told);
+        self.texts.show(&told);
+        self.whole[core.0 as usize] = true;
         due
     }
 
