@@ -1,8 +1,7 @@
 //! The texts of the cores' rows, kept as long as the cores do the same.
 ghost use Rattle.std.specs.List.{All};
-ghost use Rattle.std.specs.Prelude.{◌≡◌, ◌<◌, ◌++◌, ◌%◌, ℕ, List, [], codes, length, slice_index_or, slice_set, true, false};
+ghost use Rattle.std.specs.Prelude.{◌≡◌, ◌<◌, ◌++◌, ◌%◌, ℕ, List, [], codes, length, slice_index_or, slice_set, true};
 ghost use Rattle.msrp_trace.specs.Gathering.{after_tick};
-ghost use Rattle.msrp_trace.specs.Laws.{is_told_whole};
 ghost use Rattle.msrp_trace.specs.Lines.{IsCoreText};
 ghost use Rattle.msrp_trace.specs.Texts.{text_of_core, texts_of};
 ghost use Rattle.msrp_trace.specs.TraceText.{is_named};
@@ -10,7 +9,6 @@ ghost use Rattle.msrp_trace.specs.declared.line.CoreText.{CoreText as Kept};
 
 use crate::line::{CoreText, LINE};
 use crate::text::Text;
-use crate::whole::is_told_whole;
 use msrp_plan::limits::MOST_CORES;
 use msrp_plan::{Plan, Row, TextVersion};
 use std::array;
@@ -92,21 +90,5 @@ impl<'a> RowTexts<'a> {
         let plan = self.plan;
         let version = self.version;
         make_text(&mut self.lines, core, plan, version, row);
-    }
-
-    /// Makes the text of a row, if the row is read back from it as it is: it names what the plan has, its numbers have at most nine digits,
-    /// and it carries an ahead just where the version tells one. Else nothing is made.
-    #[inline(always)]
-    pub fn show_whole(&mut self, row: &Row) -> bool
-        ensures whole { result ≡ is_told_whole self.old.version self.old.plan row.now }
-        ensures texts { result ≡ true → self.new ≡ record self.old { texts = slice_set self.old.texts (row.now.core.0 % 8) (after_tick self.old.version self.old.plan row.now) } }
-        ensures here { result ≡ true → text_of_core self.new row.now.core.0 ≡ after_tick self.old.version self.old.plan row.now }
-        ensures kept { result ≡ false → self.new ≡ self.old }
-    {
-        let whole = is_told_whole(self.plan, self.version, row);
-        if whole {
-            self.show(row);
-        }
-        whole
     }
 }
