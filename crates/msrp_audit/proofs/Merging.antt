@@ -3,9 +3,9 @@ use Rattle.std.proofs.Common.{append_assoc, min, map, Ok, IfOk, MatchResult, Res
 use Rattle.std.specs.Option.{option_or}
 use Rattle.std.specs.List.{AllZip, AllByRecursion, range_with_len}
 use Rattle.std.proofs.Math.Bool.{true≢false}
-use Rattle.std.proofs.Math.Nat.{mul-le-mul_left}
+use Rattle.std.proofs.Math.Nat.{mul-le-mul_left, mul-le-mul_right}
 use Rattle.std.proofs.lemmas.Bool.{cases_Bool, cases_lt, cases_eq, lt-ltb, le-ltb, le-leb}
-use Rattle.std.proofs.lemmas.Nat.{div-add-mod', div_below, mod_below}
+use Rattle.std.proofs.lemmas.Nat.{div-add-mod', div-mul-add, div_below, mod_below}
 use Rattle.std.proofs.lemmas.List.{take_at, get_or_at, take_all, take-append-drop, length-take-le, length-drop}
 use Rattle.msrp_plan.specs.Plan.{PlanModel}
 use Rattle.msrp_plan.specs.Levels.{is_global}
@@ -23,7 +23,7 @@ use Rattle.msrp_plan.specs.declared.faults.Rule.TheVariants.{A1, A2, A3, A4, A5,
 use Rattle.msrp_plan.specs.declared.rows.Row.{Row}
 use Rattle.msrp_plan.proofs.Legality.LegalRows.{due, turn_of}
 use Rattle.msrp_plan.proofs.Runs.Verdicts.{unbroken_is_legal, legal_is_unbroken, start_before, start_last, early_fault, early_is, fault_stays, fault_append, fault_of}
-use Rattle.msrp_audit.specs.Inside.Pieces.{parts, pieces_of, piece_with, part_size, is_in_part, broken_in, told_at, TellsFirst, rule_number, fault_order, earlier_of, earliest_of, length_fault_of}
+use Rattle.msrp_audit.specs.Inside.Pieces.{parts, listed, listed_pieces, share_size, pieces_of, piece_with, part_size, is_in_part, broken_in, told_at, TellsFirst, rule_number, fault_order, earlier_of, earliest_of, length_fault_of}
 use Rattle.msrp_audit.specs.declared.pieces.Piece.{Piece}
 use Rattle.msrp_audit.specs.declared.pieces.Piece.TheVariants.{Turns, Core, Resource}
 use Rattle.std.proofs.lemmas.Option.{same_Some}
@@ -87,31 +87,31 @@ sound plan p pre r legal = sound_by plan p pre r legal (broken_in plan p pre r) 
 -- ---- and each rule that is broken is found by a piece
 record IsFoundBy (plan : PlanModel) (pre : List Row) (r : Row) (rule : Rule) : Type 0 where
   number : ℕ
-  known : number < pieces_of plan
-  finds : broken_in plan (piece_with plan number) pre r ≡ Some rule
+  known : number < listed_pieces plan
+  finds : broken_in plan (listed plan number) pre r ≡ Some rule
 
-core_piece : (plan : PlanModel) (c : ℕ) → c < plan.cores → piece_with plan c ≡ Core (record { 0 = c })
+core_piece : (plan : PlanModel) (c : ℕ) → c < plan.cores → listed plan c ≡ Core (record { 0 = c })
 core_piece plan c low = rw (lt-ltb c plan.cores low) refl
 
-turns_piece : (plan : PlanModel) (part : ℕ) → part < parts plan → piece_with plan (plan.cores + part) ≡ Turns part
+turns_piece : (plan : PlanModel) (part : ℕ) → part < parts plan → listed plan (plan.cores + part) ≡ Turns part
 turns_piece plan part low =
     let n : plan.cores + part - plan.cores ≡ part = omega arith in
     rw (le-ltb (plan.cores + part) plan.cores (omega arith), n, lt-ltb part (parts plan) low) refl
 
-resource_piece : (plan : PlanModel) (g : ℕ) → piece_with plan (plan.cores + parts plan + g) ≡ Resource (record { 0 = g })
+resource_piece : (plan : PlanModel) (g : ℕ) → listed plan (plan.cores + parts plan + g) ≡ Resource (record { 0 = g })
 resource_piece plan g =
     let n : plan.cores + parts plan + g - plan.cores ≡ parts plan + g = omega arith in
     let k : parts plan + g - parts plan ≡ g = omega arith in
     rw (le-ltb (plan.cores + parts plan + g) plan.cores (omega arith), n, le-ltb (parts plan + g) (parts plan) (omega arith), k) refl
 
--- a piece of a core or a resource is of one of the plan's
-turns_at : (plan : PlanModel) (n : ℕ) → plan.cores ≤ n → n - plan.cores < parts plan → piece_with plan n ≡ Turns (n - plan.cores)
+-- a piece of a core is of one of the plan's
+turns_at : (plan : PlanModel) (n : ℕ) → plan.cores ≤ n → n - plan.cores < parts plan → listed plan n ≡ Turns (n - plan.cores)
 turns_at plan n high low = rw (le-ltb n plan.cores high, lt-ltb (n - plan.cores) (parts plan) low) refl
 
-resource_at : (plan : PlanModel) (n : ℕ) → plan.cores ≤ n → parts plan ≤ n - plan.cores → piece_with plan n ≡ Resource (record { 0 = n - plan.cores - parts plan })
+resource_at : (plan : PlanModel) (n : ℕ) → plan.cores ≤ n → parts plan ≤ n - plan.cores → listed plan n ≡ Resource (record { 0 = n - plan.cores - parts plan })
 resource_at plan n high past = rw (le-ltb n plan.cores high, le-ltb (n - plan.cores) (parts plan) past) refl
 
-pub core_known : (plan : PlanModel) (n : ℕ) (c : CoreId) → piece_with plan n ≡ Core c → c.0 < plan.cores
+pub core_known : (plan : PlanModel) (n : ℕ) (c : CoreId) → listed plan n ≡ Core c → c.0 < plan.cores
 core_known plan n c e = elim (cases_lt n plan.cores) [
   | inl low ↦ let same : Core (record { 0 = n }) ≡ Core c = sym (core_piece plan n low) ∙ e in let is : n ≡ c.0 = cc in omega (arith, is, low)
   | inr high ↦ elim (cases_lt (n - plan.cores) (parts plan)) [
@@ -120,17 +120,32 @@ core_known plan n c e = elim (cases_lt n plan.cores) [
   ]
 ]
 
-pub resource_known : (plan : PlanModel) (n : ℕ) (g : ResId) → n < pieces_of plan → piece_with plan n ≡ Resource g → g.0 < length plan.resources
-resource_known plan n g few e = elim (cases_lt n plan.cores) [
-  | inl low ↦ let no : Core (record { 0 = n }) ≡ Resource g = sym (core_piece plan n low) ∙ e in absurd (cc)
-  | inr high ↦ elim (cases_lt (n - plan.cores) (parts plan)) [
-    | inl low ↦ let no : Turns (n - plan.cores) ≡ Resource g = sym (turns_at plan n high low) ∙ e in absurd (cc)
-    | inr past ↦
-        let same : Resource (record { 0 = n - plan.cores - parts plan }) ≡ Resource g = sym (resource_at plan n high past) ∙ e in
-        let is : n - plan.cores - parts plan ≡ g.0 = cc in
-        omega (arith, is, high, past, few)
-  ]
-]
+-- the place of a listed piece among those of all shares
+record IsDealt (plan : PlanModel) (m : ℕ) : Type 0 where
+  place : ℕ
+  known : place < pieces_of plan
+  is : piece_with plan place ≡ listed plan m
+
+dealt : (plan : PlanModel) (m : ℕ) → m < listed_pieces plan → IsDealt plan m
+dealt plan m low =
+    let w = share_size plan in
+    let q = m / 8 in
+    let r = m % 8 in
+    let whole : q * 8 + r ≡ m = div-add-mod' m 8 in
+    let rest : r < 8 = mod_below m 8 (omega arith) in
+    let above = div-add-mod' (listed_pieces plan) 8 in
+    let over = mod_below (listed_pieces plan) 8 (omega arith) in
+    let within : q < w = omega (arith, whole, above, over, low) in
+    let share : (r * w + q) / w ≡ r = div-mul-add r w q within in
+    let back : (r * w + q) / w * w + (r * w + q) % w ≡ r * w + q = div-add-mod' (r * w + q) w in
+    let kept : r * w + (r * w + q) % w ≡ r * w + q = subst (λ k. k * w + (r * w + q) % w ≡ r * w + q) share back in
+    let own : (r * w + q) % w ≡ q = omega (arith, kept) in
+    let most : r * w ≤ 7 * w = mul-le-mul_right w (let b : r ≤ 7 = omega (arith, rest) in b) in
+    record {
+      place = r * w + q;
+      known = omega (arith, most, within);
+      is = ap (listed plan) (ap (λ k. k * 8 + (r * w + q) / w) own ∙ (ap (λ k. q * 8 + k) share ∙ whole));
+    }
 
 -- a row that is due stands in a part of the ticks
 part_of : (plan : PlanModel) (n : ℕ) → 0 < plan.cores → n < plan.cores * plan.ticks → (part : ℕ) × (part < parts plan) × (is_in_part plan part n ≡ true)
@@ -378,9 +393,11 @@ module _ (plan : PlanModel) (rows : List Row) where
   first_by faults ok within z (Some f) e = elim (early_fault plan rows f e) [
     | inl b ↦
         let it = found plan b.before b.broke f.rule ok b.due b.rule in
-        let known = it.known in
+        let at = dealt plan it.number it.known in
+        let known = at.known in
+        let finds = ap (λ p. broken_in plan p b.before b.broke) at.is ∙ it.finds in
         least f None faults tt (all_behind f b (range_with_len 0 (pieces_of plan)) faults z)
-        (inr (one_has f it.number 0 (pieces_of plan) faults z (omega arith) (omega (arith, known)) (λ o tells. told_is (length b.before + 1) o f.rule (tells.told b.before b.broke b.behind b.place b.start ∙ it.finds) f b.number refl)))
+        (inr (one_has f at.place 0 (pieces_of plan) faults z (omega arith) (omega (arith, known)) (λ o tells. told_is (length b.before + 1) o f.rule (tells.told b.before b.broke b.behind b.place b.start ∙ finds) f b.number refl)))
     | inr extra ↦
         let size = split_length rows extra.before extra.behind extra.extra extra.place in
         let all = extra.run.size in

@@ -1,7 +1,7 @@
 //! The pieces of an audit: each looks at some of the rows alone.
 ghost use Rattle.std.specs.Prelude.{◌≡◌, ◌≤◌, ◌<◌, ◌*◌, IfOk, length};
 ghost use Rattle.msrp_plan.specs.WellFormed.{IsPlan};
-ghost use Rattle.msrp_audit.specs.Inside.Pieces.{broken_in, parts, piece_with, pieces_of, TellsFirst};
+ghost use Rattle.msrp_audit.specs.Inside.Pieces.{broken_in, listed, parts, piece_with, pieces_of, share_size, TellsFirst};
 ghost use Rattle.msrp_audit.specs.Inside.Walks.{naming_places};
 
 use crate::core_rows::judge_core;
@@ -29,17 +29,29 @@ fn parts(plan: &Plan) -> u32
     plan.ticks() / TICKS_A_PIECE + 1
 }
 
-/// The number of pieces of a plan's audit.
+// How many shares the pieces are dealt out to. A core has most to do, so each share gets one of them before it gets others.
+const SHARES: u32 = 8;
+
+// How many pieces a share has.
+fn share_size(plan: &Plan) -> u32
+    ensures size { result ≡ share_size plan.now }
+    ensures few { result ≤ 15 }
+    ensures accepted { IsPlan plan.now }
+{
+    (plan.cores() + parts(plan) + plan.resources()) / SHARES + 1
+}
+
+/// The number of pieces of a plan's audit. Those of a share stand side by side, since `rayon` gives a thread pieces that do so.
 pub(crate) fn pieces(plan: &Plan) -> u32
     ensures number { result ≡ pieces_of plan.now }
     ensures accepted { IsPlan plan.now }
 {
-    plan.cores() + parts(plan) + plan.resources()
+    SHARES * share_size(plan)
 }
 
-// The piece of that number. The cores come first, since they have most to do.
-fn piece_at(plan: &Plan, number: u32) -> Piece
-    ensures { result ≡ piece_with plan.now number }
+// The piece of that number in the list of the cores, the parts of the ticks and the resources.
+fn listed(plan: &Plan, number: u32) -> Piece
+    ensures { result ≡ listed plan.now number }
 {
     let cores = plan.cores();
     if number < cores {
@@ -51,6 +63,15 @@ fn piece_at(plan: &Plan, number: u32) -> Piece
     } else {
         Piece::Resource(ResId(part - parts(plan)))
     }
+}
+
+// The piece of that number, share by share.
+fn piece_at(plan: &Plan, number: u32) -> Piece
+    requires { number < pieces_of plan.now }
+    ensures { result ≡ piece_with plan.now number }
+{
+    let size = share_size(plan);
+    listed(plan, number % size * SHARES + number / size)
 }
 
 /// The first fault that the piece of that number finds in the rows, which are not more than the plan has turns. The

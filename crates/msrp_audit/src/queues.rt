@@ -2,6 +2,7 @@
 ghost use Rattle.std.specs.Prelude.{◌≡◌, ◌<◌, ◌≤◌, ◌*◌, IfOk, length};
 ghost use Rattle.msrp_plan.specs.Queues.{counts, is_behind, is_first, is_on, is_reply_of, replies};
 ghost use Rattle.std.specs.List.{list_any};
+ghost use Rattle.msrp_plan.specs.Levels.{is_global};
 ghost use Rattle.msrp_plan.specs.Jobs.{same_job};
 ghost use Rattle.msrp_plan.specs.Limits.{most_rows};
 ghost use Rattle.msrp_audit.specs.Inside.Pieces.{broken_reply, TellsFirst};
@@ -84,6 +85,14 @@ pub(crate) fn naming_places(alloc: Global, rows: &[Row]) -> Result<Vec<u32>, Mem
     Ok(places)
 }
 
+// Whether a resource is global. One that the plan hasn't is none.
+fn is_global(plan: &Plan, levels: &Levels, res: ResId) -> bool
+    requires { levels.now ≡ plan.now }
+    ensures { result ≡ is_global plan.now res.0 }
+{
+    res.0 < plan.resources() && levels.is_global(res)
+}
+
 /// The first row on a global resource that has not its queue's reply. Only the rows that name a resource are looked at.
 ///
 /// More jobs than cores never stand in the queue of a legal run: where they do, an earlier row breaks a rule, and the
@@ -99,10 +108,9 @@ pub(crate) fn judge_resource(
     requires levels { levels.now ≡ plan.now }
     requires rows { length rows.now ≤ plan.now.cores * plan.now.ticks }
     requires places { places.now ≡ naming_places 0 rows.now }
-    requires resource { res.0 < length plan.now.resources }
     ensures { IfOk result (TellsFirst plan.now (broken_reply plan.now res.0) rows.now) }
 {
-    if !levels.is_global(res) {
+    if !is_global(plan, levels, res) {
         return Ok(None);
     }
     let mut requests = Requests::of(alloc, res);

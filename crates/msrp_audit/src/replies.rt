@@ -1,5 +1,5 @@
 //! One turn of a machine over a port that answers as a row says.
-ghost use Rattle.std.specs.Prelude.{◌≡◌, ◌<◌, ◌+◌, ◌++◌, ◌∷◌, [], List, length, true, None};
+ghost use Rattle.std.specs.Prelude.{◌≡◌, ◌<◌, ◌+◌, ◌++◌, ◌∷◌, [], List, length, true, IfNone, IfSome, None};
 ghost use Rattle.std.specs.Option.{ForSome};
 ghost use Rattle.msrp_plan.specs.Runs.{IsCoreTurn};
 ghost use Rattle.msrp_plan.specs.declared.rows.Row.{Row as TraceRow};
@@ -120,6 +120,24 @@ fn turn_over<B: Script>(plan: &Plan, machine: &mut Machine<'_>, row: Row) -> Row
     machine.turn(&mut port)
 }
 
+// The machine's turn, where its last one was a poll in vain and the row says that this one is so too. That takes no choice.
+#[inline(always)]
+fn spin_as(machine: &mut Machine<'_>, kind: Kind) -> Option<Row>
+    requires { machine.old.tick < machine.old.plan.ticks }
+    ensures none { IfNone result (machine.new ≡ machine.old) }
+    ensures plan { machine.new.plan ≡ machine.old.plan }
+    ensures core { machine.new.core ≡ machine.old.core }
+    ensures tick { IfSome result (λ _. machine.new.tick ≡ machine.old.tick + 1) }
+    ensures row { IfSome result (λ due. (log : List TraceRow) → StandsAfter machine.old log → IsCoreTurn machine.old.plan machine.old.core log due) }
+    ensures stands { IfSome result (λ due. (log : List TraceRow) → StandsAfter machine.old log → StandsAfter machine.new (log ++ due ∷ [])) }
+    ensures kind { IfSome result (λ due. kind ≡ due.kind) }
+{
+    match kind {
+        Kind::Spin => machine.spin_on(),
+        _ => None,
+    }
+}
+
 /// The machine's turn, where a global resource answers as the row says: where the row does the same as the core, it has
 /// the same answer.
 pub(crate) fn turn_as(plan: &Plan, machine: &mut Machine<'_>, row: Row) -> Row
@@ -132,5 +150,8 @@ pub(crate) fn turn_as(plan: &Plan, machine: &mut Machine<'_>, row: Row) -> Row
     ensures stands { (log : List TraceRow) → StandsAfter machine.old log → StandsAfter machine.new (log ++ result ∷ []) }
     ensures kind { (log : List TraceRow) → StandsAfter machine.old log → same_action row.kind result.kind ≡ true → row.kind ≡ result.kind }
 {
-    turn_over::<Brand>(plan, machine, row)
+    match spin_as(machine, row.kind) {
+        Some(due) => due,
+        None => turn_over::<Brand>(plan, machine, row),
+    }
 }

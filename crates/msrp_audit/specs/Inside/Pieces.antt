@@ -1,5 +1,5 @@
 -- The pieces of an audit: which rule each of them finds broken at a row, and which fault it answers.
-use Rattle.std.specs.Prelude.{ℕ, List, ◌∷◌, ◌++◌, Bool, ◌==◌, ◌&&◌, nat_lt, nat_le, Option, Some, None, IfSome, fold, length, ◌≡◌, ◌≤◌, ◌+◌, ◌-◌, ◌*◌, ◌/◌, if◌then◌else◌}
+use Rattle.std.specs.Prelude.{ℕ, List, ◌∷◌, ◌++◌, Bool, ◌==◌, ◌&&◌, nat_lt, nat_le, Option, Some, None, IfSome, fold, length, ◌≡◌, ◌≤◌, ◌+◌, ◌-◌, ◌*◌, ◌/◌, ◌%◌, if◌then◌else◌}
 use Rattle.msrp_plan.specs.Plan.{PlanModel}
 use Rattle.msrp_plan.specs.Levels.{is_global}
 use Rattle.msrp_plan.specs.Logs.{is_of}
@@ -21,15 +21,30 @@ ticks_a_piece = 1250
 abbrev pub parts : PlanModel → ℕ
 parts plan = plan.ticks / ticks_a_piece + 1
 
--- a piece for each core, each part of the ticks, and each resource
-abbrev pub pieces_of : PlanModel → ℕ
-pieces_of plan = plan.cores + parts plan + length plan.resources
-
-abbrev pub piece_with : PlanModel → ℕ → Piece
-piece_with plan n =
+-- a piece for each core, each part of the ticks, and each resource; behind them stand those of resources that the plan hasn't
+abbrev pub listed : PlanModel → ℕ → Piece
+listed plan n =
     if nat_lt n plan.cores then Core (record { 0 = n })
     else if nat_lt (n - plan.cores) (parts plan) then Turns (n - plan.cores)
     else Resource (record { 0 = n - plan.cores - parts plan })
+
+abbrev pub listed_pieces : PlanModel → ℕ
+listed_pieces plan = plan.cores + parts plan + length plan.resources
+
+-- the pieces are dealt out to so many shares
+abbrev pub shares : ℕ
+shares = 8
+
+-- so many to each
+abbrev pub share_size : PlanModel → ℕ
+share_size plan = listed_pieces plan / shares + 1
+
+-- the pieces, share by share
+abbrev pub pieces_of : PlanModel → ℕ
+pieces_of plan = shares * share_size plan
+
+abbrev pub piece_with : PlanModel → ℕ → Piece
+piece_with plan n = listed plan (n % share_size plan * shares + n / share_size plan)
 
 -- ---- what a piece finds of a row
 -- the rows of a part of the ticks, where each core has its turn in each tick
