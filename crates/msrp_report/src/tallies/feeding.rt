@@ -10,12 +10,14 @@ ghost use Rattle.msrp_report.specs.Inside.Tallies.{AreTallies, Counts, GoesOn, H
 use super::{Blocking, Tallies};
 use msrp_plan::{JobId, Plan, Row};
 
-// The active job of a task, if it has units left.
+// The active job of a task is so no more, where it has no units left. Else nothing is written.
 #[inline(always)]
-fn still_active(active: Option<JobId>, done: u32, units: u32) -> Option<JobId>
-    ensures { result ≡ cond (done == units) None active }
+fn end_active(active: &mut Option<JobId>, done: u32, units: u32)
+    ensures { active.new ≡ cond (done == units) None active.old }
 {
-    if done == units { None } else { active }
+    if done == units {
+        *active = None;
+    }
 }
 
 impl Tallies {
@@ -42,7 +44,9 @@ impl Tallies {
         let tally = &mut task.jobs[job.k as usize];
         tally.count.add(row);
         tally.blocking = Blocking::Over(blocked);
-        task.active = still_active(Some(job), tally.count.done, task.facts.units);
+        let done = tally.count.done;
+        task.active = Some(job);
+        end_active(&mut task.active, done, task.facts.units);
     }
 
     // Counts a row of a job. Most are no first ones: what is kept of how their job is blocked stays as it is.
@@ -63,7 +67,8 @@ impl Tallies {
         let task = &mut self.tasks[job.task.0 as usize];
         let tally = &mut task.jobs[job.k as usize];
         tally.count.add(row);
-        task.active = still_active(task.active, tally.count.done, task.facts.units);
+        let done = tally.count.done;
+        end_active(&mut task.active, done, task.facts.units);
     }
 
     // Begins the tick of a row, if none of its rows has come.

@@ -32,7 +32,7 @@ returns-clause-told c = λ rows are next.
     let of_job = job_read tasks c.args.job x s told c.index_mut-task.ensures.value c.index_mut-tally.ensures.value in
     let counted_is = c.add.ensures in
     tallies_grown plan rows c.args.row c.args.self.now.begun tasks _ c.args.job x
-    (record { jobs = with_item x.jobs c.args.job.k (record { count = c.add.new.self; blocking = s.blocking }); facts = x.facts; released = x.released; due = x.due; active = c.still_active-task.result })
+    (record { jobs = with_item x.jobs c.args.job.k (record { count = c.add.new.self; blocking = s.blocking }); facts = x.facts; released = x.released; due = x.due; active = c.end_active.new.active })
     s c.requires.plan c.requires.job next are of_task refl (c.is_unstarted.ensures plan rows (λ _. c.args.self.now.begun) are c.if-is_unstarted.false)
     (record {
       was = of_job;
@@ -40,7 +40,7 @@ returns-clause-told c = λ rows are next.
       facts = refl;
       released = refl;
       due = refl;
-      active = c.still_active-task.ensures ∙ ap (λ (y : JobCount). cond (y.done == x.facts.units) None x.active) counted_is;
+      active = c.end_active.ensures ∙ ap (λ (y : JobCount). cond (y.done == x.facts.units) None x.active) counted_is;
     })
 
 -- ---- the first row of a job, made anew

@@ -33,7 +33,7 @@ returns-clause-told c = λ rows are next.
     let n = c.blocked-blocked.result in
     let counted_is = c.add.ensures in
     tallies_counted plan rows c.args.row c.args.self.now.begun tasks _ c.args.job x
-    (record { jobs = with_item x.jobs c.args.job.k (record { count = c.add.new.self; blocking = Over n }); facts = x.facts; released = x.released; due = x.due; active = c.still_active-task.result })
+    (record { jobs = with_item x.jobs c.args.job.k (record { count = c.add.new.self; blocking = Over n }); facts = x.facts; released = x.released; due = x.due; active = c.end_active.new.active })
     s n c.requires.plan c.requires.job next are of_task refl
     (record {
       was = of_job;
@@ -41,6 +41,6 @@ returns-clause-told c = λ rows are next.
       facts = refl;
       released = refl;
       due = refl;
-      active = c.still_active-task.ensures ∙ (ap (λ (y : JobCount). cond (y.done == x.facts.units) None (Some c.args.job)) counted_is ∙ ap (λ u. cond ((counted c.args.row s.count).done == u) None (Some c.args.job)) (are.each c.args.job.task.0 x of_task).facts.units);
+      active = c.end_active.ensures ∙ (ap (λ (y : JobCount). cond (y.done == x.facts.units) None (Some c.args.job)) counted_is ∙ ap (λ u. cond ((counted c.args.row s.count).done == u) None (Some c.args.job)) (are.each c.args.job.task.0 x of_task).facts.units);
     })
     (c.blocked-blocked.ensures plan rows (λ _. c.args.self.now.begun) c.requires.plan are (row_in plan rows c.args.row c.args.job next.start c.requires.job))
