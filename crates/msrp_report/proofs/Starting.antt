@@ -1,15 +1,17 @@
 -- Before the first row.
-use Rattle.std.proofs.Common.{◌≡◌, ℕ, false, [], None, Some, refl, ap, sym, ◌∙◌, subst, arith, length, nat_lt, slice_get, IfSome}
+use Rattle.std.proofs.Common.{◌≡◌, ℕ, ◌+◌, ◌/◌, ◌<◌, false, List, [], None, Some, refl, ap, sym, ◌∙◌, subst, arith, length, nat_lt, slice_get, get_or, replicate, unwrap_or, IfSome}
 use Rattle.std.specs.List.{Contains}
 use Rattle.std.proofs.Math.Bool.{true≢false}
 use Rattle.std.proofs.lemmas.Bool.{le-ltb}
+use Rattle.std.proofs.lemmas.List.{get_or-replicate, length-replicate}
+use Rattle.std.proofs.lemmas.Option.{slice_get_within, unwrap_or-slice_get}
 use Rattle.msrp_plan.specs.Plan.{PlanModel}
 use Rattle.msrp_plan.specs.Jobs.{jobs_of, job_at, is_job}
 use Rattle.msrp_plan.specs.WellFormed.{IsPlan}
 use Rattle.std.proofs.lemmas.Nat.{div_below}
 use Rattle.msrp_plan.specs.declared.ids.JobId.{JobId}
 use Rattle.msrp_report.specs.Inside.Counts.{uncounted, count_of}
-use Rattle.msrp_report.specs.Inside.Tallies.{AreFacts, HasTallied, IsJobTally, IsTaskTally, release_or_end}
+use Rattle.msrp_report.specs.Inside.Tallies.{AreFacts, AreGroups, HasTallied, IsJobTally, IsTaskTally, release_or_end}
 use Rattle.msrp_report.specs.declared.tallies.Blocking.TheVariants.{Over}
 use Rattle.msrp_report.specs.declared.tallies.JobTally.{JobTally}
 use Rattle.msrp_report.specs.declared.tallies.TaskTally.{TaskTally}
@@ -36,9 +38,22 @@ task_untold plan t x size facts released due active each = record {
   active = λ j there. ap (λ g. is_job g j) active;
 }
 
-pub tallies_untold : (plan : PlanModel) (t : Tallies) → IsPlan plan → t.begun ≡ 0 → t.next ≡ 0 → length t.tasks.items ≡ length plan.tasks → ((k : ℕ) (x : TaskTally) → slice_get t.tasks.items k ≡ Some x → IsTaskTally plan [] 0 k x) → HasTallied plan [] t
-tallies_untold plan t ok begun next size each = record {
+-- no group has a release before the first tick
+untold_groups : (plan : PlanModel) (from n : ℕ) (groups : List ℕ) → groups ≡ replicate n 0 → n ≡ (length plan.tasks + 7) / 8 → AreGroups plan 0 from groups
+untold_groups plan from n groups is size =
+    let same : length groups ≡ n = ap length is ∙ length-replicate n 0 in
+    record {
+      size = same ∙ size;
+      quiet = λ g to past has t low l k within late.
+          let l : g < length groups = slice_get_within groups g to has in
+          let zero : to ≡ 0 = sym (ap (λ o. unwrap_or o 1) has) ∙ (unwrap_or-slice_get groups g 1 ∙ (ap (λ l. get_or l g 1) is ∙ get_or-replicate n g 0 1 (omega (arith, l, same)))) in
+          omega (arith, zero);
+    }
+
+pub tallies_untold : (plan : PlanModel) (t : Tallies) (n : ℕ) → IsPlan plan → t.begun ≡ 0 → t.next ≡ 0 → t.groups.items ≡ replicate n 0 → n ≡ (length plan.tasks + 7) / 8 → length t.tasks.items ≡ length plan.tasks → ((k : ℕ) (x : TaskTally) → slice_get t.tasks.items k ≡ Some x → IsTaskTally plan [] 0 k x) → HasTallied plan [] t
+tallies_untold plan t n ok begun next zeros groups size each = record {
   begun = record { early = tt; least = let cores = ok.draft.cores in let z = div_below 0 plan.cores 1 (omega (arith, cores)) (omega (arith, cores)) in omega (arith, begun, z); most = omega (arith, begun) };
   quiet = λ i l k within from. omega (arith, next);
+  groups = untold_groups plan t.begun n t.groups.items zeros groups;
   tallies = record { start = record { size = omega arith; each = tt }; size = size; each = λ k x has. subst (λ b. IsTaskTally plan [] b k x) (sym begun) (each k x has) };
 }

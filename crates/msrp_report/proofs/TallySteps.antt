@@ -1,9 +1,10 @@
 -- What is kept of the rows stays told by them, release by release and row by row.
-use Rattle.std.proofs.Common.{◌≡◌, ◌≢◌, ℕ, ◌<◌, ◌≤◌, ◌+◌, ◌==◌, true, false, cond, min, List, Option, Some, None, IfSome, IsSome, refl, ap, sym, ◌∙◌, subst, arith, inl, inr, ◌⊎◌, length, slice_get, slice_set, get_or, nat_lt, unwrap_or, eqb-true}
+use Rattle.std.proofs.Common.{◌≡◌, ◌≢◌, ℕ, ◌<◌, ◌≤◌, ◌+◌, ◌*◌, ◌/◌, ◌==◌, true, false, cond, min, List, Option, Some, None, IfSome, IsSome, refl, ap, sym, ◌∙◌, subst, arith, inl, inr, ◌⊎◌, length, slice_get, slice_set, get_or, nat_lt, unwrap_or, eqb-true}
 use Rattle.std.specs.List.{AllByRecursion, Contains}
 use Rattle.std.proofs.Math.Bool.{true≢false}
 use Rattle.std.proofs.lemmas.Bool.{cases_Bool, cases_lt, eqb-false, le-ltb, lt-ltb}
 use Rattle.std.proofs.lemmas.List.{length-set}
+use Rattle.std.proofs.lemmas.Nat.{div-add-mod', mod_below}
 use Rattle.std.proofs.lemmas.Option.{slice_get_within, slice_get_read, same_Some}
 use Rattle.msrp_plan.specs.Plan.{PlanModel, task_at, release, release_tick}
 use Rattle.msrp_plan.specs.Jobs.{jobs_of, job_at, is_job}
@@ -13,7 +14,7 @@ use Rattle.msrp_plan.specs.declared.ids.JobId.{JobId}
 use Rattle.msrp_plan.specs.declared.rows.Row.{Row}
 use Rattle.msrp_plan.proofs.Jobs.Releases.{releases_rise, task_times}
 use Rattle.msrp_sim.proofs.Standing.{get_set_same, get_set_other}
-use Rattle.msrp_report.specs.Inside.Tallies.{AreFacts, AreTallies, IsBlocking, IsJobTally, IsOver, NoneReleased, NoJobReleased, IsTaskTally, begun_below, blocking_by, release_or_end}
+use Rattle.msrp_report.specs.Inside.Tallies.{AreFacts, AreTallies, IsBlocking, IsJobTally, IsOver, NoneReleased, NoneReleasedIn, NoJobReleased, AreGroups, IsTaskTally, begun_below, blocking_by, group_end, release_or_end}
 use Rattle.msrp_report.specs.declared.tallies.Blocking.{Blocking}
 use Rattle.msrp_report.specs.declared.tallies.Blocking.TheVariants.{Over, By}
 use Rattle.msrp_report.specs.declared.tallies.JobTally.{JobTally}
@@ -224,16 +225,23 @@ due_within plan rows begun n tasks x y are task ix iy due left =
 
 -- ---- ticks without a release
 -- with the next release of one task more
-pub quiet_more : (plan : PlanModel) (rows : List Row) (begun n to : ℕ) (tasks : List TaskTally) (x : TaskTally) → IsPlan plan → n < length plan.tasks → AreTallies plan rows (begun_below begun (n + 1)) tasks → x ≡ get_or tasks n x → NoneReleased plan n (begun + 1) to → NoneReleased plan (n + 1) (begun + 1) (min to x.due)
-quiet_more plan rows begun n to tasks x ok task are is quiet t l k within from =
+pub group_more : (plan : PlanModel) (rows : List Row) (begun a n to : ℕ) (tasks : List TaskTally) (x : TaskTally) → IsPlan plan → n < length plan.tasks → AreTallies plan rows (begun_below begun (n + 1)) tasks → x ≡ get_or tasks n x → NoneReleasedIn plan a n (begun + 1) to → NoneReleasedIn plan a (n + 1) (begun + 1) (min to x.due)
+group_more plan rows begun a n to tasks x ok task are is quiet t low l k within from =
     let here = are.each n x (read_task plan rows (begun_below begun (n + 1)) n tasks x are task is) in
     elim (cases_lt t n) [
-      | inl below ↦ let far = quiet t below k within from in omega (arith, far)
+      | inl below ↦ let far = quiet t low below k within from in omega (arith, far)
       | inr past ↦
           let own : NoJobReleased plan n (begun + 1) x.due = task_quiet plan rows (begun + 1) n x ok task (subst (λ b. IsTaskTally plan rows b n x) (below_then begun n) here) in
           let far = subst (λ m. NoJobReleased plan m (begun + 1) x.due) (let e : n ≡ t = omega (arith, l, past) in e) own k within from in
           omega (arith, far)
     ]
+
+-- with those of one group more
+pub quiet_group : (plan : PlanModel) (g n from to due : ℕ) → n ≡ g * 8 → NoneReleased plan n from to → NoneReleasedIn plan (g * 8) (group_end plan g) from due → NoneReleased plan (group_end plan g) from (min to due)
+quiet_group plan g n from to due is before quiet t l k within late = elim (cases_lt t n) [
+  | inl below ↦ let far = before t below k within late in omega (arith, far)
+  | inr past ↦ let far = quiet t (omega (arith, past, is)) l k within late in omega (arith, far)
+]
 
 -- in a tick before the next release all tasks wait
 quiet_waits : (plan : PlanModel) (rows : List Row) (begun to t : ℕ) (x : TaskTally) → NoJobReleased plan t begun to → begun < to → begun < plan.ticks → IsTaskTally plan rows begun t x → begun < x.due
@@ -254,3 +262,53 @@ all_wait plan rows begun to tasks quiet ahead left are = record {
       let l : t < length plan.tasks = (let w = slice_get_within tasks t x has in let size = are.size in omega (arith, w, size)) in
       task_waits plan rows begun t x is (quiet_waits plan rows begun to t x (quiet t l) ahead left is);
 }
+
+-- in a tick before the next release of some tasks these wait
+begun_then : (begun n t : ℕ) → t < n → begun_below begun n t ≡ begun + 1
+begun_then begun n t l = ap (λ b. cond b (begun + 1) begun) (lt-ltb t n l)
+
+begun_still : (begun n t : ℕ) → n ≤ t → begun_below begun n t ≡ begun
+begun_still begun n t past = ap (λ b. cond b (begun + 1) begun) (le-ltb t n past)
+
+pub group_waits : (plan : PlanModel) (rows : List Row) (begun to a b : ℕ) (tasks : List TaskTally) → a ≤ b → NoneReleasedIn plan a b begun to → begun < to → begun < plan.ticks → AreTallies plan rows (begun_below begun a) tasks → AreTallies plan rows (begun_below begun b) tasks
+group_waits plan rows begun to a b tasks up quiet ahead left are = record {
+  start = are.start;
+  size = are.size;
+  each = λ t x has. by_place t x has (cases_lt t a) (cases_lt t b);
+}
+  where
+    by_place : (t : ℕ) (x : TaskTally) → slice_get tasks t ≡ Some x → (t < a) ⊎ (a ≤ t) → (t < b) ⊎ (b ≤ t) → IsTaskTally plan rows (begun_below begun b t) t x
+    by_place t x has (inl below) other = subst (λ n. IsTaskTally plan rows n t x) (begun_then begun a t below ∙ sym (begun_then begun b t (omega (arith, below, up)))) (are.each t x has)
+    by_place t x has (inr past) (inl within) =
+        let is = subst (λ n. IsTaskTally plan rows n t x) (begun_still begun a t past) (are.each t x has) in
+        subst (λ n. IsTaskTally plan rows n t x) (sym (begun_then begun b t within)) (task_waits plan rows begun t x is (quiet_waits plan rows begun to t x (quiet t past within) ahead left is))
+    by_place t x has (inr past) (inr beyond) = subst (λ n. IsTaskTally plan rows n t x) (begun_still begun a t past ∙ sym (begun_still begun b t beyond)) (are.each t x has)
+
+-- ---- groups of tasks
+-- a group has a task
+pub group_within : (plan : PlanModel) (g n : ℕ) → n ≡ (length plan.tasks + 7) / 8 → g < n → g * 8 < length plan.tasks
+group_within plan g n size l =
+    let whole = div-add-mod' (length plan.tasks + 7) 8 in
+    let rest = mod_below (length plan.tasks + 7) 8 (omega arith) in
+    omega (arith, size, l, whole, rest)
+
+-- they have all tasks
+pub groups_whole : (plan : PlanModel) (n : ℕ) → n ≡ (length plan.tasks + 7) / 8 → min (length plan.tasks) (n * 8) ≡ length plan.tasks
+groups_whole plan n size =
+    let whole = div-add-mod' (length plan.tasks + 7) 8 in
+    let rest = mod_below (length plan.tasks + 7) 8 (omega arith) in
+    omega (arith, size, whole, rest)
+
+-- the groups behind one stay as they are
+pub groups_left : (plan : PlanModel) (n from : ℕ) (groups after : List ℕ) → AreGroups plan n from groups → length after ≡ length groups → ((g : ℕ) → g ≢ n → slice_get after g ≡ slice_get groups g) → AreGroups plan (n + 1) from after
+groups_left plan n from groups after are size others = record {
+  size = size ∙ are.size;
+  quiet = λ g to past has. are.quiet g to (omega (arith, past)) (sym (others g (λ e. absurd (omega (arith, e, past)))) ∙ has);
+}
+
+-- a tick later they are quiet too
+pub later_in : (plan : PlanModel) (a b from to : ℕ) → NoneReleasedIn plan a b from to → NoneReleasedIn plan a b (from + 1) to
+later_in plan a b from to quiet t low l k within late = quiet t low l k within (omega (arith, late))
+
+pub groups_later : (plan : PlanModel) (n from : ℕ) (groups : List ℕ) → AreGroups plan n from groups → AreGroups plan n (from + 1) groups
+groups_later plan n from groups are = record { size = are.size; quiet = λ g to past has. later_in plan (g * 8) (group_end plan g) from to (are.quiet g to past has) }

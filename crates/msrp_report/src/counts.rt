@@ -1,8 +1,8 @@
 //! What the rows tell of one job, row by row.
 ghost use Rattle.std.specs.Prelude.{◌≡◌, ◌<◌, ◌≤◌, ◌+◌, ◌^◌, unwrap_or};
-ghost use Rattle.msrp_report.specs.Inside.Counts.{CanCount, counted, spun, HasRoom};
+ghost use Rattle.msrp_report.specs.Inside.Counts.{CanCount, counted_as, spun, HasRoom};
 
-use msrp_plan::{Kind, Row};
+use msrp_plan::Kind;
 
 /// What the rows so far tell of one job.
 #[derive(Clone, Copy)]
@@ -45,22 +45,24 @@ impl JobCount {
         }
     }
 
-    /// One row of the job more. Only what the row changes is written.
+    /// One row of the job more, of that tick and kind. Only what the row changes is written. Most rows do a unit: they are found without a jump
+    /// by a table.
     #[inline(always)]
-    pub(crate) fn add(&mut self, row: Row)
+    pub(crate) fn add(&mut self, tick: u32, kind: Kind)
         requires { CanCount self.old }
-        ensures { self.new ≡ counted row self.old }
+        ensures { self.new ≡ counted_as tick kind self.old }
     {
         self.rows += 1;
-        self.last_tick = row.tick;
-        match row.kind {
-            Kind::Queue => self.wait = Some(self.wait.unwrap_or(0)),
-            Kind::Spin => self.spin(),
-            Kind::Grant => {
-                self.done += 1;
+        self.last_tick = tick;
+        if matches!(kind, Kind::Queue) {
+            self.wait = Some(self.wait.unwrap_or(0));
+        } else if matches!(kind, Kind::Spin) {
+            self.spin();
+        } else {
+            self.done += 1;
+            if matches!(kind, Kind::Grant) {
                 self.wait = None;
             }
-            _ => self.done += 1,
         }
     }
 }

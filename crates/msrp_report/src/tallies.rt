@@ -61,6 +61,8 @@ pub(crate) struct Tallies {
     pub(crate) tasks: Vec<TaskTally>,
     /// How many ticks have begun.
     pub(crate) begun: u32,
+    /// Of each group of tasks: no further job of theirs is released before this tick.
+    pub(crate) groups: Vec<u64>,
     /// No further job is released before this tick.
     pub(crate) next: u64,
 }

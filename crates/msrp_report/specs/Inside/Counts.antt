@@ -36,16 +36,19 @@ uncounted = record { rows = 0; done = 0; last_tick = 0; spins = 0; wait = None; 
 abbrev pub spun : JobCount → JobCount
 spun c = record c { spins = c.spins + 1; wait = wait_with Spin c.wait; longest_wait = max c.longest_wait (unwrap_or (wait_with Spin c.wait) 0) }
 
--- one row of the job more
-abbrev pub counted : Row → JobCount → JobCount
-counted r c = record {
+-- one row of the job more, of that tick and kind
+abbrev pub counted_as : ℕ → Kind → JobCount → JobCount
+counted_as tick kind c = record {
   rows = c.rows + 1;
-  done = c.done + (if not (is_waiting r.kind) then 1 else 0);
-  last_tick = r.tick;
-  spins = c.spins + (if is_spin r.kind then 1 else 0);
-  wait = wait_with r.kind c.wait;
-  longest_wait = max c.longest_wait (unwrap_or (wait_with r.kind c.wait) 0);
+  done = c.done + (if not (is_waiting kind) then 1 else 0);
+  last_tick = tick;
+  spins = c.spins + (if is_spin kind then 1 else 0);
+  wait = wait_with kind c.wait;
+  longest_wait = max c.longest_wait (unwrap_or (wait_with kind c.wait) 0);
 }
+
+abbrev pub counted : Row → JobCount → JobCount
+counted r c = counted_as r.tick r.kind c
 
 -- what the rows tell of the job
 unfoldable pub count_of : List Row → JobId → JobCount

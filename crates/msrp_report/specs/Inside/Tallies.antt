@@ -1,5 +1,5 @@
 -- What is kept of each job while the rows come, and what it says of the rows so far.
-use Rattle.std.specs.Prelude.{ℕ, List, ◌∷◌, [], ◌++◌, Bool, true, false, not, ◌&&◌, nat_lt, Option, Some, None, IfSome, IsSome, length, slice_get, ◌≡◌, ◌≢◌, ◌<◌, ◌≤◌, ◌+◌, ◌/◌, if◌then◌else◌}
+use Rattle.std.specs.Prelude.{ℕ, List, ◌∷◌, [], ◌++◌, Bool, true, false, not, ◌&&◌, nat_lt, Option, Some, None, IfSome, IsSome, length, slice_get, ◌≡◌, ◌≢◌, ◌<◌, ◌≤◌, ◌+◌, ◌*◌, ◌/◌, min, if◌then◌else◌}
 use Rattle.std.specs.List.{AllByRecursion, Contains}
 use Rattle.msrp_plan.specs.Plan.{PlanModel, core_of, task_at, release, release_tick}
 use Rattle.msrp_plan.specs.Choice.{is_before}
@@ -8,6 +8,7 @@ use Rattle.msrp_plan.specs.Blocking.{blocked, first_later, ComesBefore, ComesAft
 use Rattle.msrp_plan.specs.Runs.{IsRunStart}
 use Rattle.msrp_plan.specs.WellFormed.{IsPlan}
 use Rattle.msrp_plan.specs.declared.ids.JobId.{JobId}
+use Rattle.msrp_plan.specs.declared.rows.Kind.{Kind}
 use Rattle.msrp_plan.specs.declared.rows.Row.{Row}
 use Rattle.msrp_report.specs.Inside.Counts.{count_of}
 use Rattle.msrp_report.specs.declared.tallies.Blocking.{Blocking}
@@ -102,10 +103,23 @@ NoJobReleased plan t from to = (k : ℕ) → k < length (jobs_of plan t) → fro
 abbrev pub NoneReleased : PlanModel → ℕ → ℕ → ℕ → Type 0
 NoneReleased plan n from to = (t : ℕ) → t < n → NoJobReleased plan t from to
 
+abbrev pub NoneReleasedIn : PlanModel → ℕ → ℕ → ℕ → ℕ → Type 0
+NoneReleasedIn plan a b from to = (t : ℕ) → a ≤ t → t < b → NoJobReleased plan t from to
+
+-- the tasks are looked at by groups of eight: where one ends
+abbrev pub group_end : PlanModel → ℕ → ℕ
+group_end plan g = min (length plan.tasks) (g * 8 + 8)
+
+-- of each group from the n-th on a tick is kept, and no further job of its tasks is released before it
+pub record AreGroups (plan : PlanModel) (n from : ℕ) (groups : List ℕ) : Type 0 where
+  pub size : length groups ≡ (length plan.tasks + 7) / 8
+  pub quiet : (g to : ℕ) → n ≤ g → slice_get groups g ≡ Some to → NoneReleasedIn plan (g * 8) (group_end plan g) from to
+
 -- what is kept is what these rows tell
 pub record HasTallied (plan : PlanModel) (rows : List Row) (t : Tallies) : Type 0 where
   pub begun : HaveBegun plan rows t.begun
   pub quiet : NoneReleased plan (length plan.tasks) t.begun t.next
+  pub groups : AreGroups plan 0 t.begun t.groups.items
   pub tallies : AreTallies plan rows (λ _. t.begun) t.tasks.items
 
 -- ---- one job
@@ -181,8 +195,16 @@ Counts plan r t = (rows : List Row) × AreTallies plan rows (λ _. t.begun) t.ta
 pub record StandsAt (plan : PlanModel) (rows : List Row) (r : Row) (t : Tallies) : Type 0 where
   pub early : AllByRecursion (λ x. x.tick < t.begun) rows
   pub quiet : NoneReleased plan (length plan.tasks) t.begun t.next
+  pub groups : AreGroups plan 0 t.begun t.groups.items
   pub tallies : AreTallies plan rows (λ _. t.begun) t.tasks.items
   pub next : IsNextOf plan rows r t.begun
+
+-- a row of this job, tick and kind does
+pub record CountsAs (plan : PlanModel) (j : JobId) (at : ℕ) (k : Kind) (r : Row) (t : Tallies) : Type 0 where
+  pub job : r.job ≡ Some j
+  pub tick : r.tick ≡ at
+  pub kind : r.kind ≡ k
+  pub counts : Counts plan r t
 
 abbrev pub GoesOn : PlanModel → Row → Tallies → Type 0
 GoesOn plan r t = (rows : List Row) × HasTallied plan rows t × IsRunStart plan (rows ++ r ∷ [])

@@ -5,10 +5,10 @@ ghost use Rattle.msrp_plan.specs.Plan.{PlanModel};
 ghost use Rattle.msrp_plan.specs.Runs.{IsRunStart};
 ghost use Rattle.msrp_plan.specs.WellFormed.{IsPlan};
 ghost use Rattle.msrp_plan.specs.declared.rows.Row.{Row as TraceRow};
-ghost use Rattle.msrp_report.specs.Inside.Tallies.{AreTallies, Counts, GoesOn, HasTallied, IsNextOf, StandsAt, ToldOf};
+ghost use Rattle.msrp_report.specs.Inside.Tallies.{AreTallies, Counts, CountsAs, GoesOn, HasTallied, IsNextOf, StandsAt, ToldOf};
 
 use super::{Blocking, Tallies};
-use msrp_plan::{JobId, Plan, Row};
+use msrp_plan::{JobId, Kind, Plan, Row};
 
 // The active job of a task is so no more, where it has no units left. Else nothing is written.
 #[inline(always)]
@@ -31,18 +31,18 @@ impl Tallies {
     }
 
     // Counts the first row of a job: from here on no row blocks it.
-    fn count_first(&mut self, plan: &Plan, job: JobId, row: Row)
+    fn count_first(&mut self, plan: &Plan, job: JobId, tick: u32, kind: Kind)
         requires plan { IsPlan plan.now }
-        requires told { Counts plan.now row self.old }
-        requires job { row.job ≡ Some job }
+        requires told { (row : TraceRow) × CountsAs plan.now job tick kind row self.old }
         ensures begun { self.new.begun ≡ self.old.begun }
         ensures next { self.new.next ≡ self.old.next }
-        ensures told { (rows : List TraceRow) → AreTallies plan.now rows (λ _. self.old.begun) self.old.tasks.items → IsNextOf plan.now rows row self.old.begun → AreTallies plan.now (rows ++ row ∷ []) (λ _. self.old.begun) self.new.tasks.items }
+        ensures groups { self.new.groups.items ≡ self.old.groups.items }
+        ensures told { (row : TraceRow) (rows : List TraceRow) → CountsAs plan.now job tick kind row self.old → AreTallies plan.now rows (λ _. self.old.begun) self.old.tasks.items → IsNextOf plan.now rows row self.old.begun → AreTallies plan.now (rows ++ row ∷ []) (λ _. self.old.begun) self.new.tasks.items }
     {
         let blocked = self.blocked(job);
         let task = &mut self.tasks[job.task.0 as usize];
         let tally = &mut task.jobs[job.k as usize];
-        tally.count.add(row);
+        tally.count.add(tick, kind);
         tally.blocking = Blocking::Over(blocked);
         let done = tally.count.done;
         task.active = Some(job);
@@ -57,16 +57,16 @@ impl Tallies {
         requires job { row.job ≡ Some job }
         ensures begun { self.new.begun ≡ self.old.begun }
         ensures next { self.new.next ≡ self.old.next }
+        ensures groups { self.new.groups.items ≡ self.old.groups.items }
         ensures told { (rows : List TraceRow) → AreTallies plan.now rows (λ _. self.old.begun) self.old.tasks.items → IsNextOf plan.now rows row self.old.begun → AreTallies plan.now (rows ++ row ∷ []) (λ _. self.old.begun) self.new.tasks.items }
     {
         if self.is_unstarted(job) {
-            // The row is made anew for that, so that the others are never laid down in memory as a whole.
-            self.count_first(plan, job, row.in_tick(row.tick));
+            self.count_first(plan, job, row.tick, row.kind);
             return;
         }
         let task = &mut self.tasks[job.task.0 as usize];
         let tally = &mut task.jobs[job.k as usize];
-        tally.count.add(row);
+        tally.count.add(row.tick, row.kind);
         let done = tally.count.done;
         end_active(&mut task.active, done, task.facts.units);
     }

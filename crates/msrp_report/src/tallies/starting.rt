@@ -4,7 +4,7 @@ ghost use Rattle.std.specs.Prelude.{◌≡◌, ◌<◌, ◌≤◌, [], IfOk, len
 ghost use Rattle.msrp_plan.specs.WellFormed.{IsPlan};
 ghost use Rattle.msrp_report.specs.Inside.Tallies.{AreFacts, HasTallied, IsTaskFrom, IsTaskTally};
 
-use super::releasing::release_or_end;
+use super::releasing::{GROUP, release_or_end};
 use super::{Blocking, JobTally, Tallies, TaskFacts, TaskTally};
 use crate::counts::JobCount;
 use msrp_plan::{CoreId, Memory, Plan, TaskId};
@@ -75,6 +75,7 @@ impl Tallies {
         Ok(Tallies {
             tasks,
             begun: 0,
+            groups: vec![in alloc; 0; (plan.tasks() as usize + GROUP - 1) / GROUP]?,
             next: 0,
         })
     }

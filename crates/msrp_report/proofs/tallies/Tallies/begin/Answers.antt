@@ -1,7 +1,7 @@
 use Rattle.std.proofs.Common.{◌≡◌, ◌+◌, length, refl, ap, subst, sym, ◌∙◌, arith}
-use Rattle.msrp_report.specs.Inside.Tallies.{AreTallies}
+use Rattle.msrp_report.specs.Inside.Tallies.{AreGroups, AreTallies}
 use Rattle.msrp_report.specs.declared.tallies.Tallies.{Tallies}
-use Rattle.msrp_report.proofs.TallySteps.{all_begun, all_wait}
+use Rattle.msrp_report.proofs.TallySteps.{all_begun, all_wait, groups_later}
 use Rattle.msrp_report.proofs.tallies.Tallies.begin.Goals as goal
 use Rattle.msrp_report.proofs.tallies.Tallies.begin.Goals.{then-self-from, else-self-from}
 
@@ -28,4 +28,14 @@ returns-clause-told c = λ rows h.
           let ahead = w.if-self-from.false in
           let from = c.from.ensures in
           subst (λ (t : Tallies). AreTallies plan rows (λ _. t.begun + 1) t.tasks.items) (sym w.self-is) (all_wait plan rows old.begun old.next old.tasks.items c.requires.next (omega (arith, ahead, from)) c.requires.left h.tallies)
+    ]
+
+pub returns-clause-groups : goal.returns-clause-groups
+returns-clause-groups c =
+    let plan = c.args.plan.now in
+    let old = c.args.self.now in
+    let P : Tallies → Type 0 = λ t. AreGroups plan 0 (t.begun + 1) t.groups.items in
+    elim c.if-self-from.branch [
+      | then-self-from w ↦ subst P (sym w.self-is) (subst (λ b. AreGroups plan 0 (b + 1) w.release_all.new.self.groups.items) (sym w.release_all.ensures.begun) w.release_all.ensures.groups)
+      | else-self-from w ↦ subst P (sym w.self-is) (groups_later plan 0 old.begun old.groups.items c.requires.groups)
     ]

@@ -1,6 +1,4 @@
-use Rattle.std.proofs.Common.{◌==◌, ◌++◌, ◌∷◌, [], cond, None, slice_set, refl, ap, sym, subst, ◌∙◌, arith}
-use Rattle.msrp_plan.specs.declared.rows.Row.{Row}
-use Rattle.msrp_report.specs.Inside.Tallies.{AreTallies, Counts, IsNextOf}
+use Rattle.std.proofs.Common.{◌==◌, cond, None, slice_set, refl, ap, ◌∙◌, arith}
 use Rattle.std.specs.Vec.{with_item}
 use Rattle.msrp_report.specs.declared.counts.JobCount.{JobCount}
 use Rattle.msrp_report.proofs.JobTallies.{job_read, room_read, task_read, told_number, told_task}
@@ -43,13 +41,9 @@ returns-clause-told c = λ rows are next.
       active = c.end_active.ensures ∙ ap (λ (y : JobCount). cond (y.done == x.facts.units) None x.active) counted_is;
     })
 
--- ---- the first row of a job, made anew
+-- ---- the first row of a job
 pub count_first-requires-clause-told : goal.count_first-requires-clause-told
-count_first-requires-clause-told c = subst (λ (r : Row). Counts c.args.plan.now r c.args.self.now) (sym c.in_tick.ensures) c.requires.told
+count_first-requires-clause-told c = (c.args.row, record { job = c.requires.job; tick = refl; kind = refl; counts = c.requires.told })
 
 pub returns-then-is_unstarted-clause-told : goal.returns-then-is_unstarted-clause-told
-returns-then-is_unstarted-clause-told c = λ rows told next.
-    let old = c.args.self.now in
-    let plan = c.args.plan.now in
-    let first = c.count_first.ensures.told rows told (subst (λ (r : Row). IsNextOf plan rows r old.begun) (sym c.in_tick.ensures) next) in
-    subst (λ (r : Row). AreTallies plan (rows ++ r ∷ []) (λ _. old.begun) c.count_first.new.self.tasks.items) c.in_tick.ensures first
+returns-then-is_unstarted-clause-told c = λ rows told next. c.count_first.ensures.told c.args.row rows (record { job = c.requires.job; tick = refl; kind = refl; counts = c.requires.told }) told next

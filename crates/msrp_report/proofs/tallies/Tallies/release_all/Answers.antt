@@ -1,28 +1,47 @@
-use Rattle.std.proofs.Common.{◌≡◌, ◌+◌, length, subst, sym, ◌∙◌, arith}
-use Rattle.msrp_report.specs.Inside.Tallies.{AreTallies, HasReleased, NoneReleased, begun_below}
-use Rattle.msrp_report.proofs.TallySteps.{quiet_more}
+use Rattle.std.proofs.Common.{◌≡◌, ◌+◌, ◌*◌, Some, length, min, slice_get, refl, ap, subst, sym, ◌∙◌, arith, inl, inr}
+use Rattle.std.proofs.lemmas.Bool.{cases_lt}
+use Rattle.std.proofs.lemmas.Option.{slice_get_read}
+use Rattle.msrp_report.specs.Inside.Tallies.{AreGroups, HasReleased, NoneReleased, NoneReleasedIn, group_end}
+use Rattle.msrp_report.proofs.TallySteps.{group_within, quiet_group}
 use Rattle.msrp_report.proofs.tallies.Tallies.release_all.Goals as goal
 
-pub loop-task-preserved : goal.loop-task-preserved
-loop-task-preserved c =
-    let plan = c.args.plan.now in
-    let n = c.loop-task.task in
-    let before = c.args.self.now.begun in
-    let after = c.release.new.self in
-    let t = c.requires.told in
-    let i = c.loop-task.invariant in
-    let same : after.begun ≡ before = c.release.ensures.begun ∙ i.begun in
-    let are = subst (λ b. AreTallies plan t.0 (begun_below b (n + 1)) after.tasks.items) same (c.release.ensures.told t.0 (i.told t.0 t.1)).tallies in
-    let task = c.loop-task-test.true in
-    let end = c.tasks-task-end.ensures.value in
-    record {
-      begun = same;
-      next = subst (λ tick. NoneReleased plan (n + 1) (before + 1) tick) (sym c.min-next.ensures) (quiet_more plan t.0 before n c.loop-task.next after.tasks.items c.index.result.now c.tasks-task-end.ensures.plan (omega (arith, task, end)) are c.index.ensures i.next);
-      told = λ rows h. c.release.ensures.told rows (i.told rows h);
-    }
+pub loop-group-init : goal.loop-group-init
+loop-group-init c = record {
+  begun = refl;
+  left = c.requires.groups;
+  done = λ g to low. absurd (omega (arith, low));
+  next = λ t l. absurd (omega (arith, l));
+  told = λ rows h. subst (λ n. HasReleased c.args.plan.now rows n c.args.self.now) (let e : 0 ≡ min (length c.args.plan.now.tasks) (0 * 8) = omega arith in e) h;
+}
 
-pub returns-clause-told : goal.returns-clause-told
-returns-clause-told c = λ rows h.
-    let all : c.loop-task.task ≡ length c.args.plan.now.tasks = (let t = c.tasks-task-end.ensures.value in let past = c.loop-task-test.false in let end = c.loop-task.auto.task-end in omega (arith, t, past, end)) in
-    let last = subst (λ n. HasReleased c.args.plan.now rows n c.loop-task.self) all (c.loop-task.invariant.told rows h) in
-    record { early = last.early; tallies = last.tallies }
+pub loop-group-preserved : goal.loop-group-preserved
+loop-group-preserved c =
+    let plan = c.args.plan.now in
+    let g = c.loop-group.group in
+    let before = c.args.self.now.begun in
+    let old = c.loop-group.self in
+    let new = c.release_group.new.self in
+    let i = c.loop-group.invariant in
+    let test = c.loop-group-test.true in
+    let len = c.len-group-end.ensures in
+    let first = c.requires.groups.size in
+    let size = i.left.size in
+    let size_new = c.release_group.ensures.groups.size in
+    let within = group_within plan g (length old.groups.items) size (omega (arith, test, len, first, size)) in
+    let at : min (length plan.tasks) (g * 8) ≡ g * 8 = omega (arith, within) in
+    let step : group_end plan g ≡ min (length plan.tasks) ((g + 1) * 8) = omega arith in
+    let due = c.index.result.now in
+    let has : slice_get new.groups.items g ≡ Some due = slice_get_read new.groups.items (length new.groups.items) g due refl (omega (arith, test, len, first, size_new)) c.index.ensures in
+    let now = subst (λ b. NoneReleasedIn plan (g * 8) (group_end plan g) (b + 1) due) i.begun (c.release_group.ensures.next due has) in
+    record {
+      begun = c.release_group.ensures.begun ∙ i.begun;
+      left = subst (λ b. AreGroups plan (g + 1) b new.groups.items) i.begun c.release_group.ensures.groups;
+      done = λ k to low has_k. elim (cases_lt k g) [
+        | inl less ↦ i.done k to less (sym (c.release_group.ensures.others k less) ∙ has_k)
+        | inr past ↦
+            let e : g ≡ k = omega (arith, low, past) in
+            subst (λ m. NoneReleasedIn plan (m * 8) (group_end plan m) (before + 1) to) e (subst (λ b. NoneReleasedIn plan (g * 8) (group_end plan g) (b + 1) to) i.begun (c.release_group.ensures.next to (ap (slice_get new.groups.items) e ∙ has_k)))
+      ];
+      next = subst (λ tick. NoneReleased plan (min (length plan.tasks) ((g + 1) * 8)) (before + 1) tick) (sym c.min-next.ensures) (subst (λ n. NoneReleased plan n (before + 1) (min c.loop-group.next due)) step (quiet_group plan g (min (length plan.tasks) (g * 8)) (before + 1) c.loop-group.next due at i.next now));
+      told = λ rows h. subst (λ n. HasReleased plan rows n new) step (c.release_group.ensures.told rows (subst (λ n. HasReleased plan rows n old) at (i.told rows h)));
+    }
