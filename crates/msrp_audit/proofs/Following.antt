@@ -1,5 +1,5 @@
 -- A core followed by its own rows: the row against the turn of its machine, which answers as the row says.
-use Rattle.std.proofs.Common.{◌≡◌, ℕ, zero, suc, Bool, true, false, cond, List, [], ◌∷◌, ◌++◌, Option, Some, None, refl, ap, sym, ◌∙◌, subst, is_some, inl, inr}
+use Rattle.std.proofs.Common.{◌≡◌, ℕ, zero, suc, Bool, true, false, cond, List, [], ◌∷◌, ◌++◌, Option, Some, None, refl, ap, sym, ◌∙◌, subst, is_some, inl, inr, ◌⊎◌}
 use Rattle.std.specs.Option.{ForSome}
 use Rattle.std.proofs.Math.Bool.{true≢false, and-false}
 use Rattle.std.proofs.lemmas.Bool.{cases_Bool, and_parts}
@@ -113,6 +113,11 @@ kinds_same plan c log r s old new turn call answered same = by_res s.res refl
           call_same r.kind mc.call (answered mc) (subst (λ k. same_action r.kind k ≡ true) mc.kind same) ∙ sym mc.kind
       | inr loc ↦ plain_same r.kind s.kind (local_turn_asks plan log s res s.job refl (turn_of plan log s turn.own turn.chosen turn.action) e loc) same
     ]
+
+-- so a turn on no resource, or as the row says, has the row's answer
+pub known_same : (plan : PlanModel) (c : ℕ) (log : List Row) (k : Kind) (s : Row) → IsCoreTurn plan c log s → (s.res ≡ None) ⊎ (k ≡ s.kind) → same_action k s.kind ≡ true → k ≡ s.kind
+known_same plan c log k s turn (inl none) same = plain_same k s.kind (none_asks s.kind s.job (subst (λ g. has_shape s.kind s.job g ≡ true) none s.shape)) same
+known_same plan c log k s turn (inr is) same = is
 
 -- the row names the same job, and does the same
 none_broken : (a b : Bool) → cond a (cond b None (Some A4)) (Some A3) ≡ None → (a ≡ true) × (b ≡ true)

@@ -1,5 +1,5 @@
 //! One turn of a machine over a port that answers as a row says.
-ghost use Rattle.std.specs.Prelude.{◌≡◌, ◌<◌, ◌+◌, ◌++◌, ◌∷◌, [], List, length, true, IfNone, IfSome, None};
+ghost use Rattle.std.specs.Prelude.{◌≡◌, ◌<◌, ◌+◌, ◌++◌, ◌∷◌, [], ◌⊎◌, List, length, true, IfNone, IfSome, None};
 ghost use Rattle.std.specs.Option.{ForSome};
 ghost use Rattle.msrp_plan.specs.Runs.{IsCoreTurn};
 ghost use Rattle.msrp_plan.specs.declared.rows.Row.{Row as TraceRow};
@@ -97,7 +97,7 @@ impl<B: Script> Port for TurnPort<B> {
     }
 }
 
-// The machine's turn over such a port.
+// The machine's turn over such a port, where it isn't known from its last one.
 fn turn_over<B: Script>(plan: &Plan, machine: &mut Machine<'_>, row: Row) -> Row
     requires plan { machine.old.plan ≡ plan.now }
     requires tick { machine.old.tick < machine.old.plan.ticks }
@@ -117,12 +117,13 @@ fn turn_over<B: Script>(plan: &Plan, machine: &mut Machine<'_>, row: Row) -> Row
         call: None,
         script: PhantomData,
     };
-    machine.turn(&mut port)
+    machine.turn_anew(&mut port)
 }
 
-// The machine's turn, where its last one was a poll in vain and the row says that this one is so too. That takes no choice.
+// The machine's turn, where it is known from its last one: its row stands again, or it polled in vain and the row says that it does so again. That
+// takes no choice.
 #[inline(always)]
-fn spin_as(machine: &mut Machine<'_>, kind: Kind) -> Option<Row>
+fn known_as(machine: &mut Machine<'_>, kind: Kind) -> Option<Row>
     requires { machine.old.tick < machine.old.plan.ticks }
     ensures none { IfNone result (machine.new ≡ machine.old) }
     ensures plan { machine.new.plan ≡ machine.old.plan }
@@ -130,8 +131,11 @@ fn spin_as(machine: &mut Machine<'_>, kind: Kind) -> Option<Row>
     ensures tick { IfSome result (λ _. machine.new.tick ≡ machine.old.tick + 1) }
     ensures row { IfSome result (λ due. (log : List TraceRow) → StandsAfter machine.old log → IsCoreTurn machine.old.plan machine.old.core log due) }
     ensures stands { IfSome result (λ due. (log : List TraceRow) → StandsAfter machine.old log → StandsAfter machine.new (log ++ due ∷ [])) }
-    ensures kind { IfSome result (λ due. kind ≡ due.kind) }
+    ensures kind { IfSome result (λ due. (due.res ≡ None) ⊎ (kind ≡ due.kind)) }
 {
+    if let Some(due) = machine.repeat() {
+        return Some(due);
+    }
     match kind {
         Kind::Spin => machine.spin_on(),
         _ => None,
@@ -150,7 +154,7 @@ pub(crate) fn turn_as(plan: &Plan, machine: &mut Machine<'_>, row: Row) -> Row
     ensures stands { (log : List TraceRow) → StandsAfter machine.old log → StandsAfter machine.new (log ++ result ∷ []) }
     ensures kind { (log : List TraceRow) → StandsAfter machine.old log → same_action row.kind result.kind ≡ true → row.kind ≡ result.kind }
 {
-    match spin_as(machine, row.kind) {
+    match known_as(machine, row.kind) {
         Some(due) => due,
         None => turn_over::<Brand>(plan, machine, row),
     }
