@@ -37,6 +37,15 @@ last_digit n small = elim (cases_lt n 10) [
   | inr high ↦ ap (λ l. slice_index l (length l - 1)) (decimal_step n high small) ∙ last_of (decimal (n / 10)) (48 + n % 10)
 ]
 
+-- a number that doesn't end in 9 counts up in its last digit
+pub counted_up : (text : List ℕ) (n m digit : ℕ) → text ≡ decimal n → digit ≡ slice_index text (length text - 1) → digit < 57 → n + 1 ≡ m → m < 2 ^ 64
+    → take (length text - 1) text ++ (digit + 1) ∷ [] ≡ decimal m
+counted_up text n m digit fits here low next small =
+    let last = here ∙ ap (λ t. slice_index t (length t - 1)) fits ∙ last_digit n (omega (arith, next, small)) in
+    let more : digit + 1 ≡ 48 + m % 10 = omega (arith, last, low, next) in
+    let some : 0 < m % 10 = omega (arith, last, low, next) in
+    ap (λ t. take (length t - 1) t ++ (digit + 1) ∷ []) fits ∙ (ap (λ d. take (length (decimal n) - 1) (decimal n) ++ d ∷ []) more ∙ next_decimal n m next some small)
+
 -- a number that doesn't end in 0 is as long as the one before, and has another last digit
 next_size : (n : ℕ) → 0 < (n + 1) % 10 → n + 1 < 2 ^ 32 → length (decimal (n + 1)) ≡ length (decimal n)
 next_size n some small =

@@ -1,7 +1,8 @@
 -- The records of a trace, field after field.
-use Rattle.std.proofs.Common.{◌≡◌, ℕ, List, [], ◌∷◌, ◌++◌, refl, sym, ap, ◌∙◌, append_assoc, append-nil, codes, decimal, Some, get_or, length, take, ◌<◌, ◌≤◌, ◌+◌, ◌&&◌, true, Option, None, IfSome, lt-ltb}
+use Rattle.std.proofs.Common.{◌≡◌, ℕ, List, [], ◌∷◌, ◌++◌, refl, sym, ap, ◌∙◌, append_assoc, append-nil, codes, decimal, Some, get_or, length, take, ◌<◌, ◌≤◌, ◌+◌, ◌&&◌, true, Option, None, IfSome, arith, lt-ltb, subst}
 use Rattle.std.proofs.lemmas.Grind.{flat_map-append}
-use Rattle.std.proofs.lemmas.List.{take_all, take_more}
+use Rattle.std.proofs.Math.Seq.{take-append-add, take-take}
+use Rattle.std.proofs.lemmas.List.{length-take-le, take_all, take_more}
 use Rattle.std.specs.List.{flat_map}
 use Rattle.msrp_plan.specs.Plan.{PlanModel}
 use Rattle.msrp_plan.specs.Words.{kind_text}
@@ -17,6 +18,20 @@ use Rattle.msrp_trace.specs.TraceText.{ahead_text, head_text, is_named, is_res_o
 pub comma_next : (s text : List ℕ) → (s ++ codes ",") ++ text ≡ s ++ next_field text
 unfolding next_field
 comma_next s text = append_assoc s (codes ",") text
+
+-- a text that was laid down with what stands behind it
+pub laid : (place most len : ℕ) (old new bytes text : List ℕ) → place ≤ length old → len ≤ most → most ≤ length bytes → take (place + most) new ≡ take place old ++ take most bytes → take len bytes ≡ text
+    → take (place + length text) new ≡ take place old ++ text
+laid place most len old new bytes text here short all front view =
+    let size = length-take-le place old here in
+    let same = length-take-le len bytes (omega (arith, short, all)) in
+    subst (λ t. take (place + length t) new ≡ take place old ++ t) view
+    (ap (λ k. take (place + k) new) same
+    ∙ (sym (take-take (place + len) (place + most) new (omega (arith, short)))
+    ∙ (ap (take (place + len)) front
+    ∙ (ap (λ k. take (k + len) (take place old ++ take most bytes)) (sym size)
+    ∙ (take-append-add (take place old) (take most bytes) len
+    ∙ ap (λ t. take place old ++ t) (take-take len most bytes short))))))
 
 -- a text that is made of five pieces
 pub five_made : (a b c d e s t u v w x : List ℕ) → s ≡ [] → t ≡ s ++ a → u ≡ t ++ b → v ≡ u ++ c → w ≡ v ++ d → x ≡ w ++ e → x ≡ (((a ++ b) ++ c) ++ d) ++ e

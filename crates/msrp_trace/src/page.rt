@@ -50,7 +50,7 @@ impl Page {
         ensures text { Gathers W.contents self.old out.old self.new out.new [] }
         ensures room { length self.new + more ≤ PAGE }
     {
-        if self.text.room() < more {
+        if self.text.len() > PAGE - more {
             self.write(out);
         }
     }

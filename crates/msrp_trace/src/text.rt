@@ -1,9 +1,12 @@
 //! Text in an array of its own, which is copied whole.
-ghost use Rattle.std.specs.Prelude.{ℕ, ◌≡◌, ◌≤◌, ◌<◌, ◌+◌, ◌-◌, ◌++◌, [], decimal, length, take};
+ghost use Rattle.std.specs.Prelude.{ℕ, ◌≡◌, ◌≤◌, ◌<◌, ◌+◌, ◌-◌, ◌++◌, ◌∷◌, [], decimal, length, slice_index, take};
 ghost use Rattle.msrp_trace.specs.Gathering.{next_field};
 
 use itoa::Buffer;
 use std::marker::Model;
+
+// Most texts of a longer type have no more bytes.
+const SHORT: usize = 32;
 
 /// A text of at most `N` bytes.
 #[derive(Drop)]
@@ -34,6 +37,22 @@ fn lay(array: &mut [u8], place: usize, bytes: &[u8])
     array[place..end].copy_from_slice(bytes);
 }
 
+// Writes a text over the bytes of an array from a place on, where there is room for the longest of its type: so the copy is of one of
+// two lengths. The bytes are taken out first, so that nobody has to ask whether the places overlap.
+#[inline(always)]
+fn lay_text<const M: usize>(array: &mut [u8], place: usize, text: &Text<M>)
+    requires { place + M ≤ length array.old }
+    ensures front { take (place + length text.now) array.new ≡ take place array.old ++ text.now }
+    ensures size { length array.new ≡ length array.old }
+{
+    let bytes = text.bytes;
+    if SHORT < M && text.len <= SHORT {
+        lay(array, place, &bytes[..SHORT]);
+    } else {
+        lay(array, place, &bytes);
+    }
+}
+
 impl<const N: usize> Text<N> {
     /// No text.
     pub(crate) fn new() -> Text<N>
@@ -61,11 +80,11 @@ impl<const N: usize> Text<N> {
         &self.bytes[..self.len]
     }
 
-    /// How many bytes more there is room for.
-    pub(crate) fn room(&self) -> usize
-        ensures { result + length self.now ≡ N }
+    /// How many bytes it has.
+    pub(crate) fn len(&self) -> usize
+        ensures { result ≡ length self.now }
     {
-        N - self.len
+        self.len
     }
 
     /// Takes everything back.
@@ -75,13 +94,20 @@ impl<const N: usize> Text<N> {
         self.len = 0;
     }
 
-    /// Takes the last byte back.
-    pub(crate) fn shorten(&mut self)
-        requires { 0 < length self.old }
-        ensures text { self.new ≡ take (length self.old - 1) self.old }
-        ensures size { length self.new + 1 ≡ length self.old }
+    /// The last byte.
+    pub(crate) fn last(&self) -> u8
+        requires { 0 < length self.now }
+        ensures { result ≡ slice_index self.now (length self.now - 1) }
     {
-        self.len -= 1;
+        self.bytes[self.len - 1]
+    }
+
+    /// Puts another byte in the place of the last one.
+    pub(crate) fn set_last(&mut self, byte: u8)
+        requires { 0 < length self.old }
+        ensures { self.new ≡ take (length self.old - 1) self.old ++ byte ∷ [] }
+    {
+        self.bytes[self.len - 1] = byte;
     }
 
     /// Takes some bytes more, for which there is room.
@@ -96,7 +122,7 @@ impl<const N: usize> Text<N> {
         self.len = len + bytes.len();
     }
 
-    /// Takes another text, where there is room for the longest of its type: so the copy is always of the same length.
+    /// Takes another text, where there is room for the longest of its type.
     #[inline(always)]
     pub(crate) fn add_text<const M: usize>(&mut self, text: &Text<M>)
         requires { length self.old + M ≤ N }
@@ -105,7 +131,7 @@ impl<const N: usize> Text<N> {
         ensures length { length self.new ≡ length self.old + length text.now }
     {
         let len = self.len;
-        lay(&mut self.bytes, len, &text.bytes);
+        lay_text(&mut self.bytes, len, text);
         self.len = len + text.len;
     }
 

@@ -1,5 +1,5 @@
 //! The text of a tick, which stands in the records of all cores.
-ghost use Rattle.std.specs.Prelude.{◌≡◌, ◌<◌, ◌+◌, ◌%◌, ◌^◌, decimal};
+ghost use Rattle.std.specs.Prelude.{◌≡◌, decimal, true};
 
 use crate::text::Text;
 
@@ -22,38 +22,39 @@ impl Tick {
         Tick { tick: 0, text }
     }
 
+    // Counts up to this tick, where it is the next one and doesn't end in 0: its text has another last digit. Else nothing changes.
+    #[inline(always)]
+    fn count(&mut self, tick: u32) -> bool
+        ensures { result ≡ true → self.new.tick ≡ tick }
+    {
+        let next = u64::from(self.tick) + 1;
+        let digit = self.text.last();
+        if digit < b'9' && next == u64::from(tick) {
+            self.text.set_last(digit + 1);
+            self.tick = tick;
+            true
+        } else {
+            false
+        }
+    }
+
     /// Makes the text of a tick, unless it is here already.
     #[inline(always)]
     pub(crate) fn show(&mut self, tick: u32)
         ensures { self.new.tick ≡ tick }
     {
-        if self.tick != tick {
+        if self.tick != tick && !self.count(tick) {
             self.make(tick);
         }
-    }
-
-    // The next tick, which doesn't end in 0: its text has another last digit.
-    fn count(&mut self)
-        requires more { self.old.tick + 1 < 2 ^ 32 }
-        requires digit { 0 < (self.old.tick + 1) % 10 }
-        ensures { self.new.tick ≡ self.old.tick + 1 }
-    {
-        self.tick += 1;
-        self.text.shorten();
-        self.text.add(&[b'0' + (self.tick % 10) as u8]);
     }
 
     #[inline(never)]
     fn make(&mut self, tick: u32)
         ensures { self.new.tick ≡ tick }
     {
-        if tick % 10 != 0 && self.tick == tick - 1 {
-            self.count();
-        } else {
-            self.text.clear();
-            self.text.number(tick);
-            self.tick = tick;
-        }
+        self.text.clear();
+        self.text.number(tick);
+        self.tick = tick;
     }
 
     /// The tick.

@@ -1,20 +1,25 @@
-use Rattle.std.proofs.Common.{◌<◌, ◌+◌, ◌++◌, ◌∷◌, [], ◌-◌, ◌%◌, ◌∙◌, arith, ap, sym, subst, length, take, refl}
-use Rattle.std.proofs.lemmas.Fmt.{decimal_nonempty, length-decimal-le}
-use Rattle.msrp_trace.proofs.Counting.{next_decimal}
+use Rattle.std.proofs.Common.{◌<◌, ◌∙◌, length, arith, sym, subst}
+use Rattle.std.proofs.lemmas.Fmt.{decimal_nonempty}
+use Rattle.msrp_trace.proofs.Counting.{counted_up}
 use Rattle.msrp_trace.proofs.tick.Tick.count.Goals as goal
 
-pub shorten-requires : goal.shorten-requires
-shorten-requires c =
-    let more = c.requires.more in
-    (omega arith, subst (λ t. 0 < length t) (sym c.args.self.now.fits) (decimal_nonempty c.args.self.now.tick (omega (arith, more))))
+pub last-digit-requires : goal.last-digit-requires
+last-digit-requires c =
+    let same = c.from-next.ensures in
+    let small = c.from-next.type_inv in
+    (omega arith, subst (λ t. 0 < length t) (sym c.args.self.now.fits) (decimal_nonempty c.args.self.now.tick (omega (arith, same, small))))
 
-pub add-requires : goal.add-requires
-add-requires c =
-    let more = c.requires.more in
-    let long = ap length c.args.self.now.fits in
-    let most = length-decimal-le 10 c.args.self.now.tick (omega arith) (omega (arith, more)) (omega (arith, more)) in
-    let size = c.shorten.ensures.size in
-    (omega arith, omega (arith, long, most, size))
+pub set_last-requires : goal.set_last-requires
+set_last-requires c =
+    let same = c.from-next.ensures in
+    let small = c.from-next.type_inv in
+    (omega arith, subst (λ t. 0 < length t) (sym c.args.self.now.fits) (decimal_nonempty c.args.self.now.tick (omega (arith, same, small))))
 
 pub invariant_of-self : goal.invariant_of-self
-invariant_of-self c = record { fits = c.add.ensures.text ∙ (ap (λ t. t ++ (48 + (c.args.self.now.tick + 1) % 10) ∷ []) (c.shorten.ensures.text ∙ ap (λ t. take (length t - 1) t) c.args.self.now.fits) ∙ next_decimal c.args.self.now.tick (c.args.self.now.tick + 1) refl c.requires.digit (let more = c.requires.more in omega (arith, more))) }
+invariant_of-self c =
+    let before = c.from-next.ensures in
+    let now = c.from.ensures in
+    let next = c.if-next-from.true in
+    let small = c.from.type_inv in
+    let low = c.if-digit-lt57.true in
+    record { fits = c.set_last.ensures ∙ counted_up c.args.self.now.text c.args.self.now.tick c.args.tick c.last-digit.result c.args.self.now.fits c.last-digit.ensures (omega (arith, low)) (omega (arith, before, now, next)) (omega (arith, now, small)) }
