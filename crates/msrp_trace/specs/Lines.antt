@@ -1,5 +1,6 @@
 -- The record that a core had last, but for its tick.
 use Rattle.std.specs.Prelude.{◌≡◌, ◌≤◌, ◌++◌, length, ℕ, List, Option, Some, Bool, true, ◌&&◌, ◌==◌, is_none}
+use Rattle.std.specs.List.{All}
 use Rattle.std.specs.Option.{IfSome}
 use Rattle.msrp_plan.specs.Actions.{same_res}
 use Rattle.msrp_plan.specs.Plan.{PlanModel}
@@ -31,10 +32,10 @@ IsJobText plan kept = IfSome kept.job (λ j. kept.text ≡ job_fields plan (Some
 abbrev pub IsResText : PlanModel → ResText → Type 0
 IsResText plan kept = IfSome kept.res (λ g. (kept.text ≡ next_field (res_text plan (Some g))) × (length kept.text ≤ 17))
 
--- what is kept of a core are the texts of the job that it ran and of the resource that it named last
+-- what is kept of a core are the texts of the job that it ran last and of the resources that it named
 pub record IsCoreText (plan : PlanModel) (kept : CoreText) : Type 0 where
   pub job : IsJobText plan kept.job
-  pub res : IsResText plan kept.res
+  pub res : All (IsResText plan) kept.res
 
 -- the text is that of the row
 pub record IsLine (version : TextVersion) (plan : PlanModel) (kept : RowLine) : Type 0 where

@@ -1,6 +1,6 @@
 //! The text of one record as it is made, and what is kept of a core's last one.
 ghost use Rattle.std.specs.Prelude.{◌≡◌, ◌≤◌, ◌<◌, ◌+◌, ◌++◌, [], codes, decimal, length, true, Some, None, IsSomeAnd, option_map};
-ghost use Rattle.std.specs.List.{flat_map};
+ghost use Rattle.std.specs.List.{All, flat_map};
 ghost use Rattle.std.specs.Option.{IfSome};
 ghost use Rattle.msrp_plan.specs.Plan.{PlanModel};
 ghost use Rattle.msrp_plan.specs.Stretches.{in_tick};
@@ -14,7 +14,9 @@ use crate::job::JobText;
 use crate::res::ResText;
 use crate::text::Text;
 use crate::words::{DASH, TRACE_WORD, version_word};
+use msrp_plan::limits::MOST_RESOURCES;
 use msrp_plan::{JobId, Kind, Plan, ResId, Row, TextVersion};
+use std::array;
 use std::marker::Model;
 
 // No record is longer: a number has at most 10 digits, and a name at most 16 letters.
@@ -117,18 +119,20 @@ impl LineText {
         }
     }
 
-    // The field of a resource. It is kept for the next row on it.
+    // The field of a resource. It is kept for the next rows on it.
     #[inline(always)]
-    fn next_resource(&mut self, plan: &Plan, kept: &mut ResText, res: Option<ResId>)
+    fn next_resource(&mut self, plan: &Plan, kept: &mut [ResText], res: Option<ResId>)
         requires res { is_res_of plan.now res ≡ true }
         requires room { length self.old + 24 ≤ LINE }
-        requires before { IsResText plan.now kept.old }
-        ensures after { IsResText plan.now kept.new }
+        requires places { length kept.old ≡ 32 }
+        requires before { All (IsResText plan.now) kept.old }
+        ensures after { All (IsResText plan.now) kept.new }
         ensures text { self.new ≡ self.old ++ next_field (res_text plan.now res) }
         ensures size { length self.new ≤ length self.old + 17 }
     {
         match res {
             Some(res) => {
+                let kept = &mut kept[res.0 as usize % MOST_RESOURCES];
                 kept.show(plan, res);
                 self.text.add_text(kept.text());
             }
@@ -169,13 +173,14 @@ impl LineText {
         version: TextVersion,
         row: &Row,
         job: &mut JobText,
-        res: &mut ResText,
+        res: &mut [ResText],
     )
         requires named { is_named plan.now row.now ≡ true }
         requires job_before { IsJobText plan.now job.old }
-        requires res_before { IsResText plan.now res.old }
+        requires places { length res.old ≡ 32 }
+        requires res_before { All (IsResText plan.now) res.old }
         ensures job_after { IsJobText plan.now job.new }
-        ensures res_after { IsResText plan.now res.new }
+        ensures res_after { All (IsResText plan.now) res.new }
         ensures text { self.new ≡ after_tick version plan.now row.now }
     {
         self.clear();
@@ -194,20 +199,24 @@ pub(crate) struct CoreText {
     line: LineText,
     // The job that the core ran last.
     job: JobText,
-    // The resource that it named last.
-    res: ResText,
+    // The resources that it named, by their numbers.
+    res: [ResText; MOST_RESOURCES],
 }
 
 impl CoreText {
     /// No record.
     pub(crate) fn new() -> CoreText
         ensures job { result.job.job ≡ None }
-        ensures res { result.res.res ≡ None }
+        ensures res { All (λ kept. kept.res ≡ None) result.res }
     {
         CoreText {
             line: LineText::new(),
             job: JobText::new(),
-            res: ResText::new(),
+            res: array::from_fn(
+                |_|
+                    ensures { result.res ≡ None }
+                { ResText::new() },
+            ),
         }
     }
 
@@ -267,7 +276,7 @@ impl RowLine {
     pub(crate) fn new() -> RowLine
         ensures row { result.row ≡ None }
         ensures job { result.text.job.job ≡ None }
-        ensures res { result.text.res.res ≡ None }
+        ensures res { All (λ kept. kept.res ≡ None) result.text.res }
     {
         RowLine {
             row: None,

@@ -10,7 +10,7 @@ use msrp_plan::{Plan, ResId};
 // No text of a resource is longer: a comma, and a name of at most 16 letters.
 const RES: usize = 24;
 
-/// A resource that a core named, and its field in a record. As long as the core names no other resource it isn't made again.
+/// A resource that a core named, and its field in a record.
 #[derive(Drop)]
 pub(crate) struct ResText {
     res: Option<ResId>,
