@@ -46,8 +46,12 @@ fn lay_text<const M: usize>(array: &mut [u8], place: usize, text: &Text<M>)
     ensures size { length array.new ≡ length array.old }
 {
     let bytes = text.bytes;
-    if SHORT < M && text.len <= SHORT {
+    if SHORT < M {
         lay(array, place, &bytes[..SHORT]);
+        if text.len > SHORT {
+            let all = &bytes[..];
+            lay(array, place + SHORT, &all[SHORT..]);
+        }
     } else {
         lay(array, place, &bytes);
     }
