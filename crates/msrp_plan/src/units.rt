@@ -53,11 +53,11 @@ pub(crate) fn work_from(units: &[Op], place: u32, most: u32) -> u32
     ensures work { (i : ℕ) → place ≤ i → i < place + result → slice_get units.now i ≡ Some Op.Run }
     ensures next { result < most → slice_get units.now (place + result) ≢ Some Op.Run }
 {
-    let place = place as usize;
-    for count in 0..most {
-        let Some(Op::Run) = units.get(place + count as usize) else {
-            return count;
-        };
+    let first = place as usize;
+    let end = units.len().min(first + most as usize);
+    let mut next = first;
+    while next < end && units[next] == Op::Run {
+        next += 1;
     }
-    most
+    (next - first) as u32
 }

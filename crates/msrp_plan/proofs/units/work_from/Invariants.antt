@@ -1,6 +1,13 @@
-use Rattle.std.proofs.Common.{◌≡◌, ◌≤◌, ◌<◌, ◌+◌, ℕ, Some, slice_get}
+use Rattle.std.proofs.Common.{◌≡◌, ◌≤◌, ◌<◌, ◌+◌, ◌-◌, ℕ, Some, slice_get}
 use Rattle.msrp_plan.specs.declared.units.Op.TheVariants.{Run}
 use Rattle.msrp_plan.proofs.units.work_from.Given as goal
 
-abbrev pub invariant-loop-count : goal.invariant-loop-count
-invariant-loop-count l = (i : ℕ) → l.place ≤ i → i < l.place + l.count → slice_get l.units i ≡ Some Run
+abbrev pub invariant-loop-next : goal.invariant-loop-next
+invariant-loop-next l = record {
+  from : l.first ≤ l.next;
+  to : l.next ≤ l.first + l.most;
+  work : (i : ℕ) → l.first ≤ i → i < l.next → slice_get l.units i ≡ Some Run;
+}
+
+abbrev pub decreases-loop-next : goal.decreases-loop-next
+decreases-loop-next l = l.end - l.next
