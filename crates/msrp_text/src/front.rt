@@ -128,8 +128,13 @@ fn is_same<const CHUNK: usize>(text: &[u8], other: &[u8]) -> bool
     ensures same { result ≡ true → text.now ≡ other.now }
     ensures finds { text.now ≡ other.now → result ≡ true }
 {
-    text.first_chunk::<CHUNK>() == other.first_chunk::<CHUNK>()
-        && text.last_chunk::<CHUNK>() == other.last_chunk::<CHUNK>()
+    let (Some(first), Some(same_first)) = (text.first_chunk::<CHUNK>(), other.first_chunk::<CHUNK>()) else {
+        return false;
+    };
+    let (Some(last), Some(same_last)) = (text.last_chunk::<CHUNK>(), other.last_chunk::<CHUNK>()) else {
+        return false;
+    };
+    first == same_first && last == same_last
 }
 
 // Whether a text begins with another. For one of four to eight bytes, as that of most ticks, nothing is called.
@@ -146,7 +151,7 @@ fn begins_with(text: &[u8], front: &[u8]) -> bool
 }
 
 // The same, for one that mostly has eight to 32 bytes, as what stands behind a tick.
-#[inline(never)]
+#[inline(always)]
 fn begins_with_long(text: &[u8], front: &[u8]) -> bool
     ensures begins { result ≡ true → (after : List ℕ) × (text.now ≡ front.now ++ after) }
     ensures finds { (after : List ℕ) → text.now ≡ front.now ++ after → result ≡ true }

@@ -1,5 +1,6 @@
-use Rattle.std.proofs.Common.{◌∙◌, sym}
-use Rattle.msrp_text.proofs.Chunks.{ends-same, first-same, last-same}
+use Rattle.std.proofs.Common.{◌≡◌, ◌-◌, ◌∙◌, drop, length, sym, take}
+use Rattle.std.proofs.lemmas.Slice.Eq.{bytes_eq-Decides}
+use Rattle.msrp_text.proofs.Chunks.{ends-same}
 use Rattle.msrp_text.proofs.front.is_same.Goals as goal
 
 pub returns-then-eq-clause-same : goal.returns-then-eq-clause-same
@@ -7,6 +8,8 @@ returns-then-eq-clause-same g c = λ yes.
     let text = c.args.text.now in
     let other = c.args.other.now in
     let size = g.row.CHUNK in
-    let first = first-same size text other _ _ c.requires.one c.first_chunk.ensures.cases c.first_chunk-2.ensures.cases (sym c.if-eq.true ∙ c.eq.ensures) in
-    let last = last-same size text other _ _ c.requires.one c.last_chunk.ensures.cases c.last_chunk-then-eq.ensures.cases (sym yes ∙ c.eq-then-eq.ensures) in
+    let one = c.in-Some-Some in
+    let two = c.in-Some-Some-2 in
+    let first : take size text ≡ take size other = sym one.ensures.cases.same ∙ (bytes_eq-Decides one.first.now one.same_first.now).0 (sym c.eq.ensures ∙ c.if-eq.true) ∙ one.ensures'.cases.same in
+    let last : drop (length text - size) text ≡ drop (length other - size) other = sym two.ensures.cases.1.same ∙ (bytes_eq-Decides two.last.now two.same_last.now).0 (sym c.eq-then-eq.ensures ∙ yes) ∙ two.ensures'.cases.1.same in
     ends-same size text other c.requires.length c.requires.two first last
