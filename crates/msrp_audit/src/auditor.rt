@@ -1,6 +1,6 @@
 //! The auditor, row by row.
 ghost use Rattle.std.specs.Prelude.{◌≡◌, ◌≤◌, ◌<◌, ◌+◌, ◌*◌, ◌/◌, ◌++◌, ◌∷◌, [], ℕ, List, IfOk, IfNone, IfSome, Some, None, Err, length, true};
-ghost use Rattle.std.specs.Option.{IsSomeAnd};
+ghost use Rattle.std.specs.Option.{IsSomeAnd, is_some};
 ghost use Rattle.msrp_core.specs.CoreStates.{IsCoreState};
 ghost use Rattle.msrp_plan.specs.Limits.{most_rows};
 ghost use Rattle.msrp_plan.specs.Logs.{log_of};
@@ -145,6 +145,15 @@ impl<'a> Auditor<'a> {
             return false;
         }
         self.cores.tick(core) == self.at.tick
+    }
+
+    /// Whether [`repeat`](Auditor::repeat) gives the core its turn.
+    #[inline(always)]
+    pub fn repeats(&self, core: CoreId) -> bool
+        requires { IsCoreDue self.now core.0 }
+        ensures { result ≡ is_some (unless_granted self.now.cores.queues core.0 (known_row self.now.cores core.0)) }
+    {
+        self.cores.repeats(core)
     }
 
     /// The core's turn, where it is known from its last one: its row is that one in the next tick. Elsewhere it is none, and nothing

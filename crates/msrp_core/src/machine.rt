@@ -1,6 +1,6 @@
 //! The machine of one core, which makes the rows of its turns.
 ghost use Rattle.std.specs.Prelude.{◌≡◌, ◌<◌, ◌≤◌, ◌+◌, ◌++◌, ◌∷◌, [], List, Some, None, IfOk, IfSome, IfNone, length, true};
-ghost use Rattle.std.specs.Option.{IsSomeAnd};
+ghost use Rattle.std.specs.Option.{IsSomeAnd, is_some};
 ghost use Rattle.msrp_plan.specs.Levels.{is_global};
 ghost use Rattle.msrp_plan.specs.Runs.{IsCoreTurn};
 ghost use Rattle.msrp_plan.specs.declared.ids.ResId.{ResId as Resource};
@@ -142,6 +142,15 @@ impl<'a> Machine<'a> {
         let tick = self.tick;
         self.tick = tick + 1;
         Some(self.jobs.act_again(tick, self.job))
+    }
+
+    /// Whether [`Machine::repeat`] makes the core's next turn.
+    #[inline(always)]
+    pub fn repeats(&self) -> bool
+        ensures known { result ≡ is_some self.now.again }
+        ensures res { IfSome self.now.again (λ row. row.res ≡ None) }
+    {
+        self.again > 0
     }
 
     /// The resource that the core polled in vain in its last turn, where it did. It polls it again in its next one.

@@ -1,6 +1,6 @@
 //! All cores of a plan, and the queues of its global resources.
 ghost use Rattle.std.specs.Prelude.{◌≡◌, ◌<◌, ◌++◌, ◌∷◌, [], true, ℕ, List, IfOk, IfNone, IfSome, None, Some, length, slice_get};
-ghost use Rattle.std.specs.Option.{ForSome, IsSomeAnd, option_map};
+ghost use Rattle.std.specs.Option.{ForSome, IsSomeAnd, is_some, option_map};
 ghost use Rattle.msrp_plan.specs.Aheads.{HasReply};
 ghost use Rattle.msrp_plan.specs.Limits.{most_cores, most_resources, most_rows};
 ghost use Rattle.msrp_plan.specs.Logs.{log_of};
@@ -16,7 +16,7 @@ ghost use Rattle.msrp_sim.specs.Serving.{AreDrawn, Notes, waiting};
 ghost use Rattle.msrp_sim.specs.TurnPorts.{unless_granted};
 
 use crate::tickets::Queues;
-use crate::turn_port::{repeat_by, turn_by};
+use crate::turn_port::{repeat_by, repeats_by, turn_by};
 use msrp_core::{CoreState, Machine, PortCall, Reply};
 use msrp_levels::Levels;
 use msrp_plan::{Call, CoreId, Kind, Memory, Plan, ResId, Row};
@@ -152,6 +152,15 @@ impl<'a> Cores<'a> {
     {
         let row = self.machines[core.0 as usize].foresee()?;
         Some(answered(&self.queues, row))
+    }
+
+    /// Whether [`Cores::repeat`] makes the core's next turn.
+    #[inline(always)]
+    pub fn repeats(&self, core: CoreId) -> bool
+        requires { core.0 < self.now.plan.cores }
+        ensures { result ≡ is_some (unless_granted self.now.queues core.0 (known_row self.now core.0)) }
+    {
+        repeats_by(&self.queues, &self.machines[core.0 as usize])
     }
 
     /// The core's next turn, where it is known from its last one: its row is that one in the next tick. That takes no choice,

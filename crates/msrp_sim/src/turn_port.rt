@@ -1,5 +1,6 @@
 //! One turn of a machine over the queues, which it only reads: its call is handed on.
 ghost use Rattle.std.specs.Prelude.{◌≡◌, ◌<◌, IfNone, IfSome, length};
+ghost use Rattle.std.specs.Option.{is_some};
 ghost use Rattle.msrp_core.specs.Machine.{next_known};
 ghost use Rattle.msrp_core.specs.Ports.{claim_in};
 ghost use Rattle.msrp_sim.specs.TurnPorts.{HasRepeated, HasTurned, IsTurnPort, TurnPortModel, port_after, unless_granted};
@@ -139,6 +140,20 @@ pub(crate) fn repeat_by(queues: &Queues, machine: &mut Machine<'_>) -> Option<Ro
     match machine.repeat() {
         Some(row) => Some(row),
         None => spin_by(queues, machine),
+    }
+}
+
+// Whether the machine's turn is known so.
+#[inline(always)]
+pub(crate) fn repeats_by(queues: &Queues, machine: &Machine<'_>) -> bool
+    ensures { result ≡ is_some (unless_granted queues.now machine.now.core (next_known machine.now)) }
+{
+    if machine.repeats() {
+        return true;
+    }
+    match machine.polled() {
+        Some(res) => !queues.grants(machine.core(), res),
+        None => false,
     }
 }
 
