@@ -112,9 +112,10 @@ pub record IsTextOf {R : Type 0} (t : TraceReader R) (texts : TextsModel) (n cor
   pub whole : is_told_whole t.version t.plan.now r ≡ true
   pub text : text_of_core texts core ≡ after_tick t.version t.plan.now r
 
--- the bytes that were read ahead begin with the text of the tick, and a further row may come
+-- the bytes that were read ahead begin with the text of the tick, which is kept, and a further row may come
 pub record IsAtTick {R : Type 0} (n : ℕ) (t : TraceReader R) : Type 0 where
   pub state : t.state ≡ Rows
+  pub kept : t.foreseen.tick.tick ≡ n
   pub text : (after : List ℕ) × (bytes_ahead t.records ≡ decimal n ++ after)
 
 -- ---- the record that is refused

@@ -315,6 +315,7 @@ impl<'a, R: Read> TraceReader<'a, R> {
         requires { IsAtTick tick self.old }
         ensures taken { result ≡ true → (row : Row) (told : Told) → IsTextOf self.old texts.now tick core.0 row → told_left R.remaining self.old ≡ Some told → GivesNext told (Ok (Some row)) (told_left R.remaining self.new) }
         ensures kept { result ≡ false → (told : Told) → told_left R.remaining self.old ≡ Some told → told_left R.remaining self.new ≡ Some told }
+        ensures here { result ≡ false → IsAtTick tick self.new }
         ensures same { has_failed self.new ≡ has_failed self.old }
         ensures trace { IsOfTrace self.old self.new }
         ensures finds { (row : Row) → IsTextOf self.old texts.now tick core.0 row → CanMeet self.old row → result ≡ true }
@@ -328,11 +329,9 @@ impl<'a, R: Read> TraceReader<'a, R> {
         };
         // Read so that the plan is known to be an accepted one.
         let _accepted = self.plan.tasks();
-        self.foreseen.to_tick(tick);
         let core = (core.0 % MOST_CORES) as usize;
-        let line = text_of(&texts.lines, core);
-        let (tick, rest) = (self.foreseen.tick(), rest_of(line));
-        let met = self.records.meets_behind(tick, rest);
+        let rest = rest_of(text_of(&texts.lines, core));
+        let met = self.records.meets_behind(self.foreseen.tick(), rest);
         if met {
             self.number = after;
         }

@@ -8,22 +8,16 @@ use Rattle.msrp_trace.specs.Texts.{TextsModel, text_of_core}
 use Rattle.msrp_trace.proofs.Lining.{record_more}
 use Rattle.msrp_trace.proofs.reading.TraceReader.comes_behind.Goals as goal
 
-pub invariant_of-self : goal.invariant_of-self
-invariant_of-self g c = let old = c.args.self.now in record { texts = c.to_tick.ensures.texts old.version old.plan.now old.texts }
-
-pub invariant_of-self-else-met : goal.invariant_of-self-else-met
-invariant_of-self-else-met g c = let old = c.args.self.now in record { texts = c.to_tick.ensures.texts old.version old.plan.now old.texts }
-
 pub meets_behind-met-requires : goal.meets_behind-met-requires
-meets_behind-met-requires g c = (c.requires.text.0, c.requires.text.1 ∙ ap (λ (t : List ℕ). t ++ c.requires.text.0) (sym (c.tick-tick.ensures ∙ ap decimal c.to_tick.ensures.tick)))
+meets_behind-met-requires g c = (c.requires.text.0, c.requires.text.1 ∙ ap (λ (t : List ℕ). t ++ c.requires.text.0) (sym (c.tick.ensures ∙ ap decimal c.requires.kept)))
 
 pub returns-then-met-clause-taken : goal.returns-then-met-clause-taken
 returns-then-met-clause-taken g c = λ yes row told is h.
     let old = c.args.self.now in
-    let text = c.text_of-line.ensures ∙ (ap (λ (t : TextsModel). text_of_core t c.args.core.0) c.texts.view_is ∙ is.text) in
+    let text = c.text_of.ensures ∙ (ap (λ (t : TextsModel). text_of_core t c.args.core.0) c.texts.view_is ∙ is.text) in
     let rest = c.rest_of-rest.ensures _ text in
-    let tick : c.tick-tick.result.now ≡ decimal row.tick = c.tick-tick.ensures ∙ ap decimal (c.to_tick.ensures.tick ∙ sym is.tick) in
-    let line = row_line old.version old.plan.now row c.tick-tick.result.now c.rest_of-rest.result.now tick (ap (λ (t : List ℕ). t ++ codes "\n") (sym rest)) in
+    let tick : c.tick.result.now ≡ decimal row.tick = c.tick.ensures ∙ ap decimal (c.requires.kept ∙ sym is.tick) in
+    let line = row_line old.version old.plan.now row c.tick.result.now c.rest_of-rest.result.now tick (ap (λ (t : List ℕ). t ++ codes "\n") (sym rest)) in
     let number : c.in-Some.after ≡ old.number + 1 = search rules in
     met_row old.version old.plan.now old.number c.in-Some.after row _ _ _ old.state told c.tasks-accepted.ensures.plan is.whole line (c.meets_behind-met.ensures.taken c.if-met.true) number c.requires.state h
 
@@ -33,21 +27,21 @@ returns-else-met-clause-kept g c = λ no told h. let old = c.args.self.now in ke
 pub returns-else-met-clause-finds : goal.returns-else-met-clause-finds
 returns-else-met-clause-finds g c = λ row is can.
     let old = c.args.self.now in
-    let text = c.text_of-line.ensures ∙ (ap (λ (t : TextsModel). text_of_core t c.args.core.0) c.texts.view_is ∙ is.text) in
+    let text = c.text_of.ensures ∙ (ap (λ (t : TextsModel). text_of_core t c.args.core.0) c.texts.view_is ∙ is.text) in
     let rest = c.rest_of-rest.ensures _ text in
-    let tick : c.tick-tick.result.now ≡ decimal row.tick = c.tick-tick.ensures ∙ ap decimal (c.to_tick.ensures.tick ∙ sym is.tick) in
-    let line = row_line old.version old.plan.now row c.tick-tick.result.now c.rest_of-rest.result.now tick (ap (λ (t : List ℕ). t ++ codes "\n") (sym rest)) in
-    c.meets_behind-met.ensures.ahead (row_begins can.0 c.tick-tick.result.now c.rest_of-rest.result.now _ _ line can.1.text can.2)
+    let tick : c.tick.result.now ≡ decimal row.tick = c.tick.ensures ∙ ap decimal (c.requires.kept ∙ sym is.tick) in
+    let line = row_line old.version old.plan.now row c.tick.result.now c.rest_of-rest.result.now tick (ap (λ (t : List ℕ). t ++ codes "\n") (sym rest)) in
+    c.meets_behind-met.ensures.ahead (row_begins can.0 c.tick.result.now c.rest_of-rest.result.now _ _ line can.1.text can.2)
 
 pub returns-then-met-clause-stands : goal.returns-then-met-clause-stands
 returns-then-met-clause-stands g c = λ row records is stands.
     let old = c.args.self.now in
-    let text = c.text_of-line.ensures ∙ (ap (λ (t : TextsModel). text_of_core t c.args.core.0) c.texts.view_is ∙ is.text) in
+    let text = c.text_of.ensures ∙ (ap (λ (t : TextsModel). text_of_core t c.args.core.0) c.texts.view_is ∙ is.text) in
     let rest = c.rest_of-rest.ensures _ text in
-    let tick : c.tick-tick.result.now ≡ decimal row.tick = c.tick-tick.ensures ∙ ap decimal (c.to_tick.ensures.tick ∙ sym is.tick) in
-    let line = row_line old.version old.plan.now row c.tick-tick.result.now c.rest_of-rest.result.now tick (ap (λ (t : List ℕ). t ++ codes "\n") (sym rest)) in
+    let tick : c.tick.result.now ≡ decimal row.tick = c.tick.ensures ∙ ap decimal (c.requires.kept ∙ sym is.tick) in
+    let line = row_line old.version old.plan.now row c.tick.result.now c.rest_of-rest.result.now tick (ap (λ (t : List ℕ). t ++ codes "\n") (sym rest)) in
     let number : c.in-Some.after ≡ old.number + 1 = search rules in
-    let plain = whole_line old.version old.plan.now row (c.tick-tick.result.now ++ c.rest_of-rest.result.now) c.tasks-accepted.ensures.plan is.whole line in
+    let plain = whole_line old.version old.plan.now row (c.tick.result.now ++ c.rest_of-rest.result.now) c.tasks-accepted.ensures.plan is.whole line in
     line_stands records old.number c.in-Some.after _ _ _ (c.meets_behind-met.ensures.taken c.if-met.true plain.0) number stands
 
 pub returns-else-met-clause-stands : goal.returns-else-met-clause-stands
@@ -59,12 +53,12 @@ returns-else-met-clause-still g c = λ no records stands. c.meets_behind-met.ens
 pub returns-then-met-clause-lines : goal.returns-then-met-clause-lines
 returns-then-met-clause-lines g c = λ row bytes is read.
     let old = c.args.self.now in
-    let text = c.text_of-line.ensures ∙ (ap (λ (t : TextsModel). text_of_core t c.args.core.0) c.texts.view_is ∙ is.text) in
+    let text = c.text_of.ensures ∙ (ap (λ (t : TextsModel). text_of_core t c.args.core.0) c.texts.view_is ∙ is.text) in
     let rest = c.rest_of-rest.ensures _ text in
-    let tick : c.tick-tick.result.now ≡ decimal row.tick = c.tick-tick.ensures ∙ ap decimal (c.to_tick.ensures.tick ∙ sym is.tick) in
-    let line = row_line old.version old.plan.now row c.tick-tick.result.now c.rest_of-rest.result.now tick (ap (λ (t : List ℕ). t ++ codes "\n") (sym rest)) in
+    let tick : c.tick.result.now ≡ decimal row.tick = c.tick.ensures ∙ ap decimal (c.requires.kept ∙ sym is.tick) in
+    let line = row_line old.version old.plan.now row c.tick.result.now c.rest_of-rest.result.now tick (ap (λ (t : List ℕ). t ++ codes "\n") (sym rest)) in
     let number : c.in-Some.after ≡ old.number + 1 = search rules in
-    let plain = whole_line old.version old.plan.now row (c.tick-tick.result.now ++ c.rest_of-rest.result.now) c.tasks-accepted.ensures.plan is.whole line in
+    let plain = whole_line old.version old.plan.now row (c.tick.result.now ++ c.rest_of-rest.result.now) c.tasks-accepted.ensures.plan is.whole line in
     record_more _ bytes old.number c.in-Some.after _ number (c.meets_behind-met.ensures.line c.if-met.true plain.0 bytes old.number read)
 
 pub returns-else-met-clause-lines : goal.returns-else-met-clause-lines
