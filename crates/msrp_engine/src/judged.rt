@@ -53,16 +53,6 @@ pub(crate) enum Ahead {
     Unknown,
 }
 
-impl Ahead {
-    // A row that is due. It is made anew for that, so that one that is met is never laid down in memory as a whole.
-    #[inline(always)]
-    fn due(row: Row) -> Ahead
-        ensures { result ≡ Ahead.Due row }
-    {
-        Ahead::Due(row.in_tick(row.tick))
-    }
-}
-
 // What stands in place of the row of a turn before the first one.
 const NO_ROW: Row = Row {
     tick: 0,
@@ -213,10 +203,38 @@ impl<'p, 't, T: Read> JudgedRows<'p, 't, T> {
         false
     }
 
-    // The turn of a core that isn't known to make its last row again, and whether its row comes so. The row is left in `due`. It stands apart, and
-    // answers no row, so that the way of the rows that are known stays short.
+    // The next row, which is known to be of that tick and core, where the core is known to make its last row again and that comes. Its text is compared
+    // before the core has its turn. Elsewhere nothing is taken, and the core has its turn still to come.
+    #[inline(always)]
+    fn next_again(&mut self, tick: u32, core: CoreId) -> Option<Row>
+        requires accepted { IsPlan self.old.auditor.plan }
+        requires due { IsCoreDue self.old.auditor core.0 }
+        requires short { is_short tick ≡ true }
+        requires here { IsAtTick tick self.old.rows }
+        ensures plan { self.new.auditor.plan ≡ self.old.auditor.plan }
+        ensures gives { IfSome result (λ row. (told : Told) → rows_left T.remaining self.old ≡ Some told → GivesNext told (Ok (Some row)) (rows_left T.remaining self.new)) }
+        ensures fed { IfSome result (λ row. (rows : List TraceRow) → HasFed self.old.auditor rows → tick ≡ length rows / self.old.auditor.plan.cores → HasFed self.new.auditor (rows ++ row ∷ []) × (self.new.auditor.fault ≡ None)) }
+        ensures kept { result ≡ None → (told : Told) → rows_left T.remaining self.old ≡ Some told → rows_left T.remaining self.new ≡ Some told }
+        ensures same { result ≡ None → self.new.auditor ≡ self.old.auditor }
+        ensures still { result ≡ None → IsAtTick tick self.new.rows }
+    {
+        if !self.auditor.repeats(core) || !self.whole[core.0 as usize] {
+            return None;
+        }
+        if !self.rows.comes_behind(tick, &self.texts, core) {
+            return None;
+        }
+        let Some(due) = self.auditor.repeat(core) else {
+            return None;
+        };
+        self.auditor.accept();
+        Some(self.rows.as_read(due).in_tick(tick))
+    }
+
+    // The turn of a core, and whether its row comes. The row is left in `due`. It stands apart, and answers no row, so that the way of the rows that
+    // are known stays short.
     #[inline(never)]
-    fn meets_anew(&mut self, tick: u32, core: CoreId) -> bool
+    fn meets_turn(&mut self, tick: u32, core: CoreId) -> bool
         requires accepted { IsPlan self.old.auditor.plan }
         requires due { IsCoreDue self.old.auditor core.0 }
         requires short { is_short tick ≡ true }
@@ -229,7 +247,7 @@ impl<'p, 't, T: Read> JudgedRows<'p, 't, T> {
         ensures left { result ≡ false → self.new.auditor.fed ≡ self.old.auditor.fed }
         ensures awaits { result ≡ false → (rows : List TraceRow) → HasFed self.old.auditor rows → Awaits self.new.auditor rows core.0 self.new.due }
     {
-        let due = self.turn_anew(core);
+        let due = self.turn(core);
         // Made anew as a whole, so that no part of it is laid down before.
         self.due = due.in_tick(due.tick);
         self.meets(tick, core)
@@ -267,20 +285,14 @@ impl<'p, 't, T: Read> JudgedRows<'p, 't, T> {
         ensures room { HasRoom result self.new.auditor }
         ensures begins { (told : Told) (rows : List TraceRow) → BeginsAt tick core told → HasFed self.old.auditor rows → tick ≡ length rows / self.old.auditor.plan.cores → BeginsDue told result }
     {
-        match self.auditor.repeat(core) {
-            Some(due) => {
-                if self.meets(tick, core) {
-                    return Ahead::Met(self.rows.as_read(due).in_tick(tick));
-                }
-                Ahead::due(due)
-            }
-            None => {
-                if self.meets_anew(tick, core) {
-                    return Ahead::Met(self.rows.as_read(self.due).in_tick(tick));
-                }
-                Ahead::due(self.due)
-            }
+        if let Some(row) = self.next_again(tick, core) {
+            return Ahead::Met(row);
         }
+        if self.meets_turn(tick, core) {
+            return Ahead::Met(self.rows.as_read(self.due).in_tick(tick));
+        }
+        // Made anew, so that one that is met is never laid down in memory as a whole.
+        Ahead::Due(self.due.in_tick(self.due.tick))
     }
 
     /// What is known ahead of the next row. One that comes as it is due is taken; else nothing is.

@@ -1,12 +1,11 @@
-use Rattle.std.proofs.Common.{sym, subst}
-use Rattle.msrp_engine.specs.Inside.Kept.{KeepsKnown}
-use Rattle.msrp_engine.proofs.KeptTexts.{cores_if, keeps_if}
+use Rattle.std.proofs.Common.{ap, sym, ◌∙◌, subst}
+use Rattle.msrp_audit.specs.Audits.{AuditorModel, Awaits, HasFed}
+use Rattle.msrp_plan.specs.declared.rows.Row.{Row}
 use Rattle.msrp_engine.proofs.judged.JudgedRows.ahead_of.Goals as goal
 
-pub invariant_of-self-clause-known : goal.invariant_of-self-clause-known
-invariant_of-self-clause-known g c =
-    let j = c.args.self.now in
-    let e = c.repeat.ensures in
-    let none = cores_if c.repeat.result j.auditor c.repeat.new.self e.none in
-    subst (λ p. KeepsKnown j.rows.version p c.repeat.new.self.cores j.texts j.whole) (sym e.plan)
-    (keeps_if j.rows.version j.auditor.plan j.auditor.cores c.repeat.new.self.cores j.texts j.whole c.args.core.0 c.repeat.result c.requires.accepted.draft.cores.1 c.requires.due.core none e.known e.core e.leaves j.known)
+pub returns-clause-ahead : goal.returns-clause-ahead
+returns-clause-ahead g c = λ rows fed now.
+    let j = c.meets_turn.new.self in
+    let awaits = c.meets_turn.ensures.awaits c.if-meets_turn.false rows (subst (λ (a : AuditorModel). HasFed a rows) (sym (c.next_again.ensures.same c.in_default.is)) fed) in
+    let due = subst (λ n. Awaits j.auditor rows n j.due) (sym awaits.next.core) awaits in
+    subst (λ (r : Row). Awaits j.auditor rows r.core.0 r) (sym c.in_tick-2.ensures) due
