@@ -145,6 +145,7 @@ impl<R: Read> RecordReader<R> {
         ensures ahead { BeginsWith (front.now ++ rest.now) (bytes_ahead self.old) → result ≡ true }
         ensures line { result ≡ true → is_plain (front.now ++ rest.now) ≡ true → (bytes : List ℕ) (number : ℕ) → HasRead R.remaining bytes number self.old → HasRead R.remaining bytes (number + 1) self.new }
         ensures still { result ≡ false → (bytes : List ℕ) (number : ℕ) → HasRead R.remaining bytes number self.old → HasRead R.remaining bytes number self.new }
+        ensures same { result ≡ false → bytes_ahead self.new ≡ bytes_ahead self.old }
     {
         match rest_met(self.ahead(), front, rest) {
             Some(taken) => {
