@@ -212,11 +212,14 @@ pub(crate) fn digit_after(text: &[u8], first: &[u8]) -> Option<u8>
     ensures digit { IfSome result (λ digit. BeginsWithDigit first.now digit text.now) }
     ensures finds { (digit : ℕ) → BeginsWithDigit first.now digit text.now → result ≡ Some digit }
 {
+    if text.len() < first.len() + 3 {
+        return None;
+    }
     if !begins_with(text, first) {
         return None;
     }
     let rest = &text[first.len()..];
-    if rest.len() >= 3 && rest[0] == b',' && rest[1].is_ascii_digit() && rest[2] == b',' {
+    if rest[0] == b',' && rest[1].is_ascii_digit() && rest[2] == b',' {
         return Some(rest[1]);
     }
     None

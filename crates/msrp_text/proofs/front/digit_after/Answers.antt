@@ -1,4 +1,4 @@
-use Rattle.std.proofs.Common.{◌∙◌, ◌-◌, take, drop, length, sym}
+use Rattle.std.proofs.Common.{rules, ◌≤◌, ◌∙◌, ◌-◌, take, drop, length, sym}
 use mathlib.Core.Bool.{true≢false}
 use Rattle.msrp_text.proofs.Fronts.{front-behind}
 use Rattle.msrp_text.proofs.FirstFields.{digit-begins}
@@ -11,4 +11,5 @@ pub returns-then-rest-eq44-2-clause-digit : goal.returns-then-rest-eq44-2-clause
 returns-then-rest-eq44-2-clause-digit c =
     let rest = take (length c.args.text.now - length c.args.first.now) (drop (length c.args.first.now) c.args.text.now) in
     let first = front-behind c.args.text.now c.args.first.now (c.begins_with.ensures.begins c.if-not-begins_with.false) in
-    digit-begins c.args.text.now c.args.first.now rest first c.if-rest-ge3.true c.if-rest-eq44.true (sym c.is_ascii_digit.ensures.value ∙ c.if-is_ascii_digit.true) c.if-rest-eq44-2.true
+    let long : 3 ≤ length rest = search rules in
+    digit-begins c.args.text.now c.args.first.now rest first long c.if-rest-eq44.true (sym c.is_ascii_digit.ensures.value ∙ c.if-is_ascii_digit.true) c.if-rest-eq44-2.true
