@@ -292,13 +292,6 @@ group_within plan g n size l =
     let rest = mod_below (length plan.tasks + 7) 8 (omega arith) in
     omega (arith, size, l, whole, rest)
 
--- they have all tasks
-pub groups_whole : (plan : PlanModel) (n : ℕ) → n ≡ (length plan.tasks + 7) / 8 → min (length plan.tasks) (n * 8) ≡ length plan.tasks
-groups_whole plan n size =
-    let whole = div-add-mod' (length plan.tasks + 7) 8 in
-    let rest = mod_below (length plan.tasks + 7) 8 (omega arith) in
-    omega (arith, size, whole, rest)
-
 -- the groups behind one stay as they are
 pub groups_left : (plan : PlanModel) (n from : ℕ) (groups after : List ℕ) → AreGroups plan n from groups → length after ≡ length groups → ((g : ℕ) → g ≢ n → slice_get after g ≡ slice_get groups g) → AreGroups plan (n + 1) from after
 groups_left plan n from groups after are size others = record {

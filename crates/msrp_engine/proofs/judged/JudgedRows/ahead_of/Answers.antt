@@ -1,4 +1,4 @@
-use Rattle.std.proofs.Common.{ap, sym, ◌∙◌, subst}
+use Rattle.std.proofs.Common.{sym, subst}
 use Rattle.msrp_audit.specs.Audits.{AuditorModel, Awaits, HasFed}
 use Rattle.msrp_plan.specs.declared.rows.Row.{Row}
 use Rattle.msrp_engine.proofs.judged.JudgedRows.ahead_of.Goals as goal
