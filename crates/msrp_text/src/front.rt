@@ -128,10 +128,14 @@ fn is_same<const CHUNK: usize>(text: &[u8], other: &[u8]) -> bool
     ensures same { result ≡ true → text.now ≡ other.now }
     ensures finds { text.now ≡ other.now → result ≡ true }
 {
-    let (Some(first), Some(same_first)) = (text.first_chunk::<CHUNK>(), other.first_chunk::<CHUNK>()) else {
+    let (Some(first), Some(same_first)) = (
+        text.first_chunk::<CHUNK>(),
+        other.first_chunk::<CHUNK>(),
+    ) else {
         return false;
     };
-    let (Some(last), Some(same_last)) = (text.last_chunk::<CHUNK>(), other.last_chunk::<CHUNK>()) else {
+    let (Some(last), Some(same_last)) = (text.last_chunk::<CHUNK>(), other.last_chunk::<CHUNK>())
+    else {
         return false;
     };
     first == same_first && last == same_last
