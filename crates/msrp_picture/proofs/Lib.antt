@@ -1,10 +1,4 @@
 pub mod Growing
-pub mod Taking
-pub mod Drawing
-pub mod Joining
-pub mod TaskRows
 pub mod Depths
 pub mod Marking
 pub mod Claims
-pub mod Apart
-pub mod Arrows

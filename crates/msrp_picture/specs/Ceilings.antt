@@ -4,21 +4,14 @@ use Rattle.std.specs.List.{flat_map, range_with_len}
 use Rattle.msrp_plan.specs.Ceiling.{resources}
 use Rattle.msrp_plan.specs.Levels.{greatest}
 use Rattle.msrp_plan.specs.Logs.{rows_on}
-use Rattle.msrp_plan.specs.Plan.{PlanModel}
-use Rattle.msrp_plan.specs.declared.rows.Row.{Row}
 use Rattle.msrp_levels.specs.Users.{ceiling_at}
+use Rattle.msrp_picture.specs.Types.{PlanModel, Room, Row, Shape, Span, Window}
+use Rattle.msrp_picture.specs.Blocks.{lane_of, lasting, merged, seen}
 use Rattle.msrp_picture.specs.Names.{names}
 use Rattle.msrp_picture.specs.Sections.{leaves}
-use Rattle.msrp_picture.specs.Seen.{lane_of, seen}
-use Rattle.msrp_picture.specs.Spans.{lasting}
-use Rattle.msrp_picture.specs.Stretches.{merged}
 use Rattle.msrp_picture.specs.declared.places.TheConstants.{CEILING_ABOVE, CEILING_LINE}
 use Rattle.msrp_picture.specs.declared.shapes.Look.TheVariants.{Ceiling as OfCeiling}
-use Rattle.msrp_picture.specs.declared.shapes.Room.{Room}
-use Rattle.msrp_picture.specs.declared.shapes.Shape.{Shape}
-use Rattle.msrp_picture.specs.declared.shapes.Span.{Span}
 use Rattle.msrp_picture.specs.declared.shapes.Words.TheVariants.{Ceiling}
-use Rattle.msrp_picture.specs.declared.windows.Window.{Window}
 
 -- the core has locked or requested the resource, and not given it back: its last row on it isn't one that does
 abbrev pub is_claimed : List Row → ℕ → Bool
@@ -40,3 +33,8 @@ ceiling_spans plan room c log = flat_map (λ t. raised room t (told_ceiling plan
 -- a lane of its own: a block for each longest stretch of ticks in which it is the same
 abbrev pub ceiling_shapes : PlanModel → Window → Room → ℕ → List Row → List Shape
 ceiling_shapes plan w room c log = names w room CEILING_LINE CEILING_ABOVE Ceiling ++ lane_of w room w.to ∷ [] ++ flat_map (seen w) (merged (ceiling_spans plan room c log))
+
+-- ---- what is kept of each resource while the rows of a core are read
+-- of each whether the core has claimed it in these rows
+abbrev pub claims : PlanModel → List Row → List Bool
+claims plan log = map (is_claimed log) (resources plan)

@@ -1,12 +1,11 @@
 -- What one cell of a picture shows: a byte of ASCII.
-use Rattle.std.specs.Prelude.{ℕ, List, Bool, ◌&&◌, not, Option, Some, None, if◌then◌else◌, codes, decimal, nat_lt, nat_eq, slice_index_or, ◌-◌, ◌%◌}
-use Rattle.msrp_plan.specs.declared.ids.JobId.{JobId}
-use Rattle.msrp_plan.specs.declared.rows.Kind.{Kind}
-use Rattle.msrp_plan.specs.declared.rows.Kind.TheVariants.{Idle, Run, Lock, Unlock, Take, Queue, Spin, Grant, Release}
-use Rattle.msrp_plan.specs.declared.rows.Row.{Row}
-use Rattle.msrp_picture.specs.declared.cells.Aspect.{Aspect}
-use Rattle.msrp_picture.specs.declared.cells.Aspect.TheVariants.{Who, What}
-use Rattle.msrp_picture.specs.declared.queues.Standing.{Standing}
+use Rattle.std.specs.Prelude.{ℕ, List, Bool, ◌&&◌, not, Option, Some, None, if◌then◌else◌, codes, decimal, nat_lt, nat_eq, slice_index_or, ◌-◌, ◌%◌, length, map, slice_get, min, take, ◌+◌, ◌*◌}
+use Rattle.std.specs.List.{range_with_len}
+use Rattle.msrp_plan.specs.Queues.{fifo}
+use Rattle.msrp_plan.specs.declared.rows.Kind.TheVariants.{Grant, Idle, Lock, Queue, Release, Run, Spin, Take, Unlock}
+use Rattle.msrp_picture.specs.Types.{Aspect, JobId, Kind, PlanModel, Row, Standing, Window}
+use Rattle.msrp_picture.specs.Windows.{begun}
+use Rattle.msrp_picture.specs.declared.cells.Aspect.TheVariants.{What, Who}
 
 -- the code of a sign
 abbrev pub byte : List ℕ → ℕ
@@ -83,3 +82,14 @@ dash t = if nat_eq (t % 10) 5 then byte (codes "+") else byte (codes "-")
 -- the number of each tenth tick stands at it and the ticks after it, if it isn't before the first tick of its part
 abbrev pub tick_cell : ℕ → ℕ → ℕ
 tick_cell start t = if nat_lt (t - t % 10) start then dash t else slice_index_or (decimal (t - t % 10)) (t % 10) (dash t)
+
+abbrev pub standing_of : List JobId → Standing
+standing_of queue = record { first = slice_get queue 0; behind = length queue - 1 }
+
+-- after a tick
+abbrev pub standing_after : PlanModel → List Row → ℕ → ℕ → Standing
+standing_after plan rows g t = standing_of (fifo g (take ((t + 1) * plan.cores) rows))
+
+-- after each of the ticks that are drawn, as far as rows stand
+abbrev pub standings : PlanModel → List Row → Window → ℕ → List Standing
+standings plan rows w g = map (standing_after plan rows g) (range_with_len w.from (min w.to (begun plan rows) - w.from))

@@ -1,23 +1,29 @@
--- What is drawn of each job: the line of its life, red behind its absolute deadline, and arrows at its release and its deadline.
-use Rattle.std.specs.Prelude.{ℕ, List, ◌++◌, Some, None, length, ◌+◌}
+-- The life of a job, from its release to its end, and what is drawn of it: the line of its life, red behind its absolute deadline, and
+-- arrows at its release and its deadline.
+use Rattle.std.specs.Prelude.{ℕ, List, if◌then◌else◌, filter, fold, ◌+◌, ◌++◌, Some, None, length}
 use Rattle.std.specs.List.{flat_map, range_with_len}
-use Rattle.msrp_plan.specs.Jobs.{job_at, jobs_of}
-use Rattle.msrp_plan.specs.Plan.{PlanModel}
-use Rattle.msrp_plan.specs.declared.ids.JobId.{JobId}
-use Rattle.msrp_plan.specs.declared.rows.Row.{Row}
-use Rattle.msrp_picture.specs.Lives.{life_of}
-use Rattle.msrp_picture.specs.Seen.{met, seen}
-use Rattle.msrp_picture.specs.Spans.{lasting}
-use Rattle.msrp_picture.specs.declared.lives.Life.{Life}
+use Rattle.msrp_plan.specs.Jobs.{is_finished, is_row_of, job_at, jobs_of}
+use Rattle.msrp_plan.specs.Plan.{release, task_of}
+use Rattle.msrp_picture.specs.Types.{Event, JobId, Life, Moment, PlanModel, Room, Row, Shape, Span, Window}
+use Rattle.msrp_picture.specs.Blocks.{lasting, met, seen}
+use Rattle.msrp_picture.specs.Windows.{begun}
 use Rattle.msrp_picture.specs.declared.places.TheConstants.{LATE_HEIGHT, LIFE_HEIGHT, LIFE_TOP, TASK_HEIGHT}
-use Rattle.msrp_picture.specs.declared.shapes.Event.{Event}
-use Rattle.msrp_picture.specs.declared.shapes.Look.TheVariants.{Life as LifeLook, Late}
-use Rattle.msrp_picture.specs.declared.shapes.Moment.{Moment}
-use Rattle.msrp_picture.specs.declared.shapes.Moment.TheVariants.{Release, Deadline}
-use Rattle.msrp_picture.specs.declared.shapes.Room.{Room}
-use Rattle.msrp_picture.specs.declared.shapes.Shape.{Shape}
-use Rattle.msrp_picture.specs.declared.shapes.Span.{Span}
-use Rattle.msrp_picture.specs.declared.windows.Window.{Window}
+use Rattle.msrp_picture.specs.declared.shapes.Look.TheVariants.{Late, Life as LifeLook}
+use Rattle.msrp_picture.specs.declared.shapes.Moment.TheVariants.{Deadline, Release}
+
+-- the tick behind the last row of a job
+abbrev pub after_last : JobId → List Row → ℕ
+after_last j rows = fold (λ _ r. r.tick + 1) 0 (filter (is_row_of j) rows)
+
+-- one that isn't finished lives as long as rows stand
+abbrev pub life_of : PlanModel → List Row → JobId → Life
+life_of plan rows j = record {
+  job = j;
+  release = release plan j;
+  due = release plan j + (task_of plan j).deadline;
+  is_finished = is_finished plan rows j;
+  end = if is_finished plan rows j then after_last j rows else begun plan rows;
+}
 
 -- a line in the lane of its task, under the blocks
 abbrev pub life_span : Room → Life → Span

@@ -1,29 +1,24 @@
--- The lanes of cores and tasks.
-use Rattle.std.specs.Prelude.{ℕ, List, [], ◌∷◌, ◌++◌, true, false, if◌then◌else◌, length, nat_eq, ◌+◌, ◌-◌, ◌%◌}
-use Rattle.std.specs.List.{flat_map, range_with_len}
+-- The lanes of cores, tasks and global resources.
+use Rattle.std.specs.Prelude.{ℕ, List, [], ◌∷◌, ◌++◌, if◌then◌else◌, length, nat_eq, ◌+◌, ◌-◌, ◌%◌, Option, Some, filter_map, option_map}
+use Rattle.std.specs.List.{flat_map, range_with_len, enumerate_from}
 use Rattle.msrp_plan.specs.Levels.{level}
 use Rattle.msrp_plan.specs.Logs.{log_of}
-use Rattle.msrp_plan.specs.Plan.{PlanModel, task_at}
-use Rattle.msrp_plan.specs.declared.ids.CoreId.{CoreId}
-use Rattle.msrp_plan.specs.declared.ids.TaskId.{TaskId}
-use Rattle.msrp_plan.specs.declared.rows.Row.{Row}
-use Rattle.msrp_picture.specs.Blocks.{blocks}
+use Rattle.msrp_plan.specs.Plan.{task_at}
+use Rattle.msrp_picture.specs.Types.{CoreId, PlanModel, ResId, Room, Row, Shape, Span, Standing, TaskId, Window}
+use Rattle.msrp_picture.specs.Blocks.{lane_of, lasting, merged, rows_shapes, seen, task_rows}
 use Rattle.msrp_picture.specs.Ceilings.{ceiling_shapes}
-use Rattle.msrp_picture.specs.Inside.TaskRows.{task_rows}
+use Rattle.msrp_picture.specs.Cells.{standings}
 use Rattle.msrp_picture.specs.Jobs.{task_jobs}
+use Rattle.msrp_picture.specs.Lines.{global_resources}
 use Rattle.msrp_picture.specs.Names.{names, note_of}
-use Rattle.msrp_picture.specs.Places.{ceiling_room, core_room, core_top, left_of, task_room}
+use Rattle.msrp_picture.specs.Places.{ceiling_room, core_room, core_top, left_of, queue_room, task_room}
 use Rattle.msrp_picture.specs.Sections.{sections}
-use Rattle.msrp_picture.specs.Seen.{lane_of}
 use Rattle.msrp_picture.specs.Windows.{begun}
-use Rattle.msrp_picture.specs.declared.blocks.Owner.{Owner}
 use Rattle.msrp_picture.specs.declared.blocks.Owner.TheVariants.{Core as OfCore, Task as OfTask}
 use Rattle.msrp_picture.specs.declared.places.TheConstants.{AXIS_LINE, CORE_ABOVE, CORE_LINE, LEVEL_LINE, NAME_ABOVE, NAME_LINE}
-use Rattle.msrp_picture.specs.declared.shapes.Room.{Room}
-use Rattle.msrp_picture.specs.declared.shapes.Shape.{Shape}
+use Rattle.msrp_picture.specs.declared.shapes.Look.TheVariants.{First}
 use Rattle.msrp_picture.specs.declared.shapes.Shape.TheVariants.{Text}
-use Rattle.msrp_picture.specs.declared.shapes.Words.TheVariants.{Core, Level, Task, Tick}
-use Rattle.msrp_picture.specs.declared.windows.Window.{Window}
+use Rattle.msrp_picture.specs.declared.shapes.Words.TheVariants.{Core, Level, Res, Task, Tick}
 
 -- ---- ticks
 -- each fifth tick has its number
@@ -32,11 +27,6 @@ tick_note w line t = if nat_eq (t % 5) 0 then Text (record { left = left_of w t;
 
 abbrev pub axis : Window → ℕ → List Shape
 axis w line = flat_map (λ i. tick_note w line (w.from + i)) (range_with_len 0 (w.to - w.from))
-
--- ---- rows
--- the blocks of legal rows, and of those from the first on that breaks a rule
-abbrev pub rows_shapes : Window → List Row → List Row → Owner → Room → List Shape
-rows_shapes w legal later owner room = blocks w (record { owner = owner; room = room; is_legal = true }) legal ++ blocks w (record { owner = owner; room = room; is_legal = false }) later
 
 -- ---- cores
 -- the numbers of ticks, its name, who has its turn, and its ceiling as far as the rows are legal
@@ -62,3 +52,21 @@ task_life plan w legal later t =
 
 abbrev pub tasks_shapes : PlanModel → Window → List Row → List Row → List Shape
 tasks_shapes plan w legal later = flat_map (λ t. task_head plan w (record { 0 = t }) ++ task_life plan w legal later (record { 0 = t })) (range_with_len 0 (length plan.tasks))
+
+-- ---- resources: a block for each stretch of ticks in which a queue stands the same, of who is first in it
+-- a tick after which the queue of a resource stands so, if someone is first in it
+abbrev pub held : Room → ResId → ℕ → Standing → Option Span
+held room g t s = option_map (λ j. lasting t (t + 1) room (First s.behind) (Some j) (Some g)) s.first
+
+-- the spans of a queue's standings, tick by tick from one on
+abbrev pub queue_spans : Room → ResId → ℕ → List Standing → List Span
+queue_spans room g from list = filter_map (λ at. held room g (from + at.0) at.1) (enumerate_from 0 list)
+
+-- its name, what lies under its blocks as far as rows stand, and these
+abbrev pub queue_shapes : PlanModel → Window → List Row → ℕ → List Shape
+queue_shapes plan w rows g =
+    names w (queue_room plan g) NAME_LINE NAME_ABOVE (Res (record { 0 = g })) ++ lane_of w (queue_room plan g) (begun plan rows) ∷ []
+    ++ flat_map (seen w) (merged (queue_spans (queue_room plan g) (record { 0 = g }) w.from (standings plan rows w g)))
+
+abbrev pub queues_shapes : PlanModel → Window → List Row → List Shape
+queues_shapes plan w rows = flat_map (queue_shapes plan w rows) (global_resources plan (length plan.resources))

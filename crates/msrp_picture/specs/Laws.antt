@@ -1,27 +1,18 @@
 -- What a picture in SVG promises, in the words of schedules.
 use Rattle.std.specs.Prelude.{◌≡◌, ℕ, List, Bool, true, false, ◌&&◌, ◌==◌, Option, count_by, filter_map, length, map, ◌≤◌, ◌<◌, ◌+◌, ◌-◌, ⊤}
 use Rattle.std.specs.List.{flat_map, range_with_len}
-use Rattle.std.specs.declared.result.Result.{Result}
 use Rattle.msrp_plan.specs.Ceiling.{ceiling}
 use Rattle.msrp_plan.specs.Jobs.{job_at, jobs_of, same_job}
 use Rattle.msrp_plan.specs.Logs.{log_of}
-use Rattle.msrp_plan.specs.Plan.{PlanModel, release}
+use Rattle.msrp_plan.specs.Plan.{release}
 use Rattle.msrp_plan.specs.Runs.{IsRunStart}
 use Rattle.msrp_plan.specs.WellFormed.{IsPlan}
-use Rattle.msrp_plan.specs.declared.faults.Fault.{Fault}
-use Rattle.msrp_plan.specs.declared.ids.JobId.{JobId}
-use Rattle.msrp_plan.specs.declared.rows.Row.{Row}
-use Rattle.msrp_picture.specs.Blocks.{span_of}
+use Rattle.msrp_picture.specs.Types.{Fault, JobId, Lane, Moment, PlanModel, Result, Row, Shape, Span, Window}
+use Rattle.msrp_picture.specs.Blocks.{merged, span_of}
 use Rattle.msrp_picture.specs.Ceilings.{told_ceiling}
-use Rattle.msrp_picture.specs.Stretches.{merged}
 use Rattle.msrp_picture.specs.Svg.{drawn_shapes}
-use Rattle.msrp_picture.specs.declared.blocks.Lane.{Lane}
-use Rattle.msrp_picture.specs.declared.shapes.Moment.{Moment}
-use Rattle.msrp_picture.specs.declared.shapes.Moment.TheVariants.{Release, Deadline}
-use Rattle.msrp_picture.specs.declared.shapes.Shape.{Shape}
+use Rattle.msrp_picture.specs.declared.shapes.Moment.TheVariants.{Deadline, Release}
 use Rattle.msrp_picture.specs.declared.shapes.Shape.TheVariants.{Arrow}
-use Rattle.msrp_picture.specs.declared.shapes.Span.{Span}
-use Rattle.msrp_picture.specs.declared.windows.Window.{Window}
 
 -- a block, taken apart into its ticks
 abbrev pub ticks_of : Span → List Span

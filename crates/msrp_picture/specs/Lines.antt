@@ -1,22 +1,42 @@
 -- The lines of a picture: each has a label, and a cell for each tick that is drawn.
-use Rattle.std.specs.Prelude.{ℕ, List, [], ◌∷◌, ◌++◌, ◌&&◌, Option, Some, None, if◌then◌else◌, codes, decimal, filter, is_some, length, map, replicate, slice_index_or, ◌-◌, ◌%◌}
-use Rattle.std.specs.List.{cons_option, flat_map, range_with_len}
+use Rattle.std.specs.Prelude.{ℕ, List, Bool, true, false, ◌==◌, codes, map, ◌-◌, [], ◌∷◌, ◌++◌, ◌&&◌, Option, Some, None, if◌then◌else◌, decimal, filter, is_some, length, replicate, slice_index_or, ◌%◌}
+use Rattle.std.specs.List.{list_any, range_with_len, zip, cons_option, flat_map}
+use Rattle.msrp_plan.specs.Jobs.{jobs_on}
 use Rattle.msrp_plan.specs.Levels.{is_global}
 use Rattle.msrp_plan.specs.Logs.{is_of, log_of}
-use Rattle.msrp_plan.specs.Plan.{PlanModel}
-use Rattle.msrp_plan.specs.declared.ids.JobId.{JobId}
-use Rattle.msrp_plan.specs.declared.rows.Row.{Row}
-use Rattle.msrp_picture.specs.Cells.{mark, no_mark, row_cell, standing_cell, tick_cell}
-use Rattle.msrp_picture.specs.Events.{event_cells}
-use Rattle.msrp_picture.specs.Shown.{goes_on_in}
-use Rattle.msrp_picture.specs.Standings.{standings}
-use Rattle.msrp_picture.specs.Windows.{rows_between}
-use Rattle.msrp_picture.specs.declared.cells.Aspect.{Aspect}
-use Rattle.msrp_picture.specs.declared.cells.Aspect.TheVariants.{Who, What}
-use Rattle.msrp_picture.specs.declared.lines.PictureLine.{PictureLine}
-use Rattle.msrp_picture.specs.declared.lines.PictureLine.TheVariants.{Ticks, Core, Mark, Events, Queue}
+use Rattle.msrp_plan.specs.Plan.{key, release}
+use Rattle.msrp_picture.specs.Types.{Aspect, JobId, Moment, PictureLine, PlanModel, Row, Window}
+use Rattle.msrp_picture.specs.Cells.{byte, mark, no_mark, nothing, row_cell, standing_cell, standings, tick_cell}
+use Rattle.msrp_picture.specs.Windows.{goes_on_in, rows_between}
+use Rattle.msrp_picture.specs.declared.cells.Aspect.TheVariants.{What, Who}
+use Rattle.msrp_picture.specs.declared.lines.PictureLine.TheVariants.{Core, Events, Mark, Queue, Ticks}
+use Rattle.msrp_picture.specs.declared.shapes.Moment.TheVariants.{Deadline, Release}
 use Rattle.msrp_picture.specs.declared.windows.TheConstants.{LINE_TICKS}
-use Rattle.msrp_picture.specs.declared.windows.Window.{Window}
+
+-- ---- the releases and the absolute deadlines of a core's jobs
+-- the tick in which a job is released, or at whose beginning its absolute deadline is
+abbrev pub tick_of : PlanModel → Moment → JobId → ℕ
+tick_of plan Release j = release plan j
+tick_of plan Deadline j = (key plan j).deadline
+
+-- of each of the ticks that are drawn, whether it is one of these
+abbrev pub are_in : Window → List ℕ → List Bool
+are_in w ticks = map (λ t. list_any (λ e. e == t) ticks) (range_with_len w.from (w.to - w.from))
+
+-- the ticks in which a core's jobs are released, or have their absolute deadlines
+abbrev pub moment_ticks : PlanModel → ℕ → Moment → List ℕ
+moment_ticks plan c moment = map (tick_of plan moment) (jobs_on plan c)
+
+-- where jobs are released, where some have their deadlines, and where both is so
+abbrev pub event_cell : Bool → Bool → ℕ
+event_cell true true = byte (codes "X")
+event_cell true false = byte (codes "^")
+event_cell false true = byte (codes "v")
+event_cell false false = nothing
+
+-- a cell for each of these ticks
+abbrev pub event_cells : PlanModel → Window → ℕ → List ℕ
+event_cells plan w c = map (λ has. event_cell has.0 has.1) (zip (are_in w (moment_ticks plan c Release)) (are_in w (moment_ticks plan c Deadline)))
 
 -- ---- which lines there are: the axis, then each core, then each global resource
 -- the first row that breaks a rule, where it is of this core and is drawn

@@ -1,14 +1,11 @@
 -- The names of lanes: beside them, and in wide windows again above them, where no block lies.
 use Rattle.std.specs.Prelude.{ℕ, List, [], ◌∷◌, ◌++◌, ◌+◌, ◌-◌, ◌*◌, ◌/◌}
 use Rattle.std.specs.List.{flat_map, range_with_len}
+use Rattle.msrp_picture.specs.Types.{Room, Shape, Window, Words}
 use Rattle.msrp_picture.specs.Places.{left_of}
-use Rattle.msrp_picture.specs.declared.names.TheConstants.{NAME_END, NAME_PITCH}
+use Rattle.msrp_picture.specs.declared.lanes.TheConstants.{NAME_END, NAME_PITCH}
 use Rattle.msrp_picture.specs.declared.places.TheConstants.{LEFT}
-use Rattle.msrp_picture.specs.declared.shapes.Room.{Room}
-use Rattle.msrp_picture.specs.declared.shapes.Shape.{Shape}
 use Rattle.msrp_picture.specs.declared.shapes.Shape.TheVariants.{Text}
-use Rattle.msrp_picture.specs.declared.shapes.Words.{Words}
-use Rattle.msrp_picture.specs.declared.windows.Window.{Window}
 
 -- words beside a lane, so far below its upper edge
 abbrev pub note_of : Room → ℕ → Words → Shape

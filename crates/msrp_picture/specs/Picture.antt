@@ -1,19 +1,14 @@
 -- A picture of a trace, as text: the verdict, the ticks that are drawn, the lines in parts of so many ticks, and what letters and
 -- signs mean.
-use Rattle.std.specs.Prelude.{ℕ, List, [], ◌∷◌, ◌++◌, Option, Ok, Err, codes, decimal, drop, length, slice_range, ◌+◌, ◌-◌, ◌*◌, ⊤}
+use Rattle.std.specs.Prelude.{ℕ, List, [], ◌∷◌, ◌++◌, Option, Ok, Err, codes, decimal, drop, length, slice_range, ◌+◌, ◌-◌, ◌*◌, ⊤, ◌≡◌}
 use Rattle.std.specs.List.{flat_map, range_with_len}
-use Rattle.std.specs.declared.result.Result.{Result}
-use Rattle.msrp_plan.specs.Plan.{PlanModel, task_at}
+use Rattle.msrp_plan.specs.Plan.{task_at}
 use Rattle.msrp_plan.specs.Words.{verdict_text}
-use Rattle.msrp_plan.specs.declared.faults.Fault.{Fault}
-use Rattle.msrp_plan.specs.declared.rows.Row.{Row}
+use Rattle.msrp_picture.specs.Types.{Drawn, Fault, PictureLine, PlanModel, Result, Row, Window}
 use Rattle.msrp_picture.specs.Cells.{letter}
 use Rattle.msrp_picture.specs.Lines.{cells, lines_of, name_of}
-use Rattle.msrp_picture.specs.Shown.{broken_row, legal_rows}
-use Rattle.msrp_picture.specs.Windows.{due_in, parts}
-use Rattle.msrp_picture.specs.declared.lines.PictureLine.{PictureLine}
+use Rattle.msrp_picture.specs.Windows.{broken_row, due_in, legal_rows, parts}
 use Rattle.msrp_picture.specs.declared.windows.TheConstants.{LINE_TICKS}
-use Rattle.msrp_picture.specs.declared.windows.Window.{Window}
 
 -- ---- the head
 -- in which tick the row is due that breaks a rule
@@ -60,3 +55,15 @@ drawn_picture plan rows broken found w = verdict_text found ++ window_text plan 
 
 abbrev pub picture_text : PlanModel → List Row → Result ⊤ Fault → Window → List ℕ
 picture_text plan rows found w = drawn_picture plan (legal_rows rows found) (broken_row rows found) found w
+
+-- ---- lines with their cells, as they are kept
+abbrev pub line_of : Drawn → PictureLine
+line_of drawn = drawn.line
+
+-- the cells are those of the line
+abbrev pub IsDrawn : PlanModel → List Row → Option Row → Window → Drawn → Type 0
+IsDrawn plan rows broken w drawn = drawn.cells.items ≡ cells plan rows broken w drawn.line
+
+-- what stands of it in a part
+abbrev pub drawn_text : PlanModel → ℕ → Drawn → List ℕ
+drawn_text plan i drawn = line_text plan i drawn.line drawn.cells.items

@@ -3,19 +3,12 @@ use Rattle.std.specs.Prelude.{ℕ, List, [], ◌∷◌, Bool, true, false, ◌&&
 use Rattle.std.specs.List.{flat_map, range_with_len}
 use Rattle.msrp_plan.specs.Actions.{same_res}
 use Rattle.msrp_plan.specs.Runs.{same_choice}
-use Rattle.msrp_plan.specs.declared.rows.Kind.{Kind}
-use Rattle.msrp_plan.specs.declared.rows.Kind.TheVariants.{Lock, Unlock, Take, Grant, Release}
-use Rattle.msrp_plan.specs.declared.rows.Row.{Row}
+use Rattle.msrp_plan.specs.declared.rows.Kind.TheVariants.{Grant, Lock, Release, Take, Unlock}
+use Rattle.msrp_picture.specs.Types.{Kind, Room, Row, Shape, Span, Strip, Window}
+use Rattle.msrp_picture.specs.Blocks.{lasting, seen}
 use Rattle.msrp_picture.specs.Places.{section_height}
-use Rattle.msrp_picture.specs.Seen.{seen}
-use Rattle.msrp_picture.specs.Spans.{lasting}
 use Rattle.msrp_picture.specs.declared.places.TheConstants.{SECTION_TOP}
-use Rattle.msrp_picture.specs.declared.sections.Strip.{Strip}
 use Rattle.msrp_picture.specs.declared.shapes.Look.TheVariants.{Holds}
-use Rattle.msrp_picture.specs.declared.shapes.Room.{Room}
-use Rattle.msrp_picture.specs.declared.shapes.Shape.{Shape}
-use Rattle.msrp_picture.specs.declared.shapes.Span.{Span}
-use Rattle.msrp_picture.specs.declared.windows.Window.{Window}
 
 -- ---- where they begin and end
 abbrev pub enters : Kind → Bool
@@ -54,11 +47,8 @@ most_open n (r ∷ rows) = max n (most_open (open_with r n) rows)
 
 -- ---- how one is drawn
 -- below those that are open around it
-abbrev pub section_room : Strip → ℕ → Room
-section_room strip n = record { top = strip.top + n * section_height strip.levels; height = section_height strip.levels }
-
 abbrev pub section_span : Strip → Row → ℕ → ℕ → Span
-section_span strip r n end = lasting r.tick end (section_room strip n) Holds r.job r.res
+section_span strip r n end = lasting r.tick end (record { top = strip.top + n * section_height strip.levels; height = section_height strip.levels }) Holds r.job r.res
 
 -- the section that begins with the first of these rows, if one does, where so many are open before them
 abbrev pub first_section : Strip → ℕ → List Row → List Shape

@@ -1,16 +1,10 @@
 -- The picture that is drawn, in text or in SVG.
 use Rattle.std.specs.Prelude.{ℕ, List, ⊤}
-use Rattle.std.specs.declared.result.Result.{Result}
-use Rattle.msrp_plan.specs.Plan.{PlanModel}
-use Rattle.msrp_plan.specs.declared.faults.Fault.{Fault}
-use Rattle.msrp_plan.specs.declared.rows.Row.{Row}
+use Rattle.msrp_picture.specs.Types.{Asked, Fault, PlanModel, Result, Row, Style, Window}
 use Rattle.msrp_picture.specs.Picture.{picture_text}
 use Rattle.msrp_picture.specs.Svg.{svg_text}
 use Rattle.msrp_picture.specs.Windows.{shown_window}
-use Rattle.msrp_picture.specs.declared.windows.Asked.{Asked}
-use Rattle.msrp_picture.specs.declared.windows.Style.{Style}
-use Rattle.msrp_picture.specs.declared.windows.Style.TheVariants.{Text, Svg}
-use Rattle.msrp_picture.specs.declared.windows.Window.{Window}
+use Rattle.msrp_picture.specs.declared.windows.Style.TheVariants.{Svg, Text}
 
 -- these ticks of these rows with that verdict
 abbrev pub drawn_in : Style → PlanModel → List Row → Result ⊤ Fault → Window → List ℕ

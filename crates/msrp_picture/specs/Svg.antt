@@ -2,22 +2,15 @@
 -- that does, a lane for each global resource with its queue, and the first row that breaks a rule.
 use Rattle.std.specs.Prelude.{ℕ, List, ◌++◌, Option, Ok, Err, codes, decimal, max, min, ◌+◌, ⊤}
 use Rattle.std.specs.List.{flat_map}
-use Rattle.std.specs.declared.result.Result.{Result}
-use Rattle.msrp_plan.specs.Plan.{PlanModel}
 use Rattle.msrp_plan.specs.Words.{verdict_text}
-use Rattle.msrp_plan.specs.declared.faults.Fault.{Fault}
-use Rattle.msrp_plan.specs.declared.rows.Row.{Row}
+use Rattle.msrp_picture.specs.Types.{Fault, PlanModel, Result, Row, Shape, Window}
+use Rattle.msrp_picture.specs.Blocks.{broken_shapes}
 use Rattle.msrp_picture.specs.Elements.{attribute, shape_text}
-use Rattle.msrp_picture.specs.Lanes.{cores_shapes, tasks_shapes}
-use Rattle.msrp_picture.specs.Marks.{broken_shapes}
+use Rattle.msrp_picture.specs.Lanes.{cores_shapes, queues_shapes, tasks_shapes}
 use Rattle.msrp_picture.specs.Picture.{window_text}
 use Rattle.msrp_picture.specs.Places.{bottom, left_of, tick_width}
-use Rattle.msrp_picture.specs.QueueLanes.{queues_shapes}
-use Rattle.msrp_picture.specs.Shown.{broken_row, later_rows, legal_rows}
-use Rattle.msrp_picture.specs.Windows.{begun}
-use Rattle.msrp_picture.specs.declared.shapes.Shape.{Shape}
+use Rattle.msrp_picture.specs.Windows.{begun, broken_row, later_rows, legal_rows}
 use Rattle.msrp_picture.specs.declared.svg.TheConstants.{LEAST_WIDTH}
-use Rattle.msrp_picture.specs.declared.windows.Window.{Window}
 
 -- ---- what is drawn
 -- the last shapes lie over the others: nothing lies over the mark of a rule that is broken
@@ -36,14 +29,12 @@ style_text = codes "<style>text{font:11px monospace}.label{text-anchor:end;font-
 abbrev pub picture_width : Window → ℕ
 picture_width w = max (left_of w w.to + 20) LEAST_WIDTH
 
-unfoldable pub size_text : ℕ → ℕ → List ℕ
-size_text width height = attribute (codes "width") width ++ attribute (codes "height") height ++ codes " viewBox=\"0 0 " ++ decimal width ++ codes " " ++ decimal height ++ codes "\">"
-
 -- the size, what marks the ticks in a lane, and the style
 unfoldable pub head_text : PlanModel → Window → List ℕ
 head_text plan w =
-    codes "<svg xmlns=\"http://www.w3.org/2000/svg\"" ++ size_text (picture_width w) (bottom plan)
-    ++ codes "\n<defs><pattern id='ticks' height='9' patternUnits='userSpaceOnUse'" ++ attribute (codes "width") (tick_width w) ++ codes "><path d='M0 0V9' stroke='#ddd'/></pattern></defs>" ++ style_text
+    codes "<svg xmlns=\"http://www.w3.org/2000/svg\"" ++ attribute (codes "width") (picture_width w) ++ attribute (codes "height") (bottom plan)
+    ++ codes " viewBox=\"0 0 " ++ decimal (picture_width w) ++ codes " " ++ decimal (bottom plan)
+    ++ codes "\">\n<defs><pattern id='ticks' height='9' patternUnits='userSpaceOnUse'" ++ attribute (codes "width") (tick_width w) ++ codes "><path d='M0 0V9' stroke='#ddd'/></pattern></defs>" ++ style_text
 
 -- the verdict, and which ticks are drawn
 unfoldable pub caption_text : PlanModel → Result ⊤ Fault → Window → List ℕ

@@ -1,11 +1,6 @@
--- The ticks that are drawn, and their rows.
-use Rattle.std.specs.Prelude.{ℕ, List, Bool, ◌&&◌, nat_lt, nat_le, Option, Some, None, Ok, Err, if◌then◌else◌, is_none, min, length, slice_range, unwrap_or, ◌<◌, ◌+◌, ◌-◌, ◌*◌, ◌/◌, ◌%◌, ⊤}
-use Rattle.std.specs.declared.result.Result.{Result}
-use Rattle.msrp_plan.specs.Plan.{PlanModel}
-use Rattle.msrp_plan.specs.declared.faults.Fault.{Fault}
-use Rattle.msrp_plan.specs.declared.rows.Row.{Row}
-use Rattle.msrp_picture.specs.declared.windows.Asked.{Asked}
-use Rattle.msrp_picture.specs.declared.windows.Window.{Window}
+-- The ticks that are drawn, and what of a trace: the rows of a legal run; or those before the first that breaks a rule, and that one.
+use Rattle.std.specs.Prelude.{ℕ, List, Bool, ◌&&◌, nat_lt, nat_le, Option, Some, None, Ok, Err, if◌then◌else◌, is_none, min, length, slice_range, unwrap_or, ◌<◌, ◌+◌, ◌-◌, ◌*◌, ◌/◌, ◌%◌, ⊤, [], drop, take, slice_get}
+use Rattle.msrp_picture.specs.Types.{Asked, Fault, PlanModel, Result, Row, Window}
 use Rattle.msrp_picture.specs.declared.windows.TheConstants.{LINE_TICKS, SHORT_RUN}
 
 -- the first tick, and the one up to which is drawn, where these are asked for
@@ -55,3 +50,23 @@ rows_between plan rows from to = slice_range rows (from * plan.cores) (to * plan
 -- the number of ticks of which a row stands: the whole ones, and one that is begun, if one is
 abbrev pub begun : PlanModel → List Row → ℕ
 begun plan rows = length rows / plan.cores + min 1 (length rows % plan.cores)
+
+-- ---- rows with a verdict
+-- the rows without a fault, where that is the verdict on them; rows are counted from 1
+abbrev pub legal_rows : List Row → Result ⊤ Fault → List Row
+legal_rows rows (Ok good) = rows
+legal_rows rows (Err fault) = take (fault.row - 1) rows
+
+-- the rows from the first on that breaks a rule
+abbrev pub later_rows : List Row → Result ⊤ Fault → List Row
+later_rows rows (Ok good) = []
+later_rows rows (Err fault) = drop (fault.row - 1) rows
+
+-- the first row that breaks a rule, if one does: a trace may also end too early
+abbrev pub broken_row : List Row → Result ⊤ Fault → Option Row
+broken_row rows (Ok good) = None
+broken_row rows (Err fault) = slice_get rows (fault.row - 1)
+
+-- the row after these stands in a tick of the window
+abbrev pub goes_on_in : PlanModel → List Row → Window → Bool
+goes_on_in plan rows w = nat_le (w.from * plan.cores) (length rows) && nat_lt (length rows) (w.to * plan.cores)

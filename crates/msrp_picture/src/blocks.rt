@@ -1,14 +1,116 @@
-//! Blocks: the stretches of rows in which one job has the turn of a core, or does the same.
-ghost use Rattle.std.specs.Prelude.{◌≡◌, ◌++◌, filter_map, IfOk, OnOk};
-ghost use Rattle.msrp_picture.specs.Blocks.{blocks, look_of, res_of, span_of};
+//! Blocks: the stretches of rows in which one job has the turn of a core, or does the same; and the frame of the row that breaks a rule.
+ghost use Rattle.std.specs.Prelude.{◌≡◌, ◌∷◌, ◌++◌, [], OnOk, IfOk, List, filter_map};
+ghost use Rattle.std.specs.List.{flat_map};
+ghost use Rattle.msrp_picture.specs.Blocks.{blocks, broken_shapes, goes_on, is_seen, joined, lane_of, look_of, mark_shapes, merged, met, res_of, rows_shapes, same_look, seen, span_of};
+ghost use Rattle.msrp_picture.specs.declared.shapes.Span.{Span as Shown};
 
+use crate::Added;
 use crate::gathering::gathered;
-use crate::lives::is_job_of;
-use crate::shapes::{Look, Room, Shape, Span, lasting};
-use crate::stretches::push_merged;
-use crate::windows::Window;
-use msrp_plan::{CoreId, Memory, ResId, Row, TaskId};
+use crate::jobs::is_job_of;
+use crate::places::{left_of, row_room};
+use crate::shapes::{Event, Look, Note, Room, Shape, Span, Words, lasting};
+use crate::windows::{Scene, Window};
+use msrp_plan::{CoreId, Memory, ResId, Row, Rule, TaskId};
 use std::alloc::Global;
+
+pub(crate) fn push(shapes: &mut Vec<Shape>, shape: Shape) -> Added
+    ensures { OnOk result (shapes.new.items ≡ shapes.old.items ++ shape ∷ []) }
+{
+    shapes.push(shape)?;
+    Ok(())
+}
+
+/// Whether some of the ticks from one on and up to another are drawn.
+pub(crate) fn is_seen(window: Window, first: u64, end: u64) -> bool
+    ensures { result ≡ is_seen window first end }
+{
+    first.max(window.from as u64) < end.min(window.to as u64)
+}
+
+/// Adds a block, if some of its ticks are drawn.
+pub(crate) fn push_seen(shapes: &mut Vec<Shape>, window: Window, span: Span) -> Added
+    ensures { OnOk result (shapes.new.items ≡ shapes.old.items ++ seen window span) }
+{
+    if is_seen(window, span.first, span.end) {
+        push(shapes, Shape::Block(span))
+    } else {
+        Ok(())
+    }
+}
+
+/// Adds an arrow, if its tick is drawn or the end of the picture.
+pub(crate) fn push_met(shapes: &mut Vec<Shape>, window: Window, event: Event) -> Added
+    ensures { OnOk result (shapes.new.items ≡ shapes.old.items ++ met window event) }
+{
+    if window.from as u64 <= event.tick && event.tick <= window.to as u64 {
+        push(shapes, Shape::Arrow(event))
+    } else {
+        Ok(())
+    }
+}
+
+/// What lies under the blocks of a lane, up to a tick.
+pub(crate) fn lane_of(window: Window, room: Room, end: u64) -> Shape
+    ensures { result ≡ lane_of window room end }
+{
+    let first = window.from as u64;
+    Shape::Block(lasting(first, end, room, Look::Lane, None, None))
+}
+
+fn same_look(look: Look, next: Look) -> bool
+    ensures { result ≡ same_look look next }
+{
+    match (look, next) {
+        (Look::Turn, Look::Turn) => true,
+        (Look::Does(kind), Look::Does(other)) => kind == other,
+        (Look::First(behind), Look::First(other)) => behind == other,
+        (Look::Ceiling(level), Look::Ceiling(other)) => level == other,
+        _ => false,
+    }
+}
+
+fn goes_on(span: &Span, next: &Span) -> bool
+    ensures { result ≡ goes_on span.now next.now }
+{
+    span.end == next.first
+        && same_look(span.look, next.look)
+        && span.job == next.job
+        && span.res == next.res
+}
+
+// Joins a span to the last one, or draws that: what is the last one then.
+fn join(shapes: &mut Vec<Shape>, window: Window, last: Span, next: Span) -> Result<Span, Memory>
+    ensures { IfOk result (λ then. (rest : List Shown) → shapes.new.items ++ flat_map (seen window) (joined then rest) ≡ shapes.old.items ++ flat_map (seen window) (joined last (next ∷ rest))) }
+{
+    if goes_on(&last, &next) {
+        return Ok(Span {
+            end: next.end,
+            ..last
+        });
+    }
+    push_seen(shapes, window, last)?;
+    Ok(next)
+}
+
+fn push_joined(shapes: &mut Vec<Shape>, window: Window, first: Span, rest: &[Span]) -> Added
+    ensures { OnOk result (shapes.new.items ≡ shapes.old.items ++ flat_map (seen window) (joined first rest.now)) }
+{
+    let mut last = first;
+    for span in rest {
+        last = join(shapes, window, last, *span)?;
+    }
+    push_seen(shapes, window, last)
+}
+
+/// Adds these spans, those of a stretch as one block, where some of it is drawn.
+pub(crate) fn push_merged(shapes: &mut Vec<Shape>, window: Window, spans: &[Span]) -> Added
+    ensures { OnOk result (shapes.new.items ≡ shapes.old.items ++ flat_map (seen window) (merged spans.now)) }
+{
+    match spans {
+        [] => Ok(()),
+        [first, rest @ ..] => push_joined(shapes, window, *first, rest),
+    }
+}
 
 /// Whose rows are drawn in a lane.
 #[derive(Clone, Copy, Debug, PartialEq, Eq)]
@@ -47,20 +149,15 @@ fn res_of(owner: Owner, row: &Row) -> Option<ResId>
     }
 }
 
-// The span of a row in a lane, if it is drawn there.
 fn span_of(lane: Lane, row: &Row) -> Option<Span>
     ensures { result ≡ span_of lane row.now }
 {
-    match look_of(lane.owner, row) {
-        Some(look) => {
-            let (tick, res) = (row.tick as u64, res_of(lane.owner, row));
-            Some(Span {
-                is_legal: lane.is_legal,
-                ..lasting(tick, tick + 1, lane.room, look, row.job, res)
-            })
-        }
-        None => None,
-    }
+    let look = look_of(lane.owner, row)?;
+    let (tick, res) = (row.tick as u64, res_of(lane.owner, row));
+    Some(Span {
+        is_legal: lane.is_legal,
+        ..lasting(tick, tick + 1, lane.room, look, row.job, res)
+    })
 }
 
 fn spans_of(alloc: Global, lane: Lane, rows: &[Row]) -> Result<Vec<Span>, Memory>
@@ -70,16 +167,54 @@ fn spans_of(alloc: Global, lane: Lane, rows: &[Row]) -> Result<Vec<Span>, Memory
     gathered(spans, alloc)
 }
 
-/// Adds the blocks of rows in a lane.
-pub(crate) fn push_blocks(
-    alloc: Global,
-    shapes: &mut Vec<Shape>,
-    window: Window,
-    lane: Lane,
-    rows: &[Row],
-) -> Result<(), Memory>
-    ensures { OnOk result (shapes.new.items ≡ shapes.old.items ++ blocks window lane rows.now) }
+fn push_blocks(shapes: &mut Vec<Shape>, scene: &Scene<'_>, lane: Lane, rows: &[Row]) -> Added
+    ensures { OnOk result (shapes.new.items ≡ shapes.old.items ++ blocks scene.now.window lane rows.now) }
 {
-    let spans = spans_of(alloc, lane, rows)?;
-    push_merged(shapes, window, &spans)
+    let spans = spans_of(scene.alloc, lane, rows)?;
+    push_merged(shapes, scene.window, &spans)
+}
+
+/// Adds the blocks of legal rows, and of those from the first on that breaks a rule.
+pub(crate) fn push_rows(
+    shapes: &mut Vec<Shape>,
+    scene: &Scene<'_>,
+    owner: Owner,
+    room: Room,
+) -> Added
+    ensures { OnOk result (shapes.new.items ≡ shapes.old.items ++ rows_shapes scene.now.window scene.now.rows.now scene.now.later.now owner room) }
+{
+    let mut lane = Lane {
+        owner,
+        room,
+        is_legal: true,
+    };
+    push_blocks(shapes, scene, lane, scene.rows)?;
+    lane.is_legal = false;
+    push_blocks(shapes, scene, lane, scene.later)
+}
+
+fn push_mark(shapes: &mut Vec<Shape>, scene: &Scene<'_>, rule: Rule, row: &Row) -> Added
+    ensures { OnOk result (shapes.new.items ≡ shapes.old.items ++ mark_shapes scene.now.plan.now scene.now.window rule row.now) }
+{
+    let (room, tick) = (row_room(scene.plan, row), row.tick as u64);
+    let (left, line, words) = (
+        left_of(scene.window, tick),
+        room.top - 3,
+        Words::Broken(rule),
+    );
+    let frame = lasting(tick, tick + 1, room, Look::Breaks(rule), row.job, row.res);
+    push(shapes, Shape::Block(frame))?;
+    push(shapes, Shape::Text(Note { left, line, words }))
+}
+
+/// Adds the mark of the row that breaks a rule, if there is one and it is drawn.
+pub(crate) fn push_broken(shapes: &mut Vec<Shape>, scene: &Scene<'_>) -> Added
+    ensures { OnOk result (shapes.new.items ≡ shapes.old.items ++ broken_shapes scene.now.plan.now scene.now.window scene.now.broken scene.now.found) }
+{
+    match (scene.found, scene.broken) {
+        (Err(fault), Some(row)) if is_seen(scene.window, row.tick as u64, row.tick as u64 + 1) => {
+            push_mark(shapes, scene, fault.rule, &row)
+        }
+        _ => Ok(()),
+    }
 }

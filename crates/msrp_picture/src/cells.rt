@@ -1,10 +1,13 @@
-//! What one cell of a picture shows.
-ghost use Rattle.std.specs.Prelude.{◌≡◌};
-ghost use Rattle.msrp_picture.specs.Cells.{job_cell, letter, letters, mark, no_mark, row_cell, sign, standing_cell, tick_cell, turn_cell, waiting};
+//! What one cell of a picture shows, and the queue of a resource, tick by tick.
+ghost use Rattle.std.specs.Prelude.{◌≡◌, ◌≤◌, ◌+◌, ◌++◌, ℕ, List, length, ◌^◌, OnOk, IfOk};
+ghost use Rattle.msrp_plan.specs.Requests.{HasTaken};
+ghost use Rattle.msrp_plan.specs.declared.rows.Row.{Row as TraceRow};
+ghost use Rattle.msrp_picture.specs.Cells.{job_cell, letter, letters, row_cell, sign, standing_cell, standing_of, standings, tick_cell, turn_cell, waiting};
 
-use crate::queues::Standing;
+use crate::Added;
+use crate::windows::{Scene, begun, rows_between};
 use itoa::Buffer;
-use msrp_plan::{JobId, Kind, Row, TaskId};
+use msrp_plan::{JobId, Kind, Memory, Requests, ResId, Row, TaskId};
 
 /// What a line shows.
 #[derive(Clone, Copy, Debug, PartialEq, Eq)]
@@ -17,6 +20,11 @@ pub enum Aspect {
 
 // Where there is nothing.
 const NOTHING: u8 = b'.';
+
+/// Below the first row that breaks a rule, and below a row before it.
+pub(crate) const MARK: u8 = b'!';
+
+pub(crate) const NO_MARK: u8 = b' ';
 
 // The letters of tasks, by their numbers.
 #[tactic(auto, unfolding(crate::specs::Cells::letters))]
@@ -34,7 +42,6 @@ fn waiting() -> &'static [u8]
     b".1234567"
 }
 
-/// The letter of a task.
 pub(crate) fn letter(task: TaskId) -> u8
     ensures { result ≡ letter task.0 }
 {
@@ -85,21 +92,6 @@ pub(crate) fn row_cell(aspect: Aspect, before: Option<JobId>, row: &Row) -> u8
     }
 }
 
-/// Below the first row that breaks a rule.
-pub(crate) fn mark() -> u8
-    ensures { result ≡ mark }
-{
-    b'!'
-}
-
-/// Below a row before it.
-pub(crate) fn no_mark() -> u8
-    ensures { result ≡ no_mark }
-{
-    b' '
-}
-
-/// The cell of a queue.
 pub(crate) fn standing_cell(aspect: Aspect, standing: &Standing) -> u8
     ensures { result ≡ standing_cell aspect standing.now }
 {
@@ -121,4 +113,46 @@ pub(crate) fn tick_cell(start: u32, tick: u32) -> u8
     let mut digits = Buffer::new();
     let digits = digits.format(tick - place).as_bytes();
     digits.get(place as usize).copied().unwrap_or(dash)
+}
+
+fn take_all(requests: &mut Requests, rows: &[Row]) -> Added
+    ensures { (g : ℕ) (before : List TraceRow) → HasTaken requests.old g before → OnOk result (HasTaken requests.new g (before ++ rows.now)) }
+{
+    for row in rows {
+        requests.take(row)?;
+    }
+    Ok(())
+}
+
+/// How a queue stands: who is first in it, and how many wait behind.
+#[derive(Clone, Copy, Debug, PartialEq, Eq)]
+pub struct Standing {
+    pub first: Option<JobId>,
+    pub behind: usize,
+}
+
+fn standing_of(queue: &[JobId]) -> Standing
+    ensures { result ≡ standing_of queue.now }
+{
+    Standing {
+        first: queue.first().copied(),
+        behind: queue.len().saturating_sub(1),
+    }
+}
+
+/// How the queue of a resource stands after each tick that is drawn, as far as rows stand.
+pub(crate) fn standings(scene: &Scene<'_>, res: ResId) -> Result<Vec<Standing>, Memory>
+    ensures standings { IfOk result (λ found. found.items ≡ standings scene.now.plan.now scene.now.rows.now scene.now.window res.0) }
+    ensures size { IfOk result (λ found. scene.now.window.from + length found.items ≤ 2 ^ 32) }
+{
+    let (plan, rows, window) = (scene.plan, scene.rows, scene.window);
+    let mut requests = Requests::of(scene.alloc, res);
+    take_all(&mut requests, rows_between(plan, rows, 0, window.from))?;
+    let mut found = Vec::new(scene.alloc);
+    let end = (window.to as usize).min(begun(plan, rows)) as u32;
+    for tick in window.from..end {
+        take_all(&mut requests, rows_between(plan, rows, tick, tick + 1))?;
+        found.push(standing_of(requests.queue()))?;
+    }
+    Ok(found)
 }

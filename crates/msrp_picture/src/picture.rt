@@ -2,27 +2,17 @@
 ghost use Rattle.std.specs.Prelude.{◌≡◌, ◌<◌, ◌≤◌, ◌+◌, ◌++◌, codes, decimal, drop, length, slice_index_or, slice_range, [], ◌*◌, IfOk, OnOk};
 ghost use Rattle.std.specs.List.{flat_map, range_with_len};
 ghost use Rattle.msrp_plan.specs.Words.{verdict_text};
-ghost use Rattle.msrp_picture.specs.Inside.Drawings.{drawn_text};
 ghost use Rattle.msrp_picture.specs.Lines.{name_of};
-ghost use Rattle.msrp_picture.specs.Picture.{drawn_picture, fault_place, label, legend_text, signs_text, spaces, task_text, window_text};
-ghost use Rattle.msrp_picture.specs.Windows.{IsWindow, parts};
+ghost use Rattle.msrp_picture.specs.Picture.{drawn_picture, drawn_text, fault_place, label, legend_text, signs_text, spaces, task_text, window_text};
+ghost use Rattle.msrp_picture.specs.Windows.{parts};
 
 use crate::cells::{Aspect, letter};
 use crate::lines::{Drawn, PictureLine, draw_lines};
-use crate::shown::Shown;
-use crate::windows::{LINE_TICKS, Window, due_in};
+use crate::windows::{LINE_TICKS, Scene, due_in};
+use crate::{Added, Verdict};
 use itoa::Buffer;
 use msrp_plan::bytes::Sink;
-use msrp_plan::{Fault, Memory, Plan, ResId, TaskId};
-use std::alloc::Global;
-
-// As many as a label is filled up to.
-#[tactic(auto, unfolding(crate::specs::Picture::spaces))]
-fn spaces() -> &'static [u8]
-    ensures { result.now ≡ spaces }
-{
-    b"                  "
-}
+use msrp_plan::{Memory, Plan, ResId, TaskId};
 
 // What the signs of a picture mean.
 #[tactic(auto, unfolding(crate::specs::Picture::signs_text))]
@@ -32,26 +22,26 @@ fn signs() -> &'static [u8]
     b"= works  ( locks  ) unlocks  [ gets  ] releases  ? joins a queue  ~ spins\n. idle  | next job  ! breaks a rule  ^ release  v absolute deadline  X both\nof a resource: the first in its queue after the tick, how many wait behind it\n"
 }
 
-pub(crate) fn add(text: &mut Vec<u8>, part: &[u8]) -> Result<(), Memory>
+pub(crate) fn add(text: &mut Vec<u8>, part: &[u8]) -> Added
     ensures { OnOk result (text.new.items ≡ text.old.items ++ part.now) }
 {
     text.extend_from_slice(part)?;
     Ok(())
 }
 
-pub(crate) fn add_number(text: &mut Vec<u8>, number: u64) -> Result<(), Memory>
+pub(crate) fn add_number(text: &mut Vec<u8>, number: u64) -> Added
     ensures { OnOk result (text.new.items ≡ text.old.items ++ decimal number) }
 {
     let mut digits = Buffer::new();
     add(text, digits.format(number).as_bytes())
 }
 
-// The record of the verdict.
-pub(crate) fn verdict(alloc: Global, found: Result<(), Fault>) -> Result<Vec<u8>, Memory>
-    ensures { IfOk result (λ text. text.items ≡ verdict_text found) }
+/// The record of the verdict.
+pub(crate) fn verdict(scene: &Scene<'_>) -> Result<Vec<u8>, Memory>
+    ensures { IfOk result (λ text. text.items ≡ verdict_text scene.now.found) }
 {
-    let mut text = Sink::new(Vec::new(alloc));
-    text.verdict(found);
+    let mut text = Sink::new(Vec::new(scene.alloc));
+    text.verdict(scene.found);
     match text.outcome() {
         Ok(()) => Ok(text.into_inner()),
         Err(_) => Err(Memory),
@@ -60,7 +50,7 @@ pub(crate) fn verdict(alloc: Global, found: Result<(), Fault>) -> Result<Vec<u8>
 
 // In which tick the row is due that breaks a rule.
 #[tactic(auto, unfolding(crate::specs::Picture::fault_place))]
-fn add_fault_place(text: &mut Vec<u8>, plan: &Plan, found: Result<(), Fault>) -> Result<(), Memory>
+fn add_fault_place(text: &mut Vec<u8>, plan: &Plan, found: Verdict) -> Added
     ensures { OnOk result (text.new.items ≡ text.old.items ++ fault_place plan.now found) }
 {
     match found {
@@ -72,23 +62,18 @@ fn add_fault_place(text: &mut Vec<u8>, plan: &Plan, found: Result<(), Fault>) ->
     }
 }
 
-// Which ticks are drawn, the last one by its own number, and in which the fault is.
-pub(crate) fn add_window(
-    text: &mut Vec<u8>,
-    plan: &Plan,
-    found: Result<(), Fault>,
-    window: Window,
-) -> Result<(), Memory>
-    requires { IsWindow window }
-    ensures { OnOk result (text.new.items ≡ text.old.items ++ window_text plan.now found window) }
+/// Which ticks are drawn, the last one by its own number, and in which the fault is.
+#[tactic(auto, unfolding(crate::specs::Picture::window_text))]
+pub(crate) fn add_window(text: &mut Vec<u8>, scene: &Scene<'_>) -> Added
+    ensures { OnOk result (text.new.items ≡ text.old.items ++ window_text scene.now.plan.now scene.now.found scene.now.window) }
 {
     add(text, b"ticks ")?;
-    add_number(text, window.from as u64)?;
+    add_number(text, scene.window.from as u64)?;
     add(text, b" to ")?;
-    add_number(text, (window.to - 1) as u64)?;
+    add_number(text, (scene.window.to - 1) as u64)?;
     add(text, b" of ")?;
-    add_number(text, plan.ticks() as u64)?;
-    add_fault_place(text, plan, found)?;
+    add_number(text, scene.plan.ticks() as u64)?;
+    add_fault_place(text, scene.plan, scene.found)?;
     add(text, b"\n")
 }
 
@@ -104,15 +89,16 @@ pub(crate) fn res_name(plan: &Plan, res: ResId) -> &[u8]
 }
 
 // The spaces behind a label of so many columns.
+#[tactic(auto, unfolding(crate::specs::Picture::spaces))]
 fn filling(columns: usize) -> &'static [u8]
     ensures { result.now ≡ drop columns spaces }
 {
-    let spaces = spaces();
+    let spaces = b"                  ";
     &spaces[columns.min(spaces.len())..]
 }
 
 // A word and a name, filled up with spaces.
-fn add_label(text: &mut Vec<u8>, word: &[u8], name: &[u8]) -> Result<(), Memory>
+fn add_label(text: &mut Vec<u8>, word: &[u8], name: &[u8]) -> Added
     requires { length word.now + length name.now ≤ usize.MAX }
     ensures { OnOk result (text.new.items ≡ text.old.items ++ label (word.now ++ name.now)) }
 {
@@ -121,7 +107,7 @@ fn add_label(text: &mut Vec<u8>, word: &[u8], name: &[u8]) -> Result<(), Memory>
     add(text, filling(word.len() + name.len()))
 }
 
-fn add_label_of(text: &mut Vec<u8>, plan: &Plan, line: PictureLine) -> Result<(), Memory>
+fn add_label_of(text: &mut Vec<u8>, plan: &Plan, line: PictureLine) -> Added
     ensures { OnOk result (text.new.items ≡ text.old.items ++ label (name_of plan.now line)) }
 {
     let mut digits = Buffer::new();
@@ -137,7 +123,6 @@ fn add_label_of(text: &mut Vec<u8>, plan: &Plan, line: PictureLine) -> Result<()
     }
 }
 
-// The cells that stand in a part.
 fn part_of(cells: &[u8], part: u32) -> &[u8]
     ensures { result.now ≡ slice_range cells.now (part * LINE_TICKS) ((part + 1) * LINE_TICKS) }
 {
@@ -147,8 +132,8 @@ fn part_of(cells: &[u8], part: u32) -> &[u8]
     &cells[first..last]
 }
 
-// What stands of a line in a part.
-fn add_line(text: &mut Vec<u8>, plan: &Plan, drawn: &Drawn, part: u32) -> Result<(), Memory>
+#[tactic(auto, unfolding(crate::specs::Picture::line_text))]
+fn add_line(text: &mut Vec<u8>, plan: &Plan, drawn: &Drawn, part: u32) -> Added
     ensures { OnOk result (text.new.items ≡ text.old.items ++ drawn_text plan.now part drawn.now) }
 {
     add_label_of(text, plan, drawn.line)?;
@@ -156,7 +141,7 @@ fn add_line(text: &mut Vec<u8>, plan: &Plan, drawn: &Drawn, part: u32) -> Result
     add(text, b"\n")
 }
 
-fn add_part(text: &mut Vec<u8>, plan: &Plan, drawn: &[Drawn], part: u32) -> Result<(), Memory>
+fn add_part(text: &mut Vec<u8>, plan: &Plan, drawn: &[Drawn], part: u32) -> Added
     ensures { OnOk result (text.new.items ≡ text.old.items ++ (codes "\n" ++ flat_map (drawn_text plan.now part) drawn.now)) }
 {
     add(text, b"\n")?;
@@ -166,17 +151,17 @@ fn add_part(text: &mut Vec<u8>, plan: &Plan, drawn: &[Drawn], part: u32) -> Resu
     Ok(())
 }
 
-fn add_parts(text: &mut Vec<u8>, plan: &Plan, drawn: &[Drawn], window: Window) -> Result<(), Memory>
-    requires { IsWindow window }
-    ensures { OnOk result (text.new.items ≡ text.old.items ++ flat_map (λ i. codes "\n" ++ flat_map (drawn_text plan.now i) drawn.now) (range_with_len 0 (parts window))) }
+fn add_parts(text: &mut Vec<u8>, scene: &Scene<'_>, drawn: &[Drawn]) -> Added
+    ensures { OnOk result (text.new.items ≡ text.old.items ++ flat_map (λ i. codes "\n" ++ flat_map (drawn_text scene.now.plan.now i) drawn.now) (range_with_len 0 (parts scene.now.window))) }
 {
-    for part in 0..window.parts() {
-        add_part(text, plan, drawn, part)?;
+    for part in 0..scene.window.parts() {
+        add_part(text, scene.plan, drawn, part)?;
     }
     Ok(())
 }
 
-pub(crate) fn add_task(text: &mut Vec<u8>, plan: &Plan, task: TaskId) -> Result<(), Memory>
+#[tactic(auto, unfolding(crate::specs::Picture::task_text))]
+pub(crate) fn add_task(text: &mut Vec<u8>, plan: &Plan, task: TaskId) -> Added
     requires { task.0 < length plan.now.tasks }
     ensures { OnOk result (text.new.items ≡ text.old.items ++ task_text plan.now task.0) }
 {
@@ -188,37 +173,25 @@ pub(crate) fn add_task(text: &mut Vec<u8>, plan: &Plan, task: TaskId) -> Result<
     add(text, b"\n")
 }
 
-fn add_tasks(text: &mut Vec<u8>, plan: &Plan) -> Result<(), Memory>
-    ensures { OnOk result (text.new.items ≡ text.old.items ++ flat_map (task_text plan.now) (range_with_len 0 (length plan.now.tasks))) }
-{
-    for task in 0..plan.tasks() {
-        add_task(text, plan, TaskId(task))?;
-    }
-    Ok(())
-}
-
-fn add_legend(text: &mut Vec<u8>, plan: &Plan) -> Result<(), Memory>
+#[tactic(auto, unfolding(crate::specs::Picture::legend_text))]
+fn add_legend(text: &mut Vec<u8>, plan: &Plan) -> Added
     ensures { OnOk result (text.new.items ≡ text.old.items ++ legend_text plan.now) }
 {
     add(text, b"\n")?;
-    add_tasks(text, plan)?;
+    for task in 0..plan.tasks() {
+        add_task(text, plan, TaskId(task))?;
+    }
     add(text, signs())
 }
 
-/// A picture of these ticks of what is shown of a trace of the plan.
-pub(crate) fn picture(
-    alloc: Global,
-    plan: &Plan,
-    shown: &Shown<'_>,
-    window: Window,
-) -> Result<Vec<u8>, Memory>
-    requires { IsWindow window }
-    ensures { IfOk result (λ text. text.items ≡ drawn_picture plan.now shown.now.rows.now shown.now.broken shown.now.found window) }
+/// A picture in text.
+pub(crate) fn picture(scene: &Scene<'_>) -> Result<Vec<u8>, Memory>
+    ensures { IfOk result (λ text. text.items ≡ drawn_picture scene.now.plan.now scene.now.rows.now scene.now.broken scene.now.found scene.now.window) }
 {
-    let drawn = draw_lines(alloc, plan, shown, window)?;
-    let mut text = verdict(alloc, shown.found)?;
-    add_window(&mut text, plan, shown.found, window)?;
-    add_parts(&mut text, plan, &drawn, window)?;
-    add_legend(&mut text, plan)?;
+    let drawn = draw_lines(scene)?;
+    let mut text = verdict(scene)?;
+    add_window(&mut text, scene)?;
+    add_parts(&mut text, scene, &drawn)?;
+    add_legend(&mut text, scene.plan)?;
     Ok(text)
 }

@@ -8,69 +8,49 @@ use crate::windows::Window;
 use msrp_levels::Levels;
 use msrp_plan::{CoreId, Plan, ResId, Row, TaskId};
 
-/// The width that the ticks of a window fill, if none is narrower or wider than the next two.
-pub const WINDOW_WIDTH: u64 = 1100;
+pub const WINDOW_WIDTH: u64 = 1100; // what the ticks of a window fill, if none is narrower or wider than the next two
 
-/// The least width of a tick.
 pub const NARROWEST_TICK: u64 = 6;
 
-/// The greatest width of a tick.
 pub const WIDEST_TICK: u64 = 28;
 
-/// Where the lanes begin, from the left.
-pub const LEFT: u64 = 140;
+pub const LEFT: u64 = 140; // where the lanes begin, from the left
 
-/// Where the first core begins, from above.
-pub const TOP: u64 = 112;
+pub const TOP: u64 = 112; // where the first core begins, from above
 
-/// From where a core begins to its lane: the numbers of ticks stand there.
-pub const CORE_HEAD: u64 = 24;
+pub const CORE_HEAD: u64 = 24; // from where a core begins to its lane: the numbers of ticks stand there
 
-/// The height of the lane of a core.
-pub const CORE_HEIGHT: u64 = 14;
+pub const CORE_HEIGHT: u64 = 14; // of the lane of a core
 
-/// From where a core begins to where its tasks do.
-pub const CORE_PITCH: u64 = 68;
+pub const CORE_PITCH: u64 = 68; // from where a core begins to where its tasks do
 
-/// The height of the lane of its ceilings, right below it.
-pub const CEILING_HEIGHT: u64 = 12;
+pub const CEILING_HEIGHT: u64 = 12; // of the lane of its ceilings, right below it
 
-/// The height of the lane of a task.
-pub const TASK_HEIGHT: u64 = 50;
+pub const TASK_HEIGHT: u64 = 50; // of the lane of a task
 
-/// From where the lane of a task begins to where the next one does.
-pub const TASK_PITCH: u64 = 68;
+pub const TASK_PITCH: u64 = 68; // from where the lane of a task begins to where the next one does
 
-/// From where the lane of a task begins to the lines of its jobs' lives, and their height.
-pub const LIFE_TOP: u64 = 8;
+pub const LIFE_TOP: u64 = 8; // from where the lane of a task begins to the lines of its jobs' lives
 
-pub const LIFE_HEIGHT: u64 = 2;
+pub const LIFE_HEIGHT: u64 = 2; // of those lines
 
-/// The height of what is late, below the lane of a task.
-pub const LATE_HEIGHT: u64 = 4;
+pub const LATE_HEIGHT: u64 = 4; // of what is late, below the lane of a task
 
-/// From where the lane of a task begins to its sections.
-pub const SECTION_TOP: u64 = 16;
+pub const SECTION_TOP: u64 = 16; // from where the lane of a task begins to its sections
 
-/// The height of all sections of a lane: a unit at least for each of a plan's resources.
-pub const SECTION_ROOM: u64 = 32;
+pub const SECTION_ROOM: u64 = 32; // the height of all sections of a lane: a unit at least for each of a plan's resources
 
-/// So many sections find place under one another without being made lower.
-pub const SECTION_LEVELS: u64 = 3;
+pub const SECTION_LEVELS: u64 = 3; // so many sections find place under one another without being made lower
 
-/// From where the first lane of a resource begins to where the lane of the cores ended.
-pub const QUEUE_HEAD: u64 = 10;
+pub const QUEUE_HEAD: u64 = 10; // from where the lanes of the cores end to where the first one of a resource begins
 
-/// The height of the lane of a resource.
-pub const QUEUE_HEIGHT: u64 = 18;
+pub const QUEUE_HEIGHT: u64 = 18; // of the lane of a resource
 
-/// From where the lane of a resource begins to where the next one does.
-pub const QUEUE_PITCH: u64 = 26;
+pub const QUEUE_PITCH: u64 = 26; // from where the lane of a resource begins to where the next one does
 
-/// From where a core begins to the line on which the numbers of its ticks stand.
-pub const AXIS_LINE: u64 = 20;
+pub const AXIS_LINE: u64 = 20; // from where a core begins to the line on which the numbers of its ticks stand
 
-/// From where a lane begins to the line on which its name stands, that of a core's name, of a task's level, and of a core's ceiling.
+// From where a lane begins to the line on which its name stands, that of a core's name, of a task's level, and of a core's ceiling.
 pub const NAME_LINE: u64 = 14;
 
 pub const CORE_LINE: u64 = 11;
@@ -79,7 +59,7 @@ pub const LEVEL_LINE: u64 = 28;
 
 pub const CEILING_LINE: u64 = 9;
 
-/// From the line on which the name of a lane stands again to the lane, of a core, and of its ceilings: those two stand above the axis.
+// From the line on which the name of a lane stands again to the lane, of a core, and of its ceilings: those two stand above the axis.
 pub const NAME_ABOVE: u64 = 1;
 
 pub const CORE_ABOVE: u64 = 24;
@@ -155,10 +135,8 @@ pub(crate) fn core_room(plan: &Plan, core: CoreId) -> Room
     ensures room { result ≡ core_room plan.now core.0 }
     ensures small { result.top < 2 ^ 41 }
 {
-    Room {
-        top: core_top(plan, core) + CORE_HEAD,
-        height: CORE_HEIGHT,
-    }
+    let (top, height) = (core_top(plan, core) + CORE_HEAD, CORE_HEIGHT);
+    Room { top, height }
 }
 
 /// The lane of a core's ceilings, right below its own.
@@ -166,10 +144,8 @@ pub(crate) fn ceiling_room(plan: &Plan, core: CoreId) -> Room
     ensures room { result ≡ ceiling_room plan.now core.0 }
     ensures small { result.top < 2 ^ 42 }
 {
-    Room {
-        top: core_room(plan, core).top + CORE_HEIGHT,
-        height: CEILING_HEIGHT,
-    }
+    let (top, height) = (core_room(plan, core).top + CORE_HEIGHT, CEILING_HEIGHT);
+    Room { top, height }
 }
 
 /// The lane of a task, below that of its core.
@@ -180,10 +156,9 @@ pub(crate) fn task_room(plan: &Plan, task: TaskId) -> Room
 {
     let core = plan.core_of(task);
     let above = tasks_above(plan, core, task) as u64;
-    Room {
-        top: TOP + (core.0 as u64 + 1) * CORE_PITCH + above * TASK_PITCH,
-        height: TASK_HEIGHT,
-    }
+    let top = TOP + (core.0 as u64 + 1) * CORE_PITCH + above * TASK_PITCH;
+    let height = TASK_HEIGHT;
+    Room { top, height }
 }
 
 /// The lane of a row: that of its task; where the plan has no such one, that of its core.
@@ -205,10 +180,9 @@ pub(crate) fn queue_room(plan: &Plan, levels: &Levels<'_>, res: ResId) -> Room
     ensures small { result.top < 2 ^ 42 }
 {
     let cores = core_top(plan, CoreId(plan.cores()));
-    Room {
-        top: cores + QUEUE_HEAD + globals_below(levels, res.0) as u64 * QUEUE_PITCH,
-        height: QUEUE_HEIGHT,
-    }
+    let top = cores + QUEUE_HEAD + globals_below(levels, res.0) as u64 * QUEUE_PITCH;
+    let height = QUEUE_HEIGHT;
+    Room { top, height }
 }
 
 /// Where the picture ends, below all lanes.

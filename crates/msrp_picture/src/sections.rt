@@ -1,12 +1,15 @@
 //! The sections of jobs, in the lanes of their tasks. A section within another one lies below it.
-ghost use Rattle.std.specs.Prelude.{◌≡◌, ◌<◌, ◌≤◌, ◌++◌, ◌^◌, find, option_copied, OnOk};
-ghost use Rattle.msrp_picture.specs.Sections.{ends_section, enters, first_section, leaves, most_open, open_with, section_end, section_room, section_span, sections, log_sections};
+ghost use Rattle.std.specs.Prelude.{◌≡◌, ◌<◌, ◌≤◌, ◌++◌, ◌^◌, find, option_copied, OnOk, length};
+ghost use Rattle.msrp_picture.specs.Places.{task_room};
+ghost use Rattle.msrp_picture.specs.Sections.{ends_section, enters, first_section, leaves, log_sections, most_open, open_with, section_end, section_span, sections};
+ghost use Rattle.msrp_picture.specs.Windows.{begun};
 
-use crate::places::{SECTION_TOP, section_height};
-use crate::seen::push_seen;
+use crate::Added;
+use crate::blocks::push_seen;
+use crate::places::{SECTION_TOP, section_height, task_room};
 use crate::shapes::{Look, Room, Shape, Span, lasting};
-use crate::windows::Window;
-use msrp_plan::{Kind, Memory, Row};
+use crate::windows::{Scene, Window, begun};
+use msrp_plan::{Kind, Row, TaskId};
 
 /// Where sections are drawn: in a lane, in these ticks, where the rows end with a tick, and under one another as many as are open at
 /// once at most.
@@ -55,7 +58,6 @@ fn section_end(end: u64, row: &Row, rest: &[Row]) -> u64
     }
 }
 
-// How many sections are open behind a row.
 fn open_with(row: &Row, depth: u64) -> u64
     requires { depth < u64.MAX }
     ensures { result ≡ open_with row.now depth }
@@ -69,7 +71,6 @@ fn open_with(row: &Row, depth: u64) -> u64
     }
 }
 
-// The most sections that are open at once.
 fn most_open(rows: &[Row]) -> u64
     ensures { result ≡ most_open 0 rows.now }
 {
@@ -82,55 +83,33 @@ fn most_open(rows: &[Row]) -> u64
     most
 }
 
-// The room of a section around which so many are open.
-fn section_room(strip: Strip, depth: u64) -> Room
-    requires within { depth ≤ strip.levels }
-    requires top { strip.top < 2 ^ 42 }
-    ensures { result ≡ section_room strip depth }
-{
-    let height = section_height(strip.levels);
-    Room {
-        top: strip.top + depth * height,
-        height,
-    }
-}
-
-// The section of a row, up to a tick.
+// The section of a row, up to a tick, below those that are open around it.
 fn section_span(strip: Strip, row: &Row, depth: u64, end: u64) -> Span
     requires within { depth ≤ strip.levels }
     requires top { strip.top < 2 ^ 42 }
     ensures { result ≡ section_span strip row.now depth end }
 {
-    let room = section_room(strip, depth);
+    let height = section_height(strip.levels);
+    let top = strip.top + depth * height;
+    let room = Room { top, height };
     lasting(row.tick as u64, end, room, Look::Holds, row.job, row.res)
 }
 
-// The section that begins with the first of these rows, if one does.
-fn push_first_section(
-    shapes: &mut Vec<Shape>,
-    strip: Strip,
-    depth: u64,
-    rows: &[Row],
-) -> Result<(), Memory>
+fn push_first_section(shapes: &mut Vec<Shape>, strip: Strip, depth: u64, rows: &[Row]) -> Added
     requires within { depth ≤ strip.levels }
     requires top { strip.top < 2 ^ 42 }
     ensures { OnOk result (shapes.new.items ≡ shapes.old.items ++ first_section strip depth rows.now) }
 {
     match rows {
-        [] => Ok(()),
-        [row, rest @ ..] => {
-            if enters(row.kind) {
-                let end = section_end(strip.end, row, rest);
-                push_seen(shapes, strip.window, section_span(strip, row, depth, end))
-            } else {
-                Ok(())
-            }
+        [row, rest @ ..] if enters(row.kind) => {
+            let end = section_end(strip.end, row, rest);
+            push_seen(shapes, strip.window, section_span(strip, row, depth, end))
         }
+        _ => Ok(()),
     }
 }
 
-// The sections of a task's rows.
-fn push_all(shapes: &mut Vec<Shape>, strip: Strip, log: &[Row]) -> Result<(), Memory>
+fn push_all(shapes: &mut Vec<Shape>, strip: Strip, log: &[Row]) -> Added
     requires within { most_open 0 log.now ≤ strip.levels }
     requires top { strip.top < 2 ^ 42 }
     ensures { OnOk result (shapes.new.items ≡ shapes.old.items ++ log_sections strip log.now) }
@@ -143,22 +122,21 @@ fn push_all(shapes: &mut Vec<Shape>, strip: Strip, log: &[Row]) -> Result<(), Me
     Ok(())
 }
 
-/// Adds the sections of a task's rows, in its lane, where all rows end with a tick.
+/// Adds the sections of a task, in its lane, where these are its rows.
 pub(crate) fn push_sections(
     shapes: &mut Vec<Shape>,
-    window: Window,
-    room: Room,
-    end: u64,
-    log: &[Row],
-) -> Result<(), Memory>
-    requires { room.top < 2 ^ 41 }
-    ensures { OnOk result (shapes.new.items ≡ shapes.old.items ++ sections window room end log.now) }
+    scene: &Scene<'_>,
+    own: &[Row],
+    task: TaskId,
+) -> Added
+    requires { task.0 < length scene.now.plan.now.tasks }
+    ensures { OnOk result (shapes.new.items ≡ shapes.old.items ++ sections scene.now.window (task_room scene.now.plan.now task.0) (begun scene.now.plan.now scene.now.rows.now) own.now) }
 {
     let strip = Strip {
-        window,
-        top: room.top + SECTION_TOP,
-        end,
-        levels: most_open(log),
+        window: scene.window,
+        top: task_room(scene.plan, task).top + SECTION_TOP,
+        end: begun(scene.plan, scene.rows) as u64,
+        levels: most_open(own),
     };
-    push_all(shapes, strip, log)
+    push_all(shapes, strip, own)
 }

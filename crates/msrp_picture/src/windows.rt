@@ -1,8 +1,11 @@
-//! The ticks that are drawn.
+//! The ticks that are drawn, and what of a trace.
 ghost use Rattle.std.specs.Prelude.{◌≡◌, ◌<◌, ◌≤◌, ◌+◌, ◌*◌};
-ghost use Rattle.msrp_picture.specs.Windows.{begun, due_in, parts, round, rows_between, shown_window, window_of, IsWindow};
+ghost use Rattle.msrp_picture.specs.Windows.{IsWindow, begun, broken_row, due_in, goes_on_in, later_rows, legal_rows, parts, round, rows_between, shown_window, window_of};
 
-use msrp_plan::{Fault, Plan, Row};
+use crate::Verdict;
+use msrp_levels::Levels;
+use msrp_plan::{Plan, Row};
+use std::alloc::Global;
 
 /// Where no last tick is asked for, so many ticks are drawn at most.
 pub const SHORT_RUN: u32 = 200;
@@ -72,12 +75,7 @@ fn round(plan: &Plan, tick: u32) -> Window
 
 /// The ticks that are drawn of rows on which that is the verdict: these, but where none are asked for and a rule is broken, those round the
 /// row that breaks it.
-pub(crate) fn shown_window(
-    plan: &Plan,
-    asked: Asked,
-    window: Window,
-    found: Result<(), Fault>,
-) -> Window
+pub(crate) fn shown_window(plan: &Plan, asked: Asked, window: Window, found: Verdict) -> Window
     requires { IsWindow window }
     ensures window { result ≡ shown_window plan.now asked window found }
     ensures some { IsWindow result }
@@ -114,4 +112,73 @@ pub(crate) fn begun(plan: &Plan, rows: &[Row]) -> usize
     ensures { result ≡ begun plan.now rows.now }
 {
     rows.len().div_ceil(plan.cores() as usize)
+}
+
+/// What is drawn of a trace of the plan in these ticks: the rows of a legal run; or those before the first that breaks a rule, and that one with
+/// what stands behind it.
+#[derive(Drop)]
+pub(crate) struct Scene<'a> {
+    pub(crate) alloc: Global,
+    pub(crate) plan: &'a Plan,
+    pub(crate) levels: &'a Levels<'a>,
+    pub(crate) rows: &'a [Row],
+    pub(crate) later: &'a [Row],
+    pub(crate) broken: Option<Row>,
+    pub(crate) found: Verdict,
+    pub(crate) window: Window,
+    ghost of_plan: { levels.now ≡ plan.now },
+    ghost some: { IsWindow window },
+}
+
+impl<'a> Scene<'a> {
+    /// What is drawn of these rows, on which that is the verdict.
+    pub(crate) fn of(
+        alloc: Global,
+        plan: &'a Plan,
+        levels: &'a Levels<'a>,
+        rows: &'a [Row],
+        found: Verdict,
+        window: Window,
+    ) -> Scene<'a>
+        requires levels { levels.now ≡ plan.now }
+        requires window { IsWindow window }
+        ensures plan { result.plan.now ≡ plan.now }
+        ensures rows { result.rows.now ≡ legal_rows rows.now found }
+        ensures later { result.later.now ≡ later_rows rows.now found }
+        ensures broken { result.broken ≡ broken_row rows.now found }
+        ensures found { result.found ≡ found }
+        ensures window { result.window ≡ window }
+    {
+        let legal = match found {
+            Ok(()) => return Scene {
+                alloc,
+                plan,
+                levels,
+                rows,
+                later: &[],
+                broken: None,
+                found,
+                window,
+            },
+            Err(fault) => rows.len().min((fault.row as usize).saturating_sub(1)),
+        };
+        Scene {
+            alloc,
+            plan,
+            levels,
+            rows: &rows[..legal],
+            later: &rows[legal..],
+            broken: rows.get(legal).copied(),
+            found,
+            window,
+        }
+    }
+
+    /// Whether the row that breaks a rule stands among those of these ticks.
+    pub(crate) fn breaks_in_window(&self) -> bool
+        ensures { result ≡ goes_on_in self.now.plan.now self.now.rows.now self.now.window }
+    {
+        let (cores, count) = (self.plan.cores() as usize, self.rows.len());
+        self.window.from as usize * cores <= count && count < self.window.to as usize * cores
+    }
 }

@@ -1,10 +1,10 @@
-use Rattle.std.proofs.Common.{ℕ, ◌<◌, Bool, List, cond, filter, length, map, max, ap, sym, arith, ◌∙◌}
 use Rattle.std.specs.Prelude.{slice_index_or}
-use Rattle.std.specs.List.{range_with_len}
+use Rattle.std.proofs.Common.{ℕ, ◌<◌, Bool, List, cond, filter, length, map, max, ap, sym, arith, ◌∙◌}
 use Rattle.std.proofs.lemmas.List.FromFn.{get_or-map-range_with_len}
+use Rattle.std.specs.List.{range_with_len}
 use Rattle.msrp_plan.specs.Levels.{greatest}
-use Rattle.msrp_plan.specs.Plan.{PlanModel}
 use Rattle.msrp_levels.specs.Users.{ceiling_at}
+use Rattle.msrp_picture.specs.Types.{PlanModel}
 use Rattle.msrp_picture.specs.Ceilings.{is_claimed}
 use Rattle.msrp_picture.proofs.Claims.{greatest-some, max-zero}
 use Rattle.msrp_picture.proofs.ceilings.ceiling_of.Goals as goal
@@ -12,7 +12,7 @@ use Rattle.msrp_picture.proofs.ceilings.ceiling_of.Goals.{then-kept-res, else-ke
 
 pub loop-res-preserved : goal.loop-res-preserved
 loop-res-preserved c = λ log e.
-    let plan = c.args.plan.now in
+    let plan = c.args.scene.now.plan.now in
     let n = c.loop-res.res in
     let at = λ (g : ℕ). ceiling_at plan g c.args.core.0 in
     let old = greatest (map at (filter (is_claimed log) (range_with_len 0 n))) in
@@ -23,8 +23,8 @@ loop-res-preserved c = λ log e.
     let told = λ (d : Bool). ap (λ (bs : List Bool). slice_index_or bs n d) e ∙ get_or-map-range_with_len (is_claimed log) 0 (length plan.resources) n n d within (omega arith) in
     elim c.if-kept-res.branch [
       | then-kept-res w ↦
-          let own = w.ceiling.ensures ∙ ap (λ (p : PlanModel). ceiling_at p n c.args.core.0) c.requires.levels in
-          w.ceiling-is ∙ w.larger-ceiling.ensures ∙ ap (λ k. max c.loop-res.ceiling k) own ∙ ap (λ k. max k (at n)) before
+          let own = w.ceiling.ensures ∙ ap (λ (p : PlanModel). ceiling_at p n c.args.core.0) c.args.scene.now.of_plan in
+          w.ceiling-is ∙ w.max-ceiling.ensures ∙ ap (λ k. max c.loop-res.ceiling k) own ∙ ap (λ k. max k (at n)) before
           ∙ sym (greatest-some at (is_claimed log) n ∙ ap (λ b. max old (cond b (at n) 0)) (sym (told _) ∙ w.if-kept-res.true))
       | else-kept-res w ↦ w.ceiling-is ∙ before ∙ sym (greatest-some at (is_claimed log) n ∙ ap (λ b. max old (cond b (at n) 0)) (sym (told _) ∙ w.if-kept-res.false) ∙ max-zero old)
     ]

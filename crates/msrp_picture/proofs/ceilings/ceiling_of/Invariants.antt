@@ -1,11 +1,10 @@
 use Rattle.std.proofs.Common.{◌≡◌, List, filter, map}
 use Rattle.std.specs.List.{range_with_len}
 use Rattle.msrp_plan.specs.Levels.{greatest}
-use Rattle.msrp_plan.specs.declared.rows.Row.{Row}
 use Rattle.msrp_levels.specs.Users.{ceiling_at}
-use Rattle.msrp_picture.specs.Ceilings.{is_claimed}
-use Rattle.msrp_picture.specs.Inside.Claims.{claims}
+use Rattle.msrp_picture.specs.Types.{Row}
+use Rattle.msrp_picture.specs.Ceilings.{claims, is_claimed}
 use Rattle.msrp_picture.proofs.ceilings.ceiling_of.Given as goal
 
 abbrev pub invariant-loop-res : goal.invariant-loop-res
-invariant-loop-res l = (log : List Row) → l.kept ≡ claims l.plan log → l.ceiling ≡ greatest (map (λ g. ceiling_at l.plan g l.core.0) (filter (is_claimed log) (range_with_len 0 l.res)))
+invariant-loop-res l = (log : List Row) → l.kept ≡ claims l.fn.scene.plan.now log → l.ceiling ≡ greatest (map (λ g. ceiling_at l.fn.scene.plan.now g l.core.0) (filter (is_claimed log) (range_with_len 0 l.res)))

@@ -1,8 +1,7 @@
 use Rattle.std.proofs.Common.{ℕ, ◌+◌, ◌∷◌, ◌++◌, [], ap, arith, length, sym, take, ◌∙◌}
 use Rattle.std.proofs.lemmas.List.{take_more}
-use Rattle.msrp_plan.specs.declared.rows.Row.{Row}
-use Rattle.msrp_picture.specs.Ceilings.{raised, told_ceiling}
-use Rattle.msrp_picture.specs.Inside.Claims.{claims}
+use Rattle.msrp_picture.specs.Types.{Row}
+use Rattle.msrp_picture.specs.Ceilings.{claims, raised, told_ceiling}
 use Rattle.msrp_picture.proofs.Claims.{claims-size}
 use Rattle.msrp_picture.proofs.Growing.{grows-each}
 use Rattle.msrp_picture.proofs.ceilings.spans_of.Goals as goal
@@ -11,11 +10,11 @@ pub loop-tick-init : goal.loop-tick-init
 loop-tick-init c = record { kept = c.in_ok-kept.ensures; spans = c.new-spans.ensures.items }
 
 pub ceiling_of-ceiling-requires-clause-kept : goal.ceiling_of-ceiling-requires-clause-kept
-ceiling_of-ceiling-requires-clause-kept c = ap length c.deref.ensures.value ∙ (c.keep.ensures.size ∙ (ap length c.loop-tick.invariant.kept ∙ claims-size c.args.plan.now (take c.loop-tick.tick c.args.log.now)))
+ceiling_of-ceiling-requires-clause-kept c = ap length c.deref.ensures.value ∙ (c.keep.ensures.size ∙ (ap length c.loop-tick.invariant.kept ∙ claims-size c.args.scene.now.plan.now (take c.loop-tick.tick c.args.log.now)))
 
 pub loop-tick-preserved : goal.loop-tick-preserved
 loop-tick-preserved c =
-    let plan = c.args.plan.now in
+    let plan = c.args.scene.now.plan.now in
     let log = c.args.log.now in
     let at = c.loop-tick.tick in
     let r = c.index-log-tick.result in

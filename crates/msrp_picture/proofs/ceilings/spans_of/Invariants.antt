@@ -1,11 +1,10 @@
 use Rattle.std.proofs.Common.{◌≡◌, ◌+◌, ℕ, take}
 use Rattle.std.specs.List.{flat_map, range_with_len}
-use Rattle.msrp_picture.specs.Ceilings.{raised, told_ceiling}
-use Rattle.msrp_picture.specs.Inside.Claims.{claims}
+use Rattle.msrp_picture.specs.Ceilings.{claims, raised, told_ceiling}
 use Rattle.msrp_picture.proofs.ceilings.spans_of.Given as goal
 
 abbrev pub invariant-loop-tick : goal.invariant-loop-tick
 invariant-loop-tick l = record {
-  kept : l.kept.items ≡ claims l.fn.plan (take l.tick l.fn.log);
-  spans : l.spans.items ≡ flat_map (λ (t : ℕ). raised l.fn.room t (told_ceiling l.fn.plan l.fn.core.0 (take (t + 1) l.fn.log))) (range_with_len 0 l.tick);
+  kept : l.kept.items ≡ claims l.fn.scene.plan.now (take l.tick l.fn.log);
+  spans : l.spans.items ≡ flat_map (λ (t : ℕ). raised l.fn.room t (told_ceiling l.fn.scene.plan.now l.fn.core.0 (take (t + 1) l.fn.log))) (range_with_len 0 l.tick);
 }

@@ -4,4 +4,4 @@ use Rattle.msrp_picture.proofs.Growing.{grows-each}
 use Rattle.msrp_picture.proofs.lanes.push_cores.Goals as goal
 
 pub loop-core-preserved : goal.loop-core-preserved
-loop-core-preserved c = grows-each (λ (n : ℕ). core_shapes c.args.plan.now c.args.window c.args.shown.now.rows.now c.args.shown.now.later.now (record { 0 = n })) c.loop-core.core c.args.shapes.now.items _ _ c.loop-core.invariant c.in_ok-push_core.ensures
+loop-core-preserved c = grows-each (λ (n : ℕ). core_shapes c.args.scene.now.plan.now c.args.scene.now.window c.args.scene.now.rows.now c.args.scene.now.later.now (record { 0 = n })) c.loop-core.core c.args.shapes.now.items _ _ c.loop-core.invariant c.in_ok-push_core.ensures

@@ -4,4 +4,4 @@ use Rattle.msrp_picture.specs.Lanes.{core_shapes}
 use Rattle.msrp_picture.proofs.lanes.push_cores.Given as goal
 
 abbrev pub invariant-loop-core : goal.invariant-loop-core
-invariant-loop-core l = l.shapes.items ≡ l.fn.shapes.items ++ flat_map (λ (n : ℕ). core_shapes l.fn.plan l.fn.window l.fn.shown.rows.now l.fn.shown.later.now (record { 0 = n })) (range_with_len 0 l.core)
+invariant-loop-core l = l.shapes.items ≡ l.fn.shapes.items ++ flat_map (λ (n : ℕ). core_shapes l.fn.scene.plan.now l.fn.scene.window l.fn.scene.rows.now l.fn.scene.later.now (record { 0 = n })) (range_with_len 0 l.core)

@@ -4,4 +4,4 @@ use Rattle.msrp_picture.specs.Lanes.{task_head, task_life}
 use Rattle.msrp_picture.proofs.lanes.push_tasks.Given as goal
 
 abbrev pub invariant-loop-task : goal.invariant-loop-task
-invariant-loop-task l = l.shapes.items ≡ l.fn.shapes.items ++ flat_map (λ (n : ℕ). task_head l.fn.plan l.fn.window (record { 0 = n }) ++ task_life l.fn.plan l.fn.window l.fn.shown.rows.now l.fn.shown.later.now (record { 0 = n })) (range_with_len 0 l.task)
+invariant-loop-task l = l.shapes.items ≡ l.fn.shapes.items ++ flat_map (λ (n : ℕ). task_head l.fn.scene.plan.now l.fn.scene.window (record { 0 = n }) ++ task_life l.fn.scene.plan.now l.fn.scene.window l.fn.scene.rows.now l.fn.scene.later.now (record { 0 = n })) (range_with_len 0 l.task)

@@ -1,14 +1,14 @@
 use Rattle.std.proofs.Common.{◌≡◌, ◌++◌, ◌∷◌, [], ap, arith, map, rules, subst, sym, take, ◌∙◌}
-use Rattle.std.specs.List.{AllByRecursion}
 use Rattle.std.proofs.lemmas.List.{map-append, take_all, take_more}
+use Rattle.std.specs.List.{AllByRecursion}
 use Rattle.msrp_plan.proofs.Lists.AnyAll.{all_push}
-use Rattle.msrp_picture.specs.Inside.Drawings.{IsDrawn, line_of}
+use Rattle.msrp_picture.specs.Picture.{IsDrawn, line_of}
 use Rattle.msrp_picture.proofs.lines.draw_lines.Goals as goal
 
 pub loop-line-init : goal.loop-line-init
 loop-line-init c = record {
   lines = ap (map line_of) c.new-drawn.ensures.items;
-  cells = subst (AllByRecursion (IsDrawn c.args.plan.now c.args.shown.now.rows.now c.args.shown.now.broken c.args.window)) (sym c.new-drawn.ensures.items) tt;
+  cells = subst (AllByRecursion (IsDrawn c.args.scene.now.plan.now c.args.scene.now.rows.now c.args.scene.now.broken c.args.scene.now.window)) (sym c.new-drawn.ensures.items) tt;
 }
 
 pub loop-line-preserved : goal.loop-line-preserved
@@ -20,7 +20,7 @@ loop-line-preserved c =
     let pushed : c.push.new.self.items ≡ drawn ++ one ∷ [] = search rules in
     record {
       lines = ap (map line_of) pushed ∙ (map-append line_of drawn (one ∷ []) ∙ (ap (λ xs. xs ++ one.line ∷ []) c.loop-line.invariant.lines ∙ (ap (λ x. take i lines ++ x ∷ []) c.in_ok-one.ensures.line ∙ sym (take_more lines i _ (omega arith)))));
-      cells = subst (AllByRecursion (IsDrawn c.args.plan.now c.args.shown.now.rows.now c.args.shown.now.broken c.args.window)) (sym pushed) (all_push (IsDrawn c.args.plan.now c.args.shown.now.rows.now c.args.shown.now.broken c.args.window) drawn one c.loop-line.invariant.cells c.in_ok-one.ensures.cells);
+      cells = subst (AllByRecursion (IsDrawn c.args.scene.now.plan.now c.args.scene.now.rows.now c.args.scene.now.broken c.args.scene.now.window)) (sym pushed) (all_push (IsDrawn c.args.scene.now.plan.now c.args.scene.now.rows.now c.args.scene.now.broken c.args.scene.now.window) drawn one c.loop-line.invariant.cells c.in_ok-one.ensures.cells);
     }
 
 pub returns-clause-lines : goal.returns-clause-lines

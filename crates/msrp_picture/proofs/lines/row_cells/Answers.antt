@@ -1,8 +1,8 @@
 use Rattle.std.proofs.Common.{◌≡◌, ◌+◌, ◌∷◌, ◌++◌, [], List, ap, append-nil, append_assoc, arith, drop, rules, sym, ◌∙◌}
 use Rattle.std.proofs.lemmas.List.{drop_all}
-use Rattle.msrp_plan.specs.declared.rows.Row.{Row}
+use Rattle.msrp_picture.specs.Types.{Row}
 use Rattle.msrp_picture.specs.Lines.{row_cells}
-use Rattle.msrp_picture.proofs.Joining.{drop-at}
+use Rattle.msrp_picture.proofs.Growing.{drop-at}
 use Rattle.msrp_picture.proofs.lines.row_cells.Goals as goal
 
 pub loop-row-preserved : goal.loop-row-preserved

@@ -1,11 +1,7 @@
-use Rattle.std.proofs.Common.{codes}
-use Rattle.msrp_picture.specs.Picture.{legend_text}
-use Rattle.msrp_picture.proofs.Growing.{grows, grows-last}
+use Rattle.std.proofs.Common.{◌++◌, codes}
+use Rattle.msrp_picture.specs.Picture.{task_text}
+use Rattle.msrp_picture.proofs.Growing.{grows-each}
 use Rattle.msrp_picture.proofs.picture.add_legend.Goals as goal
 
-pub returns : goal.returns
-unfolding legend_text
-returns c =
-    let old = c.args.text.now.items in
-    let signs = rw c.signs.ensures at c.add-2.ensures in
-    grows-last _ old _ _ _ _ (grows old _ _ (codes "\n") _ c.in_ok-add.ensures c.in_ok-add_tasks.ensures) signs
+pub loop-task-preserved : goal.loop-task-preserved
+loop-task-preserved c = grows-each (task_text c.args.plan.now) c.loop-task.task (c.args.text.now.items ++ codes "\n") _ _ c.loop-task.invariant c.in_ok-add_task.ensures

@@ -1,6 +1,6 @@
 use Rattle.std.proofs.Common.{◌≡◌, ◌++◌, codes, take}
 use Rattle.std.specs.List.{flat_map}
-use Rattle.msrp_picture.specs.Inside.Drawings.{drawn_text}
+use Rattle.msrp_picture.specs.Picture.{drawn_text}
 use Rattle.msrp_picture.proofs.picture.add_part.Given as goal
 
 abbrev pub invariant-loop-line : goal.invariant-loop-line

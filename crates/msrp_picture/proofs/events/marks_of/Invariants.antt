@@ -1,8 +1,0 @@
-use Rattle.std.proofs.Common.{◌≡◌, map}
-use Rattle.std.specs.List.{range_with_len}
-use Rattle.msrp_plan.proofs.Jobs.JobLists.{jobs_among}
-use Rattle.msrp_picture.specs.Events.{are_in, tick_of}
-use Rattle.msrp_picture.proofs.events.marks_of.Given as goal
-
-abbrev pub invariant-loop-task : goal.invariant-loop-task
-invariant-loop-task l = l.marks.items ≡ are_in l.window (map (tick_of l.plan l.moment) (jobs_among l.plan l.core.0 (range_with_len 0 l.task)))

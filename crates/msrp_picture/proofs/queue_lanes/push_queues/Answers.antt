@@ -1,9 +1,0 @@
-use Rattle.std.proofs.Common.{arith}
-use Rattle.std.proofs.lemmas.Grind.{common_steps}
-use Rattle.msrp_plan.specs.Levels.{is_global}
-use Rattle.msrp_picture.specs.QueueLanes.{queue_shapes}
-use Rattle.msrp_picture.proofs.Growing.{grows-some}
-use Rattle.msrp_picture.proofs.queue_lanes.push_queues.Goals as goal
-
-pub loop-res-preserved : goal.loop-res-preserved
-loop-res-preserved c = grows-some (is_global c.args.plan.now) (queue_shapes c.args.plan.now c.args.window c.args.rows.now) c.loop-res.res c.args.shapes.now.items c.loop-res.shapes.items c.if-is_global.shapes.items c.loop-res.invariant (grind (arith, common_steps))

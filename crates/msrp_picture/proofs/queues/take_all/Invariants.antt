@@ -1,7 +1,0 @@
-use Rattle.std.proofs.Common.{◌++◌, ℕ, List, take}
-use Rattle.msrp_plan.specs.Requests.{HasTaken}
-use Rattle.msrp_plan.specs.declared.rows.Row.{Row}
-use Rattle.msrp_picture.proofs.queues.take_all.Given as goal
-
-abbrev pub invariant-loop-row : goal.invariant-loop-row
-invariant-loop-row l = (g : ℕ) (before : List Row) → HasTaken l.fn.requests g before → HasTaken l.requests g (before ++ take l.row-index l.rows)

@@ -1,8 +1,0 @@
-use Rattle.std.proofs.Common.{◌≡◌, ◌++◌, drop}
-use Rattle.std.specs.List.{flat_map}
-use Rattle.msrp_picture.specs.Seen.{seen}
-use Rattle.msrp_picture.specs.Stretches.{joined}
-use Rattle.msrp_picture.proofs.stretches.push_joined.Given as goal
-
-abbrev pub invariant-loop-span : goal.invariant-loop-span
-invariant-loop-span l = l.shapes.items ++ flat_map (seen l.fn.window) (joined l.last (drop l.span-index l.rest)) ≡ l.fn.shapes.items ++ flat_map (seen l.fn.window) (joined l.fn.first l.rest)
