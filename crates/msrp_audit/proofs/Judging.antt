@@ -27,14 +27,14 @@ use Rattle.msrp_plan.proofs.Jobs.JobTests.{same_is, same_self}
 use Rattle.msrp_plan.proofs.Jobs.JobLists.{jobs_of_are, core_jobs_below}
 use Rattle.msrp_plan.proofs.Lists.Members.{kept_by, in_filter}
 use Rattle.msrp_plan.proofs.Jobs.CoreJobs.{on_its_core, job_on_core}
-use Rattle.msrp_plan.proofs.Runs.CoreRuns.{due_by_log, reached_tick}
+use Rattle.msrp_plan.proofs.Runs.CoreRuns.{due_by_log}
 use Rattle.msrp_plan.proofs.Legality.LegalRows.{due, legal_due, same_res_is, same_choice_is}
 use Rattle.msrp_plan.proofs.SameKinds.{same_kind_is}
-use Rattle.msrp_plan.proofs.Scheduling.NextRow.{next_row}
+use Rattle.msrp_plan.proofs.Scheduling.NextRow.{turns_when_due}
 use Rattle.msrp_plan.proofs.Runs.Verdicts.{fault_push, fault_stays, unbroken_is_legal}
 use Rattle.msrp_core.specs.Machine.{MachineModel}
-use Rattle.msrp_sim.specs.Cores.{CoresModel, StandFor, IsDueAfter, IsNextRow}
-use Rattle.msrp_audit.specs.Audits.{AuditorModel, HasFed, IsCoreDue, Awaits, answer_of, has_turn, auditor_view, IsAuditorView}
+use Rattle.msrp_sim.specs.Cores.{CoresModel, StandFor, IsDueInRun, IsNextRow, MakesNext, StandOn}
+use Rattle.msrp_audit.specs.Audits.{AuditorModel, HasFed, IsDueInAudit, Awaits, answer_of, has_turn, auditor_view, IsAuditorView}
 use Rattle.msrp_audit.specs.declared.auditor.Auditor.TheInside.{Inside}
 use Rattle.std.proofs.Math.Nat.{mul-le-mul_left}
 use Rattle.std.proofs.lemmas.Nat.{div-mul-add}
@@ -67,9 +67,7 @@ good_told (Some f) good h = absurd (cc)
 -- ---- A1
 -- a core that had no turn in the tick that is due has as many turns as ticks are full
 pub reached : (plan : PlanModel) (rows : List Row) (c : ℕ) → IsPlan plan → EachAfter (IsLegal plan) [] rows → c < plan.cores → had_turn c (length rows / plan.cores) rows ≡ false → length (log_of c rows) ≡ length rows / plan.cores
-reached plan rows c ok all low had =
-    let next = next_row plan rows c ok all (record { core = low; once = had }) in
-    subst (λ n. length (log_of n rows) ≡ length rows / plan.cores) next.core (sym (reached_tick plan rows next.row all next.legal) ∙ (legal_due plan rows next.row next.legal).tick)
+reached plan rows c ok all low had = turns_when_due plan rows c ok all (record { core = low; once = had })
 
 -- so its machine's tick tells whether it had its turn
 tick_tells : (plan : PlanModel) (rows : List Row) (c : ℕ) → IsPlan plan → EachAfter (IsLegal plan) [] rows → c < plan.cores → (b : Bool) → had_turn c (length rows / plan.cores) rows ≡ b → (length (log_of c rows) == length rows / plan.cores) ≡ not b
@@ -117,10 +115,10 @@ in_turn_is plan rows r now b is has = by_tick (r.tick == length rows / plan.core
         ∙ sym (ap (λ a. a && (nat_lt r.core.0 plan.cores && not (had_turn r.core.0 r.tick rows))) e))
 
 -- a row in its turn is of a core that is due
-pub due_after : (plan : PlanModel) (rows : List Row) (r : Row) → IsPlan plan → IsRunStart plan rows → length rows < plan.cores * plan.ticks → is_in_turn plan rows r ≡ true → IsDueAfter plan rows r.core.0
-due_after plan rows r ok start left turn =
+pub due_after : (plan : PlanModel) (rows : List Row) (r : Row) → length rows < plan.cores * plan.ticks → is_in_turn plan rows r ≡ true → IsDueInRun plan rows r.core.0
+due_after plan rows r left turn =
     let d = due plan rows r turn in
-    record { core = d.core; left = left; due = reached plan rows r.core.0 ok start.each d.core (subst (λ n. had_turn r.core.0 n rows ≡ false) d.tick d.once) }
+    record { turn = record { core = d.core; once = subst (λ n. had_turn r.core.0 n rows ≡ false) d.tick d.once }; left = left }
 
 -- ---- A2
 -- each job of the plan is one of its task's
@@ -315,23 +313,26 @@ module _ (i : Inside) (a : AuditorModel) (rows : List Row) (keeps : IsAuditorVie
   full_is l = subst (λ (b : AuditorModel). b.plan.cores * b.plan.ticks ≤ length rows) is (subst (λ n. i.plan.now.cores * i.plan.now.ticks ≤ n) size_is (full_in i.at.tick i.plan.now.cores i.at.place i.plan.now.ticks l))
 
 -- a core that is due now is due after the rows
-due_now : (a : AuditorModel) (rows : List Row) (c : ℕ) → IsCoreDue a c → HasFed a rows → IsDueAfter a.plan rows c
-due_now a rows c is_due fed =
+due_now : (a : AuditorModel) (rows : List Row) (c : ℕ) → a.cores.plan ≡ a.plan → IsDueInAudit a c → HasFed a rows → IsDueInRun a.cores.plan rows c
+due_now a rows c same is_due fed =
+    let stands = fed.stand is_due.fault in
     let count = fed.count is_due.fault in
+    let core : c < a.cores.plan.cores = subst (λ (p : PlanModel). c < p.cores) (sym same) is_due.core in
+    let turns : length (log_of c rows) ≡ length rows / a.cores.plan.cores =
+    sym (machine_tick a.cores rows c (a.fed / a.plan.cores) stands is_due.tick) ∙ (ap (λ n. n / a.plan.cores) count ∙ ap (λ (p : PlanModel). length rows / p.cores) (sym same)) in
     record {
-      core = is_due.core;
-      left = subst (λ n. n < a.plan.cores * a.plan.ticks) count is_due.left;
-      due = sym (machine_tick a.cores rows c (a.fed / a.plan.cores) (fed.stand is_due.fault) is_due.tick) ∙ ap (λ n. n / a.plan.cores) count;
+      turn = record { core = core; once = due_by_log a.cores.plan rows c stands.start.each core turns };
+      left = subst (λ (p : PlanModel). length rows < p.cores * p.ticks) (sym same) (subst (λ n. n < a.plan.cores * a.plan.ticks) count is_due.left);
     }
 
 -- its turn makes the row that is awaited
-pub awaited : (a : AuditorModel) (n : CoresModel) (rows : List Row) (c : ℕ) (due : Row) → IsCoreDue a c → a.cores.plan ≡ a.plan → HasFed a rows
-    → ((before : List Row) → StandFor a.cores before → IsDueAfter a.cores.plan before c → IsNextRow a.cores.plan before c due)
-    → ((before : List Row) (row : Row) → StandFor a.cores before → IsDueAfter a.cores.plan before c → IsAs due row → IsLegal a.cores.plan before row → StandFor n (before ++ row ∷ []))
+pub awaited : (a : AuditorModel) (n : CoresModel) (rows : List Row) (c : ℕ) (due : Row) → IsDueInAudit a c → a.cores.plan ≡ a.plan → HasFed a rows
+    → MakesNext a.cores c due
+    → StandOn a.cores n c due
     → Awaits (record a { cores = n }) rows c due
 awaited a n rows c due is_due same fed next stand =
     let stands = fed.stand is_due.fault in
-    let is : IsDueAfter a.cores.plan rows c = subst (λ p. IsDueAfter p rows c) (sym same) (due_now a rows c is_due fed) in
+    let is = due_now a rows c same is_due fed in
     let row : IsNextRow a.plan rows c due = subst (λ p. IsNextRow p rows c due) same (next rows stands is) in
     record {
       fault = is_due.fault;
@@ -342,9 +343,9 @@ awaited a n rows c due is_due same fed next stand =
       stand = λ r likewise legal. stand rows r stands is likewise (subst (λ p. IsLegal p rows r) (sym same) legal);
     }
 
-pub awaited_if : (a : AuditorModel) (n : CoresModel) (c : ℕ) (o : Option Row) → IsCoreDue a c → a.cores.plan ≡ a.plan
-    → IfSome o (λ due. (before : List Row) → StandFor a.cores before → IsDueAfter a.cores.plan before c → IsNextRow a.cores.plan before c due)
-    → IfSome o (λ due. (before : List Row) (row : Row) → StandFor a.cores before → IsDueAfter a.cores.plan before c → IsAs due row → IsLegal a.cores.plan before row → StandFor n (before ++ row ∷ []))
+pub awaited_if : (a : AuditorModel) (n : CoresModel) (c : ℕ) (o : Option Row) → IsDueInAudit a c → a.cores.plan ≡ a.plan
+    → IfSome o (MakesNext a.cores c)
+    → IfSome o (StandOn a.cores n c)
     → IfSome o (λ due. (rows : List Row) → HasFed a rows → Awaits (record a { cores = n }) rows c due)
 awaited_if a n c None is_due same next stand = tt
 awaited_if a n c (Some due) is_due same next stand = λ rows fed. awaited a n rows c due is_due same fed next stand

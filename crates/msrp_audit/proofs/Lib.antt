@@ -3,6 +3,7 @@ pub mod Judging
 pub mod Scanning
 pub mod Merging
 pub mod Parts
+pub mod Orders
 pub mod OwnRows
 pub mod Following
 pub mod Queueing

@@ -1,6 +1,7 @@
 -- A piece of the audit goes over the rows from the first on, and tests each: what its answer tells.
-use Rattle.std.proofs.Common.{◌≡◌, ℕ, suc, ◌+◌, ◌<◌, ◌≤◌, cond, List, [], ◌∷◌, ◌++◌, Option, Some, None, ap, sym, ◌∙◌, subst, arith, length, length-append, take, drop, get_or, inl, inr, eq-eqb}
+use Rattle.std.proofs.Common.{◌≡◌, ℕ, suc, ◌+◌, ◌<◌, ◌≤◌, cond, List, [], ◌∷◌, ◌++◌, Option, Some, None, ap, sym, ◌∙◌, subst, arith, length, length-append, take, drop, get_or, slice_get, refl, inl, inr, eq-eqb}
 use Rattle.std.proofs.lemmas.Bool.{cases_lt}
+use Rattle.std.proofs.lemmas.Option.{same_Some, slice_get_read}
 use Rattle.std.proofs.lemmas.List.{take_at, take_more, take-append-le, take-append-drop, get_or_at}
 use Rattle.msrp_plan.specs.Plan.{PlanModel}
 use Rattle.msrp_plan.specs.Runs.{IsLegal, IsRunStart}
@@ -18,6 +19,10 @@ split_length xs pre post x is = ap length is ∙ length-append pre (x ∷ post)
 -- the rows up to a place, and the one that stands there
 pub one_more : (rows : List Row) (i : ℕ) (x : Row) → i < length rows → x ≡ get_or rows i x → take (i + 1) rows ≡ take i rows ++ x ∷ []
 one_more rows i x within at = take_more rows i x within ∙ ap (λ y. take i rows ++ y ∷ []) (sym at)
+
+-- a row that is read at a place is the one that stands there
+pub row_is : (rows : List Row) (i : ℕ) (x r : Row) → i < length rows → x ≡ get_or rows i x → slice_get rows i ≡ Some r → r ≡ x
+row_is rows i x r within at there = same_Some r x (sym there ∙ slice_get_read rows (length rows) i x refl within at)
 
 -- where the rows before a place are the start of a legal run, so are they up to each place before it
 pub start_at : (plan : PlanModel) (rows pre post : List Row) (r x : Row) (i : ℕ) → rows ≡ pre ++ r ∷ post → IsRunStart plan pre → i < length pre → x ≡ get_or rows i x → IsRunStart plan (take i rows ++ x ∷ [])
@@ -56,6 +61,9 @@ module _ (plan : PlanModel) (test : List Row → Row → Option Rule) (rows : Li
       | inr past ↦ here pre post r x i None is (omega (arith, low, past)) start at finds
     ];
   }
+
+  pub passes_before : (i n : ℕ) → n ≤ i → PassesTo plan test rows i → PassesTo plan test rows n
+  passes_before i n less passes = record { none = λ pre r post is start low. passes.none pre r post is start (omega (arith, low, less)) }
 
   -- an answer without a fault
   pub tells_none : ((pre : List Row) (r : Row) (post : List Row) → rows ≡ pre ++ r ∷ post → IsRunStart plan pre → test pre r ≡ None) → TellsFirst plan test rows None

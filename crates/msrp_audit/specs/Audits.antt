@@ -24,8 +24,8 @@ pub record HasFed (a : AuditorModel) (rows : List Row) : Type 0 where
   pub stand : a.fault ≡ None → StandFor a.cores rows
   pub count : a.fault ≡ None → a.fed ≡ length rows
 
--- the core may have its turn now: no row so far has a fault, rows are left, and its turn in the tick that is due is still to come
-pub record IsCoreDue (a : AuditorModel) (c : ℕ) : Type 0 where
+-- the core is due now: no row so far has a fault, rows are left, and its turn in the tick of the next row is still to come
+pub record IsDueInAudit (a : AuditorModel) (c : ℕ) : Type 0 where
   pub fault : a.fault ≡ None
   pub core : c < a.plan.cores
   pub left : a.fed < a.plan.cores * a.plan.ticks

@@ -9,9 +9,9 @@ ghost use Rattle.msrp_plan.specs.Verdict.{fault_in, verdict, refused};
 ghost use Rattle.msrp_plan.specs.WellFormed.{IsPlan};
 ghost use Rattle.msrp_plan.specs.declared.faults.Fault.{Fault as TraceFault};
 ghost use Rattle.msrp_plan.specs.declared.rows.Row.{Row as TraceRow};
-ghost use Rattle.msrp_sim.specs.Cores.{IsDueAfter, IsNextRow, IsSomeTurn, IsAs, Leaves, known_row};
+ghost use Rattle.msrp_sim.specs.Cores.{IsDueInRun, IsNextRow, IsSomeTurn, IsAs, Leaves, known_row};
 ghost use Rattle.msrp_sim.specs.TurnPorts.{unless_granted};
-ghost use Rattle.msrp_audit.specs.Audits.{HasFed, IsCoreDue, IsOutOfTurn, Awaits, answer_of, has_turn};
+ghost use Rattle.msrp_audit.specs.Audits.{HasFed, IsDueInAudit, IsOutOfTurn, Awaits, answer_of, has_turn};
 
 use crate::comparing::unlike_due;
 use msrp_core::CoreState;
@@ -128,11 +128,17 @@ impl<'a> Auditor<'a> {
         self.at.tick
     }
 
+    /// The core that comes next where the rows of a tick come by the numbers of their cores. Nothing rests on it: another may come.
+    #[inline(always)]
+    pub fn core_guessed(&self) -> CoreId {
+        CoreId(self.at.place)
+    }
+
     /// Whether a core may have its turn now: its turn in the tick that is due is still to come. It is false after a fault, and where no rows
     /// are left.
     #[inline(always)]
     pub fn is_due(&self, core: CoreId) -> bool
-        ensures due { result ≡ true → IsCoreDue self.now core.0 }
+        ensures due { result ≡ true → IsDueInAudit self.now core.0 }
         ensures answer { (rows : List TraceRow) → HasFed self.now rows → self.now.fault ≡ None → length rows < self.now.plan.cores * self.now.plan.ticks → result ≡ has_turn self.now.plan rows core.0 }
     {
         if self.fault.is_some() {
@@ -150,7 +156,7 @@ impl<'a> Auditor<'a> {
     /// Whether [`repeat`](Auditor::repeat) gives the core its turn.
     #[inline(always)]
     pub fn repeats(&self, core: CoreId) -> bool
-        requires { IsCoreDue self.now core.0 }
+        requires { IsDueInAudit self.now core.0 }
         ensures { result ≡ is_some (unless_granted self.now.cores.queues core.0 (known_row self.now.cores core.0)) }
     {
         self.cores.repeats(core)
@@ -160,7 +166,7 @@ impl<'a> Auditor<'a> {
     /// changes. What came is told by [`accept`](Auditor::accept) or [`judge`](Auditor::judge).
     #[inline(always)]
     pub fn repeat(&mut self, core: CoreId) -> Option<Row>
-        requires { IsCoreDue self.old core.0 }
+        requires { IsDueInAudit self.old core.0 }
         ensures none { IfNone result (self.new ≡ self.old) }
         ensures known { IfSome result (λ due. known_row self.old.cores core.0 ≡ Some due) }
         ensures repeats { result ≡ unless_granted self.old.cores.queues core.0 (known_row self.old.cores core.0) }
@@ -177,7 +183,7 @@ impl<'a> Auditor<'a> {
     /// [`repeat`](Auditor::repeat).
     #[inline(always)]
     pub fn turn_anew(&mut self, core: CoreId) -> Row
-        requires { IsCoreDue self.old core.0 }
+        requires { IsDueInAudit self.old core.0 }
         ensures plan { self.new.plan ≡ self.old.plan }
         ensures fed { self.new.fed ≡ self.old.fed }
         ensures core { result.core.0 ≡ core.0 }
@@ -192,7 +198,7 @@ impl<'a> Auditor<'a> {
     /// [`judge`](Auditor::judge).
     #[inline(always)]
     pub fn turn(&mut self, core: CoreId) -> Row
-        requires { IsCoreDue self.old core.0 }
+        requires { IsDueInAudit self.old core.0 }
         ensures plan { self.new.plan ≡ self.old.plan }
         ensures fed { self.new.fed ≡ self.old.fed }
         ensures core { result.core.0 ≡ core.0 }
@@ -238,7 +244,7 @@ impl<'a> Auditor<'a> {
     /// feeds the row that comes.
     #[inline(always)]
     pub fn foresee(&self, core: CoreId) -> Option<Row>
-        ensures { (rows : List TraceRow) → HasFed self.now rows → self.now.fault ≡ None → IsDueAfter self.now.plan rows core.0 → IsSomeAnd result (IsNextRow self.now.plan rows core.0) }
+        ensures { (rows : List TraceRow) → HasFed self.now rows → self.now.fault ≡ None → IsDueInRun self.now.plan rows core.0 → IsSomeAnd result (IsNextRow self.now.plan rows core.0) }
     {
         if core.0 < self.plan.cores() {
             self.cores.foresee(core)
@@ -252,7 +258,7 @@ impl<'a> Auditor<'a> {
     #[inline(always)]
     pub fn is_in_turn(&self, row: Row) -> bool
         ensures turn { (rows : List TraceRow) → HasFed self.now rows → self.now.fault ≡ None → length rows < self.now.plan.cores * self.now.plan.ticks → result ≡ is_in_turn self.now.plan rows row }
-        ensures due { result ≡ true → IsCoreDue self.now row.core.0 }
+        ensures due { result ≡ true → IsDueInAudit self.now row.core.0 }
         ensures tick { result ≡ true → (rows : List TraceRow) → HasFed self.now rows → row.tick ≡ length rows / self.now.plan.cores }
     {
         row.tick == self.at.tick && self.is_due(row.core)

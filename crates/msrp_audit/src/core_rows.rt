@@ -1,23 +1,32 @@
 //! The rows of one core: A2 to A4.
-ghost use Rattle.std.specs.Prelude.{◌≡◌, ◌<◌, ◌≤◌, ◌*◌, ◌+◌, ◌/◌, ◌++◌, ◌∷◌, [], List, IfOk, None, length, true};
+ghost use Rattle.std.specs.Prelude.{◌≡◌, ◌<◌, ◌≤◌, ◌*◌, ◌+◌, ◌/◌, ◌++◌, ◌∷◌, ◌==◌, ◌^◌, [], List, IfOk, None, length, nat_lt, true, if◌then◌else◌};
 ghost use Rattle.msrp_plan.specs.Logs.{log_of};
 ghost use Rattle.msrp_plan.specs.Runs.{IsRunStart, is_in_turn};
 ghost use Rattle.msrp_plan.specs.WellFormed.{IsPlan};
 ghost use Rattle.msrp_plan.specs.declared.rows.Row.{Row as TraceRow};
 ghost use Rattle.msrp_core.specs.Machine.{StandsAfter};
 ghost use Rattle.msrp_audit.specs.Inside.Pieces.{broken_action, broken_on_core, TellsFirst};
+ghost use Rattle.msrp_audit.specs.Inside.Walks.{KeepsOrder};
 
 use crate::auditor::is_own;
 use crate::comparing::unlike_turn;
 use crate::replies::turn_as;
-use crate::turns::is_due_at;
 use msrp_core::Machine;
 use msrp_levels::Levels;
 use msrp_plan::{CoreId, Fault, Memory, Plan, Row, Rule};
 use std::alloc::Global;
 
-// Whether the row of that index stands in the tick that is due, and its core had its turn in each tick before.
-fn is_due(plan: &Plan, machine: &Machine, row: Row, index: usize) -> bool
+// Whether the row of that index stands in that tick, where each tick has so many rows.
+#[inline(always)]
+fn is_in_tick(cores: u32, tick: u32, index: usize) -> bool
+    ensures { 0 < cores → result ≡ (tick == index / cores) }
+{
+    let first = tick as usize * cores as usize;
+    first <= index && index < first + cores as usize
+}
+
+// Whether the row of that index stands in its tick, and its core had its turn in each tick before.
+fn is_in_turn(plan: &Plan, machine: &Machine, row: Row, index: usize) -> bool
     requires index { index < plan.now.cores * plan.now.ticks }
     requires core { row.core.0 < plan.now.cores }
     ensures turn { (pre : List TraceRow) → index ≡ length pre → IsRunStart plan.now pre → StandsAfter machine.now (log_of row.core.0 pre) → result ≡ is_in_turn plan.now pre row }
@@ -25,7 +34,22 @@ fn is_due(plan: &Plan, machine: &Machine, row: Row, index: usize) -> bool
     ensures due { result ≡ true → row.tick ≡ index / plan.now.cores }
     ensures accepted { IsPlan plan.now }
 {
-    is_due_at(plan.cores(), row.tick, index) && machine.tick() == row.tick
+    is_in_tick(plan.cores(), row.tick, index) && machine.tick() == row.tick
+}
+
+// Where to look for a core's next row behind the one of that index: where the rows are steady, in the same place of the next tick, else from its
+// start on.
+#[inline(always)]
+fn place_after(cores: u32, steady: usize, tick: u32, index: usize) -> usize
+    requires { index < 2 ^ 63 }
+    ensures { result ≡ if nat_lt (index + cores) steady then index + cores else (tick + 1) * cores }
+{
+    let same = index + cores as usize;
+    if same < steady {
+        same
+    } else {
+        (tick as usize + 1) * cores as usize
+    }
 }
 
 // The lowest of the rules A2 to A4 that the row breaks; else the machine stands for it too.
@@ -54,10 +78,12 @@ pub(crate) fn judge_core(
     plan: &Plan,
     levels: &Levels,
     rows: &[Row],
+    steady: usize,
     core: CoreId,
 ) -> Result<Option<Fault>, Memory>
     requires levels { levels.now ≡ plan.now }
     requires rows { length rows.now ≤ plan.now.cores * plan.now.ticks }
+    requires steady { KeepsOrder plan.now.cores rows.now steady }
     requires core { core.0 < plan.now.cores }
     ensures { IfOk result (TellsFirst plan.now (broken_on_core plan.now core.0) rows.now) }
 {
@@ -66,7 +92,7 @@ pub(crate) fn judge_core(
     while index < rows.len() {
         let row = rows[index];
         if row.core == core {
-            if !is_due(plan, &machine, row, index) {
+            if !is_in_turn(plan, &machine, row, index) {
                 return Ok(None);
             }
             if let Some(rule) = follow(plan, &mut machine, row) {
@@ -76,7 +102,7 @@ pub(crate) fn judge_core(
                 }));
             }
             // No other row of the core is in its turn in this tick.
-            index = (row.tick as usize + 1) * plan.cores() as usize;
+            index = place_after(plan.cores(), steady, row.tick, index);
         } else {
             index += 1;
         }

@@ -26,7 +26,7 @@ use Rattle.msrp_plan.proofs.Legality.LegalRows as legal
 use Rattle.msrp_plan.proofs.Legality.SameRow.{parts, same_row}
 use Rattle.msrp_plan.proofs.Lists.AnyAll.{any_in}
 use Rattle.msrp_plan.proofs.Scheduling.Stretches.{stays_again, turns_by_states}
-use Rattle.msrp_ready.specs.Ready.{ReadyModel, has_come, is_due}
+use Rattle.msrp_ready.specs.Ready.{ReadyModel, has_come, has_release_by}
 use Rattle.msrp_core.specs.Active.{HoldSo, advanced, is_waiting_phase}
 use Rattle.msrp_core.specs.CoreJobs.{active_in, state_of, AreJobs, AreToldBy, IsRunning, CanAct, Acts, ActsFor, IsSamePlace, started_with}
 use Rattle.msrp_core.specs.Machine.{RepeatsOnly, StandsAfter}
@@ -150,8 +150,8 @@ pub can_less : (jobs : Jobs) (kind : Kind) (o : Option JobId) (k n : ℕ) → n 
 can_less jobs kind None k n l can = refl
 can_less jobs kind (Some j) k n l can = (refl, less_left jobs j k n l can.1)
 
--- ---- nobody is released in this tick, where nobody is due by it
-none_released : (ready : ReadyModel) (since tick : ℕ) → ready.tick ≡ Some since → since < tick → is_due ready tick ≡ false → NoneReleased ready.plan ready.core tick 1
+-- ---- nobody is released in this tick, where no release comes by it
+none_released : (ready : ReadyModel) (since tick : ℕ) → ready.tick ≡ Some since → since < tick → has_release_by ready tick ≡ false → NoneReleased ready.plan ready.core tick 1
 none_released ready since tick at before none j on late =
     let comes : JobId → Bool = λ i. nat_le (release ready.plan i) tick && not (has_come ready.tick (release ready.plan i)) in
     let off : comes j ≡ false = false_from_ne_true (comes j) (λ t. absurd (true≢false (sym (any_in comes (jobs_on ready.plan ready.core) j on t) ∙ none))) in
@@ -159,13 +159,13 @@ none_released ready since tick at before none j on late =
     let later : nat_le (release ready.plan j) tick ≡ false = sym (and-true (nat_le (release ready.plan j) tick)) ∙ (ap (λ b. nat_le (release ready.plan j) tick && not b) (sym waits) ∙ off) in
     let l = leb-false (release ready.plan j) tick later in omega (arith, l)
 
--- ---- a job that is released later than all that were is due then
+-- ---- a job whose release is later than all that came is released then
 come_before : (o : Option ℕ) (tick r : ℕ) → ForSome o (λ before. before ≤ tick) → tick < r → has_come o r ≡ false
 come_before None tick r past later = refl
 come_before (Some before) tick r past later = let p = past before refl in lt-leb r before (omega (arith, p, later))
 
-pub due_then : (ready : ReadyModel) (tick : ℕ) (j : JobId) → ForSome ready.tick (λ before. before ≤ tick) → Contains (jobs_on ready.plan ready.core) j → tick < release ready.plan j → is_due ready (release ready.plan j) ≡ true
-due_then ready tick j past on later =
+pub released_then : (ready : ReadyModel) (tick : ℕ) (j : JobId) → ForSome ready.tick (λ before. before ≤ tick) → Contains (jobs_on ready.plan ready.core) j → tick < release ready.plan j → has_release_by ready (release ready.plan j) ≡ true
+released_then ready tick j past on later =
     let r = release ready.plan j in
     let now : nat_le r r ≡ true = le-leb r r (omega arith) in
     any_in (λ i. nat_le (release ready.plan i) r && not (has_come ready.tick (release ready.plan i))) (jobs_on ready.plan ready.core) j on (ap (λ b. b && not (has_come ready.tick r)) now ∙ ap not (come_before ready.tick tick r past later))
@@ -202,7 +202,7 @@ module _ (m : Inside) (mid new : Jobs) (chosen : Option JobId) (row : Row) (fit 
 
   -- the row stands again so often
   pub repeats_by : (k since : ℕ) (poll : Option Poll) (log : List Row) → StandsAfter (machine_view m) log → chosen ≡ choice m.jobs.plan.now m.jobs.core.0 m.tick log → mid.ready.tick ≡ Some since → since ≤ m.tick
-      → 0 < k → CanRepeat new row.kind row.job k → m.tick + 1 + k ≤ new.plan.now.ticks → ((t : ℕ) → t < m.tick + 1 + k → is_due new.ready t ≡ false) → Repeats (record { tick = m.tick + 1; jobs = new; again = k; job = row.job; poll = poll })
+      → 0 < k → CanRepeat new row.kind row.job k → m.tick + 1 + k ≤ new.plan.now.ticks → ((t : ℕ) → t < m.tick + 1 + k → has_release_by new.ready t ≡ false) → Repeats (record { tick = m.tick + 1; jobs = new; again = k; job = row.job; poll = poll })
   repeats_by k since poll log stands is at before some can within quiet = record {
     pre = log;
     row = row;
@@ -313,7 +313,7 @@ module _ (m : Inside) (fit : AreJobs m.jobs) (r : Repeats m) (some : 0 < m.again
           (repeats_by m m.jobs new m.job row fit (same_place m.jobs) running_now (states_on m fit m.job running_now r.pre r.row r.stands r.turn r.job (stays m.job refl)) acts (m.again - 1) r.since m.poll last r.stands (chosen_on m fit m.job running_now r.pre r.row r.stands r.turn r.job (stays m.job refl) last r.stands) r.released (let b = r.before in omega (arith, b)) more
           (subst (λ o. CanRepeat new row.kind o (m.again - 1)) (sym job) (subst (λ k. CanRepeat new k m.job (m.again - 1)) (sym kind) can))
           (subst (λ (p : PlanModel). m.tick + 1 + (m.again - 1) ≤ p.ticks) (sym (plan_after m.jobs new m.job m.tick row acts)) (let l = r.left in omega (arith, l, some)))
-          (λ t l. ap (λ x. is_due x t) (ready_after m.jobs new m.job m.tick row acts) ∙ r.quiet t (omega (arith, l, some))));
+          (λ t l. ap (λ x. has_release_by x t) (ready_after m.jobs new m.job m.tick row acts) ∙ r.quiet t (omega (arith, l, some))));
       spins = λ p e. absurd (none-some p (sym none ∙ e));
       apart = λ more. none;
     }

@@ -4,7 +4,7 @@ use Rattle.std.specs.Option.{ForSome}
 use Rattle.msrp_plan.specs.Jobs.{jobs_on, is_queued}
 use Rattle.msrp_plan.specs.Runs.{IsCoreTurn}
 use Rattle.msrp_plan.specs.declared.rows.Row.{Row}
-use Rattle.msrp_ready.specs.Ready.{is_due}
+use Rattle.msrp_ready.specs.Ready.{has_release_by}
 use Rattle.msrp_core.specs.Machine.{MachineModel, StandsAfter}
 use Rattle.msrp_core.specs.CoreJobs.{AreJobs, state_of}
 use Rattle.msrp_core.specs.Repeats.{CanRepeat, Polls, row_again, spin_again}
@@ -29,7 +29,7 @@ pub record Repeats (m : Inside) : Type 0 where
   pub since : ℕ
   pub released : m.jobs.ready.tick ≡ Some since
   pub before : since < m.tick
-  pub quiet : (t : ℕ) → t < m.tick + m.again → is_due m.jobs.ready t ≡ false
+  pub quiet : (t : ℕ) → t < m.tick + m.again → has_release_by m.jobs.ready t ≡ false
 
 -- the last row, which came after pre, polled in vain
 pub record Spins (m : Inside) (poll : Poll) : Type 0 where

@@ -3,7 +3,7 @@ ghost use Rattle.std.specs.Prelude.{◌≡◌, ◌<◌, ◌≤◌, ◌+◌, ◌�
 ghost use Rattle.std.specs.Option.{ForSome};
 ghost use Rattle.msrp_plan.specs.Plan.{units};
 ghost use Rattle.msrp_plan.specs.Stretches.{HasWork};
-ghost use Rattle.msrp_ready.specs.Ready.{is_due};
+ghost use Rattle.msrp_ready.specs.Ready.{has_release_by};
 ghost use Rattle.msrp_core.specs.Active.{ActiveJob, advanced};
 ghost use Rattle.msrp_core.specs.CoreJobs.{ActsFor, AreJobs, CanAct, Acts, IsRunning, active_in};
 ghost use Rattle.msrp_core.specs.Repeats.{CanRepeat, HasWorkLeft, Polls, kind_again};
@@ -22,7 +22,7 @@ pub(crate) struct Poll {
 impl<'a> Jobs<'a> {
     // How many ticks from this one on pass before a job of the core is released, as far as is known.
     fn quiet_ticks(&self, tick: u32) -> u32
-        ensures quiet { (t : ℕ) → 0 < result → t < tick + result → is_due self.now.ready t ≡ false }
+        ensures quiet { (t : ℕ) → 0 < result → t < tick + result → has_release_by self.now.ready t ≡ false }
         ensures within { 0 < result → tick + result ≤ self.now.plan.now.ticks }
     {
         let ticks = self.plan.ticks();
@@ -49,7 +49,7 @@ impl<'a> Jobs<'a> {
     #[inline(always)]
     pub(crate) fn repeats(&self, tick: u32, kind: Kind, job: Option<JobId>) -> u32
         requires { AreJobs self.now }
-        ensures quiet { (t : ℕ) → 0 < result → t < tick + result → is_due self.now.ready t ≡ false }
+        ensures quiet { (t : ℕ) → 0 < result → t < tick + result → has_release_by self.now.ready t ≡ false }
         ensures within { 0 < result → tick + result ≤ self.now.plan.now.ticks }
         ensures can { 0 < result → CanRepeat self.now kind job result }
     {

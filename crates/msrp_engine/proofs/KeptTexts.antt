@@ -1,8 +1,7 @@
 -- The texts that are kept of the rows that cores are known to make, as rows are judged.
-use Rattle.std.proofs.Common.{◌≡◌, ◌≢◌, ℕ, ◌<◌, ◌≤◌, ◌%◌, ◌==◌, Bool, true, false, List, Option, Some, None, IfSome, IfNone, ap, sym, ◌∙◌, subst, arith, eqb-true, slice_index_or, slice_set, refl}
+use Rattle.std.proofs.Common.{◌≡◌, ◌≢◌, ℕ, ◌<◌, ◌≤◌, ◌%◌, ◌==◌, [], Bool, true, false, List, Option, Some, None, IfSome, IfNone, ap, sym, ◌∙◌, subst, arith, eqb-true, slice_set, refl}
 use Rattle.std.proofs.Math.Nat.{mod-eq_of_lt}
 use Rattle.std.proofs.lemmas.Bool.{and_from, and_parts, eqb-false}
-use Rattle.std.proofs.lemmas.List.{get_or-set_other}
 use Rattle.msrp_plan.specs.Plan.{PlanModel}
 use Rattle.msrp_plan.specs.Stretches.{in_tick}
 use Rattle.msrp_plan.specs.WellFormed.{IsPlan}
@@ -51,34 +50,33 @@ kept_in_tick version plan text t r kept = record {
 }
 
 -- ---- one turn more, whose text is kept
-module _ (version : TextVersion) (plan : PlanModel) (old new : CoresModel) (before after : TextsModel) (was now : List Bool) (r : Row) (k : ℕ) (few : plan.cores ≤ 8) (low : k < plan.cores) (at : r.core.0 ≡ k) (leaves : Leaves old new r)
-    (own : slice_index_or now k false ≡ true → IsKept version plan (text_of_core after k) r) (others : (c : ℕ) → c % 8 ≢ k % 8 → text_of_core after c ≡ text_of_core before c) (flags : (c : ℕ) → c ≢ k → slice_index_or now c false ≡ slice_index_or was c false)
-    (keeps : KeepsKnown version plan old before was) where
-  by_core : (c : ℕ) → c < plan.cores → slice_index_or now c false ≡ true → (s : Row) → known_row new c ≡ Some s → (b : Bool) → (c == k) ≡ b → IsKept version plan (text_of_core after c) s
-  by_core c l flag s is true e =
+module _ (version : TextVersion) (plan : PlanModel) (old new : CoresModel) (before after : TextsModel) (r : Row) (k : ℕ) (few : plan.cores ≤ 8) (low : k < plan.cores) (at : r.core.0 ≡ k) (leaves : Leaves old new r)
+    (own : ¬ (text_of_core after k ≡ []) → IsKept version plan (text_of_core after k) r) (others : (c : ℕ) → c % 8 ≢ k % 8 → text_of_core after c ≡ text_of_core before c) (keeps : KeepsKnown version plan old before) where
+  by_core : (c : ℕ) → c < plan.cores → ¬ (text_of_core after c ≡ []) → (s : Row) → known_row new c ≡ Some s → (b : Bool) → (c == k) ≡ b → IsKept version plan (text_of_core after c) s
+  by_core c l some s is true e =
       let here : c ≡ k = eqb-true c k e in
       let next : IfSome (known_row new k) (λ next. next ≡ in_tick next.tick r) = subst (λ n. IfSome (known_row new n) (λ next. next ≡ in_tick next.tick r)) at leaves.own in
       let same : s ≡ in_tick s.tick r = subst (λ o. IfSome o (λ next. next ≡ in_tick next.tick r)) (ap (known_row new) (sym here) ∙ is) next in
-      let kept = own (subst (λ n. slice_index_or now n false ≡ true) here flag) in
+      let kept = own (subst (λ n. ¬ (text_of_core after n ≡ [])) here some) in
       subst (λ n. IsKept version plan (text_of_core after n) s) (sym here) (subst (IsKept version plan (text_of_core after k)) (sym same) (kept_in_tick version plan (text_of_core after k) s.tick r kept))
-  by_core c l flag s is false e =
+  by_core c l some s is false e =
       let ne : c ≢ k = eqb-false c k e in
       let apart : c % 8 ≢ k % 8 = λ h. ne (sym (mod-eq_of_lt (omega (arith, l, few))) ∙ (h ∙ mod-eq_of_lt (omega (arith, low, few)))) in
-      subst (λ t. IsKept version plan t s) (sym (others c apart)) (keeps c l (sym (flags c ne) ∙ flag) s (sym (leaves.others c (λ h. ne (h ∙ at))) ∙ is))
+      subst (λ t. IsKept version plan t s) (sym (others c apart)) (keeps c l (λ none. some (others c apart ∙ none)) s (sym (leaves.others c (λ h. ne (h ∙ at))) ∙ is))
 
-  pub keeps_on : KeepsKnown version plan new after now
-  keeps_on c l flag s is = by_core c l flag s is (c == k) refl
+  pub keeps_on : KeepsKnown version plan new after
+  keeps_on c l some s is = by_core c l some s is (c == k) refl
 
 -- what is known of the cores is what was
-pub keeps_same : (version : TextVersion) (plan other : PlanModel) (old new : CoresModel) (texts : TextsModel) (whole : List Bool) → other ≡ plan → new ≡ old → KeepsKnown version plan old texts whole → KeepsKnown version other new texts whole
-keeps_same version plan other old new texts whole p e keeps = subst (λ q. KeepsKnown version q new texts whole) (sym p) (subst (λ m. KeepsKnown version plan m texts whole) (sym e) keeps)
+pub keeps_same : (version : TextVersion) (plan other : PlanModel) (old new : CoresModel) (texts : TextsModel) → other ≡ plan → new ≡ old → KeepsKnown version plan old texts → KeepsKnown version other new texts
+keeps_same version plan other old new texts p e keeps = subst (λ q. KeepsKnown version q new texts) (sym p) (subst (λ m. KeepsKnown version plan m texts) (sym e) keeps)
 
 -- a turn that is known, if it is
-pub keeps_if : (version : TextVersion) (plan : PlanModel) (old new : CoresModel) (texts : TextsModel) (whole : List Bool) (k : ℕ) (o : Option Row) → plan.cores ≤ 8 → k < plan.cores → IfNone o (new ≡ old) → IfSome o (λ due. known_row old k ≡ Some due)
-    → IfSome o (λ due. due.core.0 ≡ k) → IfSome o (Leaves old new) → KeepsKnown version plan old texts whole → KeepsKnown version plan new texts whole
-keeps_if version plan old new texts whole k None few low none known at leaves keeps = keeps_same version plan plan old new texts whole refl none keeps
-keeps_if version plan old new texts whole k (Some due) few low none known at leaves keeps =
-    keeps_on version plan old new texts texts whole whole due k few low at leaves (λ flag. keeps k low flag due known) (λ c ne. refl) (λ c ne. refl) keeps
+pub keeps_if : (version : TextVersion) (plan : PlanModel) (old new : CoresModel) (texts : TextsModel) (k : ℕ) (o : Option Row) → plan.cores ≤ 8 → k < plan.cores → IfNone o (new ≡ old) → IfSome o (λ due. known_row old k ≡ Some due)
+    → IfSome o (λ due. due.core.0 ≡ k) → IfSome o (Leaves old new) → KeepsKnown version plan old texts → KeepsKnown version plan new texts
+keeps_if version plan old new texts k None few low none known at leaves keeps = keeps_same version plan plan old new texts refl none keeps
+keeps_if version plan old new texts k (Some due) few low none known at leaves keeps =
+    keeps_on version plan old new texts texts due k few low at leaves (λ some. keeps k low some due known) (λ c ne. refl) keeps
 
 -- no turn changes no core
 pub cores_if : (o : Option Row) (old : AuditorModel) (new : AuditorModel) → IfNone o (new ≡ old) → IfNone o (new.cores ≡ old.cores)
@@ -124,9 +122,8 @@ module _ (version : TextVersion) (plan : PlanModel) (before after : TextsModel) 
       made_kept version plan (text_of_core after k) due whole
       (subst (λ r. text_of_core after k ≡ after_tick version plan r) read (subst (λ q. text_of_core after k ≡ after_tick version q told) p (subst (λ w. text_of_core after k ≡ after_tick w before.plan told) v (subst (λ n. text_of_core after n ≡ after_tick before.version before.plan told) at_told here))))
 
-  pub shown_keeps : (was : List Bool) (old new : CoresModel) → plan.cores ≤ 8 → k < plan.cores → Leaves old new due → after ≡ record before { texts = slice_set before.texts (told.core.0 % 8) (after_tick before.version before.plan told) } → text_of_core after told.core.0 ≡ after_tick before.version before.plan told
-      → KeepsKnown version plan old before was → KeepsKnown version plan new after (slice_set was k true)
-  shown_keeps was old new few low leaves made here keeps =
-      keeps_on version plan old new before after was (slice_set was k true) due k few low at leaves (λ flag. shown_own here)
-      (λ c ne. ap (λ (t : TextsModel). text_of_core t c) made ∙ other_text before _ told.core.0 (after_tick before.version before.plan told) refl c (λ h. ne (h ∙ ap (λ n. n % 8) at_told)))
-      (λ c ne. get_or-set_other was k c true false ne) keeps
+  pub shown_keeps : (old new : CoresModel) → plan.cores ≤ 8 → k < plan.cores → Leaves old new due → after ≡ record before { texts = slice_set before.texts (told.core.0 % 8) (after_tick before.version before.plan told) } → text_of_core after told.core.0 ≡ after_tick before.version before.plan told
+      → KeepsKnown version plan old before → KeepsKnown version plan new after
+  shown_keeps old new few low leaves made here keeps =
+      keeps_on version plan old new before after due k few low at leaves (λ some. shown_own here)
+      (λ c ne. ap (λ (t : TextsModel). text_of_core t c) made ∙ other_text before _ told.core.0 (after_tick before.version before.plan told) refl c (λ h. ne (h ∙ ap (λ n. n % 8) at_told))) keeps

@@ -1,6 +1,6 @@
 //! The rows of a trace's text, each judged as it comes.
 ghost use Rattle.std.specs.Prelude.{◌≡◌, ◌<◌, ◌*◌, ◌/◌, ℕ, List, ◌++◌, ◌∷◌, [], IfSome, Some, None, Ok, Err, true, false, length, slice_index_or};
-ghost use Rattle.msrp_audit.specs.Audits.{Awaits, HasFed, IsCoreDue};
+ghost use Rattle.msrp_audit.specs.Audits.{Awaits, HasFed, IsDueInAudit};
 ghost use Rattle.msrp_plan.specs.Bytes.{source_failed};
 ghost use Rattle.msrp_plan.specs.WellFormed.{IsPlan};
 ghost use Rattle.msrp_plan.specs.declared.rows.Row.{Row as TraceRow};
@@ -9,10 +9,10 @@ ghost use Rattle.msrp_trace.specs.Laws.{as_read, is_short};
 ghost use Rattle.msrp_trace.specs.Reading.{Told};
 ghost use Rattle.msrp_trace.specs.Readers.{BeginsAt, GivesNext, IsAtTick, source_of};
 ghost use Rattle.msrp_engine.specs.Inside.Ahead.{BeginsDue, HasRoom, IsAhead, LooksAhead};
-ghost use Rattle.msrp_engine.specs.Inside.Kept.{KeepsKnown, KeepsRow};
+ghost use Rattle.msrp_trace.specs.Texts.{text_of_core};
+ghost use Rattle.msrp_engine.specs.Inside.Kept.{IsKept, KeepsKnown};
 
 use msrp_audit::Auditor;
-use msrp_plan::limits::MOST_CORES;
 use msrp_plan::{CoreId, Fault, Kind, Plan, Row};
 use msrp_trace::{RowTexts, TraceError, TraceReader};
 use std::io::Read;
@@ -65,22 +65,22 @@ const NO_ROW: Row = Row {
 
 /// The rows of a trace's text, each judged as it comes.
 ///
-/// The text tells first which core the next row is of. That core has its turn, so its one legal row is known, and the text of that is compared
-/// with the bytes that come. So nothing is chosen twice, and a row that is met isn't read field by field. As long as a core's rows differ in the
-/// tick alone its text is kept.
+/// Where the core that is expected is known to do its last row again, the text of that is compared with the bytes that come. Elsewhere the text
+/// tells first which core the next row is of. That core has its turn, so its one legal row is known, and its text is made and compared. So nothing
+/// is chosen twice, and a row that is met isn't read field by field. As long as a core's rows differ in the tick alone its text is kept.
 #[derive(Drop)]
 pub struct JudgedRows<'p, 't, T> {
     auditor: Auditor<'p>,
     rows: TraceReader<'t, T>,
     texts: RowTexts<'p>,
-    // Of which cores a text is kept. It is read as the row that it is the text of.
-    whole: [bool; MOST_CORES as usize],
     // The row of the last turn that was chosen anew.
     due: Row,
+    // Whether the rows of each tick came by the numbers of their cores so far.
+    in_order: bool,
     ghost plan: { rows.plan.now ≡ auditor.plan },
     ghost texts_plan: { texts.plan ≡ auditor.plan },
     ghost version: { texts.version ≡ rows.version },
-    ghost known: { KeepsKnown rows.version auditor.plan auditor.cores texts whole },
+    ghost known: { KeepsKnown rows.version auditor.plan auditor.cores texts },
 }
 
 impl<'p, 't, T: Read> JudgedRows<'p, 't, T> {
@@ -102,8 +102,8 @@ impl<'p, 't, T: Read> JudgedRows<'p, 't, T> {
             auditor,
             rows,
             texts,
-            whole: [false; MOST_CORES as usize],
             due: NO_ROW,
+            in_order: true,
         }
     }
 
@@ -114,39 +114,31 @@ impl<'p, 't, T: Read> JudgedRows<'p, 't, T> {
         &self.auditor
     }
 
-    // The turn of a core that isn't known from its last one. Its text is made.
+    // The core that is expected next: by the numbers of the cores, as long as they come so, and then by the digit that comes. Nothing rests on it.
     #[inline(always)]
-    fn turn_anew(&mut self, core: CoreId) -> Row
+    fn core_guessed(&self) -> CoreId {
+        let in_order = self.auditor.core_guessed();
+        if self.in_order {
+            return in_order;
+        }
+        self.rows.core_guessed().unwrap_or(in_order)
+    }
+
+    // The turn of a core: the row that is due of it. Its text is made.
+    #[inline(always)]
+    fn turn(&mut self, core: CoreId) -> Row
         requires accepted { IsPlan self.old.auditor.plan }
-        requires due { IsCoreDue self.old.auditor core.0 }
+        requires due { IsDueInAudit self.old.auditor core.0 }
         ensures plan { self.new.auditor.plan ≡ self.old.auditor.plan }
         ensures fed { self.new.auditor.fed ≡ self.old.auditor.fed }
         ensures awaits { (rows : List TraceRow) → HasFed self.old.auditor rows → Awaits self.new.auditor rows core.0 result }
         ensures rows { self.new.rows ≡ self.old.rows }
-        ensures kept { KeepsRow self.new.rows.version self.new.auditor.plan self.new.texts self.new.whole core.0 result }
+        ensures kept { IsKept self.new.rows.version self.new.auditor.plan (text_of_core self.new.texts core.0) result }
     {
         let due = self.auditor.turn_anew(core);
         let told = self.rows.as_read(due);
         self.texts.show(&told);
-        self.whole[core.0 as usize] = true;
         due
-    }
-
-    // The turn of a core: the row that is due of it.
-    #[inline(always)]
-    fn turn(&mut self, core: CoreId) -> Row
-        requires accepted { IsPlan self.old.auditor.plan }
-        requires due { IsCoreDue self.old.auditor core.0 }
-        ensures plan { self.new.auditor.plan ≡ self.old.auditor.plan }
-        ensures fed { self.new.auditor.fed ≡ self.old.auditor.fed }
-        ensures awaits { (rows : List TraceRow) → HasFed self.old.auditor rows → Awaits self.new.auditor rows core.0 result }
-        ensures rows { self.new.rows ≡ self.old.rows }
-        ensures kept { KeepsRow self.new.rows.version self.new.auditor.plan self.new.texts self.new.whole core.0 result }
-    {
-        match self.auditor.repeat(core) {
-            Some(due) => due,
-            None => self.turn_anew(core),
-        }
     }
 
     // A row that was read in its turn, against the one that is due.
@@ -179,49 +171,26 @@ impl<'p, 't, T: Read> JudgedRows<'p, 't, T> {
         }
     }
 
-    // Whether the next row, which is known to be of that tick and core, comes as the text that is kept of the core. It is accepted then, and else
-    // nothing is taken.
-    #[inline(always)]
-    fn meets(&mut self, tick: u32, core: CoreId) -> bool
-        requires accepted { IsPlan self.old.auditor.plan }
-        requires left { self.old.auditor.fed < self.old.auditor.plan.cores * self.old.auditor.plan.ticks }
-        requires core { core.0 < self.old.auditor.plan.cores }
-        requires short { is_short tick ≡ true }
-        requires here { IsAtTick tick self.old.rows }
-        ensures plan { self.new.auditor.plan ≡ self.old.auditor.plan }
-        ensures version { self.new.rows.version ≡ self.old.rows.version }
-        ensures due { self.new.due ≡ self.old.due }
-        ensures gives { result ≡ true → (due : TraceRow) (told : Told) → KeepsRow self.old.rows.version self.old.auditor.plan self.old.texts self.old.whole core.0 due → rows_left T.remaining self.old ≡ Some told → GivesNext told (Ok (Some (in_tick tick (as_read self.old.rows.version due)))) (rows_left T.remaining self.new) }
-        ensures fed { result ≡ true → (due : TraceRow) (rows : List TraceRow) → Awaits self.old.auditor rows core.0 due → tick ≡ due.tick → HasFed self.new.auditor (rows ++ in_tick tick (as_read self.old.rows.version due) ∷ []) × (self.new.auditor.fault ≡ None) }
-        ensures kept { result ≡ false → (told : Told) → rows_left T.remaining self.old ≡ Some told → rows_left T.remaining self.new ≡ Some told }
-        ensures same { result ≡ false → self.new.auditor ≡ self.old.auditor }
-    {
-        if self.whole[core.0 as usize] && self.rows.comes_behind(tick, &self.texts, core) {
-            self.auditor.accept();
-            return true;
-        }
-        false
-    }
-
-    // The next row, which is known to be of that tick and core, where the core is known to make its last row again and that comes. Its text is compared
-    // before the core has its turn. Elsewhere nothing is taken, and the core has its turn still to come.
+    // The next row, where it is the core's last one again, in that tick, and the core is known to make it. Its text is compared before the core has its
+    // turn. Elsewhere nothing is taken, and the core has its turn still to come.
     #[inline(always)]
     fn next_again(&mut self, tick: u32, core: CoreId) -> Option<Row>
         requires accepted { IsPlan self.old.auditor.plan }
-        requires due { IsCoreDue self.old.auditor core.0 }
         requires short { is_short tick ≡ true }
-        requires here { IsAtTick tick self.old.rows }
         ensures plan { self.new.auditor.plan ≡ self.old.auditor.plan }
         ensures gives { IfSome result (λ row. (told : Told) → rows_left T.remaining self.old ≡ Some told → GivesNext told (Ok (Some row)) (rows_left T.remaining self.new)) }
         ensures fed { IfSome result (λ row. (rows : List TraceRow) → HasFed self.old.auditor rows → tick ≡ length rows / self.old.auditor.plan.cores → HasFed self.new.auditor (rows ++ row ∷ []) × (self.new.auditor.fault ≡ None)) }
         ensures kept { result ≡ None → (told : Told) → rows_left T.remaining self.old ≡ Some told → rows_left T.remaining self.new ≡ Some told }
         ensures same { result ≡ None → self.new.auditor ≡ self.old.auditor }
-        ensures still { result ≡ None → IsAtTick tick self.new.rows }
+        ensures still { result ≡ None → IsAtTick tick self.old.rows → IsAtTick tick self.new.rows }
     {
-        if !self.auditor.repeats(core) || !self.whole[core.0 as usize] {
+        if !self.auditor.is_due(core) {
             return None;
         }
-        if !self.rows.comes_behind(tick, &self.texts, core) {
+        if !self.auditor.repeats(core) {
+            return None;
+        }
+        if !self.rows.comes(tick, &self.texts, core) {
             return None;
         }
         let Some(due) = self.auditor.repeat(core) else {
@@ -236,7 +205,7 @@ impl<'p, 't, T: Read> JudgedRows<'p, 't, T> {
     #[inline(never)]
     fn meets_turn(&mut self, tick: u32, core: CoreId) -> bool
         requires accepted { IsPlan self.old.auditor.plan }
-        requires due { IsCoreDue self.old.auditor core.0 }
+        requires due { IsDueInAudit self.old.auditor core.0 }
         requires short { is_short tick ≡ true }
         requires here { IsAtTick tick self.old.rows }
         ensures plan { self.new.auditor.plan ≡ self.old.auditor.plan }
@@ -250,7 +219,11 @@ impl<'p, 't, T: Read> JudgedRows<'p, 't, T> {
         let due = self.turn(core);
         // Made anew as a whole, so that no part of it is laid down before.
         self.due = due.in_tick(due.tick);
-        self.meets(tick, core)
+        if !self.rows.comes_behind(tick, &self.texts, core) {
+            return false;
+        }
+        self.auditor.accept();
+        true
     }
 
     // The next row, read field by field.
@@ -274,9 +247,9 @@ impl<'p, 't, T: Read> JudgedRows<'p, 't, T> {
 
     // What is known ahead of the next row, whose text is known to begin with that tick and core, where the core has its turn.
     #[inline(always)]
-    fn ahead_of(&mut self, tick: u32, core: CoreId) -> Ahead
+    fn turn_ahead(&mut self, tick: u32, core: CoreId) -> Ahead
         requires accepted { IsPlan self.old.auditor.plan }
-        requires due { IsCoreDue self.old.auditor core.0 }
+        requires due { IsDueInAudit self.old.auditor core.0 }
         requires short { is_short tick ≡ true }
         requires here { IsAtTick tick self.old.rows }
         ensures plan { self.new.auditor.plan ≡ self.old.auditor.plan }
@@ -285,9 +258,6 @@ impl<'p, 't, T: Read> JudgedRows<'p, 't, T> {
         ensures room { HasRoom result self.new.auditor }
         ensures begins { (told : Told) (rows : List TraceRow) → BeginsAt tick core told → HasFed self.old.auditor rows → tick ≡ length rows / self.old.auditor.plan.cores → BeginsDue told result }
     {
-        if let Some(row) = self.next_again(tick, core) {
-            return Ahead::Met(row);
-        }
         if self.meets_turn(tick, core) {
             return Ahead::Met(self.rows.as_read(self.due).in_tick(tick));
         }
@@ -306,10 +276,18 @@ impl<'p, 't, T: Read> JudgedRows<'p, 't, T> {
         ensures begins { (told : Told) (rows : List TraceRow) → rows_left T.remaining self.old ≡ Some told → HasFed self.old.auditor rows → self.old.auditor.fault ≡ None → BeginsDue told result }
     {
         let tick = self.auditor.tick();
-        match self.rows.core_ahead(tick) {
-            Some(core) if self.auditor.is_due(core) => self.ahead_of(tick, core),
-            _ => Ahead::Unknown,
+        let guessed = self.core_guessed();
+        if let Some(row) = self.next_again(tick, guessed) {
+            return Ahead::Met(row);
         }
+        let Some(core) = self.rows.core_ahead(tick) else {
+            return Ahead::Unknown;
+        };
+        if !self.auditor.is_due(core) {
+            return Ahead::Unknown;
+        }
+        self.in_order &= core == guessed;
+        self.turn_ahead(tick, core)
     }
 
     /// The next row, of which that is known ahead, and how it is judged.

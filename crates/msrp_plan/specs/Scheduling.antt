@@ -86,15 +86,15 @@ pub record HasNext (plan : PlanModel) (pre : List Row) (c : ℕ) : Type 0 where
   pub legal : IsLegal plan pre row
   pub carries : carries_its_ahead row ≡ true
 
--- after these turns core c may have the next one: it has had one in each full round of the cores
-pub record IsNextCore (plan : PlanModel) (pre : List ℕ) (c : ℕ) : Type 0 where
+-- the core is due after these turns: it has had one in each full round of the cores
+pub record IsDueInOrder (plan : PlanModel) (pre : List ℕ) (c : ℕ) : Type 0 where
   pub core : c < plan.cores
-  pub due : count_by (λ d. d == c) pre ≡ length pre / plan.cores
+  pub turns : count_by (λ d. d == c) pre ≡ length pre / plan.cores
 
 -- an order of turns: each core has one turn in each tick
 pub record IsOrder (plan : PlanModel) (order : List ℕ) : Type 0 where
   pub size : length order ≡ plan.cores * plan.ticks
-  pub each : EachAfter (IsNextCore plan) [] order
+  pub each : EachAfter (IsDueInOrder plan) [] order
 
 -- a legal run in that order whose queue rows carry how many stand ahead, and no other such run
 pub record HasOneRun (plan : PlanModel) (order : List ℕ) : Type 0 where

@@ -79,7 +79,9 @@ impl Plan {
         ensures stored { task_view (result.0.now, result.1.now) ≡ task_at self.now task.0 }
         ensures numbers { IsTask self.now (task_at self.now task.0) }
     {
-        self.parts.tasks.get_index(task.0 as usize).unwrap()
+        let number = task.0 as usize;
+        let name = &self.parts.tasks.keys().as_slice()[number];
+        (name, &self.parts.tasks[number])
     }
 
     /// The name of a task.

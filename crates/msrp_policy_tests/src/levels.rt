@@ -77,14 +77,14 @@ fn expect_cores(
 
 // Of a resource: whether it is global, its users, and at each core its ceiling, its longest section, and the bound on spinning.
 #[derive(Clone, Copy)]
-struct Due<'a> {
+struct Expected<'a> {
     res: ResId,
     global: bool,
     users: &'a [TaskId],
     cores: &'a [(u32, u32, u32)],
 }
 
-fn expect_resources(rt: &impl Abort, plan: &Plan, levels: &Levels, expected: &[Due<'_>])
+fn expect_resources(rt: &impl Abort, plan: &Plan, levels: &Levels, expected: &[Expected<'_>])
     requires { levels.now ≡ plan.now }
 {
     for due in expected {
@@ -100,7 +100,7 @@ fn expect(
     text: &[u8],
     tasks: &[(u32, u32)],
     tops: &[u32],
-    resources: &[Due<'_>],
+    resources: &[Expected<'_>],
 ) -> Result<(), Fail> {
     let plan = plan_of(alloc, text)?;
     let levels = Levels::of(alloc, &plan)?;
@@ -114,7 +114,7 @@ fn expect(
 fn two_levels_on_a_local_resource(rt: HostRuntime) -> Result<(), Fail> {
     let text =
         b"msrp,1\ncores,1\nticks,9\nresource,r\ntask,lo,0,20,10,0\nop,lock,r\nop,run,3\nop,unlock,r\ntask,hi,0,20,5,0\nop,lock,r\nop,run,1\nop,unlock,r\n";
-    let local = Due {
+    let local = Expected {
         res: R,
         global: false,
         users: &[TaskId(0), TaskId(1)],
@@ -128,7 +128,7 @@ fn two_levels_on_a_local_resource(rt: HostRuntime) -> Result<(), Fail> {
 fn a_global_resource_on_two_cores(rt: HostRuntime) -> Result<(), Fail> {
     let text =
         b"msrp,1\ncores,2\nticks,9\nresource,g\ntask,lo,0,20,10,0\nop,lock,g\nop,run,3\nop,unlock,g\ntask,hi,0,20,6,0\nop,run,1\ntask,other,1,20,10,0\nop,lock,g\nop,unlock,g\n";
-    let global = Due {
+    let global = Expected {
         res: R,
         global: true,
         users: &[TaskId(0), TaskId(2)],
@@ -142,13 +142,13 @@ fn a_global_resource_on_two_cores(rt: HostRuntime) -> Result<(), Fail> {
 fn a_local_resource_inside_a_global_one(rt: HostRuntime) -> Result<(), Fail> {
     let text =
         b"msrp,1\ncores,2\nticks,9\nresource,g\nresource,h\ntask,a,0,20,10,0\nop,lock,g\nop,lock,h\nop,unlock,h\nop,unlock,g\ntask,b,1,20,10,0\nop,lock,g\nop,unlock,g\n";
-    let outer = Due {
+    let outer = Expected {
         res: R,
         global: true,
         users: &[TaskId(0), TaskId(1)],
         cores: &[(1, 3, 2), (1, 1, 4)],
     };
-    let inner = Due {
+    let inner = Expected {
         res: Q,
         global: false,
         users: &[TaskId(0)],

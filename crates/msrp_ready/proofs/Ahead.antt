@@ -1,4 +1,4 @@
--- The head as a release would leave it: the first of the heap's first job and of those that are due.
+-- The head as a release would leave it: the first of the heap's first job and of those that it releases.
 use Rattle.std.proofs.Common.{◌≡◌, ℕ, ◌-◌, ◌<◌, ◌≤◌, true, false, List, [], ◌∷◌, ◌++◌, take, drop, length, get_or, Option, Some, None, refl, ap, sym, ◌∙◌, subst, inl, inr, arith}
 use Rattle.std.specs.Prelude.{IfSome, IfNone}
 use Rattle.std.specs.Cmp.{IsStrictWeakOrder}
@@ -83,7 +83,7 @@ first_joined (Some f) (Some k) jobs more is joined = record {
       | inl nobody ↦ absurd (omega (arith, nobody.1))
       | inr same ↦ Contains-append_left jobs more k (subst (Contains jobs) same is.one)
     ]
-    | inr due ↦ Contains-append_right jobs more k due
+    | inr new ↦ Contains-append_right jobs more k new
   ];
   first = bound_append k jobs more (bound_on k f jobs joined.first.0 is.first) joined.first.1;
 }
@@ -92,23 +92,23 @@ first_joined (Some f) (Some k) jobs more is joined = record {
 module _ (plan : PlanModel) (c : ℕ) (tick : Option ℕ) (calendar : List KeyedJob) (next : ℕ) (heap : HeapModel) (ok : AreReady plan c tick calendar next heap) (t after : ℕ) (no_earlier : ForSome tick (λ before. before ≤ t)) (lower : next ≤ after) (within : after ≤ length calendar)
     (released : All (λ k. k.key.release ≤ t) (drop next (take after calendar))) (later : (d : KeyedJob) → after < length calendar → t < (get_or calendar after d).key.release) where
   -- the heap with them
-  abbrev with_due : HeapModel
-  with_due = record heap { jobs = heap.jobs ++ drop next (take after calendar) }
+  abbrev with_released : HeapModel
+  with_released = record heap { jobs = heap.jobs ++ drop next (take after calendar) }
 
-  ready_with : AreReady plan c (Some t) calendar after with_due
-  ready_with = released_on plan c tick calendar next heap ok t after with_due no_earlier lower within (IsPermutation-refl with_due.jobs) released later refl (omega arith)
+  ready_with : AreReady plan c (Some t) calendar after with_released
+  ready_with = released_on plan c tick calendar next heap ok t after with_released no_earlier lower within (IsPermutation-refl with_released.jobs) released later refl (omega arith)
 
-  same_taken : without with_due.jobs (take after calendar) ≡ without heap.jobs (take next calendar)
-  same_taken = without_more plan c tick calendar next heap ok t after with_due no_earlier lower within (IsPermutation-refl with_due.jobs)
+  same_taken : without with_released.jobs (take after calendar) ≡ without heap.jobs (take next calendar)
+  same_taken = without_more plan c tick calendar next heap ok t after with_released no_earlier lower within (IsPermutation-refl with_released.jobs)
 
-  same_head : head (seen plan c calendar after with_due (Some t)) ≡ head (seen plan c calendar next heap (Some t))
+  same_head : head (seen plan c calendar after with_released (Some t)) ≡ head (seen plan c calendar next heap (Some t))
   same_head = ap (λ js. first_ready plan c t (is_among js)) same_taken
 
-  by_first : (r : Option KeyedJob) → IsFirstOf r with_due.jobs → option_map (λ k. k.job) r ≡ head (seen plan c calendar next heap (Some t))
-  by_first None is = sym (head_none plan c calendar after with_due (Some t) ready_with is.none) ∙ same_head
-  by_first (Some k) is = sym (head_some plan c calendar after with_due (Some t) ready_with k is.one is.first) ∙ same_head
+  by_first : (r : Option KeyedJob) → IsFirstOf r with_released.jobs → option_map (λ k. k.job) r ≡ head (seen plan c calendar next heap (Some t))
+  by_first None is = sym (head_none plan c calendar after with_released (Some t) ready_with is.none) ∙ same_head
+  by_first (Some k) is = sym (head_some plan c calendar after with_released (Some t) ready_with k is.one is.first) ∙ same_head
 
-  -- the heap's first job, and then those that are due
+  -- the heap's first job, and then those that it releases
   pub ahead : (o r : Option KeyedJob) → IsFirstOf o heap.jobs → IsFirstOf r (option_to_list o ++ take (after - next) (drop next calendar)) → option_map (λ k. k.job) r ≡ head (seen plan c calendar next heap (Some t))
   ahead o r is joined = by_first r (subst (λ js. IsFirstOf r (heap.jobs ++ js)) (between_slice next after calendar lower) (first_joined o r heap.jobs (take (after - next) (drop next calendar)) is joined))
 

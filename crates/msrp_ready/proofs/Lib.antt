@@ -5,6 +5,6 @@ pub mod Gathering
 pub mod Between
 pub mod Once
 pub mod Standing
-pub mod Due
+pub mod Releases
 pub mod Moving
 pub mod Ahead

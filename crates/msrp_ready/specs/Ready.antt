@@ -30,8 +30,8 @@ abbrev pub released : ReadyModel → ℕ
 released ready = count_by (λ j. has_come ready.tick (release ready.plan j)) (jobs_on ready.plan ready.core)
 
 -- a job of the core is released by this tick that isn't released yet
-abbrev pub is_due : ReadyModel → ℕ → Bool
-is_due ready t = list_any (λ j. has_come (Some t) (release ready.plan j) && not (has_come ready.tick (release ready.plan j))) (jobs_on ready.plan ready.core)
+abbrev pub has_release_by : ReadyModel → ℕ → Bool
+has_release_by ready t = list_any (λ j. has_come (Some t) (release ready.plan j) && not (has_come ready.tick (release ready.plan j))) (jobs_on ready.plan ready.core)
 
 -- the least job of the core that is released and not taken; none before the first tick
 abbrev pub head : ReadyModel → Option JobId

@@ -50,7 +50,7 @@ pub(crate) fn calendar_of(alloc: Global, plan: &Plan, core: CoreId) -> Result<Ve
 }
 
 /// The place of the first job of a calendar, from a place on, that isn't released by a tick.
-pub(crate) fn due_to(calendar: &[KeyedJob], from: usize, tick: u32) -> usize
+pub(crate) fn released_to(calendar: &[KeyedJob], from: usize, tick: u32) -> usize
     requires { from ≤ length calendar.now }
     ensures from { from ≤ result }
     ensures within { result ≤ length calendar.now }
@@ -90,7 +90,7 @@ pub(crate) fn release(calendar: &[KeyedJob], from: usize, tick: u32, heap: &mut 
     }
 }
 
-// Releases the jobs of a calendar that are due. Apart from the code of the ticks in which nothing is released, which are most.
+// Releases the jobs of a calendar that a tick releases. Apart from the code of the ticks in which nothing is released, which are most.
 #[inline(never)]
 fn release_some(calendar: &[KeyedJob], from: usize, tick: u32, heap: &mut Heap) -> usize
     requires from { from ≤ length calendar.now }
@@ -108,9 +108,9 @@ fn release_some(calendar: &[KeyedJob], from: usize, tick: u32, heap: &mut Heap) 
     ensures kept { heap.old.compared ≤ heap.new.compared }
     ensures counted { result ≤ from + 1 + (heap.new.compared - heap.old.compared) }
 {
-    let until = due_to(calendar, from, tick);
-    let due = &calendar[from..until];
-    for job in due {
+    let until = released_to(calendar, from, tick);
+    let released = &calendar[from..until];
+    for job in released {
         heap.push(*job);
     }
     until

@@ -3,9 +3,9 @@ ghost use Rattle.std.specs.Prelude.{◌≡◌, ◌<◌, ◌≤◌, ◌+◌, ◌-
 ghost use Rattle.std.specs.Option.{ForSome};
 ghost use Rattle.msrp_plan.specs.Jobs.{is_job};
 ghost use Rattle.msrp_plan.specs.declared.ids.JobId.{JobId as Job};
-ghost use Rattle.msrp_ready.specs.Ready.{head, is_among, is_due, released};
+ghost use Rattle.msrp_ready.specs.Ready.{head, is_among, has_release_by, released};
 
-use crate::calendar::{calendar_of, due_to, release};
+use crate::calendar::{calendar_of, release, released_to};
 use crate::heap::Heap;
 use crate::keyed::{KeyedJob, first_of};
 use msrp_plan::{CoreId, JobId, Memory, Plan};
@@ -76,8 +76,8 @@ impl<'a> Ready<'a> {
 
     /// Whether a job of the core is released by this tick that isn't released yet. It compares no keys.
     #[inline(always)]
-    pub fn is_due(&self, tick: u32) -> bool
-        ensures { result ≡ is_due self.now tick }
+    pub fn has_release_by(&self, tick: u32) -> bool
+        ensures { result ≡ has_release_by self.now tick }
     {
         self.next < self.calendar.len() && self.calendar[self.next].key.release <= u64::from(tick)
     }
@@ -85,9 +85,9 @@ impl<'a> Ready<'a> {
     /// The tick in which the next job of the core is released, if one is left. It compares no keys.
     #[inline(always)]
     pub fn next_release(&self) -> Option<u64>
-        ensures none { IfNone result ((tick : ℕ) → is_due self.now tick ≡ false) }
-        ensures due { IfSome result (λ next. is_due self.now next ≡ true) }
-        ensures first { IfSome result (λ next. (tick : ℕ) → tick < next → is_due self.now tick ≡ false) }
+        ensures none { IfNone result ((tick : ℕ) → has_release_by self.now tick ≡ false) }
+        ensures comes { IfSome result (λ next. has_release_by self.now next ≡ true) }
+        ensures first { IfSome result (λ next. (tick : ℕ) → tick < next → has_release_by self.now tick ≡ false) }
     {
         if self.next < self.calendar.len() {
             Some(self.calendar[self.next].key.release)
@@ -113,11 +113,11 @@ impl<'a> Ready<'a> {
 
     // The head as a release to a tick would leave it, apart from the code of the ticks in which nothing is released.
     #[inline(never)]
-    fn head_of_due(&self, tick: u32) -> Option<JobId>
+    fn head_of_released(&self, tick: u32) -> Option<JobId>
         requires { ForSome self.now.tick (λ before. before ≤ tick) }
         ensures { result ≡ head (record self.now { tick = Some tick }) }
     {
-        let until = due_to(&self.calendar, self.next, tick);
+        let until = released_to(&self.calendar, self.next, tick);
         let first = first_of(self.heap.first(), &self.calendar[self.next..until])?;
         Some(first.job)
     }
@@ -129,8 +129,8 @@ impl<'a> Ready<'a> {
         requires { ForSome self.now.tick (λ before. before ≤ tick) }
         ensures { result ≡ head (record self.now { tick = Some tick }) }
     {
-        if self.is_due(tick) {
-            self.head_of_due(tick)
+        if self.has_release_by(tick) {
+            self.head_of_released(tick)
         } else {
             self.head()
         }

@@ -2,8 +2,8 @@
 use Rattle.std.proofs.Common.{◌≡◌, ℕ, ◌&&◌, not, List, [], Some, ap, sym, ◌∙◌, subst, length, slice_get}
 use Rattle.std.proofs.lemmas.List.Elements.{All-contains, All-from_recursion}
 use Rattle.msrp_plan.specs.Plan.{PlanModel}
-use Rattle.msrp_plan.specs.Jobs.{done, is_finished, is_started, jobs_on}
-use Rattle.msrp_plan.specs.Choice.{head, is_before, running}
+use Rattle.msrp_plan.specs.Jobs.{is_finished, is_started, jobs_on}
+use Rattle.msrp_plan.specs.Choice.{is_before}
 use Rattle.msrp_plan.specs.Logs.{log_of}
 use Rattle.msrp_plan.specs.States.{JobState, state_after}
 use Rattle.msrp_plan.specs.declared.rows.Row.{Row}

@@ -30,12 +30,11 @@ use Rattle.msrp_plan.proofs.Jobs.JobTests.{same_is}
 use Rattle.msrp_plan.proofs.Legality.Locality.{AreOwn, chosen_local, action_local}
 use Rattle.msrp_plan.proofs.Legality.LegalRows.{IsTurn, DoesUnit, turn_of, turn_core, legal_turn, legal_due, legal_reply, idle_res}
 use Rattle.msrp_plan.proofs.Queues.QueueLocks.{own_from_legal}
-use Rattle.msrp_plan.proofs.Runs.CoreRuns.{due_by_log}
 use Rattle.msrp_plan.proofs.Runs.RoundRobin.{in_turn_of, quiet_reply}
-use Rattle.msrp_plan.proofs.Scheduling.NextRow.{next_row}
+use Rattle.msrp_plan.proofs.Scheduling.NextRow.{next_row, turns_when_due}
 use Rattle.msrp_plan.proofs.Scheduling.Waiters.{stands_in}
 use Rattle.msrp_core.specs.Machine.{MachineModel, StandsAfter}
-use Rattle.msrp_sim.specs.Cores.{CoresModel, AreCores, StandFor, IsDueAfter, IsNextRow, IsAnswered, kind_told, ahead_told}
+use Rattle.msrp_sim.specs.Cores.{CoresModel, AreCores, StandFor, IsDueInRun, IsNextRow, IsAnswered, kind_told, ahead_told}
 use Rattle.msrp_sim.specs.Served.{IsTicketed}
 use Rattle.msrp_sim.specs.Serving.{queue_of, ticket_of, waiting, is_served}
 use Rattle.msrp_sim.specs.declared.tickets.Queues.{Queues}
@@ -130,23 +129,20 @@ record IsGood (plan : PlanModel) (rows : List Row) (r : Row) : Type 0 where
   reply : is_fifo_reply rows r ≡ true
   carries : carries_its_ahead r ≡ true
 
-module _ (m : CoresModel) (rows : List Row) (c : ℕ) (asks r : Row) (ok : IsPlan m.plan) (stands : StandFor m rows) (due : IsDueAfter m.plan rows c) (turn : IsCoreTurn m.plan c (log_of c rows) asks) (told : IsAnswered m.queues asks r) where
+module _ (m : CoresModel) (rows : List Row) (c : ℕ) (asks r : Row) (ok : IsPlan m.plan) (stands : StandFor m rows) (due : IsDueInRun m.plan rows c) (turn : IsCoreTurn m.plan c (log_of c rows) asks) (told : IsAnswered m.queues asks r) where
   are_own : AreOwn m.plan rows
   are_own = own_from_legal m.plan [] rows stands.start.each
 
   is_turn : IsTurn m.plan rows asks
   is_turn = turn_of m.plan rows asks turn.own (chosen_local m.plan c rows asks are_own turn) (action_local m.plan c rows asks are_own turn)
 
-  had : had_turn c (length rows / m.plan.cores) rows ≡ false
-  had = due_by_log m.plan rows c stands.start.each due.core due.due
-
   at_tick : asks.tick ≡ length rows / m.plan.cores
-  at_tick = turn.tick ∙ due.due
+  at_tick = turn.tick ∙ turns_when_due m.plan rows c ok stands.start.each due.turn
 
   -- who polls stands in the queue, since its core has a legal row next
   waits : (x : JobId) (g : ResId) → asks.job ≡ Some x → (does : DoesUnit m.plan rows x asks) → does.op ≡ LockUnit g → is_global_unit m.plan does.op ≡ true → is_queued rows x ≡ true → stands_in (fifo g.0 rows) x ≡ true
   waits x g job does is glob queued =
-      let next = next_row m.plan rows c ok stands.start.each (record { core = due.core; once = had }) in
+      let next = next_row m.plan rows c ok stands.start.each due.turn in
       let w = next.row in
       let w_turn = legal_turn m.plan rows w next.legal in
       let same : w.job ≡ Some x = w_turn.job
@@ -221,7 +217,7 @@ module _ (m : CoresModel) (rows : List Row) (c : ℕ) (asks r : Row) (ok : IsPla
         core = core;
         legal = record {
           turn = in_turn_of r.tick (length rows / m.plan.cores) (nat_lt r.core.0 m.plan.cores) (had_turn r.core.0 r.tick rows) tick
-              (ap (λ n. nat_lt n m.plan.cores) core ∙ lt-ltb c m.plan.cores due.core) (ap (λ n. had_turn n r.tick rows) core ∙ (ap (λ t. had_turn c t rows) tick ∙ had));
+              (ap (λ n. nat_lt n m.plan.cores) core ∙ lt-ltb c m.plan.cores due.turn.core) (ap (λ n. had_turn n r.tick rows) core ∙ (ap (λ t. had_turn c t rows) tick ∙ due.turn.once));
           own = ap (λ (k : CoreId). is_on_core m.plan k.0 r.job) told.core ∙ (ap (is_on_core m.plan asks.core.0) told.job ∙ turn.own);
           chosen = ap (λ j. same_choice j (choice m.plan r.core.0 r.tick rows)) told.job
               ∙ (ap (λ (k : CoreId). same_choice asks.job (choice m.plan k.0 r.tick rows)) told.core
@@ -251,15 +247,15 @@ left m c x now cores is low value ticks =
     subst P (sym is) ticks x (has_machine m c x now cores is low value)
 
 -- a core that is due has a tick left
-pub tick_left : (m : CoresModel) (rows : List Row) (c : ℕ) (x : MachineModel) → AreCores m → slice_get m.machines c ≡ Some x → StandFor m rows → IsDueAfter m.plan rows c → x.tick < x.plan.ticks
+pub tick_left : (m : CoresModel) (rows : List Row) (c : ℕ) (x : MachineModel) → AreCores m → slice_get m.machines c ≡ Some x → StandFor m rows → IsDueInRun m.plan rows c → x.tick < x.plan.ticks
 tick_left m rows c x cores has stands due =
     let a = (stands.logs c x has).tick in
-    let b = due.due in
+    let b = turns_when_due m.plan rows c cores.accepted stands.start.each due.turn in
     let d = before_last m.plan.cores m.plan.ticks (length rows) due.left in
     subst (λ (p : PlanModel). x.tick < p.ticks) (sym (cores.each c x has).same_plan) (omega (arith, a, b, d))
 
 -- and the row of its machine, answered, is the next one
-pub foreseen : (m : CoresModel) (rows : List Row) (c : ℕ) (x : MachineModel) (asks r : Row) → AreCores m → slice_get m.machines c ≡ Some x → StandFor m rows → IsDueAfter m.plan rows c
+pub foreseen : (m : CoresModel) (rows : List Row) (c : ℕ) (x : MachineModel) (asks r : Row) → AreCores m → slice_get m.machines c ≡ Some x → StandFor m rows → IsDueInRun m.plan rows c
     → ((log : List Row) → StandsAfter x log → IsCoreTurn x.plan x.core log asks) → IsAnswered m.queues asks r → IsNextRow m.plan rows c r
 foreseen m rows c x asks r cores has stands due row told =
     let own = cores.each c x has in

@@ -8,15 +8,15 @@ use Rattle.std.proofs.lemmas.List.{get_or-set_same, get_or-set_other, length-set
 use Rattle.std.proofs.lemmas.List.Sums.{sum_by_push}
 use Rattle.msrp_plan.specs.Plan.{PlanModel}
 use Rattle.msrp_plan.specs.Runs.{EachAfter}
-use Rattle.msrp_plan.specs.Scheduling.{IsNextCore, IsOrder}
+use Rattle.msrp_plan.specs.Scheduling.{IsDueInOrder, IsOrder}
 use Rattle.msrp_plan.proofs.Lists.Prefixes.{each_push, each_at}
 use Rattle.msrp_sim.specs.TurnCounts.{AreCounted}
 
 -- each turn of an order is of a core that is due
-pub next_in : (plan : PlanModel) (order : List ℕ) (n : ℕ) → IsOrder plan order → n < length order → IsNextCore plan (take n order) (get_or order n 0)
+pub next_in : (plan : PlanModel) (order : List ℕ) (n : ℕ) → IsOrder plan order → n < length order → IsDueInOrder plan (take n order) (get_or order n 0)
 next_in plan order n o l =
-    each_at (IsNextCore plan) [] (take n order) (get_or order n 0) (drop (suc n) order)
-    (subst (EachAfter (IsNextCore plan) []) (sym (take-append-drop n order) ∙ ap (λ l. take n order ++ l) (drop-cons order n 0 l)) o.each)
+    each_at (IsDueInOrder plan) [] (take n order) (get_or order n 0) (drop (suc n) order)
+    (subst (EachAfter (IsDueInOrder plan) []) (sym (take-append-drop n order) ∙ ap (λ l. take n order ++ l) (drop-cons order n 0 l)) o.each)
 
 -- the first n turns, and one more
 pub take_more : (order : List ℕ) (n : ℕ) → n < length order → take (n + 1) order ≡ take n order ++ get_or order n 0 ∷ []
@@ -55,10 +55,10 @@ counted_more plan cores turns n c h l at most low due = record {
             let none = no_more (get_or cores n 0 == d) miss in
             omega (arith, a, b, e, f, none)
       ];
-  each = subst (EachAfter (IsNextCore plan) []) (sym (take_more cores n l)) (each_push (IsNextCore plan) [] (take n cores) (get_or cores n 0) h.each
+  each = subst (EachAfter (IsDueInOrder plan) []) (sym (take_more cores n l)) (each_push (IsDueInOrder plan) [] (take n cores) (get_or cores n 0) h.each
       (record {
         core = subst (λ k. k < plan.cores) (sym at) low;
-        due =
+        turns =
             let e = h.counts c (omega (arith, most, low)) in
             ap (λ k. count_by (λ d. d == k) (take n cores)) at ∙ (sym e ∙ (due ∙ ap (λ k. k / plan.cores) (sym (length-take-le n cores (omega (arith, l))))));
       }));
@@ -67,5 +67,5 @@ counted_more plan cores turns n c h l at most low due = record {
 -- a turn of a core that isn't due is in no order
 pub due_in : (plan : PlanModel) (cores turns : List ℕ) (n c : ℕ) → AreCounted plan cores n turns → plan.cores ≤ 8 → n < length cores → get_or cores n 0 ≡ c → IsOrder plan cores → (c < plan.cores) × (get_or turns c 0 ≡ n / plan.cores)
 due_in plan cores turns n c h most l at o =
-    let next : IsNextCore plan (take n cores) c = subst (IsNextCore plan (take n cores)) at (next_in plan cores n o l) in
-    (next.core, h.counts c (let k = next.core in omega (arith, k, most)) ∙ (next.due ∙ ap (λ k. k / plan.cores) (length-take-le n cores (omega (arith, l)))))
+    let next : IsDueInOrder plan (take n cores) c = subst (IsDueInOrder plan (take n cores)) at (next_in plan cores n o l) in
+    (next.core, h.counts c (let k = next.core in omega (arith, k, most)) ∙ (next.turns ∙ ap (λ k. k / plan.cores) (length-take-le n cores (omega (arith, l)))))

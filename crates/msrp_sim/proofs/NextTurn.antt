@@ -7,13 +7,16 @@ use Rattle.std.proofs.lemmas.List.Folds.{list_all-append}
 use Rattle.msrp_plan.specs.Plan.{PlanModel}
 use Rattle.msrp_plan.specs.Aheads.{carries_its_ahead, carries_ahead}
 use Rattle.msrp_plan.specs.Logs.{core_order, log_of}
-use Rattle.msrp_plan.specs.Runs.{IsLegal, IsRunStart}
-use Rattle.msrp_plan.specs.Scheduling.{IsNextCore, IsOrder}
+use Rattle.msrp_plan.specs.Runs.{IsRunStart}
+use Rattle.msrp_plan.specs.Scheduling.{IsDueInOrder, IsOrder}
 use Rattle.msrp_plan.specs.declared.rows.Row.{Row}
+use Rattle.msrp_plan.proofs.Runs.CoreRuns.{due_by_log}
 use Rattle.msrp_plan.proofs.Scheduling.Orders.{turns_of}
 use Rattle.msrp_core.specs.Machine.{MachineModel}
-use Rattle.msrp_sim.specs.Cores.{CoresModel, StandFor, IsDueAfter, IsNextRow, IsAs}
+use Rattle.msrp_sim.specs.Cores.{CoresModel, IsDueInRun, IsAs, MakesNext, StandOn}
+use Rattle.msrp_sim.specs.SimView.{sim_view}
 use Rattle.msrp_sim.specs.Simulated.{SimModel, HasMade, IsRunIn}
+use Rattle.msrp_sim.specs.declared.simulation.Simulation.TheInside.{Inside}
 use Rattle.msrp_sim.proofs.Given.{next_in, take_more}
 use Rattle.msrp_sim.proofs.Rounds.{before_last}
 
@@ -25,13 +28,17 @@ told (Some n) = refl
 as_itself : (r : Row) → IsAs r r
 as_itself r = record { core = refl; kind = refl; job = refl; res = refl; ahead = told r.ahead }
 
+-- ---- turns are left, as the fields of a simulation tell
+pub turns_left : (s : Inside) (now : SimModel) → sim_view s ≡ now → now.turn < now.plan.cores * now.plan.ticks → (sim_view s).turn < s.plan.now.cores * s.plan.now.ticks
+turns_left s now is = subst (λ (x : SimModel). x.turn < x.plan.cores * x.plan.ticks) (sym is)
+
 -- ---- the core that has it
 module _ (s : SimModel) (rows : List Row) (c : ℕ) (order : IsOrder s.plan s.order) (l : s.turn < s.plan.cores * s.plan.ticks) (at : c ≡ get_or s.order s.turn 0) (made : HasMade s rows) where
   within : s.turn < length s.order
   within = let e = order.size in omega (arith, e, l)
 
-  next_core : IsNextCore s.plan (core_order rows) c
-  next_core = subst (λ k. IsNextCore s.plan (core_order rows) k) (sym at) (subst (λ p. IsNextCore s.plan p (get_or s.order s.turn 0)) (sym made.order) (next_in s.plan s.order s.turn order within))
+  next_core : IsDueInOrder s.plan (core_order rows) c
+  next_core = subst (λ k. IsDueInOrder s.plan (core_order rows) k) (sym at) (subst (λ p. IsDueInOrder s.plan p (get_or s.order s.turn 0)) (sym made.order) (next_in s.plan s.order s.turn order within))
 
   made_length : length (core_order rows) ≡ s.turn
   made_length = ap length made.order ∙ length-take-le s.turn s.order (let w = within in omega (arith, w))
@@ -40,14 +47,17 @@ module _ (s : SimModel) (rows : List Row) (c : ℕ) (order : IsOrder s.plan s.or
   rows_length = sym (length-map rows (λ (r : Row). r.core.0)) ∙ made_length
 
   turns_due : length (log_of c rows) ≡ length rows / s.plan.cores
-  turns_due = sym (turns_of rows c) ∙ (next_core.due ∙ ap (λ n. n / s.plan.cores) (length-map rows (λ (r : Row). r.core.0)))
+  turns_due = sym (turns_of rows c) ∙ (next_core.turns ∙ ap (λ n. n / s.plan.cores) (length-map rows (λ (r : Row). r.core.0)))
 
   pub low_core : c < s.cores.plan.cores
   low_core = subst (λ (p : PlanModel). c < p.cores) (sym made.plan) next_core.core
 
   -- it is due
-  pub is_due : IsDueAfter s.cores.plan rows c
-  is_due = subst (λ p. IsDueAfter p rows c) (sym made.plan) (record { core = next_core.core; left = let e = rows_length in omega (arith, e, l); due = turns_due })
+  pub is_due : IsDueInRun s.cores.plan rows c
+  is_due = record {
+    turn = record { core = low_core; once = due_by_log s.cores.plan rows c made.stands.start.each low_core (turns_due ∙ ap (λ (p : PlanModel). length rows / p.cores) (sym made.plan)) };
+    left = subst (λ (p : PlanModel). length rows < p.cores * p.ticks) (sym made.plan) (let e = rows_length in omega (arith, e, l));
+  }
 
   -- a tick is left to it
   pub tick_left : (x : MachineModel) → slice_get s.cores.machines c ≡ Some x → x.tick < s.cores.plan.ticks
@@ -59,8 +69,7 @@ module _ (s : SimModel) (rows : List Row) (c : ℕ) (order : IsOrder s.plan s.or
 
   -- and its row goes on the run
   pub made_turn : (after : CoresModel) (r : Row) (n : ℕ) → n ≡ s.turn + 1 → after.plan ≡ s.cores.plan
-      → ((before : List Row) → StandFor s.cores before → IsDueAfter s.cores.plan before c → IsNextRow s.cores.plan before c r)
-      → ((before : List Row) (row : Row) → StandFor s.cores before → IsDueAfter s.cores.plan before c → IsAs r row → IsLegal s.cores.plan before row → StandFor after (before ++ row ∷ []))
+      → MakesNext s.cores c r → StandOn s.cores after c r
       → HasMade (record { plan = s.plan; order = s.order; turn = n; cores = after }) (rows ++ r ∷ [])
   made_turn after r n next plan is stands =
       let row = is rows made.stands is_due in

@@ -1,13 +1,12 @@
 -- A core's turn that is known from its last one, and what a turn leaves known.
-use Rattle.std.proofs.Common.{◌≡◌, ℕ, ◌<◌, ◌++◌, ◌∷◌, [], Bool, true, false, cond, List, Option, Some, None, IfSome, IfNone, set, slice_get, slice_set, refl, ap, sym, ◌∙◌, subst}
+use Rattle.std.proofs.Common.{◌≡◌, ℕ, ◌<◌, Bool, true, false, cond, Option, Some, None, IfSome, IfNone, set, slice_get, slice_set, refl, ap, sym, ◌∙◌, subst}
 use Rattle.std.specs.Option.{is_some, option_or}
 use Rattle.std.proofs.lemmas.List.{set-get_or}
 use Rattle.std.proofs.lemmas.Option.{get_or_from_slice_get, none-some}
-use Rattle.msrp_plan.specs.Runs.{IsLegal}
 use Rattle.msrp_plan.specs.Stretches.{in_tick}
 use Rattle.msrp_plan.specs.declared.rows.Row.{Row}
 use Rattle.msrp_core.specs.Machine.{MachineModel, next_known}
-use Rattle.msrp_sim.specs.Cores.{CoresModel, AreCores, StandFor, IsDueAfter, IsNextRow, IsAs, TakesTurn, Leaves, again_of, known_row}
+use Rattle.msrp_sim.specs.Cores.{CoresModel, AreCores, TakesTurn, Leaves, MakesNext, StandOn, again_of, known_row}
 use Rattle.msrp_sim.specs.TurnPorts.{HasRepeated, is_granted, unless_granted}
 use Rattle.msrp_sim.specs.declared.tickets.Queues.{Queues}
 use Rattle.msrp_sim.proofs.Keeping.{cores_kept}
@@ -82,11 +81,11 @@ leaves_if m c x y None cores has t = tt
 leaves_if m c x y (Some r) cores has t = leaves m (with_machine m c y) c r cores (takes m c x y r has t)
 
 pub next_if : (m : CoresModel) (c : ℕ) (x y : MachineModel) (o : Option Row) → AreCores m → slice_get m.machines c ≡ Some x → IfSome o (HasRepeated m.queues x y)
-    → IfSome o (λ due. (rows : List Row) → StandFor m rows → IsDueAfter m.plan rows c → IsNextRow m.plan rows c due)
+    → IfSome o (MakesNext m c)
 next_if m c x y None cores has t = tt
 next_if m c x y (Some r) cores has t = λ rows stands due. next_legal m (with_machine m c y) c r rows cores stands due (takes m c x y r has t)
 
 pub stand_if : (m : CoresModel) (c : ℕ) (x y : MachineModel) (o : Option Row) → AreCores m → slice_get m.machines c ≡ Some x → IfSome o (HasRepeated m.queues x y)
-    → IfSome o (λ due. (rows : List Row) (row : Row) → StandFor m rows → IsDueAfter m.plan rows c → IsAs due row → IsLegal m.plan rows row → StandFor (with_machine m c y) (rows ++ row ∷ []))
+    → IfSome o (StandOn m (with_machine m c y) c)
 stand_if m c x y None cores has t = tt
 stand_if m c x y (Some r) cores has t = λ rows row stands due like legal. stand_push m (with_machine m c y) c r row rows cores stands due (takes m c x y r has t) like legal

@@ -11,7 +11,7 @@ use Rattle.std.proofs.lemmas.Nat.{div-mul-add, mod-mul-add}
 use Rattle.msrp_plan.specs.Plan.{PlanModel}
 use Rattle.msrp_plan.specs.Runs.{EachAfter}
 use Rattle.msrp_plan.specs.Logs.{ascending}
-use Rattle.msrp_plan.specs.Scheduling.{IsNextCore, IsOrder}
+use Rattle.msrp_plan.specs.Scheduling.{IsDueInOrder, IsOrder}
 use Rattle.msrp_plan.proofs.Lists.Prefixes.{each_push}
 use Rattle.msrp_plan.proofs.Lists.Ranges.{flat_more, flat_length}
 use Rattle.msrp_sim.specs.Orders.{turns_by, falling, rotating}
@@ -56,7 +56,7 @@ tick_more core m t = append-nil (flat_map (λ t. map (core t) (range_with_len 0 
 -- so far each turn was of a core that was due, and each core has had a turn in each full tick, and in this one where it has
 -- passed
 record IsReached (plan : PlanModel) (core place : ℕ → ℕ → ℕ) (t i : ℕ) : Type 0 where
-  each : EachAfter (IsNextCore plan) [] (first_turns core plan.cores t i)
+  each : EachAfter (IsDueInOrder plan) [] (first_turns core plan.cores t i)
   counts : (c : ℕ) → c < plan.cores → count_by (λ d. d == c) (first_turns core plan.cores t i) ≡ t + passed (place t c) i
 
 -- the turn of a place is its core's
@@ -76,10 +76,10 @@ count_turn m core place t i c round l lc = elim (cases_Bool (core t i == c)) [
 ]
 
 -- the next turn is of a core that is due
-next_turn : (plan : PlanModel) (core place : ℕ → ℕ → ℕ) (t i : ℕ) → IsRound plan.cores core place → i < plan.cores → IsReached plan core place t i → IsNextCore plan (first_turns core plan.cores t i) (core t i)
+next_turn : (plan : PlanModel) (core place : ℕ → ℕ → ℕ) (t i : ℕ) → IsRound plan.cores core place → i < plan.cores → IsReached plan core place t i → IsDueInOrder plan (first_turns core plan.cores t i) (core t i)
 next_turn plan core place t i round l h = record {
   core = round.below t i l;
-  due =
+  turns =
       let a = h.counts (core t i) (round.below t i l) in
       let p = round.back t i l in
       let b : passed (place t (core t i)) i ≡ 0 = grind (arith, nat_tests, p) in
@@ -89,7 +89,7 @@ next_turn plan core place t i round l h = record {
 
 reached_turn : (plan : PlanModel) (core place : ℕ → ℕ → ℕ) (t i : ℕ) → IsRound plan.cores core place → i < plan.cores → IsReached plan core place t i → IsReached plan core place t (i + 1)
 reached_turn plan core place t i round l h = record {
-  each = subst (EachAfter (IsNextCore plan) []) (sym (turn_more core plan.cores t i)) (each_push (IsNextCore plan) [] (first_turns core plan.cores t i) (core t i) h.each (next_turn plan core place t i round l h));
+  each = subst (EachAfter (IsDueInOrder plan) []) (sym (turn_more core plan.cores t i)) (each_push (IsDueInOrder plan) [] (first_turns core plan.cores t i) (core t i) h.each (next_turn plan core place t i round l h));
   counts = λ c lc.
       let a = ap (count_by (λ d. d == c)) (turn_more core plan.cores t i) in
       let b = sum_by_push (same c) (first_turns core plan.cores t i) (core t i) in
@@ -100,7 +100,7 @@ reached_turn plan core place t i round l h = record {
 
 reached_tick : (plan : PlanModel) (core place : ℕ → ℕ → ℕ) (t : ℕ) → IsRound plan.cores core place → IsReached plan core place t plan.cores → IsReached plan core place (t + 1) 0
 reached_tick plan core place t round h = record {
-  each = subst (EachAfter (IsNextCore plan) []) (sym (tick_more core plan.cores t)) h.each;
+  each = subst (EachAfter (IsDueInOrder plan) []) (sym (tick_more core plan.cores t)) h.each;
   counts = λ c lc.
       let a = ap (count_by (λ d. d == c)) (tick_more core plan.cores t) in
       let b = h.counts c lc in
@@ -122,7 +122,7 @@ reached plan core place (suc t) round = subst (λ s. IsReached plan core place s
 pub order_by : (plan : PlanModel) (core place : ℕ → ℕ → ℕ) → IsRound plan.cores core place → IsOrder plan (turns_by core plan)
 order_by plan core place round = record {
   size = ticks_length core plan.cores plan.ticks ∙ mul_comm plan.ticks plan.cores;
-  each = subst (EachAfter (IsNextCore plan) []) (append-nil (turns_by core plan)) (reached plan core place plan.ticks round).each;
+  each = subst (EachAfter (IsDueInOrder plan) []) (append-nil (turns_by core plan)) (reached plan core place plan.ticks round).each;
 }
 
 -- ---- one turn among all
@@ -227,7 +227,7 @@ rotating_order plan = elim (cases_lt 0 plan.cores) [
       let e : rotating plan ≡ [] = ap (λ m. flat_map (λ t. map (λ i. (t + i) % m) (range_with_len 0 m)) (range_with_len 0 plan.ticks)) z ∙ no_turns (range_with_len 0 plan.ticks) in
       record {
         size = ap length e ∙ sym (ap (λ m. m * plan.ticks) z ∙ omega arith);
-        each = subst (EachAfter (IsNextCore plan) []) (sym e) tt;
+        each = subst (EachAfter (IsDueInOrder plan) []) (sym e) tt;
       }
 ]
 

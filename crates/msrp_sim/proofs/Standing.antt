@@ -27,7 +27,7 @@ use Rattle.msrp_plan.proofs.Runs.Verdicts.{start_push}
 use Rattle.msrp_core.specs.Ports.{IsQuiet}
 use Rattle.msrp_core.specs.Machine.{MachineModel, StandsAfter}
 use Rattle.msrp_core.specs.declared.port.PortCall.{PortCall}
-use Rattle.msrp_sim.specs.Cores.{CoresModel, AreCores, StandFor, IsDueAfter, IsAs, TakesTurn, locks_at, phases_at}
+use Rattle.msrp_sim.specs.Cores.{CoresModel, AreCores, StandFor, IsDueInRun, IsAs, TakesTurn, locks_at, phases_at}
 use Rattle.msrp_sim.specs.Serving.{IsServing}
 use Rattle.msrp_sim.specs.TurnPorts.{MakesCallOf}
 use Rattle.msrp_sim.proofs.Serving.{serving_as}
@@ -76,7 +76,7 @@ stands_as x due r log kind job res h = record {
 off_by : (o : Option ResId) (res : ResId) (g : ℕ) → o ≡ Some res → (res.0 == g) ≡ false → is_on g o ≡ false
 off_by o res g e h = ap (is_on g) e ∙ h
 
-module _ (old new : CoresModel) (c : ℕ) (made r : Row) (rows : List Row) (cores : AreCores old) (stands : StandFor old rows) (due : IsDueAfter old.plan rows c) (t : TakesTurn old new c made) (like : IsAs made r) (legal : IsLegal old.plan rows r) where
+module _ (old new : CoresModel) (c : ℕ) (made r : Row) (rows : List Row) (cores : AreCores old) (stands : StandFor old rows) (due : IsDueInRun old.plan rows c) (t : TakesTurn old new c made) (like : IsAs made r) (legal : IsLegal old.plan rows r) where
   at_core : r.core.0 ≡ c
   at_core = like.core ∙ (turn_row old new c made rows cores stands due t).core
 

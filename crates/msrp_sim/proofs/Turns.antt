@@ -26,11 +26,11 @@ use Rattle.msrp_plan.specs.declared.units.Op.{Op}
 use Rattle.msrp_plan.specs.declared.units.Op.TheVariants.{Run as RunUnit, Lock as LockUnit, Unlock as UnlockUnit}
 use Rattle.msrp_plan.proofs.Legality.Locality.{AreOwn, chosen_local, action_local}
 use Rattle.msrp_plan.proofs.Runs.RoundRobin.{in_turn_of, quiet_reply}
-use Rattle.msrp_plan.proofs.Runs.CoreRuns.{due_by_log}
+use Rattle.msrp_plan.proofs.Scheduling.NextRow.{turns_when_due}
 use Rattle.msrp_plan.proofs.Legality.LegalRows.{IsTurn, turn_of, idle_res}
 use Rattle.msrp_plan.proofs.Queues.QueueLocks.{reply_at, own_from_legal}
 use Rattle.msrp_core.specs.Machine.{StandsAfter}
-use Rattle.msrp_sim.specs.Cores.{CoresModel, AreCores, IsMachineOf, StandFor, IsDueAfter, IsNextRow, TakesTurn, locks_at, phases_at}
+use Rattle.msrp_sim.specs.Cores.{CoresModel, AreCores, IsMachineOf, StandFor, IsDueInRun, IsNextRow, TakesTurn, locks_at, phases_at}
 use Rattle.msrp_sim.specs.Serving.{AreDrawn, IsTold}
 use Rattle.msrp_sim.specs.TurnPorts.{MakesCallOf}
 use Rattle.msrp_sim.specs.declared.tickets.Queues.{Queues}
@@ -126,7 +126,7 @@ module _ (old new : CoresModel) (c : ℕ) (r : Row) (cores : AreCores old) (t : 
 pub both_pass : (a b : Bool) → a ≡ true → b ≡ true → (a && b) ≡ true
 both_pass a b h k = ap (λ c. c && b) h ∙ k
 
-module _ (old new : CoresModel) (c : ℕ) (r : Row) (rows : List Row) (cores : AreCores old) (stands : StandFor old rows) (due : IsDueAfter old.plan rows c) (t : TakesTurn old new c r) where
+module _ (old new : CoresModel) (c : ℕ) (r : Row) (rows : List Row) (cores : AreCores old) (stands : StandFor old rows) (due : IsDueInRun old.plan rows c) (t : TakesTurn old new c r) where
   pub turn_row : IsCoreTurn old.plan c (log_of c rows) r
   turn_row = turn_after old new c r cores t (log_of c rows) (stands.logs c t.before t.has)
 
@@ -170,11 +170,10 @@ module _ (old new : CoresModel) (c : ℕ) (r : Row) (rows : List Row) (cores : A
 
   in_turn : is_in_turn old.plan rows r ≡ true
   in_turn =
-      let tick : r.tick ≡ length rows / old.plan.cores = turn_row.tick ∙ due.due in
-      let had : had_turn c (length rows / old.plan.cores) rows ≡ false = due_by_log old.plan rows c stands.start.each due.core due.due in
+      let tick : r.tick ≡ length rows / old.plan.cores = turn_row.tick ∙ turns_when_due old.plan rows c cores.accepted stands.start.each due.turn in
       in_turn_of r.tick (length rows / old.plan.cores) (nat_lt r.core.0 old.plan.cores) (had_turn r.core.0 r.tick rows) tick
-      (ap (λ n. nat_lt n old.plan.cores) turn_row.core ∙ lt-ltb c old.plan.cores due.core)
-      (ap (λ n. had_turn n r.tick rows) turn_row.core ∙ (ap (λ n. had_turn c n rows) tick ∙ had))
+      (ap (λ n. nat_lt n old.plan.cores) turn_row.core ∙ lt-ltb c old.plan.cores due.turn.core)
+      (ap (λ n. had_turn n r.tick rows) turn_row.core ∙ (ap (λ n. had_turn c n rows) tick ∙ due.turn.once))
 
   -- the row of a due core is the next legal one
   pub next_legal : IsNextRow old.plan rows c r

@@ -1,5 +1,5 @@
 -- The cores of a plan over first-in-first-out queues, and the rows that they stand after.
-use Rattle.std.specs.Prelude.{ℕ, List, [], true, Option, Some, None, IfSome, length, slice_get, slice_set, sum_by, ◌≡◌, ◌≢◌, ◌<◌, ◌≤◌, ◌*◌, ◌/◌, if◌then◌else◌}
+use Rattle.std.specs.Prelude.{ℕ, List, [], ◌∷◌, ◌++◌, true, Option, Some, None, IfSome, length, slice_get, slice_set, sum_by, ◌≡◌, ◌≢◌, ◌<◌, ◌≤◌, ◌*◌, if◌then◌else◌}
 use Rattle.std.specs.Option.{ForSome}
 use Rattle.msrp_plan.specs.Plan.{PlanModel}
 use Rattle.msrp_plan.specs.Levels.{is_global}
@@ -7,6 +7,7 @@ use Rattle.msrp_plan.specs.Aheads.{HasReply, carries_its_ahead}
 use Rattle.msrp_plan.specs.Limits.{most_rows}
 use Rattle.msrp_plan.specs.Runs.{IsCoreTurn, IsRunStart, IsLegal}
 use Rattle.msrp_plan.specs.Logs.{log_of}
+use Rattle.msrp_plan.specs.Scheduling.{IsDueCore}
 use Rattle.msrp_plan.specs.FifoLock.{FifoLock, free_lock}
 use Rattle.msrp_plan.specs.LockStates.{lock_at}
 use Rattle.msrp_plan.specs.Phases.{phase_after}
@@ -61,11 +62,10 @@ pub record StandFor (m : CoresModel) (rows : List Row) : Type 0 where
   pub logs : (c : ℕ) (x : MachineModel) → slice_get m.machines c ≡ Some x → StandsAfter x (log_of c rows)
   pub serving : IsServing (locks_at m.plan rows) (phases_at rows) m.queues
 
--- the core has had one turn in each full tick, and rows are left
-pub record IsDueAfter (plan : PlanModel) (rows : List Row) (c : ℕ) : Type 0 where
-  pub core : c < plan.cores
+-- the core is due after the rows, and rows are left
+pub record IsDueInRun (plan : PlanModel) (rows : List Row) (c : ℕ) : Type 0 where
+  pub turn : IsDueCore plan rows c
   pub left : length rows < plan.cores * plan.ticks
-  pub due : length (log_of c rows) ≡ length rows / plan.cores
 
 -- the row is the next one of the core, and carries its ahead
 pub record IsNextRow (plan : PlanModel) (rows : List Row) (c : ℕ) (r : Row) : Type 0 where
@@ -88,6 +88,14 @@ pub record IsAs (due r : Row) : Type 0 where
   pub job : r.job ≡ due.job
   pub res : r.res ≡ due.res
   pub ahead : IfSome r.ahead (λ n. due.ahead ≡ Some n)
+
+-- whatever rows the cores stand for after which the core is due, this is its next one
+abbrev pub MakesNext : CoresModel → ℕ → Row → Type 0
+MakesNext m c r = (rows : List Row) → StandFor m rows → IsDueInRun m.plan rows c → IsNextRow m.plan rows c r
+
+-- the new cores stand for whatever rows the old ones stand for after which the core is due, and a legal one behind them that is as this one
+abbrev pub StandOn : CoresModel → CoresModel → ℕ → Row → Type 0
+StandOn old new c r = (rows : List Row) (row : Row) → StandFor old rows → IsDueInRun old.plan rows c → IsAs r row → IsLegal old.plan rows row → StandFor new (rows ++ row ∷ [])
 
 -- ---- a row that stands again
 abbrev pub again_of : Option MachineModel → Option Row

@@ -2,11 +2,11 @@
 use Rattle.std.specs.Prelude.{ℕ, List, [], ◌==◌, ◌≡◌, ◌<◌, count_by, length, slice_index_or, take}
 use Rattle.msrp_plan.specs.Plan.{PlanModel}
 use Rattle.msrp_plan.specs.Runs.{EachAfter}
-use Rattle.msrp_plan.specs.Scheduling.{IsNextCore}
+use Rattle.msrp_plan.specs.Scheduling.{IsDueInOrder}
 use Rattle.msrp_plan.specs.Limits.{most_cores}
 
 -- the first n of these turns were each of a core that was due, and so many were of each core
 pub record AreCounted (plan : PlanModel) (cores : List ℕ) (n : ℕ) (turns : List ℕ) : Type 0 where
   pub size : length turns ≡ most_cores
   pub counts : (c : ℕ) → c < most_cores → slice_index_or turns c 0 ≡ count_by (λ d. d == c) (take n cores)
-  pub each : EachAfter (IsNextCore plan) [] (take n cores)
+  pub each : EachAfter (IsDueInOrder plan) [] (take n cores)

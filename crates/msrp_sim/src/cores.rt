@@ -4,14 +4,13 @@ ghost use Rattle.std.specs.Option.{ForSome, IsSomeAnd, is_some, option_map};
 ghost use Rattle.msrp_plan.specs.Aheads.{HasReply};
 ghost use Rattle.msrp_plan.specs.Limits.{most_cores, most_resources, most_rows};
 ghost use Rattle.msrp_plan.specs.Logs.{log_of};
-ghost use Rattle.msrp_plan.specs.Runs.{IsLegal};
 ghost use Rattle.msrp_plan.specs.Calls.{kind_of_call, ahead_of_call};
 ghost use Rattle.msrp_plan.specs.Shape.{has_shape};
 ghost use Rattle.msrp_plan.specs.WellFormed.{IsPlan};
 ghost use Rattle.msrp_plan.specs.declared.rows.Row.{Row as TraceRow};
 ghost use Rattle.msrp_core.specs.CoreStates.{IsCoreState};
 ghost use Rattle.msrp_core.specs.Machine.{MachineModel};
-ghost use Rattle.msrp_sim.specs.Cores.{AreNew, StandFor, IsDueAfter, IsNextRow, IsSomeTurn, IsAs, IsAnswered, Leaves, known_row};
+ghost use Rattle.msrp_sim.specs.Cores.{AreNew, StandFor, IsDueInRun, IsNextRow, IsSomeTurn, IsAnswered, Leaves, MakesNext, StandOn, known_row};
 ghost use Rattle.msrp_sim.specs.Serving.{AreDrawn, Notes, waiting};
 ghost use Rattle.msrp_sim.specs.TurnPorts.{unless_granted};
 
@@ -148,7 +147,7 @@ impl<'a> Cores<'a> {
     #[inline(always)]
     pub fn foresee(&self, core: CoreId) -> Option<Row>
         requires { core.0 < self.now.plan.cores }
-        ensures { (rows : List TraceRow) → StandFor self.now rows → IsDueAfter self.now.plan rows core.0 → IsSomeAnd result (IsNextRow self.now.plan rows core.0) }
+        ensures { (rows : List TraceRow) → StandFor self.now rows → IsDueInRun self.now.plan rows core.0 → IsSomeAnd result (IsNextRow self.now.plan rows core.0) }
     {
         let row = self.machines[core.0 as usize].foresee()?;
         Some(answered(&self.queues, row))
@@ -175,8 +174,8 @@ impl<'a> Cores<'a> {
         ensures plan { self.new.plan ≡ self.old.plan }
         ensures core { IfSome result (λ due. due.core.0 ≡ core.0) }
         ensures leaves { IfSome result (Leaves self.old self.new) }
-        ensures next { IfSome result (λ due. (rows : List TraceRow) → StandFor self.old rows → IsDueAfter self.old.plan rows core.0 → IsNextRow self.old.plan rows core.0 due) }
-        ensures stand { IfSome result (λ due. (rows : List TraceRow) (row : TraceRow) → StandFor self.old rows → IsDueAfter self.old.plan rows core.0 → IsAs due row → IsLegal self.old.plan rows row → StandFor self.new (rows ++ row ∷ [])) }
+        ensures next { IfSome result (MakesNext self.old core.0) }
+        ensures stand { IfSome result (StandOn self.old self.new core.0) }
     {
         let machine = &mut self.machines[core.0 as usize];
         repeat_by(&self.queues, machine)
@@ -193,8 +192,8 @@ impl<'a> Cores<'a> {
         ensures core { result.core.0 ≡ core.0 }
         ensures turn { IsSomeTurn self.old.plan core.0 result }
         ensures leaves { Leaves self.old self.new result }
-        ensures next { (rows : List TraceRow) → StandFor self.old rows → IsDueAfter self.old.plan rows core.0 → IsNextRow self.old.plan rows core.0 result }
-        ensures stand { (rows : List TraceRow) (row : TraceRow) → StandFor self.old rows → IsDueAfter self.old.plan rows core.0 → IsAs result row → IsLegal self.old.plan rows row → StandFor self.new (rows ++ row ∷ []) }
+        ensures next { MakesNext self.old core.0 result }
+        ensures stand { StandOn self.old self.new core.0 result }
     {
         let resources = self.plan.resources();
         let machine = &mut self.machines[core.0 as usize];

@@ -147,6 +147,16 @@ line-ends text front rest middle end mark after a b c =
     let whole : length text ≡ length ((front ++ rest) ++ mark) + length after = ap length all ∙ length-append ((front ++ rest) ++ mark) after in
     (omega (arith, size, whole), ap (λ (t : List ℕ). take (length front + length rest + length mark) t) all ∙ take_at ((front ++ rest) ++ mark) after _ size)
 
+-- a line in two parts, of which the second has its line feed, at the front of a text
+pub line-fed : (text front rest middle line after : List ℕ) → text ≡ front ++ middle → middle ≡ line ++ after → line ≡ rest ++ (10 ∷ []) → take (length front + length line) text ≡ (front ++ rest) ++ (10 ∷ [])
+line-fed text front rest middle line after a b c =
+    let all : text ≡ (front ++ line) ++ after = a ∙ ap (λ (t : List ℕ). front ++ t) b ∙ sym (append_assoc front line after) in
+    ap (λ (t : List ℕ). take (length front + length line) t) all ∙ take_at (front ++ line) after _ (length-append front line) ∙ ap (λ (t : List ℕ). front ++ t) c ∙ sym (append_assoc front rest (10 ∷ []))
+
+-- a line without its line feed
+pub line-unfed : (line rest : List ℕ) → line ≡ rest ++ (10 ∷ []) → take (length line - 1) line ≡ rest
+line-unfed line rest e = ap (λ (t : List ℕ). take (length t - 1) t) e ∙ take_at rest (10 ∷ []) _ (omega (arith, length-append rest (10 ∷ [])))
+
 -- a line and its end, taken off the front of a text
 pub begins-taken : (line text : List ℕ) (taken : ℕ) → EndsLine line (take taken text) → BeginsWith line text
 begins-taken line text taken h = (take taken text, drop taken text, h, sym (take-append-drop taken text))
@@ -266,3 +276,16 @@ begins-fed line xs more plain fed begins = by begins.2
         let none : list_any (λ b. b == 10) (line ++ (13 ∷ [])) ≡ false = list_any-append (λ b. b == 10) line (13 ∷ []) ∙ rw (plain-feed line plain) refl in
         let first = fed-first (line ++ (13 ∷ [])) xs more begins.1 none fed (begins.3 ∙ ap (λ (t : List ℕ). t ++ begins.1) (e ∙ sym same)) in
         (line ++ (13 ∷ 10 ∷ []), first.0, inr (inr refl), first.1 ∙ ap (λ (t : List ℕ). t ++ first.0) same)
+
+-- where a whole line is ahead, or as many bytes as the longest has, or all that comes, a line that comes is ahead
+pub comes-ahead : {R : Type 0} (remaining : R → Option (List ℕ)) (r : RecordReader R) (bytes line : List ℕ) (failed : Bool) → bytes_left remaining r ≡ Some bytes → length line < 256 → is_plain line ≡ true → BeginsWith line bytes
+    → (list_any (λ byte. byte == 10) (bytes_ahead r) ≡ true) ⊎ (256 < length (bytes_ahead r)) ⊎ (failed ≡ true) ⊎ (bytes ≡ bytes_ahead r) → BeginsWith line (bytes_ahead r) ⊎ (failed ≡ true)
+comes-ahead remaining r bytes line failed known few plain begins enough =
+    let rest = bytes-ahead remaining r bytes known in
+    let all = subst (λ (t : List ℕ). BeginsWith line t) rest.1 begins in
+    elim enough [
+      | inl fed ↦ inl (begins-fed line (bytes_ahead r) rest.0 plain fed all)
+      | inr (inl long) ↦ inl (begins-first line (bytes_ahead r) rest.0 (omega (arith, few, long)) all)
+      | inr (inr (inl failed)) ↦ inr failed
+      | inr (inr (inr whole)) ↦ inl (subst (λ (t : List ℕ). BeginsWith line t) whole begins)
+    ]

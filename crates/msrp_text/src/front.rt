@@ -118,32 +118,91 @@ pub(crate) fn front_of(text: &[u8], row: &mut ByteRecord) -> Result<Front, Alloc
     }
 }
 
-// Whether two texts of one length, which is that of one chunk or of two or lies between, are the same: by their first and their last chunk, each
-// of which is compared by one instruction.
+// Whether two chunks are the same, by one comparison of numbers.
 #[inline(always)]
-fn is_same<const CHUNK: usize>(text: &[u8], other: &[u8]) -> bool
+fn is_same_4(chunk: &[u8; 4], other: &[u8; 4]) -> bool
+    ensures same { result ≡ true → chunk.now ≡ other.now }
+    ensures finds { chunk.now ≡ other.now → result ≡ true }
+{
+    u32::from_le_bytes(*chunk) == u32::from_le_bytes(*other)
+}
+
+// Whether two chunks are the same, by one comparison of numbers.
+#[inline(always)]
+fn is_same_8(chunk: &[u8; 8], other: &[u8; 8]) -> bool
+    ensures same { result ≡ true → chunk.now ≡ other.now }
+    ensures finds { chunk.now ≡ other.now → result ≡ true }
+{
+    u64::from_le_bytes(*chunk) == u64::from_le_bytes(*other)
+}
+
+// Whether two texts of one length, of four to eight bytes, are the same: by their first and their last chunk.
+#[inline(always)]
+fn is_short_same(text: &[u8], other: &[u8]) -> bool
     requires length { length text.now ≡ length other.now }
-    requires one { CHUNK ≤ length text.now }
-    requires two { length text.now ≤ CHUNK + CHUNK }
+    requires one { 4 ≤ length text.now }
+    requires two { length text.now ≤ 8 }
     ensures same { result ≡ true → text.now ≡ other.now }
     ensures finds { text.now ≡ other.now → result ≡ true }
 {
-    let (Some(first), Some(same_first)) = (
-        text.first_chunk::<CHUNK>(),
-        other.first_chunk::<CHUNK>(),
-    ) else {
+    let (Some(first), Some(same_first)) = (text.first_chunk::<4>(), other.first_chunk::<4>()) else {
         return false;
     };
-    let (Some(last), Some(same_last)) = (text.last_chunk::<CHUNK>(), other.last_chunk::<CHUNK>())
-    else {
+    let (Some(last), Some(same_last)) = (text.last_chunk::<4>(), other.last_chunk::<4>()) else {
         return false;
     };
-    first == same_first && last == same_last
+    // Both are compared, without a branch between them.
+    is_same_4(first, same_first) & is_same_4(last, same_last)
+}
+
+// The same for texts of eight to 16 bytes.
+#[inline(always)]
+fn is_same(text: &[u8], other: &[u8]) -> bool
+    requires length { length text.now ≡ length other.now }
+    requires one { 8 ≤ length text.now }
+    requires two { length text.now ≤ 16 }
+    ensures same { result ≡ true → text.now ≡ other.now }
+    ensures finds { text.now ≡ other.now → result ≡ true }
+{
+    let (Some(first), Some(same_first)) = (text.first_chunk::<8>(), other.first_chunk::<8>()) else {
+        return false;
+    };
+    let (Some(last), Some(same_last)) = (text.last_chunk::<8>(), other.last_chunk::<8>()) else {
+        return false;
+    };
+    // Both are compared, without a branch between them.
+    is_same_8(first, same_first) & is_same_8(last, same_last)
+}
+
+// The same for texts of 16 to 32 bytes.
+#[inline(always)]
+fn is_long_same(text: &[u8], other: &[u8]) -> bool
+    requires length { length text.now ≡ length other.now }
+    requires one { 16 ≤ length text.now }
+    requires two { length text.now ≤ 32 }
+    ensures same { result ≡ true → text.now ≡ other.now }
+    ensures finds { text.now ≡ other.now → result ≡ true }
+{
+    let last = text.len() - 16;
+    is_same(&text[..16], &other[..16]) & is_same(&text[last..], &other[last..])
+}
+
+// The same for texts of 32 to 64 bytes.
+#[inline(always)]
+fn is_longest_same(text: &[u8], other: &[u8]) -> bool
+    requires length { length text.now ≡ length other.now }
+    requires one { 32 ≤ length text.now }
+    requires two { length text.now ≤ 64 }
+    ensures same { result ≡ true → text.now ≡ other.now }
+    ensures finds { text.now ≡ other.now → result ≡ true }
+{
+    let last = text.len() - 32;
+    is_long_same(&text[..32], &other[..32]) & is_long_same(&text[last..], &other[last..])
 }
 
 // Whether a text begins with another. For one of four to eight bytes, as that of most ticks, nothing is called.
 #[inline(always)]
-fn begins_with(text: &[u8], front: &[u8]) -> bool
+pub(crate) fn begins_with(text: &[u8], front: &[u8]) -> bool
     ensures begins { result ≡ true → (after : List ℕ) × (text.now ≡ front.now ++ after) }
     ensures finds { (after : List ℕ) → text.now ≡ front.now ++ after → result ≡ true }
 {
@@ -151,43 +210,51 @@ fn begins_with(text: &[u8], front: &[u8]) -> bool
     if count < 4 || count > 8 || text.len() < count {
         return text.starts_with(front);
     }
-    is_same::<4>(&text[..count], front)
+    is_short_same(&text[..count], front)
 }
 
-// The same, for one that mostly has eight to 32 bytes, as what stands behind a tick.
+// The same, for one of few bytes or of more than 32.
+#[inline(never)]
+fn begins_apart(text: &[u8], front: &[u8]) -> bool
+    ensures begins { result ≡ true → (after : List ℕ) × (text.now ≡ front.now ++ after) }
+    ensures finds { (after : List ℕ) → text.now ≡ front.now ++ after → result ≡ true }
+{
+    let count = front.len();
+    if count < 32 || count > 64 || text.len() < count {
+        return text.starts_with(front);
+    }
+    is_longest_same(&text[..count], front)
+}
+
+// The same, for one that mostly has eight to 32 bytes, as what stands behind a tick: then nothing is called.
 #[inline(always)]
-fn begins_with_long(text: &[u8], front: &[u8]) -> bool
+pub(crate) fn begins_with_long(text: &[u8], front: &[u8]) -> bool
     ensures begins { result ≡ true → (after : List ℕ) × (text.now ≡ front.now ++ after) }
     ensures finds { (after : List ℕ) → text.now ≡ front.now ++ after → result ≡ true }
 {
     let count = front.len();
     if count < 8 || count > 32 || text.len() < count {
-        return text.starts_with(front);
+        return begins_apart(text, front);
     }
     let text = &text[..count];
     if count <= 16 {
-        return is_same::<8>(text, front);
+        is_same(text, front)
+    } else {
+        is_long_same(text, front)
     }
-    let last = count - 16;
-    // The last sixteen come first: if both ways began with the same chunk, the compiler would compare it once for both, byte by byte.
-    is_same::<8>(&text[last..], &front[last..]) && is_same::<8>(&text[..16], &front[..16])
 }
 
-/// How many bytes a line takes with its end, where a text begins with it. The line is given in two parts.
-#[inline]
-pub(crate) fn line_met(text: &[u8], front: &[u8], rest: &[u8]) -> Option<usize>
-    ensures line { IfSome result (λ taken. (0 < taken) × (taken ≤ length text.now) × EndsLine (front.now ++ rest.now) (take taken text.now)) }
-    ensures finds { BeginsWith (front.now ++ rest.now) text.now → IsSome result }
-{
-    if !begins_with(text, front) {
-        return None;
-    }
-    rest_met(text, front, rest)
-}
-
-/// The same, where the text is known to begin with the first part.
+/// Whether a text begins with two others, of which the second has some bytes.
 #[inline(always)]
-pub(crate) fn rest_met(text: &[u8], front: &[u8], rest: &[u8]) -> Option<usize>
+pub(crate) fn goes_on(text: &[u8], front: &[u8], line: &[u8]) -> bool
+    ensures some { result ≡ true → 0 < length line.now }
+    ensures begins { result ≡ true → (after : List ℕ) × (text.now ≡ front.now ++ (line.now ++ after)) }
+{
+    begins_with(text, front) && begins_with_long(&text[front.len()..], line) && !line.is_empty()
+}
+
+/// How many bytes a line takes with its end, where a text that begins with the first part of it begins with the whole line.
+pub(crate) fn line_behind(text: &[u8], front: &[u8], rest: &[u8]) -> Option<usize>
     requires { (after : List ℕ) × (text.now ≡ front.now ++ after) }
     ensures line { IfSome result (λ taken. (0 < taken) × (taken ≤ length text.now) × EndsLine (front.now ++ rest.now) (take taken text.now)) }
     ensures finds { BeginsWith (front.now ++ rest.now) text.now → IsSome result }

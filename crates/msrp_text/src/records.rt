@@ -1,5 +1,5 @@
 //! The records of a text, read in turn.
-ghost use Rattle.std.specs.Prelude.{◌≡◌, ◌==◌, ◌⊎◌, ◌≤◌, ◌<◌, ◌+◌, ◌++◌, ◌∷◌, [], ℕ, List, Some, None, Err, IfOk, IfErr, OnOk, OnErr, Ok, IsSome, ◌^◌, option_map, length, take, true, false};
+ghost use Rattle.std.specs.Prelude.{◌≡◌, ◌==◌, ◌⊎◌, ◌≤◌, ◌<◌, ◌+◌, ◌++◌, ◌∷◌, [], codes, ℕ, List, Some, None, Err, IfOk, IfErr, OnOk, OnErr, Ok, IsSome, ◌^◌, option_map, length, take, true, false};
 ghost use Rattle.std.specs.List.{list_any};
 ghost use Rattle.std.specs.Option.{IfSome};
 ghost use Rattle.csv.specs.Records.{fields_of};
@@ -11,7 +11,9 @@ ghost use Rattle.msrp_text.specs.Plain.{BeginsWith, BeginsWithDigit, EndsLine, I
 ghost use Rattle.msrp_text.specs.Records.{FirstBegins, GivesLine, GivesNext, HasNone, KeepsRecords, bytes_ahead, bytes_left, csv_records, is_csv, left_at, read_failed, reader_under, reads_csv, records_left, stop_at, stop_of};
 
 use crate::csv_records::CsvRecords;
-use crate::front::{LONGEST, PlainLine, digit_after, line_met, rest_met};
+use crate::front::{
+    LONGEST, PlainLine, begins_with, begins_with_long, digit_after, goes_on, line_behind,
+};
 use crate::lines::Lines;
 use core::mem;
 use csv::ByteRecord;
@@ -109,45 +111,69 @@ impl<R: Read> RecordReader<R> {
         }
     }
 
-    /// Whether the text goes on with these two texts and the end of a line (LF, CR or CRLF). Where it does, that line is taken; else
-    /// nothing is. Where no whole line was read ahead, more is read; a line of [`LONGEST`] bytes or more may not be met there.
+    /// Whether the text goes on with these two texts, of which the second has a line feed behind it, or another end of a line (CR, CRLF) in that place.
+    /// Where it does, that line is taken; else nothing is. Where no whole line was read ahead, more is read; a line of [`LONGEST`] bytes or more
+    /// may not be met there.
     #[inline(always)]
-    pub fn meets(&mut self, front: &[u8], rest: &[u8]) -> bool
-        ensures taken { result ≡ true → is_plain (front.now ++ rest.now) ≡ true → GivesLine (records_left R.remaining self.old) (split_commas (front.now ++ rest.now)) (records_left R.remaining self.new) }
+    pub fn meets(&mut self, front: &[u8], line: &[u8]) -> bool
+        ensures taken { result ≡ true → (rest : List ℕ) → line.now ≡ rest ++ codes "\n" → is_plain (front.now ++ rest) ≡ true → GivesLine (records_left R.remaining self.old) (split_commas (front.now ++ rest)) (records_left R.remaining self.new) }
         ensures kept { result ≡ false → KeepsRecords (records_left R.remaining self.old) (records_left R.remaining self.new) }
         ensures stop { stop_of self.new ≡ stop_of self.old }
-        ensures ahead { BeginsWith (front.now ++ rest.now) (bytes_ahead self.old) → result ≡ true }
-        ensures begins { result ≡ true → (bytes : List ℕ) → bytes_left R.remaining self.old ≡ Some bytes → BeginsWith (front.now ++ rest.now) bytes }
-        ensures finds { (bytes : List ℕ) → bytes_left R.remaining self.old ≡ Some bytes → length (front.now ++ rest.now) < LONGEST → is_plain (front.now ++ rest.now) ≡ true → BeginsWith (front.now ++ rest.now) bytes → (result ≡ true) ⊎ (read_failed self.new ≡ true) }
-        ensures line { result ≡ true → is_plain (front.now ++ rest.now) ≡ true → (bytes : List ℕ) (number : ℕ) → HasRead R.remaining bytes number self.old → HasRead R.remaining bytes (number + 1) self.new }
+        ensures ahead { (rest : List ℕ) → line.now ≡ rest ++ codes "\n" → BeginsWith (front.now ++ rest) (bytes_ahead self.old) → result ≡ true }
+        ensures begins { result ≡ true → (rest : List ℕ) → line.now ≡ rest ++ codes "\n" → (bytes : List ℕ) → bytes_left R.remaining self.old ≡ Some bytes → BeginsWith (front.now ++ rest) bytes }
+        ensures finds { (rest : List ℕ) → line.now ≡ rest ++ codes "\n" → (bytes : List ℕ) → bytes_left R.remaining self.old ≡ Some bytes → length (front.now ++ rest) < LONGEST → is_plain (front.now ++ rest) ≡ true → BeginsWith (front.now ++ rest) bytes → (result ≡ true) ⊎ (read_failed self.new ≡ true) }
+        ensures line { result ≡ true → (rest : List ℕ) → line.now ≡ rest ++ codes "\n" → is_plain (front.now ++ rest) ≡ true → (bytes : List ℕ) (number : ℕ) → HasRead R.remaining bytes number self.old → HasRead R.remaining bytes (number + 1) self.new }
         ensures still { result ≡ false → (bytes : List ℕ) (number : ℕ) → HasRead R.remaining bytes number self.old → HasRead R.remaining bytes number self.new }
+        ensures some { result ≡ true → 0 < length line.now }
+        ensures grows { result ≡ false → (more : List ℕ) × (bytes_ahead self.new ≡ bytes_ahead self.old ++ more) }
     {
-        if self.ahead().len() <= LONGEST {
-            self.read_line_ahead();
+        self.look_ahead();
+        if goes_on(self.ahead(), front, line) {
+            self.take_line(front.len() + line.len());
+            return true;
         }
-        match line_met(self.ahead(), front, rest) {
-            Some(taken) => {
-                self.take_line(taken);
-                true
-            }
-            None => false,
-        }
+        self.meets_apart(front, line)
     }
 
-    /// The same, where the first text is known to come next, as from [`RecordReader::digit_after`]: it isn't compared again, and no more is
-    /// read.
+    /// The same, where the first text is known to come next, as from [`RecordReader::digit_after`], and the second has a line feed behind it: the first
+    /// isn't compared again, and no more is read.
     #[inline(always)]
-    pub fn meets_behind(&mut self, front: &[u8], rest: &[u8]) -> bool
+    pub fn meets_behind(&mut self, front: &[u8], line: &[u8]) -> bool
         requires { (after : List ℕ) × (bytes_ahead self.old ≡ front.now ++ after) }
-        ensures taken { result ≡ true → is_plain (front.now ++ rest.now) ≡ true → GivesLine (records_left R.remaining self.old) (split_commas (front.now ++ rest.now)) (records_left R.remaining self.new) }
+        ensures taken { result ≡ true → (rest : List ℕ) → line.now ≡ rest ++ codes "\n" → is_plain (front.now ++ rest) ≡ true → GivesLine (records_left R.remaining self.old) (split_commas (front.now ++ rest)) (records_left R.remaining self.new) }
         ensures kept { result ≡ false → KeepsRecords (records_left R.remaining self.old) (records_left R.remaining self.new) }
         ensures stop { stop_of self.new ≡ stop_of self.old }
-        ensures ahead { BeginsWith (front.now ++ rest.now) (bytes_ahead self.old) → result ≡ true }
-        ensures line { result ≡ true → is_plain (front.now ++ rest.now) ≡ true → (bytes : List ℕ) (number : ℕ) → HasRead R.remaining bytes number self.old → HasRead R.remaining bytes (number + 1) self.new }
+        ensures ahead { (rest : List ℕ) → line.now ≡ rest ++ codes "\n" → BeginsWith (front.now ++ rest) (bytes_ahead self.old) → result ≡ true }
+        ensures begins { result ≡ true → (rest : List ℕ) → line.now ≡ rest ++ codes "\n" → BeginsWith (front.now ++ rest) (bytes_ahead self.old) }
+        ensures line { result ≡ true → (rest : List ℕ) → line.now ≡ rest ++ codes "\n" → is_plain (front.now ++ rest) ≡ true → (bytes : List ℕ) (number : ℕ) → HasRead R.remaining bytes number self.old → HasRead R.remaining bytes (number + 1) self.new }
         ensures still { result ≡ false → (bytes : List ℕ) (number : ℕ) → HasRead R.remaining bytes number self.old → HasRead R.remaining bytes number self.new }
-        ensures same { result ≡ false → bytes_ahead self.new ≡ bytes_ahead self.old }
+        ensures same { result ≡ false → self.new ≡ self.old }
+        ensures some { result ≡ true → 0 < length line.now }
     {
-        match rest_met(self.ahead(), front, rest) {
+        if begins_with_long(&self.ahead()[front.len()..], line) && !line.is_empty() {
+            self.take_line(front.len() + line.len());
+            return true;
+        }
+        self.meets_apart(front, line)
+    }
+
+    // The same, where the first text may not come, and the line may end in another way than by a line feed.
+    #[inline(never)]
+    fn meets_apart(&mut self, front: &[u8], line: &[u8]) -> bool
+        ensures taken { result ≡ true → (rest : List ℕ) → line.now ≡ rest ++ codes "\n" → is_plain (front.now ++ rest) ≡ true → GivesLine (records_left R.remaining self.old) (split_commas (front.now ++ rest)) (records_left R.remaining self.new) }
+        ensures kept { result ≡ false → KeepsRecords (records_left R.remaining self.old) (records_left R.remaining self.new) }
+        ensures stop { stop_of self.new ≡ stop_of self.old }
+        ensures ahead { (rest : List ℕ) → line.now ≡ rest ++ codes "\n" → BeginsWith (front.now ++ rest) (bytes_ahead self.old) → result ≡ true }
+        ensures begins { result ≡ true → (rest : List ℕ) → line.now ≡ rest ++ codes "\n" → BeginsWith (front.now ++ rest) (bytes_ahead self.old) }
+        ensures line { result ≡ true → (rest : List ℕ) → line.now ≡ rest ++ codes "\n" → is_plain (front.now ++ rest) ≡ true → (bytes : List ℕ) (number : ℕ) → HasRead R.remaining bytes number self.old → HasRead R.remaining bytes (number + 1) self.new }
+        ensures still { result ≡ false → (bytes : List ℕ) (number : ℕ) → HasRead R.remaining bytes number self.old → HasRead R.remaining bytes number self.new }
+        ensures same { result ≡ false → self.new ≡ self.old }
+        ensures some { result ≡ true → 0 < length line.now }
+    {
+        if line.is_empty() || !begins_with(self.ahead(), front) {
+            return false;
+        }
+        match line_behind(self.ahead(), front, &line[..line.len() - 1]) {
             Some(taken) => {
                 self.take_line(taken);
                 true
@@ -167,10 +193,23 @@ impl<R: Read> RecordReader<R> {
         ensures stop { stop_of self.new ≡ stop_of self.old }
         ensures still { (bytes : List ℕ) (number : ℕ) → HasRead R.remaining bytes number self.old → HasRead R.remaining bytes number self.new }
     {
+        self.look_ahead();
+        digit_after(self.ahead(), first)
+    }
+
+    // Sees to it that a whole line is ahead, or as many bytes as the longest has, or all that comes.
+    #[inline(always)]
+    fn look_ahead(&mut self)
+        ensures same { KeepsRecords (records_left R.remaining self.old) (records_left R.remaining self.new) }
+        ensures bytes { Keeps (bytes_left R.remaining self.old) (bytes_left R.remaining self.new) }
+        ensures stop { stop_of self.new ≡ stop_of self.old }
+        ensures still { (bytes : List ℕ) (number : ℕ) → HasRead R.remaining bytes number self.old → HasRead R.remaining bytes number self.new }
+        ensures grows { (more : List ℕ) × (bytes_ahead self.new ≡ bytes_ahead self.old ++ more) }
+        ensures line { (bytes : List ℕ) → bytes_left R.remaining self.new ≡ Some bytes → (list_any (λ byte. byte == 10) (bytes_ahead self.new) ≡ true) ⊎ (LONGEST < length (bytes_ahead self.new)) ⊎ (read_failed self.new ≡ true) ⊎ (bytes ≡ bytes_ahead self.new) }
+    {
         if self.ahead().len() <= LONGEST {
             self.read_line_ahead();
         }
-        digit_after(self.ahead(), first)
     }
 
     // Reads ahead until a whole line is there, or as many bytes as the longest has, or no more come.

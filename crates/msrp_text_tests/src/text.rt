@@ -209,54 +209,55 @@ fn met_after_one(
     alloc: Global,
     text: &[u8],
     front: &[u8],
-    rest: &[u8],
+    line: &[u8],
 ) -> Result<(bool, Vec<u8>), Fail> {
     let mut records = RecordReader::new(alloc, text);
     let mut row = ByteRecord::new(alloc);
     if records.read(&mut row) != Ok(true) {
         return Err(Fail::new("no record"));
     }
-    let met = records.meets(front, rest);
+    let met = records.meets(front, line);
     Ok((met, records_told(alloc, &mut records)?))
 }
 
-// A text, a line in two parts, whether it is met after the first record, and the records that are left.
-const FORESEEN: [(&[u8], &[u8], &[u8], bool, &[u8]); 13] = [
-    (b"1\nab,c\nd", b"ab", b",c", true, b"d|/"),
-    (b"1\nab,c\r\nd", b"ab", b",c", true, b"d|/"),
-    (b"1\r\nab,c\nd", b"", b"ab,c", true, b"d|/"),
-    (b"1\nab,c\nd", b"ab,c", b"", true, b"d|/"),
-    (b"1\nab,c\n", b"ab", b",c", true, b""),
-    (b"1\nab,c\nd", b"ab", b",", false, b"ab|c|/d|/"),
-    (b"1\nab,c\nd", b"ab", b",cd", false, b"ab|c|/d|/"),
-    (b"1\nab,c\nd", b"a", b",c", false, b"ab|c|/d|/"),
-    (b"1\nab,c\nd", b"ab,c\nd\nef", b"", false, b"ab|c|/d|/"),
-    (b"1\nab,c\rd", b"ab", b",c", true, b"d|/"),
-    (b"1\nab,c\r", b"ab", b",c", true, b""),
-    (b"1\nab,c", b"ab", b",c", false, b"ab|c|/"),
-    (b"\"1\"\nab,c\nd", b"ab", b",c", false, b"ab|c|/d|/"),
+// A text, a line in two parts with its line feed, whether it is met after the first record, and the records that are left.
+const FORESEEN: [(&[u8], &[u8], &[u8], bool, &[u8]); 14] = [
+    (b"1\nab,c\nd", b"ab", b",c\n", true, b"d|/"),
+    (b"1\nab,c\r\nd", b"ab", b",c\n", true, b"d|/"),
+    (b"1\r\nab,c\nd", b"", b"ab,c\n", true, b"d|/"),
+    (b"1\nab,c\nd", b"ab,c", b"\n", true, b"d|/"),
+    (b"1\nab,c\n", b"ab", b",c\n", true, b""),
+    (b"1\nab,c\nd", b"ab", b",\n", false, b"ab|c|/d|/"),
+    (b"1\nab,c\nd", b"ab", b",cd\n", false, b"ab|c|/d|/"),
+    (b"1\nab,c\nd", b"a", b",c\n", false, b"ab|c|/d|/"),
+    (b"1\nab,c\nd", b"ab,c\nd\nef", b"\n", false, b"ab|c|/d|/"),
+    (b"1\nab,c\rd", b"ab", b",c\n", true, b"d|/"),
+    (b"1\nab,c\r", b"ab", b",c\n", true, b""),
+    (b"1\nab,c", b"ab", b",c\n", false, b"ab|c|/"),
+    (b"1\nab,c\nd", b"ab,c\n", b"", false, b"ab|c|/d|/"),
+    (b"\"1\"\nab,c\nd", b"ab", b",c\n", false, b"ab|c|/d|/"),
 ];
 
 #[test]
 fn foreseen_lines_are_met_whole(rt: HostRuntime) -> Result<(), Fail> {
-    for (text, front, rest, met, told) in FORESEEN {
-        let found = met_after_one(rt.alloc(), text, front, rest)?;
+    for (text, front, line, met, told) in FORESEEN {
+        let found = met_after_one(rt.alloc(), text, front, line)?;
         assert_eq!(rt; found.0, met);
         assert!(rt; found.1.as_slice() == told);
     }
     Ok(())
 }
 
-// A text, and its lines in two parts.
+// A text, and its lines in two parts, each with a line feed.
 const LINES: (&[u8], [(&[u8], &[u8]); 6]) = (
     b"1,a\n2,bc\r\n3,d\n4,e\n5,f\r\n6,\n",
     [
-        (b"1,", b"a"),
-        (b"2,", b"bc"),
-        (b"3,", b"d"),
-        (b"4,", b"e"),
-        (b"5,", b"f"),
-        (b"6,", b""),
+        (b"1,", b"a\n"),
+        (b"2,", b"bc\n"),
+        (b"3,", b"d\n"),
+        (b"4,", b"e\n"),
+        (b"5,", b"f\n"),
+        (b"6,", b"\n"),
     ],
 );
 
@@ -266,10 +267,10 @@ fn lines_met(alloc: Global, size: usize) -> Result<usize, Fail> {
     let mut records = RecordReader::new(alloc, Pieces { text, size });
     let mut row = ByteRecord::new(alloc);
     let mut met = 0usize;
-    for (front, rest) in lines {
-        if records.meets(front, rest) {
+    for (front, line) in lines {
+        if records.meets(front, line) {
             met = met.saturating_add(1);
-        } else if records.read(&mut row) != Ok(true) || row.get(1) != Some(rest) {
+        } else if records.read(&mut row) != Ok(true) || row.get(1) != line.strip_suffix(b"\n") {
             return Err(Fail::new("another record"));
         }
     }

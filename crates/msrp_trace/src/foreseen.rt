@@ -11,7 +11,6 @@ ghost use Rattle.msrp_plan.specs.declared.rows.TextVersion.{TextVersion};
 ghost use Rattle.msrp_trace.specs.declared.line.RowLine.{RowLine as Kept};
 
 use crate::line::RowLine;
-use crate::texts::rest_of;
 use crate::tick::Tick;
 use crate::whole::is_told_whole;
 use crate::writing::show_line;
@@ -131,10 +130,10 @@ impl Foreseen {
         self.tick.text().as_bytes()
     }
 
-    /// The text of a row after its tick, without its end.
-    pub(crate) fn rest(&self, core: CoreId) -> &[u8]
-        ensures { (d : Kept) (text : List ℕ) → (slice_index_or self.now.lines (core.0 % MOST_CORES) d).text.line ≡ text ++ codes "\n" → result.now ≡ text }
+    /// The text of a row after its tick.
+    pub(crate) fn line(&self, core: CoreId) -> &[u8]
+        ensures { (d : Kept) → result.now ≡ (slice_index_or self.now.lines (core.0 % MOST_CORES) d).text.line }
     {
-        rest_of(self.lines[(core.0 % MOST_CORES) as usize].text())
+        self.lines[(core.0 % MOST_CORES) as usize].text().as_bytes()
     }
 }

@@ -206,6 +206,7 @@ pub(crate) struct CoreText {
 impl CoreText {
     /// No record.
     pub(crate) fn new() -> CoreText
+        ensures line { result.line ≡ [] }
         ensures job { result.job.job ≡ None }
         ensures res { All (λ kept. kept.res ≡ None) result.res }
     {

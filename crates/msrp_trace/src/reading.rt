@@ -1,7 +1,7 @@
 //! Trace text, read.
 ghost use Rattle.std.proofs.Props.{props};
 ghost use Rattle.std.specs.Option.{IfSome};
-ghost use Rattle.std.specs.Prelude.{◌+◌, ◌^◌, ◌<◌, ◌≤◌, length, IsSome, ◌≡◌, ◌⊎◌, ◌↔◌, decimal, ℕ, List, Some, None, Ok, Err, IfOk, IfErr, OnOk, OnErr, true, false};
+ghost use Rattle.std.specs.Prelude.{◌+◌, ◌^◌, ◌<◌, ◌≤◌, [], length, IsSome, ◌≡◌, ◌⊎◌, ◌↔◌, decimal, ℕ, List, Some, None, Ok, Err, IfOk, IfErr, OnOk, OnErr, true, false};
 ghost use Rattle.msrp_plan.specs.Bytes.{source_failed, source_remaining};
 ghost use Rattle.csv.specs.Records.{fields_of};
 ghost use Rattle.msrp_text.specs.Plain.{BeginsWithDigit};
@@ -13,12 +13,13 @@ ghost use Rattle.msrp_trace.specs.Laws.{as_read, is_told_whole};
 ghost use Rattle.msrp_trace.specs.Reading.{Told};
 ghost use Rattle.msrp_trace.specs.RowParts.{ReadsAt};
 ghost use Rattle.msrp_trace.specs.Rows.{row_fault, row_told};
+ghost use Rattle.msrp_trace.specs.Texts.{text_of_core};
 
 use crate::faults::{TraceError, TraceFault};
 use crate::foreseen::Foreseen;
 use crate::guesses::Guesses;
 use crate::rows::{read_row, version_told};
-use crate::texts::{RowTexts, rest_of, text_of};
+use crate::texts::{RowTexts, text_of};
 use crate::whole::{is_short, is_told_whole};
 use csv::ByteRecord;
 use msrp_plan::bytes::Source;
@@ -282,8 +283,8 @@ impl<'a, R: Read> TraceReader<'a, R> {
         ensures stands { (records : List (List (List ℕ))) → StandsIn R.remaining records self.old → StandsIn R.remaining records self.new }
         ensures lines { (text : List ℕ) → HasReadIn R.remaining text self.old → HasReadIn R.remaining text self.new }
     {
-        let (tick, rest) = (self.foreseen.tick(), self.foreseen.rest(row.core));
-        if !self.records.meets(tick, rest) {
+        let (tick, line) = (self.foreseen.tick(), self.foreseen.line(row.core));
+        if !self.records.meets(tick, line) {
             return false;
         }
         self.number = next;
@@ -308,11 +309,45 @@ impl<'a, R: Read> TraceReader<'a, R> {
         }
     }
 
+    /// Whether the next row is one of the core in that tick, with the text that is kept of it. Where no text is kept it isn't met.
+    #[inline(always)]
+    pub fn comes(&mut self, tick: u32, texts: &RowTexts<'_>, core: CoreId) -> bool
+        ensures some { result ≡ true → ¬ (text_of_core texts.now core.0 ≡ []) }
+        ensures taken { result ≡ true → (row : Row) (told : Told) → IsTextOf self.old texts.now tick core.0 row → told_left R.remaining self.old ≡ Some told → GivesNext told (Ok (Some row)) (told_left R.remaining self.new) }
+        ensures kept { result ≡ false → (told : Told) → told_left R.remaining self.old ≡ Some told → told_left R.remaining self.new ≡ Some told }
+        ensures same { has_failed self.new ≡ has_failed self.old }
+        ensures going { result ≡ true → has_failed self.old ≡ false }
+        ensures here { result ≡ false → IsAtTick tick self.old → IsAtTick tick self.new }
+        ensures trace { IsOfTrace self.old self.new }
+        ensures finds { (row : Row) → IsTextOf self.old texts.now tick core.0 row → self.old.state ≡ ReaderState.Rows → CanMeet self.old row → result ≡ true }
+        ensures stands { (row : Row) (records : List (List (List ℕ))) → IsTextOf self.old texts.now tick core.0 row → StandsIn R.remaining records self.old → StandsIn R.remaining records self.new }
+        ensures still { result ≡ false → (records : List (List (List ℕ))) → StandsIn R.remaining records self.old → StandsIn R.remaining records self.new }
+        ensures lines { (row : Row) (text : List ℕ) → IsTextOf self.old texts.now tick core.0 row → HasReadIn R.remaining text self.old → HasReadIn R.remaining text self.new }
+        ensures lines_still { result ≡ false → (text : List ℕ) → HasReadIn R.remaining text self.old → HasReadIn R.remaining text self.new }
+    {
+        let ReaderState::Rows = self.state else {
+            return false;
+        };
+        if self.number == u32::MAX {
+            return false;
+        }
+        // Read so that the plan is known to be an accepted one.
+        let _accepted = self.plan.tasks();
+        self.foreseen.to_tick(tick);
+        let line = text_of(&texts.lines, (core.0 % MOST_CORES) as usize);
+        let met = self.records.meets(self.foreseen.tick(), line.as_bytes());
+        if met {
+            self.number += 1;
+        }
+        met
+    }
+
     /// Whether the next row is one of the core in that tick, with the text that is kept of it, where [`TraceReader::core_ahead`] has told a core in
-    /// that tick: the text of the tick isn't compared again, and no more is read.
+    /// that tick: the text of the tick isn't compared again, and no more is read. Where no text is kept it isn't met.
     #[inline(always)]
     pub fn comes_behind(&mut self, tick: u32, texts: &RowTexts<'_>, core: CoreId) -> bool
         requires { IsAtTick tick self.old }
+        ensures some { result ≡ true → ¬ (text_of_core texts.now core.0 ≡ []) }
         ensures taken { result ≡ true → (row : Row) (told : Told) → IsTextOf self.old texts.now tick core.0 row → told_left R.remaining self.old ≡ Some told → GivesNext told (Ok (Some row)) (told_left R.remaining self.new) }
         ensures kept { result ≡ false → (told : Told) → told_left R.remaining self.old ≡ Some told → told_left R.remaining self.new ≡ Some told }
         ensures here { result ≡ false → IsAtTick tick self.new }
@@ -329,9 +364,10 @@ impl<'a, R: Read> TraceReader<'a, R> {
         };
         // Read so that the plan is known to be an accepted one.
         let _accepted = self.plan.tasks();
-        let core = (core.0 % MOST_CORES) as usize;
-        let rest = rest_of(text_of(&texts.lines, core));
-        let met = self.records.meets_behind(self.foreseen.tick(), rest);
+        let line = text_of(&texts.lines, (core.0 % MOST_CORES) as usize);
+        let met = self
+            .records
+            .meets_behind(self.foreseen.tick(), line.as_bytes());
         if met {
             self.number = after;
         }
@@ -449,7 +485,7 @@ impl<'a, R: Read> TraceReader<'a, R> {
     /// The core of the next row, guessed from the bytes that were read ahead. Nothing rests on it: there may be none, or
     /// another.
     #[inline(always)]
-    fn core_guessed(&self) -> Option<CoreId> {
+    pub fn core_guessed(&self) -> Option<CoreId> {
         let last = self.foreseen.tick().len();
         match self.records.ahead().get(last + 1) {
             Some(digit) if digit.is_ascii_digit() => Some(CoreId(u32::from(*digit - b'0'))),

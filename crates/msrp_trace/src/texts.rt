@@ -1,6 +1,6 @@
 //! The texts of the cores' rows, kept as long as the cores do the same.
 ghost use Rattle.std.specs.List.{All};
-ghost use Rattle.std.specs.Prelude.{◌≡◌, ◌<◌, ◌++◌, ◌%◌, ℕ, List, [], codes, length, slice_index_or, slice_set, true};
+ghost use Rattle.std.specs.Prelude.{◌≡◌, ◌<◌, ◌%◌, ℕ, [], None, length, slice_index_or, slice_set, true};
 ghost use Rattle.msrp_trace.specs.Gathering.{after_tick};
 ghost use Rattle.msrp_trace.specs.Lines.{IsCoreText};
 ghost use Rattle.msrp_trace.specs.Texts.{text_of_core, texts_of};
@@ -57,25 +57,23 @@ pub(crate) fn text_of(lines: &[CoreText], core: usize) -> &Text<LINE>
     lines[core].text()
 }
 
-/// The text of a record, without the end of the line.
-#[inline(always)]
-pub(crate) fn rest_of(line: &Text<LINE>) -> &[u8]
-    ensures { (text : List ℕ) → line.now ≡ text ++ codes "\n" → result.now ≡ text }
-{
-    let text = line.as_bytes();
-    &text[..text.len().saturating_sub(1)]
-}
-
 impl<'a> RowTexts<'a> {
     /// No row of any core yet.
     pub fn new(plan: &'a Plan, version: TextVersion) -> RowTexts<'a>
         ensures plan { result.plan ≡ plan.now }
         ensures version { result.version ≡ version }
+        ensures none { (core : ℕ) → text_of_core result core ≡ [] }
     {
         RowTexts {
             plan,
             version,
-            lines: array::from_fn(|_| CoreText::new()),
+            lines: array::from_fn(
+                |_|
+                    ensures line { result.line ≡ [] }
+                    ensures job { result.job.job ≡ None }
+                    ensures res { All (λ kept. kept.res ≡ None) result.res }
+                { CoreText::new() },
+            ),
         }
     }
 

@@ -16,6 +16,7 @@ use Rattle.msrp_plan.specs.declared.faults.Rule.TheVariants.{A1, A2, A3, A4, A5,
 use Rattle.msrp_plan.specs.declared.rows.Row.{Row}
 use Rattle.msrp_plan.proofs.Runs.Verdicts.{fault_push, unbroken_is_legal}
 use Rattle.msrp_plan.proofs.Lists.Ranges.{range_more}
+use Rattle.msrp_plan.proofs.Scheduling.NextRow.{turns_when_due}
 use Rattle.msrp_sim.specs.Cores.{IsNextRow}
 use Rattle.msrp_audit.specs.Audits.{AuditorModel, HasFed, IsBroken, has_turn}
 use Rattle.msrp_audit.proofs.Judging.{due_after}
@@ -128,8 +129,8 @@ cause_is plan a rows cause ok good broken noted turned told =
       due = due_for plan rows r.core.0 cause.fault.rule cause.due left turn _ (λ less is. broken.turn (ltb-true (length rows) (plan.cores * plan.ticks) less) is) rule;
       state = state_for plan rows r.core.0 cause.fault.rule cause.state left turn _
           (λ less is.
-          let d = due_after plan rows r ok start (ltb-true (length rows) (plan.cores * plan.ticks) less) is in
-          subst (λ t. IsSomeAnd cause.state (IsCoreState plan r.core.0 t rows)) d.due (told d.core)) rule;
+          let d = due_after plan rows r (ltb-true (length rows) (plan.cores * plan.ticks) less) is in
+          subst (λ t. IsSomeAnd cause.state (IsCoreState plan r.core.0 t rows)) (turns_when_due plan rows r.core.0 ok start.each d.turn) (told d.turn.core)) rule;
       turns = turns_for plan rows cause.fault.rule cause.turns.items left turn (is_of_core plan r) (is_chosen plan rows r) (is_next_action plan rows r) (is_fifo_reply rows r)
           (λ less is. let out = broken.out (λ few. is) in turned out.0 out.1 (ltb-true (length rows) (plan.cores * plan.ticks) less)) rule;
       notes = noted;

@@ -6,7 +6,6 @@ use Rattle.std.proofs.lemmas.Bool.{eqb-false, eqb-true, false_from_ne_true}
 use Rattle.std.proofs.lemmas.Option.{same_Some}
 use Rattle.std.proofs.lemmas.List.{length-set}
 use Rattle.std.proofs.lemmas.List.Elements.{All-contains, All-from_recursion}
-use Rattle.msrp_audit.proofs.Judging.{due_after}
 use Rattle.msrp_core.specs.CoreStates.{IsCoreState}
 use Rattle.msrp_core.specs.declared.states.CoreState.{CoreState}
 use Rattle.msrp_plan.specs.Choice.{head, is_before}
@@ -24,7 +23,8 @@ use Rattle.msrp_plan.specs.declared.rows.Row.{Row}
 use Rattle.msrp_plan.proofs.Jobs.JobLists.{core_jobs_below}
 use Rattle.msrp_plan.proofs.Jobs.JobTests.{is_job_is, same_self}
 use Rattle.msrp_plan.proofs.Jobs.States.{state_kept}
-use Rattle.msrp_plan.proofs.Legality.LegalRows.{IsTurn, legal_due, legal_turn, turn_core}
+use Rattle.msrp_plan.proofs.Legality.LegalRows.{IsTurn, legal_turn, turn_core}
+use Rattle.msrp_plan.proofs.Runs.CoreRuns.{reached_tick}
 use Rattle.msrp_plan.proofs.Legality.Locality.{SameStates, ceiling_same, head_same, on_core, running_same}
 use Rattle.msrp_plan.proofs.Lists.AnyAll.{all_weaker, places_push}
 use Rattle.msrp_plan.proofs.Lists.LeastKept.{least_in}
@@ -41,16 +41,11 @@ use Rattle.msrp_why.specs.declared.exercise.TurnCounts.{TurnCounts}
 use Rattle.msrp_why.proofs.Exercising.{few_before, none_more_counted, one_more_counted}
 
 -- ---- a row of a run stands in its core's next tick
-pub tick_is : (plan : PlanModel) (rows : List Row) (r : Row) → IsPlan plan → IsRunStart plan (rows ++ r ∷ []) → length (log_of r.core.0 rows) ≡ r.tick
-tick_is plan rows r ok start =
-    let legal = each_at (IsLegal plan) [] rows r [] start.each in
-    let size = start.size in
-    let l = length-append rows (r ∷ []) in
-    let before : IsRunStart plan rows = record { size = omega (arith, size, l); each = each_before (IsLegal plan) [] rows (r ∷ []) start.each } in
-    (due_after plan rows r ok before (omega (arith, size, l)) legal.turn).due ∙ sym (legal_due plan rows r legal).tick
+pub tick_is : (plan : PlanModel) (rows : List Row) (r : Row) → IsRunStart plan (rows ++ r ∷ []) → length (log_of r.core.0 rows) ≡ r.tick
+tick_is plan rows r start = sym (reached_tick plan rows r (each_before (IsLegal plan) [] rows (r ∷ []) start.each) (each_at (IsLegal plan) [] rows r [] start.each))
 
-pub tick_next : (plan : PlanModel) (rows : List Row) (r : Row) → IsPlan plan → IsRunStart plan (rows ++ r ∷ []) → length (log_of r.core.0 (rows ++ r ∷ [])) ≡ r.tick + 1
-tick_next plan rows r ok start = ap length (log_own rows r r.core.0 refl) ∙ (length-append (log_of r.core.0 rows) (r ∷ []) ∙ ap (λ n. n + 1) (tick_is plan rows r ok start))
+pub tick_next : (plan : PlanModel) (rows : List Row) (r : Row) → IsRunStart plan (rows ++ r ∷ []) → length (log_of r.core.0 (rows ++ r ∷ [])) ≡ r.tick + 1
+tick_next plan rows r start = ap length (log_own rows r r.core.0 refl) ∙ (length-append (log_of r.core.0 rows) (r ∷ []) ∙ ap (λ n. n + 1) (tick_is plan rows r start))
 
 -- ---- who runs and the head are of tasks of the plan
 below : (plan : PlanModel) (c : ℕ) (j : JobId) → Contains (jobs_on plan c) j → j.task.0 < length plan.tasks
@@ -146,7 +141,7 @@ module _ (plan : PlanModel) (rows : List Row) (r : Row) (n : CoreNotes) (ok : Is
   c = r.core.0
 
   is : IsCoreState plan r.core.0 r.tick rows n.state
-  is = subst (λ t. IsCoreState plan r.core.0 t rows n.state) (tick_is plan rows r ok start) was.state
+  is = subst (λ t. IsCoreState plan r.core.0 t rows n.state) (tick_is plan rows r start) was.state
 
   quiet : NoneReleased plan r.core.0 (r.tick + 1) 1
   quiet = λ j on late. let u = is.until j on (omega (arith, late)) in omega (arith, u, early)
@@ -161,7 +156,7 @@ module _ (plan : PlanModel) (rows : List Row) (r : Row) (n : CoreNotes) (ok : Is
   -- what decides the next turn, where as much is done
   goes_with : (s : CoreState) → IsDecidedAlike plan r rows → s.running ≡ n.state.running → s.head ≡ n.state.head → s.ceiling ≡ n.state.ceiling → s.until ≡ n.state.until → ((j : JobId) → r.job ≡ Some j → s.done ≡ done j (rows ++ r ∷ [])) → IsCoreNoted plan (rows ++ r ∷ []) r.core.0 (record n { state = s })
   goes_with s alike runs first above until count = record {
-    state = subst (λ t. IsCoreState plan r.core.0 t (rows ++ r ∷ []) s) (sym (tick_next plan rows r ok start)) (record {
+    state = subst (λ t. IsCoreState plan r.core.0 t (rows ++ r ∷ []) s) (sym (tick_next plan rows r start)) (record {
       running = runs ∙ (is.running ∙ sym alike.running);
       head = first ∙ (is.head ∙ sym alike.head);
       ceiling = above ∙ (is.ceiling ∙ sym alike.ceiling);

@@ -3,6 +3,7 @@ ghost use Rattle.std.specs.Option.{ForSome, IsSomeAnd};
 ghost use Rattle.std.specs.Prelude.{◌≡◌, ◌<◌, ◌+◌, ◌++◌, ◌∷◌, [], List, None, length, true};
 ghost use Rattle.msrp_audit.specs.Audits.{HasFed};
 ghost use Rattle.msrp_plan.specs.Runs.{IsRunStart};
+ghost use Rattle.msrp_plan.specs.WellFormed.{IsPlan};
 ghost use Rattle.msrp_plan.specs.declared.rows.Row.{Row as TraceRow};
 ghost use Rattle.msrp_why.specs.Exercise.{AreTurnCounts, is_kept, is_met};
 ghost use Rattle.msrp_why.specs.Inside.Sections.{AreSections};
@@ -119,13 +120,12 @@ pub(crate) fn note_turn(
     core: &mut CoreNotes,
     row: Row,
 )
+    requires accepted { IsPlan plan.now }
     requires plan { auditor.now.plan ≡ plan.now }
     requires levels { levels.now ≡ plan.now }
     ensures counts { (rows : List TraceRow) → IsRunStart plan.now (rows ++ row ∷ []) → AreSections plan.now sections.now → IsCoreNoted plan.now rows row.core.0 core.old → AreTurnCounts plan.now rows counts.old → AreTurnCounts plan.now (rows ++ row ∷ []) counts.new }
     ensures core { (rows : List TraceRow) → IsRunStart plan.now (rows ++ row ∷ []) → HasFed auditor.now (rows ++ row ∷ []) → auditor.now.fault ≡ None → IsCoreNoted plan.now rows row.core.0 core.old → IsCoreNoted plan.now (rows ++ row ∷ []) row.core.0 core.new }
 {
-    // Read so that the plan is known to be an accepted one.
-    let _accepted = plan.cores();
     if core.goes_on(row) {
         counts.note_again(core.is_kept, core.is_at_ceiling);
         core.go_on(row.kind);

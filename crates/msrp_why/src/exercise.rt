@@ -6,6 +6,7 @@ ghost use Rattle.msrp_plan.specs.declared.rows.Row.{Row as TraceRow};
 ghost use Rattle.msrp_why.specs.Exercise.{AreTurnCounts, ends, is_at, is_entry, is_grant, is_in_tick, is_kept, is_met, is_opening, is_other, is_past, is_queue, one_if};
 ghost use Rattle.msrp_why.specs.FactLines.{is_job_of, units_done};
 ghost use Rattle.msrp_plan.specs.Plan.{PlanModel, units};
+ghost use Rattle.msrp_plan.specs.WellFormed.{IsPlan};
 ghost use Rattle.msrp_why.specs.Inside.Turns.{finishes_from, nests_from};
 ghost use Rattle.msrp_why.specs.Noted.{IsCoreNoted};
 ghost use Rattle.msrp_why.specs.Inside.Sections.{AreSections};
@@ -282,10 +283,9 @@ impl TurnCounts {
 
     /// After a legal row, where it is noted what decided it.
     pub(crate) fn note(&mut self, plan: &Plan, sections: &Sections, core: &CoreNotes, row: Row)
+        requires { IsPlan plan.now }
         ensures { (rows : List TraceRow) → IsRunStart plan.now (rows ++ row ∷ []) → AreSections plan.now sections.now → IsCoreNoted plan.now rows row.core.0 core.now → AreTurnCounts plan.now rows self.old → AreTurnCounts plan.now (rows ++ row ∷ []) self.new }
     {
-        // Read so that the plan is known to be an accepted one.
-        let _accepted = plan.cores();
         let state = core.state;
         let finishes = finishes(plan, state, row);
         let late = is_late(plan, finishes, row);

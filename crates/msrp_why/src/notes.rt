@@ -6,6 +6,7 @@ ghost use Rattle.msrp_plan.specs.Runs.{IsRunStart};
 ghost use Rattle.msrp_plan.specs.declared.rows.Row.{Row as TraceRow};
 ghost use Rattle.msrp_plan.specs.Logs.{log_of};
 ghost use Rattle.msrp_plan.specs.Plan.{PlanModel};
+ghost use Rattle.msrp_plan.specs.WellFormed.{IsPlan};
 ghost use Rattle.msrp_audit.specs.Audits.{HasFed};
 ghost use Rattle.msrp_core.specs.CoreStates.{IsCoreState};
 ghost use Rattle.msrp_why.specs.Inside.Steps.{AreEmptyOf, IsCountStep};
@@ -174,13 +175,12 @@ impl Notes {
     // What is noted of the resources after one row more, which is legal.
     #[inline(always)]
     fn note_row(&mut self, plan: &Plan, row: Row)
+        requires { IsPlan plan.now }
         ensures turns { self.new.turns ≡ self.old.turns }
         ensures cores { self.new.cores ≡ self.old.cores }
         ensures sections { self.new.sections ≡ self.old.sections }
         ensures rows { (rows : List TraceRow) → IsRunStart plan.now (rows ++ row ∷ []) → AreRowsNoted plan.now rows self.old → AreRowsNoted plan.now (rows ++ row ∷ []) self.new }
     {
-        // Read so that the plan is known to be an accepted one.
-        let _accepted = plan.cores();
         let number = self.rows.saturating_add(1);
         self.rows = number;
         self.last = Some(Numbered { number, row });
@@ -198,6 +198,8 @@ impl Notes {
         requires levels { levels.now ≡ plan.now }
         ensures { (rows : List TraceRow) → IsRunStart plan.now (rows ++ row ∷ []) → HasFed auditor.now (rows ++ row ∷ []) → auditor.now.fault ≡ None → AreNoted plan.now rows self.old → AreNoted plan.now (rows ++ row ∷ []) self.new }
     {
+        // Read so that the plan is known to be an accepted one.
+        let _accepted = plan.cores();
         let core = row.core.0 as usize;
         if core < self.cores.len() {
             note_turn(

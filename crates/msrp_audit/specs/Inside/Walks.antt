@@ -1,12 +1,28 @@
--- What a piece of an audit keeps as it goes over the rows.
-use Rattle.std.specs.Prelude.{ℕ, List, [], ◌∷◌, ◌+◌, is_some, length, if◌then◌else◌, slice_index_or, ◌≡◌, ◌<◌}
+-- What a piece of an audit keeps as it goes over the rows, and what is found once for all pieces.
+use Rattle.std.specs.Prelude.{ℕ, List, [], ◌∷◌, ◌+◌, Bool, Some, true, false, is_some, if◌then◌else◌, slice_index_or, slice_get, take, ◌≡◌, ◌≢◌, ◌<◌, ◌≤◌}
 use Rattle.msrp_plan.specs.Plan.{PlanModel}
-use Rattle.msrp_plan.specs.Logs.{log_of}
+use Rattle.msrp_plan.specs.Runs.{IsRunStart, had_turn, is_in_turn}
 use Rattle.msrp_plan.specs.declared.rows.Row.{Row}
 
--- the tick of each core's next turn after these rows: the core had one turn in each tick before it
-abbrev pub AreNextTurns : PlanModel → List ℕ → List Row → Type 0
-AreNextTurns plan ticks rows = (c : ℕ) → c < plan.cores → slice_index_or ticks c 0 ≡ length (log_of c rows)
+-- so many of the rows are steady: each is of the core whose row stands as many rows before it as there are cores, so in each tick the cores have the
+-- order of the first one
+abbrev pub KeepsOrder : ℕ → List Row → ℕ → Type 0
+KeepsOrder cores rows n = (i : ℕ) (r s : Row) → i + cores < n → slice_get rows i ≡ Some r → slice_get rows (i + cores) ≡ Some s → s.core.0 ≡ r.core.0
+
+-- the notes tell of each core whether it had its turn in that tick
+abbrev pub AreTurned : PlanModel → ℕ → List Bool → List Row → Type 0
+AreTurned plan tick notes rows = (c : ℕ) → c < plan.cores → slice_index_or notes c false ≡ had_turn c tick rows
+
+-- the rows from one place up to another are in their turns, where those before them are the start of a legal run, and the one there is not, where it
+-- stands before the end
+pub record AreInTurn (plan : PlanModel) (rows : List Row) (start place end : ℕ) : Type 0 where
+  pub turns : (i : ℕ) (r : Row) → start ≤ i → i < place → slice_get rows i ≡ Some r → IsRunStart plan (take i rows) → is_in_turn plan (take i rows) r ≡ true
+  pub stops : (r : Row) → place < end → slice_get rows place ≡ Some r → IsRunStart plan (take place rows) → is_in_turn plan (take place rows) r ≡ false
+
+-- and so for the tick in which they stand
+pub record AreInTick (rows : List Row) (tick start place end : ℕ) : Type 0 where
+  pub ticks : (i : ℕ) (r : Row) → start ≤ i → i < place → slice_get rows i ≡ Some r → r.tick ≡ tick
+  pub stops : (r : Row) → place < end → slice_get rows place ≡ Some r → r.tick ≢ tick
 
 -- the places, counted from this one on, of the rows that name a resource
 abbrev pub naming_places : ℕ → List Row → List ℕ

@@ -1,5 +1,5 @@
 -- The texts that are kept of the rows that cores are known to make, as rows are judged.
-use Rattle.std.specs.Prelude.{ℕ, List, Bool, true, false, Some, slice_index_or, ◌≡◌, ◌<◌}
+use Rattle.std.specs.Prelude.{ℕ, List, [], true, Some, ◌≡◌, ◌<◌}
 use Rattle.msrp_plan.specs.Plan.{PlanModel}
 use Rattle.msrp_plan.specs.Stretches.{in_tick}
 use Rattle.msrp_plan.specs.declared.rows.Row.{Row}
@@ -14,10 +14,6 @@ pub record IsKept (version : TextVersion) (plan : PlanModel) (text : List ℕ) (
   pub is : text ≡ after_tick version plan (as_read version r)
   pub whole : (t : ℕ) → is_short t ≡ true → is_told_whole version plan (in_tick t (as_read version r)) ≡ true
 
--- where the next row of a core is known, its text is kept, if what is kept of the core is whole
-abbrev pub KeepsKnown : TextVersion → PlanModel → CoresModel → TextsModel → List Bool → Type 0
-KeepsKnown version plan cores texts whole = (c : ℕ) → c < plan.cores → slice_index_or whole c false ≡ true → (r : Row) → known_row cores c ≡ Some r → IsKept version plan (text_of_core texts c) r
-
--- what is kept of the core is the text of the row, if it is whole
-abbrev pub KeepsRow : TextVersion → PlanModel → TextsModel → List Bool → ℕ → Row → Type 0
-KeepsRow version plan texts whole c r = slice_index_or whole c false ≡ true → IsKept version plan (text_of_core texts c) r
+-- where the next row of a core is known, the text that is kept of the core, if there is one, is that row's
+abbrev pub KeepsKnown : TextVersion → PlanModel → CoresModel → TextsModel → Type 0
+KeepsKnown version plan cores texts = (c : ℕ) → c < plan.cores → ¬ (text_of_core texts c ≡ []) → (r : Row) → known_row cores c ≡ Some r → IsKept version plan (text_of_core texts c) r

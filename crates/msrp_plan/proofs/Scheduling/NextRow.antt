@@ -13,6 +13,7 @@ use Rattle.msrp_plan.specs.Actions.{allows, same_res, res_of_unit, is_global_uni
 use Rattle.msrp_plan.specs.Examples.Notation.{idle}
 use Rattle.msrp_plan.specs.Queues.{fifo, replies, counts, is_free, is_first}
 use Rattle.msrp_plan.specs.Runs.{IsLegal, EachAfter, had_turn, same_choice, replies_on}
+use Rattle.msrp_plan.specs.Logs.{log_of}
 use Rattle.msrp_plan.specs.Scheduling.{IsDueCore, HasNext}
 use Rattle.msrp_plan.specs.WellFormed.{IsPlan}
 use Rattle.msrp_plan.specs.declared.ids.JobId.{JobId}
@@ -31,6 +32,8 @@ use Rattle.msrp_plan.proofs.TaskUnits.Stands.{Waits, stand, stand_in, stand_wait
 use Rattle.msrp_plan.proofs.Choosing.Live.{is_live, nothing_done}
 use Rattle.msrp_plan.proofs.Lists.LeastKept.{least_in}
 use Rattle.msrp_plan.proofs.Choosing.Turns.{has_turn, runs_live}
+use Rattle.msrp_plan.proofs.Legality.LegalRows.{legal_due}
+use Rattle.msrp_plan.proofs.Runs.CoreRuns.{reached_tick}
 use Rattle.msrp_plan.proofs.Runs.RoundRobin.{in_turn_of}
 use Rattle.msrp_plan.proofs.Blocking.Sound.{head_ready, is_ready}
 use Rattle.msrp_plan.proofs.Blocking.SectionRows.{few_at}
@@ -171,3 +174,9 @@ next_by plan pre c (Some x) turn ok all due =
 -- after each start a core that is due has one
 pub next_row : (plan : PlanModel) (pre : List Row) (c : ℕ) → IsPlan plan → EachAfter (IsLegal plan) [] pre → IsDueCore plan pre c → HasNext plan pre c
 next_row plan pre c ok all due = next_by plan pre c (choice plan c (length pre / plan.cores) pre) refl ok all due
+
+-- and has had one turn in each full tick
+pub turns_when_due : (plan : PlanModel) (pre : List Row) (c : ℕ) → IsPlan plan → EachAfter (IsLegal plan) [] pre → IsDueCore plan pre c → length (log_of c pre) ≡ length pre / plan.cores
+turns_when_due plan pre c ok all due =
+    let next = next_row plan pre c ok all due in
+    subst (λ n. length (log_of n pre) ≡ length pre / plan.cores) next.core (sym (reached_tick plan pre next.row all next.legal) ∙ (legal_due plan pre next.row next.legal).tick)

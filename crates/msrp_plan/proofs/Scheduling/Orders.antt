@@ -12,7 +12,7 @@ use Rattle.msrp_plan.specs.Plan.{PlanModel}
 use Rattle.msrp_plan.specs.Aheads.{carries_its_ahead, carries_ahead}
 use Rattle.msrp_plan.specs.Logs.{log_of, core_order, ascending}
 use Rattle.msrp_plan.specs.Runs.{IsLegal, IsRun, EachAfter}
-use Rattle.msrp_plan.specs.Scheduling.{IsDueCore, IsNextCore, IsOrder, HasOneRun}
+use Rattle.msrp_plan.specs.Scheduling.{IsDueCore, IsDueInOrder, IsOrder, HasOneRun}
 use Rattle.msrp_plan.specs.WellFormed.{IsPlan}
 use Rattle.msrp_plan.specs.declared.rows.Row.{Row}
 use Rattle.msrp_plan.proofs.Lists.Prefixes.{along, each_along, each_push}
@@ -38,14 +38,14 @@ record IsBuilt (plan : PlanModel) (order : List ℕ) : Type 0 where
 built_length : (plan : PlanModel) (order : List ℕ) → (b : IsBuilt plan order) → length b.rows ≡ length order
 built_length plan order b = sym (length-map b.rows (λ (r : Row). r.core.0)) ∙ ap length b.turns
 
--- the next core is due
-next_due : (plan : PlanModel) (order : List ℕ) (c : ℕ) → (b : IsBuilt plan order) → IsNextCore plan order c → IsDueCore plan b.rows c
+-- a core that is due after the turns is due after their rows
+next_due : (plan : PlanModel) (order : List ℕ) (c : ℕ) → (b : IsBuilt plan order) → IsDueInOrder plan order c → IsDueCore plan b.rows c
 next_due plan order c b next =
-    let log : length (log_of c b.rows) ≡ length b.rows / plan.cores = sym (turns_of b.rows c) ∙ (ap (count_by (λ d. d == c)) b.turns ∙ (next.due ∙ ap (λ n. n / plan.cores) (sym (built_length plan order b)))) in
+    let log : length (log_of c b.rows) ≡ length b.rows / plan.cores = sym (turns_of b.rows c) ∙ (ap (count_by (λ d. d == c)) b.turns ∙ (next.turns ∙ ap (λ n. n / plan.cores) (sym (built_length plan order b)))) in
     record { core = next.core; once = due_by_log plan b.rows c b.legal next.core log }
 
 -- so the start goes on with its row
-built_push : (plan : PlanModel) → IsPlan plan → (order : List ℕ) (c : ℕ) → IsBuilt plan order → IsNextCore plan order c → IsBuilt plan (order ++ c ∷ [])
+built_push : (plan : PlanModel) → IsPlan plan → (order : List ℕ) (c : ℕ) → IsBuilt plan order → IsDueInOrder plan order c → IsBuilt plan (order ++ c ∷ [])
 built_push plan ok order c b next =
     let now = next_row plan b.rows c ok b.legal (next_due plan order c b next) in
     record {
@@ -58,7 +58,7 @@ built_push plan ok order c b next =
 -- each order has one run
 pub one_run : (plan : PlanModel) (order : List ℕ) → IsPlan plan → IsOrder plan order → HasOneRun plan order
 one_run plan order ok o =
-    let b = along (IsBuilt plan) (IsNextCore plan) (built_push plan ok) [] order (record { rows = []; turns = refl; legal = tt; carries = refl }) o.each in
+    let b = along (IsBuilt plan) (IsDueInOrder plan) (built_push plan ok) [] order (record { rows = []; turns = refl; legal = tt; carries = refl }) o.each in
     let run : IsRun plan b.rows = record { size = built_length plan order b ∙ o.size; each = b.legal } in
     record { rows = b.rows; turns = b.turns; run = run; carries = b.carries; only = λ other turns its carries. same_carrying_runs plan other b.rows its run (turns ∙ sym b.turns) carries b.carries }
 
@@ -68,19 +68,19 @@ each_map : {X Y : Type 0} (f : X → Y) (P : List Y → Y → Type 0) (pre xs : 
 each_map f P pre [] all = tt
 each_map f P pre (x ∷ xs) all = (all.0, subst (λ ys. EachAfter P ys (map f xs)) (map-append f pre (x ∷ [])) (each_map f P (pre ++ x ∷ []) xs all.1))
 
--- a legal row is of the next core
-row_next : (plan : PlanModel) (pre : List Row) (r : Row) → EachAfter (IsLegal plan) [] pre → IsLegal plan pre r → IsNextCore plan (core_order pre) r.core.0
+-- a legal row is of a core that is due
+row_next : (plan : PlanModel) (pre : List Row) (r : Row) → EachAfter (IsLegal plan) [] pre → IsLegal plan pre r → IsDueInOrder plan (core_order pre) r.core.0
 row_next plan pre r all legal =
     let due = legal_due plan pre r legal in
     let same : length (core_order pre) ≡ length pre = length-map pre (λ (w : Row). w.core.0) in
-    record { core = due.core; due = turns_of pre r.core.0 ∙ (sym (reached_tick plan pre r all legal) ∙ (due.tick ∙ ap (λ n. n / plan.cores) (sym same))) }
+    record { core = due.core; turns = turns_of pre r.core.0 ∙ (sym (reached_tick plan pre r all legal) ∙ (due.tick ∙ ap (λ n. n / plan.cores) (sym same))) }
 
 -- the turns of a run are an order
 pub order_of_run : (plan : PlanModel) (rows : List Row) → IsRun plan rows → IsOrder plan (core_order rows)
 order_of_run plan rows run = record {
   size = length-map rows (λ (r : Row). r.core.0) ∙ run.size;
-  each = each_map (λ (r : Row). r.core.0) (IsNextCore plan) [] rows
-      (each_along (λ pre. EachAfter (IsLegal plan) [] pre) (IsLegal plan) (λ pre r. IsNextCore plan (core_order pre) r.core.0) (λ pre r all legal. each_push (IsLegal plan) [] pre r all legal) (row_next plan) [] rows tt run.each);
+  each = each_map (λ (r : Row). r.core.0) (IsDueInOrder plan) [] rows
+      (each_along (λ pre. EachAfter (IsLegal plan) [] pre) (IsLegal plan) (λ pre r. IsDueInOrder plan (core_order pre) r.core.0) (λ pre r all legal. each_push (IsLegal plan) [] pre r all legal) (row_next plan) [] rows tt run.each);
 }
 
 -- ---- the cores in rising order
@@ -105,22 +105,22 @@ rising_turns plan t c l =
     let full = ascending_count plan.cores t c l in
     omega (arith, a, b, e, none, full)
 
-rising_next : (plan : PlanModel) (t c : ℕ) → c < plan.cores → IsNextCore plan (rising plan t c) c
-rising_next plan t c l = record { core = l; due = rising_turns plan t c l ∙ sym (ap (λ n. n / plan.cores) (rising_length plan t c) ∙ div-mul-add t plan.cores c l) }
+rising_next : (plan : PlanModel) (t c : ℕ) → c < plan.cores → IsDueInOrder plan (rising plan t c) c
+rising_next plan t c l = record { core = l; turns = rising_turns plan t c l ∙ sym (ap (λ n. n / plan.cores) (rising_length plan t c) ∙ div-mul-add t plan.cores c l) }
 
 -- within a tick
-rising_within : (plan : PlanModel) (t c : ℕ) → c ≤ plan.cores → EachAfter (IsNextCore plan) [] (ascending plan.cores t) → EachAfter (IsNextCore plan) [] (rising plan t c)
-rising_within plan t zero l all = subst (EachAfter (IsNextCore plan) []) (sym (append-nil (ascending plan.cores t))) all
+rising_within : (plan : PlanModel) (t c : ℕ) → c ≤ plan.cores → EachAfter (IsDueInOrder plan) [] (ascending plan.cores t) → EachAfter (IsDueInOrder plan) [] (rising plan t c)
+rising_within plan t zero l all = subst (EachAfter (IsDueInOrder plan) []) (sym (append-nil (ascending plan.cores t))) all
 rising_within plan t (suc c) l all =
     let more : rising plan t c ++ c ∷ [] ≡ rising plan t (c + 1) =
     append_assoc (ascending plan.cores t) (range_with_len 0 c) (c ∷ []) ∙ ap (λ cs. ascending plan.cores t ++ cs) (ap (λ d. range_with_len 0 c ++ d ∷ []) (omega arith) ∙ sym (range_more 0 c)) in
-    subst (EachAfter (IsNextCore plan) []) (more ∙ ap (rising plan t) (add-one c)) (each_push (IsNextCore plan) [] (rising plan t c) c (rising_within plan t c (omega (arith, l)) all) (rising_next plan t c (omega (arith, l))))
+    subst (EachAfter (IsDueInOrder plan) []) (more ∙ ap (rising plan t) (add-one c)) (each_push (IsDueInOrder plan) [] (rising plan t c) c (rising_within plan t c (omega (arith, l)) all) (rising_next plan t c (omega (arith, l))))
 
 -- tick by tick
-rising_each : (plan : PlanModel) (t : ℕ) → EachAfter (IsNextCore plan) [] (ascending plan.cores t)
+rising_each : (plan : PlanModel) (t : ℕ) → EachAfter (IsDueInOrder plan) [] (ascending plan.cores t)
 rising_each plan zero = tt
 rising_each plan (suc t) =
-    subst (EachAfter (IsNextCore plan) []) (sym (flat_more (λ k. range_with_len 0 plan.cores) t) ∙ ap (ascending plan.cores) (add-one t)) (rising_within plan t plan.cores (omega arith) (rising_each plan t))
+    subst (EachAfter (IsDueInOrder plan) []) (sym (flat_more (λ k. range_with_len 0 plan.cores) t) ∙ ap (ascending plan.cores) (add-one t)) (rising_within plan t plan.cores (omega arith) (rising_each plan t))
 
 -- so they are an order
 pub ascending_is_order : (plan : PlanModel) → IsOrder plan (ascending plan.cores plan.ticks)

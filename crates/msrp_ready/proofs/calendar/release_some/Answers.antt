@@ -14,15 +14,15 @@ no_job = record { job = record { task = record { 0 = 0 }; k = 0 }; key = record 
 pub loop-job-preserved : goal.loop-job-preserved
 unfolding no_job
 loop-job-preserved c =
-    let due = take (c.due_to-until.result - c.args.from) (drop c.args.from c.args.calendar.now) in
+    let released = take (c.released_to-until.result - c.args.from) (drop c.args.from c.args.calendar.now) in
     let at = c.loop-job.job-index in
     let before = c.loop-job.invariant in
-    let job = get_or due at no_job in
-    let more = take_more due at no_job c.loop-job-test.true in
+    let job = get_or released at no_job in
+    let more = take_more released at no_job c.loop-job-test.true in
     let size = length_permutation _ _ c.push.ensures.jobs in
     let few = few_of_most 1 2 (length c.loop-job.heap.jobs + 1) c.loop-job.heap.compared c.push.new.self.compared c.push.ensures.walk (omega arith) in
     record {
-      jobs = subst (λ l. IsPermutation (c.args.heap.now.jobs ++ l) c.push.new.self.jobs) (sym more) (subst (λ l. IsPermutation l c.push.new.self.jobs) (append_assoc c.args.heap.now.jobs (take at due) (job ∷ [])) (IsPermutation-push_more (c.args.heap.now.jobs ++ take at due) c.loop-job.heap.jobs c.push.new.self.jobs job before.jobs c.push.ensures.jobs));
+      jobs = subst (λ l. IsPermutation (c.args.heap.now.jobs ++ l) c.push.new.self.jobs) (sym more) (subst (λ l. IsPermutation l c.push.new.self.jobs) (append_assoc c.args.heap.now.jobs (take at released) (job ∷ [])) (IsPermutation-push_more (c.args.heap.now.jobs ++ take at released) c.loop-job.heap.jobs c.push.new.self.jobs job before.jobs c.push.ensures.jobs));
       size = omega (arith, size, before.size);
       room = c.push.ensures.room ∙ before.room;
       compared = omega (arith, few, before.compared);
@@ -35,6 +35,6 @@ loop-job-preserved c =
 
 pub returns-clause-jobs : goal.returns-clause-jobs
 returns-clause-jobs c =
-    let due = take (c.due_to-until.result - c.args.from) (drop c.args.from c.args.calendar.now) in
-    let all : take c.loop-job.job-index due ≡ drop c.args.from (take c.due_to-until.result c.args.calendar.now) = take_all c.loop-job.job-index due (omega (arith, c.loop-job-test.false)) ∙ between_slice c.args.from c.due_to-until.result c.args.calendar.now c.due_to-until.ensures.from in
+    let released = take (c.released_to-until.result - c.args.from) (drop c.args.from c.args.calendar.now) in
+    let all : take c.loop-job.job-index released ≡ drop c.args.from (take c.released_to-until.result c.args.calendar.now) = take_all c.loop-job.job-index released (omega (arith, c.loop-job-test.false)) ∙ between_slice c.args.from c.released_to-until.result c.args.calendar.now c.released_to-until.ensures.from in
     subst (λ l. IsPermutation (c.args.heap.now.jobs ++ l) c.loop-job.heap.jobs) all c.loop-job.invariant.jobs

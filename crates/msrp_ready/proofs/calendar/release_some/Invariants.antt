@@ -4,7 +4,7 @@ use Rattle.msrp_ready.proofs.calendar.release_some.Given as goal
 
 abbrev pub invariant-loop-job : goal.invariant-loop-job
 invariant-loop-job l = record {
-  jobs : IsPermutation (l.initial.heap.jobs ++ take l.job-index l.due) l.heap.jobs;
+  jobs : IsPermutation (l.initial.heap.jobs ++ take l.job-index l.released) l.heap.jobs;
   size : length l.heap.jobs ≡ length l.initial.heap.jobs + l.job-index;
   room : l.heap.room ≡ l.initial.heap.room;
   compared : l.heap.compared ≤ l.initial.heap.compared + 13 * l.job-index;

@@ -11,7 +11,7 @@ pub returns-then-count-lt4-clause-finds : goal.returns-then-count-lt4-clause-fin
 returns-then-count-lt4-clause-finds c = λ after is. (starts_is Decides-eqb c.args.text.now c.args.front.now _ c.starts_with.ensures.value).1 after is
 
 pub returns-clause-begins : goal.returns-clause-begins
-returns-clause-begins c = λ yes. front-met c.args.text.now c.args.front.now (c.is_same.ensures.same yes)
+returns-clause-begins c = λ yes. front-met c.args.text.now c.args.front.now (c.is_short_same.ensures.same yes)
 
 pub returns-clause-finds : goal.returns-clause-finds
-returns-clause-finds c = λ after is. c.is_same.ensures.finds (front-same c.args.text.now c.args.front.now after is)
+returns-clause-finds c = λ after is. c.is_short_same.ensures.finds (front-same c.args.text.now c.args.front.now after is)

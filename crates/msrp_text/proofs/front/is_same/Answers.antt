@@ -1,15 +1,15 @@
 use Rattle.std.proofs.Common.{◌≡◌, ◌-◌, ◌∙◌, drop, length, sym, take}
-use Rattle.std.proofs.lemmas.Slice.Eq.{bytes_eq-Decides}
+use Rattle.std.proofs.lemmas.Bool.{and_parts}
 use Rattle.msrp_text.proofs.Chunks.{ends-same}
 use Rattle.msrp_text.proofs.front.is_same.Goals as goal
 
-pub returns-then-eq-clause-same : goal.returns-then-eq-clause-same
-returns-then-eq-clause-same g c = λ yes.
+pub returns-clause-same : goal.returns-clause-same
+returns-clause-same c = λ yes.
     let text = c.args.text.now in
     let other = c.args.other.now in
-    let size = g.row.CHUNK in
     let one = c.in-Some-Some in
     let two = c.in-Some-Some-2 in
-    let first : take size text ≡ take size other = sym one.ensures.cases.same ∙ (bytes_eq-Decides one.first.now one.same_first.now).0 (sym c.eq.ensures ∙ c.if-eq.true) ∙ one.ensures'.cases.same in
-    let last : drop (length text - size) text ≡ drop (length other - size) other = sym two.ensures.cases.1.same ∙ (bytes_eq-Decides two.last.now two.same_last.now).0 (sym c.eq-then-eq.ensures ∙ yes) ∙ two.ensures'.cases.1.same in
-    ends-same size text other c.requires.length c.requires.two first last
+    let both = and_parts _ _ yes in
+    let first : take 8 text ≡ take 8 other = sym one.ensures.cases.same ∙ c.is_same_8.ensures.same both.0 ∙ one.ensures'.cases.same in
+    let last : drop (length text - 8) text ≡ drop (length other - 8) other = sym two.ensures.cases.1.same ∙ c.is_same_8-2.ensures.same both.1 ∙ two.ensures'.cases.1.same in
+    ends-same 8 text other c.requires.length c.requires.two first last

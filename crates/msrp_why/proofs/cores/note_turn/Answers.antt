@@ -16,14 +16,14 @@ returns-then-goes_on-clause-counts c = λ rows start sections was counts.
     let r = c.args.row in
     let e = c.if-goes_on.ensures in
     subst (λ (k : TurnCounts). AreTurnCounts plan (rows ++ r ∷ []) k) (sym c.note_again.ensures)
-    (goes_on_counted plan rows r c.args.core.now c.cores-accepted.ensures.plan start was (e.until refl) (e.job refl) (e.kind refl) c.args.counts.now counts)
+    (goes_on_counted plan rows r c.args.core.now c.requires.accepted start was (e.until refl) (e.job refl) (e.kind refl) c.args.counts.now counts)
 
 pub returns-then-goes_on-clause-core : goal.returns-then-goes_on-clause-core
 returns-then-goes_on-clause-core c = λ rows start fed none was.
     let plan = c.args.plan.now in
     let r = c.args.row in
     let e = c.if-goes_on.ensures in
-    subst (λ (k : CoreNotes). IsCoreNoted plan (rows ++ r ∷ []) r.core.0 k) (sym c.go_on.ensures) (goes_on_noted plan rows r c.args.core.now c.cores-accepted.ensures.plan start was (e.until refl) (e.job refl) (e.kind refl))
+    subst (λ (k : CoreNotes). IsCoreNoted plan (rows ++ r ∷ []) r.core.0 k) (sym c.go_on.ensures) (goes_on_noted plan rows r c.args.core.now c.requires.accepted start was (e.until refl) (e.job refl) (e.kind refl))
 
 pub returns-in-Some-clause-core : goal.returns-in-Some-clause-core
 returns-in-Some-clause-core c = λ rows start fed none was.

@@ -1,7 +1,7 @@
 use Rattle.std.proofs.Common.{◌≡◌, ◌+◌, ◌*◌, ◌<◌, ◌==◌, List, None, Some, length, refl, ap, sym, ◌∙◌, subst, arith}
 use Rattle.std.proofs.lemmas.Bool.{eqb-true}
 use Rattle.msrp_plan.specs.declared.rows.Row.{Row as TraceRow}
-use Rattle.msrp_audit.specs.Audits.{AuditorModel, HasFed, IsCoreDue, has_turn}
+use Rattle.msrp_audit.specs.Audits.{AuditorModel, HasFed, IsDueInAudit, has_turn}
 use Rattle.msrp_audit.proofs.Judging.{has_turn_is, left_in, none_of, tick_now}
 use Rattle.msrp_audit.proofs.auditor.Auditor.is_due.Goals as goal
 
@@ -14,7 +14,7 @@ returns-clause-due c = λ e.
     let size = c.cores.ensures.value in
     let early = c.if-self-ticks.false in
     let all = c.ticks.ensures.value in
-    subst (λ (b : AuditorModel). IsCoreDue b c.args.core.0) c.self.view_is (record {
+    subst (λ (b : AuditorModel). IsDueInAudit b c.args.core.0) c.self.view_is (record {
       fault = none_of c.self.inside.fault (sym c.is_some.ensures ∙ c.if-is_some.false);
       core = omega (arith, past, size);
       left = left_in at.tick plan.cores at.place plan.ticks i.place (omega (arith, early, all));

@@ -2,13 +2,13 @@ use Rattle.std.proofs.Common.{◌≤◌, sym, ◌∙◌, arith, inl, inr}
 use Rattle.std.proofs.Math.Bool.{true≢false}
 use Rattle.std.proofs.lemmas.Bool.{cases_lt}
 use Rattle.msrp_plan.specs.Plan.{release}
-use Rattle.msrp_core.proofs.Repeating.{due_then}
+use Rattle.msrp_core.proofs.Repeating.{released_then}
 use Rattle.msrp_core.proofs.jobs.Jobs.quiet_until.Goals as goal
 
 pub returns-in-Some : goal.returns-in-Some
 returns-in-Some c = λ j on later.
     let ready = c.args.self.now.ready in
-    let now = due_then ready c.args.tick j c.requires on later in
+    let now = released_then ready c.args.tick j c.requires on later in
     let r = release ready.plan j in
     let past : c.in-Some.next ≤ r = elim (cases_lt r c.in-Some.next) [
       | inl early ↦ absurd (true≢false (sym now ∙ c.in-Some.ensures.first r early))
@@ -20,4 +20,4 @@ returns-in-Some c = λ j on later.
 pub returns-in-None : goal.returns-in-None
 returns-in-None c = λ j on later.
     let ready = c.args.self.now.ready in
-    absurd (true≢false (sym (due_then ready c.args.tick j c.requires on later) ∙ c.in-None.ensures.none (release ready.plan j)))
+    absurd (true≢false (sym (released_then ready c.args.tick j c.requires on later) ∙ c.in-None.ensures.none (release ready.plan j)))

@@ -1,29 +1,53 @@
-use Rattle.std.proofs.Common.{◌≡◌, ◌++◌, ◌∷◌, ◌/◌, [], length, Some, None, Ok, ap, sym, ◌∙◌, subst}
+use Rattle.std.proofs.Common.{◌≡◌, ◌++◌, ◌∷◌, ◌/◌, [], length, true, Some, None, Ok, refl, ap, sym, ◌∙◌, subst}
 use Rattle.msrp_audit.specs.Audits.{AuditorModel, Awaits, HasFed}
 use Rattle.msrp_plan.specs.Plan.{PlanModel}
+use Rattle.msrp_plan.specs.Stretches.{in_tick}
 use Rattle.msrp_plan.specs.declared.rows.Row.{Row}
-use Rattle.msrp_trace.specs.Readers.{GivesNext, told_left}
-use Rattle.msrp_engine.specs.Judging.{rows_left}
-use Rattle.msrp_engine.proofs.KeptTexts.{same_row}
+use Rattle.msrp_trace.specs.Gathering.{after_tick}
+use Rattle.msrp_trace.specs.Laws.{as_read, is_told_whole}
+use Rattle.msrp_trace.specs.Readers.{GivesNext, IsTextOf, told_left}
+use Rattle.msrp_trace.specs.Texts.{text_of_core}
+use Rattle.msrp_engine.specs.Inside.Kept.{KeepsKnown}
+use Rattle.msrp_engine.proofs.KeptTexts.{keeps_same, read_as, same_row}
 use Rattle.msrp_engine.proofs.judged.JudgedRows.meets_turn.Goals as goal
+
+pub invariant_of-self-clause-known : goal.invariant_of-self-clause-known
+invariant_of-self-clause-known g c =
+    let j = c.turn-due.new.self in
+    subst (λ v. KeepsKnown v j.auditor.plan j.auditor.cores j.texts) (sym c.comes_behind.ensures.trace.0) j.known
+
+pub invariant_of-self-2-clause-known : goal.invariant_of-self-2-clause-known
+invariant_of-self-2-clause-known g c =
+    let j = c.turn-due.new.self in
+    let same = c.accept.ensures.same in
+    subst (λ v. KeepsKnown v c.accept.new.self.plan c.accept.new.self.cores j.texts) (sym c.comes_behind.ensures.trace.0)
+    (keeps_same j.rows.version j.auditor.plan c.accept.new.self.plan j.auditor.cores c.accept.new.self.cores j.texts (ap (λ (a : AuditorModel). a.plan) same) (ap (λ (a : AuditorModel). a.cores) same) j.known)
 
 pub returns-clause-gives : goal.returns-clause-gives
 returns-clause-gives g c = λ yes told known.
+    let j = c.turn-due.new.self in
     let e = c.turn-due.ensures in
-    let m = c.meets.ensures in
+    let due = c.turn-due.result in
+    let row = in_tick c.args.tick (as_read j.rows.version due) in
+    let text : IsTextOf j.rows j.texts c.args.tick c.args.core.0 row = record {
+      tick = refl;
+      whole = subst (λ q. is_told_whole j.rows.version q row ≡ true) (sym j.plan) (e.kept.whole c.args.tick c.requires.short);
+      text = subst (λ q. text_of_core j.texts c.args.core.0 ≡ after_tick j.rows.version q row) (sym j.plan) e.kept.is;
+    } in
     let left = subst (λ r. told_left g.T.Read.remaining r ≡ Some told) (sym e.rows) known in
-    same_row _ _ _ _ (λ (r : Row). GivesNext told (Ok (Some r)) (rows_left g.T.Read.remaining c.meets.new.self)) c.args.tick m.version (m.due ∙ c.in_tick-self.ensures) (m.gives yes c.turn-due.result told e.kept left)
+    same_row _ _ _ _ (λ (r : Row). GivesNext told (Ok (Some r)) (told_left g.T.Read.remaining c.comes_behind.new.self)) c.args.tick c.comes_behind.ensures.trace.0 c.in_tick-self.ensures (c.comes_behind.ensures.taken c.if-not-comes_behind.false row told text left)
 
 pub returns-clause-fed : goal.returns-clause-fed
 returns-clause-fed g c = λ yes rows fed here.
     let e = c.turn-due.ensures in
-    let m = c.meets.ensures in
+    let due = c.turn-due.result in
+    let version = c.comes_behind.new.self.version in
     let awaits = e.awaits rows fed in
     let now = here ∙ (ap (λ (p : PlanModel). length rows / p.cores) (sym e.plan) ∙ sym awaits.tick) in
-    same_row _ _ _ _ (λ (r : Row). HasFed c.meets.new.self.auditor (rows ++ r ∷ []) × (c.meets.new.self.auditor.fault ≡ None)) c.args.tick m.version (m.due ∙ c.in_tick-self.ensures) (m.fed yes c.turn-due.result rows awaits now)
+    same_row version version _ due (λ (r : Row). HasFed c.accept.new.self (rows ++ r ∷ []) × (c.accept.new.self.fault ≡ None)) c.args.tick refl c.in_tick-self.ensures (
+      c.accept.ensures.fed rows c.args.core.0 due (in_tick c.args.tick (as_read version due)) awaits now (read_as version c.args.tick due),
+      ap (λ (a : AuditorModel). a.fault) c.accept.ensures.same ∙ awaits.fault,
+    )
 
-pub returns-clause-awaits : goal.returns-clause-awaits
-returns-clause-awaits g c = λ no rows fed.
-    let e = c.turn-due.ensures in
-    let m = c.meets.ensures in
-    subst (λ (a : AuditorModel). Awaits a rows c.args.core.0 c.meets.new.self.due) (sym (m.same no)) (subst (λ (d : Row). Awaits c.turn-due.new.self.auditor rows c.args.core.0 d) (sym (m.due ∙ c.in_tick-self.ensures)) (e.awaits rows fed))
+pub returns-then-not-comes_behind-clause-awaits : goal.returns-then-not-comes_behind-clause-awaits
+returns-then-not-comes_behind-clause-awaits g c = λ no rows fed. subst (λ (d : Row). Awaits c.turn-due.new.self.auditor rows c.args.core.0 d) (sym c.in_tick-self.ensures) (c.turn-due.ensures.awaits rows fed)

@@ -12,16 +12,16 @@ use Rattle.msrp_engine.proofs.KeptTexts.{cores_if, keeps_if, keeps_same, read_as
 use Rattle.msrp_engine.proofs.judged.JudgedRows.next_again.Goals as goal
 
 pub invariant_of-self-clause-known : goal.invariant_of-self-clause-known
-invariant_of-self-clause-known g c = let j = c.args.self.now in subst (λ v. KeepsKnown v j.auditor.plan j.auditor.cores j.texts j.whole) (sym c.comes_behind.ensures.trace.0) j.known
+invariant_of-self-clause-known g c = let j = c.args.self.now in subst (λ v. KeepsKnown v j.auditor.plan j.auditor.cores j.texts) (sym c.comes.ensures.trace.0) j.known
 
 pub invariant_of-self-2-clause-known : goal.invariant_of-self-2-clause-known
 invariant_of-self-2-clause-known g c =
     let j = c.args.self.now in
     let e = c.repeat.ensures in
     let same = c.accept.ensures.same in
-    let turned = keeps_if j.rows.version j.auditor.plan j.auditor.cores c.repeat.new.self.cores j.texts j.whole c.args.core.0 c.repeat.result c.requires.accepted.draft.cores.1 c.requires.due.core (cores_if c.repeat.result j.auditor c.repeat.new.self e.none) e.known e.core e.leaves j.known in
-    subst (λ v. KeepsKnown v c.accept.new.self.plan c.accept.new.self.cores j.texts j.whole) (sym c.comes_behind.ensures.trace.0)
-    (keeps_same j.rows.version j.auditor.plan c.accept.new.self.plan c.repeat.new.self.cores c.accept.new.self.cores j.texts j.whole (ap (λ (a : AuditorModel). a.plan) same ∙ e.plan) (ap (λ (a : AuditorModel). a.cores) same) turned)
+    let turned = keeps_if j.rows.version j.auditor.plan j.auditor.cores c.repeat.new.self.cores j.texts c.args.core.0 c.repeat.result c.requires.accepted.draft.cores.1 (c.is_due.ensures.due c.if-not-is_due.false).core (cores_if c.repeat.result j.auditor c.repeat.new.self e.none) e.known e.core e.leaves j.known in
+    subst (λ v. KeepsKnown v c.accept.new.self.plan c.accept.new.self.cores j.texts) (sym c.comes.ensures.trace.0)
+    (keeps_same j.rows.version j.auditor.plan c.accept.new.self.plan c.repeat.new.self.cores c.accept.new.self.cores j.texts (ap (λ (a : AuditorModel). a.plan) same ∙ e.plan) (ap (λ (a : AuditorModel). a.cores) same) turned)
 
 pub returns-clause-gives : goal.returns-clause-gives
 returns-clause-gives g c = λ told known.
@@ -30,19 +30,19 @@ returns-clause-gives g c = λ told known.
     let t = c.args.tick in
     let due = c.in-Some.due in
     let row = in_tick t (as_read j.rows.version due) in
-    let kept : IsKept j.rows.version j.auditor.plan (text_of_core j.texts k) due = j.known k c.requires.due.core c.if-not-self-core.false due c.in-Some.ensures.known in
+    let kept : IsKept j.rows.version j.auditor.plan (text_of_core j.texts k) due = j.known k (c.is_due.ensures.due c.if-not-is_due.false).core (c.comes.ensures.some c.if-not-comes.false) due c.in-Some.ensures.known in
     let text : IsTextOf j.rows j.texts t k row = record {
       tick = refl;
       whole = subst (λ q. is_told_whole j.rows.version q row ≡ true) (sym j.plan) (kept.whole t c.requires.short);
       text = subst (λ q. text_of_core j.texts k ≡ after_tick j.rows.version q row) (sym j.plan) kept.is;
     } in
-    let made : c.in_tick.result ≡ row = c.in_tick.ensures ∙ ap (in_tick t) (c.as_read.ensures ∙ ap (λ v. as_read v due) c.comes_behind.ensures.trace.0) in
-    subst (λ x. GivesNext told (Ok (Some x)) (told_left g.T.Read.remaining c.comes_behind.new.self)) (sym made) (c.comes_behind.ensures.taken c.if-not-comes_behind.false row told text known)
+    let made : c.in_tick.result ≡ row = c.in_tick.ensures ∙ ap (in_tick t) (c.as_read.ensures ∙ ap (λ v. as_read v due) c.comes.ensures.trace.0) in
+    subst (λ x. GivesNext told (Ok (Some x)) (told_left g.T.Read.remaining c.comes.new.self)) (sym made) (c.comes.ensures.taken c.if-not-comes.false row told text known)
 
 pub returns-clause-fed : goal.returns-clause-fed
 returns-clause-fed g c = λ rows fed now.
     let due = c.in-Some.due in
-    let version = c.comes_behind.new.self.version in
+    let version = c.comes.new.self.version in
     let same = c.accept.ensures.same in
     let awaits = c.in-Some.ensures.awaits rows fed in
     let tick : c.args.tick ≡ due.tick = now ∙ (ap (λ (p : PlanModel). length rows / p.cores) (sym c.repeat.ensures.plan) ∙ sym awaits.tick) in

@@ -4,7 +4,7 @@ use Rattle.msrp_engine.specs.Inside.Kept.{KeepsKnown}
 use Rattle.msrp_engine.proofs.judged.JudgedRows.read.Goals as goal
 
 pub invariant_of-self-clause-known : goal.invariant_of-self-clause-known
-invariant_of-self-clause-known g c = let j = c.args.self.now in subst (λ v. KeepsKnown v j.auditor.plan j.auditor.cores j.texts j.whole) (sym c.next_row.ensures.trace.0) j.known
+invariant_of-self-clause-known g c = let j = c.args.self.now in subst (λ v. KeepsKnown v j.auditor.plan j.auditor.cores j.texts) (sym c.next_row.ensures.trace.0) j.known
 
 pub returns-clause-judged : goal.returns-clause-judged
 returns-clause-judged g c = λ rows fed none.

@@ -6,7 +6,7 @@ use Rattle.msrp_engine.proofs.NextRows.{given-at, given-some}
 use Rattle.msrp_engine.proofs.judged.JudgedRows.read_due.Goals as goal
 
 pub invariant_of-self-clause-known : goal.invariant_of-self-clause-known
-invariant_of-self-clause-known g c = let j = c.args.self.now in subst (λ v. KeepsKnown v j.auditor.plan j.auditor.cores j.texts j.whole) (sym c.next_row.ensures.trace.0) j.known
+invariant_of-self-clause-known g c = let j = c.args.self.now in subst (λ v. KeepsKnown v j.auditor.plan j.auditor.cores j.texts) (sym c.next_row.ensures.trace.0) j.known
 
 pub returns-in_default-clause-read : goal.returns-in_default-clause-read
 returns-in_default-clause-read g c = λ told known begins e.

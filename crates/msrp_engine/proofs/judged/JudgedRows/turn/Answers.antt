@@ -1,18 +1,34 @@
-use Rattle.std.proofs.Common.{sym, subst}
-use Rattle.msrp_trace.specs.Texts.{text_of_core}
+use Rattle.std.proofs.Common.{ap, sym, ◌∙◌, subst}
+use Rattle.msrp_trace.specs.Texts.{TextsModel, text_of_core}
 use Rattle.msrp_engine.specs.Inside.Kept.{IsKept, KeepsKnown}
-use Rattle.msrp_engine.proofs.KeptTexts.{cores_if, keeps_if}
+use Rattle.msrp_engine.proofs.KeptTexts.{shown_keeps, shown_own, told_named, turn_told}
 use Rattle.msrp_engine.proofs.judged.JudgedRows.turn.Goals as goal
+
+pub show-requires : goal.show-requires
+show-requires g c =
+    let j = c.args.self.now in
+    let due = c.turn_anew-due.result in
+    told_named j.rows.version j.auditor.plan j.texts j.texts c.args.core.0 due c.as_read-told.result j.version j.texts_plan c.as_read-told.ensures c.turn_anew-due.ensures.core (turn_told j.rows.version j.auditor.plan c.args.core.0 due c.requires.accepted c.requires.due.core c.turn_anew-due.ensures.turn)
+
+pub invariant_of-self-clause-texts_plan : goal.invariant_of-self-clause-texts_plan
+invariant_of-self-clause-texts_plan g c = ap (λ (t : TextsModel). t.plan) c.show.ensures.texts ∙ (c.args.self.now.texts_plan ∙ sym c.turn_anew-due.ensures.plan)
+
+pub invariant_of-self-clause-version : goal.invariant_of-self-clause-version
+invariant_of-self-clause-version g c = ap (λ (t : TextsModel). t.version) c.show.ensures.texts ∙ c.args.self.now.version
 
 pub invariant_of-self-clause-known : goal.invariant_of-self-clause-known
 invariant_of-self-clause-known g c =
     let j = c.args.self.now in
-    let e = c.repeat.ensures in
-    let none = cores_if c.repeat.result j.auditor c.repeat.new.self e.none in
-    subst (λ p. KeepsKnown j.rows.version p c.repeat.new.self.cores j.texts j.whole) (sym e.plan)
-    (keeps_if j.rows.version j.auditor.plan j.auditor.cores c.repeat.new.self.cores j.texts j.whole c.args.core.0 c.repeat.result c.requires.accepted.draft.cores.1 c.requires.due.core none e.known e.core e.leaves j.known)
+    let due = c.turn_anew-due.result in
+    subst (λ p. KeepsKnown j.rows.version p c.turn_anew-due.new.self.cores c.show.new.self) (sym c.turn_anew-due.ensures.plan)
+    (shown_keeps j.rows.version j.auditor.plan j.texts c.show.new.self c.args.core.0 due c.as_read-told.result j.version j.texts_plan c.as_read-told.ensures c.turn_anew-due.ensures.core
+    (turn_told j.rows.version j.auditor.plan c.args.core.0 due c.requires.accepted c.requires.due.core c.turn_anew-due.ensures.turn)
+    j.auditor.cores c.turn_anew-due.new.self.cores c.requires.accepted.draft.cores.1 c.requires.due.core c.turn_anew-due.ensures.leaves c.show.ensures.texts c.show.ensures.here j.known)
 
-pub returns-in-Some-clause-kept : goal.returns-in-Some-clause-kept
-returns-in-Some-clause-kept g c = λ flag.
+pub returns-clause-kept : goal.returns-clause-kept
+returns-clause-kept g c =
     let j = c.args.self.now in
-    subst (λ p. IsKept j.rows.version p (text_of_core j.texts c.args.core.0) c.in-Some.due) (sym c.repeat.ensures.plan) (j.known c.args.core.0 c.requires.due.core flag c.in-Some.due c.in-Some.ensures.known)
+    let due = c.turn_anew-due.result in
+    subst (λ p. IsKept j.rows.version p (text_of_core c.show.new.self c.args.core.0) due) (sym c.turn_anew-due.ensures.plan)
+    (shown_own j.rows.version j.auditor.plan j.texts c.show.new.self c.args.core.0 due c.as_read-told.result j.version j.texts_plan c.as_read-told.ensures c.turn_anew-due.ensures.core
+    (turn_told j.rows.version j.auditor.plan c.args.core.0 due c.requires.accepted c.requires.due.core c.turn_anew-due.ensures.turn) c.show.ensures.here)

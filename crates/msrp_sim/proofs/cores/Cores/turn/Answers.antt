@@ -1,9 +1,8 @@
-use Rattle.std.proofs.Common.{◌<◌, ◌++◌, ◌∷◌, [], List, length, refl, ap, sym, ◌∙◌, subst}
+use Rattle.std.proofs.Common.{◌≡◌, ◌<◌, Some, slice_get, length, refl, ap, sym, ◌∙◌, subst}
 use Rattle.std.specs.Vec.{with_item}
 use Rattle.msrp_plan.specs.Plan.{PlanModel}
-use Rattle.msrp_plan.specs.Runs.{IsLegal}
-use Rattle.msrp_plan.specs.declared.rows.Row.{Row as TraceRow}
-use Rattle.msrp_sim.specs.Cores.{CoresModel, StandFor, IsDueAfter, IsNextRow, IsSomeTurn, IsAs, Leaves, TakesTurn}
+use Rattle.msrp_core.specs.Machine.{MachineModel}
+use Rattle.msrp_sim.specs.Cores.{CoresModel, IsSomeTurn, Leaves, MakesNext, StandOn, TakesTurn}
 use Rattle.msrp_sim.specs.CoresView.{cores_view}
 use Rattle.msrp_sim.proofs.Foreseeing.{has_machine, left}
 use Rattle.msrp_sim.proofs.Repeating.{at_core, leaves}
@@ -45,59 +44,44 @@ note_turn-requires-clause-resource c =
 pub note_turn-requires-clause-drawn : goal.note_turn-requires-clause-drawn
 note_turn-requires-clause-drawn c = few_drawn (cores_view c.self.inside) c.self.invariant
 
+-- the cores before the turn, and the machine of the core, which has ticks left
+abbrev old : goal.After-result-1 → CoresModel
+old c = cores_view c.self.inside
+
+abbrev machine : goal.After-result-1 → MachineModel
+machine c = c.index_mut-machine.result.now
+
+has : (c : goal.After-result-1) → slice_get (old c).machines c.args.core.0 ≡ Some (machine c)
+has c = has_machine (old c) c.args.core.0 (machine c) c.args.self.now c.self.invariant c.self.view_is c.requires.core c.index_mut-machine.ensures.value
+
+has_left : (c : goal.After-result-1) → (machine c).tick < (old c).plan.ticks
+has_left c = left (old c) c.args.core.0 (machine c) c.args.self.now c.self.invariant c.self.view_is c.requires.core c.index_mut-machine.ensures.value c.requires.tick
+
+-- the cores after it
+abbrev new : goal.After-result-1 → CoresModel
+new c = cores_view (record { plan = c.self.inside.plan; machines = with_item c.self.inside.machines c.args.core.0 c.turn_by-turned.new.machine; queues = c.note_turn.new.queues })
+
+abbrev takes : (c : goal.After-result-1) → TakesTurn (old c) (new c) c.args.core.0 c.turn_by-turned.result.row
+takes c = record { plan = refl; before = machine c; after = c.turn_by-turned.new.machine; call = c.turn_by-turned.result.call; has = has c; machines = refl; turned = c.turn_by-turned.ensures; same = c.note_turn.ensures.none; noted = c.note_turn.ensures.noted }
+
 pub invariant_of-self : goal.invariant_of-self
-invariant_of-self c =
-    let m = cores_view c.self.inside in
-    let x = c.index_mut-machine.result.now in
-    let has = has_machine m c.args.core.0 x c.args.self.now c.self.invariant c.self.view_is c.requires.core c.index_mut-machine.ensures.value in
-    let n = cores_view (record { plan = c.self.inside.plan; machines = with_item c.self.inside.machines c.args.core.0 c.turn_by-turned.new.machine; queues = c.note_turn.new.queues }) in
-    let t : TakesTurn m n c.args.core.0 c.turn_by-turned.result.row = record { plan = refl; before = x; after = c.turn_by-turned.new.machine; call = c.turn_by-turned.result.call; has = has; machines = refl; turned = c.turn_by-turned.ensures; same = c.note_turn.ensures.none; noted = c.note_turn.ensures.noted } in
-    cores_kept m n c.args.core.0 c.turn_by-turned.result.row c.self.invariant t (left m c.args.core.0 x c.args.self.now c.self.invariant c.self.view_is c.requires.core c.index_mut-machine.ensures.value c.requires.tick)
+invariant_of-self c = cores_kept (old c) (new c) c.args.core.0 c.turn_by-turned.result.row c.self.invariant (takes c) (has_left c)
 
 pub returns-clause-next : goal.returns-clause-next
 returns-clause-next c =
-    let m = cores_view c.self.inside in
-    let x = c.index_mut-machine.result.now in
-    let has = has_machine m c.args.core.0 x c.args.self.now c.self.invariant c.self.view_is c.requires.core c.index_mut-machine.ensures.value in
-    let n = cores_view (record { plan = c.self.inside.plan; machines = with_item c.self.inside.machines c.args.core.0 c.turn_by-turned.new.machine; queues = c.note_turn.new.queues }) in
-    let t : TakesTurn m n c.args.core.0 c.turn_by-turned.result.row = record { plan = refl; before = x; after = c.turn_by-turned.new.machine; call = c.turn_by-turned.result.call; has = has; machines = refl; turned = c.turn_by-turned.ensures; same = c.note_turn.ensures.none; noted = c.note_turn.ensures.noted } in
-    let P : CoresModel → Type 0 = λ o. (rows : List TraceRow) → StandFor o rows → IsDueAfter o.plan rows c.args.core.0 → IsNextRow o.plan rows c.args.core.0 c.turn_by-turned.result.row in
-    subst P c.self.view_is (λ rows stands due. next_legal m n c.args.core.0 c.turn_by-turned.result.row rows c.self.invariant stands due t)
+    subst (λ (o : CoresModel). MakesNext o c.args.core.0 c.turn_by-turned.result.row) c.self.view_is (λ rows stands due. next_legal (old c) (new c) c.args.core.0 c.turn_by-turned.result.row rows c.self.invariant stands due (takes c))
 
 pub returns-clause-stand : goal.returns-clause-stand
 returns-clause-stand c =
-    let m = cores_view c.self.inside in
-    let x = c.index_mut-machine.result.now in
-    let has = has_machine m c.args.core.0 x c.args.self.now c.self.invariant c.self.view_is c.requires.core c.index_mut-machine.ensures.value in
-    let n = cores_view (record { plan = c.self.inside.plan; machines = with_item c.self.inside.machines c.args.core.0 c.turn_by-turned.new.machine; queues = c.note_turn.new.queues }) in
-    let t : TakesTurn m n c.args.core.0 c.turn_by-turned.result.row = record { plan = refl; before = x; after = c.turn_by-turned.new.machine; call = c.turn_by-turned.result.call; has = has; machines = refl; turned = c.turn_by-turned.ensures; same = c.note_turn.ensures.none; noted = c.note_turn.ensures.noted } in
-    let P : CoresModel → Type 0 = λ o. (rows : List TraceRow) (row : TraceRow) → StandFor o rows → IsDueAfter o.plan rows c.args.core.0 → IsAs c.turn_by-turned.result.row row → IsLegal o.plan rows row → StandFor n (rows ++ row ∷ []) in
-    subst P c.self.view_is (λ rows row stands due like legal. stand_push m n c.args.core.0 c.turn_by-turned.result.row row rows c.self.invariant stands due t like legal)
+    subst (λ (o : CoresModel). StandOn o (new c) c.args.core.0 c.turn_by-turned.result.row) c.self.view_is (λ rows row stands due like legal. stand_push (old c) (new c) c.args.core.0 c.turn_by-turned.result.row row rows c.self.invariant stands due (takes c) like legal)
 
 pub returns-clause-leaves : goal.returns-clause-leaves
-returns-clause-leaves c =
-    let m = cores_view c.self.inside in
-    let x = c.index_mut-machine.result.now in
-    let has = has_machine m c.args.core.0 x c.args.self.now c.self.invariant c.self.view_is c.requires.core c.index_mut-machine.ensures.value in
-    let n = cores_view (record { plan = c.self.inside.plan; machines = with_item c.self.inside.machines c.args.core.0 c.turn_by-turned.new.machine; queues = c.note_turn.new.queues }) in
-    let t : TakesTurn m n c.args.core.0 c.turn_by-turned.result.row = record { plan = refl; before = x; after = c.turn_by-turned.new.machine; call = c.turn_by-turned.result.call; has = has; machines = refl; turned = c.turn_by-turned.ensures; same = c.note_turn.ensures.none; noted = c.note_turn.ensures.noted } in
-    subst (λ (o : CoresModel). Leaves o n c.turn_by-turned.result.row) c.self.view_is (leaves m n c.args.core.0 c.turn_by-turned.result.row c.self.invariant t)
+returns-clause-leaves c = subst (λ (o : CoresModel). Leaves o (new c) c.turn_by-turned.result.row) c.self.view_is (leaves (old c) (new c) c.args.core.0 c.turn_by-turned.result.row c.self.invariant (takes c))
 
 pub returns-clause-core : goal.returns-clause-core
-returns-clause-core c =
-    let m = cores_view c.self.inside in
-    let x = c.index_mut-machine.result.now in
-    let has = has_machine m c.args.core.0 x c.args.self.now c.self.invariant c.self.view_is c.requires.core c.index_mut-machine.ensures.value in
-    let n = cores_view (record { plan = c.self.inside.plan; machines = with_item c.self.inside.machines c.args.core.0 c.turn_by-turned.new.machine; queues = c.note_turn.new.queues }) in
-    let t : TakesTurn m n c.args.core.0 c.turn_by-turned.result.row = record { plan = refl; before = x; after = c.turn_by-turned.new.machine; call = c.turn_by-turned.result.call; has = has; machines = refl; turned = c.turn_by-turned.ensures; same = c.note_turn.ensures.none; noted = c.note_turn.ensures.noted } in
-    at_core m n c.args.core.0 c.turn_by-turned.result.row c.self.invariant t
+returns-clause-core c = at_core (old c) (new c) c.args.core.0 c.turn_by-turned.result.row c.self.invariant (takes c)
 
 pub returns-clause-turn : goal.returns-clause-turn
 returns-clause-turn c =
-    let m = cores_view c.self.inside in
-    let x = c.index_mut-machine.result.now in
-    let has = has_machine m c.args.core.0 x c.args.self.now c.self.invariant c.self.view_is c.requires.core c.index_mut-machine.ensures.value in
-    let n = cores_view (record { plan = c.self.inside.plan; machines = with_item c.self.inside.machines c.args.core.0 c.turn_by-turned.new.machine; queues = c.note_turn.new.queues }) in
-    let t : TakesTurn m n c.args.core.0 c.turn_by-turned.result.row = record { plan = refl; before = x; after = c.turn_by-turned.new.machine; call = c.turn_by-turned.result.call; has = has; machines = refl; turned = c.turn_by-turned.ensures; same = c.note_turn.ensures.none; noted = c.note_turn.ensures.noted } in
     subst (λ (o : CoresModel). IsSomeTurn o.plan c.args.core.0 c.turn_by-turned.result.row) c.self.view_is
-    (some_turn m n c.args.core.0 c.turn_by-turned.result.row c.self.invariant t (left m c.args.core.0 x c.args.self.now c.self.invariant c.self.view_is c.requires.core c.index_mut-machine.ensures.value c.requires.tick))
+    (some_turn (old c) (new c) c.args.core.0 c.turn_by-turned.result.row c.self.invariant (takes c) (has_left c))

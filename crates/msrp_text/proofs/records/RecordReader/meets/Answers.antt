@@ -1,61 +1,55 @@
-use Rattle.std.proofs.Common.{◌≡◌, ◌==◌, ◌⊎◌, ◌<◌, ◌++◌, ℕ, List, Some, true, length, inl, inr, sym, subst, arith}
-use Rattle.std.specs.List.{list_any}
-use mathlib.Core.Bool.{true≢false}
-use Rattle.msrp_text.specs.Lines.{HasRead}
+use Rattle.std.proofs.Common.{◌+◌, ◌++◌, ◌∙◌, List, ℕ, ap, inl, inr, length, refl, subst, sym}
+use Rattle.std.proofs.lemmas.Bool.{cases_Bool}
 use Rattle.msrp_text.specs.Plain.{BeginsWith}
-use Rattle.msrp_text.specs.Records.{bytes_ahead, bytes_left, read_failed}
-use Rattle.msrp_text.specs.declared.front.TheConstants.{LONGEST}
-use Rattle.msrp_text.proofs.AheadBytes.{bytes-ahead, kept-known}
-use Rattle.msrp_text.proofs.Fronts.{begins-fed, begins-first, begins-known, begins-taken}
-use Rattle.msrp_text.proofs.records.RecordReader.meets.Goals.{then-ahead-le-LONGEST, else-ahead-le-LONGEST}
+use Rattle.msrp_text.specs.Records.{bytes_ahead, read_failed}
+use Rattle.msrp_text.proofs.AheadBytes.{kept-known}
+use Rattle.msrp_text.proofs.Fronts.{begins-known, begins-on, begins-taken, comes-ahead, line-fed}
 use Rattle.msrp_text.proofs.records.RecordReader.meets.Goals as goal
 
-pub returns-in-Some-clause-begins : goal.returns-in-Some-clause-begins
-returns-in-Some-clause-begins g c = λ yes bytes known.
-    let line = c.args.front.now ++ c.args.rest.now in
-    let reader = c.if-ahead-le-LONGEST.self in
-    let here : bytes_left g.R.Read.remaining reader ≡ Some bytes = elim c.if-ahead-le-LONGEST.branch [
-      | then-ahead-le-LONGEST w ↦ rw w.self-is (kept-known _ _ bytes w.read_line_ahead.ensures.bytes known)
-      | else-ahead-le-LONGEST w ↦ rw w.self-is known
-    ] in
-    let met = rw c.ahead-2.ensures at c.in-Some.ensures.line in
-    begins-known g.R.Read.remaining reader bytes line here (begins-taken line (bytes_ahead reader) c.in-Some.taken met.2)
+pub returns-then-goes_on-clause-taken : goal.returns-then-goes_on-clause-taken
+returns-then-goes_on-clause-taken g c = λ yes rest is plain left known.
+    let met = rw c.ahead.ensures at (c.goes_on.ensures.begins c.if-goes_on.true) in
+    let ended = line-fed _ c.args.front.now rest _ c.args.line.now _ met.1 refl is in
+    c.take_line.ensures.next (c.args.front.now ++ rest) (inl ended) plain left (c.look_ahead.ensures.same left known)
 
-pub returns-in-Some-clause-line : goal.returns-in-Some-clause-line
-returns-in-Some-clause-line g c = λ yes plain bytes number read.
-    let line = c.args.front.now ++ c.args.rest.now in
-    let reader = c.if-ahead-le-LONGEST.self in
-    let here : HasRead g.R.Read.remaining bytes number reader = elim c.if-ahead-le-LONGEST.branch [
-      | then-ahead-le-LONGEST w ↦ rw w.self-is (w.read_line_ahead.ensures.still bytes number read)
-      | else-ahead-le-LONGEST w ↦ rw w.self-is read
-    ] in
-    let met = rw c.ahead-2.ensures at c.in-Some.ensures.line in
-    c.take_line.ensures.line line bytes number met.2 plain here.taken
+pub returns-then-goes_on-clause-begins : goal.returns-then-goes_on-clause-begins
+returns-then-goes_on-clause-begins g c = λ yes rest is bytes known.
+    let met = rw c.ahead.ensures at (c.goes_on.ensures.begins c.if-goes_on.true) in
+    let ended = line-fed _ c.args.front.now rest _ c.args.line.now _ met.1 refl is in
+    begins-known g.R.Read.remaining c.look_ahead.new.self bytes (c.args.front.now ++ rest) (kept-known _ _ bytes c.look_ahead.ensures.bytes known)
+    (begins-taken (c.args.front.now ++ rest) _ (length c.args.front.now + length c.args.line.now) (inl ended))
 
-pub returns-in-None-clause-still : goal.returns-in-None-clause-still
-returns-in-None-clause-still g c = λ no bytes number read. elim c.if-ahead-le-LONGEST.branch [
-  | then-ahead-le-LONGEST w ↦ rw w.self-is (w.read_line_ahead.ensures.still bytes number read)
-  | else-ahead-le-LONGEST w ↦ rw w.self-is read
-]
+pub returns-then-goes_on-clause-line : goal.returns-then-goes_on-clause-line
+returns-then-goes_on-clause-line g c = λ yes rest is plain bytes number read.
+    let met = rw c.ahead.ensures at (c.goes_on.ensures.begins c.if-goes_on.true) in
+    let ended = line-fed _ c.args.front.now rest _ c.args.line.now _ met.1 refl is in
+    c.take_line.ensures.line (c.args.front.now ++ rest) bytes number (inl ended) plain (c.look_ahead.ensures.still bytes number read).taken
 
-pub returns-in-None-clause-finds : goal.returns-in-None-clause-finds
-returns-in-None-clause-finds g c = λ bytes known few plain begins.
-    let line = c.args.front.now ++ c.args.rest.now in
-    let reader = c.if-ahead-le-LONGEST.self in
-    let here : bytes_left g.R.Read.remaining reader ≡ Some bytes = elim c.if-ahead-le-LONGEST.branch [
-      | then-ahead-le-LONGEST w ↦ rw w.self-is (kept-known _ _ bytes w.read_line_ahead.ensures.bytes known)
-      | else-ahead-le-LONGEST w ↦ rw w.self-is known
-    ] in
-    let enough : (list_any (λ byte. byte == 10) (bytes_ahead reader) ≡ true) ⊎ (LONGEST < length (bytes_ahead reader)) ⊎ (read_failed reader ≡ true) ⊎ (bytes ≡ bytes_ahead reader) = elim c.if-ahead-le-LONGEST.branch [
-      | then-ahead-le-LONGEST w ↦ rw w.self-is (w.read_line_ahead.ensures.line bytes (kept-known _ _ bytes w.read_line_ahead.ensures.bytes known))
-      | else-ahead-le-LONGEST w ↦ rw w.self-is (inr (inl (rw c.ahead.ensures at w.if-ahead-le-LONGEST.false)))
-    ] in
-    let none : BeginsWith line (bytes_ahead reader) → ⊥ = λ met. true≢false (sym (c.in-None.ensures.finds (rw (← c.ahead-2.ensures) at met))) in
-    let rest = bytes-ahead g.R.Read.remaining reader bytes here in
-    let all = subst (λ (t : List ℕ). BeginsWith line t) rest.1 begins in
-    elim enough [
-      | inl fed ↦ absurd (none (begins-fed line (bytes_ahead reader) rest.0 plain fed all))
-      | inr (inl long) ↦ absurd (none (begins-first line (bytes_ahead reader) rest.0 (omega (arith, few, long)) all))
-      | inr (inr (inl failed)) ↦ inr failed
-      | inr (inr (inr whole)) ↦ absurd (none (subst (λ (t : List ℕ). BeginsWith line t) whole begins))
+pub returns-clause-ahead : goal.returns-clause-ahead
+returns-clause-ahead g c = λ rest is begins.
+    let grown = c.look_ahead.ensures.grows in
+    c.meets_apart.ensures.ahead rest is (subst (λ (t : List ℕ). BeginsWith (c.args.front.now ++ rest) t) (sym grown.1) (begins-on (c.args.front.now ++ rest) (bytes_ahead c.args.self.now) grown.0 begins))
+
+pub returns-clause-begins : goal.returns-clause-begins
+returns-clause-begins g c = λ yes rest is bytes known.
+    begins-known g.R.Read.remaining c.look_ahead.new.self bytes (c.args.front.now ++ rest) (kept-known _ _ bytes c.look_ahead.ensures.bytes known) (c.meets_apart.ensures.begins yes rest is)
+
+pub returns-clause-finds : goal.returns-clause-finds
+returns-clause-finds g c = λ rest is bytes known few plain begins.
+    let left = kept-known _ _ bytes c.look_ahead.ensures.bytes known in
+    elim (comes-ahead g.R.Read.remaining c.look_ahead.new.self bytes (c.args.front.now ++ rest) _ left few plain begins (c.look_ahead.ensures.line bytes left)) [
+      | inl here ↦ inl (c.meets_apart.ensures.ahead rest is here)
+      | inr failed ↦ elim (cases_Bool c.meets_apart.result) [
+        | inl met ↦ inl met
+        | inr other ↦ inr (ap (λ r. read_failed r) (c.meets_apart.ensures.same other) ∙ failed)
+      ]
     ]
+
+pub returns-clause-line : goal.returns-clause-line
+returns-clause-line g c = λ yes rest is plain bytes number read. c.meets_apart.ensures.line yes rest is plain bytes number (c.look_ahead.ensures.still bytes number read)
+
+pub returns-clause-still : goal.returns-clause-still
+returns-clause-still g c = λ no bytes number read. c.meets_apart.ensures.still no bytes number (c.look_ahead.ensures.still bytes number read)
+
+pub returns-clause-grows : goal.returns-clause-grows
+returns-clause-grows g c = λ no. let grown = c.look_ahead.ensures.grows in (grown.0, ap (λ r. bytes_ahead r) (c.meets_apart.ensures.same no) ∙ grown.1)

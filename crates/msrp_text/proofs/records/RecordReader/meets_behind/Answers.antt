@@ -1,7 +1,21 @@
-use Rattle.std.proofs.Common.{◌++◌}
+use Rattle.std.proofs.Common.{◌+◌, ◌++◌, ◌-◌, inl, length}
+use Rattle.msrp_text.proofs.Fronts.{begins-taken, front-behind, line-fed}
 use Rattle.msrp_text.proofs.records.RecordReader.meets_behind.Goals as goal
 
-pub returns-in-Some-clause-line : goal.returns-in-Some-clause-line
-returns-in-Some-clause-line g c = λ yes plain bytes number read.
-    let met = rw c.ahead.ensures at c.in-Some.ensures.line in
-    c.take_line.ensures.line (c.args.front.now ++ c.args.rest.now) bytes number met.2 plain read.taken
+pub returns-then-not-is_empty-clause-taken : goal.returns-then-not-is_empty-clause-taken
+returns-then-not-is_empty-clause-taken g c = λ yes rest is plain.
+    let behind = rw c.ahead.ensures at (c.begins_with_long.ensures.begins c.if-begins_with_long.true) in
+    let ended = line-fed _ c.args.front.now rest _ c.args.line.now _ (front-behind _ c.args.front.now c.requires) behind.1 is in
+    c.take_line.ensures.next (c.args.front.now ++ rest) (inl ended) plain
+
+pub returns-then-not-is_empty-clause-begins : goal.returns-then-not-is_empty-clause-begins
+returns-then-not-is_empty-clause-begins g c = λ yes rest is.
+    let behind = rw c.ahead.ensures at (c.begins_with_long.ensures.begins c.if-begins_with_long.true) in
+    let ended = line-fed _ c.args.front.now rest _ c.args.line.now _ (front-behind _ c.args.front.now c.requires) behind.1 is in
+    begins-taken (c.args.front.now ++ rest) _ (length c.args.front.now + length c.args.line.now) (inl ended)
+
+pub returns-then-not-is_empty-clause-line : goal.returns-then-not-is_empty-clause-line
+returns-then-not-is_empty-clause-line g c = λ yes rest is plain bytes number read.
+    let behind = rw c.ahead.ensures at (c.begins_with_long.ensures.begins c.if-begins_with_long.true) in
+    let ended = line-fed _ c.args.front.now rest _ c.args.line.now _ (front-behind _ c.args.front.now c.requires) behind.1 is in
+    c.take_line.ensures.line (c.args.front.now ++ rest) bytes number (inl ended) plain read.taken

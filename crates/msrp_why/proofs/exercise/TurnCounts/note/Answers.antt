@@ -12,11 +12,11 @@ pub returns : goal.returns
 returns c = λ rows start sections noted was.
     let plan = c.args.plan.now in
     let r = c.args.row in
-    let ok = c.cores-accepted.ensures.plan in
+    let ok = c.requires in
     let legal = each_at (IsLegal plan) [] rows r [] start.each in
     let core = c.args.core.now in
     let s = core.state in
-    let is = subst (λ t. IsCoreState plan r.core.0 t rows s) (tick_is plan rows r ok start) noted.state in
+    let is = subst (λ t. IsCoreState plan r.core.0 t rows s) (tick_is plan rows r start) noted.state in
     let job = job_below plan rows r s ok legal is in
     let known = job_known plan rows r s ok legal is in
     let step = c.note_again.ensures in

@@ -14,7 +14,7 @@ returns-then-res-len-clause-rows c = λ rows start noted.
     let items = c.args.self.now.resources.items in
     let one : ResourceNotes = c.index_mut.result.now in
     let new : ResourceNotes = c.note.new.self in
-    let ok = c.cores-accepted.ensures.plan in
+    let ok = c.requires in
     let size : c.len.result ≡ length items = c.len.ensures ∙ c.args.self.now.resources.ok.0 in
     let low = c.if-res-len.true in
     let has : slice_get items res.0 ≡ Some one = slice_get_read items (length items) res.0 one refl (omega (arith, low, size)) c.index_mut.ensures.value in
@@ -35,7 +35,7 @@ returns-else-res-len-clause-rows c = λ rows start noted.
     let items = c.args.self.now.resources.items in
     let size : c.len.result ≡ length items = c.len.ensures ∙ c.args.self.now.resources.ok.0 in
     let past = c.if-res-len.false in
-    let number = one_more c.args.plan.now rows r c.args.self.now.rows c.saturating_add-number.result c.cores-accepted.ensures.plan start noted.count c.saturating_add-number.ensures in
+    let number = one_more c.args.plan.now rows r c.args.self.now.rows c.saturating_add-number.result c.requires start noted.count c.saturating_add-number.ensures in
     record {
       count = number ∙ sym (length-append rows (r ∷ []));
       last = last_row_push rows r c.saturating_add-number.result number;
@@ -46,7 +46,7 @@ returns-else-res-len-clause-rows c = λ rows start noted.
 pub returns-in_default-clause-rows : goal.returns-in_default-clause-rows
 returns-in_default-clause-rows c = λ rows start noted.
     let r = c.args.row in
-    let number = one_more c.args.plan.now rows r c.args.self.now.rows c.saturating_add-number.result c.cores-accepted.ensures.plan start noted.count c.saturating_add-number.ensures in
+    let number = one_more c.args.plan.now rows r c.args.self.now.rows c.saturating_add-number.result c.requires start noted.count c.saturating_add-number.ensures in
     record {
       count = number ∙ sym (length-append rows (r ∷ []));
       last = last_row_push rows r c.saturating_add-number.result number;

@@ -1,0 +1,21 @@
+use Rattle.std.proofs.Common.{◌≡◌, ◌*◌, ◌+◌, ◌-◌, ◌/◌, sym, ap, ◌∙◌, arith, inl, inr, eq-eqb}
+use Rattle.std.proofs.lemmas.Bool.{cases_lt, lt-ltb, le-ltb}
+use Rattle.std.proofs.lemmas.Nat.{div-add-mod', mod_below}
+use Rattle.msrp_plan.proofs.Lists.Ranges.{not_equal}
+use Rattle.msrp_audit.proofs.Judging.{tick_now}
+use Rattle.msrp_audit.proofs.core_rows.is_in_tick.Goals as goal
+
+pub returns-then-first-index : goal.returns-then-first-index
+returns-then-first-index c = λ some.
+    let cores = c.args.cores in
+    let i = c.args.index in
+    let first = c.args.tick * cores in
+    let low = c.if-first-index.true in
+    elim (cases_lt i (first + cores)) [
+      | inl lt ↦ lt-ltb i (first + cores) lt ∙ sym (eq-eqb c.args.tick (i / cores) (tick_now c.args.tick cores (i - first) i (omega (arith, lt, low, some)) (omega (arith, low))))
+      | inr ge ↦
+          let whole = div-add-mod' i cores in
+          let rest = mod_below i cores some in
+          le-ltb i (first + cores) ge
+          ∙ sym (not_equal c.args.tick (i / cores) (λ e. let same : first ≡ i / cores * cores = ap (λ n. n * cores) e in absurd (omega (arith, whole, rest, same, ge))))
+    ]

@@ -1,0 +1,26 @@
+use Rattle.std.proofs.Common.{Some, None, ap, sym, ◌∙◌}
+use Rattle.msrp_ready.specs.Ready.{ReadyModel, head}
+use Rattle.msrp_ready.proofs.Ahead.{ahead_of}
+use Rattle.msrp_ready.proofs.ready.Ready.head_of_released.Goals as goal
+
+pub returns-in_err-first : goal.returns-in_err-first
+returns-in_err-first c =
+    let r = c.self.inside in
+    let until = c.released_to-until.ensures in
+    let first = c.first.ensures in
+    c.from_residual.ensures
+    ∙ ahead_of r.plan.now r.core.0 r.tick r.calendar.items c.deref.result.now c.deref-2.result.now r.next r.heap c.args.tick c.released_to-until.result c.first.result None c.deref.ensures.value c.deref-2.ensures.value c.self.invariant
+    (λ before e. c.requires before (sym (ap (λ (v : ReadyModel). v.tick) c.self.view_is) ∙ e)) until.from until.within until.released until.later (record { none = first.none; one = first.one; first = first.first })
+    (record { none = c.in_err-first.ensures.none; one = tt; first = tt })
+    ∙ ap (λ (v : ReadyModel). head (record v { tick = Some c.args.tick })) c.self.view_is
+
+pub returns : goal.returns
+returns c =
+    let r = c.self.inside in
+    let until = c.released_to-until.ensures in
+    let first = c.first.ensures in
+    let told = c.in_ok-first.ensures in
+    ahead_of r.plan.now r.core.0 r.tick r.calendar.items c.deref.result.now c.deref-2.result.now r.next r.heap c.args.tick c.released_to-until.result c.first.result (Some c.in_ok-first.first) c.deref.ensures.value c.deref-2.ensures.value c.self.invariant
+    (λ before e. c.requires before (sym (ap (λ (v : ReadyModel). v.tick) c.self.view_is) ∙ e)) until.from until.within until.released until.later (record { none = first.none; one = first.one; first = first.first })
+    (record { none = tt; one = told.one; first = told.first })
+    ∙ ap (λ (v : ReadyModel). head (record v { tick = Some c.args.tick })) c.self.view_is

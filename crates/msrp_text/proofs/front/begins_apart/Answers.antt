@@ -1,0 +1,14 @@
+use Rattle.std.proofs.Common.{drop, length}
+use Rattle.std.proofs.lemmas.Slice.Eq.{starts_is}
+use Rattle.std.proofs.lemmas.Bool.Decides.{Decides-eqb}
+use Rattle.msrp_text.proofs.Chunks.{front-met}
+use Rattle.msrp_text.proofs.front.begins_apart.Goals as goal
+
+pub returns-then-count-lt32-clause-begins : goal.returns-then-count-lt32-clause-begins
+returns-then-count-lt32-clause-begins c = λ yes. (drop (length c.args.front.now) c.args.text.now, (starts_is Decides-eqb c.args.text.now c.args.front.now _ c.starts_with.ensures.value).0 yes)
+
+pub returns-then-count-lt32-clause-finds : goal.returns-then-count-lt32-clause-finds
+returns-then-count-lt32-clause-finds c = λ after is. (starts_is Decides-eqb c.args.text.now c.args.front.now _ c.starts_with.ensures.value).1 after is
+
+pub returns-clause-begins : goal.returns-clause-begins
+returns-clause-begins c = λ yes. front-met c.args.text.now c.args.front.now (c.is_longest_same.ensures.same yes)
