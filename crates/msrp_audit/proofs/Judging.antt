@@ -1,5 +1,5 @@
 -- What an auditor's tests say of a row: whether it is in its turn, and whether its job is one of its core.
-use Rattle.std.proofs.Common.{◌≡◌, ◌≢◌, ℕ, zero, suc, ◌+◌, ◌*◌, ◌/◌, ◌<◌, ◌≤◌, ◌==◌, ◌&&◌, ◌||◌, Bool, true, false, not, cond, nat_lt, List, [], ◌∷◌, ◌++◌, Option, Some, None, refl, ap, sym, ◌∙◌, subst, arith, length, length-append, map, inl, inr, eq-eqb, eqb-true, slice_get}
+use Rattle.std.proofs.Common.{◌≡◌, ◌≢◌, ℕ, zero, suc, ◌+◌, ◌*◌, ◌/◌, ◌%◌, ◌<◌, ◌≤◌, ◌==◌, ◌&&◌, ◌||◌, Bool, true, false, not, cond, nat_lt, List, [], ◌∷◌, ◌++◌, Option, Some, None, refl, ap, sym, ◌∙◌, subst, arith, length, length-append, map, inl, inr, eq-eqb, eqb-true, slice_get}
 use Rattle.std.specs.List.{list_any, flat_map, range_with_len, AllByRecursion}
 use Rattle.std.specs.Prelude.{⊤}
 use Rattle.std.specs.declared.result.Result.TheVariants.{Ok, Err}
@@ -37,7 +37,7 @@ use Rattle.msrp_sim.specs.Cores.{CoresModel, StandFor, IsDueInRun, IsNextRow, Ma
 use Rattle.msrp_audit.specs.Audits.{AuditorModel, HasFed, IsDueInAudit, Awaits, answer_of, has_turn, auditor_view, IsAuditorView}
 use Rattle.msrp_audit.specs.declared.auditor.Auditor.TheInside.{Inside}
 use Rattle.std.proofs.Math.Nat.{mul-le-mul_left}
-use Rattle.std.proofs.lemmas.Nat.{div-mul-add}
+use Rattle.std.proofs.lemmas.Nat.{div-mul-add, mod-mul-add}
 use Rattle.msrp_plan.specs.declared.rows.Kind.{Kind}
 use Rattle.msrp_plan.specs.declared.rows.Kind.TheVariants.{Idle, Run, Lock, Unlock, Take, Queue, Spin, Grant, Release}
 use Rattle.msrp_plan.specs.declared.ids.ResId.{ResId}
@@ -297,6 +297,9 @@ left_in tick cores place ticks low l = let a = mul-le-mul_left {m = tick + 1} {n
 
 pub full_in : (tick cores place ticks : ℕ) → ticks ≤ tick → cores * ticks ≤ tick * cores + place
 full_in tick cores place ticks l = let a = mul-le-mul_left {m = ticks} {n = tick} cores l in omega (arith, a)
+
+pub place_now : (i : Inside) (a : AuditorModel) → IsAuditorView i → auditor_view i ≡ a → i.at.place ≡ a.fed % a.plan.cores
+place_now i a keeps is = subst (λ (b : AuditorModel). i.at.place ≡ b.fed % b.plan.cores) is (sym (mod-mul-add i.at.tick i.plan.now.cores i.at.place keeps.place))
 
 -- the same of an auditor that was fed rows without a fault
 module _ (i : Inside) (a : AuditorModel) (rows : List Row) (keeps : IsAuditorView i) (is : auditor_view i ≡ a) (fed : HasFed a rows) (none : a.fault ≡ None) where

@@ -1,5 +1,5 @@
 //! The auditor, row by row.
-ghost use Rattle.std.specs.Prelude.{◌≡◌, ◌≤◌, ◌<◌, ◌+◌, ◌*◌, ◌/◌, ◌++◌, ◌∷◌, [], ℕ, List, IfOk, IfNone, IfSome, Some, None, Err, length, true};
+ghost use Rattle.std.specs.Prelude.{◌≡◌, ◌≤◌, ◌<◌, ◌+◌, ◌*◌, ◌/◌, ◌%◌, ◌++◌, ◌∷◌, [], ℕ, List, IfOk, IfNone, IfSome, Some, None, Err, length, true};
 ghost use Rattle.std.specs.Option.{IsSomeAnd, is_some};
 ghost use Rattle.msrp_core.specs.CoreStates.{IsCoreState};
 ghost use Rattle.msrp_plan.specs.Limits.{most_rows};
@@ -128,16 +128,10 @@ impl<'a> Auditor<'a> {
         self.at.tick
     }
 
-    /// The core that comes next where the rows of a tick come by the numbers of their cores. Nothing rests on it: another may come.
+    // Whether a core of the plan may have its turn now.
     #[inline(always)]
-    pub fn core_guessed(&self) -> CoreId {
-        CoreId(self.at.place)
-    }
-
-    /// Whether a core may have its turn now: its turn in the tick that is due is still to come. It is false after a fault, and where no rows
-    /// are left.
-    #[inline(always)]
-    pub fn is_due(&self, core: CoreId) -> bool
+    fn has_turn(&self, core: CoreId) -> bool
+        requires { core.0 < self.now.plan.cores }
         ensures due { result ≡ true → IsDueInAudit self.now core.0 }
         ensures answer { (rows : List TraceRow) → HasFed self.now rows → self.now.fault ≡ None → length rows < self.now.plan.cores * self.now.plan.ticks → result ≡ has_turn self.now.plan rows core.0 }
     {
@@ -147,10 +141,35 @@ impl<'a> Auditor<'a> {
         if self.at.tick >= self.plan.ticks() {
             return false;
         }
+        self.cores.tick(core) == self.at.tick
+    }
+
+    /// The core that comes next where the rows of a tick come by the numbers of their cores, if it is due.
+    #[inline(always)]
+    pub fn due_in_order(&self) -> Option<CoreId>
+        ensures due { IfSome result (λ core. IsDueInAudit self.now core.0) }
+        ensures order { IfSome result (λ core. core.0 ≡ self.now.fed % self.now.plan.cores) }
+        ensures answer { (rows : List TraceRow) → HasFed self.now rows → self.now.fault ≡ None → length rows < self.now.plan.cores * self.now.plan.ticks → is_some result ≡ has_turn self.now.plan rows (length rows % self.now.plan.cores) }
+    {
+        let core = CoreId(self.at.place);
+        if self.has_turn(core) {
+            Some(core)
+        } else {
+            None
+        }
+    }
+
+    /// Whether a core may have its turn now: its turn in the tick that is due is still to come. It is false after a fault, and where no rows
+    /// are left.
+    #[inline(always)]
+    pub fn is_due(&self, core: CoreId) -> bool
+        ensures due { result ≡ true → IsDueInAudit self.now core.0 }
+        ensures answer { (rows : List TraceRow) → HasFed self.now rows → self.now.fault ≡ None → length rows < self.now.plan.cores * self.now.plan.ticks → result ≡ has_turn self.now.plan rows core.0 }
+    {
         if core.0 >= self.plan.cores() {
             return false;
         }
-        self.cores.tick(core) == self.at.tick
+        self.has_turn(core)
     }
 
     /// Whether [`repeat`](Auditor::repeat) gives the core its turn.

@@ -114,31 +114,50 @@ impl<'p, 't, T: Read> JudgedRows<'p, 't, T> {
         &self.auditor
     }
 
-    // The core that is expected next: by the numbers of the cores, as long as they come so, and then by the digit that comes. Nothing rests on it.
+    // The core that is expected next, if it is due: by the numbers of the cores, as long as they come so, and then by the digit that comes.
     #[inline(always)]
-    fn core_guessed(&self) -> CoreId {
-        let in_order = self.auditor.core_guessed();
+    fn expected(&self) -> Option<CoreId>
+        ensures { IfSome result (λ core. IsDueInAudit self.now.auditor core.0) }
+    {
         if self.in_order {
-            return in_order;
+            return self.auditor.due_in_order();
         }
-        self.rows.core_guessed().unwrap_or(in_order)
+        let core = self.rows.core_guessed()?;
+        if self.auditor.is_due(core) {
+            Some(core)
+        } else {
+            None
+        }
     }
 
-    // The turn of a core: the row that is due of it. Its text is made.
+    // Whether a core is due, which is known of the one that was expected.
     #[inline(always)]
-    fn turn(&mut self, core: CoreId) -> Row
+    fn is_due(&self, core: CoreId, expected: Option<CoreId>) -> bool
+        requires { IfSome expected (λ core. IsDueInAudit self.now.auditor core.0) }
+        ensures { result ≡ true → IsDueInAudit self.now.auditor core.0 }
+    {
+        match expected {
+            Some(known) if known == core => true,
+            _ => self.auditor.is_due(core),
+        }
+    }
+
+    // The turn of a core: the row that is due of it is left in `due`, and its text is made.
+    #[inline(always)]
+    fn turn(&mut self, core: CoreId)
         requires accepted { IsPlan self.old.auditor.plan }
         requires due { IsDueInAudit self.old.auditor core.0 }
         ensures plan { self.new.auditor.plan ≡ self.old.auditor.plan }
         ensures fed { self.new.auditor.fed ≡ self.old.auditor.fed }
-        ensures awaits { (rows : List TraceRow) → HasFed self.old.auditor rows → Awaits self.new.auditor rows core.0 result }
+        ensures awaits { (rows : List TraceRow) → HasFed self.old.auditor rows → Awaits self.new.auditor rows core.0 self.new.due }
         ensures rows { self.new.rows ≡ self.old.rows }
-        ensures kept { IsKept self.new.rows.version self.new.auditor.plan (text_of_core self.new.texts core.0) result }
+        ensures kept { IsKept self.new.rows.version self.new.auditor.plan (text_of_core self.new.texts core.0) self.new.due }
     {
         let due = self.auditor.turn_anew(core);
-        let told = self.rows.as_read(due);
+        // Made anew as a whole, so that no part of it is laid down before.
+        self.due = due.in_tick(due.tick);
+        let told = self.rows.as_read(self.due);
         self.texts.show(&told);
-        due
     }
 
     // A row that was read in its turn, against the one that is due.
@@ -171,11 +190,12 @@ impl<'p, 't, T: Read> JudgedRows<'p, 't, T> {
         }
     }
 
-    // The next row, where it is the core's last one again, in that tick, and the core is known to make it. Its text is compared before the core has its
-    // turn. Elsewhere nothing is taken, and the core has its turn still to come.
+    // The next row, where it is the last one again of the core that is expected, in that tick, and the core is known to make it. Its text is compared
+    // before the core has its turn. Elsewhere nothing is taken, and the core has its turn still to come.
     #[inline(always)]
-    fn next_again(&mut self, tick: u32, core: CoreId) -> Option<Row>
+    fn next_again(&mut self, tick: u32, expected: Option<CoreId>) -> Option<Row>
         requires accepted { IsPlan self.old.auditor.plan }
+        requires due { IfSome expected (λ core. IsDueInAudit self.old.auditor core.0) }
         requires short { is_short tick ≡ true }
         ensures plan { self.new.auditor.plan ≡ self.old.auditor.plan }
         ensures gives { IfSome result (λ row. (told : Told) → rows_left T.remaining self.old ≡ Some told → GivesNext told (Ok (Some row)) (rows_left T.remaining self.new)) }
@@ -184,9 +204,9 @@ impl<'p, 't, T: Read> JudgedRows<'p, 't, T> {
         ensures same { result ≡ None → self.new.auditor ≡ self.old.auditor }
         ensures still { result ≡ None → IsAtTick tick self.old.rows → IsAtTick tick self.new.rows }
     {
-        if !self.auditor.is_due(core) {
+        let Some(core) = expected else {
             return None;
-        }
+        };
         if !self.auditor.repeats(core) {
             return None;
         }
@@ -216,9 +236,7 @@ impl<'p, 't, T: Read> JudgedRows<'p, 't, T> {
         ensures left { result ≡ false → self.new.auditor.fed ≡ self.old.auditor.fed }
         ensures awaits { result ≡ false → (rows : List TraceRow) → HasFed self.old.auditor rows → Awaits self.new.auditor rows core.0 self.new.due }
     {
-        let due = self.turn(core);
-        // Made anew as a whole, so that no part of it is laid down before.
-        self.due = due.in_tick(due.tick);
+        self.turn(core);
         if !self.rows.comes_behind(tick, &self.texts, core) {
             return false;
         }
@@ -239,8 +257,8 @@ impl<'p, 't, T: Read> JudgedRows<'p, 't, T> {
             return Ok(Judgement::End);
         };
         if self.auditor.is_in_turn(row) {
-            let due = self.turn(row.core);
-            return Ok(self.judge(due, row));
+            self.turn(row.core);
+            return Ok(self.judge(self.due, row));
         }
         Ok(Judgement::Broken(row, self.auditor.fault_out_of_turn()))
     }
@@ -276,17 +294,17 @@ impl<'p, 't, T: Read> JudgedRows<'p, 't, T> {
         ensures begins { (told : Told) (rows : List TraceRow) → rows_left T.remaining self.old ≡ Some told → HasFed self.old.auditor rows → self.old.auditor.fault ≡ None → BeginsDue told result }
     {
         let tick = self.auditor.tick();
-        let guessed = self.core_guessed();
-        if let Some(row) = self.next_again(tick, guessed) {
+        let expected = self.expected();
+        if let Some(row) = self.next_again(tick, expected) {
             return Ahead::Met(row);
         }
         let Some(core) = self.rows.core_ahead(tick) else {
             return Ahead::Unknown;
         };
-        if !self.auditor.is_due(core) {
+        if !self.is_due(core, expected) {
             return Ahead::Unknown;
         }
-        self.in_order &= core == guessed;
+        self.in_order &= expected == Some(core);
         self.turn_ahead(tick, core)
     }
 

@@ -1,6 +1,6 @@
 -- Texts that are compared by the bytes at their ends.
 use Rattle.std.proofs.Common.{◌≡◌, ◌≤◌, ◌+◌, ◌-◌, ◌++◌, ◌∙◌, ℕ, List, length, take, drop, take-append-drop, refl, sym, ap, arith}
-use Rattle.std.proofs.lemmas.List.{take-take, take_at}
+use Rattle.std.proofs.lemmas.List.{length-append, take-take, take_at}
 
 -- two lists of one length, which is twice that of a chunk at most, are the same where their first and their last chunks are
 pub ends-same : (k : ℕ) (a b : List ℕ) → length a ≡ length b → length a ≤ k + k → take k a ≡ take k b → drop (length a - k) a ≡ drop (length b - k) b → a ≡ b
@@ -16,3 +16,6 @@ front-met text front same = (drop (length front) text, sym (take-append-drop (le
 
 pub front-same : (text front after : List ℕ) → text ≡ front ++ after → take (length front) text ≡ front
 front-same text front after is = ap (take (length front)) is ∙ take_at front after (length front) refl
+
+pub front-fits : (text front after : List ℕ) → text ≡ front ++ after → length front ≤ length text
+front-fits text front after is = let size = ap length is ∙ length-append front after in omega (arith, size)

@@ -197,7 +197,8 @@ fn is_longest_same(text: &[u8], other: &[u8]) -> bool
     ensures finds { text.now ≡ other.now → result ≡ true }
 {
     let last = text.len() - 32;
-    is_long_same(&text[..32], &other[..32]) & is_long_same(&text[last..], &other[last..])
+    // The end first, so that nobody takes the comparison of its first bytes for that of a shorter text's.
+    is_long_same(&text[last..], &other[last..]) & is_long_same(&text[..32], &other[..32])
 }
 
 // Whether a text begins with another. For one of four to eight bytes, as that of most ticks, nothing is called.
@@ -207,41 +208,36 @@ pub(crate) fn begins_with(text: &[u8], front: &[u8]) -> bool
     ensures finds { (after : List ℕ) → text.now ≡ front.now ++ after → result ≡ true }
 {
     let count = front.len();
-    if count < 4 || count > 8 || text.len() < count {
+    if count < 4 || count > 8 {
         return text.starts_with(front);
+    }
+    if text.len() < count {
+        return false;
     }
     is_short_same(&text[..count], front)
 }
 
-// The same, for one of few bytes or of more than 32.
-#[inline(never)]
-fn begins_apart(text: &[u8], front: &[u8]) -> bool
-    ensures begins { result ≡ true → (after : List ℕ) × (text.now ≡ front.now ++ after) }
-    ensures finds { (after : List ℕ) → text.now ≡ front.now ++ after → result ≡ true }
-{
-    let count = front.len();
-    if count < 32 || count > 64 || text.len() < count {
-        return text.starts_with(front);
-    }
-    is_longest_same(&text[..count], front)
-}
-
-// The same, for one that mostly has eight to 32 bytes, as what stands behind a tick: then nothing is called.
+// The same, for one that mostly has eight to 64 bytes, as what stands behind a tick: then nothing is called.
 #[inline(always)]
 pub(crate) fn begins_with_long(text: &[u8], front: &[u8]) -> bool
     ensures begins { result ≡ true → (after : List ℕ) × (text.now ≡ front.now ++ after) }
     ensures finds { (after : List ℕ) → text.now ≡ front.now ++ after → result ≡ true }
 {
     let count = front.len();
-    if count < 8 || count > 32 || text.len() < count {
-        return begins_apart(text, front);
+    if count < 8 || count > 64 {
+        return text.starts_with(front);
+    }
+    if text.len() < count {
+        return false;
     }
     let text = &text[..count];
     if count <= 16 {
-        is_same(text, front)
-    } else {
-        is_long_same(text, front)
+        return is_same(text, front);
     }
+    if count <= 32 {
+        return is_long_same(text, front);
+    }
+    is_longest_same(text, front)
 }
 
 /// Whether a text begins with two others, of which the second has some bytes.

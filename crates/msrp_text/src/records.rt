@@ -127,7 +127,11 @@ impl<R: Read> RecordReader<R> {
         ensures some { result ≡ true → 0 < length line.now }
         ensures grows { result ≡ false → (more : List ℕ) × (bytes_ahead self.new ≡ bytes_ahead self.old ++ more) }
     {
-        self.look_ahead();
+        // Where enough is ahead nothing is read, and no length is looked at again.
+        if self.ahead().len() <= LONGEST {
+            self.read_line_ahead();
+            return self.meets_apart(front, line);
+        }
         if goes_on(self.ahead(), front, line) {
             self.take_line(front.len() + line.len());
             return true;
@@ -254,8 +258,10 @@ impl<R: Read> RecordReader<R> {
         ensures way { reads_csv self.new ≡ reads_csv self.old }
         ensures line { (line bytes : List ℕ) (number : ℕ) → EndsLine line (take count (bytes_ahead self.old)) → is_plain line ≡ true → HasTakenBy R.remaining bytes number self.old.way → HasRead R.remaining bytes (number + 1) self.new }
     {
-        if let Way::Lines(lines) = &mut self.way {
-            lines.take(count);
+        match &mut self.way {
+            Way::Lines(lines) => lines.take(count),
+            // No byte is ahead.
+            Way::Csv(_) => unreachable!(),
         }
     }
 

@@ -145,6 +145,7 @@ impl<'a, R: Read> TraceReader<'a, R> {
     ghost use Rattle.msrp_trace.specs.Readers.{BeginsAt, CanMeet, ComesNext, GivesFirstOr, GivesNext, HasReadBehind, HasReadIn, HasReadTo, HoldsUnlessFailed, IsAtTick, IsOfTrace, IsRecordOf, IsTextOf, Opens, StandsBehind, StandsIn, ahead_failed, error_of, has_failed, record_read, source_of, told_left};
 
     /// The rows of all that a source has left, for a trace of the plan. R1 is refused here.
+    #[inline(always)]
     pub fn new(
         alloc: Global,
         source: &'a mut Source<R>,

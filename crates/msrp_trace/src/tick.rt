@@ -43,7 +43,7 @@ impl Tick {
     pub(crate) fn show(&mut self, tick: u32)
         ensures { self.new.tick ≡ tick }
     {
-        if self.tick != tick {
+        if self.tick != tick && !self.count(tick) {
             self.make(tick);
         }
     }
@@ -52,11 +52,9 @@ impl Tick {
     fn make(&mut self, tick: u32)
         ensures { self.new.tick ≡ tick }
     {
-        if !self.count(tick) {
-            self.text.clear();
-            self.text.number(tick);
-            self.tick = tick;
-        }
+        self.text.clear();
+        self.text.number(tick);
+        self.tick = tick;
     }
 
     /// The tick.

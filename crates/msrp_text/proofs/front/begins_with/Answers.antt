@@ -1,7 +1,7 @@
-use Rattle.std.proofs.Common.{drop, length}
+use Rattle.std.proofs.Common.{arith, drop, length}
 use Rattle.std.proofs.lemmas.Slice.Eq.{starts_is}
 use Rattle.std.proofs.lemmas.Bool.Decides.{Decides-eqb}
-use Rattle.msrp_text.proofs.Chunks.{front-met, front-same}
+use Rattle.msrp_text.proofs.Chunks.{front-fits, front-met, front-same}
 use Rattle.msrp_text.proofs.front.begins_with.Goals as goal
 
 pub returns-then-count-lt4-clause-begins : goal.returns-then-count-lt4-clause-begins
@@ -15,3 +15,6 @@ returns-clause-begins c = λ yes. front-met c.args.text.now c.args.front.now (c.
 
 pub returns-clause-finds : goal.returns-clause-finds
 returns-clause-finds c = λ after is. c.is_short_same.ensures.finds (front-same c.args.text.now c.args.front.now after is)
+
+pub returns-then-text-count-clause-finds : goal.returns-then-text-count-clause-finds
+returns-then-text-count-clause-finds c = λ after is. let fits = front-fits c.args.text.now c.args.front.now after is in absurd (omega (arith, fits, c.if-text-count.true))

@@ -1,8 +1,23 @@
-use Rattle.msrp_text.proofs.Chunks.{front-met}
+use Rattle.std.proofs.Common.{arith, drop, length}
+use Rattle.std.proofs.lemmas.Slice.Eq.{starts_is}
+use Rattle.std.proofs.lemmas.Bool.Decides.{Decides-eqb}
+use Rattle.msrp_text.proofs.Chunks.{front-fits, front-met}
 use Rattle.msrp_text.proofs.front.begins_with_long.Goals as goal
+
+pub returns-then-count-lt8-clause-begins : goal.returns-then-count-lt8-clause-begins
+returns-then-count-lt8-clause-begins c = λ yes. (drop (length c.args.front.now) c.args.text.now, (starts_is Decides-eqb c.args.text.now c.args.front.now _ c.starts_with.ensures.value).0 yes)
+
+pub returns-then-count-lt8-clause-finds : goal.returns-then-count-lt8-clause-finds
+returns-then-count-lt8-clause-finds c = λ after is. (starts_is Decides-eqb c.args.text.now c.args.front.now _ c.starts_with.ensures.value).1 after is
 
 pub returns-then-count-le16-clause-begins : goal.returns-then-count-le16-clause-begins
 returns-then-count-le16-clause-begins c = λ yes. front-met c.args.text.now c.args.front.now (c.is_same.ensures.same yes)
 
-pub returns-else-count-le16-clause-begins : goal.returns-else-count-le16-clause-begins
-returns-else-count-le16-clause-begins c = λ yes. front-met c.args.text.now c.args.front.now (c.is_long_same.ensures.same yes)
+pub returns-then-count-le32-clause-begins : goal.returns-then-count-le32-clause-begins
+returns-then-count-le32-clause-begins c = λ yes. front-met c.args.text.now c.args.front.now (c.is_long_same.ensures.same yes)
+
+pub returns-clause-begins : goal.returns-clause-begins
+returns-clause-begins c = λ yes. front-met c.args.text.now c.args.front.now (c.is_longest_same.ensures.same yes)
+
+pub returns-then-text-count-clause-finds : goal.returns-then-text-count-clause-finds
+returns-then-text-count-clause-finds c = λ after is. let fits = front-fits c.args.text.now c.args.front.now after is in absurd (omega (arith, fits, c.if-text-count.true))

@@ -1,5 +1,5 @@
-use Rattle.std.proofs.Common.{◌≡◌, ◌++◌, ◌∷◌, ◌/◌, [], length, true, Some, None, Ok, refl, ap, sym, ◌∙◌, subst}
-use Rattle.msrp_audit.specs.Audits.{AuditorModel, Awaits, HasFed}
+use Rattle.std.proofs.Common.{◌≡◌, ◌/◌, length, true, Some, Ok, refl, ap, sym, ◌∙◌, subst}
+use Rattle.msrp_audit.specs.Audits.{AuditorModel}
 use Rattle.msrp_plan.specs.Plan.{PlanModel}
 use Rattle.msrp_plan.specs.Stretches.{in_tick}
 use Rattle.msrp_plan.specs.declared.rows.Row.{Row}
@@ -13,21 +13,21 @@ use Rattle.msrp_engine.proofs.judged.JudgedRows.meets_turn.Goals as goal
 
 pub invariant_of-self-clause-known : goal.invariant_of-self-clause-known
 invariant_of-self-clause-known g c =
-    let j = c.turn-due.new.self in
+    let j = c.turn.new.self in
     subst (λ v. KeepsKnown v j.auditor.plan j.auditor.cores j.texts) (sym c.comes_behind.ensures.trace.0) j.known
 
 pub invariant_of-self-2-clause-known : goal.invariant_of-self-2-clause-known
 invariant_of-self-2-clause-known g c =
-    let j = c.turn-due.new.self in
+    let j = c.turn.new.self in
     let same = c.accept.ensures.same in
     subst (λ v. KeepsKnown v c.accept.new.self.plan c.accept.new.self.cores j.texts) (sym c.comes_behind.ensures.trace.0)
     (keeps_same j.rows.version j.auditor.plan c.accept.new.self.plan j.auditor.cores c.accept.new.self.cores j.texts (ap (λ (a : AuditorModel). a.plan) same) (ap (λ (a : AuditorModel). a.cores) same) j.known)
 
 pub returns-clause-gives : goal.returns-clause-gives
 returns-clause-gives g c = λ yes told known.
-    let j = c.turn-due.new.self in
-    let e = c.turn-due.ensures in
-    let due = c.turn-due.result in
+    let j = c.turn.new.self in
+    let e = c.turn.ensures in
+    let due = c.turn.new.self.due in
     let row = in_tick c.args.tick (as_read j.rows.version due) in
     let text : IsTextOf j.rows j.texts c.args.tick c.args.core.0 row = record {
       tick = refl;
@@ -35,19 +35,15 @@ returns-clause-gives g c = λ yes told known.
       text = subst (λ q. text_of_core j.texts c.args.core.0 ≡ after_tick j.rows.version q row) (sym j.plan) e.kept.is;
     } in
     let left = subst (λ r. told_left g.T.Read.remaining r ≡ Some told) (sym e.rows) known in
-    same_row _ _ _ _ (λ (r : Row). GivesNext told (Ok (Some r)) (told_left g.T.Read.remaining c.comes_behind.new.self)) c.args.tick c.comes_behind.ensures.trace.0 c.in_tick-self.ensures (c.comes_behind.ensures.taken c.if-not-comes_behind.false row told text left)
+    same_row _ _ due due (λ (r : Row). GivesNext told (Ok (Some r)) (told_left g.T.Read.remaining c.comes_behind.new.self)) c.args.tick c.comes_behind.ensures.trace.0 refl (c.comes_behind.ensures.taken c.if-not-comes_behind.false row told text left)
 
 pub returns-clause-fed : goal.returns-clause-fed
 returns-clause-fed g c = λ yes rows fed here.
-    let e = c.turn-due.ensures in
-    let due = c.turn-due.result in
+    let e = c.turn.ensures in
+    let due = c.turn.new.self.due in
     let version = c.comes_behind.new.self.version in
     let awaits = e.awaits rows fed in
-    let now = here ∙ (ap (λ (p : PlanModel). length rows / p.cores) (sym e.plan) ∙ sym awaits.tick) in
-    same_row version version _ due (λ (r : Row). HasFed c.accept.new.self (rows ++ r ∷ []) × (c.accept.new.self.fault ≡ None)) c.args.tick refl c.in_tick-self.ensures (
+    let now = here ∙ (ap (λ (p : PlanModel). length rows / p.cores) (sym e.plan) ∙ sym awaits.tick) in (
       c.accept.ensures.fed rows c.args.core.0 due (in_tick c.args.tick (as_read version due)) awaits now (read_as version c.args.tick due),
       ap (λ (a : AuditorModel). a.fault) c.accept.ensures.same ∙ awaits.fault,
     )
-
-pub returns-then-not-comes_behind-clause-awaits : goal.returns-then-not-comes_behind-clause-awaits
-returns-then-not-comes_behind-clause-awaits g c = λ no rows fed. subst (λ (d : Row). Awaits c.turn-due.new.self.auditor rows c.args.core.0 d) (sym c.in_tick-self.ensures) (c.turn-due.ensures.awaits rows fed)

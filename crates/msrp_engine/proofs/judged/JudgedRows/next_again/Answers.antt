@@ -1,5 +1,5 @@
-use Rattle.std.proofs.Common.{◌≡◌, ◌/◌, ◌++◌, ◌∷◌, [], length, Some, Ok, true, refl, sym, ap, ◌∙◌, subst}
-use Rattle.msrp_audit.specs.Audits.{AuditorModel, HasFed}
+use Rattle.std.proofs.Common.{◌≡◌, ◌/◌, ◌++◌, ◌∷◌, [], length, IfSome, Some, Ok, true, refl, sym, ap, ◌∙◌, subst}
+use Rattle.msrp_audit.specs.Audits.{AuditorModel, HasFed, IsDueInAudit}
 use Rattle.msrp_plan.specs.Plan.{PlanModel}
 use Rattle.msrp_plan.specs.Stretches.{in_tick}
 use Rattle.msrp_plan.specs.declared.rows.Row.{Row}
@@ -17,20 +17,22 @@ invariant_of-self-clause-known g c = let j = c.args.self.now in subst (λ v. Kee
 pub invariant_of-self-2-clause-known : goal.invariant_of-self-2-clause-known
 invariant_of-self-2-clause-known g c =
     let j = c.args.self.now in
+    let due_is = subst (λ o. IfSome o (λ core. IsDueInAudit j.auditor core.0)) c.in-Some.is c.requires.due in
     let e = c.repeat.ensures in
     let same = c.accept.ensures.same in
-    let turned = keeps_if j.rows.version j.auditor.plan j.auditor.cores c.repeat.new.self.cores j.texts c.args.core.0 c.repeat.result c.requires.accepted.draft.cores.1 (c.is_due.ensures.due c.if-not-is_due.false).core (cores_if c.repeat.result j.auditor c.repeat.new.self e.none) e.known e.core e.leaves j.known in
+    let turned = keeps_if j.rows.version j.auditor.plan j.auditor.cores c.repeat.new.self.cores j.texts c.in-Some.core.0 c.repeat.result c.requires.accepted.draft.cores.1 due_is.core (cores_if c.repeat.result j.auditor c.repeat.new.self e.none) e.known e.core e.leaves j.known in
     subst (λ v. KeepsKnown v c.accept.new.self.plan c.accept.new.self.cores j.texts) (sym c.comes.ensures.trace.0)
     (keeps_same j.rows.version j.auditor.plan c.accept.new.self.plan c.repeat.new.self.cores c.accept.new.self.cores j.texts (ap (λ (a : AuditorModel). a.plan) same ∙ e.plan) (ap (λ (a : AuditorModel). a.cores) same) turned)
 
 pub returns-clause-gives : goal.returns-clause-gives
 returns-clause-gives g c = λ told known.
     let j = c.args.self.now in
-    let k = c.args.core.0 in
+    let k = c.in-Some.core.0 in
+    let due_is = subst (λ o. IfSome o (λ core. IsDueInAudit j.auditor core.0)) c.in-Some.is c.requires.due in
     let t = c.args.tick in
-    let due = c.in-Some.due in
+    let due = c.in-Some-repeat.due in
     let row = in_tick t (as_read j.rows.version due) in
-    let kept : IsKept j.rows.version j.auditor.plan (text_of_core j.texts k) due = j.known k (c.is_due.ensures.due c.if-not-is_due.false).core (c.comes.ensures.some c.if-not-comes.false) due c.in-Some.ensures.known in
+    let kept : IsKept j.rows.version j.auditor.plan (text_of_core j.texts k) due = j.known k due_is.core (c.comes.ensures.some c.if-not-comes.false) due c.in-Some-repeat.ensures.known in
     let text : IsTextOf j.rows j.texts t k row = record {
       tick = refl;
       whole = subst (λ q. is_told_whole j.rows.version q row ≡ true) (sym j.plan) (kept.whole t c.requires.short);
@@ -41,12 +43,12 @@ returns-clause-gives g c = λ told known.
 
 pub returns-clause-fed : goal.returns-clause-fed
 returns-clause-fed g c = λ rows fed now.
-    let due = c.in-Some.due in
+    let due = c.in-Some-repeat.due in
     let version = c.comes.new.self.version in
     let same = c.accept.ensures.same in
-    let awaits = c.in-Some.ensures.awaits rows fed in
+    let awaits = c.in-Some-repeat.ensures.awaits rows fed in
     let tick : c.args.tick ≡ due.tick = now ∙ (ap (λ (p : PlanModel). length rows / p.cores) (sym c.repeat.ensures.plan) ∙ sym awaits.tick) in
     let made : c.in_tick.result ≡ in_tick c.args.tick (as_read version due) = c.in_tick.ensures ∙ ap (in_tick c.args.tick) c.as_read.ensures in (
-      subst (λ (r : Row). HasFed c.accept.new.self (rows ++ r ∷ [])) (sym made) (c.accept.ensures.fed rows c.args.core.0 due (in_tick c.args.tick (as_read version due)) awaits tick (read_as version c.args.tick due)),
+      subst (λ (r : Row). HasFed c.accept.new.self (rows ++ r ∷ [])) (sym made) (c.accept.ensures.fed rows c.in-Some.core.0 due (in_tick c.args.tick (as_read version due)) awaits tick (read_as version c.args.tick due)),
       ap (λ (a : AuditorModel). a.fault) same ∙ awaits.fault,
     )

@@ -7,14 +7,6 @@ use Rattle.msrp_engine.proofs.judged.JudgedRows.next_ahead.Goals as goal
 pub invariant_of-self-clause-known : goal.invariant_of-self-clause-known
 invariant_of-self-clause-known g c = let j = c.next_again.new.self in subst (λ v. KeepsKnown v j.auditor.plan j.auditor.cores j.texts) (sym c.core_ahead.ensures.trace.0) j.known
 
-pub invariant_of-self-then-not-is_due : goal.invariant_of-self-then-not-is_due
-invariant_of-self-then-not-is_due g c = record {
-  plan = c.core_ahead.ensures.trace.1 ∙ c.next_again.new.self.plan;
-  texts_plan = c.next_again.new.self.texts_plan;
-  version = c.next_again.new.self.version ∙ sym c.core_ahead.ensures.trace.0;
-  known = let j = c.next_again.new.self in subst (λ v. KeepsKnown v j.auditor.plan j.auditor.cores j.texts) (sym c.core_ahead.ensures.trace.0) j.known;
-}
-
 pub invariant_of-self-2 : goal.invariant_of-self-2
 invariant_of-self-2 g c = record {
   plan = c.core_ahead.ensures.trace.1 ∙ c.next_again.new.self.plan;

@@ -1,4 +1,7 @@
 use Rattle.std.proofs.Common.{ap, sym, ◌∙◌, subst}
+use Rattle.msrp_audit.specs.Audits.{Awaits}
+use Rattle.msrp_plan.specs.declared.rows.Row.{Row}
+use Rattle.msrp_trace.specs.Laws.{as_read}
 use Rattle.msrp_trace.specs.Texts.{TextsModel, text_of_core}
 use Rattle.msrp_engine.specs.Inside.Kept.{IsKept, KeepsKnown}
 use Rattle.msrp_engine.proofs.KeptTexts.{shown_keeps, shown_own, told_named, turn_told}
@@ -8,7 +11,7 @@ pub show-requires : goal.show-requires
 show-requires g c =
     let j = c.args.self.now in
     let due = c.turn_anew-due.result in
-    told_named j.rows.version j.auditor.plan j.texts j.texts c.args.core.0 due c.as_read-told.result j.version j.texts_plan c.as_read-told.ensures c.turn_anew-due.ensures.core (turn_told j.rows.version j.auditor.plan c.args.core.0 due c.requires.accepted c.requires.due.core c.turn_anew-due.ensures.turn)
+    told_named j.rows.version j.auditor.plan j.texts j.texts c.args.core.0 due c.as_read-told.result j.version j.texts_plan (c.as_read-told.ensures ∙ ap (as_read j.rows.version) c.in_tick-self.ensures) c.turn_anew-due.ensures.core (turn_told j.rows.version j.auditor.plan c.args.core.0 due c.requires.accepted c.requires.due.core c.turn_anew-due.ensures.turn)
 
 pub invariant_of-self-clause-texts_plan : goal.invariant_of-self-clause-texts_plan
 invariant_of-self-clause-texts_plan g c = ap (λ (t : TextsModel). t.plan) c.show.ensures.texts ∙ (c.args.self.now.texts_plan ∙ sym c.turn_anew-due.ensures.plan)
@@ -21,7 +24,7 @@ invariant_of-self-clause-known g c =
     let j = c.args.self.now in
     let due = c.turn_anew-due.result in
     subst (λ p. KeepsKnown j.rows.version p c.turn_anew-due.new.self.cores c.show.new.self) (sym c.turn_anew-due.ensures.plan)
-    (shown_keeps j.rows.version j.auditor.plan j.texts c.show.new.self c.args.core.0 due c.as_read-told.result j.version j.texts_plan c.as_read-told.ensures c.turn_anew-due.ensures.core
+    (shown_keeps j.rows.version j.auditor.plan j.texts c.show.new.self c.args.core.0 due c.as_read-told.result j.version j.texts_plan (c.as_read-told.ensures ∙ ap (as_read j.rows.version) c.in_tick-self.ensures) c.turn_anew-due.ensures.core
     (turn_told j.rows.version j.auditor.plan c.args.core.0 due c.requires.accepted c.requires.due.core c.turn_anew-due.ensures.turn)
     j.auditor.cores c.turn_anew-due.new.self.cores c.requires.accepted.draft.cores.1 c.requires.due.core c.turn_anew-due.ensures.leaves c.show.ensures.texts c.show.ensures.here j.known)
 
@@ -29,6 +32,10 @@ pub returns-clause-kept : goal.returns-clause-kept
 returns-clause-kept g c =
     let j = c.args.self.now in
     let due = c.turn_anew-due.result in
-    subst (λ p. IsKept j.rows.version p (text_of_core c.show.new.self c.args.core.0) due) (sym c.turn_anew-due.ensures.plan)
-    (shown_own j.rows.version j.auditor.plan j.texts c.show.new.self c.args.core.0 due c.as_read-told.result j.version j.texts_plan c.as_read-told.ensures c.turn_anew-due.ensures.core
-    (turn_told j.rows.version j.auditor.plan c.args.core.0 due c.requires.accepted c.requires.due.core c.turn_anew-due.ensures.turn) c.show.ensures.here)
+    subst (λ (r : Row). IsKept j.rows.version c.turn_anew-due.new.self.plan (text_of_core c.show.new.self c.args.core.0) r) (sym c.in_tick-self.ensures)
+    (subst (λ p. IsKept j.rows.version p (text_of_core c.show.new.self c.args.core.0) due) (sym c.turn_anew-due.ensures.plan)
+    (shown_own j.rows.version j.auditor.plan j.texts c.show.new.self c.args.core.0 due c.as_read-told.result j.version j.texts_plan (c.as_read-told.ensures ∙ ap (as_read j.rows.version) c.in_tick-self.ensures) c.turn_anew-due.ensures.core
+    (turn_told j.rows.version j.auditor.plan c.args.core.0 due c.requires.accepted c.requires.due.core c.turn_anew-due.ensures.turn) c.show.ensures.here))
+
+pub returns-clause-awaits : goal.returns-clause-awaits
+returns-clause-awaits g c = λ rows fed. subst (λ (r : Row). Awaits c.turn_anew-due.new.self rows c.args.core.0 r) (sym c.in_tick-self.ensures) (c.turn_anew-due.ensures.awaits rows fed)
