@@ -1,6 +1,6 @@
 //! Plain lines, whose fields stand between commas: a plain line isn't empty, has no quote, doesn't begin as a byte order mark does, is
 //! shorter than [`LONGEST`], and ends with LF, CR or CRLF.
-ghost use Rattle.std.specs.Prelude.{◌≡◌, ◌==◌, ◌&&◌, ◌||◌, ◌≤◌, ◌<◌, ◌+◌, ◌⊎◌, ◌++◌, ◌∷◌, ℕ, List, [], Some, IfOk, IsSome, true, false, slice_index, length, take, drop};
+ghost use Rattle.std.specs.Prelude.{◌≡◌, ◌==◌, ◌&&◌, ◌||◌, ◌≤◌, ◌<◌, ◌+◌, ◌⊎◌, ◌++◌, ◌∷◌, codes, ℕ, List, [], Some, IfOk, IsSome, true, false, slice_index, length, take, drop};
 ghost use Rattle.std.specs.Option.{IfSome};
 ghost use Rattle.csv.specs.Records.{fields_of, partial_of};
 ghost use Rattle.msrp_text.specs.Plain.{BeginsWith, BeginsWithDigit, EndsLine, Stands, is_plain, split_commas, split_from};
@@ -240,13 +240,22 @@ pub(crate) fn begins_with_long(text: &[u8], front: &[u8]) -> bool
     is_longest_same(text, front)
 }
 
-/// Whether a text begins with two others, of which the second has some bytes.
+/// Whether a text ends with a line feed.
+#[inline(always)]
+pub(crate) fn ends_line(text: &[u8]) -> bool
+    ensures ended { result ≡ true → (rest : List ℕ) × (text.now ≡ rest ++ codes "\n") }
+    ensures finds { (rest : List ℕ) → text.now ≡ rest ++ codes "\n" → result ≡ true }
+{
+    text.ends_with(b"\n")
+}
+
+/// Whether a text begins with two others, of which the second ends with a line feed.
 #[inline(always)]
 pub(crate) fn goes_on(text: &[u8], front: &[u8], line: &[u8]) -> bool
-    ensures some { result ≡ true → 0 < length line.now }
+    ensures ended { result ≡ true → (rest : List ℕ) × (line.now ≡ rest ++ codes "\n") }
     ensures begins { result ≡ true → (after : List ℕ) × (text.now ≡ front.now ++ (line.now ++ after)) }
 {
-    begins_with(text, front) && begins_with_long(&text[front.len()..], line) && !line.is_empty()
+    begins_with(text, front) && begins_with_long(&text[front.len()..], line) && ends_line(line)
 }
 
 /// How many bytes a line takes with its end, where a text that begins with the first part of it begins with the whole line.

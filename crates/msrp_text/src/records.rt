@@ -12,7 +12,7 @@ ghost use Rattle.msrp_text.specs.Records.{FirstBegins, GivesLine, GivesNext, Has
 
 use crate::csv_records::CsvRecords;
 use crate::front::{
-    LONGEST, PlainLine, begins_with, begins_with_long, digit_after, goes_on, line_behind,
+    LONGEST, PlainLine, begins_with, begins_with_long, digit_after, ends_line, goes_on, line_behind,
 };
 use crate::lines::Lines;
 use core::mem;
@@ -124,7 +124,7 @@ impl<R: Read> RecordReader<R> {
         ensures finds { (rest : List ℕ) → line.now ≡ rest ++ codes "\n" → (bytes : List ℕ) → bytes_left R.remaining self.old ≡ Some bytes → length (front.now ++ rest) < LONGEST → is_plain (front.now ++ rest) ≡ true → BeginsWith (front.now ++ rest) bytes → (result ≡ true) ⊎ (read_failed self.new ≡ true) }
         ensures line { result ≡ true → (rest : List ℕ) → line.now ≡ rest ++ codes "\n" → is_plain (front.now ++ rest) ≡ true → (bytes : List ℕ) (number : ℕ) → HasRead R.remaining bytes number self.old → HasRead R.remaining bytes (number + 1) self.new }
         ensures still { result ≡ false → (bytes : List ℕ) (number : ℕ) → HasRead R.remaining bytes number self.old → HasRead R.remaining bytes number self.new }
-        ensures some { result ≡ true → 0 < length line.now }
+        ensures ended { result ≡ true → (rest : List ℕ) × (line.now ≡ rest ++ codes "\n") }
         ensures grows { result ≡ false → (more : List ℕ) × (bytes_ahead self.new ≡ bytes_ahead self.old ++ more) }
     {
         // Where enough is ahead nothing is read, and no length is looked at again.
@@ -152,9 +152,9 @@ impl<R: Read> RecordReader<R> {
         ensures line { result ≡ true → (rest : List ℕ) → line.now ≡ rest ++ codes "\n" → is_plain (front.now ++ rest) ≡ true → (bytes : List ℕ) (number : ℕ) → HasRead R.remaining bytes number self.old → HasRead R.remaining bytes (number + 1) self.new }
         ensures still { result ≡ false → (bytes : List ℕ) (number : ℕ) → HasRead R.remaining bytes number self.old → HasRead R.remaining bytes number self.new }
         ensures same { result ≡ false → self.new ≡ self.old }
-        ensures some { result ≡ true → 0 < length line.now }
+        ensures ended { result ≡ true → (rest : List ℕ) × (line.now ≡ rest ++ codes "\n") }
     {
-        if begins_with_long(&self.ahead()[front.len()..], line) && !line.is_empty() {
+        if begins_with_long(&self.ahead()[front.len()..], line) && ends_line(line) {
             self.take_line(front.len() + line.len());
             return true;
         }
@@ -172,9 +172,9 @@ impl<R: Read> RecordReader<R> {
         ensures line { result ≡ true → (rest : List ℕ) → line.now ≡ rest ++ codes "\n" → is_plain (front.now ++ rest) ≡ true → (bytes : List ℕ) (number : ℕ) → HasRead R.remaining bytes number self.old → HasRead R.remaining bytes (number + 1) self.new }
         ensures still { result ≡ false → (bytes : List ℕ) (number : ℕ) → HasRead R.remaining bytes number self.old → HasRead R.remaining bytes number self.new }
         ensures same { result ≡ false → self.new ≡ self.old }
-        ensures some { result ≡ true → 0 < length line.now }
+        ensures ended { result ≡ true → (rest : List ℕ) × (line.now ≡ rest ++ codes "\n") }
     {
-        if line.is_empty() || !begins_with(self.ahead(), front) {
+        if !ends_line(line) || !begins_with(self.ahead(), front) {
             return false;
         }
         match line_behind(self.ahead(), front, &line[..line.len() - 1]) {

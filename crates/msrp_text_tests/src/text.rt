@@ -220,8 +220,8 @@ fn met_after_one(
     Ok((met, records_told(alloc, &mut records)?))
 }
 
-// A text, a line in two parts with its line feed, whether it is met after the first record, and the records that are left.
-const FORESEEN: [(&[u8], &[u8], &[u8], bool, &[u8]); 14] = [
+// A text, a line in two parts, of which the second has a line feed where it may be met, whether it is met after the first record, and the records that are left.
+const FORESEEN: [(&[u8], &[u8], &[u8], bool, &[u8]); 15] = [
     (b"1\nab,c\nd", b"ab", b",c\n", true, b"d|/"),
     (b"1\nab,c\r\nd", b"ab", b",c\n", true, b"d|/"),
     (b"1\r\nab,c\nd", b"", b"ab,c\n", true, b"d|/"),
@@ -235,6 +235,7 @@ const FORESEEN: [(&[u8], &[u8], &[u8], bool, &[u8]); 14] = [
     (b"1\nab,c\r", b"ab", b",c\n", true, b""),
     (b"1\nab,c", b"ab", b",c\n", false, b"ab|c|/"),
     (b"1\nab,c\nd", b"ab,c\n", b"", false, b"ab|c|/d|/"),
+    (b"1\nab,c\nd", b"ab", b",c", false, b"ab|c|/d|/"),
     (b"\"1\"\nab,c\nd", b"ab", b",c\n", false, b"ab|c|/d|/"),
 ];
 

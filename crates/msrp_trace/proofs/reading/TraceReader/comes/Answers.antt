@@ -1,4 +1,4 @@
-use Rattle.std.proofs.Common.{◌≡◌, ◌+◌, sym, ap, arith, length, ◌∙◌, decimal, refl}
+use Rattle.std.proofs.Common.{[], ◌∷◌, length-append, ◌≡◌, ◌+◌, sym, ap, arith, length, ◌∙◌, decimal, refl}
 use Rattle.msrp_trace.proofs.MetRows.{met_row, row_begins, row_line}
 use Rattle.msrp_trace.proofs.ReadBack.{whole_line}
 use Rattle.msrp_trace.proofs.Standing.{line_stands}
@@ -16,7 +16,8 @@ invariant_of-self-else-met g c = let old = c.args.self.now in record { texts = c
 
 pub returns-then-met-clause-some : goal.returns-then-met-clause-some
 returns-then-met-clause-some g c = λ yes none.
-    omega (arith, c.meets-met.ensures.some c.if-met.true, ap length (c.as_bytes.ensures ∙ (c.text_of-line.ensures ∙ (ap (λ (t : TextsModel). text_of_core t c.args.core.0) c.texts.view_is ∙ none))))
+    let ended = c.meets-met.ensures.ended c.if-met.true in
+    omega (arith, length-append ended.0 (10 ∷ []), ap length ended.1, ap length (c.as_bytes.ensures ∙ (c.text_of-line.ensures ∙ (ap (λ (t : TextsModel). text_of_core t c.args.core.0) c.texts.view_is ∙ none))))
 
 pub returns-then-met-clause-taken : goal.returns-then-met-clause-taken
 returns-then-met-clause-taken g c = λ yes row told is h.
