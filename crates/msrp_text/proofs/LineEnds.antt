@@ -113,7 +113,7 @@ taken-break begun (Some xs) (Some ys) b h is left known =
 
 -- ---- what was taken of a text
 -- bytes that were consumed
-consumed : (old new : Option (List ℕ)) (xs text : List ℕ) → Consumes old new text → old ≡ Some xs → (ys : List ℕ) × (new ≡ Some ys) × (xs ≡ text ++ ys)
+pub consumed : (old new : Option (List ℕ)) (xs text : List ℕ) → Consumes old new text → old ≡ Some xs → (ys : List ℕ) × (new ≡ Some ys) × (xs ≡ text ++ ys)
 consumed None new xs text h e = absurd (none-some xs e)
 consumed (Some zs) None xs text h e = absurd h
 consumed (Some zs) (Some ys) xs text h e = (ys, refl, sym (same_Some zs xs e) ∙ h)
@@ -151,7 +151,7 @@ kept-taken remaining old new bytes number keeps begun same passed h = record {
 }
 
 -- what stands before, with bytes more
-moved-text : (bytes before left taken rest : List ℕ) → bytes ≡ before ++ left → left ≡ taken ++ rest → bytes ≡ (before ++ taken) ++ rest
+pub moved-text : (bytes before left taken rest : List ℕ) → bytes ≡ before ++ left → left ≡ taken ++ rest → bytes ≡ (before ++ taken) ++ rest
 moved-text bytes before left taken rest e h = e ∙ ap (λ (t : List ℕ). before ++ t) h ∙ sym (append_assoc before taken rest)
 
 -- the line of the next record
@@ -189,7 +189,7 @@ line-taken remaining old new line taken front bytes number takes ended plain beg
     }
 
 -- its line is that of the next record
-plain-head : (line text rest : List ℕ) → EndsLine line text → is_plain line ≡ true → (b : ℕ) × (tail : List ℕ) × (text ++ rest ≡ b ∷ tail) × (is_break b ≡ false) × ((b == 239) ≡ false)
+pub plain-head : (line text rest : List ℕ) → EndsLine line text → is_plain line ≡ true → (b : ℕ) × (tail : List ℕ) × (text ++ rest ≡ b ∷ tail) × (is_break b ≡ false) × ((b == 239) ≡ false)
 plain-head [] text rest ended plain = cc plain
 plain-head (b ∷ line) text rest ended plain =
     let mark = (or_parts (is_mark b) (list_any is_mark line) (not-true _ (and_parts _ _ plain).1)).0 in

@@ -1,7 +1,7 @@
 -- Plain lines, whose fields stand between commas.
 use Rattle.std.specs.Prelude.{◌≡◌, ◌⊎◌, ◌≤◌, ◌<◌, ℕ, Bool, true, false, not, List, [], ◌∷◌, ◌++◌, length, take, Option, MatchOption, ◌==◌, ◌&&◌, ◌||◌, if◌then◌else◌}
 use Rattle.std.specs.Char.{is_ascii_digit}
-use Rattle.std.specs.List.{list_any}
+use Rattle.std.specs.List.{flat_map, list_any}
 use Rattle.msrp_text.specs.declared.front.Front.{Front}
 use Rattle.msrp_text.specs.declared.front.Front.TheVariants as front
 use Rattle.msrp_text.specs.declared.front.PlainLine.{PlainLine}
@@ -28,6 +28,10 @@ split_commas line = split_from [] line
 -- a text is a line and its end: a line feed, a carriage return, or both
 abbrev pub EndsLine : List ℕ → List ℕ → Type 0
 EndsLine line text = (text ≡ line ++ (10 ∷ [])) ⊎ (text ≡ line ++ (13 ∷ [])) ⊎ (text ≡ line ++ (13 ∷ 10 ∷ []))
+
+-- the text of some lines, each with a line feed behind it
+abbrev pub lines_text : List (List ℕ) → List ℕ
+lines_text lines = flat_map (λ line. line ++ (10 ∷ [])) lines
 
 -- a plain line stands at the front of a text, and these are its fields
 pub record IsFront (text : List ℕ) (line : PlainLine) (row : List (List ℕ)) : Type 0 where

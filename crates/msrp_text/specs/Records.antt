@@ -100,6 +100,10 @@ GivesNext (r ∷ rest) found row after = (found ≡ true) × (row ≡ r) × (aft
 abbrev pub GivesLine : Option (List (List (List ℕ))) → List (List ℕ) → Option (List (List (List ℕ))) → Type 0
 GivesLine old fields new = (left : List (List (List ℕ))) → old ≡ Some left → GivesNext left true fields new
 
+-- the next of the records that were left, where those are known, are these, and those after them are left
+abbrev pub GivesLines : Option (List (List (List ℕ))) → List (List (List ℕ)) → Option (List (List (List ℕ))) → Type 0
+GivesLines old rows new = (left : List (List (List ℕ))) → old ≡ Some left → (rest : List (List (List ℕ))) × (left ≡ rows ++ rest) × (new ≡ Some rest)
+
 -- the records that were left, where those are known, are left still
 abbrev pub KeepsRecords : Option (List (List (List ℕ))) → Option (List (List (List ℕ))) → Type 0
 KeepsRecords old new = (left : List (List (List ℕ))) → old ≡ Some left → new ≡ Some left

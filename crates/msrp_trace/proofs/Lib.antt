@@ -13,3 +13,4 @@ pub mod ReadThrough
 pub mod Counting
 pub mod Standing
 pub mod Lining
+pub mod TickRows

@@ -1,6 +1,6 @@
 //! The texts of the cores' rows, kept as long as the cores do the same.
 ghost use Rattle.std.specs.List.{All};
-ghost use Rattle.std.specs.Prelude.{◌≡◌, ◌<◌, ◌%◌, ℕ, [], None, length, slice_index_or, slice_set, true};
+ghost use Rattle.std.specs.Prelude.{◌≡◌, ◌≤◌, ◌<◌, ◌%◌, ℕ, [], None, length, slice_index_or, slice_set, take, true};
 ghost use Rattle.msrp_trace.specs.Gathering.{after_tick};
 ghost use Rattle.msrp_trace.specs.Lines.{IsCoreText};
 ghost use Rattle.msrp_trace.specs.Texts.{text_of_core, texts_of};
@@ -55,6 +55,16 @@ pub(crate) fn text_of(lines: &[CoreText], core: usize) -> &Text<LINE>
     ensures { result.now ≡ slice_index_or (texts_of lines.now) core [] }
 {
     lines[core].text()
+}
+
+/// The first so many cores, with what stands in their records after the tick.
+#[inline(always)]
+pub(crate) fn first_lines(lines: &[CoreText], cores: usize) -> &[CoreText]
+    requires { cores ≤ length lines.now }
+    ensures texts { texts_of result.now ≡ take cores (texts_of lines.now) }
+    ensures size { length result.now ≡ cores }
+{
+    &lines[..cores]
 }
 
 impl<'a> RowTexts<'a> {

@@ -3,8 +3,8 @@ ghost use Rattle.std.specs.Prelude.{◌≡◌, decimal, true};
 
 use crate::text::Text;
 
-// No number of 32 bits has more than 10 digits.
-const NUMBER: usize = 16;
+/// No number of 32 bits has more than 10 digits.
+pub(crate) const NUMBER: usize = 16;
 
 /// A tick, and its text.
 #[derive(Drop)]
