@@ -122,8 +122,11 @@ module _ (version : TextVersion) (plan : PlanModel) (before after : TextsModel) 
       made_kept version plan (text_of_core after k) due whole
       (subst (λ r. text_of_core after k ≡ after_tick version plan r) read (subst (λ q. text_of_core after k ≡ after_tick version q told) p (subst (λ w. text_of_core after k ≡ after_tick w before.plan told) v (subst (λ n. text_of_core after n ≡ after_tick before.version before.plan told) at_told here))))
 
+  pub shown_others : after ≡ record before { texts = slice_set before.texts (told.core.0 % 8) (after_tick before.version before.plan told) } → (c : ℕ) → c % 8 ≢ k % 8 → text_of_core after c ≡ text_of_core before c
+  shown_others made c ne = ap (λ (t : TextsModel). text_of_core t c) made ∙ other_text before _ told.core.0 (after_tick before.version before.plan told) refl c (λ h. ne (h ∙ ap (λ n. n % 8) at_told))
+
   pub shown_keeps : (old new : CoresModel) → plan.cores ≤ 8 → k < plan.cores → Leaves old new due → after ≡ record before { texts = slice_set before.texts (told.core.0 % 8) (after_tick before.version before.plan told) } → text_of_core after told.core.0 ≡ after_tick before.version before.plan told
       → KeepsKnown version plan old before → KeepsKnown version plan new after
   shown_keeps old new few low leaves made here keeps =
       keeps_on version plan old new before after due k few low at leaves (λ some. shown_own here)
-      (λ c ne. ap (λ (t : TextsModel). text_of_core t c) made ∙ other_text before _ told.core.0 (after_tick before.version before.plan told) refl c (λ h. ne (h ∙ ap (λ n. n % 8) at_told))) keeps
+      (shown_others made) keeps

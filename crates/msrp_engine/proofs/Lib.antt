@@ -9,3 +9,4 @@ mod NextRows
 pub mod SimAnswers
 pub mod Reporting
 pub mod Gathering
+mod WholeTicks

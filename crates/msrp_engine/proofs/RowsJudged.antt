@@ -14,6 +14,7 @@ use Rattle.msrp_trace.proofs.ReadThrough.{Answers, IsReadTo, none-read, read-row
 use Rattle.msrp_engine.specs.Findings.{finding}
 use Rattle.msrp_trace.specs.Readers.{GivesNext}
 use Rattle.msrp_engine.specs.Inside.Ahead.{IsAhead, LooksAhead}
+use Rattle.msrp_engine.specs.Inside.Ticks.{TakeSome}
 use Rattle.msrp_engine.specs.Judging.{IsJudged, row_told, rows_left}
 use Rattle.msrp_engine.specs.declared.judged.Ahead.{Ahead}
 use Rattle.msrp_engine.specs.declared.judged.Ahead.TheVariants.{Met}
@@ -60,6 +61,15 @@ told-gives remaining old mid new rows ahead result plan looks is next gives judg
 
 pub none-came : {T : Type 0} (remaining : T → Option (List ℕ)) (j : JudgedRows T) → HasFed j.auditor [] → HaveCome remaining j j []
 none-came remaining j fed = record { plan = refl; fed = fed; fault = fed.fault; read = λ told known. none-read told _ known }
+
+-- the rows of whole ticks
+pub some-came : {T : Type 0} (remaining : T → Option (List ℕ)) (begun now : JudgedRows T) (rows : List Row) → now.auditor.plan ≡ begun.auditor.plan → TakeSome remaining begun now rows → HaveCome remaining begun now rows
+some-came remaining begun now rows plan some = record {
+  plan = plan;
+  fed = some.fed;
+  fault = some.good;
+  read = λ told known. let g = some.read told known in record { rest = g.0; whole = g.1; unread = g.2 };
+}
 
 no-fault : {T : Type 0} (remaining : T → Option (List ℕ)) (begun now : JudgedRows T) (rows : List Row) → HaveCome remaining begun now rows → fault_in now.auditor.plan rows ≡ None
 no-fault remaining begun now rows came = sym came.fed.fault ∙ came.fault

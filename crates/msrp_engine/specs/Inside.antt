@@ -4,3 +4,4 @@ pub mod Gathered
 pub mod Known
 pub mod Kept
 pub mod Texts
+pub mod Ticks

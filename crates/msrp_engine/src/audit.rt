@@ -22,12 +22,20 @@ use std::io::{Read, Write};
 
 // What is found in the rows that are left. They are judged as they come, and none is read after a faulty one.
 #[inline(never)]
-fn judge_rows<T: Read>(rows: &mut JudgedRows<'_, '_, T>) -> Result<Result<(), Fault>, CliFault>
+fn judge_rows<'p, T: Read>(
+    alloc: Global,
+    plan: &'p Plan,
+    levels: &'p Levels<'p>,
+    rows: &mut JudgedRows<'p, '_, T>,
+) -> Result<Result<(), Fault>, CliFault>
     requires fed { HasFed rows.old.auditor [] }
+    requires plan { rows.old.auditor.plan ≡ plan.now }
+    requires levels { levels.now ≡ plan.now }
     ensures found { (told : Told) → rows_left T.remaining rows.old ≡ Some told
         → (result ≡ Err CliFault.Read) ⊎ (result ≡ Err CliFault.Memory) ⊎ (result ≡ finding rows.old.auditor.plan told) }
     ensures faults { IfErr result (λ fault. is_trace_fault fault ≡ true) }
 {
+    rows.take_ticks(alloc, plan, levels)?;
     loop {
         let ahead = rows.next_ahead();
         if let Ahead::Met(_row) = ahead {
@@ -54,7 +62,7 @@ fn judge_all<T: Read>(
     let auditor = Auditor::with_room(alloc, plan, &levels)?;
     let reader = TraceReader::new(alloc, trace, plan)?;
     let mut rows = JudgedRows::new(plan, auditor, reader);
-    let found = judge_rows(&mut rows);
+    let found = judge_rows(alloc, plan, &levels, &mut rows);
     drop(rows);
     found
 }

@@ -1,5 +1,5 @@
 //! The rows of a trace's text, each judged as it comes.
-ghost use Rattle.std.specs.Prelude.{◌≡◌, ◌<◌, ◌*◌, ◌/◌, ℕ, List, ◌++◌, ◌∷◌, [], IfSome, Some, None, Ok, Err, true, false, length, slice_index_or};
+ghost use Rattle.std.specs.Prelude.{◌≡◌, ◌<◌, ◌*◌, ◌/◌, ◌%◌, ℕ, List, ◌++◌, ◌∷◌, [], IfOk, IfSome, OnOk, Some, None, Ok, Err, true, false, length, slice_index_or};
 ghost use Rattle.msrp_audit.specs.Audits.{Awaits, HasFed, IsDueInAudit};
 ghost use Rattle.msrp_plan.specs.Bytes.{source_failed};
 ghost use Rattle.msrp_plan.specs.WellFormed.{IsPlan};
@@ -7,14 +7,17 @@ ghost use Rattle.msrp_plan.specs.declared.rows.Row.{Row as TraceRow};
 ghost use Rattle.msrp_plan.specs.Stretches.{in_tick};
 ghost use Rattle.msrp_trace.specs.Laws.{as_read, is_short};
 ghost use Rattle.msrp_trace.specs.Reading.{Told};
-ghost use Rattle.msrp_trace.specs.Readers.{BeginsAt, GivesNext, IsAtTick, source_of};
+ghost use Rattle.msrp_trace.specs.Readers.{BeginsAt, GivesNext, IsAtTick, IsOfTrace, source_of};
 ghost use Rattle.msrp_engine.specs.Inside.Ahead.{BeginsDue, HasRoom, IsAhead, LooksAhead};
 ghost use Rattle.msrp_trace.specs.Texts.{text_of_core};
 ghost use Rattle.msrp_engine.specs.Inside.Kept.{IsKept, KeepsKnown};
 
+use crate::replay::auditor_after;
 use msrp_audit::Auditor;
-use msrp_plan::{CoreId, Fault, Kind, Plan, Row};
+use msrp_levels::Levels;
+use msrp_plan::{CoreId, Fault, Kind, Memory, Plan, Row};
 use msrp_trace::{RowTexts, TraceError, TraceReader};
+use std::alloc::Global;
 use std::io::Read;
 
 /// What comes next in the text of a trace.
@@ -85,6 +88,7 @@ pub struct JudgedRows<'p, 't, T> {
 
 impl<'p, 't, T: Read> JudgedRows<'p, 't, T> {
     ghost use Rattle.msrp_engine.specs.Judging.{IsJudged, rows_left, row_told};
+    ghost use Rattle.msrp_engine.specs.Inside.Ticks.{TakesSome, TakesTick, Turns, TurnsAll};
 
     /// The rows that a reader has left, judged by this auditor. Both are of this plan.
     pub fn new(
@@ -152,6 +156,8 @@ impl<'p, 't, T: Read> JudgedRows<'p, 't, T> {
         ensures awaits { (rows : List TraceRow) → HasFed self.old.auditor rows → Awaits self.new.auditor rows core.0 self.new.due }
         ensures rows { self.new.rows ≡ self.old.rows }
         ensures kept { IsKept self.new.rows.version self.new.auditor.plan (text_of_core self.new.texts core.0) self.new.due }
+        ensures core { self.new.due.core.0 ≡ core.0 }
+        ensures others { (c : ℕ) → ¬ (c % 8 ≡ core.0 % 8) → text_of_core self.new.texts c ≡ text_of_core self.old.texts c }
     {
         let due = self.auditor.turn_anew(core);
         // Made anew as a whole, so that no part of it is laid down before.
@@ -261,6 +267,84 @@ impl<'p, 't, T: Read> JudgedRows<'p, 't, T> {
             return Ok(self.judge(self.due, row));
         }
         Ok(Judgement::Broken(row, self.auditor.fault_out_of_turn()))
+    }
+
+    // The turn of a core in that tick, and its row as the one that came. The text that is kept of the core is that of the row then, if one is kept.
+    #[inline(always)]
+    fn take_turn(&mut self, tick: u32, core: CoreId)
+        requires accepted { IsPlan self.old.auditor.plan }
+        requires due { IsDueInAudit self.old.auditor core.0 }
+        requires short { is_short tick ≡ true }
+        ensures plan { self.new.auditor.plan ≡ self.old.auditor.plan }
+        ensures rows { self.new.rows ≡ self.old.rows }
+        ensures turn { Turns self.old self.new tick core.0 }
+        ensures others { (c : ℕ) → ¬ (c % 8 ≡ core.0 % 8) → text_of_core self.new.texts c ≡ text_of_core self.old.texts c }
+    {
+        match self.auditor.repeat(core) {
+            Some(_due) => self.auditor.accept(),
+            None => {
+                self.turn(core);
+                self.auditor.accept();
+            }
+        }
+    }
+
+    // The turns of all cores in that tick, by their numbers, and whether all were due. The texts that are kept are those of their rows then.
+    #[inline(always)]
+    fn take_turns(&mut self, tick: u32, cores: u32) -> bool
+        requires accepted { IsPlan self.old.auditor.plan }
+        requires short { is_short tick ≡ true }
+        requires cores { cores ≡ self.old.auditor.plan.cores }
+        ensures plan { self.new.auditor.plan ≡ self.old.auditor.plan }
+        ensures rows { self.new.rows ≡ self.old.rows }
+        ensures turns { result ≡ true → TurnsAll self.old self.new tick cores }
+    {
+        for core in 0..cores {
+            let core = CoreId(core);
+            if !self.auditor.is_due(core) {
+                return false;
+            }
+            self.take_turn(tick, core);
+        }
+        true
+    }
+
+    // The rows of the next tick, where they come by the numbers of the cores, in the texts of those that are due. Elsewhere none is taken, and of the
+    // auditor nothing is known.
+    fn next_tick(&mut self, cores: u32) -> bool
+        requires cores { cores ≡ self.old.auditor.plan.cores }
+        ensures plan { self.new.auditor.plan ≡ self.old.auditor.plan }
+        ensures trace { IsOfTrace self.old.rows self.new.rows }
+        ensures taken { result ≡ true → TakesTick T.remaining self.old self.new }
+        ensures kept { result ≡ false → (told : Told) → rows_left T.remaining self.old ≡ Some told → rows_left T.remaining self.new ≡ Some told }
+    {
+        let tick = self.auditor.tick();
+        self.take_turns(tick, cores) && self.rows.tick_comes(tick, &self.texts)
+    }
+
+    /// Takes the rows of whole ticks from the first one on, as long as in each they come by the numbers of the cores and in the texts of those that are due,
+    /// as a simulation writes them. Each core has its turn before it is known whether its row comes. Where it doesn't the turns of that tick were in vain:
+    /// another auditor has those of the ticks before once more, and the rows are judged one by one from there on.
+    pub(crate) fn take_ticks(
+        &mut self,
+        alloc: Global,
+        plan: &'p Plan,
+        levels: &'p Levels<'p>,
+    ) -> Result<(), Memory>
+        requires fed { HasFed self.old.auditor [] }
+        requires plan { self.old.auditor.plan ≡ plan.now }
+        requires levels { levels.now ≡ plan.now }
+        ensures plan { self.new.auditor.plan ≡ self.old.auditor.plan }
+        ensures taken { OnOk result (TakesSome T.remaining self.old self.new) }
+    {
+        for tick in 0..plan.ticks() {
+            if !self.next_tick(plan.cores()) {
+                self.auditor = auditor_after(alloc, plan, levels, tick * plan.cores())?;
+                self.texts = RowTexts::new(plan, self.rows.version());
+                return Ok(());
+            }
+        }
+        Ok(())
     }
 
     // What is known ahead of the next row, whose text is known to begin with that tick and core, where the core has its turn.

@@ -12,6 +12,7 @@ mod judged;
 mod made;
 mod own_text;
 mod reading;
+mod replay;
 mod report;
 mod run;
 mod sim;

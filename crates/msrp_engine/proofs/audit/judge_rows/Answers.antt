@@ -1,11 +1,13 @@
 use Rattle.std.proofs.Common.{rules, ◌≡◌, ◌++◌, ◌∷◌, [], Ok, Err, ap, sym, ◌∙◌, inr, refl}
 use Rattle.msrp_faults.specs.Outcomes.{trace_fault_of}
 use Rattle.msrp_engine.specs.declared.judged.Judgement.TheVariants.{Legal}
-use Rattle.msrp_engine.proofs.RowsJudged.{broken-found, end-found, error-found, fewer-turns, met-gives, none-came, row-came, told-gives}
+use Rattle.msrp_engine.proofs.RowsJudged.{broken-found, end-found, error-found, fewer-turns, met-gives, row-came, some-came, told-gives}
 use Rattle.msrp_engine.proofs.audit.judge_rows.Goals as goal
 
 pub loop-row-init : goal.loop-row-init
-loop-row-init g c = ([], none-came g.T.Read.remaining c.args.rows.now c.requires.fed)
+loop-row-init g c =
+    let some = c.in_ok-take_ticks.ensures.taken in
+    (some.0, some-came g.T.Read.remaining c.args.rows.now c.take_ticks.new.self some.0 c.take_ticks.ensures.plan some.1)
 
 -- ---- a row that is met
 pub loop-row-smaller-in-Met : goal.loop-row-smaller-in-Met
@@ -42,8 +44,8 @@ returns-in_err-_row-clause-found g c = λ told known.
     let i = c.loop-row.invariant in
     let a = c.next_ahead-ahead.ensures in
     let e = c.told.ensures in
-    let gives : c.from_residual.result ≡ Err (trace_fault_of c.in_err-_row.field-0.0) = search rules in
-    error-found g.T.Read.remaining _ _ _ i.0 c.told.result c.in_err-_row.field-0.0 c.from_residual.result told i.1 (told-gives g.T.Read.remaining c.loop-row.rows c.next_ahead-ahead.new.self c.told.new.self i.0 c.next_ahead-ahead.result c.told.result a.plan a.looks (a.ahead i.0 i.1.fed i.1.fault) e.plan e.gives e.judged) (cc) known gives
+    let gives : c.from_residual-in_err-_row.result ≡ Err (trace_fault_of c.in_err-_row.field-0.0) = search rules in
+    error-found g.T.Read.remaining _ _ _ i.0 c.told.result c.in_err-_row.field-0.0 c.from_residual-in_err-_row.result told i.1 (told-gives g.T.Read.remaining c.loop-row.rows c.next_ahead-ahead.new.self c.told.new.self i.0 c.next_ahead-ahead.result c.told.result a.plan a.looks (a.ahead i.0 i.1.fed i.1.fault) e.plan e.gives e.judged) (cc) known gives
 
 pub returns-in-Broken-clause-found : goal.returns-in-Broken-clause-found
 returns-in-Broken-clause-found g c = λ told known.

@@ -4,7 +4,7 @@ use Rattle.msrp_plan.specs.declared.rows.Row.{Row}
 use Rattle.msrp_trace.specs.Laws.{as_read}
 use Rattle.msrp_trace.specs.Texts.{TextsModel, text_of_core}
 use Rattle.msrp_engine.specs.Inside.Kept.{IsKept, KeepsKnown}
-use Rattle.msrp_engine.proofs.KeptTexts.{shown_keeps, shown_own, told_named, turn_told}
+use Rattle.msrp_engine.proofs.KeptTexts.{shown_keeps, shown_others, shown_own, told_named, turn_told}
 use Rattle.msrp_engine.proofs.judged.JudgedRows.turn.Goals as goal
 
 pub show-requires : goal.show-requires
@@ -39,3 +39,13 @@ returns-clause-kept g c =
 
 pub returns-clause-awaits : goal.returns-clause-awaits
 returns-clause-awaits g c = λ rows fed. subst (λ (r : Row). Awaits c.turn_anew-due.new.self rows c.args.core.0 r) (sym c.in_tick-self.ensures) (c.turn_anew-due.ensures.awaits rows fed)
+
+pub returns-clause-core : goal.returns-clause-core
+returns-clause-core g c = ap (λ (r : Row). r.core.0) c.in_tick-self.ensures ∙ c.turn_anew-due.ensures.core
+
+pub returns-clause-others : goal.returns-clause-others
+returns-clause-others g c =
+    let j = c.args.self.now in
+    let due = c.turn_anew-due.result in
+    shown_others j.rows.version j.auditor.plan j.texts c.show.new.self c.args.core.0 due c.as_read-told.result j.version j.texts_plan (c.as_read-told.ensures ∙ ap (as_read j.rows.version) c.in_tick-self.ensures) c.turn_anew-due.ensures.core
+    (turn_told j.rows.version j.auditor.plan c.args.core.0 due c.requires.accepted c.requires.due.core c.turn_anew-due.ensures.turn) c.show.ensures.texts

@@ -1,0 +1,54 @@
+use Rattle.std.proofs.Common.{◌≡◌, ◌≤◌, ◌<◌, ◌++◌, ◌∷◌, [], refl, sym, ap, ◌∙◌, subst, arith, append-nil}
+use Rattle.msrp_plan.specs.WellFormed.{IsPlan}
+use Rattle.msrp_engine.specs.Inside.Ticks.{HasFedRun, TurnsAll}
+use Rattle.msrp_engine.proofs.WholeTicks.{turn_on}
+use Rattle.msrp_engine.proofs.judged.JudgedRows.take_turns.Goals as goal
+
+pub loop-core-init : goal.loop-core-init
+loop-core-init g c = record {
+  plan = refl;
+  rows = refl;
+  turns = ([], record {
+    size = refl;
+    cores = λ k r is. absurd (cc);
+    texts = λ k r is. absurd (cc);
+    fed = λ rows was now whole. subst (λ l. HasFedRun c.args.self.now.auditor l) (sym (append-nil rows)) was;
+  });
+}
+
+pub returns-then-not-is_due-clause-plan : goal.returns-then-not-is_due-clause-plan
+returns-then-not-is_due-clause-plan g c = c.loop-core.invariant.plan
+
+pub returns-then-not-is_due-clause-rows : goal.returns-then-not-is_due-clause-rows
+returns-then-not-is_due-clause-rows g c = c.loop-core.invariant.rows
+
+pub take_turn-requires-clause-accepted : goal.take_turn-requires-clause-accepted
+take_turn-requires-clause-accepted g c = subst IsPlan (sym c.loop-core.invariant.plan) c.requires.accepted
+
+pub loop-core-preserved : goal.loop-core-preserved
+loop-core-preserved g c =
+    let i = c.loop-core.invariant in
+    let e = c.take_turn.ensures in
+    let more = c.loop-core-test.true in
+    let cores = c.requires.cores in
+    let most = c.requires.accepted.draft.cores.1 in
+    record {
+      plan = e.plan ∙ i.plan;
+      rows = e.rows ∙ i.rows;
+      turns = (
+        i.turns.0 ++ e.turn.0 ∷ [],
+        turn_on c.args.self.now c.loop-core.self c.take_turn.new.self c.args.tick c.loop-core.core e.turn.0 (omega (arith, more, cores, most)) (omega (arith, more, cores)) i.plan e.rows e.others e.turn.1 i.turns.0 i.turns.1,
+      );
+    }
+
+pub returns-clause-plan : goal.returns-clause-plan
+returns-clause-plan g c = c.loop-core.invariant.plan
+
+pub returns-clause-rows : goal.returns-clause-rows
+returns-clause-rows g c = c.loop-core.invariant.rows
+
+pub returns-clause-turns : goal.returns-clause-turns
+returns-clause-turns g c = λ yes.
+    let ended = c.loop-core-test.false in
+    let end = c.loop-core.auto.core-end in
+    subst (λ n. TurnsAll c.args.self.now c.loop-core.self c.args.tick n) (omega (arith, ended, end)) c.loop-core.invariant.turns

@@ -1,0 +1,10 @@
+use Rattle.std.proofs.Common.{◌≡◌}
+use Rattle.msrp_engine.specs.Inside.Ticks.{TurnsAll}
+use Rattle.msrp_engine.proofs.judged.JudgedRows.take_turns.Given as goal
+
+abbrev pub invariant-loop-core : goal.invariant-loop-core
+invariant-loop-core g l = record {
+  plan : l.self.auditor.plan ≡ l.fn.self.auditor.plan;
+  rows : l.self.rows ≡ l.fn.self.rows;
+  turns : TurnsAll l.fn.self l.self l.fn.tick l.core;
+}
