@@ -1,5 +1,5 @@
 -- Whole ticks whose rows come by the numbers of the cores.
-use Rattle.std.proofs.Common.{◌≡◌, ◌≢◌, ℕ, zero, suc, ◌+◌, ◌*◌, ◌/◌, ◌%◌, ◌<◌, ◌≤◌, List, [], ◌∷◌, ◌++◌, Option, Some, None, refl, ap, sym, ◌∙◌, subst, arith, ◌==◌, ◌&&◌, Bool, true, false, not, nat_lt, eqb-true, length-take-le, length, length-append, append_assoc, append-nil, take, drop, take-append-drop, inl, inr, slice_get}
+use Rattle.std.proofs.Common.{◌≡◌, ◌≢◌, ℕ, zero, suc, ◌+◌, ◌*◌, ◌/◌, ◌%◌, ◌<◌, List, [], ◌∷◌, ◌++◌, Option, Some, None, refl, ap, sym, ◌∙◌, subst, arith, ◌==◌, ◌&&◌, true, not, nat_lt, eqb-true, length-take-le, length, length-append, append_assoc, take, drop, take-append-drop, inl, inr, slice_get}
 use Rattle.std.proofs.Math.Nat.{div-add-mod, mod-eq_of_lt, mul-mod_left, mul_comm}
 use Rattle.std.proofs.lemmas.Nat.{div-mul-add, mod-mul-add}
 use Rattle.std.proofs.lemmas.Option.{slice_get_cases, slice_get_within}
@@ -109,6 +109,7 @@ tick_on remaining begun now next k rows more came plan tick =
   where
     no_rest : (cores k l : ℕ) → l ≡ k * cores → l % cores ≡ 0
     no_rest cores k l e = ap (λ n. n % cores) e ∙ mul-mod_left k cores
+
     next_size : (k cores : ℕ) → k * cores + cores ≡ (k + 1) * cores
     next_size k cores = omega arith
 

@@ -1,4 +1,4 @@
-use Rattle.std.proofs.Common.{◌≡◌, ◌<◌, ◌≤◌, ◌%◌, ◌*◌, None, Some, true, false, ap, sym, ◌∙◌, subst, arith, length, length-take-le, take}
+use Rattle.std.proofs.Common.{◌≡◌, ◌<◌, ◌%◌, ◌*◌, None, true, false, ap, sym, ◌∙◌, subst, arith, length, length-take-le, take}
 use Rattle.std.proofs.Math.Bool.{true≢false}
 use Rattle.std.proofs.lemmas.List.{take_all}
 use Rattle.std.specs.Option.{is_some}

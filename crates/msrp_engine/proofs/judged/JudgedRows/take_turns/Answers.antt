@@ -1,4 +1,4 @@
-use Rattle.std.proofs.Common.{◌≡◌, ◌≤◌, ◌<◌, ◌++◌, ◌∷◌, [], refl, sym, ap, ◌∙◌, subst, arith, append-nil}
+use Rattle.std.proofs.Common.{◌++◌, ◌∷◌, [], refl, sym, ◌∙◌, subst, arith, append-nil}
 use Rattle.msrp_plan.specs.WellFormed.{IsPlan}
 use Rattle.msrp_engine.specs.Inside.Ticks.{HasFedRun, TurnsAll}
 use Rattle.msrp_engine.proofs.WholeTicks.{turn_on}
@@ -8,12 +8,15 @@ pub loop-core-init : goal.loop-core-init
 loop-core-init g c = record {
   plan = refl;
   rows = refl;
-  turns = ([], record {
-    size = refl;
-    cores = λ k r is. absurd (cc);
-    texts = λ k r is. absurd (cc);
-    fed = λ rows was now whole. subst (λ l. HasFedRun c.args.self.now.auditor l) (sym (append-nil rows)) was;
-  });
+  turns = (
+    [],
+    record {
+      size = refl;
+      cores = λ k r is. absurd (cc);
+      texts = λ k r is. absurd (cc);
+      fed = λ rows was now whole. subst (λ l. HasFedRun c.args.self.now.auditor l) (sym (append-nil rows)) was;
+    },
+  );
 }
 
 pub returns-then-not-is_due-clause-plan : goal.returns-then-not-is_due-clause-plan
