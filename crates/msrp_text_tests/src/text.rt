@@ -252,7 +252,7 @@ fn foreseen_lines_are_met_whole(rt: HostRuntime) -> Result<(), Fail> {
 // A text, some lines, whether they are met after the first record, and the records that are left.
 const AT_ONCE: [(&[u8], &[u8], bool, &[u8]); 8] = [
     (b"1\nab,c\nd\ne", b"ab,c\nd\n", true, b"e|/"),
-    (b"1\r\nab,c\n", b"ab,c\n", true, b""),
+    (b"1\nab,c\n", b"ab,c\n", true, b""),
     (b"1\nab,c\nd\ne", b"ab,c\nd", false, b"ab|c|/d|/e|/"),
     (b"1\nab,c\nd\ne", b"", false, b"ab|c|/d|/e|/"),
     (b"1\nab,c\nd", b"ab,c\nd\n", false, b"ab|c|/d|/"),
