@@ -1,45 +1,18 @@
 -- What a log keeps of its turns tells them.
-use Rattle.std.proofs.Common.{◌≡◌, ℕ, zero, suc, ◌+◌, ◌<◌, true, Option, Some, None, List, [], ◌∷◌, ◌++◌, length, get_or, is_some, refl, ap, sym, ◌∙◌, arith}
+use Rattle.std.proofs.Common.{◌≡◌, ℕ, zero, suc, ◌+◌, ◌<◌, Option, List, [], ◌∷◌, ◌++◌, length, get_or, is_some, refl, ap, sym, ◌∙◌, arith}
 use Rattle.std.specs.Option.{unwrap_or}
-use Rattle.msrp_plan.specs.Shape.{has_shape, may_carry}
+use Rattle.msrp_plan.specs.Shape.{ahead_of_kind, job_of_kind, res_of_kind}
 use Rattle.msrp_plan.specs.declared.ids.JobId.{JobId}
 use Rattle.msrp_plan.specs.declared.ids.ResId.{ResId}
-use Rattle.msrp_plan.specs.declared.rows.Kind.{Kind}
-use Rattle.msrp_plan.specs.declared.rows.Kind.TheVariants.{Idle, Run, Queue}
 use Rattle.msrp_plan.specs.declared.rows.Row.{Row}
-use Rattle.msrp_plan.proofs.Legality.SameRow.{parts, same_row}
+use Rattle.msrp_plan.proofs.KindParts.{ahead_told, job_told, res_told, same_parts}
+use Rattle.msrp_plan.proofs.Legality.SameRow.{same_row}
 use Rattle.msrp_merge.specs.declared.kept.Kept.{Kept}
 use Rattle.msrp_merge.specs.declared.logs.Place.{Place}
 use Rattle.msrp_merge.specs.declared.logs.Turn.{Turn}
-use Rattle.msrp_merge.specs.Keeping.{ahead_of_kind, job_of_kind, place_of_touch, res_of_kind, turn_of, turns_from}
+use Rattle.msrp_merge.specs.Keeping.{place_of_touch, turn_of, turns_from}
 
 -- ---- one turn
--- what a row of this kind has is told, and what it lacks is not
-job_told : (kind : Kind) (job : Option JobId) (res : Option ResId) (d : JobId) → has_shape kind job res ≡ true → job_of_kind kind (unwrap_or job d) ≡ job
-job_told Idle None res d h = refl
-job_told Idle (Some x) res d h = absurd (cc)
-job_told _ None res d h = absurd (cc)
-job_told _ (Some x) res d h = refl
-
-res_told : (kind : Kind) (job : Option JobId) (res : Option ResId) (d : ResId) → has_shape kind job res ≡ true → res_of_kind kind (unwrap_or res d) ≡ res
-res_told Idle None None d h = refl
-res_told Run (Some x) None d h = refl
-res_told Idle None (Some g) d h = absurd (cc)
-res_told Idle (Some x) res d h = absurd (cc)
-res_told Run (Some x) (Some g) d h = absurd (cc)
-res_told _ None res d h = absurd (cc)
-res_told _ (Some x) None d h = absurd (cc)
-res_told _ (Some x) (Some g) d h = refl
-
-ahead_told : (kind : Kind) (ahead : Option ℕ) (d : ℕ) → may_carry kind ahead ≡ true → ahead_of_kind kind (is_some ahead) (unwrap_or ahead d) ≡ ahead
-ahead_told Queue None d h = refl
-ahead_told Queue (Some n) d h = refl
-ahead_told _ None d h = refl
-ahead_told _ (Some n) d h = absurd (cc)
-
-same_parts : (r s : Row) → r.tick ≡ s.tick → r.core ≡ s.core → r.kind ≡ s.kind → r.job ≡ s.job → r.res ≡ s.res → r.ahead ≡ s.ahead → parts r ≡ parts s
-same_parts r s t c k j g a = cc
-
 -- a row and a place that are what is told
 pub shown : (core tick : ℕ) (e : Kept) (row : Row) (place : Option Place) → row.tick ≡ tick → row.core.0 ≡ core → row.kind ≡ e.kind → row.job ≡ job_of_kind e.kind e.job → row.res ≡ res_of_kind e.kind e.res → row.ahead ≡ ahead_of_kind e.kind e.carries e.ahead → place ≡ place_of_touch e.touch e.number
     → ◌≡◌ {A = Turn} (record { row = row; place = place }) (turn_of core tick e)

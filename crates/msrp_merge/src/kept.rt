@@ -1,6 +1,7 @@
 //! A turn as a log keeps it, in as few bytes as it needs.
 ghost use Rattle.std.specs.Prelude.{◌≡◌};
-ghost use Rattle.msrp_merge.specs.Keeping.{ahead_of_kind, job_of_kind, place_of_touch, res_of_kind, turn_of};
+ghost use Rattle.msrp_plan.specs.Shape.{ahead_of_kind, job_of_kind, res_of_kind};
+ghost use Rattle.msrp_merge.specs.Keeping.{place_of_touch, turn_of};
 
 use crate::logs::{Place, Turn};
 use msrp_plan::{CoreId, JobId, Kind, ResId, Row, TaskId};

@@ -1,5 +1,6 @@
 pub mod Tests
 pub mod SameKinds
+pub mod KindParts
 pub mod Lists
 pub mod Writes
 pub mod Jobs
