@@ -1,3 +1,4 @@
+pub mod Gathering
 pub mod Foresight
 pub mod Judging
 pub mod Scanning

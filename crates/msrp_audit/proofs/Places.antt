@@ -96,3 +96,14 @@ module _ (plan : PlanModel) (res : ResId) (rows : List Row) where
   pub at_end : (kept : Requests) (places : List ℕ) → places ≡ [] → IsOverToNext kept places → TellsFirst plan (broken_reply plan res.0) rows None
   at_end kept places none next =
       passes_all plan (broken_reply plan res.0) rows next.at (end_by next.at (drop next.at rows) next.over.within refl next.names (sym none ∙ next.over.left)) next.over.passes
+
+-- the places from a row on, which names a resource or names none
+pub named_next : (rows : List Row) (i : ℕ) (x : Row) → i < length rows → x ≡ get_or rows i x → is_some x.res ≡ true → naming_places i (drop i rows) ≡ i ∷ naming_places (i + 1) (drop (i + 1) rows)
+named_next rows i x within at names =
+    let rest = naming_places (i + 1) (drop (i + 1) rows) in
+    ap (naming_places i) (drop_more rows i x within) ∙ (ap (λ (r : Row). cond (is_some r.res) (i ∷ rest) rest) (sym at) ∙ ap (λ b. cond b (i ∷ rest) rest) names)
+
+pub unnamed_next : (rows : List Row) (i : ℕ) (x : Row) → i < length rows → x ≡ get_or rows i x → is_some x.res ≡ false → naming_places i (drop i rows) ≡ naming_places (i + 1) (drop (i + 1) rows)
+unnamed_next rows i x within at lacks =
+    let rest = naming_places (i + 1) (drop (i + 1) rows) in
+    ap (naming_places i) (drop_more rows i x within) ∙ (ap (λ (r : Row). cond (is_some r.res) (i ∷ rest) rest) (sym at) ∙ ap (λ b. cond b (i ∷ rest) rest) lacks)

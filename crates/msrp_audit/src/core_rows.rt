@@ -10,6 +10,7 @@ ghost use Rattle.msrp_audit.specs.Inside.Walks.{KeepsOrder};
 
 use crate::auditor::is_own;
 use crate::comparing::unlike_turn;
+use crate::gathered::Rows;
 use crate::replies::turn_as;
 use msrp_core::Machine;
 use msrp_levels::Levels;
@@ -77,7 +78,7 @@ pub(crate) fn judge_core(
     alloc: Global,
     plan: &Plan,
     levels: &Levels,
-    rows: &[Row],
+    rows: &Rows<'_>,
     steady: usize,
     core: CoreId,
 ) -> Result<Option<Fault>, Memory>
@@ -90,7 +91,7 @@ pub(crate) fn judge_core(
     let mut machine = Machine::with_room(alloc, plan, levels, core)?;
     let mut index = 0;
     while index < rows.len() {
-        let row = rows[index];
+        let row = rows.row(index);
         if row.core == core {
             if !is_in_turn(plan, &machine, row, index) {
                 return Ok(None);

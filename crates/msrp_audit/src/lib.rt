@@ -1,11 +1,13 @@
 //! The auditor: it accepts exactly the legal runs, and names the first row that breaks a rule.
 //!
-//! [`audit`] judges a whole trace, and [`audit_parallel`] does so in pieces, which threads share. An [`Auditor`] judges rows as they come.
+//! [`audit`] judges a whole trace, and [`audit_parallel`] does so in pieces, which threads share, as [`audit_gathered`] does with rows that are
+//! [`Gathered`]. An [`Auditor`] judges rows as they come.
 #![tactic(auto)]
 
 mod auditor;
 mod comparing;
 mod core_rows;
+mod gathered;
 mod parallel;
 mod pieces;
 mod queues;
@@ -14,6 +16,7 @@ mod turns;
 mod verdicts;
 
 pub use auditor::Auditor;
+pub use gathered::Gathered;
 pub use msrp_plan::{Fault, Rule};
-pub use parallel::audit_parallel;
+pub use parallel::{audit_gathered, audit_parallel};
 pub use verdicts::audit;

@@ -1,16 +1,18 @@
 //! The verdict on a whole trace, by pieces.
-ghost use Rattle.std.specs.Prelude.{◌≡◌, ◌≤◌, ◌<◌, ◌*◌, ◌+◌, nat_lt, IfOk, length, take};
+ghost use Rattle.std.specs.Prelude.{◌≡◌, ◌≤◌, ◌<◌, ◌*◌, ◌+◌, nat_lt, IfOk, List, length, take};
 ghost use Rattle.msrp_plan.specs.Limits.{most_rows};
+ghost use Rattle.msrp_plan.specs.declared.rows.Row.{Row as TraceRow};
 ghost use Rattle.msrp_plan.specs.Verdict.{fault_in, verdict};
 ghost use Rattle.msrp_audit.specs.Audits.{answer_of};
 ghost use Rattle.msrp_audit.specs.Inside.Pieces.{broken_in, earlier_of, earliest_of, fault_order, length_fault_of, piece_with, pieces_of, rule_number, TellsFirst};
 ghost use Rattle.msrp_audit.specs.Inside.Walks.{KeepsOrder, naming_places};
 
+use crate::gathered::{Gathered, Rows};
 use crate::pieces::{judge, pieces};
 use crate::queues::naming_places;
 use crate::turns::steady_rows;
 use msrp_levels::Levels;
-use msrp_plan::{Fault, Memory, Plan, Row, Rule, Trace};
+use msrp_plan::{Fault, Memory, Plan, Rule, Trace};
 use rayon::prelude::*;
 use std::alloc::Global;
 use std::thread::Threads;
@@ -57,7 +59,7 @@ fn first_fault(
     alloc: Global,
     plan: &Plan,
     levels: &Levels,
-    rows: &[Row],
+    rows: &Rows<'_>,
 ) -> Result<Option<Fault>, Memory>
     requires levels { levels.now ≡ plan.now }
     requires rows { length rows.now ≤ plan.now.cores * plan.now.ticks }
@@ -103,6 +105,32 @@ fn length_fault(due: u32, rows: usize) -> Result<(), Fault>
     Ok(())
 }
 
+// How many rows are due: each core has a turn in each tick.
+fn due_rows(plan: &Plan) -> u32
+    ensures rows { result ≡ plan.now.cores * plan.now.ticks }
+    ensures few { result ≤ most_rows }
+{
+    plan.cores() * plan.ticks()
+}
+
+// The verdict on so many rows, where those that are judged are the first of them, as many as are due at most.
+fn audit_rows(
+    rt: &(impl Threads + Sync),
+    alloc: Global,
+    plan: &Plan,
+    judged: &Rows<'_>,
+    count: usize,
+) -> Result<Result<(), Fault>, Memory>
+    requires { length judged.now ≤ plan.now.cores * plan.now.ticks }
+    ensures { (rows : List TraceRow) → count ≡ length rows → judged.now ≡ take (plan.now.cores * plan.now.ticks) rows → IfOk result (λ answer. answer ≡ answer_of (verdict plan.now rows)) }
+{
+    let levels = Levels::of(alloc, plan)?;
+    match first_fault(rt, alloc, plan, &levels, judged)? {
+        Some(fault) => Ok(Err(fault)),
+        None => Ok(length_fault(due_rows(plan), count)),
+    }
+}
+
 /// The verdict on a trace, as [`audit`](crate::audit) gives it. The turns of the ticks, the rows of each core and the rows
 /// on each global resource are pieces of one list, which `rayon` shares among threads. It is [`Memory`] only where memory
 /// was refused.
@@ -114,12 +142,20 @@ pub fn audit_parallel(
 ) -> Result<Result<(), Fault>, Memory>
     ensures { IfOk result (λ answer. answer ≡ answer_of (verdict plan.now trace.now.rows.items)) }
 {
-    let levels = Levels::of(alloc, plan)?;
-    let due = plan.cores() * plan.ticks();
     let rows = trace.rows.len();
-    let judged = &trace.rows[..rows.min(due as usize)];
-    match first_fault(rt, alloc, plan, &levels, judged)? {
-        Some(fault) => Ok(Err(fault)),
-        None => Ok(length_fault(due, rows)),
-    }
+    let judged = Rows::of(&trace.rows[..rows.min(due_rows(plan) as usize)]);
+    audit_rows(rt, alloc, plan, &judged, rows)
+}
+
+/// The verdict on gathered rows, as [`audit_parallel`] gives it on a trace of them.
+pub fn audit_gathered(
+    rt: &(impl Threads + Sync),
+    alloc: Global,
+    plan: &Plan,
+    gathered: &Gathered,
+) -> Result<Result<(), Fault>, Memory>
+    ensures { IfOk result (λ answer. answer ≡ answer_of (verdict plan.now gathered.now)) }
+{
+    let judged = gathered.first(due_rows(plan) as usize);
+    audit_rows(rt, alloc, plan, &judged, gathered.len())
 }

@@ -5,10 +5,11 @@ ghost use Rattle.msrp_audit.specs.Inside.Pieces.{broken_in, listed, parts, piece
 ghost use Rattle.msrp_audit.specs.Inside.Walks.{KeepsOrder, naming_places};
 
 use crate::core_rows::judge_core;
+use crate::gathered::Rows;
 use crate::queues::judge_resource;
 use crate::turns::{TICKS_A_PIECE, judge_turns};
 use msrp_levels::Levels;
-use msrp_plan::{CoreId, Fault, Memory, Plan, ResId, Row};
+use msrp_plan::{CoreId, Fault, Memory, Plan, ResId};
 use std::alloc::Global;
 
 /// A part of the audit, with the rules that it judges.
@@ -80,7 +81,7 @@ pub(crate) fn judge(
     alloc: Global,
     plan: &Plan,
     levels: &Levels,
-    rows: &[Row],
+    rows: &Rows<'_>,
     steady: usize,
     places: &[u32],
     number: u32,

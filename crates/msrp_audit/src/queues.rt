@@ -8,6 +8,7 @@ ghost use Rattle.msrp_plan.specs.Limits.{most_rows};
 ghost use Rattle.msrp_audit.specs.Inside.Pieces.{broken_reply, TellsFirst};
 ghost use Rattle.msrp_audit.specs.Inside.Walks.{naming_places};
 
+use crate::gathered::Rows;
 use msrp_levels::Levels;
 use msrp_plan::{Fault, JobId, Kind, Memory, Plan, Requests, ResId, Row, Rule};
 use std::alloc::Global;
@@ -72,13 +73,13 @@ fn is_reply(queue: &[JobId], row: Row) -> bool
 }
 
 /// The places of the rows that name a resource, in rising order.
-pub(crate) fn naming_places(alloc: Global, rows: &[Row]) -> Result<Vec<u32>, Memory>
+pub(crate) fn naming_places(alloc: Global, rows: &Rows<'_>) -> Result<Vec<u32>, Memory>
     requires { length rows.now ≤ most_rows }
     ensures { IfOk result (λ places. places.items ≡ naming_places 0 rows.now) }
 {
     let mut places = Vec::new(alloc);
     for place in 0..rows.len() {
-        if rows[place].res.is_some() {
+        if rows.row(place).res.is_some() {
             places.push(place as u32)?;
         }
     }
@@ -101,7 +102,7 @@ pub(crate) fn judge_resource(
     alloc: Global,
     plan: &Plan,
     levels: &Levels,
-    rows: &[Row],
+    rows: &Rows<'_>,
     places: &[u32],
     res: ResId,
 ) -> Result<Option<Fault>, Memory>
@@ -115,7 +116,7 @@ pub(crate) fn judge_resource(
     }
     let mut requests = Requests::of(alloc, res);
     for place in places {
-        let row = rows[*place as usize];
+        let row = rows.row(*place as usize);
         if is_on(row, res) {
             let queue = requests.queue();
             if queue.len() > plan.cores() as usize {

@@ -6,6 +6,7 @@ ghost use Rattle.msrp_plan.specs.declared.rows.Row.{Row as TraceRow};
 ghost use Rattle.msrp_audit.specs.Inside.Pieces.{broken_turn, TellsFirst};
 ghost use Rattle.msrp_audit.specs.Inside.Walks.{AreInTick, AreInTurn, AreTurned, KeepsOrder};
 
+use crate::gathered::Rows;
 use msrp_plan::limits::MOST_CORES;
 use msrp_plan::{Fault, Plan, Row, Rule};
 
@@ -13,13 +14,13 @@ use msrp_plan::{Fault, Plan, Row, Rule};
 pub(crate) const TICKS_A_PIECE: u32 = 1_250;
 
 /// How many of the rows are steady: in each tick the cores have the order that they have in the first one.
-pub(crate) fn steady_rows(plan: &Plan, rows: &[Row]) -> usize
+pub(crate) fn steady_rows(plan: &Plan, rows: &Rows<'_>) -> usize
     ensures { KeepsOrder plan.now.cores rows.now result }
 {
     let cores = plan.cores() as usize;
     for index in cores..rows.len() {
-        let row = rows[index];
-        let before = rows[index - cores];
+        let row = rows.row(index);
+        let before = rows.row(index - cores);
         if row.core.0 != before.core.0 {
             return index;
         }
@@ -41,7 +42,7 @@ fn is_turn(plan: &Plan, turned: &[bool], tick: usize, row: Row) -> bool
 }
 
 // Where the first of these rows of a tick stands that is not in its turn, or where they end.
-fn turns_end(plan: &Plan, rows: &[Row], tick: usize, start: usize, end: usize) -> usize
+fn turns_end(plan: &Plan, rows: &Rows<'_>, tick: usize, start: usize, end: usize) -> usize
     requires start { start ≡ tick * plan.now.cores }
     requires tick { end ≤ start + plan.now.cores }
     requires rows { end ≤ length rows.now }
@@ -53,7 +54,7 @@ fn turns_end(plan: &Plan, rows: &[Row], tick: usize, start: usize, end: usize) -
     // Whether each core had its turn.
     let mut turned = [false; MOST_CORES as usize];
     for index in start..end {
-        let row = rows[index];
+        let row = rows.row(index);
         if !is_turn(plan, &turned, tick, row) {
             return index;
         }
@@ -64,7 +65,7 @@ fn turns_end(plan: &Plan, rows: &[Row], tick: usize, start: usize, end: usize) -
 
 // Where the first of these rows stands that is not in that tick, or where they end. It stands apart, so that its bounds aren't told anew for each row.
 #[inline(never)]
-fn tick_end(rows: &[Row], tick: usize, start: usize, end: usize) -> usize
+fn tick_end(rows: &Rows<'_>, tick: usize, start: usize, end: usize) -> usize
     requires rows { end ≤ length rows.now }
     requires some { start ≤ end }
     ensures from { start ≤ result }
@@ -72,7 +73,7 @@ fn tick_end(rows: &[Row], tick: usize, start: usize, end: usize) -> usize
     ensures ticks { AreInTick rows.now tick start result end }
 {
     for index in start..end {
-        if rows[index].tick as usize != tick {
+        if rows.row(index).tick as usize != tick {
             return index;
         }
     }
@@ -82,7 +83,7 @@ fn tick_end(rows: &[Row], tick: usize, start: usize, end: usize) -> usize
 // The same as `turns_end`, of which only the ticks are looked at where the rows are steady.
 fn judge_tick(
     plan: &Plan,
-    rows: &[Row],
+    rows: &Rows<'_>,
     steady: usize,
     tick: usize,
     start: usize,
@@ -105,7 +106,7 @@ fn judge_tick(
 }
 
 /// The first row of that part of the ticks that is not in its turn.
-pub(crate) fn judge_turns(plan: &Plan, rows: &[Row], steady: usize, part: u32) -> Option<Fault>
+pub(crate) fn judge_turns(plan: &Plan, rows: &Rows<'_>, steady: usize, part: u32) -> Option<Fault>
     requires rows { length rows.now ≤ plan.now.cores * plan.now.ticks }
     requires steady { KeepsOrder plan.now.cores rows.now steady }
     ensures { TellsFirst plan.now (broken_turn plan.now part) rows.now result }

@@ -15,10 +15,12 @@ returns-then-not-is_in_turn c =
     let rows = c.args.rows.now in
     let i = c.loop-index.index in
     let v = c.loop-index.invariant in
-    let own = eqb-true c.index-rows-index.result.core.0 c.args.core.0 (sym c.eq.ensures ∙ c.if-eq.true) in
-    let within = c.loop-index-test.true in
+    let own = eqb-true c.row-row.result.core.0 c.args.core.0 (sym c.eq.ensures ∙ c.if-eq.true) in
+    let test = c.loop-index-test.true in
+    let all = c.len.ensures in
+    let within : i < length rows = omega (arith, test, all) in
     let size = sym (length-take-le i rows (omega (arith, within))) in
-    ends_here c.args.plan.now c.args.core rows i c.index-rows-index.result within c.index-rows-index.is v.passes own
+    ends_here c.args.plan.now c.args.core rows i c.row-row.result within (c.row-row.ensures c.row-row.result) v.passes own
     (λ start. sym c.if-not-is_in_turn.true ∙ c.is_in_turn.ensures.turn (take i rows) size start (subst (λ n. StandsAfter c.loop-index.machine (log_of n (take i rows))) (sym own) (v.stands start)))
 
 pub returns-in-Some : goal.returns-in-Some
@@ -26,20 +28,24 @@ returns-in-Some c =
     let rows = c.args.rows.now in
     let i = c.loop-index.index in
     let v = c.loop-index.invariant in
-    let own = eqb-true c.index-rows-index.result.core.0 c.args.core.0 (sym c.eq.ensures ∙ c.if-eq.true) in
-    let within = c.loop-index-test.true in
+    let own = eqb-true c.row-row.result.core.0 c.args.core.0 (sym c.eq.ensures ∙ c.if-eq.true) in
+    let test = c.loop-index-test.true in
+    let all = c.len.ensures in
+    let within : i < length rows = omega (arith, test, all) in
     let size = sym (length-take-le i rows (omega (arith, within))) in
-    let stands : IsRunStart c.args.plan.now (take i rows) → StandsAfter c.loop-index.machine (log_of c.index-rows-index.result.core.0 (take i rows)) = λ start. subst (λ n. StandsAfter c.loop-index.machine (log_of n (take i rows))) (sym own) (v.stands start) in
-    let turn : IsRunStart c.args.plan.now (take i rows) → is_in_turn c.args.plan.now (take i rows) c.index-rows-index.result ≡ true = λ start. sym (c.is_in_turn.ensures.turn (take i rows) size start (stands start)) ∙ c.if-not-is_in_turn.false in
-    breaks_here c.args.plan.now c.args.core rows i c.index-rows-index.result within c.index-rows-index.is v.passes c.in-Some.rule own turn
+    let stands : IsRunStart c.args.plan.now (take i rows) → StandsAfter c.loop-index.machine (log_of c.row-row.result.core.0 (take i rows)) = λ start. subst (λ n. StandsAfter c.loop-index.machine (log_of n (take i rows))) (sym own) (v.stands start) in
+    let turn : IsRunStart c.args.plan.now (take i rows) → is_in_turn c.args.plan.now (take i rows) c.row-row.result ≡ true = λ start. sym (c.is_in_turn.ensures.turn (take i rows) size start (stands start)) ∙ c.if-not-is_in_turn.false in
+    breaks_here c.args.plan.now c.args.core rows i c.row-row.result within (c.row-row.ensures c.row-row.result) v.passes c.in-Some.rule own turn
     (λ start. sym (c.follow.ensures.rule c.is_in_turn.ensures.accepted (take i rows) start (stands start) (turn start)) ∙ c.in-Some.is)
 
 pub loop-index-smaller-then-eq : goal.loop-index-smaller-then-eq
 loop-index-smaller-then-eq c =
     let rows = c.args.rows.now in
     let i = c.loop-index.index in
-    let within = c.loop-index-test.true in
-    let behind = (next_place c.args.plan.now rows c.args.steady c.cores.ensures.plan.draft.cores.0 c.requires.steady i c.index-rows-index.result c.index-rows-index.result.tick c.cores.result c.place_after-index.result c.index-rows-index.is c.cores.ensures.value (c.is_in_turn.ensures.due c.if-not-is_in_turn.false) c.place_after-index.ensures).behind in
+    let test = c.loop-index-test.true in
+    let all = c.len.ensures in
+    let within : i < length rows = omega (arith, test, all) in
+    let behind = (next_place c.args.plan.now rows c.args.steady c.cores.ensures.plan.draft.cores.0 c.requires.steady i c.row-row.result c.row-row.result.tick c.cores.result c.place_after-index.result (c.row-row.ensures c.row-row.result) c.cores.ensures.value (c.is_in_turn.ensures.due c.if-not-is_in_turn.false) c.place_after-index.ensures).behind in
     let less : length rows - c.place_after-index.result < length rows - i = omega (arith, within, behind) in
     less
 
@@ -50,9 +56,11 @@ loop-index-preserved-then-eq c =
     let rows = c.args.rows.now in
     let i = c.loop-index.index in
     let v = c.loop-index.invariant in
-    let x = c.index-rows-index.result in
-    let at = c.index-rows-index.is in
-    let within = c.loop-index-test.true in
+    let x = c.row-row.result in
+    let at = c.row-row.ensures c.row-row.result in
+    let test = c.loop-index-test.true in
+    let all = c.len.ensures in
+    let within : i < length rows = omega (arith, test, all) in
     let size = sym (length-take-le i rows (omega (arith, within))) in
     let own : x.core.0 ≡ core.0 = eqb-true x.core.0 core.0 (sym c.eq.ensures ∙ c.if-eq.true) in
     let stands : IsRunStart plan (take i rows) → StandsAfter c.loop-index.machine (log_of x.core.0 (take i rows)) = λ start. subst (λ n. StandsAfter c.loop-index.machine (log_of n (take i rows))) (sym own) (v.stands start) in
@@ -75,15 +83,20 @@ loop-index-preserved c =
     let rows = c.args.rows.now in
     let i = c.loop-index.index in
     let v = c.loop-index.invariant in
-    let x = c.index-rows-index.result in
-    let within = c.loop-index-test.true in
+    let x = c.row-row.result in
+    let test = c.loop-index-test.true in
+    let all = c.len.ensures in
+    let within : i < length rows = omega (arith, test, all) in
     let other : x.core.0 ≢ c.args.core.0 = eqb-false x.core.0 c.args.core.0 (sym c.eq.ensures ∙ c.if-eq.false) in
     record {
       plan = v.plan;
       core = v.core;
-      stands = stands_by plan c.args.core rows i x within c.index-rows-index.is v.passes c.loop-index.machine other v.stands;
-      passes = passes_by plan c.args.core rows i x within c.index-rows-index.is v.passes other;
+      stands = stands_by plan c.args.core rows i x within (c.row-row.ensures c.row-row.result) v.passes c.loop-index.machine other v.stands;
+      passes = passes_by plan c.args.core rows i x within (c.row-row.ensures c.row-row.result) v.passes other;
     }
 
 pub returns : goal.returns
-returns c = let all = c.loop-index-test.false in passes_all c.args.plan.now (broken_on_core c.args.plan.now c.args.core.0) c.args.rows.now c.loop-index.index (omega (arith, all)) c.loop-index.invariant.passes
+returns c =
+    let past = c.loop-index-test.false in
+    let all = c.len.ensures in
+    passes_all c.args.plan.now (broken_on_core c.args.plan.now c.args.core.0) c.args.rows.now c.loop-index.index (omega (arith, past, all)) c.loop-index.invariant.passes

@@ -29,7 +29,7 @@ returns-then-queue-cores c =
     let glob : is_global plan c.args.res.0 ≡ true = sym c.is_global.ensures ∙ c.if-not-is_global.false in
     let long = c.if-queue-cores.true in
     let cores = c.cores.ensures.value in
-    too_long plan c.args.res c.args.rows.now p c.index-rows-place.result c.index-rows-place.is v.passes c.queue-queue.result.now glob (c.queue-queue.ensures c.args.res.0 _ v.has) c.cores.ensures.plan (omega (arith, long, cores))
+    too_long plan c.args.res c.args.rows.now p c.row-row.result (c.row-row.ensures c.row-row.result) v.passes c.queue-queue.result.now glob (c.queue-queue.ensures c.args.res.0 _ v.has) c.cores.ensures.plan (omega (arith, long, cores))
 
 pub returns-then-not-is_reply : goal.returns-then-not-is_reply
 returns-then-not-is_reply c =
@@ -38,7 +38,7 @@ returns-then-not-is_reply c =
     let p = get_or c.args.places.now k 0 in
     let v = at_place plan c.args.res c.args.rows.now c.loop-place.requests p (drop (k + 1) c.args.places.now) (drop k c.args.places.now) (drop_more c.args.places.now k 0 c.loop-place-test.true) c.loop-place.invariant.over in
     let glob : is_global plan c.args.res.0 ≡ true = sym c.is_global.ensures ∙ c.if-not-is_global.false in
-    reply_found plan c.args.res c.args.rows.now p c.index-rows-place.result c.index-rows-place.is v.passes c.queue-queue.result.now glob (c.queue-queue.ensures c.args.res.0 _ v.has) c.is_reply.result
+    reply_found plan c.args.res c.args.rows.now p c.row-row.result (c.row-row.ensures c.row-row.result) v.passes c.queue-queue.result.now glob (c.queue-queue.ensures c.args.res.0 _ v.has) c.is_reply.result
     v.within (sym c.is_on.ensures ∙ c.if-is_on.true) c.is_reply.ensures c.if-not-is_reply.true
 
 pub loop-place-preserved : goal.loop-place-preserved
@@ -49,8 +49,8 @@ loop-place-preserved c =
     let places = c.args.places.now in
     let k = c.loop-place.place-index in
     let p = get_or places k 0 in
-    let x = c.index-rows-place.result in
-    let at = c.index-rows-place.is in
+    let x = c.row-row.result in
+    let at = c.row-row.ensures c.row-row.result in
     let v = at_place plan res rows c.loop-place.requests p (drop (k + 1) places) (drop k places) (drop_more places k 0 c.loop-place-test.true) c.loop-place.invariant.over in
     let glob : is_global plan res.0 ≡ true = sym c.is_global.ensures ∙ c.if-not-is_global.false in
     let more = one_more rows p x v.within at in

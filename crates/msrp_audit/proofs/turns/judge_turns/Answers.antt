@@ -69,4 +69,4 @@ returns c =
     let first : c.args.part * 1250 * c.cores-cores.result ≡ c.args.part * part_size plan = let cores = c.cores-cores.ensures.value in ap (λ n. c.args.part * 1250 * n) cores ∙ (let same : c.args.part * 1250 * plan.cores ≡ c.args.part * part_size plan = grind arith in same) in
     let size : 1250 * c.cores-cores.result ≡ part_size plan = let cores = c.cores-cores.ensures.value in omega (arith, cores) in
     part_ends plan c.args.part c.args.rows.now c.min-end.result c.min-end.result
-    (c.min-end.ensures ∙ (ap (λ n. min (length c.args.rows.now) (n + 1250 * c.cores-cores.result)) first ∙ ap (λ n. min (length c.args.rows.now) (c.args.part * part_size plan + n)) size)) (omega arith) (c.loop-start.invariant.passes c.min-end.result (omega (arith, past)) (omega arith))
+    (c.min-end.ensures ∙ (ap (λ n. min n (c.args.part * 1250 * c.cores-cores.result + 1250 * c.cores-cores.result)) c.len.ensures ∙ ap (λ n. min (length c.args.rows.now) (n + 1250 * c.cores-cores.result)) first ∙ ap (λ n. min (length c.args.rows.now) (c.args.part * part_size plan + n)) size)) (omega arith) (c.loop-start.invariant.passes c.min-end.result (omega (arith, past)) (omega arith))
