@@ -45,14 +45,17 @@ fn lay_text<const M: usize>(array: &mut [u8], place: usize, text: &Text<M>)
     ensures front { take (place + length text.now) array.new ≡ take place array.old ++ text.now }
     ensures size { length array.new ≡ length array.old }
 {
-    let bytes = text.bytes;
     if SHORT < M {
-        lay(array, place, &bytes[..SHORT]);
+        let mut first = [0; SHORT];
+        first.copy_from_slice(&text.bytes[..SHORT]);
+        lay(array, place, &first);
         if text.len > SHORT {
+            let bytes = text.bytes;
             let all = &bytes[..];
             lay(array, place + SHORT, &all[SHORT..]);
         }
     } else {
+        let bytes = text.bytes;
         lay(array, place, &bytes);
     }
 }
