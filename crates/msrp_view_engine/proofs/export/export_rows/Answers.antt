@@ -1,4 +1,4 @@
-use Rattle.std.proofs.Common.{rules, ◌≡◌, ◌++◌, ◌∷◌, [], Ok, Err, Some, None, ap, sym, subst, ◌∙◌, inr, arith, length-append, append-nil}
+use Rattle.std.proofs.Common.{rules, refl, ◌≡◌, ◌++◌, ◌∷◌, [], Ok, Err, Some, None, ap, sym, subst, ◌∙◌, inr, arith, length-append, append-nil}
 use Rattle.msrp_audit.specs.Audits.{answer_of}
 use Rattle.msrp_export.specs.Exports.{part_text, row_text}
 use Rattle.msrp_export.specs.Changes.{fault_text, head_text}
@@ -9,9 +9,10 @@ use Rattle.msrp_plan.specs.Verdict.{fault_in, verdict}
 use Rattle.msrp_plan.specs.WellFormed.{IsPlan}
 use Rattle.msrp_plan.proofs.Writes.{wrote-more}
 use Rattle.msrp_faults.specs.Outcomes.{trace_fault_of}
+use Rattle.msrp_trace.proofs.ReadThrough.{none-read}
 use Rattle.msrp_engine.specs.Findings.{finding}
 use Rattle.msrp_engine.proofs.Judging.{IsFound, turn-left}
-use Rattle.msrp_engine.proofs.RowsJudged.{Gives, broken-found, came-good, end-found, error-found, fewer-turns, none-came, row-came}
+use Rattle.msrp_engine.proofs.RowsJudged.{Gives, HaveCome, broken-found, came-good, end-found, error-found, fewer-turns, row-came}
 use Rattle.msrp_view_engine.specs.Exporting.{end_or_fault}
 use Rattle.msrp_view_engine.proofs.Exporting.{ended-text, faulty-text, few-rows}
 use Rattle.msrp_view_engine.proofs.Judged.{broken-is, broken-read}
@@ -21,7 +22,8 @@ pub loop-row-init : goal.loop-row-init
 loop-row-init g c =
     let text : head_text c.new-exporter.result.format c.new-exporter.result.plan.now ≡ part_text c.args.format c.args.plan.now [] =
     ap (λ f. head_text f c.new-exporter.result.plan.now) c.new-exporter.ensures.format ∙ (ap (head_text c.args.format) c.new-exporter.ensures.plan ∙ sym (append-nil (head_text c.args.format c.args.plan.now))) in
-    ([], none-came g.T.Read.remaining c.args.rows.now c.requires.fed, c.new-exporter.ensures.plan, c.new-exporter.ensures.format, c.new-exporter.ensures.exported, omega arith, subst (Wrote g.W.Write.contents c.args.out.now c.head.new.out) text c.head.ensures)
+    let none : HaveCome g.T.Read.remaining c.args.rows.now c.args.rows.now [] = record { plan = refl; fed = c.requires.fed; fault = c.requires.fed.fault; read = λ told known. none-read told _ known } in
+    ([], none, c.new-exporter.ensures.plan, c.new-exporter.ensures.format, c.new-exporter.ensures.exported, omega arith, subst (Wrote g.W.Write.contents c.args.out.now c.head.new.out) text c.head.ensures)
 
 pub returns-in_err-row-clause-found : goal.returns-in_err-row-clause-found
 returns-in_err-row-clause-found g c = λ told known.
