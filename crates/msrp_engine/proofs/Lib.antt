@@ -10,3 +10,4 @@ pub mod SimAnswers
 pub mod Reporting
 pub mod Gathering
 mod WholeTicks
+mod Counting

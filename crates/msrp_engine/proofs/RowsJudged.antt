@@ -1,5 +1,5 @@
 -- A trace's rows, judged as they are read: those that came, and what is found in them.
-use Rattle.std.proofs.Common.{◌≡◌, ◌++◌, ◌∷◌, [], ◌+◌, ◌-◌, ◌*◌, ◌<◌, ℕ, length, List, Option, None, Some, refl, ap, sym, subst, ◌∙◌, length-append}
+use Rattle.std.proofs.Common.{◌≡◌, ◌++◌, ◌∷◌, [], ◌+◌, ◌-◌, ◌*◌, ◌<◌, ℕ, length, List, Option, None, Some, ap, sym, subst, ◌∙◌, length-append}
 use Rattle.std.specs.Prelude.{⊤}
 use Rattle.std.specs.declared.result.Result.{Result}
 use Rattle.std.specs.declared.result.Result.TheVariants.{Ok, Err}
@@ -10,7 +10,7 @@ use Rattle.msrp_plan.specs.declared.faults.Fault.{Fault}
 use Rattle.msrp_plan.specs.declared.rows.Row.{Row}
 use Rattle.msrp_trace.specs.Reading.{Told}
 use Rattle.msrp_trace.specs.declared.faults.TraceError.{TraceError}
-use Rattle.msrp_trace.proofs.ReadThrough.{Answers, IsReadTo, none-read, read-row, read-whole}
+use Rattle.msrp_trace.proofs.ReadThrough.{Answers, IsReadTo, read-row, read-whole}
 use Rattle.msrp_engine.specs.Findings.{finding}
 use Rattle.msrp_trace.specs.Readers.{GivesNext}
 use Rattle.msrp_engine.specs.Inside.Ahead.{IsAhead, LooksAhead}
@@ -58,9 +58,6 @@ told-gives remaining old mid new rows ahead result plan looks is next gives judg
   answers = λ told known. gives told (looks told known);
   judged = subst (λ (p : PlanModel). IsJudged p rows result new) plan (judged rows is);
 }
-
-pub none-came : {T : Type 0} (remaining : T → Option (List ℕ)) (j : JudgedRows T) → HasFed j.auditor [] → HaveCome remaining j j []
-none-came remaining j fed = record { plan = refl; fed = fed; fault = fed.fault; read = λ told known. none-read told _ known }
 
 -- the rows of whole ticks
 pub some-came : {T : Type 0} (remaining : T → Option (List ℕ)) (begun now : JudgedRows T) (rows : List Row) → now.auditor.plan ≡ begun.auditor.plan → TakeSome remaining begun now rows → HaveCome remaining begun now rows

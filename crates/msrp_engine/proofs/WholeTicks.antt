@@ -17,9 +17,13 @@ use Rattle.msrp_plan.proofs.Runs.Verdicts.{legal_is_unbroken, start_before, star
 use Rattle.msrp_report.proofs.Reporting.{goes_on}
 use Rattle.msrp_sim.specs.Cores.{IsAs, IsNextRow}
 use Rattle.msrp_trace.specs.Reading.{Told}
-use Rattle.msrp_trace.specs.Readers.{GivesRows, IsTextOf}
+use Rattle.msrp_trace.specs.Readers.{GivesRows}
 use Rattle.msrp_trace.specs.Texts.{text_of_core}
-use Rattle.msrp_engine.specs.Inside.Ticks.{AreInOrder, HasFedRun, HasText, TakeTick, Turn, TurnAll}
+use Rattle.msrp_trace.specs.Laws.{as_read}
+use Rattle.msrp_trace.specs.declared.reading.TraceReader.{TraceReader}
+use Rattle.msrp_plan.specs.Stretches.{in_tick}
+use Rattle.msrp_engine.specs.Inside.Kept.{row_of_core}
+use Rattle.msrp_engine.specs.Inside.Ticks.{AreInOrder, GoesBack, HasFedRun, HasFedTicks, HasRow, KeepsOthers, TakeSome, TakeTick, Turn, TurnAll}
 use Rattle.msrp_engine.specs.Judging.{rows_left}
 use Rattle.msrp_engine.specs.declared.judged.JudgedRows.{JudgedRows}
 
@@ -29,11 +33,10 @@ fed_on a b rows r plan was fed good =
     let none : fault_in a.plan (rows ++ r ∷ []) ≡ None = subst (λ (p : PlanModel). fault_in p (rows ++ r ∷ []) ≡ None) plan (sym fed.fault ∙ good) in
     record { fed = fed; good = good; start = subst (λ (p : PlanModel). IsRunStart p (rows ++ r ∷ [])) (sym plan) (goes_on a.plan rows r was.start none) }
 
--- a text that is kept still
-text_on : {T : Type 0} (old new : JudgedRows T) (t c : ℕ) (r : Row) → new.rows ≡ old.rows → text_of_core new.texts c ≡ text_of_core old.texts c → HasText old t c r → HasText new t c r
-text_on old new t c r rows text has some =
-    let was = has (λ none. some (text ∙ none)) in
-    subst (λ x. IsTextOf x new.texts t c r) (sym rows) (record { tick = was.tick; whole = was.whole; text = text ∙ was.text })
+-- a row that is kept still
+row_on : {T : Type 0} (old new : JudgedRows T) (t c : ℕ) (r : Row) → new.rows ≡ old.rows → (text_of_core new.texts c ≡ text_of_core old.texts c) × (row_of_core new.lasts c ≡ row_of_core old.lasts c) → HasRow old t c r → HasRow new t c r
+row_on old new t c r rows same has some =
+    has (λ none. some (same.0 ∙ none)) ∙ (ap (λ d. in_tick t (as_read old.rows.version d)) (sym same.1) ∙ ap (λ (x : TraceReader _). in_tick t (as_read x.version (row_of_core new.lasts c))) (sym rows))
 
 -- rows behind those of whole ticks are in the same tick, as long as they are fewer than the cores
 pub same_tick : (l cores n t : ℕ) → l % cores ≡ 0 → t ≡ l / cores → n < cores → t ≡ (l + n) / cores
@@ -44,7 +47,7 @@ same_tick l cores n t zero_left is low =
 
 -- the first of the cores had their turns, and one more has its own
 module _ {T : Type 0} (old mid new : JudgedRows T) (t n : ℕ) (r : Row) (few : n < 8) (low : n < old.auditor.plan.cores) (plan : mid.auditor.plan ≡ old.auditor.plan) (rows : new.rows ≡ mid.rows)
-    (others : (c : ℕ) → c % 8 ≢ n % 8 → text_of_core new.texts c ≡ text_of_core mid.texts c) (turn : Turn mid new t n r) where
+    (others : KeepsOthers mid new n) (turn : Turn mid new t n r) where
   apart : (c : ℕ) → c < n → c % 8 ≢ n % 8
   apart c l h =
       let first : c % 8 ≡ c = mod-eq_of_lt (omega (arith, l, few)) in
@@ -55,9 +58,9 @@ module _ {T : Type 0} (old mid new : JudgedRows T) (t n : ℕ) (r : Row) (few : 
   turn_on more all = record {
     size = length-append more (r ∷ []) ∙ ap (λ k. k + 1) all.size;
     cores = places_push (λ c (s : Row). s.core.0 ≡ c) more r all.cores (turn.core ∙ sym all.size);
-    texts = places_push (λ c (s : Row). HasText new t c s) more r
-        (λ c s is. text_on mid new t c s rows (others c (apart c (subst (λ k. c < k) all.size (slice_get_within more c s is)))) (all.texts c s is))
-        (subst (λ c. HasText new t c r) (sym all.size) turn.text);
+    rows = places_push (λ c (s : Row). HasRow new t c s) more r
+        (λ c s is. row_on mid new t c s rows (others c (apart c (subst (λ k. c < k) all.size (slice_get_within more c s is)))) (all.rows c s is))
+        (subst (λ c. HasRow new t c r) (sym all.size) turn.row);
     fed = λ before fed now whole.
         let was = all.fed before fed now whole in
         let tick : t ≡ length (before ++ more) / mid.auditor.plan.cores = same_tick (length before) old.auditor.plan.cores n t whole now low ∙ (ap (λ k. k / old.auditor.plan.cores) (ap (λ k. length before + k) (sym all.size) ∙ sym (length-append before more)) ∙ ap (λ (p : PlanModel). length (before ++ more) / p.cores) (sym plan)) in
@@ -65,53 +68,70 @@ module _ {T : Type 0} (old mid new : JudgedRows T) (t n : ℕ) (r : Row) (few : 
   }
 
 -- ---- whole ticks
--- so many whole ticks came
-pub record HasTakenTicks {T : Type 0} (remaining : T → Option (List ℕ)) (begun now : JudgedRows T) (k : ℕ) (rows : List Row) : Type 0 where
-  pub plan : now.auditor.plan ≡ begun.auditor.plan
-  pub read : (told : Told) → rows_left remaining begun ≡ Some told → GivesRows rows told (rows_left remaining now)
-  pub fed : HasFedRun now.auditor rows
-  pub size : length rows ≡ k * begun.auditor.plan.cores
-  pub order : AreInOrder begun.auditor.plan rows
-
-pub no_tick : {T : Type 0} (remaining : T → Option (List ℕ)) (j : JudgedRows T) → HasFed j.auditor [] → HasTakenTicks remaining j j 0 []
-no_tick remaining j fed = record {
-  plan = refl;
-  read = λ told known. (told.rows, refl, known);
-  fed = record { fed = fed; good = fed.fault; start = record { size = omega arith; each = tt } };
-  size = omega arith;
-  order = λ i r is. absurd (cc);
-}
-
 places_append : {X : Type 0} (P : ℕ → X → Type 0) (xs ys : List X) → ((k : ℕ) (x : X) → slice_get xs k ≡ Some x → P k x) → ((k : ℕ) (x : X) → slice_get ys k ≡ Some x → P (length xs + k) x)
     → (k : ℕ) (x : X) → slice_get (xs ++ ys) k ≡ Some x → P k x
 places_append P [] ys old new k x h = subst (λ n. P n x) (omega arith) (new k x h)
 places_append P (z ∷ xs) ys old new zero x h = old 0 x h
 places_append P (z ∷ xs) ys old new (suc k) x h = places_append (λ n. P (suc n)) xs ys (λ n. old (suc n)) (λ n y is. subst (λ m. P m y) (omega arith) (new n y is)) k x h
 
-rows_on : (a b : List Row) (told : Told) (mid after : Option Told) → GivesRows a told mid → ((left : Told) → mid ≡ Some left → GivesRows b left after) → GivesRows (a ++ b) told after
+pub whole_rows : (l cores : ℕ) → l % cores ≡ 0 → l ≡ l / cores * cores
+whole_rows l cores none = let parts = div-add-mod l cores in omega (arith, parts, none, mul_comm (l / cores) cores)
+
+-- the rows of one tick more
+pub ticks_on : (old new : AuditorModel) (rows more : List Row) → new.plan ≡ old.plan → length more ≡ old.plan.cores → ((c : ℕ) (r : Row) → slice_get more c ≡ Some r → r.core.0 ≡ c) → HasFedTicks old rows → HasFedRun new (rows ++ more) → HasFedTicks new (rows ++ more)
+ticks_on old new rows more plan size of was run =
+    let cores = old.plan.cores in
+    let before : length rows ≡ length rows / cores * cores = whole_rows (length rows) cores was.whole in
+    let after : length (rows ++ more) ≡ (length rows / cores + 1) * cores = length-append rows more ∙ (ap (λ n. n + length more) before ∙ (ap (λ n. length rows / cores * cores + n) size ∙ next_size (length rows / cores) cores)) in
+    record {
+      run = run;
+      whole = subst (λ (p : PlanModel). length (rows ++ more) % p.cores ≡ 0) (sym plan) (ap (λ n. n % cores) after ∙ mul-mod_left (length rows / cores + 1) cores);
+      order = subst (λ (p : PlanModel). AreInOrder p (rows ++ more)) (sym plan) (places_append (λ i (r : Row). r.core.0 ≡ i % cores) rows more was.order
+          (λ c r is. of c r is ∙ (sym (mod-mul-add (length rows / cores) cores c (subst (λ n. c < n) size (slice_get_within more c r is))) ∙ ap (λ n. (n + c) % cores) (sym before))));
+    }
+  where
+    next_size : (k cores : ℕ) → k * cores + cores ≡ (k + 1) * cores
+    next_size k cores = omega arith
+
+-- so many whole ticks came
+pub record HasTakenTicks {T : Type 0} (remaining : T → Option (List ℕ)) (begun now : JudgedRows T) (rows : List Row) : Type 0 where
+  pub plan : now.auditor.plan ≡ begun.auditor.plan
+  pub read : (told : Told) → rows_left remaining begun ≡ Some told → GivesRows rows told (rows_left remaining now)
+  pub fed : HasFedTicks now.auditor rows
+
+pub no_tick : {T : Type 0} (remaining : T → Option (List ℕ)) (j : JudgedRows T) → HasFed j.auditor [] → HasTakenTicks remaining j j []
+no_tick remaining j fed = record {
+  plan = refl;
+  read = λ told known. (told.rows, refl, known);
+  fed = record {
+    run = record { fed = fed; good = fed.fault; start = record { size = omega arith; each = tt } };
+    whole = ap (λ n. n % j.auditor.plan.cores) (omega arith) ∙ mul-mod_left 0 j.auditor.plan.cores;
+    order = λ i r is. absurd (cc);
+  };
+}
+
+pub rows_on : (a b : List Row) (told : Told) (mid after : Option Told) → GivesRows a told mid → ((left : Told) → mid ≡ Some left → GivesRows b left after) → GivesRows (a ++ b) told after
 rows_on a b told mid after first next =
     let more = next (record { rows = first.0; refusal = told.refusal }) first.2 in
     (more.0, first.1 ∙ (ap (λ l. a ++ l) more.1 ∙ sym (append_assoc a b more.0)), more.2)
 
 -- one tick more
-pub tick_on : {T : Type 0} (remaining : T → Option (List ℕ)) (begun now next : JudgedRows T) (k : ℕ) (rows more : List Row) → HasTakenTicks remaining begun now k rows → next.auditor.plan ≡ now.auditor.plan → TakeTick remaining now next more → HasTakenTicks remaining begun next (k + 1) (rows ++ more)
-tick_on remaining begun now next k rows more came plan tick =
-    let cores = begun.auditor.plan.cores in
-    let size : length more ≡ cores = tick.size ∙ ap (λ (p : PlanModel). p.cores) came.plan in
-    let whole : length rows % now.auditor.plan.cores ≡ 0 = no_rest now.auditor.plan.cores k (length rows) (came.size ∙ ap (λ (p : PlanModel). k * p.cores) (sym came.plan)) in
-    record {
-      plan = plan ∙ came.plan;
-      read = λ told known. rows_on rows more told _ _ (came.read told known) tick.read;
-      fed = tick.fed rows came.fed whole;
-      size = length-append rows more ∙ (ap (λ n. n + length more) came.size ∙ (ap (λ n. k * cores + n) size ∙ next_size k cores));
-      order = places_append (λ i (r : Row). r.core.0 ≡ i % cores) rows more came.order (λ c r is. tick.cores c r is ∙ (sym (mod-mul-add k cores c (subst (λ n. c < n) size (slice_get_within more c r is))) ∙ ap (λ n. (n + c) % cores) (sym came.size)));
-    }
-  where
-    no_rest : (cores k l : ℕ) → l ≡ k * cores → l % cores ≡ 0
-    no_rest cores k l e = ap (λ n. n % cores) e ∙ mul-mod_left k cores
+pub tick_on : {T : Type 0} (remaining : T → Option (List ℕ)) (begun now next : JudgedRows T) (t : ℕ) (rows more : List Row) → HasTakenTicks remaining begun now rows → next.auditor.plan ≡ now.auditor.plan → TakeTick remaining now next t more → HasTakenTicks remaining begun next (rows ++ more)
+tick_on remaining begun now next t rows more came plan tick = record {
+  plan = plan ∙ came.plan;
+  read = λ told known. rows_on rows more told _ _ (came.read told known) tick.read;
+  fed = tick.fed rows came.fed;
+}
 
-    next_size : (k cores : ℕ) → k * cores + cores ≡ (k + 1) * cores
-    next_size k cores = omega arith
+-- none more
+pub ticks_back : {T : Type 0} (remaining : T → Option (List ℕ)) (begun now next : JudgedRows T) (rows : List Row) → HasTakenTicks remaining begun now rows → GoesBack remaining now next → TakeSome remaining begun next rows
+ticks_back remaining begun now next rows came back =
+    let fed = back.fed rows came.fed in
+    record {
+      read = λ told known. let g = came.read told known in (g.0, g.1, back.read _ g.2);
+      fed = fed.0;
+      good = fed.1;
+    }
 
 -- ---- the turns once more
 -- the one legal row of a core
@@ -121,7 +141,7 @@ legal_as plan rows c due r next legal core =
     as_due r due same (sym (broken_is plan rows r due next.legal next.carries legal.turn legal.own same) ∙ legal_is_unbroken plan rows r legal)
 
 -- the first rows, and the next one
-take_on : (rows : List Row) (k : ℕ) (r : Row) → slice_get rows k ≡ Some r → take (k + 1) rows ≡ take k rows ++ r ∷ []
+pub take_on : (rows : List Row) (k : ℕ) (r : Row) → slice_get rows k ≡ Some r → take (k + 1) rows ≡ take k rows ++ r ∷ []
 take_on [] k r h = absurd (cc)
 take_on (x ∷ rows) zero r h = let same : x ≡ r = cc in ap (λ y. y ∷ []) same
 take_on (x ∷ rows) (suc k) r h =

@@ -85,7 +85,7 @@ pub(crate) fn write_verdict<W: Write>(
 /// The verdict on a trace of a plan, whoever made it: the first row that breaks a rule, counted from 1, with the lowest rule
 /// that it breaks.
 ///
-/// The rows are judged as they come, and one is kept at a time. So a fault on a row that stands before a refused record is
+/// The rows are judged as they come, and one of each core is kept. So a fault on a row that stands before a refused record is
 /// the answer, and nothing is read after the first fault. A refused plan is told whatever the trace.
 pub fn judge_texts<P: Read, T: Read>(
     alloc: Global,
@@ -106,7 +106,7 @@ pub fn judge_texts<P: Read, T: Read>(
 /// `fault,ROW,RULE` with the first row that breaks a rule, counted from 1, and the lowest rule that it breaks. The answer
 /// is the exit status, 0 or 1.
 ///
-/// The rows are judged as they come, and one is kept at a time. So a fault on a row that stands before a refused record is
+/// The rows are judged as they come, and one of each core is kept. So a fault on a row that stands before a refused record is
 /// the answer, and nothing is read after the first fault. A refused plan is told whatever the trace.
 pub fn audit_text<P: Read, T: Read, W: Write>(
     alloc: Global,

@@ -1,20 +1,22 @@
 //! The rows of a trace's text, each judged as it comes.
-ghost use Rattle.std.specs.Prelude.{◌≡◌, ◌<◌, ◌*◌, ◌/◌, ◌%◌, ℕ, List, ◌++◌, ◌∷◌, [], IfOk, IfSome, OnOk, Some, None, Ok, Err, true, false, length, slice_index_or};
+ghost use Rattle.std.specs.Prelude.{◌≡◌, ◌<◌, ◌≤◌, ◌*◌, ◌/◌, ◌%◌, ℕ, List, ◌++◌, ◌∷◌, [], IfOk, IfSome, OnOk, Some, None, Ok, Err, true, false, length, slice_index_or};
 ghost use Rattle.msrp_audit.specs.Audits.{Awaits, HasFed, IsDueInAudit};
 ghost use Rattle.msrp_plan.specs.Bytes.{source_failed};
 ghost use Rattle.msrp_plan.specs.WellFormed.{IsPlan};
 ghost use Rattle.msrp_plan.specs.declared.rows.Row.{Row as TraceRow};
+ghost use Rattle.msrp_plan.specs.Runs.{IsRunStart};
 ghost use Rattle.msrp_plan.specs.Stretches.{in_tick};
 ghost use Rattle.msrp_trace.specs.Laws.{as_read, is_short};
 ghost use Rattle.msrp_trace.specs.Reading.{Told};
 ghost use Rattle.msrp_trace.specs.Readers.{BeginsAt, GivesNext, IsAtTick, IsOfTrace, source_of};
 ghost use Rattle.msrp_engine.specs.Inside.Ahead.{BeginsDue, HasRoom, IsAhead, LooksAhead};
 ghost use Rattle.msrp_trace.specs.Texts.{text_of_core};
-ghost use Rattle.msrp_engine.specs.Inside.Kept.{IsKept, KeepsKnown};
+ghost use Rattle.msrp_engine.specs.Inside.Kept.{IsKept, KeepsRows, row_of_core};
 
 use crate::replay::auditor_after;
 use msrp_audit::Auditor;
 use msrp_levels::Levels;
+use msrp_plan::limits::MOST_CORES;
 use msrp_plan::{CoreId, Fault, Kind, Memory, Plan, Row};
 use msrp_trace::{RowTexts, TraceError, TraceReader};
 use std::alloc::Global;
@@ -56,7 +58,7 @@ pub(crate) enum Ahead {
     Unknown,
 }
 
-// What stands in place of the row of a turn before the first one.
+// What stands in place of a core's row before its first turn.
 const NO_ROW: Row = Row {
     tick: 0,
     core: CoreId(0),
@@ -68,27 +70,44 @@ const NO_ROW: Row = Row {
 
 /// The rows of a trace's text, each judged as it comes.
 ///
-/// Where the core that is expected is known to do its last row again, the text of that is compared with the bytes that come. Elsewhere the text
+/// Where the core whose digit comes is known to do its last row again, the text of that is compared with the bytes that come. Elsewhere the text
 /// tells first which core the next row is of. That core has its turn, so its one legal row is known, and its text is made and compared. So nothing
-/// is chosen twice, and a row that is met isn't read field by field. As long as a core's rows differ in the tick alone its text is kept.
+/// is chosen twice, and a row that is met isn't read field by field. As long as a core's rows differ in the tick alone the row and its text are kept.
 #[derive(Drop)]
 pub struct JudgedRows<'p, 't, T> {
     auditor: Auditor<'p>,
     rows: TraceReader<'t, T>,
     texts: RowTexts<'p>,
-    // The row of the last turn that was chosen anew.
-    due: Row,
-    // Whether the rows of each tick came by the numbers of their cores so far.
-    in_order: bool,
+    // Of each core the row of its last turn that was chosen anew.
+    lasts: [Row; MOST_CORES as usize],
     ghost plan: { rows.plan.now ≡ auditor.plan },
     ghost texts_plan: { texts.plan ≡ auditor.plan },
     ghost version: { texts.version ≡ rows.version },
-    ghost known: { KeepsKnown rows.version auditor.plan auditor.cores texts },
+    ghost kept: { KeepsRows rows.version auditor.plan auditor.cores texts lasts },
+}
+
+// Keeps the row of a core's turn.
+#[inline(always)]
+fn keep_row(lasts: &mut [Row], core: CoreId, row: Row)
+    requires { length lasts.old ≡ 8 }
+    ensures here { row_of_core lasts.new core.0 ≡ row }
+    ensures others { (c : ℕ) → ¬ (c % 8 ≡ core.0 % 8) → row_of_core lasts.new c ≡ row_of_core lasts.old c }
+{
+    lasts[(core.0 % MOST_CORES) as usize] = row;
+}
+
+// The row that is kept of a core.
+#[inline(always)]
+fn kept_row(lasts: &[Row], core: CoreId) -> Row
+    requires { length lasts.now ≡ 8 }
+    ensures { result ≡ row_of_core lasts.now core.0 }
+{
+    lasts[(core.0 % MOST_CORES) as usize]
 }
 
 impl<'p, 't, T: Read> JudgedRows<'p, 't, T> {
     ghost use Rattle.msrp_engine.specs.Judging.{IsJudged, rows_left, row_told};
-    ghost use Rattle.msrp_engine.specs.Inside.Ticks.{TakesSome, TakesTick, Turns, TurnsAll};
+    ghost use Rattle.msrp_engine.specs.Inside.Ticks.{AreInOrder, GoesBack, IsRowOf, KeepsOthers, TakesSome, TakesTick, Turns, TurnsAll};
 
     /// The rows that a reader has left, judged by this auditor. Both are of this plan.
     pub fn new(
@@ -106,8 +125,7 @@ impl<'p, 't, T: Read> JudgedRows<'p, 't, T> {
             auditor,
             rows,
             texts,
-            due: NO_ROW,
-            in_order: true,
+            lasts: [NO_ROW; MOST_CORES as usize],
         }
     }
 
@@ -118,51 +136,23 @@ impl<'p, 't, T: Read> JudgedRows<'p, 't, T> {
         &self.auditor
     }
 
-    // The core that is expected next, if it is due: by the numbers of the cores, as long as they come so, and then by the digit that comes.
-    #[inline(always)]
-    fn expected(&self) -> Option<CoreId>
-        ensures { IfSome result (λ core. IsDueInAudit self.now.auditor core.0) }
-    {
-        if self.in_order {
-            return self.auditor.due_in_order();
-        }
-        let core = self.rows.core_guessed()?;
-        if self.auditor.is_due(core) {
-            Some(core)
-        } else {
-            None
-        }
-    }
-
-    // Whether a core is due, which is known of the one that was expected.
-    #[inline(always)]
-    fn is_due(&self, core: CoreId, expected: Option<CoreId>) -> bool
-        requires { IfSome expected (λ core. IsDueInAudit self.now.auditor core.0) }
-        ensures { result ≡ true → IsDueInAudit self.now.auditor core.0 }
-    {
-        match expected {
-            Some(known) if known == core => true,
-            _ => self.auditor.is_due(core),
-        }
-    }
-
-    // The turn of a core: the row that is due of it is left in `due`, and its text is made.
+    // The turn of a core: the row that is due of it is kept, and its text is made.
     #[inline(always)]
     fn turn(&mut self, core: CoreId)
         requires accepted { IsPlan self.old.auditor.plan }
         requires due { IsDueInAudit self.old.auditor core.0 }
         ensures plan { self.new.auditor.plan ≡ self.old.auditor.plan }
         ensures fed { self.new.auditor.fed ≡ self.old.auditor.fed }
-        ensures awaits { (rows : List TraceRow) → HasFed self.old.auditor rows → Awaits self.new.auditor rows core.0 self.new.due }
+        ensures awaits { (rows : List TraceRow) → HasFed self.old.auditor rows → Awaits self.new.auditor rows core.0 (row_of_core self.new.lasts core.0) }
         ensures rows { self.new.rows ≡ self.old.rows }
-        ensures kept { IsKept self.new.rows.version self.new.auditor.plan (text_of_core self.new.texts core.0) self.new.due }
-        ensures core { self.new.due.core.0 ≡ core.0 }
-        ensures others { (c : ℕ) → ¬ (c % 8 ≡ core.0 % 8) → text_of_core self.new.texts c ≡ text_of_core self.old.texts c }
+        ensures kept { IsKept self.new.rows.version self.new.auditor.plan (text_of_core self.new.texts core.0) (row_of_core self.new.lasts core.0) }
+        ensures core { (row_of_core self.new.lasts core.0).core.0 ≡ core.0 }
+        ensures others { KeepsOthers self.old self.new core.0 }
     {
         let due = self.auditor.turn_anew(core);
         // Made anew as a whole, so that no part of it is laid down before.
-        self.due = due.in_tick(due.tick);
-        let told = self.rows.as_read(self.due);
+        keep_row(&mut self.lasts, core, due.in_tick(due.tick));
+        let told = self.rows.as_read(kept_row(&self.lasts, core));
         self.texts.show(&told);
     }
 
@@ -196,12 +186,11 @@ impl<'p, 't, T: Read> JudgedRows<'p, 't, T> {
         }
     }
 
-    // The next row, where it is the last one again of the core that is expected, in that tick, and the core is known to make it. Its text is compared
+    // The next row, where it is the last one again of the core whose digit comes, in that tick, and the core is known to make it. Its text is compared
     // before the core has its turn. Elsewhere nothing is taken, and the core has its turn still to come.
     #[inline(always)]
-    fn next_again(&mut self, tick: u32, expected: Option<CoreId>) -> Option<Row>
+    fn next_again(&mut self, tick: u32) -> Option<Row>
         requires accepted { IsPlan self.old.auditor.plan }
-        requires due { IfSome expected (λ core. IsDueInAudit self.old.auditor core.0) }
         requires short { is_short tick ≡ true }
         ensures plan { self.new.auditor.plan ≡ self.old.auditor.plan }
         ensures gives { IfSome result (λ row. (told : Told) → rows_left T.remaining self.old ≡ Some told → GivesNext told (Ok (Some row)) (rows_left T.remaining self.new)) }
@@ -210,10 +199,8 @@ impl<'p, 't, T: Read> JudgedRows<'p, 't, T> {
         ensures same { result ≡ None → self.new.auditor ≡ self.old.auditor }
         ensures still { result ≡ None → IsAtTick tick self.old.rows → IsAtTick tick self.new.rows }
     {
-        let Some(core) = expected else {
-            return None;
-        };
-        if !self.auditor.repeats(core) {
+        let core = self.rows.core_guessed()?;
+        if !self.auditor.is_due(core) || !self.auditor.repeats(core) {
             return None;
         }
         if !self.rows.comes(tick, &self.texts, core) {
@@ -226,7 +213,7 @@ impl<'p, 't, T: Read> JudgedRows<'p, 't, T> {
         Some(self.rows.as_read(due).in_tick(tick))
     }
 
-    // The turn of a core, and whether its row comes. The row is left in `due`. It stands apart, and answers no row, so that the way of the rows that
+    // The turn of a core, and whether its row comes. It stands apart, and answers no row, so that the way of the rows that
     // are known stays short.
     #[inline(never)]
     fn meets_turn(&mut self, tick: u32, core: CoreId) -> bool
@@ -236,11 +223,11 @@ impl<'p, 't, T: Read> JudgedRows<'p, 't, T> {
         requires here { IsAtTick tick self.old.rows }
         ensures plan { self.new.auditor.plan ≡ self.old.auditor.plan }
         ensures version { self.new.rows.version ≡ self.old.rows.version }
-        ensures gives { result ≡ true → (told : Told) → rows_left T.remaining self.old ≡ Some told → GivesNext told (Ok (Some (in_tick tick (as_read self.new.rows.version self.new.due)))) (rows_left T.remaining self.new) }
-        ensures fed { result ≡ true → (rows : List TraceRow) → HasFed self.old.auditor rows → tick ≡ length rows / self.old.auditor.plan.cores → HasFed self.new.auditor (rows ++ in_tick tick (as_read self.new.rows.version self.new.due) ∷ []) × (self.new.auditor.fault ≡ None) }
+        ensures gives { result ≡ true → (told : Told) → rows_left T.remaining self.old ≡ Some told → GivesNext told (Ok (Some (in_tick tick (as_read self.new.rows.version (row_of_core self.new.lasts core.0))))) (rows_left T.remaining self.new) }
+        ensures fed { result ≡ true → (rows : List TraceRow) → HasFed self.old.auditor rows → tick ≡ length rows / self.old.auditor.plan.cores → HasFed self.new.auditor (rows ++ in_tick tick (as_read self.new.rows.version (row_of_core self.new.lasts core.0)) ∷ []) × (self.new.auditor.fault ≡ None) }
         ensures kept { result ≡ false → (told : Told) → rows_left T.remaining self.old ≡ Some told → rows_left T.remaining self.new ≡ Some told }
         ensures left { result ≡ false → self.new.auditor.fed ≡ self.old.auditor.fed }
-        ensures awaits { result ≡ false → (rows : List TraceRow) → HasFed self.old.auditor rows → Awaits self.new.auditor rows core.0 self.new.due }
+        ensures awaits { result ≡ false → (rows : List TraceRow) → HasFed self.old.auditor rows → Awaits self.new.auditor rows core.0 (row_of_core self.new.lasts core.0) }
     {
         self.turn(core);
         if !self.rows.comes_behind(tick, &self.texts, core) {
@@ -264,7 +251,8 @@ impl<'p, 't, T: Read> JudgedRows<'p, 't, T> {
         };
         if self.auditor.is_in_turn(row) {
             self.turn(row.core);
-            return Ok(self.judge(self.due, row));
+            let due = kept_row(&self.lasts, row.core);
+            return Ok(self.judge(due, row));
         }
         Ok(Judgement::Broken(row, self.auditor.fault_out_of_turn()))
     }
@@ -278,7 +266,7 @@ impl<'p, 't, T: Read> JudgedRows<'p, 't, T> {
         ensures plan { self.new.auditor.plan ≡ self.old.auditor.plan }
         ensures rows { self.new.rows ≡ self.old.rows }
         ensures turn { Turns self.old self.new tick core.0 }
-        ensures others { (c : ℕ) → ¬ (c % 8 ≡ core.0 % 8) → text_of_core self.new.texts c ≡ text_of_core self.old.texts c }
+        ensures others { KeepsOthers self.old self.new core.0 }
     {
         match self.auditor.repeat(core) {
             Some(_due) => self.auditor.accept(),
@@ -309,22 +297,68 @@ impl<'p, 't, T: Read> JudgedRows<'p, 't, T> {
         true
     }
 
-    // The rows of the next tick, where they come by the numbers of the cores, in the texts of those that are due. Elsewhere none is taken, and of the
-    // auditor nothing is known.
-    fn next_tick(&mut self, cores: u32) -> bool
+    // Whether the rows of that tick, which is due, come by the numbers of the cores, in the texts of those that are due. Elsewhere none is taken, and of
+    // the auditor nothing is known.
+    #[inline(always)]
+    fn meets_tick(&mut self, tick: u32, cores: u32) -> bool
+        requires accepted { IsPlan self.old.auditor.plan }
+        requires due { (rows : List TraceRow) → HasFed self.old.auditor rows → self.old.auditor.fault ≡ None → tick ≡ length rows / self.old.auditor.plan.cores }
+        requires short { is_short tick ≡ true }
         requires cores { cores ≡ self.old.auditor.plan.cores }
         ensures plan { self.new.auditor.plan ≡ self.old.auditor.plan }
         ensures trace { IsOfTrace self.old.rows self.new.rows }
-        ensures taken { result ≡ true → TakesTick T.remaining self.old self.new }
+        ensures taken { result ≡ true → TakesTick T.remaining self.old self.new tick }
         ensures kept { result ≡ false → (told : Told) → rows_left T.remaining self.old ≡ Some told → rows_left T.remaining self.new ≡ Some told }
     {
-        let tick = self.auditor.tick();
         self.take_turns(tick, cores) && self.rows.tick_comes(tick, &self.texts)
     }
 
-    /// Takes the rows of whole ticks from the first one on, as long as in each they come by the numbers of the cores and in the texts of those that are due,
-    /// as a simulation writes them. Each core has its turn before it is known whether its row comes. Where it doesn't the turns of that tick were in vain:
+    // Has the turns of the ticks before that one once more, with another auditor, which keeps no text yet.
+    #[inline(never)]
+    fn go_back(
+        &mut self,
+        alloc: Global,
+        plan: &'p Plan,
+        levels: &'p Levels<'p>,
+        tick: u32,
+    ) -> Result<(), Memory>
+        requires tick { tick ≤ plan.now.ticks }
+        requires plan { self.old.auditor.plan ≡ plan.now }
+        requires levels { levels.now ≡ plan.now }
+        ensures plan { self.new.auditor.plan ≡ self.old.auditor.plan }
+        ensures rows { self.new.rows ≡ self.old.rows }
+        ensures fed { OnOk result ((rows : List TraceRow) → length rows ≡ tick * plan.now.cores → AreInOrder plan.now rows → IsRunStart plan.now rows → HasFed self.new.auditor rows) }
+    {
+        self.auditor = auditor_after(alloc, plan, levels, tick * plan.cores())?;
+        self.texts = RowTexts::new(plan, self.rows.version());
+        Ok(())
+    }
+
+    /// Takes the rows of a whole tick more, where they come by the numbers of the cores and in the texts of those that are due, as a simulation writes
+    /// them, and answers the tick. Each core has its turn before it is known whether its row comes. Where it doesn't the turns of that tick were in vain:
     /// another auditor has those of the ticks before once more, and the rows are judged one by one from there on.
+    #[inline(always)]
+    pub(crate) fn next_tick(
+        &mut self,
+        alloc: Global,
+        plan: &'p Plan,
+        levels: &'p Levels<'p>,
+    ) -> Result<Option<u32>, Memory>
+        requires plan { self.old.auditor.plan ≡ plan.now }
+        requires levels { levels.now ≡ plan.now }
+        ensures plan { self.new.auditor.plan ≡ self.old.auditor.plan }
+        ensures taken { IfOk result (λ came. IfSome came (TakesTick T.remaining self.old self.new)) }
+        ensures back { result ≡ Ok None → GoesBack T.remaining self.old self.new }
+    {
+        let tick = self.auditor.tick();
+        if self.meets_tick(tick, plan.cores()) {
+            return Ok(Some(tick));
+        }
+        self.go_back(alloc, plan, levels, tick)?;
+        Ok(None)
+    }
+
+    /// Takes the rows of whole ticks from the first one on, as long as they come so.
     pub(crate) fn take_ticks(
         &mut self,
         alloc: Global,
@@ -337,14 +371,20 @@ impl<'p, 't, T: Read> JudgedRows<'p, 't, T> {
         ensures plan { self.new.auditor.plan ≡ self.old.auditor.plan }
         ensures taken { OnOk result (TakesSome T.remaining self.old self.new) }
     {
-        for tick in 0..plan.ticks() {
-            if !self.next_tick(plan.cores()) {
-                self.auditor = auditor_after(alloc, plan, levels, tick * plan.cores())?;
-                self.texts = RowTexts::new(plan, self.rows.version());
+        for _tick in 0..plan.ticks() {
+            let Some(_tick) = self.next_tick(alloc, plan, levels)? else {
                 return Ok(());
-            }
+            };
         }
         Ok(())
+    }
+
+    /// The row of a core in a tick whose rows were taken.
+    #[inline(always)]
+    pub(crate) fn row_in(&self, tick: u32, core: CoreId) -> Row
+        ensures { IsRowOf self.now tick core.0 result }
+    {
+        self.rows.as_read(kept_row(&self.lasts, core)).in_tick(tick)
     }
 
     // What is known ahead of the next row, whose text is known to begin with that tick and core, where the core has its turn.
@@ -361,10 +401,11 @@ impl<'p, 't, T: Read> JudgedRows<'p, 't, T> {
         ensures begins { (told : Told) (rows : List TraceRow) → BeginsAt tick core told → HasFed self.old.auditor rows → tick ≡ length rows / self.old.auditor.plan.cores → BeginsDue told result }
     {
         if self.meets_turn(tick, core) {
-            return Ahead::Met(self.rows.as_read(self.due).in_tick(tick));
+            return Ahead::Met(self.row_in(tick, core));
         }
         // Made anew, so that one that is met is never laid down in memory as a whole.
-        Ahead::Due(self.due.in_tick(self.due.tick))
+        let due = kept_row(&self.lasts, core);
+        Ahead::Due(due.in_tick(due.tick))
     }
 
     /// What is known ahead of the next row. One that comes as it is due is taken; else nothing is.
@@ -378,17 +419,15 @@ impl<'p, 't, T: Read> JudgedRows<'p, 't, T> {
         ensures begins { (told : Told) (rows : List TraceRow) → rows_left T.remaining self.old ≡ Some told → HasFed self.old.auditor rows → self.old.auditor.fault ≡ None → BeginsDue told result }
     {
         let tick = self.auditor.tick();
-        let expected = self.expected();
-        if let Some(row) = self.next_again(tick, expected) {
+        if let Some(row) = self.next_again(tick) {
             return Ahead::Met(row);
         }
         let Some(core) = self.rows.core_ahead(tick) else {
             return Ahead::Unknown;
         };
-        if !self.is_due(core, expected) {
+        if !self.auditor.is_due(core) {
             return Ahead::Unknown;
         }
-        self.in_order &= expected == Some(core);
         self.turn_ahead(tick, core)
     }
 

@@ -1,5 +1,5 @@
 //! The report of a trace's text.
-ghost use Rattle.std.specs.Prelude.{◌≡◌, ◌⊎◌, List, [], true, false, Some, Ok, Err, IfOk, IfErr, length};
+ghost use Rattle.std.specs.Prelude.{◌≡◌, ◌⊎◌, ◌++◌, List, [], true, false, Some, Ok, Err, IfOk, IfErr, OnOk, length};
 ghost use Rattle.msrp_plan.specs.Bytes.{sink_failed};
 ghost use Rattle.msrp_audit.specs.Audits.{HasFed};
 ghost use Rattle.msrp_plan.specs.declared.rows.Row.{Row as TraceRow};
@@ -7,6 +7,7 @@ ghost use Rattle.msrp_report.specs.Lines.{lines_of};
 ghost use Rattle.msrp_report.specs.Reports.{HasCounted, SomeCounted};
 ghost use Rattle.msrp_report.specs.ReportText.{report_text};
 ghost use Rattle.msrp_trace.specs.Reading.{Told, rows_of};
+ghost use Rattle.msrp_engine.specs.Inside.Counting.{CountTick, CountsSome, MayCountTick};
 ghost use Rattle.msrp_engine.specs.Judging.{rows_left};
 ghost use Rattle.msrp_engine.specs.Answered.{Answered, OfText, OfTexts, ReadsBoth};
 ghost use Rattle.msrp_faults.specs.Outcomes.{is_trace_fault, is_audit_fault};
@@ -20,7 +21,7 @@ use msrp_audit::Auditor;
 use msrp_faults::{CliFault, gathered_text, write_answer};
 use msrp_levels::Levels;
 use msrp_plan::bytes::{Sink, Source};
-use msrp_plan::{Fault, Plan};
+use msrp_plan::{CoreId, Fault, Memory, Plan};
 use msrp_report::{Counter, Report, write_report};
 use msrp_text::read_plan;
 use msrp_trace::TraceReader;
@@ -38,21 +39,70 @@ fn ended(counter: Counter<'_>, found: Result<(), Fault>) -> Result<Report, Fault
     Ok(counter.end())
 }
 
+// Counts the rows of a tick that were taken.
+#[inline(always)]
+fn count_tick<T: Read>(
+    counter: &mut Counter<'_>,
+    rows: &JudgedRows<'_, '_, T>,
+    tick: u32,
+    cores: u32,
+)
+    requires { MayCountTick counter.old rows.now tick cores }
+    ensures plan { counter.new.plan ≡ counter.old.plan }
+    ensures counted { (before more : List TraceRow) → CountTick counter.old rows.now tick cores before more → HasCounted counter.new (before ++ more) }
+{
+    for core in 0..cores {
+        counter.count(rows.row_in(tick, CoreId(core)));
+    }
+}
+
+// Counts the rows of whole ticks from the first one on, as long as they come by the numbers of the cores.
+fn count_ticks<'p, T: Read>(
+    alloc: Global,
+    plan: &'p Plan,
+    levels: &'p Levels<'p>,
+    counter: &mut Counter<'_>,
+    rows: &mut JudgedRows<'p, '_, T>,
+) -> Result<(), Memory>
+    requires plan { rows.old.auditor.plan ≡ plan.now }
+    requires levels { levels.now ≡ plan.now }
+    requires counter { counter.old.plan.now ≡ plan.now }
+    requires fed { HasFed rows.old.auditor [] }
+    requires counted { HasCounted counter.old [] }
+    ensures plan { rows.new.auditor.plan ≡ rows.old.auditor.plan }
+    ensures counter { counter.new.plan ≡ counter.old.plan }
+    ensures counted { OnOk result (CountsSome T.remaining rows.old rows.new counter.new) }
+{
+    for _tick in 0..plan.ticks() {
+        let Some(tick) = rows.next_tick(alloc, plan, levels)? else {
+            return Ok(());
+        };
+        count_tick(counter, rows, tick, plan.cores());
+    }
+    Ok(())
+}
+
 // The report of the rows that are left, if they are a legal run, or else what is found in them. They are judged and counted as they come,
 // and none is read after a faulty one.
 #[inline(never)]
-fn report_rows<T: Read>(
+fn report_rows<'p, T: Read>(
+    alloc: Global,
+    plan: &'p Plan,
+    levels: &'p Levels<'p>,
     mut counter: Counter<'_>,
-    rows: &mut JudgedRows<'_, '_, T>,
+    rows: &mut JudgedRows<'p, '_, T>,
 ) -> Result<Result<Report, Fault>, CliFault>
-    requires plan { rows.old.auditor.plan ≡ counter.plan.now }
+    requires plan { rows.old.auditor.plan ≡ plan.now }
+    requires levels { levels.now ≡ plan.now }
+    requires counter { counter.plan.now ≡ plan.now }
     requires fed { HasFed rows.old.auditor [] }
     requires counted { HasCounted counter [] }
     ensures found { (told : Told) → rows_left T.remaining rows.old ≡ Some told
-        → (result ≡ Err CliFault.Read) ⊎ (result ≡ Err CliFault.Memory) ⊎ Reports counter.entry.plan.now told result }
-    ensures lines { IfOk result (λ found. IfOk found (λ report. length report.lines.items ≡ length counter.entry.plan.now.tasks)) }
+        → (result ≡ Err CliFault.Read) ⊎ (result ≡ Err CliFault.Memory) ⊎ Reports plan.now told result }
+    ensures lines { IfOk result (λ found. IfOk found (λ report. length report.lines.items ≡ length plan.now.tasks)) }
     ensures faults { IfErr result (λ fault. is_trace_fault fault ≡ true) }
 {
+    count_ticks(alloc, plan, levels, &mut counter, rows)?;
     loop {
         let ahead = rows.next_ahead();
         if let Ahead::Met(row) = ahead {
@@ -67,7 +117,7 @@ fn report_rows<T: Read>(
     }
 }
 
-// The report of a trace's text. One row is kept at a time. Whatever ends the reading early may be told as a failed read.
+// The report of a trace's text. One row of each core is kept. Whatever ends the reading early may be told as a failed read.
 fn report_all<T: Read>(
     alloc: Global,
     plan: &Plan,
@@ -82,7 +132,7 @@ fn report_all<T: Read>(
     let counter = Counter::with_room(alloc, plan, &levels)?;
     let reader = TraceReader::new(alloc, trace, plan)?;
     let mut rows = JudgedRows::new(plan, auditor, reader);
-    let found = report_rows(counter, &mut rows);
+    let found = report_rows(alloc, plan, &levels, counter, &mut rows);
     drop(rows);
     found
 }
@@ -118,7 +168,7 @@ fn report_made<T: Read>(alloc: Global, plan: &Plan, trace: &mut Source<T>) -> Re
 
 /// The text of the report of a trace of a plan, whoever made it; where the trace isn't a legal run, its first fault and no text.
 ///
-/// The rows are judged and counted as they come, and one is kept at a time. A refused plan is told whatever the trace.
+/// The rows are judged and counted as they come, and one of each core is kept. A refused plan is told whatever the trace.
 pub fn report_of_texts<P: Read, T: Read>(
     alloc: Global,
     plan: &mut Source<P>,
@@ -153,7 +203,7 @@ fn write_shown<W: Write>(
 /// Reads a plan and a trace of it, whoever made it, and writes the report of the trace with status 0; where the trace isn't
 /// a legal run, it writes the line of its first fault with status 1, as an audit does.
 ///
-/// The rows are judged and counted as they come, and one is kept at a time. Nothing is written before the trace is whole and
+/// The rows are judged and counted as they come, and one of each core is kept. Nothing is written before the trace is whole and
 /// legal, and all memory is taken before: so whatever the fault, but a write fault, nothing was written. A refused plan is told whatever the trace.
 pub fn report_text<P: Read, T: Read, W: Write>(
     alloc: Global,

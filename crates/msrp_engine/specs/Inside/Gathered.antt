@@ -1,5 +1,5 @@
 -- The rows of a trace's text that are gathered before they are judged, and what is found in them.
-use Rattle.std.specs.Prelude.{◌≡◌, ◌⊎◌, ◌≤◌, if◌then◌else◌, ℕ, Bool, true, false, ⊤, List, [], ◌++◌, None, Some, length, option_map}
+use Rattle.std.specs.Prelude.{◌≡◌, ◌⊎◌, ◌≤◌, if◌then◌else◌, ℕ, Bool, true, false, ⊤, List, [], ◌++◌, Option, None, Some, length, option_map}
 use Rattle.std.specs.declared.result.Result.{Result}
 use Rattle.std.specs.declared.result.Result.TheVariants.{Ok, Err}
 use Rattle.msrp_plan.specs.declared.faults.Fault.{Fault}
@@ -9,19 +9,32 @@ use Rattle.msrp_plan.specs.declared.rows.Row.{Row}
 use Rattle.msrp_trace.specs.Reading.{Told}
 use Rattle.msrp_faults.specs.Outcomes.{trace_fault_of}
 use Rattle.msrp_faults.specs.declared.faults.CliFault.{CliFault}
-use Rattle.msrp_faults.specs.declared.faults.CliFault.TheVariants.{Read, Memory}
+use Rattle.msrp_faults.specs.declared.faults.CliFault.TheVariants.{Read}
+use Rattle.msrp_faults.specs.declared.faults.CliFault.TheVariants as cli
+use Rattle.msrp_plan.specs.declared.faults.Memory.{Memory}
+use Rattle.msrp_trace.specs.Readers.{GivesRows}
 
 -- why no row behind these was gathered: there are as many as were asked for, or none is left; else a read failed, memory was
 -- refused, or the record behind them is refused
 abbrev pub EndsBy : ℕ → Told → List Row → List Row → Result ⊤ CliFault → Type 0
 EndsBy most told rows rest (Ok done) = (most ≤ length rows) ⊎ ((rest ≡ []) × (told.refusal ≡ None))
-EndsBy most told rows rest (Err fault) = (fault ≡ Read) ⊎ (fault ≡ Memory) ⊎ ((rest ≡ []) × (option_map trace_fault_of told.refusal ≡ Some fault))
+EndsBy most told rows rest (Err fault) = (fault ≡ Read) ⊎ (fault ≡ cli.Memory) ⊎ ((rest ≡ []) × (option_map trace_fault_of told.refusal ≡ Some fault))
 
 -- these rows are the first of what is told
 pub record IsGathered (most : ℕ) (told : Told) (rows : List Row) (ended : Result ⊤ CliFault) : Type 0 where
   pub rest : List Row
   pub whole : told.rows ≡ rows ++ rest
   pub end : EndsBy most told rows rest ended
+
+-- these rows were put behind those that were gathered, or, where memory was refused, the first of them
+abbrev pub Gathers : Result ⊤ Memory → List Row → List Row → List Row → Type 0
+Gathers (Ok done) old new more = new ≡ old ++ more
+Gathers (Err memory) old new more = (rest : List Row) × (old ++ more ≡ new ++ rest)
+
+-- these rows are the first of what is told, and the rest is left, unless memory was refused
+abbrev pub IsGatheredTo : Told → List Row → Result ⊤ Memory → Option Told → Type 0
+IsGatheredTo told rows (Ok done) left = GivesRows rows told left
+IsGatheredTo told rows (Err memory) left = (rest : List Row) × (told.rows ≡ rows ++ rest)
 
 -- the rule of a missing row
 abbrev pub is_missing : Rule → Bool

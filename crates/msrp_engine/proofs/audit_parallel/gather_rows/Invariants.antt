@@ -6,6 +6,6 @@ use Rattle.msrp_engine.proofs.audit_parallel.gather_rows.Given as goal
 
 abbrev pub invariant-loop-row : goal.invariant-loop-row
 invariant-loop-row g l = record {
-  count : length l.gathered.items ≡ l._row;
-  read : (told : Told) → rows_left g.T.Read.remaining l.fn.rows ≡ Some told → IsReadTo told l.gathered.items (rows_left g.T.Read.remaining l.rows);
+  count : length l.gathered ≡ l._row;
+  read : (told : Told) → rows_left g.T.Read.remaining l.fn.rows ≡ Some told → IsReadTo told l.gathered (rows_left g.T.Read.remaining l.rows);
 }

@@ -18,7 +18,7 @@ pub returns-clause-found : goal.returns-clause-found
 returns-clause-found g c = λ bytes known.
     let told = rows_of c.args.plan.now (csv_records bytes) in
     let begun = opened g.T.Read.remaining c.args.plan.now (csv_records bytes) c.in_ok-reader.reader (c.in_ok-reader.ensures.opens bytes known) in
-    let rows = c.gather_rows-ended.new.gathered.items in
+    let rows = c.gather_rows-ended.new.gathered in
     let ended = c.gather_rows-ended.result in
     let cores = subst (λ n. IsGathered (n * c.ticks.result + 1) told rows ended) c.cores.ensures.value (c.gather_rows-ended.ensures.gathered told (subst (λ r. told_left g.T.Read.remaining r ≡ Some told) (sym c.new-rows.ensures.rows) begun)) in
     let gathered = subst (λ n. IsGathered (c.args.plan.now.cores * n + 1) told rows ended) c.ticks.ensures.value cores in

@@ -7,11 +7,13 @@ use Rattle.msrp_report.specs.Lines.{lines_of}
 use Rattle.msrp_report.specs.declared.lines.Report.{Report}
 use Rattle.msrp_engine.proofs.Reporting.{IsReported, reported-end, reported-error, reported-fault}
 use Rattle.msrp_engine.specs.declared.judged.Judgement.TheVariants.{Legal}
-use Rattle.msrp_engine.proofs.RowsJudged.{broken-found, came-good, end-found, error-found, fewer-turns, met-gives, none-came, row-came, told-gives}
+use Rattle.msrp_engine.proofs.RowsJudged.{broken-found, came-good, end-found, error-found, fewer-turns, met-gives, row-came, some-came, told-gives}
 use Rattle.msrp_engine.proofs.report.report_rows.Goals as goal
 
 pub loop-row-init : goal.loop-row-init
-loop-row-init g c = ([], none-came g.T.Read.remaining c.args.rows.now c.requires.fed, refl, c.requires.counted)
+loop-row-init g c =
+    let some = c.in_ok-count_ticks.ensures.counted in
+    (some.0, some-came g.T.Read.remaining c.args.rows.now c.count_ticks.new.rows some.0 c.count_ticks.ensures.plan some.1, ap (λ p. p.now) c.count_ticks.ensures.counter, some.2)
 
 -- ---- a row that is met
 pub count-requires : goal.count-requires
@@ -20,7 +22,7 @@ count-requires g c =
     let a = c.next_ahead-ahead.ensures in
     let next = met-gives g.T.Read.remaining c.loop-row.rows c.next_ahead-ahead.new.self i.0 c.next_ahead-ahead.result c.in-Met.row c.in-Met.is a.plan a.looks (a.ahead i.0 i.1.fed i.1.fault) in
     let more = row-came g.T.Read.remaining c.args.rows.now c.loop-row.rows c.next_ahead-ahead.new.self i.0 (Ok (Legal c.in-Met.row)) c.in-Met.row i.1 next refl in
-    (i.0, i.3, subst (λ (p : PlanModel). fault_in p (i.0 ++ c.in-Met.row ∷ []) ≡ None) (c.requires.plan ∙ sym i.2) (came-good g.T.Read.remaining _ _ _ more))
+    (i.0, i.3, subst (λ (p : PlanModel). fault_in p (i.0 ++ c.in-Met.row ∷ []) ≡ None) (c.requires.plan ∙ (sym c.requires.counter ∙ sym i.2)) (came-good g.T.Read.remaining _ _ _ more))
 
 pub loop-row-smaller-in-Met : goal.loop-row-smaller-in-Met
 loop-row-smaller-in-Met g c =
@@ -35,7 +37,7 @@ loop-row-preserved-in-Met g c =
     let a = c.next_ahead-ahead.ensures in
     let next = met-gives g.T.Read.remaining c.loop-row.rows c.next_ahead-ahead.new.self i.0 c.next_ahead-ahead.result c.in-Met.row c.in-Met.is a.plan a.looks (a.ahead i.0 i.1.fed i.1.fault) in
     let more = row-came g.T.Read.remaining c.args.rows.now c.loop-row.rows c.next_ahead-ahead.new.self i.0 (Ok (Legal c.in-Met.row)) c.in-Met.row i.1 next refl in
-    let good = subst (λ (p : PlanModel). fault_in p (i.0 ++ c.in-Met.row ∷ []) ≡ None) (c.requires.plan ∙ sym i.2) (came-good g.T.Read.remaining _ _ _ more) in
+    let good = subst (λ (p : PlanModel). fault_in p (i.0 ++ c.in-Met.row ∷ []) ≡ None) (c.requires.plan ∙ (sym c.requires.counter ∙ sym i.2)) (came-good g.T.Read.remaining _ _ _ more) in
     (i.0 ++ c.in-Met.row ∷ [], more, ap (λ p. p.now) c.count.ensures.plan ∙ i.2, c.count.ensures.counted i.0 i.3 good)
 
 -- ---- any other
@@ -45,7 +47,7 @@ count-requires-in-Legal g c =
     let a = c.next_ahead-ahead.ensures in
     let e = c.told.ensures in
     let more = row-came g.T.Read.remaining _ _ _ i.0 c.told.result c.in-Legal.row i.1 (told-gives g.T.Read.remaining c.loop-row.rows c.next_ahead-ahead.new.self c.told.new.self i.0 c.next_ahead-ahead.result c.told.result a.plan a.looks (a.ahead i.0 i.1.fed i.1.fault) e.plan e.gives e.judged) (c.in_ok-row.was ∙ ap (λ x. Ok x) c.in-Legal.is) in
-    (i.0, i.3, subst (λ (p : PlanModel). fault_in p (i.0 ++ c.in-Legal.row ∷ []) ≡ None) (c.requires.plan ∙ sym i.2) (came-good g.T.Read.remaining _ _ _ more))
+    (i.0, i.3, subst (λ (p : PlanModel). fault_in p (i.0 ++ c.in-Legal.row ∷ []) ≡ None) (c.requires.plan ∙ (sym c.requires.counter ∙ sym i.2)) (came-good g.T.Read.remaining _ _ _ more))
 
 pub loop-row-smaller : goal.loop-row-smaller
 loop-row-smaller g c =
@@ -60,7 +62,7 @@ loop-row-preserved g c =
     let a = c.next_ahead-ahead.ensures in
     let e = c.told.ensures in
     let more = row-came g.T.Read.remaining _ _ _ i.0 c.told.result c.in-Legal.row i.1 (told-gives g.T.Read.remaining c.loop-row.rows c.next_ahead-ahead.new.self c.told.new.self i.0 c.next_ahead-ahead.result c.told.result a.plan a.looks (a.ahead i.0 i.1.fed i.1.fault) e.plan e.gives e.judged) (c.in_ok-row.was ∙ ap (λ x. Ok x) c.in-Legal.is) in
-    let good = subst (λ (p : PlanModel). fault_in p (i.0 ++ c.in-Legal.row ∷ []) ≡ None) (c.requires.plan ∙ sym i.2) (came-good g.T.Read.remaining _ _ _ more) in
+    let good = subst (λ (p : PlanModel). fault_in p (i.0 ++ c.in-Legal.row ∷ []) ≡ None) (c.requires.plan ∙ (sym c.requires.counter ∙ sym i.2)) (came-good g.T.Read.remaining _ _ _ more) in
     (i.0 ++ c.in-Legal.row ∷ [], more, ap (λ p. p.now) c.count-in-Legal.ensures.plan ∙ i.2, c.count-in-Legal.ensures.counted i.0 i.3 good)
 
 pub returns-in_err-row-clause-found : goal.returns-in_err-row-clause-found
@@ -69,9 +71,9 @@ returns-in_err-row-clause-found g c = λ told known.
     let a = c.next_ahead-ahead.ensures in
     let e = c.told.ensures in
     let error = c.in_err-row.field-0.0 in
-    let gives : c.from_residual.result ≡ Err (trace_fault_of error) = search rules in
+    let gives : c.from_residual-in_err-row.result ≡ Err (trace_fault_of error) = search rules in
     let found = error-found g.T.Read.remaining _ _ _ i.0 c.told.result error (Err (trace_fault_of error)) told i.1 (told-gives g.T.Read.remaining c.loop-row.rows c.next_ahead-ahead.new.self c.told.new.self i.0 c.next_ahead-ahead.result c.told.result a.plan a.looks (a.ahead i.0 i.1.fed i.1.fault) e.plan e.gives e.judged) (cc) known refl in
-    subst (λ (p : PlanModel). IsReported p told c.from_residual.result) c.requires.plan (subst (IsReported c.args.rows.now.auditor.plan told) (sym gives) (reported-error c.args.rows.now.auditor.plan told (trace_fault_of error) found))
+    subst (λ (p : PlanModel). IsReported p told c.from_residual-in_err-row.result) c.requires.plan (subst (IsReported c.args.rows.now.auditor.plan told) (sym gives) (reported-error c.args.rows.now.auditor.plan told (trace_fault_of error) found))
 
 pub returns-in-Broken-clause-found : goal.returns-in-Broken-clause-found
 returns-in-Broken-clause-found g c = λ told known.
@@ -92,6 +94,6 @@ returns-in-End-clause-found g c = λ told known.
     let whole = end-found g.T.Read.remaining _ _ _ i.0 c.told.result told i.1 (told-gives g.T.Read.remaining c.loop-row.rows c.next_ahead-ahead.new.self c.told.new.self i.0 c.next_ahead-ahead.result c.told.result a.plan a.looks (a.ahead i.0 i.1.fed i.1.fault) e.plan e.gives e.judged) (c.in_ok-row.was ∙ ap (λ x. Ok x) c.in-End.is) known in
     let found = whole.2 ∙ ap (λ x. Ok x) (sym (rw c.auditor.ensures at c.end.ensures i.0 whole.0)) in
     let lines : IfOk c.ended.result (λ (report : Report). report.lines.items ≡ lines_of c.args.rows.now.auditor.plan told.rows) =
-    subst (λ (p : PlanModel). IfOk c.ended.result (λ (report : Report). report.lines.items ≡ lines_of p told.rows)) (i.2 ∙ sym c.requires.plan)
+    subst (λ (p : PlanModel). IfOk c.ended.result (λ (report : Report). report.lines.items ≡ lines_of p told.rows)) (i.2 ∙ (c.requires.counter ∙ sym c.requires.plan))
     (subst (λ (xs : List Row). IfOk c.ended.result (λ (report : Report). report.lines.items ≡ lines_of c.loop-row.counter.plan.now xs)) (sym whole.1) (c.ended.ensures.lines i.0 i.3)) in
     subst (λ (p : PlanModel). IsReported p told (Ok c.ended.result)) c.requires.plan (reported-end c.args.rows.now.auditor.plan told c.end.result c.ended.result found c.ended.ensures.found lines)

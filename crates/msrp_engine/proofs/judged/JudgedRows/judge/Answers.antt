@@ -1,7 +1,19 @@
+use Rattle.std.proofs.Common.{◌∙◌, ◌++◌, ◌∷◌, [], ap}
+use Rattle.msrp_plan.specs.Plan.{PlanModel}
+use Rattle.msrp_plan.specs.Verdict.{fault_in}
+use Rattle.msrp_engine.proofs.Judging.{good-answer}
 use Rattle.msrp_engine.proofs.KeptTexts.{keeps_same}
 use Rattle.msrp_engine.proofs.judged.JudgedRows.judge.Goals as goal
 
-pub invariant_of-self-clause-known : goal.invariant_of-self-clause-known
-invariant_of-self-clause-known g c =
+pub invariant_of-self-clause-kept : goal.invariant_of-self-clause-kept
+invariant_of-self-clause-kept g c =
     let j = c.args.self.now in
-    keeps_same j.rows.version j.auditor.plan c.judge.new.self.plan j.auditor.cores c.judge.new.self.cores j.texts c.judge.ensures.plan c.judge.ensures.cores j.known
+    keeps_same j.rows.version j.auditor.plan c.judge.new.self.plan j.auditor.cores c.judge.new.self.cores j.texts j.lasts c.judge.ensures.plan c.judge.ensures.cores j.kept
+
+pub returns-in-Ok-clause-judged : goal.returns-in-Ok-clause-judged
+returns-in-Ok-clause-judged g c = λ rows awaits tick.
+    let e = c.in-Ok.ensures in
+    let fed = e.fed rows awaits tick in (
+      fed,
+      fed.fault ∙ (ap (λ (p : PlanModel). fault_in p (rows ++ c.args.row ∷ [])) e.plan ∙ good-answer (fault_in c.args.self.now.auditor.plan (rows ++ c.args.row ∷ [])) c.in-Ok.field-0 (e.answer rows awaits tick)),
+    )

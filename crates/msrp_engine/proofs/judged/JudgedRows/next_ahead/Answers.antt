@@ -1,19 +1,11 @@
-use Rattle.std.proofs.Common.{◌≡◌, ◌/◌, ◌∙◌, IfSome, length, sym, subst}
+use Rattle.std.proofs.Common.{◌≡◌, ◌/◌, IfSome, length, sym, subst}
 use Rattle.msrp_audit.specs.Audits.{AuditorModel, HasFed}
 use Rattle.msrp_trace.specs.Readers.{BeginsAt}
-use Rattle.msrp_engine.specs.Inside.Kept.{KeepsKnown}
+use Rattle.msrp_engine.specs.Inside.Kept.{KeepsRows}
 use Rattle.msrp_engine.proofs.judged.JudgedRows.next_ahead.Goals as goal
 
-pub invariant_of-self-clause-known : goal.invariant_of-self-clause-known
-invariant_of-self-clause-known g c = let j = c.next_again.new.self in subst (λ v. KeepsKnown v j.auditor.plan j.auditor.cores j.texts) (sym c.core_ahead.ensures.trace.0) j.known
-
-pub invariant_of-self-2 : goal.invariant_of-self-2
-invariant_of-self-2 g c = record {
-  plan = c.core_ahead.ensures.trace.1 ∙ c.next_again.new.self.plan;
-  texts_plan = c.next_again.new.self.texts_plan;
-  version = c.next_again.new.self.version ∙ sym c.core_ahead.ensures.trace.0;
-  known = let j = c.next_again.new.self in subst (λ v. KeepsKnown v j.auditor.plan j.auditor.cores j.texts) (sym c.core_ahead.ensures.trace.0) j.known;
-}
+pub invariant_of-self-clause-kept : goal.invariant_of-self-clause-kept
+invariant_of-self-clause-kept g c = let j = c.next_again.new.self in subst (λ v. KeepsRows v j.auditor.plan j.auditor.cores j.texts j.lasts) (sym c.core_ahead.ensures.trace.0) j.kept
 
 pub returns-clause-begins : goal.returns-clause-begins
 returns-clause-begins g c = λ told rows known fed none.

@@ -1,10 +1,10 @@
 use Rattle.std.proofs.Common.{sym, ◌∙◌, subst}
 use Rattle.msrp_audit.specs.Audits.{IsOutOfTurn}
-use Rattle.msrp_engine.specs.Inside.Kept.{KeepsKnown}
+use Rattle.msrp_engine.specs.Inside.Kept.{KeepsRows}
 use Rattle.msrp_engine.proofs.judged.JudgedRows.read.Goals as goal
 
-pub invariant_of-self-clause-known : goal.invariant_of-self-clause-known
-invariant_of-self-clause-known g c = let j = c.args.self.now in subst (λ v. KeepsKnown v j.auditor.plan j.auditor.cores j.texts) (sym c.next_row.ensures.trace.0) j.known
+pub invariant_of-self-clause-kept : goal.invariant_of-self-clause-kept
+invariant_of-self-clause-kept g c = let j = c.args.self.now in subst (λ v. KeepsRows v j.auditor.plan j.auditor.cores j.texts j.lasts) (sym c.next_row.ensures.trace.0) j.kept
 
 pub returns-clause-judged : goal.returns-clause-judged
 returns-clause-judged g c = λ rows fed none.

@@ -1,12 +1,12 @@
 use Rattle.std.proofs.Common.{Ok, ap, sym, ◌∙◌, subst}
 use Rattle.std.proofs.lemmas.Bool.{eqb-false}
 use Rattle.msrp_plan.specs.declared.ids.CoreId.{CoreId}
-use Rattle.msrp_engine.specs.Inside.Kept.{KeepsKnown}
+use Rattle.msrp_engine.specs.Inside.Kept.{KeepsRows}
 use Rattle.msrp_engine.proofs.NextRows.{given-at, given-some}
 use Rattle.msrp_engine.proofs.judged.JudgedRows.read_due.Goals as goal
 
-pub invariant_of-self-clause-known : goal.invariant_of-self-clause-known
-invariant_of-self-clause-known g c = let j = c.args.self.now in subst (λ v. KeepsKnown v j.auditor.plan j.auditor.cores j.texts) (sym c.next_row.ensures.trace.0) j.known
+pub invariant_of-self-clause-kept : goal.invariant_of-self-clause-kept
+invariant_of-self-clause-kept g c = let j = c.args.self.now in subst (λ v. KeepsRows v j.auditor.plan j.auditor.cores j.texts j.lasts) (sym c.next_row.ensures.trace.0) j.kept
 
 pub returns-in_default-clause-read : goal.returns-in_default-clause-read
 returns-in_default-clause-read g c = λ told known begins e.

@@ -1,35 +1,33 @@
-use Rattle.std.proofs.Common.{◌≡◌, ◌/◌, length, true, refl, sym, ap, ◌∙◌, subst}
+use Rattle.std.proofs.Common.{◌≡◌, ◌/◌, length, refl, sym, ap, ◌∙◌, subst}
 use Rattle.msrp_audit.specs.Audits.{AuditorModel, HasFed}
 use Rattle.msrp_plan.specs.Plan.{PlanModel}
 use Rattle.msrp_plan.specs.Stretches.{in_tick}
-use Rattle.msrp_trace.specs.Gathering.{after_tick}
-use Rattle.msrp_trace.specs.Laws.{as_read, is_told_whole}
-use Rattle.msrp_trace.specs.Texts.{text_of_core}
-use Rattle.msrp_engine.specs.Inside.Kept.{IsKept}
-use Rattle.msrp_engine.proofs.KeptTexts.{cores_if, keeps_if, keeps_same, read_as}
+use Rattle.msrp_trace.specs.Laws.{as_read}
+use Rattle.msrp_engine.specs.Inside.Kept.{row_of_core}
+use Rattle.msrp_engine.proofs.KeptTexts.{cores_if, keeps_if, keeps_same, known_read, read_as}
 use Rattle.msrp_engine.proofs.WholeTicks.{fed_on}
 use Rattle.msrp_engine.proofs.judged.JudgedRows.take_turn.Goals as goal
 
-pub invariant_of-self-clause-known : goal.invariant_of-self-clause-known
-invariant_of-self-clause-known g c =
+pub invariant_of-self-clause-kept : goal.invariant_of-self-clause-kept
+invariant_of-self-clause-kept g c =
     let j = c.args.self.now in
     let e = c.repeat.ensures in
     let same = c.accept.ensures.same in
-    let turned = keeps_if j.rows.version j.auditor.plan j.auditor.cores c.repeat.new.self.cores j.texts c.args.core.0 c.repeat.result c.requires.accepted.draft.cores.1 c.requires.due.core (cores_if c.repeat.result j.auditor c.repeat.new.self e.none) e.known e.core e.leaves j.known in
-    keeps_same j.rows.version j.auditor.plan c.accept.new.self.plan c.repeat.new.self.cores c.accept.new.self.cores j.texts (ap (λ (a : AuditorModel). a.plan) same ∙ e.plan) (ap (λ (a : AuditorModel). a.cores) same) turned
+    let turned = keeps_if j.rows.version j.auditor.plan j.auditor.cores c.repeat.new.self.cores j.texts j.lasts c.args.core.0 c.repeat.result c.requires.accepted.draft.cores.1 c.requires.due.core (cores_if c.repeat.result j.auditor c.repeat.new.self e.none) e.known e.core e.leaves j.kept in
+    keeps_same j.rows.version j.auditor.plan c.accept.new.self.plan c.repeat.new.self.cores c.accept.new.self.cores j.texts j.lasts (ap (λ (a : AuditorModel). a.plan) same ∙ e.plan) (ap (λ (a : AuditorModel). a.cores) same) turned
 
-pub invariant_of-self-in-None-clause-known : goal.invariant_of-self-in-None-clause-known
-invariant_of-self-in-None-clause-known g c =
+pub invariant_of-self-in-None-clause-kept : goal.invariant_of-self-in-None-clause-kept
+invariant_of-self-in-None-clause-kept g c =
     let j = c.args.self.now in
     let e = c.repeat.ensures in
-    let turned = keeps_if j.rows.version j.auditor.plan j.auditor.cores c.repeat.new.self.cores j.texts c.args.core.0 c.repeat.result c.requires.accepted.draft.cores.1 c.requires.due.core (cores_if c.repeat.result j.auditor c.repeat.new.self e.none) e.known e.core e.leaves j.known in
-    keeps_same j.rows.version j.auditor.plan c.repeat.new.self.plan c.repeat.new.self.cores c.repeat.new.self.cores j.texts e.plan refl turned
+    let turned = keeps_if j.rows.version j.auditor.plan j.auditor.cores c.repeat.new.self.cores j.texts j.lasts c.args.core.0 c.repeat.result c.requires.accepted.draft.cores.1 c.requires.due.core (cores_if c.repeat.result j.auditor c.repeat.new.self e.none) e.known e.core e.leaves j.kept in
+    keeps_same j.rows.version j.auditor.plan c.repeat.new.self.plan c.repeat.new.self.cores c.repeat.new.self.cores j.texts j.lasts e.plan refl turned
 
-pub invariant_of-self-in-None-2-clause-known : goal.invariant_of-self-in-None-2-clause-known
-invariant_of-self-in-None-2-clause-known g c =
+pub invariant_of-self-in-None-2-clause-kept : goal.invariant_of-self-in-None-2-clause-kept
+invariant_of-self-in-None-2-clause-kept g c =
     let j = c.turn.new.self in
     let same = c.accept-in-None.ensures.same in
-    keeps_same j.rows.version j.auditor.plan c.accept-in-None.new.self.plan j.auditor.cores c.accept-in-None.new.self.cores j.texts (ap (λ (a : AuditorModel). a.plan) same) (ap (λ (a : AuditorModel). a.cores) same) j.known
+    keeps_same j.rows.version j.auditor.plan c.accept-in-None.new.self.plan j.auditor.cores c.accept-in-None.new.self.cores j.texts j.lasts (ap (λ (a : AuditorModel). a.plan) same) (ap (λ (a : AuditorModel). a.cores) same) j.kept
 
 pub returns-in-Some-clause-turn : goal.returns-in-Some-clause-turn
 returns-in-Some-clause-turn g c =
@@ -44,13 +42,7 @@ returns-in-Some-clause-turn g c =
       row,
       record {
         core = (read_as v t due).core ∙ e.core;
-        text = λ some.
-            let kept : IsKept v j.auditor.plan (text_of_core j.texts k) due = j.known k c.requires.due.core some due e.known in
-            record {
-              tick = refl;
-              whole = subst (λ q. is_told_whole v q row ≡ true) (sym j.plan) (kept.whole t c.requires.short);
-              text = subst (λ q. text_of_core j.texts k ≡ after_tick v q row) (sym j.plan) kept.is;
-            };
+        row = λ some. known_read v t due (row_of_core j.lasts k) ((j.kept k c.requires.due.core some).known due e.known);
         fed = λ rows was now.
             let awaits = e.awaits rows was.fed in
             let tick : t ≡ due.tick = now ∙ (ap (λ (p : PlanModel). length rows / p.cores) (sym c.repeat.ensures.plan) ∙ sym awaits.tick) in
@@ -64,7 +56,7 @@ returns-in-None-clause-turn g c =
     let k = c.args.core.0 in
     let t = c.args.tick in
     let v = j.rows.version in
-    let due = j.due in
+    let due = row_of_core j.lasts k in
     let e = c.turn.ensures in
     let same = c.accept-in-None.ensures.same in
     let plan : j.auditor.plan ≡ c.args.self.now.auditor.plan = e.plan ∙ c.repeat.ensures.plan in
@@ -72,11 +64,7 @@ returns-in-None-clause-turn g c =
       row,
       record {
         core = (read_as v t due).core ∙ e.core;
-        text = λ some. record {
-          tick = refl;
-          whole = subst (λ q. is_told_whole v q row ≡ true) (sym j.plan) (e.kept.whole t c.requires.short);
-          text = subst (λ q. text_of_core j.texts k ≡ after_tick v q row) (sym j.plan) e.kept.is;
-        };
+        row = λ some. refl;
         fed = λ rows was now.
             let awaits = e.awaits rows (subst (λ (a : AuditorModel). HasFed a rows) (sym c.in-None.ensures.none) was.fed) in
             let tick : t ≡ due.tick = now ∙ (ap (λ (p : PlanModel). length rows / p.cores) (sym plan) ∙ sym awaits.tick) in

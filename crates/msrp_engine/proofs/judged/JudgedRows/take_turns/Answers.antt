@@ -13,7 +13,7 @@ loop-core-init g c = record {
     record {
       size = refl;
       cores = λ k r is. absurd (cc);
-      texts = λ k r is. absurd (cc);
+      rows = λ k r is. absurd (cc);
       fed = λ rows was now whole. subst (λ l. HasFedRun c.args.self.now.auditor l) (sym (append-nil rows)) was;
     },
   );
