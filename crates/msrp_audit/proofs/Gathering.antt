@@ -1,10 +1,12 @@
 -- What is kept of a row tells it, and the first of the rows that are kept.
-use Rattle.std.proofs.Common.{◌≡◌, ℕ, zero, suc, ◌-◌, List, [], ◌∷◌, ◌++◌, length, map, min, take, is_some, ap, sym, ◌∙◌, arith}
-use Rattle.std.proofs.lemmas.List.{length-map, take-map, take_min}
+use Rattle.std.proofs.Common.{◌≡◌, ℕ, zero, suc, ◌-◌, Some, List, [], ◌∷◌, ◌++◌, length, map, min, take, is_some, option_map, slice_get, refl, ap, sym, ◌∙◌, arith, append-nil}
+use Rattle.std.proofs.lemmas.List.{length-map, map-append, take-map, take_min}
+use Rattle.std.proofs.lemmas.Option.{slice_get-map}
 use Rattle.std.specs.Option.{unwrap_or}
 use Rattle.msrp_plan.specs.Shape.{ahead_of_kind, job_of_kind, res_of_kind}
 use Rattle.msrp_plan.specs.declared.ids.JobId.{JobId}
 use Rattle.msrp_plan.specs.declared.ids.ResId.{ResId}
+use Rattle.msrp_plan.specs.Stretches.{in_tick}
 use Rattle.msrp_plan.specs.declared.rows.Row.{Row}
 use Rattle.msrp_plan.proofs.KindParts.{ahead_told, job_told, res_told, same_parts}
 use Rattle.msrp_plan.proofs.Legality.SameRow.{same_row}
@@ -53,3 +55,17 @@ rows_first kept rest most n m is_n is_m =
     let more = ap (λ k. take k rest) is_m ∙ take_min (most - n) rest in
     let left : most - n ≡ most - length (map row_of kept) = omega (arith, is_n, length-map kept row_of) in
     ap (λ l. map row_of l ++ take m rest) few ∙ (ap (λ l. map row_of (take most kept) ++ l) (more ∙ ap (λ k. take k rest) left) ∙ (ap (λ l. l ++ take (most - length (map row_of kept)) rest) (sym (take-map row_of most kept)) ∙ sym (take_both (map row_of kept) rest most)))
+
+-- ---- a row like one that is kept
+pub none_left : (rows : List Row) → length rows ≡ 0 → rows ≡ []
+none_left [] e = refl
+none_left (r ∷ rows) e = absurd (let no : ⊥ = omega (arith, e) in no)
+
+pub like_pushed : (ks new : List KeptRow) (rest now : List Row) (k like : KeptRow) (row : Row) (back t : ℕ) → rows_of ks rest ≡ now → rest ≡ [] → slice_get ks (length ks - back) ≡ Some k → row_of like ≡ in_tick t (row_of k) → t ≡ row.tick
+    → ((r : Row) → slice_get now (length now - back) ≡ Some r → row ≡ in_tick row.tick r) → new ≡ ks ++ like ∷ [] → rows_of new rest ≡ now ++ row ∷ []
+like_pushed ks new rest now k like row back t view none is in_its tick alike pushed =
+    let whole : now ≡ map row_of ks = sym view ∙ (ap (λ r. map row_of ks ++ r) none ∙ append-nil (map row_of ks)) in
+    let at : slice_get now (length now - back) ≡ Some (row_of k) =
+    ap (λ l. slice_get l (length l - back)) whole ∙ (ap (λ n. slice_get (map row_of ks) (n - back)) (length-map ks row_of) ∙ (slice_get-map row_of ks (length ks - back) ∙ ap (option_map row_of) is)) in
+    let same : row ≡ row_of like = alike (row_of k) at ∙ (ap (λ n. in_tick n (row_of k)) (sym tick) ∙ sym in_its) in
+    ap (λ l. rows_of l rest) pushed ∙ (ap (λ r. map row_of (ks ++ like ∷ []) ++ r) none ∙ (append-nil (map row_of (ks ++ like ∷ [])) ∙ (map-append row_of ks (like ∷ []) ∙ (ap (λ l. l ++ row_of like ∷ []) (sym whole) ∙ ap (λ r. now ++ r ∷ []) (sym same)))))

@@ -1,5 +1,5 @@
 -- The piece of a resource goes from one row that names a resource to the next: the rows between are on none.
-use Rattle.std.proofs.Common.{◌≡◌, ℕ, ◌+◌, ◌<◌, ◌≤◌, true, false, cond, List, [], ◌∷◌, Option, Some, None, is_some, refl, ap, sym, ◌∙◌, subst, arith, length, take, drop, get_or, inl, inr}
+use Rattle.std.proofs.Common.{◌≡◌, ℕ, zero, suc, ◌+◌, ◌<◌, ◌≤◌, true, false, cond, List, [], ◌∷◌, Option, Some, None, is_some, refl, ap, sym, ◌∙◌, subst, arith, length, take, drop, get_or, inl, inr}
 use Rattle.std.specs.Bool.{⊤}
 use Rattle.std.proofs.lemmas.Bool.{cases_Bool}
 use Rattle.std.proofs.lemmas.List.{drop_more, length-drop}
@@ -13,6 +13,12 @@ use Rattle.msrp_audit.specs.Inside.Pieces.{broken_reply, TellsFirst}
 use Rattle.msrp_audit.specs.Inside.Walks.{naming_places}
 use Rattle.msrp_audit.proofs.Queueing.{off_taken, off_passes}
 use Rattle.msrp_audit.proofs.Scanning.{PassesTo, one_more, passes_all}
+
+-- a row stands at a place
+pub row_at : (rows : List Row) (i : ℕ) → i < length rows → (x : Row) × (x ≡ get_or rows i x)
+row_at [] i low = absurd (let no : ⊥ = omega (arith, low) in no)
+row_at (x ∷ rows) zero low = (x, refl)
+row_at (x ∷ rows) (suc i) low = let more = row_at rows i (omega (arith, low)) in (more.0, more.1)
 
 -- the first of the rows, if there is one, names a resource
 abbrev pub BeginsNamed : List Row → Type 0

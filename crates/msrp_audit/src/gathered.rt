@@ -1,5 +1,7 @@
 //! Rows that are gathered before they are judged, in as few bytes as they need.
-ghost use Rattle.std.specs.Prelude.{◌≡◌, ◌<◌, ◌++◌, ◌∷◌, [], length, slice_index_or, take, IfErr, IfOk, IfSome, OnOk};
+ghost use Rattle.std.specs.Prelude.{◌≡◌, ◌<◌, ◌++◌, ◌∷◌, [], length, slice_index_or, take, IfErr, IfOk, IfSome, OnOk, Some, slice_get, ◌-◌};
+ghost use Rattle.msrp_plan.specs.Queues.{is_on};
+ghost use Rattle.msrp_plan.specs.Stretches.{in_tick};
 ghost use Rattle.msrp_plan.specs.declared.rows.Row.{Row as TraceRow};
 ghost use Rattle.msrp_plan.specs.Shape.{ahead_of_kind, job_of_kind, res_of_kind};
 ghost use Rattle.msrp_audit.specs.Inside.Gathered.{job_in, res_in, row_of};
@@ -90,6 +92,34 @@ impl KeptRow {
         }
     }
 
+    // The row, in another tick.
+    #[inline(always)]
+    fn in_tick(self, tick: u16) -> KeptRow
+        ensures { row_of result ≡ in_tick tick (row_of self) }
+    {
+        KeptRow {
+            tick,
+            k: self.k,
+            core: self.core,
+            kind: self.kind,
+            task: self.task,
+            res: self.res,
+            carries: self.carries,
+            ahead: self.ahead,
+        }
+    }
+
+    // Whether the row that is kept so names the resource.
+    #[inline(always)]
+    fn names(&self, res: ResId) -> bool
+        ensures { result ≡ is_on res.0 (row_of self.now).res }
+    {
+        match self.kind {
+            Kind::Idle | Kind::Run => false,
+            _ => self.res as u32 == res.0,
+        }
+    }
+
     // The row that is kept so.
     #[inline(always)]
     fn row(&self) -> Row
@@ -144,6 +174,20 @@ impl<'a> Rows<'a> {
         ensures { result ≡ length self.now }
     {
         self.kept.len() + self.rest.len()
+    }
+
+    /// Whether the row that stands there names the resource. It is told without the row's other parts.
+    #[inline(always)]
+    pub(crate) fn names(&self, index: usize, res: ResId) -> bool
+        requires { index < length self.now }
+        ensures { (d : TraceRow) → result ≡ is_on res.0 (slice_index_or self.now index d).res }
+    {
+        let kept = self.kept.len();
+        if index < kept {
+            self.kept[index].names(res)
+        } else {
+            self.rest[index - kept].res == Some(res)
+        }
     }
 
     /// The row that stands there.
@@ -204,6 +248,22 @@ impl Gathered {
         }
         self.rest.push(row)?;
         Ok(())
+    }
+
+    /// Adds a row that is, but for its tick, the one that stands so many rows before the end: what is kept of that one is copied.
+    #[inline(always)]
+    pub fn push_like(&mut self, back: usize, row: Row) -> Result<(), Memory>
+        requires { (r : TraceRow) → slice_get self.old (length self.old - back) ≡ Some r → row ≡ in_tick row.tick r }
+        ensures pushed { OnOk result (self.new ≡ self.old ++ row ∷ []) }
+        ensures kept { IfErr result (λ _. self.new ≡ self.old) }
+    {
+        let kept = self.kept.len();
+        if self.rest.is_empty() && 0 < back && back <= kept && row.tick <= u16::MAX as u32 {
+            let like = self.kept[kept - back].in_tick(row.tick as u16);
+            self.kept.push(like)?;
+            return Ok(());
+        }
+        self.push(row)
     }
 
     /// The number of rows.

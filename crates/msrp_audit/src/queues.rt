@@ -1,6 +1,6 @@
 //! The queue of one resource: A5.
 ghost use Rattle.std.specs.Prelude.{◌≡◌, ◌<◌, ◌≤◌, ◌*◌, IfOk, length};
-ghost use Rattle.msrp_plan.specs.Queues.{counts, is_behind, is_first, is_on, is_reply_of, replies};
+ghost use Rattle.msrp_plan.specs.Queues.{counts, is_behind, is_first, is_reply_of, replies};
 ghost use Rattle.std.specs.List.{list_any};
 ghost use Rattle.msrp_plan.specs.Levels.{is_global};
 ghost use Rattle.msrp_plan.specs.Jobs.{same_job};
@@ -12,12 +12,6 @@ use crate::gathered::Rows;
 use msrp_levels::Levels;
 use msrp_plan::{Fault, JobId, Kind, Memory, Plan, Requests, ResId, Row, Rule};
 use std::alloc::Global;
-
-fn is_on(row: Row, res: ResId) -> bool
-    ensures { result ≡ is_on res.0 row.res }
-{
-    row.res == Some(res)
-}
 
 fn is_first(queue: &[JobId], job: Option<JobId>) -> bool
     ensures { result ≡ is_first queue.now job }
@@ -116,8 +110,8 @@ pub(crate) fn judge_resource(
     }
     let mut requests = Requests::of(alloc, res);
     for place in places {
-        let row = rows.row(*place as usize);
-        if is_on(row, res) {
+        if rows.names(*place as usize, res) {
+            let row = rows.row(*place as usize);
             let queue = requests.queue();
             if queue.len() > plan.cores() as usize {
                 return Ok(None);

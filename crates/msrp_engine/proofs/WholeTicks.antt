@@ -1,9 +1,9 @@
 -- Whole ticks whose rows come by the numbers of the cores.
-use Rattle.std.proofs.Common.{◌≡◌, ◌≢◌, ℕ, zero, suc, ◌+◌, ◌*◌, ◌/◌, ◌%◌, ◌<◌, List, [], ◌∷◌, ◌++◌, Option, Some, None, refl, ap, sym, ◌∙◌, subst, arith, ◌==◌, ◌&&◌, true, not, nat_lt, eqb-true, length-take-le, length, length-append, append_assoc, take, drop, take-append-drop, inl, inr, slice_get}
+use Rattle.std.proofs.Common.{◌≡◌, ◌≢◌, ℕ, zero, suc, ◌+◌, ◌*◌, ◌/◌, ◌%◌, ◌<◌, List, [], ◌∷◌, ◌++◌, Option, Some, None, refl, ap, sym, ◌∙◌, subst, arith, ◌==◌, ◌&&◌, true, not, nat_lt, eqb-true, length-take-le, length, length-append, append_assoc, take, drop, take-append-drop, inl, inr, slice_get, Bool, false, ◌≤◌}
 use Rattle.std.proofs.Math.Nat.{div-add-mod, mod-eq_of_lt, mul-mod_left, mul_comm}
 use Rattle.std.proofs.lemmas.Nat.{div-mul-add, mod-mul-add}
 use Rattle.std.proofs.lemmas.Option.{slice_get_cases, slice_get_within}
-use Rattle.std.proofs.lemmas.Bool.{and_parts}
+use Rattle.std.proofs.lemmas.Bool.{and_parts, eqb-false}
 use Rattle.msrp_audit.specs.Audits.{AuditorModel, Awaits, HasFed, has_turn}
 use Rattle.msrp_audit.proofs.Foresight.{broken_is}
 use Rattle.msrp_audit.proofs.Judging.{as_due}
@@ -23,7 +23,7 @@ use Rattle.msrp_trace.specs.Laws.{as_read}
 use Rattle.msrp_trace.specs.declared.reading.TraceReader.{TraceReader}
 use Rattle.msrp_plan.specs.Stretches.{in_tick}
 use Rattle.msrp_engine.specs.Inside.Kept.{row_of_core}
-use Rattle.msrp_engine.specs.Inside.Ticks.{AreInOrder, GoesBack, HasFedRun, HasFedTicks, HasRow, KeepsOthers, TakeSome, TakeTick, Turn, TurnAll}
+use Rattle.msrp_engine.specs.Inside.Ticks.{AreInOrder, GoesBack, HasFedRun, HasFedTicks, HasRow, IsAgain, KeepsOthers, TakeSome, TakeTick, Turn, TurnAll}
 use Rattle.msrp_engine.specs.Judging.{rows_left}
 use Rattle.msrp_engine.specs.declared.judged.JudgedRows.{JudgedRows}
 
@@ -54,6 +54,30 @@ module _ {T : Type 0} (old mid new : JudgedRows T) (t n : ℕ) (r : Row) (few : 
       let second : n % 8 ≡ n = mod-eq_of_lt few in
       omega (arith, h, first, second, l)
 
+  beyond : (c : ℕ) → n + 1 ≤ c → c < 8 → c % 8 ≢ n % 8
+  beyond c past l h =
+      let first : c % 8 ≡ c = mod-eq_of_lt l in
+      let second : n % 8 ≡ n = mod-eq_of_lt few in
+      omega (arith, h, first, second, past)
+
+  in_tick_of : (more : List Row) → TurnAll old mid t n more → (before : List Row) → t ≡ length before / old.auditor.plan.cores → length before % old.auditor.plan.cores ≡ 0 → t ≡ length (before ++ more) / mid.auditor.plan.cores
+  in_tick_of more all before now whole =
+      same_tick (length before) old.auditor.plan.cores n t whole now low ∙ (ap (λ k. k / old.auditor.plan.cores) (ap (λ k. length before + k) (sym all.size) ∙ sym (length-append before more)) ∙ ap (λ (p : PlanModel). length (before ++ more) / p.cores) (sym plan))
+
+  -- the rows that were kept before, but those that were made anew
+  by_core : (more : List Row) → TurnAll old mid t n more → (before : List Row) → HasFedRun old.auditor before → t ≡ length before / old.auditor.plan.cores → length before % old.auditor.plan.cores ≡ 0
+      → (c : ℕ) → c < n + 1 → (b : Bool) → (c == n) ≡ b → IsAgain old new t c
+  by_core more all before fed now whole c low true e other =
+      let here : c ≡ n = eqb-true c n e in
+      let was = all.fed before fed now whole in
+      subst (λ k. row_of_core new.lasts k ≡ row_of_core old.lasts k) (sym here)
+      (turn.again (before ++ more) was (in_tick_of more all before now whole) (λ same. other (ap (λ k. (row_of_core new.lasts k).tick) here ∙ same)) ∙ all.later n (omega arith) few)
+  by_core more all before fed now whole c low false e other =
+      let ne : c ≢ n = eqb-false c n e in
+      let first : c < n = omega (arith, low, ne) in
+      let same = (others c (apart c first)).1 in
+      same ∙ all.again before fed now whole c first (λ is. other (ap (λ (r : Row). r.tick) same ∙ is))
+
   pub turn_on : (more : List Row) → TurnAll old mid t n more → TurnAll old new t (n + 1) (more ++ r ∷ [])
   turn_on more all = record {
     size = length-append more (r ∷ []) ∙ ap (λ k. k + 1) all.size;
@@ -63,8 +87,9 @@ module _ {T : Type 0} (old mid new : JudgedRows T) (t n : ℕ) (r : Row) (few : 
         (subst (λ c. HasRow new t c r) (sym all.size) turn.row);
     fed = λ before fed now whole.
         let was = all.fed before fed now whole in
-        let tick : t ≡ length (before ++ more) / mid.auditor.plan.cores = same_tick (length before) old.auditor.plan.cores n t whole now low ∙ (ap (λ k. k / old.auditor.plan.cores) (ap (λ k. length before + k) (sym all.size) ∙ sym (length-append before more)) ∙ ap (λ (p : PlanModel). length (before ++ more) / p.cores) (sym plan)) in
-        subst (λ l. HasFedRun new.auditor l) (append_assoc before more (r ∷ [])) (turn.fed (before ++ more) was tick);
+        subst (λ l. HasFedRun new.auditor l) (append_assoc before more (r ∷ [])) (turn.fed (before ++ more) was (in_tick_of more all before now whole));
+    again = λ before fed now whole c l. by_core more all before fed now whole c l (c == n) refl;
+    later = λ c past l. (others c (beyond c past l)).1 ∙ all.later c (omega (arith, past)) l;
   }
 
 -- ---- whole ticks

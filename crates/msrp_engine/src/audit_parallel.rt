@@ -1,13 +1,14 @@
 //! The audit of a trace's text in pieces: the rows are gathered, and then judged side by side.
-ghost use Rattle.std.specs.Prelude.{◌≡◌, List, [], true, Some, Err, IfErr};
+ghost use Rattle.std.specs.Prelude.{◌≡◌, ◌++◌, ◌∷◌, List, [], true, Some, Err, IfErr, OnOk};
+ghost use Rattle.msrp_audit.specs.Audits.{HasFed};
 ghost use Rattle.msrp_plan.specs.declared.rows.Row.{Row as TraceRow};
 ghost use Rattle.msrp_trace.specs.Reading.{Told, rows_of};
 ghost use Rattle.msrp_engine.specs.Answered.{Answered, OfText, OfTexts, ReadsBoth};
 ghost use Rattle.msrp_engine.specs.AuditText.{AuditAnswers};
 ghost use Rattle.msrp_engine.specs.Findings.{finding, finding_of};
 ghost use Rattle.msrp_engine.specs.Judging.{rows_left};
-ghost use Rattle.msrp_engine.specs.Inside.Gathered.{Gathers, IsGathered, IsGatheredTo, found_in, is_missing};
-ghost use Rattle.msrp_engine.specs.Inside.Ticks.{AreRowsOf};
+ghost use Rattle.msrp_engine.specs.Inside.Gathered.{AreLike, Gathers, IsLike, IsGathered, IsGatheredTo, found_in, is_missing};
+ghost use Rattle.msrp_engine.specs.Inside.Ticks.{AreRowsOf, IsRowOf};
 ghost use Rattle.msrp_faults.specs.Outcomes.{is_trace_fault, is_audit_fault};
 
 use crate::audit::write_verdict;
@@ -24,7 +25,28 @@ use std::alloc::Global;
 use std::io::{Read, Write};
 use std::thread::Threads;
 
-// Gathers the rows of a tick that were taken.
+// Gathers the row of a core in a tick that was taken. One that wasn't made anew is, but for its tick, the one that stands so many rows before, where there
+// are as many.
+#[inline(always)]
+fn gather_row<T: Read>(
+    rows: &JudgedRows<'_, '_, T>,
+    tick: u32,
+    core: CoreId,
+    gathered: &mut Gathered,
+    back: usize,
+) -> Result<(), Memory>
+    requires { IsLike rows.now tick core.0 back gathered.old }
+    ensures pushed { OnOk result ((row : TraceRow) → IsRowOf rows.now tick core.0 row → gathered.new ≡ gathered.old ++ row ∷ []) }
+    ensures kept { IfErr result (λ _. gathered.new ≡ gathered.old) }
+{
+    if rows.is_anew(tick, core) || gathered.len() < back {
+        gathered.push(rows.row_in(tick, core))
+    } else {
+        gathered.push_like(back, rows.row_in(tick, core))
+    }
+}
+
+// Gathers the rows of a tick that were taken. One that wasn't made anew is like the core's last one, which stands as many rows before it as there are cores.
 #[inline(always)]
 fn gather_tick<T: Read>(
     rows: &JudgedRows<'_, '_, T>,
@@ -32,10 +54,12 @@ fn gather_tick<T: Read>(
     cores: u32,
     gathered: &mut Gathered,
 ) -> Result<(), Memory>
+    requires { AreLike rows.now tick cores gathered.old }
     ensures { (more : List TraceRow) → AreRowsOf rows.now tick cores more → Gathers result gathered.old gathered.new more }
 {
+    let back = cores as usize;
     for core in 0..cores {
-        gathered.push(rows.row_in(tick, CoreId(core)))?;
+        gather_row(rows, tick, CoreId(core), gathered, back)?;
     }
     Ok(())
 }
@@ -50,6 +74,7 @@ fn gather_ticks<'p, T: Read>(
 ) -> Result<(), Memory>
     requires plan { rows.old.auditor.plan ≡ plan.now }
     requires levels { levels.now ≡ plan.now }
+    requires fed { HasFed rows.old.auditor [] }
     requires none { gathered.old ≡ [] }
     ensures gathered { (told : Told) → rows_left T.remaining rows.old ≡ Some told → IsGatheredTo told gathered.new result (rows_left T.remaining rows.new) }
 {
@@ -73,6 +98,7 @@ fn gather_rows<'p, T: Read>(
 ) -> Result<(), CliFault>
     requires plan { rows.old.auditor.plan ≡ plan.now }
     requires levels { levels.now ≡ plan.now }
+    requires fed { HasFed rows.old.auditor [] }
     requires none { gathered.old ≡ [] }
     ensures gathered { (told : Told) → rows_left T.remaining rows.old ≡ Some told → IsGathered most told gathered.new result }
     ensures faults { IfErr result (λ fault. is_trace_fault fault ≡ true) }

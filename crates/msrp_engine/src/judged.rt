@@ -347,6 +347,7 @@ impl<'p, 't, T: Read> JudgedRows<'p, 't, T> {
         requires plan { self.old.auditor.plan ≡ plan.now }
         requires levels { levels.now ≡ plan.now }
         ensures plan { self.new.auditor.plan ≡ self.old.auditor.plan }
+        ensures version { self.new.rows.version ≡ self.old.rows.version }
         ensures taken { IfOk result (λ came. IfSome came (TakesTick T.remaining self.old self.new)) }
         ensures back { result ≡ Ok None → GoesBack T.remaining self.old self.new }
     {
@@ -377,6 +378,14 @@ impl<'p, 't, T: Read> JudgedRows<'p, 't, T> {
             };
         }
         Ok(())
+    }
+
+    /// Whether the row of a core was made anew in that tick, whose rows were taken. Elsewhere it is the core's last one again.
+    #[inline(always)]
+    pub(crate) fn is_anew(&self, tick: u32, core: CoreId) -> bool
+        ensures { result ≡ false → ¬ ((row_of_core self.now.lasts core.0).tick ≡ tick) }
+    {
+        kept_row(&self.lasts, core).tick == tick
     }
 
     /// The row of a core in a tick whose rows were taken.

@@ -1,5 +1,5 @@
 -- The rows of a trace's text that are gathered before they are judged, and what is found in them.
-use Rattle.std.specs.Prelude.{◌≡◌, ◌⊎◌, ◌≤◌, if◌then◌else◌, ℕ, Bool, true, false, ⊤, List, [], ◌++◌, Option, None, Some, length, option_map}
+use Rattle.std.specs.Prelude.{◌≡◌, ◌⊎◌, ◌≤◌, if◌then◌else◌, ℕ, Bool, true, false, ⊤, List, [], ◌++◌, Option, None, Some, length, option_map, ◌<◌, ◌+◌, ◌-◌, slice_get}
 use Rattle.std.specs.declared.result.Result.{Result}
 use Rattle.std.specs.declared.result.Result.TheVariants.{Ok, Err}
 use Rattle.msrp_plan.specs.declared.faults.Fault.{Fault}
@@ -12,7 +12,11 @@ use Rattle.msrp_faults.specs.declared.faults.CliFault.{CliFault}
 use Rattle.msrp_faults.specs.declared.faults.CliFault.TheVariants.{Read}
 use Rattle.msrp_faults.specs.declared.faults.CliFault.TheVariants as cli
 use Rattle.msrp_plan.specs.declared.faults.Memory.{Memory}
+use Rattle.msrp_plan.specs.Stretches.{in_tick}
+use Rattle.msrp_trace.specs.Laws.{as_read}
 use Rattle.msrp_trace.specs.Readers.{GivesRows}
+use Rattle.msrp_engine.specs.Inside.Kept.{row_of_core}
+use Rattle.msrp_engine.specs.declared.judged.JudgedRows.{JudgedRows}
 
 -- why no row behind these was gathered: there are as many as were asked for, or none is left; else a read failed, memory was
 -- refused, or the record behind them is refused
@@ -25,6 +29,14 @@ pub record IsGathered (most : ℕ) (told : Told) (rows : List Row) (ended : Resu
   pub rest : List Row
   pub whole : told.rows ≡ rows ++ rest
   pub end : EndsBy most told rows rest ended
+
+-- where the row of the core wasn't made anew in the tick, the one that stands so many rows before the end is the same but for its tick
+abbrev pub IsLike : {T : Type 0} → JudgedRows T → ℕ → ℕ → ℕ → List Row → Type 0
+IsLike j t c back gathered = ¬ ((row_of_core j.lasts c).tick ≡ t) → (r : Row) → back ≤ length gathered → slice_get gathered (length gathered - back) ≡ Some r → in_tick t (as_read j.rows.version (row_of_core j.lasts c)) ≡ in_tick t r
+
+-- so it is of each core, once the rows of those before it have been gathered too
+abbrev pub AreLike : {T : Type 0} → JudgedRows T → ℕ → ℕ → List Row → Type 0
+AreLike j t cores gathered = (c : ℕ) → c < cores → ¬ ((row_of_core j.lasts c).tick ≡ t) → (r : Row) → cores ≤ length gathered + c → slice_get gathered (length gathered + c - cores) ≡ Some r → in_tick t (as_read j.rows.version (row_of_core j.lasts c)) ≡ in_tick t r
 
 -- these rows were put behind those that were gathered, or, where memory was refused, the first of them
 abbrev pub Gathers : Result ⊤ Memory → List Row → List Row → List Row → Type 0

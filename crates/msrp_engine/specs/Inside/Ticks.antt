@@ -1,5 +1,5 @@
 -- The rows of whole ticks, in each of which the cores come by their numbers.
-use Rattle.std.specs.Prelude.{ℕ, List, [], ◌∷◌, ◌++◌, Option, Some, None, ◌≡◌, ◌/◌, ◌%◌, length, slice_get}
+use Rattle.std.specs.Prelude.{ℕ, List, [], ◌∷◌, ◌++◌, Option, Some, None, ◌≡◌, ◌<◌, ◌≤◌, ◌/◌, ◌%◌, length, slice_get}
 use Rattle.msrp_audit.specs.Audits.{AuditorModel, HasFed}
 use Rattle.msrp_plan.specs.Plan.{PlanModel}
 use Rattle.msrp_plan.specs.Runs.{IsRunStart}
@@ -46,11 +46,16 @@ HasRow j t c r = ¬ (text_of_core j.texts c ≡ []) → IsRowOf j t c r
 abbrev pub KeepsOthers : {T : Type 0} → JudgedRows T → JudgedRows T → ℕ → Type 0
 KeepsOthers old new core = (c : ℕ) → ¬ (c % 8 ≡ core % 8) → (text_of_core new.texts c ≡ text_of_core old.texts c) × (row_of_core new.lasts c ≡ row_of_core old.lasts c)
 
+-- a row that wasn't made anew in the tick is the one that was kept before
+abbrev pub IsAgain : {T : Type 0} → JudgedRows T → JudgedRows T → ℕ → ℕ → Type 0
+IsAgain old new t c = ¬ ((row_of_core new.lasts c).tick ≡ t) → row_of_core new.lasts c ≡ row_of_core old.lasts c
+
 -- the core had its turn in the tick that was due, and this row, which is kept, is taken for the one that came
 pub record Turn {T : Type 0} (old new : JudgedRows T) (t c : ℕ) (r : Row) : Type 0 where
   pub core : r.core.0 ≡ c
   pub row : HasRow new t c r
   pub fed : (rows : List Row) → HasFedRun old.auditor rows → t ≡ length rows / old.auditor.plan.cores → HasFedRun new.auditor (rows ++ r ∷ [])
+  pub again : (rows : List Row) → HasFedRun old.auditor rows → t ≡ length rows / old.auditor.plan.cores → IsAgain old new t c
 
 abbrev pub Turns : {T : Type 0} → JudgedRows T → JudgedRows T → ℕ → ℕ → Type 0
 Turns old new t c = (r : Row) × Turn old new t c r
@@ -61,6 +66,8 @@ pub record TurnAll {T : Type 0} (old new : JudgedRows T) (t n : ℕ) (more : Lis
   pub cores : (c : ℕ) (r : Row) → slice_get more c ≡ Some r → r.core.0 ≡ c
   pub rows : (c : ℕ) (r : Row) → slice_get more c ≡ Some r → HasRow new t c r
   pub fed : (rows : List Row) → HasFedRun old.auditor rows → t ≡ length rows / old.auditor.plan.cores → length rows % old.auditor.plan.cores ≡ 0 → HasFedRun new.auditor (rows ++ more)
+  pub again : (rows : List Row) → HasFedRun old.auditor rows → t ≡ length rows / old.auditor.plan.cores → length rows % old.auditor.plan.cores ≡ 0 → (c : ℕ) → c < n → IsAgain old new t c
+  pub later : (c : ℕ) → n ≤ c → c < 8 → row_of_core new.lasts c ≡ row_of_core old.lasts c
 
 abbrev pub TurnsAll : {T : Type 0} → JudgedRows T → JudgedRows T → ℕ → ℕ → Type 0
 TurnsAll old new t n = (more : List Row) × TurnAll old new t n more
@@ -70,6 +77,7 @@ pub record TakeTick {T : Type 0} (remaining : T → Option (List ℕ)) (old new 
   pub rows : AreRowsOf new t old.auditor.plan.cores more
   pub read : (told : Told) → rows_left remaining old ≡ Some told → GivesRows more told (rows_left remaining new)
   pub fed : (rows : List Row) → HasFedTicks old.auditor rows → HasFedTicks new.auditor (rows ++ more)
+  pub again : (rows : List Row) → HasFedTicks old.auditor rows → (c : ℕ) → c < old.auditor.plan.cores → IsAgain old new t c
 
 abbrev pub TakesTick : {T : Type 0} → (T → Option (List ℕ)) → JudgedRows T → JudgedRows T → ℕ → Type 0
 TakesTick remaining old new t = (more : List Row) × TakeTick remaining old new t more

@@ -37,5 +37,6 @@ returns-then-take_turns-clause-taken g c = λ yes.
         fed = λ rows was.
             ticks_on c.args.self.now.auditor j.auditor rows more c.take_turns.ensures.plan (turns.1.size ∙ cores) turns.1.cores was
             (turns.1.fed rows was.run (c.requires.due rows was.run.fed was.run.good) was.whole);
+        again = λ rows was k here. turns.1.again rows was.run (c.requires.due rows was.run.fed was.run.good) was.whole k (subst (λ n. k < n) (sym cores) here);
       },
     )

@@ -47,6 +47,7 @@ returns-in-Some-clause-turn g c =
             let awaits = e.awaits rows was.fed in
             let tick : t ≡ due.tick = now ∙ (ap (λ (p : PlanModel). length rows / p.cores) (sym c.repeat.ensures.plan) ∙ sym awaits.tick) in
             fed_on j.auditor c.accept.new.self rows row (ap (λ (a : AuditorModel). a.plan) same ∙ c.repeat.ensures.plan) was (c.accept.ensures.fed rows k due row awaits tick (read_as v t due)) (ap (λ (a : AuditorModel). a.fault) same ∙ awaits.fault);
+        again = λ rows was now other. refl;
       },
     )
 
@@ -69,5 +70,8 @@ returns-in-None-clause-turn g c =
             let awaits = e.awaits rows (subst (λ (a : AuditorModel). HasFed a rows) (sym c.in-None.ensures.none) was.fed) in
             let tick : t ≡ due.tick = now ∙ (ap (λ (p : PlanModel). length rows / p.cores) (sym plan) ∙ sym awaits.tick) in
             fed_on c.args.self.now.auditor c.accept-in-None.new.self rows row (ap (λ (a : AuditorModel). a.plan) same ∙ plan) was (c.accept-in-None.ensures.fed rows k due row awaits tick (read_as v t due)) (ap (λ (a : AuditorModel). a.fault) same ∙ awaits.fault);
+        again = λ rows was now other.
+            let awaits = e.awaits rows (subst (λ (a : AuditorModel). HasFed a rows) (sym c.in-None.ensures.none) was.fed) in
+            absurd (other (awaits.tick ∙ (ap (λ (p : PlanModel). length rows / p.cores) plan ∙ sym now)));
       },
     )

@@ -14,6 +14,8 @@ loop-core-init g c = record {
       size = refl;
       cores = λ k r is. absurd (cc);
       rows = λ k r is. absurd (cc);
+      again = λ rows was now whole k low. absurd (let no : ⊥ = omega (arith, low) in no);
+      later = λ k past low. refl;
       fed = λ rows was now whole. subst (λ l. HasFedRun c.args.self.now.auditor l) (sym (append-nil rows)) was;
     },
   );
