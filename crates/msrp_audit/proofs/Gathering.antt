@@ -16,25 +16,25 @@ use Rattle.msrp_audit.specs.Inside.Gathered.{job_in, res_in, row_of, rows_of}
 -- what is kept of a row, by way of the job, the resource and the ahead that stand in place of those that it lacks
 pub record Keeps (row : Row) (j : JobId) (g : ResId) (a : ℕ) (e : KeptRow) : Type 0 where
   pub tick : e.tick ≡ row.tick
-  pub core : e.core ≡ row.core.0
-  pub kind : e.kind ≡ row.kind
-  pub task : e.task ≡ j.task.0
-  pub k : e.k ≡ j.k
-  pub res : e.res ≡ g.0
-  pub carries : e.carries ≡ is_some row.ahead
-  pub ahead : e.ahead ≡ a
+  pub core : e.what.core ≡ row.core.0
+  pub kind : e.what.kind ≡ row.kind
+  pub task : e.what.task ≡ j.task.0
+  pub k : e.what.k ≡ j.k
+  pub res : e.what.res ≡ g.0
+  pub carries : e.what.carries ≡ is_some row.ahead
+  pub ahead : e.what.ahead ≡ a
 
-kept_job : (e : KeptRow) (j : JobId) → e.task ≡ j.task.0 → e.k ≡ j.k → job_in e ≡ j
-kept_job e j t k = ap (λ n. record { task = record { 0 = n }; k = e.k }) t ∙ ap (λ n. record { task = j.task; k = n }) k
+kept_job : (e : KeptRow) (j : JobId) → e.what.task ≡ j.task.0 → e.what.k ≡ j.k → job_in e ≡ j
+kept_job e j t k = ap (λ n. record { task = record { 0 = n }; k = e.what.k }) t ∙ ap (λ n. record { task = j.task; k = n }) k
 
-kept_res : (e : KeptRow) (g : ResId) → e.res ≡ g.0 → res_in e ≡ g
+kept_res : (e : KeptRow) (g : ResId) → e.what.res ≡ g.0 → res_in e ≡ g
 kept_res e g n = ap (λ n. record { 0 = n }) n
 
 pub told : (row : Row) (d_job : JobId) (d_res : ResId) (d_ahead : ℕ) (j : JobId) (g : ResId) (a : ℕ) (e : KeptRow) → j ≡ unwrap_or row.job d_job → g ≡ unwrap_or row.res d_res → a ≡ unwrap_or row.ahead d_ahead → Keeps row j g a e → row_of e ≡ row
 told row d_job d_res d_ahead j g a e is_job is_res is_ahead k =
     let job = ap (λ n. job_of_kind n (job_in e)) k.kind ∙ (ap (job_of_kind row.kind) (kept_job e j k.task k.k ∙ is_job) ∙ job_told row.kind row.job row.res d_job row.shape) in
     let res = ap (λ n. res_of_kind n (res_in e)) k.kind ∙ (ap (res_of_kind row.kind) (kept_res e g k.res ∙ is_res) ∙ res_told row.kind row.job row.res d_res row.shape) in
-    let ahead = ap (λ n. ahead_of_kind n e.carries e.ahead) k.kind ∙ (ap (λ b. ahead_of_kind row.kind b e.ahead) k.carries ∙ (ap (ahead_of_kind row.kind (is_some row.ahead)) (k.ahead ∙ is_ahead) ∙ ahead_told row.kind row.ahead d_ahead row.carrier)) in
+    let ahead = ap (λ n. ahead_of_kind n e.what.carries e.what.ahead) k.kind ∙ (ap (λ b. ahead_of_kind row.kind b e.what.ahead) k.carries ∙ (ap (ahead_of_kind row.kind (is_some row.ahead)) (k.ahead ∙ is_ahead) ∙ ahead_told row.kind row.ahead d_ahead row.carrier)) in
     same_row (row_of e) row (same_parts (row_of e) row k.tick (ap (λ n. record { 0 = n }) k.core) k.kind job res ahead)
 
 -- ---- the first of the rows

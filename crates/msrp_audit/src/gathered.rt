@@ -11,10 +11,9 @@ use std::alloc::Global;
 use std::marker::Model;
 use std::mem::size_of;
 
-/// A row in ten bytes. What a row of this kind lacks stands here all the same, and is not read.
+// What is kept of a row beside its tick: eight bytes, which are copied at once.
 #[derive(Clone, Copy, Debug, PartialEq, Eq)]
-pub(crate) struct KeptRow {
-    tick: u16,
+struct What {
     k: u16,
     core: u8,
     kind: Kind,
@@ -22,6 +21,13 @@ pub(crate) struct KeptRow {
     res: u8,
     carries: bool,
     ahead: u8,
+}
+
+/// A row in ten bytes. What a row of this kind lacks stands here all the same, and is not read.
+#[derive(Clone, Copy, Debug, PartialEq, Eq)]
+pub(crate) struct KeptRow {
+    tick: u16,
+    what: What,
 }
 
 const _: () = prove!(size_of::<KeptRow>() == 10);
@@ -47,8 +53,7 @@ impl KeptRow {
         if wide > u16::MAX as u32 || narrow > u8::MAX as u32 {
             return None;
         }
-        Some(KeptRow {
-            tick: row.tick as u16,
+        let what = What {
             k: job.k as u16,
             core: row.core.0 as u8,
             kind: row.kind,
@@ -56,38 +61,42 @@ impl KeptRow {
             res: res.0 as u8,
             carries: row.ahead.is_some(),
             ahead: ahead as u8,
+        };
+        Some(KeptRow {
+            tick: row.tick as u16,
+            what,
         })
     }
 
     #[inline(always)]
     fn job(&self) -> Option<JobId>
-        ensures { result ≡ job_of_kind self.now.kind (job_in self.now) }
+        ensures { result ≡ job_of_kind self.now.what.kind (job_in self.now) }
     {
-        match self.kind {
+        match self.what.kind {
             Kind::Idle => None,
             _ => Some(JobId {
-                task: TaskId(self.task as u32),
-                k: self.k as u32,
+                task: TaskId(self.what.task as u32),
+                k: self.what.k as u32,
             }),
         }
     }
 
     #[inline(always)]
     fn res(&self) -> Option<ResId>
-        ensures { result ≡ res_of_kind self.now.kind (res_in self.now) }
+        ensures { result ≡ res_of_kind self.now.what.kind (res_in self.now) }
     {
-        match self.kind {
+        match self.what.kind {
             Kind::Idle | Kind::Run => None,
-            _ => Some(ResId(self.res as u32)),
+            _ => Some(ResId(self.what.res as u32)),
         }
     }
 
     #[inline(always)]
     fn ahead(&self) -> Option<u32>
-        ensures { result ≡ ahead_of_kind self.now.kind self.now.carries self.now.ahead }
+        ensures { result ≡ ahead_of_kind self.now.what.kind self.now.what.carries self.now.what.ahead }
     {
-        match self.kind {
-            Kind::Queue if self.carries => Some(self.ahead as u32),
+        match self.what.kind {
+            Kind::Queue if self.what.carries => Some(self.what.ahead as u32),
             _ => None,
         }
     }
@@ -99,13 +108,7 @@ impl KeptRow {
     {
         KeptRow {
             tick,
-            k: self.k,
-            core: self.core,
-            kind: self.kind,
-            task: self.task,
-            res: self.res,
-            carries: self.carries,
-            ahead: self.ahead,
+            what: self.what,
         }
     }
 
@@ -114,9 +117,9 @@ impl KeptRow {
     fn names(&self, res: ResId) -> bool
         ensures { result ≡ is_on res.0 (row_of self.now).res }
     {
-        match self.kind {
+        match self.what.kind {
             Kind::Idle | Kind::Run => false,
-            _ => self.res as u32 == res.0,
+            _ => self.what.res as u32 == res.0,
         }
     }
 
@@ -130,8 +133,8 @@ impl KeptRow {
         let ahead = self.ahead();
         Row {
             tick: self.tick as u32,
-            core: CoreId(self.core as u32),
-            kind: self.kind,
+            core: CoreId(self.what.core as u32),
+            kind: self.what.kind,
             job,
             res,
             ahead,

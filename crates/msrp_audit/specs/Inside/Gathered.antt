@@ -9,22 +9,22 @@ use Rattle.msrp_audit.specs.declared.gathered.KeptRow.{KeptRow}
 
 -- the job and the resource whose numbers are kept so
 abbrev pub job_in : KeptRow → JobId
-job_in e = record { task = record { 0 = e.task }; k = e.k }
+job_in e = record { task = record { 0 = e.what.task }; k = e.what.k }
 
 abbrev pub res_in : KeptRow → ResId
-res_in e = record { 0 = e.res }
+res_in e = record { 0 = e.what.res }
 
 -- the row that is kept so
 abbrev pub row_of : KeptRow → Row
 row_of e = record {
   tick = e.tick;
-  core = record { 0 = e.core };
-  kind = e.kind;
-  job = job_of_kind e.kind (job_in e);
-  res = res_of_kind e.kind (res_in e);
-  ahead = ahead_of_kind e.kind e.carries e.ahead;
-  shape = shape_of_kind e.kind (job_in e) (res_in e);
-  carrier = carrier_of_kind e.kind e.carries e.ahead;
+  core = record { 0 = e.what.core };
+  kind = e.what.kind;
+  job = job_of_kind e.what.kind (job_in e);
+  res = res_of_kind e.what.kind (res_in e);
+  ahead = ahead_of_kind e.what.kind e.what.carries e.what.ahead;
+  shape = shape_of_kind e.what.kind (job_in e) (res_in e);
+  carrier = carrier_of_kind e.what.kind e.what.carries e.what.ahead;
 }
 
 -- the rows that are kept so, and then the rest
