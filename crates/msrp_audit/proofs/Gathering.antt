@@ -1,6 +1,8 @@
 -- What is kept of a row tells it, and the first of the rows that are kept.
-use Rattle.std.proofs.Common.{◌≡◌, ℕ, zero, suc, ◌-◌, Some, List, [], ◌∷◌, ◌++◌, length, map, min, take, is_some, option_map, slice_get, refl, ap, sym, ◌∙◌, arith, append-nil}
-use Rattle.std.proofs.lemmas.List.{length-map, map-append, take-map, take_min}
+use Rattle.std.proofs.Common.{◌≡◌, ℕ, ◌<◌, ◌≤◌, zero, suc, ◌+◌, ◌-◌, Some, List, [], ◌∷◌, ◌++◌, length, map, min, drop, take, is_some, option_map, slice_get, slice_index_or, slice_set, refl, ap, sym, ◌∙◌, arith, append-assoc, append-nil}
+use Rattle.std.proofs.lemmas.List.{drop-map, length-map, map-append, map-set, take-map, take_min}
+use Rattle.std.proofs.lemmas.List.Edits.{between_more}
+use Rattle.std.specs.List.{between}
 use Rattle.std.proofs.lemmas.Option.{slice_get-map}
 use Rattle.std.specs.Option.{unwrap_or}
 use Rattle.msrp_plan.specs.Shape.{ahead_of_kind, job_of_kind, res_of_kind}
@@ -11,7 +13,7 @@ use Rattle.msrp_plan.specs.declared.rows.Row.{Row}
 use Rattle.msrp_plan.proofs.KindParts.{ahead_told, job_told, res_told, same_parts}
 use Rattle.msrp_plan.proofs.Legality.SameRow.{same_row}
 use Rattle.msrp_audit.specs.declared.gathered.KeptRow.{KeptRow}
-use Rattle.msrp_audit.specs.Inside.Gathered.{job_in, res_in, row_of, rows_of}
+use Rattle.msrp_audit.specs.Inside.Gathered.{job_in, kept_in_tick, res_in, row_of, rows_of}
 
 -- what is kept of a row, by way of the job, the resource and the ahead that stand in place of those that it lacks
 pub record Keeps (row : Row) (j : JobId) (g : ResId) (a : ℕ) (e : KeptRow) : Type 0 where
@@ -49,12 +51,16 @@ take_both (x ∷ xs) ys (suc n) =
     let less : n - length xs ≡ suc n - suc (length xs) = omega arith in
     ap (λ l. x ∷ l) (take_both xs ys n ∙ ap (λ k. take n xs ++ take k ys) less)
 
+pub rows_cut : (kept : List KeptRow) (rest : List Row) (most : ℕ) → rows_of (take most kept) (take (most - length kept) rest) ≡ take most (rows_of kept rest)
+rows_cut kept rest most =
+    ap (λ n. map row_of (take most kept) ++ take (most - n) rest) (sym (length-map kept row_of)) ∙ (ap (λ l. l ++ take (most - length (map row_of kept)) rest) (sym (take-map row_of most kept)) ∙ sym (take_both (map row_of kept) rest most))
+
 pub rows_first : (kept : List KeptRow) (rest : List Row) (most n m : ℕ) → n ≡ min most (length kept) → m ≡ min (most - n) (length rest) → rows_of (take n kept) (take m rest) ≡ take most (rows_of kept rest)
 rows_first kept rest most n m is_n is_m =
     let few = ap (λ k. take k kept) is_n ∙ take_min most kept in
-    let more = ap (λ k. take k rest) is_m ∙ take_min (most - n) rest in
-    let left : most - n ≡ most - length (map row_of kept) = omega (arith, is_n, length-map kept row_of) in
-    ap (λ l. map row_of l ++ take m rest) few ∙ (ap (λ l. map row_of (take most kept) ++ l) (more ∙ ap (λ k. take k rest) left) ∙ (ap (λ l. l ++ take (most - length (map row_of kept)) rest) (sym (take-map row_of most kept)) ∙ sym (take_both (map row_of kept) rest most)))
+    let left : most - n ≡ most - length kept = omega (arith, is_n) in
+    let more = ap (λ k. take k rest) is_m ∙ (take_min (most - n) rest ∙ ap (λ k. take k rest) left) in
+    ap (λ l. rows_of l (take m rest)) few ∙ (ap (rows_of (take most kept)) more ∙ rows_cut kept rest most)
 
 -- ---- a row like one that is kept
 pub none_left : (rows : List Row) → length rows ≡ 0 → rows ≡ []
@@ -69,3 +75,41 @@ like_pushed ks new rest now k like row back t view none is in_its tick alike pus
     ap (λ l. slice_get l (length l - back)) whole ∙ (ap (λ n. slice_get (map row_of ks) (n - back)) (length-map ks row_of) ∙ (slice_get-map row_of ks (length ks - back) ∙ ap (option_map row_of) is)) in
     let same : row ≡ row_of like = alike (row_of k) at ∙ (ap (λ n. in_tick n (row_of k)) (sym tick) ∙ sym in_its) in
     ap (λ l. rows_of l rest) pushed ∙ (ap (λ r. map row_of (ks ++ like ∷ []) ++ r) none ∙ (append-nil (map row_of (ks ++ like ∷ [])) ∙ (map-append row_of ks (like ∷ []) ∙ (ap (λ l. l ++ row_of like ∷ []) (sym whole) ∙ ap (λ r. now ++ r ∷ []) (sym same)))))
+
+-- ---- all rows are kept in few bytes
+pub record AreKept (ks : List KeptRow) (now : List Row) : Type 0 where
+  pub rows : now ≡ map row_of ks
+  pub len : length ks ≡ length now
+
+pub all_kept : (ks : List KeptRow) (rest now : List Row) → rows_of ks rest ≡ now → length rest ≡ 0 → AreKept ks now
+all_kept ks rest now view none =
+    let rows = sym view ∙ (ap (rows_of ks) (none_left rest none) ∙ append-nil (map row_of ks)) in
+    record { rows = rows; len = sym (ap length rows ∙ length-map ks row_of) }
+
+-- one of them is another row
+pub replaced : (ks new : List KeptRow) (rest now : List Row) (k : KeptRow) (row : Row) (i : ℕ) → rows_of ks rest ≡ now → length rest ≡ 0 → row_of k ≡ row → new ≡ slice_set ks i k → rows_of new rest ≡ slice_set now i row
+replaced ks new rest now k row i view none is set =
+    (all_kept new rest (rows_of new rest) refl none).rows ∙ (ap (map row_of) set ∙ (map-set row_of ks i k ∙ (ap (slice_set (map row_of ks) i) is ∙ ap (λ l. slice_set l i row) (sym (all_kept ks rest now view none).rows))))
+
+-- some of them stand once more in another tick
+in_ticks : (t : ℕ) (ks : List KeptRow) → map row_of (map (kept_in_tick t) ks) ≡ map (in_tick t) (map row_of ks)
+in_ticks t [] = refl
+in_ticks t (k ∷ ks) = ap (λ l. in_tick t (row_of k) ∷ l) (in_ticks t ks)
+
+pub repeated : (ks new : List KeptRow) (rest now : List Row) (t back : ℕ) → rows_of ks rest ≡ now → length rest ≡ 0 → new ≡ ks ++ map (kept_in_tick t) (drop (length ks - back) ks) → rows_of new rest ≡ now ++ map (in_tick t) (drop (length now - back) now)
+repeated ks new rest now t back view none is =
+    let i = length ks - back in
+    let all = all_kept ks rest now view none in
+    let again = in_ticks t (drop i ks) ∙ ap (map (in_tick t)) (sym (drop-map row_of i ks)) in
+    (all_kept new rest (rows_of new rest) refl none).rows
+    ∙ (ap (map row_of) is ∙ (map-append row_of ks (map (kept_in_tick t) (drop i ks)) ∙ (ap (λ l. map row_of ks ++ l) again
+    ∙ (ap (λ l. l ++ map (in_tick t) (drop i l)) (sym all.rows) ∙ ap (λ n. now ++ map (in_tick t) (drop (n - back) now)) all.len))))
+
+-- one more of them does
+pub one_again : (ks so_far new : List KeptRow) (t from i : ℕ) (k : KeptRow) → so_far ≡ ks ++ map (kept_in_tick t) (between from i ks) → from ≤ i → i < length ks → k ≡ slice_index_or so_far i k → new ≡ so_far ++ kept_in_tick t k ∷ []
+    → new ≡ ks ++ map (kept_in_tick t) (between from (i + 1) ks)
+one_again ks so_far new t from i k rows after within is pushed =
+    let f = kept_in_tick t in
+    let at : slice_index_or ks i k ≡ k = sym (is ∙ (ap (λ l. slice_index_or l i k) rows ∙ get_or-append_left ks (map f (between from i ks)) i k within)) in
+    let more : between from (i + 1) ks ≡ between from i ks ++ k ∷ [] = between_more ks from i k after within ∙ ap (λ x. between from i ks ++ x ∷ []) at in
+    pushed ∙ (ap (λ l. l ++ f k ∷ []) rows ∙ (append-assoc ks (map f (between from i ks)) (f k ∷ []) ∙ (ap (λ l. ks ++ l) (sym (map-append f (between from i ks) (k ∷ []))) ∙ ap (λ l. ks ++ map f l) (sym more))))

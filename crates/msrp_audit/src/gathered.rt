@@ -1,10 +1,10 @@
 //! Rows that are gathered before they are judged, in as few bytes as they need.
-ghost use Rattle.std.specs.Prelude.{◌≡◌, ◌<◌, ◌++◌, ◌∷◌, [], length, slice_index_or, take, IfErr, IfOk, IfSome, OnOk, Some, slice_get, ◌-◌};
+ghost use Rattle.std.specs.Prelude.{◌≡◌, ◌<◌, ◌≤◌, ◌++◌, ◌∷◌, [], ◌+◌, ◌-◌, length, map, slice_get, slice_index_or, slice_set, drop, take, IfErr, IfOk, IfSome, Ok, OnOk, Some, true, false, vec_capacity, vec_len};
 ghost use Rattle.msrp_plan.specs.Queues.{is_on};
 ghost use Rattle.msrp_plan.specs.Stretches.{in_tick};
 ghost use Rattle.msrp_plan.specs.declared.rows.Row.{Row as TraceRow};
 ghost use Rattle.msrp_plan.specs.Shape.{ahead_of_kind, job_of_kind, res_of_kind};
-ghost use Rattle.msrp_audit.specs.Inside.Gathered.{job_in, res_in, row_of};
+ghost use Rattle.msrp_audit.specs.Inside.Gathered.{job_in, kept_in_tick, res_in, row_of};
 
 use msrp_plan::{CoreId, JobId, Kind, Memory, ResId, Row, TaskId};
 use std::alloc::Global;
@@ -208,6 +208,20 @@ impl<'a> Rows<'a> {
     }
 }
 
+// Adds the last so many rows once more, in another tick. There is room for them.
+#[inline(always)]
+fn repeat_rows(kept: &mut Vec<KeptRow>, back: usize, tick: u16)
+    requires rows { back ≤ vec_len kept.old }
+    requires room { vec_len kept.old + back ≤ vec_capacity kept.old }
+    ensures { kept.new.items ≡ kept.old.items ++ map (kept_in_tick tick) (drop (length kept.old.items - back) kept.old.items) }
+{
+    let most = kept.len();
+    for i in most - back..most {
+        let what = kept[i].what;
+        kept.push_reserved(KeptRow { tick, what });
+    }
+}
+
 /// Rows that are gathered before they are judged: ten bytes each, as long as their numbers are small, as those of a plan's
 /// rows are. From the first one on whose numbers aren't, they are kept as they are.
 #[derive(Drop)]
@@ -267,6 +281,48 @@ impl Gathered {
             return Ok(());
         }
         self.push(row)
+    }
+
+    /// Adds the last so many rows once more, in another tick, and answers whether it did. It doesn't where there are fewer, or
+    /// where a row or the tick has too great numbers: then, and where memory is refused, nothing changes.
+    #[inline(always)]
+    pub fn repeat(&mut self, back: usize, tick: u32) -> Result<bool, Memory>
+        ensures again { result ≡ Ok true → (back ≤ length self.old) × (self.new ≡ self.old ++ map (in_tick tick) (drop (length self.old - back) self.old)) }
+        ensures kept { ¬ (result ≡ Ok true) → self.new ≡ self.old }
+    {
+        if !self.rest.is_empty() || back > self.kept.len() || tick > u16::MAX as u32 {
+            return Ok(false);
+        }
+        self.kept.reserve(back)?;
+        repeat_rows(&mut self.kept, back, tick as u16);
+        Ok(true)
+    }
+
+    /// Puts a row in the place of the one that stands so many before the end, and answers whether it did. It doesn't where no
+    /// row stands there, or where the row or one of the others has too great numbers: then nothing changes.
+    #[inline(always)]
+    pub fn replace(&mut self, back: usize, row: Row) -> bool
+        ensures put { result ≡ true → (0 < back) × (back ≤ length self.old) × (self.new ≡ slice_set self.old (length self.old - back) row) }
+        ensures kept { result ≡ false → self.new ≡ self.old }
+    {
+        let kept = self.kept.len();
+        if !self.rest.is_empty() || back == 0 || back > kept {
+            return false;
+        }
+        let Some(row) = KeptRow::of(row) else {
+            return false;
+        };
+        self.kept[kept - back] = row;
+        true
+    }
+
+    /// Takes the last so many rows back, or all if there are fewer.
+    pub fn cut(&mut self, back: usize)
+        ensures { self.new ≡ take (length self.old - back) self.old }
+    {
+        let most = self.len().saturating_sub(back);
+        self.rest.truncate(most.saturating_sub(self.kept.len()));
+        self.kept.truncate(most);
     }
 
     /// The number of rows.
