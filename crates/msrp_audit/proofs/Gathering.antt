@@ -1,9 +1,8 @@
 -- What is kept of a row tells it, and the first of the rows that are kept.
-use Rattle.std.proofs.Common.{◌≡◌, ℕ, ◌<◌, ◌≤◌, zero, suc, ◌+◌, ◌-◌, Some, List, [], ◌∷◌, ◌++◌, length, map, min, drop, take, is_some, option_map, slice_get, slice_index_or, slice_set, refl, ap, sym, ◌∙◌, arith, append-assoc, append-nil}
-use Rattle.std.proofs.lemmas.List.{drop-map, length-map, map-append, map-set, take-map, take_min}
+use Rattle.std.proofs.Common.{◌≡◌, ℕ, ◌<◌, ◌≤◌, zero, suc, ◌+◌, ◌-◌, List, [], ◌∷◌, ◌++◌, length, map, min, drop, take, is_some, slice_index_or, slice_set, refl, ap, sym, ◌∙◌, arith, append_assoc, append-nil}
+use Rattle.std.proofs.lemmas.List.{drop-map, get_or_append_left, length-map, map-append, map-set, take-map, take_min}
 use Rattle.std.proofs.lemmas.List.Edits.{between_more}
 use Rattle.std.specs.List.{between}
-use Rattle.std.proofs.lemmas.Option.{slice_get-map}
 use Rattle.std.specs.Option.{unwrap_or}
 use Rattle.msrp_plan.specs.Shape.{ahead_of_kind, job_of_kind, res_of_kind}
 use Rattle.msrp_plan.specs.declared.ids.JobId.{JobId}
@@ -62,21 +61,11 @@ rows_first kept rest most n m is_n is_m =
     let more = ap (λ k. take k rest) is_m ∙ (take_min (most - n) rest ∙ ap (λ k. take k rest) left) in
     ap (λ l. rows_of l (take m rest)) few ∙ (ap (rows_of (take most kept)) more ∙ rows_cut kept rest most)
 
--- ---- a row like one that is kept
-pub none_left : (rows : List Row) → length rows ≡ 0 → rows ≡ []
+-- ---- all rows are kept in few bytes
+none_left : (rows : List Row) → length rows ≡ 0 → rows ≡ []
 none_left [] e = refl
 none_left (r ∷ rows) e = absurd (let no : ⊥ = omega (arith, e) in no)
 
-pub like_pushed : (ks new : List KeptRow) (rest now : List Row) (k like : KeptRow) (row : Row) (back t : ℕ) → rows_of ks rest ≡ now → rest ≡ [] → slice_get ks (length ks - back) ≡ Some k → row_of like ≡ in_tick t (row_of k) → t ≡ row.tick
-    → ((r : Row) → slice_get now (length now - back) ≡ Some r → row ≡ in_tick row.tick r) → new ≡ ks ++ like ∷ [] → rows_of new rest ≡ now ++ row ∷ []
-like_pushed ks new rest now k like row back t view none is in_its tick alike pushed =
-    let whole : now ≡ map row_of ks = sym view ∙ (ap (λ r. map row_of ks ++ r) none ∙ append-nil (map row_of ks)) in
-    let at : slice_get now (length now - back) ≡ Some (row_of k) =
-    ap (λ l. slice_get l (length l - back)) whole ∙ (ap (λ n. slice_get (map row_of ks) (n - back)) (length-map ks row_of) ∙ (slice_get-map row_of ks (length ks - back) ∙ ap (option_map row_of) is)) in
-    let same : row ≡ row_of like = alike (row_of k) at ∙ (ap (λ n. in_tick n (row_of k)) (sym tick) ∙ sym in_its) in
-    ap (λ l. rows_of l rest) pushed ∙ (ap (λ r. map row_of (ks ++ like ∷ []) ++ r) none ∙ (append-nil (map row_of (ks ++ like ∷ [])) ∙ (map-append row_of ks (like ∷ []) ∙ (ap (λ l. l ++ row_of like ∷ []) (sym whole) ∙ ap (λ r. now ++ r ∷ []) (sym same)))))
-
--- ---- all rows are kept in few bytes
 pub record AreKept (ks : List KeptRow) (now : List Row) : Type 0 where
   pub rows : now ≡ map row_of ks
   pub len : length ks ≡ length now
@@ -110,6 +99,6 @@ pub one_again : (ks so_far new : List KeptRow) (t from i : ℕ) (k : KeptRow) �
     → new ≡ ks ++ map (kept_in_tick t) (between from (i + 1) ks)
 one_again ks so_far new t from i k rows after within is pushed =
     let f = kept_in_tick t in
-    let at : slice_index_or ks i k ≡ k = sym (is ∙ (ap (λ l. slice_index_or l i k) rows ∙ get_or-append_left ks (map f (between from i ks)) i k within)) in
+    let at : slice_index_or ks i k ≡ k = sym (is ∙ (ap (λ l. slice_index_or l i k) rows ∙ get_or_append_left ks (map f (between from i ks)) k i within)) in
     let more : between from (i + 1) ks ≡ between from i ks ++ k ∷ [] = between_more ks from i k after within ∙ ap (λ x. between from i ks ++ x ∷ []) at in
-    pushed ∙ (ap (λ l. l ++ f k ∷ []) rows ∙ (append-assoc ks (map f (between from i ks)) (f k ∷ []) ∙ (ap (λ l. ks ++ l) (sym (map-append f (between from i ks) (k ∷ []))) ∙ ap (λ l. ks ++ map f l) (sym more))))
+    pushed ∙ (ap (λ l. l ++ f k ∷ []) rows ∙ (append_assoc ks (map f (between from i ks)) (f k ∷ []) ∙ (ap (λ l. ks ++ l) (sym (map-append f (between from i ks) (k ∷ []))) ∙ ap (λ l. ks ++ map f l) (sym more))))

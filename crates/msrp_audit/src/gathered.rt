@@ -1,5 +1,5 @@
 //! Rows that are gathered before they are judged, in as few bytes as they need.
-ghost use Rattle.std.specs.Prelude.{◌≡◌, ◌<◌, ◌≤◌, ◌++◌, ◌∷◌, [], ◌+◌, ◌-◌, length, map, slice_get, slice_index_or, slice_set, drop, take, IfErr, IfOk, IfSome, Ok, OnOk, Some, true, false, vec_capacity, vec_len};
+ghost use Rattle.std.specs.Prelude.{◌≡◌, ◌<◌, ◌≤◌, ◌++◌, ◌∷◌, [], ◌+◌, ◌-◌, length, map, slice_index_or, slice_set, drop, take, IfErr, IfOk, IfSome, Ok, OnOk, true, false, vec_capacity, vec_len};
 ghost use Rattle.msrp_plan.specs.Queues.{is_on};
 ghost use Rattle.msrp_plan.specs.Stretches.{in_tick};
 ghost use Rattle.msrp_plan.specs.declared.rows.Row.{Row as TraceRow};
@@ -98,17 +98,6 @@ impl KeptRow {
         match self.what.kind {
             Kind::Queue if self.what.carries => Some(self.what.ahead as u32),
             _ => None,
-        }
-    }
-
-    // The row, in another tick.
-    #[inline(always)]
-    fn in_tick(self, tick: u16) -> KeptRow
-        ensures { row_of result ≡ in_tick tick (row_of self) }
-    {
-        KeptRow {
-            tick,
-            what: self.what,
         }
     }
 
@@ -265,22 +254,6 @@ impl Gathered {
         }
         self.rest.push(row)?;
         Ok(())
-    }
-
-    /// Adds a row that is, but for its tick, the one that stands so many rows before the end: what is kept of that one is copied.
-    #[inline(always)]
-    pub fn push_like(&mut self, back: usize, row: Row) -> Result<(), Memory>
-        requires { (r : TraceRow) → slice_get self.old (length self.old - back) ≡ Some r → row ≡ in_tick row.tick r }
-        ensures pushed { OnOk result (self.new ≡ self.old ++ row ∷ []) }
-        ensures kept { IfErr result (λ _. self.new ≡ self.old) }
-    {
-        let kept = self.kept.len();
-        if self.rest.is_empty() && 0 < back && back <= kept && row.tick <= u16::MAX as u32 {
-            let like = self.kept[kept - back].in_tick(row.tick as u16);
-            self.kept.push(like)?;
-            return Ok(());
-        }
-        self.push(row)
     }
 
     /// Adds the last so many rows once more, in another tick, and answers whether it did. It doesn't where there are fewer, or
