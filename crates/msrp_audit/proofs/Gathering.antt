@@ -1,9 +1,11 @@
 -- What is kept of a row tells it, and the first of the rows that are kept.
-use Rattle.std.proofs.Common.{◌≡◌, ℕ, ◌<◌, ◌≤◌, zero, suc, ◌+◌, ◌-◌, List, [], ◌∷◌, ◌++◌, length, map, min, drop, take, is_some, slice_index_or, slice_set, refl, ap, sym, ◌∙◌, arith, append_assoc, append-nil}
-use Rattle.std.proofs.lemmas.List.{drop-map, get_or_append_left, length-map, map-append, map-set, take-map, take_min}
+use Rattle.std.proofs.Common.{◌≡◌, ℕ, ◌<◌, ◌≤◌, zero, suc, ◌+◌, ◌-◌, List, [], ◌∷◌, ◌++◌, Option, Some, None, IfSome, subst, length, map, min, drop, take, is_some, slice_get, slice_index_or, slice_set, refl, ap, sym, ◌∙◌, arith, append_assoc, append-nil}
+use Rattle.std.proofs.lemmas.List.{drop_at, drop-map, get_or_append_left, length-map, map-append, map-set, take-map, take_min}
+use Rattle.std.proofs.lemmas.List.Elements.{All-drop, All-head, All-same}
 use Rattle.std.proofs.lemmas.List.Edits.{between_more}
-use Rattle.std.specs.List.{between}
-use Rattle.std.specs.Option.{unwrap_or}
+use Rattle.std.specs.List.{All, between}
+use Rattle.std.proofs.lemmas.Option.{none-some, same_Some}
+use Rattle.std.specs.Option.{ForSome, unwrap_or}
 use Rattle.msrp_plan.specs.Shape.{ahead_of_kind, job_of_kind, res_of_kind}
 use Rattle.msrp_plan.specs.declared.ids.JobId.{JobId}
 use Rattle.msrp_plan.specs.declared.ids.ResId.{ResId}
@@ -12,6 +14,7 @@ use Rattle.msrp_plan.specs.declared.rows.Row.{Row}
 use Rattle.msrp_plan.proofs.KindParts.{ahead_told, job_told, res_told, same_parts}
 use Rattle.msrp_plan.proofs.Legality.SameRow.{same_row}
 use Rattle.msrp_audit.specs.declared.gathered.KeptRow.{KeptRow}
+use Rattle.msrp_audit.specs.Narrow.{IsNarrow}
 use Rattle.msrp_audit.specs.Inside.Gathered.{job_in, kept_in_tick, res_in, row_of, rows_of}
 
 -- what is kept of a row, by way of the job, the resource and the ahead that stand in place of those that it lacks
@@ -102,3 +105,14 @@ one_again ks so_far new t from i k rows after within is pushed =
     let at : slice_index_or ks i k ≡ k = sym (is ∙ (ap (λ l. slice_index_or l i k) rows ∙ get_or_append_left ks (map f (between from i ks)) k i within)) in
     let more : between from (i + 1) ks ≡ between from i ks ++ k ∷ [] = between_more ks from i k after within ∙ ap (λ x. between from i ks ++ x ∷ []) at in
     pushed ∙ (ap (λ l. l ++ f k ∷ []) rows ∙ (append_assoc ks (map f (between from i ks)) (f k ∷ []) ∙ (ap (λ l. ks ++ l) (sym (map-append f (between from i ks) (k ∷ []))) ∙ ap (λ l. ks ++ map f l) (sym more))))
+
+-- ---- the first of the rest is wide
+abbrev pub IsWide : List Row → Type 0
+IsWide rest = ForSome (slice_get rest 0) (λ r. ¬ IsNarrow r)
+
+pub no_rest : (ks : List KeptRow) (rest now : List Row) → rows_of ks rest ≡ now → IsWide rest → All IsNarrow now → length rest ≡ 0
+no_rest ks [] now view wide all = refl
+no_rest ks (r ∷ rest) now view wide all =
+    let rows = map row_of ks in
+    let left = All-drop IsNarrow (length rows) (rows ++ r ∷ rest) (All-same IsNarrow (rows_of ks (r ∷ rest)) now view all) in
+    absurd (wide r refl (All-head IsNarrow r rest (All-same IsNarrow (r ∷ rest) (drop (length rows) (rows ++ r ∷ rest)) (sym (drop_at rows (r ∷ rest) (length rows) refl)) left)))

@@ -1,9 +1,12 @@
 //! Rows that are gathered before they are judged, in as few bytes as they need.
-ghost use Rattle.std.specs.Prelude.{◌≡◌, ◌<◌, ◌≤◌, ◌++◌, ◌∷◌, [], ◌+◌, ◌-◌, length, map, slice_index_or, slice_set, drop, take, IfErr, IfOk, IfSome, Ok, OnOk, true, false, vec_capacity, vec_len};
+ghost use Rattle.std.specs.Prelude.{◌≡◌, ◌<◌, ◌≤◌, ◌++◌, ◌∷◌, [], ◌+◌, ◌-◌, ◌^◌, length, map, slice_get, slice_index_or, slice_set, drop, take, IfErr, IfOk, IfSome, None, Ok, OnOk, true, false, vec_capacity, vec_len};
+ghost use Rattle.std.specs.List.{All};
+ghost use Rattle.std.specs.Option.{ForSome};
 ghost use Rattle.msrp_plan.specs.Queues.{is_on};
 ghost use Rattle.msrp_plan.specs.Stretches.{in_tick};
 ghost use Rattle.msrp_plan.specs.declared.rows.Row.{Row as TraceRow};
 ghost use Rattle.msrp_plan.specs.Shape.{ahead_of_kind, job_of_kind, res_of_kind};
+ghost use Rattle.msrp_audit.specs.Narrow.{IsNarrow};
 ghost use Rattle.msrp_audit.specs.Inside.Gathered.{job_in, kept_in_tick, res_in, row_of};
 
 use msrp_plan::{CoreId, JobId, Kind, Memory, ResId, Row, TaskId};
@@ -43,7 +46,8 @@ impl KeptRow {
     // The row so, where its numbers are small enough.
     #[inline(always)]
     fn of(row: Row) -> Option<KeptRow>
-        ensures { IfSome result (λ kept. row_of kept ≡ row) }
+        ensures kept { IfSome result (λ kept. row_of kept ≡ row) }
+        ensures wide { result ≡ None → ¬ IsNarrow row }
     {
         let job = row.job.unwrap_or(NO_JOB);
         let res = row.res.unwrap_or(NO_RES);
@@ -144,6 +148,7 @@ impl<'a> Model for Rows<'a> {
 
     ghost Value = { List Row };
 
+    ghost use Rattle.msrp_audit.specs.Narrow.{IsNarrow};
     ghost use Rattle.msrp_audit.specs.Inside.Gathered.{rows_of};
 
     ghost view = { λ rows. rows_of rows.kept.now rows.rest.now };
@@ -217,6 +222,7 @@ fn repeat_rows(kept: &mut Vec<KeptRow>, back: usize, tick: u16)
 pub struct Gathered {
     kept: Vec<KeptRow>,
     rest: Vec<Row>,
+    ghost wide: { ForSome (slice_get rest.items 0) (λ row. ¬ IsNarrow row) },
 }
 
 impl Model for Gathered {
@@ -225,6 +231,7 @@ impl Model for Gathered {
 
     ghost Value = { List Row };
 
+    ghost use Rattle.msrp_audit.specs.Narrow.{IsNarrow};
     ghost use Rattle.msrp_audit.specs.Inside.Gathered.{rows_of};
 
     ghost view = { λ rows. rows_of rows.kept.items rows.rest.items };
@@ -262,6 +269,7 @@ impl Gathered {
     pub fn repeat(&mut self, back: usize, tick: u32) -> Result<bool, Memory>
         ensures again { result ≡ Ok true → (back ≤ length self.old) × (self.new ≡ self.old ++ map (in_tick tick) (drop (length self.old - back) self.old)) }
         ensures kept { ¬ (result ≡ Ok true) → self.new ≡ self.old }
+        ensures does { All IsNarrow self.old → back ≤ length self.old → tick < 2 ^ 16 → ¬ (result ≡ Ok false) }
     {
         if !self.rest.is_empty() || back > self.kept.len() || tick > u16::MAX as u32 {
             return Ok(false);
@@ -277,6 +285,7 @@ impl Gathered {
     pub fn replace(&mut self, back: usize, row: Row) -> bool
         ensures put { result ≡ true → (0 < back) × (back ≤ length self.old) × (self.new ≡ slice_set self.old (length self.old - back) row) }
         ensures kept { result ≡ false → self.new ≡ self.old }
+        ensures does { All IsNarrow self.old → IsNarrow row → 0 < back → back ≤ length self.old → result ≡ true }
     {
         let kept = self.kept.len();
         if !self.rest.is_empty() || back == 0 || back > kept {

@@ -1,6 +1,6 @@
 use Rattle.std.proofs.Common.{rules, ◌≡◌, ◌≤◌, ◌-◌, ◌++◌, length, map, drop, ap, ◌∙◌}
 use Rattle.msrp_audit.specs.Inside.Gathered.{kept_in_tick}
-use Rattle.msrp_audit.proofs.Gathering.{all_kept, repeated}
+use Rattle.msrp_audit.proofs.Gathering.{all_kept, no_rest, repeated}
 use Rattle.msrp_audit.proofs.gathered.Gathered.repeat.Goals as goal
 
 pub returns-clause-again : goal.returns-clause-again
@@ -13,3 +13,11 @@ returns-clause-again c _ =
     let all = all_kept ks rest now c.self.view_is none in
     let few : back ≤ length now = search (rules, all.len) in
     (few, repeated ks c.repeat_rows.new.kept.items rest now c.args.tick back c.self.view_is none (c.repeat_rows.ensures ∙ ap (λ l. l ++ map (kept_in_tick c.args.tick) (drop (length l - back) l)) c.reserve.ensures.items))
+
+pub returns-then-not-is_empty-clause-does : goal.returns-then-not-is_empty-clause-does
+returns-then-not-is_empty-clause-does c narrow few small _ =
+    let ks = c.self.inside.kept.items in
+    let rest = c.self.inside.rest.items in
+    let none = no_rest ks rest c.args.self.now c.self.view_is c.self.inside.wide narrow in
+    let all = all_kept ks rest c.args.self.now c.self.view_is none in
+    search (rules, none, all.len, few, small)

@@ -2,8 +2,8 @@ use Rattle.std.proofs.Common.{refl, rules}
 use Rattle.msrp_audit.proofs.Gathering.{told}
 use Rattle.msrp_audit.proofs.gathered.KeptRow.of.Goals as goal
 
-pub returns : goal.returns
-returns c = told c.args.row _ _ _ c.unwrap_or-job.result c.unwrap_or-res.result c.unwrap_or-ahead.result _ c.unwrap_or-job.ensures c.unwrap_or-res.ensures c.unwrap_or-ahead.ensures (record {
+pub returns-clause-kept : goal.returns-clause-kept
+returns-clause-kept c = told c.args.row _ _ _ c.unwrap_or-job.result c.unwrap_or-res.result c.unwrap_or-ahead.result _ c.unwrap_or-job.ensures c.unwrap_or-res.ensures c.unwrap_or-ahead.ensures (record {
   tick = search rules;
   core = search rules;
   kind = refl;
