@@ -1,10 +1,9 @@
 -- What is kept of a row tells it, and the first of the rows that are kept.
-use Rattle.std.proofs.Common.{◌≡◌, ℕ, ◌<◌, ◌≤◌, zero, suc, ◌+◌, ◌-◌, List, [], ◌∷◌, ◌++◌, Option, Some, None, IfSome, subst, length, map, min, drop, take, is_some, slice_get, slice_index_or, slice_set, refl, ap, sym, ◌∙◌, arith, append_assoc, append-nil}
+use Rattle.std.proofs.Common.{◌≡◌, ℕ, ◌<◌, ◌≤◌, zero, suc, ◌+◌, ◌-◌, List, [], ◌∷◌, ◌++◌, length, map, min, drop, take, is_some, slice_get, slice_index_or, slice_set, refl, ap, sym, ◌∙◌, arith, append_assoc, append-nil}
 use Rattle.std.proofs.lemmas.List.{drop_at, drop-map, get_or_append_left, length-map, map-append, map-set, take-map, take_min}
 use Rattle.std.proofs.lemmas.List.Elements.{All-drop, All-head, All-same}
 use Rattle.std.proofs.lemmas.List.Edits.{between_more}
 use Rattle.std.specs.List.{All, between}
-use Rattle.std.proofs.lemmas.Option.{none-some, same_Some}
 use Rattle.std.specs.Option.{ForSome, unwrap_or}
 use Rattle.msrp_plan.specs.Shape.{ahead_of_kind, job_of_kind, res_of_kind}
 use Rattle.msrp_plan.specs.declared.ids.JobId.{JobId}
