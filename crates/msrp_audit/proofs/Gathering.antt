@@ -1,4 +1,4 @@
--- What is kept of a row tells it, and the first of the rows that are kept.
+-- What is kept of a row tells it; and of the rows that are kept the first ones, one in the place of another, and some once more.
 use Rattle.std.proofs.Common.{◌≡◌, ℕ, ◌<◌, ◌≤◌, zero, suc, ◌+◌, ◌-◌, List, [], ◌∷◌, ◌++◌, length, map, min, drop, take, is_some, slice_get, slice_index_or, slice_set, refl, ap, sym, ◌∙◌, arith, append_assoc, append-nil}
 use Rattle.std.proofs.lemmas.List.{drop_at, drop-map, get_or_append_left, length-map, map-append, map-set, take-map, take_min}
 use Rattle.std.proofs.lemmas.List.Elements.{All-drop, All-head, All-same}
