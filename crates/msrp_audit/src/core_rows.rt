@@ -89,8 +89,9 @@ pub(crate) fn judge_core(
     ensures { IfOk result (TellsFirst plan.now (broken_on_core plan.now core.0) rows.now) }
 {
     let mut machine = Machine::with_room(alloc, plan, levels, core)?;
+    let count = rows.len();
     let mut index = 0;
-    while index < rows.len() {
+    while index < count {
         let row = rows.row(index);
         if row.core == core {
             if !is_in_turn(plan, &machine, row, index) {
