@@ -1,5 +1,5 @@
 -- A core's row that stands again in the same place of the next tick, where its machine is known to make it.
-use Rattle.std.proofs.Common.{◌≡◌, ℕ, ◌+◌, ◌-◌, get_or, ◌*◌, ◌/◌, ◌<◌, ◌≤◌, List, [], ◌∷◌, ◌++◌, Option, Some, None, IfSome, true, refl, ap, sym, ◌∙◌, subst, arith, length, take, slice_get, inl, inr, ◌⊎◌, eq-eqb}
+use Rattle.std.proofs.Common.{◌≡◌, ℕ, ◌+◌, ◌-◌, get_or, ◌*◌, ◌/◌, ◌<◌, ◌≤◌, nat_lt, cond, List, [], ◌∷◌, ◌++◌, Option, Some, None, IfSome, true, refl, ap, sym, ◌∙◌, subst, arith, length, take, slice_get, inl, inr, ◌⊎◌, eq-eqb}
 use Rattle.std.proofs.lemmas.List.{length-take-le}
 use Rattle.std.proofs.lemmas.Nat.{div_below}
 use Rattle.std.proofs.lemmas.Option.{get_or_from_slice_get, slice_get_within}
@@ -15,7 +15,7 @@ use Rattle.msrp_audit.specs.Inside.Pieces.{broken_action, broken_on_core}
 use Rattle.msrp_audit.specs.Inside.Walks.{HasFollowed, KeepsOrder, NextDoesAs}
 use Rattle.msrp_audit.proofs.Following.{follows, own_by, stands_on, known_same}
 use Rattle.msrp_audit.proofs.Judging.{turn_by_tick}
-use Rattle.msrp_audit.proofs.Orders.{none_in_order, tick_back}
+use Rattle.msrp_audit.proofs.Orders.{IsNextPlace, next_place, none_in_order, tick_back}
 use Rattle.msrp_audit.proofs.OwnRows.{passes_here, stands_here, passes_to, stands_to}
 use Rattle.msrp_audit.proofs.Scanning.{PassesTo, passes_before}
 
@@ -49,8 +49,14 @@ module _ (plan : PlanModel) (rows : List Row) (r : Row) (i : ℕ) (m : MachineMo
     pub passes_on : PassesTo plan (broken_on_core plan r.core.0) rows n
     passes_on = passes_to plan r.core rows i x within at front n refl single passes
 
-    pub stands_by : IsRunStart plan (take n rows) → StandsAfter m (log_of r.core.0 (take n rows))
-    stands_by = stands_to plan r.core rows i x within at front n refl single m n (n - (i + 1)) (omega (arith, behind)) (omega arith) f.stands
+    pub stands_at : IsRunStart plan (take n rows) → StandsAfter m (log_of r.core.0 (take n rows))
+    stands_at = stands_to plan r.core rows i x within at front n refl single m n (n - (i + 1)) (omega (arith, behind)) (omega arith) f.stands
+
+  -- where the core's next turn is looked for
+  pub leaps : (ok : IsPlan plan) (steady : ℕ) (keeps : KeepsOrder plan.cores rows steady) (cores tick next : ℕ) → cores ≡ plan.cores → tick ≡ m.tick → next ≡ cond (nat_lt (i + cores) steady) (i + cores) (tick * cores)
+      → IsNextPlace plan rows steady ok.draft.cores.0 keeps i x next
+  leaps ok steady keeps cores tick next same now is =
+      next_place plan rows steady ok.draft.cores.0 keeps i x (i / plan.cores) cores next at same refl (is ∙ ap (λ t. cond (nat_lt (i + cores) steady) (i + cores) (t * cores)) (now ∙ f.tick))
 
   module _ (ok : IsPlan plan) (known : r.core.0 < plan.cores) (steady : ℕ) (keeps : KeepsOrder plan.cores rows steady) (j : ℕ) (is : j ≡ i + plan.cores) (low : j < steady) where
     abbrev y : Row
@@ -87,7 +93,7 @@ module _ (plan : PlanModel) (rows : List Row) (r : Row) (i : ℕ) (m : MachineMo
 
       module _ (start : IsRunStart plan (take j rows)) where
         stands : StandsAfter m (log_of r.core.0 (take j rows))
-        stands = stands_by j (omega (arith, some, is)) single start
+        stands = stands_at j (omega (arith, some, is)) single start
 
         turn : is_in_turn plan (take j rows) y ≡ true
         turn =
