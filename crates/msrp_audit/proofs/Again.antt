@@ -1,5 +1,5 @@
 -- A core's row that stands again in the same place of the next tick, where its machine is known to make it.
-use Rattle.std.proofs.Common.{◌≡◌, ℕ, ◌+◌, ◌-◌, get_or, ◌*◌, ◌/◌, ◌<◌, ◌≤◌, nat_lt, cond, List, [], ◌∷◌, ◌++◌, Option, Some, None, IfSome, true, refl, ap, sym, ◌∙◌, subst, arith, length, take, slice_get, inl, inr, ◌⊎◌, eq-eqb}
+use Rattle.std.proofs.Common.{◌≡◌, ℕ, ◌+◌, ◌-◌, get_or, ◌*◌, ◌/◌, ◌<◌, ◌≤◌, nat_lt, cond, List, [], ◌∷◌, ◌++◌, Option, Some, None, IfSome, true, refl, ap, sym, ◌∙◌, subst, arith, length, take, slice_get, ◌⊎◌, eq-eqb}
 use Rattle.std.proofs.lemmas.List.{length-take-le}
 use Rattle.std.proofs.lemmas.Nat.{div_below}
 use Rattle.std.proofs.lemmas.Option.{get_or_from_slice_get, slice_get_within}
@@ -78,7 +78,7 @@ module _ (plan : PlanModel) (rows : List Row) (r : Row) (i : ℕ) (m : MachineMo
 
     -- the row at the place is this one again, and the machine makes its turn
     module _ (n : MachineModel) (due : Row) (here : j < length rows) (again : slice_get rows j ≡ Some (in_tick (i / plan.cores + 1) x)) (is_known : next_known m ≡ Some due) (repeats : RepeatsOnly n due) (kind : (due.res ≡ None) ⊎ (r.kind ≡ due.kind))
-      (made : (log : List Row) → StandsAfter m log → IsCoreTurn m.plan m.core log due) (stand : (log : List Row) → StandsAfter m log → StandsAfter n (log ++ due ∷ [])) where
+        (made : (log : List Row) → StandsAfter m log → IsCoreTurn m.plan m.core log due) (stand : (log : List Row) → StandsAfter m log → StandsAfter n (log ++ due ∷ [])) where
       there : slice_get rows j ≡ Some y
       there = again ∙ ap (λ (t : ℕ). Some (in_tick t r)) next_tick
 
