@@ -7,6 +7,7 @@ pub mod Parts
 pub mod Orders
 pub mod OwnRows
 pub mod Following
+pub mod Again
 pub mod Queueing
 pub mod Turned
 pub mod Places

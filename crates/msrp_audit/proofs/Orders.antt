@@ -23,7 +23,7 @@ pub next_tick : (t m : ℕ) → (t + 1) * m ≡ t * m + m
 next_tick t m = grind arith
 
 -- as many rows before as there are cores stands the tick before
-tick_back : (cores k : ℕ) → 0 < cores → cores ≤ k → (k - cores) / cores + 1 ≡ k / cores
+pub tick_back : (cores k : ℕ) → 0 < cores → cores ≤ k → (k - cores) / cores + 1 ≡ k / cores
 tick_back cores k some past =
     let d = k - cores in
     let whole = div-add-mod' d cores in
@@ -164,7 +164,7 @@ module _ (plan : PlanModel) (rows : List Row) where
           sym (and-true (r.tick == i / plan.cores)) ∙ in_turn_is plan (take i rows) r (i / plan.cores) true (ap (λ l. l / plan.cores) (sym size)) has
 
     -- a core has no turn before the same place of the next tick
-    none_in_order : (i : ℕ) (x : Row) (pre post : List Row) (r : Row) → i + plan.cores < n → x ≡ get_or rows i x → rows ≡ pre ++ r ∷ post → IsRunStart plan pre → i < length pre → length pre < i + plan.cores → x.core.0 ≡ r.core.0 → is_in_turn plan pre r ≡ true → ⊥
+    pub none_in_order : (i : ℕ) (x : Row) (pre post : List Row) (r : Row) → i + plan.cores < n → x ≡ get_or rows i x → rows ≡ pre ++ r ∷ post → IsRunStart plan pre → i < length pre → length pre < i + plan.cores → x.core.0 ≡ r.core.0 → is_in_turn plan pre r ≡ true → ⊥
     none_in_order i x pre post r steady at is start low end own turn = elim (cases_lt (length pre) ((i / plan.cores + 1) * plan.cores)) [
       | inl same ↦ none_in_tick i x pre post r at is start low same own turn
       | inr next ↦

@@ -6,12 +6,12 @@ ghost use Rattle.msrp_plan.specs.WellFormed.{IsPlan};
 ghost use Rattle.msrp_plan.specs.declared.rows.Row.{Row as TraceRow};
 ghost use Rattle.msrp_core.specs.Machine.{StandsAfter};
 ghost use Rattle.msrp_audit.specs.Inside.Pieces.{broken_action, broken_on_core, TellsFirst};
-ghost use Rattle.msrp_audit.specs.Inside.Walks.{KeepsOrder};
+ghost use Rattle.msrp_audit.specs.Inside.Walks.{HasFollowed, KeepsOrder, NextDoesAs};
 
 use crate::auditor::is_own;
 use crate::comparing::unlike_turn;
 use crate::gathered::Rows;
-use crate::replies::turn_as;
+use crate::replies::{known_as, turn_as};
 use msrp_core::Machine;
 use msrp_levels::Levels;
 use msrp_plan::{CoreId, Fault, Memory, Plan, Row, Rule};
@@ -33,23 +33,24 @@ fn is_in_turn(plan: &Plan, machine: &Machine, row: Row, index: usize) -> bool
     ensures turn { (pre : List TraceRow) → index ≡ length pre → IsRunStart plan.now pre → StandsAfter machine.now (log_of row.core.0 pre) → result ≡ is_in_turn plan.now pre row }
     ensures tick { result ≡ true → machine.now.tick < plan.now.ticks }
     ensures due { result ≡ true → row.tick ≡ index / plan.now.cores }
+    ensures now { result ≡ true → machine.now.tick ≡ row.tick }
     ensures accepted { IsPlan plan.now }
 {
     is_in_tick(plan.cores(), row.tick, index) && machine.tick() == row.tick
 }
 
-// Where to look for a core's next row behind the one of that index: where the rows are steady, in the same place of the next tick, else from its
-// start on.
+// Where to look for a core's next row behind the one of that index: where the rows are steady, in the same place of the next tick, which is this
+// one, else from its start on.
 #[inline(always)]
 fn place_after(cores: u32, steady: usize, tick: u32, index: usize) -> usize
     requires { index < 2 ^ 63 }
-    ensures { result ≡ if nat_lt (index + cores) steady then index + cores else (tick + 1) * cores }
+    ensures { result ≡ if nat_lt (index + cores) steady then index + cores else tick * cores }
 {
     let same = index + cores as usize;
     if same < steady {
         same
     } else {
-        (tick as usize + 1) * cores as usize
+        tick as usize * cores as usize
     }
 }
 
@@ -60,6 +61,8 @@ fn follow(plan: &Plan, machine: &mut Machine<'_>, row: Row) -> Option<Rule>
     requires core { row.core.0 ≡ machine.old.core }
     ensures plan { machine.new.plan ≡ machine.old.plan }
     ensures core { machine.new.core ≡ machine.old.core }
+    ensures tick { machine.new.tick ≡ machine.old.tick + 1 }
+    ensures next { result ≡ None → NextDoesAs machine.new row }
     ensures rule { IsPlan plan.now → (pre : List TraceRow) → IsRunStart plan.now pre → StandsAfter machine.old (log_of row.core.0 pre) → is_in_turn plan.now pre row ≡ true → result ≡ broken_action plan.now pre row }
     ensures stands { (pre : List TraceRow) → IsRunStart plan.now pre → StandsAfter machine.old (log_of row.core.0 pre) → is_in_turn plan.now pre row ≡ true → result ≡ None → StandsAfter machine.new (log_of row.core.0 (pre ++ row ∷ [])) }
 {
@@ -70,6 +73,37 @@ fn follow(plan: &Plan, machine: &mut Machine<'_>, row: Row) -> Option<Rule>
         return Some(Rule::A2);
     }
     unlike
+}
+
+// Follows the rows behind this one, in the same place of each next tick, as long as they are this one again and the machine is known to make it.
+// It answers where the last of them stands.
+fn follow_again(
+    plan: &Plan,
+    machine: &mut Machine<'_>,
+    rows: &Rows<'_>,
+    steady: usize,
+    row: Row,
+    index: usize,
+) -> usize
+    requires rows { length rows.now ≤ plan.now.cores * plan.now.ticks }
+    requires steady { KeepsOrder plan.now.cores rows.now steady }
+    requires core { row.core.0 < plan.now.cores }
+    requires followed { HasFollowed plan.now rows.now row index machine.old }
+    ensures followed { HasFollowed plan.now rows.now row result machine.new }
+    ensures behind { index ≤ result }
+{
+    let cores = plan.cores() as usize;
+    let mut last = index;
+    while last + cores < steady {
+        if !rows.repeats(last, last + cores) {
+            return last;
+        }
+        match known_as(machine, row.kind) {
+            Some(_) => last += cores,
+            None => return last,
+        }
+    }
+    last
 }
 
 /// The first row of the core whose job, choice or action breaks a rule. A row that is not in its turn ends the piece:
@@ -89,8 +123,9 @@ pub(crate) fn judge_core(
     ensures { IfOk result (TellsFirst plan.now (broken_on_core plan.now core.0) rows.now) }
 {
     let mut machine = Machine::with_room(alloc, plan, levels, core)?;
+    let count = rows.len();
     let mut index = 0;
-    while index < rows.len() {
+    while index < count {
         let row = rows.row(index);
         if row.core == core {
             if !is_in_turn(plan, &machine, row, index) {
@@ -102,8 +137,9 @@ pub(crate) fn judge_core(
                     rule,
                 }));
             }
+            let last = follow_again(plan, &mut machine, rows, steady, row, index);
             // No other row of the core is in its turn in this tick.
-            index = place_after(plan.cores(), steady, row.tick, index);
+            index = place_after(plan.cores(), steady, machine.tick(), last);
         } else {
             index += 1;
         }

@@ -105,6 +105,14 @@ impl KeptRow {
         }
     }
 
+    // Whether the row that is kept so is that one in the next tick, where all parts say so.
+    #[inline(always)]
+    fn repeats(&self, last: &KeptRow) -> bool
+        ensures { result ≡ true → row_of self.now ≡ in_tick (last.now.tick + 1) (row_of last.now) }
+    {
+        self.tick as u32 == last.tick as u32 + 1 && self.what == last.what
+    }
+
     // Whether the row that is kept so names the resource.
     #[inline(always)]
     fn names(&self, res: ResId) -> bool
@@ -185,6 +193,16 @@ impl<'a> Rows<'a> {
         } else {
             self.rest[index - kept].res == Some(res)
         }
+    }
+
+    /// Whether the row at this index is the one at that last index in the next tick. It is told of rows in ten bytes alone.
+    #[inline(always)]
+    pub(crate) fn repeats(&self, last: usize, index: usize) -> bool
+        requires { last < index }
+        ensures within { result ≡ true → index < length self.now }
+        ensures again { result ≡ true → (r : TraceRow) → slice_get self.now last ≡ Some r → slice_get self.now index ≡ Some (in_tick (r.tick + 1) r) }
+    {
+        index < self.kept.len() && self.kept[index].repeats(&self.kept[last])
     }
 
     /// The row that stands there.

@@ -1,9 +1,9 @@
 //! One turn of a machine over a port that answers as a row says.
-ghost use Rattle.std.specs.Prelude.{◌≡◌, ◌<◌, ◌+◌, ◌++◌, ◌∷◌, [], ◌⊎◌, List, length, true, IfNone, IfSome, None};
+ghost use Rattle.std.specs.Prelude.{◌≡◌, ◌<◌, ◌+◌, ◌++◌, ◌∷◌, [], ◌⊎◌, List, length, true, IfNone, IfSome, None, Some};
 ghost use Rattle.std.specs.Option.{ForSome};
 ghost use Rattle.msrp_plan.specs.Runs.{IsCoreTurn};
 ghost use Rattle.msrp_plan.specs.declared.rows.Row.{Row as TraceRow};
-ghost use Rattle.msrp_core.specs.Machine.{StandsAfter};
+ghost use Rattle.msrp_core.specs.Machine.{RepeatsOnly, StandsAfter, next_known};
 ghost use Rattle.msrp_core.specs.Ports.{Adds, claim_in};
 ghost use Rattle.msrp_audit.specs.Foresight.{same_action};
 ghost use Rattle.msrp_sim.specs.TurnPorts.{port_after};
@@ -109,6 +109,7 @@ fn turn_over<B: Script>(plan: &Plan, machine: &mut Machine<'_>, row: Row) -> Row
     ensures row { (log : List TraceRow) → StandsAfter machine.old log → IsCoreTurn machine.old.plan machine.old.core log result }
     ensures stands { (log : List TraceRow) → StandsAfter machine.old log → StandsAfter machine.new (log ++ result ∷ []) }
     ensures kind { (log : List TraceRow) → StandsAfter machine.old log → same_action row.kind result.kind ≡ true → row.kind ≡ result.kind }
+    ensures again { RepeatsOnly machine.new result }
 {
     let mut port = TurnPort::<B> {
         core: machine.core(),
@@ -120,10 +121,10 @@ fn turn_over<B: Script>(plan: &Plan, machine: &mut Machine<'_>, row: Row) -> Row
     machine.turn_anew(&mut port)
 }
 
-// The machine's turn, where it is known from its last one: its row stands again, or it polled in vain and the row says that it does so again. That
-// takes no choice.
+/// The machine's turn, where it is known from its last one: its row stands again, or it polled in vain and the row says that it does so again. That
+/// takes no choice.
 #[inline(always)]
-fn known_as(machine: &mut Machine<'_>, kind: Kind) -> Option<Row>
+pub(crate) fn known_as(machine: &mut Machine<'_>, kind: Kind) -> Option<Row>
     requires { machine.old.tick < machine.old.plan.ticks }
     ensures none { IfNone result (machine.new ≡ machine.old) }
     ensures plan { machine.new.plan ≡ machine.old.plan }
@@ -132,6 +133,8 @@ fn known_as(machine: &mut Machine<'_>, kind: Kind) -> Option<Row>
     ensures row { IfSome result (λ due. (log : List TraceRow) → StandsAfter machine.old log → IsCoreTurn machine.old.plan machine.old.core log due) }
     ensures stands { IfSome result (λ due. (log : List TraceRow) → StandsAfter machine.old log → StandsAfter machine.new (log ++ due ∷ [])) }
     ensures kind { IfSome result (λ due. (due.res ≡ None) ⊎ (kind ≡ due.kind)) }
+    ensures known { IfSome result (λ due. next_known machine.old ≡ Some due) }
+    ensures again { IfSome result (RepeatsOnly machine.new) }
 {
     if let Some(due) = machine.repeat() {
         return Some(due);
@@ -153,6 +156,7 @@ pub(crate) fn turn_as(plan: &Plan, machine: &mut Machine<'_>, row: Row) -> Row
     ensures row { (log : List TraceRow) → StandsAfter machine.old log → IsCoreTurn machine.old.plan machine.old.core log result }
     ensures stands { (log : List TraceRow) → StandsAfter machine.old log → StandsAfter machine.new (log ++ result ∷ []) }
     ensures kind { (log : List TraceRow) → StandsAfter machine.old log → same_action row.kind result.kind ≡ true → row.kind ≡ result.kind }
+    ensures again { RepeatsOnly machine.new result }
 {
     match known_as(machine, row.kind) {
         Some(due) => due,

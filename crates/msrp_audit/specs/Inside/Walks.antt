@@ -1,8 +1,13 @@
 -- What a piece of an audit keeps as it goes over the rows, and what is found once for all pieces.
-use Rattle.std.specs.Prelude.{ℕ, List, [], ◌∷◌, ◌+◌, Bool, Some, true, false, is_some, if◌then◌else◌, slice_index_or, slice_get, take, ◌≡◌, ◌≢◌, ◌<◌, ◌≤◌}
+use Rattle.std.specs.Prelude.{ℕ, List, [], ◌∷◌, ◌++◌, ◌+◌, ◌/◌, Bool, Some, None, IfSome, true, false, is_some, if◌then◌else◌, slice_index_or, slice_get, take, length, ◌≡◌, ◌≢◌, ◌<◌, ◌≤◌}
 use Rattle.msrp_plan.specs.Plan.{PlanModel}
+use Rattle.msrp_plan.specs.Logs.{log_of}
 use Rattle.msrp_plan.specs.Runs.{IsRunStart, had_turn, is_in_turn}
+use Rattle.msrp_plan.specs.Stretches.{in_tick}
 use Rattle.msrp_plan.specs.declared.rows.Row.{Row}
+use Rattle.msrp_core.specs.Machine.{MachineModel, StandsAfter, next_known}
+use Rattle.msrp_audit.specs.Foresight.{unlike_turn}
+use Rattle.msrp_audit.specs.Inside.Pieces.{broken_on_core}
 
 -- so many of the rows are steady: each is of the core whose row stands as many rows before it as there are cores, so in each tick the cores have the
 -- order of the first one
@@ -23,6 +28,21 @@ pub record AreInTurn (plan : PlanModel) (rows : List Row) (start place end : ℕ
 pub record AreInTick (rows : List Row) (tick start place end : ℕ) : Type 0 where
   pub ticks : (i : ℕ) (r : Row) → start ≤ i → i < place → slice_get rows i ≡ Some r → r.tick ≡ tick
   pub stops : (r : Row) → place < end → slice_get rows place ≡ Some r → r.tick ≢ tick
+
+-- where the row of the machine's next turn is known, this one has its job and its action
+abbrev pub NextDoesAs : MachineModel → Row → Type 0
+NextDoesAs m r = IfSome (next_known m) (λ next. unlike_turn r next ≡ None)
+
+-- a core's machine followed the rows up to this place, where this row stands in the tick of the place: none of the core's rows breaks a rule, and
+-- where they are the start of a legal run the machine stands after them
+pub record HasFollowed (plan : PlanModel) (rows : List Row) (r : Row) (i : ℕ) (m : MachineModel) : Type 0 where
+  pub same : m.plan ≡ plan
+  pub core : m.core ≡ r.core.0
+  pub tick : m.tick ≡ i / plan.cores + 1
+  pub there : slice_get rows i ≡ Some (in_tick (i / plan.cores) r)
+  pub next : NextDoesAs m r
+  pub none : (pre : List Row) (s : Row) (post : List Row) → rows ≡ pre ++ s ∷ post → IsRunStart plan pre → length pre < i + 1 → broken_on_core plan r.core.0 pre s ≡ None
+  pub stands : IsRunStart plan (take (i + 1) rows) → StandsAfter m (log_of r.core.0 (take (i + 1) rows))
 
 -- the places, counted from this one on, of the rows that name a resource
 abbrev pub naming_places : ℕ → List Row → List ℕ

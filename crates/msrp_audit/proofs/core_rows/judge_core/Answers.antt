@@ -1,13 +1,15 @@
-use Rattle.std.proofs.Common.{◌≡◌, ◌≢◌, ◌+◌, ◌-◌, ◌<◌, length, ◌++◌, ◌∷◌, [], true, take, sym, ◌∙◌, subst, arith, eqb-true}
+use Rattle.std.proofs.Common.{◌≡◌, ◌≢◌, ◌+◌, ◌-◌, ◌<◌, length, true, take, Some, refl, ap, sym, ◌∙◌, subst, arith, eqb-true}
 use Rattle.std.proofs.lemmas.Bool.{eqb-false}
 use Rattle.std.proofs.lemmas.List.{length-take-le}
+use Rattle.std.proofs.lemmas.Option.{slice_get_read}
 use Rattle.msrp_plan.specs.Logs.{log_of}
 use Rattle.msrp_plan.specs.Runs.{IsRunStart, is_in_turn}
+use Rattle.msrp_plan.specs.Stretches.{in_tick}
 use Rattle.msrp_core.specs.Machine.{StandsAfter}
 use Rattle.msrp_audit.specs.Inside.Pieces.{broken_on_core}
-use Rattle.msrp_audit.proofs.Scanning.{passes_all}
-use Rattle.msrp_audit.proofs.OwnRows.{ends_here, breaks_here, passes_here, stands_here, passes_by, stands_by, passes_to, stands_to}
-use Rattle.msrp_audit.proofs.Orders.{next_place}
+use Rattle.msrp_audit.proofs.Scanning.{PassesTo, passes_all}
+use Rattle.msrp_audit.proofs.OwnRows.{ends_here, breaks_here, passes_here, stands_here, passes_by, stands_by}
+use Rattle.msrp_audit.proofs.Again.{leaps, passes_on, stands_at}
 use Rattle.msrp_audit.proofs.core_rows.judge_core.Goals as goal
 
 pub returns-then-not-is_in_turn : goal.returns-then-not-is_in_turn
@@ -17,7 +19,7 @@ returns-then-not-is_in_turn c =
     let v = c.loop-index.invariant in
     let own = eqb-true c.row-row.result.core.0 c.args.core.0 (sym c.eq.ensures ∙ c.if-eq.true) in
     let test = c.loop-index-test.true in
-    let all = c.len.ensures in
+    let all = c.len-count.ensures in
     let within : i < length rows = omega (arith, test, all) in
     let size = sym (length-take-le i rows (omega (arith, within))) in
     ends_here c.args.plan.now c.args.core rows i c.row-row.result within (c.row-row.ensures c.row-row.result) v.passes own
@@ -30,7 +32,7 @@ returns-in-Some c =
     let v = c.loop-index.invariant in
     let own = eqb-true c.row-row.result.core.0 c.args.core.0 (sym c.eq.ensures ∙ c.if-eq.true) in
     let test = c.loop-index-test.true in
-    let all = c.len.ensures in
+    let all = c.len-count.ensures in
     let within : i < length rows = omega (arith, test, all) in
     let size = sym (length-take-le i rows (omega (arith, within))) in
     let stands : IsRunStart c.args.plan.now (take i rows) → StandsAfter c.loop-index.machine (log_of c.row-row.result.core.0 (take i rows)) = λ start. subst (λ n. StandsAfter c.loop-index.machine (log_of n (take i rows))) (sym own) (v.stands start) in
@@ -38,43 +40,64 @@ returns-in-Some c =
     breaks_here c.args.plan.now c.args.core rows i c.row-row.result within (c.row-row.ensures c.row-row.result) v.passes c.in-Some.rule own turn
     (λ start. sym (c.follow.ensures.rule c.is_in_turn.ensures.accepted (take i rows) start (stands start) (turn start)) ∙ c.in-Some.is)
 
-pub loop-index-smaller-then-eq : goal.loop-index-smaller-then-eq
-loop-index-smaller-then-eq c =
-    let rows = c.args.rows.now in
-    let i = c.loop-index.index in
-    let test = c.loop-index-test.true in
-    let all = c.len.ensures in
-    let within : i < length rows = omega (arith, test, all) in
-    let behind = (next_place c.args.plan.now rows c.args.steady c.cores.ensures.plan.draft.cores.0 c.requires.steady i c.row-row.result c.row-row.result.tick c.cores.result c.place_after-index.result (c.row-row.ensures c.row-row.result) c.cores.ensures.value (c.is_in_turn.ensures.due c.if-not-is_in_turn.false) c.place_after-index.ensures).behind in
-    let less : length rows - c.place_after-index.result < length rows - i = omega (arith, within, behind) in
-    less
-
-pub loop-index-preserved-then-eq : goal.loop-index-preserved-then-eq
-loop-index-preserved-then-eq c =
+pub follow_again-last-requires-clause-followed : goal.follow_again-last-requires-clause-followed
+follow_again-last-requires-clause-followed c =
     let plan = c.args.plan.now in
     let core = c.args.core in
     let rows = c.args.rows.now in
     let i = c.loop-index.index in
     let v = c.loop-index.invariant in
     let x = c.row-row.result in
-    let at = c.row-row.ensures c.row-row.result in
+    let at = c.row-row.ensures x in
     let test = c.loop-index-test.true in
-    let all = c.len.ensures in
+    let all = c.len-count.ensures in
     let within : i < length rows = omega (arith, test, all) in
     let size = sym (length-take-le i rows (omega (arith, within))) in
     let own : x.core.0 ≡ core.0 = eqb-true x.core.0 core.0 (sym c.eq.ensures ∙ c.if-eq.true) in
+    let due = c.is_in_turn.ensures.due c.if-not-is_in_turn.false in
+    let passes = subst (λ n. PassesTo plan (broken_on_core plan n) rows i) (sym own) v.passes in
     let stands : IsRunStart plan (take i rows) → StandsAfter c.loop-index.machine (log_of x.core.0 (take i rows)) = λ start. subst (λ n. StandsAfter c.loop-index.machine (log_of n (take i rows))) (sym own) (v.stands start) in
     let turn : IsRunStart plan (take i rows) → is_in_turn plan (take i rows) x ≡ true = λ start. sym (c.is_in_turn.ensures.turn (take i rows) size start (stands start)) ∙ c.if-not-is_in_turn.false in
-    let n = c.place_after-index.result in
-    let next = next_place plan rows c.args.steady c.cores.ensures.plan.draft.cores.0 c.requires.steady i x x.tick c.cores.result n at c.cores.ensures.value (c.is_in_turn.ensures.due c.if-not-is_in_turn.false) c.place_after-index.ensures in
-    let behind = next.behind in
     record {
-      plan = c.follow.ensures.plan ∙ v.plan;
-      core = c.follow.ensures.core ∙ v.core;
-      stands = stands_to plan core rows i x within at v.passes n own next.none c.follow.new.machine n (n - (i + 1)) (omega (arith, behind)) (omega arith)
-          (stands_here plan core rows i x within at v.passes c.follow.new.machine (λ start. subst (λ n. StandsAfter c.follow.new.machine (log_of n (take i rows ++ x ∷ []))) own (c.follow.ensures.stands (take i rows) start (stands start) (turn start) c.in_default.is)));
-      passes = passes_to plan core rows i x within at v.passes n own next.none
-          (passes_here plan core rows i x within at v.passes own turn (λ start. sym (c.follow.ensures.rule c.is_in_turn.ensures.accepted (take i rows) start (stands start) (turn start)) ∙ c.in_default.is));
+      same = c.follow.ensures.plan ∙ v.plan;
+      core = c.follow.ensures.core ∙ (v.core ∙ sym own);
+      tick = c.follow.ensures.tick ∙ ap (λ t. t + 1) (c.is_in_turn.ensures.now c.if-not-is_in_turn.false ∙ due);
+      there = slice_get_read rows (length rows) i x refl within at ∙ ap (λ t. Some (in_tick t x)) due;
+      next = c.follow.ensures.next c.in_default.is;
+      none = (passes_here plan x.core rows i x within at passes refl turn (λ start. sym (c.follow.ensures.rule c.is_in_turn.ensures.accepted (take i rows) start (stands start) (turn start)) ∙ c.in_default.is)).none;
+      stands = stands_here plan x.core rows i x within at passes c.follow.new.machine (λ start. c.follow.ensures.stands (take i rows) start (stands start) (turn start) c.in_default.is);
+    }
+
+pub loop-index-smaller-then-eq : goal.loop-index-smaller-then-eq
+loop-index-smaller-then-eq c =
+    let rows = c.args.rows.now in
+    let i = c.loop-index.index in
+    let f = c.follow_again-last.ensures.followed in
+    let after = c.follow_again-last.ensures.behind in
+    let test = c.loop-index-test.true in
+    let all = c.len-count.ensures in
+    let within : i < length rows = omega (arith, test, all) in
+    let next = leaps c.args.plan.now rows c.row-row.result c.follow_again-last.result c.follow_again-last.new.machine f c.cores.ensures.plan c.args.steady c.requires.steady c.cores.result c.tick.result c.place_after-index.result c.cores.ensures.value c.tick.ensures c.place_after-index.ensures in
+    let behind = next.behind in
+    let less : length rows - c.place_after-index.result < length rows - i = omega (arith, within, after, behind) in
+    less
+
+pub loop-index-preserved-then-eq : goal.loop-index-preserved-then-eq
+loop-index-preserved-then-eq c =
+    let plan = c.args.plan.now in
+    let rows = c.args.rows.now in
+    let x = c.row-row.result in
+    let m = c.follow_again-last.new.machine in
+    let last = c.follow_again-last.result in
+    let n = c.place_after-index.result in
+    let f = c.follow_again-last.ensures.followed in
+    let own : x.core.0 ≡ c.args.core.0 = eqb-true x.core.0 c.args.core.0 (sym c.eq.ensures ∙ c.if-eq.true) in
+    let next = leaps plan rows x last m f c.cores.ensures.plan c.args.steady c.requires.steady c.cores.result c.tick.result n c.cores.ensures.value c.tick.ensures c.place_after-index.ensures in
+    record {
+      plan = f.same;
+      core = f.core ∙ own;
+      stands = subst (λ k. IsRunStart plan (take n rows) → StandsAfter m (log_of k (take n rows))) own (stands_at plan rows x last m f n next.behind next.none);
+      passes = subst (λ k. PassesTo plan (broken_on_core plan k) rows n) own (passes_on plan rows x last m f n next.behind next.none);
     }
 
 pub loop-index-preserved : goal.loop-index-preserved
@@ -85,7 +108,7 @@ loop-index-preserved c =
     let v = c.loop-index.invariant in
     let x = c.row-row.result in
     let test = c.loop-index-test.true in
-    let all = c.len.ensures in
+    let all = c.len-count.ensures in
     let within : i < length rows = omega (arith, test, all) in
     let other : x.core.0 ≢ c.args.core.0 = eqb-false x.core.0 c.args.core.0 (sym c.eq.ensures ∙ c.if-eq.false) in
     record {
@@ -98,5 +121,5 @@ loop-index-preserved c =
 pub returns : goal.returns
 returns c =
     let past = c.loop-index-test.false in
-    let all = c.len.ensures in
+    let all = c.len-count.ensures in
     passes_all c.args.plan.now (broken_on_core c.args.plan.now c.args.core.0) c.args.rows.now c.loop-index.index (omega (arith, past, all)) c.loop-index.invariant.passes
