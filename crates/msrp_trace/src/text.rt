@@ -4,9 +4,10 @@ ghost use Rattle.msrp_trace.specs.Gathering.{next_field};
 
 use itoa::Buffer;
 use std::marker::Model;
+use std::simd::{u8x16, u8x32};
 
 // Most texts of a longer type have no more bytes.
-const SHORT: usize = 32;
+const SHORT: usize = 48;
 
 /// A text of at most `N` bytes.
 #[derive(Drop)]
@@ -37,8 +38,20 @@ fn lay(array: &mut [u8], place: usize, bytes: &[u8])
     array[place..end].copy_from_slice(bytes);
 }
 
+// Writes the first 48 bytes of these over those of an array from a place on, in two pieces.
+#[inline(always)]
+fn lay_short(array: &mut [u8], place: usize, bytes: &[u8])
+    requires some { SHORT ≤ length bytes.now }
+    requires room { place + SHORT ≤ length array.old }
+    ensures front { take (place + SHORT) array.new ≡ take place array.old ++ take SHORT bytes.now }
+    ensures size { length array.new ≡ length array.old }
+{
+    u8x32::from_slice(bytes).copy_to_slice(&mut array[place..]);
+    u8x16::from_slice(&bytes[32..]).copy_to_slice(&mut array[place + 32..]);
+}
+
 // Writes a text over the bytes of an array from a place on, where there is room for the longest of its type: so the copy is of one of
-// two lengths. The bytes are taken out first, so that nobody has to ask whether the places overlap.
+// two lengths.
 #[inline(always)]
 fn lay_text<const M: usize>(array: &mut [u8], place: usize, text: &Text<M>)
     requires { place + M ≤ length array.old }
@@ -46,10 +59,9 @@ fn lay_text<const M: usize>(array: &mut [u8], place: usize, text: &Text<M>)
     ensures size { length array.new ≡ length array.old }
 {
     if SHORT < M {
-        let mut first = [0; SHORT];
-        first.copy_from_slice(&text.bytes[..SHORT]);
-        lay(array, place, &first);
+        lay_short(array, place, &text.bytes);
         if text.len > SHORT {
+            // Taken out first, so that nobody has to ask whether the places overlap.
             let bytes = text.bytes;
             let all = &bytes[..];
             lay(array, place + SHORT, &all[SHORT..]);
