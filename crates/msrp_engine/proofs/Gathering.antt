@@ -1,5 +1,5 @@
 -- Rows that are gathered before they are judged.
-use Rattle.std.proofs.Common.{◌≡◌, ◌++◌, [], ◌≤◌, ◌+◌, ◌*◌, ℕ, Bool, true, false, cond, length, List, Option, None, Some, option_map, refl, ap, sym, subst, ◌∙◌, inl, inr, append-nil, arith, zero, suc, ◌-◌, ◌<◌, length-append, slice_get, ◌∷◌}
+use Rattle.std.proofs.Common.{◌≡◌, ◌++◌, [], ◌≤◌, ◌+◌, ◌*◌, ℕ, Bool, true, false, cond, length, List, Option, None, Some, option_map, refl, ap, sym, subst, ◌∙◌, inl, inr, append-nil, arith, suc, ◌-◌, ◌<◌, length-append, slice_get, ◌∷◌}
 use Rattle.std.proofs.lemmas.Bool.{le-ltb}
 use Rattle.std.specs.Option.{option_or}
 use Rattle.std.specs.Prelude.{⊤, nat_lt}
@@ -20,7 +20,7 @@ use Rattle.msrp_trace.proofs.ReadThrough.{Answers, IsReadTo, read-refused, read-
 use Rattle.msrp_engine.specs.Findings.{found_first}
 use Rattle.msrp_plan.specs.Stretches.{in_tick}
 use Rattle.msrp_trace.specs.Laws.{as_read}
-use Rattle.msrp_engine.specs.Inside.Gathered.{AreLike, IsGathered, IsLike, found_in, is_missing}
+use Rattle.msrp_engine.specs.Inside.Gathered.{AreLike, IsGathered, found_in, is_missing}
 use Rattle.msrp_engine.specs.Inside.Kept.{row_of_core}
 use Rattle.msrp_engine.specs.Inside.Ticks.{AreRowsOf, IsAgain}
 use Rattle.msrp_engine.specs.declared.judged.JudgedRows.{JudgedRows}
@@ -179,16 +179,11 @@ AreLast j cores rows = (c : ℕ) → c < cores → (r : Row) → cores ≤ lengt
 pub none-last : {T : Type 0} (j : JudgedRows T) (cores : ℕ) → AreLast j cores []
 none-last j cores c low r few is t = absurd (cc)
 
-get-behind : (xs ys : List Row) (i : ℕ) → slice_get (xs ++ ys) (length xs + i) ≡ slice_get ys i
+pub get-behind : (xs ys : List Row) (i : ℕ) → slice_get (xs ++ ys) (length xs + i) ≡ slice_get ys i
 get-behind [] ys i = let same : 0 + i ≡ i = omega arith in ap (slice_get ys) same
 get-behind (x ∷ xs) ys i =
     let same : suc (length xs) + i ≡ suc (length xs + i) = omega arith in
     ap (slice_get (x ∷ (xs ++ ys))) same ∙ get-behind xs ys i
-
-get-before : (xs ys : List Row) (i : ℕ) → i < length xs → slice_get (xs ++ ys) i ≡ slice_get xs i
-get-before [] ys i low = absurd (let no : ⊥ = omega (arith, low) in no)
-get-before (x ∷ xs) ys zero low = refl
-get-before (x ∷ xs) ys (suc i) low = get-before xs ys i (omega (arith, low))
 
 -- those of one tick more
 pub tick-last : {T : Type 0} (j : JudgedRows T) (t cores : ℕ) (rows more : List Row) → AreRowsOf j t cores more → AreLast j cores (rows ++ more)
@@ -205,10 +200,3 @@ tick-last j t cores rows more of c low r few is n =
 pub next-like : {T : Type 0} (j next : JudgedRows T) (t cores : ℕ) (rows : List Row) → AreLast j cores rows → next.rows.version ≡ j.rows.version → ((c : ℕ) → c < cores → IsAgain j next t c) → AreLike next t cores rows
 next-like j next t cores rows last version again c low other r few is =
     ap (λ d. in_tick t (as_read next.rows.version d)) (again c low other) ∙ (ap (λ v. in_tick t (as_read v (row_of_core j.lasts c))) version ∙ last c low r few is t)
-
--- the row of a core that isn't made anew is like the one that stands as many rows before its place as there are cores
-pub like-at : {T : Type 0} (j : JudgedRows T) (t cores k : ℕ) (old some now : List Row) → AreLike j t cores old → k < cores → now ≡ old ++ some → length some ≡ k → IsLike j t k cores now
-like-at j t cores k old some now like low is size other r few at =
-    let long : length now ≡ length old + k = ap length is ∙ (length-append old some ∙ ap (λ n. length old + n) size) in
-    let place : slice_get now (length now - cores) ≡ slice_get old (length old + k - cores) = ap (λ n. slice_get now (n - cores)) long ∙ (ap (λ l. slice_get l (length old + k - cores)) is ∙ get-before old some (length old + k - cores) (omega (arith, low, long, few))) in
-    like k low other r (omega (arith, long, few)) (sym place ∙ at)

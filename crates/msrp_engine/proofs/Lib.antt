@@ -11,3 +11,4 @@ pub mod Reporting
 pub mod Gathering
 mod WholeTicks
 mod Counting
+mod Repeating

@@ -1,5 +1,5 @@
 //! The audit of a trace's text in pieces: the rows are gathered, and then judged side by side.
-ghost use Rattle.std.specs.Prelude.{◌≡◌, ◌++◌, ◌∷◌, List, [], true, Some, Err, IfErr, OnOk};
+ghost use Rattle.std.specs.Prelude.{◌≡◌, ◌++◌, List, [], true, Some, Err, IfErr};
 ghost use Rattle.msrp_audit.specs.Audits.{HasFed};
 ghost use Rattle.msrp_plan.specs.declared.rows.Row.{Row as TraceRow};
 ghost use Rattle.msrp_trace.specs.Reading.{Told, rows_of};
@@ -7,8 +7,8 @@ ghost use Rattle.msrp_engine.specs.Answered.{Answered, OfText, OfTexts, ReadsBot
 ghost use Rattle.msrp_engine.specs.AuditText.{AuditAnswers};
 ghost use Rattle.msrp_engine.specs.Findings.{finding, finding_of};
 ghost use Rattle.msrp_engine.specs.Judging.{rows_left};
-ghost use Rattle.msrp_engine.specs.Inside.Gathered.{AreLike, Gathers, IsLike, IsGathered, IsGatheredTo, found_in, is_missing};
-ghost use Rattle.msrp_engine.specs.Inside.Ticks.{AreRowsOf, IsRowOf};
+ghost use Rattle.msrp_engine.specs.Inside.Gathered.{AreAgain, AreLike, Gathers, IsGathered, IsGatheredTo, Replaces, found_in, is_missing};
+ghost use Rattle.msrp_engine.specs.Inside.Ticks.{AreRowsOf};
 ghost use Rattle.msrp_faults.specs.Outcomes.{is_trace_fault, is_audit_fault};
 
 use crate::audit::write_verdict;
@@ -25,28 +25,46 @@ use std::alloc::Global;
 use std::io::{Read, Write};
 use std::thread::Threads;
 
-// Gathers the row of a core in a tick that was taken. One that wasn't made anew is, but for its tick, the one that stands so many rows before, where there
-// are as many.
-#[inline(always)]
-fn gather_row<T: Read>(
+// Gathers the rows of a tick that were taken, one by one.
+#[inline(never)]
+fn push_rows<T: Read>(
     rows: &JudgedRows<'_, '_, T>,
     tick: u32,
-    core: CoreId,
+    cores: u32,
     gathered: &mut Gathered,
-    back: usize,
 ) -> Result<(), Memory>
-    requires { IsLike rows.now tick core.0 back gathered.old }
-    ensures pushed { OnOk result ((row : TraceRow) → IsRowOf rows.now tick core.0 row → gathered.new ≡ gathered.old ++ row ∷ []) }
-    ensures kept { IfErr result (λ _. gathered.new ≡ gathered.old) }
+    ensures { (more : List TraceRow) → AreRowsOf rows.now tick cores more → Gathers result gathered.old gathered.new more }
 {
-    if rows.is_anew(tick, core) || gathered.len() < back {
-        gathered.push(rows.row_in(tick, core))
-    } else {
-        gathered.push_like(back, rows.row_in(tick, core))
+    for core in 0..cores {
+        gathered.push(rows.row_in(tick, CoreId(core)))?;
     }
+    Ok(())
 }
 
-// Gathers the rows of a tick that were taken. One that wasn't made anew is like the core's last one, which stands as many rows before it as there are cores.
+// Puts the rows of a tick that were made anew in the places of those that were gathered last, one for each core, and answers
+// whether it did.
+#[inline(always)]
+fn replace_anew<T: Read>(
+    rows: &JudgedRows<'_, '_, T>,
+    tick: u32,
+    cores: u32,
+    gathered: &mut Gathered,
+) -> bool
+    ensures { (old again more : List TraceRow) → gathered.old ≡ old ++ again → AreRowsOf rows.now tick cores more → AreAgain rows.now tick again more → Replaces result old gathered.new more }
+{
+    for core in 0..cores {
+        if rows.is_anew(tick, CoreId(core)) {
+            let row = rows.row_in(tick, CoreId(core));
+            if !gathered.replace((cores - core) as usize, row) {
+                return false;
+            }
+        }
+    }
+    true
+}
+
+// Gathers the rows of a tick that were taken: all of the tick before once more, and then those that were made anew in their
+// places. Where that can't be done, as in the first tick, they are gathered one by one.
 #[inline(always)]
 fn gather_tick<T: Read>(
     rows: &JudgedRows<'_, '_, T>,
@@ -57,11 +75,13 @@ fn gather_tick<T: Read>(
     requires { AreLike rows.now tick cores gathered.old }
     ensures { (more : List TraceRow) → AreRowsOf rows.now tick cores more → Gathers result gathered.old gathered.new more }
 {
-    let back = cores as usize;
-    for core in 0..cores {
-        gather_row(rows, tick, CoreId(core), gathered, back)?;
+    if gathered.repeat(cores as usize, tick)? {
+        if replace_anew(rows, tick, cores, gathered) {
+            return Ok(());
+        }
+        gathered.cut(cores as usize);
     }
-    Ok(())
+    push_rows(rows, tick, cores, gathered)
 }
 
 // Gathers the rows of whole ticks from the first one on, as long as they come by the numbers of the cores.

@@ -1,46 +1,42 @@
-use Rattle.std.proofs.Common.{rules, ◌≡◌, ◌++◌, ◌∷◌, [], Err, refl, sym, ap, ◌∙◌, subst, append-nil, append_assoc, length-append, ◌+◌, take, drop, take-append-drop}
-use Rattle.msrp_plan.specs.Stretches.{in_tick}
-use Rattle.msrp_trace.specs.Laws.{as_read}
-use Rattle.msrp_engine.specs.Inside.Gathered.{Gathers}
-use Rattle.msrp_engine.specs.Inside.Kept.{row_of_core}
-use Rattle.msrp_engine.proofs.Counting.{next_rows, row_at}
-use Rattle.msrp_engine.proofs.Gathering.{like-at}
+use Rattle.std.proofs.Common.{rules, ◌≡◌, ◌++◌, List, Ok, Err, true, false, length, arith, sym, ap, ◌∙◌, subst, ◌-◌, take}
+use Rattle.std.proofs.Math.Seq.{take-append_seam}
+use Rattle.std.proofs.lemmas.List.{length-append}
+use Rattle.msrp_plan.specs.declared.rows.Row.{Row}
+use Rattle.msrp_engine.specs.Inside.Gathered.{Gathers, Replaces}
+use Rattle.msrp_engine.proofs.Repeating.{again}
 use Rattle.msrp_engine.proofs.audit_parallel.gather_tick.Goals as goal
+use Rattle.msrp_engine.proofs.audit_parallel.gather_tick.Goals.{then-branch+else-replace_anew, else-branch}
 
-pub loop-core-init : goal.loop-core-init
-loop-core-init g c = record {
-  rows = λ more rows. sym (append-nil c.args.gathered.now);
-  first = ([], sym (append-nil c.args.gathered.now), refl);
-}
-
-pub gather_row-requires : goal.gather_row-requires
-gather_row-requires g c =
-    let first = c.loop-core.invariant.first in
-    like-at c.args.rows.now c.args.tick c.args.cores c.loop-core.core c.args.gathered.now first.0 c.loop-core.gathered c.requires c.loop-core-test.true first.1 first.2
-
-pub loop-core-preserved : goal.loop-core-preserved
-loop-core-preserved g c =
-    let j = c.args.rows.now in
-    let r = in_tick c.args.tick (as_read j.rows.version (row_of_core j.lasts c.loop-core.core)) in
-    let first = c.loop-core.invariant.first in
-    let pushed = c.in_ok-gather_row.ensures.pushed r refl in
-    record {
-      rows = λ more rows.
-          let is = row_at j c.args.tick c.args.cores c.loop-core.core more r rows c.loop-core-test.true refl in
-          pushed ∙ (ap (λ l. l ++ r ∷ []) (c.loop-core.invariant.rows more rows) ∙ sym (next_rows c.args.gathered.now more c.loop-core.core r is));
-      first = (
-        first.0 ++ r ∷ [],
-        pushed ∙ (ap (λ l. l ++ r ∷ []) first.1 ∙ append_assoc c.args.gathered.now first.0 (r ∷ [])),
-        length-append first.0 (r ∷ []) ∙ ap (λ n. n + 1) first.2,
-      );
-    }
-
-pub returns-in_err-gather_row : goal.returns-in_err-gather_row
-returns-in_err-gather_row g c = λ more rows.
+pub returns-in_err-repeat : goal.returns-in_err-repeat
+returns-in_err-repeat g c = λ more rows.
     let old = c.args.gathered.now in
-    let k = c.loop-core.core in
-    let kept : c.gather_row.new.gathered ≡ c.loop-core.gathered = search rules in
+    let kept : c.repeat.new.self ≡ old = search rules in
     let gives : c.from_residual.result ≡ Err (record {}) = search rules in
-    let first : old ++ take k more ≡ c.gather_row.new.gathered = sym (kept ∙ c.loop-core.invariant.rows more rows) in
-    subst (λ r. Gathers r old c.gather_row.new.gathered more) (sym gives)
-    (drop k more, ap (λ l. old ++ l) (sym (take-append-drop k more)) ∙ (sym (append_assoc old (take k more) (drop k more)) ∙ ap (λ l. l ++ drop k more) first))
+    subst (λ r. Gathers r old c.repeat.new.self more) (sym gives) (more, ap (λ l. l ++ more) (sym kept))
+
+pub returns-then-replace_anew : goal.returns-then-replace_anew
+returns-then-replace_anew g c = λ more rows.
+    let old = c.args.gathered.now in
+    let did : c.repeat.result ≡ Ok true = search rules in
+    let once = c.repeat.ensures.again did in
+    let are = again c.args.rows.now c.args.tick c.args.cores old more c.requires once.0 rows in
+    subst (λ b. Replaces b old c.replace_anew.new.gathered more) c.if-replace_anew.true (c.replace_anew.ensures old _ more once.1 rows are)
+
+pub returns : goal.returns
+returns g c = λ more rows.
+    let old = c.args.gathered.now in
+    let before : c.if-branch.gathered ≡ old = elim c.if-branch.branch [
+      | then-branch+else-replace_anew w ↦
+          let did : c.repeat.result ≡ Ok true = search rules in
+          let once = c.repeat.ensures.again did in
+          let are = again c.args.rows.now c.args.tick c.args.cores old more c.requires once.0 rows in
+          let no : w.replace_anew.result ≡ false = search rules in
+          let put = subst (λ b. Replaces b old w.replace_anew.new.gathered more) no (w.replace_anew.ensures old _ more once.1 rows are) in
+          let size : length w.replace_anew.new.gathered - c.args.cores ≡ length old = ap (λ l. length l - c.args.cores) put.1 ∙ omega (arith, length-append old put.0, put.2, rows.size) in
+          w.gathered-is ∙ (w.cut.ensures ∙ (ap (λ n. take n w.replace_anew.new.gathered) size ∙ (ap (take (length old)) put.1 ∙ take-append_seam old put.0)))
+      | else-branch w ↦
+          let no : c.repeat.result ≡ Ok false = search rules in
+          let kept : c.repeat.new.self ≡ old = search rules in
+          w.gathered-is ∙ kept
+    ] in
+    subst (λ (l : List Row). Gathers c.push_rows.result l c.push_rows.new.gathered more) before (c.push_rows.ensures more rows)
