@@ -10,4 +10,3 @@ pub mod Following
 pub mod Again
 pub mod Queueing
 pub mod Turned
-pub mod Places

@@ -1,5 +1,5 @@
 -- What the rows on one resource tell of its queue, and whether they have its reply.
-use Rattle.std.proofs.Common.{◌≡◌, ℕ, ◌+◌, ◌<◌, ◌&&◌, eqb-true, Bool, true, false, cond, List, [], ◌∷◌, ◌++◌, Option, Some, None, refl, ap, sym, ◌∙◌, arith, length, take, append-nil, get_or}
+use Rattle.std.proofs.Common.{◌≡◌, ℕ, zero, suc, ◌+◌, ◌<◌, ◌&&◌, eqb-true, Bool, true, false, cond, List, [], ◌∷◌, ◌++◌, Option, Some, None, refl, ap, sym, ◌∙◌, arith, length, take, append-nil, get_or}
 use Rattle.std.specs.List.{count_by, filter_map, cons_option}
 use Rattle.std.proofs.Math.Bool.{and-false}
 use Rattle.std.proofs.lemmas.List.Sums.{sum_by_push}
@@ -21,6 +21,12 @@ use Rattle.msrp_audit.specs.Inside.Pieces.{broken_reply, TellsFirst}
 use Rattle.msrp_audit.specs.declared.pieces.Piece.TheVariants.{Resource}
 use Rattle.msrp_audit.proofs.Scanning.{PassesTo, passes_more, ends_at, finds_at}
 use Rattle.msrp_audit.proofs.Merging.{sound}
+
+-- a row stands at a place
+pub row_at : (rows : List Row) (i : ℕ) → i < length rows → (x : Row) × (x ≡ get_or rows i x)
+row_at [] i low = absurd (let no : ⊥ = omega (arith, low) in no)
+row_at (x ∷ rows) zero low = (x, refl)
+row_at (x ∷ rows) (suc i) low = let more = row_at rows i (omega (arith, low)) in (more.0, more.1)
 
 -- a row that is not on the resource neither requests nor releases it
 pub off_taken : (kept : Requests) (g : ℕ) (rows : List Row) (r : Row) → is_on g r.res ≡ false → HasTaken kept g rows → HasTaken kept g (rows ++ r ∷ [])

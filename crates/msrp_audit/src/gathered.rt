@@ -40,7 +40,8 @@ const NO_JOB: JobId = JobId {
     k: 0,
 };
 
-const NO_RES: ResId = ResId(0);
+// The number of no resource of a plan.
+const NO_RES: ResId = ResId(u8::MAX as u32);
 
 impl KeptRow {
     // The row so, where its numbers are small enough.
@@ -118,10 +119,8 @@ impl KeptRow {
     fn names(&self, res: ResId) -> bool
         ensures { result ≡ is_on res.0 (row_of self.now).res }
     {
-        match self.what.kind {
-            Kind::Idle | Kind::Run => false,
-            _ => self.what.res as u32 == res.0,
-        }
+        // The number first: a row that names none mostly has another one.
+        self.what.res as u32 == res.0 && !matches!(self.what.kind, Kind::Idle | Kind::Run)
     }
 
     // The row that is kept so.

@@ -5,11 +5,10 @@ ghost use Rattle.msrp_plan.specs.declared.rows.Row.{Row as TraceRow};
 ghost use Rattle.msrp_plan.specs.Verdict.{fault_in, verdict};
 ghost use Rattle.msrp_audit.specs.Audits.{answer_of};
 ghost use Rattle.msrp_audit.specs.Inside.Pieces.{broken_in, earlier_of, earliest_of, fault_order, length_fault_of, piece_with, pieces_of, rule_number, TellsFirst};
-ghost use Rattle.msrp_audit.specs.Inside.Walks.{KeepsOrder, naming_places};
+ghost use Rattle.msrp_audit.specs.Inside.Walks.{KeepsOrder};
 
 use crate::gathered::{Gathered, Rows};
 use crate::pieces::{judge, pieces};
-use crate::queues::naming_places;
 use crate::turns::steady_rows;
 use msrp_levels::Levels;
 use msrp_plan::{Fault, Memory, Plan, Rule, Trace};
@@ -67,16 +66,14 @@ fn first_fault(
 {
     let count = pieces(plan);
     let steady = steady_rows(plan, rows);
-    let named = naming_places(alloc, rows)?;
-    let places = named.as_slice();
     let faults = (0..count)
         .into_par_iter()
         .with_min_len(1)
         .map(
             |number: u32| -> Result<Option<Fault>, Memory>
-                requires { (number < pieces_of plan.now) × (levels.now ≡ plan.now) × (length rows.now ≤ plan.now.cores * plan.now.ticks) × (KeepsOrder plan.now.cores rows.now steady) × (places.now ≡ naming_places 0 rows.now) }
+                requires { (number < pieces_of plan.now) × (levels.now ≡ plan.now) × (length rows.now ≤ plan.now.cores * plan.now.ticks) × (KeepsOrder plan.now.cores rows.now steady) }
                 ensures { IfOk result (TellsFirst plan.entry.now (broken_in plan.entry.now (piece_with plan.entry.now number)) rows.entry.now) }
-            { judge(alloc, plan, levels, rows, steady, places, number) },
+            { judge(alloc, plan, levels, rows, steady, number) },
         )
         .collect::<Result<Vec<Option<Fault>>, Memory>>(rt, alloc);
     match faults {

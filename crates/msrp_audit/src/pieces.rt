@@ -2,7 +2,7 @@
 ghost use Rattle.std.specs.Prelude.{◌≡◌, ◌≤◌, ◌<◌, ◌*◌, IfOk, length};
 ghost use Rattle.msrp_plan.specs.WellFormed.{IsPlan};
 ghost use Rattle.msrp_audit.specs.Inside.Pieces.{broken_in, listed, parts, piece_with, pieces_of, share_size, TellsFirst};
-ghost use Rattle.msrp_audit.specs.Inside.Walks.{KeepsOrder, naming_places};
+ghost use Rattle.msrp_audit.specs.Inside.Walks.{KeepsOrder};
 
 use crate::core_rows::judge_core;
 use crate::gathered::Rows;
@@ -76,26 +76,24 @@ fn piece_at(plan: &Plan, number: u32) -> Piece
 }
 
 /// The first fault that the piece of that number finds in the rows, which are not more than the plan has turns. So
-/// many of them are steady, and the places are those of the rows that name a resource.
+/// many of them are steady.
 pub(crate) fn judge(
     alloc: Global,
     plan: &Plan,
     levels: &Levels,
     rows: &Rows<'_>,
     steady: usize,
-    places: &[u32],
     number: u32,
 ) -> Result<Option<Fault>, Memory>
     requires levels { levels.now ≡ plan.now }
     requires rows { length rows.now ≤ plan.now.cores * plan.now.ticks }
     requires steady { KeepsOrder plan.now.cores rows.now steady }
-    requires places { places.now ≡ naming_places 0 rows.now }
     requires number { number < pieces_of plan.now }
     ensures { IfOk result (TellsFirst plan.now (broken_in plan.now (piece_with plan.now number)) rows.now) }
 {
     match piece_at(plan, number) {
         Piece::Core(core) => judge_core(alloc, plan, levels, rows, steady, core),
         Piece::Turns(part) => Ok(judge_turns(plan, rows, steady, part)),
-        Piece::Resource(res) => judge_resource(alloc, plan, levels, rows, places, res),
+        Piece::Resource(res) => judge_resource(alloc, plan, levels, rows, res),
     }
 }

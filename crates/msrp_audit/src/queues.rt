@@ -4,9 +4,7 @@ ghost use Rattle.msrp_plan.specs.Queues.{counts, is_behind, is_first, is_reply_o
 ghost use Rattle.std.specs.List.{list_any};
 ghost use Rattle.msrp_plan.specs.Levels.{is_global};
 ghost use Rattle.msrp_plan.specs.Jobs.{same_job};
-ghost use Rattle.msrp_plan.specs.Limits.{most_rows};
 ghost use Rattle.msrp_audit.specs.Inside.Pieces.{broken_reply, TellsFirst};
-ghost use Rattle.msrp_audit.specs.Inside.Walks.{naming_places};
 
 use crate::gathered::Rows;
 use msrp_levels::Levels;
@@ -66,20 +64,6 @@ fn is_reply(queue: &[JobId], row: Row) -> bool
     replies(queue, row) && counts(queue, row)
 }
 
-/// The places of the rows that name a resource, in rising order.
-pub(crate) fn naming_places(alloc: Global, rows: &Rows<'_>) -> Result<Vec<u32>, Memory>
-    requires { length rows.now ≤ most_rows }
-    ensures { IfOk result (λ places. places.items ≡ naming_places 0 rows.now) }
-{
-    let mut places = Vec::new(alloc);
-    for place in 0..rows.len() {
-        if rows.row(place).res.is_some() {
-            places.push(place as u32)?;
-        }
-    }
-    Ok(places)
-}
-
 // Whether a resource is global. One that the plan hasn't is none.
 fn is_global(plan: &Plan, levels: &Levels, res: ResId) -> bool
     requires { levels.now ≡ plan.now }
@@ -88,7 +72,7 @@ fn is_global(plan: &Plan, levels: &Levels, res: ResId) -> bool
     res.0 < plan.resources() && levels.is_global(res)
 }
 
-/// The first row on a global resource that has not its queue's reply. Only the rows that name a resource are looked at.
+/// The first row on a global resource that has not its queue's reply.
 ///
 /// More jobs than cores never stand in the queue of a legal run: where they do, an earlier row breaks a rule, and the
 /// piece has no more to say.
@@ -97,28 +81,26 @@ pub(crate) fn judge_resource(
     plan: &Plan,
     levels: &Levels,
     rows: &Rows<'_>,
-    places: &[u32],
     res: ResId,
 ) -> Result<Option<Fault>, Memory>
     requires levels { levels.now ≡ plan.now }
     requires rows { length rows.now ≤ plan.now.cores * plan.now.ticks }
-    requires places { places.now ≡ naming_places 0 rows.now }
     ensures { IfOk result (TellsFirst plan.now (broken_reply plan.now res.0) rows.now) }
 {
     if !is_global(plan, levels, res) {
         return Ok(None);
     }
     let mut requests = Requests::of(alloc, res);
-    for place in places {
-        if rows.names(*place as usize, res) {
-            let row = rows.row(*place as usize);
+    for place in 0..rows.len() {
+        if rows.names(place, res) {
+            let row = rows.row(place);
             let queue = requests.queue();
             if queue.len() > plan.cores() as usize {
                 return Ok(None);
             }
             if !is_reply(queue, row) {
                 return Ok(Some(Fault {
-                    row: *place + 1,
+                    row: place as u32 + 1,
                     rule: Rule::A5,
                 }));
             }

@@ -1,5 +1,5 @@
 -- What a piece of an audit keeps as it goes over the rows, and what is found once for all pieces.
-use Rattle.std.specs.Prelude.{ℕ, List, [], ◌∷◌, ◌++◌, ◌+◌, ◌/◌, Bool, Some, None, IfSome, true, false, is_some, if◌then◌else◌, slice_index_or, slice_get, take, length, ◌≡◌, ◌≢◌, ◌<◌, ◌≤◌}
+use Rattle.std.specs.Prelude.{ℕ, List, ◌∷◌, ◌++◌, ◌+◌, ◌/◌, Bool, Some, None, IfSome, true, false, slice_index_or, slice_get, take, length, ◌≡◌, ◌≢◌, ◌<◌, ◌≤◌}
 use Rattle.msrp_plan.specs.Plan.{PlanModel}
 use Rattle.msrp_plan.specs.Logs.{log_of}
 use Rattle.msrp_plan.specs.Runs.{IsRunStart, had_turn, is_in_turn}
@@ -43,8 +43,3 @@ pub record HasFollowed (plan : PlanModel) (rows : List Row) (r : Row) (i : ℕ) 
   pub next : NextDoesAs m r
   pub none : (pre : List Row) (s : Row) (post : List Row) → rows ≡ pre ++ s ∷ post → IsRunStart plan pre → length pre < i + 1 → broken_on_core plan r.core.0 pre s ≡ None
   pub stands : IsRunStart plan (take (i + 1) rows) → StandsAfter m (log_of r.core.0 (take (i + 1) rows))
-
--- the places, counted from this one on, of the rows that name a resource
-abbrev pub naming_places : ℕ → List Row → List ℕ
-naming_places n [] = []
-naming_places n (r ∷ rows) = if is_some r.res then n ∷ naming_places (n + 1) rows else naming_places (n + 1) rows

@@ -4,7 +4,7 @@ use Rattle.rayon.specs.Numbers.{nat_range}
 use Rattle.rayon.proofs.ToStd.{nat_range-All}
 use Rattle.msrp_plan.specs.declared.faults.Fault.{Fault}
 use Rattle.msrp_audit.specs.Inside.Pieces.{broken_in, earliest_of, piece_with, pieces_of, TellsFirst}
-use Rattle.msrp_audit.specs.Inside.Walks.{KeepsOrder, naming_places}
+use Rattle.msrp_audit.specs.Inside.Walks.{KeepsOrder}
 use Rattle.msrp_audit.proofs.Merging.{all_ok, first_is, matched, opened}
 use Rattle.msrp_audit.proofs.parallel.first_fault.Goals as goal
 
@@ -12,7 +12,7 @@ pub collect-faults-requires-clause-ready : goal.collect-faults-requires-clause-r
 collect-faults-requires-clause-ready g c =
     let ends = c.into_par_iter.ensures in
     let size = c.pieces-count.ensures.number in
-    let inside = nat_range-All (λ i. (i < pieces_of c.args.plan.now) × (c.args.levels.now ≡ c.args.plan.now) × (length c.args.rows.now ≤ c.args.plan.now.cores * c.args.plan.now.ticks) × (KeepsOrder c.args.plan.now.cores c.args.rows.now c.steady_rows-steady.result) × (c.as_slice-places.result.now ≡ naming_places 0 c.args.rows.now)) 0 c.pieces-count.result (λ i low high. (omega (arith, high, size), c.requires.levels, c.requires.rows, c.steady_rows-steady.ensures, c.as_slice-places.ensures.value ∙ c.in_ok-named.ensures)) in
+    let inside = nat_range-All (λ i. (i < pieces_of c.args.plan.now) × (c.args.levels.now ≡ c.args.plan.now) × (length c.args.rows.now ≤ c.args.plan.now.cores * c.args.plan.now.ticks) × (KeepsOrder c.args.plan.now.cores c.args.rows.now c.steady_rows-steady.result)) 0 c.pieces-count.result (λ i low high. (omega (arith, high, size), c.requires.levels, c.requires.rows, c.steady_rows-steady.ensures)) in
     rw (c.map.ensures.base, c.map.ensures.f, c.with_min_len.ensures.base, ends.0, ends.1) (λ κs h k d lt. (inside k d lt, λ y p. tt))
 
 pub returns-in-Ok-Ok : goal.returns-in-Ok-Ok
