@@ -1,10 +1,12 @@
 -- What is kept of a row tells it; and of the rows that are kept the first ones, one in the place of another, and some once more.
-use Rattle.std.proofs.Common.{◌≡◌, ℕ, ◌<◌, ◌≤◌, zero, suc, ◌+◌, ◌-◌, List, [], ◌∷◌, ◌++◌, length, map, min, drop, take, is_some, slice_get, slice_index_or, slice_set, refl, ap, sym, ◌∙◌, arith, append_assoc, append-nil}
-use Rattle.std.proofs.lemmas.List.{drop_at, drop-map, get_or_append_left, length-map, map-append, map-set, take-map, take_min}
+use Rattle.std.proofs.Common.{◌≡◌, ℕ, ◌<◌, ◌≤◌, zero, suc, ◌+◌, ◌-◌, List, [], ◌∷◌, ◌++◌, Bool, cond, not, eqb, Some, None, length, length-append, length-drop, map, min, drop, take, is_some, slice_get, slice_index_or, slice_set, refl, ap, sym, ◌∙◌, arith, append_assoc, append-nil}
+use Rattle.std.proofs.lemmas.List.{drop_at, drop-map, get_or_append_left, length-map, map-append, map-set, take-map, take_all, take_min}
 use Rattle.std.proofs.lemmas.List.Elements.{All-drop, All-head, All-same}
 use Rattle.std.proofs.lemmas.List.Edits.{between_more}
-use Rattle.std.specs.List.{All, between}
-use Rattle.std.specs.Option.{ForSome, unwrap_or}
+use Rattle.std.proofs.lemmas.List.Folds.{prefix_len-append}
+use Rattle.std.proofs.lemmas.List.Sums.{prefix_len-le-length}
+use Rattle.std.specs.List.{All, between, position, position_or_len}
+use Rattle.std.specs.Option.{ForSome, option_map, unwrap_or}
 use Rattle.msrp_plan.specs.Shape.{ahead_of_kind, job_of_kind, res_of_kind}
 use Rattle.msrp_plan.specs.declared.ids.JobId.{JobId}
 use Rattle.msrp_plan.specs.declared.ids.ResId.{ResId}
@@ -63,6 +65,31 @@ rows_first kept rest most n m is_n is_m =
     let more = ap (λ k. take k rest) is_m ∙ (take_min (most - n) rest ∙ ap (λ k. take k rest) left) in
     ap (λ l. rows_of l (take m rest)) few ∙ (ap (rows_of (take most kept)) more ∙ rows_cut kept rest most)
 
+-- ---- those from a place on
+drop_both : {X : Type 0} (xs ys : List X) (n : ℕ) → drop (min n (length xs)) xs ++ drop (n - length xs) ys ≡ drop n (xs ++ ys)
+drop_both xs ys zero =
+    let none : min 0 (length xs) ≡ 0 = omega arith in
+    let left : 0 - length xs ≡ 0 = omega arith in
+    ap (λ k. drop k xs ++ drop (0 - length xs) ys) none ∙ ap (λ k. xs ++ drop k ys) left
+drop_both [] ys (suc n) =
+    let none : min (suc n) 0 ≡ 0 = omega arith in
+    let left : suc n - 0 ≡ suc n = omega arith in
+    ap (λ k. drop k [] ++ drop (suc n - 0) ys) none ∙ ap (λ k. drop k ys) left
+drop_both (x ∷ xs) ys (suc n) =
+    let one : min (suc n) (suc (length xs)) ≡ suc (min n (length xs)) = omega arith in
+    let less : suc n - suc (length xs) ≡ n - length xs = omega arith in
+    ap (λ k. drop k (x ∷ xs) ++ drop (suc n - suc (length xs)) ys) one ∙ (ap (λ k. drop (min n (length xs)) xs ++ drop k ys) less ∙ drop_both xs ys n)
+
+pub to_end : {X : Type 0} (xs : List X) (n : ℕ) → take (length xs - n) (drop n xs) ≡ drop n xs
+to_end xs n = let size = length-drop n xs in take_all (length xs - n) (drop n xs) (omega (arith, size))
+
+pub rows_since : (kept : List KeptRow) (rest : List Row) (from n m : ℕ) → n ≡ min from (length kept) → m ≡ from - length kept → rows_of (drop n kept) (drop m rest) ≡ drop from (rows_of kept rest)
+rows_since kept rest from n m is_n is_m =
+    let size = length-map kept row_of in
+    let first : n ≡ min from (length (map row_of kept)) = omega (arith, is_n, size) in
+    let left : m ≡ from - length (map row_of kept) = omega (arith, is_m, size) in
+    ap (λ l. l ++ drop m rest) (sym (drop-map row_of n kept)) ∙ (ap (λ k. drop k (map row_of kept) ++ drop m rest) first ∙ (ap (λ k. drop (min from (length (map row_of kept))) (map row_of kept) ++ drop k rest) left ∙ drop_both (map row_of kept) rest from))
+
 -- ---- all rows are kept in few bytes
 none_left : (rows : List Row) → length rows ≡ 0 → rows ≡ []
 none_left [] e = refl
@@ -115,3 +142,18 @@ no_rest ks (r ∷ rest) now view wide all =
     let rows = map row_of ks in
     let left = All-drop IsNarrow (length rows) (rows ++ r ∷ rest) (All-same IsNarrow (rows_of ks (r ∷ rest)) now view all) in
     absurd (wide r refl (All-head IsNarrow r rest (All-same IsNarrow (r ∷ rest) (drop (length rows) (rows ++ r ∷ rest)) (sym (drop_at rows (r ∷ rest) (length rows) refl)) left)))
+
+-- ---- the first that passes a test, of the rows in few bytes and then of the rest
+first_map : {X Y : Type 0} (p : Y → Bool) (f : X → Y) (xs : List X) → position_or_len p (map f xs) ≡ position_or_len (λ x. p (f x)) xs
+first_map p f [] = refl
+first_map p f (x ∷ xs) = ap (λ n. cond (not (p (f x))) (1 + n) 0) (first_map p f xs)
+
+module _ (p : Row → Bool) (kept : List KeptRow) (rest : List Row) where
+  first_kept : position_or_len p (rows_of kept rest) ≡ cond (eqb (position_or_len (λ k. p (row_of k)) kept) (length kept)) (length kept + position_or_len p rest) (position_or_len (λ k. p (row_of k)) kept)
+  first_kept = prefix_len-append (λ r. not (p r)) (map row_of kept) rest ∙ rw (first_map p row_of kept, length-map kept row_of) refl
+
+  pub position_kept : (i : ℕ) → position (λ k. p (row_of k)) kept ≡ Some i → position p (rows_of kept rest) ≡ Some i
+  position_kept i at = let first = first_kept in let size = length-append (map row_of kept) rest in let same = length-map kept row_of in grind (arith)
+
+  pub position_rest : position (λ k. p (row_of k)) kept ≡ None → position p (rows_of kept rest) ≡ option_map (λ n. length kept + n) (position p rest)
+  position_rest none = let first = first_kept in let few = prefix_len-le-length (λ k. not (p (row_of k))) kept in let size = length-append (map row_of kept) rest in let same = length-map kept row_of in grind (arith)

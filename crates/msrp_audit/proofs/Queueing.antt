@@ -1,8 +1,11 @@
 -- What the rows on one resource tell of its queue, and whether they have its reply.
-use Rattle.std.proofs.Common.{◌≡◌, ℕ, zero, suc, ◌+◌, ◌<◌, ◌&&◌, eqb-true, Bool, true, false, cond, List, [], ◌∷◌, ◌++◌, Option, Some, None, refl, ap, sym, ◌∙◌, arith, length, take, append-nil, get_or}
-use Rattle.std.specs.List.{count_by, filter_map, cons_option}
+use Rattle.std.proofs.Common.{◌≡◌, ℕ, zero, suc, ◌+◌, ◌-◌, ◌<◌, ◌≤◌, ◌&&◌, eqb-true, Bool, true, false, not, cond, List, [], ◌∷◌, ◌++◌, Option, Some, None, refl, ap, sym, ◌∙◌, subst, arith, length, length-drop, take, drop, append-nil, get_or}
+use Rattle.std.specs.List.{count_by, filter_map, cons_option, position, position_or_len}
 use Rattle.std.proofs.Math.Bool.{and-false}
-use Rattle.std.proofs.lemmas.List.Sums.{sum_by_push}
+use Rattle.std.proofs.lemmas.Bool.{not-true}
+use Rattle.std.proofs.lemmas.List.{get_or-drop}
+use Rattle.std.proofs.lemmas.List.Sums.{prefix_len-le-length, prefix_len_passes, sum_by_push}
+use Rattle.std.proofs.lemmas.List.Quantifiers.{position-Some}
 use Rattle.std.proofs.lemmas.List.Elements.{filter_map-append}
 use Rattle.msrp_plan.specs.Plan.{PlanModel}
 use Rattle.msrp_plan.specs.Levels.{is_global}
@@ -19,17 +22,17 @@ use Rattle.msrp_plan.proofs.Queues.QueueLocks.{global_named}
 use Rattle.msrp_plan.proofs.Queues.QueueMembers.{queue_at, queue_short}
 use Rattle.msrp_audit.specs.Inside.Pieces.{broken_reply, TellsFirst}
 use Rattle.msrp_audit.specs.declared.pieces.Piece.TheVariants.{Resource}
-use Rattle.msrp_audit.proofs.Scanning.{PassesTo, passes_more, ends_at, finds_at}
+use Rattle.msrp_audit.proofs.Scanning.{PassesTo, one_more, passes_all, passes_more, ends_at, finds_at}
 use Rattle.msrp_audit.proofs.Merging.{sound}
 
 -- a row stands at a place
-pub row_at : (rows : List Row) (i : ℕ) → i < length rows → (x : Row) × (x ≡ get_or rows i x)
+row_at : (rows : List Row) (i : ℕ) → i < length rows → (x : Row) × (x ≡ get_or rows i x)
 row_at [] i low = absurd (let no : ⊥ = omega (arith, low) in no)
 row_at (x ∷ rows) zero low = (x, refl)
 row_at (x ∷ rows) (suc i) low = let more = row_at rows i (omega (arith, low)) in (more.0, more.1)
 
 -- a row that is not on the resource neither requests nor releases it
-pub off_taken : (kept : Requests) (g : ℕ) (rows : List Row) (r : Row) → is_on g r.res ≡ false → HasTaken kept g rows → HasTaken kept g (rows ++ r ∷ [])
+off_taken : (kept : Requests) (g : ℕ) (rows : List Row) (r : Row) → is_on g r.res ≡ false → HasTaken kept g rows → HasTaken kept g (rows ++ r ∷ [])
 off_taken kept g rows r off has =
     let asked = filter_map-append (requester g) rows (r ∷ []) ∙ (ap (λ c. filter_map (requester g) rows ++ cons_option (cond (c && is_request r.kind) r.job None) []) off ∙ append-nil (filter_map (requester g) rows)) in
     let left : count_by (is_release_of g) (rows ++ r ∷ []) ≡ count_by (is_release_of g) rows + 0 = sum_by_push (λ w. cond (is_release_of g w) 1 0) rows r ∙ ap (λ c. count_by (is_release_of g) rows + cond (c && is_release r.kind) 1 0) off in
@@ -38,7 +41,7 @@ off_taken kept g rows r off has =
 
 module _ (plan : PlanModel) (res : ResId) (rows : List Row) (i : ℕ) (x : Row) (at : x ≡ get_or rows i x) (passes : PassesTo plan (broken_reply plan res.0) rows i) where
   -- a row that is not on it
-  pub off_passes : is_on res.0 x.res ≡ false → PassesTo plan (broken_reply plan res.0) rows (i + 1)
+  off_passes : is_on res.0 x.res ≡ false → PassesTo plan (broken_reply plan res.0) rows (i + 1)
   off_passes off = passes_more plan (broken_reply plan res.0) rows i x passes at
       (λ start. ap (λ b. cond (is_global plan res.0 && b) (cond (is_fifo_reply (take i rows) x) None (Some A5)) None) off ∙ ap (λ b. cond b (cond (is_fifo_reply (take i rows) x) None (Some A5)) None) (and-false (is_global plan res.0)))
 
@@ -68,3 +71,66 @@ module _ (plan : PlanModel) (res : ResId) (rows : List Row) (i : ℕ) (x : Row) 
         let size = ap length is in
         omega (arith, short, size, long) in
         ends_at plan (broken_reply plan res.0) rows i x passes at (λ start. absurd (bad start)) (λ start legal. bad start)
+
+-- ---- the queue is known up to a place, and all rows before it have its reply
+pub record StandsAt (plan : PlanModel) (res : ResId) (rows : List Row) (kept : Requests) (i : ℕ) : Type 0 where
+  pub within : i ≤ length rows
+  pub has : HasTaken kept res.0 (take i rows)
+  pub passes : PassesTo plan (broken_reply plan res.0) rows i
+
+-- how many rows from a place on come before the first that names the resource
+abbrev until_naming : ResId → ℕ → List Row → ℕ
+until_naming res i rows = position_or_len (λ (r : Row). is_on res.0 r.res) (drop i rows)
+
+-- the place of a row that names it is one of theirs
+pub reached : (res : ResId) (rows : List Row) (i more : ℕ) → position (λ (r : Row). is_on res.0 r.res) (drop i rows) ≡ Some more → i + more < length rows
+reached res rows i more e =
+    let left = length-drop i rows in
+    let inside : more < length (drop i rows) = grind (arith) in
+    omega (arith, inside, left)
+
+module _ (plan : PlanModel) (res : ResId) (rows : List Row) (kept : Requests) where
+  -- rows that are off it are passed over
+  pass_over : (n i : ℕ) → i + n ≤ length rows → ((j : ℕ) (d : Row) → i ≤ j → j < i + n → is_on res.0 (get_or rows j d).res ≡ false) → StandsAt plan res rows kept i → StandsAt plan res rows kept (i + n)
+  pass_over zero i within off at = subst (StandsAt plan res rows kept) (let same : i ≡ i + 0 = omega arith in same) at
+  pass_over (suc n) i within off at =
+      let low : i < length rows = omega (arith, within) in
+      let some = row_at rows i low in
+      let x = some.0 in
+      let free : is_on res.0 x.res ≡ false = ap (λ (r : Row). is_on res.0 r.res) some.1 ∙ off i x (omega arith) (omega arith) in
+      let next : StandsAt plan res rows kept (i + 1) = record {
+        within = omega (arith, low);
+        has = subst (HasTaken kept res.0) (sym (one_more rows i x low some.1)) (off_taken kept res.0 (take i rows) x free at.has);
+        passes = off_passes plan res rows i x some.1 at.passes free;
+      } in
+      let same : (i + 1) + n ≡ i + suc n = omega arith in
+      subst (StandsAt plan res rows kept) same (pass_over n (i + 1) (omega (arith, within)) (λ j d from to. off j d (omega (arith, from)) (omega (arith, to))) next)
+
+  pub passed : (i : ℕ) → StandsAt plan res rows kept i → StandsAt plan res rows kept (i + until_naming res i rows)
+  passed i at =
+      let p : Row → Bool = λ r. is_on res.0 r.res in
+      let n = until_naming res i rows in
+      let few = prefix_len-le-length (λ r. not (p r)) (drop i rows) in
+      let left = length-drop i rows in
+      let within = at.within in
+      pass_over n i (omega (arith, few, left, within)) (λ j d from to.
+      let k = j - i in
+      let there : i + k ≡ j = omega (arith, from) in
+      let other = prefix_len_passes (λ r. not (p r)) (drop i rows) k d (omega (arith, to, from)) in
+      ap (λ m. p (get_or rows m d)) (sym there) ∙ (ap p (sym (get_or-drop i rows k d)) ∙ not-true (p (get_or (drop i rows) k d)) other)) at
+
+  -- the first row that names the resource stands behind those; and where there is none, the end
+  pub reaches : (i more : ℕ) (x : Row) → position (λ (r : Row). is_on res.0 r.res) (drop i rows) ≡ Some more → x ≡ get_or rows (i + more) x → StandsAt plan res rows kept i → (i + more < length rows) × (is_on res.0 x.res ≡ true) × StandsAt plan res rows kept (i + more)
+  reaches i more x e there at =
+      let p : Row → Bool = λ r. is_on res.0 r.res in
+      let first = position-Some p (drop i rows) more x e in
+      let same : until_naming res i rows ≡ more = grind (arith) in
+      (reached res rows i more e, ap p (there ∙ sym (get_or-drop i rows more x)) ∙ first.1, subst (λ n. StandsAt plan res rows kept (i + n)) same (passed i at))
+
+  pub ends : (i : ℕ) → position (λ (r : Row). is_on res.0 r.res) (drop i rows) ≡ None → StandsAt plan res rows kept i → TellsFirst plan (broken_reply plan res.0) rows None
+  ends i e at =
+      let n = until_naming res i rows in
+      let left = length-drop i rows in
+      let within = at.within in
+      let past : length (drop i rows) ≤ n = grind (arith) in
+      passes_all plan (broken_reply plan res.0) rows (i + n) (omega (arith, past, left, within)) (passed i at).passes

@@ -1,7 +1,7 @@
 //! Rows that are gathered before they are judged, in as few bytes as they need.
 ghost use Rattle.std.specs.Prelude.{◌≡◌, ◌<◌, ◌≤◌, ◌++◌, ◌∷◌, [], ◌+◌, ◌-◌, ◌^◌, length, map, slice_get, slice_index_or, slice_set, drop, take, IfErr, IfOk, IfSome, None, Ok, OnOk, true, false, vec_capacity, vec_len};
-ghost use Rattle.std.specs.List.{All};
-ghost use Rattle.std.specs.Option.{ForSome};
+ghost use Rattle.std.specs.List.{All, position};
+ghost use Rattle.std.specs.Option.{ForSome, option_map};
 ghost use Rattle.msrp_plan.specs.Queues.{is_on};
 ghost use Rattle.msrp_plan.specs.Stretches.{in_tick};
 ghost use Rattle.msrp_plan.specs.declared.rows.Row.{Row as TraceRow};
@@ -161,6 +161,20 @@ impl<'a> Model for Rows<'a> {
     ghost view = { λ rows. rows_of rows.kept.now rows.rest.now };
 }
 
+// The first of these rows that names the resource.
+fn naming(rows: &[Row], res: ResId) -> Option<usize>
+    ensures { result ≡ position (λ (row : TraceRow). is_on res.0 row.res) rows.now }
+{
+    rows.iter().position(|row| row.res == Some(res))
+}
+
+// The first of the rows that are kept so that names the resource.
+fn naming_kept(kept: &[KeptRow], res: ResId) -> Option<usize>
+    ensures { result ≡ position (λ k. is_on res.0 (row_of k).res) kept.now }
+{
+    kept.iter().position(|row| row.names(res))
+}
+
 impl<'a> Rows<'a> {
     /// All of these rows, as they are.
     pub(crate) fn of(rows: &'a [Row]) -> Rows<'a>
@@ -180,17 +194,25 @@ impl<'a> Rows<'a> {
         self.kept.len() + self.rest.len()
     }
 
-    /// Whether the row that stands there names the resource. It is told without the row's other parts.
-    #[inline(always)]
-    pub(crate) fn names(&self, index: usize, res: ResId) -> bool
-        requires { index < length self.now }
-        ensures { (d : TraceRow) → result ≡ is_on res.0 (slice_index_or self.now index d).res }
+    /// The rows from that one on.
+    pub(crate) fn since(&self, from: usize) -> Rows<'a>
+        requires { from ≤ length self.now }
+        ensures { result ≡ drop from self.now }
     {
         let kept = self.kept.len();
-        if index < kept {
-            self.kept[index].names(res)
-        } else {
-            self.rest[index - kept].res == Some(res)
+        Rows {
+            kept: &self.kept[from.min(kept)..],
+            rest: &self.rest[from.saturating_sub(kept)..],
+        }
+    }
+
+    /// The place of the first row that names the resource. It is found without the rows' other parts.
+    pub(crate) fn first_naming(&self, res: ResId) -> Option<usize>
+        ensures { result ≡ position (λ (row : TraceRow). is_on res.0 row.res) self.now }
+    {
+        match naming_kept(self.kept, res) {
+            Some(place) => Some(place),
+            None => naming(self.rest, res).map(|more| self.kept.len() + more),
         }
     }
 

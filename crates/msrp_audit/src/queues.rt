@@ -90,22 +90,24 @@ pub(crate) fn judge_resource(
     if !is_global(plan, levels, res) {
         return Ok(None);
     }
+    let cores = plan.cores() as usize;
     let mut requests = Requests::of(alloc, res);
-    for place in 0..rows.len() {
-        if rows.names(place, res) {
-            let row = rows.row(place);
-            let queue = requests.queue();
-            if queue.len() > plan.cores() as usize {
-                return Ok(None);
-            }
-            if !is_reply(queue, row) {
-                return Ok(Some(Fault {
-                    row: place as u32 + 1,
-                    rule: Rule::A5,
-                }));
-            }
-            requests.take(&row)?;
+    let mut from = 0;
+    while let Some(more) = rows.since(from).first_naming(res) {
+        let place = from + more;
+        let row = rows.row(place);
+        let queue = requests.queue();
+        if queue.len() > cores {
+            return Ok(None);
         }
+        if !is_reply(queue, row) {
+            return Ok(Some(Fault {
+                row: place as u32 + 1,
+                rule: Rule::A5,
+            }));
+        }
+        requests.take(&row)?;
+        from = place + 1;
     }
     Ok(None)
 }

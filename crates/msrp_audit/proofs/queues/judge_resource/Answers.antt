@@ -1,71 +1,66 @@
 use Rattle.std.proofs.Common.{◌≡◌, ◌+◌, ◌<◌, true, length, take, ap, sym, ◌∙◌, subst, arith}
+use Rattle.std.proofs.Math.Nat.{mul-le-mul_left}
+use Rattle.std.specs.List.{position}
 use Rattle.msrp_plan.specs.Levels.{is_global}
 use Rattle.msrp_plan.specs.Queues.{is_on}
 use Rattle.msrp_plan.specs.Requests.{HasTaken}
 use Rattle.msrp_plan.specs.declared.rows.Row.{Row}
-use Rattle.msrp_audit.specs.Inside.Pieces.{broken_reply}
-use Rattle.msrp_audit.proofs.Queueing.{row_at, off_taken, off_passes, reply_passes, reply_found, too_long}
-use Rattle.msrp_audit.proofs.Scanning.{one_more, passes_all}
+use Rattle.msrp_audit.proofs.Queueing.{ends, reached, reaches, reply_passes, reply_found, too_long}
+use Rattle.msrp_audit.proofs.Scanning.{one_more}
 use Rattle.msrp_audit.proofs.queues.judge_resource.Goals as goal
-use Rattle.msrp_audit.proofs.queues.judge_resource.Goals.{then-names+else-queue-cores+else-not-is_reply+in_ok-take, else-names}
 
-pub loop-place-init : goal.loop-place-init
-loop-place-init c = record {
+pub loop-more-init : goal.loop-more-init
+loop-more-init c = record {
+  within = omega arith;
   has = c.of-requests.ensures;
   passes = record { none = λ pre r post at start low. absurd (omega (arith, low)) };
 }
 
+pub overflow_add-place : goal.overflow_add-place
+overflow_add-place c =
+    let plan = c.args.plan.now in
+    let ok = c.cores-cores.ensures.plan in
+    let few = c.requires.rows in
+    let inside = reached c.args.res c.args.rows.now c.loop-more.from c.in-Some.more (sym (ap (position (λ (r : Row). is_on c.args.res.0 r.res)) c.since.ensures) ∙ (sym c.first_naming.ensures ∙ c.in-Some.is)) in
+    let few_cores = ok.draft.cores.1 in
+    let few_ticks = ok.draft.ticks.1 in
+    let most = mul-le-mul_left plan.cores few_ticks in
+    omega (arith, few, inside, few_cores, most)
+
 pub returns-then-queue-cores : goal.returns-then-queue-cores
 returns-then-queue-cores c =
-    let v = c.loop-place.invariant in
+    let x = c.row-row.result in
+    let at = c.row-row.ensures x in
+    let v = reaches c.args.plan.now c.args.res c.args.rows.now c.loop-more.requests c.loop-more.from c.in-Some.more x (sym (ap (position (λ (r : Row). is_on c.args.res.0 r.res)) c.since.ensures) ∙ (sym c.first_naming.ensures ∙ c.in-Some.is)) at c.loop-more.invariant in
     let glob : is_global c.args.plan.now c.args.res.0 ≡ true = sym c.is_global.ensures ∙ c.if-not-is_global.false in
     let long = c.if-queue-cores.true in
-    let cores = c.cores.ensures.value in
-    too_long c.args.plan.now c.args.res c.args.rows.now c.loop-place.place c.row-row.result (c.row-row.ensures c.row-row.result) v.passes c.queue-queue.result.now glob (c.queue-queue.ensures c.args.res.0 _ v.has) c.cores.ensures.plan (omega (arith, long, cores))
+    let cores = c.cores-cores.ensures.value in
+    too_long c.args.plan.now c.args.res c.args.rows.now (c.loop-more.from + c.in-Some.more) x at v.2.passes c.queue-queue.result.now glob (c.queue-queue.ensures c.args.res.0 _ v.2.has) c.cores-cores.ensures.plan (omega (arith, long, cores))
 
 pub returns-then-not-is_reply : goal.returns-then-not-is_reply
 returns-then-not-is_reply c =
-    let v = c.loop-place.invariant in
+    let x = c.row-row.result in
+    let at = c.row-row.ensures x in
+    let v = reaches c.args.plan.now c.args.res c.args.rows.now c.loop-more.requests c.loop-more.from c.in-Some.more x (sym (ap (position (λ (r : Row). is_on c.args.res.0 r.res)) c.since.ensures) ∙ (sym c.first_naming.ensures ∙ c.in-Some.is)) at c.loop-more.invariant in
     let glob : is_global c.args.plan.now c.args.res.0 ≡ true = sym c.is_global.ensures ∙ c.if-not-is_global.false in
-    let test = c.loop-place-test.true in
-    let size = c.len-place-end.ensures in
-    reply_found c.args.plan.now c.args.res c.args.rows.now c.loop-place.place c.row-row.result (c.row-row.ensures c.row-row.result) v.passes c.queue-queue.result.now glob (c.queue-queue.ensures c.args.res.0 _ v.has) c.is_reply.result
-    (omega (arith, test, size)) (ap (λ (r : Row). is_on c.args.res.0 r.res) (c.row-row.ensures c.row-row.result) ∙ (sym (c.names.ensures c.row-row.result) ∙ c.if-names.true)) c.is_reply.ensures c.if-not-is_reply.true
+    reply_found c.args.plan.now c.args.res c.args.rows.now (c.loop-more.from + c.in-Some.more) x at v.2.passes c.queue-queue.result.now glob (c.queue-queue.ensures c.args.res.0 _ v.2.has) c.is_reply.result v.0 v.1 c.is_reply.ensures c.if-not-is_reply.true
 
-pub loop-place-preserved : goal.loop-place-preserved
-loop-place-preserved c =
+pub loop-more-preserved : goal.loop-more-preserved
+loop-more-preserved c =
     let plan = c.args.plan.now in
     let res = c.args.res in
     let rows = c.args.rows.now in
-    let i = c.loop-place.place in
-    let v = c.loop-place.invariant in
+    let i = c.loop-more.from + c.in-Some.more in
+    let x = c.row-row.result in
+    let at = c.row-row.ensures x in
+    let v = reaches plan res rows c.loop-more.requests c.loop-more.from c.in-Some.more x (sym (ap (position (λ (r : Row). is_on c.args.res.0 r.res)) c.since.ensures) ∙ (sym c.first_naming.ensures ∙ c.in-Some.is)) at c.loop-more.invariant in
     let glob : is_global plan res.0 ≡ true = sym c.is_global.ensures ∙ c.if-not-is_global.false in
-    let test = c.loop-place-test.true in
-    let size = c.len-place-end.ensures in
-    let within : i < length rows = omega (arith, test, size) in
-    elim c.if-names.branch [
-      | then-names+else-queue-cores+else-not-is_reply+in_ok-take w ↦
-          let x = w.row-row.result in
-          let at = w.row-row.ensures x in
-          let more = one_more rows i x within at in
-          record {
-            has = subst (λ q. HasTaken q res.0 (take (i + 1) rows)) (sym w.requests-is) (subst (HasTaken w.take.new.self res.0) (sym more) (w.in_ok-take.ensures res.0 (take i rows) v.has));
-            passes = reply_passes plan res rows i x at v.passes w.queue-queue.result.now glob (w.queue-queue.ensures res.0 _ v.has) w.is_reply.result (ap (λ (r : Row). is_on res.0 r.res) at ∙ (sym (c.names.ensures x) ∙ w.if-names.true)) w.is_reply.ensures w.if-not-is_reply.false;
-          }
-      | else-names w ↦
-          let some = row_at rows i within in
-          let x = some.0 in
-          let at = some.1 in
-          let more = one_more rows i x within at in
-          let off = ap (λ (r : Row). is_on res.0 r.res) at ∙ (sym (c.names.ensures x) ∙ w.if-names.false) in
-          record {
-            has = subst (λ q. HasTaken q res.0 (take (i + 1) rows)) (sym w.requests-is) (subst (HasTaken c.loop-place.requests res.0) (sym more) (off_taken c.loop-place.requests res.0 (take i rows) x off v.has));
-            passes = off_passes plan res rows i x at v.passes off;
-          }
-    ]
+    let low : i < length rows = v.0 in
+    record {
+      within = omega (arith, low);
+      has = subst (HasTaken c.take.new.self res.0) (sym (one_more rows i x low at)) (c.in_ok-take.ensures res.0 (take i rows) v.2.has);
+      passes = reply_passes plan res rows i x at v.2.passes c.queue-queue.result.now glob (c.queue-queue.ensures res.0 _ v.2.has) c.is_reply.result v.1 c.is_reply.ensures c.if-not-is_reply.false;
+    }
 
 pub returns : goal.returns
-returns c =
-    let past = c.loop-place-test.false in
-    let size = c.len-place-end.ensures in
-    passes_all c.args.plan.now (broken_reply c.args.plan.now c.args.res.0) c.args.rows.now c.loop-place.place (omega (arith, past, size)) c.loop-place.invariant.passes
+returns c = ends c.args.plan.now c.args.res c.args.rows.now c.loop-more.requests c.loop-more.from (sym (ap (position (λ (r : Row). is_on c.args.res.0 r.res)) c.since.ensures) ∙ (sym c.first_naming.ensures ∙ c.in_default.is)) c.loop-more.invariant
