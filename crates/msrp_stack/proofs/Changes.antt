@@ -1,15 +1,14 @@
 -- One started job more or less, and one resource more or less that the newest holds.
-use Rattle.std.proofs.Common.{◌≡◌, ℕ, ◌<◌, ◌≤◌, ◌+◌, ◌-◌, true, false, ◌||◌, ◌==◌, max, List, [], ◌∷◌, ◌++◌, map, reverse, length, set, slice_index_or, Option, Some, None, refl, ap, sym, ◌∙◌, subst, arith, length-append, append-nil, inl, inr}
+use Rattle.std.proofs.Common.{◌≡◌, ℕ, ◌<◌, ◌≤◌, ◌+◌, ◌-◌, true, false, ◌||◌, max, List, [], ◌∷◌, ◌++◌, map, reverse, length, set, slice_index_or, Option, Some, None, refl, ap, sym, ◌∙◌, subst, arith, length-append, append-nil, inl, inr}
 use Rattle.std.specs.List.{flat_map, AllByRecursion, Contains, IsDistinct, list_any}
 use Rattle.std.specs.Option.{option_to_list}
 use Rattle.std.specs.Cmp.{IsEquivalence}
 use Rattle.std.proofs.Math.Bool.{true≢false}
 use Rattle.std.proofs.lemmas.Bool.{cases_Bool, cases_eq, cases_lt, false_from_ne_true}
-use Rattle.std.proofs.lemmas.List.Sums.{length-filter, count_by-le-length}
 use Rattle.std.proofs.lemmas.Map.Made.{length-le_from_is_member}
 use Rattle.std.proofs.Math.Seq.{set-append_seam, get_or-append_seam}
 use Rattle.std.proofs.lemmas.List.{reverse-append, length-map, length-reverse, get_or-set_same, get_or-set_other}
-use Rattle.msrp_plan.specs.Plan.{PlanModel, core_of}
+use Rattle.msrp_plan.specs.Plan.{PlanModel}
 use Rattle.msrp_plan.specs.Jobs.{jobs, jobs_on, same_job}
 use Rattle.msrp_plan.specs.Choice.{is_before}
 use Rattle.msrp_plan.specs.WellFormed.{IsPlan}
@@ -239,9 +238,7 @@ told_more f ns k n l e told g m =
     ]
 
 -- nothing is held, and there is room for every job of the core
-pub nothing_started : (plan : PlanModel) (core : ℕ) (ceilings : List ℕ) (items : List Started) (room : ℕ) → IsPlan plan → length ceilings ≡ 32 → ((g : ℕ) → g < length plan.resources → slice_index_or ceilings g 0 ≡ ceiling_at plan g core) → items ≡ [] → 8192 ≤ room → IsStack plan core ceilings items room 0
+pub nothing_started : (plan : PlanModel) (core : ℕ) (ceilings : List ℕ) (items : List Started) (room : ℕ) → IsPlan plan → length ceilings ≡ 32 → ((g : ℕ) → g < length plan.resources → slice_index_or ceilings g 0 ≡ ceiling_at plan g core) → items ≡ [] → length (jobs_on plan core) ≤ room → IsStack plan core ceilings items room 0
 nothing_started plan core ceilings items room ok size told none fits =
-    let n = length-filter (λ j. core_of plan j == core) (jobs plan) in
-    let few = count_by-le-length (λ j. core_of plan j == core) (jobs plan) in
     subst (λ l. IsStack plan core ceilings l room 0) (sym none) (
-    record { accepted = ok; size = size; told = told; layers = refl; known = tt; falling = tt; fits = omega (arith, n, few, ok.jobs, fits) })
+    record { accepted = ok; size = size; told = told; layers = refl; known = tt; falling = tt; fits = fits })

@@ -1,15 +1,16 @@
 //! A stack of started jobs, and its calls.
 ghost use Rattle.std.specs.Prelude.{◌≡◌, ◌<◌, ◌∷◌, [], length, slice_index_or, true, false, ℕ, IfOk, ◌≤◌, vec_capacity};
+ghost use Rattle.msrp_plan.specs.Jobs.{jobs_on};
 ghost use Rattle.msrp_plan.specs.Levels.{is_global};
 ghost use Rattle.msrp_plan.specs.WellFormed.{IsPlan};
-ghost use Rattle.msrp_plan.specs.Limits.{most_held, most_jobs, most_resources};
+ghost use Rattle.msrp_plan.specs.Limits.{most_held, most_resources};
 ghost use Rattle.msrp_levels.specs.Users.{ceiling_at};
 ghost use Rattle.msrp_stack.specs.Stack.{top, newest, current_ceiling, CanStart, HasRoom, IsInnermost, SomeHeld, IsDone, with_held, without_held, without_newest};
 
 use arrayvec::ArrayVec;
 use msrp_levels::Levels;
-use msrp_plan::limits::{MOST_HELD, MOST_JOBS, MOST_RESOURCES};
-use msrp_plan::{CoreId, JobId, Memory, Plan, ResId};
+use msrp_plan::limits::{MOST_HELD, MOST_RESOURCES};
+use msrp_plan::{CoreId, JobId, Memory, Plan, ResId, TaskId};
 use std::alloc::Global;
 use std::marker::Model;
 
@@ -78,12 +79,25 @@ fn ceilings_at(plan: &Plan, levels: &Levels<'_>, core: CoreId) -> [u32; MOST_RES
     ceilings
 }
 
-// Room for all jobs of a plan: what no job comes to is never touched.
-fn room(alloc: Global) -> Result<Vec<Started>, Memory>
-    ensures empty { IfOk result (λ started. started.items ≡ []) }
-    ensures room { IfOk result (λ started. most_jobs ≤ vec_capacity started) }
+// How many jobs a core has.
+fn jobs_on(plan: &Plan, core: CoreId) -> usize
+    ensures { result ≡ length (jobs_on plan.now core.0) }
 {
-    Ok(Vec::with_capacity(alloc, MOST_JOBS as usize)?)
+    let mut jobs = 0;
+    for t in 0..plan.tasks() {
+        if plan.core_of(TaskId(t)) == core {
+            jobs += plan.jobs(TaskId(t)) as usize;
+        }
+    }
+    jobs
+}
+
+// Room for all jobs of a core: what no job comes to is never touched.
+fn room(alloc: Global, plan: &Plan, core: CoreId) -> Result<Vec<Started>, Memory>
+    ensures empty { IfOk result (λ started. started.items ≡ []) }
+    ensures room { IfOk result (λ started. length (jobs_on plan.now core.0) ≤ vec_capacity started) }
+{
+    Ok(Vec::with_capacity(alloc, jobs_on(plan, core))?)
 }
 
 impl<'a> CeilingStack<'a> {
@@ -103,7 +117,7 @@ impl<'a> CeilingStack<'a> {
             plan,
             core,
             ceilings: ceilings_at(plan, levels, core),
-            started: room(alloc)?,
+            started: room(alloc, plan, core)?,
             ceiling: 0,
         })
     }
