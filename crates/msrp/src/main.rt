@@ -22,6 +22,9 @@ use std::process::ExitCode;
 use std::sync::Wait;
 use std::thread::Threads;
 
+// What a command keeps on the stack is as large as what it reads and writes at once. Each command has a frame of its own, so that none
+// touches the pages of the others.
+
 // The sources of a plan and a trace.
 fn sources(
     rt: &HostRuntime,
@@ -33,6 +36,7 @@ fn sources(
 }
 
 // Simulates the plan at a path.
+#[inline(never)]
 fn simulate<W: Write>(
     rt: &HostRuntime,
     out: &mut Sink<W>,
@@ -45,6 +49,7 @@ fn simulate<W: Write>(
 }
 
 // Runs it on threads.
+#[inline(never)]
 fn run_plan<T: Threads + Wait + Sync, W: Write>(
     rt: &HostRuntime,
     threads: &T,
@@ -57,6 +62,7 @@ fn run_plan<T: Threads + Wait + Sync, W: Write>(
 }
 
 // Writes its levels and ceilings, or its own text.
+#[inline(never)]
 fn check<W: Write>(
     rt: &HostRuntime,
     out: &mut Sink<W>,
@@ -72,22 +78,32 @@ fn check<W: Write>(
 }
 
 // Judges a trace of it.
-fn audit<T: Threads + Sync, W: Write>(
+#[inline(never)]
+fn audit<W: Write>(
+    rt: &HostRuntime,
+    out: &mut Sink<W>,
+    plan: &str,
+    trace: &str,
+) -> Result<u8, CliFault> {
+    let (mut plan, mut trace) = sources(rt, plan, trace)?;
+    audit_text(rt.alloc(), &mut plan, &mut trace, out)
+}
+
+// Judges it in pieces, on threads.
+#[inline(never)]
+fn audit_in_pieces<T: Threads + Sync, W: Write>(
     rt: &HostRuntime,
     threads: &T,
     out: &mut Sink<W>,
-    parallel: bool,
-    paths: (&str, &str),
+    plan: &str,
+    trace: &str,
 ) -> Result<u8, CliFault> {
-    let (mut plan, mut trace) = sources(rt, paths.0, paths.1)?;
-    if parallel {
-        audit_parallel_text(threads, rt.alloc(), &mut plan, &mut trace, out)
-    } else {
-        audit_text(rt.alloc(), &mut plan, &mut trace, out)
-    }
+    let (mut plan, mut trace) = sources(rt, plan, trace)?;
+    audit_parallel_text(threads, rt.alloc(), &mut plan, &mut trace, out)
 }
 
 // Reports on a trace of it.
+#[inline(never)]
 fn report<W: Write>(
     rt: &HostRuntime,
     out: &mut Sink<W>,
@@ -117,10 +133,15 @@ fn run<T: Threads + Wait + Sync>(rt: &HostRuntime, threads: &T) -> Result<u8, Cl
         Cmd::CheckText { plan } => check(rt, &mut out, true, plan),
         Cmd::Check { plan } => check(rt, &mut out, false, plan),
         Cmd::Audit {
-            parallel,
+            parallel: true,
             plan,
             trace,
-        } => audit(rt, threads, &mut out, parallel, (plan, trace)),
+        } => audit_in_pieces(rt, threads, &mut out, plan, trace),
+        Cmd::Audit {
+            parallel: false,
+            plan,
+            trace,
+        } => audit(rt, &mut out, plan, trace),
         Cmd::Report { plan, trace } => report(rt, &mut out, plan, trace),
     }
 }
