@@ -21,6 +21,7 @@ use crate::limits::{
 use crate::names::is_name;
 use crate::parts::Parts;
 use crate::plans::Plan;
+use crate::task_units::TaskUnits;
 use crate::tasks::{Task, add_release, add_task, add_units};
 use crate::times::Releases;
 use crate::units::{Op, Step};
@@ -143,7 +144,7 @@ impl PlanBuilder {
             core,
             releases,
             deadline,
-            units: Vec::new(self.alloc),
+            units: TaskUnits::new(self.alloc),
         };
         add_task(self.alloc, &mut self.parts.tasks, name, task)?;
         Ok(TaskId(number))
@@ -375,11 +376,13 @@ impl PlanBuilder {
         ensures { result ≡ nests_global self.now (task_at self.now task).units }
     {
         let mut holding = false;
-        for unit in self.parts.tasks[task].units.as_slice() {
-            if is_nested_lock(holding, *unit, globals) {
+        let units = &self.parts.tasks[task].units;
+        for place in 0..units.len() {
+            let unit = units.unit(place);
+            if is_nested_lock(holding, unit, globals) {
                 return true;
             }
-            holding = holds_global_after(holding, *unit, globals);
+            holding = holds_global_after(holding, unit, globals);
         }
         false
     }
@@ -443,7 +446,7 @@ impl PlanBuilder {
         ensures added { OnOk result (self.new ≡ with_units self.old (units_of (Run count))) }
         ensures kept { OnErr result (self.new ≡ self.old) }
     {
-        add_units(&mut self.parts.tasks, count as usize, Op::Run)?;
+        add_units(&mut self.parts.tasks, count, Op::Run)?;
         Ok(())
     }
 

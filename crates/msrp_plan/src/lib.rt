@@ -17,6 +17,7 @@ mod parts;
 mod plans;
 mod requests;
 mod rows;
+mod task_units;
 mod tasks;
 mod times;
 mod traces;

@@ -16,7 +16,7 @@ use crate::limits::MOST_RESOURCES;
 use crate::parts::Parts;
 use crate::tasks::Task;
 use crate::times::Times;
-use crate::units::{Op, work_from};
+use crate::units::Op;
 use std::marker::Model;
 
 /// An accepted plan: tasks that recur, partitioned over cores, with the resources that they lock.
@@ -164,7 +164,7 @@ impl Plan {
         requires place { place < length (task_at self.now task.0).units }
         ensures { slice_get (task_at self.now task.0).units place ≡ Some result }
     {
-        self.named_task(task).1.units[place as usize]
+        self.named_task(task).1.units.unit(place as usize)
     }
 
     /// How many units of a task from a place on are work, one after another, of at most so many.
@@ -174,7 +174,7 @@ impl Plan {
         ensures work { (i : ℕ) → place ≤ i → i < place + result → slice_get (task_at self.now task.0).units i ≡ Some Op.Run }
         ensures next { result < most → slice_get (task_at self.now task.0).units (place + result) ≢ Some Op.Run }
     {
-        work_from(self.named_task(task).1.units.as_slice(), place, most)
+        self.named_task(task).1.units.work(place, most)
     }
 
     /// The number of jobs of a task: of its releases before the plan's ticks are over. The task's jobs are those

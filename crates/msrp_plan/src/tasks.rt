@@ -5,6 +5,7 @@ ghost use Rattle.msrp_plan.specs.Names.{has_name};
 ghost use Rattle.msrp_plan.specs.Inside.Tasks.{named_view, task_view};
 
 use crate::ids::CoreId;
+use crate::task_units::TaskUnits;
 use crate::times::Releases;
 use crate::units::Op;
 use indexmap::IndexMap;
@@ -16,18 +17,16 @@ pub(crate) struct Task {
     pub(crate) core: CoreId,
     pub(crate) releases: Releases,
     pub(crate) deadline: u32,
-    pub(crate) units: Vec<Op>,
+    pub(crate) units: TaskUnits,
 }
 
 impl Task {
     // More units of one kind.
-    pub(crate) fn add_units(&mut self, count: usize, unit: Op) -> Result<(), AllocError>
-        requires { vec_len self.old.units + count < 2 ^ 64 }
+    pub(crate) fn add_units(&mut self, count: u32, unit: Op) -> Result<(), AllocError>
         ensures added { OnOk result ((name : List ℕ) → named_view name self.new ≡ with_more_units (replicate count unit) (named_view name self.old)) }
         ensures kept { OnErr result ((name : List ℕ) → named_view name self.new ≡ named_view name self.old) }
     {
-        let size = self.units.len() + count;
-        self.units.resize(size, unit)
+        self.units.add(count, unit)
     }
 
     // One release more.
@@ -58,11 +57,10 @@ pub(crate) fn add_task(
 // More units of one kind for the newest task.
 pub(crate) fn add_units(
     tasks: &mut IndexMap<String, Task>,
-    count: usize,
+    count: u32,
     unit: Op,
 ) -> Result<(), AllocError>
     requires some { 0 < length tasks.old.entries }
-    requires room { count < 2 ^ 63 }
     ensures added { OnOk result (map task_view tasks.new.entries ≡ with_newest (with_more_units (replicate count unit)) (map task_view tasks.old.entries)) }
     ensures kept { OnErr result (map task_view tasks.new.entries ≡ map task_view tasks.old.entries) }
 {

@@ -1,6 +1,4 @@
 //! What tasks are made of, and what a core does with a global resource.
-ghost use Rattle.std.specs.Prelude.{◌≡◌, ◌≢◌, ◌<◌, ◌≤◌, ◌+◌, ℕ, Some, slice_get};
-
 use crate::ids::ResId;
 
 /// One unit of a task: it takes one tick where nothing has to be awaited.
@@ -45,19 +43,4 @@ pub enum Call {
     Poll(bool),
     /// A release.
     Leave,
-}
-
-// How many units from a place on are work, one after another, of at most so many.
-pub(crate) fn work_from(units: &[Op], place: u32, most: u32) -> u32
-    ensures most { result ≤ most }
-    ensures work { (i : ℕ) → place ≤ i → i < place + result → slice_get units.now i ≡ Some Op.Run }
-    ensures next { result < most → slice_get units.now (place + result) ≢ Some Op.Run }
-{
-    let first = place as usize;
-    let end = units.len().min(first + most as usize);
-    let mut next = first;
-    while next < end && units[next] == Op::Run {
-        next += 1;
-    }
-    (next - first) as u32
 }

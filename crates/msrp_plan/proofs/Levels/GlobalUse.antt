@@ -46,7 +46,7 @@ any_stored p q same (e ∷ es) = ap (λ b. b || list_any p (map task_view es)) (
 
 -- the stored task uses the resource
 abbrev pub uses_stored : ℕ → Task → Bool
-uses_stored g task = list_any (is_lock_of g) task.units.items
+uses_stored g task = list_any (is_lock_of g) task.units
 
 -- a resource is global as the stored tasks say
 pub global_stored : (plan : PlanModel) (es : List (String Global × Task)) (g : ℕ) → plan.tasks ≡ map task_view es
