@@ -376,7 +376,7 @@ impl PlanBuilder {
         ensures { result ≡ nests_global self.now (task_at self.now task).units }
     {
         let mut holding = false;
-        let units = &self.parts.tasks[task].units;
+        let units = self.parts.tasks[task].units.all();
         for place in 0..units.len() {
             let unit = units.unit(place);
             if is_nested_lock(holding, unit, globals) {

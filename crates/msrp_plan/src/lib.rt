@@ -32,6 +32,7 @@ pub use names::is_name;
 pub use plans::Plan;
 pub use requests::Requests;
 pub use rows::{Kind, Row, TextVersion};
+pub use task_units::Units;
 pub use times::Times;
 pub use traces::Trace;
 pub use units::{Call, Op, Phase, Step};

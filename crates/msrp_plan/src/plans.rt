@@ -4,7 +4,7 @@ ghost use Rattle.std.specs.Prelude.{◌≡◌, ◌≢◌, ◌<◌, ◌≤◌, �
 ghost use Rattle.std.specs.List.{range_with_len};
 ghost use Rattle.std.specs.Option.{option_map};
 ghost use Rattle.msrp_plan.specs.Plan.{task_at, release, release_tick, key};
-ghost use Rattle.msrp_plan.specs.Jobs.{job_at, jobs_of};
+ghost use Rattle.msrp_plan.specs.Jobs.{job_at, jobs_of, jobs_on};
 ghost use Rattle.msrp_plan.specs.Levels.{is_global};
 ghost use Rattle.msrp_plan.specs.Limits.{longest_time};
 ghost use Rattle.msrp_plan.specs.Names.{name_position};
@@ -14,6 +14,7 @@ ghost use Rattle.msrp_plan.specs.WellFormed.{IsPlan, IsTask};
 use crate::ids::{CoreId, JobId, JobKey, ResId, TaskId};
 use crate::limits::MOST_RESOURCES;
 use crate::parts::Parts;
+use crate::task_units::Units;
 use crate::tasks::Task;
 use crate::times::Times;
 use crate::units::Op;
@@ -158,13 +159,21 @@ impl Plan {
         self.named_task(task).1.units.len() as u32
     }
 
+    /// The units of a task, to be read one after another.
+    pub fn units_of(&self, task: TaskId) -> Units<'_>
+        requires { task.0 < length self.now.tasks }
+        ensures { result ≡ (task_at self.now task.0).units }
+    {
+        self.named_task(task).1.units.all()
+    }
+
     /// A unit of a task, by its place from 0.
     pub fn unit(&self, task: TaskId, place: u32) -> Op
         requires task { task.0 < length self.now.tasks }
         requires place { place < length (task_at self.now task.0).units }
         ensures { slice_get (task_at self.now task.0).units place ≡ Some result }
     {
-        self.named_task(task).1.units.unit(place as usize)
+        self.units_of(task).unit(place as usize)
     }
 
     /// How many units of a task from a place on are work, one after another, of at most so many.
@@ -174,7 +183,7 @@ impl Plan {
         ensures work { (i : ℕ) → place ≤ i → i < place + result → slice_get (task_at self.now task.0).units i ≡ Some Op.Run }
         ensures next { result < most → slice_get (task_at self.now task.0).units (place + result) ≢ Some Op.Run }
     {
-        self.named_task(task).1.units.work(place, most)
+        self.units_of(task).work(place, most)
     }
 
     /// The number of jobs of a task: of its releases before the plan's ticks are over. The task's jobs are those
@@ -189,6 +198,20 @@ impl Plan {
             .1
             .releases
             .count_before(self.parts.ticks)
+    }
+
+    /// The number of jobs of a core: of those of its tasks.
+    pub fn jobs_on(&self, core: CoreId) -> usize
+        ensures count { result ≡ length (jobs_on self.now core.0) }
+        ensures plan { IsPlan self.now }
+    {
+        let mut jobs = 0;
+        for t in 0..self.tasks() {
+            if self.core_of(TaskId(t)) == core {
+                jobs += self.jobs(TaskId(t)) as usize;
+            }
+        }
+        jobs
     }
 
     /// The tick in which a job is released. A periodic task has a release for each `k`, and a listed one for each below

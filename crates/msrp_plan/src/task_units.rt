@@ -65,15 +65,11 @@ impl TaskUnits {
         self.units.is_empty()
     }
 
-    pub(crate) fn unit(&self, place: usize) -> Op
-        requires { place < length self.now }
-        ensures { slice_get self.now place ≡ Some result }
+    /// All of them, to be read.
+    pub(crate) fn all(&self) -> Units<'_>
+        ensures { result ≡ self.now }
     {
-        match self.units[place] {
-            Stored::Run(_) => Op::Run,
-            Stored::Lock(res) => Op::Lock(res),
-            Stored::Unlock(res) => Op::Unlock(res),
-        }
+        Units { units: &self.units }
     }
 
     /// Adds so many units of one kind.
@@ -87,34 +83,90 @@ impl TaskUnits {
         }
         Ok(())
     }
+}
+
+// What stands at a place.
+fn stored_at(units: &[Stored], place: usize) -> Stored
+    requires { place < length units.now }
+    ensures { slice_get units.now place ≡ Some result }
+{
+    units[place]
+}
+
+/// The units of a task, as [`Plan::units_of`](crate::Plan::units_of) lends them: whoever reads several looks for the task once.
+#[derive(Drop)]
+pub struct Units<'a> {
+    units: &'a [Stored],
+}
+
+impl<'a> Model for Units<'a> {
+    ghost use Rattle.std.specs.Prelude.{List, map};
+    ghost use Rattle.msrp_plan.specs.declared.units.Op.{Op};
+    ghost use Rattle.msrp_plan.specs.Inside.TaskUnits.{AreCounted, op_of};
+
+    ghost Value = { List Op };
+
+    ghost view = { λ units. map op_of units.units.now };
+
+    ghost invariant = { λ units. AreCounted units.units.now };
+}
+
+impl<'a> Units<'a> {
+    /// No units.
+    pub fn none() -> Units<'a>
+        ensures { result ≡ [] }
+    {
+        Units { units: &[] }
+    }
+
+    /// How many units there are.
+    pub fn len(&self) -> usize
+        ensures { result ≡ length self.now }
+    {
+        self.units.len()
+    }
+
+    /// The unit at a place, counted from 0.
+    pub fn unit(&self, place: usize) -> Op
+        requires { place < length self.now }
+        ensures { slice_get self.now place ≡ Some result }
+    {
+        match stored_at(self.units, place) {
+            Stored::Run(_) => Op::Run,
+            Stored::Lock(res) => Op::Lock(res),
+            Stored::Unlock(res) => Op::Unlock(res),
+        }
+    }
 
     // How many units of work are left at a place of those that were added at once: none where no unit of work stands there.
     fn left_at(&self, place: usize) -> u32
         ensures none { result ≡ 0 → slice_get self.now place ≢ Some Run }
         ensures work { (j : ℕ) → j < result → slice_get self.now (place + j) ≡ Some Run }
     {
-        match self.units.get(place) {
-            Some(Stored::Run(left)) => *left,
-            _ => 0,
-        }
+        let Some(stored) = self.units.get(place) else {
+            return 0;
+        };
+        // Each kind of unit has a number at the same place, so that it is read without a jump.
+        let (works, number) = match stored {
+            Stored::Run(left) => (true, *left),
+            Stored::Lock(res) | Stored::Unlock(res) => (false, res.0),
+        };
+        if works { number } else { 0 }
     }
 
     /// How many units from a place on are work, one after another, of at most so many.
-    pub(crate) fn work(&self, place: u32, most: u32) -> u32
+    pub fn work(&self, place: u32, most: u32) -> u32
         ensures most { result ≤ most }
         ensures work { (i : ℕ) → place ≤ i → i < place + result → slice_get self.now i ≡ Some Run }
         ensures next { result < most → slice_get self.now (place + result) ≢ Some Run }
     {
         let first = place as usize;
         let end = self.units.len().min(first + most as usize);
-        let mut next = first;
-        while next < end {
-            let left = self.left_at(next);
-            if left == 0 {
-                return (next - first) as u32;
-            }
-            next += left as usize;
+        // Most work was added at once, and where it ends is told without a jump. Seldom more stands behind it.
+        let mut next = first + self.left_at(first) as usize;
+        while next < end && self.left_at(next) > 0 {
+            next += self.left_at(next) as usize;
         }
-        end.saturating_sub(first) as u32
+        next.min(end).saturating_sub(first) as u32
     }
 }

@@ -51,8 +51,9 @@ fn add_user(users: &mut [Users; MOST_RESOURCES], res: ResId, core: CoreId)
 fn add_task(users: &mut [Users; MOST_RESOURCES], task: &Task)
     ensures { (on : ℕ → ℕ → Bool) → EachIsOn on users.old → EachIsOn (λ g c. on g c || is_user_on g c task.now) users.new }
 {
-    for place in 0..task.units.len() {
-        if let Op::Lock(res) = task.units.unit(place) {
+    let units = task.units.all();
+    for place in 0..units.len() {
+        if let Op::Lock(res) = units.unit(place) {
             add_user(users, res, task.core);
         }
     }

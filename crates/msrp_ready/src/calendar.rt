@@ -29,7 +29,7 @@ fn jobs_on(alloc: Global, plan: &Plan, core: CoreId) -> Result<Vec<KeyedJob>, Al
     ensures plan { IsPlan plan.now }
     ensures jobs { IfOk result (λ jobs. jobs.items ≡ map (keyed plan.now) (jobs_on plan.now core.0)) }
 {
-    let mut jobs = Vec::new(alloc);
+    let mut jobs = Vec::with_capacity(alloc, plan.jobs_on(core))?;
     for t in 0..plan.tasks() {
         if plan.core_of(TaskId(t)) == core {
             push_jobs(&mut jobs, plan, TaskId(t))?;

@@ -10,7 +10,7 @@ ghost use Rattle.msrp_stack.specs.Stack.{top, newest, current_ceiling, CanStart,
 use arrayvec::ArrayVec;
 use msrp_levels::Levels;
 use msrp_plan::limits::{MOST_HELD, MOST_RESOURCES};
-use msrp_plan::{CoreId, JobId, Memory, Plan, ResId, TaskId};
+use msrp_plan::{CoreId, JobId, Memory, Plan, ResId};
 use std::alloc::Global;
 use std::marker::Model;
 
@@ -79,25 +79,12 @@ fn ceilings_at(plan: &Plan, levels: &Levels<'_>, core: CoreId) -> [u32; MOST_RES
     ceilings
 }
 
-// How many jobs a core has.
-fn jobs_on(plan: &Plan, core: CoreId) -> usize
-    ensures { result ≡ length (jobs_on plan.now core.0) }
-{
-    let mut jobs = 0;
-    for t in 0..plan.tasks() {
-        if plan.core_of(TaskId(t)) == core {
-            jobs += plan.jobs(TaskId(t)) as usize;
-        }
-    }
-    jobs
-}
-
 // Room for all jobs of a core: what no job comes to is never touched.
 fn room(alloc: Global, plan: &Plan, core: CoreId) -> Result<Vec<Started>, Memory>
     ensures empty { IfOk result (λ started. started.items ≡ []) }
     ensures room { IfOk result (λ started. length (jobs_on plan.now core.0) ≤ vec_capacity started) }
 {
-    Ok(Vec::with_capacity(alloc, jobs_on(plan, core))?)
+    Ok(Vec::with_capacity(alloc, plan.jobs_on(core))?)
 }
 
 impl<'a> CeilingStack<'a> {

@@ -1,4 +1,4 @@
-use Rattle.std.proofs.Common.{◌≡◌, ◌+◌, ◌||◌, ◌&&◌, ◌==◌, ◌∙◌, List, take, subst, sym, arith}
+use Rattle.std.proofs.Common.{◌≡◌, ◌+◌, ◌||◌, ◌&&◌, ◌==◌, ◌∙◌, List, length, slice_get, take, ap, subst, sym, arith}
 use Rattle.std.proofs.lemmas.List.{take_all}
 use Rattle.std.proofs.lemmas.Option.{get_or_from_slice_get, slice_get_within}
 use Rattle.msrp_plan.specs.Inside.Users.{EachIsOn}
@@ -15,8 +15,9 @@ loop-place-preserved c = λ on h.
     let core = c.args.task.now.core.0 in
     let before = with_units on (take i us) core in
     let after = with_units on (take (i + 1) us) core in
-    let low = slice_get_within us i c.unit.result c.unit.ensures in
-    let at = get_or_from_slice_get us i c.unit.result Run c.unit.ensures in
+    let read = ap (λ l. slice_get l i) (sym c.all-units.ensures) ∙ c.unit.ensures in
+    let low = slice_get_within us i c.unit.result read in
+    let at = get_or_from_slice_get us i c.unit.result Run read in
     elim c.match-unit.branch [
       | in-Lock w ↦ subst (EachIsOn after) (sym w.users-is)
           (each_same (λ g k. before g k || ((w.in-Lock.res.0 == g) && (core == k))) after (lock_more on us i core Run w.in-Lock.res low (at ∙ w.in-Lock.is))
@@ -30,5 +31,6 @@ returns c = λ on h.
     let us = c.args.task.now.units in
     let i = c.loop-place.place in
     let size = c.len-place-end.ensures in
-    let all : take i us ≡ us = take_all i us (omega (arith, c.loop-place-test.false, size)) in
+    let same = ap length c.all-units.ensures in
+    let all : take i us ≡ us = take_all i us (omega (arith, c.loop-place-test.false, size, same)) in
     subst (λ (units : List Op). EachIsOn (with_units on units c.args.task.now.core.0) c.loop-place.users) all (c.loop-place.invariant on h)

@@ -3,12 +3,12 @@ use Rattle.std.specs.List.{range_with_len}
 use Rattle.msrp_plan.specs.Jobs.{jobs_of}
 use Rattle.msrp_plan.specs.Plan.{task_at}
 use Rattle.msrp_plan.proofs.Jobs.JobLists.{jobs_among, jobs_among_more}
-use Rattle.msrp_stack.proofs.stack.jobs_on.Goals as goal
-use Rattle.msrp_stack.proofs.stack.jobs_on.Goals.{then-eq, else-eq}
+use Rattle.msrp_plan.proofs.plans.Plan.jobs_on.Goals as goal
+use Rattle.msrp_plan.proofs.plans.Plan.jobs_on.Goals.{then-eq, else-eq}
 
 pub loop-t-preserved : goal.loop-t-preserved
 loop-t-preserved c =
-    let plan = c.args.plan.now in
+    let plan = c.args.self.now in
     let core = c.args.core.0 in
     let t = c.loop-t.t in
     let before = jobs_among plan core (range_with_len 0 t) in

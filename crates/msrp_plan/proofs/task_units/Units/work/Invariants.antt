@@ -1,6 +1,6 @@
 use Rattle.std.proofs.Common.{◌≡◌, ◌≤◌, ◌<◌, ◌-◌, ℕ, Some, slice_get}
 use Rattle.msrp_plan.specs.declared.units.Op.TheVariants.{Run}
-use Rattle.msrp_plan.proofs.task_units.TaskUnits.work.Given as goal
+use Rattle.msrp_plan.proofs.task_units.Units.work.Given as goal
 
 abbrev pub invariant-loop-next : goal.invariant-loop-next
 invariant-loop-next l = record {
