@@ -1,13 +1,14 @@
 -- An action of the running job, over what is stored of the jobs of a core.
-use Rattle.std.proofs.Common.{◌≡◌, ℕ, ◌+◌, ◌<◌, ◌≤◌, Bool, true, false, cond, nat_eq, ◌&&◌, List, [], ◌∷◌, Option, Some, refl, ap, sym, ◌∙◌, subst, arith, length, reverse, slice_get, vec_capacity}
-use Rattle.std.specs.List.{list_any}
+use Rattle.std.proofs.Common.{◌≡◌, ℕ, ◌+◌, ◌<◌, ◌≤◌, Bool, true, false, cond, nat_eq, ◌&&◌, List, [], ◌∷◌, Option, Some, refl, ap, sym, ◌∙◌, subst, arith, length, slice_get, vec_capacity}
+use Rattle.std.specs.List.{list_any, AllByRecursion, Contains}
 use Rattle.std.proofs.Math.Bool.{true≢false}
 use Rattle.std.proofs.lemmas.Bool.{eq-eqb, and_from, false_from_ne_true}
+use Rattle.std.specs.Option.{ForSome}
 use Rattle.msrp_plan.specs.Plan.{PlanModel, units}
 use Rattle.msrp_plan.specs.Jobs.{jobs_on, is_waiting}
 use Rattle.msrp_plan.specs.WellFormed.{IsPlan}
 use Rattle.msrp_plan.specs.declared.ids.CoreId.{CoreId}
-use Rattle.msrp_ready.specs.Ready.{ReadyModel, is_among}
+use Rattle.msrp_ready.specs.Ready.{ReadyModel, head, is_among}
 use Rattle.msrp_plan.specs.Levels.{is_global}
 use Rattle.msrp_plan.specs.Actions.{same_res, res_of_unit, is_global_unit, allows, does_unit, does_unit_after}
 use Rattle.msrp_plan.specs.Phases.{phase_with}
@@ -20,11 +21,11 @@ use Rattle.msrp_plan.specs.declared.units.Op.{Op}
 use Rattle.msrp_plan.specs.declared.units.Op.TheVariants.{Run as RunUnit, Lock as LockUnit, Unlock as UnlockUnit}
 use Rattle.msrp_plan.specs.declared.units.Phase.{Phase}
 use Rattle.msrp_plan.specs.declared.units.Phase.TheVariants.{Free, Queued, Holding}
-use Rattle.msrp_stack.specs.Stack.{StackModel, StartedJob, HasRoom, IsInnermost, with_held, without_held, without_first}
+use Rattle.msrp_stack.specs.Stack.{StackModel, StartedJob, HasRoom, IsInnermost, newest, with_held, without_held, without_first}
 use Rattle.msrp_core.specs.Active.{ActiveJob, active_of, advanced, done_in, is_newest, is_waiting_phase, is_holding_phase, state_in, HoldSo, AreActive}
-use Rattle.msrp_core.specs.CoreJobs.{active_in, state_of, AreJobs, IsRunning, CanAct, Acts, IsNextUnit, DoesNext}
+use Rattle.msrp_core.specs.CoreJobs.{active_in, units_done, rising_of, state_of, AreJobs, AreOfCore, IsCurrent, IsRunning, CanAct, Acts, IsNextUnit, DoesNext}
 use Rattle.msrp_core.specs.declared.jobs.Jobs.{Jobs}
-use Rattle.msrp_core.proofs.Running.{begun, begun_holds, running_done, running_queued}
+use Rattle.msrp_core.proofs.Running.{begun, begun_holds, of_core, running_done, running_queued}
 use Rattle.msrp_core.proofs.Steps.{CanUnlock, IsStep, advance_active, advance_states, grant_step, last_free, lock_room, lock_step, release_phase, release_step, request_room, take_step, unlock_room, unlock_step, work_step}
 
 -- ---- the newest with one resource more, and without the innermost
@@ -45,6 +46,26 @@ pub active_less : (started : List StartedJob) (done : List ℕ) → active_of (w
 active_less [] done = refl
 active_less (s ∷ started) [] = refl
 active_less (s ∷ started) (n ∷ done) = refl
+
+-- by that it has the same jobs
+abbrev AreAll : (JobId → Type 0) → List StartedJob → Type 0
+AreAll P started = AllByRecursion (λ (s : StartedJob). P s.job) started
+
+pub newest_with : (started : List StartedJob) (g : ℕ) → newest (with_held started g) ≡ newest started
+newest_with [] g = refl
+newest_with (s ∷ started) g = refl
+
+pub newest_less : (started : List StartedJob) → newest (without_held started) ≡ newest started
+newest_less [] = refl
+newest_less (s ∷ started) = refl
+
+all_with : (P : JobId → Type 0) (started : List StartedJob) (g : ℕ) → AreAll P started → AreAll P (with_held started g)
+all_with P [] g all = all
+all_with P (s ∷ started) g all = all
+
+all_less : (P : JobId → Type 0) (started : List StartedJob) → AreAll P started → AreAll P (without_held started)
+all_less P [] all = all
+all_less P (s ∷ started) all = all
 
 -- what the stack wants of its top
 pub room_of : (started : List StartedJob) (done : List ℕ) (s : ActiveJob) (below : List ActiveJob) (g : ℕ) → active_of started done ≡ s ∷ below → length s.held < 8 → list_any (nat_eq g) s.held ≡ false → HasRoom started 8 g
@@ -69,11 +90,11 @@ module _ (jobs : Jobs) (job : JobId) (op : Op) (can : CanAct jobs job op) where
   active_at = subst (AreActive jobs.plan.now jobs.core.0 jobs.ready.taken jobs.phase) can.active can.jobs_fit.are
 
   -- where the stack's newest holds one resource more, and where it holds all but the innermost
-  pub active_locked : (m : StackModel) (g : ℕ) → m ≡ record jobs.stack { started = with_held jobs.stack.started g } → active_of m.started (reverse jobs.done.items) ≡ record can.newest { held = g ∷ can.newest.held } ∷ can.below
-  active_locked m g e = ap (λ (n : StackModel). active_of n.started (reverse jobs.done.items)) e ∙ (active_with jobs.stack.started (reverse jobs.done.items) g ∙ ap (kept_with g) can.active)
+  pub active_locked : (m : StackModel) (g : ℕ) → m ≡ record jobs.stack { started = with_held jobs.stack.started g } → active_of m.started (units_done jobs) ≡ record can.newest { held = g ∷ can.newest.held } ∷ can.below
+  active_locked m g e = ap (λ (n : StackModel). active_of n.started (units_done jobs)) e ∙ (active_with jobs.stack.started (units_done jobs) g ∙ ap (kept_with g) can.active)
 
-  pub active_unlocked : (m : StackModel) (g : ℕ) (rest : List ℕ) → m ≡ record jobs.stack { started = without_held jobs.stack.started } → can.newest.held ≡ g ∷ rest → active_of m.started (reverse jobs.done.items) ≡ record can.newest { held = rest } ∷ can.below
-  active_unlocked m g rest e held = ap (λ (n : StackModel). active_of n.started (reverse jobs.done.items)) e ∙ (active_less jobs.stack.started (reverse jobs.done.items) ∙ (ap kept_less can.active ∙ ap (λ hs. record can.newest { held = without_first hs } ∷ can.below) held))
+  pub active_unlocked : (m : StackModel) (g : ℕ) (rest : List ℕ) → m ≡ record jobs.stack { started = without_held jobs.stack.started } → can.newest.held ≡ g ∷ rest → active_of m.started (units_done jobs) ≡ record can.newest { held = rest } ∷ can.below
+  active_unlocked m g rest e held = ap (λ (n : StackModel). active_of n.started (units_done jobs)) e ∙ (active_less jobs.stack.started (units_done jobs) ∙ (ap kept_less can.active ∙ ap (λ hs. record can.newest { held = without_first hs } ∷ can.below) held))
 
   -- the newest, with what it holds now, is still the running job
   pub still_running : (mid : Jobs) (held : List ℕ) → active_in mid ≡ record can.newest { held = held } ∷ can.below → IsRunning mid job
@@ -83,13 +104,26 @@ module _ (jobs : Jobs) (job : JobId) (op : Op) (can : CanAct jobs job op) where
 -- a unit of the running job changes the stack to m and the phase to q, with which it holds so much
 pub record IsActing (jobs : Jobs) (job : JobId) (op : Op) (can : CanAct jobs job op) (q : Phase) (m : StackModel) (held : List ℕ) : Type 0 where
   pub step : IsStep jobs.plan.now can.newest can.below q held
-  pub active : active_of m.started (reverse jobs.done.items) ≡ record can.newest { held = held } ∷ can.below
+  pub active : active_of m.started (units_done jobs) ≡ record can.newest { held = held } ∷ can.below
   pub same_plan : m.plan ≡ jobs.stack.plan
   pub same_core : m.core ≡ jobs.stack.core
+  pub same_newest : newest m.started ≡ newest jobs.stack.started
+  pub known : AllByRecursion (λ (s : StartedJob). Contains (jobs_on jobs.plan.now jobs.core.0) s.job) m.started
+
+-- who rises is the same, and all are jobs of the core
+module _ (jobs : Jobs) (job : JobId) (op : Op) (can : CanAct jobs job op) (q : Phase) (m : StackModel) (held : List ℕ) (acting : IsActing jobs job op can q m held) where
+  pub still_current : IsCurrent (record jobs { phase = q; stack = m })
+  still_current = record {
+    rising = can.jobs_fit.current.rising ∙ ap (rising_of jobs.plan.now (head jobs.ready)) (sym acting.same_newest);
+    units = subst (λ o. ForSome o (λ j. jobs.units ≡ units jobs.plan.now j)) (sym acting.same_newest) can.jobs_fit.current.units;
+  }
+
+  pub still_of_core : AreOfCore (record jobs { phase = q; stack = m })
+  still_of_core = record { first = (of_core jobs can.jobs_fit).first; started = acting.known }
 
 -- its last unit leaves it with nothing
 pub last_by : (jobs : Jobs) (job : JobId) (op : Op) (can : CanAct jobs job op) (q : Phase) (m : StackModel) (held : List ℕ) → IsActing jobs job op can q m held
-    → (s : ActiveJob) (below : List ActiveJob) → active_of m.started (reverse jobs.done.items) ≡ s ∷ below → s.done + 1 ≡ length (units jobs.plan.now job) → s.held ≡ []
+    → (s : ActiveJob) (below : List ActiveJob) → active_of m.started (units_done jobs) ≡ s ∷ below → s.done + 1 ≡ length (units jobs.plan.now job) → s.held ≡ []
 last_by jobs job op can q m held acting s below k last =
     let both : record can.newest { held = held } ∷ can.below ≡ s ∷ below = sym acting.active ∙ k in
     let h : s.held ≡ held = cc in
@@ -103,6 +137,8 @@ working jobs job can = record {
   active = can.active;
   same_plan = refl;
   same_core = refl;
+  same_newest = refl;
+  known = (of_core jobs can.jobs_fit).started;
 }
 
 -- the stack's newest holds one resource more
@@ -113,6 +149,8 @@ locked_by jobs job res can q m e step = record {
   active = active_locked jobs job (LockUnit res) can m res.0 e;
   same_plan = ap (λ (n : StackModel). n.plan) e;
   same_core = ap (λ (n : StackModel). n.core) e;
+  same_newest = ap (λ (n : StackModel). newest n.started) e ∙ newest_with jobs.stack.started res.0;
+  known = subst (λ (n : StackModel). AreAll (Contains (jobs_on jobs.plan.now jobs.core.0)) n.started) (sym e) (all_with (Contains (jobs_on jobs.plan.now jobs.core.0)) jobs.stack.started res.0 (of_core jobs can.jobs_fit).started);
 }
 
 module _ (jobs : Jobs) (job : JobId) (res : ResId) (can : CanAct jobs job (LockUnit res)) (m : StackModel) (locks : m ≡ record jobs.stack { started = with_held jobs.stack.started res.0 }) where
@@ -131,18 +169,20 @@ granting jobs job res can awaits = record {
   active = can.active;
   same_plan = refl;
   same_core = refl;
+  same_newest = refl;
+  known = (of_core jobs can.jobs_fit).started;
 }
 
 -- the stack has room for a lock, and for a request
 pub lock_fits : (jobs : Jobs) (job : JobId) (res : ResId) (can : CanAct jobs job (LockUnit res)) → is_global jobs.plan.now res.0 ≡ false → HasRoom jobs.stack.started 8 res.0
 lock_fits jobs job res can local =
     let room = lock_room jobs.plan.now can.jobs_fit.accepted can.newest can.below jobs.phase res (holds_at jobs job (LockUnit res) can) (unit_at jobs job (LockUnit res) can) local in
-    room_of jobs.stack.started (reverse jobs.done.items) can.newest can.below res.0 can.active room.few room.fresh
+    room_of jobs.stack.started (units_done jobs) can.newest can.below res.0 can.active room.few room.fresh
 
 pub request_fits : (jobs : Jobs) (job : JobId) (res : ResId) (can : CanAct jobs job (LockUnit res)) → jobs.phase ≡ Free → HasRoom jobs.stack.started 8 res.0
 request_fits jobs job res can free =
     let room = request_room jobs.plan.now can.jobs_fit.accepted can.newest can.below res (subst (λ p. HoldSo jobs.plan.now p (can.newest ∷ can.below)) free (holds_at jobs job (LockUnit res) can)) (unit_at jobs job (LockUnit res) can) in
-    room_of jobs.stack.started (reverse jobs.done.items) can.newest can.below res.0 can.active room.few room.fresh
+    room_of jobs.stack.started (units_done jobs) can.newest can.below res.0 can.active room.few room.fresh
 
 -- ---- an unlock
 module _ (jobs : Jobs) (job : JobId) (res : ResId) (can : CanAct jobs job (UnlockUnit res)) where
@@ -150,7 +190,7 @@ module _ (jobs : Jobs) (job : JobId) (res : ResId) (can : CanAct jobs job (Unloc
   unlocks = unlock_room jobs.plan.now can.jobs_fit.accepted can.newest can.below jobs.phase res (holds_at jobs job (UnlockUnit res) can) (unit_at jobs job (UnlockUnit res) can)
 
   pub is_innermost : IsInnermost jobs.stack.started res.0
-  is_innermost = innermost_of jobs.stack.started (reverse jobs.done.items) can.newest can.below res.0 unlocks.rest can.active unlocks.held
+  is_innermost = innermost_of jobs.stack.started (units_done jobs) can.newest can.below res.0 unlocks.rest can.active unlocks.held
 
   unlocked_by : (q : Phase) (m : StackModel) → m ≡ record jobs.stack { started = without_held jobs.stack.started } → IsStep jobs.plan.now can.newest can.below q unlocks.rest → IsActing jobs job (UnlockUnit res) can q m unlocks.rest
   unlocked_by q m e step = record {
@@ -158,6 +198,8 @@ module _ (jobs : Jobs) (job : JobId) (res : ResId) (can : CanAct jobs job (Unloc
     active = active_unlocked jobs job (UnlockUnit res) can m res.0 unlocks.rest e unlocks.held;
     same_plan = ap (λ (n : StackModel). n.plan) e;
     same_core = ap (λ (n : StackModel). n.core) e;
+    same_newest = ap (λ (n : StackModel). newest n.started) e ∙ newest_less jobs.stack.started;
+    known = subst (λ (n : StackModel). AreAll (Contains (jobs_on jobs.plan.now jobs.core.0)) n.started) (sym e) (all_less (Contains (jobs_on jobs.plan.now jobs.core.0)) jobs.stack.started (of_core jobs can.jobs_fit).started);
   }
 
   pub unlocking : (m : StackModel) → m ≡ record jobs.stack { started = without_held jobs.stack.started } → is_global jobs.plan.now res.0 ≡ false → IsActing jobs job (UnlockUnit res) can jobs.phase m unlocks.rest
@@ -193,14 +235,15 @@ pub record IsLeft (old new : Jobs) (q : Phase) (active : List ActiveJob) : Type 
   pub ready_is : new.ready ≡ old.ready
   pub stack_plan : new.stack.plan ≡ old.stack.plan
   pub stack_core : new.stack.core ≡ old.stack.core
-  pub size : length new.stack.started ≡ length new.done.items
-  pub room : vec_capacity new.done ≡ vec_capacity old.done
+  pub size : length new.stack.started ≡ length new.below.items
+  pub room : vec_capacity new.below ≡ vec_capacity old.below
   pub active_is : active_in new ≡ active
+  pub current : IsCurrent new
 
 -- as `advance` leaves them
-pub left_by : (old new : Jobs) (q : Phase) (m : StackModel) (active : List ActiveJob) → m.plan ≡ old.stack.plan → m.core ≡ old.stack.core → new ≡ record old { phase = q; stack = new.stack; done = new.done }
-    → new.stack.plan ≡ m.plan → new.stack.core ≡ m.core → length new.stack.started ≡ length new.done.items → vec_capacity new.done ≡ vec_capacity old.done → active_in new ≡ active → IsLeft old new q active
-left_by old new q m active mp mc others np nc size room e = record {
+pub left_by : (old new : Jobs) (q : Phase) (m : StackModel) (active : List ActiveJob) → m.plan ≡ old.stack.plan → m.core ≡ old.stack.core → new ≡ record old { phase = q; stack = new.stack; progress = new.progress; below = new.below; rising = new.rising; units = new.units }
+    → new.stack.plan ≡ m.plan → new.stack.core ≡ m.core → length new.stack.started ≡ length new.below.items → vec_capacity new.below ≡ vec_capacity old.below → active_in new ≡ active → IsCurrent new → IsLeft old new q active
+left_by old new q m active mp mc others np nc size room e current = record {
   plan_is = ap (λ (j : Jobs). j.plan) others;
   levels_is = ap (λ (j : Jobs). j.levels) others;
   core_is = ap (λ (j : Jobs). j.core) others;
@@ -211,6 +254,7 @@ left_by old new q m active mp mc others np nc size room e = record {
   size = size;
   room = room;
   active_is = e;
+  current = current;
 }
 
 -- such jobs fit together
@@ -225,12 +269,13 @@ left_fits old new q active fit are l =
       stack_plan = l.stack_plan ∙ (fit.stack_plan ∙ sym plan);
       stack_core = l.stack_core ∙ (fit.stack_core ∙ sym (ap (λ c. c.0) l.core_is));
       size = l.size;
-      room = subst (λ p. length (jobs_on p new.core.0) ≤ vec_capacity new.done) (sym plan) (subst (λ (c : CoreId). length (jobs_on old.plan.now c.0) ≤ vec_capacity new.done) (sym l.core_is) (let r = fit.room in let e = l.room in omega (arith, r, e)));
+      room = subst (λ p. length (jobs_on p new.core.0) ≤ vec_capacity new.below) (sym plan) (subst (λ (c : CoreId). length (jobs_on old.plan.now c.0) ≤ vec_capacity new.below) (sym l.core_is) (let r = fit.room in let e = l.room in omega (arith, r, e)));
       are =
           subst (λ p. AreActive p new.core.0 new.ready.taken new.phase (active_in new)) (sym plan)
           (subst (λ (c : CoreId). AreActive old.plan.now c.0 new.ready.taken new.phase (active_in new)) (sym l.core_is)
           (subst (λ (m : ReadyModel). AreActive old.plan.now old.core.0 m.taken new.phase (active_in new)) (sym l.ready_is)
           (subst (λ p. AreActive old.plan.now old.core.0 old.ready.taken p (active_in new)) (sym l.phase_is) (subst (AreActive old.plan.now old.core.0 old.ready.taken q) (sym l.active_is) are))));
+      current = l.current;
     }
 
 -- and their states are told by what is left
@@ -280,18 +325,19 @@ module _ (old new : Jobs) (job : JobId) (op : Op) (tick : ℕ) (r : Row) (q : Ph
 -- the jobs as `advance` leaves them, from these
 pub record IsAdvanced (mid new : Jobs) : Type 0 where
   pub active : active_in new ≡ advanced mid.plan.now (active_in mid)
-  pub size : length new.stack.started ≡ length new.done.items
-  pub room : vec_capacity new.done ≡ vec_capacity mid.done
+  pub size : length new.stack.started ≡ length new.below.items
+  pub room : vec_capacity new.below ≡ vec_capacity mid.below
   pub stack_plan : new.stack.plan ≡ mid.stack.plan
   pub stack_core : new.stack.core ≡ mid.stack.core
-  pub others : new ≡ record mid { stack = new.stack; done = new.done }
+  pub others : new ≡ record mid { stack = new.stack; progress = new.progress; below = new.below; rising = new.rising; units = new.units }
+  pub current : IsCurrent new
 
 -- each unit acts so: the stack and the phase change, then the job advances
 pub unit_acts : (old new : Jobs) (job : JobId) (op : Op) (tick : ℕ) (r : Row) (q : Phase) (k : Kind) (res : Option ResId) (m : StackModel) (held : List ℕ) (can : CanAct old job op)
     → IsActing old job op can q m held → IsAdvanced (record old { phase = q; stack = m }) new → IsRow r tick new job k res
     → same_res res (res_of_unit op) ≡ true → allows (is_global_unit old.plan.now op) (is_waiting_phase old.phase) op k ≡ true → q ≡ phase_with old.phase k res → is_waiting k ≡ false → Acts old new job tick r
 unit_acts old new job op tick r q k res m held can acting done row same may phase acts =
-    let left = left_by old new q m (advanced old.plan.now (record can.newest { held = held } ∷ can.below)) acting.same_plan acting.same_core done.others done.stack_plan done.stack_core done.size done.room (done.active ∙ ap (advanced old.plan.now) acting.active) in
+    let left = left_by old new q m (advanced old.plan.now (record can.newest { held = held } ∷ can.below)) acting.same_plan acting.same_core done.others done.stack_plan done.stack_core done.size done.room (done.active ∙ ap (advanced old.plan.now) acting.active) done.current in
     acts_unit old new job op tick r q k res can (record { tick_is = row.tick_is; core_is = row.core_is ∙ ap (λ (j : Jobs). j.core) done.others; job_is = row.job_is; kind_is = row.kind_is; res_is = row.res_is })
     (does_by old.plan.now (is_waiting_phase old.phase) r op k res row.res_is row.kind_is same may) phase held acting.step acts left
 

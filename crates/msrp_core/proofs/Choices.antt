@@ -1,5 +1,5 @@
 -- The choice of a core's next job, from the jobs that are ready and those that are active.
-use Rattle.std.proofs.Common.{◌≡◌, ℕ, ◌<◌, ◌==◌, Bool, true, false, cond, not, nat_eq, ◌&&◌, ◌||◌, max, List, [], ◌∷◌, refl, ap, sym, ◌∙◌, subst, arith, length, map, take, take_all, inl, inr}
+use Rattle.std.proofs.Common.{◌≤◌, ◌≡◌, ℕ, ◌<◌, ◌==◌, Bool, true, false, cond, not, nat_eq, ◌&&◌, ◌||◌, max, List, [], ◌∷◌, refl, ap, sym, ◌∙◌, subst, arith, length, map, take, take_all, inl, inr}
 use Rattle.std.specs.List.{list_any, filter, AllByRecursion, Contains}
 use Rattle.std.proofs.Math.Bool.{true≢false, or-true}
 use Rattle.std.proofs.lemmas.Bool.{cases_Bool, eqb-true, eq-eqb, le-ltb, and_parts, and_from, false_from_ne_true, or_parts}
@@ -266,22 +266,22 @@ module _ (plan : PlanModel) (c : ℕ) (log : List Row) (taken : List JobId) (pha
 
 -- ---- as the stack of started jobs says it
 -- the started jobs, without the units that they have done
-pub started_jobs : (started : List StartedJob) (done : List ℕ) → length started ≡ length done → map started_job (active_of started done) ≡ started
+pub started_jobs : (started : List StartedJob) (done : List ℕ) → length started ≤ length done → map started_job (active_of started done) ≡ started
 started_jobs [] done e = refl
 started_jobs (s ∷ started) [] e = absurd (omega (arith, e))
 started_jobs (s ∷ started) (n ∷ done) e = ap (λ l. s ∷ l) (started_jobs started done (omega (arith, e)))
 
-pub active_among : (started : List StartedJob) (done : List ℕ) → length started ≡ length done → (j : JobId) → is_active (active_of started done) j ≡ stack.is_among started j
+pub active_among : (started : List StartedJob) (done : List ℕ) → length started ≤ length done → (j : JobId) → is_active (active_of started done) j ≡ stack.is_among started j
 active_among started done e j = sym (any_map started_job (λ s. same_job j s.job) (active_of started done)) ∙ ap (λ l. stack.is_among l j) (started_jobs started done e)
 
-pub kept_held : (started : List StartedJob) (done : List ℕ) → length started ≡ length done → (g : ℕ) → is_kept (active_of started done) g ≡ stack.is_held started g
+pub kept_held : (started : List StartedJob) (done : List ℕ) → length started ≤ length done → (g : ℕ) → is_kept (active_of started done) g ≡ stack.is_held started g
 kept_held started done e g = sym (any_map started_job (stack.holds g) (active_of started done)) ∙ ap (λ l. stack.is_held l g) (started_jobs started done e)
 
 -- so who runs is on top, and the ceiling is the current one
-pub top_is : (m : stack.StackModel) (done : List ℕ) → length m.started ≡ length done → first_unfinished m.plan m.core (is_active (active_of m.started done)) (λ j. false) ≡ stack.top m
+pub top_is : (m : stack.StackModel) (done : List ℕ) → length m.started ≤ length done → first_unfinished m.plan m.core (is_active (active_of m.started done)) (λ j. false) ≡ stack.top m
 top_is m done e = ap (least (is_before m.plan)) (filter_agree (λ j. is_active (active_of m.started done) j && not false) (λ j. stack.is_among m.started j && not false) (λ j. ap (λ b. b && not false) (active_among m.started done e j)) (jobs_on m.plan m.core))
 
-pub current_is : (m : stack.StackModel) (done : List ℕ) → length m.started ≡ length done → ceiling_with m.plan m.core false (is_kept (active_of m.started done)) ≡ stack.current_ceiling m
+pub current_is : (m : stack.StackModel) (done : List ℕ) → length m.started ≤ length done → ceiling_with m.plan m.core false (is_kept (active_of m.started done)) ≡ stack.current_ceiling m
 current_is m done e =
     ap (λ gs. max (greatest (map (local_ceiling m.plan) gs)) (cond (raised_with m.plan false (is_kept (active_of m.started done))) (levels.top m.plan m.core) 0))
     (filter_agree (λ g. not (is_global m.plan g) && is_kept (active_of m.started done) g) (λ g. not (is_global m.plan g) && stack.is_held m.started g) (λ g. ap (λ b. not (is_global m.plan g) && b) (kept_held m.started done e g)) (resources m.plan))

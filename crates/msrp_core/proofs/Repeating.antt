@@ -1,5 +1,5 @@
 -- A core whose last row stands again.
-use Rattle.std.proofs.Common.{◌≡◌, ℕ, ◌+◌, ◌-◌, ◌<◌, ◌≤◌, ◌==◌, ◌&&◌, Some, None, Option, slice_get, Bool, false, not, cond, List, [], ◌∷◌, ◌++◌, nat_le, refl, ap, sym, ◌∙◌, subst, arith, length, length-append, true, IfSome}
+use Rattle.std.proofs.Common.{◌%◌, ◌^◌, reverse, ◌≡◌, ℕ, ◌+◌, ◌-◌, ◌<◌, ◌≤◌, ◌==◌, ◌&&◌, Some, None, Option, slice_get, Bool, false, not, cond, List, [], ◌∷◌, ◌++◌, nat_le, refl, ap, sym, ◌∙◌, subst, arith, length, length-append, true, IfSome}
 use Rattle.std.specs.List.{Contains}
 use Rattle.std.specs.Option.{ForSome, option_or}
 use Rattle.std.proofs.Math.Bool.{true≢false, and-true}
@@ -22,6 +22,7 @@ use Rattle.msrp_plan.specs.declared.rows.Row.{Row}
 use Rattle.msrp_plan.specs.declared.units.Op.TheVariants.{Lock, Run}
 use Rattle.msrp_plan.specs.declared.units.Phase.TheVariants.{Queued}
 use Rattle.msrp_plan.specs.Levels.{is_global}
+use Rattle.msrp_plan.proofs.Jobs.CoreJobs.{known_task}
 use Rattle.msrp_plan.proofs.Legality.LegalRows as legal
 use Rattle.msrp_plan.proofs.Legality.SameRow.{parts, same_row}
 use Rattle.msrp_plan.proofs.Lists.AnyAll.{any_in}
@@ -37,7 +38,7 @@ use Rattle.msrp_core.specs.declared.machine.Machine.TheInside.{Inside}
 use Rattle.msrp_core.specs.declared.repeats.Poll.{Poll}
 use Rattle.msrp_core.proofs.Acting.{waiting_global, working}
 use Rattle.msrp_core.proofs.Choices.{at_in}
-use Rattle.msrp_core.proofs.Running.{running_done, running_known, running_queued, running_states}
+use Rattle.msrp_core.proofs.Running.{advanced_on, newest_done, running_done, running_known, running_queued, running_states}
 use Rattle.msrp_core.proofs.Turning.{acts_job, chosen_known, core_after, plan_after, ready_after, fits_after, told_from, turn_of, turn_row, turn_told, turn_phase, phase_after_turn}
 
 -- ---- the row that stands again
@@ -104,7 +105,7 @@ apart_by jobs r (Some j) (Some p) polls kind = let k = (polls p refl).kind in ab
 
 -- the kind of a row that stands again
 pub can_kind : (jobs : Jobs) (kind : Kind) (o : Option JobId) (k : ℕ) → CanRepeat jobs kind o k → kind ≡ kind_again o
-can_kind jobs kind None k can = can
+can_kind jobs kind None k can = can.0
 can_kind jobs kind (Some j) k can = can.0
 
 -- ---- one unit of work more, of those that the job has left
@@ -132,7 +133,7 @@ less_left : (jobs : Jobs) (job : JobId) (k n : ℕ) → n ≤ k → HasWorkLeft 
 less_left jobs job k n l has = record { running = has.running; work = λ i a b. has.work i a (omega (arith, b, l)); more = let m = has.more in omega (arith, m, l) }
 
 -- its next unit is work
-next_work : (jobs : Jobs) (job : JobId) (k : ℕ) → 0 < k → AreJobs jobs → HasWorkLeft jobs job k → CanAct jobs job Run
+pub next_work : (jobs : Jobs) (job : JobId) (k : ℕ) → 0 < k → AreJobs jobs → HasWorkLeft jobs job k → CanAct jobs job Run
 next_work jobs job k l fit has = record {
   jobs_fit = fit;
   newest = has.running.newest;
@@ -142,12 +143,23 @@ next_work jobs job k l fit has = record {
   unit = has.work has.running.newest.done (omega arith) (omega (arith, l));
 }
 
+-- a count of it is told by the number alone
+pub counted_on : (old new : Jobs) (job : JobId) → AreJobs old → HasWorkLeft old job 1 → new ≡ record old { progress = (old.progress + 1) % 2 ^ 32 } → active_in new ≡ advanced old.plan.now (active_in old)
+counted_on old new job fit has is =
+    let s = has.running.newest in
+    let d = newest_done old.stack.started (reverse old.below.items) old.progress s has.running.below has.running.active in
+    let more = has.more in
+    let u = ap (λ j. length (units old.plan.now j)) has.running.same in
+    let few = (fit.accepted.draft.each job.task.0 (known_task old.plan.now old.core.0 job (running_known old job fit has.running).0)).size in
+    let n : (old.progress + 1) % 2 ^ 32 ≡ s.done + 1 = omega (arith, d, more, few) in
+    ap active_in is ∙ advanced_on old ((old.progress + 1) % 2 ^ 32) s has.running.below has.running.active (λ e. absurd (omega (arith, e, u, more))) n
+
 -- so the core doesn't wait
 pub calm : (jobs : Jobs) (job : JobId) (k : ℕ) → 0 < k → AreJobs jobs → HasWorkLeft jobs job k → is_waiting_phase jobs.phase ≡ false
 calm jobs job k l fit has = (working jobs job (next_work jobs job k l fit has)).step.calm
 
 pub can_less : (jobs : Jobs) (kind : Kind) (o : Option JobId) (k n : ℕ) → n ≤ k → CanRepeat jobs kind o k → CanRepeat jobs (kind_again o) o n
-can_less jobs kind None k n l can = refl
+can_less jobs kind None k n l can = (refl, can.1)
 can_less jobs kind (Some j) k n l can = (refl, less_left jobs j k n l can.1)
 
 -- ---- nobody is released in this tick, where no release comes by it
@@ -284,7 +296,7 @@ module _ (m : Inside) (fit : AreJobs m.jobs) (r : Repeats m) (some : 0 < m.again
   state_last j e = at_in (λ j. state_after last j ≡ state_of m.jobs j) (jobs_on plan c) j told_last (running_known m.jobs j fit (left_of j e).running).0
 
   stays : (o : Option JobId) → m.job ≡ o → Stays plan c r.pre r.row 1
-  stays None e = StayIdles (subst (λ o. CanRepeat m.jobs r.row.kind o m.again) e r.can) quiet_next
+  stays None e = StayIdles (subst (λ o. CanRepeat m.jobs r.row.kind o m.again) e r.can).0 quiet_next
   stays (Some j) e =
       let has = left_of j e in
       let d : done j last ≡ has.running.newest.done = ap (λ (s : JobState). s.done) (state_last j e) ∙ running_done m.jobs j fit has.running in

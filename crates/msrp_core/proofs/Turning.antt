@@ -21,7 +21,7 @@ use Rattle.msrp_plan.specs.declared.units.Phase.TheVariants.{Free}
 use Rattle.msrp_plan.proofs.Jobs.States.{state_push}
 use Rattle.msrp_plan.proofs.Jobs.JobTests.{same_self}
 use Rattle.msrp_plan.proofs.Lists.AnyAll.{any_in}
-use Rattle.msrp_core.specs.Active.{is_waiting_phase}
+use Rattle.msrp_core.specs.Active.{is_waiting_phase, state_in, AreActive}
 use Rattle.msrp_core.specs.CoreJobs.{state_of, AreJobs, AreToldBy, IsRunning, IsSamePlace, ActsFor, IsTurnOf, started_with}
 use Rattle.msrp_core.specs.declared.jobs.Jobs.{Jobs}
 use Rattle.msrp_core.proofs.Choices.{at_in}
@@ -29,7 +29,20 @@ use Rattle.msrp_core.proofs.Running.{running_done, running_known, running_queued
 
 -- ---- what a turn leaves
 pub fits_after : (mid new : Jobs) (chosen : Option JobId) (tick : ℕ) (r : Row) → AreJobs mid → ActsFor mid new chosen tick r → AreJobs new
-fits_after mid new None tick r fit acts = subst AreJobs (sym acts.same) fit
+fits_after mid new None tick r fit acts =
+    subst AreJobs (sym acts.same)
+    (record {
+      accepted = fit.accepted;
+      levels = fit.levels;
+      ready_plan = fit.ready_plan;
+      ready_core = fit.ready_core;
+      stack_plan = fit.stack_plan;
+      stack_core = fit.stack_core;
+      size = fit.size;
+      room = fit.room;
+      are = subst (AreActive mid.plan.now mid.core.0 mid.ready.taken mid.phase) (sym acts.active) fit.are;
+      current = record { rising = fit.current.rising; units = fit.current.units };
+    })
 fits_after mid new (Some job) tick r fit acts = acts.jobs_fit
 
 pub ready_after : (mid new : Jobs) (chosen : Option JobId) (tick : ℕ) (r : Row) → ActsFor mid new chosen tick r → new.ready ≡ mid.ready
@@ -105,7 +118,8 @@ moved_started r chosen s e = elim (cases_Bool (is_job r.job s.job)) [
 -- after the turn each job is as far as the log with the row says
 turn_states : (mid new : Jobs) (chosen : Option JobId) (tick : ℕ) (r : Row) (j : JobId) → ActsFor mid new chosen tick r → state_of new j ≡ state_with r (state_of mid j)
 turn_states mid new None tick r j acts =
-    ap (λ (x : Jobs). state_of x j) acts.same ∙ sym (ap (λ o. cond (is_job o j) (moved_by r (state_of mid j)) (state_of mid j)) acts.row_job)
+    ap (λ (x : Jobs). state_of x j) acts.same
+    ∙ (ap (λ g. state_in mid.plan.now mid.ready.taken mid.phase g j) acts.active ∙ sym (ap (λ o. cond (is_job o j) (moved_by r (state_of mid j)) (state_of mid j)) acts.row_job))
 turn_states mid new (Some job) tick r j acts = acts.states j
 
 module _ (old mid new : Jobs) (chosen : Option JobId) (tick : ℕ) (r : Row) (log : List Row) (fit : AreJobs mid) (same : IsSamePlace old mid) (states : (j : JobId) → state_of mid j ≡ started_with chosen (state_of old j)) (acts : ActsFor mid new chosen tick r) (told : AreToldBy old log) (at : tick ≡ length log) where

@@ -1,6 +1,7 @@
 -- The jobs of a core as they are stored, and what a turn does to them.
-use Rattle.std.specs.Prelude.{ℕ, List, ◌∷◌, true, Option, Some, None, nat_lt, ◌&&◌, ◌||◌, Bool, length, reverse, slice_get, vec_capacity, ◌≡◌, ◌<◌, ◌≤◌}
-use Rattle.std.specs.List.{AllByRecursion}
+use Rattle.std.specs.Prelude.{ℕ, List, ◌∷◌, true, Option, Some, None, nat_lt, ◌&&◌, ◌||◌, Bool, length, reverse, slice_get, vec_capacity, ◌≡◌, ◌<◌, ◌≤◌, if◌then◌else◌}
+use Rattle.std.specs.List.{AllByRecursion, Contains}
+use Rattle.std.specs.Option.{ForSome}
 use Rattle.msrp_plan.specs.Plan.{PlanModel, units}
 use Rattle.msrp_plan.specs.Jobs.{jobs_on, is_job}
 use Rattle.msrp_plan.specs.Levels.{level}
@@ -13,16 +14,37 @@ use Rattle.msrp_plan.specs.declared.ids.JobId.{JobId}
 use Rattle.msrp_plan.specs.declared.rows.Kind.TheVariants.{Idle}
 use Rattle.msrp_plan.specs.declared.rows.Row.{Row}
 use Rattle.msrp_plan.specs.declared.units.Op.{Op}
+use Rattle.msrp_ready.specs.Ready.{head}
+use Rattle.msrp_stack.specs.Stack.{newest as newest_started}
 use Rattle.msrp_core.specs.Ports.{PortModel, claim_in}
 use Rattle.msrp_core.specs.Active.{ActiveJob, active_of, state_in, is_waiting_phase, HoldSo, AreActive}
 use Rattle.msrp_core.specs.declared.jobs.Jobs.{Jobs}
 
+-- how many units the started jobs have done, the newest first; what stands behind these means nothing
+abbrev pub units_done : Jobs → List ℕ
+units_done jobs = jobs.progress ∷ reverse jobs.below.items
+
 -- the active jobs, the newest first
 abbrev pub active_in : Jobs → List ActiveJob
-active_in jobs = active_of jobs.stack.started (reverse jobs.done.items)
+active_in jobs = active_of jobs.stack.started (units_done jobs)
 
 abbrev pub state_of : Jobs → JobId → JobState
 state_of jobs j = state_in jobs.plan.now jobs.ready.taken jobs.phase (active_in jobs) j
+
+-- the head, where it comes before who runs; else none
+abbrev pub rising_of : PlanModel → Option JobId → Option JobId → Option JobId
+rising_of plan None running = None
+rising_of plan (Some h) running = if comes_first plan h running then Some h else None
+
+-- what is stored of the head and of who runs is right: who rises, and the units of who runs
+pub record IsCurrent (jobs : Jobs) : Type 0 where
+  pub rising : jobs.rising ≡ rising_of jobs.plan.now (head jobs.ready) (newest_started jobs.stack.started)
+  pub units : ForSome (newest_started jobs.stack.started) (λ j. jobs.units ≡ units jobs.plan.now j)
+
+-- the head and the started jobs are jobs of the core
+pub record AreOfCore (jobs : Jobs) : Type 0 where
+  pub first : ForSome (head jobs.ready) (Contains (jobs_on jobs.plan.now jobs.core.0))
+  pub started : AllByRecursion (λ s. Contains (jobs_on jobs.plan.now jobs.core.0) s.job) jobs.stack.started
 
 -- what is stored of the jobs of a core fits together, with room for all of them
 pub record AreJobs (jobs : Jobs) : Type 0 where
@@ -32,9 +54,10 @@ pub record AreJobs (jobs : Jobs) : Type 0 where
   pub ready_core : jobs.ready.core ≡ jobs.core.0
   pub stack_plan : jobs.stack.plan ≡ jobs.plan.now
   pub stack_core : jobs.stack.core ≡ jobs.core.0
-  pub size : length jobs.stack.started ≡ length jobs.done.items
-  pub room : length (jobs_on jobs.plan.now jobs.core.0) ≤ vec_capacity jobs.done
+  pub size : length jobs.stack.started ≡ length jobs.below.items
+  pub room : length (jobs_on jobs.plan.now jobs.core.0) ≤ vec_capacity jobs.below
   pub are : AreActive jobs.plan.now jobs.core.0 jobs.ready.taken jobs.phase (active_in jobs)
+  pub current : IsCurrent jobs
 
 -- it is preferred to who runs: its level is above the ceiling, and it comes first
 abbrev pub is_preferred : PlanModel → ℕ → JobId → Option JobId → Bool
@@ -96,9 +119,10 @@ pub record Acts (old new : Jobs) (job : JobId) (tick : ℕ) (r : Row) : Type 0 w
   pub states : (j : JobId) → state_of new j ≡ state_with r (state_of old j)
   pub phase : new.phase ≡ phase_with old.phase r.kind r.res
 
--- nobody has the turn: the row is idle, and all stays
+-- nobody has the turn: the row is idle, and all stays but for a number that means nothing
 pub record Idles (old new : Jobs) (tick : ℕ) (r : Row) : Type 0 where
-  pub same : new ≡ old
+  pub same : new ≡ record old { progress = new.progress }
+  pub active : active_in (record old { progress = new.progress }) ≡ active_in old
   pub row_tick : r.tick ≡ tick
   pub row_core : r.core ≡ old.core
   pub row_job : r.job ≡ None

@@ -1,5 +1,5 @@
 -- A core whose last row stands again, as it is stored.
-use Rattle.std.specs.Prelude.{ℕ, Option, Some, None, length, ◌≡◌, ◌<◌, ◌+◌, refl}
+use Rattle.std.specs.Prelude.{ℕ, [], Option, Some, None, length, ◌≡◌, ◌<◌, ◌+◌, refl}
 use Rattle.std.specs.Option.{option_map}
 use Rattle.msrp_plan.specs.Plan.{units}
 use Rattle.msrp_plan.specs.Stretches.{HasWork}
@@ -28,9 +28,9 @@ abbrev pub row_again : ℕ → CoreId → Option JobId → Row
 row_again t core None = record { tick = t; core = core; kind = Idle; job = None; res = None; ahead = None; shape = refl; carrier = refl }
 row_again t core (Some job) = record { tick = t; core = core; kind = Run; job = Some job; res = None; ahead = None; shape = refl; carrier = refl }
 
--- a row of this kind and job may stand again, for its job's sake, k times
+-- a row of this kind and job may stand again, for its job's sake, k times: of no job where none is started
 abbrev pub CanRepeat : Jobs → Kind → Option JobId → ℕ → Type 0
-CanRepeat jobs kind None k = kind ≡ Idle
+CanRepeat jobs kind None k = (kind ≡ Idle) × (jobs.stack.started ≡ [])
 CanRepeat jobs kind (Some job) k = (kind ≡ Run) × HasWorkLeft jobs job k
 
 -- the row polled in vain, and its job awaits the resource still

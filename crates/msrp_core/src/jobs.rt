@@ -12,12 +12,11 @@ ghost use Rattle.msrp_ready.specs.Ready.{head, is_among};
 ghost use Rattle.msrp_stack.specs.Stack.{current_ceiling, newest, top};
 ghost use Rattle.msrp_core.specs.Active.{ActiveJob, advanced, state_in};
 ghost use Rattle.msrp_core.specs.CoreStates.{IsCoreState};
-ghost use Rattle.msrp_core.specs.CoreJobs.{AreJobs, AreToldBy, CanAct, IsRunning, IsSamePlace, IsSameStack, active_in, is_preferred, started_with, state_of};
+ghost use Rattle.msrp_core.specs.CoreJobs.{AreJobs, AreOfCore, AreToldBy, CanAct, IsCurrent, IsRunning, IsSamePlace, IsSameStack, active_in, is_preferred, rising_of, started_with, state_of};
 
 use crate::states::CoreState;
 use msrp_levels::Levels;
-use msrp_plan::limits::MOST_JOBS;
-use msrp_plan::{CoreId, JobId, Memory, Op, Phase, Plan};
+use msrp_plan::{CoreId, JobId, Memory, Op, Phase, Plan, Units};
 use msrp_ready::Ready;
 use msrp_stack::CeilingStack;
 use std::alloc::Global;
@@ -32,8 +31,14 @@ pub(crate) struct Jobs<'a> {
     pub(crate) phase: Phase,
     pub(crate) ready: Ready<'a>,
     pub(crate) stack: CeilingStack<'a>,
-    /// How many units each started job has done, the newest last.
-    pub(crate) done: Vec<u32>,
+    /// How many units the newest of the started jobs has done. Where none is started it means nothing.
+    pub(crate) progress: u32,
+    /// For each started job what that was before it started, the newest last: how many units the job below it has done.
+    pub(crate) below: Vec<u32>,
+    /// The head, where it comes before who runs; else none. It changes only where a job is released, starts or finishes.
+    pub(crate) rising: Option<JobId>,
+    /// The units of the newest of the started jobs, kept so that its task isn't looked for in each turn.
+    pub(crate) units: Units<'a>,
 }
 
 impl<'a> Jobs<'a> {
@@ -55,7 +60,7 @@ impl<'a> Jobs<'a> {
     {
         let ready = Ready::with_room(alloc, plan, core)?;
         let stack = CeilingStack::with_room(alloc, plan, levels, core)?;
-        let done = Vec::with_capacity(alloc, MOST_JOBS as usize)?;
+        let below = Vec::with_capacity(alloc, plan.jobs_on(core))?;
         Ok(Jobs {
             plan,
             levels,
@@ -63,7 +68,10 @@ impl<'a> Jobs<'a> {
             phase: Phase::Free,
             ready,
             stack,
-            done,
+            progress: 0,
+            below,
+            rising: None,
+            units: Units::none(),
         })
     }
 
@@ -91,6 +99,31 @@ impl<'a> Jobs<'a> {
         self.levels.level(job.task) > self.stack.ceiling() && self.comes_first(job, running)
     }
 
+    // The head, where it comes before who runs; else none. It is seldom asked for.
+    #[inline(never)]
+    fn next_rising(&self) -> Option<JobId>
+        requires { AreOfCore self.now }
+        ensures { result ≡ rising_of self.now.plan.now (head self.now.ready) (newest self.now.stack.started) }
+    {
+        match self.ready.head() {
+            Some(job) if self.comes_first(job, self.stack.top()) => Some(job),
+            _ => None,
+        }
+    }
+
+    // Finds anew what is kept of the head and of who runs, where a job has finished.
+    #[inline(never)]
+    fn refresh(&mut self)
+        requires { AreOfCore self.old }
+        ensures current { IsCurrent self.new }
+        ensures others { self.new ≡ record self.old { rising = self.new.rising; units = self.new.units } }
+    {
+        self.rising = self.next_rising();
+        if let Some(job) = self.stack.top() {
+            self.units = self.plan.units_of(job.task);
+        }
+    }
+
     // Starts the head.
     #[inline(never)]
     fn start(&mut self, job: JobId)
@@ -105,7 +138,12 @@ impl<'a> Jobs<'a> {
     {
         self.ready.take_head();
         self.stack.start(job);
-        self.done.push_reserved(0);
+        self.below.push_reserved(self.progress);
+        self.progress = 0;
+
+        // The next head comes behind the one that starts.
+        self.rising = None;
+        self.units = self.plan.units_of(job.task);
     }
 
     /// The head, where it is preferred to who runs and so starts; else none, and who runs has the turn.
@@ -125,6 +163,23 @@ impl<'a> Jobs<'a> {
         }
     }
 
+    // Releases the jobs up to this tick. Where none is due, the head stays.
+    #[inline(always)]
+    fn release_to(&mut self, tick: u32)
+        requires jobs { AreJobs self.old }
+        requires tick { ForSome self.old.ready.tick (λ before. before ≤ tick) }
+        ensures jobs { AreJobs self.new }
+        ensures ready { self.new.ready ≡ record self.old.ready { tick = Some tick; compared = self.new.ready.compared } }
+        ensures others { self.new ≡ record self.old { ready = self.new.ready; rising = self.new.rising } }
+    {
+        if self.ready.has_release_by(tick) {
+            self.ready.release_to(tick);
+            self.rising = self.next_rising();
+        } else {
+            self.ready.release_to(tick);
+        }
+    }
+
     /// The job that has the turn in this tick, or none: the head where it is preferred, which is then started, or else who runs.
     #[inline(always)]
     pub(crate) fn choose(&mut self, tick: u32) -> Option<JobId>
@@ -137,23 +192,22 @@ impl<'a> Jobs<'a> {
         ensures running { ForSome result (IsRunning self.new) }
         ensures states { (j : Job) → state_of self.new j ≡ started_with result (state_of self.old j) }
     {
-        self.ready.release_to(tick);
+        self.release_to(tick);
         let running = self.stack.top();
-        match self.starting(self.ready.head(), running) {
-            Some(job) => {
+        match self.rising {
+            Some(job) if self.levels.level(job.task) > self.stack.ceiling() => {
                 self.start(job);
                 Some(job)
             }
-            None => running,
+            _ => running,
         }
     }
 
     // How many units the newest job has done.
     pub(crate) fn progress(&self) -> u32
-        requires { 0 < length self.now.done.items }
         ensures { (s : ActiveJob) (below : List ActiveJob) → active_in self.now ≡ s ∷ below → result ≡ s.done }
     {
-        self.done[self.done.len() - 1]
+        self.progress
     }
 
     // A tick before which no job of the core is released after this one.
@@ -193,31 +247,35 @@ impl<'a> Jobs<'a> {
         requires running { IsRunning self.now job }
         ensures { CanAct self.now job result }
     {
-        self.plan.unit(job.task, self.progress())
+        self.units.unit(self.progress() as usize)
     }
 
     /// One unit more for the running job, which is finished with its last.
     #[inline(always)]
     pub(crate) fn advance(&mut self, job: JobId)
         requires running { IsRunning self.old job }
-        requires size { length self.old.stack.started ≡ length self.old.done.items }
+        requires current { IsCurrent self.old }
+        requires core { AreOfCore self.old }
+        requires size { length self.old.stack.started ≡ length self.old.below.items }
         requires known { job.task.0 < length self.old.plan.now.tasks }
         requires done { (s : ActiveJob) (below : List ActiveJob) → active_in self.old ≡ s ∷ below → s.done < length (units self.old.plan.now job) }
         requires last { (s : ActiveJob) (below : List ActiveJob) → active_in self.old ≡ s ∷ below → s.done + 1 ≡ length (units self.old.plan.now job) → s.held ≡ [] }
         ensures active { active_in self.new ≡ advanced self.old.plan.now (active_in self.old) }
-        ensures size { length self.new.stack.started ≡ length self.new.done.items }
-        ensures room { vec_capacity self.new.done ≡ vec_capacity self.old.done }
+        ensures size { length self.new.stack.started ≡ length self.new.below.items }
+        ensures room { vec_capacity self.new.below ≡ vec_capacity self.old.below }
+        ensures current { IsCurrent self.new }
         ensures stack { IsSameStack self.old self.new }
-        ensures others { self.new ≡ record self.old { stack = self.new.stack; done = self.new.done } }
+        ensures others { self.new ≡ record self.old { stack = self.new.stack; progress = self.new.progress; below = self.new.below; rising = self.new.rising; units = self.new.units } }
     {
-        let units = self.plan.units(job.task);
+        // Read so that the plan is known to be an accepted one.
+        let _accepted = self.plan.cores();
         let done = self.progress() + 1;
-        if done == units {
-            self.done.pop();
+        if done as usize == self.units.len() {
+            self.progress = self.below.pop().unwrap_or(0);
             self.stack.finish();
+            self.refresh();
         } else {
-            let newest = self.done.len() - 1;
-            self.done[newest] = done;
+            self.progress = done;
         }
     }
 }

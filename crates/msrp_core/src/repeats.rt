@@ -1,5 +1,5 @@
 //! Turns whose row is the last one again: the running job is in a run of work, or the core idles, and nobody is released.
-ghost use Rattle.std.specs.Prelude.{◌≡◌, ◌<◌, ◌≤◌, ◌+◌, ◌∷◌, ℕ, List, Some, None, false, length, vec_capacity};
+ghost use Rattle.std.specs.Prelude.{◌≡◌, ◌<◌, ◌≤◌, ◌+◌, ◌%◌, ◌^◌, ◌∷◌, [], ℕ, List, Some, None, false, length};
 ghost use Rattle.std.specs.Option.{ForSome};
 ghost use Rattle.msrp_plan.specs.Plan.{units};
 ghost use Rattle.msrp_plan.specs.Stretches.{HasWork};
@@ -41,8 +41,8 @@ impl<'a> Jobs<'a> {
         ensures left { HasWorkLeft self.now job result }
     {
         let done = self.progress();
-        let left = self.plan.units(job.task) - done - 1;
-        self.plan.work(job.task, done, most.min(left))
+        let left = self.units.len() - done as usize - 1;
+        (self.units.work(done, most) as usize).min(left) as u32
     }
 
     /// How many turns more, from this tick on, the row of the last turn stands again, where it was of this kind and job.
@@ -54,7 +54,7 @@ impl<'a> Jobs<'a> {
         ensures can { 0 < result → CanRepeat self.now kind job result }
     {
         match (kind, job) {
-            (Kind::Idle, None) => self.quiet_ticks(tick),
+            (Kind::Idle, None) if self.stack.top().is_none() => self.quiet_ticks(tick),
             (Kind::Run, Some(working)) if self.stack.top() == job => {
                 self.work_left(working, self.quiet_ticks(tick))
             }
@@ -75,32 +75,11 @@ impl<'a> Jobs<'a> {
         }
     }
 
-    // One unit more for the running job, not its last.
-    fn count(&mut self, job: JobId)
-        requires running { IsRunning self.old job }
-        requires jobs { AreJobs self.old }
-        requires more { (s : ActiveJob) (below : List ActiveJob) → active_in self.old ≡ s ∷ below → s.done + 1 < length (units self.old.plan.now job) }
-        ensures active { active_in self.new ≡ advanced self.old.plan.now (active_in self.old) }
-        ensures size { length self.new.stack.started ≡ length self.new.done.items }
-        ensures room { vec_capacity self.new.done ≡ vec_capacity self.old.done }
-        ensures stack { self.new.stack ≡ self.old.stack }
-        ensures others { self.new ≡ record self.old { stack = self.new.stack; done = self.new.done } }
+    // One unit more for the running job. Where nobody runs that means nothing, so that nobody asks whether somebody does.
+    fn count(&mut self)
+        ensures { self.new ≡ record self.old { progress = (self.old.progress + 1) % 2 ^ 32 } }
     {
-        let newest = self.done.len() - 1;
-        self.done[newest] += 1;
-    }
-
-    // A unit of work that isn't the last one of the running job.
-    fn work_on(&mut self, tick: u32, job: JobId) -> Row
-        requires can { CanAct self.old job Op.Run }
-        requires more { (s : ActiveJob) (below : List ActiveJob) → active_in self.old ≡ s ∷ below → s.done + 1 < length (units self.old.plan.now job) }
-        ensures acts { Acts self.old self.new job tick result }
-        ensures res { result.res ≡ None }
-        ensures kind { result.kind ≡ Kind.Run }
-        ensures left { (k : ℕ) → CanRepeat self.old Kind.Run (Some job) (k + 1) → CanRepeat self.new Kind.Run (Some job) k }
-    {
-        self.count(job);
-        row_on(self.core, tick, Kind::Run, job, None)
+        self.progress = self.progress.wrapping_add(1);
     }
 
     /// A turn whose row is the last one again.
@@ -113,9 +92,10 @@ impl<'a> Jobs<'a> {
         ensures kind { result.kind ≡ kind_again job }
         ensures left { (k : ℕ) → CanRepeat self.old (kind_again job) job (k + 1) → CanRepeat self.new (kind_again job) job k }
     {
+        self.count();
         match job {
             None => idle_row(self.core, tick),
-            Some(job) => self.work_on(tick, job),
+            Some(job) => row_on(self.core, tick, Kind::Run, job, None),
         }
     }
 }

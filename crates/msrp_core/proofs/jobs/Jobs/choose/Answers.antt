@@ -1,25 +1,43 @@
-use Rattle.std.proofs.Common.{sym, ◌∙◌, ap}
+use Rattle.std.proofs.Common.{Some, true, false, ◌≡◌, ◌∙◌, ap, arith}
+use Rattle.std.proofs.lemmas.Bool.{lt-ltb, le-ltb}
+use Rattle.msrp_plan.specs.Plan.{PlanModel}
+use Rattle.msrp_plan.specs.Levels.{level}
 use Rattle.msrp_ready.specs.Ready.{ReadyModel}
-use Rattle.msrp_core.proofs.Running.{ready_head, head_of_release, released_told, first_known, running_of, running_known, running_states}
+use Rattle.msrp_stack.specs.Stack.{current_ceiling}
+use Rattle.msrp_core.proofs.Running.{choice_before, choose_risen, choose_unrisen, risen_known, states_before}
 use Rattle.msrp_core.proofs.jobs.Jobs.choose.Goals as goal
 
-pub starting-requires-clause-known : goal.starting-requires-clause-known
-starting-requires-clause-known c = λ x e. (first_known c.args.self.now c.args.tick x c.requires.jobs (sym (ready_head c.args.self.now c.args.tick c.release_to.new.self c.release_to.ensures.tick) ∙ (sym c.head.ensures ∙ e))).0
+pub level-requires : goal.level-requires
+level-requires c = risen_known c.release_to.new.self c.in-Some.job c.release_to.ensures.jobs c.in-Some.is
 
 pub returns-in-Some-clause-choice : goal.returns-in-Some-clause-choice
-returns-in-Some-clause-choice c = λ log told.
-    let m = c.release_to.new.self in
-    c.in-Some.ensures.choice c.args.tick log (released_told c.args.self.now c.args.tick m log c.release_to.ensures.tick told) (c.head.ensures ∙ head_of_release c.args.self.now c.args.tick m c.release_to.ensures.tick)
+returns-in-Some-clause-choice c =
+    let mid = c.release_to.new.self in
+    let e = c.release_to.ensures in
+    let j = c.in-Some.job in
+    let t = c.if-level-ceiling.true in
+    let l : c.level.result ≡ level mid.plan.now j.task.0 = c.level.ensures ∙ ap (λ (p : PlanModel). level p j.task.0) e.jobs.levels in
+    let k = c.ceiling.ensures in
+    choice_before c.args.self.now mid c.args.tick e.others e.ready (Some j) (λ log told.
+    choose_risen mid c.args.tick c.top-running.result log e.jobs c.top-running.ensures.first c.top-running.ensures.newest (ap (λ (m : ReadyModel). m.tick) e.ready) told j true c.in-Some.is (lt-ltb (current_ceiling mid.stack) (level mid.plan.now j.task.0) (omega (arith, t, l, k))))
 
-pub returns-in-None-clause-choice : goal.returns-in-None-clause-choice
-returns-in-None-clause-choice c = λ log told.
-    let m = c.release_to.new.self in
-    c.in-None.ensures.choice c.args.tick log (released_told c.args.self.now c.args.tick m log c.release_to.ensures.tick told) (c.head.ensures ∙ head_of_release c.args.self.now c.args.tick m c.release_to.ensures.tick)
+pub returns-in_default-clause-choice : goal.returns-in_default-clause-choice
+returns-in_default-clause-choice c =
+    let mid = c.release_to.new.self in
+    let e = c.release_to.ensures in
+    let j = c.in-Some.job in
+    let t = c.if-level-ceiling.false in
+    let l : c.level.result ≡ level mid.plan.now j.task.0 = c.level.ensures ∙ ap (λ (p : PlanModel). level p j.task.0) e.jobs.levels in
+    let k = c.ceiling.ensures in
+    choice_before c.args.self.now mid c.args.tick e.others e.ready c.top-running.result (λ log told.
+    choose_risen mid c.args.tick c.top-running.result log e.jobs c.top-running.ensures.first c.top-running.ensures.newest (ap (λ (m : ReadyModel). m.tick) e.ready) told j false c.in-Some.is (le-ltb (current_ceiling mid.stack) (level mid.plan.now j.task.0) (omega (arith, t, l, k))))
 
-pub returns-in-None-clause-running : goal.returns-in-None-clause-running
-returns-in-None-clause-running c = λ x e. running_of (record c.args.self.now { ready = c.release_to.new.self }) x c.requires.jobs.size (sym c.top-running.ensures.newest ∙ e)
+pub returns-in_default-clause-states : goal.returns-in_default-clause-states
+returns-in_default-clause-states c = states_before c.args.self.now c.release_to.new.self c.args.tick c.release_to.ensures.others c.release_to.ensures.ready c.top-running.result c.release_to.ensures.jobs c.top-running.ensures.newest
 
-pub returns-in-None-clause-states : goal.returns-in-None-clause-states
-returns-in-None-clause-states c =
-    running_states c.args.self.now c.release_to.new.self c.top-running.result (ap (λ (m : ReadyModel). m.taken) c.release_to.ensures.tick)
-    (λ x e. (running_known c.args.self.now x c.requires.jobs (running_of c.args.self.now x c.requires.jobs.size (sym c.top-running.ensures.newest ∙ e))).1)
+pub returns-in_default-2-clause-choice : goal.returns-in_default-2-clause-choice
+returns-in_default-2-clause-choice c =
+    let mid = c.release_to.new.self in
+    let e = c.release_to.ensures in
+    choice_before c.args.self.now mid c.args.tick e.others e.ready c.top-running.result (λ log told.
+    choose_unrisen mid c.args.tick c.top-running.result log e.jobs c.top-running.ensures.first c.top-running.ensures.newest (ap (λ (m : ReadyModel). m.tick) e.ready) told c.in_default.is)

@@ -1,4 +1,5 @@
-use Rattle.std.proofs.Common.{◌≡◌, ap, ◌∙◌, subst, refl, rules, vec_capacity, []}
+use Rattle.std.proofs.Common.{◌≡◌, ◌≤◌, arith, ap, ◌∙◌, subst, refl, rules, length, vec_capacity, []}
+use Rattle.msrp_plan.specs.Jobs.{jobs_on}
 use Rattle.msrp_plan.specs.WellFormed.{IsPlan}
 use Rattle.msrp_ready.specs.Ready.{ReadyModel}
 use Rattle.msrp_core.proofs.Running.{none_fits}
@@ -8,7 +9,8 @@ pub returns-clause-jobs : goal.returns-clause-jobs
 returns-clause-jobs c =
     let ready = c.in_ok-ready.ensures in
     let stack = c.in_ok-stack.ensures in
-    let empty : c.in_ok-done.done.items ≡ [] = search rules in
-    let exact : vec_capacity c.in_ok-done.done ≡ 8192 = search rules in
-    none_fits (record { plan = c.args.plan; levels = c.args.levels; core = c.args.core; phase = _; ready = c.in_ok-ready.ready; stack = c.in_ok-stack.stack; done = c.in_ok-done.done })
-    (subst IsPlan (ap (λ (m : ReadyModel). m.plan) c.ready.view_is ∙ ap (λ (m : ReadyModel). m.plan) ready) c.ready.invariant.accepted) c.requires.levels ready stack empty exact refl
+    let empty : c.in_ok-below.below.items ≡ [] = search rules in
+    let room : length (jobs_on c.args.plan.now c.args.core.0) ≤ vec_capacity c.in_ok-below.below =
+    (let exact : vec_capacity c.in_ok-below.below ≡ c.jobs_on.result = search rules in let n = c.jobs_on.ensures.count in omega (arith, exact, n)) in
+    none_fits (record { plan = c.args.plan; levels = c.args.levels; core = c.args.core; phase = _; ready = c.in_ok-ready.ready; stack = c.in_ok-stack.stack; progress = 0; below = c.in_ok-below.below; rising = _; units = _ })
+    (subst IsPlan (ap (λ (m : ReadyModel). m.plan) c.ready.view_is ∙ ap (λ (m : ReadyModel). m.plan) ready) c.ready.invariant.accepted) c.requires.levels ready stack empty room refl refl

@@ -1,0 +1,9 @@
+use Rattle.std.proofs.Common.{sym, ◌∙◌}
+use Rattle.msrp_plan.proofs.Jobs.CoreJobs.{known_task}
+use Rattle.msrp_core.proofs.Running.{newest_of_core}
+use Rattle.msrp_core.proofs.jobs.Jobs.refresh.Goals as goal
+
+pub units_of-self-requires : goal.units_of-self-requires
+units_of-self-requires c =
+    let jobs = c.args.self.now in
+    known_task jobs.plan.now jobs.core.0 c.in-Some.job (newest_of_core jobs c.in-Some.job c.requires (sym c.top.ensures.newest ∙ c.in-Some.is))
