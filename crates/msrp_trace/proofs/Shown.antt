@@ -8,7 +8,7 @@ use Rattle.msrp_trace.specs.declared.texts.RowTexts.TheInside.{Inside}
 
 -- where nothing is kept
 abbrev pub no_text : CoreText
-no_text = record { line = []; job = record { job = None; text = [] }; res = [] }
+no_text = record { line = []; job = record { job = None; text = [] } }
 
 abbrev pub no_line : RowLine
 no_line = record { row = None; text = no_text }

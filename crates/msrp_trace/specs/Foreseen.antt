@@ -5,7 +5,7 @@ use Rattle.msrp_plan.specs.Plan.{PlanModel}
 use Rattle.msrp_plan.specs.declared.rows.Row.{Row}
 use Rattle.msrp_plan.specs.declared.rows.TextVersion.{TextVersion}
 use Rattle.msrp_trace.specs.Gathering.{after_tick}
-use Rattle.msrp_trace.specs.Lines.{IsLine, IsWhole}
+use Rattle.msrp_trace.specs.Lines.{AreResTexts, IsLine, IsWhole}
 use Rattle.msrp_trace.specs.declared.foreseen.Foreseen.{Foreseen}
 use Rattle.msrp_trace.specs.declared.guesses.Guess.{Guess}
 use Rattle.msrp_trace.specs.declared.guesses.Guesses.{Guesses}
@@ -16,9 +16,9 @@ use Rattle.msrp_trace.specs.declared.line.RowLine.{RowLine}
 abbrev pub guess_of : Guesses → ℕ → Guess
 guess_of guesses core = slice_index_or guesses.of_core core FIRST
 
--- what is kept of each core's last row is the text of that row, which is read as it was written
+-- what is kept of each core's last row is the text of that row, which is read as it was written, and of the resources their texts
 abbrev pub AreTexts : TextVersion → PlanModel → Foreseen → Type 0
-AreTexts version plan foreseen = All (IsLine version plan) foreseen.lines × All (IsWhole version plan) foreseen.lines
+AreTexts version plan foreseen = All (IsLine version plan) foreseen.lines × All (IsWhole version plan) foreseen.lines × AreResTexts plan foreseen.res
 
 -- the text of the tick, and that of its core, are those of the row
 pub record AreTextsOf (version : TextVersion) (plan : PlanModel) (r : Row) (foreseen : Foreseen) : Type 0 where

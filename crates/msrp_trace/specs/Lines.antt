@@ -15,6 +15,7 @@ use Rattle.msrp_trace.specs.Laws.{is_told_whole}
 use Rattle.msrp_trace.specs.declared.line.CoreText.{CoreText}
 use Rattle.msrp_trace.specs.declared.line.RowLine.{RowLine}
 use Rattle.msrp_trace.specs.declared.res.ResText.{ResText}
+use Rattle.msrp_trace.specs.declared.res.ResTexts.{ResTexts}
 
 -- two rows of the same core, job and resource, without aheads
 abbrev pub is_same_place : Row → Row → Bool
@@ -32,10 +33,13 @@ IsJobText plan kept = IfSome kept.job (λ j. kept.text ≡ job_fields plan (Some
 abbrev pub IsResText : PlanModel → ResText → Type 0
 IsResText plan kept = IfSome kept.res (λ g. (kept.text ≡ next_field (res_text plan (Some g))) × (length kept.text ≤ 17))
 
--- what is kept of a core are the texts of the job that it ran last and of the resources that it named
+-- the texts that are kept are those of the resources
+abbrev pub AreResTexts : PlanModel → ResTexts → Type 0
+AreResTexts plan texts = All (IsResText plan) texts.kept
+
+-- what is kept of a core is the text of the job that it ran last
 pub record IsCoreText (plan : PlanModel) (kept : CoreText) : Type 0 where
   pub job : IsJobText plan kept.job
-  pub res : All (IsResText plan) kept.res
 
 -- the text is that of the row
 pub record IsLine (version : TextVersion) (plan : PlanModel) (kept : RowLine) : Type 0 where

@@ -3,7 +3,7 @@ use Rattle.std.specs.Prelude.{ℕ, List, [], ◌%◌, slice_index_or, map}
 use Rattle.std.specs.List.{All}
 use Rattle.msrp_plan.specs.Plan.{PlanModel}
 use Rattle.msrp_plan.specs.declared.rows.TextVersion.{TextVersion}
-use Rattle.msrp_trace.specs.Lines.{IsCoreText}
+use Rattle.msrp_trace.specs.Lines.{AreResTexts, IsCoreText}
 use Rattle.msrp_trace.specs.declared.line.CoreText.{CoreText}
 use Rattle.msrp_trace.specs.declared.texts.RowTexts.TheInside.{Inside}
 
@@ -23,6 +23,7 @@ texts_of lines = map (λ kept. kept.line) lines
 abbrev pub texts_view : Inside → TextsModel
 texts_view t = record { plan = t.plan.now; version = t.version; texts = texts_of t.lines }
 
--- what the texts are made from is as it is kept of each core
+-- what the texts are made from is as it is kept of each core, and of the resources
 pub record AreTextsView (t : Inside) : Type 0 where
   pub lines : All (IsCoreText t.plan.now) t.lines
+  pub res : AreResTexts t.plan.now t.res

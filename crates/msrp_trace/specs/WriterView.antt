@@ -1,12 +1,13 @@
 -- What a clause sees of a writer of trace text, and what its fields keep.
 use Rattle.std.specs.List.{All}
 use Rattle.msrp_trace.specs.Gathering.{WriterModel}
-use Rattle.msrp_trace.specs.Lines.{IsLine}
+use Rattle.msrp_trace.specs.Lines.{AreResTexts, IsLine}
 use Rattle.msrp_trace.specs.declared.writing.TraceWriter.TheInside.{Inside}
 
 abbrev pub writer_view : Inside → WriterModel
 writer_view w = record { plan = w.plan.now; version = w.version; text = w.page }
 
--- what is kept of each core's last row is the text of that row
+-- what is kept of each core's last row is the text of that row, and of the resources their texts
 pub record IsWriterView (w : Inside) : Type 0 where
   pub lines : All (IsLine w.version w.plan.now) w.lines
+  pub res : AreResTexts w.plan.now w.res

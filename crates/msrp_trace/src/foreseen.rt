@@ -12,6 +12,7 @@ ghost use Rattle.msrp_plan.specs.declared.rows.TextVersion.{TextVersion};
 ghost use Rattle.msrp_trace.specs.declared.line.RowLine.{RowLine as Kept};
 
 use crate::line::{CoreText, LINE, RowLine};
+use crate::res::ResTexts;
 use crate::text::Text;
 use crate::texts::{RowTexts, first_lines};
 use crate::tick::{NUMBER, Tick};
@@ -29,6 +30,7 @@ const PAGE: usize = MOST_CORES as usize * (NUMBER + LINE);
 pub(crate) struct Foreseen {
     tick: Tick,
     lines: [RowLine; MOST_CORES as usize],
+    res: ResTexts,
     // The records of all cores in a tick, one after the other, as they were gathered last.
     page: Text<PAGE>,
 }
@@ -79,6 +81,7 @@ impl Foreseen {
         Foreseen {
             tick: Tick::new(),
             lines: array::from_fn(|_| RowLine::new()),
+            res: ResTexts::new(),
             page: Text::new(),
         }
     }
@@ -93,7 +96,7 @@ impl Foreseen {
     {
         let core = (row.core.0 % MOST_CORES) as usize;
         self.tick.show(row.tick);
-        show_line(&mut self.lines, core, plan, version, row);
+        show_line(&mut self.lines, core, plan, version, row, &mut self.res);
     }
 
     /// Makes the texts of a row, if it is read back from them.

@@ -1,22 +1,21 @@
 //! The text of one record as it is made, and what is kept of a core's last one.
 ghost use Rattle.std.specs.Prelude.{◌≡◌, ◌≤◌, ◌<◌, ◌+◌, ◌++◌, [], codes, decimal, length, true, Some, None, IsSomeAnd, option_map};
-ghost use Rattle.std.specs.List.{All, flat_map};
+ghost use Rattle.std.specs.List.{flat_map};
 ghost use Rattle.std.specs.Option.{IfSome};
 ghost use Rattle.msrp_plan.specs.Plan.{PlanModel};
 ghost use Rattle.msrp_plan.specs.Stretches.{in_tick};
 ghost use Rattle.msrp_plan.specs.Words.{kind_text};
 ghost use Rattle.msrp_trace.specs.Gathering.{next_field, after_tick};
-ghost use Rattle.msrp_trace.specs.Lines.{IsCoreText, IsJobText, IsLine, IsResText, IsWhole, is_same_place, job_fields};
+ghost use Rattle.msrp_trace.specs.Lines.{AreResTexts, IsCoreText, IsJobText, IsLine, IsWhole, is_same_place, job_fields};
 ghost use Rattle.msrp_trace.specs.Laws.{is_short, is_told_whole};
 ghost use Rattle.msrp_trace.specs.TraceText.{ahead_fields, dash, head_text, is_named, is_res_of, is_task_of, job_text, res_text, task_text};
 
 use crate::job::JobText;
-use crate::res::ResText;
+use crate::res::ResTexts;
 use crate::text::Text;
 use crate::words::{DASH, TRACE_WORD, version_word};
 use msrp_plan::limits::MOST_RESOURCES;
 use msrp_plan::{JobId, Kind, Plan, ResId, Row, TextVersion};
-use std::array;
 use std::marker::Model;
 
 // No record is longer: a number has at most 10 digits, and a name at most 16 letters.
@@ -121,18 +120,17 @@ impl LineText {
 
     // The field of a resource. It is kept for the next rows on it.
     #[inline(always)]
-    fn next_resource(&mut self, plan: &Plan, kept: &mut [ResText], res: Option<ResId>)
+    fn next_resource(&mut self, plan: &Plan, kept: &mut ResTexts, res: Option<ResId>)
         requires res { is_res_of plan.now res ≡ true }
         requires room { length self.old + 24 ≤ LINE }
-        requires places { length kept.old ≡ 32 }
-        requires before { All (IsResText plan.now) kept.old }
-        ensures after { All (IsResText plan.now) kept.new }
+        requires before { AreResTexts plan.now kept.old }
+        ensures after { AreResTexts plan.now kept.new }
         ensures text { self.new ≡ self.old ++ next_field (res_text plan.now res) }
         ensures size { length self.new ≤ length self.old + 17 }
     {
         match res {
             Some(res) => {
-                let kept = &mut kept[res.0 as usize % MOST_RESOURCES];
+                let kept = &mut kept.kept[res.0 as usize % MOST_RESOURCES];
                 kept.show(plan, res);
                 self.text.add_text(kept.text());
             }
@@ -173,14 +171,13 @@ impl LineText {
         version: TextVersion,
         row: &Row,
         job: &mut JobText,
-        res: &mut [ResText],
+        res: &mut ResTexts,
     )
         requires named { is_named plan.now row.now ≡ true }
         requires job_before { IsJobText plan.now job.old }
-        requires places { length res.old ≡ 32 }
-        requires res_before { All (IsResText plan.now) res.old }
+        requires res_before { AreResTexts plan.now res.old }
         ensures job_after { IsJobText plan.now job.new }
-        ensures res_after { All (IsResText plan.now) res.new }
+        ensures res_after { AreResTexts plan.now res.new }
         ensures text { self.new ≡ after_tick version plan.now row.now }
     {
         self.clear();
@@ -199,8 +196,6 @@ pub(crate) struct CoreText {
     line: LineText,
     // The job that the core ran last.
     job: JobText,
-    // The resources that it named, by their numbers.
-    res: [ResText; MOST_RESOURCES],
 }
 
 impl CoreText {
@@ -208,40 +203,43 @@ impl CoreText {
     pub(crate) fn new() -> CoreText
         ensures line { result.line ≡ [] }
         ensures job { result.job.job ≡ None }
-        ensures res { All (λ kept. kept.res ≡ None) result.res }
     {
         CoreText {
             line: LineText::new(),
             job: JobText::new(),
-            res: array::from_fn(
-                |_|
-                    ensures { result.res ≡ None }
-                { ResText::new() },
-            ),
         }
     }
 
     /// Makes the record of a row but for its tick.
     #[inline(always)]
-    pub(crate) fn make(&mut self, plan: &Plan, version: TextVersion, row: &Row)
+    pub(crate) fn make(&mut self, plan: &Plan, version: TextVersion, row: &Row, res: &mut ResTexts)
         requires named { is_named plan.now row.now ≡ true }
         requires before { IsCoreText plan.now self.old }
+        requires res_before { AreResTexts plan.now res.old }
         ensures after { IsCoreText plan.now self.new }
+        ensures res_after { AreResTexts plan.now res.new }
         ensures text { self.new.line ≡ after_tick version plan.now row.now }
     {
-        self.line
-            .make(plan, version, row, &mut self.job, &mut self.res);
+        self.line.make(plan, version, row, &mut self.job, res);
     }
 
     /// Makes it apart from the code of its caller, which seldom needs it.
     #[inline(never)]
-    pub(crate) fn make_apart(&mut self, plan: &Plan, version: TextVersion, row: &Row)
+    pub(crate) fn make_apart(
+        &mut self,
+        plan: &Plan,
+        version: TextVersion,
+        row: &Row,
+        res: &mut ResTexts,
+    )
         requires named { is_named plan.now row.now ≡ true }
         requires before { IsCoreText plan.now self.old }
+        requires res_before { AreResTexts plan.now res.old }
         ensures after { IsCoreText plan.now self.new }
+        ensures res_after { AreResTexts plan.now res.new }
         ensures text { self.new.line ≡ after_tick version plan.now row.now }
     {
-        self.make(plan, version, row);
+        self.make(plan, version, row, res);
     }
 
     /// The text of the record after the tick.
@@ -277,7 +275,6 @@ impl RowLine {
     pub(crate) fn new() -> RowLine
         ensures row { result.row ≡ None }
         ensures job { result.text.job.job ≡ None }
-        ensures res { All (λ kept. kept.res ≡ None) result.text.res }
     {
         RowLine {
             row: None,
@@ -298,10 +295,12 @@ impl RowLine {
 
     /// Makes the record of a row but for its tick, unless it is here already.
     #[inline(always)]
-    pub(crate) fn show(&mut self, plan: &Plan, version: TextVersion, row: &Row)
+    pub(crate) fn show(&mut self, plan: &Plan, version: TextVersion, row: &Row, res: &mut ResTexts)
         requires named { is_named plan.now row.now ≡ true }
         requires before { IsLine version plan.now self.old }
+        requires res_before { AreResTexts plan.now res.old }
         ensures after { IsLine version plan.now self.new }
+        ensures res_after { AreResTexts plan.now res.new }
         ensures text { self.new.text.line ≡ after_tick version plan.now row.now }
         ensures whole { IsWhole version plan.now self.old → is_told_whole version plan.now row.now ≡ true → IsWhole version plan.now self.new }
     {
@@ -315,7 +314,7 @@ impl RowLine {
                 res: row.res,
                 ahead: row.ahead,
             };
-            self.text.make_apart(plan, version, &made);
+            self.text.make_apart(plan, version, &made, res);
             self.row = Some(made);
         }
     }

@@ -1,16 +1,19 @@
 //! The text of a resource, which stands in the records of the rows on it.
 ghost use Rattle.std.specs.Prelude.{◌≡◌, ◌<◌, ◌≤◌, length, true, Some, None};
+ghost use Rattle.msrp_plan.specs.Plan.{PlanModel};
 ghost use Rattle.msrp_trace.specs.Gathering.{next_field};
-ghost use Rattle.msrp_trace.specs.Lines.{IsResText};
+ghost use Rattle.msrp_trace.specs.Lines.{AreResTexts, IsResText};
 ghost use Rattle.msrp_trace.specs.TraceText.{res_text};
 
 use crate::text::Text;
+use msrp_plan::limits::MOST_RESOURCES;
 use msrp_plan::{Plan, ResId};
+use std::array;
 
 // No text of a resource is longer: a comma, and a name of at most 16 letters.
 const RES: usize = 24;
 
-/// A resource that a core named, and its field in a record.
+/// A resource that was named, and its field in a record.
 #[derive(Drop)]
 pub(crate) struct ResText {
     res: Option<ResId>,
@@ -78,5 +81,26 @@ impl ResText {
         ensures { result.now ≡ self.now.text }
     {
         &self.text
+    }
+}
+
+/// The resources that were named, by their numbers. Their fields are the same for all cores.
+#[derive(Drop)]
+pub(crate) struct ResTexts {
+    pub(crate) kept: [ResText; MOST_RESOURCES],
+}
+
+impl ResTexts {
+    /// No resource.
+    pub(crate) fn new() -> ResTexts
+        ensures { (plan : PlanModel) → AreResTexts plan result }
+    {
+        ResTexts {
+            kept: array::from_fn(
+                |_|
+                    ensures { result.res ≡ None }
+                { ResText::new() },
+            ),
+        }
     }
 }

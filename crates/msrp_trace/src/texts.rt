@@ -2,12 +2,13 @@
 ghost use Rattle.std.specs.List.{All};
 ghost use Rattle.std.specs.Prelude.{◌≡◌, ◌≤◌, ◌<◌, ◌%◌, ℕ, [], None, length, slice_index_or, slice_set, take, true};
 ghost use Rattle.msrp_trace.specs.Gathering.{after_tick};
-ghost use Rattle.msrp_trace.specs.Lines.{IsCoreText};
+ghost use Rattle.msrp_trace.specs.Lines.{AreResTexts, IsCoreText};
 ghost use Rattle.msrp_trace.specs.Texts.{text_of_core, texts_of};
 ghost use Rattle.msrp_trace.specs.TraceText.{is_named};
 ghost use Rattle.msrp_trace.specs.declared.line.CoreText.{CoreText as Kept};
 
 use crate::line::{CoreText, LINE};
+use crate::res::ResTexts;
 use crate::text::Text;
 use msrp_plan::limits::MOST_CORES;
 use msrp_plan::{Plan, Row, TextVersion};
@@ -21,6 +22,7 @@ pub struct RowTexts<'a> {
     plan: &'a Plan,
     version: TextVersion,
     pub(crate) lines: [CoreText; MOST_CORES as usize],
+    res: ResTexts,
 }
 
 impl<'a> Model for RowTexts<'a> {
@@ -37,15 +39,24 @@ impl<'a> Model for RowTexts<'a> {
 
 // Makes the text of a core's row.
 #[inline(always)]
-fn make_text(lines: &mut [CoreText], core: usize, plan: &Plan, version: TextVersion, row: &Row)
+fn make_text(
+    lines: &mut [CoreText],
+    core: usize,
+    plan: &Plan,
+    version: TextVersion,
+    row: &Row,
+    res: &mut ResTexts,
+)
     requires core { core < length lines.old }
     requires named { is_named plan.now row.now ≡ true }
     requires before { All (IsCoreText plan.now) lines.old }
+    requires res_before { AreResTexts plan.now res.old }
     ensures after { All (IsCoreText plan.now) lines.new }
+    ensures res_after { AreResTexts plan.now res.new }
     ensures text { (d : Kept) → (slice_index_or lines.new core d).line ≡ after_tick version plan.now row.now }
     ensures texts { texts_of lines.new ≡ slice_set (texts_of lines.old) core (after_tick version plan.now row.now) }
 {
-    lines[core].make(plan, version, row);
+    lines[core].make(plan, version, row, res);
 }
 
 /// What stands in a core's record after the tick.
@@ -81,9 +92,9 @@ impl<'a> RowTexts<'a> {
                 |_|
                     ensures line { result.line ≡ [] }
                     ensures job { result.job.job ≡ None }
-                    ensures res { All (λ kept. kept.res ≡ None) result.res }
                 { CoreText::new() },
             ),
+            res: ResTexts::new(),
         }
     }
 
@@ -97,6 +108,6 @@ impl<'a> RowTexts<'a> {
         let core = (row.core.0 % MOST_CORES) as usize;
         let plan = self.plan;
         let version = self.version;
-        make_text(&mut self.lines, core, plan, version, row);
+        make_text(&mut self.lines, core, plan, version, row, &mut self.res);
     }
 }

@@ -5,13 +5,14 @@ ghost use Rattle.msrp_plan.specs.Aheads.{carries_ahead};
 ghost use Rattle.msrp_plan.specs.Bytes.{Wrote, sink_failed};
 ghost use Rattle.msrp_trace.specs.Gathering.{Gathers, after_tick};
 ghost use Rattle.msrp_trace.specs.Laws.{is_told_whole};
-ghost use Rattle.msrp_trace.specs.Lines.{IsLine, IsWhole};
+ghost use Rattle.msrp_trace.specs.Lines.{AreResTexts, IsLine, IsWhole};
 ghost use Rattle.msrp_trace.specs.declared.line.RowLine.{RowLine as Kept};
 ghost use Rattle.msrp_trace.specs.Texts.{text_of_core};
 ghost use Rattle.msrp_trace.specs.TraceText.{head_text, is_named, is_res_of, is_task_of, row_text, trace_text};
 
 use crate::line::{LineText, RowLine};
 use crate::page::Page;
+use crate::res::ResTexts;
 use crate::texts::{RowTexts, text_of};
 use crate::tick::Tick;
 use msrp_plan::bytes::Sink;
@@ -31,6 +32,7 @@ pub struct TraceWriter<'a> {
     tick: Tick,
     // What the cores had last, by their numbers.
     lines: [RowLine; MOST_CORES as usize],
+    res: ResTexts,
 }
 
 impl<'a> Model for TraceWriter<'a> {
@@ -53,15 +55,18 @@ pub(crate) fn show_line(
     plan: &Plan,
     version: TextVersion,
     row: &Row,
+    res: &mut ResTexts,
 )
     requires core { core < length lines.old }
     requires named { is_named plan.now row.now ≡ true }
     requires before { All (IsLine version plan.now) lines.old }
+    requires res_before { AreResTexts plan.now res.old }
     ensures after { All (IsLine version plan.now) lines.new }
+    ensures res_after { AreResTexts plan.now res.new }
     ensures text { (d : Kept) → (slice_index_or lines.new core d).text.line ≡ after_tick version plan.now row.now }
     ensures whole { All (IsWhole version plan.now) lines.old → is_told_whole version plan.now row.now ≡ true → All (IsWhole version plan.now) lines.new }
 {
-    lines[core].show(plan, version, row);
+    lines[core].show(plan, version, row, res);
 }
 
 // The record of a row: its tick, and what its core's line says.
@@ -90,6 +95,7 @@ impl<'a> TraceWriter<'a> {
             page: Page::new(),
             tick: Tick::new(),
             lines: array::from_fn(|_| RowLine::new()),
+            res: ResTexts::new(),
         }
     }
 
@@ -114,7 +120,7 @@ impl<'a> TraceWriter<'a> {
         let plan = self.plan;
         let version = self.version;
         self.tick.show(row.tick);
-        show_line(&mut self.lines, core, plan, version, row);
+        show_line(&mut self.lines, core, plan, version, row, &mut self.res);
         add_record(&mut self.page, out, &self.tick, &self.lines, core);
     }
 

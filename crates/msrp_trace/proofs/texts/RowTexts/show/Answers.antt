@@ -7,6 +7,6 @@ use Rattle.msrp_trace.proofs.texts.RowTexts.show.Goals as goal
 
 pub returns-clause-here : goal.returns-clause-here
 returns-clause-here c =
-    let new : Inside = record { plan = c.self.inside.plan; version = c.self.inside.version; lines = c.make_text.new.lines } in
+    let new : Inside = record { plan = c.self.inside.plan; version = c.self.inside.version; lines = c.make_text.new.lines; res = c.make_text.new.res } in
     subst (λ (t : TextsModel). text_of_core (texts_view new) c.args.row.now.core.0 ≡ after_tick t.version t.plan c.args.row.now) c.self.view_is
     (sym (line_text (texts_view new) new c.args.row.now.core.0 refl) ∙ c.make_text.ensures.text no_text)
