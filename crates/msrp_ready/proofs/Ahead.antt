@@ -14,11 +14,13 @@ use Rattle.std.proofs.lemmas.List.Sorted.{IsPermutation-refl}
 use Rattle.msrp_plan.specs.Plan.{PlanModel}
 use Rattle.msrp_plan.specs.Choice.{first_ready}
 use Rattle.msrp_ready.specs.Heap.{HeapModel, least_on_top}
-use Rattle.msrp_ready.specs.Keyed.{comes_before}
+use Rattle.msrp_ready.specs.Keyed.{comes_before, keyed_jobs}
 use Rattle.msrp_ready.specs.Ready.{is_among, head}
 use Rattle.msrp_ready.specs.ReadyView.{without, AreReady}
+use Rattle.msrp_ready.specs.declared.keyed.Entry.{Entry}
 use Rattle.msrp_ready.specs.declared.keyed.KeyedJob.{KeyedJob}
 use Rattle.msrp_ready.proofs.Between.{between_slice}
+use Rattle.msrp_ready.proofs.Entries.{keyed_length, keyed_between, keyed_released, keyed_later}
 use Rattle.msrp_ready.proofs.Order.{least_on_top_total}
 use Rattle.msrp_ready.proofs.Moving.{released_on, without_more}
 use Rattle.msrp_ready.proofs.Standing.{seen, head_none, head_some}
@@ -109,13 +111,15 @@ module _ (plan : PlanModel) (c : ℕ) (tick : Option ℕ) (calendar : List Keyed
   by_first (Some k) is = sym (head_some plan c calendar after with_released (Some t) ready_with k is.one is.first) ∙ same_head
 
   -- the heap's first job, and then those that it releases
-  pub ahead : (o r : Option KeyedJob) → IsFirstOf o heap.jobs → IsFirstOf r (option_to_list o ++ take (after - next) (drop next calendar)) → option_map (λ k. k.job) r ≡ head (seen plan c calendar next heap (Some t))
-  ahead o r is joined = by_first r (subst (λ js. IsFirstOf r (heap.jobs ++ js)) (between_slice next after calendar lower) (first_joined o r heap.jobs (take (after - next) (drop next calendar)) is joined))
+  pub ahead : (o r : Option KeyedJob) → IsFirstOf o heap.jobs → IsFirstOf r (option_to_list o ++ drop next (take after calendar)) → option_map (λ k. k.job) r ≡ head (seen plan c calendar next heap (Some t))
+  ahead o r is joined = by_first r (first_joined o r heap.jobs (drop next (take after calendar)) is joined)
 
--- the calendar being seen as slices
-pub ahead_of : (plan : PlanModel) (c : ℕ) (tick : Option ℕ) (calendar slice other : List KeyedJob) (next : ℕ) (heap : HeapModel) (t after : ℕ) (o r : Option KeyedJob) → slice ≡ calendar → other ≡ calendar → AreReady plan c tick calendar next heap → ForSome tick (λ before. before ≤ t)
-    → next ≤ after → after ≤ length slice → All (λ k. k.key.release ≤ t) (drop next (take after slice)) → ((d : KeyedJob) → after < length slice → t < (get_or slice after d).key.release)
-    → IsFirstOf o heap.jobs → IsFirstOf r (option_to_list o ++ take (after - next) (drop next other)) → option_map (λ k. k.job) r ≡ head (seen plan c calendar next heap (Some t))
+-- the calendar being seen as slices of entries
+pub ahead_of : (plan : PlanModel) (c : ℕ) (tick : Option ℕ) (calendar slice other : List Entry) (next : ℕ) (heap : HeapModel) (t after : ℕ) (o r : Option KeyedJob) → slice ≡ calendar → other ≡ calendar → AreReady plan c tick (keyed_jobs plan calendar) next heap → ForSome tick (λ before. before ≤ t)
+    → next ≤ after → after ≤ length slice → All (λ e. e.release ≤ t) (drop next (take after slice)) → ((d : Entry) → after < length slice → t < (get_or slice after d).release)
+    → IsFirstOf o heap.jobs → IsFirstOf r (option_to_list o ++ keyed_jobs plan (take (after - next) (drop next other))) → option_map (λ k. k.job) r ≡ head (seen plan c (keyed_jobs plan calendar) next heap (Some t))
 ahead_of plan c tick calendar slice other next heap t after o r value same ok no_earlier lower within released later is joined =
-    subst (λ l. option_map (λ k. k.job) r ≡ head (seen plan c l next heap (Some t))) value
-    (ahead plan c tick slice next heap (subst (λ l. AreReady plan c tick l next heap) (sym value) ok) t after no_earlier lower within released later o r is (subst (λ l. IsFirstOf r (option_to_list o ++ take (after - next) (drop next l))) (same ∙ sym value) joined))
+    let between : keyed_jobs plan (take (after - next) (drop next other)) ≡ drop next (take after (keyed_jobs plan slice)) = ap (λ l. keyed_jobs plan (take (after - next) (drop next l))) (same ∙ sym value) ∙ ap (keyed_jobs plan) (between_slice next after slice lower) ∙ keyed_between plan slice next after in
+    subst (λ l. option_map (λ k. k.job) r ≡ head (seen plan c (keyed_jobs plan l) next heap (Some t))) value
+    (ahead plan c tick (keyed_jobs plan slice) next heap (subst (λ l. AreReady plan c tick (keyed_jobs plan l) next heap) (sym value) ok) t after no_earlier lower (omega (arith, within, keyed_length plan slice))
+    (keyed_released plan slice next after t released) (keyed_later plan slice after t later) o r is (subst (λ l. IsFirstOf r (option_to_list o ++ l)) between joined))

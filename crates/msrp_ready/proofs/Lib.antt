@@ -5,6 +5,7 @@ pub mod Gathering
 pub mod Between
 pub mod Once
 pub mod Standing
+pub mod Entries
 pub mod Releases
 pub mod Moving
 pub mod Ahead

@@ -15,12 +15,14 @@ use Rattle.msrp_plan.specs.Jobs.{jobs, jobs_on, same_job}
 use Rattle.msrp_plan.specs.WellFormed.{IsPlan}
 use Rattle.msrp_plan.specs.declared.ids.JobId.{JobId}
 use Rattle.msrp_plan.proofs.Jobs.JobTests.{same_is, same_symm}
-use Rattle.msrp_ready.specs.Keyed.{keyed}
+use Rattle.msrp_ready.specs.Keyed.{entry, keyed, keyed_jobs}
 use Rattle.msrp_ready.specs.Heap.{HeapModel}
 use Rattle.msrp_ready.specs.Ready.{is_among, has_come}
 use Rattle.msrp_ready.specs.ReadyView.{has, without, AreReady}
+use Rattle.msrp_ready.specs.declared.keyed.Entry.{Entry}
 use Rattle.msrp_ready.specs.declared.keyed.KeyedJob.{KeyedJob}
 use Rattle.msrp_ready.proofs.Once.{once_on}
+use Rattle.msrp_ready.proofs.Entries.{keyed_length, keyed_between, keyed_released, keyed_later, keyed_sorted, keyed_all}
 use Rattle.msrp_ready.proofs.Standing.{has_of, among_without, heap_released, come_later, none_come}
 use Rattle.msrp_plan.proofs.Lists.Filters.{count_map}
 use Rattle.msrp_plan.proofs.Tests.{or_off}
@@ -243,18 +245,21 @@ pub record Releases (plan : PlanModel) (c : ℕ) (tick : Option ℕ) (calendar :
   pub count : count_by (λ j. has_come (Some t) (release plan j)) (jobs_on plan c) ≡ after
   pub before : count_by (λ j. has_come tick (release plan j)) (jobs_on plan c) ≡ next
 
--- the calendar being seen as a slice
-pub releases : (plan : PlanModel) (c : ℕ) (tick : Option ℕ) (calendar slice : List KeyedJob) (next : ℕ) (heap : HeapModel) (t after : ℕ) (later : HeapModel) → slice ≡ calendar → AreReady plan c tick calendar next heap → ForSome tick (λ before. before ≤ t)
-    → next ≤ after → after ≤ length slice → IsPermutation (heap.jobs ++ drop next (take after slice)) later.jobs → All (λ k. k.key.release ≤ t) (drop next (take after slice)) → ((d : KeyedJob) → after < length slice → t < (get_or slice after d).key.release)
-    → later.room ≡ heap.room → later.compared ≤ heap.compared + 13 * (after - next) → Releases plan c tick calendar next heap t after later
+-- the calendar being seen as a slice of entries
+pub releases : (plan : PlanModel) (c : ℕ) (tick : Option ℕ) (calendar slice : List Entry) (next : ℕ) (heap : HeapModel) (t after : ℕ) (later : HeapModel) → slice ≡ calendar → AreReady plan c tick (keyed_jobs plan calendar) next heap → ForSome tick (λ before. before ≤ t)
+    → next ≤ after → after ≤ length slice → IsPermutation (heap.jobs ++ keyed_jobs plan (drop next (take after slice))) later.jobs → All (λ e. e.release ≤ t) (drop next (take after slice)) → ((d : Entry) → after < length slice → t < (get_or slice after d).release)
+    → later.room ≡ heap.room → later.compared ≤ heap.compared + 13 * (after - next) → Releases plan c tick (keyed_jobs plan calendar) next heap t after later
 releases plan c tick calendar slice next heap t after later value ok no_earlier lower within jobs released next_later room compared =
-    let ok' = subst (λ l. AreReady plan c tick l next heap) (sym value) ok in
-    let on = released_on plan c tick slice next heap ok' t after later no_earlier lower within jobs released next_later room compared in
-    subst (λ l. Releases plan c tick l next heap t after later) value (record {
+    let ok' = subst (λ l. AreReady plan c tick (keyed_jobs plan l) next heap) (sym value) ok in
+    let keyed = keyed_jobs plan slice in
+    let fits : after ≤ length keyed = omega (arith, within, keyed_length plan slice) in
+    let moved = subst (λ l. IsPermutation (heap.jobs ++ l) later.jobs) (keyed_between plan slice next after) jobs in
+    let on = released_on plan c tick keyed next heap ok' t after later no_earlier lower fits moved (keyed_released plan slice next after t released) (keyed_later plan slice after t next_later) room compared in
+    subst (λ l. Releases plan c tick (keyed_jobs plan l) next heap t after later) value (record {
       ready = on;
-      taken = without_more plan c tick slice next heap ok' t after later no_earlier lower within jobs;
-      count = released_count plan c (Some t) slice after later on;
-      before = released_count plan c tick slice next heap ok';
+      taken = without_more plan c tick keyed next heap ok' t after later no_earlier lower fits moved;
+      count = released_count plan c (Some t) keyed after later on;
+      before = released_count plan c tick keyed next heap ok';
     })
 
 -- ---- before the first release
@@ -265,18 +270,19 @@ few_on_core plan c accepted =
     let fewer = count_by-le-length (λ j. core_of plan j == c) (jobs plan) in
     omega (arith, count, fewer, accepted.jobs)
 
-pub nothing_released : (plan : PlanModel) (c : ℕ) (calendar : List KeyedJob) (heap : HeapModel) → IsPlan plan → IsPermutation (map (keyed plan) (jobs_on plan c)) calendar → IsNonDecreasingBy (λ k. k.key.release) calendar → heap.jobs ≡ [] → heap.room ≡ length calendar → heap.compared ≡ 0
-    → AreReady plan c None calendar 0 heap
+pub nothing_released : (plan : PlanModel) (c : ℕ) (calendar : List Entry) (heap : HeapModel) → IsPlan plan → IsPermutation (map (entry plan) (jobs_on plan c)) calendar → IsNonDecreasingBy (λ e. e.release) calendar → heap.jobs ≡ [] → heap.room ≡ length calendar → heap.compared ≡ 0
+    → AreReady plan c None (keyed_jobs plan calendar) 0 heap
 nothing_released plan c calendar heap accepted jobs sorted empty room compared =
-    let images = length-map (jobs_on plan c) (keyed plan) in
-    let moved = length_permutation (map (keyed plan) (jobs_on plan c)) calendar jobs in
+    let images = length-map (jobs_on plan c) (entry plan) in
+    let moved = length_permutation (map (entry plan) (jobs_on plan c)) calendar jobs in
+    let same = keyed_length plan calendar in
     let few = few_on_core plan c accepted in
     record {
       accepted = accepted;
-      jobs = jobs;
-      sorted = sorted;
-      few = omega (arith, images, moved, few);
-      room = room;
+      jobs = keyed_all plan calendar c jobs;
+      sorted = keyed_sorted plan calendar sorted;
+      few = omega (arith, images, moved, few, same);
+      room = omega (arith, room, same);
       within = omega arith;
       come = All-nil (λ k. has_come None k.key.release ≡ true);
       to_come = λ k d h. refl;

@@ -4,7 +4,7 @@ use Rattle.std.specs.List.{AllByRecursion, Contains, list_any}
 use Rattle.std.specs.Option.{ForSome}
 use Rattle.std.proofs.Math.Bool.{and-false, and-true}
 use Rattle.std.proofs.lemmas.Bool.{cases_Bool, leb-false, and_from, or_parts}
-use Rattle.std.proofs.lemmas.List.{take-append-drop, get_or-drop, get_or_default, length-drop}
+use Rattle.std.proofs.lemmas.List.{take-append-drop, get_or-drop, get_or_default, get_or-map, length-drop}
 use Rattle.std.proofs.lemmas.List.Elements.{All-contains, All-contains_itself, All-weaker, Contains-get_or, Contains-append_right, Contains-append_cases}
 use Rattle.std.proofs.lemmas.List.Folds.{list_any_none}
 use Rattle.msrp_plan.specs.Plan.{PlanModel, release}
@@ -13,11 +13,13 @@ use Rattle.msrp_plan.specs.Choice.{is_before, least, first_ready}
 use Rattle.msrp_plan.specs.declared.ids.JobId.{JobId}
 use Rattle.msrp_plan.proofs.Lists.AnyAll.{any_in, none_kept}
 use Rattle.msrp_plan.proofs.Lists.Filters.{filter_same}
-use Rattle.msrp_ready.specs.Keyed.{keyed}
+use Rattle.msrp_ready.specs.Keyed.{keyed, keyed_at, keyed_jobs}
 use Rattle.msrp_ready.specs.Heap.{HeapModel}
 use Rattle.msrp_ready.specs.Ready.{ReadyModel, has_come, head, is_among, has_release_by}
 use Rattle.msrp_ready.specs.ReadyView.{AreReady}
+use Rattle.msrp_ready.specs.declared.keyed.Entry.{Entry}
 use Rattle.msrp_ready.specs.declared.keyed.KeyedJob.{KeyedJob}
+use Rattle.msrp_ready.proofs.Entries.{keyed_length}
 use Rattle.msrp_ready.proofs.Standing.{all_keyed, all_on_core, come_later, in_calendar, none_come}
 
 module _ (plan : PlanModel) (c : ℕ) (tick : Option ℕ) (calendar : List KeyedJob) (next : ℕ) (heap : HeapModel) (ok : AreReady plan c tick calendar next heap) (t : ℕ) where
@@ -57,6 +59,15 @@ module _ (plan : PlanModel) (c : ℕ) (tick : Option ℕ) (calendar : List Keyed
           let long = length-drop next calendar in
           let here : get_or (drop next calendar) 0 k ≡ k = get_or-drop next calendar 0 k ∙ (ap (λ n. get_or calendar n k) (add-zero next) ∙ sym at) in
           subst (Contains (drop next calendar)) here (Contains-get_or (drop next calendar) 0 k (omega (arith, long, within)))
+
+-- the entry at the first place tells it too
+pub entry_tells : (plan : PlanModel) (c : ℕ) (tick : Option ℕ) (calendar : List Entry) (next : ℕ) (heap : HeapModel) (ok : AreReady plan c tick (keyed_jobs plan calendar) next heap) (t : ℕ) (e : Entry) → next < length calendar → e ≡ get_or calendar next e → nat_le e.release t ≡ list_any (comes plan c tick (keyed_jobs plan calendar) next heap ok t) (jobs_on plan c)
+entry_tells plan c tick calendar next heap ok t e within at =
+    released_at plan c tick (keyed_jobs plan calendar) next heap ok t (keyed_at plan e) (omega (arith, within, keyed_length plan calendar)) (ap (keyed_at plan) at ∙ sym (get_or-map (keyed_at plan) calendar next e (keyed_at plan e) within))
+
+-- no entry is left
+pub none_left : (plan : PlanModel) (c : ℕ) (tick : Option ℕ) (calendar : List Entry) (next : ℕ) (heap : HeapModel) (ok : AreReady plan c tick (keyed_jobs plan calendar) next heap) (t : ℕ) → length calendar ≤ next → list_any (comes plan c tick (keyed_jobs plan calendar) next heap ok t) (jobs_on plan c) ≡ false
+none_left plan c tick calendar next heap ok t none = none_released plan c tick (keyed_jobs plan calendar) next heap ok t (λ d l. absurd (omega (arith, l, none, keyed_length plan calendar)))
 
 -- ---- where none is released
 -- what hasn't come by either tick

@@ -7,7 +7,7 @@ use Rattle.msrp_plan.specs.Jobs.{jobs_on, same_job}
 use Rattle.msrp_plan.specs.WellFormed.{IsPlan}
 use Rattle.msrp_plan.specs.Limits.{most_jobs}
 use Rattle.msrp_plan.specs.declared.ids.JobId.{JobId}
-use Rattle.msrp_ready.specs.Keyed.{keyed}
+use Rattle.msrp_ready.specs.Keyed.{keyed, keyed_jobs}
 use Rattle.msrp_ready.specs.Heap.{HeapModel}
 use Rattle.msrp_ready.specs.Ready.{ReadyModel, has_come}
 use Rattle.msrp_ready.specs.declared.keyed.KeyedJob.{KeyedJob}
@@ -21,8 +21,8 @@ has jobs j = list_any (λ k. same_job j k.job) jobs
 abbrev pub without : List KeyedJob → List KeyedJob → List JobId
 without ready jobs = filter (λ j. not (has ready j)) (map (λ k. k.job) jobs)
 
--- the calendar has the jobs of the core by their releases; the first `next` of them are released, and each of these stands in
--- the heap or is taken
+-- the calendar, seen with the keys of its jobs, has the jobs of the core by their releases; the first `next` of them are
+-- released, and each of these stands in the heap or is taken
 pub record AreReady (plan : PlanModel) (core : ℕ) (tick : Option ℕ) (calendar : List KeyedJob) (next : ℕ) (heap : HeapModel) : Type 0 where
   pub accepted : IsPlan plan
   pub jobs : IsPermutation (map (keyed plan) (jobs_on plan core)) calendar
@@ -37,7 +37,7 @@ pub record AreReady (plan : PlanModel) (core : ℕ) (tick : Option ℕ) (calenda
   pub compared : heap.compared ≤ 13 * next + 26 * length taken
 
 abbrev pub ready_view : Inside → ReadyModel
-ready_view ready = record { plan = ready.plan.now; core = ready.core.0; tick = ready.tick; taken = without ready.heap.jobs (take ready.next ready.calendar.items); compared = ready.heap.compared }
+ready_view ready = record { plan = ready.plan.now; core = ready.core.0; tick = ready.tick; taken = without ready.heap.jobs (take ready.next (keyed_jobs ready.plan.now ready.calendar.items)); compared = ready.heap.compared }
 
 abbrev pub IsReadyView : Inside → Type 0
-IsReadyView ready = AreReady ready.plan.now ready.core.0 ready.tick ready.calendar.items ready.next ready.heap
+IsReadyView ready = AreReady ready.plan.now ready.core.0 ready.tick (keyed_jobs ready.plan.now ready.calendar.items) ready.next ready.heap

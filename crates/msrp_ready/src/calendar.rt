@@ -1,33 +1,36 @@
-//! The calendar of a core: its jobs in the order of their releases, each beside its key.
+//! The calendar of a core: its jobs in the order of their releases, each beside its release.
 ghost use Rattle.std.specs.Prelude.{◌≡◌, ◌<◌, ◌≤◌, ◌+◌, ◌-◌, ◌*◌, ◌^◌, ◌++◌, length, map, take, drop, slice_index_or, IfOk, OnOk};
 ghost use Rattle.std.specs.List.{All};
 ghost use Rattle.std.specs.List.Sorted.{IsPermutation, IsNonDecreasingBy};
 ghost use Rattle.msrp_plan.specs.Jobs.{jobs_of, jobs_on};
 ghost use Rattle.msrp_plan.specs.WellFormed.{IsPlan};
 ghost use Rattle.msrp_plan.specs.Limits.{most_jobs};
-ghost use Rattle.msrp_ready.specs.Keyed.{keyed};
-ghost use Rattle.msrp_ready.specs.declared.keyed.KeyedJob.{KeyedJob};
+ghost use Rattle.msrp_ready.specs.Keyed.{entry, keyed_jobs};
+ghost use Rattle.msrp_ready.specs.declared.keyed.Entry.{Entry};
 
 use crate::heap::Heap;
-use crate::keyed::KeyedJob;
+use crate::keyed::{Entry, KeyedJob};
 use msrp_plan::{CoreId, JobId, Memory, Plan, TaskId};
 use std::alloc::{AllocError, Global};
 
 // Adds the jobs of a task.
-fn push_jobs(jobs: &mut Vec<KeyedJob>, plan: &Plan, task: TaskId) -> Result<(), AllocError>
-    requires { task.0 < length plan.now.tasks }
-    ensures { OnOk result (jobs.new.items ≡ jobs.old.items ++ map (keyed plan.now) (jobs_of plan.now task.0)) }
+fn push_jobs(jobs: &mut Vec<Entry>, plan: &Plan, task: TaskId) -> Result<(), AllocError>
+    requires plan { IsPlan plan.now }
+    requires task { task.0 < length plan.now.tasks }
+    ensures { OnOk result (jobs.new.items ≡ jobs.old.items ++ map (entry plan.now) (jobs_of plan.now task.0)) }
 {
     for k in 0..plan.jobs(task) {
-        jobs.push(KeyedJob::of(plan, JobId { task, k }))?;
+        let job = JobId { task, k };
+        let release = plan.release(job) as u32;
+        jobs.push(Entry { release, job })?;
     }
     Ok(())
 }
 
 // The jobs of a core, task by task.
-fn jobs_on(alloc: Global, plan: &Plan, core: CoreId) -> Result<Vec<KeyedJob>, AllocError>
+fn jobs_on(alloc: Global, plan: &Plan, core: CoreId) -> Result<Vec<Entry>, AllocError>
     ensures plan { IsPlan plan.now }
-    ensures jobs { IfOk result (λ jobs. jobs.items ≡ map (keyed plan.now) (jobs_on plan.now core.0)) }
+    ensures jobs { IfOk result (λ jobs. jobs.items ≡ map (entry plan.now) (jobs_on plan.now core.0)) }
 {
     let mut jobs = Vec::with_capacity(alloc, plan.jobs_on(core))?;
     for t in 0..plan.tasks() {
@@ -39,26 +42,26 @@ fn jobs_on(alloc: Global, plan: &Plan, core: CoreId) -> Result<Vec<KeyedJob>, Al
 }
 
 /// The jobs of a core by their releases. It fails only where memory was refused.
-pub(crate) fn calendar_of(alloc: Global, plan: &Plan, core: CoreId) -> Result<Vec<KeyedJob>, Memory>
+pub(crate) fn calendar_of(alloc: Global, plan: &Plan, core: CoreId) -> Result<Vec<Entry>, Memory>
     ensures plan { IsPlan plan.now }
-    ensures jobs { IfOk result (λ jobs. IsPermutation (map (keyed plan.now) (jobs_on plan.now core.0)) jobs.items) }
-    ensures sorted { IfOk result (λ jobs. IsNonDecreasingBy (λ job. job.key.release) jobs.items) }
+    ensures jobs { IfOk result (λ jobs. IsPermutation (map (entry plan.now) (jobs_on plan.now core.0)) jobs.items) }
+    ensures sorted { IfOk result (λ jobs. IsNonDecreasingBy (λ entry. entry.release) jobs.items) }
 {
     let mut jobs = jobs_on(alloc, plan, core)?;
-    jobs.sort_unstable_by_key(|job| job.key.release);
+    jobs.sort_unstable_by_key(|entry| entry.release);
     Ok(jobs)
 }
 
 /// The place of the first job of a calendar, from a place on, that isn't released by a tick.
-pub(crate) fn released_to(calendar: &[KeyedJob], from: usize, tick: u32) -> usize
+pub(crate) fn released_to(calendar: &[Entry], from: usize, tick: u32) -> usize
     requires { from ≤ length calendar.now }
     ensures from { from ≤ result }
     ensures within { result ≤ length calendar.now }
-    ensures released { All (λ job. job.key.release ≤ tick) (drop from (take result calendar.now)) }
-    ensures later { (d : KeyedJob) → result < length calendar.now → tick < (slice_index_or calendar.now result d).key.release }
+    ensures released { All (λ entry. entry.release ≤ tick) (drop from (take result calendar.now)) }
+    ensures later { (d : Entry) → result < length calendar.now → tick < (slice_index_or calendar.now result d).release }
 {
     let mut next = from;
-    while next < calendar.len() && calendar[next].key.release <= u64::from(tick) {
+    while next < calendar.len() && calendar[next].release <= tick {
         next += 1;
     }
     next
@@ -67,24 +70,31 @@ pub(crate) fn released_to(calendar: &[KeyedJob], from: usize, tick: u32) -> usiz
 /// Moves the jobs of a calendar from a place on that are released by a tick into the heap, and answers the place of the
 /// first that isn't.
 #[inline(always)]
-pub(crate) fn release(calendar: &[KeyedJob], from: usize, tick: u32, heap: &mut Heap) -> usize
+pub(crate) fn release(
+    plan: &Plan,
+    calendar: &[Entry],
+    from: usize,
+    tick: u32,
+    heap: &mut Heap,
+) -> usize
     requires from { from ≤ length calendar.now }
+    requires tasks { All (λ entry. entry.job.task.0 < length plan.now.tasks) calendar.now }
     requires few { length calendar.now ≤ most_jobs }
     requires room { heap.old.room ≡ length calendar.now }
     requires jobs { length heap.old.jobs ≤ from }
     requires count { heap.old.compared < 2 ^ 63 }
     ensures from { from ≤ result }
     ensures within { result ≤ length calendar.now }
-    ensures released { All (λ job. job.key.release ≤ tick) (drop from (take result calendar.now)) }
-    ensures later { (d : KeyedJob) → result < length calendar.now → tick < (slice_index_or calendar.now result d).key.release }
-    ensures jobs { IsPermutation (heap.old.jobs ++ drop from (take result calendar.now)) heap.new.jobs }
+    ensures released { All (λ entry. entry.release ≤ tick) (drop from (take result calendar.now)) }
+    ensures later { (d : Entry) → result < length calendar.now → tick < (slice_index_or calendar.now result d).release }
+    ensures jobs { IsPermutation (heap.old.jobs ++ keyed_jobs plan.now (drop from (take result calendar.now))) heap.new.jobs }
     ensures room { heap.new.room ≡ heap.old.room }
     ensures compared { heap.new.compared ≤ heap.old.compared + 13 * (result - from) }
     ensures kept { heap.old.compared ≤ heap.new.compared }
     ensures counted { result ≤ from + 1 + (heap.new.compared - heap.old.compared) }
 {
-    if from < calendar.len() && calendar[from].key.release <= u64::from(tick) {
-        release_some(calendar, from, tick, heap)
+    if from < calendar.len() && calendar[from].release <= tick {
+        release_some(plan, calendar, from, tick, heap)
     } else {
         from
     }
@@ -92,17 +102,18 @@ pub(crate) fn release(calendar: &[KeyedJob], from: usize, tick: u32, heap: &mut 
 
 // Releases the jobs of a calendar that a tick releases. Apart from the code of the ticks in which nothing is released, which are most.
 #[inline(never)]
-fn release_some(calendar: &[KeyedJob], from: usize, tick: u32, heap: &mut Heap) -> usize
+fn release_some(plan: &Plan, calendar: &[Entry], from: usize, tick: u32, heap: &mut Heap) -> usize
     requires from { from ≤ length calendar.now }
+    requires tasks { All (λ entry. entry.job.task.0 < length plan.now.tasks) calendar.now }
     requires few { length calendar.now ≤ most_jobs }
     requires room { heap.old.room ≡ length calendar.now }
     requires jobs { length heap.old.jobs ≤ from }
     requires count { heap.old.compared < 2 ^ 63 }
     ensures from { from ≤ result }
     ensures within { result ≤ length calendar.now }
-    ensures released { All (λ job. job.key.release ≤ tick) (drop from (take result calendar.now)) }
-    ensures later { (d : KeyedJob) → result < length calendar.now → tick < (slice_index_or calendar.now result d).key.release }
-    ensures jobs { IsPermutation (heap.old.jobs ++ drop from (take result calendar.now)) heap.new.jobs }
+    ensures released { All (λ entry. entry.release ≤ tick) (drop from (take result calendar.now)) }
+    ensures later { (d : Entry) → result < length calendar.now → tick < (slice_index_or calendar.now result d).release }
+    ensures jobs { IsPermutation (heap.old.jobs ++ keyed_jobs plan.now (drop from (take result calendar.now))) heap.new.jobs }
     ensures room { heap.new.room ≡ heap.old.room }
     ensures compared { heap.new.compared ≤ heap.old.compared + 13 * (result - from) }
     ensures kept { heap.old.compared ≤ heap.new.compared }
@@ -110,8 +121,8 @@ fn release_some(calendar: &[KeyedJob], from: usize, tick: u32, heap: &mut Heap) 
 {
     let until = released_to(calendar, from, tick);
     let released = &calendar[from..until];
-    for job in released {
-        heap.push(*job);
+    for entry in released {
+        heap.push(KeyedJob::of(plan, *entry));
     }
     until
 }

@@ -7,7 +7,7 @@ ghost use Rattle.msrp_ready.specs.Ready.{head, is_among, has_release_by, release
 
 use crate::calendar::{calendar_of, release, released_to};
 use crate::heap::Heap;
-use crate::keyed::{KeyedJob, first_of};
+use crate::keyed::{Entry, first_of};
 use msrp_plan::{CoreId, JobId, Memory, Plan};
 use std::alloc::Global;
 use std::marker::Model;
@@ -24,7 +24,7 @@ pub struct Ready<'a> {
     plan: &'a Plan,
     core: CoreId,
     tick: Option<u32>,
-    calendar: Vec<KeyedJob>,
+    calendar: Vec<Entry>,
     next: usize,
     heap: Heap,
 }
@@ -70,7 +70,7 @@ impl<'a> Ready<'a> {
         // Each job that finds another ready is compared.
         ensures counted { released self.new ≤ released self.old + 1 + (self.new.compared - self.old.compared) }
     {
-        self.next = release(&self.calendar, self.next, tick, &mut self.heap);
+        self.next = release(self.plan, &self.calendar, self.next, tick, &mut self.heap);
         self.tick = Some(tick);
     }
 
@@ -79,7 +79,7 @@ impl<'a> Ready<'a> {
     pub fn has_release_by(&self, tick: u32) -> bool
         ensures { result ≡ has_release_by self.now tick }
     {
-        self.next < self.calendar.len() && self.calendar[self.next].key.release <= u64::from(tick)
+        self.next < self.calendar.len() && self.calendar[self.next].release <= tick
     }
 
     /// The tick in which the next job of the core is released, if one is left. It compares no keys.
@@ -90,7 +90,7 @@ impl<'a> Ready<'a> {
         ensures first { IfSome result (λ next. (tick : ℕ) → tick < next → has_release_by self.now tick ≡ false) }
     {
         if self.next < self.calendar.len() {
-            Some(self.calendar[self.next].key.release)
+            Some(u64::from(self.calendar[self.next].release))
         } else {
             None
         }
@@ -118,7 +118,8 @@ impl<'a> Ready<'a> {
         ensures { result ≡ head (record self.now { tick = Some tick }) }
     {
         let until = released_to(&self.calendar, self.next, tick);
-        let first = first_of(self.heap.first(), &self.calendar[self.next..until])?;
+        let released = &self.calendar[self.next..until];
+        let first = first_of(self.plan, self.heap.first(), released)?;
         Some(first.job)
     }
 

@@ -1,8 +1,8 @@
 use Rattle.std.proofs.Common.{rules}
 use Rattle.std.proofs.lemmas.List.Sorted.{IsNonDecreasingBy-from_sort, answers_always}
-use Rattle.msrp_ready.specs.declared.keyed.KeyedJob.{KeyedJob}
+use Rattle.msrp_ready.specs.declared.keyed.Entry.{Entry}
 use Rattle.msrp_ready.proofs.calendar.calendar_of.Goals as goal
 
 pub returns-clause-sorted : goal.returns-clause-sorted
 returns-clause-sorted c =
-    IsNonDecreasingBy-from_sort (λ (job : KeyedJob). job.key.release) _ (c.sort_unstable_by_key.ensures.sorted (λ job. job.key.release) (answers_always _ _ _ (λ f a r g h. search rules)))
+    IsNonDecreasingBy-from_sort (λ (entry : Entry). entry.release) _ (c.sort_unstable_by_key.ensures.sorted (λ entry. entry.release) (answers_always _ _ _ (λ f a r g h. search rules)))

@@ -1,8 +1,8 @@
 use Rattle.std.proofs.Common.{◌≡◌, map}
 use Rattle.std.specs.List.{range_with_len}
 use Rattle.msrp_plan.proofs.Jobs.JobLists.{jobs_among}
-use Rattle.msrp_ready.specs.Keyed.{keyed}
+use Rattle.msrp_ready.specs.Keyed.{entry}
 use Rattle.msrp_ready.proofs.calendar.jobs_on.Given as goal
 
 abbrev pub invariant-loop-t : goal.invariant-loop-t
-invariant-loop-t l = l.jobs.items ≡ map (keyed l.plan) (jobs_among l.plan l.core.0 (range_with_len 0 l.t))
+invariant-loop-t l = l.jobs.items ≡ map (entry l.plan) (jobs_among l.plan l.core.0 (range_with_len 0 l.t))

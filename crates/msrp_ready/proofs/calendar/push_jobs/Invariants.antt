@@ -1,8 +1,8 @@
 use Rattle.std.proofs.Common.{◌≡◌, ◌++◌, map}
 use Rattle.std.specs.List.{range_with_len}
 use Rattle.msrp_plan.proofs.Jobs.JobLists.{job_at}
-use Rattle.msrp_ready.specs.Keyed.{keyed}
+use Rattle.msrp_ready.specs.Keyed.{entry}
 use Rattle.msrp_ready.proofs.calendar.push_jobs.Given as goal
 
 abbrev pub invariant-loop-k : goal.invariant-loop-k
-invariant-loop-k l = l.jobs.items ≡ l.fn.jobs.items ++ map (λ n. keyed l.plan (job_at l.task.0 n)) (range_with_len 0 l.k)
+invariant-loop-k l = l.jobs.items ≡ l.fn.jobs.items ++ map (λ n. entry l.plan (job_at l.task.0 n)) (range_with_len 0 l.k)

@@ -1,28 +1,33 @@
-use Rattle.std.proofs.Common.{◌≡◌, ◌+◌, ◌-◌, ◌∷◌, [], ◌++◌, length, take, drop, get_or, sym, ◌∙◌, subst, inl, inr, arith, append_assoc, take_all}
+use Rattle.std.proofs.Common.{◌≡◌, ◌+◌, ◌-◌, ◌∷◌, [], ◌++◌, length, take, drop, sym, ap, ◌<◌, ◌∙◌, subst, inl, inr, arith, append_assoc, take_all}
 use Rattle.std.proofs.lemmas.Bool.{cases_lt}
 use Rattle.std.specs.List.Sorted.{IsPermutation}
-use Rattle.std.proofs.lemmas.List.{take_more}
+use Rattle.std.proofs.lemmas.List.{take_more, get_or-map}
+use Rattle.std.proofs.lemmas.List.Elements.{All-take, All-drop}
 use Rattle.std.proofs.lemmas.List.Sorted.{IsPermutation-push_more, length_permutation}
-use Rattle.msrp_ready.specs.declared.keyed.KeyedJob.{KeyedJob}
+use Rattle.msrp_ready.specs.Keyed.{keyed_at, keyed_jobs}
+use Rattle.msrp_ready.specs.declared.keyed.Entry.{Entry}
+use Rattle.msrp_ready.proofs.Entries.{no_entry, keyed_length}
 use Rattle.msrp_ready.proofs.Between.{between_slice}
 use Rattle.msrp_ready.proofs.Walks.{few_of_most}
 use Rattle.msrp_ready.proofs.calendar.release_some.Goals as goal
 
-no_job : KeyedJob
-no_job = record { job = record { task = record { 0 = 0 }; k = 0 }; key = record { deadline = 0; release = 0; task = 0; k = 0 } }
+pub of-requires : goal.of-requires
+of-requires c = All-take (λ (e : Entry). e.job.task.0 < length c.args.plan.now.tasks) (c.released_to-until.result - c.args.from) (drop c.args.from c.args.calendar.now) (All-drop (λ (e : Entry). e.job.task.0 < length c.args.plan.now.tasks) c.args.from c.args.calendar.now c.requires.tasks) c.loop-entry.entry-index no_entry c.loop-entry-test.true
 
-pub loop-job-preserved : goal.loop-job-preserved
-unfolding no_job
-loop-job-preserved c =
-    let released = take (c.released_to-until.result - c.args.from) (drop c.args.from c.args.calendar.now) in
-    let at = c.loop-job.job-index in
-    let before = c.loop-job.invariant in
-    let job = get_or released at no_job in
-    let more = take_more released at no_job c.loop-job-test.true in
+pub loop-entry-preserved : goal.loop-entry-preserved
+loop-entry-preserved c =
+    let plan = c.args.plan.now in
+    let entries = take (c.released_to-until.result - c.args.from) (drop c.args.from c.args.calendar.now) in
+    let released = keyed_jobs plan entries in
+    let at = c.loop-entry.entry-index in
+    let before = c.loop-entry.invariant in
+    let within = c.loop-entry-test.true in
+    let job = c.of.result in
+    let more = take_more released at job (omega (arith, within, keyed_length plan entries)) ∙ ap (λ k. take at released ++ k ∷ []) (get_or-map (keyed_at plan) entries at no_entry job within ∙ sym c.of.ensures) in
     let size = length_permutation _ _ c.push.ensures.jobs in
-    let few = few_of_most 1 2 (length c.loop-job.heap.jobs + 1) c.loop-job.heap.compared c.push.new.self.compared c.push.ensures.walk (omega arith) in
+    let few = few_of_most 1 2 (length c.loop-entry.heap.jobs + 1) c.loop-entry.heap.compared c.push.new.self.compared c.push.ensures.walk (omega arith) in
     record {
-      jobs = subst (λ l. IsPermutation (c.args.heap.now.jobs ++ l) c.push.new.self.jobs) (sym more) (subst (λ l. IsPermutation l c.push.new.self.jobs) (append_assoc c.args.heap.now.jobs (take at released) (job ∷ [])) (IsPermutation-push_more (c.args.heap.now.jobs ++ take at released) c.loop-job.heap.jobs c.push.new.self.jobs job before.jobs c.push.ensures.jobs));
+      jobs = subst (λ l. IsPermutation (c.args.heap.now.jobs ++ l) c.push.new.self.jobs) (sym more) (subst (λ l. IsPermutation l c.push.new.self.jobs) (append_assoc c.args.heap.now.jobs (take at released) (job ∷ [])) (IsPermutation-push_more (c.args.heap.now.jobs ++ take at released) c.loop-entry.heap.jobs c.push.new.self.jobs job before.jobs c.push.ensures.jobs));
       size = omega (arith, size, before.size);
       room = c.push.ensures.room ∙ before.room;
       compared = omega (arith, few, before.compared);
@@ -35,6 +40,8 @@ loop-job-preserved c =
 
 pub returns-clause-jobs : goal.returns-clause-jobs
 returns-clause-jobs c =
-    let released = take (c.released_to-until.result - c.args.from) (drop c.args.from c.args.calendar.now) in
-    let all : take c.loop-job.job-index released ≡ drop c.args.from (take c.released_to-until.result c.args.calendar.now) = take_all c.loop-job.job-index released (omega (arith, c.loop-job-test.false)) ∙ between_slice c.args.from c.released_to-until.result c.args.calendar.now c.released_to-until.ensures.from in
-    subst (λ l. IsPermutation (c.args.heap.now.jobs ++ l) c.loop-job.heap.jobs) all c.loop-job.invariant.jobs
+    let plan = c.args.plan.now in
+    let entries = take (c.released_to-until.result - c.args.from) (drop c.args.from c.args.calendar.now) in
+    let all : take c.loop-entry.entry-index (keyed_jobs plan entries) ≡ keyed_jobs plan (drop c.args.from (take c.released_to-until.result c.args.calendar.now)) =
+    take_all c.loop-entry.entry-index (keyed_jobs plan entries) (omega (arith, c.loop-entry-test.false, keyed_length plan entries)) ∙ ap (keyed_jobs plan) (between_slice c.args.from c.released_to-until.result c.args.calendar.now c.released_to-until.ensures.from) in
+    subst (λ l. IsPermutation (c.args.heap.now.jobs ++ l) c.loop-entry.heap.jobs) all c.loop-entry.invariant.jobs

@@ -6,7 +6,7 @@ abbrev pub invariant-loop-next : goal.invariant-loop-next
 invariant-loop-next l = record {
   lower : l.from ≤ l.next;
   within : l.next ≤ length l.calendar;
-  released : All (λ job. job.key.release ≤ l.tick) (drop l.from (take l.next l.calendar));
+  released : All (λ entry. entry.release ≤ l.tick) (drop l.from (take l.next l.calendar));
 }
 
 abbrev pub decreases-loop-next : goal.decreases-loop-next

@@ -1,7 +1,17 @@
-use Rattle.std.proofs.Common.{Some, None, ap, sym, ◌∙◌}
+use Rattle.std.proofs.Common.{Some, None, ◌<◌, ◌-◌, length, drop, subst, ap, sym, ◌∙◌}
+use Rattle.std.specs.List.{All}
+use Rattle.std.proofs.lemmas.List.Elements.{All-take, All-drop}
+use Rattle.msrp_ready.specs.declared.keyed.Entry.{Entry}
 use Rattle.msrp_ready.specs.Ready.{ReadyModel, head}
+use Rattle.msrp_ready.proofs.Entries.{known_tasks}
 use Rattle.msrp_ready.proofs.Ahead.{ahead_of}
 use Rattle.msrp_ready.proofs.ready.Ready.head_of_released.Goals as goal
+
+pub first_of-requires : goal.first_of-requires
+first_of-requires c =
+    let r = c.self.inside in
+    let of_plan : Entry → Type 0 = λ e. e.job.task.0 < length r.plan.now.tasks in
+    All-take of_plan (c.released_to-until.result - r.next) (drop r.next c.deref-2.result.now) (All-drop of_plan r.next c.deref-2.result.now (subst (All of_plan) (sym c.deref-2.ensures.value) (known_tasks r.plan.now r.calendar.items r.core.0 r.tick r.next r.heap c.self.invariant)))
 
 pub returns-in_err-first : goal.returns-in_err-first
 returns-in_err-first c =
