@@ -1,6 +1,6 @@
 //! Accepted plans. Only a builder makes them, so each is well formed (`IsPlan`), and its readers say so. Tasks and
 //! resources go by their numbers, from 0, in the order of their declaration.
-ghost use Rattle.std.specs.Prelude.{◌≡◌, ◌≢◌, ◌<◌, ◌≤◌, ◌+◌, ◌*◌, ◌^◌, ℕ, length, map, IsSome, IsSomeAnd, Some, slice_get};
+ghost use Rattle.std.specs.Prelude.{◌≡◌, ◌<◌, ◌≤◌, ◌+◌, ◌*◌, ◌^◌, ℕ, length, map, IsSome, IsSomeAnd, Some, slice_get};
 ghost use Rattle.std.specs.List.{range_with_len};
 ghost use Rattle.std.specs.Option.{option_map};
 ghost use Rattle.msrp_plan.specs.Plan.{task_at, release, release_tick, key};
@@ -174,16 +174,6 @@ impl Plan {
         ensures { slice_get (task_at self.now task.0).units place ≡ Some result }
     {
         self.units_of(task).unit(place as usize)
-    }
-
-    /// How many units of a task from a place on are work, one after another, of at most so many.
-    pub fn work(&self, task: TaskId, place: u32, most: u32) -> u32
-        requires { task.0 < length self.now.tasks }
-        ensures most { result ≤ most }
-        ensures work { (i : ℕ) → place ≤ i → i < place + result → slice_get (task_at self.now task.0).units i ≡ Some Op.Run }
-        ensures next { result < most → slice_get (task_at self.now task.0).units (place + result) ≢ Some Op.Run }
-    {
-        self.units_of(task).work(place, most)
     }
 
     /// The number of jobs of a task: of its releases before the plan's ticks are over. The task's jobs are those
