@@ -1,9 +1,10 @@
 -- What is made of the jobs of a core, gathered task by task and job by job.
-use Rattle.std.proofs.Common.{◌≡◌, ℕ, ◌+◌, ◌==◌, true, false, cond, List, [], ◌∷◌, ◌++◌, map, refl, ap, sym, ◌∙◌, arith, append_assoc, append-nil}
+use Rattle.std.proofs.Common.{◌≡◌, ℕ, ◌+◌, ◌≤◌, ◌==◌, nat_lt, length, Bool, true, false, cond, List, [], ◌∷◌, ◌++◌, map, refl, ap, sym, ◌∙◌, arith, append_assoc, append-nil}
 use Rattle.std.specs.List.{range_with_len}
-use Rattle.std.proofs.lemmas.List.{map-append}
-use Rattle.std.proofs.lemmas.List.FromFn.{map-range_with_len_more}
-use Rattle.msrp_plan.specs.Plan.{PlanModel, task_at}
+use Rattle.std.proofs.lemmas.List.{map-append, length-map}
+use Rattle.std.proofs.lemmas.List.FromFn.{map-range_with_len_more, length-range_with_len}
+use Rattle.std.proofs.lemmas.List.Sums.{length-filter, count_by-le-length}
+use Rattle.msrp_plan.specs.Plan.{PlanModel, task_at, release}
 use Rattle.msrp_plan.specs.Jobs.{jobs_of}
 use Rattle.msrp_plan.specs.declared.ids.JobId.{JobId}
 use Rattle.msrp_plan.proofs.Jobs.JobLists.{job_at, jobs_among, jobs_among_more}
@@ -34,3 +35,10 @@ module _ {X : Type 0} (f : JobId → X) (plan : PlanModel) where
   -- all jobs of the task
   pub gather_all : (t n : ℕ) → jobs_of plan t ≡ map (job_at t) (range_with_len 0 n) → map (λ k. f (job_at t k)) (range_with_len 0 n) ≡ map f (jobs_of plan t)
   gather_all t n numbered = by_number t (range_with_len 0 n) ∙ ap (map f) (sym numbered)
+
+-- ---- a task has no more jobs than its plan has ticks
+pub few_of_task : (plan : PlanModel) (t : ℕ) → length (jobs_of plan t) ≤ plan.ticks
+few_of_task plan t =
+    let all = map (job_at t) (range_with_len 0 plan.ticks) in
+    let is_in_time : JobId → Bool = λ j. nat_lt (release plan j) plan.ticks in
+    omega (arith, length-filter is_in_time all, count_by-le-length is_in_time all, length-map (range_with_len 0 plan.ticks) (job_at t), length-range_with_len 0 plan.ticks)

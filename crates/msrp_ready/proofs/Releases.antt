@@ -7,51 +7,51 @@ use Rattle.std.proofs.lemmas.Bool.{cases_Bool, leb-false, and_from, or_parts}
 use Rattle.std.proofs.lemmas.List.{take-append-drop, get_or-drop, get_or_default, get_or-map, length-drop}
 use Rattle.std.proofs.lemmas.List.Elements.{All-contains, All-contains_itself, All-weaker, Contains-get_or, Contains-append_right, Contains-append_cases}
 use Rattle.std.proofs.lemmas.List.Folds.{list_any_none}
-use Rattle.msrp_plan.specs.Plan.{PlanModel, release}
+use Rattle.msrp_plan.specs.Plan.{PlanModel, release, key}
 use Rattle.msrp_plan.specs.Jobs.{jobs_on, is_released}
 use Rattle.msrp_plan.specs.Choice.{is_before, least, first_ready}
 use Rattle.msrp_plan.specs.declared.ids.JobId.{JobId}
 use Rattle.msrp_plan.proofs.Lists.AnyAll.{any_in, none_kept}
 use Rattle.msrp_plan.proofs.Lists.Filters.{filter_same}
-use Rattle.msrp_ready.specs.Keyed.{keyed, keyed_at, keyed_jobs}
+use Rattle.msrp_ready.specs.Keyed.{entry_key, entry_keys, job_of}
 use Rattle.msrp_ready.specs.Heap.{HeapModel}
 use Rattle.msrp_ready.specs.Ready.{ReadyModel, has_come, head, is_among, has_release_by}
 use Rattle.msrp_ready.specs.ReadyView.{AreReady}
 use Rattle.msrp_ready.specs.declared.keyed.Entry.{Entry}
-use Rattle.msrp_ready.specs.declared.keyed.KeyedJob.{KeyedJob}
+use Rattle.msrp_plan.specs.declared.ids.JobKey.{JobKey}
 use Rattle.msrp_ready.proofs.Entries.{keyed_length}
 use Rattle.msrp_ready.proofs.Standing.{all_keyed, all_on_core, come_later, in_calendar, none_come}
 
-module _ (plan : PlanModel) (c : ℕ) (tick : Option ℕ) (calendar : List KeyedJob) (next : ℕ) (heap : HeapModel) (ok : AreReady plan c tick calendar next heap) (t : ℕ) where
+module _ (plan : PlanModel) (c : ℕ) (tick : Option ℕ) (calendar : List JobKey) (next : ℕ) (heap : HeapModel) (ok : AreReady plan c tick calendar next heap) (t : ℕ) where
   abbrev comes : JobId → Bool
   comes j = has_come (Some t) (release plan j) && not (has_come tick (release plan j))
 
   -- one that isn't released yet, and is by this tick
-  pub some_released : (k : KeyedJob) → Contains (drop next calendar) k → nat_le k.key.release t ≡ true → list_any comes (jobs_on plan c) ≡ true
+  pub some_released : (k : JobKey) → Contains (drop next calendar) k → nat_le k.release t ≡ true → list_any comes (jobs_on plan c) ≡ true
   some_released k there come =
       let listed : Contains calendar k = subst (λ ks. Contains ks k) (take-append-drop next calendar) (Contains-append_right (take next calendar) (drop next calendar) k there) in
-      let own : k ≡ keyed plan k.job = All-contains (λ z. z ≡ keyed plan z.job) calendar k (all_keyed plan c tick calendar next heap ok) listed in
-      let waits = All-contains (λ z. has_come tick z.key.release ≡ false) (drop next calendar) k ok.to_come there in
-      any_in comes (jobs_on plan c) k.job (All-contains (λ z. Contains (jobs_on plan c) z.job) calendar k (all_on_core plan c tick calendar next heap ok) listed)
-      (and_from (has_come (Some t) (release plan k.job)) (not (has_come tick (release plan k.job))) (ap (λ z. nat_le z.key.release t) (sym own) ∙ come) (ap (λ z. not (has_come tick z.key.release)) (sym own) ∙ ap not waits))
+      let own : k ≡ key plan (job_of k) = All-contains (λ z. z ≡ key plan (job_of z)) calendar k (all_keyed plan c tick calendar next heap ok) listed in
+      let waits = All-contains (λ z. has_come tick z.release ≡ false) (drop next calendar) k ok.to_come there in
+      any_in comes (jobs_on plan c) (job_of k) (All-contains (λ z. Contains (jobs_on plan c) (job_of z)) calendar k (all_on_core plan c tick calendar next heap ok) listed)
+      (and_from (has_come (Some t) (release plan (job_of k))) (not (has_come tick (release plan (job_of k)))) (ap (λ z. nat_le z.release t) (sym own) ∙ come) (ap (λ z. not (has_come tick z.release)) (sym own) ∙ ap not waits))
 
   -- nobody, where the first that isn't released yet comes later
-  pub none_released : ((d : KeyedJob) → next < length calendar → t < (get_or calendar next d).key.release) → list_any comes (jobs_on plan c) ≡ false
+  pub none_released : ((d : JobKey) → next < length calendar → t < (get_or calendar next d).release) → list_any comes (jobs_on plan c) ≡ false
   none_released later = list_any_none comes (jobs_on plan c) (All-weaker (Contains (jobs_on plan c)) (λ j. comes j ≡ false) each (jobs_on plan c) (All-contains_itself (jobs_on plan c)))
     where
       each : (j : JobId) → Contains (jobs_on plan c) j → comes j ≡ false
       each j there =
-          let k = keyed plan j in
+          let k = key plan j in
           elim (Contains-append_cases (take next calendar) (drop next calendar) k (subst (λ ks. Contains ks k) (sym (take-append-drop next calendar)) (in_calendar plan c tick calendar next heap ok j there))) [
-            | inl before ↦ ap (λ b. has_come (Some t) (release plan j) && not b) (All-contains (λ z. has_come tick z.key.release ≡ true) (take next calendar) k ok.come before) ∙ and-false (has_come (Some t) (release plan j))
-            | inr after ↦ ap (λ b. b && not (has_come tick (release plan j))) (All-contains (λ z. has_come (Some t) z.key.release ≡ false) (drop next calendar) k (none_come calendar next t ok.sorted later) after)
+            | inl before ↦ ap (λ b. has_come (Some t) (release plan j) && not b) (All-contains (λ z. has_come tick z.release ≡ true) (take next calendar) k ok.come before) ∙ and-false (has_come (Some t) (release plan j))
+            | inr after ↦ ap (λ b. b && not (has_come tick (release plan j))) (All-contains (λ z. has_come (Some t) z.release ≡ false) (drop next calendar) k (none_come calendar next t ok.sorted later) after)
           ]
 
   -- so the first of them tells
-  pub released_at : (k : KeyedJob) → next < length calendar → k ≡ get_or calendar next k → nat_le k.key.release t ≡ list_any comes (jobs_on plan c)
-  released_at k within at = elim (cases_Bool (nat_le k.key.release t)) [
+  pub released_at : (k : JobKey) → next < length calendar → k ≡ get_or calendar next k → nat_le k.release t ≡ list_any comes (jobs_on plan c)
+  released_at k within at = elim (cases_Bool (nat_le k.release t)) [
     | inl come ↦ come ∙ sym (some_released k first come)
-    | inr late ↦ late ∙ sym (none_released (λ d l. let e = ap (λ z. z.key.release) (get_or_default calendar next d k within ∙ sym at) in omega (arith, leb-false k.key.release t late, e)))
+    | inr late ↦ late ∙ sym (none_released (λ d l. let e = ap (λ z. z.release) (get_or_default calendar next d k within ∙ sym at) in omega (arith, leb-false k.release t late, e)))
   ]
     where
       first : Contains (drop next calendar) k
@@ -61,13 +61,13 @@ module _ (plan : PlanModel) (c : ℕ) (tick : Option ℕ) (calendar : List Keyed
           subst (Contains (drop next calendar)) here (Contains-get_or (drop next calendar) 0 k (omega (arith, long, within)))
 
 -- the entry at the first place tells it too
-pub entry_tells : (plan : PlanModel) (c : ℕ) (tick : Option ℕ) (calendar : List Entry) (next : ℕ) (heap : HeapModel) (ok : AreReady plan c tick (keyed_jobs plan calendar) next heap) (t : ℕ) (e : Entry) → next < length calendar → e ≡ get_or calendar next e → nat_le e.release t ≡ list_any (comes plan c tick (keyed_jobs plan calendar) next heap ok t) (jobs_on plan c)
+pub entry_tells : (plan : PlanModel) (c : ℕ) (tick : Option ℕ) (calendar : List Entry) (next : ℕ) (heap : HeapModel) (ok : AreReady plan c tick (entry_keys plan calendar) next heap) (t : ℕ) (e : Entry) → next < length calendar → e ≡ get_or calendar next e → nat_le e.release t ≡ list_any (comes plan c tick (entry_keys plan calendar) next heap ok t) (jobs_on plan c)
 entry_tells plan c tick calendar next heap ok t e within at =
-    released_at plan c tick (keyed_jobs plan calendar) next heap ok t (keyed_at plan e) (omega (arith, within, keyed_length plan calendar)) (ap (keyed_at plan) at ∙ sym (get_or-map (keyed_at plan) calendar next e (keyed_at plan e) within))
+    released_at plan c tick (entry_keys plan calendar) next heap ok t (entry_key plan e) (omega (arith, within, keyed_length plan calendar)) (ap (entry_key plan) at ∙ sym (get_or-map (entry_key plan) calendar next e (entry_key plan e) within))
 
 -- no entry is left
-pub none_left : (plan : PlanModel) (c : ℕ) (tick : Option ℕ) (calendar : List Entry) (next : ℕ) (heap : HeapModel) (ok : AreReady plan c tick (keyed_jobs plan calendar) next heap) (t : ℕ) → length calendar ≤ next → list_any (comes plan c tick (keyed_jobs plan calendar) next heap ok t) (jobs_on plan c) ≡ false
-none_left plan c tick calendar next heap ok t none = none_released plan c tick (keyed_jobs plan calendar) next heap ok t (λ d l. absurd (omega (arith, l, none, keyed_length plan calendar)))
+pub none_left : (plan : PlanModel) (c : ℕ) (tick : Option ℕ) (calendar : List Entry) (next : ℕ) (heap : HeapModel) (ok : AreReady plan c tick (entry_keys plan calendar) next heap) (t : ℕ) → length calendar ≤ next → list_any (comes plan c tick (entry_keys plan calendar) next heap ok t) (jobs_on plan c) ≡ false
+none_left plan c tick calendar next heap ok t none = none_released plan c tick (entry_keys plan calendar) next heap ok t (λ d l. absurd (omega (arith, l, none, keyed_length plan calendar)))
 
 -- ---- where none is released
 -- what hasn't come by either tick

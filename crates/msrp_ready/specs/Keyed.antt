@@ -1,29 +1,33 @@
--- Jobs beside their releases, and beside their keys.
-use Rattle.std.specs.Prelude.{Bool, true, List, map, ◌+◌, Option, Some, None}
+-- Jobs beside their releases, and by their keys.
+use Rattle.std.specs.Prelude.{List, map, ◌+◌, Option, Some, None, if◌then◌else◌}
 use Rattle.std.specs.Ordering.{is_lt}
-use Rattle.msrp_plan.specs.Plan.{PlanModel, key, release, task_of}
+use Rattle.msrp_plan.specs.Plan.{PlanModel, release, task_at}
 use Rattle.msrp_plan.specs.Choice.{key_cmp}
 use Rattle.msrp_plan.specs.declared.ids.JobId.{JobId}
+use Rattle.msrp_plan.specs.declared.ids.JobKey.{JobKey}
 use Rattle.msrp_ready.specs.declared.keyed.Entry.{Entry}
-use Rattle.msrp_ready.specs.declared.keyed.KeyedJob.{KeyedJob}
-
--- a job of a plan beside its key
-abbrev pub keyed : PlanModel → JobId → KeyedJob
-keyed plan j = record { job = j; key = key plan j }
 
 -- a job of a plan beside its release
 abbrev pub entry : PlanModel → JobId → Entry
-entry plan j = record { release = release plan j; job = j }
+entry plan j = record { release = release plan j; task = j.task.0; k = j.k }
 
--- the job of an entry beside its key, which is made of the release that stands there
-abbrev pub keyed_at : PlanModel → Entry → KeyedJob
-keyed_at plan e = record { job = e.job; key = record { deadline = e.release + (task_of plan e.job).deadline; release = e.release; task = e.job.task.0; k = e.job.k } }
+-- the job of an entry
+abbrev pub entry_job : Entry → JobId
+entry_job e = record { task = record { 0 = e.task }; k = e.k }
 
--- the jobs of entries beside their keys
-abbrev pub keyed_jobs : PlanModel → List Entry → List KeyedJob
-keyed_jobs plan entries = map (keyed_at plan) entries
+-- its key, which is made of the release that stands there
+abbrev pub entry_key : PlanModel → Entry → JobKey
+entry_key plan e = record { deadline = e.release + (task_at plan e.task).deadline; release = e.release; task = e.task; k = e.k }
 
--- the job comes before another, if there is one
-abbrev pub comes_before : KeyedJob → Option KeyedJob → Bool
-comes_before job None = true
-comes_before job (Some other) = is_lt (key_cmp job.key other.key)
+-- the keys of the jobs of entries
+abbrev pub entry_keys : PlanModel → List Entry → List JobKey
+entry_keys plan entries = map (entry_key plan) entries
+
+-- the job of a key, which stands in it
+abbrev pub job_of : JobKey → JobId
+job_of key = record { task = record { 0 = key.task }; k = key.k }
+
+-- the one of a key and another that comes first; the key itself, if there is no other
+abbrev pub earlier_of : JobKey → Option JobKey → JobKey
+earlier_of key None = key
+earlier_of key (Some other) = if is_lt (key_cmp key other) then key else other

@@ -3,3 +3,4 @@ pub mod Heap
 pub mod HeapView
 pub mod Ready
 pub mod ReadyView
+pub mod KeyedView

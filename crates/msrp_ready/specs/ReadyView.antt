@@ -2,42 +2,42 @@
 use Rattle.std.specs.Prelude.{ℕ, List, Bool, true, false, not, Option, filter, map, length, take, drop, ◌≡◌, ◌≤◌, ◌+◌, ◌*◌, ◌++◌}
 use Rattle.std.specs.List.{All, list_any}
 use Rattle.std.specs.List.Sorted.{IsPermutation, IsNonDecreasingBy}
-use Rattle.msrp_plan.specs.Plan.{PlanModel}
+use Rattle.msrp_plan.specs.Plan.{PlanModel, key}
 use Rattle.msrp_plan.specs.Jobs.{jobs_on, same_job}
 use Rattle.msrp_plan.specs.WellFormed.{IsPlan}
 use Rattle.msrp_plan.specs.Limits.{most_jobs}
 use Rattle.msrp_plan.specs.declared.ids.JobId.{JobId}
-use Rattle.msrp_ready.specs.Keyed.{keyed, keyed_jobs}
+use Rattle.msrp_ready.specs.Keyed.{entry_keys, job_of}
 use Rattle.msrp_ready.specs.Heap.{HeapModel}
 use Rattle.msrp_ready.specs.Ready.{ReadyModel, has_come}
-use Rattle.msrp_ready.specs.declared.keyed.KeyedJob.{KeyedJob}
+use Rattle.msrp_plan.specs.declared.ids.JobKey.{JobKey}
 use Rattle.msrp_ready.specs.declared.ready.Ready.TheInside.{Inside}
 
 -- the job stands in the list
-abbrev pub has : List KeyedJob → JobId → Bool
-has jobs j = list_any (λ k. same_job j k.job) jobs
+abbrev pub has : List JobKey → JobId → Bool
+has jobs j = list_any (λ k. same_job j (job_of k)) jobs
 
 -- the jobs of a list that don't stand in the other
-abbrev pub without : List KeyedJob → List KeyedJob → List JobId
-without ready jobs = filter (λ j. not (has ready j)) (map (λ k. k.job) jobs)
+abbrev pub without : List JobKey → List JobKey → List JobId
+without ready jobs = filter (λ j. not (has ready j)) (map job_of jobs)
 
--- the calendar, seen with the keys of its jobs, has the jobs of the core by their releases; the first `next` of them are
+-- the calendar, seen by the keys of its jobs, has the jobs of the core by their releases; the first `next` of them are
 -- released, and each of these stands in the heap or is taken
-pub record AreReady (plan : PlanModel) (core : ℕ) (tick : Option ℕ) (calendar : List KeyedJob) (next : ℕ) (heap : HeapModel) : Type 0 where
+pub record AreReady (plan : PlanModel) (core : ℕ) (tick : Option ℕ) (calendar : List JobKey) (next : ℕ) (heap : HeapModel) : Type 0 where
   pub accepted : IsPlan plan
-  pub jobs : IsPermutation (map (keyed plan) (jobs_on plan core)) calendar
-  pub sorted : IsNonDecreasingBy (λ job. job.key.release) calendar
+  pub jobs : IsPermutation (map (key plan) (jobs_on plan core)) calendar
+  pub sorted : IsNonDecreasingBy (λ job. job.release) calendar
   pub few : length calendar ≤ most_jobs
   pub room : heap.room ≡ length calendar
   pub within : next ≤ length calendar
-  pub come : All (λ job. has_come tick job.key.release ≡ true) (take next calendar)
-  pub to_come : All (λ job. has_come tick job.key.release ≡ false) (drop next calendar)
-  pub taken : List KeyedJob
+  pub come : All (λ job. has_come tick job.release ≡ true) (take next calendar)
+  pub to_come : All (λ job. has_come tick job.release ≡ false) (drop next calendar)
+  pub taken : List JobKey
   pub each : IsPermutation (take next calendar) (heap.jobs ++ taken)
   pub compared : heap.compared ≤ 13 * next + 26 * length taken
 
 abbrev pub ready_view : Inside → ReadyModel
-ready_view ready = record { plan = ready.plan.now; core = ready.core.0; tick = ready.tick; taken = without ready.heap.jobs (take ready.next (keyed_jobs ready.plan.now ready.calendar.items)); compared = ready.heap.compared }
+ready_view ready = record { plan = ready.plan.now; core = ready.core.0; tick = ready.tick; taken = without ready.heap.jobs (take ready.next (entry_keys ready.plan.now ready.calendar.items)); compared = ready.heap.compared }
 
 abbrev pub IsReadyView : Inside → Type 0
-IsReadyView ready = AreReady ready.plan.now ready.core.0 ready.tick (keyed_jobs ready.plan.now ready.calendar.items) ready.next ready.heap
+IsReadyView ready = AreReady ready.plan.now ready.core.0 ready.tick (entry_keys ready.plan.now ready.calendar.items) ready.next ready.heap

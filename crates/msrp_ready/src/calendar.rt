@@ -5,7 +5,7 @@ ghost use Rattle.std.specs.List.Sorted.{IsPermutation, IsNonDecreasingBy};
 ghost use Rattle.msrp_plan.specs.Jobs.{jobs_of, jobs_on};
 ghost use Rattle.msrp_plan.specs.WellFormed.{IsPlan};
 ghost use Rattle.msrp_plan.specs.Limits.{most_jobs};
-ghost use Rattle.msrp_ready.specs.Keyed.{entry, keyed_jobs};
+ghost use Rattle.msrp_ready.specs.Keyed.{entry, entry_keys};
 ghost use Rattle.msrp_ready.specs.declared.keyed.Entry.{Entry};
 
 use crate::heap::Heap;
@@ -20,9 +20,7 @@ fn push_jobs(jobs: &mut Vec<Entry>, plan: &Plan, task: TaskId) -> Result<(), All
     ensures { OnOk result (jobs.new.items ≡ jobs.old.items ++ map (entry plan.now) (jobs_of plan.now task.0)) }
 {
     for k in 0..plan.jobs(task) {
-        let job = JobId { task, k };
-        let release = plan.release(job) as u32;
-        jobs.push(Entry { release, job })?;
+        jobs.push(Entry::of(plan, JobId { task, k }))?;
     }
     Ok(())
 }
@@ -61,7 +59,7 @@ pub(crate) fn released_to(calendar: &[Entry], from: usize, tick: u32) -> usize
     ensures later { (d : Entry) → result < length calendar.now → tick < (slice_index_or calendar.now result d).release }
 {
     let mut next = from;
-    while next < calendar.len() && calendar[next].release <= tick {
+    while next < calendar.len() && u32::from(calendar[next].release) <= tick {
         next += 1;
     }
     next
@@ -78,7 +76,8 @@ pub(crate) fn release(
     heap: &mut Heap,
 ) -> usize
     requires from { from ≤ length calendar.now }
-    requires tasks { All (λ entry. entry.job.task.0 < length plan.now.tasks) calendar.now }
+    requires plan { IsPlan plan.now }
+    requires tasks { All (λ entry. entry.task < length plan.now.tasks) calendar.now }
     requires few { length calendar.now ≤ most_jobs }
     requires room { heap.old.room ≡ length calendar.now }
     requires jobs { length heap.old.jobs ≤ from }
@@ -87,13 +86,13 @@ pub(crate) fn release(
     ensures within { result ≤ length calendar.now }
     ensures released { All (λ entry. entry.release ≤ tick) (drop from (take result calendar.now)) }
     ensures later { (d : Entry) → result < length calendar.now → tick < (slice_index_or calendar.now result d).release }
-    ensures jobs { IsPermutation (heap.old.jobs ++ keyed_jobs plan.now (drop from (take result calendar.now))) heap.new.jobs }
+    ensures jobs { IsPermutation (heap.old.jobs ++ entry_keys plan.now (drop from (take result calendar.now))) heap.new.jobs }
     ensures room { heap.new.room ≡ heap.old.room }
     ensures compared { heap.new.compared ≤ heap.old.compared + 13 * (result - from) }
     ensures kept { heap.old.compared ≤ heap.new.compared }
     ensures counted { result ≤ from + 1 + (heap.new.compared - heap.old.compared) }
 {
-    if from < calendar.len() && calendar[from].release <= tick {
+    if from < calendar.len() && u32::from(calendar[from].release) <= tick {
         release_some(plan, calendar, from, tick, heap)
     } else {
         from
@@ -104,7 +103,8 @@ pub(crate) fn release(
 #[inline(never)]
 fn release_some(plan: &Plan, calendar: &[Entry], from: usize, tick: u32, heap: &mut Heap) -> usize
     requires from { from ≤ length calendar.now }
-    requires tasks { All (λ entry. entry.job.task.0 < length plan.now.tasks) calendar.now }
+    requires plan { IsPlan plan.now }
+    requires tasks { All (λ entry. entry.task < length plan.now.tasks) calendar.now }
     requires few { length calendar.now ≤ most_jobs }
     requires room { heap.old.room ≡ length calendar.now }
     requires jobs { length heap.old.jobs ≤ from }
@@ -113,7 +113,7 @@ fn release_some(plan: &Plan, calendar: &[Entry], from: usize, tick: u32, heap: &
     ensures within { result ≤ length calendar.now }
     ensures released { All (λ entry. entry.release ≤ tick) (drop from (take result calendar.now)) }
     ensures later { (d : Entry) → result < length calendar.now → tick < (slice_index_or calendar.now result d).release }
-    ensures jobs { IsPermutation (heap.old.jobs ++ keyed_jobs plan.now (drop from (take result calendar.now))) heap.new.jobs }
+    ensures jobs { IsPermutation (heap.old.jobs ++ entry_keys plan.now (drop from (take result calendar.now))) heap.new.jobs }
     ensures room { heap.new.room ≡ heap.old.room }
     ensures compared { heap.new.compared ≤ heap.old.compared + 13 * (result - from) }
     ensures kept { heap.old.compared ≤ heap.new.compared }

@@ -79,7 +79,7 @@ impl<'a> Ready<'a> {
     pub fn has_release_by(&self, tick: u32) -> bool
         ensures { result ≡ has_release_by self.now tick }
     {
-        self.next < self.calendar.len() && self.calendar[self.next].release <= tick
+        self.next < self.calendar.len() && u32::from(self.calendar[self.next].release) <= tick
     }
 
     /// The tick in which the next job of the core is released, if one is left. It compares no keys.
@@ -108,7 +108,7 @@ impl<'a> Ready<'a> {
         ensures { result ≡ head self.now }
     {
         let first = self.heap.first()?;
-        Some(first.job)
+        Some(first.job())
     }
 
     // The head as a release to a tick would leave it, apart from the code of the ticks in which nothing is released.
@@ -120,7 +120,7 @@ impl<'a> Ready<'a> {
         let until = released_to(&self.calendar, self.next, tick);
         let released = &self.calendar[self.next..until];
         let first = first_of(self.plan, self.heap.first(), released)?;
-        Some(first.job)
+        Some(first.job())
     }
 
     /// The head as a release to a tick would leave it, which is no earlier than the one before. It releases nothing, and
@@ -146,7 +146,7 @@ impl<'a> Ready<'a> {
         ensures at_least { self.old.compared ≤ self.new.compared }
     {
         let first = self.heap.pop()?;
-        Some(first.job)
+        Some(first.job())
     }
 
     /// How often two keys were compared since this was made, but for a look ahead.

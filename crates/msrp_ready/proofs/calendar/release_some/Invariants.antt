@@ -1,11 +1,11 @@
 use Rattle.std.proofs.Common.{◌≡◌, ◌+◌, ◌*◌, ◌≤◌, ◌++◌, length, take}
 use Rattle.std.specs.List.Sorted.{IsPermutation}
-use Rattle.msrp_ready.specs.Keyed.{keyed_jobs}
+use Rattle.msrp_ready.specs.Keyed.{entry_keys}
 use Rattle.msrp_ready.proofs.calendar.release_some.Given as goal
 
 abbrev pub invariant-loop-entry : goal.invariant-loop-entry
 invariant-loop-entry l = record {
-  jobs : IsPermutation (l.initial.heap.jobs ++ take l.entry-index (keyed_jobs l.plan l.released)) l.heap.jobs;
+  jobs : IsPermutation (l.initial.heap.jobs ++ take l.entry-index (entry_keys l.plan l.released)) l.heap.jobs;
   size : length l.heap.jobs ≡ length l.initial.heap.jobs + l.entry-index;
   room : l.heap.room ≡ l.initial.heap.room;
   compared : l.heap.compared ≤ l.initial.heap.compared + 13 * l.entry-index;

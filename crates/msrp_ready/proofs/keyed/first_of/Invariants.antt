@@ -1,8 +1,8 @@
 use Rattle.std.proofs.Common.{◌++◌, take}
 use Rattle.std.specs.Option.{option_to_list}
-use Rattle.msrp_ready.specs.Keyed.{keyed_jobs}
+use Rattle.msrp_ready.specs.Keyed.{entry_keys}
 use Rattle.msrp_ready.proofs.Ahead.{IsFirstOf}
 use Rattle.msrp_ready.proofs.keyed.first_of.Given as goal
 
 abbrev pub invariant-loop-entry : goal.invariant-loop-entry
-invariant-loop-entry l = IsFirstOf l.first (option_to_list l.fn.one ++ take l.entry-index (keyed_jobs l.plan l.entries))
+invariant-loop-entry l = IsFirstOf l.first (option_to_list l.fn.one ++ take l.entry-index (entry_keys l.plan l.entries))

@@ -1,6 +1,6 @@
 use Rattle.std.proofs.Common.{Some, List, ◌<◌, length, subst, sym, ap, ◌∙◌, arith}
 use Rattle.std.specs.List.{All}
-use Rattle.msrp_ready.specs.Keyed.{keyed_jobs}
+use Rattle.msrp_ready.specs.Keyed.{entry_keys}
 use Rattle.msrp_ready.specs.declared.keyed.Entry.{Entry}
 use Rattle.msrp_ready.specs.Ready.{ReadyModel, released}
 use Rattle.msrp_plan.specs.declared.ids.JobId.{JobId}
@@ -11,19 +11,19 @@ use Rattle.msrp_ready.proofs.ready.Ready.release_to.Goals as goal
 pub release-self-inside-requires-clause-tasks : goal.release-self-inside-requires-clause-tasks
 release-self-inside-requires-clause-tasks c =
     let r = c.self.inside in
-    subst (All (λ (e : Entry). e.job.task.0 < length r.plan.now.tasks)) (sym c.deref.ensures.value) (known_tasks r.plan.now r.calendar.items r.core.0 r.tick r.next r.heap c.self.invariant)
+    subst (All (λ (e : Entry). e.task < length r.plan.now.tasks)) (sym c.deref.ensures.value) (known_tasks r.plan.now r.calendar.items r.core.0 r.tick r.next r.heap c.self.invariant)
 
 pub release-self-inside-requires-clause-jobs : goal.release-self-inside-requires-clause-jobs
 release-self-inside-requires-clause-jobs c =
     let r = c.self.inside in
-    let size = sizes r.plan.now r.core.0 r.tick (keyed_jobs r.plan.now r.calendar.items) r.next r.heap c.self.invariant in
+    let size = sizes r.plan.now r.core.0 r.tick (entry_keys r.plan.now r.calendar.items) r.next r.heap c.self.invariant in
     omega (arith, size)
 
 pub release-self-inside-requires-clause-count : goal.release-self-inside-requires-clause-count
 release-self-inside-requires-clause-count c =
     let r = c.self.inside in
     let ok = c.self.invariant in
-    let size = sizes r.plan.now r.core.0 r.tick (keyed_jobs r.plan.now r.calendar.items) r.next r.heap ok in
+    let size = sizes r.plan.now r.core.0 r.tick (entry_keys r.plan.now r.calendar.items) r.next r.heap ok in
     omega (arith, ok.compared, ok.few, ok.within, size)
 
 pub invariant_of-self : goal.invariant_of-self
