@@ -1,50 +1,52 @@
--- The job of each task that is active, and which of the later ones comes first.
-use Rattle.std.proofs.Common.{◌≡◌, ◌≢◌, ℕ, ◌<◌, ◌+◌, ◌==◌, true, false, not, List, [], Option, Some, None, IfSome, refl, ap, sym, ◌∙◌, subst, arith, ◌⊎◌, inl, inr, eqb-true, length, slice_get}
-use Rattle.std.specs.List.{Contains}
-use Rattle.std.proofs.Math.Bool.{true≢false}
-use Rattle.std.proofs.lemmas.Bool.{and_from, and_parts, true_from_ne_false, cases_Bool, cases_lt, eqb-false}
-use Rattle.msrp_plan.specs.Plan.{PlanModel, core_of, task_at, task_of}
-use Rattle.msrp_plan.specs.Jobs.{jobs, jobs_of, jobs_on, job_at, is_job, is_started, is_finished}
+-- The jobs of each core that are started and unfinished, and which of the later ones comes first.
+use Rattle.std.proofs.Common.{◌≡◌, ℕ, ◌<◌, ◌≤◌, ◌==◌, Bool, true, false, not, ◌&&◌, ◌||◌, cond, List, [], ◌∷◌, ◌++◌, Option, Some, None, refl, ap, sym, ◌∙◌, subst, arith, ◌⊎◌, inl, inr, eqb-true, length, map}
+use Rattle.std.proofs.lemmas.List.{length-map}
+use Rattle.std.specs.List.{AllByRecursion, Contains, IsDistinct, filter, list_any}
+use Rattle.std.proofs.Math.Bool.{or-true, true≢false}
+use Rattle.std.proofs.Math.Dec.{eqb}
+use Rattle.std.proofs.lemmas.Bool.{and_from, and_parts, true_from_ne_false, cases_Bool}
+use Rattle.std.proofs.lemmas.List.Elements.{All-contains, All-from_recursion}
+use Rattle.std.proofs.lemmas.Map.Steps.{length-le_from_distinct_below}
+use Rattle.msrp_plan.specs.Plan.{PlanModel, core_of, task_of}
+use Rattle.msrp_plan.specs.Jobs.{jobs, jobs_on, same_job, is_started, is_finished}
 use Rattle.msrp_plan.specs.Choice.{is_before, comes_first}
 use Rattle.msrp_plan.specs.Blocking.{first_later}
 use Rattle.msrp_plan.specs.Runs.{EachAfter, IsLegal}
 use Rattle.msrp_plan.specs.WellFormed.{IsPlan}
 use Rattle.msrp_plan.specs.declared.ids.JobId.{JobId}
 use Rattle.msrp_plan.specs.declared.rows.Row.{Row}
-use Rattle.msrp_plan.proofs.Blocking.Heads.{job_on}
-use Rattle.msrp_plan.proofs.Jobs.CoreJobs.{on_its_core, known_task}
-use Rattle.msrp_plan.proofs.Lists.Members.{kept_by}
+use Rattle.msrp_plan.proofs.Jobs.CoreJobs.{known_task}
+use Rattle.msrp_plan.proofs.Lists.AnyAll.{all_weaker}
+use Rattle.msrp_plan.proofs.Lists.Filters.{any_map}
+use Rattle.msrp_plan.proofs.Lists.Least.{all_filtered}
+use Rattle.msrp_plan.proofs.Lists.Members.{any_from, kept_by}
 use Rattle.msrp_plan.proofs.Blocking.Sound.{before_due, head_ready, sound_at}
 use Rattle.msrp_plan.proofs.Choosing.Live.{live}
 use Rattle.msrp_plan.proofs.Choosing.Turns.{has_turn, later_waits, runs_live, none_some}
-use Rattle.msrp_plan.proofs.Jobs.JobTests.{is_job_is, same_self, some_is}
+use Rattle.msrp_plan.proofs.Jobs.JobTests.{same_is, same_self, some_is}
 use Rattle.msrp_plan.proofs.Jobs.Keys.{before_order, tied}
 use Rattle.msrp_plan.proofs.Legality.LegalRows.{legal_turn, turn_chosen}
 use Rattle.msrp_plan.proofs.Lists.LeastKept.{irrefl, least_in, least_of_those, least_passes, least_some}
-use Rattle.msrp_report.specs.Inside.Tallies.{AreTallies, IsFirstOf, IsKnown, NotBefore, is_active, is_later_active, IsTaskFrom}
-use Rattle.msrp_report.specs.declared.tallies.TaskTally.{TaskTally}
-use Rattle.msrp_report.proofs.JobTallies.{in_task, job_known, number_within, of_task}
-use Rattle.msrp_levels.proofs.PlanJobs.{job_in}
+use Rattle.msrp_report.specs.Inside.Tallies.{AreActiveOf, IsFirstOf, IsKnown, NotBefore, is_active, is_later_active, same_task}
+use Rattle.msrp_report.specs.declared.tallies.active.CoreJobs.{CoreJobs}
+use Rattle.msrp_report.proofs.JobTallies.{job_known}
 
 -- ---- one job of a task is active at most
--- a live job of the task of whoever has the turn is that job, where it is the active one
-pub sole : (plan : PlanModel) (pre : List Row) (r : Row) (i j : JobId) (active : Option JobId) → IsPlan plan → EachAfter (IsLegal plan) [] pre → IsLegal plan pre r → r.job ≡ Some i → Contains (jobs_on plan r.core.0) j → i.task.0 ≡ j.task.0 → is_job active i ≡ is_active plan pre i → is_job active j ≡ is_active plan pre j
-    → is_active plan pre j ≡ true → i ≢ j → ⊥
-sole plan pre r i j active ok all legal job there task gi gj live_j other =
+-- where a job has the turn that isn't started, no job of its task is active
+pub alone : (plan : PlanModel) (pre : List Row) (r : Row) (i j : JobId) → IsPlan plan → EachAfter (IsLegal plan) [] pre → IsLegal plan pre r → r.job ≡ Some i → Contains (jobs_on plan r.core.0) j → i.task.0 ≡ j.task.0 → is_started pre i ≡ false → is_active plan pre j ≡ true → ⊥
+alone plan pre r i j ok all legal job there task fresh active =
     let turn = legal_turn plan pre r legal in
     let sound = sound_at plan pre ok all in
     let has = turn_chosen plan pre r i turn job in
+    let started = (and_parts (is_started pre j) (not (is_finished plan pre j)) active).0 in
     elim (has_turn plan r.core.0 r.tick pre i has) [
       | inl new ↦
-          let before : is_before plan i j ≡ true = true_from_ne_false (is_before plan i j) (λ e. later_waits plan r.core.0 r.tick pre j i there live_j e (λ s. other (sym s)) has) in
-          let started = (and_parts (is_started pre j) (not (is_finished plan pre j)) live_j).0 in
+          let before : is_before plan i j ≡ true = true_from_ne_false (is_before plan i j) (λ e. later_waits plan r.core.0 r.tick pre j i there active e (λ s. true≢false (sym started ∙ (ap (is_started pre) s ∙ fresh))) has) in
           let late = sound.late r.core.0 j i there (turn.known i job) started (head_ready plan r.core.0 r.tick pre i new.first).1 before in
           let due = before_due plan i j before in
           let same : (task_of plan i).deadline ≡ (task_of plan j).deadline = ap (λ t. (task_of plan (record j { task = record { 0 = t } })).deadline) task in
           omega (arith, late, due, same)
-      | inr runs ↦
-          let l = runs_live plan r.core.0 pre i runs in
-          other (some_is i j (sym (is_job_is active i (gi ∙ live plan pre i l.0 l.1)) ∙ is_job_is active j (gj ∙ live_j)))
+      | inr runs ↦ true≢false (sym (runs_live plan r.core.0 pre i runs).0 ∙ fresh)
     ]
 
 -- whoever has the turn and is started is active
@@ -54,115 +56,127 @@ turn_active plan pre r i legal job started = elim (has_turn plan r.core.0 r.tick
   | inr runs ↦ let l = runs_live plan r.core.0 pre i runs in live plan pre i l.0 l.1
 ]
 
--- ---- the first of the later jobs that are active
--- one task more, whose job isn't the first
-pub first_kept : (plan : PlanModel) (rows : List Row) (j : JobId) (n : ℕ) (o : Option JobId) → IsFirstOf plan rows j n o → ((i : JobId) → i.task.0 ≡ n → Contains (jobs_on plan (core_of plan j)) i → is_later_active plan rows j i ≡ true → NotBefore plan i o) → IsFirstOf plan rows j (n + 1) o
-first_kept plan rows j n o old here = record { known = old.known; least = λ i l there p. by_test i l there p (cases_Bool (i.task.0 == n)) }
+-- ---- jobs of different tasks
+pub apart_filter : (p : JobId → Bool) (xs : List JobId) → IsDistinct same_task xs → IsDistinct same_task (filter p xs)
+unfolding IsDistinct
+apart_filter p [] h = tt
+apart_filter p (x ∷ xs) h = by_test (p x) (apart_filter p xs h.1)
   where
-    by_test : (i : JobId) → i.task.0 < n + 1 → Contains (jobs_on plan (core_of plan j)) i → is_later_active plan rows j i ≡ true → ((i.task.0 == n) ≡ true) ⊎ ((i.task.0 == n) ≡ false) → NotBefore plan i o
-    by_test i l there p (inl e) = here i (eqb-true i.task.0 n e) there p
-    by_test i l there p (inr e) = let ne = eqb-false i.task.0 n e in old.least i (omega (arith, l, ne)) there p
+    by_test : (b : Bool) → IsDistinct same_task (filter p xs) → IsDistinct same_task (cond b (x ∷ filter p xs) (filter p xs))
+    by_test true rest = (all_filtered (λ y. same_task x y ≡ false) p xs h.0, rest)
+    by_test false rest = rest
 
--- one task more, whose job is the first
-pub first_new : (plan : PlanModel) (rows : List Row) (j k : JobId) (n : ℕ) (o : Option JobId) → IsFirstOf plan rows j n o → Contains (jobs_on plan (core_of plan j)) k → is_later_active plan rows j k ≡ true → ((i : JobId) → i.task.0 ≡ n → Contains (jobs_on plan (core_of plan j)) i → is_later_active plan rows j i ≡ true → i ≡ k) → comes_first plan k o ≡ true → IsFirstOf plan rows j (n + 1) (Some k)
-first_new plan rows j k n o old there p one before = record {
-  known = λ f e. let s : k ≡ f = some_is k f e in subst (λ x. Contains (jobs_on plan (core_of plan j)) x × (is_later_active plan rows j x ≡ true)) s (there, p);
-  least = λ i l ini pi. by_test i l ini pi (cases_Bool (i.task.0 == n));
-}
+pub apart_push : (xs : List JobId) (x : JobId) → IsDistinct same_task xs → AllByRecursion (λ y. same_task y x ≡ false) xs → IsDistinct same_task (xs ++ x ∷ [])
+unfolding IsDistinct
+apart_push [] x h others = (tt, tt)
+apart_push (y ∷ xs) x h others = (all_more xs h.0, apart_push xs x h.1 others.1)
   where
-    above : (i : JobId) (q : Option JobId) → NotBefore plan i q → comes_first plan k q ≡ true → is_before plan i k ≡ false
-    above i None h e = absurd h
-    above i (Some f) h e = (before_order plan).chain i f k h ((before_order plan).one_way k f e)
+    all_more : (ys : List JobId) → AllByRecursion (λ z. same_task y z ≡ false) ys → AllByRecursion (λ z. same_task y z ≡ false) (ys ++ x ∷ [])
+    all_more [] all = (others.0, tt)
+    all_more (z ∷ ys) all = (all.0, all_more ys all.1)
 
-    by_test : (i : JobId) → i.task.0 < n + 1 → Contains (jobs_on plan (core_of plan j)) i → is_later_active plan rows j i ≡ true → ((i.task.0 == n) ≡ true) ⊎ ((i.task.0 == n) ≡ false) → is_before plan i k ≡ false
-    by_test i l ini pi (inl e) = subst (λ x. is_before plan x k ≡ false) (sym (one i (eqb-true i.task.0 n e) ini pi)) (irrefl (is_before plan) (before_order plan) k)
-    by_test i l ini pi (inr e) = let ne = eqb-false i.task.0 n e in above i o (old.least i (omega (arith, l, ne)) ini pi) before
-
--- of all tasks
-pub first_is : (plan : PlanModel) (rows : List Row) (j : JobId) (n : ℕ) (o : Option JobId) → ((i : JobId) → Contains (jobs_on plan (core_of plan j)) i → i.task.0 < n) → IsFirstOf plan rows j n o → o ≡ first_later plan rows j
-first_is plan rows j n o within is = by_cases o (first_later plan rows j) refl is
+-- their tasks' numbers differ
+apart_tasks : (xs : List JobId) → IsDistinct same_task xs → IsDistinct eqb (map (λ (x : JobId). x.task.0) xs)
+unfolding IsDistinct
+apart_tasks [] h = tt
+apart_tasks (x ∷ xs) h = (all_tasks xs h.0, apart_tasks xs h.1)
   where
-    by_cases : (o v : Option JobId) → first_later plan rows j ≡ v → IsFirstOf plan rows j n o → o ≡ first_later plan rows j
-    by_cases None None e is = sym e
-    by_cases (Some f) None e is = let k = is.known f refl in absurd (least_some (is_before plan) (is_later_active plan rows j) (jobs_on plan (core_of plan j)) f e k.0 k.1)
-    by_cases None (Some y) e is =
-        let ini = least_in (is_before plan) (is_later_active plan rows j) (jobs_on plan (core_of plan j)) y e in
-        absurd (is.least y (within y ini) ini (least_passes (is_before plan) (is_later_active plan rows j) (jobs_on plan (core_of plan j)) y e))
-    by_cases (Some f) (Some y) e is =
-        let ini = least_in (is_before plan) (is_later_active plan rows j) (jobs_on plan (core_of plan j)) y e in
-        let k = is.known f refl in
-        let above = least_of_those (is_before plan) (before_order plan) (is_later_active plan rows j) (jobs_on plan (core_of plan j)) y f e k.0 k.1 in
-        let below = is.least y (within y ini) ini (least_passes (is_before plan) (is_later_active plan rows j) (jobs_on plan (core_of plan j)) y e) in
-        ap (λ x. Some x) (tied plan f y above below) ∙ sym e
+    all_tasks : (ys : List JobId) → AllByRecursion (λ y. same_task x y ≡ false) ys → AllByRecursion (λ n. eqb x.task.0 n ≡ false) (map (λ (y : JobId). y.task.0) ys)
+    all_tasks [] all = tt
+    all_tasks (y ∷ ys) all = (all.0, all_tasks ys all.1)
 
--- ---- by the job of each task that is active
-its_active : (plan : PlanModel) (rows : List Row) (begun : ℕ → ℕ) (tasks : List TaskTally) (x : TaskTally) (i : JobId) → IsPlan plan → AreTallies plan rows begun tasks → slice_get tasks i.task.0 ≡ Some x → Contains (jobs plan) i → is_job x.active i ≡ is_active plan rows i
-its_active plan rows begun tasks x i ok are has there = (are.each i.task.0 x has).active i (in_task plan i.task.0 i.k ok (number_within plan i ok there))
-
--- the active job of the task is the only one
-one_active : (plan : PlanModel) (rows : List Row) (begun : ℕ → ℕ) (tasks : List TaskTally) (x : TaskTally) (n : ℕ) (i : JobId) → IsPlan plan → AreTallies plan rows begun tasks → slice_get tasks n ≡ Some x → i.task.0 ≡ n → Contains (jobs plan) i → is_active plan rows i ≡ true → x.active ≡ Some i
-one_active plan rows begun tasks x n i ok are has at there active = is_job_is x.active i (its_active plan rows begun tasks x i ok are (subst (λ t. slice_get tasks t ≡ Some x) (sym at) has) there ∙ active)
-
-on_plan : (plan : PlanModel) (c : ℕ) (i : JobId) → Contains (jobs_on plan c) i → Contains (jobs plan) i
+-- ---- jobs of a core
+pub on_plan : (plan : PlanModel) (c : ℕ) (i : JobId) → Contains (jobs_on plan c) i → Contains (jobs plan) i
 on_plan plan c i there = (kept_by (λ k. core_of plan k == c) (jobs plan) i there).0
 
-pub step_none : (plan : PlanModel) (rows : List Row) (begun : ℕ → ℕ) (tasks : List TaskTally) (x : TaskTally) (j : JobId) (n : ℕ) (o : Option JobId) → IsPlan plan → AreTallies plan rows begun tasks → slice_get tasks n ≡ Some x → x.active ≡ None → IsFirstOf plan rows j n o → IsFirstOf plan rows j (n + 1) o
-step_none plan rows begun tasks x j n o ok are has none old = first_kept plan rows j n o old (λ i at there p.
-    absurd (none_some i (sym none ∙ one_active plan rows begun tasks x n i ok are has at (on_plan plan (core_of plan j) i there) (and_parts (is_active plan rows i) (is_before plan j i) p).0)))
+pub all_known : (plan : PlanModel) (c : ℕ) (xs : List JobId) → AllByRecursion (Contains (jobs_on plan c)) xs → AllByRecursion (IsKnown plan) xs
+all_known plan c xs known = all_weaker (Contains (jobs_on plan c)) (IsKnown plan) (λ j there. job_known plan j (on_plan plan c j there)) xs known
 
--- of no task there is none
-pub first_none : (plan : PlanModel) (rows : List Row) (j : JobId) → IsFirstOf plan rows j 0 None
-first_none plan rows j = record { known = λ f e. absurd (none_some f e); least = λ i l there p. absurd (omega (arith, l)) }
+-- one that is found among some is one of them
+among : (plan : PlanModel) (c : ℕ) (xs : List JobId) (j : JobId) → AllByRecursion (Contains (jobs_on plan c)) xs → list_any (same_job j) xs ≡ true → Contains (jobs_on plan c) j
+among plan c xs j known found =
+    let z = any_from (same_job j) xs found in
+    subst (Contains (jobs_on plan c)) (sym (same_is j z.0 z.2)) (All-contains (Contains (jobs_on plan c)) xs z.0 (All-from_recursion (Contains (jobs_on plan c)) xs known) z.1)
 
--- up to the next task of the core
-pub step_core : (plan : PlanModel) (rows : List Row) (j : JobId) (n t : ℕ) (o : Option JobId) → IsTaskFrom plan (core_of plan j) n t → IsFirstOf plan rows j n o → IsFirstOf plan rows j t o
-step_core plan rows j n t o from old = record {
-  known = old.known;
-  least = λ i l there p. elim (cases_lt i.task.0 n) [
-    | inl below ↦ old.least i below there p
-    | inr past ↦ absurd (from.others i.task.0 past l (on_its_core plan (core_of plan j) i there))
-  ];
-}
-
-pub step_early : (plan : PlanModel) (rows : List Row) (begun : ℕ → ℕ) (tasks : List TaskTally) (x : TaskTally) (j k : JobId) (n : ℕ) (o : Option JobId) → IsPlan plan → AreTallies plan rows begun tasks → slice_get tasks n ≡ Some x → x.active ≡ Some k → is_before plan j k ≡ false → IsFirstOf plan rows j n o → IsFirstOf plan rows j (n + 1) o
-step_early plan rows begun tasks x j k n o ok are has goes early old = first_kept plan rows j n o old (λ i at there p.
-    let both = and_parts (is_active plan rows i) (is_before plan j i) p in
-    let same = some_is k i (sym goes ∙ one_active plan rows begun tasks x n i ok are has at (on_plan plan (core_of plan j) i there) both.0) in
-    absurd (true≢false (sym both.1 ∙ subst (λ y. is_before plan j y ≡ false) same early)))
-
-pub step_later : (plan : PlanModel) (rows : List Row) (begun : ℕ → ℕ) (tasks : List TaskTally) (x : TaskTally) (j k : JobId) (n : ℕ) (o : Option JobId) → IsPlan plan → AreTallies plan rows begun tasks → slice_get tasks n ≡ Some x → x.active ≡ Some k → comes_first plan k o ≡ false → IsFirstOf plan rows j n o → IsFirstOf plan rows j (n + 1) o
-step_later plan rows begun tasks x j k n o ok are has goes behind old = first_kept plan rows j n o old (λ i at there p.
-    let both = and_parts (is_active plan rows i) (is_before plan j i) p in
-    let same = some_is k i (sym goes ∙ one_active plan rows begun tasks x n i ok are has at (on_plan plan (core_of plan j) i there) both.0) in
-    subst (λ y. NotBefore plan y o) same (by_first o behind))
+-- there are no more of different tasks than the plan has tasks
+pub few_apart : (plan : PlanModel) (c : ℕ) (xs : List JobId) → AllByRecursion (Contains (jobs_on plan c)) xs → IsDistinct same_task xs → length xs ≤ length plan.tasks
+few_apart plan c xs known apart =
+    let task : JobId → ℕ = λ x. x.task.0 in
+    let few = length-le_from_distinct_below (map task xs) (length plan.tasks) (apart_tasks xs apart) below in
+    let size = length-map xs task in
+    omega (arith, few, size)
   where
-    by_first : (q : Option JobId) → comes_first plan k q ≡ false → NotBefore plan k q
-    by_first None e = absurd (true≢false e)
-    by_first (Some f) e = e
+    below : (q : ℕ) → list_any (eqb q) (map (λ (x : JobId). x.task.0) xs) ≡ true → q < length plan.tasks
+    below q found =
+        let z = any_from (λ (x : JobId). eqb q x.task.0) xs (sym (any_map (λ (x : JobId). x.task.0) (eqb q) xs) ∙ found) in
+        let there = All-contains (Contains (jobs_on plan c)) xs z.0 (All-from_recursion (Contains (jobs_on plan c)) xs known) z.1 in
+        let task = known_task plan c z.0 there in
+        let same = eqb-true q z.0.task.0 z.2 in
+        omega (arith, task, same)
 
-pub step_new : (plan : PlanModel) (rows : List Row) (begun : ℕ → ℕ) (tasks : List TaskTally) (x : TaskTally) (j k : JobId) (n : ℕ) (o : Option JobId) → IsPlan plan → AreTallies plan rows begun tasks → slice_get tasks n ≡ Some x → n < length plan.tasks → x.active ≡ Some k → (task_at plan n).core ≡ core_of plan j → is_before plan j k ≡ true → comes_first plan k o ≡ true
-    → IsFirstOf plan rows j n o → IsFirstOf plan rows j (n + 1) (Some k)
-step_new plan rows begun tasks x j k n o ok are has task goes core later before old =
-    let is = are.each n x has in
-    let own : Contains (jobs_of plan n) k = subst (λ g. IfSome g (Contains (jobs_of plan n))) goes is.known in
-    let of = of_task plan n k ok own in
-    let there : Contains (jobs plan) k = subst (Contains (jobs plan)) (ap (λ t. job_at t k.k) (sym of.0)) (job_in plan n k.k ok task of.1) in
-    let on = job_on plan (core_of plan j) k there (sym core ∙ ap (λ t. (task_at plan t).core) (sym of.0)) in
-    let active : is_active plan rows k ≡ true = sym (is.active k own) ∙ (ap (λ g. is_job g k) goes ∙ same_self k) in
-    first_new plan rows j k n o old on (and_from (is_active plan rows k) (is_before plan j k) active later)
-    (λ i at ini p. sym (some_is k i (sym goes ∙ one_active plan rows begun tasks x n i ok are has at (on_plan plan (core_of plan j) i ini) (and_parts (is_active plan rows i) (is_before plan j i) p).0)))
-    before
+-- ---- the first of the later ones
+-- one job more
+pub first_step : (plan : PlanModel) (j x : JobId) (xs ys : List JobId) (o : Option JobId) → ((i : JobId) → list_any (same_job i) ys ≡ (list_any (same_job i) xs || same_job i x)) → IsFirstOf plan j xs o → IsFirstOf plan j ys (cond (is_before plan j x && comes_first plan x o) (Some x) o)
+first_step plan j x xs ys o more old = by_test (is_before plan j x) (comes_first plan x o) refl refl
+  where
+    splits : (i : JobId) → list_any (same_job i) ys ≡ true → (list_any (same_job i) xs ≡ true) ⊎ (i ≡ x)
+    splits i found = elim (cases_Bool (list_any (same_job i) xs)) [
+      | inl e ↦ inl e
+      | inr e ↦ inr (same_is i x (sym (ap (λ b. b || same_job i x) e) ∙ (sym (more i) ∙ found)))
+    ]
 
--- an active job is known
-pub active_known : (plan : PlanModel) (rows : List Row) (begun : ℕ → ℕ) (tasks : List TaskTally) (x : TaskTally) (k : JobId) (n : ℕ) → IsPlan plan → AreTallies plan rows begun tasks → slice_get tasks n ≡ Some x → n < length plan.tasks → x.active ≡ Some k → IsKnown plan k
-active_known plan rows begun tasks x k n ok are has task goes =
-    let own : Contains (jobs_of plan n) k = subst (λ g. IfSome g (Contains (jobs_of plan n))) goes (are.each n x has).known in
-    let of = of_task plan n k ok own in
-    job_known plan k (subst (Contains (jobs plan)) (ap (λ t. job_at t k.k) (sym of.0)) (job_in plan n k.k ok task of.1))
+    kept : ((i : JobId) → i ≡ x → is_before plan j i ≡ true → NotBefore plan i o) → IsFirstOf plan j ys o
+    kept here = record {
+      known = λ f e. let k = old.known f e in (more f ∙ ap (λ b. b || same_job f x) k.0, k.1);
+      least = λ i found before. elim (splits i found) [ inl e ↦ old.least i e before | inr same ↦ here i same before ];
+    }
 
--- at the end it is the first of all
-pub first_of_all : (plan : PlanModel) (rows : List Row) (j : JobId) (n : ℕ) (o : Option JobId) → n ≡ length plan.tasks → IsFirstOf plan rows j n o → o ≡ first_later plan rows j
-first_of_all plan rows j n o all is = first_is plan rows j n o (λ i there. let l = known_task plan (core_of plan j) i there in omega (arith, l, all)) is
+    behind : (q : Option JobId) → comes_first plan x q ≡ false → NotBefore plan x q
+    behind None e = absurd (true≢false e)
+    behind (Some f) e = e
+
+    above : (i : JobId) (q : Option JobId) → NotBefore plan i q → comes_first plan x q ≡ true → is_before plan i x ≡ false
+    above i None h e = absurd h
+    above i (Some f) h e = (before_order plan).chain i f x h ((before_order plan).one_way x f e)
+
+    by_test : (b c : Bool) → is_before plan j x ≡ b → comes_first plan x o ≡ c → IsFirstOf plan j ys (cond (b && c) (Some x) o)
+    by_test false c early first = kept (λ i same before. absurd (true≢false (sym before ∙ (ap (is_before plan j) same ∙ early))))
+    by_test true false later last = kept (λ i same before. subst (λ y. NotBefore plan y o) (sym same) (behind o last))
+    by_test true true later first = record {
+      known = λ f e.
+          let s : x ≡ f = some_is x f e in
+          (more f ∙ (ap (λ b. list_any (same_job f) xs || b) (ap (same_job f) s ∙ same_self f) ∙ or-true (list_any (same_job f) xs)), subst (λ y. is_before plan j y ≡ true) s later);
+      least = λ i found before. elim (splits i found) [ inl e ↦ above i o (old.least i e before) first | inr same ↦ subst (λ y. is_before plan y x ≡ false) (sym same) (irrefl (is_before plan) (before_order plan) x) ];
+    }
+
+-- of no job there is none
+pub first_none : (plan : PlanModel) (j : JobId) → IsFirstOf plan j [] None
+first_none plan j = record { known = λ f e. absurd (none_some f e); least = λ i found. absurd (true≢false (sym found)) }
+
+-- of all that are active
+pub first_is : (plan : PlanModel) (rows : List Row) (j : JobId) (x : CoreJobs) (o : Option JobId) → AreActiveOf plan rows (core_of plan j) x → IsFirstOf plan j x.jobs.items o → o ≡ first_later plan rows j
+first_is plan rows j x o active first = by_cases o (first_later plan rows j) refl first
+  where
+    on : (f : JobId) → list_any (same_job f) x.jobs.items ≡ true → Contains (jobs_on plan (core_of plan j)) f
+    on f found = among plan (core_of plan j) x.jobs.items f active.known found
+
+    later : (f : JobId) → list_any (same_job f) x.jobs.items ≡ true → is_before plan j f ≡ true → is_later_active plan rows j f ≡ true
+    later f found before = and_from (is_active plan rows f) (is_before plan j f) (sym (active.active f (on f found)) ∙ found) before
+
+    by_cases : (o v : Option JobId) → first_later plan rows j ≡ v → IsFirstOf plan j x.jobs.items o → o ≡ first_later plan rows j
+    by_cases None None e is = sym e
+    by_cases (Some f) None e is = let k = is.known f refl in absurd (least_some (is_before plan) (is_later_active plan rows j) (jobs_on plan (core_of plan j)) f e (on f k.0) (later f k.0 k.1))
+    by_cases None (Some y) e is =
+        let ini = least_in (is_before plan) (is_later_active plan rows j) (jobs_on plan (core_of plan j)) y e in
+        let both = and_parts (is_active plan rows y) (is_before plan j y) (least_passes (is_before plan) (is_later_active plan rows j) (jobs_on plan (core_of plan j)) y e) in
+        absurd (is.least y (active.active y ini ∙ both.0) both.1)
+    by_cases (Some f) (Some y) e is =
+        let ini = least_in (is_before plan) (is_later_active plan rows j) (jobs_on plan (core_of plan j)) y e in
+        let both = and_parts (is_active plan rows y) (is_before plan j y) (least_passes (is_before plan) (is_later_active plan rows j) (jobs_on plan (core_of plan j)) y e) in
+        let k = is.known f refl in
+        let above = least_of_those (is_before plan) (before_order plan) (is_later_active plan rows j) (jobs_on plan (core_of plan j)) y f e (on f k.0) (later f k.0 k.1) in
+        let below = is.least y (active.active y ini ∙ both.0) both.1 in
+        ap (λ z. Some z) (tied plan f y above below) ∙ sym e
 
 -- it is a job of the plan
 pub later_known : (plan : PlanModel) (rows : List Row) (j k : JobId) → first_later plan rows j ≡ Some k → Contains (jobs plan) k

@@ -1,7 +1,7 @@
 -- What is counted of a job, row by row, is what the rows tell of it.
-use Rattle.std.proofs.Common.{◌≡◌, ◌≢◌, ℕ, ◌≤◌, ◌+◌, Bool, true, false, not, ◌&&◌, cond, List, [], ◌∷◌, ◌++◌, Option, Some, None, refl, ap, sym, ◌∙◌, arith, length, count_by, fold, max, unwrap_or, add_assoc, zero-add, add-zero, append-nil}
-use Rattle.std.specs.List.{filter}
-use Rattle.std.proofs.lemmas.Bool.{or_parts, true_from_ne_false}
+use Rattle.std.proofs.Common.{◌≡◌, ℕ, ◌≤◌, ◌+◌, ◌==◌, Bool, true, false, not, ◌&&◌, ◌||◌, cond, eqb-true, List, [], ◌∷◌, ◌++◌, Option, Some, None, refl, ap, sym, ◌∙◌, arith, length, count_by, fold, max, unwrap_or, add_assoc, zero-add, add-zero, append-nil}
+use Rattle.std.specs.List.{filter, list_any}
+use Rattle.std.proofs.lemmas.Bool.{false_from_ne_true}
 use Rattle.std.proofs.lemmas.List.Sums.{sum_by-cons, fold_push, count_by-le-length}
 use Rattle.std.proofs.lemmas.List.Folds.{fold_along}
 use Rattle.std.proofs.lemmas.List.Elements.{filter-append}
@@ -137,17 +137,16 @@ unfolding count_of
 wait_within rows j = within_from j uncounted rows (omega arith)
 
 -- a job that has a row is started
-fresh_rows : (rows : List Row) (j : JobId) → is_started rows j ≡ false → count_by (is_row_of j) rows ≡ 0
-fresh_rows [] j e = refl
-fresh_rows (r ∷ rows) j e =
-    let parts = or_parts (is_row_of j r) (is_started rows j) e in
-    let more = fresh_rows rows j parts.1 in
-    let one : cond {A = ℕ} (is_row_of j r) 1 0 ≡ 0 = ap (λ b. cond {A = ℕ} b 1 0) parts.0 in
-    let sum : count_by (is_row_of j) (r ∷ rows) ≡ cond (is_row_of j r) 1 0 + count_by (is_row_of j) rows = sum_by-cons (λ x. cond (is_row_of j x) 1 0) r rows in
-    omega (arith, one, more, sum)
+any_count : (p : Row → Bool) (rows : List Row) → list_any p rows ≡ not (count_by p rows == 0)
+any_count p [] = refl
+any_count p (r ∷ rows) = by_test (p r) (any_count p rows) ∙ ap (λ n. not (n == 0)) (sym (sum_by-cons (λ x. cond (p x) 1 0) r rows))
+  where
+    by_test : (b : Bool) → list_any p rows ≡ not (count_by p rows == 0) → (b || list_any p rows) ≡ not ((cond b 1 0 + count_by p rows) == 0)
+    by_test true rest = ap not (sym (false_from_ne_true ((1 + count_by p rows) == 0) (λ h. let e = eqb-true (1 + count_by p rows) 0 h in absurd (omega (arith, e)))))
+    by_test false rest = rest ∙ ap (λ n. not (n == 0)) (sym (zero-add (count_by p rows)))
 
-pub rows_started : (rows : List Row) (j : JobId) (n : ℕ) → n ≡ (count_of rows j).rows → n ≢ 0 → is_started rows j ≡ true
-rows_started rows j n is some = true_from_ne_false (is_started rows j) (λ e. some (is ∙ (rows_is rows j ∙ fresh_rows rows j e)))
+pub started_by_rows : (rows : List Row) (j : JobId) → is_started rows j ≡ not ((count_of rows j).rows == 0)
+started_by_rows rows j = any_count (is_row_of j) rows ∙ ap (λ n. not (n == 0)) (sym (rows_is rows j))
 
 -- no count is greater than the number of rows
 pub record AreFew (n : ℕ) (c : JobCount) : Type 0 where

@@ -1,8 +1,7 @@
 -- Where the jobs of a plan stand among what is kept of them.
-use Rattle.std.proofs.Common.{◌≡◌, ℕ, zero, suc, ◌<◌, ◌≤◌, ◌+◌, ◌==◌, ◌&&◌, not, Bool, true, false, List, [], ◌∷◌, ◌++◌, Option, Some, None, refl, ap, sym, ◌∙◌, subst, arith, length, map, slice_get, get_or, nat_lt, ◌*◌, cond, fold, filter, unwrap_or, mul_comm}
+use Rattle.std.proofs.Common.{◌≡◌, ℕ, zero, suc, ◌<◌, ◌≤◌, ◌+◌, ◌==◌, ◌&&◌, not, Bool, true, false, List, [], ◌∷◌, ◌++◌, Option, Some, None, refl, ap, sym, ◌∙◌, subst, arith, length, map, slice_get, get_or, nat_lt, ◌*◌, ◌^◌, cond, fold, filter, unwrap_or, mul_comm}
 use Rattle.std.specs.List.{AllByRecursion, Contains, range_with_len}
 use Rattle.std.proofs.lemmas.List.Elements.{All-contains, All-from_recursion}
-use Rattle.std.proofs.lemmas.List.FromFn.{length-map-range_with_len, get_or-map-range_with_len}
 use Rattle.std.proofs.Math.Nat.{mul-le-mul_right, mul-le-mul_left}
 use Rattle.std.proofs.lemmas.Nat.{div_below}
 use Rattle.std.proofs.lemmas.Option.{slice_get_read}
@@ -30,6 +29,8 @@ use Rattle.msrp_report.specs.declared.numbers.JobNumbers.{JobNumbers}
 use Rattle.msrp_report.specs.declared.tallies.Blocking.TheVariants.{Over, By}
 use Rattle.msrp_report.specs.declared.tallies.JobTally.{JobTally}
 use Rattle.msrp_report.specs.declared.tallies.TaskTally.{TaskTally}
+use Rattle.msrp_report.proofs.OwnRows.{counts_within}
+use Rattle.msrp_report.proofs.LineJobs.{jobs_few}
 use Rattle.msrp_report.proofs.Waiting.{waits_told}
 
 -- ---- a job of the plan
@@ -44,14 +45,6 @@ number_within plan j ok there =
     let each : (t : ℕ) → AllByRecursion P (jobs_of plan t) = λ t. subst (AllByRecursion P) (sym (jobs_of_are plan ok t)) (numbered plan t 0 (length (jobs_of plan t)) (omega arith)) in
     All-contains P (jobs plan) j (All-from_recursion P (jobs plan) (all_flat P (jobs_of plan) each (range_with_len 0 (length plan.tasks)))) there
 
--- each number below that is a job of the task
-pub in_task : (plan : PlanModel) (t k : ℕ) → IsPlan plan → k < length (jobs_of plan t) → Contains (jobs_of plan t) (job_at t k)
-in_task plan t k ok l =
-    let n = length (jobs_of plan t) in
-    let size = length-map-range_with_len (job_at t) 0 n in
-    let own : Contains (map (job_at t) (range_with_len 0 n)) (job_at t k) = (k, omega (arith, size, l), get_or-map-range_with_len (job_at t) 0 n k k (job_at t k) l (omega arith)) in
-    subst (λ js. Contains js (job_at t k)) (sym (jobs_of_are plan ok t)) own
-
 pub job_known : (plan : PlanModel) (j : JobId) → Contains (jobs plan) j → IsKnown plan j
 job_known plan j there = let on = job_on plan (core_of plan j) j there refl in record { task = known_task plan (core_of plan j) j on; released = known_released plan (core_of plan j) j on }
 
@@ -64,6 +57,24 @@ pub of_task : (plan : PlanModel) (t : ℕ) (j : JobId) → IsPlan plan → Conta
 of_task plan t j ok there =
     let P : JobId → Type 0 = λ x. (x.task.0 ≡ t) × (x.k < length (jobs_of plan t)) in
     All-contains P (jobs_of plan t) j (All-from_recursion P (jobs_of plan t) (subst (AllByRecursion P) (sym (jobs_of_are plan ok t)) (numbered_of plan t 0 (length (jobs_of plan t)) (omega arith)))) there
+
+-- the same numbers are of the same job
+pub same_job_at : (t k u m : ℕ) → u ≡ t → m ≡ k → job_at t k ≡ job_at u m
+same_job_at t k u m task number = ap (λ n. job_at n k) (sym task) ∙ ap (job_at u) (sym number)
+
+-- its numbers fit what is kept of them
+pub record AreSmall (j : JobId) : Type 0 where
+  pub task : j.task.0 < 2 ^ 8
+  pub number : j.k < 2 ^ 16
+
+pub job_small : (plan : PlanModel) (j : JobId) → IsPlan plan → Contains (jobs plan) j → AreSmall j
+job_small plan j ok there =
+    let task = (job_known plan j there).task in
+    let tasks = ok.draft.tasks in
+    let number = number_within plan j ok there in
+    let few = jobs_few plan j.task.0 in
+    let ticks = ok.draft.ticks in
+    record { task = omega (arith, task, tasks); number = omega (arith, number, few, ticks) }
 
 -- ---- what is kept of it
 pub told_task : (tasks : List TaskTally) (j : JobId) → ToldOf tasks j → j.task.0 < length tasks
@@ -90,11 +101,11 @@ over_told plan rows begun tasks j s n are of e =
     let over = subst (IsBlocking plan rows (nat_lt j.k of.task.released) j) e (tally_told plan rows begun tasks j s are of).blocking in
     sym over.count
 
-pub blocker_told : (plan : PlanModel) (rows : List Row) (begun : ℕ → ℕ) (tasks : List TaskTally) (j k : JobId) (s : JobTally) (n : ℕ) → IsPlan plan → AreTallies plan rows begun tasks → Contains (jobs plan) j → IsTallyOf tasks j s → s.blocking ≡ By k n
-    → Contains (jobs plan) k × ((count_of rows k).rows ≡ n + blocked plan rows j)
-blocker_told plan rows begun tasks j k s n ok are there of e =
+pub blocker_told : (plan : PlanModel) (rows : List Row) (begun : ℕ → ℕ) (tasks : List TaskTally) (j : JobId) (t k : ℕ) (s : JobTally) (n : ℕ) → IsPlan plan → AreTallies plan rows begun tasks → Contains (jobs plan) j → IsTallyOf tasks j s → s.blocking ≡ By t k n
+    → Contains (jobs plan) (job_at t k) × ((count_of rows (job_at t k)).rows ≡ n + blocked plan rows j)
+blocker_told plan rows begun tasks j t k s n ok are there of e =
     let w = subst (IsBlocking plan rows (nat_lt j.k of.task.released) j) e (tally_told plan rows begun tasks j s are of).blocking in
-    (blocker_known plan rows (nat_lt j.k of.task.released) j k n w, waits_told plan rows (nat_lt j.k of.task.released) j k n ok are.start there w)
+    (blocker_known plan rows (nat_lt j.k of.task.released) j (job_at t k) n w, waits_told plan rows (nat_lt j.k of.task.released) j (job_at t k) n ok are.start there w)
 
 -- ---- how great the counts are
 pub few_rows : (plan : PlanModel) (rows : List Row) → IsPlan plan → IsRunStart plan rows → length rows ≤ 160000
@@ -109,16 +120,15 @@ few_rows plan rows ok start =
 -- one row more can be counted
 pub can_count : (plan : PlanModel) (rows : List Row) (j : JobId) (c : JobCount) → IsPlan plan → IsRunStart plan rows → c ≡ count_of rows j → CanCount c
 can_count plan rows j c ok start is =
-    let few = subst (AreFew (length rows)) (sym is) (counts_few rows j) in
-    let size = few_rows plan rows ok start in
+    let few = subst (AreFew 20000) (sym is) (counts_within plan rows j ok start) in
     let r = few.rows in
     let d = few.done in
     let s = few.spins in
-    record { rows = omega (arith, r, size); done = omega (arith, d, size); spins = omega (arith, s, size); wait = room c.wait few.wait; longest = subst (λ (x : JobCount). unwrap_or x.wait 0 ≤ x.longest_wait) (sym is) (wait_within rows j) }
+    record { rows = omega (arith, r); done = omega (arith, d); spins = omega (arith, s); wait = room c.wait few.wait; longest = subst (λ (x : JobCount). unwrap_or x.wait 0 ≤ x.longest_wait) (sym is) (wait_within rows j) }
   where
-    room : (w : Option ℕ) → unwrap_or w 0 ≤ length rows → HasRoom w
+    room : (w : Option ℕ) → unwrap_or w 0 ≤ 20000 → HasRoom w
     room None h = tt
-    room (Some x) h = let size = few_rows plan rows ok start in omega (arith, h, size)
+    room (Some x) h = omega (arith, h)
 
 -- so where the tally of a job is read
 pub tally_read : (tasks : List TaskTally) (j : JobId) (x : TaskTally) (s : JobTally) → ToldOf tasks j → x ≡ get_or tasks j.task.0 x → s ≡ get_or x.jobs.items j.k s → IsTallyOf tasks j s

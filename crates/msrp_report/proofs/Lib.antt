@@ -1,9 +1,11 @@
 pub mod JobCounts
+pub mod OwnRows
 pub mod Waits
 pub mod Waiting
 pub mod JobTallies
 pub mod LineJobs
 pub mod Active
+pub mod ActiveRows
 pub mod TallySteps
 pub mod RowSteps
 pub mod Starting

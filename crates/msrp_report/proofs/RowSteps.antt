@@ -1,13 +1,12 @@
 -- What is kept of the rows stays told by them, with one row more.
-use Rattle.std.proofs.Common.{◌≡◌, ◌≢◌, ℕ, ◌<◌, ◌≤◌, ◌+◌, ◌*◌, ◌/◌, ◌==◌, Bool, true, false, not, ◌&&◌, cond, List, [], ◌∷◌, ◌++◌, Some, None, IfSome, refl, ap, sym, ◌∙◌, subst, arith, inl, inr, ◌⊎◌, length, length-append, slice_get, slice_set, nat_lt, eqb-true, mul_comm}
+use Rattle.std.proofs.Common.{◌≡◌, ◌≢◌, ℕ, ◌<◌, ◌≤◌, ◌+◌, ◌*◌, ◌/◌, ◌==◌, Bool, true, false, cond, List, [], ◌∷◌, ◌++◌, Some, None, refl, ap, sym, ◌∙◌, subst, arith, inl, inr, ◌⊎◌, length, length-append, slice_get, slice_set, nat_lt, eqb-true}
 use Rattle.std.specs.List.{AllByRecursion, Contains}
-use Rattle.std.proofs.Math.Bool.{true≢false}
 use Rattle.std.proofs.lemmas.Bool.{cases_Bool, cases_lt, eqb-false, false_from_ne_true, ltb-true, ltb-false, true_from_ne_false}
 use Rattle.std.proofs.lemmas.List.{length-set}
 use Rattle.std.proofs.lemmas.Nat.{div_below, le-div}
 use Rattle.std.proofs.lemmas.Option.{slice_get_within, same_Some}
-use Rattle.msrp_plan.specs.Plan.{PlanModel, task_at, core_of, units}
-use Rattle.msrp_plan.specs.Jobs.{jobs, jobs_of, job_at, is_job, is_row_of, same_job, is_started, is_finished}
+use Rattle.msrp_plan.specs.Plan.{PlanModel, core_of, units}
+use Rattle.msrp_plan.specs.Jobs.{done, jobs, jobs_of, jobs_on, job_at, is_job, is_row_of, same_job, is_started, is_finished}
 use Rattle.msrp_plan.specs.Blocking.{blocked}
 use Rattle.msrp_plan.specs.Runs.{IsLegal, IsRunStart}
 use Rattle.msrp_plan.specs.Scheduling.{IsOfReleased}
@@ -16,27 +15,25 @@ use Rattle.msrp_plan.specs.declared.ids.JobId.{JobId}
 use Rattle.msrp_plan.specs.declared.rows.Row.{Row}
 use Rattle.msrp_plan.proofs.Blocking.Heads.{job_on}
 use Rattle.msrp_plan.proofs.Blocking.OneSection.{tick_grows}
-use Rattle.msrp_plan.proofs.Choosing.Live.{live_kept}
-use Rattle.msrp_plan.proofs.Jobs.JobTests.{is_job_is, row_of_job, same_is, same_self}
-use Rattle.msrp_plan.proofs.Legality.LegalRows.{legal_due, legal_turn, turn_core}
+use Rattle.msrp_plan.proofs.Jobs.JobTests.{row_of_job, same_is}
+use Rattle.msrp_plan.proofs.Legality.LegalRows.{legal_due, legal_turn}
 use Rattle.msrp_plan.proofs.Lists.AnyAll.{all_push, all_weaker}
 use Rattle.msrp_plan.proofs.Lists.Members.{kept_by}
-use Rattle.msrp_plan.proofs.Lists.Prefixes.{each_at, each_before}
+use Rattle.msrp_plan.proofs.Lists.Prefixes.{each_at}
 use Rattle.msrp_plan.proofs.Scheduling.Released.{runs_released}
 use Rattle.msrp_sim.proofs.Standing.{get_set_same, get_set_other}
 use Rattle.msrp_report.specs.Inside.Counts.{counted, count_of}
-use Rattle.msrp_report.specs.Inside.Tallies.{AreFacts, AreTallies, Counts, HaveBegun, IsJobTally, IsNextOf, IsTaskTally, ToldOf, release_or_end, is_active}
+use Rattle.msrp_report.specs.Inside.Tallies.{AreTallies, Counts, HaveBegun, IsJobTally, IsNextOf, IsTaskTally, ToldOf, release_or_end}
 use Rattle.msrp_report.specs.declared.counts.JobCount.{JobCount}
 use Rattle.msrp_report.specs.declared.tallies.Blocking.TheVariants.{Over}
 use Rattle.msrp_report.specs.declared.tallies.JobTally.{JobTally}
 use Rattle.msrp_report.specs.declared.tallies.Tallies.{Tallies}
 use Rattle.msrp_report.specs.declared.tallies.TaskTally.{TaskTally}
-use Rattle.msrp_report.proofs.Active.{sole, turn_active}
 use Rattle.msrp_report.proofs.JobCounts.{count_push, done_is}
-use Rattle.msrp_report.proofs.JobTallies.{in_task, of_task}
+use Rattle.msrp_report.proofs.JobTallies.{of_task}
 use Rattle.msrp_levels.proofs.PlanJobs.{job_in}
 use Rattle.msrp_report.proofs.TallySteps.{due_before}
-use Rattle.msrp_report.proofs.Waiting.{IsTimely, blocking_more, own_over, started_over, started_push}
+use Rattle.msrp_report.proofs.Waiting.{IsTimely, blocking_more, own_over, started_over}
 use Rattle.msrp_plan.proofs.Runs.Verdicts.{start_last}
 
 -- ---- ticks
@@ -44,21 +41,14 @@ use Rattle.msrp_plan.proofs.Runs.Verdicts.{start_last}
 pub row_in : (plan : PlanModel) (rows : List Row) (r : Row) (j : JobId) → IsRunStart plan (rows ++ r ∷ []) → r.job ≡ Some j → Contains (jobs plan) j
 row_in plan rows r j start job = (kept_by (λ i. core_of plan i == r.core.0) (jobs plan) j ((legal_turn plan rows r (start_last plan rows r start)).known j job)).0
 
+-- and of the row's core
+pub job_on_core : (plan : PlanModel) (rows : List Row) (r : Row) (j : JobId) → IsRunStart plan (rows ++ r ∷ []) → r.job ≡ Some j → Contains (jobs_on plan (core_of plan j)) j
+job_on_core plan rows r j start job = job_on plan (core_of plan j) j (row_in plan rows r j start job) refl
+
 pub row_told : (plan : PlanModel) (r : Row) (j : JobId) (t : Tallies) → IsPlan plan → Counts plan r t → r.job ≡ Some j → ToldOf t.tasks.items j
 row_told plan r j t ok counts job = record { plan = plan; rows = counts.0; begun = λ _. t.begun; accepted = ok; tallies = counts.1; known = row_in plan counts.0 r j counts.2.start job }
 
--- the next row stands in a tick of the plan
-pub tick_left : (plan : PlanModel) (rows : List Row) (r : Row) → IsPlan plan → IsRunStart plan (rows ++ r ∷ []) → r.tick < plan.ticks
-tick_left plan rows r ok start =
-    let tick = (legal_due plan rows r (start_last plan rows r start)).tick in
-    let more = length-append rows (r ∷ []) in
-    let size = start.size in
-    let comm : plan.cores * plan.ticks ≡ plan.ticks * plan.cores = mul_comm plan.cores plan.ticks in
-    let low = ok.draft.cores in
-    let few = div_below (length rows) plan.cores plan.ticks (omega (arith, low)) (omega (arith, more, size, comm)) in
-    omega (arith, tick, few)
-
--- in one that has begun, or in the next
+-- the next row stands in a tick that has begun, or in the next
 pub tick_begun : (plan : PlanModel) (rows : List Row) (r : Row) (begun : ℕ) → HaveBegun plan rows begun → IsRunStart plan (rows ++ r ∷ []) → r.tick ≢ begun → begun ≡ r.tick + 1
 tick_begun plan rows r begun have start ne =
     let tick = (legal_due plan rows r (start_last plan rows r start)).tick in
@@ -107,7 +97,7 @@ job_other plan rows r released j s time other is = record {
 task_other : (plan : PlanModel) (rows : List Row) (r : Row) (begun t : ℕ) (x : TaskTally) → IsPlan plan → t < length plan.tasks → IsNextOf plan rows r begun → ((j : JobId) → j.task.0 ≡ t → is_row_of j r ≡ false) → IsTaskTally plan rows begun t x → IsTaskTally plan (rows ++ r ∷ []) begun t x
 task_other plan rows r begun t x ok task next none is = record {
   size = is.size;
-  facts = is.facts;
+  units = is.units;
   fits = is.fits;
   past = is.past;
   due = is.due;
@@ -115,31 +105,26 @@ task_other plan rows r begun t x ok task next none is = record {
   each = λ k s has.
       let l : k < length (jobs_of plan t) = (let w = slice_get_within x.jobs.items k s has in let size = is.size in omega (arith, w, size)) in
       job_other plan rows r (nat_lt k x.released) (job_at t k) s (timely plan rows r begun t k x ok task is next l) (none (job_at t k) refl) (is.each k s has);
-  known = is.known;
-  active = λ j there. is.active j there ∙ sym (live_kept plan rows r j (none j (of_task plan t j ok there).0));
 }
 
 -- ---- a row of a job of the task
-pub record IsCounted (plan : PlanModel) (old new : TaskTally) (r : Row) (i : JobId) (s : JobTally) (n : ℕ) : Type 0 where
+pub record IsCounted (old new : TaskTally) (r : Row) (i : JobId) (s : JobTally) (n : ℕ) : Type 0 where
   pub was : slice_get old.jobs.items i.k ≡ Some s
   pub jobs_set : new.jobs.items ≡ slice_set old.jobs.items i.k (record { count = counted r s.count; blocking = Over n })
-  pub facts : new.facts ≡ old.facts
+  pub units : new.units ≡ old.units
   pub released : new.released ≡ old.released
   pub due : new.due ≡ old.due
-  pub active : new.active ≡ cond ((counted r s.count).done == length (units plan i)) None (Some i)
 
-task_counted : (plan : PlanModel) (rows : List Row) (r : Row) (begun : ℕ) (i : JobId) (old new : TaskTally) (s : JobTally) (n : ℕ) → IsPlan plan → i.task.0 < length plan.tasks → IsNextOf plan rows r begun → r.job ≡ Some i → IsTaskTally plan rows begun i.task.0 old → IsCounted plan old new r i s n → n ≡ blocked plan rows i
+task_counted : (plan : PlanModel) (rows : List Row) (r : Row) (begun : ℕ) (i : JobId) (old new : TaskTally) (s : JobTally) (n : ℕ) → IsPlan plan → i.task.0 < length plan.tasks → IsNextOf plan rows r begun → r.job ≡ Some i → IsTaskTally plan rows begun i.task.0 old → IsCounted old new r i s n → n ≡ blocked plan rows i
     → IsTaskTally plan (rows ++ r ∷ []) begun i.task.0 new
 task_counted plan rows r begun i old new s n ok task next job is set told = record {
   size = ap length set.jobs_set ∙ (length-set old.jobs.items i.k (record { count = counted r s.count; blocking = Over n }) ∙ is.size);
-  facts = subst (AreFacts plan i.task.0) (sym set.facts) is.facts;
+  units = set.units ∙ is.units;
   fits = subst (λ m. m ≤ length (jobs_of plan i.task.0)) (sym set.released) is.fits;
   past = λ k h. is.past k (subst (λ m. k < m) set.released h);
   due = set.due ∙ (is.due ∙ ap (release_or_end plan i.task.0) (sym set.released));
   later = subst (λ m. begun ≤ m) (sym set.due) is.later;
   each = λ k y has. by_place k y has (cases_Bool (k == i.k));
-  known = subst (λ g. IfSome g (Contains (jobs_of plan i.task.0))) (sym set.active) (known ((counted r s.count).done == length (units plan i)));
-  active = λ j there. ap (λ g. is_job g j) set.active ∙ (ap (λ b. is_job (cond b None (Some i)) j) finished ∙ by_job j there (cases_Bool (same_job i j)));
 }
   where
     here : i.k < length (jobs_of plan i.task.0)
@@ -163,13 +148,6 @@ task_counted plan rows r begun i old new s n ok task next job is set told = reco
     was : s.count ≡ count_of rows i
     was = (is.each i.k s set.was).count
 
-    finished : ((counted r s.count).done == length (units plan i)) ≡ is_finished plan (rows ++ r ∷ []) i
-    finished = ap (λ (c : JobCount). (counted r c).done == length (units plan i)) was ∙ (ap (λ (c : JobCount). c.done == length (units plan i)) (sym now) ∙ ap (λ d. d == length (units plan i)) (done_is (rows ++ r ∷ []) i))
-
-    known : (b : Bool) → IfSome (cond b None (Some i)) (Contains (jobs_of plan i.task.0))
-    known true = tt
-    known false = in_task plan i.task.0 i.k ok here
-
     by_place : (k : ℕ) (y : JobTally) → slice_get new.jobs.items k ≡ Some y → ((k == i.k) ≡ true) ⊎ ((k == i.k) ≡ false) → IsJobTally plan (rows ++ r ∷ []) (nat_lt k new.released) (job_at i.task.0 k) y
     by_place k y has (inl e) =
         let same : i.k ≡ k = sym (eqb-true k i.k e) in
@@ -185,49 +163,33 @@ task_counted plan rows r begun i old new s n ok task next job is set told = reco
         subst (λ m. IsJobTally plan (rows ++ r ∷ []) (nat_lt k m) (job_at i.task.0 k) y) (sym set.released)
         (job_other plan rows r (nat_lt k old.released) (job_at i.task.0 k) y (timely plan rows r begun i.task.0 k old ok task is next l) other (is.each k y old_has))
 
-    own : (b : Bool) → is_finished plan (rows ++ r ∷ []) i ≡ b → is_job (cond b None (Some i)) i ≡ (true && not b)
-    own true e = refl
-    own false e = same_self i
+-- whether it was the job's last one
+was_last : (plan : PlanModel) (rows : List Row) (r : Row) (i : JobId) (old new : JobCount) (u : ℕ) (b : Bool) → r.job ≡ Some i → old ≡ count_of rows i → new ≡ counted r old → u ≡ length (units plan i) → (new.done == u) ≡ b → is_finished plan (rows ++ r ∷ []) i ≡ b
+was_last plan rows r i old new u b job is made whole test =
+    let now : count_of (rows ++ r ∷ []) i ≡ counted r (count_of rows i) = count_push i rows r ∙ ap (λ b. cond b (counted r (count_of rows i)) (count_of rows i)) (row_of_job r i job) in
+    let did : new.done ≡ done i (rows ++ r ∷ []) = ap (λ (c : JobCount). c.done) (made ∙ (ap (counted r) is ∙ sym now)) ∙ done_is (rows ++ r ∷ []) i in
+    sym (ap (λ d. d == length (units plan i)) did) ∙ (ap (λ n. new.done == n) (sym whole) ∙ test)
 
-    others : (j : JobId) (b : Bool) → same_job i j ≡ false → is_job (cond b None (Some i)) j ≡ false
-    others j true e = refl
-    others j false e = e
-
-    by_job : (j : JobId) → Contains (jobs_of plan i.task.0) j → ((same_job i j) ≡ true) ⊎ ((same_job i j) ≡ false) → is_job (cond (is_finished plan (rows ++ r ∷ []) i) None (Some i)) j ≡ is_active plan (rows ++ r ∷ []) j
-    by_job j there (inl e) =
-        subst (λ x. is_job (cond (is_finished plan (rows ++ r ∷ []) i) None (Some i)) x ≡ is_active plan (rows ++ r ∷ []) x) (same_is i j e)
-        (own (is_finished plan (rows ++ r ∷ []) i) refl ∙ ap (λ b. b && not (is_finished plan (rows ++ r ∷ []) i)) (sym (started_push rows r i mine)))
-    by_job j there (inr e) =
-        let other : is_row_of j r ≡ false = ap (λ o. is_job o j) job ∙ e in
-        let of = of_task plan i.task.0 j ok there in
-        let in_plan : Contains (jobs plan) j = subst (Contains (jobs plan)) (ap (λ n. job_at n j.k) (sym of.0)) (job_in plan i.task.0 j.k ok task of.1) in
-        let core : r.core.0 ≡ core_of plan j = sym (turn_core plan rows r i (legal_turn plan rows r legal) job) ∙ ap (λ n. (task_at plan n).core) (sym of.0) in
-        let ne : i ≢ j = λ s. true≢false (sym (same_self i) ∙ (ap (same_job i) s ∙ e)) in
-        let idle : is_active plan rows j ≡ false = false_from_ne_true (is_active plan rows j) (λ g.
-        sole plan rows r i j old.active ok (each_before (IsLegal plan) [] rows (r ∷ []) next.start.each) legal job (job_on plan r.core.0 j in_plan core) (sym of.0) (is.active i (in_task plan i.task.0 i.k ok here)) (is.active j there) g ne) in
-        others j (is_finished plan (rows ++ r ∷ []) i) e ∙ sym (live_kept plan rows r j other ∙ idle)
+pub row_last : (plan : PlanModel) (rows : List Row) (r : Row) (i : JobId) (begun : ℕ → ℕ) (tasks : List TaskTally) (x : TaskTally) (s : JobTally) (new : JobCount) (b : Bool) → AreTallies plan rows begun tasks → slice_get tasks i.task.0 ≡ Some x → slice_get x.jobs.items i.k ≡ Some s → r.job ≡ Some i → new ≡ counted r s.count → (new.done == x.units) ≡ b → is_finished plan (rows ++ r ∷ []) i ≡ b
+row_last plan rows r i begun tasks x s new b are of_task of_job job made test = let is = are.each i.task.0 x of_task in was_last plan rows r i s.count new x.units b job (is.each i.k s of_job).count made is.units test
 
 -- ---- a row of a job of the task that is started
 pub record IsGrown (old new : TaskTally) (r : Row) (i : JobId) (s : JobTally) : Type 0 where
   pub was : slice_get old.jobs.items i.k ≡ Some s
   pub jobs_set : new.jobs.items ≡ slice_set old.jobs.items i.k (record s { count = counted r s.count })
-  pub facts : new.facts ≡ old.facts
+  pub units : new.units ≡ old.units
   pub released : new.released ≡ old.released
   pub due : new.due ≡ old.due
-  pub active : new.active ≡ cond ((counted r s.count).done == old.facts.units) None old.active
 
-grown_is_counted : (plan : PlanModel) (rows : List Row) (r : Row) (begun : ℕ) (i : JobId) (old new : TaskTally) (s : JobTally) → IsPlan plan → IsNextOf plan rows r begun → r.job ≡ Some i → IsTaskTally plan rows begun i.task.0 old → is_started rows i ≡ true → IsGrown old new r i s → IsCounted plan old new r i s (blocked plan rows i)
+grown_is_counted : (plan : PlanModel) (rows : List Row) (r : Row) (begun : ℕ) (i : JobId) (old new : TaskTally) (s : JobTally) → IsPlan plan → IsNextOf plan rows r begun → r.job ≡ Some i → IsTaskTally plan rows begun i.task.0 old → is_started rows i ≡ true → IsGrown old new r i s → IsCounted old new r i s (blocked plan rows i)
 grown_is_counted plan rows r begun i old new s ok next job is started set =
-    let here : i.k < length (jobs_of plan i.task.0) = (let w = slice_get_within old.jobs.items i.k s set.was in let size = is.size in omega (arith, w, size)) in
     let over = started_over plan rows (nat_lt i.k old.released) i s.blocking started (is.each i.k s set.was).blocking in
-    let active : old.active ≡ Some i = is_job_is old.active i (is.active i (in_task plan i.task.0 i.k ok here) ∙ turn_active plan rows r i (start_last plan rows r next.start) job started) in
     record {
       was = set.was;
       jobs_set = set.jobs_set ∙ ap (λ b. slice_set old.jobs.items i.k (record { count = counted r s.count; blocking = b })) over;
-      facts = set.facts;
+      units = set.units;
       released = set.released;
       due = set.due;
-      active = set.active ∙ (ap (λ u. cond ((counted r s.count).done == u) None old.active) is.facts.units ∙ ap (λ o. cond ((counted r s.count).done == length (units plan i)) None o) active);
     }
 
 -- ---- all tasks
@@ -239,7 +201,7 @@ tallies_idle plan rows r begun tasks ok job next are = record {
 }
 
 pub tallies_counted : (plan : PlanModel) (rows : List Row) (r : Row) (begun : ℕ) (tasks after : List TaskTally) (i : JobId) (old new : TaskTally) (s : JobTally) (n : ℕ) → IsPlan plan → r.job ≡ Some i → IsNextOf plan rows r begun → AreTallies plan rows (λ _. begun) tasks
-    → slice_get tasks i.task.0 ≡ Some old → after ≡ slice_set tasks i.task.0 new → IsCounted plan old new r i s n → n ≡ blocked plan rows i → AreTallies plan (rows ++ r ∷ []) (λ _. begun) after
+    → slice_get tasks i.task.0 ≡ Some old → after ≡ slice_set tasks i.task.0 new → IsCounted old new r i s n → n ≡ blocked plan rows i → AreTallies plan (rows ++ r ∷ []) (λ _. begun) after
 tallies_counted plan rows r begun tasks after i old new s n ok job next are was set counts told = record {
   start = next.start;
   size = ap length set ∙ (length-set tasks i.task.0 new ∙ are.size);

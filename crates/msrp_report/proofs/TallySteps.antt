@@ -1,20 +1,20 @@
 -- What is kept of the rows stays told by them, release by release and row by row.
-use Rattle.std.proofs.Common.{◌≡◌, ◌≢◌, ℕ, ◌<◌, ◌≤◌, ◌+◌, ◌*◌, ◌/◌, ◌==◌, true, false, cond, min, List, Option, Some, None, IfSome, IsSome, refl, ap, sym, ◌∙◌, subst, arith, inl, inr, ◌⊎◌, length, slice_get, slice_set, get_or, nat_lt, unwrap_or, eqb-true}
-use Rattle.std.specs.List.{AllByRecursion, Contains}
+use Rattle.std.proofs.Common.{◌≡◌, ◌≢◌, ℕ, ◌<◌, ◌≤◌, ◌+◌, ◌*◌, ◌/◌, ◌==◌, true, false, cond, min, List, Option, Some, None, IsSome, refl, ap, sym, ◌∙◌, subst, arith, inl, inr, ◌⊎◌, length, slice_get, slice_set, get_or, nat_lt, unwrap_or, eqb-true}
+use Rattle.std.specs.List.{AllByRecursion}
 use Rattle.std.proofs.Math.Bool.{true≢false}
 use Rattle.std.proofs.lemmas.Bool.{cases_Bool, cases_lt, eqb-false, le-ltb, lt-ltb}
 use Rattle.std.proofs.lemmas.List.{length-set}
 use Rattle.std.proofs.lemmas.Nat.{div-add-mod', mod_below}
 use Rattle.std.proofs.lemmas.Option.{slice_get_within, slice_get_read, same_Some}
 use Rattle.msrp_plan.specs.Plan.{PlanModel, task_at, release, release_tick}
-use Rattle.msrp_plan.specs.Jobs.{jobs_of, job_at, is_job}
+use Rattle.msrp_plan.specs.Jobs.{jobs_of, job_at}
 use Rattle.msrp_plan.specs.Blocking.{first_later}
 use Rattle.msrp_plan.specs.WellFormed.{IsPlan}
 use Rattle.msrp_plan.specs.declared.ids.JobId.{JobId}
 use Rattle.msrp_plan.specs.declared.rows.Row.{Row}
 use Rattle.msrp_plan.proofs.Jobs.Releases.{releases_rise, task_times}
 use Rattle.msrp_sim.proofs.Standing.{get_set_same, get_set_other}
-use Rattle.msrp_report.specs.Inside.Tallies.{AreFacts, AreTallies, IsBlocking, IsJobTally, IsOver, NoneReleased, NoneReleasedIn, NoJobReleased, AreGroups, IsTaskTally, begun_below, blocking_by, group_end, release_or_end}
+use Rattle.msrp_report.specs.Inside.Tallies.{AreTallies, IsBlocking, IsJobTally, IsOver, NoneReleased, NoneReleasedIn, NoJobReleased, AreGroups, IsTaskTally, begun_below, blocking_by, group_end, release_or_end}
 use Rattle.msrp_report.specs.declared.tallies.Blocking.{Blocking}
 use Rattle.msrp_report.specs.declared.tallies.Blocking.TheVariants.{Over, By}
 use Rattle.msrp_report.specs.declared.tallies.JobTally.{JobTally}
@@ -72,9 +72,8 @@ pub record IsReleased (old new : TaskTally) (k : ℕ) (s : JobTally) (b : Blocki
   pub was : slice_get old.jobs.items k ≡ Some s
   pub number : k ≡ old.released
   pub jobs_set : new.jobs.items ≡ slice_set old.jobs.items k (record s { blocking = b })
-  pub facts : new.facts ≡ old.facts
+  pub units : new.units ≡ old.units
   pub next : new.released ≡ k + 1
-  pub active : new.active ≡ old.active
 
 -- there is such a job
 pub due_job : (plan : PlanModel) (rows : List Row) (begun t : ℕ) (x : TaskTally) → IsTaskTally plan rows begun t x → x.due ≤ begun → begun < plan.ticks → x.released < length (jobs_of plan t)
@@ -86,7 +85,7 @@ due_job plan rows begun t x is due left = elim (cases_lt x.released (length (job
 -- a job that isn't released is blocked by no row
 fresh_over : (plan : PlanModel) (rows : List Row) (j : JobId) (b : Blocking) → IsBlocking plan rows false j b → IsOver plan rows false j 0
 fresh_over plan rows j (Over n) over = subst (IsOver plan rows false j) (over.ahead refl).0 over
-fresh_over plan rows j (By k n) w = absurd (true≢false (sym w.come))
+fresh_over plan rows j (By m k n) w = absurd (true≢false (sym w.come))
 
 lt_next : (k n : ℕ) → k ≢ n → nat_lt k (n + 1) ≡ nat_lt k n
 lt_next k n ne = elim (cases_lt k n) [
@@ -107,14 +106,12 @@ task_released plan rows begun t old new k s o ok task is due left early first se
     let length_set : length new.jobs.items ≡ length old.jobs.items = ap length set.jobs_set ∙ length-set old.jobs.items k (record s { blocking = blocking_by rows o }) in
     record {
       size = length_set ∙ size;
-      facts = subst (AreFacts plan t) (sym set.facts) is.facts;
+      units = set.units ∙ is.units;
       fits = omega (arith, next, l);
       past = λ m h. past m h now;
       due = new_due ∙ ap (release_or_end plan t) (sym next);
       later = later now;
       each = λ m x has. by_place m x has now (cases_Bool (m == k));
-      known = subst (λ g. IfSome g (Contains (jobs_of plan t))) (sym set.active) is.known;
-      active = λ j there. ap (λ g. is_job g j) set.active ∙ is.active j there;
     }
   where
     past : (m : ℕ) → m < new.released → release plan (job_at t k) ≡ begun → release plan (job_at t m) < begun + 1
@@ -153,14 +150,12 @@ task_released plan rows begun t old new k s o ok task is due left early first se
 pub task_waits : (plan : PlanModel) (rows : List Row) (begun t : ℕ) (x : TaskTally) → IsTaskTally plan rows begun t x → begun < x.due → IsTaskTally plan rows (begun + 1) t x
 task_waits plan rows begun t x is due = record {
   size = is.size;
-  facts = is.facts;
+  units = is.units;
   fits = is.fits;
   past = λ k h. let p = is.past k h in omega (arith, p);
   due = is.due;
   later = omega (arith, due);
   each = is.each;
-  known = is.known;
-  active = is.active;
 }
 
 -- ---- all tasks
@@ -211,16 +206,13 @@ at_task plan rows begun n tasks x are at = subst (λ b. IsTaskTally plan rows b 
 pub read_task : (plan : PlanModel) (rows : List Row) (begun : ℕ → ℕ) (n : ℕ) (tasks : List TaskTally) (x : TaskTally) → AreTallies plan rows begun tasks → n < length plan.tasks → x ≡ get_or tasks n x → slice_get tasks n ≡ Some x
 read_task plan rows begun n tasks x are task is = slice_get_read tasks (length tasks) n x refl (let size = are.size in omega (arith, task, size)) is
 
-pub facts_read : (plan : PlanModel) (rows : List Row) (begun : ℕ → ℕ) (n : ℕ) (tasks : List TaskTally) (x : TaskTally) → AreTallies plan rows begun tasks → n < length plan.tasks → x ≡ get_or tasks n x → AreFacts plan n x.facts
-facts_read plan rows begun n tasks x are task is = (are.each n x (read_task plan rows begun n tasks x are task is)).facts
-
-pub same_task : (plan : PlanModel) (rows : List Row) (begun : ℕ → ℕ) (n : ℕ) (tasks : List TaskTally) (x y : TaskTally) → AreTallies plan rows begun tasks → n < length plan.tasks → x ≡ get_or tasks n x → y ≡ get_or tasks n y → x ≡ y
-same_task plan rows begun n tasks x y are task ix iy = same_Some x y (sym (read_task plan rows begun n tasks x are task ix) ∙ read_task plan rows begun n tasks y are task iy)
+pub same_read : (plan : PlanModel) (rows : List Row) (begun : ℕ → ℕ) (n : ℕ) (tasks : List TaskTally) (x y : TaskTally) → AreTallies plan rows begun tasks → n < length plan.tasks → x ≡ get_or tasks n x → y ≡ get_or tasks n y → x ≡ y
+same_read plan rows begun n tasks x y are task ix iy = same_Some x y (sym (read_task plan rows begun n tasks x are task ix) ∙ read_task plan rows begun n tasks y are task iy)
 
 pub due_within : (plan : PlanModel) (rows : List Row) (begun n : ℕ) (tasks : List TaskTally) (x y : TaskTally) → AreTallies plan rows (begun_below begun n) tasks → n < length plan.tasks → x ≡ get_or tasks n x → y ≡ get_or tasks n y → x.due ≤ begun → begun < plan.ticks → y.released < length (jobs_of plan n)
 due_within plan rows begun n tasks x y are task ix iy due left =
     let within = due_job plan rows begun n x (at_task plan rows begun n tasks x are (read_task plan rows (begun_below begun n) n tasks x are task ix)) due left in
-    let same = ap (λ (z : TaskTally). z.released) (same_task plan rows (begun_below begun n) n tasks x y are task ix iy) in
+    let same = ap (λ (z : TaskTally). z.released) (same_read plan rows (begun_below begun n) n tasks x y are task ix iy) in
     omega (arith, within, same)
 
 -- ---- ticks without a release

@@ -11,19 +11,23 @@ ghost use Rattle.msrp_report.specs.Inside.Counts.{count_of};
 ghost use Rattle.msrp_report.specs.Inside.Tallies.{AreTallies, IsTallyOf, ToldOf};
 
 use crate::counts::JobCount;
-use msrp_plan::JobId;
+use active::CoreJobs;
+use msrp_plan::{JobId, TaskId};
+use std::mem::size_of;
 
+mod active;
 mod feeding;
 mod releasing;
 mod starting;
 
-/// How long a job is blocked, as far as the rows tell. Who blocks it is known at its release, and it is blocked until it starts.
+/// How long a job is blocked, as far as the rows tell. Who blocks it is known at its release, and it is blocked until it starts. A plan
+/// has fewer tasks than a byte tells, and fewer jobs and ticks than two do.
 #[derive(Clone, Copy)]
 pub(crate) enum Blocking {
     /// By so many rows, and by no later one: it is started, or nobody blocks it, or it isn't released yet.
-    Over(u32),
-    /// It waits, and each row of this job blocks it. So many rows of that job came before the release.
-    By { job: JobId, before: u32 },
+    Over(u16),
+    /// It waits, and each row of this task's k-th job blocks it. So many rows of that job came before the release.
+    By { task: u8, k: u16, before: u16 },
 }
 
 /// What the rows so far tell of one job.
@@ -33,32 +37,26 @@ pub(crate) struct JobTally {
     pub(crate) blocking: Blocking,
 }
 
-/// What no row changes of one task. A release looks at the tasks of its core alone.
-#[derive(Clone, Copy)]
-pub(crate) struct TaskFacts {
-    pub(crate) units: u32,
-    /// The first task of its core, and the next one behind it: the number of tasks, where there is none.
-    pub(crate) first: u32,
-    pub(crate) next: u32,
-}
+const _: () = prove!(size_of::<JobTally>() == 20);
 
 /// What they tell of the jobs of one task.
 #[derive(Drop)]
 pub(crate) struct TaskTally {
     pub(crate) jobs: Vec<JobTally>,
-    pub(crate) facts: TaskFacts,
+    /// How many units each of them has.
+    pub(crate) units: u32,
     /// How many of them are released.
     pub(crate) released: u32,
     /// No further one is released before this tick.
     pub(crate) due: u64,
-    /// The one that is started and unfinished.
-    pub(crate) active: Option<JobId>,
 }
 
 /// What they tell of all jobs of a plan, task by task.
 #[derive(Drop)]
 pub(crate) struct Tallies {
     pub(crate) tasks: Vec<TaskTally>,
+    /// Of each core the jobs that are started and unfinished.
+    pub(crate) active: Vec<CoreJobs>,
     /// How many ticks have begun.
     pub(crate) begun: u32,
     /// Of each group of tasks: no further job of theirs is released before this tick.
@@ -87,13 +85,20 @@ impl Tallies {
     }
 
     /// How many rows have blocked a job.
-    pub(crate) fn blocked(&self, job: JobId) -> u32
+    pub(crate) fn blocked(&self, job: JobId) -> u16
         requires { ToldOf self.now.tasks.items job }
         ensures { (plan : PlanModel) (rows : List TraceRow) (begun : ℕ → ℕ) → IsPlan plan → AreTallies plan rows begun self.now.tasks.items → Contains (jobs plan) job → result ≡ blocked plan rows job }
     {
         match self.tally_of(job).blocking {
             Blocking::Over(rows) => rows,
-            Blocking::By { job: other, before } => self.count_of(other).rows - before,
+            Blocking::By { task, k, before } => {
+                let task = TaskId(u32::from(task));
+                let other = JobId {
+                    task,
+                    k: u32::from(k),
+                };
+                self.count_of(other).rows - before
+            }
         }
     }
 }

@@ -1,9 +1,9 @@
 -- What is kept of each job while the rows come, and what it says of the rows so far.
-use Rattle.std.specs.Prelude.{ℕ, List, ◌∷◌, [], ◌++◌, Bool, true, false, not, ◌&&◌, nat_lt, Option, Some, None, IfSome, IsSome, length, slice_get, ◌≡◌, ◌≢◌, ◌<◌, ◌≤◌, ◌+◌, ◌*◌, ◌/◌, min, if◌then◌else◌}
-use Rattle.std.specs.List.{AllByRecursion, Contains}
-use Rattle.msrp_plan.specs.Plan.{PlanModel, core_of, task_at, release, release_tick}
+use Rattle.std.specs.Prelude.{ℕ, List, ◌∷◌, [], ◌++◌, Bool, true, false, not, ◌&&◌, ◌==◌, nat_lt, Option, Some, None, IsSome, length, slice_get, vec_capacity, ◌≡◌, ◌<◌, ◌≤◌, ◌+◌, ◌*◌, ◌/◌, min, if◌then◌else◌}
+use Rattle.std.specs.List.{AllByRecursion, Contains, IsDistinct, list_any}
+use Rattle.msrp_plan.specs.Plan.{PlanModel, task_at, release, release_tick}
 use Rattle.msrp_plan.specs.Choice.{is_before}
-use Rattle.msrp_plan.specs.Jobs.{jobs, job_at, jobs_of, jobs_on, is_job, is_started, is_finished}
+use Rattle.msrp_plan.specs.Jobs.{jobs, job_at, jobs_of, jobs_on, same_job, is_started, is_finished}
 use Rattle.msrp_plan.specs.Blocking.{blocked, first_later, ComesBefore, ComesAfter}
 use Rattle.msrp_plan.specs.Runs.{IsRunStart}
 use Rattle.msrp_plan.specs.WellFormed.{IsPlan}
@@ -11,10 +11,10 @@ use Rattle.msrp_plan.specs.declared.ids.JobId.{JobId}
 use Rattle.msrp_plan.specs.declared.rows.Kind.{Kind}
 use Rattle.msrp_plan.specs.declared.rows.Row.{Row}
 use Rattle.msrp_report.specs.Inside.Counts.{count_of}
+use Rattle.msrp_report.specs.declared.tallies.active.CoreJobs.{CoreJobs}
 use Rattle.msrp_report.specs.declared.tallies.Blocking.{Blocking}
 use Rattle.msrp_report.specs.declared.tallies.Blocking.TheVariants.{Over, By}
 use Rattle.msrp_report.specs.declared.tallies.JobTally.{JobTally}
-use Rattle.msrp_report.specs.declared.tallies.TaskFacts.{TaskFacts}
 use Rattle.msrp_report.specs.declared.tallies.TaskTally.{TaskTally}
 use Rattle.msrp_report.specs.declared.tallies.Tallies.{Tallies}
 
@@ -44,7 +44,7 @@ pub record WaitsFor (plan : PlanModel) (rows : List Row) (released : Bool) (j k 
 
 abbrev pub IsBlocking : PlanModel → List Row → Bool → JobId → Blocking → Type 0
 IsBlocking plan rows released j (Over n) = IsOver plan rows released j n
-IsBlocking plan rows released j (By k n) = WaitsFor plan rows released j k n
+IsBlocking plan rows released j (By t k n) = WaitsFor plan rows released j (job_at t k) n
 
 -- ---- jobs, task by task
 pub record IsJobTally (plan : PlanModel) (rows : List Row) (released : Bool) (j : JobId) (s : JobTally) : Type 0 where
@@ -59,30 +59,15 @@ is_active plan rows j = is_started rows j && not (is_finished plan rows j)
 abbrev pub release_or_end : PlanModel → ℕ → ℕ → ℕ
 release_or_end plan t k = if nat_lt k (length (jobs_of plan t)) then release plan (job_at t k) else plan.ticks
 
--- from the n-th task on the first of the core is this one; none is, where it is the number of tasks
-pub record IsTaskFrom (plan : PlanModel) (c n t : ℕ) : Type 0 where
-  pub from : n ≤ t
-  pub within : t ≤ length plan.tasks
-  pub own : t < length plan.tasks → (task_at plan t).core ≡ c
-  pub others : (k : ℕ) → n ≤ k → k < t → (task_at plan k).core ≢ c
-
--- what no row changes of task t: how many units its jobs have, the first task of its core, and the next one behind it
-pub record AreFacts (plan : PlanModel) (t : ℕ) (f : TaskFacts) : Type 0 where
-  pub units : f.units ≡ length (task_at plan t).units
-  pub first : IsTaskFrom plan (task_at plan t).core 0 f.first
-  pub next : IsTaskFrom plan (task_at plan t).core (t + 1) f.next
-
 -- what is kept of task t, where so many ticks have begun for it: its first jobs are released, and of the others the first is due
 pub record IsTaskTally (plan : PlanModel) (rows : List Row) (begun t : ℕ) (x : TaskTally) : Type 0 where
   pub size : length x.jobs.items ≡ length (jobs_of plan t)
-  pub facts : AreFacts plan t x.facts
+  pub units : x.units ≡ length (task_at plan t).units
   pub fits : x.released ≤ length (jobs_of plan t)
   pub past : (k : ℕ) → k < x.released → release plan (job_at t k) < begun
   pub due : x.due ≡ release_or_end plan t x.released
   pub later : begun ≤ x.due
   pub each : (k : ℕ) (s : JobTally) → slice_get x.jobs.items k ≡ Some s → IsJobTally plan rows (nat_lt k x.released) (job_at t k) s
-  pub known : IfSome x.active (Contains (jobs_of plan t))
-  pub active : (j : JobId) → Contains (jobs_of plan t) j → is_job x.active j ≡ is_active plan rows j
 
 -- what is kept of all tasks, where ticks have begun for each task on its own
 pub record AreTallies (plan : PlanModel) (rows : List Row) (begun : ℕ → ℕ) (tasks : List TaskTally) : Type 0 where
@@ -90,6 +75,23 @@ pub record AreTallies (plan : PlanModel) (rows : List Row) (begun : ℕ → ℕ)
   pub size : length tasks ≡ length plan.tasks
   pub each : (t : ℕ) (x : TaskTally) → slice_get tasks t ≡ Some x → IsTaskTally plan rows (begun t) t x
 
+-- ---- jobs that are started and unfinished
+abbrev pub same_task : JobId → JobId → Bool
+same_task i j = i.task.0 == j.task.0
+
+-- of core c each such job is kept once, and none else; no two are of one task, so there is room for one more
+pub record AreActiveOf (plan : PlanModel) (rows : List Row) (c : ℕ) (x : CoreJobs) : Type 0 where
+  pub known : AllByRecursion (Contains (jobs_on plan c)) x.jobs.items
+  pub active : (j : JobId) → Contains (jobs_on plan c) j → list_any (same_job j) x.jobs.items ≡ is_active plan rows j
+  pub apart : IsDistinct same_task x.jobs.items
+  pub room : length plan.tasks ≤ vec_capacity x.jobs
+
+-- of all cores
+pub record AreActive (plan : PlanModel) (rows : List Row) (cores : List CoreJobs) : Type 0 where
+  pub size : length cores ≡ plan.cores
+  pub each : (c : ℕ) (x : CoreJobs) → slice_get cores c ≡ Some x → AreActiveOf plan rows c x
+
+-- ---- ticks
 -- so many ticks have begun with these rows: the last of them perhaps not for all cores
 pub record HaveBegun (plan : PlanModel) (rows : List Row) (begun : ℕ) : Type 0 where
   pub early : AllByRecursion (λ r. r.tick < begun) rows
@@ -121,6 +123,7 @@ pub record HasTallied (plan : PlanModel) (rows : List Row) (t : Tallies) : Type 
   pub quiet : NoneReleased plan (length plan.tasks) t.begun t.next
   pub groups : AreGroups plan 0 t.begun t.groups.items
   pub tallies : AreTallies plan rows (λ _. t.begun) t.tasks.items
+  pub active : AreActive plan rows t.active.items
 
 -- ---- one job
 -- the job is of a task of the plan, and has a release
@@ -144,15 +147,16 @@ pub record ToldOf (tasks : List TaskTally) (j : JobId) : Type 0 where
   pub known : Contains (jobs plan) j
 
 -- they are the tallies of some rows of the plan
-pub record ToldBy (plan : PlanModel) (tasks : List TaskTally) : Type 0 where
+pub record ToldBy (plan : PlanModel) (t : Tallies) : Type 0 where
   pub rows : List Row
   pub begun : ℕ → ℕ
-  pub tallies : AreTallies plan rows begun tasks
+  pub tallies : AreTallies plan rows begun t.tasks.items
+  pub active : AreActive plan rows t.active.items
 
 -- how a job is blocked at its release by this job, if there is one
 abbrev pub blocking_by : List Row → Option JobId → Blocking
 blocking_by rows None = Over 0
-blocking_by rows (Some k) = By k (count_of rows k).rows
+blocking_by rows (Some j) = By j.task.0 j.k (count_of rows j).rows
 
 -- ---- the first of the later jobs that are active
 abbrev pub is_later_active : PlanModel → List Row → JobId → JobId → Bool
@@ -163,10 +167,10 @@ abbrev pub NotBefore : PlanModel → JobId → Option JobId → Type 0
 NotBefore plan i None = ⊥
 NotBefore plan i (Some f) = is_before plan i f ≡ false
 
--- of the jobs of the first n tasks
-pub record IsFirstOf (plan : PlanModel) (rows : List Row) (j : JobId) (n : ℕ) (o : Option JobId) : Type 0 where
-  pub known : (f : JobId) → o ≡ Some f → Contains (jobs_on plan (core_of plan j)) f × (is_later_active plan rows j f ≡ true)
-  pub least : (i : JobId) → i.task.0 < n → Contains (jobs_on plan (core_of plan j)) i → is_later_active plan rows j i ≡ true → NotBefore plan i o
+-- of these jobs
+pub record IsFirstOf (plan : PlanModel) (j : JobId) (others : List JobId) (o : Option JobId) : Type 0 where
+  pub known : (f : JobId) → o ≡ Some f → (list_any (same_job f) others ≡ true) × (is_before plan j f ≡ true)
+  pub least : (i : JobId) → list_any (same_job i) others ≡ true → is_before plan j i ≡ true → NotBefore plan i o
 
 -- ---- the releases of a tick
 -- the next tick has begun for the tasks below the n-th
@@ -177,6 +181,7 @@ begun_below begun n t = if nat_lt t n then begun + 1 else begun
 pub record HasReleased (plan : PlanModel) (rows : List Row) (n : ℕ) (t : Tallies) : Type 0 where
   pub early : AllByRecursion (λ r. r.tick < t.begun) rows
   pub tallies : AreTallies plan rows (begun_below t.begun n) t.tasks.items
+  pub active : AreActive plan rows t.active.items
 
 -- some rows are told so
 abbrev pub ReleasesNext : PlanModel → ℕ → Tallies → Type 0
@@ -189,7 +194,7 @@ pub record IsNextOf (plan : PlanModel) (rows : List Row) (r : Row) (begun : ℕ)
   pub tick : begun ≡ r.tick + 1
 
 abbrev pub Counts : PlanModel → Row → Tallies → Type 0
-Counts plan r t = (rows : List Row) × AreTallies plan rows (λ _. t.begun) t.tasks.items × IsNextOf plan rows r t.begun
+Counts plan r t = (rows : List Row) × AreTallies plan rows (λ _. t.begun) t.tasks.items × IsNextOf plan rows r t.begun × AreActive plan rows t.active.items
 
 -- they are told with the row's tick begun
 pub record StandsAt (plan : PlanModel) (rows : List Row) (r : Row) (t : Tallies) : Type 0 where
@@ -197,6 +202,7 @@ pub record StandsAt (plan : PlanModel) (rows : List Row) (r : Row) (t : Tallies)
   pub quiet : NoneReleased plan (length plan.tasks) t.begun t.next
   pub groups : AreGroups plan 0 t.begun t.groups.items
   pub tallies : AreTallies plan rows (λ _. t.begun) t.tasks.items
+  pub active : AreActive plan rows t.active.items
   pub next : IsNextOf plan rows r t.begun
 
 -- a row of this job, tick and kind does

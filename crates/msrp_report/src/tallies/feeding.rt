@@ -1,31 +1,21 @@
 //! One row more.
-ghost use Rattle.std.specs.Prelude.{◌≡◌, ◌==◌, ◌++◌, ◌∷◌, [], ℕ, List, None, Some, true, false, cond};
+ghost use Rattle.std.specs.Prelude.{◌≡◌, ◌++◌, ◌∷◌, [], ℕ, List, Some, false, not};
 ghost use Rattle.msrp_plan.specs.Jobs.{is_started};
 ghost use Rattle.msrp_plan.specs.Plan.{PlanModel};
 ghost use Rattle.msrp_plan.specs.Runs.{IsRunStart};
 ghost use Rattle.msrp_plan.specs.WellFormed.{IsPlan};
 ghost use Rattle.msrp_plan.specs.declared.rows.Row.{Row as TraceRow};
-ghost use Rattle.msrp_report.specs.Inside.Tallies.{AreTallies, Counts, CountsAs, GoesOn, HasTallied, IsNextOf, StandsAt, ToldOf};
+ghost use Rattle.msrp_report.specs.Inside.Tallies.{AreActive, AreTallies, Counts, CountsAs, GoesOn, HasTallied, IsNextOf, StandsAt, ToldOf};
 
 use super::{Blocking, Tallies};
 use msrp_plan::{JobId, Kind, Plan, Row};
-
-// The active job of a task is so no more, where it has no units left. Else nothing is written.
-#[inline(always)]
-fn end_active(active: &mut Option<JobId>, done: u32, units: u32)
-    ensures { active.new ≡ cond (done == units) None active.old }
-{
-    if done == units {
-        *active = None;
-    }
-}
 
 impl Tallies {
     // Whether the job has no row.
     #[inline(always)]
     fn is_unstarted(&self, job: JobId) -> bool
         requires { ToldOf self.now.tasks.items job }
-        ensures { (plan : PlanModel) (rows : List TraceRow) (begun : ℕ → ℕ) → AreTallies plan rows begun self.now.tasks.items → result ≡ false → is_started rows job ≡ true }
+        ensures { (plan : PlanModel) (rows : List TraceRow) (begun : ℕ → ℕ) → AreTallies plan rows begun self.now.tasks.items → is_started rows job ≡ not result }
     {
         self.count_of(job).rows == 0
     }
@@ -34,19 +24,23 @@ impl Tallies {
     fn count_first(&mut self, plan: &Plan, job: JobId, tick: u32, kind: Kind)
         requires plan { IsPlan plan.now }
         requires told { (row : TraceRow) × CountsAs plan.now job tick kind row self.old }
+        requires first { (rows : List TraceRow) → AreTallies plan.now rows (λ _. self.old.begun) self.old.tasks.items → is_started rows job ≡ false }
         ensures begun { self.new.begun ≡ self.old.begun }
         ensures next { self.new.next ≡ self.old.next }
         ensures groups { self.new.groups.items ≡ self.old.groups.items }
         ensures told { (row : TraceRow) (rows : List TraceRow) → CountsAs plan.now job tick kind row self.old → AreTallies plan.now rows (λ _. self.old.begun) self.old.tasks.items → IsNextOf plan.now rows row self.old.begun → AreTallies plan.now (rows ++ row ∷ []) (λ _. self.old.begun) self.new.tasks.items }
+        ensures active { (row : TraceRow) (rows : List TraceRow) → CountsAs plan.now job tick kind row self.old → AreTallies plan.now rows (λ _. self.old.begun) self.old.tasks.items → AreActive plan.now rows self.old.active.items → IsNextOf plan.now rows row self.old.begun → AreActive plan.now (rows ++ row ∷ []) self.new.active.items }
     {
         let blocked = self.blocked(job);
         let task = &mut self.tasks[job.task.0 as usize];
         let tally = &mut task.jobs[job.k as usize];
         tally.count.add(tick, kind);
         tally.blocking = Blocking::Over(blocked);
-        let done = tally.count.done;
-        task.active = Some(job);
-        end_active(&mut task.active, done, task.facts.units);
+        if u32::from(tally.count.done) == task.units {
+            return;
+        }
+        let core = plan.core_of(job.task);
+        self.active[core.0 as usize].start(job);
     }
 
     // Counts a row of a job. Most are no first ones: what is kept of how their job is blocked stays as it is.
@@ -59,6 +53,7 @@ impl Tallies {
         ensures next { self.new.next ≡ self.old.next }
         ensures groups { self.new.groups.items ≡ self.old.groups.items }
         ensures told { (rows : List TraceRow) → AreTallies plan.now rows (λ _. self.old.begun) self.old.tasks.items → IsNextOf plan.now rows row self.old.begun → AreTallies plan.now (rows ++ row ∷ []) (λ _. self.old.begun) self.new.tasks.items }
+        ensures active { (rows : List TraceRow) → AreTallies plan.now rows (λ _. self.old.begun) self.old.tasks.items → AreActive plan.now rows self.old.active.items → IsNextOf plan.now rows row self.old.begun → AreActive plan.now (rows ++ row ∷ []) self.new.active.items }
     {
         if self.is_unstarted(job) {
             self.count_first(plan, job, row.tick, row.kind);
@@ -67,8 +62,11 @@ impl Tallies {
         let task = &mut self.tasks[job.task.0 as usize];
         let tally = &mut task.jobs[job.k as usize];
         tally.count.add(row.tick, row.kind);
-        let done = tally.count.done;
-        end_active(&mut task.active, done, task.facts.units);
+        if u32::from(tally.count.done) != task.units {
+            return;
+        }
+        let core = plan.core_of(job.task);
+        self.active[core.0 as usize].finish(job);
     }
 
     // Begins the tick of a row, if none of its rows has come.

@@ -4,11 +4,11 @@ ghost use Rattle.std.specs.Prelude.{◌≡◌, ◌<◌, ◌+◌, ◌*◌, ℕ, L
 ghost use Rattle.std.specs.List.{AllByRecursion, Contains};
 ghost use Rattle.msrp_plan.specs.Choice.{comes_first};
 ghost use Rattle.msrp_plan.specs.Blocking.{first_later};
-ghost use Rattle.msrp_plan.specs.Jobs.{jobs};
+ghost use Rattle.msrp_plan.specs.Jobs.{jobs, jobs_of};
 ghost use Rattle.msrp_plan.specs.Plan.{core_of, task_at};
 ghost use Rattle.msrp_plan.specs.WellFormed.{IsPlan};
 ghost use Rattle.msrp_plan.specs.declared.rows.Row.{Row as TraceRow};
-ghost use Rattle.msrp_report.specs.Inside.Tallies.{AreGroups, AreTallies, HasReleased, IsFirstOf, IsKnown, NoneReleased, NoneReleasedIn, ReleasesNext, ToldBy, begun_below, blocking_by, group_end, release_or_end};
+ghost use Rattle.msrp_report.specs.Inside.Tallies.{AreActive, AreGroups, AreTallies, HasReleased, NoneReleased, NoneReleasedIn, ReleasesNext, ToldBy, begun_below, blocking_by, group_end, release_or_end};
 
 use super::{Blocking, Tallies};
 use msrp_plan::{JobId, Plan, TaskId};
@@ -16,89 +16,34 @@ use msrp_plan::{JobId, Plan, TaskId};
 /// The tasks are looked at by groups of so many: in most ticks that have a release, all but one wait.
 pub(super) const GROUP: usize = 8;
 
-// Whether a job comes before another, or there is no other.
-fn is_first(plan: &Plan, job: JobId, other: Option<JobId>) -> bool
-    requires job { IsKnown plan.now job }
-    requires other { IfSome other (IsKnown plan.now) }
-    ensures { result ≡ comes_first plan.now job other }
+/// The tick of a job's release, or the plan's end where its task, which has so many jobs, has no such job.
+pub(super) fn release_or_end(plan: &Plan, job: JobId, jobs: usize) -> u64
+    requires plan { IsPlan plan.now }
+    requires task { job.task.0 < length plan.now.tasks }
+    requires jobs { jobs ≡ length (jobs_of plan.now job.task.0) }
+    ensures { result ≡ release_or_end plan.now job.task.0 job.k }
 {
-    match other {
-        None => true,
-        Some(other) => plan.job_key(job).is_before(&plan.job_key(other)),
-    }
-}
-
-/// The tick of a task's k-th release, or the plan's end where it has no such job.
-pub(super) fn release_or_end(plan: &Plan, task: TaskId, k: u32) -> u64
-    requires { task.0 < length plan.now.tasks }
-    ensures { result ≡ release_or_end plan.now task.0 k }
-{
-    if k < plan.jobs(task) {
-        plan.release(JobId { task, k })
+    if (job.k as usize) < jobs {
+        plan.release(job)
     } else {
         u64::from(plan.ticks())
     }
 }
 
 impl Tallies {
-    // The first of two: a job that comes first so far, if there is one, and the active job of a task of the job's core, if that
-    // is a later one.
-    #[inline(always)]
-    fn first_with(
-        &self,
-        plan: &Plan,
-        job: JobId,
-        task: TaskId,
-        first: Option<JobId>,
-    ) -> Option<JobId>
-        requires told { ToldBy plan.now self.now.tasks.items }
-        requires plan { IsPlan plan.now }
-        requires job { Contains (jobs plan.now) job }
-        requires task { task.0 < length plan.now.tasks }
-        requires core { (task_at plan.now task.0).core ≡ core_of plan.now job }
-        requires first { IfSome first (IsKnown plan.now) }
-        ensures known { IfSome result (IsKnown plan.now) }
-        ensures first { (rows : List TraceRow) (begun : ℕ → ℕ) → AreTallies plan.now rows begun self.now.tasks.items → IsFirstOf plan.now rows job task.0 first → IsFirstOf plan.now rows job (task.0 + 1) result }
-    {
-        let Some(other) = self.tasks[task.0 as usize].active else {
-            return first;
-        };
-        if !is_first(plan, job, Some(other)) {
-            return first;
-        }
-        if !is_first(plan, other, first) {
-            return first;
-        }
-        Some(other)
-    }
-
-    // The first of the later jobs of a job's core that are started and unfinished.
-    fn first_later(&self, plan: &Plan, job: JobId) -> Option<JobId>
-        requires plan { IsPlan plan.now }
-        requires told { ToldBy plan.now self.now.tasks.items }
-        requires job { Contains (jobs plan.now) job }
-        ensures { (rows : List TraceRow) (begun : ℕ → ℕ) → AreTallies plan.now rows begun self.now.tasks.items → result ≡ first_later plan.now rows job }
-    {
-        let mut first = None;
-        let mut task = self.tasks[job.task.0 as usize].facts.first;
-        while task < plan.tasks() {
-            first = self.first_with(plan, job, TaskId(task), first);
-            task = self.tasks[task as usize].facts.next;
-        }
-        first
-    }
-
     // How a job is blocked that is released now.
     fn blocking_of(&self, plan: &Plan, job: JobId) -> Blocking
         requires plan { IsPlan plan.now }
-        requires told { ToldBy plan.now self.now.tasks.items }
+        requires told { ToldBy plan.now self.now }
         requires job { Contains (jobs plan.now) job }
-        ensures { (rows : List TraceRow) (begun : ℕ → ℕ) → AreTallies plan.now rows begun self.now.tasks.items → result ≡ blocking_by rows (first_later plan.now rows job) }
+        ensures { (rows : List TraceRow) (begun : ℕ → ℕ) → AreTallies plan.now rows begun self.now.tasks.items → AreActive plan.now rows self.now.active.items → result ≡ blocking_by rows (first_later plan.now rows job) }
     {
-        match self.first_later(plan, job) {
+        let core = plan.core_of(job.task);
+        match self.active[core.0 as usize].first_later(plan, job) {
             None => Blocking::Over(0),
             Some(other) => Blocking::By {
-                job: other,
+                task: other.task.0 as u8,
+                k: other.k as u16,
                 before: self.count_of(other).rows,
             },
         }
@@ -124,7 +69,11 @@ impl Tallies {
         let tally = &mut self.tasks[at];
         tally.jobs[k as usize].blocking = blocking;
         tally.released = k + 1;
-        tally.due = release_or_end(plan, task, tally.released);
+        let next = JobId {
+            task,
+            k: tally.released,
+        };
+        tally.due = release_or_end(plan, next, tally.jobs.len());
     }
 
     // Releases each job of a group of tasks that is released in the tick that begins, and answers the tick of their next release.
@@ -199,6 +148,7 @@ impl Tallies {
         ensures next { NoneReleased plan.now (length plan.now.tasks) self.new.begun self.new.next }
         ensures groups { AreGroups plan.now 0 self.new.begun self.new.groups.items }
         ensures told { (rows : List TraceRow) → HasReleased plan.now rows 0 self.old → AreTallies plan.now rows (λ _. self.new.begun) self.new.tasks.items }
+        ensures active { (rows : List TraceRow) → HasReleased plan.now rows 0 self.old → AreActive plan.now rows self.new.active.items }
     {
         if self.next <= u64::from(self.begun) {
             self.release_all(plan);

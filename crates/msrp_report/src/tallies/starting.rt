@@ -2,12 +2,13 @@
 
 ghost use Rattle.std.specs.Prelude.{◌≡◌, ◌<◌, ◌≤◌, [], IfOk, length};
 ghost use Rattle.msrp_plan.specs.WellFormed.{IsPlan};
-ghost use Rattle.msrp_report.specs.Inside.Tallies.{AreFacts, HasTallied, IsTaskFrom, IsTaskTally};
+ghost use Rattle.msrp_report.specs.Inside.Tallies.{HasTallied, IsTaskTally};
 
+use super::active::none_active;
 use super::releasing::{GROUP, release_or_end};
-use super::{Blocking, JobTally, Tallies, TaskFacts, TaskTally};
+use super::{Blocking, JobTally, Tallies, TaskTally};
 use crate::counts::JobCount;
-use msrp_plan::{CoreId, Memory, Plan, TaskId};
+use msrp_plan::{JobId, Memory, Plan, TaskId};
 use std::alloc::Global;
 
 // A job that isn't released.
@@ -15,33 +16,6 @@ const UNTOLD: JobTally = JobTally {
     count: JobCount::NONE,
     blocking: Blocking::Over(0),
 };
-
-// The first task of a core from this number on, or the number of tasks.
-fn task_from(plan: &Plan, core: CoreId, from: u32) -> u32
-    requires { from ≤ length plan.now.tasks }
-    ensures { IsTaskFrom plan.now core.0 from result }
-{
-    for task in from..plan.tasks() {
-        if plan.core_of(TaskId(task)) == core {
-            return task;
-        }
-    }
-    plan.tasks()
-}
-
-// What no row changes of a task.
-fn facts_of(plan: &Plan, task: TaskId) -> TaskFacts
-    requires plan { IsPlan plan.now }
-    requires task { task.0 < length plan.now.tasks }
-    ensures { AreFacts plan.now task.0 result }
-{
-    let core = plan.core_of(task);
-    TaskFacts {
-        units: plan.units(task),
-        first: task_from(plan, core, 0),
-        next: task_from(plan, core, task.0 + 1),
-    }
-}
 
 // The jobs of a task, none of them released.
 fn untold(alloc: Global, plan: &Plan, task: TaskId) -> Result<TaskTally, Memory>
@@ -54,12 +28,12 @@ fn untold(alloc: Global, plan: &Plan, task: TaskId) -> Result<TaskTally, Memory>
     for _ in 0..count {
         jobs.push_reserved(UNTOLD);
     }
+    let first = JobId { task, k: 0 };
     Ok(TaskTally {
         jobs,
-        facts: facts_of(plan, task),
+        units: plan.units(task),
         released: 0,
-        due: release_or_end(plan, task, 0),
-        active: None,
+        due: release_or_end(plan, first, count as usize),
     })
 }
 
@@ -74,6 +48,7 @@ impl Tallies {
         }
         Ok(Tallies {
             tasks,
+            active: none_active(alloc, plan)?,
             begun: 0,
             groups: vec![in alloc; 0; (plan.tasks() as usize + GROUP - 1) / GROUP]?,
             next: 0,

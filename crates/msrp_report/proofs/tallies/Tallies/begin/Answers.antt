@@ -1,5 +1,5 @@
 use Rattle.std.proofs.Common.{◌≡◌, ◌+◌, length, refl, ap, subst, sym, ◌∙◌, arith}
-use Rattle.msrp_report.specs.Inside.Tallies.{AreGroups, AreTallies}
+use Rattle.msrp_report.specs.Inside.Tallies.{AreActive, AreGroups, AreTallies}
 use Rattle.msrp_report.specs.declared.tallies.Tallies.{Tallies}
 use Rattle.msrp_report.proofs.TallySteps.{all_begun, all_wait, groups_later}
 use Rattle.msrp_report.proofs.tallies.Tallies.begin.Goals as goal
@@ -38,4 +38,11 @@ returns-clause-groups c =
     elim c.if-self-from.branch [
       | then-self-from w ↦ subst P (sym w.self-is) (subst (λ b. AreGroups plan 0 (b + 1) w.release_all.new.self.groups.items) (sym w.release_all.ensures.begun) w.release_all.ensures.groups)
       | else-self-from w ↦ subst P (sym w.self-is) (groups_later plan 0 old.begun old.groups.items c.requires.groups)
+    ]
+
+pub returns-clause-active : goal.returns-clause-active
+returns-clause-active c = λ rows h.
+    elim c.if-self-from.branch [
+      | then-self-from w ↦ subst (λ (t : Tallies). AreActive c.args.plan.now rows t.active.items) (sym w.self-is) (w.release_all.ensures.told rows h).active
+      | else-self-from w ↦ subst (λ (t : Tallies). AreActive c.args.plan.now rows t.active.items) (sym w.self-is) h.active
     ]

@@ -1,5 +1,6 @@
 use Rattle.std.proofs.Common.{◌++◌, ◌∷◌, [], length, sym, subst, arith}
 use Rattle.msrp_report.specs.Inside.Tallies.{AreGroups, AreTallies, HaveBegun, NoneReleased}
+use Rattle.msrp_report.proofs.ActiveRows.{cores_idle}
 use Rattle.msrp_report.proofs.RowSteps.{begun_push, tallies_idle}
 use Rattle.msrp_report.proofs.tallies.Tallies.feed.Goals as goal
 
@@ -13,6 +14,7 @@ returns-in_default c = λ rows told start.
       quiet = s.quiet;
       groups = s.groups;
       tallies = tallies_idle plan rows c.args.row n c.reach.new.self.tasks.items c.requires.plan c.in_default.is s.next s.tallies;
+      active = cores_idle plan rows c.args.row c.reach.new.self.active.items c.in_default.is s.active;
     }
 
 pub returns : goal.returns
@@ -26,4 +28,5 @@ returns c = λ rows told start.
       quiet = subst (λ b. NoneReleased plan (length plan.tasks) b c.count.new.self.next) (sym same) (subst (λ b. NoneReleased plan (length plan.tasks) n b) (sym c.count.ensures.next) s.quiet);
       groups = subst (λ b. AreGroups plan 0 b c.count.new.self.groups.items) (sym same) (subst (AreGroups plan 0 n) (sym c.count.ensures.groups) s.groups);
       tallies = subst (λ b. AreTallies plan (rows ++ c.args.row ∷ []) (λ _. b) c.count.new.self.tasks.items) (sym same) (c.count.ensures.told rows s.tallies s.next);
+      active = c.count.ensures.active rows s.tallies s.active s.next;
     }

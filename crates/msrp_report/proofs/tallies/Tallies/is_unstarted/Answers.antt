@@ -1,8 +1,7 @@
-use Rattle.std.proofs.Common.{ap}
-use Rattle.std.proofs.lemmas.Bool.{eqb-false}
+use Rattle.std.proofs.Common.{◌==◌, ap, sym, ◌∙◌, not}
 use Rattle.msrp_report.specs.declared.counts.JobCount.{JobCount}
-use Rattle.msrp_report.proofs.JobCounts.{rows_started}
+use Rattle.msrp_report.proofs.JobCounts.{started_by_rows}
 use Rattle.msrp_report.proofs.tallies.Tallies.is_unstarted.Goals as goal
 
 pub returns : goal.returns
-returns c = λ plan rows begun are e. rows_started rows c.args.job c.count_of.result.rows (ap (λ (x : JobCount). x.rows) (c.count_of.ensures plan rows begun are)) (eqb-false c.count_of.result.rows 0 e)
+returns c = λ plan rows begun are. started_by_rows rows c.args.job ∙ ap (λ (x : JobCount). not (x.rows == 0)) (sym (c.count_of.ensures plan rows begun are))

@@ -1,15 +1,16 @@
 use Rattle.std.proofs.Common.{◌<◌, arith}
 use Rattle.msrp_plan.specs.declared.rows.Row.{Row as TraceRow}
 use Rattle.msrp_plan.proofs.Lists.AnyAll.{all_weaker}
-use Rattle.msrp_report.proofs.RowSteps.{tick_begun, tick_left}
+use Rattle.msrp_report.proofs.OwnRows.{tick_left}
+use Rattle.msrp_report.proofs.RowSteps.{tick_begun}
 use Rattle.msrp_report.proofs.TallySteps.{none_begun}
 use Rattle.msrp_report.proofs.tallies.Tallies.reach.Goals as goal
 
 pub returns-then-row-self : goal.returns-then-row-self
-returns-then-row-self c = λ rows told start. record { early = told.begun.early; quiet = told.quiet; groups = told.groups; tallies = told.tallies; next = record { start = start; tick = tick_begun c.args.plan.now rows c.args.row c.args.self.now.begun told.begun start c.if-row-self.true } }
+returns-then-row-self c = λ rows told start. record { early = told.begun.early; quiet = told.quiet; groups = told.groups; tallies = told.tallies; active = told.active; next = record { start = start; tick = tick_begun c.args.plan.now rows c.args.row c.args.self.now.begun told.begun start c.if-row-self.true } }
 
 pub begin-requires-clause-told : goal.begin-requires-clause-told
-begin-requires-clause-told c = let t = c.requires.told in (t.0, record { early = t.1.begun.early; tallies = none_begun c.args.plan.now t.0 c.args.self.now.begun c.args.self.now.tasks.items t.1.tallies })
+begin-requires-clause-told c = let t = c.requires.told in (t.0, record { early = t.1.begun.early; tallies = none_begun c.args.plan.now t.0 c.args.self.now.begun c.args.self.now.tasks.items t.1.tallies; active = t.1.active })
 
 pub begin-requires-clause-next : goal.begin-requires-clause-next
 begin-requires-clause-next c = c.requires.told.1.quiet
@@ -29,6 +30,7 @@ returns c = λ rows told start.
       early = all_weaker (λ (x : TraceRow). x.tick < before) (λ x. x.tick < c.begin.new.self.begun) (λ x h. omega (arith, h, next)) rows told.begun.early;
       quiet = c.begin.ensures.next;
       groups = c.begin.ensures.groups;
-      tallies = c.begin.ensures.told rows (record { early = told.begun.early; tallies = none_begun c.args.plan.now rows before c.args.self.now.tasks.items told.tallies });
+      tallies = c.begin.ensures.told rows (record { early = told.begun.early; tallies = none_begun c.args.plan.now rows before c.args.self.now.tasks.items told.tallies; active = told.active });
+      active = c.begin.ensures.active rows (record { early = told.begun.early; tallies = none_begun c.args.plan.now rows before c.args.self.now.tasks.items told.tallies; active = told.active });
       next = record { start = start; tick = omega (arith, next, same) };
     }

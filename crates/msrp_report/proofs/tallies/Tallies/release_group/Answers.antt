@@ -20,4 +20,4 @@ returns-then-from-index-clause-told c = λ rows h.
     let within = group_within plan g (length gs) c.requires.groups.size c.requires.group in
     let ahead = c.if-from-index.true in
     let from = c.from.ensures in
-    record { early = h.early; tallies = group_waits plan rows c.args.self.now.begun due (g * 8) (group_end plan g) c.args.self.now.tasks.items (omega (arith, within)) (c.requires.groups.quiet g due (omega arith) has) (omega (arith, ahead, from)) c.requires.left h.tallies }
+    record { early = h.early; tallies = group_waits plan rows c.args.self.now.begun due (g * 8) (group_end plan g) c.args.self.now.tasks.items (omega (arith, within)) (c.requires.groups.quiet g due (omega arith) has) (omega (arith, ahead, from)) c.requires.left h.tallies; active = h.active }

@@ -23,4 +23,4 @@ returns c =
     let i = c.loop-task.invariant in
     let all : c.loop-task.task ≡ length c.args.plan.now.tasks = (let t = c.tasks-task-end.ensures.value in let past = c.loop-task-test.false in let end = c.loop-task.auto.task-end in omega (arith, t, past, end)) in
     let size = c.tasks-2.ensures.value in
-    tallies_untold c.args.plan.now _ ((c.tasks-2.result + 8 - 1) / 8) c.tasks-task-end.ensures.plan refl refl (c.in_ok-vec.ensures.items_if_clones_equal (λ y e. e)) (ap (λ n. (n + 8 - 1) / 8) size ∙ ap (λ n. n / 8) (omega arith)) (i.size ∙ all) i.each
+    tallies_untold c.args.plan.now _ ((c.tasks-2.result + 8 - 1) / 8) c.tasks-task-end.ensures.plan refl refl (c.in_ok-vec.ensures.items_if_clones_equal (λ y e. e)) (ap (λ n. (n + 8 - 1) / 8) size ∙ ap (λ n. n / 8) (omega arith)) (i.size ∙ all) i.each c.in_ok-none_active.ensures
