@@ -3,10 +3,16 @@ pub mod Foresight
 pub mod Judging
 pub mod Scanning
 pub mod Merging
+pub mod NextNamed
 pub mod Parts
 pub mod Orders
+pub mod InOrder
 pub mod OwnRows
 pub mod Following
 pub mod Again
 pub mod Queueing
 pub mod Turned
+pub mod Standing
+pub mod OnceMore
+pub mod TurnRows
+pub mod Stretched

@@ -16,7 +16,7 @@ use Rattle.msrp_plan.proofs.Runs.Verdicts.{start_before, start_last}
 use Rattle.msrp_audit.specs.Audits.{has_turn}
 use Rattle.msrp_audit.specs.Inside.Walks.{KeepsOrder}
 use Rattle.msrp_audit.proofs.Judging.{in_turn_is, tick_now}
-use Rattle.msrp_audit.proofs.Scanning.{row_is, split_length, start_at}
+use Rattle.msrp_audit.proofs.Scanning.{split_length, start_at}
 
 -- ---- ticks by places
 pub next_tick : (t m : ℕ) → (t + 1) * m ≡ t * m + m
@@ -55,18 +55,6 @@ in_tick cores i k low high =
     let whole = div-add-mod' i cores in
     let next = next_tick q cores in
     sym (tick_now q cores (k - q * cores) k (omega (arith, whole, next, low, high)) (omega (arith, whole, low)))
-
--- ---- one row more that keeps the order
-pub keeps_more : (cores : ℕ) (rows : List Row) (i : ℕ) (x y : Row) → cores ≤ i → i < length rows → x ≡ get_or rows i x → y ≡ get_or rows (i - cores) y → x.core.0 ≡ y.core.0 → KeepsOrder cores rows i → KeepsOrder cores rows (i + 1)
-keeps_more cores rows i x y past within at before own keeps j r s low here there = elim (cases_lt (j + cores) i) [
-  | inl less ↦ keeps j r s less here there
-  | inr more ↦
-      let same : j + cores ≡ i = omega (arith, more, low) in
-      let back : j ≡ i - cores = omega (arith, same) in
-      let is : s ≡ x = row_is rows i x s within at (ap (slice_get rows) (sym same) ∙ there) in
-      let was : r ≡ y = row_is rows (i - cores) y r (omega (arith, past, within)) before (ap (slice_get rows) (sym back) ∙ here) in
-      ap (λ (w : Row). w.core.0) is ∙ (own ∙ ap (λ (w : Row). w.core.0) (sym was))
-]
 
 module _ (plan : PlanModel) (rows : List Row) where
   split_at : (i : ℕ) (x : Row) → i < length rows → x ≡ get_or rows i x → rows ≡ take i rows ++ x ∷ drop (i + 1) rows

@@ -1,12 +1,11 @@
 -- What the rows on one resource tell of its queue, and whether they have its reply.
-use Rattle.std.proofs.Common.{◌≡◌, ℕ, zero, suc, ◌+◌, ◌-◌, ◌<◌, ◌≤◌, ◌&&◌, eqb-true, Bool, true, false, not, cond, List, [], ◌∷◌, ◌++◌, Option, Some, None, refl, ap, sym, ◌∙◌, subst, arith, length, length-drop, take, drop, append-nil, get_or}
-use Rattle.std.specs.List.{count_by, filter_map, cons_option, position, position_or_len}
+use Rattle.std.proofs.Common.{◌≡◌, ℕ, zero, suc, ◌+◌, ◌-◌, ◌*◌, ◌<◌, ◌≤◌, ◌&&◌, eqb-true, Bool, true, false, cond, List, [], ◌∷◌, ◌++◌, Option, Some, None, refl, ap, sym, ◌∙◌, subst, arith, length, take, append-nil, get_or}
+use Rattle.std.specs.List.{count_by, filter_map, cons_option}
 use Rattle.std.proofs.Math.Bool.{and-false}
-use Rattle.std.proofs.lemmas.Bool.{not-true}
-use Rattle.std.proofs.lemmas.List.{get_or-drop}
-use Rattle.std.proofs.lemmas.List.Sums.{prefix_len-le-length, prefix_len_passes, sum_by_push}
-use Rattle.std.proofs.lemmas.List.Quantifiers.{position-Some}
+use Rattle.std.proofs.Math.Nat.{mul-le-mul_left}
+use Rattle.std.proofs.lemmas.List.Sums.{sum_by_push}
 use Rattle.std.proofs.lemmas.List.Elements.{filter_map-append}
+use Rattle.std.proofs.lemmas.Option.{slice_get_read, slice_get_within}
 use Rattle.msrp_plan.specs.Plan.{PlanModel}
 use Rattle.msrp_plan.specs.Levels.{is_global}
 use Rattle.msrp_plan.specs.Queues.{is_on, is_request, is_release, requester, is_release_of, fifo, is_reply_of}
@@ -20,6 +19,8 @@ use Rattle.msrp_plan.specs.declared.requests.Requests.{Requests}
 use Rattle.msrp_plan.specs.declared.rows.Row.{Row}
 use Rattle.msrp_plan.proofs.Queues.QueueLocks.{global_named}
 use Rattle.msrp_plan.proofs.Queues.QueueMembers.{queue_at, queue_short}
+use Rattle.msrp_audit.specs.declared.naming.Named.{Named}
+use Rattle.msrp_audit.specs.Inside.Naming.{AreOff, IsNextNamed}
 use Rattle.msrp_audit.specs.Inside.Pieces.{broken_reply, TellsFirst}
 use Rattle.msrp_audit.specs.declared.pieces.Piece.TheVariants.{Resource}
 use Rattle.msrp_audit.proofs.Scanning.{PassesTo, one_more, passes_all, passes_more, ends_at, finds_at}
@@ -72,65 +73,46 @@ module _ (plan : PlanModel) (res : ResId) (rows : List Row) (i : ℕ) (x : Row) 
         omega (arith, short, size, long) in
         ends_at plan (broken_reply plan res.0) rows i x passes at (λ start. absurd (bad start)) (λ start legal. bad start)
 
+-- the rows of a run of the plan are few
+pub few_rows : (plan : PlanModel) (n : ℕ) → IsPlan plan → n ≤ plan.cores * plan.ticks → n ≤ 160000
+few_rows plan n ok few =
+    let few_cores = ok.draft.cores.1 in
+    let most = mul-le-mul_left plan.cores ok.draft.ticks.1 in
+    omega (arith, few, few_cores, most)
+
 -- ---- the queue is known up to a place, and all rows before it have its reply
 pub record StandsAt (plan : PlanModel) (res : ResId) (rows : List Row) (kept : Requests) (i : ℕ) : Type 0 where
   pub within : i ≤ length rows
   pub has : HasTaken kept res.0 (take i rows)
   pub passes : PassesTo plan (broken_reply plan res.0) rows i
 
--- how many rows from a place on come before the first that names the resource
-abbrev until_naming : ResId → ℕ → List Row → ℕ
-until_naming res i rows = position_or_len (λ (r : Row). is_on res.0 r.res) (drop i rows)
-
--- the place of a row that names it is one of theirs
-pub reached : (res : ResId) (rows : List Row) (i more : ℕ) → position (λ (r : Row). is_on res.0 r.res) (drop i rows) ≡ Some more → i + more < length rows
-reached res rows i more e =
-    let left = length-drop i rows in
-    let inside : more < length (drop i rows) = grind (arith) in
-    omega (arith, inside, left)
-
 module _ (plan : PlanModel) (res : ResId) (rows : List Row) (kept : Requests) where
   -- rows that are off it are passed over
-  pass_over : (n i : ℕ) → i + n ≤ length rows → ((j : ℕ) (d : Row) → i ≤ j → j < i + n → is_on res.0 (get_or rows j d).res ≡ false) → StandsAt plan res rows kept i → StandsAt plan res rows kept (i + n)
+  pass_over : (n i : ℕ) → i + n ≤ length rows → AreOff res rows i (i + n) → StandsAt plan res rows kept i → StandsAt plan res rows kept (i + n)
   pass_over zero i within off at = subst (StandsAt plan res rows kept) (let same : i ≡ i + 0 = omega arith in same) at
   pass_over (suc n) i within off at =
       let low : i < length rows = omega (arith, within) in
       let some = row_at rows i low in
       let x = some.0 in
-      let free : is_on res.0 x.res ≡ false = ap (λ (r : Row). is_on res.0 r.res) some.1 ∙ off i x (omega arith) (omega arith) in
+      let free : is_on res.0 x.res ≡ false = off i (omega arith) (omega arith) x (slice_get_read rows (length rows) i x refl low some.1) in
       let next : StandsAt plan res rows kept (i + 1) = record {
         within = omega (arith, low);
         has = subst (HasTaken kept res.0) (sym (one_more rows i x low some.1)) (off_taken kept res.0 (take i rows) x free at.has);
         passes = off_passes plan res rows i x some.1 at.passes free;
       } in
       let same : (i + 1) + n ≡ i + suc n = omega arith in
-      subst (StandsAt plan res rows kept) same (pass_over n (i + 1) (omega (arith, within)) (λ j d from to. off j d (omega (arith, from)) (omega (arith, to))) next)
+      subst (StandsAt plan res rows kept) same (pass_over n (i + 1) (omega (arith, within)) (λ j from to. off j (omega (arith, from)) (omega (arith, to))) next)
 
-  pub passed : (i : ℕ) → StandsAt plan res rows kept i → StandsAt plan res rows kept (i + until_naming res i rows)
-  passed i at =
-      let p : Row → Bool = λ r. is_on res.0 r.res in
-      let n = until_naming res i rows in
-      let few = prefix_len-le-length (λ r. not (p r)) (drop i rows) in
-      let left = length-drop i rows in
-      let within = at.within in
-      pass_over n i (omega (arith, few, left, within)) (λ j d from to.
-      let k = j - i in
-      let there : i + k ≡ j = omega (arith, from) in
-      let other = prefix_len_passes (λ r. not (p r)) (drop i rows) k d (omega (arith, to, from)) in
-      ap (λ m. p (get_or rows m d)) (sym there) ∙ (ap p (sym (get_or-drop i rows k d)) ∙ not-true (p (get_or (drop i rows) k d)) other)) at
+  passed : (i end : ℕ) → i ≤ end → end ≤ length rows → AreOff res rows i end → StandsAt plan res rows kept i → StandsAt plan res rows kept end
+  passed i end some within off at =
+      let same : i + (end - i) ≡ end = omega (arith, some) in
+      subst (StandsAt plan res rows kept) same (pass_over (end - i) i (omega (arith, some, within)) (λ j from to. off j from (omega (arith, some, to))) at)
 
-  -- the first row that names the resource stands behind those; and where there is none, the end
-  pub reaches : (i more : ℕ) (x : Row) → position (λ (r : Row). is_on res.0 r.res) (drop i rows) ≡ Some more → x ≡ get_or rows (i + more) x → StandsAt plan res rows kept i → (i + more < length rows) × (is_on res.0 x.res ≡ true) × StandsAt plan res rows kept (i + more)
-  reaches i more x e there at =
-      let p : Row → Bool = λ r. is_on res.0 r.res in
-      let first = position-Some p (drop i rows) more x e in
-      let same : until_naming res i rows ≡ more = grind (arith) in
-      (reached res rows i more e, ap p (there ∙ sym (get_or-drop i rows more x)) ∙ first.1, subst (λ n. StandsAt plan res rows kept (i + n)) same (passed i at))
+  -- the next row that names the resource stands behind those; and where there is none, the end
+  pub reaches : (i : ℕ) (named : Named) → IsNextNamed res rows i named → StandsAt plan res rows kept i → (named.place < length rows) × StandsAt plan res rows kept named.place
+  reaches i named next at =
+      let within = slice_get_within rows named.place named.row next.there in
+      (within, passed i named.place next.behind (omega (arith, within)) next.off at)
 
-  pub ends : (i : ℕ) → position (λ (r : Row). is_on res.0 r.res) (drop i rows) ≡ None → StandsAt plan res rows kept i → TellsFirst plan (broken_reply plan res.0) rows None
-  ends i e at =
-      let n = until_naming res i rows in
-      let left = length-drop i rows in
-      let within = at.within in
-      let past : length (drop i rows) ≤ n = grind (arith) in
-      passes_all plan (broken_reply plan res.0) rows (i + n) (omega (arith, past, left, within)) (passed i at).passes
+  pub ends : (i : ℕ) → AreOff res rows i (length rows) → StandsAt plan res rows kept i → TellsFirst plan (broken_reply plan res.0) rows None
+  ends i off at = passes_all plan (broken_reply plan res.0) rows (length rows) (omega arith) (passed i (length rows) at.within (omega arith) off at).passes

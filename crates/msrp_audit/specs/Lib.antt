@@ -1,4 +1,3 @@
 pub mod Foresight
 pub mod Audits
 pub mod Inside
-pub mod Narrow

@@ -1,17 +1,18 @@
 //! The rows of one core: A2 to A4.
-ghost use Rattle.std.specs.Prelude.{◌≡◌, ◌<◌, ◌≤◌, ◌*◌, ◌+◌, ◌/◌, ◌++◌, ◌∷◌, ◌==◌, ◌^◌, [], List, IfOk, None, length, nat_lt, true, if◌then◌else◌};
+ghost use Rattle.std.specs.Prelude.{◌≡◌, ◌<◌, ◌≤◌, ◌*◌, ◌+◌, ◌/◌, ◌++◌, ◌∷◌, ◌==◌, ◌^◌, [], List, IfOk, None, length, nat_lt, slice_index_or, true, if◌then◌else◌};
 ghost use Rattle.msrp_plan.specs.Logs.{log_of};
 ghost use Rattle.msrp_plan.specs.Runs.{IsRunStart, is_in_turn};
 ghost use Rattle.msrp_plan.specs.WellFormed.{IsPlan};
 ghost use Rattle.msrp_plan.specs.declared.rows.Row.{Row as TraceRow};
 ghost use Rattle.msrp_core.specs.Machine.{StandsAfter};
 ghost use Rattle.msrp_audit.specs.Inside.Pieces.{broken_action, broken_on_core, TellsFirst};
-ghost use Rattle.msrp_audit.specs.Inside.Walks.{HasFollowed, KeepsOrder, NextDoesAs};
+ghost use Rattle.msrp_audit.specs.Inside.Walks.{HasFollowed, KeepsOrder, NextDoesAs, StandsAgain};
 
 use crate::auditor::is_own;
 use crate::comparing::unlike_turn;
 use crate::gathered::Rows;
 use crate::replies::{known_as, turn_as};
+use crate::stretches::Stretch;
 use msrp_core::Machine;
 use msrp_levels::Levels;
 use msrp_plan::{CoreId, Fault, Memory, Plan, Row, Rule};
@@ -75,30 +76,56 @@ fn follow(plan: &Plan, machine: &mut Machine<'_>, row: Row) -> Option<Rule>
     unlike
 }
 
+// The row at this index, where a core has its next turn in that tick, and the tick before which it is told to stand in the same place of each.
+#[inline(always)]
+fn row_at(
+    rows: &Rows<'_>,
+    cores: u32,
+    core: CoreId,
+    tick: u32,
+    index: usize,
+    near: &mut usize,
+) -> Stretch
+    requires { index < length rows.now }
+    ensures row { (d : TraceRow) → result.row ≡ slice_index_or rows.now index d }
+    ensures again { StandsAgain cores rows.now result.row index (tick + 1) result.until }
+{
+    if tick as usize * cores as usize + core.0 as usize == index {
+        if let Some(stretch) = rows.stretch(cores, core, tick, near) {
+            return stretch;
+        }
+    }
+    Stretch {
+        row: rows.row(index),
+        until: 0,
+    }
+}
+
 // Follows the rows behind this one, in the same place of each next tick, as long as they are this one again and the machine is known to make it.
-// It answers where the last of them stands.
+// No row is looked at while this one is told to stand. It answers where the last of them stands.
 fn follow_again(
     plan: &Plan,
     machine: &mut Machine<'_>,
     rows: &Rows<'_>,
     steady: usize,
-    row: Row,
+    first: Stretch,
     index: usize,
 ) -> usize
     requires rows { length rows.now ≤ plan.now.cores * plan.now.ticks }
     requires steady { KeepsOrder plan.now.cores rows.now steady }
-    requires core { row.core.0 < plan.now.cores }
-    requires followed { HasFollowed plan.now rows.now row index machine.old }
-    ensures followed { HasFollowed plan.now rows.now row result machine.new }
+    requires core { first.row.core.0 < plan.now.cores }
+    requires followed { HasFollowed plan.now rows.now first.row index machine.old }
+    requires again { StandsAgain plan.now.cores rows.now first.row index machine.old.tick first.until }
+    ensures followed { HasFollowed plan.now rows.now first.row result machine.new }
     ensures behind { index ≤ result }
 {
     let cores = plan.cores() as usize;
     let mut last = index;
     while last + cores < steady {
-        if !rows.repeats(last, last + cores) {
+        if machine.tick() >= first.until && !rows.repeats(last, last + cores) {
             return last;
         }
-        match known_as(machine, row.kind) {
+        match known_as(machine, first.row.kind) {
             Some(_) => last += cores,
             None => return last,
         }
@@ -123,10 +150,13 @@ pub(crate) fn judge_core(
     ensures { IfOk result (TellsFirst plan.now (broken_on_core plan.now core.0) rows.now) }
 {
     let mut machine = Machine::with_room(alloc, plan, levels, core)?;
+    let cores = plan.cores();
     let count = rows.len();
+    let mut near = 0;
     let mut index = 0;
     while index < count {
-        let row = rows.row(index);
+        let first = row_at(rows, cores, core, machine.tick(), index, &mut near);
+        let row = first.row;
         if row.core == core {
             if !is_in_turn(plan, &machine, row, index) {
                 return Ok(None);
@@ -137,9 +167,9 @@ pub(crate) fn judge_core(
                     rule,
                 }));
             }
-            let last = follow_again(plan, &mut machine, rows, steady, row, index);
+            let last = follow_again(plan, &mut machine, rows, steady, first, index);
             // No other row of the core is in its turn in this tick.
-            index = place_after(plan.cores(), steady, machine.tick(), last);
+            index = place_after(cores, steady, machine.tick(), last);
         } else {
             index += 1;
         }

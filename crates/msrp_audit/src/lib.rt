@@ -8,10 +8,13 @@ mod auditor;
 mod comparing;
 mod core_rows;
 mod gathered;
+mod kept;
+mod naming;
 mod parallel;
 mod pieces;
 mod queues;
 mod replies;
+mod stretches;
 mod turns;
 mod verdicts;
 

@@ -7,6 +7,7 @@ ghost use Rattle.msrp_plan.specs.Jobs.{same_job};
 ghost use Rattle.msrp_audit.specs.Inside.Pieces.{broken_reply, TellsFirst};
 
 use crate::gathered::Rows;
+use crate::naming::Naming;
 use msrp_levels::Levels;
 use msrp_plan::{Fault, JobId, Kind, Memory, Plan, Requests, ResId, Row, Rule};
 use std::alloc::Global;
@@ -92,22 +93,19 @@ pub(crate) fn judge_resource(
     }
     let cores = plan.cores() as usize;
     let mut requests = Requests::of(alloc, res);
-    let mut from = 0;
-    while let Some(more) = rows.since(from).first_naming(res) {
-        let place = from + more;
-        let row = rows.row(place);
+    let mut naming = Naming::of(plan, rows, res);
+    while let Some(named) = naming.next(rows, res) {
         let queue = requests.queue();
         if queue.len() > cores {
             return Ok(None);
         }
-        if !is_reply(queue, row) {
+        if !is_reply(queue, named.row) {
             return Ok(Some(Fault {
-                row: place as u32 + 1,
+                row: named.place as u32 + 1,
                 rule: Rule::A5,
             }));
         }
-        requests.take(&row)?;
-        from = place + 1;
+        requests.take(&named.row)?;
     }
     Ok(None)
 }

@@ -18,7 +18,7 @@ pub(crate) fn steady_rows(plan: &Plan, rows: &Rows<'_>) -> usize
     ensures { KeepsOrder plan.now.cores rows.now result }
 {
     let cores = plan.cores() as usize;
-    for index in cores..rows.len() {
+    for index in rows.in_order(plan.cores()).max(cores)..rows.len() {
         let row = rows.row(index);
         let before = rows.row(index - cores);
         if row.core.0 != before.core.0 {
@@ -80,7 +80,7 @@ fn tick_end(rows: &Rows<'_>, tick: usize, start: usize, end: usize) -> usize
     end
 }
 
-// The same as `turns_end`, of which only the ticks are looked at where the rows are steady.
+// The same as `turns_end`, of which only the ticks are looked at where the rows are steady, and nothing where they are told to be in order.
 fn judge_tick(
     plan: &Plan,
     rows: &Rows<'_>,
@@ -99,7 +99,11 @@ fn judge_tick(
     ensures turns { AreInTurn plan.now rows.now start result end }
 {
     if tick > 0 && end <= steady {
-        tick_end(rows, tick, start, end)
+        if end <= rows.in_order(plan.cores()) {
+            end
+        } else {
+            tick_end(rows, tick, start, end)
+        }
     } else {
         turns_end(plan, rows, tick, start, end)
     }

@@ -1,5 +1,5 @@
 //! The audit of a trace's text in pieces: the rows are gathered, and then judged side by side.
-ghost use Rattle.std.specs.Prelude.{◌≡◌, ◌++◌, List, [], true, Some, Err, IfErr};
+ghost use Rattle.std.specs.Prelude.{ℕ, ◌≡◌, ◌<◌, ◌≤◌, List, [], true, Some, IfErr};
 ghost use Rattle.msrp_audit.specs.Audits.{HasFed};
 ghost use Rattle.msrp_plan.specs.declared.rows.Row.{Row as TraceRow};
 ghost use Rattle.msrp_trace.specs.Reading.{Told, rows_of};
@@ -7,7 +7,8 @@ ghost use Rattle.msrp_engine.specs.Answered.{Answered, OfText, OfTexts, ReadsBot
 ghost use Rattle.msrp_engine.specs.AuditText.{AuditAnswers};
 ghost use Rattle.msrp_engine.specs.Findings.{finding, finding_of};
 ghost use Rattle.msrp_engine.specs.Judging.{rows_left};
-ghost use Rattle.msrp_engine.specs.Inside.Gathered.{AreAgain, AreLike, Gathers, IsGathered, IsGatheredTo, Replaces, found_in, is_missing};
+ghost use Rattle.msrp_engine.specs.Inside.Gathered.{AreLike, Gathers, IsGathered, IsGatheredTo, found_in, is_missing};
+ghost use Rattle.msrp_engine.specs.Inside.Kept.{row_of_core};
 ghost use Rattle.msrp_engine.specs.Inside.Ticks.{AreRowsOf};
 ghost use Rattle.msrp_faults.specs.Outcomes.{is_trace_fault, is_audit_fault};
 
@@ -25,46 +26,22 @@ use std::alloc::Global;
 use std::io::{Read, Write};
 use std::thread::Threads;
 
-// Gathers the rows of a tick that were taken, one by one.
-#[inline(never)]
-fn push_rows<T: Read>(
-    rows: &JudgedRows<'_, '_, T>,
-    tick: u32,
-    cores: u32,
-    gathered: &mut Gathered,
-) -> Result<(), Memory>
-    ensures { (more : List TraceRow) → AreRowsOf rows.now tick cores more → Gathers result gathered.old gathered.new more }
-{
-    for core in 0..cores {
-        gathered.push(rows.row_in(tick, CoreId(core)))?;
-    }
-    Ok(())
-}
-
-// Puts the rows of a tick that were made anew in the places of those that were gathered last, one for each core, and answers
-// whether it did.
+// The first core from there on whose row was made anew in a tick whose rows were taken, or the number of cores.
 #[inline(always)]
-fn replace_anew<T: Read>(
-    rows: &JudgedRows<'_, '_, T>,
-    tick: u32,
-    cores: u32,
-    gathered: &mut Gathered,
-) -> bool
-    ensures { (old again more : List TraceRow) → gathered.old ≡ old ++ again → AreRowsOf rows.now tick cores more → AreAgain rows.now tick again more → Replaces result old gathered.new more }
+fn anew_from<T: Read>(rows: &JudgedRows<'_, '_, T>, tick: u32, core: u32, cores: u32) -> u32
+    requires { core ≤ cores }
+    ensures from { core ≤ result }
+    ensures within { result ≤ cores }
+    ensures again { (c : ℕ) → core ≤ c → c < result → ¬ ((row_of_core rows.now.lasts c).tick ≡ tick) }
 {
-    for core in 0..cores {
-        if rows.is_anew(tick, CoreId(core)) {
-            let row = rows.row_in(tick, CoreId(core));
-            if !gathered.replace((cores - core) as usize, row) {
-                return false;
-            }
-        }
+    let mut anew = core;
+    while anew < cores && !rows.is_anew(tick, CoreId(anew)) {
+        anew += 1;
     }
-    true
+    anew
 }
 
-// Gathers the rows of a tick that were taken: all of the tick before once more, and then those that were made anew in their
-// places. Where that can't be done, as in the first tick, they are gathered one by one.
+// Gathers the rows of a tick that were taken. Those that weren't made anew are their cores' rows of the tick before once more.
 #[inline(always)]
 fn gather_tick<T: Read>(
     rows: &JudgedRows<'_, '_, T>,
@@ -75,13 +52,22 @@ fn gather_tick<T: Read>(
     requires { AreLike rows.now tick cores gathered.old }
     ensures { (more : List TraceRow) → AreRowsOf rows.now tick cores more → Gathers result gathered.old gathered.new more }
 {
-    if gathered.repeat(cores as usize, tick)? {
-        if replace_anew(rows, tick, cores, gathered) {
-            return Ok(());
+    let are_behind = gathered.len() >= cores as usize;
+    let mut core = 0;
+    while core < cores {
+        if are_behind {
+            let anew = anew_from(rows, tick, core, cores);
+            if core < anew {
+                gathered.again(cores as usize, (anew - core) as usize, tick)?;
+                core = anew;
+            }
         }
-        gathered.cut(cores as usize);
+        if core < cores {
+            gathered.push(rows.row_in(tick, CoreId(core)))?;
+            core += 1;
+        }
     }
-    push_rows(rows, tick, cores, gathered)
+    Ok(())
 }
 
 // Gathers the rows of whole ticks from the first one on, as long as they come by the numbers of the cores.
@@ -181,7 +167,7 @@ fn judge_all<T: Read>(
 {
     // One row more than are due is a fault, whatever stands behind it.
     let most = plan.cores() as usize * plan.ticks() as usize + 1;
-    let mut gathered = Gathered::with_room(alloc, most)?;
+    let mut gathered = Gathered::with_room(alloc, plan)?;
     let levels = Levels::of(alloc, plan)?;
     let auditor = Auditor::with_room(alloc, plan, &levels)?;
     let reader = TraceReader::new(alloc, trace, plan)?;

@@ -1,11 +1,11 @@
 -- How gathered rows are kept: those whose numbers are small in ten bytes, with a value in place of each part that a row of their
 -- kind lacks, and the rest as they are.
-use Rattle.std.specs.Prelude.{ℕ, List, ◌++◌, map}
+use Rattle.std.specs.Prelude.{List, ◌++◌, map}
 use Rattle.msrp_plan.specs.Shape.{ahead_of_kind, carrier_of_kind, job_of_kind, res_of_kind, shape_of_kind}
 use Rattle.msrp_plan.specs.declared.ids.JobId.{JobId}
 use Rattle.msrp_plan.specs.declared.ids.ResId.{ResId}
 use Rattle.msrp_plan.specs.declared.rows.Row.{Row}
-use Rattle.msrp_audit.specs.declared.gathered.KeptRow.{KeptRow}
+use Rattle.msrp_audit.specs.declared.kept.KeptRow.{KeptRow}
 
 -- the job and the resource whose numbers are kept so
 abbrev pub job_in : KeptRow → JobId
@@ -26,10 +26,6 @@ row_of e = record {
   shape = shape_of_kind e.what.kind (job_in e) (res_in e);
   carrier = carrier_of_kind e.what.kind e.what.carries e.what.ahead;
 }
-
--- the same in this tick
-abbrev pub kept_in_tick : ℕ → KeptRow → KeptRow
-kept_in_tick t e = record { tick = t; what = e.what }
 
 -- the rows that are kept so, and then the rest
 abbrev pub rows_of : List KeptRow → List Row → List Row

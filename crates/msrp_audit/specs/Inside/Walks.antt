@@ -1,5 +1,5 @@
 -- What a piece of an audit keeps as it goes over the rows, and what is found once for all pieces.
-use Rattle.std.specs.Prelude.{ℕ, List, ◌∷◌, ◌++◌, ◌+◌, ◌/◌, Bool, Some, None, IfSome, true, false, slice_index_or, slice_get, take, length, ◌≡◌, ◌≢◌, ◌<◌, ◌≤◌}
+use Rattle.std.specs.Prelude.{ℕ, List, ◌∷◌, ◌++◌, ◌+◌, ◌*◌, ◌/◌, Bool, Some, None, IfSome, true, false, slice_index_or, slice_get, take, length, ◌≡◌, ◌≢◌, ◌<◌, ◌≤◌}
 use Rattle.msrp_plan.specs.Plan.{PlanModel}
 use Rattle.msrp_plan.specs.Logs.{log_of}
 use Rattle.msrp_plan.specs.Runs.{IsRunStart, had_turn, is_in_turn}
@@ -32,6 +32,10 @@ pub record AreInTick (rows : List Row) (tick start place end : ℕ) : Type 0 whe
 -- where the row of the machine's next turn is known, this one has its job and its action
 abbrev pub NextDoesAs : MachineModel → Row → Type 0
 NextDoesAs m r = IfSome (next_known m) (λ next. unlike_turn r next ≡ None)
+
+-- behind this place the row stands again in the same place of each tick from t on and before another
+abbrev pub StandsAgain : ℕ → List Row → Row → ℕ → ℕ → ℕ → Type 0
+StandsAgain cores rows r i t until = (d : ℕ) → t + d < until → slice_get rows (i + (d + 1) * cores) ≡ Some (in_tick (t + d) r)
 
 -- a core's machine followed the rows up to this place, where this row stands in the tick of the place: none of the core's rows breaks a rule, and
 -- where they are the start of a legal run the machine stands after them

@@ -34,16 +34,6 @@ pub record IsGathered (most : ℕ) (told : Told) (rows : List Row) (ended : Resu
 abbrev pub AreLike : {T : Type 0} → JudgedRows T → ℕ → ℕ → List Row → Type 0
 AreLike j t cores gathered = (c : ℕ) → c < cores → ¬ ((row_of_core j.lasts c).tick ≡ t) → (r : Row) → cores ≤ length gathered + c → slice_get gathered (length gathered + c - cores) ≡ Some r → in_tick t (as_read j.rows.version (row_of_core j.lasts c)) ≡ in_tick t r
 
--- these rows are those of the tick, but for the ones that were made anew in it
-pub record AreAgain {T : Type 0} (j : JudgedRows T) (t : ℕ) (again more : List Row) : Type 0 where
-  pub size : length again ≡ length more
-  pub each : (c : ℕ) → c < length more → ¬ ((row_of_core j.lasts c).tick ≡ t) → slice_get again c ≡ slice_get more c
-
--- these rows stand behind those that were gathered, or else as many others
-abbrev pub Replaces : Bool → List Row → List Row → List Row → Type 0
-Replaces true old new more = new ≡ old ++ more
-Replaces false old new more = (others : List Row) × (new ≡ old ++ others) × (length others ≡ length more)
-
 -- these rows were put behind those that were gathered, or, where memory was refused, the first of them
 abbrev pub Gathers : Result ⊤ Memory → List Row → List Row → List Row → Type 0
 Gathers (Ok done) old new more = new ≡ old ++ more

@@ -7,6 +7,7 @@ use Rattle.msrp_plan.specs.Runs.{IsRunStart, is_in_turn}
 use Rattle.msrp_plan.specs.Stretches.{in_tick}
 use Rattle.msrp_core.specs.Machine.{StandsAfter}
 use Rattle.msrp_audit.specs.Inside.Pieces.{broken_on_core}
+use Rattle.msrp_audit.specs.Inside.Walks.{StandsAgain}
 use Rattle.msrp_audit.proofs.Scanning.{PassesTo, passes_all}
 use Rattle.msrp_audit.proofs.OwnRows.{ends_here, breaks_here, passes_here, stands_here, passes_by, stands_by}
 use Rattle.msrp_audit.proofs.Again.{leaps, passes_on, stands_at}
@@ -17,12 +18,12 @@ returns-then-not-is_in_turn c =
     let rows = c.args.rows.now in
     let i = c.loop-index.index in
     let v = c.loop-index.invariant in
-    let own = eqb-true c.row-row.result.core.0 c.args.core.0 (sym c.eq.ensures ∙ c.if-eq.true) in
+    let own = eqb-true c.row_at-first.result.row.core.0 c.args.core.0 (sym c.eq.ensures ∙ c.if-eq.true) in
     let test = c.loop-index-test.true in
     let all = c.len-count.ensures in
     let within : i < length rows = omega (arith, test, all) in
     let size = sym (length-take-le i rows (omega (arith, within))) in
-    ends_here c.args.plan.now c.args.core rows i c.row-row.result within (c.row-row.ensures c.row-row.result) v.passes own
+    ends_here c.args.plan.now c.args.core rows i c.row_at-first.result.row within (c.row_at-first.ensures.row c.row_at-first.result.row) v.passes own
     (λ start. sym c.if-not-is_in_turn.true ∙ c.is_in_turn.ensures.turn (take i rows) size start (subst (λ n. StandsAfter c.loop-index.machine (log_of n (take i rows))) (sym own) (v.stands start)))
 
 pub returns-in-Some : goal.returns-in-Some
@@ -30,14 +31,14 @@ returns-in-Some c =
     let rows = c.args.rows.now in
     let i = c.loop-index.index in
     let v = c.loop-index.invariant in
-    let own = eqb-true c.row-row.result.core.0 c.args.core.0 (sym c.eq.ensures ∙ c.if-eq.true) in
+    let own = eqb-true c.row_at-first.result.row.core.0 c.args.core.0 (sym c.eq.ensures ∙ c.if-eq.true) in
     let test = c.loop-index-test.true in
     let all = c.len-count.ensures in
     let within : i < length rows = omega (arith, test, all) in
     let size = sym (length-take-le i rows (omega (arith, within))) in
-    let stands : IsRunStart c.args.plan.now (take i rows) → StandsAfter c.loop-index.machine (log_of c.row-row.result.core.0 (take i rows)) = λ start. subst (λ n. StandsAfter c.loop-index.machine (log_of n (take i rows))) (sym own) (v.stands start) in
-    let turn : IsRunStart c.args.plan.now (take i rows) → is_in_turn c.args.plan.now (take i rows) c.row-row.result ≡ true = λ start. sym (c.is_in_turn.ensures.turn (take i rows) size start (stands start)) ∙ c.if-not-is_in_turn.false in
-    breaks_here c.args.plan.now c.args.core rows i c.row-row.result within (c.row-row.ensures c.row-row.result) v.passes c.in-Some.rule own turn
+    let stands : IsRunStart c.args.plan.now (take i rows) → StandsAfter c.loop-index.machine (log_of c.row_at-first.result.row.core.0 (take i rows)) = λ start. subst (λ n. StandsAfter c.loop-index.machine (log_of n (take i rows))) (sym own) (v.stands start) in
+    let turn : IsRunStart c.args.plan.now (take i rows) → is_in_turn c.args.plan.now (take i rows) c.row_at-first.result.row ≡ true = λ start. sym (c.is_in_turn.ensures.turn (take i rows) size start (stands start)) ∙ c.if-not-is_in_turn.false in
+    breaks_here c.args.plan.now c.args.core rows i c.row_at-first.result.row within (c.row_at-first.ensures.row c.row_at-first.result.row) v.passes c.in-Some.rule own turn
     (λ start. sym (c.follow.ensures.rule c.is_in_turn.ensures.accepted (take i rows) start (stands start) (turn start)) ∙ c.in-Some.is)
 
 pub follow_again-last-requires-clause-followed : goal.follow_again-last-requires-clause-followed
@@ -47,8 +48,8 @@ follow_again-last-requires-clause-followed c =
     let rows = c.args.rows.now in
     let i = c.loop-index.index in
     let v = c.loop-index.invariant in
-    let x = c.row-row.result in
-    let at = c.row-row.ensures x in
+    let x = c.row_at-first.result.row in
+    let at = c.row_at-first.ensures.row x in
     let test = c.loop-index-test.true in
     let all = c.len-count.ensures in
     let within : i < length rows = omega (arith, test, all) in
@@ -68,6 +69,14 @@ follow_again-last-requires-clause-followed c =
       stands = stands_here plan x.core rows i x within at passes c.follow.new.machine (λ start. c.follow.ensures.stands (take i rows) start (stands start) (turn start) c.in_default.is);
     }
 
+pub follow_again-last-requires-clause-again : goal.follow_again-last-requires-clause-again
+follow_again-last-requires-clause-again c =
+    let rows = c.args.rows.now in
+    let first = c.row_at-first.result in
+    let now = ap (λ t. t + 1) c.tick.ensures ∙ sym c.follow.ensures.tick in
+    subst (λ n. StandsAgain n rows first.row c.loop-index.index c.follow.new.machine.tick first.until) c.cores-cores.ensures.value
+    (subst (λ t. StandsAgain c.cores-cores.result rows first.row c.loop-index.index t first.until) now c.row_at-first.ensures.again)
+
 pub loop-index-smaller-then-eq : goal.loop-index-smaller-then-eq
 loop-index-smaller-then-eq c =
     let rows = c.args.rows.now in
@@ -77,7 +86,7 @@ loop-index-smaller-then-eq c =
     let test = c.loop-index-test.true in
     let all = c.len-count.ensures in
     let within : i < length rows = omega (arith, test, all) in
-    let next = leaps c.args.plan.now rows c.row-row.result c.follow_again-last.result c.follow_again-last.new.machine f c.cores.ensures.plan c.args.steady c.requires.steady c.cores.result c.tick.result c.place_after-index.result c.cores.ensures.value c.tick.ensures c.place_after-index.ensures in
+    let next = leaps c.args.plan.now rows c.row_at-first.result.row c.follow_again-last.result c.follow_again-last.new.machine f c.cores-cores.ensures.plan c.args.steady c.requires.steady c.cores-cores.result c.tick-then-eq.result c.place_after-index.result c.cores-cores.ensures.value c.tick-then-eq.ensures c.place_after-index.ensures in
     let behind = next.behind in
     let less : length rows - c.place_after-index.result < length rows - i = omega (arith, within, after, behind) in
     less
@@ -86,13 +95,13 @@ pub loop-index-preserved-then-eq : goal.loop-index-preserved-then-eq
 loop-index-preserved-then-eq c =
     let plan = c.args.plan.now in
     let rows = c.args.rows.now in
-    let x = c.row-row.result in
+    let x = c.row_at-first.result.row in
     let m = c.follow_again-last.new.machine in
     let last = c.follow_again-last.result in
     let n = c.place_after-index.result in
     let f = c.follow_again-last.ensures.followed in
     let own : x.core.0 ≡ c.args.core.0 = eqb-true x.core.0 c.args.core.0 (sym c.eq.ensures ∙ c.if-eq.true) in
-    let next = leaps plan rows x last m f c.cores.ensures.plan c.args.steady c.requires.steady c.cores.result c.tick.result n c.cores.ensures.value c.tick.ensures c.place_after-index.ensures in
+    let next = leaps plan rows x last m f c.cores-cores.ensures.plan c.args.steady c.requires.steady c.cores-cores.result c.tick-then-eq.result n c.cores-cores.ensures.value c.tick-then-eq.ensures c.place_after-index.ensures in
     record {
       plan = f.same;
       core = f.core ∙ own;
@@ -106,7 +115,7 @@ loop-index-preserved c =
     let rows = c.args.rows.now in
     let i = c.loop-index.index in
     let v = c.loop-index.invariant in
-    let x = c.row-row.result in
+    let x = c.row_at-first.result.row in
     let test = c.loop-index-test.true in
     let all = c.len-count.ensures in
     let within : i < length rows = omega (arith, test, all) in
@@ -114,8 +123,8 @@ loop-index-preserved c =
     record {
       plan = v.plan;
       core = v.core;
-      stands = stands_by plan c.args.core rows i x within (c.row-row.ensures c.row-row.result) v.passes c.loop-index.machine other v.stands;
-      passes = passes_by plan c.args.core rows i x within (c.row-row.ensures c.row-row.result) v.passes other;
+      stands = stands_by plan c.args.core rows i x within (c.row_at-first.ensures.row c.row_at-first.result.row) v.passes c.loop-index.machine other v.stands;
+      passes = passes_by plan c.args.core rows i x within (c.row_at-first.ensures.row c.row_at-first.result.row) v.passes other;
     }
 
 pub returns : goal.returns

@@ -1,25 +1,15 @@
-use Rattle.std.proofs.Common.{sym, ◌∙◌, arith, eq-eqb}
-use Rattle.msrp_plan.proofs.Lists.Ranges.{not_equal}
-use Rattle.msrp_audit.proofs.Orders.{turn_by_tick}
+use Rattle.std.proofs.Common.{◌*◌, ap, sym, ◌∙◌, arith}
+use Rattle.msrp_audit.proofs.InOrder.{ticks_in_order, turns_by_ticks}
 use Rattle.msrp_audit.proofs.turns.judge_tick.Goals as goal
 
-pub returns-then-end-steady-clause-turns : goal.returns-then-end-steady-clause-turns
-returns-then-end-steady-clause-turns c =
-    let tick = c.args.tick in
-    let start = c.args.start in
-    let place = c.tick_end.result in
-    let told = c.tick_end.ensures.ticks in
-    let from = c.tick_end.ensures.from in
-    let within = c.tick_end.ensures.within in
+pub returns-then-end-in_order-clause-turns : goal.returns-then-end-in_order-clause-turns
+returns-then-end-in_order-clause-turns c =
+    let end = c.args.end in
+    let cores = c.cores.ensures.value in
     let last = c.requires.tick in
-    let all = c.requires.rows in
-    let steady = c.if-end-steady.true in
-    let later = c.if-tick-gt0.true in
-    record {
-      turns = λ i r low high there run.
-          sym (turn_by_tick c.args.plan.now c.args.rows.now c.args.steady i tick start r c.requires.steady c.requires.start later low (omega (arith, high, within, last)) (omega (arith, high, within, steady)) (omega (arith, high, within, all)) there run)
-          ∙ eq-eqb r.tick tick (told.ticks i r low high there);
-      stops = λ r stop there run.
-          sym (turn_by_tick c.args.plan.now c.args.rows.now c.args.steady place tick start r c.requires.steady c.requires.start later from (omega (arith, stop, last)) (omega (arith, stop, steady)) (omega (arith, stop, all)) there run)
-          ∙ not_equal r.tick tick (told.stops r stop there);
-    }
+    let first = c.requires.start ∙ ap (λ n. c.args.tick * n) (sym cores) in
+    turns_by_ticks c.args.plan.now c.args.rows.now c.args.steady c.args.tick c.args.start end end c.requires.steady c.requires.start c.if-tick-gt0.true c.requires.tick c.if-end-steady.true c.requires.rows c.requires.some (omega arith)
+    (ticks_in_order c.cores.result c.args.rows.now c.in_order.result c.args.tick c.args.start end c.in_order.ensures first (omega (arith, last, cores)) c.if-end-in_order.true)
+
+pub returns-else-end-in_order-clause-turns : goal.returns-else-end-in_order-clause-turns
+returns-else-end-in_order-clause-turns c = turns_by_ticks c.args.plan.now c.args.rows.now c.args.steady c.args.tick c.args.start c.tick_end.result c.args.end c.requires.steady c.requires.start c.if-tick-gt0.true c.requires.tick c.if-end-steady.true c.requires.rows c.tick_end.ensures.from c.tick_end.ensures.within c.tick_end.ensures.ticks

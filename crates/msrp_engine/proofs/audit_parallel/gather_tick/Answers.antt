@@ -1,42 +1,74 @@
-use Rattle.std.proofs.Common.{rules, ◌≡◌, ◌++◌, List, Ok, Err, true, false, length, arith, sym, ap, ◌∙◌, subst, ◌-◌, take}
-use Rattle.std.proofs.Math.Seq.{take-append_seam}
-use Rattle.std.proofs.lemmas.List.{length-append}
-use Rattle.msrp_plan.specs.declared.rows.Row.{Row}
-use Rattle.msrp_engine.specs.Inside.Gathered.{Gathers, Replaces}
-use Rattle.msrp_engine.proofs.Repeating.{again}
+use Rattle.std.proofs.Common.{rules, ◌≡◌, ◌≤◌, ◌-◌, ◌+◌, Err, length, sym, refl, ◌∙◌, subst, arith}
+use Rattle.msrp_engine.specs.Inside.Gathered.{Gathers}
+use Rattle.msrp_engine.proofs.Repeating.{HasGathered, again_on, first_of, none_on, push_on}
 use Rattle.msrp_engine.proofs.audit_parallel.gather_tick.Goals as goal
-use Rattle.msrp_engine.proofs.audit_parallel.gather_tick.Goals.{then-branch+else-replace_anew, else-branch}
+use Rattle.msrp_engine.proofs.audit_parallel.gather_tick.Goals.{then-are_behind+then-core-anew+in_ok-again, then-are_behind+else-core-anew, else-are_behind}
 
-pub returns-in_err-repeat : goal.returns-in_err-repeat
-returns-in_err-repeat g c = λ more rows.
+pub returns-in_err-again : goal.returns-in_err-again
+returns-in_err-again g c = λ more rows.
     let old = c.args.gathered.now in
-    let kept : c.repeat.new.self ≡ old = search rules in
+    let now = c.loop-core.gathered in
+    let k = c.loop-core.core in
+    let i = c.loop-core.invariant in
+    let anew = c.anew_from-anew.ensures in
     let gives : c.from_residual.result ≡ Err (record {}) = search rules in
-    subst (λ r. Gathers r old c.repeat.new.self more) (sym gives) (more, ap (λ l. l ++ more) (sym kept))
+    let few : c.args.cores ≤ length old = let test = c.if-are_behind.true in let size = c.len.ensures in omega (arith, test, size) in
+    let first = c.in_err-again.ensures.first in
+    let n = first.0 in
+    let most = first.1 in
+    let has = again_on c.args.rows.now c.args.tick c.args.cores old now k (record { within = i.within; more = i.more; rows = i.rows }) c.again.new.self (k + n) c.requires few n refl
+    (omega (arith, anew.within, anew.from, most)) (λ d past low. anew.again d past (omega (arith, low, most, anew.from))) c.again.new.self refl first.2 in
+    subst (λ r. Gathers r old c.again.new.self more) (sym gives) (first_of old more c.again.new.self (k + n) (has.rows more rows))
 
-pub returns-then-replace_anew : goal.returns-then-replace_anew
-returns-then-replace_anew g c = λ more rows.
+pub returns-in_err-push : goal.returns-in_err-push
+returns-in_err-push g c = λ more rows.
     let old = c.args.gathered.now in
-    let did : c.repeat.result ≡ Ok true = search rules in
-    let once = c.repeat.ensures.again did in
-    let are = again c.args.rows.now c.args.tick c.args.cores old more c.requires once.0 rows in
-    subst (λ b. Replaces b old c.replace_anew.new.gathered more) c.if-replace_anew.true (c.replace_anew.ensures old _ more once.1 rows are)
-
-pub returns : goal.returns
-returns g c = λ more rows.
-    let old = c.args.gathered.now in
-    let before : c.if-branch.gathered ≡ old = elim c.if-branch.branch [
-      | then-branch+else-replace_anew w ↦
-          let did : c.repeat.result ≡ Ok true = search rules in
-          let once = c.repeat.ensures.again did in
-          let are = again c.args.rows.now c.args.tick c.args.cores old more c.requires once.0 rows in
-          let no : w.replace_anew.result ≡ false = search rules in
-          let put = subst (λ b. Replaces b old w.replace_anew.new.gathered more) no (w.replace_anew.ensures old _ more once.1 rows are) in
-          let size : length w.replace_anew.new.gathered - c.args.cores ≡ length old = ap (λ l. length l - c.args.cores) put.1 ∙ omega (arith, length-append old put.0, put.2, rows.size) in
-          w.gathered-is ∙ (w.cut.ensures ∙ (ap (λ n. take n w.replace_anew.new.gathered) size ∙ (ap (take (length old)) put.1 ∙ take-append_seam old put.0)))
-      | else-branch w ↦
-          let no : c.repeat.result ≡ Ok false = search rules in
-          let kept : c.repeat.new.self ≡ old = search rules in
-          w.gathered-is ∙ kept
+    let now = c.loop-core.gathered in
+    let i = c.loop-core.invariant in
+    let before : HasGathered c.args.rows.now c.args.tick c.args.cores old now c.loop-core.core = record { within = i.within; more = i.more; rows = i.rows } in
+    let has : HasGathered c.args.rows.now c.args.tick c.args.cores old c.if-are_behind.gathered c.if-are_behind.core = elim c.if-are_behind.branch [
+      | then-are_behind+then-core-anew+in_ok-again w ↦
+          let anew = w.anew_from-anew.ensures in
+          let few : c.args.cores ≤ length old = let test = w.if-are_behind.true in let size = c.len.ensures in omega (arith, test, size) in
+          again_on c.args.rows.now c.args.tick c.args.cores old now c.loop-core.core before c.if-are_behind.gathered c.if-are_behind.core c.requires few (w.anew_from-anew.result - c.loop-core.core)
+          (omega (arith, w.core-is, anew.from)) (omega (arith, w.core-is, anew.within)) (λ d past low. anew.again d past (omega (arith, low, anew.from))) w.again.new.self w.gathered-is w.in_ok-again.ensures.added
+      | then-are_behind+else-core-anew w ↦ none_on c.args.rows.now c.args.tick c.args.cores old now c.loop-core.core before c.if-are_behind.gathered c.if-are_behind.core w.gathered-is w.core-is
+      | else-are_behind w ↦ none_on c.args.rows.now c.args.tick c.args.cores old now c.loop-core.core before c.if-are_behind.gathered c.if-are_behind.core w.gathered-is w.core-is
     ] in
-    subst (λ (l : List Row). Gathers c.push_rows.result l c.push_rows.new.gathered more) before (c.push_rows.ensures more rows)
+    let gives : c.from_residual-in_err-push.result ≡ Err (record {}) = search rules in
+    subst (λ r. Gathers r old c.push.new.self more) (sym gives) (first_of old more c.push.new.self c.if-are_behind.core (c.in_err-push.ensures.kept ∙ has.rows more rows))
+
+pub loop-core-preserved-then-core-cores : goal.loop-core-preserved-then-core-cores
+loop-core-preserved-then-core-cores g c =
+    let old = c.args.gathered.now in
+    let now = c.loop-core.gathered in
+    let i = c.loop-core.invariant in
+    let before : HasGathered c.args.rows.now c.args.tick c.args.cores old now c.loop-core.core = record { within = i.within; more = i.more; rows = i.rows } in
+    let has : HasGathered c.args.rows.now c.args.tick c.args.cores old c.if-are_behind.gathered c.if-are_behind.core = elim c.if-are_behind.branch [
+      | then-are_behind+then-core-anew+in_ok-again w ↦
+          let anew = w.anew_from-anew.ensures in
+          let few : c.args.cores ≤ length old = let test = w.if-are_behind.true in let size = c.len.ensures in omega (arith, test, size) in
+          again_on c.args.rows.now c.args.tick c.args.cores old now c.loop-core.core before c.if-are_behind.gathered c.if-are_behind.core c.requires few (w.anew_from-anew.result - c.loop-core.core)
+          (omega (arith, w.core-is, anew.from)) (omega (arith, w.core-is, anew.within)) (λ d past low. anew.again d past (omega (arith, low, anew.from))) w.again.new.self w.gathered-is w.in_ok-again.ensures.added
+      | then-are_behind+else-core-anew w ↦ none_on c.args.rows.now c.args.tick c.args.cores old now c.loop-core.core before c.if-are_behind.gathered c.if-are_behind.core w.gathered-is w.core-is
+      | else-are_behind w ↦ none_on c.args.rows.now c.args.tick c.args.cores old now c.loop-core.core before c.if-are_behind.gathered c.if-are_behind.core w.gathered-is w.core-is
+    ] in
+    let next = push_on c.args.rows.now c.args.tick c.args.cores old c.if-are_behind.gathered c.if-are_behind.core has c.push.new.self (c.if-are_behind.core + 1) c.row_in.result c.if-core-cores.true refl c.row_in.ensures c.in_ok-push.ensures.pushed in
+    record { within = next.within; more = next.more; rows = next.rows }
+
+pub loop-core-preserved : goal.loop-core-preserved
+loop-core-preserved g c =
+    let old = c.args.gathered.now in
+    let now = c.loop-core.gathered in
+    let i = c.loop-core.invariant in
+    let before : HasGathered c.args.rows.now c.args.tick c.args.cores old now c.loop-core.core = record { within = i.within; more = i.more; rows = i.rows } in
+    let has : HasGathered c.args.rows.now c.args.tick c.args.cores old c.if-are_behind.gathered c.if-are_behind.core = elim c.if-are_behind.branch [
+      | then-are_behind+then-core-anew+in_ok-again w ↦
+          let anew = w.anew_from-anew.ensures in
+          let few : c.args.cores ≤ length old = let test = w.if-are_behind.true in let size = c.len.ensures in omega (arith, test, size) in
+          again_on c.args.rows.now c.args.tick c.args.cores old now c.loop-core.core before c.if-are_behind.gathered c.if-are_behind.core c.requires few (w.anew_from-anew.result - c.loop-core.core)
+          (omega (arith, w.core-is, anew.from)) (omega (arith, w.core-is, anew.within)) (λ d past low. anew.again d past (omega (arith, low, anew.from))) w.again.new.self w.gathered-is w.in_ok-again.ensures.added
+      | then-are_behind+else-core-anew w ↦ none_on c.args.rows.now c.args.tick c.args.cores old now c.loop-core.core before c.if-are_behind.gathered c.if-are_behind.core w.gathered-is w.core-is
+      | else-are_behind w ↦ none_on c.args.rows.now c.args.tick c.args.cores old now c.loop-core.core before c.if-are_behind.gathered c.if-are_behind.core w.gathered-is w.core-is
+    ] in
+    record { within = has.within; more = has.more; rows = has.rows }

@@ -1,0 +1,318 @@
+-- Which of the rows that are kept of a core stands in a tick, and what is told of the turns.
+use Rattle.std.proofs.Common.{◌≡◌, ℕ, zero, suc, ◌+◌, ◌-◌, ◌*◌, ◌/◌, ◌%◌, ◌^◌, ◌<◌, ◌≤◌, Bool, true, false, nat_le, nat_lt, List, [], ◌∷◌, ◌++◌, Some, refl, ap, sym, ◌∙◌, subst, arith, length, map, slice_get, slice_index_or, inl, inr, max, Vec}
+use Rattle.std.specs.Global.{Global}
+use Rattle.std.specs.Int.{from_bool}
+use Rattle.std.specs.Option.{option_map}
+use Rattle.std.proofs.Math.Bool.{true≢false}
+use Rattle.std.proofs.Math.Nat.{mul-le-mul_right}
+use Rattle.std.proofs.lemmas.Bool.{cases_lt, le-leb, leb-false, leb-true, lt-leb, ltb-true}
+use Rattle.std.proofs.lemmas.List.{get_or-map, length-map}
+use Rattle.std.proofs.lemmas.List.Elements.{All-get_or}
+use Rattle.std.proofs.lemmas.List.FromFn.{get_or-map-range_with_len, length-map-range_with_len}
+use Rattle.std.proofs.lemmas.List.Sums.{prefix_len-le-length, prefix_len_is, prefix_len_passes, prefix_len_stops}
+use Rattle.std.proofs.lemmas.Nat.{div-add-mod', div-mul-add, div_below, mod-mul-add, mod_below}
+use Rattle.std.proofs.lemmas.Option.{get_or_from_slice_get, same_Some, slice_get-get_or, slice_get-map, slice_get_within}
+use Rattle.msrp_plan.specs.Queues.{is_on}
+use Rattle.msrp_plan.specs.Stretches.{in_tick}
+use Rattle.msrp_plan.specs.declared.ids.ResId.{ResId}
+use Rattle.msrp_plan.specs.declared.rows.Row.{Row}
+use Rattle.msrp_audit.specs.declared.kept.KeptRow.{KeptRow}
+use Rattle.msrp_audit.specs.declared.stretches.Skipped.{Skipped}
+use Rattle.msrp_audit.specs.declared.stretches.Stretch.{Stretch}
+use Rattle.msrp_audit.specs.Inside.Gathered.{row_of, rows_of}
+use Rattle.msrp_audit.specs.Inside.Naming.{HasSkipped, IsOff, Tells}
+use Rattle.msrp_audit.specs.Inside.Stretches.{AreTurnLists, AreTurns, IsFound, IsInForce, IsTurnList, Stands, came_by, list_of, lists_of, no_kept, row_in, turns_told}
+use Rattle.msrp_audit.proofs.Orders.{next_tick}
+
+-- ---- one list
+module _ (n c : ℕ) (list : List KeptRow) (is : IsTurnList n c list) where
+  rises_here : (e : ℕ) → e + 1 < length list → (slice_index_or list e no_kept).tick < (slice_index_or list (e + 1) no_kept).tick
+  rises_here e within = is.rising e (slice_index_or list e no_kept) (slice_index_or list (e + 1) no_kept) (slice_get-get_or list e no_kept (omega (arith, within))) (slice_get-get_or list (e + 1) no_kept within)
+
+  -- each later one has a later tick
+  pub rises : (i j : ℕ) → i < j → j < length list → (slice_index_or list i no_kept).tick < (slice_index_or list j no_kept).tick
+  rises i zero low within = absurd (omega (arith, low))
+  rises i (suc j) low within =
+      let here : (slice_index_or list j no_kept).tick < (slice_index_or list (suc j) no_kept).tick =
+      subst (λ k. (slice_index_or list j no_kept).tick < (slice_index_or list k no_kept).tick) (omega arith) (rises_here j (omega (arith, within))) in
+      elim (cases_lt i j) [
+        | inl less ↦ let before = rises i j less (omega (arith, within)) in omega (arith, before, here)
+        | inr past ↦ subst (λ k. (slice_index_or list k no_kept).tick < (slice_index_or list (suc j) no_kept).tick) (omega (arith, low, past)) here
+      ]
+
+  -- those that came by then are the one that stands and those before it
+  came_is : (t e : ℕ) → IsInForce list t e → came_by t list ≡ e + 1
+  came_is t e stands = prefix_len_is (λ k. nat_le k.tick t) list (e + 1) no_kept (let within = stands.within in omega (arith, within)) passes stops
+    where
+      passes : (k : ℕ) → k < e + 1 → nat_le (slice_index_or list k no_kept).tick t ≡ true
+      passes k low = elim (cases_lt k e) [
+        | inl less ↦ le-leb (slice_index_or list k no_kept).tick t (let before = rises k e less stands.within in let came = stands.came in omega (arith, before, came))
+        | inr past ↦ le-leb (slice_index_or list k no_kept).tick t (subst (λ j. (slice_index_or list j no_kept).tick ≤ t) (omega (arith, low, past)) stands.came)
+      ]
+
+      stops : e + 1 < length list → nat_le (slice_index_or list (e + 1) no_kept).tick t ≡ false
+      stops within = lt-leb (slice_index_or list (e + 1) no_kept).tick t (stands.next (slice_index_or list (e + 1) no_kept) (slice_get-get_or list (e + 1) no_kept within))
+
+  -- the first one came by any tick
+  pub first_came : (t : ℕ) → 0 < length list → (slice_index_or list 0 no_kept).tick ≤ t
+  first_came t some = let first = is.first (slice_index_or list 0 no_kept) (slice_get-get_or list 0 no_kept some) in omega (arith, first)
+
+  -- in each tick the last one that came by then stands
+  pub stands_by : (t : ℕ) → 0 < length list → IsInForce list t (came_by t list - 1)
+  stands_by t some = record {
+    within = omega (arith, by, one);
+    came = leb-true (slice_index_or list (came_by t list - 1) no_kept).tick t (prefix_len_passes (λ k. nat_le k.tick t) list (came_by t list - 1) no_kept (omega (arith, one)));
+    next = λ k there.
+        let at : slice_get list (came_by t list) ≡ Some k = ap (slice_get list) (omega (arith, one)) ∙ there in
+        leb-false k.tick t (ap (λ (x : KeptRow). nat_le x.tick t) (sym (get_or_from_slice_get list (came_by t list) k no_kept at)) ∙ prefix_len_stops (λ (x : KeptRow). nat_le x.tick t) list no_kept (slice_get_within list (came_by t list) k at));
+  }
+    where
+      by : came_by t list ≤ length list
+      by = prefix_len-le-length (λ (k : KeptRow). nat_le k.tick t) list
+
+      one : 0 < came_by t list
+      one = elim (cases_lt 0 (came_by t list)) [
+        | inl more ↦ more
+        | inr none ↦
+            let zero_here : came_by t list ≡ 0 = omega (arith, none) in
+            let stops = prefix_len_stops (λ (x : KeptRow). nat_le x.tick t) list no_kept (omega (arith, zero_here, some)) in
+            absurd (true≢false (sym (le-leb (slice_index_or list 0 no_kept).tick t (first_came t some)) ∙ (ap (λ e. nat_le (slice_index_or list e no_kept).tick t) (sym zero_here) ∙ stops)))
+      ]
+
+  -- so it stands
+  pub stands_here : (t e : ℕ) (lists : List (List KeptRow)) → list_of lists c ≡ list → IsInForce list t e → row_in lists c t ≡ in_tick t (row_of (slice_index_or list e no_kept))
+  stands_here t e lists here stands =
+      let last : came_by t list - 1 ≡ e = let by = came_is t e stands in omega (arith, by) in
+      ap (λ l. in_tick t (row_of (slice_index_or l (came_by t l - 1) no_kept))) here ∙ ap (λ k. in_tick t (row_of (slice_index_or list k no_kept))) last
+
+  -- the one that stands is of the core
+  own_here : (t : ℕ) → 0 < length list → (slice_index_or list (came_by t list - 1) no_kept).what.core ≡ c
+  own_here t some =
+      let by = prefix_len-le-length (λ k. nat_le k.tick t) list in
+      All-get_or (λ (k : KeptRow). k.what.core ≡ c) list (came_by t list - 1) no_kept (omega (arith, by, some)) is.own
+
+-- ---- the turns
+module _ (lists : List (List KeptRow)) (cores n : ℕ) where
+  pub turns_size : length (turns_told lists cores n) ≡ n
+  turns_size = length-map-range_with_len (λ i. row_in lists (i % cores) (i / cores)) 0 n
+
+  pub turn_at : (i : ℕ) (d : Row) → i < n → slice_index_or (turns_told lists cores n) i d ≡ row_in lists (i % cores) (i / cores)
+  turn_at i d within = get_or-map-range_with_len (λ j. row_in lists (j % cores) (j / cores)) 0 n i i d within (omega arith)
+
+  pub turn_get : (i : ℕ) → i < n → slice_get (turns_told lists cores n) i ≡ Some (row_in lists (i % cores) (i / cores))
+  turn_get i within =
+      let d = row_in lists (i % cores) (i / cores) in
+      let size = turns_size in
+      slice_get-get_or (turns_told lists cores n) i d (omega (arith, size, within)) ∙ ap Some (turn_at i d within)
+
+  module _ (are : AreTurnLists cores n lists) where
+    -- a row's core has a list, and rows in it
+    pub core_below : (i : ℕ) → i % cores < cores
+    core_below i = mod_below i cores are.some
+
+    pub some_here : (i : ℕ) → i < n → 0 < length (list_of lists (i % cores))
+    some_here i within =
+        let whole = div-add-mod' i cores in
+        (are.each (i % cores) (core_below i)).some (omega (arith, whole, within))
+
+    -- the ticks of the rows have numbers in two bytes
+    pub tick_small : (i : ℕ) → i < n → i / cores < 2 ^ 16
+    tick_small i within =
+        let few = are.few in
+        div_below i cores (2 ^ 16) are.some (omega (arith, few, within))
+
+    -- they are those that the cores had by their numbers
+    pub are_turns : AreTurns cores (turns_told lists cores n) n
+    are_turns =
+        let size = turns_size in
+        record {
+          within = omega (arith, size);
+          order = λ i r within there.
+              let is : row_in lists (i % cores) (i / cores) ≡ r = same_Some (row_in lists (i % cores) (i / cores)) r (sym (turn_get i within) ∙ there) in
+              sym (ap (λ (x : Row). x.core.0) is) ∙ own_here n (i % cores) (list_of lists (i % cores)) (are.each (i % cores) (core_below i)) (i / cores) (some_here i within);
+          ticks = λ i r within there.
+              let is : row_in lists (i % cores) (i / cores) ≡ r = same_Some (row_in lists (i % cores) (i / cores)) r (sym (turn_get i within) ∙ there) in
+              sym (ap (λ (x : Row). x.tick) is);
+        }
+
+-- the row that stands in a tick stands until the core's next one that is kept, and until its turns end
+pub stands_until : (rows : List Row) (cores c t : ℕ) (list : List KeptRow) (e end : ℕ) → IsFound rows cores c t list e end → (s : Stretch) → s.row ≡ in_tick t (row_of (slice_index_or list e no_kept)) → t < s.until
+    → ((k : KeptRow) → slice_get list (e + 1) ≡ Some k → s.until ≤ k.tick) → s.until ≤ end → Stands rows cores c t s
+stands_until rows cores c t list e end is s row some next last = record {
+  some = some;
+  tick = ap (λ (r : Row). r.tick) row;
+  each = λ k from to.
+      let stands = is.stands in
+      let then_too : IsInForce list k e = record {
+        within = stands.within;
+        came = let came = stands.came in omega (arith, came, from);
+        next = λ x there. let ends = next x there in omega (arith, ends, to);
+      } in
+      is.each k e (omega (arith, to, last)) then_too ∙ sym (ap (λ r. Some (in_tick k r)) row);
+}
+
+-- before the first one that names a resource none does
+pub names_not : (rows : List Row) (cores c t : ℕ) (list : List KeptRow) (e end : ℕ) → IsFound rows cores c t list e end → (res : ResId) (m : ℕ) → ((f : ℕ) → e ≤ f → f < m → is_on res.0 (row_of (slice_index_or list f no_kept)).res ≡ false)
+    → (k : ℕ) → t ≤ k → k < end → (m < length list → k < (slice_index_or list m no_kept).tick) → Tells res rows (k * cores + c) false
+names_not rows cores c t list e end is res m off k from to before =
+    let some = is.some k from in
+    let f = some.0 in
+    let here = some.2 in
+    let inside = here.within in
+    let came = here.came in
+    let low : f < m = elim (cases_lt f m) [
+      | inl less ↦ less
+      | inr past ↦
+          let late = before (omega (arith, past, inside)) in
+          elim (cases_lt m f) [
+            | inl far ↦ let rise = is.later m f far inside in absurd (omega (arith, late, rise, came))
+            | inr near ↦ let same : m ≡ f = omega (arith, past, near) in let this = subst (λ j. k < (slice_index_or list j no_kept).tick) same late in absurd (omega (arith, this, came))
+          ]
+    ] in
+    record { row = in_tick k (row_of (slice_index_or list f no_kept)); there = is.each k f to here; is = off f some.1 low }
+
+-- the one that names it stands in its tick, or else stood before that one and stands still
+pub names_here : (rows : List Row) (cores c t : ℕ) (list : List KeptRow) (e end : ℕ) → IsFound rows cores c t list e end → (res : ResId) (m n : ℕ) → e ≤ m → m < length list → (slice_index_or list m no_kept).tick < end
+    → is_on res.0 (row_of (slice_index_or list m no_kept)).res ≡ true → n ≡ max (slice_index_or list m no_kept).tick t → Tells res rows (n * cores + c) true
+names_here rows cores c t list e end is res m n from within low on last =
+    let before = is.before in
+    record { row = in_tick n (row_of (slice_index_or list m no_kept)); there = is.each n m (omega (arith, last, low, before)) here; is = on }
+  where
+    late : n < (slice_index_or list m no_kept).tick + 1 → (k : KeptRow) → slice_get list (m + 1) ≡ Some k → n < k.tick
+    late own k there =
+        let rise = is.later m (m + 1) (omega arith) (slice_get_within list (m + 1) k there) in
+        let at = ap (λ (x : KeptRow). x.tick) (get_or_from_slice_get list (m + 1) k no_kept there) in
+        omega (arith, own, rise, at)
+
+    same : (slice_index_or list m no_kept).tick < t → m ≡ e
+    same early = elim (cases_lt e m) [
+      | inr past ↦ omega (arith, past, from)
+      | inl less ↦
+          let stands = is.stands in
+          let next = stands.next (slice_index_or list (e + 1) no_kept) (slice_get-get_or list (e + 1) no_kept (omega (arith, less, within))) in
+          elim (cases_lt (e + 1) m) [
+            | inl far ↦ let rise = is.later (e + 1) m far within in absurd (omega (arith, next, rise, early))
+            | inr near ↦ let this = subst (λ j. t < (slice_index_or list j no_kept).tick) (let here : e + 1 ≡ m = omega (arith, less, near) in here) next in absurd (omega (arith, this, early))
+          ]
+    ]
+
+    here : IsInForce list n m
+    here = elim (cases_lt (slice_index_or list m no_kept).tick t) [
+      | inl early ↦ subst (λ j. IsInForce list n j) (sym (same early)) (subst (λ k. IsInForce list k e) (let now : t ≡ n = omega (arith, last, early) in now) is.stands)
+      | inr own ↦ record { within = within; came = omega (arith, last); next = late (omega (arith, last, own)) }
+    ]
+
+-- what a test adds as a number
+bit_tells : (c place more : ℕ) (b : Bool) → nat_lt c place ≡ b → more ≡ from_bool b → (more ≤ 1) × (0 < more → c < place)
+bit_tells c place more true test is = (omega (arith, is), λ some. ltb-true c place test)
+bit_tells c place more false test is = (omega (arith, is), λ some. absurd (omega (arith, is, some)))
+
+-- a core had its turn in each full tick, and in the one after these if its place comes before the end
+pub before_end : (tick place cores c more k : ℕ) → c < cores → more ≡ from_bool (nat_lt c place) → k < tick + more → k * cores + c < tick * cores + place
+before_end tick place cores c more k low is within =
+    let bit = bit_tells c place more (nat_lt c place) refl is in
+    elim (cases_lt k tick) [
+      | inl less ↦ (let whole = mul-le-mul_right cores less in let next = next_tick k cores in omega (arith, whole, next, low))
+      | inr past ↦ (let here : c < place = bit.1 (omega (arith, past, within)) in let same : k * cores ≡ tick * cores = ap (λ t. t * cores) (let last = bit.0 in omega (arith, past, within, last)) in omega (arith, here, same))
+    ]
+
+-- ---- rows behind them
+pub get_left : {X : Type 0} (xs ys : List X) (i : ℕ) (x : X) → slice_get xs i ≡ Some x → slice_get (xs ++ ys) i ≡ Some x
+get_left [] ys i x there = absurd (cc)
+get_left (y ∷ xs) ys zero x there = there
+get_left (y ∷ xs) ys (suc i) x there = get_left xs ys i x there
+
+-- a row in ten bytes stands there
+kept_at : (turns : List Row) (kept : List KeptRow) (rest : List Row) (i : ℕ) → length turns ≤ i → i - length turns < length kept → slice_get (turns ++ rows_of kept rest) i ≡ Some (row_of (slice_index_or kept (i - length turns) no_kept))
+kept_at [] kept rest i low within =
+    let all : i - 0 ≡ i = omega arith in
+    get_left (map row_of kept) rest i (row_of (slice_index_or kept (i - 0) no_kept)) (slice_get-map row_of kept i ∙ ap (option_map row_of) (slice_get-get_or kept i no_kept (omega (arith, within)) ∙ ap (λ k. Some (slice_index_or kept k no_kept)) (sym all)))
+kept_at (t ∷ turns) kept rest zero low within = absurd (omega (arith, low))
+kept_at (t ∷ turns) kept rest (suc i) low within =
+    let one : suc i - suc (length turns) ≡ i - length turns = omega arith in
+    kept_at turns kept rest i (omega (arith, low)) (omega (arith, within, one)) ∙ ap (λ k. Some (row_of (slice_index_or kept k no_kept))) (sym one)
+
+-- and names the resource no more than what is kept of it
+pub off_behind : (turns rest rows : List Row) (kept : List KeptRow) (res : ResId) (behind i : ℕ) → turns ++ rows_of kept rest ≡ rows → behind ≡ length turns → behind ≤ i → i - behind < length kept → is_on res.0 (row_of (slice_index_or kept (i - behind) no_kept)).res ≡ false → IsOff res rows i
+off_behind turns rest rows kept res behind i view size low within off r there =
+    let is : row_of (slice_index_or kept (i - behind) no_kept) ≡ r = same_Some (row_of (slice_index_or kept (i - behind) no_kept)) r (
+    ap (λ n. Some (row_of (slice_index_or kept (i - n) no_kept))) size ∙ (sym (kept_at turns kept rest i (omega (arith, low, size)) (omega (arith, within, size))) ∙ (ap (λ l. slice_get l i) view ∙ there))) in
+    subst (λ (x : Row). is_on res.0 x.res ≡ false) is off
+
+pub repeats_there : (turns rest rows : List Row) (kept : List KeptRow) (behind last index : ℕ) → turns ++ rows_of kept rest ≡ rows → behind ≡ length turns → behind ≤ last → last < index → index - behind < length kept
+    → row_of (slice_index_or kept (index - behind) no_kept) ≡ in_tick ((slice_index_or kept (last - behind) no_kept).tick + 1) (row_of (slice_index_or kept (last - behind) no_kept))
+    → (r : Row) → slice_get rows last ≡ Some r → slice_get rows index ≡ Some (in_tick (r.tick + 1) r)
+repeats_there turns rest rows kept behind last index view size low less within again r there =
+    let was : row_of (slice_index_or kept (last - behind) no_kept) ≡ r = same_Some (row_of (slice_index_or kept (last - behind) no_kept)) r (
+    ap (λ n. Some (row_of (slice_index_or kept (last - n) no_kept))) size ∙ (sym (kept_at turns kept rest last (omega (arith, low, size)) (omega (arith, low, less, within, size))) ∙ (ap (λ l. slice_get l last) view ∙ there))) in
+    ap (λ l. slice_get l index) (sym view) ∙ (kept_at turns kept rest index (omega (arith, low, less, size)) (omega (arith, within, size))
+    ∙ (ap (λ n. Some (row_of (slice_index_or kept (index - n) no_kept))) (sym size) ∙ ap Some (again ∙ ap (λ (x : Row). in_tick (x.tick + 1) x) was)))
+
+-- ---- what is read of the lists
+-- the list of a core that has rows in it
+pub record IsListOf (lists : List (List KeptRow)) (cores c : ℕ) (list : List KeptRow) : Type 0 where
+  pub low : c < cores
+  pub here : list_of lists c ≡ list
+  pub some : 0 < length list
+
+-- where a core's list stands
+pub list_there : (lists : List (Vec KeptRow Global)) (cores n c : ℕ) → AreTurnLists cores n (lists_of lists) → c < cores → c < n → c < length lists
+list_there lists cores n c are low some = let all = are.all (omega (arith, some)) in let size = length-map lists (λ (v : Vec KeptRow Global). v.items) in omega (arith, all, size, low)
+
+pub list_read : (lists : List (Vec KeptRow Global)) (cores n c : ℕ) (d : Vec KeptRow Global) (list : List KeptRow) → AreTurnLists cores n (lists_of lists) → c < cores → c < n → list ≡ (slice_index_or lists c d).items → IsListOf (lists_of lists) cores c list
+list_read lists cores n c d list are low some value =
+    let here : list_of (lists_of lists) c ≡ list = get_or-map (λ (v : Vec KeptRow Global). v.items) lists c d [] (list_there lists cores n c are low some) ∙ sym value in
+    record { low = low; here = here; some = subst (λ l. 0 < length l) here ((are.each c low).some some) }
+
+module _ (lists : List (List KeptRow)) (cores n c : ℕ) (list : List KeptRow) (are : AreTurnLists cores n lists) (l : IsListOf lists cores c list) where
+  is_list : IsTurnList n c list
+  is_list = subst (IsTurnList n c) l.here (are.each c l.low)
+
+  -- where the one that stands is looked for from
+  pub came_from : (t : ℕ) → (slice_index_or list 0 no_kept).tick ≤ t
+  came_from t = first_came n c list is_list t l.some
+
+  -- the row that is read of it
+  pub row_read : (index e : ℕ) (row : Row) (rows : List Row) → index % cores ≡ c → index < n → IsInForce list (index / cores) e → row ≡ in_tick (index / cores) (row_of (slice_index_or list e no_kept)) → turns_told lists cores n ≡ rows
+      → (d : Row) → row ≡ slice_index_or rows index d
+  row_read index e row rows core within stands is view d =
+      is ∙ (sym (stands_here n c list is_list (index / cores) e lists l.here stands) ∙ (ap (λ m. row_in lists m (index / cores)) (sym core) ∙ (sym (turn_at lists cores n index d within) ∙ ap (λ l. slice_index_or l index d) view)))
+
+  -- what is kept of the core, as it is found
+  pub found_there : (t e end : ℕ) (rows : List Row) → IsInForce list t e → t < end → ((k : ℕ) → k < end → k * cores + c < n) → turns_told lists cores n ≡ rows → IsFound rows cores c t list e end
+  found_there t e end rows stands before within view = record {
+    stands = stands;
+    before = before;
+    later = rises n c list is_list;
+    some = λ k from. (came_by k list - 1, after k from, stands_by n c list is_list k l.some);
+    each = λ k f low here.
+        let i = k * cores + c in
+        ap (λ m. slice_get m i) (sym view) ∙ (turn_get lists cores n i (within k low)
+        ∙ ap Some (ap (λ m. row_in lists m (i / cores)) (mod-mul-add k cores c l.low) ∙ (ap (row_in lists c) (div-mul-add k cores c l.low) ∙ stands_here n c list is_list k f lists l.here here)));
+  }
+    where
+      after : (k : ℕ) → t ≤ k → e ≤ came_by k list - 1
+      after k from = elim (cases_lt (came_by k list - 1) e) [
+        | inr past ↦ past
+        | inl less ↦
+            let f = came_by k list - 1 in
+            let here = stands_by n c list is_list k l.some in
+            let inside = stands.within in
+            let next = here.next (slice_index_or list (f + 1) no_kept) (slice_get-get_or list (f + 1) no_kept (omega (arith, less, inside))) in
+            let came = stands.came in
+            elim (cases_lt (f + 1) e) [
+              | inl far ↦ let rise = rises n c list is_list (f + 1) e far inside in absurd (omega (arith, next, rise, came, from))
+              | inr near ↦ let same : f + 1 ≡ e = omega (arith, less, near) in let late = subst (λ j. k < (slice_index_or list j no_kept).tick) same next in absurd (omega (arith, late, came, from))
+            ]
+      ]
+
+-- ---- what is skipped, with rows behind
+tells_before : (turns rest : List Row) (res : ResId) (i : ℕ) (b : Bool) → Tells res turns i b → Tells res (turns ++ rest) i b
+tells_before turns rest res i b tells = record { row = tells.row; there = get_left turns rest i tells.row tells.there; is = tells.is }
+
+pub skips_before : (turns rest : List Row) (res : ResId) (cores c t : ℕ) (s : Skipped) → HasSkipped res turns cores c t s → HasSkipped res (turns ++ rest) cores c t s
+skips_before turns rest res cores c t s skipped = record {
+  from = skipped.from;
+  off = λ k from to. tells_before turns rest res (k * cores + c) false (skipped.off k from to);
+  on = λ names. tells_before turns rest res (s.tick * cores + c) true (skipped.on names);
+}
