@@ -16,7 +16,7 @@ use Rattle.msrp_plan.specs.Queues.{is_on}
 use Rattle.msrp_plan.specs.Stretches.{in_tick}
 use Rattle.msrp_plan.specs.declared.ids.ResId.{ResId}
 use Rattle.msrp_plan.specs.declared.rows.Row.{Row}
-use Rattle.msrp_audit.specs.declared.kept.KeptRow.{KeptRow}
+use Rattle.msrp_audit.specs.Inside.KeptView.{Kept}
 use Rattle.msrp_audit.specs.declared.stretches.Skipped.{Skipped}
 use Rattle.msrp_audit.specs.declared.stretches.Stretch.{Stretch}
 use Rattle.msrp_audit.specs.Inside.Gathered.{row_of, rows_of}
@@ -25,7 +25,7 @@ use Rattle.msrp_audit.specs.Inside.Stretches.{AreTurnLists, AreTurns, IsFound, I
 use Rattle.msrp_audit.proofs.Orders.{next_tick}
 
 -- ---- one list
-module _ (n c : ℕ) (list : List KeptRow) (is : IsTurnList n c list) where
+module _ (n c : ℕ) (list : List Kept) (is : IsTurnList n c list) where
   rises_here : (e : ℕ) → e + 1 < length list → (slice_index_or list e no_kept).tick < (slice_index_or list (e + 1) no_kept).tick
   rises_here e within = is.rising e (slice_index_or list e no_kept) (slice_index_or list (e + 1) no_kept) (slice_get-get_or list e no_kept (omega (arith, within))) (slice_get-get_or list (e + 1) no_kept within)
 
@@ -64,35 +64,35 @@ module _ (n c : ℕ) (list : List KeptRow) (is : IsTurnList n c list) where
     came = leb-true (slice_index_or list (came_by t list - 1) no_kept).tick t (prefix_len_passes (λ k. nat_le k.tick t) list (came_by t list - 1) no_kept (omega (arith, one)));
     next = λ k there.
         let at : slice_get list (came_by t list) ≡ Some k = ap (slice_get list) (omega (arith, one)) ∙ there in
-        leb-false k.tick t (ap (λ (x : KeptRow). nat_le x.tick t) (sym (get_or_from_slice_get list (came_by t list) k no_kept at)) ∙ prefix_len_stops (λ (x : KeptRow). nat_le x.tick t) list no_kept (slice_get_within list (came_by t list) k at));
+        leb-false k.tick t (ap (λ (x : Kept). nat_le x.tick t) (sym (get_or_from_slice_get list (came_by t list) k no_kept at)) ∙ prefix_len_stops (λ (x : Kept). nat_le x.tick t) list no_kept (slice_get_within list (came_by t list) k at));
   }
     where
       by : came_by t list ≤ length list
-      by = prefix_len-le-length (λ (k : KeptRow). nat_le k.tick t) list
+      by = prefix_len-le-length (λ (k : Kept). nat_le k.tick t) list
 
       one : 0 < came_by t list
       one = elim (cases_lt 0 (came_by t list)) [
         | inl more ↦ more
         | inr none ↦
             let zero_here : came_by t list ≡ 0 = omega (arith, none) in
-            let stops = prefix_len_stops (λ (x : KeptRow). nat_le x.tick t) list no_kept (omega (arith, zero_here, some)) in
+            let stops = prefix_len_stops (λ (x : Kept). nat_le x.tick t) list no_kept (omega (arith, zero_here, some)) in
             absurd (true≢false (sym (le-leb (slice_index_or list 0 no_kept).tick t (first_came t some)) ∙ (ap (λ e. nat_le (slice_index_or list e no_kept).tick t) (sym zero_here) ∙ stops)))
       ]
 
   -- so it stands
-  pub stands_here : (t e : ℕ) (lists : List (List KeptRow)) → list_of lists c ≡ list → IsInForce list t e → row_in lists c t ≡ in_tick t (row_of (slice_index_or list e no_kept))
+  pub stands_here : (t e : ℕ) (lists : List (List Kept)) → list_of lists c ≡ list → IsInForce list t e → row_in lists c t ≡ in_tick t (row_of (slice_index_or list e no_kept))
   stands_here t e lists here stands =
       let last : came_by t list - 1 ≡ e = let by = came_is t e stands in omega (arith, by) in
       ap (λ l. in_tick t (row_of (slice_index_or l (came_by t l - 1) no_kept))) here ∙ ap (λ k. in_tick t (row_of (slice_index_or list k no_kept))) last
 
   -- the one that stands is of the core
-  own_here : (t : ℕ) → 0 < length list → (slice_index_or list (came_by t list - 1) no_kept).what.core ≡ c
+  own_here : (t : ℕ) → 0 < length list → (slice_index_or list (came_by t list - 1) no_kept).core ≡ c
   own_here t some =
       let by = prefix_len-le-length (λ k. nat_le k.tick t) list in
-      All-get_or (λ (k : KeptRow). k.what.core ≡ c) list (came_by t list - 1) no_kept (omega (arith, by, some)) is.own
+      All-get_or (λ (k : Kept). k.core ≡ c) list (came_by t list - 1) no_kept (omega (arith, by, some)) is.own
 
 -- ---- the turns
-module _ (lists : List (List KeptRow)) (cores n : ℕ) where
+module _ (lists : List (List Kept)) (cores n : ℕ) where
   pub turns_size : length (turns_told lists cores n) ≡ n
   turns_size = length-map-range_with_len (λ i. row_in lists (i % cores) (i / cores)) 0 n
 
@@ -136,8 +136,8 @@ module _ (lists : List (List KeptRow)) (cores n : ℕ) where
         }
 
 -- the row that stands in a tick stands until the core's next one that is kept, and until its turns end
-pub stands_until : (rows : List Row) (cores c t : ℕ) (list : List KeptRow) (e end : ℕ) → IsFound rows cores c t list e end → (s : Stretch) → s.row ≡ in_tick t (row_of (slice_index_or list e no_kept)) → t < s.until
-    → ((k : KeptRow) → slice_get list (e + 1) ≡ Some k → s.until ≤ k.tick) → s.until ≤ end → Stands rows cores c t s
+pub stands_until : (rows : List Row) (cores c t : ℕ) (list : List Kept) (e end : ℕ) → IsFound rows cores c t list e end → (s : Stretch) → s.row ≡ in_tick t (row_of (slice_index_or list e no_kept)) → t < s.until
+    → ((k : Kept) → slice_get list (e + 1) ≡ Some k → s.until ≤ k.tick) → s.until ≤ end → Stands rows cores c t s
 stands_until rows cores c t list e end is s row some next last = record {
   some = some;
   tick = ap (λ (r : Row). r.tick) row;
@@ -152,7 +152,7 @@ stands_until rows cores c t list e end is s row some next last = record {
 }
 
 -- before the first one that names a resource none does
-pub names_not : (rows : List Row) (cores c t : ℕ) (list : List KeptRow) (e end : ℕ) → IsFound rows cores c t list e end → (res : ResId) (m : ℕ) → ((f : ℕ) → e ≤ f → f < m → is_on res.0 (row_of (slice_index_or list f no_kept)).res ≡ false)
+pub names_not : (rows : List Row) (cores c t : ℕ) (list : List Kept) (e end : ℕ) → IsFound rows cores c t list e end → (res : ResId) (m : ℕ) → ((f : ℕ) → e ≤ f → f < m → is_on res.0 (row_of (slice_index_or list f no_kept)).res ≡ false)
     → (k : ℕ) → t ≤ k → k < end → (m < length list → k < (slice_index_or list m no_kept).tick) → Tells res rows (k * cores + c) false
 names_not rows cores c t list e end is res m off k from to before =
     let some = is.some k from in
@@ -172,16 +172,16 @@ names_not rows cores c t list e end is res m off k from to before =
     record { row = in_tick k (row_of (slice_index_or list f no_kept)); there = is.each k f to here; is = off f some.1 low }
 
 -- the one that names it stands in its tick, or else stood before that one and stands still
-pub names_here : (rows : List Row) (cores c t : ℕ) (list : List KeptRow) (e end : ℕ) → IsFound rows cores c t list e end → (res : ResId) (m n : ℕ) → e ≤ m → m < length list → (slice_index_or list m no_kept).tick < end
+pub names_here : (rows : List Row) (cores c t : ℕ) (list : List Kept) (e end : ℕ) → IsFound rows cores c t list e end → (res : ResId) (m n : ℕ) → e ≤ m → m < length list → (slice_index_or list m no_kept).tick < end
     → is_on res.0 (row_of (slice_index_or list m no_kept)).res ≡ true → n ≡ max (slice_index_or list m no_kept).tick t → Tells res rows (n * cores + c) true
 names_here rows cores c t list e end is res m n from within low on last =
     let before = is.before in
     record { row = in_tick n (row_of (slice_index_or list m no_kept)); there = is.each n m (omega (arith, last, low, before)) here; is = on }
   where
-    late : n < (slice_index_or list m no_kept).tick + 1 → (k : KeptRow) → slice_get list (m + 1) ≡ Some k → n < k.tick
+    late : n < (slice_index_or list m no_kept).tick + 1 → (k : Kept) → slice_get list (m + 1) ≡ Some k → n < k.tick
     late own k there =
         let rise = is.later m (m + 1) (omega arith) (slice_get_within list (m + 1) k there) in
-        let at = ap (λ (x : KeptRow). x.tick) (get_or_from_slice_get list (m + 1) k no_kept there) in
+        let at = ap (λ (x : Kept). x.tick) (get_or_from_slice_get list (m + 1) k no_kept there) in
         omega (arith, own, rise, at)
 
     same : (slice_index_or list m no_kept).tick < t → m ≡ e
@@ -223,7 +223,7 @@ get_left (y ∷ xs) ys zero x there = there
 get_left (y ∷ xs) ys (suc i) x there = get_left xs ys i x there
 
 -- a row in ten bytes stands there
-kept_at : (turns : List Row) (kept : List KeptRow) (rest : List Row) (i : ℕ) → length turns ≤ i → i - length turns < length kept → slice_get (turns ++ rows_of kept rest) i ≡ Some (row_of (slice_index_or kept (i - length turns) no_kept))
+kept_at : (turns : List Row) (kept : List Kept) (rest : List Row) (i : ℕ) → length turns ≤ i → i - length turns < length kept → slice_get (turns ++ rows_of kept rest) i ≡ Some (row_of (slice_index_or kept (i - length turns) no_kept))
 kept_at [] kept rest i low within =
     let all : i - 0 ≡ i = omega arith in
     get_left (map row_of kept) rest i (row_of (slice_index_or kept (i - 0) no_kept)) (slice_get-map row_of kept i ∙ ap (option_map row_of) (slice_get-get_or kept i no_kept (omega (arith, within)) ∙ ap (λ k. Some (slice_index_or kept k no_kept)) (sym all)))
@@ -233,13 +233,13 @@ kept_at (t ∷ turns) kept rest (suc i) low within =
     kept_at turns kept rest i (omega (arith, low)) (omega (arith, within, one)) ∙ ap (λ k. Some (row_of (slice_index_or kept k no_kept))) (sym one)
 
 -- and names the resource no more than what is kept of it
-pub off_behind : (turns rest rows : List Row) (kept : List KeptRow) (res : ResId) (behind i : ℕ) → turns ++ rows_of kept rest ≡ rows → behind ≡ length turns → behind ≤ i → i - behind < length kept → is_on res.0 (row_of (slice_index_or kept (i - behind) no_kept)).res ≡ false → IsOff res rows i
+pub off_behind : (turns rest rows : List Row) (kept : List Kept) (res : ResId) (behind i : ℕ) → turns ++ rows_of kept rest ≡ rows → behind ≡ length turns → behind ≤ i → i - behind < length kept → is_on res.0 (row_of (slice_index_or kept (i - behind) no_kept)).res ≡ false → IsOff res rows i
 off_behind turns rest rows kept res behind i view size low within off r there =
     let is : row_of (slice_index_or kept (i - behind) no_kept) ≡ r = same_Some (row_of (slice_index_or kept (i - behind) no_kept)) r (
     ap (λ n. Some (row_of (slice_index_or kept (i - n) no_kept))) size ∙ (sym (kept_at turns kept rest i (omega (arith, low, size)) (omega (arith, within, size))) ∙ (ap (λ l. slice_get l i) view ∙ there))) in
     subst (λ (x : Row). is_on res.0 x.res ≡ false) is off
 
-pub repeats_there : (turns rest rows : List Row) (kept : List KeptRow) (behind last index : ℕ) → turns ++ rows_of kept rest ≡ rows → behind ≡ length turns → behind ≤ last → last < index → index - behind < length kept
+pub repeats_there : (turns rest rows : List Row) (kept : List Kept) (behind last index : ℕ) → turns ++ rows_of kept rest ≡ rows → behind ≡ length turns → behind ≤ last → last < index → index - behind < length kept
     → row_of (slice_index_or kept (index - behind) no_kept) ≡ in_tick ((slice_index_or kept (last - behind) no_kept).tick + 1) (row_of (slice_index_or kept (last - behind) no_kept))
     → (r : Row) → slice_get rows last ≡ Some r → slice_get rows index ≡ Some (in_tick (r.tick + 1) r)
 repeats_there turns rest rows kept behind last index view size low less within again r there =
@@ -250,21 +250,21 @@ repeats_there turns rest rows kept behind last index view size low less within a
 
 -- ---- what is read of the lists
 -- the list of a core that has rows in it
-pub record IsListOf (lists : List (List KeptRow)) (cores c : ℕ) (list : List KeptRow) : Type 0 where
+pub record IsListOf (lists : List (List Kept)) (cores c : ℕ) (list : List Kept) : Type 0 where
   pub low : c < cores
   pub here : list_of lists c ≡ list
   pub some : 0 < length list
 
 -- where a core's list stands
-pub list_there : (lists : List (Vec KeptRow Global)) (cores n c : ℕ) → AreTurnLists cores n (lists_of lists) → c < cores → c < n → c < length lists
-list_there lists cores n c are low some = let all = are.all (omega (arith, some)) in let size = length-map lists (λ (v : Vec KeptRow Global). v.items) in omega (arith, all, size, low)
+pub list_there : (lists : List (Vec Kept Global)) (cores n c : ℕ) → AreTurnLists cores n (lists_of lists) → c < cores → c < n → c < length lists
+list_there lists cores n c are low some = let all = are.all (omega (arith, some)) in let size = length-map lists (λ (v : Vec Kept Global). v.items) in omega (arith, all, size, low)
 
-pub list_read : (lists : List (Vec KeptRow Global)) (cores n c : ℕ) (d : Vec KeptRow Global) (list : List KeptRow) → AreTurnLists cores n (lists_of lists) → c < cores → c < n → list ≡ (slice_index_or lists c d).items → IsListOf (lists_of lists) cores c list
+pub list_read : (lists : List (Vec Kept Global)) (cores n c : ℕ) (d : Vec Kept Global) (list : List Kept) → AreTurnLists cores n (lists_of lists) → c < cores → c < n → list ≡ (slice_index_or lists c d).items → IsListOf (lists_of lists) cores c list
 list_read lists cores n c d list are low some value =
-    let here : list_of (lists_of lists) c ≡ list = get_or-map (λ (v : Vec KeptRow Global). v.items) lists c d [] (list_there lists cores n c are low some) ∙ sym value in
+    let here : list_of (lists_of lists) c ≡ list = get_or-map (λ (v : Vec Kept Global). v.items) lists c d [] (list_there lists cores n c are low some) ∙ sym value in
     record { low = low; here = here; some = subst (λ l. 0 < length l) here ((are.each c low).some some) }
 
-module _ (lists : List (List KeptRow)) (cores n c : ℕ) (list : List KeptRow) (are : AreTurnLists cores n lists) (l : IsListOf lists cores c list) where
+module _ (lists : List (List Kept)) (cores n c : ℕ) (list : List Kept) (are : AreTurnLists cores n lists) (l : IsListOf lists cores c list) where
   is_list : IsTurnList n c list
   is_list = subst (IsTurnList n c) l.here (are.each c l.low)
 

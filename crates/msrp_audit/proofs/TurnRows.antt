@@ -13,7 +13,7 @@ use Rattle.std.proofs.lemmas.Option.{get_or_from_slice_get, slice_get_within}
 use Rattle.std.specs.List.{All, range_with_len}
 use Rattle.msrp_plan.specs.Stretches.{in_tick}
 use Rattle.msrp_plan.specs.declared.rows.Row.{Row}
-use Rattle.msrp_audit.specs.declared.kept.KeptRow.{KeptRow}
+use Rattle.msrp_audit.specs.Inside.KeptView.{Kept}
 use Rattle.msrp_audit.specs.Inside.Gathered.{row_of}
 use Rattle.msrp_audit.specs.Inside.Stretches.{AreListed, AreTurnLists, IsTurnList, came_by, list_of, lists_of, no_kept, row_in, turns_told}
 use Rattle.msrp_audit.proofs.OnceMore.{once_more}
@@ -23,7 +23,7 @@ use Rattle.msrp_audit.proofs.OnceMore.{once_more}
 pub same_below : {X : Type 0} (f g : ℕ → X) (n : ℕ) → ((i : ℕ) → i < n → f i ≡ g i) → map f (range_with_len 0 n) ≡ map g (range_with_len 0 n)
 same_below f g n same = fill_by_all g (map f (range_with_len 0 n)) n (g 0) (length-map-range_with_len f 0 n) (λ i low. get_or-map-range_with_len f 0 n i i (g 0) low (omega arith) ∙ same i low)
 
-module _ (lists : List (List KeptRow)) (cores : ℕ) where
+module _ (lists : List (List Kept)) (cores : ℕ) where
   abbrev told_at : ℕ → Row
   told_at i = row_in lists (i % cores) (i / cores)
 
@@ -42,14 +42,14 @@ module _ (lists : List (List KeptRow)) (cores : ℕ) where
       sym (take-map-range_with_len told_at 0 n m (omega (arith, is))) ∙ (ap (λ k. take k (turns_told lists cores n)) few ∙ take_min most (turns_told lists cores n))
 
 -- the next turn is that of the core at its place, in its tick
-pub next_row : (cores tick place n : ℕ) (lists : List (List KeptRow)) → place < cores → n ≡ tick * cores + place → turns_told lists cores (n + 1) ≡ turns_told lists cores n ++ row_in lists place tick ∷ []
+pub next_row : (cores tick place n : ℕ) (lists : List (List Kept)) → place < cores → n ≡ tick * cores + place → turns_told lists cores (n + 1) ≡ turns_told lists cores n ++ row_in lists place tick ∷ []
 next_row cores tick place n lists low is =
     told_more lists cores n ∙ (ap (λ c. turns_told lists cores n ++ row_in lists c (n / cores) ∷ []) (ap (λ k. k % cores) is ∙ mod-mul-add tick cores place low)
     ∙ ap (λ t. turns_told lists cores n ++ row_in lists place t ∷ []) (ap (λ k. k / cores) is ∙ div-mul-add tick cores place low))
 
 -- ---- what came by a tick
 -- all of them
-pub all_came : (t : ℕ) (list : List KeptRow) → All (λ k. k.tick ≤ t) list → came_by t list ≡ length list
+pub all_came : (t : ℕ) (list : List Kept) → All (λ k. k.tick ≤ t) list → came_by t list ≡ length list
 all_came t [] all = refl
 all_came t (k ∷ list) all =
     let rest = all_came t list (All-tail (λ x. x.tick ≤ t) k list all) in
@@ -57,7 +57,7 @@ all_came t (k ∷ list) all =
     ap (λ b. cond b (1 + came_by t list) 0) (le-leb k.tick t first) ∙ omega (arith, rest)
 
 -- one more that comes later
-pub came_before : (t : ℕ) (list : List KeptRow) (k : KeptRow) → t < k.tick → came_by t (list ++ k ∷ []) ≡ came_by t list
+pub came_before : (t : ℕ) (list : List Kept) (k : Kept) → t < k.tick → came_by t (list ++ k ∷ []) ≡ came_by t list
 came_before t list k later =
     let whole = prefix_len-append (λ x. nat_le x.tick t) list (k ∷ []) in
     let none : cond (nat_le k.tick t) 1 0 ≡ 0 = ap (λ b. cond b 1 0) (lt-leb k.tick t later) in
@@ -67,11 +67,11 @@ came_before t list k later =
     at_end l n m none = grind (arith, nat_tests)
 
 -- and one more that comes by then
-pub came_now : (t : ℕ) (list : List KeptRow) (k : KeptRow) → All (λ x. x.tick ≤ t) list → k.tick ≤ t → came_by t (list ++ k ∷ []) ≡ length list + 1
+pub came_now : (t : ℕ) (list : List Kept) (k : Kept) → All (λ x. x.tick ≤ t) list → k.tick ≤ t → came_by t (list ++ k ∷ []) ≡ length list + 1
 came_now t list k all now = all_came t (list ++ k ∷ []) (All-push (λ x. x.tick ≤ t) list k all now) ∙ length_push list k
 
 -- the row of the last one
-pub last_now : (lists : List (List KeptRow)) (c t : ℕ) → All (λ k. k.tick ≤ t) (list_of lists c) → row_in lists c t ≡ in_tick t (row_of (slice_index_or (list_of lists c) (length (list_of lists c) - 1) no_kept))
+pub last_now : (lists : List (List Kept)) (c t : ℕ) → All (λ k. k.tick ≤ t) (list_of lists c) → row_in lists c t ≡ in_tick t (row_of (slice_index_or (list_of lists c) (length (list_of lists c) - 1) no_kept))
 last_now lists c t all = ap (λ n. in_tick t (row_of (slice_index_or (list_of lists c) (n - 1) no_kept))) (all_came t (list_of lists c) all)
 
 -- ---- how far the cores came
@@ -143,20 +143,20 @@ left_get (x ∷ xs) ys zero low = refl
 left_get (x ∷ xs) ys (suc i) low = left_get xs ys i (omega (arith, low))
 
 -- ---- the lists as they are kept
-module _ (vecs : List (Vec KeptRow Global)) (place : ℕ) (was : Vec KeptRow Global) (low : place < length (lists_of vecs)) (is : was ≡ slice_index_or vecs place was) where
+module _ (vecs : List (Vec Kept Global)) (place : ℕ) (was : Vec Kept Global) (low : place < length (lists_of vecs)) (is : was ≡ slice_index_or vecs place was) where
   pub kept_there : list_of (lists_of vecs) place ≡ was.items
-  kept_there = get_or-map (λ (v : Vec KeptRow Global). v.items) vecs place was [] (let size = length-map vecs (λ (v : Vec KeptRow Global). v.items) in omega (arith, low, size)) ∙ ap (λ (v : Vec KeptRow Global). v.items) (sym is)
+  kept_there = get_or-map (λ (v : Vec Kept Global). v.items) vecs place was [] (let size = length-map vecs (λ (v : Vec Kept Global). v.items) in omega (arith, low, size)) ∙ ap (λ (v : Vec Kept Global). v.items) (sym is)
 
   -- one that stays
-  pub same_lists : (v : Vec KeptRow Global) → v.items ≡ was.items → lists_of (slice_set vecs place v) ≡ lists_of vecs
-  same_lists v same = map-set (λ (x : Vec KeptRow Global). x.items) vecs place v ∙ (ap (slice_set (lists_of vecs) place) (same ∙ sym kept_there) ∙ set-get_or (lists_of vecs) place [])
+  pub same_lists : (v : Vec Kept Global) → v.items ≡ was.items → lists_of (slice_set vecs place v) ≡ lists_of vecs
+  same_lists v same = map-set (λ (x : Vec Kept Global). x.items) vecs place v ∙ (ap (slice_set (lists_of vecs) place) (same ∙ sym kept_there) ∙ set-get_or (lists_of vecs) place [])
 
   -- and one to which a row was added
-  pub more_in_one : (v : Vec KeptRow Global) (k : KeptRow) → v.items ≡ was.items ++ k ∷ [] → lists_of (slice_set vecs place v) ≡ slice_set (lists_of vecs) place (list_of (lists_of vecs) place ++ k ∷ [])
-  more_in_one v k more = map-set (λ (x : Vec KeptRow Global). x.items) vecs place v ∙ ap (slice_set (lists_of vecs) place) (more ∙ ap (λ l. l ++ k ∷ []) (sym kept_there))
+  pub more_in_one : (v : Vec Kept Global) (k : Kept) → v.items ≡ was.items ++ k ∷ [] → lists_of (slice_set vecs place v) ≡ slice_set (lists_of vecs) place (list_of (lists_of vecs) place ++ k ∷ [])
+  more_in_one v k more = map-set (λ (x : Vec Kept Global). x.items) vecs place v ∙ ap (slice_set (lists_of vecs) place) (more ∙ ap (λ l. l ++ k ∷ []) (sym kept_there))
 
 -- ---- fewer turns
-pub fewer_turns : (cores n m : ℕ) (lists : List (List KeptRow)) → m ≤ n → AreTurnLists cores n lists → AreTurnLists cores m lists
+pub fewer_turns : (cores n m : ℕ) (lists : List (List Kept)) → m ≤ n → AreTurnLists cores n lists → AreTurnLists cores m lists
 fewer_turns cores n m lists less told = record {
   some = told.some;
   each = λ c known. let its = told.each c known in record { own = its.own; rising = its.rising; first = its.first; some = λ low. its.some (omega (arith, low, less)) };
@@ -165,7 +165,7 @@ fewer_turns cores n m lists less told = record {
 }
 
 -- ---- a core that hasn't had its turn in the tick
-module _ (cores tick place : ℕ) (lists : List (List KeptRow)) (l : AreListed cores tick place lists) (c : ℕ) (from : place ≤ c) (known : c < cores) where
+module _ (cores tick place : ℕ) (lists : List (List Kept)) (l : AreListed cores tick place lists) (c : ℕ) (from : place ≤ c) (known : c < cores) where
   early : All (λ k. k.tick < tick) (list_of lists c)
   early = subst (λ t. All (λ k. k.tick < t) (list_of lists c)) (ap (λ b. cond b (tick + 1) tick) (le-ltb c place from)) (l.early c known)
 
@@ -173,7 +173,7 @@ module _ (cores tick place : ℕ) (lists : List (List KeptRow)) (l : AreListed c
   by_now = All-weaker (λ k. k.tick < tick) (λ k. k.tick ≤ tick) (λ k low. omega (arith, low)) (list_of lists c) early
 
 -- ---- the last rows of the next cores again
-module _ (cores tick place : ℕ) (lists : List (List KeptRow)) (l : AreListed cores tick place lists) (behind : cores ≤ tick * cores + place) where
+module _ (cores tick place : ℕ) (lists : List (List Kept)) (l : AreListed cores tick place lists) (behind : cores ≤ tick * cores + place) where
   abbrev rows : List Row
   rows = turns_told lists cores (tick * cores + place)
 
@@ -182,7 +182,7 @@ module _ (cores tick place : ℕ) (lists : List (List KeptRow)) (l : AreListed c
     some = late cores tick place l.next behind
 
     -- what is kept of the core last
-    abbrev last : KeptRow
+    abbrev last : Kept
     last = slice_index_or (list_of lists c) (length (list_of lists c) - 1) no_kept
 
     was : slice_index_or rows (tick * cores + c - cores) d ≡ in_tick (tick - 1) (row_of last)
@@ -212,7 +212,7 @@ module _ (cores tick place : ℕ) (lists : List (List KeptRow)) (l : AreListed c
       ∙ (sym (once_more (in_tick tick) rows cores (omega (arith, size, behind)) m (row_of no_kept) (omega (arith, fits))) ∙ ap (λ k. rows ++ map (in_tick tick) (take k (drop (length rows - cores) rows))) one))))
 
 -- ---- some turns more
-module _ (cores tick place : ℕ) (lists : List (List KeptRow)) (l : AreListed cores tick place lists) (tick' place' count : ℕ) (fits : place + count ≤ cores) (low' : place' < cores) (next : tick' * cores + place' ≡ tick * cores + place + count) where
+module _ (cores tick place : ℕ) (lists : List (List Kept)) (l : AreListed cores tick place lists) (tick' place' count : ℕ) (fits : place + count ≤ cores) (low' : place' < cores) (next : tick' * cores + place' ≡ tick * cores + place + count) where
   later_rows : (c : ℕ) → c < cores → All (λ k. k.tick < due_tick tick' place' c) (list_of lists c)
   later_rows c known =
       let kept = (next_due cores tick place tick' place' count c fits low' next known).kept in
@@ -242,7 +242,7 @@ module _ (cores tick place : ℕ) (lists : List (List KeptRow)) (l : AreListed c
       ∙ (ap (λ b. now ++ map (in_tick tick) (take count (drop (length now - b) now))) (sym all) ∙ ap (λ k. now ++ map (in_tick k) (take count (drop (length now - back) now))) (sym same))))
 
 -- ---- one turn more, whose row is kept
-module _ (cores tick place : ℕ) (lists : List (List KeptRow)) (l : AreListed cores tick place lists) (tick' place' : ℕ) (low' : place' < cores) (next : tick' * cores + place' ≡ tick * cores + place + 1) where
+module _ (cores tick place : ℕ) (lists : List (List Kept)) (l : AreListed cores tick place lists) (tick' place' : ℕ) (low' : place' < cores) (next : tick' * cores + place' ≡ tick * cores + place + 1) where
   abbrev n : ℕ
   n = tick * cores + place
 
@@ -259,11 +259,11 @@ module _ (cores tick place : ℕ) (lists : List (List KeptRow)) (l : AreListed c
   later = later_rows cores tick place lists l tick' place' 1 fits low' next
 
   -- a row that is kept
-  module _ (k : KeptRow) (now : k.tick ≡ tick) (own : k.what.core ≡ place) (small : k.tick < 2 ^ 16) where
-    abbrev list : List KeptRow
+  module _ (k : Kept) (now : k.tick ≡ tick) (own : k.core ≡ place) (small : k.tick < 2 ^ 16) where
+    abbrev list : List Kept
     list = list_of lists place
 
-    abbrev new : List (List KeptRow)
+    abbrev new : List (List Kept)
     new = slice_set lists place (list ++ k ∷ [])
 
     same : list_of new place ≡ list ++ k ∷ []
@@ -272,7 +272,7 @@ module _ (cores tick place : ℕ) (lists : List (List KeptRow)) (l : AreListed c
     other : (c : ℕ) → c ≢ place → list_of new c ≡ list_of lists c
     other c not_it = get_or-set_other lists place c (list ++ k ∷ []) [] not_it
 
-    rising : (e : ℕ) (x y : KeptRow) → slice_get (list ++ k ∷ []) e ≡ Some x → slice_get (list ++ k ∷ []) (e + 1) ≡ Some y → x.tick < y.tick
+    rising : (e : ℕ) (x y : Kept) → slice_get (list ++ k ∷ []) e ≡ Some x → slice_get (list ++ k ∷ []) (e + 1) ≡ Some y → x.tick < y.tick
     rising e x y at after = elim (cases_lt (e + 1) (length list)) [
       | inl within ↦ its.rising e x y (sym (left_get list (k ∷ []) e (omega (arith, within))) ∙ at) (sym (left_get list (k ∷ []) (e + 1) within) ∙ after)
       | inr past ↦
@@ -280,16 +280,16 @@ module _ (cores tick place : ℕ) (lists : List (List KeptRow)) (l : AreListed c
           let end = slice_get_within (list ++ k ∷ []) (e + 1) y after in
           let here : k ≡ y = sym (get_or_push list k k (e + 1) (omega (arith, past, long, end))) ∙ get_or_from_slice_get (list ++ k ∷ []) (e + 1) y k after in
           let before : slice_index_or list e k ≡ x = get_or_from_slice_get list e x k (sym (left_get list (k ∷ []) e (omega (arith, long, end))) ∙ at) in
-          let low = subst (λ (w : KeptRow). w.tick < tick) before (early_here e k (omega (arith, long, end))) in
-          subst (λ (w : KeptRow). x.tick < w.tick) here (omega (arith, low, now))
+          let low = subst (λ (w : Kept). w.tick < tick) before (early_here e k (omega (arith, long, end))) in
+          subst (λ (w : Kept). x.tick < w.tick) here (omega (arith, low, now))
     ]
 
-    first : (x : KeptRow) → slice_get (list ++ k ∷ []) 0 ≡ Some x → x.tick ≡ 0
+    first : (x : Kept) → slice_get (list ++ k ∷ []) 0 ≡ Some x → x.tick ≡ 0
     first x at = elim (cases_lt 0 (length list)) [
       | inl some ↦ its.first x (sym (left_get list (k ∷ []) 0 some) ∙ at)
       | inr none ↦
           let here : k ≡ x = sym (get_or_push list k k 0 (omega (arith, none))) ∙ get_or_from_slice_get (list ++ k ∷ []) 0 x k at in
-          ap (λ (w : KeptRow). w.tick) (sym here) ∙ (now ∙ elim (cases_lt place n) [
+          ap (λ (w : Kept). w.tick) (sym here) ∙ (now ∙ elim (cases_lt place n) [
             | inl low ↦ absurd (let some = its.some low in omega (arith, some, none))
             | inr few ↦ first_tick cores tick place l.next few
           ])
@@ -297,7 +297,7 @@ module _ (cores tick place : ℕ) (lists : List (List KeptRow)) (l : AreListed c
 
     its_list : IsTurnList (tick' * cores + place') place (list ++ k ∷ [])
     its_list = record {
-      own = All-push (λ x. x.what.core ≡ place) list k its.own own;
+      own = All-push (λ x. x.core ≡ place) list k its.own own;
       rising = rising;
       first = first;
       some = λ low. let long = length_push list k in omega (arith, long);
@@ -339,7 +339,7 @@ module _ (cores tick place : ℕ) (lists : List (List KeptRow)) (l : AreListed c
     }
 
     -- a row that was told before is told now
-    abbrev row_at : ℕ → List KeptRow → Row
+    abbrev row_at : ℕ → List Kept → Row
     row_at t kept = in_tick t (row_of (slice_index_or kept (came_by t kept - 1) no_kept))
 
     own_row : (t : ℕ) → t * cores + place < n → row_at t (list ++ k ∷ []) ≡ row_at t list

@@ -1,5 +1,6 @@
 -- Words of the audit in pieces. No public contract speaks of them.
 pub mod Gathered
+pub mod KeptView
 pub mod Naming
 pub mod Pieces
 pub mod Replies

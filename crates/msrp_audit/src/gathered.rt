@@ -12,7 +12,7 @@ use msrp_plan::{CoreId, Memory, Plan, ResId, Row};
 use std::alloc::Global;
 use std::marker::Model;
 
-/// Rows to judge, as they are kept: those of the first turns by the stretches of each core, then those in ten bytes, and then the rest, as they are.
+/// Rows to judge, as they are kept: those of the first turns by the stretches of each core, then those in eight bytes, and then the rest, as they are.
 #[derive(Drop)]
 pub(crate) struct Rows<'a> {
     turns: Stretches<'a>,
@@ -88,7 +88,7 @@ impl<'a> Rows<'a> {
         self.turns.skip(cores, core, res, tick, near)
     }
 
-    /// Whether the row at this index is the one at that last index in the next tick. It is told of rows in ten bytes alone.
+    /// Whether the row at this index is the one at that last index in the next tick. It is told of rows in eight bytes alone.
     #[inline(always)]
     pub(crate) fn repeats(&self, last: usize, index: usize) -> bool
         requires { last < index }
@@ -119,7 +119,7 @@ impl<'a> Rows<'a> {
         }
     }
 
-    /// A place from there on before which no row names the resource: among the rows in ten bytes that of the first one that does, or their end.
+    /// A place from there on before which no row names the resource: among the rows in eight bytes that of the first one that does, or their end.
     pub(crate) fn pass(&self, from: usize, res: ResId) -> usize
         ensures from { from ≤ result }
         ensures off { AreOff res self.now from result }
@@ -131,7 +131,7 @@ impl<'a> Rows<'a> {
         turns + naming_entry(self.kept, from - turns, res)
     }
 
-    /// Whether the row that stands there names the resource. Of rows in ten bytes it is found without the rows' other parts.
+    /// Whether the row that stands there names the resource. Of rows in eight bytes it is found without the rows' other parts.
     #[inline(always)]
     pub(crate) fn names(&self, index: usize, res: ResId) -> bool
         requires { index < length self.now }
@@ -147,7 +147,7 @@ impl<'a> Rows<'a> {
 }
 
 /// Rows that are gathered before they are judged. As long as the cores have their turns by their numbers in each tick, and as the rows' numbers are small, a
-/// row is kept in ten bytes where it isn't its core's last one again, and else in none. From then on each row is kept in ten bytes, as long as its numbers
+/// row is kept in eight bytes where it isn't its core's last one again, and else in none. From then on each row is kept in eight bytes, as long as its numbers
 /// are small; from the first one on whose numbers aren't, they are kept as they are.
 #[derive(Drop)]
 pub struct Gathered {
@@ -210,6 +210,25 @@ impl Gathered {
             return Ok(());
         }
         self.again_each(back, count, tick)
+    }
+
+    /// Adds rows once more as [`Gathered::again`] does, in the tick of this row, and then this row.
+    #[inline(always)]
+    pub fn again_then(&mut self, back: usize, count: usize, row: Row) -> Result<(), Memory>
+        requires some { count ≤ back }
+        requires there { back ≤ length self.old }
+        ensures added { OnOk result (self.new ≡ (self.old ++ map (in_tick row.tick) (take count (drop (length self.old - back) self.old))) ++ row ∷ []) }
+        ensures first { IfErr result (λ _. (n : ℕ) × (n ≤ count) × (self.new ≡ self.old ++ map (in_tick row.tick) (take n (drop (length self.old - back) self.old)))) }
+    {
+        if self.kept.is_empty() && self.rest.is_empty() {
+            if let Some(kept) = KeptRow::of(row) {
+                if self.turns.again_then(back, count, kept)? {
+                    return Ok(());
+                }
+            }
+        }
+        self.again_each(back, count, row.tick)?;
+        self.push(row)
     }
 
     // Adds them one by one.

@@ -1,33 +1,34 @@
-//! A row in ten bytes.
-ghost use Rattle.std.specs.Prelude.{◌≡◌, ◌+◌, true, IfSome};
+//! A row in eight bytes.
+ghost use Rattle.std.specs.Prelude.{◌≡◌, ◌+◌, ℕ, true, IfSome};
 ghost use Rattle.msrp_plan.specs.Queues.{is_on};
 ghost use Rattle.msrp_plan.specs.Stretches.{in_tick};
 ghost use Rattle.msrp_plan.specs.Shape.{ahead_of_kind, job_of_kind, res_of_kind};
-ghost use Rattle.msrp_audit.specs.Inside.Gathered.{job_in, res_in, row_of};
+ghost use Rattle.msrp_audit.specs.Inside.Gathered.{ahead_in, ahead_number, carries_in, job_in, kind_in, kind_numbered, number_of_kind, res_in, row_of};
 
 use msrp_plan::{CoreId, JobId, Kind, ResId, Row, TaskId};
+use std::marker::Model;
 use std::mem::size_of;
 
-// What is kept of a row beside its tick: eight bytes, which are copied at once.
-#[derive(Clone, Copy, Debug, PartialEq, Eq)]
-struct What {
-    k: u16,
-    core: u8,
-    kind: Kind,
-    task: u8,
-    res: u8,
-    carries: bool,
-    ahead: u8,
-}
-
-/// A row in ten bytes. What a row of this kind lacks stands here all the same, and is not read.
-#[derive(Clone, Copy, Debug, PartialEq, Eq)]
+/// A row in eight bytes, as one number: so it is made and copied at once. What a row of this kind lacks has its bits all the same, and is not read.
+#[derive(Clone, Copy)]
 pub(crate) struct KeptRow {
-    tick: u16,
-    what: What,
+    number: u64,
 }
 
-const _: () = prove!(size_of::<KeptRow>() == 10);
+const _: () = prove!(size_of::<KeptRow>() == 8);
+
+// What one of each part counts for in the number. The kind counts for one.
+const TICK: u64 = 1 << 48;
+
+const JOB: u64 = 1 << 32;
+
+const TASK: u64 = 1 << 24;
+
+const RES: u64 = 1 << 16;
+
+const AHEAD: u64 = 1 << 8;
+
+const CORE: u64 = 1 << 4;
 
 const NO_JOB: JobId = JobId {
     task: TaskId(0),
@@ -37,6 +38,55 @@ const NO_JOB: JobId = JobId {
 // The number of no resource of a plan.
 const NO_RES: ResId = ResId(u8::MAX as u32);
 
+impl Model for KeptRow {
+    ghost use Rattle.msrp_audit.specs.Inside.KeptView.{Kept, kept_view, kept_inside, inside_again};
+
+    ghost Value = { Kept };
+
+    ghost view = { kept_view };
+
+    ghost inverse = { kept_inside };
+
+    ghost inverse_ok = { λ kept _. inside_again kept };
+}
+
+// The number of a kind.
+#[inline(always)]
+fn number_of(kind: Kind) -> u64
+    ensures { result ≡ number_of_kind kind }
+{
+    kind as u64
+}
+
+// The kind with that number.
+#[inline(always)]
+fn kind_with(number: u64) -> Kind
+    ensures { result ≡ kind_numbered number }
+{
+    match number {
+        1 => Kind::Run,
+        2 => Kind::Lock,
+        3 => Kind::Unlock,
+        4 => Kind::Take,
+        5 => Kind::Queue,
+        6 => Kind::Spin,
+        7 => Kind::Grant,
+        8 => Kind::Release,
+        _ => Kind::Idle,
+    }
+}
+
+// What stands for how many stand ahead: one more, and nothing where the row doesn't carry it.
+#[inline(always)]
+fn ahead_kept(ahead: Option<u32>) -> u64
+    ensures { result ≡ ahead_number ahead }
+{
+    match ahead {
+        Some(ahead) => ahead as u64 + 1,
+        None => 0,
+    }
+}
+
 impl KeptRow {
     /// The row so, where its numbers are small enough.
     #[inline(always)]
@@ -45,66 +95,82 @@ impl KeptRow {
     {
         let job = row.job.unwrap_or(NO_JOB);
         let res = row.res.unwrap_or(NO_RES);
-        let ahead = row.ahead.unwrap_or(0);
+        let ahead = ahead_kept(row.ahead);
         let wide = row.tick.max(job.k);
-        let narrow = row.core.0.max(job.task.0).max(res.0).max(ahead);
-        if wide > u16::MAX as u32 || narrow > u8::MAX as u32 {
+        let narrow = job.task.0.max(res.0);
+        if wide > u16::MAX as u32
+            || narrow > u8::MAX as u32
+            || ahead > u8::MAX as u64
+            || row.core.0 > 15
+        {
             return None;
         }
-        let what = What {
-            k: job.k as u16,
-            core: row.core.0 as u8,
-            kind: row.kind,
-            task: job.task.0 as u8,
-            res: res.0 as u8,
-            carries: row.ahead.is_some(),
-            ahead: ahead as u8,
-        };
         Some(KeptRow {
-            tick: row.tick as u16,
-            what,
+            number: row.tick as u64 * TICK
+                + job.k as u64 * JOB
+                + job.task.0 as u64 * TASK
+                + res.0 as u64 * RES
+                + ahead * AHEAD
+                + row.core.0 as u64 * CORE
+                + number_of(row.kind),
         })
     }
 
     #[inline(always)]
-    fn job(&self) -> Option<JobId>
-        ensures { result ≡ job_of_kind self.now.what.kind (job_in self.now) }
+    fn kind(&self) -> Kind
+        ensures { result ≡ kind_in self.now }
     {
-        match self.what.kind {
+        kind_with(self.number % CORE)
+    }
+
+    #[inline(always)]
+    fn job(&self) -> Option<JobId>
+        ensures { result ≡ job_of_kind (kind_in self.now) (job_in self.now) }
+    {
+        match self.kind() {
             Kind::Idle => None,
             _ => Some(JobId {
-                task: TaskId(self.what.task as u32),
-                k: self.what.k as u32,
+                task: TaskId((self.number % JOB / TASK) as u32),
+                k: (self.number % TICK / JOB) as u32,
             }),
         }
     }
 
+    // The resource of a row that names one.
+    #[inline(always)]
+    fn res_named(&self) -> ResId
+        ensures { result ≡ res_in self.now }
+    {
+        ResId((self.number % TASK / RES) as u32)
+    }
+
     #[inline(always)]
     fn res(&self) -> Option<ResId>
-        ensures { result ≡ res_of_kind self.now.what.kind (res_in self.now) }
+        ensures { result ≡ res_of_kind (kind_in self.now) (res_in self.now) }
     {
-        match self.what.kind {
+        match self.kind() {
             Kind::Idle | Kind::Run => None,
-            _ => Some(ResId(self.what.res as u32)),
+            _ => Some(self.res_named()),
         }
     }
 
     #[inline(always)]
     fn ahead(&self) -> Option<u32>
-        ensures { result ≡ ahead_of_kind self.now.what.kind self.now.what.carries self.now.what.ahead }
+        ensures { result ≡ ahead_of_kind (kind_in self.now) (carries_in self.now) (ahead_in self.now) }
     {
-        match self.what.kind {
-            Kind::Queue if self.what.carries => Some(self.what.ahead as u32),
+        let kept = (self.number % RES / AHEAD) as u32;
+        match self.kind() {
+            Kind::Queue if kept > 0 => Some(kept - 1),
             _ => None,
         }
     }
 
-    /// Whether the row that is kept so is that one in the next tick, where all parts say so.
+    /// Whether the row that is kept so is that one in the next tick.
     #[inline(always)]
     pub(crate) fn repeats(&self, last: &KeptRow) -> bool
         ensures { result ≡ true → row_of self.now ≡ in_tick (last.now.tick + 1) (row_of last.now) }
     {
-        self.tick as u32 == last.tick as u32 + 1 && self.what == last.what
+        self.number >= TICK && self.number - TICK == last.number
     }
 
     /// Whether the row that is kept so names the resource.
@@ -113,7 +179,7 @@ impl KeptRow {
         ensures { result ≡ is_on res.0 (row_of self.now).res }
     {
         // The number first: a row that names none mostly has another one.
-        self.what.res as u32 == res.0 && !matches!(self.what.kind, Kind::Idle | Kind::Run)
+        self.res_named() == res && !matches!(self.kind(), Kind::Idle | Kind::Run)
     }
 
     /// The tick of the row.
@@ -121,15 +187,15 @@ impl KeptRow {
     pub(crate) fn tick(&self) -> u32
         ensures { result ≡ self.now.tick }
     {
-        self.tick as u32
+        (self.number / TICK) as u32
     }
 
     /// The core of the row.
     #[inline(always)]
     pub(crate) fn core(&self) -> u32
-        ensures { result ≡ self.now.what.core }
+        ensures { result ≡ self.now.core }
     {
-        self.what.core as u32
+        (self.number % AHEAD / CORE) as u32
     }
 
     /// The row that is kept so.
@@ -141,9 +207,9 @@ impl KeptRow {
         let res = self.res();
         let ahead = self.ahead();
         Row {
-            tick: self.tick as u32,
-            core: CoreId(self.what.core as u32),
-            kind: self.what.kind,
+            tick: self.tick(),
+            core: CoreId(self.core()),
+            kind: self.kind(),
             job,
             res,
             ahead,

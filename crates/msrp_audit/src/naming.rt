@@ -1,5 +1,6 @@
 //! The rows that name a resource, one after the other.
-ghost use Rattle.std.specs.Prelude.{ℕ, ◌≡◌, ◌<◌, ◌≤◌, ◌+◌, ◌*◌, ◌^◌, IfSome, Some, length, slice_get};
+ghost use Rattle.std.specs.Prelude.{ℕ, true, ◌≡◌, ◌<◌, ◌≤◌, ◌+◌, ◌*◌, ◌^◌, IfSome, Some, length, slice_get};
+ghost use Rattle.msrp_plan.specs.Queues.{is_on};
 ghost use Rattle.msrp_plan.specs.declared.rows.Row.{Row as TraceRow};
 ghost use Rattle.msrp_audit.specs.Inside.Naming.{FindsNext, IsNaming, IsNextNamed, IsOff, IsOn, place_of};
 ghost use Rattle.msrp_audit.specs.Inside.Stretches.{AreTurns, Stands};
@@ -120,6 +121,33 @@ impl Naming {
         next
     }
 
+    // In which tick the core's next one stands behind that of this row. While the row stands it is that row again.
+    #[inline(always)]
+    fn next_behind(
+        &self,
+        rows: &Rows<'_>,
+        res: ResId,
+        core: CoreId,
+        tick: u32,
+        stretch: Stretch,
+        near: &mut usize,
+    ) -> u32
+        requires core { core.0 < self.now.cores }
+        requires turns { AreTurns self.now.cores rows.now self.now.turns }
+        requires few { length rows.now < 2 ^ 32 }
+        requires stands { Stands rows.now self.now.cores core.0 tick stretch }
+        requires named { is_on res.0 stretch.row.res ≡ true }
+        ensures from { tick + 1 ≤ result }
+        ensures off { (k : ℕ) → tick + 1 ≤ k → k < result → IsOff res rows.now (k * self.now.cores + core.0) }
+        ensures on { result * self.now.cores + core.0 < self.now.turns → IsOn res rows.now (result * self.now.cores + core.0) }
+    {
+        if tick + 1 < stretch.until {
+            tick + 1
+        } else {
+            self.next_in(rows, res, core, tick + 1, near)
+        }
+    }
+
     // The place of the core's next one.
     #[inline(always)]
     fn place(&self, core: CoreId) -> usize
@@ -160,13 +188,16 @@ impl Naming {
     {
         let tick = self.ticks[core.0 as usize];
         let mut near = self.nears[core.0 as usize];
-        let row = turn_of(rows, self.cores, core, tick, &mut near).row;
-        let next = self.next_in(rows, res, core, tick + 1, &mut near);
+        let stretch = turn_of(rows, self.cores, core, tick, &mut near);
+        let next = self.next_behind(rows, res, core, tick, stretch, &mut near);
         self.ticks[core.0 as usize] = next;
         self.nears[core.0 as usize] = near;
         let place = place_in(self.cores, core, tick);
         self.from = place + 1;
-        Named { place, row }
+        Named {
+            place,
+            row: stretch.row,
+        }
     }
 
     /// The next one, behind which it goes on.

@@ -3,7 +3,7 @@ ghost use Rattle.std.specs.Prelude.{ℕ, ◌≡◌, ◌<◌, ◌≤◌, ◌++◌
 ghost use Rattle.msrp_plan.specs.Queues.{is_on};
 ghost use Rattle.msrp_plan.specs.Stretches.{in_tick};
 ghost use Rattle.msrp_plan.specs.declared.rows.Row.{Row as TraceRow};
-ghost use Rattle.msrp_audit.specs.declared.kept.KeptRow.{KeptRow as Kept};
+ghost use Rattle.msrp_audit.specs.Inside.KeptView.{Kept};
 ghost use Rattle.msrp_audit.specs.Inside.Gathered.{row_of};
 ghost use Rattle.msrp_audit.specs.Inside.Naming.{HasSkipped};
 ghost use Rattle.msrp_audit.specs.Inside.Stretches.{AreListed, AreTurnLists, AreTurns, IsFound, IsInForce, Stands, lists_of, no_kept};
@@ -301,6 +301,34 @@ impl TurnRows {
             };
         }
         true
+    }
+
+    /// Adds rows once more as [`TurnRows::again`] does, in the tick of the row that is kept so, and then that one. It answers whether it did: it does where these
+    /// are the rows of the next turns.
+    #[inline(always)]
+    pub(crate) fn again_then(
+        &mut self,
+        back: usize,
+        count: usize,
+        kept: KeptRow,
+    ) -> Result<bool, Memory>
+        requires there { back ≤ length self.old }
+        ensures added { result ≡ Ok true → self.new ≡ (self.old ++ map (in_tick kept.tick) (take count (drop (length self.old - back) self.old))) ++ row_of kept ∷ [] }
+        ensures kept { ¬ (result ≡ Ok true) → self.new ≡ self.old }
+    {
+        let place = kept.core();
+        if back != self.cores as usize
+            || kept.tick() != self.at.tick
+            || place >= self.cores
+            || place < self.at.place
+            || (place - self.at.place) as usize != count
+        {
+            return Ok(false);
+        }
+        self.lists[place as usize].push(kept)?;
+        self.at.place = place;
+        self.at.advance(self.cores);
+        Ok(true)
     }
 
     /// The first so many, or all if there are fewer.

@@ -1,6 +1,6 @@
 -- The rows of a tick that are gathered once more.
 use Rattle.std.proofs.Common.{◌≡◌, ℕ, zero, suc, ◌+◌, ◌-◌, ◌<◌, ◌≤◌, List, [], ◌∷◌, ◌++◌, Some, ap, sym, ◌∙◌, arith, length, length-append, map, slice_get, slice_index_or, take, drop, take-append-drop, append_assoc}
-use Rattle.std.proofs.lemmas.List.{append-nil, get_or_append_left, length-take-le}
+use Rattle.std.proofs.lemmas.List.{append-nil, get_or_append_left, length-take-le, take_all}
 use Rattle.std.proofs.lemmas.Option.{get_or_from_slice_get}
 use Rattle.msrp_plan.specs.Stretches.{in_tick}
 use Rattle.msrp_plan.specs.declared.rows.Row.{Row}
@@ -67,13 +67,12 @@ module _ {T : Type 0} (j : JudgedRows T) (t cores : ℕ) (old now : List Row) (k
     rows = λ more rows. put ∙ (ap (λ l. l ++ r ∷ []) (has.rows more rows) ∙ (sym (next_rows old more k r (row_at j t cores k more r rows low row)) ∙ ap (λ m. old ++ take m more) (sym is)));
   }
 
-  -- none
-  pub none_on : new ≡ now → at ≡ k → HasGathered j t cores old new at
-  none_on same is = record {
-    within = let low = has.within in omega (arith, low, is);
-    more = let less = has.more in omega (arith, less, ap length same);
-    rows = λ more rows. same ∙ (has.rows more rows ∙ ap (λ m. old ++ take m more) (sym is));
-  }
+pub none_gathered : {T : Type 0} (j : JudgedRows T) (t cores : ℕ) (old : List Row) → HasGathered j t cores old old 0
+none_gathered j t cores old = record { within = omega arith; more = omega arith; rows = λ more rows. sym (append-nil old) }
+
+-- all were
+pub all_of : {T : Type 0} (j : JudgedRows T) (t cores : ℕ) (old now : List Row) (k : ℕ) → HasGathered j t cores old now k → cores ≤ k → (more : List Row) → AreRowsOf j t cores more → now ≡ old ++ more
+all_of j t cores old now k has end more rows = has.rows more rows ∙ ap (λ l. old ++ l) (take_all k more (let size = rows.size in omega (arith, size, end)))
 
 -- the first of a tick's rows were gathered: some are left
 pub first_of : (old more new : List Row) (k : ℕ) → new ≡ old ++ take k more → (rest : List Row) × (old ++ more ≡ new ++ rest)

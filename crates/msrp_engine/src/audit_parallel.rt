@@ -41,6 +41,22 @@ fn anew_from<T: Read>(rows: &JudgedRows<'_, '_, T>, tick: u32, core: u32, cores:
     anew
 }
 
+// Gathers each row of a tick that was taken.
+#[inline(never)]
+fn gather_each<T: Read>(
+    rows: &JudgedRows<'_, '_, T>,
+    tick: u32,
+    cores: u32,
+    gathered: &mut Gathered,
+) -> Result<(), Memory>
+    ensures { (more : List TraceRow) → AreRowsOf rows.now tick cores more → Gathers result gathered.old gathered.new more }
+{
+    for core in 0..cores {
+        gathered.push(rows.row_in(tick, CoreId(core)))?;
+    }
+    Ok(())
+}
+
 // Gathers the rows of a tick that were taken. Those that weren't made anew are their cores' rows of the tick before once more.
 #[inline(always)]
 fn gather_tick<T: Read>(
@@ -52,20 +68,19 @@ fn gather_tick<T: Read>(
     requires { AreLike rows.now tick cores gathered.old }
     ensures { (more : List TraceRow) → AreRowsOf rows.now tick cores more → Gathers result gathered.old gathered.new more }
 {
-    let are_behind = gathered.len() >= cores as usize;
+    if gathered.len() < cores as usize {
+        return gather_each(rows, tick, cores, gathered);
+    }
     let mut core = 0;
-    while core < cores {
-        if are_behind {
-            let anew = anew_from(rows, tick, core, cores);
-            if core < anew {
-                gathered.again(cores as usize, (anew - core) as usize, tick)?;
-                core = anew;
-            }
-        }
-        if core < cores {
-            gathered.push(rows.row_in(tick, CoreId(core)))?;
-            core += 1;
-        }
+    let mut anew = anew_from(rows, tick, core, cores);
+    while anew < cores {
+        let row = rows.row_in(tick, CoreId(anew));
+        gathered.again_then(cores as usize, (anew - core) as usize, row)?;
+        core = anew + 1;
+        anew = anew_from(rows, tick, core, cores);
+    }
+    if core < cores {
+        gathered.again(cores as usize, (cores - core) as usize, tick)?;
     }
     Ok(())
 }

@@ -1,14 +1,15 @@
-use Rattle.std.proofs.Common.{◌≡◌, ◌-◌, ◌≤◌, ◌++◌, List, length, take}
-use Rattle.msrp_plan.specs.declared.rows.Row.{Row}
-use Rattle.msrp_engine.specs.Inside.Ticks.{AreRowsOf}
+use Rattle.std.proofs.Common.{◌≡◌, ◌≤◌, ◌<◌, ◌-◌, ℕ}
+use Rattle.msrp_engine.specs.Inside.Kept.{row_of_core}
+use Rattle.msrp_engine.proofs.Repeating.{HasGathered}
 use Rattle.msrp_engine.proofs.audit_parallel.gather_tick.Given as goal
 
-abbrev pub invariant-loop-core : goal.invariant-loop-core
-invariant-loop-core g l = record {
-  within : l.core ≤ l.fn.cores;
-  more : length l.fn.gathered ≤ length l.gathered;
-  rows : (more : List Row) → AreRowsOf l.fn.rows l.fn.tick l.fn.cores more → l.gathered ≡ l.fn.gathered ++ take l.core more;
+abbrev pub invariant-loop-anew : goal.invariant-loop-anew
+invariant-loop-anew g l = record {
+  has : HasGathered l.fn.rows l.fn.tick l.fn.cores l.fn.gathered l.gathered l.core;
+  from : l.core ≤ l.anew;
+  within : l.anew ≤ l.fn.cores;
+  again : (c : ℕ) → l.core ≤ c → c < l.anew → ¬ ((row_of_core l.fn.rows.lasts c).tick ≡ l.fn.tick);
 }
 
-abbrev pub decreases-loop-core : goal.decreases-loop-core
-decreases-loop-core g l = l.fn.cores - l.core
+abbrev pub decreases-loop-anew : goal.decreases-loop-anew
+decreases-loop-anew g l = l.fn.cores - l.anew

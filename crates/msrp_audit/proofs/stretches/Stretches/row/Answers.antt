@@ -1,7 +1,9 @@
 use Rattle.std.proofs.Common.{◌+◌, ◌*◌, ◌/◌, ◌%◌, ◌<◌, length, ap, ◌∙◌, refl, arith}
 use Rattle.std.proofs.Math.Nat.{mod-le}
 use Rattle.msrp_plan.specs.Stretches.{in_tick}
-use Rattle.msrp_audit.specs.Inside.Stretches.{lists_of}
+use Rattle.std.proofs.lemmas.List.{get_or_default}
+use Rattle.msrp_audit.specs.Inside.Gathered.{row_of}
+use Rattle.msrp_audit.specs.Inside.Stretches.{lists_of, no_kept}
 use Rattle.msrp_audit.proofs.Standing.{came_from, core_below, list_read, row_read, tick_small, turns_size}
 use Rattle.msrp_audit.proofs.stretches.Stretches.row.Goals as goal
 
@@ -57,4 +59,4 @@ returns c =
     let least = mod-le c.args.index s.cores in
     let l = list_read s.lists.now s.cores n core c.index-self-index.result list s.told (core_below (lists_of s.lists.now) s.cores n s.told c.args.index) (omega (arith, within, least)) c.as_slice-list.ensures.value in
     row_read (lists_of s.lists.now) s.cores n core list s.told l c.args.index c.entry_in-entry.result c.in_tick.result c.args.self.now refl within c.entry_in-entry.ensures.stands
-    (c.in_tick.ensures ∙ ap (in_tick (c.args.index / s.cores)) c.row.ensures) c.self.view_is
+    (c.in_tick.ensures ∙ (ap (in_tick (c.args.index / s.cores)) c.row.ensures ∙ ap (λ k. in_tick (c.args.index / s.cores) (row_of k)) (c.index-list-entry.is ∙ get_or_default list c.entry_in-entry.result c.index-list-entry.result no_kept c.entry_in-entry.ensures.stands.within))) c.self.view_is

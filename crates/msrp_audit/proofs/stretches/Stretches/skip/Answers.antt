@@ -1,7 +1,7 @@
 use Rattle.std.proofs.Common.{◌≡◌, ◌∙◌, ap, sym, arith, is_some, length, slice_index_or}
 use Rattle.std.proofs.Math.Bool.{true≢false}
 use Rattle.std.proofs.lemmas.Bool.{ltb-false}
-use Rattle.msrp_audit.specs.declared.kept.KeptRow.{KeptRow}
+use Rattle.msrp_audit.specs.Inside.KeptView.{Kept}
 use Rattle.msrp_audit.specs.Inside.Stretches.{no_kept}
 use Rattle.msrp_audit.proofs.Standing.{names_here, names_not}
 use Rattle.msrp_audit.proofs.stretches.Stretches.skip.Goals as goal
@@ -13,7 +13,7 @@ returns-in-Some-get c =
     let e = c.naming_entry-named.ensures in
     let lookup = c.in-Some-get.ensures.lookup in
     let at : c.in-Some-get.kept.now ≡ slice_index_or found.list.now named no_kept = lookup.4 (omega arith) no_kept in
-    let tick = ap (λ (x : KeptRow). x.tick) at in
+    let tick = ap (λ (x : Kept). x.tick) at in
     let within = lookup.3.0 in
     let test = c.if-tick-found.true in
     let one = c.tick.ensures in
@@ -31,7 +31,7 @@ returns-in_default-get c =
     let found = c.in-Some.found in
     let named = c.naming_entry-named.result in
     let at : c.in-Some-get.kept.now ≡ slice_index_or found.list.now named no_kept = c.in-Some-get.ensures.lookup.4 (omega arith) no_kept in
-    let tick = ap (λ (x : KeptRow). x.tick) at in
+    let tick = ap (λ (x : Kept). x.tick) at in
     let test = c.if-tick-found.false in
     let one = c.tick.ensures in
     let before = c.in-Some.ensures.before in

@@ -30,7 +30,7 @@ invariant_of-self-inside-2 c =
     let low : i.at.place < length lists = omega (arith, told.next, told.size) in
     let more = more_in_one i.lists.items i.at.place c.index_mut.result.now low c.index_mut.ensures.value c.push.new.self k c.in_ok-push.ensures.items in
     let now : k.tick ≡ i.at.tick = sym c.tick.ensures ∙ c.if-tick-self.false in
-    let own : k.what.core ≡ i.at.place = sym c.core.ensures ∙ c.if-core-self.false in
+    let own : k.core ≡ i.at.place = sym c.core.ensures ∙ c.if-core-self.false in
     let small : k.tick < 2 ^ 16 = search rules in
     (subst (AreListed i.cores at.tick at.place) (sym more) (listed_more i.cores i.at.tick i.at.place lists told at.tick at.place c.advance.ensures.place c.advance.ensures.next k now own small), tt)
 
@@ -44,6 +44,6 @@ returns-clause-pushed c = λ yes.
     let low : i.at.place < length lists = omega (arith, told.next, told.size) in
     let more = more_in_one i.lists.items i.at.place c.index_mut.result.now low c.index_mut.ensures.value c.push.new.self k c.in_ok-push.ensures.items in
     let now : k.tick ≡ i.at.tick = sym c.tick.ensures ∙ c.if-tick-self.false in
-    let own : k.what.core ≡ i.at.place = sym c.core.ensures ∙ c.if-core-self.false in
+    let own : k.core ≡ i.at.place = sym c.core.ensures ∙ c.if-core-self.false in
     let small : k.tick < 2 ^ 16 = search rules in
     ap (λ l. turns_told l i.cores (at.tick * i.cores + at.place)) more ∙ (told_push i.cores i.at.tick i.at.place lists told at.tick at.place c.advance.ensures.place c.advance.ensures.next k now own small ∙ ap (λ rows. rows ++ row_of k ∷ []) c.self.view_is)
