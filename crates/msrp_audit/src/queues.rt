@@ -27,8 +27,8 @@ fn is_among(queue: &[JobId], job: JobId) -> bool
     queue.iter().any(|other| job == *other)
 }
 
-// Whether the job stands in the queue, and not first.
-fn is_behind(queue: &[JobId], job: Option<JobId>) -> bool
+/// Whether the job stands in the queue, and not first.
+pub(crate) fn is_behind(queue: &[JobId], job: Option<JobId>) -> bool
     ensures { result ≡ is_behind queue.now job }
 {
     match job {
@@ -106,6 +106,9 @@ pub(crate) fn judge_resource(
             }));
         }
         requests.take(&named.row)?;
+        if named.row.kind == Kind::Release {
+            naming.recall(requests.queue());
+        }
     }
     Ok(None)
 }

@@ -1,20 +1,11 @@
-use Rattle.std.proofs.Common.{◌≡◌, ◌<◌, true, length, take, sym, ◌∙◌, subst, arith}
-use Rattle.std.proofs.lemmas.Option.{get_or_from_slice_get, slice_get_within}
-use Rattle.msrp_plan.specs.Levels.{is_global}
-use Rattle.msrp_plan.specs.Requests.{HasTaken}
-use Rattle.msrp_audit.proofs.Queueing.{StandsAt, ends, few_rows, reaches, reply_passes, reply_found, too_long}
-use Rattle.msrp_audit.proofs.Scanning.{one_more}
+use Rattle.std.proofs.Common.{◌≡◌, false, length, sym, ◌∙◌, arith, rules}
+use Rattle.std.proofs.lemmas.Option.{slice_get_within}
+use Rattle.msrp_plan.specs.Queues.{is_release}
+use Rattle.msrp_audit.proofs.Queueing.{ends, few_rows, here, keeps_anew, keeps_first, keeps_on, reaches, reply_found, too_long, within}
 use Rattle.msrp_audit.proofs.queues.judge_resource.Goals as goal
 
 pub loop-named-init : goal.loop-named-init
-loop-named-init c = record {
-  naming = c.of-naming.ensures.naming;
-  stands = subst (StandsAt c.args.plan.now c.args.res c.args.rows.now c.of-requests.result) (sym c.of-naming.ensures.from) (record {
-    within = omega arith;
-    has = c.of-requests.ensures;
-    passes = record { none = λ pre r post at start low. absurd (omega (arith, low)) };
-  });
-}
+loop-named-init c = keeps_first c.args.plan.now c.args.res c.args.rows.now c.of-requests.result c.of-naming.result c.of-requests.ensures c.of-naming.ensures.naming c.of-naming.ensures.from c.of-naming.ensures.none
 
 pub overflow_cast-result : goal.overflow_cast-result
 overflow_cast-result c =
@@ -31,25 +22,29 @@ overflow_add-result c =
 pub returns-then-queue-cores : goal.returns-then-queue-cores
 returns-then-queue-cores c =
     let plan = c.args.plan.now in
+    let res = c.args.res in
     let rows = c.args.rows.now in
     let named = c.in-Some.named in
-    let at = sym (get_or_from_slice_get rows named.place named.row named.row c.in-Some.ensures.found.there) in
-    let v = reaches plan c.args.res rows c.loop-named.requests c.loop-named.naming.from named c.in-Some.ensures.found c.loop-named.invariant.stands in
-    let glob : is_global plan c.args.res.0 ≡ true = sym c.is_global.ensures ∙ c.if-not-is_global.false in
+    let found = c.in-Some.ensures.found in
+    let loop = c.loop-named in
+    let glob = sym c.is_global.ensures ∙ c.if-not-is_global.false in
+    let at = reaches plan res rows loop.requests loop.naming glob loop.invariant named found in
     let long = c.if-queue-cores.true in
     let cores = c.cores-cores.ensures.value in
-    too_long plan c.args.res rows named.place named.row at v.1.passes c.queue-queue.result.now glob (c.queue-queue.ensures c.args.res.0 _ v.1.has) c.cores-cores.ensures.plan (omega (arith, long, cores))
+    too_long plan res rows named.place named.row (here plan res rows loop.requests loop.naming glob loop.invariant named found) at.passes c.queue-queue.result.now glob (c.queue-queue.ensures res.0 _ at.has) c.cores-cores.ensures.plan (omega (arith, long, cores))
 
 pub returns-then-not-is_reply : goal.returns-then-not-is_reply
 returns-then-not-is_reply c =
     let plan = c.args.plan.now in
+    let res = c.args.res in
     let rows = c.args.rows.now in
     let named = c.in-Some.named in
     let found = c.in-Some.ensures.found in
-    let at = sym (get_or_from_slice_get rows named.place named.row named.row found.there) in
-    let v = reaches plan c.args.res rows c.loop-named.requests c.loop-named.naming.from named found c.loop-named.invariant.stands in
-    let glob : is_global plan c.args.res.0 ≡ true = sym c.is_global.ensures ∙ c.if-not-is_global.false in
-    reply_found plan c.args.res rows named.place named.row at v.1.passes c.queue-queue.result.now glob (c.queue-queue.ensures c.args.res.0 _ v.1.has) c.is_reply.result v.0 found.on c.is_reply.ensures c.if-not-is_reply.true
+    let loop = c.loop-named in
+    let glob = sym c.is_global.ensures ∙ c.if-not-is_global.false in
+    let at = reaches plan res rows loop.requests loop.naming glob loop.invariant named found in
+    reply_found plan res rows named.place named.row (here plan res rows loop.requests loop.naming glob loop.invariant named found) at.passes c.queue-queue.result.now glob (c.queue-queue.ensures res.0 _ at.has) c.is_reply.result
+    (within plan res rows loop.requests loop.naming glob loop.invariant named found) found.on c.is_reply.ensures c.if-not-is_reply.true
 
 pub loop-named-smaller : goal.loop-named-smaller
 loop-named-smaller c =
@@ -61,25 +56,20 @@ loop-named-smaller c =
 
 pub loop-named-preserved : goal.loop-named-preserved
 loop-named-preserved c =
-    let plan = c.args.plan.now in
-    let res = c.args.res in
-    let rows = c.args.rows.now in
-    let named = c.in-Some.named in
-    let i = named.place in
-    let x = named.row in
-    let found = c.in-Some.ensures.found in
-    let at = sym (get_or_from_slice_get rows i x x found.there) in
-    let v = reaches plan res rows c.loop-named.requests c.loop-named.naming.from named found c.loop-named.invariant.stands in
-    let glob : is_global plan res.0 ≡ true = sym c.is_global.ensures ∙ c.if-not-is_global.false in
-    let low : i < length rows = v.0 in
-    record {
-      naming = c.in-Some.ensures.naming;
-      stands = subst (StandsAt plan res rows c.take.new.self) (sym c.in-Some.ensures.from) (record {
-        within = omega (arith, low);
-        has = subst (HasTaken c.take.new.self res.0) (sym (one_more rows i x low at)) (c.in_ok-take.ensures res.0 (take i rows) v.1.has);
-        passes = reply_passes plan res rows i x at v.1.passes c.queue-queue.result.now glob (c.queue-queue.ensures res.0 _ v.1.has) c.is_reply.result found.on c.is_reply.ensures c.if-not-is_reply.false;
-      });
-    }
+    let next = c.in-Some.ensures in
+    let loop = c.loop-named in
+    let none : is_release c.in-Some.named.row.kind ≡ false = search rules in
+    keeps_on c.args.plan.now c.args.res c.args.rows.now loop.requests loop.naming (sym c.is_global.ensures ∙ c.if-not-is_global.false) loop.invariant c.in-Some.named next.found
+    c.queue-queue.result.now (c.queue-queue.ensures c.args.res.0) (sym c.is_reply.ensures ∙ c.if-not-is_reply.false) c.take.new.self (c.in_ok-take.ensures c.args.res.0) c.next.new.self next.from next.naming none next.behind
+
+pub loop-named-preserved-then-eq : goal.loop-named-preserved-then-eq
+loop-named-preserved-then-eq c =
+    let next = c.in-Some.ensures in
+    let loop = c.loop-named in
+    let recalled = c.recall.ensures in
+    keeps_anew c.args.plan.now c.args.res c.args.rows.now loop.requests loop.naming (sym c.is_global.ensures ∙ c.if-not-is_global.false) loop.invariant c.in-Some.named next.found
+    c.queue-queue.result.now (c.queue-queue.ensures c.args.res.0) (sym c.is_reply.ensures ∙ c.if-not-is_reply.false) c.take.new.self (c.in_ok-take.ensures c.args.res.0) c.recall.new.self (recalled.from ∙ next.from) (recalled.naming c.args.res c.args.rows.now next.naming)
+    c.queue.result.now (c.queue.ensures c.args.res.0) recalled.behind
 
 pub returns : goal.returns
-returns c = ends c.args.plan.now c.args.res c.args.rows.now c.loop-named.requests c.loop-named.naming.from c.in_default.ensures.found c.loop-named.invariant.stands
+returns c = ends c.args.plan.now c.args.res c.args.rows.now c.loop-named.requests c.loop-named.naming (sym c.is_global.ensures ∙ c.if-not-is_global.false) c.loop-named.invariant c.in_default.ensures.found
