@@ -10,5 +10,6 @@ pub mod SimAnswers
 pub mod Reporting
 pub mod Gathering
 mod WholeTicks
+mod CoresAnew
 mod Counting
 mod Repeating

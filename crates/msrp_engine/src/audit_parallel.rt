@@ -7,8 +7,7 @@ ghost use Rattle.msrp_engine.specs.Answered.{Answered, OfText, OfTexts, ReadsBot
 ghost use Rattle.msrp_engine.specs.AuditText.{AuditAnswers};
 ghost use Rattle.msrp_engine.specs.Findings.{finding, finding_of};
 ghost use Rattle.msrp_engine.specs.Judging.{rows_left};
-ghost use Rattle.msrp_engine.specs.Inside.Gathered.{AreLike, Gathers, IsGathered, IsGatheredTo, found_in, is_missing};
-ghost use Rattle.msrp_engine.specs.Inside.Kept.{row_of_core};
+ghost use Rattle.msrp_engine.specs.Inside.Gathered.{AreAnew, AreLike, Gathers, IsGathered, IsGatheredTo, found_in, is_missing};
 ghost use Rattle.msrp_engine.specs.Inside.Ticks.{AreRowsOf};
 ghost use Rattle.msrp_faults.specs.Outcomes.{is_trace_fault, is_audit_fault};
 
@@ -19,6 +18,7 @@ use msrp_audit::{Auditor, Gathered, audit_gathered};
 use msrp_faults::CliFault;
 use msrp_levels::Levels;
 use msrp_plan::bytes::{Sink, Source};
+use msrp_plan::limits::MOST_CORES;
 use msrp_plan::{CoreId, Fault, Memory, Plan, Rule};
 use msrp_text::read_plan;
 use msrp_trace::TraceReader;
@@ -26,17 +26,26 @@ use std::alloc::Global;
 use std::io::{Read, Write};
 use std::thread::Threads;
 
-// The first core from there on whose row was made anew in a tick whose rows were taken, or the number of cores.
+// The cores whose rows were made anew in a tick, by their numbers: so many of these, from the first on.
+#[derive(Clone, Copy)]
+struct CoresAnew {
+    cores: [u32; MOST_CORES as usize],
+    count: usize,
+}
+
+// Those of a tick whose rows were taken. Each core is written down, and stays where its row was made anew: no processor could foretell a jump.
 #[inline(always)]
-fn anew_from<T: Read>(rows: &JudgedRows<'_, '_, T>, tick: u32, core: u32, cores: u32) -> u32
-    requires { core ≤ cores }
-    ensures from { core ≤ result }
-    ensures within { result ≤ cores }
-    ensures again { (c : ℕ) → core ≤ c → c < result → ¬ ((row_of_core rows.now.lasts c).tick ≡ tick) }
+fn cores_anew<T: Read>(rows: &JudgedRows<'_, '_, T>, tick: u32, cores: u32) -> CoresAnew
+    requires { cores ≤ 8 }
+    ensures { AreAnew rows.now tick cores result }
 {
-    let mut anew = core;
-    while anew < cores && !rows.is_anew(tick, CoreId(anew)) {
-        anew += 1;
+    let mut anew = CoresAnew {
+        cores: [0; MOST_CORES as usize],
+        count: 0,
+    };
+    for core in 0..cores {
+        anew.cores[anew.count] = core;
+        anew.count += usize::from(rows.is_anew(tick, CoreId(core)));
     }
     anew
 }
@@ -65,19 +74,20 @@ fn gather_tick<T: Read>(
     cores: u32,
     gathered: &mut Gathered,
 ) -> Result<(), Memory>
-    requires { AreLike rows.now tick cores gathered.old }
+    requires like { AreLike rows.now tick cores gathered.old }
+    requires few { cores ≤ 8 }
     ensures { (more : List TraceRow) → AreRowsOf rows.now tick cores more → Gathers result gathered.old gathered.new more }
 {
     if gathered.len() < cores as usize {
         return gather_each(rows, tick, cores, gathered);
     }
+    let anew = cores_anew(rows, tick, cores);
     let mut core = 0;
-    let mut anew = anew_from(rows, tick, core, cores);
-    while anew < cores {
-        let row = rows.row_in(tick, CoreId(anew));
-        gathered.again_then(cores as usize, (anew - core) as usize, row)?;
-        core = anew + 1;
-        anew = anew_from(rows, tick, core, cores);
+    for place in 0..anew.count {
+        let next = anew.cores[place];
+        let row = rows.row_in(tick, CoreId(next));
+        gathered.again_then(cores as usize, (next - core) as usize, row)?;
+        core = next + 1;
     }
     if core < cores {
         gathered.again(cores as usize, (cores - core) as usize, tick)?;

@@ -1,4 +1,4 @@
-use Rattle.std.proofs.Common.{rules, ◌≡◌, ◌<◌, ◌++◌, List, Err, IfSome, sym, ap, ◌∙◌, subst, append_assoc}
+use Rattle.std.proofs.Common.{rules, ◌≡◌, ◌<◌, ◌++◌, List, Err, IfSome, sym, ap, ◌∙◌, subst, append_assoc, arith}
 use Rattle.msrp_plan.specs.Plan.{PlanModel}
 use Rattle.msrp_plan.specs.declared.rows.Row.{Row}
 use Rattle.msrp_engine.specs.Inside.Gathered.{AreLike, IsGatheredTo}
@@ -22,8 +22,11 @@ gather_tick-requires g c =
     let i = c.loop-tick.invariant in
     let more = subst (λ o. IfSome o (TakesTick g.T.Read.remaining c.loop-tick.rows c.next_tick.new.self)) c.in-Some.is c.in_ok-tick.ensures.taken in
     let cores = ap (λ (p : PlanModel). p.cores) (i.took.plan ∙ c.requires.plan) in
-    subst (λ n. AreLike c.next_tick.new.self c.in-Some.tick n c.loop-tick.gathered) (sym c.cores.ensures.value)
-    (next-like c.loop-tick.rows c.next_tick.new.self c.in-Some.tick c.args.plan.now.cores c.loop-tick.gathered i.like c.next_tick.ensures.version (λ k low. more.1.again c.loop-tick.gathered i.took.fed k (subst (λ n. k < n) (sym cores) low)))
+    record {
+      like = subst (λ n. AreLike c.next_tick.new.self c.in-Some.tick n c.loop-tick.gathered) (sym c.cores.ensures.value)
+          (next-like c.loop-tick.rows c.next_tick.new.self c.in-Some.tick c.args.plan.now.cores c.loop-tick.gathered i.like c.next_tick.ensures.version (λ k low. more.1.again c.loop-tick.gathered i.took.fed k (subst (λ n. k < n) (sym cores) low)));
+      few = let is = c.cores.ensures.value in let most = c.cores.ensures.plan.draft.cores.1 in omega (arith, is, most);
+    }
 
 pub returns-in_err-tick : goal.returns-in_err-tick
 returns-in_err-tick g c = record {
