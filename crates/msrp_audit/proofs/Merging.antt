@@ -23,7 +23,7 @@ use Rattle.msrp_plan.specs.declared.faults.Rule.TheVariants.{A1, A2, A3, A4, A5,
 use Rattle.msrp_plan.specs.declared.rows.Row.{Row}
 use Rattle.msrp_plan.proofs.Legality.LegalRows.{due, turn_of}
 use Rattle.msrp_plan.proofs.Runs.Verdicts.{unbroken_is_legal, legal_is_unbroken, start_before, start_last, early_fault, early_is, fault_stays, fault_append, fault_of}
-use Rattle.msrp_audit.specs.Inside.Pieces.{parts, listed, listed_pieces, share_size, pieces_of, piece_with, part_size, is_in_part, broken_in, told_at, TellsFirst, rule_number, fault_order, earlier_of, earliest_of, length_fault_of}
+use Rattle.msrp_audit.specs.Inside.Pieces.{parts, listed, listed_pieces, share_at, share_size, shares, piece_of, pieces_of, piece_with, part_size, is_in_part, broken_in, told_at, TellsFirst, rule_number, fault_order, earlier_of, earliest_of, length_fault_of}
 use Rattle.msrp_audit.specs.declared.pieces.Piece.{Piece}
 use Rattle.msrp_audit.specs.declared.pieces.Piece.TheVariants.{Turns, Core, Resource}
 use Rattle.std.proofs.lemmas.Option.{same_Some}
@@ -120,6 +120,21 @@ core_known plan n c e = elim (cases_lt n plan.cores) [
   ]
 ]
 
+pub core_in : (plan : PlanModel) (q : ℕ) (share : Option ℕ) (c : CoreId) → piece_of plan q share ≡ Core c → c.0 < plan.cores
+core_in plan q None c e = absurd (cc)
+core_in plan q (Some share) c e = core_known plan (q * shares + share) c e
+
+-- each share has a place
+abbrev place_of_share : ℕ → ℕ
+place_of_share r = r / 2 * 4 + r % 2 + 1
+
+has_place : (r : ℕ) → r < 4 → (share_at (place_of_share r) ≡ Some r) × (place_of_share r ≤ 6)
+has_place zero low = (refl, omega arith)
+has_place (suc zero) low = (refl, omega arith)
+has_place (suc (suc zero)) low = (refl, omega arith)
+has_place (suc (suc (suc zero))) low = (refl, omega arith)
+has_place (suc (suc (suc (suc r)))) low = absurd (omega (arith, low))
+
 -- the place of a listed piece among those of all shares
 record IsDealt (plan : PlanModel) (m : ℕ) : Type 0 where
   place : ℕ
@@ -129,22 +144,24 @@ record IsDealt (plan : PlanModel) (m : ℕ) : Type 0 where
 dealt : (plan : PlanModel) (m : ℕ) → m < listed_pieces plan → IsDealt plan m
 dealt plan m low =
     let w = share_size plan in
-    let q = m / 8 in
-    let r = m % 8 in
-    let whole : q * 8 + r ≡ m = div-add-mod' m 8 in
-    let rest : r < 8 = mod_below m 8 (omega arith) in
-    let above = div-add-mod' (listed_pieces plan) 8 in
-    let over = mod_below (listed_pieces plan) 8 (omega arith) in
+    let q = m / 4 in
+    let r = m % 4 in
+    let whole : q * 4 + r ≡ m = div-add-mod' m 4 in
+    let rest : r < 4 = mod_below m 4 (omega arith) in
+    let above = div-add-mod' (listed_pieces plan) 4 in
+    let over = mod_below (listed_pieces plan) 4 (omega arith) in
     let within : q < w = omega (arith, whole, above, over, low) in
-    let share : (r * w + q) / w ≡ r = div-mul-add r w q within in
-    let back : (r * w + q) / w * w + (r * w + q) % w ≡ r * w + q = div-add-mod' (r * w + q) w in
-    let kept : r * w + (r * w + q) % w ≡ r * w + q = subst (λ k. k * w + (r * w + q) % w ≡ r * w + q) share back in
-    let own : (r * w + q) % w ≡ q = omega (arith, kept) in
-    let most : r * w ≤ 7 * w = mul-le-mul_right w (let b : r ≤ 7 = omega (arith, rest) in b) in
+    let p = place_of_share r in
+    let has = has_place r rest in
+    let share : (p * w + q) / w ≡ p = div-mul-add p w q within in
+    let back : (p * w + q) / w * w + (p * w + q) % w ≡ p * w + q = div-add-mod' (p * w + q) w in
+    let kept : p * w + (p * w + q) % w ≡ p * w + q = subst (λ k. k * w + (p * w + q) % w ≡ p * w + q) share back in
+    let own : (p * w + q) % w ≡ q = omega (arith, kept) in
+    let most : p * w ≤ 6 * w = mul-le-mul_right w has.1 in
     record {
-      place = r * w + q;
+      place = p * w + q;
       known = omega (arith, most, within);
-      is = ap (listed plan) (ap (λ k. k * 8 + (r * w + q) / w) own ∙ (ap (λ k. q * 8 + k) share ∙ whole));
+      is = ap (λ k. piece_of plan k (share_at ((p * w + q) / w))) own ∙ (ap (λ k. piece_of plan q (share_at k)) share ∙ (ap (piece_of plan q) has.0 ∙ ap (listed plan) whole));
     }
 
 -- a row that is due stands in a part of the ticks

@@ -1,5 +1,5 @@
 -- The pieces of an audit: which rule each of them finds broken at a row, and which fault it answers.
-use Rattle.std.specs.Prelude.{ℕ, List, ◌∷◌, ◌++◌, Bool, ◌==◌, ◌&&◌, nat_lt, nat_le, Option, Some, None, IfSome, fold, length, ◌≡◌, ◌≤◌, ◌+◌, ◌-◌, ◌*◌, ◌/◌, ◌%◌, if◌then◌else◌}
+use Rattle.std.specs.Prelude.{ℕ, List, ◌∷◌, ◌++◌, Bool, ◌==◌, ◌&&◌, ◌||◌, nat_lt, nat_le, Option, Some, None, IfSome, fold, length, ◌≡◌, ◌≤◌, ◌+◌, ◌-◌, ◌*◌, ◌/◌, ◌%◌, if◌then◌else◌}
 use Rattle.msrp_plan.specs.Plan.{PlanModel}
 use Rattle.msrp_plan.specs.Levels.{is_global}
 use Rattle.msrp_plan.specs.Logs.{is_of}
@@ -33,18 +33,30 @@ listed_pieces plan = plan.cores + parts plan + length plan.resources
 
 -- the pieces are dealt out to so many shares
 abbrev pub shares : ℕ
-shares = 8
+shares = 4
 
 -- so many to each
 abbrev pub share_size : PlanModel → ℕ
 share_size plan = listed_pieces plan / shares + 1
 
--- the pieces, share by share
+-- which share has a place, if one has: of each four places the inner ones have
+abbrev pub share_at : ℕ → Option ℕ
+share_at place = if place % 4 == 1 || place % 4 == 2 then Some (place / 4 * 2 + place % 4 - 1) else None
+
+-- the q-th piece of a share; without a share it is that of a resource that the plan hasn't
+abbrev pub piece_of : PlanModel → ℕ → Option ℕ → Piece
+piece_of plan q None = Resource (record { 0 = length plan.resources })
+piece_of plan q (Some share) = listed plan (q * shares + share)
+
+-- the pieces, place by place
+abbrev pub places : ℕ
+places = 8
+
 abbrev pub pieces_of : PlanModel → ℕ
-pieces_of plan = shares * share_size plan
+pieces_of plan = places * share_size plan
 
 abbrev pub piece_with : PlanModel → ℕ → Piece
-piece_with plan n = listed plan (n % share_size plan * shares + n / share_size plan)
+piece_with plan n = piece_of plan (n % share_size plan) (share_at (n / share_size plan))
 
 -- ---- what a piece finds of a row
 -- the rows of a part of the ticks, where each core has its turn in each tick
