@@ -6,6 +6,7 @@ pub mod JobTallies
 pub mod LineJobs
 pub mod Active
 pub mod ActiveRows
+pub mod Releases
 pub mod TallySteps
 pub mod RowSteps
 pub mod Starting

@@ -100,7 +100,6 @@ task_other plan rows r begun t x ok task next none is = record {
   units = is.units;
   fits = is.fits;
   past = is.past;
-  due = is.due;
   later = is.later;
   each = λ k s has.
       let l : k < length (jobs_of plan t) = (let w = slice_get_within x.jobs.items k s has in let size = is.size in omega (arith, w, size)) in
@@ -113,7 +112,6 @@ pub record IsCounted (old new : TaskTally) (r : Row) (i : JobId) (s : JobTally) 
   pub jobs_set : new.jobs.items ≡ slice_set old.jobs.items i.k (record { count = counted r s.count; blocking = Over n })
   pub units : new.units ≡ old.units
   pub released : new.released ≡ old.released
-  pub due : new.due ≡ old.due
 
 task_counted : (plan : PlanModel) (rows : List Row) (r : Row) (begun : ℕ) (i : JobId) (old new : TaskTally) (s : JobTally) (n : ℕ) → IsPlan plan → i.task.0 < length plan.tasks → IsNextOf plan rows r begun → r.job ≡ Some i → IsTaskTally plan rows begun i.task.0 old → IsCounted old new r i s n → n ≡ blocked plan rows i
     → IsTaskTally plan (rows ++ r ∷ []) begun i.task.0 new
@@ -122,8 +120,7 @@ task_counted plan rows r begun i old new s n ok task next job is set told = reco
   units = set.units ∙ is.units;
   fits = subst (λ m. m ≤ length (jobs_of plan i.task.0)) (sym set.released) is.fits;
   past = λ k h. is.past k (subst (λ m. k < m) set.released h);
-  due = set.due ∙ (is.due ∙ ap (release_or_end plan i.task.0) (sym set.released));
-  later = subst (λ m. begun ≤ m) (sym set.due) is.later;
+  later = subst (λ n. begun ≤ release_or_end plan i.task.0 n) (sym set.released) is.later;
   each = λ k y has. by_place k y has (cases_Bool (k == i.k));
 }
   where
@@ -179,7 +176,6 @@ pub record IsGrown (old new : TaskTally) (r : Row) (i : JobId) (s : JobTally) : 
   pub jobs_set : new.jobs.items ≡ slice_set old.jobs.items i.k (record s { count = counted r s.count })
   pub units : new.units ≡ old.units
   pub released : new.released ≡ old.released
-  pub due : new.due ≡ old.due
 
 grown_is_counted : (plan : PlanModel) (rows : List Row) (r : Row) (begun : ℕ) (i : JobId) (old new : TaskTally) (s : JobTally) → IsPlan plan → IsNextOf plan rows r begun → r.job ≡ Some i → IsTaskTally plan rows begun i.task.0 old → is_started rows i ≡ true → IsGrown old new r i s → IsCounted old new r i s (blocked plan rows i)
 grown_is_counted plan rows r begun i old new s ok next job is started set =
@@ -189,7 +185,6 @@ grown_is_counted plan rows r begun i old new s ok next job is started set =
       jobs_set = set.jobs_set ∙ ap (λ b. slice_set old.jobs.items i.k (record { count = counted r s.count; blocking = b })) over;
       units = set.units;
       released = set.released;
-      due = set.due;
     }
 
 -- ---- all tasks

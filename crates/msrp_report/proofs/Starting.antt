@@ -1,20 +1,24 @@
 -- Before the first row.
-use Rattle.std.proofs.Common.{◌≡◌, ℕ, ◌+◌, ◌/◌, ◌<◌, false, List, [], Some, refl, ap, sym, ◌∙◌, subst, arith, length, nat_lt, slice_get, get_or, replicate, unwrap_or}
+use Rattle.std.proofs.Common.{◌≡◌, ℕ, false, List, [], Some, refl, ap, sym, ◌∙◌, subst, arith, inl, inr, length, map, nat_lt, slice_get}
+use Rattle.std.specs.List.{All, range_with_len}
+use Rattle.std.specs.List.Sorted.{IsNonDecreasingBy, IsPermutation}
 use Rattle.std.proofs.Math.Bool.{true≢false}
-use Rattle.std.proofs.lemmas.Bool.{le-ltb}
-use Rattle.std.proofs.lemmas.List.{get_or-replicate, length-replicate}
-use Rattle.std.proofs.lemmas.Option.{slice_get_within, unwrap_or-slice_get}
+use Rattle.std.proofs.lemmas.Bool.{cases_lt, le-ltb}
+use Rattle.std.proofs.lemmas.List.Elements.{All-weaker}
+use Rattle.std.proofs.lemmas.List.Sorted.{All-permutation, IsPermutation-map}
+use Rattle.std.proofs.lemmas.Nat.{div_below}
 use Rattle.msrp_plan.specs.Plan.{PlanModel, task_at}
 use Rattle.msrp_plan.specs.Jobs.{jobs_of, job_at}
 use Rattle.msrp_plan.specs.WellFormed.{IsPlan}
-use Rattle.std.proofs.lemmas.Nat.{div_below}
 use Rattle.msrp_plan.specs.declared.ids.JobId.{JobId}
 use Rattle.msrp_report.specs.Inside.Counts.{uncounted, count_of}
-use Rattle.msrp_report.specs.Inside.Tallies.{AreActive, AreGroups, HasTallied, IsJobTally, IsTaskTally, release_or_end}
+use Rattle.msrp_report.specs.Inside.Tallies.{AreActive, AreReleases, AreTallies, HasTallied, IsJobTally, IsNextRelease, IsTaskTally, release_or_end}
 use Rattle.msrp_report.specs.declared.tallies.Blocking.TheVariants.{Over}
 use Rattle.msrp_report.specs.declared.tallies.JobTally.{JobTally}
+use Rattle.msrp_report.specs.declared.tallies.NextRelease.{NextRelease}
 use Rattle.msrp_report.specs.declared.tallies.TaskTally.{TaskTally}
 use Rattle.msrp_report.specs.declared.tallies.Tallies.{Tallies}
+use Rattle.msrp_report.proofs.Releases.{task_of, tick_of}
 
 -- a job that isn't released
 abbrev pub untold : JobTally
@@ -24,34 +28,37 @@ pub job_untold : (plan : PlanModel) (j : JobId) → IsJobTally plan [] false j u
 unfolding count_of
 job_untold plan j = record { count = refl; blocking = record { count = refl; ahead = λ _. (refl, refl); nobody = λ e. absurd (true≢false (sym e)) } }
 
-pub task_untold : (plan : PlanModel) (t : ℕ) (x : TaskTally) → length x.jobs.items ≡ length (jobs_of plan t) → x.units ≡ length (task_at plan t).units → x.released ≡ 0 → x.due ≡ release_or_end plan t 0 → ((k : ℕ) (s : JobTally) → slice_get x.jobs.items k ≡ Some s → s ≡ untold) → IsTaskTally plan [] 0 t x
-task_untold plan t x size units released due each = record {
+pub task_untold : (plan : PlanModel) (t : ℕ) (x : TaskTally) → length x.jobs.items ≡ length (jobs_of plan t) → x.units ≡ length (task_at plan t).units → x.released ≡ 0 → ((k : ℕ) (s : JobTally) → slice_get x.jobs.items k ≡ Some s → s ≡ untold) → IsTaskTally plan [] 0 t x
+task_untold plan t x size units released each = record {
   size = size;
   units = units;
   fits = omega (arith, released);
   past = λ k h. absurd (omega (arith, h, released));
-  due = due ∙ ap (release_or_end plan t) (sym released);
   later = omega arith;
   each = λ k s has. subst (IsJobTally plan [] (nat_lt k x.released) (job_at t k)) (sym (each k s has)) (subst (λ b. IsJobTally plan [] b (job_at t k) untold) (sym (le-ltb k x.released (omega (arith, released)))) (job_untold plan (job_at t k)));
 }
 
--- no group has a release before the first tick
-untold_groups : (plan : PlanModel) (from n : ℕ) (groups : List ℕ) → groups ≡ replicate n 0 → n ≡ (length plan.tasks + 7) / 8 → AreGroups plan 0 from groups
-untold_groups plan from n groups is size =
-    let same : length groups ≡ n = ap length is ∙ length-replicate n 0 in
-    record {
-      size = same ∙ size;
-      quiet = λ g to past has t low l k within late.
-          let l : g < length groups = slice_get_within groups g to has in
-          let zero : to ≡ 0 = sym (ap (λ o. unwrap_or o 1) has) ∙ (unwrap_or-slice_get groups g 1 ∙ (ap (λ l. get_or l g 1) is ∙ get_or-replicate n g 0 1 (omega (arith, l, same)))) in
-          omega (arith, zero);
-    }
+-- none of its jobs is released
+unreleased : (plan : PlanModel) (t : ℕ) (x : TaskTally) → IsTaskTally plan [] 0 t x → x.released ≡ 0
+unreleased plan t x is = elim (cases_lt 0 x.released) [
+  | inl some ↦ let past = is.past 0 some in absurd (omega (arith, past))
+  | inr none ↦ omega (arith, none)
+]
 
-pub tallies_untold : (plan : PlanModel) (t : Tallies) (n : ℕ) → IsPlan plan → t.begun ≡ 0 → t.next ≡ 0 → t.groups.items ≡ replicate n 0 → n ≡ (length plan.tasks + 7) / 8 → length t.tasks.items ≡ length plan.tasks → ((k : ℕ) (x : TaskTally) → slice_get t.tasks.items k ≡ Some x → IsTaskTally plan [] 0 k x) → AreActive plan [] t.active.items → HasTallied plan [] t
-tallies_untold plan t n ok begun next zeros groups size each active = record {
-  begun = record { early = tt; least = let cores = ok.draft.cores in let z = div_below 0 plan.cores 1 (omega (arith, cores)) (omega (arith, cores)) in omega (arith, begun, z); most = omega (arith, begun) };
-  quiet = λ i l k within from. omega (arith, next);
-  groups = untold_groups plan t.begun n t.groups.items zeros groups;
-  tallies = record { start = record { size = omega arith; each = tt }; size = size; each = λ k x has. subst (λ b. IsTaskTally plan [] b k x) (sym begun) (each k x has) };
-  active = active;
+-- so its first release is the next
+pub releases_first : (plan : PlanModel) (releases sorted : List NextRelease) (tasks : List TaskTally) → map task_of releases ≡ range_with_len 0 (length plan.tasks) → All (λ r. r.tick ≡ release_or_end plan r.task.0 0) releases → IsPermutation releases sorted → IsNonDecreasingBy tick_of sorted → AreTallies plan [] (λ _. 0) tasks → AreReleases plan tasks sorted
+releases_first plan releases sorted tasks once own same up are = record {
+  own = All-permutation (IsNextRelease plan tasks) releases sorted same (All-weaker (λ r. r.tick ≡ release_or_end plan r.task.0 0) (IsNextRelease plan tasks) (λ r is x has. is ∙ ap (release_or_end plan r.task.0) (sym (unreleased plan r.task.0 x (are.each r.task.0 x has)))) releases own);
+  once = subst (λ l. IsPermutation l (map task_of sorted)) once (IsPermutation-map task_of releases sorted same);
+  rising = up;
 }
+
+pub tallies_untold : (plan : PlanModel) (t : Tallies) → IsPlan plan → t.begun ≡ 0 → length t.tasks.items ≡ length plan.tasks → ((k : ℕ) (x : TaskTally) → slice_get t.tasks.items k ≡ Some x → IsTaskTally plan [] 0 k x) → (AreTallies plan [] (λ _. 0) t.tasks.items → AreReleases plan t.tasks.items t.releases.items) → AreActive plan [] t.active.items → HasTallied plan [] t
+tallies_untold plan t ok begun size each releases active =
+    let are : AreTallies plan [] (λ _. 0) t.tasks.items = record { start = record { size = omega arith; each = tt }; size = size; each = each } in
+    record {
+      begun = record { early = tt; least = let cores = ok.draft.cores in let z = div_below 0 plan.cores 1 (omega (arith, cores)) (omega (arith, cores)) in omega (arith, begun, z); most = omega (arith, begun) };
+      tallies = subst (λ n. AreTallies plan [] (λ _. n) t.tasks.items) (sym begun) are;
+      releases = releases are;
+      active = active;
+    }

@@ -1,10 +1,10 @@
 -- What is kept of the rows stays told by them, release by release and row by row.
-use Rattle.std.proofs.Common.{◌≡◌, ◌≢◌, ℕ, ◌<◌, ◌≤◌, ◌+◌, ◌*◌, ◌/◌, ◌==◌, true, false, cond, min, List, Option, Some, None, IsSome, refl, ap, sym, ◌∙◌, subst, arith, inl, inr, ◌⊎◌, length, slice_get, slice_set, get_or, nat_lt, unwrap_or, eqb-true}
+use Rattle.std.proofs.Common.{◌≡◌, ◌≢◌, ℕ, ◌<◌, ◌≤◌, ◌+◌, ◌==◌, Bool, true, false, cond, List, Option, Some, None, IsSome, refl, ap, sym, ◌∙◌, subst, arith, inl, inr, ◌⊎◌, length, slice_get, slice_set, get_or, nat_lt, unwrap_or, eqb-true}
 use Rattle.std.specs.List.{AllByRecursion}
+use Rattle.std.specs.List.Sorted.{IsNonDecreasingBy, IsPermutation}
 use Rattle.std.proofs.Math.Bool.{true≢false}
 use Rattle.std.proofs.lemmas.Bool.{cases_Bool, cases_lt, eqb-false, le-ltb, lt-ltb}
 use Rattle.std.proofs.lemmas.List.{length-set}
-use Rattle.std.proofs.lemmas.Nat.{div-add-mod', mod_below}
 use Rattle.std.proofs.lemmas.Option.{slice_get_within, slice_get_read, same_Some}
 use Rattle.msrp_plan.specs.Plan.{PlanModel, task_at, release, release_tick}
 use Rattle.msrp_plan.specs.Jobs.{jobs_of, job_at}
@@ -14,12 +14,15 @@ use Rattle.msrp_plan.specs.declared.ids.JobId.{JobId}
 use Rattle.msrp_plan.specs.declared.rows.Row.{Row}
 use Rattle.msrp_plan.proofs.Jobs.Releases.{releases_rise, task_times}
 use Rattle.msrp_sim.proofs.Standing.{get_set_same, get_set_other}
-use Rattle.msrp_report.specs.Inside.Tallies.{AreTallies, IsBlocking, IsJobTally, IsOver, NoneReleased, NoneReleasedIn, NoJobReleased, AreGroups, IsTaskTally, begun_below, blocking_by, group_end, release_or_end}
+use Rattle.msrp_report.specs.Inside.Tallies.{AreActive, AreReleases, AreTallies, HasReleased, HasTallied, IsBlocking, IsJobTally, IsNextRelease, IsOver, IsTaskTally, blocking_by, is_due, release_or_end}
 use Rattle.msrp_report.specs.declared.tallies.Blocking.{Blocking}
 use Rattle.msrp_report.specs.declared.tallies.Blocking.TheVariants.{Over, By}
 use Rattle.msrp_report.specs.declared.tallies.JobTally.{JobTally}
+use Rattle.msrp_report.specs.declared.tallies.NextRelease.{NextRelease}
+use Rattle.msrp_report.specs.declared.tallies.Tallies.{Tallies}
 use Rattle.msrp_report.specs.declared.tallies.TaskTally.{TaskTally}
 use Rattle.msrp_report.proofs.JobTallies.{job_known}
+use Rattle.msrp_report.proofs.Releases.{due_come, due_some, none_due, releases_next, task_known, tick_of}
 use Rattle.msrp_report.proofs.Waiting.{released_by}
 use Rattle.msrp_levels.proofs.PlanJobs.{job_in}
 
@@ -45,26 +48,18 @@ due_none : (plan : PlanModel) (t k : ℕ) → length (jobs_of plan t) ≤ k → 
 due_none plan t k l = ap (λ b. cond b (release plan (job_at t k)) plan.ticks) (le-ltb k (length (jobs_of plan t)) l)
 
 -- so none of the others is released before
-due_least : (plan : PlanModel) (rows : List Row) (begun t k : ℕ) (x : TaskTally) → IsPlan plan → t < length plan.tasks → IsTaskTally plan rows begun t x → x.released ≤ k → k < length (jobs_of plan t) → x.due ≤ release plan (job_at t k)
-due_least plan rows begun t k x ok task is from l =
-    let first = due_first plan t x.released (omega (arith, from, l)) in
-    let due = is.due in
-    elim (cases_lt x.released k) [
-      | inl less ↦ let rise = release_rises plan t x.released k ok task less l in omega (arith, first, due, rise)
+due_least : (plan : PlanModel) (t n k : ℕ) → IsPlan plan → t < length plan.tasks → n ≤ k → k < length (jobs_of plan t) → release_or_end plan t n ≤ release plan (job_at t k)
+due_least plan t n k ok task from l =
+    let first = due_first plan t n (omega (arith, from, l)) in
+    elim (cases_lt n k) [
+      | inl less ↦ let rise = release_rises plan t n k ok task less l in omega (arith, first, rise)
       | inr past ↦
-          let same : release plan (job_at t x.released) ≡ release plan (job_at t k) = ap (λ n. release plan (job_at t n)) (omega (arith, from, past)) in
-          omega (arith, first, due, same)
+          let same : release plan (job_at t n) ≡ release plan (job_at t k) = ap (λ m. release plan (job_at t m)) (omega (arith, from, past)) in
+          omega (arith, first, same)
     ]
 
 pub due_before : (plan : PlanModel) (rows : List Row) (begun t k : ℕ) (x : TaskTally) → IsPlan plan → t < length plan.tasks → IsTaskTally plan rows begun t x → x.released ≤ k → k < length (jobs_of plan t) → begun ≤ release plan (job_at t k)
-due_before plan rows begun t k x ok task is from l = let least = due_least plan rows begun t k x ok task is from l in let later = is.later in omega (arith, least, later)
-
--- no job of the task is released from the ticks that have begun to its next release
-task_quiet : (plan : PlanModel) (rows : List Row) (begun t : ℕ) (x : TaskTally) → IsPlan plan → t < length plan.tasks → IsTaskTally plan rows begun t x → NoJobReleased plan t begun x.due
-task_quiet plan rows begun t x ok task is k l from = elim (cases_lt k x.released) [
-  | inl come ↦ let past = is.past k come in absurd (omega (arith, past, from))
-  | inr left ↦ due_least plan rows begun t k x ok task is left l
-]
+due_before plan rows begun t k x ok task is from l = let least = due_least plan t x.released k ok task from l in let later = is.later in omega (arith, least, later)
 
 -- ---- a release
 -- the task's next job is released in the tick that begins
@@ -76,10 +71,10 @@ pub record IsReleased (old new : TaskTally) (k : ℕ) (s : JobTally) (b : Blocki
   pub next : new.released ≡ k + 1
 
 -- there is such a job
-pub due_job : (plan : PlanModel) (rows : List Row) (begun t : ℕ) (x : TaskTally) → IsTaskTally plan rows begun t x → x.due ≤ begun → begun < plan.ticks → x.released < length (jobs_of plan t)
-due_job plan rows begun t x is due left = elim (cases_lt x.released (length (jobs_of plan t))) [
+due_job : (plan : PlanModel) (t n begun : ℕ) → release_or_end plan t n ≤ begun → begun < plan.ticks → n < length (jobs_of plan t)
+due_job plan t n begun due left = elim (cases_lt n (length (jobs_of plan t))) [
   | inl l ↦ l
-  | inr past ↦ let none = due_none plan t x.released past in let e = is.due in absurd (omega (arith, none, e, due, left))
+  | inr past ↦ let none = due_none plan t n past in absurd (omega (arith, none, due, left))
 ]
 
 -- a job that isn't released is blocked by no row
@@ -93,15 +88,15 @@ lt_next k n ne = elim (cases_lt k n) [
   | inr past ↦ le-ltb k (n + 1) (omega (arith, past, ne)) ∙ sym (le-ltb k n past)
 ]
 
-pub task_released : (plan : PlanModel) (rows : List Row) (begun t : ℕ) (old new : TaskTally) (k : ℕ) (s : JobTally) (o : Option JobId) → IsPlan plan → t < length plan.tasks → IsTaskTally plan rows begun t old → old.due ≤ begun → begun < plan.ticks → AllByRecursion (λ r. r.tick < begun) rows
-    → first_later plan rows (job_at t k) ≡ o → IsReleased old new k s (blocking_by rows o) → new.due ≡ release_or_end plan t (k + 1) → IsTaskTally plan rows (begun + 1) t new
-task_released plan rows begun t old new k s o ok task is due left early first set new_due =
-    let within = due_job plan rows begun t old is due left in
+pub task_released : (plan : PlanModel) (rows : List Row) (begun t : ℕ) (old new : TaskTally) (k : ℕ) (s : JobTally) (o : Option JobId) → IsPlan plan → t < length plan.tasks → IsTaskTally plan rows begun t old → release_or_end plan t old.released ≤ begun → begun < plan.ticks
+    → AllByRecursion (λ r. r.tick < begun) rows → first_later plan rows (job_at t k) ≡ o → IsReleased old new k s (blocking_by rows o) → IsTaskTally plan rows (begun + 1) t new
+task_released plan rows begun t old new k s o ok task is due left early first set =
+    let within = due_job plan t old.released begun due left in
     let number = set.number in
     let next = set.next in
     let l : k < length (jobs_of plan t) = omega (arith, within, number) in
     let now : release plan (job_at t k) ≡ begun =
-    (let a = due_before plan rows begun t k old ok task is (omega (arith, number)) l in let e = due_first plan t old.released within in let d = is.due in let same : release plan (job_at t old.released) ≡ release plan (job_at t k) = ap (λ n. release plan (job_at t n)) (sym number) in omega (arith, a, e, d, due, same)) in
+    (let a = due_before plan rows begun t k old ok task is (omega (arith, number)) l in let e = due_first plan t old.released within in let same : release plan (job_at t old.released) ≡ release plan (job_at t k) = ap (λ n. release plan (job_at t n)) (sym number) in omega (arith, a, e, due, same)) in
     let size = is.size in
     let length_set : length new.jobs.items ≡ length old.jobs.items = ap length set.jobs_set ∙ length-set old.jobs.items k (record s { blocking = blocking_by rows o }) in
     record {
@@ -109,8 +104,7 @@ task_released plan rows begun t old new k s o ok task is due left early first se
       units = set.units ∙ is.units;
       fits = omega (arith, next, l);
       past = λ m h. past m h now;
-      due = new_due ∙ ap (release_or_end plan t) (sym next);
-      later = later now;
+      later = subst (λ n. begun + 1 ≤ release_or_end plan t n) (sym next) (later now);
       each = λ m x has. by_place m x has now (cases_Bool (m == k));
     }
   where
@@ -123,10 +117,10 @@ task_released plan rows begun t old new k s o ok task is due left early first se
           omega (arith, e, now)
     ]
 
-    later : release plan (job_at t k) ≡ begun → begun + 1 ≤ new.due
+    later : release plan (job_at t k) ≡ begun → begun + 1 ≤ release_or_end plan t (k + 1)
     later now = elim (cases_lt (k + 1) (length (jobs_of plan t))) [
-      | inl l ↦ let e = due_first plan t (k + 1) l in let rise = release_rises plan t k (k + 1) ok task (omega arith) l in omega (arith, new_due, e, rise, now)
-      | inr past_all ↦ let e = due_none plan t (k + 1) past_all in omega (arith, new_due, e, left)
+      | inl l ↦ let e = due_first plan t (k + 1) l in let rise = release_rises plan t k (k + 1) ok task (omega arith) l in omega (arith, e, rise, now)
+      | inr past_all ↦ let e = due_none plan t (k + 1) past_all in omega (arith, e, left)
     ]
 
     by_place : (m : ℕ) (x : JobTally) → slice_get new.jobs.items m ≡ Some x → release plan (job_at t k) ≡ begun → ((m == k) ≡ true) ⊎ ((m == k) ≡ false) → IsJobTally plan rows (nat_lt m new.released) (job_at t m) x
@@ -147,153 +141,103 @@ task_released plan rows begun t old new k s o ok task is due left early first se
         subst (λ b. IsJobTally plan rows b (job_at t m) x) bit (is.each m x old_has)
 
 -- a task whose next job isn't due
-pub task_waits : (plan : PlanModel) (rows : List Row) (begun t : ℕ) (x : TaskTally) → IsTaskTally plan rows begun t x → begun < x.due → IsTaskTally plan rows (begun + 1) t x
-task_waits plan rows begun t x is due = record {
+task_waits : (plan : PlanModel) (rows : List Row) (before begun t : ℕ) (x : TaskTally) → IsTaskTally plan rows before t x → before ≤ begun + 1 → begun < release_or_end plan t x.released → IsTaskTally plan rows (begun + 1) t x
+task_waits plan rows before begun t x is up ahead = record {
   size = is.size;
   units = is.units;
   fits = is.fits;
-  past = λ k h. let p = is.past k h in omega (arith, p);
-  due = is.due;
-  later = omega (arith, due);
+  past = λ k h. let p = is.past k h in omega (arith, p, up);
+  later = omega (arith, ahead);
   each = is.each;
 }
 
 -- ---- all tasks
-below_next : (begun n t : ℕ) → t ≢ n → begun_below begun n t ≡ begun_below begun (n + 1) t
-below_next begun n t ne = ap (λ b. cond b (begun + 1) begun) (sym (lt_next t n ne))
+-- the tick has begun for one task more
+abbrev pub begun_with : (ℕ → ℕ) → ℕ → ℕ → ℕ → ℕ
+begun_with before begun t u = cond (u == t) (begun + 1) (before u)
 
-below_here : (begun n : ℕ) → begun_below begun n n ≡ begun
-below_here begun n = ap (λ b. cond b (begun + 1) begun) (le-ltb n n (omega arith))
-
-below_then : (begun n : ℕ) → begun_below begun (n + 1) n ≡ begun + 1
-below_then begun n = ap (λ b. cond b (begun + 1) begun) (lt-ltb n (n + 1) (omega arith))
-
--- one task has begun its tick
-pub next_task : (plan : PlanModel) (rows : List Row) (begun n : ℕ) (tasks after : List TaskTally) (x : TaskTally) → AreTallies plan rows (begun_below begun n) tasks → length after ≡ length tasks → slice_get after n ≡ Some x → ((t : ℕ) → t ≢ n → slice_get after t ≡ slice_get tasks t) → IsTaskTally plan rows (begun + 1) n x → AreTallies plan rows (begun_below begun (n + 1)) after
-next_task plan rows begun n tasks after x are size at others is = record {
+next_task : (plan : PlanModel) (rows : List Row) (before : ℕ → ℕ) (begun t : ℕ) (tasks : List TaskTally) (x y : TaskTally) → AreTallies plan rows before tasks → slice_get tasks t ≡ Some x → IsTaskTally plan rows (begun + 1) t y → AreTallies plan rows (begun_with before begun t) (slice_set tasks t y)
+next_task plan rows before begun t tasks x y are at is = record {
   start = are.start;
-  size = size ∙ are.size;
-  each = λ t y has. by_place t y has (cases_Bool (t == n));
+  size = length-set tasks t y ∙ are.size;
+  each = λ u z has. by_place u z has (cases_Bool (u == t));
 }
   where
-    by_place : (t : ℕ) (y : TaskTally) → slice_get after t ≡ Some y → ((t == n) ≡ true) ⊎ ((t == n) ≡ false) → IsTaskTally plan rows (begun_below begun (n + 1) t) t y
-    by_place t y has (inl e) =
-        let same : n ≡ t = sym (eqb-true t n e) in
-        let here : x ≡ y = same_Some x y (sym at ∙ (ap (slice_get after) same ∙ has)) in
-        subst (λ m. IsTaskTally plan rows (begun_below begun (n + 1) m) m y) same (subst (λ b. IsTaskTally plan rows b n y) (sym (below_then begun n)) (subst (IsTaskTally plan rows (begun + 1) n) here is))
-    by_place t y has (inr e) =
-        let ne = eqb-false t n e in
-        subst (λ b. IsTaskTally plan rows b t y) (below_next begun n t ne) (are.each t y (sym (others t ne) ∙ has))
+    by_place : (u : ℕ) (z : TaskTally) → slice_get (slice_set tasks t y) u ≡ Some z → ((u == t) ≡ true) ⊎ ((u == t) ≡ false) → IsTaskTally plan rows (begun_with before begun t u) u z
+    by_place u z has (inl e) =
+        let same : t ≡ u = sym (eqb-true u t e) in
+        let here : y ≡ z = same_Some y z (sym (get_set_same tasks t x y at) ∙ (ap (slice_get (slice_set tasks t y)) same ∙ has)) in
+        subst (λ b. IsTaskTally plan rows (cond b (begun + 1) (before u)) u z) (sym e) (subst (λ m. IsTaskTally plan rows (begun + 1) m z) same (subst (IsTaskTally plan rows (begun + 1) t) here is))
+    by_place u z has (inr e) = subst (λ b. IsTaskTally plan rows (cond b (begun + 1) (before u)) u z) (sym e) (are.each u z (sym (get_set_other tasks t u y (eqb-false u t e)) ∙ has))
 
--- at first none has, at last all have
-below_none : (begun t : ℕ) → begun_below begun 0 t ≡ begun
-below_none begun t = ap (λ b. cond b (begun + 1) begun) (le-ltb t 0 (omega arith))
+-- at first it has begun for none
+pub none_begun : (plan : PlanModel) (rows : List Row) (t : Tallies) → HasTallied plan rows t → HasReleased plan rows t
+none_begun plan rows t told = record { early = told.begun.early; begun = λ _. t.begun; low = λ u. omega arith; high = λ u. omega arith; tallies = told.tallies; releases = told.releases; active = told.active }
 
-pub none_begun : (plan : PlanModel) (rows : List Row) (begun : ℕ) (tasks : List TaskTally) → AreTallies plan rows (λ _. begun) tasks → AreTallies plan rows (begun_below begun 0) tasks
-none_begun plan rows begun tasks are = record { start = are.start; size = are.size; each = λ t x has. subst (λ b. IsTaskTally plan rows b t x) (sym (below_none begun t)) (are.each t x has) }
-
-pub all_begun : (plan : PlanModel) (rows : List Row) (begun n : ℕ) (tasks : List TaskTally) → n ≡ length plan.tasks → AreTallies plan rows (begun_below begun n) tasks → AreTallies plan rows (λ _. begun + 1) tasks
-all_begun plan rows begun n tasks all are = record {
-  start = are.start;
-  size = are.size;
-  each = λ t x has. subst (λ b. IsTaskTally plan rows b t x) (ap (λ b. cond b (begun + 1) begun) (lt-ltb t n (let l = slice_get_within tasks t x has in let size = are.size in omega (arith, l, size, all)))) (are.each t x has);
+-- where no release is due any more, for all
+pub all_begun : (plan : PlanModel) (rows : List Row) (t : Tallies) → HasReleased plan rows t → is_due t.begun t.releases.items ≡ false → AreTallies plan rows (λ _. t.begun + 1) t.tasks.items
+all_begun plan rows t h none = record {
+  start = h.tallies.start;
+  size = h.tallies.size;
+  each = λ u x has. task_waits plan rows (h.begun u) t.begun u x (h.tallies.each u x has) (h.high u) (none_due plan t.begun t.tasks.items t.releases.items h.releases none u x has (let l = slice_get_within t.tasks.items u x has in let size = h.tallies.size in omega (arith, l, size)));
 }
 
--- ---- the task whose turn it is
-pub at_task : (plan : PlanModel) (rows : List Row) (begun n : ℕ) (tasks : List TaskTally) (x : TaskTally) → AreTallies plan rows (begun_below begun n) tasks → slice_get tasks n ≡ Some x → IsTaskTally plan rows begun n x
-at_task plan rows begun n tasks x are at = subst (λ b. IsTaskTally plan rows b n x) (below_here begun n) (are.each n x at)
+-- ---- the task whose release comes first, where that is due
+pub record IsFirst (plan : PlanModel) (rows : List Row) (t : Tallies) (r : NextRelease) : Type 0 where
+  pub task : r.task.0 < length plan.tasks
+  pub within : r.task.0 < length t.tasks.items
+  pub at : (x : TaskTally) → x ≡ get_or t.tasks.items r.task.0 x → slice_get t.tasks.items r.task.0 ≡ Some x
+  pub due : (x : TaskTally) → x ≡ get_or t.tasks.items r.task.0 x → release_or_end plan r.task.0 x.released ≤ t.begun
+  pub told : (x : TaskTally) → x ≡ get_or t.tasks.items r.task.0 x → IsTaskTally plan rows t.begun r.task.0 x
 
-pub read_task : (plan : PlanModel) (rows : List Row) (begun : ℕ → ℕ) (n : ℕ) (tasks : List TaskTally) (x : TaskTally) → AreTallies plan rows begun tasks → n < length plan.tasks → x ≡ get_or tasks n x → slice_get tasks n ≡ Some x
-read_task plan rows begun n tasks x are task is = slice_get_read tasks (length tasks) n x refl (let size = are.size in omega (arith, task, size)) is
-
-pub same_read : (plan : PlanModel) (rows : List Row) (begun : ℕ → ℕ) (n : ℕ) (tasks : List TaskTally) (x y : TaskTally) → AreTallies plan rows begun tasks → n < length plan.tasks → x ≡ get_or tasks n x → y ≡ get_or tasks n y → x ≡ y
-same_read plan rows begun n tasks x y are task ix iy = same_Some x y (sym (read_task plan rows begun n tasks x are task ix) ∙ read_task plan rows begun n tasks y are task iy)
-
-pub due_within : (plan : PlanModel) (rows : List Row) (begun n : ℕ) (tasks : List TaskTally) (x y : TaskTally) → AreTallies plan rows (begun_below begun n) tasks → n < length plan.tasks → x ≡ get_or tasks n x → y ≡ get_or tasks n y → x.due ≤ begun → begun < plan.ticks → y.released < length (jobs_of plan n)
-due_within plan rows begun n tasks x y are task ix iy due left =
-    let within = due_job plan rows begun n x (at_task plan rows begun n tasks x are (read_task plan rows (begun_below begun n) n tasks x are task ix)) due left in
-    let same = ap (λ (z : TaskTally). z.released) (same_read plan rows (begun_below begun n) n tasks x y are task ix iy) in
-    omega (arith, within, same)
-
--- ---- ticks without a release
--- with the next release of one task more
-pub group_more : (plan : PlanModel) (rows : List Row) (begun a n to : ℕ) (tasks : List TaskTally) (x : TaskTally) → IsPlan plan → n < length plan.tasks → AreTallies plan rows (begun_below begun (n + 1)) tasks → x ≡ get_or tasks n x → NoneReleasedIn plan a n (begun + 1) to → NoneReleasedIn plan a (n + 1) (begun + 1) (min to x.due)
-group_more plan rows begun a n to tasks x ok task are is quiet t low l k within from =
-    let here = are.each n x (read_task plan rows (begun_below begun (n + 1)) n tasks x are task is) in
-    elim (cases_lt t n) [
-      | inl below ↦ let far = quiet t low below k within from in omega (arith, far)
-      | inr past ↦
-          let own : NoJobReleased plan n (begun + 1) x.due = task_quiet plan rows (begun + 1) n x ok task (subst (λ b. IsTaskTally plan rows b n x) (below_then begun n) here) in
-          let far = subst (λ m. NoJobReleased plan m (begun + 1) x.due) (let e : n ≡ t = omega (arith, l, past) in e) own k within from in
-          omega (arith, far)
-    ]
-
--- with those of one group more
-pub quiet_group : (plan : PlanModel) (g n from to due : ℕ) → n ≡ g * 8 → NoneReleased plan n from to → NoneReleasedIn plan (g * 8) (group_end plan g) from due → NoneReleased plan (group_end plan g) from (min to due)
-quiet_group plan g n from to due is before quiet t l k within late = elim (cases_lt t n) [
-  | inl below ↦ let far = before t below k within late in omega (arith, far)
-  | inr past ↦ let far = quiet t (omega (arith, past, is)) l k within late in omega (arith, far)
-]
-
--- in a tick before the next release all tasks wait
-quiet_waits : (plan : PlanModel) (rows : List Row) (begun to t : ℕ) (x : TaskTally) → NoJobReleased plan t begun to → begun < to → begun < plan.ticks → IsTaskTally plan rows begun t x → begun < x.due
-quiet_waits plan rows begun to t x quiet ahead left is =
-    let due = is.due in
-    let later = is.later in
-    elim (cases_lt x.released (length (jobs_of plan t))) [
-      | inl l ↦ let first = due_first plan t x.released l in let far = quiet x.released l (omega (arith, first, due, later)) in omega (arith, first, due, far, ahead)
-      | inr past ↦ let none = due_none plan t x.released past in omega (arith, none, due, left)
-    ]
-
-pub all_wait : (plan : PlanModel) (rows : List Row) (begun to : ℕ) (tasks : List TaskTally) → NoneReleased plan (length plan.tasks) begun to → begun < to → begun < plan.ticks → AreTallies plan rows (begun_below begun 0) tasks → AreTallies plan rows (λ _. begun + 1) tasks
-all_wait plan rows begun to tasks quiet ahead left are = record {
-  start = are.start;
-  size = are.size;
-  each = λ t x has.
-      let is = subst (λ b. IsTaskTally plan rows b t x) (below_none begun t) (are.each t x has) in
-      let l : t < length plan.tasks = (let w = slice_get_within tasks t x has in let size = are.size in omega (arith, w, size)) in
-      task_waits plan rows begun t x is (quiet_waits plan rows begun to t x (quiet t l) ahead left is);
-}
-
--- in a tick before the next release of some tasks these wait
-begun_then : (begun n t : ℕ) → t < n → begun_below begun n t ≡ begun + 1
-begun_then begun n t l = ap (λ b. cond b (begun + 1) begun) (lt-ltb t n l)
-
-begun_still : (begun n t : ℕ) → n ≤ t → begun_below begun n t ≡ begun
-begun_still begun n t past = ap (λ b. cond b (begun + 1) begun) (le-ltb t n past)
-
-pub group_waits : (plan : PlanModel) (rows : List Row) (begun to a b : ℕ) (tasks : List TaskTally) → a ≤ b → NoneReleasedIn plan a b begun to → begun < to → begun < plan.ticks → AreTallies plan rows (begun_below begun a) tasks → AreTallies plan rows (begun_below begun b) tasks
-group_waits plan rows begun to a b tasks up quiet ahead left are = record {
-  start = are.start;
-  size = are.size;
-  each = λ t x has. by_place t x has (cases_lt t a) (cases_lt t b);
+pub first_is : (plan : PlanModel) (rows : List Row) (t : Tallies) (r : NextRelease) → HasReleased plan rows t → is_due t.begun t.releases.items ≡ true → r ≡ get_or t.releases.items 0 r → IsFirst plan rows t r
+first_is plan rows t r h is_due read = record {
+  task = task;
+  within = within;
+  at = at;
+  due = due;
+  told = λ x is.
+      let told = h.tallies.each r.task.0 x (at x is) in
+      let later = told.later in
+      let low = h.low r.task.0 in
+      let come = due x is in
+      subst (λ n. IsTaskTally plan rows n r.task.0 x) (omega (arith, later, low, come)) told;
 }
   where
-    by_place : (t : ℕ) (x : TaskTally) → slice_get tasks t ≡ Some x → (t < a) ⊎ (a ≤ t) → (t < b) ⊎ (b ≤ t) → IsTaskTally plan rows (begun_below begun b t) t x
-    by_place t x has (inl below) other = subst (λ n. IsTaskTally plan rows n t x) (begun_then begun a t below ∙ sym (begun_then begun b t (omega (arith, below, up)))) (are.each t x has)
-    by_place t x has (inr past) (inl within) =
-        let is = subst (λ n. IsTaskTally plan rows n t x) (begun_still begun a t past) (are.each t x has) in
-        subst (λ n. IsTaskTally plan rows n t x) (sym (begun_then begun b t within)) (task_waits plan rows begun t x is (quiet_waits plan rows begun to t x (quiet t past within) ahead left is))
-    by_place t x has (inr past) (inr beyond) = subst (λ n. IsTaskTally plan rows n t x) (begun_still begun a t past ∙ sym (begun_still begun b t beyond)) (are.each t x has)
+    some : 0 < length t.releases.items
+    some = due_some t.begun t.releases.items is_due
 
--- ---- groups of tasks
--- a group has a task
-pub group_within : (plan : PlanModel) (g n : ℕ) → n ≡ (length plan.tasks + 7) / 8 → g < n → g * 8 < length plan.tasks
-group_within plan g n size l =
-    let whole = div-add-mod' (length plan.tasks + 7) 8 in
-    let rest = mod_below (length plan.tasks + 7) 8 (omega arith) in
-    omega (arith, size, l, whole, rest)
+    task : r.task.0 < length plan.tasks
+    task = task_known plan t.tasks.items t.releases.items r h.releases some read
 
--- the groups behind one stay as they are
-pub groups_left : (plan : PlanModel) (n from : ℕ) (groups after : List ℕ) → AreGroups plan n from groups → length after ≡ length groups → ((g : ℕ) → g ≢ n → slice_get after g ≡ slice_get groups g) → AreGroups plan (n + 1) from after
-groups_left plan n from groups after are size others = record {
-  size = size ∙ are.size;
-  quiet = λ g to past has. are.quiet g to (omega (arith, past)) (sym (others g (λ e. absurd (omega (arith, e, past)))) ∙ has);
+    within : r.task.0 < length t.tasks.items
+    within = let l = task in let size = h.tallies.size in omega (arith, l, size)
+
+    at : (x : TaskTally) → x ≡ get_or t.tasks.items r.task.0 x → slice_get t.tasks.items r.task.0 ≡ Some x
+    at x is = slice_get_read t.tasks.items (length t.tasks.items) r.task.0 x refl within is
+
+    due : (x : TaskTally) → x ≡ get_or t.tasks.items r.task.0 x → release_or_end plan r.task.0 x.released ≤ t.begun
+    due x is =
+        let own = subst (IsNextRelease plan t.tasks.items) (sym read) (h.releases.own 0 r some) x (at x is) in
+        let come = due_come t.begun t.releases.items r is_due read in
+        omega (arith, own, come)
+
+pub first_job : (plan : PlanModel) (rows : List Row) (t : Tallies) (r : NextRelease) (x : TaskTally) → IsFirst plan rows t r → x ≡ get_or t.tasks.items r.task.0 x → t.begun < plan.ticks → x.released < length (jobs_of plan r.task.0)
+first_job plan rows t r x first is left = due_job plan r.task.0 x.released t.begun (first.due x is) left
+
+-- its next job is released
+pub first_released : (plan : PlanModel) (rows : List Row) (t new : Tallies) (r : NextRelease) (x y : TaskTally) (tick : ℕ) → HasReleased plan rows t → is_due t.begun t.releases.items ≡ true → r ≡ get_or t.releases.items 0 r → slice_get t.tasks.items r.task.0 ≡ Some x → IsTaskTally plan rows (t.begun + 1) r.task.0 y → tick ≡ release_or_end plan r.task.0 y.released
+    → IsPermutation (slice_set t.releases.items 0 (record { tick = tick; task = r.task })) new.releases.items → IsNonDecreasingBy tick_of new.releases.items → new.begun ≡ t.begun → new.tasks.items ≡ slice_set t.tasks.items r.task.0 y → new.active.items ≡ t.active.items → HasReleased plan rows new
+first_released plan rows t new r x y tick h due read at told next same up begun set active = record {
+  early = subst (λ n. AllByRecursion (λ row. row.tick < n) rows) (sym begun) h.early;
+  begun = begun_with h.begun t.begun r.task.0;
+  low = λ u. let l = near u (u == r.task.0) in omega (arith, l, begun);
+  high = λ u. let l = near u (u == r.task.0) in omega (arith, l, begun);
+  tallies = subst (AreTallies plan rows (begun_with h.begun t.begun r.task.0)) (sym set) (next_task plan rows h.begun t.begun r.task.0 t.tasks.items x y h.tallies at told);
+  releases = subst (λ l. AreReleases plan l new.releases.items) (sym set) (releases_next plan t.tasks.items t.releases.items r x y tick new.releases.items h.releases (due_some t.begun t.releases.items due) read at next same up);
+  active = subst (AreActive plan rows) (sym active) h.active;
 }
-
--- a tick later they are quiet too
-pub later_in : (plan : PlanModel) (a b from to : ℕ) → NoneReleasedIn plan a b from to → NoneReleasedIn plan a b (from + 1) to
-later_in plan a b from to quiet t low l k within late = quiet t low l k within (omega (arith, late))
-
-pub groups_later : (plan : PlanModel) (n from : ℕ) (groups : List ℕ) → AreGroups plan n from groups → AreGroups plan n (from + 1) groups
-groups_later plan n from groups are = record { size = are.size; quiet = λ g to past has. later_in plan (g * 8) (group_end plan g) from to (are.quiet g to past has) }
+  where
+    near : (u : ℕ) (b : Bool) → (t.begun ≤ cond b (t.begun + 1) (h.begun u)) × (cond b (t.begun + 1) (h.begun u) ≤ t.begun + 1)
+    near u true = (omega arith, omega arith)
+    near u false = (h.low u, h.high u)

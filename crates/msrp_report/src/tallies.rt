@@ -47,8 +47,13 @@ pub(crate) struct TaskTally {
     pub(crate) units: u32,
     /// How many of them are released.
     pub(crate) released: u32,
-    /// No further one is released before this tick.
-    pub(crate) due: u64,
+}
+
+/// The next release of a task, or the plan's end where it has none left.
+#[derive(Clone, Copy)]
+pub(crate) struct NextRelease {
+    pub(crate) tick: u32,
+    pub(crate) task: TaskId,
 }
 
 /// What they tell of all jobs of a plan, task by task.
@@ -59,10 +64,8 @@ pub(crate) struct Tallies {
     pub(crate) active: Vec<CoreJobs>,
     /// How many ticks have begun.
     pub(crate) begun: u32,
-    /// Of each group of tasks: no further job of theirs is released before this tick.
-    pub(crate) groups: Vec<u64>,
-    /// No further job is released before this tick.
-    pub(crate) next: u64,
+    /// The next release of each task, the earliest first.
+    pub(crate) releases: Vec<NextRelease>,
 }
 
 impl Tallies {

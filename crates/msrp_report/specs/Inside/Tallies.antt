@@ -1,6 +1,7 @@
 -- What is kept of each job while the rows come, and what it says of the rows so far.
-use Rattle.std.specs.Prelude.{ℕ, List, ◌∷◌, [], ◌++◌, Bool, true, false, not, ◌&&◌, ◌==◌, nat_lt, Option, Some, None, IsSome, length, slice_get, vec_capacity, ◌≡◌, ◌<◌, ◌≤◌, ◌+◌, ◌*◌, ◌/◌, min, if◌then◌else◌}
-use Rattle.std.specs.List.{AllByRecursion, Contains, IsDistinct, list_any}
+use Rattle.std.specs.Prelude.{ℕ, List, ◌∷◌, [], ◌++◌, Bool, true, false, not, ◌&&◌, ◌==◌, nat_le, nat_lt, Option, Some, None, IsSome, map, count_by, length, slice_get, vec_capacity, ◌≡◌, ◌<◌, ◌≤◌, ◌+◌, ◌/◌, if◌then◌else◌}
+use Rattle.std.specs.List.{All, AllByRecursion, Contains, IsDistinct, list_any, range_with_len}
+use Rattle.std.specs.List.Sorted.{IsNonDecreasingBy, IsPermutation}
 use Rattle.msrp_plan.specs.Plan.{PlanModel, task_at, release, release_tick}
 use Rattle.msrp_plan.specs.Choice.{is_before}
 use Rattle.msrp_plan.specs.Jobs.{jobs, job_at, jobs_of, jobs_on, same_job, is_started, is_finished}
@@ -15,6 +16,7 @@ use Rattle.msrp_report.specs.declared.tallies.active.CoreJobs.{CoreJobs}
 use Rattle.msrp_report.specs.declared.tallies.Blocking.{Blocking}
 use Rattle.msrp_report.specs.declared.tallies.Blocking.TheVariants.{Over, By}
 use Rattle.msrp_report.specs.declared.tallies.JobTally.{JobTally}
+use Rattle.msrp_report.specs.declared.tallies.NextRelease.{NextRelease}
 use Rattle.msrp_report.specs.declared.tallies.TaskTally.{TaskTally}
 use Rattle.msrp_report.specs.declared.tallies.Tallies.{Tallies}
 
@@ -59,14 +61,13 @@ is_active plan rows j = is_started rows j && not (is_finished plan rows j)
 abbrev pub release_or_end : PlanModel → ℕ → ℕ → ℕ
 release_or_end plan t k = if nat_lt k (length (jobs_of plan t)) then release plan (job_at t k) else plan.ticks
 
--- what is kept of task t, where so many ticks have begun for it: its first jobs are released, and of the others the first is due
+-- what is kept of task t, where so many ticks have begun for it: those of its jobs are released that come before them
 pub record IsTaskTally (plan : PlanModel) (rows : List Row) (begun t : ℕ) (x : TaskTally) : Type 0 where
   pub size : length x.jobs.items ≡ length (jobs_of plan t)
   pub units : x.units ≡ length (task_at plan t).units
   pub fits : x.released ≤ length (jobs_of plan t)
   pub past : (k : ℕ) → k < x.released → release plan (job_at t k) < begun
-  pub due : x.due ≡ release_or_end plan t x.released
-  pub later : begun ≤ x.due
+  pub later : begun ≤ release_or_end plan t x.released
   pub each : (k : ℕ) (s : JobTally) → slice_get x.jobs.items k ≡ Some s → IsJobTally plan rows (nat_lt k x.released) (job_at t k) s
 
 -- what is kept of all tasks, where ticks have begun for each task on its own
@@ -74,6 +75,17 @@ pub record AreTallies (plan : PlanModel) (rows : List Row) (begun : ℕ → ℕ)
   pub start : IsRunStart plan rows
   pub size : length tasks ≡ length plan.tasks
   pub each : (t : ℕ) (x : TaskTally) → slice_get tasks t ≡ Some x → IsTaskTally plan rows (begun t) t x
+
+-- ---- releases
+-- it is the next release of its task
+abbrev pub IsNextRelease : PlanModel → List TaskTally → NextRelease → Type 0
+IsNextRelease plan tasks r = (x : TaskTally) → slice_get tasks r.task.0 ≡ Some x → r.tick ≡ release_or_end plan r.task.0 x.released
+
+-- they are the next release of each task once, the earliest first
+pub record AreReleases (plan : PlanModel) (tasks : List TaskTally) (releases : List NextRelease) : Type 0 where
+  pub own : All (IsNextRelease plan tasks) releases
+  pub once : IsPermutation (range_with_len 0 (length plan.tasks)) (map (λ r. r.task.0) releases)
+  pub rising : IsNonDecreasingBy (λ r. r.tick) releases
 
 -- ---- jobs that are started and unfinished
 abbrev pub same_task : JobId → JobId → Bool
@@ -98,31 +110,11 @@ pub record HaveBegun (plan : PlanModel) (rows : List Row) (begun : ℕ) : Type 0
   pub least : length rows / plan.cores ≤ begun
   pub most : begun ≤ length rows / plan.cores + 1
 
--- no job of a task is released from one tick on and before another; the same of the first n tasks
-abbrev pub NoJobReleased : PlanModel → ℕ → ℕ → ℕ → Type 0
-NoJobReleased plan t from to = (k : ℕ) → k < length (jobs_of plan t) → from ≤ release plan (job_at t k) → to ≤ release plan (job_at t k)
-
-abbrev pub NoneReleased : PlanModel → ℕ → ℕ → ℕ → Type 0
-NoneReleased plan n from to = (t : ℕ) → t < n → NoJobReleased plan t from to
-
-abbrev pub NoneReleasedIn : PlanModel → ℕ → ℕ → ℕ → ℕ → Type 0
-NoneReleasedIn plan a b from to = (t : ℕ) → a ≤ t → t < b → NoJobReleased plan t from to
-
--- the tasks are looked at by groups of eight: where one ends
-abbrev pub group_end : PlanModel → ℕ → ℕ
-group_end plan g = min (length plan.tasks) (g * 8 + 8)
-
--- of each group from the n-th on a tick is kept, and no further job of its tasks is released before it
-pub record AreGroups (plan : PlanModel) (n from : ℕ) (groups : List ℕ) : Type 0 where
-  pub size : length groups ≡ (length plan.tasks + 7) / 8
-  pub quiet : (g to : ℕ) → n ≤ g → slice_get groups g ≡ Some to → NoneReleasedIn plan (g * 8) (group_end plan g) from to
-
 -- what is kept is what these rows tell
 pub record HasTallied (plan : PlanModel) (rows : List Row) (t : Tallies) : Type 0 where
   pub begun : HaveBegun plan rows t.begun
-  pub quiet : NoneReleased plan (length plan.tasks) t.begun t.next
-  pub groups : AreGroups plan 0 t.begun t.groups.items
   pub tallies : AreTallies plan rows (λ _. t.begun) t.tasks.items
+  pub releases : AreReleases plan t.tasks.items t.releases.items
   pub active : AreActive plan rows t.active.items
 
 -- ---- one job
@@ -173,19 +165,28 @@ pub record IsFirstOf (plan : PlanModel) (j : JobId) (others : List JobId) (o : O
   pub least : (i : JobId) → list_any (same_job i) others ≡ true → is_before plan j i ≡ true → NotBefore plan i o
 
 -- ---- the releases of a tick
--- the next tick has begun for the tasks below the n-th
-abbrev pub begun_below : ℕ → ℕ → ℕ → ℕ
-begun_below begun n t = if nat_lt t n then begun + 1 else begun
-
--- all rows stand in ticks that have begun
-pub record HasReleased (plan : PlanModel) (rows : List Row) (n : ℕ) (t : Tallies) : Type 0 where
+-- all rows stand in ticks that have begun; for some tasks the next tick has begun too
+pub record HasReleased (plan : PlanModel) (rows : List Row) (t : Tallies) : Type 0 where
   pub early : AllByRecursion (λ r. r.tick < t.begun) rows
-  pub tallies : AreTallies plan rows (begun_below t.begun n) t.tasks.items
+  pub begun : ℕ → ℕ
+  pub low : (u : ℕ) → t.begun ≤ begun u
+  pub high : (u : ℕ) → begun u ≤ t.begun + 1
+  pub tallies : AreTallies plan rows begun t.tasks.items
+  pub releases : AreReleases plan t.tasks.items t.releases.items
   pub active : AreActive plan rows t.active.items
 
+-- the first of the releases comes in the tick that begins, or came before it
+abbrev pub is_due : ℕ → List NextRelease → Bool
+is_due begun [] = false
+is_due begun (r ∷ rs) = nat_le r.tick begun
+
+-- how many of them do
+abbrev pub due_count : Tallies → ℕ
+due_count t = count_by (λ r. nat_le r.tick t.begun) t.releases.items
+
 -- some rows are told so
-abbrev pub ReleasesNext : PlanModel → ℕ → Tallies → Type 0
-ReleasesNext plan n t = (rows : List Row) × HasReleased plan rows n t
+abbrev pub ReleasesNext : PlanModel → Tallies → Type 0
+ReleasesNext plan t = (rows : List Row) × HasReleased plan rows t
 
 -- ---- one row more
 -- it goes on with the rows, in the tick that has begun last
@@ -199,9 +200,8 @@ Counts plan r t = (rows : List Row) × AreTallies plan rows (λ _. t.begun) t.ta
 -- they are told with the row's tick begun
 pub record StandsAt (plan : PlanModel) (rows : List Row) (r : Row) (t : Tallies) : Type 0 where
   pub early : AllByRecursion (λ x. x.tick < t.begun) rows
-  pub quiet : NoneReleased plan (length plan.tasks) t.begun t.next
-  pub groups : AreGroups plan 0 t.begun t.groups.items
   pub tallies : AreTallies plan rows (λ _. t.begun) t.tasks.items
+  pub releases : AreReleases plan t.tasks.items t.releases.items
   pub active : AreActive plan rows t.active.items
   pub next : IsNextOf plan rows r t.begun
 

@@ -5,7 +5,7 @@ ghost use Rattle.msrp_plan.specs.Plan.{PlanModel};
 ghost use Rattle.msrp_plan.specs.Runs.{IsRunStart};
 ghost use Rattle.msrp_plan.specs.WellFormed.{IsPlan};
 ghost use Rattle.msrp_plan.specs.declared.rows.Row.{Row as TraceRow};
-ghost use Rattle.msrp_report.specs.Inside.Tallies.{AreActive, AreTallies, Counts, CountsAs, GoesOn, HasTallied, IsNextOf, StandsAt, ToldOf};
+ghost use Rattle.msrp_report.specs.Inside.Tallies.{AreActive, AreReleases, AreTallies, Counts, CountsAs, GoesOn, HasTallied, IsNextOf, StandsAt, ToldOf};
 
 use super::{Blocking, Tallies};
 use msrp_plan::{JobId, Kind, Plan, Row};
@@ -26,8 +26,7 @@ impl Tallies {
         requires told { (row : TraceRow) × CountsAs plan.now job tick kind row self.old }
         requires first { (rows : List TraceRow) → AreTallies plan.now rows (λ _. self.old.begun) self.old.tasks.items → is_started rows job ≡ false }
         ensures begun { self.new.begun ≡ self.old.begun }
-        ensures next { self.new.next ≡ self.old.next }
-        ensures groups { self.new.groups.items ≡ self.old.groups.items }
+        ensures releases { AreReleases plan.now self.old.tasks.items self.old.releases.items → AreReleases plan.now self.new.tasks.items self.new.releases.items }
         ensures told { (row : TraceRow) (rows : List TraceRow) → CountsAs plan.now job tick kind row self.old → AreTallies plan.now rows (λ _. self.old.begun) self.old.tasks.items → IsNextOf plan.now rows row self.old.begun → AreTallies plan.now (rows ++ row ∷ []) (λ _. self.old.begun) self.new.tasks.items }
         ensures active { (row : TraceRow) (rows : List TraceRow) → CountsAs plan.now job tick kind row self.old → AreTallies plan.now rows (λ _. self.old.begun) self.old.tasks.items → AreActive plan.now rows self.old.active.items → IsNextOf plan.now rows row self.old.begun → AreActive plan.now (rows ++ row ∷ []) self.new.active.items }
     {
@@ -50,8 +49,7 @@ impl Tallies {
         requires told { Counts plan.now row self.old }
         requires job { row.job ≡ Some job }
         ensures begun { self.new.begun ≡ self.old.begun }
-        ensures next { self.new.next ≡ self.old.next }
-        ensures groups { self.new.groups.items ≡ self.old.groups.items }
+        ensures releases { AreReleases plan.now self.old.tasks.items self.old.releases.items → AreReleases plan.now self.new.tasks.items self.new.releases.items }
         ensures told { (rows : List TraceRow) → AreTallies plan.now rows (λ _. self.old.begun) self.old.tasks.items → IsNextOf plan.now rows row self.old.begun → AreTallies plan.now (rows ++ row ∷ []) (λ _. self.old.begun) self.new.tasks.items }
         ensures active { (rows : List TraceRow) → AreTallies plan.now rows (λ _. self.old.begun) self.old.tasks.items → AreActive plan.now rows self.old.active.items → IsNextOf plan.now rows row self.old.begun → AreActive plan.now (rows ++ row ∷ []) self.new.active.items }
     {

@@ -1,12 +1,13 @@
 //! Before the first row.
 
-ghost use Rattle.std.specs.Prelude.{◌≡◌, ◌<◌, ◌≤◌, [], IfOk, length};
+ghost use Rattle.std.specs.Prelude.{◌≡◌, ◌<◌, ◌≤◌, [], List, IfOk, length};
 ghost use Rattle.msrp_plan.specs.WellFormed.{IsPlan};
-ghost use Rattle.msrp_report.specs.Inside.Tallies.{HasTallied, IsTaskTally};
+ghost use Rattle.msrp_report.specs.Inside.Tallies.{AreReleases, AreTallies, HasTallied, IsTaskTally};
+ghost use Rattle.msrp_report.specs.declared.tallies.TaskTally.{TaskTally};
 
 use super::active::none_active;
-use super::releasing::{GROUP, release_or_end};
-use super::{Blocking, JobTally, Tallies, TaskTally};
+use super::releasing::release_or_end;
+use super::{Blocking, JobTally, NextRelease, Tallies, TaskTally};
 use crate::counts::JobCount;
 use msrp_plan::{JobId, Memory, Plan, TaskId};
 use std::alloc::Global;
@@ -28,13 +29,25 @@ fn untold(alloc: Global, plan: &Plan, task: TaskId) -> Result<TaskTally, Memory>
     for _ in 0..count {
         jobs.push_reserved(UNTOLD);
     }
-    let first = JobId { task, k: 0 };
     Ok(TaskTally {
         jobs,
         units: plan.units(task),
         released: 0,
-        due: release_or_end(plan, first, count as usize),
     })
+}
+
+// The first release of each task, the earliest first.
+fn first_releases(alloc: Global, plan: &Plan) -> Result<Vec<NextRelease>, Memory>
+    ensures { IfOk result (λ releases. (tasks : List TaskTally) → AreTallies plan.now [] (λ _. 0) tasks → AreReleases plan.now tasks releases.items) }
+{
+    let mut releases = Vec::with_capacity(alloc, plan.tasks() as usize)?;
+    for task in 0..plan.tasks() {
+        let task = TaskId(task);
+        let tick = release_or_end(plan, JobId { task, k: 0 }, plan.jobs(task) as usize);
+        releases.push_reserved(NextRelease { tick, task });
+    }
+    releases.sort_unstable_by_key(|release| release.tick);
+    Ok(releases)
 }
 
 impl Tallies {
@@ -50,8 +63,7 @@ impl Tallies {
             tasks,
             active: none_active(alloc, plan)?,
             begun: 0,
-            groups: vec![in alloc; 0; (plan.tasks() as usize + GROUP - 1) / GROUP]?,
-            next: 0,
+            releases: first_releases(alloc, plan)?,
         })
     }
 }

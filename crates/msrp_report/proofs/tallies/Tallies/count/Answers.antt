@@ -6,6 +6,7 @@ use Rattle.msrp_report.specs.declared.counts.JobCount.{JobCount}
 use Rattle.msrp_report.proofs.ActiveRows.{core_read, core_within, cores_kept, cores_set, ends, goes_on}
 use Rattle.msrp_report.proofs.JobTallies.{job_known, job_read, room_read, task_read, told_number, told_task}
 use Rattle.msrp_report.proofs.OwnRows.{tick_left}
+use Rattle.msrp_report.proofs.Releases.{releases_kept}
 use Rattle.msrp_report.proofs.RowSteps.{job_on_core, row_in, row_last, row_told, tallies_grown}
 use Rattle.msrp_report.proofs.tallies.Tallies.count.Goals as goal
 
@@ -53,14 +54,16 @@ returns-then-from-task-clause-told c = λ rows are next.
     let of_task = task_read tasks c.args.job x told c.index_mut-task.ensures.value in
     let of_job = job_read tasks c.args.job x s told c.index_mut-task.ensures.value c.index_mut-tally.ensures.value in
     let started = c.is_unstarted.ensures plan rows (λ _. c.args.self.now.begun) are ∙ ap not c.if-is_unstarted.false in
-    tallies_grown plan rows c.args.row c.args.self.now.begun tasks _ c.args.job x (record { jobs = with_item x.jobs c.args.job.k (record { count = c.add.new.self; blocking = s.blocking }); units = x.units; released = x.released; due = x.due }) s c.requires.plan c.requires.job next are of_task refl started
+    tallies_grown plan rows c.args.row c.args.self.now.begun tasks _ c.args.job x (record { jobs = with_item x.jobs c.args.job.k (record { count = c.add.new.self; blocking = s.blocking }); units = x.units; released = x.released }) s c.requires.plan c.requires.job next are of_task refl started
     (record {
       was = of_job;
       jobs_set = ap (λ (y : JobCount). slice_set x.jobs.items c.args.job.k (record { count = y; blocking = s.blocking })) c.add.ensures;
       units = refl;
       released = refl;
-      due = refl;
     })
+
+pub returns-then-from-task-clause-releases : goal.returns-then-from-task-clause-releases
+returns-then-from-task-clause-releases c = releases_kept c.args.plan.now _ _ c.args.job _ _ (row_told c.args.plan.now c.args.row c.args.job c.args.self.now c.requires.plan c.requires.told c.requires.job) c.index_mut-task.ensures.value refl
 
 pub returns-then-from-task-clause-active : goal.returns-then-from-task-clause-active
 returns-then-from-task-clause-active c = λ rows are active next.
@@ -88,14 +91,16 @@ returns-clause-told c = λ rows are next.
     let of_task = task_read tasks c.args.job x told c.index_mut-task.ensures.value in
     let of_job = job_read tasks c.args.job x s told c.index_mut-task.ensures.value c.index_mut-tally.ensures.value in
     let started = c.is_unstarted.ensures plan rows (λ _. c.args.self.now.begun) are ∙ ap not c.if-is_unstarted.false in
-    tallies_grown plan rows c.args.row c.args.self.now.begun tasks _ c.args.job x (record { jobs = with_item x.jobs c.args.job.k (record { count = c.add.new.self; blocking = s.blocking }); units = x.units; released = x.released; due = x.due }) s c.requires.plan c.requires.job next are of_task refl started
+    tallies_grown plan rows c.args.row c.args.self.now.begun tasks _ c.args.job x (record { jobs = with_item x.jobs c.args.job.k (record { count = c.add.new.self; blocking = s.blocking }); units = x.units; released = x.released }) s c.requires.plan c.requires.job next are of_task refl started
     (record {
       was = of_job;
       jobs_set = ap (λ (y : JobCount). slice_set x.jobs.items c.args.job.k (record { count = y; blocking = s.blocking })) c.add.ensures;
       units = refl;
       released = refl;
-      due = refl;
     })
+
+pub returns-clause-releases : goal.returns-clause-releases
+returns-clause-releases c = releases_kept c.args.plan.now _ _ c.args.job _ _ (row_told c.args.plan.now c.args.row c.args.job c.args.self.now c.requires.plan c.requires.told c.requires.job) c.index_mut-task.ensures.value refl
 
 pub returns-clause-active : goal.returns-clause-active
 returns-clause-active c = λ rows are active next.

@@ -8,6 +8,7 @@ use Rattle.msrp_report.specs.declared.tallies.Blocking.TheVariants.{Over}
 use Rattle.msrp_report.proofs.ActiveRows.{begins, core_read, core_within, cores_kept, cores_set, may_begin, passes_by}
 use Rattle.msrp_report.proofs.JobTallies.{job_known, job_read, room_read, task_read, told_number, told_task}
 use Rattle.msrp_report.proofs.OwnRows.{tick_left}
+use Rattle.msrp_report.proofs.Releases.{releases_kept}
 use Rattle.msrp_report.proofs.RowSteps.{job_on_core, row_in, row_last, row_told, tallies_counted}
 use Rattle.msrp_report.proofs.tallies.Tallies.count_first.Goals as goal
 
@@ -69,15 +70,17 @@ returns-then-from-task-clause-told c = λ row rows like are next.
     let of_job = job_read tasks c.args.job x s told c.index_mut-task.ensures.value c.index_mut-tally.ensures.value in
     let n = c.blocked-blocked.result in
     let made = c.add.ensures ∙ (ap (λ t. counted_as t c.args.kind s.count) (sym like.tick) ∙ ap (λ k. counted_as row.tick k s.count) (sym like.kind)) in
-    tallies_counted plan rows row c.args.self.now.begun tasks _ c.args.job x (record { jobs = with_item x.jobs c.args.job.k (record { count = c.add.new.self; blocking = Over n }); units = x.units; released = x.released; due = x.due }) s n c.requires.plan like.job next are of_task refl
+    tallies_counted plan rows row c.args.self.now.begun tasks _ c.args.job x (record { jobs = with_item x.jobs c.args.job.k (record { count = c.add.new.self; blocking = Over n }); units = x.units; released = x.released }) s n c.requires.plan like.job next are of_task refl
     (record {
       was = of_job;
       jobs_set = ap (λ (y : JobCount). slice_set x.jobs.items c.args.job.k (record { count = y; blocking = Over n })) made;
       units = refl;
       released = refl;
-      due = refl;
     })
     (c.blocked-blocked.ensures plan rows (λ _. c.args.self.now.begun) c.requires.plan are (row_in plan rows row c.args.job next.start like.job))
+
+pub returns-then-from-task-clause-releases : goal.returns-then-from-task-clause-releases
+returns-then-from-task-clause-releases c = let t = c.requires.told in releases_kept c.args.plan.now _ _ c.args.job _ _ (row_told c.args.plan.now t.0 c.args.job c.args.self.now c.requires.plan t.1.counts t.1.job) c.index_mut-task.ensures.value refl
 
 pub returns-then-from-task-clause-active : goal.returns-then-from-task-clause-active
 returns-then-from-task-clause-active c = λ row rows like are active next.
@@ -106,15 +109,17 @@ returns-clause-told c = λ row rows like are next.
     let of_job = job_read tasks c.args.job x s told c.index_mut-task.ensures.value c.index_mut-tally.ensures.value in
     let n = c.blocked-blocked.result in
     let made = c.add.ensures ∙ (ap (λ t. counted_as t c.args.kind s.count) (sym like.tick) ∙ ap (λ k. counted_as row.tick k s.count) (sym like.kind)) in
-    tallies_counted plan rows row c.args.self.now.begun tasks _ c.args.job x (record { jobs = with_item x.jobs c.args.job.k (record { count = c.add.new.self; blocking = Over n }); units = x.units; released = x.released; due = x.due }) s n c.requires.plan like.job next are of_task refl
+    tallies_counted plan rows row c.args.self.now.begun tasks _ c.args.job x (record { jobs = with_item x.jobs c.args.job.k (record { count = c.add.new.self; blocking = Over n }); units = x.units; released = x.released }) s n c.requires.plan like.job next are of_task refl
     (record {
       was = of_job;
       jobs_set = ap (λ (y : JobCount). slice_set x.jobs.items c.args.job.k (record { count = y; blocking = Over n })) made;
       units = refl;
       released = refl;
-      due = refl;
     })
     (c.blocked-blocked.ensures plan rows (λ _. c.args.self.now.begun) c.requires.plan are (row_in plan rows row c.args.job next.start like.job))
+
+pub returns-clause-releases : goal.returns-clause-releases
+returns-clause-releases c = let t = c.requires.told in releases_kept c.args.plan.now _ _ c.args.job _ _ (row_told c.args.plan.now t.0 c.args.job c.args.self.now c.requires.plan t.1.counts t.1.job) c.index_mut-task.ensures.value refl
 
 pub returns-clause-active : goal.returns-clause-active
 returns-clause-active c = λ row rows like are active next.

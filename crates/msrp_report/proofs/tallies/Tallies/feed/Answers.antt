@@ -1,5 +1,5 @@
-use Rattle.std.proofs.Common.{◌++◌, ◌∷◌, [], length, sym, subst, arith}
-use Rattle.msrp_report.specs.Inside.Tallies.{AreGroups, AreTallies, HaveBegun, NoneReleased}
+use Rattle.std.proofs.Common.{◌++◌, ◌∷◌, [], sym, subst, arith}
+use Rattle.msrp_report.specs.Inside.Tallies.{AreTallies, HaveBegun}
 use Rattle.msrp_report.proofs.ActiveRows.{cores_idle}
 use Rattle.msrp_report.proofs.RowSteps.{begun_push, tallies_idle}
 use Rattle.msrp_report.proofs.tallies.Tallies.feed.Goals as goal
@@ -11,9 +11,8 @@ returns-in_default c = λ rows told start.
     let n = c.reach.new.self.begun in
     record {
       begun = begun_push plan rows c.args.row n n c.requires.plan s.early (omega arith) s.next;
-      quiet = s.quiet;
-      groups = s.groups;
       tallies = tallies_idle plan rows c.args.row n c.reach.new.self.tasks.items c.requires.plan c.in_default.is s.next s.tallies;
+      releases = s.releases;
       active = cores_idle plan rows c.args.row c.reach.new.self.active.items c.in_default.is s.active;
     }
 
@@ -25,8 +24,7 @@ returns c = λ rows told start.
     let same = c.count.ensures.begun in
     record {
       begun = subst (HaveBegun plan (rows ++ c.args.row ∷ [])) (sym same) (begun_push plan rows c.args.row n n c.requires.plan s.early (omega arith) s.next);
-      quiet = subst (λ b. NoneReleased plan (length plan.tasks) b c.count.new.self.next) (sym same) (subst (λ b. NoneReleased plan (length plan.tasks) n b) (sym c.count.ensures.next) s.quiet);
-      groups = subst (λ b. AreGroups plan 0 b c.count.new.self.groups.items) (sym same) (subst (AreGroups plan 0 n) (sym c.count.ensures.groups) s.groups);
       tallies = subst (λ b. AreTallies plan (rows ++ c.args.row ∷ []) (λ _. b) c.count.new.self.tasks.items) (sym same) (c.count.ensures.told rows s.tallies s.next);
+      releases = c.count.ensures.releases s.releases;
       active = c.count.ensures.active rows s.tallies s.active s.next;
     }

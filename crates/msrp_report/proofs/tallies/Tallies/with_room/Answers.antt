@@ -1,4 +1,4 @@
-use Rattle.std.proofs.Common.{◌≡◌, ◌+◌, ◌-◌, ◌/◌, ◌≤◌, ◌∷◌, [], ℕ, Some, length, length-append, slice_get, refl, ap, sym, subst, ◌∙◌, arith}
+use Rattle.std.proofs.Common.{◌≡◌, ◌+◌, ◌≤◌, ◌∷◌, [], ℕ, Some, length, length-append, slice_get, refl, ap, sym, subst, ◌∙◌, arith}
 use Rattle.msrp_report.specs.Inside.Tallies.{IsTaskTally}
 use Rattle.msrp_report.specs.declared.tallies.TaskTally.{TaskTally}
 use Rattle.msrp_report.proofs.Starting.{tallies_untold}
@@ -22,5 +22,4 @@ pub returns : goal.returns
 returns c =
     let i = c.loop-task.invariant in
     let all : c.loop-task.task ≡ length c.args.plan.now.tasks = (let t = c.tasks-task-end.ensures.value in let past = c.loop-task-test.false in let end = c.loop-task.auto.task-end in omega (arith, t, past, end)) in
-    let size = c.tasks-2.ensures.value in
-    tallies_untold c.args.plan.now _ ((c.tasks-2.result + 8 - 1) / 8) c.tasks-task-end.ensures.plan refl refl (c.in_ok-vec.ensures.items_if_clones_equal (λ y e. e)) (ap (λ n. (n + 8 - 1) / 8) size ∙ ap (λ n. n / 8) (omega arith)) (i.size ∙ all) i.each c.in_ok-none_active.ensures
+    tallies_untold c.args.plan.now _ c.tasks-task-end.ensures.plan refl (i.size ∙ all) i.each (c.in_ok-first_releases.ensures _) c.in_ok-none_active.ensures

@@ -6,4 +6,4 @@ pub returns : goal.returns
 returns c =
     let i = c.loop.invariant in
     let all : c.loop.counter ≡ c.jobs-count.result = (let past = c.loop-test.false in let end = c.loop.auto.counter-end in omega (arith, past, end)) in
-    task_untold c.args.plan.now c.args.task.0 _ (i.size ∙ (all ∙ c.jobs-count.ensures.count)) c.units.ensures refl c.release_or_end.ensures i.each
+    task_untold c.args.plan.now c.args.task.0 _ (i.size ∙ (all ∙ c.jobs-count.ensures.count)) c.units.ensures refl i.each
