@@ -9,3 +9,5 @@ pub mod Entries
 pub mod Releases
 pub mod Moving
 pub mod Ahead
+pub mod Dealing
+pub mod Sorting

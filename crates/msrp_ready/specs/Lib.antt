@@ -1,4 +1,5 @@
 pub mod Keyed
+pub mod Piles
 pub mod Heap
 pub mod HeapView
 pub mod Ready

@@ -10,8 +10,16 @@ ghost use Rattle.msrp_ready.specs.declared.keyed.Entry.{Entry};
 
 use crate::heap::Heap;
 use crate::keyed::{Entry, KeyedJob};
+use crate::piles::sort_by_release;
 use msrp_plan::{CoreId, JobId, Memory, Plan, TaskId};
 use std::alloc::{AllocError, Global};
+
+// What stands where no entry has been put.
+const NO_ENTRY: Entry = Entry {
+    release: 0,
+    task: 0,
+    k: 0,
+};
 
 // Adds the jobs of a task.
 fn push_jobs(jobs: &mut Vec<Entry>, plan: &Plan, task: TaskId) -> Result<(), AllocError>
@@ -46,7 +54,8 @@ pub(crate) fn calendar_of(alloc: Global, plan: &Plan, core: CoreId) -> Result<Ve
     ensures sorted { IfOk result (λ jobs. IsNonDecreasingBy (λ entry. entry.release) jobs.items) }
 {
     let mut jobs = jobs_on(alloc, plan, core)?;
-    jobs.sort_unstable_by_key(|entry| entry.release);
+    let mut others = Vec::from_elem(alloc, NO_ENTRY, jobs.len())?;
+    sort_by_release(&mut jobs, &mut others);
     Ok(jobs)
 }
 

@@ -7,6 +7,7 @@
 mod calendar;
 mod heap;
 mod keyed;
+mod piles;
 mod ready;
 
 pub use ready::Ready;
