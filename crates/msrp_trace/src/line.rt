@@ -15,7 +15,7 @@ use crate::res::ResTexts;
 use crate::text::Text;
 use crate::words::{DASH, TRACE_WORD, version_word};
 use msrp_plan::limits::MOST_RESOURCES;
-use msrp_plan::{JobId, Kind, Plan, ResId, Row, TextVersion};
+use msrp_plan::{CoreId, JobId, Kind, Plan, ResId, Row, TextVersion};
 use std::marker::Model;
 
 // No record is longer: a number has at most 10 digits, and a name at most 16 letters.
@@ -86,14 +86,21 @@ impl LineText {
         self.text.next(DASH);
     }
 
-    // The word for a kind.
+    // The first two fields after the tick: the core and the word for a kind. Where the core has one digit, as each has, its field has two bytes, so that
+    // what comes behind stands at a known place.
     #[inline(always)]
-    fn next_kind(&mut self, kind: Kind)
-        requires { length self.old + 8 ≤ LINE }
-        ensures text { self.new ≡ self.old ++ next_field (kind_text kind) }
-        ensures size { length self.new ≤ length self.old + 8 }
+    fn begin(&mut self, core: CoreId, kind: Kind)
+        ensures text { self.new ≡ next_field (decimal core.0) ++ next_field (kind_text kind) }
+        ensures size { length self.new ≤ 19 }
     {
-        self.text.add_text(&kind_field(kind));
+        self.clear();
+        if core.0 < 10 {
+            self.text.add(&[b',', b'0' + core.0 as u8]);
+            self.text.add_text(&kind_field(kind));
+        } else {
+            self.text.next_number(core.0);
+            self.text.next(kind.word());
+        }
     }
 
     // The two fields of a job: its task's name and its number. They are kept for its next row.
@@ -180,9 +187,7 @@ impl LineText {
         ensures res_after { AreResTexts plan.now res.new }
         ensures text { self.new ≡ after_tick version plan.now row.now }
     {
-        self.clear();
-        self.text.next_number(row.core.0);
-        self.next_kind(row.kind);
+        self.begin(row.core, row.kind);
         self.next_job(plan, job, row.job);
         self.next_resource(plan, res, row.res);
         self.next_ahead(version, row.ahead);
