@@ -1,9 +1,9 @@
 -- Whether a tick releases a job of the core, that was not released before.
-use Rattle.std.proofs.Common.{◌≡◌, ℕ, ◌<◌, ◌≤◌, nat_le, Bool, true, false, not, ◌&&◌, List, [], ◌∷◌, take, drop, length, get_or, Option, Some, None, ap, sym, ◌∙◌, subst, inl, inr, arith, add-zero}
+use Rattle.std.proofs.Common.{◌≡◌, ℕ, ◌<◌, ◌≤◌, ◌^◌, nat_le, Bool, true, false, not, ◌&&◌, List, [], ◌∷◌, take, drop, length, get_or, Option, Some, None, ap, sym, ◌∙◌, subst, inl, inr, arith, add-zero}
 use Rattle.std.specs.List.{AllByRecursion, Contains, list_any}
 use Rattle.std.specs.Option.{ForSome}
 use Rattle.std.proofs.Math.Bool.{and-false, and-true}
-use Rattle.std.proofs.lemmas.Bool.{cases_Bool, leb-false, and_from, or_parts}
+use Rattle.std.proofs.lemmas.Bool.{cases_Bool, cases_lt, leb-false, lt-leb, and_from, or_parts}
 use Rattle.std.proofs.lemmas.List.{take-append-drop, get_or-drop, get_or_default, get_or-map, length-drop}
 use Rattle.std.proofs.lemmas.List.Elements.{All-contains, All-contains_itself, All-weaker, Contains-get_or, Contains-append_right, Contains-append_cases}
 use Rattle.std.proofs.lemmas.List.Folds.{list_any_none}
@@ -16,7 +16,7 @@ use Rattle.msrp_plan.proofs.Lists.Filters.{filter_same}
 use Rattle.msrp_ready.specs.Keyed.{entry_key, entry_keys, job_of}
 use Rattle.msrp_ready.specs.Heap.{HeapModel}
 use Rattle.msrp_ready.specs.Ready.{ReadyModel, has_come, head, is_among, has_release_by}
-use Rattle.msrp_ready.specs.ReadyView.{AreReady}
+use Rattle.msrp_ready.specs.ReadyView.{AreReady, IsComing}
 use Rattle.msrp_ready.specs.declared.keyed.Entry.{Entry}
 use Rattle.msrp_plan.specs.declared.ids.JobKey.{JobKey}
 use Rattle.msrp_ready.proofs.Entries.{keyed_length}
@@ -91,3 +91,31 @@ head_stays ready t no_earlier none = by_tick ready.tick no_earlier none
         each_same (j ∷ js) e =
             let parts = or_parts (has_come (Some t) (release ready.plan j) && not (has_come (Some n) (release ready.plan j))) (list_any (λ j. has_come (Some t) (release ready.plan j) && not (has_come (Some n) (release ready.plan j))) js) e in
             (ap (λ b. b && not (is_among ready.taken j)) (same_come (Some n) t (release ready.plan j) l parts.0), each_same js parts.1)
+
+-- ---- the next release, as it is kept
+module _ (plan : PlanModel) (c : ℕ) (tick : Option ℕ) (calendar : List Entry) (next : ℕ) (heap : HeapModel) (ok : AreReady plan c tick (entry_keys plan calendar) next heap) (coming : ℕ) (is : IsComing calendar next coming) where
+  -- where one is left it tells
+  told_by : next < length calendar → (t : ℕ) → nat_le coming t ≡ list_any (comes plan c tick (entry_keys plan calendar) next heap ok t) (jobs_on plan c)
+  told_by within t =
+      let d : Entry = record { release = 0; task = 0; k = 0 } in
+      let e = get_or calendar next d in
+      ap (λ n. nat_le n t) (is.release d within) ∙ entry_tells plan c tick calendar next heap ok t e within (get_or_default calendar next d e within)
+
+  pub coming_tells : (t : ℕ) → coming < 2 ^ 32 → nat_le coming t ≡ list_any (comes plan c tick (entry_keys plan calendar) next heap ok t) (jobs_on plan c)
+  coming_tells t short = elim (cases_lt next (length calendar)) [
+    | inl within ↦ told_by within t
+    | inr past ↦ let e = is.none past in absurd (omega (arith, e, short))
+  ]
+
+  pub never_tells : (t : ℕ) → 2 ^ 32 ≤ coming → list_any (comes plan c tick (entry_keys plan calendar) next heap ok t) (jobs_on plan c) ≡ false
+  never_tells t long = elim (cases_lt next (length calendar)) [
+    | inl within ↦ let s = is.short within in absurd (omega (arith, s, long))
+    | inr past ↦ none_left plan c tick calendar next heap ok t past
+  ]
+
+-- whether a job is released by a tick
+pub is_told : (plan : PlanModel) (c : ℕ) (tick : Option ℕ) (calendar : List Entry) (next : ℕ) (heap : HeapModel) (ok : AreReady plan c tick (entry_keys plan calendar) next heap) (coming : ℕ) → IsComing calendar next coming → (t : ℕ) → t < 2 ^ 32 → nat_le coming t ≡ list_any (comes plan c tick (entry_keys plan calendar) next heap ok t) (jobs_on plan c)
+is_told plan c tick calendar next heap ok coming is t few = elim (cases_lt coming (2 ^ 32)) [
+  | inl short ↦ coming_tells plan c tick calendar next heap ok coming is t short
+  | inr long ↦ lt-leb coming t (omega (arith, long, few)) ∙ sym (never_tells plan c tick calendar next heap ok coming is t long)
+]

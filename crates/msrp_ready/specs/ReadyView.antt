@@ -1,5 +1,5 @@
 -- What a clause sees of the ready jobs, and what their fields keep.
-use Rattle.std.specs.Prelude.{ℕ, List, Bool, true, false, not, Option, filter, map, length, take, drop, ◌≡◌, ◌≤◌, ◌+◌, ◌*◌, ◌++◌}
+use Rattle.std.specs.Prelude.{ℕ, List, Bool, true, false, not, Option, filter, map, length, take, drop, slice_index_or, ◌≡◌, ◌≤◌, ◌<◌, ◌+◌, ◌*◌, ◌^◌, ◌++◌}
 use Rattle.std.specs.List.{All, list_any}
 use Rattle.std.specs.List.Sorted.{IsPermutation, IsNonDecreasingBy}
 use Rattle.msrp_plan.specs.Plan.{PlanModel, key}
@@ -11,6 +11,7 @@ use Rattle.msrp_ready.specs.Keyed.{entry_keys, job_of}
 use Rattle.msrp_ready.specs.Heap.{HeapModel}
 use Rattle.msrp_ready.specs.Ready.{ReadyModel, has_come}
 use Rattle.msrp_plan.specs.declared.ids.JobKey.{JobKey}
+use Rattle.msrp_ready.specs.declared.keyed.Entry.{Entry}
 use Rattle.msrp_ready.specs.declared.ready.Ready.TheInside.{Inside}
 
 -- the job stands in the list
@@ -39,5 +40,12 @@ pub record AreReady (plan : PlanModel) (core : ℕ) (tick : Option ℕ) (calenda
 abbrev pub ready_view : Inside → ReadyModel
 ready_view ready = record { plan = ready.plan.now; core = ready.core.0; tick = ready.tick; taken = without ready.heap.jobs (take ready.next (entry_keys ready.plan.now ready.calendar.items)); compared = ready.heap.compared }
 
+-- the tick is the release of the entry at that place, or past all ticks where none stands there
+pub record IsComing (calendar : List Entry) (place tick : ℕ) : Type 0 where
+  pub release : (d : Entry) → place < length calendar → tick ≡ (slice_index_or calendar place d).release
+  pub short : place < length calendar → tick < 2 ^ 32
+  pub none : length calendar ≤ place → tick ≡ 2 ^ 32
+
+-- and the next release is kept
 abbrev pub IsReadyView : Inside → Type 0
-IsReadyView ready = AreReady ready.plan.now ready.core.0 ready.tick (entry_keys ready.plan.now ready.calendar.items) ready.next ready.heap
+IsReadyView ready = AreReady ready.plan.now ready.core.0 ready.tick (entry_keys ready.plan.now ready.calendar.items) ready.next ready.heap × IsComing ready.calendar.items ready.next ready.coming

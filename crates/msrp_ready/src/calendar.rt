@@ -6,6 +6,7 @@ ghost use Rattle.msrp_plan.specs.Jobs.{jobs_of, jobs_on};
 ghost use Rattle.msrp_plan.specs.WellFormed.{IsPlan};
 ghost use Rattle.msrp_plan.specs.Limits.{most_jobs};
 ghost use Rattle.msrp_ready.specs.Keyed.{entry, entry_keys};
+ghost use Rattle.msrp_ready.specs.ReadyView.{IsComing};
 ghost use Rattle.msrp_ready.specs.declared.keyed.Entry.{Entry};
 
 use crate::heap::Heap;
@@ -20,6 +21,9 @@ const NO_ENTRY: Entry = Entry {
     task: 0,
     k: 0,
 };
+
+// The release of no job, past all ticks.
+pub(crate) const NEVER: u64 = 1 << 32;
 
 // Adds the jobs of a task.
 fn push_jobs(jobs: &mut Vec<Entry>, plan: &Plan, task: TaskId) -> Result<(), AllocError>
@@ -74,37 +78,52 @@ pub(crate) fn released_to(calendar: &[Entry], from: usize, tick: u32) -> usize
     next
 }
 
-/// Moves the jobs of a calendar from a place on that are released by a tick into the heap, and answers the place of the
-/// first that isn't.
+/// The release of the job at a place of a calendar, past all ticks where none stands there.
+pub(crate) fn release_at(calendar: &[Entry], place: usize) -> u64
+    ensures { IsComing calendar.now place result }
+{
+    if place < calendar.len() {
+        u64::from(calendar[place].release)
+    } else {
+        NEVER
+    }
+}
+
+/// Moves the jobs of a calendar from a place on, where the next release stands, that are released by a tick into the heap. It answers the place of
+/// the first that isn't, and its release.
 #[inline(always)]
 pub(crate) fn release(
     plan: &Plan,
     calendar: &[Entry],
     from: usize,
+    coming: u64,
     tick: u32,
     heap: &mut Heap,
-) -> usize
+) -> (usize, u64)
     requires from { from ≤ length calendar.now }
+    requires coming { IsComing calendar.now from coming }
     requires plan { IsPlan plan.now }
     requires tasks { All (λ entry. entry.task < length plan.now.tasks) calendar.now }
     requires few { length calendar.now ≤ most_jobs }
     requires room { heap.old.room ≡ length calendar.now }
     requires jobs { length heap.old.jobs ≤ from }
     requires count { heap.old.compared < 2 ^ 63 }
-    ensures from { from ≤ result }
-    ensures within { result ≤ length calendar.now }
-    ensures released { All (λ entry. entry.release ≤ tick) (drop from (take result calendar.now)) }
-    ensures later { (d : Entry) → result < length calendar.now → tick < (slice_index_or calendar.now result d).release }
-    ensures jobs { IsPermutation (heap.old.jobs ++ entry_keys plan.now (drop from (take result calendar.now))) heap.new.jobs }
+    ensures from { from ≤ result.0 }
+    ensures within { result.0 ≤ length calendar.now }
+    ensures released { All (λ entry. entry.release ≤ tick) (drop from (take result.0 calendar.now)) }
+    ensures later { (d : Entry) → result.0 < length calendar.now → tick < (slice_index_or calendar.now result.0 d).release }
+    ensures jobs { IsPermutation (heap.old.jobs ++ entry_keys plan.now (drop from (take result.0 calendar.now))) heap.new.jobs }
     ensures room { heap.new.room ≡ heap.old.room }
-    ensures compared { heap.new.compared ≤ heap.old.compared + 13 * (result - from) }
+    ensures compared { heap.new.compared ≤ heap.old.compared + 13 * (result.0 - from) }
     ensures kept { heap.old.compared ≤ heap.new.compared }
-    ensures counted { result ≤ from + 1 + (heap.new.compared - heap.old.compared) }
+    ensures counted { result.0 ≤ from + 1 + (heap.new.compared - heap.old.compared) }
+    ensures coming { IsComing calendar.now result.0 result.1 }
 {
-    if from < calendar.len() && u32::from(calendar[from].release) <= tick {
-        release_some(plan, calendar, from, tick, heap)
+    if coming <= u64::from(tick) {
+        let next = release_some(plan, calendar, from, tick, heap);
+        (next, release_at(calendar, next))
     } else {
-        from
+        (from, coming)
     }
 }
 

@@ -5,7 +5,7 @@ ghost use Rattle.msrp_plan.specs.Jobs.{is_job};
 ghost use Rattle.msrp_plan.specs.declared.ids.JobId.{JobId as Job};
 ghost use Rattle.msrp_ready.specs.Ready.{head, is_among, has_release_by, released};
 
-use crate::calendar::{calendar_of, release, released_to};
+use crate::calendar::{NEVER, calendar_of, release, release_at, released_to};
 use crate::heap::Heap;
 use crate::keyed::{Entry, first_of};
 use msrp_plan::{CoreId, JobId, Memory, Plan};
@@ -26,6 +26,8 @@ pub struct Ready<'a> {
     tick: Option<u32>,
     calendar: Vec<Entry>,
     next: usize,
+    // The next release, kept so that a turn without one doesn't look into the calendar. Past all ticks where none is left.
+    coming: u64,
     heap: Heap,
 }
 
@@ -49,12 +51,14 @@ impl<'a> Ready<'a> {
     {
         let calendar = calendar_of(alloc, plan, core)?;
         let heap = Heap::with_room(alloc, calendar.len())?;
+        let coming = release_at(&calendar, 0);
         Ok(Ready {
             plan,
             core,
             tick: None,
             calendar,
             next: 0,
+            coming,
             heap,
         })
     }
@@ -70,7 +74,16 @@ impl<'a> Ready<'a> {
         // Each job that finds another ready is compared.
         ensures counted { released self.new ≤ released self.old + 1 + (self.new.compared - self.old.compared) }
     {
-        self.next = release(self.plan, &self.calendar, self.next, tick, &mut self.heap);
+        let (next, coming) = release(
+            self.plan,
+            &self.calendar,
+            self.next,
+            self.coming,
+            tick,
+            &mut self.heap,
+        );
+        self.next = next;
+        self.coming = coming;
         self.tick = Some(tick);
     }
 
@@ -79,7 +92,7 @@ impl<'a> Ready<'a> {
     pub fn has_release_by(&self, tick: u32) -> bool
         ensures { result ≡ has_release_by self.now tick }
     {
-        self.next < self.calendar.len() && u32::from(self.calendar[self.next].release) <= tick
+        self.coming <= u64::from(tick)
     }
 
     /// The tick in which the next job of the core is released, if one is left. It compares no keys.
@@ -89,8 +102,8 @@ impl<'a> Ready<'a> {
         ensures comes { IfSome result (λ next. has_release_by self.now next ≡ true) }
         ensures first { IfSome result (λ next. (tick : ℕ) → tick < next → has_release_by self.now tick ≡ false) }
     {
-        if self.next < self.calendar.len() {
-            Some(u64::from(self.calendar[self.next].release))
+        if self.coming < NEVER {
+            Some(self.coming)
         } else {
             None
         }

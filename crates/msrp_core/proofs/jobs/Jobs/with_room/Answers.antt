@@ -13,4 +13,4 @@ returns-clause-jobs c =
     let room : length (jobs_on c.args.plan.now c.args.core.0) ≤ vec_capacity c.in_ok-below.below =
     (let exact : vec_capacity c.in_ok-below.below ≡ c.jobs_on.result = search rules in let n = c.jobs_on.ensures.count in omega (arith, exact, n)) in
     none_fits (record { plan = c.args.plan; levels = c.args.levels; core = c.args.core; phase = _; ready = c.in_ok-ready.ready; stack = c.in_ok-stack.stack; progress = 0; below = c.in_ok-below.below; rising = _; units = _ })
-    (subst IsPlan (ap (λ (m : ReadyModel). m.plan) c.ready.view_is ∙ ap (λ (m : ReadyModel). m.plan) ready) c.ready.invariant.accepted) c.requires.levels ready stack empty room refl refl
+    (subst IsPlan (ap (λ (m : ReadyModel). m.plan) c.ready.view_is ∙ ap (λ (m : ReadyModel). m.plan) ready) c.ready.invariant.0.accepted) c.requires.levels ready stack empty room refl refl
