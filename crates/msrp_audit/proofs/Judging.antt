@@ -298,6 +298,12 @@ left_in tick cores place ticks low l = let a = mul-le-mul_left {m = tick + 1} {n
 pub full_in : (tick cores place ticks : ℕ) → ticks ≤ tick → cores * ticks ≤ tick * cores + place
 full_in tick cores place ticks l = let a = mul-le-mul_left {m = ticks} {n = tick} cores l in omega (arith, a)
 
+pub tick_left : (tick cores place ticks : ℕ) → tick * cores + place < cores * ticks → tick < ticks
+tick_left tick cores place ticks l = elim (cases_lt tick ticks) [
+  | inl low ↦ low
+  | inr past ↦ let a = full_in tick cores place ticks past in absurd (omega (arith, l, a))
+]
+
 pub place_now : (i : Inside) (a : AuditorModel) → IsAuditorView i → auditor_view i ≡ a → i.at.place ≡ a.fed % a.plan.cores
 place_now i a keeps is = subst (λ (b : AuditorModel). i.at.place ≡ b.fed % b.plan.cores) is (sym (mod-mul-add i.at.tick i.plan.now.cores i.at.place keeps.place))
 

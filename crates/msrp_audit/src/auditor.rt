@@ -1,5 +1,5 @@
 //! The auditor, row by row.
-ghost use Rattle.std.specs.Prelude.{◌≡◌, ◌≤◌, ◌<◌, ◌+◌, ◌*◌, ◌/◌, ◌%◌, ◌++◌, ◌∷◌, [], ℕ, List, IfOk, IfNone, IfSome, Some, None, Err, length, true};
+ghost use Rattle.std.specs.Prelude.{◌≡◌, ◌≤◌, ◌<◌, ◌+◌, ◌*◌, ◌/◌, ◌%◌, ◌++◌, ◌∷◌, ◌↔◌, [], ℕ, List, IfOk, IfNone, IfSome, Some, None, Err, length, true};
 ghost use Rattle.std.specs.Option.{IsSomeAnd, is_some};
 ghost use Rattle.msrp_core.specs.CoreStates.{IsCoreState};
 ghost use Rattle.msrp_plan.specs.Limits.{most_rows};
@@ -128,6 +128,37 @@ impl<'a> Auditor<'a> {
         self.at.tick
     }
 
+    // Whether no row so far has a fault, and rows are left.
+    #[inline(always)]
+    fn has_rows_left(&self) -> bool
+        ensures { (result ≡ true) ↔ (self.now.fault ≡ None) × (self.now.fed < self.now.plan.cores * self.now.plan.ticks) }
+    {
+        self.fault.is_none() && self.at.tick < self.plan.ticks()
+    }
+
+    /// Whether the rows of a whole tick come next: no row so far has a fault, and none of the tick that is due has come.
+    #[inline(always)]
+    pub fn begins_tick(&self) -> bool
+        ensures good { result ≡ true → self.now.fault ≡ None }
+        ensures left { result ≡ true → self.now.fed + self.now.plan.cores ≤ self.now.plan.cores * self.now.plan.ticks }
+        ensures answer { self.now.fault ≡ None → self.now.fed < self.now.plan.cores * self.now.plan.ticks → self.now.fed % self.now.plan.cores ≡ 0 → result ≡ true }
+    {
+        self.at.place == 0 && self.has_rows_left()
+    }
+
+    /// Whether a core of the plan has its turn in the tick that is due still to come, where it is known that no row so far has a fault and that
+    /// rows are left.
+    #[inline(always)]
+    pub fn is_due_in_tick(&self, core: CoreId) -> bool
+        requires core { core.0 < self.now.plan.cores }
+        requires good { self.now.fault ≡ None }
+        requires left { self.now.fed < self.now.plan.cores * self.now.plan.ticks }
+        ensures due { result ≡ true → IsDueInAudit self.now core.0 }
+        ensures answer { (rows : List TraceRow) → HasFed self.now rows → result ≡ has_turn self.now.plan rows core.0 }
+    {
+        self.cores.tick(core) == self.at.tick
+    }
+
     // Whether a core of the plan may have its turn now.
     #[inline(always)]
     fn has_turn(&self, core: CoreId) -> bool
@@ -135,13 +166,7 @@ impl<'a> Auditor<'a> {
         ensures due { result ≡ true → IsDueInAudit self.now core.0 }
         ensures answer { (rows : List TraceRow) → HasFed self.now rows → self.now.fault ≡ None → length rows < self.now.plan.cores * self.now.plan.ticks → result ≡ has_turn self.now.plan rows core.0 }
     {
-        if self.fault.is_some() {
-            return false;
-        }
-        if self.at.tick >= self.plan.ticks() {
-            return false;
-        }
-        self.cores.tick(core) == self.at.tick
+        self.has_rows_left() && self.is_due_in_tick(core)
     }
 
     /// The core that comes next where the rows of a tick come by the numbers of their cores, if it is due.
@@ -191,6 +216,7 @@ impl<'a> Auditor<'a> {
         ensures repeats { result ≡ unless_granted self.old.cores.queues core.0 (known_row self.old.cores core.0) }
         ensures plan { self.new.plan ≡ self.old.plan }
         ensures fed { self.new.fed ≡ self.old.fed }
+        ensures fault { self.new.fault ≡ self.old.fault }
         ensures core { IfSome result (λ due. due.core.0 ≡ core.0) }
         ensures leaves { IfSome result (Leaves self.old.cores self.new.cores) }
         ensures awaits { IfSome result (λ due. (rows : List TraceRow) → HasFed self.old rows → Awaits self.new rows core.0 due) }
@@ -205,6 +231,7 @@ impl<'a> Auditor<'a> {
         requires { IsDueInAudit self.old core.0 }
         ensures plan { self.new.plan ≡ self.old.plan }
         ensures fed { self.new.fed ≡ self.old.fed }
+        ensures fault { self.new.fault ≡ self.old.fault }
         ensures core { result.core.0 ≡ core.0 }
         ensures turn { IsSomeTurn self.old.plan core.0 result }
         ensures leaves { Leaves self.old.cores self.new.cores result }
@@ -220,6 +247,7 @@ impl<'a> Auditor<'a> {
         requires { IsDueInAudit self.old core.0 }
         ensures plan { self.new.plan ≡ self.old.plan }
         ensures fed { self.new.fed ≡ self.old.fed }
+        ensures fault { self.new.fault ≡ self.old.fault }
         ensures core { result.core.0 ≡ core.0 }
         ensures leaves { Leaves self.old.cores self.new.cores result }
         ensures awaits { (rows : List TraceRow) → HasFed self.old rows → Awaits self.new rows core.0 result }

@@ -1,5 +1,5 @@
 //! The rows of a trace's text, each judged as it comes.
-ghost use Rattle.std.specs.Prelude.{◌≡◌, ◌<◌, ◌≤◌, ◌*◌, ◌/◌, ◌%◌, ℕ, List, ◌++◌, ◌∷◌, [], IfOk, IfSome, OnOk, Some, None, Ok, Err, true, false, length, slice_index_or};
+ghost use Rattle.std.specs.Prelude.{◌≡◌, ◌<◌, ◌≤◌, ◌+◌, ◌*◌, ◌/◌, ◌%◌, ℕ, List, ◌++◌, ◌∷◌, [], IfOk, IfSome, OnOk, Some, None, Ok, Err, true, false, length, slice_index_or};
 ghost use Rattle.msrp_audit.specs.Audits.{Awaits, HasFed, IsDueInAudit};
 ghost use Rattle.msrp_plan.specs.Bytes.{source_failed};
 ghost use Rattle.msrp_plan.specs.WellFormed.{IsPlan};
@@ -143,6 +143,7 @@ impl<'p, 't, T: Read> JudgedRows<'p, 't, T> {
         requires due { IsDueInAudit self.old.auditor core.0 }
         ensures plan { self.new.auditor.plan ≡ self.old.auditor.plan }
         ensures fed { self.new.auditor.fed ≡ self.old.auditor.fed }
+        ensures fault { self.new.auditor.fault ≡ self.old.auditor.fault }
         ensures awaits { (rows : List TraceRow) → HasFed self.old.auditor rows → Awaits self.new.auditor rows core.0 (row_of_core self.new.lasts core.0) }
         ensures rows { self.new.rows ≡ self.old.rows }
         ensures kept { IsKept self.new.rows.version self.new.auditor.plan (text_of_core self.new.texts core.0) (row_of_core self.new.lasts core.0) }
@@ -265,6 +266,8 @@ impl<'p, 't, T: Read> JudgedRows<'p, 't, T> {
         requires short { is_short tick ≡ true }
         ensures plan { self.new.auditor.plan ≡ self.old.auditor.plan }
         ensures rows { self.new.rows ≡ self.old.rows }
+        ensures fed { self.new.auditor.fed ≡ self.old.auditor.fed + 1 }
+        ensures fault { self.new.auditor.fault ≡ self.old.auditor.fault }
         ensures turn { Turns self.old self.new tick core.0 }
         ensures others { KeepsOthers self.old self.new core.0 }
     {
@@ -277,7 +280,8 @@ impl<'p, 't, T: Read> JudgedRows<'p, 't, T> {
         }
     }
 
-    // The turns of all cores in that tick, by their numbers, and whether all were due. The texts that are kept are those of their rows then.
+    // The turns of all cores in that tick, by their numbers, and whether all were due. The texts that are kept are those of their rows then. Where the
+    // tick begins, of each core its own tick alone is asked.
     #[inline(always)]
     fn take_turns(&mut self, tick: u32, cores: u32) -> bool
         requires accepted { IsPlan self.old.auditor.plan }
@@ -287,9 +291,12 @@ impl<'p, 't, T: Read> JudgedRows<'p, 't, T> {
         ensures rows { self.new.rows ≡ self.old.rows }
         ensures turns { result ≡ true → TurnsAll self.old self.new tick cores }
     {
+        if !self.auditor.begins_tick() {
+            return false;
+        }
         for core in 0..cores {
             let core = CoreId(core);
-            if !self.auditor.is_due(core) {
+            if !self.auditor.is_due_in_tick(core) {
                 return false;
             }
             self.take_turn(tick, core);

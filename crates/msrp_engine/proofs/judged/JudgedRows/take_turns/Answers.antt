@@ -1,4 +1,5 @@
-use Rattle.std.proofs.Common.{◌++◌, ◌∷◌, [], refl, sym, ◌∙◌, subst, arith, append-nil}
+use Rattle.std.proofs.Common.{◌*◌, ◌<◌, ◌++◌, ◌∷◌, [], refl, sym, ◌∙◌, subst, arith, append-nil}
+use Rattle.msrp_plan.specs.Plan.{PlanModel}
 use Rattle.msrp_plan.specs.WellFormed.{IsPlan}
 use Rattle.msrp_engine.specs.Inside.Ticks.{HasFedRun, TurnsAll}
 use Rattle.msrp_engine.proofs.WholeTicks.{turn_on}
@@ -7,6 +8,8 @@ use Rattle.msrp_engine.proofs.judged.JudgedRows.take_turns.Goals as goal
 pub loop-core-init : goal.loop-core-init
 loop-core-init g c = record {
   plan = refl;
+  good = c.begins_tick.ensures.good c.if-not-begins_tick.false;
+  fed = omega arith;
   rows = refl;
   turns = (
     [],
@@ -21,11 +24,20 @@ loop-core-init g c = record {
   );
 }
 
-pub returns-then-not-is_due-clause-plan : goal.returns-then-not-is_due-clause-plan
-returns-then-not-is_due-clause-plan g c = c.loop-core.invariant.plan
+pub is_due_in_tick-requires-clause-left : goal.is_due_in_tick-requires-clause-left
+is_due_in_tick-requires-clause-left g c =
+    let i = c.loop-core.invariant in
+    let more = c.loop-core-test.true in
+    let cores = c.requires.cores in
+    let left = c.begins_tick.ensures.left c.if-not-begins_tick.false in
+    let fed = i.fed in
+    subst (λ (p : PlanModel). c.loop-core.self.auditor.fed < p.cores * p.ticks) (sym i.plan) (omega (arith, more, cores, left, fed))
 
-pub returns-then-not-is_due-clause-rows : goal.returns-then-not-is_due-clause-rows
-returns-then-not-is_due-clause-rows g c = c.loop-core.invariant.rows
+pub returns-then-not-is_due_in_tick-clause-plan : goal.returns-then-not-is_due_in_tick-clause-plan
+returns-then-not-is_due_in_tick-clause-plan g c = c.loop-core.invariant.plan
+
+pub returns-then-not-is_due_in_tick-clause-rows : goal.returns-then-not-is_due_in_tick-clause-rows
+returns-then-not-is_due_in_tick-clause-rows g c = c.loop-core.invariant.rows
 
 pub take_turn-requires-clause-accepted : goal.take_turn-requires-clause-accepted
 take_turn-requires-clause-accepted g c = subst IsPlan (sym c.loop-core.invariant.plan) c.requires.accepted
@@ -39,6 +51,8 @@ loop-core-preserved g c =
     let most = c.requires.accepted.draft.cores.1 in
     record {
       plan = e.plan ∙ i.plan;
+      good = e.fault ∙ i.good;
+      fed = let before = i.fed in let now = e.fed in omega (arith, before, now);
       rows = e.rows ∙ i.rows;
       turns = (
         i.turns.0 ++ e.turn.0 ∷ [],
