@@ -13,6 +13,6 @@ pub mod Again
 pub mod Queueing
 pub mod Turned
 pub mod Standing
-pub mod OnceMore
 pub mod TurnRows
+pub mod TickRows
 pub mod Stretched

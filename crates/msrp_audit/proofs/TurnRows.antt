@@ -1,10 +1,10 @@
 -- Rows that come turn by turn, of which a core's are kept only where they aren't its last one again: one more of them, the last one again, and fewer of them.
-use Rattle.std.proofs.Common.{◌≡◌, ◌≢◌, ℕ, zero, suc, ◌<◌, ◌≤◌, ◌+◌, ◌-◌, ◌*◌, ◌/◌, ◌%◌, ◌^◌, List, [], ◌∷◌, ◌++◌, cond, nat_lt, eqb, Some, inl, inr, length, length-set, nat_le, map, min, take, drop, slice_get, slice_index_or, slice_set, get_or-set_other, get_or-set_same, refl, ap, sym, ◌∙◌, subst, arith, le-leb, Vec, Global}
+use Rattle.std.proofs.Common.{◌≡◌, ◌≢◌, ℕ, zero, suc, ◌<◌, ◌≤◌, ◌+◌, ◌-◌, ◌*◌, ◌/◌, ◌%◌, ◌^◌, List, [], ◌∷◌, ◌++◌, cond, nat_lt, eqb, Some, inl, inr, length, length-set, nat_le, map, min, take, slice_get, slice_index_or, slice_set, get_or-set_other, get_or-set_same, refl, ap, sym, ◌∙◌, subst, arith, le-leb, Vec, Global}
 use Rattle.std.proofs.Math.Nat.{mul-le-mul_right}
 use Rattle.std.proofs.lemmas.Bool.{cases_eq, cases_lt, le-ltb, lt-leb}
 use Rattle.std.proofs.lemmas.Bool.Decides.{nat_tests}
 use Rattle.std.proofs.lemmas.Nat.{div-add-mod', div-mul-add, mod-mul-add, same_from_place}
-use Rattle.std.proofs.lemmas.List.{append-nil, get_or-map, get_or_append_left, get_or_push, length-map, map-set, set-get_or, length_push, take_min}
+use Rattle.std.proofs.lemmas.List.{get_or-map, get_or_append_left, get_or_push, length-map, map-set, set-get_or, length_push, take_min}
 use Rattle.std.proofs.lemmas.List.Elements.{All-push, All-tail, All-weaker}
 use Rattle.std.proofs.lemmas.List.Folds.{prefix_len-append}
 use Rattle.std.proofs.lemmas.List.FromFn.{fill_by_all, get_or-map-range_with_len, length-map-range_with_len, map-range_with_len_more, take-map-range_with_len}
@@ -16,7 +16,6 @@ use Rattle.msrp_plan.specs.declared.rows.Row.{Row}
 use Rattle.msrp_audit.specs.Inside.KeptView.{Kept}
 use Rattle.msrp_audit.specs.Inside.Gathered.{row_of}
 use Rattle.msrp_audit.specs.Inside.Stretches.{AreListed, AreTurnLists, IsTurnList, came_by, list_of, lists_of, no_kept, row_in, turns_told}
-use Rattle.msrp_audit.proofs.OnceMore.{once_more}
 
 -- ---- rows by their places
 -- two functions that tell the same below n
@@ -197,20 +196,6 @@ module _ (cores tick place : ℕ) (lists : List (List Kept)) (l : AreListed core
     pub row_again : row_in lists c tick ≡ in_tick tick (slice_index_or rows (tick * cores + c - cores) d)
     row_again = last_now lists c tick (by_now cores tick place lists l c from known) ∙ ap (in_tick tick) (sym was)
 
-  pub told_again : (count : ℕ) → place + count ≤ cores → turns_told lists cores (tick * cores + place + count) ≡ rows ++ map (in_tick tick) (take count (drop (length rows - cores) rows))
-  told_again zero fits = ap (turns_told lists cores) (omega arith) ∙ sym (append-nil rows)
-  told_again (suc m) fits =
-      let n = tick * cores + place in
-      let size : length rows ≡ n = told_length lists cores n in
-      let next = next_row cores tick (place + m) (n + m) lists (omega (arith, fits)) (omega arith) in
-      let at : tick * cores + (place + m) - cores ≡ length rows - cores + m = omega (arith, size, behind) in
-      let is : row_in lists (place + m) tick ≡ in_tick tick (slice_index_or rows (length rows - cores + m) (row_of no_kept)) =
-      row_again (place + m) (omega arith) (omega (arith, fits)) (row_of no_kept) ∙ ap (λ i. in_tick tick (slice_index_or rows i (row_of no_kept))) at in
-      let one : m + 1 ≡ suc m = omega arith in
-      ap (turns_told lists cores) (omega arith) ∙ (next ∙ (ap (λ r. turns_told lists cores (n + m) ++ r ∷ []) is
-      ∙ (ap (λ l. l ++ in_tick tick (slice_index_or rows (length rows - cores + m) (row_of no_kept)) ∷ []) (told_again m (omega (arith, fits)))
-      ∙ (sym (once_more (in_tick tick) rows cores (omega (arith, size, behind)) m (row_of no_kept) (omega (arith, fits))) ∙ ap (λ k. rows ++ map (in_tick tick) (take k (drop (length rows - cores) rows))) one))))
-
 -- ---- some turns more
 module _ (cores tick place : ℕ) (lists : List (List Kept)) (l : AreListed cores tick place lists) (tick' place' count : ℕ) (fits : place + count ≤ cores) (low' : place' < cores) (next : tick' * cores + place' ≡ tick * cores + place + count) where
   later_rows : (c : ℕ) → c < cores → All (λ k. k.tick < due_tick tick' place' c) (list_of lists c)
@@ -233,13 +218,6 @@ module _ (cores tick place : ℕ) (lists : List (List Kept)) (l : AreListed core
     };
     early = later_rows;
   }
-
-  pub told_to : cores ≤ tick * cores + place → (now : List Row) (back t : ℕ) → turns_told lists cores (tick * cores + place) ≡ now → back ≡ cores → t ≡ tick
-      → turns_told lists cores (tick' * cores + place') ≡ now ++ map (in_tick t) (take count (drop (length now - back) now))
-  told_to behind now back t is all same =
-      ap (turns_told lists cores) next ∙ (told_again cores tick place lists l behind count fits
-      ∙ (ap (λ rows. rows ++ map (in_tick tick) (take count (drop (length rows - cores) rows))) is
-      ∙ (ap (λ b. now ++ map (in_tick tick) (take count (drop (length now - b) now))) (sym all) ∙ ap (λ k. now ++ map (in_tick k) (take count (drop (length now - back) now))) (sym same))))
 
 -- ---- one turn more, whose row is kept
 module _ (cores tick place : ℕ) (lists : List (List Kept)) (l : AreListed cores tick place lists) (tick' place' : ℕ) (low' : place' < cores) (next : tick' * cores + place' ≡ tick * cores + place + 1) where

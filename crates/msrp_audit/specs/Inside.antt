@@ -5,4 +5,5 @@ pub mod Naming
 pub mod Pieces
 pub mod Replies
 pub mod Stretches
+pub mod TickRows
 pub mod Walks

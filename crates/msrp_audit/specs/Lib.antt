@@ -1,3 +1,4 @@
 pub mod Foresight
 pub mod Audits
+pub mod Gathering
 pub mod Inside

@@ -1,13 +1,15 @@
 //! Rows that are gathered before they are judged, in as few bytes as they need.
-ghost use Rattle.std.specs.Prelude.{ℕ, ◌≡◌, ◌<◌, ◌≤◌, ◌++◌, ◌∷◌, [], ◌+◌, ◌-◌, ◌*◌, drop, length, map, slice_get, slice_index_or, take, IfErr, IfOk, IfSome, OnOk, true};
+ghost use Rattle.std.specs.Prelude.{ℕ, ◌≡◌, ◌<◌, ◌≤◌, ◌++◌, ◌∷◌, [], ◌+◌, ◌*◌, List, drop, length, slice_get, slice_index_or, take, IfErr, IfOk, IfSome, OnOk, true};
 ghost use Rattle.msrp_plan.specs.Queues.{is_on};
 ghost use Rattle.msrp_plan.specs.Stretches.{in_tick};
 ghost use Rattle.msrp_plan.specs.declared.rows.Row.{Row as TraceRow};
+ghost use Rattle.msrp_audit.specs.Gathering.{RepeatOthers, tick_rows};
 ghost use Rattle.msrp_audit.specs.Inside.Naming.{AreOff, HasSkipped};
 ghost use Rattle.msrp_audit.specs.Inside.Stretches.{AreTurns, Stands};
 
 use crate::kept::KeptRow;
 use crate::stretches::{Skipped, Stretch, Stretches, TurnRows, naming_entry};
+use crate::tick_rows::told;
 use msrp_plan::{CoreId, Memory, Plan, ResId, Row};
 use std::alloc::Global;
 use std::marker::Model;
@@ -197,51 +199,50 @@ impl Gathered {
         Ok(())
     }
 
-    /// Adds the rows that stand so many before the end, so many one after the other, once more, in that tick. Where it is [`Memory`], it added the first of
-    /// them.
+    /// Adds the rows of a tick, one of each core by their numbers: these, in that tick, with how many stand ahead or without. A row of another tick is its core's
+    /// last one again. Where it is [`Memory`], it added the first of them.
     #[inline(always)]
-    pub fn again(&mut self, back: usize, count: usize, tick: u32) -> Result<(), Memory>
-        requires some { count ≤ back }
-        requires there { back ≤ length self.old }
-        ensures added { OnOk result (self.new ≡ self.old ++ map (in_tick tick) (take count (drop (length self.old - back) self.old))) }
-        ensures first { IfErr result (λ _. (n : ℕ) × (n ≤ count) × (self.new ≡ self.old ++ map (in_tick tick) (take n (drop (length self.old - back) self.old)))) }
+    pub fn add_tick(&mut self, tick: u32, rows: &[Row], aheads: bool) -> Result<(), Memory>
+        requires others { RepeatOthers tick aheads rows.now self.old }
+        ensures added { OnOk result (self.new ≡ self.old ++ tick_rows tick aheads rows.now) }
+        ensures first { IfErr result (λ _. (rest : List TraceRow) × (self.old ++ tick_rows tick aheads rows.now ≡ self.new ++ rest)) }
     {
-        if self.kept.is_empty() && self.rest.is_empty() && self.turns.again(back, count, tick) {
+        let done = self.keep_tick(tick, rows, aheads);
+        if done == rows.len() {
             return Ok(());
         }
-        self.again_each(back, count, tick)
+        self.push_each(tick, rows, aheads, done)
     }
 
-    /// Adds rows once more as [`Gathered::again`] does, in the tick of this row, and then this row.
+    // Adds as many of them as only those need to be kept that were made anew, and answers how many.
     #[inline(always)]
-    pub fn again_then(&mut self, back: usize, count: usize, row: Row) -> Result<(), Memory>
-        requires some { count ≤ back }
-        requires there { back ≤ length self.old }
-        ensures added { OnOk result (self.new ≡ (self.old ++ map (in_tick row.tick) (take count (drop (length self.old - back) self.old))) ++ row ∷ []) }
-        ensures first { IfErr result (λ _. (n : ℕ) × (n ≤ count) × (self.new ≡ self.old ++ map (in_tick row.tick) (take n (drop (length self.old - back) self.old)))) }
+    fn keep_tick(&mut self, tick: u32, rows: &[Row], aheads: bool) -> usize
+        requires others { RepeatOthers tick aheads rows.now self.old }
+        ensures few { result ≤ length rows.now }
+        ensures added { self.new ≡ self.old ++ take result (tick_rows tick aheads rows.now) }
     {
         if self.kept.is_empty() && self.rest.is_empty() {
-            if let Some(kept) = KeptRow::of(row) {
-                if self.turns.again_then(back, count, kept)? {
-                    return Ok(());
-                }
-            }
+            self.turns.add_tick(tick, rows, aheads)
+        } else {
+            0
         }
-        self.again_each(back, count, row.tick)?;
-        self.push(row)
     }
 
-    // Adds them one by one.
-    fn again_each(&mut self, back: usize, count: usize, tick: u32) -> Result<(), Memory>
-        requires some { count ≤ back }
-        requires there { back ≤ length self.old }
-        ensures added { OnOk result (self.new ≡ self.old ++ map (in_tick tick) (take count (drop (length self.old - back) self.old))) }
-        ensures first { IfErr result (λ _. (n : ℕ) × (n ≤ count) × (self.new ≡ self.old ++ map (in_tick tick) (take n (drop (length self.old - back) self.old)))) }
+    // Adds them one by one, from that one on.
+    #[inline(never)]
+    fn push_each(
+        &mut self,
+        tick: u32,
+        rows: &[Row],
+        aheads: bool,
+        from: usize,
+    ) -> Result<(), Memory>
+        requires { from ≤ length rows.now }
+        ensures added { OnOk result (self.new ≡ self.old ++ drop from (tick_rows tick aheads rows.now)) }
+        ensures first { IfErr result (λ _. (rest : List TraceRow) × (self.old ++ drop from (tick_rows tick aheads rows.now) ≡ self.new ++ rest)) }
     {
-        for _row in 0..count {
-            let all = self.len();
-            let row = self.first(all).row(all - back);
-            self.push(row.in_tick(tick))?;
+        for core in from..rows.len() {
+            self.push(told(rows[core], aheads).in_tick(tick))?;
         }
         Ok(())
     }

@@ -15,6 +15,7 @@ mod pieces;
 mod queues;
 mod replies;
 mod stretches;
+mod tick_rows;
 mod turns;
 mod verdicts;
 

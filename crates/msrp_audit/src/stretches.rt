@@ -218,10 +218,10 @@ impl<'a> Stretches<'a> {
 /// Rows of the first turns, as they come.
 #[derive(Drop)]
 pub(crate) struct TurnRows {
-    cores: u32,
-    // Where the row of the next turn stands.
-    at: TickPlace,
-    lists: Vec<Vec<KeptRow>>,
+    pub(crate) cores: u32,
+    /// Where the row of the next turn stands.
+    pub(crate) at: TickPlace,
+    pub(crate) lists: Vec<Vec<KeptRow>>,
     ghost told: { AreListed cores at.tick at.place (lists_of lists.items) },
 }
 
@@ -272,61 +272,6 @@ impl TurnRows {
             return Ok(false);
         }
         self.lists[self.at.place as usize].push(kept)?;
-        self.at.advance(self.cores);
-        Ok(true)
-    }
-
-    /// Adds the rows that stand so many before the end, so many one after the other, once more, in that tick, and answers whether it did: it does where those
-    /// are the last rows of the cores that have the next turns, and that is the tick of these.
-    #[inline(always)]
-    pub(crate) fn again(&mut self, back: usize, count: usize, tick: u32) -> bool
-        requires there { back ≤ length self.old }
-        ensures added { result ≡ true → self.new ≡ self.old ++ map (in_tick tick) (take count (drop (length self.old - back) self.old)) }
-        ensures kept { result ≡ false → self.new ≡ self.old }
-    {
-        let left = self.cores - self.at.place;
-        if back != self.cores as usize
-            || count > left as usize
-            || tick != self.at.tick
-            || tick > u16::MAX as u32
-        {
-            return false;
-        }
-        if count < left as usize {
-            self.at.place += count as u32;
-        } else {
-            self.at = TickPlace {
-                tick: tick + 1,
-                place: 0,
-            };
-        }
-        true
-    }
-
-    /// Adds rows once more as [`TurnRows::again`] does, in the tick of the row that is kept so, and then that one. It answers whether it did: it does where these
-    /// are the rows of the next turns.
-    #[inline(always)]
-    pub(crate) fn again_then(
-        &mut self,
-        back: usize,
-        count: usize,
-        kept: KeptRow,
-    ) -> Result<bool, Memory>
-        requires there { back ≤ length self.old }
-        ensures added { result ≡ Ok true → self.new ≡ (self.old ++ map (in_tick kept.tick) (take count (drop (length self.old - back) self.old))) ++ row_of kept ∷ [] }
-        ensures kept { ¬ (result ≡ Ok true) → self.new ≡ self.old }
-    {
-        let place = kept.core();
-        if back != self.cores as usize
-            || kept.tick() != self.at.tick
-            || place >= self.cores
-            || place < self.at.place
-            || (place - self.at.place) as usize != count
-        {
-            return Ok(false);
-        }
-        self.lists[place as usize].push(kept)?;
-        self.at.place = place;
         self.at.advance(self.cores);
         Ok(true)
     }

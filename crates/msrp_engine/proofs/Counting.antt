@@ -1,27 +1,38 @@
 -- The rows of whole ticks, counted.
-use Rattle.std.proofs.Common.{◌≡◌, ◌<◌, ℕ, List, [], ◌∷◌, ◌++◌, ◌+◌, Some, None, ap, sym, ◌∙◌, subst, arith, append_assoc, slice_get, take, drop, take-append-drop}
-use Rattle.msrp_plan.specs.Plan.{PlanModel}
+use Rattle.std.proofs.Common.{◌≡◌, ◌<◌, ℕ, List, [], ◌∷◌, ◌++◌, ◌+◌, Some, None, refl, ap, sym, ◌∙◌, subst, arith, append-nil, append_assoc, slice_get, get_or, take, drop, take-append-drop}
+use Rattle.std.proofs.lemmas.Option.{get_or_from_slice_get}
 use Rattle.msrp_plan.specs.Runs.{IsRunStart}
+use Rattle.msrp_plan.specs.Stretches.{in_tick}
 use Rattle.msrp_plan.specs.Verdict.{fault_in}
 use Rattle.msrp_plan.specs.declared.rows.Row.{Row}
 use Rattle.msrp_plan.proofs.Runs.Verdicts.{start_before, start_is_good}
-use Rattle.msrp_engine.specs.Inside.Ticks.{AreRowsOf, IsRowOf}
+use Rattle.msrp_report.specs.declared.counter.Counter.{Counter}
+use Rattle.msrp_trace.specs.Laws.{as_read}
+use Rattle.msrp_engine.specs.Inside.Counting.{CountTick}
+use Rattle.msrp_engine.specs.Inside.Kept.{row_of_core}
+use Rattle.msrp_engine.specs.Inside.Ticks.{IsRowOf}
 use Rattle.msrp_engine.specs.declared.judged.JudgedRows.{JudgedRows}
 use Rattle.msrp_engine.proofs.WholeTicks.{some_at, take_on}
 
--- the next row of a tick is the one that the reader gives
-pub row_at : {T : Type 0} (j : JudgedRows T) (t n k : ℕ) (more : List Row) (r : Row) → AreRowsOf j t n more → k < n → IsRowOf j t k r → slice_get more k ≡ Some r
-row_at j t n k more r rows low is =
-    let size = rows.size in
+-- the row at a core's place among those that are kept, told in a tick, is the core's in it
+pub row_at : {T : Type 0} (j : JudgedRows T) (t n k : ℕ) (lasts : List Row) (last r : Row) → ((c : ℕ) → c < n → slice_get lasts c ≡ Some (row_of_core j.lasts c)) → k < n → last ≡ get_or lasts k last → r ≡ in_tick t (as_read j.rows.version last) → IsRowOf j t k r
+row_at j t n k lasts last r each low at is = is ∙ ap (λ s. in_tick t (as_read j.rows.version s)) (at ∙ get_or_from_slice_get lasts k (row_of_core j.lasts k) last (each k low))
+
+-- the next core's row in the tick is the next that is counted, and with it the rows have no fault
+pub next_row : {T : Type 0} (c : Counter) (j : JudgedRows T) (t n k : ℕ) (before more : List Row) (r : Row) → CountTick c j t n before more → k < n → IsRowOf j t k r
+    → (before ++ take (k + 1) more ≡ (before ++ take k more) ++ r ∷ []) × (fault_in c.plan.now ((before ++ take k more) ++ r ∷ []) ≡ None)
+next_row c j t n k before more r may low is =
+    let plan = c.plan.now in
+    let size = may.rows.size in
     let at = some_at more k (omega (arith, low, size)) in
-    subst (λ s. slice_get more k ≡ Some s) (rows.each k at.0 at.1 ∙ sym is) at.1
-
-pub next_rows : (before more : List Row) (k : ℕ) (r : Row) → slice_get more k ≡ Some r → before ++ take (k + 1) more ≡ (before ++ take k more) ++ r ∷ []
-next_rows before more k r is = ap (λ l. before ++ l) (take_on more k r is) ∙ sym (append_assoc before (take k more) (r ∷ []))
-
--- with it the rows have no fault
-pub next_good : (plan : PlanModel) (before more : List Row) (k : ℕ) (r : Row) → IsRunStart plan (before ++ more) → slice_get more k ≡ Some r → fault_in plan ((before ++ take k more) ++ r ∷ []) ≡ None
-next_good plan before more k r start is =
+    let there = subst (λ s. slice_get more k ≡ Some s) (may.rows.each k at.0 at.1 ∙ sym is) at.1 in
+    let next = ap (λ l. before ++ l) (take_on more k r there) ∙ sym (append_assoc before (take k more) (r ∷ [])) in
     let split : before ++ more ≡ (before ++ take (k + 1) more) ++ drop (k + 1) more = ap (λ l. before ++ l) (sym (take-append-drop (k + 1) more)) ∙ sym (append_assoc before (take (k + 1) more) (drop (k + 1) more)) in
-    let good = start_is_good plan (before ++ take (k + 1) more) (start_before plan (before ++ take (k + 1) more) (drop (k + 1) more) (subst (IsRunStart plan) split start)) in
-    subst (λ l. fault_in plan l ≡ None) (next_rows before more k r is) good
+    let good = start_is_good plan (before ++ take (k + 1) more) (start_before plan (before ++ take (k + 1) more) (drop (k + 1) more) (subst (IsRunStart plan) split may.start)) in
+    (next, subst (λ l. fault_in plan l ≡ None) next good)
+
+-- the first of them stands in the tick
+pub first_row : {T : Type 0} (c : Counter) (j : JudgedRows T) (t n : ℕ) (before more : List Row) → CountTick c j t n before more → 0 < n → (r : Row) × (fault_in c.plan.now (before ++ r ∷ []) ≡ None) × (r.tick ≡ t)
+first_row c j t n before more may some =
+    let r = in_tick t (as_read j.rows.version (row_of_core j.lasts 0)) in
+    (r, subst (λ l. fault_in c.plan.now (l ++ r ∷ []) ≡ None) (append-nil before) (next_row c j t n 0 before more r may some refl).1, refl)

@@ -10,6 +10,5 @@ pub mod SimAnswers
 pub mod Reporting
 pub mod Gathering
 mod WholeTicks
-mod CoresAnew
 mod Counting
-mod Repeating
+mod GatheredTick

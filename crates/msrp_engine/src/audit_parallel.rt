@@ -7,7 +7,7 @@ ghost use Rattle.msrp_engine.specs.Answered.{Answered, OfText, OfTexts, ReadsBot
 ghost use Rattle.msrp_engine.specs.AuditText.{AuditAnswers};
 ghost use Rattle.msrp_engine.specs.Findings.{finding, finding_of};
 ghost use Rattle.msrp_engine.specs.Judging.{rows_left};
-ghost use Rattle.msrp_engine.specs.Inside.Gathered.{AreAnew, AreLike, Gathers, IsGathered, IsGatheredTo, found_in, is_missing};
+ghost use Rattle.msrp_engine.specs.Inside.Gathered.{AreLike, Gathers, IsGathered, IsGatheredTo, found_in, is_missing};
 ghost use Rattle.msrp_engine.specs.Inside.Ticks.{AreRowsOf};
 ghost use Rattle.msrp_faults.specs.Outcomes.{is_trace_fault, is_audit_fault};
 
@@ -18,53 +18,12 @@ use msrp_audit::{Auditor, Gathered, audit_gathered};
 use msrp_faults::CliFault;
 use msrp_levels::Levels;
 use msrp_plan::bytes::{Sink, Source};
-use msrp_plan::limits::MOST_CORES;
-use msrp_plan::{CoreId, Fault, Memory, Plan, Rule};
+use msrp_plan::{Fault, Memory, Plan, Rule};
 use msrp_text::read_plan;
 use msrp_trace::TraceReader;
 use std::alloc::Global;
 use std::io::{Read, Write};
 use std::thread::Threads;
-
-// The cores whose rows were made anew in a tick, by their numbers: so many of these, from the first on.
-#[derive(Clone, Copy)]
-struct CoresAnew {
-    cores: [u32; MOST_CORES as usize],
-    count: usize,
-}
-
-// Those of a tick whose rows were taken. Each core is written down, and stays where its row was made anew: no processor could foretell a jump.
-#[inline(always)]
-fn cores_anew<T: Read>(rows: &JudgedRows<'_, '_, T>, tick: u32, cores: u32) -> CoresAnew
-    requires { cores ≤ 8 }
-    ensures { AreAnew rows.now tick cores result }
-{
-    let mut anew = CoresAnew {
-        cores: [0; MOST_CORES as usize],
-        count: 0,
-    };
-    for core in 0..cores {
-        anew.cores[anew.count] = core;
-        anew.count += usize::from(rows.is_anew(tick, CoreId(core)));
-    }
-    anew
-}
-
-// Gathers each row of a tick that was taken.
-#[inline(never)]
-fn gather_each<T: Read>(
-    rows: &JudgedRows<'_, '_, T>,
-    tick: u32,
-    cores: u32,
-    gathered: &mut Gathered,
-) -> Result<(), Memory>
-    ensures { (more : List TraceRow) → AreRowsOf rows.now tick cores more → Gathers result gathered.old gathered.new more }
-{
-    for core in 0..cores {
-        gathered.push(rows.row_in(tick, CoreId(core)))?;
-    }
-    Ok(())
-}
 
 // Gathers the rows of a tick that were taken. Those that weren't made anew are their cores' rows of the tick before once more.
 #[inline(always)]
@@ -78,21 +37,7 @@ fn gather_tick<T: Read>(
     requires few { cores ≤ 8 }
     ensures { (more : List TraceRow) → AreRowsOf rows.now tick cores more → Gathers result gathered.old gathered.new more }
 {
-    if gathered.len() < cores as usize {
-        return gather_each(rows, tick, cores, gathered);
-    }
-    let anew = cores_anew(rows, tick, cores);
-    let mut core = 0;
-    for place in 0..anew.count {
-        let next = anew.cores[place];
-        let row = rows.row_in(tick, CoreId(next));
-        gathered.again_then(cores as usize, (next - core) as usize, row)?;
-        core = next + 1;
-    }
-    if core < cores {
-        gathered.again(cores as usize, (cores - core) as usize, tick)?;
-    }
-    Ok(())
+    gathered.add_tick(tick, rows.last_rows(cores), rows.tells_ahead())
 }
 
 // Gathers the rows of whole ticks from the first one on, as long as they come by the numbers of the cores.

@@ -1,6 +1,7 @@
 //! The rows of a trace's text, each judged as it comes.
-ghost use Rattle.std.specs.Prelude.{◌≡◌, ◌<◌, ◌≤◌, ◌+◌, ◌*◌, ◌/◌, ◌%◌, ℕ, List, ◌++◌, ◌∷◌, [], IfOk, IfSome, OnOk, Some, None, Ok, Err, true, false, length, slice_index_or};
+ghost use Rattle.std.specs.Prelude.{◌≡◌, ◌<◌, ◌≤◌, ◌+◌, ◌*◌, ◌/◌, ◌%◌, ℕ, List, ◌++◌, ◌∷◌, [], IfOk, IfSome, OnOk, Some, None, Ok, Err, true, false, length, slice_get, slice_index_or};
 ghost use Rattle.msrp_audit.specs.Audits.{Awaits, HasFed, IsDueInAudit};
+ghost use Rattle.msrp_audit.specs.Gathering.{told};
 ghost use Rattle.msrp_plan.specs.Bytes.{source_failed};
 ghost use Rattle.msrp_plan.specs.WellFormed.{IsPlan};
 ghost use Rattle.msrp_plan.specs.declared.rows.Row.{Row as TraceRow};
@@ -17,7 +18,7 @@ use crate::replay::auditor_after;
 use msrp_audit::Auditor;
 use msrp_levels::Levels;
 use msrp_plan::limits::MOST_CORES;
-use msrp_plan::{CoreId, Fault, Kind, Memory, Plan, Row};
+use msrp_plan::{CoreId, Fault, Kind, Memory, Plan, Row, TextVersion};
 use msrp_trace::{RowTexts, TraceError, TraceReader};
 use std::alloc::Global;
 use std::io::Read;
@@ -107,7 +108,7 @@ fn kept_row(lasts: &[Row], core: CoreId) -> Row
 
 impl<'p, 't, T: Read> JudgedRows<'p, 't, T> {
     ghost use Rattle.msrp_engine.specs.Judging.{IsJudged, rows_left, row_told};
-    ghost use Rattle.msrp_engine.specs.Inside.Ticks.{AreInOrder, GoesBack, IsRowOf, KeepsOthers, TakesSome, TakesTick, Turns, TurnsAll};
+    ghost use Rattle.msrp_engine.specs.Inside.Ticks.{AreInOrder, GoesBack, KeepsOthers, TakesSome, TakesTick, Turns, TurnsAll};
 
     /// The rows that a reader has left, judged by this auditor. Both are of this plan.
     pub fn new(
@@ -387,20 +388,31 @@ impl<'p, 't, T: Read> JudgedRows<'p, 't, T> {
         Ok(())
     }
 
-    /// Whether the row of a core was made anew in that tick, whose rows were taken. Elsewhere it is the core's last one again.
+    /// The row of the last turn that was made anew, of each of the first so many cores. In a tick whose rows were taken it was made in that tick, or it is
+    /// the core's last one again.
     #[inline(always)]
-    pub(crate) fn is_anew(&self, tick: u32, core: CoreId) -> bool
-        ensures { result ≡ false → ¬ ((row_of_core self.now.lasts core.0).tick ≡ tick) }
+    pub(crate) fn last_rows(&self, cores: u32) -> &[Row]
+        requires { cores ≤ 8 }
+        ensures size { length result.now ≡ cores }
+        ensures each { (c : ℕ) → c < cores → slice_get result.now c ≡ Some (row_of_core self.now.lasts c) }
     {
-        kept_row(&self.lasts, core).tick == tick
+        &self.lasts[..cores as usize]
     }
 
-    /// The row of a core in a tick whose rows were taken.
+    /// Whether the trace tells how many stand ahead of a job.
     #[inline(always)]
-    pub(crate) fn row_in(&self, tick: u32, core: CoreId) -> Row
-        ensures { IsRowOf self.now tick core.0 result }
+    pub(crate) fn tells_ahead(&self) -> bool
+        ensures { (row : TraceRow) → told result row ≡ as_read self.now.rows.version row }
     {
-        self.rows.as_read(kept_row(&self.lasts, core)).in_tick(tick)
+        self.rows.version() == TextVersion::V2
+    }
+
+    /// A row in that tick, as the trace tells it.
+    #[inline(always)]
+    pub(crate) fn told_in(&self, tick: u32, row: Row) -> Row
+        ensures { result ≡ in_tick tick (as_read self.now.rows.version row) }
+    {
+        self.rows.as_read(row).in_tick(tick)
     }
 
     // What is known ahead of the next row, whose text is known to begin with that tick and core, where the core has its turn.
@@ -417,7 +429,7 @@ impl<'p, 't, T: Read> JudgedRows<'p, 't, T> {
         ensures begins { (told : Told) (rows : List TraceRow) → BeginsAt tick core told → HasFed self.old.auditor rows → tick ≡ length rows / self.old.auditor.plan.cores → BeginsDue told result }
     {
         if self.meets_turn(tick, core) {
-            return Ahead::Met(self.row_in(tick, core));
+            return Ahead::Met(self.told_in(tick, kept_row(&self.lasts, core)));
         }
         // Made anew, so that one that is met is never laid down in memory as a whole.
         let due = kept_row(&self.lasts, core);

@@ -1,5 +1,5 @@
 //! The report of a trace's text.
-ghost use Rattle.std.specs.Prelude.{◌≡◌, ◌⊎◌, ◌++◌, List, [], true, false, Some, Ok, Err, IfOk, IfErr, OnOk, length};
+ghost use Rattle.std.specs.Prelude.{◌≡◌, ◌<◌, ◌≤◌, ◌⊎◌, ◌++◌, List, [], true, false, Some, Ok, Err, IfOk, IfErr, OnOk, length};
 ghost use Rattle.msrp_plan.specs.Bytes.{sink_failed};
 ghost use Rattle.msrp_audit.specs.Audits.{HasFed};
 ghost use Rattle.msrp_plan.specs.declared.rows.Row.{Row as TraceRow};
@@ -21,7 +21,7 @@ use msrp_audit::Auditor;
 use msrp_faults::{CliFault, gathered_text, write_answer};
 use msrp_levels::Levels;
 use msrp_plan::bytes::{Sink, Source};
-use msrp_plan::{CoreId, Fault, Memory, Plan};
+use msrp_plan::{Fault, Memory, Plan};
 use msrp_report::{Counter, Report, write_report};
 use msrp_text::read_plan;
 use msrp_trace::TraceReader;
@@ -39,7 +39,7 @@ fn ended(counter: Counter<'_>, found: Result<(), Fault>) -> Result<Report, Fault
     Ok(counter.end())
 }
 
-// Counts the rows of a tick that were taken.
+// Counts the rows of a tick that were taken. The tick is begun once for all of them.
 #[inline(always)]
 fn count_tick<T: Read>(
     counter: &mut Counter<'_>,
@@ -47,12 +47,14 @@ fn count_tick<T: Read>(
     tick: u32,
     cores: u32,
 )
-    requires { MayCountTick counter.old rows.now tick cores }
+    requires counts { MayCountTick counter.old rows.now tick cores }
+    requires cores { (0 < cores) × (cores ≤ 8) }
     ensures plan { counter.new.plan ≡ counter.old.plan }
     ensures counted { (before more : List TraceRow) → CountTick counter.old rows.now tick cores before more → HasCounted counter.new (before ++ more) }
 {
-    for core in 0..cores {
-        counter.count(rows.row_in(tick, CoreId(core)));
+    counter.begin_tick(tick);
+    for row in rows.last_rows(cores) {
+        counter.count_begun(rows.told_in(tick, *row));
     }
 }
 

@@ -1,5 +1,5 @@
 -- A report while the rows come.
-use Rattle.std.specs.Prelude.{List, None, length, vec_capacity, ◌≡◌, ◌≤◌, ◌++◌, ◌∷◌, []}
+use Rattle.std.specs.Prelude.{ℕ, List, None, length, vec_capacity, ◌≡◌, ◌≤◌, ◌+◌, ◌++◌, ◌∷◌, []}
 use Rattle.msrp_plan.specs.Verdict.{fault_in}
 use Rattle.msrp_plan.specs.declared.rows.Row.{Row}
 use Rattle.msrp_plan.specs.WellFormed.{IsPlan}
@@ -21,3 +21,11 @@ SomeCounted c = (rows : List Row) × HasCounted c rows
 -- some rows were, and with this one more they have no fault
 abbrev pub MayCount : Counter → Row → Type 0
 MayCount c r = (rows : List Row) × HasCounted c rows × (fault_in c.plan.now (rows ++ r ∷ []) ≡ None)
+
+-- and such a row may be one of that tick
+abbrev pub MayBegin : Counter → ℕ → Type 0
+MayBegin c t = (r : Row) × MayCount c r × (r.tick ≡ t)
+
+-- of all ticks that have begun it is the last
+abbrev pub HasBegun : Counter → ℕ → Type 0
+HasBegun c t = c.tallies.begun ≡ t + 1

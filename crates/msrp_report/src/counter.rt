@@ -24,7 +24,7 @@ pub struct Counter<'a> {
 }
 
 impl<'a> Counter<'a> {
-    ghost use Rattle.msrp_report.specs.Reports.{HasCounted, MayCount, SomeCounted};
+    ghost use Rattle.msrp_report.specs.Reports.{HasBegun, HasCounted, MayBegin, MayCount, SomeCounted};
 
     /// Before the first row. All memory that it ever needs is taken here: it is [`Memory`] only where that was refused.
     /// The levels are those of the plan.
@@ -51,6 +51,31 @@ impl<'a> Counter<'a> {
         requires { MayCount self.old row }
         ensures plan { self.new.plan ≡ self.old.plan }
         ensures counted { (rows : List TraceRow) → HasCounted self.old rows → fault_in self.old.plan.now (rows ++ row ∷ []) ≡ None → HasCounted self.new (rows ++ row ∷ []) }
+    {
+        self.begin_tick(row.tick);
+        self.count_begun(row);
+    }
+
+    /// Begins the tick of the next row, if it hasn't begun, with the releases of its jobs. It takes no memory.
+    #[inline(always)]
+    pub fn begin_tick(&mut self, tick: u32)
+        requires { MayBegin self.old tick }
+        ensures plan { self.new.plan ≡ self.old.plan }
+        ensures counted { (rows : List TraceRow) (row : TraceRow) → HasCounted self.old rows → fault_in self.old.plan.now (rows ++ row ∷ []) ≡ None → row.tick ≡ tick → HasCounted self.new rows }
+        ensures begun { HasBegun self.new tick }
+    {
+        self.tallies.reach(self.plan, tick);
+    }
+
+    /// The next row, with which the rows have no fault, of the tick that has begun last: for a caller that begins a tick once for all its rows, where
+    /// [`count`](Counter::count) asks for it with each. It takes no memory.
+    #[inline(always)]
+    pub fn count_begun(&mut self, row: Row)
+        requires row { MayCount self.old row }
+        requires begun { HasBegun self.old row.tick }
+        ensures plan { self.new.plan ≡ self.old.plan }
+        ensures counted { (rows : List TraceRow) → HasCounted self.old rows → fault_in self.old.plan.now (rows ++ row ∷ []) ≡ None → HasCounted self.new (rows ++ row ∷ []) }
+        ensures begun { HasBegun self.new row.tick }
     {
         self.tallies.feed(self.plan, row);
     }

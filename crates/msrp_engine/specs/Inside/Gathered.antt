@@ -1,5 +1,5 @@
 -- The rows of a trace's text that are gathered before they are judged, and what is found in them.
-use Rattle.std.specs.Prelude.{◌≡◌, ◌⊎◌, ◌≤◌, if◌then◌else◌, ℕ, Bool, true, false, ⊤, List, [], ◌++◌, Option, None, Some, length, option_map, ◌<◌, ◌+◌, ◌-◌, slice_get, slice_index_or}
+use Rattle.std.specs.Prelude.{◌≡◌, ◌⊎◌, ◌≤◌, if◌then◌else◌, ℕ, Bool, true, false, ⊤, List, [], ◌++◌, Option, None, Some, length, option_map, ◌<◌, ◌+◌, ◌-◌, slice_get}
 use Rattle.std.specs.declared.result.Result.{Result}
 use Rattle.std.specs.declared.result.Result.TheVariants.{Ok, Err}
 use Rattle.msrp_plan.specs.declared.faults.Fault.{Fault}
@@ -16,7 +16,6 @@ use Rattle.msrp_plan.specs.Stretches.{in_tick}
 use Rattle.msrp_trace.specs.Laws.{as_read}
 use Rattle.msrp_trace.specs.Readers.{GivesRows}
 use Rattle.msrp_engine.specs.Inside.Kept.{row_of_core}
-use Rattle.msrp_engine.specs.declared.audit_parallel.CoresAnew.{CoresAnew}
 use Rattle.msrp_engine.specs.declared.judged.JudgedRows.{JudgedRows}
 
 -- why no row behind these was gathered: there are as many as were asked for, or none is left; else a read failed, memory was
@@ -34,14 +33,6 @@ pub record IsGathered (most : ℕ) (told : Told) (rows : List Row) (ended : Resu
 -- where the row of a core wasn't made anew in the tick, the one that stands as many rows before its place as there are cores is the same but for its tick
 abbrev pub AreLike : {T : Type 0} → JudgedRows T → ℕ → ℕ → List Row → Type 0
 AreLike j t cores gathered = (c : ℕ) → c < cores → ¬ ((row_of_core j.lasts c).tick ≡ t) → (r : Row) → cores ≤ length gathered + c → slice_get gathered (length gathered + c - cores) ≡ Some r → in_tick t (as_read j.rows.version (row_of_core j.lasts c)) ≡ in_tick t r
-
--- of the first n cores these, by their numbers, are all whose rows were made anew in the tick
-pub record AreAnew {T : Type 0} (j : JudgedRows T) (t n : ℕ) (a : CoresAnew) : Type 0 where
-  pub size : length a.cores ≡ 8
-  pub within : a.count ≤ n
-  pub below : (i : ℕ) → i < a.count → slice_index_or a.cores i 0 < n
-  pub rising : (i k : ℕ) → i < k → k < a.count → slice_index_or a.cores i 0 < slice_index_or a.cores k 0
-  pub all : (c : ℕ) → c < n → (row_of_core j.lasts c).tick ≡ t → (i : ℕ) × (i < a.count) × (slice_index_or a.cores i 0 ≡ c)
 
 -- these rows were put behind those that were gathered, or, where memory was refused, the first of them
 abbrev pub Gathers : Result ⊤ Memory → List Row → List Row → List Row → Type 0

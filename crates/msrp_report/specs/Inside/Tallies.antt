@@ -197,14 +197,6 @@ pub record IsNextOf (plan : PlanModel) (rows : List Row) (r : Row) (begun : ℕ)
 abbrev pub Counts : PlanModel → Row → Tallies → Type 0
 Counts plan r t = (rows : List Row) × AreTallies plan rows (λ _. t.begun) t.tasks.items × IsNextOf plan rows r t.begun × AreActive plan rows t.active.items
 
--- they are told with the row's tick begun
-pub record StandsAt (plan : PlanModel) (rows : List Row) (r : Row) (t : Tallies) : Type 0 where
-  pub early : AllByRecursion (λ x. x.tick < t.begun) rows
-  pub tallies : AreTallies plan rows (λ _. t.begun) t.tasks.items
-  pub releases : AreReleases plan t.tasks.items t.releases.items
-  pub active : AreActive plan rows t.active.items
-  pub next : IsNextOf plan rows r t.begun
-
 -- a row of this job, tick and kind does
 pub record CountsAs (plan : PlanModel) (j : JobId) (at : ℕ) (k : Kind) (r : Row) (t : Tallies) : Type 0 where
   pub job : r.job ≡ Some j
@@ -214,6 +206,10 @@ pub record CountsAs (plan : PlanModel) (j : JobId) (at : ℕ) (k : Kind) (r : Ro
 
 abbrev pub GoesOn : PlanModel → Row → Tallies → Type 0
 GoesOn plan r t = (rows : List Row) × HasTallied plan rows t × IsRunStart plan (rows ++ r ∷ [])
+
+-- a row of that tick does
+abbrev pub Reaches : PlanModel → ℕ → Tallies → Type 0
+Reaches plan at t = (r : Row) × GoesOn plan r t × (r.tick ≡ at)
 
 -- all rows are told
 abbrev pub ToldAll : PlanModel → Tallies → Type 0

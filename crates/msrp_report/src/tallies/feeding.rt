@@ -1,11 +1,11 @@
 //! One row more.
-ghost use Rattle.std.specs.Prelude.{◌≡◌, ◌++◌, ◌∷◌, [], ℕ, List, Some, false, not};
+ghost use Rattle.std.specs.Prelude.{◌≡◌, ◌+◌, ◌++◌, ◌∷◌, [], ℕ, List, Some, false, not};
 ghost use Rattle.msrp_plan.specs.Jobs.{is_started};
 ghost use Rattle.msrp_plan.specs.Plan.{PlanModel};
 ghost use Rattle.msrp_plan.specs.Runs.{IsRunStart};
 ghost use Rattle.msrp_plan.specs.WellFormed.{IsPlan};
 ghost use Rattle.msrp_plan.specs.declared.rows.Row.{Row as TraceRow};
-ghost use Rattle.msrp_report.specs.Inside.Tallies.{AreActive, AreReleases, AreTallies, Counts, CountsAs, GoesOn, HasTallied, IsNextOf, StandsAt, ToldOf};
+ghost use Rattle.msrp_report.specs.Inside.Tallies.{AreActive, AreReleases, AreTallies, Counts, CountsAs, GoesOn, HasTallied, IsNextOf, Reaches, ToldOf};
 
 use super::{Blocking, Tallies};
 use msrp_plan::{JobId, Kind, Plan, Row};
@@ -67,27 +67,29 @@ impl Tallies {
         self.active[core.0 as usize].finish(job);
     }
 
-    // Begins the tick of a row, if none of its rows has come.
+    /// Begins that tick, if none of its rows has come.
     #[inline(always)]
-    fn reach(&mut self, plan: &Plan, row: Row)
+    pub(crate) fn reach(&mut self, plan: &Plan, tick: u32)
         requires plan { IsPlan plan.now }
-        requires told { GoesOn plan.now row self.old }
-        ensures { (rows : List TraceRow) → HasTallied plan.now rows self.old → IsRunStart plan.now (rows ++ row ∷ []) → StandsAt plan.now rows row self.new }
+        requires told { Reaches plan.now tick self.old }
+        ensures begun { self.new.begun ≡ tick + 1 }
+        ensures told { (rows : List TraceRow) (row : TraceRow) → HasTallied plan.now rows self.old → IsRunStart plan.now (rows ++ row ∷ []) → row.tick ≡ tick → HasTallied plan.now rows self.new }
     {
-        if row.tick != self.begun {
+        if tick != self.begun {
             return;
         }
         self.begin(plan);
     }
 
-    /// One row more of a legal run.
+    /// One row more of a legal run, in the tick that has begun last.
     #[inline(always)]
     pub(crate) fn feed(&mut self, plan: &Plan, row: Row)
         requires plan { IsPlan plan.now }
         requires told { GoesOn plan.now row self.old }
-        ensures { (rows : List TraceRow) → HasTallied plan.now rows self.old → IsRunStart plan.now (rows ++ row ∷ []) → HasTallied plan.now (rows ++ row ∷ []) self.new }
+        requires begun { self.old.begun ≡ row.tick + 1 }
+        ensures begun { self.new.begun ≡ self.old.begun }
+        ensures told { (rows : List TraceRow) → HasTallied plan.now rows self.old → IsRunStart plan.now (rows ++ row ∷ []) → HasTallied plan.now (rows ++ row ∷ []) self.new }
     {
-        self.reach(plan, row);
         let Some(job) = row.job else {
             return;
         };
