@@ -15,4 +15,5 @@ pub mod Turned
 pub mod Standing
 pub mod TurnRows
 pub mod TickRows
+pub mod Dealing
 pub mod Stretched

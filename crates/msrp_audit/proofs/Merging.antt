@@ -23,10 +23,10 @@ use Rattle.msrp_plan.specs.declared.faults.Rule.TheVariants.{A1, A2, A3, A4, A5,
 use Rattle.msrp_plan.specs.declared.rows.Row.{Row}
 use Rattle.msrp_plan.proofs.Legality.LegalRows.{due, turn_of}
 use Rattle.msrp_plan.proofs.Runs.Verdicts.{unbroken_is_legal, legal_is_unbroken, start_before, start_last, early_fault, early_is, fault_stays, fault_append, fault_of}
-use Rattle.msrp_audit.specs.Inside.Pieces.{parts, listed, listed_pieces, share_at, share_size, shares, piece_of, pieces_of, piece_with, part_size, is_in_part, broken_in, told_at, TellsFirst, rule_number, fault_order, earlier_of, earliest_of, length_fault_of}
+use Rattle.msrp_audit.specs.Inside.Pieces.{DealsAll, HasDealt, parts, listed, listed_pieces, share_at, share_size, shares, piece_of, pieces_of, piece_with, part_size, is_in_part, broken_in, told_at, TellsFirst, rule_number, fault_order, earlier_of, earliest_of, length_fault_of}
 use Rattle.msrp_audit.specs.declared.pieces.Piece.{Piece}
 use Rattle.msrp_audit.specs.declared.pieces.Piece.TheVariants.{Turns, Core, Resource}
-use Rattle.std.proofs.lemmas.Option.{same_Some}
+use Rattle.std.proofs.lemmas.Option.{get_or_from_slice_get, same_Some, slice_get_within}
 use Rattle.msrp_plan.proofs.Levels.GlobalUse.{undeclared_local}
 use Rattle.msrp_audit.proofs.Scanning.{split_length, start_at, IsSound}
 use Rattle.msrp_sim.proofs.Turns.{local_turn, counts_plain, both_pass}
@@ -120,9 +120,9 @@ core_known plan n c e = elim (cases_lt n plan.cores) [
   ]
 ]
 
-pub core_in : (plan : PlanModel) (q : ℕ) (share : Option ℕ) (c : CoreId) → piece_of plan q share ≡ Core c → c.0 < plan.cores
-core_in plan q None c e = absurd (cc)
-core_in plan q (Some share) c e = core_known plan (q * shares + share) c e
+pub core_in : (plan : PlanModel) (order : List ℕ) (q : ℕ) (share : Option ℕ) (c : CoreId) → piece_of plan order q share ≡ Core c → c.0 < plan.cores
+core_in plan order q None c e = absurd (cc)
+core_in plan order q (Some share) c e = core_known plan (get_or order (q * shares + share) (listed_pieces plan)) c e
 
 -- each share has a place
 abbrev place_of_share : ℕ → ℕ
@@ -136,20 +136,22 @@ has_place (suc (suc (suc zero))) low = (refl, omega arith)
 has_place (suc (suc (suc (suc r)))) low = absurd (omega (arith, low))
 
 -- the place of a listed piece among those of all shares
-record IsDealt (plan : PlanModel) (m : ℕ) : Type 0 where
+record IsDealt (plan : PlanModel) (order : List ℕ) (m : ℕ) : Type 0 where
   place : ℕ
-  known : place < pieces_of plan
-  is : piece_with plan place ≡ listed plan m
+  known : place < pieces_of order
+  is : piece_with plan order place ≡ listed plan m
 
-dealt : (plan : PlanModel) (m : ℕ) → m < listed_pieces plan → IsDealt plan m
-dealt plan m low =
-    let w = share_size plan in
-    let q = m / 4 in
-    let r = m % 4 in
-    let whole : q * 4 + r ≡ m = div-add-mod' m 4 in
-    let rest : r < 4 = mod_below m 4 (omega arith) in
-    let above = div-add-mod' (listed_pieces plan) 4 in
-    let over = mod_below (listed_pieces plan) 4 (omega arith) in
+dealt : (plan : PlanModel) (order : List ℕ) (m : ℕ) → HasDealt order m → IsDealt plan order m
+dealt plan order m there =
+    let w = share_size order in
+    let i = there.0 in
+    let low : i < length order = slice_get_within order i m there.1 in
+    let q = i / 4 in
+    let r = i % 4 in
+    let whole : q * 4 + r ≡ i = div-add-mod' i 4 in
+    let rest : r < 4 = mod_below i 4 (omega arith) in
+    let above = div-add-mod' (length order) 4 in
+    let over = mod_below (length order) 4 (omega arith) in
     let within : q < w = omega (arith, whole, above, over, low) in
     let p = place_of_share r in
     let has = has_place r rest in
@@ -158,10 +160,11 @@ dealt plan m low =
     let kept : p * w + (p * w + q) % w ≡ p * w + q = subst (λ k. k * w + (p * w + q) % w ≡ p * w + q) share back in
     let own : (p * w + q) % w ≡ q = omega (arith, kept) in
     let most : p * w ≤ 6 * w = mul-le-mul_right w has.1 in
+    let number : get_or order (q * 4 + r) (listed_pieces plan) ≡ m = ap (λ k. get_or order k (listed_pieces plan)) whole ∙ get_or_from_slice_get order i m (listed_pieces plan) there.1 in
     record {
       place = p * w + q;
       known = omega (arith, most, within);
-      is = ap (λ k. piece_of plan k (share_at ((p * w + q) / w))) own ∙ (ap (λ k. piece_of plan q (share_at k)) share ∙ (ap (piece_of plan q) has.0 ∙ ap (listed plan) whole));
+      is = ap (λ k. piece_of plan order k (share_at ((p * w + q) / w))) own ∙ (ap (λ k. piece_of plan order q (share_at k)) share ∙ (ap (piece_of plan order q) has.0 ∙ ap (listed plan) number));
     }
 
 -- a row that is due stands in a part of the ticks
@@ -381,49 +384,50 @@ module _ (plan : PlanModel) (rows : List Row) where
         ]
       ]
 
-  -- the piece of that number tells so
-  abbrev Tells : ℕ → Option Fault → Type 0
-  Tells n o = TellsFirst plan (broken_in plan (piece_with plan n)) rows o
+  module _ (order : List ℕ) (deals : DealsAll plan order) where
+    -- the piece of that number tells so
+    abbrev Tells : ℕ → Option Fault → Type 0
+    Tells n o = TellsFirst plan (broken_in plan (piece_with plan order n)) rows o
 
-  all_silent : IsRunStart plan rows → (ns : List ℕ) (os : List (Option Fault)) → AllZip Tells ns os → AllByRecursion (λ o. o ≡ None) os
-  all_silent start [] [] z = tt
-  all_silent start [] (o ∷ os) z = absurd z
-  all_silent start (n ∷ ns) [] z = absurd z
-  all_silent start (n ∷ ns) (o ∷ os) z = (silent (piece_with plan n) start o z.0, all_silent start ns os z.1)
+    all_silent : IsRunStart plan rows → (ns : List ℕ) (os : List (Option Fault)) → AllZip Tells ns os → AllByRecursion (λ o. o ≡ None) os
+    all_silent start [] [] z = tt
+    all_silent start [] (o ∷ os) z = absurd z
+    all_silent start (n ∷ ns) [] z = absurd z
+    all_silent start (n ∷ ns) (o ∷ os) z = (silent (piece_with plan order n) start o z.0, all_silent start ns os z.1)
 
-  all_behind : (f : Fault) → IsBroken plan rows f → (ns : List ℕ) (os : List (Option Fault)) → AllZip Tells ns os → AllByRecursion (AtLeast f) os
-  all_behind f b [] [] z = tt
-  all_behind f b [] (o ∷ os) z = absurd z
-  all_behind f b (n ∷ ns) [] z = absurd z
-  all_behind f b (n ∷ ns) (o ∷ os) z = (behind (piece_with plan n) f b o z.0, all_behind f b ns os z.1)
+    all_behind : (f : Fault) → IsBroken plan rows f → (ns : List ℕ) (os : List (Option Fault)) → AllZip Tells ns os → AllByRecursion (AtLeast f) os
+    all_behind f b [] [] z = tt
+    all_behind f b [] (o ∷ os) z = absurd z
+    all_behind f b (n ∷ ns) [] z = absurd z
+    all_behind f b (n ∷ ns) (o ∷ os) z = (behind (piece_with plan order n) f b o z.0, all_behind f b ns os z.1)
 
-  one_has : (f : Fault) (k a n : ℕ) (os : List (Option Fault)) → AllZip Tells (range_with_len a n) os → a ≤ k → k < a + n → ((o : Option Fault) → Tells k o → o ≡ Some f) → HasFault f os
-  one_has f k a zero os z low high is = absurd (omega (arith, low, high))
-  one_has f k a (suc n) [] z low high is = absurd z
-  one_has f k a (suc n) (o ∷ os) z low high is = elim (cases_eq a k) [
-    | inl e ↦ inl (is o (subst (λ m. Tells m o) e z.0))
-    | inr ne ↦ inr (one_has f k (a + 1) n os z.1 (omega (arith, low, ne)) (omega (arith, high)) is)
-  ]
+    one_has : (f : Fault) (k a n : ℕ) (os : List (Option Fault)) → AllZip Tells (range_with_len a n) os → a ≤ k → k < a + n → ((o : Option Fault) → Tells k o → o ≡ Some f) → HasFault f os
+    one_has f k a zero os z low high is = absurd (omega (arith, low, high))
+    one_has f k a (suc n) [] z low high is = absurd z
+    one_has f k a (suc n) (o ∷ os) z low high is = elim (cases_eq a k) [
+      | inl e ↦ inl (is o (subst (λ m. Tells m o) e z.0))
+      | inr ne ↦ inr (one_has f k (a + 1) n os z.1 (omega (arith, low, ne)) (omega (arith, high)) is)
+    ]
 
-  first_by : (faults : List (Option Fault)) → IsPlan plan → length rows ≤ plan.cores * plan.ticks → AllZip Tells (range_with_len 0 (pieces_of plan)) faults → (o : Option Fault) → fault_in plan rows ≡ o → earliest_of faults ≡ o
-  first_by faults ok within z None e = none_earliest faults (all_silent (record { size = within; each = no_fault plan [] rows within e }) (range_with_len 0 (pieces_of plan)) faults z)
-  first_by faults ok within z (Some f) e = elim (early_fault plan rows f e) [
-    | inl b ↦
-        let it = found plan b.before b.broke f.rule ok b.due b.rule in
-        let at = dealt plan it.number it.known in
-        let known = at.known in
-        let finds = ap (λ p. broken_in plan p b.before b.broke) at.is ∙ it.finds in
-        least f None faults tt (all_behind f b (range_with_len 0 (pieces_of plan)) faults z)
-        (inr (one_has f at.place 0 (pieces_of plan) faults z (omega arith) (omega (arith, known)) (λ o tells. told_is (length b.before + 1) o f.rule (tells.told b.before b.broke b.behind b.place b.start ∙ finds) f b.number refl)))
-    | inr extra ↦
-        let size = split_length rows extra.before extra.behind extra.extra extra.place in
-        let all = extra.run.size in
-        absurd (omega (arith, size, all, within))
-  ]
+    first_by : (faults : List (Option Fault)) → IsPlan plan → length rows ≤ plan.cores * plan.ticks → AllZip Tells (range_with_len 0 (pieces_of order)) faults → (o : Option Fault) → fault_in plan rows ≡ o → earliest_of faults ≡ o
+    first_by faults ok within z None e = none_earliest faults (all_silent (record { size = within; each = no_fault plan [] rows within e }) (range_with_len 0 (pieces_of order)) faults z)
+    first_by faults ok within z (Some f) e = elim (early_fault plan rows f e) [
+      | inl b ↦
+          let it = found plan b.before b.broke f.rule ok b.due b.rule in
+          let at = dealt plan order it.number (deals it.number it.known) in
+          let known = at.known in
+          let finds = ap (λ p. broken_in plan p b.before b.broke) at.is ∙ it.finds in
+          least f None faults tt (all_behind f b (range_with_len 0 (pieces_of order)) faults z)
+          (inr (one_has f at.place 0 (pieces_of order) faults z (omega arith) (omega (arith, known)) (λ o tells. told_is (length b.before + 1) o f.rule (tells.told b.before b.broke b.behind b.place b.start ∙ finds) f b.number refl)))
+      | inr extra ↦
+          let size = split_length rows extra.before extra.behind extra.extra extra.place in
+          let all = extra.run.size in
+          absurd (omega (arith, size, all, within))
+    ]
 
-  -- the earliest of all answers is the first fault
-  pub first_is : (faults : List (Option Fault)) → IsPlan plan → length rows ≤ plan.cores * plan.ticks → AllZip Tells (range_with_len 0 (pieces_of plan)) faults → earliest_of faults ≡ fault_in plan rows
-  first_is faults ok within z = first_by faults ok within z (fault_in plan rows) refl
+    -- the earliest of all answers is the first fault
+    pub first_is : (faults : List (Option Fault)) → IsPlan plan → length rows ≤ plan.cores * plan.ticks → AllZip Tells (range_with_len 0 (pieces_of order)) faults → earliest_of faults ≡ fault_in plan rows
+    first_is faults ok within z = first_by faults ok within z (fault_in plan rows) refl
 
 -- ---- the whole trace
 -- a fault of the rows that are due is the verdict

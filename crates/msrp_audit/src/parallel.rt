@@ -8,7 +8,7 @@ ghost use Rattle.msrp_audit.specs.Inside.Pieces.{broken_in, earlier_of, earliest
 ghost use Rattle.msrp_audit.specs.Inside.Walks.{KeepsOrder};
 
 use crate::gathered::{Gathered, Rows};
-use crate::pieces::{judge, pieces};
+use crate::pieces::{Deal, judge};
 use crate::turns::steady_rows;
 use msrp_levels::Levels;
 use msrp_plan::{Fault, Memory, Plan, Rule, Trace};
@@ -64,16 +64,16 @@ fn first_fault(
     requires rows { length rows.now ≤ plan.now.cores * plan.now.ticks }
     ensures { IfOk result (λ fault. fault ≡ fault_in plan.now rows.now) }
 {
-    let count = pieces(plan);
+    let deal = Deal::of(alloc, plan, levels)?;
     let steady = steady_rows(plan, rows);
-    let faults = (0..count)
+    let faults = (0..deal.pieces())
         .into_par_iter()
         .with_min_len(1)
         .map(
-            |number: u32| -> Result<Option<Fault>, Memory>
-                requires { (number < pieces_of plan.now) × (levels.now ≡ plan.now) × (length rows.now ≤ plan.now.cores * plan.now.ticks) × (KeepsOrder plan.now.cores rows.now steady) }
-                ensures { IfOk result (TellsFirst plan.entry.now (broken_in plan.entry.now (piece_with plan.entry.now number)) rows.entry.now) }
-            { judge(alloc, plan, levels, rows, steady, number) },
+            |number: usize| -> Result<Option<Fault>, Memory>
+                requires { (number < pieces_of deal.order.items) × (levels.now ≡ plan.now) × (length rows.now ≤ plan.now.cores * plan.now.ticks) × (KeepsOrder plan.now.cores rows.now steady) }
+                ensures { IfOk result (TellsFirst plan.entry.now (broken_in plan.entry.now (piece_with plan.entry.now deal.order.items number)) rows.entry.now) }
+            { judge(alloc, plan, levels, &deal, rows, steady, number) },
         )
         .collect::<Result<Vec<Option<Fault>>, Memory>>(rt, alloc);
     match faults {

@@ -1,5 +1,5 @@
 -- The pieces of an audit: which rule each of them finds broken at a row, and which fault it answers.
-use Rattle.std.specs.Prelude.{ℕ, List, ◌∷◌, ◌++◌, Bool, ◌==◌, ◌&&◌, ◌||◌, nat_lt, nat_le, Option, Some, None, IfSome, fold, length, ◌≡◌, ◌≤◌, ◌+◌, ◌-◌, ◌*◌, ◌/◌, ◌%◌, if◌then◌else◌}
+use Rattle.std.specs.Prelude.{ℕ, List, ◌∷◌, ◌++◌, Bool, ◌==◌, ◌&&◌, ◌||◌, nat_lt, nat_le, Option, Some, None, IfSome, fold, length, slice_get, slice_index_or, ◌<◌, ◌≡◌, ◌≤◌, ◌+◌, ◌-◌, ◌*◌, ◌/◌, ◌%◌, if◌then◌else◌}
 use Rattle.msrp_plan.specs.Plan.{PlanModel}
 use Rattle.msrp_plan.specs.Levels.{is_global}
 use Rattle.msrp_plan.specs.Logs.{is_of}
@@ -35,28 +35,35 @@ listed_pieces plan = plan.cores + parts plan + length plan.resources
 abbrev pub shares : ℕ
 shares = 4
 
+-- the order in which they are has the number of each of them somewhere
+abbrev pub HasDealt : List ℕ → ℕ → Type 0
+HasDealt order n = (i : ℕ) × (slice_get order i ≡ Some n)
+
+abbrev pub DealsAll : PlanModel → List ℕ → Type 0
+DealsAll plan order = (n : ℕ) → n < listed_pieces plan → HasDealt order n
+
 -- so many to each
-abbrev pub share_size : PlanModel → ℕ
-share_size plan = listed_pieces plan / shares + 1
+abbrev pub share_size : List ℕ → ℕ
+share_size order = length order / shares + 1
 
 -- which share has a place, if one has: of each four places the inner ones have
 abbrev pub share_at : ℕ → Option ℕ
 share_at place = if place % 4 == 1 || place % 4 == 2 then Some (place / 4 * 2 + place % 4 - 1) else None
 
--- the q-th piece of a share; without a share it is that of a resource that the plan hasn't
-abbrev pub piece_of : PlanModel → ℕ → Option ℕ → Piece
-piece_of plan q None = Resource (record { 0 = length plan.resources })
-piece_of plan q (Some share) = listed plan (q * shares + share)
+-- the q-th piece of a share; without a share, and behind the order, it is that of a resource that the plan hasn't
+abbrev pub piece_of : PlanModel → List ℕ → ℕ → Option ℕ → Piece
+piece_of plan order q None = Resource (record { 0 = length plan.resources })
+piece_of plan order q (Some share) = listed plan (slice_index_or order (q * shares + share) (listed_pieces plan))
 
 -- the pieces, place by place
 abbrev pub places : ℕ
 places = 8
 
-abbrev pub pieces_of : PlanModel → ℕ
-pieces_of plan = places * share_size plan
+abbrev pub pieces_of : List ℕ → ℕ
+pieces_of order = places * share_size order
 
-abbrev pub piece_with : PlanModel → ℕ → Piece
-piece_with plan n = piece_of plan (n % share_size plan) (share_at (n / share_size plan))
+abbrev pub piece_with : PlanModel → List ℕ → ℕ → Piece
+piece_with plan order n = piece_of plan order (n % share_size order) (share_at (n / share_size order))
 
 -- ---- what a piece finds of a row
 -- the rows of a part of the ticks, where each core has its turn in each tick

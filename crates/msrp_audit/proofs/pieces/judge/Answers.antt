@@ -4,7 +4,7 @@ use Rattle.msrp_audit.proofs.Merging.{core_in}
 use Rattle.msrp_audit.proofs.pieces.judge.Goals as goal
 
 pub judge_core-requires-clause-core : goal.judge_core-requires-clause-core
-judge_core-requires-clause-core c = core_in c.args.plan.now _ _ c.in-Core.core (sym c.piece_at.ensures ∙ c.in-Core.is)
+judge_core-requires-clause-core c = core_in c.args.plan.now c.args.deal.now.order.items _ _ c.in-Core.core (sym c.piece_at.ensures ∙ c.in-Core.is)
 
 pub returns-in-Core : goal.returns-in-Core
 returns-in-Core c = subst (λ p. IfOk c.judge_core.result (TellsFirst c.args.plan.now (broken_in c.args.plan.now p) c.args.rows.now)) (sym c.in-Core.is ∙ c.piece_at.ensures) c.judge_core.ensures
