@@ -14,7 +14,7 @@ use std::sync::Wait;
 const SPINS: u32 = 7;
 
 // After so many ticks a thread tries again whether waits are short.
-const PATIENCE: u32 = 64;
+const PATIENCE: u32 = 256;
 
 // How a thread waits. It spins first, and then yields. Where a wait came to yield, the threads seem to be more than the processors:
 // then the next waits yield at once, for some ticks.
