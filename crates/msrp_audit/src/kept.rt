@@ -1,5 +1,5 @@
 //! A row in eight bytes.
-ghost use Rattle.std.specs.Prelude.{◌≡◌, ◌+◌, ℕ, true, IfSome};
+ghost use Rattle.std.specs.Prelude.{◌≡◌, ◌+◌, ℕ, true, false, IfSome};
 ghost use Rattle.msrp_plan.specs.Queues.{is_on};
 ghost use Rattle.msrp_plan.specs.Stretches.{in_tick};
 ghost use Rattle.msrp_plan.specs.Shape.{ahead_of_kind, job_of_kind, res_of_kind};
@@ -171,6 +171,14 @@ impl KeptRow {
         ensures { result ≡ true → row_of self.now ≡ in_tick (last.now.tick + 1) (row_of last.now) }
     {
         self.number >= TICK && self.number - TICK == last.number
+    }
+
+    /// Whether the resource of the row that is kept so, if it names one, has this number.
+    #[inline(always)]
+    pub(crate) fn has_number(&self, res: ResId) -> bool
+        ensures { result ≡ false → is_on res.0 (row_of self.now).res ≡ false }
+    {
+        self.res_named() == res
     }
 
     /// Whether the row that is kept so names the resource.

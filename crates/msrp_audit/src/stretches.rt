@@ -73,6 +73,21 @@ fn entry_in(list: &[KeptRow], from: usize, tick: u32) -> usize
     entry
 }
 
+// The first of the rows that are kept so, from that one on, that may name the resource, or how many they are. It looks at one byte of each.
+#[inline(always)]
+fn numbered_entry(list: &[KeptRow], from: usize, res: ResId) -> usize
+    requires { from ≤ length list.now }
+    ensures from { from ≤ result }
+    ensures within { result ≤ length list.now }
+    ensures off { (e : ℕ) → from ≤ e → e < result → is_on res.0 (row_of (slice_index_or list.now e no_kept)).res ≡ false }
+{
+    let mut entry = from;
+    while entry < list.len() && !list[entry].has_number(res) {
+        entry += 1;
+    }
+    entry
+}
+
 /// The first of the rows that are kept so, from that one on, that names the resource, or how many they are.
 pub(crate) fn naming_entry(list: &[KeptRow], from: usize, res: ResId) -> usize
     requires { from ≤ length list.now }
@@ -81,9 +96,9 @@ pub(crate) fn naming_entry(list: &[KeptRow], from: usize, res: ResId) -> usize
     ensures off { (e : ℕ) → from ≤ e → e < result → is_on res.0 (row_of (slice_index_or list.now e no_kept)).res ≡ false }
     ensures on { result < length list.now → is_on res.0 (row_of (slice_index_or list.now result no_kept)).res ≡ true }
 {
-    let mut entry = from;
+    let mut entry = numbered_entry(list, from, res);
     while entry < list.len() && !list[entry].names(res) {
-        entry += 1;
+        entry = numbered_entry(list, entry + 1, res);
     }
     entry
 }
