@@ -34,7 +34,7 @@ use Rattle.msrp_plan.proofs.Scheduling.NextRow.{turns_when_due}
 use Rattle.msrp_plan.proofs.Runs.Verdicts.{fault_push, fault_stays, unbroken_is_legal}
 use Rattle.msrp_core.specs.Machine.{MachineModel}
 use Rattle.msrp_sim.specs.Cores.{CoresModel, StandFor, IsDueInRun, IsNextRow, MakesNext, StandOn}
-use Rattle.msrp_audit.specs.Audits.{AuditorModel, HasFed, IsDueInAudit, Awaits, answer_of, has_turn, auditor_view, IsAuditorView}
+use Rattle.msrp_audit.specs.Audits.{AuditorModel, HasFed, IsDueInAudit, Awaits, answer_of, has_turn, auditor_view, IsAuditorView, place_in}
 use Rattle.msrp_audit.specs.declared.auditor.Auditor.TheInside.{Inside}
 use Rattle.std.proofs.Math.Nat.{mul-le-mul_left}
 use Rattle.std.proofs.lemmas.Nat.{div-mul-add, mod-mul-add}
@@ -304,22 +304,25 @@ tick_left tick cores place ticks l = elim (cases_lt tick ticks) [
   | inr past ↦ let a = full_in tick cores place ticks past in absurd (omega (arith, l, a))
 ]
 
-pub place_now : (i : Inside) (a : AuditorModel) → IsAuditorView i → auditor_view i ≡ a → i.at.place ≡ a.fed % a.plan.cores
-place_now i a keeps is = subst (λ (b : AuditorModel). i.at.place ≡ b.fed % b.plan.cores) is (sym (mod-mul-add i.at.tick i.plan.now.cores i.at.place keeps.place))
+pub place_low : (i : Inside) → IsAuditorView i → place_in i < i.plan.now.cores
+place_low i keeps = let some = keeps.some in let most = keeps.most in omega (arith, some, most)
+
+pub place_now : (i : Inside) (a : AuditorModel) → IsAuditorView i → auditor_view i ≡ a → place_in i ≡ a.fed % a.plan.cores
+place_now i a keeps is = subst (λ (b : AuditorModel). place_in i ≡ b.fed % b.plan.cores) is (sym (mod-mul-add i.tick i.plan.now.cores (place_in i) (place_low i keeps)))
 
 -- the same of an auditor that was fed rows without a fault
 module _ (i : Inside) (a : AuditorModel) (rows : List Row) (keeps : IsAuditorView i) (is : auditor_view i ≡ a) (fed : HasFed a rows) (none : a.fault ≡ None) where
-  size_is : i.at.tick * i.plan.now.cores + i.at.place ≡ length rows
+  size_is : i.tick * i.plan.now.cores + place_in i ≡ length rows
   size_is = ap (λ (b : AuditorModel). b.fed) is ∙ fed.count none
 
-  pub tick_is : i.at.tick ≡ length rows / a.plan.cores
-  tick_is = subst (λ (b : AuditorModel). i.at.tick ≡ length rows / b.plan.cores) is (tick_now i.at.tick i.plan.now.cores i.at.place (length rows) keeps.place size_is)
+  pub tick_is : i.tick ≡ length rows / a.plan.cores
+  tick_is = subst (λ (b : AuditorModel). i.tick ≡ length rows / b.plan.cores) is (tick_now i.tick i.plan.now.cores (place_in i) (length rows) (place_low i keeps) size_is)
 
-  pub left_is : i.at.tick < i.plan.now.ticks → length rows < a.plan.cores * a.plan.ticks
-  left_is l = subst (λ (b : AuditorModel). length rows < b.plan.cores * b.plan.ticks) is (subst (λ n. n < i.plan.now.cores * i.plan.now.ticks) size_is (left_in i.at.tick i.plan.now.cores i.at.place i.plan.now.ticks keeps.place l))
+  pub left_is : i.tick < i.plan.now.ticks → length rows < a.plan.cores * a.plan.ticks
+  left_is l = subst (λ (b : AuditorModel). length rows < b.plan.cores * b.plan.ticks) is (subst (λ n. n < i.plan.now.cores * i.plan.now.ticks) size_is (left_in i.tick i.plan.now.cores (place_in i) i.plan.now.ticks (place_low i keeps) l))
 
-  pub full_is : i.plan.now.ticks ≤ i.at.tick → a.plan.cores * a.plan.ticks ≤ length rows
-  full_is l = subst (λ (b : AuditorModel). b.plan.cores * b.plan.ticks ≤ length rows) is (subst (λ n. i.plan.now.cores * i.plan.now.ticks ≤ n) size_is (full_in i.at.tick i.plan.now.cores i.at.place i.plan.now.ticks l))
+  pub full_is : i.plan.now.ticks ≤ i.tick → a.plan.cores * a.plan.ticks ≤ length rows
+  full_is l = subst (λ (b : AuditorModel). b.plan.cores * b.plan.ticks ≤ length rows) is (subst (λ n. i.plan.now.cores * i.plan.now.ticks ≤ n) size_is (full_in i.tick i.plan.now.cores (place_in i) i.plan.now.ticks l))
 
 -- a core that is due now is due after the rows
 due_now : (a : AuditorModel) (rows : List Row) (c : ℕ) → a.cores.plan ≡ a.plan → IsDueInAudit a c → HasFed a rows → IsDueInRun a.cores.plan rows c

@@ -1,5 +1,5 @@
 -- An auditor, and the rows that it was fed.
-use Rattle.std.specs.Prelude.{ℕ, true, false, List, [], ◌∷◌, ◌++◌, Bool, not, nat_lt, ◌&&◌, ◌/◌, Option, Some, None, Result, Ok, Err, length, slice_get, ◌≡◌, ◌<◌, ◌≤◌, ◌+◌, ◌*◌, ⊤}
+use Rattle.std.specs.Prelude.{ℕ, true, false, List, [], ◌∷◌, ◌++◌, Bool, not, nat_lt, ◌&&◌, ◌/◌, Option, Some, None, Result, Ok, Err, length, slice_get, ◌≡◌, ◌<◌, ◌≤◌, ◌+◌, ◌-◌, ◌*◌, ⊤}
 use Rattle.std.specs.Option.{IsSomeAnd, option_map}
 use Rattle.msrp_core.specs.Machine.{MachineModel}
 use Rattle.msrp_plan.specs.Plan.{PlanModel}
@@ -61,11 +61,16 @@ abbrev pub has_turn : PlanModel → List Row → ℕ → Bool
 has_turn plan rows c = nat_lt c plan.cores && not (had_turn c (length rows / plan.cores) rows)
 
 -- ---- the fields
+-- how many rows of the tick came
+abbrev pub place_in : Inside → ℕ
+place_in a = a.plan.now.cores - a.left
+
 abbrev pub auditor_view : Inside → AuditorModel
-auditor_view a = record { plan = a.plan.now; cores = a.cores; fed = a.at.tick * a.plan.now.cores + a.at.place; fault = a.fault }
+auditor_view a = record { plan = a.plan.now; cores = a.cores; fed = a.tick * a.plan.now.cores + place_in a; fault = a.fault }
 
 pub record IsAuditorView (a : Inside) : Type 0 where
   pub accepted : IsPlan a.plan.now
   pub same : a.cores.plan ≡ a.plan.now
-  pub place : a.at.place < a.plan.now.cores
-  pub fits : a.at.tick * a.plan.now.cores + a.at.place ≤ a.plan.now.cores * a.plan.now.ticks
+  pub some : 0 < a.left
+  pub most : a.left ≤ a.plan.now.cores
+  pub fits : a.tick * a.plan.now.cores + place_in a ≤ a.plan.now.cores * a.plan.now.ticks

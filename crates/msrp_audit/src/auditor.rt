@@ -17,7 +17,7 @@ use crate::comparing::unlike_due;
 use msrp_core::CoreState;
 use msrp_levels::Levels;
 use msrp_plan::{CoreId, Fault, Memory, Plan, Row, Rule};
-use msrp_sim::{Cores, TickPlace};
+use msrp_sim::Cores;
 use std::alloc::Global;
 use std::marker::Model;
 
@@ -29,8 +29,10 @@ use std::marker::Model;
 pub struct Auditor<'a> {
     plan: &'a Plan,
     cores: Cores<'a>,
-    // Where the row after those that came before the first fault stands.
-    at: TickPlace,
+    // In which tick the row after those stands that came before the first fault, and how many rows of that tick are still to come, with it: so most rows
+    // only count down.
+    tick: u32,
+    left: u32,
     fault: Option<Fault>,
 }
 
@@ -91,7 +93,8 @@ impl<'a> Auditor<'a> {
         Ok(Auditor {
             plan,
             cores: Cores::with_room(alloc, plan, levels)?,
-            at: TickPlace { tick: 0, place: 0 },
+            tick: 0,
+            left: plan.cores(),
             fault: None,
         })
     }
@@ -102,7 +105,8 @@ impl<'a> Auditor<'a> {
         ensures fed { result ≡ self.now.fed }
         ensures few { result ≤ most_rows }
     {
-        self.at.tick * self.plan.cores() + self.at.place
+        let cores = self.plan.cores();
+        self.tick * cores + (cores - self.left)
     }
 
     // The next row breaks this rule.
@@ -125,7 +129,7 @@ impl<'a> Auditor<'a> {
         ensures most { result ≤ self.now.plan.ticks }
         ensures accepted { IsPlan self.now.plan }
     {
-        self.at.tick
+        self.tick
     }
 
     // Whether no row so far has a fault, and rows are left.
@@ -133,7 +137,7 @@ impl<'a> Auditor<'a> {
     fn has_rows_left(&self) -> bool
         ensures { (result ≡ true) ↔ (self.now.fault ≡ None) × (self.now.fed < self.now.plan.cores * self.now.plan.ticks) }
     {
-        self.fault.is_none() && self.at.tick < self.plan.ticks()
+        self.fault.is_none() && self.tick < self.plan.ticks()
     }
 
     /// Whether the rows of a whole tick come next: no row so far has a fault, and none of the tick that is due has come.
@@ -143,7 +147,7 @@ impl<'a> Auditor<'a> {
         ensures left { result ≡ true → self.now.fed + self.now.plan.cores ≤ self.now.plan.cores * self.now.plan.ticks }
         ensures answer { self.now.fault ≡ None → self.now.fed < self.now.plan.cores * self.now.plan.ticks → self.now.fed % self.now.plan.cores ≡ 0 → result ≡ true }
     {
-        self.at.place == 0 && self.has_rows_left()
+        self.left == self.plan.cores() && self.has_rows_left()
     }
 
     /// Whether a core of the plan has its turn in the tick that is due still to come, where it is known that no row so far has a fault and that
@@ -156,7 +160,7 @@ impl<'a> Auditor<'a> {
         ensures due { result ≡ true → IsDueInAudit self.now core.0 }
         ensures answer { (rows : List TraceRow) → HasFed self.now rows → result ≡ has_turn self.now.plan rows core.0 }
     {
-        self.cores.tick(core) == self.at.tick
+        self.cores.tick(core) == self.tick
     }
 
     // Whether a core of the plan may have its turn now.
@@ -176,7 +180,7 @@ impl<'a> Auditor<'a> {
         ensures order { IfSome result (λ core. core.0 ≡ self.now.fed % self.now.plan.cores) }
         ensures answer { (rows : List TraceRow) → HasFed self.now rows → self.now.fault ≡ None → length rows < self.now.plan.cores * self.now.plan.ticks → is_some result ≡ has_turn self.now.plan rows (length rows % self.now.plan.cores) }
     {
-        let core = CoreId(self.at.place);
+        let core = CoreId(self.plan.cores() - self.left);
         if self.has_turn(core) {
             Some(core)
         } else {
@@ -265,7 +269,11 @@ impl<'a> Auditor<'a> {
         ensures same { self.new ≡ record self.old { fed = self.old.fed + 1 } }
         ensures fed { (rows : List TraceRow) (c : ℕ) (due : TraceRow) (row : TraceRow) → Awaits self.old rows c due → row.tick ≡ due.tick → IsAs due row → HasFed self.new (rows ++ row ∷ []) }
     {
-        self.at.advance(self.plan.cores());
+        self.left -= 1;
+        if self.left == 0 {
+            self.tick += 1;
+            self.left = self.plan.cores();
+        }
     }
 
     /// The row that came, in the tick and of the core of the one that was due, against that: the fault of the rows so far, if they have one.
@@ -308,7 +316,7 @@ impl<'a> Auditor<'a> {
         ensures due { result ≡ true → IsDueInAudit self.now row.core.0 }
         ensures tick { result ≡ true → (rows : List TraceRow) → HasFed self.now rows → row.tick ≡ length rows / self.now.plan.cores }
     {
-        row.tick == self.at.tick && self.is_due(row.core)
+        row.tick == self.tick && self.is_due(row.core)
     }
 
     // The rule that a row breaks that isn't in its turn.
@@ -316,7 +324,7 @@ impl<'a> Auditor<'a> {
         ensures { (rows : List TraceRow) (row : TraceRow) → HasFed self.now rows → self.now.fault ≡ None → IsOutOfTurn self.now.plan rows row → Some result ≡ refused self.now.plan rows row }
     {
         let ticks = self.plan.ticks();
-        if self.at.tick < ticks {
+        if self.tick < ticks {
             Rule::A1
         } else {
             Rule::A7
@@ -373,7 +381,7 @@ impl<'a> Auditor<'a> {
         if let Some(fault) = self.fault {
             return Err(fault);
         }
-        if self.at.tick < self.plan.ticks() {
+        if self.tick < self.plan.ticks() {
             return Err(Fault {
                 row: self.fed() + 1,
                 rule: Rule::A6,

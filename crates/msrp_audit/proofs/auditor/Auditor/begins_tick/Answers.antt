@@ -1,5 +1,6 @@
 use Rattle.std.proofs.Common.{◌≡◌, ◌+◌, ◌*◌, ◌<◌, ◌≤◌, ◌%◌, ◌/◌, ℕ, sym, ◌∙◌, arith}
 use Rattle.std.proofs.Math.Nat.{div-add-mod, mul-le-mul_left}
+use Rattle.msrp_audit.specs.Audits.{place_in}
 use Rattle.msrp_audit.proofs.Judging.{place_now, tick_left}
 use Rattle.msrp_audit.proofs.auditor.Auditor.begins_tick.Goals as goal
 
@@ -11,11 +12,15 @@ tick_fits fed cores ticks whole left =
     let fits = mul-le-mul_left {m = fed / cores + 1} {n = ticks} cores (omega (arith, low)) in
     omega (arith, parts, whole, fits)
 
-pub returns-then-self-eq0-clause-left : goal.returns-then-self-eq0-clause-left
-returns-then-self-eq0-clause-left c = λ e.
+pub returns-then-self-cores-clause-left : goal.returns-then-self-cores-clause-left
+returns-then-self-cores-clause-left c = λ e.
     let a = c.args.self.now in
-    let whole = sym (place_now c.self.inside a c.self.invariant c.self.view_is) ∙ c.if-self-eq0.true in
+    let none : place_in c.self.inside ≡ 0 = omega (arith, c.if-self-cores.true, c.cores.ensures.value) in
+    let whole = sym (place_now c.self.inside a c.self.invariant c.self.view_is) ∙ none in
     tick_fits a.fed a.plan.cores a.plan.ticks whole (c.has_rows_left.ensures.0 e).1
 
-pub returns-else-self-eq0-clause-answer : goal.returns-else-self-eq0-clause-answer
-returns-else-self-eq0-clause-answer c = λ good left whole. absurd (c.if-self-eq0.false (place_now c.self.inside c.args.self.now c.self.invariant c.self.view_is ∙ whole))
+pub returns-else-self-cores-clause-answer : goal.returns-else-self-cores-clause-answer
+returns-else-self-cores-clause-answer c = λ good left whole.
+    let most = c.self.invariant.most in
+    let none = place_now c.self.inside c.args.self.now c.self.invariant c.self.view_is ∙ whole in
+    absurd (c.if-self-cores.false (omega (arith, none, most, c.cores.ensures.value)))
