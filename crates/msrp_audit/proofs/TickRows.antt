@@ -1,11 +1,11 @@
 -- Rows of a tick that are put behind those of the turns before: which of them were made anew, one that is its core's last one again, and one that is kept.
-use Rattle.std.proofs.Common.{◌≡◌, ◌≢◌, ℕ, zero, suc, ◌+◌, ◌-◌, ◌*◌, ◌<◌, ◌≤◌, ◌^◌, Bool, true, false, List, [], ◌∷◌, ◌++◌, Some, length, take, drop, slice_get, slice_set, get_or, set, get_or-set_same, get_or-set_other, inl, inr, refl, ap, sym, ◌∙◌, subst, arith, append_assoc, take-append-drop}
+use Rattle.std.proofs.Common.{◌≡◌, ◌≢◌, ℕ, zero, suc, ◌+◌, ◌-◌, ◌*◌, ◌<◌, ◌≤◌, ◌^◌, Bool, true, false, List, [], ◌∷◌, ◌++◌, Some, length, take, drop, slice_get, slice_set, get_or, set, get_or-set_same, get_or-set_other, inl, inr, refl, ap, sym, ◌∙◌, subst, arith, append_assoc}
 use Rattle.std.specs.Int.{from_bool}
 use Rattle.std.specs.Prelude.{⊤, IfErr}
 use Rattle.std.specs.declared.result.Result.{Result}
 use Rattle.std.specs.declared.result.Result.TheVariants.{Ok, Err}
 use Rattle.std.proofs.Math.Nat.{mul-le-mul_right}
-use Rattle.std.proofs.Math.Seq.{take-suc}
+use Rattle.std.proofs.Math.Seq.{take-add, take-suc}
 use Rattle.std.proofs.lemmas.Bool.{cases_eq, cases_lt}
 use Rattle.std.proofs.lemmas.List.{append-nil, drop_all, get_or-map, get_or_append_left, length-map, length-set, take_all}
 use Rattle.std.proofs.lemmas.Nat.{same_from_place}
@@ -202,10 +202,8 @@ written new old n size is =
     ap (λ l. take n (new ++ l)) none ∙ (ap (take n) (append-nil new) ∙ take_all n new (omega (arith, size, is)))
 
 -- ---- where memory was refused
--- the first so many of these rows were added behind others
-pub first_of : (old more new : List Row) (k : ℕ) → new ≡ old ++ take k more → (rest : List Row) × (old ++ more ≡ new ++ rest)
-first_of old more new k is = (drop k more, ap (λ l. old ++ l) (sym (take-append-drop k more)) ∙ (sym (append_assoc old (take k more) (drop k more)) ∙ ap (λ l. l ++ drop k more) (sym is)))
-
-pub first_of_all : {E : Type 0} (old all mid new : List Row) (done : ℕ) (r : Result ⊤ E) → mid ≡ old ++ take done all → IfErr r (λ _. (rest : List Row) × (mid ++ drop done all ≡ new ++ rest)) → IfErr r (λ _. (rest : List Row) × (old ++ all ≡ new ++ rest))
+-- of rows of which some were added, the first of the others were
+pub first_of_all : {E : Type 0} (old all mid new : List Row) (done : ℕ) (r : Result ⊤ E) → mid ≡ old ++ take done all → IfErr r (λ _. (n : ℕ) × (new ≡ mid ++ take n (drop done all))) → IfErr r (λ _. (n : ℕ) × (new ≡ old ++ take n all))
 first_of_all old all mid new done (Ok ok) is some = tt
-first_of_all old all mid new done (Err e) is some = (some.0, ap (λ l. old ++ l) (sym (take-append-drop done all)) ∙ (sym (append_assoc old (take done all) (drop done all)) ∙ (ap (λ l. l ++ drop done all) (sym is) ∙ some.1)))
+first_of_all old all mid new done (Err e) is some =
+    (done + some.0, some.1 ∙ (ap (λ l. l ++ take some.0 (drop done all)) is ∙ (append_assoc old (take done all) (take some.0 (drop done all)) ∙ ap (λ l. old ++ l) (sym (take-add done some.0 all)))))

@@ -1,5 +1,5 @@
 //! Rows that are gathered before they are judged, in as few bytes as they need.
-ghost use Rattle.std.specs.Prelude.{ℕ, ◌≡◌, ◌<◌, ◌≤◌, ◌++◌, ◌∷◌, [], ◌+◌, ◌*◌, List, drop, length, slice_get, slice_index_or, take, IfErr, IfOk, IfSome, OnOk, true};
+ghost use Rattle.std.specs.Prelude.{ℕ, ◌≡◌, ◌<◌, ◌≤◌, ◌++◌, ◌∷◌, [], ◌+◌, ◌*◌, drop, length, slice_get, slice_index_or, take, IfErr, IfOk, IfSome, OnOk, true};
 ghost use Rattle.msrp_plan.specs.Queues.{is_on};
 ghost use Rattle.msrp_plan.specs.Stretches.{in_tick};
 ghost use Rattle.msrp_plan.specs.declared.rows.Row.{Row as TraceRow};
@@ -205,7 +205,7 @@ impl Gathered {
     pub fn add_tick(&mut self, tick: u32, rows: &[Row], aheads: bool) -> Result<(), Memory>
         requires others { RepeatOthers tick aheads rows.now self.old }
         ensures added { OnOk result (self.new ≡ self.old ++ tick_rows tick aheads rows.now) }
-        ensures first { IfErr result (λ _. (rest : List TraceRow) × (self.old ++ tick_rows tick aheads rows.now ≡ self.new ++ rest)) }
+        ensures first { IfErr result (λ _. (n : ℕ) × (self.new ≡ self.old ++ take n (tick_rows tick aheads rows.now))) }
     {
         let done = self.keep_tick(tick, rows, aheads);
         if done == rows.len() {
@@ -239,7 +239,7 @@ impl Gathered {
     ) -> Result<(), Memory>
         requires { from ≤ length rows.now }
         ensures added { OnOk result (self.new ≡ self.old ++ drop from (tick_rows tick aheads rows.now)) }
-        ensures first { IfErr result (λ _. (rest : List TraceRow) × (self.old ++ drop from (tick_rows tick aheads rows.now) ≡ self.new ++ rest)) }
+        ensures first { IfErr result (λ _. (n : ℕ) × (self.new ≡ self.old ++ take n (drop from (tick_rows tick aheads rows.now)))) }
     {
         for core in from..rows.len() {
             self.push(told(rows[core], aheads).in_tick(tick))?;

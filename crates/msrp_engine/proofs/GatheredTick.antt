@@ -1,5 +1,5 @@
 -- The rows of a tick, as they are gathered.
-use Rattle.std.proofs.Common.{◌≡◌, ◌≤◌, ◌<◌, ◌+◌, ◌-◌, ℕ, Bool, List, Some, ◌++◌, length, slice_get, ap, sym, ◌∙◌, subst, arith}
+use Rattle.std.proofs.Common.{◌≡◌, ◌≤◌, ◌<◌, ◌+◌, ◌-◌, ℕ, Bool, List, Some, ◌++◌, length, take, drop, slice_get, ap, sym, ◌∙◌, subst, arith, append_assoc, take-append-drop}
 use Rattle.std.specs.Prelude.{⊤}
 use Rattle.std.specs.Result.{OnOk, IfErr}
 use Rattle.std.specs.declared.result.Result.{Result}
@@ -40,6 +40,8 @@ module _ {T : Type 0} (j : JudgedRows T) (t cores : ℕ) (lasts : List Row) (siz
       ∙ (ap (λ r. in_tick t (told aheads r)) (get_or_from_slice_get lasts k (row_of_core j.lasts k) d (each k here)) ∙ (ap (in_tick t) (reads (row_of_core j.lasts k))
       ∙ (sym (rows.each k at.0 at.1) ∙ sym (get_or_from_slice_get more k at.0 d at.1)))))
 
-  pub gathers : (r : Result ⊤ Memory) (old new more : List Row) → OnOk r (new ≡ old ++ tick_rows t aheads lasts) → IfErr r (λ _. (rest : List Row) × (old ++ tick_rows t aheads lasts ≡ new ++ rest)) → AreRowsOf j t cores more → Gathers r old new more
+  pub gathers : (r : Result ⊤ Memory) (old new more : List Row) → OnOk r (new ≡ old ++ tick_rows t aheads lasts) → IfErr r (λ _. (n : ℕ) × (new ≡ old ++ take n (tick_rows t aheads lasts))) → AreRowsOf j t cores more → Gathers r old new more
   gathers (Ok done) old new more added first rows = added ∙ ap (λ l. old ++ l) (are_rows more rows)
-  gathers (Err memory) old new more added first rows = (first.0, ap (λ l. old ++ l) (sym (are_rows more rows)) ∙ first.1)
+  gathers (Err memory) old new more added first rows =
+      let is : new ≡ old ++ take first.0 more = first.1 ∙ ap (λ l. old ++ take first.0 l) (are_rows more rows) in
+      (drop first.0 more, ap (λ l. old ++ l) (sym (take-append-drop first.0 more)) ∙ (sym (append_assoc old (take first.0 more) (drop first.0 more)) ∙ ap (λ l. l ++ drop first.0 more) (sym is)))

@@ -1,9 +1,8 @@
-use Rattle.std.proofs.Common.{rules, List, Err, IfErr, OnOk, subst, ◌≡◌, ◌++◌, ◌∷◌, [], ◌+◌, ◌-◌, ap, arith, drop, get_or, take, sym, ◌∙◌}
+use Rattle.std.proofs.Common.{rules, ℕ, Err, IfErr, OnOk, subst, ◌≡◌, ◌++◌, ◌∷◌, [], ◌+◌, ◌-◌, ap, arith, drop, get_or, take, sym, ◌∙◌}
 use Rattle.std.proofs.lemmas.List.{append-nil, get_or-drop, get_or-map, length-drop, length-map, take_all}
 use Rattle.msrp_plan.specs.Stretches.{in_tick}
-use Rattle.msrp_plan.specs.declared.rows.Row.{Row}
 use Rattle.msrp_audit.specs.Gathering.{tick_rows, told}
-use Rattle.msrp_audit.proofs.TickRows.{first_of, next_rows}
+use Rattle.msrp_audit.proofs.TickRows.{next_rows}
 use Rattle.msrp_audit.proofs.gathered.Gathered.push_each.Goals as goal
 
 pub loop-core-init : goal.loop-core-init
@@ -40,11 +39,10 @@ returns-in_err-push c =
     let left = drop c.args.from (tick_rows c.args.tick c.args.aheads c.args.rows.now) in
     let new = c.push.new.self in
     let kept = c.in_err-push.ensures.kept in
-    let first = first_of old left new (c.loop-core.core - c.args.from) (kept ∙ c.loop-core.invariant.rows) in
     let gives : c.from_residual.result ≡ Err (record {}) = search rules in
     record {
       added = subst (λ r. OnOk r (new ≡ old ++ left)) (sym gives) tt;
-      first = subst (λ r. IfErr r (λ _. (rest : List Row) × (old ++ left ≡ new ++ rest))) (sym gives) first;
+      first = subst (λ r. IfErr r (λ _. (n : ℕ) × (new ≡ old ++ take n left))) (sym gives) (c.loop-core.core - c.args.from, kept ∙ c.loop-core.invariant.rows);
     }
 
 pub returns : goal.returns
