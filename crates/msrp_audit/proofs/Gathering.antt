@@ -1,5 +1,5 @@
 -- What is kept of a row tells it; and of the rows that are kept so the first ones.
-use Rattle.std.proofs.Common.{◌<◌, ◌*◌, ◌^◌, refl, Option, None, Some, nat_lt, ◌+◌, ◌≡◌, ℕ, zero, suc, ◌-◌, List, [], ◌∷◌, ◌++◌, length, map, min, take, is_some, ap, sym, ◌∙◌, arith}
+use Rattle.std.proofs.Common.{◌<◌, ◌*◌, ◌^◌, refl, Option, None, Some, nat_lt, ◌+◌, ◌≡◌, ℕ, zero, suc, ◌-◌, List, [], ◌∷◌, ◌++◌, get_or, replicate, length, map, min, take, is_some, ap, sym, ◌∙◌, arith}
 use Rattle.std.proofs.lemmas.List.{length-map, take-map, take_min}
 use Rattle.std.proofs.lemmas.Bool.{lt-ltb}
 use Rattle.std.specs.Option.{unwrap_or}
@@ -13,6 +13,17 @@ use Rattle.msrp_plan.proofs.KindParts.{ahead_told, job_told, res_told, same_part
 use Rattle.msrp_plan.proofs.Legality.SameRow.{same_row}
 use Rattle.msrp_audit.specs.Inside.KeptView.{Kept, kept_view}
 use Rattle.msrp_audit.specs.Inside.Gathered.{ahead_in, ahead_number, carries_in, job_in, kind_numbered, number_of_kind, res_in, row_of, rows_of}
+
+-- in a longer table the places behind the kinds are of none
+all_idle : (m n : ℕ) → get_or (replicate m Idle) n Idle ≡ Idle
+all_idle zero n = refl
+all_idle (suc m) zero = refl
+all_idle (suc m) (suc n) = all_idle m n
+
+pub same_kind : (ks : List Kind) (m n : ℕ) → get_or (ks ++ replicate m Idle) n Idle ≡ get_or ks n Idle
+same_kind [] m n = all_idle m n
+same_kind (k ∷ ks) m zero = refl
+same_kind (k ∷ ks) m (suc n) = same_kind ks m n
 
 -- what is kept of a row, by way of the job and the resource that stand in place of those that it lacks
 pub record Keeps (row : Row) (j : JobId) (g : ResId) (e : Kept) : Type 0 where

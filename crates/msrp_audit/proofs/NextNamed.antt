@@ -1,11 +1,12 @@
 -- The rows that name a resource: each core's next turn that does, and the first of these of all cores.
 use Rattle.std.proofs.Common.{◌≡◌, ℕ, ◌+◌, ◌*◌, ◌/◌, ◌%◌, ◌<◌, ◌≤◌, List, Some, refl, ap, sym, ◌∙◌, subst, arith, length, max, get_or, set, slice_get, true, get_or-set_other, inl, inr}
+use Rattle.std.specs.Borrow.{Bor}
 use Rattle.std.proofs.Math.Nat.{mul-le-mul_right}
 use Rattle.std.proofs.lemmas.Bool.{and_parts, cases_eq, cases_lt}
 use Rattle.std.proofs.lemmas.List.{length-set}
 use Rattle.std.proofs.lemmas.Grind.{get_or-set_at}
-use Rattle.std.proofs.lemmas.Nat.{div-add-mod', div-mul-add, mod_below, mod-mul-add}
-use Rattle.std.proofs.lemmas.Option.{same_Some, slice_get_read}
+use Rattle.std.proofs.lemmas.Nat.{div-add-mod', mod_below, mod-mul-add}
+use Rattle.std.proofs.lemmas.Option.{same_Some}
 use Rattle.msrp_plan.specs.Queues.{is_behind, is_on, is_reply_of, replies, counts}
 use Rattle.msrp_plan.specs.Stretches.{in_tick}
 use Rattle.msrp_plan.specs.declared.ids.JobId.{JobId}
@@ -16,8 +17,9 @@ use Rattle.msrp_audit.specs.declared.naming.Named.{Named}
 use Rattle.msrp_audit.specs.declared.naming.Naming.{Naming}
 use Rattle.msrp_audit.specs.declared.stretches.Stretch.{Stretch}
 use Rattle.msrp_audit.specs.declared.naming.Wait.{Wait}
-use Rattle.msrp_audit.specs.Inside.Naming.{Are, AreBehind, AreOff, IsNaming, IsNextNamed, IsNextTurn, IsOff, IsOn, IsPassed, IsQuiet, IsSpin, IsWaitFor, no_wait, place_of, wait_of}
-use Rattle.msrp_audit.specs.Inside.Stretches.{AreTurns, Stands}
+use Rattle.msrp_audit.specs.Inside.KeptView.{Kept}
+use Rattle.msrp_audit.specs.Inside.Naming.{Are, AreBehind, AreOff, IsNaming, IsNextNamed, IsNextTurn, IsOff, IsPassed, IsQuiet, IsSpin, IsTold, IsWaitFor, SkipsTo, no_wait, place_of, wait_of}
+use Rattle.msrp_audit.specs.Inside.Stretches.{AreKeptTo, AreTurns, AreTurnsOf, Stands}
 use Rattle.msrp_audit.proofs.Orders.{next_tick}
 
 -- ---- the row of a turn
@@ -28,22 +30,12 @@ same_tick t r is = ap (λ n. in_tick n r) (sym is)
 pub stands_there : (rows : List Row) (cores c t : ℕ) (s : Stretch) → Stands rows cores c t s → slice_get rows (t * cores + c) ≡ Some s.row
 stands_there rows cores c t s stands = let some = stands.some in stands.each t (omega arith) (omega (arith, some)) ∙ ap (λ r. Some r) (same_tick t s.row stands.tick)
 
--- a row that is looked at stands in its tick alone
-pub stands_once : (rows : List Row) (cores c t : ℕ) (r : Row) → t * cores + c < length rows → r ≡ get_or rows (t * cores + c) r → ((s : Row) → slice_get rows (t * cores + c) ≡ Some s → s.tick ≡ t) → Stands rows cores c t (record { row = r; until = t + 1 })
-stands_once rows cores c t r within at tick =
-    let there = slice_get_read rows (length rows) (t * cores + c) r refl within at in
-    let is = tick r there in
-    record {
-      some = omega arith;
-      tick = is;
-      each = λ k low high.
-          let same : k ≡ t = omega (arith, low, high) in
-          ap (λ n. slice_get rows (n * cores + c)) same ∙ (there ∙ ap (λ s. Some s) (sym (same_tick k r (is ∙ sym same))));
-    }
-
--- a turn in order stands in the tick of its place
-pub tick_of : (rows : List Row) (cores n c t : ℕ) → c < cores → AreTurns cores rows n → t * cores + c < n → (r : Row) → slice_get rows (t * cores + c) ≡ Some r → r.tick ≡ t
-tick_of rows cores n c t low turns within r there = turns.ticks (t * cores + c) r within there ∙ div-mul-add t cores c low
+-- one of the turns in order is one of those that are told of its core
+pub in_turns : (n cores c end t : ℕ) → n ≤ end * cores + c → t * cores + c < n → t < end
+in_turns n cores c end t all turn = elim (cases_lt t end) [
+  | inl less ↦ less
+  | inr past ↦ let times = mul-le-mul_right cores past in absurd (omega (arith, times, all, turn))
+]
 
 -- those of a stretch of spins
 spins_on : (res : ResId) (rows : List Row) (cores c t : ℕ) (s : Stretch) → Stands rows cores c t s → is_on res.0 s.row.res ≡ true → s.row.kind ≡ Spin → (k : ℕ) → t ≤ k → k < s.until → IsSpin res s.row.job rows (k * cores + c)
@@ -58,7 +50,7 @@ spin_behind queue r spin reply = ap (replies queue r.job) (sym spin) ∙ (and_pa
 -- ---- of one core another tick is noted, and another wait
 module _ (m : Naming) (c t f : ℕ) (v : List ℕ) (w : Wait) (few : m.cores ≤ 8) (ticks : length m.ticks ≡ 8) (waits : length m.waits ≡ 8) (core : c < m.cores) where
   abbrev noted : Naming
-  noted = record { cores = m.cores; turns = m.turns; from = f; ticks = set m.ticks c t; nears = v; waits = set m.waits c w }
+  noted = record m { from = f; ticks = set m.ticks c t; nears = v; waits = set m.waits c w }
 
   -- of the others those are noted as before
   noted_at : (P : ℕ → ℕ → Wait → Type 0) (d : ℕ) → ((d ≡ c → ⊥) → P d (get_or m.ticks d 0) (wait_of m d)) → P c t w → P d (get_or noted.ticks d 0) (wait_of noted d)
@@ -96,6 +88,10 @@ module _ (res : ResId) (rows : List Row) (m : Naming) (is : IsNaming res rows m)
         | inr past ↦ let times = mul-le-mul_right m.cores past in absurd (omega (arith, times, whole, late))
       ]
 
+  -- ---- what is told of a core
+  pub told_turns : (c : ℕ) (l : Bor (List Kept)) → c < m.cores → l ≡ get_or m.told.lists c l → AreTurnsOf rows m.cores c l.now (get_or m.told.ends c 0)
+  told_turns c l core at = subst (λ (b : Bor (List Kept)). AreTurnsOf rows m.cores c b.now (get_or m.told.ends c 0)) (sym at) (is.told c l core).turns
+
   -- ---- another tick and wait of one core
   module _ (c : ℕ) (core : c < m.cores) (t f : ℕ) (v : List ℕ) (w : Wait) (later : m.from ≤ f) where
     abbrev anew : Naming
@@ -111,6 +107,9 @@ module _ (res : ResId) (rows : List Row) (m : Naming) (is : IsNaming res rows m)
           nears = size;
           waits = length-set m.waits c w ∙ is.waits;
           turns = is.turns;
+          lists = is.lists;
+          ends = is.ends;
+          told = is.told;
           passed = λ d k below passed.
               at (λ e _ x. f ≤ k * m.cores + e → k < x.until → IsSpin res x.job rows (k * m.cores + e)) d (λ _ from less. is.passed d k below (omega (arith, from, later), less)) (spins k) passed.0 passed.1;
           next = λ d below.
@@ -160,9 +159,10 @@ module _ (res : ResId) (rows : List Row) (m : Naming) (is : IsNaming res rows m)
         from_next : m.from ≤ place + 1
         from_next = let before = (is.next c core).behind (omega (arith, here, turn)) in omega (arith, before, here)
 
-        pub goes_on : (t near : ℕ) → w.until ≤ t → ((k : ℕ) → w.until ≤ k → k < t → IsOff res rows (k * m.cores + c)) → (t * m.cores + c < m.turns → IsOn res rows (t * m.cores + c))
-            → IsNaming res rows (record { cores = m.cores; turns = m.turns; from = place + 1; ticks = set m.ticks c t; nears = set m.nears c near; waits = set m.waits c w })
-        goes_on t near later off on =
+        pub goes_on : (t near end : ℕ) → m.turns ≤ end * m.cores + c → SkipsTo res rows m.cores c w.until end t
+            → IsNaming res rows (record m { from = place + 1; ticks = set m.ticks c t; nears = set m.nears c near; waits = set m.waits c w })
+        goes_on t near end all skips =
+            let later = skips.from in
             let some = is.some in
             let tick = get_or m.ticks c 0 in
             let more = next_tick tick m.cores in
@@ -175,13 +175,13 @@ module _ (res : ResId) (rows : List Row) (m : Naming) (is : IsNaming res rows m)
             let stays = waits.stands in
             subst (λ o. IsSpin res o rows (k * m.cores + c)) (sym waits.job) (spins_on res rows m.cores c tick s stands named (spin k low high) k (omega (arith, past)) (omega (arith, high, stays))))
             (record {
-              off = λ k past less _. off k past less;
+              off = λ k past less _. skips.off k past less;
               behind = λ _. let next : tick + 1 ≤ t = omega (arith, from, own_tick, later) in let times = mul-le-mul_right m.cores next in omega (arith, times, more, some, here);
-              on = on;
+              on = λ own. skips.on (in_turns m.turns m.cores c end t all own);
             })
             (λ d below other _. let far = apart d below other in omega (arith, far, here))
 
-        pub stays_behind : (t near : ℕ) (queue : List JobId) → AreBehind queue m → is_reply_of queue s.row ≡ true → AreBehind queue (record { cores = m.cores; turns = m.turns; from = place + 1; ticks = set m.ticks c t; nears = set m.nears c near; waits = set m.waits c w })
+        pub stays_behind : (t near : ℕ) (queue : List JobId) → AreBehind queue m → is_reply_of queue s.row ≡ true → AreBehind queue (record m { from = place + 1; ticks = set m.ticks c t; nears = set m.nears c near; waits = set m.waits c w })
         stays_behind t near queue behind reply d k below =
             behind_at m c t (place + 1) (set m.nears c near) w is.few is.ticks is.waits core queue d k from_next (λ _ passed. behind d k below passed)
             (λ low high. ap (is_behind queue) waits.job ∙ spin_behind queue s.row (spin k low high) reply)
@@ -215,6 +215,9 @@ module _ (res : ResId) (rows : List Row) (m : Naming) (is : IsNaming res rows m)
         nears = is.nears;
         waits = is.waits;
         turns = is.turns;
+        lists = is.lists;
+        ends = is.ends;
+        told = is.told;
         passed = λ d k below passed. let from = passed.0 in is.passed d k below (omega (arith, from, later), passed.1);
         next = λ d below. let old = is.next d below in let least = first d below in record {
           off = λ k waits less from. old.off k waits less (omega (arith, from, later));
@@ -235,6 +238,39 @@ module _ (res : ResId) (rows : List Row) (m : Naming) (is : IsNaming res rows m)
         on = λ _ r there. (is.passed c t core (from, some) r there).0;
       })
       (λ d below other turn. (is.next d below).behind turn)
+
+-- ---- of each core it is noted what is told of it and which is its first turn that names the resource
+pub record AreNoted (res : ResId) (rows : List Row) (cores n k : ℕ) (lists : List (Bor (List Kept))) (ends ticks : List ℕ) : Type 0 where
+  pub turns : AreTurns cores rows n
+  pub told : (c : ℕ) (d : Bor (List Kept)) → c < k → IsTold rows cores n c (get_or lists c d).now (get_or ends c 0)
+  pub next : (c : ℕ) → c < k → IsNextTurn res rows cores n 0 0 c (get_or ticks c 0)
+
+-- what holds of the first ones holds of the next one too, where that is set so
+set_so : {X : Type 0} (P : ℕ → X → Type 0) (xs : List X) (k : ℕ) (x d : X) → k < length xs → P k x → ((c : ℕ) → c < k → P c (get_or xs c d)) → (c : ℕ) → c < k + 1 → P c (get_or (set xs k x) c d)
+set_so P xs k x d room own before c low = elim (cases_eq c k) [
+  | inl same ↦ subst (λ e. P e (get_or (set xs k x) c d)) (sym same) (subst (P k) (sym (get_or-set_at xs k c x d same room)) own)
+  | inr other ↦ subst (P c) (sym (get_or-set_other xs k c x d other)) (before c (omega (arith, low, other)))
+]
+
+-- and so of the next one, with as many turns in order as are told of it
+pub notes_next : (res : ResId) (rows : List Row) (cores n k : ℕ) (lists : List (Bor (List Kept))) (ends ticks : List ℕ) → AreNoted res rows cores n k lists ends ticks
+    → k < length lists → k < length ends → k < length ticks → (list : Bor (List Kept)) (end tick : ℕ) → AreKeptTo end list.now → AreTurnsOf rows cores k list.now end → SkipsTo res rows cores k 0 end tick
+    → (m : ℕ) → m ≤ n → m ≤ end * cores + k → AreNoted res rows cores m (k + 1) (set lists k list) (set ends k end) (set ticks k tick)
+notes_next res rows cores n k lists ends ticks so_far room_lists room_ends room_ticks list end tick kept turns skips m fewer all = record {
+  turns = let old = so_far.turns in let within = old.within in record {
+    within = omega (arith, within, fewer);
+    order = λ i r low. old.order i r (omega (arith, low, fewer));
+    ticks = λ i r low. old.ticks i r (omega (arith, low, fewer));
+  };
+  told = λ c d. set_so (λ e n. IsTold rows cores m e (get_or (set lists k list) e d).now n) ends k end 0 room_ends
+      (subst (λ (l : Bor (List Kept)). IsTold rows cores m k l.now end) (sym (get_or-set_at lists k k list d refl room_lists)) (record { kept = kept; turns = turns; all = all }))
+      (λ e low. let old = so_far.told e d low in let most = old.all in
+      subst (λ (l : Bor (List Kept)). IsTold rows cores m e l.now (get_or ends e 0)) (sym (get_or-set_other lists k e list d (λ same. omega (arith, low, same)))) (record { kept = old.kept; turns = old.turns; all = omega (arith, most, fewer) }))
+      c;
+  next = set_so (IsNextTurn res rows cores m 0 0) ticks k tick 0 room_ticks
+      (record { off = λ t past less _. skips.off t past less; behind = λ _. omega arith; on = λ turn. skips.on (in_turns m cores k end tick all turn) })
+      (λ e low. let old = so_far.next e low in record { off = old.off; behind = λ turn. old.behind (omega (arith, turn, fewer)); on = λ turn. old.on (omega (arith, turn, fewer)) });
+}
 
 -- ---- those of the first n cores that are passed over are of jobs that stand behind the first one of a queue
 pub record Recalled (queue : List JobId) (n : ℕ) (old m : Naming) : Type 0 where

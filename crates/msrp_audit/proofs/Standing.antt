@@ -17,14 +17,17 @@ use Rattle.msrp_plan.specs.Stretches.{in_tick}
 use Rattle.msrp_plan.specs.declared.ids.ResId.{ResId}
 use Rattle.msrp_plan.specs.declared.rows.Row.{Row}
 use Rattle.msrp_audit.specs.Inside.KeptView.{Kept}
-use Rattle.msrp_audit.specs.declared.stretches.Skipped.{Skipped}
 use Rattle.msrp_audit.specs.declared.stretches.Stretch.{Stretch}
 use Rattle.msrp_audit.specs.Inside.Gathered.{row_of, rows_of}
-use Rattle.msrp_audit.specs.Inside.Naming.{HasSkipped, IsOff, Tells}
-use Rattle.msrp_audit.specs.Inside.Stretches.{AreTurnLists, AreTurns, IsFound, IsInForce, IsTurnList, Stands, came_by, list_of, lists_of, no_kept, row_in, turns_told}
+use Rattle.msrp_audit.specs.Inside.Naming.{IsOff, IsOn}
+use Rattle.msrp_audit.specs.Inside.Stretches.{AreKeptTo, AreTurnLists, AreTurns, AreTurnsOf, IsInForce, IsTurnList, Stands, came_by, list_of, lists_of, no_kept, row_in, turns_told}
 use Rattle.msrp_audit.proofs.Orders.{next_tick}
 
 -- ---- one list
+-- the first one came by any tick
+pub first_came : (list : List Kept) → ((k : Kept) → slice_get list 0 ≡ Some k → k.tick ≡ 0) → 0 < length list → (t : ℕ) → (slice_index_or list 0 no_kept).tick ≤ t
+first_came list first some t = let at = first (slice_index_or list 0 no_kept) (slice_get-get_or list 0 no_kept some) in omega (arith, at)
+
 module _ (n c : ℕ) (list : List Kept) (is : IsTurnList n c list) where
   rises_here : (e : ℕ) → e + 1 < length list → (slice_index_or list e no_kept).tick < (slice_index_or list (e + 1) no_kept).tick
   rises_here e within = is.rising e (slice_index_or list e no_kept) (slice_index_or list (e + 1) no_kept) (slice_get-get_or list e no_kept (omega (arith, within))) (slice_get-get_or list (e + 1) no_kept within)
@@ -52,32 +55,6 @@ module _ (n c : ℕ) (list : List Kept) (is : IsTurnList n c list) where
 
       stops : e + 1 < length list → nat_le (slice_index_or list (e + 1) no_kept).tick t ≡ false
       stops within = lt-leb (slice_index_or list (e + 1) no_kept).tick t (stands.next (slice_index_or list (e + 1) no_kept) (slice_get-get_or list (e + 1) no_kept within))
-
-  -- the first one came by any tick
-  pub first_came : (t : ℕ) → 0 < length list → (slice_index_or list 0 no_kept).tick ≤ t
-  first_came t some = let first = is.first (slice_index_or list 0 no_kept) (slice_get-get_or list 0 no_kept some) in omega (arith, first)
-
-  -- in each tick the last one that came by then stands
-  pub stands_by : (t : ℕ) → 0 < length list → IsInForce list t (came_by t list - 1)
-  stands_by t some = record {
-    within = omega (arith, by, one);
-    came = leb-true (slice_index_or list (came_by t list - 1) no_kept).tick t (prefix_len_passes (λ k. nat_le k.tick t) list (came_by t list - 1) no_kept (omega (arith, one)));
-    next = λ k there.
-        let at : slice_get list (came_by t list) ≡ Some k = ap (slice_get list) (omega (arith, one)) ∙ there in
-        leb-false k.tick t (ap (λ (x : Kept). nat_le x.tick t) (sym (get_or_from_slice_get list (came_by t list) k no_kept at)) ∙ prefix_len_stops (λ (x : Kept). nat_le x.tick t) list no_kept (slice_get_within list (came_by t list) k at));
-  }
-    where
-      by : came_by t list ≤ length list
-      by = prefix_len-le-length (λ (k : Kept). nat_le k.tick t) list
-
-      one : 0 < came_by t list
-      one = elim (cases_lt 0 (came_by t list)) [
-        | inl more ↦ more
-        | inr none ↦
-            let zero_here : came_by t list ≡ 0 = omega (arith, none) in
-            let stops = prefix_len_stops (λ (x : Kept). nat_le x.tick t) list no_kept (omega (arith, zero_here, some)) in
-            absurd (true≢false (sym (le-leb (slice_index_or list 0 no_kept).tick t (first_came t some)) ∙ (ap (λ e. nat_le (slice_index_or list e no_kept).tick t) (sym zero_here) ∙ stops)))
-      ]
 
   -- so it stands
   pub stands_here : (t e : ℕ) (lists : List (List Kept)) → list_of lists c ≡ list → IsInForce list t e → row_in lists c t ≡ in_tick t (row_of (slice_index_or list e no_kept))
@@ -135,72 +112,99 @@ module _ (lists : List (List Kept)) (cores n : ℕ) where
               sym (ap (λ (x : Row). x.tick) is);
         }
 
--- the row that stands in a tick stands until the core's next one that is kept, and until its turns end
-pub stands_until : (rows : List Row) (cores c t : ℕ) (list : List Kept) (e end : ℕ) → IsFound rows cores c t list e end → (s : Stretch) → s.row ≡ in_tick t (row_of (slice_index_or list e no_kept)) → t < s.until
-    → ((k : Kept) → slice_get list (e + 1) ≡ Some k → s.until ≤ k.tick) → s.until ≤ end → Stands rows cores c t s
-stands_until rows cores c t list e end is s row some next last = record {
-  some = some;
-  tick = ap (λ (r : Row). r.tick) row;
-  each = λ k from to.
-      let stands = is.stands in
-      let then_too : IsInForce list k e = record {
-        within = stands.within;
-        came = let came = stands.came in omega (arith, came, from);
-        next = λ x there. let ends = next x there in omega (arith, ends, to);
-      } in
-      is.each k e (omega (arith, to, last)) then_too ∙ sym (ap (λ r. Some (in_tick k r)) row);
-}
+-- ---- the turns of one core
+module _ (end : ℕ) (list : List Kept) (kept : AreKeptTo end list) where
+  -- in each tick the last one that came by then stands
+  stands_by : (t : ℕ) → 0 < length list → IsInForce list t (came_by t list - 1)
+  stands_by t some = record {
+    within = omega (arith, by, one);
+    came = leb-true (slice_index_or list (came_by t list - 1) no_kept).tick t (prefix_len_passes (λ k. nat_le k.tick t) list (came_by t list - 1) no_kept (omega (arith, one)));
+    next = λ k there.
+        let at : slice_get list (came_by t list) ≡ Some k = ap (slice_get list) (omega (arith, one)) ∙ there in
+        leb-false k.tick t (ap (λ (x : Kept). nat_le x.tick t) (sym (get_or_from_slice_get list (came_by t list) k no_kept at)) ∙ prefix_len_stops (λ (x : Kept). nat_le x.tick t) list no_kept (slice_get_within list (came_by t list) k at));
+  }
+    where
+      by : came_by t list ≤ length list
+      by = prefix_len-le-length (λ (k : Kept). nat_le k.tick t) list
 
--- before the first one that names a resource none does
-pub names_not : (rows : List Row) (cores c t : ℕ) (list : List Kept) (e end : ℕ) → IsFound rows cores c t list e end → (res : ResId) (m : ℕ) → ((f : ℕ) → e ≤ f → f < m → is_on res.0 (row_of (slice_index_or list f no_kept)).res ≡ false)
-    → (k : ℕ) → t ≤ k → k < end → (m < length list → k < (slice_index_or list m no_kept).tick) → Tells res rows (k * cores + c) false
-names_not rows cores c t list e end is res m off k from to before =
-    let some = is.some k from in
-    let f = some.0 in
-    let here = some.2 in
-    let inside = here.within in
-    let came = here.came in
-    let low : f < m = elim (cases_lt f m) [
-      | inl less ↦ less
-      | inr past ↦
-          let late = before (omega (arith, past, inside)) in
-          elim (cases_lt m f) [
-            | inl far ↦ let rise = is.later m f far inside in absurd (omega (arith, late, rise, came))
-            | inr near ↦ let same : m ≡ f = omega (arith, past, near) in let this = subst (λ j. k < (slice_index_or list j no_kept).tick) same late in absurd (omega (arith, this, came))
-          ]
-    ] in
-    record { row = in_tick k (row_of (slice_index_or list f no_kept)); there = is.each k f to here; is = off f some.1 low }
+      one : 0 < came_by t list
+      one = elim (cases_lt 0 (came_by t list)) [
+        | inl more ↦ more
+        | inr none ↦
+            let zero_here : came_by t list ≡ 0 = omega (arith, none) in
+            let stops = prefix_len_stops (λ (x : Kept). nat_le x.tick t) list no_kept (omega (arith, zero_here, some)) in
+            absurd (true≢false (sym (le-leb (slice_index_or list 0 no_kept).tick t (first_came list kept.first some t)) ∙ (ap (λ e. nat_le (slice_index_or list e no_kept).tick t) (sym zero_here) ∙ stops)))
+      ]
 
--- the one that names it stands in its tick, or else stood before that one and stands still
-pub names_here : (rows : List Row) (cores c t : ℕ) (list : List Kept) (e end : ℕ) → IsFound rows cores c t list e end → (res : ResId) (m n : ℕ) → e ≤ m → m < length list → (slice_index_or list m no_kept).tick < end
-    → is_on res.0 (row_of (slice_index_or list m no_kept)).res ≡ true → n ≡ max (slice_index_or list m no_kept).tick t → Tells res rows (n * cores + c) true
-names_here rows cores c t list e end is res m n from within low on last =
-    let before = is.before in
-    record { row = in_tick n (row_of (slice_index_or list m no_kept)); there = is.each n m (omega (arith, last, low, before)) here; is = on }
-  where
-    late : n < (slice_index_or list m no_kept).tick + 1 → (k : Kept) → slice_get list (m + 1) ≡ Some k → n < k.tick
-    late own k there =
-        let rise = is.later m (m + 1) (omega arith) (slice_get_within list (m + 1) k there) in
-        let at = ap (λ (x : Kept). x.tick) (get_or_from_slice_get list (m + 1) k no_kept there) in
-        omega (arith, own, rise, at)
+  -- each that came by then is that one or stands before it
+  came_before : (t e f : ℕ) → IsInForce list t e → f < length list → (slice_index_or list f no_kept).tick ≤ t → f ≤ e
+  came_before t e f stands within came = elim (cases_lt e f) [
+    | inr past ↦ past
+    | inl less ↦
+        let next = stands.next (slice_index_or list (e + 1) no_kept) (slice_get-get_or list (e + 1) no_kept (omega (arith, less, within))) in
+        elim (cases_lt (e + 1) f) [
+          | inl far ↦ let rise = kept.later (e + 1) f far within in absurd (omega (arith, next, rise, came))
+          | inr near ↦ let late = subst (λ j. t < (slice_index_or list j no_kept).tick) (let same : e + 1 ≡ f = omega (arith, less, near) in same) next in absurd (omega (arith, late, came))
+        ]
+  ]
 
-    same : (slice_index_or list m no_kept).tick < t → m ≡ e
-    same early = elim (cases_lt e m) [
-      | inr past ↦ omega (arith, past, from)
-      | inl less ↦
-          let stands = is.stands in
-          let next = stands.next (slice_index_or list (e + 1) no_kept) (slice_get-get_or list (e + 1) no_kept (omega (arith, less, within))) in
-          elim (cases_lt (e + 1) m) [
-            | inl far ↦ let rise = is.later (e + 1) m far within in absurd (omega (arith, next, rise, early))
-            | inr near ↦ let this = subst (λ j. t < (slice_index_or list j no_kept).tick) (let here : e + 1 ≡ m = omega (arith, less, near) in here) next in absurd (omega (arith, this, early))
-          ]
-    ]
+  -- and the one that stands comes before each that comes later
+  stands_before : (t e f : ℕ) → IsInForce list t e → (f < length list → t < (slice_index_or list f no_kept).tick) → e < f
+  stands_before t e f stands after = elim (cases_lt e f) [
+    | inl less ↦ less
+    | inr past ↦
+        let within = stands.within in
+        let came = stands.came in
+        let late = after (omega (arith, past, within)) in
+        elim (cases_lt f e) [
+          | inl far ↦ let rise = kept.later f e far within in absurd (omega (arith, late, rise, came))
+          | inr near ↦ let this = subst (λ j. t < (slice_index_or list j no_kept).tick) (let same : f ≡ e = omega (arith, past, near) in same) late in absurd (omega (arith, this, came))
+        ]
+  ]
 
-    here : IsInForce list n m
-    here = elim (cases_lt (slice_index_or list m no_kept).tick t) [
-      | inl early ↦ subst (λ j. IsInForce list n j) (sym (same early)) (subst (λ k. IsInForce list k e) (let now : t ≡ n = omega (arith, last, early) in now) is.stands)
-      | inr own ↦ record { within = within; came = omega (arith, last); next = late (omega (arith, last, own)) }
-    ]
+  module _ (rows : List Row) (cores c : ℕ) (are : AreTurnsOf rows cores c list end) (t e : ℕ) (stands : IsInForce list t e) where
+    -- the row that stands in a tick stands until the core's next one that is kept, and until its turns end
+    pub stands_until : (s : Stretch) → s.row ≡ in_tick t (row_of (slice_index_or list e no_kept)) → t < s.until → ((k : Kept) → slice_get list (e + 1) ≡ Some k → s.until ≤ k.tick) → s.until ≤ end → Stands rows cores c t s
+    stands_until s row some next last = record {
+      some = some;
+      tick = ap (λ (r : Row). r.tick) row;
+      each = λ k from to.
+          let then_too : IsInForce list k e = record {
+            within = stands.within;
+            came = let came = stands.came in omega (arith, came, from);
+            next = λ x there. let ends = next x there in omega (arith, ends, to);
+          } in
+          are k e (omega (arith, to, last)) then_too ∙ sym (ap (λ r. Some (in_tick k r)) row);
+    }
+
+    -- before the first one that names a resource none does
+    pub names_not : (res : ResId) (m : ℕ) → ((f : ℕ) → e ≤ f → f < m → is_on res.0 (row_of (slice_index_or list f no_kept)).res ≡ false)
+        → (k : ℕ) → t ≤ k → k < end → (m < length list → k < (slice_index_or list m no_kept).tick) → IsOff res rows (k * cores + c)
+    names_not res m off k from to before r there =
+        let f = came_by k list - 1 in
+        let here = stands_by k (kept.some (omega (arith, to))) in
+        let came = stands.came in
+        let is = same_Some (in_tick k (row_of (slice_index_or list f no_kept))) r (sym (are k f to here) ∙ there) in
+        subst (λ (x : Row). is_on res.0 x.res ≡ false) is (off f (came_before k f e here stands.within (omega (arith, came, from))) (stands_before k f m here before))
+
+    -- the one that names it stands in its tick, or else stood before that one and stands still
+    pub names_here : (res : ResId) (m n : ℕ) → e ≤ m → m < length list → is_on res.0 (row_of (slice_index_or list m no_kept)).res ≡ true → n ≡ max (slice_index_or list m no_kept).tick t → n < end → IsOn res rows (n * cores + c)
+    names_here res m n from within on last low r there =
+        subst (λ (x : Row). is_on res.0 x.res ≡ true) (same_Some (in_tick n (row_of (slice_index_or list m no_kept))) r (sym (are n m low here) ∙ there)) on
+      where
+        late : n < (slice_index_or list m no_kept).tick + 1 → (k : Kept) → slice_get list (m + 1) ≡ Some k → n < k.tick
+        late own k next =
+            let rise = kept.later m (m + 1) (omega arith) (slice_get_within list (m + 1) k next) in
+            let at = ap (λ (x : Kept). x.tick) (get_or_from_slice_get list (m + 1) k no_kept next) in
+            omega (arith, own, rise, at)
+
+        here : IsInForce list n m
+        here = elim (cases_lt (slice_index_or list m no_kept).tick t) [
+          | inl early ↦
+              let same : m ≡ e = let past = came_before t e m stands within (omega (arith, early)) in omega (arith, past, from) in
+              subst (λ j. IsInForce list n j) (sym same) (subst (λ k. IsInForce list k e) (let now : t ≡ n = omega (arith, last, early) in now) stands)
+          | inr own ↦ record { within = within; came = omega (arith, last); next = late (omega (arith, last, own)) }
+        ]
 
 -- what a test adds as a number
 bit_tells : (c place more : ℕ) (b : Bool) → nat_lt c place ≡ b → more ≡ from_bool b → (more ≤ 1) × (0 < more → c < place)
@@ -215,6 +219,10 @@ before_end tick place cores c more k low is within =
       | inl less ↦ (let whole = mul-le-mul_right cores less in let next = next_tick k cores in omega (arith, whole, next, low))
       | inr past ↦ (let here : c < place = bit.1 (omega (arith, past, within)) in let same : k * cores ≡ tick * cores = ap (λ t. t * cores) (let last = bit.0 in omega (arith, past, within, last)) in omega (arith, here, same))
     ]
+
+-- one that had a turn by then had its first one
+pub had_turn : (tick place cores c more : ℕ) → c < cores → more ≡ from_bool (nat_lt c place) → (tick + more ≡ 0 → ⊥) → c < tick * cores + place
+had_turn tick place cores c more low is some = let first = before_end tick place cores c more 0 low is (omega (arith, some)) in omega (arith, first)
 
 -- ---- rows behind them
 pub get_left : {X : Type 0} (xs ys : List X) (i : ℕ) (x : X) → slice_get xs i ≡ Some x → slice_get (xs ++ ys) i ≡ Some x
@@ -270,7 +278,7 @@ module _ (lists : List (List Kept)) (cores n c : ℕ) (list : List Kept) (are : 
 
   -- where the one that stands is looked for from
   pub came_from : (t : ℕ) → (slice_index_or list 0 no_kept).tick ≤ t
-  came_from t = first_came n c list is_list t l.some
+  came_from t = first_came list is_list.first l.some t
 
   -- the row that is read of it
   pub row_read : (index e : ℕ) (row : Row) (rows : List Row) → index % cores ≡ c → index < n → IsInForce list (index / cores) e → row ≡ in_tick (index / cores) (row_of (slice_index_or list e no_kept)) → turns_told lists cores n ≡ rows
@@ -278,41 +286,12 @@ module _ (lists : List (List Kept)) (cores n c : ℕ) (list : List Kept) (are : 
   row_read index e row rows core within stands is view d =
       is ∙ (sym (stands_here n c list is_list (index / cores) e lists l.here stands) ∙ (ap (λ m. row_in lists m (index / cores)) (sym core) ∙ (sym (turn_at lists cores n index d within) ∙ ap (λ l. slice_index_or l index d) view)))
 
-  -- what is kept of the core, as it is found
-  pub found_there : (t e end : ℕ) (rows : List Row) → IsInForce list t e → t < end → ((k : ℕ) → k < end → k * cores + c < n) → turns_told lists cores n ≡ rows → IsFound rows cores c t list e end
-  found_there t e end rows stands before within view = record {
-    stands = stands;
-    before = before;
-    later = rises n c list is_list;
-    some = λ k from. (came_by k list - 1, after k from, stands_by n c list is_list k l.some);
-    each = λ k f low here.
-        let i = k * cores + c in
-        ap (λ m. slice_get m i) (sym view) ∙ (turn_get lists cores n i (within k low)
-        ∙ ap Some (ap (λ m. row_in lists m (i / cores)) (mod-mul-add k cores c l.low) ∙ (ap (row_in lists c) (div-mul-add k cores c l.low) ∙ stands_here n c list is_list k f lists l.here here)));
-  }
-    where
-      after : (k : ℕ) → t ≤ k → e ≤ came_by k list - 1
-      after k from = elim (cases_lt (came_by k list - 1) e) [
-        | inr past ↦ past
-        | inl less ↦
-            let f = came_by k list - 1 in
-            let here = stands_by n c list is_list k l.some in
-            let inside = stands.within in
-            let next = here.next (slice_index_or list (f + 1) no_kept) (slice_get-get_or list (f + 1) no_kept (omega (arith, less, inside))) in
-            let came = stands.came in
-            elim (cases_lt (f + 1) e) [
-              | inl far ↦ let rise = rises n c list is_list (f + 1) e far inside in absurd (omega (arith, next, rise, came, from))
-              | inr near ↦ let same : f + 1 ≡ e = omega (arith, less, near) in let late = subst (λ j. k < (slice_index_or list j no_kept).tick) same next in absurd (omega (arith, late, came, from))
-            ]
-      ]
+  -- the turns that are told of the core
+  pub kept_to : (end : ℕ) → AreKeptTo end list
+  kept_to end = record { later = rises n c list is_list; some = λ _. l.some; first = is_list.first }
 
--- ---- what is skipped, with rows behind
-tells_before : (turns rest : List Row) (res : ResId) (i : ℕ) (b : Bool) → Tells res turns i b → Tells res (turns ++ rest) i b
-tells_before turns rest res i b tells = record { row = tells.row; there = get_left turns rest i tells.row tells.there; is = tells.is }
-
-pub skips_before : (turns rest : List Row) (res : ResId) (cores c t : ℕ) (s : Skipped) → HasSkipped res turns cores c t s → HasSkipped res (turns ++ rest) cores c t s
-skips_before turns rest res cores c t s skipped = record {
-  from = skipped.from;
-  off = λ k from to. tells_before turns rest res (k * cores + c) false (skipped.off k from to);
-  on = λ names. tells_before turns rest res (s.tick * cores + c) true (skipped.on names);
-}
+  pub turns_of : (end : ℕ) (rows : List Row) → ((k : ℕ) → k < end → k * cores + c < n) → turns_told lists cores n ≡ rows → AreTurnsOf rows cores c list end
+  turns_of end rows within view k e low stands =
+      let i = k * cores + c in
+      ap (λ m. slice_get m i) (sym view) ∙ (turn_get lists cores n i (within k low)
+      ∙ ap Some (ap (λ m. row_in lists m (i / cores)) (mod-mul-add k cores c l.low) ∙ (ap (row_in lists c) (div-mul-add k cores c l.low) ∙ stands_here n c list is_list k e lists l.here stands)))

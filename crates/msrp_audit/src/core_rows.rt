@@ -6,13 +6,14 @@ ghost use Rattle.msrp_plan.specs.WellFormed.{IsPlan};
 ghost use Rattle.msrp_plan.specs.declared.rows.Row.{Row as TraceRow};
 ghost use Rattle.msrp_core.specs.Machine.{StandsAfter};
 ghost use Rattle.msrp_audit.specs.Inside.Pieces.{broken_action, broken_on_core, TellsFirst};
+ghost use Rattle.msrp_audit.specs.Inside.Stretches.{AreTurnsOf};
 ghost use Rattle.msrp_audit.specs.Inside.Walks.{HasFollowed, KeepsOrder, NextDoesAs, StandsAgain};
 
 use crate::auditor::is_own;
 use crate::comparing::unlike_turn;
 use crate::gathered::Rows;
 use crate::replies::{known_as, turn_as};
-use crate::stretches::Stretch;
+use crate::stretches::{CoreTurns, Stretch};
 use msrp_core::Machine;
 use msrp_levels::Levels;
 use msrp_plan::{CoreId, Fault, Memory, Plan, Row, Rule};
@@ -80,20 +81,20 @@ fn follow(plan: &Plan, machine: &mut Machine<'_>, row: Row) -> Option<Rule>
 #[inline(always)]
 fn row_at(
     rows: &Rows<'_>,
+    turns: &CoreTurns<'_>,
     cores: u32,
     core: CoreId,
     tick: u32,
     index: usize,
     near: &mut usize,
 ) -> Stretch
-    requires { index < length rows.now }
+    requires turns { AreTurnsOf rows.now cores core.0 turns.now.list.now turns.now.end }
+    requires index { index < length rows.now }
     ensures row { (d : TraceRow) → result.row ≡ slice_index_or rows.now index d }
     ensures again { StandsAgain cores rows.now result.row index (tick + 1) result.until }
 {
-    if tick as usize * cores as usize + core.0 as usize == index {
-        if let Some(stretch) = rows.stretch(cores, core, tick, near) {
-            return stretch;
-        }
+    if tick < turns.end && tick as usize * cores as usize + core.0 as usize == index {
+        return turns.stretch(tick, near);
     }
     Stretch {
         row: rows.row(index),
@@ -152,10 +153,11 @@ pub(crate) fn judge_core(
     let mut machine = Machine::with_room(alloc, plan, levels, core)?;
     let cores = plan.cores();
     let count = rows.len();
+    let turns = rows.of_core(cores, core);
     let mut near = 0;
     let mut index = 0;
     while index < count {
-        let first = row_at(rows, cores, core, machine.tick(), index, &mut near);
+        let first = row_at(rows, &turns, cores, core, machine.tick(), index, &mut near);
         let row = first.row;
         if row.core == core {
             if !is_in_turn(plan, &machine, row, index) {

@@ -1,14 +1,14 @@
 //! Rows that are gathered before they are judged, in as few bytes as they need.
-ghost use Rattle.std.specs.Prelude.{ℕ, ◌≡◌, ◌<◌, ◌≤◌, ◌++◌, ◌∷◌, [], ◌+◌, ◌*◌, drop, length, slice_get, slice_index_or, take, IfErr, IfOk, IfSome, OnOk, true};
+ghost use Rattle.std.specs.Prelude.{ℕ, ◌≡◌, ◌<◌, ◌≤◌, ◌++◌, ◌∷◌, [], ◌+◌, ◌*◌, drop, length, slice_get, slice_index_or, take, IfErr, IfOk, OnOk, true};
 ghost use Rattle.msrp_plan.specs.Queues.{is_on};
 ghost use Rattle.msrp_plan.specs.Stretches.{in_tick};
 ghost use Rattle.msrp_plan.specs.declared.rows.Row.{Row as TraceRow};
 ghost use Rattle.msrp_audit.specs.Gathering.{RepeatOthers, tick_rows};
-ghost use Rattle.msrp_audit.specs.Inside.Naming.{AreOff, HasSkipped};
-ghost use Rattle.msrp_audit.specs.Inside.Stretches.{AreTurns, Stands};
+ghost use Rattle.msrp_audit.specs.Inside.Naming.{AreOff};
+ghost use Rattle.msrp_audit.specs.Inside.Stretches.{AreTurns, AreTurnsOf};
 
 use crate::kept::KeptRow;
-use crate::stretches::{Skipped, Stretch, Stretches, TurnRows, naming_entry};
+use crate::stretches::{CoreTurns, Stretches, TurnRows, naming_entry};
 use crate::tick_rows::told;
 use msrp_plan::{CoreId, Memory, Plan, ResId, Row};
 use std::alloc::Global;
@@ -61,33 +61,11 @@ impl<'a> Rows<'a> {
         self.turns.in_order(cores)
     }
 
-    /// The row of a core in that tick, of so many cores, where it is one of those. Where it stands among those that are kept of the core is looked for from
-    /// there on, and noted.
-    #[inline(always)]
-    pub(crate) fn stretch(
-        &self,
-        cores: u32,
-        core: CoreId,
-        tick: u32,
-        near: &mut usize,
-    ) -> Option<Stretch>
-        ensures { IfSome result (Stands self.now cores core.0 tick) }
+    /// What is told of a core's turns, of so many cores, without a look at each row.
+    pub(crate) fn of_core(&self, cores: u32, core: CoreId) -> CoreTurns<'a>
+        ensures { AreTurnsOf self.now cores core.0 result.list.now result.end }
     {
-        self.turns.stretch(cores, core, tick, near)
-    }
-
-    /// Where a core's next row stands, from that tick on, that names the resource, of so many cores, as far as that is told without a look at each.
-    pub(crate) fn skip(
-        &self,
-        cores: u32,
-        core: CoreId,
-        res: ResId,
-        tick: u32,
-        near: &mut usize,
-    ) -> Skipped
-        ensures { HasSkipped res self.now cores core.0 tick result }
-    {
-        self.turns.skip(cores, core, res, tick, near)
+        self.turns.of_core(cores, core)
     }
 
     /// Whether the row at this index is the one at that last index in the next tick. It is told of rows in eight bytes alone.

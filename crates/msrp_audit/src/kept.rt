@@ -1,5 +1,5 @@
 //! A row in eight bytes.
-ghost use Rattle.std.specs.Prelude.{◌≡◌, ◌+◌, ℕ, true, false, IfSome};
+ghost use Rattle.std.specs.Prelude.{◌≡◌, ◌<◌, ◌+◌, ℕ, true, false, IfSome};
 ghost use Rattle.msrp_plan.specs.Queues.{is_on};
 ghost use Rattle.msrp_plan.specs.Stretches.{in_tick};
 ghost use Rattle.msrp_plan.specs.Shape.{ahead_of_kind, job_of_kind, res_of_kind};
@@ -58,22 +58,33 @@ fn number_of(kind: Kind) -> u64
     kind as u64
 }
 
+// The kinds, each in the place of its number. A number behind them is of none.
+const KINDS: [Kind; 16] = [
+    Kind::Idle,
+    Kind::Run,
+    Kind::Lock,
+    Kind::Unlock,
+    Kind::Take,
+    Kind::Queue,
+    Kind::Spin,
+    Kind::Grant,
+    Kind::Release,
+    Kind::Idle,
+    Kind::Idle,
+    Kind::Idle,
+    Kind::Idle,
+    Kind::Idle,
+    Kind::Idle,
+    Kind::Idle,
+];
+
 // The kind with that number.
 #[inline(always)]
 fn kind_with(number: u64) -> Kind
+    requires { number < 16 }
     ensures { result ≡ kind_numbered number }
 {
-    match number {
-        1 => Kind::Run,
-        2 => Kind::Lock,
-        3 => Kind::Unlock,
-        4 => Kind::Take,
-        5 => Kind::Queue,
-        6 => Kind::Spin,
-        7 => Kind::Grant,
-        8 => Kind::Release,
-        _ => Kind::Idle,
-    }
+    KINDS[number as usize]
 }
 
 // What stands for how many stand ahead: one more, and nothing where the row doesn't carry it.

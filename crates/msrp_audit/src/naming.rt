@@ -5,11 +5,11 @@ ghost use Rattle.msrp_plan.specs.declared.ids.JobId.{JobId as WaitingJob};
 ghost use Rattle.msrp_plan.specs.declared.ids.ResId.{ResId as Resource};
 ghost use Rattle.msrp_plan.specs.declared.rows.Row.{Row as TraceRow};
 ghost use Rattle.msrp_audit.specs.Inside.Naming.{AreBehind, FindsNext, IsNaming, IsNextNamed, IsOff, IsOn, IsPassed, IsQuiet, IsWaitFor, place_of, wait_of};
-ghost use Rattle.msrp_audit.specs.Inside.Stretches.{AreTurns, Stands};
 
 use crate::gathered::Rows;
+use crate::kept::KeptRow;
 use crate::queues::is_behind;
-use crate::stretches::Stretch;
+use crate::stretches::{CoreTurns, Stretch, Told};
 use msrp_plan::limits::MOST_CORES;
 use msrp_plan::{CoreId, JobId, Kind, Plan, ResId, Row};
 
@@ -30,12 +30,14 @@ struct Wait {
 /// The rows that name a resource. Where the cores have their turns in order, it is noted in which tick each core's next one stands: so a row that
 /// stands in many ticks is looked at once, if it names another resource or is a spin.
 #[derive(Clone, Copy)]
-pub(crate) struct Naming {
+pub(crate) struct Naming<'a> {
     cores: u32,
     // So many rows from the first on are turns in order.
     turns: usize,
     // Those before this place are behind us.
     from: usize,
+    // What is told of each core's turns.
+    told: Told<'a>,
     ticks: [u32; MOST_CORES as usize],
     // Where the core's row of that tick stands among those that are kept of it.
     nears: [usize; MOST_CORES as usize],
@@ -48,23 +50,6 @@ fn place_in(cores: u32, core: CoreId, tick: u32) -> usize
     ensures { result ≡ tick * cores + core.0 }
 {
     tick as usize * cores as usize + core.0 as usize
-}
-
-// The row of a core's turn in that tick, and the tick before which it stands.
-#[inline(always)]
-fn turn_of(rows: &Rows<'_>, cores: u32, core: CoreId, tick: u32, near: &mut usize) -> Stretch
-    requires there { tick * cores + core.0 < length rows.now }
-    requires few { tick + 1 < 2 ^ 32 }
-    requires tick { (r : TraceRow) → slice_get rows.now (tick * cores + core.0) ≡ Some r → r.tick ≡ tick }
-    ensures { Stands rows.now cores core.0 tick result }
-{
-    match rows.stretch(cores, core, tick, near) {
-        Some(stretch) => stretch,
-        None => Stretch {
-            row: rows.row(place_in(cores, core, tick)),
-            until: tick + 1,
-        },
-    }
 }
 
 // A spin stands for all in its stretch, and any other row for itself.
@@ -100,57 +85,42 @@ fn next_row(rows: &Rows<'_>, res: ResId, from: usize) -> Option<Named>
     None
 }
 
-impl Naming {
+impl<'a> Naming<'a> {
     /// Those of a resource, from the first row on.
-    pub(crate) fn of(plan: &Plan, rows: &Rows<'_>, res: ResId) -> Naming
+    pub(crate) fn of(plan: &Plan, rows: &Rows<'a>, res: ResId) -> Naming<'a>
         requires { length rows.now ≤ plan.now.cores * plan.now.ticks }
         ensures naming { IsNaming res rows.now result }
         ensures from { result.from ≡ 0 }
         ensures none { (c k : ℕ) → ¬ IsPassed result c k }
     {
         let cores = plan.cores();
-        let mut naming = Naming {
+        let mut turns = rows.in_order(cores);
+        let mut lists: [&'a [KeptRow]; MOST_CORES as usize] = [&[]; MOST_CORES as usize];
+        let mut ends = [0; MOST_CORES as usize];
+        let mut ticks = [0; MOST_CORES as usize];
+        let mut nears = [0; MOST_CORES as usize];
+        for core in 0..cores {
+            let told = rows.of_core(cores, CoreId(core));
+            let mut near = 0;
+            let tick = told.next_naming(res, 0, &mut near);
+            turns = turns.min(place_in(cores, CoreId(core), told.end));
+            lists[core as usize] = told.list;
+            ends[core as usize] = told.end;
+            ticks[core as usize] = tick;
+            nears[core as usize] = near;
+        }
+        Naming {
             cores,
-            turns: rows.in_order(cores),
+            turns,
             from: 0,
-            ticks: [0; MOST_CORES as usize],
-            nears: [0; MOST_CORES as usize],
+            told: Told { lists, ends },
+            ticks,
+            nears,
             waits: [Wait {
                 job: None,
                 until: 0,
             }; MOST_CORES as usize],
-        };
-        for core in 0..cores {
-            let mut near = 0;
-            let tick = naming.next_in(rows, res, CoreId(core), 0, &mut near);
-            naming.ticks[core as usize] = tick;
-            naming.nears[core as usize] = near;
         }
-        naming
-    }
-
-    // In which tick, from that one on, the core's next row stands that names the resource, among the turns in order, or one behind these.
-    fn next_in(&self, rows: &Rows<'_>, res: ResId, core: CoreId, tick: u32, near: &mut usize) -> u32
-        requires core { core.0 < self.now.cores }
-        requires turns { AreTurns self.now.cores rows.now self.now.turns }
-        requires few { length rows.now < 2 ^ 32 }
-        ensures from { tick ≤ result }
-        ensures off { (k : ℕ) → tick ≤ k → k < result → IsOff res rows.now (k * self.now.cores + core.0) }
-        ensures on { result * self.now.cores + core.0 < self.now.turns → IsOn res rows.now (result * self.now.cores + core.0) }
-    {
-        let skipped = rows.skip(self.cores, core, res, tick, near);
-        if skipped.names {
-            return skipped.tick;
-        }
-        let mut next = skipped.tick;
-        while place_in(self.cores, core, next) < self.turns {
-            let stretch = turn_of(rows, self.cores, core, next, near);
-            if stretch.row.res == Some(res) {
-                return next;
-            }
-            next = stretch.until;
-        }
-        next
     }
 
     // The place of the core's next one.
@@ -171,9 +141,12 @@ impl Naming {
         ensures first { (c : ℕ) → c < self.now.cores → place_of self.now result.0 ≤ place_of self.now c }
     {
         let mut first = 0;
+        let mut least = self.ticks[0];
         for core in 1..self.cores {
+            let tick = self.ticks[core as usize];
             // In one tick the core with the lower number comes first.
-            if self.ticks[core as usize] < self.ticks[first as usize] {
+            if tick < least {
+                least = tick;
                 first = core;
             }
         }
@@ -181,22 +154,26 @@ impl Naming {
     }
 
     // The next one, which is the turn of that core, and goes on behind it.
-    fn take(&mut self, rows: &Rows<'_>, res: ResId, core: CoreId) -> Named
-        requires few { length rows.now < 2 ^ 32 }
-        requires naming { IsNaming res rows.now self.old }
+    fn take(&mut self, res: ResId, core: CoreId) -> Named
         requires core { core.0 < self.old.cores }
         requires turn { place_of self.old core.0 < self.old.turns }
+        requires naming { (rows : List TraceRow) × IsNaming res rows self.old }
         requires first { (c : ℕ) → c < self.old.cores → place_of self.old core.0 ≤ place_of self.old c }
-        ensures found { IsNextNamed res rows.now (IsQuiet res rows.now self.old) self.old.from result }
-        ensures naming { IsNaming res rows.now self.new }
+        ensures found { (rows : List TraceRow) → IsNaming res rows self.old → IsNextNamed res rows (IsQuiet res rows self.old) self.old.from result }
+        ensures naming { (rows : List TraceRow) → IsNaming res rows self.old → IsNaming res rows self.new }
         ensures behind { (queue : List WaitingJob) → AreBehind queue self.old → is_reply_of queue result.row ≡ true → AreBehind queue self.new }
         ensures from { self.new.from ≡ result.place + 1 }
     {
+        let lists = &self.told.lists[..];
+        let told = CoreTurns {
+            list: lists[core.0 as usize],
+            end: self.told.ends[core.0 as usize],
+        };
         let tick = self.ticks[core.0 as usize];
         let mut near = self.nears[core.0 as usize];
-        let stretch = turn_of(rows, self.cores, core, tick, &mut near);
+        let stretch = told.stretch(tick, &mut near);
         let wait = wait_for(stretch);
-        let next = self.next_in(rows, res, core, wait.until, &mut near);
+        let next = told.next_naming(res, wait.until, &mut near);
         self.ticks[core.0 as usize] = next;
         self.nears[core.0 as usize] = near;
         self.waits[core.0 as usize] = wait;
@@ -220,7 +197,7 @@ impl Naming {
     {
         let core = self.first();
         if self.place(core) < self.turns {
-            return Some(self.take(rows, res, core));
+            return Some(self.take(res, core));
         }
         let named = next_row(rows, res, self.from.max(self.turns))?;
         self.from = named.place + 1;

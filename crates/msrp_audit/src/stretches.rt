@@ -1,14 +1,15 @@
 //! The rows of the first turns, which the cores have by their numbers in each tick. Of each core only those are kept that aren't its last row again.
-ghost use Rattle.std.specs.Prelude.{ℕ, ◌≡◌, ◌<◌, ◌≤◌, ◌++◌, ◌∷◌, [], ◌+◌, ◌*◌, ◌-◌, ◌^◌, drop, length, map, slice_get, slice_index_or, take, IfOk, IfSome, Ok, Some, true, false};
+ghost use Rattle.std.specs.Prelude.{ℕ, ◌≡◌, ◌<◌, ◌≤◌, ◌++◌, ◌∷◌, [], ◌+◌, ◌*◌, ◌-◌, ◌^◌, drop, length, map, slice_get, slice_index_or, take, IfOk, List, Ok, Some, true, false};
 ghost use Rattle.msrp_plan.specs.Queues.{is_on};
 ghost use Rattle.msrp_plan.specs.Stretches.{in_tick};
 ghost use Rattle.msrp_plan.specs.declared.rows.Row.{Row as TraceRow};
 ghost use Rattle.msrp_audit.specs.Inside.KeptView.{Kept};
 ghost use Rattle.msrp_audit.specs.Inside.Gathered.{row_of};
-ghost use Rattle.msrp_audit.specs.Inside.Naming.{HasSkipped};
-ghost use Rattle.msrp_audit.specs.Inside.Stretches.{AreListed, AreTurnLists, AreTurns, IsFound, IsInForce, Stands, lists_of, no_kept};
+ghost use Rattle.msrp_audit.specs.Inside.Naming.{SkipsTo};
+ghost use Rattle.msrp_audit.specs.Inside.Stretches.{AreKeptTo, AreListed, AreTurnLists, AreTurns, AreTurnsOf, IsInForce, Stands, lists_of, no_kept};
 
 use crate::kept::KeptRow;
+use msrp_plan::limits::MOST_CORES;
 use msrp_plan::{CoreId, Memory, Plan, ResId, Row};
 use msrp_sim::TickPlace;
 use std::alloc::Global;
@@ -43,19 +44,20 @@ pub(crate) struct Stretch {
     pub(crate) until: u32,
 }
 
-/// A tick before which no row of a core names a resource, and whether the one in it does; else nothing is known of that one.
+/// The turns that are told of one core: in each tick before the end its row is the last of the kept ones that came by then.
 #[derive(Clone, Copy)]
-pub(crate) struct Skipped {
-    pub(crate) tick: u32,
-    pub(crate) names: bool,
+pub(crate) struct CoreTurns<'a> {
+    pub(crate) list: &'a [KeptRow],
+    /// The tick before which it had them.
+    pub(crate) end: u32,
+    ghost kept: { AreKeptTo end list.now },
 }
 
-// The rows that are kept of a core, which of them stands in the tick in which it was looked for, and the tick before which the core had its turns.
+/// What is told of each core's turns, as [`CoreTurns`] holds it of one core.
 #[derive(Clone, Copy)]
-struct Found<'a> {
-    list: &'a [KeptRow],
-    entry: usize,
-    end: u32,
+pub(crate) struct Told<'a> {
+    pub(crate) lists: [&'a [KeptRow]; MOST_CORES as usize],
+    pub(crate) ends: [u32; MOST_CORES as usize],
 }
 
 // Which of a core's kept rows stands in that tick, where this one came by then.
@@ -143,89 +145,79 @@ impl<'a> Stretches<'a> {
         if cores == self.cores { self.len() } else { 0 }
     }
 
-    // The tick before which a core's kept row stands, where its turns end before that one.
-    #[inline(always)]
-    fn until(list: &[KeptRow], entry: usize, end: u32) -> u32
-        requires { entry < length list.now }
-        ensures end { result ≤ end }
-        ensures next { (k : Kept) → slice_get list.now (entry + 1) ≡ Some k → result ≤ k.tick }
-        ensures after { (t : ℕ) → t < end → IsInForce list.now t entry → t < result }
+    /// What is told of a core, of so many cores.
+    pub(crate) fn of_core(&self, cores: u32, core: CoreId) -> CoreTurns<'a>
+        ensures { AreTurnsOf self.now cores core.0 result.list.now result.end }
     {
-        match list.get(entry + 1) {
-            Some(next) => next.tick().min(end),
-            None => end,
+        let end = self.end.tick + u32::from(core.0 < self.end.place);
+        if cores != self.cores || core.0 >= cores || end == 0 {
+            return CoreTurns { list: &[], end: 0 };
+        }
+        CoreTurns {
+            list: self.lists[core.0 as usize].as_slice(),
+            end,
         }
     }
+}
 
-    // What is kept of a core, of so many cores, and which of it stands in that tick, if that is told. Where it stands is looked for from there on, and noted.
+impl<'a> CoreTurns<'a> {
+    // Which of the kept rows stands in that tick. It is looked for from this one on, where that came by then.
     #[inline(always)]
-    fn find(&self, cores: u32, core: CoreId, tick: u32, near: &mut usize) -> Option<Found<'a>>
-        ensures { IfSome result (λ f. IsFound self.now cores core.0 tick f.list.now f.entry f.end) }
+    fn entry(&self, tick: u32, near: usize) -> usize
+        requires { tick < self.now.end }
+        ensures { IsInForce self.now.list.now tick result }
     {
-        if cores != self.cores || core.0 >= cores {
-            return None;
-        }
-        let end = self.end.tick + u32::from(core.0 < self.end.place);
-        if tick >= end {
-            return None;
-        }
-        let list = self.lists[core.0 as usize].as_slice();
-        let from = match list.get(*near) {
-            Some(kept) if kept.tick() <= tick => *near,
+        let from = match self.list.get(near) {
+            Some(kept) if kept.tick() <= tick => near,
             _ => 0,
         };
-        let entry = entry_in(list, from, tick);
-        *near = entry;
-        Some(Found { list, entry, end })
+        entry_in(self.list, from, tick)
     }
 
-    /// The row of a core in that tick, of so many cores, if it is told. Where it stands among those that are kept of the core is looked for from there on,
-    /// and noted.
+    // The tick before which a kept row stands.
     #[inline(always)]
-    pub(crate) fn stretch(
-        &self,
-        cores: u32,
-        core: CoreId,
-        tick: u32,
-        near: &mut usize,
-    ) -> Option<Stretch>
-        ensures { IfSome result (Stands self.now cores core.0 tick) }
+    fn until(&self, entry: usize) -> u32
+        requires { entry < length self.now.list.now }
+        ensures end { result ≤ self.now.end }
+        ensures next { (k : Kept) → slice_get self.now.list.now (entry + 1) ≡ Some k → result ≤ k.tick }
+        ensures after { (t : ℕ) → t < self.now.end → IsInForce self.now.list.now t entry → t < result }
     {
-        let found = self.find(cores, core, tick, near)?;
-        Some(Stretch {
-            row: found.list[found.entry].row().in_tick(tick),
-            until: Self::until(found.list, found.entry, found.end),
-        })
+        match self.list.get(entry + 1) {
+            Some(next) => next.tick().min(self.end),
+            None => self.end,
+        }
     }
 
-    /// Where a core's next row stands, from that tick on, that names the resource, of so many cores, as far as that is told. Only the rows that are kept of
-    /// the core are looked at.
-    pub(crate) fn skip(
-        &self,
-        cores: u32,
-        core: CoreId,
-        res: ResId,
-        tick: u32,
-        near: &mut usize,
-    ) -> Skipped
-        ensures { HasSkipped res self.now cores core.0 tick result }
+    /// The row in that tick, where it had one. Where it stands among those that are kept is looked for from there on, and noted.
+    #[inline(always)]
+    pub(crate) fn stretch(&self, tick: u32, near: &mut usize) -> Stretch
+        requires { tick < self.now.end }
+        ensures { (rows : List TraceRow) (cores core : ℕ) → AreTurnsOf rows cores core self.now.list.now self.now.end → Stands rows cores core tick result }
     {
-        let Some(found) = self.find(cores, core, tick, near) else {
-            return Skipped { tick, names: false };
-        };
-        let named = naming_entry(found.list, found.entry, res);
-        match found.list.get(named) {
-            Some(kept) if kept.tick() < found.end => {
+        let entry = self.entry(tick, *near);
+        *near = entry;
+        Stretch {
+            row: self.list[entry].row().in_tick(tick),
+            until: self.until(entry),
+        }
+    }
+
+    /// The first tick from that one on in which its row names the resource, or one behind its turns. Only the rows that are kept are looked at, from there
+    /// on, which is noted.
+    #[inline(always)]
+    pub(crate) fn next_naming(&self, res: ResId, tick: u32, near: &mut usize) -> u32
+        ensures { (rows : List TraceRow) (cores core : ℕ) → AreTurnsOf rows cores core self.now.list.now self.now.end → SkipsTo res rows cores core tick self.now.end result }
+    {
+        if tick >= self.end {
+            return tick;
+        }
+        let named = naming_entry(self.list, self.entry(tick, *near), res);
+        match self.list.get(named) {
+            Some(kept) if kept.tick() < self.end => {
                 *near = named;
-                Skipped {
-                    tick: kept.tick().max(tick),
-                    names: true,
-                }
+                kept.tick().max(tick)
             }
-            _ => Skipped {
-                tick: found.end,
-                names: false,
-            },
+            _ => self.end,
         }
     }
 }

@@ -1,5 +1,6 @@
 -- The rows that name a resource, one after the other.
-use Rattle.std.specs.Prelude.{ℕ, Bool, List, Option, Some, None, true, false, length, slice_get, slice_index_or, ◌≡◌, ◌<◌, ◌≤◌, ◌+◌, ◌*◌, ◌/◌, ◌%◌, ◌⊎◌}
+use Rattle.std.specs.Prelude.{ℕ, List, Option, Some, None, true, false, length, slice_get, slice_index_or, ◌≡◌, ◌<◌, ◌≤◌, ◌+◌, ◌*◌, ◌/◌, ◌%◌, ◌⊎◌}
+use Rattle.std.specs.Borrow.{Bor}
 use Rattle.msrp_plan.specs.Queues.{is_behind, is_on}
 use Rattle.msrp_plan.specs.declared.ids.JobId.{JobId}
 use Rattle.msrp_plan.specs.declared.ids.ResId.{ResId}
@@ -8,9 +9,9 @@ use Rattle.msrp_plan.specs.declared.rows.Row.{Row}
 use Rattle.msrp_audit.specs.declared.naming.Named.{Named}
 use Rattle.msrp_audit.specs.declared.naming.Naming.{Naming}
 use Rattle.msrp_audit.specs.declared.naming.Wait.{Wait}
-use Rattle.msrp_audit.specs.declared.stretches.Skipped.{Skipped}
 use Rattle.msrp_audit.specs.declared.stretches.Stretch.{Stretch}
-use Rattle.msrp_audit.specs.Inside.Stretches.{AreTurns}
+use Rattle.msrp_audit.specs.Inside.KeptView.{Kept}
+use Rattle.msrp_audit.specs.Inside.Stretches.{AreKeptTo, AreTurns, AreTurnsOf}
 
 -- a row that stands there names the resource, or doesn't
 abbrev pub IsOn : ResId → List Row → ℕ → Type 0
@@ -19,17 +20,11 @@ IsOn res rows i = (r : Row) → slice_get rows i ≡ Some r → is_on res.0 r.re
 abbrev pub IsOff : ResId → List Row → ℕ → Type 0
 IsOff res rows i = (r : Row) → slice_get rows i ≡ Some r → is_on res.0 r.res ≡ false
 
--- a row stands there, which names it or doesn't
-pub record Tells (res : ResId) (rows : List Row) (i : ℕ) (names : Bool) : Type 0 where
-  pub row : Row
-  pub there : slice_get rows i ≡ Some row
-  pub is : is_on res.0 row.res ≡ names
-
--- no row of core c, of so many cores, names it from tick t on and before this one, in which one does, if that is told
-pub record HasSkipped (res : ResId) (rows : List Row) (cores c t : ℕ) (s : Skipped) : Type 0 where
-  pub from : t ≤ s.tick
-  pub off : (k : ℕ) → t ≤ k → k < s.tick → Tells res rows (k * cores + c) false
-  pub on : s.names ≡ true → Tells res rows (s.tick * cores + c) true
+-- of the turns of core c, of so many cores, which end before a tick, none names it from tick t on and before another, and there one does, or they have ended
+pub record SkipsTo (res : ResId) (rows : List Row) (cores c t end to : ℕ) : Type 0 where
+  pub from : t ≤ to
+  pub off : (k : ℕ) → t ≤ k → k < to → IsOff res rows (k * cores + c)
+  pub on : to < end → IsOn res rows (to * cores + c)
 
 -- each place from one on and before another is so
 abbrev pub Are : (ℕ → Type 0) → ℕ → ℕ → Type 0
@@ -93,6 +88,12 @@ AreBehind queue m = (c k : ℕ) → c < m.cores → IsPassed m c k → is_behind
 abbrev pub IsQuiet : ResId → List Row → Naming → ℕ → Type 0
 IsQuiet res rows m i = IsOff res rows i ⊎ IsPassed m (i % m.cores) (i / m.cores)
 
+-- what is told of core c, of so many cores, reaches as far as their n turns in order
+pub record IsTold (rows : List Row) (cores n c : ℕ) (list : List Kept) (end : ℕ) : Type 0 where
+  pub kept : AreKeptTo end list
+  pub turns : AreTurnsOf rows cores c list end
+  pub all : n ≤ end * cores + c
+
 -- ---- of each core it is noted which of its turns are passed over, and which is the next one behind these that names the resource
 pub record IsNaming (res : ResId) (rows : List Row) (m : Naming) : Type 0 where
   pub some : 0 < m.cores
@@ -101,5 +102,8 @@ pub record IsNaming (res : ResId) (rows : List Row) (m : Naming) : Type 0 where
   pub nears : length m.nears ≡ 8
   pub waits : length m.waits ≡ 8
   pub turns : AreTurns m.cores rows m.turns
+  pub lists : length m.told.lists ≡ 8
+  pub ends : length m.told.ends ≡ 8
+  pub told : (c : ℕ) (d : Bor (List Kept)) → c < m.cores → IsTold rows m.cores m.turns c (slice_index_or m.told.lists c d).now (slice_index_or m.told.ends c 0)
   pub passed : (c k : ℕ) → c < m.cores → IsPassed m c k → IsSpin res (wait_of m c).job rows (k * m.cores + c)
   pub next : (c : ℕ) → c < m.cores → IsNextTurn res rows m.cores m.turns m.from (wait_of m c).until c (slice_index_or m.ticks c 0)

@@ -39,13 +39,11 @@ pub record IsInForce (list : List Kept) (t e : ℕ) : Type 0 where
   pub came : (slice_index_or list e no_kept).tick ≤ t
   pub next : (k : Kept) → slice_get list (e + 1) ≡ Some k → t < k.tick
 
--- this is what is kept of core c of so many cores, one row for a tick at most: before the end the core's row is the one that stands, in tick t this one
-pub record IsFound (rows : List Row) (cores c t : ℕ) (list : List Kept) (e end : ℕ) : Type 0 where
-  pub stands : IsInForce list t e
-  pub before : t < end
+-- they are kept by their ticks, one for a tick at most, and where there are turns before the end from the first tick on
+pub record AreKeptTo (end : ℕ) (list : List Kept) : Type 0 where
   pub later : (i j : ℕ) → i < j → j < length list → (slice_index_or list i no_kept).tick < (slice_index_or list j no_kept).tick
-  pub some : (k : ℕ) → t ≤ k → (f : ℕ) × (e ≤ f) × IsInForce list k f
-  pub each : (k f : ℕ) → k < end → IsInForce list k f → slice_get rows (k * cores + c) ≡ Some (in_tick k (row_of (slice_index_or list f no_kept)))
+  pub some : 0 < end → 0 < length list
+  pub first : (k : Kept) → slice_get list 0 ≡ Some k → k.tick ≡ 0
 
 -- what is kept of core c, which had a turn among the first n, is of this core, one row for a tick at most, from the first tick on
 pub record IsTurnList (n c : ℕ) (list : List Kept) : Type 0 where
@@ -80,3 +78,7 @@ pub record Stands (rows : List Row) (cores c t : ℕ) (s : Stretch) : Type 0 whe
   pub some : t < s.until
   pub tick : s.row.tick ≡ t
   pub each : (k : ℕ) → t ≤ k → k < s.until → slice_get rows (k * cores + c) ≡ Some (in_tick k s.row)
+
+-- they are the turns of core c, of so many cores: in each tick before the end its row is the one that stands of those that are kept
+abbrev pub AreTurnsOf : List Row → ℕ → ℕ → List Kept → ℕ → Type 0
+AreTurnsOf rows cores c list end = (k e : ℕ) → k < end → IsInForce list k e → slice_get rows (k * cores + c) ≡ Some (in_tick k (row_of (slice_index_or list e no_kept)))
