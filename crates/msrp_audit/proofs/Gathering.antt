@@ -14,17 +14,6 @@ use Rattle.msrp_plan.proofs.Legality.SameRow.{same_row}
 use Rattle.msrp_audit.specs.Inside.KeptView.{Kept, kept_view}
 use Rattle.msrp_audit.specs.Inside.Gathered.{ahead_in, ahead_number, carries_in, job_in, kind_numbered, number_of_kind, res_in, row_of, rows_of}
 
--- in a longer table the places behind the kinds are of none
-all_idle : (m n : ℕ) → get_or (replicate m Idle) n Idle ≡ Idle
-all_idle zero n = refl
-all_idle (suc m) zero = refl
-all_idle (suc m) (suc n) = all_idle m n
-
-pub same_kind : (ks : List Kind) (m n : ℕ) → get_or (ks ++ replicate m Idle) n Idle ≡ get_or ks n Idle
-same_kind [] m n = all_idle m n
-same_kind (k ∷ ks) m zero = refl
-same_kind (k ∷ ks) m (suc n) = same_kind ks m n
-
 -- what is kept of a row, by way of the job and the resource that stand in place of those that it lacks
 pub record Keeps (row : Row) (j : JobId) (g : ResId) (e : Kept) : Type 0 where
   pub tick : e.tick ≡ row.tick

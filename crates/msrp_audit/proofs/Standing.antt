@@ -4,7 +4,7 @@ use Rattle.std.specs.Global.{Global}
 use Rattle.std.specs.Int.{from_bool}
 use Rattle.std.specs.Option.{option_map}
 use Rattle.std.proofs.Math.Bool.{true≢false}
-use Rattle.std.proofs.Math.Nat.{mul-le-mul_right}
+use Rattle.std.proofs.Math.Nat.{mod-le, mul-le-mul_right}
 use Rattle.std.proofs.lemmas.Bool.{cases_lt, le-leb, leb-false, leb-true, lt-leb, ltb-true}
 use Rattle.std.proofs.lemmas.List.{get_or-map, length-map}
 use Rattle.std.proofs.lemmas.List.Elements.{All-get_or}
@@ -72,6 +72,10 @@ module _ (n c : ℕ) (list : List Kept) (is : IsTurnList n c list) where
 module _ (lists : List (List Kept)) (cores n : ℕ) where
   pub turns_size : length (turns_told lists cores n) ≡ n
   turns_size = length-map-range_with_len (λ i. row_in lists (i % cores) (i / cores)) 0 n
+
+  -- a row that is told is one of so many
+  pub told_within : (rows : List Row) (i : ℕ) → turns_told lists cores n ≡ rows → i < length rows → i < n
+  told_within rows i view within = let size = turns_size in let all = ap length view in omega (arith, size, all, within)
 
   pub turn_at : (i : ℕ) (d : Row) → i < n → slice_index_or (turns_told lists cores n) i d ≡ row_in lists (i % cores) (i / cores)
   turn_at i d within = get_or-map-range_with_len (λ j. row_in lists (j % cores) (j / cores)) 0 n i i d within (omega arith)
@@ -267,10 +271,21 @@ pub record IsListOf (lists : List (List Kept)) (cores c : ℕ) (list : List Kept
 pub list_there : (lists : List (Vec Kept Global)) (cores n c : ℕ) → AreTurnLists cores n (lists_of lists) → c < cores → c < n → c < length lists
 list_there lists cores n c are low some = let all = are.all (omega (arith, some)) in let size = length-map lists (λ (v : Vec Kept Global). v.items) in omega (arith, all, size, low)
 
-pub list_read : (lists : List (Vec Kept Global)) (cores n c : ℕ) (d : Vec Kept Global) (list : List Kept) → AreTurnLists cores n (lists_of lists) → c < cores → c < n → list ≡ (slice_index_or lists c d).items → IsListOf (lists_of lists) cores c list
+list_read : (lists : List (Vec Kept Global)) (cores n c : ℕ) (d : Vec Kept Global) (list : List Kept) → AreTurnLists cores n (lists_of lists) → c < cores → c < n → list ≡ (slice_index_or lists c d).items → IsListOf (lists_of lists) cores c list
 list_read lists cores n c d list are low some value =
     let here : list_of (lists_of lists) c ≡ list = get_or-map (λ (v : Vec Kept Global). v.items) lists c d [] (list_there lists cores n c are low some) ∙ sym value in
     record { low = low; here = here; some = subst (λ l. 0 < length l) here ((are.each c low).some some) }
+
+-- that of the core of a row
+pub list_at : (lists : List (Vec Kept Global)) (cores n i : ℕ) (d : Vec Kept Global) (list : List Kept) (rows : List Row) → AreTurnLists cores n (lists_of lists) → turns_told (lists_of lists) cores n ≡ rows → i < length rows → list ≡ (slice_index_or lists (i % cores) d).items → IsListOf (lists_of lists) cores (i % cores) list
+list_at lists cores n i d list rows are view some value =
+    let within = told_within (lists_of lists) cores n rows i view some in
+    let least = mod-le i cores in
+    list_read lists cores n (i % cores) d list are (core_below (lists_of lists) cores n are i) (omega (arith, within, least)) value
+
+-- that of a core that had a turn by then
+pub list_by : (lists : List (Vec Kept Global)) (cores tick place c more : ℕ) (d : Vec Kept Global) (list : List Kept) → AreTurnLists cores (tick * cores + place) (lists_of lists) → c < cores → more ≡ from_bool (nat_lt c place) → (tick + more ≡ 0 → ⊥) → list ≡ (slice_index_or lists c d).items → IsListOf (lists_of lists) cores c list
+list_by lists cores tick place c more d list are low is some value = list_read lists cores (tick * cores + place) c d list are low (had_turn tick place cores c more low is some) value
 
 module _ (lists : List (List Kept)) (cores n c : ℕ) (list : List Kept) (are : AreTurnLists cores n lists) (l : IsListOf lists cores c list) where
   is_list : IsTurnList n c list

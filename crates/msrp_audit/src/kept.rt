@@ -1,5 +1,5 @@
 //! A row in eight bytes.
-ghost use Rattle.std.specs.Prelude.{◌≡◌, ◌<◌, ◌+◌, ℕ, true, false, IfSome};
+ghost use Rattle.std.specs.Prelude.{◌≡◌, ◌+◌, ℕ, true, false, IfSome};
 ghost use Rattle.msrp_plan.specs.Queues.{is_on};
 ghost use Rattle.msrp_plan.specs.Stretches.{in_tick};
 ghost use Rattle.msrp_plan.specs.Shape.{ahead_of_kind, job_of_kind, res_of_kind};
@@ -58,8 +58,8 @@ fn number_of(kind: Kind) -> u64
     kind as u64
 }
 
-// The kinds, each in the place of its number. A number behind them is of none.
-const KINDS: [Kind; 16] = [
+// The kinds, each in the place of its number.
+const KINDS: [Kind; 9] = [
     Kind::Idle,
     Kind::Run,
     Kind::Lock,
@@ -69,22 +69,17 @@ const KINDS: [Kind; 16] = [
     Kind::Spin,
     Kind::Grant,
     Kind::Release,
-    Kind::Idle,
-    Kind::Idle,
-    Kind::Idle,
-    Kind::Idle,
-    Kind::Idle,
-    Kind::Idle,
-    Kind::Idle,
 ];
 
 // The kind with that number.
 #[inline(always)]
 fn kind_with(number: u64) -> Kind
-    requires { number < 16 }
     ensures { result ≡ kind_numbered number }
 {
-    KINDS[number as usize]
+    match KINDS.get(number as usize) {
+        Some(kind) => *kind,
+        None => Kind::Idle,
+    }
 }
 
 // What stands for how many stand ahead: one more, and nothing where the row doesn't carry it.

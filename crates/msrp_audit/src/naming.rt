@@ -9,7 +9,7 @@ ghost use Rattle.msrp_audit.specs.Inside.Naming.{AreBehind, FindsNext, IsNaming,
 use crate::gathered::Rows;
 use crate::kept::KeptRow;
 use crate::queues::is_behind;
-use crate::stretches::{CoreTurns, Stretch, Told};
+use crate::stretches::{AllTurns, CoreTurns, Stretch};
 use msrp_plan::limits::MOST_CORES;
 use msrp_plan::{CoreId, JobId, Kind, Plan, ResId, Row};
 
@@ -37,7 +37,7 @@ pub(crate) struct Naming<'a> {
     // Those before this place are behind us.
     from: usize,
     // What is told of each core's turns.
-    told: Told<'a>,
+    told: AllTurns<'a>,
     ticks: [u32; MOST_CORES as usize],
     // Where the core's row of that tick stands among those that are kept of it.
     nears: [usize; MOST_CORES as usize],
@@ -113,7 +113,7 @@ impl<'a> Naming<'a> {
             cores,
             turns,
             from: 0,
-            told: Told { lists, ends },
+            told: AllTurns { lists, ends },
             ticks,
             nears,
             waits: [Wait {

@@ -55,7 +55,7 @@ pub(crate) struct CoreTurns<'a> {
 
 /// What is told of each core's turns, as [`CoreTurns`] holds it of one core.
 #[derive(Clone, Copy)]
-pub(crate) struct Told<'a> {
+pub(crate) struct AllTurns<'a> {
     pub(crate) lists: [&'a [KeptRow]; MOST_CORES as usize],
     pub(crate) ends: [u32; MOST_CORES as usize],
 }
