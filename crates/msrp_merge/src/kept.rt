@@ -1,5 +1,5 @@
 //! A turn as a log keeps it, in as few bytes as it needs.
-ghost use Rattle.std.specs.Prelude.{◌≡◌};
+ghost use Rattle.std.specs.Prelude.{◌≡◌, is_some};
 ghost use Rattle.msrp_plan.specs.Shape.{ahead_of_kind, job_of_kind, res_of_kind};
 ghost use Rattle.msrp_merge.specs.Keeping.{place_of_touch, turn_of};
 
@@ -93,6 +93,13 @@ impl Kept {
             Kind::Queue if self.carries => Some(self.ahead),
             _ => None,
         }
+    }
+
+    /// Whether the turn has a place.
+    pub(crate) fn is_placed(&self) -> bool
+        ensures { result ≡ is_some (place_of_touch self.now.touch self.now.number) }
+    {
+        self.touch != Touch::Nothing
     }
 
     fn place(&self) -> Option<Place>

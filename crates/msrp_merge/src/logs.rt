@@ -1,6 +1,7 @@
 //! What a core did, turn by turn.
 ghost use Rattle.std.specs.Prelude.{◌≡◌, ◌<◌, ◌++◌, ◌∷◌, [], length, slice_index_or, IfOk};
 ghost use Rattle.msrp_merge.specs.declared.logs.Turn.{Turn as TurnAt};
+ghost use Rattle.msrp_merge.specs.Turns.{has_place};
 
 use crate::kept::Kept;
 use msrp_plan::{CoreId, Memory, Row};
@@ -82,6 +83,15 @@ impl CoreLog {
         ensures { result ≡ length self.now.turns }
     {
         self.kept.len()
+    }
+
+    /// Whether the turn of a tick has a place.
+    pub(crate) fn is_placed(&self, tick: u32) -> bool
+        requires { tick < length self.now.turns }
+        ensures placed { (d : TurnAt) → result ≡ has_place (slice_index_or self.now.turns tick d) }
+        ensures core { (d : TurnAt) → (slice_index_or self.now.turns tick d).row.core.0 ≡ self.now.core }
+    {
+        self.kept[tick as usize].is_placed()
     }
 
     /// The turn of a tick.

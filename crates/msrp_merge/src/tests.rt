@@ -65,7 +65,8 @@ fn step(tick: u32, core: u32, kind: Kind, number: u32) -> Turn
 
 /// The log of a core with these turns.
 fn log_of(rt: &impl Abort, alloc: Global, core: u32, turns: &[Turn]) -> CoreLog
-    ensures { length result.turns ≡ length turns.now }
+    ensures turns { length result.turns ≡ length turns.now }
+    ensures core { result.core ≡ core }
 {
     let Ok(mut log) = CoreLog::with_room(alloc, CoreId(core), TICKS) else {
         panic!(rt; "no memory")
