@@ -1,5 +1,5 @@
 -- What is kept of a row tells it; and of the rows that are kept so the first ones.
-use Rattle.std.proofs.Common.{◌<◌, ◌*◌, ◌^◌, refl, Option, None, Some, nat_lt, ◌+◌, ◌≡◌, ℕ, zero, suc, ◌-◌, List, [], ◌∷◌, ◌++◌, get_or, replicate, length, map, min, take, is_some, ap, sym, ◌∙◌, arith}
+use Rattle.std.proofs.Common.{◌<◌, ◌*◌, ◌^◌, refl, Option, None, Some, nat_lt, ◌+◌, ◌≡◌, ℕ, zero, suc, ◌-◌, List, [], ◌∷◌, ◌++◌, length, map, min, take, is_some, ap, sym, ◌∙◌, arith}
 use Rattle.std.proofs.lemmas.List.{length-map, take-map, take_min}
 use Rattle.std.proofs.lemmas.Bool.{lt-ltb}
 use Rattle.std.specs.Option.{unwrap_or}

@@ -1,4 +1,4 @@
-use Rattle.std.proofs.Common.{◌+◌, ◌*◌, ◌/◌, ◌%◌, ◌<◌, ap, ◌∙◌, refl, arith}
+use Rattle.std.proofs.Common.{◌+◌, ◌*◌, ◌/◌, ◌%◌, ap, ◌∙◌, refl, arith}
 use Rattle.msrp_plan.specs.Stretches.{in_tick}
 use Rattle.std.proofs.lemmas.List.{get_or_default}
 use Rattle.msrp_audit.specs.Inside.Gathered.{row_of}
