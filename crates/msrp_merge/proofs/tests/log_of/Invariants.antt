@@ -2,4 +2,4 @@ use Rattle.std.proofs.Common.{◌≡◌, length}
 use Rattle.msrp_merge.proofs.tests.log_of.Given as goal
 
 abbrev pub invariant-loop-turn : goal.invariant-loop-turn
-invariant-loop-turn g l = length l.log.turns ≡ l.turn-index
+invariant-loop-turn g l = (length l.log.turns ≡ l.turn-index) × (l.log.core ≡ l.core)
