@@ -1,6 +1,5 @@
 -- How the calls of the builder make a well-formed plan.
 pub mod Stored
-pub mod StoredUnits
 pub mod Faultless
 pub mod Scan
 pub mod Drafts

@@ -1,5 +1,4 @@
 -- Words of private functions, and of how plans and tasks are stored. No public contract speaks of them.
-pub mod TaskUnits
 pub mod Tasks
 pub mod Users
 pub mod Views

@@ -21,7 +21,6 @@ use crate::limits::{
 use crate::names::is_name;
 use crate::parts::Parts;
 use crate::plans::Plan;
-use crate::task_units::TaskUnits;
 use crate::tasks::{Task, add_release, add_task, add_units};
 use crate::times::Releases;
 use crate::units::{Op, Step};
@@ -144,7 +143,7 @@ impl PlanBuilder {
             core,
             releases,
             deadline,
-            units: TaskUnits::new(self.alloc),
+            units: Vec::new(self.alloc),
         };
         add_task(self.alloc, &mut self.parts.tasks, name, task)?;
         Ok(TaskId(number))
@@ -376,7 +375,7 @@ impl PlanBuilder {
         ensures { result ≡ nests_global self.now (task_at self.now task).units }
     {
         let mut holding = false;
-        let units = self.parts.tasks[task].units.all();
+        let units = self.parts.tasks[task].lent_units();
         for place in 0..units.len() {
             let unit = units.unit(place);
             if is_nested_lock(holding, unit, globals) {

@@ -164,7 +164,7 @@ impl Plan {
         requires { task.0 < length self.now.tasks }
         ensures { result ≡ (task_at self.now task.0).units }
     {
-        self.named_task(task).1.units.all()
+        self.named_task(task).1.lent_units()
     }
 
     /// A unit of a task, by its place from 0.

@@ -1,117 +1,42 @@
-//! The units of a task, as they are stored.
-ghost use Rattle.std.specs.Prelude.{◌≡◌, ◌≢◌, ◌<◌, ◌≤◌, ◌+◌, ◌++◌, [], ℕ, Some, length, nat_eq, replicate, slice_get, OnOk, OnErr};
+//! The units of a task, as they are read.
+ghost use Rattle.std.specs.Prelude.{◌≡◌, ◌≢◌, ◌<◌, ◌≤◌, ◌+◌, [], ℕ, Some, length, slice_get, true, false};
 ghost use Rattle.msrp_plan.specs.declared.units.Op.TheVariants.{Run};
-ghost use Rattle.msrp_plan.specs.Inside.TaskUnits.{stored_as};
 
-use crate::ids::ResId;
 use crate::units::Op;
-use std::alloc::{AllocError, Global};
 use std::marker::Model;
 
-// A unit. One of work tells how many are left of those that were added at once, itself among them.
-#[derive(Clone, Copy, Debug)]
-pub(crate) enum Stored {
-    Run(u32),
-    Lock(ResId),
-    Unlock(ResId),
-}
-
-fn stored_as(unit: Op, left: u32) -> Stored
-    ensures { result ≡ stored_as unit left }
-{
-    match unit {
-        Op::Run => Stored::Run(left),
-        Op::Lock(res) => Stored::Lock(res),
-        Op::Unlock(res) => Stored::Unlock(res),
-    }
-}
-
-/// The units of a task, which tell how many units of work stand one after another without a look at each.
-#[derive(Debug, Drop)]
-pub(crate) struct TaskUnits {
-    units: Vec<Stored>,
-}
-
-impl Model for TaskUnits {
-    ghost use Rattle.std.specs.Prelude.{List, map};
-    ghost use Rattle.msrp_plan.specs.declared.units.Op.{Op};
-    ghost use Rattle.msrp_plan.specs.Inside.TaskUnits.{AreCounted, op_of};
-
-    ghost Value = { List Op };
-
-    ghost view = { λ units. map op_of units.units.items };
-
-    ghost invariant = { λ units. AreCounted units.units.items };
-}
-
-impl TaskUnits {
-    pub(crate) fn new(alloc: Global) -> TaskUnits
-        ensures { result ≡ [] }
-    {
-        TaskUnits {
-            units: Vec::new(alloc),
-        }
-    }
-
-    pub(crate) fn len(&self) -> usize
-        ensures { result ≡ length self.now }
-    {
-        self.units.len()
-    }
-
-    pub(crate) fn is_empty(&self) -> bool
-        ensures { result ≡ nat_eq (length self.now) 0 }
-    {
-        self.units.is_empty()
-    }
-
-    /// All of them, to be read.
-    pub(crate) fn all(&self) -> Units<'_>
-        ensures { result ≡ self.now }
-    {
-        Units { units: &self.units }
-    }
-
-    /// Adds so many units of one kind.
-    pub(crate) fn add(&mut self, count: u32, unit: Op) -> Result<(), AllocError>
-        ensures added { OnOk result (self.new ≡ self.old ++ replicate count unit) }
-        ensures kept { OnErr result (self.new ≡ self.old) }
-    {
-        self.units.reserve(count as usize)?;
-        for i in 0..count {
-            self.units.push_reserved(stored_as(unit, count - i));
-        }
-        Ok(())
-    }
-}
-
-// What stands at a place.
-fn stored_at(units: &[Stored], place: usize) -> Stored
+// The unit at a place.
+fn unit_at(units: &[Op], place: usize) -> Op
     requires { place < length units.now }
     ensures { slice_get units.now place ≡ Some result }
 {
     units[place]
 }
 
-/// The units of a task, as [`Plan::units_of`](crate::Plan::units_of) lends them: whoever reads several looks for the task once.
+/// The units of a task, as [`Plan::units_of`](crate::Plan::units_of) lends them: whoever reads
+/// several looks for the task once.
 #[derive(Drop)]
 pub struct Units<'a> {
-    units: &'a [Stored],
+    units: &'a [Op],
 }
 
 impl<'a> Model for Units<'a> {
-    ghost use Rattle.std.specs.Prelude.{List, map};
+    ghost use Rattle.std.specs.Prelude.{List};
     ghost use Rattle.msrp_plan.specs.declared.units.Op.{Op};
-    ghost use Rattle.msrp_plan.specs.Inside.TaskUnits.{AreCounted, op_of};
 
     ghost Value = { List Op };
 
-    ghost view = { λ units. map op_of units.units.now };
-
-    ghost invariant = { λ units. AreCounted units.units.now };
+    ghost view = { λ units. units.units.now };
 }
 
 impl<'a> Units<'a> {
+    /// All of these units.
+    pub(crate) fn all(units: &'a [Op]) -> Units<'a>
+        ensures { result ≡ units.now }
+    {
+        Units { units }
+    }
+
     /// No units.
     pub fn none() -> Units<'a>
         ensures { result ≡ [] }
@@ -131,27 +56,15 @@ impl<'a> Units<'a> {
         requires { place < length self.now }
         ensures { slice_get self.now place ≡ Some result }
     {
-        match stored_at(self.units, place) {
-            Stored::Run(_) => Op::Run,
-            Stored::Lock(res) => Op::Lock(res),
-            Stored::Unlock(res) => Op::Unlock(res),
-        }
+        unit_at(self.units, place)
     }
 
-    // How many units of work are left at a place of those that were added at once: none where no unit of work stands there.
-    fn left_at(&self, place: usize) -> u32
-        ensures none { result ≡ 0 → slice_get self.now place ≢ Some Run }
-        ensures work { (j : ℕ) → j < result → slice_get self.now (place + j) ≡ Some Run }
+    // Whether the unit at a place is work.
+    fn is_work(&self, place: usize) -> bool
+        ensures works { result ≡ true → slice_get self.now place ≡ Some Run }
+        ensures other { result ≡ false → slice_get self.now place ≢ Some Run }
     {
-        let Some(stored) = self.units.get(place) else {
-            return 0;
-        };
-        // Each kind of unit has a number at the same place, so that it is read without a jump.
-        let (works, number) = match stored {
-            Stored::Run(left) => (true, *left),
-            Stored::Lock(res) | Stored::Unlock(res) => (false, res.0),
-        };
-        if works { number } else { 0 }
+        matches!(self.units.get(place), Some(Op::Run))
     }
 
     /// How many units from a place on are work, one after another, of at most so many.
@@ -160,13 +73,10 @@ impl<'a> Units<'a> {
         ensures work { (i : ℕ) → place ≤ i → i < place + result → slice_get self.now i ≡ Some Run }
         ensures next { result < most → slice_get self.now (place + result) ≢ Some Run }
     {
-        let first = place as usize;
-        let end = self.units.len().min(first + most as usize);
-        // Most work was added at once, and where it ends is told without a jump. Seldom more stands behind it.
-        let mut next = first + self.left_at(first) as usize;
-        while next < end && self.left_at(next) > 0 {
-            next += self.left_at(next) as usize;
+        let mut count = 0;
+        while count < most && self.is_work(place as usize + count as usize) {
+            count += 1;
         }
-        next.min(end).saturating_sub(first) as u32
+        count
     }
 }

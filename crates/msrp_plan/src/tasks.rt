@@ -5,7 +5,7 @@ ghost use Rattle.msrp_plan.specs.Names.{has_name};
 ghost use Rattle.msrp_plan.specs.Inside.Tasks.{named_view, task_view};
 
 use crate::ids::CoreId;
-use crate::task_units::TaskUnits;
+use crate::task_units::Units;
 use crate::times::Releases;
 use crate::units::Op;
 use indexmap::IndexMap;
@@ -17,16 +17,24 @@ pub(crate) struct Task {
     pub(crate) core: CoreId,
     pub(crate) releases: Releases,
     pub(crate) deadline: u32,
-    pub(crate) units: TaskUnits,
+    pub(crate) units: Vec<Op>,
 }
 
 impl Task {
+    // Its units, to be read.
+    pub(crate) fn lent_units(&self) -> Units<'_>
+        ensures { result ≡ self.now.units.items }
+    {
+        Units::all(&self.units)
+    }
+
     // More units of one kind.
     pub(crate) fn add_units(&mut self, count: u32, unit: Op) -> Result<(), AllocError>
         ensures added { OnOk result ((name : List ℕ) → named_view name self.new ≡ with_more_units (replicate count unit) (named_view name self.old)) }
         ensures kept { OnErr result ((name : List ℕ) → named_view name self.new ≡ named_view name self.old) }
     {
-        self.units.add(count, unit)
+        let size = self.units.len() + count as usize;
+        self.units.resize(size, unit)
     }
 
     // One release more.

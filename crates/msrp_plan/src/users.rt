@@ -51,7 +51,7 @@ fn add_user(users: &mut [Users; MOST_RESOURCES], res: ResId, core: CoreId)
 fn add_task(users: &mut [Users; MOST_RESOURCES], task: &Task)
     ensures { (on : ℕ → ℕ → Bool) → EachIsOn on users.old → EachIsOn (λ g c. on g c || is_user_on g c task.now) users.new }
 {
-    let units = task.units.all();
+    let units = task.lent_units();
     for place in 0..units.len() {
         if let Op::Lock(res) = units.unit(place) {
             add_user(users, res, task.core);

@@ -1,21 +1,16 @@
 -- Which resources are global: those whose users are apart, and none that isn't declared; and their marks.
-use Rattle.std.proofs.Common.{◌≡◌, ℕ, zero, suc, ◌+◌, ◌<◌, ◌≤◌, ◌==◌, Bool, true, false, not, ◌&&◌, ◌||◌, List, [], ◌∷◌, length, map, set, replicate, Some, refl, ap, sym, ◌∙◌, inl, inr, arith}
-use Rattle.std.specs.declared.alloc.Global.{Global}
-use Rattle.std.specs.declared.string.String.{String}
-use Rattle.std.specs.List.{list_any, slice_get}
-use Rattle.std.specs.Map.{values_of}
-use Rattle.std.proofs.lemmas.Bool.{cases_Bool, cases_eq, cases_lt, and_parts, eqb-true, true≢false, false_from_ne_true}
-use Rattle.std.proofs.lemmas.List.{length-set, length-replicate, get_or-set_same, get_or-set_other}
-use Rattle.std.proofs.lemmas.Option.{none-some, same_Some, slice_get_within, get_or_from_slice_get}
-use Rattle.msrp_plan.specs.Plan.{PlanModel, TaskModel, task_at, no_task}
-use Rattle.msrp_plan.specs.Units.{is_lock_of}
-use Rattle.msrp_plan.specs.Levels.{uses, is_global}
-use Rattle.msrp_plan.specs.WellFormed.{IsDraft}
-use Rattle.msrp_plan.specs.Inside.Marks.{AreGlobals, is_marked}
-use Rattle.msrp_plan.specs.Inside.Tasks.{task_view}
+use Rattle.msrp_plan.specs.Common.{◌≡◌, ℕ, zero, suc, ◌+◌, ◌<◌, ◌≤◌, ◌==◌, Bool, true, false, not, ◌&&◌, ◌||◌, List, [], ◌∷◌, length, map, set, replicate, Some, Global, String, list_any, values_of, PlanModel, TaskModel, task_at, no_task, is_lock_of, uses, is_global}
 use Rattle.msrp_plan.specs.declared.ids.ResId.{ResId}
 use Rattle.msrp_plan.specs.declared.tasks.Task.{Task}
 use Rattle.msrp_plan.specs.declared.units.Op.{Op}
+use Rattle.std.proofs.Common.{refl, ap, sym, ◌∙◌, inl, inr, arith}
+use Rattle.std.specs.List.{slice_get}
+use Rattle.std.proofs.lemmas.Bool.{cases_Bool, cases_eq, cases_lt, and_parts, eqb-true, true≢false, false_from_ne_true}
+use Rattle.std.proofs.lemmas.List.{length-set, length-replicate, get_or-set_same, get_or-set_other}
+use Rattle.std.proofs.lemmas.Option.{none-some, same_Some, slice_get_within, get_or_from_slice_get}
+use Rattle.msrp_plan.specs.WellFormed.{IsDraft}
+use Rattle.msrp_plan.specs.Inside.Marks.{AreGlobals, is_marked}
+use Rattle.msrp_plan.specs.Inside.Tasks.{task_view}
 use Rattle.msrp_plan.specs.declared.units.Op.TheVariants.{Run, Lock, Unlock}
 
 module _ {X : Type 0} (p : X → Bool) where
@@ -46,7 +41,7 @@ any_stored p q same (e ∷ es) = ap (λ b. b || list_any p (map task_view es)) (
 
 -- the stored task uses the resource
 abbrev pub uses_stored : ℕ → Task → Bool
-uses_stored g task = list_any (is_lock_of g) task.units
+uses_stored g task = list_any (is_lock_of g) task.units.items
 
 -- a resource is global as the stored tasks say
 pub global_stored : (plan : PlanModel) (es : List (String Global × Task)) (g : ℕ) → plan.tasks ≡ map task_view es

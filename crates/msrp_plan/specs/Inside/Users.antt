@@ -9,7 +9,7 @@ use Rattle.msrp_plan.specs.declared.users.Users.TheVariants.{Nobody, OneCore, Co
 
 -- the task is on the core, and uses the resource
 abbrev pub is_user_on : ℕ → ℕ → Task → Bool
-is_user_on g c task = list_any (is_lock_of g) task.units && (task.core.0 == c)
+is_user_on g c task = list_any (is_lock_of g) task.units.items && (task.core.0 == c)
 
 -- one of the tasks is, and does
 abbrev pub is_used_on : List Task → ℕ → ℕ → Bool

@@ -1,4 +1,4 @@
-use Rattle.msrp_plan.specs.Plan.{task_at}
+use Rattle.msrp_plan.specs.Common.{task_at}
 use Rattle.msrp_plan.proofs.Building.Scan.{IsScanned}
 use Rattle.msrp_plan.proofs.builder.PlanBuilder.nests_global.Given as goal
 

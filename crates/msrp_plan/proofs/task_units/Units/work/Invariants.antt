@@ -1,12 +1,12 @@
-use Rattle.std.proofs.Common.{◌≡◌, ◌≤◌, ◌<◌, ◌-◌, ℕ, Some, slice_get}
+use Rattle.msrp_plan.specs.Common.{◌≡◌, ◌≤◌, ◌<◌, ◌-◌, ◌+◌, ℕ, Some, slice_get}
 use Rattle.msrp_plan.specs.declared.units.Op.TheVariants.{Run}
 use Rattle.msrp_plan.proofs.task_units.Units.work.Given as goal
 
-abbrev pub invariant-loop-next : goal.invariant-loop-next
-invariant-loop-next l = record {
-  from : l.first ≤ l.next;
-  work : (i : ℕ) → l.first ≤ i → i < l.next → slice_get l.self i ≡ Some Run;
+abbrev pub invariant-loop-count : goal.invariant-loop-count
+invariant-loop-count l = record {
+  few : l.count ≤ l.most;
+  work : (i : ℕ) → l.place ≤ i → i < l.place + l.count → slice_get l.self i ≡ Some Run;
 }
 
-abbrev pub decreases-loop-next : goal.decreases-loop-next
-decreases-loop-next l = l.end - l.next
+abbrev pub decreases-loop-count : goal.decreases-loop-count
+decreases-loop-count l = l.most - l.count
