@@ -1,7 +1,5 @@
 -- Counts and places, one place further.
-use Rattle.std.proofs.Common.{◌≡◌, ◌∙◌, ℕ, ◌+◌, ◌<◌, ◌≤◌, Bool, true, false, List, [], ◌∷◌, Option, None, Some, ap, arith, sym, refl, add-one, drop}
-use Rattle.std.specs.Prelude.{◌&&◌, ◌==◌, length, nat_le, not, if◌then◌else◌}
-use Rattle.std.proofs.lemmas.Bool.{le-leb}
+use Rattle.msrp_plan.proofs.Common.{◌≡◌, ◌∙◌, ℕ, ◌+◌, ◌<◌, ◌≤◌, Bool, true, false, List, [], ◌∷◌, Option, None, Some, ap, arith, sym, refl, add-one, drop, ◌&&◌, ◌==◌, length, nat_le, not, if◌then◌else◌, le-leb}
 use Rattle.std.specs.Option.{IfSome}
 use Rattle.csv.specs.Reading.{strip_bom}
 use Rattle.msrp_text.specs.Reading.{record_at}

@@ -1,14 +1,6 @@
 -- Texts that are written part by part.
-use Rattle.std.proofs.Common.{◌≡◌, ◌∙◌, ℕ, ◌+◌, Bool, true, List, [], ◌∷◌, Option, ap, arith, sym}
-use Rattle.std.specs.Prelude.{◌||◌}
-use Rattle.std.specs.List.{flat_map, list_any, range_with_len, sum_by}
-use Rattle.std.proofs.Math.Bool.{or-false}
-use Rattle.std.proofs.lemmas.List.Folds.{list_any-append}
-use Rattle.std.proofs.lemmas.List.Sums.{sum_by-append, sum_by-cons}
-use Rattle.msrp_plan.specs.Bytes.{Wrote}
+use Rattle.msrp_plan.proofs.Common.{◌≡◌, ◌∙◌, ℕ, ◌+◌, Bool, true, List, [], ◌∷◌, Option, ap, arith, sym, ◌||◌, flat_map, list_any, range_with_len, sum_by, or-false, list_any-append, sum_by-append, sum_by-cons, Wrote, flat_more, range_more, wrote-more}
 use Rattle.msrp_plan.specs.declared.bytes.Sink.{Sink}
-use Rattle.msrp_plan.proofs.Lists.Ranges.{flat_more, range_more}
-use Rattle.msrp_plan.proofs.Writes.{wrote-more}
 use Rattle.msrp_text.proofs.Written.{wrote-as}
 use Rattle.msrp_advice.specs.Warnings.{warn_if}
 

@@ -1,9 +1,6 @@
 -- The last place that passes a test, and what is left of records.
-use Rattle.std.proofs.Common.{◌≡◌, ◌∙◌, ℕ, ◌+◌, ◌<◌, Bool, true, false, List, [], Option, None, Some, ap, arith, sym, subst, refl, add-one, drop}
-use Rattle.std.specs.Prelude.{◌||◌, length, map, nat_lt, slice_index_or, if◌then◌else◌}
-use Rattle.std.specs.List.{list_any}
+use Rattle.msrp_plan.proofs.Common.{◌≡◌, ◌∙◌, ℕ, ◌+◌, ◌<◌, Bool, true, false, List, [], Option, None, Some, ap, arith, sym, subst, refl, add-one, drop, ◌||◌, length, map, nat_lt, slice_index_or, if◌then◌else◌, list_any, drop_more, get_or-map}
 use Rattle.std.specs.Option.{IfSome}
-use Rattle.std.proofs.lemmas.List.{drop_more, get_or-map}
 use Rattle.csv.specs.Records.{Row, fields_of}
 use Rattle.msrp_text.specs.Reading.{record_at}
 use Rattle.msrp_advice.specs.Earlier.{greatest_place, number_there}

@@ -1,11 +1,9 @@
 -- Which advice fits a refused record: by the fault, the record's number and its fields. A record without fields is the end of the text.
-use Rattle.std.specs.Prelude.{ℕ, Bool, false, ◌==◌, ◌&&◌, ◌||◌, ◌-◌, List, [], length, Option, Some, None, codes, nat_lt, nat_le, not, slice_index, if◌then◌else◌}
-use Rattle.std.specs.Char.{is_ascii_uppercase}
-use Rattle.std.specs.List.{list_any}
-use Rattle.csv.specs.Records.{field_at}
-use Rattle.msrp_plan.specs.Building.{is_within}
-use Rattle.msrp_plan.specs.Limits.{longest_time}
+use Rattle.msrp_plan.specs.Common.{ℕ, Bool, false, ◌==◌, ◌&&◌, ◌||◌, ◌-◌, List, [], length, Option, Some, None, codes, nat_lt, nat_le, not, slice_index, if◌then◌else◌, list_any, is_within}
 use Rattle.msrp_plan.specs.declared.faults.PlanFault.{PlanFault}
+use Rattle.std.specs.Char.{is_ascii_uppercase}
+use Rattle.csv.specs.Records.{field_at}
+use Rattle.msrp_plan.specs.Limits.{longest_time}
 use Rattle.msrp_plan.specs.declared.faults.PlanFault.TheVariants as fault
 use Rattle.msrp_text.specs.Fields.{has_word, name_at}
 use Rattle.msrp_text.specs.Reading.{is_op_word, number_told}

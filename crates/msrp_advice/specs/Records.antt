@@ -1,6 +1,5 @@
 -- What a record of a plan is, beside others.
-use Rattle.std.specs.Prelude.{ℕ, Bool, not, ◌&&◌, ◌+◌, List, codes, drop}
-use Rattle.std.specs.List.{list_any}
+use Rattle.msrp_plan.specs.Common.{ℕ, Bool, not, ◌&&◌, ◌+◌, List, codes, drop, list_any}
 use Rattle.msrp_text.specs.Fields.{has_word, name_at}
 use Rattle.msrp_text.specs.Reading.{record_at}
 

@@ -1,5 +1,5 @@
 -- What is said of a refused record, in words.
-use Rattle.std.specs.Prelude.{ℕ, List, codes}
+use Rattle.msrp_plan.specs.Common.{ℕ, List, codes}
 use Rattle.msrp_advice.specs.declared.advice.Advice.{Advice}
 use Rattle.msrp_advice.specs.declared.advice.Advice.TheVariants as said
 

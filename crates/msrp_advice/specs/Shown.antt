@@ -1,8 +1,6 @@
 -- A record of a text as it is shown.
-use Rattle.std.specs.Prelude.{ℕ, List, [], ◌∷◌, ◌+◌, ◌++◌, ◌==◌, Option, Some, None, length, codes, decimal, min, slice_index, unwrap_or, if◌then◌else◌}
-use Rattle.std.specs.List.{flat_map, range_with_len}
+use Rattle.msrp_plan.specs.Common.{ℕ, List, [], ◌∷◌, ◌+◌, ◌++◌, ◌==◌, Option, Some, None, length, codes, decimal, min, slice_index, unwrap_or, if◌then◌else◌, flat_map, range_with_len, is_within}
 use Rattle.csv.specs.Records.{field_at}
-use Rattle.msrp_plan.specs.Building.{is_within}
 
 -- the most fields of a record that are shown, and the most bytes of a field
 abbrev pub most_fields : ℕ

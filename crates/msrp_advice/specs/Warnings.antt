@@ -1,9 +1,5 @@
 -- What is odd in an accepted plan, in words.
-use Rattle.std.specs.Prelude.{ℕ, Bool, List, [], ◌++◌, ◌*◌, ◌==◌, ◌&&◌, length, codes, decimal, nat_le, nat_lt, not, slice_index_or, if◌then◌else◌}
-use Rattle.std.specs.List.{flat_map, list_any, range_with_len, sum_by}
-use Rattle.msrp_plan.specs.Jobs.{job_at, jobs_of}
-use Rattle.msrp_plan.specs.Levels.{top}
-use Rattle.msrp_plan.specs.Plan.{PlanModel, key, task_at}
+use Rattle.msrp_plan.specs.Common.{ℕ, Bool, List, [], ◌++◌, ◌*◌, ◌==◌, ◌&&◌, length, codes, decimal, nat_le, nat_lt, not, slice_index_or, if◌then◌else◌, flat_map, list_any, range_with_len, sum_by, job_at, jobs_of, top, PlanModel, key, task_at}
 use Rattle.msrp_levels.specs.Users.{users}
 
 -- a text, where there is reason for it

@@ -1,6 +1,5 @@
 //! What a record of a plan is, beside others.
-ghost use Rattle.std.specs.Prelude.{◌≡◌, ◌<◌, ◌+◌, length, map, drop};
-ghost use Rattle.std.specs.List.{list_any};
+ghost use Rattle.msrp_plan.specs.Common.{◌≡◌, ◌<◌, ◌+◌, length, map, drop, list_any};
 ghost use Rattle.csv.specs.Records.{fields_of};
 ghost use Rattle.msrp_text.specs.Reading.{number_told, record_at};
 ghost use Rattle.msrp_advice.specs.Records as spec;

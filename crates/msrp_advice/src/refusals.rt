@@ -1,10 +1,7 @@
 //! What is written of a refused record.
-ghost use Rattle.std.specs.Prelude.{◌≡◌, ◌<◌, ◌≤◌, length, map};
-ghost use Rattle.std.specs.List.{flat_map, range_with_len};
+ghost use Rattle.msrp_plan.specs.Common.{◌≡◌, ◌<◌, ◌≤◌, length, map, flat_map, range_with_len, Wrote, most_cores};
 ghost use Rattle.std.specs.Option.{IfSome};
 ghost use Rattle.csv.specs.Records.{fields_of};
-ghost use Rattle.msrp_plan.specs.Bytes.{Wrote};
-ghost use Rattle.msrp_plan.specs.Limits.{most_cores};
 ghost use Rattle.msrp_advice.specs.Refusals.{core_text, cores_text, earlier_line, filled, line_part, mark_text, record_line, refusal_text, said_of};
 
 use crate::advice::Advice;

@@ -1,8 +1,7 @@
 //! A record of a text as it is shown.
-ghost use Rattle.std.specs.Prelude.{◌≡◌, ◌<◌, [], length, min, option_map, unwrap_or};
+ghost use Rattle.msrp_plan.specs.Common.{◌≡◌, ◌<◌, [], length, min, option_map, unwrap_or, Wrote};
 ghost use Rattle.std.specs.Option.{IfSome};
 ghost use Rattle.csv.specs.Records.{fields_of};
-ghost use Rattle.msrp_plan.specs.Bytes.{Wrote};
 ghost use Rattle.msrp_advice.specs.Shown as spec;
 ghost use Rattle.msrp_advice.specs.Shown.{shown_byte, shown_bytes, shown_field, shown_fields, shown_record, wrong_field};
 

@@ -1,13 +1,5 @@
 -- A core's row that stands again in the same place of the next tick, where its machine is known to make it.
-use Rattle.std.proofs.Common.{◌≡◌, ℕ, ◌+◌, ◌-◌, get_or, ◌*◌, ◌/◌, ◌<◌, ◌≤◌, nat_lt, cond, List, [], ◌∷◌, ◌++◌, Option, Some, None, IfSome, true, refl, ap, sym, ◌∙◌, subst, arith, length, take, slice_get, ◌⊎◌, eq-eqb}
-use Rattle.std.proofs.lemmas.List.{length-take-le}
-use Rattle.std.proofs.lemmas.Nat.{div_below}
-use Rattle.std.proofs.lemmas.Option.{get_or_from_slice_get, slice_get_within}
-use Rattle.msrp_plan.specs.Plan.{PlanModel}
-use Rattle.msrp_plan.specs.Logs.{log_of}
-use Rattle.msrp_plan.specs.Runs.{IsRunStart, IsCoreTurn, is_in_turn}
-use Rattle.msrp_plan.specs.Stretches.{in_tick}
-use Rattle.msrp_plan.specs.WellFormed.{IsPlan}
+use Rattle.msrp_plan.proofs.Common.{◌≡◌, ℕ, ◌+◌, ◌-◌, get_or, ◌*◌, ◌/◌, ◌<◌, ◌≤◌, nat_lt, cond, List, [], ◌∷◌, ◌++◌, Option, Some, None, IfSome, true, refl, ap, sym, ◌∙◌, subst, arith, length, take, slice_get, ◌⊎◌, eq-eqb, length-take-le, div_below, get_or_from_slice_get, slice_get_within, PlanModel, log_of, IsRunStart, IsCoreTurn, is_in_turn, in_tick, IsPlan}
 use Rattle.msrp_plan.specs.declared.rows.Row.{Row}
 use Rattle.msrp_core.specs.Machine.{MachineModel, RepeatsOnly, StandsAfter, next_known}
 use Rattle.msrp_audit.specs.Foresight.{unlike_turn}

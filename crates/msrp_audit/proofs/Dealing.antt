@@ -1,7 +1,5 @@
 -- The order in which the pieces of an audit are dealt out: one number more.
-use Rattle.std.proofs.Common.{ℕ, ◌+◌, ◌<◌, List, [], ◌∷◌, ◌++◌, length, sym, ◌∙◌, arith}
-use Rattle.std.proofs.lemmas.List.{get_or_append_left, get_or_push, length_push}
-use Rattle.std.proofs.lemmas.Option.{get_or_from_slice_get, slice_get_read, slice_get_within}
+use Rattle.msrp_plan.proofs.Common.{ℕ, ◌+◌, ◌<◌, List, [], ◌∷◌, ◌++◌, length, sym, ◌∙◌, arith, get_or_append_left, get_or_push, length_push, get_or_from_slice_get, slice_get_read, slice_get_within}
 use Rattle.msrp_audit.specs.Inside.Pieces.{HasDealt}
 
 pub dealt_before : (order : List ℕ) (k n : ℕ) → HasDealt order n → HasDealt (order ++ k ∷ []) n

@@ -1,17 +1,5 @@
 -- A core followed by its own rows: the row against the turn of its machine, which answers as the row says.
-use Rattle.std.proofs.Common.{◌≡◌, ℕ, zero, suc, Bool, true, false, cond, List, [], ◌∷◌, ◌++◌, Option, Some, None, refl, ap, sym, ◌∙◌, subst, is_some, inl, inr, ◌⊎◌}
-use Rattle.std.specs.Option.{ForSome}
-use Rattle.std.proofs.Math.Bool.{true≢false, and-false}
-use Rattle.std.proofs.lemmas.Bool.{cases_Bool, and_parts}
-use Rattle.msrp_plan.specs.Plan.{PlanModel}
-use Rattle.msrp_plan.specs.Shape.{has_shape}
-use Rattle.msrp_plan.specs.Jobs.{is_queued}
-use Rattle.msrp_plan.specs.Levels.{is_global}
-use Rattle.msrp_plan.specs.Actions.{allows, same_res}
-use Rattle.msrp_plan.specs.Logs.{log_of}
-use Rattle.msrp_plan.specs.Calls.{kind_of_call}
-use Rattle.msrp_plan.specs.Runs.{IsRunStart, IsCoreTurn, had_turn, is_in_turn, is_of_core, is_on_core, is_chosen, is_next_action, same_choice}
-use Rattle.msrp_plan.specs.WellFormed.{IsPlan}
+use Rattle.msrp_plan.proofs.Common.{◌≡◌, ℕ, zero, suc, Bool, true, false, cond, List, [], ◌∷◌, ◌++◌, Option, Some, None, refl, ap, sym, ◌∙◌, subst, is_some, inl, inr, ◌⊎◌, ForSome, true≢false, and-false, cases_Bool, and_parts, PlanModel, has_shape, is_queued, is_global, allows, same_res, log_of, kind_of_call, IsRunStart, IsCoreTurn, had_turn, is_in_turn, is_of_core, is_on_core, is_chosen, is_next_action, same_choice, IsPlan, IsTurn, due, turn_of, idle_res, same_res_is, same_choice_is, own_from_legal, log_own}
 use Rattle.msrp_plan.specs.declared.faults.Rule.TheVariants.{A2, A3, A4}
 use Rattle.msrp_plan.specs.declared.ids.JobId.{JobId}
 use Rattle.msrp_plan.specs.declared.ids.ResId.{ResId}
@@ -22,9 +10,7 @@ use Rattle.msrp_plan.specs.declared.units.Call.{Call}
 use Rattle.msrp_plan.specs.declared.units.Call.TheVariants.{Ask, Poll, Leave}
 use Rattle.msrp_plan.specs.declared.units.Op.{Op}
 use Rattle.msrp_plan.specs.declared.units.Op.TheVariants.{Run as RunUnit, Lock as LockUnit, Unlock as UnlockUnit}
-use Rattle.msrp_plan.proofs.Legality.LegalRows.{IsTurn, due, turn_of, idle_res, same_res_is, same_choice_is}
-use Rattle.msrp_plan.proofs.Queues.QueueLocks.{own_from_legal, turn_from_log}
-use Rattle.msrp_plan.proofs.Runs.RoundRobin.{log_own}
+use Rattle.msrp_plan.proofs.Queues.QueueLocks.{turn_from_log}
 use Rattle.msrp_core.specs.Machine.{MachineModel, StandsAfter}
 use Rattle.msrp_core.specs.Ports.{PortModel, MakesCall}
 use Rattle.msrp_core.specs.declared.port.PortCall.{PortCall}

@@ -1,30 +1,16 @@
 -- A row against the legal one of its core: it breaks the rules that the comparison names.
-use Rattle.std.proofs.Common.{◌≡◌, ℕ, Bool, true, false, cond, not, ◌&&◌, ◌||◌, ◌==◌, List, Option, Some, None, is_some, length, refl, ap, sym, ◌∙◌, subst, eqb-true}
-use Rattle.std.specs.List.{list_any}
-use Rattle.std.specs.Option.{option_or}
-use Rattle.std.proofs.Math.Bool.{true≢false, and-false}
-use Rattle.std.proofs.lemmas.Bool.{and_parts, not-true}
-use Rattle.msrp_plan.specs.Plan.{PlanModel}
-use Rattle.msrp_plan.specs.Shape.{has_shape, is_queue, may_carry}
-use Rattle.msrp_plan.specs.Aheads.{carries_its_ahead}
-use Rattle.msrp_plan.specs.Jobs.{is_queued, is_job}
-use Rattle.msrp_plan.specs.Choice.{choice}
-use Rattle.msrp_plan.specs.Actions.{same_res, is_global_unit, allows, is_idle, does_unit, does_next}
-use Rattle.msrp_plan.specs.Kinds.{same_kind}
-use Rattle.msrp_plan.specs.Queues.{fifo, replies, counts, is_free, is_first, is_reply_of}
-use Rattle.msrp_plan.specs.Runs.{IsLegal, is_in_turn, is_of_core, is_chosen, is_next_action, is_fifo_reply, replies_on, same_choice}
-use Rattle.msrp_plan.specs.Verdict.{broken}
+use Rattle.msrp_plan.proofs.Common.{◌≡◌, ℕ, Bool, true, false, cond, not, ◌&&◌, ◌||◌, ◌==◌, List, Option, Some, None, is_some, length, refl, ap, sym, ◌∙◌, subst, eqb-true, list_any, option_or, true≢false, and-false, and_parts, not-true, PlanModel, has_shape, is_queue, may_carry, carries_its_ahead, is_queued, is_job, choice, same_res, is_global_unit, allows, is_idle, does_unit, does_next, fifo, replies, counts, is_first, is_reply_of, IsLegal, is_in_turn, is_of_core, is_chosen, is_next_action, is_fifo_reply, replies_on, same_choice, broken, same_kind_is, IsTurn, same_res_is, same_choice_is, due, legal_turn, legal_due, idle_res}
 use Rattle.msrp_plan.specs.declared.ids.JobId.{JobId}
 use Rattle.msrp_plan.specs.declared.ids.ResId.{ResId}
 use Rattle.msrp_plan.specs.declared.faults.Rule.{Rule}
 use Rattle.msrp_plan.specs.declared.faults.Rule.TheVariants.{A1, A2, A3, A4, A5}
 use Rattle.msrp_plan.specs.declared.units.Op.{Op}
-use Rattle.msrp_plan.specs.declared.units.Op.TheVariants.{Run as RunUnit, Lock as LockUnit, Unlock as UnlockUnit}
 use Rattle.msrp_plan.specs.declared.rows.Kind.{Kind}
 use Rattle.msrp_plan.specs.declared.rows.Kind.TheVariants.{Idle, Run, Lock, Unlock, Take, Queue, Spin, Grant, Release}
 use Rattle.msrp_plan.specs.declared.rows.Row.{Row}
-use Rattle.msrp_plan.proofs.SameKinds.{same_kind_is}
-use Rattle.msrp_plan.proofs.Legality.LegalRows.{IsTurn, same_res_is, same_choice_is, due, legal_turn, legal_due, idle_res}
+use Rattle.msrp_plan.specs.Kinds.{same_kind}
+use Rattle.msrp_plan.specs.Queues.{is_free}
+use Rattle.msrp_plan.specs.declared.units.Op.TheVariants.{Run as RunUnit, Lock as LockUnit, Unlock as UnlockUnit}
 use Rattle.msrp_audit.specs.Foresight.{same_action, same_ahead, does_alike, replied_alike, unlike}
 
 -- ---- A3

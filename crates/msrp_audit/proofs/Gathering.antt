@@ -1,16 +1,14 @@
 -- What is kept of a row tells it; and of the rows that are kept so the first ones.
-use Rattle.std.proofs.Common.{◌<◌, ◌*◌, ◌^◌, refl, Option, None, Some, nat_lt, ◌+◌, ◌≡◌, ℕ, zero, suc, ◌-◌, List, [], ◌∷◌, ◌++◌, length, map, min, take, is_some, ap, sym, ◌∙◌, arith}
-use Rattle.std.proofs.lemmas.List.{length-map, take-map, take_min}
-use Rattle.std.proofs.lemmas.Bool.{lt-ltb}
-use Rattle.std.specs.Option.{unwrap_or}
-use Rattle.msrp_plan.specs.Shape.{ahead_of_kind, job_of_kind, res_of_kind}
+use Rattle.msrp_plan.proofs.Common.{◌<◌, ◌*◌, ◌^◌, refl, Option, None, Some, nat_lt, ◌+◌, ◌≡◌, ℕ, zero, suc, ◌-◌, List, [], ◌∷◌, ◌++◌, length, map, min, take, is_some, ap, sym, ◌∙◌, arith, length-map, take-map, lt-ltb, same_row}
 use Rattle.msrp_plan.specs.declared.ids.JobId.{JobId}
 use Rattle.msrp_plan.specs.declared.ids.ResId.{ResId}
 use Rattle.msrp_plan.specs.declared.rows.Kind.{Kind}
 use Rattle.msrp_plan.specs.declared.rows.Kind.TheVariants.{Idle, Run, Lock, Unlock, Take, Queue, Grant, Spin, Release}
 use Rattle.msrp_plan.specs.declared.rows.Row.{Row}
+use Rattle.std.proofs.lemmas.List.{take_min}
+use Rattle.std.specs.Option.{unwrap_or}
+use Rattle.msrp_plan.specs.Shape.{ahead_of_kind, job_of_kind, res_of_kind}
 use Rattle.msrp_plan.proofs.KindParts.{ahead_told, job_told, res_told, same_parts}
-use Rattle.msrp_plan.proofs.Legality.SameRow.{same_row}
 use Rattle.msrp_audit.specs.Inside.KeptView.{Kept, kept_view}
 use Rattle.msrp_audit.specs.Inside.Gathered.{ahead_in, ahead_number, carries_in, job_in, kind_numbered, number_of_kind, res_in, row_of, rows_of}
 

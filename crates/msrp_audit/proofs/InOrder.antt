@@ -1,8 +1,6 @@
 -- Rows of a tick, not the first one, are in their turns where they are steady and stand in it. Those that are told to be turns in order do.
-use Rattle.std.proofs.Common.{◌≡◌, ℕ, ◌+◌, ◌-◌, ◌*◌, ◌<◌, ◌≤◌, List, length, sym, ◌∙◌, arith, eq-eqb}
-use Rattle.msrp_plan.specs.Plan.{PlanModel}
+use Rattle.msrp_plan.proofs.Common.{◌≡◌, ℕ, ◌+◌, ◌-◌, ◌*◌, ◌<◌, ◌≤◌, List, length, sym, ◌∙◌, arith, eq-eqb, PlanModel, not_equal}
 use Rattle.msrp_plan.specs.declared.rows.Row.{Row}
-use Rattle.msrp_plan.proofs.Lists.Ranges.{not_equal}
 use Rattle.msrp_audit.specs.Inside.Stretches.{AreTurns}
 use Rattle.msrp_audit.specs.Inside.Walks.{AreInTick, AreInTurn, KeepsOrder}
 use Rattle.msrp_audit.proofs.Judging.{tick_now}

@@ -1,52 +1,25 @@
 -- What an auditor's tests say of a row: whether it is in its turn, and whether its job is one of its core.
-use Rattle.std.proofs.Common.{◌≡◌, ◌≢◌, ℕ, zero, suc, ◌+◌, ◌*◌, ◌/◌, ◌%◌, ◌<◌, ◌≤◌, ◌==◌, ◌&&◌, ◌||◌, Bool, true, false, not, cond, nat_lt, List, [], ◌∷◌, ◌++◌, Option, Some, None, refl, ap, sym, ◌∙◌, subst, arith, length, length-append, map, inl, inr, eq-eqb, eqb-true, slice_get}
-use Rattle.std.specs.List.{list_any, flat_map, range_with_len, AllByRecursion}
-use Rattle.std.specs.Prelude.{⊤}
-use Rattle.std.specs.declared.result.Result.TheVariants.{Ok, Err}
-use Rattle.std.specs.Option.{option_map, option_or, is_some}
-use Rattle.std.proofs.Math.Bool.{true≢false, or-true}
-use Rattle.std.proofs.lemmas.Bool.{cases_Bool, cases_lt, lt-ltb, le-ltb, false_from_ne_true, eqb-false}
-use Rattle.std.proofs.lemmas.List.Elements.{All-contains, All-from_recursion}
-use Rattle.std.proofs.lemmas.List.Folds.{list_any-append}
-use Rattle.std.proofs.lemmas.Option.{same_Some}
-use Rattle.std.proofs.lemmas.Map.Views.{Contains-from_any}
-use Rattle.msrp_plan.specs.Plan.{PlanModel, core_of}
-use Rattle.msrp_plan.specs.Jobs.{job_at, jobs_of, jobs, jobs_on, same_job}
-use Rattle.msrp_plan.specs.Runs.{IsLegal, IsRunStart, EachAfter, had_turn, is_in_turn, is_on_core, is_of_core, is_chosen, is_next_action, is_fifo_reply}
-use Rattle.msrp_plan.specs.Logs.{log_of}
-use Rattle.msrp_plan.specs.WellFormed.{IsPlan}
-use Rattle.msrp_plan.specs.Verdict.{broken, refused, fault_in, fault_or}
+use Rattle.msrp_plan.proofs.Common.{◌≡◌, ◌≢◌, ℕ, zero, suc, ◌+◌, ◌*◌, ◌/◌, ◌%◌, ◌<◌, ◌≤◌, ◌==◌, ◌&&◌, ◌||◌, Bool, true, false, not, cond, nat_lt, List, [], ◌∷◌, ◌++◌, Option, Some, None, refl, ap, sym, ◌∙◌, subst, arith, length, length-append, map, inl, inr, eq-eqb, eqb-true, slice_get, list_any, flat_map, range_with_len, AllByRecursion, ⊤, option_or, true≢false, or-true, cases_Bool, cases_lt, lt-ltb, le-ltb, false_from_ne_true, eqb-false, All-contains, All-from_recursion, list_any-append, same_Some, PlanModel, core_of, job_at, jobs_of, jobs, jobs_on, same_job, IsLegal, IsRunStart, EachAfter, had_turn, is_in_turn, is_on_core, is_of_core, is_chosen, is_next_action, is_fifo_reply, log_of, IsPlan, broken, refused, fault_in, fault_or, any_in, not_equal, same_is, same_self, jobs_of_are, core_jobs_below, kept_by, on_its_core, due, legal_due, same_res_is, same_choice_is, same_kind_is, turns_when_due, fault_push, fault_stays, unbroken_is_legal, mul-le-mul_left, div-mul-add, mod-mul-add, same_res, same_choice, IfSome, and_parts}
 use Rattle.msrp_plan.specs.declared.ids.JobId.{JobId}
 use Rattle.msrp_plan.specs.declared.faults.Fault.{Fault}
 use Rattle.msrp_plan.specs.declared.faults.Rule.{Rule}
-use Rattle.msrp_plan.specs.declared.faults.Rule.TheVariants.{A1, A2, A7}
+use Rattle.msrp_plan.specs.declared.faults.Rule.TheVariants.{A1, A2, A7, A3, A4, A5}
 use Rattle.msrp_plan.specs.declared.rows.Row.{Row}
-use Rattle.msrp_plan.proofs.Lists.AnyAll.{any_in, all_joined}
-use Rattle.msrp_plan.proofs.Lists.Ranges.{not_equal}
-use Rattle.msrp_plan.proofs.Jobs.JobTests.{same_is, same_self}
-use Rattle.msrp_plan.proofs.Jobs.JobLists.{jobs_of_are, core_jobs_below}
-use Rattle.msrp_plan.proofs.Lists.Members.{kept_by, in_filter}
-use Rattle.msrp_plan.proofs.Jobs.CoreJobs.{on_its_core, job_on_core}
+use Rattle.msrp_plan.specs.declared.rows.Kind.{Kind}
+use Rattle.msrp_plan.specs.declared.rows.Kind.TheVariants.{Idle, Run, Lock, Unlock, Take, Queue, Spin, Grant, Release}
+use Rattle.msrp_plan.specs.declared.ids.ResId.{ResId}
+use Rattle.std.specs.declared.result.Result.TheVariants.{Ok, Err}
+use Rattle.std.specs.Option.{option_map, is_some}
+use Rattle.std.proofs.lemmas.Map.Views.{Contains-from_any}
+use Rattle.msrp_plan.proofs.Lists.AnyAll.{all_joined}
+use Rattle.msrp_plan.proofs.Lists.Members.{in_filter}
+use Rattle.msrp_plan.proofs.Jobs.CoreJobs.{job_on_core}
 use Rattle.msrp_plan.proofs.Runs.CoreRuns.{due_by_log}
-use Rattle.msrp_plan.proofs.Legality.LegalRows.{due, legal_due, same_res_is, same_choice_is}
-use Rattle.msrp_plan.proofs.SameKinds.{same_kind_is}
-use Rattle.msrp_plan.proofs.Scheduling.NextRow.{turns_when_due}
-use Rattle.msrp_plan.proofs.Runs.Verdicts.{fault_push, fault_stays, unbroken_is_legal}
 use Rattle.msrp_core.specs.Machine.{MachineModel}
 use Rattle.msrp_sim.specs.Cores.{CoresModel, StandFor, IsDueInRun, IsNextRow, MakesNext, StandOn}
 use Rattle.msrp_audit.specs.Audits.{AuditorModel, HasFed, IsDueInAudit, Awaits, answer_of, has_turn, auditor_view, IsAuditorView, place_in}
 use Rattle.msrp_audit.specs.declared.auditor.Auditor.TheInside.{Inside}
-use Rattle.std.proofs.Math.Nat.{mul-le-mul_left}
-use Rattle.std.proofs.lemmas.Nat.{div-mul-add, mod-mul-add}
-use Rattle.msrp_plan.specs.declared.rows.Kind.{Kind}
-use Rattle.msrp_plan.specs.declared.rows.Kind.TheVariants.{Idle, Run, Lock, Unlock, Take, Queue, Spin, Grant, Release}
-use Rattle.msrp_plan.specs.declared.ids.ResId.{ResId}
-use Rattle.msrp_plan.specs.Actions.{same_res}
 use Rattle.msrp_plan.specs.Kinds.{same_kind}
-use Rattle.msrp_plan.specs.Runs.{same_choice}
-use Rattle.msrp_plan.specs.declared.faults.Rule.TheVariants.{A3, A4, A5}
-use Rattle.std.proofs.Common.{IfSome}
-use Rattle.std.proofs.lemmas.Bool.{and_parts}
 use Rattle.msrp_sim.specs.Cores.{IsAs}
 use Rattle.msrp_audit.specs.Foresight.{unlike, does_alike, replied_alike, same_action, same_ahead}
 use Rattle.msrp_audit.proofs.Foresight.{broken_is}

@@ -1,33 +1,20 @@
 -- The earliest of the pieces' answers is the first fault of the rows.
-use Rattle.std.proofs.Common.{append_assoc, min, map, Ok, IfOk, MatchResult, Result, get_or, ◌⊎◌, ◌≡◌, ℕ, zero, suc, ◌+◌, ◌-◌, ◌*◌, ◌/◌, ◌%◌, ◌<◌, ◌≤◌, ◌==◌, ◌&&◌, nat_lt, Bool, true, false, cond, List, [], ◌∷◌, ◌++◌, Option, Some, None, IfSome, fold, refl, ap, sym, ◌∙◌, subst, arith, length, length-append, take, drop, inl, inr, eq-eqb, eqb-true}
-use Rattle.std.specs.Option.{option_or}
-use Rattle.std.specs.List.{AllZip, AllByRecursion, range_with_len}
-use Rattle.std.proofs.Math.Bool.{true≢false}
-use Rattle.std.proofs.Math.Nat.{mul-le-mul_left, mul-le-mul_right}
-use Rattle.std.proofs.lemmas.Bool.{cases_Bool, cases_lt, cases_eq, lt-ltb, le-ltb, le-leb}
-use Rattle.std.proofs.lemmas.Nat.{div-add-mod', div-mul-add, div_below, mod_below}
-use Rattle.std.proofs.lemmas.List.{take_at, get_or_at, take_all, take-append-drop, length-take-le, length-drop}
-use Rattle.msrp_plan.specs.Plan.{PlanModel}
-use Rattle.msrp_plan.specs.Levels.{is_global}
-use Rattle.msrp_plan.specs.Logs.{is_of}
-use Rattle.msrp_plan.specs.Queues.{is_on, fifo, replies, counts}
-use Rattle.msrp_plan.specs.Runs.{IsLegal, IsRunStart, EachAfter, is_in_turn, is_of_core, is_chosen, is_next_action, is_fifo_reply, replies_on}
-use Rattle.msrp_plan.specs.Faults.{IsBroken}
-use Rattle.msrp_plan.specs.Verdict.{broken, refused, fault_or, fault_from, fault_in, missing, verdict}
-use Rattle.msrp_plan.specs.WellFormed.{IsPlan}
+use Rattle.msrp_plan.proofs.Common.{append_assoc, min, map, Ok, IfOk, Result, get_or, ◌⊎◌, ◌≡◌, ℕ, zero, suc, ◌+◌, ◌-◌, ◌*◌, ◌/◌, ◌%◌, ◌<◌, ◌≤◌, ◌==◌, ◌&&◌, nat_lt, Bool, true, false, cond, List, [], ◌∷◌, ◌++◌, Option, Some, None, IfSome, fold, refl, ap, sym, ◌∙◌, subst, arith, length, length-append, take, drop, inl, inr, eq-eqb, eqb-true, option_or, AllByRecursion, range_with_len, true≢false, mul-le-mul_left, mul-le-mul_right, cases_Bool, cases_lt, cases_eq, lt-ltb, le-ltb, le-leb, div-add-mod', div-mul-add, div_below, mod_below, take_at, get_or_at, take_all, take-append-drop, length-take-le, PlanModel, is_global, is_of, is_on, fifo, replies, counts, IsLegal, IsRunStart, EachAfter, is_in_turn, is_of_core, is_chosen, is_next_action, is_fifo_reply, replies_on, broken, refused, fault_or, fault_in, missing, verdict, IsPlan, due, turn_of, unbroken_is_legal, start_before, start_last, early_is, fault_stays, get_or_from_slice_get, same_Some, slice_get_within, undeclared_local}
 use Rattle.msrp_plan.specs.declared.ids.CoreId.{CoreId}
 use Rattle.msrp_plan.specs.declared.ids.ResId.{ResId}
 use Rattle.msrp_plan.specs.declared.faults.Fault.{Fault}
 use Rattle.msrp_plan.specs.declared.faults.Rule.{Rule}
 use Rattle.msrp_plan.specs.declared.faults.Rule.TheVariants.{A1, A2, A3, A4, A5, A6, A7}
 use Rattle.msrp_plan.specs.declared.rows.Row.{Row}
-use Rattle.msrp_plan.proofs.Legality.LegalRows.{due, turn_of}
-use Rattle.msrp_plan.proofs.Runs.Verdicts.{unbroken_is_legal, legal_is_unbroken, start_before, start_last, early_fault, early_is, fault_stays, fault_append, fault_of}
+use Rattle.std.proofs.Common.{MatchResult}
+use Rattle.std.specs.List.{AllZip}
+use Rattle.std.proofs.lemmas.List.{length-drop}
+use Rattle.msrp_plan.specs.Faults.{IsBroken}
+use Rattle.msrp_plan.specs.Verdict.{fault_from}
+use Rattle.msrp_plan.proofs.Runs.Verdicts.{legal_is_unbroken, early_fault, fault_append, fault_of}
 use Rattle.msrp_audit.specs.Inside.Pieces.{DealsAll, HasDealt, parts, listed, listed_pieces, share_at, share_size, shares, piece_of, pieces_of, piece_with, part_size, is_in_part, broken_in, told_at, TellsFirst, rule_number, fault_order, earlier_of, earliest_of, length_fault_of}
 use Rattle.msrp_audit.specs.declared.pieces.Piece.{Piece}
 use Rattle.msrp_audit.specs.declared.pieces.Piece.TheVariants.{Turns, Core, Resource}
-use Rattle.std.proofs.lemmas.Option.{get_or_from_slice_get, same_Some, slice_get_within}
-use Rattle.msrp_plan.proofs.Levels.GlobalUse.{undeclared_local}
 use Rattle.msrp_audit.proofs.Scanning.{split_length, start_at, IsSound}
 use Rattle.msrp_sim.proofs.Turns.{local_turn, counts_plain, both_pass}
 

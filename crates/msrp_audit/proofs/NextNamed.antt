@@ -1,18 +1,11 @@
 -- The rows that name a resource: each core's next turn that does, and the first of these of all cores.
-use Rattle.std.proofs.Common.{◌≡◌, ℕ, ◌+◌, ◌*◌, ◌/◌, ◌%◌, ◌<◌, ◌≤◌, List, Some, refl, ap, sym, ◌∙◌, subst, arith, length, max, get_or, set, slice_get, true, get_or-set_other, inl, inr}
-use Rattle.std.specs.Borrow.{Bor}
-use Rattle.std.proofs.Math.Nat.{mul-le-mul_right}
-use Rattle.std.proofs.lemmas.Bool.{and_parts, cases_eq, cases_lt}
-use Rattle.std.proofs.lemmas.List.{length-set}
-use Rattle.std.proofs.lemmas.Grind.{get_or-set_at}
-use Rattle.std.proofs.lemmas.Nat.{div-add-mod', mod_below, mod-mul-add}
-use Rattle.std.proofs.lemmas.Option.{same_Some}
-use Rattle.msrp_plan.specs.Queues.{is_behind, is_on, is_reply_of, replies, counts}
-use Rattle.msrp_plan.specs.Stretches.{in_tick}
+use Rattle.msrp_plan.proofs.Common.{◌≡◌, ℕ, ◌+◌, ◌*◌, ◌/◌, ◌%◌, ◌<◌, ◌≤◌, List, Some, refl, ap, sym, ◌∙◌, subst, arith, length, max, get_or, set, slice_get, true, inl, inr, mul-le-mul_right, and_parts, cases_eq, cases_lt, length-set, get_or-set_at, div-add-mod', mod_below, mod-mul-add, same_Some, is_behind, is_on, is_reply_of, replies, counts, in_tick}
 use Rattle.msrp_plan.specs.declared.ids.JobId.{JobId}
 use Rattle.msrp_plan.specs.declared.ids.ResId.{ResId}
 use Rattle.msrp_plan.specs.declared.rows.Kind.TheVariants.{Spin}
 use Rattle.msrp_plan.specs.declared.rows.Row.{Row}
+use Rattle.std.proofs.Common.{get_or-set_other}
+use Rattle.std.specs.Borrow.{Bor}
 use Rattle.msrp_audit.specs.declared.naming.Named.{Named}
 use Rattle.msrp_audit.specs.declared.naming.Naming.{Naming}
 use Rattle.msrp_audit.specs.declared.stretches.Stretch.{Stretch}

@@ -1,18 +1,6 @@
 -- Steady rows: in each tick the cores have the order of the first one. Which of the rows are in their turns, and where a core has its next turn.
-use Rattle.std.proofs.Common.{◌≡◌, ℕ, zero, suc, ◌+◌, ◌-◌, ◌*◌, ◌/◌, ◌%◌, ◌==◌, ◌<◌, ◌≤◌, ◌&&◌, ◌||◌, not, nat_lt, cond, Bool, true, false, List, [], ◌∷◌, ◌++◌, Some, refl, ap, sym, ◌∙◌, subst, arith, length, take, drop, get_or, slice_get, inl, inr, eq-eqb, eqb-true}
-use Rattle.std.specs.List.{list_any}
-use Rattle.std.proofs.Math.Bool.{true≢false, and-true}
-use Rattle.std.proofs.Math.Nat.{mul-le-mul_right}
-use Rattle.std.proofs.lemmas.Bool.{and_parts, cases_lt, lt-ltb, le-ltb, false_from_ne_true}
-use Rattle.std.proofs.lemmas.Nat.{div-add-mod', mod_below}
-use Rattle.std.proofs.lemmas.Option.{slice_get-get_or, get_or_from_slice_get, slice_get_read}
-use Rattle.std.proofs.lemmas.List.{drop_more, get_or_append_left, get_or_at, length-take-le, take-append-drop}
-use Rattle.std.proofs.lemmas.List.Folds.{list_any_at, list_any_more}
-use Rattle.msrp_plan.specs.Plan.{PlanModel}
-use Rattle.msrp_plan.specs.Runs.{IsRunStart, had_turn, is_in_turn}
+use Rattle.msrp_plan.proofs.Common.{◌≡◌, ℕ, zero, suc, ◌+◌, ◌-◌, ◌*◌, ◌/◌, ◌%◌, ◌==◌, ◌<◌, ◌≤◌, ◌&&◌, ◌||◌, not, nat_lt, cond, Bool, true, false, List, [], ◌∷◌, ◌++◌, Some, refl, ap, sym, ◌∙◌, subst, arith, length, take, drop, get_or, slice_get, inl, inr, eq-eqb, eqb-true, list_any, true≢false, and-true, mul-le-mul_right, and_parts, cases_lt, lt-ltb, le-ltb, false_from_ne_true, div-add-mod', mod_below, slice_get-get_or, get_or_from_slice_get, slice_get_read, drop_more, get_or_append_left, get_or_at, length-take-le, take-append-drop, list_any_at, list_any_more, PlanModel, IsRunStart, had_turn, is_in_turn, due, legal_due, start_before, start_last}
 use Rattle.msrp_plan.specs.declared.rows.Row.{Row}
-use Rattle.msrp_plan.proofs.Legality.LegalRows.{due, legal_due}
-use Rattle.msrp_plan.proofs.Runs.Verdicts.{start_before, start_last}
 use Rattle.msrp_audit.specs.Audits.{has_turn}
 use Rattle.msrp_audit.specs.Inside.Walks.{KeepsOrder}
 use Rattle.msrp_audit.proofs.Judging.{in_turn_is, tick_now}

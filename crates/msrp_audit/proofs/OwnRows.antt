@@ -1,19 +1,9 @@
 -- The piece of a core goes over the rows: those of the core, and the others.
-use Rattle.std.proofs.Common.{◌≡◌, ◌≢◌, ℕ, ◌+◌, ◌<◌, ◌≤◌, zero, suc, arith, drop, inl, inr, ◌&&◌, Bool, true, false, cond, List, [], ◌∷◌, ◌++◌, Option, Some, None, refl, ap, sym, ◌∙◌, subst, length, take, get_or, eq-eqb, eqb-true}
-use Rattle.std.proofs.Math.Bool.{true≢false}
-use Rattle.std.proofs.lemmas.Bool.{and_parts, cases_Bool, cases_lt}
-use Rattle.std.proofs.lemmas.List.{drop_more, length-take-le, take-append-drop, take_all, take_more}
-use Rattle.msrp_plan.specs.Plan.{PlanModel}
-use Rattle.msrp_plan.specs.Logs.{log_of}
-use Rattle.msrp_plan.specs.Runs.{IsRunStart, is_in_turn}
+use Rattle.msrp_plan.proofs.Common.{◌≡◌, ◌≢◌, ℕ, ◌+◌, ◌<◌, ◌≤◌, zero, suc, arith, drop, inl, inr, ◌&&◌, Bool, true, false, cond, List, [], ◌∷◌, ◌++◌, Option, Some, None, refl, ap, sym, ◌∙◌, subst, length, take, get_or, eq-eqb, eqb-true, true≢false, and_parts, cases_Bool, cases_lt, drop_more, length-take-le, take-append-drop, take_all, take_more, PlanModel, log_of, IsRunStart, is_in_turn, not_equal, log_other, start_before, start_last, is_of}
 use Rattle.msrp_plan.specs.declared.ids.CoreId.{CoreId}
 use Rattle.msrp_plan.specs.declared.faults.Rule.{Rule}
 use Rattle.msrp_plan.specs.declared.rows.Row.{Row}
-use Rattle.msrp_plan.proofs.Lists.Ranges.{not_equal}
-use Rattle.msrp_plan.proofs.Runs.RoundRobin.{log_other}
-use Rattle.msrp_plan.proofs.Runs.Verdicts.{start_before, start_last}
 use Rattle.msrp_core.specs.Machine.{MachineModel, StandsAfter}
-use Rattle.msrp_plan.specs.Logs.{is_of}
 use Rattle.msrp_audit.specs.Inside.Pieces.{broken_action, broken_on_core, TellsFirst}
 use Rattle.msrp_audit.specs.declared.pieces.Piece.TheVariants.{Core}
 use Rattle.msrp_audit.proofs.Scanning.{PassesTo, one_more, passes_more, ends_at, finds_at}

@@ -1,11 +1,5 @@
 -- The turns of a part of the ticks.
-use Rattle.std.proofs.Common.{◌≡◌, ℕ, ◌+◌, ◌*◌, ◌<◌, ◌≤◌, ◌&&◌, nat_lt, nat_le, Bool, true, false, cond, min, List, ◌∷◌, Some, None, refl, ap, sym, ◌∙◌, subst, arith, length, take, get_or, slice_get, inl, inr}
-use Rattle.std.proofs.Math.Bool.{and-false}
-use Rattle.std.proofs.lemmas.Bool.{cases_lt, lt-ltb, le-ltb, le-leb, lt-leb}
-use Rattle.std.proofs.lemmas.List.{get_or_at, length-take-le, take_at}
-use Rattle.std.proofs.lemmas.Option.{slice_get_cases, slice_get_read}
-use Rattle.msrp_plan.specs.Plan.{PlanModel}
-use Rattle.msrp_plan.specs.Runs.{IsRunStart, is_in_turn}
+use Rattle.msrp_plan.proofs.Common.{◌≡◌, ℕ, ◌+◌, ◌*◌, ◌<◌, ◌≤◌, ◌&&◌, nat_lt, nat_le, Bool, true, false, cond, min, List, ◌∷◌, Some, None, refl, ap, sym, ◌∙◌, subst, arith, length, take, get_or, slice_get, inl, inr, and-false, cases_lt, lt-ltb, le-ltb, le-leb, lt-leb, get_or_at, length-take-le, take_at, slice_get_cases, slice_get_read, PlanModel, IsRunStart, is_in_turn}
 use Rattle.msrp_plan.specs.declared.faults.Rule.TheVariants.{A1}
 use Rattle.msrp_plan.specs.declared.rows.Row.{Row}
 use Rattle.msrp_audit.specs.Inside.Pieces.{part_size, is_in_part, broken_turn, TellsFirst}

@@ -1,29 +1,14 @@
 -- What the rows on one resource tell of its queue, and whether they have its reply.
-use Rattle.std.proofs.Common.{◌≡◌, ℕ, zero, suc, ◌+◌, ◌-◌, ◌*◌, ◌/◌, ◌%◌, ◌<◌, ◌≤◌, ◌&&◌, ◌||◌, not, eqb-true, Bool, true, false, cond, List, [], ◌∷◌, ◌++◌, Option, Some, None, refl, ap, sym, ◌∙◌, subst, arith, length, take, append-nil, get_or, slice_get, inl, inr}
-use Rattle.std.specs.List.{count_by, filter_map, cons_option, list_any}
-use Rattle.std.proofs.Math.Bool.{and-false}
-use Rattle.std.proofs.Math.Nat.{mul-le-mul_left}
-use Rattle.std.proofs.lemmas.Bool.{and_from, and_parts, cases_Bool, cases_lt, true≢false}
-use Rattle.std.proofs.lemmas.List.{drop_all}
-use Rattle.std.proofs.lemmas.List.Sums.{sum_by_push}
-use Rattle.std.proofs.lemmas.List.Elements.{filter_map-append}
-use Rattle.std.proofs.lemmas.List.Folds.{list_any-append}
-use Rattle.std.proofs.lemmas.Nat.{div-add-mod', mod_below}
-use Rattle.std.proofs.lemmas.Option.{get_or_from_slice_get, slice_get_read, slice_get_within}
-use Rattle.msrp_plan.specs.Plan.{PlanModel}
-use Rattle.msrp_plan.specs.Jobs.{is_job}
-use Rattle.msrp_plan.specs.Levels.{is_global}
-use Rattle.msrp_plan.specs.Queues.{counts, is_behind, is_on, is_request, is_release, requester, is_release_of, fifo, is_reply_of, replies}
-use Rattle.msrp_plan.specs.Requests.{HasTaken}
-use Rattle.msrp_plan.specs.Runs.{IsRunStart, is_fifo_reply, replies_on}
-use Rattle.msrp_plan.specs.Shape.{is_queue}
-use Rattle.msrp_plan.specs.WellFormed.{IsPlan}
+use Rattle.msrp_plan.proofs.Common.{◌≡◌, ℕ, zero, suc, ◌+◌, ◌-◌, ◌*◌, ◌/◌, ◌%◌, ◌<◌, ◌≤◌, ◌&&◌, ◌||◌, not, eqb-true, Bool, true, false, cond, List, [], ◌∷◌, ◌++◌, Option, Some, None, refl, ap, sym, ◌∙◌, subst, arith, length, take, append-nil, get_or, slice_get, inl, inr, filter_map, cons_option, list_any, and-false, mul-le-mul_left, and_from, and_parts, cases_Bool, cases_lt, drop_all, sum_by_push, filter_map-append, list_any-append, div-add-mod', mod_below, get_or_from_slice_get, slice_get_read, slice_get_within, PlanModel, is_job, is_global, counts, is_behind, is_on, is_request, is_release, requester, is_release_of, fifo, is_reply_of, replies, IsRunStart, is_fifo_reply, replies_on, is_queue, IsPlan}
 use Rattle.msrp_plan.specs.declared.faults.Rule.TheVariants.{A5}
 use Rattle.msrp_plan.specs.declared.ids.JobId.{JobId}
 use Rattle.msrp_plan.specs.declared.ids.ResId.{ResId}
-use Rattle.msrp_plan.specs.declared.requests.Requests.{Requests}
 use Rattle.msrp_plan.specs.declared.rows.Kind.TheVariants.{Spin}
 use Rattle.msrp_plan.specs.declared.rows.Row.{Row}
+use Rattle.std.specs.List.{count_by}
+use Rattle.std.proofs.lemmas.Bool.{true≢false}
+use Rattle.msrp_plan.specs.Requests.{HasTaken}
+use Rattle.msrp_plan.specs.declared.requests.Requests.{Requests}
 use Rattle.msrp_plan.proofs.Queues.Fifos.{IsFed, fifo_request, fifo_same, not_releasing, not_requesting, released, requested}
 use Rattle.msrp_plan.proofs.Queues.QueueLocks.{global_named}
 use Rattle.msrp_plan.proofs.Queues.QueueMembers.{queue_at, queue_short}

@@ -1,14 +1,7 @@
 -- A piece of the audit goes over the rows from the first on, and tests each: what its answer tells.
-use Rattle.std.proofs.Common.{◌≡◌, ℕ, suc, ◌+◌, ◌<◌, ◌≤◌, cond, List, [], ◌∷◌, ◌++◌, Option, Some, None, ap, sym, ◌∙◌, subst, arith, length, length-append, take, drop, get_or, slice_get, refl, inl, inr, eq-eqb}
-use Rattle.std.proofs.lemmas.Bool.{cases_lt}
-use Rattle.std.proofs.lemmas.Option.{same_Some, slice_get_read}
-use Rattle.std.proofs.lemmas.List.{take_at, take_more, take-append-le, take-append-drop, get_or_at}
-use Rattle.msrp_plan.specs.Plan.{PlanModel}
-use Rattle.msrp_plan.specs.Runs.{IsLegal, IsRunStart}
+use Rattle.msrp_plan.proofs.Common.{◌≡◌, ℕ, suc, ◌+◌, ◌<◌, ◌≤◌, cond, List, [], ◌∷◌, ◌++◌, Option, Some, None, ap, sym, ◌∙◌, subst, arith, length, length-append, take, drop, get_or, slice_get, refl, inl, inr, eq-eqb, cases_lt, same_Some, slice_get_read, take_at, take_more, take-append-le, take-append-drop, get_or_at, PlanModel, IsLegal, IsRunStart, not_equal, start_before, start_last}
 use Rattle.msrp_plan.specs.declared.faults.Rule.{Rule}
 use Rattle.msrp_plan.specs.declared.rows.Row.{Row}
-use Rattle.msrp_plan.proofs.Lists.Ranges.{not_equal}
-use Rattle.msrp_plan.proofs.Runs.Verdicts.{start_before, start_last}
 use Rattle.msrp_audit.specs.Inside.Pieces.{TellsFirst}
 
 -- ---- the rows up to a place

@@ -1,21 +1,13 @@
 -- Which of the rows that are kept of a core stands in a tick, and what is told of the turns.
-use Rattle.std.proofs.Common.{◌≡◌, ℕ, zero, suc, ◌+◌, ◌-◌, ◌*◌, ◌/◌, ◌%◌, ◌^◌, ◌<◌, ◌≤◌, Bool, true, false, nat_le, nat_lt, List, [], ◌∷◌, ◌++◌, Some, refl, ap, sym, ◌∙◌, subst, arith, length, map, slice_get, slice_index_or, inl, inr, max, Vec}
+use Rattle.msrp_plan.proofs.Common.{◌≡◌, ℕ, zero, suc, ◌+◌, ◌-◌, ◌*◌, ◌/◌, ◌%◌, ◌^◌, ◌<◌, ◌≤◌, Bool, true, false, nat_le, nat_lt, List, [], ◌∷◌, ◌++◌, Some, refl, ap, sym, ◌∙◌, subst, arith, length, map, slice_get, slice_index_or, inl, inr, max, Vec, true≢false, mul-le-mul_right, cases_lt, le-leb, leb-false, leb-true, lt-leb, ltb-true, get_or-map, length-map, get_or-map-range_with_len, length-map-range_with_len, prefix_len-le-length, div-add-mod', div-mul-add, div_below, mod-mul-add, mod_below, get_or_from_slice_get, same_Some, slice_get-get_or, slice_get-map, slice_get_within, is_on, in_tick}
+use Rattle.msrp_plan.specs.declared.ids.ResId.{ResId}
+use Rattle.msrp_plan.specs.declared.rows.Row.{Row}
 use Rattle.std.specs.Global.{Global}
 use Rattle.std.specs.Int.{from_bool}
 use Rattle.std.specs.Option.{option_map}
-use Rattle.std.proofs.Math.Bool.{true≢false}
-use Rattle.std.proofs.Math.Nat.{mod-le, mul-le-mul_right}
-use Rattle.std.proofs.lemmas.Bool.{cases_lt, le-leb, leb-false, leb-true, lt-leb, ltb-true}
-use Rattle.std.proofs.lemmas.List.{get_or-map, length-map}
+use Rattle.std.proofs.Math.Nat.{mod-le}
 use Rattle.std.proofs.lemmas.List.Elements.{All-get_or}
-use Rattle.std.proofs.lemmas.List.FromFn.{get_or-map-range_with_len, length-map-range_with_len}
-use Rattle.std.proofs.lemmas.List.Sums.{prefix_len-le-length, prefix_len_is, prefix_len_passes, prefix_len_stops}
-use Rattle.std.proofs.lemmas.Nat.{div-add-mod', div-mul-add, div_below, mod-mul-add, mod_below}
-use Rattle.std.proofs.lemmas.Option.{get_or_from_slice_get, same_Some, slice_get-get_or, slice_get-map, slice_get_within}
-use Rattle.msrp_plan.specs.Queues.{is_on}
-use Rattle.msrp_plan.specs.Stretches.{in_tick}
-use Rattle.msrp_plan.specs.declared.ids.ResId.{ResId}
-use Rattle.msrp_plan.specs.declared.rows.Row.{Row}
+use Rattle.std.proofs.lemmas.List.Sums.{prefix_len_is, prefix_len_passes, prefix_len_stops}
 use Rattle.msrp_audit.specs.Inside.KeptView.{Kept}
 use Rattle.msrp_audit.specs.declared.stretches.Stretch.{Stretch}
 use Rattle.msrp_audit.specs.Inside.Gathered.{row_of, rows_of}

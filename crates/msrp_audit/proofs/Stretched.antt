@@ -1,8 +1,5 @@
 -- A core's row that is told to stand in the same place of each tick before another: at its place, and behind it.
-use Rattle.std.proofs.Common.{◌≡◌, ℕ, ◌+◌, ◌*◌, ◌/◌, ◌<◌, List, Some, ap, sym, ◌∙◌, arith, get_or, slice_get}
-use Rattle.std.proofs.lemmas.Option.{get_or_from_slice_get}
-use Rattle.msrp_plan.specs.Plan.{PlanModel}
-use Rattle.msrp_plan.specs.Stretches.{in_tick}
+use Rattle.msrp_plan.proofs.Common.{◌≡◌, ℕ, ◌+◌, ◌*◌, ◌/◌, ◌<◌, List, Some, ap, sym, ◌∙◌, arith, get_or, slice_get, get_or_from_slice_get, PlanModel, in_tick}
 use Rattle.msrp_plan.specs.declared.rows.Row.{Row}
 use Rattle.msrp_core.specs.Machine.{MachineModel}
 use Rattle.msrp_audit.specs.declared.stretches.Stretch.{Stretch}

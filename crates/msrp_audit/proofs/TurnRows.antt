@@ -1,18 +1,12 @@
 -- Rows that come turn by turn, of which a core's are kept only where they aren't its last one again: one more of them, the last one again, and fewer of them.
-use Rattle.std.proofs.Common.{◌≡◌, ◌≢◌, ℕ, zero, suc, ◌<◌, ◌≤◌, ◌+◌, ◌-◌, ◌*◌, ◌/◌, ◌%◌, ◌^◌, List, [], ◌∷◌, ◌++◌, cond, nat_lt, eqb, Some, inl, inr, length, length-set, nat_le, map, min, take, slice_get, slice_index_or, slice_set, get_or-set_other, get_or-set_same, refl, ap, sym, ◌∙◌, subst, arith, le-leb, Vec, Global}
-use Rattle.std.proofs.Math.Nat.{mul-le-mul_right}
-use Rattle.std.proofs.lemmas.Bool.{cases_eq, cases_lt, le-ltb, lt-leb}
-use Rattle.std.proofs.lemmas.Bool.Decides.{nat_tests}
-use Rattle.std.proofs.lemmas.Nat.{div-add-mod', div-mul-add, mod-mul-add, same_from_place}
-use Rattle.std.proofs.lemmas.List.{get_or-map, get_or_append_left, get_or_push, length-map, map-set, set-get_or, length_push, take_min}
-use Rattle.std.proofs.lemmas.List.Elements.{All-push, All-tail, All-weaker}
-use Rattle.std.proofs.lemmas.List.Folds.{prefix_len-append}
-use Rattle.std.proofs.lemmas.List.FromFn.{fill_by_all, get_or-map-range_with_len, length-map-range_with_len, map-range_with_len_more, take-map-range_with_len}
-use Rattle.std.proofs.lemmas.List.Sums.{prefix_len-le-length}
-use Rattle.std.proofs.lemmas.Option.{get_or_from_slice_get, slice_get_within}
-use Rattle.std.specs.List.{All, range_with_len}
-use Rattle.msrp_plan.specs.Stretches.{in_tick}
+use Rattle.msrp_plan.proofs.Common.{◌≡◌, ◌≢◌, ℕ, zero, suc, ◌<◌, ◌≤◌, ◌+◌, ◌-◌, ◌*◌, ◌/◌, ◌%◌, ◌^◌, List, [], ◌∷◌, ◌++◌, cond, nat_lt, eqb, Some, inl, inr, length, nat_le, map, min, take, slice_get, slice_index_or, slice_set, refl, ap, sym, ◌∙◌, subst, arith, Vec, Global, mul-le-mul_right, cases_eq, cases_lt, le-ltb, lt-leb, nat_tests, div-add-mod', div-mul-add, mod-mul-add, get_or-map, get_or_append_left, get_or_push, length-map, set-get_or, length_push, All-push, All-weaker, get_or-map-range_with_len, length-map-range_with_len, map-range_with_len_more, prefix_len-le-length, get_or_from_slice_get, slice_get_within, All, range_with_len, in_tick}
 use Rattle.msrp_plan.specs.declared.rows.Row.{Row}
+use Rattle.std.proofs.Common.{length-set, get_or-set_other, get_or-set_same, le-leb}
+use Rattle.std.proofs.lemmas.Nat.{same_from_place}
+use Rattle.std.proofs.lemmas.List.{map-set, take_min}
+use Rattle.std.proofs.lemmas.List.Elements.{All-tail}
+use Rattle.std.proofs.lemmas.List.Folds.{prefix_len-append}
+use Rattle.std.proofs.lemmas.List.FromFn.{fill_by_all, take-map-range_with_len}
 use Rattle.msrp_audit.specs.Inside.KeptView.{Kept}
 use Rattle.msrp_audit.specs.Inside.Gathered.{row_of}
 use Rattle.msrp_audit.specs.Inside.Stretches.{AreListed, AreTurnLists, IsTurnList, came_by, list_of, lists_of, no_kept, row_in, turns_told}

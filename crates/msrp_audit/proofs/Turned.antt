@@ -1,18 +1,7 @@
 -- Which cores had their turns in a tick, by the notes of it, and which tick is due, by the number of rows.
-use Rattle.std.proofs.Common.{◌≡◌, ℕ, ◌+◌, ◌*◌, ◌/◌, ◌<◌, ◌≤◌, ◌==◌, ◌&&◌, ◌||◌, Bool, true, false, List, [], ◌∷◌, refl, ap, sym, ◌∙◌, subst, arith, length, eqb-true, take, replicate, set, slice_get, get_or, Some, eq-eqb, get_or-set_other, inl, inr}
-use Rattle.std.proofs.Math.Bool.{or-true, or-false}
-use Rattle.std.proofs.lemmas.Bool.{cases_eq, cases_lt}
-use Rattle.std.proofs.lemmas.Grind.{get_or-set_at}
-use Rattle.std.proofs.lemmas.Nat.{div-mul-add}
-use Rattle.std.proofs.lemmas.List.{get_or-replicate, length-take-le}
-use Rattle.msrp_plan.specs.Plan.{PlanModel}
-use Rattle.msrp_plan.specs.Runs.{IsLegal, IsRunStart, EachAfter, had_turn, is_in_turn}
-use Rattle.msrp_plan.specs.WellFormed.{IsPlan}
+use Rattle.msrp_plan.proofs.Common.{◌≡◌, ℕ, ◌+◌, ◌*◌, ◌/◌, ◌<◌, ◌≤◌, ◌==◌, ◌&&◌, ◌||◌, Bool, true, false, List, [], ◌∷◌, refl, ap, sym, ◌∙◌, subst, arith, length, eqb-true, take, replicate, set, slice_get, get_or, Some, eq-eqb, inl, inr, or-true, or-false, cases_eq, cases_lt, get_or-set_at, div-mul-add, get_or-replicate, length-take-le, PlanModel, IsLegal, IsRunStart, EachAfter, had_turn, is_in_turn, IsPlan, any_push, along, not_equal, start_before}
 use Rattle.msrp_plan.specs.declared.rows.Row.{Row}
-use Rattle.msrp_plan.proofs.Lists.AnyAll.{any_push}
-use Rattle.msrp_plan.proofs.Lists.Prefixes.{along}
-use Rattle.msrp_plan.proofs.Lists.Ranges.{not_equal}
-use Rattle.msrp_plan.proofs.Runs.Verdicts.{start_before}
+use Rattle.std.proofs.Common.{get_or-set_other}
 use Rattle.msrp_plan.proofs.Runs.Ticks.{IsTick, AnyTick, rows_in, any_both, tick_is, tick_none, fresh, any_tick_push}
 use Rattle.msrp_audit.specs.Inside.Walks.{AreTurned}
 use Rattle.msrp_audit.proofs.Scanning.{one_more, row_is}

@@ -1,9 +1,5 @@
 -- A row against the one that its core was due to make: what the first rule is that it breaks.
-use Rattle.std.specs.Prelude.{ℕ, Bool, true, false, ◌==◌, ◌&&◌, Option, Some, None, if◌then◌else◌}
-use Rattle.std.specs.Option.{option_or}
-use Rattle.msrp_plan.specs.Actions.{same_res}
-use Rattle.msrp_plan.specs.Kinds.{same_kind}
-use Rattle.msrp_plan.specs.Runs.{same_choice}
+use Rattle.msrp_plan.specs.Common.{ℕ, Bool, true, false, ◌==◌, ◌&&◌, Option, Some, None, if◌then◌else◌, option_or, same_res, same_kind, same_choice}
 use Rattle.msrp_plan.specs.declared.faults.Rule.{Rule}
 use Rattle.msrp_plan.specs.declared.faults.Rule.TheVariants.{A3, A4, A5}
 use Rattle.msrp_plan.specs.declared.rows.Kind.{Kind}

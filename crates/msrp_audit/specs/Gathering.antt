@@ -1,7 +1,5 @@
 -- The rows of a tick that are put behind those that were gathered.
-use Rattle.std.specs.Prelude.{ℕ, Bool, List, map, Some, length, slice_get, ◌≡◌, ◌≢◌, ◌≤◌, ◌+◌, ◌-◌, if◌then◌else◌}
-use Rattle.msrp_plan.specs.Aheads.{without_ahead}
-use Rattle.msrp_plan.specs.Stretches.{in_tick}
+use Rattle.msrp_plan.specs.Common.{ℕ, Bool, List, map, Some, length, slice_get, ◌≡◌, ◌≢◌, ◌≤◌, ◌+◌, ◌-◌, if◌then◌else◌, without_ahead, in_tick}
 use Rattle.msrp_plan.specs.declared.rows.Row.{Row}
 
 -- a row with how many stand ahead of its job, or without

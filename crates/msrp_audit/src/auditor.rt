@@ -1,12 +1,8 @@
 //! The auditor, row by row.
-ghost use Rattle.std.specs.Prelude.{◌≡◌, ◌≤◌, ◌<◌, ◌+◌, ◌*◌, ◌/◌, ◌%◌, ◌++◌, ◌∷◌, ◌↔◌, [], ℕ, List, IfOk, IfNone, IfSome, Some, None, Err, length, true};
-ghost use Rattle.std.specs.Option.{IsSomeAnd, is_some};
+ghost use Rattle.msrp_plan.specs.Common.{◌≡◌, ◌≤◌, ◌<◌, ◌+◌, ◌*◌, ◌/◌, ◌%◌, ◌++◌, ◌∷◌, ◌↔◌, [], ℕ, List, IfOk, IfNone, IfSome, Some, None, Err, length, true, IsSomeAnd, most_rows, log_of, is_of_core, is_in_turn, fault_in, verdict, IsPlan};
+ghost use Rattle.std.specs.Option.{is_some};
 ghost use Rattle.msrp_core.specs.CoreStates.{IsCoreState};
-ghost use Rattle.msrp_plan.specs.Limits.{most_rows};
-ghost use Rattle.msrp_plan.specs.Logs.{log_of};
-ghost use Rattle.msrp_plan.specs.Runs.{is_of_core, is_in_turn};
-ghost use Rattle.msrp_plan.specs.Verdict.{fault_in, verdict, refused};
-ghost use Rattle.msrp_plan.specs.WellFormed.{IsPlan};
+ghost use Rattle.msrp_plan.specs.Verdict.{refused};
 ghost use Rattle.msrp_plan.specs.declared.faults.Fault.{Fault as TraceFault};
 ghost use Rattle.msrp_plan.specs.declared.rows.Row.{Row as TraceRow};
 ghost use Rattle.msrp_sim.specs.Cores.{IsDueInRun, IsNextRow, IsSomeTurn, IsAs, Leaves, known_row};

@@ -1,8 +1,5 @@
 //! A row against the one that was due.
-ghost use Rattle.std.specs.Prelude.{◌≡◌};
-ghost use Rattle.msrp_plan.specs.Runs.{same_choice};
-ghost use Rattle.msrp_plan.specs.Actions.{same_res};
-ghost use Rattle.msrp_plan.specs.Kinds.{same_kind};
+ghost use Rattle.msrp_plan.specs.Common.{◌≡◌, same_choice, same_res, same_kind};
 ghost use Rattle.msrp_audit.specs.Foresight.{same_action, same_ahead, does_alike, replied_alike, unlike, unlike_turn};
 
 use msrp_plan::{Kind, Row, Rule};

@@ -1,8 +1,5 @@
 //! The rows of one core: A2 to A4.
-ghost use Rattle.std.specs.Prelude.{◌≡◌, ◌<◌, ◌≤◌, ◌*◌, ◌+◌, ◌/◌, ◌++◌, ◌∷◌, ◌==◌, ◌^◌, [], List, IfOk, None, length, nat_lt, slice_index_or, true, if◌then◌else◌};
-ghost use Rattle.msrp_plan.specs.Logs.{log_of};
-ghost use Rattle.msrp_plan.specs.Runs.{IsRunStart, is_in_turn};
-ghost use Rattle.msrp_plan.specs.WellFormed.{IsPlan};
+ghost use Rattle.msrp_plan.specs.Common.{◌≡◌, ◌<◌, ◌≤◌, ◌*◌, ◌+◌, ◌/◌, ◌++◌, ◌∷◌, ◌==◌, ◌^◌, [], List, IfOk, None, length, nat_lt, slice_index_or, true, if◌then◌else◌, log_of, IsRunStart, is_in_turn, IsPlan};
 ghost use Rattle.msrp_plan.specs.declared.rows.Row.{Row as TraceRow};
 ghost use Rattle.msrp_core.specs.Machine.{StandsAfter};
 ghost use Rattle.msrp_audit.specs.Inside.Pieces.{broken_action, broken_on_core, TellsFirst};

@@ -1,7 +1,5 @@
 //! Rows that are gathered before they are judged, in as few bytes as they need.
-ghost use Rattle.std.specs.Prelude.{ℕ, ◌≡◌, ◌<◌, ◌≤◌, ◌++◌, ◌∷◌, [], ◌+◌, ◌*◌, drop, length, slice_get, slice_index_or, take, IfErr, IfOk, OnOk, true};
-ghost use Rattle.msrp_plan.specs.Queues.{is_on};
-ghost use Rattle.msrp_plan.specs.Stretches.{in_tick};
+ghost use Rattle.msrp_plan.specs.Common.{ℕ, ◌≡◌, ◌<◌, ◌≤◌, ◌++◌, ◌∷◌, [], ◌+◌, ◌*◌, drop, length, slice_get, slice_index_or, take, IfErr, IfOk, OnOk, true, is_on, in_tick};
 ghost use Rattle.msrp_plan.specs.declared.rows.Row.{Row as TraceRow};
 ghost use Rattle.msrp_audit.specs.Gathering.{RepeatOthers, tick_rows};
 ghost use Rattle.msrp_audit.specs.Inside.Naming.{AreOff};

@@ -1,8 +1,5 @@
 //! A row in eight bytes.
-ghost use Rattle.std.specs.Prelude.{◌≡◌, ◌+◌, ℕ, true, false, IfSome};
-ghost use Rattle.msrp_plan.specs.Queues.{is_on};
-ghost use Rattle.msrp_plan.specs.Stretches.{in_tick};
-ghost use Rattle.msrp_plan.specs.Shape.{ahead_of_kind, job_of_kind, res_of_kind};
+ghost use Rattle.msrp_plan.specs.Common.{◌≡◌, ◌+◌, ℕ, true, false, IfSome, is_on, in_tick, ahead_of_kind, job_of_kind, res_of_kind};
 ghost use Rattle.msrp_audit.specs.Inside.Gathered.{ahead_in, ahead_number, carries_in, job_in, kind_in, kind_numbered, number_of_kind, res_in, row_of};
 
 use msrp_plan::{CoreId, JobId, Kind, ResId, Row, TaskId};

@@ -1,6 +1,5 @@
 //! The rows that name a resource, one after the other.
-ghost use Rattle.std.specs.Prelude.{ℕ, true, false, ◌≡◌, ◌<◌, ◌≤◌, ◌+◌, ◌-◌, ◌*◌, ◌^◌, IfSome, List, Some, length, slice_get};
-ghost use Rattle.msrp_plan.specs.Queues.{is_behind, is_reply_of};
+ghost use Rattle.msrp_plan.specs.Common.{ℕ, true, false, ◌≡◌, ◌<◌, ◌≤◌, ◌+◌, ◌-◌, ◌*◌, ◌^◌, IfSome, List, Some, length, slice_get, is_behind, is_reply_of};
 ghost use Rattle.msrp_plan.specs.declared.ids.JobId.{JobId as WaitingJob};
 ghost use Rattle.msrp_plan.specs.declared.ids.ResId.{ResId as Resource};
 ghost use Rattle.msrp_plan.specs.declared.rows.Row.{Row as TraceRow};

@@ -1,7 +1,5 @@
 //! The pieces of an audit: each looks at some of the rows alone.
-ghost use Rattle.std.specs.Prelude.{ℕ, ◌≡◌, ◌≤◌, ◌<◌, ◌+◌, ◌*◌, ◌^◌, IfOk, IfSome, OnOk, length, slice_index_or};
-ghost use Rattle.msrp_plan.specs.Levels.{is_global};
-ghost use Rattle.msrp_plan.specs.WellFormed.{IsPlan};
+ghost use Rattle.msrp_plan.specs.Common.{ℕ, ◌≡◌, ◌≤◌, ◌<◌, ◌+◌, ◌*◌, ◌^◌, IfOk, IfSome, OnOk, length, slice_index_or, is_global, IsPlan};
 ghost use Rattle.msrp_audit.specs.Inside.Pieces.{broken_in, DealsAll, HasDealt, listed, listed_pieces, parts, piece_with, pieces_of, share_at, share_size, TellsFirst};
 ghost use Rattle.msrp_audit.specs.Inside.Walks.{KeepsOrder};
 

@@ -1,9 +1,5 @@
 //! The queue of one resource: A5.
-ghost use Rattle.std.specs.Prelude.{◌≡◌, ◌<◌, ◌≤◌, ◌*◌, IfOk, length};
-ghost use Rattle.msrp_plan.specs.Queues.{counts, is_behind, is_first, is_reply_of, replies};
-ghost use Rattle.std.specs.List.{list_any};
-ghost use Rattle.msrp_plan.specs.Levels.{is_global};
-ghost use Rattle.msrp_plan.specs.Jobs.{same_job};
+ghost use Rattle.msrp_plan.specs.Common.{◌≡◌, ◌<◌, ◌≤◌, ◌*◌, IfOk, length, counts, is_behind, is_first, is_reply_of, replies, list_any, is_global, same_job};
 ghost use Rattle.msrp_audit.specs.Inside.Pieces.{broken_reply, TellsFirst};
 
 use crate::gathered::Rows;

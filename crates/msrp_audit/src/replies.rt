@@ -1,7 +1,5 @@
 //! One turn of a machine over a port that answers as a row says.
-ghost use Rattle.std.specs.Prelude.{◌≡◌, ◌<◌, ◌+◌, ◌++◌, ◌∷◌, [], ◌⊎◌, List, length, true, IfNone, IfSome, None, Some};
-ghost use Rattle.std.specs.Option.{ForSome};
-ghost use Rattle.msrp_plan.specs.Runs.{IsCoreTurn};
+ghost use Rattle.msrp_plan.specs.Common.{◌≡◌, ◌<◌, ◌+◌, ◌++◌, ◌∷◌, [], ◌⊎◌, List, length, true, IfNone, IfSome, None, Some, ForSome, IsCoreTurn};
 ghost use Rattle.msrp_plan.specs.declared.rows.Row.{Row as TraceRow};
 ghost use Rattle.msrp_core.specs.Machine.{RepeatsOnly, StandsAfter, next_known};
 ghost use Rattle.msrp_core.specs.Ports.{Adds, claim_in};

@@ -1,7 +1,5 @@
 //! The rows of the first turns, which the cores have by their numbers in each tick. Of each core only those are kept that aren't its last row again.
-ghost use Rattle.std.specs.Prelude.{ℕ, ◌≡◌, ◌<◌, ◌≤◌, ◌++◌, ◌∷◌, [], ◌+◌, ◌*◌, ◌-◌, ◌^◌, drop, length, map, slice_get, slice_index_or, take, IfOk, List, Ok, Some, true, false};
-ghost use Rattle.msrp_plan.specs.Queues.{is_on};
-ghost use Rattle.msrp_plan.specs.Stretches.{in_tick};
+ghost use Rattle.msrp_plan.specs.Common.{ℕ, ◌≡◌, ◌<◌, ◌≤◌, ◌++◌, ◌∷◌, [], ◌+◌, ◌*◌, ◌-◌, ◌^◌, drop, length, map, slice_get, slice_index_or, take, IfOk, List, Ok, Some, true, false, is_on, in_tick};
 ghost use Rattle.msrp_plan.specs.declared.rows.Row.{Row as TraceRow};
 ghost use Rattle.msrp_audit.specs.Inside.KeptView.{Kept};
 ghost use Rattle.msrp_audit.specs.Inside.Gathered.{row_of};

@@ -1,5 +1,5 @@
 //! The rows of a whole tick, put behind those of the turns before.
-ghost use Rattle.std.specs.Prelude.{ℕ, ◌≡◌, ◌<◌, ◌≤◌, ◌+◌, ◌*◌, ◌^◌, List, ◌++◌, length, take};
+ghost use Rattle.msrp_plan.specs.Common.{ℕ, ◌≡◌, ◌<◌, ◌≤◌, ◌+◌, ◌*◌, ◌^◌, List, ◌++◌, length, take};
 ghost use Rattle.msrp_plan.specs.declared.rows.Row.{Row as TraceRow};
 ghost use Rattle.msrp_audit.specs.Gathering.{RepeatOthers, tick_rows, told};
 ghost use Rattle.msrp_audit.specs.Inside.Stretches.{AreListed, lists_of, turns_told};

@@ -1,7 +1,5 @@
 //! The turns of some ticks: A1.
-ghost use Rattle.std.specs.Prelude.{◌≡◌, ◌≤◌, ◌<◌, ◌+◌, ◌*◌, ◌/◌, List, length, true};
-ghost use Rattle.msrp_plan.specs.Runs.{IsRunStart, is_in_turn};
-ghost use Rattle.msrp_plan.specs.WellFormed.{IsPlan};
+ghost use Rattle.msrp_plan.specs.Common.{◌≡◌, ◌≤◌, ◌<◌, ◌+◌, ◌*◌, ◌/◌, List, length, true, IsRunStart, is_in_turn, IsPlan};
 ghost use Rattle.msrp_plan.specs.declared.rows.Row.{Row as TraceRow};
 ghost use Rattle.msrp_audit.specs.Inside.Pieces.{broken_turn, TellsFirst};
 ghost use Rattle.msrp_audit.specs.Inside.Walks.{AreInTick, AreInTurn, AreTurned, KeepsOrder};

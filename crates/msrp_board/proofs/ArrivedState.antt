@@ -1,6 +1,5 @@
 -- What a seat keeps of a core after its arrival.
-use Rattle.std.proofs.Common.{◌==◌, ◌||◌, ◌≡◌, ℕ, suc, List, [], ◌∷◌, Bool, false, refl, sym, ap, ◌∙◌, arith, ne_eqb}
-use Rattle.std.specs.List.{list_any}
+use Rattle.msrp_plan.proofs.Common.{◌==◌, ◌||◌, ◌≡◌, ℕ, suc, List, [], ◌∷◌, Bool, false, refl, sym, ap, ◌∙◌, arith, ne_eqb, list_any}
 use Rattle.msrp_board.specs.declared.books.Entry.{Entry}
 use Rattle.msrp_board.specs.declared.pages.Page.{Page}
 use Rattle.msrp_board.specs.declared.held.CoreState.{CoreState}

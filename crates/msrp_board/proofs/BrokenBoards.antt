@@ -1,6 +1,5 @@
 -- Each broken board breaks the rule.
-use Rattle.std.proofs.Common.{◌≡◌, ℕ, zero, suc, ◌<◌, ◌≤◌, List, [], ◌∷◌, cond, true, false, refl, ap, ◌∙◌, subst, arith, inl, inr, ne_eqb}
-use Rattle.std.specs.List.{AllByRecursion}
+use Rattle.msrp_plan.proofs.Common.{◌≡◌, ℕ, zero, suc, ◌<◌, ◌≤◌, List, [], ◌∷◌, cond, true, false, refl, ap, ◌∙◌, subst, arith, inl, inr, ne_eqb, AllByRecursion}
 use Rattle.msrp_plan.specs.declared.units.Call.TheVariants.{Ask, Poll, Leave}
 use Rattle.msrp_board.specs.declared.books.Book.{Book}
 use Rattle.msrp_board.specs.declared.books.Conductor.TheVariants.{Opened, Aborted}

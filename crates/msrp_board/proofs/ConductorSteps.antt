@@ -1,9 +1,5 @@
 -- The conductor's steps keep the rule.
-use Rattle.std.proofs.Common.{◌≡◌, ◌≢◌, ⊎_elim, ℕ, ◌+◌, ◌%◌, ◌^◌, List, [], set, Some, refl, sym, ap, ◌∙◌, subst, arith}
-use Rattle.std.specs.Prelude.{slice_index}
-use mathlib.Core.Option.{some, none}
-use lib.ListN.{get_elem?}
-use Rattle.std.proofs.lemmas.List.{length-set, get_or-set_same, get_or-set_other}
+use Rattle.msrp_plan.proofs.Common.{◌≡◌, ◌≢◌, ⊎_elim, ℕ, ◌+◌, ◌%◌, ◌^◌, List, [], set, Some, refl, sym, ap, ◌∙◌, subst, arith, slice_index, some, none, get_elem?, length-set, get_or-set_same, get_or-set_other, same_Some}
 use Rattle.atomic_table.specs.Table.{State, Me, step, keeps, stepped, Allows}
 use Rattle.atomic_table.proofs.Lists.{at_set, set_here}
 use Rattle.msrp_board.specs.declared.pages.View.{View}
@@ -17,7 +13,6 @@ use Rattle.msrp_board.specs.Inside.Rule.{OwnsBy, SharedConductor, HasConductor, 
 use Rattle.msrp_board.proofs.Sharing.{same_shared}
 use Rattle.msrp_board.proofs.BarrierSteps.{few_arrivals}
 use Rattle.msrp_board.proofs.Queue.{in_range}
-use Rattle.std.proofs.lemmas.Option.{same_Some}
 
 conductor_shared : (views : List View) (id : ℕ) (v : View) (o w : Conductor) → get_elem? views id ≡ some v → v.conductor ≡ Some o → SharedConductor views o → SharedConductor (set views id (view_with_conductor w v)) w
 conductor_shared views id v o w at_id mine sh = record {

@@ -1,12 +1,9 @@
 -- A core's seat, for whoever makes its calls: how it comes about, what its readers tell, and that it stays one.
-use Rattle.std.proofs.Common.{◌==◌, ◌||◌, ◌≡◌, ◌<◌, ℕ, zero, suc, List, [], ◌∷◌, map, Bool, true, false, nat_lt, Some, None, refl, sym, subst, ap, ◌∙◌, true≢false, arith, ne_eqb}
-use Rattle.std.specs.Prelude.{slice_index_or, IsSome}
-use Rattle.std.specs.List.{list_any, AllByRecursion}
+use Rattle.msrp_plan.proofs.Common.{◌==◌, ◌||◌, ◌≡◌, ◌<◌, ℕ, zero, suc, List, [], ◌∷◌, map, Bool, true, false, nat_lt, Some, None, refl, sym, subst, ap, ◌∙◌, arith, ne_eqb, slice_index_or, IsSome, list_any, AllByRecursion, dite, ℕ_discrete}
+use Rattle.msrp_plan.specs.declared.units.Phase.{Phase}
+use Rattle.std.proofs.Common.{true≢false}
 use Rattle.std.specs.Option.{option_map, is_some}
 use Rattle.std.specs.declared.option.Option.{Option}
-use mathlib.Core.Logic.{dite}
-use native.Mathlib.Decide.{ℕ_discrete}
-use Rattle.msrp_plan.specs.declared.units.Phase.{Phase}
 use Rattle.msrp_board.specs.declared.answers.Look.{Look}
 use Rattle.msrp_board.specs.declared.answers.Look.TheVariants.{Wait, Go, Stopped}
 use Rattle.msrp_board.specs.declared.answers.SeatPhase.{SeatPhase}

@@ -1,9 +1,8 @@
 -- What a step on a ticket word tells, by the halves that it found.
-use Rattle.std.proofs.Common.{◌==◌, ◌≡◌, ℕ, ◌+◌, sym, ap, ◌∙◌, subst}
-use mathlib.Core.Option.{none}
-use Rattle.atomic_table.specs.Table.{Me, step}
+use Rattle.msrp_plan.proofs.Common.{◌==◌, ◌≡◌, ℕ, ◌+◌, sym, ap, ◌∙◌, subst, none}
 use Rattle.msrp_plan.specs.declared.units.Call.{Call}
 use Rattle.msrp_plan.specs.declared.units.Call.TheVariants.{Poll}
+use Rattle.atomic_table.specs.Table.{Me, step}
 use Rattle.msrp_board.specs.declared.held.Claim.TheVariants.{Waits}
 use Rattle.msrp_board.specs.declared.pages.View.{View}
 use Rattle.msrp_board.specs.declared.words.TicketWord.{TicketWord}

@@ -1,9 +1,7 @@
 -- What a seat keeps of its cores, and what callers see, where a seat is parted and where two are joined.
-use Rattle.std.proofs.Common.{◌==◌, ◌≡◌, ⊎_elim, ℕ, zero, suc, ◌<◌, List, [], ◌∷◌, map, not, Some, None, refl, sym, ap, ◌∙◌, subst, eq-eqb, ne_eqb}
-use Rattle.std.specs.Option.{option_map, option_or}
+use Rattle.msrp_plan.proofs.Common.{◌==◌, ◌≡◌, ⊎_elim, ℕ, zero, suc, ◌<◌, List, [], ◌∷◌, map, not, Some, None, refl, sym, ap, ◌∙◌, subst, eq-eqb, ne_eqb, option_or, dite, ℕ_discrete}
+use Rattle.std.specs.Option.{option_map}
 use Rattle.std.specs.declared.option.Option.{Option}
-use mathlib.Core.Logic.{dite}
-use native.Mathlib.Decide.{ℕ_discrete}
 use Rattle.atomic_table.specs.Table.{Me}
 use Rattle.atomic_table.specs.Seated.{TableId}
 use Rattle.msrp_board.specs.declared.books.Book.{Book}

@@ -1,16 +1,11 @@
 -- A request, a poll and a release keep the rule.
-use Rattle.std.proofs.Common.{◌==◌, eq-eqb, ne_eqb, ◌≡◌, ◌≢◌, ◌⊎◌, inl, inr, ⊎_elim, ℕ, zero, suc, ◌+◌, ◌*◌, ◌%◌, ◌^◌, ◌-◌, ◌<◌, ◌≤◌, List, [], ◌∷◌, length, set, Some, Bool, true, false, true≢false, refl, sym, ap, ◌∙◌, subst, arith}
-use Rattle.std.specs.Prelude.{slice_index}
-use mathlib.Core.Option.{some, none, some-injective, some-ne-none}
-use mathlib.Core.Logic.{dite}
-use native.Mathlib.Decide.{ℕ_discrete, dec_lt}
-use lib.ListN.{get_elem?}
-use Rattle.std.proofs.lemmas.Nat.{mul-le, mod-mul-add, div-mul-add}
-use Rattle.std.proofs.lemmas.List.{length-set, get_or-set_same, get_or-set_other}
-use Rattle.atomic_table.specs.Table.{State, Me, step, keeps, stepped, Allows}
-use Rattle.atomic_table.proofs.Lists.{at_set, set_here, set_else}
+use Rattle.msrp_plan.proofs.Common.{◌==◌, eq-eqb, ne_eqb, ◌≡◌, ◌≢◌, ◌⊎◌, inl, inr, ⊎_elim, ℕ, zero, suc, ◌+◌, ◌*◌, ◌%◌, ◌^◌, ◌-◌, ◌<◌, ◌≤◌, List, [], ◌∷◌, length, set, Some, Bool, true, false, refl, sym, ap, ◌∙◌, subst, arith, slice_index, some, none, some-injective, some-ne-none, dite, ℕ_discrete, get_elem?, mul-le, mod-mul-add, div-mul-add, length-set, get_or-set_same, get_or-set_other, Answers, IsAmong, IsFirst}
 use Rattle.msrp_plan.specs.declared.units.Call.{Call}
 use Rattle.msrp_plan.specs.declared.units.Call.TheVariants.{Ask, Poll, Leave}
+use Rattle.std.proofs.Common.{true≢false}
+use native.Mathlib.Decide.{dec_lt}
+use Rattle.atomic_table.specs.Table.{State, Me, step, keeps, stepped, Allows}
+use Rattle.atomic_table.proofs.Lists.{at_set, set_here, set_else}
 use Rattle.msrp_board.specs.declared.books.Entry.{Entry}
 use Rattle.msrp_board.specs.declared.pages.Page.{Page}
 use Rattle.msrp_board.specs.declared.pages.View.{View}
@@ -23,7 +18,6 @@ use Rattle.msrp_board.specs.Words.{high, low}
 use Rattle.msrp_board.specs.Inside.Rule.{page_has_acted, page_with, arrivals, page_admissions, HasConductor, Gathered, HasPage, Owns, Shared, IsTicketWord, IsServedNewest, IsKeptNewest, Ruled, HasOnly, page_with_ask, with_pages, page_with_poll, page_with_leave, ViewIsBehind, TellsAsk, TellsPoll, TellsLeave}
 use Rattle.msrp_board.specs.declared.held.Claim.{Claim}
 use Rattle.msrp_board.specs.declared.held.Claim.TheVariants.{Nothing, Waits, Holds}
-use Rattle.msrp_plan.specs.FifoLock.{Answers, IsAmong, IsFirst}
 use Rattle.msrp_board.proofs.Queue.{at_first, among, not_among, not_first, Coupled, coupled, ticket, held, by_same, by_other, by_cases, in_range}
 use Rattle.msrp_board.proofs.Counts.{at, pick, claim_on, on_same, on_other, total_more, total_bound, ticks_length, arrivals_set}
 use Rattle.msrp_board.proofs.Sharing.{same_shared}

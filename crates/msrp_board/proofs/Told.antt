@@ -1,16 +1,11 @@
 -- A page as callers see it: what it says of its core is what the book says.
-use Rattle.std.proofs.Common.{◌++◌, nat_lt, ◌==◌, ◌||◌, ◌≡◌, ℕ, zero, suc, List, [], ◌∷◌, map, reverse, Bool, true, false, Some, None, refl, sym, ap, ◌∙◌}
-use Rattle.std.specs.Prelude.{slice_index_or}
-use Rattle.std.specs.List.{list_any}
-use Rattle.std.specs.Option.{option_map, is_some}
-use Rattle.std.specs.declared.option.Option.{Option}
-use Rattle.std.proofs.lemmas.List.Folds.{list_any-append}
-use mathlib.Core.Option.{some}
-use lib.ListN.{get_elem?}
+use Rattle.msrp_plan.proofs.Common.{◌++◌, nat_lt, ◌==◌, ◌||◌, ◌≡◌, ℕ, zero, suc, List, [], ◌∷◌, map, reverse, Bool, true, false, Some, None, refl, sym, ap, ◌∙◌, slice_index_or, list_any, list_any-append, some, get_elem?, ResCall, claim_with, claim_after}
 use Rattle.msrp_plan.specs.declared.units.Call.{Call}
 use Rattle.msrp_plan.specs.declared.units.Call.TheVariants.{Ask, Poll, Leave}
 use Rattle.msrp_plan.specs.declared.units.Phase.{Phase}
 use Rattle.msrp_plan.specs.declared.units.Phase.TheVariants.{Free}
+use Rattle.std.specs.Option.{option_map, is_some}
+use Rattle.std.specs.declared.option.Option.{Option}
 use Rattle.msrp_board.specs.declared.books.Entry.{Entry}
 use Rattle.msrp_board.specs.declared.books.Book.{Book}
 use Rattle.msrp_board.specs.declared.pages.Page.{Page}
@@ -18,7 +13,6 @@ use Rattle.msrp_board.specs.declared.pages.View.{View}
 use Rattle.msrp_board.specs.declared.held.Claim.{Claim}
 use Rattle.msrp_board.specs.declared.held.CoreState.{CoreState}
 use Rattle.msrp_board.specs.declared.states.States.{States}
-use Rattle.msrp_plan.specs.Calls.{ResCall, claim_with, claim_after}
 use Rattle.msrp_board.specs.Books.{res_calls, phase_by, phase_in, lock_of, has_acted}
 use Rattle.msrp_board.specs.Seats.{BoardModel, IsCoreSeat}
 use Rattle.msrp_board.specs.Inside.Newest.{claim_of, claim_with_call}

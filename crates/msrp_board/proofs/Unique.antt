@@ -1,14 +1,10 @@
 -- Two lists with the same entries of each core, in one order, are equal; so books have but one history.
-use Rattle.std.proofs.Common.{◌≡◌, ◌≢◌, ◌⊎◌, inl, inr, ℕ, ◌<◌, ◌≤◌, true, cond, List, [], ◌∷◌, refl, ap, sym, ◌∙◌, subst, arith, eq-eqb, ne_eqb}
-use Rattle.std.specs.List.{AllByRecursion}
-use mathlib.Core.Logic.{dite}
-use native.Mathlib.Decide.{ℕ_discrete}
+use Rattle.msrp_plan.proofs.Common.{◌≡◌, ◌≢◌, ◌⊎◌, inl, inr, ℕ, ◌<◌, ◌≤◌, true, cond, List, [], ◌∷◌, refl, ap, sym, ◌∙◌, subst, arith, eq-eqb, ne_eqb, AllByRecursion, dite, ℕ_discrete, all_weaker}
 use Rattle.msrp_plan.specs.declared.units.Call.{Call}
 use Rattle.msrp_plan.specs.declared.units.Call.TheVariants.{Ask, Poll, Leave}
 use Rattle.msrp_board.specs.declared.books.Entry.{Entry}
 use Rattle.msrp_board.specs.Books.{on_resource, IsChain}
 use Rattle.msrp_board.specs.History.{Event, by_core, is_poll, place_after, Placed, PollsInOrder, IsHistory}
-use Rattle.msrp_plan.proofs.Lists.AnyAll.{all_weaker}
 
 -- ---- an order by parts
 

@@ -1,11 +1,10 @@
 -- What a core's book says of the core, and what every book keeps: the rule's part on one book. Entries stand oldest first.
-use Rattle.std.specs.Prelude.{ℕ, suc, ◌<◌, ◌≤◌, List, [], ◌∷◌, Bool, true, false, nat_lt, ◌==◌, map, ⊤, if◌then◌else◌}
-use Rattle.std.specs.List.{list_any, filter, AllByRecursion}
-use Rattle.msrp_plan.specs.Calls.{ResCall, claim_after, IsRegular}
-use Rattle.msrp_plan.specs.Limits.{most_cores, most_resources, most_ticks}
+use Rattle.msrp_plan.specs.Common.{ℕ, suc, ◌<◌, ◌≤◌, List, [], ◌∷◌, Bool, true, false, nat_lt, ◌==◌, map, ⊤, if◌then◌else◌, list_any, filter, AllByRecursion, ResCall, claim_after, most_cores, most_resources}
 use Rattle.msrp_plan.specs.declared.units.Call.{Call}
 use Rattle.msrp_plan.specs.declared.units.Call.TheVariants.{Ask, Poll, Leave}
 use Rattle.msrp_plan.specs.declared.units.Phase.{Phase}
+use Rattle.msrp_plan.specs.Calls.{IsRegular}
+use Rattle.msrp_plan.specs.Limits.{most_ticks}
 use Rattle.msrp_board.specs.declared.books.Entry.{Entry}
 use Rattle.msrp_board.specs.declared.books.Book.{Book}
 use Rattle.msrp_board.specs.declared.books.BoardSize.{BoardSize}

@@ -1,8 +1,8 @@
 -- What a board and a seat are to their callers, what every seat keeps, and what a seat must be for a call.
-use Rattle.std.specs.Prelude.{◌≡◌, ℕ, ◌<◌, List, [], false, replicate, ◌⊎◌, Some, None, IsSome, slice_index_or}
+use Rattle.msrp_plan.specs.Common.{◌≡◌, ℕ, ◌<◌, List, [], false, replicate, ◌⊎◌, Some, None, IsSome, slice_index_or}
+use Rattle.msrp_plan.specs.declared.units.Phase.{Phase}
 use Rattle.std.specs.declared.option.Option.{Option}
 use Rattle.atomic_table.specs.Seated.{TableId}
-use Rattle.msrp_plan.specs.declared.units.Phase.{Phase}
 use Rattle.msrp_board.specs.declared.answers.SeatPhase.{SeatPhase}
 use Rattle.msrp_board.specs.declared.answers.SeatPhase.TheVariants.{Admitted}
 use Rattle.msrp_board.specs.declared.books.Book.{Book}

@@ -1,5 +1,5 @@
 //! Laws over the definitions alone.
-ghost use Rattle.std.specs.Prelude.{◌≡◌, List, [], map, false};
+ghost use Rattle.msrp_plan.specs.Common.{◌≡◌, List, [], map, false};
 ghost use Rattle.atomic_table.specs.Table.{State};
 ghost use Rattle.msrp_board.specs.declared.pages.View.{View};
 ghost use Rattle.msrp_board.specs.declared.answers.SeatPhase.TheVariants.{Waiting};

@@ -1,7 +1,7 @@
 //! The chain in which a seat keeps the states of its cores, one node for each core: a seat is as small as what it keeps. Nodes are
 //! made with the board, and move where seats are parted and joined, so that neither takes memory.
-ghost use Rattle.std.specs.Prelude.{◌≡◌, ℕ, ◌==◌, not, replicate, Some, IfOk};
-ghost use Rattle.std.specs.Option.{is_some, option_or};
+ghost use Rattle.msrp_plan.specs.Common.{◌≡◌, ℕ, ◌==◌, not, replicate, Some, IfOk, option_or};
+ghost use Rattle.std.specs.Option.{is_some};
 ghost use Rattle.msrp_board.specs.declared.pages.Page.{Page};
 ghost use Rattle.msrp_board.specs.declared.pages.View.{View};
 ghost use Rattle.msrp_board.specs.Inside.Held.{AreStates, IsOwn, state_of, kept_of, kept_if, with_own};

@@ -1,15 +1,13 @@
 -- Texts that are too long, and status 5.
-use Rattle.std.proofs.Common.{◌≡◌, ◌≤◌, ℕ, Bool, true, false, List, [], length, Option, Some, None, refl, ap, sym, subst, ◌∙◌, inl, inr, arith}
+use Rattle.msrp_plan.proofs.Common.{◌≡◌, ◌≤◌, ℕ, Bool, true, false, List, [], length, Option, Some, None, refl, ap, sym, subst, ◌∙◌, inl, inr, arith, cases_lt, ⊤}
+use Rattle.msrp_plan.specs.declared.faults.Fault.{Fault}
 use mathlib.Core.Bool.{true≢false}
-use Rattle.std.proofs.lemmas.Bool.{cases_lt}
-use Rattle.std.specs.Prelude.{⊤}
 use Rattle.std.specs.declared.result.Result.{Result}
 use Rattle.std.specs.declared.result.Result.TheVariants.{Ok, Err}
 use Rattle.msrp_engine.specs.MadeTexts.{found_in}
 use Rattle.msrp_faults.specs.declared.faults.CliFault.{CliFault}
 use Rattle.msrp_faults.specs.declared.faults.CliFault.TheVariants.{Plan, Trace, Usage, Memory, Threads, Read, Write}
 use Rattle.msrp_engine.specs.declared.made.Made.{Made}
-use Rattle.msrp_plan.specs.declared.faults.Fault.{Fault}
 use Rattle.msrp_engine.specs.Answered.{OrUnread}
 use Rattle.msrp_c.specs.Answers.{Answers, Gives, Hands, HandsOver, Judges, Tells, status_told, text_in, unfailed}
 use Rattle.msrp_c.specs.Whys.{AnswersWords, HandsWords, refusal_in, refusal_told, words_in}

@@ -1,21 +1,12 @@
 -- Rows as numbers that are judged one by one.
-use Rattle.std.proofs.Common.{◌≡◌, ◌++◌, ◌∷◌, [], ◌+◌, ◌<◌, ℕ, Bool, cond, length, map, take, drop, get_or, List, None, Some, Result, Ok, Err, refl, ap, sym, ◌∙◌, arith, append-nil, append_assoc}
-use Rattle.std.proofs.Math.Seq.{take-append-add}
-use Rattle.std.proofs.lemmas.List.{length-map, map-append, take-append-drop, take_more}
-use Rattle.std.proofs.lemmas.List.Elements.{filter_map-append}
-use Rattle.std.proofs.lemmas.Option.{slice_get_past}
-use Rattle.std.specs.List.{filter_map, prefix_len, take_while}
-use Rattle.std.specs.Option.{option_and_then}
-use Rattle.std.specs.Prelude.{slice_get}
+use Rattle.msrp_plan.proofs.Common.{◌≡◌, ◌++◌, ◌∷◌, [], ◌+◌, ◌<◌, ℕ, Bool, cond, length, map, take, drop, get_or, List, None, Some, Result, Ok, Err, refl, ap, sym, ◌∙◌, arith, append-nil, append_assoc, take-append-add, length-map, map-append, take-append-drop, take_more, filter_map-append, slice_get_past, filter_map, option_and_then, slice_get, PlanModel, fault_in, verdict, fault_stays}
+use Rattle.msrp_plan.specs.declared.faults.Fault.{Fault}
+use Rattle.msrp_plan.specs.declared.rows.Row.{Row}
+use Rattle.std.specs.List.{prefix_len, take_while}
 use Rattle.std.specs.Result.{is_ok, result_ok}
 use Rattle.msrp_audit.specs.Audits.{answer_of}
 use Rattle.msrp_engine.specs.Findings.{found_first}
 use Rattle.msrp_faults.specs.Outcomes.{trace_fault_of}
-use Rattle.msrp_plan.specs.Plan.{PlanModel}
-use Rattle.msrp_plan.specs.Verdict.{fault_in, verdict}
-use Rattle.msrp_plan.specs.declared.faults.Fault.{Fault}
-use Rattle.msrp_plan.specs.declared.rows.Row.{Row}
-use Rattle.msrp_plan.proofs.Runs.Verdicts.{fault_stays}
 use Rattle.msrp_text.proofs.Folding.{slice_get-seam}
 use Rattle.msrp_trace.specs.Reading.{Told}
 use Rattle.msrp_trace.specs.declared.faults.TraceError.{TraceError}

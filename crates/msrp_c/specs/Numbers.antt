@@ -1,12 +1,10 @@
 -- What C names by numbers.
-use Rattle.std.specs.Prelude.{ℕ, List, Option, Some, None, ◌==◌, if◌then◌else◌}
+use Rattle.msrp_plan.specs.Common.{ℕ, List, Option, Some, None, ◌==◌, if◌then◌else◌, ascending, PlanModel}
+use Rattle.msrp_plan.specs.declared.rows.TextVersion.{TextVersion}
+use Rattle.msrp_plan.specs.declared.rows.TextVersion.TheVariants.{V1, V2}
 use Rattle.msrp_picture.specs.declared.windows.Asked.{Asked}
 use Rattle.msrp_picture.specs.declared.windows.Style.{Style}
 use Rattle.msrp_picture.specs.declared.windows.Style.TheVariants.{Text, Svg}
-use Rattle.msrp_plan.specs.Logs.{ascending}
-use Rattle.msrp_plan.specs.Plan.{PlanModel}
-use Rattle.msrp_plan.specs.declared.rows.TextVersion.{TextVersion}
-use Rattle.msrp_plan.specs.declared.rows.TextVersion.TheVariants.{V1, V2}
 use Rattle.msrp_sim.specs.Orders.{falling, rotating}
 
 -- the order of the cores' turns in a plan: rising, falling, going round, or the cores that are given

@@ -1,13 +1,11 @@
 -- The picture of a trace, in a style that is named.
-use Rattle.std.specs.Prelude.{◌≡◌, ℕ, List, Option, Some, None}
-use Rattle.std.specs.declared.result.Result.{Result}
+use Rattle.msrp_plan.specs.Common.{◌≡◌, ℕ, List, Option, Some, None, Result, PlanModel}
 use Rattle.std.specs.declared.result.Result.TheVariants.{Err}
 use Rattle.msrp_view_engine.specs.Views.{IsPictureOf}
 use Rattle.msrp_faults.specs.declared.faults.CliFault.{CliFault}
 use Rattle.msrp_faults.specs.declared.faults.CliFault.TheVariants.{Usage}
 use Rattle.msrp_engine.specs.declared.made.Made.{Made}
 use Rattle.msrp_picture.specs.declared.windows.Style.{Style}
-use Rattle.msrp_plan.specs.Plan.{PlanModel}
 use Rattle.msrp_text.specs.declared.reading.TextError.{TextError}
 use Rattle.msrp_engine.specs.Answered.{OrUnread}
 use Rattle.msrp_c.specs.Numbers.{ticks_asked}

@@ -1,20 +1,16 @@
 -- Rows as numbers, and what is found in them.
-use Rattle.std.specs.Prelude.{◌+◌, ◌==◌, if◌then◌else◌, ℕ, Bool, List, Option, Some, None, option_map, slice_get, map, ⊤}
-use Rattle.std.specs.List.{filter_map, find, prefix_len, take_while}
-use Rattle.std.specs.Option.{option_and_then}
-use Rattle.std.specs.Result.{is_ok, result_ok}
-use Rattle.std.specs.declared.result.Result.{Result}
-use Rattle.std.specs.declared.result.Result.TheVariants.{Ok, Err}
-use Rattle.msrp_engine.specs.Findings.{found_first}
-use Rattle.msrp_faults.specs.Outcomes.{fault_of}
-use Rattle.msrp_faults.specs.declared.faults.CliFault.{CliFault}
-use Rattle.msrp_plan.specs.Plan.{PlanModel}
-use Rattle.msrp_plan.specs.Verdict.{fault_in, verdict}
+use Rattle.msrp_plan.specs.Common.{◌+◌, ◌==◌, if◌then◌else◌, ℕ, Bool, List, Option, Some, None, option_map, slice_get, map, ⊤, filter_map, prefix_len, option_and_then, Result, PlanModel, fault_in, verdict}
 use Rattle.msrp_plan.specs.declared.faults.Fault.{Fault}
 use Rattle.msrp_plan.specs.declared.ids.JobId.{JobId}
 use Rattle.msrp_plan.specs.declared.rows.Kind.{Kind}
 use Rattle.msrp_plan.specs.declared.rows.Kind.TheVariants.{Idle, Run, Lock, Unlock, Take, Queue, Spin, Grant, Release}
 use Rattle.msrp_plan.specs.declared.rows.Row.{Row}
+use Rattle.std.specs.List.{find, take_while}
+use Rattle.std.specs.Result.{is_ok, result_ok}
+use Rattle.std.specs.declared.result.Result.TheVariants.{Ok, Err}
+use Rattle.msrp_engine.specs.Findings.{found_first}
+use Rattle.msrp_faults.specs.Outcomes.{fault_of}
+use Rattle.msrp_faults.specs.declared.faults.CliFault.{CliFault}
 use Rattle.msrp_text.specs.declared.reading.TextError.{TextError}
 use Rattle.msrp_trace.specs.Reading.{Told}
 use Rattle.msrp_trace.specs.Rows.{kinds, row_with}

@@ -1,10 +1,8 @@
 -- Words on a trace, and on a plan.
-use Rattle.std.specs.Prelude.{ℕ, Bool, List, [], Option, Some, None, Ok, Err, IsOkAnd, ⊤}
-use Rattle.std.specs.declared.result.Result.{Result}
+use Rattle.msrp_plan.specs.Common.{ℕ, Bool, List, [], Option, Some, None, Ok, Err, IsOkAnd, ⊤, Result, code_of}
+use Rattle.msrp_plan.specs.declared.faults.Fault.{Fault}
 use Rattle.msrp_faults.specs.declared.faults.CliFault.{CliFault}
 use Rattle.msrp_faults.specs.declared.faults.CliFault.TheVariants.{Plan}
-use Rattle.msrp_plan.specs.Codes.{code_of}
-use Rattle.msrp_plan.specs.declared.faults.Fault.{Fault}
 use Rattle.msrp_text.specs.Reading.{csv_records, plan_of}
 use Rattle.msrp_view_engine.specs.Explaining.{AreWordsOn}
 use Rattle.msrp_view_engine.specs.declared.why_plan.Refusal.{Refusal}

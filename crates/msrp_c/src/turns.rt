@@ -1,8 +1,6 @@
 //! Rows as numbers, and the verdict on them.
-ghost use Rattle.std.specs.Prelude.{◌≡◌, [], true};
-ghost use Rattle.std.specs.Prelude.{map, option_map};
+ghost use Rattle.msrp_plan.specs.Common.{◌≡◌, [], true, map, option_map, has_shape, may_carry};
 ghost use Rattle.msrp_audit.specs.Audits.{HasFed};
-ghost use Rattle.msrp_plan.specs.Shape.{has_shape, may_carry};
 ghost use Rattle.msrp_plan.specs.declared.ids.ResId.{ResId as Resource};
 ghost use Rattle.msrp_trace.specs.Rows.{row_with};
 ghost use Rattle.msrp_c.specs.Turns.{finding_in, job_numbered, kind_numbered, numbered, row_of, shaped_row, told_in};

@@ -1,5 +1,5 @@
 -- What a text is read from.
-use Rattle.std.specs.Prelude.{Bool, true, false}
+use Rattle.msrp_plan.specs.Common.{Bool, true, false}
 use Rattle.msrp_cli.specs.declared.input.Input.{Input}
 use Rattle.msrp_cli.specs.declared.input.Input.TheVariants.{Standard, Opened}
 

@@ -1,6 +1,6 @@
 //! What a text is read from.
 
-ghost use Rattle.std.specs.Prelude.{◌≡◌, ◌↔◌, codes, IfErr, IfOk, true};
+ghost use Rattle.msrp_plan.specs.Common.{◌≡◌, ◌↔◌, codes, IfErr, IfOk, true};
 ghost use Rattle.msrp_cli.specs.Inputs.{is_standard};
 
 use msrp_faults::CliFault;

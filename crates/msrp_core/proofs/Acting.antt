@@ -1,26 +1,17 @@
 -- An action of the running job, over what is stored of the jobs of a core.
-use Rattle.std.proofs.Common.{◌≡◌, ℕ, ◌+◌, ◌<◌, ◌≤◌, Bool, true, false, cond, nat_eq, ◌&&◌, List, [], ◌∷◌, Option, Some, refl, ap, sym, ◌∙◌, subst, arith, length, slice_get, vec_capacity}
-use Rattle.std.specs.List.{list_any, AllByRecursion, Contains}
-use Rattle.std.proofs.Math.Bool.{true≢false}
-use Rattle.std.proofs.lemmas.Bool.{eq-eqb, and_from, false_from_ne_true}
-use Rattle.std.specs.Option.{ForSome}
-use Rattle.msrp_plan.specs.Plan.{PlanModel, units}
-use Rattle.msrp_plan.specs.Jobs.{jobs_on, is_waiting}
-use Rattle.msrp_plan.specs.WellFormed.{IsPlan}
+use Rattle.msrp_plan.proofs.Common.{◌≡◌, ℕ, ◌+◌, ◌<◌, ◌≤◌, Bool, true, false, cond, nat_eq, ◌&&◌, List, [], ◌∷◌, Option, Some, refl, ap, sym, ◌∙◌, subst, arith, length, slice_get, vec_capacity, list_any, AllByRecursion, Contains, true≢false, and_from, false_from_ne_true, ForSome, PlanModel, units, jobs_on, is_waiting, IsPlan, is_global, same_res, res_of_unit, is_global_unit, allows, does_unit, phase_with, state_with}
 use Rattle.msrp_plan.specs.declared.ids.CoreId.{CoreId}
-use Rattle.msrp_ready.specs.Ready.{ReadyModel, head, is_among}
-use Rattle.msrp_plan.specs.Levels.{is_global}
-use Rattle.msrp_plan.specs.Actions.{same_res, res_of_unit, is_global_unit, allows, does_unit, does_unit_after}
-use Rattle.msrp_plan.specs.Phases.{phase_with}
-use Rattle.msrp_plan.specs.States.{state_with}
 use Rattle.msrp_plan.specs.declared.ids.JobId.{JobId}
 use Rattle.msrp_plan.specs.declared.ids.ResId.{ResId}
 use Rattle.msrp_plan.specs.declared.rows.Kind.{Kind}
 use Rattle.msrp_plan.specs.declared.rows.Row.{Row}
 use Rattle.msrp_plan.specs.declared.units.Op.{Op}
-use Rattle.msrp_plan.specs.declared.units.Op.TheVariants.{Run as RunUnit, Lock as LockUnit, Unlock as UnlockUnit}
 use Rattle.msrp_plan.specs.declared.units.Phase.{Phase}
 use Rattle.msrp_plan.specs.declared.units.Phase.TheVariants.{Free, Queued, Holding}
+use Rattle.std.proofs.lemmas.Bool.{eq-eqb}
+use Rattle.msrp_ready.specs.Ready.{ReadyModel, head, is_among}
+use Rattle.msrp_plan.specs.Actions.{does_unit_after}
+use Rattle.msrp_plan.specs.declared.units.Op.TheVariants.{Run as RunUnit, Lock as LockUnit, Unlock as UnlockUnit}
 use Rattle.msrp_stack.specs.Stack.{StackModel, StartedJob, HasRoom, IsInnermost, newest, with_held, without_held, without_first}
 use Rattle.msrp_core.specs.Active.{ActiveJob, active_of, advanced, done_in, is_newest, is_waiting_phase, is_holding_phase, state_in, HoldSo, AreActive}
 use Rattle.msrp_core.specs.CoreJobs.{active_in, units_done, rising_of, state_of, AreJobs, AreOfCore, IsCurrent, IsRunning, CanAct, Acts, IsNextUnit, DoesNext}

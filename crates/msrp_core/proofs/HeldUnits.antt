@@ -1,18 +1,11 @@
 -- What a job holds after its units so far, and after one unit more.
-use Rattle.std.proofs.Common.{◌≡◌, ℕ, zero, suc, ◌+◌, ◌≤◌, ◌==◌, Bool, true, false, cond, nat_eq, nat_lt, ◌||◌, List, [], ◌∷◌, ◌++◌, Some, None, refl, ap, sym, ◌∙◌, arith, add-one, length, take, take_all, slice_get, inl, inr}
-use Rattle.std.specs.List.{list_any}
-use Rattle.std.proofs.Math.Bool.{true≢false}
-use Rattle.std.proofs.Math.Seq.{take-suc}
-use Rattle.std.proofs.lemmas.Bool.{cases_Bool, eqb-true, eq-eqb, lt-ltb, le-ltb, false_from_ne_true}
-use Rattle.std.proofs.lemmas.Option.{none-some, same_Some, get_or_from_slice_get, slice_get_within}
-use Rattle.std.proofs.lemmas.List.Sums.{sum_by-cons}
-use Rattle.msrp_plan.specs.Plan.{PlanModel, TaskModel}
-use Rattle.msrp_plan.specs.Units.{held_with, held_after, holds_after, locks, unlocks}
-use Rattle.msrp_plan.specs.WellFormed.{IsLocking, IsWhole}
+use Rattle.msrp_plan.proofs.Common.{◌≡◌, ℕ, zero, suc, ◌+◌, ◌≤◌, ◌==◌, Bool, true, false, cond, nat_eq, nat_lt, ◌||◌, List, [], ◌∷◌, ◌++◌, Some, None, refl, ap, sym, ◌∙◌, arith, add-one, length, take, slice_get, inl, inr, list_any, true≢false, take-suc, cases_Bool, lt-ltb, le-ltb, false_from_ne_true, none-some, same_Some, get_or_from_slice_get, slice_get_within, sum_by-cons, PlanModel, TaskModel, held_with, held_after, holds_after, locks, unlocks, IsLocking, held_times, held_push, even_after}
 use Rattle.msrp_plan.specs.declared.ids.ResId.{ResId}
 use Rattle.msrp_plan.specs.declared.units.Op.{Op}
+use Rattle.std.proofs.Common.{take_all}
+use Rattle.std.proofs.lemmas.Bool.{eqb-true, eq-eqb}
+use Rattle.msrp_plan.specs.WellFormed.{IsWhole}
 use Rattle.msrp_plan.specs.declared.units.Op.TheVariants.{Lock, Unlock}
-use Rattle.msrp_plan.proofs.TaskUnits.Nesting.{held_times, held_push, even_after}
 
 -- ---- the test of what is held
 -- what stands in a list is held at least once, and what doesn't is not

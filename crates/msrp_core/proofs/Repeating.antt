@@ -1,31 +1,17 @@
 -- A core whose last row stands again.
-use Rattle.std.proofs.Common.{◌%◌, ◌^◌, reverse, ◌≡◌, ℕ, ◌+◌, ◌-◌, ◌<◌, ◌≤◌, ◌==◌, ◌&&◌, Some, None, Option, slice_get, Bool, false, not, cond, List, [], ◌∷◌, ◌++◌, nat_le, refl, ap, sym, ◌∙◌, subst, arith, length, length-append, true, IfSome}
-use Rattle.std.specs.List.{Contains}
-use Rattle.std.specs.Option.{ForSome, option_or}
-use Rattle.std.proofs.Math.Bool.{true≢false, and-true}
-use Rattle.std.proofs.lemmas.Bool.{eqb-true, eqb-false, leb-false, le-leb, lt-leb, false_from_ne_true}
-use Rattle.std.proofs.lemmas.Option.{none-some, same_Some}
-use Rattle.msrp_plan.specs.Plan.{PlanModel, units, release}
-use Rattle.msrp_plan.specs.Jobs.{jobs_on, is_queued, done}
-use Rattle.msrp_plan.specs.Choice.{choice}
-use Rattle.msrp_plan.specs.Phases.{phase_with}
-use Rattle.msrp_plan.specs.Runs.{IsCoreTurn}
-use Rattle.msrp_plan.specs.Shape.{has_shape, may_carry}
-use Rattle.msrp_plan.specs.States.{JobState, state_after}
-use Rattle.msrp_plan.specs.Stretches.{in_tick, NoneReleased, Stays, Works as StayWorks, Idles as StayIdles, Polls as StayPolls}
+use Rattle.msrp_plan.proofs.Common.{◌%◌, ◌^◌, reverse, ◌≡◌, ℕ, ◌+◌, ◌-◌, ◌<◌, ◌≤◌, ◌==◌, ◌&&◌, Some, None, Option, slice_get, Bool, false, not, cond, List, [], ◌∷◌, ◌++◌, nat_le, refl, ap, sym, ◌∙◌, subst, arith, length, length-append, true, IfSome, Contains, ForSome, option_or, true≢false, and-true, eqb-false, leb-false, le-leb, lt-leb, false_from_ne_true, none-some, same_Some, PlanModel, units, release, jobs_on, is_queued, done, choice, phase_with, IsCoreTurn, has_shape, may_carry, JobState, state_after, in_tick, is_global, known_task, same_row, any_in}
 use Rattle.msrp_plan.specs.declared.ids.JobId.{JobId}
 use Rattle.msrp_plan.specs.declared.ids.CoreId.{CoreId}
 use Rattle.msrp_plan.specs.declared.ids.ResId.{ResId}
 use Rattle.msrp_plan.specs.declared.rows.Kind.{Kind}
-use Rattle.msrp_plan.specs.declared.rows.Kind.TheVariants as kinds
 use Rattle.msrp_plan.specs.declared.rows.Row.{Row}
-use Rattle.msrp_plan.specs.declared.units.Op.TheVariants.{Lock, Run}
 use Rattle.msrp_plan.specs.declared.units.Phase.TheVariants.{Queued}
-use Rattle.msrp_plan.specs.Levels.{is_global}
-use Rattle.msrp_plan.proofs.Jobs.CoreJobs.{known_task}
+use Rattle.std.proofs.lemmas.Bool.{eqb-true}
+use Rattle.msrp_plan.specs.Stretches.{NoneReleased, Stays, Works as StayWorks, Idles as StayIdles, Polls as StayPolls}
+use Rattle.msrp_plan.specs.declared.rows.Kind.TheVariants as kinds
+use Rattle.msrp_plan.specs.declared.units.Op.TheVariants.{Lock, Run}
 use Rattle.msrp_plan.proofs.Legality.LegalRows as legal
-use Rattle.msrp_plan.proofs.Legality.SameRow.{parts, same_row}
-use Rattle.msrp_plan.proofs.Lists.AnyAll.{any_in}
+use Rattle.msrp_plan.proofs.Legality.SameRow.{parts}
 use Rattle.msrp_plan.proofs.Scheduling.Stretches.{stays_again, turns_by_states}
 use Rattle.msrp_ready.specs.Ready.{ReadyModel, has_come, has_release_by}
 use Rattle.msrp_core.specs.Active.{HoldSo, advanced, is_waiting_phase}

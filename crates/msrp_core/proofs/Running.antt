@@ -1,32 +1,19 @@
 -- What is stored of the jobs of a core: who runs, who is chosen, and a job that starts.
-use Rattle.std.proofs.Common.{◌≡◌, ◌≢◌, ℕ, ◌+◌, ◌<◌, ◌≤◌, ◌==◌, Bool, true, false, cond, not, nat_eq, nat_lt, max, ◌⊎◌, ◌&&◌, ◌||◌, List, [], ◌∷◌, ◌++◌, Option, Some, None, refl, ap, sym, ◌∙◌, subst, arith, length, length-append, map, reverse, inl, inr, ◌-◌, Vec, Global, vec_capacity}
-use Rattle.std.specs.List.{list_any, filter, AllByRecursion, Contains, IsDistinct}
-use Rattle.std.specs.Option.{ForSome}
-use Rattle.std.specs.Cmp.{IsEquivalence}
-use Rattle.std.proofs.Math.Bool.{true≢false, and-true, and-false, or-true, or-false}
-use Rattle.std.proofs.lemmas.Bool.{cases_Bool, eqb-true, ltb-true, and_from, and_parts, false_from_ne_true, not-true, or_parts, eq-eqb}
-use Rattle.std.proofs.lemmas.Map.Made.{length-le_from_is_member}
-use Rattle.std.proofs.lemmas.List.{length-reverse, length-map}
-use Rattle.std.proofs.lemmas.List.Elements.{Contains-get_or}
-use Rattle.std.proofs.lemmas.Option.{none-some, same_Some}
-use Rattle.msrp_plan.specs.Plan.{PlanModel, units, no_task, release}
-use Rattle.msrp_plan.specs.Jobs.{jobs_on, same_job, is_job, is_released}
-use Rattle.msrp_plan.specs.Levels.{level, is_global, local_ceiling, greatest}
-use Rattle.msrp_plan.specs.Levels as levels
-use Rattle.msrp_plan.specs.Ceiling.{resources, raised_with, ceiling_with}
-use Rattle.msrp_plan.specs.Choice.{is_before, first_ready, first_unfinished, chosen, choice, comes_first}
-use Rattle.msrp_plan.specs.States.{JobState, state_after}
-use Rattle.msrp_plan.specs.WellFormed.{IsPlan}
+use Rattle.msrp_plan.proofs.Common.{◌≡◌, ◌≢◌, ℕ, ◌+◌, ◌<◌, ◌≤◌, ◌==◌, Bool, true, false, cond, not, nat_eq, nat_lt, max, ◌⊎◌, ◌&&◌, ◌||◌, List, [], ◌∷◌, ◌++◌, Option, Some, None, refl, ap, sym, ◌∙◌, subst, arith, length, length-append, map, reverse, inl, inr, ◌-◌, Vec, Global, vec_capacity, list_any, filter, AllByRecursion, Contains, ForSome, true≢false, and-true, and-false, or-true, or-false, cases_Bool, ltb-true, and_from, and_parts, false_from_ne_true, not-true, or_parts, length-map, none-some, same_Some, PlanModel, units, no_task, release, jobs_on, same_job, is_job, is_released, level, is_global, local_ceiling, greatest, resources, raised_with, ceiling_with, is_before, first_ready, first_unfinished, choice, comes_first, JobState, state_after, IsPlan, all_weaker, any_in, least_in, least_of_those, least_passes, before_order, same_is, same_self, same_symm, on_its_core, known_task}
+use Rattle.std.specs.List.{IsDistinct}
 use Rattle.msrp_plan.specs.declared.ids.JobId.{JobId}
 use Rattle.msrp_plan.specs.declared.rows.Row.{Row}
 use Rattle.msrp_plan.specs.declared.units.Op.{Op}
 use Rattle.msrp_plan.specs.declared.units.Phase.{Phase}
 use Rattle.msrp_plan.specs.declared.units.Phase.TheVariants.{Free, Queued, Holding}
-use Rattle.msrp_plan.proofs.Lists.AnyAll.{all_weaker, any_in}
-use Rattle.msrp_plan.proofs.Lists.LeastKept.{least_in, least_of_those, least_passes}
-use Rattle.msrp_plan.proofs.Jobs.Keys.{before_order}
-use Rattle.msrp_plan.proofs.Jobs.JobTests.{same_is, same_self, same_symm, same_congr}
-use Rattle.msrp_plan.proofs.Jobs.CoreJobs.{on_its_core, known_task}
+use Rattle.std.specs.Cmp.{IsEquivalence}
+use Rattle.std.proofs.lemmas.Bool.{eqb-true, eq-eqb}
+use Rattle.std.proofs.lemmas.Map.Made.{length-le_from_is_member}
+use Rattle.std.proofs.lemmas.List.{length-reverse}
+use Rattle.std.proofs.lemmas.List.Elements.{Contains-get_or}
+use Rattle.msrp_plan.specs.Levels as levels
+use Rattle.msrp_plan.specs.Choice.{chosen}
+use Rattle.msrp_plan.proofs.Jobs.JobTests.{same_congr}
 use Rattle.msrp_plan.proofs.Levels.Ceilings.{top_above}
 use Rattle.msrp_ready.specs.Ready.{ReadyModel, is_among}
 use Rattle.msrp_ready.specs.Ready as ready

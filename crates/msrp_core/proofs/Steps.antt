@@ -1,25 +1,15 @@
 -- The active jobs of a core after one action of the newest.
-use Rattle.std.proofs.Common.{◌≡◌, ℕ, ◌+◌, ◌<◌, ◌==◌, ◌⊎◌, Bool, true, false, cond, not, nat_eq, ◌&&◌, ◌||◌, List, [], ◌∷◌, Option, Some, refl, ap, sym, ◌∙◌, subst, arith, length, take, slice_get, inl, inr}
-use Rattle.std.specs.List.{list_any}
-use Rattle.std.proofs.Math.Bool.{true≢false, or-true, and-false}
-use Rattle.std.proofs.lemmas.Bool.{cases_Bool, eqb-true, eqb-false, eq-eqb, le-ltb, false_from_ne_true}
-use Rattle.msrp_plan.specs.Plan.{PlanModel, units, task_of}
-use Rattle.msrp_plan.specs.Units.{held_after, holds_after}
-use Rattle.msrp_plan.specs.Jobs.{jobs_on, same_job, is_job, is_waiting}
-use Rattle.msrp_plan.specs.Levels.{is_global}
-use Rattle.msrp_plan.specs.States.{moved_by, state_with}
-use Rattle.msrp_plan.specs.WellFormed.{IsPlan}
+use Rattle.msrp_plan.proofs.Common.{◌≡◌, ℕ, ◌+◌, ◌<◌, ◌==◌, ◌⊎◌, Bool, true, false, cond, not, nat_eq, ◌&&◌, ◌||◌, List, [], ◌∷◌, Option, Some, refl, ap, sym, ◌∙◌, subst, arith, length, take, slice_get, inl, inr, list_any, true≢false, or-true, and-false, cases_Bool, eqb-false, le-ltb, false_from_ne_true, PlanModel, units, task_of, held_after, holds_after, jobs_on, same_job, is_job, is_waiting, is_global, state_with, IsPlan, same_is, same_self, core_jobs_below, units_lock, held_unlock}
 use Rattle.msrp_plan.specs.declared.ids.JobId.{JobId}
 use Rattle.msrp_plan.specs.declared.ids.ResId.{ResId}
 use Rattle.msrp_plan.specs.declared.rows.Row.{Row}
 use Rattle.msrp_plan.specs.declared.units.Op.{Op}
-use Rattle.msrp_plan.specs.declared.units.Op.TheVariants.{Run, Lock, Unlock}
 use Rattle.msrp_plan.specs.declared.units.Phase.{Phase}
 use Rattle.msrp_plan.specs.declared.units.Phase.TheVariants.{Free, Queued, Holding}
-use Rattle.msrp_plan.proofs.Jobs.JobTests.{same_is, same_self}
-use Rattle.msrp_plan.proofs.Jobs.JobLists.{core_jobs_below}
-use Rattle.msrp_plan.proofs.TaskUnits.PlanUnits.{units_lock, units_flat}
-use Rattle.msrp_plan.proofs.TaskUnits.UnitCounts.{held_unlock}
+use Rattle.std.proofs.lemmas.Bool.{eqb-true, eq-eqb}
+use Rattle.msrp_plan.specs.States.{moved_by}
+use Rattle.msrp_plan.specs.declared.units.Op.TheVariants.{Run, Lock, Unlock}
+use Rattle.msrp_plan.proofs.TaskUnits.PlanUnits.{units_flat}
 use Rattle.msrp_ready.specs.Ready.{is_among}
 use Rattle.msrp_core.specs.Active.{ActiveJob, done_in, is_waiting_phase, is_newest, state_in, advanced, AreLocal, HoldsSo, HoldSo, AreActive, is_holding_phase}
 use Rattle.msrp_core.proofs.HeldUnits.{held_test, next_held, locked, unlocked, whole_free}

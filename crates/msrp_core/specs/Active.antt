@@ -1,17 +1,11 @@
 -- The jobs of a core between two of its turns: which are active, that is started and not finished, what each of these
 -- holds, and how many of its units it has done.
-use Rattle.std.specs.Prelude.{ℕ, List, [], ◌∷◌, Bool, true, false, nat_eq, ◌==◌, ◌&&◌, Some, length, take, slice_get, ◌≡◌, ◌<◌, ◌+◌, ⊤, if◌then◌else◌}
-use Rattle.std.specs.List.{list_any, AllByRecursion, Contains}
-use Rattle.msrp_plan.specs.Plan.{PlanModel, units}
-use Rattle.msrp_plan.specs.Units.{held_after}
-use Rattle.msrp_plan.specs.Jobs.{jobs_on, same_job}
-use Rattle.msrp_plan.specs.Levels.{is_global}
-use Rattle.msrp_plan.specs.States.{JobState}
+use Rattle.msrp_plan.specs.Common.{ℕ, List, [], ◌∷◌, Bool, true, false, nat_eq, ◌==◌, ◌&&◌, Some, length, take, slice_get, ◌≡◌, ◌<◌, ◌+◌, ⊤, if◌then◌else◌, list_any, AllByRecursion, Contains, PlanModel, units, held_after, jobs_on, same_job, is_global, JobState}
 use Rattle.msrp_plan.specs.declared.ids.JobId.{JobId}
 use Rattle.msrp_plan.specs.declared.ids.ResId.{ResId}
-use Rattle.msrp_plan.specs.declared.units.Op.TheVariants.{Lock}
 use Rattle.msrp_plan.specs.declared.units.Phase.{Phase}
 use Rattle.msrp_plan.specs.declared.units.Phase.TheVariants.{Free, Queued, Holding}
+use Rattle.msrp_plan.specs.declared.units.Op.TheVariants.{Lock}
 use Rattle.msrp_ready.specs.Ready.{is_among}
 use Rattle.msrp_stack.specs.Stack.{StartedJob}
 

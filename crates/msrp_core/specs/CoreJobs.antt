@@ -1,19 +1,11 @@
 -- The jobs of a core as they are stored, and what a turn does to them.
-use Rattle.std.specs.Prelude.{ℕ, List, ◌∷◌, true, Option, Some, None, nat_lt, ◌&&◌, ◌||◌, Bool, length, reverse, slice_get, vec_capacity, ◌≡◌, ◌<◌, ◌≤◌, if◌then◌else◌}
-use Rattle.std.specs.List.{AllByRecursion, Contains}
-use Rattle.std.specs.Option.{ForSome}
-use Rattle.msrp_plan.specs.Plan.{PlanModel, units}
-use Rattle.msrp_plan.specs.Jobs.{jobs_on, is_job}
-use Rattle.msrp_plan.specs.Levels.{level}
-use Rattle.msrp_plan.specs.Choice.{comes_first}
-use Rattle.msrp_plan.specs.Actions.{does_unit_after}
-use Rattle.msrp_plan.specs.Phases.{phase_with}
-use Rattle.msrp_plan.specs.States.{JobState, state_after, state_with}
-use Rattle.msrp_plan.specs.WellFormed.{IsPlan}
+use Rattle.msrp_plan.specs.Common.{ℕ, List, ◌∷◌, true, Option, Some, None, nat_lt, ◌&&◌, ◌||◌, Bool, length, reverse, slice_get, vec_capacity, ◌≡◌, ◌<◌, ◌≤◌, if◌then◌else◌, AllByRecursion, Contains, ForSome, PlanModel, units, jobs_on, is_job, level, comes_first, does_unit_after, JobState, state_after, IsPlan}
 use Rattle.msrp_plan.specs.declared.ids.JobId.{JobId}
 use Rattle.msrp_plan.specs.declared.rows.Kind.TheVariants.{Idle}
 use Rattle.msrp_plan.specs.declared.rows.Row.{Row}
 use Rattle.msrp_plan.specs.declared.units.Op.{Op}
+use Rattle.msrp_plan.specs.Phases.{phase_with}
+use Rattle.msrp_plan.specs.States.{state_with}
 use Rattle.msrp_ready.specs.Ready.{head}
 use Rattle.msrp_stack.specs.Stack.{newest as newest_started}
 use Rattle.msrp_core.specs.Ports.{PortModel, claim_in}

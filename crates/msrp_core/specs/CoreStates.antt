@@ -1,13 +1,10 @@
 -- What decides who has the turn of a core, by the definitions.
-use Rattle.std.specs.Prelude.{ℕ, List, ◌≡◌, ◌<◌, ◌≤◌}
-use Rattle.std.specs.List.{Contains}
-use Rattle.std.specs.Option.{ForSome}
-use Rattle.msrp_plan.specs.Plan.{PlanModel, release}
+use Rattle.msrp_plan.specs.Common.{ℕ, List, ◌≡◌, ◌<◌, ◌≤◌, Contains, ForSome, PlanModel, release}
+use Rattle.msrp_plan.specs.declared.ids.JobId.{JobId}
+use Rattle.msrp_plan.specs.declared.rows.Row.{Row}
 use Rattle.msrp_plan.specs.Ceiling as ceilings
 use Rattle.msrp_plan.specs.Choice as choices
 use Rattle.msrp_plan.specs.Jobs as jobs
-use Rattle.msrp_plan.specs.declared.ids.JobId.{JobId}
-use Rattle.msrp_plan.specs.declared.rows.Row.{Row}
 use Rattle.msrp_core.specs.declared.states.CoreState.{CoreState}
 
 -- after these rows, in tick t: who runs and how many units that job has done, who is the head, the current ceiling, and a

@@ -1,17 +1,11 @@
 -- The machine of one core, and the logs that it stands after.
-use Rattle.std.specs.Prelude.{ℕ, List, Option, Some, None, IfSome, true, map, length, ◌≡◌}
-use Rattle.std.specs.Option.{option_or}
-use Rattle.msrp_plan.specs.Plan.{PlanModel}
-use Rattle.msrp_plan.specs.Jobs.{jobs_on}
-use Rattle.msrp_plan.specs.Levels.{is_global}
-use Rattle.msrp_plan.specs.Phases.{phase_after}
-use Rattle.msrp_plan.specs.States.{JobState, state_after}
-use Rattle.msrp_plan.specs.Stretches.{in_tick}
+use Rattle.msrp_plan.specs.Common.{ℕ, List, Option, Some, None, IfSome, true, map, length, ◌≡◌, option_or, PlanModel, jobs_on, is_global, JobState, state_after, in_tick}
 use Rattle.msrp_plan.specs.declared.ids.ResId.{ResId}
 use Rattle.msrp_plan.specs.declared.rows.Kind.TheVariants.{Spin}
 use Rattle.msrp_plan.specs.declared.rows.Row.{Row}
 use Rattle.msrp_plan.specs.declared.units.Phase.{Phase}
 use Rattle.msrp_plan.specs.declared.units.Phase.TheVariants.{Queued}
+use Rattle.msrp_plan.specs.Phases.{phase_after}
 
 -- one core of a plan between two turns: the tick of the next one, what the core has to do with the global
 -- resources, how far each of its jobs is, and the row of the next turn, where that is known before it is chosen: whatever

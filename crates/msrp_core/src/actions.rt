@@ -1,12 +1,5 @@
 //! What the running job does in its turn: its next unit, or the wait for it.
-ghost use Rattle.std.specs.Prelude.{◌≡◌, ◌≤◌, List, Some, None, true, false, length};
-ghost use Rattle.std.specs.List.{Contains};
-ghost use Rattle.std.specs.Option.{ForSome};
-ghost use Rattle.msrp_plan.specs.Actions.{allows};
-ghost use Rattle.msrp_plan.specs.Jobs.{jobs_on};
-ghost use Rattle.msrp_plan.specs.Levels.{is_global};
-ghost use Rattle.msrp_plan.specs.Runs.{IsCoreTurn};
-ghost use Rattle.msrp_plan.specs.Shape.{has_shape, may_carry};
+ghost use Rattle.msrp_plan.specs.Common.{◌≡◌, ◌≤◌, List, Some, None, true, false, length, Contains, ForSome, allows, jobs_on, is_global, IsCoreTurn, has_shape, may_carry};
 ghost use Rattle.msrp_plan.specs.declared.ids.ResId.{ResId as Resource};
 ghost use Rattle.msrp_plan.specs.declared.rows.Row.{Row as TraceRow};
 ghost use Rattle.msrp_ready.specs.Ready.{is_among};

@@ -1,11 +1,7 @@
 //! The jobs of a core between two of its turns: which are ready, which are started, and how far these are.
-ghost use Rattle.std.specs.Prelude.{◌≡◌, ◌<◌, ◌≤◌, ◌+◌, ◌||◌, [], ◌∷◌, ℕ, List, Some, None, true, false, length, reverse, IfOk, slice_get, vec_capacity};
-ghost use Rattle.std.specs.Option.{ForSome, IfSome, option_or};
-ghost use Rattle.std.specs.List.{Contains};
-ghost use Rattle.msrp_plan.specs.Plan.{release, units};
-ghost use Rattle.msrp_plan.specs.Jobs.{jobs_on, is_job};
-ghost use Rattle.msrp_plan.specs.Choice.{choice, first_ready, comes_first};
-ghost use Rattle.msrp_plan.specs.Levels.{is_global};
+ghost use Rattle.msrp_plan.specs.Common.{◌≡◌, ◌<◌, ◌≤◌, ◌+◌, ◌||◌, [], ◌∷◌, ℕ, List, Some, None, true, false, length, reverse, IfOk, slice_get, vec_capacity, ForSome, option_or, Contains, release, units, jobs_on, is_job, choice, comes_first, is_global};
+ghost use Rattle.std.specs.Option.{IfSome};
+ghost use Rattle.msrp_plan.specs.Choice.{first_ready};
 ghost use Rattle.msrp_plan.specs.declared.ids.JobId.{JobId as Job};
 ghost use Rattle.msrp_plan.specs.declared.rows.Row.{Row as TraceRow};
 ghost use Rattle.msrp_ready.specs.Ready.{head, is_among};

@@ -1,12 +1,6 @@
 -- The records of a check, as they are written.
-use Rattle.std.proofs.Common.{◌≡◌, ℕ, ◌+◌, true, false, cond, List, [], ◌∷◌, ◌++◌, Option, ap, sym, ◌∙◌, codes, decimal}
-use Rattle.std.specs.Prelude.{slice_index_or, if◌then◌else◌}
-use Rattle.msrp_plan.specs.Bytes.{Wrote}
-use Rattle.msrp_plan.specs.Levels.{is_global, local_ceiling, top}
-use Rattle.msrp_plan.specs.Plan.{PlanModel}
+use Rattle.msrp_plan.proofs.Common.{◌≡◌, ℕ, ◌+◌, true, false, cond, List, [], ◌∷◌, ◌++◌, Option, ap, sym, ◌∙◌, codes, decimal, slice_index_or, if◌then◌else◌, Wrote, is_global, local_ceiling, top, PlanModel, flat_more, wrote-more}
 use Rattle.msrp_plan.specs.declared.bytes.Sink.{Sink}
-use Rattle.msrp_plan.proofs.Lists.Ranges.{flat_more}
-use Rattle.msrp_plan.proofs.Writes.{wrote-more}
 use Rattle.msrp_levels.specs.Users.{ceiling_at}
 use Rattle.msrp_text.specs.PlanText.{record_text}
 use Rattle.msrp_text.proofs.Written.{wrote-as}

@@ -1,11 +1,7 @@
 -- The rows of whole ticks, counted.
-use Rattle.std.proofs.Common.{◌≡◌, ◌<◌, ℕ, List, [], ◌∷◌, ◌++◌, ◌+◌, Some, None, refl, ap, sym, ◌∙◌, subst, arith, append-nil, append_assoc, slice_get, get_or, take, drop, take-append-drop}
-use Rattle.std.proofs.lemmas.Option.{get_or_from_slice_get}
-use Rattle.msrp_plan.specs.Runs.{IsRunStart}
-use Rattle.msrp_plan.specs.Stretches.{in_tick}
-use Rattle.msrp_plan.specs.Verdict.{fault_in}
+use Rattle.msrp_plan.proofs.Common.{◌≡◌, ◌<◌, ℕ, List, [], ◌∷◌, ◌++◌, ◌+◌, Some, None, refl, ap, sym, ◌∙◌, subst, arith, append-nil, append_assoc, slice_get, get_or, take, drop, get_or_from_slice_get, IsRunStart, in_tick, fault_in, start_before, start_is_good}
 use Rattle.msrp_plan.specs.declared.rows.Row.{Row}
-use Rattle.msrp_plan.proofs.Runs.Verdicts.{start_before, start_is_good}
+use Rattle.std.proofs.Common.{take-append-drop}
 use Rattle.msrp_report.specs.declared.counter.Counter.{Counter}
 use Rattle.msrp_trace.specs.Laws.{as_read}
 use Rattle.msrp_engine.specs.Inside.Counting.{CountTick}

@@ -1,14 +1,12 @@
 -- The rows of a tick, as they are gathered.
-use Rattle.std.proofs.Common.{◌≡◌, ◌≤◌, ◌<◌, ◌+◌, ◌-◌, ℕ, Bool, List, Some, ◌++◌, length, take, drop, slice_get, ap, sym, ◌∙◌, subst, arith, append_assoc, take-append-drop}
-use Rattle.std.specs.Prelude.{⊤}
+use Rattle.msrp_plan.proofs.Common.{◌≡◌, ◌≤◌, ◌<◌, ◌+◌, ◌-◌, ℕ, Bool, List, Some, ◌++◌, length, take, drop, slice_get, ap, sym, ◌∙◌, subst, arith, append_assoc, ⊤, get_or-map, length-map, get_or_from_slice_get, slice_get_within, in_tick}
+use Rattle.msrp_plan.specs.declared.rows.Row.{Row}
+use Rattle.std.proofs.Common.{take-append-drop}
 use Rattle.std.specs.Result.{OnOk, IfErr}
 use Rattle.std.specs.declared.result.Result.{Result}
 use Rattle.std.specs.declared.result.Result.TheVariants.{Ok, Err}
-use Rattle.std.proofs.lemmas.List.{get_or-map, length-map, same_lists}
-use Rattle.std.proofs.lemmas.Option.{get_or_from_slice_get, slice_get_within}
-use Rattle.msrp_plan.specs.Stretches.{in_tick}
+use Rattle.std.proofs.lemmas.List.{same_lists}
 use Rattle.msrp_plan.specs.declared.faults.Memory.{Memory}
-use Rattle.msrp_plan.specs.declared.rows.Row.{Row}
 use Rattle.msrp_trace.specs.Laws.{as_read}
 use Rattle.msrp_audit.specs.Gathering.{RepeatOthers, tick_rows, told}
 use Rattle.msrp_engine.specs.Inside.Gathered.{AreLike, Gathers}

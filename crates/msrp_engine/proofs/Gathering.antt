@@ -1,24 +1,17 @@
 -- Rows that are gathered before they are judged.
-use Rattle.std.proofs.Common.{◌≡◌, ◌++◌, [], ◌≤◌, ◌+◌, ◌*◌, ℕ, Bool, true, false, cond, length, List, Option, None, Some, option_map, refl, ap, sym, subst, ◌∙◌, inl, inr, append-nil, arith, suc, ◌-◌, ◌<◌, length-append, slice_get, ◌∷◌}
-use Rattle.std.proofs.lemmas.Bool.{le-ltb}
-use Rattle.std.specs.Option.{option_or}
-use Rattle.std.specs.Prelude.{⊤, nat_lt}
-use Rattle.std.specs.declared.result.Result.{Result}
-use Rattle.std.specs.declared.result.Result.TheVariants.{Ok, Err}
-use Rattle.msrp_audit.specs.Audits.{answer_of}
-use Rattle.msrp_plan.specs.Plan.{PlanModel}
-use Rattle.msrp_plan.specs.Runs.{is_chosen, is_fifo_reply, is_in_turn, is_next_action, is_of_core}
-use Rattle.msrp_plan.specs.Verdict.{fault_in, missing, verdict}
+use Rattle.msrp_plan.proofs.Common.{◌≡◌, ◌++◌, [], ◌≤◌, ◌+◌, ◌*◌, ℕ, Bool, true, false, cond, length, List, Option, None, Some, option_map, refl, ap, sym, subst, ◌∙◌, inl, inr, append-nil, arith, suc, ◌-◌, ◌<◌, length-append, slice_get, ◌∷◌, le-ltb, option_or, ⊤, nat_lt, PlanModel, is_chosen, is_fifo_reply, is_in_turn, is_next_action, is_of_core, fault_in, missing, verdict, early_is, good_is_run, in_tick}
 use Rattle.msrp_plan.specs.declared.faults.Fault.{Fault}
 use Rattle.msrp_plan.specs.declared.faults.Rule.{Rule}
 use Rattle.msrp_plan.specs.declared.faults.Rule.TheVariants.{A1, A2, A3, A4, A5, A6, A7}
 use Rattle.msrp_plan.specs.declared.rows.Row.{Row}
-use Rattle.msrp_plan.proofs.Runs.Verdicts.{early_fault, early_is, good_is_run}
+use Rattle.std.specs.declared.result.Result.{Result}
+use Rattle.std.specs.declared.result.Result.TheVariants.{Ok, Err}
+use Rattle.msrp_audit.specs.Audits.{answer_of}
+use Rattle.msrp_plan.proofs.Runs.Verdicts.{early_fault}
 use Rattle.msrp_trace.specs.Reading.{Told}
 use Rattle.msrp_trace.specs.declared.faults.TraceError.{TraceError}
 use Rattle.msrp_trace.proofs.ReadThrough.{Answers, IsReadTo, read-refused, read-whole}
 use Rattle.msrp_engine.specs.Findings.{found_first}
-use Rattle.msrp_plan.specs.Stretches.{in_tick}
 use Rattle.msrp_trace.specs.Laws.{as_read}
 use Rattle.msrp_engine.specs.Inside.Gathered.{AreLike, IsGathered, found_in, is_missing}
 use Rattle.msrp_engine.specs.Inside.Kept.{row_of_core}

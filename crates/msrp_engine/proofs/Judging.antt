@@ -1,16 +1,11 @@
 -- What is found in rows that are judged as they come.
-use Rattle.std.proofs.Common.{◌≡◌, ◌⊎◌, ◌++◌, ◌∷◌, [], ℕ, ◌+◌, ◌-◌, ◌*◌, ◌<◌, cond, length, List, Option, None, Some, refl, ap, sym, subst, ◌∙◌, inl, inr, arith}
-use Rattle.std.proofs.lemmas.Bool.{cases_lt, le-ltb}
-use Rattle.std.specs.Prelude.{⊤}
-use Rattle.std.specs.declared.result.Result.{Result}
-use Rattle.std.specs.declared.result.Result.TheVariants.{Ok, Err}
-use Rattle.msrp_audit.specs.Audits.{answer_of}
-use Rattle.msrp_plan.specs.Plan.{PlanModel}
-use Rattle.msrp_plan.specs.Verdict.{broken, fault_in, fault_or, verdict}
+use Rattle.msrp_plan.proofs.Common.{◌≡◌, ◌⊎◌, ◌++◌, ◌∷◌, [], ℕ, ◌+◌, ◌-◌, ◌*◌, ◌<◌, cond, length, List, Option, None, Some, refl, ap, sym, subst, ◌∙◌, inl, inr, arith, cases_lt, le-ltb, ⊤, PlanModel, broken, fault_in, fault_or, verdict, fault_push, fault_stays}
 use Rattle.msrp_plan.specs.declared.faults.Fault.{Fault}
 use Rattle.msrp_plan.specs.declared.faults.Rule.TheVariants.{A7}
 use Rattle.msrp_plan.specs.declared.rows.Row.{Row}
-use Rattle.msrp_plan.proofs.Runs.Verdicts.{fault_push, fault_stays}
+use Rattle.std.specs.declared.result.Result.{Result}
+use Rattle.std.specs.declared.result.Result.TheVariants.{Ok, Err}
+use Rattle.msrp_audit.specs.Audits.{answer_of}
 use Rattle.msrp_trace.specs.Reading.{Told, rows_of}
 use Rattle.msrp_trace.specs.Readers.{Opens}
 use Rattle.msrp_trace.specs.declared.faults.TraceError.{TraceError}

@@ -1,14 +1,8 @@
 -- The rows that are kept of the cores, and their texts, as rows are judged.
-use Rattle.std.proofs.Common.{◌≡◌, ◌≢◌, ℕ, ◌<◌, ◌≤◌, ◌%◌, ◌==◌, [], Bool, true, false, List, Option, Some, None, IfSome, IfNone, ap, sym, ◌∙◌, subst, arith, eqb-true, slice_set, refl}
-use Rattle.std.proofs.Math.Nat.{mod-eq_of_lt}
-use Rattle.std.proofs.lemmas.Bool.{and_from, and_parts, eqb-false}
-use Rattle.msrp_plan.specs.Plan.{PlanModel}
-use Rattle.msrp_plan.specs.Stretches.{in_tick}
-use Rattle.msrp_plan.specs.WellFormed.{IsPlan}
+use Rattle.msrp_plan.proofs.Common.{◌≡◌, ◌≢◌, ℕ, ◌<◌, ◌≤◌, ◌%◌, ◌==◌, [], Bool, true, false, List, Option, Some, None, IfSome, IfNone, ap, sym, ◌∙◌, subst, arith, eqb-true, slice_set, refl, mod-eq_of_lt, and_from, and_parts, eqb-false, PlanModel, in_tick, IsPlan, turn_of}
 use Rattle.msrp_plan.specs.declared.rows.Row.{Row}
 use Rattle.msrp_plan.specs.declared.rows.TextVersion.{TextVersion}
 use Rattle.msrp_plan.specs.declared.rows.TextVersion.TheVariants.{V1, V2}
-use Rattle.msrp_plan.proofs.Legality.LegalRows.{turn_of}
 use Rattle.msrp_audit.specs.Audits.{AuditorModel}
 use Rattle.msrp_sim.specs.Cores.{CoresModel, IsAs, IsSomeTurn, Leaves, known_row}
 use Rattle.msrp_trace.specs.Gathering.{after_tick}

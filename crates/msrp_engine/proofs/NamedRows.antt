@@ -1,12 +1,7 @@
 -- The newest row of a simulation names what the plan has; the text of one row more.
-use Rattle.std.proofs.Common.{◌≡◌, true, List, [], ◌∷◌, ◌++◌, ap, sym, ◌∙◌, subst, append-nil}
-use Rattle.msrp_plan.specs.Plan.{PlanModel}
-use Rattle.msrp_plan.specs.WellFormed.{IsPlan}
+use Rattle.msrp_plan.proofs.Common.{◌≡◌, true, List, [], ◌∷◌, ◌++◌, ap, sym, ◌∙◌, subst, append-nil, PlanModel, IsPlan, IsLegal, IsRun, IsRunStart, legal_turn, each_at}
 use Rattle.msrp_plan.specs.declared.rows.Row.{Row}
 use Rattle.msrp_plan.specs.declared.rows.TextVersion.{TextVersion}
-use Rattle.msrp_plan.specs.Runs.{IsLegal, IsRun, IsRunStart}
-use Rattle.msrp_plan.proofs.Legality.LegalRows.{legal_turn}
-use Rattle.msrp_plan.proofs.Lists.Prefixes.{each_at}
 use Rattle.msrp_sim.specs.Simulated.{SimModel, HasMade}
 use Rattle.msrp_trace.specs.TraceText.{is_named, row_text, trace_text}
 use Rattle.msrp_trace.proofs.NamedRows.{turn_named}

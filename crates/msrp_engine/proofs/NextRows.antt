@@ -1,13 +1,12 @@
 -- The next row of a text, where it is known of which tick and core that is.
-use Rattle.std.proofs.Common.{◌≡◌, [], Option, Some, None, Result, Ok, true, false, ap, sym, ◌∙◌, subst, IsSome}
-use Rattle.std.specs.Option.{is_some}
+use Rattle.msrp_plan.proofs.Common.{◌≡◌, [], Option, Some, None, Result, Ok, true, false, ap, sym, ◌∙◌, subst, IsSome, ℕ}
 use Rattle.msrp_plan.specs.declared.ids.CoreId.{CoreId}
 use Rattle.msrp_plan.specs.declared.rows.Row.{Row}
+use Rattle.std.specs.Option.{is_some}
 use Rattle.msrp_trace.specs.Reading.{Told}
 use Rattle.msrp_trace.specs.Readers.{BeginsAt, RowsBeginAt}
 use Rattle.msrp_trace.specs.declared.faults.TraceError.{TraceError}
 use Rattle.msrp_trace.proofs.ReadThrough.{Answers, none-read, read-row, read-whole}
-use Rattle.std.specs.Prelude.{ℕ}
 
 -- a row that is given is of that tick and core
 pub given-at : (told : Told) (left after : Option Told) (result : Result (Option Row) TraceError) (r : Row) (tick : ℕ) (core : CoreId) → left ≡ Some told → Answers left result after → result ≡ Ok (Some r) → BeginsAt tick core told → (r.tick ≡ tick) × (r.core ≡ core)

@@ -1,13 +1,10 @@
 -- A trace's rows, judged as they are read: those that came, and what is found in them.
-use Rattle.std.proofs.Common.{◌≡◌, ◌++◌, ◌∷◌, [], ◌+◌, ◌-◌, ◌*◌, ◌<◌, ℕ, length, List, Option, None, Some, ap, sym, subst, ◌∙◌, length-append}
-use Rattle.std.specs.Prelude.{⊤}
+use Rattle.msrp_plan.proofs.Common.{◌≡◌, ◌++◌, ◌∷◌, [], ◌+◌, ◌-◌, ◌*◌, ◌<◌, ℕ, length, List, Option, None, Some, ap, sym, subst, ◌∙◌, length-append, ⊤, PlanModel, fault_in, verdict}
+use Rattle.msrp_plan.specs.declared.faults.Fault.{Fault}
+use Rattle.msrp_plan.specs.declared.rows.Row.{Row}
 use Rattle.std.specs.declared.result.Result.{Result}
 use Rattle.std.specs.declared.result.Result.TheVariants.{Ok, Err}
 use Rattle.msrp_audit.specs.Audits.{HasFed, answer_of}
-use Rattle.msrp_plan.specs.Plan.{PlanModel}
-use Rattle.msrp_plan.specs.Verdict.{fault_in, verdict}
-use Rattle.msrp_plan.specs.declared.faults.Fault.{Fault}
-use Rattle.msrp_plan.specs.declared.rows.Row.{Row}
 use Rattle.msrp_trace.specs.Reading.{Told}
 use Rattle.msrp_trace.specs.declared.faults.TraceError.{TraceError}
 use Rattle.msrp_trace.proofs.ReadThrough.{Answers, IsReadTo, read-row, read-whole}

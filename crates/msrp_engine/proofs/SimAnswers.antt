@@ -1,10 +1,8 @@
 -- What a plan is answered is what its text is answered.
-use Rattle.std.proofs.Common.{◌≡◌, ℕ, List, Option, OnOk, refl}
-use Rattle.std.specs.Prelude.{Ok, Err}
-use Rattle.std.specs.declared.result.Result.{Result}
-use Rattle.msrp_plan.specs.Plan.{PlanModel}
+use Rattle.msrp_plan.proofs.Common.{◌≡◌, ℕ, List, Option, OnOk, refl, Ok, Err, PlanModel}
 use Rattle.msrp_plan.specs.declared.bytes.Sink.{Sink}
 use Rattle.msrp_plan.specs.declared.rows.TextVersion.{TextVersion}
+use Rattle.std.specs.declared.result.Result.{Result}
 use Rattle.msrp_sim.specs.declared.orders.Order.{Order}
 use Rattle.msrp_sim.specs.Orders.{cores_of}
 use Rattle.msrp_text.specs.Reading.{Answers}

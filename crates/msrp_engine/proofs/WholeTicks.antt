@@ -1,19 +1,12 @@
 -- Whole ticks whose rows come by the numbers of the cores.
-use Rattle.std.proofs.Common.{◌≡◌, ◌≢◌, ℕ, zero, suc, ◌+◌, ◌*◌, ◌/◌, ◌%◌, ◌<◌, List, [], ◌∷◌, ◌++◌, Option, Some, None, refl, ap, sym, ◌∙◌, subst, arith, ◌==◌, ◌&&◌, true, not, nat_lt, eqb-true, length-take-le, length, length-append, append_assoc, take, drop, take-append-drop, inl, inr, slice_get, Bool, false, ◌≤◌}
-use Rattle.std.proofs.Math.Nat.{div-add-mod, mod-eq_of_lt, mul-mod_left, mul_comm}
-use Rattle.std.proofs.lemmas.Nat.{div-mul-add, mod-mul-add}
-use Rattle.std.proofs.lemmas.Option.{slice_get_cases, slice_get_within}
-use Rattle.std.proofs.lemmas.Bool.{and_parts, eqb-false}
+use Rattle.msrp_plan.proofs.Common.{◌≡◌, ◌≢◌, ℕ, zero, suc, ◌+◌, ◌*◌, ◌/◌, ◌%◌, ◌<◌, List, [], ◌∷◌, ◌++◌, Option, Some, None, refl, ap, sym, ◌∙◌, subst, arith, ◌==◌, ◌&&◌, true, not, nat_lt, eqb-true, length, length-append, append_assoc, take, drop, inl, inr, slice_get, Bool, false, ◌≤◌, div-add-mod, mod-eq_of_lt, div-mul-add, mod-mul-add, slice_get_cases, slice_get_within, and_parts, eqb-false, PlanModel, IsLegal, IsRunStart, had_turn, is_in_turn, fault_in, legal_due, places_push, start_before, start_is_good, start_last, in_tick}
+use Rattle.msrp_plan.specs.declared.rows.Row.{Row}
+use Rattle.std.proofs.Common.{length-take-le, take-append-drop}
+use Rattle.std.proofs.Math.Nat.{mul-mod_left, mul_comm}
 use Rattle.msrp_audit.specs.Audits.{AuditorModel, Awaits, HasFed, has_turn}
 use Rattle.msrp_audit.proofs.Foresight.{broken_is}
 use Rattle.msrp_audit.proofs.Judging.{as_due}
-use Rattle.msrp_plan.specs.Plan.{PlanModel}
-use Rattle.msrp_plan.specs.Runs.{IsLegal, IsRunStart, had_turn, is_in_turn}
-use Rattle.msrp_plan.specs.Verdict.{fault_in}
-use Rattle.msrp_plan.specs.declared.rows.Row.{Row}
-use Rattle.msrp_plan.proofs.Legality.LegalRows.{legal_due}
-use Rattle.msrp_plan.proofs.Lists.AnyAll.{places_push}
-use Rattle.msrp_plan.proofs.Runs.Verdicts.{legal_is_unbroken, start_before, start_is_good, start_last}
+use Rattle.msrp_plan.proofs.Runs.Verdicts.{legal_is_unbroken}
 use Rattle.msrp_report.proofs.Reporting.{goes_on}
 use Rattle.msrp_sim.specs.Cores.{IsAs, IsNextRow}
 use Rattle.msrp_trace.specs.Reading.{Told}
@@ -21,7 +14,6 @@ use Rattle.msrp_trace.specs.Readers.{GivesRows}
 use Rattle.msrp_trace.specs.Texts.{text_of_core}
 use Rattle.msrp_trace.specs.Laws.{as_read}
 use Rattle.msrp_trace.specs.declared.reading.TraceReader.{TraceReader}
-use Rattle.msrp_plan.specs.Stretches.{in_tick}
 use Rattle.msrp_engine.specs.Inside.Kept.{row_of_core}
 use Rattle.msrp_engine.specs.Inside.Ticks.{AreInOrder, GoesBack, HasFedRun, HasFedTicks, HasRow, IsAgain, KeepsOthers, TakeSome, TakeTick, Turn, TurnAll}
 use Rattle.msrp_engine.specs.Judging.{rows_left}

@@ -1,8 +1,5 @@
 -- What an engine answers where its readers tell their bytes, and what it answers whatever they tell.
-use Rattle.std.specs.Prelude.{◌≡◌, ◌⊎◌, ◌↔◌, ℕ, List, true, false, Option, Some, Err, IfOk, IfErr}
-use Rattle.std.specs.declared.result.Result.{Result}
-use Rattle.msrp_plan.specs.Bytes.{sink_failed, source_failed, source_remaining}
-use Rattle.msrp_plan.specs.Plan.{PlanModel}
+use Rattle.msrp_plan.specs.Common.{◌≡◌, ◌⊎◌, ◌↔◌, ℕ, List, true, false, Option, Some, Err, IfOk, IfErr, Result, sink_failed, source_failed, source_remaining, PlanModel}
 use Rattle.msrp_plan.specs.declared.bytes.Sink.{Sink}
 use Rattle.msrp_plan.specs.declared.bytes.Source.{Source}
 use Rattle.msrp_text.specs.Reading.{csv_records, plan_of}

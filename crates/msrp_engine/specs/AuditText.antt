@@ -1,8 +1,5 @@
 -- What an audit writes and answers.
-use Rattle.std.specs.Prelude.{◌≡◌, ℕ, List, if◌then◌else◌, Option, Ok, Err, ⊤}
-use Rattle.std.specs.declared.result.Result.{Result}
-use Rattle.msrp_plan.specs.Bytes.{Wrote, sink_failed}
-use Rattle.msrp_plan.specs.Words.{verdict_text}
+use Rattle.msrp_plan.specs.Common.{◌≡◌, ℕ, List, if◌then◌else◌, Option, Ok, Err, ⊤, Result, Wrote, sink_failed, verdict_text}
 use Rattle.msrp_plan.specs.declared.bytes.Sink.{Sink}
 use Rattle.msrp_plan.specs.declared.faults.Fault.{Fault}
 use Rattle.msrp_faults.specs.declared.faults.CliFault.{CliFault}

@@ -1,9 +1,6 @@
 -- What is told of a plan before it runs, as text: its levels, its ceilings and its tops (Baker 1991; for global resources
 -- Gai, Lipari and Di Natale 2001).
-use Rattle.std.specs.Prelude.{ℕ, List, [], ◌∷◌, ◌++◌, codes, decimal, length, slice_index_or, if◌then◌else◌}
-use Rattle.std.specs.List.{flat_map, range_with_len}
-use Rattle.msrp_plan.specs.Plan.{PlanModel, task_at}
-use Rattle.msrp_plan.specs.Levels.{is_global, level, local_ceiling, top}
+use Rattle.msrp_plan.specs.Common.{ℕ, List, [], ◌∷◌, ◌++◌, codes, decimal, length, slice_index_or, if◌then◌else◌, flat_map, range_with_len, PlanModel, task_at, is_global, level, local_ceiling, top}
 use Rattle.msrp_text.specs.PlanText.{record_text}
 
 -- a task by its number: its name and its preemption level

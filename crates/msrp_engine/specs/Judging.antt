@@ -1,9 +1,8 @@
 -- The rows of a trace's text, judged as they come.
-use Rattle.std.specs.Prelude.{ℕ, List, [], ◌∷◌, ◌++◌, Option, Some, None, Result, Ok, Err, ◌≡◌, ⊤}
-use Rattle.msrp_audit.specs.Audits.{HasFed}
-use Rattle.msrp_plan.specs.Plan.{PlanModel}
-use Rattle.msrp_plan.specs.Verdict.{fault_in}
+use Rattle.msrp_plan.specs.Common.{ℕ, List, [], ◌∷◌, ◌++◌, Option, Some, None, Ok, Err, ◌≡◌, ⊤, PlanModel, fault_in}
 use Rattle.msrp_plan.specs.declared.rows.Row.{Row}
+use Rattle.std.specs.Prelude.{Result}
+use Rattle.msrp_audit.specs.Audits.{HasFed}
 use Rattle.msrp_trace.specs.Reading.{Told}
 use Rattle.msrp_trace.specs.Readers.{told_left}
 use Rattle.msrp_trace.specs.declared.faults.TraceError.{TraceError}

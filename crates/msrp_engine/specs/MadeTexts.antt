@@ -1,8 +1,7 @@
 -- What is found in the rows that a text is made of.
-use Rattle.std.specs.Prelude.{⊤}
-use Rattle.std.specs.declared.result.Result.{Result}
-use Rattle.std.specs.declared.result.Result.TheVariants.{Ok, Err}
+use Rattle.msrp_plan.specs.Common.{⊤, Result}
 use Rattle.msrp_plan.specs.declared.faults.Fault.{Fault}
+use Rattle.std.specs.declared.result.Result.TheVariants.{Ok, Err}
 use Rattle.msrp_faults.specs.declared.faults.CliFault.{CliFault}
 use Rattle.msrp_engine.specs.declared.made.Made.{Made}
 

@@ -1,8 +1,5 @@
 -- What the report of a trace's text is.
-use Rattle.std.specs.Prelude.{◌≡◌, ℕ, List, [], Option, Ok, Err, IfOk, ⊤}
-use Rattle.std.specs.declared.result.Result.{Result}
-use Rattle.msrp_plan.specs.Bytes.{Wrote}
-use Rattle.msrp_plan.specs.Plan.{PlanModel}
+use Rattle.msrp_plan.specs.Common.{◌≡◌, ℕ, List, [], Option, Ok, Err, IfOk, ⊤, Result, Wrote, PlanModel}
 use Rattle.msrp_plan.specs.declared.bytes.Sink.{Sink}
 use Rattle.msrp_plan.specs.declared.faults.Fault.{Fault}
 use Rattle.msrp_plan.specs.declared.rows.Row.{Row}

@@ -1,11 +1,5 @@
 -- What a run of a plan on threads writes and answers.
-use Rattle.std.specs.Prelude.{◌≡◌, ℕ, List, true, Option, Ok, Err}
-use Rattle.std.specs.declared.result.Result.{Result}
-use Rattle.msrp_plan.specs.Aheads.{carries_ahead}
-use Rattle.msrp_plan.specs.Bytes.{Wrote}
-use Rattle.msrp_plan.specs.Plan.{PlanModel}
-use Rattle.msrp_plan.specs.Runs.{IsRun}
-use Rattle.msrp_plan.specs.WellFormed.{IsPlan}
+use Rattle.msrp_plan.specs.Common.{◌≡◌, ℕ, List, true, Option, Ok, Err, Result, carries_ahead, Wrote, PlanModel, IsRun, IsPlan}
 use Rattle.msrp_plan.specs.declared.bytes.Sink.{Sink}
 use Rattle.msrp_plan.specs.declared.rows.Row.{Row}
 use Rattle.msrp_plan.specs.declared.rows.TextVersion.{TextVersion}

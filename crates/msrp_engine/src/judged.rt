@@ -1,12 +1,8 @@
 //! The rows of a trace's text, each judged as it comes.
-ghost use Rattle.std.specs.Prelude.{◌≡◌, ◌<◌, ◌≤◌, ◌+◌, ◌*◌, ◌/◌, ◌%◌, ℕ, List, ◌++◌, ◌∷◌, [], IfOk, IfSome, OnOk, Some, None, Ok, Err, true, false, length, slice_get, slice_index_or};
+ghost use Rattle.msrp_plan.specs.Common.{◌≡◌, ◌<◌, ◌≤◌, ◌+◌, ◌*◌, ◌/◌, ◌%◌, ℕ, List, ◌++◌, ◌∷◌, [], IfOk, IfSome, OnOk, Some, None, Ok, Err, true, false, length, slice_get, slice_index_or, source_failed, IsPlan, IsRunStart, in_tick};
 ghost use Rattle.msrp_audit.specs.Audits.{Awaits, HasFed, IsDueInAudit};
 ghost use Rattle.msrp_audit.specs.Gathering.{told};
-ghost use Rattle.msrp_plan.specs.Bytes.{source_failed};
-ghost use Rattle.msrp_plan.specs.WellFormed.{IsPlan};
 ghost use Rattle.msrp_plan.specs.declared.rows.Row.{Row as TraceRow};
-ghost use Rattle.msrp_plan.specs.Runs.{IsRunStart};
-ghost use Rattle.msrp_plan.specs.Stretches.{in_tick};
 ghost use Rattle.msrp_trace.specs.Laws.{as_read, is_short};
 ghost use Rattle.msrp_trace.specs.Reading.{Told};
 ghost use Rattle.msrp_trace.specs.Readers.{BeginsAt, GivesNext, IsAtTick, IsOfTrace, source_of};

@@ -1,6 +1,5 @@
 //! What ends the reading of a text.
-ghost use Rattle.std.specs.Prelude.{◌≡◌, true, false, OnOk};
-ghost use Rattle.msrp_plan.specs.Bytes.{source_failed};
+ghost use Rattle.msrp_plan.specs.Common.{◌≡◌, true, false, OnOk, source_failed};
 ghost use Rattle.msrp_engine.specs.Answered.{OrUnread};
 
 use msrp_faults::CliFault;

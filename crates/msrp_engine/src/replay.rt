@@ -1,7 +1,6 @@
 //! The turns of a run, made once more.
-ghost use Rattle.std.specs.Prelude.{◌≡◌, List, IfOk, length};
+ghost use Rattle.msrp_plan.specs.Common.{◌≡◌, List, IfOk, length, IsRunStart};
 ghost use Rattle.msrp_audit.specs.Audits.{HasFed};
-ghost use Rattle.msrp_plan.specs.Runs.{IsRunStart};
 ghost use Rattle.msrp_plan.specs.declared.rows.Row.{Row as TraceRow};
 ghost use Rattle.msrp_engine.specs.Inside.Ticks.{AreInOrder};
 

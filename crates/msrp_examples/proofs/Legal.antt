@@ -1,11 +1,8 @@
 -- What an audit finds good is a legal run.
-use Rattle.std.proofs.Common.{◌≡◌, ℕ, List, Option, None, Some, refl}
+use Rattle.msrp_plan.proofs.Common.{◌≡◌, ℕ, List, Option, None, Some, refl, PlanModel, fault_in, verdict, good_is_run}
+use Rattle.msrp_plan.specs.declared.faults.Fault.{Fault}
 use Rattle.std.specs.declared.result.Result.{Result}
 use Rattle.std.specs.declared.result.Result.TheVariants.{Ok, Err}
-use Rattle.msrp_plan.specs.Plan.{PlanModel}
-use Rattle.msrp_plan.specs.Verdict.{fault_in, verdict}
-use Rattle.msrp_plan.specs.declared.faults.Fault.{Fault}
-use Rattle.msrp_plan.proofs.Runs.Verdicts.{good_is_run}
 use Rattle.msrp_text.specs.Reading.{csv_records, plan_of}
 use Rattle.msrp_text.specs.declared.reading.TextError.{TextError}
 use Rattle.msrp_trace.specs.Reading.{rows_of}

@@ -1,7 +1,5 @@
 -- A trace's text that tells a legal run of the plan that another text tells.
-use Rattle.std.specs.Prelude.{◌≡◌, ℕ, List, None, Ok}
-use Rattle.msrp_plan.specs.Plan.{PlanModel}
-use Rattle.msrp_plan.specs.Runs.{IsRun}
+use Rattle.msrp_plan.specs.Common.{◌≡◌, ℕ, List, None, Ok, PlanModel, IsRun}
 use Rattle.msrp_text.specs.Reading.{csv_records, plan_of}
 use Rattle.msrp_trace.specs.Reading.{rows_of}
 

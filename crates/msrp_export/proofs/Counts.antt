@@ -1,16 +1,9 @@
 -- What is kept of a resource, with one row more.
-use Rattle.std.proofs.Common.{◌≡◌, ℕ, ◌+◌, ◌≤◌, ◌<◌, ◌^◌, ◌==◌, Bool, true, false, ◌&&◌, cond, List, [], ◌∷◌, ◌++◌, ap, sym, ◌∙◌, arith, length, length-append, Option, Some, None, refl, slice_index_or, slice_set, eqb-true, eq-eqb}
-use Rattle.std.proofs.Math.Bool.{true≢false}
-use Rattle.std.proofs.lemmas.Grind.{get_or-set_at}
-use Rattle.std.proofs.lemmas.List.{get_or-set_other}
-use Rattle.std.specs.Prelude.{count_by, filter_map, is_some}
-use Rattle.std.specs.List.{cons_option}
-use Rattle.std.proofs.lemmas.List.Elements.{filter_map-append}
-use Rattle.std.proofs.lemmas.List.Sums.{count_by-le-length, fold_push, sum_by_push}
+use Rattle.msrp_plan.proofs.Common.{◌≡◌, ℕ, ◌+◌, ◌≤◌, ◌<◌, ◌^◌, ◌==◌, Bool, true, false, ◌&&◌, cond, List, [], ◌∷◌, ◌++◌, ap, sym, ◌∙◌, arith, length, length-append, Option, Some, None, refl, slice_index_or, slice_set, eqb-true, eq-eqb, true≢false, get_or-set_at, get_or-set_other, count_by, is_some, cons_option, filter_map-append, count_by-le-length, fold_push, sum_by_push, is_on, is_release, is_release_of, is_request, requester}
 use Rattle.msrp_plan.specs.declared.ids.JobId.{JobId}
 use Rattle.msrp_plan.specs.declared.ids.ResId.{ResId}
 use Rattle.msrp_plan.specs.declared.rows.Row.{Row}
-use Rattle.msrp_plan.specs.Queues.{is_on, is_release, is_release_of, is_request, requester}
+use Rattle.std.specs.Prelude.{filter_map}
 use Rattle.msrp_export.specs.Signals.{holder, holder_by, holder_with}
 use Rattle.msrp_export.specs.Tells.{no_use, use_of, used}
 use Rattle.msrp_export.specs.declared.standing.ResUse.{ResUse}

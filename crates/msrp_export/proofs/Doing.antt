@@ -1,7 +1,5 @@
 -- What a task does, part by part.
-use Rattle.std.proofs.Common.{◌≡◌, ℕ, ◌+◌, List, Option, refl, cond, nat_lt}
-use Rattle.std.specs.Prelude.{nat_le}
-use Rattle.msrp_plan.specs.Plan.{PlanModel, release, task_at}
+use Rattle.msrp_plan.proofs.Common.{◌≡◌, ℕ, ◌+◌, List, Option, refl, cond, nat_lt, nat_le, PlanModel, release, task_at}
 use Rattle.msrp_plan.specs.declared.ids.JobId.{JobId}
 use Rattle.msrp_plan.specs.declared.rows.Kind.{Kind}
 use Rattle.msrp_plan.specs.declared.rows.Row.{Row}

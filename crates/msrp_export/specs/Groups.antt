@@ -1,7 +1,5 @@
 -- What a plan has: cores, tasks and resources.
-use Rattle.std.specs.Prelude.{ℕ, List, ◌++◌, decimal, length}
-use Rattle.std.specs.List.{flat_map, range_with_len}
-use Rattle.msrp_plan.specs.Plan.{PlanModel}
+use Rattle.msrp_plan.specs.Common.{ℕ, List, ◌++◌, decimal, length, flat_map, range_with_len, PlanModel}
 use Rattle.msrp_export.specs.Words.{res_name, task_name}
 use Rattle.msrp_export.specs.declared.groups.Group.{Group}
 use Rattle.msrp_export.specs.declared.groups.Group.TheVariants.{Cores, Resources, Tasks}

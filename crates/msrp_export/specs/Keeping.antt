@@ -1,9 +1,5 @@
 -- What is the same as in the tick before.
-use Rattle.std.specs.Prelude.{Bool, true, false, ◌&&◌, Option, Some, None}
-use Rattle.msrp_plan.specs.Actions.{same_res}
-use Rattle.msrp_plan.specs.Jobs.{same_job}
-use Rattle.msrp_plan.specs.Kinds.{same_kind}
-use Rattle.msrp_plan.specs.Runs.{same_choice}
+use Rattle.msrp_plan.specs.Common.{Bool, true, false, ◌&&◌, Option, Some, None, same_res, same_job, same_kind, same_choice}
 use Rattle.msrp_plan.specs.declared.rows.Row.{Row}
 use Rattle.msrp_export.specs.declared.states.Doing.{Doing}
 use Rattle.msrp_export.specs.declared.states.TaskState.{TaskState}

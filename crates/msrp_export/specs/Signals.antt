@@ -1,9 +1,5 @@
 -- What the rows of a trace say of a core, of a task and of a resource.
-use Rattle.std.specs.Prelude.{ℕ, List, Bool, true, false, ◌==◌, ◌&&◌, not, nat_lt, nat_le, Option, Some, None, fold, count_by, length, if◌then◌else◌, ◌/◌}
-use Rattle.msrp_plan.specs.Plan.{PlanModel, key, task_at}
-use Rattle.msrp_plan.specs.Jobs.{is_released, is_waiting, job_at}
-use Rattle.msrp_plan.specs.Logs.{log_of}
-use Rattle.msrp_plan.specs.Queues.{fifo, is_on}
+use Rattle.msrp_plan.specs.Common.{ℕ, List, Bool, true, false, ◌==◌, ◌&&◌, not, nat_lt, nat_le, Option, Some, None, fold, count_by, length, if◌then◌else◌, ◌/◌, PlanModel, key, task_at, is_released, is_waiting, job_at, log_of, fifo, is_on}
 use Rattle.msrp_plan.specs.declared.ids.JobId.{JobId}
 use Rattle.msrp_plan.specs.declared.rows.Kind.{Kind}
 use Rattle.msrp_plan.specs.declared.rows.Kind.TheVariants.{Lock, Unlock, Take, Grant, Release}

@@ -1,7 +1,5 @@
 -- Rows by their ticks, and what a task does in one.
-use Rattle.std.specs.Prelude.{ℕ, List, take, length, nat_eq, nat_lt, if◌then◌else◌, false, None, ◌+◌, ◌-◌, ◌*◌, ◌/◌}
-use Rattle.msrp_plan.specs.Jobs.{job_at}
-use Rattle.msrp_plan.specs.Plan.{PlanModel}
+use Rattle.msrp_plan.specs.Common.{ℕ, List, take, length, nat_eq, nat_lt, if◌then◌else◌, false, None, ◌+◌, ◌-◌, ◌*◌, ◌/◌, job_at, PlanModel}
 use Rattle.msrp_plan.specs.declared.rows.Row.{Row}
 use Rattle.msrp_export.specs.Signals.{doing_of}
 use Rattle.msrp_export.specs.declared.states.Doing.{Doing}

@@ -1,6 +1,5 @@
 -- Words for what tasks do, and the names of tasks and resources.
-use Rattle.std.specs.Prelude.{ℕ, List, Bool, true, false, ◌++◌, codes, decimal, Option, Some, None, slice_get}
-use Rattle.msrp_plan.specs.Plan.{PlanModel, TaskModel}
+use Rattle.msrp_plan.specs.Common.{ℕ, List, Bool, true, false, ◌++◌, codes, decimal, Option, Some, None, slice_get, PlanModel, TaskModel}
 use Rattle.msrp_plan.specs.Words.{kind_text}
 use Rattle.msrp_plan.specs.declared.ids.JobId.{JobId}
 use Rattle.msrp_plan.specs.declared.ids.ResId.{ResId}

@@ -1,9 +1,7 @@
 //! What a task does in a tick.
-ghost use Rattle.std.specs.Prelude.{◌≡◌, ◌<◌, ◌≤◌, ◌^◌, ◌*◌, false, if◌then◌else◌, List, length, true};
+ghost use Rattle.msrp_plan.specs.Common.{◌≡◌, ◌<◌, ◌≤◌, ◌^◌, ◌*◌, false, if◌then◌else◌, List, length, true, release, IsPlan};
 ghost use Rattle.msrp_plan.specs.Limits.{longest_time};
-ghost use Rattle.msrp_plan.specs.Plan.{release};
 ghost use Rattle.msrp_plan.specs.Times.{HasRelease};
-ghost use Rattle.msrp_plan.specs.WellFormed.{IsPlan};
 ghost use Rattle.msrp_plan.specs.declared.rows.Row.{Row as TraceRow};
 ghost use Rattle.msrp_export.specs.Exports.{TellsTick};
 ghost use Rattle.msrp_export.specs.Signals.{doing_of, job_after, kind_in, released_state, work};

@@ -1,9 +1,5 @@
 -- What an engine answers, and the exit status.
-use Rattle.std.specs.Prelude.{ℕ, Bool, true, false, ◌||◌, if◌then◌else◌, Ok, Err}
-use Rattle.std.specs.declared.result.Result.{Result}
-use Rattle.msrp_plan.specs.Building.{is_within}
-use Rattle.msrp_plan.specs.Bytes.{sink_failed}
-use Rattle.msrp_plan.specs.Codes.{code_of}
+use Rattle.msrp_plan.specs.Common.{ℕ, Bool, true, false, ◌||◌, if◌then◌else◌, Ok, Err, Result, is_within, sink_failed, code_of}
 use Rattle.msrp_plan.specs.declared.bytes.Sink.{Sink}
 use Rattle.msrp_run.specs.declared.hire.RunError.{RunError}
 use Rattle.msrp_run.specs.declared.hire.RunError.TheVariants.{U1, U2}

@@ -1,7 +1,7 @@
 //! Texts that are gathered in memory, or written in one piece.
-ghost use Rattle.std.specs.Prelude.{◌≡◌, true, false, IfOk, IfErr};
+ghost use Rattle.msrp_plan.specs.Common.{◌≡◌, true, false, IfOk, IfErr, Wrote, sink_failed};
 ghost use Rattle.msrp_faults.specs.Outcomes.{answered};
-ghost use Rattle.msrp_plan.specs.Bytes.{Wrote, sink_failed, sink_inner};
+ghost use Rattle.msrp_plan.specs.Bytes.{sink_inner};
 
 use crate::faults::CliFault;
 use msrp_plan::bytes::Sink;

@@ -1,14 +1,7 @@
 -- The distinct deadlines of a plan, gathered from its last task back.
-use Rattle.std.proofs.Common.{◌≡◌, ℕ, ◌+◌, ◌<◌, Bool, true, false, cond, ◌||◌, nat_eq, nat_lt, List, [], ◌∷◌, ◌++◌, map, drop, refl, ap, sym, subst, ◌∙◌, inl, inr, arith, length, count_by, eqb-true}
-use Rattle.std.specs.List.{filter, list_any}
-use Rattle.std.proofs.lemmas.Bool.{cases_Bool}
-use Rattle.std.proofs.lemmas.Bool.Decides.{nat_tests}
-use Rattle.std.proofs.lemmas.List.{drop_more, length-map, get_or-map}
-use Rattle.std.proofs.lemmas.List.Sums.{length-filter, sum_by-append}
-use Rattle.msrp_plan.specs.Plan.{PlanModel, TaskModel, no_task, task_at}
-use Rattle.msrp_plan.specs.Levels.{distinct, level_of}
-use Rattle.msrp_plan.proofs.Lists.AnyAll.{any_push}
-use Rattle.msrp_plan.proofs.Lists.Filters.{any_within, all_of}
+use Rattle.msrp_plan.proofs.Common.{◌≡◌, ℕ, ◌+◌, ◌<◌, Bool, true, false, cond, ◌||◌, nat_eq, nat_lt, List, [], ◌∷◌, ◌++◌, map, drop, refl, ap, sym, subst, ◌∙◌, inl, inr, arith, length, count_by, eqb-true, filter, list_any, cases_Bool, nat_tests, drop_more, length-map, get_or-map, length-filter, sum_by-append, PlanModel, TaskModel, no_task, task_at, level_of, any_push, all_of}
+use Rattle.msrp_plan.specs.Levels.{distinct}
+use Rattle.msrp_plan.proofs.Lists.Filters.{any_within}
 
 -- by whether the first number passes, and whether it comes again
 filter_cases : (p : ℕ → Bool) (x : ℕ) (xs ys : List ℕ) (passes again : Bool) → p x ≡ passes → list_any (nat_eq x) xs ≡ again → (p x ≡ true → list_any (nat_eq x) (filter p xs) ≡ again) → filter p ys ≡ distinct (filter p xs)

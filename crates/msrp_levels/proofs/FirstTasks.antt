@@ -1,21 +1,8 @@
 -- What the first tasks of a plan tell of a resource.
-use Rattle.std.proofs.Common.{◌≡◌, ℕ, ◌+◌, ◌<◌, ◌==◌, Bool, true, false, cond, ◌&&◌, ◌||◌, List, [], ◌∷◌, ◌++◌, map, max, set, take, replicate, get_or, refl, ap, sym, ◌∙◌, inl, inr, arith, length, append-nil, eq-eqb}
-use Rattle.std.specs.List.{filter, list_any, range_with_len}
-use Rattle.std.proofs.Math.Bool.{true≢false, or-false}
-use Rattle.std.proofs.lemmas.Bool.{cases_eq}
-use Rattle.std.proofs.lemmas.List.{ext_get_or, length-set, get_or-set_same, get_or-set_other, map-append, take_all, take_more}
-use Rattle.std.proofs.lemmas.List.Elements.{filter-append}
-use Rattle.std.proofs.lemmas.List.FromFn.{get_or-map-range_with_len, length-map-range_with_len}
-use Rattle.msrp_plan.specs.Plan.{PlanModel, TaskModel, no_task, task_at}
-use Rattle.msrp_plan.specs.Units.{is_lock_of}
-use Rattle.msrp_plan.specs.Levels.{greatest, level_of, local_ceiling, uses}
-use Rattle.msrp_plan.specs.Bounds.{to_unlock, longest_section}
+use Rattle.msrp_plan.proofs.Common.{◌≡◌, ℕ, ◌+◌, ◌<◌, ◌==◌, Bool, true, false, cond, ◌&&◌, ◌||◌, List, [], ◌∷◌, ◌++◌, map, max, set, take, replicate, get_or, refl, ap, sym, ◌∙◌, inl, inr, arith, length, append-nil, eq-eqb, filter, list_any, range_with_len, true≢false, or-false, cases_eq, length-set, get_or-set_same, get_or-set_other, map-append, take_all, take_more, filter-append, get_or-map-range_with_len, length-map-range_with_len, PlanModel, TaskModel, no_task, task_at, is_lock_of, greatest, level_of, local_ceiling, uses, to_unlock, longest_section, greatest_push, any_push, all_of, not_equal}
 use Rattle.msrp_plan.specs.declared.ids.TaskId.{TaskId}
 use Rattle.msrp_plan.specs.declared.units.Op.{Op}
-use Rattle.msrp_plan.proofs.Blocking.Sections.{greatest_push}
-use Rattle.msrp_plan.proofs.Lists.AnyAll.{any_push}
-use Rattle.msrp_plan.proofs.Lists.Filters.{all_of}
-use Rattle.msrp_plan.proofs.Lists.Ranges.{not_equal}
+use Rattle.std.proofs.lemmas.List.{ext_get_or}
 use Rattle.msrp_levels.specs.declared.usage.CoreUse.{CoreUse}
 use Rattle.msrp_levels.specs.Users.{users}
 use Rattle.msrp_levels.specs.Usage.{with_user}

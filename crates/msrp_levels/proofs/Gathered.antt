@@ -1,12 +1,6 @@
 -- Lists that are gathered number by number, and what is asked of their images.
-use Rattle.std.proofs.Common.{◌≡◌, ℕ, zero, suc, ◌+◌, ◌<◌, Bool, true, false, cond, List, [], ◌∷◌, ◌++◌, map, replicate, refl, ap, sym, ◌∙◌, arith, append-nil}
-use Rattle.std.specs.List.{AllByRecursion, filter, range_with_len, sum_by}
-use Rattle.std.proofs.lemmas.List.Elements.{filter-append}
-use Rattle.std.proofs.lemmas.List.Sums.{sum_by-append, sum_by-cons}
-use Rattle.std.proofs.lemmas.Simd.{map-map}
-use Rattle.msrp_plan.specs.Levels.{greatest}
-use Rattle.msrp_plan.proofs.Lists.Filters.{all_of, filter_map_same}
-use Rattle.msrp_plan.proofs.Lists.Ranges.{range_more}
+use Rattle.msrp_plan.proofs.Common.{◌≡◌, ℕ, zero, suc, ◌+◌, ◌<◌, Bool, true, false, cond, List, [], ◌∷◌, ◌++◌, map, replicate, refl, ap, sym, ◌∙◌, arith, append-nil, AllByRecursion, filter, range_with_len, sum_by, filter-append, sum_by-append, sum_by-cons, map-map, greatest, all_of, range_more}
+use Rattle.msrp_plan.proofs.Lists.Filters.{filter_map_same}
 
 -- the numbers of a range are below its end
 pub range_below : (a n m : ℕ) → a + n ≡ m → AllByRecursion (λ k. k < m) (range_with_len a n)

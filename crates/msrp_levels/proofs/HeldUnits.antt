@@ -1,21 +1,8 @@
 -- How many resources are held along the units of a task.
-use Rattle.std.proofs.Common.{◌≡◌, ℕ, ◌+◌, ◌-◌, ◌<◌, ◌≤◌, ◌==◌, nat_eq, Bool, true, false, cond, ◌||◌, List, [], ◌∷◌, ◌++◌, take, slice_get, Some, None, refl, ap, sym, ◌∙◌, arith, length, eq-eqb}
-use Rattle.std.specs.List.{list_any}
-use Rattle.std.proofs.lemmas.Bool.{lt-ltb, le-ltb}
-use Rattle.std.proofs.lemmas.List.{take_all, take_more}
-use Rattle.std.proofs.lemmas.List.Sums.{sum_by-cons, sum_by-take-le, length-filter}
-use Rattle.std.proofs.lemmas.Option.{same_Some, none-some, slice_get_within, get_or_from_slice_get}
-use Rattle.std.proofs.lemmas.Bool.{true_from_ne_false}
-use Rattle.msrp_plan.specs.Plan.{PlanModel}
-use Rattle.msrp_plan.specs.Units.{is_lock_of, locks, unlocks, holds_after, held_with, held_after}
-use Rattle.msrp_plan.specs.WellFormed.{IsLocking}
-use Rattle.msrp_plan.specs.Ceiling.{resources}
-use Rattle.msrp_plan.specs.Bounds.{in_section}
+use Rattle.msrp_plan.proofs.Common.{◌≡◌, ℕ, ◌+◌, ◌-◌, ◌<◌, ◌≤◌, ◌==◌, nat_eq, Bool, true, false, cond, ◌||◌, List, [], ◌∷◌, ◌++◌, take, slice_get, Some, None, refl, ap, sym, ◌∙◌, arith, length, eq-eqb, list_any, lt-ltb, le-ltb, take_all, take_more, sum_by-cons, sum_by-take-le, length-filter, same_Some, none-some, slice_get_within, get_or_from_slice_get, true_from_ne_false, PlanModel, is_lock_of, locks, unlocks, holds_after, held_with, held_after, IsLocking, resources, in_resources, any_in, none_kept, even_after, held_push, held_times}
 use Rattle.msrp_plan.specs.declared.units.Op.{Op}
+use Rattle.msrp_plan.specs.Bounds.{in_section}
 use Rattle.msrp_plan.specs.declared.units.Op.TheVariants.{Run, Lock, Unlock}
-use Rattle.msrp_plan.proofs.Levels.Ceilings.{in_resources}
-use Rattle.msrp_plan.proofs.Lists.AnyAll.{any_in, none_kept}
-use Rattle.msrp_plan.proofs.TaskUnits.Nesting.{even_after, held_push, held_times}
 use Rattle.msrp_levels.specs.Outermost.{held_with_unit, CanFollow}
 use Rattle.msrp_levels.proofs.PassedUnits.{lock_below}
 

@@ -1,11 +1,8 @@
 -- No section is longer than the units of a task may be.
-use Rattle.std.proofs.Common.{ℕ, zero, suc, ◌+◌, ◌*◌, ◌<◌, ◌≤◌, ◌==◌, Bool, true, false, cond, not, ◌&&◌, List, [], ◌∷◌, map, max, get_or, ap, sym, ◌∙◌, add-one, arith, length}
-use Rattle.std.specs.List.{AllByRecursion, filter, fold, range_with_len, sum_by}
-use Rattle.msrp_plan.specs.Plan.{PlanModel, TaskModel, no_task, task_at}
-use Rattle.msrp_plan.specs.Units.{is_lock_of, is_unlock_of}
-use Rattle.msrp_plan.specs.Bounds.{to_unlock, longest_section, section, is_used_on, spin_bound}
-use Rattle.msrp_plan.specs.WellFormed.{IsPlan}
+use Rattle.msrp_plan.proofs.Common.{ℕ, zero, suc, ◌+◌, ◌*◌, ◌<◌, ◌≤◌, ◌==◌, Bool, true, false, cond, not, ◌&&◌, List, [], ◌∷◌, map, max, get_or, ap, sym, ◌∙◌, add-one, arith, length, AllByRecursion, filter, range_with_len, sum_by, PlanModel, TaskModel, no_task, task_at, is_lock_of, is_unlock_of, to_unlock, longest_section, section, spin_bound, IsPlan}
 use Rattle.msrp_plan.specs.declared.units.Op.{Op}
+use Rattle.std.specs.List.{fold}
+use Rattle.msrp_plan.specs.Bounds.{is_used_on}
 use Rattle.msrp_levels.proofs.Gathered.{sum_more_range}
 
 to_unlock-le : (g : ℕ) (us : List Op) → to_unlock g us ≤ length us

@@ -1,14 +1,8 @@
 -- The rows of outermost sections, unit by unit.
-use Rattle.std.proofs.Common.{◌≡◌, ◌≢◌, ℕ, zero, suc, ◌+◌, ◌-◌, ◌*◌, ◌<◌, ◌≤◌, ◌==◌, Bool, true, false, cond, [], map, max, slice_get, Some, refl, ap, sym, subst, ◌∙◌, arith, length, eq-eqb}
-use Rattle.std.specs.List.{range_with_len}
-use Rattle.std.proofs.lemmas.Option.{same_Some}
-use Rattle.msrp_plan.specs.Plan.{PlanModel, TaskModel}
-use Rattle.msrp_plan.specs.Levels.{greatest}
-use Rattle.msrp_plan.specs.Bounds.{in_section, section_start, wait_bound}
-use Rattle.msrp_plan.specs.WellFormed.{IsLocking}
+use Rattle.msrp_plan.proofs.Common.{◌≡◌, ◌≢◌, ℕ, zero, suc, ◌+◌, ◌-◌, ◌*◌, ◌<◌, ◌≤◌, ◌==◌, Bool, true, false, cond, [], map, max, slice_get, Some, refl, ap, sym, subst, ◌∙◌, arith, length, eq-eqb, range_with_len, same_Some, PlanModel, TaskModel, greatest, wait_bound, IsLocking, not_equal}
 use Rattle.msrp_plan.specs.declared.units.Op.{Op}
+use Rattle.msrp_plan.specs.Bounds.{in_section, section_start}
 use Rattle.msrp_plan.specs.declared.units.Op.TheVariants.{Run}
-use Rattle.msrp_plan.proofs.Lists.Ranges.{not_equal}
 use Rattle.msrp_levels.specs.Outermost.{held_with_unit}
 use Rattle.msrp_levels.proofs.HeldUnits.{IsHeldAt, held_first, held_step, inside, outside}
 use Rattle.msrp_levels.proofs.Ranges.{range_grows, range_more_zero}

@@ -1,22 +1,10 @@
 -- The units of a task, passed from the last one back.
-use Rattle.std.proofs.Common.{◌≡◌, ◌≢◌, ℕ, ◌+◌, ◌-◌, ◌^◌, ◌<◌, ◌≤◌, ◌==◌, Bool, true, false, cond, ◌||◌, List, [], ◌∷◌, max, drop, take, set, replicate, slice_get, get_or, Some, refl, ap, sym, ◌∙◌, inl, inr, arith, length, eqb-true, eq-eqb}
-use Rattle.std.specs.List.{list_any}
-use Rattle.std.proofs.Math.Bool.{true≢false}
-use Rattle.std.proofs.lemmas.Bool.{cases_eq, true_from_ne_false}
-use Rattle.std.proofs.lemmas.List.{ext_get_or, length-set, get_or-set_same, get_or-set_other, drop_more, drop_all}
-use Rattle.std.proofs.lemmas.List.FromFn.{get_or-map-range_with_len, length-map-range_with_len}
-use Rattle.std.proofs.lemmas.List.Sums.{length-filter, sum_by-take-le}
-use Rattle.std.proofs.lemmas.Option.{slice_get_within, get_or_from_slice_get}
-use Rattle.msrp_plan.specs.Plan.{PlanModel}
-use Rattle.msrp_plan.specs.Units.{is_lock_of, is_unlock_of, locks, unlocks}
-use Rattle.msrp_plan.specs.WellFormed.{IsLocking}
-use Rattle.msrp_plan.specs.Bounds.{to_unlock, longest_section}
+use Rattle.msrp_plan.proofs.Common.{◌≡◌, ◌≢◌, ℕ, ◌+◌, ◌-◌, ◌^◌, ◌<◌, ◌≤◌, ◌==◌, Bool, true, false, cond, ◌||◌, List, [], ◌∷◌, max, drop, take, set, replicate, slice_get, get_or, Some, refl, ap, sym, ◌∙◌, inl, inr, arith, length, eqb-true, eq-eqb, list_any, true≢false, cases_eq, true_from_ne_false, length-set, get_or-set_same, get_or-set_other, drop_more, drop_all, get_or-map-range_with_len, length-map-range_with_len, length-filter, sum_by-take-le, slice_get_within, get_or_from_slice_get, PlanModel, is_lock_of, is_unlock_of, locks, unlocks, IsLocking, to_unlock, longest_section, none_kept, not_equal}
 use Rattle.msrp_plan.specs.declared.units.Op.{Op}
-use Rattle.msrp_plan.specs.declared.units.Op.TheVariants.{Run, Lock, Unlock}
-use Rattle.msrp_plan.proofs.Lists.AnyAll.{none_kept}
-use Rattle.msrp_plan.proofs.TaskUnits.UnitCounts.{count_next}
-use Rattle.msrp_plan.proofs.Lists.Ranges.{not_equal}
 use Rattle.msrp_plan.specs.declared.ids.ResId.{ResId}
+use Rattle.std.proofs.lemmas.List.{ext_get_or}
+use Rattle.msrp_plan.specs.declared.units.Op.TheVariants.{Run, Lock, Unlock}
+use Rattle.msrp_plan.proofs.TaskUnits.UnitCounts.{count_next}
 use Rattle.msrp_plan.proofs.Levels.GlobalUse.{passing_place}
 use Rattle.msrp_levels.specs.declared.footprints.Use.{Use}
 use Rattle.msrp_levels.proofs.Gathered.{map_constant}

@@ -1,14 +1,7 @@
 -- The jobs of a plan, by their tasks and numbers.
-use Rattle.std.proofs.Common.{ℕ, zero, suc, ◌+◌, ◌<◌, ◌≤◌, ◌==◌, List, length, map, subst, sym, arith, inl, inr}
-use Rattle.std.specs.List.{Contains, flat_map, range_with_len}
-use Rattle.std.proofs.lemmas.Bool.{cases_Bool, eqb-true, eqb-false}
-use Rattle.std.proofs.lemmas.List.Elements.{Contains-append_left, Contains-append_right}
-use Rattle.std.proofs.lemmas.List.FromFn.{length-map-range_with_len, get_or-map-range_with_len}
-use Rattle.msrp_plan.specs.Plan.{PlanModel}
-use Rattle.msrp_plan.specs.Jobs.{jobs, jobs_of, job_at}
-use Rattle.msrp_plan.specs.WellFormed.{IsPlan}
+use Rattle.msrp_plan.proofs.Common.{ℕ, zero, suc, ◌+◌, ◌<◌, ◌≤◌, ◌==◌, List, length, map, subst, sym, arith, inl, inr, Contains, flat_map, range_with_len, cases_Bool, eqb-false, Contains-append_left, Contains-append_right, length-map-range_with_len, get_or-map-range_with_len, PlanModel, jobs, jobs_of, job_at, IsPlan, jobs_of_are}
 use Rattle.msrp_plan.specs.declared.ids.JobId.{JobId}
-use Rattle.msrp_plan.proofs.Jobs.JobLists.{jobs_of_are}
+use Rattle.std.proofs.lemmas.Bool.{eqb-true}
 
 -- what one of the lists holds, all of them hold
 flat_in : (f : ℕ → List JobId) (t a m : ℕ) (x : JobId) → a ≤ t → t < a + m → Contains (f t) x → Contains (flat_map f (range_with_len a m)) x

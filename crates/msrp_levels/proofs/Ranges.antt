@@ -1,14 +1,8 @@
 -- The greatest over a range, where one number's value grows.
-use Rattle.std.proofs.Common.{◌≡◌, ◌≢◌, ℕ, ◌+◌, ◌<◌, ◌≤◌, true, List, [], ◌∷◌, map, max, refl, ap, ◌∙◌, inl, inr, arith}
-use Rattle.std.specs.List.{AllByRecursion, filter, range_with_len}
-use Rattle.std.proofs.lemmas.Bool.{cases_eq}
-use Rattle.std.proofs.lemmas.List.FromFn.{map-range_with_len_more}
-use Rattle.msrp_plan.specs.Levels.{greatest}
-use Rattle.msrp_plan.proofs.Lists.AnyAll.{all_weaker, in_range}
-use Rattle.msrp_plan.proofs.Lists.LeastKept.{greatest_above}
+use Rattle.msrp_plan.proofs.Common.{◌≡◌, ◌≢◌, ℕ, ◌+◌, ◌<◌, ◌≤◌, true, List, [], ◌∷◌, map, max, refl, ap, ◌∙◌, inl, inr, arith, AllByRecursion, filter, range_with_len, cases_eq, map-range_with_len_more, greatest, all_weaker, greatest_above, greatest_push}
+use Rattle.msrp_plan.proofs.Lists.AnyAll.{in_range}
 use Rattle.msrp_levels.proofs.Gathered.{range_below}
 use Rattle.msrp_levels.proofs.Longest.{fold_max-le}
-use Rattle.msrp_plan.proofs.Blocking.Sections.{greatest_push}
 
 -- a filter that keeps all
 filter_all : {X : Type 0} (xs : List X) → filter (λ _. true) xs ≡ xs

@@ -1,11 +1,5 @@
 -- What is stored by number, and read.
-use Rattle.std.proofs.Common.{◌≡◌, ℕ, ◌+◌, ◌<◌, List, [], ◌∷◌, ◌++◌, map, get_or, ap, sym, subst, ◌∙◌, inl, inr, arith, length}
-use Rattle.std.specs.List.{range_with_len}
-use Rattle.std.proofs.lemmas.Bool.{cases_lt}
-use Rattle.std.proofs.lemmas.List.{get_or-map, get_or_push, get_or_append_left, length_push, length-map}
-use Rattle.std.proofs.lemmas.List.FromFn.{get_or-map-range_with_len, length-map-range_with_len}
-use Rattle.msrp_plan.specs.Plan.{PlanModel}
-use Rattle.msrp_plan.specs.Bounds.{section, spin_bound}
+use Rattle.msrp_plan.proofs.Common.{◌≡◌, ℕ, ◌+◌, ◌<◌, List, [], ◌∷◌, ◌++◌, map, get_or, ap, sym, subst, ◌∙◌, inl, inr, arith, length, range_with_len, cases_lt, get_or-map, get_or_push, get_or_append_left, length_push, length-map, get_or-map-range_with_len, length-map-range_with_len, PlanModel, section, spin_bound}
 use Rattle.msrp_levels.specs.declared.usage.CoreUse.{CoreUse}
 use Rattle.msrp_levels.specs.Usage.{IsUsage, AreUsages}
 use Rattle.msrp_levels.specs.declared.usage.Usage.{Usage}

@@ -1,15 +1,6 @@
 -- What is told of a resource by the tasks is what the plan says.
-use Rattle.std.proofs.Common.{◌≡◌, ℕ, ◌+◌, ◌<◌, ◌≤◌, ◌==◌, Bool, not, ◌&&◌, List, map, get_or, refl, ap, ◌∙◌, arith, length}
-use Rattle.std.specs.List.{filter, range_with_len, sum_by}
-use Rattle.std.proofs.lemmas.List.FromFn.{get_or-map-range_with_len, length-map-range_with_len}
-use Rattle.std.proofs.lemmas.Simd.{map-map}
-use Rattle.msrp_plan.specs.Plan.{PlanModel, TaskModel}
-use Rattle.msrp_plan.specs.Levels.{greatest, level_of, uses, top}
-use Rattle.msrp_plan.specs.Bounds.{longest_section, section, is_used_on, spin_bound}
-use Rattle.msrp_plan.specs.WellFormed.{IsPlan}
-use Rattle.msrp_plan.proofs.Lists.Filters.{all_of, filter_same}
-use Rattle.msrp_plan.proofs.Lists.AnyAll.{all_weaker}
-use Rattle.msrp_plan.proofs.Lists.Least.{all_filtered}
+use Rattle.msrp_plan.proofs.Common.{◌≡◌, ℕ, ◌+◌, ◌<◌, ◌≤◌, ◌==◌, Bool, not, ◌&&◌, List, map, get_or, refl, ap, ◌∙◌, arith, length, filter, range_with_len, sum_by, get_or-map-range_with_len, length-map-range_with_len, map-map, PlanModel, TaskModel, greatest, level_of, uses, top, longest_section, section, spin_bound, IsPlan, all_of, filter_same, all_weaker, all_filtered}
+use Rattle.msrp_plan.specs.Bounds.{is_used_on}
 use Rattle.msrp_levels.specs.declared.footprints.Footprint.{Footprint}
 use Rattle.msrp_levels.specs.declared.footprints.Use.{Use}
 use Rattle.msrp_levels.specs.declared.usage.CoreUse.{CoreUse}

@@ -1,12 +1,7 @@
 -- What a task does with each resource.
-use Rattle.std.specs.Prelude.{ℕ, List, Bool, true, false, map, max, drop, set, length, slice_index_or, ◌+◌, ◌-◌, ◌^◌, ◌<◌, ⊤}
-use Rattle.std.specs.List.{list_any, range_with_len}
-use Rattle.msrp_plan.specs.Plan.{PlanModel, TaskModel}
-use Rattle.msrp_plan.specs.Units.{is_lock_of}
-use Rattle.msrp_plan.specs.Levels.{level_of}
-use Rattle.msrp_plan.specs.Bounds.{to_unlock, longest_section}
-use Rattle.msrp_plan.specs.Limits.{most_resources}
+use Rattle.msrp_plan.specs.Common.{ℕ, List, Bool, true, false, map, max, drop, set, length, slice_index_or, ◌+◌, ◌-◌, ◌^◌, ◌<◌, ⊤, list_any, range_with_len, PlanModel, TaskModel, is_lock_of, level_of, most_resources}
 use Rattle.msrp_plan.specs.declared.units.Op.{Op}
+use Rattle.msrp_plan.specs.Bounds.{to_unlock, longest_section}
 use Rattle.msrp_plan.specs.declared.units.Op.TheVariants.{Run, Lock, Unlock}
 use Rattle.msrp_levels.specs.declared.footprints.Use.{Use}
 use Rattle.msrp_levels.specs.declared.footprints.Footprint.{Footprint}

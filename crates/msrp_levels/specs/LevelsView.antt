@@ -1,9 +1,5 @@
 -- What a clause sees of levels, and what their fields keep.
-use Rattle.std.specs.Prelude.{length, map, ◌≡◌}
-use Rattle.std.specs.List.{range_with_len}
-use Rattle.msrp_plan.specs.Plan.{PlanModel}
-use Rattle.msrp_plan.specs.Levels.{level_of, top}
-use Rattle.msrp_plan.specs.Bounds.{out}
+use Rattle.msrp_plan.specs.Common.{length, map, ◌≡◌, range_with_len, PlanModel, level_of, top, out}
 use Rattle.msrp_levels.specs.Usage.{AreUsages}
 use Rattle.msrp_levels.specs.declared.levels.Levels.TheInside.{Inside}
 

@@ -1,9 +1,6 @@
 -- How a plan uses one resource.
-use Rattle.std.specs.Prelude.{ℕ, List, Bool, map, max, filter, not, length, slice_index_or, ◌==◌, ◌&&◌, ◌+◌, ◌<◌, ◌≤◌, ◌≡◌, false, true}
-use Rattle.std.specs.List.{range_with_len, sum_by}
-use Rattle.msrp_plan.specs.Plan.{PlanModel}
-use Rattle.msrp_plan.specs.Levels.{local_ceiling}
-use Rattle.msrp_plan.specs.Bounds.{section, spin_bound}
+use Rattle.msrp_plan.specs.Common.{ℕ, List, Bool, map, max, not, length, slice_index_or, ◌==◌, ◌&&◌, ◌+◌, ◌<◌, ◌≤◌, ◌≡◌, false, true, range_with_len, sum_by, PlanModel, local_ceiling, section, spin_bound}
+use Rattle.std.specs.Prelude.{filter}
 use Rattle.msrp_plan.specs.Limits.{most_units}
 use Rattle.msrp_levels.specs.Users.{users}
 use Rattle.msrp_levels.specs.declared.usage.CoreUse.{CoreUse}

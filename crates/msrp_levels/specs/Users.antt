@@ -1,8 +1,6 @@
 -- What is asked of a plan beside levels and local ceilings.
-use Rattle.std.specs.Prelude.{ℕ, List, filter, length, if◌then◌else◌}
-use Rattle.std.specs.List.{range_with_len}
-use Rattle.msrp_plan.specs.Plan.{PlanModel, task_at}
-use Rattle.msrp_plan.specs.Levels.{uses, is_global, local_ceiling, top}
+use Rattle.msrp_plan.specs.Common.{ℕ, List, length, if◌then◌else◌, range_with_len, PlanModel, task_at, uses, is_global, local_ceiling, top}
+use Rattle.std.specs.Prelude.{filter}
 
 -- the numbers of the tasks that use the resource, in rising order
 abbrev pub users : PlanModel → ℕ → List ℕ

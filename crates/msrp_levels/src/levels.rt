@@ -1,8 +1,5 @@
 //! The levels and ceilings of a plan.
-ghost use Rattle.std.specs.Prelude.{◌≡◌, ◌<◌, length, map, IfOk};
-ghost use Rattle.msrp_plan.specs.Plan.{task_at};
-ghost use Rattle.msrp_plan.specs.Levels.{level, is_global, top};
-ghost use Rattle.msrp_plan.specs.Bounds.{section, spin_bound, out};
+ghost use Rattle.msrp_plan.specs.Common.{◌≡◌, ◌<◌, length, map, IfOk, task_at, level, is_global, top, section, spin_bound, out};
 ghost use Rattle.msrp_levels.specs.Usage.{IsUsage};
 ghost use Rattle.msrp_levels.specs.Users.{users, ceiling_at};
 

@@ -1,11 +1,7 @@
 -- A log that fits its book, and one turn more.
-use Rattle.std.proofs.Common.{◌≡◌, true, false, cond, is_some, List, [], ◌∷◌, ◌++◌, None, refl, ap, sym, ◌∙◌, subst, zero, suc, append-nil}
-use Rattle.std.specs.List.{filter}
-use Rattle.std.proofs.lemmas.List.Elements.{filter-append}
-use Rattle.msrp_plan.specs.Calls.{kind_of_call}
+use Rattle.msrp_plan.proofs.Common.{◌≡◌, true, false, cond, is_some, List, [], ◌∷◌, ◌++◌, None, refl, ap, sym, ◌∙◌, subst, zero, suc, append-nil, filter, filter-append, kind_of_call, all_push}
 use Rattle.msrp_plan.specs.declared.units.Call.{Call}
 use Rattle.msrp_plan.specs.declared.units.Call.TheVariants.{Ask, Poll, Leave}
-use Rattle.msrp_plan.proofs.Lists.AnyAll.{all_push}
 use Rattle.msrp_board.specs.declared.books.Entry.{Entry}
 use Rattle.msrp_merge.specs.declared.logs.Turn.{Turn}
 use Rattle.msrp_merge.specs.Pairs.{Paired}

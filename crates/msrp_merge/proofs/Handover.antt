@@ -1,12 +1,8 @@
 -- The worked handover: its logs fit its books, and its history was served.
-use Rattle.std.proofs.Common.{◌≡◌, ℕ, zero, suc, ◌<◌, true, false, length, refl, arith, inl, inr, ⊎_elim}
-use Rattle.std.specs.List.{AllByRecursion, filter}
+use Rattle.msrp_plan.proofs.Common.{◌≡◌, ℕ, zero, suc, ◌<◌, true, false, length, refl, arith, inl, inr, ⊎_elim, AllByRecursion, filter, Legal, CoreRun, IsRun, IsRunStart, good_is_run}
 use Rattle.msrp_plan.specs.Examples.HandoverATickLater as handover
 use Rattle.msrp_plan.specs.Examples.HandoverWithinATick as within_a_tick
-use Rattle.msrp_plan.specs.FifoLock.{Legal}
-use Rattle.msrp_plan.specs.Runs.{CoreRun, IsRun, IsRunStart}
 use Rattle.msrp_plan.proofs.Runs.CoreRuns.{core_run}
-use Rattle.msrp_plan.proofs.Runs.Verdicts.{good_is_run}
 use Rattle.msrp_board.proofs.BrokenBoards.{no_others}
 use Rattle.msrp_board.specs.Boards.{entries_at}
 use Rattle.msrp_board.specs.Books.{on_resource, IsChain}

@@ -1,16 +1,12 @@
 -- The turns on a resource, in the order of the merged list, are the history of the resource.
-use Rattle.std.proofs.Common.{◌≡◌, ℕ, ◌==◌, ◌<◌, ◌≤◌, Bool, true, false, cond, not, List, [], ◌∷◌, Option, Some, refl, ap, sym, ◌∙◌, subst, arith, ◌⊎◌, inl, inr}
-use Rattle.std.specs.List.{AllByRecursion, filter}
+use Rattle.msrp_plan.proofs.Common.{◌≡◌, ℕ, ◌==◌, ◌<◌, ◌≤◌, Bool, true, false, cond, not, List, [], ◌∷◌, Option, Some, refl, ap, sym, ◌∙◌, subst, arith, ◌⊎◌, inl, inr, AllByRecursion, filter, is_lt, nat_cmp, ordering_then, Less, Equal, Greater, is_on, all_weaker, all_both}
+use Rattle.msrp_plan.specs.declared.ids.ResId.{ResId}
 use Rattle.std.specs.Option.{option_map}
-use Rattle.std.specs.Ordering.{is_lt, nat_cmp, bool_cmp, ordering_then}
+use Rattle.std.specs.Ordering.{bool_cmp}
 use Rattle.std.specs.declared.cmp.Ordering.{Ordering}
-use Rattle.std.specs.declared.cmp.Ordering.TheVariants.{Less, Equal, Greater}
 use Rattle.std.proofs.lemmas.Bool.{eqb-true}
 use Rattle.std.proofs.lemmas.Cmp.{ranked, nat_cmp_total, tied_itself}
 use Rattle.std.proofs.lemmas.Map.Keys.{ge_from_not_lt}
-use Rattle.msrp_plan.specs.Queues.{is_on}
-use Rattle.msrp_plan.specs.declared.ids.ResId.{ResId}
-use Rattle.msrp_plan.proofs.Lists.AnyAll.{all_weaker, all_both}
 use Rattle.msrp_board.specs.declared.books.Entry.{Entry}
 use Rattle.msrp_board.specs.Books.{on_resource, IsChain}
 use Rattle.msrp_board.specs.History.{Event, is_poll, IsNotLater, IsHistory}

@@ -1,12 +1,11 @@
 -- What a log keeps of its turns tells them.
-use Rattle.std.proofs.Common.{◌≡◌, ℕ, zero, suc, ◌+◌, ◌<◌, Option, List, [], ◌∷◌, ◌++◌, length, get_or, is_some, refl, ap, sym, ◌∙◌, arith}
-use Rattle.std.specs.Option.{unwrap_or}
-use Rattle.msrp_plan.specs.Shape.{ahead_of_kind, job_of_kind, res_of_kind}
+use Rattle.msrp_plan.proofs.Common.{◌≡◌, ℕ, zero, suc, ◌+◌, ◌<◌, Option, List, [], ◌∷◌, ◌++◌, length, get_or, is_some, refl, ap, sym, ◌∙◌, arith, same_row}
 use Rattle.msrp_plan.specs.declared.ids.JobId.{JobId}
 use Rattle.msrp_plan.specs.declared.ids.ResId.{ResId}
 use Rattle.msrp_plan.specs.declared.rows.Row.{Row}
+use Rattle.std.specs.Option.{unwrap_or}
+use Rattle.msrp_plan.specs.Shape.{ahead_of_kind, job_of_kind, res_of_kind}
 use Rattle.msrp_plan.proofs.KindParts.{ahead_told, job_told, res_told, same_parts}
-use Rattle.msrp_plan.proofs.Legality.SameRow.{same_row}
 use Rattle.msrp_merge.specs.declared.kept.Kept.{Kept}
 use Rattle.msrp_merge.specs.declared.logs.Place.{Place}
 use Rattle.msrp_merge.specs.declared.logs.Turn.{Turn}

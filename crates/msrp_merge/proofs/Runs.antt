@@ -1,19 +1,8 @@
 -- The merged list is a legal run, and its steps on each resource are the resource's history.
-use Rattle.std.proofs.Common.{◌≡◌, ℕ, zero, suc, ◌+◌, ◌/◌, ◌<◌, ◌≤◌, Bool, true, false, cond, ◌&&◌, List, [], ◌∷◌, ◌++◌, length, refl, ap, sym, ◌∙◌, subst, arith, inl, inr, eq-eqb, ne_eqb, length-append}
-use Rattle.std.specs.List.{AllByRecursion, filter}
-use Rattle.std.proofs.Math.Bool.{true≢false}
-use Rattle.std.proofs.lemmas.Bool.{cases_lt, and_parts, and_from}
-use Rattle.std.proofs.lemmas.List.{length-map, map-append}
-use Rattle.msrp_plan.specs.Plan.{PlanModel}
-use Rattle.msrp_plan.specs.Aheads.{carries_its_ahead, carries_ahead}
-use Rattle.msrp_plan.specs.Queues.{is_on}
-use Rattle.msrp_plan.specs.Runs.{EachAfter, IsCoreTurn, CoreRun, IsRun}
-use Rattle.msrp_plan.specs.Logs.{is_of, log_of, AreInterleaved}
-use Rattle.msrp_plan.specs.FifoLock.{Legal}
-use Rattle.msrp_plan.specs.WellFormed.{IsPlan}
+use Rattle.msrp_plan.proofs.Common.{◌≡◌, ℕ, zero, suc, ◌+◌, ◌/◌, ◌<◌, ◌≤◌, Bool, true, false, cond, ◌&&◌, List, [], ◌∷◌, ◌++◌, length, refl, ap, sym, ◌∙◌, subst, arith, inl, inr, eq-eqb, ne_eqb, length-append, AllByRecursion, filter, true≢false, cases_lt, and_parts, and_from, length-map, map-append, PlanModel, carries_its_ahead, carries_ahead, is_on, EachAfter, IsCoreTurn, CoreRun, IsRun, is_of, log_of, Legal, IsPlan, all_of, undeclared_local}
 use Rattle.msrp_plan.specs.declared.rows.Row.{Row}
-use Rattle.msrp_plan.proofs.Lists.Filters.{filter_map_same, all_of}
-use Rattle.msrp_plan.proofs.Levels.GlobalUse.{undeclared_local}
+use Rattle.msrp_plan.specs.Logs.{AreInterleaved}
+use Rattle.msrp_plan.proofs.Lists.Filters.{filter_map_same}
 use Rattle.msrp_plan.proofs.Runs.Interleaving.{interleaved_run}
 use Rattle.msrp_board.specs.declared.books.Entry.{Entry}
 use Rattle.msrp_board.specs.Books.{IsChain}

@@ -1,10 +1,5 @@
 -- The steps on a resource, among the turns of all cores, and its history on the board.
-use Rattle.std.specs.Prelude.{◌≡◌, ℕ, List, Bool, true, ◌&&◌}
-use Rattle.std.specs.List.{filter}
-use Rattle.msrp_plan.specs.Plan.{PlanModel}
-use Rattle.msrp_plan.specs.Levels.{is_global}
-use Rattle.msrp_plan.specs.FifoLock.{Legal}
-use Rattle.msrp_plan.specs.Queues.{is_on}
+use Rattle.msrp_plan.specs.Common.{◌≡◌, ℕ, List, Bool, true, ◌&&◌, filter, PlanModel, is_global, Legal, is_on}
 use Rattle.msrp_plan.specs.declared.rows.Row.{Row}
 use Rattle.msrp_board.specs.History.{Event, calls}
 use Rattle.msrp_merge.specs.declared.logs.Turn.{Turn}

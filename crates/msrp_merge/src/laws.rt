@@ -1,12 +1,10 @@
 //! Laws that the merge rests on. Each function does nothing; its contract is the law.
-ghost use Rattle.std.specs.Prelude.{◌≡◌, ℕ, List, [], ◌∷◌, ◌++◌, None, filter, map, true, false};
+ghost use Rattle.msrp_plan.specs.Common.{◌≡◌, ℕ, List, [], ◌∷◌, ◌++◌, None, map, true, false, PlanModel, EachAfter, is_fifo_reply, IsPlan};
+ghost use Rattle.msrp_plan.specs.declared.rows.Row.{Row};
+ghost use Rattle.std.specs.Prelude.{filter};
 ghost use Rattle.msrp_plan.specs.Examples.HandoverATickLater as handover_a_tick_later;
 ghost use Rattle.msrp_plan.specs.Examples.HandoverWithinATick as handover_within_a_tick;
 ghost use Rattle.msrp_plan.specs.Logs.{AreInterleaved};
-ghost use Rattle.msrp_plan.specs.Plan.{PlanModel};
-ghost use Rattle.msrp_plan.specs.Runs.{EachAfter, is_fifo_reply};
-ghost use Rattle.msrp_plan.specs.WellFormed.{IsPlan};
-ghost use Rattle.msrp_plan.specs.declared.rows.Row.{Row};
 ghost use Rattle.msrp_board.specs.Boards.{entries_at};
 ghost use Rattle.msrp_board.specs.Books.{IsChain};
 ghost use Rattle.msrp_board.specs.History.{Event, IsHistory, IsNotLater, IsServed};

@@ -1,5 +1,5 @@
 //! What a core did, turn by turn.
-ghost use Rattle.std.specs.Prelude.{◌≡◌, ◌<◌, ◌++◌, ◌∷◌, [], length, slice_index_or, IfOk};
+ghost use Rattle.msrp_plan.specs.Common.{◌≡◌, ◌<◌, ◌++◌, ◌∷◌, [], length, slice_index_or, IfOk};
 ghost use Rattle.msrp_merge.specs.declared.logs.Turn.{Turn as TurnAt};
 ghost use Rattle.msrp_merge.specs.Turns.{has_place};
 

@@ -1,47 +1,25 @@
 -- The ceiling that a core's rows tell is the policy's in each legal run.
-use Rattle.std.proofs.Common.{◌≡◌, ◌≢◌, ℕ, ◌+◌, ◌<◌, ◌≤◌, Bool, true, false, cond, not, ◌==◌, ◌&&◌, ◌||◌, List, [], ◌∷◌, ◌++◌, map, Option, Some, None, refl, ap, sym, ◌∙◌, subst, arith, append-nil, length, max, slice_get, slice_set, take, inl, inr, ◌⊎◌}
-use Rattle.std.proofs.Math.Bool.{true≢false}
-use Rattle.std.proofs.lemmas.Bool.{and_parts, cases_Bool, cases_eq, cases_lt, eqb-true, false_from_ne_true, not-true}
-use Rattle.std.proofs.lemmas.List.{map-append}
-use Rattle.std.proofs.lemmas.List.Elements.{filter-append}
-use Rattle.std.proofs.lemmas.List.FromFn.{length-map-range_with_len}
-use Rattle.std.proofs.lemmas.List.Sums.{fold_push}
-use Rattle.std.specs.List.{Contains, filter, fold, list_any, range_with_len}
-use Rattle.msrp_plan.proofs.Blocking.Sections.{greatest_push}
+use Rattle.msrp_plan.proofs.Common.{◌≡◌, ◌≢◌, ℕ, ◌+◌, ◌<◌, ◌≤◌, Bool, true, false, cond, not, ◌==◌, ◌&&◌, ◌||◌, List, [], ◌∷◌, ◌++◌, map, Option, Some, None, refl, ap, sym, ◌∙◌, subst, arith, append-nil, length, max, slice_get, slice_set, take, inl, inr, ◌⊎◌, true≢false, and_parts, cases_Bool, cases_eq, cases_lt, false_from_ne_true, not-true, map-append, filter-append, length-map-range_with_len, fold_push, Contains, filter, list_any, range_with_len, greatest_push, on_its_core, is_job_is, row_of_job, same_is, same_self, DoesUnit, IsTurn, idle_res, legal_turn, turn_chosen, turn_core, greatest_above, any_from, kept_by, along, not_equal, log_other, log_own, units_lock, held_unlock, Grants, Locks, Releases, Runs, Spins, Takes, Unlocks, step_of, is_global_unit, res_of_unit, resources, done, holds, is_job, is_queued, is_row_of, is_waiting, jobs_on, same_job, greatest, is_global, local_ceiling, top, log_of, task_of, units, is_on, EachAfter, IsLegal, JobState, holds_after, is_lock_of, is_unlock_of, IsPlan}
+use Rattle.msrp_plan.specs.declared.rows.Kind.TheVariants.{Lock, Unlock}
+use Rattle.msrp_plan.specs.declared.units.Op.{Op}
+use Rattle.std.proofs.lemmas.Bool.{eqb-true}
+use Rattle.std.specs.List.{fold}
 use Rattle.msrp_plan.proofs.Blocking.Sound.{IsSound, sound_asking, sound_at, sound_none, sound_push}
 use Rattle.msrp_plan.proofs.Choosing.Live.{holder_live, holds_kept}
 use Rattle.msrp_plan.proofs.Choosing.OwnTurns.{up_alone, up_kept}
 use Rattle.msrp_plan.proofs.Choosing.Turns.{turn_least}
 use Rattle.msrp_plan.proofs.Holding.Holders.{IsOrderly, orderly_none, orderly_push}
 use Rattle.msrp_plan.proofs.Holding.Users.{holder_uses, user_in}
-use Rattle.msrp_plan.proofs.Jobs.CoreJobs.{on_its_core}
-use Rattle.msrp_plan.proofs.Jobs.JobTests.{is_job_is, one_job, row_of_job, same_is, same_self}
+use Rattle.msrp_plan.proofs.Jobs.JobTests.{one_job}
 use Rattle.msrp_plan.proofs.Jobs.States.{state_moved}
-use Rattle.msrp_plan.proofs.Legality.LegalRows.{DoesUnit, IsTurn, idle_res, legal_turn, turn_chosen, turn_core}
 use Rattle.msrp_plan.proofs.Levels.Ceilings.{ceiling_above, holder_raises, queued_raises, raised_above, user_below}
-use Rattle.msrp_plan.proofs.Lists.LeastKept.{greatest_above}
-use Rattle.msrp_plan.proofs.Lists.Members.{any_from, kept_by, reached}
-use Rattle.msrp_plan.proofs.Lists.Prefixes.{along}
-use Rattle.msrp_plan.proofs.Lists.Ranges.{not_equal}
+use Rattle.msrp_plan.proofs.Lists.Members.{reached}
 use Rattle.msrp_plan.proofs.Queues.Effects.{Effect, Got, Joined, Left, Quiet, Spun, Took, effect}
-use Rattle.msrp_plan.proofs.Runs.RoundRobin.{log_other, log_own}
-use Rattle.msrp_plan.proofs.TaskUnits.PlanUnits.{units_lock}
 use Rattle.msrp_plan.proofs.TaskUnits.Stands.{IsUp, holder_stands, holds_out, stand_kept, up_cases, waits_out}
-use Rattle.msrp_plan.proofs.TaskUnits.UnitCounts.{held_in, held_lock, held_other, held_unlock}
-use Rattle.msrp_plan.proofs.TaskUnits.UnitKinds.{Grants, Locks, Queues, Releases, Runs, Spins, Takes, Unlocks, step_of}
-use Rattle.msrp_plan.specs.Actions.{is_global_unit, res_of_unit}
-use Rattle.msrp_plan.specs.Ceiling.{ceiling, is_held_on, is_queued_on, resources}
-use Rattle.msrp_plan.specs.Jobs.{done, holds, is_job, is_queued, is_row_of, is_waiting, jobs_on, same_job}
-use Rattle.msrp_plan.specs.Levels.{greatest, is_global, local_ceiling, top}
-use Rattle.msrp_plan.specs.Logs.{log_of, rows_on}
-use Rattle.msrp_plan.specs.Plan.{task_of, units}
-use Rattle.msrp_plan.specs.Queues.{is_on}
-use Rattle.msrp_plan.specs.Runs.{EachAfter, IsLegal}
-use Rattle.msrp_plan.specs.States.{JobState}
-use Rattle.msrp_plan.specs.Units.{holds_after, is_lock_of, is_unlock_of}
-use Rattle.msrp_plan.specs.WellFormed.{IsPlan}
-use Rattle.msrp_plan.specs.declared.rows.Kind.TheVariants.{Lock, Unlock}
-use Rattle.msrp_plan.specs.declared.units.Op.{Op}
+use Rattle.msrp_plan.proofs.TaskUnits.UnitCounts.{held_in, held_lock, held_other}
+use Rattle.msrp_plan.proofs.TaskUnits.UnitKinds.{Queues}
+use Rattle.msrp_plan.specs.Ceiling.{ceiling, is_held_on, is_queued_on}
+use Rattle.msrp_plan.specs.Logs.{rows_on}
 use Rattle.msrp_plan.specs.declared.units.Op.TheVariants.{Lock as LockUnit, Unlock as UnlockUnit}
 use Rattle.msrp_levels.specs.Users.{ceiling_at}
 use Rattle.msrp_picture.specs.Types.{JobId, Kind, PlanModel, ResId, Row}

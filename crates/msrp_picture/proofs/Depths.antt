@@ -1,8 +1,5 @@
 -- How many sections are open.
-use Rattle.std.specs.Prelude.{slice_index_or}
-use Rattle.std.proofs.Common.{◌≡◌, ℕ, ◌+◌, ◌<◌, ◌≤◌, Bool, true, false, cond, ◌-◌, List, [], ◌∷◌, ◌++◌, length, take, drop, max, ap, sym, ◌∙◌, arith}
-use Rattle.std.proofs.lemmas.List.{drop_all, take_more}
-use Rattle.std.proofs.lemmas.List.Sums.{fold-append}
+use Rattle.msrp_plan.proofs.Common.{slice_index_or, ◌≡◌, ℕ, ◌+◌, ◌<◌, ◌≤◌, Bool, true, false, cond, ◌-◌, List, [], ◌∷◌, ◌++◌, length, take, drop, max, ap, sym, ◌∙◌, arith, drop_all, take_more, fold-append}
 use Rattle.msrp_picture.specs.Types.{Row}
 use Rattle.msrp_picture.specs.Sections.{enters, leaves, most_open, open_behind, open_with}
 use Rattle.msrp_picture.proofs.Growing.{drop-at}

@@ -1,12 +1,5 @@
 -- Lists that grow part by part.
-use Rattle.std.specs.Prelude.{slice_index_or, ⊤}
-use Rattle.std.proofs.Common.{◌≡◌, ℕ, ◌+◌, Bool, true, false, cond, List, [], ◌∷◌, ◌++◌, Result, Ok, Err, OnOk, refl, ap, sym, ◌∙◌, append_assoc, append-nil, arith, drop, length, map, ◌-◌, ◌<◌, ◌≤◌}
-use Rattle.std.proofs.lemmas.Grind.{flat_map-append}
-use Rattle.std.proofs.lemmas.List.{drop_more}
-use Rattle.std.proofs.lemmas.List.Elements.{filter-append}
-use Rattle.std.proofs.lemmas.List.FromFn.{map-range_with_len_more}
-use Rattle.std.specs.List.{filter, flat_map, range_with_len}
-use Rattle.msrp_plan.proofs.Lists.Ranges.{flat_more, range_more}
+use Rattle.msrp_plan.proofs.Common.{slice_index_or, ⊤, ◌≡◌, ℕ, ◌+◌, Bool, true, false, cond, List, [], ◌∷◌, ◌++◌, Result, Ok, Err, OnOk, refl, ap, sym, ◌∙◌, append_assoc, append-nil, arith, drop, length, map, ◌-◌, ◌<◌, ◌≤◌, flat_map-append, drop_more, filter-append, map-range_with_len_more, filter, flat_map, range_with_len, flat_more, range_more}
 
 -- by one part, and then by another
 pub grows : {X : Type 0} (a b c x y : List X) → b ≡ a ++ x → c ≡ b ++ y → c ≡ a ++ (x ++ y)

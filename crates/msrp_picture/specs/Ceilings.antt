@@ -1,9 +1,6 @@
 -- The ceiling of a core, as its rows tell it.
-use Rattle.std.specs.Prelude.{ℕ, List, [], ◌∷◌, ◌++◌, Bool, false, None, not, if◌then◌else◌, filter, fold, length, map, nat_eq, take, ◌+◌}
-use Rattle.std.specs.List.{flat_map, range_with_len}
-use Rattle.msrp_plan.specs.Ceiling.{resources}
-use Rattle.msrp_plan.specs.Levels.{greatest}
-use Rattle.msrp_plan.specs.Logs.{rows_on}
+use Rattle.msrp_plan.specs.Common.{ℕ, List, [], ◌∷◌, ◌++◌, Bool, false, None, not, if◌then◌else◌, fold, length, map, nat_eq, take, ◌+◌, flat_map, range_with_len, resources, greatest, rows_on}
+use Rattle.std.specs.Prelude.{filter}
 use Rattle.msrp_levels.specs.Users.{ceiling_at}
 use Rattle.msrp_picture.specs.Types.{PlanModel, Room, Row, Shape, Span, Window}
 use Rattle.msrp_picture.specs.Blocks.{lane_of, lasting, merged, seen}

@@ -1,12 +1,6 @@
 -- What a picture in SVG promises, in the words of schedules.
-use Rattle.std.specs.Prelude.{◌≡◌, ℕ, List, Bool, true, false, ◌&&◌, ◌==◌, Option, count_by, filter_map, length, map, ◌≤◌, ◌<◌, ◌+◌, ◌-◌, ⊤}
-use Rattle.std.specs.List.{flat_map, range_with_len}
-use Rattle.msrp_plan.specs.Ceiling.{ceiling}
-use Rattle.msrp_plan.specs.Jobs.{job_at, jobs_of, same_job}
-use Rattle.msrp_plan.specs.Logs.{log_of}
-use Rattle.msrp_plan.specs.Plan.{release}
-use Rattle.msrp_plan.specs.Runs.{IsRunStart}
-use Rattle.msrp_plan.specs.WellFormed.{IsPlan}
+use Rattle.msrp_plan.specs.Common.{◌≡◌, ℕ, List, Bool, true, false, ◌&&◌, ◌==◌, Option, count_by, length, map, ◌≤◌, ◌<◌, ◌+◌, ◌-◌, ⊤, flat_map, range_with_len, ceiling, job_at, jobs_of, same_job, log_of, release, IsRunStart, IsPlan}
+use Rattle.std.specs.Prelude.{filter_map}
 use Rattle.msrp_picture.specs.Types.{Fault, JobId, Lane, Moment, PlanModel, Result, Row, Shape, Span, Window}
 use Rattle.msrp_picture.specs.Blocks.{merged, span_of}
 use Rattle.msrp_picture.specs.Ceilings.{told_ceiling}

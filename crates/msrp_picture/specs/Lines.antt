@@ -1,10 +1,7 @@
 -- The lines of a picture: each has a label, and a cell for each tick that is drawn.
-use Rattle.std.specs.Prelude.{ℕ, List, Bool, true, false, ◌==◌, codes, map, ◌-◌, [], ◌∷◌, ◌++◌, ◌&&◌, Option, Some, None, if◌then◌else◌, decimal, filter, is_some, length, replicate, slice_index_or, ◌%◌}
-use Rattle.std.specs.List.{list_any, range_with_len, zip, cons_option, flat_map}
-use Rattle.msrp_plan.specs.Jobs.{jobs_on}
-use Rattle.msrp_plan.specs.Levels.{is_global}
-use Rattle.msrp_plan.specs.Logs.{is_of, log_of}
-use Rattle.msrp_plan.specs.Plan.{key, release}
+use Rattle.msrp_plan.specs.Common.{ℕ, List, Bool, true, false, ◌==◌, codes, map, ◌-◌, [], ◌∷◌, ◌++◌, ◌&&◌, Option, Some, None, if◌then◌else◌, decimal, is_some, length, replicate, slice_index_or, ◌%◌, list_any, range_with_len, cons_option, flat_map, jobs_on, is_global, is_of, log_of, key, release}
+use Rattle.std.specs.Prelude.{filter}
+use Rattle.std.specs.List.{zip}
 use Rattle.msrp_picture.specs.Types.{Aspect, JobId, Moment, PictureLine, PlanModel, Row, Window}
 use Rattle.msrp_picture.specs.Cells.{byte, mark, no_mark, nothing, row_cell, standing_cell, standings, tick_cell}
 use Rattle.msrp_picture.specs.Windows.{goes_on_in, rows_between}

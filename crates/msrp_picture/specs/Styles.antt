@@ -1,5 +1,5 @@
 -- The picture that is drawn, in text or in SVG.
-use Rattle.std.specs.Prelude.{ℕ, List, ⊤}
+use Rattle.msrp_plan.specs.Common.{ℕ, List, ⊤}
 use Rattle.msrp_picture.specs.Types.{Asked, Fault, PlanModel, Result, Row, Style, Window}
 use Rattle.msrp_picture.specs.Picture.{picture_text}
 use Rattle.msrp_picture.specs.Svg.{svg_text}

@@ -1,7 +1,5 @@
 //! Laws over the definition of a picture in SVG. Each function does nothing; its contract is the law.
-ghost use Rattle.std.specs.Prelude.{List, Option, ⊤};
-ghost use Rattle.std.specs.declared.result.Result.{Result};
-ghost use Rattle.msrp_plan.specs.Plan.{PlanModel};
+ghost use Rattle.msrp_plan.specs.Common.{List, Option, ⊤, Result, PlanModel};
 ghost use Rattle.msrp_plan.specs.declared.faults.Fault.{Fault};
 ghost use Rattle.msrp_plan.specs.declared.rows.Row.{Row};
 ghost use Rattle.msrp_picture.specs.Laws.{EachRowInOneBlock, OneArrowForEachRelease, ShowsTheCeiling};

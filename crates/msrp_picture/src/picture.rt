@@ -1,7 +1,5 @@
 //! A picture of a trace, as text.
-ghost use Rattle.std.specs.Prelude.{◌≡◌, ◌<◌, ◌≤◌, ◌+◌, ◌++◌, codes, decimal, drop, length, slice_index_or, slice_range, [], ◌*◌, IfOk, OnOk};
-ghost use Rattle.std.specs.List.{flat_map, range_with_len};
-ghost use Rattle.msrp_plan.specs.Words.{verdict_text};
+ghost use Rattle.msrp_plan.specs.Common.{◌≡◌, ◌<◌, ◌≤◌, ◌+◌, ◌++◌, codes, decimal, drop, length, slice_index_or, slice_range, [], ◌*◌, IfOk, OnOk, flat_map, range_with_len, verdict_text};
 ghost use Rattle.msrp_picture.specs.Lines.{name_of};
 ghost use Rattle.msrp_picture.specs.Picture.{drawn_picture, drawn_text, fault_place, label, legend_text, signs_text, spaces, task_text, window_text};
 ghost use Rattle.msrp_picture.specs.Windows.{parts};

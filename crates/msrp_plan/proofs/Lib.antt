@@ -15,3 +15,4 @@ pub mod Blocking
 pub mod Scheduling
 pub mod Runs
 pub mod Building
+pub mod Common

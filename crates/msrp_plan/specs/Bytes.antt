@@ -71,3 +71,7 @@ pub record Wrote {W : Type 0} (contents : W → Option (List ℕ)) (old new : Si
   pub stays : sink_failed old ≡ true → new ≡ old
   pub whole : sink_failed new ≡ false → (sink_failed old ≡ false) × Appends (contents (sink_inner old)) (contents (sink_inner new)) text
   pub part : sink_failed old ≡ false → sink_failed new ≡ true → AppendsPrefix (contents (sink_inner old)) (contents (sink_inner new)) text
+
+-- a sink took some text whole, or failed and took its first part; one that had failed took nothing
+abbrev pub WroteSome : {W : Type 0} → (W → Option (List ℕ)) → Sink W → Sink W → Type 0
+WroteSome {W} contents old new = (text : List ℕ) × Wrote contents old new text

@@ -35,3 +35,4 @@ pub mod Times
 pub mod Bytes
 pub mod Inside
 pub mod Examples
+pub mod Common

@@ -9,11 +9,13 @@ ghost use Rattle.std.specs.Io.{ReadsAtMost};
 ghost use Rattle.std.specs.Io.KnownBytes.{Appends, ReadConsumes};
 ghost use Rattle.std.specs.IoError.{error_kind};
 ghost use Rattle.msrp_plan.specs.Limits.{most_bytes};
-ghost use Rattle.msrp_plan.specs.Bytes.{sink_failed, sink_inner, source_failed, source_ended, source_inner, source_given, source_calls, source_remaining, is_open, is_spent, AppendsPrefix, Wrote};
+ghost use Rattle.msrp_plan.specs.Bytes.{sink_failed, sink_inner, source_failed, source_ended, source_inner, source_given, source_calls, source_remaining, is_open, is_spent, AppendsPrefix, Wrote, WroteSome};
 ghost use Rattle.msrp_plan.specs.Words.{verdict_text};
 
 use crate::faults::{Fault, WriteFault};
 use itoa::Buffer;
+use std::alloc::AllocError;
+use std::fmt::Display;
 use std::io;
 use std::io::{ErrorKind, Read, Write};
 
@@ -219,6 +221,18 @@ impl<W: Write> Sink<W> {
     {
         let mut digits = Buffer::new();
         self.field(digits.format(number).as_bytes());
+    }
+
+    /// Writes a value as `{}` prints it. The text is made in `line`, whose old text goes; so one
+    /// buffer serves many calls. Where its memory runs out nothing is written.
+    pub fn show<T: Display>(&mut self, value: &T, line: &mut String) -> Result<(), AllocError>
+        ensures memory { OnErr result (self.new ≡ self.old) }
+        ensures some { OnOk result (WroteSome W.contents self.old self.new) }
+    {
+        line.clear();
+        write!(line, "{value}")?;
+        self.add(line.as_bytes());
+        Ok(())
     }
 
     /// Adds the record of a verdict.

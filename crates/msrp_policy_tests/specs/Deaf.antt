@@ -1,5 +1,5 @@
 -- The port of the tests: one core has a room, and no other.
-use Rattle.std.specs.Prelude.{ℕ, List, ◌==◌, if◌then◌else◌}
+use Rattle.msrp_plan.specs.Common.{ℕ, List, ◌==◌, if◌then◌else◌}
 use Rattle.msrp_plan.specs.declared.ids.CoreId.{CoreId}
 use Rattle.msrp_core.specs.Ports.{PortModel}
 use Rattle.msrp_core.specs.declared.port.PortCall.{PortCall}

@@ -1,5 +1,5 @@
 -- The resources of the tests, held one within the other.
-use Rattle.std.specs.Prelude.{ℕ, zero, suc, List, [], ◌∷◌}
+use Rattle.msrp_plan.specs.Common.{ℕ, zero, suc, List, [], ◌∷◌}
 
 -- the first n, the innermost first
 abbrev pub nested : ℕ → List ℕ

@@ -1,6 +1,5 @@
 //! An auditor that is fed row by row: the handover of a global resource between two cores within one tick.
-ghost use Rattle.std.specs.Prelude.{◌≡◌, Some, true};
-ghost use Rattle.msrp_plan.specs.Shape.{has_shape};
+ghost use Rattle.msrp_plan.specs.Common.{◌≡◌, Some, true, has_shape};
 ghost use Rattle.msrp_plan.specs.declared.ids.JobId.{JobId as Job};
 ghost use Rattle.msrp_plan.specs.declared.ids.ResId.{ResId as Resource};
 

@@ -1,10 +1,5 @@
 //! Jobs that start, lock and finish on a core, worked by hand.
-ghost use Rattle.std.specs.Prelude.{◌≡◌, ◌<◌, ◌∷◌, [], IfOk, IsSome, length, true};
-ghost use Rattle.std.specs.List.{Contains};
-ghost use Rattle.msrp_plan.specs.Plan.{release_tick};
-ghost use Rattle.msrp_plan.specs.Jobs.{jobs_on};
-ghost use Rattle.msrp_plan.specs.Levels.{is_global};
-ghost use Rattle.msrp_plan.specs.Choice.{is_before};
+ghost use Rattle.msrp_plan.specs.Common.{◌≡◌, ◌<◌, ◌∷◌, [], IfOk, IsSome, length, true, Contains, release_tick, jobs_on, is_global, is_before};
 ghost use Rattle.msrp_policy_tests.specs.Nested.{nested};
 
 use crate::plans::plan_of;

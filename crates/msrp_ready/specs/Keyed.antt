@@ -1,8 +1,5 @@
 -- Jobs beside their releases, and by their keys.
-use Rattle.std.specs.Prelude.{List, map, ◌+◌, Option, Some, None, if◌then◌else◌}
-use Rattle.std.specs.Ordering.{is_lt}
-use Rattle.msrp_plan.specs.Plan.{PlanModel, release, task_at}
-use Rattle.msrp_plan.specs.Choice.{key_cmp}
+use Rattle.msrp_plan.specs.Common.{List, map, ◌+◌, Option, Some, None, if◌then◌else◌, is_lt, PlanModel, release, task_at, key_cmp}
 use Rattle.msrp_plan.specs.declared.ids.JobId.{JobId}
 use Rattle.msrp_plan.specs.declared.ids.JobKey.{JobKey}
 use Rattle.msrp_ready.specs.declared.keyed.Entry.{Entry}

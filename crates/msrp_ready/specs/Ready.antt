@@ -1,11 +1,7 @@
 -- The ready jobs of a core: released and not yet taken.
-use Rattle.std.specs.Prelude.{ℕ, List, Bool, false, not, ◌&&◌, nat_le, Option, Some, None, count_by}
-use Rattle.std.specs.List.{list_any}
-use Rattle.std.specs.Option.{option_and_then}
-use Rattle.msrp_plan.specs.Plan.{PlanModel, release}
-use Rattle.msrp_plan.specs.Jobs.{jobs_on, same_job}
-use Rattle.msrp_plan.specs.Choice.{first_ready}
+use Rattle.msrp_plan.specs.Common.{ℕ, List, Bool, false, not, ◌&&◌, nat_le, Option, Some, None, count_by, list_any, option_and_then, PlanModel, release, jobs_on, same_job}
 use Rattle.msrp_plan.specs.declared.ids.JobId.{JobId}
+use Rattle.msrp_plan.specs.Choice.{first_ready}
 
 -- the ready jobs of a core of a plan: the tick up to which jobs are released (none before the first), the jobs that were
 -- taken, and how often two keys were compared as they were released and taken

@@ -1,10 +1,5 @@
 //! The calendar of a core: its jobs in the order of their releases, each beside its release.
-ghost use Rattle.std.specs.Prelude.{◌≡◌, ◌<◌, ◌≤◌, ◌+◌, ◌-◌, ◌*◌, ◌^◌, ◌++◌, length, map, take, drop, slice_index_or, IfOk, OnOk};
-ghost use Rattle.std.specs.List.{All};
-ghost use Rattle.std.specs.List.Sorted.{IsPermutation, IsNonDecreasingBy};
-ghost use Rattle.msrp_plan.specs.Jobs.{jobs_of, jobs_on};
-ghost use Rattle.msrp_plan.specs.WellFormed.{IsPlan};
-ghost use Rattle.msrp_plan.specs.Limits.{most_jobs};
+ghost use Rattle.msrp_plan.specs.Common.{◌≡◌, ◌<◌, ◌≤◌, ◌+◌, ◌-◌, ◌*◌, ◌^◌, ◌++◌, length, map, take, drop, slice_index_or, IfOk, OnOk, All, IsPermutation, IsNonDecreasingBy, jobs_of, jobs_on, IsPlan, most_jobs};
 ghost use Rattle.msrp_ready.specs.Keyed.{entry, entry_keys};
 ghost use Rattle.msrp_ready.specs.ReadyView.{IsComing};
 ghost use Rattle.msrp_ready.specs.declared.keyed.Entry.{Entry};

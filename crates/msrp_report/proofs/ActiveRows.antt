@@ -1,26 +1,10 @@
 -- One row more: which jobs are started and unfinished.
-use Rattle.std.proofs.Common.{◌≡◌, ◌≢◌, ℕ, ◌<◌, ◌≤◌, ◌==◌, Bool, true, false, not, ◌&&◌, ◌||◌, List, [], ◌∷◌, ◌++◌, Some, None, refl, ap, sym, ◌∙◌, subst, arith, ◌⊎◌, inl, inr, eqb-true, length, length-append, slice_get, slice_set, get_or, vec_capacity}
-use Rattle.std.specs.List.{AllByRecursion, Contains, IsDistinct, filter, list_any}
-use Rattle.std.proofs.Math.Bool.{or-false, or-true}
-use Rattle.std.proofs.lemmas.Bool.{cases_Bool, eqb-false, false_from_ne_true}
-use Rattle.std.proofs.lemmas.List.{length-set}
-use Rattle.std.proofs.lemmas.List.Elements.{All-contains_itself, recursion_from_All}
-use Rattle.std.proofs.lemmas.Map.Views.{any-filter_same}
-use Rattle.std.proofs.lemmas.Option.{same_Some, slice_get_read}
-use Rattle.msrp_plan.specs.Plan.{PlanModel, core_of}
-use Rattle.msrp_plan.specs.Jobs.{jobs, jobs_on, is_job, is_row_of, same_job, is_started, is_finished}
-use Rattle.msrp_plan.specs.Runs.{IsLegal, IsRunStart}
-use Rattle.msrp_plan.specs.WellFormed.{IsPlan}
+use Rattle.msrp_plan.proofs.Common.{◌≡◌, ◌≢◌, ℕ, ◌<◌, ◌≤◌, ◌==◌, Bool, true, false, not, ◌&&◌, ◌||◌, List, [], ◌∷◌, ◌++◌, Some, None, refl, ap, sym, ◌∙◌, subst, arith, ◌⊎◌, inl, inr, eqb-true, length, length-append, slice_get, slice_set, get_or, vec_capacity, AllByRecursion, Contains, filter, list_any, or-false, or-true, cases_Bool, eqb-false, false_from_ne_true, length-set, All-contains_itself, recursion_from_All, same_Some, slice_get_read, PlanModel, core_of, jobs, jobs_on, is_job, is_row_of, same_job, is_started, is_finished, IsLegal, IsRunStart, IsPlan, on_its_core, row_of_job, same_is, same_self, same_symm, legal_turn, turn_core, all_both, all_push, any_in, any_push, all_filtered, each_before, start_last}
+use Rattle.std.specs.List.{IsDistinct}
 use Rattle.msrp_plan.specs.declared.ids.JobId.{JobId}
 use Rattle.msrp_plan.specs.declared.rows.Row.{Row}
+use Rattle.std.proofs.lemmas.Map.Views.{any-filter_same}
 use Rattle.msrp_plan.proofs.Choosing.Live.{live_kept}
-use Rattle.msrp_plan.proofs.Jobs.CoreJobs.{on_its_core}
-use Rattle.msrp_plan.proofs.Jobs.JobTests.{row_of_job, same_is, same_self, same_symm}
-use Rattle.msrp_plan.proofs.Legality.LegalRows.{legal_turn, turn_core}
-use Rattle.msrp_plan.proofs.Lists.AnyAll.{all_both, all_push, any_in, any_push}
-use Rattle.msrp_plan.proofs.Lists.Least.{all_filtered}
-use Rattle.msrp_plan.proofs.Lists.Prefixes.{each_before}
-use Rattle.msrp_plan.proofs.Runs.Verdicts.{start_last}
 use Rattle.msrp_sim.proofs.Standing.{get_set_same, get_set_other}
 use Rattle.msrp_report.specs.Inside.Tallies.{AreActive, AreActiveOf, is_active, same_task}
 use Rattle.msrp_report.specs.declared.tallies.active.CoreJobs.{CoreJobs}

@@ -1,24 +1,11 @@
 -- Where the jobs of a plan stand among what is kept of them.
-use Rattle.std.proofs.Common.{◌≡◌, ℕ, zero, suc, ◌<◌, ◌≤◌, ◌+◌, ◌==◌, ◌&&◌, not, Bool, true, false, List, [], ◌∷◌, ◌++◌, Option, Some, None, refl, ap, sym, ◌∙◌, subst, arith, length, map, slice_get, get_or, nat_lt, ◌*◌, ◌^◌, cond, fold, filter, unwrap_or, mul_comm}
-use Rattle.std.specs.List.{AllByRecursion, Contains, range_with_len}
-use Rattle.std.proofs.lemmas.List.Elements.{All-contains, All-from_recursion}
-use Rattle.std.proofs.Math.Nat.{mul-le-mul_right, mul-le-mul_left}
-use Rattle.std.proofs.lemmas.Nat.{div_below}
-use Rattle.std.proofs.lemmas.Option.{slice_get_read}
-use Rattle.msrp_plan.specs.Plan.{PlanModel, core_of}
-use Rattle.msrp_plan.specs.Jobs.{jobs, jobs_of, jobs_on, job_at, is_row_of, is_started, is_finished}
-use Rattle.msrp_plan.specs.Choice.{is_before}
-use Rattle.msrp_plan.specs.Blocking.{blocked, blocks, count_after}
-use Rattle.msrp_plan.specs.Runs.{IsRunStart}
-use Rattle.msrp_plan.specs.WellFormed.{IsPlan}
+use Rattle.msrp_plan.proofs.Common.{◌≡◌, ℕ, zero, suc, ◌<◌, ◌≤◌, ◌+◌, ◌==◌, ◌&&◌, not, Bool, true, false, List, [], ◌∷◌, ◌++◌, Option, Some, None, refl, ap, sym, ◌∙◌, subst, arith, length, map, slice_get, get_or, nat_lt, ◌*◌, ◌^◌, cond, fold, unwrap_or, mul_comm, AllByRecursion, Contains, range_with_len, All-contains, All-from_recursion, mul-le-mul_right, mul-le-mul_left, div_below, slice_get_read, PlanModel, core_of, jobs, jobs_of, jobs_on, job_at, is_row_of, is_started, is_finished, is_before, blocked, count_after, IsRunStart, IsPlan, job_on, jobs_of_are, all_weaker, least_in, kept_by, known_task}
 use Rattle.msrp_plan.specs.declared.ids.JobId.{JobId}
 use Rattle.msrp_plan.specs.declared.rows.Row.{Row}
-use Rattle.msrp_plan.proofs.Blocking.Heads.{job_on}
-use Rattle.msrp_plan.proofs.Jobs.JobLists.{jobs_of_are}
-use Rattle.msrp_plan.proofs.Lists.AnyAll.{all_weaker, all_flat}
-use Rattle.msrp_plan.proofs.Lists.LeastKept.{least_in}
-use Rattle.msrp_plan.proofs.Lists.Members.{kept_by}
-use Rattle.msrp_plan.proofs.Jobs.CoreJobs.{known_released, known_task}
+use Rattle.std.proofs.Common.{filter}
+use Rattle.msrp_plan.specs.Blocking.{blocks}
+use Rattle.msrp_plan.proofs.Lists.AnyAll.{all_flat}
+use Rattle.msrp_plan.proofs.Jobs.CoreJobs.{known_released}
 use Rattle.msrp_report.specs.Inside.Counts.{CanCount, count_of, HasRoom}
 use Rattle.msrp_report.specs.Lines.{last_tick}
 use Rattle.msrp_report.specs.declared.counts.JobCount.{JobCount}

@@ -1,30 +1,14 @@
 -- The line of a task, job by job.
-use Rattle.std.proofs.Common.{◌≡◌, ℕ, zero, suc, ◌<◌, ◌≤◌, ◌+◌, Bool, true, false, cond, List, [], ◌∷◌, ◌++◌, refl, ap, sym, ◌∙◌, subst, arith, length, map, max, append-nil, eqb-true, eq-eqb, ◌==◌, nat_lt}
-use Rattle.std.specs.List.{list_any, filter, range_with_len, AllByRecursion}
-use Rattle.std.proofs.Math.Bool.{true≢false}
-use Rattle.std.proofs.lemmas.Bool.{false_from_ne_true}
-use Rattle.std.proofs.lemmas.List.{map-append}
-use Rattle.std.proofs.lemmas.List.Elements.{filter-append}
-use Rattle.std.proofs.lemmas.List.FromFn.{length-map-range_with_len}
-use Rattle.std.proofs.lemmas.List.Sums.{sum_by_push, length-filter, count_by-le-length}
-use Rattle.msrp_plan.specs.Plan.{PlanModel, task_at, release}
-use Rattle.msrp_plan.specs.Jobs.{job_at, jobs_of, is_finished}
-use Rattle.msrp_plan.specs.Levels.{greatest, uses}
-use Rattle.msrp_plan.specs.Bounds.{blocked_bound}
-use Rattle.msrp_plan.specs.Blocking.{blocked}
-use Rattle.msrp_plan.specs.Runs.{IsRunStart}
-use Rattle.msrp_plan.specs.WellFormed.{IsPlan}
+use Rattle.msrp_plan.proofs.Common.{◌≡◌, ℕ, zero, suc, ◌<◌, ◌≤◌, ◌+◌, Bool, true, false, cond, List, [], ◌∷◌, ◌++◌, refl, ap, sym, ◌∙◌, subst, arith, length, map, max, append-nil, eqb-true, eq-eqb, ◌==◌, nat_lt, list_any, filter, range_with_len, AllByRecursion, true≢false, false_from_ne_true, map-append, filter-append, length-map-range_with_len, sum_by_push, length-filter, count_by-le-length, PlanModel, task_at, release, job_at, jobs_of, is_finished, greatest, uses, blocked, IsRunStart, IsPlan, greatest_push, jobs_of_are, any_map, any_in, any_from, kept_by, range_more}
 use Rattle.msrp_plan.specs.declared.ids.JobId.{JobId}
 use Rattle.msrp_plan.specs.declared.ids.TaskId.{TaskId}
 use Rattle.msrp_plan.specs.declared.rows.Row.{Row}
-use Rattle.msrp_plan.proofs.Blocking.Sections.{greatest_push, greatest_within}
+use Rattle.msrp_plan.specs.Bounds.{blocked_bound}
+use Rattle.msrp_plan.proofs.Blocking.Sections.{greatest_within}
 use Rattle.msrp_plan.proofs.Blocking.Bound.{bounded_blocking}
-use Rattle.msrp_plan.proofs.Jobs.JobLists.{jobs_of_are}
 use Rattle.msrp_levels.proofs.PlanJobs.{job_in}
-use Rattle.msrp_plan.proofs.Lists.Filters.{any_map}
-use Rattle.msrp_plan.proofs.Lists.AnyAll.{any_in, in_range}
-use Rattle.msrp_plan.proofs.Lists.Members.{any_from, in_filter, kept_by}
-use Rattle.msrp_plan.proofs.Lists.Ranges.{range_more}
+use Rattle.msrp_plan.proofs.Lists.AnyAll.{in_range}
+use Rattle.msrp_plan.proofs.Lists.Members.{in_filter}
 use Rattle.msrp_levels.specs.Users.{users}
 use Rattle.msrp_report.specs.Lines.{is_late, response, spins, longest_wait, task_spin_bound, line_over, line_of}
 use Rattle.msrp_report.specs.Inside.Numbers.{numbers_of}

@@ -1,22 +1,8 @@
 -- The rows of a job stand in the log of its core, which has one in each tick at most.
-use Rattle.std.proofs.Common.{◌≡◌, ℕ, ◌<◌, ◌≤◌, ◌*◌, ◌==◌, Bool, true, false, List, [], ◌∷◌, ◌++◌, refl, ap, sym, ◌∙◌, subst, arith, append-nil, append_assoc, fold, length, length-append, eq-eqb, eqb-true, mul_comm}
-use Rattle.std.specs.List.{AllByRecursion}
-use Rattle.std.proofs.lemmas.Bool.{eqb-false}
-use Rattle.std.proofs.lemmas.Nat.{div_below}
-use Rattle.msrp_plan.specs.Plan.{PlanModel, core_of}
-use Rattle.msrp_plan.specs.Jobs.{is_row_of}
-use Rattle.msrp_plan.specs.Logs.{is_of, log_of}
-use Rattle.msrp_plan.specs.Runs.{EachAfter, IsLegal, IsRunStart}
-use Rattle.msrp_plan.specs.WellFormed.{IsPlan}
+use Rattle.msrp_plan.proofs.Common.{◌≡◌, ℕ, ◌<◌, ◌≤◌, ◌*◌, ◌==◌, Bool, true, false, List, [], ◌∷◌, ◌++◌, refl, ap, sym, ◌∙◌, subst, arith, append-nil, append_assoc, fold, length, length-append, eq-eqb, eqb-true, mul_comm, AllByRecursion, eqb-false, div_below, PlanModel, core_of, is_row_of, is_of, log_of, EachAfter, IsLegal, IsRunStart, IsPlan, is_job_is, legal_due, legal_turn, turn_core, filter_within, each_before, log_own, log_other, start_before, start_last}
 use Rattle.msrp_plan.specs.declared.ids.JobId.{JobId}
 use Rattle.msrp_plan.specs.declared.rows.Row.{Row}
-use Rattle.msrp_plan.proofs.Jobs.JobTests.{is_job_is}
-use Rattle.msrp_plan.proofs.Legality.LegalRows.{legal_due, legal_turn, turn_core}
-use Rattle.msrp_plan.proofs.Lists.Filters.{filter_within}
-use Rattle.msrp_plan.proofs.Lists.Prefixes.{each_before}
 use Rattle.msrp_plan.proofs.Runs.CoreRuns.{reached_tick}
-use Rattle.msrp_plan.proofs.Runs.RoundRobin.{log_own, log_other}
-use Rattle.msrp_plan.proofs.Runs.Verdicts.{start_before, start_last}
 use Rattle.msrp_report.specs.Inside.Counts.{counted, count_of, uncounted}
 use Rattle.msrp_report.proofs.JobCounts.{AreFew, counts_few}
 

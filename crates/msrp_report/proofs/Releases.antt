@@ -1,19 +1,13 @@
 -- The next releases of all tasks in one list, the earliest first.
-use Rattle.std.proofs.Common.{◌≡◌, ◌≢◌, ℕ, zero, suc, ◌<◌, ◌≤◌, ◌+◌, ◌-◌, ◌==◌, nat_le, true, false, cond, List, [], ◌∷◌, ◌++◌, Some, refl, ap, sym, ◌∙◌, subst, arith, inl, inr, ◌⊎◌, length, map, take, drop, slice_get, slice_set, get_or, count_by, eqb-true, eq-eqb}
-use Rattle.std.specs.List.{All, IsDistinct, copy_within, insert, range_with_len}
-use Rattle.std.specs.List.Sorted.{IsNonDecreasingBy, IsPermutation}
-use Rattle.std.proofs.Math.Bool.{true≢false}
-use Rattle.std.proofs.Math.Dec.{eqb}
-use Rattle.std.proofs.lemmas.Bool.{cases_Bool, eqb-false, false_from_ne_true, leb-false, leb-true, lt-leb}
-use Rattle.std.proofs.lemmas.List.{get_or-map, length-map}
-use Rattle.std.proofs.lemmas.List.Elements.{All-cons, All-weaker}
-use Rattle.std.proofs.lemmas.List.FromFn.{get_or-range_with_len, length-range_with_len}
-use Rattle.std.proofs.lemmas.List.Sorted.{All-permutation, Contains-permutation, IsNonDecreasingBy-insert, IsPermutation-insert, IsPermutation-map, IsPermutation-trans, sum_by-IsPermutation}
-use Rattle.std.proofs.lemmas.List.Sums.{sum_by-cons}
-use Rattle.std.proofs.lemmas.Map.Keys.{IsDistinct-IsPermutation, IsDistinct-from_apart, apart_from_distinct}
-use Rattle.std.proofs.lemmas.Option.{same_Some}
-use Rattle.msrp_plan.specs.Plan.{PlanModel}
+use Rattle.msrp_plan.proofs.Common.{◌≡◌, ◌≢◌, ℕ, zero, suc, ◌<◌, ◌≤◌, ◌+◌, ◌-◌, ◌==◌, nat_le, true, false, cond, List, [], ◌∷◌, ◌++◌, Some, refl, ap, sym, ◌∙◌, subst, arith, inl, inr, ◌⊎◌, length, map, take, drop, slice_get, slice_set, get_or, count_by, eqb-true, eq-eqb, All, insert, range_with_len, IsNonDecreasingBy, IsPermutation, true≢false, cases_Bool, eqb-false, false_from_ne_true, leb-false, leb-true, lt-leb, get_or-map, length-map, All-weaker, length-range_with_len, All-permutation, Contains-permutation, IsPermutation-map, IsPermutation-trans, sum_by-cons, same_Some, PlanModel}
+use Rattle.std.specs.List.{IsDistinct}
 use Rattle.msrp_plan.specs.declared.ids.JobId.{JobId}
+use Rattle.std.specs.List.{copy_within}
+use Rattle.std.proofs.Math.Dec.{eqb}
+use Rattle.std.proofs.lemmas.List.Elements.{All-cons}
+use Rattle.std.proofs.lemmas.List.FromFn.{get_or-range_with_len}
+use Rattle.std.proofs.lemmas.List.Sorted.{IsNonDecreasingBy-insert, IsPermutation-insert, sum_by-IsPermutation}
+use Rattle.std.proofs.lemmas.Map.Keys.{IsDistinct-IsPermutation, IsDistinct-from_apart, apart_from_distinct}
 use Rattle.msrp_plan.proofs.Lists.AnyAll.{in_range}
 use Rattle.msrp_sim.proofs.Standing.{get_set_same, get_set_other}
 use Rattle.msrp_report.specs.Inside.Tallies.{AreReleases, IsNextRelease, ToldOf, is_due, release_or_end}

@@ -1,17 +1,9 @@
 -- A report while the rows come, and at their end.
-use Rattle.std.proofs.Common.{◌≡◌, ℕ, ◌≤◌, ◌+◌, ◌*◌, Bool, true, false, cond, List, [], ◌∷◌, ◌++◌, Option, Some, None, refl, ap, sym, ◌∙◌, subst, length, map, nat_lt, take, drop}
-use Rattle.std.specs.List.{All, range_with_len}
-use Rattle.std.proofs.lemmas.Bool.{ltb-true}
-use Rattle.std.proofs.lemmas.List.{take-append-drop}
-use Rattle.std.proofs.lemmas.List.Elements.{All-from_recursion}
-use Rattle.msrp_plan.specs.Plan.{PlanModel}
-use Rattle.msrp_plan.specs.Runs.{IsRun, IsRunStart}
-use Rattle.msrp_plan.specs.Verdict.{broken, fault_in, fault_or}
-use Rattle.msrp_plan.specs.WellFormed.{IsPlan}
+use Rattle.msrp_plan.proofs.Common.{◌≡◌, ℕ, ◌≤◌, ◌+◌, ◌*◌, Bool, true, false, cond, List, [], ◌∷◌, ◌++◌, Option, Some, None, refl, ap, sym, ◌∙◌, subst, length, map, nat_lt, take, drop, All, range_with_len, ltb-true, take-append-drop, All-from_recursion, PlanModel, IsRun, IsRunStart, broken, fault_in, fault_or, IsPlan, fault_push, start_is_good, unbroken_is_legal}
 use Rattle.msrp_plan.specs.declared.faults.Rule.{Rule}
 use Rattle.msrp_plan.specs.declared.faults.Rule.TheVariants.{A7}
 use Rattle.msrp_plan.specs.declared.rows.Row.{Row}
-use Rattle.msrp_plan.proofs.Runs.Verdicts.{fault_push, run_before, start_is_good, start_push, unbroken_is_legal}
+use Rattle.msrp_plan.proofs.Runs.Verdicts.{run_before, start_push}
 use Rattle.msrp_report.specs.Lines.{line_of}
 use Rattle.msrp_report.specs.declared.lines.Line.{Line}
 use Rattle.msrp_report.proofs.LineJobs.{all_blocked_kept, spins_kept}

@@ -1,25 +1,10 @@
 -- What is kept of the rows stays told by them, with one row more.
-use Rattle.std.proofs.Common.{◌≡◌, ◌≢◌, ℕ, ◌<◌, ◌≤◌, ◌+◌, ◌*◌, ◌/◌, ◌==◌, Bool, true, false, cond, List, [], ◌∷◌, ◌++◌, Some, None, refl, ap, sym, ◌∙◌, subst, arith, inl, inr, ◌⊎◌, length, length-append, slice_get, slice_set, nat_lt, eqb-true}
-use Rattle.std.specs.List.{AllByRecursion, Contains}
-use Rattle.std.proofs.lemmas.Bool.{cases_Bool, cases_lt, eqb-false, false_from_ne_true, ltb-true, ltb-false, true_from_ne_false}
-use Rattle.std.proofs.lemmas.List.{length-set}
-use Rattle.std.proofs.lemmas.Nat.{div_below, le-div}
-use Rattle.std.proofs.lemmas.Option.{slice_get_within, same_Some}
-use Rattle.msrp_plan.specs.Plan.{PlanModel, core_of, units}
-use Rattle.msrp_plan.specs.Jobs.{done, jobs, jobs_of, jobs_on, job_at, is_job, is_row_of, same_job, is_started, is_finished}
-use Rattle.msrp_plan.specs.Blocking.{blocked}
-use Rattle.msrp_plan.specs.Runs.{IsLegal, IsRunStart}
-use Rattle.msrp_plan.specs.Scheduling.{IsOfReleased}
-use Rattle.msrp_plan.specs.WellFormed.{IsPlan}
+use Rattle.msrp_plan.proofs.Common.{◌≡◌, ◌≢◌, ℕ, ◌<◌, ◌≤◌, ◌+◌, ◌*◌, ◌/◌, ◌==◌, Bool, true, false, cond, List, [], ◌∷◌, ◌++◌, Some, None, refl, ap, sym, ◌∙◌, subst, arith, inl, inr, ◌⊎◌, length, length-append, slice_get, slice_set, nat_lt, eqb-true, AllByRecursion, Contains, cases_Bool, cases_lt, eqb-false, false_from_ne_true, ltb-true, ltb-false, true_from_ne_false, length-set, div_below, slice_get_within, same_Some, PlanModel, core_of, units, done, jobs, jobs_of, jobs_on, job_at, is_job, is_row_of, same_job, is_started, is_finished, blocked, IsLegal, IsRunStart, IsPlan, job_on, row_of_job, same_is, legal_due, legal_turn, all_push, all_weaker, kept_by, each_at, start_last}
 use Rattle.msrp_plan.specs.declared.ids.JobId.{JobId}
 use Rattle.msrp_plan.specs.declared.rows.Row.{Row}
-use Rattle.msrp_plan.proofs.Blocking.Heads.{job_on}
+use Rattle.std.proofs.lemmas.Nat.{le-div}
+use Rattle.msrp_plan.specs.Scheduling.{IsOfReleased}
 use Rattle.msrp_plan.proofs.Blocking.OneSection.{tick_grows}
-use Rattle.msrp_plan.proofs.Jobs.JobTests.{row_of_job, same_is}
-use Rattle.msrp_plan.proofs.Legality.LegalRows.{legal_due, legal_turn}
-use Rattle.msrp_plan.proofs.Lists.AnyAll.{all_push, all_weaker}
-use Rattle.msrp_plan.proofs.Lists.Members.{kept_by}
-use Rattle.msrp_plan.proofs.Lists.Prefixes.{each_at}
 use Rattle.msrp_plan.proofs.Scheduling.Released.{runs_released}
 use Rattle.msrp_sim.proofs.Standing.{get_set_same, get_set_other}
 use Rattle.msrp_report.specs.Inside.Counts.{counted, count_of}
@@ -34,7 +19,6 @@ use Rattle.msrp_report.proofs.JobTallies.{of_task}
 use Rattle.msrp_levels.proofs.PlanJobs.{job_in}
 use Rattle.msrp_report.proofs.TallySteps.{due_before}
 use Rattle.msrp_report.proofs.Waiting.{IsTimely, blocking_more, own_over, started_over}
-use Rattle.msrp_plan.proofs.Runs.Verdicts.{start_last}
 
 -- ---- ticks
 -- its job is one of the plan

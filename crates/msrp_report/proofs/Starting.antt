@@ -1,15 +1,5 @@
 -- Before the first row.
-use Rattle.std.proofs.Common.{◌≡◌, ℕ, false, List, [], Some, refl, ap, sym, ◌∙◌, subst, arith, inl, inr, length, map, nat_lt, slice_get}
-use Rattle.std.specs.List.{All, range_with_len}
-use Rattle.std.specs.List.Sorted.{IsNonDecreasingBy, IsPermutation}
-use Rattle.std.proofs.Math.Bool.{true≢false}
-use Rattle.std.proofs.lemmas.Bool.{cases_lt, le-ltb}
-use Rattle.std.proofs.lemmas.List.Elements.{All-weaker}
-use Rattle.std.proofs.lemmas.List.Sorted.{All-permutation, IsPermutation-map}
-use Rattle.std.proofs.lemmas.Nat.{div_below}
-use Rattle.msrp_plan.specs.Plan.{PlanModel, task_at}
-use Rattle.msrp_plan.specs.Jobs.{jobs_of, job_at}
-use Rattle.msrp_plan.specs.WellFormed.{IsPlan}
+use Rattle.msrp_plan.proofs.Common.{◌≡◌, ℕ, false, List, [], Some, refl, ap, sym, ◌∙◌, subst, arith, inl, inr, length, map, nat_lt, slice_get, All, range_with_len, IsNonDecreasingBy, IsPermutation, true≢false, cases_lt, le-ltb, All-weaker, All-permutation, IsPermutation-map, div_below, PlanModel, task_at, jobs_of, job_at, IsPlan}
 use Rattle.msrp_plan.specs.declared.ids.JobId.{JobId}
 use Rattle.msrp_report.specs.Inside.Counts.{uncounted, count_of}
 use Rattle.msrp_report.specs.Inside.Tallies.{AreActive, AreReleases, AreTallies, HasTallied, IsJobTally, IsNextRelease, IsTaskTally, release_or_end}

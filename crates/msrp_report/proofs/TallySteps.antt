@@ -1,17 +1,8 @@
 -- What is kept of the rows stays told by them, release by release and row by row.
-use Rattle.std.proofs.Common.{◌≡◌, ◌≢◌, ℕ, ◌<◌, ◌≤◌, ◌+◌, ◌==◌, Bool, true, false, cond, List, Option, Some, None, IsSome, refl, ap, sym, ◌∙◌, subst, arith, inl, inr, ◌⊎◌, length, slice_get, slice_set, get_or, nat_lt, unwrap_or, eqb-true}
-use Rattle.std.specs.List.{AllByRecursion}
-use Rattle.std.specs.List.Sorted.{IsNonDecreasingBy, IsPermutation}
-use Rattle.std.proofs.Math.Bool.{true≢false}
-use Rattle.std.proofs.lemmas.Bool.{cases_Bool, cases_lt, eqb-false, le-ltb, lt-ltb}
-use Rattle.std.proofs.lemmas.List.{length-set}
-use Rattle.std.proofs.lemmas.Option.{slice_get_within, slice_get_read, same_Some}
-use Rattle.msrp_plan.specs.Plan.{PlanModel, task_at, release, release_tick}
-use Rattle.msrp_plan.specs.Jobs.{jobs_of, job_at}
-use Rattle.msrp_plan.specs.Blocking.{first_later}
-use Rattle.msrp_plan.specs.WellFormed.{IsPlan}
+use Rattle.msrp_plan.proofs.Common.{◌≡◌, ◌≢◌, ℕ, ◌<◌, ◌≤◌, ◌+◌, ◌==◌, Bool, true, false, cond, List, Option, Some, None, IsSome, refl, ap, sym, ◌∙◌, subst, arith, inl, inr, ◌⊎◌, length, slice_get, slice_set, get_or, nat_lt, unwrap_or, eqb-true, AllByRecursion, IsNonDecreasingBy, IsPermutation, true≢false, cases_Bool, cases_lt, eqb-false, le-ltb, lt-ltb, length-set, slice_get_within, slice_get_read, same_Some, PlanModel, task_at, release, jobs_of, job_at, first_later, IsPlan}
 use Rattle.msrp_plan.specs.declared.ids.JobId.{JobId}
 use Rattle.msrp_plan.specs.declared.rows.Row.{Row}
+use Rattle.msrp_plan.specs.Plan.{release_tick}
 use Rattle.msrp_plan.proofs.Jobs.Releases.{releases_rise, task_times}
 use Rattle.msrp_sim.proofs.Standing.{get_set_same, get_set_other}
 use Rattle.msrp_report.specs.Inside.Tallies.{AreActive, AreReleases, AreTallies, HasReleased, HasTallied, IsBlocking, IsJobTally, IsNextRelease, IsOver, IsTaskTally, blocking_by, is_due, release_or_end}

@@ -1,28 +1,12 @@
 -- How long a job is blocked, told at its release and at its start.
-use Rattle.std.proofs.Common.{◌≡◌, ℕ, ◌<◌, ◌≤◌, ◌+◌, Bool, true, false, not, ◌&&◌, ◌||◌, cond, List, [], ◌∷◌, ◌++◌, Option, Some, None, refl, ap, sym, ◌∙◌, subst, arith, count_by, append_assoc, append-nil}
-use Rattle.std.specs.List.{AllByRecursion, Contains}
-use Rattle.std.proofs.Math.Bool.{true≢false}
-use Rattle.std.proofs.lemmas.List.Sums.{sum_by-append, sum_by-cons}
-use Rattle.std.proofs.lemmas.Bool.{false_from_ne_true}
-use Rattle.msrp_plan.specs.Plan.{PlanModel, release}
-use Rattle.msrp_plan.specs.Jobs.{jobs, job_at, is_row_of, is_started}
-use Rattle.msrp_plan.specs.Blocking.{blocks, blocked, count_after, first_later, is_by, ComesBefore, ComesAfter}
-use Rattle.msrp_plan.specs.Choice.{is_before}
-use Rattle.msrp_plan.specs.Runs.{IsLegal, IsRunStart}
-use Rattle.msrp_plan.specs.WellFormed.{IsPlan}
+use Rattle.msrp_plan.proofs.Common.{◌≡◌, ℕ, ◌<◌, ◌≤◌, ◌+◌, Bool, true, false, not, ◌&&◌, ◌||◌, cond, List, [], ◌∷◌, ◌++◌, Option, Some, None, refl, ap, sym, ◌∙◌, subst, arith, count_by, append_assoc, append-nil, AllByRecursion, Contains, true≢false, sum_by-append, sum_by-cons, false_from_ne_true, PlanModel, release, jobs, job_at, is_row_of, is_started, blocked, count_after, first_later, is_before, IsLegal, IsRunStart, IsPlan, some_is, before_order, all_push, any_push, or_parts, irrefl, each_before, each_at, start_before}
 use Rattle.msrp_plan.specs.declared.ids.JobId.{JobId}
 use Rattle.msrp_plan.specs.declared.rows.Row.{Row}
+use Rattle.msrp_plan.specs.Blocking.{blocks, is_by, ComesBefore, ComesAfter}
 use Rattle.msrp_plan.proofs.Blocking.FromRelease.{blocked_since_release, started_unblocked, early_unblocked}
 use Rattle.msrp_plan.proofs.Blocking.Heads.{blocking_row}
 use Rattle.msrp_plan.proofs.Blocking.Sound.{unstarted}
 use Rattle.msrp_plan.proofs.Blocking.SectionRows.{count_after_push}
-use Rattle.msrp_plan.proofs.Jobs.JobTests.{some_is}
-use Rattle.msrp_plan.proofs.Jobs.Keys.{before_order}
-use Rattle.msrp_plan.proofs.Lists.AnyAll.{all_push, any_push}
-use Rattle.std.proofs.lemmas.Bool.{or_parts}
-use Rattle.msrp_plan.proofs.Lists.LeastKept.{irrefl}
-use Rattle.msrp_plan.proofs.Lists.Prefixes.{each_before, each_at}
-use Rattle.msrp_plan.proofs.Runs.Verdicts.{start_before}
 use Rattle.msrp_report.specs.Inside.Counts.{count_of}
 use Rattle.msrp_report.specs.Inside.Tallies.{IsSinceRelease, IsOver, WaitsFor, IsBlocking, blocking_by}
 use Rattle.msrp_report.specs.declared.tallies.Blocking.{Blocking}

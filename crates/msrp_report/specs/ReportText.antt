@@ -1,7 +1,5 @@
 -- A report as text, in its version 2.
-use Rattle.std.specs.Prelude.{ℕ, List, [], ◌∷◌, ◌++◌, codes, decimal, length, slice_index_or}
-use Rattle.std.specs.List.{flat_map, range_with_len}
-use Rattle.msrp_plan.specs.Plan.{PlanModel, task_at}
+use Rattle.msrp_plan.specs.Common.{ℕ, List, [], ◌∷◌, ◌++◌, codes, decimal, length, slice_index_or, flat_map, range_with_len, PlanModel, task_at}
 use Rattle.msrp_text.specs.PlanText.{record_text}
 use Rattle.msrp_report.specs.declared.lines.Line.{Line}
 

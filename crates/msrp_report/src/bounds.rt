@@ -1,10 +1,5 @@
 //! The bounds of one task, as the plan gives them.
-ghost use Rattle.std.specs.Prelude.{◌≡◌, ◌<◌, ◌&&◌, ◌==◌, cond, nat_lt, length};
-ghost use Rattle.std.specs.List.{list_any};
-ghost use Rattle.msrp_plan.specs.Plan.{task_at};
-ghost use Rattle.msrp_plan.specs.Levels.{uses, is_global};
-ghost use Rattle.msrp_plan.specs.Bounds.{out, spin_bound, blocked_bound};
-ghost use Rattle.msrp_plan.specs.WellFormed.{IsPlan};
+ghost use Rattle.msrp_plan.specs.Common.{◌≡◌, ◌<◌, ◌&&◌, ◌==◌, cond, nat_lt, length, list_any, task_at, uses, is_global, out, spin_bound, blocked_bound, IsPlan};
 ghost use Rattle.msrp_report.specs.Lines.{task_spin_bound};
 
 use msrp_levels::Levels;

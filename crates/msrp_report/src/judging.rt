@@ -1,8 +1,5 @@
 //! The report of a trace.
-ghost use Rattle.std.specs.Prelude.{◌≡◌, ◌≤◌, [], Some, Err, IfOk, OnOk};
-ghost use Rattle.std.specs.List.{All};
-ghost use Rattle.msrp_plan.specs.Runs.{IsRun};
-ghost use Rattle.msrp_plan.specs.Verdict.{verdict};
+ghost use Rattle.msrp_plan.specs.Common.{◌≡◌, ◌≤◌, [], Some, Err, IfOk, OnOk, All, IsRun, verdict};
 ghost use Rattle.msrp_plan.specs.declared.faults.Fault.{Fault as TraceFault};
 ghost use Rattle.msrp_report.specs.Lines.{lines_of};
 ghost use Rattle.msrp_report.specs.Reports.{HasCounted};

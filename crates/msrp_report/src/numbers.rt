@@ -1,9 +1,6 @@
 //! The numbers of one job, from what the rows of a run tell of it.
-ghost use Rattle.std.specs.Prelude.{◌≡◌, ◌≤◌, ◌+◌, ◌-◌, List, cond, nat_le, nat_lt};
-ghost use Rattle.std.specs.List.{Contains};
-ghost use Rattle.msrp_plan.specs.Jobs.{jobs};
-ghost use Rattle.msrp_plan.specs.Limits.{most_rows, most_ticks};
-ghost use Rattle.msrp_plan.specs.WellFormed.{IsPlan};
+ghost use Rattle.msrp_plan.specs.Common.{◌≡◌, ◌≤◌, ◌+◌, ◌-◌, List, cond, nat_le, nat_lt, Contains, jobs, most_rows, IsPlan};
+ghost use Rattle.msrp_plan.specs.Limits.{most_ticks};
 ghost use Rattle.msrp_plan.specs.declared.rows.Row.{Row as TraceRow};
 ghost use Rattle.msrp_report.specs.Inside.Numbers.{numbers_of};
 ghost use Rattle.msrp_report.specs.Inside.Tallies.{HasTallied, ToldAll};

@@ -1,6 +1,5 @@
 //! The line of one task.
-ghost use Rattle.std.specs.Prelude.{◌≡◌, ◌<◌, List, length};
-ghost use Rattle.msrp_plan.specs.WellFormed.{IsPlan};
+ghost use Rattle.msrp_plan.specs.Common.{◌≡◌, ◌<◌, List, length, IsPlan};
 ghost use Rattle.msrp_plan.specs.declared.rows.Row.{Row as TraceRow};
 ghost use Rattle.msrp_report.specs.Lines.{line_of};
 ghost use Rattle.msrp_report.specs.Inside.Tallies.{HasTallied, ToldAll};

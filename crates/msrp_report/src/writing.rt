@@ -1,9 +1,7 @@
 //! A report as text.
-ghost use Rattle.std.specs.Prelude.{◌≡◌, ◌<◌, length, true, false, OnOk, OnErr};
-ghost use Rattle.msrp_plan.specs.Bytes.{Wrote, sink_failed};
+ghost use Rattle.msrp_plan.specs.Common.{◌≡◌, ◌<◌, length, true, false, OnOk, OnErr, Wrote, sink_failed, slice_index_or};
 ghost use Rattle.msrp_text.specs.PlanText.{record_text};
 ghost use Rattle.msrp_report.specs.ReportText.{line_record, no_line, report_text};
-ghost use Rattle.std.specs.Prelude.{slice_index_or};
 
 use crate::lines::{Line, Report};
 use msrp_plan::bytes::Sink;

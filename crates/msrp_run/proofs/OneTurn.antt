@@ -1,15 +1,5 @@
 -- A turn through a seat port: what the machine says of its row, and what the port tells of the step, make the log's turn.
-use Rattle.std.proofs.Common.{◌≡◌, ◌<◌, ◌≤◌, ℕ, zero, suc, List, [], ◌∷◌, ◌++◌, Bool, true, false, nat_lt, Option, Some, None, refl, sym, ap, ◌∙◌, subst, arith, inl, inr, true≢false, not, is_some, ◌||◌}
-use Rattle.std.specs.Prelude.{IfSome, map}
-use Rattle.std.proofs.lemmas.List.{map-append}
-use Rattle.std.proofs.lemmas.List.Sums.{fold_push}
-use Rattle.msrp_plan.specs.Plan.{PlanModel}
-use Rattle.msrp_plan.specs.Levels.{is_global}
-use Rattle.msrp_plan.specs.Actions.{is_global_unit, res_of_unit}
-use Rattle.msrp_plan.specs.Calls.{ResCall, claim_with, claim_after, IsDueCall, kind_of_call, ahead_of_call}
-use Rattle.msrp_plan.specs.Phases.{phase_with, phase_after}
-use Rattle.msrp_plan.specs.Runs.{IsCoreTurn, CoreRun}
-use Rattle.msrp_plan.specs.Shape.{is_queue}
+use Rattle.msrp_plan.proofs.Common.{◌≡◌, ◌<◌, ◌≤◌, ℕ, zero, suc, List, [], ◌∷◌, ◌++◌, Bool, true, false, nat_lt, Option, Some, None, refl, sym, ap, ◌∙◌, subst, arith, inl, inr, not, is_some, ◌||◌, IfSome, map, map-append, fold_push, PlanModel, is_global, is_global_unit, res_of_unit, ResCall, claim_with, claim_after, IsDueCall, kind_of_call, ahead_of_call, phase_with, phase_after, IsCoreTurn, CoreRun, is_queue, IsTurn, DoesUnit, turn_of, each_push, Runs, Locks, Unlocks, Takes, Grants, Spins, Releases, step_of}
 use Rattle.msrp_plan.specs.declared.ids.CoreId.{CoreId}
 use Rattle.msrp_plan.specs.declared.ids.JobId.{JobId}
 use Rattle.msrp_plan.specs.declared.ids.ResId.{ResId}
@@ -20,9 +10,8 @@ use Rattle.msrp_plan.specs.declared.units.Call.{Call}
 use Rattle.msrp_plan.specs.declared.units.Call.TheVariants.{Ask, Poll, Leave}
 use Rattle.msrp_plan.specs.declared.units.Phase.{Phase}
 use Rattle.msrp_plan.specs.declared.units.Phase.TheVariants.{Free}
-use Rattle.msrp_plan.proofs.Legality.LegalRows.{IsTurn, DoesUnit, turn_of}
-use Rattle.msrp_plan.proofs.Lists.Prefixes.{each_push}
-use Rattle.msrp_plan.proofs.TaskUnits.UnitKinds.{Runs, Locks, Unlocks, Takes, Queues, Grants, Spins, Releases, step_of}
+use Rattle.std.proofs.Common.{true≢false}
+use Rattle.msrp_plan.proofs.TaskUnits.UnitKinds.{Queues}
 use Rattle.msrp_board.specs.declared.answers.SeatPhase.TheVariants.{Admitted}
 use Rattle.msrp_board.specs.declared.books.Book.{Book}
 use Rattle.msrp_board.specs.declared.books.BoardSize.{BoardSize}

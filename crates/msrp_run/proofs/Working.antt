@@ -1,11 +1,5 @@
 -- A worker's steps: its core is let in, has its turn and arrives, or is told to stop.
-use Rattle.std.proofs.Common.{◌≡◌, ◌+◌, ◌≤◌, ◌&&◌, ℕ, suc, List, [], ◌∷◌, ◌++◌, Bool, true, false, nat_lt, refl, sym, ap, ◌∙◌, subst, arith, inl, inr, length-append}
-use Rattle.std.specs.Prelude.{length}
-use Rattle.std.proofs.lemmas.List.Folds.{list_all-append}
-use Rattle.std.proofs.lemmas.Bool.{ltb-false}
-use Rattle.msrp_plan.specs.Plan.{PlanModel}
-use Rattle.msrp_plan.specs.Aheads.{carries_its_ahead, carries_ahead}
-use Rattle.msrp_plan.specs.Runs.{CoreRun}
+use Rattle.msrp_plan.proofs.Common.{◌≡◌, ◌+◌, ◌≤◌, ◌&&◌, ℕ, suc, List, [], ◌∷◌, ◌++◌, Bool, true, false, nat_lt, refl, sym, ap, ◌∙◌, subst, arith, inl, inr, length-append, length, list_all-append, ltb-false, PlanModel, carries_its_ahead, carries_ahead, CoreRun}
 use Rattle.msrp_plan.specs.declared.rows.Row.{Row}
 use Rattle.msrp_board.specs.declared.answers.SeatPhase.{SeatPhase}
 use Rattle.msrp_board.specs.declared.answers.SeatPhase.TheVariants.{Waiting, Admitted, Done}

@@ -1,9 +1,8 @@
 -- The workers of all cores: what they are given, what their threads promise, and what they leave.
-use Rattle.std.specs.Prelude.{◌≡◌, ℕ, ◌<◌, ◌≤◌, List, [], Bool, true, false, Some, IsSome, IsTrue, length, slice_get, slice_index, slice_index_or, filter}
-use Rattle.std.specs.declared.thread.PromisedHandle.{PromisedHandle}
-use Rattle.msrp_plan.specs.Aheads.{carries_ahead}
-use Rattle.msrp_plan.specs.Plan.{PlanModel}
+use Rattle.msrp_plan.specs.Common.{◌≡◌, ℕ, ◌<◌, ◌≤◌, List, [], Bool, true, false, Some, IsSome, IsTrue, length, slice_get, slice_index, slice_index_or, carries_ahead, PlanModel}
 use Rattle.msrp_plan.specs.declared.rows.Row.{Row}
+use Rattle.std.specs.Prelude.{filter}
+use Rattle.std.specs.declared.thread.PromisedHandle.{PromisedHandle}
 use Rattle.msrp_board.specs.declared.answers.SeatPhase.TheVariants.{Done}
 use Rattle.msrp_board.specs.declared.books.Book.{Book}
 use Rattle.msrp_board.specs.declared.books.Conductor.{Conductor}

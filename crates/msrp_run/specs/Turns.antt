@@ -1,7 +1,5 @@
 -- One core's turn on a board: what its machine, its log and its seat must be before it, and what they are after it.
-use Rattle.std.specs.Prelude.{◌≡◌, ◌++◌, ◌∷◌, [], List, Option, None, true, false}
-use Rattle.msrp_plan.specs.Aheads.{carries_its_ahead}
-use Rattle.msrp_plan.specs.Runs.{IsCoreTurn}
+use Rattle.msrp_plan.specs.Common.{◌≡◌, ◌++◌, ◌∷◌, [], List, Option, None, true, false, carries_its_ahead, IsCoreTurn}
 use Rattle.msrp_plan.specs.declared.rows.Row.{Row}
 use Rattle.msrp_board.specs.declared.answers.SeatPhase.TheVariants.{Admitted}
 use Rattle.msrp_board.specs.declared.books.Book.{Book}

@@ -1,10 +1,9 @@
 //! What the order of a run's trace comes to. The function does nothing; its contract is the law.
-ghost use Rattle.std.specs.Prelude.{◌≡◌, ℕ, List};
+ghost use Rattle.msrp_plan.specs.Common.{◌≡◌, ℕ, List, PlanModel};
 ghost use Rattle.msrp_board.specs.declared.books.Entry.{Entry};
 ghost use Rattle.msrp_merge.specs.Merging.{AreLogs, turns_of};
 ghost use Rattle.msrp_merge.specs.Sorting.{merged};
 ghost use Rattle.msrp_merge.specs.Turns.{LogModel, rows_of};
-ghost use Rattle.msrp_plan.specs.Plan.{PlanModel};
 ghost use Rattle.msrp_plan.specs.declared.rows.Row.{Row as TraceRow};
 ghost use Rattle.msrp_run.specs.Threads.{IsInOrder};
 

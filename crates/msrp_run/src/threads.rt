@@ -1,9 +1,6 @@
 //! A thread for each core: they are started, let in, and joined.
-ghost use Rattle.std.specs.Prelude.{◌≡◌, ◌+◌, ◌<◌, ◌≤◌, ℕ, [], IfOk, IfErr, IsTrue, length, true, false, vec_capacity, vec_len};
-ghost use Rattle.msrp_plan.specs.Aheads.{carries_ahead};
+ghost use Rattle.msrp_plan.specs.Common.{◌≡◌, ◌+◌, ◌<◌, ◌≤◌, ℕ, [], IfOk, IfErr, IsTrue, length, true, false, vec_capacity, vec_len, carries_ahead, IsRun, IsPlan};
 ghost use Rattle.msrp_plan.specs.Laws.{KeepsLaws};
-ghost use Rattle.msrp_plan.specs.Runs.{IsRun};
-ghost use Rattle.msrp_plan.specs.WellFormed.{IsPlan};
 ghost use Rattle.msrp_board.specs.declared.books.Conductor.TheVariants.{Opened, Aborted};
 ghost use Rattle.msrp_board.specs.Boards.{IsTied, entries_at};
 ghost use Rattle.msrp_merge.specs.Merging.{AreLogs, size_of, turns_of};

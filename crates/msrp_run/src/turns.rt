@@ -1,6 +1,5 @@
 //! One core's turn on a board, and who makes the turns.
-ghost use Rattle.std.specs.Prelude.{◌≡◌, ◌<◌, ◌++◌, ◌∷◌, [], List};
-ghost use Rattle.msrp_plan.specs.Runs.{IsCoreTurn};
+ghost use Rattle.msrp_plan.specs.Common.{◌≡◌, ◌<◌, ◌++◌, ◌∷◌, [], List, IsCoreTurn};
 ghost use Rattle.msrp_plan.specs.declared.rows.Row.{Row as TraceRow};
 ghost use Rattle.msrp_core.specs.Machine.{StandsAfter};
 ghost use Rattle.msrp_run.specs.Ports.{HasAsked, IsSeatPort, port_of};

@@ -1,15 +1,7 @@
 -- What decides who has the turn of a core is told by the rows of the core alone, and so by its machine.
-use Rattle.std.proofs.Common.{◌≡◌, ℕ, ◌&&◌, not, List, [], Some, ap, sym, ◌∙◌, subst, length, slice_get}
-use Rattle.std.proofs.lemmas.List.Elements.{All-contains, All-from_recursion}
-use Rattle.msrp_plan.specs.Plan.{PlanModel}
-use Rattle.msrp_plan.specs.Jobs.{is_finished, is_started, jobs_on}
-use Rattle.msrp_plan.specs.Choice.{is_before}
-use Rattle.msrp_plan.specs.Logs.{log_of}
-use Rattle.msrp_plan.specs.States.{JobState, state_after}
+use Rattle.msrp_plan.proofs.Common.{◌≡◌, ℕ, ◌&&◌, not, List, [], Some, ap, sym, ◌∙◌, subst, length, slice_get, All-contains, All-from_recursion, PlanModel, is_finished, is_started, jobs_on, is_before, log_of, JobState, state_after, least_in, AreOwn, own_from_legal}
 use Rattle.msrp_plan.specs.declared.rows.Row.{Row}
-use Rattle.msrp_plan.proofs.Lists.LeastKept.{least_in}
-use Rattle.msrp_plan.proofs.Legality.Locality.{AreOwn, ceiling_same, head_same, running_same, states_local}
-use Rattle.msrp_plan.proofs.Queues.QueueLocks.{own_from_legal}
+use Rattle.msrp_plan.proofs.Legality.Locality.{ceiling_same, head_same, running_same, states_local}
 use Rattle.msrp_core.specs.CoreStates.{IsCoreState}
 use Rattle.msrp_core.specs.Machine.{MachineModel, StandsAfter}
 use Rattle.msrp_core.specs.declared.states.CoreState.{CoreState}

@@ -1,21 +1,5 @@
 -- A row that is foreseen: with the answer that the queues give it is the next legal one of a core that is due.
-use Rattle.std.proofs.Common.{◌≡◌, ℕ, zero, suc, ◌+◌, ◌/◌, ◌<◌, ◌≤◌, ◌==◌, ◌&&◌, ◌||◌, Bool, true, false, not, List, [], ◌∷◌, Option, Some, None, is_some, refl, ap, sym, ◌∙◌, subst, arith, length, map, slice_get, nat_lt, get_or, inl, inr, eq-eqb}
-use Rattle.std.proofs.lemmas.Bool.{cases_Bool, and_from, and_parts, lt-ltb}
-use Rattle.std.proofs.lemmas.List.{length-map}
-use Rattle.std.proofs.lemmas.Option.{same_Some, slice_get_read}
-use Rattle.msrp_plan.specs.Plan.{PlanModel, core_of}
-use Rattle.msrp_plan.specs.Shape.{is_queue}
-use Rattle.msrp_plan.specs.Aheads.{HasReply, carries_its_ahead}
-use Rattle.msrp_plan.specs.Jobs.{same_job, is_queued}
-use Rattle.msrp_plan.specs.Levels.{is_global}
-use Rattle.msrp_plan.specs.Choice.{choice}
-use Rattle.msrp_plan.specs.Actions.{same_res, res_of_unit, is_global_unit, allows, is_idle, does_unit, does_next}
-use Rattle.msrp_plan.specs.Queues.{fifo, is_first, replies, counts}
-use Rattle.msrp_plan.specs.Runs.{IsCoreTurn, had_turn, is_on_core, same_choice, is_next_action, is_fifo_reply, replies_on}
-use Rattle.msrp_plan.specs.Logs.{log_of}
-use Rattle.msrp_plan.specs.Calls.{kind_of_call, ahead_of_call}
-use Rattle.msrp_plan.specs.FifoLock.{FifoLock, IsAmong}
-use Rattle.msrp_plan.specs.WellFormed.{IsPlan}
+use Rattle.msrp_plan.proofs.Common.{◌≡◌, ℕ, zero, suc, ◌+◌, ◌/◌, ◌<◌, ◌≤◌, ◌==◌, ◌&&◌, ◌||◌, Bool, true, false, not, List, [], ◌∷◌, Option, Some, None, is_some, refl, ap, sym, ◌∙◌, subst, arith, length, map, slice_get, nat_lt, get_or, inl, inr, eq-eqb, cases_Bool, and_from, and_parts, lt-ltb, length-map, same_Some, slice_get_read, PlanModel, core_of, is_queue, carries_its_ahead, same_job, is_queued, is_global, choice, same_res, res_of_unit, is_global_unit, allows, is_idle, does_unit, does_next, fifo, is_first, replies, counts, IsCoreTurn, had_turn, is_on_core, same_choice, is_next_action, is_fifo_reply, replies_on, log_of, kind_of_call, ahead_of_call, FifoLock, IsAmong, IsPlan, not_equal, same_is, AreOwn, IsTurn, DoesUnit, turn_of, turn_core, legal_turn, legal_due, idle_res, own_from_legal, quiet_reply, turns_when_due}
 use Rattle.msrp_plan.specs.declared.ids.CoreId.{CoreId}
 use Rattle.msrp_plan.specs.declared.ids.JobId.{JobId}
 use Rattle.msrp_plan.specs.declared.ids.ResId.{ResId}
@@ -24,14 +8,12 @@ use Rattle.msrp_plan.specs.declared.rows.Kind.TheVariants.{Idle, Run, Lock, Unlo
 use Rattle.msrp_plan.specs.declared.rows.Row.{Row}
 use Rattle.msrp_plan.specs.declared.units.Call.TheVariants.{Ask, Poll}
 use Rattle.msrp_plan.specs.declared.units.Op.{Op}
+use Rattle.msrp_plan.specs.Aheads.{HasReply}
 use Rattle.msrp_plan.specs.declared.units.Op.TheVariants.{Run as RunUnit, Lock as LockUnit, Unlock as UnlockUnit}
-use Rattle.msrp_plan.proofs.Lists.Ranges.{not_equal}
-use Rattle.msrp_plan.proofs.Jobs.JobTests.{same_is}
-use Rattle.msrp_plan.proofs.Legality.Locality.{AreOwn, chosen_local, action_local}
-use Rattle.msrp_plan.proofs.Legality.LegalRows.{IsTurn, DoesUnit, turn_of, turn_core, legal_turn, legal_due, legal_reply, idle_res}
-use Rattle.msrp_plan.proofs.Queues.QueueLocks.{own_from_legal}
-use Rattle.msrp_plan.proofs.Runs.RoundRobin.{in_turn_of, quiet_reply}
-use Rattle.msrp_plan.proofs.Scheduling.NextRow.{next_row, turns_when_due}
+use Rattle.msrp_plan.proofs.Legality.Locality.{chosen_local, action_local}
+use Rattle.msrp_plan.proofs.Legality.LegalRows.{legal_reply}
+use Rattle.msrp_plan.proofs.Runs.RoundRobin.{in_turn_of}
+use Rattle.msrp_plan.proofs.Scheduling.NextRow.{next_row}
 use Rattle.msrp_plan.proofs.Scheduling.Waiters.{stands_in}
 use Rattle.msrp_core.specs.Machine.{MachineModel, StandsAfter}
 use Rattle.msrp_sim.specs.Cores.{CoresModel, AreCores, StandFor, IsDueInRun, IsNextRow, IsAnswered, kind_told, ahead_told}

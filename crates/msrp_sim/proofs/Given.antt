@@ -1,15 +1,7 @@
 -- Turns that are given as a list, one by one.
-use Rattle.std.proofs.Common.{◌≡◌, ◌≢◌, ℕ, suc, ◌+◌, ◌/◌, ◌<◌, ◌≤◌, ◌==◌, Bool, true, false, cond, List, [], ◌∷◌, ◌++◌, refl, ap, sym, ◌∙◌, subst, arith, length, add-one, get_or, set, take, drop, inl, inr}
+use Rattle.msrp_plan.proofs.Common.{◌≡◌, ◌≢◌, ℕ, suc, ◌+◌, ◌/◌, ◌<◌, ◌≤◌, ◌==◌, Bool, true, false, cond, List, [], ◌∷◌, ◌++◌, refl, ap, sym, ◌∙◌, subst, arith, length, add-one, get_or, set, take, drop, inl, inr, take-suc, drop-cons, true≢false, cases_Bool, eqb-false, get_or-set_same, get_or-set_other, length-set, length-take-le, take-append-drop, sum_by_push, PlanModel, EachAfter, IsDueInOrder, IsOrder, each_push, each_at}
 use Rattle.std.specs.List.{count_by}
-use Rattle.std.proofs.Math.Seq.{take-suc, drop-cons}
-use Rattle.std.proofs.Math.Bool.{true≢false}
-use Rattle.std.proofs.lemmas.Bool.{cases_Bool, eqb-true, eqb-false}
-use Rattle.std.proofs.lemmas.List.{get_or-set_same, get_or-set_other, length-set, length-take-le, take-append-drop}
-use Rattle.std.proofs.lemmas.List.Sums.{sum_by_push}
-use Rattle.msrp_plan.specs.Plan.{PlanModel}
-use Rattle.msrp_plan.specs.Runs.{EachAfter}
-use Rattle.msrp_plan.specs.Scheduling.{IsDueInOrder, IsOrder}
-use Rattle.msrp_plan.proofs.Lists.Prefixes.{each_push, each_at}
+use Rattle.std.proofs.lemmas.Bool.{eqb-true}
 use Rattle.msrp_sim.specs.TurnCounts.{AreCounted}
 
 -- each turn of an order is of a core that is due

@@ -1,18 +1,11 @@
 -- Calls that are answered first-in-first-out, and one call more.
-use Rattle.std.proofs.Common.{◌≡◌, ◌≢◌, ℕ, zero, suc, ◌+◌, ◌==◌, Bool, true, false, cond, List, [], ◌∷◌, ◌++◌, Some, refl, ap, sym, ◌∙◌, subst, arith, length, length-append, map, slice_get, eq-eqb, inl, inr, append-nil}
-use Rattle.std.specs.List.{filter}
-use Rattle.std.proofs.lemmas.Bool.{cases_Bool, eqb-true, eqb-false}
-use Rattle.std.proofs.lemmas.List.{map-append}
-use Rattle.std.proofs.lemmas.List.Elements.{filter-append}
-use Rattle.std.proofs.lemmas.List.Sums.{fold_push}
-use Rattle.msrp_plan.specs.FifoLock.{FifoLock, free_lock, IsAmong, IsFirst, Answers, without_first, lock_after, Legal}
-use Rattle.msrp_plan.specs.LockStates.{lock_from}
-use Rattle.msrp_plan.specs.Calls.{ResCall, claim_with, claim_after, IsDueCall}
+use Rattle.msrp_plan.proofs.Common.{◌≡◌, ◌≢◌, ℕ, zero, suc, ◌+◌, ◌==◌, Bool, true, false, cond, List, [], ◌∷◌, ◌++◌, Some, refl, ap, sym, ◌∙◌, subst, arith, length, length-append, map, slice_get, eq-eqb, inl, inr, append-nil, filter, cases_Bool, eqb-false, map-append, filter-append, fold_push, FifoLock, free_lock, IsAmong, IsFirst, Answers, without_first, lock_after, Legal, lock_from, ResCall, claim_with, claim_after, IsDueCall}
 use Rattle.msrp_plan.specs.declared.ids.ResId.{ResId}
 use Rattle.msrp_plan.specs.declared.units.Call.{Call}
 use Rattle.msrp_plan.specs.declared.units.Call.TheVariants.{Ask, Poll, Leave}
 use Rattle.msrp_plan.specs.declared.units.Phase.{Phase}
 use Rattle.msrp_plan.specs.declared.units.Phase.TheVariants.{Free}
+use Rattle.std.proofs.lemmas.Bool.{eqb-true}
 use Rattle.msrp_core.specs.Ports.{core_call, res_call, calls_of, calls_on, claim_in}
 use Rattle.msrp_core.specs.declared.port.PortCall.{PortCall}
 use Rattle.msrp_sim.specs.Served.{AreFifo, lock_after_calls, Stance, Out, Waits, Holds, IsStance, stance_of, IsClaim, IsTicketed}

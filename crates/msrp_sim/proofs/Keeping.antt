@@ -1,19 +1,9 @@
 -- The cores after a turn are cores of the plan again.
-use Rattle.std.proofs.Common.{◌≡◌, ◌≢◌, ℕ, suc, ◌+◌, ◌*◌, ◌<◌, ◌≤◌, ◌==◌, Bool, true, false, [], ◌∷◌, ◌++◌, List, Option, Some, None, ap, sym, ◌∙◌, subst, arith, refl, length, eqb-true, slice_get, inl, inr}
-use Rattle.std.specs.List.{sum_by}
-use Rattle.std.proofs.Math.Bool.{true≢false}
-use Rattle.std.proofs.Math.ListN.{length-set}
-use Rattle.std.proofs.Math.Nat.{mul-le-mul_left, mul-le-mul_right}
-use Rattle.std.proofs.lemmas.Bool.{cases_Bool, cases_lt, eqb-false}
-use Rattle.std.proofs.lemmas.List.Sums.{sum_by-cons, sum_by-set}
-use Rattle.std.proofs.lemmas.Option.{none-some, same_Some, slice_get_within, get_or_from_slice_get}
-use Rattle.msrp_plan.specs.Plan.{PlanModel}
-use Rattle.msrp_plan.specs.Levels.{is_global}
-use Rattle.msrp_plan.specs.Limits.{most_cores, most_resources, most_rows}
+use Rattle.msrp_plan.proofs.Common.{◌≡◌, ◌≢◌, ℕ, suc, ◌+◌, ◌*◌, ◌<◌, ◌≤◌, ◌==◌, Bool, true, false, [], ◌∷◌, ◌++◌, List, Option, Some, None, ap, sym, ◌∙◌, subst, arith, refl, length, eqb-true, slice_get, inl, inr, sum_by, true≢false, mul-le-mul_left, mul-le-mul_right, cases_Bool, cases_lt, eqb-false, sum_by-cons, sum_by-set, none-some, same_Some, slice_get_within, get_or_from_slice_get, PlanModel, is_global, IsPlan, undeclared_local}
 use Rattle.msrp_plan.specs.declared.ids.ResId.{ResId}
 use Rattle.msrp_plan.specs.declared.rows.Row.{Row}
-use Rattle.msrp_plan.specs.WellFormed.{IsPlan}
-use Rattle.msrp_plan.proofs.Levels.GlobalUse.{undeclared_local}
+use Rattle.std.proofs.Math.ListN.{length-set}
+use Rattle.msrp_plan.specs.Limits.{most_cores, most_resources, most_rows}
 use Rattle.msrp_core.specs.Ports.{IsQuiet}
 use Rattle.msrp_core.specs.Machine.{MachineModel}
 use Rattle.msrp_core.specs.declared.port.PortCall.{PortCall}

@@ -1,15 +1,7 @@
 -- The next turn of a simulation: its core is due, and what the cores promise of it goes on the run.
-use Rattle.std.proofs.Common.{◌≡◌, ℕ, ◌+◌, ◌*◌, ◌/◌, ◌<◌, true, ◌&&◌, Some, IfSome, Option, None, List, [], ◌∷◌, ◌++◌, ap, sym, ◌∙◌, subst, arith, length, get_or, take, slice_get, refl}
-use Rattle.std.proofs.Math.Seq.{take-length}
-use Rattle.std.proofs.lemmas.Bool.{and_from}
-use Rattle.std.proofs.lemmas.List.{length-take-le, map-append, length-map}
-use Rattle.std.proofs.lemmas.List.Folds.{list_all-append}
-use Rattle.msrp_plan.specs.Plan.{PlanModel}
-use Rattle.msrp_plan.specs.Aheads.{carries_its_ahead, carries_ahead}
-use Rattle.msrp_plan.specs.Logs.{core_order, log_of}
-use Rattle.msrp_plan.specs.Runs.{IsRunStart}
-use Rattle.msrp_plan.specs.Scheduling.{IsDueInOrder, IsOrder}
+use Rattle.msrp_plan.proofs.Common.{◌≡◌, ℕ, ◌+◌, ◌*◌, ◌/◌, ◌<◌, true, ◌&&◌, Some, IfSome, Option, None, List, [], ◌∷◌, ◌++◌, ap, sym, ◌∙◌, subst, arith, length, get_or, take, slice_get, refl, take-length, and_from, length-take-le, map-append, length-map, list_all-append, PlanModel, carries_its_ahead, carries_ahead, log_of, IsRunStart, IsDueInOrder, IsOrder}
 use Rattle.msrp_plan.specs.declared.rows.Row.{Row}
+use Rattle.msrp_plan.specs.Logs.{core_order}
 use Rattle.msrp_plan.proofs.Runs.CoreRuns.{due_by_log}
 use Rattle.msrp_plan.proofs.Scheduling.Orders.{turns_of}
 use Rattle.msrp_core.specs.Machine.{MachineModel}

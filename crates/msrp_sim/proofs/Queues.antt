@@ -1,7 +1,5 @@
 -- Cores in a queue, by their places.
-use Rattle.std.proofs.Common.{◌≡◌, ◌≢◌, ℕ, zero, suc, ◌+◌, List, [], ◌∷◌, ◌++◌, Some, refl, ap, sym, ◌∙◌, arith, length, slice_get, ◌⊎◌, inl, inr}
-use Rattle.std.proofs.lemmas.Option.{none-some, same_Some}
-use Rattle.msrp_plan.specs.FifoLock.{IsAmong, IsFirst, without_first}
+use Rattle.msrp_plan.proofs.Common.{◌≡◌, ◌≢◌, ℕ, zero, suc, ◌+◌, List, [], ◌∷◌, ◌++◌, Some, refl, ap, sym, ◌∙◌, arith, length, slice_get, ◌⊎◌, inl, inr, none-some, same_Some, IsAmong, IsFirst, without_first}
 
 -- who stands at a place is among them
 pub among_at : (q : List ℕ) (i c : ℕ) → slice_get q i ≡ Some c → IsAmong q c

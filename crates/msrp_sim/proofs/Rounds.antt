@@ -1,19 +1,11 @@
 -- Orders that are made tick by tick give each core one turn in each tick.
-use Rattle.std.proofs.Common.{◌≡◌, ◌≢◌, ℕ, zero, suc, ◌+◌, ◌-◌, ◌*◌, ◌/◌, ◌%◌, ◌<◌, ◌≤◌, ◌==◌, false, cond, nat_lt, List, [], ◌∷◌, ◌++◌, map, refl, ap, sym, ◌∙◌, subst, arith, length, length-append, append_assoc, append-nil, add-one, mul_comm, get_or, inl, inr}
-use Rattle.std.specs.List.{count_by, flat_map, range_with_len}
-use Rattle.std.proofs.lemmas.Bool.{cases_lt, cases_Bool, lt-ltb, eqb-true, eqb-false}
-use Rattle.std.proofs.lemmas.Bool.Decides.{nat_tests}
-use Rattle.std.proofs.lemmas.List.{get_or_append_left, get_or-append-add, map-id}
-use Rattle.std.proofs.lemmas.List.Sums.{sum_by_push}
-use Rattle.std.proofs.lemmas.List.FromFn.{length-range_with_len, length-map-range_with_len, map-range_with_len_more, get_or-map-range_with_len}
-use Rattle.std.proofs.Math.Nat.{mod-lt, mod-eq_of_lt, div-add-mod, add-mul-mod_self_left, mul-le-mul_right, suc-mul, div-mul-le_self}
-use Rattle.std.proofs.lemmas.Nat.{div-mul-add, mod-mul-add}
-use Rattle.msrp_plan.specs.Plan.{PlanModel}
-use Rattle.msrp_plan.specs.Runs.{EachAfter}
+use Rattle.msrp_plan.proofs.Common.{◌≡◌, ◌≢◌, ℕ, zero, suc, ◌+◌, ◌-◌, ◌*◌, ◌/◌, ◌%◌, ◌<◌, ◌≤◌, ◌==◌, false, cond, nat_lt, List, [], ◌∷◌, ◌++◌, map, refl, ap, sym, ◌∙◌, subst, arith, length, length-append, append_assoc, append-nil, add-one, mul_comm, get_or, inl, inr, flat_map, range_with_len, cases_lt, cases_Bool, lt-ltb, eqb-false, nat_tests, get_or_append_left, sum_by_push, length-range_with_len, length-map-range_with_len, map-range_with_len_more, get_or-map-range_with_len, mod-eq_of_lt, div-add-mod, mul-le-mul_right, div-mul-add, mod-mul-add, PlanModel, EachAfter, IsDueInOrder, IsOrder, each_push, flat_more}
+use Rattle.std.specs.List.{count_by}
+use Rattle.std.proofs.lemmas.Bool.{eqb-true}
+use Rattle.std.proofs.lemmas.List.{get_or-append-add, map-id}
+use Rattle.std.proofs.Math.Nat.{mod-lt, add-mul-mod_self_left, suc-mul, div-mul-le_self}
 use Rattle.msrp_plan.specs.Logs.{ascending}
-use Rattle.msrp_plan.specs.Scheduling.{IsDueInOrder, IsOrder}
-use Rattle.msrp_plan.proofs.Lists.Prefixes.{each_push}
-use Rattle.msrp_plan.proofs.Lists.Ranges.{flat_more, flat_length}
+use Rattle.msrp_plan.proofs.Lists.Ranges.{flat_length}
 use Rattle.msrp_sim.specs.Orders.{turns_by, falling, rotating}
 
 -- in each tick each of m cores has a place of its own

@@ -1,27 +1,13 @@
 -- The cores after a turn stand after the rows so far and one more, which may leave out the ahead of the row that was made.
-use Rattle.std.proofs.Common.{◌≡◌, ◌≢◌, ℕ, zero, suc, ◌+◌, ◌==◌, Bool, true, false, cond, not, List, [], ◌∷◌, ◌++◌, Option, Some, None, IfSome, refl, ap, sym, ◌∙◌, subst, length-append, map, inl, inr, eqb-true, slice_get, slice_set}
-use Rattle.std.proofs.Math.Bool.{true≢false}
-use Rattle.std.proofs.lemmas.Bool.{cases_Bool, eqb-false}
-use Rattle.std.proofs.lemmas.Option.{same_Some}
-use Rattle.std.proofs.lemmas.List.Sums.{fold_push}
-use Rattle.msrp_plan.specs.Jobs.{jobs_on, is_job, is_waiting}
-use Rattle.msrp_plan.specs.Levels.{is_global}
-use Rattle.msrp_plan.specs.Queues.{is_on, fifo}
-use Rattle.msrp_plan.specs.Runs.{IsLegal}
-use Rattle.msrp_plan.specs.Logs.{log_of}
-use Rattle.msrp_plan.specs.Phases.{phase_with, phase_after}
-use Rattle.msrp_plan.specs.States.{JobState, state_after}
-use Rattle.msrp_plan.specs.FifoLock.{Answers, free_lock, lock_after}
-use Rattle.msrp_plan.specs.LockStates.{lock_at, first_holds, IsRowOfCall}
-use Rattle.msrp_plan.specs.Calls.{ahead_of_call, claim_with}
+use Rattle.msrp_plan.proofs.Common.{◌≡◌, ◌≢◌, ℕ, zero, suc, ◌+◌, ◌==◌, Bool, true, false, cond, not, List, [], ◌∷◌, ◌++◌, Option, Some, None, IfSome, refl, ap, sym, ◌∙◌, subst, length-append, map, inl, inr, eqb-true, slice_get, slice_set, true≢false, cases_Bool, eqb-false, same_Some, fold_push, jobs_on, is_job, is_waiting, is_global, is_on, fifo, IsLegal, log_of, phase_with, phase_after, JobState, state_after, Answers, free_lock, lock_after, lock_at, ahead_of_call, claim_with, log_own, log_other}
 use Rattle.msrp_plan.specs.declared.ids.JobId.{JobId}
 use Rattle.msrp_plan.specs.declared.ids.ResId.{ResId}
 use Rattle.msrp_plan.specs.declared.rows.Kind.{Kind}
 use Rattle.msrp_plan.specs.declared.rows.Row.{Row}
 use Rattle.msrp_plan.specs.declared.units.Phase.{Phase}
 use Rattle.msrp_plan.specs.declared.units.Phase.TheVariants.{Free}
+use Rattle.msrp_plan.specs.LockStates.{first_holds, IsRowOfCall}
 use Rattle.msrp_plan.proofs.Jobs.States.{state_push}
-use Rattle.msrp_plan.proofs.Runs.RoundRobin.{log_own, log_other}
 use Rattle.msrp_plan.proofs.Queues.QueueLocks.{agree_at, lock_off, tells_from_answers}
 use Rattle.msrp_plan.proofs.Runs.Verdicts.{start_push}
 use Rattle.msrp_core.specs.Ports.{IsQuiet}

@@ -1,20 +1,5 @@
 -- A turn of a core makes the next legal row, and leaves the cores as that row does.
-use Rattle.std.proofs.Common.{◌≡◌, ℕ, zero, suc, ◌≤◌, ◌/◌, ◌&&◌, ◌||◌, ◌⊎◌, Bool, true, false, cond, not, List, [], Option, Some, None, IfSome, is_some, refl, ap, sym, ◌∙◌, subst, arith, length, nat_lt, inl, inr}
-use Rattle.std.proofs.Math.Bool.{true≢false, and-false}
-use Rattle.std.proofs.lemmas.Bool.{cases_Bool, lt-ltb}
-use Rattle.std.proofs.lemmas.Option.{same_Some}
-use Rattle.msrp_plan.specs.Plan.{PlanModel}
-use Rattle.msrp_plan.specs.Shape.{has_shape, is_queue, may_carry}
-use Rattle.msrp_plan.specs.Aheads.{carries_its_ahead}
-use Rattle.msrp_plan.specs.Jobs.{is_queued}
-use Rattle.msrp_plan.specs.Levels.{is_global}
-use Rattle.msrp_plan.specs.Actions.{allows, res_of_unit, is_global_unit}
-use Rattle.msrp_plan.specs.Queues.{fifo, replies, counts}
-use Rattle.msrp_plan.specs.Runs.{IsCoreTurn, had_turn, is_in_turn, is_fifo_reply, replies_on}
-use Rattle.msrp_plan.specs.Logs.{log_of}
-use Rattle.msrp_plan.specs.FifoLock.{free_lock, Answers}
-use Rattle.msrp_plan.specs.LockStates.{lock_at}
-use Rattle.msrp_plan.specs.Calls.{IsDueCall, kind_of_call, ahead_of_call}
+use Rattle.msrp_plan.proofs.Common.{◌≡◌, ℕ, zero, suc, ◌≤◌, ◌/◌, ◌&&◌, ◌||◌, ◌⊎◌, Bool, true, false, cond, not, List, [], Option, Some, None, IfSome, is_some, refl, ap, sym, ◌∙◌, subst, arith, length, nat_lt, inl, inr, true≢false, and-false, cases_Bool, lt-ltb, same_Some, PlanModel, has_shape, is_queue, may_carry, carries_its_ahead, is_queued, is_global, allows, res_of_unit, is_global_unit, fifo, replies, counts, IsCoreTurn, had_turn, is_in_turn, is_fifo_reply, replies_on, log_of, free_lock, Answers, lock_at, IsDueCall, kind_of_call, ahead_of_call, AreOwn, quiet_reply, turns_when_due, IsTurn, turn_of, idle_res, own_from_legal}
 use Rattle.msrp_plan.specs.declared.ids.JobId.{JobId}
 use Rattle.msrp_plan.specs.declared.ids.ResId.{ResId}
 use Rattle.msrp_plan.specs.declared.rows.Kind.{Kind}
@@ -24,11 +9,9 @@ use Rattle.msrp_plan.specs.declared.units.Call.{Call}
 use Rattle.msrp_plan.specs.declared.units.Call.TheVariants.{Ask, Poll, Leave}
 use Rattle.msrp_plan.specs.declared.units.Op.{Op}
 use Rattle.msrp_plan.specs.declared.units.Op.TheVariants.{Run as RunUnit, Lock as LockUnit, Unlock as UnlockUnit}
-use Rattle.msrp_plan.proofs.Legality.Locality.{AreOwn, chosen_local, action_local}
-use Rattle.msrp_plan.proofs.Runs.RoundRobin.{in_turn_of, quiet_reply}
-use Rattle.msrp_plan.proofs.Scheduling.NextRow.{turns_when_due}
-use Rattle.msrp_plan.proofs.Legality.LegalRows.{IsTurn, turn_of, idle_res}
-use Rattle.msrp_plan.proofs.Queues.QueueLocks.{reply_at, own_from_legal}
+use Rattle.msrp_plan.proofs.Legality.Locality.{chosen_local, action_local}
+use Rattle.msrp_plan.proofs.Runs.RoundRobin.{in_turn_of}
+use Rattle.msrp_plan.proofs.Queues.QueueLocks.{reply_at}
 use Rattle.msrp_core.specs.Machine.{StandsAfter}
 use Rattle.msrp_sim.specs.Cores.{CoresModel, AreCores, IsMachineOf, StandFor, IsDueInRun, IsNextRow, TakesTurn, locks_at, phases_at}
 use Rattle.msrp_sim.specs.Serving.{AreDrawn, IsTold}

@@ -1,25 +1,15 @@
 -- The cores of a plan over first-in-first-out queues, and the rows that they stand after.
-use Rattle.std.specs.Prelude.{ℕ, List, [], ◌∷◌, ◌++◌, true, Option, Some, None, IfSome, length, slice_get, slice_set, sum_by, ◌≡◌, ◌≢◌, ◌<◌, ◌≤◌, ◌*◌, if◌then◌else◌}
-use Rattle.std.specs.Option.{ForSome}
-use Rattle.msrp_plan.specs.Plan.{PlanModel}
-use Rattle.msrp_plan.specs.Levels.{is_global}
-use Rattle.msrp_plan.specs.Aheads.{HasReply, carries_its_ahead}
-use Rattle.msrp_plan.specs.Limits.{most_rows}
-use Rattle.msrp_plan.specs.Runs.{IsCoreTurn, IsRunStart, IsLegal}
-use Rattle.msrp_plan.specs.Logs.{log_of}
-use Rattle.msrp_plan.specs.Scheduling.{IsDueCore}
-use Rattle.msrp_plan.specs.FifoLock.{FifoLock, free_lock}
-use Rattle.msrp_plan.specs.LockStates.{lock_at}
-use Rattle.msrp_plan.specs.Phases.{phase_after}
-use Rattle.msrp_plan.specs.Stretches.{in_tick}
-use Rattle.msrp_plan.specs.WellFormed.{IsPlan}
-use Rattle.msrp_plan.specs.Calls.{kind_of_call, ahead_of_call}
+use Rattle.msrp_plan.specs.Common.{ℕ, List, [], ◌∷◌, ◌++◌, true, Option, Some, None, IfSome, length, slice_get, slice_set, ◌≡◌, ◌≢◌, ◌<◌, ◌≤◌, ◌*◌, if◌then◌else◌, ForSome, PlanModel, is_global, carries_its_ahead, most_rows, IsCoreTurn, IsRunStart, IsLegal, log_of, IsDueCore, FifoLock, free_lock, in_tick, IsPlan, kind_of_call, ahead_of_call}
 use Rattle.msrp_plan.specs.declared.ids.ResId.{ResId}
 use Rattle.msrp_plan.specs.declared.rows.Kind.{Kind}
 use Rattle.msrp_plan.specs.declared.rows.Kind.TheVariants.{Take, Queue, Grant, Spin}
 use Rattle.msrp_plan.specs.declared.rows.Row.{Row}
 use Rattle.msrp_plan.specs.declared.units.Call.TheVariants.{Ask, Poll}
 use Rattle.msrp_plan.specs.declared.units.Phase.{Phase}
+use Rattle.std.specs.Prelude.{sum_by}
+use Rattle.msrp_plan.specs.Aheads.{HasReply}
+use Rattle.msrp_plan.specs.LockStates.{lock_at}
+use Rattle.msrp_plan.specs.Phases.{phase_after}
 use Rattle.msrp_core.specs.Machine.{MachineModel, StandsAfter, next_known}
 use Rattle.msrp_core.specs.declared.port.PortCall.{PortCall}
 use Rattle.msrp_sim.specs.Serving.{AreDrawn, IsServing, Notes, waiting, is_served}

@@ -1,6 +1,5 @@
 -- Plans of the worked orders.
-use Rattle.std.specs.Prelude.{[]}
-use Rattle.msrp_plan.specs.Plan.{PlanModel}
+use Rattle.msrp_plan.specs.Common.{[], PlanModel}
 
 -- three cores for three ticks, without a task
 abbrev pub three_cores : PlanModel

@@ -1,8 +1,5 @@
 -- The orders in which the cores of a plan have their turns.
-use Rattle.std.specs.Prelude.{ℕ, List, map, ◌+◌, ◌-◌, ◌%◌}
-use Rattle.std.specs.List.{flat_map, range_with_len}
-use Rattle.msrp_plan.specs.Plan.{PlanModel}
-use Rattle.msrp_plan.specs.Logs.{ascending}
+use Rattle.msrp_plan.specs.Common.{ℕ, List, map, ◌+◌, ◌-◌, ◌%◌, flat_map, range_with_len, PlanModel, ascending}
 use Rattle.msrp_sim.specs.declared.orders.Order.{Order}
 use Rattle.msrp_sim.specs.declared.orders.Order.TheVariants.{Asc, Desc, Rot, Given}
 

@@ -1,10 +1,9 @@
 -- Calls that are served first-in-first-out, and the tickets by which that is done.
-use Rattle.std.specs.Prelude.{ℕ, List, [], true, false, nat_lt, Some, ◌==◌, ◌≡◌, ◌+◌, length, slice_get, slice_index_or, if◌then◌else◌}
-use Rattle.msrp_plan.specs.Plan.{PlanModel}
-use Rattle.msrp_plan.specs.FifoLock.{FifoLock, free_lock, IsAmong, IsFirst, Legal}
-use Rattle.msrp_plan.specs.LockStates.{lock_from}
+use Rattle.msrp_plan.specs.Common.{ℕ, List, [], true, false, nat_lt, Some, ◌==◌, ◌≡◌, ◌+◌, length, slice_get, slice_index_or, if◌then◌else◌, PlanModel, FifoLock, free_lock, Legal}
 use Rattle.msrp_plan.specs.declared.units.Phase.{Phase}
 use Rattle.msrp_plan.specs.declared.units.Phase.TheVariants.{Free, Queued, Holding}
+use Rattle.msrp_plan.specs.FifoLock.{IsAmong, IsFirst}
+use Rattle.msrp_plan.specs.LockStates.{lock_from}
 use Rattle.msrp_core.specs.Ports.{PortModel, calls_on}
 use Rattle.msrp_core.specs.declared.port.PortCall.{PortCall}
 

@@ -1,7 +1,5 @@
 -- What a clause sees of a simulation, and what its fields keep.
-use Rattle.std.specs.Prelude.{List, ◌<◌, ◌≤◌, ◌+◌, ◌*◌}
-use Rattle.msrp_plan.specs.Scheduling.{IsOrder}
-use Rattle.msrp_plan.specs.WellFormed.{IsPlan}
+use Rattle.msrp_plan.specs.Common.{List, ◌<◌, ◌≤◌, ◌+◌, ◌*◌, IsOrder, IsPlan}
 use Rattle.msrp_plan.specs.declared.rows.Row.{Row}
 use Rattle.msrp_sim.specs.Orders.{cores_of}
 use Rattle.msrp_sim.specs.Simulated.{SimModel, HasMade}

@@ -1,9 +1,5 @@
 -- A run on one thread, turn by turn.
-use Rattle.std.specs.Prelude.{ℕ, List, true, ◌≡◌, take}
-use Rattle.msrp_plan.specs.Plan.{PlanModel}
-use Rattle.msrp_plan.specs.Aheads.{carries_ahead}
-use Rattle.msrp_plan.specs.Logs.{core_order}
-use Rattle.msrp_plan.specs.Runs.{IsRun}
+use Rattle.msrp_plan.specs.Common.{ℕ, List, true, ◌≡◌, take, PlanModel, carries_ahead, core_order, IsRun}
 use Rattle.msrp_plan.specs.declared.rows.Row.{Row}
 use Rattle.msrp_sim.specs.Cores.{CoresModel, StandFor}
 

@@ -1,9 +1,6 @@
 -- How many turns each core has had.
-use Rattle.std.specs.Prelude.{ℕ, List, [], ◌==◌, ◌≡◌, ◌<◌, count_by, length, slice_index_or, take}
-use Rattle.msrp_plan.specs.Plan.{PlanModel}
-use Rattle.msrp_plan.specs.Runs.{EachAfter}
+use Rattle.msrp_plan.specs.Common.{ℕ, List, [], ◌==◌, ◌≡◌, ◌<◌, count_by, length, slice_index_or, take, PlanModel, EachAfter, most_cores}
 use Rattle.msrp_plan.specs.Scheduling.{IsDueInOrder}
-use Rattle.msrp_plan.specs.Limits.{most_cores}
 
 -- the first n of these turns were each of a core that was due, and so many were of each core
 pub record AreCounted (plan : PlanModel) (cores : List ℕ) (n : ℕ) (turns : List ℕ) : Type 0 where

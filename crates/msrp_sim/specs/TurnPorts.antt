@@ -1,9 +1,5 @@
 -- A port for one turn of one core, and what the turn makes.
-use Rattle.std.specs.Prelude.{ℕ, List, [], ◌∷◌, ◌++◌, Bool, true, false, ◌==◌, ◌&&◌, is_none, Option, Some, None, ◌≡◌, ◌+◌, if◌then◌else◌}
-use Rattle.std.specs.Option.{ForSome}
-use Rattle.msrp_plan.specs.Levels.{is_global}
-use Rattle.msrp_plan.specs.Runs.{IsCoreTurn}
-use Rattle.msrp_plan.specs.Calls.{claim_with, IsDueCall, kind_of_call, ahead_of_call}
+use Rattle.msrp_plan.specs.Common.{ℕ, List, [], ◌∷◌, ◌++◌, Bool, true, false, ◌==◌, ◌&&◌, is_none, Option, Some, None, ◌≡◌, ◌+◌, if◌then◌else◌, ForSome, is_global, IsCoreTurn, claim_with, IsDueCall, kind_of_call, ahead_of_call}
 use Rattle.msrp_plan.specs.declared.rows.Kind.{Kind}
 use Rattle.msrp_plan.specs.declared.rows.Kind.TheVariants.{Spin}
 use Rattle.msrp_plan.specs.declared.ids.CoreId.{CoreId}

@@ -1,12 +1,7 @@
 //! All cores of a plan, and the queues of its global resources.
-ghost use Rattle.std.specs.Prelude.{◌≡◌, ◌<◌, ◌++◌, ◌∷◌, [], true, ℕ, List, IfOk, IfNone, IfSome, None, Some, length, slice_get};
-ghost use Rattle.std.specs.Option.{ForSome, IsSomeAnd, is_some, option_map};
+ghost use Rattle.msrp_plan.specs.Common.{◌≡◌, ◌<◌, ◌++◌, ◌∷◌, [], true, ℕ, List, IfOk, IfNone, IfSome, None, Some, length, slice_get, ForSome, IsSomeAnd, most_cores, most_resources, most_rows, log_of, kind_of_call, ahead_of_call, has_shape, IsPlan};
+ghost use Rattle.std.specs.Option.{is_some, option_map};
 ghost use Rattle.msrp_plan.specs.Aheads.{HasReply};
-ghost use Rattle.msrp_plan.specs.Limits.{most_cores, most_resources, most_rows};
-ghost use Rattle.msrp_plan.specs.Logs.{log_of};
-ghost use Rattle.msrp_plan.specs.Calls.{kind_of_call, ahead_of_call};
-ghost use Rattle.msrp_plan.specs.Shape.{has_shape};
-ghost use Rattle.msrp_plan.specs.WellFormed.{IsPlan};
 ghost use Rattle.msrp_plan.specs.declared.rows.Row.{Row as TraceRow};
 ghost use Rattle.msrp_core.specs.CoreStates.{IsCoreState};
 ghost use Rattle.msrp_core.specs.Machine.{MachineModel};

@@ -1,8 +1,5 @@
 //! The orders in which the cores of a plan have their turns.
-ghost use Rattle.std.specs.Prelude.{ℕ, ◌≡◌, ◌↔◌, ◌<◌, ◌+◌, ◌*◌, ◌^◌, true, slice_index_or, length};
-ghost use Rattle.msrp_plan.specs.Plan.{PlanModel};
-ghost use Rattle.msrp_plan.specs.Scheduling.{IsOrder};
-ghost use Rattle.msrp_plan.specs.Logs.{ascending};
+ghost use Rattle.msrp_plan.specs.Common.{ℕ, ◌≡◌, ◌↔◌, ◌<◌, ◌+◌, ◌*◌, ◌^◌, true, slice_index_or, length, PlanModel, IsOrder, ascending};
 ghost use Rattle.msrp_sim.specs.Orders.{cores_of, falling, rotating};
 
 use msrp_plan::limits::MOST_CORES;

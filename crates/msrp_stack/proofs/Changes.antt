@@ -1,22 +1,12 @@
 -- One started job more or less, and one resource more or less that the newest holds.
-use Rattle.std.proofs.Common.{◌≡◌, ℕ, ◌<◌, ◌≤◌, ◌+◌, ◌-◌, true, false, ◌||◌, max, List, [], ◌∷◌, ◌++◌, map, reverse, length, set, slice_index_or, Option, Some, None, refl, ap, sym, ◌∙◌, subst, arith, length-append, append-nil, inl, inr}
-use Rattle.std.specs.List.{flat_map, AllByRecursion, Contains, IsDistinct, list_any}
-use Rattle.std.specs.Option.{option_to_list}
-use Rattle.std.specs.Cmp.{IsEquivalence}
-use Rattle.std.proofs.Math.Bool.{true≢false}
-use Rattle.std.proofs.lemmas.Bool.{cases_Bool, cases_eq, cases_lt, false_from_ne_true}
-use Rattle.std.proofs.lemmas.Map.Made.{length-le_from_is_member}
-use Rattle.std.proofs.Math.Seq.{set-append_seam, get_or-append_seam}
-use Rattle.std.proofs.lemmas.List.{reverse-append, length-map, length-reverse, get_or-set_same, get_or-set_other}
-use Rattle.msrp_plan.specs.Plan.{PlanModel}
-use Rattle.msrp_plan.specs.Jobs.{jobs, jobs_on, same_job}
-use Rattle.msrp_plan.specs.Choice.{is_before}
-use Rattle.msrp_plan.specs.WellFormed.{IsPlan}
+use Rattle.msrp_plan.proofs.Common.{◌≡◌, ℕ, ◌<◌, ◌≤◌, ◌+◌, ◌-◌, true, false, ◌||◌, max, List, [], ◌∷◌, ◌++◌, map, reverse, length, set, slice_index_or, Option, Some, None, refl, ap, sym, ◌∙◌, subst, arith, length-append, append-nil, inl, inr, flat_map, AllByRecursion, Contains, list_any, option_to_list, true≢false, cases_Bool, cases_eq, cases_lt, false_from_ne_true, get_or-append_seam, length-map, get_or-set_same, get_or-set_other, PlanModel, jobs, jobs_on, same_job, is_before, IsPlan, same_is, same_self, same_symm, before_order, irrefl, any_in}
+use Rattle.std.specs.List.{IsDistinct}
 use Rattle.msrp_plan.specs.declared.ids.JobId.{JobId}
-use Rattle.msrp_plan.proofs.Jobs.JobTests.{same_is, same_self, same_symm, same_congr}
-use Rattle.msrp_plan.proofs.Jobs.Keys.{before_order}
-use Rattle.msrp_plan.proofs.Lists.LeastKept.{irrefl}
-use Rattle.msrp_plan.proofs.Lists.AnyAll.{any_in}
+use Rattle.std.specs.Cmp.{IsEquivalence}
+use Rattle.std.proofs.lemmas.Map.Made.{length-le_from_is_member}
+use Rattle.std.proofs.Math.Seq.{set-append_seam}
+use Rattle.std.proofs.lemmas.List.{reverse-append, length-reverse}
+use Rattle.msrp_plan.proofs.Jobs.JobTests.{same_congr}
 use Rattle.msrp_stack.proofs.Tops.{before_all}
 use Rattle.msrp_stack.specs.Stack.{StartedJob, CanStart, ComesFirst, IsDone, with_held, without_held}
 use Rattle.msrp_levels.specs.Users.{ceiling_at}

@@ -1,16 +1,7 @@
 -- The ceiling that rises from one held resource to the next is the core's current ceiling.
-use Rattle.std.proofs.Common.{◌≡◌, ℕ, ◌<◌, ◌≤◌, Bool, true, false, cond, not, max, nat_eq, ◌&&◌, ◌||◌, List, [], ◌∷◌, map, reverse, length, refl, ap, sym, ◌∙◌, subst, arith, inl, inr}
-use Rattle.std.specs.List.{list_any, filter, fold, flat_map}
-use Rattle.std.proofs.Math.Bool.{or-true}
-use Rattle.std.proofs.lemmas.Bool.{eqb-true, eq-eqb, and_parts, cases_Bool}
-use Rattle.std.proofs.lemmas.List.Folds.{list_any-append}
-use Rattle.msrp_plan.specs.Plan.{PlanModel}
-use Rattle.msrp_plan.specs.Levels.{is_global, local_ceiling, top, greatest}
-use Rattle.msrp_plan.specs.Ceiling.{resources, raised_with, ceiling_with}
-use Rattle.msrp_plan.proofs.Lists.AnyAll.{any_in}
-use Rattle.msrp_plan.proofs.Lists.Filters.{any_map}
-use Rattle.msrp_plan.proofs.Lists.LeastKept.{greatest_above}
-use Rattle.msrp_plan.proofs.Levels.Ceilings.{in_resources}
+use Rattle.msrp_plan.proofs.Common.{◌≡◌, ℕ, ◌<◌, ◌≤◌, Bool, true, false, cond, not, max, nat_eq, ◌&&◌, ◌||◌, List, [], ◌∷◌, map, reverse, length, refl, ap, sym, ◌∙◌, subst, arith, inl, inr, list_any, filter, flat_map, or-true, and_parts, cases_Bool, list_any-append, PlanModel, is_global, local_ceiling, top, greatest, resources, raised_with, ceiling_with, any_in, any_map, greatest_above, in_resources}
+use Rattle.std.specs.List.{fold}
+use Rattle.std.proofs.lemmas.Bool.{eqb-true, eq-eqb}
 use Rattle.msrp_stack.specs.Stack.{is_held}
 use Rattle.msrp_levels.specs.Users.{ceiling_at}
 use Rattle.msrp_stack.specs.Layers.{Layers}

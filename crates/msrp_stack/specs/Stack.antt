@@ -1,11 +1,8 @@
 -- The started jobs of a core, newest first, and what each of them holds.
-use Rattle.std.specs.Prelude.{ℕ, List, [], ◌∷◌, Bool, false, nat_eq, Option, Some, None, length, ◌≡◌, ◌<◌, ⊤, true}
-use Rattle.std.specs.List.{list_any, Contains}
-use Rattle.msrp_plan.specs.Plan.{PlanModel}
-use Rattle.msrp_plan.specs.Jobs.{jobs_on, same_job}
-use Rattle.msrp_plan.specs.Choice.{is_before, first_unfinished}
-use Rattle.msrp_plan.specs.Ceiling.{ceiling_with}
+use Rattle.msrp_plan.specs.Common.{ℕ, List, [], ◌∷◌, Bool, false, nat_eq, Option, Some, None, length, ◌≡◌, ◌<◌, ⊤, true, list_any, Contains, PlanModel, jobs_on, same_job, is_before}
 use Rattle.msrp_plan.specs.declared.ids.JobId.{JobId}
+use Rattle.msrp_plan.specs.Choice.{first_unfinished}
+use Rattle.msrp_plan.specs.Ceiling.{ceiling_with}
 
 -- a job that is started and not finished, and the resources that it holds, the innermost first: a global one counts
 -- from its request on

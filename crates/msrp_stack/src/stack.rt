@@ -1,9 +1,6 @@
 //! A stack of started jobs, and its calls.
-ghost use Rattle.std.specs.Prelude.{◌≡◌, ◌<◌, ◌∷◌, [], length, slice_index_or, true, false, ℕ, IfOk, ◌≤◌, vec_capacity};
-ghost use Rattle.msrp_plan.specs.Jobs.{jobs_on};
-ghost use Rattle.msrp_plan.specs.Levels.{is_global};
-ghost use Rattle.msrp_plan.specs.WellFormed.{IsPlan};
-ghost use Rattle.msrp_plan.specs.Limits.{most_held, most_resources};
+ghost use Rattle.msrp_plan.specs.Common.{◌≡◌, ◌<◌, ◌∷◌, [], length, slice_index_or, true, false, ℕ, IfOk, ◌≤◌, vec_capacity, jobs_on, is_global, IsPlan, most_resources};
+ghost use Rattle.msrp_plan.specs.Limits.{most_held};
 ghost use Rattle.msrp_levels.specs.Users.{ceiling_at};
 ghost use Rattle.msrp_stack.specs.Stack.{top, newest, current_ceiling, CanStart, HasRoom, IsInnermost, SomeHeld, IsDone, with_held, without_held, without_newest};
 

@@ -1,24 +1,14 @@
 -- The tasks of a well-formed plan, told one after the other, are accepted, and so is the end.
-use Rattle.std.proofs.Common.{◌≡◌, ℕ, ◌+◌, ◌-◌, ◌<◌, ◌≤◌, ◌==◌, ◌&&◌, true, false, cond, List, [], ◌∷◌, ◌++◌, map, take, length, Some, None, refl, ap, sym, ◌∙◌, subst, arith, append_assoc, append-nil, nat_le, nat_lt, length-append}
-use Rattle.std.specs.Prelude.{slice_get, slice_index_or}
-use Rattle.std.specs.List.{AllByRecursion, flat_map}
-use Rattle.std.specs.List.Sorted.{IsStrictlyIncreasing}
-use Rattle.std.proofs.Math.Seq.{get_or-append_seam}
-use Rattle.std.proofs.lemmas.Bool.Decides.{nat_tests}
-use Rattle.std.proofs.lemmas.List.{get_or_append_left, map-append}
-use Rattle.std.proofs.lemmas.List.Sums.{sum_by-cons}
-use Rattle.std.proofs.lemmas.Option.{slice_get-get_or}
-use Rattle.csv.specs.Records.{field_at}
-use Rattle.msrp_plan.specs.Building.{end_fault, is_above, is_none_held, is_within, new_task, newest_task, release_fault, takes_releases, task_end_fault, task_fault, tick_fault, with_more_ticks}
-use Rattle.msrp_plan.specs.Names.{has_name, is_name}
-use Rattle.msrp_plan.specs.Plan.{PlanModel, TaskModel}
-use Rattle.msrp_plan.specs.ReleaseTimes.{ReleaseTimes, Every, Listed, AreListed, AreTimes, is_listed, lacks_release, listed_ticks}
-use Rattle.msrp_plan.specs.Units.{held_after}
-use Rattle.msrp_plan.specs.WellFormed.{AreNames, IsLocking, IsTask, IsWhole}
+use Rattle.msrp_plan.proofs.Common.{◌≡◌, ℕ, ◌+◌, ◌-◌, ◌<◌, ◌≤◌, ◌==◌, ◌&&◌, true, false, cond, List, [], ◌∷◌, ◌++◌, map, take, length, Some, None, refl, ap, sym, ◌∙◌, subst, arith, append_assoc, append-nil, nat_le, nat_lt, length-append, slice_get, slice_index_or, AllByRecursion, flat_map, get_or-append_seam, nat_tests, get_or_append_left, map-append, sum_by-cons, slice_get-get_or, is_within, is_name, PlanModel, TaskModel, ReleaseTimes, Every, Listed, is_listed, listed_ticks, held_after, AreNames, IsLocking, even_after, held_times}
 use Rattle.msrp_plan.specs.declared.rows.TextVersion.{TextVersion}
 use Rattle.msrp_plan.specs.declared.rows.TextVersion.TheVariants.{V2}
 use Rattle.msrp_plan.specs.declared.units.Op.{Op}
-use Rattle.msrp_plan.proofs.TaskUnits.Nesting.{even_after, held_times}
+use Rattle.std.specs.List.Sorted.{IsStrictlyIncreasing}
+use Rattle.csv.specs.Records.{field_at}
+use Rattle.msrp_plan.specs.Building.{end_fault, is_above, is_none_held, new_task, newest_task, release_fault, takes_releases, task_end_fault, task_fault, tick_fault, with_more_ticks}
+use Rattle.msrp_plan.specs.Names.{has_name}
+use Rattle.msrp_plan.specs.ReleaseTimes.{AreListed, AreTimes, lacks_release}
+use Rattle.msrp_plan.specs.WellFormed.{IsTask, IsWhole}
 use Rattle.msrp_text.specs.PlanText.{declaration, release_record, step_record, steps_of, task_records, times_records}
 use Rattle.msrp_text.specs.Reading.{body_fault, with_record}
 use Rattle.msrp_text.proofs.Accepting.{Tells, name_is_new, name_told, names_pass, tells_first, tells_none, tells_then}

@@ -1,26 +1,17 @@
 -- The units of a task, told step by step, are accepted.
-use Rattle.std.proofs.Common.{◌≡◌, ℕ, suc, ◌+◌, ◌-◌, ◌<◌, ◌≤◌, ◌==◌, Bool, true, false, cond, List, [], ◌∷◌, ◌++◌, map, set, take, drop, length, replicate, Option, Some, None, is_none, refl, ap, sym, ◌∙◌, subst, arith, append_assoc, append-nil, nat_le, nat_lt, nat_eq, length-append}
-use Rattle.std.specs.Prelude.{slice_index_or, unwrap_or}
-use Rattle.std.specs.List.{AllByRecursion, flat_map, list_any}
-use Rattle.std.proofs.Math.Seq.{drop-cons, get_or-append_seam, set-append_seam, take-append_seam}
-use Rattle.std.proofs.lemmas.Bool.Decides.{nat_tests}
-use Rattle.std.proofs.lemmas.List.{length_push, length-replicate, length-take-le, take-append-drop}
-use Rattle.std.proofs.lemmas.Option.{same_Some, none-some}
-use Rattle.csv.specs.Records.{field_at}
-use Rattle.msrp_plan.specs.Building.{fault_if, held_count, is_improper, is_misnested, is_too_much, is_undeclared, newest_task, op_fault, units_of, with_more_units, with_newest, with_units}
-use Rattle.msrp_plan.specs.Names.{name_position}
-use Rattle.msrp_plan.specs.Plan.{PlanModel, TaskModel, no_task}
-use Rattle.msrp_plan.specs.ReleaseTimes.{lacks_release}
-use Rattle.msrp_plan.specs.Units.{held_after, held_with}
-use Rattle.msrp_plan.specs.WellFormed.{AreNames, IsLocking}
-use Rattle.msrp_plan.specs.declared.faults.PlanFault.TheVariants.{Limit, Nesting, Releases, Undeclared}
+use Rattle.msrp_plan.proofs.Common.{◌≡◌, ℕ, suc, ◌+◌, ◌-◌, ◌<◌, ◌≤◌, ◌==◌, Bool, true, false, cond, List, [], ◌∷◌, ◌++◌, map, set, take, drop, length, replicate, Option, Some, None, is_none, refl, ap, sym, ◌∙◌, subst, arith, append_assoc, append-nil, nat_le, nat_lt, nat_eq, length-append, slice_index_or, AllByRecursion, flat_map, list_any, drop-cons, get_or-append_seam, take-append_seam, nat_tests, length_push, length-replicate, length-take-le, take-append-drop, same_Some, none-some, name_position, PlanModel, TaskModel, no_task, held_after, held_with, AreNames, IsLocking, held_push}
 use Rattle.msrp_plan.specs.declared.ids.ResId.{ResId}
 use Rattle.msrp_plan.specs.declared.rows.TextVersion.{TextVersion}
 use Rattle.msrp_plan.specs.declared.units.Op.{Op}
-use Rattle.msrp_plan.specs.declared.units.Op.TheVariants as unit
 use Rattle.msrp_plan.specs.declared.units.Step.{Step}
+use Rattle.std.specs.Prelude.{unwrap_or}
+use Rattle.std.proofs.Math.Seq.{set-append_seam}
+use Rattle.csv.specs.Records.{field_at}
+use Rattle.msrp_plan.specs.Building.{fault_if, held_count, is_improper, is_misnested, is_too_much, is_undeclared, newest_task, op_fault, units_of, with_more_units, with_newest, with_units}
+use Rattle.msrp_plan.specs.ReleaseTimes.{lacks_release}
+use Rattle.msrp_plan.specs.declared.faults.PlanFault.TheVariants.{Limit, Nesting, Releases, Undeclared}
+use Rattle.msrp_plan.specs.declared.units.Op.TheVariants as unit
 use Rattle.msrp_plan.specs.declared.units.Step.TheVariants.{Run, Lock, Unlock}
-use Rattle.msrp_plan.proofs.TaskUnits.Nesting.{held_push}
 use Rattle.msrp_text.specs.PlanText.{joined, step_record, steps_of}
 use Rattle.msrp_text.specs.Fields.{text_of}
 use Rattle.msrp_text.specs.Reading.{body_fault, step_told, undeclared, with_record}

@@ -1,22 +1,16 @@
 -- Records that are accepted one after the other, and the plan that they tell.
-use Rattle.std.proofs.Common.{◌≡◌, ℕ, ◌+◌, ◌<◌, ◌≤◌, ◌||◌, Bool, true, false, not, cond, List, [], ◌∷◌, ◌++◌, map, length, Some, None, Ok, refl, ap, sym, ◌∙◌, subst, arith, append_assoc, append-nil, nat_le, nat_lt, length-append}
-use Rattle.std.specs.Prelude.{fold}
-use Rattle.std.specs.List.{AllByRecursion, AllPass, IsDistinct, list_any, list_all, position_or_len}
-use Rattle.std.specs.Char.{is_ascii_lowercase}
-use Rattle.std.specs.Str.{IsAscii, bytes_eq}
-use Rattle.std.proofs.Math.Seq.{get_or-append_seam}
-use Rattle.std.proofs.lemmas.Bool.{and_parts, lt-ltb}
-use Rattle.std.proofs.lemmas.Bool.Decides.{nat_tests}
+use Rattle.msrp_plan.proofs.Common.{◌≡◌, ℕ, ◌+◌, ◌<◌, ◌≤◌, ◌||◌, Bool, true, false, not, cond, List, [], ◌∷◌, ◌++◌, map, length, Some, None, Ok, refl, ap, sym, ◌∙◌, subst, arith, append_assoc, append-nil, nat_le, nat_lt, length-append, fold, AllByRecursion, list_any, list_all, position_or_len, is_ascii_lowercase, bytes_eq, get_or-append_seam, and_parts, lt-ltb, nat_tests, is_name, is_name_byte, name_position, PlanModel, AreNames}
+use Rattle.std.specs.List.{IsDistinct}
+use Rattle.msrp_plan.specs.declared.rows.TextVersion.{TextVersion}
+use Rattle.std.specs.List.{AllPass}
+use Rattle.std.specs.Str.{IsAscii}
 use Rattle.std.proofs.lemmas.Cmp.{nat_list_eq_equiv}
 use Rattle.std.proofs.lemmas.Map.Keys.{IsDistinct-head, IsDistinct-tail}
 use Rattle.std.proofs.lemmas.Str.{is_utf8-from_IsUtf8, IsUtf8-from_ascii}
 use Rattle.std.proofs.lemmas.Str.Ascii.{IsAscii-cons, IsAscii-nil}
 use Rattle.csv.specs.Records.{field_at}
 use Rattle.msrp_plan.specs.Building.{finish_fault}
-use Rattle.msrp_plan.specs.Names.{has_name, is_name, is_name_byte, name_position}
-use Rattle.msrp_plan.specs.Plan.{PlanModel}
-use Rattle.msrp_plan.specs.WellFormed.{AreNames}
-use Rattle.msrp_plan.specs.declared.rows.TextVersion.{TextVersion}
+use Rattle.msrp_plan.specs.Names.{has_name}
 use Rattle.msrp_text.specs.Fields.{text_of}
 use Rattle.msrp_text.specs.PlanText.{resource_record}
 use Rattle.msrp_text.specs.Reading.{body_fault, with_record}

@@ -1,6 +1,7 @@
 -- Texts that are compared by the bytes at their ends.
-use Rattle.std.proofs.Common.{◌≡◌, ◌≤◌, ◌+◌, ◌-◌, ◌++◌, ◌∙◌, ℕ, List, length, take, drop, take-append-drop, refl, sym, ap, arith}
-use Rattle.std.proofs.lemmas.List.{length-append, take-take, take_at}
+use Rattle.msrp_plan.proofs.Common.{◌≡◌, ◌≤◌, ◌+◌, ◌-◌, ◌++◌, ◌∙◌, ℕ, List, length, take, drop, refl, sym, ap, arith, take-take, take_at}
+use Rattle.std.proofs.Common.{take-append-drop}
+use Rattle.std.proofs.lemmas.List.{length-append}
 
 -- two lists of one length, which is twice that of a chunk at most, are the same where their first and their last chunks are
 pub ends-same : (k : ℕ) (a b : List ℕ) → length a ≡ length b → length a ≤ k + k → take k a ≡ take k b → drop (length a - k) a ≡ drop (length b - k) b → a ≡ b

@@ -1,11 +1,7 @@
 -- The number that digits stand for, digit by digit.
-use Rattle.std.proofs.Common.{◌≡◌, ◌+◌, ◌-◌, ◌*◌, ◌^◌, ◌<◌, ◌≤◌, ℕ, List, Bool, true, false, length, get_or, arith, refl, sym, fold, ◌&&◌}
+use Rattle.msrp_plan.proofs.Common.{◌≡◌, ◌+◌, ◌-◌, ◌*◌, ◌^◌, ◌<◌, ◌≤◌, ℕ, List, Bool, true, false, length, get_or, arith, refl, sym, fold, ◌&&◌, nat_tests, is_ascii_digit, list_all, is_within}
 use Rattle.std.proofs.Math.Nat.{pow-le-pow_right}
 use Rattle.std.proofs.lemmas.List.Folds.{list_all_at}
-use Rattle.std.proofs.lemmas.Bool.Decides.{nat_tests}
-use Rattle.std.specs.Char.{is_ascii_digit}
-use Rattle.std.specs.List.{list_all}
-use Rattle.msrp_plan.specs.Building.{is_within}
 use Rattle.msrp_text.specs.Fields.{is_number}
 
 -- what digits add to the number of those before them

@@ -1,9 +1,7 @@
 -- The first refusal of a list of records.
-use Rattle.std.proofs.Common.{◌≡◌, ℕ, ◌+◌, ◌-◌, ◌<◌, ◌≤◌, List, Option, Some, None, Ok, Err, length, take, refl, ap, arith, suc, zero}
-use Rattle.std.specs.Prelude.{option_map}
-use Rattle.std.specs.List.{cons_option, filter_map, range_with_len, slice_get}
-use Rattle.msrp_plan.specs.Plan.{PlanModel}
+use Rattle.msrp_plan.proofs.Common.{◌≡◌, ℕ, ◌+◌, ◌-◌, ◌<◌, ◌≤◌, List, Option, Some, None, Ok, Err, length, take, refl, ap, arith, suc, zero, option_map, cons_option, filter_map, range_with_len, PlanModel}
 use Rattle.msrp_plan.specs.declared.faults.PlanFault.{PlanFault}
+use Rattle.std.specs.List.{slice_get}
 use Rattle.msrp_text.specs.Laws.{IsAccepted, IsFirstRefused, fault_of_record}
 use Rattle.msrp_text.specs.Reading.{fault_after, first_or, plan_of, plan_told, refusal_at}
 use Rattle.msrp_text.specs.declared.reading.TextError.{TextError}

@@ -1,14 +1,9 @@
 -- The plan of a list of records, record by record.
-use Rattle.std.proofs.Common.{◌≡◌, ◌⊎◌, ℕ, Bool, true, false, ◌+◌, List, [], ◌∷◌, ◌++◌, Option, Some, None, Result, Ok, Err, length, take, refl, sym, ◌∙◌, ap, inl, inr, arith, append_assoc, append-nil, length-append, suc}
-use Rattle.std.specs.Result.{result_and}
-use Rattle.std.specs.List.{filter_map, range_with_len, slice_get}
-use Rattle.std.proofs.Math.Seq.{take-append_seam}
-use Rattle.std.proofs.lemmas.List.{take_all}
-use Rattle.std.proofs.lemmas.List.Sums.{fold-append}
-use Rattle.std.proofs.lemmas.Option.{slice_get_past}
-use Rattle.msrp_plan.specs.Building.{empty_plan}
-use Rattle.msrp_plan.specs.Plan.{PlanModel}
+use Rattle.msrp_plan.proofs.Common.{◌≡◌, ◌⊎◌, ℕ, Bool, true, false, ◌+◌, List, [], ◌∷◌, ◌++◌, Option, Some, None, Result, Ok, Err, length, take, refl, sym, ◌∙◌, ap, inl, inr, arith, append_assoc, append-nil, length-append, suc, filter_map, range_with_len, take-append_seam, take_all, fold-append, slice_get_past, PlanModel}
 use Rattle.msrp_plan.specs.declared.faults.PlanFault.{PlanFault}
+use Rattle.std.specs.Result.{result_and}
+use Rattle.std.specs.List.{slice_get}
+use Rattle.msrp_plan.specs.Building.{empty_plan}
 use Rattle.msrp_plan.specs.declared.faults.PlanFault.TheVariants as want
 use Rattle.msrp_text.specs.Reading.{Answers, fault_after, first_or, number_told, plan_of, plan_told, refusal_at, version_told, with_record}
 use Rattle.msrp_text.specs.Positions.{IsTaken, IsTakenAt, refusal, position_fault, position_plan, position_with}

@@ -1,10 +1,8 @@
 -- Records judged: what a builder refuses, a reader refuses.
-use Rattle.std.proofs.Common.{◌≡◌, ℕ, Bool, true, false, List, [], Option, Some, None, Result, Ok, Err, length, cond, refl, inl, inr}
-use Rattle.std.proofs.lemmas.Bool.{false≢true}
-use Rattle.msrp_plan.specs.Building.{IsJudged, new_task, task_fault, with_task}
-use Rattle.msrp_plan.specs.Plan.{PlanModel}
-use Rattle.msrp_plan.specs.ReleaseTimes.{Every, Listed}
+use Rattle.msrp_plan.proofs.Common.{◌≡◌, ℕ, Bool, true, false, List, [], Option, Some, None, Result, Ok, Err, length, cond, refl, inl, inr, IsJudged, PlanModel, Every, Listed}
 use Rattle.msrp_plan.specs.declared.faults.PlanFault.{PlanFault}
+use Rattle.std.proofs.lemmas.Bool.{false≢true}
+use Rattle.msrp_plan.specs.Building.{new_task, task_fault, with_task}
 use Rattle.msrp_plan.specs.declared.faults.PlanFault.TheVariants.{Memory}
 use Rattle.msrp_text.specs.Fields.{name_at, number_at}
 use Rattle.msrp_text.specs.Reading.{lacks_number, listed_record_fault, task_record_fault, task_told}

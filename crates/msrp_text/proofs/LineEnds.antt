@@ -1,11 +1,6 @@
 -- The lines of a text, counted as its bytes are taken.
-use Rattle.std.proofs.Common.{◌≡◌, ◌≤◌, ◌<◌, ◌+◌, ◌-◌, ◌^◌, ◌==◌, ◌||◌, ◌++◌, ◌∷◌, ◌∙◌, [], ℕ, List, Bool, true, false, not, Option, Some, None, length, slice_index, take, drop, refl, sym, ap, subst, arith, inl, inr, append_assoc, length-append, length-drop, if◌then◌else◌}
-use Rattle.std.specs.Prelude.{IsSome, option_map}
-use Rattle.std.specs.Io.KnownBytes.{Consumes, Keeps}
-use Rattle.std.specs.List.{list_any}
-use Rattle.std.proofs.lemmas.Bool.{and_parts, eqb-true, not-true, or_cases, or_from, or_parts}
-use Rattle.std.proofs.lemmas.List.{drop-drop, get_or-drop, get_or-take, length-take-le, take_more}
-use Rattle.std.proofs.lemmas.Option.{none-some, same_Some}
+use Rattle.msrp_plan.proofs.Common.{◌≡◌, ◌≤◌, ◌<◌, ◌+◌, ◌-◌, ◌^◌, ◌==◌, ◌||◌, ◌++◌, ◌∷◌, ◌∙◌, [], ℕ, List, Bool, true, false, not, Option, Some, None, length, slice_index, take, drop, refl, sym, ap, subst, arith, inl, inr, append_assoc, length-append, length-drop, if◌then◌else◌, IsSome, option_map, Consumes, Keeps, list_any, and_parts, not-true, or_from, or_parts, drop-drop, get_or-drop, get_or-take, length-take-le, take_more, none-some, same_Some}
+use Rattle.std.proofs.lemmas.Bool.{eqb-true, or_cases}
 use Rattle.csv.specs.declared.parser.State.TheVariants as st
 use Rattle.msrp_text.specs.Ahead.{lines_ahead, unread}
 use Rattle.msrp_text.specs.Lines.{BeginsIn, HasTaken, HasTakenBy, begins_record, byte_before, empty_at, ends_behind, ends_line, is_break, last_behind}

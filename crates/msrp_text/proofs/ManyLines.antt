@@ -1,10 +1,6 @@
 -- Some plain lines, taken at once.
-use Rattle.std.proofs.Common.{◌≡◌, ◌≤◌, ◌<◌, ◌+◌, ◌-◌, ◌++◌, ◌∷◌, ◌∙◌, [], ℕ, List, Bool, true, Option, Some, None, length, take, drop, not, refl, sym, ap, subst, arith, inl, append_assoc, length-take-le}
-use Rattle.std.specs.Prelude.{IsSome, map, option_map}
-use Rattle.std.specs.Io.KnownBytes.{Consumes}
-use Rattle.std.specs.List.{list_all}
-use Rattle.std.proofs.lemmas.Bool.{and_parts}
-use Rattle.std.proofs.lemmas.List.{drop-drop, length-map}
+use Rattle.msrp_plan.proofs.Common.{◌≡◌, ◌≤◌, ◌<◌, ◌+◌, ◌-◌, ◌++◌, ◌∷◌, ◌∙◌, [], ℕ, List, Bool, true, Option, Some, None, length, take, drop, not, refl, sym, ap, subst, arith, inl, append_assoc, IsSome, map, option_map, Consumes, list_all, and_parts, drop-drop, length-map}
+use Rattle.std.proofs.Common.{length-take-le}
 use Rattle.std.proofs.Math.Seq.{drop-append_seam}
 use Rattle.csv.specs.declared.parser.State.TheVariants as st
 use Rattle.msrp_text.specs.Ahead.{unread}

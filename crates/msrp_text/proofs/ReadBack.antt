@@ -1,30 +1,17 @@
 -- What is written of a well-formed plan reads back as that plan.
-use Rattle.std.proofs.Common.{◌≡◌, ℕ, zero, suc, ◌+◌, ◌<◌, ◌≤◌, ◌==◌, ◌||◌, ◌&&◌, Bool, true, false, cond, List, [], ◌∷◌, ◌++◌, map, take, length, length-append, replicate, codes, decimal, Option, Some, None, Ok, refl, ap, sym, ◌∙◌, subst, arith, nat_lt, if◌then◌else◌}
-use Rattle.std.specs.Prelude.{slice_get, slice_index_or}
-use Rattle.std.specs.List.{AllByRecursion, flat_map, list_any, range_with_len}
-use Rattle.std.proofs.lemmas.Bool.Decides.{nat_tests}
-use Rattle.std.proofs.lemmas.List.{get_or-map, length-map, length-replicate}
-use Rattle.std.proofs.lemmas.List.Elements.{recursion_from_All}
-use Rattle.std.proofs.lemmas.List.Folds.{list_any_at}
-use Rattle.std.proofs.lemmas.List.Sums.{sum_by-cons}
-use Rattle.csv.specs.Reading.{strip_bom}
-use Rattle.csv.specs.declared.parser.State.TheVariants as st
-use Rattle.csv.specs.Records.{field_at}
-use Rattle.msrp_plan.specs.Building.{empty_plan, end_fault, finish_fault, holds_global, is_global_lock, is_within, nests_global}
-use Rattle.msrp_plan.specs.Jobs.{jobs}
-use Rattle.msrp_plan.specs.Levels.{is_global}
-use Rattle.msrp_plan.specs.Names.{is_name}
-use Rattle.msrp_plan.specs.Plan.{PlanModel, TaskModel, no_task, task_at}
-use Rattle.msrp_plan.specs.ReleaseTimes.{ReleaseTimes, Every, Listed, AreTimes, is_listed, listed_ticks}
-use Rattle.msrp_plan.specs.Units.{held_after}
-use Rattle.msrp_plan.specs.WellFormed.{IsFlat, IsLocking, IsPlan, IsTask}
+use Rattle.msrp_plan.proofs.Common.{◌≡◌, ℕ, zero, suc, ◌+◌, ◌<◌, ◌≤◌, ◌==◌, ◌||◌, ◌&&◌, Bool, true, false, cond, List, [], ◌∷◌, ◌++◌, map, take, length, length-append, replicate, codes, decimal, Option, Some, None, Ok, refl, ap, sym, ◌∙◌, subst, arith, nat_lt, if◌then◌else◌, slice_get, slice_index_or, AllByRecursion, flat_map, list_any, range_with_len, nat_tests, get_or-map, length-map, length-replicate, recursion_from_All, list_any_at, sum_by-cons, is_within, jobs, is_global, is_name, PlanModel, TaskModel, no_task, task_at, ReleaseTimes, Every, Listed, is_listed, listed_ticks, held_after, IsLocking, IsPlan, even_after, held_times}
 use Rattle.msrp_plan.specs.declared.rows.TextVersion.{TextVersion}
 use Rattle.msrp_plan.specs.declared.rows.TextVersion.TheVariants.{V1, V2}
 use Rattle.msrp_plan.specs.declared.units.Op.{Op}
-use Rattle.msrp_plan.specs.declared.units.Op.TheVariants as unit
 use Rattle.msrp_plan.specs.declared.units.Step.{Step}
+use Rattle.csv.specs.Reading.{strip_bom}
+use Rattle.csv.specs.declared.parser.State.TheVariants as st
+use Rattle.csv.specs.Records.{field_at}
+use Rattle.msrp_plan.specs.Building.{empty_plan, end_fault, finish_fault, holds_global, is_global_lock, nests_global}
+use Rattle.msrp_plan.specs.ReleaseTimes.{AreTimes}
+use Rattle.msrp_plan.specs.WellFormed.{IsFlat, IsTask}
+use Rattle.msrp_plan.specs.declared.units.Op.TheVariants as unit
 use Rattle.msrp_plan.specs.declared.units.Step.TheVariants.{Run, Lock, Unlock}
-use Rattle.msrp_plan.proofs.TaskUnits.Nesting.{even_after, held_times}
 use Rattle.msrp_text.specs.PlanText.{declaration, head_records, plan_records, plan_text, release_record, resource_record, step_record, steps_of, task_records, version_of, version_record, version_text}
 use Rattle.msrp_text.specs.Reading.{cores_fault, number_told, plan_of, ticks_fault, version_fault, version_told}
 use Rattle.msrp_text.specs.Records.{csv_records, records_at}

@@ -1,18 +1,11 @@
 -- Lines of known words and one more field.
-use Rattle.std.proofs.Common.{◌≡◌, ℕ, ◌==◌, ◌++◌, ◌∷◌, ◌∙◌, [], true, false, List, Some, Option, Result, inl, inr, length, length-append, subst, take, slice_index, ◌<◌, ◌+◌, refl, sym, ap, arith, append_assoc, append-nil}
-use Rattle.std.specs.Prelude.{OnOk, codes}
-use Rattle.std.specs.List.{list_any}
-use Rattle.std.proofs.Math.Seq.{take-append-add}
-use Rattle.std.proofs.lemmas.Bool.{or_from, or_parts}
-use Rattle.std.proofs.lemmas.List.{take_more}
-use Rattle.std.proofs.lemmas.Bool.Decides.{nat_tests}
-use Rattle.csv.specs.Records.{field_at}
-use Rattle.msrp_plan.specs.Building.{IsJudged, op_fault, release_fault, takes_releases, units_of, with_release, with_units}
-use Rattle.msrp_plan.specs.Plan.{PlanModel}
+use Rattle.msrp_plan.proofs.Common.{◌≡◌, ℕ, ◌==◌, ◌++◌, ◌∷◌, ◌∙◌, [], true, false, List, Some, Option, Result, inl, inr, length, length-append, subst, take, slice_index, ◌<◌, ◌+◌, refl, sym, ap, arith, append_assoc, append-nil, OnOk, codes, list_any, take-append-add, or_from, or_parts, take_more, nat_tests, IsJudged, PlanModel}
 use Rattle.msrp_plan.specs.declared.rows.TextVersion.{TextVersion}
 use Rattle.msrp_plan.specs.declared.rows.TextVersion.TheVariants.{V2}
 use Rattle.msrp_plan.specs.declared.faults.PlanFault.{PlanFault}
 use Rattle.msrp_plan.specs.declared.units.Step.{Step}
+use Rattle.csv.specs.Records.{field_at}
+use Rattle.msrp_plan.specs.Building.{op_fault, release_fault, takes_releases, units_of, with_release, with_units}
 use Rattle.msrp_plan.specs.declared.units.Step.TheVariants.{Run, Lock, Unlock}
 use Rattle.msrp_text.specs.Fields.{number_of, text_of}
 use Rattle.msrp_text.specs.Plain.{EndsLine, is_mark, is_plain, split_commas, split_from}

@@ -1,12 +1,9 @@
 -- Records of usual lines, taken at a position.
-use Rattle.std.proofs.Common.{◌≡◌, ℕ, Bool, true, false, List, Option, Some, None, Result, Ok, Err, ◌∙◌, ap, subst, inl, inr}
-use Rattle.std.specs.Prelude.{OnOk}
-use Rattle.std.proofs.lemmas.Bool.{false≢true}
-use Rattle.msrp_plan.specs.Building.{IsJudged}
-use Rattle.msrp_plan.specs.Plan.{PlanModel}
+use Rattle.msrp_plan.proofs.Common.{◌≡◌, ℕ, Bool, true, false, List, Option, Some, None, Result, Ok, Err, ◌∙◌, ap, subst, inl, inr, OnOk, IsJudged, PlanModel}
 use Rattle.msrp_plan.specs.declared.faults.PlanFault.{PlanFault}
-use Rattle.msrp_plan.specs.declared.faults.PlanFault.TheVariants as want
 use Rattle.msrp_plan.specs.declared.rows.TextVersion.{TextVersion}
+use Rattle.std.proofs.lemmas.Bool.{false≢true}
+use Rattle.msrp_plan.specs.declared.faults.PlanFault.TheVariants as want
 use Rattle.msrp_text.specs.Positions.{IsTakenAt, position_fault, position_with, refusal}
 use Rattle.msrp_text.specs.Reading.{body_fault, with_record}
 use Rattle.msrp_text.specs.Records.{GivesLine}

@@ -1,28 +1,16 @@
 -- Text that is written record by record, and units that are written one by one.
-use Rattle.std.proofs.Common.{◌≡◌, ℕ, zero, suc, ◌+◌, ◌<◌, ◌≤◌, ◌==◌, Bool, true, false, cond, List, [], ◌∷◌, ◌++◌, map, take, drop, length, Option, Some, refl, ap, sym, ◌∙◌, subst, arith, append_assoc, append-nil, inl, inr}
-use Rattle.std.specs.Prelude.{slice_get, slice_index_or}
-use Rattle.std.specs.List.{flat_map}
-use Rattle.std.proofs.Math.Seq.{drop-cons}
-use Rattle.std.proofs.lemmas.Bool.{cases_lt, eqb-true, ne_eqb}
-use Rattle.std.proofs.lemmas.Bool.Decides.{nat_tests}
-use Rattle.std.proofs.lemmas.Grind.{flat_map-append}
-use Rattle.std.proofs.lemmas.List.{map-append, take_all, take_more}
-use Rattle.std.proofs.lemmas.List.Sums.{count_by_more_no, count_by_more_yes}
-use Rattle.std.proofs.lemmas.Option.{slice_get-get_or, get_or_from_slice_get, slice_get_within}
-use Rattle.msrp_plan.specs.Bytes.{Wrote}
-use Rattle.msrp_plan.specs.Plan.{PlanModel, TaskModel}
-use Rattle.msrp_plan.specs.ReleaseTimes.{ReleaseTimes, Every, Listed, is_listed, listed_ticks, tick_of}
-use Rattle.msrp_plan.specs.Times.{times_told}
-use Rattle.msrp_plan.specs.declared.times.Times.TheVariants as told
-use Rattle.msrp_plan.specs.Units.{is_lock_of, is_unlock_of, locks}
-use Rattle.msrp_plan.specs.WellFormed.{IsLocking}
+use Rattle.msrp_plan.proofs.Common.{◌≡◌, ℕ, zero, suc, ◌+◌, ◌<◌, ◌≤◌, ◌==◌, Bool, true, false, cond, List, [], ◌∷◌, ◌++◌, map, take, drop, length, Option, Some, refl, ap, sym, ◌∙◌, subst, arith, append_assoc, append-nil, inl, inr, slice_get, slice_index_or, flat_map, drop-cons, cases_lt, nat_tests, flat_map-append, map-append, take_all, take_more, slice_get-get_or, get_or_from_slice_get, slice_get_within, Wrote, PlanModel, TaskModel, ReleaseTimes, Every, Listed, is_listed, listed_ticks, is_lock_of, is_unlock_of, locks, IsLocking, wrote-more}
 use Rattle.msrp_plan.specs.declared.bytes.Sink.{Sink}
 use Rattle.msrp_plan.specs.declared.ids.ResId.{ResId}
 use Rattle.msrp_plan.specs.declared.units.Op.{Op}
-use Rattle.msrp_plan.specs.declared.units.Op.TheVariants as unit
 use Rattle.msrp_plan.specs.declared.units.Step.{Step}
+use Rattle.std.proofs.lemmas.Bool.{eqb-true, ne_eqb}
+use Rattle.std.proofs.lemmas.List.Sums.{count_by_more_no, count_by_more_yes}
+use Rattle.msrp_plan.specs.ReleaseTimes.{tick_of}
+use Rattle.msrp_plan.specs.Times.{times_told}
+use Rattle.msrp_plan.specs.declared.times.Times.TheVariants as told
+use Rattle.msrp_plan.specs.declared.units.Op.TheVariants as unit
 use Rattle.msrp_plan.specs.declared.units.Step.TheVariants.{Run, Lock, Unlock}
-use Rattle.msrp_plan.proofs.Writes.{wrote-more}
 use Rattle.msrp_text.specs.PlanText.{declaration, joined, record_text, records_text, step_record, steps_of}
 use Rattle.msrp_text.specs.Writing.{IsNamedUnit, run_after, run_steps, steps_before, steps_text}
 

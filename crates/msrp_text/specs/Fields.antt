@@ -1,11 +1,7 @@
 -- What the fields of a record say: words, numbers and names.
-use Rattle.std.specs.Prelude.{ℕ, Bool, false, not, List, [], length, Option, Some, None, fold, slice_index, unwrap_or, ◌+◌, ◌-◌, ◌*◌, ◌==◌, ◌&&◌, ◌||◌, if◌then◌else◌}
-use Rattle.std.specs.Char.{is_ascii_digit}
-use Rattle.std.specs.List.{list_all}
-use Rattle.std.specs.Option.{option_and_then}
-use Rattle.std.specs.Str.{bytes_eq, is_utf8}
+use Rattle.msrp_plan.specs.Common.{ℕ, Bool, false, not, List, [], length, Option, Some, None, fold, slice_index, unwrap_or, ◌+◌, ◌-◌, ◌*◌, ◌==◌, ◌&&◌, ◌||◌, if◌then◌else◌, is_ascii_digit, list_all, option_and_then, bytes_eq, is_within}
+use Rattle.std.specs.Str.{is_utf8}
 use Rattle.csv.specs.Records.{field_at}
-use Rattle.msrp_plan.specs.Building.{is_within}
 
 -- a number is `0`, or a digit 1 to 9 and then digits, and has nine digits at most
 abbrev pub is_number : List ℕ → Bool

@@ -1,13 +1,11 @@
 -- A plan as text: version 1 where no task is released by a list, else version 2.
-use Rattle.std.specs.Prelude.{ℕ, List, [], ◌∷◌, ◌++◌, codes, decimal, map, slice_index_or, ◌+◌, if◌then◌else◌}
-use Rattle.std.specs.List.{flat_map, list_any}
-use Rattle.msrp_plan.specs.Plan.{PlanModel, TaskModel}
-use Rattle.msrp_plan.specs.ReleaseTimes.{Every, Listed, ReleaseTimes, is_listed, listed_ticks}
+use Rattle.msrp_plan.specs.Common.{ℕ, List, [], ◌∷◌, ◌++◌, codes, decimal, map, slice_index_or, ◌+◌, if◌then◌else◌, flat_map, list_any, PlanModel, TaskModel, Every, Listed, ReleaseTimes, listed_ticks}
 use Rattle.msrp_plan.specs.declared.rows.TextVersion.{TextVersion}
 use Rattle.msrp_plan.specs.declared.rows.TextVersion.TheVariants.{V1, V2}
 use Rattle.msrp_plan.specs.declared.units.Op.{Op}
-use Rattle.msrp_plan.specs.declared.units.Op.TheVariants as unit
 use Rattle.msrp_plan.specs.declared.units.Step.{Step}
+use Rattle.msrp_plan.specs.ReleaseTimes.{is_listed}
+use Rattle.msrp_plan.specs.declared.units.Op.TheVariants as unit
 use Rattle.msrp_plan.specs.declared.units.Step.TheVariants.{Run, Lock, Unlock}
 
 -- ---- records

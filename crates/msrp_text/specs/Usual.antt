@@ -1,11 +1,10 @@
 -- Lines that a plan mostly consists of: words that are known, and one more field.
-use Rattle.std.specs.Prelude.{ℕ, Bool, true, false, List, ◌++◌, length, take, Option, Some, Result, Ok, Err, OnOk, codes, nat_le, ◌≡◌, ◌≤◌, ◌<◌}
-use Rattle.std.specs.List.{list_any}
-use Rattle.msrp_plan.specs.Building.{IsJudged}
-use Rattle.msrp_plan.specs.Plan.{PlanModel}
+use Rattle.msrp_plan.specs.Common.{ℕ, Bool, true, false, List, ◌++◌, length, take, Option, Some, Ok, Err, OnOk, codes, nat_le, ◌≡◌, ◌≤◌, ◌<◌, list_any, PlanModel}
 use Rattle.msrp_plan.specs.declared.faults.PlanFault.{PlanFault}
 use Rattle.msrp_plan.specs.declared.rows.TextVersion.{TextVersion}
 use Rattle.msrp_plan.specs.declared.units.Step.{Step}
+use Rattle.std.specs.Prelude.{Result}
+use Rattle.msrp_plan.specs.Building.{IsJudged}
 use Rattle.msrp_plan.specs.declared.units.Step.TheVariants.{Run, Lock, Unlock}
 use Rattle.msrp_text.specs.Fields.{number_of, text_of}
 use Rattle.msrp_text.specs.Plain.{EndsLine, is_plain, split_commas}

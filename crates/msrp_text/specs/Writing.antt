@@ -1,9 +1,8 @@
 -- How units are written one by one: units of work wait until a lock or an unlock, or the end.
-use Rattle.std.specs.Prelude.{ℕ, List, [], ◌∷◌, ◌++◌, length, map, ◌==◌, ◌<◌, ◌+◌, ⊤, if◌then◌else◌}
-use Rattle.msrp_plan.specs.Plan.{PlanModel}
+use Rattle.msrp_plan.specs.Common.{ℕ, List, [], ◌∷◌, ◌++◌, length, map, ◌==◌, ◌<◌, ◌+◌, ⊤, if◌then◌else◌, PlanModel}
 use Rattle.msrp_plan.specs.declared.units.Op.{Op}
-use Rattle.msrp_plan.specs.declared.units.Op.TheVariants as unit
 use Rattle.msrp_plan.specs.declared.units.Step.{Step}
+use Rattle.msrp_plan.specs.declared.units.Op.TheVariants as unit
 use Rattle.msrp_plan.specs.declared.units.Step.TheVariants.{Run, Lock, Unlock}
 use Rattle.msrp_text.specs.PlanText.{records_text, step_record}
 

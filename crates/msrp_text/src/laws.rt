@@ -1,10 +1,8 @@
 //! Laws over the definitions: what an answer says of the records, one by one. Each function does nothing; its
 //! contract is the law.
-ghost use Rattle.std.specs.Prelude.{◌≡◌, ℕ, List, Ok, Err};
+ghost use Rattle.msrp_plan.specs.Common.{◌≡◌, ℕ, List, Ok, Err, PlanModel, IsPlan};
 ghost use Rattle.msrp_plan.specs.declared.faults.PlanFault.{PlanFault};
-ghost use Rattle.msrp_plan.specs.Plan.{PlanModel};
 ghost use Rattle.msrp_text.specs.Laws.{IsAccepted, IsFirstRefused};
-ghost use Rattle.msrp_plan.specs.WellFormed.{IsPlan};
 ghost use Rattle.msrp_text.specs.PlanText.{plan_text};
 ghost use Rattle.msrp_text.specs.Reading.{csv_records, plan_of};
 ghost use Rattle.msrp_text.specs.declared.reading.TextError.TheVariants.{At};

@@ -1,8 +1,8 @@
 //! Plan text, record by record.
-ghost use Rattle.std.specs.Prelude.{◌≡◌, Some, None, Ok, OnOk, true};
+ghost use Rattle.msrp_plan.specs.Common.{◌≡◌, Some, None, Ok, OnOk, true, empty_plan, units_of, with_release, with_resource, with_task, with_units};
 ghost use Rattle.std.specs.Result.{result_and};
 ghost use Rattle.csv.specs.Records.{fields_of};
-ghost use Rattle.msrp_plan.specs.Building.{IsJudged, empty_plan, units_of, with_release, with_resource, with_task, with_units};
+ghost use Rattle.msrp_plan.specs.Building.{IsJudged};
 ghost use Rattle.msrp_text.specs.Fields.{name_at};
 ghost use Rattle.msrp_text.specs.Reading.{body_fault, cores_fault, is_lock_word, is_op_word, list_fault, listed_record_fault, listed_told, number_told, op_record_fault, release_record_fault, resource_record_fault, resource_told, step_told, task_record_fault, task_told, ticks_fault, version_fault, version_told, with_list_record, with_record};
 ghost use Rattle.msrp_text.specs.Positions.{IsTaken, numbered_step, position_fault, position_plan, position_with, task_numbers};

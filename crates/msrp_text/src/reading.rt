@@ -1,8 +1,7 @@
 //! Plan text, read.
-ghost use Rattle.std.specs.Prelude.{◌≡◌, ◌↔◌, ℕ, List, Some, None, Ok, Err, true};
+ghost use Rattle.msrp_plan.specs.Common.{◌≡◌, ◌↔◌, ℕ, List, Some, None, Ok, Err, true, source_failed, source_remaining};
 ghost use Rattle.std.specs.Result.{result_and};
 ghost use Rattle.csv.specs.Records.{fields_of};
-ghost use Rattle.msrp_plan.specs.Bytes.{source_failed, source_remaining};
 ghost use Rattle.msrp_text.specs.Reading.{Answers, csv_records, plan_of};
 ghost use Rattle.msrp_text.specs.Records.{records_left};
 ghost use Rattle.msrp_text.specs.Positions.{IsTakenAt, ReadsAs, refusal, position_fault, position_plan, position_with};

@@ -1,10 +1,11 @@
 //! Worked examples, computed from the definitions alone: texts, byte by byte, with the plan that they tell or
 //! the refusal. Each function does nothing; its contract is the example.
-ghost use Rattle.std.specs.Prelude.{◌≡◌, ◌++◌, codes, Ok};
+ghost use Rattle.msrp_plan.specs.Common.{◌≡◌, ◌++◌, codes, Ok};
+ghost use Rattle.msrp_plan.specs.declared.faults.PlanFault.TheVariants.{Limit};
 ghost use Rattle.msrp_text.specs.Lines.{BeginsIn};
 ghost use Rattle.msrp_text.specs.Reading.{csv_records, plan_of};
 ghost use Rattle.msrp_text.specs.Examples.{bare_list, head, listed_head, listed_plan, locking_plan, offset_plan, one_task_plan, refused};
-ghost use Rattle.msrp_plan.specs.declared.faults.PlanFault.TheVariants.{Version, OutOfPlace, FieldCount, Number, Name, Taken, Limit, Undeclared, Core, NoUnit, Releases};
+ghost use Rattle.msrp_plan.specs.declared.faults.PlanFault.TheVariants.{Version, OutOfPlace, FieldCount, Number, Name, Taken, Undeclared, Core, NoUnit, Releases};
 
 /// One task, which works for two ticks of three; also with its work told in two records, and with fields in
 /// quotes and lines that end as they do on other systems.

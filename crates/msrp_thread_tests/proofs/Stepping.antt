@@ -1,10 +1,5 @@
 -- Two cores: how they begin, what their joined seats hold in the end, and how their logs fit the settled board.
-use Rattle.std.proofs.Common.{◌≡◌, ℕ, ◌<◌, [], ◌∷◌, Some, nat_lt, arith, sym, ap, ◌∙◌, subst}
-use Rattle.std.specs.Prelude.{slice_get, false}
-use Rattle.std.proofs.lemmas.Bool.{lt-ltb}
-use Rattle.msrp_plan.specs.Aheads.{carries_ahead}
-use Rattle.msrp_plan.specs.Runs.{CoreRun}
-use Rattle.msrp_plan.specs.Plan.{PlanModel}
+use Rattle.msrp_plan.proofs.Common.{◌≡◌, ℕ, ◌<◌, [], ◌∷◌, Some, nat_lt, arith, sym, ap, ◌∙◌, subst, slice_get, false, lt-ltb, carries_ahead, CoreRun, PlanModel}
 use Rattle.msrp_board.specs.declared.answers.SeatPhase.TheVariants.{Waiting}
 use Rattle.msrp_board.specs.declared.books.Book.{Book}
 use Rattle.msrp_board.specs.declared.books.BoardSize.{BoardSize}

@@ -1,11 +1,5 @@
 -- What each rule of a row's record makes of it, and the row that it tells.
-use Rattle.std.proofs.Common.{◌≡◌, ℕ, Bool, true, false, cond, not, ◌||◌, ◌==◌, List, length, Option, Some, None, Ok, Err, is_none, is_some, unwrap_or, option_map, refl, sym, ap, ◌∙◌}
-use mathlib.Core.Bool.{Bool-set, true≢false}
-use Rattle.std.specs.Option.{option_and_then}
-use Rattle.std.proofs.lemmas.Bool.{and_parts}
-use Rattle.csv.specs.Records.{field_at}
-use Rattle.msrp_plan.specs.Plan.{PlanModel}
-use Rattle.msrp_plan.specs.Shape.{has_shape, may_carry}
+use Rattle.msrp_plan.proofs.Common.{◌≡◌, ℕ, Bool, true, false, cond, not, ◌||◌, ◌==◌, List, length, Option, Some, None, Ok, Err, is_none, is_some, unwrap_or, option_map, refl, sym, ap, ◌∙◌, option_and_then, and_parts, PlanModel, has_shape, may_carry}
 use Rattle.msrp_plan.specs.declared.ids.JobId.{JobId}
 use Rattle.msrp_plan.specs.declared.ids.ResId.{ResId}
 use Rattle.msrp_plan.specs.declared.ids.TaskId.{TaskId}
@@ -14,6 +8,8 @@ use Rattle.msrp_plan.specs.declared.rows.Kind.TheVariants.{Idle, Run, Queue}
 use Rattle.msrp_plan.specs.declared.rows.Row.{Row}
 use Rattle.msrp_plan.specs.declared.rows.TextVersion.{TextVersion}
 use Rattle.msrp_plan.specs.declared.rows.TextVersion.TheVariants.{V1, V2}
+use mathlib.Core.Bool.{Bool-set, true≢false}
+use Rattle.csv.specs.Records.{field_at}
 use Rattle.msrp_text.specs.Fields.{number_at, number_of}
 use Rattle.msrp_trace.specs.Rows.{ahead_told, fault_if, field_count, has_its_ahead, has_parts, is_dash, is_shaped, job_told, job_with, kind_fault, kind_told, lacks_name, lacks_number, res_named, res_told, row_fault, row_if, row_told, row_with, task_named, task_told, told_at}
 use Rattle.msrp_trace.specs.RowParts.{Reads}

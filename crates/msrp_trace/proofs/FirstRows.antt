@@ -1,11 +1,5 @@
 -- The row of the next record, where its tick and its core are known.
-use Rattle.std.proofs.Common.{◌≡◌, ℕ, ◌+◌, ◌-◌, ◌^◌, ◌<◌, ◌||◌, Bool, true, false, not, List, [], ◌∷◌, decimal, Option, Some, None, is_none, unwrap_or, refl, sym, ap, ◌∙◌, arith, subst, if◌then◌else◌}
-use Rattle.std.specs.Prelude.{option_map}
-use Rattle.std.proofs.lemmas.Bool.{or_parts}
-use Rattle.std.proofs.lemmas.Option.{same_Some}
-use Rattle.csv.specs.Records.{field_at}
-use Rattle.msrp_plan.specs.Plan.{PlanModel}
-use Rattle.msrp_plan.specs.Shape.{has_shape, may_carry}
+use Rattle.msrp_plan.proofs.Common.{◌≡◌, ℕ, ◌+◌, ◌-◌, ◌^◌, ◌<◌, ◌||◌, Bool, true, false, not, List, [], ◌∷◌, decimal, Option, Some, None, is_none, unwrap_or, refl, sym, ap, ◌∙◌, arith, subst, if◌then◌else◌, option_map, or_parts, same_Some, PlanModel, has_shape, may_carry}
 use Rattle.msrp_plan.specs.declared.ids.CoreId.{CoreId}
 use Rattle.msrp_plan.specs.declared.ids.JobId.{JobId}
 use Rattle.msrp_plan.specs.declared.ids.ResId.{ResId}
@@ -13,6 +7,7 @@ use Rattle.msrp_plan.specs.declared.rows.Kind.{Kind}
 use Rattle.msrp_plan.specs.declared.rows.Kind.TheVariants.{Idle}
 use Rattle.msrp_plan.specs.declared.rows.Row.{Row}
 use Rattle.msrp_plan.specs.declared.rows.TextVersion.{TextVersion}
+use Rattle.csv.specs.Records.{field_at}
 use Rattle.msrp_text.specs.Fields.{digits_value, is_number, number_at, number_of}
 use Rattle.msrp_text.specs.Plain.{BeginsWithDigit, is_plain_field}
 use Rattle.msrp_text.specs.Records.{FirstBegins, KeepsRecords}

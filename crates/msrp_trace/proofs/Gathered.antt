@@ -1,8 +1,6 @@
 -- Texts that were gathered, one after the other.
-use Rattle.std.proofs.Common.{◌≡◌, ℕ, List, [], ◌++◌, Option, ap, sym, ◌∙◌, append_assoc, append-nil}
-use Rattle.msrp_plan.specs.Bytes.{Wrote}
+use Rattle.msrp_plan.proofs.Common.{◌≡◌, ℕ, List, [], ◌++◌, Option, ap, sym, ◌∙◌, append_assoc, append-nil, Wrote, wrote-more}
 use Rattle.msrp_plan.specs.declared.bytes.Sink.{Sink}
-use Rattle.msrp_plan.proofs.Writes.{wrote-more}
 use Rattle.msrp_trace.specs.Gathering.{Gathers}
 
 -- two texts

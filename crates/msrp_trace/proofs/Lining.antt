@@ -1,8 +1,8 @@
 -- The text that a reader reads, one record more.
-use Rattle.std.proofs.Common.{◌≡◌, ◌+◌, ℕ, List, Option, Result, Err, sym, subst}
+use Rattle.msrp_plan.proofs.Common.{◌≡◌, ◌+◌, ℕ, List, Option, Result, Err, sym, subst}
+use Rattle.msrp_plan.specs.declared.rows.Row.{Row}
 use Rattle.msrp_text.specs.Lines.{HasRead}
 use Rattle.msrp_text.specs.declared.records.RecordReader.{RecordReader}
-use Rattle.msrp_plan.specs.declared.rows.Row.{Row}
 use Rattle.msrp_trace.specs.Readers.{HasReadBehind, HasReadTo}
 use Rattle.msrp_trace.specs.RowParts.{ReadsAt}
 use Rattle.msrp_trace.specs.declared.faults.TraceError.{TraceError}

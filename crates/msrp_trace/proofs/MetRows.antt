@@ -1,7 +1,5 @@
 -- A row whose text comes next.
-use Rattle.std.proofs.Common.{◌≡◌, ℕ, ◌+◌, true, List, [], ◌∷◌, ◌++◌, codes, decimal, Option, Some, Ok, option_map, refl, sym, ap, ◌∙◌, subst, append_assoc}
-use Rattle.msrp_plan.specs.Plan.{PlanModel}
-use Rattle.msrp_plan.specs.WellFormed.{IsPlan}
+use Rattle.msrp_plan.proofs.Common.{◌≡◌, ℕ, ◌+◌, true, List, [], ◌∷◌, ◌++◌, codes, decimal, Option, Some, Ok, option_map, refl, sym, ap, ◌∙◌, subst, append_assoc, PlanModel, IsPlan}
 use Rattle.msrp_plan.specs.declared.rows.Row.{Row}
 use Rattle.msrp_plan.specs.declared.rows.TextVersion.{TextVersion}
 use Rattle.std.proofs.lemmas.List.{append_cancel_right}

@@ -1,18 +1,5 @@
 -- The rows of a legal run name what the plan has, and their numbers are short.
-use Rattle.std.proofs.Common.{◌≡◌, ℕ, zero, suc, ◌+◌, ◌*◌, ◌<◌, ◌≤◌, ◌&&◌, Bool, true, List, [], ◌∷◌, ◌++◌, map, Option, Some, None, IfSome, length, refl, sym, subst, arith, slice_get, length-append, lt-ltb, nat_lt, count_by}
-use Rattle.std.proofs.Math.Nat.{div-le_self, mul-le-mul_left, mul-le-mul_right}
-use Rattle.std.specs.List.{AllByRecursion, cons_option, filter_map, list_all, range_with_len}
-use Rattle.std.proofs.lemmas.Bool.{and_from}
-use Rattle.std.proofs.lemmas.List.{length-drop}
-use Rattle.std.proofs.lemmas.List.Elements.{All-contains, All-from_recursion}
-use Rattle.msrp_plan.specs.Plan.{PlanModel, release, task_at, units}
-use Rattle.msrp_plan.specs.Jobs.{job_at, jobs, jobs_of, jobs_on}
-use Rattle.msrp_plan.specs.Actions.{res_of_unit}
-use Rattle.msrp_plan.specs.Aheads.{carries_its_ahead}
-use Rattle.msrp_plan.specs.Queues.{fifo, is_release_of, requester}
-use Rattle.msrp_plan.specs.Runs.{EachAfter, IsLegal, IsRunStart}
-use Rattle.msrp_plan.specs.Shape.{has_shape, is_queue, may_carry}
-use Rattle.msrp_plan.specs.WellFormed.{IsPlan}
+use Rattle.msrp_plan.proofs.Common.{◌≡◌, ℕ, zero, suc, ◌+◌, ◌*◌, ◌<◌, ◌≤◌, ◌&&◌, Bool, true, List, [], ◌∷◌, ◌++◌, map, Option, Some, None, IfSome, length, refl, sym, subst, arith, slice_get, length-append, nat_lt, count_by, mul-le-mul_left, mul-le-mul_right, AllByRecursion, cons_option, filter_map, list_all, range_with_len, and_from, All-contains, All-from_recursion, PlanModel, release, task_at, units, job_at, jobs, jobs_of, jobs_on, res_of_unit, carries_its_ahead, fifo, is_release_of, requester, EachAfter, IsLegal, IsRunStart, has_shape, is_queue, may_carry, IsPlan, core_jobs_below, all_filtered, IsTurn, idle_res, legal_due, legal_turn}
 use Rattle.msrp_plan.specs.declared.ids.JobId.{JobId}
 use Rattle.msrp_plan.specs.declared.ids.ResId.{ResId}
 use Rattle.msrp_plan.specs.declared.rows.Kind.{Kind}
@@ -21,11 +8,11 @@ use Rattle.msrp_plan.specs.declared.rows.Row.{Row}
 use Rattle.msrp_plan.specs.declared.rows.TextVersion.{TextVersion}
 use Rattle.msrp_plan.specs.declared.rows.TextVersion.TheVariants.{V1, V2}
 use Rattle.msrp_plan.specs.declared.units.Op.{Op}
+use Rattle.std.proofs.Common.{lt-ltb}
+use Rattle.std.proofs.Math.Nat.{div-le_self}
+use Rattle.std.proofs.lemmas.List.{length-drop}
 use Rattle.msrp_plan.specs.declared.units.Op.TheVariants.{Run, Lock, Unlock}
 use Rattle.msrp_plan.proofs.Legality.Aheads.{ahead_is}
-use Rattle.msrp_plan.proofs.Jobs.JobLists.{core_jobs_below}
-use Rattle.msrp_plan.proofs.Lists.Least.{all_filtered}
-use Rattle.msrp_plan.proofs.Legality.LegalRows.{IsTurn, idle_res, legal_due, legal_turn}
 use Rattle.msrp_text.proofs.ReadBack.{all_gathered}
 use Rattle.msrp_text.proofs.Written.{named_unit}
 use Rattle.msrp_trace.specs.Laws.{as_read, has_short_ahead, has_short_job, has_short_numbers, is_short, is_told_whole}

@@ -1,25 +1,5 @@
 -- What is written of rows reads back as those rows.
-use Rattle.std.proofs.Common.{◌≡◌, ℕ, ◌+◌, ◌*◌, ◌<◌, ◌≤◌, ◌==◌, ◌&&◌, ◌||◌, not, true, false, cond, List, [], ◌∷◌, ◌++◌, map, length, decimal, Option, Some, None, is_none, is_some, option_map, unwrap_or, refl, ap, sym, ◌∙◌, subst, arith, nat_lt, nat_le}
-use Rattle.std.specs.Prelude.{slice_index_or}
-use Rattle.std.specs.List.{AllByRecursion, flat_map, list_all}
-use Rattle.std.specs.Char.{is_ascii_lowercase}
-use Rattle.std.specs.Str.{bytes_eq}
-use Rattle.std.proofs.lemmas.Bool.{and_parts, and_from, false_from_ne_true}
-use mathlib.Core.Bool.{true≢false}
-use Rattle.std.proofs.lemmas.Bool.Decides.{nat_tests}
-use Rattle.std.proofs.lemmas.Fmt.{length-decimal-le}
-use Rattle.std.proofs.lemmas.List.{get_or-map, length-append, length-map}
-use Rattle.std.proofs.lemmas.Option.{slice_get-get_or}
-use Rattle.csv.specs.Reading.{strip_bom}
-use Rattle.csv.specs.Records.{field_at}
-use Rattle.csv.specs.declared.parser.State.TheVariants as st
-use Rattle.msrp_plan.specs.Aheads.{carries_ahead, carries_its_ahead, without_ahead}
-use Rattle.msrp_plan.specs.Names.{is_name, is_name_byte}
-use Rattle.msrp_plan.specs.Plan.{PlanModel, TaskModel, no_task, task_at, task_of}
-use Rattle.msrp_plan.specs.Shape.{has_shape, is_queue, may_carry}
-use Rattle.msrp_plan.specs.Runs.{IsRunStart}
-use Rattle.msrp_plan.specs.WellFormed.{IsPlan}
-use Rattle.msrp_plan.specs.Words.{kind_text}
+use Rattle.msrp_plan.proofs.Common.{◌≡◌, ℕ, ◌+◌, ◌*◌, ◌<◌, ◌≤◌, ◌==◌, ◌&&◌, ◌||◌, not, true, false, cond, List, [], ◌∷◌, ◌++◌, map, length, decimal, Option, Some, None, is_none, is_some, option_map, unwrap_or, refl, ap, sym, ◌∙◌, subst, arith, nat_lt, nat_le, slice_index_or, AllByRecursion, flat_map, list_all, is_ascii_lowercase, bytes_eq, and_parts, and_from, false_from_ne_true, nat_tests, get_or-map, length-map, slice_get-get_or, carries_ahead, carries_its_ahead, is_name, is_name_byte, PlanModel, TaskModel, no_task, task_at, task_of, has_shape, is_queue, may_carry, IsRunStart, IsPlan}
 use Rattle.msrp_plan.specs.declared.ids.JobId.{JobId}
 use Rattle.msrp_plan.specs.declared.ids.ResId.{ResId}
 use Rattle.msrp_plan.specs.declared.rows.Kind.{Kind}
@@ -27,6 +7,14 @@ use Rattle.msrp_plan.specs.declared.rows.Kind.TheVariants.{Idle, Run, Lock, Unlo
 use Rattle.msrp_plan.specs.declared.rows.Row.{Row}
 use Rattle.msrp_plan.specs.declared.rows.TextVersion.{TextVersion}
 use Rattle.msrp_plan.specs.declared.rows.TextVersion.TheVariants.{V1, V2}
+use mathlib.Core.Bool.{true≢false}
+use Rattle.std.proofs.lemmas.Fmt.{length-decimal-le}
+use Rattle.std.proofs.lemmas.List.{length-append}
+use Rattle.csv.specs.Reading.{strip_bom}
+use Rattle.csv.specs.Records.{field_at}
+use Rattle.csv.specs.declared.parser.State.TheVariants as st
+use Rattle.msrp_plan.specs.Aheads.{without_ahead}
+use Rattle.msrp_plan.specs.Words.{kind_text}
 use Rattle.msrp_text.specs.Fields.{number_at, number_of}
 use Rattle.msrp_text.specs.Plain.{is_plain, split_commas}
 use Rattle.msrp_text.specs.PlanText.{next_fields, records_text, version_text}

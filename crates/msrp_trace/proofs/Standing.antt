@@ -1,12 +1,9 @@
 -- The records that a reader stands in, one more.
-use Rattle.std.proofs.Common.{◌≡◌, ◌∙◌, ◌⊎◌, ℕ, ◌+◌, ◌-◌, Bool, true, List, [], ◌∷◌, Option, Some, Result, Err, drop, length, length-drop, refl, sym, ap, subst, arith, inl, inr}
-use Rattle.std.specs.Prelude.{slice_index_or}
-use Rattle.std.proofs.lemmas.Bool.{cases_lt}
-use Rattle.std.proofs.lemmas.List.{drop_more}
+use Rattle.msrp_plan.proofs.Common.{◌≡◌, ◌∙◌, ◌⊎◌, ℕ, ◌+◌, ◌-◌, Bool, true, List, [], ◌∷◌, Option, Some, Result, Err, drop, length, length-drop, refl, sym, ap, subst, arith, inl, inr, slice_index_or, cases_lt, drop_more}
+use Rattle.msrp_plan.specs.declared.rows.Row.{Row}
 use Rattle.msrp_text.specs.Reading.{record_at}
 use Rattle.msrp_text.specs.Records.{GivesLine, GivesNext}
 use Rattle.msrp_text.proofs.Remaining.{gave-one}
-use Rattle.msrp_plan.specs.declared.rows.Row.{Row}
 use Rattle.msrp_trace.specs.Readers.{IsRecordOf, StandsBehind, record_read}
 use Rattle.msrp_trace.specs.RowParts.{ReadsAt}
 use Rattle.msrp_trace.specs.declared.faults.TraceError.{TraceError}

@@ -1,11 +1,8 @@
 -- What records tell, one by one: the rows, and the refusal after them.
-use Rattle.std.proofs.Common.{◌≡◌, ℕ, suc, ◌+◌, Bool, true, false, cond, List, [], ◌∷◌, take, Option, Some, None, Result, Ok, Err, is_none, refl, sym, ap, ◌∙◌, subst, inl, inr, arith, slice_get}
-use Rattle.std.specs.Prelude.{option_map}
-use Rattle.std.specs.List.{cons_option, filter_map, prefix_len, take_while}
-use Rattle.std.specs.Option.{option_and_then}
-use Rattle.msrp_plan.specs.Plan.{PlanModel}
+use Rattle.msrp_plan.proofs.Common.{◌≡◌, ℕ, suc, ◌+◌, Bool, true, false, cond, List, [], ◌∷◌, take, Option, Some, None, Result, Ok, Err, is_none, refl, sym, ap, ◌∙◌, subst, inl, inr, arith, slice_get, option_map, cons_option, filter_map, option_and_then, PlanModel}
 use Rattle.msrp_plan.specs.declared.rows.Row.{Row}
 use Rattle.msrp_plan.specs.declared.rows.TextVersion.{TextVersion}
+use Rattle.std.specs.List.{prefix_len, take_while}
 use Rattle.msrp_text.specs.Records.{KeepsRecords}
 use Rattle.msrp_trace.specs.Reading.{Told, is_row, refusal_at, rows_of, told_after, told_by, version_of}
 use Rattle.msrp_trace.specs.Readers.{GivesFirst, GivesFirstOr, GivesNext, HoldsUnlessFailed, Opens, left_at, nothing_left, state_after, told_left}

@@ -1,5 +1,5 @@
 -- The codes of refusals: R1 to R8.
-use Rattle.std.specs.Prelude.{ℕ}
+use Rattle.msrp_plan.specs.Common.{ℕ}
 use Rattle.msrp_trace.specs.declared.faults.TraceFault.{TraceFault}
 use Rattle.msrp_trace.specs.declared.faults.TraceFault.TheVariants.{Head, FieldCount, Number, Kind, Name, Shape, Read, Memory}
 

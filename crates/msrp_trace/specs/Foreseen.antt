@@ -1,7 +1,5 @@
 -- What is foreseen of a row: the texts that are kept of it, and what it may name.
-use Rattle.std.specs.Prelude.{◌≡◌, ℕ, ◌%◌, slice_index_or}
-use Rattle.std.specs.List.{All}
-use Rattle.msrp_plan.specs.Plan.{PlanModel}
+use Rattle.msrp_plan.specs.Common.{◌≡◌, ℕ, ◌%◌, slice_index_or, All, PlanModel}
 use Rattle.msrp_plan.specs.declared.rows.Row.{Row}
 use Rattle.msrp_plan.specs.declared.rows.TextVersion.{TextVersion}
 use Rattle.msrp_trace.specs.Gathering.{after_tick}

@@ -1,13 +1,10 @@
 -- Text on its way to a sink: what was gathered, and what was written.
-use Rattle.std.specs.Prelude.{◌≡◌, ℕ, List, ◌++◌, codes, decimal, Option}
-use Rattle.std.specs.List.{flat_map}
-use Rattle.msrp_plan.specs.Plan.{PlanModel}
+use Rattle.msrp_plan.specs.Common.{◌≡◌, ℕ, List, ◌++◌, codes, decimal, Option, flat_map, PlanModel, Wrote}
 use Rattle.msrp_plan.specs.Words.{kind_text}
 use Rattle.msrp_plan.specs.declared.rows.Row.{Row}
 use Rattle.msrp_plan.specs.declared.rows.TextVersion.{TextVersion}
-use Rattle.msrp_trace.specs.TraceText.{ahead_fields, job_text, res_text, task_text}
-use Rattle.msrp_plan.specs.Bytes.{Wrote}
 use Rattle.msrp_plan.specs.declared.bytes.Sink.{Sink}
+use Rattle.msrp_trace.specs.TraceText.{ahead_fields, job_text, res_text, task_text}
 
 -- a page and the sink under it took a text: what the page then lacks of it, and of what it had, was written
 pub record Gathers {W : Type 0} (contents : W → Option (List ℕ)) (before : List ℕ) (old : Sink W) (after : List ℕ) (new : Sink W) (text : List ℕ) : Type 0 where

@@ -1,7 +1,5 @@
 -- Rows that were written, as they are read.
-use Rattle.std.specs.Prelude.{ℕ, Bool, true, ◌&&◌, is_none, nat_lt, Option, Some, None}
-use Rattle.msrp_plan.specs.Aheads.{carries_its_ahead, without_ahead}
-use Rattle.msrp_plan.specs.Plan.{PlanModel}
+use Rattle.msrp_plan.specs.Common.{ℕ, Bool, true, ◌&&◌, is_none, nat_lt, Option, Some, None, carries_its_ahead, without_ahead, PlanModel}
 use Rattle.msrp_plan.specs.declared.ids.JobId.{JobId}
 use Rattle.msrp_plan.specs.declared.rows.Row.{Row}
 use Rattle.msrp_plan.specs.declared.rows.TextVersion.{TextVersion}

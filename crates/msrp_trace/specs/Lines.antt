@@ -1,13 +1,9 @@
 -- The record that a core had last, but for its tick.
-use Rattle.std.specs.Prelude.{◌≡◌, ◌≤◌, ◌++◌, length, ℕ, List, Option, Some, Bool, true, ◌&&◌, ◌==◌, is_none}
-use Rattle.std.specs.List.{All}
-use Rattle.std.specs.Option.{IfSome}
-use Rattle.msrp_plan.specs.Actions.{same_res}
-use Rattle.msrp_plan.specs.Plan.{PlanModel}
-use Rattle.msrp_plan.specs.Runs.{same_choice}
+use Rattle.msrp_plan.specs.Common.{◌≡◌, ◌≤◌, ◌++◌, length, ℕ, List, Option, Some, Bool, true, ◌&&◌, ◌==◌, is_none, All, same_res, PlanModel, same_choice}
 use Rattle.msrp_plan.specs.declared.rows.Row.{Row}
 use Rattle.msrp_plan.specs.declared.rows.TextVersion.{TextVersion}
 use Rattle.msrp_plan.specs.declared.ids.JobId.{JobId}
+use Rattle.std.specs.Option.{IfSome}
 use Rattle.msrp_trace.specs.Gathering.{after_tick, next_field}
 use Rattle.msrp_trace.specs.TraceText.{job_text, res_text, task_text}
 use Rattle.msrp_trace.specs.declared.job.JobText.{JobText}

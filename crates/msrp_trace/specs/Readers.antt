@@ -1,12 +1,11 @@
 -- What a reader of rows has left, and what each call gives.
-use Rattle.std.specs.Prelude.{◌++◌, ◌+◌, ◌^◌, ◌<◌, codes, decimal, ◌≡◌, ◌⊎◌, ℕ, Bool, true, false, List, [], ◌∷◌, Option, Some, None, Result, Ok, Err, option_map, IsSome, IsOkAnd, ⊤, drop, length, slice_get, ◌-◌}
-use Rattle.csv.specs.Records.{fields_of}
-use Rattle.msrp_plan.specs.Bytes.{source_remaining}
+use Rattle.msrp_plan.specs.Common.{◌++◌, ◌+◌, ◌^◌, ◌<◌, codes, decimal, ◌≡◌, ◌⊎◌, ℕ, Bool, true, false, List, [], ◌∷◌, Option, Some, None, Ok, Err, option_map, IsSome, IsOkAnd, ⊤, drop, length, slice_get, ◌-◌, source_remaining, PlanModel}
 use Rattle.msrp_plan.specs.declared.bytes.Source.{Source}
-use Rattle.msrp_plan.specs.Plan.{PlanModel}
 use Rattle.msrp_plan.specs.declared.ids.CoreId.{CoreId}
 use Rattle.msrp_plan.specs.declared.rows.Row.{Row}
 use Rattle.msrp_plan.specs.declared.rows.TextVersion.{TextVersion}
+use Rattle.std.specs.Prelude.{Result}
+use Rattle.csv.specs.Records.{fields_of}
 use Rattle.msrp_text.specs.Lines.{HasRead}
 use Rattle.msrp_text.specs.Plain.{BeginsWith}
 use Rattle.msrp_text.specs.Reading.{record_at}

@@ -1,10 +1,8 @@
 -- The rows that the records of a text tell, and the refusal of the first record that is refused.
-use Rattle.std.specs.Prelude.{ℕ, Bool, List, [], Option, Some, None, is_none, option_map, slice_get, ◌+◌, drop}
-use Rattle.std.specs.List.{filter_map, prefix_len, take_while}
-use Rattle.std.specs.Option.{option_and_then}
-use Rattle.msrp_plan.specs.Plan.{PlanModel}
+use Rattle.msrp_plan.specs.Common.{ℕ, Bool, List, [], Option, Some, None, is_none, option_map, slice_get, ◌+◌, drop, filter_map, prefix_len, option_and_then, PlanModel}
 use Rattle.msrp_plan.specs.declared.rows.Row.{Row}
 use Rattle.msrp_plan.specs.declared.rows.TextVersion.{TextVersion}
+use Rattle.std.specs.List.{take_while}
 use Rattle.msrp_trace.specs.Rows.{row_fault, row_told, version_told}
 use Rattle.msrp_trace.specs.declared.faults.TraceError.{TraceError}
 use Rattle.msrp_trace.specs.declared.faults.TraceError.TheVariants.{At}

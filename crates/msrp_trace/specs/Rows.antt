@@ -1,21 +1,17 @@
 -- The row that a record tells, or the first rule that the record breaks.
-use Rattle.std.specs.Prelude.{◌≡◌, ℕ, Bool, true, false, not, refl, List, [], ◌∷◌, length, map, Option, Some, None, is_none, option_map, unwrap_or, ◌==◌, ◌&&◌, ◌||◌, if◌then◌else◌}
-use Rattle.std.specs.List.{find}
-use Rattle.std.specs.Option.{option_and_then}
-use Rattle.std.specs.Str.{bytes_eq}
-use Rattle.csv.specs.Records.{field_at}
-use Rattle.msrp_plan.specs.Names.{name_position}
-use Rattle.msrp_plan.specs.Plan.{PlanModel}
-use Rattle.msrp_plan.specs.Shape.{has_shape, may_carry}
+use Rattle.msrp_plan.specs.Common.{◌≡◌, ℕ, Bool, true, false, not, List, [], ◌∷◌, length, map, Option, Some, None, is_none, option_map, unwrap_or, ◌==◌, ◌&&◌, ◌||◌, if◌then◌else◌, option_and_then, bytes_eq, name_position, PlanModel, has_shape, may_carry}
 use Rattle.msrp_plan.specs.Words.{kind_text}
 use Rattle.msrp_plan.specs.declared.ids.JobId.{JobId}
 use Rattle.msrp_plan.specs.declared.ids.ResId.{ResId}
-use Rattle.msrp_plan.specs.declared.ids.TaskId.{TaskId}
 use Rattle.msrp_plan.specs.declared.rows.Kind.{Kind}
-use Rattle.msrp_plan.specs.declared.rows.Kind.TheVariants as kind
 use Rattle.msrp_plan.specs.declared.rows.Row.{Row}
 use Rattle.msrp_plan.specs.declared.rows.TextVersion.{TextVersion}
 use Rattle.msrp_plan.specs.declared.rows.TextVersion.TheVariants.{V1, V2}
+use Rattle.std.specs.Prelude.{refl}
+use Rattle.std.specs.List.{find}
+use Rattle.csv.specs.Records.{field_at}
+use Rattle.msrp_plan.specs.declared.ids.TaskId.{TaskId}
+use Rattle.msrp_plan.specs.declared.rows.Kind.TheVariants as kind
 use Rattle.msrp_text.specs.Fields.{has_word, number_at, number_of}
 use Rattle.msrp_text.specs.PlanText.{version_text}
 use Rattle.msrp_trace.specs.TraceText.{dash, trace_word}

@@ -1,7 +1,5 @@
 -- The texts of the cores' rows that a caller keeps.
-use Rattle.std.specs.Prelude.{ℕ, List, [], ◌%◌, slice_index_or, map}
-use Rattle.std.specs.List.{All}
-use Rattle.msrp_plan.specs.Plan.{PlanModel}
+use Rattle.msrp_plan.specs.Common.{ℕ, List, [], ◌%◌, slice_index_or, map, All, PlanModel}
 use Rattle.msrp_plan.specs.declared.rows.TextVersion.{TextVersion}
 use Rattle.msrp_trace.specs.Lines.{AreResTexts, IsCoreText}
 use Rattle.msrp_trace.specs.declared.line.CoreText.{CoreText}

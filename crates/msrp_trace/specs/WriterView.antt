@@ -1,5 +1,5 @@
 -- What a clause sees of a writer of trace text, and what its fields keep.
-use Rattle.std.specs.List.{All}
+use Rattle.msrp_plan.specs.Common.{All}
 use Rattle.msrp_trace.specs.Gathering.{WriterModel}
 use Rattle.msrp_trace.specs.Lines.{AreResTexts, IsLine}
 use Rattle.msrp_trace.specs.declared.writing.TraceWriter.TheInside.{Inside}

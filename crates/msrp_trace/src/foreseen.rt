@@ -1,14 +1,11 @@
 //! Rows that a caller foresees, as the texts that would tell them.
-ghost use Rattle.std.specs.Prelude.{ℕ, List, ◌+◌, ◌<◌, ◌^◌, ◌%◌, false, slice_index, slice_index_or, ◌≡◌, ◌≤◌, ◌++◌, [], codes, decimal, length, take, option_map, true, Some};
-ghost use Rattle.std.specs.List.{All, flat_map};
+ghost use Rattle.msrp_plan.specs.Common.{ℕ, List, ◌+◌, ◌<◌, ◌^◌, ◌%◌, false, slice_index, slice_index_or, ◌≡◌, ◌≤◌, ◌++◌, [], codes, decimal, length, take, option_map, true, Some, All, flat_map, in_tick, PlanModel};
+ghost use Rattle.msrp_plan.specs.declared.rows.TextVersion.{TextVersion};
 ghost use Rattle.std.specs.Option.{IfSome};
-ghost use Rattle.msrp_plan.specs.Stretches.{in_tick};
 ghost use Rattle.msrp_trace.specs.Gathering.{after_tick};
 ghost use Rattle.msrp_trace.specs.Laws.{is_short, is_told_whole};
 ghost use Rattle.msrp_trace.specs.Lines.{IsLine};
 ghost use Rattle.msrp_trace.specs.Texts.{text_of_core, texts_of};
-ghost use Rattle.msrp_plan.specs.Plan.{PlanModel};
-ghost use Rattle.msrp_plan.specs.declared.rows.TextVersion.{TextVersion};
 ghost use Rattle.msrp_trace.specs.declared.line.RowLine.{RowLine as Kept};
 
 use crate::line::{CoreText, LINE, RowLine};

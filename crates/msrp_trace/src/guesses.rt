@@ -1,7 +1,6 @@
 //! What a row may name, guessed.
-ghost use Rattle.std.specs.Prelude.{◌≡◌, ◌<◌};
+ghost use Rattle.msrp_plan.specs.Common.{◌≡◌, ◌<◌, most_cores};
 ghost use Rattle.std.specs.Option.{IfSome};
-ghost use Rattle.msrp_plan.specs.Limits.{most_cores};
 
 use msrp_plan::limits::MOST_CORES;
 use msrp_plan::{ResId, Row, TaskId};

@@ -1,10 +1,5 @@
 //! Laws over the definitions: the text of rows, read again, and two codes. Each function does nothing; its contract is the law.
-ghost use Rattle.std.specs.Prelude.{◌≡◌, List, map, None, true};
-ghost use Rattle.std.specs.List.{list_all};
-ghost use Rattle.msrp_plan.specs.Aheads.{carries_ahead};
-ghost use Rattle.msrp_plan.specs.Plan.{PlanModel};
-ghost use Rattle.msrp_plan.specs.Runs.{IsRunStart};
-ghost use Rattle.msrp_plan.specs.WellFormed.{IsPlan};
+ghost use Rattle.msrp_plan.specs.Common.{◌≡◌, List, map, None, true, list_all, carries_ahead, PlanModel, IsRunStart, IsPlan};
 ghost use Rattle.msrp_plan.specs.declared.rows.Row.{Row};
 ghost use Rattle.msrp_plan.specs.declared.rows.TextVersion.{TextVersion};
 ghost use Rattle.msrp_plan.specs.declared.rows.TextVersion.TheVariants.{V2};

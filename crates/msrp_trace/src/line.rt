@@ -1,10 +1,8 @@
 //! The text of one record as it is made, and what is kept of a core's last one.
-ghost use Rattle.std.specs.Prelude.{◌≡◌, ◌≤◌, ◌<◌, ◌+◌, ◌++◌, [], codes, decimal, length, true, Some, None, IsSomeAnd, option_map};
-ghost use Rattle.std.specs.List.{flat_map};
-ghost use Rattle.std.specs.Option.{IfSome};
-ghost use Rattle.msrp_plan.specs.Plan.{PlanModel};
-ghost use Rattle.msrp_plan.specs.Stretches.{in_tick};
+ghost use Rattle.msrp_plan.specs.Common.{◌≡◌, ◌≤◌, ◌<◌, ◌+◌, ◌++◌, [], codes, decimal, length, true, Some, None, option_map, flat_map, PlanModel, in_tick};
 ghost use Rattle.msrp_plan.specs.Words.{kind_text};
+ghost use Rattle.std.specs.Prelude.{IsSomeAnd};
+ghost use Rattle.std.specs.Option.{IfSome};
 ghost use Rattle.msrp_trace.specs.Gathering.{next_field, after_tick};
 ghost use Rattle.msrp_trace.specs.Lines.{AreResTexts, IsCoreText, IsJobText, IsLine, IsWhole, is_same_place, job_fields};
 ghost use Rattle.msrp_trace.specs.Laws.{is_short, is_told_whole};

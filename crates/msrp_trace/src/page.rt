@@ -1,6 +1,5 @@
 //! Text that is gathered and then written, some kilobytes at a time.
-ghost use Rattle.std.specs.Prelude.{◌≡◌, ◌≤◌, ◌+◌, ◌++◌, [], length};
-ghost use Rattle.msrp_plan.specs.Bytes.{Wrote};
+ghost use Rattle.msrp_plan.specs.Common.{◌≡◌, ◌≤◌, ◌+◌, ◌++◌, [], length, Wrote};
 ghost use Rattle.msrp_trace.specs.Gathering.{Gathers};
 
 use crate::text::Text;

@@ -1,14 +1,11 @@
 //! Trace text, read.
 ghost use Rattle.std.proofs.Props.{props};
-ghost use Rattle.std.specs.List.{flat_map};
+ghost use Rattle.msrp_plan.specs.Common.{flat_map, ◌+◌, ◌++◌, ◌^◌, ◌<◌, ◌≤◌, [], length, IsSome, ◌≡◌, ◌⊎◌, ◌↔◌, decimal, ℕ, List, Some, None, Ok, Err, IfOk, IfErr, OnOk, OnErr, true, false, source_failed, source_remaining, IsPlan};
 ghost use Rattle.std.specs.Option.{IfSome};
-ghost use Rattle.std.specs.Prelude.{◌+◌, ◌++◌, ◌^◌, ◌<◌, ◌≤◌, [], length, IsSome, ◌≡◌, ◌⊎◌, ◌↔◌, decimal, ℕ, List, Some, None, Ok, Err, IfOk, IfErr, OnOk, OnErr, true, false};
-ghost use Rattle.msrp_plan.specs.Bytes.{source_failed, source_remaining};
 ghost use Rattle.csv.specs.Records.{fields_of};
 ghost use Rattle.msrp_text.specs.Plain.{BeginsWithDigit};
 ghost use Rattle.msrp_text.specs.Lines.{BeginsIn, HasRead};
 ghost use Rattle.msrp_text.specs.Records.{bytes_ahead, csv_records, reader_under, reads_csv};
-ghost use Rattle.msrp_plan.specs.WellFormed.{IsPlan};
 ghost use Rattle.msrp_trace.specs.Foreseen.{AreTexts, AreTextsOf};
 ghost use Rattle.msrp_trace.specs.Laws.{as_read, is_told_whole};
 ghost use Rattle.msrp_trace.specs.Reading.{Told};

@@ -1,7 +1,6 @@
 //! The row that a record tells.
-ghost use Rattle.std.specs.Prelude.{◌≡◌, true};
+ghost use Rattle.msrp_plan.specs.Common.{◌≡◌, true, has_shape, may_carry};
 ghost use Rattle.csv.specs.Records.{fields_of};
-ghost use Rattle.msrp_plan.specs.Shape.{has_shape, may_carry};
 ghost use Rattle.msrp_text.specs.Fields.{number_at, number_of};
 ghost use Rattle.msrp_trace.specs.RowParts.{Reads, names_told, numbers_told};
 ghost use Rattle.msrp_trace.specs.Rows.{ahead_told, field_count, has_its_ahead, has_parts, is_dash, is_head, is_number, is_shaped, job_with, kind_told, res_named, res_told, row_fault, row_told, task_named, task_told, told_at, version_told};

@@ -1,5 +1,5 @@
 //! The text of a tick, which stands in the records of all cores.
-ghost use Rattle.std.specs.Prelude.{◌≡◌, decimal, true};
+ghost use Rattle.msrp_plan.specs.Common.{◌≡◌, decimal, true};
 
 use crate::text::Text;
 

@@ -1,5 +1,5 @@
 //! The words of trace text.
-ghost use Rattle.std.specs.Prelude.{◌≡◌, ◌≤◌, length};
+ghost use Rattle.msrp_plan.specs.Common.{◌≡◌, ◌≤◌, length};
 ghost use Rattle.msrp_trace.specs.Rows.{kind_named};
 ghost use Rattle.msrp_text.specs.PlanText.{version_text};
 

@@ -1,8 +1,5 @@
 //! Trace text, written.
-ghost use Rattle.std.specs.Prelude.{◌≡◌, ◌<◌, ◌++◌, [], decimal, length, slice_index_or, true, false, OnOk, OnErr};
-ghost use Rattle.std.specs.List.{All, list_all};
-ghost use Rattle.msrp_plan.specs.Aheads.{carries_ahead};
-ghost use Rattle.msrp_plan.specs.Bytes.{Wrote, sink_failed};
+ghost use Rattle.msrp_plan.specs.Common.{◌≡◌, ◌<◌, ◌++◌, [], decimal, length, slice_index_or, true, false, OnOk, OnErr, All, list_all, carries_ahead, Wrote, sink_failed};
 ghost use Rattle.msrp_trace.specs.Gathering.{Gathers, after_tick};
 ghost use Rattle.msrp_trace.specs.Laws.{is_told_whole};
 ghost use Rattle.msrp_trace.specs.Lines.{AreResTexts, IsLine, IsWhole};

@@ -1,5 +1,5 @@
 -- What is written of the version.
-use Rattle.std.specs.Prelude.{ℕ, List, ◌++◌, codes}
+use Rattle.msrp_plan.specs.Common.{ℕ, List, ◌++◌, codes}
 
 -- the program and its version, and what a release tells of itself
 abbrev pub version_text : List ℕ → List ℕ

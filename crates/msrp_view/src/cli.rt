@@ -1,8 +1,6 @@
 //! The command line: the words of a command, and what they ask for.
 
-ghost use Rattle.std.specs.Prelude.{◌≡◌, ◌⊎◌, false, map, ok_or, option_map, string_bytes, Err, IfErr, IfOk, Some};
-ghost use Rattle.std.specs.Char.{is_ascii_digit};
-ghost use Rattle.std.specs.List.{list_all};
+ghost use Rattle.msrp_plan.specs.Common.{◌≡◌, ◌⊎◌, false, map, ok_or, option_map, string_bytes, Err, IfErr, IfOk, Some, is_ascii_digit, list_all};
 ghost use Rattle.clap.specs.Words.{fault_of, found_of, matches_of, rows_of, rule_of};
 ghost use Rattle.msrp_view.specs.CommandLine as line;
 ghost use Rattle.msrp_view.specs.CommandLine.{IsAnswered, IsDrawn, IsExplained, IsExported, IsShown, IsTold, Takes};

@@ -1,19 +1,14 @@
 -- What is found in rows that are judged as they come, with the cause of a fault or the refusal behind them, and the words on it.
-use Rattle.std.proofs.Common.{◌≡◌, ◌⊎◌, ◌+◌, ◌++◌, ◌∷◌, [], ℕ, true, List, Option, Some, None, IfOk, IfErr, refl, ap, sym, subst, ◌∙◌, inl, inr, append_assoc}
-use Rattle.std.proofs.lemmas.Option.{same_Some}
-use Rattle.std.specs.Prelude.{⊤, IfSome}
-use Rattle.std.specs.Option.{option_or}
+use Rattle.msrp_plan.proofs.Common.{◌≡◌, ◌⊎◌, ◌+◌, ◌++◌, ◌∷◌, [], ℕ, true, List, Option, Some, None, IfOk, IfErr, refl, ap, sym, subst, ◌∙◌, inl, inr, append_assoc, same_Some, ⊤, IfSome, option_or, PlanModel, fault_in, missing, verdict}
+use Rattle.msrp_plan.specs.declared.faults.Fault.{Fault}
+use Rattle.msrp_plan.specs.declared.rows.Row.{Row}
+use Rattle.msrp_plan.specs.declared.rows.TextVersion.{TextVersion}
 use Rattle.std.specs.declared.result.Result.{Result}
 use Rattle.std.specs.declared.result.Result.TheVariants.{Ok, Err}
 use Rattle.msrp_audit.specs.Audits.{answer_of}
-use Rattle.msrp_plan.specs.Plan.{PlanModel}
-use Rattle.msrp_plan.specs.Verdict.{fault_in, missing, verdict}
-use Rattle.msrp_plan.specs.declared.faults.Fault.{Fault}
-use Rattle.msrp_plan.specs.declared.rows.Row.{Row}
 use Rattle.msrp_text.specs.Lines.{BeginsIn}
 use Rattle.msrp_text.specs.Reading.{csv_records}
 use Rattle.msrp_text.specs.declared.reading.TextError.{TextError}
-use Rattle.msrp_plan.specs.declared.rows.TextVersion.{TextVersion}
 use Rattle.msrp_trace.specs.Reading.{Told, rows_of, version_of}
 use Rattle.msrp_trace.specs.Readers.{IsRecordOf, Opens, OpensBy}
 use Rattle.msrp_trace.specs.declared.faults.TraceError.{TraceError}

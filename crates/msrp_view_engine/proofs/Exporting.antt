@@ -1,23 +1,15 @@
 -- The text of a trace for another tool, as it was written row by row.
-use Rattle.std.proofs.Common.{◌≡◌, ℕ, ◌+◌, ◌-◌, ◌*◌, ◌≤◌, ◌<◌, ◌^◌, cond, Bool, true, false, nat_lt, List, [], ◌∷◌, ◌++◌, Option, Some, None, refl, ap, sym, ◌∙◌, arith, length, take, append_assoc}
-use Rattle.std.specs.Prelude.{⊤, slice_get}
-use Rattle.std.specs.Option.{option_or}
-use Rattle.std.specs.declared.result.Result.{Result}
-use Rattle.std.specs.declared.result.Result.TheVariants.{Ok, Err}
-use Rattle.std.proofs.Math.Seq.{take-append_seam, take-length}
-use Rattle.std.proofs.lemmas.Option.{slice_get_past}
-use Rattle.msrp_audit.specs.Audits.{answer_of}
-use Rattle.msrp_export.specs.Exports.{export_text, part_text}
-use Rattle.msrp_export.specs.Changes.{fault_text}
-use Rattle.msrp_export.specs.declared.formats.Format.{Format}
-use Rattle.msrp_plan.specs.Plan.{PlanModel}
-use Rattle.msrp_plan.specs.Verdict.{fault_in, fault_or, missing, refused, verdict}
-use Rattle.msrp_plan.specs.WellFormed.{IsPlan}
+use Rattle.msrp_plan.proofs.Common.{◌≡◌, ℕ, ◌+◌, ◌-◌, ◌*◌, ◌≤◌, ◌<◌, ◌^◌, cond, Bool, true, false, nat_lt, List, [], ◌∷◌, ◌++◌, Option, Some, None, refl, ap, sym, ◌∙◌, arith, length, take, append_assoc, ⊤, slice_get, option_or, take-append_seam, take-length, slice_get_past, PlanModel, fault_in, fault_or, missing, refused, verdict, IsPlan, fault_push}
 use Rattle.msrp_plan.specs.declared.faults.Fault.{Fault}
 use Rattle.msrp_plan.specs.declared.faults.Rule.{Rule}
 use Rattle.msrp_plan.specs.declared.faults.Rule.TheVariants.{A6}
 use Rattle.msrp_plan.specs.declared.rows.Row.{Row}
-use Rattle.msrp_plan.proofs.Runs.Verdicts.{fault_push}
+use Rattle.std.specs.declared.result.Result.{Result}
+use Rattle.std.specs.declared.result.Result.TheVariants.{Ok, Err}
+use Rattle.msrp_audit.specs.Audits.{answer_of}
+use Rattle.msrp_export.specs.Exports.{export_text, part_text}
+use Rattle.msrp_export.specs.Changes.{fault_text}
+use Rattle.msrp_export.specs.declared.formats.Format.{Format}
 use Rattle.msrp_engine.proofs.Judging.{fault-answer}
 use Rattle.msrp_text.proofs.Folding.{slice_get-seam}
 use Rattle.msrp_view_engine.specs.Exporting.{end_or_fault}

@@ -1,6 +1,5 @@
 -- A trace's text that is read to its end.
-use Rattle.std.proofs.Common.{◌≡◌, [], ℕ, List, Option, None, Some, Result, Ok, Err, ap, sym, ◌∙◌, inl, inr}
-use Rattle.msrp_plan.specs.Plan.{PlanModel}
+use Rattle.msrp_plan.proofs.Common.{◌≡◌, [], ℕ, List, Option, None, Some, Result, Ok, Err, ap, sym, ◌∙◌, inl, inr, PlanModel}
 use Rattle.msrp_plan.specs.declared.rows.Row.{Row}
 use Rattle.msrp_plan.specs.declared.traces.Trace.{Trace}
 use Rattle.msrp_trace.specs.Reading.{Told, rows_of}

@@ -1,8 +1,5 @@
 -- The records of a text, read again up to one of them.
-use Rattle.std.proofs.Common.{◌≡◌, ◌∙◌, ℕ, ◌+◌, ◌≤◌, List, [], ◌∷◌, ◌++◌, length, drop, take, sym, ap, arith, length-drop, inl, inr}
-use Rattle.std.specs.Prelude.{slice_index_or}
-use Rattle.std.proofs.lemmas.Bool.{cases_lt}
-use Rattle.std.proofs.lemmas.List.{drop_more, get_or_past, take_all, take_more}
+use Rattle.msrp_plan.proofs.Common.{◌≡◌, ◌∙◌, ℕ, ◌+◌, ◌≤◌, List, [], ◌∷◌, ◌++◌, length, drop, take, sym, ap, arith, length-drop, inl, inr, slice_index_or, cases_lt, drop_more, get_or_past, take_all, take_more}
 
 -- the record that is next, and what is left behind it
 pub next-is : (records : List (List (List ℕ))) (n : ℕ) (row : List (List ℕ)) (rest : List (List (List ℕ))) → drop n records ≡ row ∷ rest → (row ≡ slice_index_or records n []) × (rest ≡ drop (n + 1) records)

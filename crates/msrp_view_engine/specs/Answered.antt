@@ -1,8 +1,5 @@
 -- What an engine answers where its readers tell their bytes, as `OfText` and `OfTexts` say it, of the bytes of a trace in place of its records.
-use Rattle.std.specs.Prelude.{◌≡◌, ℕ, List, Option, Some}
-use Rattle.std.specs.declared.result.Result.{Result}
-use Rattle.msrp_plan.specs.Bytes.{source_remaining}
-use Rattle.msrp_plan.specs.Plan.{PlanModel}
+use Rattle.msrp_plan.specs.Common.{◌≡◌, ℕ, List, Option, Some, Result, source_remaining, PlanModel}
 use Rattle.msrp_plan.specs.declared.bytes.Source.{Source}
 use Rattle.msrp_text.specs.Reading.{csv_records, plan_of}
 use Rattle.msrp_text.specs.declared.reading.TextError.{TextError}

@@ -1,13 +1,9 @@
 -- What is written and answered where words on a plan are asked for.
-use Rattle.std.specs.Prelude.{◌≡◌, ℕ, ◌-◌, List, Option, Some, None, Ok, Err, take}
-use Rattle.std.specs.declared.result.Result.{Result}
-use Rattle.msrp_advice.specs.Refusals.{refusal_text}
-use Rattle.msrp_advice.specs.Warnings.{accepted_text}
-use Rattle.msrp_plan.specs.Bytes.{Wrote}
-use Rattle.msrp_plan.specs.Codes.{code_of}
-use Rattle.msrp_plan.specs.Plan.{PlanModel}
+use Rattle.msrp_plan.specs.Common.{◌≡◌, ℕ, ◌-◌, List, Option, Some, None, Ok, Err, take, Result, Wrote, code_of, PlanModel}
 use Rattle.msrp_plan.specs.declared.bytes.Sink.{Sink}
 use Rattle.msrp_plan.specs.declared.faults.PlanFault.{PlanFault}
+use Rattle.msrp_advice.specs.Refusals.{refusal_text}
+use Rattle.msrp_advice.specs.Warnings.{accepted_text}
 use Rattle.msrp_text.specs.Reading.{csv_records, record_at}
 use Rattle.msrp_text.specs.declared.reading.TextError.{TextError}
 use Rattle.msrp_text.specs.declared.reading.TextError.TheVariants.{At, Read, Memory}

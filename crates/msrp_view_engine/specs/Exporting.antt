@@ -1,14 +1,11 @@
 -- What is written of a trace's text for another tool, in a format.
-use Rattle.std.specs.Prelude.{◌≡◌, ℕ, List, Option, None, Ok, Err, ⊤}
-use Rattle.std.specs.declared.result.Result.{Result}
-use Rattle.msrp_export.specs.Exports as exports
-use Rattle.msrp_export.specs.Changes.{end_text, fault_text}
-use Rattle.msrp_export.specs.declared.formats.Format.{Format}
-use Rattle.msrp_plan.specs.Bytes.{Wrote}
-use Rattle.msrp_plan.specs.Plan.{PlanModel}
+use Rattle.msrp_plan.specs.Common.{◌≡◌, ℕ, List, Option, None, Ok, Err, ⊤, Result, Wrote, PlanModel}
 use Rattle.msrp_plan.specs.declared.bytes.Sink.{Sink}
 use Rattle.msrp_plan.specs.declared.faults.Fault.{Fault}
 use Rattle.msrp_plan.specs.declared.rows.Row.{Row}
+use Rattle.msrp_export.specs.Exports as exports
+use Rattle.msrp_export.specs.Changes.{end_text, fault_text}
+use Rattle.msrp_export.specs.declared.formats.Format.{Format}
 use Rattle.msrp_text.specs.declared.reading.TextError.{TextError}
 use Rattle.msrp_trace.specs.Reading.{Told, rows_of}
 use Rattle.msrp_engine.specs.Findings.{finding}

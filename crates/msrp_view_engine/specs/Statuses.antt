@@ -1,6 +1,5 @@
 -- What is answered to a text that was written with what is found in a trace.
-use Rattle.std.specs.Prelude.{ℕ, Bool, false, Ok, Err, ⊤}
-use Rattle.std.specs.declared.result.Result.{Result}
+use Rattle.msrp_plan.specs.Common.{ℕ, Bool, false, Ok, Err, ⊤, Result}
 use Rattle.msrp_plan.specs.declared.bytes.Sink.{Sink}
 use Rattle.msrp_plan.specs.declared.faults.Fault.{Fault}
 use Rattle.msrp_engine.specs.AuditText.{verdict_status}

@@ -1,13 +1,9 @@
 -- What the picture of a trace's text is.
-use Rattle.std.specs.Prelude.{◌≡◌, ℕ, List, Option, Some, None, Ok, Err, IfOk, ⊤}
-use Rattle.std.specs.declared.result.Result.{Result}
-use Rattle.msrp_audit.specs.Audits.{answer_of}
-use Rattle.msrp_plan.specs.Bytes.{Wrote}
-use Rattle.msrp_plan.specs.Plan.{PlanModel}
-use Rattle.msrp_plan.specs.Verdict.{verdict}
+use Rattle.msrp_plan.specs.Common.{◌≡◌, ℕ, List, Option, Some, None, Ok, Err, IfOk, ⊤, Result, Wrote, PlanModel, verdict}
 use Rattle.msrp_plan.specs.declared.bytes.Sink.{Sink}
 use Rattle.msrp_plan.specs.declared.faults.Fault.{Fault}
 use Rattle.msrp_plan.specs.declared.rows.Row.{Row}
+use Rattle.msrp_audit.specs.Audits.{answer_of}
 use Rattle.msrp_text.specs.declared.reading.TextError.{TextError}
 use Rattle.msrp_trace.specs.Reading.{Told, rows_of}
 use Rattle.msrp_trace.specs.declared.faults.TraceError.{TraceError}

@@ -1,7 +1,6 @@
 //! A trace in the format of another tool.
-ghost use Rattle.std.specs.Prelude.{◌≡◌, ◌⊎◌, ◌+◌, ◌<◌, ◌^◌, ℕ, List, [], length, true, Some, Err, IfOk, IfErr};
+ghost use Rattle.msrp_plan.specs.Common.{◌≡◌, ◌⊎◌, ◌+◌, ◌<◌, ◌^◌, ℕ, List, [], length, true, Some, Err, IfOk, IfErr, Wrote, source_remaining};
 ghost use Rattle.msrp_audit.specs.Audits.{HasFed};
-ghost use Rattle.msrp_plan.specs.Bytes.{Wrote, source_remaining};
 ghost use Rattle.msrp_plan.specs.declared.rows.Row.{Row as TraceRow};
 ghost use Rattle.msrp_text.specs.Reading.{csv_records};
 ghost use Rattle.msrp_trace.specs.Reading.{Told, rows_of};

@@ -1,10 +1,8 @@
 //! Why a plan is refused, or what is odd in it, in words.
-ghost use Rattle.std.specs.Prelude.{◌≡◌, ◌⊎◌, ◌-◌, ℕ, List, [], true, false, Ok, Some, Err, map, take, IfOk, IfErr, OnOk, if◌then◌else◌};
+ghost use Rattle.msrp_plan.specs.Common.{◌≡◌, ◌⊎◌, ◌-◌, ℕ, List, [], true, false, Ok, Some, Err, map, take, IfOk, IfErr, OnOk, if◌then◌else◌, Wrote, source_failed, source_remaining, code_of};
 ghost use Rattle.csv.specs.Records.{fields_of};
 ghost use Rattle.msrp_advice.specs.Refusals.{refusal_text};
 ghost use Rattle.msrp_advice.specs.Warnings.{accepted_text};
-ghost use Rattle.msrp_plan.specs.Bytes.{Wrote, source_failed, source_remaining};
-ghost use Rattle.msrp_plan.specs.Codes.{code_of};
 ghost use Rattle.msrp_text.specs.Reading.{csv_records, plan_of, record_at};
 ghost use Rattle.msrp_text.specs.Records.{GivesNext, records_left};
 ghost use Rattle.msrp_text.specs.declared.reading.TextError.{TextError};

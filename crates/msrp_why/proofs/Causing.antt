@@ -1,22 +1,13 @@
 -- The cause of a fault, from what the auditor tells.
-use Rattle.std.proofs.Common.{◌≡◌, ℕ, ◌+◌, ◌*◌, ◌/◌, ◌<◌, ◌≤◌, ◌++◌, ◌∷◌, [], Bool, true, false, cond, nat_lt, List, Option, Some, None, length, refl, ap, sym, ◌∙◌, subst, arith, append-nil, append_assoc, length-append, ltb-true, filter}
-use Rattle.std.specs.List.{range_with_len}
-use Rattle.std.specs.Option.{IsSomeAnd}
-use Rattle.std.proofs.lemmas.List.Elements.{filter-append}
-use Rattle.msrp_core.specs.CoreStates.{IsCoreState}
-use Rattle.msrp_core.specs.declared.states.CoreState.{CoreState}
-use Rattle.msrp_plan.specs.Logs.{log_of}
-use Rattle.msrp_plan.specs.Plan.{PlanModel}
-use Rattle.msrp_plan.specs.Runs.{IsLegal, IsRunStart, EachAfter, is_chosen, is_fifo_reply, is_in_turn, is_next_action, is_of_core}
-use Rattle.msrp_plan.specs.Verdict.{broken, fault_from, fault_in, fault_or, refused}
-use Rattle.msrp_plan.specs.WellFormed.{IsPlan}
+use Rattle.msrp_plan.proofs.Common.{◌≡◌, ℕ, ◌+◌, ◌*◌, ◌/◌, ◌<◌, ◌≤◌, ◌++◌, ◌∷◌, [], Bool, true, false, cond, nat_lt, List, Option, Some, None, length, refl, ap, sym, ◌∙◌, subst, arith, append-nil, append_assoc, length-append, range_with_len, IsSomeAnd, filter-append, log_of, PlanModel, IsLegal, IsRunStart, EachAfter, is_chosen, is_fifo_reply, is_in_turn, is_next_action, is_of_core, broken, fault_in, fault_or, refused, IsPlan, fault_push, unbroken_is_legal, range_more, turns_when_due}
 use Rattle.msrp_plan.specs.declared.faults.Fault.{Fault}
 use Rattle.msrp_plan.specs.declared.faults.Rule.{Rule}
 use Rattle.msrp_plan.specs.declared.faults.Rule.TheVariants.{A1, A2, A3, A4, A5, A6, A7}
 use Rattle.msrp_plan.specs.declared.rows.Row.{Row}
-use Rattle.msrp_plan.proofs.Runs.Verdicts.{fault_push, unbroken_is_legal}
-use Rattle.msrp_plan.proofs.Lists.Ranges.{range_more}
-use Rattle.msrp_plan.proofs.Scheduling.NextRow.{turns_when_due}
+use Rattle.std.proofs.Common.{ltb-true, filter}
+use Rattle.msrp_core.specs.CoreStates.{IsCoreState}
+use Rattle.msrp_core.specs.declared.states.CoreState.{CoreState}
+use Rattle.msrp_plan.specs.Verdict.{fault_from}
 use Rattle.msrp_sim.specs.Cores.{IsNextRow}
 use Rattle.msrp_audit.specs.Audits.{AuditorModel, HasFed, IsBroken, has_turn}
 use Rattle.msrp_audit.proofs.Judging.{due_after}

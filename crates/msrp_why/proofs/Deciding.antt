@@ -1,35 +1,17 @@
 -- What is noted of a core, one row more.
-use Rattle.std.proofs.Common.{◌≡◌, ◌≢◌, ℕ, ◌+◌, ◌<◌, ◌≤◌, ◌==◌, ◌&&◌, Bool, true, false, not, List, [], ◌∷◌, ◌++◌, Option, Some, None, refl, ap, sym, ◌∙◌, subst, arith, length, length-append, slice_get, slice_set}
-use Rattle.std.specs.List.{Contains}
-use Rattle.std.specs.Option.{ForSome, IsSomeAnd}
-use Rattle.std.proofs.lemmas.Bool.{eqb-false, eqb-true, false_from_ne_true}
-use Rattle.std.proofs.lemmas.Option.{same_Some}
-use Rattle.std.proofs.lemmas.List.{length-set}
-use Rattle.std.proofs.lemmas.List.Elements.{All-contains, All-from_recursion}
-use Rattle.msrp_core.specs.CoreStates.{IsCoreState}
-use Rattle.msrp_core.specs.declared.states.CoreState.{CoreState}
-use Rattle.msrp_plan.specs.Choice.{head, is_before}
-use Rattle.msrp_plan.specs.Jobs.{done, is_finished, is_released, is_row_of, is_started, jobs_on}
-use Rattle.msrp_plan.specs.Logs.{log_of}
-use Rattle.msrp_plan.specs.Plan.{PlanModel, core_of, release, units}
-use Rattle.msrp_plan.specs.Runs.{IsLegal, IsRunStart}
-use Rattle.msrp_plan.specs.States.{JobState, state_after}
-use Rattle.msrp_plan.specs.Stretches.{NoneReleased}
-use Rattle.msrp_plan.specs.WellFormed.{IsPlan}
+use Rattle.msrp_plan.proofs.Common.{◌≡◌, ◌≢◌, ℕ, ◌+◌, ◌<◌, ◌≤◌, ◌==◌, ◌&&◌, Bool, true, false, not, List, [], ◌∷◌, ◌++◌, Option, Some, None, refl, ap, sym, ◌∙◌, subst, arith, length, length-append, slice_get, slice_set, Contains, ForSome, IsSomeAnd, eqb-false, false_from_ne_true, same_Some, length-set, All-contains, All-from_recursion, is_before, done, is_finished, is_released, is_row_of, is_started, jobs_on, log_of, PlanModel, core_of, release, units, IsLegal, IsRunStart, JobState, state_after, IsPlan, core_jobs_below, is_job_is, same_self, IsTurn, legal_turn, turn_core, all_weaker, places_push, least_in, each_at, each_before, log_other, log_own}
 use Rattle.msrp_plan.specs.declared.ids.JobId.{JobId}
 use Rattle.msrp_plan.specs.declared.rows.Kind.{Kind}
 use Rattle.msrp_plan.specs.declared.rows.Kind.TheVariants.{Idle, Run, Spin}
 use Rattle.msrp_plan.specs.declared.rows.Row.{Row}
-use Rattle.msrp_plan.proofs.Jobs.JobLists.{core_jobs_below}
-use Rattle.msrp_plan.proofs.Jobs.JobTests.{is_job_is, same_self}
+use Rattle.std.proofs.lemmas.Bool.{eqb-true}
+use Rattle.msrp_core.specs.CoreStates.{IsCoreState}
+use Rattle.msrp_core.specs.declared.states.CoreState.{CoreState}
+use Rattle.msrp_plan.specs.Choice.{head}
+use Rattle.msrp_plan.specs.Stretches.{NoneReleased}
 use Rattle.msrp_plan.proofs.Jobs.States.{state_kept}
-use Rattle.msrp_plan.proofs.Legality.LegalRows.{IsTurn, legal_turn, turn_core}
 use Rattle.msrp_plan.proofs.Runs.CoreRuns.{reached_tick}
 use Rattle.msrp_plan.proofs.Legality.Locality.{SameStates, ceiling_same, head_same, on_core, running_same}
-use Rattle.msrp_plan.proofs.Lists.AnyAll.{all_weaker, places_push}
-use Rattle.msrp_plan.proofs.Lists.LeastKept.{least_in}
-use Rattle.msrp_plan.proofs.Lists.Prefixes.{each_at, each_before}
-use Rattle.msrp_plan.proofs.Runs.RoundRobin.{log_other, log_own}
 use Rattle.msrp_plan.proofs.Scheduling.Conservation.{idle_job}
 use Rattle.msrp_plan.proofs.Scheduling.Deciding.{IsDecidedAlike, idle_alike, spin_alike, work_alike}
 use Rattle.msrp_sim.proofs.Standing.{get_set_other, get_set_same}

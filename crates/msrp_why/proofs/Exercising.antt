@@ -1,29 +1,15 @@
 -- What a run exercised, one row more.
-use Rattle.std.proofs.Common.{◌≡◌, ℕ, suc, ◌+◌, ◌*◌, max, ◌<◌, ◌≤◌, ◌&&◌, Bool, true, false, cond, not, nat_lt, List, [], ◌∷◌, ◌++◌, Option, Some, None, refl, ap, sym, ◌∙◌, subst, arith, length, length-append, append-nil, append_assoc, lt-ltb, inl, inr}
-use Rattle.std.specs.List.{Contains}
-use Rattle.std.specs.Option.{ForSome}
-use Rattle.std.proofs.Math.Nat.{max-zero, mul-le-mul_left}
-use Rattle.std.proofs.lemmas.Bool.{and_parts, not-true}
-use Rattle.std.proofs.lemmas.Option.{slice_get_within}
-use Rattle.std.proofs.lemmas.List.Elements.{All-contains, All-from_recursion}
-use Rattle.msrp_core.specs.CoreStates.{IsCoreState}
-use Rattle.msrp_core.specs.declared.states.CoreState.{CoreState}
-use Rattle.msrp_plan.specs.Blocking.{count_after}
-use Rattle.msrp_plan.specs.Choice.{head, is_before}
-use Rattle.msrp_plan.specs.Jobs.{done, is_job, is_released, is_started, jobs_of, jobs_on}
-use Rattle.msrp_plan.specs.Plan.{PlanModel, units}
-use Rattle.msrp_plan.specs.Queues.{is_on}
-use Rattle.msrp_plan.specs.Runs.{IsLegal, IsRunStart}
-use Rattle.msrp_plan.specs.WellFormed.{IsPlan}
+use Rattle.msrp_plan.proofs.Common.{◌≡◌, ℕ, suc, ◌+◌, ◌*◌, max, ◌<◌, ◌≤◌, ◌&&◌, Bool, true, false, cond, not, nat_lt, List, [], ◌∷◌, ◌++◌, Option, Some, None, refl, ap, sym, ◌∙◌, subst, arith, length, length-append, append-nil, append_assoc, inl, inr, Contains, ForSome, mul-le-mul_left, and_parts, not-true, slice_get_within, All-contains, All-from_recursion, count_after, is_before, done, is_job, is_released, is_started, jobs_of, jobs_on, PlanModel, units, is_on, IsLegal, IsRunStart, IsPlan, core_jobs_below, is_job_is, same_self, IsTurn, legal_turn, turn_chosen, turn_core, least_passes}
 use Rattle.msrp_plan.specs.declared.ids.JobId.{JobId}
 use Rattle.msrp_plan.specs.declared.rows.Row.{Row}
+use Rattle.std.proofs.Common.{lt-ltb}
+use Rattle.std.proofs.Math.Nat.{max-zero}
+use Rattle.msrp_core.specs.CoreStates.{IsCoreState}
+use Rattle.msrp_core.specs.declared.states.CoreState.{CoreState}
+use Rattle.msrp_plan.specs.Choice.{head}
 use Rattle.msrp_plan.proofs.Blocking.SectionRows.{count_after_push}
 use Rattle.msrp_plan.proofs.Choosing.Live.{nothing_done}
 use Rattle.msrp_plan.proofs.Choosing.Turns.{has_turn}
-use Rattle.msrp_plan.proofs.Jobs.JobLists.{core_jobs_below}
-use Rattle.msrp_plan.proofs.Jobs.JobTests.{is_job_is, same_self}
-use Rattle.msrp_plan.proofs.Legality.LegalRows.{IsTurn, legal_turn, turn_chosen, turn_core}
-use Rattle.msrp_plan.proofs.Lists.LeastKept.{least_passes}
 use Rattle.msrp_audit.proofs.Judging.{own_is}
 use Rattle.msrp_why.specs.Exercise.{AreResourceCounts, AreTurnCounts, ends, enters, finishes, finishes_at_deadline, finishes_late, has_open, is_at, is_entry, is_grant, is_granted_at_once, is_granted_later, is_in_tick, is_kept, is_met, is_opening, is_other, is_past, is_queue, job_finishes, job_nests, joins, keeps_head, meets_ceiling, most_after, nests, one_if, preempts, queued_with}
 use Rattle.msrp_why.specs.FactLines.{is_job_of, units_done}

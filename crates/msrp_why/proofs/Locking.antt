@@ -1,33 +1,19 @@
 -- A local resource's last change is its holder's lock.
-use Rattle.std.proofs.Common.{◌≡◌, ◌≢◌, ℕ, ◌+◌, Bool, true, false, cond, not, List, [], ◌∷◌, ◌++◌, Option, Some, None, refl, ap, sym, ◌∙◌, subst, arith, take, slice_get, ◌⊎◌, inl, inr}
-use Rattle.std.specs.Option.{IsSomeAnd}
-use Rattle.std.proofs.Math.Bool.{true≢false}
-use Rattle.std.proofs.lemmas.Bool.{eqb-true}
-use Rattle.msrp_plan.specs.Plan.{PlanModel, units}
-use Rattle.msrp_plan.specs.Units.{is_lock_of, is_unlock_of, holds_after}
-use Rattle.msrp_plan.specs.Jobs.{done, holds, is_queued, is_row_of, is_waiting}
-use Rattle.msrp_plan.specs.Laws.{LocksFree}
-use Rattle.msrp_plan.specs.Levels.{is_global}
-use Rattle.msrp_plan.specs.Actions.{allows, is_global_unit, res_of_unit}
-use Rattle.msrp_plan.specs.Queues.{is_on}
-use Rattle.msrp_plan.specs.Runs.{EachAfter, IsLegal, IsRunStart}
-use Rattle.msrp_plan.specs.States.{JobState}
-use Rattle.msrp_plan.specs.WellFormed.{IsPlan}
+use Rattle.msrp_plan.proofs.Common.{◌≡◌, ◌≢◌, ℕ, ◌+◌, Bool, true, false, cond, not, List, [], ◌∷◌, ◌++◌, Option, Some, None, refl, ap, sym, ◌∙◌, subst, arith, take, slice_get, ◌⊎◌, inl, inr, IsSomeAnd, true≢false, PlanModel, units, is_lock_of, is_unlock_of, holds_after, done, holds, is_queued, is_row_of, is_waiting, is_global, allows, is_global_unit, res_of_unit, is_on, EachAfter, IsLegal, IsRunStart, JobState, IsPlan, is_job_is, row_of_job, some_is, DoesUnit, IsTurn, idle_res, legal_turn, along, units_lock, held_unlock}
 use Rattle.msrp_plan.specs.declared.ids.JobId.{JobId}
 use Rattle.msrp_plan.specs.declared.ids.ResId.{ResId}
 use Rattle.msrp_plan.specs.declared.rows.Kind.{Kind}
 use Rattle.msrp_plan.specs.declared.rows.Kind.TheVariants.{Lock, Unlock}
 use Rattle.msrp_plan.specs.declared.rows.Row.{Row}
 use Rattle.msrp_plan.specs.declared.units.Op.{Op}
+use Rattle.std.proofs.lemmas.Bool.{eqb-true}
+use Rattle.msrp_plan.specs.Laws.{LocksFree}
 use Rattle.msrp_plan.specs.declared.units.Op.TheVariants.{Run as RunUnit, Lock as LockUnit, Unlock as UnlockUnit}
 use Rattle.msrp_plan.proofs.Choosing.Live.{holds_kept}
 use Rattle.msrp_plan.proofs.Holding.LocalLocks.{no_local_blocking}
-use Rattle.msrp_plan.proofs.Jobs.JobTests.{is_job_is, row_of_job, some_is}
 use Rattle.msrp_plan.proofs.Jobs.States.{state_moved}
-use Rattle.msrp_plan.proofs.Legality.LegalRows.{DoesUnit, IsTurn, idle_res, legal_turn}
-use Rattle.msrp_plan.proofs.Lists.Prefixes.{along, each_both}
-use Rattle.msrp_plan.proofs.TaskUnits.PlanUnits.{units_lock}
-use Rattle.msrp_plan.proofs.TaskUnits.UnitCounts.{held_in, held_other, held_unlock}
+use Rattle.msrp_plan.proofs.Lists.Prefixes.{each_both}
+use Rattle.msrp_plan.proofs.TaskUnits.UnitCounts.{held_in, held_other}
 use Rattle.msrp_why.specs.NumberedRows.{IsLockBy, last_change}
 use Rattle.msrp_why.specs.declared.notes.Numbered.{Numbered}
 use Rattle.msrp_why.proofs.Noting.{last_off, last_on}

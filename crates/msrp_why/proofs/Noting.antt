@@ -1,41 +1,21 @@
 -- What is noted of the resources stays what the rows say, one row more.
-use Rattle.std.proofs.Common.{◌≡◌, ◌≢◌, ℕ, zero, suc, ◌+◌, ◌-◌, ◌^◌, min, ◌<◌, ◌≤◌, ◌==◌, ◌&&◌, Bool, true, false, cond, List, [], ◌∷◌, ◌++◌, Option, Some, None, refl, ap, sym, ◌∙◌, subst, arith, length, length-append, length-drop, drop, append-nil, is_some, map, slice_get, slice_set}
-use Rattle.std.specs.List.{Contains, cons_option, filter, fold}
-use Rattle.std.specs.Option.{option_map}
-use Rattle.std.proofs.Math.Bool.{true≢false}
-use Rattle.std.proofs.Math.Nat.{min-eq_left}
-use Rattle.std.proofs.lemmas.Bool.{and_parts, eq-eqb, eqb-false, eqb-true}
-use Rattle.std.proofs.lemmas.Option.{same_Some}
-use Rattle.std.proofs.lemmas.List.{drop-append-le, drop-drop, drop-map, length-map}
-use Rattle.std.proofs.lemmas.List.Elements.{filter-append}
-use Rattle.std.proofs.lemmas.List.Sums.{fold_push, sum_by_push}
-use Rattle.msrp_plan.specs.Plan.{PlanModel}
-use Rattle.msrp_plan.specs.Shape.{has_shape}
-use Rattle.msrp_plan.specs.Levels.{is_global}
-use Rattle.msrp_plan.specs.Ceiling.{resources}
-use Rattle.msrp_plan.specs.Jobs.{done, holds, is_queued}
-use Rattle.msrp_plan.specs.Actions.{is_global_unit, res_of_unit}
-use Rattle.msrp_plan.specs.Queues.{fifo, is_first, is_on, is_release, is_release_of, is_request, requester}
-use Rattle.msrp_plan.specs.Runs.{EachAfter, IsLegal, IsRunStart}
-use Rattle.msrp_plan.specs.WellFormed.{IsPlan}
+use Rattle.msrp_plan.proofs.Common.{◌≡◌, ◌≢◌, ℕ, zero, suc, ◌+◌, ◌-◌, ◌^◌, min, ◌<◌, ◌≤◌, ◌==◌, ◌&&◌, Bool, true, false, cond, List, [], ◌∷◌, ◌++◌, Option, Some, None, refl, ap, sym, ◌∙◌, subst, arith, length, length-append, length-drop, drop, append-nil, is_some, map, slice_get, slice_set, Contains, cons_option, filter, true≢false, and_parts, eqb-false, same_Some, drop-append-le, drop-drop, length-map, filter-append, fold_push, sum_by_push, PlanModel, has_shape, is_global, resources, done, holds, is_queued, is_global_unit, res_of_unit, fifo, is_first, is_on, is_release, is_release_of, is_request, requester, EachAfter, IsLegal, IsRunStart, IsPlan, same_is, in_resources, DoesUnit, legal_turn, places_push, not_equal, each_at, each_before, units_lock, Grants, Locks, Releases, Runs, Spins, Takes, Unlocks, step_of}
 use Rattle.msrp_plan.specs.declared.ids.JobId.{JobId}
 use Rattle.msrp_plan.specs.declared.ids.ResId.{ResId}
 use Rattle.msrp_plan.specs.declared.rows.Kind.{Kind}
 use Rattle.msrp_plan.specs.declared.rows.Kind.TheVariants.{Grant, Idle, Lock, Queue, Release, Run, Spin, Take, Unlock}
 use Rattle.msrp_plan.specs.declared.rows.Row.{Row}
+use Rattle.std.specs.List.{fold}
+use Rattle.std.specs.Option.{option_map}
+use Rattle.std.proofs.Math.Nat.{min-eq_left}
+use Rattle.std.proofs.lemmas.Bool.{eq-eqb, eqb-true}
+use Rattle.std.proofs.lemmas.List.{drop-map}
 use Rattle.msrp_plan.specs.declared.units.Op.TheVariants.{Lock as LockUnit}
 use Rattle.msrp_plan.proofs.Holding.Holders.{orderly_at}
-use Rattle.msrp_plan.proofs.Jobs.JobTests.{same_is}
-use Rattle.msrp_plan.proofs.Levels.Ceilings.{in_resources}
-use Rattle.msrp_plan.proofs.Legality.LegalRows.{DoesUnit, legal_turn}
-use Rattle.msrp_plan.proofs.Lists.AnyAll.{places_push}
-use Rattle.msrp_plan.proofs.Lists.Ranges.{not_equal}
-use Rattle.msrp_plan.proofs.Lists.Prefixes.{each_at, each_before}
 use Rattle.msrp_plan.proofs.Queues.Fifos.{IsFed, fifo_request, released, requested}
 use Rattle.msrp_plan.proofs.Queues.QueueMembers.{queue_at, queue_short}
-use Rattle.msrp_plan.proofs.TaskUnits.PlanUnits.{units_lock}
 use Rattle.msrp_plan.proofs.TaskUnits.Stands.{holder_stands}
-use Rattle.msrp_plan.proofs.TaskUnits.UnitKinds.{Grants, Locks, Queues, Releases, Runs, Spins, Takes, Unlocks, step_of}
+use Rattle.msrp_plan.proofs.TaskUnits.UnitKinds.{Queues}
 use Rattle.msrp_sim.proofs.Standing.{get_set_other, get_set_same}
 use Rattle.msrp_why.specs.Exercise.{AreResourceCounts}
 use Rattle.msrp_why.specs.Inside.Steps.{IsCountStep}

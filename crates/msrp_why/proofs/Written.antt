@@ -1,12 +1,7 @@
 -- Texts that are written line by line.
-use Rattle.std.proofs.Common.{◌≡◌, ℕ, ◌+◌, ◌<◌, List, [], ◌∷◌, ◌++◌, Option, ap, sym, ◌∙◌, subst, arith, append-nil, append_assoc, get_or, length, take}
-use Rattle.std.specs.List.{flat_map, range_with_len}
-use Rattle.std.proofs.lemmas.List.Concat.{flat_map-append}
-use Rattle.std.proofs.lemmas.List.{take_more}
-use Rattle.msrp_plan.specs.Bytes.{Wrote}
+use Rattle.msrp_plan.proofs.Common.{◌≡◌, ℕ, ◌+◌, ◌<◌, List, [], ◌∷◌, ◌++◌, Option, ap, sym, ◌∙◌, subst, arith, append-nil, append_assoc, get_or, length, take, flat_map, range_with_len, take_more, Wrote, range_more, wrote-more}
 use Rattle.msrp_plan.specs.declared.bytes.Sink.{Sink}
-use Rattle.msrp_plan.proofs.Lists.Ranges.{range_more}
-use Rattle.msrp_plan.proofs.Writes.{wrote-more}
+use Rattle.std.proofs.lemmas.List.Concat.{flat_map-append}
 
 -- the lines of one element more
 flat_one : {X : Type 0} (f : X → List ℕ) (xs : List X) (i : ℕ) (d : X) → i < length xs → flat_map f (take (i + 1) xs) ≡ flat_map f (take i xs) ++ f (get_or xs i d)

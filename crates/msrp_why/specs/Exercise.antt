@@ -1,12 +1,5 @@
 -- What a run exercised, in numbers of its rows: a trace in which nothing happens is legal too.
-use Rattle.std.specs.Prelude.{ℕ, List, [], ◌∷◌, ◌++◌, ◌+◌, ◌^◌, ◌-◌, ◌==◌, ◌&&◌, Bool, true, false, not, nat_le, nat_lt, min, max, length, Option, Some, None, ◌≡◌, if◌then◌else◌, count_by, take}
-use Rattle.msrp_plan.specs.Blocking.{count_after}
-use Rattle.msrp_plan.specs.Ceiling.{ceiling}
-use Rattle.msrp_plan.specs.Choice.{head, running}
-use Rattle.msrp_plan.specs.Jobs.{done, is_waiting, same_job}
-use Rattle.msrp_plan.specs.Levels.{level}
-use Rattle.msrp_plan.specs.Plan.{PlanModel, key, units}
-use Rattle.msrp_plan.specs.Queues.{is_on}
+use Rattle.msrp_plan.specs.Common.{ℕ, List, [], ◌∷◌, ◌++◌, ◌+◌, ◌^◌, ◌-◌, ◌==◌, ◌&&◌, Bool, true, false, not, nat_le, nat_lt, min, max, length, Option, Some, None, ◌≡◌, if◌then◌else◌, count_by, take, count_after, ceiling, head, running, done, is_waiting, same_job, level, PlanModel, key, units, is_on}
 use Rattle.msrp_plan.specs.declared.ids.JobId.{JobId}
 use Rattle.msrp_plan.specs.declared.rows.Kind.{Kind}
 use Rattle.msrp_plan.specs.declared.rows.Kind.TheVariants.{Grant, Lock, Queue, Take}

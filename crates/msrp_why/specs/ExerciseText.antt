@@ -1,7 +1,5 @@
 -- What a run exercised, as text.
-use Rattle.std.specs.Prelude.{ℕ, List, [], ◌++◌, length, codes, decimal, slice_get, Option, Some}
-use Rattle.std.specs.List.{flat_map, range_with_len}
-use Rattle.msrp_plan.specs.Plan.{PlanModel}
+use Rattle.msrp_plan.specs.Common.{ℕ, List, [], ◌++◌, length, codes, decimal, slice_get, Option, Some, flat_map, range_with_len, PlanModel}
 use Rattle.msrp_why.specs.declared.exercise.ResourceCounts.{ResourceCounts}
 use Rattle.msrp_why.specs.declared.exercise.TurnCounts.{TurnCounts}
 use Rattle.msrp_why.specs.declared.notes.Notes.{Notes}

@@ -1,18 +1,14 @@
 -- Facts on a row that is refused, as text: a line each.
-use Rattle.std.specs.Prelude.{ℕ, Bool, List, [], ◌++◌, ◌+◌, ◌*◌, ◌/◌, ◌&&◌, nat_lt, length, codes, decimal, Option, Some, None, if◌then◌else◌}
-use Rattle.std.specs.List.{flat_map}
-use Rattle.std.specs.Option.{is_some}
-use Rattle.msrp_advice.specs.Refusals.{line_part}
-use Rattle.msrp_core.specs.declared.states.CoreState.{CoreState}
-use Rattle.msrp_plan.specs.Plan.{PlanModel, core_of, key, task_of, units}
-use Rattle.msrp_plan.specs.Jobs.{is_job, jobs_of}
-use Rattle.msrp_plan.specs.Levels.{level}
+use Rattle.msrp_plan.specs.Common.{ℕ, Bool, List, [], ◌++◌, ◌+◌, ◌*◌, ◌/◌, ◌&&◌, nat_lt, length, codes, decimal, Option, Some, None, if◌then◌else◌, flat_map, PlanModel, core_of, key, task_of, units, is_job, jobs_of, level}
 use Rattle.msrp_plan.specs.declared.faults.Rule.{Rule}
 use Rattle.msrp_plan.specs.declared.faults.Rule.TheVariants.{A1, A2, A3, A4, A5, A6, A7}
 use Rattle.msrp_plan.specs.declared.ids.JobId.{JobId}
 use Rattle.msrp_plan.specs.declared.rows.Row.{Row}
 use Rattle.msrp_plan.specs.declared.rows.TextVersion.{TextVersion}
 use Rattle.msrp_plan.specs.declared.rows.TextVersion.TheVariants.{V1, V2}
+use Rattle.std.specs.Option.{is_some}
+use Rattle.msrp_advice.specs.Refusals.{line_part}
+use Rattle.msrp_core.specs.declared.states.CoreState.{CoreState}
 use Rattle.msrp_trace.specs.TraceText.{is_named, row_text}
 
 -- the version whose text tells all of the row

@@ -1,13 +1,10 @@
 -- What is noted of a run as its rows are judged.
-use Rattle.std.specs.Prelude.{ℕ, List, [], ◌∷◌, ◌++◌, Option, Some, ◌≡◌, length, slice_get, drop}
-use Rattle.std.specs.Option.{ForSome}
-use Rattle.msrp_core.specs.CoreStates.{IsCoreState}
-use Rattle.msrp_plan.specs.Logs.{log_of}
-use Rattle.msrp_plan.specs.Plan.{PlanModel, units}
+use Rattle.msrp_plan.specs.Common.{ℕ, List, [], ◌∷◌, ◌++◌, Option, Some, ◌≡◌, length, slice_get, drop, ForSome, log_of, PlanModel, units}
 use Rattle.msrp_plan.specs.declared.ids.JobId.{JobId}
 use Rattle.msrp_plan.specs.declared.rows.Kind.{Kind}
 use Rattle.msrp_plan.specs.declared.rows.Kind.TheVariants.{Lock, Queue, Release, Take, Unlock}
 use Rattle.msrp_plan.specs.declared.rows.Row.{Row}
+use Rattle.msrp_core.specs.CoreStates.{IsCoreState}
 use Rattle.msrp_why.specs.Exercise.{AreResourceCounts, AreTurnCounts, is_kept, is_met}
 use Rattle.msrp_why.specs.Inside.Sections.{AreSections}
 use Rattle.msrp_why.specs.NumberedRows.{last_change, last_row, queue_rows}

@@ -1,9 +1,7 @@
 -- What is written of a refused record of a trace: its code and number with a sentence, and the record as it stands.
-use Rattle.std.specs.Prelude.{ℕ, List, [], ◌++◌, Option, length, codes, decimal, slice_get, unwrap_or}
-use Rattle.std.specs.List.{flat_map, range_with_len}
+use Rattle.msrp_plan.specs.Common.{ℕ, List, [], ◌++◌, Option, length, codes, decimal, slice_get, unwrap_or, flat_map, range_with_len, PlanModel, task_at}
 use Rattle.msrp_advice.specs.Refusals.{line_part}
 use Rattle.msrp_advice.specs.Shown.{shown_record, wrong_field}
-use Rattle.msrp_plan.specs.Plan.{PlanModel, task_at}
 use Rattle.msrp_trace.specs.Codes.{code_of}
 use Rattle.msrp_trace.specs.declared.faults.TraceFault.{TraceFault}
 use Rattle.msrp_why.specs.Misfits.{misfit_of, place_of}

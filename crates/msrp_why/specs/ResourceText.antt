@@ -1,11 +1,9 @@
 -- What is noted of the resources, as text.
-use Rattle.std.specs.Prelude.{ℕ, Bool, List, [], ◌++◌, ◌==◌, ◌&&◌, is_none, length, codes, decimal, nat_lt, slice_get, Option, Some, None, if◌then◌else◌}
-use Rattle.std.specs.List.{flat_map, list_any}
-use Rattle.msrp_levels.specs.Users.{ceiling_at}
-use Rattle.msrp_plan.specs.Plan.{PlanModel}
+use Rattle.msrp_plan.specs.Common.{ℕ, Bool, List, [], ◌++◌, ◌==◌, ◌&&◌, is_none, length, codes, decimal, nat_lt, slice_get, Option, Some, None, if◌then◌else◌, flat_map, list_any, PlanModel}
 use Rattle.msrp_plan.specs.declared.ids.ResId.{ResId}
 use Rattle.msrp_plan.specs.declared.rows.Kind.{Kind}
 use Rattle.msrp_plan.specs.declared.rows.Kind.TheVariants.{Lock}
+use Rattle.msrp_levels.specs.Users.{ceiling_at}
 use Rattle.msrp_why.specs.Exercise.{is_queue}
 use Rattle.msrp_why.specs.FactLines.{told_row}
 use Rattle.msrp_why.specs.declared.notes.Numbered.{Numbered}

@@ -1,9 +1,7 @@
 //! The cause of a fault, kept as rows are judged.
-ghost use Rattle.std.specs.Prelude.{◌≡◌, ◌<◌, ◌*◌, ◌++◌, ◌∷◌, [], List, None, length, if◌then◌else◌};
+ghost use Rattle.msrp_plan.specs.Common.{◌≡◌, ◌<◌, ◌*◌, ◌++◌, ◌∷◌, [], List, None, length, if◌then◌else◌, fault_in, IsPlan};
 ghost use Rattle.msrp_audit.specs.Audits.{HasFed, IsBroken};
-ghost use Rattle.msrp_plan.specs.Verdict.{fault_in};
 ghost use Rattle.msrp_plan.specs.declared.rows.Row.{Row as TraceRow};
-ghost use Rattle.msrp_plan.specs.WellFormed.{IsPlan};
 ghost use Rattle.msrp_why.specs.Causes.{IsCauseAfter, cores_with_turn};
 ghost use Rattle.msrp_why.specs.Noted.{AreNoted};
 

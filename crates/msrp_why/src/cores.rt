@@ -1,9 +1,6 @@
 //! What is noted of each core before its next turn, so that a turn that changes little is noted by little.
-ghost use Rattle.std.specs.Option.{ForSome, IsSomeAnd};
-ghost use Rattle.std.specs.Prelude.{◌≡◌, ◌<◌, ◌+◌, ◌++◌, ◌∷◌, [], List, None, length, true};
+ghost use Rattle.msrp_plan.specs.Common.{ForSome, IsSomeAnd, ◌≡◌, ◌<◌, ◌+◌, ◌++◌, ◌∷◌, [], List, None, length, true, IsRunStart, IsPlan};
 ghost use Rattle.msrp_audit.specs.Audits.{HasFed};
-ghost use Rattle.msrp_plan.specs.Runs.{IsRunStart};
-ghost use Rattle.msrp_plan.specs.WellFormed.{IsPlan};
 ghost use Rattle.msrp_plan.specs.declared.rows.Row.{Row as TraceRow};
 ghost use Rattle.msrp_why.specs.Exercise.{AreTurnCounts, is_kept, is_met};
 ghost use Rattle.msrp_why.specs.Inside.Sections.{AreSections};

@@ -1,12 +1,8 @@
 //! What a run exercised, counted as its rows are judged.
-ghost use Rattle.std.specs.Prelude.{◌≡◌, ◌&&◌, ◌<◌, ◌++◌, ◌∷◌, [], List, length, not, true};
-ghost use Rattle.std.specs.Option.{ForSome};
-ghost use Rattle.msrp_plan.specs.Runs.{IsRunStart};
+ghost use Rattle.msrp_plan.specs.Common.{◌≡◌, ◌&&◌, ◌<◌, ◌++◌, ◌∷◌, [], List, length, not, true, ForSome, IsRunStart, PlanModel, units, IsPlan};
 ghost use Rattle.msrp_plan.specs.declared.rows.Row.{Row as TraceRow};
 ghost use Rattle.msrp_why.specs.Exercise.{AreTurnCounts, ends, is_at, is_entry, is_grant, is_in_tick, is_kept, is_met, is_opening, is_other, is_past, is_queue, one_if};
 ghost use Rattle.msrp_why.specs.FactLines.{is_job_of, units_done};
-ghost use Rattle.msrp_plan.specs.Plan.{PlanModel, units};
-ghost use Rattle.msrp_plan.specs.WellFormed.{IsPlan};
 ghost use Rattle.msrp_why.specs.Inside.Turns.{finishes_from, nests_from};
 ghost use Rattle.msrp_why.specs.Noted.{IsCoreNoted};
 ghost use Rattle.msrp_why.specs.Inside.Sections.{AreSections};

@@ -1,12 +1,6 @@
 //! What is noted of each resource as rows are judged: since which row who stands in its queue, and its last change.
-ghost use Rattle.std.specs.Option.{ForSome, IsSomeAnd};
-ghost use Rattle.std.specs.Prelude.{◌≡◌, ◌<◌, ◌++◌, ◌∷◌, [], List, IfOk, None, length, true, vec_capacity};
-ghost use Rattle.msrp_plan.specs.Queues.{is_request};
-ghost use Rattle.msrp_plan.specs.Runs.{IsRunStart};
+ghost use Rattle.msrp_plan.specs.Common.{ForSome, IsSomeAnd, ◌≡◌, ◌<◌, ◌++◌, ◌∷◌, [], List, IfOk, None, length, true, vec_capacity, is_request, IsRunStart, log_of, PlanModel, IsPlan};
 ghost use Rattle.msrp_plan.specs.declared.rows.Row.{Row as TraceRow};
-ghost use Rattle.msrp_plan.specs.Logs.{log_of};
-ghost use Rattle.msrp_plan.specs.Plan.{PlanModel};
-ghost use Rattle.msrp_plan.specs.WellFormed.{IsPlan};
 ghost use Rattle.msrp_audit.specs.Audits.{HasFed};
 ghost use Rattle.msrp_core.specs.CoreStates.{IsCoreState};
 ghost use Rattle.msrp_why.specs.Inside.Steps.{AreEmptyOf, IsCountStep};

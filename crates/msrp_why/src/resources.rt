@@ -1,7 +1,5 @@
 //! What is noted of the resources, in plain sentences.
-ghost use Rattle.std.specs.Prelude.{◌≡◌, ◌<◌, length};
-ghost use Rattle.std.specs.List.{flat_map, list_any};
-ghost use Rattle.msrp_plan.specs.Bytes.{Wrote};
+ghost use Rattle.msrp_plan.specs.Common.{◌≡◌, ◌<◌, length, flat_map, list_any, Wrote};
 ghost use Rattle.msrp_why.specs.ResourceText.{ahead_line, before_lines, ceiling_part, held_lines, hold_line, lacks_ahead, held_text, last_lines, lock_lines, own_line, queue_lines, reply_text, resource_lines, since_line};
 
 use crate::exercise::is_queue;

@@ -1,10 +1,7 @@
 //! A cause in plain sentences, a line each.
-ghost use Rattle.std.specs.Prelude.{◌≡◌, ◌<◌, ◌-◌, decimal, true, length};
-ghost use Rattle.std.specs.List.{flat_map};
+ghost use Rattle.msrp_plan.specs.Common.{◌≡◌, ◌<◌, ◌-◌, decimal, true, length, flat_map, Wrote, release_tick};
 ghost use Rattle.std.specs.Option.{IsSome};
 ghost use Rattle.msrp_advice.specs.Refusals.{line_part};
-ghost use Rattle.msrp_plan.specs.Bytes.{Wrote};
-ghost use Rattle.msrp_plan.specs.Plan.{release_tick};
 ghost use Rattle.msrp_trace.specs.TraceText.{is_named, row_text};
 ghost use Rattle.msrp_why.specs.WhyText.{cause_text, facts_text, missing_text};
 ghost use Rattle.msrp_why.specs.FactLines.{came_line, ceiling_line, core_text, due_lines, is_job_of, job_line, job_lines, owner_line, owner_lines, place_line, rows_line, rule_line, state_text, told_row, turn_line, units_done, units_line, units_lines, version_told, whom_line};

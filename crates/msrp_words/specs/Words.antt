@@ -1,11 +1,11 @@
 -- What a command line asks for.
-use Rattle.std.specs.Prelude.{◌≡◌, true, false, List, Option, Some, None, codes, unwrap_or, if◌then◌else◌, Result, Ok, Err}
-use Rattle.std.specs.Str.{bytes_eq}
+use Rattle.msrp_plan.specs.Common.{◌≡◌, true, false, List, Option, Some, None, codes, unwrap_or, if◌then◌else◌, Ok, Err, bytes_eq}
+use Rattle.msrp_plan.specs.declared.rows.TextVersion.{TextVersion}
+use Rattle.msrp_plan.specs.declared.rows.TextVersion.TheVariants.{V1, V2}
+use Rattle.std.specs.Prelude.{Result}
 use Rattle.clap.specs.Words.{Row, Text, first_of}
 use Rattle.msrp_words.specs.declared.cli.Cmd.{Cmd}
 use Rattle.msrp_words.specs.declared.cli.Cmd.TheVariants.{Sim, Run, Audit, Report, Check, CheckText, Help}
-use Rattle.msrp_plan.specs.declared.rows.TextVersion.{TextVersion}
-use Rattle.msrp_plan.specs.declared.rows.TextVersion.TheVariants.{V1, V2}
 use Rattle.msrp_sim.specs.declared.orders.Order.{Order}
 use Rattle.msrp_sim.specs.declared.orders.Order.TheVariants.{Asc, Desc, Rot}
 use Rattle.msrp_cli.specs.Arguments.{is_given, paths_of}

@@ -1,12 +1,12 @@
 -- How gathered rows are kept: those whose numbers are small in eight bytes, with a value in place of each part that a row of their
 -- kind lacks, and the rest as they are.
-use Rattle.std.specs.Prelude.{ℕ, Bool, List, Option, None, Some, nat_lt, map, slice_index_or, [], ◌∷◌, ◌+◌, ◌-◌, ◌++◌}
-use Rattle.msrp_plan.specs.Shape.{ahead_of_kind, carrier_of_kind, job_of_kind, res_of_kind, shape_of_kind}
+use Rattle.msrp_plan.specs.Common.{ℕ, Bool, List, Option, None, Some, nat_lt, map, slice_index_or, [], ◌∷◌, ◌+◌, ◌-◌, ◌++◌, ahead_of_kind, job_of_kind, res_of_kind}
 use Rattle.msrp_plan.specs.declared.ids.JobId.{JobId}
 use Rattle.msrp_plan.specs.declared.ids.ResId.{ResId}
 use Rattle.msrp_plan.specs.declared.rows.Kind.{Kind}
 use Rattle.msrp_plan.specs.declared.rows.Kind.TheVariants.{Idle, Run, Lock, Unlock, Take, Queue, Grant, Spin, Release}
 use Rattle.msrp_plan.specs.declared.rows.Row.{Row}
+use Rattle.msrp_plan.specs.Shape.{carrier_of_kind, shape_of_kind}
 use Rattle.msrp_audit.specs.Inside.KeptView.{Kept}
 
 -- the kinds, each in the place of its number

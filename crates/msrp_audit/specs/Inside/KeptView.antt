@@ -1,6 +1,6 @@
 -- What a clause sees of a row that is kept as one number: its parts. Its greatest part is the tick with 16 bits; then come 16 of the job's number, 8 each of the
 -- task, of the resource and of how many stand ahead, and 4 each of the core and of the kind.
-use Rattle.std.specs.Prelude.{◌≡◌, ℕ, ◌+◌, ◌*◌, ◌^◌, ◌/◌, ◌%◌}
+use Rattle.msrp_plan.specs.Common.{◌≡◌, ℕ, ◌+◌, ◌*◌, ◌^◌, ◌/◌, ◌%◌}
 use Rattle.std.proofs.Common.{ap, arith}
 use Rattle.msrp_audit.specs.declared.kept.KeptRow.TheInside.{Inside}
 

@@ -1,11 +1,10 @@
 -- The rows that name a resource, one after the other.
-use Rattle.std.specs.Prelude.{ℕ, List, Option, Some, None, true, false, length, slice_get, slice_index_or, ◌≡◌, ◌<◌, ◌≤◌, ◌+◌, ◌*◌, ◌/◌, ◌%◌, ◌⊎◌}
-use Rattle.std.specs.Borrow.{Bor}
-use Rattle.msrp_plan.specs.Queues.{is_behind, is_on}
+use Rattle.msrp_plan.specs.Common.{ℕ, List, Option, Some, None, true, false, length, slice_get, slice_index_or, ◌≡◌, ◌<◌, ◌≤◌, ◌+◌, ◌*◌, ◌/◌, ◌%◌, ◌⊎◌, is_behind, is_on}
 use Rattle.msrp_plan.specs.declared.ids.JobId.{JobId}
 use Rattle.msrp_plan.specs.declared.ids.ResId.{ResId}
 use Rattle.msrp_plan.specs.declared.rows.Kind.TheVariants.{Spin}
 use Rattle.msrp_plan.specs.declared.rows.Row.{Row}
+use Rattle.std.specs.Borrow.{Bor}
 use Rattle.msrp_audit.specs.declared.naming.Named.{Named}
 use Rattle.msrp_audit.specs.declared.naming.Naming.{Naming}
 use Rattle.msrp_audit.specs.declared.naming.Wait.{Wait}

@@ -1,10 +1,5 @@
 -- The pieces of an audit: which rule each of them finds broken at a row, and which fault it answers.
-use Rattle.std.specs.Prelude.{ℕ, List, ◌∷◌, ◌++◌, Bool, ◌==◌, ◌&&◌, ◌||◌, nat_lt, nat_le, Option, Some, None, IfSome, fold, length, slice_get, slice_index_or, ◌<◌, ◌≡◌, ◌≤◌, ◌+◌, ◌-◌, ◌*◌, ◌/◌, ◌%◌, if◌then◌else◌}
-use Rattle.msrp_plan.specs.Plan.{PlanModel}
-use Rattle.msrp_plan.specs.Levels.{is_global}
-use Rattle.msrp_plan.specs.Logs.{is_of}
-use Rattle.msrp_plan.specs.Queues.{is_on}
-use Rattle.msrp_plan.specs.Runs.{IsRunStart, is_in_turn, is_of_core, is_chosen, is_next_action, is_fifo_reply}
+use Rattle.msrp_plan.specs.Common.{ℕ, List, ◌∷◌, ◌++◌, Bool, ◌==◌, ◌&&◌, ◌||◌, nat_lt, nat_le, Option, Some, None, IfSome, fold, length, slice_get, slice_index_or, ◌<◌, ◌≡◌, ◌≤◌, ◌+◌, ◌-◌, ◌*◌, ◌/◌, ◌%◌, if◌then◌else◌, PlanModel, is_global, is_of, is_on, IsRunStart, is_in_turn, is_of_core, is_chosen, is_next_action, is_fifo_reply}
 use Rattle.msrp_plan.specs.declared.faults.Fault.{Fault}
 use Rattle.msrp_plan.specs.declared.faults.Rule.{Rule}
 use Rattle.msrp_plan.specs.declared.faults.Rule.TheVariants.{A1, A2, A3, A4, A5, A6, A7}

@@ -1,10 +1,9 @@
 -- The rows of the first turns, which the cores had by their numbers in each tick. Of each core a row is kept only where it isn't the last one again, but for
 -- its tick: so a row that is kept stands until the next one.
-use Rattle.std.specs.Prelude.{ℕ, List, [], Some, nat_le, length, map, slice_get, slice_index_or, ◌≡◌, ◌<◌, ◌≤◌, ◌+◌, ◌-◌, ◌*◌, ◌/◌, ◌%◌, ◌^◌, if◌then◌else◌, nat_lt, Vec}
-use Rattle.std.specs.Global.{Global}
-use Rattle.std.specs.List.{All, prefix_len, range_with_len}
-use Rattle.msrp_plan.specs.Stretches.{in_tick}
+use Rattle.msrp_plan.specs.Common.{ℕ, List, [], Some, nat_le, length, map, slice_get, slice_index_or, ◌≡◌, ◌<◌, ◌≤◌, ◌+◌, ◌-◌, ◌*◌, ◌/◌, ◌%◌, ◌^◌, if◌then◌else◌, nat_lt, All, prefix_len, range_with_len, in_tick}
 use Rattle.msrp_plan.specs.declared.rows.Row.{Row}
+use Rattle.std.specs.Prelude.{Vec}
+use Rattle.std.specs.Global.{Global}
 use Rattle.msrp_audit.specs.Inside.KeptView.{Kept}
 use Rattle.msrp_audit.specs.declared.stretches.Stretch.{Stretch}
 use Rattle.msrp_audit.specs.Inside.Gathered.{row_of}

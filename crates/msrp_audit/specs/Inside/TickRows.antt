@@ -1,5 +1,5 @@
 -- How the rows of a tick are put behind those of the turns before: which of them were made anew, and how many are told by what is kept.
-use Rattle.std.specs.Prelude.{ℕ, List, ◌++◌, Some, length, slice_get, slice_index_or, take, ◌≡◌, ◌<◌, ◌≤◌, ◌+◌, ◌*◌}
+use Rattle.msrp_plan.specs.Common.{ℕ, List, ◌++◌, Some, length, slice_get, slice_index_or, take, ◌≡◌, ◌<◌, ◌≤◌, ◌+◌, ◌*◌}
 use Rattle.msrp_plan.specs.declared.rows.Row.{Row}
 use Rattle.msrp_audit.specs.Inside.KeptView.{Kept}
 use Rattle.msrp_audit.specs.Inside.Stretches.{AreListed, turns_told}

@@ -1,9 +1,5 @@
 -- What a piece of an audit keeps as it goes over the rows, and what is found once for all pieces.
-use Rattle.std.specs.Prelude.{ℕ, List, ◌∷◌, ◌++◌, ◌+◌, ◌*◌, ◌/◌, Bool, Some, None, IfSome, true, false, slice_index_or, slice_get, take, length, ◌≡◌, ◌≢◌, ◌<◌, ◌≤◌}
-use Rattle.msrp_plan.specs.Plan.{PlanModel}
-use Rattle.msrp_plan.specs.Logs.{log_of}
-use Rattle.msrp_plan.specs.Runs.{IsRunStart, had_turn, is_in_turn}
-use Rattle.msrp_plan.specs.Stretches.{in_tick}
+use Rattle.msrp_plan.specs.Common.{ℕ, List, ◌∷◌, ◌++◌, ◌+◌, ◌*◌, ◌/◌, Bool, Some, None, IfSome, true, false, slice_index_or, slice_get, take, length, ◌≡◌, ◌≢◌, ◌<◌, ◌≤◌, PlanModel, log_of, IsRunStart, had_turn, is_in_turn, in_tick}
 use Rattle.msrp_plan.specs.declared.rows.Row.{Row}
 use Rattle.msrp_core.specs.Machine.{MachineModel, StandsAfter, next_known}
 use Rattle.msrp_audit.specs.Foresight.{unlike_turn}

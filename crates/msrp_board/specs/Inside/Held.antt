@@ -1,13 +1,12 @@
 -- How what a seat keeps at run time stands to what it knows, and how what it knows is told to callers.
-use Rattle.std.specs.Prelude.{◌≡◌, ℕ, ◌<◌, ◌≤◌, ◌==◌, List, [], map, take, slice_index, Some, None, reverse, Bool, true, false, ltb, leb, ◌+◌, ◌*◌, slice_index_or, ⊤, if◌then◌else◌}
-use Rattle.std.specs.List.{filter_map}
-use Rattle.std.specs.Option.{option_map, unwrap_or}
-use Rattle.std.specs.declared.option.Option.{Option}
-use Rattle.msrp_plan.specs.Limits.{most_resources}
-use mathlib.Core.Option.{some}
-use lib.ListN.{get_elem?}
+use Rattle.msrp_plan.specs.Common.{◌≡◌, ℕ, ◌<◌, ◌≤◌, ◌==◌, List, [], map, take, slice_index, Some, None, reverse, Bool, true, false, ◌+◌, ◌*◌, slice_index_or, ⊤, if◌then◌else◌, filter_map, most_resources}
 use Rattle.msrp_plan.specs.declared.units.Phase.{Phase}
 use Rattle.msrp_plan.specs.declared.units.Phase.TheVariants.{Free, Queued, Holding}
+use Rattle.std.specs.Prelude.{ltb, leb}
+use Rattle.std.specs.Option.{option_map, unwrap_or}
+use Rattle.std.specs.declared.option.Option.{Option}
+use mathlib.Core.Option.{some}
+use lib.ListN.{get_elem?}
 use Rattle.atomic_table.specs.Table.{Me}
 use Rattle.atomic_table.specs.Seated.{TableId}
 use Rattle.msrp_board.specs.declared.answers.Look.{Look}

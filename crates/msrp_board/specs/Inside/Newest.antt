@@ -1,10 +1,10 @@
 -- What a board keeps of its entries, the newest first, which is how one entry is added; callers see them oldest first.
 -- A word that ends in `Newest` is the word of that name in `Books` or `History`, of the reversed list.
-use Rattle.std.specs.Prelude.{◌≡◌, ℕ, zero, suc, ◌+◌, ◌/◌, ◌<◌, ◌≤◌, List, [], ◌∷◌, Bool, true, false, ◌⊎◌, ⊤}
-use Rattle.std.specs.Bool.{OnTrue}
-use Rattle.msrp_plan.specs.FifoLock.{FifoLock, queue_after, granted_after, Answers}
+use Rattle.msrp_plan.specs.Common.{◌≡◌, ℕ, zero, suc, ◌+◌, ◌/◌, ◌<◌, ◌≤◌, List, [], ◌∷◌, Bool, true, false, ◌⊎◌, ⊤, FifoLock, Answers}
 use Rattle.msrp_plan.specs.declared.units.Call.{Call}
 use Rattle.msrp_plan.specs.declared.units.Call.TheVariants.{Ask, Poll, Leave}
+use Rattle.std.specs.Bool.{OnTrue}
+use Rattle.msrp_plan.specs.FifoLock.{queue_after, granted_after}
 use Rattle.msrp_board.specs.declared.books.Entry.{Entry}
 use Rattle.msrp_board.specs.declared.held.Claim.{Claim}
 use Rattle.msrp_board.specs.declared.held.Claim.TheVariants.{Nothing, Waits, Holds}

@@ -1,7 +1,7 @@
 -- What is known of the next row of a trace's text before one is read field by field.
-use Rattle.std.specs.Prelude.{List, [], ◌∷◌, ◌++◌, Option, Some, None, Ok, ◌≡◌, ◌<◌, ◌*◌, ⊤}
-use Rattle.msrp_audit.specs.Audits.{AuditorModel, Awaits, HasFed}
+use Rattle.msrp_plan.specs.Common.{List, [], ◌∷◌, ◌++◌, Option, Some, None, Ok, ◌≡◌, ◌<◌, ◌*◌, ⊤}
 use Rattle.msrp_plan.specs.declared.rows.Row.{Row}
+use Rattle.msrp_audit.specs.Audits.{AuditorModel, Awaits, HasFed}
 use Rattle.msrp_trace.specs.Reading.{Told}
 use Rattle.msrp_trace.specs.Readers.{BeginsAt, GivesNext}
 use Rattle.msrp_engine.specs.declared.judged.Ahead.{Ahead}

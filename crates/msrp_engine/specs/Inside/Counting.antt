@@ -1,6 +1,5 @@
 -- The rows of whole ticks, counted.
-use Rattle.std.specs.Prelude.{ℕ, List, ◌++◌, Option}
-use Rattle.msrp_plan.specs.Runs.{IsRunStart}
+use Rattle.msrp_plan.specs.Common.{ℕ, List, ◌++◌, Option, IsRunStart}
 use Rattle.msrp_plan.specs.declared.rows.Row.{Row}
 use Rattle.msrp_report.specs.Reports.{HasCounted}
 use Rattle.msrp_report.specs.declared.counter.Counter.{Counter}

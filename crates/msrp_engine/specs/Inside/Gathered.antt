@@ -1,18 +1,16 @@
 -- The rows of a trace's text that are gathered before they are judged, and what is found in them.
-use Rattle.std.specs.Prelude.{◌≡◌, ◌⊎◌, ◌≤◌, if◌then◌else◌, ℕ, Bool, true, false, ⊤, List, [], ◌++◌, Option, None, Some, length, option_map, ◌<◌, ◌+◌, ◌-◌, slice_get}
-use Rattle.std.specs.declared.result.Result.{Result}
-use Rattle.std.specs.declared.result.Result.TheVariants.{Ok, Err}
+use Rattle.msrp_plan.specs.Common.{◌≡◌, ◌⊎◌, ◌≤◌, if◌then◌else◌, ℕ, Bool, true, false, ⊤, List, [], ◌++◌, Option, None, Some, length, option_map, ◌<◌, ◌+◌, ◌-◌, slice_get, Result, in_tick}
 use Rattle.msrp_plan.specs.declared.faults.Fault.{Fault}
 use Rattle.msrp_plan.specs.declared.faults.Rule.{Rule}
 use Rattle.msrp_plan.specs.declared.faults.Rule.TheVariants.{A6}
 use Rattle.msrp_plan.specs.declared.rows.Row.{Row}
+use Rattle.std.specs.declared.result.Result.TheVariants.{Ok, Err}
 use Rattle.msrp_trace.specs.Reading.{Told}
 use Rattle.msrp_faults.specs.Outcomes.{trace_fault_of}
 use Rattle.msrp_faults.specs.declared.faults.CliFault.{CliFault}
 use Rattle.msrp_faults.specs.declared.faults.CliFault.TheVariants.{Read}
 use Rattle.msrp_faults.specs.declared.faults.CliFault.TheVariants as cli
 use Rattle.msrp_plan.specs.declared.faults.Memory.{Memory}
-use Rattle.msrp_plan.specs.Stretches.{in_tick}
 use Rattle.msrp_trace.specs.Laws.{as_read}
 use Rattle.msrp_trace.specs.Readers.{GivesRows}
 use Rattle.msrp_engine.specs.Inside.Kept.{row_of_core}

@@ -1,14 +1,13 @@
 -- The rows that are kept of the cores, and their texts, as rows are judged.
-use Rattle.std.specs.Prelude.{ℕ, List, [], true, None, Some, refl, ◌≡◌, ◌<◌, ◌%◌, slice_index_or}
-use Rattle.msrp_plan.specs.Plan.{PlanModel}
-use Rattle.msrp_plan.specs.Stretches.{in_tick}
+use Rattle.msrp_plan.specs.Common.{ℕ, List, [], true, None, Some, ◌≡◌, ◌<◌, ◌%◌, slice_index_or, PlanModel, in_tick}
 use Rattle.msrp_plan.specs.declared.rows.Row.{Row}
 use Rattle.msrp_plan.specs.declared.rows.TextVersion.{TextVersion}
+use Rattle.msrp_plan.specs.declared.rows.Kind.TheVariants.{Idle}
+use Rattle.std.specs.Prelude.{refl}
 use Rattle.msrp_sim.specs.Cores.{CoresModel, known_row}
 use Rattle.msrp_trace.specs.Gathering.{after_tick}
 use Rattle.msrp_trace.specs.Laws.{as_read, is_short, is_told_whole}
 use Rattle.msrp_trace.specs.Texts.{TextsModel, text_of_core}
-use Rattle.msrp_plan.specs.declared.rows.Kind.TheVariants.{Idle}
 
 -- what stands in place of a core's row before its first turn
 abbrev pub no_row : Row

@@ -1,6 +1,5 @@
 -- The texts of a plan.
-use Rattle.std.specs.Prelude.{ℕ, List}
-use Rattle.msrp_plan.specs.Plan.{PlanModel}
+use Rattle.msrp_plan.specs.Common.{ℕ, List, PlanModel}
 use Rattle.msrp_text.specs.PlanText.{plan_text}
 use Rattle.msrp_engine.specs.CheckText.{check_text}
 use Rattle.msrp_engine.specs.declared.texts.PlanText.{PlanText}

@@ -1,10 +1,7 @@
 -- The rows of whole ticks, in each of which the cores come by their numbers.
-use Rattle.std.specs.Prelude.{ℕ, List, [], ◌∷◌, ◌++◌, Option, Some, None, ◌≡◌, ◌<◌, ◌≤◌, ◌/◌, ◌%◌, length, slice_get}
-use Rattle.msrp_audit.specs.Audits.{AuditorModel, HasFed}
-use Rattle.msrp_plan.specs.Plan.{PlanModel}
-use Rattle.msrp_plan.specs.Runs.{IsRunStart}
-use Rattle.msrp_plan.specs.Stretches.{in_tick}
+use Rattle.msrp_plan.specs.Common.{ℕ, List, [], ◌∷◌, ◌++◌, Option, Some, None, ◌≡◌, ◌<◌, ◌≤◌, ◌/◌, ◌%◌, length, slice_get, PlanModel, IsRunStart, in_tick}
 use Rattle.msrp_plan.specs.declared.rows.Row.{Row}
+use Rattle.msrp_audit.specs.Audits.{AuditorModel, HasFed}
 use Rattle.msrp_trace.specs.Laws.{as_read}
 use Rattle.msrp_trace.specs.Reading.{Told}
 use Rattle.msrp_trace.specs.Readers.{GivesRows}

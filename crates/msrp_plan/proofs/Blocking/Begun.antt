@@ -1,19 +1,12 @@
 -- A row that blocks a job is of whoever runs, in an outermost section that began before the job's release: had it begun
 -- later, the job would have held it up.
-use Rattle.std.proofs.Common.{◌≡◌, ℕ, ◌<◌, Bool, true, false, List, [], ◌∷◌, ◌++◌, refl, ap, sym, ◌∙◌, append_assoc, inl, inr}
-use Rattle.std.specs.List.{Contains}
-use Rattle.std.proofs.Math.Bool.{true≢false}
-use Rattle.std.proofs.lemmas.Bool.{cases_lt, or_parts}
-use Rattle.msrp_plan.specs.Plan.{PlanModel, units, release}
-use Rattle.msrp_plan.specs.Jobs.{jobs_on, is_row_of, is_started, is_queued, done}
-use Rattle.msrp_plan.specs.Levels.{level}
-use Rattle.msrp_plan.specs.Choice.{is_before}
-use Rattle.msrp_plan.specs.Bounds.{in_section}
-use Rattle.msrp_plan.specs.Blocking.{is_amid, section_of, IsBegun, HasBlockers, BlockedByBegunSections}
-use Rattle.msrp_plan.specs.Runs.{IsLegal, IsRunStart}
-use Rattle.msrp_plan.specs.WellFormed.{IsPlan}
+use Rattle.msrp_plan.specs.Common.{◌≡◌, ℕ, ◌<◌, Bool, true, false, List, [], ◌∷◌, ◌++◌, Contains, PlanModel, units, release, jobs_on, is_row_of, is_started, is_queued, done, level, is_before, in_section, is_amid, section_of, IsLegal, IsRunStart, IsPlan}
 use Rattle.msrp_plan.specs.declared.ids.JobId.{JobId}
 use Rattle.msrp_plan.specs.declared.rows.Row.{Row}
+use Rattle.std.proofs.Common.{refl, ap, sym, ◌∙◌, append_assoc, inl, inr}
+use Rattle.std.proofs.Math.Bool.{true≢false}
+use Rattle.std.proofs.lemmas.Bool.{cases_lt, or_parts}
+use Rattle.msrp_plan.specs.Blocking.{IsBegun, HasBlockers, BlockedByBegunSections}
 use Rattle.msrp_plan.proofs.Jobs.JobTests.{is_job_is}
 use Rattle.msrp_plan.proofs.Lists.Prefixes.{each_along}
 use Rattle.msrp_plan.proofs.Choosing.Turns.{runs_live}

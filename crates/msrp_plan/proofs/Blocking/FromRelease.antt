@@ -1,18 +1,12 @@
 -- Who blocks a job is known at its release: the first of the later jobs that are live then. So how long a job is blocked is
 -- counted in one pass, by the rows that this one job makes until the blocked job starts.
-use Rattle.std.proofs.Common.{◌≡◌, ℕ, ◌<◌, Bool, true, false, not, ◌&&◌, ◌==◌, cond, ◌||◌, List, [], ◌∷◌, ◌++◌, Option, Some, None, refl, ap, sym, ◌∙◌, subst, arith, length, append_assoc, append-nil, eq-eqb}
-use Rattle.std.specs.List.{AllByRecursion, Contains}
-use Rattle.std.proofs.Math.Bool.{true≢false}
-use Rattle.std.proofs.lemmas.Bool.{and_from, and_parts, false_from_ne_true, le-leb, ne_eqb}
-use Rattle.msrp_plan.specs.Plan.{PlanModel, task_of, core_of, release, units}
-use Rattle.msrp_plan.specs.Jobs.{jobs, jobs_on, is_job, is_row_of, is_released, is_started, is_finished, done}
-use Rattle.msrp_plan.specs.Levels.{level}
-use Rattle.msrp_plan.specs.Choice.{is_before}
-use Rattle.msrp_plan.specs.Blocking.{count_after, is_later, blocks, blocked, first_later, is_by, delays_start, ComesBefore, ComesAfter, BlockedSinceRelease}
-use Rattle.msrp_plan.specs.Runs.{IsLegal, IsRunStart, EachAfter}
-use Rattle.msrp_plan.specs.WellFormed.{IsPlan}
+use Rattle.msrp_plan.specs.Common.{◌≡◌, ℕ, ◌<◌, Bool, true, false, not, ◌&&◌, ◌==◌, cond, ◌||◌, List, [], ◌∷◌, ◌++◌, Option, Some, None, length, AllByRecursion, Contains, PlanModel, task_of, core_of, release, units, jobs, jobs_on, is_job, is_row_of, is_released, is_started, is_finished, done, level, is_before, count_after, blocks, blocked, first_later, IsLegal, IsRunStart, EachAfter, IsPlan}
 use Rattle.msrp_plan.specs.declared.ids.JobId.{JobId}
 use Rattle.msrp_plan.specs.declared.rows.Row.{Row}
+use Rattle.std.proofs.Common.{refl, ap, sym, ◌∙◌, subst, arith, append_assoc, append-nil, eq-eqb}
+use Rattle.std.proofs.Math.Bool.{true≢false}
+use Rattle.std.proofs.lemmas.Bool.{and_from, and_parts, false_from_ne_true, le-leb, ne_eqb}
+use Rattle.msrp_plan.specs.Blocking.{is_later, is_by, delays_start, ComesBefore, ComesAfter, BlockedSinceRelease}
 use Rattle.msrp_plan.proofs.Levels.LevelOrder.{level_falls}
 use Rattle.msrp_plan.proofs.Lists.AnyAll.{any_push}
 use Rattle.msrp_plan.proofs.Lists.Prefixes.{each_before, each_push, each_rest}

@@ -1,18 +1,12 @@
 -- Why a later job has the turn of a core while an earlier one is released and unfinished: it runs, the earlier one isn't
 -- started, and it presses itself on the level of the core's head.
-use Rattle.std.proofs.Common.{◌≡◌, ℕ, ◌≤◌, Bool, true, false, cond, ◌&&◌, ◌==◌, List, Option, Some, None, refl, ap, sym, ◌∙◌, subst, arith, nat_lt, ◌⊎◌, inl, inr, eq-eqb}
-use Rattle.std.specs.List.{Contains}
-use Rattle.std.proofs.Math.Bool.{true≢false}
-use Rattle.std.proofs.lemmas.Bool.{and_parts, eqb-true, leb-true, ltb-false, not-true, true_from_ne_false, false_from_ne_true}
-use Rattle.msrp_plan.specs.Plan.{PlanModel, task_of, core_of, release}
-use Rattle.msrp_plan.specs.Jobs.{jobs, jobs_on, same_job, is_released, is_started, is_finished}
-use Rattle.msrp_plan.specs.Levels.{level}
-use Rattle.msrp_plan.specs.Ceiling.{ceiling}
-use Rattle.msrp_plan.specs.Choice.{is_before, head, running, chosen, choice}
-use Rattle.msrp_plan.specs.Blocking.{is_later, blocks}
-use Rattle.msrp_plan.specs.WellFormed.{IsPlan}
+use Rattle.msrp_plan.specs.Common.{◌≡◌, ℕ, ◌≤◌, Bool, true, false, cond, ◌&&◌, ◌==◌, List, Option, Some, None, nat_lt, ◌⊎◌, Contains, PlanModel, task_of, core_of, release, jobs, jobs_on, same_job, is_released, is_started, is_finished, level, ceiling, is_before, head, running, chosen, choice, blocks, IsPlan}
 use Rattle.msrp_plan.specs.declared.ids.JobId.{JobId}
 use Rattle.msrp_plan.specs.declared.rows.Row.{Row}
+use Rattle.std.proofs.Common.{refl, ap, sym, ◌∙◌, subst, arith, inl, inr, eq-eqb}
+use Rattle.std.proofs.Math.Bool.{true≢false}
+use Rattle.std.proofs.lemmas.Bool.{and_parts, eqb-true, leb-true, ltb-false, not-true, true_from_ne_false, false_from_ne_true}
+use Rattle.msrp_plan.specs.Blocking.{is_later}
 use Rattle.msrp_plan.proofs.Lists.Members.{in_filter}
 use Rattle.msrp_plan.proofs.Levels.LevelOrder.{level_falls}
 use Rattle.msrp_plan.proofs.Jobs.JobTests.{same_is, same_self, some_is}

@@ -1,20 +1,14 @@
 -- One section of one later job gives all the rows that block a job: from the first such row on no other later job presses
 -- on the level of a job that is still to start before, and its own job makes no row past its section.
-use Rattle.std.proofs.Common.{◌≡◌, ◌≢◌, ℕ, ◌+◌, ◌<◌, ◌≤◌, ◌/◌, Bool, true, false, ◌&&◌, ◌==◌, List, [], ◌∷◌, ◌++◌, Some, refl, ap, sym, ◌∙◌, subst, arith, length, length-append, eq-eqb}
-use Rattle.std.specs.List.{Contains}
+use Rattle.msrp_plan.specs.Common.{◌≡◌, ◌≢◌, ℕ, ◌+◌, ◌<◌, ◌≤◌, ◌/◌, Bool, true, false, ◌&&◌, ◌==◌, List, [], ◌∷◌, ◌++◌, Some, length, Contains, PlanModel, task_of, core_of, release, jobs, jobs_on, same_job, is_row_of, is_started, level, is_before, is_amid, section_of, blocks, continues, IsLegal, IsRunStart, EachAfter, IsPlan}
+use Rattle.msrp_plan.specs.declared.ids.JobId.{JobId}
+use Rattle.msrp_plan.specs.declared.rows.Row.{Row}
+use Rattle.std.proofs.Common.{refl, ap, sym, ◌∙◌, subst, arith, length-append, eq-eqb}
 use Rattle.std.proofs.Math.Bool.{true≢false}
 use Rattle.std.proofs.Math.Nat.{div-mul-le_self}
 use Rattle.std.proofs.lemmas.Bool.{and_from}
 use Rattle.std.proofs.lemmas.Nat.{le-div}
-use Rattle.msrp_plan.specs.Plan.{PlanModel, task_of, core_of, release}
-use Rattle.msrp_plan.specs.Jobs.{jobs, jobs_on, same_job, is_row_of, is_started}
-use Rattle.msrp_plan.specs.Levels.{level}
-use Rattle.msrp_plan.specs.Choice.{is_before}
-use Rattle.msrp_plan.specs.Blocking.{is_amid, section_of, blocks, continues, BlocksFrom, BlockedByOneSection}
-use Rattle.msrp_plan.specs.Runs.{IsLegal, IsRunStart, EachAfter}
-use Rattle.msrp_plan.specs.WellFormed.{IsPlan}
-use Rattle.msrp_plan.specs.declared.ids.JobId.{JobId}
-use Rattle.msrp_plan.specs.declared.rows.Row.{Row}
+use Rattle.msrp_plan.specs.Blocking.{BlocksFrom, BlockedByOneSection}
 use Rattle.msrp_plan.proofs.Levels.LevelOrder.{level_falls}
 use Rattle.msrp_plan.proofs.Jobs.JobTests.{is_job_is, row_of_job, same_is, same_self}
 use Rattle.msrp_plan.proofs.Lists.Prefixes.{each_along}

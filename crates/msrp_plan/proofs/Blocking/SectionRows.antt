@@ -1,27 +1,18 @@
 -- How many rows an outermost section has: counted along the run against what the units done so far may take.
-use Rattle.std.proofs.Common.{◌≡◌, ℕ, zero, suc, ◌+◌, ◌-◌, ◌≤◌, Bool, true, false, cond, not, ◌&&◌, ◌||◌, ◌==◌, List, [], ◌∷◌, ◌++◌, Some, refl, ap, sym, ◌∙◌, subst, arith, length, slice_get, append_assoc, append-nil, eq-eqb}
-use Rattle.std.specs.List.{count_by, filter, range_with_len, sum_by}
+use Rattle.msrp_plan.specs.Common.{◌≡◌, ℕ, zero, suc, ◌+◌, ◌-◌, ◌≤◌, Bool, true, false, cond, not, ◌&&◌, ◌||◌, ◌==◌, List, [], ◌∷◌, ◌++◌, Some, length, slice_get, filter, range_with_len, sum_by, PlanModel, TaskModel, task_of, core_of, units, is_row_of, is_waiting, is_queued, done, is_global, is_global_unit, res_of_unit, is_on, spin_bound, in_section, section_start, count_after, is_amid, section_of, continues, IsWait, is_grant, is_grant_of, is_spin, is_spin_of, IsLegal, IsRunStart, EachAfter, JobState, IsPlan}
+use Rattle.msrp_plan.specs.declared.ids.JobId.{JobId}
+use Rattle.msrp_plan.specs.declared.ids.ResId.{ResId}
+use Rattle.msrp_plan.specs.declared.rows.Kind.{Kind}
+use Rattle.msrp_plan.specs.declared.rows.Kind.TheVariants.{Queue, Spin}
+use Rattle.msrp_plan.specs.declared.rows.Row.{Row}
+use Rattle.std.proofs.Common.{refl, ap, sym, ◌∙◌, subst, arith, append_assoc, append-nil, eq-eqb}
+use Rattle.std.specs.List.{count_by}
 use Rattle.std.proofs.Math.Bool.{true≢false, and-false}
 use Rattle.std.proofs.lemmas.List.Elements.{filter-append}
 use Rattle.std.proofs.lemmas.List.Sums.{sum_by_push}
 use Rattle.std.proofs.lemmas.Option.{slice_get_within}
-use Rattle.msrp_plan.specs.Plan.{PlanModel, TaskModel, task_of, core_of, units}
-use Rattle.msrp_plan.specs.Jobs.{is_row_of, is_waiting, is_queued, done}
-use Rattle.msrp_plan.specs.Levels.{is_global}
-use Rattle.msrp_plan.specs.Actions.{is_global_unit, res_of_unit}
-use Rattle.msrp_plan.specs.Queues.{is_on}
-use Rattle.msrp_plan.specs.Bounds.{spin_bound, in_section, section_start, wait_bound, rows_from}
-use Rattle.msrp_plan.specs.Blocking.{count_after, is_amid, section_of, continues}
-use Rattle.msrp_plan.specs.Laws.{IsWait, is_grant, is_grant_of, is_spin, is_spin_of}
-use Rattle.msrp_plan.specs.Runs.{IsLegal, IsRunStart, EachAfter}
-use Rattle.msrp_plan.specs.States.{JobState}
-use Rattle.msrp_plan.specs.WellFormed.{IsPlan}
-use Rattle.msrp_plan.specs.declared.ids.JobId.{JobId}
-use Rattle.msrp_plan.specs.declared.ids.ResId.{ResId}
+use Rattle.msrp_plan.specs.Bounds.{wait_bound, rows_from}
 use Rattle.msrp_plan.specs.declared.units.Op.TheVariants.{Lock as LockUnit}
-use Rattle.msrp_plan.specs.declared.rows.Kind.{Kind}
-use Rattle.msrp_plan.specs.declared.rows.Kind.TheVariants.{Queue, Spin}
-use Rattle.msrp_plan.specs.declared.rows.Row.{Row}
 use Rattle.msrp_plan.proofs.Lists.AnyAll.{any_push}
 use Rattle.msrp_plan.proofs.Lists.Ranges.{range_more}
 use Rattle.msrp_plan.proofs.Jobs.JobTests.{is_job_is}

@@ -1,19 +1,12 @@
 -- Where the outermost section of a unit begins, unit by unit, and the section of a job over its rows.
-use Rattle.std.proofs.Common.{◌≡◌, ℕ, zero, suc, ◌+◌, ◌≤◌, Bool, true, false, cond, not, ◌||◌, List, [], ◌∷◌, ◌++◌, refl, ap, sym, ◌∙◌, subst, arith, max, append-nil}
-use Rattle.std.specs.List.{list_any, filter, fold, range_with_len, AllByRecursion}
-use Rattle.std.proofs.lemmas.List.Sums.{fold_push}
-use Rattle.std.proofs.lemmas.List.Elements.{filter-append}
-use Rattle.msrp_plan.specs.Plan.{PlanModel, units}
-use Rattle.msrp_plan.specs.Units.{holds_after}
-use Rattle.msrp_plan.specs.Jobs.{is_row_of, is_waiting, is_queued, done}
-use Rattle.msrp_plan.specs.Levels.{greatest}
-use Rattle.msrp_plan.specs.Ceiling.{resources}
-use Rattle.msrp_plan.specs.Bounds.{in_section, section_start}
-use Rattle.msrp_plan.specs.Blocking.{is_amid, section_of}
-use Rattle.msrp_plan.specs.States.{JobState}
+use Rattle.msrp_plan.specs.Common.{◌≡◌, ℕ, zero, suc, ◌+◌, ◌≤◌, Bool, true, false, cond, not, ◌||◌, List, [], ◌∷◌, ◌++◌, max, list_any, filter, range_with_len, AllByRecursion, PlanModel, units, holds_after, is_row_of, is_waiting, is_queued, done, greatest, resources, in_section, section_start, is_amid, section_of, JobState}
 use Rattle.msrp_plan.specs.declared.ids.JobId.{JobId}
 use Rattle.msrp_plan.specs.declared.units.Op.{Op}
 use Rattle.msrp_plan.specs.declared.rows.Row.{Row}
+use Rattle.std.proofs.Common.{refl, ap, sym, ◌∙◌, subst, arith, append-nil}
+use Rattle.std.specs.List.{fold}
+use Rattle.std.proofs.lemmas.List.Sums.{fold_push}
+use Rattle.std.proofs.lemmas.List.Elements.{filter-append}
 use Rattle.msrp_plan.proofs.Lists.Ranges.{range_more}
 use Rattle.msrp_plan.proofs.Lists.Least.{all_filtered}
 use Rattle.msrp_plan.proofs.Jobs.JobTests.{is_job_is}

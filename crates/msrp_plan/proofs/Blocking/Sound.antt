@@ -1,27 +1,16 @@
 -- What holds at each place of a run, of all cores: who waits is at a lock of a global resource, no later job presses on a
 -- live one, and who is started was released before every earlier job that isn't.
-use Rattle.std.proofs.Common.{◌≡◌, ◌≢◌, ℕ, ◌+◌, ◌<◌, ◌≤◌, Bool, true, false, cond, not, ◌&&◌, List, [], ◌∷◌, ◌++◌, Some, refl, ap, sym, ◌∙◌, arith, slice_get, inl, inr, Ordering, eq-eqb}
-use Rattle.std.specs.List.{Contains}
-use Rattle.std.specs.Ordering.{is_lt, nat_cmp, ordering_then}
+use Rattle.msrp_plan.specs.Common.{◌≡◌, ◌≢◌, ℕ, ◌+◌, ◌<◌, ◌≤◌, Bool, true, false, cond, not, ◌&&◌, List, [], ◌∷◌, ◌++◌, Some, slice_get, Contains, is_lt, nat_cmp, ordering_then, PlanModel, task_of, units, release, key, is_lock_of, jobs_on, is_row_of, is_waiting, is_released, is_started, is_queued, done, is_global, level, resources, is_before, head, is_global_unit, IsLegal, EachAfter, JobState, IsPlan}
+use Rattle.msrp_plan.specs.declared.ids.JobId.{JobId}
+use Rattle.msrp_plan.specs.declared.ids.ResId.{ResId}
+use Rattle.msrp_plan.specs.declared.rows.Kind.{Kind}
+use Rattle.msrp_plan.specs.declared.rows.Row.{Row}
+use Rattle.std.proofs.Common.{refl, ap, sym, ◌∙◌, arith, inl, inr, Ordering, eq-eqb}
 use Rattle.std.specs.declared.cmp.Ordering.TheVariants.{Less, Equal, Greater}
 use Rattle.std.proofs.Math.Bool.{true≢false}
 use Rattle.std.proofs.lemmas.Bool.{and_parts, cases_lt, leb-true, le-leb, not-true, or_parts}
 use Rattle.std.proofs.lemmas.Cmp.{ranked}
-use Rattle.msrp_plan.specs.Plan.{PlanModel, task_of, units, release, key}
-use Rattle.msrp_plan.specs.Units.{is_lock_of}
-use Rattle.msrp_plan.specs.Jobs.{jobs_on, is_row_of, is_waiting, is_released, is_started, is_queued, done}
-use Rattle.msrp_plan.specs.Levels.{is_global, level}
-use Rattle.msrp_plan.specs.Ceiling.{resources}
-use Rattle.msrp_plan.specs.Choice.{is_before, head}
-use Rattle.msrp_plan.specs.Actions.{is_global_unit}
-use Rattle.msrp_plan.specs.Runs.{IsLegal, EachAfter}
-use Rattle.msrp_plan.specs.States.{JobState}
-use Rattle.msrp_plan.specs.WellFormed.{IsPlan}
-use Rattle.msrp_plan.specs.declared.ids.JobId.{JobId}
-use Rattle.msrp_plan.specs.declared.ids.ResId.{ResId}
 use Rattle.msrp_plan.specs.declared.units.Op.TheVariants.{Lock as LockUnit}
-use Rattle.msrp_plan.specs.declared.rows.Kind.{Kind}
-use Rattle.msrp_plan.specs.declared.rows.Row.{Row}
 use Rattle.msrp_plan.proofs.Lists.AnyAll.{any_push}
 use Rattle.msrp_plan.proofs.Jobs.JobTests.{is_job_is}
 use Rattle.msrp_plan.proofs.Lists.Prefixes.{along}

@@ -1,27 +1,26 @@
 -- What each call of the builder keeps of its draft, and what the last call makes of it.
-use Rattle.std.proofs.Common.{◌≡◌, ℕ, ◌+◌, ◌-◌, ◌<◌, ◌≤◌, ◌==◌, ◌&&◌, ◌||◌, nat_lt, nat_le, Bool, true, false, cond, not, List, [], ◌∷◌, ◌++◌, length, map, set, drop, replicate, nat_eq, is_none, slice_index_or, Some, None, refl, ap, sym, subst, ◌∙◌, inl, inr, arith}
-use Rattle.std.specs.List.{list_any, slice_get}
+use Rattle.msrp_plan.specs.Common.{◌≡◌, ℕ, ◌+◌, ◌-◌, ◌<◌, ◌≤◌, ◌==◌, ◌&&◌, ◌||◌, nat_lt, nat_le, Bool, true, false, cond, not, List, [], ◌∷◌, ◌++◌, length, map, set, drop, replicate, nat_eq, is_none, slice_index_or, Some, None, list_any, bytes_eq, PlanModel, TaskModel, task_at, no_task, has_name, held_after, held_with, IsLocking, ReleaseTimes, Every, Listed, AreTimes, listed_ticks, empty_plan, new_fault, resource_fault, task_fault, release_fault, op_fault, with_resource, with_task, with_release, with_units, takes_releases, units_of, is_within}
+use Rattle.msrp_plan.specs.declared.ids.ResId.{ResId}
+use Rattle.msrp_plan.specs.declared.units.Op.{Op}
+use Rattle.msrp_plan.specs.declared.units.Step.{Step}
+use Rattle.msrp_plan.specs.declared.faults.PlanFault.TheVariants.{Limit}
+use Rattle.std.proofs.Common.{refl, ap, sym, subst, ◌∙◌, inl, inr, arith}
+use Rattle.std.specs.List.{slice_get}
 use Rattle.std.specs.List.Sorted.{IsStrictlyIncreasing}
-use Rattle.std.specs.Str.{bytes_eq}
 use Rattle.std.specs.Cmp.Lexicographic.{nat_list_eq_equiv}
 use Rattle.std.proofs.lemmas.Bool.{cases_eq, or_parts, true≢false, ltb-true, not-false, and_parts, leb-false, leb-true, ltb-false, eqb-false, eqb-true}
 use Rattle.std.proofs.lemmas.Option.{same_Some, slice_get-get_or}
 use Rattle.std.proofs.lemmas.List.{length-append, length-drop, length-replicate, length_push, length-set, map_push, map-set, set-get_or, get_or-map, get_or_append_left, get_or_push, get_or_past, get_or-set_same, get_or-set_other}
 use Rattle.std.proofs.lemmas.List.Elements.{All-nil, All-push}
 use Rattle.std.proofs.lemmas.Map.Keys.{IsDistinct-push, IsDistinct-from_apart}
-use Rattle.msrp_plan.specs.Plan.{PlanModel, TaskModel, task_at, no_task}
-use Rattle.msrp_plan.specs.Names.{is_name, has_name}
-use Rattle.msrp_plan.specs.Units.{held_after, held_with}
-use Rattle.msrp_plan.specs.WellFormed.{AreNames, IsTask, IsLocking, IsWhole}
-use Rattle.msrp_plan.specs.ReleaseTimes.{ReleaseTimes, Every, Listed, AreListed, AreTimes, is_listed, lacks_release, listed_ticks, with_tick}
-use Rattle.msrp_plan.specs.Building.{AreNew, empty_plan, new_fault, resource_fault, task_fault, release_fault, tick_fault, op_fault, end_fault, task_end_fault, with_resource, with_task, with_newest, with_release, with_units, with_more_ticks, with_more_units, newest_task, newest_units, takes_releases, units_of, is_above, is_within, are_in_range, is_in_range, is_none_held, is_undeclared, is_improper, is_misnested, is_too_much, held_count}
+use Rattle.msrp_plan.specs.Names.{is_name}
+use Rattle.msrp_plan.specs.WellFormed.{AreNames, IsTask, IsWhole}
+use Rattle.msrp_plan.specs.ReleaseTimes.{AreListed, is_listed, lacks_release, with_tick}
+use Rattle.msrp_plan.specs.Building.{AreNew, tick_fault, end_fault, task_end_fault, with_newest, with_more_ticks, with_more_units, newest_task, newest_units, is_above, are_in_range, is_in_range, is_none_held, is_undeclared, is_improper, is_misnested, is_too_much, held_count}
 use Rattle.msrp_plan.specs.Inside.Views.{IsGrowing}
-use Rattle.msrp_plan.specs.declared.ids.ResId.{ResId}
-use Rattle.msrp_plan.specs.declared.units.Op.{Op}
 use Rattle.msrp_plan.specs.declared.units.Op.TheVariants.{Run as RunUnit, Lock as LockUnit, Unlock as UnlockUnit}
-use Rattle.msrp_plan.specs.declared.units.Step.{Step}
 use Rattle.msrp_plan.specs.declared.units.Step.TheVariants.{Run, Lock, Unlock}
-use Rattle.msrp_plan.specs.declared.faults.PlanFault.TheVariants.{Name, Taken, Limit, Core, NoUnit, Nesting, Releases, Undeclared}
+use Rattle.msrp_plan.specs.declared.faults.PlanFault.TheVariants.{Name, Taken, Core, NoUnit, Nesting, Releases, Undeclared}
 use Rattle.msrp_plan.proofs.Building.Faultless.{fails, neither, within, none_held}
 use Rattle.msrp_plan.proofs.TaskUnits.Nesting.{IsHeld, even_after, held_few, held_times, locks_none, locks_push, locks_wider, runs_push}
 

@@ -1,9 +1,10 @@
 -- What the builder's tests say where they find no fault.
-use Rattle.std.proofs.Common.{◌≡◌, ℕ, ◌≤◌, nat_le, Bool, true, false, List, [], ◌∷◌, Option, Some, None, refl, sym}
+use Rattle.msrp_plan.specs.Common.{◌≡◌, ℕ, ◌≤◌, nat_le, Bool, true, false, List, [], ◌∷◌, Option, Some, None, is_within}
+use Rattle.msrp_plan.specs.declared.faults.PlanFault.{PlanFault}
+use Rattle.std.proofs.Common.{refl, sym}
 use Rattle.std.proofs.lemmas.Bool.{and_parts, leb-true}
 use Rattle.std.proofs.lemmas.Option.{none-some}
-use Rattle.msrp_plan.specs.Building.{fault_if, first_fault, is_within, is_none_held}
-use Rattle.msrp_plan.specs.declared.faults.PlanFault.{PlanFault}
+use Rattle.msrp_plan.specs.Building.{fault_if, first_fault, is_none_held}
 
 -- no fault: the test fails, and the rest finds none
 pub fails : (test : Bool) (fault : PlanFault) (rest : Option PlanFault) → fault_if test fault rest ≡ None → (test ≡ false) × (rest ≡ None)

@@ -1,19 +1,16 @@
 -- A draft that may end is a plan.
-use Rattle.std.proofs.Common.{◌≡◌, ℕ, ◌+◌, ◌==◌, nat_lt, Bool, true, false, cond, ◌&&◌, List, [], ◌∷◌, length, take, None, refl, ap, sym, ◌∙◌, arith, eqb-true}
-use Rattle.std.specs.List.{list_any, slice_get, range_with_len}
+use Rattle.msrp_plan.specs.Common.{◌≡◌, ℕ, ◌+◌, ◌==◌, nat_lt, Bool, true, false, cond, ◌&&◌, List, [], ◌∷◌, length, take, None, list_any, range_with_len, PlanModel, TaskModel, task_at, no_task, held_after, jobs, is_global, IsNestedAt, IsPlan, finish_fault, nests_global}
+use Rattle.msrp_plan.specs.declared.units.Op.{Op}
+use Rattle.std.proofs.Common.{refl, ap, sym, ◌∙◌, arith, eqb-true}
+use Rattle.std.specs.List.{slice_get}
 use Rattle.std.proofs.lemmas.Bool.{and_from, or_parts, true≢false, false_from_ne_true, ltb-false}
 use Rattle.std.proofs.lemmas.Option.{slice_get_within}
 use Rattle.std.proofs.lemmas.List.Folds.{list_any_at}
 use Rattle.std.proofs.lemmas.List.Sums.{sum_by-cons}
-use Rattle.msrp_plan.specs.Plan.{PlanModel, TaskModel, task_at, no_task}
-use Rattle.msrp_plan.specs.Units.{held_after}
-use Rattle.msrp_plan.specs.Jobs.{jobs}
-use Rattle.msrp_plan.specs.Levels.{is_global}
-use Rattle.msrp_plan.specs.WellFormed.{IsFlat, IsNestedAt, IsPlan}
-use Rattle.msrp_plan.specs.Building.{end_fault, finish_fault, holds_global, is_global_lock, nests_global}
+use Rattle.msrp_plan.specs.WellFormed.{IsFlat}
+use Rattle.msrp_plan.specs.Building.{end_fault, holds_global, is_global_lock}
 use Rattle.msrp_plan.specs.Inside.Views.{IsGrowing}
 use Rattle.msrp_plan.specs.declared.faults.PlanFault.TheVariants.{NestedGlobal, Jobs}
-use Rattle.msrp_plan.specs.declared.units.Op.{Op}
 use Rattle.msrp_plan.specs.declared.units.Op.TheVariants.{Lock}
 use Rattle.msrp_plan.proofs.Lists.AnyAll.{any_in, in_range}
 use Rattle.msrp_plan.proofs.Building.Faultless.{fails, neither}

@@ -1,10 +1,10 @@
 -- Names and tasks as they are stored, and as a plan has them.
-use Rattle.std.proofs.Common.{◌≡◌, ℕ, suc, zero, ◌+◌, ◌==◌, nat_eq, Bool, false, cond, not, List, [], ◌∷◌, ◌++◌, map, set, slice_index_or, string_bytes, string_eq, Option, Some, None, is_some, refl, ap, sym, ◌∙◌, arith}
-use Rattle.std.specs.declared.alloc.Global.{Global}
-use Rattle.std.specs.declared.string.String.{String}
-use Rattle.std.specs.List.{list_any, position, position_or_len, slice_get}
-use Rattle.std.specs.Map.{keys_of, values_of, lookup}
-use Rattle.std.specs.Str.{bytes_eq}
+use Rattle.msrp_plan.specs.Common.{◌≡◌, ℕ, suc, zero, ◌+◌, ◌==◌, nat_eq, Bool, false, cond, not, List, [], ◌∷◌, ◌++◌, map, set, slice_index_or, string_bytes, Option, Some, None, is_some, Global, String, list_any, values_of, bytes_eq, TaskModel, no_task, has_name, name_position}
+use Rattle.msrp_plan.specs.declared.ids.ResId.{ResId}
+use Rattle.msrp_plan.specs.declared.tasks.Task.{Task}
+use Rattle.std.proofs.Common.{string_eq, refl, ap, sym, ◌∙◌, arith}
+use Rattle.std.specs.List.{position, position_or_len, slice_get}
+use Rattle.std.specs.Map.{keys_of, lookup}
 use Rattle.std.proofs.lemmas.Option.{none-some, same_Some}
 use Rattle.std.proofs.lemmas.Bool.{true≢false}
 use Rattle.std.proofs.lemmas.List.{length-map, map_push}
@@ -13,12 +13,8 @@ use Rattle.indexmap.specs.Layout.{set_value_at}
 use Rattle.indexmap.specs.IndexMap.{IndexMap, insert_entry}
 use Rattle.indexmap.specs.IndexSet.{insert_key}
 use Rattle.indexmap.proofs.CallerLemmas.{insert_entry-new}
-use Rattle.msrp_plan.specs.Plan.{TaskModel, no_task}
-use Rattle.msrp_plan.specs.Names.{has_name, name_position}
 use Rattle.msrp_plan.specs.Inside.Tasks.{task_view, named_view}
 use Rattle.msrp_plan.specs.Inside.Views.{numbers}
-use Rattle.msrp_plan.specs.declared.ids.ResId.{ResId}
-use Rattle.msrp_plan.specs.declared.tasks.Task.{Task}
 use Rattle.msrp_plan.proofs.Lists.Filters.{any_map}
 
 -- the first place in a list that is made of another

@@ -1,19 +1,15 @@
 -- Started and unfinished jobs: whoever holds a resource or waits for one is such a job.
-use Rattle.std.proofs.Common.{◌≡◌, ℕ, Bool, true, false, not, ◌&&◌, ◌==◌, List, [], ◌∷◌, ◌++◌, Option, Some, None, refl, ap, sym, ◌∙◌, arith, length, take, slice_get, inl, inr}
+use Rattle.msrp_plan.specs.Common.{◌≡◌, ℕ, Bool, true, false, not, ◌&&◌, ◌==◌, List, [], ◌∷◌, ◌++◌, Option, Some, None, length, take, slice_get, PlanModel, units, locks, unlocks, holds_after, is_row_of, is_waiting, is_started, is_finished, is_queued, done, holds, JobState, IsPlan}
+use Rattle.msrp_plan.specs.declared.ids.JobId.{JobId}
+use Rattle.msrp_plan.specs.declared.units.Op.{Op}
+use Rattle.msrp_plan.specs.declared.rows.Row.{Row}
+use Rattle.std.proofs.Common.{refl, ap, sym, ◌∙◌, arith, inl, inr}
 use Rattle.std.specs.List.{fold}
 use Rattle.std.proofs.Math.Bool.{true≢false}
 use Rattle.std.proofs.lemmas.Bool.{eqb-true, le-ltb, true_from_ne_false, false_from_ne_true}
 use Rattle.std.proofs.lemmas.List.{take_all}
 use Rattle.std.proofs.lemmas.List.Sums.{length-filter}
 use Rattle.std.proofs.lemmas.Option.{slice_get_within}
-use Rattle.msrp_plan.specs.Plan.{PlanModel, units}
-use Rattle.msrp_plan.specs.Units.{locks, unlocks, holds_after}
-use Rattle.msrp_plan.specs.Jobs.{is_row_of, is_waiting, is_started, is_finished, is_queued, done, holds}
-use Rattle.msrp_plan.specs.States.{JobState}
-use Rattle.msrp_plan.specs.WellFormed.{IsPlan}
-use Rattle.msrp_plan.specs.declared.ids.JobId.{JobId}
-use Rattle.msrp_plan.specs.declared.units.Op.{Op}
-use Rattle.msrp_plan.specs.declared.rows.Row.{Row}
 use Rattle.msrp_plan.proofs.Lists.AnyAll.{none_kept}
 use Rattle.msrp_plan.proofs.Jobs.States.{state_kept}
 use Rattle.msrp_plan.proofs.TaskUnits.PlanUnits.{units_balance}

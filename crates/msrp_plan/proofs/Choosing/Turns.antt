@@ -1,15 +1,10 @@
 -- Who has the turn: the head, above the ceiling and before whoever runs, or whoever runs.
-use Rattle.std.proofs.Common.{◌≡◌, ◌≢◌, ℕ, ◌<◌, Bool, true, false, cond, not, ◌&&◌, List, Option, Some, None, refl, ap, sym, ◌∙◌, subst, nat_lt, ◌⊎◌, inl, inr}
-use Rattle.std.specs.List.{Contains}
-use Rattle.std.proofs.Math.Bool.{true≢false}
-use Rattle.std.proofs.lemmas.Bool.{ltb-true, and_parts, not-true, false_from_ne_true}
-use Rattle.msrp_plan.specs.Plan.{PlanModel}
-use Rattle.msrp_plan.specs.Jobs.{jobs_on, is_started, is_finished}
-use Rattle.msrp_plan.specs.Levels.{level}
-use Rattle.msrp_plan.specs.Ceiling.{ceiling}
-use Rattle.msrp_plan.specs.Choice.{is_before, head, running, chosen, choice}
+use Rattle.msrp_plan.specs.Common.{◌≡◌, ◌≢◌, ℕ, ◌<◌, Bool, true, false, cond, not, ◌&&◌, List, Option, Some, None, nat_lt, ◌⊎◌, Contains, PlanModel, jobs_on, is_started, is_finished, level, ceiling, is_before, head, running, chosen, choice}
 use Rattle.msrp_plan.specs.declared.ids.JobId.{JobId}
 use Rattle.msrp_plan.specs.declared.rows.Row.{Row}
+use Rattle.std.proofs.Common.{refl, ap, sym, ◌∙◌, subst, inl, inr}
+use Rattle.std.proofs.Math.Bool.{true≢false}
+use Rattle.std.proofs.lemmas.Bool.{ltb-true, and_parts, not-true, false_from_ne_true}
 use Rattle.msrp_plan.proofs.Jobs.JobTests.{some_is}
 use Rattle.msrp_plan.proofs.Jobs.Keys.{before_order, tied}
 use Rattle.msrp_plan.proofs.Lists.LeastKept.{irrefl, least_passes, least_some, least_of_those}

@@ -1,23 +1,14 @@
 -- No local blocking: a started, unfinished job is above the ceiling of every local resource that a later job holds.
-use Rattle.std.proofs.Common.{◌≡◌, ◌≢◌, ℕ, ◌<◌, ◌≤◌, Bool, true, false, List, [], ◌∷◌, ◌++◌, Option, Some, None, refl, ap, sym, ◌∙◌, subst, arith, slice_get, inl, inr}
-use Rattle.std.specs.List.{Contains}
-use Rattle.std.proofs.Math.Bool.{true≢false}
-use Rattle.std.proofs.lemmas.Bool.{false_from_ne_true}
-use Rattle.msrp_plan.specs.Plan.{PlanModel, task_of, core_of, units}
-use Rattle.msrp_plan.specs.Jobs.{jobs_on, is_row_of, is_started, is_queued, holds, done}
-use Rattle.msrp_plan.specs.Levels.{is_global, local_ceiling, level}
-use Rattle.msrp_plan.specs.Ceiling.{resources}
-use Rattle.msrp_plan.specs.Choice.{is_before, choice}
-use Rattle.msrp_plan.specs.Actions.{is_global_unit, res_of_unit}
-use Rattle.msrp_plan.specs.Runs.{IsLegal, IsRunStart}
-use Rattle.msrp_plan.specs.States.{JobState}
-use Rattle.msrp_plan.specs.WellFormed.{IsPlan}
-use Rattle.msrp_plan.specs.Laws.{LocksFree, NoLocalBlocking}
+use Rattle.msrp_plan.specs.Common.{◌≡◌, ◌≢◌, ℕ, ◌<◌, ◌≤◌, Bool, true, false, List, [], ◌∷◌, ◌++◌, Option, Some, None, slice_get, Contains, PlanModel, task_of, core_of, units, jobs_on, is_row_of, is_started, is_queued, holds, done, is_global, local_ceiling, level, resources, is_before, choice, is_global_unit, res_of_unit, IsLegal, IsRunStart, JobState, IsPlan}
 use Rattle.msrp_plan.specs.declared.ids.JobId.{JobId}
 use Rattle.msrp_plan.specs.declared.ids.ResId.{ResId}
-use Rattle.msrp_plan.specs.declared.units.Op.TheVariants.{Lock as LockUnit}
 use Rattle.msrp_plan.specs.declared.rows.Kind.TheVariants.{Idle, Run, Lock, Unlock, Take, Queue, Spin, Grant, Release}
 use Rattle.msrp_plan.specs.declared.rows.Row.{Row}
+use Rattle.std.proofs.Common.{refl, ap, sym, ◌∙◌, subst, arith, inl, inr}
+use Rattle.std.proofs.Math.Bool.{true≢false}
+use Rattle.std.proofs.lemmas.Bool.{false_from_ne_true}
+use Rattle.msrp_plan.specs.Laws.{LocksFree, NoLocalBlocking}
+use Rattle.msrp_plan.specs.declared.units.Op.TheVariants.{Lock as LockUnit}
 use Rattle.msrp_plan.proofs.Jobs.JobTests.{some_is, is_job_is}
 use Rattle.msrp_plan.proofs.Lists.Prefixes.{each_along}
 use Rattle.msrp_plan.proofs.Jobs.States.{state_kept}

@@ -1,20 +1,16 @@
 -- Whoever holds a resource is of a task that uses it, and a resource that is used on two cores is global.
-use Rattle.std.proofs.Common.{◌≡◌, ℕ, ◌≤◌, true, false, cond, not, ◌&&◌, ◌==◌, List, refl, ap, sym, ◌∙◌, arith, length, take, slice_get, Some, inl, inr, eq-eqb}
-use Rattle.std.specs.List.{list_any, Contains}
+use Rattle.msrp_plan.specs.Common.{◌≡◌, ℕ, ◌≤◌, true, false, cond, not, ◌&&◌, ◌==◌, List, length, take, slice_get, Some, list_any, Contains, PlanModel, TaskModel, no_task, task_at, task_of, core_of, units, is_lock_of, locks, unlocks, done, holds, uses, is_global}
+use Rattle.msrp_plan.specs.declared.ids.JobId.{JobId}
+use Rattle.msrp_plan.specs.declared.ids.ResId.{ResId}
+use Rattle.msrp_plan.specs.declared.units.Op.{Op}
+use Rattle.msrp_plan.specs.declared.rows.Row.{Row}
+use Rattle.std.proofs.Common.{refl, ap, sym, ◌∙◌, arith, inl, inr, eq-eqb}
 use Rattle.std.proofs.Math.Bool.{true≢false}
 use Rattle.std.proofs.lemmas.Bool.{cases_lt, ltb-true, eqb-true, true_from_ne_false}
 use Rattle.std.proofs.lemmas.List.{get_or_past}
 use Rattle.std.proofs.lemmas.List.Sums.{length-filter, sum_by-take-le}
 use Rattle.std.proofs.lemmas.List.Elements.{Contains-get_or}
-use Rattle.msrp_plan.specs.Plan.{PlanModel, TaskModel, no_task, task_at, task_of, core_of, units}
-use Rattle.msrp_plan.specs.Units.{is_lock_of, locks, unlocks}
-use Rattle.msrp_plan.specs.Jobs.{done, holds}
-use Rattle.msrp_plan.specs.Levels.{uses, is_global}
-use Rattle.msrp_plan.specs.declared.ids.JobId.{JobId}
-use Rattle.msrp_plan.specs.declared.ids.ResId.{ResId}
-use Rattle.msrp_plan.specs.declared.units.Op.{Op}
 use Rattle.msrp_plan.specs.declared.units.Op.TheVariants.{Lock}
-use Rattle.msrp_plan.specs.declared.rows.Row.{Row}
 use Rattle.msrp_plan.proofs.Lists.AnyAll.{any_in, none_kept}
 use Rattle.msrp_plan.proofs.TaskUnits.PlanUnits.{unit_in}
 

@@ -1,13 +1,11 @@
 -- The jobs of a core, by the tests that name them.
-use Rattle.std.proofs.Common.{◌≡◌, ℕ, ◌<◌, true, ◌==◌, Option, Some, None, IsSome, ap, sym, subst, refl, arith, length, map, nat_lt, unwrap_or}
-use Rattle.std.specs.List.{AllByRecursion, Contains, range_with_len}
+use Rattle.msrp_plan.specs.Common.{◌≡◌, ℕ, ◌<◌, true, ◌==◌, Option, Some, None, IsSome, length, map, nat_lt, AllByRecursion, Contains, range_with_len, PlanModel, core_of, release, release_tick, jobs, jobs_of, jobs_on, job_at}
+use Rattle.msrp_plan.specs.declared.ids.JobId.{JobId}
+use Rattle.std.proofs.Common.{ap, sym, subst, refl, arith, unwrap_or}
 use Rattle.std.proofs.lemmas.Bool.{eqb-true, ltb-true}
 use Rattle.std.proofs.lemmas.List.Elements.{All-contains, All-from_recursion, filter_passes, recursion_from_All}
 use Rattle.std.proofs.lemmas.Map.Views.{Contains-from_any}
-use Rattle.msrp_plan.specs.Plan.{PlanModel, core_of, release, release_tick}
-use Rattle.msrp_plan.specs.Jobs.{jobs, jobs_of, jobs_on, job_at}
 use Rattle.msrp_plan.specs.Runs.{is_on_core}
-use Rattle.msrp_plan.specs.declared.ids.JobId.{JobId}
 use Rattle.msrp_plan.proofs.Lists.AnyAll.{all_flat}
 use Rattle.msrp_plan.proofs.Lists.Least.{all_filtered}
 use Rattle.msrp_plan.proofs.Jobs.JobLists.{core_jobs_below}

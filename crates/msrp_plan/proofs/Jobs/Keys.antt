@@ -1,13 +1,12 @@
 -- The order of the jobs' keys: total, so that of two jobs one is before the other.
-use Rattle.std.proofs.Common.{◌≡◌, ℕ, false, refl, ap, sym, ◌∙◌, Ordering}
+use Rattle.msrp_plan.specs.Common.{◌≡◌, ℕ, false, is_lt, nat_cmp, ordering_then, PlanModel, key, is_before, key_cmp}
+use Rattle.msrp_plan.specs.declared.ids.JobId.{JobId}
+use Rattle.std.proofs.Common.{refl, ap, sym, ◌∙◌, Ordering}
 use Rattle.std.specs.Cmp.{IsTotalOrder, IsStrictWeakOrder}
-use Rattle.std.specs.Ordering.{is_lt, nat_cmp, ordering_then, ordering_reverse}
+use Rattle.std.specs.Ordering.{ordering_reverse}
 use Rattle.std.specs.declared.cmp.Ordering.TheVariants.{Less, Equal, Greater}
 use Rattle.std.proofs.lemmas.Cmp.{then_total, on_total, nat_cmp_total, ranked}
 use Rattle.std.proofs.lemmas.List.MinMax.{ranks_by}
-use Rattle.msrp_plan.specs.Plan.{PlanModel, key}
-use Rattle.msrp_plan.specs.Choice.{is_before, key_cmp}
-use Rattle.msrp_plan.specs.declared.ids.JobId.{JobId}
 
 -- the comparison of keys is total
 pub key_total : IsTotalOrder key_cmp

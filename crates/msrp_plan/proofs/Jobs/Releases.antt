@@ -1,17 +1,14 @@
 -- The releases of a task rise, so those before a tick are the first few.
-use Rattle.std.proofs.Common.{◌≡◌, ℕ, zero, suc, ◌+◌, ◌-◌, ◌*◌, ◌<◌, ◌≤◌, nat_lt, Bool, true, false, cond, List, [], ◌∷◌, Option, Some, None, length, map, refl, ap, sym, ◌∙◌, subst, inl, inr, arith}
-use Rattle.std.specs.Prelude.{unwrap_or, slice_get, slice_index_or}
-use Rattle.std.specs.List.{filter, range_with_len}
+use Rattle.msrp_plan.specs.Common.{◌≡◌, ℕ, zero, suc, ◌+◌, ◌-◌, ◌*◌, ◌<◌, ◌≤◌, nat_lt, Bool, true, false, cond, List, [], ◌∷◌, Option, Some, None, length, map, unwrap_or, slice_get, slice_index_or, filter, range_with_len, PlanModel, TaskModel, task_at, no_task, release, ReleaseTimes, Every, Listed, AreTimes, job_at, jobs_of}
+use Rattle.std.proofs.Common.{refl, ap, sym, ◌∙◌, subst, inl, inr, arith}
 use Rattle.std.specs.List.Sorted.{IsPartitionPoint, IsPartitionedBy, IsStrictlyIncreasing}
 use Rattle.std.proofs.Math.Nat.{mul-le-mul_right}
 use Rattle.std.proofs.lemmas.Bool.{cases_eq, cases_lt, lt-ltb, le-ltb, ltb-true, ltb-false, true≢false, false_from_ne_true}
 use Rattle.std.proofs.lemmas.List.{length-map, get_or_past}
 use Rattle.std.proofs.lemmas.List.Kept.{AllPairs-from_increasing}
 use Rattle.std.proofs.lemmas.Option.{same_Some, slice_get_within, slice_get-get_or, get_or_from_slice_get, unwrap_or-slice_get}
-use Rattle.msrp_plan.specs.Plan.{PlanModel, TaskModel, task_at, no_task, release}
-use Rattle.msrp_plan.specs.ReleaseTimes.{ReleaseTimes, Every, Listed, AreTimes, tick_of}
+use Rattle.msrp_plan.specs.ReleaseTimes.{tick_of}
 use Rattle.msrp_plan.specs.Inside.Tasks.{comes_before}
-use Rattle.msrp_plan.specs.Jobs.{job_at, jobs_of}
 use Rattle.msrp_plan.specs.WellFormed.{IsDraft}
 use Rattle.msrp_plan.proofs.Lists.Filters.{all_of, filter_map_same}
 

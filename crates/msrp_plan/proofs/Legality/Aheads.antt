@@ -1,21 +1,15 @@
 -- No rule looks at an ahead of the rows before: what is legal stays legal where aheads are left out.
-use Rattle.std.proofs.Common.{◌≡◌, ℕ, Bool, true, false, not, ◌&&◌, ◌==◌, ◌/◌, nat_lt, List, [], ◌∷◌, ◌++◌, map, length, Option, Some, None, drop, refl, ap, sym, ◌∙◌, subst, slice_get, ◌≤◌, ◌*◌}
-use Rattle.std.specs.List.{filter, filter_map, fold, count_by}
-use Rattle.std.proofs.Math.Bool.{and-true}
-use Rattle.std.proofs.lemmas.Bool.{and_parts, eqb-true}
-use Rattle.std.proofs.lemmas.List.{length-map, map-append}
-use Rattle.std.proofs.lemmas.List.Folds.{fold-map}
-use Rattle.msrp_plan.specs.Plan.{PlanModel, units}
-use Rattle.msrp_plan.specs.Jobs.{jobs_on, is_row_of, is_waiting, is_started, is_queued, done}
-use Rattle.msrp_plan.specs.States.{state_after}
-use Rattle.msrp_plan.specs.Aheads.{without_ahead}
-use Rattle.msrp_plan.specs.Actions.{does_next, does_unit, does_unit_after}
-use Rattle.msrp_plan.specs.Queues.{fifo, requester, is_release_of, replies, counts}
-use Rattle.msrp_plan.specs.Runs.{EachAfter, IsLegal, IsRun, IsRunStart, is_in_turn, is_chosen, had_turn, same_choice, replies_on}
+use Rattle.msrp_plan.specs.Common.{◌≡◌, ℕ, Bool, true, false, not, ◌&&◌, ◌==◌, ◌/◌, nat_lt, List, [], ◌∷◌, ◌++◌, map, length, Option, Some, None, drop, slice_get, ◌≤◌, ◌*◌, filter, filter_map, PlanModel, units, jobs_on, is_row_of, is_waiting, is_started, is_queued, done, state_after, without_ahead, does_next, does_unit, does_unit_after, fifo, requester, is_release_of, replies, counts, EachAfter, IsLegal, IsRun, IsRunStart, is_in_turn, is_chosen, had_turn, same_choice, replies_on}
 use Rattle.msrp_plan.specs.declared.ids.JobId.{JobId}
 use Rattle.msrp_plan.specs.declared.ids.ResId.{ResId}
 use Rattle.msrp_plan.specs.declared.units.Op.{Op}
 use Rattle.msrp_plan.specs.declared.rows.Row.{Row}
+use Rattle.std.proofs.Common.{refl, ap, sym, ◌∙◌, subst}
+use Rattle.std.specs.List.{fold, count_by}
+use Rattle.std.proofs.Math.Bool.{and-true}
+use Rattle.std.proofs.lemmas.Bool.{and_parts, eqb-true}
+use Rattle.std.proofs.lemmas.List.{length-map, map-append}
+use Rattle.std.proofs.lemmas.List.Folds.{fold-map}
 use Rattle.msrp_plan.proofs.Lists.Filters.{any_map, count_map, gathered_map, filter_map_same, all_of}
 use Rattle.msrp_plan.proofs.Legality.LegalRows.{legal_count}
 use Rattle.msrp_plan.proofs.Legality.Locality.{choice_same}

@@ -1,20 +1,14 @@
 -- What a legal row is, in relations: the tests of the rules, read as facts on its tick, core, job, unit and reply.
-use Rattle.std.proofs.Common.{◌≡◌, ℕ, ◌<◌, ◌/◌, true, false, not, ◌&&◌, ◌==◌, nat_lt, List, Option, Some, None, refl, ap, sym, ◌∙◌, subst, length, slice_get}
-use Rattle.std.specs.List.{Contains}
-use Rattle.std.proofs.lemmas.Bool.{eqb-true, ltb-true, and_parts, not-true}
-use Rattle.msrp_plan.specs.Plan.{PlanModel, units, core_of}
-use Rattle.msrp_plan.specs.Jobs.{jobs_on, done, is_queued}
-use Rattle.msrp_plan.specs.Choice.{choice}
-use Rattle.msrp_plan.specs.Shape.{has_shape}
-use Rattle.msrp_plan.specs.Actions.{same_res, res_of_unit, is_global_unit, allows, is_idle, does_unit, does_next}
-use Rattle.msrp_plan.specs.Queues.{fifo, replies, counts}
-use Rattle.msrp_plan.specs.Runs.{had_turn, is_in_turn, is_of_core, same_choice, is_chosen, is_next_action, replies_on, IsLegal}
+use Rattle.msrp_plan.specs.Common.{◌≡◌, ℕ, ◌<◌, ◌/◌, true, false, not, ◌&&◌, ◌==◌, nat_lt, List, Option, Some, None, length, slice_get, Contains, PlanModel, units, core_of, jobs_on, done, is_queued, choice, has_shape, same_res, res_of_unit, is_global_unit, allows, does_unit, does_next, fifo, replies, counts, had_turn, is_in_turn, is_of_core, same_choice, is_chosen, is_next_action, replies_on, IsLegal}
 use Rattle.msrp_plan.specs.declared.ids.JobId.{JobId}
 use Rattle.msrp_plan.specs.declared.ids.ResId.{ResId}
 use Rattle.msrp_plan.specs.declared.units.Op.{Op}
 use Rattle.msrp_plan.specs.declared.rows.Kind.{Kind}
 use Rattle.msrp_plan.specs.declared.rows.Kind.TheVariants.{Idle}
 use Rattle.msrp_plan.specs.declared.rows.Row.{Row}
+use Rattle.std.proofs.Common.{refl, ap, sym, ◌∙◌, subst}
+use Rattle.std.proofs.lemmas.Bool.{eqb-true, ltb-true, and_parts, not-true}
+use Rattle.msrp_plan.specs.Actions.{is_idle}
 use Rattle.msrp_plan.proofs.Jobs.JobTests.{same_is}
 use Rattle.msrp_plan.proofs.Jobs.CoreJobs.{on_its_core, job_on_core}
 

@@ -1,21 +1,13 @@
 -- Which job has the turn, and what it does next, is told by the rows of its core alone.
-use Rattle.std.proofs.Common.{◌≡◌, ℕ, true, false, cond, not, ◌&&◌, ◌||◌, ◌==◌, List, map, Option, Some, None, refl, ap, sym, ◌∙◌, subst, length, max, eq-eqb, take}
-use Rattle.std.specs.List.{filter, fold, list_any, AllByRecursion}
+use Rattle.msrp_plan.specs.Common.{◌≡◌, ℕ, true, false, cond, not, ◌&&◌, ◌||◌, ◌==◌, List, map, Option, Some, None, length, max, take, filter, list_any, AllByRecursion, PlanModel, core_of, units, holds_after, jobs, jobs_on, is_row_of, is_waiting, same_job, is_started, is_queued, is_released, is_finished, holds, done, is_global, local_ceiling, greatest, top, ceiling, is_held_on, resources, is_before, least, head, running, chosen, choice, does_next, does_unit_after, is_of_core, is_chosen, is_next_action, same_choice, IsCoreTurn, is_of, log_of, JobState, state_after}
+use Rattle.msrp_plan.specs.declared.ids.JobId.{JobId}
+use Rattle.msrp_plan.specs.declared.rows.Row.{Row}
+use Rattle.std.proofs.Common.{refl, ap, sym, ◌∙◌, subst, eq-eqb}
+use Rattle.std.specs.List.{fold}
 use Rattle.std.proofs.lemmas.List.Elements.{recursion_from_All, All-contains, filter_passes, filter_agree}
 use Rattle.std.proofs.lemmas.Map.Views.{Contains-from_any}
 use Rattle.std.proofs.lemmas.Bool.{eqb-true, and_parts}
-use Rattle.msrp_plan.specs.Plan.{PlanModel, core_of, units}
-use Rattle.msrp_plan.specs.Units.{holds_after}
-use Rattle.msrp_plan.specs.Jobs.{jobs, jobs_on, is_row_of, is_waiting, same_job, is_started, is_queued, is_released, is_finished, holds, done}
-use Rattle.msrp_plan.specs.Levels.{is_global, local_ceiling, greatest, top}
-use Rattle.msrp_plan.specs.Ceiling.{ceiling, is_held_on, resources}
-use Rattle.msrp_plan.specs.Choice.{is_before, least, head, running, chosen, choice}
-use Rattle.msrp_plan.specs.Actions.{does_next, does_unit_after}
-use Rattle.msrp_plan.specs.Runs.{is_on_core, is_of_core, is_chosen, is_next_action, same_choice, IsCoreTurn}
-use Rattle.msrp_plan.specs.Logs.{is_of, log_of}
-use Rattle.msrp_plan.specs.States.{JobState, state_after}
-use Rattle.msrp_plan.specs.declared.ids.JobId.{JobId}
-use Rattle.msrp_plan.specs.declared.rows.Row.{Row}
+use Rattle.msrp_plan.specs.Runs.{is_on_core}
 use Rattle.msrp_plan.proofs.Lists.AnyAll.{all_weaker}
 use Rattle.msrp_plan.proofs.Levels.Ceilings.{is_raised}
 use Rattle.msrp_plan.proofs.Jobs.JobTests.{same_is, is_job_is}

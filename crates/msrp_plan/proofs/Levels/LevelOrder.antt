@@ -1,10 +1,8 @@
 -- Levels fall as relative deadlines grow.
-use Rattle.std.proofs.Common.{◌≡◌, ℕ, ◌≤◌, Bool, true, false, cond, List, [], ◌∷◌, map, refl, sym, ◌∙◌, subst, arith, length, nat_lt}
-use Rattle.std.specs.Prelude.{nat_eq}
-use Rattle.std.specs.List.{filter, list_any}
+use Rattle.msrp_plan.specs.Common.{◌≡◌, ℕ, ◌≤◌, Bool, true, false, cond, List, [], ◌∷◌, map, length, nat_lt, nat_eq, filter, list_any, PlanModel, TaskModel, level_of}
+use Rattle.std.proofs.Common.{refl, sym, ◌∙◌, subst, arith}
 use Rattle.std.proofs.lemmas.Bool.{ltb-true, lt-ltb, eqb-true}
-use Rattle.msrp_plan.specs.Plan.{PlanModel, TaskModel}
-use Rattle.msrp_plan.specs.Levels.{distinct, level_of}
+use Rattle.msrp_plan.specs.Levels.{distinct}
 use Rattle.msrp_plan.proofs.Lists.Filters.{any_within, all_of}
 
 -- whether a number that passes stands in the list tells the filter

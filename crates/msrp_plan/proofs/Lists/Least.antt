@@ -1,8 +1,8 @@
 -- The least of a list, and where it comes from.
-use Rattle.std.proofs.Common.{◌≡◌, Bool, true, false, cond, List, [], ◌∷◌, Some, subst}
-use Rattle.std.specs.List.{best_of, filter, AllByRecursion}
+use Rattle.msrp_plan.specs.Common.{◌≡◌, Bool, true, false, cond, List, [], ◌∷◌, Some, filter, AllByRecursion, least}
+use Rattle.std.proofs.Common.{subst}
+use Rattle.std.specs.List.{best_of}
 use Rattle.std.proofs.lemmas.List.Elements.{recursion_from_All, All-from_recursion, All-filter}
-use Rattle.msrp_plan.specs.Choice.{least}
 
 -- what holds of all elements holds of those that a filter keeps
 pub all_filtered : {X : Type 0} (P : X → Type 0) (p : X → Bool) (xs : List X) → AllByRecursion P xs → AllByRecursion P (filter p xs)

@@ -1,13 +1,13 @@
 -- The queue of a resource after one row more: a request joins its end, a release takes its front away.
-use Rattle.std.proofs.Common.{◌≡◌, ℕ, ◌+◌, ◌≤◌, ◌<◌, Bool, true, false, cond, ◌&&◌, List, [], ◌∷◌, ◌++◌, Option, Some, None, refl, ap, sym, ◌∙◌, arith, length, drop, append-nil, length-append, length-drop}
-use Rattle.std.specs.List.{count_by, filter_map, cons_option}
-use Rattle.std.proofs.lemmas.List.{drop-append-le, drop-drop}
-use Rattle.std.proofs.lemmas.List.Sums.{sum_by_push}
-use Rattle.std.proofs.lemmas.List.Elements.{filter_map-append}
-use Rattle.msrp_plan.specs.Queues.{is_on, is_request, is_release, requester, is_release_of, fifo, is_free, is_first}
+use Rattle.msrp_plan.specs.Common.{◌≡◌, ℕ, ◌+◌, ◌≤◌, ◌<◌, Bool, true, false, cond, ◌&&◌, List, [], ◌∷◌, ◌++◌, Option, Some, None, length, drop, filter_map, cons_option, is_on, is_request, is_release, requester, is_release_of, fifo, is_free, is_first}
 use Rattle.msrp_plan.specs.declared.ids.JobId.{JobId}
 use Rattle.msrp_plan.specs.declared.rows.Kind.{Kind}
 use Rattle.msrp_plan.specs.declared.rows.Row.{Row}
+use Rattle.std.proofs.Common.{refl, ap, sym, ◌∙◌, arith, append-nil, length-append, length-drop}
+use Rattle.std.specs.List.{count_by}
+use Rattle.std.proofs.lemmas.List.{drop-append-le, drop-drop}
+use Rattle.std.proofs.lemmas.List.Sums.{sum_by_push}
+use Rattle.std.proofs.lemmas.List.Elements.{filter_map-append}
 use Rattle.msrp_plan.proofs.Jobs.JobTests.{same_is, same_self}
 
 -- how often the resource was released, and who requested it

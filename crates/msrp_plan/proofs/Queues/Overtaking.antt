@@ -1,23 +1,16 @@
 -- Bounded overtaking: while a job waits for a global resource, those ahead of it in the queue come to hold it, each
 -- once, and nobody else does.
-use Rattle.std.proofs.Common.{◌≡◌, ℕ, ◌+◌, ◌<◌, ◌≤◌, Bool, true, false, cond, ◌&&◌, List, [], ◌∷◌, ◌++◌, Some, refl, ap, sym, ◌∙◌, subst, arith, length, drop, append_assoc, append-nil, length-append}
-use Rattle.std.specs.List.{Contains, count_by, list_any}
-use Rattle.std.proofs.Math.Bool.{true≢false}
-use Rattle.std.proofs.lemmas.Bool.{eqb-true, or_parts, false_from_ne_true}
-use Rattle.std.proofs.lemmas.List.Sums.{sum_by-cons}
-use Rattle.msrp_plan.specs.Plan.{PlanModel}
-use Rattle.msrp_plan.specs.Jobs.{is_row_of, is_queued, done}
-use Rattle.msrp_plan.specs.Levels.{is_global}
-use Rattle.msrp_plan.specs.Ceiling.{resources}
-use Rattle.msrp_plan.specs.Actions.{is_global_unit, res_of_unit}
-use Rattle.msrp_plan.specs.Queues.{fifo, is_first, is_on, is_free}
-use Rattle.msrp_plan.specs.Runs.{IsLegal, IsRunStart, EachAfter}
-use Rattle.msrp_plan.specs.WellFormed.{IsPlan}
-use Rattle.msrp_plan.specs.Laws.{is_acquisition, is_acquiring, is_grant_of, is_grant, BoundedOvertaking}
+use Rattle.msrp_plan.specs.Common.{◌≡◌, ℕ, ◌+◌, ◌<◌, ◌≤◌, Bool, true, false, cond, ◌&&◌, List, [], ◌∷◌, ◌++◌, Some, length, drop, Contains, list_any, PlanModel, is_row_of, is_queued, done, is_global, resources, is_global_unit, res_of_unit, fifo, is_first, is_on, is_free, IsLegal, IsRunStart, EachAfter, IsPlan, is_grant_of, is_grant}
 use Rattle.msrp_plan.specs.declared.ids.JobId.{JobId}
 use Rattle.msrp_plan.specs.declared.rows.Kind.{Kind}
 use Rattle.msrp_plan.specs.declared.rows.Kind.TheVariants.{Run, Lock, Unlock, Take, Queue, Spin, Grant, Release}
 use Rattle.msrp_plan.specs.declared.rows.Row.{Row}
+use Rattle.std.proofs.Common.{refl, ap, sym, ◌∙◌, subst, arith, append_assoc, append-nil, length-append}
+use Rattle.std.specs.List.{count_by}
+use Rattle.std.proofs.Math.Bool.{true≢false}
+use Rattle.std.proofs.lemmas.Bool.{eqb-true, or_parts, false_from_ne_true}
+use Rattle.std.proofs.lemmas.List.Sums.{sum_by-cons}
+use Rattle.msrp_plan.specs.Laws.{is_acquisition, is_acquiring, BoundedOvertaking}
 use Rattle.msrp_plan.proofs.Jobs.JobTests.{same_is, some_is, row_of_job}
 use Rattle.msrp_plan.proofs.Lists.Prefixes.{each_before, each_rest}
 use Rattle.msrp_plan.proofs.TaskUnits.PlanUnits.{units_lock}

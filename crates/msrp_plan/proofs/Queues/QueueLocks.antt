@@ -1,26 +1,17 @@
 -- The queue of a global resource and the one-thread lock agree: at a turn of a core the queue replies what the lock
 -- answers, and after the turn they agree again.
-use Rattle.std.proofs.Common.{◌≡◌, ◌≢◌, ℕ, zero, suc, Bool, true, false, cond, not, ◌||◌, List, [], ◌∷◌, ◌++◌, Option, Some, None, IfSome, refl, ap, sym, ◌∙◌, subst, arith, length, map, drop, inl, inr, eq-eqb}
-use Rattle.std.specs.List.{list_any, Contains, AllByRecursion}
-use Rattle.std.proofs.Math.Bool.{true≢false, or-true}
-use Rattle.std.proofs.lemmas.Bool.{cases_Bool, cases_lt, and_from, and_parts, false_from_ne_true}
-use Rattle.std.proofs.lemmas.List.{map-append, length-map}
-use Rattle.msrp_plan.specs.Plan.{PlanModel, core_of}
-use Rattle.msrp_plan.specs.Jobs.{jobs_on, is_job, same_job, holds, is_row_of}
-use Rattle.msrp_plan.specs.Levels.{is_global}
-use Rattle.msrp_plan.specs.Ceiling.{resources}
-use Rattle.msrp_plan.specs.Queues.{fifo, replies, counts, is_free, is_first, is_on}
-use Rattle.msrp_plan.specs.Runs.{IsLegal, IsCoreTurn, EachAfter, is_fifo_reply, replies_on}
-use Rattle.msrp_plan.specs.Logs.{log_of}
-use Rattle.msrp_plan.specs.FifoLock.{FifoLock, IsAmong, IsFirst, Answers, lock_after, without_first}
-use Rattle.msrp_plan.specs.Calls.{kind_of_call, ahead_of_call}
-use Rattle.msrp_plan.specs.LockStates.{first_holds, lock_at, IsRowOfCall, Tells}
-use Rattle.msrp_plan.specs.WellFormed.{IsPlan}
+use Rattle.msrp_plan.specs.Common.{◌≡◌, ◌≢◌, ℕ, zero, suc, Bool, true, false, cond, not, ◌||◌, List, [], ◌∷◌, ◌++◌, Option, Some, None, IfSome, length, map, drop, list_any, Contains, AllByRecursion, PlanModel, core_of, jobs_on, is_job, same_job, holds, is_row_of, is_global, resources, fifo, replies, counts, is_free, is_first, is_on, IsLegal, IsCoreTurn, EachAfter, is_fifo_reply, replies_on, log_of, FifoLock, Answers, lock_after, kind_of_call, ahead_of_call, IsPlan}
 use Rattle.msrp_plan.specs.declared.ids.JobId.{JobId}
 use Rattle.msrp_plan.specs.declared.rows.Kind.TheVariants.{Idle, Take, Queue, Spin, Grant, Release}
 use Rattle.msrp_plan.specs.declared.rows.Row.{Row}
 use Rattle.msrp_plan.specs.declared.units.Call.{Call}
 use Rattle.msrp_plan.specs.declared.units.Call.TheVariants.{Ask, Poll, Leave}
+use Rattle.std.proofs.Common.{refl, ap, sym, ◌∙◌, subst, arith, inl, inr, eq-eqb}
+use Rattle.std.proofs.Math.Bool.{true≢false, or-true}
+use Rattle.std.proofs.lemmas.Bool.{cases_Bool, cases_lt, and_from, and_parts, false_from_ne_true}
+use Rattle.std.proofs.lemmas.List.{map-append, length-map}
+use Rattle.msrp_plan.specs.FifoLock.{IsAmong, IsFirst, without_first}
+use Rattle.msrp_plan.specs.LockStates.{first_holds, lock_at, IsRowOfCall, Tells}
 use Rattle.msrp_plan.proofs.Lists.AnyAll.{all_weaker, all_both}
 use Rattle.msrp_plan.proofs.Jobs.JobTests.{same_is, same_self, some_is}
 use Rattle.msrp_plan.proofs.Levels.Ceilings.{in_resources}

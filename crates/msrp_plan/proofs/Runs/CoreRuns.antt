@@ -1,12 +1,9 @@
 -- A legal run seen from one core: its rows by themselves are a run of the core, a row for each tick.
-use Rattle.std.proofs.Common.{◌≡◌, ◌≢◌, ℕ, ◌+◌, ◌*◌, ◌/◌, ◌<◌, Bool, true, false, cond, ◌||◌, ◌==◌, List, [], ◌∷◌, ◌++◌, refl, ap, sym, ◌∙◌, subst, arith, length, append-nil, append_assoc, eq-eqb, eqb-true, length-append, mul_comm, inl, inr}
-use Rattle.std.specs.List.{list_any}
+use Rattle.msrp_plan.specs.Common.{◌≡◌, ◌≢◌, ℕ, ◌+◌, ◌*◌, ◌/◌, ◌<◌, Bool, true, false, cond, ◌||◌, ◌==◌, List, [], ◌∷◌, ◌++◌, length, list_any, PlanModel, EachAfter, IsLegal, IsRun, IsRunStart, IsCoreTurn, CoreRun, had_turn, is_of_core, same_choice, log_of}
+use Rattle.msrp_plan.specs.declared.rows.Row.{Row}
+use Rattle.std.proofs.Common.{refl, ap, sym, ◌∙◌, subst, arith, append-nil, append_assoc, eq-eqb, eqb-true, length-append, mul_comm, inl, inr}
 use Rattle.std.proofs.Math.Bool.{or-false, or-true, true≢false}
 use Rattle.std.proofs.lemmas.Nat.{div-mul-add}
-use Rattle.msrp_plan.specs.Plan.{PlanModel}
-use Rattle.msrp_plan.specs.Runs.{EachAfter, IsLegal, IsRun, IsRunStart, IsCoreTurn, CoreRun, had_turn, is_of_core, same_choice}
-use Rattle.msrp_plan.specs.Logs.{log_of}
-use Rattle.msrp_plan.specs.declared.rows.Row.{Row}
 use Rattle.msrp_plan.proofs.Lists.AnyAll.{all_push}
 use Rattle.msrp_plan.proofs.Legality.Locality.{AreOwn, choice_local, does_next_local}
 use Rattle.msrp_plan.proofs.Legality.LegalRows.{legal_due}

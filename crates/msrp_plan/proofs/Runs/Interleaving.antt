@@ -1,11 +1,9 @@
 -- The runs of the cores, put together tick by tick in whatever order of the cores, are a legal run where the queues reply so.
-use Rattle.std.proofs.Common.{◌≡◌, ℕ, ◌*◌, ◌/◌, ◌<◌, true, cond, List, [], ◌∷◌, ◌++◌, refl, ap, sym, ◌∙◌, subst, length, eq-eqb, append_assoc}
-use Rattle.std.specs.List.{AllByRecursion}
-use Rattle.std.proofs.lemmas.List.Elements.{filter-append}
-use Rattle.msrp_plan.specs.Plan.{PlanModel}
-use Rattle.msrp_plan.specs.Runs.{EachAfter, IsLegal, IsRun, IsCoreTurn, CoreRun, is_fifo_reply}
-use Rattle.msrp_plan.specs.Logs.{is_of, log_of, IsNextTurn, AreInterleaved}
+use Rattle.msrp_plan.specs.Common.{◌≡◌, ℕ, ◌*◌, ◌/◌, ◌<◌, true, cond, List, [], ◌∷◌, ◌++◌, length, AllByRecursion, PlanModel, EachAfter, IsLegal, IsRun, IsCoreTurn, CoreRun, is_fifo_reply, is_of, log_of}
 use Rattle.msrp_plan.specs.declared.rows.Row.{Row}
+use Rattle.std.proofs.Common.{refl, ap, sym, ◌∙◌, subst, eq-eqb, append_assoc}
+use Rattle.std.proofs.lemmas.List.Elements.{filter-append}
+use Rattle.msrp_plan.specs.Logs.{IsNextTurn, AreInterleaved}
 use Rattle.msrp_plan.proofs.Lists.Prefixes.{each_at, each_push}
 use Rattle.msrp_plan.proofs.Runs.RoundRobin.{due_rows_legal}
 use Rattle.msrp_plan.proofs.Lists.AnyAll.{all_mid}

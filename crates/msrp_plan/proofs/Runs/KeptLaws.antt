@@ -1,10 +1,8 @@
 -- A legal run of a well-formed plan keeps the laws.
-use Rattle.std.proofs.Common.{List, arith}
-use Rattle.msrp_plan.specs.Plan.{PlanModel}
-use Rattle.msrp_plan.specs.Runs.{IsRun, IsRunStart}
-use Rattle.msrp_plan.specs.WellFormed.{IsPlan}
-use Rattle.msrp_plan.specs.Laws.{KeepsLaws}
+use Rattle.msrp_plan.specs.Common.{List, PlanModel, IsRun, IsRunStart, IsPlan}
 use Rattle.msrp_plan.specs.declared.rows.Row.{Row}
+use Rattle.std.proofs.Common.{arith}
+use Rattle.msrp_plan.specs.Laws.{KeepsLaws}
 use Rattle.msrp_plan.proofs.Holding.LocalLocks.{no_local_blocking}
 use Rattle.msrp_plan.proofs.Holding.Exclusion.{mutual_exclusion}
 use Rattle.msrp_plan.proofs.Queues.Overtaking.{bounded_overtaking}

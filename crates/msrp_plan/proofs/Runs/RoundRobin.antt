@@ -1,16 +1,14 @@
 -- Turns of the cores, put together tick by tick, are a legal run.
-use Rattle.std.proofs.Common.{◌≡◌, ◌≢◌, ℕ, ◌+◌, ◌*◌, ◌/◌, ◌<◌, ◌≤◌, ◌==◌, Bool, true, false, cond, not, ◌&&◌, List, [], ◌∷◌, ◌++◌, Option, Some, None, refl, ap, sym, ◌∙◌, arith, nat_lt, length, length-append, append-nil, eq-eqb}
-use Rattle.std.specs.List.{filter, range_with_len, AllByRecursion}
+use Rattle.msrp_plan.specs.Common.{◌≡◌, ◌≢◌, ℕ, ◌+◌, ◌*◌, ◌/◌, ◌<◌, ◌≤◌, ◌==◌, Bool, true, false, cond, not, ◌&&◌, List, [], ◌∷◌, ◌++◌, Option, Some, None, nat_lt, length, filter, range_with_len, AllByRecursion, PlanModel, EachAfter, IsLegal, is_of_core, had_turn, replies_on, is_of, log_of, ascending}
+use Rattle.msrp_plan.specs.declared.ids.ResId.{ResId}
+use Rattle.msrp_plan.specs.declared.rows.Row.{Row}
+use Rattle.std.proofs.Common.{refl, ap, sym, ◌∙◌, arith, length-append, append-nil, eq-eqb}
 use Rattle.std.proofs.lemmas.List.Elements.{filter-append, All-from_recursion}
 use Rattle.std.proofs.lemmas.List.Folds.{list_any_none}
 use Rattle.std.proofs.Math.Bool.{and-false}
 use Rattle.std.proofs.lemmas.List.FromFn.{length-range_with_len}
 use Rattle.std.proofs.lemmas.Bool.{lt-ltb, eqb-true}
-use Rattle.msrp_plan.specs.Plan.{PlanModel}
-use Rattle.msrp_plan.specs.Runs.{EachAfter, IsLegal, is_of_core, had_turn, replies_on}
-use Rattle.msrp_plan.specs.Logs.{is_of, log_of, ascending, IsNextTurn}
-use Rattle.msrp_plan.specs.declared.ids.ResId.{ResId}
-use Rattle.msrp_plan.specs.declared.rows.Row.{Row}
+use Rattle.msrp_plan.specs.Logs.{IsNextTurn}
 use Rattle.msrp_plan.proofs.Lists.AnyAll.{all_weaker, all_push}
 use Rattle.msrp_plan.proofs.Lists.Prefixes.{each_along}
 use Rattle.msrp_plan.proofs.Lists.Ranges.{not_equal, once_in_range, flat_length, flat_filter}

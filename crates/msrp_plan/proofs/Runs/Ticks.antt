@@ -1,14 +1,12 @@
 -- The rows of one tick: of cores that differ, and once each core has had its turn the next tick begins.
-use Rattle.std.proofs.Common.{◌≡◌, ◌≢◌, ℕ, ◌+◌, ◌*◌, ◌/◌, ◌<◌, ◌≤◌, Bool, true, false, cond, ◌&&◌, ◌||◌, ◌==◌, List, [], ◌∷◌, ◌++◌, refl, ap, sym, ◌∙◌, subst, arith, length, append-nil, length-append, inl, inr, ◌⊎◌, eq-eqb}
-use Rattle.std.specs.List.{filter, list_any, AllByRecursion, range_with_len}
+use Rattle.msrp_plan.specs.Common.{◌≡◌, ◌≢◌, ℕ, ◌+◌, ◌*◌, ◌/◌, ◌<◌, ◌≤◌, Bool, true, false, cond, ◌&&◌, ◌||◌, ◌==◌, List, [], ◌∷◌, ◌++◌, length, ◌⊎◌, filter, list_any, AllByRecursion, range_with_len, PlanModel, IsLegal}
+use Rattle.msrp_plan.specs.declared.rows.Row.{Row}
+use Rattle.std.proofs.Common.{refl, ap, sym, ◌∙◌, subst, arith, append-nil, length-append, inl, inr, eq-eqb}
 use Rattle.std.proofs.Math.Bool.{true≢false}
 use Rattle.std.proofs.lemmas.Bool.{cases_lt, eqb-true, or_parts, true_from_ne_false, false_from_ne_true}
 use Rattle.std.proofs.lemmas.Nat.{div-mul-add}
 use Rattle.std.proofs.lemmas.List.Elements.{filter-append}
 use Rattle.std.proofs.lemmas.List.FromFn.{length-range_with_len}
-use Rattle.msrp_plan.specs.Plan.{PlanModel}
-use Rattle.msrp_plan.specs.Runs.{IsLegal}
-use Rattle.msrp_plan.specs.declared.rows.Row.{Row}
 use Rattle.msrp_plan.proofs.Lists.AnyAll.{any_push, all_push}
 use Rattle.msrp_plan.proofs.Lists.Apart.{ApartBy, apart_push, fits_length, has, without, has_range, has_without, sum_without, sum_ones}
 use Rattle.msrp_plan.proofs.Legality.LegalRows.{legal_due}

@@ -1,17 +1,12 @@
 -- Earliest deadline first: whoever starts is the head, above the ceiling and before whoever runs; whoever goes on runs, and
 -- a head before it isn't above the ceiling.
-use Rattle.std.proofs.Common.{◌≡◌, ◌≢◌, ℕ, ◌≤◌, Bool, true, false, cond, ◌&&◌, List, [], Option, Some, None, refl, ap, sym, ◌∙◌, subst, nat_lt, inl, inr}
-use Rattle.std.proofs.Math.Bool.{true≢false}
-use Rattle.std.proofs.lemmas.Bool.{ltb-false, true_from_ne_false}
-use Rattle.msrp_plan.specs.Plan.{PlanModel}
-use Rattle.msrp_plan.specs.Jobs.{jobs_on, is_started}
-use Rattle.msrp_plan.specs.Levels.{level}
-use Rattle.msrp_plan.specs.Ceiling.{ceiling}
-use Rattle.msrp_plan.specs.Choice.{is_before, head, running, chosen, choice}
-use Rattle.msrp_plan.specs.Runs.{IsLegal, IsRunStart}
-use Rattle.msrp_plan.specs.Scheduling.{IsReady, IsHead, IsActive, MayStart, MayGoOn, IsOfFirst, EarliestDeadlineFirst}
+use Rattle.msrp_plan.specs.Common.{◌≡◌, ◌≢◌, ℕ, ◌≤◌, Bool, true, false, cond, ◌&&◌, List, [], Option, Some, None, nat_lt, PlanModel, jobs_on, is_started, level, ceiling, is_before, head, running, chosen, choice, IsLegal, IsRunStart}
 use Rattle.msrp_plan.specs.declared.ids.JobId.{JobId}
 use Rattle.msrp_plan.specs.declared.rows.Row.{Row}
+use Rattle.std.proofs.Common.{refl, ap, sym, ◌∙◌, subst, inl, inr}
+use Rattle.std.proofs.Math.Bool.{true≢false}
+use Rattle.std.proofs.lemmas.Bool.{ltb-false, true_from_ne_false}
+use Rattle.msrp_plan.specs.Scheduling.{IsReady, IsHead, IsActive, MayStart, MayGoOn, IsOfFirst, EarliestDeadlineFirst}
 use Rattle.msrp_plan.proofs.Jobs.JobTests.{some_is}
 use Rattle.msrp_plan.proofs.Lists.Prefixes.{each_weaker}
 use Rattle.msrp_plan.proofs.Jobs.Keys.{tied}

@@ -1,20 +1,13 @@
 -- What decides a core's choice (who runs, the head, the ceiling) in the tick after a row that works on, idles or polls in
 -- vain, where nobody is released.
-use Rattle.std.proofs.Common.{◌≡◌, ◌≢◌, ◌+◌, Bool, true, false, not, ◌&&◌, cond, List, [], ◌∷◌, ◌++◌, Option, Some, None, refl, ap, sym, ◌∙◌, subst, length, slice_get}
-use Rattle.std.proofs.lemmas.Bool.{eqb-true, false_from_ne_true}
-use Rattle.msrp_plan.specs.Plan.{PlanModel, units}
-use Rattle.msrp_plan.specs.Jobs.{done, is_finished, is_queued, is_released, is_row_of, is_started, is_waiting, jobs_on}
-use Rattle.msrp_plan.specs.States.{JobState, state_after}
-use Rattle.msrp_plan.specs.Actions.{allows, is_global_unit}
-use Rattle.msrp_plan.specs.Ceiling.{ceiling}
-use Rattle.msrp_plan.specs.Choice.{head, is_before, least, running}
-use Rattle.msrp_plan.specs.Stretches.{NoneReleased}
-use Rattle.msrp_plan.specs.WellFormed.{IsPlan}
-use Rattle.msrp_plan.specs.Runs.{EachAfter, IsLegal}
+use Rattle.msrp_plan.specs.Common.{◌≡◌, ◌≢◌, ◌+◌, Bool, true, false, not, ◌&&◌, cond, List, [], ◌∷◌, ◌++◌, Option, Some, None, length, slice_get, PlanModel, units, done, is_finished, is_queued, is_released, is_row_of, is_started, is_waiting, jobs_on, JobState, state_after, allows, is_global_unit, ceiling, head, is_before, least, running, IsPlan, EachAfter, IsLegal}
 use Rattle.msrp_plan.specs.declared.ids.JobId.{JobId}
-use Rattle.msrp_plan.specs.declared.units.Op.TheVariants.{Run as RunUnit}
 use Rattle.msrp_plan.specs.declared.rows.Kind.TheVariants.{Run, Spin}
 use Rattle.msrp_plan.specs.declared.rows.Row.{Row}
+use Rattle.std.proofs.Common.{refl, ap, sym, ◌∙◌, subst}
+use Rattle.std.proofs.lemmas.Bool.{eqb-true, false_from_ne_true}
+use Rattle.msrp_plan.specs.Stretches.{NoneReleased}
+use Rattle.msrp_plan.specs.declared.units.Op.TheVariants.{Run as RunUnit}
 use Rattle.msrp_plan.proofs.Lists.Filters.{all_of, filter_same}
 use Rattle.msrp_plan.proofs.Jobs.JobTests.{is_job_is, some_is}
 use Rattle.msrp_plan.proofs.Jobs.States.{state_kept, state_moved}

@@ -1,28 +1,17 @@
 -- A core that is due has a legal next row: its job has a unit left, and the queue answers what that unit asks.
-use Rattle.std.proofs.Common.{◌≡◌, ℕ, ◌<◌, ◌/◌, Bool, true, false, not, ◌&&◌, ◌||◌, ◌==◌, List, [], Option, Some, None, refl, ap, sym, ◌∙◌, subst, arith, length, nat_lt, slice_get, get_or, eq-eqb, inl, inr}
-use Rattle.std.specs.Prelude.{is_some}
-use Rattle.std.specs.List.{Contains}
-use Rattle.std.proofs.lemmas.Bool.{and_from, lt-ltb, eqb-false}
-use Rattle.std.proofs.lemmas.Option.{slice_get-get_or}
-use Rattle.msrp_plan.specs.Plan.{PlanModel, units}
-use Rattle.msrp_plan.specs.Units.{is_lock_of}
-use Rattle.msrp_plan.specs.Shape.{has_shape, is_queue, may_carry}
-use Rattle.msrp_plan.specs.Jobs.{jobs_on, same_job, is_queued, done}
-use Rattle.msrp_plan.specs.Choice.{is_before, choice}
-use Rattle.msrp_plan.specs.Actions.{allows, same_res, res_of_unit, is_global_unit, does_unit}
-use Rattle.msrp_plan.specs.Examples.Notation.{idle}
-use Rattle.msrp_plan.specs.Queues.{fifo, replies, counts, is_free, is_first}
-use Rattle.msrp_plan.specs.Runs.{IsLegal, EachAfter, had_turn, same_choice, replies_on}
-use Rattle.msrp_plan.specs.Logs.{log_of}
-use Rattle.msrp_plan.specs.Scheduling.{IsDueCore, HasNext}
-use Rattle.msrp_plan.specs.WellFormed.{IsPlan}
+use Rattle.msrp_plan.specs.Common.{◌≡◌, ℕ, ◌<◌, ◌/◌, Bool, true, false, not, ◌&&◌, ◌||◌, ◌==◌, List, [], Option, Some, None, length, nat_lt, slice_get, get_or, is_some, Contains, PlanModel, units, is_lock_of, has_shape, is_queue, may_carry, jobs_on, same_job, is_queued, done, is_before, choice, allows, same_res, res_of_unit, is_global_unit, does_unit, fifo, replies, counts, is_free, is_first, IsLegal, EachAfter, had_turn, same_choice, replies_on, log_of, IsDueCore, IsPlan}
 use Rattle.msrp_plan.specs.declared.ids.JobId.{JobId}
 use Rattle.msrp_plan.specs.declared.ids.ResId.{ResId}
 use Rattle.msrp_plan.specs.declared.units.Op.{Op}
-use Rattle.msrp_plan.specs.declared.units.Op.TheVariants.{Run as RunUnit, Lock as LockUnit, Unlock as UnlockUnit}
 use Rattle.msrp_plan.specs.declared.rows.Kind.{Kind}
 use Rattle.msrp_plan.specs.declared.rows.Kind.TheVariants.{Run, Lock, Unlock, Take, Queue, Spin, Grant, Release}
 use Rattle.msrp_plan.specs.declared.rows.Row.{Row}
+use Rattle.std.proofs.Common.{refl, ap, sym, ◌∙◌, subst, arith, eq-eqb, inl, inr}
+use Rattle.std.proofs.lemmas.Bool.{and_from, lt-ltb, eqb-false}
+use Rattle.std.proofs.lemmas.Option.{slice_get-get_or}
+use Rattle.msrp_plan.specs.Examples.Notation.{idle}
+use Rattle.msrp_plan.specs.Scheduling.{HasNext}
+use Rattle.msrp_plan.specs.declared.units.Op.TheVariants.{Run as RunUnit, Lock as LockUnit, Unlock as UnlockUnit}
 use Rattle.msrp_plan.proofs.Lists.AnyAll.{any_in}
 use Rattle.msrp_plan.proofs.Jobs.JobLists.{has_unit}
 use Rattle.msrp_plan.proofs.Jobs.JobTests.{same_self}

@@ -1,6 +1,8 @@
 -- Each order of turns is that of one legal run, and the turns of each legal run are such an order.
-use Rattle.std.proofs.Common.{◌≡◌, ℕ, zero, suc, ◌+◌, ◌*◌, ◌<◌, ◌≤◌, ◌/◌, true, ◌&&◌, ◌==◌, List, [], ◌∷◌, ◌++◌, map, refl, ap, sym, ◌∙◌, subst, arith, length, length-append, append_assoc, append-nil, add-one, mul_comm}
-use Rattle.std.specs.List.{count_by, filter, range_with_len}
+use Rattle.msrp_plan.specs.Common.{◌≡◌, ℕ, zero, suc, ◌+◌, ◌*◌, ◌<◌, ◌≤◌, ◌/◌, true, ◌&&◌, ◌==◌, List, [], ◌∷◌, ◌++◌, map, length, filter, range_with_len, PlanModel, carries_its_ahead, carries_ahead, log_of, core_order, ascending, IsLegal, IsRun, EachAfter, IsDueCore, IsOrder, IsPlan}
+use Rattle.msrp_plan.specs.declared.rows.Row.{Row}
+use Rattle.std.proofs.Common.{refl, ap, sym, ◌∙◌, subst, arith, length-append, append_assoc, append-nil, add-one, mul_comm}
+use Rattle.std.specs.List.{count_by}
 use Rattle.std.proofs.lemmas.Bool.{and_from}
 use Rattle.std.proofs.lemmas.List.{map-append, length-map}
 use Rattle.std.proofs.lemmas.List.Folds.{list_all-append}
@@ -8,13 +10,7 @@ use Rattle.std.proofs.lemmas.List.Sums.{length-filter}
 use Rattle.std.proofs.lemmas.List.Elements.{filter-append}
 use Rattle.std.proofs.lemmas.List.FromFn.{length-range_with_len}
 use Rattle.std.proofs.lemmas.Nat.{div-mul-add}
-use Rattle.msrp_plan.specs.Plan.{PlanModel}
-use Rattle.msrp_plan.specs.Aheads.{carries_its_ahead, carries_ahead}
-use Rattle.msrp_plan.specs.Logs.{log_of, core_order, ascending}
-use Rattle.msrp_plan.specs.Runs.{IsLegal, IsRun, EachAfter}
-use Rattle.msrp_plan.specs.Scheduling.{IsDueCore, IsDueInOrder, IsOrder, HasOneRun}
-use Rattle.msrp_plan.specs.WellFormed.{IsPlan}
-use Rattle.msrp_plan.specs.declared.rows.Row.{Row}
+use Rattle.msrp_plan.specs.Scheduling.{IsDueInOrder, HasOneRun}
 use Rattle.msrp_plan.proofs.Lists.Prefixes.{along, each_along, each_push}
 use Rattle.msrp_plan.proofs.Lists.Ranges.{length_filter_map, range_more, flat_more, past_range}
 use Rattle.msrp_plan.proofs.Runs.RoundRobin.{ascending_length, ascending_count}

@@ -1,13 +1,10 @@
 -- No job runs before its release: whoever starts is released, and ticks never fall.
-use Rattle.std.proofs.Common.{◌≡◌, ◌≤◌, ◌/◌, Bool, true, false, List, [], ◌∷◌, ◌++◌, refl, ap, sym, ◌∙◌, arith, length, inl, inr}
-use Rattle.std.proofs.Math.Bool.{true≢false}
-use Rattle.msrp_plan.specs.Plan.{PlanModel, release}
-use Rattle.msrp_plan.specs.Jobs.{is_row_of, is_started}
-use Rattle.msrp_plan.specs.Runs.{IsLegal, IsRunStart}
-use Rattle.msrp_plan.specs.Scheduling.{IsOfReleased, RunsReleased}
-use Rattle.msrp_plan.specs.States.{JobState}
+use Rattle.msrp_plan.specs.Common.{◌≡◌, ◌≤◌, ◌/◌, Bool, true, false, List, [], ◌∷◌, ◌++◌, length, PlanModel, release, is_row_of, is_started, IsLegal, IsRunStart, JobState}
 use Rattle.msrp_plan.specs.declared.ids.JobId.{JobId}
 use Rattle.msrp_plan.specs.declared.rows.Row.{Row}
+use Rattle.std.proofs.Common.{refl, ap, sym, ◌∙◌, arith, inl, inr}
+use Rattle.std.proofs.Math.Bool.{true≢false}
+use Rattle.msrp_plan.specs.Scheduling.{IsOfReleased, RunsReleased}
 use Rattle.msrp_plan.proofs.Jobs.JobTests.{is_job_is}
 use Rattle.msrp_plan.proofs.Lists.Prefixes.{each_along}
 use Rattle.msrp_plan.proofs.Jobs.States.{state_kept}

@@ -1,21 +1,13 @@
 -- The work of the jobs in a queue: each legal row leaves it or takes some off, and the first's own rows take one off.
-use Rattle.std.proofs.Common.{◌≡◌, ℕ, ◌+◌, ◌≤◌, Bool, true, false, cond, ◌&&◌, List, [], ◌∷◌, ◌++◌, Option, Some, None, refl, ap, sym, ◌∙◌, subst, arith, nat_lt, drop}
-use Rattle.std.specs.List.{AllByRecursion, Contains, sum_by}
-use Rattle.std.proofs.Math.Bool.{true≢false}
-use Rattle.std.proofs.lemmas.List.Sums.{sum_by-cons}
-use Rattle.msrp_plan.specs.Bounds.{is_used_on, section}
-use Rattle.msrp_plan.specs.Ceiling.{ceiling, resources}
-use Rattle.msrp_plan.specs.Choice.{choice, chosen, head, is_before, running}
-use Rattle.msrp_plan.specs.Jobs.{is_row_of, jobs_on}
-use Rattle.msrp_plan.specs.Levels.{is_global, level}
-use Rattle.msrp_plan.specs.Plan.{PlanModel, core_of}
-use Rattle.msrp_plan.specs.Queues.{fifo, is_first, is_on}
-use Rattle.msrp_plan.specs.Runs.{EachAfter, IsLegal}
-use Rattle.msrp_plan.specs.WellFormed.{IsPlan}
+use Rattle.msrp_plan.specs.Common.{◌≡◌, ℕ, ◌+◌, ◌≤◌, Bool, true, false, cond, ◌&&◌, List, [], ◌∷◌, ◌++◌, Option, Some, None, nat_lt, drop, AllByRecursion, Contains, sum_by, section, ceiling, resources, choice, chosen, head, is_before, running, is_row_of, jobs_on, is_global, level, PlanModel, core_of, fifo, is_first, is_on, EachAfter, IsLegal, IsPlan}
 use Rattle.msrp_plan.specs.declared.ids.JobId.{JobId}
 use Rattle.msrp_plan.specs.declared.rows.Kind.{Kind}
 use Rattle.msrp_plan.specs.declared.rows.Kind.TheVariants.{Grant, Queue, Release, Spin, Take}
 use Rattle.msrp_plan.specs.declared.rows.Row.{Row}
+use Rattle.std.proofs.Common.{refl, ap, sym, ◌∙◌, subst, arith}
+use Rattle.std.proofs.Math.Bool.{true≢false}
+use Rattle.std.proofs.lemmas.List.Sums.{sum_by-cons}
+use Rattle.msrp_plan.specs.Bounds.{is_used_on}
 use Rattle.msrp_plan.proofs.Queues.Effects.{Effect, Got, IsMove, Joined, Left, Quiet, Spun, Took, effect}
 use Rattle.msrp_plan.proofs.Jobs.JobTests.{is_job_is}
 use Rattle.msrp_plan.proofs.Lists.LeastKept.{least_some}

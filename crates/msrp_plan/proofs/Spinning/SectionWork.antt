@@ -1,24 +1,17 @@
 -- The rows that a job still has to make until it lets go of a resource.
-use Rattle.std.proofs.Common.{zero, suc, ◌≡◌, ℕ, ◌+◌, ◌≤◌, Bool, true, false, cond, not, ◌&&◌, ◌==◌, List, [], ◌∷◌, ◌++◌, Some, refl, ap, sym, ◌∙◌, arith, max, length, slice_get, drop, take, eq-eqb, length-drop, inl, inr}
-use Rattle.std.proofs.Math.Bool.{true≢false}
-use Rattle.std.proofs.lemmas.Bool.{le-ltb}
-use Rattle.std.proofs.lemmas.Option.{get_or_from_slice_get, slice_get_within}
-use Rattle.std.proofs.lemmas.List.{drop_more, take_all}
-use Rattle.msrp_plan.specs.Actions.{is_global_unit, res_of_unit}
-use Rattle.msrp_plan.specs.Bounds.{is_used_on, longest_section, section, to_unlock}
-use Rattle.msrp_plan.specs.Jobs.{done, is_queued, is_row_of, is_waiting}
-use Rattle.msrp_plan.specs.Levels.{is_global, uses}
-use Rattle.msrp_plan.specs.Plan.{PlanModel, TaskModel, core_of, task_of, units}
-use Rattle.msrp_plan.specs.Queues.{is_on}
-use Rattle.msrp_plan.specs.States.{JobState}
-use Rattle.msrp_plan.specs.Units.{holds_after, is_lock_of, is_unlock_of, locks, unlocks}
-use Rattle.msrp_plan.specs.WellFormed.{IsPlan}
+use Rattle.msrp_plan.specs.Common.{zero, suc, ◌≡◌, ℕ, ◌+◌, ◌≤◌, Bool, true, false, cond, not, ◌&&◌, ◌==◌, List, [], ◌∷◌, ◌++◌, Some, max, length, slice_get, drop, take, is_global_unit, res_of_unit, section, done, is_queued, is_row_of, is_waiting, is_global, uses, PlanModel, TaskModel, core_of, task_of, units, is_on, JobState, holds_after, is_lock_of, is_unlock_of, locks, unlocks, IsPlan}
 use Rattle.msrp_plan.specs.declared.ids.JobId.{JobId}
 use Rattle.msrp_plan.specs.declared.ids.ResId.{ResId}
 use Rattle.msrp_plan.specs.declared.rows.Kind.{Kind}
 use Rattle.msrp_plan.specs.declared.rows.Kind.TheVariants.{Grant, Queue, Spin, Take}
 use Rattle.msrp_plan.specs.declared.rows.Row.{Row}
 use Rattle.msrp_plan.specs.declared.units.Op.{Op}
+use Rattle.std.proofs.Common.{refl, ap, sym, ◌∙◌, arith, eq-eqb, length-drop, inl, inr}
+use Rattle.std.proofs.Math.Bool.{true≢false}
+use Rattle.std.proofs.lemmas.Bool.{le-ltb}
+use Rattle.std.proofs.lemmas.Option.{get_or_from_slice_get, slice_get_within}
+use Rattle.std.proofs.lemmas.List.{drop_more, take_all}
+use Rattle.msrp_plan.specs.Bounds.{is_used_on, longest_section, to_unlock}
 use Rattle.msrp_plan.specs.declared.units.Op.TheVariants.{Lock as LockUnit, Run as RunUnit, Unlock as UnlockUnit}
 use Rattle.msrp_plan.proofs.Lists.LeastKept.{greatest_above}
 use Rattle.msrp_plan.proofs.Legality.LegalRows.{DoesUnit}

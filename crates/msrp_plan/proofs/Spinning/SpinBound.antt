@@ -1,18 +1,15 @@
 -- The bound on spinning: in one wait a job spins no more often than the plan tells.
-use Rattle.std.proofs.Common.{◌≡◌, ◌≢◌, ℕ, ◌+◌, ◌<◌, ◌≤◌, Bool, true, false, cond, not, ◌&&◌, ◌||◌, ◌==◌, List, [], ◌∷◌, ◌++◌, Some, refl, ap, sym, ◌∙◌, subst, arith, append_assoc, inl, inr, eq-eqb}
-use Rattle.std.specs.List.{AllByRecursion, count_by, sum_by, filter, range_with_len}
-use Rattle.std.proofs.Math.Bool.{true≢false}
-use Rattle.std.proofs.lemmas.Bool.{eqb-true}
-use Rattle.std.proofs.lemmas.List.Sums.{sum_by-cons}
-use Rattle.msrp_plan.specs.Bounds.{is_used_on, section, spin_bound}
-use Rattle.msrp_plan.specs.Laws.{BoundedSpinning, IsWait, is_spin_of}
-use Rattle.msrp_plan.specs.Plan.{PlanModel, core_of}
-use Rattle.msrp_plan.specs.Queues.{fifo, is_on}
-use Rattle.msrp_plan.specs.Runs.{EachAfter, IsLegal, IsRunStart}
-use Rattle.msrp_plan.specs.WellFormed.{IsPlan}
+use Rattle.msrp_plan.specs.Common.{◌≡◌, ◌≢◌, ℕ, ◌+◌, ◌<◌, ◌≤◌, Bool, true, false, cond, not, ◌&&◌, ◌||◌, ◌==◌, List, [], ◌∷◌, ◌++◌, Some, AllByRecursion, sum_by, filter, range_with_len, section, spin_bound, IsWait, is_spin_of, PlanModel, core_of, fifo, is_on, EachAfter, IsLegal, IsRunStart, IsPlan}
 use Rattle.msrp_plan.specs.declared.ids.JobId.{JobId}
 use Rattle.msrp_plan.specs.declared.rows.Kind.TheVariants.{Grant, Queue, Release, Spin, Take}
 use Rattle.msrp_plan.specs.declared.rows.Row.{Row}
+use Rattle.std.proofs.Common.{refl, ap, sym, ◌∙◌, subst, arith, append_assoc, inl, inr, eq-eqb}
+use Rattle.std.specs.List.{count_by}
+use Rattle.std.proofs.Math.Bool.{true≢false}
+use Rattle.std.proofs.lemmas.Bool.{eqb-true}
+use Rattle.std.proofs.lemmas.List.Sums.{sum_by-cons}
+use Rattle.msrp_plan.specs.Bounds.{is_used_on}
+use Rattle.msrp_plan.specs.Laws.{BoundedSpinning}
 use Rattle.msrp_plan.proofs.Lists.Apart.{ApartBy, fits, has, has_range}
 use Rattle.msrp_plan.proofs.Queues.Effects.{Effect, Got, Joined, Left, Quiet, Spun, Took, effect}
 use Rattle.msrp_plan.proofs.Legality.LegalRows.{legal_due, legal_turn, turn_core}

@@ -1,24 +1,15 @@
 -- How often a waiting job spins: at the end of each tick the spins so far and the work ahead are within the work that was ahead at first.
-use Rattle.std.proofs.Common.{◌≡◌, ◌≢◌, ℕ, ◌+◌, ◌<◌, ◌≤◌, Bool, true, false, cond, ◌||◌, ◌==◌, List, [], ◌∷◌, ◌++◌, Some, refl, ap, sym, ◌∙◌, subst, arith, drop, append_assoc, slice_get, inl, inr, ◌⊎◌, eq-eqb}
-use Rattle.std.specs.List.{AllByRecursion, Contains, count_by, list_any}
-use Rattle.std.proofs.Math.Bool.{true≢false}
-use Rattle.std.proofs.lemmas.Bool.{eqb-true, and_parts, or_parts}
-use Rattle.std.proofs.lemmas.List.Sums.{sum_by-cons}
-use Rattle.msrp_plan.specs.Ceiling.{resources}
-use Rattle.msrp_plan.specs.Jobs.{is_row_of, done}
-use Rattle.msrp_plan.specs.Laws.{is_grant, is_grant_of, is_spin, is_spin_of}
-use Rattle.msrp_plan.specs.Levels.{is_global}
-use Rattle.msrp_plan.specs.Plan.{PlanModel, core_of, units}
-use Rattle.msrp_plan.specs.Units.{is_lock_of}
-use Rattle.msrp_plan.specs.Actions.{res_of_unit}
-use Rattle.msrp_plan.specs.Queues.{fifo, is_first, is_on}
-use Rattle.msrp_plan.specs.Runs.{EachAfter, IsLegal}
-use Rattle.msrp_plan.specs.WellFormed.{IsPlan}
+use Rattle.msrp_plan.specs.Common.{◌≡◌, ◌≢◌, ℕ, ◌+◌, ◌<◌, ◌≤◌, Bool, true, false, cond, ◌||◌, ◌==◌, List, [], ◌∷◌, ◌++◌, Some, drop, slice_get, ◌⊎◌, AllByRecursion, Contains, list_any, resources, is_row_of, done, is_grant, is_grant_of, is_spin, is_spin_of, is_global, PlanModel, core_of, units, is_lock_of, res_of_unit, fifo, is_first, is_on, EachAfter, IsLegal, IsPlan}
 use Rattle.msrp_plan.specs.declared.ids.JobId.{JobId}
 use Rattle.msrp_plan.specs.declared.rows.Kind.{Kind}
 use Rattle.msrp_plan.specs.declared.rows.Kind.TheVariants.{Grant, Queue, Release, Spin, Take}
 use Rattle.msrp_plan.specs.declared.rows.Row.{Row}
 use Rattle.msrp_plan.specs.declared.units.Op.{Op}
+use Rattle.std.proofs.Common.{refl, ap, sym, ◌∙◌, subst, arith, append_assoc, inl, inr, eq-eqb}
+use Rattle.std.specs.List.{count_by}
+use Rattle.std.proofs.Math.Bool.{true≢false}
+use Rattle.std.proofs.lemmas.Bool.{eqb-true, and_parts, or_parts}
+use Rattle.std.proofs.lemmas.List.Sums.{sum_by-cons}
 use Rattle.msrp_plan.specs.declared.units.Op.TheVariants.{Run as RunUnit, Lock as LockUnit, Unlock as UnlockUnit}
 use Rattle.msrp_plan.proofs.Lists.Apart.{ApartBy}
 use Rattle.msrp_plan.proofs.Queues.Effects.{Effect, Got, IsMove, Joined, Left, Quiet, Spun, Took, effect, mover_is}

@@ -1,17 +1,14 @@
 -- How units nest: one unit more, and what is held by how often each resource was locked and unlocked.
-use Rattle.std.proofs.Common.{◌≡◌, ℕ, suc, zero, ◌+◌, ◌<◌, ◌≤◌, ◌==◌, nat_eq, Bool, true, false, cond, List, [], ◌∷◌, ◌++◌, length, take, replicate, Option, Some, None, refl, ap, sym, subst, ◌∙◌, ◌⊎◌, inl, inr, arith, count_by, eqb-true, append_assoc}
-use Rattle.std.specs.List.{list_any, fold, slice_get}
-use Rattle.std.specs.Option.{option_and_then}
+use Rattle.msrp_plan.specs.Common.{◌≡◌, ℕ, suc, zero, ◌+◌, ◌<◌, ◌≤◌, ◌==◌, nat_eq, Bool, true, false, cond, List, [], ◌∷◌, ◌++◌, length, take, replicate, Option, Some, None, ◌⊎◌, count_by, list_any, option_and_then, PlanModel, locks, unlocks, is_lock_of, is_unlock_of, held_with, held_after, IsLocking, IsNestedAt}
+use Rattle.msrp_plan.specs.declared.ids.ResId.{ResId}
+use Rattle.msrp_plan.specs.declared.units.Op.{Op}
+use Rattle.std.proofs.Common.{refl, ap, sym, subst, ◌∙◌, inl, inr, arith, eqb-true, append_assoc}
+use Rattle.std.specs.List.{fold, slice_get}
 use Rattle.std.proofs.lemmas.Bool.{cases_lt, or_parts}
 use Rattle.std.proofs.lemmas.Option.{same_Some, none-some}
 use Rattle.std.proofs.lemmas.List.{take_all, take-append-le, length-append, append-nil}
 use Rattle.std.proofs.lemmas.List.Folds.{fold_stays}
 use Rattle.std.proofs.lemmas.List.Sums.{fold_push, sum_by-cons}
-use Rattle.msrp_plan.specs.Plan.{PlanModel}
-use Rattle.msrp_plan.specs.Units.{locks, unlocks, is_lock_of, is_unlock_of, held_with, held_after}
-use Rattle.msrp_plan.specs.WellFormed.{IsLocking, IsNestedAt}
-use Rattle.msrp_plan.specs.declared.ids.ResId.{ResId}
-use Rattle.msrp_plan.specs.declared.units.Op.{Op}
 use Rattle.msrp_plan.specs.declared.units.Op.TheVariants.{Run, Lock, Unlock}
 
 abbrev pub held_step : Option (List ℕ) → Op → Option (List ℕ)

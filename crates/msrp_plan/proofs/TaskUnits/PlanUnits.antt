@@ -1,14 +1,12 @@
 -- What a well-formed plan says of the units of any task number, also of one that it lacks: that has no unit.
-use Rattle.std.proofs.Common.{◌≡◌, ℕ, ◌<◌, ◌≤◌, List, [], Some, refl, ap, sym, ◌∙◌, subst, length, slice_get, inl, inr}
-use Rattle.std.specs.List.{Contains}
+use Rattle.msrp_plan.specs.Common.{◌≡◌, ℕ, ◌<◌, ◌≤◌, List, [], Some, length, slice_get, Contains, PlanModel, TaskModel, no_task, task_at, locks, unlocks, IsLocking, IsPlan}
+use Rattle.msrp_plan.specs.declared.units.Op.{Op}
+use Rattle.std.proofs.Common.{refl, ap, sym, ◌∙◌, subst, inl, inr}
 use Rattle.std.proofs.lemmas.Bool.{cases_lt}
 use Rattle.std.proofs.lemmas.List.{get_or_past}
 use Rattle.std.proofs.lemmas.List.Elements.{Contains-get_or}
 use Rattle.std.proofs.lemmas.Option.{get_or_from_slice_get, slice_get_within}
-use Rattle.msrp_plan.specs.Plan.{PlanModel, TaskModel, no_task, task_at}
-use Rattle.msrp_plan.specs.Units.{locks, unlocks}
-use Rattle.msrp_plan.specs.WellFormed.{IsLocking, IsFlat, IsPlan}
-use Rattle.msrp_plan.specs.declared.units.Op.{Op}
+use Rattle.msrp_plan.specs.WellFormed.{IsFlat}
 use Rattle.msrp_plan.specs.declared.units.Op.TheVariants.{Lock}
 use Rattle.msrp_plan.proofs.TaskUnits.Nesting.{locks_none}
 

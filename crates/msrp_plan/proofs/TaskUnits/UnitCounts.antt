@@ -1,13 +1,11 @@
 -- How often the units behind lock and unlock a resource, and whether they hold it, over one unit more.
-use Rattle.std.proofs.Common.{◌≡◌, ℕ, ◌+◌, Bool, true, false, cond, List, Some, refl, ap, ◌∙◌, arith, take, slice_get}
+use Rattle.msrp_plan.specs.Common.{◌≡◌, ℕ, ◌+◌, Bool, true, false, cond, List, Some, take, slice_get, PlanModel, is_lock_of, is_unlock_of, holds_after, IsLocking}
+use Rattle.msrp_plan.specs.declared.units.Op.{Op}
+use Rattle.std.proofs.Common.{refl, ap, ◌∙◌, arith}
 use Rattle.std.specs.List.{count_by}
 use Rattle.std.proofs.lemmas.Bool.{lt-ltb, le-ltb}
 use Rattle.std.proofs.lemmas.Option.{get_or_from_slice_get, slice_get_within}
 use Rattle.std.proofs.lemmas.List.Sums.{sum_by_more}
-use Rattle.msrp_plan.specs.Plan.{PlanModel}
-use Rattle.msrp_plan.specs.Units.{is_lock_of, is_unlock_of, holds_after}
-use Rattle.msrp_plan.specs.WellFormed.{IsLocking}
-use Rattle.msrp_plan.specs.declared.units.Op.{Op}
 use Rattle.msrp_plan.specs.declared.units.Op.TheVariants.{Run as RunUnit, Lock as LockUnit, Unlock as UnlockUnit}
 
 -- a resource is held where so many units are behind

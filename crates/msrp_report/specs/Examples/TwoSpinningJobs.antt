@@ -1,9 +1,8 @@
 -- Two jobs of one task that spin once each.
-use Rattle.std.specs.Prelude.{ℕ, List, [], ◌∷◌, codes}
-use Rattle.msrp_plan.specs.Plan.{PlanModel}
-use Rattle.msrp_plan.specs.Examples.Notation.{task, section, job, idle, run, take, queue, spin, grant, release}
+use Rattle.msrp_plan.specs.Common.{ℕ, List, [], ◌∷◌, codes, PlanModel}
 use Rattle.msrp_plan.specs.declared.ids.JobId.{JobId}
 use Rattle.msrp_plan.specs.declared.rows.Row.{Row}
+use Rattle.msrp_plan.specs.Examples.Notation.{task, section, job, idle, run, take, queue, spin, grant, release}
 
 abbrev pub plan : PlanModel
 plan = record {

@@ -1,8 +1,5 @@
 -- The numbers of one job.
-use Rattle.std.specs.Prelude.{List}
-use Rattle.msrp_plan.specs.Plan.{PlanModel}
-use Rattle.msrp_plan.specs.Jobs.{is_finished}
-use Rattle.msrp_plan.specs.Blocking.{blocked}
+use Rattle.msrp_plan.specs.Common.{List, PlanModel, is_finished, blocked}
 use Rattle.msrp_plan.specs.declared.ids.JobId.{JobId}
 use Rattle.msrp_plan.specs.declared.rows.Row.{Row}
 use Rattle.msrp_report.specs.Lines.{is_late, response, spins, longest_wait}

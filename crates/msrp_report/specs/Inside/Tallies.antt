@@ -1,16 +1,10 @@
 -- What is kept of each job while the rows come, and what it says of the rows so far.
-use Rattle.std.specs.Prelude.{ℕ, List, ◌∷◌, [], ◌++◌, Bool, true, false, not, ◌&&◌, ◌==◌, nat_le, nat_lt, Option, Some, None, IsSome, map, count_by, length, slice_get, vec_capacity, ◌≡◌, ◌<◌, ◌≤◌, ◌+◌, ◌/◌, if◌then◌else◌}
-use Rattle.std.specs.List.{All, AllByRecursion, Contains, IsDistinct, list_any, range_with_len}
-use Rattle.std.specs.List.Sorted.{IsNonDecreasingBy, IsPermutation}
-use Rattle.msrp_plan.specs.Plan.{PlanModel, task_at, release, release_tick}
-use Rattle.msrp_plan.specs.Choice.{is_before}
-use Rattle.msrp_plan.specs.Jobs.{jobs, job_at, jobs_of, jobs_on, same_job, is_started, is_finished}
-use Rattle.msrp_plan.specs.Blocking.{blocked, first_later, ComesBefore, ComesAfter}
-use Rattle.msrp_plan.specs.Runs.{IsRunStart}
-use Rattle.msrp_plan.specs.WellFormed.{IsPlan}
+use Rattle.msrp_plan.specs.Common.{ℕ, List, ◌∷◌, [], ◌++◌, Bool, true, false, not, ◌&&◌, ◌==◌, nat_le, nat_lt, Option, Some, None, IsSome, map, count_by, length, slice_get, vec_capacity, ◌≡◌, ◌<◌, ◌≤◌, ◌+◌, ◌/◌, if◌then◌else◌, All, AllByRecursion, Contains, list_any, range_with_len, IsNonDecreasingBy, IsPermutation, PlanModel, task_at, release, release_tick, is_before, jobs, job_at, jobs_of, jobs_on, same_job, is_started, is_finished, blocked, first_later, IsRunStart, IsPlan}
 use Rattle.msrp_plan.specs.declared.ids.JobId.{JobId}
 use Rattle.msrp_plan.specs.declared.rows.Kind.{Kind}
 use Rattle.msrp_plan.specs.declared.rows.Row.{Row}
+use Rattle.std.specs.List.{IsDistinct}
+use Rattle.msrp_plan.specs.Blocking.{ComesBefore, ComesAfter}
 use Rattle.msrp_report.specs.Inside.Counts.{count_of}
 use Rattle.msrp_report.specs.declared.tallies.active.CoreJobs.{CoreJobs}
 use Rattle.msrp_report.specs.declared.tallies.Blocking.{Blocking}

@@ -1,5 +1,5 @@
 -- The line of a task, job by job.
-use Rattle.std.specs.Prelude.{max, ◌+◌, ◌^◌, ◌<◌, if◌then◌else◌}
+use Rattle.msrp_plan.specs.Common.{max, ◌+◌, ◌^◌, ◌<◌, if◌then◌else◌}
 use Rattle.msrp_report.specs.declared.lines.Line.{Line}
 use Rattle.msrp_report.specs.declared.numbers.JobNumbers.{JobNumbers}
 

@@ -1,11 +1,7 @@
 //! The jobs of each core that are started and unfinished.
 
-ghost use Rattle.std.specs.Prelude.{◌≡◌, ◌<◌, ◌++◌, ◌∷◌, [], ◌&&◌, cond, not, filter, List, IfOk, IfSome, Some, length, vec_capacity};
-ghost use Rattle.std.specs.List.{AllByRecursion};
-ghost use Rattle.msrp_plan.specs.Blocking.{first_later};
-ghost use Rattle.msrp_plan.specs.Choice.{comes_first, is_before};
-ghost use Rattle.msrp_plan.specs.Jobs.{same_job};
-ghost use Rattle.msrp_plan.specs.Plan.{core_of};
+ghost use Rattle.msrp_plan.specs.Common.{◌≡◌, ◌<◌, ◌++◌, ◌∷◌, [], ◌&&◌, cond, not, List, IfOk, IfSome, Some, length, vec_capacity, AllByRecursion, first_later, comes_first, is_before, same_job, core_of};
+ghost use Rattle.std.specs.Prelude.{filter};
 ghost use Rattle.msrp_plan.specs.declared.rows.Row.{Row as TraceRow};
 ghost use Rattle.msrp_report.specs.Inside.Tallies.{AreActive, AreActiveOf, IsKnown};
 

@@ -1,11 +1,6 @@
 //! The releases of a tick, before its first row.
 
-ghost use Rattle.std.specs.Prelude.{◌≡◌, ◌<◌, ◌+◌, ℕ, List, true, length, slice_set};
-ghost use Rattle.std.specs.List.{Contains};
-ghost use Rattle.std.specs.List.Sorted.{IsNonDecreasingBy, IsPermutation};
-ghost use Rattle.msrp_plan.specs.Blocking.{first_later};
-ghost use Rattle.msrp_plan.specs.Jobs.{jobs, jobs_of};
-ghost use Rattle.msrp_plan.specs.WellFormed.{IsPlan};
+ghost use Rattle.msrp_plan.specs.Common.{◌≡◌, ◌<◌, ◌+◌, ℕ, List, true, length, slice_set, Contains, IsNonDecreasingBy, IsPermutation, first_later, jobs, jobs_of, IsPlan};
 ghost use Rattle.msrp_plan.specs.declared.rows.Row.{Row as TraceRow};
 ghost use Rattle.msrp_report.specs.Inside.Tallies.{AreActive, AreReleases, AreTallies, HasReleased, ReleasesNext, ToldBy, blocking_by, due_count, is_due, release_or_end};
 

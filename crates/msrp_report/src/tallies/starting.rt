@@ -1,7 +1,6 @@
 //! Before the first row.
 
-ghost use Rattle.std.specs.Prelude.{◌≡◌, ◌<◌, ◌≤◌, [], List, IfOk, length};
-ghost use Rattle.msrp_plan.specs.WellFormed.{IsPlan};
+ghost use Rattle.msrp_plan.specs.Common.{◌≡◌, ◌<◌, ◌≤◌, [], List, IfOk, length, IsPlan};
 ghost use Rattle.msrp_report.specs.Inside.Tallies.{AreReleases, AreTallies, HasTallied, IsTaskTally};
 ghost use Rattle.msrp_report.specs.declared.tallies.TaskTally.{TaskTally};
 

@@ -1,7 +1,5 @@
 -- The rows of a trace's text, or why they can't be had.
-use Rattle.std.specs.Prelude.{◌≡◌, ◌⊎◌, ℕ, List, [], Option, Some, None, Err, IsOkAnd}
-use Rattle.std.specs.declared.result.Result.{Result}
-use Rattle.msrp_plan.specs.Plan.{PlanModel}
+use Rattle.msrp_plan.specs.Common.{◌≡◌, ◌⊎◌, ℕ, List, [], Option, Some, None, Err, IsOkAnd, Result, PlanModel}
 use Rattle.msrp_plan.specs.declared.rows.Row.{Row}
 use Rattle.msrp_plan.specs.declared.traces.Trace.{Trace}
 use Rattle.msrp_trace.specs.Reading.{Told}

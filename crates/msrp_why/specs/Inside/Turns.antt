@@ -1,10 +1,9 @@
 -- A turn, by the state of its core before it.
-use Rattle.std.specs.Prelude.{ℕ, Bool, false, ◌&&◌, ◌+◌, ◌<◌, ◌≡◌, Option, Some, None}
-use Rattle.msrp_core.specs.declared.states.CoreState.{CoreState}
-use Rattle.msrp_plan.specs.Plan.{PlanModel}
+use Rattle.msrp_plan.specs.Common.{ℕ, Bool, false, ◌&&◌, ◌+◌, ◌<◌, ◌≡◌, Option, Some, None, PlanModel}
 use Rattle.msrp_plan.specs.declared.ids.JobId.{JobId}
 use Rattle.msrp_plan.specs.declared.rows.Kind.{Kind}
 use Rattle.msrp_plan.specs.declared.rows.Kind.TheVariants.{Idle, Run, Spin}
+use Rattle.msrp_core.specs.declared.states.CoreState.{CoreState}
 use Rattle.msrp_why.specs.Exercise.{ends, has_open, is_opening}
 use Rattle.msrp_why.specs.FactLines.{units_done}
 

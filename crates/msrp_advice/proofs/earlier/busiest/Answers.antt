@@ -1,6 +1,5 @@
-use Rattle.std.proofs.Common.{rules, ◌≡◌, ◌∙◌, ◌+◌, ◌<◌, true, false, ap, map, nat_lt, sym, subst}
+use Rattle.msrp_plan.proofs.Common.{rules, ◌≡◌, ◌∙◌, ◌+◌, ◌<◌, true, false, ap, map, nat_lt, sym, subst, le-ltb, lt-ltb}
 use Rattle.std.specs.Option.{IfSome}
-use Rattle.std.proofs.lemmas.Bool.{le-ltb, lt-ltb}
 use Rattle.csv.specs.Records.{fields_of}
 use Rattle.msrp_advice.specs.Earlier.{greatest_place, jobs_told, number_there}
 use Rattle.msrp_advice.proofs.Seeking.{at-below, greatest-is, greatest-kept, greatest-none, still-below}

@@ -1,6 +1,4 @@
-use Rattle.std.proofs.Common.{◌∙◌, ◌-◌, ◌≤◌, ap, arith, drop, length, length-drop, sym}
-use Rattle.std.specs.Prelude.{if◌then◌else◌}
-use Rattle.std.proofs.lemmas.List.{take_all}
+use Rattle.msrp_plan.proofs.Common.{◌∙◌, ◌-◌, ◌≤◌, ap, arith, drop, length, length-drop, sym, if◌then◌else◌, take_all}
 use Rattle.msrp_advice.proofs.Counting.{stripped}
 use Rattle.msrp_advice.proofs.lines.after_mark.Goals as goal
 

@@ -1,4 +1,4 @@
-use Rattle.std.proofs.Common.{arith}
+use Rattle.msrp_plan.proofs.Common.{arith}
 use Rattle.msrp_advice.specs.Lines.{ends_line}
 use Rattle.msrp_advice.proofs.Counting.{count-bound, count-none, counted}
 use Rattle.msrp_advice.proofs.lines.ends_before.Goals as goal

@@ -1,5 +1,4 @@
-use Rattle.std.proofs.Common.{◌∙◌, ◌+◌, ℕ, Some, ap, sym}
-use Rattle.std.specs.Prelude.{option_map}
+use Rattle.msrp_plan.proofs.Common.{◌∙◌, ◌+◌, ℕ, Some, ap, sym, option_map}
 use Rattle.msrp_advice.specs.Lines.{count_below, ends_line}
 use Rattle.msrp_advice.proofs.lines.line_in.Goals as goal
 

@@ -1,6 +1,4 @@
-use Rattle.std.proofs.Common.{◌≡◌, ◌∙◌, List, ℕ, Bool, true, false, ap, map, sym, take}
-use Rattle.std.specs.Prelude.{◌&&◌}
-use Rattle.std.proofs.lemmas.List.{take-map}
+use Rattle.msrp_plan.proofs.Common.{◌≡◌, ◌∙◌, List, ℕ, Bool, true, false, ap, map, sym, take, ◌&&◌, take-map}
 use Rattle.csv.specs.Records.{fields_of}
 use Rattle.msrp_advice.specs.Nested.{is_shared}
 use Rattle.msrp_advice.specs.Records.{is_left}

@@ -1,6 +1,4 @@
-use Rattle.std.proofs.Common.{◌++◌, [], ap, sym, ◌∙◌}
-use Rattle.std.specs.Prelude.{codes, decimal, if◌then◌else◌}
-use Rattle.msrp_plan.proofs.Writes.{wrote-more}
+use Rattle.msrp_plan.proofs.Common.{◌++◌, [], ap, sym, ◌∙◌, codes, decimal, if◌then◌else◌, wrote-more}
 use Rattle.msrp_text.proofs.Written.{wrote-as}
 use Rattle.msrp_advice.proofs.refusals.write_core.Goals as goal
 

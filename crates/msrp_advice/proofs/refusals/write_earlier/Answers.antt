@@ -1,4 +1,4 @@
-use Rattle.std.proofs.Common.{ap, map, sym}
+use Rattle.msrp_plan.proofs.Common.{ap, map, sym}
 use Rattle.csv.specs.Records.{fields_of}
 use Rattle.msrp_text.proofs.Written.{wrote-as}
 use Rattle.msrp_advice.specs.Refusals.{earlier_line}

@@ -1,5 +1,4 @@
-use Rattle.std.proofs.Common.{map}
-use Rattle.std.specs.Prelude.{slice_index}
+use Rattle.msrp_plan.proofs.Common.{map, slice_index}
 use Rattle.csv.specs.Records.{fields_of}
 use Rattle.msrp_advice.specs.Refusals.{mark_text}
 use Rattle.msrp_advice.proofs.Parts.{wrote-part}

@@ -1,8 +1,5 @@
-use Rattle.std.proofs.Common.{map}
-use Rattle.std.specs.Prelude.{slice_index}
-use Rattle.std.specs.List.{flat_map, range_with_len}
+use Rattle.msrp_plan.proofs.Common.{map, slice_index, flat_map, range_with_len, Wrote}
 use Rattle.csv.specs.Records.{fields_of}
-use Rattle.msrp_plan.specs.Bytes.{Wrote}
 use Rattle.msrp_advice.specs.Refusals.{mark_text}
 use Rattle.msrp_advice.proofs.refusals.write_filled.Given as goal
 

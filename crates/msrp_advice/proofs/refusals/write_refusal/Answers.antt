@@ -1,6 +1,5 @@
-use Rattle.std.proofs.Common.{◌∙◌, ap, map}
+use Rattle.msrp_plan.proofs.Common.{◌∙◌, ap, map, wrote-more}
 use Rattle.csv.specs.Records.{fields_of}
-use Rattle.msrp_plan.proofs.Writes.{wrote-more}
 use Rattle.msrp_text.proofs.Written.{wrote-as}
 use Rattle.msrp_advice.specs.Earlier.{earlier_of, known_advice}
 use Rattle.msrp_advice.specs.Refusals.{refusal_with}

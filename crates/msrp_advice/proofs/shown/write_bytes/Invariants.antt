@@ -1,4 +1,4 @@
-use Rattle.msrp_plan.specs.Bytes.{Wrote}
+use Rattle.msrp_plan.proofs.Common.{Wrote}
 use Rattle.msrp_advice.specs.Shown.{shown_bytes}
 use Rattle.msrp_advice.proofs.shown.write_bytes.Given as goal
 

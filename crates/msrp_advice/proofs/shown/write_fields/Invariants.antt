@@ -1,5 +1,5 @@
 use Rattle.csv.specs.Records.{fields_of}
-use Rattle.msrp_plan.specs.Bytes.{Wrote}
+use Rattle.msrp_plan.proofs.Common.{Wrote}
 use Rattle.msrp_advice.specs.Shown.{shown_fields}
 use Rattle.msrp_advice.proofs.shown.write_fields.Given as goal
 

@@ -1,7 +1,6 @@
-use Rattle.std.proofs.Common.{◌∙◌, [], ap, sym}
+use Rattle.msrp_plan.proofs.Common.{◌∙◌, [], ap, sym, wrote-more}
 use Rattle.std.specs.Prelude.{unwrap_or}
 use Rattle.csv.specs.Records.{fields_of}
-use Rattle.msrp_plan.proofs.Writes.{wrote-more}
 use Rattle.msrp_text.proofs.Written.{wrote-as}
 use Rattle.msrp_advice.specs.Shown.{wrong_field}
 use Rattle.msrp_advice.proofs.shown.write_place.Goals as goal

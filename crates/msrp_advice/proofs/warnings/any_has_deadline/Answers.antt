@@ -1,5 +1,4 @@
-use Rattle.std.proofs.Common.{◌∙◌, ap, sym}
-use Rattle.std.specs.Prelude.{◌||◌}
+use Rattle.msrp_plan.proofs.Common.{◌∙◌, ap, sym, ◌||◌}
 use Rattle.msrp_advice.specs.Warnings.{has_deadline}
 use Rattle.msrp_advice.proofs.Parts.{any-more}
 use Rattle.msrp_advice.proofs.warnings.any_has_deadline.Goals as goal

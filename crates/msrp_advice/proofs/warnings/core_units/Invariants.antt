@@ -1,5 +1,4 @@
-use Rattle.std.proofs.Common.{◌≡◌, ◌≤◌, ◌*◌}
-use Rattle.std.specs.List.{range_with_len, sum_by}
+use Rattle.msrp_plan.proofs.Common.{◌≡◌, ◌≤◌, ◌*◌, range_with_len, sum_by}
 use Rattle.msrp_advice.specs.Warnings.{units_of}
 use Rattle.msrp_advice.proofs.warnings.core_units.Given as goal
 

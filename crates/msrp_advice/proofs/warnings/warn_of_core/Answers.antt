@@ -1,7 +1,4 @@
-use Rattle.std.proofs.Common.{◌≡◌, ◌∙◌, true, ap, sym}
-use Rattle.std.specs.Prelude.{◌==◌}
-use Rattle.msrp_plan.proofs.Writes.{wrote-more}
-use Rattle.msrp_plan.specs.Levels.{top}
+use Rattle.msrp_plan.proofs.Common.{◌≡◌, ◌∙◌, true, ap, sym, ◌==◌, wrote-more, top}
 use Rattle.msrp_advice.proofs.Parts.{warned}
 use Rattle.msrp_advice.proofs.warnings.warn_of_core.Goals as goal
 

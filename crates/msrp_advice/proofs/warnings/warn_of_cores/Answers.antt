@@ -1,5 +1,5 @@
 use Rattle.msrp_advice.specs.Warnings.{core_warnings}
-use Rattle.msrp_plan.proofs.Writes.{wrote-more}
+use Rattle.msrp_plan.proofs.Common.{wrote-more}
 use Rattle.msrp_advice.proofs.Parts.{wrote-part}
 use Rattle.msrp_advice.proofs.warnings.warn_of_cores.Goals as goal
 

@@ -1,7 +1,4 @@
-use Rattle.std.proofs.Common.{◌≡◌, ◌∙◌, true, length, nat_lt}
-use Rattle.std.proofs.lemmas.Bool.{lt-ltb}
-use Rattle.msrp_plan.proofs.Writes.{wrote-more}
-use Rattle.msrp_plan.specs.Plan.{task_at}
+use Rattle.msrp_plan.proofs.Common.{◌≡◌, ◌∙◌, true, length, nat_lt, lt-ltb, wrote-more, task_at}
 use Rattle.msrp_advice.proofs.Parts.{warned}
 use Rattle.msrp_advice.proofs.warnings.warn_of_deadline.Goals as goal
 

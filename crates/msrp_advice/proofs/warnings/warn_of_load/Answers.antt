@@ -1,6 +1,4 @@
-use Rattle.std.proofs.Common.{◌≡◌, true, nat_lt}
-use Rattle.std.proofs.lemmas.Bool.{lt-ltb}
-use Rattle.msrp_plan.proofs.Writes.{wrote-more}
+use Rattle.msrp_plan.proofs.Common.{◌≡◌, true, nat_lt, lt-ltb, wrote-more}
 use Rattle.msrp_advice.specs.Warnings.{core_units}
 use Rattle.msrp_advice.proofs.Parts.{warned}
 use Rattle.msrp_advice.proofs.warnings.warn_of_load.Goals as goal

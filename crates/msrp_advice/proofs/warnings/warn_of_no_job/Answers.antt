@@ -1,7 +1,4 @@
-use Rattle.std.proofs.Common.{◌≡◌, ◌∙◌, true, length, ap, sym}
-use Rattle.std.specs.Prelude.{◌==◌}
-use Rattle.msrp_plan.proofs.Writes.{wrote-more}
-use Rattle.msrp_plan.specs.Jobs.{jobs_of}
+use Rattle.msrp_plan.proofs.Common.{◌≡◌, ◌∙◌, true, length, ap, sym, ◌==◌, wrote-more, jobs_of}
 use Rattle.msrp_advice.proofs.Parts.{warned}
 use Rattle.msrp_advice.proofs.warnings.warn_of_no_job.Goals as goal
 

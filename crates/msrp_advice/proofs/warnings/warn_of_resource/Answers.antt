@@ -1,11 +1,6 @@
-use Rattle.std.proofs.Common.{◌≡◌, ◌∙◌, [], true, length, ap, sym}
-use Rattle.std.specs.Prelude.{◌==◌}
-use Rattle.std.proofs.lemmas.List.{length-map}
-use Rattle.std.proofs.lemmas.Option.{get_or_from_slice_get}
-use Rattle.msrp_levels.specs.Users.{users}
-use Rattle.msrp_plan.proofs.Writes.{wrote-more}
-use Rattle.msrp_plan.specs.Plan.{PlanModel}
+use Rattle.msrp_plan.proofs.Common.{◌≡◌, ◌∙◌, [], true, length, ap, sym, ◌==◌, length-map, get_or_from_slice_get, wrote-more, PlanModel}
 use Rattle.msrp_plan.specs.declared.ids.TaskId.{TaskId}
+use Rattle.msrp_levels.specs.Users.{users}
 use Rattle.msrp_advice.proofs.Parts.{warned}
 use Rattle.msrp_advice.proofs.warnings.warn_of_resource.Goals as goal
 

@@ -1,4 +1,4 @@
-use Rattle.msrp_plan.specs.Bytes.{Wrote}
+use Rattle.msrp_plan.proofs.Common.{Wrote}
 use Rattle.msrp_advice.specs.Warnings.{resource_warning, each}
 use Rattle.msrp_advice.proofs.warnings.warn_of_resources.Given as goal
 

@@ -1,4 +1,4 @@
-use Rattle.msrp_plan.proofs.Writes.{wrote-more}
+use Rattle.msrp_plan.proofs.Common.{wrote-more}
 use Rattle.msrp_advice.proofs.warnings.warn_of_task.Goals as goal
 
 pub returns : goal.returns

@@ -1,4 +1,4 @@
-use Rattle.msrp_plan.specs.Bytes.{Wrote}
+use Rattle.msrp_plan.proofs.Common.{Wrote}
 use Rattle.msrp_advice.specs.Warnings.{task_warnings, each}
 use Rattle.msrp_advice.proofs.warnings.warn_of_tasks.Given as goal
 

@@ -1,4 +1,4 @@
-use Rattle.msrp_plan.proofs.Writes.{wrote-more}
+use Rattle.msrp_plan.proofs.Common.{wrote-more}
 use Rattle.msrp_advice.specs.Warnings.{accepted_text}
 use Rattle.msrp_advice.proofs.warnings.write_accepted.Goals as goal
 

@@ -1,6 +1,4 @@
-use Rattle.std.proofs.Common.{sym, ◌∙◌, subst}
-use Rattle.msrp_plan.specs.Runs.{IsCoreTurn}
-use Rattle.msrp_plan.specs.Logs.{log_of}
+use Rattle.msrp_plan.proofs.Common.{sym, ◌∙◌, subst, IsCoreTurn, log_of}
 use Rattle.msrp_audit.proofs.Following.{follows, own_by, stands_on}
 use Rattle.msrp_audit.proofs.Judging.{none_of}
 use Rattle.msrp_audit.proofs.core_rows.follow.Goals.{else-is_some-via-then-is_some+else-not-is_own, else-is_some-via-else-is_some}

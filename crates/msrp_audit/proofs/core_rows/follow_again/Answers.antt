@@ -1,6 +1,4 @@
-use Rattle.std.proofs.Common.{◌≡◌, ◌+◌, ◌/◌, Some, ap, arith, slice_get}
-use Rattle.std.proofs.lemmas.Option.{slice_get_within}
-use Rattle.msrp_plan.specs.Stretches.{in_tick}
+use Rattle.msrp_plan.proofs.Common.{◌≡◌, ◌+◌, ◌/◌, Some, ap, arith, slice_get, slice_get_within, in_tick}
 use Rattle.msrp_audit.proofs.Again.{left, follows_on, x}
 use Rattle.msrp_audit.proofs.Stretched.{again_on, again_there}
 use Rattle.msrp_audit.proofs.core_rows.follow_again.Goals.{else-tick-first-via-then-tick-first+else-not-repeats, else-tick-first-via-else-tick-first}

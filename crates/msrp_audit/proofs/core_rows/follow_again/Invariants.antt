@@ -1,4 +1,4 @@
-use Rattle.std.proofs.Common.{◌≤◌, ◌-◌, length}
+use Rattle.msrp_plan.proofs.Common.{◌≤◌, ◌-◌, length}
 use Rattle.msrp_audit.specs.Inside.Walks.{HasFollowed, StandsAgain}
 use Rattle.msrp_audit.proofs.core_rows.follow_again.Given as goal
 

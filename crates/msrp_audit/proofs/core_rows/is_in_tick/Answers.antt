@@ -1,7 +1,4 @@
-use Rattle.std.proofs.Common.{◌≡◌, ◌*◌, ◌+◌, ◌-◌, ◌/◌, sym, ap, ◌∙◌, arith, inl, inr, eq-eqb}
-use Rattle.std.proofs.lemmas.Bool.{cases_lt, lt-ltb, le-ltb}
-use Rattle.std.proofs.lemmas.Nat.{div-add-mod', mod_below}
-use Rattle.msrp_plan.proofs.Lists.Ranges.{not_equal}
+use Rattle.msrp_plan.proofs.Common.{◌≡◌, ◌*◌, ◌+◌, ◌-◌, ◌/◌, sym, ap, ◌∙◌, arith, inl, inr, eq-eqb, cases_lt, lt-ltb, le-ltb, div-add-mod', mod_below, not_equal}
 use Rattle.msrp_audit.proofs.Judging.{tick_now}
 use Rattle.msrp_audit.proofs.core_rows.is_in_tick.Goals as goal
 

@@ -1,10 +1,4 @@
-use Rattle.std.proofs.Common.{◌≡◌, ◌≢◌, ◌+◌, ◌-◌, ◌<◌, length, true, take, Some, refl, ap, sym, ◌∙◌, subst, arith, eqb-true}
-use Rattle.std.proofs.lemmas.Bool.{eqb-false}
-use Rattle.std.proofs.lemmas.List.{length-take-le}
-use Rattle.std.proofs.lemmas.Option.{slice_get_read}
-use Rattle.msrp_plan.specs.Logs.{log_of}
-use Rattle.msrp_plan.specs.Runs.{IsRunStart, is_in_turn}
-use Rattle.msrp_plan.specs.Stretches.{in_tick}
+use Rattle.msrp_plan.proofs.Common.{◌≡◌, ◌≢◌, ◌+◌, ◌-◌, ◌<◌, length, true, take, Some, refl, ap, sym, ◌∙◌, subst, arith, eqb-true, eqb-false, length-take-le, slice_get_read, log_of, IsRunStart, is_in_turn, in_tick}
 use Rattle.msrp_core.specs.Machine.{StandsAfter}
 use Rattle.msrp_audit.specs.Inside.Pieces.{broken_on_core}
 use Rattle.msrp_audit.specs.Inside.Walks.{StandsAgain}

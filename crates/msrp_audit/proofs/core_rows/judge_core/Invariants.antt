@@ -1,6 +1,4 @@
-use Rattle.std.proofs.Common.{◌≡◌, ◌-◌, length, take}
-use Rattle.msrp_plan.specs.Logs.{log_of}
-use Rattle.msrp_plan.specs.Runs.{IsRunStart}
+use Rattle.msrp_plan.proofs.Common.{◌≡◌, ◌-◌, length, take, log_of, IsRunStart}
 use Rattle.msrp_core.specs.Machine.{StandsAfter}
 use Rattle.msrp_audit.specs.Inside.Pieces.{broken_on_core}
 use Rattle.msrp_audit.proofs.Scanning.{PassesTo}

@@ -1,4 +1,4 @@
-use Rattle.std.proofs.Common.{◌≤◌, ◌-◌, length}
+use Rattle.msrp_plan.proofs.Common.{◌≤◌, ◌-◌, length}
 use Rattle.msrp_audit.specs.Inside.Naming.{AreOff}
 use Rattle.msrp_audit.proofs.naming.next_row.Given as goal
 

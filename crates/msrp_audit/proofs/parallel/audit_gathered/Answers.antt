@@ -1,4 +1,4 @@
-use Rattle.std.proofs.Common.{◌∙◌, ap, take}
+use Rattle.msrp_plan.proofs.Common.{◌∙◌, ap, take}
 use Rattle.msrp_audit.proofs.parallel.audit_gathered.Goals as goal
 
 pub returns : goal.returns

@@ -1,4 +1,4 @@
-use Rattle.std.proofs.Common.{◌≡◌, take}
+use Rattle.msrp_plan.proofs.Common.{◌≡◌, take}
 use Rattle.msrp_audit.specs.Inside.Pieces.{earliest_of}
 use Rattle.msrp_audit.proofs.parallel.earliest.Given as goal
 

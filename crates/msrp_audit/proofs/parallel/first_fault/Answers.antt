@@ -1,8 +1,8 @@
-use Rattle.std.proofs.Common.{◌≡◌, ◌≤◌, ◌<◌, ◌*◌, ◌-◌, ◌∙◌, ℕ, length, map, ap, arith, subst, Option, List, Ok, IfOk}
-use Rattle.std.specs.List.{AllZip, range_with_len}
+use Rattle.msrp_plan.proofs.Common.{◌≡◌, ◌≤◌, ◌<◌, ◌*◌, ◌-◌, ◌∙◌, ℕ, length, map, ap, arith, subst, Option, List, Ok, IfOk, range_with_len}
+use Rattle.msrp_plan.specs.declared.faults.Fault.{Fault}
+use Rattle.std.specs.List.{AllZip}
 use Rattle.rayon.specs.Numbers.{nat_range}
 use Rattle.rayon.proofs.ToStd.{nat_range-All}
-use Rattle.msrp_plan.specs.declared.faults.Fault.{Fault}
 use Rattle.msrp_audit.specs.Inside.Pieces.{broken_in, earliest_of, piece_with, pieces_of, TellsFirst}
 use Rattle.msrp_audit.specs.Inside.Walks.{KeepsOrder}
 use Rattle.msrp_audit.proofs.Merging.{all_ok, first_is, matched, opened}

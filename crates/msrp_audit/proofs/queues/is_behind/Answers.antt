@@ -1,7 +1,4 @@
-use Rattle.std.proofs.Common.{◌≡◌, ◌&&◌, not, false, List, [], ◌∷◌, None, refl, ap, sym, ◌∙◌}
-use Rattle.std.specs.List.{list_any}
-use Rattle.msrp_plan.specs.Jobs.{is_job}
-use Rattle.msrp_plan.specs.Queues.{is_behind, is_first}
+use Rattle.msrp_plan.proofs.Common.{◌≡◌, ◌&&◌, not, false, List, [], ◌∷◌, None, refl, ap, sym, ◌∙◌, list_any, is_job, is_behind, is_first}
 use Rattle.msrp_plan.specs.declared.ids.JobId.{JobId}
 use Rattle.msrp_audit.proofs.queues.is_behind.Goals as goal
 

@@ -1,6 +1,4 @@
-use Rattle.std.proofs.Common.{sym, ◌∙◌, arith}
-use Rattle.std.proofs.lemmas.Bool.{le-ltb}
-use Rattle.msrp_plan.proofs.Levels.GlobalUse.{undeclared_local}
+use Rattle.msrp_plan.proofs.Common.{sym, ◌∙◌, arith, le-ltb, undeclared_local}
 use Rattle.msrp_audit.proofs.queues.is_global.Goals as goal
 
 pub returns-else-res-resources : goal.returns-else-res-resources

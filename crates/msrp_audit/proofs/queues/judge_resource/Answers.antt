@@ -1,6 +1,4 @@
-use Rattle.std.proofs.Common.{◌≡◌, false, length, sym, ◌∙◌, arith, rules}
-use Rattle.std.proofs.lemmas.Option.{slice_get_within}
-use Rattle.msrp_plan.specs.Queues.{is_release}
+use Rattle.msrp_plan.proofs.Common.{◌≡◌, false, length, sym, ◌∙◌, arith, rules, slice_get_within, is_release}
 use Rattle.msrp_audit.proofs.Queueing.{ends, few_rows, here, keeps_anew, keeps_first, keeps_on, reaches, reply_found, too_long, within}
 use Rattle.msrp_audit.proofs.queues.judge_resource.Goals as goal
 

@@ -1,4 +1,4 @@
-use Rattle.std.proofs.Common.{◌-◌, length}
+use Rattle.msrp_plan.proofs.Common.{◌-◌, length}
 use Rattle.msrp_audit.proofs.Queueing.{KeepsUp}
 use Rattle.msrp_audit.proofs.queues.judge_resource.Given as goal
 

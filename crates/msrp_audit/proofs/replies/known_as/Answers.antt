@@ -1,5 +1,4 @@
-use Rattle.std.proofs.Common.{List, IfSome, subst}
-use Rattle.msrp_plan.specs.Runs.{IsCoreTurn}
+use Rattle.msrp_plan.proofs.Common.{List, IfSome, subst, IsCoreTurn}
 use Rattle.msrp_plan.specs.declared.rows.Row.{Row as TraceRow}
 use Rattle.msrp_core.specs.Machine.{MachineModel, StandsAfter}
 use Rattle.msrp_audit.proofs.replies.known_as.Goals as goal

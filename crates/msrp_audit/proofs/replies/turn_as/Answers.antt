@@ -1,5 +1,4 @@
-use Rattle.std.proofs.Common.{sym, subst}
-use Rattle.msrp_plan.specs.Runs.{IsCoreTurn}
+use Rattle.msrp_plan.proofs.Common.{sym, subst, IsCoreTurn}
 use Rattle.msrp_core.specs.Machine.{MachineModel, StandsAfter}
 use Rattle.msrp_audit.proofs.Following.{known_same}
 use Rattle.msrp_audit.proofs.replies.turn_as.Goals as goal

@@ -1,4 +1,4 @@
-use Rattle.std.proofs.Common.{◌-◌, ◌<◌, ◌≤◌, length, slice_index_or}
+use Rattle.msrp_plan.proofs.Common.{◌-◌, ◌<◌, ◌≤◌, length, slice_index_or}
 use Rattle.msrp_audit.specs.Inside.Stretches.{no_kept}
 use Rattle.msrp_audit.proofs.stretches.entry_in.Given as goal
 

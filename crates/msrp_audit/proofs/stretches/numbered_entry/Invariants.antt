@@ -1,5 +1,4 @@
-use Rattle.std.proofs.Common.{◌≡◌, ◌-◌, ◌<◌, ◌≤◌, ℕ, false, length, slice_index_or}
-use Rattle.msrp_plan.specs.Queues.{is_on}
+use Rattle.msrp_plan.proofs.Common.{◌≡◌, ◌-◌, ◌<◌, ◌≤◌, ℕ, false, length, slice_index_or, is_on}
 use Rattle.msrp_audit.specs.Inside.Gathered.{row_of}
 use Rattle.msrp_audit.specs.Inside.Stretches.{no_kept}
 use Rattle.msrp_audit.proofs.stretches.numbered_entry.Given as goal

@@ -1,4 +1,4 @@
-use Rattle.std.proofs.Common.{◌≤◌, ◌<◌, ◌*◌, ℕ, length, slice_index_or}
+use Rattle.msrp_plan.proofs.Common.{◌≤◌, ◌<◌, ◌*◌, ℕ, length, slice_index_or}
 use Rattle.msrp_audit.specs.Gathering.{tick_rows}
 use Rattle.msrp_audit.specs.Inside.Stretches.{lists_of, turns_told}
 use Rattle.msrp_audit.specs.Inside.TickRows.{HasKept}

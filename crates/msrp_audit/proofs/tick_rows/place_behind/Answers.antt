@@ -1,4 +1,4 @@
-use Rattle.std.proofs.Common.{arith}
+use Rattle.msrp_plan.proofs.Common.{arith}
 use Rattle.msrp_audit.proofs.TurnRows.{next_tick}
 use Rattle.msrp_audit.proofs.tick_rows.place_behind.Goals as goal
 

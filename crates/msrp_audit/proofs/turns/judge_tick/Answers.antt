@@ -1,4 +1,4 @@
-use Rattle.std.proofs.Common.{◌*◌, ap, sym, ◌∙◌, arith}
+use Rattle.msrp_plan.proofs.Common.{◌*◌, ap, sym, ◌∙◌, arith}
 use Rattle.msrp_audit.proofs.InOrder.{ticks_in_order, turns_by_ticks}
 use Rattle.msrp_audit.proofs.turns.judge_tick.Goals as goal
 

@@ -1,5 +1,4 @@
-use Rattle.std.proofs.Common.{◌≡◌, ◌*◌, ◌+◌, length, min, ap, ◌∙◌, arith}
-use Rattle.std.proofs.Math.Nat.{mul-le-mul_left}
+use Rattle.msrp_plan.proofs.Common.{◌≡◌, ◌*◌, ◌+◌, length, min, ap, ◌∙◌, arith, mul-le-mul_left}
 use Rattle.msrp_audit.specs.Inside.Pieces.{part_size}
 use Rattle.msrp_audit.proofs.Orders.{next_tick}
 use Rattle.msrp_audit.proofs.Parts.{part_begins, part_ends, part_stops, turns_pass}

@@ -1,4 +1,4 @@
-use Rattle.std.proofs.Common.{◌≡◌, ◌≤◌, ◌*◌, ◌-◌, ℕ}
+use Rattle.msrp_plan.proofs.Common.{◌≡◌, ◌≤◌, ◌*◌, ◌-◌, ℕ}
 use Rattle.msrp_audit.specs.Inside.Pieces.{broken_turn, part_size}
 use Rattle.msrp_audit.proofs.Scanning.{PassesTo}
 use Rattle.msrp_audit.proofs.turns.judge_turns.Given as goal

@@ -1,5 +1,4 @@
-use Rattle.std.proofs.Common.{◌≡◌, ◌-◌, ◌/◌, ◌<◌, length, true, take, refl, ap, sym, ◌∙◌, arith}
-use Rattle.std.proofs.lemmas.List.{length-set, length-take-le}
+use Rattle.msrp_plan.proofs.Common.{◌≡◌, ◌-◌, ◌/◌, ◌<◌, length, true, take, refl, ap, sym, ◌∙◌, arith, length-set, length-take-le}
 use Rattle.msrp_audit.proofs.Judging.{tick_now}
 use Rattle.msrp_audit.proofs.Turned.{none_noted, noted_more, start_here, stops_here, turns_more}
 use Rattle.msrp_audit.proofs.turns.turns_end.Goals as goal

@@ -1,6 +1,4 @@
-use Rattle.std.proofs.Common.{◌≡◌, length, take}
-use Rattle.msrp_plan.specs.Runs.{IsRunStart}
-use Rattle.msrp_plan.specs.WellFormed.{IsPlan}
+use Rattle.msrp_plan.proofs.Common.{◌≡◌, length, take, IsRunStart, IsPlan}
 use Rattle.msrp_audit.specs.Inside.Walks.{AreTurned}
 use Rattle.msrp_audit.proofs.Turned.{AreTurnsTo}
 use Rattle.msrp_audit.proofs.turns.turns_end.Given as goal

@@ -1,10 +1,6 @@
-use Rattle.std.proofs.Common.{◌≡◌, ℕ, ◌+◌, ◌++◌, ◌∷◌, [], List, Some, Err, take, drop, ap, sym, ◌∙◌, subst}
-use Rattle.std.proofs.lemmas.List.{take-append-drop}
-use Rattle.msrp_plan.specs.Plan.{PlanModel}
-use Rattle.msrp_plan.specs.Verdict.{fault_in, verdict}
+use Rattle.msrp_plan.proofs.Common.{◌≡◌, ℕ, ◌+◌, ◌++◌, ◌∷◌, [], List, Some, Err, take, drop, ap, sym, ◌∙◌, subst, take-append-drop, PlanModel, fault_in, verdict, fault_stays, early_is}
 use Rattle.msrp_plan.specs.declared.faults.Fault.{Fault}
 use Rattle.msrp_plan.specs.declared.rows.Row.{Row as TraceRow}
-use Rattle.msrp_plan.proofs.Runs.Verdicts.{fault_stays, early_is}
 use Rattle.msrp_audit.specs.Audits.{HasFed, answer_of}
 use Rattle.msrp_audit.proofs.Judging.{fault_told}
 use Rattle.msrp_audit.proofs.Scanning.{one_more}

@@ -1,4 +1,4 @@
-use Rattle.std.proofs.Common.{◌≡◌, take}
+use Rattle.msrp_plan.proofs.Common.{◌≡◌, take}
 use Rattle.msrp_audit.specs.Audits.{HasFed}
 use Rattle.msrp_audit.proofs.verdicts.feed_all.Given as goal
 

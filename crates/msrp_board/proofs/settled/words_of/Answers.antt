@@ -1,5 +1,4 @@
-use Rattle.std.proofs.Common.{arith, ◌+◌, ◌∙◌}
-use Rattle.std.proofs.lemmas.List.{length-set}
+use Rattle.msrp_plan.proofs.Common.{arith, ◌+◌, ◌∙◌, length-set}
 use Rattle.msrp_board.proofs.End.{copied}
 use Rattle.msrp_board.proofs.settled.words_of.Goals as goal
 

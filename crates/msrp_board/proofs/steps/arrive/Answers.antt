@@ -1,6 +1,5 @@
-use Rattle.std.proofs.Common.{arith, sym, subst, ◌%◌, ◌+◌, ◌^◌}
+use Rattle.msrp_plan.proofs.Common.{arith, sym, subst, ◌%◌, ◌+◌, ◌^◌, none}
 use Rattle.atomic_table.specs.Table.{Allows, step}
-use mathlib.Core.Option.{none}
 use Rattle.msrp_board.specs.Inside.Rule.{Ruled, TellsArrival}
 use Rattle.msrp_board.proofs.BarrierSteps.{arrive_allowed}
 use Rattle.msrp_board.proofs.steps.arrive.Goals as goal

@@ -1,4 +1,4 @@
-use Rattle.std.proofs.Common.{arith}
+use Rattle.msrp_plan.proofs.Common.{arith}
 use Rattle.msrp_board.proofs.TicketSteps.{leaves_allowed}
 use Rattle.msrp_board.proofs.steps.leave.Goals as goal
 

@@ -1,4 +1,4 @@
-use Rattle.std.proofs.Common.{arith}
+use Rattle.msrp_plan.proofs.Common.{arith}
 use Rattle.msrp_board.proofs.TicketSteps.{polls_allowed}
 use Rattle.msrp_board.proofs.Entering.{poll_entered}
 use Rattle.msrp_board.proofs.steps.poll.Goals as goal

@@ -1,9 +1,6 @@
-use Rattle.std.proofs.Common.{arith, ◌≡◌, ◌++◌, ◌∷◌, [], ◌+◌, ◌*◌, ◌≤◌, ◌<◌, ℕ, Some, None, Ok, Err, cond, length, map, refl, ap, sym, subst, ◌∙◌, length-append}
-use Rattle.std.proofs.lemmas.List.{take_all}
+use Rattle.msrp_plan.proofs.Common.{arith, ◌≡◌, ◌++◌, ◌∷◌, [], ◌+◌, ◌*◌, ◌≤◌, ◌<◌, ℕ, Some, None, Ok, Err, cond, length, map, refl, ap, sym, subst, ◌∙◌, length-append, take_all, PlanModel, fault_in, verdict}
 use Rattle.msrp_audit.specs.Audits.{answer_of}
 use Rattle.msrp_engine.proofs.Judging.{fault-answer, good-answer, turn-left}
-use Rattle.msrp_plan.specs.Plan.{PlanModel}
-use Rattle.msrp_plan.specs.Verdict.{fault_in, verdict}
 use Rattle.msrp_trace.specs.declared.faults.TraceError.TheVariants.{At}
 use Rattle.msrp_c.specs.Turns.{row_of, told_in}
 use Rattle.msrp_c.proofs.TurnByTurn.{all-told, comes, fault-in-told, good-in-told, reading-more, refusal-in-told, refused-told, row-told}

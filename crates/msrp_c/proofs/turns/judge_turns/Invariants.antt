@@ -1,7 +1,6 @@
-use Rattle.std.proofs.Common.{◌≡◌, ◌*◌, ◌≤◌, List, None, Ok, length, map, take}
-use Rattle.msrp_audit.specs.Audits.{HasFed}
-use Rattle.msrp_plan.specs.Verdict.{fault_in}
+use Rattle.msrp_plan.proofs.Common.{◌≡◌, ◌*◌, ◌≤◌, List, None, Ok, length, map, take, fault_in}
 use Rattle.msrp_plan.specs.declared.rows.Row.{Row}
+use Rattle.msrp_audit.specs.Audits.{HasFed}
 use Rattle.msrp_c.specs.Turns.{row_of}
 use Rattle.msrp_c.proofs.turns.judge_turns.Given as goal
 

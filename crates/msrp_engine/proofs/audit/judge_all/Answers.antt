@@ -1,6 +1,5 @@
-use Rattle.std.proofs.Common.{rules, ◌≡◌, ◌∙◌, Err, Some, ap, sym, subst}
+use Rattle.msrp_plan.proofs.Common.{rules, ◌≡◌, ◌∙◌, Err, Some, ap, sym, subst, PlanModel}
 use Rattle.msrp_audit.specs.Audits.{AuditorModel}
-use Rattle.msrp_plan.specs.Plan.{PlanModel}
 use Rattle.msrp_text.specs.Reading.{csv_records}
 use Rattle.msrp_trace.specs.Reading.{rows_of}
 use Rattle.msrp_trace.specs.Readers.{told_left}

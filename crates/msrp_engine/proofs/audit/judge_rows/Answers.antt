@@ -1,4 +1,4 @@
-use Rattle.std.proofs.Common.{rules, ◌≡◌, ◌++◌, ◌∷◌, [], Ok, Err, ap, sym, ◌∙◌, inr, refl}
+use Rattle.msrp_plan.proofs.Common.{rules, ◌≡◌, ◌++◌, ◌∷◌, [], Ok, Err, ap, sym, ◌∙◌, inr, refl}
 use Rattle.msrp_faults.specs.Outcomes.{trace_fault_of}
 use Rattle.msrp_engine.specs.declared.judged.Judgement.TheVariants.{Legal}
 use Rattle.msrp_engine.proofs.RowsJudged.{broken-found, end-found, error-found, fewer-turns, met-gives, row-came, some-came, told-gives}

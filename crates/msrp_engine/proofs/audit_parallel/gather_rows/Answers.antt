@@ -1,4 +1,4 @@
-use Rattle.std.proofs.Common.{rules, ◌≡◌, ◌++◌, ◌∷◌, ◌+◌, [], List, Some, Ok, Err, refl, length, length-append, arith, ap, subst, sym, ◌∙◌}
+use Rattle.msrp_plan.proofs.Common.{rules, ◌≡◌, ◌++◌, ◌∷◌, ◌+◌, [], List, Some, Ok, Err, refl, length, length-append, arith, ap, subst, sym, ◌∙◌}
 use Rattle.msrp_plan.specs.declared.rows.Row.{Row}
 use Rattle.msrp_engine.specs.Judging.{row_told, rows_left}
 use Rattle.msrp_engine.specs.Inside.Ahead.{LooksAhead}

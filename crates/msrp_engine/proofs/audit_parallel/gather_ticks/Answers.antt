@@ -1,5 +1,4 @@
-use Rattle.std.proofs.Common.{rules, ◌≡◌, ◌<◌, ◌++◌, List, Err, IfSome, sym, ap, ◌∙◌, subst, append_assoc, arith}
-use Rattle.msrp_plan.specs.Plan.{PlanModel}
+use Rattle.msrp_plan.proofs.Common.{rules, ◌≡◌, ◌<◌, ◌++◌, List, Err, IfSome, sym, ap, ◌∙◌, subst, append_assoc, arith, PlanModel}
 use Rattle.msrp_plan.specs.declared.rows.Row.{Row}
 use Rattle.msrp_engine.specs.Inside.Gathered.{AreLike, IsGatheredTo}
 use Rattle.msrp_engine.specs.Inside.Ticks.{AreRowsOf, TakesTick}

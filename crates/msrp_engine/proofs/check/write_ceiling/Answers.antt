@@ -1,8 +1,4 @@
-use Rattle.std.proofs.Common.{◌≡◌, true, false, [], ap, sym, ◌∙◌, arith}
-use Rattle.std.proofs.lemmas.Option.{get_or_from_slice_get}
-use Rattle.msrp_plan.specs.Levels.{is_global}
-use Rattle.msrp_plan.specs.Plan.{PlanModel}
-use Rattle.msrp_plan.proofs.Writes.{wrote-more}
+use Rattle.msrp_plan.proofs.Common.{◌≡◌, true, false, [], ap, sym, ◌∙◌, arith, get_or_from_slice_get, is_global, PlanModel, wrote-more}
 use Rattle.msrp_text.proofs.Written.{wrote-as}
 use Rattle.msrp_engine.proofs.CheckRecords.{global-is, local-ceiling, local-is}
 use Rattle.msrp_engine.proofs.check.write_ceiling.Goals as goal

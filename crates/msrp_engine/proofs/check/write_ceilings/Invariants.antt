@@ -1,4 +1,4 @@
-use Rattle.msrp_plan.specs.Bytes.{Wrote}
+use Rattle.msrp_plan.proofs.Common.{Wrote}
 use Rattle.msrp_engine.specs.CheckText.{ceiling_record, told_each}
 use Rattle.msrp_engine.proofs.check.write_ceilings.Given as goal
 

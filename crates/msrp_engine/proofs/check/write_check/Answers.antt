@@ -1,4 +1,4 @@
-use Rattle.msrp_plan.proofs.Writes.{wrote-more}
+use Rattle.msrp_plan.proofs.Common.{wrote-more}
 use Rattle.msrp_engine.specs.CheckText.{check_text}
 use Rattle.msrp_engine.proofs.check.write_check.Goals as goal
 

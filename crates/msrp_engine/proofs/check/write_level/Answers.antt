@@ -1,6 +1,4 @@
-use Rattle.std.proofs.Common.{ap, ◌∙◌}
-use Rattle.msrp_plan.specs.Levels.{level}
-use Rattle.msrp_plan.proofs.Writes.{wrote-more}
+use Rattle.msrp_plan.proofs.Common.{ap, ◌∙◌, level, wrote-more}
 use Rattle.msrp_engine.proofs.check.write_level.Goals as goal
 
 pub returns : goal.returns

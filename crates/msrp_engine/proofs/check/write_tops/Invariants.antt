@@ -1,4 +1,4 @@
-use Rattle.msrp_plan.specs.Bytes.{Wrote}
+use Rattle.msrp_plan.proofs.Common.{Wrote}
 use Rattle.msrp_engine.specs.CheckText.{top_record, told_each}
 use Rattle.msrp_engine.proofs.check.write_tops.Given as goal
 

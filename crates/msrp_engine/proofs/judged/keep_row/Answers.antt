@@ -1,6 +1,4 @@
-use Rattle.std.proofs.Common.{arith, ◌%◌}
-use Rattle.std.proofs.lemmas.List.{get_or-set_other, get_or-set_same}
-use Rattle.std.proofs.lemmas.Nat.{mod_below}
+use Rattle.msrp_plan.proofs.Common.{arith, ◌%◌, get_or-set_other, get_or-set_same, mod_below}
 use Rattle.msrp_engine.specs.Inside.Kept.{no_row}
 use Rattle.msrp_engine.proofs.judged.keep_row.Goals as goal
 

@@ -1,6 +1,4 @@
-use Rattle.std.proofs.Common.{arith, ◌%◌}
-use Rattle.std.proofs.lemmas.List.{get_or_read}
-use Rattle.std.proofs.lemmas.Nat.{mod_below}
+use Rattle.msrp_plan.proofs.Common.{arith, ◌%◌, get_or_read, mod_below}
 use Rattle.msrp_engine.specs.Inside.Kept.{no_row}
 use Rattle.msrp_engine.proofs.judged.kept_row.Goals as goal
 

@@ -1,11 +1,7 @@
-use Rattle.std.proofs.Common.{◌≡◌, ◌<◌, ◌%◌, ◌*◌, None, true, false, ap, sym, ◌∙◌, subst, arith, length, length-take-le, take}
-use Rattle.std.proofs.Math.Bool.{true≢false}
-use Rattle.std.proofs.lemmas.List.{take_all}
+use Rattle.msrp_plan.proofs.Common.{◌≡◌, ◌<◌, ◌%◌, ◌*◌, None, true, false, ap, sym, ◌∙◌, subst, arith, length, take, true≢false, take_all, PlanModel, IsRunStart, fault_in}
+use Rattle.std.proofs.Common.{length-take-le}
 use Rattle.std.specs.Option.{is_some}
 use Rattle.msrp_audit.specs.Audits.{AuditorModel, HasFed, has_turn}
-use Rattle.msrp_plan.specs.Plan.{PlanModel}
-use Rattle.msrp_plan.specs.Runs.{IsRunStart}
-use Rattle.msrp_plan.specs.Verdict.{fault_in}
 use Rattle.msrp_engine.proofs.WholeTicks.{before_good, next_has, some_at, turned_on}
 use Rattle.msrp_engine.proofs.replay.auditor_after.Goals as goal
 

@@ -1,7 +1,6 @@
-use Rattle.std.proofs.Common.{◌≡◌, List, length, take}
-use Rattle.msrp_audit.specs.Audits.{HasFed}
-use Rattle.msrp_plan.specs.Runs.{IsRunStart}
+use Rattle.msrp_plan.proofs.Common.{◌≡◌, List, length, take, IsRunStart}
 use Rattle.msrp_plan.specs.declared.rows.Row.{Row}
+use Rattle.msrp_audit.specs.Audits.{HasFed}
 use Rattle.msrp_engine.specs.Inside.Ticks.{AreInOrder}
 use Rattle.msrp_engine.proofs.replay.auditor_after.Given as goal
 

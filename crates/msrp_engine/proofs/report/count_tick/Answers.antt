@@ -1,5 +1,4 @@
-use Rattle.std.proofs.Common.{◌≡◌, ◌<◌, ◌++◌, ◌∷◌, [], None, ap, sym, ◌∙◌, subst, arith, append-nil, take}
-use Rattle.msrp_plan.specs.Verdict.{fault_in}
+use Rattle.msrp_plan.proofs.Common.{◌≡◌, ◌<◌, ◌++◌, ◌∷◌, [], None, ap, sym, ◌∙◌, subst, arith, append-nil, take, fault_in}
 use Rattle.msrp_plan.specs.declared.rows.Row.{Row}
 use Rattle.msrp_report.specs.Reports.{HasBegun, HasCounted}
 use Rattle.msrp_engine.proofs.Counting.{first_row, next_row, row_at}

@@ -1,6 +1,4 @@
-use Rattle.std.proofs.Common.{◌++◌, [], IfSome, Ok, refl, ap, sym, ◌∙◌, subst}
-use Rattle.msrp_plan.specs.Plan.{PlanModel}
-use Rattle.msrp_plan.specs.Runs.{IsRunStart}
+use Rattle.msrp_plan.proofs.Common.{◌++◌, [], IfSome, Ok, refl, ap, sym, ◌∙◌, subst, PlanModel, IsRunStart}
 use Rattle.msrp_engine.specs.Inside.Counting.{CountTick}
 use Rattle.msrp_engine.specs.Inside.Ticks.{AreRowsOf, TakesTick}
 use Rattle.msrp_engine.proofs.WholeTicks.{no_tick, tick_on, ticks_back}

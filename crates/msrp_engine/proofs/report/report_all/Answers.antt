@@ -1,4 +1,4 @@
-use Rattle.std.proofs.Common.{rules, ◌≡◌, Err, Some, refl, sym, subst}
+use Rattle.msrp_plan.proofs.Common.{rules, ◌≡◌, Err, Some, refl, sym, subst}
 use Rattle.msrp_text.specs.Reading.{csv_records}
 use Rattle.msrp_trace.specs.Reading.{rows_of}
 use Rattle.msrp_trace.specs.Readers.{told_left}

@@ -1,4 +1,4 @@
-use Rattle.std.proofs.Common.{rules, ◌≡◌, Ok, Err, refl}
+use Rattle.msrp_plan.proofs.Common.{rules, ◌≡◌, Ok, Err, refl}
 use Rattle.msrp_engine.proofs.Reporting.{report-answers}
 use Rattle.msrp_engine.proofs.report.report_text.Goals as goal
 

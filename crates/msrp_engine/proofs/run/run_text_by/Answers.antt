@@ -1,4 +1,4 @@
-use Rattle.std.proofs.Common.{inl, inr}
+use Rattle.msrp_plan.proofs.Common.{inl, inr}
 use Rattle.msrp_engine.specs.Running.{RunAnswers}
 use Rattle.msrp_engine.proofs.Answered.{from_plan}
 use Rattle.msrp_engine.proofs.run.run_text_by.Goals as goal

@@ -1,6 +1,4 @@
-use Rattle.std.proofs.Common.{◌≡◌, ◌<◌, ◌+◌, ◌*◌, true, ap, refl, sym, subst, ◌∙◌}
-use Rattle.msrp_plan.specs.WellFormed.{IsPlan}
-use Rattle.msrp_plan.specs.Plan.{PlanModel}
+use Rattle.msrp_plan.proofs.Common.{◌≡◌, ◌<◌, ◌+◌, ◌*◌, true, ap, refl, sym, subst, ◌∙◌, IsPlan, PlanModel}
 use Rattle.msrp_sim.specs.Simulated.{SimModel, HasMade}
 use Rattle.msrp_trace.specs.Gathering.{after_tick}
 use Rattle.msrp_trace.specs.TraceText.{is_named}

@@ -1,4 +1,4 @@
-use Rattle.std.proofs.Common.{inl, inr}
+use Rattle.msrp_plan.proofs.Common.{inl, inr}
 use Rattle.msrp_engine.proofs.SimAnswers.{sim_from_plan}
 use Rattle.msrp_engine.proofs.sim.sim_text.Goals as goal
 

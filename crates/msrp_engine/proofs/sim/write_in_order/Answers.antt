@@ -1,5 +1,4 @@
-use Rattle.std.proofs.Common.{inl, inr, arith}
-use Rattle.msrp_plan.specs.Scheduling.{IsOrder}
+use Rattle.msrp_plan.proofs.Common.{inl, inr, arith, IsOrder}
 use Rattle.msrp_sim.specs.Orders.{cores_of}
 use Rattle.msrp_engine.specs.Simulation.{Simulated}
 use Rattle.msrp_engine.proofs.SimAnswers.{on_status}

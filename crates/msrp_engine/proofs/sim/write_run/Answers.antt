@@ -1,6 +1,4 @@
-use Rattle.std.proofs.Common.{◌≡◌, ◌∙◌, ◌+◌, ◌*◌, ◌<◌, [], ◌∷◌, ◌++◌, ap, decimal, refl, sym, subst, arith, append-nil}
-use Rattle.msrp_plan.specs.Plan.{PlanModel}
-use Rattle.msrp_plan.specs.WellFormed.{IsPlan}
+use Rattle.msrp_plan.proofs.Common.{◌≡◌, ◌∙◌, ◌+◌, ◌*◌, ◌<◌, [], ◌∷◌, ◌++◌, ap, decimal, refl, sym, subst, arith, append-nil, PlanModel, IsPlan}
 use Rattle.msrp_trace.specs.Gathering.{WriterModel, after_tick}
 use Rattle.msrp_trace.specs.Texts.{TextsModel}
 use Rattle.msrp_trace.specs.TraceText.{head_text}

@@ -1,4 +1,4 @@
-use Rattle.std.proofs.Common.{inl, inr}
+use Rattle.msrp_plan.proofs.Common.{inl, inr}
 use Rattle.msrp_engine.specs.Inside.Texts.{text_of}
 use Rattle.msrp_engine.specs.Simulation.{TextAnswers}
 use Rattle.msrp_engine.proofs.Answered.{from_plan}

@@ -1,4 +1,4 @@
-use Rattle.std.proofs.Common.{subst}
+use Rattle.msrp_plan.proofs.Common.{subst}
 use Rattle.msrp_sim.specs.Served.{as_port}
 use Rattle.msrp_examples.proofs.GoingOn.{IsOneCall, one_call, own_goes_on, other_goes_on}
 use Rattle.msrp_examples.proofs.lock.turn.Goals as goal

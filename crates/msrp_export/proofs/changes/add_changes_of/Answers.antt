@@ -1,8 +1,4 @@
-use Rattle.std.proofs.Common.{◌≡◌, sym, subst, arith}
-use Rattle.std.specs.List.{flat_map, range_with_len}
-use Rattle.msrp_plan.specs.Bytes.{Wrote}
-use Rattle.msrp_plan.proofs.Lists.Ranges.{flat_more}
-use Rattle.msrp_plan.proofs.Writes.{wrote-more, wrote-nothing}
+use Rattle.msrp_plan.proofs.Common.{◌≡◌, sym, subst, arith, flat_map, range_with_len, Wrote, flat_more, wrote-more, wrote-nothing}
 use Rattle.msrp_export.specs.Changes.{change}
 use Rattle.msrp_export.specs.Groups.{count_of}
 use Rattle.msrp_export.proofs.changes.add_changes_of.Goals as goal

@@ -1,6 +1,4 @@
-use Rattle.std.proofs.Common.{subst, sym}
-use Rattle.msrp_plan.specs.Bytes.{Wrote}
-use Rattle.msrp_plan.proofs.Writes.{wrote-more}
+use Rattle.msrp_plan.proofs.Common.{subst, sym, Wrote, wrote-more}
 use Rattle.msrp_export.specs.Perfetto.{arrow_part}
 use Rattle.msrp_export.proofs.perfetto.add_arrow_part.Goals as goal
 

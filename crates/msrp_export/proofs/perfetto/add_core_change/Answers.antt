@@ -1,5 +1,4 @@
-use Rattle.std.proofs.Common.{◌∙◌, sym}
-use Rattle.msrp_plan.proofs.Writes.{wrote-more}
+use Rattle.msrp_plan.proofs.Common.{◌∙◌, sym, wrote-more}
 use Rattle.msrp_export.proofs.Writing.{wrote-unless}
 use Rattle.msrp_export.proofs.perfetto.add_core_change.Goals as goal
 

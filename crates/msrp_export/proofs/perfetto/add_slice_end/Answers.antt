@@ -1,5 +1,4 @@
-use Rattle.std.proofs.Common.{subst, sym}
-use Rattle.msrp_plan.specs.Bytes.{Wrote}
+use Rattle.msrp_plan.proofs.Common.{subst, sym, Wrote}
 use Rattle.msrp_export.specs.Perfetto.{slice_end}
 use Rattle.msrp_export.specs.Ticks.{rows_before}
 use Rattle.msrp_export.proofs.perfetto.add_slice_end.Goals as goal

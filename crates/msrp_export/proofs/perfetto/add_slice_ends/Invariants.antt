@@ -1,6 +1,4 @@
-use Rattle.std.proofs.Common.{List}
-use Rattle.std.specs.List.{flat_map, range_with_len}
-use Rattle.msrp_plan.specs.Bytes.{Wrote}
+use Rattle.msrp_plan.proofs.Common.{List, flat_map, range_with_len, Wrote}
 use Rattle.msrp_plan.specs.declared.rows.Row.{Row}
 use Rattle.msrp_export.specs.Perfetto.{slice_end}
 use Rattle.msrp_export.specs.Exports.{TellsTick}

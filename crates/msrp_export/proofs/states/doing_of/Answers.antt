@@ -1,5 +1,4 @@
-use Rattle.std.proofs.Common.{◌<◌, ap, sym, subst, ◌∙◌, length}
-use Rattle.msrp_plan.specs.Plan.{release}
+use Rattle.msrp_plan.proofs.Common.{◌<◌, ap, sym, subst, ◌∙◌, length, release}
 use Rattle.msrp_plan.specs.declared.ids.TaskId.{TaskId}
 use Rattle.msrp_export.specs.Signals.{kind_in, last_row}
 use Rattle.msrp_export.specs.declared.standing.TaskCount.{TaskCount}

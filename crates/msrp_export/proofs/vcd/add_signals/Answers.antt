@@ -1,6 +1,4 @@
-use Rattle.std.proofs.Common.{subst, sym}
-use Rattle.msrp_plan.specs.Bytes.{Wrote}
-use Rattle.msrp_plan.proofs.Writes.{wrote-more}
+use Rattle.msrp_plan.proofs.Common.{subst, sym, Wrote, wrote-more}
 use Rattle.msrp_export.specs.Vcd.{signals}
 use Rattle.msrp_export.proofs.vcd.add_signals.Goals as goal
 

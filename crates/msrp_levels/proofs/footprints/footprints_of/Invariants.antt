@@ -1,5 +1,4 @@
-use Rattle.std.proofs.Common.{◌≡◌, length, map, take}
-use Rattle.std.specs.Prelude.{vec_capacity}
+use Rattle.msrp_plan.proofs.Common.{◌≡◌, length, map, take, vec_capacity}
 use Rattle.msrp_levels.specs.Footprints.{footprint_of}
 use Rattle.msrp_levels.proofs.footprints.footprints_of.Given as goal
 

@@ -1,6 +1,4 @@
-use Rattle.std.proofs.Common.{◌≡◌, ◌+◌, ◌-◌, List, sym, subst, ap, ◌∙◌, arith}
-use Rattle.msrp_plan.specs.Plan.{task_at}
-use Rattle.msrp_plan.proofs.TaskUnits.PlanUnits.{units_lock}
+use Rattle.msrp_plan.proofs.Common.{◌≡◌, ◌+◌, ◌-◌, List, sym, subst, ap, ◌∙◌, arith, task_at, units_lock}
 use Rattle.msrp_levels.specs.Footprints.{CanPass, passed, uses_from}
 use Rattle.msrp_levels.specs.declared.footprints.Use.{Use}
 use Rattle.msrp_levels.proofs.PassedUnits.{uses_behind, pass_unit, can_pass}

@@ -1,5 +1,4 @@
-use Rattle.std.proofs.Common.{◌≡◌}
-use Rattle.msrp_plan.specs.Plan.{task_at}
+use Rattle.msrp_plan.proofs.Common.{◌≡◌, task_at}
 use Rattle.msrp_levels.specs.Footprints.{uses_from}
 use Rattle.msrp_levels.proofs.footprints.uses_of.Given as goal
 

@@ -1,12 +1,7 @@
-use Rattle.std.proofs.Common.{◌≡◌, ◌+◌, ◌-◌, ◌==◌, ℕ, cond, map, max, length, rules, Some, ap, sym, subst, ◌∙◌, arith, eq-eqb}
-use Rattle.std.specs.List.{range_with_len}
-use Rattle.msrp_plan.specs.Plan.{task_at}
-use Rattle.msrp_plan.specs.Levels.{greatest}
-use Rattle.msrp_plan.specs.Bounds.{wait_bound}
+use Rattle.msrp_plan.proofs.Common.{◌≡◌, ◌+◌, ◌-◌, ◌==◌, ℕ, cond, map, max, length, rules, Some, ap, sym, subst, ◌∙◌, arith, eq-eqb, range_with_len, task_at, greatest, wait_bound, units_lock, not_equal}
 use Rattle.msrp_plan.specs.declared.units.Op.TheVariants.{Run}
 use Rattle.msrp_plan.proofs.Blocking.SectionRows.{spent}
-use Rattle.msrp_plan.proofs.TaskUnits.PlanUnits.{units_balance, units_lock}
-use Rattle.msrp_plan.proofs.Lists.Ranges.{not_equal}
+use Rattle.msrp_plan.proofs.TaskUnits.PlanUnits.{units_balance}
 use Rattle.msrp_levels.proofs.HeldUnits.{held_last, held_step}
 use Rattle.msrp_levels.proofs.OutermostRows.{IsPassed, passed_first, passed_step, passed_work}
 use Rattle.msrp_levels.proofs.outermost.out_of.Goals as goal

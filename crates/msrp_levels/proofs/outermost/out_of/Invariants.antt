@@ -1,4 +1,4 @@
-use Rattle.msrp_plan.specs.Plan.{task_at}
+use Rattle.msrp_plan.proofs.Common.{task_at}
 use Rattle.msrp_levels.proofs.OutermostRows.{IsPassed}
 use Rattle.msrp_levels.proofs.outermost.out_of.Given as goal
 

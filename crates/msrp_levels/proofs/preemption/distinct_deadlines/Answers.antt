@@ -1,5 +1,4 @@
-use Rattle.std.proofs.Common.{◌-◌, ◌∙◌, sym, ap, arith, nat_eq}
-use Rattle.std.specs.List.{list_any}
+use Rattle.msrp_plan.proofs.Common.{◌-◌, ◌∙◌, sym, ap, arith, nat_eq, list_any}
 use Rattle.msrp_levels.proofs.DistinctDeadlines.{distinct_again, distinct_push, distinct_levels}
 use Rattle.msrp_levels.proofs.preemption.distinct_deadlines.Goals as goal
 

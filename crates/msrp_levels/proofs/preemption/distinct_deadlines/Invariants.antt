@@ -1,5 +1,4 @@
-use Rattle.std.proofs.Common.{◌≡◌, ◌≤◌, ◌+◌, length, vec_len}
-use Rattle.std.specs.Prelude.{vec_capacity}
+use Rattle.msrp_plan.proofs.Common.{◌≡◌, ◌≤◌, ◌+◌, length, vec_len, vec_capacity}
 use Rattle.msrp_levels.proofs.DistinctDeadlines.{AreDistinctFrom}
 use Rattle.msrp_levels.proofs.preemption.distinct_deadlines.Given as goal
 

@@ -1,7 +1,5 @@
-use Rattle.std.proofs.Common.{◌+◌, ◌++◌, ◌∷◌, [], nat_lt, count_by, List, ℕ, map, take, ◌∙◌, sym, ap, arith}
+use Rattle.msrp_plan.proofs.Common.{◌+◌, ◌++◌, ◌∷◌, [], nat_lt, count_by, List, ℕ, map, take, ◌∙◌, sym, ap, arith, task_at, no_task, level_of}
 use Rattle.std.proofs.lemmas.List.{map_more}
-use Rattle.msrp_plan.specs.Plan.{task_at, no_task}
-use Rattle.msrp_plan.specs.Levels.{level_of}
 use Rattle.msrp_levels.proofs.preemption.levels_of.Goals as goal
 
 pub loop-t-preserved : goal.loop-t-preserved

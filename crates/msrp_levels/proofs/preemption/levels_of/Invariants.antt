@@ -1,6 +1,4 @@
-use Rattle.std.proofs.Common.{◌≡◌, length, map, take}
-use Rattle.std.specs.Prelude.{vec_capacity}
-use Rattle.msrp_plan.specs.Levels.{level_of}
+use Rattle.msrp_plan.proofs.Common.{◌≡◌, length, map, take, vec_capacity, level_of}
 use Rattle.msrp_levels.proofs.preemption.levels_of.Given as goal
 
 abbrev pub invariant-loop-t : goal.invariant-loop-t

@@ -1,5 +1,4 @@
-use Rattle.std.proofs.Common.{◌≤◌, ◌∙◌, arith, eq-eqb}
-use Rattle.msrp_plan.proofs.Lists.Ranges.{not_equal}
+use Rattle.msrp_plan.proofs.Common.{◌≤◌, ◌∙◌, arith, eq-eqb, not_equal}
 use Rattle.msrp_levels.specs.Usage.{core_use_at}
 use Rattle.msrp_levels.proofs.Spins.{spin_on, spin_own, spin_unused}
 use Rattle.msrp_levels.proofs.usage.spin_among.Goals as goal

@@ -1,5 +1,4 @@
-use Rattle.std.proofs.Common.{◌≡◌, ◌≤◌, ◌+◌, ◌*◌}
-use Rattle.std.specs.List.{filter, range_with_len, sum_by}
+use Rattle.msrp_plan.proofs.Common.{◌≡◌, ◌≤◌, ◌+◌, ◌*◌, filter, range_with_len, sum_by}
 use Rattle.msrp_levels.specs.Usage.{core_use_at, is_other_user}
 use Rattle.msrp_levels.proofs.usage.spin_among.Given as goal
 

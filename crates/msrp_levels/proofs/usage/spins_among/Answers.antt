@@ -1,6 +1,4 @@
-use Rattle.std.proofs.Common.{ℕ, ◌++◌, ◌∷◌, [], List, ap, sym, ◌∙◌, arith, length, map}
-use Rattle.std.specs.List.{range_with_len}
-use Rattle.std.proofs.lemmas.List.FromFn.{length-map-range_with_len, map-range_with_len_more}
+use Rattle.msrp_plan.proofs.Common.{ℕ, ◌++◌, ◌∷◌, [], List, ap, sym, ◌∙◌, arith, length, map, range_with_len, length-map-range_with_len, map-range_with_len_more}
 use Rattle.msrp_levels.specs.Usage.{spin_among}
 use Rattle.msrp_levels.proofs.usage.spins_among.Goals as goal
 

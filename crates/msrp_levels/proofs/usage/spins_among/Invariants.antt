@@ -1,6 +1,4 @@
-use Rattle.std.proofs.Common.{◌≡◌, map, length}
-use Rattle.std.specs.Prelude.{vec_capacity}
-use Rattle.std.specs.List.{range_with_len}
+use Rattle.msrp_plan.proofs.Common.{◌≡◌, map, length, vec_capacity, range_with_len}
 use Rattle.msrp_levels.specs.Usage.{spin_among}
 use Rattle.msrp_levels.proofs.usage.spins_among.Given as goal
 

@@ -1,6 +1,4 @@
-use Rattle.std.proofs.Common.{◌≡◌, ◌==◌, map, take}
-use Rattle.std.specs.List.{filter}
-use Rattle.msrp_plan.specs.Levels.{greatest}
+use Rattle.msrp_plan.proofs.Common.{◌≡◌, ◌==◌, map, take, filter, greatest}
 use Rattle.msrp_levels.proofs.usage.top_of.Given as goal
 
 abbrev pub invariant-loop-task : goal.invariant-loop-task

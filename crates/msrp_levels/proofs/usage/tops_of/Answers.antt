@@ -1,7 +1,4 @@
-use Rattle.std.proofs.Common.{ℕ, ◌==◌, ◌++◌, ◌∷◌, [], List, ap, sym, ◌∙◌, arith, length, map}
-use Rattle.std.specs.List.{filter, range_with_len}
-use Rattle.std.proofs.lemmas.List.FromFn.{length-map-range_with_len, map-range_with_len_more}
-use Rattle.msrp_plan.specs.Levels.{greatest, top}
+use Rattle.msrp_plan.proofs.Common.{ℕ, ◌==◌, ◌++◌, ◌∷◌, [], List, ap, sym, ◌∙◌, arith, length, map, filter, range_with_len, length-map-range_with_len, map-range_with_len_more, greatest, top}
 use Rattle.msrp_levels.specs.declared.footprints.Footprint.{Footprint}
 use Rattle.msrp_levels.proofs.TaskUses.{top_same}
 use Rattle.msrp_levels.proofs.usage.tops_of.Goals as goal

@@ -1,7 +1,4 @@
-use Rattle.std.proofs.Common.{◌≡◌, map}
-use Rattle.std.specs.Prelude.{vec_capacity}
-use Rattle.std.specs.List.{range_with_len}
-use Rattle.msrp_plan.specs.Levels.{top}
+use Rattle.msrp_plan.proofs.Common.{◌≡◌, map, vec_capacity, range_with_len, top}
 use Rattle.msrp_levels.proofs.usage.tops_of.Given as goal
 
 abbrev pub invariant-loop-c : goal.invariant-loop-c

@@ -1,4 +1,4 @@
-use Rattle.std.proofs.Common.{refl}
+use Rattle.msrp_plan.proofs.Common.{refl}
 use Rattle.msrp_merge.proofs.Handover.{logs_fit, served, paired, not_paired}
 use Rattle.msrp_merge.proofs.laws.handover.Goals as goal
 

@@ -1,4 +1,4 @@
-use Rattle.std.proofs.Common.{refl}
+use Rattle.msrp_plan.proofs.Common.{refl}
 use Rattle.msrp_merge.proofs.laws.two_resources_in_a_tick.Goals as goal
 
 pub returns : goal.returns

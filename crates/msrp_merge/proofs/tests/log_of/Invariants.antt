@@ -1,4 +1,4 @@
-use Rattle.std.proofs.Common.{◌≡◌, length}
+use Rattle.msrp_plan.proofs.Common.{◌≡◌, length}
 use Rattle.msrp_merge.proofs.tests.log_of.Given as goal
 
 abbrev pub invariant-loop-turn : goal.invariant-loop-turn

@@ -1,5 +1,4 @@
-use Rattle.std.proofs.Common.{◌≡◌, true, false, cond, List, ◌∷◌, ◌++◌, ap, append_assoc, sym, ◌∙◌}
-use Rattle.std.specs.List.{flat_map}
+use Rattle.msrp_plan.proofs.Common.{◌≡◌, true, false, cond, List, ◌∷◌, ◌++◌, ap, append_assoc, sym, ◌∙◌, flat_map}
 use Rattle.msrp_picture.specs.Types.{Span}
 use Rattle.msrp_picture.specs.Blocks.{goes_on, joined, seen}
 use Rattle.msrp_picture.proofs.blocks.join.Goals as goal

@@ -1,5 +1,4 @@
-use Rattle.std.proofs.Common.{◌≡◌, ◌++◌, drop}
-use Rattle.std.specs.List.{flat_map}
+use Rattle.msrp_plan.proofs.Common.{◌≡◌, ◌++◌, drop, flat_map}
 use Rattle.msrp_picture.specs.Blocks.{joined, seen}
 use Rattle.msrp_picture.proofs.blocks.push_joined.Given as goal
 

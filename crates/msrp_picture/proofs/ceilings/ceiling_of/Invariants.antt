@@ -1,6 +1,5 @@
-use Rattle.std.proofs.Common.{◌≡◌, List, filter, map}
-use Rattle.std.specs.List.{range_with_len}
-use Rattle.msrp_plan.specs.Levels.{greatest}
+use Rattle.msrp_plan.proofs.Common.{◌≡◌, List, map, range_with_len, greatest}
+use Rattle.std.proofs.Common.{filter}
 use Rattle.msrp_levels.specs.Users.{ceiling_at}
 use Rattle.msrp_picture.specs.Types.{Row}
 use Rattle.msrp_picture.specs.Ceilings.{claims, is_claimed}

@@ -1,5 +1,4 @@
-use Rattle.std.proofs.Common.{ℕ, ◌+◌, ◌∷◌, ◌++◌, [], ap, arith, length, sym, take, ◌∙◌}
-use Rattle.std.proofs.lemmas.List.{take_more}
+use Rattle.msrp_plan.proofs.Common.{ℕ, ◌+◌, ◌∷◌, ◌++◌, [], ap, arith, length, sym, take, ◌∙◌, take_more}
 use Rattle.msrp_picture.specs.Types.{Row}
 use Rattle.msrp_picture.specs.Ceilings.{claims, raised, told_ceiling}
 use Rattle.msrp_picture.proofs.Claims.{claims-size}

@@ -1,5 +1,4 @@
-use Rattle.std.proofs.Common.{◌≡◌, ◌+◌, ℕ, take}
-use Rattle.std.specs.List.{flat_map, range_with_len}
+use Rattle.msrp_plan.proofs.Common.{◌≡◌, ◌+◌, ℕ, take, flat_map, range_with_len}
 use Rattle.msrp_picture.specs.Ceilings.{claims, raised, told_ceiling}
 use Rattle.msrp_picture.proofs.ceilings.spans_of.Given as goal
 

@@ -1,8 +1,7 @@
 -- Rows that are taken tick by tick.
-use Rattle.std.proofs.Common.{◌≡◌, ℕ, ◌+◌, ◌-◌, ◌*◌, ◌≤◌, List, ◌++◌, ap, sym, ◌∙◌, arith, take, drop, take-append-drop, length, ◌∷◌, [], map, min, rules, subst}
-use Rattle.std.proofs.lemmas.List.{drop-take, take-take}
-use Rattle.std.proofs.lemmas.List.FromFn.{length-map-range_with_len}
-use Rattle.std.specs.List.{slice_range, range_with_len}
+use Rattle.msrp_plan.proofs.Common.{◌≡◌, ℕ, ◌+◌, ◌-◌, ◌*◌, ◌≤◌, List, ◌++◌, ap, sym, ◌∙◌, arith, take, drop, length, ◌∷◌, [], map, min, rules, subst, drop-take, take-take, length-map-range_with_len, range_with_len}
+use Rattle.std.proofs.Common.{take-append-drop}
+use Rattle.std.specs.List.{slice_range}
 use Rattle.msrp_plan.specs.Requests.{HasTaken}
 use Rattle.msrp_picture.specs.Types.{PlanModel, Row, Standing}
 use Rattle.msrp_picture.specs.Cells.{standing_after, standing_of}

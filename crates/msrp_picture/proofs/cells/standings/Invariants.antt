@@ -1,5 +1,4 @@
-use Rattle.std.proofs.Common.{◌≡◌, ◌-◌, ◌*◌, ◌≤◌, map, take}
-use Rattle.std.specs.List.{range_with_len}
+use Rattle.msrp_plan.proofs.Common.{◌≡◌, ◌-◌, ◌*◌, ◌≤◌, map, take, range_with_len}
 use Rattle.msrp_plan.specs.Requests.{HasTaken}
 use Rattle.msrp_picture.specs.Cells.{standing_after}
 use Rattle.msrp_picture.proofs.cells.standings.Given as goal

@@ -1,5 +1,4 @@
-use Rattle.std.proofs.Common.{◌≡◌, ◌+◌, ◌++◌, ◌∷◌, [], List, take, subst, sym, ap, ◌∙◌, append_assoc, arith}
-use Rattle.std.proofs.lemmas.List.{take_more}
+use Rattle.msrp_plan.proofs.Common.{◌≡◌, ◌+◌, ◌++◌, ◌∷◌, [], List, take, subst, sym, ap, ◌∙◌, append_assoc, arith, take_more}
 use Rattle.msrp_plan.specs.Requests.{HasTaken}
 use Rattle.msrp_picture.specs.Types.{Row}
 use Rattle.msrp_picture.proofs.cells.take_all.Goals as goal

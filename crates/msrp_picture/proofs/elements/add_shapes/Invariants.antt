@@ -1,5 +1,4 @@
-use Rattle.std.proofs.Common.{◌≡◌, ◌++◌, take}
-use Rattle.std.specs.List.{flat_map}
+use Rattle.msrp_plan.proofs.Common.{◌≡◌, ◌++◌, take, flat_map}
 use Rattle.msrp_picture.specs.Elements.{shape_text}
 use Rattle.msrp_picture.proofs.elements.add_shapes.Given as goal
 

@@ -1,4 +1,4 @@
-use Rattle.std.proofs.Common.{ℕ, ◌+◌}
+use Rattle.msrp_plan.proofs.Common.{ℕ, ◌+◌}
 use Rattle.msrp_picture.specs.Lanes.{tick_note}
 use Rattle.msrp_picture.proofs.Growing.{grows-each}
 use Rattle.msrp_picture.proofs.lanes.push_axis.Goals as goal

@@ -1,5 +1,4 @@
-use Rattle.std.proofs.Common.{◌≡◌, ℕ, ◌++◌}
-use Rattle.std.specs.List.{flat_map, range_with_len}
+use Rattle.msrp_plan.proofs.Common.{◌≡◌, ℕ, ◌++◌, flat_map, range_with_len}
 use Rattle.msrp_picture.specs.Lanes.{core_shapes}
 use Rattle.msrp_picture.proofs.lanes.push_cores.Given as goal
 

@@ -1,5 +1,4 @@
-use Rattle.std.proofs.Common.{◌≡◌, ◌++◌, ◌∷◌, [], ℕ, ◌+◌}
-use Rattle.std.specs.List.{flat_map, range_with_len}
+use Rattle.msrp_plan.proofs.Common.{◌≡◌, ◌++◌, ◌∷◌, [], ℕ, ◌+◌, flat_map, range_with_len}
 use Rattle.msrp_picture.specs.Names.{again, note_of}
 use Rattle.msrp_picture.proofs.lanes.push_names.Given as goal
 

@@ -1,5 +1,4 @@
-use Rattle.std.proofs.Common.{◌++◌, List, ap, ◌∙◌}
-use Rattle.std.specs.List.{flat_map}
+use Rattle.msrp_plan.proofs.Common.{◌++◌, List, ap, ◌∙◌, flat_map}
 use Rattle.msrp_picture.specs.Types.{Room, Span, Standing}
 use Rattle.msrp_picture.specs.Blocks.{merged, seen}
 use Rattle.msrp_picture.specs.Cells.{standings}

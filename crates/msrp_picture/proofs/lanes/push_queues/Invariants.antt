@@ -1,5 +1,4 @@
-use Rattle.std.proofs.Common.{◌≡◌, ◌++◌}
-use Rattle.std.specs.List.{flat_map}
+use Rattle.msrp_plan.proofs.Common.{◌≡◌, ◌++◌, flat_map}
 use Rattle.msrp_picture.specs.Lanes.{queue_shapes}
 use Rattle.msrp_picture.specs.Lines.{global_resources}
 use Rattle.msrp_picture.proofs.lanes.push_queues.Given as goal

@@ -1,15 +1,6 @@
 -- How many arrows there are.
-use Rattle.std.specs.Prelude.{◌&&◌, ◌==◌, ◌%◌, count_by, drop, filter_map, find, nat_eq, nat_le, take, ◌-◌, ⊤}
-use Rattle.std.proofs.Common.{◌≡◌, ◌≢◌, ℕ, zero, suc, ◌+◌, ◌<◌, ◌≤◌, Bool, true, false, cond, inl, inr, List, [], ◌∷◌, ◌++◌, Option, Some, None, Result, Ok, Err, length, ap, refl, sym, ◌∙◌, arith, eq-eqb}
-use Rattle.std.proofs.lemmas.Bool.{cases_eq, le-leb}
-use Rattle.std.proofs.lemmas.List.Sums.{sum_by-append}
-use Rattle.std.specs.List.{flat_map, range_with_len}
-use Rattle.msrp_plan.proofs.Jobs.JobTests.{same_self}
-use Rattle.msrp_plan.proofs.Lists.Ranges.{flat_more, not_equal}
-use Rattle.msrp_plan.specs.Jobs.{job_at, jobs_of, same_job}
-use Rattle.msrp_plan.specs.Levels.{level}
-use Rattle.msrp_plan.specs.Logs.{log_of}
-use Rattle.msrp_plan.specs.Plan.{release, task_at}
+use Rattle.msrp_plan.proofs.Common.{◌&&◌, ◌==◌, ◌%◌, count_by, drop, nat_eq, nat_le, take, ◌-◌, ⊤, ◌≡◌, ◌≢◌, ℕ, zero, suc, ◌+◌, ◌<◌, ◌≤◌, Bool, true, false, cond, inl, inr, List, [], ◌∷◌, ◌++◌, Option, Some, None, Result, Ok, Err, length, ap, refl, sym, ◌∙◌, arith, eq-eqb, cases_eq, le-leb, sum_by-append, flat_map, range_with_len, same_self, flat_more, not_equal, job_at, jobs_of, same_job, level, log_of, release, task_at}
+use Rattle.std.specs.Prelude.{filter_map, find}
 use Rattle.msrp_picture.specs.Types.{CoreId, Fault, JobId, Lane, Life, Owner, PlanModel, Room, Row, Shape, Span, Strip, Window, Words}
 use Rattle.msrp_picture.specs.Blocks.{blocks, broken_shapes, is_seen, lane_of, mark_shapes, merged, met, rows_shapes, seen, span_of, task_rows}
 use Rattle.msrp_picture.specs.Ceilings.{ceiling_shapes, ceiling_spans}

@@ -1,7 +1,4 @@
-use Rattle.std.proofs.Common.{◌≡◌, ◌++◌, ◌∷◌, [], ap, arith, map, rules, subst, sym, take, ◌∙◌}
-use Rattle.std.proofs.lemmas.List.{map-append, take_all, take_more}
-use Rattle.std.specs.List.{AllByRecursion}
-use Rattle.msrp_plan.proofs.Lists.AnyAll.{all_push}
+use Rattle.msrp_plan.proofs.Common.{◌≡◌, ◌++◌, ◌∷◌, [], ap, arith, map, rules, subst, sym, take, ◌∙◌, map-append, take_all, take_more, AllByRecursion, all_push}
 use Rattle.msrp_picture.specs.Picture.{IsDrawn, line_of}
 use Rattle.msrp_picture.proofs.lines.draw_lines.Goals as goal
 

@@ -1,5 +1,4 @@
-use Rattle.std.proofs.Common.{◌≡◌, map, take}
-use Rattle.std.specs.List.{AllByRecursion}
+use Rattle.msrp_plan.proofs.Common.{◌≡◌, map, take, AllByRecursion}
 use Rattle.msrp_picture.specs.Picture.{IsDrawn, line_of}
 use Rattle.msrp_picture.proofs.lines.draw_lines.Given as goal
 

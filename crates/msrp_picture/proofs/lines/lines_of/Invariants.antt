@@ -1,5 +1,4 @@
-use Rattle.std.proofs.Common.{◌≡◌, ◌∷◌, ◌++◌, []}
-use Rattle.std.specs.List.{flat_map, range_with_len}
+use Rattle.msrp_plan.proofs.Common.{◌≡◌, ◌∷◌, ◌++◌, [], flat_map, range_with_len}
 use Rattle.msrp_picture.specs.Lines.{core_lines}
 use Rattle.msrp_picture.specs.declared.lines.PictureLine.TheVariants.{Ticks}
 use Rattle.msrp_picture.proofs.lines.lines_of.Given as goal

@@ -1,8 +1,4 @@
-use Rattle.std.proofs.Common.{◌≡◌, ◌+◌, ◌∷◌, ◌++◌, [], ℕ, map, ap, sym, ◌∙◌, arith, append-nil, append_assoc}
-use Rattle.std.proofs.lemmas.List.FromFn.{map-range_with_len_more}
-use Rattle.std.proofs.lemmas.Simd.{map-map}
-use Rattle.std.specs.List.{range_with_len}
-use Rattle.msrp_plan.specs.Jobs.{job_at}
+use Rattle.msrp_plan.proofs.Common.{◌≡◌, ◌+◌, ◌∷◌, ◌++◌, [], ℕ, map, ap, sym, ◌∙◌, arith, append-nil, append_assoc, map-range_with_len_more, map-map, range_with_len, job_at}
 use Rattle.msrp_picture.specs.Lines.{are_in, tick_of}
 use Rattle.msrp_picture.proofs.lines.mark_task.Goals as goal
 

@@ -1,6 +1,4 @@
-use Rattle.std.proofs.Common.{◌≡◌, ◌++◌, ℕ, List, map}
-use Rattle.std.specs.List.{range_with_len}
-use Rattle.msrp_plan.specs.Jobs.{job_at}
+use Rattle.msrp_plan.proofs.Common.{◌≡◌, ◌++◌, ℕ, List, map, range_with_len, job_at}
 use Rattle.msrp_picture.specs.Lines.{are_in, tick_of}
 use Rattle.msrp_picture.proofs.lines.mark_task.Given as goal
 

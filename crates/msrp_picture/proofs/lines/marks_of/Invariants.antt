@@ -1,6 +1,4 @@
-use Rattle.std.proofs.Common.{◌≡◌, map}
-use Rattle.std.specs.List.{range_with_len}
-use Rattle.msrp_plan.proofs.Jobs.JobLists.{jobs_among}
+use Rattle.msrp_plan.proofs.Common.{◌≡◌, map, range_with_len, jobs_among}
 use Rattle.msrp_picture.specs.Lines.{are_in, tick_of}
 use Rattle.msrp_picture.proofs.lines.marks_of.Given as goal
 

@@ -1,6 +1,4 @@
-use Rattle.std.proofs.Common.{arith}
-use Rattle.std.proofs.lemmas.Grind.{common_steps}
-use Rattle.msrp_plan.specs.Levels.{is_global}
+use Rattle.msrp_plan.proofs.Common.{arith, common_steps, is_global}
 use Rattle.msrp_picture.specs.Lines.{queue_lines}
 use Rattle.msrp_picture.proofs.Growing.{grows-some}
 use Rattle.msrp_picture.proofs.lines.push_queues.Goals as goal

@@ -1,5 +1,4 @@
-use Rattle.std.proofs.Common.{◌≡◌, ◌++◌}
-use Rattle.std.specs.List.{flat_map}
+use Rattle.msrp_plan.proofs.Common.{◌≡◌, ◌++◌, flat_map}
 use Rattle.msrp_picture.specs.Lines.{global_resources, queue_lines}
 use Rattle.msrp_picture.proofs.lines.push_queues.Given as goal
 

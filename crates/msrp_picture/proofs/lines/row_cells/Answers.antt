@@ -1,5 +1,4 @@
-use Rattle.std.proofs.Common.{◌≡◌, ◌+◌, ◌∷◌, ◌++◌, [], List, ap, append-nil, append_assoc, arith, drop, rules, sym, ◌∙◌}
-use Rattle.std.proofs.lemmas.List.{drop_all}
+use Rattle.msrp_plan.proofs.Common.{◌≡◌, ◌+◌, ◌∷◌, ◌++◌, [], List, ap, append-nil, append_assoc, arith, drop, rules, sym, ◌∙◌, drop_all}
 use Rattle.msrp_picture.specs.Types.{Row}
 use Rattle.msrp_picture.specs.Lines.{row_cells}
 use Rattle.msrp_picture.proofs.Growing.{drop-at}

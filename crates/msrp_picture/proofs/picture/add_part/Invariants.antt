@@ -1,5 +1,4 @@
-use Rattle.std.proofs.Common.{◌≡◌, ◌++◌, codes, take}
-use Rattle.std.specs.List.{flat_map}
+use Rattle.msrp_plan.proofs.Common.{◌≡◌, ◌++◌, codes, take, flat_map}
 use Rattle.msrp_picture.specs.Picture.{drawn_text}
 use Rattle.msrp_picture.proofs.picture.add_part.Given as goal
 

@@ -1,5 +1,4 @@
-use Rattle.std.proofs.Common.{◌≡◌, ◌++◌, codes}
-use Rattle.std.specs.List.{flat_map, range_with_len}
+use Rattle.msrp_plan.proofs.Common.{◌≡◌, ◌++◌, codes, flat_map, range_with_len}
 use Rattle.msrp_picture.specs.Picture.{drawn_text}
 use Rattle.msrp_picture.proofs.picture.add_parts.Given as goal
 

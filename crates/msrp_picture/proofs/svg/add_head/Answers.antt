@@ -1,4 +1,4 @@
-use Rattle.std.proofs.Common.{codes}
+use Rattle.msrp_plan.proofs.Common.{codes}
 use Rattle.msrp_picture.specs.Svg.{head_text}
 use Rattle.msrp_picture.proofs.Growing.{grows, grows-last}
 use Rattle.msrp_picture.proofs.svg.add_head.Goals as goal

@@ -1,7 +1,7 @@
-use Rattle.std.proofs.Common.{[], refl}
+use Rattle.msrp_plan.specs.Common.{[], IsLegal}
+use Rattle.std.proofs.Common.{refl}
 use Rattle.msrp_plan.proofs.Lists.Prefixes.{each_before}
 use Rattle.msrp_plan.proofs.Runs.Verdicts.{start_last}
-use Rattle.msrp_plan.specs.Runs.{IsLegal}
 use Rattle.msrp_plan.proofs.Queues.QueueLocks.{reply_at, turn_from_log, own_from_legal, agree_at, tells_from_answers, lock_off}
 use Rattle.msrp_plan.proofs.definitions.queues_are_locks.Goals as goal
 

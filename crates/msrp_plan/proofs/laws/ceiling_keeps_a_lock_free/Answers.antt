@@ -1,9 +1,10 @@
-use Rattle.std.proofs.Common.{◌≢◌, take, drop, refl, ap, arith}
+use Rattle.msrp_plan.specs.Common.{◌≢◌, take, drop, MutualExclusion}
+use Rattle.msrp_plan.specs.declared.ids.JobId.{JobId}
+use Rattle.std.proofs.Common.{refl, ap, arith}
 use Rattle.std.proofs.Math.Bool.{true≢false}
 use Rattle.msrp_plan.specs.Examples.BlockedByTheCeiling.{plan, rows, past_the_ceiling}
 use Rattle.msrp_plan.specs.Examples.Notation.{job}
-use Rattle.msrp_plan.specs.Laws.{MutualExclusion, NoLocalBlocking}
-use Rattle.msrp_plan.specs.declared.ids.JobId.{JobId}
+use Rattle.msrp_plan.specs.Laws.{NoLocalBlocking}
 use Rattle.msrp_plan.proofs.Jobs.JobTests.{some_is}
 use Rattle.msrp_plan.proofs.Runs.Verdicts.{good_is_run}
 use Rattle.msrp_plan.proofs.Building.AcceptedPlans.{accepted_plan}

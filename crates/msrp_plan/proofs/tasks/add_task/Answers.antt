@@ -1,6 +1,5 @@
-use Rattle.std.proofs.Common.{◌≡◌, map, false, ap, ◌∙◌, string_bytes, refl}
-use Rattle.msrp_plan.specs.Plan.{TaskModel}
-use Rattle.msrp_plan.specs.Names.{has_name}
+use Rattle.msrp_plan.specs.Common.{◌≡◌, map, false, string_bytes, TaskModel, has_name}
+use Rattle.std.proofs.Common.{ap, ◌∙◌, refl}
 use Rattle.msrp_plan.specs.Inside.Tasks.{task_view}
 use Rattle.msrp_plan.proofs.Building.Stored.{task_push}
 use Rattle.msrp_plan.proofs.tasks.add_task.Goals as goal

@@ -1,9 +1,10 @@
-use Rattle.std.proofs.Common.{◌≡◌, ◌||◌, List, map, subst, rules}
+use Rattle.msrp_plan.specs.Common.{◌≡◌, ◌||◌, List, map}
+use Rattle.msrp_plan.specs.declared.tasks.Task.{Task}
+use Rattle.std.proofs.Common.{subst, rules}
 use Rattle.std.specs.Map.Iter.{deref}
 use Rattle.std.proofs.lemmas.Map.Iter.{iter_end}
 use Rattle.indexmap.specs.IndexMap.{values}
 use Rattle.msrp_plan.specs.Inside.Users.{EachIsOn, is_used_on, is_user_on}
-use Rattle.msrp_plan.specs.declared.tasks.Task.{Task}
 use Rattle.msrp_plan.proofs.Levels.CoreUsers.{each_none, each_same, task_more}
 use Rattle.msrp_plan.proofs.users.users_of.Goals as goal
 

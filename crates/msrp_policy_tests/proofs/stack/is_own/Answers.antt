@@ -1,5 +1,4 @@
-use Rattle.std.proofs.Common.{◌∙◌, sym, eqb-true, arith}
-use Rattle.msrp_plan.proofs.Blocking.Heads.{job_on}
+use Rattle.msrp_plan.proofs.Common.{◌∙◌, sym, eqb-true, arith, job_on}
 use Rattle.msrp_levels.proofs.PlanJobs.{job_in}
 use Rattle.msrp_policy_tests.proofs.stack.is_own.Goals as goal
 

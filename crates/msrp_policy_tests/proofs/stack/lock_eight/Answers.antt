@@ -1,4 +1,4 @@
-use Rattle.std.proofs.Common.{sym, subst, arith}
+use Rattle.msrp_plan.proofs.Common.{sym, subst, arith}
 use Rattle.msrp_plan.specs.Limits.{most_held}
 use Rattle.msrp_stack.specs.Stack.{HasRoom}
 use Rattle.msrp_policy_tests.proofs.Nested.{length-nested, not_nested}

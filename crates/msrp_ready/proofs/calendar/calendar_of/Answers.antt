@@ -1,6 +1,4 @@
-use Rattle.std.proofs.Common.{ap, arith, length}
-use Rattle.std.proofs.lemmas.List.{length-map}
-use Rattle.msrp_plan.specs.Jobs.{jobs_on}
+use Rattle.msrp_plan.proofs.Common.{ap, arith, length, length-map, jobs_on}
 use Rattle.msrp_ready.specs.Keyed.{entry}
 use Rattle.msrp_ready.proofs.Moving.{few_on_core}
 use Rattle.msrp_ready.proofs.calendar.calendar_of.Goals as goal

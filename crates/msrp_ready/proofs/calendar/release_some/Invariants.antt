@@ -1,5 +1,4 @@
-use Rattle.std.proofs.Common.{◌≡◌, ◌+◌, ◌*◌, ◌≤◌, ◌++◌, length, take}
-use Rattle.std.specs.List.Sorted.{IsPermutation}
+use Rattle.msrp_plan.proofs.Common.{◌≡◌, ◌+◌, ◌*◌, ◌≤◌, ◌++◌, length, take, IsPermutation}
 use Rattle.msrp_ready.specs.Keyed.{entry_keys}
 use Rattle.msrp_ready.proofs.calendar.release_some.Given as goal
 

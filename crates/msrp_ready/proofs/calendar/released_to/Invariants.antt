@@ -1,5 +1,4 @@
-use Rattle.std.proofs.Common.{◌-◌, ◌≤◌, length, take, drop}
-use Rattle.std.specs.List.{All}
+use Rattle.msrp_plan.proofs.Common.{◌-◌, ◌≤◌, length, take, drop, All}
 use Rattle.msrp_ready.proofs.calendar.released_to.Given as goal
 
 abbrev pub invariant-loop-next : goal.invariant-loop-next

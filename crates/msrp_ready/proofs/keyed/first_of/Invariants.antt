@@ -1,5 +1,4 @@
-use Rattle.std.proofs.Common.{◌++◌, take}
-use Rattle.std.specs.Option.{option_to_list}
+use Rattle.msrp_plan.proofs.Common.{◌++◌, take, option_to_list}
 use Rattle.msrp_ready.specs.Keyed.{entry_keys}
 use Rattle.msrp_ready.proofs.Ahead.{IsFirstOf}
 use Rattle.msrp_ready.proofs.keyed.first_of.Given as goal

@@ -1,7 +1,4 @@
-use Rattle.std.proofs.Common.{◌≡◌, ◌==◌, ◌&&◌, map, nat_lt, take}
-use Rattle.std.specs.List.{filter}
-use Rattle.msrp_plan.specs.Plan.{task_at}
-use Rattle.msrp_plan.specs.Levels.{greatest}
+use Rattle.msrp_plan.proofs.Common.{◌≡◌, ◌==◌, ◌&&◌, map, nat_lt, take, filter, task_at, greatest}
 use Rattle.msrp_plan.specs.Bounds.{out}
 use Rattle.msrp_report.proofs.bounds.blocked_bound_of.Given as goal
 

@@ -1,8 +1,4 @@
-use Rattle.std.proofs.Common.{◌≡◌, ◌&&◌, ℕ, List, Bool, cond, map, max, sym, ap, ◌∙◌}
-use Rattle.std.specs.List.{filter, range_with_len}
-use Rattle.msrp_plan.specs.Plan.{PlanModel, task_at}
-use Rattle.msrp_plan.specs.Levels.{greatest, uses, is_global}
-use Rattle.msrp_plan.specs.Bounds.{spin_bound}
+use Rattle.msrp_plan.proofs.Common.{◌≡◌, ◌&&◌, ℕ, List, Bool, cond, map, max, sym, ap, ◌∙◌, filter, range_with_len, PlanModel, task_at, greatest, uses, is_global, spin_bound}
 use Rattle.msrp_report.proofs.LineJobs.{greatest_more, range_next}
 use Rattle.msrp_report.proofs.bounds.spin_bound_of.Goals as goal
 

@@ -1,8 +1,4 @@
-use Rattle.std.proofs.Common.{◌≡◌, ◌&&◌, map}
-use Rattle.std.specs.List.{filter, range_with_len}
-use Rattle.msrp_plan.specs.Plan.{task_at}
-use Rattle.msrp_plan.specs.Levels.{greatest, uses, is_global}
-use Rattle.msrp_plan.specs.Bounds.{spin_bound}
+use Rattle.msrp_plan.proofs.Common.{◌≡◌, ◌&&◌, map, filter, range_with_len, task_at, greatest, uses, is_global, spin_bound}
 use Rattle.msrp_report.proofs.bounds.spin_bound_of.Given as goal
 
 abbrev pub invariant-loop-res : goal.invariant-loop-res

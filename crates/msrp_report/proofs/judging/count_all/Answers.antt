@@ -1,5 +1,4 @@
-use Rattle.std.proofs.Common.{◌+◌, ◌++◌, ◌∷◌, [], take, sym, ◌∙◌, subst}
-use Rattle.msrp_plan.specs.Runs.{IsRun}
+use Rattle.msrp_plan.proofs.Common.{◌+◌, ◌++◌, ◌∷◌, [], take, sym, ◌∙◌, subst, IsRun}
 use Rattle.msrp_report.specs.Reports.{HasCounted}
 use Rattle.msrp_audit.proofs.Scanning.{one_more}
 use Rattle.msrp_report.proofs.Reporting.{part_good}

@@ -1,8 +1,5 @@
-use Rattle.std.proofs.Common.{◌≡◌, Ok, Err, ap, sym, ◌∙◌, subst}
+use Rattle.msrp_plan.proofs.Common.{◌≡◌, Ok, Err, ap, sym, ◌∙◌, subst, IsRun, verdict, good_is_run}
 use Rattle.msrp_audit.specs.Audits.{answer_of}
-use Rattle.msrp_plan.specs.Runs.{IsRun}
-use Rattle.msrp_plan.specs.Verdict.{verdict}
-use Rattle.msrp_plan.proofs.Runs.Verdicts.{good_is_run}
 use Rattle.msrp_report.specs.Lines.{lines_of}
 use Rattle.msrp_report.specs.Reports.{HasCounted}
 use Rattle.msrp_audit.proofs.Judging.{fault_told, good_told}

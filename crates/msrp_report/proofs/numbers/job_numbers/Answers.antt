@@ -1,6 +1,4 @@
-use Rattle.std.proofs.Common.{◌≡◌, ◌+◌, ◌-◌, ◌==◌, cond, nat_lt, nat_le, ap, ◌∙◌, arith}
-use Rattle.msrp_plan.specs.Plan.{key, release}
-use Rattle.msrp_plan.specs.Jobs.{done, is_finished}
+use Rattle.msrp_plan.proofs.Common.{◌≡◌, ◌+◌, ◌-◌, ◌==◌, cond, nat_lt, nat_le, ap, ◌∙◌, arith, key, release, done, is_finished}
 use Rattle.msrp_plan.specs.declared.ids.JobKey.{JobKey}
 use Rattle.msrp_report.specs.Lines.{last_tick}
 use Rattle.msrp_report.specs.Inside.Numbers.{numbers_of}

@@ -1,5 +1,4 @@
-use Rattle.std.proofs.Common.{◌<◌, sym, ap, ◌∙◌, arith}
-use Rattle.msrp_plan.specs.Jobs.{job_at}
+use Rattle.msrp_plan.proofs.Common.{◌<◌, sym, ap, ◌∙◌, arith, job_at}
 use Rattle.msrp_report.specs.Inside.Numbers.{numbers_of}
 use Rattle.msrp_report.specs.Inside.Totals.{line_with}
 use Rattle.msrp_report.specs.declared.lines.Line.{Line}

@@ -1,6 +1,4 @@
-use Rattle.std.proofs.Common.{List, ◌≡◌, ◌≤◌, ◌*◌, map}
-use Rattle.std.specs.List.{range_with_len}
-use Rattle.msrp_plan.specs.Jobs.{job_at}
+use Rattle.msrp_plan.proofs.Common.{List, ◌≡◌, ◌≤◌, ◌*◌, map, range_with_len, job_at}
 use Rattle.msrp_plan.specs.declared.rows.Row.{Row as TraceRow}
 use Rattle.msrp_report.specs.Inside.Tallies.{HasTallied}
 use Rattle.msrp_report.specs.Lines.{line_over}

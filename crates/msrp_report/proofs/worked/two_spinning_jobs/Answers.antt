@@ -1,6 +1,5 @@
-use Rattle.std.proofs.Common.{refl}
+use Rattle.msrp_plan.proofs.Common.{refl, good_is_run}
 use Rattle.std.specs.Fmt.{digits}
-use Rattle.msrp_plan.proofs.Runs.Verdicts.{good_is_run}
 use Rattle.msrp_report.specs.ReportText.{report_text}
 use Rattle.msrp_report.proofs.worked.two_spinning_jobs.Goals as goal
 

@@ -1,9 +1,4 @@
-use Rattle.std.proofs.Common.{◌≡◌, ◌+◌, ◌<◌, ◌++◌, ℕ, List, codes, length, refl, ap, sym, subst, ◌∙◌, append_assoc, arith}
-use Rattle.std.specs.Prelude.{slice_index_or}
-use Rattle.std.proofs.lemmas.Option.{get_or_from_slice_get, slice_get_read}
-use Rattle.msrp_plan.specs.Bytes.{Wrote}
-use Rattle.msrp_plan.proofs.Lists.Ranges.{flat_more}
-use Rattle.msrp_plan.proofs.Writes.{wrote-more}
+use Rattle.msrp_plan.proofs.Common.{◌≡◌, ◌+◌, ◌<◌, ◌++◌, ℕ, List, codes, length, refl, ap, sym, subst, ◌∙◌, append_assoc, arith, slice_index_or, get_or_from_slice_get, slice_get_read, Wrote, flat_more, wrote-more}
 use Rattle.msrp_text.specs.PlanText.{record_text}
 use Rattle.msrp_text.proofs.Written.{wrote-as}
 use Rattle.msrp_report.specs.ReportText.{line_record, lines_text, no_line, report_text}

@@ -1,5 +1,4 @@
-use Rattle.std.proofs.Common.{◌++◌, codes}
-use Rattle.msrp_plan.specs.Bytes.{Wrote}
+use Rattle.msrp_plan.proofs.Common.{◌++◌, codes, Wrote}
 use Rattle.msrp_report.specs.ReportText.{lines_text}
 use Rattle.msrp_report.proofs.writing.write_report.Given as goal
 

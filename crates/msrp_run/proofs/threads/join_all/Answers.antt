@@ -1,5 +1,4 @@
-use Rattle.std.proofs.Common.{rules, ◌≡◌, ◌+◌, ◌<◌, arith, subst, sym, ap, ◌∙◌, length, vec_len, vec_items}
-use Rattle.std.specs.Vec.Iter.{into_iter_len}
+use Rattle.msrp_plan.proofs.Common.{rules, ◌≡◌, ◌+◌, ◌<◌, arith, subst, sym, ap, ◌∙◌, length, vec_len, vec_items, into_iter_len}
 use Rattle.msrp_board.specs.Seats.{SeatModel}
 use Rattle.msrp_board.specs.Steps.{both}
 use Rattle.msrp_run.specs.Threads.{AllWorked, IsPromise}

@@ -1,5 +1,4 @@
-use Rattle.std.proofs.Common.{◌≡◌, ◌≤◌, vec_len, vec_items}
-use Rattle.std.specs.Prelude.{vec_capacity}
+use Rattle.msrp_plan.proofs.Common.{◌≡◌, ◌≤◌, vec_len, vec_items, vec_capacity}
 use Rattle.msrp_run.specs.Threads.{AllAreNew}
 use Rattle.msrp_run.proofs.threads.parts_of.Given as goal
 

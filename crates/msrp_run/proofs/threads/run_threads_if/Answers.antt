@@ -1,9 +1,8 @@
-use Rattle.std.proofs.Common.{◌≡◌, List, true, subst, sym}
+use Rattle.msrp_plan.proofs.Common.{◌≡◌, List, true, subst, sym, carries_ahead}
 use Rattle.msrp_board.specs.Boards.{entries_at}
 use Rattle.msrp_merge.specs.Merging.{AreLogs, turns_of}
 use Rattle.msrp_merge.specs.Sorting.{IsMerged}
 use Rattle.msrp_merge.specs.Turns.{LogModel, rows_of}
-use Rattle.msrp_plan.specs.Aheads.{carries_ahead}
 use Rattle.msrp_plan.proofs.Runs.KeptLaws.{keeps_laws}
 use Rattle.msrp_run.proofs.Headline.{served_as}
 use Rattle.msrp_run.proofs.threads.run_threads_if.Goals as goal

@@ -1,5 +1,4 @@
-use Rattle.std.proofs.Common.{◌+◌, IfOk, IfErr, subst, sym}
-use Rattle.std.specs.Prelude.{Ok, Err}
+use Rattle.msrp_plan.proofs.Common.{◌+◌, IfOk, IfErr, subst, sym, Ok, Err}
 use Rattle.std.specs.declared.result.Result.{Result}
 use Rattle.msrp_board.specs.declared.books.Conductor.TheVariants.{Aborted}
 use Rattle.msrp_run.specs.Threads.{HasRest, HasOthers, IsPromise}

@@ -1,6 +1,4 @@
-use Rattle.std.proofs.Common.{◌+◌, ap, sym, ◌∙◌, subst, arith}
-use Rattle.std.specs.Option.{option_or}
-use Rattle.std.proofs.lemmas.Grind.{common_steps}
+use Rattle.msrp_plan.proofs.Common.{◌+◌, ap, sym, ◌∙◌, subst, arith, option_or, common_steps}
 use Rattle.msrp_sim.specs.Cores.{AreNew}
 use Rattle.msrp_sim.proofs.Starting.{new_more}
 use Rattle.msrp_sim.proofs.cores.machines_of.Goals as goal

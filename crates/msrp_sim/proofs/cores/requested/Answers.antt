@@ -1,5 +1,4 @@
-use Rattle.std.proofs.Common.{subst}
-use Rattle.msrp_plan.specs.Calls.{kind_of_call, ahead_of_call}
+use Rattle.msrp_plan.proofs.Common.{subst, kind_of_call, ahead_of_call}
 use Rattle.msrp_plan.specs.declared.units.Call.TheVariants.{Ask}
 use Rattle.msrp_plan.specs.Aheads.{HasReply}
 use Rattle.msrp_sim.proofs.Foreseeing.{queued_with}

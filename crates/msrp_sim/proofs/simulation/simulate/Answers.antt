@@ -1,5 +1,4 @@
-use Rattle.std.proofs.Common.{◌*◌, ◌∙◌, ap, arith}
-use Rattle.msrp_plan.specs.Scheduling.{IsOrder}
+use Rattle.msrp_plan.proofs.Common.{◌*◌, ◌∙◌, ap, arith, IsOrder}
 use Rattle.msrp_sim.specs.Orders.{cores_of}
 use Rattle.msrp_sim.proofs.NextTurn.{run_in}
 use Rattle.msrp_sim.proofs.simulation.simulate.Goals as goal

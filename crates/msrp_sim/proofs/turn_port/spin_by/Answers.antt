@@ -1,5 +1,4 @@
-use Rattle.std.proofs.Common.{ap, sym, ◌∙◌, subst}
-use Rattle.std.specs.Option.{IsSomeAnd}
+use Rattle.msrp_plan.proofs.Common.{ap, sym, ◌∙◌, subst, IsSomeAnd}
 use Rattle.msrp_sim.specs.Serving.{is_served}
 use Rattle.msrp_sim.proofs.TurnPorts.{IsPollOf, poll_made}
 use Rattle.msrp_sim.proofs.turn_port.spin_by.Goals as goal

@@ -1,4 +1,4 @@
-use Rattle.std.proofs.Common.{arith, sym, ◌∙◌}
+use Rattle.msrp_plan.proofs.Common.{arith, sym, ◌∙◌}
 use Rattle.msrp_text.proofs.Digits.{digit-at, number-digits, pow-nine}
 use Rattle.msrp_text.proofs.fields.number_of.Goals as goal
 

@@ -1,6 +1,4 @@
-use Rattle.std.proofs.Common.{arith, drop, length}
-use Rattle.std.proofs.lemmas.Slice.Eq.{starts_is}
-use Rattle.std.proofs.lemmas.Bool.Decides.{Decides-eqb}
+use Rattle.msrp_plan.proofs.Common.{arith, drop, length, starts_is, Decides-eqb}
 use Rattle.msrp_text.proofs.Chunks.{front-fits, front-met}
 use Rattle.msrp_text.proofs.front.begins_with_long.Goals as goal
 

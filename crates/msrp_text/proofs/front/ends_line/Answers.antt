@@ -1,6 +1,5 @@
-use Rattle.std.proofs.Common.{◌-◌, ◌∷◌, [], length, take}
+use Rattle.msrp_plan.proofs.Common.{◌-◌, ◌∷◌, [], length, take, Decides-eqb}
 use Rattle.std.proofs.lemmas.Slice.Eq.{ends_is}
-use Rattle.std.proofs.lemmas.Bool.Decides.{Decides-eqb}
 use Rattle.msrp_text.proofs.front.ends_line.Goals as goal
 
 pub returns-clause-ended : goal.returns-clause-ended

@@ -1,6 +1,5 @@
-use Rattle.std.proofs.Common.{◌≡◌, ◌-◌, ◌∙◌, ap, arith, drop, length, length-drop, length-take-le, sym}
-use Rattle.std.proofs.lemmas.Bool.{and_parts}
-use Rattle.std.proofs.lemmas.List.{take_all, take_rest}
+use Rattle.msrp_plan.proofs.Common.{◌≡◌, ◌-◌, ◌∙◌, ap, arith, drop, length, length-drop, sym, and_parts, take_all, take_rest}
+use Rattle.std.proofs.Common.{length-take-le}
 use Rattle.msrp_text.proofs.Chunks.{ends-same}
 use Rattle.msrp_text.proofs.front.is_long_same.Goals as goal
 

@@ -1,5 +1,4 @@
-use Rattle.std.proofs.Common.{◌≡◌, ◌-◌, ◌∙◌, drop, length, sym, take}
-use Rattle.std.proofs.lemmas.Bool.{and_parts}
+use Rattle.msrp_plan.proofs.Common.{◌≡◌, ◌-◌, ◌∙◌, drop, length, sym, take, and_parts}
 use Rattle.msrp_text.proofs.Chunks.{ends-same}
 use Rattle.msrp_text.proofs.front.is_same.Goals as goal
 

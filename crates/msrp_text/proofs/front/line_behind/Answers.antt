@@ -1,7 +1,5 @@
-use Rattle.std.proofs.Common.{◌≡◌, ◌∷◌, ◌∙◌, ◌-◌, [], drop, length, take, arith, inl, inr, sym}
+use Rattle.msrp_plan.proofs.Common.{◌≡◌, ◌∷◌, ◌∙◌, ◌-◌, [], drop, length, take, arith, inl, inr, sym, starts_is, Decides-eqb}
 use Rattle.std.proofs.lemmas.List.{append_cancel_left}
-use Rattle.std.proofs.lemmas.Slice.Eq.{starts_is}
-use Rattle.std.proofs.lemmas.Bool.Decides.{Decides-eqb}
 use mathlib.Core.Bool.{true≢false}
 use Rattle.msrp_text.proofs.Fronts.{begins-parts, front-behind, line-ends}
 use Rattle.msrp_text.proofs.front.line_behind.Goals as goal

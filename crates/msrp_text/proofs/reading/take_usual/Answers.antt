@@ -1,4 +1,4 @@
-use Rattle.std.proofs.Common.{subst, take}
+use Rattle.msrp_plan.proofs.Common.{subst, take}
 use Rattle.msrp_text.specs.Plain.{EndsLine, split_commas}
 use Rattle.msrp_text.proofs.UsualRecords.{body-refused, body-taken}
 use Rattle.msrp_text.proofs.reading.take_usual.Goals as goal

@@ -1,4 +1,4 @@
-use Rattle.std.proofs.Common.{sym, ◌∙◌}
+use Rattle.msrp_plan.proofs.Common.{sym, ◌∙◌}
 use Rattle.msrp_text.proofs.UsualLines.{release-line}
 use Rattle.msrp_text.proofs.usual.add_release_ahead.Goals as goal
 

@@ -1,4 +1,4 @@
-use Rattle.std.proofs.Common.{arith, ◌<◌, length, inl}
+use Rattle.msrp_plan.proofs.Common.{arith, ◌<◌, length, inl}
 use Rattle.msrp_text.proofs.UsualLines.{feed-ends}
 use Rattle.msrp_text.proofs.usual.last_field.Goals as goal
 

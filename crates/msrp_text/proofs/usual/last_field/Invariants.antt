@@ -1,5 +1,4 @@
-use Rattle.std.proofs.Common.{◌≡◌, false, take}
-use Rattle.std.specs.List.{list_any}
+use Rattle.msrp_plan.proofs.Common.{◌≡◌, false, take, list_any}
 use Rattle.msrp_text.specs.Usual.{is_low}
 use Rattle.msrp_text.proofs.usual.last_field.Given as goal
 

@@ -1,6 +1,5 @@
-use Rattle.std.proofs.Common.{Some, ap, take, ◌∙◌}
+use Rattle.msrp_plan.proofs.Common.{Some, ap, take, ◌∙◌, Decides-eqb}
 use Rattle.std.proofs.lemmas.Slice.Eq.{strip_prefix_is}
-use Rattle.std.proofs.lemmas.Bool.Decides.{Decides-eqb}
 use Rattle.msrp_text.specs.Reading.{resource_told}
 use Rattle.msrp_text.proofs.UsualLines.{behind}
 use Rattle.msrp_text.proofs.usual.resource_behind.Goals as goal

@@ -1,5 +1,4 @@
-use Rattle.std.proofs.Common.{refl}
-use Rattle.std.specs.Prelude.{codes}
+use Rattle.msrp_plan.proofs.Common.{refl, codes}
 use Rattle.csv.proofs.OnLiterals.{csv_on_literals}
 use Rattle.msrp_text.specs.Lines.{ends_behind}
 use Rattle.msrp_text.specs.Records.{records_at}

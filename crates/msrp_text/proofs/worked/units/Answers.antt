@@ -1,8 +1,8 @@
-use Rattle.std.proofs.Common.{refl}
-use Rattle.csv.proofs.OnLiterals.{csv_on_literals}
-use Rattle.csv.specs.Records.{field_at}
+use Rattle.msrp_plan.proofs.Common.{refl}
 use Rattle.std.specs.Str.{chars, is_utf8}
 use lib.Utf8.{encode}
+use Rattle.csv.proofs.OnLiterals.{csv_on_literals}
+use Rattle.csv.specs.Records.{field_at}
 use Rattle.msrp_text.specs.Reading.{fault_after, plan_of, plan_told}
 use Rattle.msrp_text.proofs.worked.units.Goals as goal
 

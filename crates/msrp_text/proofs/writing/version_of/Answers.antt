@@ -1,9 +1,4 @@
-use Rattle.std.proofs.Common.{refl, sym, ◌∙◌, arith}
-use Rattle.std.proofs.lemmas.Bool.{or_from}
-use Rattle.std.proofs.lemmas.List.{take_all}
-use Rattle.std.proofs.lemmas.List.Folds.{list_any_more}
-use Rattle.msrp_plan.specs.Plan.{TaskModel, no_task, task_at}
-use Rattle.msrp_plan.specs.ReleaseTimes.{is_listed}
+use Rattle.msrp_plan.proofs.Common.{refl, sym, ◌∙◌, arith, or_from, take_all, list_any_more, TaskModel, no_task, task_at, is_listed}
 use Rattle.msrp_text.proofs.Written.{not_listed}
 use Rattle.msrp_text.proofs.writing.version_of.Goals as goal
 

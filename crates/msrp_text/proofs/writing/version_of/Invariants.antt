@@ -1,6 +1,4 @@
-use Rattle.std.proofs.Common.{◌≡◌, false, take}
-use Rattle.std.specs.List.{list_any}
-use Rattle.msrp_plan.specs.ReleaseTimes.{is_listed}
+use Rattle.msrp_plan.proofs.Common.{◌≡◌, false, take, list_any, is_listed}
 use Rattle.msrp_text.proofs.writing.version_of.Given as goal
 
 abbrev pub invariant-loop-task : goal.invariant-loop-task

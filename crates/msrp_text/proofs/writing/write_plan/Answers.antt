@@ -1,7 +1,4 @@
-use Rattle.std.proofs.Common.{◌++◌, map, ap, sym, ◌∙◌}
-use Rattle.std.specs.List.{flat_map}
-use Rattle.std.proofs.lemmas.Grind.{flat_map-append}
-use Rattle.msrp_plan.proofs.Writes.{wrote-more}
+use Rattle.msrp_plan.proofs.Common.{◌++◌, map, ap, sym, ◌∙◌, flat_map, flat_map-append, wrote-more}
 use Rattle.msrp_text.specs.PlanText.{head_records, plan_records, record_text, records_text, resource_record, task_records}
 use Rattle.msrp_text.proofs.Written.{wrote-as}
 use Rattle.msrp_text.proofs.writing.write_plan.Goals as goal

@@ -1,8 +1,5 @@
-use Rattle.std.proofs.Common.{◌<◌, refl, map, length, ap, sym, subst, ◌∙◌, arith}
+use Rattle.msrp_plan.proofs.Common.{◌<◌, refl, map, length, ap, sym, subst, ◌∙◌, arith, task_at, listed_ticks, wrote-nothing}
 use Rattle.std.specs.Option.{IsSome, unwrap_or}
-use Rattle.msrp_plan.specs.Plan.{task_at}
-use Rattle.msrp_plan.specs.ReleaseTimes.{listed_ticks}
-use Rattle.msrp_plan.proofs.Writes.{wrote-nothing}
 use Rattle.msrp_text.specs.PlanText.{records_text, release_record}
 use Rattle.msrp_text.proofs.Written.{listed_tick, wrote-all, wrote-one}
 use Rattle.msrp_text.proofs.writing.write_releases.Goals as goal

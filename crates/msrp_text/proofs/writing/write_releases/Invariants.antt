@@ -1,7 +1,4 @@
-use Rattle.std.proofs.Common.{map, take}
-use Rattle.msrp_plan.specs.Bytes.{Wrote}
-use Rattle.msrp_plan.specs.Plan.{task_at}
-use Rattle.msrp_plan.specs.ReleaseTimes.{listed_ticks}
+use Rattle.msrp_plan.proofs.Common.{map, take, Wrote, task_at, listed_ticks}
 use Rattle.msrp_text.specs.PlanText.{records_text, release_record}
 use Rattle.msrp_text.proofs.writing.write_releases.Given as goal
 

@@ -1,6 +1,4 @@
-use Rattle.std.proofs.Common.{[], map, sym, arith}
-use Rattle.std.proofs.lemmas.Option.{get_or_from_slice_get}
-use Rattle.msrp_plan.proofs.Writes.{wrote-nothing}
+use Rattle.msrp_plan.proofs.Common.{[], map, sym, arith, get_or_from_slice_get, wrote-nothing}
 use Rattle.msrp_text.specs.PlanText.{records_text, resource_record}
 use Rattle.msrp_text.proofs.Written.{wrote-all, wrote-one}
 use Rattle.msrp_text.proofs.writing.write_resources.Goals as goal

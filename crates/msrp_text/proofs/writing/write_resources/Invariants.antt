@@ -1,5 +1,4 @@
-use Rattle.std.proofs.Common.{map, take}
-use Rattle.msrp_plan.specs.Bytes.{Wrote}
+use Rattle.msrp_plan.proofs.Common.{map, take, Wrote}
 use Rattle.msrp_text.specs.PlanText.{records_text, resource_record}
 use Rattle.msrp_text.proofs.writing.write_resources.Given as goal
 

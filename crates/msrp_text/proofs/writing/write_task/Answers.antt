@@ -1,7 +1,4 @@
-use Rattle.std.proofs.Common.{map, sym}
-use Rattle.std.proofs.lemmas.Grind.{flat_map-append}
-use Rattle.msrp_plan.specs.Plan.{task_at}
-use Rattle.msrp_plan.proofs.Writes.{wrote-more}
+use Rattle.msrp_plan.proofs.Common.{map, sym, flat_map-append, task_at, wrote-more}
 use Rattle.msrp_text.specs.PlanText.{record_text, step_record, steps_of, times_records}
 use Rattle.msrp_text.proofs.Written.{wrote-as}
 use Rattle.msrp_text.proofs.writing.write_task.Goals as goal

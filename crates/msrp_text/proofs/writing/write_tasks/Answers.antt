@@ -1,7 +1,4 @@
-use Rattle.std.proofs.Common.{arith}
-use Rattle.std.specs.List.{flat_map}
-use Rattle.msrp_plan.specs.Plan.{no_task}
-use Rattle.msrp_plan.proofs.Writes.{wrote-nothing}
+use Rattle.msrp_plan.proofs.Common.{arith, flat_map, no_task, wrote-nothing}
 use Rattle.msrp_text.specs.PlanText.{records_text, task_records}
 use Rattle.msrp_text.proofs.Written.{wrote-all, wrote-some}
 use Rattle.msrp_text.proofs.writing.write_tasks.Goals as goal

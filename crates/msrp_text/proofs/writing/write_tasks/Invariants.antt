@@ -1,6 +1,4 @@
-use Rattle.std.proofs.Common.{take}
-use Rattle.std.specs.List.{flat_map}
-use Rattle.msrp_plan.specs.Bytes.{Wrote}
+use Rattle.msrp_plan.proofs.Common.{take, flat_map, Wrote}
 use Rattle.msrp_text.specs.PlanText.{records_text, task_records}
 use Rattle.msrp_text.proofs.writing.write_tasks.Given as goal
 

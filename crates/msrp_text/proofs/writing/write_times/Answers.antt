@@ -1,6 +1,4 @@
-use Rattle.std.proofs.Common.{ap, sym, ◌∙◌}
-use Rattle.msrp_plan.specs.Plan.{task_at}
-use Rattle.msrp_plan.proofs.Writes.{wrote-more}
+use Rattle.msrp_plan.proofs.Common.{ap, sym, ◌∙◌, task_at, wrote-more}
 use Rattle.msrp_text.proofs.Written.{of_a_list, wrote-as}
 use Rattle.msrp_text.specs.PlanText.{record_text}
 use Rattle.msrp_text.proofs.writing.write_times.Goals as goal

@@ -1,7 +1,5 @@
-use Rattle.std.proofs.Common.{[], ◌∷◌, sym, append-nil}
-use Rattle.std.proofs.lemmas.Option.{get_or_from_slice_get}
+use Rattle.msrp_plan.proofs.Common.{[], ◌∷◌, sym, append-nil, get_or_from_slice_get, wrote-more}
 use Rattle.msrp_plan.specs.declared.units.Step.TheVariants.{Lock, Unlock}
-use Rattle.msrp_plan.proofs.Writes.{wrote-more}
 use Rattle.msrp_text.specs.Writing.{run_steps}
 use Rattle.msrp_text.proofs.Written.{steps_join, wrote-as}
 use Rattle.msrp_text.proofs.writing.write_unit.Goals as goal

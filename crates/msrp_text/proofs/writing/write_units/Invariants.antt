@@ -1,6 +1,4 @@
-use Rattle.std.proofs.Common.{ℕ, List}
-use Rattle.msrp_plan.specs.Bytes.{Wrote}
-use Rattle.msrp_plan.specs.Plan.{task_at}
+use Rattle.msrp_plan.proofs.Common.{ℕ, List, Wrote, task_at}
 use Rattle.msrp_text.proofs.Written.{IsWritten}
 use Rattle.msrp_text.proofs.writing.write_units.Given as goal
 

@@ -1,5 +1,4 @@
-use Rattle.std.proofs.Common.{◌<◌, ℕ}
-use Rattle.std.specs.Prelude.{IsSome}
+use Rattle.msrp_plan.proofs.Common.{◌<◌, ℕ, IsSome}
 use Rattle.msrp_board.specs.Seats.{book_at}
 use Rattle.msrp_text_tests.proofs.board.end.Given as goal
 

@@ -1,6 +1,4 @@
-use Rattle.std.proofs.Common.{◌≡◌}
-use Rattle.std.specs.Prelude.{IfSome}
-use Rattle.std.specs.List.{All}
+use Rattle.msrp_plan.proofs.Common.{◌≡◌, IfSome, All}
 use Rattle.msrp_board.specs.Seats.{IsCoreSeatOn}
 use Rattle.msrp_text_tests.proofs.board.gather_played.Given as goal
 

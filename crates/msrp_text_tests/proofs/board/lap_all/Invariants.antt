@@ -1,5 +1,4 @@
-use Rattle.std.proofs.Common.{◌≤◌, ◌-◌, length}
-use Rattle.std.specs.List.{All}
+use Rattle.msrp_plan.proofs.Common.{◌≤◌, ◌-◌, length, All}
 use Rattle.msrp_board.specs.Seats.{IsCoreSeatOn}
 use Rattle.msrp_text_tests.proofs.board.lap_all.Given as goal
 

@@ -1,4 +1,4 @@
-use Rattle.std.proofs.Common.{sym, subst}
+use Rattle.msrp_plan.proofs.Common.{sym, subst}
 use Rattle.msrp_text_tests.specs.declared.board.Player.{Player}
 use Rattle.msrp_board.specs.Seats.{IsCoreSeatOn}
 use Rattle.msrp_text_tests.proofs.board.play.Goals as goal

@@ -1,7 +1,4 @@
-use Rattle.std.proofs.Common.{arith, List, ◌++◌, ◌≡◌, ◌≤◌, ◌∙◌, sym, ap, subst, length, take, drop}
-use Rattle.std.specs.List.{All}
-use Rattle.std.proofs.lemmas.List.{take-append-le}
-use Rattle.std.proofs.Math.Seq.{take-length}
+use Rattle.msrp_plan.proofs.Common.{arith, List, ◌++◌, ◌≡◌, ◌≤◌, ◌∙◌, sym, ap, subst, length, take, drop, All, take-append-le, take-length}
 use Rattle.msrp_text_tests.specs.declared.board.Player.{Player}
 use Rattle.msrp_board.specs.Seats.{IsCoreSeatOn}
 use Rattle.msrp_text_tests.proofs.board.run_laps.Goals as goal

@@ -1,5 +1,4 @@
-use Rattle.std.proofs.Common.{◌≡◌, ℕ, ◌*◌, ◌<◌, ◌≤◌, ◌++◌, [], length, take, get_or}
-use Rattle.std.specs.List.{flat_map}
+use Rattle.msrp_plan.proofs.Common.{◌≡◌, ℕ, ◌*◌, ◌<◌, ◌≤◌, ◌++◌, [], length, take, get_or, flat_map}
 use Rattle.msrp_trace.specs.Texts.{texts_of}
 use Rattle.msrp_trace.proofs.foreseen.lay_tick.Given as goal
 

@@ -1,10 +1,9 @@
-use Rattle.std.proofs.Common.{rules, ◌≡◌, ◌==◌, true, false, List, ℕ, length, Option, Some, None, sym, ap, ◌∙◌, unwrap_or}
-use Rattle.csv.specs.Records.{fields_of}
-use Rattle.msrp_plan.specs.Shape.{has_shape, may_carry}
-use Rattle.msrp_trace.specs.Rows.{field_count, job_told, kind_told, lacks_name, lacks_number, is_shaped, job_with, res_told, row_told, task_told}
-use Rattle.msrp_trace.specs.RowParts.{names_told, numbers_told}
+use Rattle.msrp_plan.proofs.Common.{rules, ◌≡◌, ◌==◌, true, false, List, ℕ, length, Option, Some, None, sym, ap, ◌∙◌, unwrap_or, has_shape, may_carry}
 use Rattle.msrp_plan.specs.declared.rows.Kind.TheVariants.{Idle}
 use Rattle.msrp_plan.specs.declared.rows.TextVersion.{TextVersion}
+use Rattle.csv.specs.Records.{fields_of}
+use Rattle.msrp_trace.specs.Rows.{field_count, job_told, kind_told, lacks_name, lacks_number, is_shaped, job_with, res_told, row_told, task_told}
+use Rattle.msrp_trace.specs.RowParts.{names_told, numbers_told}
 use Rattle.msrp_trace.specs.declared.rows.Names.{Names}
 use Rattle.msrp_trace.specs.declared.rows.Numbers.{Numbers}
 use Rattle.msrp_trace.proofs.Fields.{Counted, accepted, count_refused, has_told_shape, kind_refused, may_carry_told, none_where, number_refused, refused, shape_known, shape_refused, some_where, told_row}

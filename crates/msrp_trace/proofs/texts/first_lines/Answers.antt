@@ -1,5 +1,4 @@
-use Rattle.std.proofs.Common.{sym}
-use Rattle.std.proofs.lemmas.List.{take-map}
+use Rattle.msrp_plan.proofs.Common.{sym, take-map}
 use Rattle.msrp_trace.specs.declared.line.CoreText.{CoreText}
 use Rattle.msrp_trace.proofs.texts.first_lines.Goals as goal
 

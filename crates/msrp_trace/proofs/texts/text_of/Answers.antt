@@ -1,6 +1,5 @@
-use Rattle.std.proofs.Common.{ap, sym, ◌∙◌}
+use Rattle.msrp_plan.proofs.Common.{ap, sym, ◌∙◌, get_or_read}
 use Rattle.std.proofs.Math.ListN.{get_or-map}
-use Rattle.std.proofs.lemmas.List.{get_or_read}
 use Rattle.msrp_trace.specs.declared.line.CoreText.{CoreText}
 use Rattle.msrp_trace.proofs.Shown.{no_text}
 use Rattle.msrp_trace.proofs.texts.text_of.Goals as goal

@@ -1,5 +1,4 @@
-use Rattle.std.proofs.Common.{◌∙◌, ap}
-use Rattle.std.proofs.lemmas.List.{get_or_read}
+use Rattle.msrp_plan.proofs.Common.{◌∙◌, ap, get_or_read}
 use Rattle.msrp_trace.specs.declared.line.RowLine.{RowLine}
 use Rattle.msrp_trace.proofs.writing.add_record.Goals as goal
 

@@ -1,4 +1,4 @@
-use Rattle.std.proofs.Common.{◌≡◌, [], take}
+use Rattle.msrp_plan.proofs.Common.{◌≡◌, [], take}
 use Rattle.msrp_trace.specs.Gathering.{Gathers}
 use Rattle.msrp_trace.specs.TraceText.{trace_text}
 use Rattle.msrp_trace.proofs.writing.write_trace.Given as goal

@@ -1,6 +1,4 @@
-use Rattle.std.proofs.Common.{rules, ◌≡◌, ◌∙◌, Some, None, Ok, Err, ap, ok_or, option_map, sym, false, true}
-use Rattle.std.specs.Char.{is_ascii_digit}
-use Rattle.std.specs.List.{list_all}
+use Rattle.msrp_plan.proofs.Common.{rules, ◌≡◌, ◌∙◌, Some, None, Ok, Err, ap, ok_or, option_map, sym, false, true, is_ascii_digit, list_all}
 use Rattle.std.proofs.lemmas.Result.{MatchResult-at_err, MatchResult-at_ok}
 use Rattle.msrp_faults.specs.declared.faults.CliFault.TheVariants.{Usage}
 use Rattle.msrp_view.specs.CommandLine.{tick_of}

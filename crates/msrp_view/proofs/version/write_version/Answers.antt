@@ -1,4 +1,4 @@
-use Rattle.msrp_plan.proofs.Writes.{wrote-more}
+use Rattle.msrp_plan.proofs.Common.{wrote-more}
 use Rattle.msrp_view.proofs.version.write_version.Goals as goal
 
 pub returns-clause-wrote : goal.returns-clause-wrote

@@ -1,13 +1,8 @@
-use Rattle.std.proofs.Common.{rules, refl, ◌≡◌, ◌++◌, ◌∷◌, [], Ok, Err, Some, None, ap, sym, subst, ◌∙◌, inr, arith, length-append, append-nil}
+use Rattle.msrp_plan.proofs.Common.{rules, refl, ◌≡◌, ◌++◌, ◌∷◌, [], Ok, Err, Some, None, ap, sym, subst, ◌∙◌, inr, arith, length-append, append-nil, Wrote, PlanModel, fault_in, verdict, IsPlan, wrote-more}
 use Rattle.msrp_audit.specs.Audits.{answer_of}
 use Rattle.msrp_export.specs.Exports.{part_text, row_text}
 use Rattle.msrp_export.specs.Changes.{fault_text, head_text}
 use Rattle.msrp_export.proofs.Rows.{part_push}
-use Rattle.msrp_plan.specs.Bytes.{Wrote}
-use Rattle.msrp_plan.specs.Plan.{PlanModel}
-use Rattle.msrp_plan.specs.Verdict.{fault_in, verdict}
-use Rattle.msrp_plan.specs.WellFormed.{IsPlan}
-use Rattle.msrp_plan.proofs.Writes.{wrote-more}
 use Rattle.msrp_faults.specs.Outcomes.{trace_fault_of}
 use Rattle.msrp_trace.proofs.ReadThrough.{none-read}
 use Rattle.msrp_engine.specs.Findings.{finding}

@@ -1,7 +1,6 @@
-use Rattle.std.proofs.Common.{◌≡◌, ◌≤◌, ◌*◌, ◌-◌, List, length}
-use Rattle.msrp_export.specs.Exports.{HasExported, part_text}
-use Rattle.msrp_plan.specs.Bytes.{Wrote}
+use Rattle.msrp_plan.proofs.Common.{◌≡◌, ◌≤◌, ◌*◌, ◌-◌, List, length, Wrote}
 use Rattle.msrp_plan.specs.declared.rows.Row.{Row}
+use Rattle.msrp_export.specs.Exports.{HasExported, part_text}
 use Rattle.msrp_engine.proofs.RowsJudged.{HaveCome}
 use Rattle.msrp_view_engine.proofs.export.export_rows.Given as goal
 

@@ -1,4 +1,4 @@
-use Rattle.std.proofs.Common.{Err, IfErr, IfOk, sym, subst}
+use Rattle.msrp_plan.proofs.Common.{Err, IfErr, IfOk, sym, subst}
 use Rattle.msrp_text.specs.Reading.{csv_records}
 use Rattle.msrp_trace.specs.Readers.{HasReadBehind, IsRecordOf, StandsBehind}
 use Rattle.msrp_view_engine.specs.Whys.{BeginsRow, IsJudged}

@@ -1,10 +1,6 @@
-use Rattle.std.proofs.Common.{rules, ◌≡◌, ◌++◌, ◌∷◌, [], ◌+◌, ◌<◌, ◌*◌, ◌/◌, true, false, None, Some, Ok, Err, IfErr, length, ap, sym, subst, ◌∙◌, length-append}
-use Rattle.std.proofs.Math.Bool.{true≢false}
+use Rattle.msrp_plan.proofs.Common.{rules, ◌≡◌, ◌++◌, ◌∷◌, [], ◌+◌, ◌<◌, ◌*◌, ◌/◌, true, false, None, Some, Ok, Err, IfErr, length, ap, sym, subst, ◌∙◌, length-append, true≢false, PlanModel, is_in_turn, fault_in, verdict}
 use Rattle.msrp_audit.specs.Audits.{IsBroken, IsOutOfTurn, answer_of}
 use Rattle.msrp_audit.proofs.Judging.{fault_told, good_told}
-use Rattle.msrp_plan.specs.Plan.{PlanModel}
-use Rattle.msrp_plan.specs.Runs.{is_in_turn}
-use Rattle.msrp_plan.specs.Verdict.{fault_in, verdict}
 use Rattle.msrp_trace.specs.Readers.{HasReadBehind, StandsBehind}
 use Rattle.msrp_trace.proofs.ReadThrough.{none-read, read-row}
 use Rattle.msrp_why.proofs.Causing.{good_start}

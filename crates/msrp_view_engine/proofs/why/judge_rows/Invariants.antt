@@ -1,6 +1,6 @@
-use Rattle.std.proofs.Common.{◌≡◌, ◌*◌, ◌-◌, ℕ, List, Some, None}
-use Rattle.msrp_audit.specs.Audits.{HasFed}
+use Rattle.msrp_plan.proofs.Common.{◌≡◌, ◌*◌, ◌-◌, ℕ, List, Some, None}
 use Rattle.msrp_plan.specs.declared.rows.Row.{Row}
+use Rattle.msrp_audit.specs.Audits.{HasFed}
 use Rattle.msrp_trace.specs.Reading.{Told}
 use Rattle.msrp_trace.specs.Readers.{HasReadIn, StandsIn, told_left}
 use Rattle.msrp_trace.proofs.ReadThrough.{IsReadTo}

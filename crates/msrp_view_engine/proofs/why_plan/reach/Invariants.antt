@@ -1,4 +1,4 @@
-use Rattle.std.proofs.Common.{◌≡◌, ◌≤◌, ◌-◌, Some, drop, map, take}
+use Rattle.msrp_plan.proofs.Common.{◌≡◌, ◌≤◌, ◌-◌, Some, drop, map, take}
 use Rattle.csv.specs.Records.{fields_of}
 use Rattle.msrp_text.specs.Reading.{csv_records}
 use Rattle.msrp_text.specs.Records.{records_left}

@@ -1,8 +1,4 @@
-use Rattle.std.proofs.Common.{◌++◌, ◌∷◌, [], refl, sym, subst}
-use Rattle.std.specs.Option.{IsSomeAnd}
-use Rattle.msrp_plan.specs.Runs.{IsLegal}
-use Rattle.msrp_plan.proofs.Legality.LegalRows.{legal_due}
-use Rattle.msrp_plan.proofs.Lists.Prefixes.{each_at}
+use Rattle.msrp_plan.proofs.Common.{◌++◌, ◌∷◌, [], refl, sym, subst, IsSomeAnd, IsLegal, legal_due, each_at}
 use Rattle.msrp_why.specs.Exercise.{AreTurnCounts}
 use Rattle.msrp_why.specs.Noted.{IsCoreNoted}
 use Rattle.msrp_why.specs.declared.cores.CoreNotes.{CoreNotes}

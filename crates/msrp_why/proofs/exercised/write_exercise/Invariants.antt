@@ -1,6 +1,4 @@
-use Rattle.std.proofs.Common.{◌++◌}
-use Rattle.std.specs.List.{flat_map, range_with_len}
-use Rattle.msrp_plan.specs.Bytes.{Wrote}
+use Rattle.msrp_plan.proofs.Common.{◌++◌, flat_map, range_with_len, Wrote}
 use Rattle.msrp_why.specs.ExerciseText.{counts_line, turns_text}
 use Rattle.msrp_why.proofs.exercised.write_exercise.Given as goal
 

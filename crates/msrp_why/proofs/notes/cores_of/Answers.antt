@@ -1,4 +1,4 @@
-use Rattle.std.proofs.Common.{◌<◌, ◌≤◌, [], sym, subst, arith}
+use Rattle.msrp_plan.proofs.Common.{◌<◌, ◌≤◌, [], sym, subst, arith}
 use Rattle.msrp_why.proofs.Deciding.{cores_more}
 use Rattle.msrp_why.proofs.notes.cores_of.Goals as goal
 

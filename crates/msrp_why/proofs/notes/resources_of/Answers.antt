@@ -1,5 +1,4 @@
-use Rattle.std.proofs.Common.{◌+◌, None, refl, sym, subst, arith}
-use Rattle.std.proofs.lemmas.Grind.{common_steps}
+use Rattle.msrp_plan.proofs.Common.{◌+◌, None, refl, sym, subst, arith, common_steps}
 use Rattle.msrp_why.proofs.Noting.{AreEmpty, empty_more}
 use Rattle.msrp_why.proofs.notes.resources_of.Goals as goal
 

@@ -1,7 +1,6 @@
-use Rattle.std.proofs.Common.{◌≡◌, ◌∙◌, ◌++◌, ◌&&◌, ◌<◌, [], ap, length, lt-ltb, nat_lt, sym, true}
-use Rattle.std.specs.Prelude.{codes, decimal, if◌then◌else◌}
+use Rattle.msrp_plan.proofs.Common.{◌≡◌, ◌∙◌, ◌++◌, ◌&&◌, ◌<◌, [], ap, length, nat_lt, sym, true, codes, decimal, if◌then◌else◌, wrote-more}
+use Rattle.std.proofs.Common.{lt-ltb}
 use Rattle.msrp_levels.specs.Users.{ceiling_at}
-use Rattle.msrp_plan.proofs.Writes.{wrote-more}
 use Rattle.msrp_text.proofs.Written.{wrote-as}
 use Rattle.msrp_why.specs.ResourceText.{ceiling_part}
 use Rattle.msrp_why.proofs.resources.write_ceiling.Goals as goal

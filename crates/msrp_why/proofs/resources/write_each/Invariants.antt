@@ -1,6 +1,4 @@
-use Rattle.std.proofs.Common.{take}
-use Rattle.std.specs.List.{flat_map}
-use Rattle.msrp_plan.specs.Bytes.{Wrote}
+use Rattle.msrp_plan.proofs.Common.{take, flat_map, Wrote}
 use Rattle.msrp_why.specs.ResourceText.{since_line}
 use Rattle.msrp_why.proofs.resources.write_each.Given as goal
 

@@ -1,4 +1,4 @@
-use Rattle.std.proofs.Common.{◌≡◌, ◌∙◌, arith, length}
+use Rattle.msrp_plan.proofs.Common.{◌≡◌, ◌∙◌, arith, length}
 use Rattle.msrp_why.specs.ResourceText.{held_lines}
 use Rattle.msrp_why.proofs.Written.{wrote-item}
 use Rattle.msrp_why.proofs.resources.write_held.Goals as goal

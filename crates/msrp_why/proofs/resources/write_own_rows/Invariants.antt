@@ -1,6 +1,4 @@
-use Rattle.std.proofs.Common.{take}
-use Rattle.std.specs.List.{flat_map}
-use Rattle.msrp_plan.specs.Bytes.{Wrote}
+use Rattle.msrp_plan.proofs.Common.{take, flat_map, Wrote}
 use Rattle.msrp_why.specs.ResourceText.{own_line}
 use Rattle.msrp_why.proofs.resources.write_own_rows.Given as goal
 

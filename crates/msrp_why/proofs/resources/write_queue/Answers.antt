@@ -1,4 +1,4 @@
-use Rattle.msrp_plan.proofs.Writes.{wrote-more}
+use Rattle.msrp_plan.proofs.Common.{wrote-more}
 use Rattle.msrp_why.proofs.resources.write_queue.Goals as goal
 
 pub returns : goal.returns

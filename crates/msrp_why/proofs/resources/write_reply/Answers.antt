@@ -1,7 +1,4 @@
-use Rattle.std.proofs.Common.{◌≡◌, ◌∙◌, Some, arith, length, refl, slice_get, subst, sym}
-use Rattle.std.proofs.lemmas.Option.{slice_get_past, slice_get_read}
-use Rattle.msrp_plan.specs.Bytes.{Wrote}
-use Rattle.msrp_plan.proofs.Writes.{wrote-nothing}
+use Rattle.msrp_plan.proofs.Common.{◌≡◌, ◌∙◌, Some, arith, length, refl, slice_get, subst, sym, slice_get_past, slice_get_read, Wrote, wrote-nothing}
 use Rattle.msrp_why.specs.ResourceText.{noted_lines, reply_text}
 use Rattle.msrp_why.proofs.resources.write_reply.Goals as goal
 

@@ -1,6 +1,5 @@
-use Rattle.std.proofs.Common.{◌∙◌, [], ap, sym}
+use Rattle.msrp_plan.proofs.Common.{◌∙◌, [], ap, sym, wrote-more}
 use Rattle.std.specs.Prelude.{unwrap_or}
-use Rattle.msrp_plan.proofs.Writes.{wrote-more}
 use Rattle.msrp_why.proofs.sentences.write_res.Goals as goal
 
 pub returns : goal.returns

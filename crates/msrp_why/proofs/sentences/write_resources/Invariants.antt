@@ -1,5 +1,4 @@
-use Rattle.std.specs.List.{flat_map, range_with_len}
-use Rattle.msrp_plan.specs.Bytes.{Wrote}
+use Rattle.msrp_plan.proofs.Common.{flat_map, range_with_len, Wrote}
 use Rattle.msrp_why.specs.RefusalText.{res_text}
 use Rattle.msrp_why.proofs.sentences.write_resources.Given as goal
 

@@ -1,5 +1,4 @@
-use Rattle.std.proofs.Common.{◌∙◌}
-use Rattle.msrp_plan.proofs.Writes.{wrote-more}
+use Rattle.msrp_plan.proofs.Common.{◌∙◌, wrote-more}
 use Rattle.msrp_why.proofs.sentences.write_task.Goals as goal
 
 pub returns : goal.returns

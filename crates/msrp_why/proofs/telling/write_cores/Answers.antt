@@ -1,6 +1,4 @@
-use Rattle.std.proofs.Common.{get_or}
-use Rattle.std.proofs.lemmas.List.{get_or_default}
-use Rattle.msrp_plan.proofs.Writes.{wrote-more}
+use Rattle.msrp_plan.proofs.Common.{get_or, get_or_default, wrote-more}
 use Rattle.msrp_why.specs.FactLines.{core_text}
 use Rattle.msrp_why.proofs.Written.{wrote-item}
 use Rattle.msrp_why.proofs.telling.write_cores.Goals as goal

@@ -1,6 +1,4 @@
-use Rattle.std.proofs.Common.{inl, inr, subst, sym}
-use Rattle.msrp_plan.specs.Bytes.{Wrote}
-use Rattle.msrp_plan.proofs.Writes.{wrote-more}
+use Rattle.msrp_plan.proofs.Common.{inl, inr, subst, sym, Wrote, wrote-more}
 use Rattle.msrp_why.specs.WhyText.{facts_text}
 use Rattle.msrp_why.proofs.telling.write_facts.Goals as goal
 

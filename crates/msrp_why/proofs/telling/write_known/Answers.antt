@@ -1,7 +1,5 @@
-use Rattle.std.proofs.Common.{ap, ◌∙◌}
-use Rattle.msrp_plan.specs.Levels.{level}
+use Rattle.msrp_plan.proofs.Common.{ap, ◌∙◌, level, wrote-more}
 use Rattle.msrp_plan.specs.declared.ids.JobKey.{JobKey}
-use Rattle.msrp_plan.proofs.Writes.{wrote-more}
 use Rattle.msrp_why.proofs.telling.write_known.Goals as goal
 
 pub returns : goal.returns

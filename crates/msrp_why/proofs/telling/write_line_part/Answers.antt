@@ -1,5 +1,4 @@
-use Rattle.std.proofs.Common.{ap, sym}
-use Rattle.msrp_plan.proofs.Writes.{wrote-more}
+use Rattle.msrp_plan.proofs.Common.{ap, sym, wrote-more}
 use Rattle.msrp_text.proofs.Written.{wrote-as}
 use Rattle.msrp_advice.specs.Refusals.{line_part}
 use Rattle.msrp_why.proofs.telling.write_line_part.Goals as goal

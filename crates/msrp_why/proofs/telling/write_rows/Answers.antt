@@ -1,5 +1,4 @@
-use Rattle.std.proofs.Common.{◌≡◌, ◌*◌, ap, ◌∙◌}
-use Rattle.msrp_plan.proofs.Writes.{wrote-more}
+use Rattle.msrp_plan.proofs.Common.{◌≡◌, ◌*◌, ap, ◌∙◌, wrote-more}
 use Rattle.msrp_why.proofs.telling.write_rows.Goals as goal
 
 pub returns : goal.returns

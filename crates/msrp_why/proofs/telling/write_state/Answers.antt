@@ -1,6 +1,4 @@
-use Rattle.std.proofs.Common.{subst, sym}
-use Rattle.msrp_plan.specs.Bytes.{Wrote}
-use Rattle.msrp_plan.proofs.Writes.{wrote-more}
+use Rattle.msrp_plan.proofs.Common.{subst, sym, Wrote, wrote-more}
 use Rattle.msrp_why.specs.FactLines.{state_text}
 use Rattle.msrp_why.proofs.telling.write_state.Goals as goal
 

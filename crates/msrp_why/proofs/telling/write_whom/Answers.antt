@@ -1,6 +1,4 @@
-use Rattle.std.proofs.Common.{subst, sym}
-use Rattle.msrp_plan.specs.Bytes.{Wrote}
-use Rattle.msrp_plan.proofs.Writes.{wrote-more}
+use Rattle.msrp_plan.proofs.Common.{subst, sym, Wrote, wrote-more}
 use Rattle.msrp_why.specs.FactLines.{whom_line}
 use Rattle.msrp_why.proofs.telling.write_whom.Goals as goal
 

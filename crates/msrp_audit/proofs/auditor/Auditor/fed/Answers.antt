@@ -1,5 +1,4 @@
-use Rattle.std.proofs.Common.{◌≤◌, ◌*◌, ◌+◌, ◌-◌, ℕ, sym, subst, arith}
-use Rattle.std.proofs.Math.Nat.{mul-le-mul_left}
+use Rattle.msrp_plan.proofs.Common.{◌≤◌, ◌*◌, ◌+◌, ◌-◌, ℕ, sym, subst, arith, mul-le-mul_left}
 use Rattle.msrp_audit.specs.Audits.{place_in}
 use Rattle.msrp_audit.proofs.auditor.Auditor.fed.Goals as goal
 

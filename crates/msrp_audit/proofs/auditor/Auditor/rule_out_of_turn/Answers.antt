@@ -1,4 +1,4 @@
-use Rattle.std.proofs.Common.{arith}
+use Rattle.msrp_plan.proofs.Common.{arith}
 use Rattle.msrp_audit.proofs.Judging.{full_is, left_is, one_too_many, out_of_turn}
 use Rattle.msrp_audit.proofs.auditor.Auditor.rule_out_of_turn.Goals as goal
 

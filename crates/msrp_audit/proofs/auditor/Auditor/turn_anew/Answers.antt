@@ -1,4 +1,4 @@
-use Rattle.std.proofs.Common.{sym, subst}
+use Rattle.msrp_plan.proofs.Common.{sym, subst}
 use Rattle.msrp_audit.specs.Audits.{AuditorModel, HasFed, IsDueInAudit, auditor_view}
 use Rattle.msrp_audit.proofs.Judging.{awaited}
 use Rattle.msrp_audit.proofs.auditor.Auditor.turn_anew.Goals as goal

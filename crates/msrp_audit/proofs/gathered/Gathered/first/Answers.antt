@@ -1,4 +1,5 @@
-use Rattle.std.proofs.Common.{◌≡◌, ◌-◌, ◌++◌, length, length-take, min, take, ap, sym, ◌∙◌, arith}
+use Rattle.msrp_plan.proofs.Common.{◌≡◌, ◌-◌, ◌++◌, length, min, take, ap, sym, ◌∙◌, arith}
+use Rattle.std.proofs.Common.{length-take}
 use Rattle.msrp_audit.specs.Inside.Gathered.{rows_of}
 use Rattle.msrp_audit.proofs.Gathering.{rows_first, take_both}
 use Rattle.msrp_audit.proofs.gathered.Gathered.first.Goals as goal

@@ -1,6 +1,5 @@
-use Rattle.std.proofs.Common.{rules, ℕ, Err, IfErr, OnOk, subst, ◌≡◌, ◌++◌, ◌∷◌, [], ◌+◌, ◌-◌, ap, arith, drop, get_or, take, sym, ◌∙◌}
-use Rattle.std.proofs.lemmas.List.{append-nil, get_or-drop, get_or-map, length-drop, length-map, take_all}
-use Rattle.msrp_plan.specs.Stretches.{in_tick}
+use Rattle.msrp_plan.proofs.Common.{rules, ℕ, Err, IfErr, OnOk, subst, ◌≡◌, ◌++◌, ◌∷◌, [], ◌+◌, ◌-◌, ap, arith, drop, get_or, take, sym, ◌∙◌, get_or-drop, get_or-map, length-map, take_all, in_tick}
+use Rattle.std.proofs.lemmas.List.{append-nil, length-drop}
 use Rattle.msrp_audit.specs.Gathering.{tick_rows, told}
 use Rattle.msrp_audit.proofs.TickRows.{next_rows}
 use Rattle.msrp_audit.proofs.gathered.Gathered.push_each.Goals as goal

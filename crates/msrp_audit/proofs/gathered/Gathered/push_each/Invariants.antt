@@ -1,4 +1,4 @@
-use Rattle.std.proofs.Common.{◌≡◌, ◌-◌, ◌++◌, drop, take}
+use Rattle.msrp_plan.proofs.Common.{◌≡◌, ◌-◌, ◌++◌, drop, take}
 use Rattle.msrp_audit.specs.Gathering.{tick_rows}
 use Rattle.msrp_audit.proofs.gathered.Gathered.push_each.Given as goal
 

@@ -1,4 +1,4 @@
-use Rattle.std.proofs.Common.{◌+◌, ◌*◌, subst}
+use Rattle.msrp_plan.proofs.Common.{◌+◌, ◌*◌, subst}
 use Rattle.msrp_audit.specs.Inside.Gathered.{rows_of}
 use Rattle.msrp_audit.specs.Inside.Stretches.{AreTurnsOf}
 use Rattle.msrp_audit.proofs.Standing.{get_left}

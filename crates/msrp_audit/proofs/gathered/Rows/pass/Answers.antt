@@ -1,4 +1,4 @@
-use Rattle.std.proofs.Common.{◌-◌, arith}
+use Rattle.msrp_plan.proofs.Common.{◌-◌, arith}
 use Rattle.msrp_audit.proofs.Standing.{off_behind}
 use Rattle.msrp_audit.proofs.gathered.Rows.pass.Goals as goal
 

@@ -1,10 +1,6 @@
-use Rattle.std.proofs.Common.{◌+◌, ◌-◌, length, ap, sym, ◌∙◌, arith}
-use Rattle.std.proofs.lemmas.List.{get_or_default}
-use Rattle.msrp_plan.specs.Stretches.{in_tick}
+use Rattle.msrp_plan.proofs.Common.{◌+◌, ◌-◌, length, ap, sym, ◌∙◌, arith, get_or_default, in_tick, true≢false, lt-leb, ltb-true}
 use Rattle.msrp_audit.specs.Inside.Gathered.{row_of}
 use Rattle.msrp_audit.specs.Inside.Stretches.{no_kept}
-use Rattle.std.proofs.Math.Bool.{true≢false}
-use Rattle.std.proofs.lemmas.Bool.{lt-leb, ltb-true}
 use Rattle.msrp_audit.proofs.Standing.{repeats_there}
 use Rattle.msrp_audit.proofs.gathered.Rows.repeats.Goals as goal
 use Rattle.msrp_audit.proofs.gathered.Rows.repeats.Goals.{then-turns-last, else-turns-last}

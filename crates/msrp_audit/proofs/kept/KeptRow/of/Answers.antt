@@ -1,4 +1,4 @@
-use Rattle.std.proofs.Common.{◌<◌, ◌^◌, ◌∙◌, arith, subst, sym}
+use Rattle.msrp_plan.proofs.Common.{◌<◌, ◌^◌, ◌∙◌, arith, subst, sym}
 use Rattle.msrp_audit.proofs.Gathering.{few_kinds, packed_ahead, packed_core, packed_k, packed_kind, packed_res, packed_task, packed_tick, told}
 use Rattle.msrp_audit.proofs.kept.KeptRow.of.Goals as goal
 

@@ -1,4 +1,4 @@
-use Rattle.std.proofs.Common.{arith}
+use Rattle.msrp_plan.proofs.Common.{arith}
 use Rattle.msrp_audit.proofs.NextNamed.{first_place}
 use Rattle.msrp_audit.proofs.naming.Naming.first.Goals as goal
 

@@ -1,4 +1,4 @@
-use Rattle.std.proofs.Common.{◌≡◌, ◌<◌, ◌≤◌, ℕ, slice_index_or}
+use Rattle.msrp_plan.proofs.Common.{◌≡◌, ◌<◌, ◌≤◌, ℕ, slice_index_or}
 use Rattle.msrp_audit.proofs.naming.Naming.first.Given as goal
 
 abbrev pub invariant-loop-core : goal.invariant-loop-core

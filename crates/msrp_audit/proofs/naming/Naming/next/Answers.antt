@@ -1,5 +1,4 @@
-use Rattle.std.proofs.Common.{◌+◌, arith, length, subst, sym}
-use Rattle.std.proofs.lemmas.Option.{slice_get_within}
+use Rattle.msrp_plan.proofs.Common.{◌+◌, arith, length, subst, sym, slice_get_within}
 use Rattle.msrp_audit.specs.Inside.Naming.{AreOff, FindsNext, IsNextNamed, IsOff, IsQuiet}
 use Rattle.msrp_audit.proofs.NextNamed.{moves_on, named_from, quiet_from}
 use Rattle.msrp_audit.proofs.naming.Naming.next.Goals as goal

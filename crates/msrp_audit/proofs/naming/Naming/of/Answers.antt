@@ -1,5 +1,4 @@
-use Rattle.std.proofs.Common.{◌<◌, ◌∙◌, arith}
-use Rattle.std.proofs.lemmas.List.{length-set}
+use Rattle.msrp_plan.proofs.Common.{◌<◌, ◌∙◌, arith, length-set}
 use Rattle.msrp_audit.proofs.NextNamed.{notes_next}
 use Rattle.msrp_audit.proofs.naming.Naming.of.Goals as goal
 

@@ -1,4 +1,4 @@
-use Rattle.std.proofs.Common.{◌≡◌, length}
+use Rattle.msrp_plan.proofs.Common.{◌≡◌, length}
 use Rattle.msrp_audit.proofs.NextNamed.{AreNoted}
 use Rattle.msrp_audit.proofs.naming.Naming.of.Given as goal
 

@@ -1,4 +1,4 @@
-use Rattle.std.proofs.Common.{◌+◌, refl, sym, subst, arith}
+use Rattle.msrp_plan.proofs.Common.{◌+◌, refl, sym, subst, arith}
 use Rattle.msrp_audit.proofs.NextNamed.{Recalled, leaves, recalls}
 use Rattle.msrp_audit.proofs.naming.Naming.recall.Goals.{then-wait_is_over, else-wait_is_over}
 use Rattle.msrp_audit.proofs.naming.Naming.recall.Goals as goal

@@ -1,4 +1,4 @@
-use Rattle.std.proofs.Common.{arith, slice_index_or}
+use Rattle.msrp_plan.proofs.Common.{arith, slice_index_or}
 use Rattle.msrp_audit.proofs.NextNamed.{goes_on, is_next, stays_behind, told_turns}
 use Rattle.msrp_audit.proofs.naming.Naming.take.Goals as goal
 

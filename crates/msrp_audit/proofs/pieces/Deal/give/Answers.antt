@@ -1,4 +1,4 @@
-use Rattle.std.proofs.Common.{sym, subst}
+use Rattle.msrp_plan.proofs.Common.{sym, subst}
 use Rattle.msrp_audit.specs.Inside.Pieces.{HasDealt}
 use Rattle.msrp_audit.proofs.Dealing.{dealt_before, dealt_last}
 use Rattle.msrp_audit.proofs.pieces.Deal.give.Goals as goal

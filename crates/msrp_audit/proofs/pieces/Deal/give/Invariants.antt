@@ -1,4 +1,4 @@
-use Rattle.std.proofs.Common.{ℕ}
+use Rattle.msrp_plan.proofs.Common.{ℕ}
 use Rattle.msrp_audit.specs.Inside.Pieces.{HasDealt}
 use Rattle.msrp_audit.proofs.pieces.Deal.give.Given as goal
 

@@ -1,5 +1,4 @@
-use Rattle.std.proofs.Common.{sym, subst, arith, inl, inr}
-use Rattle.std.proofs.lemmas.Bool.{cases_eq}
+use Rattle.msrp_plan.proofs.Common.{sym, subst, arith, inl, inr, cases_eq}
 use Rattle.msrp_audit.specs.Inside.Pieces.{HasDealt}
 use Rattle.msrp_audit.proofs.pieces.Deal.give_others.Goals as goal
 

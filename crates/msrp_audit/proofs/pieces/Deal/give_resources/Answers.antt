@@ -1,7 +1,5 @@
-use Rattle.std.proofs.Common.{◌≡◌, ◌+◌, Bool, true, false, ap, sym, ◌∙◌, subst, arith, inl, inr}
+use Rattle.msrp_plan.proofs.Common.{◌≡◌, ◌+◌, Bool, true, false, ap, sym, ◌∙◌, subst, arith, inl, inr, cases_eq, is_global}
 use Rattle.std.proofs.Math.Bool.{beq}
-use Rattle.std.proofs.lemmas.Bool.{cases_eq}
-use Rattle.msrp_plan.specs.Levels.{is_global}
 use Rattle.msrp_audit.specs.Inside.Pieces.{HasDealt, parts}
 use Rattle.msrp_audit.specs.declared.pieces.Deal.{Deal}
 use Rattle.msrp_audit.proofs.pieces.Deal.give_resources.Goals as goal

@@ -1,5 +1,4 @@
-use Rattle.std.proofs.Common.{ℕ, ◌≡◌, ◌<◌, ◌+◌}
-use Rattle.msrp_plan.specs.Levels.{is_global}
+use Rattle.msrp_plan.proofs.Common.{ℕ, ◌≡◌, ◌<◌, ◌+◌, is_global}
 use Rattle.msrp_audit.specs.Inside.Pieces.{HasDealt, parts}
 use Rattle.msrp_audit.proofs.pieces.Deal.give_resources.Given as goal
 

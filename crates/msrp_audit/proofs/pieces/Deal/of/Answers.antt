@@ -1,6 +1,4 @@
-use Rattle.std.proofs.Common.{◌≡◌, ◌<◌, ◌+◌, ◌-◌, length, subst, arith, inl, inr}
-use Rattle.std.proofs.lemmas.Bool.{cases_Bool, cases_lt}
-use Rattle.msrp_plan.specs.Levels.{is_global}
+use Rattle.msrp_plan.proofs.Common.{◌≡◌, ◌<◌, ◌+◌, ◌-◌, length, subst, arith, inl, inr, cases_Bool, cases_lt, is_global}
 use Rattle.msrp_audit.specs.Inside.Pieces.{HasDealt, parts}
 use Rattle.msrp_audit.proofs.pieces.Deal.of.Goals as goal
 

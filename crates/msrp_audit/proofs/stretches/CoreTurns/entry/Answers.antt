@@ -1,4 +1,4 @@
-use Rattle.std.proofs.Common.{◌≤◌, sym, subst, arith, slice_index_or}
+use Rattle.msrp_plan.proofs.Common.{◌≤◌, sym, subst, arith, slice_index_or}
 use Rattle.msrp_audit.specs.Inside.Stretches.{no_kept}
 use Rattle.msrp_audit.proofs.Standing.{first_came}
 use Rattle.msrp_audit.proofs.stretches.CoreTurns.entry.Goals as goal

@@ -1,5 +1,4 @@
-use Rattle.std.proofs.Common.{◌≡◌, ◌<◌, ◌≤◌, ap, sym, ◌∙◌, arith, is_some, length, slice_index_or}
-use Rattle.std.proofs.lemmas.Bool.{ltb-false}
+use Rattle.msrp_plan.proofs.Common.{◌≡◌, ◌<◌, ◌≤◌, ap, sym, ◌∙◌, arith, is_some, length, slice_index_or, ltb-false}
 use Rattle.msrp_audit.specs.Inside.KeptView.{Kept}
 use Rattle.msrp_audit.specs.Inside.Stretches.{no_kept}
 use Rattle.msrp_audit.proofs.Standing.{names_here, names_not}

@@ -1,6 +1,4 @@
-use Rattle.std.proofs.Common.{◌∙◌, ap}
-use Rattle.std.proofs.lemmas.List.{get_or_default}
-use Rattle.msrp_plan.specs.Stretches.{in_tick}
+use Rattle.msrp_plan.proofs.Common.{◌∙◌, ap, get_or_default, in_tick}
 use Rattle.msrp_audit.specs.Inside.Gathered.{row_of}
 use Rattle.msrp_audit.specs.Inside.Stretches.{no_kept}
 use Rattle.msrp_audit.proofs.Standing.{stands_until}

@@ -1,4 +1,4 @@
-use Rattle.std.proofs.Common.{◌≡◌, ◌+◌, ◌*◌, length, ap, sym, ◌∙◌, subst}
+use Rattle.msrp_plan.proofs.Common.{◌≡◌, ◌+◌, ◌*◌, length, ap, sym, ◌∙◌, subst}
 use Rattle.msrp_audit.specs.Inside.Stretches.{AreTurns, lists_of}
 use Rattle.msrp_audit.proofs.Standing.{are_turns, turns_size}
 use Rattle.msrp_audit.proofs.stretches.Stretches.in_order.Goals as goal

@@ -1,4 +1,4 @@
-use Rattle.std.proofs.Common.{◌+◌, ◌*◌, length, ap, sym, ◌∙◌}
+use Rattle.msrp_plan.proofs.Common.{◌+◌, ◌*◌, length, ap, sym, ◌∙◌}
 use Rattle.msrp_audit.specs.Inside.Stretches.{lists_of}
 use Rattle.msrp_audit.proofs.Standing.{turns_size}
 use Rattle.msrp_audit.proofs.stretches.Stretches.len.Goals as goal

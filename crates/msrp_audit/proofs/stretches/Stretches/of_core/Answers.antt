@@ -1,4 +1,4 @@
-use Rattle.std.proofs.Common.{◌+◌, ◌*◌, ◌<◌, sym, subst, arith}
+use Rattle.msrp_plan.proofs.Common.{◌+◌, ◌*◌, ◌<◌, sym, subst, arith}
 use Rattle.msrp_audit.specs.Inside.Stretches.{AreTurnsOf, lists_of}
 use Rattle.msrp_audit.proofs.Standing.{before_end, had_turn, kept_to, list_by, list_there, turns_of}
 use Rattle.msrp_audit.proofs.stretches.Stretches.of_core.Goals as goal

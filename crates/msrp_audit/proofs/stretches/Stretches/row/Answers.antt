@@ -1,6 +1,4 @@
-use Rattle.std.proofs.Common.{◌+◌, ◌*◌, ◌/◌, ◌%◌, ap, ◌∙◌, refl, arith}
-use Rattle.msrp_plan.specs.Stretches.{in_tick}
-use Rattle.std.proofs.lemmas.List.{get_or_default}
+use Rattle.msrp_plan.proofs.Common.{◌+◌, ◌*◌, ◌/◌, ◌%◌, ap, ◌∙◌, refl, arith, in_tick, get_or_default}
 use Rattle.msrp_audit.specs.Inside.Gathered.{row_of}
 use Rattle.msrp_audit.specs.Inside.Stretches.{lists_of, no_kept}
 use Rattle.msrp_audit.proofs.Standing.{came_from, list_at, row_read, tick_small, told_within}

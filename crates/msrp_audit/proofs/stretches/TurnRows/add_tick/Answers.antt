@@ -1,4 +1,4 @@
-use Rattle.std.proofs.Common.{◌≡◌, ◌+◌, ◌*◌, ◌++◌, ◌<◌, List, Vec, Global, length, take, ap, sym, ◌∙◌, subst, arith}
+use Rattle.msrp_plan.proofs.Common.{◌≡◌, ◌+◌, ◌*◌, ◌++◌, ◌<◌, List, Vec, Global, length, take, ap, sym, ◌∙◌, subst, arith}
 use Rattle.msrp_audit.specs.Gathering.{RepeatOthers, tick_rows}
 use Rattle.msrp_audit.specs.Inside.KeptView.{Kept}
 use Rattle.msrp_audit.specs.Inside.Stretches.{AreListed, lists_of, turns_told}

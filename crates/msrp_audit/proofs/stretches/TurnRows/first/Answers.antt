@@ -1,5 +1,4 @@
-use Rattle.std.proofs.Common.{◌≡◌, ◌<◌, ◌≤◌, ◌+◌, ◌*◌, ◌/◌, ◌%◌, ◌^◌, length, min, take, ap, sym, ◌∙◌, arith, subst}
-use Rattle.std.proofs.lemmas.Nat.{div-add-mod', mod_below, div_below}
+use Rattle.msrp_plan.proofs.Common.{◌≡◌, ◌<◌, ◌≤◌, ◌+◌, ◌*◌, ◌/◌, ◌%◌, ◌^◌, length, min, take, ap, sym, ◌∙◌, arith, subst, div-add-mod', mod_below, div_below}
 use Rattle.msrp_audit.specs.Inside.Stretches.{AreTurnLists, lists_of, turns_told}
 use Rattle.msrp_audit.proofs.TurnRows.{fewer_turns, told_first, told_length}
 use Rattle.msrp_audit.proofs.stretches.TurnRows.first.Goals as goal

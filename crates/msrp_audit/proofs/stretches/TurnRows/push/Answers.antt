@@ -1,4 +1,4 @@
-use Rattle.std.proofs.Common.{◌≡◌, ◌<◌, ◌+◌, ◌*◌, ◌^◌, ◌++◌, ◌∷◌, [], length, ap, sym, ◌∙◌, arith, subst, rules}
+use Rattle.msrp_plan.proofs.Common.{◌≡◌, ◌<◌, ◌+◌, ◌*◌, ◌^◌, ◌++◌, ◌∷◌, [], length, ap, sym, ◌∙◌, arith, subst, rules}
 use Rattle.msrp_audit.specs.Inside.Gathered.{row_of}
 use Rattle.msrp_audit.specs.Inside.Stretches.{AreListed, lists_of, turns_told}
 use Rattle.msrp_audit.proofs.TurnRows.{listed_more, more_in_one, same_lists, told_push}

@@ -1,4 +1,4 @@
-use Rattle.std.proofs.Common.{◌≡◌, ◌≤◌, [], replicate, vec_len, vec_capacity}
+use Rattle.msrp_plan.proofs.Common.{◌≡◌, ◌≤◌, [], replicate, vec_len, vec_capacity}
 use Rattle.msrp_audit.specs.Inside.Stretches.{lists_of}
 use Rattle.msrp_audit.proofs.stretches.TurnRows.with_room.Given as goal
 

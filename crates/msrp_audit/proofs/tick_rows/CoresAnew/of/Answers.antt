@@ -1,6 +1,4 @@
-use Rattle.std.proofs.Common.{◌+◌, eq-eqb, get_or, set, sym, ◌∙◌, subst, ap, arith}
-use Rattle.std.proofs.Math.Bool.{true≢false}
-use Rattle.std.proofs.lemmas.Option.{get_or_from_slice_get}
+use Rattle.msrp_plan.proofs.Common.{◌+◌, eq-eqb, get_or, set, sym, ◌∙◌, subst, ap, arith, true≢false, get_or_from_slice_get}
 use Rattle.msrp_plan.specs.declared.rows.Row.{Row}
 use Rattle.msrp_audit.specs.Inside.TickRows.{AreAnew}
 use Rattle.msrp_audit.proofs.TickRows.{one_more}

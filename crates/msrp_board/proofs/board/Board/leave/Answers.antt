@@ -1,4 +1,4 @@
-use Rattle.std.proofs.Common.{◌+◌, ◌<◌, refl, sym, ap, ◌∙◌, ◌≡◌, subst}
+use Rattle.msrp_plan.proofs.Common.{◌+◌, ◌<◌, refl, sym, ap, ◌∙◌, ◌≡◌, subst}
 use Rattle.msrp_plan.specs.declared.ids.ResId.{ResId}
 use Rattle.msrp_plan.specs.declared.units.Call.TheVariants.{Leave}
 use Rattle.msrp_plan.specs.declared.units.Phase.TheVariants.{Holding}

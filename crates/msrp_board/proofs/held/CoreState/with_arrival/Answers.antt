@@ -1,4 +1,4 @@
-use Rattle.std.proofs.Common.{arith}
+use Rattle.msrp_plan.proofs.Common.{arith}
 use Rattle.msrp_board.proofs.ArrivedState.{arrived_state}
 use Rattle.msrp_board.proofs.held.CoreState.with_arrival.Goals as goal
 

@@ -1,4 +1,4 @@
-use Rattle.std.proofs.Common.{◌==◌, ◌≡◌, ◌+◌, Some, replicate, if◌then◌else◌, sym, subst, arith}
+use Rattle.msrp_plan.proofs.Common.{◌==◌, ◌≡◌, ◌+◌, Some, replicate, if◌then◌else◌, sym, subst, arith}
 use Rattle.crossbeam_utils.specs.Padded.{padded_value}
 use Rattle.msrp_board.specs.declared.states.Kept.{Kept}
 use Rattle.msrp_board.specs.Inside.Held.{kept_of, state_at}

@@ -1,4 +1,4 @@
-use Rattle.std.proofs.Common.{Some, replicate}
+use Rattle.msrp_plan.proofs.Common.{Some, replicate}
 use Rattle.msrp_board.specs.Inside.Held.{AreStates}
 use Rattle.msrp_board.specs.Inside.Rule.{empty_page}
 use Rattle.msrp_board.proofs.states.States.fresh.Given as goal

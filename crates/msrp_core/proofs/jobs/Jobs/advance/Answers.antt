@@ -1,5 +1,4 @@
-use Rattle.std.proofs.Common.{◌+◌, ◌≡◌, ap, arith, sym, ◌∙◌, length}
-use Rattle.msrp_plan.specs.Plan.{units}
+use Rattle.msrp_plan.proofs.Common.{◌+◌, ◌≡◌, ap, arith, sym, ◌∙◌, length, units}
 use Rattle.msrp_core.proofs.Running.{advanced_on, finished_core, running_units}
 use Rattle.msrp_core.proofs.jobs.Jobs.advance.Goals as goal
 

@@ -1,7 +1,4 @@
-use Rattle.std.proofs.Common.{Some, true, false, ◌≡◌, ◌∙◌, ap, arith}
-use Rattle.std.proofs.lemmas.Bool.{lt-ltb, le-ltb}
-use Rattle.msrp_plan.specs.Plan.{PlanModel}
-use Rattle.msrp_plan.specs.Levels.{level}
+use Rattle.msrp_plan.proofs.Common.{Some, true, false, ◌≡◌, ◌∙◌, ap, arith, lt-ltb, le-ltb, PlanModel, level}
 use Rattle.msrp_ready.specs.Ready.{ReadyModel}
 use Rattle.msrp_stack.specs.Stack.{current_ceiling}
 use Rattle.msrp_core.proofs.Running.{choice_before, choose_risen, choose_unrisen, risen_known, states_before}

@@ -1,4 +1,5 @@
-use Rattle.msrp_plan.proofs.Jobs.CoreJobs.{known_released, known_task}
+use Rattle.msrp_plan.proofs.Common.{known_task}
+use Rattle.msrp_plan.proofs.Jobs.CoreJobs.{known_released}
 use Rattle.msrp_core.proofs.jobs.Jobs.comes_first.Goals as goal
 
 pub job_key-requires-clause-task : goal.job_key-requires-clause-task

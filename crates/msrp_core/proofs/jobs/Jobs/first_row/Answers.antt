@@ -1,5 +1,5 @@
 use Rattle.msrp_core.proofs.Acting.{first_unit}
-use Rattle.msrp_plan.proofs.Jobs.CoreJobs.{known_task}
+use Rattle.msrp_plan.proofs.Common.{known_task}
 use Rattle.msrp_core.proofs.jobs.Jobs.first_row.Goals as goal
 
 pub unit-requires-clause-task : goal.unit-requires-clause-task

@@ -1,8 +1,5 @@
-use Rattle.std.proofs.Common.{Some, nat_lt, sym, ◌∙◌}
-use Rattle.std.proofs.lemmas.Bool.{and_parts}
-use Rattle.msrp_plan.specs.Levels.{level}
+use Rattle.msrp_plan.proofs.Common.{Some, nat_lt, sym, ◌∙◌, and_parts, level, comes_first}
 use Rattle.msrp_stack.specs.Stack.{current_ceiling}
-use Rattle.msrp_plan.specs.Choice.{comes_first}
 use Rattle.msrp_core.proofs.Running.{first_known, free_for, newest_known}
 use Rattle.msrp_core.proofs.Turning.{turn_row}
 use Rattle.msrp_core.proofs.jobs.Jobs.foresee.Goals as goal

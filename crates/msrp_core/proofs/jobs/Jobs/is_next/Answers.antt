@@ -1,6 +1,4 @@
-use Rattle.std.proofs.Common.{◌<◌, length, subst, sym}
-use Rattle.msrp_plan.specs.Plan.{PlanModel}
-use Rattle.msrp_plan.proofs.Jobs.CoreJobs.{known_task}
+use Rattle.msrp_plan.proofs.Common.{◌<◌, length, subst, sym, PlanModel, known_task}
 use Rattle.msrp_core.proofs.jobs.Jobs.is_next.Goals as goal
 
 pub level-requires : goal.level-requires

@@ -1,7 +1,4 @@
-use Rattle.std.proofs.Common.{◌≡◌, ◌∙◌, ap, sym, true, false}
-use Rattle.msrp_plan.specs.Plan.{PlanModel}
-use Rattle.msrp_plan.specs.Actions.{allows}
-use Rattle.msrp_plan.specs.Levels.{is_global}
+use Rattle.msrp_plan.proofs.Common.{◌≡◌, ◌∙◌, ap, sym, true, false, PlanModel, allows, is_global}
 use Rattle.msrp_plan.specs.declared.rows.Kind.TheVariants.{Take, Grant, Lock}
 use Rattle.msrp_plan.specs.declared.units.Op.TheVariants.{Lock as LockUnit}
 use Rattle.msrp_core.specs.Active.{is_waiting_phase}

@@ -1,4 +1,4 @@
-use Rattle.std.proofs.Common.{reverse}
+use Rattle.msrp_plan.proofs.Common.{reverse}
 use Rattle.msrp_core.proofs.Running.{newest_done}
 use Rattle.msrp_core.proofs.jobs.Jobs.progress.Goals as goal
 

@@ -1,7 +1,4 @@
-use Rattle.std.proofs.Common.{◌≤◌, sym, ◌∙◌, arith, inl, inr}
-use Rattle.std.proofs.Math.Bool.{true≢false}
-use Rattle.std.proofs.lemmas.Bool.{cases_lt}
-use Rattle.msrp_plan.specs.Plan.{release}
+use Rattle.msrp_plan.proofs.Common.{◌≤◌, sym, ◌∙◌, arith, inl, inr, true≢false, cases_lt, release}
 use Rattle.msrp_core.proofs.Repeating.{released_then}
 use Rattle.msrp_core.proofs.jobs.Jobs.quiet_until.Goals as goal
 

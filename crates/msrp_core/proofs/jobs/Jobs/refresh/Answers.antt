@@ -1,5 +1,4 @@
-use Rattle.std.proofs.Common.{sym, ◌∙◌}
-use Rattle.msrp_plan.proofs.Jobs.CoreJobs.{known_task}
+use Rattle.msrp_plan.proofs.Common.{sym, ◌∙◌, known_task}
 use Rattle.msrp_core.proofs.Running.{newest_of_core}
 use Rattle.msrp_core.proofs.jobs.Jobs.refresh.Goals as goal
 

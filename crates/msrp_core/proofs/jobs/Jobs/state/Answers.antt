@@ -1,5 +1,4 @@
-use Rattle.std.proofs.Common.{sym, ◌∙◌}
-use Rattle.std.proofs.lemmas.Option.{none-some}
+use Rattle.msrp_plan.proofs.Common.{sym, ◌∙◌, none-some}
 use Rattle.msrp_core.proofs.Running.{running_done, running_known, running_of, state_told}
 use Rattle.msrp_core.proofs.jobs.Jobs.state.Goals as goal
 

@@ -1,8 +1,7 @@
-use Rattle.std.proofs.Common.{◌∷◌, ◌∙◌, ap, refl, Some, true, sym}
-use Rattle.msrp_plan.specs.Actions.{allows}
+use Rattle.msrp_plan.proofs.Common.{◌∷◌, ◌∙◌, ap, refl, Some, true, sym, allows}
 use Rattle.msrp_plan.specs.declared.rows.Kind.TheVariants.{Take}
-use Rattle.msrp_plan.specs.declared.units.Op.TheVariants.{Lock as LockUnit}
 use Rattle.msrp_plan.specs.declared.units.Phase.TheVariants.{Holding}
+use Rattle.msrp_plan.specs.declared.units.Op.TheVariants.{Lock as LockUnit}
 use Rattle.msrp_core.specs.Active.{is_waiting_phase}
 use Rattle.msrp_core.specs.declared.jobs.Jobs.{Jobs}
 use Rattle.msrp_core.proofs.Acting.{last_by, request_fits, same_here, still_of_core, still_current, still_running, taking, unit_acts}

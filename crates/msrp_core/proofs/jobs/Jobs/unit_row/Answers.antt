@@ -1,4 +1,4 @@
-use Rattle.std.proofs.Common.{Some, None, refl, subst}
+use Rattle.msrp_plan.proofs.Common.{Some, None, refl, subst}
 use Rattle.msrp_plan.specs.declared.rows.Kind.TheVariants.{Run}
 use Rattle.msrp_plan.specs.declared.units.Op.TheVariants.{Run as RunUnit, Lock as LockUnit, Unlock as UnlockUnit}
 use Rattle.msrp_core.specs.CoreJobs.{IsNextUnit}

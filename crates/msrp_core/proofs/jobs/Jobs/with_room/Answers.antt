@@ -1,6 +1,4 @@
-use Rattle.std.proofs.Common.{◌≡◌, ◌≤◌, arith, ap, ◌∙◌, subst, refl, rules, length, vec_capacity, []}
-use Rattle.msrp_plan.specs.Jobs.{jobs_on}
-use Rattle.msrp_plan.specs.WellFormed.{IsPlan}
+use Rattle.msrp_plan.proofs.Common.{◌≡◌, ◌≤◌, arith, ap, ◌∙◌, subst, refl, rules, length, vec_capacity, [], jobs_on, IsPlan}
 use Rattle.msrp_ready.specs.Ready.{ReadyModel}
 use Rattle.msrp_core.proofs.Running.{none_fits}
 use Rattle.msrp_core.proofs.jobs.Jobs.with_room.Goals as goal

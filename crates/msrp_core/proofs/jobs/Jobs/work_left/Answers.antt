@@ -1,5 +1,4 @@
-use Rattle.std.proofs.Common.{ap, sym, ◌∙◌, arith, length, slice_get}
-use Rattle.msrp_plan.specs.Plan.{units}
+use Rattle.msrp_plan.proofs.Common.{ap, sym, ◌∙◌, arith, length, slice_get, units}
 use Rattle.msrp_core.proofs.Running.{running_left, running_units}
 use Rattle.msrp_core.proofs.jobs.Jobs.work_left.Goals as goal
 

@@ -1,7 +1,4 @@
-use Rattle.std.proofs.Common.{subst}
-use Rattle.msrp_plan.specs.Jobs.{jobs_on}
-use Rattle.msrp_plan.specs.Runs.{IsCoreTurn}
-use Rattle.msrp_plan.specs.States.{state_after}
+use Rattle.msrp_plan.proofs.Common.{subst, jobs_on, IsCoreTurn, state_after}
 use Rattle.msrp_core.specs.Machine.{StandsAfter, MachineModel}
 use Rattle.msrp_core.specs.CoreJobs.{state_of}
 use Rattle.msrp_core.proofs.Turning.{told_from}

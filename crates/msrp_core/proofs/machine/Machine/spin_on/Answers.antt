@@ -1,6 +1,4 @@
-use Rattle.std.proofs.Common.{◌+◌, ◌++◌, ◌∷◌, [], ◌≡◌, Some, ap, sym, ◌∙◌, subst}
-use Rattle.std.proofs.lemmas.Option.{none-some, same_Some}
-use Rattle.msrp_plan.specs.Runs.{IsCoreTurn}
+use Rattle.msrp_plan.proofs.Common.{◌+◌, ◌++◌, ◌∷◌, [], ◌≡◌, Some, ap, sym, ◌∙◌, subst, none-some, same_Some, IsCoreTurn}
 use Rattle.msrp_plan.specs.declared.ids.CoreId.{CoreId}
 use Rattle.msrp_core.specs.Machine.{IsRefused, MachineModel, StandsAfter}
 use Rattle.msrp_core.specs.MachineView.{machine_view}

@@ -1,6 +1,4 @@
-use Rattle.std.proofs.Common.{length, subst}
-use Rattle.msrp_plan.specs.Jobs.{jobs_on}
-use Rattle.msrp_plan.specs.States.{state_after}
+use Rattle.msrp_plan.proofs.Common.{length, subst, jobs_on, state_after}
 use Rattle.msrp_core.specs.CoreJobs.{state_of}
 use Rattle.msrp_core.specs.CoreStates.{IsCoreState}
 use Rattle.msrp_core.specs.Machine.{MachineModel, StandsAfter}

@@ -1,5 +1,4 @@
-use Rattle.std.proofs.Common.{subst}
-use Rattle.msrp_plan.specs.Runs.{IsCoreTurn}
+use Rattle.msrp_plan.proofs.Common.{subst, IsCoreTurn}
 use Rattle.msrp_core.specs.Machine.{MachineModel, StandsAfter}
 use Rattle.msrp_core.proofs.machine.Machine.turn.Goals as goal
 

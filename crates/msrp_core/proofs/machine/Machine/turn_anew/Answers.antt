@@ -1,8 +1,4 @@
-use Rattle.std.proofs.Common.{◌+◌, ◌++◌, ◌∷◌, [], ◌≡◌, sym, ap, subst, ◌∙◌, arith, refl}
-use Rattle.std.proofs.lemmas.Option.{same_Some}
-use Rattle.msrp_plan.specs.Jobs.{jobs_on}
-use Rattle.msrp_plan.specs.Runs.{IsCoreTurn}
-use Rattle.msrp_plan.specs.States.{state_after}
+use Rattle.msrp_plan.proofs.Common.{◌+◌, ◌++◌, ◌∷◌, [], ◌≡◌, sym, ap, subst, ◌∙◌, arith, refl, same_Some, jobs_on, IsCoreTurn, state_after}
 use Rattle.msrp_ready.specs.Ready.{ReadyModel}
 use Rattle.msrp_core.specs.CoreJobs.{state_of}
 use Rattle.msrp_core.specs.Machine.{StandsAfter, MachineModel}

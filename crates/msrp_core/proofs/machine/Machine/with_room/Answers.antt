@@ -1,6 +1,4 @@
-use Rattle.std.proofs.Common.{◌≡◌, [], map, refl, sym, subst, arith, rules}
-use Rattle.msrp_plan.specs.Jobs.{jobs_on}
-use Rattle.msrp_plan.specs.States.{state_after}
+use Rattle.msrp_plan.proofs.Common.{◌≡◌, [], map, refl, sym, subst, arith, rules, jobs_on, state_after}
 use Rattle.msrp_ready.specs.Ready.{ReadyModel}
 use Rattle.msrp_core.specs.Active.{state_in}
 use Rattle.msrp_core.specs.CoreJobs.{active_in}

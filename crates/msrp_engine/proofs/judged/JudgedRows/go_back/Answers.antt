@@ -1,4 +1,4 @@
-use Rattle.std.proofs.Common.{◌*◌, ap, sym, ◌∙◌}
+use Rattle.msrp_plan.proofs.Common.{◌*◌, ap, sym, ◌∙◌}
 use Rattle.msrp_engine.proofs.judged.JudgedRows.go_back.Goals as goal
 
 pub returns-clause-fed : goal.returns-clause-fed

@@ -1,6 +1,4 @@
-use Rattle.std.proofs.Common.{◌∙◌, ◌++◌, ◌∷◌, [], ap}
-use Rattle.msrp_plan.specs.Plan.{PlanModel}
-use Rattle.msrp_plan.specs.Verdict.{fault_in}
+use Rattle.msrp_plan.proofs.Common.{◌∙◌, ◌++◌, ◌∷◌, [], ap, PlanModel, fault_in}
 use Rattle.msrp_engine.proofs.Judging.{good-answer}
 use Rattle.msrp_engine.proofs.KeptTexts.{keeps_same}
 use Rattle.msrp_engine.proofs.judged.JudgedRows.judge.Goals as goal

@@ -1,6 +1,4 @@
-use Rattle.std.proofs.Common.{rules, ◌≡◌, ◌%◌, get_or, length, take, ap, sym, ◌∙◌, arith}
-use Rattle.std.proofs.lemmas.List.{get_or-take, get_or_default, length-take-le}
-use Rattle.std.proofs.lemmas.Option.{slice_get_read}
+use Rattle.msrp_plan.proofs.Common.{rules, ◌≡◌, ◌%◌, get_or, length, take, ap, sym, ◌∙◌, arith, get_or-take, get_or_default, length-take-le, slice_get_read}
 use Rattle.msrp_engine.specs.Inside.Kept.{no_row, row_of_core}
 use Rattle.msrp_engine.proofs.judged.JudgedRows.last_rows.Goals as goal
 

@@ -1,7 +1,4 @@
-use Rattle.std.proofs.Common.{◌≡◌, ◌<◌, slice_get, Some, length, sym, ap, ◌∙◌, subst}
-use Rattle.std.proofs.lemmas.Option.{slice_get_within}
-use Rattle.msrp_plan.specs.Plan.{PlanModel}
-use Rattle.msrp_plan.specs.Stretches.{in_tick}
+use Rattle.msrp_plan.proofs.Common.{◌≡◌, ◌<◌, slice_get, Some, length, sym, ap, ◌∙◌, subst, slice_get_within, PlanModel, in_tick}
 use Rattle.msrp_plan.specs.declared.rows.Row.{Row}
 use Rattle.msrp_trace.specs.Laws.{as_read}
 use Rattle.msrp_trace.specs.Readers.{IsTextOf, told_left}

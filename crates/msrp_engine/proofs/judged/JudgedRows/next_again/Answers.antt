@@ -1,8 +1,6 @@
-use Rattle.std.proofs.Common.{◌≡◌, ◌/◌, ◌++◌, ◌∷◌, [], length, Some, Ok, sym, ap, ◌∙◌, subst}
-use Rattle.msrp_audit.specs.Audits.{AuditorModel, HasFed}
-use Rattle.msrp_plan.specs.Plan.{PlanModel}
-use Rattle.msrp_plan.specs.Stretches.{in_tick}
+use Rattle.msrp_plan.proofs.Common.{◌≡◌, ◌/◌, ◌++◌, ◌∷◌, [], length, Some, Ok, sym, ap, ◌∙◌, subst, PlanModel, in_tick}
 use Rattle.msrp_plan.specs.declared.rows.Row.{Row}
+use Rattle.msrp_audit.specs.Audits.{AuditorModel, HasFed}
 use Rattle.msrp_trace.specs.Laws.{as_read}
 use Rattle.msrp_trace.specs.Readers.{GivesNext, IsTextOf, told_left}
 use Rattle.msrp_engine.specs.Inside.Kept.{KeepsRows, row_of_core}

@@ -1,4 +1,4 @@
-use Rattle.std.proofs.Common.{◌≡◌, ◌/◌, IfSome, length, sym, subst}
+use Rattle.msrp_plan.proofs.Common.{◌≡◌, ◌/◌, IfSome, length, sym, subst}
 use Rattle.msrp_audit.specs.Audits.{AuditorModel, HasFed}
 use Rattle.msrp_trace.specs.Readers.{BeginsAt}
 use Rattle.msrp_engine.specs.Inside.Kept.{KeepsRows}

@@ -1,7 +1,4 @@
-use Rattle.std.proofs.Common.{◌≡◌, ◌/◌, ◌*◌, Some, length, sym, ap, ◌∙◌, subst}
-use Rattle.msrp_plan.specs.Plan.{PlanModel}
-use Rattle.msrp_plan.specs.Runs.{IsRunStart}
-use Rattle.msrp_plan.proofs.Runs.Verdicts.{start_is_good}
+use Rattle.msrp_plan.proofs.Common.{◌≡◌, ◌/◌, ◌*◌, Some, length, sym, ap, ◌∙◌, subst, PlanModel, IsRunStart, start_is_good}
 use Rattle.msrp_trace.specs.Readers.{told_left}
 use Rattle.msrp_engine.specs.Inside.Ticks.{AreInOrder}
 use Rattle.msrp_engine.proofs.WholeTicks.{whole_rows}

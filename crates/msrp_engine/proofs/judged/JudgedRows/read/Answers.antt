@@ -1,4 +1,4 @@
-use Rattle.std.proofs.Common.{sym, ◌∙◌, subst}
+use Rattle.msrp_plan.proofs.Common.{sym, ◌∙◌, subst}
 use Rattle.msrp_audit.specs.Audits.{IsOutOfTurn}
 use Rattle.msrp_engine.specs.Inside.Kept.{KeepsRows}
 use Rattle.msrp_engine.proofs.judged.JudgedRows.read.Goals as goal

@@ -1,5 +1,4 @@
-use Rattle.std.proofs.Common.{Ok, ap, sym, ◌∙◌, subst}
-use Rattle.std.proofs.lemmas.Bool.{eqb-false}
+use Rattle.msrp_plan.proofs.Common.{Ok, ap, sym, ◌∙◌, subst, eqb-false}
 use Rattle.msrp_plan.specs.declared.ids.CoreId.{CoreId}
 use Rattle.msrp_engine.specs.Inside.Kept.{KeepsRows}
 use Rattle.msrp_engine.proofs.NextRows.{given-at, given-some}

@@ -1,4 +1,4 @@
-use Rattle.std.proofs.Common.{◌++◌, [], IfSome, ◌∙◌, subst}
+use Rattle.msrp_plan.proofs.Common.{◌++◌, [], IfSome, ◌∙◌, subst}
 use Rattle.msrp_engine.specs.Inside.Ticks.{TakesTick}
 use Rattle.msrp_engine.proofs.WholeTicks.{no_tick, tick_on}
 use Rattle.msrp_engine.proofs.judged.JudgedRows.take_ticks.Goals as goal

@@ -1,7 +1,5 @@
-use Rattle.std.proofs.Common.{◌≡◌, ◌/◌, length, refl, sym, ap, ◌∙◌, subst}
+use Rattle.msrp_plan.proofs.Common.{◌≡◌, ◌/◌, length, refl, sym, ap, ◌∙◌, subst, PlanModel, in_tick}
 use Rattle.msrp_audit.specs.Audits.{AuditorModel, HasFed}
-use Rattle.msrp_plan.specs.Plan.{PlanModel}
-use Rattle.msrp_plan.specs.Stretches.{in_tick}
 use Rattle.msrp_trace.specs.Laws.{as_read}
 use Rattle.msrp_engine.specs.Inside.Kept.{row_of_core}
 use Rattle.msrp_engine.proofs.KeptTexts.{cores_if, keeps_if, keeps_same, known_read, read_as}

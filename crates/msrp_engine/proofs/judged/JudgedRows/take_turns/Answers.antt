@@ -1,6 +1,4 @@
-use Rattle.std.proofs.Common.{◌*◌, ◌<◌, ◌++◌, ◌∷◌, [], refl, sym, ◌∙◌, subst, arith, append-nil}
-use Rattle.msrp_plan.specs.Plan.{PlanModel}
-use Rattle.msrp_plan.specs.WellFormed.{IsPlan}
+use Rattle.msrp_plan.proofs.Common.{◌*◌, ◌<◌, ◌++◌, ◌∷◌, [], refl, sym, ◌∙◌, subst, arith, append-nil, PlanModel, IsPlan}
 use Rattle.msrp_engine.specs.Inside.Ticks.{HasFedRun, TurnsAll}
 use Rattle.msrp_engine.proofs.WholeTicks.{turn_on}
 use Rattle.msrp_engine.proofs.judged.JudgedRows.take_turns.Goals as goal

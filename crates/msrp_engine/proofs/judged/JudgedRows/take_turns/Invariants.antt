@@ -1,4 +1,4 @@
-use Rattle.std.proofs.Common.{◌≡◌, ◌+◌, None}
+use Rattle.msrp_plan.proofs.Common.{◌≡◌, ◌+◌, None}
 use Rattle.msrp_engine.specs.Inside.Ticks.{TurnsAll}
 use Rattle.msrp_engine.proofs.judged.JudgedRows.take_turns.Given as goal
 

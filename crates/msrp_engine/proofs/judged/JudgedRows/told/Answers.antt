@@ -1,6 +1,6 @@
-use Rattle.std.proofs.Common.{sym, subst}
-use Rattle.msrp_audit.specs.Audits.{Awaits}
+use Rattle.msrp_plan.proofs.Common.{sym, subst}
 use Rattle.msrp_plan.specs.declared.rows.Row.{Row}
+use Rattle.msrp_audit.specs.Audits.{Awaits}
 use Rattle.msrp_engine.specs.Inside.Ahead.{IsAhead}
 use Rattle.msrp_engine.proofs.judged.JudgedRows.told.Goals as goal
 

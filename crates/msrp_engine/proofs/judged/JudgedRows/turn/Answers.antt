@@ -1,6 +1,6 @@
-use Rattle.std.proofs.Common.{◌≡◌, ap, sym, ◌∙◌, subst}
-use Rattle.msrp_audit.specs.Audits.{Awaits}
+use Rattle.msrp_plan.proofs.Common.{◌≡◌, ap, sym, ◌∙◌, subst}
 use Rattle.msrp_plan.specs.declared.rows.Row.{Row}
+use Rattle.msrp_audit.specs.Audits.{Awaits}
 use Rattle.msrp_trace.specs.Laws.{as_read}
 use Rattle.msrp_trace.specs.Texts.{TextsModel, text_of_core}
 use Rattle.msrp_engine.specs.Inside.Kept.{IsKept, KeepsRows, row_of_core}

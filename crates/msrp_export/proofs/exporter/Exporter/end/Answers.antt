@@ -1,5 +1,4 @@
-use Rattle.std.proofs.Common.{subst, sym}
-use Rattle.msrp_plan.specs.Bytes.{Wrote}
+use Rattle.msrp_plan.proofs.Common.{subst, sym, Wrote}
 use Rattle.msrp_export.specs.Changes.{end_text, ends_text}
 use Rattle.msrp_export.proofs.Exporting.{are_over}
 use Rattle.msrp_export.proofs.Ticks.{over_is}

@@ -1,5 +1,4 @@
-use Rattle.std.proofs.Common.{◌≡◌, ◌∙◌, sym, subst, arith}
-use Rattle.msrp_plan.specs.Bytes.{Wrote}
+use Rattle.msrp_plan.proofs.Common.{◌≡◌, ◌∙◌, sym, subst, arith, Wrote}
 use Rattle.msrp_export.specs.Exports.{TellsTick}
 use Rattle.msrp_export.proofs.Exporting.{are_over, none_begun, partial_tick, some_begun}
 use Rattle.msrp_export.proofs.Ticks.{AreOver, begun_none, begun_some, tick_fits}

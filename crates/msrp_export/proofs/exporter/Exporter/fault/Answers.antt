@@ -1,7 +1,4 @@
-use Rattle.std.proofs.Common.{◌≡◌, ◌+◌, ◌∙◌, ap, sym, subst, arith}
-use Rattle.msrp_plan.specs.Bytes.{Wrote}
-use Rattle.msrp_plan.specs.Plan.{PlanModel}
-use Rattle.msrp_plan.proofs.Writes.{wrote-more}
+use Rattle.msrp_plan.proofs.Common.{◌≡◌, ◌+◌, ◌∙◌, ap, sym, subst, arith, Wrote, PlanModel, wrote-more}
 use Rattle.msrp_export.specs.Changes.{broken_text, ends_text, fault_text}
 use Rattle.msrp_export.specs.Exports.{TellsTick}
 use Rattle.msrp_export.specs.Ticks.{begun, over}

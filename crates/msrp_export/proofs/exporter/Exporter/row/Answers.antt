@@ -1,6 +1,4 @@
-use Rattle.std.proofs.Common.{◌≡◌, ◌≢◌, ◌+◌, ◌++◌, ◌∷◌, [], ◌∙◌, refl, sym, subst, arith}
-use Rattle.msrp_plan.specs.Bytes.{Wrote}
-use Rattle.msrp_plan.proofs.Writes.{wrote-nothing}
+use Rattle.msrp_plan.proofs.Common.{◌≡◌, ◌≢◌, ◌+◌, ◌++◌, ◌∷◌, [], ◌∙◌, refl, sym, subst, arith, Wrote, wrote-nothing}
 use Rattle.msrp_export.specs.declared.recent.Recent.{Recent}
 use Rattle.msrp_export.proofs.Exporting.{are_over, ended, ends_text, goes_text, tick_push, told_rows, went}
 use Rattle.msrp_export.proofs.Ticks.{tick_fits}

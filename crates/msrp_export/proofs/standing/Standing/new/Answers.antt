@@ -1,5 +1,4 @@
-use Rattle.std.proofs.Common.{None}
-use Rattle.std.proofs.lemmas.List.{get_or-replicate}
+use Rattle.msrp_plan.proofs.Common.{None, get_or-replicate}
 use Rattle.msrp_plan.specs.Limits.{most_cores, most_resources, most_tasks}
 use Rattle.msrp_export.specs.Tells.{no_count, no_use}
 use Rattle.msrp_export.proofs.standing.Standing.new.Goals as goal

@@ -1,6 +1,4 @@
-use Rattle.std.proofs.Common.{rules, ◌∙◌, ap, arith}
-use Rattle.msrp_plan.specs.Queues.{is_on}
-use Rattle.msrp_plan.proofs.Lists.Ranges.{not_equal}
+use Rattle.msrp_plan.proofs.Common.{rules, ◌∙◌, ap, arith, is_on, not_equal}
 use Rattle.msrp_export.proofs.Counts.{other_res, set_res}
 use Rattle.msrp_export.proofs.standing.Standing.take_use.Goals as goal
 

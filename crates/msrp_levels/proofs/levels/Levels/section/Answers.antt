@@ -1,4 +1,4 @@
-use Rattle.std.proofs.Common.{arith}
+use Rattle.msrp_plan.proofs.Common.{arith}
 use Rattle.msrp_levels.proofs.Stored.{cores_stored, read_section}
 use Rattle.msrp_levels.proofs.levels.Levels.section.Goals as goal
 

@@ -1,4 +1,4 @@
-use Rattle.std.proofs.Common.{arith}
+use Rattle.msrp_plan.proofs.Common.{arith}
 use Rattle.msrp_levels.proofs.Stored.{read_spin, spins_stored}
 use Rattle.msrp_levels.proofs.levels.Levels.spin_bound.Goals as goal
 

@@ -1,6 +1,4 @@
-use Rattle.std.proofs.Common.{ap, arith, length}
-use Rattle.std.proofs.lemmas.List.FromFn.{length-map-range_with_len}
-use Rattle.msrp_plan.specs.Levels.{top}
+use Rattle.msrp_plan.proofs.Common.{ap, arith, length, length-map-range_with_len, top}
 use Rattle.msrp_levels.proofs.Stored.{read_number}
 use Rattle.msrp_levels.proofs.levels.Levels.top.Goals as goal
 

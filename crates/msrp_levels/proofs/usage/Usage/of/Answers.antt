@@ -1,12 +1,4 @@
-use Rattle.std.proofs.Common.{◌≡◌, ◌<◌, ◌+◌, ◌++◌, ◌∷◌, [], ℕ, Bool, List, max, length, map, take, refl, set, get_or, true, false, vec_len, rules, ap, sym, ◌∙◌, subst, arith}
-use Rattle.std.specs.List.{range_with_len}
-use Rattle.std.specs.Prelude.{vec_capacity}
-use Rattle.std.proofs.lemmas.List.{get_or-map, length-map, length_push}
-use Rattle.std.proofs.lemmas.List.FromFn.{length-map-range_with_len}
-use Rattle.msrp_plan.specs.Plan.{PlanModel, no_task, task_at}
-use Rattle.msrp_plan.specs.Levels.{uses}
-use Rattle.msrp_plan.specs.Bounds.{longest_section}
-use Rattle.msrp_plan.specs.WellFormed.{IsPlan}
+use Rattle.msrp_plan.proofs.Common.{◌≡◌, ◌<◌, ◌+◌, ◌++◌, ◌∷◌, [], ℕ, Bool, List, max, length, map, take, refl, set, get_or, true, false, vec_len, rules, ap, sym, ◌∙◌, subst, arith, range_with_len, vec_capacity, get_or-map, length-map, length_push, length-map-range_with_len, PlanModel, no_task, task_at, uses, longest_section, IsPlan}
 use Rattle.msrp_plan.specs.declared.ids.TaskId.{TaskId}
 use Rattle.msrp_levels.specs.Usage.{spin_among, with_user, IsShort}
 use Rattle.msrp_levels.specs.Footprints.{footprint_of, locks_in, longest_in}

@@ -1,5 +1,4 @@
-use Rattle.std.proofs.Common.{◌≡◌, ◌≤◌, length}
-use Rattle.std.specs.Prelude.{vec_capacity}
+use Rattle.msrp_plan.proofs.Common.{◌≡◌, ◌≤◌, length, vec_capacity}
 use Rattle.msrp_levels.proofs.FirstTasks.{AreTold}
 use Rattle.msrp_levels.proofs.usage.Usage.of.Given as goal
 

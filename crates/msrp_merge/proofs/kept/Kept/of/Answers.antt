@@ -1,4 +1,4 @@
-use Rattle.std.proofs.Common.{refl}
+use Rattle.msrp_plan.proofs.Common.{refl}
 use Rattle.msrp_merge.proofs.Keeping.{told}
 use Rattle.msrp_merge.proofs.kept.Kept.of.Goals as goal
 

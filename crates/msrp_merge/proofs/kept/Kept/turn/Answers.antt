@@ -1,4 +1,4 @@
-use Rattle.std.proofs.Common.{refl}
+use Rattle.msrp_plan.proofs.Common.{refl}
 use Rattle.msrp_merge.proofs.Keeping.{shown}
 use Rattle.msrp_merge.proofs.kept.Kept.turn.Goals as goal
 

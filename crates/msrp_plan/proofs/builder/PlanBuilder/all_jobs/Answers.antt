@@ -1,7 +1,6 @@
-use Rattle.std.proofs.Common.{◌≡◌, ◌∙◌, length, refl, ap, arith}
-use Rattle.std.specs.List.{flat_map, range_with_len}
+use Rattle.msrp_plan.specs.Common.{◌≡◌, length, flat_map, range_with_len, jobs_of}
+use Rattle.std.proofs.Common.{◌∙◌, refl, ap, arith}
 use Rattle.std.proofs.lemmas.List.{length-append, length-map}
-use Rattle.msrp_plan.specs.Jobs.{jobs_of}
 use Rattle.msrp_plan.specs.Inside.Tasks.{task_view}
 use Rattle.msrp_plan.specs.Inside.Views.{draft_view}
 use Rattle.msrp_plan.proofs.Lists.Ranges.{flat_more}

@@ -1,6 +1,4 @@
-use Rattle.std.proofs.Common.{◌≡◌, ◌≤◌, ◌*◌, length}
-use Rattle.std.specs.List.{flat_map, range_with_len}
-use Rattle.msrp_plan.specs.Jobs.{jobs_of}
+use Rattle.msrp_plan.specs.Common.{◌≡◌, ◌≤◌, ◌*◌, length, flat_map, range_with_len, jobs_of}
 use Rattle.msrp_plan.proofs.builder.PlanBuilder.all_jobs.Given as goal
 
 abbrev pub invariant-loop-task : goal.invariant-loop-task

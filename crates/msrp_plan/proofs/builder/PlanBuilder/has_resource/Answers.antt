@@ -1,5 +1,5 @@
-use Rattle.std.proofs.Common.{sym, ◌∙◌, string_bytes}
-use Rattle.std.specs.Str.{bytes_eq}
+use Rattle.msrp_plan.specs.Common.{string_bytes, bytes_eq}
+use Rattle.std.proofs.Common.{sym, ◌∙◌}
 use Rattle.msrp_plan.proofs.builder.PlanBuilder.has_resource.Goals as goal
 use Rattle.msrp_plan.proofs.Lists.Filters.{any_map}
 

@@ -1,8 +1,6 @@
-use Rattle.std.proofs.Common.{◌≡◌, ◌≤◌, ℕ, ◌∙◌, nat_lt, length, ap, sym, subst, arith}
-use Rattle.msrp_plan.specs.Plan.{TaskModel, task_at}
-use Rattle.msrp_plan.specs.Jobs.{jobs_of}
+use Rattle.msrp_plan.specs.Common.{◌≡◌, ◌≤◌, ℕ, nat_lt, length, TaskModel, task_at, jobs_of, AreTimes}
+use Rattle.std.proofs.Common.{◌∙◌, ap, sym, subst, arith}
 use Rattle.msrp_plan.specs.Inside.Tasks.{comes_before}
-use Rattle.msrp_plan.specs.ReleaseTimes.{AreTimes}
 use Rattle.msrp_plan.specs.Inside.Views.{draft_view}
 use Rattle.msrp_plan.proofs.Building.Stored.{view_at}
 use Rattle.msrp_plan.proofs.Jobs.Releases.{job_count}

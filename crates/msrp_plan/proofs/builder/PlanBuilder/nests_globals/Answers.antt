@@ -2,8 +2,7 @@ use Rattle.std.proofs.Common.{◌∙◌, refl, sym, arith}
 use Rattle.std.proofs.lemmas.Bool.{or_from}
 use Rattle.std.proofs.lemmas.List.{length-map, take_all}
 use Rattle.std.proofs.lemmas.List.Folds.{list_any_at, list_any_more}
-use Rattle.msrp_plan.specs.Plan.{TaskModel, no_task}
-use Rattle.msrp_plan.specs.Building.{nests_global}
+use Rattle.msrp_plan.specs.Common.{TaskModel, no_task, nests_global}
 use Rattle.msrp_plan.specs.Inside.Tasks.{task_view}
 use Rattle.msrp_plan.specs.Inside.Views.{draft_view}
 use Rattle.msrp_plan.proofs.builder.PlanBuilder.nests_globals.Goals as goal

@@ -1,6 +1,4 @@
-use Rattle.std.proofs.Common.{◌≡◌, false, take}
-use Rattle.std.specs.List.{list_any}
-use Rattle.msrp_plan.specs.Building.{nests_global}
+use Rattle.msrp_plan.specs.Common.{◌≡◌, false, take, list_any, nests_global}
 use Rattle.msrp_plan.proofs.builder.PlanBuilder.nests_globals.Given as goal
 
 abbrev pub invariant-loop-task : goal.invariant-loop-task

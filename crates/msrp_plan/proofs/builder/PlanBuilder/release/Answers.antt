@@ -1,7 +1,6 @@
-use Rattle.std.proofs.Common.{◌≡◌, ℕ, List, None, sym, ap, ◌∙◌}
-use Rattle.msrp_plan.specs.Plan.{TaskModel}
-use Rattle.msrp_plan.specs.Building.{release_fault, tick_fault}
-use Rattle.msrp_plan.specs.ReleaseTimes.{listed_ticks}
+use Rattle.msrp_plan.specs.Common.{◌≡◌, ℕ, List, None, TaskModel, release_fault, listed_ticks}
+use Rattle.std.proofs.Common.{sym, ap, ◌∙◌}
+use Rattle.msrp_plan.specs.Building.{tick_fault}
 use Rattle.msrp_plan.specs.Inside.Views.{draft_view, numbers}
 use Rattle.msrp_plan.proofs.Building.Drafts.{growing_release, takes_some}
 use Rattle.msrp_plan.proofs.builder.PlanBuilder.release.Goals as goal

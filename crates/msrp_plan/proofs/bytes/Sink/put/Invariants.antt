@@ -1,6 +1,6 @@
-use Rattle.std.proofs.Common.{length, ◌-◌, ◌≡◌, ◌≤◌, false, take}
+use Rattle.msrp_plan.specs.Common.{length, ◌-◌, ◌≡◌, ◌≤◌, false, take, sink_failed}
 use Rattle.std.specs.Io.KnownBytes.{Appends}
-use Rattle.msrp_plan.specs.Bytes.{sink_failed, sink_inner}
+use Rattle.msrp_plan.specs.Bytes.{sink_inner}
 use Rattle.msrp_plan.proofs.bytes.Sink.put.Given as goal
 
 abbrev pub invariant-loop-at : goal.invariant-loop-at

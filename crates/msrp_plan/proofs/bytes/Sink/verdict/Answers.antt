@@ -1,6 +1,5 @@
 use Rattle.std.proofs.Common.{append_assoc, subst, sym}
-use Rattle.msrp_plan.specs.Bytes.{Wrote}
-use Rattle.msrp_plan.specs.Words.{verdict_text}
+use Rattle.msrp_plan.specs.Common.{Wrote, verdict_text}
 use Rattle.msrp_plan.proofs.Writes.{wrote-more}
 use Rattle.msrp_plan.proofs.bytes.Sink.verdict.Goals as goal
 

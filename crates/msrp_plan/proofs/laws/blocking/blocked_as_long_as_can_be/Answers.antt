@@ -1,4 +1,5 @@
-use Rattle.std.proofs.Common.{[], take, refl, arith}
+use Rattle.msrp_plan.specs.Common.{[], take}
+use Rattle.std.proofs.Common.{refl, arith}
 use Rattle.msrp_plan.specs.Examples.BlockedHead.{plan, rows}
 use Rattle.msrp_plan.specs.Examples.Notation.{job, lock}
 use Rattle.msrp_plan.specs.Blocking.{IsBegun}

@@ -1,7 +1,6 @@
-use Rattle.std.proofs.Common.{◌≤◌, [], ◌∷◌, refl, arith}
-use Rattle.std.specs.List.{Contains}
-use Rattle.msrp_plan.specs.Jobs.{jobs}
-use Rattle.msrp_plan.specs.Laws.{BoundedOvertaking, BoundedSpinning, ShortQueues, IsWait}
+use Rattle.msrp_plan.specs.Common.{◌≤◌, [], ◌∷◌, Contains, jobs, IsWait}
+use Rattle.std.proofs.Common.{refl, arith}
+use Rattle.msrp_plan.specs.Laws.{BoundedOvertaking, BoundedSpinning, ShortQueues}
 use Rattle.msrp_plan.specs.Blocking.{BoundedBlocking, BoundedSections}
 use Rattle.msrp_plan.specs.Examples.Notation.{job, take, queue, spin}
 use Rattle.msrp_plan.specs.Examples.BlockedHead as blocked_head

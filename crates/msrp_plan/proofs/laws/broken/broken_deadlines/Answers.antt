@@ -1,16 +1,14 @@
-use Rattle.std.proofs.Common.{◌≡◌, ◌≢◌, ◌≤◌, ◌<◌, true, false, refl, sym, ap, take, arith}
-use Rattle.std.specs.List.{Contains}
+use Rattle.msrp_plan.specs.Common.{◌≡◌, ◌≢◌, ◌≤◌, ◌<◌, true, false, take, Contains, is_before, jobs_on}
+use Rattle.msrp_plan.specs.declared.ids.JobId.{JobId}
+use Rattle.std.proofs.Common.{refl, sym, ap, arith}
 use Rattle.std.proofs.Math.Bool.{true≢false}
 use Rattle.std.proofs.lemmas.List.Elements.{All-from_recursion, All-contains}
-use Rattle.msrp_plan.specs.Choice.{is_before}
-use Rattle.msrp_plan.specs.Jobs.{jobs_on}
 use Rattle.msrp_plan.specs.Scheduling.{EarliestDeadlineFirst}
 use Rattle.msrp_plan.specs.Examples.Notation.{job, run, changed}
 use Rattle.msrp_plan.specs.Examples.BlockedByTheCeiling as blocked_by_the_ceiling
 use Rattle.msrp_plan.specs.Examples.EqualDeadlines as equal_deadlines
 use Rattle.msrp_plan.specs.Examples.PreemptsASection as preempts_a_section
 use Rattle.msrp_plan.specs.Examples.TwoHeads as two_heads
-use Rattle.msrp_plan.specs.declared.ids.JobId.{JobId}
 use Rattle.msrp_plan.proofs.laws.broken.broken_deadlines.Goals as goal
 
 two : job 1 0 ≢ job 0 0

@@ -1,17 +1,15 @@
-use Rattle.std.proofs.Common.{◌≡◌, ◌≤◌, true, false, ◌&&◌, ◌==◌, Some, None, [], take, ℕ, refl, sym, ◌∙◌, arith}
-use Rattle.std.specs.List.{Contains}
+use Rattle.msrp_plan.specs.Common.{◌≡◌, ◌≤◌, true, false, ◌&&◌, ◌==◌, Some, None, [], take, ℕ, Contains, units, release, jobs, jobs_on, is_row_of, is_finished, is_amid, section_of}
+use Rattle.msrp_plan.specs.declared.ids.JobId.{JobId}
+use Rattle.msrp_plan.specs.declared.rows.Kind.TheVariants.{Idle, Run}
+use Rattle.std.proofs.Common.{refl, sym, ◌∙◌, arith}
 use Rattle.std.proofs.Math.Bool.{true≢false}
 use Rattle.std.proofs.lemmas.Bool.{and_parts}
 use Rattle.std.proofs.lemmas.List.Elements.{All-from_recursion, All-contains}
-use Rattle.msrp_plan.specs.Plan.{units, release}
-use Rattle.msrp_plan.specs.Jobs.{jobs, jobs_on, is_row_of, is_finished}
-use Rattle.msrp_plan.specs.Blocking.{BlockedByBegunSections, BlockedByOneSection, is_amid, section_of}
+use Rattle.msrp_plan.specs.Blocking.{BlockedByBegunSections, BlockedByOneSection}
 use Rattle.msrp_plan.specs.Scheduling.{RunsReleased, WorkConservation}
 use Rattle.msrp_plan.specs.Examples.Notation.{job, run}
 use Rattle.msrp_plan.specs.Examples.TwoHeads.{plan, by_declaration}
 use Rattle.msrp_plan.specs.Examples.JobsOfOneTask as jobs_of_one_task
-use Rattle.msrp_plan.specs.declared.ids.JobId.{JobId}
-use Rattle.msrp_plan.specs.declared.rows.Kind.TheVariants.{Idle, Run}
 use Rattle.msrp_plan.proofs.Blocking.Sections.{outside_first}
 use Rattle.msrp_plan.proofs.laws.broken.broken_schedules.Goals as goal
 

@@ -1,7 +1,5 @@
-use Rattle.std.proofs.Common.{◌≡◌, ◌==◌, [], cond, length, length-append, ap, sym, ◌∙◌, arith}
-use Rattle.std.specs.List.{range_with_len}
-use Rattle.msrp_plan.specs.Jobs.{jobs_of}
-use Rattle.msrp_plan.specs.Plan.{task_at}
+use Rattle.msrp_plan.specs.Common.{◌≡◌, ◌==◌, [], cond, length, range_with_len, jobs_of, task_at}
+use Rattle.std.proofs.Common.{length-append, ap, sym, ◌∙◌, arith}
 use Rattle.msrp_plan.proofs.Jobs.JobLists.{jobs_among, jobs_among_more}
 use Rattle.msrp_plan.proofs.plans.Plan.jobs_on.Goals as goal
 use Rattle.msrp_plan.proofs.plans.Plan.jobs_on.Goals.{then-eq, else-eq}

@@ -1,5 +1,4 @@
-use Rattle.std.proofs.Common.{◌≡◌, ◌≤◌, ◌*◌, ◌^◌, length}
-use Rattle.std.specs.List.{range_with_len}
+use Rattle.msrp_plan.specs.Common.{◌≡◌, ◌≤◌, ◌*◌, ◌^◌, length, range_with_len}
 use Rattle.msrp_plan.proofs.Jobs.JobLists.{jobs_among}
 use Rattle.msrp_plan.proofs.plans.Plan.jobs_on.Given as goal
 

@@ -1,8 +1,8 @@
-use Rattle.std.proofs.Common.{◌≡◌, ℕ, ◌-◌, ◌^◌, ◌<◌, List, ap, arith, drop, length, length-drop, min, sym, take, ◌∙◌}
+use Rattle.msrp_plan.specs.Common.{◌≡◌, ℕ, ◌-◌, ◌^◌, ◌<◌, List, drop, length, min, take, is_release_of}
+use Rattle.msrp_plan.specs.declared.ids.JobId.{JobId}
+use Rattle.std.proofs.Common.{ap, arith, length-drop, sym, ◌∙◌}
 use Rattle.std.specs.List.{count_by}
 use Rattle.std.proofs.lemmas.List.{drop_min, take_all}
-use Rattle.msrp_plan.specs.Queues.{is_release_of}
-use Rattle.msrp_plan.specs.declared.ids.JobId.{JobId}
 use Rattle.msrp_plan.proofs.requests.Requests.queue.Goals as goal
 
 -- no list is longer than the greatest number of releases

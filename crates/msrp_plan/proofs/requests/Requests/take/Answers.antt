@@ -1,11 +1,10 @@
-use Rattle.std.proofs.Common.{◌≡◌, ℕ, ◌+◌, ◌-◌, ◌^◌, ◌++◌, ◌∷◌, [], List, ap, arith, cond, min, sym, ◌∙◌}
-use Rattle.std.specs.List.{cons_option}
+use Rattle.msrp_plan.specs.Common.{◌≡◌, ℕ, ◌+◌, ◌-◌, ◌^◌, ◌++◌, ◌∷◌, [], List, cond, min, cons_option, is_release_of, requester}
+use Rattle.msrp_plan.specs.declared.rows.Row.{Row}
+use Rattle.std.proofs.Common.{ap, arith, sym, ◌∙◌}
 use Rattle.std.proofs.lemmas.List.Elements.{filter_map-append}
 use Rattle.std.proofs.lemmas.List.Sums.{sum_by_push}
-use Rattle.msrp_plan.specs.Queues.{is_release_of, requester}
 use Rattle.msrp_plan.specs.Requests.{HasTaken}
 use Rattle.msrp_plan.specs.declared.requests.Requests.{Requests}
-use Rattle.msrp_plan.specs.declared.rows.Row.{Row}
 use Rattle.msrp_plan.proofs.requests.Requests.take.Goals as goal
 
 capped : (n k most : ℕ) → min (min n most + k) most ≡ min (n + k) most

@@ -1,6 +1,7 @@
-use Rattle.std.proofs.Common.{nat_lt, ap, sym, subst, ◌∙◌, rules}
+use Rattle.msrp_plan.specs.Common.{nat_lt, AreTimes, Listed}
+use Rattle.std.proofs.Common.{ap, sym, subst, ◌∙◌, rules}
 use Rattle.std.proofs.lemmas.List.Sorted.{IsPartitionPoint-from_clause}
-use Rattle.msrp_plan.specs.ReleaseTimes.{AreTimes, AreListed, Listed}
+use Rattle.msrp_plan.specs.ReleaseTimes.{AreListed}
 use Rattle.msrp_plan.specs.Inside.Tasks.{comes_before, times_view}
 use Rattle.msrp_plan.proofs.Jobs.Releases.{listed_first, listed_parts}
 use Rattle.msrp_plan.proofs.times.Releases.count_before.Goals as goal

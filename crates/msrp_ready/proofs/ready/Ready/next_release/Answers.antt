@@ -1,5 +1,4 @@
-use Rattle.std.proofs.Common.{ap, sym, ◌∙◌, arith}
-use Rattle.std.proofs.lemmas.Bool.{lt-leb, le-leb}
+use Rattle.msrp_plan.proofs.Common.{ap, sym, ◌∙◌, arith, lt-leb, le-leb}
 use Rattle.msrp_ready.specs.Ready.{has_release_by}
 use Rattle.msrp_ready.proofs.Releases.{coming_tells, never_tells}
 use Rattle.msrp_ready.proofs.ready.Ready.next_release.Goals as goal

@@ -1,4 +1,4 @@
-use Rattle.std.proofs.Common.{sym, ◌∙◌}
+use Rattle.msrp_plan.proofs.Common.{sym, ◌∙◌}
 use Rattle.msrp_report.proofs.TallySteps.{all_begun}
 use Rattle.msrp_report.proofs.tallies.Tallies.begin.Goals as goal
 

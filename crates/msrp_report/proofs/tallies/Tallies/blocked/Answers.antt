@@ -1,6 +1,4 @@
-use Rattle.std.proofs.Common.{ap, subst, arith}
-use Rattle.std.specs.List.{Contains}
-use Rattle.msrp_plan.specs.Jobs.{jobs}
+use Rattle.msrp_plan.proofs.Common.{ap, subst, arith, Contains, jobs}
 use Rattle.msrp_report.specs.Inside.Counts.{count_of}
 use Rattle.msrp_report.specs.declared.counts.JobCount.{JobCount}
 use Rattle.msrp_report.proofs.JobTallies.{over_told, blocker_told, same_job_at}

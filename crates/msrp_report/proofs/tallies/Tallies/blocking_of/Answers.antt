@@ -1,5 +1,4 @@
-use Rattle.std.proofs.Common.{ap, sym, ◌∙◌, arith}
-use Rattle.msrp_plan.specs.Plan.{core_of}
+use Rattle.msrp_plan.proofs.Common.{ap, sym, ◌∙◌, arith, core_of}
 use Rattle.msrp_report.specs.Inside.Tallies.{blocking_by}
 use Rattle.msrp_report.specs.declared.counts.JobCount.{JobCount}
 use Rattle.msrp_report.specs.declared.tallies.Blocking.TheVariants.{By}

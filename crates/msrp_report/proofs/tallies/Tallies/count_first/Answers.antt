@@ -1,7 +1,4 @@
-use Rattle.std.proofs.Common.{◌==◌, true, false, slice_set, refl, ap, sym, ◌∙◌, arith, eq-eqb, eqb-true}
-use Rattle.std.proofs.lemmas.Bool.{false_from_ne_true}
-use Rattle.std.specs.Vec.{with_item}
-use Rattle.msrp_plan.specs.Plan.{core_of}
+use Rattle.msrp_plan.proofs.Common.{◌==◌, true, false, slice_set, refl, ap, sym, ◌∙◌, arith, eq-eqb, eqb-true, false_from_ne_true, with_item, core_of}
 use Rattle.msrp_report.specs.Inside.Counts.{counted_as}
 use Rattle.msrp_report.specs.declared.counts.JobCount.{JobCount}
 use Rattle.msrp_report.specs.declared.tallies.Blocking.TheVariants.{Over}

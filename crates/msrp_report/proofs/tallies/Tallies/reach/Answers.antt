@@ -1,8 +1,5 @@
-use Rattle.std.proofs.Common.{◌<◌, sym, ◌∙◌, arith}
+use Rattle.msrp_plan.proofs.Common.{◌<◌, sym, ◌∙◌, arith, legal_due, all_weaker, start_last}
 use Rattle.msrp_plan.specs.declared.rows.Row.{Row as TraceRow}
-use Rattle.msrp_plan.proofs.Legality.LegalRows.{legal_due}
-use Rattle.msrp_plan.proofs.Lists.AnyAll.{all_weaker}
-use Rattle.msrp_plan.proofs.Runs.Verdicts.{start_last}
 use Rattle.msrp_report.proofs.OwnRows.{tick_left}
 use Rattle.msrp_report.proofs.RowSteps.{tick_begun}
 use Rattle.msrp_report.proofs.TallySteps.{none_begun}

@@ -1,10 +1,6 @@
-use Rattle.std.proofs.Common.{◌≡◌, ◌+◌, List, length, slice_set, refl, ap, subst, sym, ◌∙◌, arith}
-use Rattle.std.proofs.lemmas.Option.{same_Some, slice_get_read}
+use Rattle.msrp_plan.proofs.Common.{◌≡◌, ◌+◌, List, length, slice_set, refl, ap, subst, sym, ◌∙◌, arith, same_Some, slice_get_read, IsNonDecreasingBy, IsPermutation, with_item, first_later, job_at}
 use Rattle.std.proofs.lemmas.List.{with_items_is}
-use Rattle.std.specs.List.Sorted.{IsNonDecreasingBy, IsPermutation}
-use Rattle.std.specs.Vec.{with_item, with_items}
-use Rattle.msrp_plan.specs.Blocking.{first_later}
-use Rattle.msrp_plan.specs.Jobs.{job_at}
+use Rattle.std.specs.Vec.{with_items}
 use Rattle.msrp_plan.specs.declared.rows.Row.{Row as TraceRow}
 use Rattle.msrp_report.specs.Inside.Tallies.{HasReleased, IsTaskTally}
 use Rattle.msrp_report.specs.declared.tallies.Blocking.{Blocking}

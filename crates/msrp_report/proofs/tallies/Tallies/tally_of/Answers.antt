@@ -1,5 +1,4 @@
-use Rattle.std.proofs.Common.{length, refl, arith}
-use Rattle.std.proofs.lemmas.Option.{slice_get_read}
+use Rattle.msrp_plan.proofs.Common.{length, refl, arith, slice_get_read}
 use Rattle.msrp_report.proofs.JobTallies.{task_read, told_task, told_number}
 use Rattle.msrp_report.proofs.tallies.Tallies.tally_of.Goals as goal
 

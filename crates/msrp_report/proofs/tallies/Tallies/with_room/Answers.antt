@@ -1,9 +1,8 @@
-use Rattle.std.proofs.Common.{◌≡◌, ◌+◌, ◌≤◌, ◌∷◌, [], ℕ, Some, length, length-append, slice_get, refl, ap, sym, subst, ◌∙◌, arith}
+use Rattle.msrp_plan.proofs.Common.{◌≡◌, ◌+◌, ◌≤◌, ◌∷◌, [], ℕ, Some, length, length-append, slice_get, refl, ap, sym, subst, ◌∙◌, arith, places_push}
 use Rattle.msrp_report.specs.Inside.Tallies.{IsTaskTally}
 use Rattle.msrp_report.specs.declared.tallies.TaskTally.{TaskTally}
 use Rattle.msrp_report.proofs.Starting.{tallies_untold}
 use Rattle.msrp_report.proofs.tallies.Tallies.with_room.Goals as goal
-use Rattle.msrp_plan.proofs.Lists.AnyAll.{places_push}
 
 pub loop-task-preserved : goal.loop-task-preserved
 loop-task-preserved c =

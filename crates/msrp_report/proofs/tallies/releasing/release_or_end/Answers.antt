@@ -1,12 +1,5 @@
-use Rattle.std.proofs.Common.{◌≡◌, ℕ, ◌<◌, true, ap, subst, ◌∙◌, arith, get_or, length, map, nat_lt}
-use Rattle.std.specs.List.{range_with_len}
-use Rattle.std.proofs.lemmas.Bool.{ltb-true}
+use Rattle.msrp_plan.proofs.Common.{◌≡◌, ℕ, ◌<◌, true, ap, subst, ◌∙◌, arith, get_or, length, map, nat_lt, range_with_len, ltb-true, get_or-map-range_with_len, PlanModel, release, job_at, jobs_of, IsPlan, jobs_of_are}
 use Rattle.std.proofs.lemmas.List.Elements.{filter_passes}
-use Rattle.std.proofs.lemmas.List.FromFn.{get_or-map-range_with_len}
-use Rattle.msrp_plan.specs.Plan.{PlanModel, release}
-use Rattle.msrp_plan.specs.Jobs.{job_at, jobs_of}
-use Rattle.msrp_plan.specs.WellFormed.{IsPlan}
-use Rattle.msrp_plan.proofs.Jobs.JobLists.{jobs_of_are}
 use Rattle.msrp_levels.proofs.PlanJobs.{job_in}
 use Rattle.msrp_report.proofs.JobTallies.{job_known}
 use Rattle.msrp_report.proofs.tallies.releasing.release_or_end.Goals as goal

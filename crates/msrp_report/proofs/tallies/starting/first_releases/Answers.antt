@@ -1,7 +1,4 @@
-use Rattle.std.proofs.Common.{◌≡◌, ◌+◌, ◌≤◌, ◌++◌, ◌∷◌, [], rules, length, length-append, map, ap, sym, subst, ◌∙◌, arith}
-use Rattle.std.specs.List.{All, range_with_len}
-use Rattle.std.proofs.lemmas.List.{map-append}
-use Rattle.std.proofs.lemmas.List.Elements.{All-push}
+use Rattle.msrp_plan.proofs.Common.{◌≡◌, ◌+◌, ◌≤◌, ◌++◌, ◌∷◌, [], rules, length, length-append, map, ap, sym, subst, ◌∙◌, arith, All, range_with_len, map-append, All-push}
 use Rattle.std.proofs.lemmas.List.Sorted.{IsNonDecreasingBy-from_sort, answers_always}
 use Rattle.msrp_report.specs.Inside.Tallies.{release_or_end}
 use Rattle.msrp_report.specs.declared.tallies.NextRelease.{NextRelease}

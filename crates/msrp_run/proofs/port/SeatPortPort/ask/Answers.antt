@@ -1,4 +1,4 @@
-use Rattle.std.proofs.Common.{◌≡◌, ◌<◌, subst, sym, ap, ◌∙◌}
+use Rattle.msrp_plan.proofs.Common.{◌≡◌, ◌<◌, subst, sym, ap, ◌∙◌}
 use Rattle.msrp_plan.specs.declared.units.Call.TheVariants.{Ask}
 use Rattle.msrp_plan.specs.declared.units.Phase.TheVariants.{Free}
 use Rattle.msrp_board.specs.SeatPorts.{port_room}

@@ -1,5 +1,4 @@
-use Rattle.std.proofs.Common.{List, subst, arith}
-use Rattle.std.specs.Option.{IsSomeAnd}
+use Rattle.msrp_plan.proofs.Common.{List, subst, arith, IsSomeAnd}
 use Rattle.msrp_plan.specs.declared.rows.Row.{Row as TraceRow}
 use Rattle.msrp_sim.specs.Cores.{CoresModel, StandFor, IsDueInRun, IsNextRow}
 use Rattle.msrp_sim.specs.CoresView.{cores_view}

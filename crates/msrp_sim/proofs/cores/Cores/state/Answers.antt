@@ -1,5 +1,4 @@
-use Rattle.std.proofs.Common.{List, length, subst}
-use Rattle.msrp_plan.specs.Logs.{log_of}
+use Rattle.msrp_plan.proofs.Common.{List, length, subst, log_of}
 use Rattle.msrp_plan.specs.declared.rows.Row.{Row as TraceRow}
 use Rattle.msrp_core.specs.CoreStates.{IsCoreState}
 use Rattle.msrp_sim.specs.Cores.{CoresModel, StandFor}

@@ -1,6 +1,4 @@
-use Rattle.std.proofs.Common.{◌≡◌, ◌<◌, Some, slice_get, length, refl, ap, sym, ◌∙◌, subst}
-use Rattle.std.specs.Vec.{with_item}
-use Rattle.msrp_plan.specs.Plan.{PlanModel}
+use Rattle.msrp_plan.proofs.Common.{◌≡◌, ◌<◌, Some, slice_get, length, refl, ap, sym, ◌∙◌, subst, with_item, PlanModel}
 use Rattle.msrp_core.specs.Machine.{MachineModel}
 use Rattle.msrp_sim.specs.Cores.{CoresModel, IsSomeTurn, Leaves, MakesNext, StandOn, TakesTurn}
 use Rattle.msrp_sim.specs.CoresView.{cores_view}

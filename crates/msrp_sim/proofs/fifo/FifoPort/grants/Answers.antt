@@ -1,5 +1,4 @@
-use Rattle.std.proofs.Common.{◌≡◌, subst}
-use Rattle.msrp_plan.specs.FifoLock.{Answers}
+use Rattle.msrp_plan.proofs.Common.{◌≡◌, subst, Answers}
 use Rattle.msrp_plan.specs.declared.units.Call.TheVariants.{Poll}
 use Rattle.msrp_plan.specs.declared.units.Phase.TheVariants.{Queued}
 use Rattle.msrp_core.specs.Ports.{claim_in}

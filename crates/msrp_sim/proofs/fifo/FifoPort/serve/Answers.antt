@@ -1,7 +1,4 @@
-use Rattle.std.proofs.Common.{◌≡◌, ◌<◌, ◌+◌, ◌++◌, ◌∷◌, [], subst, sym, length, length-append, get_or}
-use Rattle.std.proofs.lemmas.List.Elements.{All-push}
-use Rattle.msrp_plan.specs.Calls.{IsDueCall}
-use Rattle.msrp_plan.specs.FifoLock.{Answers}
+use Rattle.msrp_plan.proofs.Common.{◌≡◌, ◌<◌, ◌+◌, ◌++◌, ◌∷◌, [], subst, sym, length, length-append, get_or, All-push, IsDueCall, Answers}
 use Rattle.msrp_core.specs.Ports.{claim_in}
 use Rattle.msrp_sim.specs.Served.{FifoModel, lock_after_calls}
 use Rattle.msrp_sim.specs.Serving.{AreDrawn}

@@ -1,5 +1,4 @@
-use Rattle.std.proofs.Common.{sym, refl, subst}
-use Rattle.msrp_plan.specs.Scheduling.{IsOrder}
+use Rattle.msrp_plan.proofs.Common.{sym, refl, subst, IsOrder}
 use Rattle.msrp_plan.proofs.Scheduling.Orders.{ascending_is_order}
 use Rattle.msrp_sim.specs.Orders.{cores_of}
 use Rattle.msrp_sim.proofs.Rounds.{falling_order, rotating_order}

@@ -1,5 +1,4 @@
-use Rattle.std.proofs.Common.{◌≡◌, ◌+◌, ◌*◌, [], ap, arith, refl, subst, take}
-use Rattle.msrp_plan.specs.WellFormed.{IsPlan}
+use Rattle.msrp_plan.proofs.Common.{◌≡◌, ◌+◌, ◌*◌, [], ap, arith, refl, subst, take, IsPlan}
 use Rattle.msrp_sim.specs.Orders.{cores_of}
 use Rattle.msrp_sim.proofs.simulation.Simulation.with_room.Goals as goal
 

@@ -1,4 +1,4 @@
-use Rattle.std.proofs.Common.{replicate}
+use Rattle.msrp_plan.proofs.Common.{replicate}
 use Rattle.msrp_sim.specs.declared.tickets.Tickets.{Tickets}
 use Rattle.msrp_sim.proofs.Serving.{drawn_none, same_everywhere, serving_none}
 use Rattle.msrp_sim.proofs.tickets.Queues.new.Goals as goal

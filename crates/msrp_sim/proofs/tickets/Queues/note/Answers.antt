@@ -1,4 +1,4 @@
-use Rattle.std.proofs.Common.{arith}
+use Rattle.msrp_plan.proofs.Common.{arith}
 use Rattle.msrp_sim.proofs.Serving.{notes_ask, notes_leave, notes_poll}
 use Rattle.msrp_sim.proofs.tickets.Queues.note.Goals as goal
 

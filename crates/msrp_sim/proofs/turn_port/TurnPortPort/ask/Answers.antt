@@ -1,5 +1,4 @@
-use Rattle.std.proofs.Common.{◌≡◌, ◌<◌, ◌++◌, sym, subst}
-use Rattle.msrp_plan.specs.Calls.{IsDueCall}
+use Rattle.msrp_plan.proofs.Common.{◌≡◌, ◌<◌, ◌++◌, sym, subst, IsDueCall}
 use Rattle.msrp_plan.specs.declared.units.Phase.TheVariants.{Free}
 use Rattle.msrp_core.specs.Ports.{Adds, asked, claim_in}
 use Rattle.msrp_sim.specs.Serving.{IsTold}

@@ -1,4 +1,4 @@
-use Rattle.std.proofs.Common.{◌≡◌, ◌<◌, ◌++◌, sym, subst}
+use Rattle.msrp_plan.proofs.Common.{◌≡◌, ◌<◌, ◌++◌, sym, subst}
 use Rattle.msrp_plan.specs.declared.units.Call.TheVariants.{Poll}
 use Rattle.msrp_plan.specs.declared.units.Phase.TheVariants.{Queued}
 use Rattle.msrp_core.specs.Ports.{Adds, claim_in}

@@ -1,4 +1,4 @@
-use Rattle.std.proofs.Common.{subst, sym}
+use Rattle.msrp_plan.proofs.Common.{subst, sym}
 use Rattle.msrp_stack.specs.Stack.{IsDone}
 use Rattle.msrp_stack.specs.StackView.{IsStack}
 use Rattle.msrp_stack.proofs.Changes.{finish_keeps}

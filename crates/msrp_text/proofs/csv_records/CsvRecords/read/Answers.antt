@@ -1,4 +1,4 @@
-use Rattle.std.proofs.Common.{rules, ◌≡◌, None}
+use Rattle.msrp_plan.proofs.Common.{rules, ◌≡◌, None}
 use Rattle.msrp_text.proofs.Remaining.{read-gives, stops-only}
 use Rattle.msrp_text.proofs.csv_records.CsvRecords.read.Goals as goal
 

@@ -1,4 +1,4 @@
-use Rattle.std.proofs.Common.{ℕ, List}
+use Rattle.msrp_plan.proofs.Common.{ℕ, List}
 use Rattle.msrp_text.specs.Ahead.{lines_ahead}
 use Rattle.msrp_text.specs.Lines.{HasTaken}
 use Rattle.msrp_text.specs.Plain.{NoLine}

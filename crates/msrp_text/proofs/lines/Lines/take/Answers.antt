@@ -1,4 +1,4 @@
-use Rattle.std.proofs.Common.{refl, take}
+use Rattle.msrp_plan.proofs.Common.{refl, take}
 use Rattle.msrp_text.proofs.AheadBytes.{taken-bytes}
 use Rattle.msrp_text.proofs.LineEnds.{line-in, line-taken, taken-last}
 use Rattle.msrp_text.specs.Ahead.{lines_ahead}

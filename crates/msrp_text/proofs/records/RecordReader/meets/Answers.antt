@@ -1,5 +1,4 @@
-use Rattle.std.proofs.Common.{◌+◌, ◌++◌, ◌∙◌, List, ℕ, ap, inl, inr, length, refl, subst, sym}
-use Rattle.std.proofs.lemmas.Bool.{cases_Bool}
+use Rattle.msrp_plan.proofs.Common.{◌+◌, ◌++◌, ◌∙◌, List, ℕ, ap, inl, inr, length, refl, subst, sym, cases_Bool}
 use Rattle.msrp_text.specs.Plain.{BeginsWith}
 use Rattle.msrp_text.specs.Records.{bytes_ahead, read_failed}
 use Rattle.msrp_text.proofs.AheadBytes.{kept-known}

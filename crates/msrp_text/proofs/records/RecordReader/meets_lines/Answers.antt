@@ -1,7 +1,4 @@
-use Rattle.std.proofs.Common.{◌≡◌, ◌++◌, ◌∙◌, ap, append_assoc, drop, length, refl, sym, take}
-use Rattle.std.proofs.lemmas.Bool.Decides.{Decides-eqb}
-use Rattle.std.proofs.lemmas.List.{take_at}
-use Rattle.std.proofs.lemmas.Slice.Eq.{starts_is}
+use Rattle.msrp_plan.proofs.Common.{◌≡◌, ◌++◌, ◌∙◌, ap, append_assoc, drop, length, refl, sym, take, Decides-eqb, take_at, starts_is}
 use mathlib.Core.Bool.{true≢false}
 use Rattle.msrp_text.specs.Records.{bytes_ahead}
 use Rattle.msrp_text.proofs.AheadBytes.{bytes-ahead, kept-known}

@@ -1,4 +1,4 @@
-use Rattle.std.proofs.Common.{◌∙◌, ◌++◌, ℕ, List, ap, append_assoc}
+use Rattle.msrp_plan.proofs.Common.{◌∙◌, ◌++◌, ℕ, List, ap, append_assoc}
 use Rattle.msrp_text.proofs.AheadBytes.{keeps-keeps}
 use Rattle.msrp_text.proofs.records.RecordReader.read_more.Goals as goal
 

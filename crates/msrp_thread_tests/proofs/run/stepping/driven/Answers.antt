@@ -1,4 +1,4 @@
-use Rattle.std.proofs.Common.{subst, sym}
+use Rattle.msrp_plan.proofs.Common.{subst, sym}
 use Rattle.msrp_run.specs.Work.{IsAtWork}
 use Rattle.msrp_thread_tests.specs.declared.run.stepping.Core.{Core}
 use Rattle.msrp_thread_tests.proofs.Stepping.{at_next}

@@ -1,6 +1,5 @@
-use Rattle.std.proofs.Common.{ℕ, List, ◌≡◌, ◌≤◌, ◌<◌, ◌%◌, ◌++◌, ◌∙◌, [], decimal, get_or, length, take, ap, sym, arith}
-use Rattle.std.specs.List.{flat_map}
-use Rattle.std.proofs.lemmas.List.{get_or-take, length-map, length-take}
+use Rattle.msrp_plan.proofs.Common.{ℕ, List, ◌≡◌, ◌≤◌, ◌<◌, ◌%◌, ◌++◌, ◌∙◌, [], decimal, get_or, length, take, ap, sym, arith, flat_map, get_or-take, length-map}
+use Rattle.std.proofs.lemmas.List.{length-take}
 use Rattle.msrp_trace.specs.Texts.{TextsModel, texts_of}
 use Rattle.msrp_trace.specs.declared.line.CoreText.{CoreText}
 use Rattle.msrp_trace.proofs.foreseen.Foreseen.gather.Goals as goal

@@ -1,5 +1,4 @@
-use Rattle.std.proofs.Common.{◌+◌, ◌++◌, ◌∷◌, [], ◌∙◌, decimal, ap, sym}
-use Rattle.std.proofs.lemmas.Fmt.{decimal_digit}
+use Rattle.msrp_plan.proofs.Common.{◌+◌, ◌++◌, ◌∷◌, [], ◌∙◌, decimal, ap, sym, decimal_digit}
 use Rattle.msrp_trace.specs.Gathering.{next_field}
 use Rattle.msrp_trace.proofs.line.LineText.begin.Goals as goal
 

@@ -1,4 +1,4 @@
-use Rattle.std.proofs.Common.{◌∙◌, ◌++◌, ap, append_assoc}
+use Rattle.msrp_plan.proofs.Common.{◌∙◌, ◌++◌, ap, append_assoc}
 use Rattle.msrp_trace.proofs.Gathered.{gathers-on}
 use Rattle.msrp_trace.proofs.page.Page.add_both.Goals as goal
 

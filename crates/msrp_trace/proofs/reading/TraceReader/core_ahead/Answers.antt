@@ -1,5 +1,4 @@
-use Rattle.std.proofs.Common.{◌∙◌, ◌+◌, decimal, ap, sym, arith}
-use Rattle.std.proofs.lemmas.Option.{none-some}
+use Rattle.msrp_plan.proofs.Common.{◌∙◌, ◌+◌, decimal, ap, sym, arith, none-some}
 use Rattle.msrp_trace.proofs.FirstRows.{begins_next, core_found, digit_behind}
 use Rattle.msrp_trace.proofs.reading.TraceReader.core_ahead.Goals as goal
 

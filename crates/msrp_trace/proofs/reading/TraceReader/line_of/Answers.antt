@@ -1,4 +1,4 @@
-use Rattle.std.proofs.Common.{subst}
+use Rattle.msrp_plan.proofs.Common.{subst}
 use Rattle.msrp_text.specs.Lines.{HasRead}
 use Rattle.msrp_plan.specs.Bytes.{source_remaining}
 use Rattle.msrp_trace.proofs.reading.TraceReader.line_of.Goals as goal

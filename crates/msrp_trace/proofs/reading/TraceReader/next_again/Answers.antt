@@ -1,7 +1,6 @@
-use Rattle.std.proofs.Common.{◌≡◌, ◌%◌, Option, None, Some, Ok, true, option_map, slice_index_or, ap, subst, sym, ◌∙◌}
-use Rattle.std.specs.Option.{IfSome}
-use Rattle.msrp_plan.specs.Stretches.{in_tick}
+use Rattle.msrp_plan.proofs.Common.{◌≡◌, ◌%◌, Option, None, Some, Ok, true, option_map, slice_index_or, ap, subst, sym, ◌∙◌, in_tick}
 use Rattle.msrp_plan.specs.declared.rows.Row.{Row}
+use Rattle.std.specs.Option.{IfSome}
 use Rattle.msrp_trace.specs.Laws.{is_short}
 use Rattle.msrp_trace.specs.Reading.{Told}
 use Rattle.msrp_trace.specs.Readers.{GivesNext, told_left}

@@ -1,4 +1,4 @@
-use Rattle.std.proofs.Common.{decimal}
+use Rattle.msrp_plan.proofs.Common.{decimal}
 use Rattle.msrp_trace.proofs.Records.{comma_next}
 use Rattle.msrp_trace.proofs.text.Text.next_number.Goals as goal
 

@@ -1,5 +1,4 @@
-use Rattle.std.proofs.Common.{◌∙◌, ◌++◌, ap, arith, sym}
-use Rattle.std.proofs.lemmas.Fmt.{decimal_digit}
+use Rattle.msrp_plan.proofs.Common.{◌∙◌, ◌++◌, ap, arith, sym, decimal_digit}
 use Rattle.msrp_trace.proofs.text.Text.number.Goals as goal
 
 pub returns-then-number-lt10-clause-text : goal.returns-then-number-lt10-clause-text

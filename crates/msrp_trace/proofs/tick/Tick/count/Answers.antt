@@ -1,5 +1,4 @@
-use Rattle.std.proofs.Common.{◌<◌, ◌∙◌, length, arith, sym, subst}
-use Rattle.std.proofs.lemmas.Fmt.{decimal_nonempty}
+use Rattle.msrp_plan.proofs.Common.{◌<◌, ◌∙◌, length, arith, sym, subst, decimal_nonempty}
 use Rattle.msrp_trace.proofs.Counting.{counted_up}
 use Rattle.msrp_trace.proofs.tick.Tick.count.Goals as goal
 

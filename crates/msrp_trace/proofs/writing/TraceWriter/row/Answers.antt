@@ -1,4 +1,4 @@
-use Rattle.std.proofs.Common.{subst}
+use Rattle.msrp_plan.proofs.Common.{subst}
 use Rattle.msrp_trace.specs.Gathering.{Gathers, WriterModel}
 use Rattle.msrp_trace.specs.TraceText.{row_text}
 use Rattle.msrp_trace.proofs.Gathered.{gathers-as}

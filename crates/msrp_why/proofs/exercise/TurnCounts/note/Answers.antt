@@ -1,7 +1,5 @@
-use Rattle.std.proofs.Common.{[], ap, subst, ◌∙◌}
+use Rattle.msrp_plan.proofs.Common.{[], ap, subst, ◌∙◌, IsLegal, each_at}
 use Rattle.msrp_core.specs.CoreStates.{IsCoreState}
-use Rattle.msrp_plan.specs.Runs.{IsLegal}
-use Rattle.msrp_plan.proofs.Lists.Prefixes.{each_at}
 use Rattle.msrp_why.specs.Exercise.{one_if}
 use Rattle.msrp_why.specs.declared.exercise.TurnCounts.{TurnCounts}
 use Rattle.msrp_why.proofs.Deciding.{tick_is}

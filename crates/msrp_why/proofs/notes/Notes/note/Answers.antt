@@ -1,8 +1,4 @@
-use Rattle.std.proofs.Common.{◌≡◌, ◌++◌, ◌∷◌, [], Some, length, refl, sym, subst, ◌∙◌, arith, slice_get}
-use Rattle.std.proofs.lemmas.Option.{slice_get_read}
-use Rattle.msrp_plan.specs.Runs.{IsLegal}
-use Rattle.msrp_plan.proofs.Legality.LegalRows.{legal_due}
-use Rattle.msrp_plan.proofs.Lists.Prefixes.{each_at}
+use Rattle.msrp_plan.proofs.Common.{◌≡◌, ◌++◌, ◌∷◌, [], Some, length, refl, sym, subst, ◌∙◌, arith, slice_get, slice_get_read, IsLegal, legal_due, each_at}
 use Rattle.msrp_why.specs.Exercise.{AreTurnCounts}
 use Rattle.msrp_why.specs.Inside.Sections.{AreSections}
 use Rattle.msrp_why.specs.Noted.{AreCoresNoted}

@@ -1,7 +1,4 @@
-use Rattle.std.proofs.Common.{◌≡◌, ◌<◌, ◌∷◌, [], ℕ, Some, true, length, length-append, refl, sym, ◌∙◌, subst, arith, slice_get}
-use Rattle.std.proofs.lemmas.List.{length-set}
-use Rattle.std.proofs.lemmas.Option.{slice_get_read}
-use Rattle.msrp_plan.specs.Queues.{is_request}
+use Rattle.msrp_plan.proofs.Common.{◌≡◌, ◌<◌, ◌∷◌, [], ℕ, Some, true, length, length-append, refl, sym, ◌∙◌, subst, arith, slice_get, length-set, slice_get_read, is_request}
 use Rattle.msrp_why.specs.Noted.{last_with, queue_with}
 use Rattle.msrp_why.specs.declared.notes.ResourceNotes.{ResourceNotes}
 use Rattle.msrp_why.proofs.Noting.{each_on, noted_off, noted_past, last_row_push, one_more}

@@ -1,5 +1,4 @@
-use Rattle.std.proofs.Common.{◌≡◌, Some, length, refl, subst, slice_get}
-use Rattle.std.proofs.lemmas.Option.{slice_get_read}
+use Rattle.msrp_plan.proofs.Common.{◌≡◌, Some, length, refl, subst, slice_get, slice_get_read}
 use Rattle.msrp_why.proofs.notes.Notes.state.Goals as goal
 
 pub returns : goal.returns

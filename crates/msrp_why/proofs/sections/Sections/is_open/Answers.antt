@@ -1,7 +1,6 @@
-use Rattle.std.proofs.Common.{◌≡◌, ◌<◌, Bool, List, Global, Some, Vec, length, refl, ap, sym, ◌∙◌, subst, lt-ltb, slice_get}
+use Rattle.msrp_plan.proofs.Common.{◌≡◌, ◌<◌, Bool, List, Global, Some, Vec, length, refl, ap, sym, ◌∙◌, subst, slice_get, true≢false, slice_get-map, slice_get_read}
+use Rattle.std.proofs.Common.{lt-ltb}
 use Rattle.std.specs.Option.{option_map}
-use Rattle.std.proofs.Math.Bool.{true≢false}
-use Rattle.std.proofs.lemmas.Option.{slice_get-map, slice_get_read}
 use Rattle.msrp_why.proofs.sections.Sections.is_open.Goals as goal
 
 pub returns-in-Some : goal.returns-in-Some

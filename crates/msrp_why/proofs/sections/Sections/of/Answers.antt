@@ -1,7 +1,5 @@
-use Rattle.std.proofs.Common.{◌≡◌, ◌≤◌, ◌+◌, ◌∷◌, [], ℕ, Bool, Global, List, Some, Vec, ap, sym, subst, ◌∙◌, arith, length, length-append, map, slice_get}
-use Rattle.std.proofs.lemmas.List.{length-map, map_push}
-use Rattle.msrp_plan.specs.Plan.{task_at}
-use Rattle.msrp_plan.proofs.Lists.AnyAll.{places_push}
+use Rattle.msrp_plan.proofs.Common.{◌≡◌, ◌≤◌, ◌+◌, ◌∷◌, [], ℕ, Bool, Global, List, Some, Vec, ap, sym, subst, ◌∙◌, arith, length, length-append, map, slice_get, length-map, task_at, places_push}
+use Rattle.std.proofs.lemmas.List.{map_push}
 use Rattle.msrp_why.specs.Inside.Sections.{AreOpen}
 use Rattle.msrp_why.proofs.sections.Sections.of.Goals as goal
 

@@ -1,4 +1,4 @@
-use Rattle.std.proofs.Common.{rules}
+use Rattle.msrp_plan.proofs.Common.{rules}
 use Rattle.std.proofs.lemmas.Fn.{filter_same}
 use Rattle.msrp_report.proofs.tallies.active.CoreJobs.finish.Goals as goal
 

@@ -1,11 +1,6 @@
-use Rattle.std.proofs.Common.{◌+◌, ◌≤◌, ◌&&◌, cond, Some, take, get_or, length, sym, subst}
-use Rattle.std.specs.List.{AllByRecursion}
-use Rattle.std.proofs.lemmas.List.{take_all}
-use Rattle.std.proofs.lemmas.List.Elements.{All-get_or, All-from_recursion}
-use Rattle.std.proofs.lemmas.List.Folds.{list_any_more}
-use Rattle.msrp_plan.specs.Choice.{comes_first, is_before}
-use Rattle.msrp_plan.specs.Jobs.{same_job}
+use Rattle.msrp_plan.proofs.Common.{◌+◌, ◌≤◌, ◌&&◌, cond, Some, take, get_or, length, sym, subst, AllByRecursion, take_all, All-from_recursion, list_any_more, comes_first, is_before, same_job}
 use Rattle.msrp_plan.specs.declared.ids.JobId.{JobId}
+use Rattle.std.proofs.lemmas.List.Elements.{All-get_or}
 use Rattle.msrp_report.specs.Inside.Tallies.{IsFirstOf, IsKnown}
 use Rattle.msrp_report.proofs.Active.{first_is, first_none, first_step}
 use Rattle.msrp_report.proofs.tallies.active.CoreJobs.first_later.Goals as goal

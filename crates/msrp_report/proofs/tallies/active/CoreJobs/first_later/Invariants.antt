@@ -1,4 +1,4 @@
-use Rattle.std.proofs.Common.{IfSome, take}
+use Rattle.msrp_plan.proofs.Common.{IfSome, take}
 use Rattle.msrp_report.specs.Inside.Tallies.{IsFirstOf, IsKnown}
 use Rattle.msrp_report.proofs.tallies.active.CoreJobs.first_later.Given as goal
 
