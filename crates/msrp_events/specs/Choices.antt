@@ -1,0 +1,42 @@
+-- Which job a core should run after some events: earliest deadline first under the Stack Resource Policy, as in a plan's ticks.
+use Rattle.std.specs.Prelude.{ℕ, List, Bool, true, ◌&&◌, not, nat_lt, Option, Some, None, if◌then◌else◌, filter}
+use Rattle.std.specs.List.{list_any}
+use Rattle.std.specs.Option.{option_map}
+use Rattle.std.specs.Ordering.{is_lt}
+use Rattle.msrp_plan.specs.Plan.{PlanModel}
+use Rattle.msrp_plan.specs.Levels.{level}
+use Rattle.msrp_plan.specs.Ceiling.{ceiling_with}
+use Rattle.msrp_plan.specs.Choice.{key_cmp, least}
+use Rattle.msrp_plan.specs.declared.ids.JobId.{JobId}
+use Rattle.msrp_events.specs.LiveJobs.{live_key, is_on, holds}
+use Rattle.msrp_events.specs.declared.states.LiveJob.{LiveJob}
+
+-- keys compare part by part, the absolute deadline first
+abbrev pub is_before : PlanModel → LiveJob → LiveJob → Bool
+is_before system i j = is_lt (key_cmp (live_key system i) (live_key system j))
+
+-- the first job of the core that no core has switched to
+abbrev pub head : PlanModel → List LiveJob → ℕ → Option LiveJob
+head system jobs c = least (is_before system) (filter (λ j. is_on system c j && not j.started) jobs)
+
+-- the first job of the core that is started
+abbrev pub running : PlanModel → List LiveJob → ℕ → Option LiveJob
+running system jobs c = least (is_before system) (filter (λ j. is_on system c j && j.started) jobs)
+
+-- the current ceiling of the core: by the resources that its jobs hold, and whether one of them waits for a global one
+abbrev pub ceiling : PlanModel → List LiveJob → ℕ → ℕ
+ceiling system jobs c = ceiling_with system c (list_any (λ j. is_on system c j && j.waits) jobs) (λ g. list_any (λ j. is_on system c j && holds system g j) jobs)
+
+-- the job comes before another, if there is one
+abbrev pub comes_first : PlanModel → LiveJob → Option LiveJob → Bool
+comes_first system h None = true
+comes_first system h (Some s) = is_before system h s
+
+-- the head where its level is above the ceiling and it comes before who is started; else who is started
+abbrev pub chosen : PlanModel → ℕ → Option LiveJob → Option LiveJob → Option LiveJob
+chosen system above None s = s
+chosen system above (Some h) s = if nat_lt above (level system h.job.task.0) && comes_first system h s then Some h else s
+
+-- the job that the core should run, or none
+abbrev pub choice : PlanModel → List LiveJob → ℕ → Option JobId
+choice system jobs c = option_map (λ j. j.job) (chosen system (ceiling system jobs c) (head system jobs c) (running system jobs c))

@@ -1,0 +1,6 @@
+pub mod LiveJobs
+pub mod Choices
+pub mod Changes
+pub mod Rules
+pub mod Findings
+pub mod Examples

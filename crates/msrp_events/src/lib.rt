@@ -1,0 +1,14 @@
+//! A kernel's log as events with times, and the definitions of what a legal one is.
+//!
+//! `specs/` has the state after a list of events, the rules and the first finding. `docs/LOG.md` leads through it.
+//! [`laws`] are theorems about these definitions, and [`worked`] are examples of them.
+#![tactic(auto)]
+
+mod events;
+mod findings;
+mod states;
+pub mod worked;
+
+pub use events::{Action, Event, LockAction};
+pub use findings::{Finding, LogRule, Missing};
+pub use states::{CoreLog, LiveJob, Tolerances};

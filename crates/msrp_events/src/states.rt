@@ -1,0 +1,46 @@
+//! What is known after some events of a log, and how exact its times are.
+use msrp_plan::JobId;
+
+/// A job that is released and has not ended.
+#[derive(Clone, Copy, Debug, PartialEq, Eq)]
+pub struct LiveJob {
+    pub job: JobId,
+    /// The absolute deadline in ns.
+    pub deadline: u64,
+    /// Whether a core has switched to it.
+    pub started: bool,
+    /// Whether it waits for the global resource that it locks next.
+    pub waits: bool,
+    /// How many of its locks and unlocks it has done.
+    pub step: u32,
+}
+
+/// What is known of one core. All times are in ns.
+#[derive(Clone, Copy, Debug, PartialEq, Eq)]
+pub struct CoreLog {
+    /// Whether its log has begun.
+    pub booted: bool,
+    /// The time of its last record.
+    pub time: u64,
+    /// The number of its last record.
+    pub number: Option<u64>,
+    /// The job that runs.
+    pub run: Option<JobId>,
+    /// Since when the choice has differed from the job that runs.
+    pub since: Option<u64>,
+    /// When the core last did something with a resource.
+    pub acted: Option<u64>,
+}
+
+/// How exact the times of a log are, in ns, and how many jobs it may keep open.
+#[derive(Clone, Copy, Debug, PartialEq, Eq)]
+pub struct Tolerances {
+    /// How long an operation on a resource takes. The core can't switch meanwhile.
+    pub operation: u32,
+    /// How long the kernel may take to react.
+    pub slack: u32,
+    /// How much the clocks of two cores may differ.
+    pub skew: u32,
+    /// How many jobs may be released and not ended at once.
+    pub backlog: u32,
+}
