@@ -1,0 +1,2 @@
+pub mod FirstFindings
+pub mod WiderTolerances

@@ -1,5 +1,5 @@
 -- The order of judging: the first line that an event breaks is what it shows. The first event that shows something decides.
-use Rattle.std.specs.Prelude.{ℕ, List, [], ◌∷◌, Bool, true, false, ◌==◌, ◌&&◌, not, nat_lt, nat_le, Option, Some, None, if◌then◌else◌, length, ◌+◌}
+use Rattle.std.specs.Prelude.{ℕ, List, [], ◌∷◌, Bool, true, false, ◌==◌, not, nat_lt, nat_le, Option, Some, None, if◌then◌else◌, length, ◌+◌}
 use Rattle.std.specs.Option.{option_or}
 use Rattle.msrp_plan.specs.Plan.{PlanModel, core_of}
 use Rattle.msrp_plan.specs.Jobs.{is_job}
@@ -13,9 +13,9 @@ use Rattle.msrp_events.specs.declared.states.LiveJob.{LiveJob}
 use Rattle.msrp_events.specs.declared.states.CoreLog.{CoreLog}
 use Rattle.msrp_events.specs.declared.states.Tolerances.{Tolerances}
 use Rattle.msrp_events.specs.declared.events.Action.{Action}
-use Rattle.msrp_events.specs.declared.events.Action.TheVariants.{Boot, Release, Switch, Step, End, Stop, Lost}
+use Rattle.msrp_events.specs.declared.events.Action.TheVariants.{Boot, Release, Switch, Step, End, Lost}
 use Rattle.msrp_events.specs.declared.events.LockAction.{LockAction}
-use Rattle.msrp_events.specs.declared.events.LockAction.TheVariants.{Lock, Unlock, Request, Acquire, Poll, Freed}
+use Rattle.msrp_events.specs.declared.events.LockAction.TheVariants.{Acquire}
 use Rattle.msrp_events.specs.declared.events.Event.{Event}
 use Rattle.msrp_events.specs.declared.findings.Finding.{Finding}
 use Rattle.msrp_events.specs.declared.findings.Finding.TheVariants.{Fault, Incomplete}

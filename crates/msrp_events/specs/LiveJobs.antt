@@ -1,6 +1,6 @@
 -- The jobs that are released and have not ended, and what each of them holds and awaits. A system is a plan without
 -- ticks and release times: its deadlines are in ns, and the units of its tasks are locks and unlocks alone.
-use Rattle.std.specs.Prelude.{ℕ, List, Bool, false, ◌==◌, ◌&&◌, Option, Some, None, take, slice_get, slice_index_or, ◌-◌}
+use Rattle.std.specs.Prelude.{ℕ, List, Bool, false, ◌==◌, ◌&&◌, Option, Some, None, take, slice_get, ◌-◌}
 use Rattle.std.specs.List.{list_any, position}
 use Rattle.std.specs.Option.{option_and_then}
 use Rattle.msrp_plan.specs.Plan.{PlanModel, task_of, core_of, units}

@@ -1,15 +1,13 @@
 -- The rules of a legal log, and what a log may lack. Each is a test of one event after some others.
-use Rattle.std.specs.Prelude.{ℕ, List, Bool, true, false, ◌==◌, ◌&&◌, ◌||◌, not, nat_lt, nat_le, is_some, Option, Some, None, if◌then◌else◌, length, ◌+◌, find}
+use Rattle.std.specs.Prelude.{ℕ, List, Bool, true, false, ◌==◌, ◌&&◌, ◌||◌, not, nat_lt, nat_le, is_some, Option, Some, None, length, ◌+◌, find}
 use Rattle.std.specs.List.{list_any, range_with_len}
 use Rattle.std.specs.Option.{option_map}
-use Rattle.msrp_plan.specs.Plan.{PlanModel, core_of, units}
-use Rattle.msrp_plan.specs.Jobs.{same_job, is_job}
+use Rattle.msrp_plan.specs.Plan.{PlanModel, units}
+use Rattle.msrp_plan.specs.Jobs.{is_job}
 use Rattle.msrp_plan.specs.Levels.{is_global}
-use Rattle.msrp_plan.specs.Runs.{same_choice}
 use Rattle.msrp_plan.specs.declared.ids.JobId.{JobId}
 use Rattle.msrp_events.specs.LiveJobs.{next_unit, locks_next, unlocks_next, awaits, is_held}
-use Rattle.msrp_events.specs.Choices.{choice}
-use Rattle.msrp_events.specs.Changes.{LogState, core_at}
+use Rattle.msrp_events.specs.Changes.{core_at}
 use Rattle.msrp_events.specs.declared.states.LiveJob.{LiveJob}
 use Rattle.msrp_events.specs.declared.states.CoreLog.{CoreLog}
 use Rattle.msrp_events.specs.declared.states.Tolerances.{Tolerances}

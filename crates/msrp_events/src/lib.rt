@@ -6,6 +6,7 @@
 
 mod events;
 mod findings;
+pub mod laws;
 mod states;
 pub mod worked;
 

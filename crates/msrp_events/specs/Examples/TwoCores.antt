@@ -1,7 +1,6 @@
 -- Two cores: hi and lo share cal, so lo holds hi up while it has cal; lo and far, of another core, share bus. An
 -- operation takes 1 ns, and the kernel reacts within 2 ns.
 use Rattle.std.specs.Prelude.{ℕ, List, [], ◌∷◌, ◌++◌, codes}
-use Rattle.std.specs.Prelude as list
 use Rattle.msrp_plan.specs.Plan.{PlanModel}
 use Rattle.msrp_plan.specs.Examples.Notation.{job, locks, unlocks}
 use Rattle.msrp_plan.specs.declared.ids.JobId.{JobId}

@@ -1,0 +1,22 @@
+//! Laws on logs, over every system, every tolerance and all events. Each function does nothing; its contract is the law.
+ghost use Rattle.std.specs.Prelude.{◌≡◌, ◌++◌, List, Some};
+ghost use Rattle.msrp_plan.specs.Plan.{PlanModel};
+ghost use Rattle.msrp_events.specs.Changes.{LogState, state_from};
+ghost use Rattle.msrp_events.specs.Findings.{finding_from};
+ghost use Rattle.msrp_events.specs.Laws.{AreWider, IsLegalFrom, IsLegalLog};
+ghost use Rattle.msrp_events.specs.declared.events.Event.{Event as LogEvent};
+ghost use Rattle.msrp_events.specs.declared.findings.Finding.{Finding as Found};
+ghost use Rattle.msrp_events.specs.declared.states.Tolerances.{Tolerances as Tolerated};
+
+/// Windows: what a log shows after a legal start is what its rest shows from the state after that start. After a start
+/// that shows something the rest changes nothing.
+pub fn windows()
+    ensures rest { (system : PlanModel) (tolerances : Tolerated) (s : LogState) (start rest : List LogEvent) → IsLegalFrom system tolerances s start → finding_from system tolerances s (start ++ rest) ≡ finding_from system tolerances (state_from system s start) rest }
+    ensures start { (system : PlanModel) (tolerances : Tolerated) (s : LogState) (start rest : List LogEvent) (found : Found) → finding_from system tolerances s start ≡ Some found → finding_from system tolerances s (start ++ rest) ≡ Some found }
+{}
+
+/// Tolerance is monotone: a log that is legal with some tolerances is legal with greater ones.
+pub fn tolerance()
+    ensures log { (system : PlanModel) (narrow wide : Tolerated) (events : List LogEvent) → AreWider narrow wide → IsLegalLog system narrow events → IsLegalLog system wide events }
+    ensures window { (system : PlanModel) (narrow wide : Tolerated) (s : LogState) (events : List LogEvent) → AreWider narrow wide → IsLegalFrom system narrow s events → IsLegalFrom system wide s events }
+{}
