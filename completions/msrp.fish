@@ -9,7 +9,7 @@ complete -c msrp -n "not __fish_seen_subcommand_from $commands" -a check -d 'pre
 complete -c msrp -n "not __fish_seen_subcommand_from $commands" -a help -d 'the commands, or the flags of one'
 complete -c msrp -n '__fish_seen_subcommand_from sim' -l order -x -a 'asc desc rot' -d 'the order of the cores in each tick'
 complete -c msrp -n '__fish_seen_subcommand_from sim run' -l ahead -d 'tell how many are ahead of each request'
-complete -c msrp -n '__fish_seen_subcommand_from audit' -l parallel -d 'judge the parts of the trace side by side'
+complete -c msrp -n '__fish_seen_subcommand_from audit' -l parallel -d 'judge in a second way, to check a verdict'
 complete -c msrp -n '__fish_seen_subcommand_from check' -l text -d 'write the plan itself'
 complete -c msrp -n '__fish_seen_subcommand_from help' -f -a 'sim run audit report check'
 complete -c msrp -l help -s h -d 'print help'

@@ -1,5 +1,5 @@
 -- A core followed by its own rows: the row against the turn of its machine, which answers as the row says.
-use Rattle.msrp_plan.proofs.Common.{◌≡◌, ℕ, zero, suc, Bool, true, false, cond, List, [], ◌∷◌, ◌++◌, Option, Some, None, refl, ap, sym, ◌∙◌, subst, is_some, inl, inr, ◌⊎◌, ForSome, true≢false, and-false, cases_Bool, and_parts, PlanModel, has_shape, is_queued, is_global, allows, same_res, log_of, kind_of_call, IsRunStart, IsCoreTurn, had_turn, is_in_turn, is_of_core, is_on_core, is_chosen, is_next_action, same_choice, IsPlan, IsTurn, due, turn_of, idle_res, same_res_is, same_choice_is, own_from_legal, log_own}
+use Rattle.msrp_plan.proofs.Common.{◌≡◌, ℕ, zero, suc, Bool, true, false, cond, List, [], ◌∷◌, ◌++◌, Option, Some, None, refl, ap, sym, ◌∙◌, subst, is_some, inl, inr, ForSome, true≢false, and-false, cases_Bool, and_parts, PlanModel, has_shape, is_queued, is_global, allows, same_res, log_of, kind_of_call, IsRunStart, IsCoreTurn, had_turn, is_in_turn, is_of_core, is_chosen, is_next_action, same_choice, IsPlan, IsTurn, due, turn_of, idle_res, same_res_is, same_choice_is, own_from_legal, log_own}
 use Rattle.msrp_plan.specs.declared.faults.Rule.TheVariants.{A2, A3, A4}
 use Rattle.msrp_plan.specs.declared.ids.JobId.{JobId}
 use Rattle.msrp_plan.specs.declared.ids.ResId.{ResId}
@@ -100,11 +100,6 @@ kinds_same plan c log r s old new turn call answered same = by_res s.res refl
       | inr loc ↦ plain_same r.kind s.kind (local_turn_asks plan log s res s.job refl (turn_of plan log s turn.own turn.chosen turn.action) e loc) same
     ]
 
--- so a turn on no resource, or as the row says, has the row's answer
-pub known_same : (plan : PlanModel) (c : ℕ) (log : List Row) (k : Kind) (s : Row) → IsCoreTurn plan c log s → (s.res ≡ None) ⊎ (k ≡ s.kind) → same_action k s.kind ≡ true → k ≡ s.kind
-known_same plan c log k s turn (inl none) same = plain_same k s.kind (none_asks s.kind s.job (subst (λ g. has_shape s.kind s.job g ≡ true) none s.shape)) same
-known_same plan c log k s turn (inr is) same = is
-
 -- the row names the same job, and does the same
 none_broken : (a b : Bool) → cond a (cond b None (Some A4)) (Some A3) ≡ None → (a ≡ true) × (b ≡ true)
 none_broken true true h = (refl, refl)
@@ -130,12 +125,6 @@ module _ (plan : PlanModel) (rows : List Row) (r s : Row) (ok : IsPlan plan) (st
       by_choice (same_choice r.job s.job) refl
       ∙ (ap (λ b. cond b (cond (is_next_action plan rows r) None (Some A4)) (Some A3)) (sym (chosen_alike plan rows r s is_turn tick (sym made.core)))
       ∙ ap (λ b. cond b (cond (is_chosen plan rows r) (cond (is_next_action plan rows r) None (Some A4)) (Some A3)) (Some A2)) (sym own))
-
-  -- a row as the turn has a job of its core
-  pub own_by : unlike_turn r s ≡ None → is_of_core plan r ≡ true
-  own_by none =
-      let job = same_choice_is r.job s.job (none_broken (same_choice r.job s.job) (does_alike r s) none).0 in
-      ap (is_on_core plan r.core.0) job ∙ (ap (λ c. is_on_core plan c s.job) (sym made.core) ∙ made.own)
 
 -- a row that breaks none of these rules leaves the machine as its turn did
 pub stands_on : (x : MachineModel) (rows : List Row) (r s : Row) → unlike_turn r s ≡ None → (same_action r.kind s.kind ≡ true → r.kind ≡ s.kind) → StandsAfter x (log_of r.core.0 rows ++ s ∷ []) → StandsAfter x (log_of r.core.0 (rows ++ r ∷ []))

@@ -1,18 +1,18 @@
 -- The earliest of the pieces' answers is the first fault of the rows.
-use Rattle.msrp_plan.proofs.Common.{append_assoc, min, map, Ok, IfOk, Result, get_or, ◌⊎◌, ◌≡◌, ℕ, zero, suc, ◌+◌, ◌-◌, ◌*◌, ◌/◌, ◌%◌, ◌<◌, ◌≤◌, ◌==◌, ◌&&◌, nat_lt, Bool, true, false, cond, List, [], ◌∷◌, ◌++◌, Option, Some, None, IfSome, fold, refl, ap, sym, ◌∙◌, subst, arith, length, length-append, take, drop, inl, inr, eq-eqb, eqb-true, option_or, AllByRecursion, range_with_len, true≢false, mul-le-mul_left, mul-le-mul_right, cases_Bool, cases_lt, cases_eq, lt-ltb, le-ltb, le-leb, div-add-mod', div-mul-add, div_below, mod_below, take_at, get_or_at, take_all, take-append-drop, length-take-le, PlanModel, is_global, is_of, is_on, fifo, replies, counts, IsLegal, IsRunStart, EachAfter, is_in_turn, is_of_core, is_chosen, is_next_action, is_fifo_reply, replies_on, broken, refused, fault_or, fault_in, missing, verdict, IsPlan, due, turn_of, unbroken_is_legal, start_before, start_last, early_is, fault_stays, get_or_from_slice_get, same_Some, slice_get_within, undeclared_local}
+use Rattle.msrp_plan.proofs.Common.{append_assoc, min, map, Ok, IfOk, Result, get_or, ◌⊎◌, ◌≡◌, ℕ, zero, suc, ◌+◌, ◌-◌, ◌*◌, ◌/◌, ◌%◌, ◌<◌, ◌≤◌, ◌==◌, ◌&&◌, nat_lt, Bool, true, false, cond, List, [], ◌∷◌, ◌++◌, Option, Some, None, IfSome, fold, refl, ap, sym, ◌∙◌, subst, arith, length, length-append, take, drop, inl, inr, eq-eqb, eqb-true, option_or, AllByRecursion, range_with_len, true≢false, mul-le-mul_left, cases_Bool, cases_lt, cases_eq, lt-ltb, le-ltb, le-leb, div-add-mod', div_below, mod_below, take_at, get_or_at, take_all, take-append-drop, length-take-le, PlanModel, is_global, is_of, is_on, fifo, replies, counts, IsLegal, IsRunStart, EachAfter, is_in_turn, is_of_core, is_chosen, is_next_action, is_fifo_reply, replies_on, broken, refused, fault_or, fault_in, missing, verdict, IsPlan, due, turn_of, unbroken_is_legal, start_before, start_last, early_is, fault_stays, same_Some, undeclared_local}
+use Rattle.std.proofs.Common.{MatchResult}
+use Rattle.std.specs.List.{AllZip}
+use Rattle.std.proofs.lemmas.List.{length-drop}
+use Rattle.msrp_plan.specs.Faults.{IsBroken}
+use Rattle.msrp_plan.specs.Verdict.{fault_from}
 use Rattle.msrp_plan.specs.declared.ids.CoreId.{CoreId}
 use Rattle.msrp_plan.specs.declared.ids.ResId.{ResId}
 use Rattle.msrp_plan.specs.declared.faults.Fault.{Fault}
 use Rattle.msrp_plan.specs.declared.faults.Rule.{Rule}
 use Rattle.msrp_plan.specs.declared.faults.Rule.TheVariants.{A1, A2, A3, A4, A5, A6, A7}
 use Rattle.msrp_plan.specs.declared.rows.Row.{Row}
-use Rattle.std.proofs.Common.{MatchResult}
-use Rattle.std.specs.List.{AllZip}
-use Rattle.std.proofs.lemmas.List.{length-drop}
-use Rattle.msrp_plan.specs.Faults.{IsBroken}
-use Rattle.msrp_plan.specs.Verdict.{fault_from}
 use Rattle.msrp_plan.proofs.Runs.Verdicts.{legal_is_unbroken, early_fault, fault_append, fault_of}
-use Rattle.msrp_audit.specs.Inside.Pieces.{DealsAll, HasDealt, parts, listed, listed_pieces, share_at, share_size, shares, piece_of, pieces_of, piece_with, part_size, is_in_part, broken_in, told_at, TellsFirst, rule_number, fault_order, earlier_of, earliest_of, length_fault_of}
+use Rattle.msrp_audit.specs.Inside.Pieces.{parts, pieces_of, piece_with, part_size, is_in_part, broken_in, told_at, TellsFirst, rule_number, fault_order, earlier_of, earliest_of, length_fault_of}
 use Rattle.msrp_audit.specs.declared.pieces.Piece.{Piece}
 use Rattle.msrp_audit.specs.declared.pieces.Piece.TheVariants.{Turns, Core, Resource}
 use Rattle.msrp_audit.proofs.Scanning.{split_length, start_at, IsSound}
@@ -74,31 +74,31 @@ sound plan p pre r legal = sound_by plan p pre r legal (broken_in plan p pre r) 
 -- ---- and each rule that is broken is found by a piece
 record IsFoundBy (plan : PlanModel) (pre : List Row) (r : Row) (rule : Rule) : Type 0 where
   number : ℕ
-  known : number < listed_pieces plan
-  finds : broken_in plan (listed plan number) pre r ≡ Some rule
+  known : number < pieces_of plan
+  finds : broken_in plan (piece_with plan number) pre r ≡ Some rule
 
-core_piece : (plan : PlanModel) (c : ℕ) → c < plan.cores → listed plan c ≡ Core (record { 0 = c })
+core_piece : (plan : PlanModel) (c : ℕ) → c < plan.cores → piece_with plan c ≡ Core (record { 0 = c })
 core_piece plan c low = rw (lt-ltb c plan.cores low) refl
 
-turns_piece : (plan : PlanModel) (part : ℕ) → part < parts plan → listed plan (plan.cores + part) ≡ Turns part
+turns_piece : (plan : PlanModel) (part : ℕ) → part < parts plan → piece_with plan (plan.cores + part) ≡ Turns part
 turns_piece plan part low =
     let n : plan.cores + part - plan.cores ≡ part = omega arith in
     rw (le-ltb (plan.cores + part) plan.cores (omega arith), n, lt-ltb part (parts plan) low) refl
 
-resource_piece : (plan : PlanModel) (g : ℕ) → listed plan (plan.cores + parts plan + g) ≡ Resource (record { 0 = g })
+resource_piece : (plan : PlanModel) (g : ℕ) → piece_with plan (plan.cores + parts plan + g) ≡ Resource (record { 0 = g })
 resource_piece plan g =
     let n : plan.cores + parts plan + g - plan.cores ≡ parts plan + g = omega arith in
     let k : parts plan + g - parts plan ≡ g = omega arith in
     rw (le-ltb (plan.cores + parts plan + g) plan.cores (omega arith), n, le-ltb (parts plan + g) (parts plan) (omega arith), k) refl
 
--- a piece of a core is of one of the plan's
-turns_at : (plan : PlanModel) (n : ℕ) → plan.cores ≤ n → n - plan.cores < parts plan → listed plan n ≡ Turns (n - plan.cores)
+-- a piece of a core or a resource is of one of the plan's
+turns_at : (plan : PlanModel) (n : ℕ) → plan.cores ≤ n → n - plan.cores < parts plan → piece_with plan n ≡ Turns (n - plan.cores)
 turns_at plan n high low = rw (le-ltb n plan.cores high, lt-ltb (n - plan.cores) (parts plan) low) refl
 
-resource_at : (plan : PlanModel) (n : ℕ) → plan.cores ≤ n → parts plan ≤ n - plan.cores → listed plan n ≡ Resource (record { 0 = n - plan.cores - parts plan })
+resource_at : (plan : PlanModel) (n : ℕ) → plan.cores ≤ n → parts plan ≤ n - plan.cores → piece_with plan n ≡ Resource (record { 0 = n - plan.cores - parts plan })
 resource_at plan n high past = rw (le-ltb n plan.cores high, le-ltb (n - plan.cores) (parts plan) past) refl
 
-pub core_known : (plan : PlanModel) (n : ℕ) (c : CoreId) → listed plan n ≡ Core c → c.0 < plan.cores
+pub core_known : (plan : PlanModel) (n : ℕ) (c : CoreId) → piece_with plan n ≡ Core c → c.0 < plan.cores
 core_known plan n c e = elim (cases_lt n plan.cores) [
   | inl low ↦ let same : Core (record { 0 = n }) ≡ Core c = sym (core_piece plan n low) ∙ e in let is : n ≡ c.0 = cc in omega (arith, is, low)
   | inr high ↦ elim (cases_lt (n - plan.cores) (parts plan)) [
@@ -107,52 +107,17 @@ core_known plan n c e = elim (cases_lt n plan.cores) [
   ]
 ]
 
-pub core_in : (plan : PlanModel) (order : List ℕ) (q : ℕ) (share : Option ℕ) (c : CoreId) → piece_of plan order q share ≡ Core c → c.0 < plan.cores
-core_in plan order q None c e = absurd (cc)
-core_in plan order q (Some share) c e = core_known plan (get_or order (q * shares + share) (listed_pieces plan)) c e
-
--- each share has a place
-abbrev place_of_share : ℕ → ℕ
-place_of_share r = r / 2 * 4 + r % 2 + 1
-
-has_place : (r : ℕ) → r < 4 → (share_at (place_of_share r) ≡ Some r) × (place_of_share r ≤ 6)
-has_place zero low = (refl, omega arith)
-has_place (suc zero) low = (refl, omega arith)
-has_place (suc (suc zero)) low = (refl, omega arith)
-has_place (suc (suc (suc zero))) low = (refl, omega arith)
-has_place (suc (suc (suc (suc r)))) low = absurd (omega (arith, low))
-
--- the place of a listed piece among those of all shares
-record IsDealt (plan : PlanModel) (order : List ℕ) (m : ℕ) : Type 0 where
-  place : ℕ
-  known : place < pieces_of order
-  is : piece_with plan order place ≡ listed plan m
-
-dealt : (plan : PlanModel) (order : List ℕ) (m : ℕ) → HasDealt order m → IsDealt plan order m
-dealt plan order m there =
-    let w = share_size order in
-    let i = there.0 in
-    let low : i < length order = slice_get_within order i m there.1 in
-    let q = i / 4 in
-    let r = i % 4 in
-    let whole : q * 4 + r ≡ i = div-add-mod' i 4 in
-    let rest : r < 4 = mod_below i 4 (omega arith) in
-    let above = div-add-mod' (length order) 4 in
-    let over = mod_below (length order) 4 (omega arith) in
-    let within : q < w = omega (arith, whole, above, over, low) in
-    let p = place_of_share r in
-    let has = has_place r rest in
-    let share : (p * w + q) / w ≡ p = div-mul-add p w q within in
-    let back : (p * w + q) / w * w + (p * w + q) % w ≡ p * w + q = div-add-mod' (p * w + q) w in
-    let kept : p * w + (p * w + q) % w ≡ p * w + q = subst (λ k. k * w + (p * w + q) % w ≡ p * w + q) share back in
-    let own : (p * w + q) % w ≡ q = omega (arith, kept) in
-    let most : p * w ≤ 6 * w = mul-le-mul_right w has.1 in
-    let number : get_or order (q * 4 + r) (listed_pieces plan) ≡ m = ap (λ k. get_or order k (listed_pieces plan)) whole ∙ get_or_from_slice_get order i m (listed_pieces plan) there.1 in
-    record {
-      place = p * w + q;
-      known = omega (arith, most, within);
-      is = ap (λ k. piece_of plan order k (share_at ((p * w + q) / w))) own ∙ (ap (λ k. piece_of plan order q (share_at k)) share ∙ (ap (piece_of plan order q) has.0 ∙ ap (listed plan) number));
-    }
+pub resource_known : (plan : PlanModel) (n : ℕ) (g : ResId) → n < pieces_of plan → piece_with plan n ≡ Resource g → g.0 < length plan.resources
+resource_known plan n g few e = elim (cases_lt n plan.cores) [
+  | inl low ↦ let no : Core (record { 0 = n }) ≡ Resource g = sym (core_piece plan n low) ∙ e in absurd (cc)
+  | inr high ↦ elim (cases_lt (n - plan.cores) (parts plan)) [
+    | inl low ↦ let no : Turns (n - plan.cores) ≡ Resource g = sym (turns_at plan n high low) ∙ e in absurd (cc)
+    | inr past ↦
+        let same : Resource (record { 0 = n - plan.cores - parts plan }) ≡ Resource g = sym (resource_at plan n high past) ∙ e in
+        let is : n - plan.cores - parts plan ≡ g.0 = cc in
+        omega (arith, is, high, past, few)
+  ]
+]
 
 -- a row that is due stands in a part of the ticks
 part_of : (plan : PlanModel) (n : ℕ) → 0 < plan.cores → n < plan.cores * plan.ticks → (part : ℕ) × (part < parts plan) × (is_in_part plan part n ≡ true)
@@ -371,50 +336,47 @@ module _ (plan : PlanModel) (rows : List Row) where
         ]
       ]
 
-  module _ (order : List ℕ) (deals : DealsAll plan order) where
-    -- the piece of that number tells so
-    abbrev Tells : ℕ → Option Fault → Type 0
-    Tells n o = TellsFirst plan (broken_in plan (piece_with plan order n)) rows o
+  -- the piece of that number tells so
+  abbrev Tells : ℕ → Option Fault → Type 0
+  Tells n o = TellsFirst plan (broken_in plan (piece_with plan n)) rows o
 
-    all_silent : IsRunStart plan rows → (ns : List ℕ) (os : List (Option Fault)) → AllZip Tells ns os → AllByRecursion (λ o. o ≡ None) os
-    all_silent start [] [] z = tt
-    all_silent start [] (o ∷ os) z = absurd z
-    all_silent start (n ∷ ns) [] z = absurd z
-    all_silent start (n ∷ ns) (o ∷ os) z = (silent (piece_with plan order n) start o z.0, all_silent start ns os z.1)
+  all_silent : IsRunStart plan rows → (ns : List ℕ) (os : List (Option Fault)) → AllZip Tells ns os → AllByRecursion (λ o. o ≡ None) os
+  all_silent start [] [] z = tt
+  all_silent start [] (o ∷ os) z = absurd z
+  all_silent start (n ∷ ns) [] z = absurd z
+  all_silent start (n ∷ ns) (o ∷ os) z = (silent (piece_with plan n) start o z.0, all_silent start ns os z.1)
 
-    all_behind : (f : Fault) → IsBroken plan rows f → (ns : List ℕ) (os : List (Option Fault)) → AllZip Tells ns os → AllByRecursion (AtLeast f) os
-    all_behind f b [] [] z = tt
-    all_behind f b [] (o ∷ os) z = absurd z
-    all_behind f b (n ∷ ns) [] z = absurd z
-    all_behind f b (n ∷ ns) (o ∷ os) z = (behind (piece_with plan order n) f b o z.0, all_behind f b ns os z.1)
+  all_behind : (f : Fault) → IsBroken plan rows f → (ns : List ℕ) (os : List (Option Fault)) → AllZip Tells ns os → AllByRecursion (AtLeast f) os
+  all_behind f b [] [] z = tt
+  all_behind f b [] (o ∷ os) z = absurd z
+  all_behind f b (n ∷ ns) [] z = absurd z
+  all_behind f b (n ∷ ns) (o ∷ os) z = (behind (piece_with plan n) f b o z.0, all_behind f b ns os z.1)
 
-    one_has : (f : Fault) (k a n : ℕ) (os : List (Option Fault)) → AllZip Tells (range_with_len a n) os → a ≤ k → k < a + n → ((o : Option Fault) → Tells k o → o ≡ Some f) → HasFault f os
-    one_has f k a zero os z low high is = absurd (omega (arith, low, high))
-    one_has f k a (suc n) [] z low high is = absurd z
-    one_has f k a (suc n) (o ∷ os) z low high is = elim (cases_eq a k) [
-      | inl e ↦ inl (is o (subst (λ m. Tells m o) e z.0))
-      | inr ne ↦ inr (one_has f k (a + 1) n os z.1 (omega (arith, low, ne)) (omega (arith, high)) is)
-    ]
+  one_has : (f : Fault) (k a n : ℕ) (os : List (Option Fault)) → AllZip Tells (range_with_len a n) os → a ≤ k → k < a + n → ((o : Option Fault) → Tells k o → o ≡ Some f) → HasFault f os
+  one_has f k a zero os z low high is = absurd (omega (arith, low, high))
+  one_has f k a (suc n) [] z low high is = absurd z
+  one_has f k a (suc n) (o ∷ os) z low high is = elim (cases_eq a k) [
+    | inl e ↦ inl (is o (subst (λ m. Tells m o) e z.0))
+    | inr ne ↦ inr (one_has f k (a + 1) n os z.1 (omega (arith, low, ne)) (omega (arith, high)) is)
+  ]
 
-    first_by : (faults : List (Option Fault)) → IsPlan plan → length rows ≤ plan.cores * plan.ticks → AllZip Tells (range_with_len 0 (pieces_of order)) faults → (o : Option Fault) → fault_in plan rows ≡ o → earliest_of faults ≡ o
-    first_by faults ok within z None e = none_earliest faults (all_silent (record { size = within; each = no_fault plan [] rows within e }) (range_with_len 0 (pieces_of order)) faults z)
-    first_by faults ok within z (Some f) e = elim (early_fault plan rows f e) [
-      | inl b ↦
-          let it = found plan b.before b.broke f.rule ok b.due b.rule in
-          let at = dealt plan order it.number (deals it.number it.known) in
-          let known = at.known in
-          let finds = ap (λ p. broken_in plan p b.before b.broke) at.is ∙ it.finds in
-          least f None faults tt (all_behind f b (range_with_len 0 (pieces_of order)) faults z)
-          (inr (one_has f at.place 0 (pieces_of order) faults z (omega arith) (omega (arith, known)) (λ o tells. told_is (length b.before + 1) o f.rule (tells.told b.before b.broke b.behind b.place b.start ∙ finds) f b.number refl)))
-      | inr extra ↦
-          let size = split_length rows extra.before extra.behind extra.extra extra.place in
-          let all = extra.run.size in
-          absurd (omega (arith, size, all, within))
-    ]
+  first_by : (faults : List (Option Fault)) → IsPlan plan → length rows ≤ plan.cores * plan.ticks → AllZip Tells (range_with_len 0 (pieces_of plan)) faults → (o : Option Fault) → fault_in plan rows ≡ o → earliest_of faults ≡ o
+  first_by faults ok within z None e = none_earliest faults (all_silent (record { size = within; each = no_fault plan [] rows within e }) (range_with_len 0 (pieces_of plan)) faults z)
+  first_by faults ok within z (Some f) e = elim (early_fault plan rows f e) [
+    | inl b ↦
+        let it = found plan b.before b.broke f.rule ok b.due b.rule in
+        let known = it.known in
+        least f None faults tt (all_behind f b (range_with_len 0 (pieces_of plan)) faults z)
+        (inr (one_has f it.number 0 (pieces_of plan) faults z (omega arith) (omega (arith, known)) (λ o tells. told_is (length b.before + 1) o f.rule (tells.told b.before b.broke b.behind b.place b.start ∙ it.finds) f b.number refl)))
+    | inr extra ↦
+        let size = split_length rows extra.before extra.behind extra.extra extra.place in
+        let all = extra.run.size in
+        absurd (omega (arith, size, all, within))
+  ]
 
-    -- the earliest of all answers is the first fault
-    pub first_is : (faults : List (Option Fault)) → IsPlan plan → length rows ≤ plan.cores * plan.ticks → AllZip Tells (range_with_len 0 (pieces_of order)) faults → earliest_of faults ≡ fault_in plan rows
-    first_is faults ok within z = first_by faults ok within z (fault_in plan rows) refl
+  -- the earliest of all answers is the first fault
+  pub first_is : (faults : List (Option Fault)) → IsPlan plan → length rows ≤ plan.cores * plan.ticks → AllZip Tells (range_with_len 0 (pieces_of plan)) faults → earliest_of faults ≡ fault_in plan rows
+  first_is faults ok within z = first_by faults ok within z (fault_in plan rows) refl
 
 -- ---- the whole trace
 -- a fault of the rows that are due is the verdict

@@ -1,5 +1,5 @@
 -- The piece of a core goes over the rows: those of the core, and the others.
-use Rattle.msrp_plan.proofs.Common.{◌≡◌, ◌≢◌, ℕ, ◌+◌, ◌<◌, ◌≤◌, zero, suc, arith, drop, inl, inr, ◌&&◌, Bool, true, false, cond, List, [], ◌∷◌, ◌++◌, Option, Some, None, refl, ap, sym, ◌∙◌, subst, length, take, get_or, eq-eqb, eqb-true, true≢false, and_parts, cases_Bool, cases_lt, drop_more, length-take-le, take-append-drop, take_all, take_more, PlanModel, log_of, IsRunStart, is_in_turn, not_equal, log_other, start_before, start_last, is_of}
+use Rattle.msrp_plan.proofs.Common.{◌≡◌, ◌≢◌, ℕ, ◌+◌, ◌<◌, ◌&&◌, Bool, true, false, cond, List, [], ◌∷◌, ◌++◌, Option, Some, None, refl, ap, sym, ◌∙◌, subst, length, take, get_or, eq-eqb, true≢false, PlanModel, log_of, IsRunStart, is_in_turn, not_equal, log_other, start_before}
 use Rattle.msrp_plan.specs.declared.ids.CoreId.{CoreId}
 use Rattle.msrp_plan.specs.declared.faults.Rule.{Rule}
 use Rattle.msrp_plan.specs.declared.rows.Row.{Row}
@@ -39,38 +39,3 @@ module _ (plan : PlanModel) (core : CoreId) (rows : List Row) (i : ℕ) (x : Row
 
   pub stands_by : (m : MachineModel) → x.core.0 ≢ core.0 → (IsRunStart plan (take i rows) → StandsAfter m (log_of core.0 (take i rows))) → IsRunStart plan (take (i + 1) rows) → StandsAfter m (log_of core.0 (take (i + 1) rows))
   stands_by m ne stands start = stands_here m (λ before. subst (StandsAfter m) (sym (log_other (take i rows) x core.0 ne)) (stands before)) start
-
-  -- ---- to a place behind, up to which no other row of the core is in its turn
-  module _ (n : ℕ) (own : x.core.0 ≡ core.0) (single : (pre post : List Row) (r : Row) → rows ≡ pre ++ r ∷ post → IsRunStart plan pre → i < length pre → length pre < n → x.core.0 ≡ r.core.0 → is_in_turn plan pre r ≡ true → ⊥) where
-    pub passes_to : PassesTo plan (broken_on_core plan core.0) rows (i + 1) → PassesTo plan (broken_on_core plan core.0) rows n
-    passes_to more = record {
-      none = λ pre r post is start before. elim (cases_lt (length pre) (i + 1)) [
-        | inl low ↦ more.none pre r post is start low
-        | inr past ↦ elim (cases_Bool (is_of core.0 r && is_in_turn plan pre r)) [
-          | inl e ↦
-              let both = and_parts (is_of core.0 r) (is_in_turn plan pre r) e in
-              absurd (single pre post r is start (omega (arith, past)) before (own ∙ sym (eqb-true r.core.0 core.0 both.0)) both.1)
-          | inr e ↦ ap (λ b. cond b (broken_action plan pre r) None) e
-        ]
-      ];
-    }
-
-    pub stands_to : (m : MachineModel) (k d : ℕ) → i + 1 + d ≡ k → k ≤ n → (IsRunStart plan (take (i + 1) rows) → StandsAfter m (log_of core.0 (take (i + 1) rows))) → IsRunStart plan (take k rows) → StandsAfter m (log_of core.0 (take k rows))
-    stands_to m k zero is end stands = subst (λ v. IsRunStart plan (take v rows) → StandsAfter m (log_of core.0 (take v rows))) (let e : i + 1 ≡ k = omega (arith, is) in e) stands
-    stands_to m k (suc d) is end stands = subst (λ v. IsRunStart plan (take v rows) → StandsAfter m (log_of core.0 (take v rows))) (let e : i + 1 + d + 1 ≡ k = omega (arith, is) in e) (λ start.
-        let j = i + 1 + d in
-        let before = stands_to m j d refl (omega (arith, is, end)) stands in
-        elim (cases_lt j (length rows)) [
-          | inl low ↦
-              let y = get_or rows j x in
-              let more : take (j + 1) rows ≡ take j rows ++ y ∷ [] = take_more rows j x low in
-              let whole : IsRunStart plan (take j rows ++ y ∷ []) = subst (IsRunStart plan) more start in
-              let front = start_before plan (take j rows) (y ∷ []) whole in
-              let split : rows ≡ take j rows ++ y ∷ drop (j + 1) rows = sym (take-append-drop j rows) ∙ ap (λ l. take j rows ++ l) (drop_more rows j x low) in
-              let size : length (take j rows) ≡ j = length-take-le j rows (omega (arith, low)) in
-              let other : y.core.0 ≢ core.0 = λ e. single (take j rows) (drop (j + 1) rows) y split front (omega (arith, size)) (omega (arith, size, is, end)) (own ∙ sym e) (start_last plan (take j rows) y whole).turn in
-              subst (StandsAfter m) (sym (ap (log_of core.0) more ∙ log_other (take j rows) y core.0 other)) (before front)
-          | inr past ↦
-              let same : take (j + 1) rows ≡ take j rows = take_all (j + 1) rows (omega (arith, past)) ∙ sym (take_all j rows past) in
-              subst (λ l. StandsAfter m (log_of core.0 l)) (sym same) (before (subst (IsRunStart plan) same start))
-        ])

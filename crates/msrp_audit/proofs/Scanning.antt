@@ -1,5 +1,5 @@
 -- A piece of the audit goes over the rows from the first on, and tests each: what its answer tells.
-use Rattle.msrp_plan.proofs.Common.{◌≡◌, ℕ, suc, ◌+◌, ◌<◌, ◌≤◌, cond, List, [], ◌∷◌, ◌++◌, Option, Some, None, ap, sym, ◌∙◌, subst, arith, length, length-append, take, drop, get_or, slice_get, refl, inl, inr, eq-eqb, cases_lt, same_Some, slice_get_read, take_at, take_more, take-append-le, take-append-drop, get_or_at, PlanModel, IsLegal, IsRunStart, not_equal, start_before, start_last}
+use Rattle.msrp_plan.proofs.Common.{◌≡◌, ℕ, zero, suc, ◌+◌, ◌<◌, ◌≤◌, cond, List, [], ◌∷◌, ◌++◌, Option, Some, None, ap, sym, ◌∙◌, subst, arith, length, length-append, take, drop, get_or, refl, inl, inr, eq-eqb, cases_lt, take_at, take_more, take-append-le, take-append-drop, get_or_at, PlanModel, IsLegal, IsRunStart, not_equal, start_before, start_last}
 use Rattle.msrp_plan.specs.declared.faults.Rule.{Rule}
 use Rattle.msrp_plan.specs.declared.rows.Row.{Row}
 use Rattle.msrp_audit.specs.Inside.Pieces.{TellsFirst}
@@ -13,9 +13,11 @@ split_length xs pre post x is = ap length is ∙ length-append pre (x ∷ post)
 pub one_more : (rows : List Row) (i : ℕ) (x : Row) → i < length rows → x ≡ get_or rows i x → take (i + 1) rows ≡ take i rows ++ x ∷ []
 one_more rows i x within at = take_more rows i x within ∙ ap (λ y. take i rows ++ y ∷ []) (sym at)
 
--- a row that is read at a place is the one that stands there
-pub row_is : (rows : List Row) (i : ℕ) (x r : Row) → i < length rows → x ≡ get_or rows i x → slice_get rows i ≡ Some r → r ≡ x
-row_is rows i x r within at there = same_Some r x (sym there ∙ slice_get_read rows (length rows) i x refl within at)
+-- a row stands at a place
+pub row_at : (rows : List Row) (i : ℕ) → i < length rows → (x : Row) × (x ≡ get_or rows i x)
+row_at [] i low = absurd (let no : ⊥ = omega (arith, low) in no)
+row_at (x ∷ rows) zero low = (x, refl)
+row_at (x ∷ rows) (suc i) low = let more = row_at rows i (omega (arith, low)) in (more.0, more.1)
 
 -- where the rows before a place are the start of a legal run, so are they up to each place before it
 pub start_at : (plan : PlanModel) (rows pre post : List Row) (r x : Row) (i : ℕ) → rows ≡ pre ++ r ∷ post → IsRunStart plan pre → i < length pre → x ≡ get_or rows i x → IsRunStart plan (take i rows ++ x ∷ [])
@@ -54,9 +56,6 @@ module _ (plan : PlanModel) (test : List Row → Row → Option Rule) (rows : Li
       | inr past ↦ here pre post r x i None is (omega (arith, low, past)) start at finds
     ];
   }
-
-  pub passes_before : (i n : ℕ) → n ≤ i → PassesTo plan test rows i → PassesTo plan test rows n
-  passes_before i n less passes = record { none = λ pre r post is start low. passes.none pre r post is start (omega (arith, low, less)) }
 
   -- an answer without a fault
   pub tells_none : ((pre : List Row) (r : Row) (post : List Row) → rows ≡ pre ++ r ∷ post → IsRunStart plan pre → test pre r ≡ None) → TellsFirst plan test rows None

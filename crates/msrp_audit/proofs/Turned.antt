@@ -1,10 +1,12 @@
--- Which cores had their turns in a tick, by the notes of it, and which tick is due, by the number of rows.
-use Rattle.msrp_plan.proofs.Common.{◌≡◌, ℕ, ◌+◌, ◌*◌, ◌/◌, ◌<◌, ◌≤◌, ◌==◌, ◌&&◌, ◌||◌, Bool, true, false, List, [], ◌∷◌, refl, ap, sym, ◌∙◌, subst, arith, length, eqb-true, take, replicate, set, slice_get, get_or, Some, eq-eqb, inl, inr, or-true, or-false, cases_eq, cases_lt, get_or-set_at, div-mul-add, get_or-replicate, length-take-le, PlanModel, IsLegal, IsRunStart, EachAfter, had_turn, is_in_turn, IsPlan, any_push, along, not_equal, start_before}
-use Rattle.msrp_plan.specs.declared.rows.Row.{Row}
+-- How many turns each core had, by the number of rows and by the tick of its last one.
+use Rattle.msrp_plan.proofs.Common.{◌≡◌, ℕ, ◌+◌, ◌*◌, ◌/◌, ◌<◌, ◌≤◌, ◌==◌, Bool, true, false, List, [], ◌∷◌, ◌++◌, refl, ap, sym, ◌∙◌, subst, arith, length, length-append, eqb-true, take, replicate, get_or, set, inl, inr, cases_eq, get_or-set_at, div-mul-add, get_or-replicate, length-take-le, PlanModel, log_of, IsLegal, IsRunStart, EachAfter, had_turn, IsPlan, along, log_own, log_other, start_before, start_last}
 use Rattle.std.proofs.Common.{get_or-set_other}
+use Rattle.msrp_plan.specs.declared.rows.Row.{Row}
+use Rattle.msrp_plan.proofs.Runs.CoreRuns.{reached_tick}
 use Rattle.msrp_plan.proofs.Runs.Ticks.{IsTick, AnyTick, rows_in, any_both, tick_is, tick_none, fresh, any_tick_push}
-use Rattle.msrp_audit.specs.Inside.Walks.{AreTurned}
-use Rattle.msrp_audit.proofs.Scanning.{one_more, row_is}
+use Rattle.msrp_audit.specs.Inside.Walks.{AreNextTurns}
+use Rattle.msrp_audit.proofs.Judging.{reached}
+use Rattle.msrp_audit.proofs.Scanning.{one_more}
 
 none_left : (xs : List Row) (a : ℕ) → a ≡ a + length xs → xs ≡ []
 none_left [] a h = refl
@@ -20,49 +22,38 @@ none_turned plan pre t c some all size =
     let empty : rows_in t pre ≡ [] = none_left (rows_in t pre) (t * plan.cores) (sym size ∙ at.count) in
     any_both (λ w. w.tick == t) (λ w. w.core.0 == c) pre ∙ fresh t pre c empty
 
--- so none is noted before the first row of a tick
-pub none_noted : (plan : PlanModel) (rows : List Row) (t n : ℕ) → IsPlan plan → n ≡ t * plan.cores → n ≤ length rows → IsRunStart plan (take n rows) → AreTurned plan t (replicate 8 false) (take n rows)
-none_noted plan rows t n ok is within start c low =
-    let few = ok.draft.cores.1 in
-    get_or-replicate 8 c false false (omega (arith, low, few)) ∙ sym (none_turned plan (take n rows) t c ok.draft.cores.0 start.each (length-take-le n rows within ∙ is))
+-- so each core had its turn in each of these
+pub turns_full : (plan : PlanModel) (pre : List Row) (t c : ℕ) → IsPlan plan → IsRunStart plan pre → length pre ≡ t * plan.cores → c < plan.cores → length (log_of c pre) ≡ t
+turns_full plan pre t c ok start size low =
+    let some = ok.draft.cores.0 in
+    let now : length pre / plan.cores ≡ t = ap (λ n. n / plan.cores) (let e : length pre ≡ t * plan.cores + 0 = omega (arith, size) in e) ∙ div-mul-add t plan.cores 0 some in
+    reached plan pre c ok start.each low (ap (λ n. had_turn c n pre) now ∙ none_turned plan pre t c some start.each size) ∙ now
 
--- after one row more its core had its turn too
-pub noted_more : (plan : PlanModel) (notes : List Bool) (rows : List Row) (t i : ℕ) (r : Row) → IsPlan plan → length notes ≡ 8 → r.core.0 < plan.cores → r.tick ≡ t → i < length rows → r ≡ get_or rows i r
-    → AreTurned plan t notes (take i rows) → AreTurned plan t (set notes r.core.0 true) (take (i + 1) rows)
-noted_more plan notes rows t i r ok size known tick within at noted c low =
+-- and before a part of the ticks in each tick before it
+pub next_at : (plan : PlanModel) (rows : List Row) (part cores n : ℕ) → IsPlan plan → cores ≡ plan.cores → n ≡ part * (cores * 1250) → n ≤ length rows → IsRunStart plan (take n rows) → AreNextTurns plan (replicate 8 (part * 1250)) (take n rows)
+next_at plan rows part cores n ok same is within start c low =
     let few = ok.draft.cores.1 in
-    let now : had_turn c t (take (i + 1) rows) ≡ had_turn c t (take i rows) || ((r.tick == t) && (r.core.0 == c)) =
-    ap (had_turn c t) (one_more rows i r within at) ∙ any_push (λ w. (w.tick == t) && (w.core.0 == c)) (take i rows) r in
-    let here : ((r.tick == t) && (r.core.0 == c)) ≡ (r.core.0 == c) = ap (λ b. b && (r.core.0 == c)) (eq-eqb r.tick t tick) in
+    let turns : part * (plan.cores * 1250) ≡ part * 1250 * plan.cores = grind arith in
+    get_or-replicate 8 c (part * 1250) 0 (omega (arith, low, few))
+    ∙ sym (turns_full plan (take n rows) (part * 1250) c ok start (length-take-le n rows within ∙ (is ∙ (ap (λ m. part * (m * 1250)) same ∙ turns))) low)
+
+-- after one row more the next turn of its core is in the tick behind it
+pub next_more : (plan : PlanModel) (next : List ℕ) (rows : List Row) (i : ℕ) (r : Row) → IsPlan plan → length next ≡ 8 → r.core.0 < plan.cores → i < length rows → r ≡ get_or rows i r
+    → (IsRunStart plan (take i rows) → AreNextTurns plan next (take i rows)) → IsRunStart plan (take (i + 1) rows) → AreNextTurns plan (set next r.core.0 (r.tick + 1)) (take (i + 1) rows)
+next_more plan next rows i r ok size known within at turns start c low =
+    let pre = take i rows in
+    let more = one_more rows i r within at in
+    let whole : IsRunStart plan (pre ++ r ∷ []) = subst (IsRunStart plan) more start in
+    let before = start_before plan pre (r ∷ []) whole in
+    let few = ok.draft.cores.1 in
     elim (cases_eq c r.core.0) [
       | inl same ↦
-          get_or-set_at notes r.core.0 c true false same (omega (arith, known, few, size))
-          ∙ sym (now ∙ (ap (λ b. had_turn c t (take i rows) || b) (here ∙ eq-eqb r.core.0 c (sym same)) ∙ or-true (had_turn c t (take i rows))))
+          let tick : r.tick ≡ length (log_of r.core.0 pre) = reached_tick plan pre r before.each (start_last plan pre r whole) in
+          let log : length (log_of c (take (i + 1) rows)) ≡ length (log_of c pre) + 1 = ap (λ l. length (log_of c l)) more ∙ (ap length (log_own pre r c (sym same)) ∙ length-append (log_of c pre) (r ∷ [])) in
+          get_or-set_at next r.core.0 c (r.tick + 1) 0 same (omega (arith, known, few, size)) ∙ (ap (λ n. n + 1) (tick ∙ ap (λ k. length (log_of k pre)) (sym same)) ∙ sym log)
       | inr other ↦
-          get_or-set_other notes r.core.0 c true false other
-          ∙ (noted c low ∙ sym (now ∙ (ap (λ b. had_turn c t (take i rows) || b) (here ∙ not_equal r.core.0 c (λ e. other (sym e))) ∙ or-false (had_turn c t (take i rows)))))
+          get_or-set_other next r.core.0 c (r.tick + 1) 0 other ∙ (turns before c low ∙ ap length (sym (ap (log_of c) more ∙ log_other pre r c (λ e. other (sym e)))))
     ]
-
--- ---- the rows of a tick, one by one
--- those from one place up to another are in their turns
-abbrev pub AreTurnsTo : PlanModel → List Row → ℕ → ℕ → Type 0
-AreTurnsTo plan rows start n = (i : ℕ) (r : Row) → start ≤ i → i < n → slice_get rows i ≡ Some r → IsRunStart plan (take i rows) → is_in_turn plan (take i rows) r ≡ true
-
-module _ (plan : PlanModel) (rows : List Row) (i : ℕ) (x : Row) (within : i < length rows) (at : x ≡ get_or rows i x) where
-  pub start_here : IsRunStart plan (take (i + 1) rows) → IsRunStart plan (take i rows)
-  start_here start = start_before plan (take i rows) (x ∷ []) (subst (IsRunStart plan) (one_more rows i x within at) start)
-
-  pub turns_more : (start : ℕ) → AreTurnsTo plan rows start i → (IsRunStart plan (take i rows) → is_in_turn plan (take i rows) x ≡ true) → AreTurnsTo plan rows start (i + 1)
-  turns_more start turns turn j r low high there run = elim (cases_lt j i) [
-    | inl less ↦ turns j r low less there run
-    | inr more ↦
-        let same : i ≡ j = omega (arith, more, high) in
-        let is : r ≡ x = row_is rows i x r within at (subst (λ k. slice_get rows k ≡ Some r) (sym same) there) in
-        subst (λ y. is_in_turn plan (take j rows) y ≡ true) (sym is) (subst (λ k. is_in_turn plan (take k rows) x ≡ true) same (turn (subst (λ k. IsRunStart plan (take k rows)) (sym same) run)))
-  ]
-
-  pub stops_here : (IsRunStart plan (take i rows) → is_in_turn plan (take i rows) x ≡ false) → (r : Row) → slice_get rows i ≡ Some r → IsRunStart plan (take i rows) → is_in_turn plan (take i rows) r ≡ false
-  stops_here late r there run = subst (λ y. is_in_turn plan (take i rows) y ≡ false) (sym (row_is rows i x r within at there)) (late run)
 
 -- the tick that the test finds due is that of the next row
 pub due_tick : (plan : PlanModel) (pre : List Row) (tick i cores : ℕ) (b : Bool) → IsPlan plan → cores ≡ plan.cores → (0 < cores → b ≡ (tick == i / cores)) → b ≡ true → i ≡ length pre → tick ≡ length pre / plan.cores

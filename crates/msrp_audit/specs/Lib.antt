@@ -1,4 +1,3 @@
 pub mod Foresight
 pub mod Audits
-pub mod Gathering
 pub mod Inside

@@ -8,14 +8,11 @@ mod auditor;
 mod comparing;
 mod core_rows;
 mod gathered;
-mod kept;
-mod naming;
 mod parallel;
 mod pieces;
 mod queues;
 mod replies;
-mod stretches;
-mod tick_rows;
+mod small_row;
 mod turns;
 mod verdicts;
 

@@ -3,11 +3,9 @@ ghost use Rattle.msrp_plan.specs.Common.{◌≡◌, ◌≤◌, ◌<◌, ◌*◌,
 ghost use Rattle.msrp_plan.specs.declared.rows.Row.{Row as TraceRow};
 ghost use Rattle.msrp_audit.specs.Audits.{answer_of};
 ghost use Rattle.msrp_audit.specs.Inside.Pieces.{broken_in, earlier_of, earliest_of, fault_order, length_fault_of, piece_with, pieces_of, rule_number, TellsFirst};
-ghost use Rattle.msrp_audit.specs.Inside.Walks.{KeepsOrder};
 
 use crate::gathered::{Gathered, Rows};
-use crate::pieces::{Deal, judge};
-use crate::turns::steady_rows;
+use crate::pieces::{judge, pieces};
 use msrp_levels::Levels;
 use msrp_plan::{Fault, Memory, Plan, Rule, Trace};
 use rayon::prelude::*;
@@ -62,16 +60,14 @@ fn first_fault(
     requires rows { length rows.now ≤ plan.now.cores * plan.now.ticks }
     ensures { IfOk result (λ fault. fault ≡ fault_in plan.now rows.now) }
 {
-    let deal = Deal::of(alloc, plan, levels)?;
-    let steady = steady_rows(plan, rows);
-    let faults = (0..deal.pieces())
+    let faults = (0..pieces(plan))
         .into_par_iter()
         .with_min_len(1)
         .map(
-            |number: usize| -> Result<Option<Fault>, Memory>
-                requires { (number < pieces_of deal.order.items) × (levels.now ≡ plan.now) × (length rows.now ≤ plan.now.cores * plan.now.ticks) × (KeepsOrder plan.now.cores rows.now steady) }
-                ensures { IfOk result (TellsFirst plan.entry.now (broken_in plan.entry.now (piece_with plan.entry.now deal.order.items number)) rows.entry.now) }
-            { judge(alloc, plan, levels, &deal, rows, steady, number) },
+            |number: u32| -> Result<Option<Fault>, Memory>
+                requires { (number < pieces_of plan.now) × (levels.now ≡ plan.now) × (length rows.now ≤ plan.now.cores * plan.now.ticks) }
+                ensures { IfOk result (TellsFirst plan.entry.now (broken_in plan.entry.now (piece_with plan.entry.now number)) rows.entry.now) }
+            { judge(alloc, plan, levels, rows, number) },
         )
         .collect::<Result<Vec<Option<Fault>>, Memory>>(rt, alloc);
     match faults {

@@ -1,9 +1,8 @@
 //! The queue of one resource: A5.
-ghost use Rattle.msrp_plan.specs.Common.{◌≡◌, ◌<◌, ◌≤◌, ◌*◌, IfOk, length, counts, is_behind, is_first, is_reply_of, replies, list_any, is_global, same_job};
+ghost use Rattle.msrp_plan.specs.Common.{◌≡◌, ◌<◌, ◌≤◌, ◌*◌, IfOk, length, counts, is_behind, is_first, is_reply_of, replies, list_any, same_job};
 ghost use Rattle.msrp_audit.specs.Inside.Pieces.{broken_reply, TellsFirst};
 
 use crate::gathered::Rows;
-use crate::naming::Naming;
 use msrp_levels::Levels;
 use msrp_plan::{Fault, JobId, Kind, Memory, Plan, Requests, ResId, Row, Rule};
 use std::alloc::Global;
@@ -23,8 +22,8 @@ fn is_among(queue: &[JobId], job: JobId) -> bool
     queue.iter().any(|other| job == *other)
 }
 
-/// Whether the job stands in the queue, and not first.
-pub(crate) fn is_behind(queue: &[JobId], job: Option<JobId>) -> bool
+// Whether the job is in the queue, and not the first.
+fn is_behind(queue: &[JobId], job: Option<JobId>) -> bool
     ensures { result ≡ is_behind queue.now job }
 {
     match job {
@@ -61,18 +60,10 @@ fn is_reply(queue: &[JobId], row: Row) -> bool
     replies(queue, row) && counts(queue, row)
 }
 
-// Whether a resource is global. One that the plan hasn't is none.
-fn is_global(plan: &Plan, levels: &Levels, res: ResId) -> bool
-    requires { levels.now ≡ plan.now }
-    ensures { result ≡ is_global plan.now res.0 }
-{
-    res.0 < plan.resources() && levels.is_global(res)
-}
-
 /// The first row on a global resource that has not its queue's reply.
 ///
-/// More jobs than cores never stand in the queue of a legal run: where they do, an earlier row breaks a rule, and the
-/// piece has no more to say.
+/// The queue of a legal run never has more jobs than the plan has cores. Where it has, an earlier row
+/// violates a rule, and this piece reports no more.
 pub(crate) fn judge_resource(
     alloc: Global,
     plan: &Plan,
@@ -82,28 +73,27 @@ pub(crate) fn judge_resource(
 ) -> Result<Option<Fault>, Memory>
     requires levels { levels.now ≡ plan.now }
     requires rows { length rows.now ≤ plan.now.cores * plan.now.ticks }
+    requires resource { res.0 < length plan.now.resources }
     ensures { IfOk result (TellsFirst plan.now (broken_reply plan.now res.0) rows.now) }
 {
-    if !is_global(plan, levels, res) {
+    if !levels.is_global(res) {
         return Ok(None);
     }
-    let cores = plan.cores() as usize;
     let mut requests = Requests::of(alloc, res);
-    let mut naming = Naming::of(plan, rows, res);
-    while let Some(named) = naming.next(rows, res) {
-        let queue = requests.queue();
-        if queue.len() > cores {
-            return Ok(None);
-        }
-        if !is_reply(queue, named.row) {
-            return Ok(Some(Fault {
-                row: named.place as u32 + 1,
-                rule: Rule::A5,
-            }));
-        }
-        requests.take(&named.row)?;
-        if named.row.kind == Kind::Release {
-            naming.recall(requests.queue());
+    for index in 0..rows.len() {
+        if rows.names(index, res) {
+            let row = rows.row(index);
+            let queue = requests.queue();
+            if queue.len() > plan.cores() as usize {
+                return Ok(None);
+            }
+            if !is_reply(queue, row) {
+                return Ok(Some(Fault {
+                    row: index as u32 + 1,
+                    rule: Rule::A5,
+                }));
+            }
+            requests.take(&row)?;
         }
     }
     Ok(None)

@@ -1,7 +1,7 @@
 //! One turn of a machine over a port that answers as a row says.
-ghost use Rattle.msrp_plan.specs.Common.{◌≡◌, ◌<◌, ◌+◌, ◌++◌, ◌∷◌, [], ◌⊎◌, List, length, true, IfNone, IfSome, None, Some, ForSome, IsCoreTurn};
+ghost use Rattle.msrp_plan.specs.Common.{◌≡◌, ◌<◌, ◌+◌, ◌++◌, ◌∷◌, [], List, length, true, None, ForSome, IsCoreTurn};
 ghost use Rattle.msrp_plan.specs.declared.rows.Row.{Row as TraceRow};
-ghost use Rattle.msrp_core.specs.Machine.{RepeatsOnly, StandsAfter, next_known};
+ghost use Rattle.msrp_core.specs.Machine.{StandsAfter};
 ghost use Rattle.msrp_core.specs.Ports.{Adds, claim_in};
 ghost use Rattle.msrp_audit.specs.Foresight.{same_action};
 ghost use Rattle.msrp_sim.specs.TurnPorts.{port_after};
@@ -95,7 +95,7 @@ impl<B: Script> Port for TurnPort<B> {
     }
 }
 
-// The machine's turn over such a port, where it isn't known from its last one.
+// The machine's turn over such a port.
 fn turn_over<B: Script>(plan: &Plan, machine: &mut Machine<'_>, row: Row) -> Row
     requires plan { machine.old.plan ≡ plan.now }
     requires tick { machine.old.tick < machine.old.plan.ticks }
@@ -107,7 +107,6 @@ fn turn_over<B: Script>(plan: &Plan, machine: &mut Machine<'_>, row: Row) -> Row
     ensures row { (log : List TraceRow) → StandsAfter machine.old log → IsCoreTurn machine.old.plan machine.old.core log result }
     ensures stands { (log : List TraceRow) → StandsAfter machine.old log → StandsAfter machine.new (log ++ result ∷ []) }
     ensures kind { (log : List TraceRow) → StandsAfter machine.old log → same_action row.kind result.kind ≡ true → row.kind ≡ result.kind }
-    ensures again { RepeatsOnly machine.new result }
 {
     let mut port = TurnPort::<B> {
         core: machine.core(),
@@ -116,31 +115,7 @@ fn turn_over<B: Script>(plan: &Plan, machine: &mut Machine<'_>, row: Row) -> Row
         call: None,
         script: PhantomData,
     };
-    machine.turn_anew(&mut port)
-}
-
-/// The machine's turn, where it is known from its last one: its row stands again, or it polled in vain and the row says that it does so again. That
-/// takes no choice.
-#[inline(always)]
-pub(crate) fn known_as(machine: &mut Machine<'_>, kind: Kind) -> Option<Row>
-    requires { machine.old.tick < machine.old.plan.ticks }
-    ensures none { IfNone result (machine.new ≡ machine.old) }
-    ensures plan { machine.new.plan ≡ machine.old.plan }
-    ensures core { machine.new.core ≡ machine.old.core }
-    ensures tick { IfSome result (λ _. machine.new.tick ≡ machine.old.tick + 1) }
-    ensures row { IfSome result (λ due. (log : List TraceRow) → StandsAfter machine.old log → IsCoreTurn machine.old.plan machine.old.core log due) }
-    ensures stands { IfSome result (λ due. (log : List TraceRow) → StandsAfter machine.old log → StandsAfter machine.new (log ++ due ∷ [])) }
-    ensures kind { IfSome result (λ due. (due.res ≡ None) ⊎ (kind ≡ due.kind)) }
-    ensures known { IfSome result (λ due. next_known machine.old ≡ Some due) }
-    ensures again { IfSome result (RepeatsOnly machine.new) }
-{
-    if let Some(due) = machine.repeat() {
-        return Some(due);
-    }
-    match kind {
-        Kind::Spin => machine.spin_on(),
-        _ => None,
-    }
+    machine.turn(&mut port)
 }
 
 /// The machine's turn, where a global resource answers as the row says: where the row does the same as the core, it has
@@ -154,10 +129,6 @@ pub(crate) fn turn_as(plan: &Plan, machine: &mut Machine<'_>, row: Row) -> Row
     ensures row { (log : List TraceRow) → StandsAfter machine.old log → IsCoreTurn machine.old.plan machine.old.core log result }
     ensures stands { (log : List TraceRow) → StandsAfter machine.old log → StandsAfter machine.new (log ++ result ∷ []) }
     ensures kind { (log : List TraceRow) → StandsAfter machine.old log → same_action row.kind result.kind ≡ true → row.kind ≡ result.kind }
-    ensures again { RepeatsOnly machine.new result }
 {
-    match known_as(machine, row.kind) {
-        Some(due) => due,
-        None => turn_over::<Brand>(plan, machine, row),
-    }
+    turn_over::<Brand>(plan, machine, row)
 }

@@ -1,5 +1,5 @@
 -- Rows that are gathered before they are judged.
-use Rattle.msrp_plan.proofs.Common.{◌≡◌, ◌++◌, [], ◌≤◌, ◌+◌, ◌*◌, ℕ, Bool, true, false, cond, length, List, Option, None, Some, option_map, refl, ap, sym, subst, ◌∙◌, inl, inr, append-nil, arith, suc, ◌-◌, ◌<◌, length-append, slice_get, ◌∷◌, le-ltb, option_or, ⊤, nat_lt, PlanModel, is_chosen, is_fifo_reply, is_in_turn, is_next_action, is_of_core, fault_in, missing, verdict, early_is, good_is_run, in_tick}
+use Rattle.msrp_plan.proofs.Common.{◌≡◌, ◌++◌, [], ◌≤◌, ◌+◌, ◌*◌, ℕ, Bool, true, false, cond, length, List, Option, None, Some, option_map, refl, ap, sym, subst, ◌∙◌, inl, inr, append-nil, arith, ◌-◌, le-ltb, option_or, ⊤, nat_lt, PlanModel, is_chosen, is_fifo_reply, is_in_turn, is_next_action, is_of_core, fault_in, missing, verdict, early_is, good_is_run}
 use Rattle.msrp_plan.specs.declared.faults.Fault.{Fault}
 use Rattle.msrp_plan.specs.declared.faults.Rule.{Rule}
 use Rattle.msrp_plan.specs.declared.faults.Rule.TheVariants.{A1, A2, A3, A4, A5, A6, A7}
@@ -12,11 +12,7 @@ use Rattle.msrp_trace.specs.Reading.{Told}
 use Rattle.msrp_trace.specs.declared.faults.TraceError.{TraceError}
 use Rattle.msrp_trace.proofs.ReadThrough.{Answers, IsReadTo, read-refused, read-whole}
 use Rattle.msrp_engine.specs.Findings.{found_first}
-use Rattle.msrp_trace.specs.Laws.{as_read}
-use Rattle.msrp_engine.specs.Inside.Gathered.{AreLike, IsGathered, found_in, is_missing}
-use Rattle.msrp_engine.specs.Inside.Kept.{row_of_core}
-use Rattle.msrp_engine.specs.Inside.Ticks.{AreRowsOf, IsAgain}
-use Rattle.msrp_engine.specs.declared.judged.JudgedRows.{JudgedRows}
+use Rattle.msrp_engine.specs.Inside.Gathered.{IsGathered, found_in, is_missing}
 use Rattle.msrp_faults.specs.Outcomes.{trace_fault_of}
 use Rattle.msrp_faults.specs.declared.faults.CliFault.{CliFault}
 use Rattle.msrp_faults.specs.declared.faults.CliFault.TheVariants.{Memory as NoMemory}
@@ -163,33 +159,3 @@ pub found-gathered : (plan : PlanModel) (told : Told) (rows : List Row) (judged 
 found-gathered plan told rows judged (Ok done) is e = subst (λ (j : Result ⊤ Fault). IsFound plan told (Ok j)) (sym e) (found-whole plan told rows done is)
 found-gathered plan told rows (Ok good) (Err fault) is e = found-refused plan told rows (plan.cores * plan.ticks + 1) fault is (good-stands plan rows (good-answer (verdict plan rows) good e))
 found-gathered plan told rows (Err f) (Err fault) is e = by-missing plan told rows (plan.cores * plan.ticks + 1) f fault is (fault-answer (verdict plan rows) f e) (is_missing f.rule) refl
-
--- ---- rows like those of the tick before
--- the rows that were gathered last are those that are kept, but for their tick
-abbrev pub AreLast : {T : Type 0} → JudgedRows T → ℕ → List Row → Type 0
-AreLast j cores rows = (c : ℕ) → c < cores → (r : Row) → cores ≤ length rows + c → slice_get rows (length rows + c - cores) ≡ Some r → (t : ℕ) → in_tick t (as_read j.rows.version (row_of_core j.lasts c)) ≡ in_tick t r
-
-pub none-last : {T : Type 0} (j : JudgedRows T) (cores : ℕ) → AreLast j cores []
-none-last j cores c low r few is t = absurd (cc)
-
-pub get-behind : (xs ys : List Row) (i : ℕ) → slice_get (xs ++ ys) (length xs + i) ≡ slice_get ys i
-get-behind [] ys i = let same : 0 + i ≡ i = omega arith in ap (slice_get ys) same
-get-behind (x ∷ xs) ys i =
-    let same : suc (length xs) + i ≡ suc (length xs + i) = omega arith in
-    ap (slice_get (x ∷ (xs ++ ys))) same ∙ get-behind xs ys i
-
--- those of one tick more
-pub tick-last : {T : Type 0} (j : JudgedRows T) (t cores : ℕ) (rows more : List Row) → AreRowsOf j t cores more → AreLast j cores (rows ++ more)
-tick-last j t cores rows more of c low r few is n =
-    let size : length (rows ++ more) + c - cores ≡ length rows + c =
-    ap (λ k. k + c - cores) (length-append rows more ∙ ap (λ k. length rows + k) of.size) ∙ less (length rows) c cores in
-    let here : slice_get more c ≡ Some r = sym (get-behind rows more c) ∙ (ap (slice_get (rows ++ more)) (sym size) ∙ is) in
-    ap (in_tick n) (sym (of.each c r here))
-  where
-    less : (l c k : ℕ) → l + k + c - k ≡ l + c
-    less l c k = omega arith
-
--- and in the next one a row that isn't made anew is like them
-pub next-like : {T : Type 0} (j next : JudgedRows T) (t cores : ℕ) (rows : List Row) → AreLast j cores rows → next.rows.version ≡ j.rows.version → ((c : ℕ) → c < cores → IsAgain j next t c) → AreLike next t cores rows
-next-like j next t cores rows last version again c low other r few is =
-    ap (λ d. in_tick t (as_read next.rows.version d)) (again c low other) ∙ (ap (λ v. in_tick t (as_read v (row_of_core j.lasts c))) version ∙ last c low r few is t)

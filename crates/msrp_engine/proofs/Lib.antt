@@ -11,4 +11,3 @@ pub mod Reporting
 pub mod Gathering
 mod WholeTicks
 mod Counting
-mod GatheredTick

@@ -7,86 +7,35 @@ ghost use Rattle.msrp_engine.specs.Answered.{Answered, OfText, OfTexts, ReadsBot
 ghost use Rattle.msrp_engine.specs.AuditText.{AuditAnswers};
 ghost use Rattle.msrp_engine.specs.Findings.{finding, finding_of};
 ghost use Rattle.msrp_engine.specs.Judging.{rows_left};
-ghost use Rattle.msrp_engine.specs.Inside.Gathered.{AreLike, Gathers, IsGathered, IsGatheredTo, found_in, is_missing};
-ghost use Rattle.msrp_engine.specs.Inside.Ticks.{AreRowsOf};
+ghost use Rattle.msrp_engine.specs.Inside.Gathered.{IsGathered, found_in, is_missing};
 ghost use Rattle.msrp_faults.specs.Outcomes.{is_trace_fault, is_audit_fault};
 
 use crate::audit::write_verdict;
-use crate::judged::{Ahead, JudgedRows};
+use crate::judged::JudgedRows;
 use crate::reading::settled;
 use msrp_audit::{Auditor, Gathered, audit_gathered};
 use msrp_faults::CliFault;
 use msrp_levels::Levels;
 use msrp_plan::bytes::{Sink, Source};
-use msrp_plan::{Fault, Memory, Plan, Rule};
+use msrp_plan::{Fault, Plan, Rule};
 use msrp_text::read_plan;
 use msrp_trace::TraceReader;
 use std::alloc::Global;
 use std::io::{Read, Write};
 use std::thread::Threads;
 
-// Gathers the rows of a tick that were taken. Those that weren't made anew are their cores' rows of the tick before once more.
-#[inline(always)]
-fn gather_tick<T: Read>(
-    rows: &JudgedRows<'_, '_, T>,
-    tick: u32,
-    cores: u32,
-    gathered: &mut Gathered,
-) -> Result<(), Memory>
-    requires like { AreLike rows.now tick cores gathered.old }
-    requires few { cores ≤ 8 }
-    ensures { (more : List TraceRow) → AreRowsOf rows.now tick cores more → Gathers result gathered.old gathered.new more }
-{
-    gathered.add_tick(tick, rows.last_rows(cores), rows.tells_ahead())
-}
-
-// Gathers the rows of whole ticks from the first one on, as long as they come by the numbers of the cores.
-fn gather_ticks<'p, T: Read>(
-    alloc: Global,
-    plan: &'p Plan,
-    levels: &'p Levels<'p>,
-    rows: &mut JudgedRows<'p, '_, T>,
-    gathered: &mut Gathered,
-) -> Result<(), Memory>
-    requires plan { rows.old.auditor.plan ≡ plan.now }
-    requires levels { levels.now ≡ plan.now }
-    requires fed { HasFed rows.old.auditor [] }
-    requires none { gathered.old ≡ [] }
-    ensures gathered { (told : Told) → rows_left T.remaining rows.old ≡ Some told → IsGatheredTo told gathered.new result (rows_left T.remaining rows.new) }
-{
-    for _tick in 0..plan.ticks() {
-        let Some(tick) = rows.next_tick(alloc, plan, levels)? else {
-            return Ok(());
-        };
-        gather_tick(rows, tick, plan.cores(), gathered)?;
-    }
-    Ok(())
-}
-
-// Gathers the rows that are left, at most so many, and tells what ended the reading before.
-fn gather_rows<'p, T: Read>(
-    alloc: Global,
-    plan: &'p Plan,
-    levels: &'p Levels<'p>,
-    rows: &mut JudgedRows<'p, '_, T>,
+// Gathers the rows that are left, at most so many, and says what ended the reading before.
+fn gather_rows<T: Read>(
+    rows: &mut JudgedRows<'_, '_, T>,
     gathered: &mut Gathered,
     most: usize,
 ) -> Result<(), CliFault>
-    requires plan { rows.old.auditor.plan ≡ plan.now }
-    requires levels { levels.now ≡ plan.now }
-    requires fed { HasFed rows.old.auditor [] }
-    requires none { gathered.old ≡ [] }
+    requires { gathered.old ≡ [] }
     ensures gathered { (told : Told) → rows_left T.remaining rows.old ≡ Some told → IsGathered most told gathered.new result }
     ensures faults { IfErr result (λ fault. is_trace_fault fault ≡ true) }
 {
-    gather_ticks(alloc, plan, levels, rows, gathered)?;
-    for _row in gathered.len()..most {
-        let ahead = rows.next_ahead();
-        if let Ahead::Met(row) = ahead {
-            gathered.push(row)?;
-            continue;
-        }
-        match rows.told(ahead)?.row() {
+    for _row in 0..most {
+        match rows.next_row()?.row() {
             Some(row) => gathered.push(row)?,
             None => return Ok(()),
         }
@@ -142,7 +91,7 @@ fn judge_all<T: Read>(
     let auditor = Auditor::with_room(alloc, plan, &levels)?;
     let reader = TraceReader::new(alloc, trace, plan)?;
     let mut rows = JudgedRows::new(plan, auditor, reader);
-    let ended = gather_rows(alloc, plan, &levels, &mut rows, &mut gathered, most);
+    let ended = gather_rows(&mut rows, &mut gathered, most);
     drop(rows);
     let judged = audit_gathered(rt, alloc, plan, &gathered)?;
     found_in(judged, ended)

@@ -1,7 +1,6 @@
 //! The rows of a trace's text, each judged as it comes.
 ghost use Rattle.msrp_plan.specs.Common.{◌≡◌, ◌<◌, ◌≤◌, ◌+◌, ◌*◌, ◌/◌, ◌%◌, ℕ, List, ◌++◌, ◌∷◌, [], IfOk, IfSome, OnOk, Some, None, Ok, Err, true, false, length, slice_get, slice_index_or, source_failed, IsPlan, IsRunStart, in_tick};
 ghost use Rattle.msrp_audit.specs.Audits.{Awaits, HasFed, IsDueInAudit};
-ghost use Rattle.msrp_audit.specs.Gathering.{told};
 ghost use Rattle.msrp_plan.specs.declared.rows.Row.{Row as TraceRow};
 ghost use Rattle.msrp_trace.specs.Laws.{as_read, is_short};
 ghost use Rattle.msrp_trace.specs.Reading.{Told};
@@ -14,7 +13,7 @@ use crate::replay::auditor_after;
 use msrp_audit::Auditor;
 use msrp_levels::Levels;
 use msrp_plan::limits::MOST_CORES;
-use msrp_plan::{CoreId, Fault, Kind, Memory, Plan, Row, TextVersion};
+use msrp_plan::{CoreId, Fault, Kind, Memory, Plan, Row};
 use msrp_trace::{RowTexts, TraceError, TraceReader};
 use std::alloc::Global;
 use std::io::Read;
@@ -393,14 +392,6 @@ impl<'p, 't, T: Read> JudgedRows<'p, 't, T> {
         ensures each { (c : ℕ) → c < cores → slice_get result.now c ≡ Some (row_of_core self.now.lasts c) }
     {
         &self.lasts[..cores as usize]
-    }
-
-    /// Whether the trace tells how many stand ahead of a job.
-    #[inline(always)]
-    pub(crate) fn tells_ahead(&self) -> bool
-        ensures { (row : TraceRow) → told result row ≡ as_read self.now.rows.version row }
-    {
-        self.rows.version() == TextVersion::V2
     }
 
     /// A row in that tick, as the trace tells it.

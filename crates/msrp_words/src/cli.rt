@@ -178,7 +178,7 @@ fn audit<'a>(alloc: Global) -> Result<Command<'a>, AllocError>
         flag(
             alloc,
             PARALLEL,
-            "judges the parts of the trace side by side",
+            "judges in a second way, to check a verdict",
         ),
     )
 }

@@ -1,5 +1,5 @@
 -- The pieces of an audit: which rule each of them finds broken at a row, and which fault it answers.
-use Rattle.msrp_plan.specs.Common.{ℕ, List, ◌∷◌, ◌++◌, Bool, ◌==◌, ◌&&◌, ◌||◌, nat_lt, nat_le, Option, Some, None, IfSome, fold, length, slice_get, slice_index_or, ◌<◌, ◌≡◌, ◌≤◌, ◌+◌, ◌-◌, ◌*◌, ◌/◌, ◌%◌, if◌then◌else◌, PlanModel, is_global, is_of, is_on, IsRunStart, is_in_turn, is_of_core, is_chosen, is_next_action, is_fifo_reply}
+use Rattle.msrp_plan.specs.Common.{ℕ, List, ◌∷◌, ◌++◌, Bool, ◌==◌, ◌&&◌, nat_lt, nat_le, Option, Some, None, IfSome, fold, length, ◌≡◌, ◌≤◌, ◌+◌, ◌-◌, ◌*◌, ◌/◌, if◌then◌else◌, PlanModel, is_global, is_of, is_on, IsRunStart, is_in_turn, is_of_core, is_chosen, is_next_action, is_fifo_reply}
 use Rattle.msrp_plan.specs.declared.faults.Fault.{Fault}
 use Rattle.msrp_plan.specs.declared.faults.Rule.{Rule}
 use Rattle.msrp_plan.specs.declared.faults.Rule.TheVariants.{A1, A2, A3, A4, A5, A6, A7}
@@ -16,49 +16,15 @@ ticks_a_piece = 1250
 abbrev pub parts : PlanModel → ℕ
 parts plan = plan.ticks / ticks_a_piece + 1
 
--- a piece for each core, each part of the ticks, and each resource; behind them stand those of resources that the plan hasn't
-abbrev pub listed : PlanModel → ℕ → Piece
-listed plan n =
+-- a piece for each core, each part of the ticks, and each resource
+abbrev pub pieces_of : PlanModel → ℕ
+pieces_of plan = plan.cores + parts plan + length plan.resources
+
+abbrev pub piece_with : PlanModel → ℕ → Piece
+piece_with plan n =
     if nat_lt n plan.cores then Core (record { 0 = n })
     else if nat_lt (n - plan.cores) (parts plan) then Turns (n - plan.cores)
     else Resource (record { 0 = n - plan.cores - parts plan })
-
-abbrev pub listed_pieces : PlanModel → ℕ
-listed_pieces plan = plan.cores + parts plan + length plan.resources
-
--- the pieces are dealt out to so many shares
-abbrev pub shares : ℕ
-shares = 4
-
--- the order in which they are has the number of each of them somewhere
-abbrev pub HasDealt : List ℕ → ℕ → Type 0
-HasDealt order n = (i : ℕ) × (slice_get order i ≡ Some n)
-
-abbrev pub DealsAll : PlanModel → List ℕ → Type 0
-DealsAll plan order = (n : ℕ) → n < listed_pieces plan → HasDealt order n
-
--- so many to each
-abbrev pub share_size : List ℕ → ℕ
-share_size order = length order / shares + 1
-
--- which share has a place, if one has: of each four places the inner ones have
-abbrev pub share_at : ℕ → Option ℕ
-share_at place = if place % 4 == 1 || place % 4 == 2 then Some (place / 4 * 2 + place % 4 - 1) else None
-
--- the q-th piece of a share; without a share, and behind the order, it is that of a resource that the plan hasn't
-abbrev pub piece_of : PlanModel → List ℕ → ℕ → Option ℕ → Piece
-piece_of plan order q None = Resource (record { 0 = length plan.resources })
-piece_of plan order q (Some share) = listed plan (slice_index_or order (q * shares + share) (listed_pieces plan))
-
--- the pieces, place by place
-abbrev pub places : ℕ
-places = 8
-
-abbrev pub pieces_of : List ℕ → ℕ
-pieces_of order = places * share_size order
-
-abbrev pub piece_with : PlanModel → List ℕ → ℕ → Piece
-piece_with plan order n = piece_of plan order (n % share_size order) (share_at (n / share_size order))
 
 -- ---- what a piece finds of a row
 -- the rows of a part of the ticks, where each core has its turn in each tick

@@ -1,4 +1,4 @@
-use Rattle.msrp_plan.proofs.Common.{◌≡◌, ◌-◌, length, take, log_of, IsRunStart}
+use Rattle.msrp_plan.proofs.Common.{◌≡◌, take, log_of, IsRunStart}
 use Rattle.msrp_core.specs.Machine.{StandsAfter}
 use Rattle.msrp_audit.specs.Inside.Pieces.{broken_on_core}
 use Rattle.msrp_audit.proofs.Scanning.{PassesTo}
@@ -11,6 +11,3 @@ invariant-loop-index l = record {
   stands : IsRunStart l.plan (take l.index l.rows) → StandsAfter l.machine (log_of l.core.0 (take l.index l.rows));
   passes : PassesTo l.plan (broken_on_core l.plan l.core.0) l.rows l.index;
 }
-
-abbrev pub decreases-loop-index : goal.decreases-loop-index
-decreases-loop-index l = length l.rows - l.index

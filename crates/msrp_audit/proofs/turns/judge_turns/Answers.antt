@@ -1,71 +1,54 @@
-use Rattle.msrp_plan.proofs.Common.{◌≡◌, ◌*◌, ◌+◌, length, min, ap, ◌∙◌, arith, mul-le-mul_left}
+use Rattle.msrp_plan.proofs.Common.{◌≡◌, ◌*◌, ◌+◌, ◌<◌, min, length, take, refl, ap, sym, ◌∙◌, arith, length-set, length-take-le}
 use Rattle.msrp_audit.specs.Inside.Pieces.{part_size}
-use Rattle.msrp_audit.proofs.Orders.{next_tick}
-use Rattle.msrp_audit.proofs.Parts.{part_begins, part_ends, part_stops, turns_pass}
-use Rattle.msrp_audit.proofs.Scanning.{passes_before}
+use Rattle.msrp_audit.proofs.Parts.{part_begins, part_ends, turn_passes, turn_found}
+use Rattle.msrp_audit.proofs.Turned.{next_at, next_more}
 use Rattle.msrp_audit.proofs.turns.judge_turns.Goals as goal
 
-pub loop-start-init : goal.loop-start-init
-loop-start-init c =
+pub loop-index-init : goal.loop-index-init
+loop-index-init c =
     let plan = c.args.plan.now in
-    let first : c.args.part * 1250 * c.cores-cores.result ≡ c.args.part * 1250 * plan.cores = ap (λ n. c.args.part * 1250 * n) c.cores-cores.ensures.value in
-    let same : c.args.part * part_size plan ≡ c.args.part * 1250 * plan.cores = grind arith in
-    let some = c.cores-cores.ensures.plan.draft.cores.0 in
-    let cores = c.cores-cores.ensures.value in
-    let one = mul-le-mul_left {m = 1} {n = c.cores-cores.result} (c.args.part * 1250) (omega (arith, some, cores)) in
+    let start : c.args.part * (c.cores.result * 1250) ≡ c.args.part * part_size plan = ap (λ n. c.args.part * (n * 1250)) c.cores.ensures.value in
     record {
-      first = first;
-      few = omega (arith, one);
-      low = omega (arith, first, same);
-      passes = λ n before _. part_begins plan c.args.part c.args.rows.now n (omega (arith, before, first, same));
+      size = refl;
+      next = next_at plan c.args.rows.now c.args.part c.cores.result _ c.cores.ensures.plan c.cores.ensures.value refl;
+      passes = part_begins plan c.args.part c.args.rows.now _ start;
     }
 
-pub loop-start-preserved : goal.loop-start-preserved
-loop-start-preserved c =
+pub loop-index-preserved : goal.loop-index-preserved
+loop-index-preserved c =
     let plan = c.args.plan.now in
     let rows = c.args.rows.now in
-    let v = c.loop-start.invariant in
-    let start = c.loop-start.start in
-    let first = v.first in
-    let low = v.low in
-    let cores = c.cores-cores.ensures.value in
-    let few = v.few in
-    let some = c.cores-cores.ensures.plan.draft.cores.0 in
-    let more = next_tick c.loop-start.tick plan.cores in
-    let test = c.loop-start-test.true in
-    let go = c.if-place-next.false in
-    let next = c.min-next.ensures in
-    let turns = c.judge_tick-place.ensures.turns.turns in
-    let passed = turns_pass plan c.args.part rows start c.min-next.result (v.passes start (omega arith) (omega (arith, test))) (λ i r from high. turns i r from (omega (arith, high, go))) in
+    let i = c.loop-index.index in
+    let x = c.row-row.result in
+    let v = c.loop-index.invariant in
+    let test = c.loop-index-test.true in
+    let end = c.min-end.ensures in
+    let all = c.len.ensures in
+    let within : i < length rows = omega (arith, test, end, all) in
     record {
-      first = omega (arith, first, cores, more);
-      few = omega (arith, few, some, cores);
-      low = omega (arith, low);
-      passes = λ n less within. passes_before plan _ rows c.min-next.result n (omega (arith, less, within, next)) passed;
+      size = length-set c.loop-index.next x.core.0 (x.tick + 1) ∙ v.size;
+      next = λ low. next_more plan c.loop-index.next rows i x c.cores.ensures.plan v.size (c.is_in_turn.ensures.core c.if-not-is_in_turn.false) within (c.row-row.ensures c.row-row.result) (v.next (omega (arith, within)));
+      passes = turn_passes plan c.args.part rows i x c.is_in_turn.result v.passes (c.row-row.ensures c.row-row.result) (λ start. c.is_in_turn.ensures.turn (take i rows) (sym (length-take-le i rows (omega (arith, within)))) start (v.next (omega (arith, within)) start)) c.if-not-is_in_turn.false;
     }
 
-pub returns-then-place-next : goal.returns-then-place-next
-returns-then-place-next c =
+pub returns-then-not-is_in_turn : goal.returns-then-not-is_in_turn
+returns-then-not-is_in_turn c =
     let plan = c.args.plan.now in
-    let v = c.loop-start.invariant in
-    let start = c.loop-start.start in
-    let low = v.low in
-    let test = c.loop-start-test.true in
-    let stop = c.if-place-next.true in
-    let next = c.min-next.ensures in
+    let rows = c.args.rows.now in
+    let i = c.loop-index.index in
+    let v = c.loop-index.invariant in
+    let start : c.args.part * (c.cores.result * 1250) ≡ c.args.part * part_size plan = ap (λ n. c.args.part * (n * 1250)) c.cores.ensures.value in
+    let size : c.cores.result * 1250 ≡ part_size plan = ap (λ n. n * 1250) c.cores.ensures.value in
+    let low = c.loop-index.auto.index in
+    let test = c.loop-index-test.true in
     let end = c.min-end.ensures in
-    let from = c.judge_tick-place.ensures.from in
-    let first : c.args.part * 1250 * c.cores-cores.result ≡ c.args.part * 1250 * plan.cores = ap (λ n. c.args.part * 1250 * n) c.cores-cores.ensures.value in
-    let same : c.args.part * part_size plan ≡ c.args.part * 1250 * plan.cores = grind arith in
-    let size : 1250 * c.cores-cores.result ≡ part_size plan = let cores = c.cores-cores.ensures.value in omega (arith, cores) in
-    part_stops plan c.args.part c.args.rows.now start c.judge_tick-place.result c.min-next.result (v.passes start (omega arith) (omega (arith, test))) c.judge_tick-place.ensures.turns stop
-    (omega (arith, next, end)) (omega (arith, low, from)) (omega (arith, stop, next, end, first, same, size))
+    let all = c.len.ensures in
+    let within : i < length rows = omega (arith, test, end, all) in
+    turn_found plan c.args.part rows i c.row-row.result c.is_in_turn.result within (omega (arith, low, start)) (omega (arith, test, end, start, size)) v.passes (c.row-row.ensures c.row-row.result)
+    (λ before. c.is_in_turn.ensures.turn (take i rows) (sym (length-take-le i rows (omega (arith, within)))) before (v.next (omega (arith, within)) before)) c.if-not-is_in_turn.true
 
 pub returns : goal.returns
 returns c =
     let plan = c.args.plan.now in
-    let past = c.loop-start-test.false in
-    let first : c.args.part * 1250 * c.cores-cores.result ≡ c.args.part * part_size plan = let cores = c.cores-cores.ensures.value in ap (λ n. c.args.part * 1250 * n) cores ∙ (let same : c.args.part * 1250 * plan.cores ≡ c.args.part * part_size plan = grind arith in same) in
-    let size : 1250 * c.cores-cores.result ≡ part_size plan = let cores = c.cores-cores.ensures.value in omega (arith, cores) in
-    part_ends plan c.args.part c.args.rows.now c.min-end.result c.min-end.result
-    (c.min-end.ensures ∙ (ap (λ n. min n (c.args.part * 1250 * c.cores-cores.result + 1250 * c.cores-cores.result)) c.len.ensures ∙ ap (λ n. min (length c.args.rows.now) (n + 1250 * c.cores-cores.result)) first ∙ ap (λ n. min (length c.args.rows.now) (c.args.part * part_size plan + n)) size)) (omega arith) (c.loop-start.invariant.passes c.min-end.result (omega (arith, past)) (omega arith))
+    let past = c.loop-index-test.false in
+    part_ends plan c.args.part c.args.rows.now c.loop-index.index c.min-end.result (c.min-end.ensures ∙ (ap (λ n. min n (c.args.part * (c.cores.result * 1250) + c.cores.result * 1250)) c.len.ensures ∙ ap (λ n. min (length c.args.rows.now) (c.args.part * (n * 1250) + n * 1250)) c.cores.ensures.value)) (omega (arith, past)) c.loop-index.invariant.passes

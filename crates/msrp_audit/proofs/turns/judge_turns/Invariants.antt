@@ -1,15 +1,12 @@
-use Rattle.msrp_plan.proofs.Common.{◌≡◌, ◌≤◌, ◌*◌, ◌-◌, ℕ}
-use Rattle.msrp_audit.specs.Inside.Pieces.{broken_turn, part_size}
+use Rattle.msrp_plan.proofs.Common.{◌≡◌, ◌≤◌, length, take, IsRunStart}
+use Rattle.msrp_audit.specs.Inside.Pieces.{broken_turn}
+use Rattle.msrp_audit.specs.Inside.Walks.{AreNextTurns}
 use Rattle.msrp_audit.proofs.Scanning.{PassesTo}
 use Rattle.msrp_audit.proofs.turns.judge_turns.Given as goal
 
-abbrev pub invariant-loop-start : goal.invariant-loop-start
-invariant-loop-start l = record {
-  first : l.start ≡ l.tick * l.plan.cores;
-  few : l.tick ≤ l.start;
-  low : l.part * part_size l.plan ≤ l.start;
-  passes : (n : ℕ) → n ≤ l.start → n ≤ l.end → PassesTo l.plan (broken_turn l.plan l.part) l.rows n;
+abbrev pub invariant-loop-index : goal.invariant-loop-index
+invariant-loop-index l = record {
+  size : length l.next ≡ 8;
+  next : l.index ≤ length l.rows → IsRunStart l.plan (take l.index l.rows) → AreNextTurns l.plan l.next (take l.index l.rows);
+  passes : PassesTo l.plan (broken_turn l.plan l.part) l.rows l.index;
 }
-
-abbrev pub decreases-loop-start : goal.decreases-loop-start
-decreases-loop-start l = l.end - l.start

@@ -1,59 +1,45 @@
-use Rattle.msrp_plan.proofs.Common.{rules, ◌≡◌, ◌++◌, ◌∷◌, ◌+◌, [], List, Some, Ok, Err, refl, length, length-append, arith, ap, subst, sym, ◌∙◌}
+use Rattle.msrp_plan.proofs.Common.{rules, ◌≡◌, ◌++◌, ◌∷◌, ◌+◌, [], List, Ok, Err, length, length-append, arith, ap, subst, sym, ◌∙◌}
 use Rattle.msrp_plan.specs.declared.rows.Row.{Row}
 use Rattle.msrp_engine.specs.Judging.{row_told, rows_left}
-use Rattle.msrp_engine.specs.Inside.Ahead.{LooksAhead}
 use Rattle.msrp_engine.specs.Inside.Gathered.{IsGathered}
 use Rattle.msrp_faults.specs.Outcomes.{trace_fault_of}
 use Rattle.msrp_faults.specs.declared.faults.CliFault.TheVariants.{Memory}
 use Rattle.msrp_engine.proofs.Gathering.{gathered-all, gathered-full, gathered-refused, gathered-unkept}
-use Rattle.msrp_trace.proofs.ReadThrough.{IsReadTo, read-row}
+use Rattle.msrp_trace.proofs.ReadThrough.{IsReadTo, none-read, read-row}
 use Rattle.msrp_engine.proofs.audit_parallel.gather_rows.Goals as goal
 
 pub loop-row-init : goal.loop-row-init
 loop-row-init g c = record {
-  count = sym c.len-row.ensures;
-  read = λ told known. let first = c.in_ok-gather_ticks.ensures.gathered told known in record { rest = first.0; whole = first.1; unread = first.2 };
+  count = ap length c.requires;
+  read = λ told known. subst (λ (l : List Row). IsReadTo told l (rows_left g.T.Read.remaining c.args.rows.now)) (sym c.requires) (none-read told _ known);
 }
 
--- ---- a row that is met
-pub loop-row-preserved-in-Met : goal.loop-row-preserved-in-Met
-loop-row-preserved-in-Met g c =
-    let i = c.loop-row.invariant in
-    let rows = c.loop-row.gathered in
-    let pushed : c.push.new.self ≡ rows ++ c.in-Met.row ∷ [] = search rules in
-    record {
-      count = ap length pushed ∙ (length-append rows (c.in-Met.row ∷ []) ∙ ap (λ n. n + 1) i.count);
-      read = λ told known. subst (λ (l : List Row). IsReadTo told l (rows_left g.T.Read.remaining c.next_ahead-ahead.new.self)) (sym pushed)
-          (read-row told rows _ _ (Ok (Some c.in-Met.row)) c.in-Met.row (i.read told known) (λ t h. subst (λ a. LooksAhead t a (rows_left g.T.Read.remaining c.next_ahead-ahead.new.self)) c.in-Met.is (c.next_ahead-ahead.ensures.looks t h)) refl);
-    }
-
--- ---- any other
 pub loop-row-preserved : goal.loop-row-preserved
 loop-row-preserved g c =
     let i = c.loop-row.invariant in
     let rows = c.loop-row.gathered in
     let row = c.in-Some.row in
-    let pushed : c.push-in-Some.new.self ≡ rows ++ row ∷ [] = search rules in
+    let pushed : c.push.new.self ≡ rows ++ row ∷ [] = search rules in
     record {
       count = ap length pushed ∙ (length-append rows (row ∷ []) ∙ ap (λ n. n + 1) i.count);
-      read = λ told known. subst (λ (l : List Row). IsReadTo told l (rows_left g.T.Read.remaining c.told.new.self)) (sym pushed)
-          (read-row told rows _ _ (row_told c.told.result) row (i.read told known) (λ t h. c.told.ensures.gives t (c.next_ahead-ahead.ensures.looks t h)) (ap row_told c.in_ok-told.was ∙ (c.row.ensures ∙ ap (λ x. Ok x) c.in-Some.is)));
+      read = λ told known. subst (λ (l : List Row). IsReadTo told l (rows_left g.T.Read.remaining c.next_row.new.self)) (sym pushed)
+          (read-row told rows _ _ (row_told c.next_row.result) row (i.read told known) c.next_row.ensures.gives (ap row_told c.in_ok-next_row.was ∙ (c.row.ensures ∙ ap (λ x. Ok x) c.in-Some.is)));
     }
 
-pub returns-in_err-told-clause-gathered : goal.returns-in_err-told-clause-gathered
-returns-in_err-told-clause-gathered g c = λ told known.
+pub returns-in_err-next_row-clause-gathered : goal.returns-in_err-next_row-clause-gathered
+returns-in_err-next_row-clause-gathered g c = λ told known.
     let rows = c.loop-row.gathered in
-    let gives : c.from_residual-in_err-told.result ≡ Err (trace_fault_of c.in_err-told.field-0.0) = search rules in
+    let gives : c.from_residual-in_err-next_row.result ≡ Err (trace_fault_of c.in_err-next_row.field-0.0) = search rules in
     subst (IsGathered c.args.most told rows) (sym gives)
-    (gathered-refused c.args.most told rows _ _ (row_told c.told.result) c.in_err-told.field-0.0 (c.loop-row.invariant.read told known) (λ t h. c.told.ensures.gives t (c.next_ahead-ahead.ensures.looks t h)) (ap row_told c.in_err-told.was))
+    (gathered-refused c.args.most told rows _ _ (row_told c.next_row.result) c.in_err-next_row.field-0.0 (c.loop-row.invariant.read told known) c.next_row.ensures.gives (ap row_told c.in_err-next_row.was))
 
 pub returns-in-None-clause-gathered : goal.returns-in-None-clause-gathered
 returns-in-None-clause-gathered g c = λ told known.
-    gathered-all c.args.most told c.loop-row.gathered _ _ (row_told c.told.result) (c.loop-row.invariant.read told known) (λ t h. c.told.ensures.gives t (c.next_ahead-ahead.ensures.looks t h)) (ap row_told c.in_ok-told.was ∙ (c.row.ensures ∙ ap (λ x. Ok x) c.in-None.is))
+    gathered-all c.args.most told c.loop-row.gathered _ _ (row_told c.next_row.result) (c.loop-row.invariant.read told known) c.next_row.ensures.gives (ap row_told c.in_ok-next_row.was ∙ (c.row.ensures ∙ ap (λ x. Ok x) c.in-None.is))
 
 pub returns-clause-gathered : goal.returns-clause-gathered
 returns-clause-gathered g c = λ told known.
-    gathered-full c.args.most told c.loop-row.gathered _ (c.loop-row.invariant.read told known) (omega (arith, c.loop-row.invariant.count))
+    gathered-full c.args.most told c.loop-row.gathered _ (c.loop-row.invariant.read told known) (let past = c.loop-row-test.false in let count = c.loop-row.invariant.count in omega (arith, past, count))
 
 pub returns-in_err-push-clause-gathered : goal.returns-in_err-push-clause-gathered
 returns-in_err-push-clause-gathered g c = λ told known.
@@ -61,12 +47,4 @@ returns-in_err-push-clause-gathered g c = λ told known.
     let gives : c.from_residual-in_err-push.result ≡ Err Memory = search rules in
     let kept : c.push.new.self ≡ rows = search rules in
     subst (λ (l : List Row). IsGathered c.args.most told l c.from_residual-in_err-push.result) (sym kept)
-    (subst (IsGathered c.args.most told rows) (sym gives) (gathered-unkept c.args.most told rows _ (c.loop-row.invariant.read told known)))
-
-pub returns-in_err-push-in-Some-clause-gathered : goal.returns-in_err-push-in-Some-clause-gathered
-returns-in_err-push-in-Some-clause-gathered g c = λ told known.
-    let rows = c.loop-row.gathered in
-    let gives : c.from_residual-in_err-push-in-Some.result ≡ Err Memory = search rules in
-    let kept : c.push-in-Some.new.self ≡ rows = search rules in
-    subst (λ (l : List Row). IsGathered c.args.most told l c.from_residual-in_err-push-in-Some.result) (sym kept)
     (subst (IsGathered c.args.most told rows) (sym gives) (gathered-unkept c.args.most told rows _ (c.loop-row.invariant.read told known)))

@@ -1,1 +1,0 @@
-use Rattle.msrp_audit.proofs.kept.kind_with.Goals as goal
