@@ -1,5 +1,5 @@
 -- Which job a core should run after some events: earliest deadline first under the Stack Resource Policy, as in a plan's ticks.
-use Rattle.std.specs.Prelude.{ℕ, List, Bool, true, ◌&&◌, not, nat_lt, Option, Some, None, if◌then◌else◌, filter}
+use Rattle.std.specs.Prelude.{ℕ, List, Bool, true, false, ◌&&◌, not, nat_lt, Option, Some, None, if◌then◌else◌, filter}
 use Rattle.std.specs.List.{list_any}
 use Rattle.std.specs.Option.{option_map}
 use Rattle.std.specs.Ordering.{is_lt}
@@ -15,13 +15,21 @@ use Rattle.msrp_events.specs.declared.states.LiveJob.{LiveJob}
 abbrev pub is_before : PlanModel → LiveJob → LiveJob → Bool
 is_before system i j = is_lt (key_cmp (live_key system i) (live_key system j))
 
+-- the job belongs to the core, and is started or isn't
+abbrev pub is_among : PlanModel → ℕ → Bool → LiveJob → Bool
+is_among system c started j = is_on system c j && (if started then j.started else not j.started)
+
+-- the first job of the core among those that are started, or among those that aren't
+abbrev pub first_of : PlanModel → List LiveJob → ℕ → Bool → Option LiveJob
+first_of system jobs c started = least (is_before system) (filter (is_among system c started) jobs)
+
 -- the first job of the core that no core has switched to
 abbrev pub head : PlanModel → List LiveJob → ℕ → Option LiveJob
-head system jobs c = least (is_before system) (filter (λ j. is_on system c j && not j.started) jobs)
+head system jobs c = first_of system jobs c false
 
 -- the first job of the core that is started
 abbrev pub running : PlanModel → List LiveJob → ℕ → Option LiveJob
-running system jobs c = least (is_before system) (filter (λ j. is_on system c j && j.started) jobs)
+running system jobs c = first_of system jobs c true
 
 -- the current ceiling of the core: by the resources that its jobs hold, and whether one of them waits for a global one
 abbrev pub ceiling : PlanModel → List LiveJob → ℕ → ℕ

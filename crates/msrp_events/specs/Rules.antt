@@ -60,9 +60,12 @@ is_next_step system Request g j = not j.waits && (locks_next g (next_unit system
 is_next_step system Freed g j = not j.waits && (unlocks_next g (next_unit system j) && is_global system g)
 is_next_step system _ g j = awaits system g j
 
--- of those that await the resource the job asked first
+-- of those that await the resource the one that asked first
+abbrev pub first_waiting : PlanModel → List LiveJob → ℕ → Option JobId
+first_waiting system jobs g = option_map (λ x. x.job) (find (awaits system g) jobs)
+
 abbrev pub is_first : PlanModel → List LiveJob → ℕ → JobId → Bool
-is_first system jobs g j = is_job (option_map (λ x. x.job) (find (awaits system g) jobs)) j
+is_first system jobs g j = is_job (first_waiting system jobs g) j
 
 -- E10: nobody holds what is locked or acquired; who acquires asked first; and a poll fails only where it must
 abbrev pub has_outcome : PlanModel → List LiveJob → LockAction → ℕ → JobId → Bool
