@@ -29,7 +29,7 @@ loop-row-preserved g c =
 pub returns-in_err-next_row-clause-gathered : goal.returns-in_err-next_row-clause-gathered
 returns-in_err-next_row-clause-gathered g c = λ told known.
     let rows = c.loop-row.gathered in
-    let gives : c.from_residual-in_err-next_row.result ≡ Err (trace_fault_of c.in_err-next_row.field-0.0) = search rules in
+    let gives : c.from_residual.result ≡ Err (trace_fault_of c.in_err-next_row.field-0.0) = search rules in
     subst (IsGathered c.args.most told rows) (sym gives)
     (gathered-refused c.args.most told rows _ _ (row_told c.next_row.result) c.in_err-next_row.field-0.0 (c.loop-row.invariant.read told known) c.next_row.ensures.gives (ap row_told c.in_err-next_row.was))
 
@@ -41,10 +41,10 @@ pub returns-clause-gathered : goal.returns-clause-gathered
 returns-clause-gathered g c = λ told known.
     gathered-full c.args.most told c.loop-row.gathered _ (c.loop-row.invariant.read told known) (let past = c.loop-row-test.false in let count = c.loop-row.invariant.count in omega (arith, past, count))
 
-pub returns-in_err-push-clause-gathered : goal.returns-in_err-push-clause-gathered
-returns-in_err-push-clause-gathered g c = λ told known.
+pub returns-in_err-push-in-Some-clause-gathered : goal.returns-in_err-push-in-Some-clause-gathered
+returns-in_err-push-in-Some-clause-gathered g c = λ told known.
     let rows = c.loop-row.gathered in
-    let gives : c.from_residual-in_err-push.result ≡ Err Memory = search rules in
+    let gives : c.from_residual-in_err-push-in-Some.result ≡ Err Memory = search rules in
     let kept : c.push.new.self ≡ rows = search rules in
-    subst (λ (l : List Row). IsGathered c.args.most told l c.from_residual-in_err-push.result) (sym kept)
+    subst (λ (l : List Row). IsGathered c.args.most told l c.from_residual-in_err-push-in-Some.result) (sym kept)
     (subst (IsGathered c.args.most told rows) (sym gives) (gathered-unkept c.args.most told rows _ (c.loop-row.invariant.read told known)))
