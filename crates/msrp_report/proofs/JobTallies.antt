@@ -1,5 +1,5 @@
 -- Where the jobs of a plan stand among what is kept of them.
-use Rattle.msrp_plan.proofs.Common.{◌≡◌, ℕ, zero, suc, ◌<◌, ◌≤◌, ◌+◌, ◌==◌, ◌&&◌, not, Bool, true, false, List, [], ◌∷◌, ◌++◌, Option, Some, None, refl, ap, sym, ◌∙◌, subst, arith, length, map, slice_get, get_or, nat_lt, ◌*◌, ◌^◌, cond, fold, unwrap_or, mul_comm, AllByRecursion, Contains, range_with_len, All-contains, All-from_recursion, mul-le-mul_right, mul-le-mul_left, div_below, slice_get_read, PlanModel, core_of, jobs, jobs_of, jobs_on, job_at, is_row_of, is_started, is_finished, is_before, blocked, count_after, IsRunStart, IsPlan, job_on, jobs_of_are, all_weaker, least_in, kept_by, known_task}
+use Rattle.msrp_plan.proofs.Common.{◌≡◌, ℕ, zero, suc, ◌<◌, ◌≤◌, ◌+◌, ◌==◌, ◌&&◌, not, Bool, true, false, List, [], ◌∷◌, ◌++◌, Option, Some, None, refl, ap, sym, ◌∙◌, subst, arith, length, map, slice_get, get_or, nat_lt, ◌*◌, cond, fold, unwrap_or, mul_comm, AllByRecursion, Contains, range_with_len, All-contains, All-from_recursion, mul-le-mul_right, mul-le-mul_left, div_below, slice_get_read, PlanModel, core_of, jobs, jobs_of, jobs_on, job_at, is_row_of, is_started, is_finished, is_before, blocked, count_after, IsRunStart, IsPlan, job_on, jobs_of_are, all_weaker, least_in, kept_by, known_task}
 use Rattle.msrp_plan.specs.declared.ids.JobId.{JobId}
 use Rattle.msrp_plan.specs.declared.rows.Row.{Row}
 use Rattle.std.proofs.Common.{filter}
@@ -16,8 +16,6 @@ use Rattle.msrp_report.specs.declared.numbers.JobNumbers.{JobNumbers}
 use Rattle.msrp_report.specs.declared.tallies.Blocking.TheVariants.{Over, By}
 use Rattle.msrp_report.specs.declared.tallies.JobTally.{JobTally}
 use Rattle.msrp_report.specs.declared.tallies.TaskTally.{TaskTally}
-use Rattle.msrp_report.proofs.OwnRows.{counts_within}
-use Rattle.msrp_report.proofs.LineJobs.{jobs_few}
 use Rattle.msrp_report.proofs.Waiting.{waits_told}
 
 -- ---- a job of the plan
@@ -45,24 +43,6 @@ of_task plan t j ok there =
     let P : JobId → Type 0 = λ x. (x.task.0 ≡ t) × (x.k < length (jobs_of plan t)) in
     All-contains P (jobs_of plan t) j (All-from_recursion P (jobs_of plan t) (subst (AllByRecursion P) (sym (jobs_of_are plan ok t)) (numbered_of plan t 0 (length (jobs_of plan t)) (omega arith)))) there
 
--- the same numbers are of the same job
-pub same_job_at : (t k u m : ℕ) → u ≡ t → m ≡ k → job_at t k ≡ job_at u m
-same_job_at t k u m task number = ap (λ n. job_at n k) (sym task) ∙ ap (job_at u) (sym number)
-
--- its numbers fit what is kept of them
-pub record AreSmall (j : JobId) : Type 0 where
-  pub task : j.task.0 < 2 ^ 8
-  pub number : j.k < 2 ^ 16
-
-pub job_small : (plan : PlanModel) (j : JobId) → IsPlan plan → Contains (jobs plan) j → AreSmall j
-job_small plan j ok there =
-    let task = (job_known plan j there).task in
-    let tasks = ok.draft.tasks in
-    let number = number_within plan j ok there in
-    let few = jobs_few plan j.task.0 in
-    let ticks = ok.draft.ticks in
-    record { task = omega (arith, task, tasks); number = omega (arith, number, few, ticks) }
-
 -- ---- what is kept of it
 pub told_task : (tasks : List TaskTally) (j : JobId) → ToldOf tasks j → j.task.0 < length tasks
 told_task tasks j told = let size = told.tallies.size in let l = (job_known told.plan j told.known).task in omega (arith, size, l)
@@ -88,11 +68,11 @@ over_told plan rows begun tasks j s n are of e =
     let over = subst (IsBlocking plan rows (nat_lt j.k of.task.released) j) e (tally_told plan rows begun tasks j s are of).blocking in
     sym over.count
 
-pub blocker_told : (plan : PlanModel) (rows : List Row) (begun : ℕ → ℕ) (tasks : List TaskTally) (j : JobId) (t k : ℕ) (s : JobTally) (n : ℕ) → IsPlan plan → AreTallies plan rows begun tasks → Contains (jobs plan) j → IsTallyOf tasks j s → s.blocking ≡ By t k n
-    → Contains (jobs plan) (job_at t k) × ((count_of rows (job_at t k)).rows ≡ n + blocked plan rows j)
-blocker_told plan rows begun tasks j t k s n ok are there of e =
+pub blocker_told : (plan : PlanModel) (rows : List Row) (begun : ℕ → ℕ) (tasks : List TaskTally) (j k : JobId) (s : JobTally) (n : ℕ) → IsPlan plan → AreTallies plan rows begun tasks → Contains (jobs plan) j → IsTallyOf tasks j s → s.blocking ≡ By k n
+    → Contains (jobs plan) k × ((count_of rows k).rows ≡ n + blocked plan rows j)
+blocker_told plan rows begun tasks j k s n ok are there of e =
     let w = subst (IsBlocking plan rows (nat_lt j.k of.task.released) j) e (tally_told plan rows begun tasks j s are of).blocking in
-    (blocker_known plan rows (nat_lt j.k of.task.released) j (job_at t k) n w, waits_told plan rows (nat_lt j.k of.task.released) j (job_at t k) n ok are.start there w)
+    (blocker_known plan rows (nat_lt j.k of.task.released) j k n w, waits_told plan rows (nat_lt j.k of.task.released) j k n ok are.start there w)
 
 -- ---- how great the counts are
 pub few_rows : (plan : PlanModel) (rows : List Row) → IsPlan plan → IsRunStart plan rows → length rows ≤ 160000
@@ -107,13 +87,15 @@ few_rows plan rows ok start =
 -- one row more can be counted
 pub can_count : (plan : PlanModel) (rows : List Row) (j : JobId) (c : JobCount) → IsPlan plan → IsRunStart plan rows → c ≡ count_of rows j → CanCount c
 can_count plan rows j c ok start is =
-    let few = subst (AreFew 20000) (sym is) (counts_within plan rows j ok start) in
+    let few = subst (AreFew (length rows)) (sym is) (counts_few rows j) in
+    let all = few_rows plan rows ok start in
     let r = few.rows in
     let d = few.done in
     let s = few.spins in
-    record { rows = omega (arith, r); done = omega (arith, d); spins = omega (arith, s); wait = room c.wait few.wait; longest = subst (λ (x : JobCount). unwrap_or x.wait 0 ≤ x.longest_wait) (sym is) (wait_within rows j) }
+    let w = few.wait in
+    record { rows = omega (arith, r, all); done = omega (arith, d, all); spins = omega (arith, s, all); wait = room c.wait (omega (arith, w, all)); longest = subst (λ (x : JobCount). unwrap_or x.wait 0 ≤ x.longest_wait) (sym is) (wait_within rows j) }
   where
-    room : (w : Option ℕ) → unwrap_or w 0 ≤ 20000 → HasRoom w
+    room : (w : Option ℕ) → unwrap_or w 0 ≤ 160000 → HasRoom w
     room None h = tt
     room (Some x) h = omega (arith, h)
 

@@ -1,5 +1,4 @@
 pub mod JobCounts
-pub mod OwnRows
 pub mod Waits
 pub mod Waiting
 pub mod JobTallies

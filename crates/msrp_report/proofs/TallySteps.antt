@@ -71,7 +71,7 @@ due_job plan t n begun due left = elim (cases_lt n (length (jobs_of plan t))) [
 -- a job that isn't released is blocked by no row
 fresh_over : (plan : PlanModel) (rows : List Row) (j : JobId) (b : Blocking) → IsBlocking plan rows false j b → IsOver plan rows false j 0
 fresh_over plan rows j (Over n) over = subst (IsOver plan rows false j) (over.ahead refl).0 over
-fresh_over plan rows j (By m k n) w = absurd (true≢false (sym w.come))
+fresh_over plan rows j (By k n) w = absurd (true≢false (sym w.come))
 
 lt_next : (k n : ℕ) → k ≢ n → nat_lt k (n + 1) ≡ nat_lt k n
 lt_next k n ne = elim (cases_lt k n) [

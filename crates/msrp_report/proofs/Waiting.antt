@@ -1,5 +1,5 @@
 -- How long a job is blocked, told at its release and at its start.
-use Rattle.msrp_plan.proofs.Common.{◌≡◌, ℕ, ◌<◌, ◌≤◌, ◌+◌, Bool, true, false, not, ◌&&◌, ◌||◌, cond, List, [], ◌∷◌, ◌++◌, Option, Some, None, refl, ap, sym, ◌∙◌, subst, arith, count_by, append_assoc, append-nil, AllByRecursion, Contains, true≢false, sum_by-append, sum_by-cons, false_from_ne_true, PlanModel, release, jobs, job_at, is_row_of, is_started, blocked, count_after, first_later, is_before, IsLegal, IsRunStart, IsPlan, some_is, before_order, all_push, any_push, or_parts, irrefl, each_before, each_at, start_before}
+use Rattle.msrp_plan.proofs.Common.{◌≡◌, ℕ, ◌<◌, ◌≤◌, ◌+◌, Bool, true, false, not, ◌&&◌, ◌||◌, cond, List, [], ◌∷◌, ◌++◌, Option, Some, None, refl, ap, sym, ◌∙◌, subst, arith, count_by, append_assoc, append-nil, AllByRecursion, Contains, true≢false, sum_by-append, sum_by-cons, false_from_ne_true, PlanModel, release, jobs, is_row_of, is_started, blocked, count_after, first_later, is_before, IsLegal, IsRunStart, IsPlan, some_is, before_order, all_push, any_push, or_parts, irrefl, each_before, each_at, start_before}
 use Rattle.msrp_plan.specs.declared.ids.JobId.{JobId}
 use Rattle.msrp_plan.specs.declared.rows.Row.{Row}
 use Rattle.msrp_plan.specs.Blocking.{blocks, is_by, ComesBefore, ComesAfter}
@@ -117,10 +117,10 @@ blocking_more plan rows r released j (Over n) t other over = record {
   ahead = λ e. ((over.ahead e).0, fresh_push rows r j other (over.ahead e).1);
   nobody = λ e fresh. since_more plan rows r j None (λ _. t.come e) (over.nobody e (fresh_before rows r j fresh));
 }
-blocking_more plan rows r released j (By m k n) t other w = record {
+blocking_more plan rows r released j (By k n) t other w = record {
   come = w.come;
   unstarted = fresh_push rows r j other w.unstarted;
-  since = since_more plan rows r j (Some (job_at m k)) (λ _. t.come w.come) w.since;
+  since = since_more plan rows r j (Some k) (λ _. t.come w.come) w.since;
   rows_then = w.rows_then;
 }
 
@@ -141,7 +141,7 @@ own_over plan rows r released j n job mine come old = record {
 -- a job that is started is blocked by no later row
 pub started_over : (plan : PlanModel) (rows : List Row) (released : Bool) (j : JobId) (b : Blocking) → is_started rows j ≡ true → IsBlocking plan rows released j b → b ≡ Over (blocked plan rows j)
 started_over plan rows released j (Over n) s over = ap (λ m. Over m) (sym over.count)
-started_over plan rows released j (By t k n) s w = absurd (true≢false (sym s ∙ w.unstarted))
+started_over plan rows released j (By k n) s w = absurd (true≢false (sym s ∙ w.unstarted))
 
 -- ---- at the release
 pub released_by : (plan : PlanModel) (rows : List Row) (j : JobId) → IsOver plan rows false j 0 → AllByRecursion (λ r. r.tick < release plan j) rows → (o : Option JobId) → first_later plan rows j ≡ o → IsBlocking plan rows true j (blocking_by rows o)

@@ -4,19 +4,19 @@ ghost use Rattle.msrp_report.specs.Inside.Counts.{CanCount, counted_as, spun, Ha
 
 use msrp_plan::Kind;
 
-/// What the rows so far tell of one job. It has no more rows than the plan has ticks, so two bytes hold each number.
+/// What the rows so far tell of one job.
 #[derive(Clone, Copy)]
 pub(crate) struct JobCount {
-    pub(crate) rows: u16,
+    pub(crate) rows: u32,
     /// The units that it has done.
-    pub(crate) done: u16,
+    pub(crate) done: u32,
     /// The tick of its last row.
-    pub(crate) last_tick: u16,
-    pub(crate) spins: u16,
+    pub(crate) last_tick: u32,
+    pub(crate) spins: u32,
     /// How often it has spun since it joined a queue in which it waits.
-    pub(crate) wait: Option<u16>,
+    pub(crate) wait: Option<u32>,
     /// The most spins in one wait.
-    pub(crate) longest_wait: u16,
+    pub(crate) longest_wait: u32,
 }
 
 impl JobCount {
@@ -33,7 +33,7 @@ impl JobCount {
     // One spin more.
     #[inline(always)]
     fn spin(&mut self)
-        requires spins { self.old.spins + 1 < 2 ^ 16 }
+        requires spins { self.old.spins + 1 < 2 ^ 32 }
         requires wait { HasRoom self.old.wait }
         requires longest { unwrap_or self.old.wait 0 ≤ self.old.longest_wait }
         ensures { self.new ≡ spun self.old }
@@ -49,12 +49,11 @@ impl JobCount {
     /// by a table.
     #[inline(always)]
     pub(crate) fn add(&mut self, tick: u32, kind: Kind)
-        requires tick { tick < 2 ^ 16 }
-        requires room { CanCount self.old }
+        requires { CanCount self.old }
         ensures { self.new ≡ counted_as tick kind self.old }
     {
         self.rows += 1;
-        self.last_tick = tick as u16;
+        self.last_tick = tick;
         if matches!(kind, Kind::Queue) {
             self.wait = Some(self.wait.unwrap_or(0));
         } else if matches!(kind, Kind::Spin) {

@@ -53,15 +53,15 @@ pub(crate) fn job_numbers(plan: &Plan, tallies: &Tallies, job: JobId) -> JobNumb
     ensures blocked { result.blocked ≤ most_rows }
 {
     let count = tallies.count_of(job);
-    let finished = u32::from(count.done) == plan.units(job.task);
+    let finished = count.done == plan.units(job.task);
     let end = u64::from(count.last_tick) + 1;
     let key = plan.job_key(job);
     JobNumbers {
         finished,
         late: is_late(finished, key, end, plan.ticks()),
         response: response_of(finished, key, end),
-        spins: u32::from(count.spins),
-        longest_wait: u32::from(count.longest_wait),
-        blocked: u32::from(tallies.blocked(job)),
+        spins: count.spins,
+        longest_wait: count.longest_wait,
+        blocked: tallies.blocked(job),
     }
 }

@@ -8,21 +8,20 @@ ghost use Rattle.msrp_report.specs.Inside.Tallies.{AreTallies, IsTallyOf, ToldOf
 use crate::counts::JobCount;
 use active::CoreJobs;
 use msrp_plan::{JobId, TaskId};
-use std::mem::size_of;
 
 mod active;
 mod feeding;
 mod releasing;
 mod starting;
 
-/// How long a job is blocked, as far as the rows tell. Who blocks it is known at its release, and it is blocked until it starts. A plan
-/// has fewer tasks than a byte tells, and fewer jobs and ticks than two do.
+/// How long a job is blocked, as far as the rows tell. Who blocks it is known at its release, and it is
+/// blocked until it starts.
 #[derive(Clone, Copy)]
 pub(crate) enum Blocking {
     /// By so many rows, and by no later one: it is started, or nobody blocks it, or it isn't released yet.
-    Over(u16),
-    /// It waits, and each row of this task's k-th job blocks it. So many rows of that job came before the release.
-    By { task: u8, k: u16, before: u16 },
+    Over(u32),
+    /// It waits, and each row of this job blocks it. So many rows of that job came before the release.
+    By { job: JobId, before: u32 },
 }
 
 /// What the rows so far tell of one job.
@@ -31,8 +30,6 @@ pub(crate) struct JobTally {
     pub(crate) count: JobCount,
     pub(crate) blocking: Blocking,
 }
-
-const _: () = prove!(size_of::<JobTally>() == 20);
 
 /// What they tell of the jobs of one task.
 #[derive(Drop)]
@@ -83,20 +80,13 @@ impl Tallies {
     }
 
     /// How many rows have blocked a job.
-    pub(crate) fn blocked(&self, job: JobId) -> u16
+    pub(crate) fn blocked(&self, job: JobId) -> u32
         requires { ToldOf self.now.tasks.items job }
         ensures { (plan : PlanModel) (rows : List TraceRow) (begun : ℕ → ℕ) → IsPlan plan → AreTallies plan rows begun self.now.tasks.items → Contains (jobs plan) job → result ≡ blocked plan rows job }
     {
         match self.tally_of(job).blocking {
             Blocking::Over(rows) => rows,
-            Blocking::By { task, k, before } => {
-                let task = TaskId(u32::from(task));
-                let other = JobId {
-                    task,
-                    k: u32::from(k),
-                };
-                self.count_of(other).rows - before
-            }
+            Blocking::By { job: other, before } => self.count_of(other).rows - before,
         }
     }
 }

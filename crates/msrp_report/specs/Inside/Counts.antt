@@ -17,13 +17,13 @@ wait_with _ wait = wait
 -- one spin more can be counted
 abbrev pub HasRoom : Option ℕ → Type 0
 HasRoom None = ⊤
-HasRoom (Some n) = n + 1 < 2 ^ 16
+HasRoom (Some n) = n + 1 < 2 ^ 32
 
 -- one row more can be counted
 pub record CanCount (c : JobCount) : Type 0 where
-  pub rows : c.rows + 1 < 2 ^ 16
-  pub done : c.done + 1 < 2 ^ 16
-  pub spins : c.spins + 1 < 2 ^ 16
+  pub rows : c.rows + 1 < 2 ^ 32
+  pub done : c.done + 1 < 2 ^ 32
+  pub spins : c.spins + 1 < 2 ^ 32
   pub wait : HasRoom c.wait
   pub longest : unwrap_or c.wait 0 ≤ c.longest_wait
 

@@ -40,7 +40,7 @@ pub record WaitsFor (plan : PlanModel) (rows : List Row) (released : Bool) (j k 
 
 abbrev pub IsBlocking : PlanModel → List Row → Bool → JobId → Blocking → Type 0
 IsBlocking plan rows released j (Over n) = IsOver plan rows released j n
-IsBlocking plan rows released j (By t k n) = WaitsFor plan rows released j (job_at t k) n
+IsBlocking plan rows released j (By k n) = WaitsFor plan rows released j k n
 
 -- ---- jobs, task by task
 pub record IsJobTally (plan : PlanModel) (rows : List Row) (released : Bool) (j : JobId) (s : JobTally) : Type 0 where
@@ -142,7 +142,7 @@ pub record ToldBy (plan : PlanModel) (t : Tallies) : Type 0 where
 -- how a job is blocked at its release by this job, if there is one
 abbrev pub blocking_by : List Row → Option JobId → Blocking
 blocking_by rows None = Over 0
-blocking_by rows (Some j) = By j.task.0 j.k (count_of rows j).rows
+blocking_by rows (Some j) = By j (count_of rows j).rows
 
 -- ---- the first of the later jobs that are active
 abbrev pub is_later_active : PlanModel → List Row → JobId → JobId → Bool

@@ -31,7 +31,7 @@ impl Tallies {
         let tally = &mut task.jobs[job.k as usize];
         tally.count.add(tick, kind);
         tally.blocking = Blocking::Over(blocked);
-        if u32::from(tally.count.done) == task.units {
+        if tally.count.done == task.units {
             return;
         }
         let core = plan.core_of(job.task);
@@ -56,7 +56,7 @@ impl Tallies {
         let task = &mut self.tasks[job.task.0 as usize];
         let tally = &mut task.jobs[job.k as usize];
         tally.count.add(row.tick, row.kind);
-        if u32::from(tally.count.done) != task.units {
+        if tally.count.done != task.units {
             return;
         }
         let core = plan.core_of(job.task);

@@ -49,8 +49,7 @@ impl Tallies {
         match self.active[core.0 as usize].first_later(plan, job) {
             None => Blocking::Over(0),
             Some(other) => Blocking::By {
-                task: other.task.0 as u8,
-                k: other.k as u16,
+                job: other,
                 before: self.count_of(other).rows,
             },
         }

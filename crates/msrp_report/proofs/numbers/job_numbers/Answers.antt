@@ -32,9 +32,9 @@ returns-clause-numbers c = λ rows told.
     let plan = c.args.plan.now in
     let j = c.args.job in
     let count = c.count_of-count.ensures plan rows (λ _. c.args.tallies.now.begun) told.tallies in
-    let did : c.from.result ≡ done j rows = c.from.ensures ∙ (ap (λ (x : JobCount). x.done) count ∙ done_is rows j) in
+    let did : c.count_of-count.result.done ≡ done j rows = ap (λ (x : JobCount). x.done) count ∙ done_is rows j in
     let last : c.from-end.result ≡ last_tick j rows = c.from-end.ensures ∙ (ap (λ (x : JobCount). x.last_tick) count ∙ last_is rows j) in
-    let finished : (c.from.result == c.units.result) ≡ is_finished plan rows j = ap (λ d. d == c.units.result) did ∙ ap (λ n. done j rows == n) c.units.ensures in
+    let finished : (c.count_of-count.result.done == c.units.result) ≡ is_finished plan rows j = ap (λ d. d == c.units.result) did ∙ ap (λ n. done j rows == n) c.units.ensures in
     let due = ap (λ (k : JobKey). k.deadline) c.job_key-key.ensures in
     let released = ap (λ (k : JobKey). k.release) c.job_key-key.ensures in
     same_numbers _ (numbers_of plan rows j)
@@ -48,21 +48,19 @@ returns-clause-numbers c = λ rows told.
     ∙ (ap (λ b. cond b ((c.from-end.result + 1) - c.job_key-key.result.release) 0) finished
     ∙ (ap (λ d. cond (is_finished plan rows j) ((c.from-end.result + 1) - d) 0) released
     ∙ ap (λ l. cond (is_finished plan rows j) ((l + 1) - release plan j) 0) last)))
-    (c.from-2.ensures ∙ (ap (λ (x : JobCount). x.spins) count ∙ spins_is rows j))
-    (c.from-3.ensures ∙ (ap (λ (x : JobCount). x.longest_wait) count ∙ longest_is rows j))
-    (c.from-4.ensures ∙ c.blocked.ensures plan rows (λ _. c.args.tallies.now.begun) c.requires.plan told.tallies c.requires.job)
+    (ap (λ (x : JobCount). x.spins) count ∙ spins_is rows j)
+    (ap (λ (x : JobCount). x.longest_wait) count ∙ longest_is rows j)
+    (c.blocked.ensures plan rows (λ _. c.args.tallies.now.begun) c.requires.plan told.tallies c.requires.job)
 
 pub returns-clause-spins : goal.returns-clause-spins
 returns-clause-spins c =
     let t = c.requires.told in
     let few = spins_few c.args.plan.now t.0 c.args.job c.count_of-count.result c.requires.plan t.1.tallies.start (c.count_of-count.ensures c.args.plan.now t.0 (λ _. c.args.tallies.now.begun) t.1.tallies) in
-    let spins = c.from-2.ensures in
-    omega (arith, few, spins)
+    few
 
 pub returns-clause-blocked : goal.returns-clause-blocked
 returns-clause-blocked c =
     let t = c.requires.told in
     let few = blocked_few c.args.plan.now t.0 c.args.job c.requires.plan t.1.tallies.start in
     let e = c.blocked.ensures c.args.plan.now t.0 (λ _. c.args.tallies.now.begun) c.requires.plan t.1.tallies c.requires.job in
-    let blocked = c.from-4.ensures in
-    omega (arith, few, e, blocked)
+    omega (arith, few, e)

@@ -4,7 +4,7 @@ use Rattle.msrp_report.specs.declared.counts.JobCount.{JobCount}
 use Rattle.msrp_report.specs.declared.tallies.Blocking.TheVariants.{By}
 use Rattle.msrp_report.proofs.Active.{all_known, later_known}
 use Rattle.msrp_report.proofs.ActiveRows.{core_read, core_within}
-use Rattle.msrp_report.proofs.JobTallies.{job_known, job_small}
+use Rattle.msrp_report.proofs.JobTallies.{job_known}
 use Rattle.msrp_report.proofs.tallies.Tallies.blocking_of.Goals as goal
 
 pub core_of-core-requires : goal.core_of-core-requires
@@ -37,26 +37,6 @@ count_of-requires c =
     let active = t.active.each (core_of plan j) x (core_read plan t.rows j c.args.self.now.active.items c.core_of-core.result.0 x c.requires.plan c.requires.job t.active c.core_of-core.ensures c.index.ensures) in
     record { plan = plan; rows = t.rows; begun = t.begun; accepted = c.requires.plan; tallies = t.tallies; known = later_known plan t.rows j c.in-Some.other (sym (c.first_later.ensures t.rows active) ∙ c.in-Some.is) }
 
-pub overflow_cast-result : goal.overflow_cast-result
-overflow_cast-result c =
-    let plan = c.args.plan.now in
-    let j = c.args.job in
-    let t = c.requires.told in
-    let x = c.index.result.now in
-    let active = t.active.each (core_of plan j) x (core_read plan t.rows j c.args.self.now.active.items c.core_of-core.result.0 x c.requires.plan c.requires.job t.active c.core_of-core.ensures c.index.ensures) in
-    let small = job_small plan c.in-Some.other c.requires.plan (later_known plan t.rows j c.in-Some.other (sym (c.first_later.ensures t.rows active) ∙ c.in-Some.is)) in
-    omega (arith, small)
-
-pub overflow_cast-result-in-Some : goal.overflow_cast-result-in-Some
-overflow_cast-result-in-Some c =
-    let plan = c.args.plan.now in
-    let j = c.args.job in
-    let t = c.requires.told in
-    let x = c.index.result.now in
-    let active = t.active.each (core_of plan j) x (core_read plan t.rows j c.args.self.now.active.items c.core_of-core.result.0 x c.requires.plan c.requires.job t.active c.core_of-core.ensures c.index.ensures) in
-    let small = job_small plan c.in-Some.other c.requires.plan (later_known plan t.rows j c.in-Some.other (sym (c.first_later.ensures t.rows active) ∙ c.in-Some.is)) in
-    omega (arith, small)
-
 pub returns-in-None : goal.returns-in-None
 returns-in-None c = λ rows begun are active.
     let plan = c.args.plan.now in
@@ -71,4 +51,4 @@ returns-in-Some c = λ rows begun are active.
     let j = c.args.job in
     let x = c.index.result.now in
     let here = active.each (core_of plan j) x (core_read plan rows j c.args.self.now.active.items c.core_of-core.result.0 x c.requires.plan c.requires.job active c.core_of-core.ensures c.index.ensures) in
-    ap (λ (y : JobCount). By c.in-Some.other.task.0 c.in-Some.other.k y.rows) (c.count_of.ensures plan rows begun are) ∙ ap (blocking_by rows) (sym c.in-Some.is ∙ c.first_later.ensures rows here)
+    ap (λ (y : JobCount). By c.in-Some.other y.rows) (c.count_of.ensures plan rows begun are) ∙ ap (blocking_by rows) (sym c.in-Some.is ∙ c.first_later.ensures rows here)

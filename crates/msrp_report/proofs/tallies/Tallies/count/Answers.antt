@@ -1,8 +1,7 @@
-use Rattle.msrp_plan.proofs.Common.{◌==◌, true, false, not, slice_set, refl, ap, sym, ◌∙◌, arith, eq-eqb, eqb-true, false_from_ne_true, with_item, core_of}
+use Rattle.msrp_plan.proofs.Common.{◌==◌, true, false, not, slice_set, refl, ap, ◌∙◌, arith, eq-eqb, eqb-true, false_from_ne_true, with_item, core_of}
 use Rattle.msrp_report.specs.declared.counts.JobCount.{JobCount}
 use Rattle.msrp_report.proofs.ActiveRows.{core_read, core_within, cores_kept, cores_set, ends, goes_on}
 use Rattle.msrp_report.proofs.JobTallies.{job_known, job_read, room_read, task_read, told_number, told_task}
-use Rattle.msrp_report.proofs.OwnRows.{tick_left}
 use Rattle.msrp_report.proofs.Releases.{releases_kept}
 use Rattle.msrp_report.proofs.RowSteps.{job_on_core, row_in, row_last, row_told, tallies_grown}
 use Rattle.msrp_report.proofs.tallies.Tallies.count.Goals as goal
@@ -18,15 +17,8 @@ index_mut-tally-requires c =
     let told = row_told c.args.plan.now c.args.row c.args.job c.args.self.now c.requires.plan c.requires.told c.requires.job in
     omega (arith, told_number c.args.self.now.tasks.items c.args.job c.index_mut-task.result.now told (task_read c.args.self.now.tasks.items c.args.job c.index_mut-task.result.now told c.index_mut-task.ensures.value))
 
-pub add-requires-clause-tick : goal.add-requires-clause-tick
-add-requires-clause-tick c =
-    let t = c.requires.told in
-    let left = tick_left c.args.plan.now t.0 c.args.row c.requires.plan t.2.start in
-    let ticks = c.requires.plan.draft.ticks in
-    omega (arith, left, ticks)
-
-pub add-requires-clause-room : goal.add-requires-clause-room
-add-requires-clause-room c = room_read c.args.self.now.tasks.items c.args.job c.index_mut-task.result.now c.index_mut-tally.result.now (row_told c.args.plan.now c.args.row c.args.job c.args.self.now c.requires.plan c.requires.told c.requires.job) c.index_mut-task.ensures.value c.index_mut-tally.ensures.value
+pub add-requires : goal.add-requires
+add-requires c = room_read c.args.self.now.tasks.items c.args.job c.index_mut-task.result.now c.index_mut-tally.result.now (row_told c.args.plan.now c.args.row c.args.job c.args.self.now c.requires.plan c.requires.told c.requires.job) c.index_mut-task.ensures.value c.index_mut-tally.ensures.value
 
 pub core_of-core-requires : goal.core_of-core-requires
 core_of-core-requires c = let t = c.requires.told in (job_known c.args.plan.now c.args.job (row_in c.args.plan.now t.0 c.args.row c.args.job t.2.start c.requires.job)).task
@@ -41,8 +33,8 @@ index_mut-requires c =
     omega (arith, within, core, len)
 
 -- ---- a row of a job that goes on
-pub returns-then-from-task-clause-told : goal.returns-then-from-task-clause-told
-returns-then-from-task-clause-told c = λ rows are next.
+pub returns-then-tally-task-clause-told : goal.returns-then-tally-task-clause-told
+returns-then-tally-task-clause-told c = λ rows are next.
     let plan = c.args.plan.now in
     let tasks = c.args.self.now.tasks.items in
     let x = c.index_mut-task.result.now in
@@ -59,11 +51,11 @@ returns-then-from-task-clause-told c = λ rows are next.
       released = refl;
     })
 
-pub returns-then-from-task-clause-releases : goal.returns-then-from-task-clause-releases
-returns-then-from-task-clause-releases c = releases_kept c.args.plan.now _ _ c.args.job _ _ (row_told c.args.plan.now c.args.row c.args.job c.args.self.now c.requires.plan c.requires.told c.requires.job) c.index_mut-task.ensures.value refl
+pub returns-then-tally-task-clause-releases : goal.returns-then-tally-task-clause-releases
+returns-then-tally-task-clause-releases c = releases_kept c.args.plan.now _ _ c.args.job _ _ (row_told c.args.plan.now c.args.row c.args.job c.args.self.now c.requires.plan c.requires.told c.requires.job) c.index_mut-task.ensures.value refl
 
-pub returns-then-from-task-clause-active : goal.returns-then-from-task-clause-active
-returns-then-from-task-clause-active c = λ rows are active next.
+pub returns-then-tally-task-clause-active : goal.returns-then-tally-task-clause-active
+returns-then-tally-task-clause-active c = λ rows are active next.
     let plan = c.args.plan.now in
     let tasks = c.args.self.now.tasks.items in
     let i = c.args.job in
@@ -74,7 +66,7 @@ returns-then-from-task-clause-active c = λ rows are active next.
     let of_task = task_read tasks i x told c.index_mut-task.ensures.value in
     let of_job = job_read tasks i x s told c.index_mut-task.ensures.value c.index_mut-tally.ensures.value in
     let started = c.is_unstarted.ensures plan rows (λ _. c.args.self.now.begun) are ∙ ap not c.if-is_unstarted.false in
-    let left = row_last plan rows c.args.row i (λ _. c.args.self.now.begun) tasks x s new false are of_task of_job c.requires.job c.add.ensures (false_from_ne_true (new.done == x.units) (λ e. c.if-from-task.true (c.from.ensures ∙ eqb-true new.done x.units e))) in
+    let left = row_last plan rows c.args.row i (λ _. c.args.self.now.begun) tasks x s new false are of_task of_job c.requires.job c.add.ensures (false_from_ne_true (new.done == x.units) (λ e. c.if-tally-task.true (eqb-true new.done x.units e))) in
     cores_kept plan rows c.args.row i c.args.self.now.active.items c.requires.job active (λ y is. goes_on plan rows c.args.row (core_of plan i) i y next.start c.requires.job (job_on_core plan rows c.args.row i next.start c.requires.job) is started left)
 
 -- ---- the last row of a job
@@ -113,7 +105,7 @@ returns-clause-active c = λ rows are active next.
     let of_job = job_read tasks i x s told c.index_mut-task.ensures.value c.index_mut-tally.ensures.value in
     let there = row_in plan rows c.args.row i next.start c.requires.job in
     let was = core_read plan rows i c.args.self.now.active.items c.core_of-core.result.0 own c.requires.plan there active c.core_of-core.ensures c.index_mut.ensures.value in
-    let finished = row_last plan rows c.args.row i (λ _. c.args.self.now.begun) tasks x s new true are of_task of_job c.requires.job c.add.ensures (eq-eqb new.done x.units (sym c.from.ensures ∙ c.if-from-task.false)) in
+    let finished = row_last plan rows c.args.row i (λ _. c.args.self.now.begun) tasks x s new true are of_task of_job c.requires.job c.add.ensures (eq-eqb new.done x.units c.if-tally-task.false) in
     cores_set plan rows c.args.row i c.args.self.now.active.items c.core_of-core.result.0 own c.finish.new.self c.requires.job active c.core_of-core.ensures was
     (ends plan rows c.args.row (core_of plan i) i own c.finish.new.self c.requires.job (active.each (core_of plan i) own was) finished c.finish.ensures.jobs c.finish.ensures.room)
 

@@ -4,7 +4,6 @@ use Rattle.msrp_report.specs.declared.counts.JobCount.{JobCount}
 use Rattle.msrp_report.specs.declared.tallies.Blocking.TheVariants.{Over}
 use Rattle.msrp_report.proofs.ActiveRows.{begins, core_read, core_within, cores_kept, cores_set, may_begin, passes_by}
 use Rattle.msrp_report.proofs.JobTallies.{job_known, job_read, room_read, task_read, told_number, told_task}
-use Rattle.msrp_report.proofs.OwnRows.{tick_left}
 use Rattle.msrp_report.proofs.Releases.{releases_kept}
 use Rattle.msrp_report.proofs.RowSteps.{job_on_core, row_in, row_last, row_told, tallies_counted}
 use Rattle.msrp_report.proofs.tallies.Tallies.count_first.Goals as goal
@@ -20,16 +19,8 @@ index_mut-tally-requires c =
     let told = (let t = c.requires.told in row_told c.args.plan.now t.0 c.args.job c.args.self.now c.requires.plan t.1.counts t.1.job) in
     omega (arith, told_number c.args.self.now.tasks.items c.args.job c.index_mut-task.result.now told (task_read c.args.self.now.tasks.items c.args.job c.index_mut-task.result.now told c.index_mut-task.ensures.value))
 
-pub add-requires-clause-tick : goal.add-requires-clause-tick
-add-requires-clause-tick c =
-    let t = c.requires.told in
-    let left = tick_left c.args.plan.now t.1.counts.0 t.0 c.requires.plan t.1.counts.2.start in
-    let ticks = c.requires.plan.draft.ticks in
-    let same = t.1.tick in
-    omega (arith, left, ticks, same)
-
-pub add-requires-clause-room : goal.add-requires-clause-room
-add-requires-clause-room c = room_read c.args.self.now.tasks.items c.args.job c.index_mut-task.result.now c.index_mut-tally.result.now (let t = c.requires.told in row_told c.args.plan.now t.0 c.args.job c.args.self.now c.requires.plan t.1.counts t.1.job) c.index_mut-task.ensures.value c.index_mut-tally.ensures.value
+pub add-requires : goal.add-requires
+add-requires c = room_read c.args.self.now.tasks.items c.args.job c.index_mut-task.result.now c.index_mut-tally.result.now (let t = c.requires.told in row_told c.args.plan.now t.0 c.args.job c.args.self.now c.requires.plan t.1.counts t.1.job) c.index_mut-task.ensures.value c.index_mut-tally.ensures.value
 
 pub core_of-core-requires : goal.core_of-core-requires
 core_of-core-requires c = let t = c.requires.told in (job_known c.args.plan.now c.args.job (row_in c.args.plan.now t.1.counts.0 t.0 c.args.job t.1.counts.2.start t.1.job)).task
@@ -56,8 +47,8 @@ start-requires c =
     may_begin plan rows t.0 i own c.requires.plan start t.1.job (job_on_core plan rows t.0 i start t.1.job) (active.each (core_of plan i) own was) (c.requires.first rows t.1.counts.1)
 
 -- ---- its only row
-pub returns-then-from-task-clause-told : goal.returns-then-from-task-clause-told
-returns-then-from-task-clause-told c = λ row rows like are next.
+pub returns-then-tally-task-clause-told : goal.returns-then-tally-task-clause-told
+returns-then-tally-task-clause-told c = λ row rows like are next.
     let plan = c.args.plan.now in
     let tasks = c.args.self.now.tasks.items in
     let x = c.index_mut-task.result.now in
@@ -76,11 +67,11 @@ returns-then-from-task-clause-told c = λ row rows like are next.
     })
     (c.blocked-blocked.ensures plan rows (λ _. c.args.self.now.begun) c.requires.plan are (row_in plan rows row c.args.job next.start like.job))
 
-pub returns-then-from-task-clause-releases : goal.returns-then-from-task-clause-releases
-returns-then-from-task-clause-releases c = let t = c.requires.told in releases_kept c.args.plan.now _ _ c.args.job _ _ (row_told c.args.plan.now t.0 c.args.job c.args.self.now c.requires.plan t.1.counts t.1.job) c.index_mut-task.ensures.value refl
+pub returns-then-tally-task-clause-releases : goal.returns-then-tally-task-clause-releases
+returns-then-tally-task-clause-releases c = let t = c.requires.told in releases_kept c.args.plan.now _ _ c.args.job _ _ (row_told c.args.plan.now t.0 c.args.job c.args.self.now c.requires.plan t.1.counts t.1.job) c.index_mut-task.ensures.value refl
 
-pub returns-then-from-task-clause-active : goal.returns-then-from-task-clause-active
-returns-then-from-task-clause-active c = λ row rows like are active next.
+pub returns-then-tally-task-clause-active : goal.returns-then-tally-task-clause-active
+returns-then-tally-task-clause-active c = λ row rows like are active next.
     let plan = c.args.plan.now in
     let tasks = c.args.self.now.tasks.items in
     let i = c.args.job in
@@ -91,7 +82,7 @@ returns-then-from-task-clause-active c = λ row rows like are active next.
     let of_task = task_read tasks i x told c.index_mut-task.ensures.value in
     let of_job = job_read tasks i x s told c.index_mut-task.ensures.value c.index_mut-tally.ensures.value in
     let made = c.add.ensures ∙ (ap (λ t. counted_as t c.args.kind s.count) (sym like.tick) ∙ ap (λ k. counted_as row.tick k s.count) (sym like.kind)) in
-    let finished = row_last plan rows row i (λ _. c.args.self.now.begun) tasks x s new true are of_task of_job like.job made (eq-eqb new.done x.units (sym c.from.ensures ∙ c.if-from-task.true)) in
+    let finished = row_last plan rows row i (λ _. c.args.self.now.begun) tasks x s new true are of_task of_job like.job made (eq-eqb new.done x.units c.if-tally-task.true) in
     cores_kept plan rows row i c.args.self.now.active.items like.job active (λ y is. passes_by plan rows row (core_of plan i) i y like.job (job_on_core plan rows row i next.start like.job) is (c.requires.first rows are) finished)
 
 -- ---- the first of several
@@ -133,6 +124,6 @@ returns-clause-active c = λ row rows like are active next.
     let made = c.add.ensures ∙ (ap (λ t. counted_as t c.args.kind s.count) (sym like.tick) ∙ ap (λ k. counted_as row.tick k s.count) (sym like.kind)) in
     let there = row_in plan rows row i next.start like.job in
     let was = core_read plan rows i c.args.self.now.active.items c.core_of-core.result.0 own c.requires.plan there active c.core_of-core.ensures c.index_mut.ensures.value in
-    let left = row_last plan rows row i (λ _. c.args.self.now.begun) tasks x s new false are of_task of_job like.job made (false_from_ne_true (new.done == x.units) (λ e. c.if-from-task.false (c.from.ensures ∙ eqb-true new.done x.units e))) in
+    let left = row_last plan rows row i (λ _. c.args.self.now.begun) tasks x s new false are of_task of_job like.job made (false_from_ne_true (new.done == x.units) (λ e. c.if-tally-task.false (eqb-true new.done x.units e))) in
     cores_set plan rows row i c.args.self.now.active.items c.core_of-core.result.0 own c.start.new.self like.job active c.core_of-core.ensures was
     (begins plan rows row i own c.start.new.self c.requires.plan next.start like.job (job_on_core plan rows row i next.start like.job) (active.each (core_of plan i) own was) (c.requires.first rows are) left c.start.ensures.jobs c.start.ensures.room)

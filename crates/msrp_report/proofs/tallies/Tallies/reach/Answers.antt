@@ -1,9 +1,19 @@
-use Rattle.msrp_plan.proofs.Common.{◌<◌, sym, ◌∙◌, arith, legal_due, all_weaker, start_last}
+use Rattle.msrp_plan.proofs.Common.{◌≡◌, ◌<◌, ◌*◌, ◌++◌, ◌∷◌, [], List, length, length-append, sym, ◌∙◌, arith, legal_due, all_weaker, start_last, mul_comm, div_below, PlanModel, IsPlan, IsRunStart}
 use Rattle.msrp_plan.specs.declared.rows.Row.{Row as TraceRow}
-use Rattle.msrp_report.proofs.OwnRows.{tick_left}
 use Rattle.msrp_report.proofs.RowSteps.{tick_begun}
 use Rattle.msrp_report.proofs.TallySteps.{none_begun}
 use Rattle.msrp_report.proofs.tallies.Tallies.reach.Goals as goal
+
+-- the next row stands in a tick of the plan
+tick_left : (plan : PlanModel) (rows : List TraceRow) (r : TraceRow) → IsPlan plan → IsRunStart plan (rows ++ r ∷ []) → r.tick < plan.ticks
+tick_left plan rows r ok start =
+    let tick = (legal_due plan rows r (start_last plan rows r start)).tick in
+    let more = length-append rows (r ∷ []) in
+    let size = start.size in
+    let comm : plan.cores * plan.ticks ≡ plan.ticks * plan.cores = mul_comm plan.cores plan.ticks in
+    let low = ok.draft.cores in
+    let few = div_below (length rows) plan.cores plan.ticks (omega (arith, low)) (omega (arith, more, size, comm)) in
+    omega (arith, tick, few)
 
 pub returns-then-tick-self-clause-begun : goal.returns-then-tick-self-clause-begun
 returns-then-tick-self-clause-begun c =
