@@ -3,7 +3,6 @@ pub mod Insertion
 pub mod Ranks
 pub mod Blocks
 pub mod Fitting
-pub mod Gathering
 pub mod Pairing
 pub mod Histories
 pub mod Replies

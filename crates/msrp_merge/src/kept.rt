@@ -1,5 +1,5 @@
 //! A turn as a log keeps it, in as few bytes as it needs.
-ghost use Rattle.msrp_plan.specs.Common.{◌≡◌, ◌≤◌, is_some, vec_capacity, ahead_of_kind, job_of_kind, res_of_kind};
+ghost use Rattle.msrp_plan.specs.Common.{◌≡◌, ◌≤◌, vec_capacity, ahead_of_kind, job_of_kind, res_of_kind};
 ghost use Rattle.msrp_merge.specs.Keeping.{place_of_touch, turn_of};
 
 use crate::logs::{Place, Turn};
@@ -115,13 +115,6 @@ impl Kept {
             Kind::Queue if self.carries => Some(self.ahead),
             _ => None,
         }
-    }
-
-    /// Whether the turn has a place.
-    pub(crate) fn is_placed(&self) -> bool
-        ensures { result ≡ is_some (place_of_touch self.now.touch self.now.number) }
-    {
-        self.touch != Touch::Nothing
     }
 
     fn place(&self) -> Option<Place>

@@ -1,7 +1,6 @@
 //! What a core did, turn by turn.
 ghost use Rattle.msrp_plan.specs.Common.{◌≡◌, ◌<◌, ◌++◌, ◌∷◌, [], length, slice_index_or, IfOk};
 ghost use Rattle.msrp_merge.specs.declared.logs.Turn.{Turn as TurnAt};
-ghost use Rattle.msrp_merge.specs.Turns.{has_place};
 
 use crate::kept::{Kept, prefault};
 use msrp_plan::{CoreId, Memory, Row};
@@ -90,15 +89,6 @@ impl CoreLog {
         ensures { result ≡ length self.now.turns }
     {
         self.kept.len()
-    }
-
-    /// Whether the turn of a tick has a place.
-    pub(crate) fn is_placed(&self, tick: u32) -> bool
-        requires { tick < length self.now.turns }
-        ensures placed { (d : TurnAt) → result ≡ has_place (slice_index_or self.now.turns tick d) }
-        ensures core { (d : TurnAt) → (slice_index_or self.now.turns tick d).row.core.0 ≡ self.now.core }
-    {
-        self.kept[tick as usize].is_placed()
     }
 
     /// The turn of a tick.
