@@ -9,5 +9,3 @@ pub mod Entries
 pub mod Releases
 pub mod Moving
 pub mod Ahead
-pub mod Dealing
-pub mod Sorting

@@ -254,7 +254,7 @@ releases plan c tick calendar slice next heap t after later value ok no_earlier 
 
 -- ---- before the first release
 -- a core has no more jobs than its plan
-pub few_on_core : (plan : PlanModel) (c : ℕ) → IsPlan plan → length (jobs_on plan c) ≤ 8192
+few_on_core : (plan : PlanModel) (c : ℕ) → IsPlan plan → length (jobs_on plan c) ≤ 8192
 few_on_core plan c accepted =
     let count = length-filter (λ j. core_of plan j == c) (jobs plan) in
     let fewer = count_by-le-length (λ j. core_of plan j == c) (jobs plan) in

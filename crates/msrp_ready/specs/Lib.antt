@@ -1,5 +1,4 @@
 pub mod Keyed
-pub mod Piles
 pub mod Heap
 pub mod HeapView
 pub mod Ready

@@ -6,16 +6,8 @@ ghost use Rattle.msrp_ready.specs.declared.keyed.Entry.{Entry};
 
 use crate::heap::Heap;
 use crate::keyed::{Entry, KeyedJob};
-use crate::piles::sort_by_release;
 use msrp_plan::{CoreId, JobId, Memory, Plan, TaskId};
 use std::alloc::{AllocError, Global};
-
-// What stands where no entry has been put.
-const NO_ENTRY: Entry = Entry {
-    release: 0,
-    task: 0,
-    k: 0,
-};
 
 // The release of no job, past all ticks.
 pub(crate) const NEVER: u64 = 1 << 32;
@@ -53,8 +45,7 @@ pub(crate) fn calendar_of(alloc: Global, plan: &Plan, core: CoreId) -> Result<Ve
     ensures sorted { IfOk result (λ jobs. IsNonDecreasingBy (λ entry. entry.release) jobs.items) }
 {
     let mut jobs = jobs_on(alloc, plan, core)?;
-    let mut others = Vec::from_elem(alloc, NO_ENTRY, jobs.len())?;
-    sort_by_release(&mut jobs, &mut others);
+    jobs.sort_unstable_by_key(|entry| entry.release);
     Ok(jobs)
 }
 

@@ -7,7 +7,6 @@
 mod calendar;
 mod heap;
 mod keyed;
-mod piles;
 mod ready;
 
 pub use ready::Ready;
