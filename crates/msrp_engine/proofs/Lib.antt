@@ -9,5 +9,3 @@ mod NextRows
 pub mod SimAnswers
 pub mod Reporting
 pub mod Gathering
-mod WholeTicks
-mod Counting

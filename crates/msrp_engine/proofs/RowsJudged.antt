@@ -1,20 +1,15 @@
 -- A trace's rows, judged as they are read: those that came, and what is found in them.
-use Rattle.msrp_plan.proofs.Common.{◌≡◌, ◌++◌, ◌∷◌, [], ◌+◌, ◌-◌, ◌*◌, ◌<◌, ℕ, length, List, Option, None, Some, ap, sym, subst, ◌∙◌, length-append, ⊤, PlanModel, fault_in, verdict}
-use Rattle.msrp_plan.specs.declared.faults.Fault.{Fault}
-use Rattle.msrp_plan.specs.declared.rows.Row.{Row}
+use Rattle.msrp_plan.proofs.Common.{◌≡◌, ◌++◌, ◌∷◌, [], ◌+◌, ◌-◌, ◌*◌, ◌<◌, ℕ, length, List, Option, None, Some, refl, ap, sym, subst, ◌∙◌, length-append, ⊤, PlanModel, fault_in, verdict}
 use Rattle.std.specs.declared.result.Result.{Result}
 use Rattle.std.specs.declared.result.Result.TheVariants.{Ok, Err}
 use Rattle.msrp_audit.specs.Audits.{HasFed, answer_of}
+use Rattle.msrp_plan.specs.declared.faults.Fault.{Fault}
+use Rattle.msrp_plan.specs.declared.rows.Row.{Row}
 use Rattle.msrp_trace.specs.Reading.{Told}
 use Rattle.msrp_trace.specs.declared.faults.TraceError.{TraceError}
-use Rattle.msrp_trace.proofs.ReadThrough.{Answers, IsReadTo, read-row, read-whole}
+use Rattle.msrp_trace.proofs.ReadThrough.{Answers, IsReadTo, none-read, read-row, read-whole}
 use Rattle.msrp_engine.specs.Findings.{finding}
-use Rattle.msrp_trace.specs.Readers.{GivesNext}
-use Rattle.msrp_engine.specs.Inside.Ahead.{IsAhead, LooksAhead}
-use Rattle.msrp_engine.specs.Inside.Ticks.{TakeSome}
 use Rattle.msrp_engine.specs.Judging.{IsJudged, row_told, rows_left}
-use Rattle.msrp_engine.specs.declared.judged.Ahead.{Ahead}
-use Rattle.msrp_engine.specs.declared.judged.Ahead.TheVariants.{Met}
 use Rattle.msrp_engine.specs.declared.judged.Judgement.{Judgement}
 use Rattle.msrp_engine.specs.declared.judged.Judgement.TheVariants.{Legal, Broken, End}
 use Rattle.msrp_engine.specs.declared.judged.JudgedRows.{JudgedRows}
@@ -29,41 +24,19 @@ pub record HaveCome {T : Type 0} (remaining : T → Option (List ℕ)) (begun no
   pub fault : now.auditor.fault ≡ None
   pub read : (told : Told) → rows_left remaining begun ≡ Some told → IsReadTo told rows (rows_left remaining now)
 
+pub none-came : {T : Type 0} (remaining : T → Option (List ℕ)) (begun : JudgedRows T) → HasFed begun.auditor [] → HaveCome remaining begun begun []
+none-came remaining begun fed = record { plan = refl; fed = fed; fault = fed.fault; read = λ told known. none-read told (rows_left remaining begun) known }
+
 -- what the next call answers, and leaves
 pub record Gives {T : Type 0} (remaining : T → Option (List ℕ)) (old new : JudgedRows T) (rows : List Row) (result : Result Judgement TraceError) : Type 0 where
   pub plan : new.auditor.plan ≡ old.auditor.plan
   pub answers : Answers (rows_left remaining old) (row_told result) (rows_left remaining new)
   pub judged : IsJudged old.auditor.plan rows result new
 
--- a row that is met ahead is legal
-pub met-gives : {T : Type 0} (remaining : T → Option (List ℕ)) (old new : JudgedRows T) (rows : List Row) (ahead : Ahead) (row : Row)
-    → ahead ≡ Met row → new.auditor.plan ≡ old.auditor.plan → ((told : Told) → rows_left remaining old ≡ Some told → LooksAhead told ahead (rows_left remaining new)) → IsAhead rows ahead new.auditor
-    → Gives remaining old new rows (Ok (Legal row))
-met-gives remaining old new rows ahead row is plan looks judged = record {
-  plan = plan;
-  answers = λ told known. subst (λ a. LooksAhead told a (rows_left remaining new)) is (looks told known);
-  judged = subst (λ a. IsAhead rows a new.auditor) is judged;
-}
-
--- and any other is told from there
-pub told-gives : {T : Type 0} (remaining : T → Option (List ℕ)) (old mid new : JudgedRows T) (rows : List Row) (ahead : Ahead) (result : Result Judgement TraceError)
-    → mid.auditor.plan ≡ old.auditor.plan → ((told : Told) → rows_left remaining old ≡ Some told → LooksAhead told ahead (rows_left remaining mid)) → IsAhead rows ahead mid.auditor
-    → new.auditor.plan ≡ mid.auditor.plan → ((told : Told) → LooksAhead told ahead (rows_left remaining mid) → GivesNext told (row_told result) (rows_left remaining new))
-    → ((rows : List Row) → IsAhead rows ahead mid.auditor → IsJudged mid.auditor.plan rows result new) → Gives remaining old new rows result
-told-gives remaining old mid new rows ahead result plan looks is next gives judged = record {
-  plan = next ∙ plan;
-  answers = λ told known. gives told (looks told known);
-  judged = subst (λ (p : PlanModel). IsJudged p rows result new) plan (judged rows is);
-}
-
--- the rows of whole ticks
-pub some-came : {T : Type 0} (remaining : T → Option (List ℕ)) (begun now : JudgedRows T) (rows : List Row) → now.auditor.plan ≡ begun.auditor.plan → TakeSome remaining begun now rows → HaveCome remaining begun now rows
-some-came remaining begun now rows plan some = record {
-  plan = plan;
-  fed = some.fed;
-  fault = some.good;
-  read = λ told known. let g = some.read told known in record { rest = g.0; whole = g.1; unread = g.2 };
-}
+pub next-gives : {T : Type 0} (remaining : T → Option (List ℕ)) (begun old new : JudgedRows T) (rows : List Row) (result : Result Judgement TraceError)
+    → HaveCome remaining begun old rows → new.auditor.plan ≡ old.auditor.plan → Answers (rows_left remaining old) (row_told result) (rows_left remaining new)
+    → ((rows : List Row) → HasFed old.auditor rows → old.auditor.fault ≡ None → IsJudged old.auditor.plan rows result new) → Gives remaining old new rows result
+next-gives remaining begun old new rows result came plan answers judged = record { plan = plan; answers = answers; judged = judged rows came.fed came.fault }
 
 no-fault : {T : Type 0} (remaining : T → Option (List ℕ)) (begun now : JudgedRows T) (rows : List Row) → HaveCome remaining begun now rows → fault_in now.auditor.plan rows ≡ None
 no-fault remaining begun now rows came = sym came.fed.fault ∙ came.fault

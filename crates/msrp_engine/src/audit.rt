@@ -8,7 +8,7 @@ ghost use Rattle.msrp_engine.specs.Findings.{finding, finding_of};
 ghost use Rattle.msrp_engine.specs.Judging.{rows_left};
 ghost use Rattle.msrp_faults.specs.Outcomes.{is_trace_fault, is_audit_fault};
 
-use crate::judged::{Ahead, JudgedRows, Judgement};
+use crate::judged::{JudgedRows, Judgement};
 use crate::reading::settled;
 use msrp_audit::Auditor;
 use msrp_faults::CliFault;
@@ -20,28 +20,16 @@ use msrp_trace::TraceReader;
 use std::alloc::Global;
 use std::io::{Read, Write};
 
-// What is found in the rows that are left. They are judged as they come, and none is read after a faulty one.
+// What is found in the rows that are left. None is read after a faulty one.
 #[inline(never)]
-fn judge_rows<'p, T: Read>(
-    alloc: Global,
-    plan: &'p Plan,
-    levels: &'p Levels<'p>,
-    rows: &mut JudgedRows<'p, '_, T>,
-) -> Result<Result<(), Fault>, CliFault>
-    requires fed { HasFed rows.old.auditor [] }
-    requires plan { rows.old.auditor.plan ≡ plan.now }
-    requires levels { levels.now ≡ plan.now }
+fn judge_rows<T: Read>(rows: &mut JudgedRows<'_, '_, T>) -> Result<Result<(), Fault>, CliFault>
+    requires { HasFed rows.old.auditor [] }
     ensures found { (told : Told) → rows_left T.remaining rows.old ≡ Some told
         → (result ≡ Err CliFault.Read) ⊎ (result ≡ Err CliFault.Memory) ⊎ (result ≡ finding rows.old.auditor.plan told) }
     ensures faults { IfErr result (λ fault. is_trace_fault fault ≡ true) }
 {
-    rows.take_ticks(alloc, plan, levels)?;
     loop {
-        let ahead = rows.next_ahead();
-        if let Ahead::Met(_row) = ahead {
-            continue;
-        }
-        match rows.told(ahead)? {
+        match rows.next_row()? {
             Judgement::Legal(_row) => {}
             Judgement::Broken(_row, fault) => return Ok(Err(fault)),
             Judgement::End => return Ok(rows.auditor().end()),
@@ -62,7 +50,7 @@ fn judge_all<T: Read>(
     let auditor = Auditor::with_room(alloc, plan, &levels)?;
     let reader = TraceReader::new(alloc, trace, plan)?;
     let mut rows = JudgedRows::new(plan, auditor, reader);
-    let found = judge_rows(alloc, plan, &levels, &mut rows);
+    let found = judge_rows(&mut rows);
     drop(rows);
     found
 }

@@ -12,7 +12,6 @@ mod judged;
 mod made;
 mod own_text;
 mod reading;
-mod replay;
 mod report;
 mod run;
 mod sim;

@@ -6,21 +6,20 @@ ghost use Rattle.msrp_report.specs.Lines.{lines_of};
 ghost use Rattle.msrp_report.specs.Reports.{HasCounted, SomeCounted};
 ghost use Rattle.msrp_report.specs.ReportText.{report_text};
 ghost use Rattle.msrp_trace.specs.Reading.{Told, rows_of};
-ghost use Rattle.msrp_engine.specs.Inside.Counting.{CountTick, CountsSome, MayCountTick};
 ghost use Rattle.msrp_engine.specs.Judging.{rows_left};
 ghost use Rattle.msrp_engine.specs.Answered.{Answered, OfText, OfTexts, ReadsBoth};
 ghost use Rattle.msrp_faults.specs.Outcomes.{is_trace_fault, is_audit_fault};
 ghost use Rattle.msrp_engine.specs.Reports.{IsReportOf, IsReported, ReportAnswers, Reports, WritesShown, verdict_told};
 
 use crate::audit::write_verdict;
-use crate::judged::{Ahead, JudgedRows, Judgement};
+use crate::judged::{JudgedRows, Judgement};
 use crate::made::Made;
 use crate::reading::settled;
 use msrp_audit::Auditor;
 use msrp_faults::{CliFault, gathered_text, write_answer};
 use msrp_levels::Levels;
 use msrp_plan::bytes::{Sink, Source};
-use msrp_plan::{Fault, Memory, Plan};
+use msrp_plan::{Fault, Plan};
 use msrp_report::{Counter, Report, write_report};
 use msrp_text::read_plan;
 use msrp_trace::TraceReader;
@@ -38,79 +37,22 @@ fn ended(counter: Counter<'_>, found: Result<(), Fault>) -> Result<Report, Fault
     Ok(counter.end())
 }
 
-// Counts the rows of a tick that were taken. The tick is begun once for all of them.
-#[inline(always)]
-fn count_tick<T: Read>(
-    counter: &mut Counter<'_>,
-    rows: &JudgedRows<'_, '_, T>,
-    tick: u32,
-    cores: u32,
-)
-    requires counts { MayCountTick counter.old rows.now tick cores }
-    requires cores { (0 < cores) × (cores ≤ 8) }
-    ensures plan { counter.new.plan ≡ counter.old.plan }
-    ensures counted { (before more : List TraceRow) → CountTick counter.old rows.now tick cores before more → HasCounted counter.new (before ++ more) }
-{
-    counter.begin_tick(tick);
-    for row in rows.last_rows(cores) {
-        counter.count_begun(rows.told_in(tick, *row));
-    }
-}
-
-// Counts the rows of whole ticks from the first one on, as long as they come by the numbers of the cores.
-fn count_ticks<'p, T: Read>(
-    alloc: Global,
-    plan: &'p Plan,
-    levels: &'p Levels<'p>,
-    counter: &mut Counter<'_>,
-    rows: &mut JudgedRows<'p, '_, T>,
-) -> Result<(), Memory>
-    requires plan { rows.old.auditor.plan ≡ plan.now }
-    requires levels { levels.now ≡ plan.now }
-    requires counter { counter.old.plan.now ≡ plan.now }
-    requires fed { HasFed rows.old.auditor [] }
-    requires counted { HasCounted counter.old [] }
-    ensures plan { rows.new.auditor.plan ≡ rows.old.auditor.plan }
-    ensures counter { counter.new.plan ≡ counter.old.plan }
-    ensures counted { OnOk result (CountsSome T.remaining rows.old rows.new counter.new) }
-{
-    for _tick in 0..plan.ticks() {
-        let Some(tick) = rows.next_tick(alloc, plan, levels)? else {
-            return Ok(());
-        };
-        count_tick(counter, rows, tick, plan.cores());
-    }
-    Ok(())
-}
-
-// The report of the rows that are left, if they are a legal run, or else what is found in them. They are judged and counted as they come,
-// and none is read after a faulty one.
+// The report of the rows that are left, if they are a legal run, or else what is found in them. None is read after a faulty one.
 #[inline(never)]
-fn report_rows<'p, T: Read>(
-    alloc: Global,
-    plan: &'p Plan,
-    levels: &'p Levels<'p>,
+fn report_rows<T: Read>(
     mut counter: Counter<'_>,
-    rows: &mut JudgedRows<'p, '_, T>,
+    rows: &mut JudgedRows<'_, '_, T>,
 ) -> Result<Result<Report, Fault>, CliFault>
-    requires plan { rows.old.auditor.plan ≡ plan.now }
-    requires levels { levels.now ≡ plan.now }
-    requires counter { counter.plan.now ≡ plan.now }
+    requires plan { rows.old.auditor.plan ≡ counter.plan.now }
     requires fed { HasFed rows.old.auditor [] }
     requires counted { HasCounted counter [] }
     ensures found { (told : Told) → rows_left T.remaining rows.old ≡ Some told
-        → (result ≡ Err CliFault.Read) ⊎ (result ≡ Err CliFault.Memory) ⊎ Reports plan.now told result }
-    ensures lines { IfOk result (λ found. IfOk found (λ report. length report.lines.items ≡ length plan.now.tasks)) }
+        → (result ≡ Err CliFault.Read) ⊎ (result ≡ Err CliFault.Memory) ⊎ Reports rows.old.auditor.plan told result }
+    ensures lines { IfOk result (λ found. IfOk found (λ report. length report.lines.items ≡ length rows.old.auditor.plan.tasks)) }
     ensures faults { IfErr result (λ fault. is_trace_fault fault ≡ true) }
 {
-    count_ticks(alloc, plan, levels, &mut counter, rows)?;
     loop {
-        let ahead = rows.next_ahead();
-        if let Ahead::Met(row) = ahead {
-            counter.count(row);
-            continue;
-        }
-        match rows.told(ahead)? {
+        match rows.next_row()? {
             Judgement::Legal(row) => counter.count(row),
             Judgement::Broken(_row, fault) => return Ok(Err(fault)),
             Judgement::End => return Ok(ended(counter, rows.auditor().end())),
@@ -133,7 +75,7 @@ fn report_all<T: Read>(
     let counter = Counter::with_room(alloc, plan, &levels)?;
     let reader = TraceReader::new(alloc, trace, plan)?;
     let mut rows = JudgedRows::new(plan, auditor, reader);
-    let found = report_rows(alloc, plan, &levels, counter, &mut rows);
+    let found = report_rows(counter, &mut rows);
     drop(rows);
     found
 }

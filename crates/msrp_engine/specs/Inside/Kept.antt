@@ -1,32 +1,17 @@
--- The rows that are kept of the cores, and their texts, as rows are judged.
-use Rattle.msrp_plan.specs.Common.{ℕ, List, [], true, None, Some, ◌≡◌, ◌<◌, ◌%◌, slice_index_or, PlanModel, in_tick}
+-- The texts of the cores' rows, as rows are judged.
+use Rattle.msrp_plan.specs.Common.{ℕ, List, [], true, ◌≡◌, ◌<◌, Some, PlanModel, in_tick}
 use Rattle.msrp_plan.specs.declared.rows.Row.{Row}
 use Rattle.msrp_plan.specs.declared.rows.TextVersion.{TextVersion}
-use Rattle.msrp_plan.specs.declared.rows.Kind.TheVariants.{Idle}
-use Rattle.std.specs.Prelude.{refl}
 use Rattle.msrp_sim.specs.Cores.{CoresModel, known_row}
 use Rattle.msrp_trace.specs.Gathering.{after_tick}
 use Rattle.msrp_trace.specs.Laws.{as_read, is_short, is_told_whole}
 use Rattle.msrp_trace.specs.Texts.{TextsModel, text_of_core}
 
--- what stands in place of a core's row before its first turn
-abbrev pub no_row : Row
-no_row = record { tick = 0; core = record { 0 = 0 }; kind = Idle; job = None; res = None; ahead = None; shape = refl; carrier = refl }
-
--- the row that is kept of a core
-abbrev pub row_of_core : List Row → ℕ → Row
-row_of_core lasts core = slice_index_or lasts (core % 8) no_row
-
--- the text is the row's, but for its tick, and in each tick the row is read from it, as a text of the version tells it
+-- the text is the row's, but for its tick, and in each tick the row is read from it, as a text of the version has it
 pub record IsKept (version : TextVersion) (plan : PlanModel) (text : List ℕ) (r : Row) : Type 0 where
   pub is : text ≡ after_tick version plan (as_read version r)
   pub whole : (t : ℕ) → is_short t ≡ true → is_told_whole version plan (in_tick t (as_read version r)) ≡ true
 
--- the text is that of the core's last row, and where the core's next row is known, it is that one again, in another tick
-pub record KeepsRow (version : TextVersion) (plan : PlanModel) (cores : CoresModel) (core : ℕ) (text : List ℕ) (last : Row) : Type 0 where
-  pub kept : IsKept version plan text last
-  pub known : (r : Row) → known_row cores core ≡ Some r → r ≡ in_tick r.tick last
-
--- so it is of each core of which a text is kept
-abbrev pub KeepsRows : TextVersion → PlanModel → CoresModel → TextsModel → List Row → Type 0
-KeepsRows version plan cores texts lasts = (c : ℕ) → c < plan.cores → ¬ (text_of_core texts c ≡ []) → KeepsRow version plan cores c (text_of_core texts c) (row_of_core lasts c)
+-- where a core has a text and its next row is known, the text is that row's
+abbrev pub KeepsTexts : TextVersion → PlanModel → CoresModel → TextsModel → Type 0
+KeepsTexts version plan cores texts = (c : ℕ) → c < plan.cores → ¬ (text_of_core texts c ≡ []) → (r : Row) → known_row cores c ≡ Some r → IsKept version plan (text_of_core texts c) r

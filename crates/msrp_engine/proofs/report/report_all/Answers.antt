@@ -1,4 +1,5 @@
-use Rattle.msrp_plan.proofs.Common.{rules, ◌≡◌, Err, Some, refl, sym, subst}
+use Rattle.msrp_plan.proofs.Common.{rules, ◌≡◌, ◌∙◌, Err, Some, refl, ap, sym, subst, PlanModel}
+use Rattle.msrp_audit.specs.Audits.{AuditorModel}
 use Rattle.msrp_text.specs.Reading.{csv_records}
 use Rattle.msrp_trace.specs.Reading.{rows_of}
 use Rattle.msrp_trace.specs.Readers.{told_left}
@@ -21,4 +22,5 @@ pub returns-clause-found : goal.returns-clause-found
 returns-clause-found g c = λ bytes known.
     let told = rows_of c.args.plan.now (csv_records bytes) in
     let begun = opened g.T.Read.remaining c.args.plan.now (csv_records bytes) c.in_ok-reader.reader (c.in_ok-reader.ensures.opens bytes known) in
-    c.report_rows-found.ensures.found told (subst (λ r. told_left g.T.Read.remaining r ≡ Some told) (sym c.new-rows.ensures.rows) begun)
+    let same = ap (λ (a : AuditorModel). a.plan) c.new-rows.ensures.auditor ∙ c.in_ok-auditor.ensures.plan in
+    subst (λ (p : PlanModel). IsReported p told c.report_rows-found.result) same (c.report_rows-found.ensures.found told (subst (λ r. told_left g.T.Read.remaining r ≡ Some told) (sym c.new-rows.ensures.rows) begun))

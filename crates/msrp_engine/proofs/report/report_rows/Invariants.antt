@@ -4,12 +4,12 @@ use Rattle.msrp_report.specs.Reports.{HasCounted}
 use Rattle.msrp_engine.proofs.RowsJudged.{HaveCome}
 use Rattle.msrp_engine.proofs.report.report_rows.Given as goal
 
-abbrev pub invariant-loop-row : goal.invariant-loop-row
-invariant-loop-row g l =
+abbrev pub invariant-loop-counter : goal.invariant-loop-counter
+invariant-loop-counter g l =
     (rows : List Row)
     × HaveCome g.T.Read.remaining l.fn.rows l.rows rows
     × (l.counter.plan.now ≡ l.fn.counter.plan.now)
     × HasCounted l.counter rows
 
-abbrev pub decreases-loop-row : goal.decreases-loop-row
-decreases-loop-row g l = l.rows.auditor.plan.cores * l.rows.auditor.plan.ticks - l.rows.auditor.fed
+abbrev pub decreases-loop-counter : goal.decreases-loop-counter
+decreases-loop-counter g l = l.rows.auditor.plan.cores * l.rows.auditor.plan.ticks - l.rows.auditor.fed
