@@ -10,8 +10,6 @@ use Rattle.msrp_trace.specs.Laws.{as_read, has_told_ahead, is_short, is_told_who
 use Rattle.msrp_trace.specs.Texts.{TextsModel, text_of_core}
 use Rattle.msrp_trace.specs.TraceText.{is_named}
 use Rattle.msrp_trace.proofs.NamedRows.{turn_whole}
-use Rattle.msrp_trace.specs.Readers.{IsTextOf}
-use Rattle.msrp_trace.specs.declared.reading.TraceReader.{TraceReader}
 use Rattle.msrp_engine.specs.Inside.Kept.{IsKept, KeepsTexts}
 use Rattle.msrp_engine.proofs.KnownTexts.{other_text}
 
@@ -29,15 +27,6 @@ whole_in_tick version plan r h t short =
 -- a text that was made
 pub made_kept : (version : TextVersion) (plan : PlanModel) (text : List ℕ) (r : Row) → is_told_whole version plan (as_read version r) ≡ true → text ≡ after_tick version plan (as_read version r) → IsKept version plan text r
 made_kept version plan text r whole is = record { is = is; whole = whole_in_tick version plan (as_read version r) whole }
-
--- in a tick it is the row's that is read from it there
-pub kept_text : {T : Type 0} (reader : TraceReader T) (plan : PlanModel) (texts : TextsModel) (t c : ℕ) (r : Row) → reader.plan.now ≡ plan → is_short t ≡ true → IsKept reader.version plan (text_of_core texts c) r
-    → IsTextOf reader texts t c (in_tick t (as_read reader.version r))
-kept_text reader plan texts t c r same short kept = record {
-  tick = refl;
-  whole = subst (λ q. is_told_whole reader.version q (in_tick t (as_read reader.version r)) ≡ true) (sym same) (kept.whole t short);
-  text = subst (λ q. text_of_core texts c ≡ after_tick reader.version q (in_tick t (as_read reader.version r))) (sym same) kept.is;
-}
 
 -- a row that is one in another tick, as it is read in a third one
 pub known_read : (version : TextVersion) (t : ℕ) (r last : Row) → r ≡ in_tick r.tick last → in_tick t (as_read version r) ≡ in_tick t (as_read version last)
