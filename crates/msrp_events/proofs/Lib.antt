@@ -1,2 +1,3 @@
 pub mod FirstFindings
 pub mod WiderTolerances
+pub mod OneHolder

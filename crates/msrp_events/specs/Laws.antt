@@ -1,7 +1,9 @@
 -- What the laws on logs speak of.
-use Rattle.std.specs.Prelude.{List, None, ◌≡◌, ◌≤◌}
+use Rattle.std.specs.Prelude.{ℕ, List, None, count_by, ◌≡◌, ◌≤◌}
 use Rattle.msrp_plan.specs.Plan.{PlanModel}
+use Rattle.msrp_events.specs.LiveJobs.{holds}
 use Rattle.msrp_events.specs.Changes.{LogState}
+use Rattle.msrp_events.specs.declared.states.LiveJob.{LiveJob}
 use Rattle.msrp_events.specs.Findings.{finding_in, finding_from}
 use Rattle.msrp_events.specs.declared.events.Event.{Event}
 use Rattle.msrp_events.specs.declared.states.Tolerances.{Tolerances}
@@ -19,3 +21,7 @@ pub record AreWider (narrow wide : Tolerances) : Type 0 where
   pub slack : narrow.slack ≤ wide.slack
   pub skew : narrow.skew ≤ wide.skew
   pub backlog : narrow.backlog ≤ wide.backlog
+
+-- at most one of the jobs holds each resource
+abbrev pub IsHeldByOne : PlanModel → List LiveJob → Type 0
+IsHeldByOne system jobs = (g : ℕ) → count_by (holds system g) jobs ≤ 1

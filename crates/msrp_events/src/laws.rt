@@ -1,9 +1,9 @@
 //! Laws on logs, over every system, every tolerance and all events. Each function does nothing; its contract is the law.
 ghost use Rattle.std.specs.Prelude.{◌≡◌, ◌++◌, List, Some};
 ghost use Rattle.msrp_plan.specs.Plan.{PlanModel};
-ghost use Rattle.msrp_events.specs.Changes.{LogState, state_from};
+ghost use Rattle.msrp_events.specs.Changes.{LogState, first_state, state_from};
 ghost use Rattle.msrp_events.specs.Findings.{finding_from};
-ghost use Rattle.msrp_events.specs.Laws.{AreWider, IsLegalFrom, IsLegalLog};
+ghost use Rattle.msrp_events.specs.Laws.{AreWider, IsHeldByOne, IsLegalFrom, IsLegalLog};
 ghost use Rattle.msrp_events.specs.declared.events.Event.{Event as LogEvent};
 ghost use Rattle.msrp_events.specs.declared.findings.Finding.{Finding as Found};
 ghost use Rattle.msrp_events.specs.declared.states.Tolerances.{Tolerances as Tolerated};
@@ -19,4 +19,9 @@ pub fn windows()
 pub fn tolerance()
     ensures log { (system : PlanModel) (narrow wide : Tolerated) (events : List LogEvent) → AreWider narrow wide → IsLegalLog system narrow events → IsLegalLog system wide events }
     ensures window { (system : PlanModel) (narrow wide : Tolerated) (s : LogState) (events : List LogEvent) → AreWider narrow wide → IsLegalFrom system narrow s events → IsLegalFrom system wide s events }
+{}
+
+/// Mutual exclusion: after the start of a legal log at most one job holds a resource, global or local.
+pub fn mutual_exclusion()
+    ensures { (system : PlanModel) (tolerances : Tolerated) (events : List LogEvent) → IsLegalLog system tolerances events → IsHeldByOne system (state_from system (first_state system) events).jobs }
 {}
