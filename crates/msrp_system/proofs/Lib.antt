@@ -1,0 +1,2 @@
+pub mod GatheredTasks
+pub mod AcceptedSystems
